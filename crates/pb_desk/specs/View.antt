@@ -1,0 +1,73 @@
+-- What a desk shows, but for its counts of faults, and what each call makes of it.
+use Rattle.std.specs.Prelude.{ℕ, Bool, true, false, ◌==◌, if◌then◌else◌, List, [], ◌∷◌, ◌++◌, drop}
+use Rattle.std.specs.Option.{option_map, unwrap_or}
+use Rattle.std.specs.declared.option.Option.{Option}
+
+-- a created file, by the slot it was created in
+pub record Made : Type 0 where
+  pub slot : ℕ
+  pub name : List ℕ
+  pub bytes : List ℕ
+
+-- what a telling desk tells: its shelf by names, what each reading slot has left, the created files with the
+-- newest first, and what was said
+pub record Told : Type 0 where
+  pub shelf : List ℕ → Option (List ℕ)
+  pub left : ℕ → List ℕ
+  pub made : List Made
+  pub said : List ℕ
+
+-- which slots are open, what is told, the bytes that a file may hold, and whether the desk is steady
+pub record View : Type 0 where
+  pub reading : ℕ → Bool
+  pub writing : ℕ → Bool
+  pub told : Option Told
+  pub room : Option ℕ
+  pub steady : Bool
+
+-- the function, with this value at that place
+abbrev pub put : {X : Type 0} → (ℕ → X) → ℕ → X → ℕ → X
+put f place value n = if n == place then value else f n
+
+-- the files, with these bytes behind the newest of the slot
+abbrev pub appended : ℕ → List ℕ → List Made → List Made
+appended slot bytes [] = []
+appended slot bytes (file ∷ files) =
+    if file.slot == slot then record file { bytes = file.bytes ++ bytes } ∷ files else file ∷ appended slot bytes files
+
+-- the bytes of the newest file of the slot
+abbrev pub bytes_in : ℕ → List Made → List ℕ
+bytes_in slot [] = []
+bytes_in slot (file ∷ files) = if file.slot == slot then file.bytes else bytes_in slot files
+
+-- each call's effect on what is told
+
+abbrev pub opened : ℕ → List ℕ → View → View
+opened slot name view = record view {
+  reading = put view.reading slot true;
+  told = option_map (λ (t : Told). record t { left = put t.left slot (unwrap_or (t.shelf name) []) }) view.told;
+}
+
+abbrev pub taken : ℕ → ℕ → View → View
+taken slot count view = record view {
+  told = option_map (λ (t : Told). record t { left = put t.left slot (drop count (t.left slot)) }) view.told;
+}
+
+abbrev pub created : ℕ → List ℕ → View → View
+created slot name view = record view {
+  writing = put view.writing slot true;
+  told = option_map (λ (t : Told). record t { made = record { slot = slot; name = name; bytes = [] } ∷ t.made }) view.told;
+}
+
+abbrev pub wrote : ℕ → List ℕ → View → View
+wrote slot bytes view = record view {
+  told = option_map (λ (t : Told). record t { made = appended slot bytes t.made }) view.told;
+}
+
+abbrev pub closed : ℕ → View → View
+closed slot view = record view { writing = put view.writing slot false }
+
+abbrev pub spoke : List ℕ → View → View
+spoke bytes view = record view {
+  told = option_map (λ (t : Told). record t { said = t.said ++ bytes }) view.told;
+}

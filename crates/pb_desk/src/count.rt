@@ -1,0 +1,40 @@
+// How often something has failed.
+ghost use Rattle.std.specs.Prelude.{◌≡◌, ◌≤◌};
+ghost use Rattle.pb_desk.specs.Causes.{Rose};
+
+use pb_base::Failed;
+use std::marker::Model;
+
+/// How often something has failed, from 0 on. At its last value it stands still.
+#[derive(Drop)]
+pub struct FaultCount {
+    count: u64,
+}
+
+impl Model for FaultCount {
+    ghost use Rattle.std.specs.Prelude.{ℕ, ◌<◌, ◌^◌};
+
+    ghost Value = { ℕ };
+
+    ghost view = { λ c. c.count };
+
+    ghost invariant = { λ c. c.count < 2 ^ 64 };
+}
+
+impl FaultCount {
+    /// Nothing has failed yet.
+    pub fn new() -> Self
+        ensures { result ≡ 0 }
+    {
+        FaultCount { count: 0 }
+    }
+
+    /// One more fault, and the answer that tells of it.
+    pub fn rise(&mut self) -> Failed
+        ensures later { self.old ≤ self.new }
+        ensures rose { Rose self.old self.new }
+    {
+        self.count = self.count.saturating_add(1);
+        Failed
+    }
+}

@@ -1,0 +1,22 @@
+//! A desk with files to read, files to write and a place to speak, as a program meets the outside.
+#![tactic(auto)]
+
+mod buffer;
+mod count;
+mod desk;
+mod memory;
+mod real;
+mod script;
+mod sheet;
+mod shelf;
+mod whole;
+
+pub use count::FaultCount;
+pub use desk::Desk;
+pub use memory::MemoryDesk;
+pub use real::RealDesk;
+pub use shelf::{Named, Shelf};
+pub use whole::{TextFault, read_whole, say_all, write_all};
+
+#[cfg(test)]
+mod tests;

@@ -1,0 +1,255 @@
+// A desk in memory, whose calls fail where they are told to.
+ghost use Rattle.std.specs.Prelude.{◌≡◌, ◌≤◌};
+
+use crate::buffer::Buffer;
+use crate::script::Script;
+use crate::sheet::{NAME_ROOM, Sheet};
+use crate::shelf::{Reading, Shelf, find, rest_of};
+use crate::{Desk, FaultCount};
+use pb_base::{Failed, Ids, NoMemory};
+use std::alloc::Global;
+
+/// A desk in memory. It tells everything, and is steady where no call is to fail. Its two files to write and what it
+/// says have the same room; no call takes memory.
+#[derive(Drop)]
+pub struct MemoryDesk {
+    shelf: Shelf,
+    reading: [Option<Reading>; 4],
+    zero: Sheet,
+    one: Sheet,
+    one_is_newest: bool,
+    said: Buffer,
+    script: Script,
+    piece: usize,
+    room: usize,
+    read_faults: FaultCount,
+    write_faults: FaultCount,
+    ghost some_piece: { 1 ≤ piece },
+    ghost rooms: { (zero.bytes.room ≡ room) × (one.bytes.room ≡ room) × (said.room ≡ room) },
+    ghost names: { (zero.name.room ≡ 255) × (one.name.room ≡ 255) },
+}
+
+#[tactic(auto, unfolding(crate::specs::MemoryState::state_of, crate::specs::MemoryState::plan_of))]
+impl MemoryDesk {
+    ghost use Rattle.std.specs.Prelude.{◌≡◌, ◌≤◌, ◌<◌, ◌↔◌, [], Some, IfOk, IfSome, IsSome, IsNone};
+    ghost use Rattle.pb_desk.specs.Memory.{shelf_of};
+    ghost use Rattle.pb_desk.specs.MemoryState.{plan_of};
+    ghost use Rattle.pb_desk.specs.View.{bytes_in};
+    ghost use Rattle.pb_desk.specs.Desk.{IsTold, IsSteady, IsClosed, IsFresh, HasSlot};
+
+    /// A desk with these files to read. The calls with a number in `fails` fail, counted from 1 over all calls; a read,
+    /// a write or a say moves at most `piece` bytes, which is at least 1; each file and what is said have `room` bytes,
+    /// which are taken here.
+    pub fn new(
+        alloc: Global,
+        shelf: Shelf,
+        fails: Ids,
+        piece: usize,
+        room: usize,
+    ) -> Result<Self, NoMemory>
+        requires { 1 ≤ piece }
+        ensures closed { IfOk result (λ desk. IsClosed (⟦<MemoryDesk as Desk>⟧.state desk)) }
+        ensures fresh { IfOk result (λ desk. IsTold (⟦<MemoryDesk as Desk>⟧.state desk) (λ t. (t.shelf ≡ shelf_of shelf) × IsFresh t (⟦<MemoryDesk as Desk>⟧.state desk))) }
+        ensures room { IfOk result (λ desk. (⟦<MemoryDesk as Desk>⟧.state desk).view.room ≡ Some room) }
+        ensures steady { IfOk result (λ desk. IsSteady (⟦<MemoryDesk as Desk>⟧.state desk) ↔ (fails ≡ [])) }
+        ensures plan { IfOk result (λ desk. plan_of desk ≡ record { fails = fails; calls = 0; piece = piece }) }
+    {
+        Ok(MemoryDesk {
+            shelf,
+            reading: [None; 4],
+            zero: Sheet::new(alloc, room)?,
+            one: Sheet::new(alloc, room)?,
+            one_is_newest: false,
+            said: Buffer::new(alloc, room)?,
+            script: Script { fails, calls: 0 },
+            piece,
+            room,
+            read_faults: FaultCount::new(),
+            write_faults: FaultCount::new(),
+        })
+    }
+
+    /// The bytes of the file that was made in a slot.
+    pub fn made(&self, slot: u8) -> Option<&[u8]>
+        requires { slot < 2 }
+        ensures bytes { IfSome result (λ bytes. IsTold (⟦<MemoryDesk as Desk>⟧.state self.now) (λ t. bytes.now ≡ bytes_in slot t.made)) }
+        ensures some { IsSome result → IsTold (⟦<MemoryDesk as Desk>⟧.state self.now) (λ t. HasSlot slot t.made) }
+        ensures none { IsNone result → IsTold (⟦<MemoryDesk as Desk>⟧.state self.now) (λ t. HasSlot slot t.made → ⊥) }
+    {
+        let sheet = self.sheet(slot);
+        if sheet.is_made {
+            Some(&sheet.bytes.bytes)
+        } else {
+            None
+        }
+    }
+
+    /// What was said.
+    pub fn said(&self) -> &[u8]
+        ensures { IsTold (⟦<MemoryDesk as Desk>⟧.state self.now) (λ t. result.now ≡ t.said) }
+    {
+        &self.said.bytes
+    }
+
+    // The file of a slot.
+    fn sheet(&self, slot: u8) -> &Sheet
+        requires { slot < 2 }
+        ensures zero { slot ≡ 0 → result.now ≡ self.now.zero }
+        ensures one { slot ≡ 1 → result.now ≡ self.now.one }
+    {
+        if slot == 0 { &self.zero } else { &self.one }
+    }
+}
+
+// Each call has the trait's clauses, and three or four of its own: it counts, it fails exactly where it is to fail or has
+// a cause, and it moves at most a piece.
+#[tactic(auto, unfolding(crate::specs::MemoryState::state_of, crate::specs::MemoryState::plan_of))]
+impl Desk for MemoryDesk {
+    ghost use Rattle.std.specs.Prelude.{◌≡◌, ◌≤◌, ◌<◌, ◌↔◌, ◌⊎◌, refl, length, take, false, IsTrue, IsSome, IsNone, IsErr, IfOk, OnOk, OnErr};
+    ghost use Rattle.pb_desk.specs.View.{opened, taken, created, wrote, closed, spoke};
+    ghost use Rattle.pb_desk.specs.Desk.{Reaches, FailsToRead, FailsToWrite, same, IsSteady, IfTold, IsTold, Gives, TakesSome, HasName, IsTaken, LacksRoom, written, words};
+    ghost use Rattle.pb_desk.specs.Memory.{counted, is_failing};
+    ghost use Rattle.pb_desk.specs.MemoryState.{state_of, plan_of};
+    ghost use Rattle.pb_desk.specs.MemoryLaws.{memory_has_file, memory_tells, memory_has_room, memory_fits};
+
+    ghost state = { state_of };
+
+    fn open(&mut self, slot: u8, name: &str) -> Result<(), Failed>
+        requires kind { slot < 4 }
+        requires free { (state_of self.old).view.reading slot ≡ false }
+        ensures ok { OnOk result (Reaches (opened slot name.now) (state_of self.old) (state_of self.new)) }
+        ensures failed { OnErr result (FailsToRead same (state_of self.old) (state_of self.new)) }
+        ensures found { OnOk result (IfTold (state_of self.old) (λ t. IsSome (t.shelf name.now))) }
+        ensures steady { IsSteady (state_of self.old) → OnErr result (IsTold (state_of self.old) (λ t. IsNone (t.shelf name.now))) }
+        ensures counted { plan_of self.new ≡ counted (plan_of self.old) }
+        ensures fails { IsErr result ↔ (IsTrue (is_failing (plan_of self.old)) ⊎ IsTold (state_of self.old) (λ t. IsNone (t.shelf name.now))) }
+    {
+        if !self.script.is_failing()
+            && let Some(file) = find(self.shelf.as_slice(), name)
+        {
+            self.reading[slot as usize] = Some(Reading { file, place: 0 });
+            return Ok(());
+        }
+        Err(self.read_faults.rise())
+    }
+
+    fn read(&mut self, slot: u8, room: &mut [u8]) -> Result<usize, Failed>
+        requires kind { slot < 4 }
+        requires open { IsTrue ((state_of self.old).view.reading slot) }
+        ensures ok { IfOk result (λ count. Reaches (taken slot count) (state_of self.old) (state_of self.new)) }
+        ensures failed { OnErr result (FailsToRead same (state_of self.old) (state_of self.new)) }
+        ensures count { IfOk result (λ count. count ≤ length room.new) }
+        ensures bytes { IfOk result (λ count. IfTold (state_of self.old) (λ t. Gives (t.left slot) count room.new)) }
+        ensures steady { IsSteady (state_of self.old) → OnErr result ⊥ }
+        ensures counted { plan_of self.new ≡ counted (plan_of self.old) }
+        ensures fails { IsErr result ↔ IsTrue (is_failing (plan_of self.old)) }
+        ensures moved { IfOk result (λ count. count ≤ (plan_of self.old).piece) }
+    {
+        if self.script.is_failing() {
+            return Err(self.read_faults.rise());
+        }
+        let Some(reading) = self.reading[slot as usize] else {
+            unreachable!();
+        };
+        let rest = rest_of(self.shelf.as_slice(), reading);
+        let count = room.len().min(rest.len()).min(self.piece);
+        room[..count].copy_from_slice(&rest[..count]);
+        self.reading[slot as usize] = Some(Reading {
+            file: reading.file,
+            place: reading.place + count,
+        });
+        Ok(count)
+    }
+
+    fn create(&mut self, slot: u8, name: &str) -> Result<(), Failed>
+        requires kind { slot < 2 }
+        requires free { (state_of self.old).view.writing slot ≡ false }
+        ensures ok { OnOk result (Reaches (created slot name.now) (state_of self.old) (state_of self.new)) }
+        ensures failed { OnErr result (FailsToWrite same (state_of self.old) (state_of self.new)) }
+        ensures fresh { OnOk result (IfTold (state_of self.old) (λ t. HasName name.now t.made → ⊥)) }
+        ensures steady { IsSteady (state_of self.old) → OnErr result (IsTold (state_of self.old) (λ t. IsTaken slot name.now t.made)) }
+        ensures counted { plan_of self.new ≡ counted (plan_of self.old) }
+        ensures fails { IsErr result ↔ (IsTrue (is_failing (plan_of self.old)) ⊎ IsTold (state_of self.old) (λ t. IsTaken slot name.now t.made)) }
+    {
+        let is_taken = self.zero.has_name(name)
+            || self.one.has_name(name)
+            || self.sheet(slot).is_made;
+        if self.script.is_failing() || is_taken || name.len() > NAME_ROOM {
+            return Err(self.write_faults.rise());
+        }
+        if slot == 0 {
+            self.zero.make(name);
+            self.one_is_newest = false;
+        } else {
+            self.one.make(name);
+            self.one_is_newest = true;
+        }
+        Ok(())
+    }
+
+    fn write(&mut self, slot: u8, piece: &[u8]) -> Result<usize, Failed>
+        requires kind { slot < 2 }
+        requires open { IsTrue ((state_of self.old).view.writing slot) }
+        ensures ok { IfOk result (λ count. Reaches (wrote slot (take count piece.now)) (state_of self.old) (state_of self.new)) }
+        ensures failed { OnErr result (FailsToWrite same (state_of self.old) (state_of self.new)) }
+        ensures count { IfOk result (TakesSome piece.now) }
+        ensures steady { IsSteady (state_of self.old) → OnErr result (LacksRoom (written slot) 1 (state_of self.old)) }
+        ensures counted { plan_of self.new ≡ counted (plan_of self.old) }
+        ensures fails { IsErr result ↔ (IsTrue (is_failing (plan_of self.old)) ⊎ LacksRoom (written slot) 1 (state_of self.old)) }
+        ensures moved { IfOk result (λ count. count ≤ (plan_of self.old).piece) }
+    {
+        let is_full = self.sheet(slot).bytes.is_full();
+        if self.script.is_failing() || is_full {
+            return Err(self.write_faults.rise());
+        }
+        let part = &piece[..piece.len().min(self.piece)];
+        if slot == 0 {
+            Ok(self.zero.bytes.append(part))
+        } else {
+            Ok(self.one.bytes.append(part))
+        }
+    }
+
+    fn close(&mut self, slot: u8) -> Result<(), Failed>
+        requires kind { slot < 2 }
+        requires open { IsTrue ((state_of self.old).view.writing slot) }
+        ensures ok { OnOk result (Reaches (closed slot) (state_of self.old) (state_of self.new)) }
+        ensures failed { OnErr result (FailsToWrite same (state_of self.old) (state_of self.new)) }
+        ensures steady { IsSteady (state_of self.old) → OnErr result ⊥ }
+        ensures counted { plan_of self.new ≡ counted (plan_of self.old) }
+        ensures fails { IsErr result ↔ IsTrue (is_failing (plan_of self.old)) }
+    {
+        if self.script.is_failing() {
+            return Err(self.write_faults.rise());
+        }
+        if slot == 0 {
+            self.zero.is_open = false;
+        } else {
+            self.one.is_open = false;
+        }
+        Ok(())
+    }
+
+    fn say(&mut self, piece: &[u8]) -> Result<usize, Failed>
+        ensures ok { IfOk result (λ count. Reaches (spoke (take count piece.now)) (state_of self.old) (state_of self.new)) }
+        ensures failed { OnErr result (FailsToWrite same (state_of self.old) (state_of self.new)) }
+        ensures count { IfOk result (TakesSome piece.now) }
+        ensures steady { IsSteady (state_of self.old) → OnErr result (LacksRoom words 1 (state_of self.old)) }
+        ensures counted { plan_of self.new ≡ counted (plan_of self.old) }
+        ensures fails { IsErr result ↔ (IsTrue (is_failing (plan_of self.old)) ⊎ LacksRoom words 1 (state_of self.old)) }
+        ensures moved { IfOk result (λ count. count ≤ (plan_of self.old).piece) }
+    {
+        if self.script.is_failing() || self.said.is_full() {
+            return Err(self.write_faults.rise());
+        }
+        Ok(self.said.append(&piece[..piece.len().min(self.piece)]))
+    }
+
+    ghost open_has_file = { λ desk slot is_open. memory_has_file desk slot is_open };
+
+    ghost steady_tells = { λ desk steady. memory_tells desk };
+
+    ghost steady_has_room = { λ desk steady. memory_has_room desk };
+
+    ghost fits_room = { λ desk. memory_fits desk };
+}
