@@ -1,0 +1,373 @@
+-- What a reader keeps is within the limits, and stays so.
+use Rattle.std.proofs.Common.{◌≡◌, ◌+◌, ◌<◌, ◌≤◌, ◌^◌, List, [], ◌∷◌, ◌++◌, ◌⊎◌, inl, inr, append-nil, Option, Some, None, ℤ, false, refl, sym, ap, ◌∙◌, subst, arith}
+use Rattle.std.specs.Prelude.{Result, Ok, Err, OnOk, IfErr, length, max, ℕ, unsigned_abs}
+use Rattle.std.specs.List.{AllByRecursion}
+use Rattle.std.proofs.lemmas.List.{length-append}
+use Rattle.std.proofs.lemmas.List.Sums.{sum_by_push}
+use Rattle.pb_base.specs.declared.literal.Lit.{Lit}
+use Rattle.pb_base.specs.declared.literal.Term.{Term}
+use Rattle.pb_base.specs.declared.problem.Raw.{Raw}
+use Rattle.pb_base.specs.declared.problem.Relation.{Relation}
+use Rattle.pb_base.specs.declared.limit.LimitKind.{LimitKind}
+use Rattle.pb_base.specs.declared.limit.LimitKind.TheVariants.{Statements, Terms, Weight, Variables}
+use Rattle.pb_opb.specs.declared.stage.Part.{Part}
+use Rattle.pb_opb.specs.declared.stage.Part.TheVariants.{Objective, Statement}
+use Rattle.pb_opb.specs.declared.stage.Stage.{Stage}
+use Rattle.pb_opb.specs.declared.stage.Stage.TheVariants.{Start, Next, Sum, Coefficient, Related, Right}
+use Rattle.pb_opb.specs.Grammar.{Kind, text_kinds, index_of, greatest}
+use Rattle.pb_opb.specs.Grammar.Kind.{literal, semicolon, end}
+use Rattle.pb_opb.specs.Front.{front_kinds, first, raw, problem, complete, open_weight, begun_statements, begun_terms, read_kinds, state_of, IsPlaced, IsRead}
+use Rattle.pb_opb.specs.declared.reader.Reader.{Reader}
+use Rattle.pb_opb.specs.Faults.{Begins, allows}
+use Rattle.pb_opb.specs.Automaton.{expected}
+use Rattle.pb_base.specs.Problems.{magnitude}
+use Rattle.pb_opb.specs.Limits.{CountKeeps, SumKeeps, Keeps, BeginsWithin, IsWithin, rank}
+use Rattle.pb_opb.specs.Steps.{Leads, LeadsAs, stage_weight}
+use Rattle.pb_opb.specs.declared.fault.Refusal.{Refusal}
+use Rattle.pb_opb.specs.declared.fault.Refusal.TheVariants.{Unexpected, Limit, Memory}
+use Rattle.pb_opb.specs.Takes.{Passes, PassesAt, Refuses, Took, Finishes}
+use Rattle.pb_opb.specs.Moves.{IsStopped, moved, with_term, with_statement, with_objective}
+use Rattle.pb_opb.proofs.Fronts.{reaches, begins-after, front-refused, front-expects, end-refused, took-step, took-term, took-statement, took-objective, add-coefficient, add-right}
+use Rattle.pb_opb.proofs.Within.{coefficient-light, literal-near, right-light, term-short, statement-few}
+
+all-push : {A : Type 0} (P : A → Type 0) (xs : List A) (x : A) → AllByRecursion P xs → P x → AllByRecursion P (xs ++ x ∷ [])
+all-push P [] x h p = (p, tt)
+all-push P (y ∷ ys) x h p = (h.0, all-push P ys x h.1 p)
+
+abbrev Near : Term → Type 0
+Near t = t.lit.var < 2 ^ 31
+
+magnitude-push : (ts : List Term) (t : Term) → magnitude (ts ++ t ∷ []) ≡ magnitude ts + unsigned_abs t.coef
+magnitude-push ts t = sum_by_push (λ (u : Term). unsigned_abs u.coef) ts t
+
+-- the sum of the shortest end of what was read, and its right side
+abbrev completed : Stage → List Term → List Term
+completed (Coefficient part c) ts = ts ++ first c ∷ []
+completed _ ts = ts
+
+abbrev open_right : Stage → ℕ
+open_right (Right r n) = unsigned_abs n
+open_right _ = 0
+
+statement-keeps : (which : LimitKind) (o : Option (List Term)) (ss : List Raw) (s : Raw) → Keeps which (problem o ss) → CountKeeps which (length ss + 1) → SumKeeps which s.terms (unsigned_abs s.right) → Keeps which (problem o (ss ++ s ∷ []))
+statement-keeps which o ss s closed count new = record {
+  count = subst (CountKeeps which) (sym (length-append ss (s ∷ []))) count;
+  objective = closed.objective;
+  statements = all-push (λ (r : Raw). SumKeeps which r.terms (unsigned_abs r.right)) ss s closed.statements new;
+}
+
+objective-keeps : (which : LimitKind) (o : Option (List Term)) (ss : List Raw) (ts : List Term) → Keeps which (problem o ss) → SumKeeps which ts 0 → Keeps which (problem (Some ts) ss)
+objective-keeps which o ss ts closed new = record { count = closed.count; objective = new; statements = closed.statements }
+
+-- the shortest end of what was read keeps a limit
+complete-keeps : (which : LimitKind) (o : Option (List Term)) (ss : List Raw) (stage : Stage) (ts : List Term) → Keeps which (problem o ss) → CountKeeps which (length ss + begun_statements stage) → SumKeeps which (completed stage ts) (open_right stage) → Keeps which (complete o ss stage ts)
+complete-keeps which o ss Start ts closed count sum = closed
+complete-keeps which o ss Next ts closed count sum = closed
+complete-keeps which o ss (Sum Objective) ts closed count sum = objective-keeps which o ss ts closed sum
+complete-keeps which o ss (Sum Statement) ts closed count sum = statement-keeps which o ss _ closed count sum
+complete-keeps which o ss (Coefficient Objective c) ts closed count sum = objective-keeps which o ss _ closed sum
+complete-keeps which o ss (Coefficient Statement c) ts closed count sum = statement-keeps which o ss _ closed count sum
+complete-keeps which o ss (Related r) ts closed count sum = statement-keeps which o ss _ closed count sum
+complete-keeps which o ss (Right r n) ts closed count sum = statement-keeps which o ss _ closed count sum
+
+sum-fits : (which : LimitKind) (ts : List Term) (n : ℕ) → AllByRecursion Near ts → length ts ≤ 2 ^ 20 → magnitude ts + n < 2 ^ 100 → SumKeeps which ts n
+sum-fits Terms ts n near short light = short
+sum-fits Weight ts n near short light = light
+sum-fits Variables ts n near short light = near
+sum-fits _ ts n near short light = tt
+
+first-fits : (which : LimitKind) (ts : List Term) (c : ℤ) → AllByRecursion Near ts → length ts + 1 ≤ 2 ^ 20 → magnitude ts + unsigned_abs c < 2 ^ 100 → SumKeeps which (ts ++ first c ∷ []) 0
+first-fits which ts c near short light =
+    let pushed = magnitude-push ts (first c) in
+    let longer = length-append ts (first c ∷ []) in
+    sum-fits which (ts ++ first c ∷ []) 0 (all-push Near ts (first c) near (omega arith)) (omega arith) (omega arith)
+
+stage-fits : (which : LimitKind) (stage : Stage) (ts : List Term) → AllByRecursion Near ts → length ts + begun_terms stage ≤ 2 ^ 20 → open_weight stage ts < 2 ^ 100 → SumKeeps which (completed stage ts) (open_right stage)
+stage-fits which Start ts near short light = sum-fits which ts 0 near (omega arith) (omega arith)
+stage-fits which Next ts near short light = sum-fits which ts 0 near (omega arith) (omega arith)
+stage-fits which (Sum part) ts near short light = sum-fits which ts 0 near (omega arith) (omega arith)
+stage-fits which (Coefficient part c) ts near short light = first-fits which ts c near short light
+stage-fits which (Related r) ts near short light = sum-fits which ts 0 near (omega arith) (omega arith)
+stage-fits which (Right r n) ts near short light = sum-fits which ts (unsigned_abs n) near (omega arith) light
+
+count-fits : (which : LimitKind) (count : ℕ) → count ≤ 2 ^ 24 → CountKeeps which count
+count-fits Statements count few = few
+count-fits _ count few = tt
+
+terms-fit : (stage : Stage) (ts : List Term) → length ts + begun_terms stage ≤ 2 ^ 20 → SumKeeps Terms (completed stage ts) (open_right stage)
+terms-fit (Coefficient part c) ts short = omega (arith, length-append ts (first c ∷ []))
+terms-fit Start ts short = omega arith
+terms-fit Next ts short = omega arith
+terms-fit (Sum part) ts short = omega arith
+terms-fit (Related r) ts short = omega arith
+terms-fit (Right r n) ts short = omega arith
+
+stage-light : (o : Option (List Term)) (ss : List Raw) (stage : Stage) (ts : List Term) → IsPlaced o ss stage ts → 0 < stage_weight stage → BeginsWithin Weight (front_kinds o ss stage ts) → open_weight stage ts < 2 ^ 100
+stage-light o ss (Coefficient Statement c) ts placed some begins = coefficient-light o ss Statement ts c tt (subst (BeginsWithin Weight) (sym (add-coefficient o ss Statement ts c)) begins)
+stage-light o ss (Coefficient Objective c) ts placed some begins = coefficient-light o ss Objective ts c placed (subst (BeginsWithin Weight) (sym (add-coefficient o ss Objective ts c)) begins)
+stage-light o ss (Right r n) ts placed some begins = right-light o ss ts r n (subst (BeginsWithin Weight) (sym (add-right o ss ts r n)) begins)
+stage-light o ss _ ts placed some begins = absurd (omega arith)
+
+stage-short : (o : Option (List Term)) (ss : List Raw) (stage : Stage) (ts : List Term) → IsPlaced o ss stage ts → 0 < begun_terms stage → BeginsWithin Terms (front_kinds o ss stage ts) → length ts + begun_terms stage ≤ 2 ^ 20
+stage-short o ss (Coefficient Statement c) ts placed some begins = term-short o ss Statement ts c tt (subst (BeginsWithin Terms) (sym (add-coefficient o ss Statement ts c)) begins)
+stage-short o ss (Coefficient Objective c) ts placed some begins = term-short o ss Objective ts c placed (subst (BeginsWithin Terms) (sym (add-coefficient o ss Objective ts c)) begins)
+stage-short o ss _ ts placed some begins = absurd (omega arith)
+
+begun-one : (stage : Stage) → 0 < begun_statements stage → begun_statements stage ≡ 1
+begun-one (Sum Statement) some = refl
+begun-one (Coefficient Statement c) some = refl
+begun-one (Related r) some = refl
+begun-one (Right r n) some = refl
+begun-one _ some = absurd (omega arith)
+
+greatest-push : (ks : List Kind) (k : Kind) → greatest (ks ++ k ∷ []) ≡ max (greatest ks) (index_of k)
+greatest-push [] k = omega arith
+greatest-push (j ∷ ks) k = let rest = greatest-push ks k in omega arith
+
+module _ (r : Reader) (read : IsRead r) where
+  -- what was read begins a text within the limits
+  pub read-within : IsWithin (read_kinds r)
+  read-within which =
+      let end = reaches r.objective r.statements r.stage r.terms read.front.placed in
+      let light : open_weight r.stage r.terms < 2 ^ 100 = omega (arith, read.light, read.weighed) in (
+        complete r.objective r.statements r.stage r.terms,
+        end.rest,
+        complete-keeps which r.objective r.statements r.stage r.terms (read.closed which) (count-fits which _ read.few) (stage-fits which r.stage r.terms read.near read.short light),
+        end.same,
+      )
+
+  pub reach-more : (new : Reader) (k : Kind) → read_kinds new ≡ read_kinds r ++ k ∷ [] → new.greatest ≡ max r.greatest (index_of k) → new.greatest ≡ greatest (read_kinds new)
+  reach-more new k kinds more = omega (arith, more, read.reached, greatest-push (read_kinds r) k, ap greatest kinds)
+
+module _ (r : Reader) (read : IsRead r) (k : Kind) (next : Stage) (leads : Leads r.stage k next) where
+  begins : Begins (read_kinds r ++ k ∷ [])
+  begins = begins-after r.objective r.statements r.stage r.terms k read.front.placed leads.allowed
+
+  placed : IsPlaced r.objective r.statements next r.terms
+  placed = leads.placed r.objective r.statements r.terms read.front.placed
+
+  same : front_kinds r.objective r.statements next r.terms ≡ read_kinds r ++ k ∷ []
+  same = leads.kinds r.objective r.statements r.terms read.front.placed
+
+  led : (which : LimitKind) → BeginsWithin which (read_kinds r ++ k ∷ []) → BeginsWithin which (front_kinds r.objective r.statements next r.terms)
+  led which within = subst (BeginsWithin which) (sym same) within
+
+  too-heavy : 2 ^ 100 ≤ r.weight + stage_weight next → BeginsWithin Weight (read_kinds r ++ k ∷ []) → ⊥
+  too-heavy heavy within =
+      let more : 0 < stage_weight next = omega (arith, read.light) in
+      let light = stage-light r.objective r.statements next r.terms placed more (led Weight within) in
+      omega (arith, light, leads.weighs r.terms, read.weighed)
+
+  too-long : 2 ^ 20 < length r.terms + begun_terms next → BeginsWithin Terms (read_kinds r ++ k ∷ []) → ⊥
+  too-long long within =
+      let more : 0 < begun_terms next = omega (arith, read.short) in
+      let short = stage-short r.objective r.statements next r.terms placed more (led Terms within) in
+      omega (arith, short)
+
+  too-many : 2 ^ 24 < length r.statements + begun_statements next → BeginsWithin Statements (read_kinds r ++ k ∷ []) → ⊥
+  too-many many within =
+      let more : 0 < begun_statements next = omega (arith, read.few) in
+      let one = begun-one next more in
+      let few = statement-few r.objective r.statements next r.terms leads.shown one (led Statements within) in
+      omega (arith, few, one)
+
+  -- a limit that the next stage keeps
+  next-within : (which : LimitKind) → CountKeeps which (length r.statements + begun_statements next) → SumKeeps which (completed next r.terms) (open_right next) → BeginsWithin which (read_kinds r ++ k ∷ [])
+  next-within which count sum =
+      let end = reaches r.objective r.statements next r.terms placed in
+      (complete r.objective r.statements next r.terms, end.rest, complete-keeps which r.objective r.statements next r.terms (read.closed which) count sum, end.same ∙ ap (λ (ks : List Kind). ks ++ end.rest) same)
+
+  before-terms : (w : LimitKind) → rank w < 1 → length r.statements + begun_statements next ≤ 2 ^ 24 → BeginsWithin w (read_kinds r ++ k ∷ [])
+  before-terms Statements earlier few = next-within Statements few tt
+  before-terms _ earlier few = absurd (omega arith)
+
+  before-weight : (w : LimitKind) → rank w < 2 → length r.statements + begun_statements next ≤ 2 ^ 24 → length r.terms + begun_terms next ≤ 2 ^ 20 → BeginsWithin w (read_kinds r ++ k ∷ [])
+  before-weight Statements earlier few short = next-within Statements few tt
+  before-weight Terms earlier few short = next-within Terms tt (terms-fit next r.terms short)
+  before-weight _ earlier few short = absurd (omega arith)
+
+  pub stopped : (which : LimitKind) (s t w : ℕ) → Passes (Some which) s t w → s ≡ length r.statements + begun_statements next → t ≡ length r.terms + begun_terms next → (2 ^ 100 ≤ w → 2 ^ 100 ≤ r.weight + stage_weight next) → Refuses (read_kinds r) k (Limit which)
+  stopped Statements s t w many s_is t_is heavy = (begins, too-many (omega arith), (λ e earlier. absurd (omega arith)), read-within r read)
+  stopped Terms s t w (few, long) s_is t_is heavy = (begins, too-long (omega arith), (λ e earlier. before-terms e earlier (omega arith)), read-within r read)
+  stopped Weight s t w (few, short, great) s_is t_is heavy = (begins, too-heavy (heavy great), (λ e earlier. before-weight e earlier (omega arith) (omega arith)), read-within r read)
+  stopped _ s t w passes s_is t_is heavy = absurd passes
+
+  pub took-next : (weight : ℕ) → weight ≡ r.weight + stage_weight next → Passes None (length r.statements + begun_statements next) (length r.terms + begun_terms next) weight → Took r (moved r next weight) k
+  took-next weight is (few, short, light) = record {
+    read = record {
+      front = took-step r.objective r.statements r.stage next r.terms k leads read.front;
+      closed = read.closed;
+      near = read.near;
+      few = few;
+      short = short;
+      weighed = omega (arith, leads.weighs r.terms, read.weighed);
+      light = light;
+      reached = reach-more r read (moved r next weight) k same (omega (arith, leads.unnamed));
+      bounded = read.bounded;
+    };
+    kinds = same;
+  }
+
+same-begun : (part : Part) (c : ℤ) → begun_statements (Coefficient part c) ≡ begun_statements (Sum part)
+same-begun Objective c = refl
+same-begun Statement c = refl
+
+-- a sum with one more term keeps what is told before its index
+before-index : (w : LimitKind) (ts : List Term) (t : Term) → rank w < 3 → length ts + 1 ≤ 2 ^ 20 → magnitude ts + unsigned_abs t.coef < 2 ^ 100 → SumKeeps w (ts ++ t ∷ []) 0
+before-index Statements ts t earlier short light = tt
+before-index Terms ts t earlier short light = omega (arith, length-append ts (t ∷ []))
+before-index Weight ts t earlier short light = omega (arith, magnitude-push ts t)
+before-index _ ts t earlier short light = absurd (omega arith)
+
+-- the stage after a term
+term-placed : (o : Option (List Term)) (ss : List Raw) (part : Part) (c : ℤ) (ts us : List Term) → IsPlaced o ss (Coefficient part c) ts → IsPlaced o ss (Sum part) us
+term-placed o ss Objective c ts us here = here
+term-placed o ss Statement c ts us _ = tt
+
+index-near : (o : Option (List Term)) (ss : List Raw) (part : Part) (c : ℤ) (ts : List Term) (l : Lit) → IsPlaced o ss (Coefficient part c) ts → BeginsWithin Variables (front_kinds o ss (Coefficient part c) ts ++ literal l ∷ []) → l.var < 2 ^ 31
+index-near o ss Statement c ts l _ within = literal-near o ss Statement ts c l tt within
+index-near o ss Objective c ts l here within = literal-near o ss Objective ts c l here within
+
+module _ (r : Reader) (read : IsRead r) (k : Kind) where
+  pub took-literal : (part : Part) (t : Term) → (r.stage ≡ Coefficient part t.coef) × (k ≡ literal t.lit) × (t.lit.var < 2 ^ 31) → Took r (with_term r part t) k
+  took-literal part t (at, says, near) =
+      let new = with_term r part t in
+      let taken = took-term r.objective r.statements r.stage r.terms new.terms part t k (at, says) refl read.front in
+      let pushed = magnitude-push r.terms t in
+      let longer = length-append r.terms (t ∷ []) in
+      let before : r.weight ≡ magnitude r.terms + unsigned_abs t.coef = read.weighed ∙ ap (λ (s : Stage). open_weight s r.terms) at in
+      let begun = ap begun_terms at in
+      let index = ap index_of says in
+      record {
+        read = record {
+          front = taken.front;
+          closed = read.closed;
+          near = all-push Near r.terms t read.near near;
+          few = omega (arith, read.few, ap begun_statements at, same-begun part t.coef);
+          short = omega (arith, read.short);
+          weighed = omega arith;
+          light = read.light;
+          reached = reach-more r read new k taken.kinds (ap (max r.greatest) (sym index));
+          bounded = omega (arith, read.bounded);
+        };
+        kinds = taken.kinds;
+      }
+
+  pub took-semicolon : (sign : Relation) (right : ℤ) → (r.stage ≡ Right sign right) × (k ≡ semicolon) → Took r (with_statement r sign right) k
+  took-semicolon sign right at =
+      let s = raw r.terms sign right in
+      let new = with_statement r sign right in
+      let taken = took-statement r.objective r.statements new.statements r.stage r.terms [] s k at refl refl refl read.front in
+      let before : r.weight ≡ magnitude r.terms + unsigned_abs right = read.weighed ∙ ap (λ (g : Stage). open_weight g r.terms) at.0 in
+      let begun = ap begun_statements at.0 in
+      let longer = length-append r.statements (s ∷ []) in
+      record {
+        read = record {
+          front = taken.front;
+          closed = λ which. statement-keeps which r.objective r.statements s (read.closed which) (count-fits which _ (omega (arith, read.few))) (sum-fits which r.terms (unsigned_abs right) read.near (omega (arith, read.short)) (omega (arith, read.light)));
+          near = tt;
+          few = omega (arith, read.few);
+          short = omega arith;
+          weighed = refl;
+          light = omega arith;
+          reached = reach-more r read new k taken.kinds (omega (arith, ap index_of at.1));
+          bounded = read.bounded;
+        };
+        kinds = taken.kinds;
+      }
+
+  pub took-end : (r.stage ≡ Sum Objective) × (k ≡ semicolon) → Took r (with_objective r) k
+  took-end at =
+      let new = with_objective r in
+      let taken = took-objective r.objective new.objective r.statements r.stage r.terms [] r.terms k at refl refl refl read.front in
+      let before : r.weight ≡ magnitude r.terms = read.weighed ∙ ap (λ (g : Stage). open_weight g r.terms) at.0 in
+      record {
+        read = record {
+          front = taken.front;
+          closed = λ which. objective-keeps which r.objective r.statements r.terms (read.closed which) (sum-fits which r.terms 0 read.near (omega (arith, read.short)) (omega (arith, read.light)));
+          near = tt;
+          few = omega (arith, read.few);
+          short = omega arith;
+          weighed = refl;
+          light = omega arith;
+          reached = reach-more r read new k taken.kinds (omega (arith, ap index_of at.1));
+          bounded = read.bounded;
+        };
+        kinds = taken.kinds;
+      }
+
+  far-within : (l : Lit) (part : Part) (c : ℤ) → r.stage ≡ Coefficient part c → k ≡ literal l → (w : LimitKind) → rank w < 3 → BeginsWithin w (read_kinds r ++ k ∷ [])
+  far-within l part c at says w earlier =
+      let t : Term = record { coef = c; lit = l } in
+      let us = r.terms ++ t ∷ [] in
+      let taken = took-term r.objective r.statements r.stage r.terms us part t k (at, says) refl read.front in
+      let before : r.weight ≡ magnitude r.terms + unsigned_abs c = read.weighed ∙ ap (λ (s : Stage). open_weight s r.terms) at in
+      let end = reaches r.objective r.statements (Sum part) us taken.front.placed in
+      let few : length r.statements + begun_statements (Sum part) ≤ 2 ^ 24 = omega (arith, read.few, ap begun_statements at, same-begun part c) in
+      let short : length r.terms + 1 ≤ 2 ^ 20 = omega (arith, read.short, ap begun_terms at) in (
+        complete r.objective r.statements (Sum part) us,
+        end.rest,
+        complete-keeps w r.objective r.statements (Sum part) us (read.closed w) (count-fits w _ few) (before-index w r.terms t earlier short (omega (arith, read.light))),
+        end.same ∙ ap (λ (ks : List Kind). ks ++ end.rest) taken.kinds,
+      )
+
+  pub too-far : (l : Lit) (part : Part) (c : ℤ) → r.stage ≡ Coefficient part c → k ≡ literal l → 2 ^ 31 ≤ l.var → Refuses (read_kinds r) k (Limit Variables)
+  too-far l part c at says far = (
+    begins-after r.objective r.statements r.stage r.terms k read.front.placed (rw (at, says) refl),
+    λ within. (
+        let near = index-near r.objective r.statements part c r.terms l
+        (subst (λ (s : Stage). IsPlaced r.objective r.statements s r.terms) at read.front.placed)
+        (subst (λ (s : Stage). BeginsWithin Variables (front_kinds r.objective r.statements s r.terms ++ literal l ∷ [])) at (subst (λ (m : Kind). BeginsWithin Variables (read_kinds r ++ m ∷ [])) says within)) in
+        omega arith),
+    (λ e earlier. far-within l part c at says e earlier),
+    read-within r read,
+  )
+
+  pub unexpected : allows (expected (state_of r.stage)) k ≡ false → Refuses (read_kinds r) k (Unexpected (expected (state_of r.stage)))
+  unexpected h = (
+    front-refused r.objective r.statements r.stage r.terms read.front k h,
+    front-expects r.objective r.statements r.stage r.terms read.front,
+    read-within r read,
+  )
+
+  pub went : (next : Stage) (weight : ℕ) (new : Reader) (result : Result (Unit {0}) Refusal) → Leads r.stage k next → weight ≡ r.weight + stage_weight next → OnOk result (PassesAt None r next weight) → OnOk result (new ≡ moved r next weight) → OnOk result (Took r new k)
+  went reached weight new (Ok u) leads is passes changed = subst (λ (n : Reader). Took r n k) (sym changed) (took-next r read k reached leads weight is passes)
+  went reached weight new (Err e) leads is passes changed = tt
+
+  stop : (reached : Stage) (weight : ℕ) (e : Refusal) → Leads r.stage k reached → (2 ^ 100 ≤ weight → 2 ^ 100 ≤ r.weight + stage_weight reached) → IsStopped r reached weight e → Refuses (read_kinds r) k e
+  stop reached weight (Limit which) leads heavy at = stopped r read k reached leads which (length r.statements + begun_statements reached) (length r.terms + begun_terms reached) weight at refl refl heavy
+  stop reached weight (Unexpected e) leads heavy at = absurd at
+  stop reached weight Memory leads heavy at = absurd at
+
+  pub stopped-at : (reached : Stage) (weight : ℕ) (result : Result (Unit {0}) Refusal) → Leads r.stage k reached → weight ≡ r.weight + stage_weight reached → IfErr result (IsStopped r reached weight) → IfErr result (Refuses (read_kinds r) k)
+  stopped-at reached weight (Ok u) leads is at = tt
+  stopped-at reached weight (Err e) leads is at = stop reached weight e leads (λ heavy. omega arith) at
+
+  wide-stop : (reached : Stage) (e : Refusal) → LeadsAs r.stage k reached → IsStopped r reached (2 ^ 100) e → Refuses (read_kinds r) k e
+  wide-stop reached (Limit which) wide at =
+      let great = wide.heavy in
+      stopped r read k wide.stage wide.leads which (length r.statements + begun_statements reached) (length r.terms + begun_terms reached) (2 ^ 100) at
+      (omega (arith, wide.statements)) (omega (arith, wide.terms)) (λ heavy. omega arith)
+  wide-stop reached (Unexpected e) wide at = absurd at
+  wide-stop reached Memory wide at = absurd at
+
+  pub wide-stopped : (reached : Stage) (result : Result (Unit {0}) Refusal) → LeadsAs r.stage k reached → IfErr result (IsStopped r reached (2 ^ 100)) → IfErr result (Refuses (read_kinds r) k)
+  wide-stopped reached (Ok u) wide at = tt
+  wide-stopped reached (Err e) wide at = wide-stop reached e wide at
+
+between-kinds : (r : Reader) (vars : ℕ) → (r.stage ≡ Start) ⊎ (r.stage ≡ Next) → text_kinds (record { vars = vars; objective = r.objective; statements = r.statements }) ≡ read_kinds r ++ end ∷ []
+between-kinds r vars (inl at) = rw at (simp append-nil)
+between-kinds r vars (inr at) = rw at (simp append-nil)
+
+-- the end of the text, between statements
+pub finishes : (r : Reader) (told vars : ℕ) → IsRead r → (r.stage ≡ Start) ⊎ (r.stage ≡ Next) → told < 2 ^ 31 → vars ≡ max told r.greatest → Finishes (read_kinds r) told (record { vars = vars; objective = r.objective; statements = r.statements })
+finishes r told vars read at few is = record {
+  kinds = between-kinds r vars at;
+  keeps = λ which. (let closed = read.closed which in record { count = closed.count; objective = closed.objective; statements = closed.statements });
+  vars = is ∙ ap (max told) read.reached;
+  bounded = omega (arith, read.bounded);
+}
+
+-- and elsewhere
+pub unended : (r : Reader) → IsRead r → (r.stage ≡ Start → ⊥) → (r.stage ≡ Next → ⊥) → Refuses (read_kinds r) end (Unexpected (expected (state_of r.stage)))
+unended r read start next = unexpected r read end (end-refused r.stage start next)

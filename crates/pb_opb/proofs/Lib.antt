@@ -1,0 +1,12 @@
+pub mod Bounds
+pub mod Decode
+pub mod Fronts
+pub mod Kept
+pub mod Limits
+pub mod Reading
+pub mod Rows
+pub mod Runs
+pub mod Uniqueness
+pub mod Wide
+pub mod Within
+pub mod Greatest

@@ -1,0 +1,84 @@
+-- Every text of the grammar runs through the automaton, so a front that doesn't begins no text.
+use Rattle.std.proofs.Common.{◌≡◌, List, [], ◌∷◌, ◌++◌, Option, Some, None, Bool, true, false, ◌||◌, is_some, ℤ, sym, refl, ap, ◌∙◌, append_assoc}
+use Rattle.std.specs.Option.{option_and_then}
+use Rattle.std.specs.List.{flat_map}
+use Rattle.pb_base.specs.declared.literal.Term.{Term}
+use Rattle.pb_base.specs.declared.problem.Relation.{Relation}
+use Rattle.pb_base.specs.declared.problem.Raw.{Raw}
+use Rattle.pb_base.specs.declared.problem.Problem.{Problem}
+use Rattle.pb_opb.specs.declared.stage.Part.{Part}
+use Rattle.pb_opb.specs.declared.stage.Part.TheVariants.{Objective, Statement}
+use Rattle.pb_opb.specs.Grammar.{Kind, term_kinds, sum_kinds, objective_kinds, statement_kinds, text_kinds}
+use Rattle.pb_opb.specs.Grammar.Kind.{integer, relation, semicolon, end}
+use Rattle.pb_opb.specs.Faults.{Begins}
+use Rattle.pb_opb.specs.Automaton.{State, step, run}
+use Rattle.pb_opb.specs.Automaton.State.{start, next, in_sum}
+
+pub run-append : (xs ys : List Kind) (s : State) → run s (xs ++ ys) ≡ option_and_then (λ t. run t ys) (run s xs)
+run-append [] ys s = refl
+run-append (x ∷ xs) ys s =
+    elim (step s x) as (λ o. option_and_then (λ t. run t (xs ++ ys)) o ≡ option_and_then (λ t. run t ys) (option_and_then (λ t. run t xs) o)) [
+      | None ↦ refl
+      | Some t ↦ run-append xs ys t
+    ]
+
+-- a sum leads back to where it stands
+run-sum : (ts : List Term) (part : Part) (rest : List Kind) → run (in_sum part) (sum_kinds ts ++ rest) ≡ run (in_sum part) rest
+run-sum [] part rest = refl
+run-sum (t ∷ ts) Objective rest = ap (run (in_sum Objective)) (append_assoc (term_kinds t) (sum_kinds ts) rest) ∙ run-sum ts Objective rest
+run-sum (t ∷ ts) Statement rest = ap (run (in_sum Statement)) (append_assoc (term_kinds t) (sum_kinds ts) rest) ∙ run-sum ts Statement rest
+
+-- where a statement may begin: before anything was read, and after something
+abbrev pub between : Bool → State
+between false = start
+between true = next
+
+-- a statement leads to where the next may begin
+run-statement : (b : Bool) (ts : List Term) (r : Relation) (n : ℤ) (rest : List Kind) →
+    run (between b) ((sum_kinds ts ++ relation r ∷ integer n ∷ semicolon ∷ []) ++ rest) ≡ run next rest
+run-statement false [] r n rest = refl
+run-statement true [] r n rest = refl
+run-statement b (t ∷ ts) r n rest =
+    let end = relation r ∷ integer n ∷ semicolon ∷ [] in
+    ap (run (between b)) (append_assoc (term_kinds t ++ sum_kinds ts) end rest ∙ append_assoc (term_kinds t) (sum_kinds ts) (end ++ rest))
+    ∙ elim b as (λ c. run (between c) (term_kinds t ++ (sum_kinds ts ++ (end ++ rest))) ≡ run (in_sum Statement) (sum_kinds ts ++ (end ++ rest))) [ false ↦ refl | true ↦ refl ]
+    ∙ run-sum ts Statement (end ++ rest)
+
+abbrev pub any_of : {A : Type 0} → List A → Bool
+any_of [] = false
+any_of (_ ∷ _) = true
+
+pub run-statements : (ss : List Raw) (b : Bool) (rest : List Kind) → run (between b) (flat_map statement_kinds ss ++ rest) ≡ run (between (b || any_of ss)) rest
+run-statements [] false rest = refl
+run-statements [] true rest = refl
+run-statements (s ∷ ss) b rest =
+    ap (run (between b)) (append_assoc (statement_kinds s) (flat_map statement_kinds ss) rest)
+    ∙ run-statement b s.terms s.relation s.right (flat_map statement_kinds ss ++ rest)
+    ∙ run-statements ss true rest
+    ∙ elim b as (λ c. run next rest ≡ run (between (c || true)) rest) [ false ↦ refl | true ↦ refl ]
+
+pub run-objective : (o : Option (List Term)) (rest : List Kind) → run start (objective_kinds o ++ rest) ≡ run (between (is_some o)) rest
+run-objective None rest = refl
+run-objective (Some ts) rest =
+    ap (run (in_sum Objective)) (append_assoc (sum_kinds ts) (semicolon ∷ []) rest) ∙ run-sum ts Objective (semicolon ∷ rest)
+
+-- what stands behind an objective and statements
+pub run-front : (o : Option (List Term)) (ss : List Raw) (rest : List Kind) → run start (objective_kinds o ++ flat_map statement_kinds ss ++ rest) ≡ run (between (is_some o || any_of ss)) rest
+run-front o ss rest =
+    ap (run start) (append_assoc (objective_kinds o) (flat_map statement_kinds ss) rest)
+    ∙ run-objective o (flat_map statement_kinds ss ++ rest) ∙ run-statements ss (is_some o) rest
+
+-- every text runs
+accepted : (p : Problem) → run start (text_kinds p) ≡ Some (between (is_some p.objective || any_of p.statements))
+accepted p =
+    run-front p.objective p.statements (end ∷ [])
+    ∙ elim (is_some p.objective || any_of p.statements) as (λ b. run (between b) (end ∷ []) ≡ Some (between b)) [ false ↦ refl | true ↦ refl ]
+
+-- so no text begins with what does not
+pub refused : (ks : List Kind) (k : Kind) (s : State) → run start ks ≡ Some s → step s k ≡ None → Begins (ks ++ k ∷ []) → ⊥
+refused ks k s here stuck (p, rest, same) =
+    let stops : run start (ks ++ k ∷ []) ≡ None =
+    run-append ks (k ∷ []) start ∙ ap (option_and_then (λ t. run t (k ∷ []))) here ∙ ap (option_and_then (λ t. run t [])) stuck in
+    let none : run start ((ks ++ k ∷ []) ++ rest) ≡ None = run-append (ks ++ k ∷ []) rest start ∙ ap (option_and_then (λ t. run t rest)) stops in
+    let some = sym (accepted p) ∙ ap (run start) same ∙ none in
+    cc

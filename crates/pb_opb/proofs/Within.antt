@@ -1,0 +1,172 @@
+-- A text that begins with what was read has the sum that was read, or goes on from it.
+use Rattle.std.proofs.Common.{◌≡◌, ℕ, ◌+◌, ◌<◌, ◌≤◌, ◌^◌, List, [], ◌∷◌, ◌++◌, Option, Some, None, false, ℤ, sym, refl, ap, ◌∙◌, subst, arith, append_assoc}
+use Rattle.std.specs.Prelude.{length, unsigned_abs, IfSome}
+use Rattle.std.specs.List.{AllByRecursion, flat_map}
+use Rattle.std.proofs.lemmas.List.{length-append}
+use Rattle.std.proofs.lemmas.List.Sums.{sum_by-append, sum_by-cons}
+use Rattle.pb_base.specs.declared.literal.Lit.{Lit}
+use Rattle.pb_base.specs.declared.literal.Term.{Term}
+use Rattle.pb_base.specs.declared.problem.Relation.{Relation}
+use Rattle.pb_base.specs.declared.problem.Raw.{Raw}
+use Rattle.pb_base.specs.declared.problem.Problem.{Problem}
+use Rattle.pb_base.specs.declared.limit.LimitKind.{LimitKind}
+use Rattle.pb_base.specs.declared.limit.LimitKind.TheVariants.{Statements, Terms, Weight, Variables}
+use Rattle.pb_opb.specs.declared.stage.Part.{Part}
+use Rattle.pb_opb.specs.declared.stage.Part.TheVariants.{Objective, Statement}
+use Rattle.pb_opb.specs.declared.stage.Stage.{Stage}
+use Rattle.pb_opb.specs.declared.stage.Stage.TheVariants.{Start, Next, Sum, Coefficient, Related, Right}
+use Rattle.pb_opb.specs.Grammar.{Kind, sum_kinds, objective_kinds, statement_kinds, text_kinds}
+use Rattle.pb_opb.specs.Grammar.Kind.{minimise, integer, literal, relation, semicolon, end}
+use Rattle.pb_opb.specs.Front.{front_kinds, begun_statements, IsPlaced}
+use Rattle.pb_opb.specs.Steps.{is_open_sum}
+use Rattle.pb_base.specs.Problems.{magnitude}
+use Rattle.pb_opb.specs.Limits.{SumKeeps, Keeps, BeginsWithin}
+use Rattle.pb_opb.proofs.Decode.{sum-front, text-front, is_minimise, not_minimise}
+use Rattle.pb_opb.proofs.Fronts.{add-coefficient}
+
+-- what all of a list keeps, what stands behind a front of it keeps
+pub all-behind : {A : Type 0} (P : A → Type 0) (xs ys : List A) → AllByRecursion P (xs ++ ys) → AllByRecursion P ys
+all-behind P [] ys h = h
+all-behind P (x ∷ xs) ys h = all-behind P xs ys h.1
+
+abbrev RawKeeps : LimitKind → Raw → Type 0
+RawKeeps which s = SumKeeps which s.terms (unsigned_abs s.right)
+
+-- the statement that was begun, and what stands behind its open sum
+pub record OpenStatement (which : LimitKind) (ts : List Term) (behind : List Kind) : Type 0 where
+  pub more : List Term
+  pub sign : Relation
+  pub right : ℤ
+  pub others : List Kind
+  pub keeps : SumKeeps which (ts ++ more) (unsigned_abs right)
+  pub written : sum_kinds more ++ relation sign ∷ integer right ∷ semicolon ∷ others ≡ behind
+
+open-first : (which : LimitKind) (rs : List Raw) (ts : List Term) (k : Kind) (behind : List Kind) → AllByRecursion (RawKeeps which) rs →
+    flat_map statement_kinds rs ++ end ∷ [] ≡ sum_kinds ts ++ k ∷ behind → (end ≡ k → ⊥) → OpenStatement which ts (k ∷ behind)
+open-first which [] [] k behind keeps same goes = absurd (goes cc)
+open-first which [] (t ∷ ts) k behind keeps same goes = cc
+open-first which (s ∷ rs) ts k behind keeps same goes =
+    let x = flat_map statement_kinds rs ++ end ∷ [] in
+    let tail = relation s.relation ∷ integer s.right ∷ semicolon ∷ [] in
+    let whole : sum_kinds s.terms ++ relation s.relation ∷ integer s.right ∷ semicolon ∷ x ≡ sum_kinds ts ++ k ∷ behind =
+    sym (append_assoc (sum_kinds s.terms) tail x) ∙ sym (append_assoc (statement_kinds s) (flat_map statement_kinds rs) (end ∷ [])) ∙ same in
+    let front = sum-front ts s.terms (relation s.relation) (integer s.right ∷ semicolon ∷ x) (k ∷ behind) refl whole in
+    record {
+      more = front.more;
+      sign = s.relation;
+      right = s.right;
+      others = x;
+      keeps = subst (λ (us : List Term). SumKeeps which us (unsigned_abs s.right)) front.terms keeps.0;
+      written = front.written;
+    }
+
+plain_sum : (ts : List Term) (k : Kind) (x : List Kind) → is_minimise (k ∷ x) ≡ false → is_minimise (sum_kinds ts ++ k ∷ x) ≡ false
+plain_sum [] k x h = h
+plain_sum (t ∷ ts) k x h = refl
+
+pub open-statement : (which : LimitKind) (o : Option (List Term)) (ss : List Raw) (ts : List Term) (p : Problem) (k : Kind) (x : List Kind) → Keeps which p → is_minimise (k ∷ x) ≡ false → (end ≡ k → ⊥) →
+    text_kinds p ≡ objective_kinds o ++ flat_map statement_kinds ss ++ (sum_kinds ts ++ k ∷ x) → OpenStatement which ts (k ∷ x)
+open-statement which o ss ts p k x keeps plain goes same =
+    let front = text-front o ss p (sum_kinds ts ++ k ∷ x) (plain_sum ts k x plain) same in
+    let rest = front.statements in
+    open-first which rest.more ts k x (all-behind (RawKeeps which) ss rest.more (subst (AllByRecursion (RawKeeps which)) rest.statements keeps.statements)) rest.written goes
+
+-- a coefficient in the open sum
+pub record OpenTerm (which : LimitKind) (ts : List Term) (c : ℤ) (x : List Kind) : Type 0 where
+  pub term : Term
+  pub more : List Term
+  pub right : ℕ
+  pub keeps : SumKeeps which (ts ++ term ∷ more) right
+  pub coef : term.coef ≡ c
+  pub others : List Kind
+  pub written : literal term.lit ∷ others ≡ x
+
+term-of : (which : LimitKind) (ts more : List Term) (right : ℕ) (k : Kind) (y : List Kind) (c : ℤ) (x : List Kind) → (integer c ≡ k → ⊥) → SumKeeps which (ts ++ more) right → sum_kinds more ++ k ∷ y ≡ integer c ∷ x → OpenTerm which ts c x
+term-of which ts [] right k y c x plain keeps same = absurd (plain cc)
+term-of which ts (m ∷ more) right k y c x plain keeps same =
+    record { term = m; more = more; right = right; keeps = keeps; coef = cc; others = sum_kinds more ++ k ∷ y; written = cc }
+
+objective-term : (which : LimitKind) (o : Option (List Term)) (ts : List Term) (qs : List Raw) (c : ℤ) (x : List Kind) → IfSome o (λ us. SumKeeps which us 0) →
+    objective_kinds o ++ (flat_map statement_kinds qs ++ end ∷ []) ≡ minimise ∷ (sum_kinds ts ++ integer c ∷ x) → OpenTerm which ts c x
+objective-term which None ts qs c x keeps same = absurd (not_minimise qs _ (sym same))
+objective-term which (Some us) ts qs c x keeps same =
+    let y = flat_map statement_kinds qs ++ end ∷ [] in
+    let tails : (sum_kinds us ++ semicolon ∷ []) ++ y ≡ sum_kinds ts ++ integer c ∷ x = cc in
+    let front = sum-front ts us semicolon y (integer c ∷ x) refl (sym (append_assoc (sum_kinds us) (semicolon ∷ []) y) ∙ tails) in
+    term-of which ts front.more 0 semicolon y c x (λ bad. cc) (subst (λ (vs : List Term). SumKeeps which vs 0) front.terms keeps) front.written
+
+pub open-term : (which : LimitKind) (o : Option (List Term)) (ss : List Raw) (part : Part) (ts : List Term) (p : Problem) (c : ℤ) (x : List Kind) → IsPlaced o ss (Sum part) ts → Keeps which p →
+    text_kinds p ≡ front_kinds o ss (Sum part) ts ++ integer c ∷ x → OpenTerm which ts c x
+open-term which o ss Statement ts p c x placed keeps same =
+    let s = open-statement which o ss ts p (integer c) x keeps refl (λ bad. cc) (same ∙ append_assoc (objective_kinds o ++ flat_map statement_kinds ss) (sum_kinds ts) (integer c ∷ x)) in
+    term-of which ts s.more (unsigned_abs s.right) (relation s.sign) (integer s.right ∷ semicolon ∷ s.others) c x (λ bad. cc) s.keeps s.written
+open-term which o ss Objective ts p c x placed keeps same =
+    objective-term which p.objective ts p.statements c x keeps.objective
+    (sym (append_assoc (objective_kinds p.objective) (flat_map statement_kinds p.statements) (end ∷ [])) ∙ same ∙ ap (λ (q : Option (List Term)). front_kinds q ss (Sum Objective) ts ++ integer c ∷ x) placed.0 ∙ ap (λ (xs : List Raw). front_kinds None xs (Sum Objective) ts ++ integer c ∷ x) placed.1)
+
+weight-more : (ts more : List Term) (m : Term) → magnitude ts + unsigned_abs m.coef ≤ magnitude (ts ++ m ∷ more)
+weight-more ts more m =
+    let size = λ (u : Term). unsigned_abs u.coef in
+    omega (arith, sum_by-append size ts (m ∷ more), sum_by-cons size m more)
+
+-- so an accepted coefficient, literal or right side is within the limit
+pub coefficient-light : (o : Option (List Term)) (ss : List Raw) (part : Part) (ts : List Term) (c : ℤ) → IsPlaced o ss (Sum part) ts → BeginsWithin Weight (front_kinds o ss (Sum part) ts ++ integer c ∷ []) → magnitude ts + unsigned_abs c < 2 ^ 100
+coefficient-light o ss part ts c placed (p, x, keeps, same) =
+    let t = open-term Weight o ss part ts p c x placed keeps (same ∙ append_assoc (front_kinds o ss (Sum part) ts) (integer c ∷ []) x) in
+    let light = t.keeps in
+    let more = weight-more ts t.more t.term in
+    let same_coef = ap unsigned_abs t.coef in
+    omega (arith, light, more, same_coef)
+
+pub literal-near : (o : Option (List Term)) (ss : List Raw) (part : Part) (ts : List Term) (c : ℤ) (l : Lit) → IsPlaced o ss (Sum part) ts → BeginsWithin Variables (front_kinds o ss (Coefficient part c) ts ++ literal l ∷ []) → l.var < 2 ^ 31
+literal-near o ss part ts c l placed (p, x, keeps, same) =
+    let t = open-term Variables o ss part ts p c (literal l ∷ x) placed keeps
+    (same ∙ append_assoc (front_kinds o ss (Coefficient part c) ts) (literal l ∷ []) x ∙ ap (λ (ks : List Kind). ks ++ literal l ∷ x) (sym (add-coefficient o ss part ts c)) ∙ append_assoc (front_kinds o ss (Sum part) ts) (integer c ∷ []) (literal l ∷ x)) in
+    let lit : t.term.lit ≡ l = (let w = t.written in cc) in
+    let near = (all-behind (λ (u : Term). u.lit.var < 2 ^ 31) ts (t.term ∷ t.more) t.keeps).0 in
+    subst (λ (m : Lit). m.var < 2 ^ 31) lit near
+
+right-by : (ts more : List Term) (q r : Relation) (m n : ℤ) (y x : List Kind) → SumKeeps Weight (ts ++ more) (unsigned_abs m) → sum_kinds more ++ relation q ∷ integer m ∷ semicolon ∷ y ≡ relation r ∷ integer n ∷ x → magnitude ts + unsigned_abs n < 2 ^ 100
+right-by ts [] q r m n y x keeps same =
+    let rights : m ≡ n = cc in
+    let same_right = ap unsigned_abs rights in
+    let sums = sum_by-append (λ (u : Term). unsigned_abs u.coef) ts [] in
+    omega (arith, keeps, sums, same_right)
+right-by ts (t ∷ more) q r m n y x keeps same = cc
+
+pub right-light : (o : Option (List Term)) (ss : List Raw) (ts : List Term) (r : Relation) (n : ℤ) → BeginsWithin Weight (front_kinds o ss (Related r) ts ++ integer n ∷ []) → magnitude ts + unsigned_abs n < 2 ^ 100
+right-light o ss ts r n (p, x, keeps, same) =
+    let s = open-statement Weight o ss ts p (relation r) (integer n ∷ x) keeps refl (λ bad. cc)
+    (same ∙ append_assoc (front_kinds o ss (Related r) ts) (integer n ∷ []) x ∙ append_assoc (objective_kinds o ++ flat_map statement_kinds ss) (sum_kinds ts ++ relation r ∷ []) (integer n ∷ x) ∙ ap (λ (ks : List Kind). objective_kinds o ++ flat_map statement_kinds ss ++ ks) (append_assoc (sum_kinds ts) (relation r ∷ []) (integer n ∷ x))) in
+    right-by ts s.more s.sign r s.right n s.others x s.keeps s.written
+
+-- a sum with one more term is not too long
+pub term-short : (o : Option (List Term)) (ss : List Raw) (part : Part) (ts : List Term) (c : ℤ) → IsPlaced o ss (Sum part) ts → BeginsWithin Terms (front_kinds o ss (Sum part) ts ++ integer c ∷ []) → length ts + 1 ≤ 2 ^ 20
+term-short o ss part ts c placed (p, x, keeps, same) =
+    let t = open-term Terms o ss part ts p c x placed keeps (same ∙ append_assoc (front_kinds o ss (Sum part) ts) (integer c ∷ []) x) in
+    let short = t.keeps in
+    omega (arith, short, length-append ts (t.term ∷ t.more))
+
+some-more : (rs : List Raw) (ts : List Term) (k : Kind) (x : List Kind) → flat_map statement_kinds rs ++ end ∷ [] ≡ sum_kinds ts ++ k ∷ x → (end ≡ k → ⊥) → 1 ≤ length rs
+some-more [] [] k x same goes = absurd (goes cc)
+some-more [] (t ∷ ts) k x same goes = cc
+some-more (r ∷ rs) ts k x same goes = omega arith
+
+one-more : (o : Option (List Term)) (ss : List Raw) (ts : List Term) (p : Problem) (k : Kind) (x : List Kind) → Keeps Statements p → is_minimise (k ∷ x) ≡ false → (end ≡ k → ⊥) →
+    text_kinds p ≡ objective_kinds o ++ flat_map statement_kinds ss ++ (sum_kinds ts ++ k ∷ x) → length ss + 1 ≤ 2 ^ 24
+one-more o ss ts p k x keeps plain goes same =
+    let front = text-front o ss p (sum_kinds ts ++ k ∷ x) (plain_sum ts k x plain) same in
+    let rest = front.statements in
+    let count = keeps.count in
+    omega (arith, count, some-more rest.more ts k x rest.written goes, ap length rest.statements, length-append ss rest.more)
+
+-- nor are there too many statements with one that was begun
+pub statement-few : (o : Option (List Term)) (ss : List Raw) (stage : Stage) (ts : List Term) → is_open_sum stage ≡ false → begun_statements stage ≡ 1 → BeginsWithin Statements (front_kinds o ss stage ts) → length ss + 1 ≤ 2 ^ 24
+statement-few o ss (Coefficient Statement c) ts shown begun (p, x, keeps, same) = one-more o ss ts p (integer c) x keeps refl (λ bad. cc) (same ∙ simp append_assoc)
+statement-few o ss (Related r) ts shown begun (p, x, keeps, same) = one-more o ss ts p (relation r) x keeps refl (λ bad. cc) (same ∙ simp append_assoc)
+statement-few o ss (Right r n) ts shown begun (p, x, keeps, same) = one-more o ss ts p (relation r) (integer n ∷ x) keeps refl (λ bad. cc) (same ∙ simp append_assoc)
+statement-few o ss (Sum Statement) ts shown begun within = cc
+statement-few o ss (Sum Objective) ts shown begun within = absurd (omega arith)
+statement-few o ss (Coefficient Objective c) ts shown begun within = absurd (omega arith)
+statement-few o ss Start ts shown begun within = absurd (omega arith)
+statement-few o ss Next ts shown begun within = absurd (omega arith)

@@ -1,0 +1,59 @@
+-- What a reader answers to a token.
+use Rattle.std.specs.Prelude.{◌≡◌, ℕ, ◌+◌, max, ◌<◌, ◌≤◌, ◌^◌, List, [], ◌∷◌, ◌++◌, length, Option, Some, None}
+use Rattle.pb_base.specs.declared.place.Place.{Place}
+use Rattle.pb_base.specs.declared.problem.Problem.{Problem}
+use Rattle.pb_base.specs.declared.limit.LimitKind.{LimitKind}
+use Rattle.pb_base.specs.declared.limit.LimitKind.TheVariants.{Statements, Terms, Weight}
+use Rattle.pb_opb.specs.declared.fault.Refusal.{Refusal}
+use Rattle.pb_opb.specs.declared.fault.Refusal.TheVariants.{Unexpected, Limit, Memory}
+use Rattle.pb_opb.specs.declared.fault.OpbFault.{OpbFault}
+use Rattle.pb_opb.specs.declared.fault.OpbFault.TheVariants.{Token, NoMemory, Limit as OverLimit}
+use Rattle.pb_opb.specs.declared.reader.Reader.{Reader}
+use Rattle.pb_opb.specs.declared.stage.Stage.{Stage}
+use Rattle.pb_opb.specs.Grammar.{Kind, text_kinds, greatest}
+use Rattle.pb_opb.specs.Grammar.Kind.{end}
+use Rattle.pb_opb.specs.Limits.{Keeps, BeginsWithin, IsWithin, rank}
+use Rattle.pb_opb.specs.Faults.{Begins, Expects, IsWrong, IsTooGreat}
+use Rattle.pb_opb.specs.Front.{IsRead, read_kinds, begun_statements, begun_terms}
+
+-- The first limit that numbers of statements and terms and a weight pass.
+abbrev pub Passes : Option LimitKind → ℕ → ℕ → ℕ → Type 0
+Passes None statements terms weight = (statements ≤ 2 ^ 24) × (terms ≤ 2 ^ 20) × (weight < 2 ^ 100)
+Passes (Some Statements) statements terms weight = 2 ^ 24 < statements
+Passes (Some Terms) statements terms weight = (statements ≤ 2 ^ 24) × (2 ^ 20 < terms)
+Passes (Some Weight) statements terms weight = (statements ≤ 2 ^ 24) × (terms ≤ 2 ^ 20) × (2 ^ 100 ≤ weight)
+Passes (Some _) statements terms weight = ⊥
+
+-- what the reader has passed at a stage
+abbrev pub PassesAt : Option LimitKind → Reader → Stage → ℕ → Type 0
+PassesAt o r next weight = Passes o (length r.statements + begun_statements next) (length r.terms + begun_terms next) weight
+
+-- No text begins so, and this is what could stand there; or it passes a limit.
+abbrev pub Refuses : List Kind → Kind → Refusal → Type 0
+Refuses before k (Unexpected e) = (Begins (before ++ k ∷ []) → ⊥) × Expects e before × IsWithin before
+Refuses before k (Limit which) = Begins (before ++ k ∷ []) × (BeginsWithin which (before ++ k ∷ []) → ⊥) × ((w : LimitKind) → rank w < rank which → BeginsWithin w (before ++ k ∷ [])) × IsWithin before
+Refuses before k Memory = Unit {0}
+
+-- the reader took the token
+pub record Took (old new : Reader) (k : Kind) : Type 0 where
+  pub read : IsRead new
+  pub kinds : read_kinds new ≡ read_kinds old ++ k ∷ []
+
+-- the tokens and the end make a text of the problem
+pub record Finishes (before : List Kind) (told : ℕ) (p : Problem) : Type 0 where
+  pub kinds : text_kinds p ≡ before ++ end ∷ []
+  pub keeps : (which : LimitKind) → Keeps which p
+  pub vars : p.vars ≡ max told (greatest before)
+  pub bounded : p.vars < 2 ^ 31
+
+abbrev pub fault_at : Place → Refusal → OpbFault
+fault_at p (Unexpected e) = Token p e
+fault_at p (Limit which) = OverLimit (Some p) which
+fault_at p Memory = NoMemory
+
+-- what is found wrong among the tokens
+abbrev pub IsTokenFault : List ℕ → OpbFault → Type 0
+IsTokenFault text (Token place e) = IsWrong text place e
+IsTokenFault text (OverLimit None which) = ⊥
+IsTokenFault text (OverLimit (Some place) which) = IsTooGreat text place which
+IsTokenFault text NoMemory = Unit {0}

@@ -1,0 +1,62 @@
+//! The reader of OPB texts.
+ghost use Rattle.std.specs.Prelude.{◌≡◌, ◌<◌, ◌^◌, IfOk, IfErr};
+ghost use Rattle.pb_base.specs.declared.limit.LimitKind.{LimitKind};
+ghost use Rattle.pb_base.specs.Problems.{IsWithinLimits};
+ghost use Rattle.pb_opb.specs.FirstLine.{told_vars};
+ghost use Rattle.pb_opb.specs.Limits.{Keeps};
+ghost use Rattle.pb_opb.specs.Faults.{Says, Reads, IsAdmitted, IsFirstFault};
+ghost use Rattle.pb_opb.specs.Takes.{IsTokenFault};
+
+use crate::fault::OpbFault;
+use crate::first_line::told_vars;
+use crate::reader::Reader;
+use pb_base::{LimitKind, MAX_TEXT, Problem, end_of, tokens};
+use std::alloc::Global;
+
+/// Reads an OPB text, or tells its first fault.
+///
+/// The text is within the limits: at most 2^32 bytes, 2^24 statements, 2^20 terms in one sum and
+/// variables up to 2^31 - 1, and the absolute values of a statement's numbers, or of the
+/// objective's, add up to less than 2^100. The problem has as many variables as the first line
+/// tells, or as many as the greatest index where that is more.
+pub fn read_opb(alloc: Global, text: &[u8]) -> Result<Problem, OpbFault>
+    ensures reads { IfOk result (Reads text.now) }
+    ensures within { IfOk result IsWithinLimits }
+    ensures fault { IfErr result (IsFirstFault text.now) }
+{
+    if text.len() as u64 > MAX_TEXT {
+        return Err(OpbFault::Limit {
+            place: None,
+            which: LimitKind::Text,
+        });
+    }
+    match told_vars(text) {
+        Ok(told) => read_tokens(alloc, text, told),
+        Err(place) => Err(OpbFault::Limit {
+            place: Some(place),
+            which: LimitKind::Variables,
+        }),
+    }
+}
+
+// Reads the tokens of a text whose first line tells a number of variables.
+fn read_tokens(alloc: Global, text: &[u8], told: u32) -> Result<Problem, OpbFault>
+    requires admitted { IsAdmitted text.now }
+    requires told { told ≡ told_vars text.now }
+    ensures says { IfOk result (Says text.now) }
+    ensures keeps { IfOk result (λ p. (which : LimitKind) → Keeps which p) }
+    ensures vars { IfOk result (λ p. p.vars < 2 ^ 31) }
+    ensures fault { IfErr result (IsTokenFault text.now) }
+{
+    let mut reader = Reader::new(alloc);
+    for token in tokens(text) {
+        match reader.take(alloc, token.text) {
+            Ok(()) => {}
+            Err(refusal) => return Err(refusal.at(token.place)),
+        }
+    }
+    match reader.finish(told) {
+        Ok(problem) => Ok(problem),
+        Err(refusal) => Err(refusal.at(end_of(text))),
+    }
+}

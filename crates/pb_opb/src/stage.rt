@@ -1,0 +1,214 @@
+//! Where a reader stands, and what a token calls for there.
+ghost use Rattle.std.specs.Prelude.{◌≡◌};
+
+use crate::symbol::Symbol;
+use pb_base::{Expected, LimitKind, Lit, MAX_STATEMENTS, MAX_TERMS, Relation, Term, WEIGHT_BITS};
+
+/// What a sum belongs to.
+#[derive(Clone, Copy, Debug, PartialEq, Eq)]
+pub enum Part {
+    Objective,
+    Statement,
+}
+
+/// Where a reader stands, with what it has of the token before.
+#[derive(Clone, Copy, Debug, PartialEq, Eq)]
+pub enum Stage {
+    Start,
+    Next,
+    Sum(Part),
+    Coefficient(Part, i128),
+    Related(Relation),
+    Right(Relation, i128),
+}
+
+/// What a token calls for.
+#[derive(Clone, Copy, Debug, PartialEq, Eq)]
+pub enum Step {
+    To(Stage),
+    EndTerm(Part, Term),
+    EndStatement(Relation, i128),
+    EndObjective,
+    Wrong,
+    /// An integer of absolute value 2 ^ 126 or more, and the stage to which 0 would lead.
+    Wide(Stage),
+    /// A literal of index 2 ^ 31 or more.
+    Far,
+}
+
+/// The weight of a statement or objective is below this.
+pub const WEIGHT: u128 = 1 << WEIGHT_BITS;
+
+impl Stage {
+    ghost use Rattle.std.specs.Prelude.{ℤ, ◌+◌, ◌<◌, ◌≤◌, ◌^◌, unsigned_abs};
+    ghost use Rattle.pb_base.specs.declared.literal.Lit.{Lit};
+    ghost use Rattle.pb_opb.specs.Grammar.{Kind};
+    ghost use Rattle.pb_opb.specs.Grammar.Kind.{minimise, integer, literal, relation, semicolon};
+    ghost use Rattle.pb_opb.specs.Automaton.{expected};
+    ghost use Rattle.pb_opb.specs.Front.{state_of, begun_statements, begun_terms};
+    ghost use Rattle.pb_opb.specs.Symbols.{Shows};
+    ghost use Rattle.pb_opb.specs.Steps.{CallsFor, stage_weight};
+    ghost use Rattle.pb_opb.specs.Takes.{Passes};
+
+    /// What could stand where a reader stands.
+    pub fn expected(self) -> Expected
+        ensures { result ≡ expected (state_of self) }
+    {
+        match self {
+            Stage::Start => Expected::Start,
+            Stage::Next => Expected::Next,
+            Stage::Sum(Part::Objective) => Expected::TermOrSemicolon,
+            Stage::Sum(Part::Statement) => Expected::TermOrRelation,
+            Stage::Coefficient(_, _) => Expected::Literal,
+            Stage::Related(_) => Expected::Integer,
+            Stage::Right(_, _) => Expected::Semicolon,
+        }
+    }
+
+    /// How much the stage adds to its sum's weight.
+    pub fn stage_weight(self) -> u128
+        ensures value { result ≡ stage_weight self }
+        ensures bound { result ≤ 2 ^ 127 }
+    {
+        match self {
+            Stage::Coefficient(_, n) => n.unsigned_abs(),
+            Stage::Right(_, n) => n.unsigned_abs(),
+            _ => 0,
+        }
+    }
+
+    /// How many statements the stage has begun.
+    pub fn begun_statements(self) -> usize
+        ensures value { result ≡ begun_statements self }
+        ensures bound { result ≤ 1 }
+    {
+        match self {
+            Stage::Start | Stage::Next => 0,
+            Stage::Sum(Part::Objective) => 0,
+            Stage::Coefficient(Part::Objective, _) => 0,
+            Stage::Sum(Part::Statement) => 1,
+            Stage::Coefficient(Part::Statement, _) => 1,
+            Stage::Related(_) => 1,
+            Stage::Right(_, _) => 1,
+        }
+    }
+
+    /// How many terms the stage has begun.
+    pub fn begun_terms(self) -> usize
+        ensures value { result ≡ begun_terms self }
+        ensures bound { result ≤ 1 }
+    {
+        match self {
+            Stage::Coefficient(_, _) => 1,
+            _ => 0,
+        }
+    }
+
+    /// The first limit that is passed at the stage, with these statements and terms behind it and
+    /// a weight so far.
+    pub fn passed(self, statements: usize, terms: usize, weight: u128) -> Option<LimitKind>
+        requires statements { statements ≤ 2 ^ 24 }
+        requires terms { terms ≤ 2 ^ 20 }
+        ensures { Passes result (statements + begun_statements self) (terms + begun_terms self) weight }
+    {
+        if statements + self.begun_statements() > MAX_STATEMENTS {
+            Some(LimitKind::Statements)
+        } else if terms + self.begun_terms() > MAX_TERMS {
+            Some(LimitKind::Terms)
+        } else if weight >= WEIGHT {
+            Some(LimitKind::Weight)
+        } else {
+            None
+        }
+    }
+
+    /// What a token calls for where a reader stands.
+    pub fn step(self, symbol: Symbol) -> Step
+        ensures { (k : Kind) → Shows symbol k → CallsFor self k result }
+    {
+        match symbol {
+            Symbol::Minimise => self.minimise(),
+            Symbol::Integer(n) => self.integer(n),
+            Symbol::Wide => self.wide(),
+            Symbol::Literal(lit) => self.literal(lit),
+            Symbol::Far => self.far(),
+            Symbol::Relation(relation) => self.relation(relation),
+            Symbol::Semicolon => self.semicolon(),
+            Symbol::Other => Step::Wrong,
+        }
+    }
+
+    fn minimise(self) -> Step
+        ensures { CallsFor self minimise result }
+    {
+        match self {
+            Stage::Start => Step::To(Stage::Sum(Part::Objective)),
+            _ => Step::Wrong,
+        }
+    }
+
+    fn integer(self, n: i128) -> Step
+        ensures { CallsFor self (integer n) result }
+    {
+        match self {
+            Stage::Start | Stage::Next | Stage::Sum(Part::Statement) => {
+                Step::To(Stage::Coefficient(Part::Statement, n))
+            }
+            Stage::Sum(Part::Objective) => Step::To(Stage::Coefficient(Part::Objective, n)),
+            Stage::Related(relation) => Step::To(Stage::Right(relation, n)),
+            Stage::Coefficient(_, _) | Stage::Right(_, _) => Step::Wrong,
+        }
+    }
+
+    fn wide(self) -> Step
+        ensures { (n : ℤ) → 2 ^ 126 ≤ unsigned_abs n → CallsFor self (integer n) result }
+    {
+        match self {
+            Stage::Coefficient(_, _) | Stage::Right(_, _) => Step::Wrong,
+            Stage::Start => Step::Wide(Stage::Coefficient(Part::Statement, 0)),
+            Stage::Next => Step::Wide(Stage::Coefficient(Part::Statement, 0)),
+            Stage::Sum(part) => Step::Wide(Stage::Coefficient(part, 0)),
+            Stage::Related(relation) => Step::Wide(Stage::Right(relation, 0)),
+        }
+    }
+
+    fn literal(self, lit: Lit) -> Step
+        requires { lit.var < 2 ^ 31 }
+        ensures { CallsFor self (literal lit) result }
+    {
+        match self {
+            Stage::Coefficient(part, coef) => Step::EndTerm(part, Term { coef, lit }),
+            _ => Step::Wrong,
+        }
+    }
+
+    fn far(self) -> Step
+        ensures { (l : Lit) → 2 ^ 31 ≤ l.var → CallsFor self (literal l) result }
+    {
+        match self {
+            Stage::Coefficient(_, _) => Step::Far,
+            _ => Step::Wrong,
+        }
+    }
+
+    fn relation(self, sign: Relation) -> Step
+        ensures { CallsFor self (relation sign) result }
+    {
+        match self {
+            Stage::Start | Stage::Next | Stage::Sum(Part::Statement) => {
+                Step::To(Stage::Related(sign))
+            }
+            _ => Step::Wrong,
+        }
+    }
+
+    fn semicolon(self) -> Step
+        ensures { CallsFor self semicolon result }
+    {
+        match self {
+            Stage::Sum(Part::Objective) => Step::EndObjective,
+            Stage::Right(relation, right) => Step::EndStatement(relation, right),
+            _ => Step::Wrong,
+        }
+    }
+}
