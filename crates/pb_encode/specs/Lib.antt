@@ -1,0 +1,7 @@
+pub mod Clauses
+pub mod Encodings
+pub mod Models
+pub mod Summaries
+pub mod Tallies
+pub mod Emission
+pub mod Faults

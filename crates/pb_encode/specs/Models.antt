@@ -1,0 +1,15 @@
+-- What it means that clauses have the solutions of a problem.
+use Rattle.std.specs.Prelude.{ℕ, ◌≡◌, ◌↔◌, Bool, List, length, take}
+use Rattle.pb_base.specs.declared.literal.Lit.{Lit}
+use Rattle.pb_base.specs.declared.problem.Problem.{Problem}
+use Rattle.pb_base.specs.Literals.{assigned_by, IsModel}
+use Rattle.pb_base.specs.Problems.{IsSolution}
+
+-- a value for each variable, under which each clause has a true literal
+pub record IsModelOver (vars : ℕ) (clauses : List (List Lit)) (values : List Bool) : Type 0 where
+  pub covers : length values ≡ vars
+  pub satisfies : IsModel (assigned_by values) clauses
+
+-- values of the problem's variables are a solution exactly where they are the front of a model of the clauses
+abbrev pub HasSolutionsOf : Problem → ℕ → List (List Lit) → Type 0
+HasSolutionsOf p vars clauses = (values : List Bool) → length values ≡ p.vars → IsSolution p values ↔ ((model : List Bool) × IsModelOver vars clauses model × (take p.vars model ≡ values))

@@ -1,0 +1,69 @@
+//! Why a problem is not encoded.
+ghost use Rattle.std.specs.Prelude.{◌≡◌};
+ghost use Rattle.pb_encode.specs.declared.fault.MeasureFault.TheVariants as measure;
+ghost use Rattle.pb_encode.specs.declared.fault.EncodeFault.TheVariants as encode;
+ghost use Rattle.pb_encode.specs.Faults.{as_encode_fault};
+
+use pb_base::{Failed, LimitKind, NoMemory};
+use std::alloc::AllocError;
+
+/// Why a problem is not measured.
+#[derive(Clone, Copy, PartialEq, Eq, Debug)]
+pub enum MeasureFault {
+    /// A class has no encoding yet, or there would be too many clauses.
+    Limit { which: LimitKind },
+    NoMemory,
+}
+
+impl From<NoMemory> for MeasureFault {
+    ghost from_gives = { λ _ e. e ≡ measure.NoMemory };
+
+    fn from(_: NoMemory) -> Self {
+        MeasureFault::NoMemory
+    }
+}
+
+/// Why a problem is not encoded.
+#[derive(Clone, Copy, PartialEq, Eq, Debug)]
+pub enum EncodeFault {
+    /// A class has no encoding yet, or there would be too many clauses. Then no file is made.
+    Limit { which: LimitKind },
+    /// A write failed, and the desk counted it.
+    WriteFault,
+    NoMemory,
+}
+
+impl From<MeasureFault> for EncodeFault {
+    ghost from_gives = { λ e f. f ≡ as_encode_fault e };
+
+    fn from(fault: MeasureFault) -> Self {
+        match fault {
+            MeasureFault::Limit { which } => EncodeFault::Limit { which },
+            MeasureFault::NoMemory => EncodeFault::NoMemory,
+        }
+    }
+}
+
+impl From<Failed> for EncodeFault {
+    ghost from_gives = { λ _ f. f ≡ encode.WriteFault };
+
+    fn from(_: Failed) -> Self {
+        EncodeFault::WriteFault
+    }
+}
+
+impl From<NoMemory> for EncodeFault {
+    ghost from_gives = { λ _ f. f ≡ encode.NoMemory };
+
+    fn from(_: NoMemory) -> Self {
+        EncodeFault::NoMemory
+    }
+}
+
+impl From<AllocError> for EncodeFault {
+    ghost from_gives = { λ _ f. f ≡ encode.NoMemory };
+
+    fn from(_: AllocError) -> Self {
+        EncodeFault::NoMemory
+    }
+}

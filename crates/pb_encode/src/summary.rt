@@ -1,0 +1,113 @@
+//! What is said of an encoded problem.
+ghost use Rattle.std.specs.Prelude.{◌≡◌, ◌≤◌, ◌++◌, IfOk, OnOk, decimal};
+ghost use Rattle.pb_encode.specs.Summaries.{at_most_one_counts, cardinality_counts, counts_line, plain_counts, summary_text, treatments_line, weight_counts};
+
+use itoa::Buffer;
+use std::alloc::{AllocError, Global};
+
+/// How many constraints are encoded in each way, where one that leaves nothing but units counts as nothing.
+#[derive(Clone, Copy, PartialEq, Eq, Debug)]
+pub struct Treatments {
+    pub nothing: u64,
+    pub empty: u64,
+    pub clause: u64,
+    pub pairwise: u64,
+    pub ladder: u64,
+    pub product: u64,
+    pub counter: u64,
+    pub totalizer: u64,
+    pub diagram: u64,
+    pub tree: u64,
+    pub adder: u64,
+}
+
+/// The size of an encoding.
+#[derive(Clone, Copy, PartialEq, Eq, Debug)]
+pub struct Summary {
+    /// All variables.
+    pub vars: u32,
+    /// The variables of the problem.
+    pub original: u32,
+    pub clauses: u64,
+    pub treatments: Treatments,
+}
+
+// Appends a name and a count.
+fn push_count(out: &mut Vec<u8>, name: &[u8], count: u64) -> Result<(), AllocError>
+    ensures { OnOk result (out.new.items ≡ out.old.items ++ name.now ++ decimal count) }
+{
+    out.extend_from_slice(name)?;
+    out.extend_from_slice(Buffer::new().format(count).as_bytes())?;
+    Ok(())
+}
+
+// Appends the line of the sizes.
+fn push_sizes(out: &mut Vec<u8>, summary: &Summary) -> Result<(), AllocError>
+    requires { summary.now.original ≤ summary.now.vars }
+    ensures { OnOk result (out.new.items ≡ out.old.items ++ counts_line summary.now) }
+{
+    push_count(out, b"variables ", u64::from(summary.vars))?;
+    push_count(out, b" original ", u64::from(summary.original))?;
+    push_count(out, b" fresh ", u64::from(summary.vars - summary.original))?;
+    push_count(out, b" clauses ", summary.clauses)?;
+    out.push(b'\n')?;
+    Ok(())
+}
+
+// Appends how many constraints need no family.
+fn push_plain(out: &mut Vec<u8>, treatments: &Treatments) -> Result<(), AllocError>
+    ensures { OnOk result (out.new.items ≡ out.old.items ++ plain_counts treatments.now) }
+{
+    push_count(out, b"nothing ", treatments.nothing)?;
+    push_count(out, b" empty ", treatments.empty)?;
+    push_count(out, b" clause ", treatments.clause)
+}
+
+// Appends how many are encoded by a family of at most one literal.
+fn push_at_most_one(out: &mut Vec<u8>, treatments: &Treatments) -> Result<(), AllocError>
+    ensures { OnOk result (out.new.items ≡ out.old.items ++ at_most_one_counts treatments.now) }
+{
+    push_count(out, b" pairwise ", treatments.pairwise)?;
+    push_count(out, b" ladder ", treatments.ladder)?;
+    push_count(out, b" product ", treatments.product)
+}
+
+// Appends how many are encoded by a family of cardinalities.
+fn push_cardinalities(out: &mut Vec<u8>, treatments: &Treatments) -> Result<(), AllocError>
+    ensures { OnOk result (out.new.items ≡ out.old.items ++ cardinality_counts treatments.now) }
+{
+    push_count(out, b" counter ", treatments.counter)?;
+    push_count(out, b" totalizer ", treatments.totalizer)
+}
+
+// Appends how many are encoded by a family of weights.
+fn push_weights(out: &mut Vec<u8>, treatments: &Treatments) -> Result<(), AllocError>
+    ensures { OnOk result (out.new.items ≡ out.old.items ++ weight_counts treatments.now) }
+{
+    push_count(out, b" diagram ", treatments.diagram)?;
+    push_count(out, b" tree ", treatments.tree)?;
+    push_count(out, b" adder ", treatments.adder)
+}
+
+// Appends the line of the treatments.
+fn push_treatments(out: &mut Vec<u8>, treatments: &Treatments) -> Result<(), AllocError>
+    ensures { OnOk result (out.new.items ≡ out.old.items ++ treatments_line treatments.now) }
+{
+    push_plain(out, treatments)?;
+    push_at_most_one(out, treatments)?;
+    push_cardinalities(out, treatments)?;
+    push_weights(out, treatments)?;
+    out.push(b'\n')?;
+    Ok(())
+}
+
+/// The two lines that are said of an encoding.
+pub fn summary_text(alloc: Global, summary: &Summary) -> Result<Vec<u8>, AllocError>
+    requires { summary.now.original ≤ summary.now.vars }
+    ensures { IfOk result (λ text. text.items ≡ summary_text summary.now) }
+{
+    let mut text = Vec::new(alloc);
+    push_sizes(&mut text, summary)?;
+    push_treatments(&mut text, &summary.treatments)?;
+    Ok(text)
+}
