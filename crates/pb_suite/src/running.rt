@@ -1,5 +1,5 @@
 //! A run of the program.
-ghost use Rattle.std.specs.Prelude.{◌≡◌, ◌≢◌, ◌↔◌, List, ℕ, Some, None, map, string_bytes};
+ghost use Rattle.std.specs.Prelude.{◌≡◌, ◌≢◌, ◌↔◌, List, ℕ, Some, None, false, map, string_bytes};
 ghost use Rattle.pb_desk.specs.Causes.{Rose};
 ghost use Rattle.pb_desk.specs.View.{Told};
 ghost use Rattle.pb_desk.specs.Desk.{IsClosed, IsFresh, IsTold};
@@ -20,6 +20,7 @@ fn encode_file<D: Desk>(alloc: Global, opb: &str, cnf: &str, desk: &mut D) -> Ou
     ensures taken { result ≢ Outcome.Usage }
     ensures read_fault { result ≡ Outcome.ReadFault → Rose (D.state desk.old).read_faults (D.state desk.new).read_faults }
     ensures write_fault { result ≡ Outcome.WriteFault → Rose (D.state desk.old).write_faults (D.state desk.new).write_faults }
+    ensures ended { result ≡ Outcome.Done → (D.state desk.new).view.writing 0 ≡ false }
     ensures due { (t : Told) (words : List (List ℕ)) → taken_words words ≡ Some (record { opb = opb.now; cnf = cnf.now }) → IsFresh t (D.state desk.old) → Answers (Due t.shelf words) (Part t.shelf words) (D.state desk.old) (D.state desk.new) result }
     ensures steady { (t : Told) (words : List (List ℕ)) → taken_words words ≡ Some (record { opb = opb.now; cnf = cnf.now }) → IsFresh t (D.state desk.old) → IsAmple t words (D.state desk.old) → IsQuiet (D.state desk.old) (D.state desk.new) }
 {
@@ -39,6 +40,7 @@ pub fn run<D: Desk>(alloc: Global, words: &Vec<String>, desk: &mut D) -> Outcome
     ensures usage { (result ≡ Outcome.Usage) ↔ (taken_words (map string_bytes words.now.items) ≡ None) }
     ensures read_fault { result ≡ Outcome.ReadFault → Rose (D.state desk.old).read_faults (D.state desk.new).read_faults }
     ensures write_fault { result ≡ Outcome.WriteFault → Rose (D.state desk.old).write_faults (D.state desk.new).write_faults }
+    ensures ended { result ≡ Outcome.Done → (D.state desk.new).view.writing 0 ≡ false }
     ensures due { (t : Told) → IsFresh t (D.state desk.old) → Answers (Due t.shelf (map string_bytes words.now.items)) (Part t.shelf (map string_bytes words.now.items)) (D.state desk.old) (D.state desk.new) result }
     ensures models { (t : Told) → IsFresh t (D.state desk.old) → result ≡ Outcome.Done → IsTold (D.state desk.new) (λ u. MakesEncoding t.shelf (map string_bytes words.now.items) u.made) }
     ensures steady { (t : Told) → IsFresh t (D.state desk.old) → IsAmple t (map string_bytes words.now.items) (D.state desk.old) → IsQuiet (D.state desk.old) (D.state desk.new) }
