@@ -31,7 +31,7 @@ taken-taken slot n m view = elim view.told as (λ (o : Option Told). taken slot 
     both t = put-put t.left slot (drop n (t.left slot)) _ ∙ ap (λ (xs : List ℕ). put t.left slot xs) (ap (λ (xs : List ℕ). drop m xs) (put-same t.left slot (drop n (t.left slot))) ∙ drop-drop m n (t.left slot))
 
 -- what holds of a desk's left bytes after some were taken, of those before
-told_after : (slot n : ℕ) (P : List ℕ → Type 0) (a b : DeskState) → b.view ≡ taken slot n a.view → IfTold b (λ t. P (t.left slot)) → IfTold a (λ t. P (drop n (t.left slot)))
+pub told_after : (slot n : ℕ) (P : List ℕ → Type 0) (a b : DeskState) → b.view ≡ taken slot n a.view → IfTold b (λ t. P (t.left slot)) → IfTold a (λ t. P (drop n (t.left slot)))
 told_after slot n P a b is holds = by_cases a.view.told (subst (λ (v : View). IfSome v.told (λ t. P (t.left slot))) is holds)
   where
     by_cases : (told : Option Told) → IfSome (option_map (λ (t : Told). record t { left = put t.left slot (drop n (t.left slot)) }) told) (λ t. P (t.left slot)) → IfSome told (λ t. P (drop n (t.left slot)))
@@ -39,7 +39,7 @@ told_after slot n P a b is holds = by_cases a.view.told (subst (λ (v : View). I
     by_cases (Some t) h = subst P (put-same t.left slot (drop n (t.left slot))) h
 
 -- two facts of what is told, together
-both_told : (P Q R : Told → Type 0) (a : DeskState) → ((t : Told) → P t → Q t → R t) → IfTold a P → IfTold a Q → IfTold a R
+pub both_told : (P Q R : Told → Type 0) (a : DeskState) → ((t : Told) → P t → Q t → R t) → IfTold a P → IfTold a Q → IfTold a R
 both_told P Q R a gives p q = by_cases a.view.told p q
   where
     by_cases : (told : Option Told) → IfSome told P → IfSome told Q → IfSome told R

@@ -47,7 +47,7 @@ then_fails_to_read f g h a b c joins first second = record {
 }
 
 -- the slice `&text[at..]`, as a goal has it
-rest_is : (at : ℕ) (text : List ℕ) → take (length text - at) (drop at text) ≡ drop at text
+pub rest_is : (at : ℕ) (text : List ℕ) → take (length text - at) (drop at text) ≡ drop at text
 rest_is at text = ap (λ (n : ℕ). take n (drop at text)) (sym (length-drop at text)) ∙ take-length (drop at text)
 
 -- a text that went out up to here, and some more of it

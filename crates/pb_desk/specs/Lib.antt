@@ -6,3 +6,7 @@ pub mod MemoryState
 pub mod MemoryFiles
 pub mod MemoryLaws
 pub mod RealState
+pub mod Lines
+pub mod Limits
+pub mod LineReading
+pub mod LineReaders

@@ -1,10 +1,15 @@
 //! A desk with files to read, files to write and a place to speak, as a program meets the outside.
 #![tactic(auto)]
 
+mod ahead;
 mod buffer;
 mod count;
 mod desk;
+mod limits;
+mod line;
+mod lines;
 mod memory;
+mod piece;
 mod real;
 mod script;
 mod sheet;
@@ -13,10 +18,14 @@ mod whole;
 
 pub use count::FaultCount;
 pub use desk::Desk;
+pub use limits::LineLimits;
+pub use lines::{LineFault, LineReader};
 pub use memory::MemoryDesk;
 pub use real::RealDesk;
 pub use shelf::{Named, Shelf};
 pub use whole::{TextFault, read_whole, say_all, write_all};
 
+#[cfg(test)]
+mod line_tests;
 #[cfg(test)]
 mod tests;

@@ -11,8 +11,8 @@ use thiserror::Error;
 // How many bytes are asked for at once.
 const PIECE: usize = 65_536;
 
-// The room for a piece of a text.
-fn make_room(alloc: Global) -> Result<Vec<u8>, AllocError>
+/// The room for a piece of a text.
+pub fn make_room(alloc: Global) -> Result<Vec<u8>, AllocError>
     ensures { IfOk result (λ room. 0 < length room.items) }
 {
     vec![in alloc; 0u8; PIECE]

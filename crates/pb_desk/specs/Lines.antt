@@ -1,0 +1,33 @@
+-- The lines of a text.
+use Rattle.std.specs.Prelude.{◌≡◌, ◌<◌, ℕ, ◌==◌, if◌then◌else◌, List, [], ◌∷◌, length, All, false}
+
+-- the lines, with a byte more at the start of the first
+abbrev pub with_byte : ℕ → List (List ℕ) → List (List ℕ)
+with_byte b [] = (b ∷ []) ∷ []
+with_byte b (line ∷ lines) = (b ∷ line) ∷ lines
+
+-- each line ends with LF, but the last may end with the text
+abbrev pub lines_of : List ℕ → List (List ℕ)
+lines_of [] = []
+lines_of (b ∷ bytes) = if b == 10 then [] ∷ lines_of bytes else with_byte b (lines_of bytes)
+
+-- the bytes up to the first LF
+abbrev pub first_line : List ℕ → List ℕ
+first_line [] = []
+first_line (b ∷ bytes) = if b == 10 then [] else b ∷ first_line bytes
+
+-- what stands behind the first LF
+abbrev pub behind_first : List ℕ → List ℕ
+behind_first [] = []
+behind_first (b ∷ bytes) = if b == 10 then bytes else behind_first bytes
+
+-- no byte is LF
+abbrev pub IsUnbroken : List ℕ → Type 0
+IsUnbroken bytes = All (λ b. (b == 10) ≡ false) bytes
+
+-- the text has a first line, and this is what stands behind it
+pub record BeginsWith (line text rest : List ℕ) : Type 0 where
+  pub some : 0 < length text
+  pub first : line ≡ first_line text
+  pub behind : rest ≡ behind_first text
+  pub lines : lines_of text ≡ line ∷ lines_of rest

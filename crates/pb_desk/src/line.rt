@@ -1,0 +1,83 @@
+// One line, from a desk in pieces.
+ghost use Rattle.std.specs.Prelude.{◌≡◌, ◌≢◌, ◌<◌, [], ℕ, List, true, IsTrue, IfOk, IfErr, OnErr, Err};
+ghost use Rattle.pb_desk.specs.Desk.{IsSteady, FailsToRead, same};
+ghost use Rattle.pb_desk.specs.LineReading.{Reads, Finds, Fits, Stops, Refills, found_at_end};
+
+use crate::Desk;
+use crate::ahead::Ahead;
+use crate::limits::Left;
+use crate::piece::{Stop, take_piece};
+use pb_base::Failed;
+
+/// What stands at the start of a line: nothing, a last line without LF, or one that ends with LF.
+#[derive(Clone, Copy, Debug, PartialEq, Eq)]
+pub enum Found {
+    Nothing,
+    Last,
+    Ended,
+}
+
+impl From<Failed> for Stop {
+    ghost use Rattle.std.specs.Prelude.{◌≡◌};
+    ghost use Rattle.pb_desk.specs.declared.piece.Stop.TheVariants as stop;
+
+    ghost from_gives = { λ _ e. e ≡ stop.Failed };
+
+    fn from(_: Failed) -> Self {
+        Stop::Failed
+    }
+}
+
+// Takes more from the slot, if nothing is ahead. False at the end of the text.
+fn refill<D: Desk>(desk: &mut D, slot: u8, ahead: &mut Ahead) -> Result<bool, Failed>
+    requires kind { slot < 4 }
+    requires open { IsTrue ((D.state desk.old).view.reading slot) }
+    ensures filled { IfOk result (λ some. Refills slot some ahead.old ahead.new (D.state desk.old) (D.state desk.new)) }
+    ensures failed { OnErr result (FailsToRead same (D.state desk.old) (D.state desk.new)) }
+    ensures steady { IsSteady (D.state desk.old) → OnErr result ⊥ }
+{
+    if !ahead.bytes().is_empty() {
+        return Ok(true);
+    }
+    ahead.fill(desk, slot)?;
+    Ok(!ahead.bytes().is_empty())
+}
+
+// What stands at the end of the text.
+fn at_end(line: &[u8]) -> Found
+    ensures { result ≡ found_at_end line.now }
+{
+    if line.is_empty() {
+        Found::Nothing
+    } else {
+        Found::Last
+    }
+}
+
+/// Reads the rest of a line behind the bytes that it has, of which there are none at first.
+pub fn read_line<D: Desk>(
+    desk: &mut D,
+    slot: u8,
+    ahead: &mut Ahead,
+    line: &mut Vec<u8>,
+    left: &Left,
+) -> Result<Found, Stop>
+    requires kind { slot < 4 }
+    requires open { IsTrue ((D.state desk.old).view.reading slot) }
+    requires empty { line.old.items ≡ [] }
+    ensures found { IfOk result (λ found. Reads slot ahead.old ahead.new (D.state desk.old) (D.state desk.new) (Finds left.now found line.new.items)) }
+    ensures fits { IfOk result (λ found. Fits left.now found line.new.items) }
+    ensures stopped { IfErr result (Stops left.now slot ahead.old ahead.new (D.state desk.old) (D.state desk.new)) }
+    ensures steady { IsSteady (D.state desk.old) → result ≢ Err Stop.Failed }
+{
+    'pieces: loop {
+        if !refill(desk, slot, ahead)? {
+            return Ok(at_end(line.as_slice()));
+        }
+        match take_piece(ahead, line, left) {
+            Ok(true) => return Ok(Found::Ended),
+            Ok(false) => {}
+            Err(stop) => return Err(stop),
+        }
+    }
+}

@@ -1,0 +1,134 @@
+// Line after line of a text.
+ghost use Rattle.std.specs.Prelude.{◌≡◌, ◌≢◌, ◌≤◌, ◌<◌, ◌^◌, [], ℕ, Bool, List, IsTrue, Some, None, Ok, Err, IfOk, IfErr, OnOk};
+ghost use Rattle.pb_desk.specs.Desk.{IsSteady};
+ghost use Rattle.pb_desk.specs.LineReaders.{Reader, GivesLine, StopsAt, fault_at};
+
+use crate::Desk;
+use crate::ahead::Ahead;
+use crate::limits::{Left, LineLimits};
+use crate::line::{Found, read_line};
+use crate::piece::Stop;
+use pb_base::{LimitKind, NoMemory};
+use std::alloc::Global;
+use std::marker::Model;
+use thiserror::Error;
+
+/// Why a line was not read.
+#[derive(Clone, Copy, Debug, PartialEq, Eq, Error)]
+pub enum LineFault {
+    /// A read failed, and the desk counted that.
+    #[error("a read failed")]
+    Failed,
+    /// The line of this number passes a limit, as its first.
+    #[error("line {line}: limit {which}")]
+    Limit { which: LimitKind, line: u64 },
+    /// An allocation was refused.
+    #[error("out of memory")]
+    NoMemory,
+}
+
+/// Reads a text line by line, within limits. After a fault it answers the same again.
+#[derive(Drop)]
+pub struct LineReader {
+    slot: u8,
+    limits: LineLimits,
+    ahead: Ahead,
+    at: u64,
+    number: u64,
+    line: Vec<u8>,
+    fault: Option<LineFault>,
+}
+
+impl Model for LineReader {
+    ghost use Rattle.std.specs.Prelude.{◌≤◌, ◌<◌, ◌^◌};
+    ghost use Rattle.pb_desk.specs.LineReaders.{Reader, IsReader};
+
+    ghost Value = { Reader };
+
+    ghost view = { λ r. record { slot = r.slot; limits = r.limits; ahead = r.ahead; at = r.at; number = r.number; line = r.line.items; fault = r.fault } };
+
+    ghost invariant = { λ r. IsReader r.slot r.limits r.at r.number };
+}
+
+// The fault at a line, from why it was not read.
+fn fault_at(stop: Stop, line: u64) -> LineFault
+    ensures { result ≡ fault_at line stop }
+{
+    match stop {
+        Stop::Failed => LineFault::Failed,
+        Stop::Limit(which) => LineFault::Limit { which, line },
+        Stop::NoMemory => LineFault::NoMemory,
+    }
+}
+
+impl LineReader {
+    /// Reads what a slot has left. The slot is opened before the first line is read.
+    pub fn new(alloc: Global, slot: u8, limits: LineLimits) -> Result<LineReader, NoMemory>
+        requires slot { slot < 4 }
+        requires lines { limits.lines < 2 ^ 63 }
+        ensures { IfOk result (λ reader. reader ≡ record { slot = slot; limits = limits; ahead = []; at = 0; number = 0; line = []; fault = None }) }
+    {
+        Ok(LineReader {
+            slot,
+            limits,
+            ahead: Ahead::new(alloc)?,
+            at: 0,
+            number: 0,
+            line: Vec::new(alloc),
+            fault: None,
+        })
+    }
+
+    /// The last line that was read, without its LF.
+    pub fn line(&self) -> &[u8]
+        ensures { result.now ≡ self.now.line }
+    {
+        self.line.as_slice()
+    }
+
+    /// How many lines were read.
+    pub fn number(&self) -> u64
+        ensures { result ≡ self.now.number }
+    {
+        self.number
+    }
+
+    /// Reads the next line, of an open slot from which nothing else reads. False at the end of the text.
+    pub fn next_line<D: Desk>(&mut self, desk: &mut D) -> Result<bool, LineFault>
+        requires { IsTrue ((D.state desk.old).view.reading self.old.slot) }
+        ensures again { (fault : LineFault) → self.old.fault ≡ Some fault → (result ≡ Err fault) × (self.new ≡ self.old) × (D.state desk.new ≡ D.state desk.old) }
+        ensures line { self.old.fault ≡ None → IfOk result (λ more. GivesLine more self.old self.new (D.state desk.old) (D.state desk.new)) }
+        ensures stopped { self.old.fault ≡ None → IfErr result (λ fault. StopsAt fault self.old self.new (D.state desk.old) (D.state desk.new)) }
+        ensures in_text { OnOk result (self.new.at ≤ self.new.limits.text) }
+        ensures in_lines { OnOk result (self.new.number ≤ self.new.limits.lines) }
+        ensures steady { IsSteady (D.state desk.old) → self.old.fault ≡ None → result ≢ Err LineFault.Failed }
+    {
+        if let Some(fault) = self.fault {
+            return Err(fault);
+        }
+        self.line.clear();
+        let left = Left {
+            text: self.limits.text - self.at,
+            line: self.limits.line,
+            is_last: self.limits.lines <= self.number,
+        };
+        match read_line(desk, self.slot, &mut self.ahead, &mut self.line, &left) {
+            Ok(Found::Nothing) => Ok(false),
+            Ok(Found::Last) => {
+                self.at += self.line.len() as u64;
+                self.number += 1;
+                Ok(true)
+            }
+            Ok(Found::Ended) => {
+                self.at += self.line.len() as u64 + 1;
+                self.number += 1;
+                Ok(true)
+            }
+            Err(stop) => {
+                let fault = fault_at(stop, self.number + 1);
+                self.fault = Some(fault);
+                Err(fault)
+            }
+        }
+    }
+}
