@@ -1,0 +1,116 @@
+-- What an engine keeps, and what its answers mean.
+use Rattle.std.proofs.Common.{◌≡◌, ◌≤◌, ◌<◌, ◌-◌, ◌⊎◌, inl, inr, ℕ, Bool, true, false, cond, List, [], ◌∷◌, arith, length, get_or, refl, subst, Some, None}
+use Rattle.std.specs.Prelude.{All, Contains, slice_get}
+use Rattle.std.proofs.lemmas.Bool.{or_cases, or_left, or_right, both_ways}
+use Rattle.std.proofs.lemmas.List.Elements.{All-contains}
+use Rattle.std.proofs.lemmas.Option.{slice_get_cases}
+use Rattle.pb_base.specs.declared.literal.Lit.{Lit}
+use Rattle.pb_base.specs.Literals.{negated, is_same, is_among}
+use Rattle.pb_base.proofs.LiteralLemmas.{same_lit, is_same-refl}
+use Rattle.pb_base.proofs.Members.{among_from, from_among, not_among_from}
+use Rattle.pb_norm.specs.Constraints.{Weighted, Constraint}
+use Rattle.pb_norm.specs.Forced.{IsConsistent}
+use Rattle.pb_norm.specs.Propagation.{room, Reached, IsFixed}
+use Rattle.pb_norm.proofs.Consistent.{consistent-cons, consistent-nil}
+use Rattle.pb_norm.proofs.PropagationFixed.{fixed-no_conflict, reached-within}
+use Rattle.pb_norm.proofs.PropagationMore.{Reached-given}
+use Rattle.pb_unit.specs.declared.engine.Outcome.{Outcome}
+use Rattle.pb_unit.specs.declared.engine.Outcome.TheVariants as outcome
+use Rattle.pb_unit.specs.States.{State, IsReached, assumed, with_lit}
+use Rattle.pb_unit.specs.Steps.{IsDecided, IsAtRest, IsQuiet, Advances, Ends}
+use Rattle.pb_unit.specs.Outcomes.{Answers}
+
+contains_at : {X : Type 0} (xs : List X) (i : ℕ) (x : X) → slice_get xs i ≡ Some x → Contains xs x
+contains_at {X} xs i x e = by_cases (slice_get_cases xs i).1 where
+  by_cases : ((y : X) × (i < length xs) × (slice_get xs i ≡ Some y) × (get_or xs i y ≡ y)) ⊎ ((length xs ≤ i) × (slice_get xs i ≡ None)) → Contains xs x
+  by_cases (inl (y, below, at, is)) = let same : y ≡ x = cc (at, e) in subst (Contains xs) same (i, below, is)
+  by_cases (inr (past, none)) = let no : ⊥ = cc (none, e) in absurd no
+
+-- ---- a fixed list
+
+fixed_from : (cs : List Constraint) (given ls : List Lit) → IsConsistent ls → All (IsQuiet ls) cs → ((l : Lit) → is_among given l ≡ true → is_among ls l ≡ true) → IsFixed cs given ls
+fixed_from cs given ls consistent quiet has = record {
+  has_given = λ l h. has l (among_from given l h);
+  consistent = λ l h. not_among_from ls (negated l) (consistent l (from_among ls l h));
+  closed = λ l n.
+      let calm : IsQuiet ls n.by = All-contains (IsQuiet ls) cs n.by quiet n.known in
+      let t : Weighted = record { coef = n.coef; lit = l } in
+      let decided : IsDecided ls l = All-contains (IsAtRest ls (room ls n.by.terms - n.by.degree)) n.by.terms t calm.closed n.term (omega (arith, n.short, calm.enough)) in
+      elim decided [
+        | inl there ↦ both_ways (is_among ls l) n.absent there
+        | inr opposite ↦ both_ways (is_among ls (negated l)) n.undecided opposite
+      ];
+  enough = λ k d below. (quiet k d below).enough;
+}
+
+-- the answer, from how propagation ends
+pub answers_from : (s : State) (o : Outcome) → IsReached s → Ends s.constraints s.held o → Answers s o
+answers_from s (outcome.Conflict place) r e =
+    let known : Contains s.constraints e.constraint = contains_at s.constraints place e.constraint e.at in (
+      inr (s.held, e.constraint, r.reached, known, e.short),
+      record { list = s.held; constraint = e.constraint; at = e.at; reached = r.reached; short = e.short },
+    )
+answers_from s outcome.Fixed r e =
+    let fixed = fixed_from s.constraints s.given s.held r.consistent e r.assumed in
+    record {
+      no_conflict = fixed-no_conflict s.constraints s.given s.held fixed;
+      exact = λ l. (
+        (λ h. (s.held, r.reached, from_among s.held l h)),
+        (λ reaches. reached-within s.constraints s.given reaches.0 s.held fixed reaches.1 l (among_from reaches.0 l reaches.2)),
+      );
+    }
+
+-- ---- assuming
+
+pub with_lit-has : (l : Lit) (ls : List Lit) → is_among (with_lit l ls) l ≡ true
+with_lit-has l ls = by_cases (is_among ls l) refl where
+  by_cases : (b : Bool) → is_among ls l ≡ b → is_among (cond b ls (l ∷ ls)) l ≡ true
+  by_cases true e = e
+  by_cases false e = or_left (is_same l l) (is_among ls l) (is_same-refl l)
+
+pub with_lit-keeps : (l : Lit) (ls : List Lit) (k : Lit) → is_among ls k ≡ true → is_among (with_lit l ls) k ≡ true
+with_lit-keeps l ls k h = by_cases (is_among ls l) where
+  by_cases : (b : Bool) → is_among (cond b ls (l ∷ ls)) k ≡ true
+  by_cases true = h
+  by_cases false = or_right (is_same l k) (is_among ls k) h
+
+pub with_lit-cases : (l : Lit) (ls : List Lit) (k : Lit) → is_among (with_lit l ls) k ≡ true → (l ≡ k) ⊎ (is_among ls k ≡ true)
+with_lit-cases l ls k = by_cases (is_among ls l) where
+  by_cases : (b : Bool) → is_among (cond b ls (l ∷ ls)) k ≡ true → (l ≡ k) ⊎ (is_among ls k ≡ true)
+  by_cases true h = inr h
+  by_cases false h = elim (or_cases (is_same l k) (is_among ls k) h) [ inl same ↦ inl (same_lit l k same) | inr rest ↦ inr rest ]
+
+pub assumed_reached : (s : State) (l : Lit) → IsReached s → is_among s.held (negated l) ≡ false → IsReached (assumed l s)
+assumed_reached s l r undecided = record {
+  reached = by_cases (is_among s.held l);
+  assumed = λ k h. elim (with_lit-cases l s.given k h) [
+    | inl same ↦ subst (λ (m : Lit). is_among (with_lit l s.held) m ≡ true) same (with_lit-has l s.held)
+    | inr old ↦ with_lit-keeps l s.held k (r.assumed k old)
+  ];
+  consistent = still (is_among s.held l);
+}
+  where
+    more : Reached s.constraints (with_lit l s.given) s.held
+    more = Reached-given s.constraints s.given (with_lit l s.given) (λ k h. from_among (with_lit l s.given) k (with_lit-keeps l s.given k (among_from s.given k h))) s.held r.reached
+
+    by_cases : (b : Bool) → Reached s.constraints (with_lit l s.given) (cond b s.held (l ∷ s.held))
+    by_cases true = more
+    by_cases false = (inl (from_among (with_lit l s.given) l (with_lit-has l s.given)), more)
+
+    still : (b : Bool) → IsConsistent (cond b s.held (l ∷ s.held))
+    still true = r.consistent
+    still false = consistent-cons l s.held r.consistent undecided
+
+pub started_reached : (vars : ℕ) (cs : List Constraint) → IsReached (record { vars = vars; constraints = cs; given = []; held = [] })
+started_reached vars cs = record {
+  reached = tt;
+  assumed = λ l h. h;
+  consistent = consistent-nil;
+}
+
+pub advanced : (s : State) (ls : List Lit) → IsReached s → Advances s.constraints s.given (Unit {0}) s.held ls → IsReached (record s { held = ls })
+advanced s ls r f = record {
+  reached = f.reached r.reached;
+  assumed = λ l h. f.kept l (r.assumed l h);
+  consistent = f.consistent r.consistent;
+}
