@@ -1,0 +1,10 @@
+pub mod Taking
+pub mod Emission
+pub mod Extended
+pub mod FlatRanges
+pub mod Models
+pub mod Opposites
+pub mod Pushes
+pub mod Ranges
+pub mod ShortClauses
+pub mod UnitSums

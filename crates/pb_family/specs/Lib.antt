@@ -1,0 +1,4 @@
+pub mod ClauseText
+pub mod Families
+pub mod Fresh
+pub mod Sinks
