@@ -1,0 +1,114 @@
+//! At most one of some literals, by a clause for each two of them.
+ghost use Rattle.std.specs.Prelude.{◌≡◌, ◌<◌, ◌+◌, ◌^◌, ℕ, true, length, OnOk, OnErr};
+ghost use Rattle.pb_family.specs.ClauseText.{clauses_text};
+ghost use Rattle.pb_family.specs.Sinks.{Takes, FailsToTake};
+ghost use Rattle.pb_norm.specs.BoundedSums.{IsOverDistinct};
+ghost use Rattle.pb_norm.specs.Reduction.{all_weigh, lits_of};
+ghost use Rattle.pb_amo.specs.Pairwise.{pair_count, pairwise_clauses};
+ghost use Rattle.pb_amo.specs.Source.{source_literals};
+
+use crate::source::Source;
+use pb_base::Failed;
+use pb_family::{ClauseSink, Family, SinkFault, Strong};
+use pb_norm::AtMost;
+use std::alloc::Global;
+
+/// A clause for each two of the literals (the pairwise, or binomial, encoding: Frisch and Giannaros 2010).
+#[derive(Clone, Copy)]
+pub struct Pairwise<'a> {
+    of: &'a AtMost,
+    ghost at_most_one: { of.now.bound ≡ 1 },
+    ghost units: { all_weigh 1 of.now.terms ≡ true },
+    ghost few: { length of.now.terms < 2 ^ 31 },
+    ghost distinct: { IsOverDistinct of.now.terms },
+}
+
+impl<'a> Pairwise<'a> {
+    /// The clauses over a sum whose bound is 1, as each of its coefficients is.
+    pub fn over(of: &'a AtMost) -> Self
+        requires at_most_one { of.now.bound ≡ 1 }
+        requires units { all_weigh 1 of.now.terms ≡ true }
+        requires few { length of.now.terms < 2 ^ 31 }
+        ensures constraint { ⟦<Self as Family>⟧.constraint result ≡ of.now }
+        ensures fresh { ⟦<Self as Family>⟧.fresh_count result ≡ 0 }
+        ensures clauses { ⟦<Self as Family>⟧.clause_count result ≡ pair_count (length of.now.terms) }
+        ensures list { (first : ℕ) → ⟦<Self as Family>⟧.clause_list result first ≡ pairwise_clauses (lits_of of.now.terms) }
+    {
+        // Brings in that its variables are distinct.
+        let _ = of.bound();
+        Pairwise { of }
+    }
+}
+
+/// Hands over a clause for each two of the literals.
+pub(crate) fn emit_pairs<S: ClauseSink>(literals: &Source, sink: &mut S) -> Result<(), Failed>
+    requires few { length (source_literals literals.now) < 2 ^ 31 }
+    ensures ok { OnOk result (Takes (clauses_text (pairwise_clauses (source_literals literals.now))) (S.state sink.old) (S.state sink.new)) }
+    ensures failed { OnErr result (FailsToTake (clauses_text (pairwise_clauses (source_literals literals.now))) (S.state sink.old) (S.state sink.new)) }
+{
+    let count = literals.len();
+    for i in 0..count {
+        for j in i + 1..count {
+            sink.clause(&[literals.at(i).not(), literals.at(j).not()])?;
+        }
+    }
+    Ok(())
+}
+
+impl Family for Pairwise<'_> {
+    ghost use Rattle.std.specs.Prelude.{◌≡◌, ◌≢◌, ◌≤◌, ◌+◌, ◌^◌, IfErr, OnOk, Err};
+    ghost use Rattle.pb_family.specs.ClauseText.{clauses_text};
+    ghost use Rattle.pb_family.specs.Families.{VarsBelow};
+    ghost use Rattle.pb_family.specs.Sinks.{Stops, Takes};
+    ghost use Rattle.pb_family.specs.declared.sink.SinkFault.TheVariants as fault;
+    ghost use Rattle.pb_amo.specs.PairwiseLaws.{pairwise_sound, pairwise_extends, pairwise_counts, pairwise_names};
+
+    ghost constraint = { λ f. f.of.now };
+
+    ghost fresh_count = { λ _. 0 };
+
+    ghost clause_count = { λ f. pair_count (length f.of.now.terms) };
+
+    ghost clause_list = { λ f _. pairwise_clauses (lits_of f.of.now.terms) };
+
+    fn fresh(&self) -> u64 {
+        0
+    }
+
+    fn clauses(&self) -> u64 {
+        let count = self.of.terms().len() as u64;
+        if count == 0 {
+            0
+        } else {
+            count * (count - 1) / 2
+        }
+    }
+
+    fn emit<S: ClauseSink>(&self, alloc: Global, first: u32, sink: &mut S) -> Result<(), SinkFault>
+        requires original { VarsBelow first (⟦<Self as Family>⟧.constraint self.now).terms }
+        requires low { 1 ≤ first }
+        requires fits { first + ⟦<Self as Family>⟧.fresh_count self.now ≤ 2 ^ 31 }
+        ensures ok { OnOk result (Takes (clauses_text (⟦<Self as Family>⟧.clause_list self.now first)) (S.state sink.old) (S.state sink.new)) }
+        ensures stops { IfErr result (Stops (clauses_text (⟦<Self as Family>⟧.clause_list self.now first)) (S.state sink.old) (S.state sink.new)) }
+        ensures never { result ≢ Err fault.NoMemory }
+    {
+        let _ = alloc;
+        let _ = first;
+        emit_pairs(&Source::OfTerms(self.of.terms()), sink)?;
+        Ok(())
+    }
+
+    ghost sound = { λ f first below v model. pairwise_sound f.of.now f.at_most_one f.units v model };
+
+    ghost extends = { λ f first below v holds. pairwise_extends f.of.now f.at_most_one f.units first v holds };
+
+    ghost counts = { λ f first. pairwise_counts f.of.now.terms };
+
+    ghost names = { λ f first. pairwise_names f.of.now.terms first 0 };
+}
+
+impl Strong for Pairwise<'_> {
+    ghost use Rattle.pb_amo.specs.PairwiseLaws.{pairwise_propagates};
+
+    ghost propagates = { λ f first below. pairwise_propagates f.of.now f.at_most_one f.units f.distinct };
+}
