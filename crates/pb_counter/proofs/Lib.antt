@@ -1,0 +1,3 @@
+mod CounterSizes
+mod RangeEnds
+mod ReadySums
