@@ -1,0 +1,61 @@
+-- Bounds on the numbers of a generalized totalizer.
+use Rattle.std.proofs.Common.{◌≡◌, ◌<◌, ◌≤◌, ◌+◌, ◌*◌, ◌/◌, ℕ, List, [], ◌∷◌, length, take, drop, subst, arith, zero, suc, length-drop}
+use Rattle.std.proofs.lemmas.List.{length-take, length-map}
+use Rattle.std.proofs.lemmas.Nat.{mul-le}
+use Rattle.pb_base.specs.declared.literal.Term.{Term}
+use Rattle.pb_norm.specs.Constraints.{Weighted, weighted, weights, weight}
+use Rattle.pb_tree.specs.Tree.{Tree, node, split_within, tree_of}
+use Rattle.pb_tree.specs.Scheme.{values, fresh_of, clause_count_of}
+use Rattle.pb_tree.proofs.Splitting.{halves}
+use Rattle.pb_tree.proofs.Numbers.{bounds_step}
+use Rattle.pb_gentot.specs.Generalized.{generalized}
+
+pub record Bounds (bound : ℕ) (t : Tree) (n : ℕ) : Type 0 where
+  pub count : length (values (generalized bound) t) ≤ fresh_of (generalized bound) t + n
+  pub clauses : clause_count_of (generalized bound) t + 1 ≤ (fresh_of (generalized bound) t + n) * (fresh_of (generalized bound) t + n)
+
+grid : (a b m n : ℕ) → a ≤ m → b ≤ n → a * b + a + b + 1 ≤ (m + 1) * (n + 1)
+grid a b m n h k = let e : a * b + a + b + 1 ≡ (a + 1) * (b + 1) = omega arith in omega (arith, mul-le (a + 1) (b + 1) (m + 1) (n + 1) (omega arith) (omega arith))
+
+bounds_within : (bound more : ℕ) (ts : List Weighted) → length ts ≤ more → 1 ≤ length ts → Bounds bound (split_within more ts) (length ts)
+unfolding split_within
+bounds_within bound zero ts fits some = absurd (omega arith)
+bounds_within bound (suc more) [] fits some = absurd (omega arith)
+bounds_within bound (suc more) (t ∷ []) fits some = record { count = omega arith; clauses = omega arith }
+bounds_within bound (suc more) (t ∷ u ∷ us) fits some =
+    let ts = t ∷ u ∷ us in
+    let n = length ts / 2 in
+    let front = take n ts in
+    let back = drop n ts in
+    let short = halves t u us more fits in
+    let fronts = length-take n ts in
+    let backs = length-drop n ts in
+    let s = generalized bound in
+    let l = split_within more front in
+    let r = split_within more back in
+    let left = bounds_within bound more front short.0 (omega arith) in
+    let right = bounds_within bound more back short.1 (omega arith) in
+    let i = fresh_of s l + length front in
+    let j = fresh_of s r + length back in
+    let a = length (values s l) in
+    let b = length (values s r) in
+    let step = bounds_step i j 0 0 (clause_count_of s l) (clause_count_of s r) (a * b + a + b) 0 (omega arith) (omega arith) (omega arith) (omega arith) left.clauses right.clauses (grid a b i j left.count right.count) (omega arith) in
+    let whole = fresh_of s (node l r) + length ts in
+    let more_than : i + j ≤ whole = omega arith in
+    let square = mul-le (i + j) (i + j) whole whole more_than more_than in
+    record {
+      count = omega arith;
+      clauses = omega (arith, step.1, square);
+    }
+
+pub bounds : (bound : ℕ) (ts : List Term) → 1 ≤ length ts → Bounds bound (tree_of (weights ts)) (length ts)
+bounds bound ts some =
+    let long : length (weights ts) ≡ length ts = length-map ts weighted in
+    subst (λ (n : ℕ). Bounds bound (tree_of (weights ts)) n) long (bounds_within bound (length (weights ts)) (weights ts) (omega arith) (omega arith))
+
+pub pair_bound : (a b m n : ℕ) → a ≤ m → b ≤ n → a * b + a + b + 1 ≤ (m + 1) * (n + 1)
+pair_bound a b m n h k = grid a b m n h k
+
+pub some_terms : (bound : ℕ) (ts : List Weighted) → bound < weight ts → 1 ≤ length ts
+some_terms bound [] passes = absurd (omega arith)
+some_terms bound (t ∷ ts) passes = omega arith

@@ -1,0 +1,37 @@
+-- A part of a generalized totalizer, over its two halves.
+use Rattle.std.proofs.Common.{◌≡◌, ◌≤◌, ◌+◌, ◌*◌, ℕ, List, length, refl, ap, ◌∙◌, sym, subst, arith}
+use Rattle.std.specs.Prelude.{All, Contains, Option, Some, None, IsSome, IfNone}
+use Rattle.pb_base.specs.declared.literal.Term.{Term}
+use Rattle.pb_norm.specs.Constraints.{weights}
+use Rattle.pb_tree.specs.Tree.{Tree, node, tree_of}
+use Rattle.pb_tree.specs.Scheme.{values, fresh_of, clause_count_of}
+use Rattle.pb_tree.proofs.Extending.{all_from_each}
+use Rattle.pb_gentot.specs.Generalized.{generalized, ascending, sums}
+use Rattle.pb_gentot.specs.GeneralizedLaws.{values_within}
+
+pub all_within : (bound : ℕ) (t : Tree) (us : List ℕ) → us ≡ values (generalized bound) t → All (λ u. u ≤ bound + 1) us
+all_within bound t us is = all_from_each (λ u. u ≤ bound + 1) us (λ u h. values_within bound t u (subst (λ (xs : List ℕ). Contains xs u) is h))
+
+-- the numbers of the node
+pub record Numbers (bound : ℕ) (ts : List Term) (l r : Tree) (made : List ℕ) : Type 0 where
+  pub values_are : made ≡ values (generalized bound) (tree_of (weights ts))
+  pub fresh : fresh_of (generalized bound) (tree_of (weights ts)) ≡ fresh_of (generalized bound) l + fresh_of (generalized bound) r + length made
+  pub clauses : clause_count_of (generalized bound) (tree_of (weights ts)) ≡ clause_count_of (generalized bound) l + clause_count_of (generalized bound) r
+      + (length (values (generalized bound) l) * length (values (generalized bound) r) + length (values (generalized bound) l) + length (values (generalized bound) r))
+
+pub numbers_of : (bound : ℕ) (ts : List Term) (l r : Tree) (us vs made : List ℕ) → tree_of (weights ts) ≡ node l r → us ≡ values (generalized bound) l → vs ≡ values (generalized bound) r
+    → made ≡ ascending (bound + 1) (sums (bound + 1) us vs) → Numbers bound ts l r made
+numbers_of bound ts l r us vs made tree left right is =
+    let same : made ≡ values (generalized bound) (node l r) = is ∙ ap (λ (xs : List ℕ). ascending (bound + 1) (sums (bound + 1) xs vs)) left ∙ ap (λ (xs : List ℕ). ascending (bound + 1) (sums (bound + 1) (values (generalized bound) l) xs)) right in
+    let long = ap length same in
+    let fresh = ap (fresh_of (generalized bound)) tree in
+    record {
+      values_are = same ∙ ap (values (generalized bound)) (sym tree);
+      fresh = omega arith;
+      clauses = ap (clause_count_of (generalized bound)) tree;
+    }
+
+-- an option that cannot be empty
+pub there_is : {X A : Type 0} (o : Option X) → IfNone o A → (A → ⊥) → IsSome o
+there_is None empty never = absurd (never empty)
+there_is (Some x) empty never = refl

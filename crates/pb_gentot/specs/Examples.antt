@@ -1,0 +1,135 @@
+-- Worked examples.
+use Rattle.std.specs.Prelude.{◌≡◌, ℕ, ◌+◌, List, [], ◌∷◌, refl}
+use Rattle.pb_base.specs.declared.literal.Lit.{Lit}
+use Rattle.pb_base.specs.Literals.{negated}
+use Rattle.pb_norm.specs.Constraints.{Weighted}
+use Rattle.pb_norm.specs.BoundedSums.{BoundedSum}
+use Rattle.pb_family.specs.Fresh.{positive_of}
+use Rattle.pb_tree.specs.Tree.{split_within}
+use Rattle.pb_gentot.specs.Generalized.{generalized_clauses, generalized_fresh, generalized_size}
+
+-- the literal x of a number, and its negation
+abbrev x : ℕ → Lit
+x n = positive_of n
+
+abbrev not_x : ℕ → Lit
+not_x n = negated (positive_of n)
+
+-- coefficients for the variables from a number on
+abbrev weighing : ℕ → List ℕ → List Weighted
+weighing v [] = []
+weighing v (a ∷ coefs) = record { coef = a; lit = positive_of v } ∷ weighing (v + 1) coefs
+
+abbrev at_most : ℕ → List ℕ → BoundedSum
+at_most bound coefs = record { terms = weighing 1 coefs; bound = bound }
+
+-- 4x1 + 3x2 + 2x3 <= 5
+pub three_terms : generalized_clauses (at_most 5 (4 ∷ 3 ∷ 2 ∷ [])) 4
+    ≡ ((not_x 2 ∷ x 5 ∷ [])
+    ∷ (not_x 3 ∷ x 4 ∷ [])
+    ∷ (not_x 2 ∷ not_x 3 ∷ x 6 ∷ [])
+    ∷ (not_x 1 ∷ x 9 ∷ [])
+    ∷ (not_x 4 ∷ x 7 ∷ [])
+    ∷ (not_x 5 ∷ x 8 ∷ [])
+    ∷ (not_x 6 ∷ x 10 ∷ [])
+    ∷ (not_x 1 ∷ not_x 4 ∷ x 11 ∷ [])
+    ∷ (not_x 1 ∷ not_x 5 ∷ x 11 ∷ [])
+    ∷ (not_x 1 ∷ not_x 6 ∷ x 11 ∷ [])
+    ∷ (not_x 11 ∷ [])
+    ∷ [])
+unfolding split_within
+three_terms = refl
+
+-- 3x1 + 2x2 <= 3
+pub two_terms : generalized_clauses (at_most 3 (3 ∷ 2 ∷ [])) 3
+    ≡ ((not_x 1 ∷ x 4 ∷ [])
+    ∷ (not_x 2 ∷ x 3 ∷ [])
+    ∷ (not_x 1 ∷ not_x 2 ∷ x 5 ∷ [])
+    ∷ (not_x 5 ∷ [])
+    ∷ [])
+unfolding split_within
+two_terms = refl
+
+-- 2x1 + 1x2 + 1x3 <= 2
+pub sums_coincide : generalized_clauses (at_most 2 (2 ∷ 1 ∷ 1 ∷ [])) 4
+    ≡ ((not_x 2 ∷ x 4 ∷ [])
+    ∷ (not_x 3 ∷ x 4 ∷ [])
+    ∷ (not_x 2 ∷ not_x 3 ∷ x 5 ∷ [])
+    ∷ (not_x 1 ∷ x 7 ∷ [])
+    ∷ (not_x 4 ∷ x 6 ∷ [])
+    ∷ (not_x 5 ∷ x 7 ∷ [])
+    ∷ (not_x 1 ∷ not_x 4 ∷ x 8 ∷ [])
+    ∷ (not_x 1 ∷ not_x 5 ∷ x 8 ∷ [])
+    ∷ (not_x 8 ∷ [])
+    ∷ [])
+unfolding split_within
+sums_coincide = refl
+
+pub three_terms_fresh : generalized_fresh (at_most 5 (4 ∷ 3 ∷ 2 ∷ [])) ≡ 8
+unfolding split_within
+three_terms_fresh = refl
+
+pub three_terms_size : generalized_size (at_most 5 (4 ∷ 3 ∷ 2 ∷ [])) ≡ 11
+unfolding split_within
+three_terms_size = refl
+
+pub two_terms_fresh : generalized_fresh (at_most 3 (3 ∷ 2 ∷ [])) ≡ 3
+unfolding split_within
+two_terms_fresh = refl
+
+pub two_terms_size : generalized_size (at_most 3 (3 ∷ 2 ∷ [])) ≡ 4
+unfolding split_within
+two_terms_size = refl
+
+pub sums_coincide_fresh : generalized_fresh (at_most 2 (2 ∷ 1 ∷ 1 ∷ [])) ≡ 5
+unfolding split_within
+sums_coincide_fresh = refl
+
+pub sums_coincide_size : generalized_size (at_most 2 (2 ∷ 1 ∷ 1 ∷ [])) ≡ 9
+unfolding split_within
+sums_coincide_size = refl
+
+-- 5x1 + 3x2 + 2x3 + 2x4 <= 7
+pub four_terms_fresh : generalized_fresh (at_most 7 (5 ∷ 3 ∷ 2 ∷ 2 ∷ [])) ≡ 11
+unfolding split_within
+four_terms_fresh = refl
+
+pub four_terms_size : generalized_size (at_most 7 (5 ∷ 3 ∷ 2 ∷ 2 ∷ [])) ≡ 18
+unfolding split_within
+four_terms_size = refl
+
+-- 3x1 + 3x2 + 2x3 + 1x4 <= 4
+pub four_small_fresh : generalized_fresh (at_most 4 (3 ∷ 3 ∷ 2 ∷ 1 ∷ [])) ≡ 10
+unfolding split_within
+four_small_fresh = refl
+
+pub four_small_size : generalized_size (at_most 4 (3 ∷ 3 ∷ 2 ∷ 1 ∷ [])) ≡ 18
+unfolding split_within
+four_small_size = refl
+
+-- 7x1 + 5x2 + 3x3 + 2x4 + 2x5 + 1x6 <= 10
+pub six_terms_fresh : generalized_fresh (at_most 10 (7 ∷ 5 ∷ 3 ∷ 2 ∷ 2 ∷ 1 ∷ [])) ≡ 28
+unfolding split_within
+six_terms_fresh = refl
+
+pub six_terms_size : generalized_size (at_most 10 (7 ∷ 5 ∷ 3 ∷ 2 ∷ 2 ∷ 1 ∷ [])) ≡ 62
+unfolding split_within
+six_terms_size = refl
+
+-- 4x1 + 4x2 + 2x3 + 2x4 + 1x5 <= 6
+pub five_terms_fresh : generalized_fresh (at_most 6 (4 ∷ 4 ∷ 2 ∷ 2 ∷ 1 ∷ [])) ≡ 17
+unfolding split_within
+five_terms_fresh = refl
+
+pub five_terms_size : generalized_size (at_most 6 (4 ∷ 4 ∷ 2 ∷ 2 ∷ 1 ∷ [])) ≡ 31
+unfolding split_within
+five_terms_size = refl
+
+-- 6x1 + 5x2 + 4x3 + 3x4 + 2x5 + 1x6 <= 12
+pub six_steps_fresh : generalized_fresh (at_most 12 (6 ∷ 5 ∷ 4 ∷ 3 ∷ 2 ∷ 1 ∷ [])) ≡ 32
+unfolding split_within
+six_steps_fresh = refl
+
+pub six_steps_size : generalized_size (at_most 12 (6 ∷ 5 ∷ 4 ∷ 3 ∷ 2 ∷ 1 ∷ [])) ≡ 76
+unfolding split_within
+six_steps_size = refl

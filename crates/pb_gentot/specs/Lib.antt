@@ -1,0 +1,7 @@
+pub mod Examples
+pub mod Generalized
+pub mod GeneralizedLaws
+pub mod Measured
+pub mod Members
+pub mod Outputs
+pub mod Rising

@@ -1,0 +1,79 @@
+//! How large a generalized totalizer is, before it is written.
+ghost use Rattle.std.specs.Prelude.{◌≡◌, ◌≤◌, ◌<◌, ◌+◌, ◌*◌, ◌^◌, length, IfOk};
+ghost use Rattle.pb_norm.specs.Constraints.{weights};
+ghost use Rattle.pb_tree.specs.Tree.{tree_of};
+ghost use Rattle.pb_gentot.specs.Measured.{IsMeasured};
+
+use crate::sets::{joined, single};
+use pb_base::Term;
+use std::alloc::{AllocError, Global};
+
+/// The values of a part, and its numbers.
+#[derive(Drop)]
+pub struct Part {
+    pub values: Vec<u128>,
+    pub fresh: u64,
+    pub clauses: u64,
+}
+
+/// How many clauses a node has over parts with so many values.
+fn node_clauses(left: u64, right: u64) -> u64
+    requires left_small { left < 2 ^ 32 }
+    requires right_small { right < 2 ^ 32 }
+    ensures { result ≡ left * right + left + right }
+{
+    left * right + left + right
+}
+
+/// The values and numbers of some terms, if they have no more fresh variables than the budget.
+pub fn measure(
+    alloc: Global,
+    terms: &[Term],
+    bound: u128,
+    budget: u64,
+) -> Result<Option<Part>, AllocError>
+    requires some { 1 ≤ length terms.now }
+    requires few { length terms.now < 2 ^ 31 }
+    requires small { bound < 2 ^ 100 }
+    requires modest { budget < 2 ^ 24 }
+    ensures { IfOk result (λ made. IsMeasured bound budget (tree_of (weights terms.now)) made) }
+{
+    let cap = bound + 1;
+    if terms.len() == 1 {
+        let values = single(alloc, terms[0].weight().min(cap))?;
+        return Ok(Some(Part {
+            values,
+            fresh: 0,
+            clauses: 0,
+        }));
+    }
+    let (lefts, rights) = terms.split_at(terms.len() / 2);
+    let left = match measure(alloc, lefts, bound, budget)? {
+        Some(part) => part,
+        None => return Ok(None),
+    };
+    let right = match measure(alloc, rights, bound, budget - left.fresh)? {
+        Some(part) => part,
+        None => return Ok(None),
+    };
+    let room = budget - left.fresh - right.fresh;
+    let found = joined(
+        alloc,
+        left.values.as_slice(),
+        right.values.as_slice(),
+        cap,
+        room as usize,
+    )?;
+    let values = match found {
+        Some(values) => values,
+        None => return Ok(None),
+    };
+    let count = values.as_slice().len() as u64;
+    let lefts = left.values.as_slice().len() as u64;
+    let rights = right.values.as_slice().len() as u64;
+    Ok(Some(Part {
+        values,
+        fresh: left.fresh + right.fresh + count,
+        clauses: left.clauses + right.clauses + node_clauses(lefts, rights),
+    }))
+}

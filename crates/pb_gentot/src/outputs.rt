@@ -1,0 +1,58 @@
+//! The literals that a part gives to what stands over it.
+ghost use Rattle.std.specs.Prelude.{◌≡◌, ◌<◌, length, Contains, slice_index};
+ghost use Rattle.pb_tree.specs.Places.{place_of};
+ghost use Rattle.pb_gentot.specs.Rising.{Rising};
+
+use pb_base::Lit;
+use pb_family::fresh_at;
+
+/// A literal for each value: a leaf's own, or fresh variables in a row.
+#[derive(Clone, Copy)]
+pub enum Outputs {
+    Single(Lit),
+    Fresh(u32),
+}
+
+/// Where a value stands.
+fn place_in(values: &[u128], value: u128) -> usize
+    requires rising { Rising values.now }
+    requires has { Contains values.now value }
+    ensures { result ≡ place_of value values.now }
+{
+    match values.binary_search(&value) {
+        Ok(place) => place,
+        Err(place) => place,
+    }
+}
+
+impl Outputs {
+    ghost use Rattle.std.specs.Prelude.{◌≡◌, ◌<◌, length, Contains, slice_index};
+    ghost use Rattle.pb_gentot.specs.Rising.{Rising};
+    ghost use Rattle.pb_gentot.specs.Outputs.{output_in, HasRoom};
+
+    /// The literal of the value at a place.
+    pub fn at(&self, values: &[u128], place: usize) -> Lit
+        requires rising { Rising values.now }
+        requires within { place < length values.now }
+        requires room { HasRoom self.now (length values.now) }
+        ensures { result ≡ output_in self.now values.now (slice_index values.now place) }
+    {
+        match self {
+            Outputs::Single(lit) => *lit,
+            Outputs::Fresh(first) => fresh_at(*first, place),
+        }
+    }
+
+    /// The literal of a value.
+    pub fn of(&self, values: &[u128], value: u128) -> Lit
+        requires rising { Rising values.now }
+        requires has { Contains values.now value }
+        requires room { HasRoom self.now (length values.now) }
+        ensures { result ≡ output_in self.now values.now value }
+    {
+        match self {
+            Outputs::Single(lit) => *lit,
+            Outputs::Fresh(first) => fresh_at(*first, place_in(values, value)),
+        }
+    }
+}

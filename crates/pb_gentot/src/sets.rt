@@ -1,0 +1,80 @@
+//! The values of a node.
+ghost use Rattle.std.specs.Prelude.{◌≡◌, ◌≤◌, ◌<◌, ◌+◌, ◌^◌, ◌++◌, ◌∷◌, [], All, map, min, length, IfOk, IfSome, IfNone};
+ghost use Rattle.pb_gentot.specs.Rising.{Rising};
+ghost use Rattle.pb_gentot.specs.Members.{SameMembers};
+ghost use Rattle.pb_gentot.specs.Generalized.{sums, ascending};
+
+use std::alloc::{AllocError, Global};
+
+/// Appends a value and its sums with others.
+fn push_sums(
+    value: u128,
+    others: &[u128],
+    cap: u128,
+    made: &mut Vec<u128>,
+) -> Result<(), AllocError>
+    requires small { value ≤ cap }
+    requires others_small { All (λ v. v ≤ cap) others.now }
+    requires few { cap < 2 ^ 101 }
+    ensures { IfOk result (λ _. made.new.items ≡ made.old.items ++ value ∷ map (λ v. min (value + v) cap) others.now) }
+{
+    made.push(value)?;
+    for other in others {
+        made.push((value + *other).min(cap))?;
+    }
+    Ok(())
+}
+
+/// Sorts values, and leaves out those that stand there already.
+fn tidy(values: &mut Vec<u128>)
+    ensures rising { Rising values.new.items }
+    ensures same { SameMembers values.old.items values.new.items }
+{
+    values.sort_unstable();
+    values.dedup();
+}
+
+/// The values of a node over two parts, if they are no more than a limit. No more than three times as many numbers are
+/// held at once: whenever the list has doubled, those that stand there twice are left out.
+pub fn joined(
+    alloc: Global,
+    left: &[u128],
+    right: &[u128],
+    cap: u128,
+    limit: usize,
+) -> Result<Option<Vec<u128>>, AllocError>
+    requires left_small { All (λ v. v ≤ cap) left.now }
+    requires right_small { All (λ v. v ≤ cap) right.now }
+    requires few { cap < 2 ^ 101 }
+    ensures made { IfOk result (λ found. IfSome found (λ made. made.items ≡ ascending cap (sums cap left.now right.now))) }
+    ensures within { IfOk result (λ found. IfSome found (λ made. length made.items ≤ limit)) }
+    ensures over { IfOk result (λ found. IfNone found (limit < length (ascending cap (sums cap left.now right.now)))) }
+{
+    let mut made = Vec::new(alloc);
+    made.extend_from_slice(right)?;
+    let mut kept = right.len();
+    for value in left {
+        push_sums(*value, right, cap, &mut made)?;
+        if made.len() / 2 > kept {
+            tidy(&mut made);
+            if made.len() > limit {
+                return Ok(None);
+            }
+            kept = made.len().max(right.len());
+        }
+    }
+    tidy(&mut made);
+    if made.len() > limit {
+        return Ok(None);
+    }
+    Ok(Some(made))
+}
+
+/// The one value of a leaf.
+pub fn single(alloc: Global, value: u128) -> Result<Vec<u128>, AllocError>
+    ensures { IfOk result (λ made. made.items ≡ value ∷ []) }
+{
+    let mut values = Vec::new(alloc);
+    values.push(value)?;
+    Ok(values)
+}

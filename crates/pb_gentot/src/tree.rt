@@ -1,0 +1,99 @@
+//! The clauses of a generalized totalizer, part by part.
+ghost use Rattle.std.specs.Prelude.{◌≡◌, ◌≤◌, ◌<◌, ◌+◌, ◌^◌, length, Contains, OnOk, OnErr, IfOk, IfErr};
+ghost use Rattle.pb_norm.specs.Constraints.{weights};
+ghost use Rattle.pb_family.specs.ClauseText.{clauses_text};
+ghost use Rattle.pb_family.specs.Sinks.{Stops, Takes};
+ghost use Rattle.pb_tree.specs.Tree.{tree_of};
+ghost use Rattle.pb_tree.specs.Scheme.{values, fresh_of, output, clauses_of, tree_clauses};
+ghost use Rattle.pb_gentot.specs.Outputs.{output_in, HasRoom};
+ghost use Rattle.pb_gentot.specs.Generalized.{generalized};
+
+use crate::emission::emit_node;
+use crate::outputs::Outputs;
+use crate::sets::{joined, single};
+use pb_base::Term;
+use pb_family::{ClauseSink, SinkFault};
+use std::alloc::Global;
+
+/// What a part leaves to what stands over it.
+#[derive(Drop)]
+pub struct Emitted {
+    pub values: Vec<u128>,
+    pub outputs: Outputs,
+    pub next: u32,
+}
+
+/// Hands over the clauses of some terms, whose fresh variables begin at a number.
+pub fn emit_part<S: ClauseSink>(
+    alloc: Global,
+    terms: &[Term],
+    bound: u128,
+    first: u32,
+    sink: &mut S,
+) -> Result<Emitted, SinkFault>
+    requires some { 1 ≤ length terms.now }
+    requires small { bound < 2 ^ 100 }
+    requires low { 1 ≤ first }
+    requires fits { first + fresh_of (generalized bound) (tree_of (weights terms.now)) ≤ 2 ^ 31 }
+    ensures ok { OnOk result (Takes (clauses_text (clauses_of (generalized bound) (tree_of (weights terms.now)) first)) (S.state sink.old) (S.state sink.new)) }
+    ensures values { IfOk result (λ part. part.values.items ≡ values (generalized bound) (tree_of (weights terms.now))) }
+    ensures outputs { IfOk result (λ part. output_in part.outputs part.values.items ≡ output (generalized bound) (tree_of (weights terms.now)) first) }
+    ensures room { IfOk result (λ part. HasRoom part.outputs (length part.values.items)) }
+    ensures next { IfOk result (λ part. part.next ≡ first + fresh_of (generalized bound) (tree_of (weights terms.now))) }
+    ensures stops { IfErr result (Stops (clauses_text (clauses_of (generalized bound) (tree_of (weights terms.now)) first)) (S.state sink.old) (S.state sink.new)) }
+{
+    let cap = bound + 1;
+    if terms.len() == 1 {
+        let values = single(alloc, terms[0].weight().min(cap))?;
+        return Ok(Emitted {
+            values,
+            outputs: Outputs::Single(terms[0].lit),
+            next: first,
+        });
+    }
+    let (fronts, backs) = terms.split_at(terms.len() / 2);
+    let left = emit_part(alloc, fronts, bound, first, sink)?;
+    let right = emit_part(alloc, backs, bound, left.next, sink)?;
+    let lefts = left.values.as_slice();
+    let rights = right.values.as_slice();
+    let found = joined(alloc, lefts, rights, cap, 1 << 31)?;
+    let values = found.unwrap();
+    let outputs = Outputs::Fresh(right.next);
+    emit_node(
+        lefts,
+        &left.outputs,
+        rights,
+        &right.outputs,
+        values.as_slice(),
+        &outputs,
+        cap,
+        sink,
+    )?;
+    let next = right.next + values.as_slice().len() as u32;
+    Ok(Emitted {
+        values,
+        outputs,
+        next,
+    })
+}
+
+/// Hands over the clauses of some terms, with that of the root.
+pub fn emit_whole<S: ClauseSink>(
+    alloc: Global,
+    terms: &[Term],
+    bound: u128,
+    first: u32,
+    sink: &mut S,
+) -> Result<(), SinkFault>
+    requires some { 1 ≤ length terms.now }
+    requires small { bound < 2 ^ 100 }
+    requires root { Contains (values (generalized bound) (tree_of (weights terms.now))) (bound + 1) }
+    requires low { 1 ≤ first }
+    requires fits { first + fresh_of (generalized bound) (tree_of (weights terms.now)) ≤ 2 ^ 31 }
+    ensures ok { OnOk result (Takes (clauses_text (tree_clauses (generalized bound) (tree_of (weights terms.now)) first)) (S.state sink.old) (S.state sink.new)) }
+    ensures stops { IfErr result (Stops (clauses_text (tree_clauses (generalized bound) (tree_of (weights terms.now)) first)) (S.state sink.old) (S.state sink.new)) }
+{
+    let root = emit_part(alloc, terms, bound, first, sink)?;
+    sink.clause(&[root.outputs.of(root.values.as_slice(), bound + 1).not()])?;
+    Ok(())
+}

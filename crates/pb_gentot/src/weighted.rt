@@ -1,0 +1,109 @@
+//! A bounded sum with any coefficients, by a generalized totalizer.
+ghost use Rattle.std.specs.Prelude.{◌≡◌, ◌<◌, ◌^◌};
+ghost use Rattle.pb_norm.specs.Constraints.{weights};
+ghost use Rattle.pb_norm.specs.BoundedSums.{IsProper, sum_within};
+ghost use Rattle.pb_gentot.specs.Generalized.{generalized_clauses, generalized_fresh, generalized_size};
+
+use crate::measure::measure;
+use crate::tree::emit_whole;
+use pb_base::{NoMemory, Term};
+use pb_family::{Built, ClauseSink, Family, SinkFault, Strong};
+use pb_norm::AtMost;
+use std::alloc::Global;
+
+/// The generalized totalizer of a sum (Joshi, Martins and Manquinho 2015, in one direction): a tree of halves, each node of
+/// which has an output for each sum that its true leaves can reach, where all past the bound are one.
+#[derive(Drop)]
+pub struct Weighted {
+    terms: Vec<Term>,
+    bound: u128,
+    fresh: u64,
+    clauses: u64,
+    ghost proper: { IsProper (sum_within terms.items bound) },
+    ghost small: { bound < 2 ^ 100 },
+    ghost fresh_is: { fresh ≡ generalized_fresh (sum_within terms.items bound) },
+    ghost clauses_is: { clauses ≡ generalized_size (sum_within terms.items bound) },
+}
+
+impl Weighted {
+    ghost use Rattle.std.specs.Prelude.{◌≡◌, ◌≤◌, ◌<◌, ◌^◌, ℕ, length, IfOk};
+    ghost use Rattle.pb_norm.specs.Constraints.{weight};
+    ghost use Rattle.pb_tree.specs.Budgets.{IsOverExactly, IfFits};
+
+    /// The generalized totalizer of a sum, if it has no more fresh variables than the budget.
+    pub fn build(alloc: Global, of: &AtMost, budget: u64) -> Result<Built<Weighted>, NoMemory>
+        requires light { weight of.now.terms < 2 ^ 100 }
+        requires few { length of.now.terms < 2 ^ 31 }
+        requires modest { budget ≤ 10000000 }
+        ensures over { IfOk result (λ built. IsOverExactly (generalized_fresh of.now) budget built) }
+        ensures constraint { IfOk result (λ built. IfFits (λ t. ⟦<Weighted as Family>⟧.constraint t ≡ of.now) built) }
+        ensures fresh { IfOk result (λ built. IfFits (λ t. ⟦<Weighted as Family>⟧.fresh_count t ≡ generalized_fresh of.now) built) }
+        ensures clauses { IfOk result (λ built. IfFits (λ t. ⟦<Weighted as Family>⟧.clause_count t ≡ generalized_size of.now) built) }
+        ensures list { IfOk result (λ built. IfFits (λ t. (first : ℕ) → ⟦<Weighted as Family>⟧.clause_list t first ≡ generalized_clauses of.now first) built) }
+    {
+        let bound = of.bound();
+        let part = match measure(alloc, of.terms(), bound, budget)? {
+            Some(part) => part,
+            None => return Ok(Built::Over),
+        };
+        let mut terms = Vec::new(alloc);
+        terms.extend_from_slice(of.terms())?;
+        Ok(Built::Fits(Weighted {
+            terms,
+            bound,
+            fresh: part.fresh,
+            clauses: part.clauses + 1,
+        }))
+    }
+}
+
+impl Family for Weighted {
+    ghost use Rattle.std.specs.Prelude.{◌≡◌, ◌≢◌, ◌≤◌, ◌<◌, ◌+◌, ◌^◌, ℕ, List, length, OnOk, IfErr, Err};
+    ghost use Rattle.pb_base.specs.declared.literal.Lit.{Lit};
+    ghost use Rattle.pb_norm.specs.BoundedSums.{BoundedSum, sum_within};
+    ghost use Rattle.pb_family.specs.ClauseText.{clauses_text};
+    ghost use Rattle.pb_family.specs.Families.{VarsBelow};
+    ghost use Rattle.pb_family.specs.Sinks.{Stops, Takes};
+    ghost use Rattle.pb_gentot.specs.Generalized.{generalized_clauses, generalized_fresh, generalized_size};
+    ghost use Rattle.pb_gentot.specs.GeneralizedLaws.{generalized_sound, generalized_extends, generalized_counts, generalized_names};
+
+    ghost constraint = { λ f. sum_within f.terms.items f.bound };
+
+    ghost fresh_count = { λ f. generalized_fresh (sum_within f.terms.items f.bound) };
+
+    ghost clause_count = { λ f. generalized_size (sum_within f.terms.items f.bound) };
+
+    ghost clause_list = { λ f first. generalized_clauses (sum_within f.terms.items f.bound) first };
+
+    fn fresh(&self) -> u64 {
+        self.fresh
+    }
+
+    fn clauses(&self) -> u64 {
+        self.clauses
+    }
+
+    fn emit<S: ClauseSink>(
+        &self,
+        alloc: Global,
+        first: u32,
+        sink: &mut S,
+    ) -> Result<(), SinkFault> {
+        emit_whole(alloc, self.terms.as_slice(), self.bound, first, sink)
+    }
+
+    ghost sound = { λ f first below a model. generalized_sound (sum_within f.terms.items f.bound) f.proper first a model };
+
+    ghost extends = { λ f first below a holds. generalized_extends (sum_within f.terms.items f.bound) f.proper first below a holds };
+
+    ghost counts = { λ f first. generalized_counts (sum_within f.terms.items f.bound) first };
+
+    ghost names = { λ f first. generalized_names (sum_within f.terms.items f.bound) f.proper first };
+}
+
+impl Strong for Weighted {
+    ghost use Rattle.pb_norm.specs.BoundedSums.{sum_within};
+    ghost use Rattle.pb_gentot.specs.GeneralizedLaws.{generalized_propagates};
+
+    ghost propagates = { λ f first below. generalized_propagates (sum_within f.terms.items f.bound) f.proper first };
+}

@@ -1,0 +1,158 @@
+//! The clauses of a totalizer, one after another.
+ghost use Rattle.std.specs.Prelude.{◌≡◌, ◌≤◌, ◌<◌, ◌+◌, ◌-◌, ◌^◌, map, min, length, OnOk, OnErr, IfOk};
+ghost use Rattle.pb_norm.specs.Constraints.{weights};
+ghost use Rattle.pb_family.specs.ClauseText.{clause_text, clauses_text};
+ghost use Rattle.pb_family.specs.Sinks.{Takes, FailsToTake};
+ghost use Rattle.pb_tree.specs.Tree.{tree_of};
+ghost use Rattle.pb_tree.specs.Scheme.{values, fresh_of, output, clauses_of, tree_clauses};
+ghost use Rattle.pb_totalizer.specs.Outputs.{output_count, output_at};
+ghost use Rattle.pb_totalizer.specs.Totalizer.{sum_clause, partners, sum_clauses, totalizer};
+
+use crate::outputs::{Outputs, Run};
+use pb_base::{Failed, Term};
+use pb_family::ClauseSink;
+
+/// Hands over that where i of the left and j of the right are true, i + j are.
+fn hand_over<S: ClauseSink>(
+    left: &Outputs,
+    i: u64,
+    right: &Outputs,
+    j: u64,
+    own: &Outputs,
+    sink: &mut S,
+) -> Result<(), Failed>
+    requires left_has { i ≤ output_count left.now }
+    requires right_has { j ≤ output_count right.now }
+    requires some { 1 ≤ i + j }
+    requires own_has { i + j ≤ output_count own.now }
+    requires few { output_count own.now < 2 ^ 32 }
+    ensures ok { OnOk result (Takes (clause_text (sum_clause (output_at left.now) (output_at right.now) (output_at own.now) i j)) (S.state sink.old) (S.state sink.new)) }
+    ensures failed { OnErr result (FailsToTake (clause_text (sum_clause (output_at left.now) (output_at right.now) (output_at own.now) i j)) (S.state sink.old) (S.state sink.new)) }
+{
+    let sum = own.at(i + j);
+    if i == 0 {
+        sink.clause(&[right.at(j).not(), sum])
+    } else if j == 0 {
+        sink.clause(&[left.at(i).not(), sum])
+    } else {
+        sink.clause(&[left.at(i).not(), right.at(j).not(), sum])
+    }
+}
+
+/// The least number of the right that one of the left goes with.
+fn least_partner(i: u64) -> u64
+    ensures { result ≡ 1 - i }
+{
+    if i == 0 { 1 } else { 0 }
+}
+
+/// Hands over the clauses of one number of the left.
+fn emit_row<S: ClauseSink>(
+    left: &Outputs,
+    i: u64,
+    right: &Outputs,
+    own: &Outputs,
+    cap: u64,
+    sink: &mut S,
+) -> Result<(), Failed>
+    requires left_has { i ≤ output_count left.now }
+    requires left_within { output_count left.now ≤ cap }
+    requires own_count { output_count own.now ≡ min (output_count left.now + output_count right.now) cap }
+    requires few { cap < 2 ^ 32 }
+    requires few_right { output_count right.now < 2 ^ 32 }
+    ensures ok { OnOk result (Takes (clauses_text (map (sum_clause (output_at left.now) (output_at right.now) (output_at own.now) i) (partners cap (output_count right.now) i))) (S.state sink.old) (S.state sink.new)) }
+    ensures failed { OnErr result (FailsToTake (clauses_text (map (sum_clause (output_at left.now) (output_at right.now) (output_at own.now) i) (partners cap (output_count right.now) i))) (S.state sink.old) (S.state sink.new)) }
+{
+    let low = least_partner(i);
+    let high = right.count().min(cap - i) + 1;
+    for j in low..high {
+        hand_over(left, i, right, j, own, sink)?;
+    }
+    Ok(())
+}
+
+/// Hands over a node's own clauses.
+fn emit_node<S: ClauseSink>(
+    left: &Outputs,
+    right: &Outputs,
+    own: &Outputs,
+    cap: u64,
+    sink: &mut S,
+) -> Result<(), Failed>
+    requires left_within { output_count left.now ≤ cap }
+    requires own_count { output_count own.now ≡ min (output_count left.now + output_count right.now) cap }
+    requires few { cap < 2 ^ 32 }
+    requires few_right { output_count right.now < 2 ^ 32 }
+    ensures ok { OnOk result (Takes (clauses_text (sum_clauses cap (output_count left.now) (output_count right.now) (output_at left.now) (output_at right.now) (output_at own.now))) (S.state sink.old) (S.state sink.new)) }
+    ensures failed { OnErr result (FailsToTake (clauses_text (sum_clauses cap (output_count left.now) (output_count right.now) (output_at left.now) (output_at right.now) (output_at own.now))) (S.state sink.old) (S.state sink.new)) }
+{
+    for i in 0..left.count() + 1 {
+        emit_row(left, i, right, own, cap, sink)?;
+    }
+    Ok(())
+}
+
+/// What a part of a totalizer leaves to what stands over it.
+#[derive(Drop)]
+pub struct Part {
+    pub outputs: Outputs,
+    pub next: u32,
+}
+
+/// Hands over the clauses of the totalizer of some terms, whose fresh variables begin at a number.
+pub fn emit_part<S: ClauseSink>(
+    terms: &[Term],
+    bound: u64,
+    first: u32,
+    sink: &mut S,
+) -> Result<Part, Failed>
+    requires some { 1 ≤ length terms.now }
+    requires small { bound < 2 ^ 31 }
+    requires low { 1 ≤ first }
+    requires fits { first + fresh_of (totalizer bound) (tree_of (weights terms.now)) ≤ 2 ^ 31 }
+    ensures ok { OnOk result (Takes (clauses_text (clauses_of (totalizer bound) (tree_of (weights terms.now)) first)) (S.state sink.old) (S.state sink.new)) }
+    ensures outputs { IfOk result (λ part. output_at part.outputs ≡ output (totalizer bound) (tree_of (weights terms.now)) first) }
+    ensures count { IfOk result (λ part. output_count part.outputs ≡ length (values (totalizer bound) (tree_of (weights terms.now)))) }
+    ensures next { IfOk result (λ part. part.next ≡ first + fresh_of (totalizer bound) (tree_of (weights terms.now))) }
+    ensures failed { OnErr result (FailsToTake (clauses_text (clauses_of (totalizer bound) (tree_of (weights terms.now)) first)) (S.state sink.old) (S.state sink.new)) }
+{
+    if terms.len() == 1 {
+        return Ok(Part {
+            outputs: Outputs::Single(terms[0].lit),
+            next: first,
+        });
+    }
+    let (lefts, rights) = terms.split_at(terms.len() / 2);
+    let left = emit_part(lefts, bound, first, sink)?;
+    let right = emit_part(rights, bound, left.next, sink)?;
+    let cap = bound + 1;
+    let count = (left.outputs.count() + right.outputs.count()).min(cap);
+    let outputs = Outputs::Fresh(Run {
+        first: right.next,
+        count,
+    });
+    emit_node(&left.outputs, &right.outputs, &outputs, cap, sink)?;
+    Ok(Part {
+        outputs,
+        next: right.next + count as u32,
+    })
+}
+
+/// Hands over the clauses of the totalizer of some terms, with that of the root.
+pub fn emit_whole<S: ClauseSink>(
+    terms: &[Term],
+    bound: u64,
+    first: u32,
+    sink: &mut S,
+) -> Result<(), Failed>
+    requires from { 1 ≤ bound }
+    requires more { bound < length terms.now }
+    requires few { length terms.now < 2 ^ 31 }
+    requires low { 1 ≤ first }
+    requires fits { first + fresh_of (totalizer bound) (tree_of (weights terms.now)) ≤ 2 ^ 31 }
+    ensures ok { OnOk result (Takes (clauses_text (tree_clauses (totalizer bound) (tree_of (weights terms.now)) first)) (S.state sink.old) (S.state sink.new)) }
+    ensures failed { OnErr result (FailsToTake (clauses_text (tree_clauses (totalizer bound) (tree_of (weights terms.now)) first)) (S.state sink.old) (S.state sink.new)) }
+{
+    let root = emit_part(terms, bound, first, sink)?;
+    sink.clause(&[root.outputs.at(bound + 1).not()])
+}

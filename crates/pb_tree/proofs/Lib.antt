@@ -1,0 +1,12 @@
+pub mod Extending
+pub mod Halves
+pub mod Laws
+pub mod Lists
+pub mod Numbers
+pub mod Pieces
+pub mod Places
+pub mod Pushing
+pub mod ReadySums
+pub mod Splitting
+pub mod Sums
+pub mod Threes

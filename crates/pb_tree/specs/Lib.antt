@@ -1,0 +1,4 @@
+pub mod Budgets
+pub mod Places
+pub mod Scheme
+pub mod Tree
