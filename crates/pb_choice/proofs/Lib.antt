@@ -1,0 +1,9 @@
+pub mod Composition
+pub mod Encoded
+pub mod Forced
+pub mod Handing
+pub mod PlanFacts
+pub mod RestLaws
+pub mod Suits
+pub mod SumLaws
+pub mod UnitClauses

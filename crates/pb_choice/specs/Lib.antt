@@ -1,0 +1,5 @@
+pub mod Defaults
+pub mod Choice
+pub mod Clauses
+pub mod Laws
+pub mod Suits
