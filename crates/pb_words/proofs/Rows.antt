@@ -1,0 +1,222 @@
+-- Worked examples of command lines, which the check computes.
+use Rattle.std.specs.Prelude.{◌≡◌, [], ◌∷◌, map, Option, Some, None, codes, refl}
+use Rattle.clap.specs.Words.{Text}
+use Rattle.clap.proofs.OnLiterals.{clap_on_literals}
+use Rattle.pb_base.specs.Words.{words_of}
+use Rattle.pb_choice.specs.declared.options.Amo.TheVariants as amo
+use Rattle.pb_choice.specs.declared.options.Card.TheVariants as card
+use Rattle.pb_choice.specs.declared.options.General.TheVariants as general
+use Rattle.pb_choice.specs.declared.options.Options.{Options}
+use Rattle.pb_choice.specs.Defaults.{default_options}
+use Rattle.pb_words.specs.Taken.{Wanted, taken_of}
+use Rattle.pb_words.specs.Taken.Wanted.{Encode}
+
+-- what a line asks for whose words stand between blanks
+abbrev said : Text → Option Wanted
+said line = taken_of (map (λ word. word.text) (words_of line))
+
+abbrev encode : Text → Text → Options → Option Wanted
+encode opb cnf options = Some (Encode (record { opb = opb; cnf = cnf; options = options }))
+
+abbrev encode_a_b : Options → Option Wanted
+encode_a_b = encode (codes "a") (codes "b")
+
+-- ---- words that are taken
+
+two_names : said (codes "pbcnf encode a b")
+    ≡ encode_a_b (record { amo = amo.Auto; card = card.Auto; general = general.Diagram; budget = 50000 })
+unfolding taken_of clap_on_literals
+two_names = refl
+
+options_behind_the_names : said (codes "pbcnf encode a b --budget 9 --amo pairwise")
+    ≡ encode_a_b (record default_options { budget = 9; amo = amo.Pairwise })
+unfolding taken_of clap_on_literals
+options_behind_the_names = refl
+
+options_before_the_names : said (codes "pbcnf encode --card counter --general=tree a b")
+    ≡ encode_a_b (record default_options { card = card.Counter; general = general.Tree })
+unfolding taken_of clap_on_literals
+options_before_the_names = refl
+
+options_between_the_names : said (codes "pbcnf encode a --amo=product --card totalizer b")
+    ≡ encode_a_b (record default_options { amo = amo.Product; card = card.Totalizer })
+unfolding taken_of clap_on_literals
+options_between_the_names = refl
+
+all_four_options : said (codes "pbcnf encode --amo ladder a --card=totalizer b --budget=7 --general adder")
+    ≡ encode_a_b (record { amo = amo.Ladder; card = card.Totalizer; general = general.Adder; budget = 7 })
+unfolding taken_of clap_on_literals
+all_four_options = refl
+
+the_defaults_named : said (codes "pbcnf encode a b --amo=auto --card=auto --general=diagram --budget=50000")
+    ≡ encode_a_b default_options
+unfolding taken_of clap_on_literals
+the_defaults_named = refl
+
+leading_zeros : said (codes "pbcnf encode a b --budget=0000000000000000000000000000000000000000009")
+    ≡ encode_a_b (record default_options { budget = 9 })
+unfolding taken_of clap_on_literals
+leading_zeros = refl
+
+the_least_budget : said (codes "pbcnf encode a b --budget=1") ≡ encode_a_b (record default_options { budget = 1 })
+unfolding taken_of clap_on_literals
+the_least_budget = refl
+
+the_greatest_budget : said (codes "pbcnf encode a b --budget 10000000")
+    ≡ encode_a_b (record default_options { budget = 10000000 })
+unfolding taken_of clap_on_literals
+the_greatest_budget = refl
+
+-- behind `--` each word is a name
+names_behind_dashes : said (codes "pbcnf encode --amo=ladder -- --budget=9 --")
+    ≡ encode (codes "--budget=9") (codes "--") (record default_options { amo = amo.Ladder })
+unfolding taken_of clap_on_literals
+names_behind_dashes = refl
+
+a_dash_alone : said (codes "pbcnf encode - b") ≡ encode (codes "-") (codes "b") default_options
+unfolding taken_of clap_on_literals
+a_dash_alone = refl
+
+an_empty_name : taken_of (codes "pbcnf" ∷ codes "encode" ∷ [] ∷ codes "b" ∷ [])
+    ≡ encode [] (codes "b") default_options
+unfolding taken_of clap_on_literals
+an_empty_name = refl
+
+another_program_name : said (codes "x encode a b") ≡ encode_a_b default_options
+unfolding taken_of clap_on_literals
+another_program_name = refl
+
+-- ---- words that are not taken
+
+no_words : taken_of [] ≡ None
+unfolding taken_of clap_on_literals
+no_words = refl
+
+only_the_program : said (codes "pbcnf") ≡ None
+unfolding taken_of clap_on_literals
+only_the_program = refl
+
+no_names : said (codes "pbcnf encode") ≡ None
+unfolding taken_of clap_on_literals
+no_names = refl
+
+one_name : said (codes "pbcnf encode a") ≡ None
+unfolding taken_of clap_on_literals
+one_name = refl
+
+three_names : said (codes "pbcnf encode a b c") ≡ None
+unfolding taken_of clap_on_literals
+three_names = refl
+
+equal_names : said (codes "pbcnf encode a a") ≡ None
+unfolding taken_of clap_on_literals
+equal_names = refl
+
+unknown_command : said (codes "pbcnf decide a b") ≡ None
+unfolding taken_of clap_on_literals
+unknown_command = refl
+
+part_of_a_command : said (codes "pbcnf enc a b") ≡ None
+unfolding taken_of clap_on_literals
+part_of_a_command = refl
+
+two_commands : said (codes "pbcnf encode encode a b") ≡ None
+unfolding taken_of clap_on_literals
+two_commands = refl
+
+unknown_option : said (codes "pbcnf encode a b --budgets 9") ≡ None
+unfolding taken_of clap_on_literals
+unknown_option = refl
+
+part_of_an_option : said (codes "pbcnf encode a b --budg=9") ≡ None
+unfolding taken_of clap_on_literals
+part_of_an_option = refl
+
+short_option : said (codes "pbcnf encode a b -b 9") ≡ None
+unfolding taken_of clap_on_literals
+short_option = refl
+
+option_before_the_command : said (codes "pbcnf --budget=9 encode a b") ≡ None
+unfolding taken_of clap_on_literals
+option_before_the_command = refl
+
+option_twice : said (codes "pbcnf encode a b --budget=9 --budget=9") ≡ None
+unfolding taken_of clap_on_literals
+option_twice = refl
+
+no_budget : said (codes "pbcnf encode a b --budget=0") ≡ None
+unfolding taken_of clap_on_literals
+no_budget = refl
+
+too_great_a_budget : said (codes "pbcnf encode a b --budget=10000001") ≡ None
+unfolding taken_of clap_on_literals
+too_great_a_budget = refl
+
+-- this is 1 more than 2^64
+too_wide_a_budget : said (codes "pbcnf encode a b --budget=18446744073709551617") ≡ None
+unfolding taken_of clap_on_literals
+too_wide_a_budget = refl
+
+budget_with_plus : said (codes "pbcnf encode a b --budget +5") ≡ None
+unfolding taken_of clap_on_literals
+budget_with_plus = refl
+
+budget_with_minus : said (codes "pbcnf encode a b --budget -5") ≡ None
+unfolding taken_of clap_on_literals
+budget_with_minus = refl
+
+joined_budget_with_minus : said (codes "pbcnf encode a b --budget=-5") ≡ None
+unfolding taken_of clap_on_literals
+joined_budget_with_minus = refl
+
+empty_budget : said (codes "pbcnf encode a b --budget=") ≡ None
+unfolding taken_of clap_on_literals
+empty_budget = refl
+
+no_digits : said (codes "pbcnf encode a b --budget 5x") ≡ None
+unfolding taken_of clap_on_literals
+no_digits = refl
+
+missing_value : said (codes "pbcnf encode a b --budget") ≡ None
+unfolding taken_of clap_on_literals
+missing_value = refl
+
+option_as_value : said (codes "pbcnf encode a b --budget --amo") ≡ None
+unfolding taken_of clap_on_literals
+option_as_value = refl
+
+card_as_amo : said (codes "pbcnf encode a b --amo counter") ≡ None
+unfolding taken_of clap_on_literals
+card_as_amo = refl
+
+general_as_card : said (codes "pbcnf encode a b --card=tree") ≡ None
+unfolding taken_of clap_on_literals
+general_as_card = refl
+
+amo_as_general : said (codes "pbcnf encode a b --general auto") ≡ None
+unfolding taken_of clap_on_literals
+amo_as_general = refl
+
+in_capitals : said (codes "pbcnf encode a b --amo Ladder") ≡ None
+unfolding taken_of clap_on_literals
+in_capitals = refl
+
+help_option : said (codes "pbcnf --help") ≡ None
+unfolding taken_of clap_on_literals
+help_option = refl
+
+help_option_of_encode : said (codes "pbcnf encode a b --help") ≡ None
+unfolding taken_of clap_on_literals
+help_option_of_encode = refl
+
+short_help : said (codes "pbcnf -h") ≡ None
+unfolding taken_of clap_on_literals
+short_help = refl
+
+version_option : said (codes "pbcnf --version") ≡ None
+unfolding taken_of clap_on_literals
+version_option = refl
+
+help_command : said (codes "pbcnf help") ≡ None
+unfolding taken_of clap_on_literals
+help_command = refl

@@ -1,0 +1,66 @@
+-- What the program takes, and what its requests are.
+use Rattle.std.proofs.Common.{◌≡◌, ◌≢◌, ◌∙◌, ap, sym, refl, true, List, [], ◌∷◌, Option, Some, None, option_map, inl, inr, cond, subst, Result, Ok, Err, IfOk, IsErrOf}
+use Rattle.std.specs.Option.{ok_or}
+use Rattle.clap.specs.Words.{App, HasKind, HasMatchesOf, IsAmong, Kinds, Text, fault_of, is_simple, is_simple_and_free, kind_of, subcommand_of, subcommand_rows_of}
+use Rattle.clap.specs.declared.error.Error.{Error}
+use Rattle.clap.specs.declared.error.kind.ErrorKind.TheVariants.{OutOfMemory}
+use Rattle.clap.specs.declared.parser.matches.ArgMatches.{ArgMatches}
+use Rattle.clap.proofs.OnLiterals.{clap_on_literals}
+use Rattle.pb_words.specs.declared.fault.WordsFault.{WordsFault}
+use Rattle.pb_words.specs.declared.fault.WordsFault.TheVariants.{Usage}
+use Rattle.pb_words.specs.declared.request.Request.{Request}
+use Rattle.pb_words.specs.Taken.{is_faultless, program_app, taken_of, wanted_as, wanted_by}
+
+is_free : is_simple_and_free program_app ≡ true
+unfolding clap_on_literals
+is_free = refl
+
+is_plain : is_simple program_app ≡ true
+unfolding clap_on_literals
+is_plain = refl
+
+-- words that clap refuses are not taken
+refused : (words : List Text) (e : Error) → HasKind (fault_of program_app words) e → kind_of e ≢ OutOfMemory → taken_of words ≡ None
+unfolding taken_of
+refused words e (inl memory) other = absurd (other memory)
+refused words e (inr among) other = go (fault_of program_app words) among
+  where
+    go : (ks : Kinds) → IsAmong (kind_of e) ks → cond (is_faultless ks) (wanted_by (subcommand_of program_app words)) None ≡ None
+    go [] among = absurd among
+    go (k ∷ ks) among = refl
+
+-- of words that clap takes, the matches say what is asked for
+accepted : (words : List Text) (m : ArgMatches) → fault_of program_app words ≡ [] → HasMatchesOf program_app words m
+    → taken_of words ≡ wanted_by (subcommand_rows_of m)
+unfolding taken_of
+accepted words m none has = rw none (ap wanted_by (sym (has is_plain).1))
+
+-- the same, of a command that was built as the program's
+pub refused_by : (app : App) (words : List Text) (e : Error) → app ≡ program_app
+    → (is_simple_and_free app ≡ true → HasKind (fault_of app words) e) → kind_of e ≢ OutOfMemory → taken_of words ≡ None
+refused_by app words e is kinds other =
+    refused words e (subst (λ a. HasKind (fault_of a words) e) is (kinds (ap is_simple_and_free is ∙ is_free))) other
+
+pub accepted_by : (app : App) (words : List Text) (m : ArgMatches) (r : Option Request) → app ≡ program_app
+    → (is_simple_and_free app ≡ true → fault_of app words ≡ []) → HasMatchesOf app words m
+    → option_map wanted_as r ≡ wanted_by (subcommand_rows_of m) → option_map wanted_as r ≡ taken_of words
+accepted_by app words m r is kinds has same =
+    let none : fault_of program_app words ≡ [] = ap (λ a. fault_of a words) (sym is) ∙ kinds (ap is_simple_and_free is ∙ is_free) in
+    same ∙ sym (accepted words m none (subst (λ a. HasMatchesOf a words m) is has))
+
+-- what an answer says of the words
+abbrev pub TellsOf : List Text → Result Request WordsFault → Type 0
+TellsOf words x = IfOk x (λ r. taken_of words ≡ Some (wanted_as r)) × (IsErrOf x Usage → taken_of words ≡ None)
+
+not_refused : (words : List Text) (v : Request) → Ok v ≡ Err Usage → taken_of words ≡ None
+not_refused words v h = cc
+
+pub refusal_is : (f : WordsFault) → IsErrOf {T = Request} (Err f) Usage → f ≡ Usage
+refusal_is f h = cc
+
+pub told : (words : List Text) (r : Option Request) (x : Result Request WordsFault) → x ≡ ok_or r Usage → option_map wanted_as r ≡ taken_of words → TellsOf words x
+told words r x is same = subst (TellsOf words) (sym is) (go r same)
+  where
+    go : (o : Option Request) → option_map wanted_as o ≡ taken_of words → TellsOf words (ok_or o Usage)
+    go None e = (tt, λ _. sym e)
+    go (Some v) e = (sym e, λ h. not_refused words v h)

@@ -1,0 +1,45 @@
+-- What the requests keep that are taken.
+use Rattle.std.proofs.Common.{◌≡◌, Bool, true, false, List, [], ◌∷◌, Option, Some, None, cond, codes, option_map, refl, subst, sym}
+use Rattle.std.specs.Str.{bytes_eq}
+use Rattle.clap.specs.Words.{Kinds, Row, Text, fault_of, subcommand_of}
+use Rattle.pb_words.specs.EncodeWords.{encode_in}
+use Rattle.pb_words.specs.Taken.{is_faultless, program_app, taken_of, wanted_by, wanted_in, Wanted}
+use Rattle.pb_words.specs.Taken.Wanted.{Encode}
+use Rattle.pb_words.proofs.EncodeLemmas.{encode_fit, IsFitEncode}
+
+abbrev pub IsFit : Wanted → Type 0
+IsFit (Encode w) = IsFitEncode w
+
+-- the command of one name, or one of the others
+one_or : (named : Bool) (own others : Option Wanted) (w : Wanted) → (own ≡ Some w → IsFit w) → (others ≡ Some w → IsFit w)
+    → cond named own others ≡ Some w → IsFit w
+one_or true own others w fits _ e = fits e
+one_or false own others w _ fits e = fits e
+
+none_left : (w : Wanted) → None ≡ Some w → IsFit w
+none_left w e = cc
+
+-- what one command keeps
+fit_as : {X : Type 0} (make : X → Wanted) (o : Option X) (w : Wanted) → ((x : X) → o ≡ Some x → IsFit (make x)) → option_map make o ≡ Some w → IsFit w
+fit_as make (Some x) w fits e =
+    let same : w ≡ make x = cc in
+    subst IsFit (sym same) (fits x refl)
+fit_as make None w fits e = cc
+
+fit_in : (name : Text) (given : List Row) (w : Wanted) → wanted_in name given ≡ Some w → IsFit w
+fit_in name given w =
+    one_or (bytes_eq name (codes "encode")) _ _ w (fit_as Encode (encode_in given) w (encode_fit given))
+    (none_left w)
+
+fit_by : (command : Option (Text × List Row)) (w : Wanted) → wanted_by command ≡ Some w → IsFit w
+fit_by None w e = cc
+fit_by (Some command) w e = fit_in command.0 command.1 w e
+
+faultless : (kinds : Kinds) (o : Option Wanted) (w : Wanted) → cond (is_faultless kinds) o None ≡ Some w → o ≡ Some w
+faultless [] o w e = e
+faultless (kind ∷ kinds) o w e = cc
+
+-- the names of what is asked for are different, and its numbers are within their ranges
+pub taken_is_fit : (words : List Text) (w : Wanted) → taken_of words ≡ Some w → IsFit w
+unfolding taken_of
+taken_is_fit words w e = fit_by (subcommand_of program_app words) w (faultless (fault_of program_app words) _ w e)

@@ -1,0 +1,6 @@
+pub mod Rules
+pub mod Digits
+pub mod Names
+pub mod OptionWords
+pub mod EncodeWords
+pub mod Taken

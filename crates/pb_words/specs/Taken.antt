@@ -1,0 +1,38 @@
+-- Which words the program takes, and what they ask for: those in which clap finds no fault, by its own definitions.
+use Rattle.std.specs.Prelude.{Bool, true, false, List, [], ◌∷◌, Option, None, if◌then◌else◌, codes, option_map, option_and_then}
+use Rattle.std.specs.Str.{bytes_eq}
+use Rattle.clap.specs.Words.{App, Kinds, Row, Text, fault_of, subcommand_of}
+use Rattle.pb_words.specs.declared.request.Request.{Request}
+use Rattle.pb_words.specs.declared.request.Request.TheVariants as request
+use Rattle.pb_words.specs.EncodeWords.{as_encode_words, encode_app, encode_in, EncodeWords}
+use Rattle.pb_words.specs.Rules.{program_of}
+
+-- the commands
+abbrev pub program_app : App
+program_app = program_of (codes "pbcnf") (encode_app ∷ [])
+
+-- what is asked for
+pub data Wanted : Type 0 where
+  Encode : EncodeWords → Wanted
+
+-- what the command of this name is asked for, to which these arguments were given
+abbrev pub wanted_in : Text → List Row → Option Wanted
+wanted_in name given = if bytes_eq name (codes "encode") then option_map Encode (encode_in given) else None
+
+-- the same, of the command that was given
+abbrev pub wanted_by : Option (Text × List Row) → Option Wanted
+wanted_by = option_and_then (λ command. wanted_in command.0 command.1)
+
+-- no fault is found
+abbrev pub is_faultless : Kinds → Bool
+is_faultless [] = true
+is_faultless (kind ∷ kinds) = false
+
+-- what the words ask for, the program's name first, where clap finds no fault in them
+unfoldable pub taken_of : List Text → Option Wanted
+taken_of words =
+    if is_faultless (fault_of program_app words) then wanted_by (subcommand_of program_app words) else None
+
+-- what a request says
+abbrev pub wanted_as : Request → Wanted
+wanted_as (request.Encode e) = Encode (as_encode_words e)

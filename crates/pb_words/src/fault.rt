@@ -1,0 +1,25 @@
+//! Why no request was taken from the words.
+ghost use Rattle.std.specs.Prelude.{◌≡◌};
+ghost use Rattle.pb_words.specs.declared.fault.WordsFault.TheVariants.{NoMemory};
+
+use std::alloc::AllocError;
+use thiserror::Error;
+
+/// Why no request was taken from the words.
+#[derive(Clone, Copy, PartialEq, Eq, Debug, Error)]
+pub enum WordsFault {
+    /// The words are none that the program takes.
+    #[error("usage: encode, check, decode, probe or bench")]
+    Usage,
+    /// An allocation was refused.
+    #[error("out of memory")]
+    NoMemory,
+}
+
+impl From<AllocError> for WordsFault {
+    ghost from_gives = { λ _ fault. fault ≡ NoMemory };
+
+    fn from(_: AllocError) -> Self {
+        WordsFault::NoMemory
+    }
+}

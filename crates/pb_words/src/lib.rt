@@ -1,0 +1,19 @@
+//! The words of the command line, and what they ask for.
+#![tactic(auto)]
+
+mod argument;
+mod digits;
+mod encode;
+mod fault;
+mod line;
+mod options;
+mod program;
+mod request;
+
+pub use encode::Encoding;
+pub use fault::WordsFault;
+pub use line::taken;
+pub use request::Request;
+
+#[cfg(test)]
+mod tests;

@@ -1,0 +1,55 @@
+//! The request that a command line makes.
+ghost use Rattle.std.specs.Prelude.{◌≡◌, ◌≢◌, IfOk, IsErrOf, None, Some, map, option_map, string_bytes};
+ghost use Rattle.clap.specs.Words.{found_of, kind_of, rows_of, subcommand_rows_of};
+ghost use Rattle.pb_words.specs.Taken.{taken_of, wanted_as, wanted_by, wanted_in};
+
+use crate::encode::encoding_in;
+use crate::fault::WordsFault;
+use crate::program::program;
+use crate::request::Request;
+use clap::ArgMatches;
+use clap::error::ErrorKind;
+use std::alloc::Global;
+
+// What a command of this name was asked for.
+fn request_in<'a>(name: &str, given: &ArgMatches<'a>) -> Option<Request<'a>>
+    ensures { option_map wanted_as result ≡ wanted_in name.now (rows_of (found_of given.now)) }
+{
+    match name {
+        "encode" => Some(Request::Encode(encoding_in(given)?)),
+        _ => None,
+    }
+}
+
+// What the command that was given was asked for.
+fn request_by<'a>(matches: &ArgMatches<'a>) -> Option<Request<'a>>
+    ensures { option_map wanted_as result ≡ wanted_by (subcommand_rows_of matches.now) }
+{
+    let (name, given) = matches.subcommand()?;
+    request_in(name, given)
+}
+
+// Words that clap does not take are none of the program's, unless memory was wanting.
+fn fault_of(error: &clap::Error) -> WordsFault
+    ensures { result ≡ WordsFault.Usage → kind_of error.now ≢ ErrorKind.OutOfMemory }
+{
+    if error.kind() == ErrorKind::OutOfMemory {
+        WordsFault::NoMemory
+    } else {
+        WordsFault::Usage
+    }
+}
+
+/// What the words ask for; they begin with the program's name. `Usage` where they are none that
+/// the program takes.
+pub fn taken<'a>(alloc: Global, words: &'a [String]) -> Result<Request<'a>, WordsFault>
+    ensures asked { IfOk result (λ r. taken_of (map string_bytes words.entry.now) ≡ Some (wanted_as r)) }
+    ensures usage { IsErrOf result WordsFault.Usage → taken_of (map string_bytes words.entry.now) ≡ None }
+{
+    let program = program(alloc)?;
+    let matches = match program.try_get_matches_from(words) {
+        Ok(matches) => matches,
+        Err(error) => return Err(fault_of(&error)),
+    };
+    request_by(&matches).ok_or(WordsFault::Usage)
+}

@@ -1,0 +1,104 @@
+// The options of an encoding, in words.
+ghost use Rattle.std.specs.Prelude.{◌≡◌, IfOk};
+ghost use Rattle.clap.specs.Words.{found_of, rows_of};
+ghost use Rattle.pb_words.specs.Rules.{AddsRules};
+ghost use Rattle.pb_words.specs.OptionWords.{amo_in, amo_of, budget_in, card_in, card_of, general_in, general_of, option_rules, options_in};
+
+use crate::argument::{option, word_of};
+use crate::digits::number_within;
+use clap::{ArgMatches, Command};
+use pb_choice::{Amo, Card, General, MAX_BUDGET, Options};
+use std::alloc::{AllocError, Global};
+
+/// A command that takes the options besides.
+pub fn with_options<'a>(alloc: Global, command: Command<'a>) -> Result<Command<'a>, AllocError>
+    ensures { IfOk result (AddsRules option_rules command.entry) }
+{
+    command
+        .arg(option(alloc, "amo"))?
+        .arg(option(alloc, "card"))?
+        .arg(option(alloc, "general"))?
+        .arg(option(alloc, "budget"))
+}
+
+fn amo_of(word: &str) -> Option<Amo>
+    ensures { result ≡ amo_of word.now }
+{
+    match word {
+        "auto" => Some(Amo::Auto),
+        "pairwise" => Some(Amo::Pairwise),
+        "ladder" => Some(Amo::Ladder),
+        "product" => Some(Amo::Product),
+        _ => None,
+    }
+}
+
+fn card_of(word: &str) -> Option<Card>
+    ensures { result ≡ card_of word.now }
+{
+    match word {
+        "auto" => Some(Card::Auto),
+        "counter" => Some(Card::Counter),
+        "totalizer" => Some(Card::Totalizer),
+        _ => None,
+    }
+}
+
+fn general_of(word: &str) -> Option<General>
+    ensures { result ≡ general_of word.now }
+{
+    match word {
+        "diagram" => Some(General::Diagram),
+        "tree" => Some(General::Tree),
+        "adder" => Some(General::Adder),
+        _ => None,
+    }
+}
+
+fn amo_in(given: &ArgMatches<'_>) -> Option<Amo>
+    ensures { result ≡ amo_in (rows_of (found_of given.now)) }
+{
+    match word_of(given, "amo") {
+        Some(word) => amo_of(word),
+        None => Some(Options::default().amo),
+    }
+}
+
+fn card_in(given: &ArgMatches<'_>) -> Option<Card>
+    ensures { result ≡ card_in (rows_of (found_of given.now)) }
+{
+    match word_of(given, "card") {
+        Some(word) => card_of(word),
+        None => Some(Options::default().card),
+    }
+}
+
+fn general_in(given: &ArgMatches<'_>) -> Option<General>
+    ensures { result ≡ general_in (rows_of (found_of given.now)) }
+{
+    match word_of(given, "general") {
+        Some(word) => general_of(word),
+        None => Some(Options::default().general),
+    }
+}
+
+fn budget_in(given: &ArgMatches<'_>) -> Option<u64>
+    ensures { result ≡ budget_in (rows_of (found_of given.now)) }
+{
+    match word_of(given, "budget") {
+        Some(word) => number_within(word, 1, MAX_BUDGET),
+        None => Some(Options::default().budget),
+    }
+}
+
+/// The options that a command was given.
+pub fn options_in(given: &ArgMatches<'_>) -> Option<Options>
+    ensures { result ≡ options_in (rows_of (found_of given.now)) }
+{
+    Some(Options {
+        amo: amo_in(given)?,
+        card: card_in(given)?,
+        general: general_in(given)?,
+        budget: budget_in(given)?,
+    })
+}
