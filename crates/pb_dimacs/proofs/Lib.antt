@@ -3,3 +3,10 @@ pub mod NumberLemmas
 pub mod Unique
 pub mod WordLemmas
 pub mod Written
+pub mod Holding
+pub mod Lines
+pub mod RowLemmas
+pub mod CutLemmas
+pub mod CursorLemmas
+pub mod NextLemmas
+pub mod StartLemmas

@@ -1,5 +1,12 @@
-pub mod Lines
 pub mod CnfText
 pub mod CnfReading
 pub mod CnfLaws
 pub mod CnfExamples
+pub mod CnfHeads
+pub mod CnfRows
+pub mod CnfSymbols
+pub mod Cursors
+pub mod CnfReaders
+pub mod CnfReaderExamples
+pub mod Outboxes
+pub mod Writing

@@ -1,6 +1,7 @@
 //! CNF text, appended to bytes.
 ghost use Rattle.std.specs.Prelude.{◌≡◌, ◌++◌, OnOk, decimal};
-ghost use Rattle.pb_dimacs.specs.CnfText.{clause_text, header_text, literal_text};
+ghost use Rattle.pb_family.specs.ClauseText.{clause_text, literal_text};
+ghost use Rattle.pb_dimacs.specs.CnfText.{header_text};
 
 use itoa::Buffer;
 use pb_base::Lit;
