@@ -9,7 +9,8 @@ use Rattle.pb_norm.specs.declared.reduction.Rest.TheVariants as rest
 use Rattle.pb_norm.specs.Constraints.{Constraint}
 use Rattle.pb_norm.specs.Halves.{loaded}
 use Rattle.pb_norm.specs.Reduction.{units_of, rest_of}
-use Rattle.pb_dimacs.specs.CnfText.{header_text, clauses_text}
+use Rattle.pb_family.specs.ClauseText.{clauses_text}
+use Rattle.pb_dimacs.specs.CnfText.{header_text}
 use Rattle.pb_encode.specs.Clauses.{rest_clauses, rest_count, unit_clause, constraint_clauses, clauses_of, clause_count, clause_total}
 use Rattle.pb_encode.specs.Encodings.{problem_text}
 

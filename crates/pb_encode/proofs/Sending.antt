@@ -13,7 +13,7 @@ use Rattle.pb_desk.proofs.Rooms.{lacks_room-wrote}
 use Rattle.pb_norm.specs.Constraints.{Constraint}
 use Rattle.pb_norm.specs.Halves.{constraints_of, loaded}
 use Rattle.pb_norm.proofs.Loaded.{loaded_more}
-use Rattle.pb_dimacs.specs.CnfText.{clause_text, clauses_text}
+use Rattle.pb_family.specs.ClauseText.{clause_text, clauses_text}
 use Rattle.pb_encode.specs.declared.fault.EncodeFault.{EncodeFault}
 use Rattle.pb_encode.specs.declared.fault.EncodeFault.TheVariants as fault
 use Rattle.pb_encode.specs.Clauses.{clauses_of, constraint_clauses}

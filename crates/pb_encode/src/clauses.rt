@@ -2,7 +2,7 @@
 ghost use Rattle.std.specs.Prelude.{◌≡◌, ◌++◌, ◌^◌, IsSome, OnOk, All};
 ghost use Rattle.pb_base.specs.Problems.{StaysBelow};
 ghost use Rattle.pb_norm.specs.Halves.{half_of, constraints_of};
-ghost use Rattle.pb_dimacs.specs.CnfText.{clauses_text};
+ghost use Rattle.pb_family.specs.ClauseText.{clauses_text};
 ghost use Rattle.pb_encode.specs.Clauses.{clauses_of, constraint_clauses, reduced_clauses};
 
 use pb_base::{NoMemory, Raw};

@@ -1,5 +1,5 @@
 use Rattle.std.proofs.Common.{◌≡◌, ◌++◌, take, map}
-use Rattle.pb_dimacs.specs.CnfText.{clauses_text}
+use Rattle.pb_family.specs.ClauseText.{clauses_text}
 use Rattle.pb_encode.specs.Clauses.{unit_clause}
 use Rattle.pb_encode.proofs.clauses.push_reduced.Given as goal
 

@@ -1,6 +1,6 @@
 use Rattle.std.proofs.Common.{◌≡◌, ◌++◌, take, map}
 use Rattle.pb_norm.specs.Halves.{half_of}
-use Rattle.pb_dimacs.specs.CnfText.{clauses_text}
+use Rattle.pb_family.specs.ClauseText.{clauses_text}
 use Rattle.pb_encode.specs.Clauses.{clauses_of}
 use Rattle.pb_encode.proofs.clauses.push_statement.Given as goal
 

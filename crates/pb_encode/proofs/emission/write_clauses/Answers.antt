@@ -2,7 +2,7 @@ use Rattle.std.proofs.Common.{◌++◌, ℕ, List, length, subst}
 use Rattle.pb_desk.specs.View.{wrote}
 use Rattle.pb_desk.specs.Desk.{Reaches, StopsIn, LacksRoom, written}
 use Rattle.pb_norm.specs.Halves.{loaded}
-use Rattle.pb_dimacs.specs.CnfText.{clauses_text}
+use Rattle.pb_family.specs.ClauseText.{clauses_text}
 use Rattle.pb_encode.specs.declared.fault.EncodeFault.TheVariants as fault
 use Rattle.pb_encode.specs.Clauses.{clauses_of}
 use Rattle.pb_encode.specs.Emission.{Stops}

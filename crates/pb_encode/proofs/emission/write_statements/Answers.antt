@@ -2,7 +2,7 @@ use Rattle.std.proofs.Common.{◌≡◌, ◌++◌, ◌+◌, ℕ, List, take, dro
 use Rattle.std.proofs.lemmas.List.{append-nil}
 use Rattle.pb_desk.specs.Desk.{LacksRoom, written}
 use Rattle.pb_norm.specs.Halves.{constraints_of, loaded}
-use Rattle.pb_dimacs.specs.CnfText.{clauses_text}
+use Rattle.pb_family.specs.ClauseText.{clauses_text}
 use Rattle.pb_encode.specs.declared.fault.EncodeFault.TheVariants as fault
 use Rattle.pb_encode.specs.Clauses.{clauses_of}
 use Rattle.pb_encode.specs.Emission.{IsSent, Stops}

@@ -1,6 +1,6 @@
 use Rattle.std.proofs.Common.{◌++◌, take}
 use Rattle.pb_norm.specs.Halves.{loaded}
-use Rattle.pb_dimacs.specs.CnfText.{clauses_text}
+use Rattle.pb_family.specs.ClauseText.{clauses_text}
 use Rattle.pb_encode.specs.Clauses.{clauses_of}
 use Rattle.pb_encode.specs.Emission.{IsSent}
 use Rattle.pb_encode.proofs.emission.write_statements.Given as goal
