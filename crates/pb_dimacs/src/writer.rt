@@ -9,7 +9,7 @@ use pb_desk::Desk;
 use pb_family::ClauseSink;
 use std::alloc::Global;
 
-/// Writes clauses to a slot, a line each, by pieces of up to 64 KiB. What was taken is written once `finish` was called.
+/// Writes clauses to a slot, a line each, by pieces of up to 64 KiB. What was taken is written once `flush` was called.
 #[derive(Drop)]
 pub struct ClauseWriter<'a, D: Desk> {
     desk: &'a mut D,
