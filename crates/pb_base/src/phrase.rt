@@ -34,7 +34,6 @@ impl fmt::Display for LimitKind {
             LimitKind::Line => "line",
             LimitKind::Lines => "lines",
             LimitKind::Number => "number",
-            LimitKind::Family => "family",
         })
     }
 }

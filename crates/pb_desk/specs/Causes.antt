@@ -1,4 +1,4 @@
--- When a count of faults says that something failed.
+-- When a count of faults says that something failed (our own).
 use Rattle.std.specs.Prelude.{ℕ, ◌-◌, ◌^◌, ◌<◌, ◌≡◌, ◌⊎◌}
 
 -- the count is greater than before, or stands at its last value

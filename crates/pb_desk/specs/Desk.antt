@@ -1,4 +1,4 @@
--- How a call leaves a desk.
+-- How a call leaves a desk (our own).
 use Rattle.std.specs.Prelude.{ℕ, ◌+◌, ◌≤◌, ◌<◌, ◌≡◌, ◌⊎◌, false, List, [], ◌∷◌, take, length, is_some, IsSome, IfSome, IsSomeAnd, IsTrue, All}
 use Rattle.std.specs.declared.option.Option.TheVariants.{Some}
 use Rattle.pb_desk.specs.Causes.{Rose}

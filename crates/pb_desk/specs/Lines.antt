@@ -1,4 +1,4 @@
--- The lines of a text.
+-- The lines of a text, each ended by LF or by the end of the text (POSIX, but that a last line needs no LF).
 use Rattle.std.specs.Prelude.{◌≡◌, ◌<◌, ℕ, ◌==◌, if◌then◌else◌, List, [], ◌∷◌, length, All, false}
 
 -- the lines, with a byte more at the start of the first

@@ -1,4 +1,4 @@
--- The files of a desk in memory, and which of its calls fail.
+-- The files of a desk in memory, and which of its calls fail (our own).
 use Rattle.std.specs.Prelude.{ℕ, ◌+◌, ◌-◌, ◌^◌, min, Bool, ◌==◌, if◌then◌else◌, List, [], ◌∷◌, drop, Option, Some, None, slice_get}
 use Rattle.std.specs.List.{list_any}
 use Rattle.std.specs.Option.{option_map_or}

@@ -1,4 +1,4 @@
--- What a desk shows, but for its counts of faults, and what each call makes of it.
+-- What a desk shows, but for its counts of faults, and what each call makes of it (our own).
 use Rattle.std.specs.Prelude.{ℕ, Bool, true, false, ◌==◌, if◌then◌else◌, List, [], ◌∷◌, ◌++◌, drop}
 use Rattle.std.specs.Option.{option_map, unwrap_or}
 use Rattle.std.specs.declared.option.Option.{Option}

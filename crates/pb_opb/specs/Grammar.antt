@@ -1,4 +1,4 @@
--- OPB text, by what its tokens stand for.
+-- OPB text, by what its tokens stand for: the linear part of the format of the Pseudo-Boolean Competitions (Roussel and Manquinho).
 use Rattle.std.specs.Prelude.{ℕ, max, List, [], ◌∷◌, ◌++◌, ℤ, Option, Some, None, Bool, true, false, codes, ◌==◌, if◌then◌else◌}
 use Rattle.std.specs.List.{flat_map}
 use Rattle.std.specs.Str.{bytes_eq}

@@ -1,4 +1,4 @@
--- How great a problem may be.
+-- How great a problem may be (our own).
 use Rattle.std.specs.Prelude.{◌≡◌, ℕ, ◌+◌, ◌<◌, ◌≤◌, ◌^◌, List, ◌++◌, length, unsigned_abs, IfSome}
 use Rattle.std.specs.List.{AllByRecursion}
 use Rattle.pb_base.specs.declared.literal.Term.{Term}

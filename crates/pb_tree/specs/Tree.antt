@@ -1,4 +1,4 @@
--- Trees that split a list of terms in halves.
+-- Trees that split a list of terms in halves (as in Bailleux and Boufkhad 2003).
 use Rattle.std.specs.Prelude.{◌≡◌, ◌⊎◌, ℕ, zero, suc, ◌+◌, ◌/◌, List, [], ◌∷◌, length, take, drop}
 use Rattle.pb_norm.specs.Constraints.{Weighted}
 

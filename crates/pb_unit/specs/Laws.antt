@@ -1,4 +1,4 @@
--- What follows from what an engine answers.
+-- What follows from what an engine answers (our own).
 use Rattle.std.specs.Prelude.{◌≡◌, ◌↔◌, ℕ, true, List, Contains, map}
 use Rattle.pb_base.specs.declared.literal.Lit.{Lit}
 use Rattle.pb_base.specs.Literals.{negated, is_among}

@@ -1,4 +1,4 @@
--- What the answers of propagation mean.
+-- What the answers of propagation mean, by what is reached (Chai and Kuehlmann 2005).
 use Rattle.std.specs.Prelude.{◌≡◌, ◌↔◌, true}
 use Rattle.pb_base.specs.declared.literal.Lit.{Lit}
 use Rattle.pb_base.specs.Literals.{is_among}

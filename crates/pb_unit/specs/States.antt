@@ -1,4 +1,4 @@
--- What an engine holds, as contracts see it.
+-- What an engine holds, as contracts see it (our own).
 use Rattle.std.specs.Prelude.{◌≡◌, ◌≤◌, ◌<◌, ℕ, true, if◌then◌else◌, List, [], ◌∷◌, Some, slice_get, All}
 use Rattle.pb_base.specs.declared.literal.Lit.{Lit}
 use Rattle.pb_base.specs.Literals.{is_among}
