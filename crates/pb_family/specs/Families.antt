@@ -1,4 +1,4 @@
--- What is said of the clauses that stand for a bounded sum.
+-- What is said of the clauses that stand for a bounded sum (our own).
 use Rattle.std.specs.Prelude.{ℕ, ◌+◌, ◌≤◌, ◌<◌, ◌⊎◌, List, All, Contains, length}
 use Rattle.pb_base.specs.declared.literal.Lit.{Lit}
 use Rattle.pb_norm.specs.Constraints.{Weighted}

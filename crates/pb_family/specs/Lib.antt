@@ -2,3 +2,4 @@ pub mod ClauseText
 pub mod Families
 pub mod Fresh
 pub mod Sinks
+pub mod TextSinks

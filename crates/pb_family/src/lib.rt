@@ -4,7 +4,11 @@
 mod family;
 mod fresh;
 mod sink;
+mod text;
+mod text_sink;
 
 pub use family::{Built, Family, Strong};
 pub use fresh::fresh_at;
 pub use sink::{ClauseSink, SinkFault, take_pair};
+pub use text::push_clause;
+pub use text_sink::TextSink;
