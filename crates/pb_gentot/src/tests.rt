@@ -1,60 +1,13 @@
-ghost use Rattle.std.specs.Prelude.{◌≡◌, ◌≤◌, ◌<◌, ◌^◌, [], false, None, IsTrue, length, nat_lt};
+ghost use Rattle.std.specs.Prelude.{◌≡◌, ◌≤◌, ◌<◌, ◌^◌, IsTrue, length, nat_lt};
 ghost use Rattle.std.specs.List.{list_all};
 ghost use Rattle.pb_norm.specs.Constraints.{weight, weights};
 ghost use Rattle.pb_family.specs.Families.{VarsBelow};
-ghost use Rattle.pb_desk.specs.View.{View};
-ghost use Rattle.pb_desk.specs.Desk.{DeskState};
-ghost use Rattle.pb_family.specs.Sinks.{SinkState};
 
 use super::Weighted;
-use pb_base::{Failed, Lit, Raw, Relation, Term, Terms, Var};
-use pb_family::{Built, ClauseSink, Family};
+use pb_base::{Lit, Raw, Relation, Term, Terms, Var};
+use pb_family::{Built, ClauseSink, Family, TextSink};
 use pb_norm::{AtMost, Half, Rest, normalize, reduce};
 use std::test::Fail;
-
-// Clauses as numbers, each with a 0 at its end; what passes the room is left out.
-#[derive(Drop)]
-struct Collected {
-    numbers: [i64; 64],
-    count: usize,
-    ghost room: { count ≤ 64 },
-}
-
-impl Collected {
-    fn new() -> Self {
-        Collected {
-            numbers: [0; 64],
-            count: 0,
-        }
-    }
-
-    fn push(&mut self, number: i64) {
-        if self.count < 64 {
-            self.numbers[self.count] = number;
-            self.count += 1;
-        }
-    }
-
-    fn numbers(&self) -> &[i64] {
-        &self.numbers[..self.count]
-    }
-}
-
-impl ClauseSink for Collected {
-    ghost Rest = { Unit {0} };
-
-    // It tells nothing.
-    ghost state = { λ _. record { desk = record { view = record { reading = λ _. false; writing = λ _. false; told = None; room = None; steady = false }; read_faults = 0; write_faults = 0 }; slot = 0; held = []; rest = tt } };
-
-    fn clause(&mut self, clause: &[Lit]) -> Result<(), Failed> {
-        for lit in clause {
-            let number = i64::from(lit.index());
-            self.push(if lit.positive { number } else { -number });
-        }
-        self.push(0);
-        Ok(())
-    }
-}
 
 // A weight where the variable is false.
 fn negative(index: u32, weight: i128) -> Term
@@ -126,12 +79,19 @@ fn three_terms(rt: HostRuntime) -> Result<(), Fail> {
     };
     assert_eq!(rt; weighted.fresh(), 8);
     assert_eq!(rt; weighted.clauses(), 11);
-    let mut sink = Collected::new();
+    let mut sink = TextSink::new(alloc);
     weighted.emit(alloc, 4, &mut sink)?;
-    let expected = [
-        -2, 5, 0, -3, 4, 0, -2, -3, 6, 0, -1, 9, 0, -4, 7, 0, -5, 8, 0, -6, 10, 0, -1, -4, 11, 0,
-        -1, -5, 11, 0, -1, -6, 11, 0, -11, 0,
-    ];
-    assert_eq!(rt; sink.numbers(), expected.as_slice());
+    let expected = b"-2 5 0\n\
+-3 4 0\n\
+-2 -3 6 0\n\
+-1 9 0\n\
+-4 7 0\n\
+-5 8 0\n\
+-6 10 0\n\
+-1 -4 11 0\n\
+-1 -5 11 0\n\
+-1 -6 11 0\n\
+-11 0\n";
+    assert_eq!(rt; sink.text(), expected.as_slice());
     Ok(())
 }
