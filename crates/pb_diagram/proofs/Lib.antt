@@ -1,0 +1,11 @@
+pub mod Children
+pub mod DiagramSteps
+pub mod Intervals
+pub mod Joins
+pub mod KnownFacts
+pub mod LevelSteps
+pub mod Places
+pub mod SameNodes
+pub mod SearchEnds
+pub mod SearchReads
+pub mod SearchSteps

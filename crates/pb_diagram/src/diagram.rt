@@ -1,0 +1,142 @@
+//! A bounded sum with any coefficients, by an interval diagram.
+ghost use Rattle.std.specs.Prelude.{◌≡◌, ◌<◌, ◌^◌, IfOk};
+ghost use Rattle.pb_norm.specs.Constraints.{weight, weights};
+ghost use Rattle.pb_norm.specs.BoundedSums.{IsProper, sum_within};
+ghost use Rattle.pb_diagram.specs.Clauses.{diagram_clauses, diagram_fresh, diagram_size};
+ghost use Rattle.pb_diagram.specs.Levels.{levels_of};
+
+use crate::counts::{count_clauses, count_nodes};
+use crate::emission::emit_whole;
+use crate::known::Known;
+use crate::level::Level;
+use crate::search::known_levels;
+use pb_base::{NoMemory, Term};
+use pb_family::{Built, ClauseSink, Family, SinkFault, Strong};
+use pb_norm::AtMost;
+use std::alloc::{AllocError, Global};
+
+/// The interval diagram of a sum (Abío and others 2012). A residue is what the terms from a level on may add up to, and each
+/// level has a node, which is a fresh variable, for each interval of residues that come to the same. Where a node is true, so is
+/// its false child, with the same residue, and where the level's literal is true as well, so is its true child, with the
+/// coefficient less.
+#[derive(Drop)]
+pub struct Diagram {
+    terms: Vec<Term>,
+    bound: u128,
+    levels: Vec<Level>,
+    fresh: u64,
+    clauses: u64,
+    ghost proper: { IsProper (sum_within terms.items bound) },
+    ghost light: { weight (weights terms.items) < 2 ^ 100 },
+    ghost nodes: { levels.items ≡ levels_of (sum_within terms.items bound) },
+    ghost fresh_is: { fresh ≡ diagram_fresh (sum_within terms.items bound) },
+    ghost clauses_is: { clauses ≡ diagram_size (sum_within terms.items bound) },
+}
+
+/// The levels, with the nodes of each in a list. Each map is given up once its nodes are listed.
+fn listed(alloc: Global, known: Vec<Known>) -> Result<Vec<Level>, AllocError>
+    ensures { IfOk result (λ ls. ls.items ≡ known.items) }
+{
+    let mut levels = Vec::new(alloc);
+    for level in known {
+        levels.push(Level::from_vec(level.intervals(alloc)?))?;
+    }
+    Ok(levels)
+}
+
+impl Diagram {
+    ghost use Rattle.std.specs.Prelude.{◌≡◌, ◌<◌, ◌^◌, ℕ, IfOk};
+    ghost use Rattle.pb_norm.specs.Constraints.{weight};
+    ghost use Rattle.pb_tree.specs.Budgets.{IsOverExactly, IfFits};
+
+    /// The diagram of a sum, if it has no more nodes than the budget. The search holds at most one node over the budget, and
+    /// takes at most two steps for each node of the budget and one for each term.
+    pub fn build(alloc: Global, of: &AtMost, budget: u64) -> Result<Built<Diagram>, NoMemory>
+        requires light { weight of.now.terms < 2 ^ 100 }
+        requires modest { budget < 2 ^ 31 }
+        ensures over { IfOk result (λ built. IsOverExactly (diagram_fresh of.now) budget built) }
+        ensures constraint { IfOk result (λ built. IfFits (λ t. ⟦<Diagram as Family>⟧.constraint t ≡ of.now) built) }
+        ensures fresh { IfOk result (λ built. IfFits (λ t. ⟦<Diagram as Family>⟧.fresh_count t ≡ diagram_fresh of.now) built) }
+        ensures clauses { IfOk result (λ built. IfFits (λ t. ⟦<Diagram as Family>⟧.clause_count t ≡ diagram_size of.now) built) }
+        ensures list { IfOk result (λ built. IfFits (λ t. (first : ℕ) → ⟦<Diagram as Family>⟧.clause_list t first ≡ diagram_clauses of.now first) built) }
+    {
+        let bound = of.bound();
+        let known = match known_levels(alloc, of, budget)? {
+            Some(known) => known,
+            None => return Ok(Built::Over),
+        };
+        let levels = listed(alloc, known)?;
+        let mut terms = Vec::new(alloc);
+        terms.extend_from_slice(of.terms())?;
+        let fresh = count_nodes(levels.as_slice());
+        let clauses = count_clauses(terms.as_slice(), bound, levels.as_slice());
+        Ok(Built::Fits(Diagram {
+            terms,
+            bound,
+            levels,
+            fresh,
+            clauses,
+        }))
+    }
+}
+
+impl Family for Diagram {
+    ghost use Rattle.std.specs.Prelude.{◌≡◌, ◌≢◌, ◌≤◌, ◌<◌, ◌+◌, ◌^◌, ℕ, List, length, OnOk, IfErr, Err};
+    ghost use Rattle.pb_base.specs.declared.literal.Lit.{Lit};
+    ghost use Rattle.pb_norm.specs.BoundedSums.{BoundedSum, sum_within};
+    ghost use Rattle.pb_family.specs.ClauseText.{clauses_text};
+    ghost use Rattle.pb_family.specs.Families.{VarsBelow};
+    ghost use Rattle.pb_family.specs.Sinks.{Stops, Takes};
+    ghost use Rattle.pb_diagram.specs.Clauses.{diagram_clauses, diagram_fresh, diagram_size};
+    ghost use Rattle.pb_diagram.specs.DiagramLaws.{diagram_sound, diagram_extends, diagram_counts, diagram_names};
+
+    ghost constraint = { λ f. sum_within f.terms.items f.bound };
+
+    ghost fresh_count = { λ f. diagram_fresh (sum_within f.terms.items f.bound) };
+
+    ghost clause_count = { λ f. diagram_size (sum_within f.terms.items f.bound) };
+
+    ghost clause_list = { λ f first. diagram_clauses (sum_within f.terms.items f.bound) first };
+
+    fn fresh(&self) -> u64 {
+        self.fresh
+    }
+
+    fn clauses(&self) -> u64 {
+        self.clauses
+    }
+
+    // It takes no memory.
+    fn emit<S: ClauseSink>(&self, _alloc: Global, first: u32, sink: &mut S) -> Result<(), SinkFault>
+        requires original { VarsBelow first (⟦<Diagram as Family>⟧.constraint self.now).terms }
+        requires low { 1 ≤ first }
+        requires fits { first + ⟦<Diagram as Family>⟧.fresh_count self.now ≤ 2 ^ 31 }
+        ensures ok { OnOk result (Takes (clauses_text (⟦<Diagram as Family>⟧.clause_list self.now first)) (S.state sink.old) (S.state sink.new)) }
+        ensures stops { IfErr result (Stops (clauses_text (⟦<Diagram as Family>⟧.clause_list self.now first)) (S.state sink.old) (S.state sink.new)) }
+        ensures never { result ≢ Err SinkFault.NoMemory }
+    {
+        emit_whole(
+            self.terms.as_slice(),
+            self.bound,
+            self.levels.as_slice(),
+            first,
+            sink,
+        )?;
+        Ok(())
+    }
+
+    ghost sound = { λ f first below a model. diagram_sound (sum_within f.terms.items f.bound) f.proper first a model };
+
+    ghost extends = { λ f first below a holds. diagram_extends (sum_within f.terms.items f.bound) f.proper first below a holds };
+
+    ghost counts = { λ f first. diagram_counts (sum_within f.terms.items f.bound) first };
+
+    ghost names = { λ f first. diagram_names (sum_within f.terms.items f.bound) f.proper first };
+}
+
+impl Strong for Diagram {
+    ghost use Rattle.pb_norm.specs.BoundedSums.{sum_within};
+    ghost use Rattle.pb_diagram.specs.DiagramLaws.{diagram_propagates};
+
+    ghost propagates = { λ f first below. diagram_propagates (sum_within f.terms.items f.bound) f.proper first };
+}

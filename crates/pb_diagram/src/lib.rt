@@ -1,0 +1,18 @@
+//! Interval diagrams (Abío, Nieuwenhuis, Oliveras, Rodríguez-Carbonell and Mayer-Eichberger 2012): a bounded sum with any
+//! coefficients, with a node for each interval of what the terms from a level on may still add up to.
+#![tactic(auto)]
+
+mod counts;
+mod diagram;
+mod emission;
+mod interval;
+mod known;
+mod laws;
+mod level;
+mod search;
+
+pub use diagram::Diagram;
+pub use laws::{children_are_of_nodes, nodes_are_intervals};
+
+#[cfg(test)]
+mod tests;

@@ -1,0 +1,244 @@
+//! The search for the nodes of a diagram: from the bound down to the children that are not known yet, and up again with the
+//! intervals that they give.
+ghost use Rattle.std.specs.Prelude.{[], replicate, ◌≡◌, ◌≤◌, ◌<◌, ◌+◌, ◌-◌, ◌^◌, ℕ, Contains, MatchOption, IfOk, OnOk, true, false, drop, length, sum, slice_index};
+ghost use Rattle.pb_norm.specs.Constraints.{weight};
+ghost use Rattle.pb_diagram.specs.declared.interval.Interval.{Interval};
+ghost use Rattle.pb_diagram.specs.Clauses.{node_count};
+ghost use Rattle.pb_diagram.specs.Intervals.{AreApart};
+ghost use Rattle.pb_diagram.specs.Levels.{coefs_of, levels_of};
+ghost use Rattle.pb_diagram.specs.Nodes.{LiesIn};
+ghost use Rattle.pb_diagram.specs.Search.{nodes_at, IsOff, IsOn, Looked, IsMissing, IsJoined, IsTop, IsSearching, Advanced};
+
+use crate::counts::total;
+use crate::interval::Interval;
+use crate::known::Known;
+use pb_norm::AtMost;
+use std::alloc::{AllocError, Global};
+
+/// What a look at a residue gives: its node, or a child's residue whose node is not known.
+#[derive(Clone, Copy)]
+enum Look {
+    Missing(u128),
+    Found(Interval),
+}
+
+/// The node of a level in which a residue lies, if it is known.
+fn find_at(levels: &[Known], place: usize, residue: u128) -> Option<Interval>
+    requires { AreApart (nodes_at levels.now place) }
+    ensures { MatchOption result ((h : Interval) → Contains (nodes_at levels.now place) h → ¬ LiesIn residue h) (λ g. Contains (nodes_at levels.now place) g × LiesIn residue g) }
+{
+    if place < levels.len() {
+        levels[place].find(residue)
+    } else {
+        None
+    }
+}
+
+/// What the false child says of the node in which a residue lies.
+fn off_side(
+    levels: &[Known],
+    place: usize,
+    coef: u128,
+    whole: u128,
+    residue: u128,
+) -> Option<Interval>
+    requires apart { AreApart (nodes_at levels.now place) }
+    requires fits { whole + coef < 2 ^ 100 }
+    ensures { MatchOption result ((residue < whole) × ((h : Interval) → Contains (nodes_at levels.now place) h → ¬ LiesIn residue h)) (λ off. IsOff coef whole (nodes_at levels.now place) residue off) }
+{
+    if residue < whole {
+        find_at(levels, place, residue)
+    } else {
+        Some(Interval {
+            low: whole,
+            top: whole + coef,
+        })
+    }
+}
+
+/// What the true child says of the node in which a residue lies, with the coefficient added.
+fn on_side(
+    levels: &[Known],
+    place: usize,
+    coef: u128,
+    whole: u128,
+    residue: u128,
+) -> Option<Interval>
+    requires apart { AreApart (nodes_at levels.now place) }
+    requires fits { whole + coef < 2 ^ 100 }
+    requires within { (h : Interval) → Contains (nodes_at levels.now place) h → (h.low ≤ whole) × (h.top ≤ whole) }
+    ensures { MatchOption result ((coef ≤ residue) × ((h : Interval) → Contains (nodes_at levels.now place) h → ¬ LiesIn (residue - coef) h)) (λ on. IsOn coef (nodes_at levels.now place) residue on) }
+{
+    if residue < coef {
+        return Some(Interval { low: 0, top: coef });
+    }
+    match find_at(levels, place, residue - coef) {
+        Some(interval) => Some(Interval {
+            low: coef + interval.low,
+            top: coef + interval.top,
+        }),
+        None => None,
+    }
+}
+
+/// Looks for the node in which a residue lies, over the known nodes of the next level.
+fn look_for(levels: &[Known], place: usize, coef: u128, whole: u128, residue: u128) -> Look
+    requires apart { AreApart (nodes_at levels.now place) }
+    requires fits { whole + coef < 2 ^ 100 }
+    requires within { (h : Interval) → Contains (nodes_at levels.now place) h → (h.low ≤ whole) × (h.top ≤ whole) }
+    ensures { Looked coef whole (nodes_at levels.now place) residue result }
+{
+    match off_side(levels, place, coef, whole, residue) {
+        None => Look::Missing(residue),
+        Some(off) => match on_side(levels, place, coef, whole, residue) {
+            None => Look::Missing(residue - coef),
+            Some(on) => Look::Found(Interval {
+                low: off.low.max(on.low),
+                top: off.top.min(on.top),
+            }),
+        },
+    }
+}
+
+/// The nodes that are known, and for the first levels a residue each whose node is wanted.
+#[derive(Drop)]
+struct Search {
+    levels: Vec<Known>,
+    wanted: Vec<u128>,
+
+    /// The sum of the coefficients after the levels of the residues.
+    left: u128,
+}
+
+/// The last of the residues, with its level's place and coefficient.
+#[derive(Clone, Copy)]
+struct Top {
+    place: usize,
+    coef: u128,
+    residue: u128,
+}
+
+/// Levels with no node.
+fn empty_levels(alloc: Global, count: usize) -> Result<Vec<Known>, AllocError>
+    ensures { IfOk result (λ ls. ls.items ≡ replicate count []) }
+{
+    let mut levels = Vec::new(alloc);
+    for _place in 0..count {
+        levels.push(Known::new(alloc))?;
+    }
+    Ok(levels)
+}
+
+impl Search {
+    /// No node is known, and the bound is wanted at the first level.
+    fn start(alloc: Global, of: &AtMost) -> Result<Self, AllocError>
+        requires above { of.now.bound < weight of.now.terms }
+        requires fits { weight of.now.terms < 2 ^ 100 }
+        ensures searching { IfOk result (λ s. IsSearching of.now s.levels.items s.wanted.items s.left) }
+        ensures none { IfOk result (λ s. node_count s.levels.items ≡ 0) }
+    {
+        let terms = of.terms();
+        let levels = empty_levels(alloc, terms.len())?;
+        let mut wanted = Vec::new(alloc);
+        wanted.push(of.bound())?;
+        let left = total(terms) - terms[0].weight();
+        Ok(Search {
+            levels,
+            wanted,
+            left,
+        })
+    }
+
+    /// The last residue that is wanted.
+    fn top(&self, of: &AtMost) -> Top
+        requires searching { IsSearching of.now self.now.levels.items self.now.wanted.items self.now.left }
+        requires some { 0 < length self.now.wanted.items }
+        ensures { IsTop of.now self.now.levels.items self.now.wanted.items self.now.left result }
+    {
+        let place = self.wanted.as_slice().len() - 1;
+        Top {
+            place,
+            coef: of.terms()[place].weight(),
+            residue: self.wanted.as_slice()[place],
+        }
+    }
+
+    /// A child's residue is wanted too.
+    fn want(&mut self, of: &AtMost, top: Top, child: u128) -> Result<(), AllocError>
+        requires searching { IsSearching of.now self.old.levels.items self.old.wanted.items self.old.left }
+        requires top { IsTop of.now self.old.levels.items self.old.wanted.items self.old.left top }
+        requires missing { IsMissing top.coef self.old.left (nodes_at self.old.levels.items (top.place + 1)) top.residue child }
+        ensures searching { OnOk result (IsSearching of.now self.new.levels.items self.new.wanted.items self.new.left) }
+        ensures advanced { OnOk result (Advanced false self.old.levels.items self.new.levels.items self.old.wanted.items self.new.wanted.items) }
+    {
+        self.left -= of.terms()[top.place + 1].weight();
+        self.wanted.push(child)?;
+        Ok(())
+    }
+
+    /// The node of the last residue becomes known.
+    fn join(&mut self, of: &AtMost, top: Top, interval: Interval) -> Result<(), AllocError>
+        requires searching { IsSearching of.now self.old.levels.items self.old.wanted.items self.old.left }
+        requires top { IsTop of.now self.old.levels.items self.old.wanted.items self.old.left top }
+        requires joined { IsJoined top.coef self.old.left (nodes_at self.old.levels.items (top.place + 1)) top.residue interval }
+        requires fits { sum (coefs_of of.now.terms) < 2 ^ 100 }
+        ensures searching { OnOk result (IsSearching of.now self.new.levels.items self.new.wanted.items self.new.left) }
+        ensures advanced { OnOk result (Advanced true self.old.levels.items self.new.levels.items self.old.wanted.items self.new.wanted.items) }
+    {
+        self.levels[top.place].insert(interval)?;
+        self.wanted.pop();
+        self.left += top.coef;
+        Ok(())
+    }
+
+    /// Looks at the last residue. Its node becomes known, or a child's residue is wanted too. Tells whether a node became known.
+    fn advance(&mut self, of: &AtMost) -> Result<bool, AllocError>
+        requires searching { IsSearching of.now self.old.levels.items self.old.wanted.items self.old.left }
+        requires some { 0 < length self.old.wanted.items }
+        requires fits { sum (coefs_of of.now.terms) < 2 ^ 100 }
+        ensures searching { OnOk result (IsSearching of.now self.new.levels.items self.new.wanted.items self.new.left) }
+        ensures advanced { IfOk result (λ joined. Advanced joined self.old.levels.items self.new.levels.items self.old.wanted.items self.new.wanted.items) }
+    {
+        let top = self.top(of);
+        match look_for(
+            &self.levels,
+            top.place + 1,
+            top.coef,
+            self.left,
+            top.residue,
+        ) {
+            Look::Missing(child) => {
+                self.want(of, top, child)?;
+                Ok(false)
+            }
+            Look::Found(interval) => {
+                self.join(of, top, interval)?;
+                Ok(true)
+            }
+        }
+    }
+}
+
+/// All nodes of each level, if they are not more than the budget.
+pub fn known_levels(
+    alloc: Global,
+    of: &AtMost,
+    budget: u64,
+) -> Result<Option<Vec<Known>>, AllocError>
+    requires above { of.now.bound < weight of.now.terms }
+    requires fits { weight of.now.terms < 2 ^ 100 }
+    requires small { budget < 2 ^ 31 }
+    ensures { IfOk result (λ found. MatchOption found (budget < node_count (levels_of of.now)) (λ ls. (ls.items ≡ levels_of of.now) × (node_count (levels_of of.now) ≤ budget))) }
+{
+    let mut search = Search::start(alloc, of)?;
+    let mut count = 0;
+    while !search.wanted.as_slice().is_empty() {
+        if search.advance(of)? {
+            count += 1;
+            if count > budget {
+                return Ok(None);
+            }
+        }
+    }
+    Ok(Some(search.levels))
+}

@@ -1,0 +1,141 @@
+ghost use Rattle.std.specs.Prelude.{◌≡◌, ◌≤◌, ◌<◌, ◌^◌, IsTrue, length, nat_lt};
+ghost use Rattle.std.specs.List.{list_all};
+ghost use Rattle.pb_norm.specs.Constraints.{weight, weights};
+ghost use Rattle.pb_family.specs.Families.{VarsBelow};
+
+use super::Diagram;
+use pb_base::{Lit, Raw, Relation, Term, Terms, Var};
+use pb_family::{Built, Family, TextSink};
+use pb_norm::{AtMost, Half, Rest, normalize, reduce};
+use std::alloc::Global;
+use std::process::Abort;
+use std::test::Fail;
+
+// A weight where the variable is false.
+fn negative(index: u32, weight: i128) -> Term
+    requires low { 1 ≤ index }
+    requires high { index < 2 ^ 31 }
+    ensures coef { result.coef ≡ weight }
+    ensures var { result.lit.var ≡ index }
+{
+    Term {
+        coef: weight,
+        lit: Lit {
+            var: Var::new(index),
+            positive: false,
+        },
+    }
+}
+
+fn weight_of(terms: &[Term]) -> u128
+    requires { weight (weights terms.now) < 2 ^ 128 }
+    ensures { result ≡ weight (weights terms.now) }
+{
+    terms.iter().map(|term| term.weight()).sum()
+}
+
+fn are_below(terms: &[Term], first: u32) -> bool
+    ensures { result ≡ list_all (λ t. nat_lt t.lit.var first) terms.now }
+{
+    terms.iter().all(|term| term.lit.index() < first)
+}
+
+fn is_short(of: &AtMost) -> bool
+    ensures { IsTrue result → length of.now.terms < 2 ^ 31 }
+{
+    of.terms().len() < 1 << 31
+}
+
+fn is_light(of: &AtMost) -> bool
+    ensures { IsTrue result → weight of.now.terms < 2 ^ 100 }
+{
+    weight_of(of.terms()) < 1 << 100
+}
+
+fn is_below(of: &AtMost, first: u32) -> bool
+    ensures { IsTrue result → VarsBelow first of.now.terms }
+{
+    are_below(of.terms(), first)
+}
+
+// Builds the diagram of a sum, and compares its numbers and its clauses with what is expected.
+fn assert_diagram(
+    rt: &impl Abort,
+    alloc: Global,
+    of: &AtMost,
+    first: u32,
+    fresh: u64,
+    clauses: u64,
+    expected: &[u8],
+) -> Result<(), Fail>
+    requires low { 1 ≤ first }
+    requires some { 1 ≤ fresh }
+    requires few { fresh ≤ 1000 }
+    requires small { first < 1000 }
+{
+    assert!(rt; is_short(of));
+    assert!(rt; is_light(of));
+    assert!(rt; is_below(of, first));
+    assert!(rt; matches!(Diagram::build(alloc, of, fresh - 1)?, Built::Over));
+    let Built::Fits(diagram) = Diagram::build(alloc, of, fresh)? else {
+        panic!(rt; "it is within its budget");
+    };
+    assert_eq!(rt; diagram.fresh(), fresh);
+    assert_eq!(rt; diagram.clauses(), clauses);
+    let mut sink = TextSink::new(alloc);
+    diagram.emit(alloc, first, &mut sink)?;
+    assert_eq!(rt; sink.text(), expected);
+    Ok(())
+}
+
+#[test]
+fn three_terms(rt: HostRuntime) -> Result<(), Fail> {
+    let alloc = rt.alloc();
+    let terms = vec![in alloc; negative(1, 4), negative(2, 3), negative(3, 2)]?;
+    let raw = Raw {
+        terms: Terms::from_vec(terms),
+        relation: Relation::AtLeast,
+        right: 4,
+    };
+    let constraint = normalize(alloc, &raw, Half::Lower)?;
+    let reduced = reduce(alloc, &constraint)?;
+    let Rest::General(of) = &reduced.rest else {
+        panic!(&rt; "its coefficients differ");
+    };
+    let expected = b"-4 -1 5 0\n\
+-5 6 0\n\
+-5 -2 0\n\
+-6 -3 0\n\
+4 0\n";
+    assert_diagram(&rt, alloc, of, 4, 3, 5, expected.as_slice())
+}
+
+#[test]
+fn residues_meet(rt: HostRuntime) -> Result<(), Fail> {
+    let alloc = rt.alloc();
+    let terms = vec![in alloc;
+        negative(1, 5),
+        negative(2, 4),
+        negative(3, 3),
+        negative(4, 3),
+    ]?;
+    let raw = Raw {
+        terms: Terms::from_vec(terms),
+        relation: Relation::AtLeast,
+        right: 7,
+    };
+    let constraint = normalize(alloc, &raw, Half::Lower)?;
+    let reduced = reduce(alloc, &constraint)?;
+    let Rest::General(of) = &reduced.rest else {
+        panic!(&rt; "its coefficients differ");
+    };
+    let expected = b"-5 7 0\n\
+-5 -1 6 0\n\
+-6 8 0\n\
+-6 -2 0\n\
+-7 -2 8 0\n\
+-8 -3 9 0\n\
+-9 -4 0\n\
+5 0\n";
+    assert_diagram(&rt, alloc, of, 5, 5, 8, expected.as_slice())
+}
