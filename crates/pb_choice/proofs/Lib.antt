@@ -1,9 +1,10 @@
 pub mod Composition
 pub mod Encoded
+pub mod FamilyCounts
 pub mod Forced
 pub mod Handing
-pub mod PlanFacts
 pub mod RestLaws
+pub mod RestTerms
+pub mod Selection
 pub mod Suits
-pub mod SumLaws
 pub mod UnitClauses

@@ -1,11 +1,10 @@
 -- How a constraint is treated: the family that is chosen for what is left of it once its units are taken.
-use Rattle.std.specs.Prelude.{ℕ, ◌≡◌, Bool, true, false, nat_lt, nat_le, length, if◌then◌else◌}
+use Rattle.std.specs.Prelude.{ℕ, ◌≡◌, nat_lt, nat_le, length, if◌then◌else◌}
 use Rattle.pb_norm.specs.declared.reduction.Rest.{Rest}
 use Rattle.pb_norm.specs.declared.reduction.Rest.TheVariants as rest
 use Rattle.pb_norm.specs.Constraints.{Constraint}
 use Rattle.pb_norm.specs.BoundedSums.{BoundedSum}
 use Rattle.pb_norm.specs.Reduction.{rest_of}
-use Rattle.pb_counter.specs.Counter.{counter_fresh}
 use Rattle.pb_choice.specs.declared.options.Amo.{Amo}
 use Rattle.pb_choice.specs.declared.options.Amo.TheVariants as amo
 use Rattle.pb_choice.specs.declared.options.Card.{Card}
@@ -15,6 +14,7 @@ use Rattle.pb_choice.specs.declared.options.General.TheVariants as general
 use Rattle.pb_choice.specs.declared.options.Options.{Options}
 use Rattle.pb_choice.specs.declared.treatment.Treatment.{Treatment}
 use Rattle.pb_choice.specs.declared.treatment.Treatment.TheVariants as treatment
+use Rattle.pb_choice.specs.Sums.{sum_fresh}
 
 -- for at most one of so many literals
 abbrev pub amo_treatment : Amo → ℕ → Treatment
@@ -35,10 +35,9 @@ general_treatment general.Diagram = treatment.Diagram
 general_treatment general.Tree = treatment.Tree
 general_treatment general.Adder = treatment.Adder
 
--- a counter that needs more fresh variables than the budget gives way to the adder
+-- a family that needs more fresh variables than the budget gives way to the adder, however large that is
 abbrev pub within_budget : ℕ → BoundedSum → Treatment → Treatment
-within_budget budget m treatment.Counter = if nat_lt budget (counter_fresh (length m.terms) m.bound) then treatment.Adder else treatment.Counter
-within_budget budget m t = t
+within_budget budget m t = if nat_lt budget (sum_fresh t m) then treatment.Adder else t
 
 -- the budget does not touch at most one
 abbrev pub treatment_of : Options → Rest → Treatment
@@ -49,14 +48,6 @@ treatment_of o (rest.One m) = amo_treatment o.amo (length m.terms)
 treatment_of o (rest.Card m) = within_budget o.budget m (card_treatment o.card m.bound)
 treatment_of o (rest.General m) = within_budget o.budget m (general_treatment o.general)
 
--- families whose clauses there are
-abbrev pub is_built : Treatment → Bool
-is_built treatment.Totalizer = false
-is_built treatment.Diagram = false
-is_built treatment.Tree = false
-is_built treatment.Adder = false
-is_built t = true
-
--- the treatment of the constraint has its clauses
-abbrev pub IsEncoded : Options → Constraint → Type 0
-IsEncoded o c = is_built (treatment_of o (rest_of c)) ≡ true
+-- a constraint of whose clauses unit propagation may miss what it forces
+abbrev pub IsSentToAdder : Options → Constraint → Type 0
+IsSentToAdder o c = treatment_of o (rest_of c) ≡ treatment.Adder

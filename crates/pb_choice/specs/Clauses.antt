@@ -1,44 +1,14 @@
 -- The clauses of a constraint, by its treatment: its units, and then those of what is left of it.
-use Rattle.std.specs.Prelude.{ℕ, ◌+◌, ◌-◌, ◌*◌, List, [], ◌∷◌, ◌++◌, map, length}
+use Rattle.std.specs.Prelude.{ℕ, ◌+◌, List, [], ◌∷◌, ◌++◌, map, length}
 use Rattle.pb_base.specs.declared.literal.Lit.{Lit}
 use Rattle.pb_norm.specs.declared.reduction.Rest.{Rest}
 use Rattle.pb_norm.specs.declared.reduction.Rest.TheVariants as rest
 use Rattle.pb_norm.specs.Constraints.{Constraint}
-use Rattle.pb_norm.specs.BoundedSums.{BoundedSum}
-use Rattle.pb_norm.specs.Reduction.{lits_of, units_of, rest_of}
-use Rattle.pb_amo.specs.Pairwise.{pair_count, pairwise_clauses}
-use Rattle.pb_amo.specs.Ladder.{ladder_clauses}
-use Rattle.pb_amo.specs.Product.{product_clauses, product_count, product_fresh}
-use Rattle.pb_counter.specs.Counter.{counter_clauses, counter_fresh, counter_size}
+use Rattle.pb_norm.specs.Reduction.{units_of, rest_of}
 use Rattle.pb_choice.specs.declared.options.Options.{Options}
 use Rattle.pb_choice.specs.declared.treatment.Treatment.{Treatment}
-use Rattle.pb_choice.specs.declared.treatment.Treatment.TheVariants as treatment
 use Rattle.pb_choice.specs.Choice.{treatment_of}
-
--- ---- a sum that is to stay within its bound, by a family
-
--- its clauses, where the fresh variables are numbered from a number on
-abbrev pub sum_clauses : Treatment → BoundedSum → ℕ → List (List Lit)
-sum_clauses treatment.Pairwise m first = pairwise_clauses (lits_of m.terms)
-sum_clauses treatment.Ladder m first = ladder_clauses (lits_of m.terms) first
-sum_clauses treatment.Product m first = product_clauses (lits_of m.terms) first
-sum_clauses treatment.Counter m first = counter_clauses (lits_of m.terms) m.bound first
-sum_clauses t m first = []
-
--- how many fresh variables they have
-abbrev pub sum_fresh : Treatment → BoundedSum → ℕ
-sum_fresh treatment.Ladder m = length m.terms - 1
-sum_fresh treatment.Product m = product_fresh (length m.terms)
-sum_fresh treatment.Counter m = counter_fresh (length m.terms) m.bound
-sum_fresh t m = 0
-
--- how many there are
-abbrev pub sum_count : Treatment → BoundedSum → ℕ
-sum_count treatment.Pairwise m = pair_count (length m.terms)
-sum_count treatment.Ladder m = 3 * length m.terms - 4
-sum_count treatment.Product m = product_count (length m.terms)
-sum_count treatment.Counter m = counter_size (length m.terms) m.bound
-sum_count t m = 0
+use Rattle.pb_choice.specs.Sums.{sum_clauses, sum_count, sum_fresh}
 
 -- ---- what is left of a constraint
 

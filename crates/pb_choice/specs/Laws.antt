@@ -6,7 +6,7 @@ use Rattle.pb_norm.specs.Constraints.{Constraint, Holds, IsLinear}
 use Rattle.pb_norm.specs.ClausePropagation.{ClausesPropagate}
 use Rattle.pb_family.specs.Families.{NamesOnly, VarsBelow}
 use Rattle.pb_choice.specs.declared.options.Options.{Options}
-use Rattle.pb_choice.specs.Choice.{IsEncoded}
+use Rattle.pb_choice.specs.Choice.{IsSentToAdder}
 use Rattle.pb_choice.specs.Clauses.{constraint_clauses, constraint_count, constraint_fresh}
 
 -- Clauses that say what a constraint says: under a model of them it holds; an assignment under which it holds extends over
@@ -17,10 +17,10 @@ pub record Encodes (c : Constraint) (first fresh count : ℕ) (clauses : List (L
   pub names : NamesOnly c.terms first fresh clauses
   pub counts : length clauses ≡ count
 
--- the clauses of a constraint whose treatment is built say what it says
+-- the clauses of a constraint say what it says
 abbrev pub ClausesEncode : Type 0
-ClausesEncode = (o : Options) (c : Constraint) (first : ℕ) → IsLinear c → IsEncoded o c → VarsBelow first c.terms → Encodes c first (constraint_fresh o c) (constraint_count o c) (constraint_clauses o c first)
+ClausesEncode = (o : Options) (c : Constraint) (first : ℕ) → IsLinear c → VarsBelow first c.terms → Encodes c first (constraint_fresh o c) (constraint_count o c) (constraint_clauses o c first)
 
--- unit propagation over them reaches all that it forces
+-- unit propagation over them reaches all that it forces, where it is not sent to the adder
 abbrev pub ClausesForce : Type 0
-ClausesForce = (o : Options) (c : Constraint) (first : ℕ) → IsLinear c → IsEncoded o c → VarsBelow first c.terms → ClausesPropagate (constraint_clauses o c first) (λ a. Holds a c)
+ClausesForce = (o : Options) (c : Constraint) (first : ℕ) → IsLinear c → ¬ IsSentToAdder o c → VarsBelow first c.terms → ClausesPropagate (constraint_clauses o c first) (λ a. Holds a c)

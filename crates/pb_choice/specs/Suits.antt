@@ -1,5 +1,5 @@
 -- Which sums each family is for. This serves proofs.
-use Rattle.pb_norm.specs.BoundedSums.{BoundedSum}
+use Rattle.pb_norm.specs.BoundedSums.{BoundedSum, IsProper}
 use Rattle.pb_norm.specs.declared.reduction.Rest.{Rest}
 use Rattle.pb_norm.specs.declared.reduction.Rest.TheVariants as rest
 use Rattle.pb_norm.proofs.RestClasses.{IsCardinality, IsAtMostOne}
@@ -12,6 +12,10 @@ Suits treatment.Pairwise m = IsAtMostOne m
 Suits treatment.Ladder m = IsAtMostOne m
 Suits treatment.Product m = IsAtMostOne m
 Suits treatment.Counter m = IsCardinality m
+Suits treatment.Totalizer m = IsCardinality m
+Suits treatment.Diagram m = IsProper m
+Suits treatment.Tree m = IsProper m
+Suits treatment.Adder m = Unit {0}
 Suits t m = ⊥
 
 -- the same of what is left

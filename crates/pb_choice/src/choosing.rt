@@ -1,88 +1,84 @@
 //! The choice of a family.
-ghost use Rattle.std.specs.Prelude.{◌≡◌, ◌<◌, ◌-◌, ◌^◌, length};
-ghost use Rattle.pb_norm.proofs.Lengths.{HasAtMost};
-ghost use Rattle.pb_norm.proofs.RestClasses.{IsCardinality, RestIs};
-ghost use Rattle.pb_choice.specs.Choice.{amo_treatment, card_treatment, general_treatment, is_built, treatment_of, within_budget};
+ghost use Rattle.std.specs.Prelude.{◌≤◌, ◌<◌, ◌^◌, IfOk, length};
+ghost use Rattle.pb_norm.specs.Constraints.{weight};
+ghost use Rattle.pb_norm.specs.BoundedSums.{IsProper};
+ghost use Rattle.pb_norm.proofs.RestClasses.{IsAtMostOne, IsCardinality, RestIs};
+ghost use Rattle.pb_choice.specs.Choice.{amo_treatment, card_treatment, general_treatment, within_budget};
+ghost use Rattle.pb_choice.specs.Chosen.{IsChosen};
+ghost use Rattle.pb_choice.specs.Left.{rest_terms, IsLeft};
 
+use crate::chosen::Chosen;
+use crate::held::AtMostOne;
+use crate::left::Left;
 use crate::options::{Amo, Card, General, Options};
-use crate::treatment::Treatment;
-use pb_counter::Counter;
-use pb_family::Family;
+use crate::within::{adder_of, counter_within, diagram_within, totalizer_within, tree_within};
+use pb_base::NoMemory;
 use pb_norm::{AtMost, Rest};
+use std::alloc::Global;
 
-// For at most one of so many literals.
-fn amo_treatment(amo: Amo, count: usize) -> Treatment
-    ensures { result ≡ amo_treatment amo count }
+// For at most one literal.
+fn one_of(amo: Amo, sum: AtMost) -> Chosen
+    requires class { IsAtMostOne sum }
+    requires few { length sum.terms < 2 ^ 31 }
+    ensures { IsChosen (amo_treatment amo (length sum.terms)) sum result }
 {
+    let count = sum.terms().len();
+    let held = AtMostOne { sum };
     match amo {
-        Amo::Auto if count <= 6 => Treatment::Pairwise,
-        Amo::Auto if count <= 30 => Treatment::Ladder,
-        Amo::Auto => Treatment::Product,
-        Amo::Pairwise => Treatment::Pairwise,
-        Amo::Ladder => Treatment::Ladder,
-        Amo::Product => Treatment::Product,
+        Amo::Auto if count <= 6 => Chosen::Pairwise(held),
+        Amo::Auto if count <= 30 => Chosen::Ladder(held),
+        Amo::Auto => Chosen::Product(held),
+        Amo::Pairwise => Chosen::Pairwise(held),
+        Amo::Ladder => Chosen::Ladder(held),
+        Amo::Product => Chosen::Product(held),
     }
 }
 
 // For at most so many literals.
-fn card_treatment(card: Card, bound: u128) -> Treatment
-    ensures { result ≡ card_treatment card bound }
+fn card_of(alloc: Global, options: &Options, sum: AtMost) -> Result<Chosen, NoMemory>
+    requires class { IsCardinality sum }
+    requires few { length sum.terms < 2 ^ 31 }
+    requires light { weight sum.terms < 2 ^ 100 }
+    ensures { IfOk result (IsChosen (within_budget options.now.budget sum (card_treatment options.now.card sum.bound)) sum) }
 {
-    match card {
-        Card::Auto if bound <= 8 => Treatment::Counter,
-        Card::Auto => Treatment::Totalizer,
-        Card::Counter => Treatment::Counter,
-        Card::Totalizer => Treatment::Totalizer,
+    let bound = sum.bound();
+    match options.card {
+        Card::Auto if bound <= 8 => counter_within(alloc, sum, options.budget),
+        Card::Auto => totalizer_within(alloc, sum, options.budget),
+        Card::Counter => counter_within(alloc, sum, options.budget),
+        Card::Totalizer => totalizer_within(alloc, sum, options.budget),
     }
 }
 
 // For a sum with weights.
-fn general_treatment(general: General) -> Treatment
-    ensures { result ≡ general_treatment general }
+fn general_of(alloc: Global, options: &Options, sum: AtMost) -> Result<Chosen, NoMemory>
+    requires class { IsProper sum }
+    requires few { length sum.terms < 2 ^ 31 }
+    requires light { weight sum.terms < 2 ^ 100 }
+    requires modest { options.now.budget ≤ 10000000 }
+    ensures { IfOk result (IsChosen (within_budget options.now.budget sum (general_treatment options.now.general)) sum) }
 {
-    match general {
-        General::Diagram => Treatment::Diagram,
-        General::Tree => Treatment::Tree,
-        General::Adder => Treatment::Adder,
+    match options.general {
+        General::Diagram => diagram_within(alloc, sum, options.budget),
+        General::Tree => tree_within(alloc, sum, options.budget),
+        General::Adder => adder_of(alloc, sum),
     }
 }
 
-/// Whether the treatment has its clauses.
-pub fn is_built(treatment: Treatment) -> bool
-    ensures { result ≡ is_built treatment }
-{
-    !matches!(
-        treatment,
-        Treatment::Totalizer | Treatment::Diagram | Treatment::Tree | Treatment::Adder
-    )
-}
-
-// For at most so many literals, or what stands in its place where the budget is passed.
-fn card_within(options: &Options, sum: &AtMost) -> Treatment
-    requires cardinality { IsCardinality sum.now }
-    requires few { length sum.now.terms < 2 ^ 31 }
-    ensures { result ≡ within_budget options.now.budget sum.now (card_treatment options.now.card sum.now.bound) }
-{
-    let treatment = card_treatment(options.card, sum.bound());
-    if treatment == Treatment::Counter && Counter::over(sum).fresh() > options.budget {
-        Treatment::Adder
-    } else {
-        treatment
-    }
-}
-
-/// How what is left of a constraint is encoded.
-pub fn treatment_of(options: &Options, rest: &Rest) -> Treatment
-    requires class { RestIs rest.now }
-    requires few { HasAtMost (2 ^ 31 - 1) rest.now }
-    ensures { result ≡ treatment_of options.now rest.now }
+/// What is left of a constraint, with the family that is chosen for it.
+pub fn left_of(alloc: Global, options: &Options, rest: Rest) -> Result<Left, NoMemory>
+    requires class { RestIs rest }
+    requires few { length (rest_terms rest) < 2 ^ 31 }
+    requires light { weight (rest_terms rest) < 2 ^ 100 }
+    requires modest { options.now.budget ≤ 10000000 }
+    ensures { IfOk result (IsLeft options.now rest) }
 {
     match rest {
-        Rest::Nothing => Treatment::Nothing,
-        Rest::Empty => Treatment::Empty,
-        Rest::Clause(_) => Treatment::Clause,
-        Rest::One(sum) => amo_treatment(options.amo, sum.terms().len()),
-        Rest::Card(sum) => card_within(options, sum),
-        Rest::General(_) => general_treatment(options.general),
+        Rest::Nothing => Ok(Left::Nothing),
+        Rest::Empty => Ok(Left::Empty),
+        Rest::Clause(lits) => Ok(Left::Clause(lits)),
+        Rest::One(sum) => Ok(Left::Sum(one_of(options.amo, sum))),
+        Rest::Card(sum) => Ok(Left::Sum(card_of(alloc, options, sum)?)),
+        Rest::General(sum) => Ok(Left::Sum(general_of(alloc, options, sum)?)),
     }
 }

@@ -2,16 +2,17 @@
 #![tactic(auto)]
 
 mod choosing;
-mod fault;
+mod chosen;
+mod emission;
+mod held;
 mod laws;
+mod left;
 mod options;
 mod planning;
 mod plans;
-mod rest;
-mod sum;
 mod treatment;
+mod within;
 
-pub use fault::PlanFault;
 pub use laws::{clauses_encode, clauses_force};
 pub use options::{Amo, Card, DEFAULT_BUDGET, General, MAX_BUDGET, Options};
 pub use planning::plan;

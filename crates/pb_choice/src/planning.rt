@@ -1,35 +1,32 @@
 //! Planning an encoding.
-ghost use Rattle.std.specs.Prelude.{◌≡◌, OnOk, IfOk, Err};
-ghost use Rattle.pb_choice.specs.Choice.{IsEncoded};
+ghost use Rattle.std.specs.Prelude.{◌≡◌, ◌≤◌, ◌<◌, ◌^◌, IfOk};
+ghost use Rattle.pb_norm.specs.Constraints.{weight};
 
-use crate::choosing::{is_built, treatment_of};
-use crate::fault::PlanFault;
+use crate::choosing::left_of;
 use crate::options::Options;
 use crate::plans::Plan;
-use pb_norm::{Linear, reduce};
+use pb_base::NoMemory;
+use pb_norm::{Linear, Reduced, reduce};
 use std::alloc::Global;
 
-/// Plans the encoding of a constraint.
+/// Plans the encoding of a constraint. What the family needs is built here, once.
 pub fn plan<'a>(
     alloc: Global,
     constraint: &'a Linear,
     options: &Options,
-) -> Result<Plan<'a>, PlanFault>
+) -> Result<Plan<'a>, NoMemory>
+    requires light { weight constraint.now.terms < 2 ^ 100 }
+    requires modest { options.now.budget ≤ 10000000 }
     ensures constraint { IfOk result (λ plan. plan.constraint.now ≡ constraint.now) }
     ensures options { IfOk result (λ plan. plan.options ≡ options.now) }
-    ensures encoded { OnOk result (IsEncoded options.now constraint.now) }
-    ensures family { result ≡ Err PlanFault.Family → ¬ IsEncoded options.now constraint.now }
 {
     let _ = constraint.len();
-    let reduced = reduce(alloc, constraint)?;
-    let treatment = treatment_of(options, &reduced.rest);
-    if !is_built(treatment) {
-        return Err(PlanFault::Family);
-    }
+    let Reduced { units, rest } = reduce(alloc, constraint)?;
+    let left = left_of(alloc, options, rest)?;
     Ok(Plan {
         constraint,
         options: *options,
-        reduced,
-        treatment,
+        units,
+        left,
     })
 }

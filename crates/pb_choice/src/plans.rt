@@ -1,18 +1,20 @@
 //! How one constraint is encoded.
-ghost use Rattle.std.specs.Prelude.{◌≡◌, ◌≤◌, ◌+◌, ◌^◌, true, map, OnOk, OnErr, IfErr};
-ghost use Rattle.pb_norm.specs.Reduction.{rest_of, split};
+ghost use Rattle.std.specs.Prelude.{◌≡◌, ◌≤◌, ◌+◌, ◌^◌, OnOk, IfErr};
+ghost use Rattle.pb_norm.specs.Reduction.{rest_of, units_of};
 ghost use Rattle.pb_family.specs.ClauseText.{clauses_text};
 ghost use Rattle.pb_family.specs.Families.{VarsBelow};
-ghost use Rattle.pb_family.specs.Sinks.{FailsToTake, Stops, Takes};
-ghost use Rattle.pb_choice.specs.Choice.{is_built, treatment_of};
-ghost use Rattle.pb_choice.specs.Clauses.{constraint_clauses, constraint_count, constraint_fresh, unit_clause};
+ghost use Rattle.pb_family.specs.Sinks.{Stops, Takes};
+ghost use Rattle.pb_choice.specs.Choice.{treatment_of};
+ghost use Rattle.pb_choice.specs.Clauses.{constraint_clauses, constraint_count, constraint_fresh};
+ghost use Rattle.pb_choice.specs.Left.{IsLeft};
 
+use crate::emission::emit_units;
+use crate::left::Left;
 use crate::options::Options;
-use crate::rest::{emit_rest, rest_count, rest_fresh};
 use crate::treatment::Treatment;
-use pb_base::{Failed, Lits};
+use pb_base::Lits;
 use pb_family::{ClauseSink, SinkFault};
-use pb_norm::{Linear, Reduced};
+use pb_norm::Linear;
 use std::alloc::Global;
 
 /// How many fresh variables and clauses an encoding has.
@@ -27,22 +29,10 @@ pub struct Counts {
 pub struct Plan<'a> {
     pub constraint: &'a Linear,
     pub options: Options,
-    pub(crate) reduced: Reduced,
-    pub(crate) treatment: Treatment,
-    ghost split: { reduced ≡ split constraint.now },
-    ghost treated: { treatment ≡ treatment_of options reduced.rest },
-    ghost built: { is_built treatment ≡ true },
-}
-
-// Hands over unit clauses.
-fn emit_units<S: ClauseSink>(units: &Lits, sink: &mut S) -> Result<(), Failed>
-    ensures ok { OnOk result (Takes (clauses_text (map unit_clause units.now)) (S.state sink.old) (S.state sink.new)) }
-    ensures failed { OnErr result (FailsToTake (clauses_text (map unit_clause units.now)) (S.state sink.old) (S.state sink.new)) }
-{
-    for unit in units.as_slice() {
-        sink.clause(&[*unit])?;
-    }
-    Ok(())
+    pub(crate) units: Lits,
+    pub(crate) left: Left,
+    ghost units_are: { units ≡ units_of constraint.now },
+    ghost left_is: { IsLeft options (rest_of constraint.now) left },
 }
 
 impl Plan<'_> {
@@ -52,10 +42,10 @@ impl Plan<'_> {
         ensures clauses { result.clauses ≡ constraint_count self.now.options self.now.constraint.now }
     {
         let _ = self.constraint.len();
-        let units = self.reduced.units.len() as u64;
+        let units = self.units.len() as u64;
         Counts {
-            fresh: rest_fresh(self.treatment, &self.reduced.rest),
-            clauses: units + rest_count(self.treatment, &self.reduced.rest),
+            fresh: self.left.fresh(),
+            clauses: units + self.left.clauses(),
         }
     }
 
@@ -63,7 +53,7 @@ impl Plan<'_> {
     pub fn treatment(&self) -> Treatment
         ensures { result ≡ treatment_of self.now.options (rest_of self.now.constraint.now) }
     {
-        self.treatment
+        self.left.treatment()
     }
 
     /// Hands over the clauses: the units, and then those of what is left, with the fresh variables from `first` on.
@@ -79,8 +69,7 @@ impl Plan<'_> {
         ensures ok { OnOk result (Takes (clauses_text (constraint_clauses self.now.options self.now.constraint.now first)) (S.state sink.old) (S.state sink.new)) }
         ensures stops { IfErr result (Stops (clauses_text (constraint_clauses self.now.options self.now.constraint.now first)) (S.state sink.old) (S.state sink.new)) }
     {
-        let _ = self.constraint.len();
-        emit_units(&self.reduced.units, sink)?;
-        emit_rest(alloc, self.treatment, &self.reduced.rest, first, sink)
+        emit_units(&self.units, sink)?;
+        self.left.emit(alloc, first, sink)
     }
 }

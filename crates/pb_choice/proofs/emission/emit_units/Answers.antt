@@ -1,11 +1,11 @@
-use Rattle.std.proofs.Common.{◌≡◌, ◌+◌, ◌∷◌, List, drop, map, sym, ap, subst}
+use Rattle.std.proofs.Common.{List, map, subst}
 use Rattle.pb_base.specs.declared.literal.Lit.{Lit}
 use Rattle.pb_family.proofs.Emission.{Emitting, emitting_starts, emitting_clause, emitting_fails_clause, on_err}
 use Rattle.pb_family.specs.ClauseText.{clauses_text}
 use Rattle.pb_family.specs.Sinks.{FailsToTake}
 use Rattle.pb_choice.specs.Clauses.{unit_clause}
-use Rattle.pb_choice.proofs.PlanFacts.{units_rest}
-use Rattle.pb_choice.proofs.plans.emit_units.Goals as goal
+use Rattle.pb_choice.proofs.UnitClauses.{units_rest}
+use Rattle.pb_choice.proofs.emission.emit_units.Goals as goal
 
 pub loop-unit-init : goal.loop-unit-init
 loop-unit-init g c = emitting_starts _ _

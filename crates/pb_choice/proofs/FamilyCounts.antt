@@ -1,0 +1,128 @@
+-- The numbers of clauses fit 64 bits, with as many units.
+use Rattle.std.proofs.Common.{◌≡◌, ◌<◌, ◌≤◌, ◌+◌, ◌-◌, ◌*◌, ◌/◌, ◌^◌, ◌&&◌, ℕ, Bool, true, false, not, cond, List, [], ◌∷◌, length, refl, subst, arith}
+use Rattle.std.specs.Prelude.{map, sum_by}
+use Rattle.std.proofs.Math.Nat.{mul-le-mul_left}
+use Rattle.std.proofs.lemmas.List.{length-map}
+use Rattle.std.proofs.lemmas.List.Sums.{sum_by-cons}
+use Rattle.std.proofs.lemmas.Nat.{mul-le}
+use Rattle.pb_norm.specs.Constraints.{Weighted, term_of, terms_of, weight, weights}
+use Rattle.pb_norm.specs.BoundedSums.{BoundedSum, IsProper}
+use Rattle.pb_norm.proofs.KeptTerms.{weights-terms_of}
+use Rattle.pb_norm.proofs.RestClasses.{IsCardinality, units-weight}
+use Rattle.pb_tree.specs.Tree.{tree_of}
+use Rattle.pb_amo.specs.Pairwise.{pair_count}
+use Rattle.pb_amo.specs.GridCounts.{count_within_square}
+use Rattle.pb_counter.specs.Counter.{counter_size}
+use Rattle.pb_totalizer.specs.Totalizer.{totalizer_size}
+use Rattle.pb_totalizer.proofs.Counting as totalizer
+use Rattle.pb_gentot.specs.Generalized.{generalized_fresh, generalized_size}
+use Rattle.pb_gentot.proofs.Bounds.{Bounds, bounds, some_terms}
+use Rattle.pb_diagram.specs.Clauses.{diagram_fresh, diagram_size}
+use Rattle.pb_diagram.specs.Levels.{levels_of}
+use Rattle.pb_diagram.proofs.DiagramSteps.{inner-le}
+use Rattle.pb_adder.specs.declared.gate.Gate.{Gate}
+use Rattle.pb_adder.specs.declared.gate.Gate.TheVariants.{Full, Half}
+use Rattle.pb_adder.specs.Comparator.{is_odd}
+use Rattle.pb_adder.specs.Counts.{adder_size, gate_clause_count, has_end, is_covered, kept_count}
+use Rattle.pb_adder.specs.CountLaws.{counted_total, gates_few}
+use Rattle.pb_adder.specs.Network.{level_count, network_ends, network_gates}
+use Rattle.pb_adder.specs.NetworkLaws.{digits_few}
+use Rattle.pb_adder.proofs.Fits.{ends_few}
+use Rattle.pb_choice.specs.declared.chosen.Chosen.{Chosen}
+use Rattle.pb_choice.specs.declared.chosen.Chosen.TheVariants as chosen
+use Rattle.pb_choice.specs.declared.left.Left.{Left}
+use Rattle.pb_choice.specs.declared.left.Left.TheVariants as left
+use Rattle.pb_choice.specs.Chosen.{sum_at, treatment_at}
+use Rattle.pb_choice.specs.Left.{left_count}
+use Rattle.pb_choice.specs.Sums.{sum_count}
+
+square_small : (n : ℕ) → n < 2 ^ 31 → n * n < 2 ^ 62
+square_small n few =
+    let le : n ≤ 2 ^ 31 - 1 = omega (arith, few) in
+    omega (arith, mul-le-mul_left n le)
+
+pairs_small : (n : ℕ) → n < 2 ^ 31 → pair_count n < 2 ^ 63
+pairs_small n few =
+    let le : n - 1 ≤ n = omega arith in
+    omega (arith, square_small n few, mul-le-mul_left n le)
+
+counter_small : (n k : ℕ) → n < 2 ^ 31 → k < n → counter_size n k < 2 ^ 63 + 2 ^ 31
+counter_small n k few lt =
+    let le : k ≤ n = omega (arith, lt) in
+    omega (arith, few, square_small n few, mul-le-mul_left n le)
+
+bound_few : (m : BoundedSum) → IsCardinality m → m.bound < length m.terms
+bound_few m h = omega (arith, h.proper.heavy, units-weight m.terms h.units)
+
+totalizer_small : (m : BoundedSum) → IsCardinality m → length m.terms < 2 ^ 31 → totalizer_size m < 2 ^ 63
+totalizer_small m h few =
+    let all = totalizer.bounds m.bound m.terms (omega (arith, bound_few m h)) in
+    omega (arith, all.clauses, square_small (length m.terms) few)
+
+tree_bounds : (bound : ℕ) (ts : List Weighted) → 1 ≤ length ts → Bounds bound (tree_of ts) (length ts)
+tree_bounds bound ts some =
+    let long : length (terms_of ts) ≡ length ts = length-map ts term_of in
+    let kept : Bounds bound (tree_of (weights (terms_of ts))) (length (terms_of ts)) = bounds bound (terms_of ts) (omega (arith, long, some)) in
+    let same : Bounds bound (tree_of ts) (length (terms_of ts)) = subst (λ (us : List Weighted). Bounds bound (tree_of us) (length (terms_of ts))) (weights-terms_of ts) kept in
+    subst (λ (n : ℕ). Bounds bound (tree_of ts) n) long same
+
+tree_small : (m : BoundedSum) → IsProper m → length m.terms < 2 ^ 31 → generalized_fresh m ≤ 10000000 → generalized_size m < 2 ^ 63
+tree_small m h few modest =
+    let all = tree_bounds m.bound m.terms (some_terms m.bound m.terms h.heavy) in
+    let n = generalized_fresh m + length m.terms in
+    let most : n ≤ 2 ^ 31 + 10000000 = omega (arith, few, modest) in
+    let square = mul-le n n (2 ^ 31 + 10000000) (2 ^ 31 + 10000000) most most in
+    omega (arith, all.clauses, square)
+
+diagram_small : (m : BoundedSum) → diagram_fresh m ≤ 10000000 → diagram_size m < 2 ^ 63
+diagram_small m modest = omega (arith, inner-le m.terms (levels_of m), modest)
+
+-- ---- adders
+
+gates_small : (gs : List Gate) → sum_by gate_clause_count gs ≤ 14 * length gs
+gates_small [] = omega arith
+gates_small (g ∷ gs) = omega (arith, sum_by-cons gate_clause_count g gs, one_small g, gates_small gs)
+  where
+    one_small : (g : Gate) → gate_clause_count g ≤ 14
+    one_small (Full a b c made) = omega arith
+    one_small (Half a b made) = omega arith
+
+rows_small : (bound : ℕ) (bs : List Bool) → kept_count bound bs ≤ length bs
+rows_small bound [] = omega arith
+rows_small bound (b ∷ bs) = omega (arith, one_small (b && (not (is_odd bound) && is_covered (bound / 2) bs)), rows_small (bound / 2) bs)
+  where
+    one_small : (kept : Bool) → cond kept 1 0 ≤ 1
+    one_small true = omega arith
+    one_small false = omega arith
+
+adder_small : (ts : List Weighted) (bound : ℕ) → length ts < 2 ^ 31 → weight ts < 2 ^ 100 → adder_size ts bound < 2 ^ 63
+adder_small ts bound few light =
+    let levels : level_count ts ≤ 100 = digits_few 100 (weight ts) (weight ts) light in
+    let gates : length (network_gates ts) ≤ level_count ts * length ts = gates_few (level_count ts) 0 ts [] 0 (omega arith) in
+    let grid = mul-le (level_count ts) (length ts) 100 (2 ^ 31) levels (omega (arith, few)) in
+    let ends = ends_few ts (network_ends ts) refl light in
+    omega (
+      arith,
+      counted_total ts bound,
+      gates_small (network_gates ts),
+      rows_small bound (map has_end (network_ends ts)),
+      length-map (network_ends ts) has_end,
+    )
+
+-- ---- the family that was chosen
+
+chosen_small : (f : Chosen) → sum_count (treatment_at f) (sum_at f) < 2 ^ 63 + 2 ^ 31
+chosen_small (chosen.Pairwise held) = omega (arith, pairs_small (length held.sum.terms) held.few)
+chosen_small (chosen.Ladder held) = let few : length held.sum.terms < 2 ^ 31 = held.few in omega (arith, few)
+chosen_small (chosen.Product held) = omega (arith, square_small (length held.sum.terms) held.few, count_within_square (length held.sum.terms) (length held.sum.terms))
+chosen_small (chosen.Counter held) = counter_small (length held.sum.terms) held.sum.bound held.few (bound_few held.sum held.class)
+chosen_small (chosen.Totalizer held) = omega (arith, totalizer_small held.sum held.class held.few)
+chosen_small (chosen.Diagram held) = omega (arith, diagram_small held.sum held.modest)
+chosen_small (chosen.Tree held) = omega (arith, tree_small held.sum held.class held.few held.modest)
+chosen_small (chosen.Adder held) = omega (arith, adder_small held.sum.terms held.sum.bound held.few held.light)
+
+pub left_small : (l : Left) → left_count l < 2 ^ 63 + 2 ^ 31
+left_small left.Nothing = omega arith
+left_small left.Empty = omega arith
+left_small (left.Clause ls) = omega arith
+left_small (left.Sum f) = chosen_small f

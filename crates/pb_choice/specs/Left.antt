@@ -1,0 +1,56 @@
+-- What is left of a constraint, as a plan keeps it.
+use Rattle.std.specs.Prelude.{◌≡◌, ℕ, List, [], ◌∷◌}
+use Rattle.pb_base.specs.declared.literal.Lit.{Lit}
+use Rattle.pb_norm.specs.declared.reduction.Rest.{Rest}
+use Rattle.pb_norm.specs.declared.reduction.Rest.TheVariants as rest
+use Rattle.pb_norm.specs.Constraints.{Weighted}
+use Rattle.pb_choice.specs.declared.left.Left.{Left}
+use Rattle.pb_choice.specs.declared.left.Left.TheVariants.{Nothing, Empty, Clause, Sum}
+use Rattle.pb_choice.specs.declared.options.Options.{Options}
+use Rattle.pb_choice.specs.declared.treatment.Treatment.{Treatment}
+use Rattle.pb_choice.specs.declared.treatment.Treatment.TheVariants as treatment
+use Rattle.pb_choice.specs.Choice.{treatment_of}
+use Rattle.pb_choice.specs.Chosen.{sum_at, treatment_at}
+use Rattle.pb_choice.specs.Clauses.{rest_clauses, rest_count, rest_fresh}
+use Rattle.pb_choice.specs.Sums.{sum_clauses, sum_count, sum_fresh}
+
+abbrev pub left_treatment : Left → Treatment
+left_treatment Nothing = treatment.Nothing
+left_treatment Empty = treatment.Empty
+left_treatment (Clause ls) = treatment.Clause
+left_treatment (Sum f) = treatment_at f
+
+abbrev pub left_clauses : Left → ℕ → List (List Lit)
+left_clauses Nothing first = []
+left_clauses Empty first = [] ∷ []
+left_clauses (Clause ls) first = ls ∷ []
+left_clauses (Sum f) first = sum_clauses (treatment_at f) (sum_at f) first
+
+abbrev pub left_fresh : Left → ℕ
+left_fresh (Sum f) = sum_fresh (treatment_at f) (sum_at f)
+left_fresh other = 0
+
+abbrev pub left_count : Left → ℕ
+left_count Nothing = 0
+left_count Empty = 1
+left_count (Clause ls) = 1
+left_count (Sum f) = sum_count (treatment_at f) (sum_at f)
+
+-- the terms of the sum, if it is one
+abbrev pub left_terms : Left → List Weighted
+left_terms (Sum f) = (sum_at f).terms
+left_terms other = []
+
+abbrev pub rest_terms : Rest → List Weighted
+rest_terms (rest.One m) = m.terms
+rest_terms (rest.Card m) = m.terms
+rest_terms (rest.General m) = m.terms
+rest_terms other = []
+
+-- it is this rest, treated as it is to be
+pub record IsLeft (o : Options) (r : Rest) (left : Left) : Type 0 where
+  pub treatment_is : left_treatment left ≡ treatment_of o r
+  pub terms_are : left_terms left ≡ rest_terms r
+  pub clauses_are : (first : ℕ) → left_clauses left first ≡ rest_clauses (treatment_of o r) r first
+  pub fresh_is : left_fresh left ≡ rest_fresh (treatment_of o r) r
+  pub count_is : left_count left ≡ rest_count (treatment_of o r) r

@@ -1,0 +1,108 @@
+//! The family that was chosen for a sum.
+
+use crate::held::{AdderOf, AtMostOne, Cardinality, DiagramOf, TotalizerOf, TreeOf};
+use crate::treatment::Treatment;
+use pb_amo::{Ladder, Pairwise, ProductGrid};
+use pb_counter::Counter;
+use pb_family::{ClauseSink, Family, SinkFault};
+use std::alloc::Global;
+
+/// A sum and the family that stands for it. What takes time to build is built once.
+#[derive(Drop)]
+pub enum Chosen {
+    Pairwise(AtMostOne),
+    Ladder(AtMostOne),
+    Product(AtMostOne),
+    Counter(Cardinality),
+    Totalizer(TotalizerOf),
+    Diagram(DiagramOf),
+    Tree(TreeOf),
+    Adder(AdderOf),
+}
+
+impl Chosen {
+    ghost use Rattle.std.specs.Prelude.{◌≡◌};
+    ghost use Rattle.pb_choice.specs.Chosen.{treatment_at};
+
+    /// Which family it is.
+    pub fn treatment(&self) -> Treatment
+        ensures { result ≡ treatment_at self.now }
+    {
+        match self {
+            Chosen::Pairwise(_) => Treatment::Pairwise,
+            Chosen::Ladder(_) => Treatment::Ladder,
+            Chosen::Product(_) => Treatment::Product,
+            Chosen::Counter(_) => Treatment::Counter,
+            Chosen::Totalizer(_) => Treatment::Totalizer,
+            Chosen::Diagram(_) => Treatment::Diagram,
+            Chosen::Tree(_) => Treatment::Tree,
+            Chosen::Adder(_) => Treatment::Adder,
+        }
+    }
+}
+
+impl Family for Chosen {
+    ghost use Rattle.pb_choice.specs.Chosen.{chosen_suits, sum_at, treatment_at};
+    ghost use Rattle.pb_choice.specs.Sums.{sum_clauses, sum_count, sum_fresh};
+    ghost use Rattle.pb_choice.specs.SumLaws.{sum_counts, sum_extends, sum_names, sum_sound};
+
+    ghost constraint = { λ f. sum_at f };
+
+    ghost fresh_count = { λ f. sum_fresh (treatment_at f) (sum_at f) };
+
+    ghost clause_count = { λ f. sum_count (treatment_at f) (sum_at f) };
+
+    ghost clause_list = { λ f first. sum_clauses (treatment_at f) (sum_at f) first };
+
+    fn fresh(&self) -> u64 {
+        match self {
+            Chosen::Pairwise(held) => Pairwise::over(&held.sum).fresh(),
+            Chosen::Ladder(held) => Ladder::over(&held.sum).fresh(),
+            Chosen::Product(held) => ProductGrid::over(&held.sum).fresh(),
+            Chosen::Counter(held) => Counter::over(&held.sum).fresh(),
+            Chosen::Totalizer(held) => held.family.fresh(),
+            Chosen::Diagram(held) => held.family.fresh(),
+            Chosen::Tree(held) => held.family.fresh(),
+            Chosen::Adder(held) => held.family.fresh(),
+        }
+    }
+
+    fn clauses(&self) -> u64 {
+        match self {
+            Chosen::Pairwise(held) => Pairwise::over(&held.sum).clauses(),
+            Chosen::Ladder(held) => Ladder::over(&held.sum).clauses(),
+            Chosen::Product(held) => ProductGrid::over(&held.sum).clauses(),
+            Chosen::Counter(held) => Counter::over(&held.sum).clauses(),
+            Chosen::Totalizer(held) => held.family.clauses(),
+            Chosen::Diagram(held) => held.family.clauses(),
+            Chosen::Tree(held) => held.family.clauses(),
+            Chosen::Adder(held) => held.family.clauses(),
+        }
+    }
+
+    fn emit<S: ClauseSink>(
+        &self,
+        alloc: Global,
+        first: u32,
+        sink: &mut S,
+    ) -> Result<(), SinkFault> {
+        match self {
+            Chosen::Pairwise(held) => Pairwise::over(&held.sum).emit(alloc, first, sink),
+            Chosen::Ladder(held) => Ladder::over(&held.sum).emit(alloc, first, sink),
+            Chosen::Product(held) => ProductGrid::over(&held.sum).emit(alloc, first, sink),
+            Chosen::Counter(held) => Counter::over(&held.sum).emit(alloc, first, sink),
+            Chosen::Totalizer(held) => held.family.emit(alloc, first, sink),
+            Chosen::Diagram(held) => held.family.emit(alloc, first, sink),
+            Chosen::Tree(held) => held.family.emit(alloc, first, sink),
+            Chosen::Adder(held) => held.family.emit(alloc, first, sink),
+        }
+    }
+
+    ghost sound = { λ f first below a model. sum_sound (treatment_at f) (sum_at f) first (chosen_suits f) a model };
+
+    ghost extends = { λ f first below a holds. sum_extends (treatment_at f) (sum_at f) first (chosen_suits f) below a holds };
+
+    ghost counts = { λ f first. sum_counts (treatment_at f) (sum_at f) first (chosen_suits f) };
+
+    ghost names = { λ f first. sum_names (treatment_at f) (sum_at f) first (chosen_suits f) };
+}

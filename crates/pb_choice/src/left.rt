@@ -1,0 +1,83 @@
+//! What is left of a constraint once its units are taken.
+
+use crate::chosen::Chosen;
+use crate::emission::emit_one;
+use crate::treatment::Treatment;
+use pb_base::Lits;
+use pb_family::{ClauseSink, Family, SinkFault};
+use std::alloc::Global;
+
+/// What is left of a constraint, with the family that was chosen for it.
+#[derive(Drop)]
+pub enum Left {
+    /// Nothing.
+    Nothing,
+    /// The empty clause.
+    Empty,
+    /// A clause.
+    Clause(Lits),
+    /// A sum that is to stay within its bound.
+    Sum(Chosen),
+}
+
+impl Left {
+    ghost use Rattle.std.specs.Prelude.{◌≡◌, ◌≤◌, ◌+◌, ◌^◌, OnOk, IfErr};
+    ghost use Rattle.pb_family.specs.ClauseText.{clauses_text};
+    ghost use Rattle.pb_family.specs.Families.{VarsBelow};
+    ghost use Rattle.pb_family.specs.Sinks.{Stops, Takes};
+    ghost use Rattle.pb_choice.specs.Left.{left_clauses, left_count, left_fresh, left_terms, left_treatment};
+
+    /// How it is encoded.
+    pub fn treatment(&self) -> Treatment
+        ensures { result ≡ left_treatment self.now }
+    {
+        match self {
+            Left::Nothing => Treatment::Nothing,
+            Left::Empty => Treatment::Empty,
+            Left::Clause(_) => Treatment::Clause,
+            Left::Sum(chosen) => chosen.treatment(),
+        }
+    }
+
+    /// How many fresh variables it has.
+    pub fn fresh(&self) -> u64
+        ensures { result ≡ left_fresh self.now }
+    {
+        match self {
+            Left::Nothing | Left::Empty | Left::Clause(_) => 0,
+            Left::Sum(chosen) => chosen.fresh(),
+        }
+    }
+
+    /// How many clauses it has.
+    pub fn clauses(&self) -> u64
+        ensures { result ≡ left_count self.now }
+    {
+        match self {
+            Left::Nothing => 0,
+            Left::Empty | Left::Clause(_) => 1,
+            Left::Sum(chosen) => chosen.clauses(),
+        }
+    }
+
+    /// Hands over its clauses, with the fresh variables from `first` on.
+    pub fn emit<S: ClauseSink>(
+        &self,
+        alloc: Global,
+        first: u32,
+        sink: &mut S,
+    ) -> Result<(), SinkFault>
+        requires original { VarsBelow first (left_terms self.now) }
+        requires low { 1 ≤ first }
+        requires fits { first + left_fresh self.now ≤ 2 ^ 31 }
+        ensures ok { OnOk result (Takes (clauses_text (left_clauses self.now first)) (S.state sink.old) (S.state sink.new)) }
+        ensures stops { IfErr result (Stops (clauses_text (left_clauses self.now first)) (S.state sink.old) (S.state sink.new)) }
+    {
+        match self {
+            Left::Nothing => Ok(()),
+            Left::Empty => emit_one(&[], sink),
+            Left::Clause(lits) => emit_one(lits.as_slice(), sink),
+            Left::Sum(chosen) => chosen.emit(alloc, first, sink),
+        }
+    }
+}

@@ -1,0 +1,84 @@
+//! Families within a budget of fresh variables, and the adder in their place.
+ghost use Rattle.std.specs.Prelude.{◌≤◌, ◌<◌, ◌^◌, IfOk, length};
+ghost use Rattle.pb_norm.specs.Constraints.{weight};
+ghost use Rattle.pb_norm.specs.BoundedSums.{IsProper};
+ghost use Rattle.pb_norm.proofs.RestClasses.{IsCardinality};
+ghost use Rattle.pb_choice.specs.Choice.{within_budget};
+ghost use Rattle.pb_choice.specs.Chosen.{IsChosen};
+
+use crate::chosen::Chosen;
+use crate::held::{AdderOf, Cardinality, DiagramOf, TotalizerOf, TreeOf};
+use crate::treatment::Treatment;
+use pb_adder::Adder;
+use pb_base::NoMemory;
+use pb_counter::Counter;
+use pb_diagram::Diagram;
+use pb_family::{Built, Family};
+use pb_gentot::Weighted;
+use pb_norm::AtMost;
+use pb_totalizer::Totalizer;
+use std::alloc::Global;
+
+/// The adder, however large.
+pub fn adder_of(alloc: Global, sum: AtMost) -> Result<Chosen, NoMemory>
+    requires few { length sum.terms < 2 ^ 31 }
+    requires light { weight sum.terms < 2 ^ 100 }
+    ensures { IfOk result (IsChosen Treatment.Adder sum) }
+{
+    let family = Adder::build(alloc, &sum)?;
+    Ok(Chosen::Adder(AdderOf { sum, family }))
+}
+
+/// The counter, or the adder.
+pub fn counter_within(alloc: Global, sum: AtMost, budget: u64) -> Result<Chosen, NoMemory>
+    requires class { IsCardinality sum }
+    requires few { length sum.terms < 2 ^ 31 }
+    requires light { weight sum.terms < 2 ^ 100 }
+    ensures { IfOk result (IsChosen (within_budget budget sum Treatment.Counter) sum) }
+{
+    if Counter::over(&sum).fresh() > budget {
+        return adder_of(alloc, sum);
+    }
+    Ok(Chosen::Counter(Cardinality { sum }))
+}
+
+/// The totalizer, or the adder.
+pub fn totalizer_within(alloc: Global, sum: AtMost, budget: u64) -> Result<Chosen, NoMemory>
+    requires class { IsCardinality sum }
+    requires few { length sum.terms < 2 ^ 31 }
+    requires light { weight sum.terms < 2 ^ 100 }
+    ensures { IfOk result (IsChosen (within_budget budget sum Treatment.Totalizer) sum) }
+{
+    match Totalizer::build(alloc, &sum, budget)? {
+        Built::Fits(family) => Ok(Chosen::Totalizer(TotalizerOf { sum, family })),
+        Built::Over => adder_of(alloc, sum),
+    }
+}
+
+/// The diagram, or the adder.
+pub fn diagram_within(alloc: Global, sum: AtMost, budget: u64) -> Result<Chosen, NoMemory>
+    requires class { IsProper sum }
+    requires few { length sum.terms < 2 ^ 31 }
+    requires light { weight sum.terms < 2 ^ 100 }
+    requires modest { budget ≤ 10000000 }
+    ensures { IfOk result (IsChosen (within_budget budget sum Treatment.Diagram) sum) }
+{
+    match Diagram::build(alloc, &sum, budget)? {
+        Built::Fits(family) => Ok(Chosen::Diagram(DiagramOf { sum, family })),
+        Built::Over => adder_of(alloc, sum),
+    }
+}
+
+/// The generalized totalizer, or the adder.
+pub fn tree_within(alloc: Global, sum: AtMost, budget: u64) -> Result<Chosen, NoMemory>
+    requires class { IsProper sum }
+    requires few { length sum.terms < 2 ^ 31 }
+    requires light { weight sum.terms < 2 ^ 100 }
+    requires modest { budget ≤ 10000000 }
+    ensures { IfOk result (IsChosen (within_budget budget sum Treatment.Tree) sum) }
+{
+    match Weighted::build(alloc, &sum, budget)? {
+        Built::Fits(family) => Ok(Chosen::Tree(TreeOf { sum, family })),
+        Built::Over => adder_of(alloc, sum),
+    }
+}
