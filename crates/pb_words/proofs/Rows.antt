@@ -1,5 +1,5 @@
 -- Worked examples of command lines, which the check computes.
-use Rattle.std.specs.Prelude.{◌≡◌, [], ◌∷◌, map, Option, Some, None, codes, refl}
+use Rattle.std.specs.Prelude.{◌≡◌, ℕ, List, [], ◌∷◌, true, false, map, Option, Some, None, codes, refl}
 use Rattle.clap.specs.Words.{Text}
 use Rattle.clap.proofs.OnLiterals.{clap_on_literals}
 use Rattle.pb_base.specs.Words.{words_of}
@@ -8,8 +8,9 @@ use Rattle.pb_choice.specs.declared.options.Card.TheVariants as card
 use Rattle.pb_choice.specs.declared.options.General.TheVariants as general
 use Rattle.pb_choice.specs.declared.options.Options.{Options}
 use Rattle.pb_choice.specs.Defaults.{default_options}
+use Rattle.pb_base.specs.declared.literal.Lit.{Lit}
 use Rattle.pb_words.specs.Taken.{Wanted, taken_of}
-use Rattle.pb_words.specs.Taken.Wanted.{Encode}
+use Rattle.pb_words.specs.Taken.Wanted.{Encode, Probe}
 
 -- what a line asks for whose words stand between blanks
 abbrev said : Text → Option Wanted
@@ -20,6 +21,15 @@ encode opb cnf options = Some (Encode (record { opb = opb; cnf = cnf; options = 
 
 abbrev encode_a_b : Options → Option Wanted
 encode_a_b = encode (codes "a") (codes "b")
+
+abbrev probe : Text → List Lit → Option Wanted
+probe cnf lits = Some (Probe (record { cnf = cnf; lits = lits }))
+
+abbrev plain : ℕ → Lit
+plain n = record { var = n; positive = true }
+
+abbrev negative : ℕ → Lit
+negative n = record { var = n; positive = false }
 
 -- ---- words that are taken
 
@@ -85,6 +95,23 @@ an_empty_name = refl
 another_program_name : said (codes "x encode a b") ≡ encode_a_b default_options
 unfolding taken_of clap_on_literals
 another_program_name = refl
+
+no_literals : said (codes "pbcnf probe c") ≡ probe (codes "c") []
+unfolding taken_of clap_on_literals
+no_literals = refl
+
+two_literals : said (codes "pbcnf probe c x1 ~x02") ≡ probe (codes "c") (plain 1 ∷ negative 2 ∷ [])
+unfolding taken_of clap_on_literals
+two_literals = refl
+
+the_greatest_literal : said (codes "pbcnf probe c x2147483647") ≡ probe (codes "c") (plain 2147483647 ∷ [])
+unfolding taken_of clap_on_literals
+the_greatest_literal = refl
+
+-- behind `--` each word is a name or a literal
+literals_behind_dashes : said (codes "pbcnf probe -- --c x1") ≡ probe (codes "--c") (plain 1 ∷ [])
+unfolding taken_of clap_on_literals
+literals_behind_dashes = refl
 
 -- ---- words that are not taken
 
@@ -220,3 +247,27 @@ version_option = refl
 help_command : said (codes "pbcnf help") ≡ None
 unfolding taken_of clap_on_literals
 help_command = refl
+
+no_variable : said (codes "pbcnf probe c x0") ≡ None
+unfolding taken_of clap_on_literals
+no_variable = refl
+
+no_literal : said (codes "pbcnf probe c x1 y1") ≡ None
+unfolding taken_of clap_on_literals
+no_literal = refl
+
+too_great_a_literal : said (codes "pbcnf probe c x2147483648") ≡ None
+unfolding taken_of clap_on_literals
+too_great_a_literal = refl
+
+number_as_literal : said (codes "pbcnf probe c -1") ≡ None
+unfolding taken_of clap_on_literals
+number_as_literal = refl
+
+nothing_to_probe : said (codes "pbcnf probe") ≡ None
+unfolding taken_of clap_on_literals
+nothing_to_probe = refl
+
+option_of_another_command : said (codes "pbcnf probe c --budget 9") ≡ None
+unfolding taken_of clap_on_literals
+option_of_another_command = refl

@@ -1,6 +1,5 @@
 -- What the program takes, and what its requests are.
-use Rattle.std.proofs.Common.{◌≡◌, ◌≢◌, ◌∙◌, ap, sym, refl, true, List, [], ◌∷◌, Option, Some, None, option_map, inl, inr, cond, subst, Result, Ok, Err, IfOk, IsErrOf}
-use Rattle.std.specs.Option.{ok_or}
+use Rattle.std.proofs.Common.{◌≡◌, ◌≢◌, ◌∙◌, ap, sym, refl, true, List, [], ◌∷◌, Option, None, inl, inr, cond, subst, Result, Err, IsErrOf}
 use Rattle.clap.specs.Words.{App, HasKind, HasMatchesOf, IsAmong, Kinds, Text, fault_of, is_simple, is_simple_and_free, kind_of, subcommand_of, subcommand_rows_of}
 use Rattle.clap.specs.declared.error.Error.{Error}
 use Rattle.clap.specs.declared.error.kind.ErrorKind.TheVariants.{OutOfMemory}
@@ -9,7 +8,7 @@ use Rattle.clap.proofs.OnLiterals.{clap_on_literals}
 use Rattle.pb_words.specs.declared.fault.WordsFault.{WordsFault}
 use Rattle.pb_words.specs.declared.fault.WordsFault.TheVariants.{Usage}
 use Rattle.pb_words.specs.declared.request.Request.{Request}
-use Rattle.pb_words.specs.Taken.{is_faultless, program_app, taken_of, wanted_as, wanted_by}
+use Rattle.pb_words.specs.Taken.{is_faultless, program_app, taken_of, wanted_by, Tells, Wanted}
 
 is_free : is_simple_and_free program_app ≡ true
 unfolding clap_on_literals
@@ -41,26 +40,15 @@ pub refused_by : (app : App) (words : List Text) (e : Error) → app ≡ program
 refused_by app words e is kinds other =
     refused words e (subst (λ a. HasKind (fault_of a words) e) is (kinds (ap is_simple_and_free is ∙ is_free))) other
 
-pub accepted_by : (app : App) (words : List Text) (m : ArgMatches) (r : Option Request) → app ≡ program_app
-    → (is_simple_and_free app ≡ true → fault_of app words ≡ []) → HasMatchesOf app words m
-    → option_map wanted_as r ≡ wanted_by (subcommand_rows_of m) → option_map wanted_as r ≡ taken_of words
-accepted_by app words m r is kinds has same =
+pub accepted_by : (app : App) (words : List Text) (m : ArgMatches) → app ≡ program_app
+    → (is_simple_and_free app ≡ true → fault_of app words ≡ []) → HasMatchesOf app words m → taken_of words ≡ wanted_by (subcommand_rows_of m)
+accepted_by app words m is kinds has =
     let none : fault_of program_app words ≡ [] = ap (λ a. fault_of a words) (sym is) ∙ kinds (ap is_simple_and_free is ∙ is_free) in
-    same ∙ sym (accepted words m none (subst (λ a. HasMatchesOf a words m) is has))
-
--- what an answer says of the words
-abbrev pub TellsOf : List Text → Result Request WordsFault → Type 0
-TellsOf words x = IfOk x (λ r. taken_of words ≡ Some (wanted_as r)) × (IsErrOf x Usage → taken_of words ≡ None)
-
-not_refused : (words : List Text) (v : Request) → Ok v ≡ Err Usage → taken_of words ≡ None
-not_refused words v h = cc
+    accepted words m none (subst (λ a. HasMatchesOf a words m) is has)
 
 pub refusal_is : (f : WordsFault) → IsErrOf {T = Request} (Err f) Usage → f ≡ Usage
 refusal_is f h = cc
 
-pub told : (words : List Text) (r : Option Request) (x : Result Request WordsFault) → x ≡ ok_or r Usage → option_map wanted_as r ≡ taken_of words → TellsOf words x
-told words r x is same = subst (TellsOf words) (sym is) (go r same)
-  where
-    go : (o : Option Request) → option_map wanted_as o ≡ taken_of words → TellsOf words (ok_or o Usage)
-    go None e = (tt, λ _. sym e)
-    go (Some v) e = (sym e, λ h. not_refused words v h)
+-- what is said of the command is said of the words
+pub told : (words : List Text) (wanted : Option Wanted) (x : Result Request WordsFault) → taken_of words ≡ wanted → Tells wanted x → Tells (taken_of words) x
+told words wanted x is tells = subst (λ (w : Option Wanted). Tells w x) (sym is) tells

@@ -2,12 +2,17 @@
 use Rattle.std.specs.Prelude.{◌≡◌, false, true, List, fold, Some}
 use Rattle.clap.specs.Words.{App, Rule, Text, app_of, new_app, new_rule, with_rule, with_subcommand}
 use Rattle.clap.specs.Simple.{on_top}
+use Rattle.clap.specs.declared.builder.action.ArgAction.TheVariants.{Append}
 use Rattle.clap.specs.declared.builder.command.Command.{Command}
 use Rattle.clap.specs.declared.builder.command.Command.TheViews.{out-Command}
 
 -- a name that has to be given
 abbrev pub name_rule : Text → Rule
 name_rule id = record (new_rule id) { required = true }
+
+-- any number of words, none included
+abbrev pub words_rule : Text → Rule
+words_rule id = record (new_rule id) { action = Some Append }
 
 -- an option `--id value`, which may be given once
 abbrev pub option_rule : Text → Rule

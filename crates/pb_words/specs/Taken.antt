@@ -1,23 +1,29 @@
 -- Which words the program takes, and what they ask for: those in which clap finds no fault, by its own definitions.
-use Rattle.std.specs.Prelude.{Bool, true, false, List, [], ◌∷◌, Option, None, if◌then◌else◌, codes, option_map, option_and_then}
+use Rattle.std.specs.Prelude.{◌≡◌, Bool, true, false, List, [], ◌∷◌, Option, Some, None, if◌then◌else◌, codes, option_map, option_and_then, Result, IfOk, IsErrOf}
 use Rattle.std.specs.Str.{bytes_eq}
 use Rattle.clap.specs.Words.{App, Kinds, Row, Text, fault_of, subcommand_of}
+use Rattle.pb_words.specs.declared.fault.WordsFault.{WordsFault}
+use Rattle.pb_words.specs.declared.fault.WordsFault.TheVariants.{Usage}
 use Rattle.pb_words.specs.declared.request.Request.{Request}
 use Rattle.pb_words.specs.declared.request.Request.TheVariants as request
 use Rattle.pb_words.specs.EncodeWords.{as_encode_words, encode_app, encode_in, EncodeWords}
+use Rattle.pb_words.specs.ProbeWords.{as_probe_words, probe_app, probe_in, ProbeWords}
 use Rattle.pb_words.specs.Rules.{program_of}
 
 -- the commands
 abbrev pub program_app : App
-program_app = program_of (codes "pbcnf") (encode_app ∷ [])
+program_app = program_of (codes "pbcnf") (encode_app ∷ probe_app ∷ [])
 
 -- what is asked for
 pub data Wanted : Type 0 where
   Encode : EncodeWords → Wanted
+  Probe : ProbeWords → Wanted
 
 -- what the command of this name is asked for, to which these arguments were given
 abbrev pub wanted_in : Text → List Row → Option Wanted
-wanted_in name given = if bytes_eq name (codes "encode") then option_map Encode (encode_in given) else None
+wanted_in name given =
+    if bytes_eq name (codes "encode") then option_map Encode (encode_in given)
+    else (if bytes_eq name (codes "probe") then option_map Probe (probe_in given) else None)
 
 -- the same, of the command that was given
 abbrev pub wanted_by : Option (Text × List Row) → Option Wanted
@@ -36,3 +42,8 @@ taken_of words =
 -- what a request says
 abbrev pub wanted_as : Request → Wanted
 wanted_as (request.Encode e) = Encode (as_encode_words e)
+wanted_as (request.Probe p) = Probe (as_probe_words p)
+
+-- an answer gives what is asked for, and says `Usage` only where nothing is
+abbrev pub Tells : Option Wanted → Result Request WordsFault → Type 0
+Tells wanted answer = IfOk answer (λ r. wanted ≡ Some (wanted_as r)) × (IsErrOf answer Usage → wanted ≡ None)

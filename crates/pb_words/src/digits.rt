@@ -5,10 +5,10 @@ ghost use Rattle.pb_words.specs.Digits.{number_within};
 use pb_base::{Number, read_digits};
 
 /// The number that a word of digits spells, where it is from `least` to `most`.
-pub fn number_within(word: &str, least: u64, most: u64) -> Option<u64>
+pub fn number_within(word: &[u8], least: u64, most: u64) -> Option<u64>
     ensures { result ≡ number_within least most word.now }
 {
-    match read_digits(word.as_bytes()) {
+    match read_digits(word) {
         Number::Value(n) if i128::from(least) <= n && n <= i128::from(most) => Some(n as u64),
         _ => None,
     }

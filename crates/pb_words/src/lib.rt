@@ -6,13 +6,16 @@ mod digits;
 mod encode;
 mod fault;
 mod line;
+mod literal;
 mod options;
+mod probe;
 mod program;
 mod request;
 
 pub use encode::Encoding;
 pub use fault::WordsFault;
 pub use line::taken;
+pub use probe::Probing;
 pub use request::Request;
 
 #[cfg(test)]

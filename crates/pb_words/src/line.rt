@@ -1,32 +1,63 @@
 //! The request that a command line makes.
 ghost use Rattle.std.specs.Prelude.{◌≡◌, ◌≢◌, IfOk, IsErrOf, None, Some, map, option_map, string_bytes};
 ghost use Rattle.clap.specs.Words.{found_of, kind_of, rows_of, subcommand_rows_of};
-ghost use Rattle.pb_words.specs.Taken.{taken_of, wanted_as, wanted_by, wanted_in};
+ghost use Rattle.pb_words.specs.EncodeWords.{encode_in};
+ghost use Rattle.pb_words.specs.ProbeWords.{probe_in};
+ghost use Rattle.pb_words.specs.Taken.{taken_of, wanted_as, wanted_by, wanted_in, Tells};
+ghost use Rattle.pb_words.specs.Taken.Wanted.{Encode, Probe};
 
 use crate::encode::encoding_in;
 use crate::fault::WordsFault;
+use crate::probe::probing_in;
 use crate::program::program;
 use crate::request::Request;
 use clap::ArgMatches;
 use clap::error::ErrorKind;
 use std::alloc::Global;
 
+// What `encode` was asked for.
+fn encode_request<'a>(given: &ArgMatches<'a>) -> Result<Request<'a>, WordsFault>
+    ensures { Tells (option_map Encode (encode_in (rows_of (found_of given.now)))) result }
+{
+    match encoding_in(given) {
+        Some(encoding) => Ok(Request::Encode(encoding)),
+        None => Err(WordsFault::Usage),
+    }
+}
+
+// What `probe` was asked for.
+fn probe_request<'a>(alloc: Global, given: &ArgMatches<'a>) -> Result<Request<'a>, WordsFault>
+    ensures { Tells (option_map Probe (probe_in (rows_of (found_of given.now)))) result }
+{
+    match probing_in(alloc, given) {
+        Ok(probing) => Ok(Request::Probe(probing)),
+        Err(fault) => Err(fault),
+    }
+}
+
 // What a command of this name was asked for.
-fn request_in<'a>(name: &str, given: &ArgMatches<'a>) -> Option<Request<'a>>
-    ensures { option_map wanted_as result ≡ wanted_in name.now (rows_of (found_of given.now)) }
+fn request_in<'a>(
+    alloc: Global,
+    name: &str,
+    given: &ArgMatches<'a>,
+) -> Result<Request<'a>, WordsFault>
+    ensures { Tells (wanted_in name.now (rows_of (found_of given.now))) result }
 {
     match name {
-        "encode" => Some(Request::Encode(encoding_in(given)?)),
-        _ => None,
+        "encode" => encode_request(given),
+        "probe" => probe_request(alloc, given),
+        _ => Err(WordsFault::Usage),
     }
 }
 
 // What the command that was given was asked for.
-fn request_by<'a>(matches: &ArgMatches<'a>) -> Option<Request<'a>>
-    ensures { option_map wanted_as result ≡ wanted_by (subcommand_rows_of matches.now) }
+fn request_by<'a>(alloc: Global, matches: &ArgMatches<'a>) -> Result<Request<'a>, WordsFault>
+    ensures { Tells (wanted_by (subcommand_rows_of matches.now)) result }
 {
-    let (name, given) = matches.subcommand()?;
-    request_in(name, given)
+    match matches.subcommand() {
+        Some((name, given)) => request_in(alloc, name, given),
+        None => Err(WordsFault::Usage),
+    }
 }
 
 // Words that clap does not take are none of the program's, unless memory was wanting.
@@ -51,5 +82,5 @@ pub fn taken<'a>(alloc: Global, words: &'a [String]) -> Result<Request<'a>, Word
         Ok(matches) => matches,
         Err(error) => return Err(fault_of(&error)),
     };
-    request_by(&matches).ok_or(WordsFault::Usage)
+    request_by(alloc, &matches)
 }

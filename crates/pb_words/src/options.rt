@@ -86,7 +86,7 @@ fn budget_in(given: &ArgMatches<'_>) -> Option<u64>
     ensures { result ≡ budget_in (rows_of (found_of given.now)) }
 {
     match word_of(given, "budget") {
-        Some(word) => number_within(word, 1, MAX_BUDGET),
+        Some(word) => number_within(word.as_bytes(), 1, MAX_BUDGET),
         None => Some(Options::default().budget),
     }
 }

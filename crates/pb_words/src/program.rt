@@ -3,7 +3,7 @@ ghost use Rattle.std.specs.Prelude.{◌≡◌, IfOk, codes};
 ghost use Rattle.pb_words.specs.Rules.{bare_program, IsCommand};
 ghost use Rattle.pb_words.specs.Taken.{program_app};
 
-use crate::encode;
+use crate::{encode, probe};
 use clap::Command;
 use std::alloc::{AllocError, Global};
 
@@ -22,5 +22,7 @@ fn bare<'a>(alloc: Global) -> Command<'a>
 pub fn program<'a>(alloc: Global) -> Result<Command<'a>, AllocError>
     ensures { IfOk result (IsCommand program_app) }
 {
-    bare(alloc).subcommand(encode::command(alloc)?)
+    bare(alloc)
+        .subcommand(encode::command(alloc)?)?
+        .subcommand(probe::command(alloc)?)
 }

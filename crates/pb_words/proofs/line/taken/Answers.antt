@@ -1,15 +1,18 @@
 use Rattle.std.proofs.Common.{map, string_bytes}
-use Rattle.pb_words.proofs.TakenLemmas.{TellsOf, accepted_by, refusal_is, refused_by, told}
+use Rattle.clap.specs.Words.{subcommand_rows_of}
+use Rattle.pb_words.specs.Taken.{taken_of, wanted_by, Tells}
+use Rattle.pb_words.proofs.TakenLemmas.{accepted_by, refusal_is, refused_by, told}
 use Rattle.pb_words.proofs.line.taken.Goals as goal
 
 pub returns-in-Err-clause-usage : goal.returns-in-Err-clause-usage
 returns-in-Err-clause-usage c =
     λ usage. refused_by _ (map string_bytes c.args.words.now) c.in-Err.error c.in_ok-program.ensures.0 c.in-Err.ensures.kinds (c.fault_of.ensures (refusal_is _ usage))
 
-tells : (c : goal.Joined-matches) → TellsOf (map string_bytes c.args.words.now) c.ok_or.result
+tells : (c : goal.Joined-matches) → Tells (taken_of (map string_bytes c.args.words.now)) c.request_by.result
 tells c =
-    let same = accepted_by _ (map string_bytes c.args.words.now) c.in-Ok.matches c.request_by.result c.in_ok-program.ensures.0 c.in-Ok.ensures.kinds c.in-Ok.ensures.matches c.request_by.ensures in
-    told _ c.request_by.result c.ok_or.result c.ok_or.ensures.value same
+    told _ (wanted_by (subcommand_rows_of c.in-Ok.matches)) c.request_by.result
+    (accepted_by _ (map string_bytes c.args.words.now) c.in-Ok.matches c.in_ok-program.ensures.0 c.in-Ok.ensures.kinds c.in-Ok.ensures.matches)
+    c.request_by.ensures
 
 pub returns-clause-asked : goal.returns-clause-asked
 returns-clause-asked c = (tells c).0

@@ -1,0 +1,56 @@
+//! The words of `probe`.
+ghost use Rattle.std.specs.Prelude.{◌≡◌, [], IfOk, IsErrOf, None, Some, codes, unwrap_or};
+ghost use Rattle.clap.specs.Words.{all_of, found_of, rows_of};
+ghost use Rattle.pb_words.specs.LitWords.{lits_in};
+ghost use Rattle.pb_words.specs.Rules.{IsCommand};
+ghost use Rattle.pb_words.specs.ProbeWords.{as_probe_words, probe_app, probe_in};
+
+use crate::argument::{name, word_of, words, words_of};
+use crate::fault::WordsFault;
+use crate::literal::lits_in;
+use clap::{ArgMatches, Command};
+use pb_base::Lits;
+use std::alloc::{AllocError, Global};
+
+/// Propagate some literals over a CNF: the file that is read, and the literals.
+#[derive(Debug, Drop)]
+pub struct Probing<'a> {
+    /// The name of the CNF file.
+    pub cnf: &'a str,
+    /// The literals that are given.
+    pub lits: Lits,
+}
+
+/// `probe CNF LIT ..`
+pub fn command<'a>(alloc: Global) -> Result<Command<'a>, AllocError>
+    ensures { IfOk result (IsCommand probe_app) }
+{
+    Command::new(alloc, "probe")
+        .arg(name(alloc, "cnf"))?
+        .arg(words(alloc, "lits"))
+}
+
+// The literals that were given; `Usage` where one of the words is none.
+fn given_lits(alloc: Global, given: &ArgMatches<'_>) -> Result<Lits, WordsFault>
+    ensures asked { IfOk result (λ lits. lits_in (unwrap_or (all_of (codes "lits") (rows_of (found_of given.now))) []) ≡ Some lits) }
+    ensures usage { IsErrOf result WordsFault.Usage → lits_in (unwrap_or (all_of (codes "lits") (rows_of (found_of given.now))) []) ≡ None }
+{
+    match words_of(given, "lits") {
+        Some(words) => lits_in(alloc, words),
+        None => Ok(Lits::new(alloc)),
+    }
+}
+
+/// What `probe` was asked for; `Usage` where it was not asked so.
+pub fn probing_in<'a>(alloc: Global, given: &ArgMatches<'a>) -> Result<Probing<'a>, WordsFault>
+    ensures asked { IfOk result (λ p. probe_in (rows_of (found_of given.now)) ≡ Some (as_probe_words p)) }
+    ensures usage { IsErrOf result WordsFault.Usage → probe_in (rows_of (found_of given.now)) ≡ None }
+{
+    let Some(cnf) = word_of(given, "cnf") else {
+        return Err(WordsFault::Usage);
+    };
+    match given_lits(alloc, given) {
+        Ok(lits) => Ok(Probing { cnf, lits }),
+        Err(fault) => Err(fault),
+    }
+}
