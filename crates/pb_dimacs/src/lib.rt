@@ -3,6 +3,7 @@
 
 mod cursor;
 mod fault;
+mod forms;
 mod head;
 mod laws;
 mod meaning;
@@ -11,16 +12,19 @@ mod outbox;
 mod p_line;
 mod reader;
 mod start;
-mod text;
 mod writer;
 mod writing;
 
 pub use fault::CnfFault;
+pub use forms::{CnfForms, read_forms};
 pub use head::CnfHead;
-pub use laws::{text_says_one_thing, written_text_reads};
+pub use laws::{
+    faults_say_nothing, text_says_one_thing, what_is_said_is_told, what_is_told_is_said,
+    written_text_is_told, written_text_reads,
+};
+pub use outbox::Outbox;
 pub use p_line::header;
 pub use reader::ClauseReader;
-pub use text::{push_clause, push_header};
 pub use writer::ClauseWriter;
 
 #[cfg(test)]
