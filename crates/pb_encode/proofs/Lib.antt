@@ -1,6 +1,9 @@
-pub mod ClauseModels
-pub mod TallyLemmas
 pub mod CountingLoops
-pub mod Sending
-pub mod ClauseCounts
-pub mod ClauseVariables
+pub mod HalfWeights
+pub mod Headers
+pub mod Residuals
+pub mod Solutions
+pub mod StreamSteps
+pub mod TallyLemmas
+pub mod TextParts
+pub mod WholeTexts

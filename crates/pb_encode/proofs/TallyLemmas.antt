@@ -1,78 +1,67 @@
 -- What a tally counts.
-use Rattle.std.proofs.Common.{◌≡◌, ◌≤◌, ◌<◌, ◌+◌, ◌*◌, ◌^◌, ℕ, List, [], ◌∷◌, ◌++◌, cond, length, map, ap, sym, ◌∙◌, arith}
-use Rattle.std.specs.Prelude.{Option, Some}
-use Rattle.std.proofs.lemmas.List.{length-append}
-use Rattle.std.proofs.lemmas.List.Sums.{sum_by_push}
+use Rattle.std.proofs.Common.{◌≡◌, ◌≢◌, ◌≤◌, ◌<◌, ◌+◌, ◌*◌, ◌^◌, ◌==◌, ◌++◌, ℕ, Bool, true, false, cond, List, [], ◌∷◌, length, map, refl, ap, sym, subst, ◌∙◌, arith, inl, inr}
+use Rattle.std.specs.Prelude.{slice_index_or, slice_set}
+use Rattle.std.proofs.lemmas.Bool.{cases_eq, eq-eqb, ne_eqb}
+use Rattle.std.proofs.lemmas.List.{length-append, get_or-set_same, get_or-set_other, length-set}
+use Rattle.std.proofs.lemmas.List.Sums.{sum_by_push, sum_by-cons}
 use Rattle.pb_base.specs.declared.problem.Relation.{Relation}
 use Rattle.pb_base.specs.declared.problem.Relation.TheVariants.{AtLeast, AtMost, Equal}
 use Rattle.pb_base.specs.declared.problem.Raw.{Raw}
 use Rattle.pb_base.specs.declared.problem.Problem.{Problem}
-use Rattle.pb_norm.specs.declared.reduction.Rest.{Rest}
-use Rattle.pb_norm.specs.declared.reduction.Rest.TheVariants as rest
 use Rattle.pb_norm.specs.Constraints.{Constraint}
-use Rattle.pb_norm.specs.declared.reduction.Reduced.{Reduced}
 use Rattle.pb_norm.specs.Halves.{half_of, halves_of, constraints_of, loaded}
-use Rattle.pb_norm.specs.Reduction.{units_of, rest_of, split}
-use Rattle.pb_encode.specs.declared.treatment.Treatment.{Treatment}
-use Rattle.pb_encode.specs.declared.treatment.Treatment.TheVariants.{Nothing, Empty, Clause}
+use Rattle.pb_norm.specs.Reduction.{rest_of}
+use Rattle.pb_choice.specs.declared.options.Options.{Options}
+use Rattle.pb_choice.specs.Choice.{treatment_of}
+use Rattle.pb_choice.specs.Clauses.{constraint_count, constraint_fresh}
 use Rattle.pb_encode.specs.declared.tally.Tally.{Tally}
-use Rattle.pb_encode.specs.Clauses.{treatment_of, rest_count, clause_count, clause_total}
 use Rattle.pb_encode.specs.declared.summary.Treatments.{Treatments}
 use Rattle.pb_encode.specs.declared.summary.Summary.{Summary}
-use Rattle.pb_encode.specs.Summaries.{is_by, treated, treatments_of, summary_of}
-use Rattle.pb_encode.specs.Tallies.{capped, added, tally_of}
-
--- how many clauses a treatment adds to the units
-own_clauses : Treatment → ℕ
-own_clauses Nothing = 0
-own_clauses Empty = 1
-own_clauses Clause = 1
-
-count_of_treatment : (r : Rest) (t : Treatment) → treatment_of r ≡ Some t → rest_count r ≡ own_clauses t
-unfolding own_clauses
-count_of_treatment rest.Nothing t e = let is : Nothing ≡ t = cc in ap own_clauses is
-count_of_treatment rest.Empty t e = let is : Empty ≡ t = cc in ap own_clauses is
-count_of_treatment (rest.Clause ls) t e = let is : Clause ≡ t = cc in ap own_clauses is
-count_of_treatment (rest.One m) t e = cc
-count_of_treatment (rest.Card m) t e = cc
-count_of_treatment (rest.General m) t e = cc
-
-total-push : (cs : List Constraint) (c : Constraint) (t : Treatment) → treatment_of (rest_of c) ≡ Some t → clause_total (cs ++ c ∷ []) ≡ clause_total cs + (length (units_of c) + own_clauses t)
-total-push cs c t e = sum_by_push clause_count cs c ∙ ap (λ (n : ℕ). clause_total cs + (length (units_of c) + n)) (count_of_treatment (rest_of c) t e)
-
-treated-push : (u t : Treatment) (cs : List Constraint) (c : Constraint) → treatment_of (rest_of c) ≡ Some t → treated u (cs ++ c ∷ []) ≡ treated u cs + cond (is_by u (Some t)) 1 0
-treated-push u t cs c e = sum_by_push (λ (d : Constraint). cond (is_by u (treatment_of (rest_of d))) 1 0) cs c ∙ ap (λ (o : Option Treatment). treated u cs + cond (is_by u o) 1 0) e
-
-same_tally : (s t : Tally) → s.clauses ≡ t.clauses → s.nothing ≡ t.nothing → s.empty ≡ t.empty → s.clause ≡ t.clause → s ≡ t
-same_tally s t a b c d = λ i. record { clauses = a i; nothing = b i; empty = c i; clause = d i }
+use Rattle.pb_encode.specs.Clauses.{clause_total, fresh_total, problem_vars}
+use Rattle.pb_encode.specs.Summaries.{is_at, place_of, treated, treatments_of, summary_of}
+use Rattle.pb_encode.specs.Tallies.{capped, IsTally}
 
 capped-sum : (a b n : ℕ) → n ≡ a + b → capped n ≡ capped (capped a + b)
 capped-sum a b n e = omega (arith, e)
 
-capped-same : (a n : ℕ) → n ≡ a + 0 → capped n ≡ capped a
-capped-same a n e = omega (arith, e)
+-- one or none
+one_if : Bool → ℕ
+one_if b = cond b 1 0
 
-pub tally-push : (cs : List Constraint) (c : Constraint) (t : Treatment) → treatment_of (rest_of c) ≡ Some t → tally_of (cs ++ c ∷ []) ≡ added (length (units_of c)) t (tally_of cs)
-unfolding own_clauses
-tally-push cs c Nothing e = same_tally (tally_of (cs ++ c ∷ [])) (added (length (units_of c)) Nothing (tally_of cs))
-    (let more : clause_total (cs ++ c ∷ []) ≡ clause_total cs + length (units_of c) = omega (arith, total-push cs c Nothing e) in capped-sum (clause_total cs) (length (units_of c)) _ more)
-    (capped-sum (treated Nothing cs) 1 _ (treated-push Nothing Nothing cs c e)) (capped-same (treated Empty cs) _ (treated-push Empty Nothing cs c e)) (capped-same (treated Clause cs) _ (treated-push Clause Nothing cs c e))
-tally-push cs c Empty e = same_tally (tally_of (cs ++ c ∷ [])) (added (length (units_of c)) Empty (tally_of cs))
-    (capped-sum (clause_total cs) (length (units_of c) + 1) _ (total-push cs c Empty e))
-    (capped-same (treated Nothing cs) _ (treated-push Nothing Empty cs c e)) (capped-sum (treated Empty cs) 1 _ (treated-push Empty Empty cs c e)) (capped-same (treated Clause cs) _ (treated-push Clause Empty cs c e))
-tally-push cs c Clause e = same_tally (tally_of (cs ++ c ∷ [])) (added (length (units_of c)) Clause (tally_of cs))
-    (capped-sum (clause_total cs) (length (units_of c) + 1) _ (total-push cs c Clause e))
-    (capped-same (treated Nothing cs) _ (treated-push Nothing Clause cs c e)) (capped-same (treated Empty cs) _ (treated-push Empty Clause cs c e)) (capped-sum (treated Clause cs) 1 _ (treated-push Clause Clause cs c e))
+treated-push : (o : Options) (place : ℕ) (cs : List Constraint) (c : Constraint) → treated o place (cs ++ c ∷ []) ≡ treated o place cs + one_if (is_at o place c)
+unfolding one_if
+treated-push o place cs c = sum_by_push (λ (d : Constraint). cond (is_at o place d) 1 0) cs c
 
--- a constraint was reduced and counted
-pub counts_more : (cs : List Constraint) (c : Constraint) (r : Reduced) (t : Treatment) (n : ℕ) (old new : Tally) → old ≡ tally_of cs → r ≡ split c → Some t ≡ treatment_of r.rest → n ≡ length r.units → new ≡ added n t old → new ≡ tally_of (cs ++ c ∷ [])
-counts_more cs c r t n old new is_old is_split is_treated is_n is_new =
-    let known : treatment_of (rest_of c) ≡ Some t = ap (λ (s : Reduced). treatment_of s.rest) (sym is_split) ∙ sym is_treated in
-    let units : n ≡ length (units_of c) = is_n ∙ ap (λ (s : Reduced). length s.units) is_split in
-    is_new ∙ ap (λ (m : ℕ). added m t old) units ∙ ap (λ (s : Tally). added (length (units_of c)) t s) is_old ∙ sym (tally-push cs c t known)
+-- the counts of the treatments, with one more at a place
+places_more : (o : Options) (cs : List Constraint) (c : Constraint) (old new : List ℕ) (p : ℕ) → length old ≡ 11 → p ≡ place_of (treatment_of o (rest_of c)) → p < 11 → new ≡ slice_set old p (capped (slice_index_or old p 0 + 1))
+    → ((place : ℕ) → place < 11 → slice_index_or old place 0 ≡ capped (treated o place cs)) → (place : ℕ) → place < 11 → slice_index_or new place 0 ≡ capped (treated o place (cs ++ c ∷ []))
+unfolding one_if
+places_more o cs c old new p size at lt is before place within =
+    elim (cases_eq p place) as (λ _. slice_index_or new place 0 ≡ capped (treated o place (cs ++ c ∷ []))) [
+      | inl same ↦
+          let here : is_at o place c ≡ true = eq-eqb (place_of (treatment_of o (rest_of c))) place (sym at ∙ same) in
+          let more : treated o place (cs ++ c ∷ []) ≡ treated o place cs + 1 = treated-push o place cs c ∙ ap (λ (b : Bool). treated o place cs + one_if b) here in
+          let read : slice_index_or new p 0 ≡ capped (slice_index_or old p 0 + 1) = ap (λ (xs : List ℕ). slice_index_or xs p 0) is ∙ get_or-set_same old p (capped (slice_index_or old p 0 + 1)) 0 (omega (arith, size, lt)) in
+          let was : slice_index_or old p 0 ≡ capped (treated o place cs) = before p lt ∙ ap (λ (n : ℕ). capped (treated o n cs)) same in
+          ap (λ (n : ℕ). slice_index_or new n 0) (sym same) ∙ read ∙ ap (λ (n : ℕ). capped (n + 1)) was ∙ sym (capped-sum (treated o place cs) 1 _ more)
+      | inr other ↦
+          let not_here : is_at o place c ≡ false = ne_eqb (place_of (treatment_of o (rest_of c))) place (λ e. other (at ∙ e)) in
+          let same : treated o place (cs ++ c ∷ []) ≡ treated o place cs = let e : treated o place (cs ++ c ∷ []) ≡ treated o place cs + 0 = treated-push o place cs c ∙ ap (λ (b : Bool). treated o place cs + one_if b) not_here in omega (arith, e) in
+          ap (λ (xs : List ℕ). slice_index_or xs place 0) is ∙ get_or-set_other old p place (capped (slice_index_or old p 0 + 1)) 0 (λ e. other (sym e)) ∙ before place within ∙ ap capped (sym same)
+    ]
+
+-- one more constraint was counted
+pub tally_more : (o : Options) (cs : List Constraint) (c : Constraint) (old new : Tally) (p : ℕ) → new.fresh ≡ capped (old.fresh + constraint_fresh o c) → new.clauses ≡ capped (old.clauses + constraint_count o c)
+    → p ≡ place_of (treatment_of o (rest_of c)) → p < 11 → new.treated ≡ slice_set old.treated p (capped (slice_index_or old.treated p 0 + 1)) → IsTally o cs old → IsTally o (cs ++ c ∷ []) new
+tally_more o cs c old new p fresh clauses at lt is h = record {
+  fresh = fresh ∙ ap (λ (n : ℕ). capped (n + constraint_fresh o c)) h.fresh ∙ sym (capped-sum (fresh_total o cs) (constraint_fresh o c) _ (sum_by_push (constraint_fresh o) cs c));
+  clauses = clauses ∙ ap (λ (n : ℕ). capped (n + constraint_count o c)) h.clauses ∙ sym (capped-sum (clause_total o cs) (constraint_count o c) _ (sum_by_push (constraint_count o) cs c));
+  size = ap length is ∙ length-set old.treated p (capped (slice_index_or old.treated p 0 + 1)) ∙ h.size;
+  treated = places_more o cs c old.treated new.treated p h.size at lt is h.treated;
+}
 
 -- at most two for each statement
-pub length-loaded : (ss : List Raw) → length (loaded ss) ≤ 2 * length ss
+length-loaded : (ss : List Raw) → length (loaded ss) ≤ 2 * length ss
 length-loaded [] = omega arith
 length-loaded (s ∷ ss) = omega (arith, length-loaded ss, length-append (constraints_of s) (loaded ss), of_relation s.relation)
   where
@@ -84,9 +73,28 @@ length-loaded (s ∷ ss) = omega (arith, length-loaded ss, length-append (constr
 pub few_loaded : (p : Problem) → length p.statements ≤ 2 ^ 24 + 1 → length (loaded p.statements) < 2 ^ 64
 few_loaded p few = omega (arith, length-loaded p.statements)
 
-pub summary_is : (p : Problem) (t : Tally) (ts : Treatments) → t ≡ tally_of (loaded p.statements) → t.clauses ≤ 2 ^ 36 → ts ≡ treatments_of (loaded p.statements)
-    → ◌≡◌ {A = Summary} (record { vars = p.vars; original = p.vars; clauses = t.clauses; treatments = ts }) (summary_of p)
-summary_is p t ts is le same = λ i. record { vars = p.vars; original = p.vars; clauses = total i; treatments = same i }
+one_if-le : (b : Bool) → one_if b ≤ 1
+unfolding one_if
+one_if-le true = omega arith
+one_if-le false = omega arith
+
+treated-le : (o : Options) (place : ℕ) (cs : List Constraint) → treated o place cs ≤ length cs
+unfolding one_if
+treated-le o place [] = omega arith
+treated-le o place (c ∷ cs) =
+    let sum : treated o place (c ∷ cs) ≡ one_if (is_at o place c) + treated o place cs = sum_by-cons (λ (d : Constraint). cond (is_at o place d) 1 0) c cs in
+    omega (arith, sum, treated-le o place cs, one_if-le (is_at o place c))
+
+-- a count that is not too great is exact
+pub exact : (o : Options) (cs : List Constraint) (t : Tally) (place n : ℕ) → length cs < 2 ^ 64 → IsTally o cs t → place < 11 → n ≡ slice_index_or t.treated place 0 → n ≡ treated o place cs
+exact o cs t place n few h within is = omega (arith, is, h.treated place within, treated-le o place cs, few)
+
+pub summary_is : (o : Options) (p : Problem) (t : Tally) (v : ℕ) (ts : Treatments) → IsTally o (loaded p.statements) t → v ≡ capped (p.vars + t.fresh) → v < 2 ^ 31 → t.clauses ≤ 2 ^ 36 → ts ≡ treatments_of o (loaded p.statements)
+    → ◌≡◌ {A = Summary} (record { vars = v; original = p.vars; clauses = t.clauses; treatments = ts }) (summary_of o p)
+summary_is o p t v ts h vars small le same = λ i. record { vars = all i; original = p.vars; clauses = total i; treatments = same i }
   where
-    total : t.clauses ≡ clause_total (loaded p.statements)
-    total = let e : t.clauses ≡ capped (clause_total (loaded p.statements)) = ap (λ (u : Tally). u.clauses) is in omega (arith, e, le)
+    all : v ≡ problem_vars o p
+    all = omega (arith, vars, small, h.fresh)
+
+    total : t.clauses ≡ clause_total o (loaded p.statements)
+    total = omega (arith, h.clauses, le)

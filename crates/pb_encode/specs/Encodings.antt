@@ -4,12 +4,13 @@ use Rattle.pb_base.specs.declared.problem.Problem.{Problem}
 use Rattle.pb_desk.specs.View.{View, created, wrote, closed}
 use Rattle.pb_desk.specs.Desk.{DeskState, Reaches, FailsToWrite, IsTaken, IsTold, same}
 use Rattle.pb_dimacs.specs.CnfText.{cnf_text}
-use Rattle.pb_encode.specs.Clauses.{problem_clauses}
+use Rattle.pb_choice.specs.declared.options.Options.{Options}
+use Rattle.pb_encode.specs.Clauses.{problem_clauses, problem_vars}
 use Rattle.pb_encode.specs.Summaries.{IsEncodable}
 
--- the CNF text of a problem: no variable is fresh
-abbrev pub problem_text : Problem → List ℕ
-problem_text p = cnf_text p.vars (problem_clauses p)
+-- the CNF text of a problem
+abbrev pub problem_text : Options → Problem → List ℕ
+problem_text o p = cnf_text (problem_vars o p) (problem_clauses o p)
 
 -- a file was made in slot 0, and holds these bytes
 abbrev pub begun : List ℕ → List ℕ → View → View
@@ -25,9 +26,9 @@ pub data StopsMaking (name text : List ℕ) (old new : DeskState) : Type 0 where
   in_text : (count : ℕ) → FailsToWrite (begun name (take count text)) old new → StopsMaking name text old new
 
 -- Memory was wanting: before the file was made, or, of a problem that is encoded, once it held a first part of its text.
-pub data WantsMemory (p : Problem) (name : List ℕ) (old new : DeskState) : Type 0 where
-  not_made : Reaches same old new → WantsMemory p name old new
-  in_text : IsEncodable p → (count : ℕ) → Reaches (begun name (take count (problem_text p))) old new → WantsMemory p name old new
+pub data WantsMemory (o : Options) (p : Problem) (name : List ℕ) (old new : DeskState) : Type 0 where
+  not_made : Reaches same old new → WantsMemory o p name old new
+  in_text : IsEncodable o p → (count : ℕ) → Reaches (begun name (take count (problem_text o p))) old new → WantsMemory o p name old new
 
 -- Why a steady desk may fail to make a file: the name or the slot is used, or there is no room for the text.
 pub data LacksToMake (name text : List ℕ) (desk : DeskState) : Type 0 where

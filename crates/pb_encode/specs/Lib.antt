@@ -3,5 +3,6 @@ pub mod Encodings
 pub mod Models
 pub mod Summaries
 pub mod Tallies
-pub mod Emission
 pub mod Faults
+pub mod Sending
+pub mod Streams

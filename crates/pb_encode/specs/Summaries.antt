@@ -1,65 +1,78 @@
 -- What is said of an encoded problem, and which problems are encoded.
-use Rattle.std.specs.Prelude.{ℕ, ◌-◌, ◌≤◌, ◌<◌, ◌^◌, Bool, true, false, List, ◌++◌, All, Option, Some, count_by, codes, decimal}
+use Rattle.std.specs.Prelude.{ℕ, ◌-◌, ◌≤◌, ◌<◌, ◌^◌, Bool, ◌==◌, List, ◌++◌, count_by, codes, decimal}
 use Rattle.pb_base.specs.declared.limit.LimitKind.{LimitKind}
 use Rattle.pb_base.specs.declared.limit.LimitKind.TheVariants as limit
 use Rattle.pb_base.specs.declared.problem.Problem.{Problem}
 use Rattle.pb_norm.specs.Constraints.{Constraint}
 use Rattle.pb_norm.specs.Halves.{loaded}
 use Rattle.pb_norm.specs.Reduction.{rest_of}
-use Rattle.pb_encode.specs.declared.treatment.Treatment.{Treatment}
-use Rattle.pb_encode.specs.declared.treatment.Treatment.TheVariants.{Nothing, Empty, Clause}
+use Rattle.pb_choice.specs.declared.options.Options.{Options}
+use Rattle.pb_choice.specs.declared.treatment.Treatment.{Treatment}
+use Rattle.pb_choice.specs.declared.treatment.Treatment.TheVariants as treatment
+use Rattle.pb_choice.specs.Choice.{treatment_of}
 use Rattle.pb_encode.specs.declared.summary.Treatments.{Treatments}
 use Rattle.pb_encode.specs.declared.summary.Summary.{Summary}
-use Rattle.pb_encode.specs.Clauses.{treatment_of, clause_total, IsEncoded}
+use Rattle.pb_encode.specs.Clauses.{clause_total, problem_vars}
 
 -- ---- counts
 
-abbrev pub is_by : Treatment → Option Treatment → Bool
-is_by Nothing (Some Nothing) = true
-is_by Empty (Some Empty) = true
-is_by Clause (Some Clause) = true
-is_by treatment encoded = false
+-- the place of a treatment in the summary
+abbrev pub place_of : Treatment → ℕ
+place_of treatment.Nothing = 0
+place_of treatment.Empty = 1
+place_of treatment.Clause = 2
+place_of treatment.Pairwise = 3
+place_of treatment.Ladder = 4
+place_of treatment.Product = 5
+place_of treatment.Counter = 6
+place_of treatment.Totalizer = 7
+place_of treatment.Diagram = 8
+place_of treatment.Tree = 9
+place_of treatment.Adder = 10
+
+-- the treatment of the constraint has this place
+abbrev pub is_at : Options → ℕ → Constraint → Bool
+is_at o place c = place_of (treatment_of o (rest_of c)) == place
 
 -- how many of the constraints are treated so
-abbrev pub treated : Treatment → List Constraint → ℕ
-treated treatment cs = count_by (λ c. is_by treatment (treatment_of (rest_of c))) cs
+abbrev pub treated : Options → ℕ → List Constraint → ℕ
+treated o place cs = count_by (is_at o place) cs
 
-abbrev pub treatments_of : List Constraint → Treatments
-treatments_of cs = record {
-  nothing = treated Nothing cs;
-  empty = treated Empty cs;
-  clause = treated Clause cs;
-  pairwise = 0;
-  ladder = 0;
-  product = 0;
-  counter = 0;
-  totalizer = 0;
-  diagram = 0;
-  tree = 0;
-  adder = 0;
+abbrev pub treatments_of : Options → List Constraint → Treatments
+treatments_of o cs = record {
+  nothing = treated o 0 cs;
+  empty = treated o 1 cs;
+  clause = treated o 2 cs;
+  pairwise = treated o 3 cs;
+  ladder = treated o 4 cs;
+  product = treated o 5 cs;
+  counter = treated o 6 cs;
+  totalizer = treated o 7 cs;
+  diagram = treated o 8 cs;
+  tree = treated o 9 cs;
+  adder = treated o 10 cs;
 }
 
--- no variable is fresh
-abbrev pub summary_of : Problem → Summary
-summary_of p = record {
-  vars = p.vars;
+abbrev pub summary_of : Options → Problem → Summary
+summary_of o p = record {
+  vars = problem_vars o p;
   original = p.vars;
-  clauses = clause_total (loaded p.statements);
-  treatments = treatments_of (loaded p.statements);
+  clauses = clause_total o (loaded p.statements);
+  treatments = treatments_of o (loaded p.statements);
 }
 
 -- ---- which problems are encoded
 
--- each class has an encoding, and there are at most 2 ^ 36 clauses
-pub record IsEncodable (p : Problem) : Type 0 where
-  pub encoded : All IsEncoded (loaded p.statements)
-  pub clauses : clause_total (loaded p.statements) ≤ 2 ^ 36
+-- there are not too many variables or clauses
+pub record IsEncodable (o : Options) (p : Problem) : Type 0 where
+  pub vars : problem_vars o p < 2 ^ 31
+  pub clauses : clause_total o (loaded p.statements) ≤ 2 ^ 36
 
--- what a problem passes that is not encoded, the classes before the clauses
-abbrev pub IsOver : LimitKind → Problem → Type 0
-IsOver limit.Family p = ¬ All IsEncoded (loaded p.statements)
-IsOver limit.Clauses p = All IsEncoded (loaded p.statements) × (2 ^ 36 < clause_total (loaded p.statements))
-IsOver which p = ⊥
+-- what a problem passes that is not encoded: the variables before the clauses
+abbrev pub IsOver : LimitKind → Options → Problem → Type 0
+IsOver limit.Variables o p = 2 ^ 31 ≤ problem_vars o p
+IsOver limit.Clauses o p = (problem_vars o p < 2 ^ 31) × (2 ^ 36 < clause_total o (loaded p.statements))
+IsOver which o p = ⊥
 
 -- ---- the words
 

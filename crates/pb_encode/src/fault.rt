@@ -2,15 +2,16 @@
 ghost use Rattle.std.specs.Prelude.{◌≡◌};
 ghost use Rattle.pb_encode.specs.declared.fault.MeasureFault.TheVariants as measure;
 ghost use Rattle.pb_encode.specs.declared.fault.EncodeFault.TheVariants as encode;
-ghost use Rattle.pb_encode.specs.Faults.{as_encode_fault};
+ghost use Rattle.pb_encode.specs.Faults.{as_encode_fault, of_sink};
 
 use pb_base::{Failed, LimitKind, NoMemory};
+use pb_family::SinkFault;
 use std::alloc::AllocError;
 
 /// Why a problem is not measured.
 #[derive(Clone, Copy, PartialEq, Eq, Debug)]
 pub enum MeasureFault {
-    /// A class has no encoding yet, or there would be too many clauses.
+    /// There would be too many variables or clauses.
     Limit { which: LimitKind },
     NoMemory,
 }
@@ -26,7 +27,7 @@ impl From<NoMemory> for MeasureFault {
 /// Why a problem is not encoded.
 #[derive(Clone, Copy, PartialEq, Eq, Debug)]
 pub enum EncodeFault {
-    /// A class has no encoding yet, or there would be too many clauses. Then no file is made.
+    /// There would be too many variables or clauses. Then no file is made.
     Limit { which: LimitKind },
     /// A write failed, and the desk counted it.
     WriteFault,
@@ -65,5 +66,16 @@ impl From<AllocError> for EncodeFault {
 
     fn from(_: AllocError) -> Self {
         EncodeFault::NoMemory
+    }
+}
+
+impl From<SinkFault> for EncodeFault {
+    ghost from_gives = { λ e f. f ≡ of_sink e };
+
+    fn from(fault: SinkFault) -> Self {
+        match fault {
+            SinkFault::Failed => EncodeFault::WriteFault,
+            SinkFault::NoMemory => EncodeFault::NoMemory,
+        }
     }
 }

@@ -1,48 +1,90 @@
 //! Counts of what is encoded.
-ghost use Rattle.std.specs.Prelude.{◌≡◌, []};
-ghost use Rattle.pb_encode.specs.Tallies.{added, tally_of};
+ghost use Rattle.std.specs.Prelude.{◌≡◌, ◌<◌, ◌^◌, [], ◌∷◌, ◌++◌, List, length};
+ghost use Rattle.pb_norm.specs.Constraints.{Constraint};
+ghost use Rattle.pb_choice.specs.declared.options.Options.{Options};
+ghost use Rattle.pb_encode.specs.Summaries.{place_of, treated, treatments_of};
 
-use crate::treatment::Treatment;
+use crate::summary::Treatments;
+use pb_choice::{Plan, Treatment};
 
-/// How many clauses there are, and how many constraints of each treatment. A count stands still at the end of its type.
-#[derive(Clone, Copy)]
+/// How many fresh variables and clauses there are, and how many constraints of each treatment, in the order of the
+/// summary. A count stands still at the end of its type.
+#[derive(Drop)]
 pub struct Tally {
+    pub fresh: u64,
     pub clauses: u64,
-    pub nothing: u64,
-    pub empty: u64,
-    pub clause: u64,
+    pub treated: [u64; 11],
+}
+
+// The place of a treatment in the summary.
+fn place_of(treatment: Treatment) -> usize
+    ensures place { result ≡ place_of treatment }
+    ensures within { result < 11 }
+{
+    match treatment {
+        Treatment::Nothing => 0,
+        Treatment::Empty => 1,
+        Treatment::Clause => 2,
+        Treatment::Pairwise => 3,
+        Treatment::Ladder => 4,
+        Treatment::Product => 5,
+        Treatment::Counter => 6,
+        Treatment::Totalizer => 7,
+        Treatment::Diagram => 8,
+        Treatment::Tree => 9,
+        Treatment::Adder => 10,
+    }
 }
 
 impl Tally {
+    ghost use Rattle.pb_encode.specs.Tallies.{IsTally};
+
     /// Of no constraint.
     pub fn new() -> Self
-        ensures { result ≡ tally_of [] }
+        ensures { (o : Options) → IsTally o [] result }
     {
         Tally {
+            fresh: 0,
             clauses: 0,
-            nothing: 0,
-            empty: 0,
-            clause: 0,
+            treated: [0; 11],
         }
     }
 
-    /// Counts a constraint with so many units.
-    pub fn add(&mut self, units: usize, treatment: Treatment)
-        ensures { self.new ≡ added units treatment self.old }
+    /// Counts one more constraint.
+    pub fn add(&mut self, plan: &Plan)
+        ensures { (cs : List Constraint) → IsTally plan.now.options cs self.old → IsTally plan.now.options (cs ++ plan.now.constraint.now ∷ []) self.new }
     {
-        match treatment {
-            Treatment::Nothing => {
-                self.clauses = self.clauses.saturating_add(units as u64);
-                self.nothing = self.nothing.saturating_add(1);
-            }
-            Treatment::Empty => {
-                self.clauses = self.clauses.saturating_add(units as u64).saturating_add(1);
-                self.empty = self.empty.saturating_add(1);
-            }
-            Treatment::Clause => {
-                self.clauses = self.clauses.saturating_add(units as u64).saturating_add(1);
-                self.clause = self.clause.saturating_add(1);
-            }
+        let counts = plan.counts();
+        self.fresh = self.fresh.saturating_add(counts.fresh);
+        self.clauses = self.clauses.saturating_add(counts.clauses);
+        let place = place_of(plan.treatment());
+        self.treated[place] = self.treated[place].saturating_add(1);
+    }
+
+    // How many constraints have the treatment of a place.
+    fn treated_at(&self, place: usize) -> u64
+        requires { place < 11 }
+        ensures { (o : Options) (cs : List Constraint) → length cs < 2 ^ 64 → IsTally o cs self.now → result ≡ treated o place cs }
+    {
+        self.treated[place]
+    }
+
+    /// The counts of the treatments, as they are said.
+    pub fn treatments(&self) -> Treatments
+        ensures { (o : Options) (cs : List Constraint) → length cs < 2 ^ 64 → IsTally o cs self.now → result ≡ treatments_of o cs }
+    {
+        Treatments {
+            nothing: self.treated_at(0),
+            empty: self.treated_at(1),
+            clause: self.treated_at(2),
+            pairwise: self.treated_at(3),
+            ladder: self.treated_at(4),
+            product: self.treated_at(5),
+            counter: self.treated_at(6),
+            totalizer: self.treated_at(7),
+            diagram: self.treated_at(8),
+            tree: self.treated_at(9),
+            adder: self.treated_at(10),
         }
     }
 }

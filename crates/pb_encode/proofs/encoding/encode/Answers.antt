@@ -8,7 +8,7 @@ use Rattle.pb_encode.specs.declared.fault.EncodeFault.TheVariants as fault
 use Rattle.pb_encode.specs.Encodings.{begun, problem_text}
 use Rattle.pb_encode.specs.Encodings.StopsMaking.{in_text}
 use Rattle.pb_encode.specs.Encodings.WantsMemory.{in_text as wants_in_text}
-use Rattle.pb_encode.specs.Emission.{Stops}
+use Rattle.pb_encode.specs.Sending.{Stops}
 use Rattle.pb_encode.proofs.encoding.encode.Goals as goal
 
 pub returns-in_err-write_cnf-clause-write_fault : goal.returns-in_err-write_cnf-clause-write_fault
@@ -16,7 +16,7 @@ returns-in_err-write_cnf-clause-write_fault g c = λ is.
     let a = g.D.Desk.state c.args.desk.now in
     let b = g.D.Desk.state c.create.new.self in
     let d = g.D.Desk.state c.write_cnf.new.desk in
-    let text = problem_text c.args.problem.now in
+    let text = problem_text c.args.options.now c.args.problem.now in
     let name = c.args.name.now in
     let given = c.from_residual-in_err-write_cnf.ensures.1 in
     let fault_is : fault.WriteFault ≡ c.in_err-write_cnf.field-0.0 = simp is at given in
@@ -28,7 +28,7 @@ returns-in_err-write_cnf-clause-no_memory g c = λ is.
     let a = g.D.Desk.state c.args.desk.now in
     let b = g.D.Desk.state c.create.new.self in
     let d = g.D.Desk.state c.write_cnf.new.desk in
-    let text = problem_text c.args.problem.now in
+    let text = problem_text c.args.options.now c.args.problem.now in
     let name = c.args.name.now in
     let given = c.from_residual-in_err-write_cnf.ensures.1 in
     let fault_is : fault.NoMemory ≡ c.in_err-write_cnf.field-0.0 = simp is at given in
@@ -41,7 +41,7 @@ returns-in_err-close-clause-write_fault g c = λ is.
     let b = g.D.Desk.state c.create.new.self in
     let d = g.D.Desk.state c.write_cnf.new.desk in
     let e = g.D.Desk.state c.close.new.self in
-    let text = problem_text c.args.problem.now in
+    let text = problem_text c.args.options.now c.args.problem.now in
     let name = c.args.name.now in
     let begun_is = then (created 0 name) (wrote 0 text) (begun name text) a b d (λ v. refl) c.in_ok-create.ensures.ok c.in_ok-write_cnf.ensures.written in
     (c.in_ok-summary.ensures.encodable, in_text (length text) (then_fails_to_write (begun name text) same (begun name (take (length text) text)) a d e (λ v. ap (λ (xs : List ℕ). begun name xs v) (sym (take-length text))) begun_is c.in_err-close.ensures.failed))

@@ -1,8 +1,7 @@
-use Rattle.std.proofs.Common.{◌≡◌, All, take}
+use Rattle.std.proofs.Common.{take}
 use Rattle.pb_norm.specs.Halves.{loaded}
-use Rattle.pb_encode.specs.Clauses.{IsEncoded}
-use Rattle.pb_encode.specs.Tallies.{tally_of}
+use Rattle.pb_encode.specs.Tallies.{IsTally}
 use Rattle.pb_encode.proofs.measuring.count_statements.Given as goal
 
 abbrev pub invariant-loop-statement : goal.invariant-loop-statement
-invariant-loop-statement l = All IsEncoded (loaded (take l.statement-index l.statements)) × (l.tally ≡ tally_of (loaded (take l.statement-index l.statements)))
+invariant-loop-statement l = IsTally l.options (loaded (take l.statement-index l.statements)) l.tally

@@ -1,11 +1,14 @@
-use Rattle.std.proofs.Common.{◌∙◌, ap}
+use Rattle.std.proofs.Common.{List, subst, arith}
+use Rattle.pb_base.specs.declared.problem.Raw.{Raw}
 use Rattle.pb_norm.specs.Halves.{loaded}
-use Rattle.pb_encode.specs.Tallies.{tally_of}
+use Rattle.pb_encode.specs.Tallies.{IsTally}
 use Rattle.pb_encode.proofs.TallyLemmas.{few_loaded, summary_is}
 use Rattle.pb_encode.proofs.measuring.measure.Goals as goal
 
 pub returns-clause-summary : goal.returns-clause-summary
 returns-clause-summary c =
+    let o = c.args.options.now in
     let p = c.args.problem.now in
-    let counted = c.in_ok-tally.ensures.counted ∙ ap (λ ss. tally_of (loaded ss)) c.as_slice.ensures in
-    summary_is p c.in_ok-tally.tally c.treatments_of.result counted c.if-tally-gt-MAX_CLAUSES.false (c.treatments_of.ensures (loaded p.statements) (few_loaded p c.requires.count) counted)
+    let tally = c.in_ok-tally.tally in
+    let counted = subst (λ (ss : List Raw). IsTally o (loaded ss) tally) c.as_slice.ensures c.in_ok-tally.ensures in
+    summary_is o p tally c.saturating_add-vars.result c.treatments.result counted c.saturating_add-vars.ensures (omega (arith, c.if-vars.false)) c.if-tally-gt-MAX_CLAUSES.false (c.treatments.ensures o (loaded p.statements) (few_loaded p c.requires.within.count) counted)

@@ -1,0 +1,5 @@
+use Rattle.pb_encode.proofs.Solutions.{problem_forces}
+use Rattle.pb_encode.proofs.models.clauses_force_what_constraints_do.Goals as goal
+
+pub returns : goal.returns
+returns c = problem_forces
