@@ -1,5 +1,6 @@
 mod encodes;
 mod faults;
+mod probes;
 mod refuses;
 mod words;
 

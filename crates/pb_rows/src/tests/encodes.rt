@@ -3,11 +3,10 @@ use std::alloc::{Alloc, Global};
 use std::process::Abort;
 use std::test::Fail;
 
-// What is said of the treatments that no text here comes to.
-const OTHERS: &str =
-    "pairwise 0 ladder 0 product 0 counter 0 totalizer 0 diagram 0 tree 0 adder 0\n";
+// What is said of the treatments that no clause comes to.
+const OTHERS: &str = "pairwise 0 ladder 0 product 0 counter 0 totalizer 0 diagram 0 tree 0 adder 0";
 
-// The text is encoded as this CNF; what is said begins with these sizes and these counts of treatments.
+// The text is encoded as this CNF; these are the two lines that are said, the second up to the families.
 fn is_encoded(
     rt: &impl Abort,
     alloc: Global,
@@ -16,8 +15,20 @@ fn is_encoded(
     sizes: &str,
     treatments: &str,
 ) -> Result<(), Fail> {
-    let Run { outcome, desk } = run_freely(alloc, "pbcnf encode a c", text.as_bytes())?;
-    let said = format!(in alloc; "{sizes}\n{treatments} {OTHERS}")?;
+    let said = format!(in alloc; "{sizes}\n{treatments} {OTHERS}\n")?;
+    is_encoded_by(rt, alloc, "pbcnf encode a c", text, cnf, said.as_str())
+}
+
+// With these words, the text is encoded as this CNF, and this is said.
+fn is_encoded_by(
+    rt: &impl Abort,
+    alloc: Global,
+    words: &str,
+    text: &str,
+    cnf: &str,
+    said: &str,
+) -> Result<(), Fail> {
+    let Run { outcome, desk } = run_freely(alloc, words, text.as_bytes())?;
     assert_eq!(rt; outcome.status(), 0, "at {text}");
     assert!(rt; desk.made(0) == Some(cnf.as_bytes()), "at {text}");
     assert!(rt; desk.made(1).is_none(), "at {text}");
@@ -106,4 +117,113 @@ fn sums_that_are_reduced(rt: HostRuntime) -> Result<(), Fail> {
         is_encoded(&rt, rt.alloc(), text, cnf, sizes, treatments)?;
     }
     Ok(())
+}
+
+// At most one literal, and at most two of four.
+const ONE: &str = "-1 x1 -1 x2 -1 x3 >= -1 ;\n";
+
+#[test]
+fn sums_by_a_family(rt: HostRuntime) -> Result<(), Fail> {
+    let cases = [
+        (
+            "pbcnf encode a c",
+            "p cnf 3 3\n-1 -2 0\n-1 -3 0\n-2 -3 0\n",
+            "variables 3 original 3 fresh 0 clauses 3\n\
+nothing 0 empty 0 clause 0 pairwise 1 ladder 0 product 0 counter 0 totalizer 0 diagram 0 tree 0 adder 0\n",
+        ),
+        (
+            "pbcnf encode --amo ladder a c",
+            "p cnf 5 5\n-5 4 0\n-1 -4 0\n-2 -5 0\n-2 4 0\n-3 5 0\n",
+            "variables 5 original 3 fresh 2 clauses 5\n\
+nothing 0 empty 0 clause 0 pairwise 0 ladder 1 product 0 counter 0 totalizer 0 diagram 0 tree 0 adder 0\n",
+        ),
+    ];
+    for &(words, cnf, said) in &cases {
+        is_encoded_by(&rt, rt.alloc(), words, ONE, cnf, said)?;
+    }
+    Ok(())
+}
+
+// At most two of four literals.
+const TWO: &str = "+1 ~x1 +1 ~x2 +1 ~x3 +1 ~x4 >= 2 ;\n";
+
+#[test]
+fn cardinalities_by_a_family(rt: HostRuntime) -> Result<(), Fail> {
+    let cases = [
+        (
+            "pbcnf encode --card counter a c",
+            "p cnf 10 13\n\
+-1 5 0\n-6 0\n-2 7 0\n-5 7 0\n-2 -5 8 0\n-6 8 0\n-2 -6 0\n-3 9 0\n-7 9 0\n\
+-3 -7 10 0\n-8 10 0\n-3 -8 0\n-4 -10 0\n",
+            "variables 10 original 4 fresh 6 clauses 13\n\
+nothing 0 empty 0 clause 0 pairwise 0 ladder 0 product 0 counter 1 totalizer 0 diagram 0 tree 0 adder 0\n",
+        ),
+        (
+            "pbcnf encode --card totalizer --budget 7 a c",
+            "p cnf 11 14\n\
+-2 5 0\n-1 5 0\n-1 -2 6 0\n-4 7 0\n-3 7 0\n-3 -4 8 0\n-7 9 0\n-8 10 0\n-5 9 0\n\
+-5 -7 10 0\n-5 -8 11 0\n-6 10 0\n-6 -7 11 0\n-11 0\n",
+            "variables 11 original 4 fresh 7 clauses 14\n\
+nothing 0 empty 0 clause 0 pairwise 0 ladder 0 product 0 counter 0 totalizer 1 diagram 0 tree 0 adder 0\n",
+        ),
+    ];
+    for &(words, cnf, said) in &cases {
+        is_encoded_by(&rt, rt.alloc(), words, TWO, cnf, said)?;
+    }
+    Ok(())
+}
+
+// Three weights, of which some are to reach four.
+const WEIGHTS: &str = "+4 ~x1 +3 ~x2 +2 ~x3 >= 4 ;\n";
+
+#[test]
+fn weights_by_a_family(rt: HostRuntime) -> Result<(), Fail> {
+    let cases = [
+        (
+            "pbcnf encode --general tree a c",
+            "p cnf 11 11\n\
+-2 5 0\n-3 4 0\n-2 -3 6 0\n-1 9 0\n-4 7 0\n-5 8 0\n-6 10 0\n-1 -4 11 0\n-1 -5 11 0\n\
+-1 -6 11 0\n-11 0\n",
+            "variables 11 original 3 fresh 8 clauses 11\n\
+nothing 0 empty 0 clause 0 pairwise 0 ladder 0 product 0 counter 0 totalizer 0 diagram 0 tree 1 adder 0\n",
+        ),
+        (
+            "pbcnf encode --general adder a c",
+            "p cnf 7 16\n\
+2 3 -4 0\n2 -3 4 0\n-2 3 4 0\n-2 -3 -4 0\n-2 -3 5 0\n2 -5 0\n3 -5 0\n1 5 -6 0\n\
+1 -5 6 0\n-1 5 6 0\n-1 -5 -6 0\n-1 -5 7 0\n1 -7 0\n5 -7 0\n-4 -6 0\n-7 0\n",
+            "variables 7 original 3 fresh 4 clauses 16\n\
+nothing 0 empty 0 clause 0 pairwise 0 ladder 0 product 0 counter 0 totalizer 0 diagram 0 tree 0 adder 1\n",
+        ),
+        (
+            "pbcnf encode --budget 2 a c",
+            "p cnf 7 16\n\
+2 3 -4 0\n2 -3 4 0\n-2 3 4 0\n-2 -3 -4 0\n-2 -3 5 0\n2 -5 0\n3 -5 0\n1 5 -6 0\n\
+1 -5 6 0\n-1 5 6 0\n-1 -5 -6 0\n-1 -5 7 0\n1 -7 0\n5 -7 0\n-4 -6 0\n-7 0\n",
+            "variables 7 original 3 fresh 4 clauses 16\n\
+nothing 0 empty 0 clause 0 pairwise 0 ladder 0 product 0 counter 0 totalizer 0 diagram 0 tree 0 adder 1\n",
+        ),
+        (
+            "pbcnf encode --budget 3 a c",
+            "p cnf 6 5\n\
+-4 -1 5 0\n-5 6 0\n-5 -2 0\n-6 -3 0\n4 0\n",
+            "variables 6 original 3 fresh 3 clauses 5\n\
+nothing 0 empty 0 clause 0 pairwise 0 ladder 0 product 0 counter 0 totalizer 0 diagram 1 tree 0 adder 0\n",
+        ),
+    ];
+    for &(words, cnf, said) in &cases {
+        is_encoded_by(&rt, rt.alloc(), words, WEIGHTS, cnf, said)?;
+    }
+    Ok(())
+}
+
+// Where the first or the second weight is taken, what the others may add up to is the same.
+#[test]
+fn residues_that_meet(rt: HostRuntime) -> Result<(), Fail> {
+    let text = "+5 ~x1 +4 ~x2 +3 ~x3 +3 ~x4 >= 7 ;\n";
+    let cnf = "p cnf 9 8\n\
+-5 7 0\n-5 -1 6 0\n-6 8 0\n-6 -2 0\n-7 -2 8 0\n-8 -3 9 0\n-9 -4 0\n5 0\n";
+    let said = "variables 9 original 4 fresh 5 clauses 8\n\
+nothing 0 empty 0 clause 0 pairwise 0 ladder 0 product 0 counter 0 totalizer 0 diagram 1 tree 0 adder 0\n";
+    is_encoded_by(&rt, rt.alloc(), "pbcnf encode a c", text, cnf, said)
 }

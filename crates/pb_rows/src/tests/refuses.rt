@@ -44,8 +44,6 @@ fn texts_past_a_limit(rt: HostRuntime) -> Result<(), Fail> {
             "pbcnf: OPB 1:39: limit weight",
         ),
         ("+1 x2147483648 >= 1 ;\n", "pbcnf: OPB 1:4: limit variables"),
-        // A sum that is no clause has no encoding yet.
-        ("-1 x1 -1 x2 -1 x3 >= -1 ;\n", "pbcnf: totals: limit family"),
     ];
     for &(text, line) in &cases {
         is_refused(
@@ -58,4 +56,18 @@ fn texts_past_a_limit(rt: HostRuntime) -> Result<(), Fail> {
         )?;
     }
     Ok(())
+}
+
+#[test]
+fn totals_past_a_limit(rt: HostRuntime) -> Result<(), Fail> {
+    // Two fresh variables are one too many.
+    let text = "* #variable= 2147483646 #constraint= 1\n-1 x1 -1 x2 -1 x3 >= -1 ;\n";
+    is_refused(
+        &rt,
+        rt.alloc(),
+        "pbcnf encode --amo ladder a c",
+        text.as_bytes(),
+        3,
+        "pbcnf: totals: limit variables",
+    )
 }
