@@ -2,12 +2,14 @@
 use Rattle.std.proofs.Common.{◌≡◌, ◌<◌, ◌≤◌, ◌+◌, ◌-◌, ◌&&◌, ℕ, Bool, true, false, ltb, leb, List, [], ◌∷◌, length, get_or, refl, sym, ap, ◌∙◌, subst, arith, inl, inr}
 use Rattle.std.specs.Prelude.{Contains, map, sum}
 use Rattle.std.specs.List.{filter, list_any, position_or_len}
-use Rattle.std.proofs.lemmas.Bool.{cases_Bool, cases_lt, lt-ltb, le-leb, ltb-true, leb-true, both_ways, and_parts, and_from, or_cases, or_left, or_right, cond-true, cond-false}
+use Rattle.std.proofs.lemmas.Bool.{cases_Bool, cases_lt, lt-ltb, le-leb, ltb-true, leb-true, both_ways, and_parts, and_from, or_left, or_right, cond-true, cond-false}
 use Rattle.std.proofs.lemmas.List.{get_or_default}
 use Rattle.std.proofs.lemmas.List.Elements.{Contains-get_or}
 use Rattle.std.proofs.lemmas.List.Sums.{passes_at_first, fails_before_first, sum-map}
 use Rattle.pb_norm.specs.Constraints.{Weighted, weight}
 use Rattle.pb_base.proofs.Members.{Contains-nil, Contains-here, Contains-there, Contains-cons_cases}
+use Rattle.pb_family.proofs.Filters.{Contains-filter, Contains-filter_cases}
+use Rattle.pb_family.proofs.Models.{any_passes}
 use Rattle.pb_diagram.specs.declared.interval.Interval.{Interval}
 use Rattle.pb_diagram.specs.Clauses.{head_level}
 use Rattle.pb_diagram.specs.Levels.{interval_from, lies_in, intervals_after, intervals, is_reached, level, levels_from}
@@ -137,49 +139,12 @@ filter-cons_true p g gs h = cond-true (p g) (g ∷ filter p gs) (filter p gs) h
 filter-cons_false : (p : Interval → Bool) (g : Interval) (gs : List Interval) → p g ≡ false → filter p (g ∷ gs) ≡ filter p gs
 filter-cons_false p g gs h = cond-false (p g) (g ∷ filter p gs) (filter p gs) h
 
-from_filter : (p : Interval → Bool) (gs : List Interval) (g : Interval) → Contains (filter p gs) g → Contains gs g × (p g ≡ true)
-from_filter p [] g h = absurd (Contains-nil g h)
-from_filter p (k ∷ gs) g h =
-    elim (cases_Bool (p k)) as (λ _. Contains (k ∷ gs) g × (p g ≡ true)) [
-      | inl passes ↦
-          elim (Contains-cons_cases k (filter p gs) g (subst (λ (l : List Interval). Contains l g) (filter-cons_true p k gs passes) h)) as (λ _. Contains (k ∷ gs) g × (p g ≡ true)) [
-            | inl e ↦ (subst (λ (j : Interval). Contains (k ∷ gs) j) e (Contains-here k gs), ap p (sym e) ∙ passes)
-            | inr later ↦ let rest = from_filter p gs g later in (Contains-there k gs g rest.0, rest.1)
-          ]
-      | inr fails ↦
-          let rest = from_filter p gs g (subst (λ (l : List Interval). Contains l g) (filter-cons_false p k gs fails) h) in
-          (Contains-there k gs g rest.0, rest.1)
-    ]
-
-in_filter : (p : Interval → Bool) (gs : List Interval) (g : Interval) → Contains gs g → p g ≡ true → Contains (filter p gs) g
-in_filter p [] g h passes = absurd (Contains-nil g h)
-in_filter p (k ∷ gs) g h passes =
-    elim (Contains-cons_cases k gs g h) as (λ _. Contains (filter p (k ∷ gs)) g) [
-      | inl e ↦
-          let here : p k ≡ true = ap p e ∙ passes in
-          subst (λ (l : List Interval). Contains l g) (sym (filter-cons_true p k gs here)) (subst (λ (j : Interval). Contains (k ∷ filter p gs) j) e (Contains-here k (filter p gs)))
-      | inr later ↦
-          let rest = in_filter p gs g later passes in
-          elim (cases_Bool (p k)) as (λ _. Contains (filter p (k ∷ gs)) g) [
-            | inl passes_k ↦ subst (λ (l : List Interval). Contains l g) (sym (filter-cons_true p k gs passes_k)) (Contains-there k (filter p gs) g rest)
-            | inr fails_k ↦ subst (λ (l : List Interval). Contains l g) (sym (filter-cons_false p k gs fails_k)) rest
-          ]
-    ]
-
 filter_apart : (p : Interval → Bool) (gs : List Interval) → AreApart gs → AreApart (filter p gs)
 filter_apart p [] apart = tt
 filter_apart p (g ∷ gs) apart =
     elim (cases_Bool (p g)) as (λ _. AreApart (filter p (g ∷ gs))) [
-      | inl passes ↦ subst AreApart (sym (filter-cons_true p g gs passes)) ((λ h among. apart.0 h (from_filter p gs h among).0), filter_apart p gs apart.1)
+      | inl passes ↦ subst AreApart (sym (filter-cons_true p g gs passes)) ((λ h among. apart.0 h (Contains-filter_cases p gs h among).0), filter_apart p gs apart.1)
       | inr fails ↦ subst AreApart (sym (filter-cons_false p g gs fails)) (filter_apart p gs apart.1)
-    ]
-
-from_any : (p : ℕ → Bool) (xs : List ℕ) → list_any p xs ≡ true → (x : ℕ) × Contains xs x × (p x ≡ true)
-from_any p [] h = absurd (both_ways false refl h)
-from_any p (x ∷ xs) h =
-    elim (or_cases (p x) (list_any p xs) h) as (λ _. (y : ℕ) × Contains (x ∷ xs) y × (p y ≡ true)) [
-      | inl here ↦ (x, Contains-here x xs, here)
-      | inr later ↦ let rest = from_any p xs later in (rest.0, Contains-there x xs rest.0 rest.1, rest.2)
     ]
 
 to_any : (p : ℕ → Bool) (xs : List ℕ) (x : ℕ) → Contains xs x → p x ≡ true → list_any p xs ≡ true
@@ -194,8 +159,8 @@ to_any p (y ∷ ys) x h passes =
 
 pub node_of : (bound : ℕ) (before rest : List ℕ) (g : Interval) → Contains (level bound before rest) g → IsNode bound before rest g
 node_of bound before rest g h =
-    let parts = from_filter (is_reached bound before) (intervals (sums rest)) g h in
-    let found = from_any (λ s. leb s bound && lies_in (bound - s) g) (sums before) parts.1 in
+    let parts = Contains-filter_cases (is_reached bound before) (intervals (sums rest)) g h in
+    let found = any_passes (λ s. leb s bound && lies_in (bound - s) g) (sums before) parts.1 in
     let tests = and_parts (leb found.0 bound) (lies_in (bound - found.0) g) found.2 in
     let within = leb-true found.0 bound tests.0 in
     record {
@@ -211,7 +176,7 @@ listed_node bound before rest g node =
     let whole = node.reached.whole in
     let left : node.residue ≡ bound - spent = omega arith in
     let test : (leb spent bound && lies_in (bound - spent) g) ≡ true = and_from (leb spent bound) (lies_in (bound - spent) g) (le-leb spent bound (omega arith)) (lies_in_from (bound - spent) g (subst (λ (n : ℕ). LiesIn n g) left node.inside)) in
-    in_filter (is_reached bound before) (intervals (sums rest)) g (listed_interval (sums rest) (sums_ascend rest) (sums_none rest) g node.interval)
+    Contains-filter (is_reached bound before) (intervals (sums rest)) g (listed_interval (sums rest) (sums_ascend rest) (sums_none rest) g node.interval)
     (to_any (λ s. leb s bound && lies_in (bound - s) g) (sums before) spent node.reached.is_sum test)
 
 pub level_apart : (bound : ℕ) (before rest : List ℕ) → AreApart (level bound before rest)

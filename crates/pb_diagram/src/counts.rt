@@ -10,14 +10,7 @@ ghost use Rattle.pb_diagram.specs.Levels.{levels_of};
 use crate::interval::Interval;
 use crate::level::{Level, nodes_after};
 use pb_base::Term;
-
-/// The sum of the coefficients.
-pub fn total(terms: &[Term]) -> u128
-    requires { weight (weights terms.now) < 2 ^ 100 }
-    ensures { result ≡ weight (weights terms.now) }
-{
-    terms.iter().map(|term| term.weight()).sum()
-}
+use pb_family::weight_of;
 
 /// How many nodes there are.
 pub fn count_nodes(levels: &[Level]) -> u64
@@ -45,7 +38,7 @@ pub fn count_clauses(terms: &[Term], bound: u128, levels: &[Level]) -> u64
     requires small { diagram_fresh (sum_within terms.now bound) < 2 ^ 31 }
     ensures { result ≡ diagram_size (sum_within terms.now bound) }
 {
-    let mut whole = total(terms);
+    let mut whole = weight_of(terms);
     let mut count = count_nodes(levels) + 1;
     for i in 0..terms.len() {
         whole -= terms[i].weight();

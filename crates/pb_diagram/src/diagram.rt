@@ -47,7 +47,7 @@ fn listed(alloc: Global, known: Vec<Known>) -> Result<Vec<Level>, AllocError>
 impl Diagram {
     ghost use Rattle.std.specs.Prelude.{◌≡◌, ◌<◌, ◌^◌, ℕ, IfOk};
     ghost use Rattle.pb_norm.specs.Constraints.{weight};
-    ghost use Rattle.pb_tree.specs.Budgets.{IsOverExactly, IfFits};
+    ghost use Rattle.pb_family.specs.Budgets.{IsOverExactly, IfFits};
 
     /// The diagram of a sum, if it has no more nodes than the budget. The search holds at most one node over the budget, and
     /// takes at most two steps for each node of the budget and one for each term.

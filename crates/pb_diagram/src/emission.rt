@@ -9,11 +9,10 @@ ghost use Rattle.pb_diagram.specs.Clauses.{false_clause, true_clause, level_clau
 ghost use Rattle.pb_diagram.specs.Levels.{lies_in, levels_of};
 ghost use Rattle.pb_diagram.specs.Links.{Linked, Stands};
 
-use crate::counts::total;
 use crate::interval::Interval;
 use crate::level::{Level, node_at, nodes_after};
 use pb_base::{Failed, Term};
-use pb_family::{ClauseSink, fresh_at};
+use pb_family::{ClauseSink, fresh_at, weight_of};
 
 /// The nodes of the next level, and where their variables begin.
 #[derive(Clone, Copy)]
@@ -120,7 +119,7 @@ pub fn emit_whole<S: ClauseSink>(
     ensures ok { OnOk result (Takes (clauses_text (diagram_clauses (sum_within terms.now bound) first)) (S.state sink.old) (S.state sink.new)) }
     ensures failed { OnErr result (FailsToTake (clauses_text (diagram_clauses (sum_within terms.now bound) first)) (S.state sink.old) (S.state sink.new)) }
 {
-    let mut whole = total(terms);
+    let mut whole = weight_of(terms);
     let mut start = first;
     for i in 0..terms.len() {
         let term = &terms[i];

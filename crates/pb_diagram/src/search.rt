@@ -9,9 +9,9 @@ ghost use Rattle.pb_diagram.specs.Levels.{coefs_of, levels_of};
 ghost use Rattle.pb_diagram.specs.Nodes.{LiesIn};
 ghost use Rattle.pb_diagram.specs.Search.{nodes_at, IsOff, IsOn, Looked, IsMissing, IsJoined, IsTop, IsSearching, Advanced};
 
-use crate::counts::total;
 use crate::interval::Interval;
 use crate::known::Known;
+use pb_family::weight_of;
 use pb_norm::AtMost;
 use std::alloc::{AllocError, Global};
 
@@ -141,7 +141,7 @@ impl Search {
         let levels = empty_levels(alloc, terms.len())?;
         let mut wanted = Vec::new(alloc);
         wanted.push(of.bound())?;
-        let left = total(terms) - terms[0].weight();
+        let left = weight_of(terms) - terms[0].weight();
         Ok(Search {
             levels,
             wanted,

@@ -1,11 +1,8 @@
-ghost use Rattle.std.specs.Prelude.{◌≡◌, ◌≤◌, ◌<◌, ◌^◌, IsTrue, length, nat_lt};
-ghost use Rattle.std.specs.List.{list_all};
-ghost use Rattle.pb_norm.specs.Constraints.{weight, weights};
-ghost use Rattle.pb_family.specs.Families.{VarsBelow};
+ghost use Rattle.std.specs.Prelude.{◌≡◌, ◌≤◌, ◌<◌, ◌^◌};
 
 use super::Diagram;
 use pb_base::{Lit, Raw, Relation, Term, Terms, Var};
-use pb_family::{Built, Family, TextSink};
+use pb_family::{Built, Family, TextSink, are_below, is_light};
 use pb_norm::{AtMost, Half, Rest, normalize, reduce};
 use std::alloc::Global;
 use std::process::Abort;
@@ -27,37 +24,6 @@ fn negative(index: u32, weight: i128) -> Term
     }
 }
 
-fn weight_of(terms: &[Term]) -> u128
-    requires { weight (weights terms.now) < 2 ^ 128 }
-    ensures { result ≡ weight (weights terms.now) }
-{
-    terms.iter().map(|term| term.weight()).sum()
-}
-
-fn are_below(terms: &[Term], first: u32) -> bool
-    ensures { result ≡ list_all (λ t. nat_lt t.lit.var first) terms.now }
-{
-    terms.iter().all(|term| term.lit.index() < first)
-}
-
-fn is_short(of: &AtMost) -> bool
-    ensures { IsTrue result → length of.now.terms < 2 ^ 31 }
-{
-    of.terms().len() < 1 << 31
-}
-
-fn is_light(of: &AtMost) -> bool
-    ensures { IsTrue result → weight of.now.terms < 2 ^ 100 }
-{
-    weight_of(of.terms()) < 1 << 100
-}
-
-fn is_below(of: &AtMost, first: u32) -> bool
-    ensures { IsTrue result → VarsBelow first of.now.terms }
-{
-    are_below(of.terms(), first)
-}
-
 // Builds the diagram of a sum, and compares its numbers and its clauses with what is expected.
 fn assert_diagram(
     rt: &impl Abort,
@@ -73,9 +39,8 @@ fn assert_diagram(
     requires few { fresh ≤ 1000 }
     requires small { first < 1000 }
 {
-    assert!(rt; is_short(of));
     assert!(rt; is_light(of));
-    assert!(rt; is_below(of, first));
+    assert!(rt; are_below(of.terms(), first));
     assert!(rt; matches!(Diagram::build(alloc, of, fresh - 1)?, Built::Over));
     let Built::Fits(diagram) = Diagram::build(alloc, of, fresh)? else {
         panic!(rt; "it is within its budget");

@@ -1,6 +1,7 @@
 pub mod Taking
 pub mod Emission
 pub mod Extended
+pub mod Filters
 pub mod FlatRanges
 pub mod Models
 pub mod Opposites

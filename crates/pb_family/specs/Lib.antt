@@ -1,3 +1,4 @@
+pub mod Budgets
 pub mod ClauseText
 pub mod Families
 pub mod Fresh

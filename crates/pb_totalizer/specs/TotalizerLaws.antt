@@ -15,11 +15,12 @@ use Rattle.pb_norm.specs.ClausePropagation.{ClausesPropagate}
 use Rattle.pb_norm.specs.Reduction.{all_weigh}
 use Rattle.pb_base.proofs.Members.{Contains-map}
 use Rattle.pb_family.specs.Families.{VarsBelow, NamesOnly}
+use Rattle.pb_family.proofs.Filters.{Contains-filter, Contains-filter_cases}
 use Rattle.pb_family.proofs.UnitSums.{unit_coefficient}
 use Rattle.pb_tree.specs.Tree.{Tree, empty, leaf, node, tree_of, leaf_sum}
 use Rattle.pb_tree.specs.Scheme.{values}
 use Rattle.pb_tree.proofs.Sums.{Reach, ReachWith, OfLeft, OfBoth, IsLawful}
-use Rattle.pb_tree.proofs.Lists.{Contains-filter, Contains-filter_cases, Contains-map_cases, Contains-flat_map, Contains-flat_map_cases, Contains-range, Contains-range_cases}
+use Rattle.pb_tree.proofs.Lists.{Contains-map_cases, Contains-flat_map, Contains-flat_map_cases, Contains-range, Contains-range_cases}
 use Rattle.pb_tree.proofs.Pushing.{with_positive}
 use Rattle.pb_tree.proofs.Laws.{Suits, tree_propagates, tree_sound, tree_extends, tree_names, tree_counts}
 use Rattle.pb_totalizer.specs.Totalizer.{sum_clause, is_within, partners, sum_clauses, pair_count, totalizer, totalizer_clauses, totalizer_fresh, totalizer_size}

@@ -6,7 +6,6 @@ pub mod Numbers
 pub mod Pieces
 pub mod Places
 pub mod Pushing
-pub mod ReadySums
 pub mod Splitting
 pub mod Sums
 pub mod Threes

@@ -1,35 +1,10 @@
 -- What lists made of lists contain.
-use Rattle.std.proofs.Common.{◌≡◌, ◌<◌, ◌≤◌, ◌+◌, ℕ, Bool, true, false, eqb, List, [], ◌∷◌, ◌++◌, sym, subst, arith, inl, inr, zero, suc}
+use Rattle.std.proofs.Common.{◌≡◌, ◌<◌, ◌≤◌, ◌+◌, ℕ, eqb, List, [], ◌∷◌, ◌++◌, sym, subst, arith, inl, inr, zero, suc}
 use Rattle.std.specs.Prelude.{Contains, map}
-use Rattle.std.specs.List.{filter, flat_map, range_with_len}
-use Rattle.std.proofs.lemmas.Bool.{cases_Bool, both_ways, cond-true, eqb-true, eqb-false}
+use Rattle.std.specs.List.{flat_map, range_with_len}
+use Rattle.std.proofs.lemmas.Bool.{cases_Bool, eqb-true, eqb-false}
 use Rattle.std.proofs.lemmas.List.Elements.{Contains-append_left, Contains-append_right, Contains-append_cases}
 use Rattle.pb_base.proofs.Members.{Contains-nil, Contains-here, Contains-there, Contains-cons_cases}
-
-pub Contains-filter : {X : Type 0} (p : X → Bool) (xs : List X) (x : X) → Contains xs x → p x ≡ true → Contains (filter p xs) x
-Contains-filter p [] x h holds = absurd (Contains-nil x h)
-Contains-filter {X} p (y ∷ ys) x h holds =
-    elim (cases_Bool (p y)) as (λ _. Contains (filter p (y ∷ ys)) x) [
-      | inl here ↦ subst (λ (zs : List X). Contains zs x) (sym (cond-true (p y) (y ∷ filter p ys) (filter p ys) here)) (elim (Contains-cons_cases y ys x h) as (λ _. Contains (y ∷ filter p ys) x) [
-        | inl same ↦ subst (λ (z : X). Contains (y ∷ filter p ys) z) same (Contains-here y (filter p ys))
-        | inr rest ↦ Contains-there y (filter p ys) x (Contains-filter p ys x rest holds)
-      ])
-      | inr fails ↦ rw fails (elim (Contains-cons_cases y ys x h) as (λ _. Contains (filter p ys) x) [
-        | inl same ↦ absurd (both_ways (p x) (subst (λ (z : X). p z ≡ false) same fails) holds)
-        | inr rest ↦ Contains-filter p ys x rest holds
-      ])
-    ]
-
-pub Contains-filter_cases : {X : Type 0} (p : X → Bool) (xs : List X) (x : X) → Contains (filter p xs) x → Contains xs x × (p x ≡ true)
-Contains-filter_cases p [] x h = absurd (Contains-nil x h)
-Contains-filter_cases {X} p (y ∷ ys) x h =
-    elim (cases_Bool (p y)) as (λ _. Contains (y ∷ ys) x × (p x ≡ true)) [
-      | inl here ↦ elim (Contains-cons_cases y (filter p ys) x (subst (λ (zs : List X). Contains zs x) (cond-true (p y) (y ∷ filter p ys) (filter p ys) here) h)) as (λ _. Contains (y ∷ ys) x × (p x ≡ true)) [
-        | inl same ↦ (subst (λ (z : X). Contains (y ∷ ys) z) same (Contains-here y ys), subst (λ (z : X). p z ≡ true) same here)
-        | inr rest ↦ let found = Contains-filter_cases p ys x rest in (Contains-there y ys x found.0, found.1)
-      ]
-      | inr fails ↦ let found = Contains-filter_cases p ys x (rw fails at h) in (Contains-there y ys x found.0, found.1)
-    ]
 
 pub Contains-map_cases : {X Y : Type 0} (f : X → Y) (xs : List X) (y : Y) → Contains (map f xs) y → (x : X) × Contains xs x × (f x ≡ y)
 Contains-map_cases f [] y h = absurd (Contains-nil y h)

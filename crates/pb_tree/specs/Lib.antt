@@ -1,4 +1,3 @@
-pub mod Budgets
 pub mod Places
 pub mod Scheme
 pub mod Tree

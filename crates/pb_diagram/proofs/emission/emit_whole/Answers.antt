@@ -14,7 +14,7 @@ use Rattle.pb_diagram.proofs.emission.emit_whole.Goals as goal
 
 pub loop-i-init : goal.loop-i-init
 loop-i-init g c = record {
-  left = c.total-whole.ensures;
+  left = c.weight_of-whole.ensures;
   room = ap (λ ls. c.args.first + node_count ls) c.requires.nodes;
   low = omega arith;
   clauses = emitting_from _ (ap (λ ls. node_clauses c.args.first (weights c.args.terms.now) ls ++ (positive_of c.args.first ∷ []) ∷ []) (sym c.requires.nodes));
