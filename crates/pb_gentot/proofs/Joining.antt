@@ -87,15 +87,15 @@ gathered_within cap us vs i n h =
         ]
 
 -- one row more
-pub gathered_next : (cap : ℕ) (us vs made after : List ℕ) (i : ℕ) → i < length us → SameMembers made (gathered cap us vs i) → after ≡ made ++ row_of cap vs (get_or us i 0) → SameMembers after (gathered cap us vs (i + 1))
-gathered_next cap us vs made after i within same is =
+pub gathered_next : (cap : ℕ) (us vs made after : List ℕ) (i : ℕ) → i < length us → SameMembers made (gathered cap us vs i) → SameMembers (made ++ row_of cap vs (get_or us i 0)) after → SameMembers after (gathered cap us vs (i + 1))
+gathered_next cap us vs made after i within same row =
     let f = row_of cap vs in
     let more : gathered cap us vs i ++ f (get_or us i 0) ≡ gathered cap us vs (i + 1) =
     append_assoc vs (flat_map f (take i us)) (f (get_or us i 0))
     ∙ ap (λ (xs : List ℕ). (vs ++ (flat_map f (take i us) ++ xs))) (sym (append-nil (f (get_or us i 0))))
     ∙ ap (λ (xs : List ℕ). vs ++ xs) (sym (flat_map-append f (take i us) (get_or us i 0 ∷ [])))
     ∙ ap (λ (xs : List ℕ). vs ++ flat_map f xs) (sym (take_more us i 0 within)) in
-    subst (λ (xs : List ℕ). SameMembers xs (gathered cap us vs (i + 1))) (sym is)
+    same_then after (made ++ f (get_or us i 0)) (gathered cap us vs (i + 1)) (same_turned (made ++ f (get_or us i 0)) after row)
     (subst (λ (xs : List ℕ). SameMembers (made ++ f (get_or us i 0)) xs) more (same_joined made (gathered cap us vs i) (f (get_or us i 0)) same))
 
 -- before the first row

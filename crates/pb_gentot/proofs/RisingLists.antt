@@ -11,7 +11,8 @@ use Rattle.std.proofs.lemmas.List.Elements.{Contains-get_or, All-contains, Conta
 use Rattle.std.proofs.lemmas.List.Kept.{AllPairs-from_increasing}
 use Rattle.std.proofs.lemmas.Map.Keys.{IsStrictlyIncreasing-dedup}
 use Rattle.pb_base.proofs.Members.{Contains-nil, Contains-here, Contains-there, Contains-cons_cases}
-use Rattle.pb_tree.proofs.Lists.{Contains-filter_cases, Contains-map_cases, Contains-flat_map_cases, Contains-range_cases}
+use Rattle.pb_family.proofs.Filters.{Contains-filter_cases}
+use Rattle.pb_tree.proofs.Lists.{Contains-map_cases, Contains-flat_map_cases, Contains-range_cases}
 use Rattle.pb_tree.proofs.Places.{place-here, place-there}
 use Rattle.pb_tree.specs.Places.{place_of}
 use Rattle.pb_gentot.specs.Rising.{Rising}

@@ -11,10 +11,11 @@ use Rattle.pb_norm.specs.BoundedSums.{BoundedSum, StaysWithin, IsProper}
 use Rattle.pb_norm.specs.ClausePropagation.{ClausesPropagate}
 use Rattle.pb_base.proofs.Members.{Contains-nil, Contains-here, Contains-there, Contains-cons_cases, Contains-map}
 use Rattle.pb_family.specs.Families.{VarsBelow, NamesOnly}
+use Rattle.pb_family.proofs.Filters.{Contains-filter, Contains-filter_cases}
 use Rattle.pb_tree.specs.Tree.{Tree, empty, leaf, node, tree_of}
 use Rattle.pb_tree.specs.Scheme.{values}
 use Rattle.pb_tree.proofs.Sums.{OfLeft, OfBoth, IsLawful}
-use Rattle.pb_tree.proofs.Lists.{Contains-filter, Contains-filter_cases, Contains-map_cases, Contains-flat_map, Contains-flat_map_cases, Contains-range, Contains-range_cases}
+use Rattle.pb_tree.proofs.Lists.{Contains-map_cases, Contains-flat_map, Contains-flat_map_cases, Contains-range, Contains-range_cases}
 use Rattle.pb_tree.proofs.Places.{place_within, at_place}
 use Rattle.pb_tree.proofs.Laws.{Suits, cap_value, tree_propagates, tree_sound, tree_extends, tree_names, tree_counts}
 use Rattle.pb_gentot.specs.Generalized.{sums, ascending, one_clause, both_clause, value_clauses, generalized, generalized_clauses, generalized_fresh, generalized_size}

@@ -3,10 +3,12 @@ ghost use Rattle.std.specs.Prelude.{◌≤◌, ◌<◌, ◌+◌, ◌^◌, All, m
 ghost use Rattle.std.specs.List.{flat_map};
 ghost use Rattle.pb_family.specs.ClauseText.{clauses_text};
 ghost use Rattle.pb_family.specs.Sinks.{Takes, FailsToTake};
+ghost use Rattle.pb_gentot.specs.Nodes.{IsReady, own_output};
 ghost use Rattle.pb_gentot.specs.Outputs.{output_in, HasRoom};
 ghost use Rattle.pb_gentot.specs.Rising.{Rising};
 ghost use Rattle.pb_gentot.specs.Generalized.{one_clause, both_clause, value_clauses};
 
+use crate::node::Node;
 use crate::outputs::Outputs;
 use pb_base::Failed;
 use pb_family::ClauseSink;
@@ -15,20 +17,18 @@ use pb_family::ClauseSink;
 fn emit_ones<S: ClauseSink>(
     values: &[u128],
     outputs: &Outputs,
-    own_values: &[u128],
-    own: &Outputs,
+    own: &Node,
     sink: &mut S,
 ) -> Result<(), Failed>
     requires rising { Rising values.now }
     requires room { HasRoom outputs.now (length values.now) }
-    requires own_rising { Rising own_values.now }
-    requires own_room { HasRoom own.now (length own_values.now) }
-    requires has { All (Contains own_values.now) values.now }
-    ensures ok { OnOk result (Takes (clauses_text (map (one_clause (output_in outputs.now values.now) (output_in own.now own_values.now)) values.now)) (S.state sink.old) (S.state sink.new)) }
-    ensures failed { OnErr result (FailsToTake (clauses_text (map (one_clause (output_in outputs.now values.now) (output_in own.now own_values.now)) values.now)) (S.state sink.old) (S.state sink.new)) }
+    requires ready { IsReady own.now }
+    requires has { All (Contains own.now.values.items) values.now }
+    ensures ok { OnOk result (Takes (clauses_text (map (one_clause (output_in outputs.now values.now) (own_output own.now)) values.now)) (S.state sink.old) (S.state sink.new)) }
+    ensures failed { OnErr result (FailsToTake (clauses_text (map (one_clause (output_in outputs.now values.now) (own_output own.now)) values.now)) (S.state sink.old) (S.state sink.new)) }
 {
     for i in 0..values.len() {
-        sink.clause(&[outputs.at(values, i).not(), own.of(own_values, values[i])])?;
+        sink.clause(&[outputs.at(values, i).not(), own.of(values[i])])?;
     }
     Ok(())
 }
@@ -40,8 +40,7 @@ fn emit_row<S: ClauseSink>(
     i: usize,
     rights: &[u128],
     right: &Outputs,
-    own_values: &[u128],
-    own: &Outputs,
+    own: &Node,
     cap: u128,
     sink: &mut S,
 ) -> Result<(), Failed>
@@ -50,22 +49,19 @@ fn emit_row<S: ClauseSink>(
     requires within { i < length lefts.now }
     requires right_rising { Rising rights.now }
     requires right_room { HasRoom right.now (length rights.now) }
-    requires own_rising { Rising own_values.now }
-    requires own_room { HasRoom own.now (length own_values.now) }
+    requires ready { IsReady own.now }
     requires small { slice_index lefts.now i ≤ cap }
     requires right_small { All (λ v. v ≤ cap) rights.now }
     requires few { cap < 2 ^ 101 }
-    requires has { All (λ v. Contains own_values.now (min (slice_index lefts.now i + v) cap)) rights.now }
-    ensures ok { OnOk result (Takes (clauses_text (map (both_clause cap (output_in left.now lefts.now) (output_in right.now rights.now) (output_in own.now own_values.now) (slice_index lefts.now i)) rights.now)) (S.state sink.old) (S.state sink.new)) }
-    ensures failed { OnErr result (FailsToTake (clauses_text (map (both_clause cap (output_in left.now lefts.now) (output_in right.now rights.now) (output_in own.now own_values.now) (slice_index lefts.now i)) rights.now)) (S.state sink.old) (S.state sink.new)) }
+    requires has { All (λ v. Contains own.now.values.items (min (slice_index lefts.now i + v) cap)) rights.now }
+    ensures ok { OnOk result (Takes (clauses_text (map (both_clause cap (output_in left.now lefts.now) (output_in right.now rights.now) (own_output own.now) (slice_index lefts.now i)) rights.now)) (S.state sink.old) (S.state sink.new)) }
+    ensures failed { OnErr result (FailsToTake (clauses_text (map (both_clause cap (output_in left.now lefts.now) (output_in right.now rights.now) (own_output own.now) (slice_index lefts.now i)) rights.now)) (S.state sink.old) (S.state sink.new)) }
 {
+    let value = lefts[i];
+    let literal = left.at(lefts, i);
     for j in 0..rights.len() {
-        let sum = (lefts[i] + rights[j]).min(cap);
-        sink.clause(&[
-            left.at(lefts, i).not(),
-            right.at(rights, j).not(),
-            own.of(own_values, sum),
-        ])?;
+        let sum = (value + rights[j]).min(cap);
+        sink.clause(&[literal.not(), right.at(rights, j).not(), own.of(sum)])?;
     }
     Ok(())
 }
@@ -76,8 +72,7 @@ fn emit_pairs<S: ClauseSink>(
     left: &Outputs,
     rights: &[u128],
     right: &Outputs,
-    own_values: &[u128],
-    own: &Outputs,
+    own: &Node,
     cap: u128,
     sink: &mut S,
 ) -> Result<(), Failed>
@@ -85,17 +80,16 @@ fn emit_pairs<S: ClauseSink>(
     requires left_room { HasRoom left.now (length lefts.now) }
     requires right_rising { Rising rights.now }
     requires right_room { HasRoom right.now (length rights.now) }
-    requires own_rising { Rising own_values.now }
-    requires own_room { HasRoom own.now (length own_values.now) }
+    requires ready { IsReady own.now }
     requires left_small { All (λ u. u ≤ cap) lefts.now }
     requires right_small { All (λ v. v ≤ cap) rights.now }
     requires few { cap < 2 ^ 101 }
-    requires has { All (λ u. All (λ v. Contains own_values.now (min (u + v) cap)) rights.now) lefts.now }
-    ensures ok { OnOk result (Takes (clauses_text (flat_map (λ u. map (both_clause cap (output_in left.now lefts.now) (output_in right.now rights.now) (output_in own.now own_values.now) u) rights.now) lefts.now)) (S.state sink.old) (S.state sink.new)) }
-    ensures failed { OnErr result (FailsToTake (clauses_text (flat_map (λ u. map (both_clause cap (output_in left.now lefts.now) (output_in right.now rights.now) (output_in own.now own_values.now) u) rights.now) lefts.now)) (S.state sink.old) (S.state sink.new)) }
+    requires has { All (λ u. All (λ v. Contains own.now.values.items (min (u + v) cap)) rights.now) lefts.now }
+    ensures ok { OnOk result (Takes (clauses_text (flat_map (λ u. map (both_clause cap (output_in left.now lefts.now) (output_in right.now rights.now) (own_output own.now) u) rights.now) lefts.now)) (S.state sink.old) (S.state sink.new)) }
+    ensures failed { OnErr result (FailsToTake (clauses_text (flat_map (λ u. map (both_clause cap (output_in left.now lefts.now) (output_in right.now rights.now) (own_output own.now) u) rights.now) lefts.now)) (S.state sink.old) (S.state sink.new)) }
 {
     for i in 0..lefts.len() {
-        emit_row(lefts, left, i, rights, right, own_values, own, cap, sink)?;
+        emit_row(lefts, left, i, rights, right, own, cap, sink)?;
     }
     Ok(())
 }
@@ -106,8 +100,7 @@ pub fn emit_node<S: ClauseSink>(
     left: &Outputs,
     rights: &[u128],
     right: &Outputs,
-    own_values: &[u128],
-    own: &Outputs,
+    own: &Node,
     cap: u128,
     sink: &mut S,
 ) -> Result<(), Failed>
@@ -115,19 +108,18 @@ pub fn emit_node<S: ClauseSink>(
     requires left_room { HasRoom left.now (length lefts.now) }
     requires right_rising { Rising rights.now }
     requires right_room { HasRoom right.now (length rights.now) }
-    requires own_rising { Rising own_values.now }
-    requires own_room { HasRoom own.now (length own_values.now) }
+    requires ready { IsReady own.now }
     requires left_small { All (λ u. u ≤ cap) lefts.now }
     requires right_small { All (λ v. v ≤ cap) rights.now }
     requires few { cap < 2 ^ 101 }
-    requires has_lefts { All (Contains own_values.now) lefts.now }
-    requires has_rights { All (Contains own_values.now) rights.now }
-    requires has { All (λ u. All (λ v. Contains own_values.now (min (u + v) cap)) rights.now) lefts.now }
-    ensures ok { OnOk result (Takes (clauses_text (value_clauses cap lefts.now rights.now (output_in left.now lefts.now) (output_in right.now rights.now) (output_in own.now own_values.now))) (S.state sink.old) (S.state sink.new)) }
-    ensures failed { OnErr result (FailsToTake (clauses_text (value_clauses cap lefts.now rights.now (output_in left.now lefts.now) (output_in right.now rights.now) (output_in own.now own_values.now))) (S.state sink.old) (S.state sink.new)) }
+    requires has_lefts { All (Contains own.now.values.items) lefts.now }
+    requires has_rights { All (Contains own.now.values.items) rights.now }
+    requires has { All (λ u. All (λ v. Contains own.now.values.items (min (u + v) cap)) rights.now) lefts.now }
+    ensures ok { OnOk result (Takes (clauses_text (value_clauses cap lefts.now rights.now (output_in left.now lefts.now) (output_in right.now rights.now) (own_output own.now))) (S.state sink.old) (S.state sink.new)) }
+    ensures failed { OnErr result (FailsToTake (clauses_text (value_clauses cap lefts.now rights.now (output_in left.now lefts.now) (output_in right.now rights.now) (own_output own.now))) (S.state sink.old) (S.state sink.new)) }
 {
-    emit_ones(lefts, left, own_values, own, sink)?;
-    emit_ones(rights, right, own_values, own, sink)?;
-    emit_pairs(lefts, left, rights, right, own_values, own, cap, sink)?;
+    emit_ones(lefts, left, own, sink)?;
+    emit_ones(rights, right, own, sink)?;
+    emit_pairs(lefts, left, rights, right, own, cap, sink)?;
     Ok(())
 }

@@ -3,8 +3,12 @@
 
 mod emission;
 mod measure;
+mod node;
 mod outputs;
+mod ranks;
+mod seen;
 mod sets;
+mod tables;
 mod tree;
 mod weighted;
 

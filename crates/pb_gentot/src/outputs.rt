@@ -14,7 +14,7 @@ pub enum Outputs {
 }
 
 /// Where a value stands.
-fn place_in(values: &[u128], value: u128) -> usize
+pub fn place_in(values: &[u128], value: u128) -> usize
     requires rising { Rising values.now }
     requires has { Contains values.now value }
     ensures { result ≡ place_of value values.now }

@@ -1,26 +1,44 @@
 //! The values of a node.
 ghost use Rattle.std.specs.Prelude.{◌≡◌, ◌≤◌, ◌<◌, ◌+◌, ◌^◌, ◌++◌, ◌∷◌, [], All, map, min, length, IfOk, IfSome, IfNone};
 ghost use Rattle.pb_gentot.specs.Rising.{Rising};
+ghost use Rattle.pb_gentot.specs.Marks.{MarksOnly};
 ghost use Rattle.pb_gentot.specs.Members.{SameMembers};
 ghost use Rattle.pb_gentot.specs.Generalized.{sums, ascending};
 
+use crate::seen::Seen;
+use crate::tables::table_size;
 use std::alloc::{AllocError, Global};
 
-/// Appends a value and its sums with others.
+/// Appends a number that is not marked, and marks it.
+fn push_new(value: u128, seen: &mut Seen, made: &mut Vec<u128>) -> Result<(), AllocError>
+    requires marked { MarksOnly seen.old made.old.items }
+    ensures same { IfOk result (λ _. SameMembers (made.old.items ++ value ∷ []) made.new.items) }
+    ensures marked { IfOk result (λ _. MarksOnly seen.new made.new.items) }
+{
+    if seen.insert(value) {
+        made.push(value)?;
+    }
+    Ok(())
+}
+
+/// Appends those of a value and its sums with others that are not marked, and marks them.
 fn push_sums(
     value: u128,
     others: &[u128],
     cap: u128,
+    seen: &mut Seen,
     made: &mut Vec<u128>,
 ) -> Result<(), AllocError>
     requires small { value ≤ cap }
     requires others_small { All (λ v. v ≤ cap) others.now }
     requires few { cap < 2 ^ 101 }
-    ensures { IfOk result (λ _. made.new.items ≡ made.old.items ++ value ∷ map (λ v. min (value + v) cap) others.now) }
+    requires marked { MarksOnly seen.old made.old.items }
+    ensures same { IfOk result (λ _. SameMembers (made.old.items ++ value ∷ map (λ v. min (value + v) cap) others.now) made.new.items) }
+    ensures marked { IfOk result (λ _. MarksOnly seen.new made.new.items) }
 {
-    made.push(value)?;
+    push_new(value, seen, made)?;
     for other in others {
-        made.push((value + *other).min(cap))?;
+        push_new((value + *other).min(cap), seen, made)?;
     }
     Ok(())
 }
@@ -34,8 +52,9 @@ fn tidy(values: &mut Vec<u128>)
     values.dedup();
 }
 
-/// The values of a node over two parts, if they are no more than a limit. No more than three times as many numbers are
-/// held at once: whenever the list has doubled, those that stand there twice are left out.
+/// The values of a node over two parts, if they are no more than a limit. Where a table of the numbers up to the cap is
+/// small, no number is appended twice. Elsewhere, whenever the list has doubled, those that stand there twice are left out,
+/// so that no more than three times as many numbers are held at once.
 pub fn joined(
     alloc: Global,
     left: &[u128],
@@ -52,9 +71,10 @@ pub fn joined(
 {
     let mut made = Vec::new(alloc);
     made.extend_from_slice(right)?;
+    let mut seen = Seen::of(alloc, right, table_size(cap, left.len(), right.len()))?;
     let mut kept = right.len();
     for value in left {
-        push_sums(*value, right, cap, &mut made)?;
+        push_sums(*value, right, cap, &mut seen, &mut made)?;
         if made.len() / 2 > kept {
             tidy(&mut made);
             if made.len() > limit {

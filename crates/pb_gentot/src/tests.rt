@@ -1,12 +1,11 @@
-ghost use Rattle.std.specs.Prelude.{◌≡◌, ◌≤◌, ◌<◌, ◌^◌, IsTrue, length, nat_lt};
-ghost use Rattle.std.specs.List.{list_all};
-ghost use Rattle.pb_norm.specs.Constraints.{weight, weights};
-ghost use Rattle.pb_family.specs.Families.{VarsBelow};
+ghost use Rattle.std.specs.Prelude.{◌≡◌, ◌≤◌, ◌<◌, ◌^◌};
 
 use super::Weighted;
 use pb_base::{Lit, Raw, Relation, Term, Terms, Var};
-use pb_family::{Built, ClauseSink, Family, TextSink};
-use pb_norm::{AtMost, Half, Rest, normalize, reduce};
+use pb_family::{Built, Family, TextSink, are_below, is_light};
+use pb_norm::{Half, Rest, normalize, reduce};
+use std::alloc::Global;
+use std::process::Abort;
 use std::test::Fail;
 
 // A weight where the variable is false.
@@ -25,57 +24,35 @@ fn negative(index: u32, weight: i128) -> Term
     }
 }
 
-fn weight_of(terms: &[Term]) -> u128
-    requires { weight (weights terms.now) < 2 ^ 128 }
-    ensures { result ≡ weight (weights terms.now) }
-{
-    terms.iter().map(|term| term.weight()).sum()
-}
-
-fn are_below(terms: &[Term], first: u32) -> bool
-    ensures { result ≡ list_all (λ t. nat_lt t.lit.var first) terms.now }
-{
-    terms.iter().all(|term| term.lit.index() < first)
-}
-
-fn is_short(of: &AtMost) -> bool
-    ensures { IsTrue result → length of.now.terms < 2 ^ 31 }
-{
-    of.terms().len() < 1 << 31
-}
-
-fn is_light(of: &AtMost) -> bool
-    ensures { IsTrue result → weight of.now.terms < 2 ^ 100 }
-{
-    weight_of(of.terms()) < 1 << 100
-}
-
-fn is_below(of: &AtMost, first: u32) -> bool
-    ensures { IsTrue result → VarsBelow first of.now.terms }
-{
-    are_below(of.terms(), first)
-}
-
-#[test]
-fn three_terms(rt: HostRuntime) -> Result<(), Fail> {
-    let alloc = rt.alloc();
-    let terms = vec![in alloc; negative(1, 4), negative(2, 3), negative(3, 2)]?;
+// Builds the totalizer of three terms, and compares its numbers and its clauses with what is expected.
+fn assert_totalizer(
+    rt: &impl Abort,
+    alloc: Global,
+    weights: [u32; 3],
+    right: u32,
+) -> Result<(), Fail> {
+    let [heavy, middle, light] = weights;
+    let terms = vec![in alloc;
+        negative(1, heavy as i128),
+        negative(2, middle as i128),
+        negative(3, light as i128),
+    ]?;
     let raw = Raw {
         terms: Terms::from_vec(terms),
         relation: Relation::AtLeast,
-        right: 4,
+        right: right as i128,
     };
     let constraint = normalize(alloc, &raw, Half::Lower)?;
     let reduced = reduce(alloc, &constraint)?;
     let Rest::General(of) = &reduced.rest else {
-        panic!(&rt; "its coefficients differ");
+        panic!(rt; "its coefficients differ");
     };
-    assert!(rt; is_short(of));
+    assert!(rt; of.terms().len() == 3);
     assert!(rt; is_light(of));
-    assert!(rt; is_below(of, 4));
+    assert!(rt; are_below(of.terms(), 4));
     assert!(rt; matches!(Weighted::build(alloc, of, 7)?, Built::Over));
     let Built::Fits(weighted) = Weighted::build(alloc, of, 8)? else {
-        panic!(&rt; "it has eight fresh variables");
+        panic!(rt; "it has eight fresh variables");
     };
     assert_eq!(rt; weighted.fresh(), 8);
     assert_eq!(rt; weighted.clauses(), 11);
@@ -94,4 +71,19 @@ fn three_terms(rt: HostRuntime) -> Result<(), Fail> {
 -11 0\n";
     assert_eq!(rt; sink.text(), expected.as_slice());
     Ok(())
+}
+
+// At most 5 of 4, 3 and 2: sums that a table holds.
+#[test]
+fn small_terms(rt: HostRuntime) -> Result<(), Fail> {
+    let alloc = rt.alloc();
+    assert_totalizer(&rt, alloc, [4, 3, 2], 4)
+}
+
+// The same a large number of times, and one more for the first: the sums stand in the same order, past any table.
+#[test]
+fn large_terms(rt: HostRuntime) -> Result<(), Fail> {
+    let alloc = rt.alloc();
+    let unit = 1 << 24;
+    assert_totalizer(&rt, alloc, [4 * unit + 1, 3 * unit, 2 * unit], 4 * unit + 1)
 }

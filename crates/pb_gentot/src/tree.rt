@@ -9,8 +9,11 @@ ghost use Rattle.pb_gentot.specs.Outputs.{output_in, HasRoom};
 ghost use Rattle.pb_gentot.specs.Generalized.{generalized};
 
 use crate::emission::emit_node;
+use crate::node::Node;
 use crate::outputs::Outputs;
+use crate::ranks::Ranks;
 use crate::sets::{joined, single};
+use crate::tables::table_size;
 use pb_base::Term;
 use pb_family::{ClauseSink, SinkFault};
 use std::alloc::Global;
@@ -58,21 +61,26 @@ pub fn emit_part<S: ClauseSink>(
     let rights = right.values.as_slice();
     let found = joined(alloc, lefts, rights, cap, 1 << 31)?;
     let values = found.unwrap();
-    let outputs = Outputs::Fresh(right.next);
+    let size = table_size(cap, lefts.len(), rights.len());
+    let ranks = Ranks::of(alloc, values.as_slice(), size)?;
+    let own = Node {
+        values,
+        first: right.next,
+        ranks,
+    };
     emit_node(
         lefts,
         &left.outputs,
         rights,
         &right.outputs,
-        values.as_slice(),
-        &outputs,
+        &own,
         cap,
         sink,
     )?;
-    let next = right.next + values.as_slice().len() as u32;
+    let next = right.next + own.values.as_slice().len() as u32;
     Ok(Emitted {
-        values,
-        outputs,
+        values: own.values,
+        outputs: Outputs::Fresh(right.next),
         next,
     })
 }

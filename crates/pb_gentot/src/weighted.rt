@@ -28,7 +28,7 @@ pub struct Weighted {
 impl Weighted {
     ghost use Rattle.std.specs.Prelude.{◌≡◌, ◌≤◌, ◌<◌, ◌^◌, ℕ, length, IfOk};
     ghost use Rattle.pb_norm.specs.Constraints.{weight};
-    ghost use Rattle.pb_tree.specs.Budgets.{IsOverExactly, IfFits};
+    ghost use Rattle.pb_family.specs.Budgets.{IsOverExactly, IfFits};
 
     /// The generalized totalizer of a sum, if it has no more fresh variables than the budget.
     pub fn build(alloc: Global, of: &AtMost, budget: u64) -> Result<Built<Weighted>, NoMemory>

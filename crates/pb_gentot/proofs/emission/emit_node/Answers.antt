@@ -3,6 +3,7 @@ use Rattle.std.specs.Prelude.{map}
 use Rattle.std.specs.List.{flat_map}
 use Rattle.pb_family.proofs.Emission.{on_err}
 use Rattle.pb_tree.proofs.Pieces.{all_taken, left_fails, right_fails, own_fails}
+use Rattle.pb_gentot.specs.Nodes.{own_output}
 use Rattle.pb_gentot.specs.Outputs.{output_in}
 use Rattle.pb_gentot.specs.Generalized.{one_clause, both_clause}
 use Rattle.pb_gentot.proofs.emission.emit_node.Goals as goal
@@ -11,7 +12,7 @@ pub returns-in_err-emit_ones-clause-failed : goal.returns-in_err-emit_ones-claus
 returns-in_err-emit_ones-clause-failed g c =
     let f = output_in c.args.left.now c.args.lefts.now in
     let h = output_in c.args.right.now c.args.rights.now in
-    let o = output_in c.args.own.now c.args.own_values.now in
+    let o = own_output c.args.own.now in
     let one = map (one_clause f o) c.args.lefts.now in
     let two = map (one_clause h o) c.args.rights.now in
     let three = flat_map (λ (u : ℕ). map (both_clause c.args.cap f h o u) c.args.rights.now) c.args.lefts.now in
@@ -21,7 +22,7 @@ pub returns-in_err-emit_ones-2-clause-failed : goal.returns-in_err-emit_ones-2-c
 returns-in_err-emit_ones-2-clause-failed g c =
     let f = output_in c.args.left.now c.args.lefts.now in
     let h = output_in c.args.right.now c.args.rights.now in
-    let o = output_in c.args.own.now c.args.own_values.now in
+    let o = own_output c.args.own.now in
     let one = map (one_clause f o) c.args.lefts.now in
     let two = map (one_clause h o) c.args.rights.now in
     let three = flat_map (λ (u : ℕ). map (both_clause c.args.cap f h o u) c.args.rights.now) c.args.lefts.now in
@@ -31,7 +32,7 @@ pub returns-in_err-emit_pairs-clause-failed : goal.returns-in_err-emit_pairs-cla
 returns-in_err-emit_pairs-clause-failed g c =
     let f = output_in c.args.left.now c.args.lefts.now in
     let h = output_in c.args.right.now c.args.rights.now in
-    let o = output_in c.args.own.now c.args.own_values.now in
+    let o = own_output c.args.own.now in
     let one = map (one_clause f o) c.args.lefts.now in
     let two = map (one_clause h o) c.args.rights.now in
     let three = flat_map (λ (u : ℕ). map (both_clause c.args.cap f h o u) c.args.rights.now) c.args.lefts.now in
@@ -41,7 +42,7 @@ pub returns-clause-ok : goal.returns-clause-ok
 returns-clause-ok g c =
     let f = output_in c.args.left.now c.args.lefts.now in
     let h = output_in c.args.right.now c.args.rights.now in
-    let o = output_in c.args.own.now c.args.own_values.now in
+    let o = own_output c.args.own.now in
     let one = map (one_clause f o) c.args.lefts.now in
     let two = map (one_clause h o) c.args.rights.now in
     let three = flat_map (λ (u : ℕ). map (both_clause c.args.cap f h o u) c.args.rights.now) c.args.lefts.now in

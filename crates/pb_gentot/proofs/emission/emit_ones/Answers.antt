@@ -2,6 +2,7 @@ use Rattle.std.proofs.Common.{arith, ◌∙◌, ap}
 use Rattle.pb_base.specs.Literals.{negated}
 use Rattle.std.specs.Prelude.{slice_index}
 use Rattle.pb_family.proofs.Emission.{emitting_starts, on_err, two_literals}
+use Rattle.pb_gentot.specs.Nodes.{own_output}
 use Rattle.pb_gentot.specs.Outputs.{output_in}
 use Rattle.pb_gentot.specs.Generalized.{one_clause}
 use Rattle.pb_gentot.proofs.Steps.{value_step, value_fails, values_taken}
@@ -14,7 +15,7 @@ loop-i-init g c =
 pub returns-in_err-clause-clause-failed : goal.returns-in_err-clause-clause-failed
 returns-in_err-clause-clause-failed g c =
     let f = output_in c.args.outputs.now c.args.values.now in
-    let o = output_in c.args.own.now c.args.own_values.now in
+    let o = own_output c.args.own.now in
     let u = slice_index c.args.values.now c.loop-i.i in
     let clause = one_clause f o in
     let same = two_literals _ _ (negated (f u)) (o u) (c.not.ensures ∙ ap negated c.at.ensures) c.of.ensures in
@@ -23,7 +24,7 @@ returns-in_err-clause-clause-failed g c =
 pub loop-i-preserved : goal.loop-i-preserved
 loop-i-preserved g c =
     let f = output_in c.args.outputs.now c.args.values.now in
-    let o = output_in c.args.own.now c.args.own_values.now in
+    let o = own_output c.args.own.now in
     let u = slice_index c.args.values.now c.loop-i.i in
     let clause = one_clause f o in
     let same = two_literals _ _ (negated (f u)) (o u) (c.not.ensures ∙ ap negated c.at.ensures) c.of.ensures in
@@ -32,7 +33,7 @@ loop-i-preserved g c =
 pub returns-clause-ok : goal.returns-clause-ok
 returns-clause-ok g c =
     let f = output_in c.args.outputs.now c.args.values.now in
-    let o = output_in c.args.own.now c.args.own_values.now in
+    let o = own_output c.args.own.now in
     let u = slice_index c.args.values.now c.loop-i.i in
     let clause = one_clause f o in
     values_taken clause c.args.values.now c.loop-i.i (omega arith) c.loop-i.invariant

@@ -2,6 +2,7 @@ use Rattle.std.proofs.Common.{arith, ℕ, ◌+◌, ◌∙◌, min, ap, sym, subs
 use Rattle.pb_base.specs.Literals.{negated}
 use Rattle.std.specs.Prelude.{Contains, slice_index}
 use Rattle.pb_family.proofs.Emission.{emitting_starts, on_err, three_literals}
+use Rattle.pb_gentot.specs.Nodes.{own_output}
 use Rattle.pb_gentot.specs.Outputs.{output_in}
 use Rattle.pb_gentot.specs.Generalized.{both_clause}
 use Rattle.pb_gentot.proofs.Steps.{value_step, value_fails, values_taken}
@@ -13,35 +14,35 @@ loop-j-init g c =
 
 pub of-requires-clause-has : goal.of-requires-clause-has
 of-requires-clause-has g c =
-    subst (λ (n : ℕ). Contains c.args.own_values.now n) (sym c.min-sum.ensures) (c.requires.has c.loop-j.j 0 c.loop-j-test.true)
+    subst (λ (n : ℕ). Contains c.args.own.now.values.items n) (sym c.min-sum.ensures) (c.requires.has c.loop-j.j 0 c.loop-j-test.true)
 
 pub returns-in_err-clause-clause-failed : goal.returns-in_err-clause-clause-failed
 returns-in_err-clause-clause-failed g c =
     let f = output_in c.args.left.now c.args.lefts.now in
     let h = output_in c.args.right.now c.args.rights.now in
-    let o = output_in c.args.own.now c.args.own_values.now in
+    let o = own_output c.args.own.now in
     let u = slice_index c.args.lefts.now c.args.i in
     let v = slice_index c.args.rights.now c.loop-j.j in
     let clause = both_clause c.args.cap f h o u in
-    let same = three_literals _ _ _ (negated (f u)) (negated (h v)) (o (min (u + v) c.args.cap)) (c.not.ensures ∙ ap negated c.at.ensures) (c.not-in-loop-j.ensures ∙ ap negated c.at-in-loop-j.ensures) (c.of.ensures ∙ ap o c.min-sum.ensures) in
+    let same = three_literals _ _ _ (negated (f u)) (negated (h v)) (o (min (u + v) c.args.cap)) (c.not.ensures ∙ ap negated c.at-literal.ensures) (c.not-in-loop-j.ensures ∙ ap negated c.at.ensures) (c.of.ensures ∙ ap o c.min-sum.ensures) in
     on_err _ (value_fails clause c.args.rights.now c.loop-j.j _ _ (omega arith) same c.loop-j.invariant c.in_err-clause.ensures.failed)
 
 pub loop-j-preserved : goal.loop-j-preserved
 loop-j-preserved g c =
     let f = output_in c.args.left.now c.args.lefts.now in
     let h = output_in c.args.right.now c.args.rights.now in
-    let o = output_in c.args.own.now c.args.own_values.now in
+    let o = own_output c.args.own.now in
     let u = slice_index c.args.lefts.now c.args.i in
     let v = slice_index c.args.rights.now c.loop-j.j in
     let clause = both_clause c.args.cap f h o u in
-    let same = three_literals _ _ _ (negated (f u)) (negated (h v)) (o (min (u + v) c.args.cap)) (c.not.ensures ∙ ap negated c.at.ensures) (c.not-in-loop-j.ensures ∙ ap negated c.at-in-loop-j.ensures) (c.of.ensures ∙ ap o c.min-sum.ensures) in
+    let same = three_literals _ _ _ (negated (f u)) (negated (h v)) (o (min (u + v) c.args.cap)) (c.not.ensures ∙ ap negated c.at-literal.ensures) (c.not-in-loop-j.ensures ∙ ap negated c.at.ensures) (c.of.ensures ∙ ap o c.min-sum.ensures) in
     value_step clause c.args.rights.now c.loop-j.j _ _ (omega arith) same c.loop-j.invariant c.in_ok-clause.ensures.ok
 
 pub returns-clause-ok : goal.returns-clause-ok
 returns-clause-ok g c =
     let f = output_in c.args.left.now c.args.lefts.now in
     let h = output_in c.args.right.now c.args.rights.now in
-    let o = output_in c.args.own.now c.args.own_values.now in
+    let o = own_output c.args.own.now in
     let u = slice_index c.args.lefts.now c.args.i in
     let v = slice_index c.args.rights.now c.loop-j.j in
     let clause = both_clause c.args.cap f h o u in

@@ -12,6 +12,7 @@ use Rattle.pb_tree.specs.Tree.{Tree, tree_of, node}
 use Rattle.pb_tree.specs.Scheme.{values, fresh_of, output, clauses_of}
 use Rattle.pb_tree.proofs.Halves.{halves_of, leaf_of, fresh_parts}
 use Rattle.pb_tree.proofs.Pieces.{all_taken, left_stops, right_stops, own_stops, nothing_stops, stops_as}
+use Rattle.pb_gentot.specs.Nodes.{AreRanks}
 use Rattle.pb_gentot.specs.Outputs.{output_in}
 use Rattle.pb_gentot.specs.Generalized.{generalized}
 use Rattle.pb_gentot.proofs.Parts.{all_within, numbers_of, there_is}
@@ -93,8 +94,8 @@ pub emit_node-requires-clause-right_rising : goal.emit_node-requires-clause-righ
 emit_node-requires-clause-right_rising g t c =
     rising_values c.args.bound (tree_of (weights c.split_at.result.1.now)) c.as_slice-rights.result.now (c.as_slice-rights.ensures.value ∙ c.in_ok-right.ensures.values)
 
-pub emit_node-requires-clause-own_rising : goal.emit_node-requires-clause-own_rising
-emit_node-requires-clause-own_rising g t c =
+pub of-requires-clause-rising : goal.of-requires-clause-rising
+of-requires-clause-rising g t c =
     let ts = c.args.terms.now in
     let bound = c.args.bound in
     let s = generalized bound in
@@ -109,8 +110,8 @@ emit_node-requires-clause-own_rising g t c =
     let own = c.as_slice.ensures.value ∙ made in
     rising_values bound (node l r) c.as_slice.result.now own
 
-pub emit_node-requires-clause-own_room : goal.emit_node-requires-clause-own_room
-emit_node-requires-clause-own_room g t c =
+pub emit_node-requires-clause-ready : goal.emit_node-requires-clause-ready
+emit_node-requires-clause-ready g t c =
     let ts = c.args.terms.now in
     let bound = c.args.bound in
     let s = generalized bound in
@@ -122,10 +123,12 @@ emit_node-requires-clause-own_room g t c =
     let found = rw c.unwrap-values.ensures at c.in_ok-found.ensures.made in
     let number = numbers_of bound ts l r c.as_slice-lefts.result.now c.as_slice-rights.result.now c.unwrap-values.result.items halves.tree lefts rights found in
     let made = number.values_are ∙ ap (values s) halves.tree in
-    let own = c.as_slice.ensures.value ∙ made in
     let base : c.in_ok-right.right.next ≡ c.args.first + fresh_of s l + fresh_of s r = omega (arith, c.in_ok-left.ensures.next, c.in_ok-right.ensures.next) in
-    let count = ap length c.as_slice.ensures.value in
-    (omega arith, omega (arith, number.fresh, c.requires.fits))
+    record {
+      rising = rising_values bound (node l r) c.unwrap-values.result.items made;
+      room = (omega arith, omega (arith, number.fresh, c.requires.fits));
+      ranked = subst (λ (us : List ℕ). AreRanks c.in_ok-ranks.ranks us) c.as_slice.ensures.value c.in_ok-ranks.ensures;
+    }
 
 pub emit_node-requires-clause-left_small : goal.emit_node-requires-clause-left_small
 emit_node-requires-clause-left_small g t c =
@@ -148,8 +151,7 @@ emit_node-requires-clause-has_lefts g t c =
     let found = rw c.unwrap-values.ensures at c.in_ok-found.ensures.made in
     let number = numbers_of bound ts l r c.as_slice-lefts.result.now c.as_slice-rights.result.now c.unwrap-values.result.items halves.tree lefts rights found in
     let made = number.values_are ∙ ap (values s) halves.tree in
-    let own = c.as_slice.ensures.value ∙ made in
-    has_left bound l r c.as_slice-lefts.result.now c.as_slice.result.now lefts own
+    has_left bound l r c.as_slice-lefts.result.now c.unwrap-values.result.items lefts made
 
 pub emit_node-requires-clause-has_rights : goal.emit_node-requires-clause-has_rights
 emit_node-requires-clause-has_rights g t c =
@@ -164,8 +166,7 @@ emit_node-requires-clause-has_rights g t c =
     let found = rw c.unwrap-values.ensures at c.in_ok-found.ensures.made in
     let number = numbers_of bound ts l r c.as_slice-lefts.result.now c.as_slice-rights.result.now c.unwrap-values.result.items halves.tree lefts rights found in
     let made = number.values_are ∙ ap (values s) halves.tree in
-    let own = c.as_slice.ensures.value ∙ made in
-    has_right bound l r c.as_slice-rights.result.now c.as_slice.result.now rights own
+    has_right bound l r c.as_slice-rights.result.now c.unwrap-values.result.items rights made
 
 pub emit_node-requires-clause-has : goal.emit_node-requires-clause-has
 emit_node-requires-clause-has g t c =
@@ -180,8 +181,7 @@ emit_node-requires-clause-has g t c =
     let found = rw c.unwrap-values.ensures at c.in_ok-found.ensures.made in
     let number = numbers_of bound ts l r c.as_slice-lefts.result.now c.as_slice-rights.result.now c.unwrap-values.result.items halves.tree lefts rights found in
     let made = number.values_are ∙ ap (values s) halves.tree in
-    let own = c.as_slice.ensures.value ∙ made in
-    has_both bound l r c.as_slice-lefts.result.now c.as_slice-rights.result.now c.as_slice.result.now lefts rights own
+    has_both bound l r c.as_slice-lefts.result.now c.as_slice-rights.result.now c.unwrap-values.result.items lefts rights made
 
 pub overflow_cast-next : goal.overflow_cast-next
 overflow_cast-next g t c =
@@ -196,7 +196,6 @@ overflow_cast-next g t c =
     let found = rw c.unwrap-values.ensures at c.in_ok-found.ensures.made in
     let number = numbers_of bound ts l r c.as_slice-lefts.result.now c.as_slice-rights.result.now c.unwrap-values.result.items halves.tree lefts rights found in
     let made = number.values_are ∙ ap (values s) halves.tree in
-    let own = c.as_slice.ensures.value ∙ made in
     let base : c.in_ok-right.right.next ≡ c.args.first + fresh_of s l + fresh_of s r = omega (arith, c.in_ok-left.ensures.next, c.in_ok-right.ensures.next) in
     let count = ap length c.as_slice-2.ensures.value in
     omega (arith, number.fresh, c.requires.fits)
@@ -214,7 +213,6 @@ overflow_add-next g t c =
     let found = rw c.unwrap-values.ensures at c.in_ok-found.ensures.made in
     let number = numbers_of bound ts l r c.as_slice-lefts.result.now c.as_slice-rights.result.now c.unwrap-values.result.items halves.tree lefts rights found in
     let made = number.values_are ∙ ap (values s) halves.tree in
-    let own = c.as_slice.ensures.value ∙ made in
     let base : c.in_ok-right.right.next ≡ c.args.first + fresh_of s l + fresh_of s r = omega (arith, c.in_ok-left.ensures.next, c.in_ok-right.ensures.next) in
     let count = ap length c.as_slice-2.ensures.value in
     omega (arith, number.fresh, c.requires.fits)
@@ -232,13 +230,12 @@ returns-clause-ok g t c =
     let found = rw c.unwrap-values.ensures at c.in_ok-found.ensures.made in
     let number = numbers_of bound ts l r c.as_slice-lefts.result.now c.as_slice-rights.result.now c.unwrap-values.result.items halves.tree lefts rights found in
     let made = number.values_are ∙ ap (values s) halves.tree in
-    let own = c.as_slice.ensures.value ∙ made in
     let base : c.in_ok-right.right.next ≡ c.args.first + fresh_of s l + fresh_of s r = omega (arith, c.in_ok-left.ensures.next, c.in_ok-right.ensures.next) in
     let whole = clauses_are bound ts l r c.args.first c.in_ok-left.left.next halves.tree c.in_ok-left.ensures.next in
     let is = own_is bound l r c.args.first c.in_ok-left.left.next _ _ _ _ _ lefts rights
     (ap (output_in c.in_ok-left.left.outputs) c.as_slice-lefts.ensures.value ∙ c.in_ok-left.ensures.outputs)
     (ap (output_in c.in_ok-right.right.outputs) c.as_slice-rights.ensures.value ∙ c.in_ok-right.ensures.outputs)
-    (node_output bound l r c.args.first c.in_ok-right.right.next c.as_slice.result.now base own) in
+    (node_output bound l r c.args.first c.in_ok-right.right.next c.unwrap-values.result.items base made) in
     let one = clauses_of s l c.args.first in
     let two = clauses_of s r c.in_ok-left.left.next in
     let three = own_clauses bound l r c.args.first c.in_ok-left.left.next in
@@ -359,6 +356,21 @@ returns-in_err-found-clause-stops g t c =
     let p = err_from_is_err_and c.from_residual-in_err-found.result c.from_residual-in_err-found.ensures.1 in
     stops_as c.from_residual-in_err-found.result _ _ _ p.0 fault.NoMemory p.1 p.2 (own_stops one two three _ _ _ _ _ fault.NoMemory whole c.in_ok-left.ensures.ok c.in_ok-right.ensures.ok (nothing_stops three _))
 
+pub returns-in_err-ranks-clause-stops : goal.returns-in_err-ranks-clause-stops
+returns-in_err-ranks-clause-stops g t c =
+    let ts = c.args.terms.now in
+    let bound = c.args.bound in
+    let s = generalized bound in
+    let halves = halves_of ts c.split_at.result.0.now c.split_at.result.1.now c.requires.some c.if-terms-eq1.false c.split_at.ensures.front c.split_at.ensures.back in
+    let l = tree_of (weights c.split_at.result.0.now) in
+    let r = tree_of (weights c.split_at.result.1.now) in
+    let whole = clauses_are bound ts l r c.args.first c.in_ok-left.left.next halves.tree c.in_ok-left.ensures.next in
+    let one = clauses_of s l c.args.first in
+    let two = clauses_of s r c.in_ok-left.left.next in
+    let three = own_clauses bound l r c.args.first c.in_ok-left.left.next in
+    let p = err_from_is_err_and c.from_residual-in_err-ranks.result c.from_residual-in_err-ranks.ensures.1 in
+    stops_as c.from_residual-in_err-ranks.result _ _ _ p.0 fault.NoMemory p.1 p.2 (own_stops one two three _ _ _ _ _ fault.NoMemory whole c.in_ok-left.ensures.ok c.in_ok-right.ensures.ok (nothing_stops three _))
+
 pub returns-in_err-emit_node-clause-stops : goal.returns-in_err-emit_node-clause-stops
 returns-in_err-emit_node-clause-stops g t c =
     let ts = c.args.terms.now in
@@ -372,13 +384,12 @@ returns-in_err-emit_node-clause-stops g t c =
     let found = rw c.unwrap-values.ensures at c.in_ok-found.ensures.made in
     let number = numbers_of bound ts l r c.as_slice-lefts.result.now c.as_slice-rights.result.now c.unwrap-values.result.items halves.tree lefts rights found in
     let made = number.values_are ∙ ap (values s) halves.tree in
-    let own = c.as_slice.ensures.value ∙ made in
     let base : c.in_ok-right.right.next ≡ c.args.first + fresh_of s l + fresh_of s r = omega (arith, c.in_ok-left.ensures.next, c.in_ok-right.ensures.next) in
     let whole = clauses_are bound ts l r c.args.first c.in_ok-left.left.next halves.tree c.in_ok-left.ensures.next in
     let is = own_is bound l r c.args.first c.in_ok-left.left.next _ _ _ _ _ lefts rights
     (ap (output_in c.in_ok-left.left.outputs) c.as_slice-lefts.ensures.value ∙ c.in_ok-left.ensures.outputs)
     (ap (output_in c.in_ok-right.right.outputs) c.as_slice-rights.ensures.value ∙ c.in_ok-right.ensures.outputs)
-    (node_output bound l r c.args.first c.in_ok-right.right.next c.as_slice.result.now base own) in
+    (node_output bound l r c.args.first c.in_ok-right.right.next c.unwrap-values.result.items base made) in
     let one = clauses_of s l c.args.first in
     let two = clauses_of s r c.in_ok-left.left.next in
     let three = own_clauses bound l r c.args.first c.in_ok-left.left.next in
