@@ -1,4 +1,4 @@
--- How a constraint is treated: the family that is chosen for what is left of it once its units are taken.
+-- How a constraint is treated: the family that is chosen for what is left of it once its units are taken. Our own; by size, after common practice.
 use Rattle.std.specs.Prelude.{ℕ, ◌≡◌, nat_lt, nat_le, length, if◌then◌else◌}
 use Rattle.pb_norm.specs.declared.reduction.Rest.{Rest}
 use Rattle.pb_norm.specs.declared.reduction.Rest.TheVariants as rest

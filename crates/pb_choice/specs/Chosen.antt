@@ -1,4 +1,4 @@
--- The family that was chosen for a sum: which it is, and of which sum.
+-- The family that was chosen for a sum: which it is, and of which sum. Our own.
 use Rattle.std.specs.Prelude.{◌≡◌}
 use Rattle.pb_norm.specs.BoundedSums.{BoundedSum}
 use Rattle.pb_choice.specs.declared.chosen.Chosen.{Chosen}

@@ -1,4 +1,4 @@
--- The clauses of a constraint, by its treatment: its units, and then those of what is left of it.
+-- The clauses of a constraint, by its treatment: its units, and then those of what is left of it. Our own.
 use Rattle.std.specs.Prelude.{ℕ, ◌+◌, List, [], ◌∷◌, ◌++◌, map, length}
 use Rattle.pb_base.specs.declared.literal.Lit.{Lit}
 use Rattle.pb_norm.specs.declared.reduction.Rest.{Rest}

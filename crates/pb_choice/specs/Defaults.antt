@@ -1,4 +1,4 @@
--- What stands where nothing is chosen.
+-- What stands where nothing is chosen. Our own.
 use Rattle.pb_choice.specs.declared.options.Amo.TheVariants as amo
 use Rattle.pb_choice.specs.declared.options.Card.TheVariants as card
 use Rattle.pb_choice.specs.declared.options.General.TheVariants as general

@@ -1,4 +1,4 @@
--- What is left of a constraint, as a plan keeps it.
+-- What is left of a constraint, as a plan keeps it. Our own.
 use Rattle.std.specs.Prelude.{◌≡◌, ℕ, List, [], ◌∷◌}
 use Rattle.pb_base.specs.declared.literal.Lit.{Lit}
 use Rattle.pb_norm.specs.declared.reduction.Rest.{Rest}

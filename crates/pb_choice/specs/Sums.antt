@@ -1,4 +1,4 @@
--- The clauses of a sum that is to stay within its bound, by the family that was chosen for it.
+-- The clauses of a sum that is to stay within its bound, by the family that was chosen for it. Our own.
 use Rattle.std.specs.Prelude.{ℕ, ◌-◌, ◌*◌, List, [], length}
 use Rattle.pb_base.specs.declared.literal.Lit.{Lit}
 use Rattle.pb_norm.specs.BoundedSums.{BoundedSum}

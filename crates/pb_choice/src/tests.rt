@@ -1,26 +1,12 @@
-ghost use Rattle.std.specs.Prelude.{◌≡◌, ◌≤◌, ◌<◌, ◌^◌, IsTrue, nat_lt};
-ghost use Rattle.std.specs.List.{list_all};
-ghost use Rattle.pb_family.specs.Families.{VarsBelow};
+ghost use Rattle.std.specs.Prelude.{◌≡◌, ◌≤◌, ◌<◌, ◌^◌};
 
 use super::{Amo, Card, General, MAX_BUDGET, Options, Treatment, plan};
 use pb_base::{Lit, Raw, Relation, Term, Terms, Var};
-use pb_family::TextSink;
+use pb_family::{TextSink, are_below};
 use pb_norm::{Half, Linear, normalize};
 use std::alloc::Global;
 use std::process::Abort;
 use std::test::Fail;
-
-fn are_below(terms: &[Term], first: u32) -> bool
-    ensures { result ≡ list_all (λ t. nat_lt t.lit.var first) terms.now }
-{
-    terms.iter().all(|term| term.lit.index() < first)
-}
-
-fn is_below(constraint: &Linear, first: u32) -> bool
-    ensures { IsTrue result → VarsBelow first constraint.now.terms }
-{
-    are_below(constraint.terms(), first)
-}
 
 // A weight where the variable is false.
 fn negative(index: u32, weight: i128) -> Term
@@ -105,7 +91,7 @@ fn assert_plan(
     requires few { fresh < 1000 }
 {
     assert!(rt; constraint.weight() < 1 << 100);
-    assert!(rt; is_below(constraint, first));
+    assert!(rt; are_below(constraint.terms(), first));
     let plan = plan(alloc, constraint, options)?;
     let counts = plan.counts();
     assert_eq!(rt; plan.treatment(), treatment);

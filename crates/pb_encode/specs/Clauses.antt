@@ -1,4 +1,4 @@
--- The clauses that a problem is encoded to: those of its loaded constraints, one after another.
+-- The clauses that a problem is encoded to: those of its loaded constraints, one after another. Our own.
 use Rattle.std.specs.Prelude.{ℕ, ◌+◌, List, [], ◌∷◌, ◌++◌, sum_by}
 use Rattle.pb_base.specs.declared.literal.Lit.{Lit}
 use Rattle.pb_base.specs.declared.problem.Problem.{Problem}

@@ -1,4 +1,4 @@
--- What encoding a problem does to a desk.
+-- What encoding a problem does to a desk. Our own.
 use Rattle.std.specs.Prelude.{ℕ, ◌<◌, List, take, length, IsSomeAnd}
 use Rattle.pb_base.specs.declared.problem.Problem.{Problem}
 use Rattle.pb_desk.specs.View.{View, created, wrote, closed}

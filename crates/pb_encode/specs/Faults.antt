@@ -1,4 +1,4 @@
--- Faults of encoding.
+-- Faults of encoding. Our own.
 use Rattle.pb_family.specs.declared.sink.SinkFault.{SinkFault}
 use Rattle.pb_family.specs.declared.sink.SinkFault.TheVariants as sink
 use Rattle.pb_encode.specs.declared.fault.MeasureFault.{MeasureFault}

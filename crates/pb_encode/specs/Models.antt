@@ -1,4 +1,4 @@
--- What it means that clauses have the solutions of a problem.
+-- What it means that clauses have the solutions of a problem. Our own.
 use Rattle.std.specs.Prelude.{ℕ, ◌≡◌, ◌↔◌, Bool, List, length, take}
 use Rattle.pb_base.specs.declared.literal.Lit.{Lit}
 use Rattle.pb_base.specs.declared.problem.Problem.{Problem}

@@ -1,4 +1,4 @@
--- What is said of an encoded problem, and which problems are encoded.
+-- What is said of an encoded problem, and which problems are encoded. Our own.
 use Rattle.std.specs.Prelude.{ℕ, ◌-◌, ◌≤◌, ◌<◌, ◌^◌, Bool, ◌==◌, List, ◌++◌, count_by, codes, decimal}
 use Rattle.pb_base.specs.declared.limit.LimitKind.{LimitKind}
 use Rattle.pb_base.specs.declared.limit.LimitKind.TheVariants as limit

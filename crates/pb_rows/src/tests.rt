@@ -64,3 +64,14 @@ fn is_refused(
     assert!(rt; desk.said().is_empty(), "at {words} {text:?}");
     Ok(())
 }
+
+// The status of a run of which the call of this number fails, where so many calls read, and then so many write.
+fn status_at(call: u64, reads: u64, writes: u64) -> u8 {
+    if call <= reads {
+        4
+    } else if call - reads <= writes {
+        5
+    } else {
+        0
+    }
+}

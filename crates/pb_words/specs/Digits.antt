@@ -1,4 +1,4 @@
--- Numbers that are written in digits alone.
+-- Numbers that are written in digits alone. Our own.
 use Rattle.std.specs.Prelude.{◌&&◌, ℕ, nat_le, Option, Some, None, if◌then◌else◌, option_and_then}
 use Rattle.clap.specs.Words.{Text}
 use Rattle.pb_base.specs.Numbers.{natural_of}

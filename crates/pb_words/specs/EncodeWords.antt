@@ -1,4 +1,4 @@
--- The words of `encode`.
+-- The words of `encode`. Our own.
 use Rattle.std.specs.Prelude.{List, [], ◌∷◌, Option, Some, None, if◌then◌else◌, codes}
 use Rattle.clap.specs.Words.{App, Row, Text, first_of}
 use Rattle.pb_choice.specs.declared.options.Options.{Options}

@@ -1,4 +1,4 @@
--- Literals in words.
+-- Literals in words. Our own.
 use Rattle.std.specs.Prelude.{nat_lt, List, [], ◌∷◌, Option, Some, None, if◌then◌else◌, option_map, option_and_then}
 use Rattle.clap.specs.Words.{Text}
 use Rattle.pb_base.specs.declared.literal.Lit.{Lit}

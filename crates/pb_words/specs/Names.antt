@@ -1,4 +1,4 @@
--- Names of files.
+-- Names of files. Our own.
 use Rattle.std.specs.Prelude.{◌&&◌, Bool, true, not, List, [], ◌∷◌}
 use Rattle.std.specs.List.{list_any}
 use Rattle.std.specs.Str.{bytes_eq}

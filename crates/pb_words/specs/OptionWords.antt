@@ -1,4 +1,4 @@
--- The options of an encoding, in words.
+-- The options of an encoding, in words. Our own.
 use Rattle.std.specs.Prelude.{ℕ, List, [], ◌∷◌, Option, Some, None, if◌then◌else◌, codes}
 use Rattle.std.specs.Str.{bytes_eq}
 use Rattle.clap.specs.Words.{Row, Rule, Text, first_of}

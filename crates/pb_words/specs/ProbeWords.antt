@@ -1,4 +1,4 @@
--- The words of `probe`.
+-- The words of `probe`. Our own.
 use Rattle.std.specs.Prelude.{List, [], ◌∷◌, Option, Some, None, codes, unwrap_or}
 use Rattle.clap.specs.Words.{App, Row, Text, all_of, first_of}
 use Rattle.pb_base.specs.declared.literal.Lit.{Lit}

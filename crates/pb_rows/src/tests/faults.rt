@@ -1,6 +1,6 @@
 ghost use Rattle.std.specs.Prelude.{◌≤◌};
 
-use super::{Run, run_with};
+use super::{Run, run_with, status_at};
 use pb_base::{Ids, NoMemory};
 use std::alloc::Global;
 use std::process::Abort;
@@ -52,21 +52,15 @@ fn ends_at(rt: &impl Abort, alloc: Global, call: u64, piece: usize, status: u8) 
 fn each_call_fails_in_turn(rt: HostRuntime) -> Result<(), Fail> {
     // How many calls open and read the text to its end, and how many create, write and close the file and say the
     // words. The counts are exact, so that a fault that is passed over shows.
-    // The p line is written in five pieces, and the clauses in one.
+    // By pieces of a byte, each of the 24 bytes of the file and of the 145 bytes of the words is a call. Else the p line is
+    // written in five pieces, and the clauses in one.
     let cases = [
         (1, 1 + 19, 1 + 24 + 1 + 145),
         (4096, 1 + 2, 1 + 5 + 1 + 1 + 1),
     ];
     for &(piece, reads, writes) in &cases {
         for call in 1..=reads + writes + 1 {
-            let status = if call <= reads {
-                4
-            } else if call <= reads + writes {
-                5
-            } else {
-                0
-            };
-            ends_at(&rt, rt.alloc(), call, piece, status)?;
+            ends_at(&rt, rt.alloc(), call, piece, status_at(call, reads, writes))?;
         }
     }
     Ok(())

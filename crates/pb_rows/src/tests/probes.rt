@@ -1,6 +1,6 @@
 ghost use Rattle.std.specs.Prelude.{◌≤◌};
 
-use super::{Run, is_refused, run_freely, run_with};
+use super::{Run, is_refused, run_freely, run_with, status_at};
 use pb_base::Ids;
 use std::alloc::{Alloc, Global};
 use std::process::Abort;
@@ -149,14 +149,7 @@ fn each_call_fails_in_turn(rt: HostRuntime) -> Result<(), Fail> {
     let cases = [(1, 1 + 24 + 1, 13), (4096, 1 + 2, 1)];
     for &(piece, reads, writes) in &cases {
         for call in 1..=reads + writes + 1 {
-            let status = if call <= reads {
-                4
-            } else if call <= reads + writes {
-                5
-            } else {
-                0
-            };
-            ends_at(&rt, rt.alloc(), call, piece, status)?;
+            ends_at(&rt, rt.alloc(), call, piece, status_at(call, reads, writes))?;
         }
     }
     Ok(())
