@@ -7,20 +7,24 @@ use Rattle.std.proofs.lemmas.Bool.Decides.{nat_tests}
 use Rattle.std.proofs.lemmas.List.{map-append}
 use Rattle.std.proofs.lemmas.List.Elements.{All-nil, All-cons, All-from_recursion}
 use Rattle.pb_base.specs.declared.limit.LimitKind.{LimitKind}
-use Rattle.pb_base.specs.declared.limit.LimitKind.TheVariants.{Statements, Terms, Weight}
+use Rattle.pb_base.specs.declared.limit.LimitKind.TheVariants.{Statements, Terms, Weight, Variables}
 use Rattle.pb_base.specs.declared.literal.Lit.{Lit}
 use Rattle.pb_base.specs.declared.literal.Term.{Term}
 use Rattle.pb_base.specs.declared.problem.Relation.TheVariants.{AtLeast, AtMost, Equal}
 use Rattle.pb_base.specs.declared.problem.Raw.{Raw}
 use Rattle.pb_opb.specs.declared.fault.OpbFault.{OpbFault}
 use Rattle.pb_base.specs.declared.problem.Problem.{Problem}
+use Rattle.pb_base.specs.LiteralWords.{indexed, variable_of, literal_of}
 use Rattle.pb_base.specs.Numbers.{natural_of, integer_of}
 use Rattle.pb_base.specs.Problems.{magnitude, StaysBelow, IsSumWithin, IsWithinLimits}
 use Rattle.pb_base.specs.Tokens.{Piece, tokens_of}
-use Rattle.pb_opb.specs.Grammar.{Kind, kind_of, indexed, variable_of, literal_of, spelled, sum_kinds, objective_kinds, statement_kinds, text_kinds, index_of, greatest}
+use Rattle.pb_opb.specs.Grammar.{Kind, kind_of, spelled, sum_kinds, objective_kinds, statement_kinds, text_kinds}
+use Rattle.pb_opb.specs.Written.{Written, problem_of}
+use Rattle.pb_opb.specs.reader.Front.{index_of, greatest}
 use Rattle.pb_opb.specs.Grammar.Kind.{minimise, literal, relation, integer, semicolon, end}
 use Rattle.pb_opb.specs.Limits.{Keeps}
-use Rattle.pb_opb.specs.Faults.{Symbol, symbol, kinds, symbols_of, Says}
+use Rattle.pb_opb.specs.Faults.{Symbol, symbol, kinds, symbols_of, Spells, Reads}
+use Rattle.pb_opb.proofs.Greatest.{greatest-written, index-low}
 use Rattle.pb_opb.proofs.Reading.{piece_kinds, kinds-symbols}
 use Rattle.pb_opb.proofs.Within.{all-behind}
 
@@ -127,26 +131,30 @@ objective-within vars None from under short light = tt
 objective-within vars (Some ts) from under short light =
     (sum-within vars ts (all-front (AtIndex (λ v. 1 ≤ v)) (sum_kinds ts) (semicolon ∷ []) from.1) (all-front (AtIndex (λ v. v ≤ vars)) (sum_kinds ts) (semicolon ∷ []) under.1) short, omega arith)
 
-pub within : (text : List ℕ) (p : Problem) → Says text p → ((which : LimitKind) → Keeps which p) → p.vars < 2 ^ 31 → IsWithinLimits p
-within text p says keeps bounded =
-    let from : AllByRecursion (AtIndex (λ v. 1 ≤ v)) (text_kinds p) = subst (AllByRecursion (AtIndex (λ v. 1 ≤ v))) (sym (text-kinds text) ∙ says.written) (all-named (tokens_of text)) in
-    let under : AllByRecursion (AtIndex (λ v. v ≤ p.vars)) (text_kinds p) = all-under (text_kinds p) p.vars (omega (arith, says.vars)) in
-    let begin = λ (P : ℕ → Type 0) (h : AllByRecursion (AtIndex P) (text_kinds p)). all-front (AtIndex P) (objective_kinds p.objective ++ flat_map statement_kinds p.statements) (end ∷ []) h in
-    let few = (keeps Statements).count in
+written-within : (text : List ℕ) (told : ℕ) (w : Written) → told < 2 ^ 31 → Spells text w → ((which : LimitKind) → Keeps which w) → IsWithinLimits (problem_of told w)
+written-within text told w few spells keeps =
+    let vars = (problem_of told w).vars in
+    let from : AllByRecursion (AtIndex (λ v. 1 ≤ v)) (text_kinds w) = subst (AllByRecursion (AtIndex (λ v. 1 ≤ v))) (sym (text-kinds text) ∙ spells) (all-named (tokens_of text)) in
+    let under : AllByRecursion (AtIndex (λ v. v ≤ vars)) (text_kinds w) = all-under (text_kinds w) vars (omega (arith, greatest-written w)) in
+    let begin = λ (P : ℕ → Type 0) (h : AllByRecursion (AtIndex P) (text_kinds w)). all-front (AtIndex P) (objective_kinds w.objective ++ flat_map statement_kinds w.statements) (end ∷ []) h in
+    let count = (keeps Statements).count in
     record {
-      vars = bounded;
-      count = omega (arith, few);
-      sums = statements-within p.vars p.statements
-          (all-behind (AtIndex (λ v. 1 ≤ v)) (objective_kinds p.objective) (flat_map statement_kinds p.statements) (begin (λ v. 1 ≤ v) from))
-          (all-behind (AtIndex (λ v. v ≤ p.vars)) (objective_kinds p.objective) (flat_map statement_kinds p.statements) (begin (λ v. v ≤ p.vars) under))
+      vars = omega (arith, few, index-low w (keeps Variables));
+      count = omega (arith, count);
+      sums = statements-within vars w.statements
+          (all-behind (AtIndex (λ v. 1 ≤ v)) (objective_kinds w.objective) (flat_map statement_kinds w.statements) (begin (λ v. 1 ≤ v) from))
+          (all-behind (AtIndex (λ v. v ≤ vars)) (objective_kinds w.objective) (flat_map statement_kinds w.statements) (begin (λ v. v ≤ vars) under))
           (keeps Terms).statements;
-      numbers = All-from_recursion (StaysBelow (2 ^ 100)) p.statements (keeps Weight).statements;
-      objective = objective-within p.vars p.objective
-          (all-front (AtIndex (λ v. 1 ≤ v)) (objective_kinds p.objective) (flat_map statement_kinds p.statements) (begin (λ v. 1 ≤ v) from))
-          (all-front (AtIndex (λ v. v ≤ p.vars)) (objective_kinds p.objective) (flat_map statement_kinds p.statements) (begin (λ v. v ≤ p.vars) under))
+      numbers = All-from_recursion (StaysBelow (2 ^ 100)) w.statements (keeps Weight).statements;
+      objective = objective-within vars w.objective
+          (all-front (AtIndex (λ v. 1 ≤ v)) (objective_kinds w.objective) (flat_map statement_kinds w.statements) (begin (λ v. 1 ≤ v) from))
+          (all-front (AtIndex (λ v. v ≤ vars)) (objective_kinds w.objective) (flat_map statement_kinds w.statements) (begin (λ v. v ≤ vars) under))
           (keeps Terms).objective (keeps Weight).objective;
     }
 
-pub within-ok : (text : List ℕ) (result : Result Problem OpbFault) → IfOk result (Says text) → IfOk result (λ p. (which : LimitKind) → Keeps which p) → IfOk result (λ p. p.vars < 2 ^ 31) → IfOk result IsWithinLimits
-within-ok text (Ok p) says keeps bounded = within text p says keeps bounded
-within-ok text (Err e) says keeps bounded = tt
+pub reads-within : (text : List ℕ) (p : Problem) → Reads text p → IsWithinLimits p
+reads-within text p reads = subst IsWithinLimits (sym reads.says.means) (written-within text _ reads.says.written reads.admitted.few reads.says.spells reads.keeps)
+
+pub within-ok : (text : List ℕ) (result : Result Problem OpbFault) → IfOk result (Reads text) → IfOk result IsWithinLimits
+within-ok text (Ok p) reads = reads-within text p reads
+within-ok text (Err e) reads = tt

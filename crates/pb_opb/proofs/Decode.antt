@@ -4,8 +4,8 @@ use Rattle.std.specs.List.{flat_map}
 use Rattle.pb_base.specs.declared.literal.Term.{Term}
 use Rattle.pb_base.specs.declared.problem.Relation.{Relation}
 use Rattle.pb_base.specs.declared.problem.Raw.{Raw}
-use Rattle.pb_base.specs.declared.problem.Problem.{Problem}
 use Rattle.pb_opb.specs.Grammar.{Kind, sum_kinds, objective_kinds, statement_kinds, text_kinds}
+use Rattle.pb_opb.specs.Written.{Written}
 use Rattle.pb_opb.specs.Grammar.Kind.{minimise, integer, relation, semicolon, end}
 
 abbrev is_integer : Kind → Bool
@@ -90,7 +90,7 @@ not_minimise (q ∷ qs) x same =
     statement-opens q.terms q.relation q.right x (flat_map statement_kinds qs ++ end ∷ []) minimise refl (same ∙ append_assoc (statement_kinds q) (flat_map statement_kinds qs) (end ∷ []))
 
 -- a text that begins so goes on from the statements that were read
-pub record TextGoesOn (o : Option (List Term)) (ss : List Raw) (p : Problem) (rest : List Kind) : Type 0 where
+pub record TextGoesOn (o : Option (List Term)) (ss : List Raw) (p : Written) (rest : List Kind) : Type 0 where
   pub objective : p.objective ≡ o
   pub statements : StatementsGoOn ss p.statements rest
 
@@ -113,7 +113,7 @@ text-front-by (Some us) (Some ts) ss qs rest plain same =
     let rests : x ≡ y = cc in
     (ap Some parts.0, statements-front ss qs rest rests)
 
-pub text-front : (o : Option (List Term)) (ss : List Raw) (p : Problem) (rest : List Kind) → is_minimise rest ≡ false → text_kinds p ≡ objective_kinds o ++ flat_map statement_kinds ss ++ rest → TextGoesOn o ss p rest
+pub text-front : (o : Option (List Term)) (ss : List Raw) (p : Written) (rest : List Kind) → is_minimise rest ≡ false → text_kinds p ≡ objective_kinds o ++ flat_map statement_kinds ss ++ rest → TextGoesOn o ss p rest
 text-front o ss p rest plain same =
     let parts = text-front-by p.objective o ss p.statements rest plain (sym (append_assoc (objective_kinds p.objective) (flat_map statement_kinds p.statements) (end ∷ [])) ∙ same ∙ append_assoc (objective_kinds o) (flat_map statement_kinds ss) rest) in
     record { objective = parts.0; statements = parts.1 }
@@ -122,9 +122,10 @@ nothing_more : (rs : List Raw) → flat_map statement_kinds rs ++ end ∷ [] ≡
 nothing_more [] same = refl
 nothing_more (r ∷ rs) same = absurd (statement-opens r.terms r.relation r.right [] (flat_map statement_kinds rs ++ end ∷ []) end refl (sym same ∙ append_assoc (statement_kinds r) (flat_map statement_kinds rs) (end ∷ [])))
 
--- a text says one objective and one list of statements
-pub one_meaning : (p q : Problem) → text_kinds p ≡ text_kinds q → (p.objective ≡ q.objective) × (p.statements ≡ q.statements)
-one_meaning p q same =
+-- tokens spell one objective and one list of statements
+pub one_written : (p q : Written) → text_kinds p ≡ text_kinds q → p ≡ q
+one_written p q same =
     let front = text-front q.objective q.statements p (end ∷ []) refl same in
     let rest = front.statements in
-    (front.objective, rest.statements ∙ ap (λ (rs : List Raw). q.statements ++ rs) (nothing_more rest.more rest.written) ∙ append-nil q.statements)
+    let statements : p.statements ≡ q.statements = rest.statements ∙ ap (λ (rs : List Raw). q.statements ++ rs) (nothing_more rest.more rest.written) ∙ append-nil q.statements in
+    λ i. record { objective = front.objective i; statements = statements i }

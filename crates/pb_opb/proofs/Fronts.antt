@@ -8,19 +8,19 @@ use Rattle.pb_base.specs.declared.literal.Term.{Term}
 use Rattle.pb_base.specs.declared.problem.Relation.{Relation}
 use Rattle.pb_base.specs.declared.problem.Relation.TheVariants.{AtLeast}
 use Rattle.pb_base.specs.declared.problem.Raw.{Raw}
-use Rattle.pb_base.specs.declared.problem.Problem.{Problem}
 use Rattle.pb_base.specs.declared.expected.Expected.TheVariants.{TermOrRelation}
 use Rattle.pb_opb.specs.declared.stage.Part.{Part}
 use Rattle.pb_opb.specs.declared.stage.Part.TheVariants.{Objective, Statement}
 use Rattle.pb_opb.specs.declared.stage.Stage.{Stage}
 use Rattle.pb_opb.specs.declared.stage.Stage.TheVariants.{Start, Next, Sum, Coefficient, Related, Right}
 use Rattle.pb_opb.specs.Grammar.{Kind, objective_kinds, statement_kinds, text_kinds}
+use Rattle.pb_opb.specs.Written.{Written}
 use Rattle.pb_opb.specs.Grammar.Kind.{minimise, integer, literal, relation, semicolon, end}
 use Rattle.pb_opb.specs.Faults.{Begins, allows, Expects}
-use Rattle.pb_opb.specs.Automaton.{State, expected, move, step, run}
-use Rattle.pb_opb.specs.Automaton.State.{start}
-use Rattle.pb_opb.specs.Front.{front_kinds, state_of, first, raw, problem, complete, IsPlaced, IsFront}
-use Rattle.pb_opb.specs.Steps.{Leads}
+use Rattle.pb_opb.specs.reader.Automaton.{ReaderState, expected, move, step, run}
+use Rattle.pb_opb.specs.reader.Automaton.ReaderState.{start}
+use Rattle.pb_opb.specs.reader.Front.{front_kinds, state_of, first, raw, written_of, complete, IsPlaced, IsFront}
+use Rattle.pb_opb.specs.reader.Steps.{Leads}
 use Rattle.pb_opb.proofs.Runs.{run-append, refused}
 
 module _ (o : Option (List Term)) (ss : List Raw) where
@@ -48,27 +48,27 @@ module _ (o : Option (List Term)) (ss : List Raw) where
 pub add-objective : (ts : List Term) → front_kinds None [] (Sum Objective) ts ++ semicolon ∷ [] ≡ front_kinds (Some ts) [] Next []
 add-objective ts = simp append-nil
 
--- the problem's tokens begin with these
-pub record Reaches (p : Problem) (ks : List Kind) : Type 0 where
+-- the written_of's tokens begin with these
+pub record Reaches (p : Written) (ks : List Kind) : Type 0 where
   pub rest : List Kind
   pub same : text_kinds p ≡ ks ++ rest
 
-begins : {p : Problem} {ks : List Kind} → Reaches p ks → Begins ks
+begins : {p : Written} {ks : List Kind} → Reaches p ks → Begins ks
 begins {p} r = (p, r.rest, r.same)
 
-reaches-before : {p : Problem} {ls : List Kind} (ks : List Kind) (k : Kind) → ks ++ k ∷ [] ≡ ls → Reaches p ls → Reaches p ks
+reaches-before : {p : Written} {ls : List Kind} (ks : List Kind) (k : Kind) → ks ++ k ∷ [] ≡ ls → Reaches p ls → Reaches p ks
 reaches-before ks k same r = record {
   rest = k ∷ r.rest;
   same = r.same ∙ ap (λ (xs : List Kind). xs ++ r.rest) (sym same) ∙ append_assoc ks (k ∷ []) r.rest;
 }
 
-reaches-next : (o : Option (List Term)) (ss : List Raw) → Reaches (problem o ss) (front_kinds o ss Next [])
+reaches-next : (o : Option (List Term)) (ss : List Raw) → Reaches (written_of o ss) (front_kinds o ss Next [])
 reaches-next o ss = record { rest = end ∷ []; same = simp append-nil }
 
-reaches-right : (o : Option (List Term)) (ss : List Raw) (ts : List Term) (r : Relation) (n : ℤ) → Reaches (problem o (ss ++ raw ts r n ∷ [])) (front_kinds o ss (Right r n) ts)
+reaches-right : (o : Option (List Term)) (ss : List Raw) (ts : List Term) (r : Relation) (n : ℤ) → Reaches (written_of o (ss ++ raw ts r n ∷ [])) (front_kinds o ss (Right r n) ts)
 reaches-right o ss ts r n = reaches-before (front_kinds o ss (Right r n) ts) semicolon (add-statement o ss (raw ts r n)) (reaches-next o (ss ++ raw ts r n ∷ []))
 
-reaches-related : (o : Option (List Term)) (ss : List Raw) (ts : List Term) (r : Relation) → Reaches (problem o (ss ++ raw ts r (pos 0) ∷ [])) (front_kinds o ss (Related r) ts)
+reaches-related : (o : Option (List Term)) (ss : List Raw) (ts : List Term) (r : Relation) → Reaches (written_of o (ss ++ raw ts r (pos 0) ∷ [])) (front_kinds o ss (Related r) ts)
 reaches-related o ss ts r = reaches-before (front_kinds o ss (Related r) ts) (integer (pos 0)) (add-right o ss ts r (pos 0)) (reaches-right o ss ts r (pos 0))
 
 reaches-sum : (o : Option (List Term)) (ss : List Raw) (part : Part) (ts : List Term) → IsPlaced o ss (Sum part) ts → Reaches (complete o ss (Sum part) ts) (front_kinds o ss (Sum part) ts)
@@ -115,7 +115,7 @@ elim_allowed true h = refl
 elim_allowed false h = absurd (h refl)
 
 -- what is allowed leads on, and what is not leads nowhere
-stuck : (s : State) (k : Kind) → allows (expected s) k ≡ false → step s k ≡ None
+stuck : (s : ReaderState) (k : Kind) → allows (expected s) k ≡ false → step s k ≡ None
 stuck s k h = rw h refl
 
 after-sum : (o : Option (List Term)) (ss : List Raw) (ts : List Term) (k : Kind) → allows TermOrRelation k ≡ true → Begins (front_kinds o ss (Sum Statement) ts ++ k ∷ [])
@@ -124,7 +124,7 @@ after-sum o ss ts (relation r) h = rw add-relation (begins-related o ss ts r)
 after-sum o ss ts _ h = cc
 
 after-end : (o : Option (List Term)) (ss : List Raw) → Begins (front_kinds o ss Next [] ++ end ∷ [])
-after-end o ss = (record { vars = 0; objective = o; statements = ss }, [], simp (append_assoc, append-nil))
+after-end o ss = (written_of o ss, [], simp (append_assoc, append-nil))
 
 pub begins-after : (o : Option (List Term)) (ss : List Raw) (stage : Stage) (ts : List Term) (k : Kind) → IsPlaced o ss stage ts → allows (expected (state_of stage)) k ≡ true → Begins (front_kinds o ss stage ts ++ k ∷ [])
 begins-after o ss Start ts minimise placed h = rw (placed.0, placed.1) (begins-objective [])

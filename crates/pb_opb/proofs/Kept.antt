@@ -14,20 +14,22 @@ use Rattle.pb_opb.specs.declared.stage.Part.{Part}
 use Rattle.pb_opb.specs.declared.stage.Part.TheVariants.{Objective, Statement}
 use Rattle.pb_opb.specs.declared.stage.Stage.{Stage}
 use Rattle.pb_opb.specs.declared.stage.Stage.TheVariants.{Start, Next, Sum, Coefficient, Related, Right}
-use Rattle.pb_opb.specs.Grammar.{Kind, text_kinds, index_of, greatest}
+use Rattle.pb_opb.specs.Grammar.{Kind, text_kinds}
 use Rattle.pb_opb.specs.Grammar.Kind.{literal, semicolon, end}
-use Rattle.pb_opb.specs.Front.{front_kinds, first, raw, problem, complete, open_weight, begun_statements, begun_terms, read_kinds, state_of, IsPlaced, IsRead}
+use Rattle.pb_opb.specs.Written.{greatest_index, all_terms}
+use Rattle.pb_opb.specs.reader.Front.{index_of, greatest, front_kinds, first, raw, written_of, complete, open_weight, begun_statements, begun_terms, read_kinds, state_of, IsPlaced, IsRead}
 use Rattle.pb_opb.specs.declared.reader.Reader.{Reader}
 use Rattle.pb_opb.specs.Faults.{Begins, allows}
-use Rattle.pb_opb.specs.Automaton.{expected}
+use Rattle.pb_opb.specs.reader.Automaton.{expected}
 use Rattle.pb_base.specs.Problems.{magnitude}
-use Rattle.pb_opb.specs.Limits.{CountKeeps, SumKeeps, Keeps, BeginsWithin, IsWithin, rank}
-use Rattle.pb_opb.specs.Steps.{Leads, LeadsAs, stage_weight}
+use Rattle.pb_opb.specs.Limits.{CountKeeps, SumKeeps, Keeps, BeginsWithin, IsWithinEach, rank}
+use Rattle.pb_opb.specs.reader.Steps.{Leads, LeadsAs, stage_weight}
 use Rattle.pb_opb.specs.declared.fault.Refusal.{Refusal}
 use Rattle.pb_opb.specs.declared.fault.Refusal.TheVariants.{Unexpected, Limit, Memory}
-use Rattle.pb_opb.specs.Takes.{Passes, PassesAt, Refuses, Took, Finishes}
-use Rattle.pb_opb.specs.Moves.{IsStopped, moved, with_term, with_statement, with_objective}
+use Rattle.pb_opb.specs.reader.Takes.{Passes, PassesAt, Refuses, Took, Finishes}
+use Rattle.pb_opb.specs.reader.Moves.{IsStopped, moved, with_term, with_statement, with_objective}
 use Rattle.pb_opb.proofs.Fronts.{reaches, begins-after, front-refused, front-expects, end-refused, took-step, took-term, took-statement, took-objective, add-coefficient, add-right}
+use Rattle.pb_opb.proofs.Greatest.{greatest-push, end-no_index, greatest-written}
 use Rattle.pb_opb.proofs.Within.{coefficient-light, literal-near, right-light, term-short, statement-few}
 
 all-push : {A : Type 0} (P : A → Type 0) (xs : List A) (x : A) → AllByRecursion P xs → P x → AllByRecursion P (xs ++ x ∷ [])
@@ -49,18 +51,18 @@ abbrev open_right : Stage → ℕ
 open_right (Right r n) = unsigned_abs n
 open_right _ = 0
 
-statement-keeps : (which : LimitKind) (o : Option (List Term)) (ss : List Raw) (s : Raw) → Keeps which (problem o ss) → CountKeeps which (length ss + 1) → SumKeeps which s.terms (unsigned_abs s.right) → Keeps which (problem o (ss ++ s ∷ []))
+statement-keeps : (which : LimitKind) (o : Option (List Term)) (ss : List Raw) (s : Raw) → Keeps which (written_of o ss) → CountKeeps which (length ss + 1) → SumKeeps which s.terms (unsigned_abs s.right) → Keeps which (written_of o (ss ++ s ∷ []))
 statement-keeps which o ss s closed count new = record {
   count = subst (CountKeeps which) (sym (length-append ss (s ∷ []))) count;
   objective = closed.objective;
   statements = all-push (λ (r : Raw). SumKeeps which r.terms (unsigned_abs r.right)) ss s closed.statements new;
 }
 
-objective-keeps : (which : LimitKind) (o : Option (List Term)) (ss : List Raw) (ts : List Term) → Keeps which (problem o ss) → SumKeeps which ts 0 → Keeps which (problem (Some ts) ss)
+objective-keeps : (which : LimitKind) (o : Option (List Term)) (ss : List Raw) (ts : List Term) → Keeps which (written_of o ss) → SumKeeps which ts 0 → Keeps which (written_of (Some ts) ss)
 objective-keeps which o ss ts closed new = record { count = closed.count; objective = new; statements = closed.statements }
 
 -- the shortest end of what was read keeps a limit
-complete-keeps : (which : LimitKind) (o : Option (List Term)) (ss : List Raw) (stage : Stage) (ts : List Term) → Keeps which (problem o ss) → CountKeeps which (length ss + begun_statements stage) → SumKeeps which (completed stage ts) (open_right stage) → Keeps which (complete o ss stage ts)
+complete-keeps : (which : LimitKind) (o : Option (List Term)) (ss : List Raw) (stage : Stage) (ts : List Term) → Keeps which (written_of o ss) → CountKeeps which (length ss + begun_statements stage) → SumKeeps which (completed stage ts) (open_right stage) → Keeps which (complete o ss stage ts)
 complete-keeps which o ss Start ts closed count sum = closed
 complete-keeps which o ss Next ts closed count sum = closed
 complete-keeps which o ss (Sum Objective) ts closed count sum = objective-keeps which o ss ts closed sum
@@ -120,13 +122,9 @@ begun-one (Related r) some = refl
 begun-one (Right r n) some = refl
 begun-one _ some = absurd (omega arith)
 
-greatest-push : (ks : List Kind) (k : Kind) → greatest (ks ++ k ∷ []) ≡ max (greatest ks) (index_of k)
-greatest-push [] k = omega arith
-greatest-push (j ∷ ks) k = let rest = greatest-push ks k in omega arith
-
 module _ (r : Reader) (read : IsRead r) where
   -- what was read begins a text within the limits
-  pub read-within : IsWithin (read_kinds r)
+  pub read-within : IsWithinEach (read_kinds r)
   read-within which =
       let end = reaches r.objective r.statements r.stage r.terms read.front.placed in
       let light : open_weight r.stage r.terms < 2 ^ 100 = omega (arith, read.light, read.weighed) in (
@@ -203,7 +201,6 @@ module _ (r : Reader) (read : IsRead r) (k : Kind) (next : Stage) (leads : Leads
       weighed = omega (arith, leads.weighs r.terms, read.weighed);
       light = light;
       reached = reach-more r read (moved r next weight) k same (omega (arith, leads.unnamed));
-      bounded = read.bounded;
     };
     kinds = same;
   }
@@ -248,7 +245,6 @@ module _ (r : Reader) (read : IsRead r) (k : Kind) where
           weighed = omega arith;
           light = read.light;
           reached = reach-more r read new k taken.kinds (ap (max r.greatest) (sym index));
-          bounded = omega (arith, read.bounded);
         };
         kinds = taken.kinds;
       }
@@ -271,7 +267,6 @@ module _ (r : Reader) (read : IsRead r) (k : Kind) where
           weighed = refl;
           light = omega arith;
           reached = reach-more r read new k taken.kinds (omega (arith, ap index_of at.1));
-          bounded = read.bounded;
         };
         kinds = taken.kinds;
       }
@@ -291,7 +286,6 @@ module _ (r : Reader) (read : IsRead r) (k : Kind) where
           weighed = refl;
           light = omega arith;
           reached = reach-more r read new k taken.kinds (omega (arith, ap index_of at.1));
-          bounded = read.bounded;
         };
         kinds = taken.kinds;
       }
@@ -355,18 +349,18 @@ module _ (r : Reader) (read : IsRead r) (k : Kind) where
   wide-stopped reached (Ok u) wide at = tt
   wide-stopped reached (Err e) wide at = wide-stop reached e wide at
 
-between-kinds : (r : Reader) (vars : ℕ) → (r.stage ≡ Start) ⊎ (r.stage ≡ Next) → text_kinds (record { vars = vars; objective = r.objective; statements = r.statements }) ≡ read_kinds r ++ end ∷ []
-between-kinds r vars (inl at) = rw at (simp append-nil)
-between-kinds r vars (inr at) = rw at (simp append-nil)
+between-kinds : (r : Reader) → (r.stage ≡ Start) ⊎ (r.stage ≡ Next) → text_kinds (written_of r.objective r.statements) ≡ read_kinds r ++ end ∷ []
+between-kinds r (inl at) = rw at (simp append-nil)
+between-kinds r (inr at) = rw at (simp append-nil)
 
 -- the end of the text, between statements
-pub finishes : (r : Reader) (told vars : ℕ) → IsRead r → (r.stage ≡ Start) ⊎ (r.stage ≡ Next) → told < 2 ^ 31 → vars ≡ max told r.greatest → Finishes (read_kinds r) told (record { vars = vars; objective = r.objective; statements = r.statements })
-finishes r told vars read at few is = record {
-  kinds = between-kinds r vars at;
-  keeps = λ which. (let closed = read.closed which in record { count = closed.count; objective = closed.objective; statements = closed.statements });
-  vars = is ∙ ap (max told) read.reached;
-  bounded = omega (arith, read.bounded);
-}
+pub finishes : (r : Reader) (told vars : ℕ) → IsRead r → (r.stage ≡ Start) ⊎ (r.stage ≡ Next) → vars ≡ max told r.greatest → Finishes (read_kinds r) told (record { vars = vars; objective = r.objective; statements = r.statements })
+finishes r told vars read at is =
+    let w = written_of r.objective r.statements in
+    let kinds = between-kinds r at in
+    let reached = ap greatest kinds ∙ end-no_index (read_kinds r) in
+    let same : vars ≡ max told (greatest_index (all_terms w)) = omega (arith, is, read.reached, reached, greatest-written w) in
+    record { written = w; kinds = kinds; keeps = read.closed; means = ap (λ (n : ℕ). record { vars = n; objective = r.objective; statements = r.statements }) same }
 
 -- and elsewhere
 pub unended : (r : Reader) → IsRead r → (r.stage ≡ Start → ⊥) → (r.stage ≡ Next → ⊥) → Refuses (read_kinds r) end (Unexpected (expected (state_of r.stage)))

@@ -1,6 +1,7 @@
 pub mod Bounds
 pub mod Decode
 pub mod Fronts
+pub mod Greatest
 pub mod Kept
 pub mod Limits
 pub mod Reading
@@ -9,4 +10,3 @@ pub mod Runs
 pub mod Uniqueness
 pub mod Wide
 pub mod Within
-pub mod Greatest

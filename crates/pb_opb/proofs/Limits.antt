@@ -1,13 +1,12 @@
 -- What is known of a number or a literal that is past the limits.
-use Rattle.std.proofs.Common.{◌≡◌, ℕ, ◌^◌, ◌≤◌, ◌≤ℤ◌, Bool, true, false, cond, ℤ, pos, Option, Some, None, refl, arith}
+use Rattle.std.proofs.Common.{◌≡◌, ◌^◌, ◌≤◌, Bool, true, false, cond, ℤ, Option, Some, None, refl, arith}
 use Rattle.std.specs.Prelude.{unsigned_abs, nat_lt}
-use Rattle.std.specs.Option.{option_map}
-use Rattle.std.proofs.lemmas.Int.{ints}
 use Rattle.std.proofs.lemmas.Bool.Decides.{nat_tests}
 use Rattle.pb_base.specs.declared.literal.Lit.{Lit}
-use Rattle.pb_base.specs.declared.number.Number.TheVariants.{Value, TooWide}
+use Rattle.pb_base.specs.declared.number.Number.TheVariants.{Value, TooWide, NotANumber}
+use Rattle.pb_base.specs.declared.literal_word.LitWord.TheVariants.{Within, TooGreat}
+use Rattle.pb_base.specs.LiteralWords.{limited_literal}
 use Rattle.pb_base.specs.Numbers.{limited}
-use Rattle.pb_opb.specs.Grammar.{indexed}
 
 wide-by : (z : ℤ) (b : Bool) → nat_lt (unsigned_abs z) (2 ^ 126) ≡ b → TooWide ≡ cond b (Value z) TooWide → 2 ^ 126 ≤ unsigned_abs z
 wide-by z true test h = cc
@@ -17,17 +16,18 @@ pub wide-is : (o : Option ℤ) → TooWide ≡ limited o → (z : ℤ) × (o ≡
 wide-is None h = cc
 wide-is (Some z) h = (z, refl, wide-by z (nat_lt (unsigned_abs z) (2 ^ 126)) refl h)
 
-far-by : (positive : Bool) (n : ℕ) → 2 ^ 31 ≤ n → (l : Lit) × (indexed positive (Some n) ≡ Some l) × (2 ^ 31 ≤ l.var)
-far-by positive n h = (record { var = n; positive = positive }, grind (arith, nat_tests), h)
+none-by : (z : ℤ) (b : Bool) → NotANumber ≡ cond b (Value z) TooWide → ⊥
+none-by z true h = cc
+none-by z false h = cc
 
-pub wide-far : (positive : Bool) (o : Option ℕ) → TooWide ≡ limited (option_map pos o) → (l : Lit) × (indexed positive o ≡ Some l) × (2 ^ 31 ≤ l.var)
-wide-far positive None h = cc
-wide-far positive (Some n) h = far-by positive n (let w = wide-by (pos n) (nat_lt n (2 ^ 126)) refl h in omega arith)
+pub none-is : (o : Option ℤ) → NotANumber ≡ limited o → o ≡ None
+none-is None h = refl
+none-is (Some z) h = absurd (none-by z (nat_lt (unsigned_abs z) (2 ^ 126)) h)
 
-value-by : (z : ℤ) (n : ℕ) (b : Bool) → Value z ≡ cond b (Value (pos n)) TooWide → z ≡ pos n
-value-by z n true h = cc
-value-by z n false h = cc
+far-by : (l : Lit) (b : Bool) → nat_lt l.var (2 ^ 31) ≡ b → TooGreat ≡ cond b (Within l) TooGreat → 2 ^ 31 ≤ l.var
+far-by l true test h = cc
+far-by l false test h = grind (arith, nat_tests)
 
-pub value-far : (positive : Bool) (o : Option ℕ) (z : ℤ) → Value z ≡ limited (option_map pos o) → pos (2 ^ 31) ≤ℤ z → (l : Lit) × (indexed positive o ≡ Some l) × (2 ^ 31 ≤ l.var)
-value-far positive None z h far = cc
-value-far positive (Some n) z h far = far-by positive n (let same = value-by z n (nat_lt n (2 ^ 126)) h in omega (arith, ints))
+pub far-is : (o : Option Lit) → TooGreat ≡ limited_literal o → (l : Lit) × (o ≡ Some l) × (2 ^ 31 ≤ l.var)
+far-is None h = cc
+far-is (Some l) h = (l, refl, far-by l (nat_lt l.var (2 ^ 31)) refl h)

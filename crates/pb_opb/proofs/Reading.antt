@@ -1,6 +1,5 @@
 -- What a reader answers along the tokens of a text, as what the text says.
 use Rattle.std.proofs.Common.{◌≡◌, ℕ, List, [], ◌∷◌, ◌++◌, map, sym, refl, ap, ◌∙◌, subst, append_assoc, Option, Some, None, inl, inr, ◌^◌, ◌≤◌, arith}
-use Rattle.std.specs.Prelude.{max}
 use Rattle.std.proofs.lemmas.List.{map-append}
 use Rattle.pb_base.specs.declared.place.Place.{Place}
 use Rattle.pb_base.specs.declared.problem.Problem.{Problem}
@@ -8,16 +7,16 @@ use Rattle.pb_base.specs.Places.{end_of}
 use Rattle.pb_base.specs.Tokens.{Piece, tokens_of}
 use Rattle.pb_opb.specs.declared.fault.Refusal.{Refusal}
 use Rattle.pb_opb.specs.declared.fault.Refusal.TheVariants.{Unexpected, Limit, Memory}
-use Rattle.pb_base.specs.declared.limit.LimitKind.{LimitKind}
 use Rattle.pb_opb.specs.declared.fault.OpbFault.{OpbFault}
 use Rattle.pb_opb.specs.declared.fault.OpbFault.TheVariants.{Token, NoMemory, Limit as OverLimit}
-use Rattle.pb_opb.specs.Grammar.{Kind, kind_of, text_kinds, index_of, greatest}
+use Rattle.pb_opb.specs.Grammar.{Kind, kind_of, text_kinds}
+use Rattle.pb_opb.specs.Written.{Written, problem_of}
 use Rattle.pb_opb.specs.Grammar.Kind.{end}
-use Rattle.pb_opb.specs.Faults.{Symbol, symbol, symbols_of, kinds, Says, IsAdmitted, IsManyAt, TellsTooMany, Begins, Expects, IsAt, IsFirstFault, so_far}
+use Rattle.pb_opb.specs.Faults.{Symbol, symbol, symbols_of, kinds, Spells, Says, Reads, IsAdmitted, IsManyAt, TellsTooMany, Begins, Expects, IsAt, IsFirstFault, so_far}
 use Rattle.pb_opb.specs.FirstLine.{Count, told, told_vars, vars_or_none}
-use Rattle.pb_opb.specs.Limits.{Keeps, BeginsWithin, IsWithin}
-use Rattle.pb_opb.proofs.Decode.{one_meaning}
-use Rattle.pb_opb.specs.Takes.{Refuses, Finishes, IsTokenFault, fault_at}
+use Rattle.pb_opb.specs.Limits.{BeginsWithin, IsWithinEach}
+use Rattle.pb_opb.proofs.Decode.{one_written}
+use Rattle.pb_opb.specs.reader.Takes.{Refuses, Finishes, IsTokenFault, fault_at}
 
 abbrev pub piece_kinds : List Piece → List Kind
 piece_kinds ts = map (λ t. kind_of t.text) ts
@@ -37,7 +36,7 @@ wrong text before place k after (Unexpected e) admitted cut refused =
     record {
       admitted = admitted;
       at = token_at text before place k after cut;
-      fine = subst IsWithin (sym same) refused.2;
+      fine = subst IsWithinEach (sym same) refused.2;
       wrong = λ begins. refused.0 (subst (λ (ks : List Kind). Begins (ks ++ k ∷ [])) same begins);
       expects = subst (Expects e) (sym same) refused.1;
     }
@@ -46,7 +45,7 @@ wrong text before place k after (Limit which) admitted cut refused =
     record {
       admitted = admitted;
       at = token_at text before place k after cut;
-      fine = subst IsWithin (sym same) refused.3;
+      fine = subst IsWithinEach (sym same) refused.3;
       accepted = subst (λ (ks : List Kind). Begins (ks ++ k ∷ [])) (sym same) refused.0;
       over = λ begins. refused.1 (subst (λ (ks : List Kind). BeginsWithin which (ks ++ k ∷ [])) same begins);
       first = λ e earlier. subst (λ (ks : List Kind). BeginsWithin e (ks ++ k ∷ [])) (sym same) (refused.2 e earlier);
@@ -66,24 +65,25 @@ pub fault-at_end : (text : List ℕ) (before : List Piece) (refusal : Refusal) �
 fault-at_end text before refusal admitted cut refused =
     wrong text before (end_of text) end [] refusal admitted (ap (λ (ts : List Piece). map symbol ts ++ record { place = end_of text; kind = end } ∷ []) cut) refused
 
-end-no_index : (ks : List Kind) → greatest (ks ++ end ∷ []) ≡ greatest ks
-end-no_index [] = refl
-end-no_index (k ∷ ks) = ap (max (index_of k)) (end-no_index ks)
-
-pub says : (text : List ℕ) (before : List Piece) (p : Problem) → tokens_of text ≡ before → Finishes (piece_kinds before) (told_vars text) p → Says text p
-says text before p cut f = record {
-  written = map-append (λ (s : Symbol). s.kind) (map symbol (tokens_of text)) (record { place = end_of text; kind = end } ∷ [])
-      ∙ ap (λ (ks : List Kind). ks ++ end ∷ []) (kinds-symbols (tokens_of text) ∙ ap piece_kinds cut) ∙ sym f.kinds;
-  vars = f.vars ∙ ap (max (told_vars text)) (sym (ap greatest f.kinds ∙ end-no_index (piece_kinds before)));
+pub says : (text : List ℕ) (before : List Piece) (p : Problem) → IsAdmitted text → tokens_of text ≡ before → Finishes (piece_kinds before) (told_vars text) p → Reads text p
+says text before p admitted cut f = record {
+  admitted = admitted;
+  says = record {
+    written = f.written;
+    spells = map-append (λ (s : Symbol). s.kind) (map symbol (tokens_of text)) (record { place = end_of text; kind = end } ∷ [])
+        ∙ ap (λ (ks : List Kind). ks ++ end ∷ []) (kinds-symbols (tokens_of text) ∙ ap piece_kinds cut) ∙ sym f.kinds;
+    means = f.means;
+  };
+  keeps = f.keeps;
 }
 
 pub read-more : (before : List Piece) (t : Piece) → piece_kinds (before ++ t ∷ []) ≡ piece_kinds before ++ kind_of t.text ∷ []
 read-more before t = map-append (λ (s : Piece). kind_of s.text) before (t ∷ [])
 
 -- the tokens of a text up to one of them
-pub said : (text : List ℕ) (p : Problem) (place : Place) (at : IsAt text place) → Says text p → text_kinds p ≡ so_far at ++ kinds at.after
-said text p place at told =
-    sym told.written ∙ ap kinds at.cut ∙ map-append (λ (s : Symbol). s.kind) at.before (record { place = place; kind = at.here } ∷ at.after) ∙ sym (append_assoc (kinds at.before) (at.here ∷ []) (kinds at.after))
+pub said : (text : List ℕ) (w : Written) (place : Place) (at : IsAt text place) → Spells text w → text_kinds w ≡ so_far at ++ kinds at.after
+said text w place at spells =
+    sym spells ∙ ap kinds at.cut ∙ map-append (λ (s : Symbol). s.kind) at.before (record { place = place; kind = at.here } ∷ at.after) ∙ sym (append_assoc (kinds at.before) (at.here ∷ []) (kinds at.after))
 
 many-vars : (o : Option Count) (place : Place) → IsManyAt o place → 2 ^ 31 ≤ vars_or_none o
 many-vars None place many = absurd many
@@ -92,18 +92,12 @@ many-vars (Some c) place many = many.0
 pub too_many : (text : List ℕ) (place : Place) → TellsTooMany text place → IsAdmitted text → ⊥
 too_many text place tells admitted = let many = many-vars (told text) place tells.many in omega (arith, admitted.few)
 
-pub says-no_fault : (text : List ℕ) (p : Problem) (fault : OpbFault) → IsAdmitted text → Says text p → ((which : LimitKind) → Keeps which p) → IsFirstFault text fault → fault ≡ NoMemory
-says-no_fault text p (Token place e) admitted told keeps wrong = absurd (wrong.wrong (p, kinds wrong.at.after, said text p place wrong.at told))
-says-no_fault text p (OverLimit None which) admitted told keeps long = absurd (let bytes = admitted.bytes in let more = long.1 in omega arith)
-says-no_fault text p (OverLimit (Some place) which) admitted told keeps (inl many) = absurd (too_many text place many.1 admitted)
-says-no_fault text p (OverLimit (Some place) which) admitted told keeps (inr great) = absurd (great.over (p, kinds great.at.after, keeps which, said text p place great.at told))
-says-no_fault text p NoMemory admitted told keeps fault = refl
-
-same_problem : (p q : Problem) → p.vars ≡ q.vars → p.objective ≡ q.objective → p.statements ≡ q.statements → p ≡ q
-same_problem p q vars objective statements = λ i. record { vars = vars i; objective = objective i; statements = statements i }
+pub reads-no_fault : (text : List ℕ) (p : Problem) (fault : OpbFault) → Reads text p → IsFirstFault text fault → fault ≡ NoMemory
+reads-no_fault text p (Token place e) reads wrong = absurd (let w = reads.says.written in wrong.wrong (w, kinds wrong.at.after, said text w place wrong.at reads.says.spells))
+reads-no_fault text p (OverLimit None which) reads long = absurd (let bytes = reads.admitted.bytes in let more = long.1 in omega arith)
+reads-no_fault text p (OverLimit (Some place) which) reads (inl many) = absurd (too_many text place many.1 reads.admitted)
+reads-no_fault text p (OverLimit (Some place) which) reads (inr great) = absurd (let w = reads.says.written in great.over (w, kinds great.at.after, reads.keeps which, said text w place great.at reads.says.spells))
+reads-no_fault text p NoMemory reads fault = refl
 
 pub says_one : (text : List ℕ) (p q : Problem) → Says text p → Says text q → p ≡ q
-says_one text p q says other =
-    let same = sym says.written ∙ other.written in
-    let parts = one_meaning p q same in
-    same_problem p q (says.vars ∙ ap (λ (ks : List Kind). max (told_vars text) (greatest ks)) same ∙ sym other.vars) parts.0 parts.1
+says_one text p q says other = says.means ∙ ap (problem_of (told_vars text)) (one_written says.written other.written (sym says.spells ∙ other.spells)) ∙ sym other.means

@@ -5,16 +5,16 @@ use Rattle.std.specs.List.{flat_map}
 use Rattle.pb_base.specs.declared.literal.Term.{Term}
 use Rattle.pb_base.specs.declared.problem.Relation.{Relation}
 use Rattle.pb_base.specs.declared.problem.Raw.{Raw}
-use Rattle.pb_base.specs.declared.problem.Problem.{Problem}
 use Rattle.pb_opb.specs.declared.stage.Part.{Part}
 use Rattle.pb_opb.specs.declared.stage.Part.TheVariants.{Objective, Statement}
 use Rattle.pb_opb.specs.Grammar.{Kind, term_kinds, sum_kinds, objective_kinds, statement_kinds, text_kinds}
+use Rattle.pb_opb.specs.Written.{Written}
 use Rattle.pb_opb.specs.Grammar.Kind.{integer, relation, semicolon, end}
 use Rattle.pb_opb.specs.Faults.{Begins}
-use Rattle.pb_opb.specs.Automaton.{State, step, run}
-use Rattle.pb_opb.specs.Automaton.State.{start, next, in_sum}
+use Rattle.pb_opb.specs.reader.Automaton.{ReaderState, step, run}
+use Rattle.pb_opb.specs.reader.Automaton.ReaderState.{start, next, in_sum}
 
-pub run-append : (xs ys : List Kind) (s : State) → run s (xs ++ ys) ≡ option_and_then (λ t. run t ys) (run s xs)
+pub run-append : (xs ys : List Kind) (s : ReaderState) → run s (xs ++ ys) ≡ option_and_then (λ t. run t ys) (run s xs)
 run-append [] ys s = refl
 run-append (x ∷ xs) ys s =
     elim (step s x) as (λ o. option_and_then (λ t. run t (xs ++ ys)) o ≡ option_and_then (λ t. run t ys) (option_and_then (λ t. run t xs) o)) [
@@ -29,7 +29,7 @@ run-sum (t ∷ ts) Objective rest = ap (run (in_sum Objective)) (append_assoc (t
 run-sum (t ∷ ts) Statement rest = ap (run (in_sum Statement)) (append_assoc (term_kinds t) (sum_kinds ts) rest) ∙ run-sum ts Statement rest
 
 -- where a statement may begin: before anything was read, and after something
-abbrev pub between : Bool → State
+abbrev pub between : Bool → ReaderState
 between false = start
 between true = next
 
@@ -69,13 +69,13 @@ run-front o ss rest =
     ∙ run-objective o (flat_map statement_kinds ss ++ rest) ∙ run-statements ss (is_some o) rest
 
 -- every text runs
-accepted : (p : Problem) → run start (text_kinds p) ≡ Some (between (is_some p.objective || any_of p.statements))
+accepted : (p : Written) → run start (text_kinds p) ≡ Some (between (is_some p.objective || any_of p.statements))
 accepted p =
     run-front p.objective p.statements (end ∷ [])
     ∙ elim (is_some p.objective || any_of p.statements) as (λ b. run (between b) (end ∷ []) ≡ Some (between b)) [ false ↦ refl | true ↦ refl ]
 
 -- so no text begins with what does not
-pub refused : (ks : List Kind) (k : Kind) (s : State) → run start ks ≡ Some s → step s k ≡ None → Begins (ks ++ k ∷ []) → ⊥
+pub refused : (ks : List Kind) (k : Kind) (s : ReaderState) → run start ks ≡ Some s → step s k ≡ None → Begins (ks ++ k ∷ []) → ⊥
 refused ks k s here stuck (p, rest, same) =
     let stops : run start (ks ++ k ∷ []) ≡ None =
     run-append ks (k ∷ []) start ∙ ap (option_and_then (λ t. run t (k ∷ []))) here ∙ ap (option_and_then (λ t. run t [])) stuck in

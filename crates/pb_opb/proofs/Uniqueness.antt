@@ -6,11 +6,11 @@ use Rattle.std.proofs.lemmas.List.{map-append}
 use Rattle.pb_base.specs.declared.place.Place.{Place}
 use Rattle.pb_base.specs.declared.literal.Lit.{Lit}
 use Rattle.pb_base.specs.declared.literal.Term.{Term}
-use Rattle.pb_base.specs.declared.problem.Problem.{Problem}
 use Rattle.pb_base.specs.declared.problem.Raw.{Raw}
 use Rattle.pb_base.specs.declared.problem.Relation.TheVariants.{AtLeast}
 use Rattle.pb_base.specs.Places.{end_of}
 use Rattle.pb_base.specs.Tokens.{Piece, tokens_of}
+use Rattle.pb_base.specs.LiteralWords.{literal_of}
 use Rattle.pb_base.specs.Numbers.{integer_of}
 use Rattle.pb_base.specs.declared.expected.Expected.{Expected}
 use Rattle.pb_base.specs.declared.expected.Expected.TheVariants.{Start, Next, TermOrRelation, TermOrSemicolon, Literal, Integer, Semicolon}
@@ -19,9 +19,10 @@ use Rattle.pb_base.specs.declared.limit.LimitKind.TheVariants.{Statements, Terms
 use Rattle.pb_opb.specs.declared.fault.OpbFault.{OpbFault}
 use Rattle.pb_opb.specs.declared.fault.OpbFault.TheVariants.{Token, NoMemory, Limit}
 use Rattle.pb_opb.specs.FirstLine.{Count, told}
-use Rattle.pb_opb.specs.Grammar.{Kind, kind_of, spelled, literal_of, text_kinds, objective_kinds, statement_kinds}
+use Rattle.pb_opb.specs.Grammar.{Kind, kind_of, spelled, text_kinds, objective_kinds, statement_kinds}
+use Rattle.pb_opb.specs.Written.{Written}
 use Rattle.pb_opb.specs.Grammar.Kind.{minimise, integer, literal, relation, semicolon, end}
-use Rattle.pb_opb.specs.Limits.{BeginsWithin, IsWithin, rank}
+use Rattle.pb_opb.specs.Limits.{BeginsWithin, IsWithinEach, rank}
 use Rattle.pb_opb.specs.Faults.{Symbol, symbol, kinds, Begins, allows, Expects, IsManyAt, IsAt, so_far, IsWrong, IsTooGreat, IsFirstFault}
 use Rattle.pb_opb.proofs.Within.{all-behind}
 use Rattle.pb_opb.proofs.Reading.{too_many}
@@ -53,7 +54,7 @@ cuts (d ∷ b) (e ∷ c) s t x y same =
 -- where reading stops: some limit can no longer be kept
 pub record Stops (text : List ℕ) (place : Place) : Type 0 where
   pub at : IsAt text place
-  pub fine : IsWithin (kinds at.before)
+  pub fine : IsWithinEach (kinds at.before)
   pub which : LimitKind
   pub over : BeginsWithin which (so_far at) → ⊥
 
@@ -127,7 +128,7 @@ pub record GoesBy (before : List Kind) : Type 0 where
   pub kind : Kind
   pub begins : Begins (before ++ kind ∷ [])
 
-goes-by : (before : List Kind) (p : Problem) (rest : List Kind) → AllByRecursion (λ k. is_end k ≡ false) before → text_kinds p ≡ before ++ rest → GoesBy before
+goes-by : (before : List Kind) (p : Written) (rest : List Kind) → AllByRecursion (λ k. is_end k ≡ false) before → text_kinds p ≡ before ++ rest → GoesBy before
 goes-by before p (k ∷ rest) going same = record { kind = k; begins = (p, rest, same ∙ sym (append_assoc before (k ∷ []) rest)) }
 goes-by before p [] going same =
     let whole : AllByRecursion (λ k. is_end k ≡ false) (text_kinds p) = subst (AllByRecursion (λ k. is_end k ≡ false)) (sym (append-nil before) ∙ sym same) going in

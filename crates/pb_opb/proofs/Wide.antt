@@ -8,7 +8,7 @@ use Rattle.pb_opb.specs.declared.stage.Part.TheVariants.{Objective, Statement}
 use Rattle.pb_opb.specs.declared.stage.Stage.{Stage}
 use Rattle.pb_opb.specs.declared.stage.Stage.TheVariants.{Start, Next, Sum, Coefficient, Related, Right}
 use Rattle.pb_opb.specs.Grammar.Kind.{integer}
-use Rattle.pb_opb.specs.Steps.{Leads, LeadsAs}
+use Rattle.pb_opb.specs.reader.Steps.{Leads, LeadsAs}
 use Rattle.pb_opb.proofs.Fronts.{add-coefficient, add-right}
 
 leads-start : (n : ℤ) → Leads Start (integer n) (Coefficient Statement n)

@@ -8,7 +8,6 @@ use Rattle.pb_base.specs.declared.literal.Lit.{Lit}
 use Rattle.pb_base.specs.declared.literal.Term.{Term}
 use Rattle.pb_base.specs.declared.problem.Relation.{Relation}
 use Rattle.pb_base.specs.declared.problem.Raw.{Raw}
-use Rattle.pb_base.specs.declared.problem.Problem.{Problem}
 use Rattle.pb_base.specs.declared.limit.LimitKind.{LimitKind}
 use Rattle.pb_base.specs.declared.limit.LimitKind.TheVariants.{Statements, Terms, Weight, Variables}
 use Rattle.pb_opb.specs.declared.stage.Part.{Part}
@@ -16,9 +15,10 @@ use Rattle.pb_opb.specs.declared.stage.Part.TheVariants.{Objective, Statement}
 use Rattle.pb_opb.specs.declared.stage.Stage.{Stage}
 use Rattle.pb_opb.specs.declared.stage.Stage.TheVariants.{Start, Next, Sum, Coefficient, Related, Right}
 use Rattle.pb_opb.specs.Grammar.{Kind, sum_kinds, objective_kinds, statement_kinds, text_kinds}
+use Rattle.pb_opb.specs.Written.{Written}
 use Rattle.pb_opb.specs.Grammar.Kind.{minimise, integer, literal, relation, semicolon, end}
-use Rattle.pb_opb.specs.Front.{front_kinds, begun_statements, IsPlaced}
-use Rattle.pb_opb.specs.Steps.{is_open_sum}
+use Rattle.pb_opb.specs.reader.Front.{front_kinds, begun_statements, IsPlaced}
+use Rattle.pb_opb.specs.reader.Steps.{is_open_sum}
 use Rattle.pb_base.specs.Problems.{magnitude}
 use Rattle.pb_opb.specs.Limits.{SumKeeps, Keeps, BeginsWithin}
 use Rattle.pb_opb.proofs.Decode.{sum-front, text-front, is_minimise, not_minimise}
@@ -64,7 +64,7 @@ plain_sum : (ts : List Term) (k : Kind) (x : List Kind) → is_minimise (k ∷ x
 plain_sum [] k x h = h
 plain_sum (t ∷ ts) k x h = refl
 
-pub open-statement : (which : LimitKind) (o : Option (List Term)) (ss : List Raw) (ts : List Term) (p : Problem) (k : Kind) (x : List Kind) → Keeps which p → is_minimise (k ∷ x) ≡ false → (end ≡ k → ⊥) →
+pub open-statement : (which : LimitKind) (o : Option (List Term)) (ss : List Raw) (ts : List Term) (p : Written) (k : Kind) (x : List Kind) → Keeps which p → is_minimise (k ∷ x) ≡ false → (end ≡ k → ⊥) →
     text_kinds p ≡ objective_kinds o ++ flat_map statement_kinds ss ++ (sum_kinds ts ++ k ∷ x) → OpenStatement which ts (k ∷ x)
 open-statement which o ss ts p k x keeps plain goes same =
     let front = text-front o ss p (sum_kinds ts ++ k ∷ x) (plain_sum ts k x plain) same in
@@ -95,7 +95,7 @@ objective-term which (Some us) ts qs c x keeps same =
     let front = sum-front ts us semicolon y (integer c ∷ x) refl (sym (append_assoc (sum_kinds us) (semicolon ∷ []) y) ∙ tails) in
     term-of which ts front.more 0 semicolon y c x (λ bad. cc) (subst (λ (vs : List Term). SumKeeps which vs 0) front.terms keeps) front.written
 
-pub open-term : (which : LimitKind) (o : Option (List Term)) (ss : List Raw) (part : Part) (ts : List Term) (p : Problem) (c : ℤ) (x : List Kind) → IsPlaced o ss (Sum part) ts → Keeps which p →
+pub open-term : (which : LimitKind) (o : Option (List Term)) (ss : List Raw) (part : Part) (ts : List Term) (p : Written) (c : ℤ) (x : List Kind) → IsPlaced o ss (Sum part) ts → Keeps which p →
     text_kinds p ≡ front_kinds o ss (Sum part) ts ++ integer c ∷ x → OpenTerm which ts c x
 open-term which o ss Statement ts p c x placed keeps same =
     let s = open-statement which o ss ts p (integer c) x keeps refl (λ bad. cc) (same ∙ append_assoc (objective_kinds o ++ flat_map statement_kinds ss) (sum_kinds ts) (integer c ∷ x)) in
@@ -152,7 +152,7 @@ some-more [] [] k x same goes = absurd (goes cc)
 some-more [] (t ∷ ts) k x same goes = cc
 some-more (r ∷ rs) ts k x same goes = omega arith
 
-one-more : (o : Option (List Term)) (ss : List Raw) (ts : List Term) (p : Problem) (k : Kind) (x : List Kind) → Keeps Statements p → is_minimise (k ∷ x) ≡ false → (end ≡ k → ⊥) →
+one-more : (o : Option (List Term)) (ss : List Raw) (ts : List Term) (p : Written) (k : Kind) (x : List Kind) → Keeps Statements p → is_minimise (k ∷ x) ≡ false → (end ≡ k → ⊥) →
     text_kinds p ≡ objective_kinds o ++ flat_map statement_kinds ss ++ (sum_kinds ts ++ k ∷ x) → length ss + 1 ≤ 2 ^ 24
 one-more o ss ts p k x keeps plain goes same =
     let front = text-front o ss p (sum_kinds ts ++ k ∷ x) (plain_sum ts k x plain) same in

@@ -1,5 +1,5 @@
 -- What a text says, and its first fault (our own).
-use Rattle.std.specs.Prelude.{◌≡◌, ◌↔◌, ◌⊎◌, IsTrue, ℕ, max, ◌<◌, ◌≤◌, ◌^◌, List, [], ◌∷◌, ◌++◌, length, map, Option, Some, None, Bool, true, false}
+use Rattle.std.specs.Prelude.{◌≡◌, ◌↔◌, ◌⊎◌, IsTrue, ℕ, ◌<◌, ◌≤◌, ◌^◌, List, [], ◌∷◌, ◌++◌, length, map, Option, Some, None, Bool, true, false}
 use Rattle.pb_base.specs.declared.place.Place.{Place}
 use Rattle.pb_base.specs.declared.problem.Problem.{Problem}
 use Rattle.pb_base.specs.Places.{end_of}
@@ -11,8 +11,9 @@ use Rattle.pb_base.specs.declared.limit.LimitKind.TheVariants.{Text, Variables}
 use Rattle.pb_opb.specs.declared.fault.OpbFault.{OpbFault}
 use Rattle.pb_opb.specs.declared.fault.OpbFault.TheVariants.{Token, Limit, NoMemory}
 use Rattle.pb_opb.specs.FirstLine.{Count, told, told_vars}
-use Rattle.pb_opb.specs.Limits.{Keeps, BeginsWithin, IsWithin, rank}
-use Rattle.pb_opb.specs.Grammar.{Kind, kind_of, text_kinds, greatest}
+use Rattle.pb_opb.specs.Written.{Written, problem_of}
+use Rattle.pb_opb.specs.Limits.{Keeps, BeginsWithin, IsWithinEach, rank}
+use Rattle.pb_opb.specs.Grammar.{Kind, kind_of, text_kinds}
 use Rattle.pb_opb.specs.Grammar.Kind.{minimise, integer, literal, relation, semicolon, end}
 
 -- a token, by what it stands for and where
@@ -30,10 +31,15 @@ symbols_of text = map symbol (tokens_of text) ++ record { place = end_of text; k
 abbrev pub kinds : List Symbol → List Kind
 kinds ss = map (λ s. s.kind) ss
 
--- the text says the problem
+-- the tokens of the text spell what is written
+abbrev pub Spells : List ℕ → Written → Type 0
+Spells text w = kinds (symbols_of text) ≡ text_kinds w
+
+-- the text says the problem: the problem is that of what its tokens spell
 pub record Says (text : List ℕ) (p : Problem) : Type 0 where
-  pub written : kinds (symbols_of text) ≡ text_kinds p
-  pub vars : p.vars ≡ max (told_vars text) (greatest (text_kinds p))
+  pub written : Written
+  pub spells : Spells text written
+  pub means : p ≡ problem_of (told_vars text) written
 
 -- what is tested before the tokens: the text's length, and the number that its first line tells
 pub record IsAdmitted (text : List ℕ) : Type 0 where
@@ -44,7 +50,7 @@ pub record IsAdmitted (text : List ℕ) : Type 0 where
 pub record Reads (text : List ℕ) (p : Problem) : Type 0 where
   pub admitted : IsAdmitted text
   pub says : Says text p
-  pub keeps : (which : LimitKind) → Keeps which p
+  pub keeps : (which : LimitKind) → Keeps which says.written
 
 -- too many variables are told, at this place of the first line
 abbrev pub IsManyAt : Option Count → Place → Type 0
@@ -58,7 +64,7 @@ pub record TellsTooMany (text : List ℕ) (place : Place) : Type 0 where
 
 -- some accepted text begins with these tokens
 abbrev pub Begins : List Kind → Type 0
-Begins ks = (p : Problem) × (rest : List Kind) × (text_kinds p ≡ ks ++ rest)
+Begins ks = (w : Written) × (rest : List Kind) × (text_kinds w ≡ ks ++ rest)
 
 -- what could stand at a place
 abbrev pub allows : Expected → Kind → Bool
@@ -95,7 +101,7 @@ so_far at = kinds at.before ++ at.here ∷ []
 pub record IsWrong (text : List ℕ) (place : Place) (e : Expected) : Type 0 where
   pub admitted : IsAdmitted text
   pub at : IsAt text place
-  pub fine : IsWithin (kinds at.before)
+  pub fine : IsWithinEach (kinds at.before)
   pub wrong : ¬ Begins (so_far at)
   pub expects : Expects e (kinds at.before)
 
@@ -103,7 +109,7 @@ pub record IsWrong (text : List ℕ) (place : Place) (e : Expected) : Type 0 whe
 pub record IsTooGreat (text : List ℕ) (place : Place) (which : LimitKind) : Type 0 where
   pub admitted : IsAdmitted text
   pub at : IsAt text place
-  pub fine : IsWithin (kinds at.before)
+  pub fine : IsWithinEach (kinds at.before)
   pub accepted : Begins (so_far at)
   pub over : ¬ BeginsWithin which (so_far at)
   pub first : (earlier : LimitKind) → rank earlier < rank which → BeginsWithin earlier (so_far at)

@@ -3,10 +3,10 @@ use Rattle.std.specs.Prelude.{◌≡◌, ℕ, ◌+◌, ◌<◌, ◌≤◌, ◌^�
 use Rattle.std.specs.List.{AllByRecursion}
 use Rattle.pb_base.specs.declared.literal.Term.{Term}
 use Rattle.pb_base.specs.Problems.{magnitude}
-use Rattle.pb_base.specs.declared.problem.Problem.{Problem}
 use Rattle.pb_base.specs.declared.limit.LimitKind.{LimitKind}
 use Rattle.pb_base.specs.declared.limit.LimitKind.TheVariants.{Statements, Terms, Weight, Variables}
 use Rattle.pb_opb.specs.Grammar.{Kind, text_kinds}
+use Rattle.pb_opb.specs.Written.{Written}
 
 -- what a limit allows of the number of statements
 abbrev pub CountKeeps : LimitKind → ℕ → Type 0
@@ -20,19 +20,19 @@ SumKeeps Weight ts right = magnitude ts + right < 2 ^ 100
 SumKeeps Variables ts right = AllByRecursion (λ t. t.lit.var < 2 ^ 31) ts
 SumKeeps _ ts right = Unit {0}
 
--- the problem is within the limit
-pub record Keeps (which : LimitKind) (p : Problem) : Type 0 where
-  pub count : CountKeeps which (length p.statements)
-  pub objective : IfSome p.objective (λ ts. SumKeeps which ts 0)
-  pub statements : AllByRecursion (λ s. SumKeeps which s.terms (unsigned_abs s.right)) p.statements
+-- what is written is within the limit
+pub record Keeps (which : LimitKind) (w : Written) : Type 0 where
+  pub count : CountKeeps which (length w.statements)
+  pub objective : IfSome w.objective (λ ts. SumKeeps which ts 0)
+  pub statements : AllByRecursion (λ s. SumKeeps which s.terms (unsigned_abs s.right)) w.statements
 
 -- some text within the limit begins with these tokens
 abbrev pub BeginsWithin : LimitKind → List Kind → Type 0
-BeginsWithin which ks = (p : Problem) × (rest : List Kind) × Keeps which p × (text_kinds p ≡ ks ++ rest)
+BeginsWithin which ks = (w : Written) × (rest : List Kind) × Keeps which w × (text_kinds w ≡ ks ++ rest)
 
 -- each limit is kept so far
-abbrev pub IsWithin : List Kind → Type 0
-IsWithin ks = (which : LimitKind) → BeginsWithin which ks
+abbrev pub IsWithinEach : List Kind → Type 0
+IsWithinEach ks = (which : LimitKind) → BeginsWithin which ks
 
 -- which limit is told first of those that one token passes
 abbrev pub rank : LimitKind → ℕ

@@ -1,11 +1,9 @@
 //! What holds of every OPB text.
 ghost use Rattle.std.specs.Prelude.{◌≡◌, ◌≢◌, ℕ, List};
 ghost use Rattle.pb_base.specs.declared.problem.Problem.{Problem};
-ghost use Rattle.pb_base.specs.declared.limit.LimitKind.{LimitKind};
 ghost use Rattle.pb_opb.specs.declared.fault.OpbFault.{OpbFault};
 ghost use Rattle.pb_opb.specs.declared.fault.OpbFault.TheVariants.{NoMemory};
-ghost use Rattle.pb_opb.specs.Faults.{Says, IsAdmitted, IsFirstFault};
-ghost use Rattle.pb_opb.specs.Limits.{Keeps};
+ghost use Rattle.pb_opb.specs.Faults.{Says, Reads, IsFirstFault};
 
 /// A text says one problem.
 pub fn one_meaning()
@@ -14,10 +12,10 @@ pub fn one_meaning()
 
 /// A text that says a problem within the limits has no fault but want of memory.
 pub fn no_fault()
-    ensures { (text : List ℕ) (p : Problem) (fault : OpbFault) → IsAdmitted text → Says text p → ((which : LimitKind) → Keeps which p) → IsFirstFault text fault → fault ≡ NoMemory }
+    ensures { (text : List ℕ) (p : Problem) (fault : OpbFault) → Reads text p → IsFirstFault text fault → fault ≡ NoMemory }
 {}
 
 /// A text has one first fault, beside want of memory.
 pub fn one_fault()
-    ensures { (text : List ℕ) (fault other : OpbFault) → fault ≢ NoMemory → other ≢ NoMemory → IsFirstFault text fault → IsFirstFault text other → fault ≡ other }
+    ensures { (text : List ℕ) (f g : OpbFault) → f ≢ NoMemory → g ≢ NoMemory → IsFirstFault text f → IsFirstFault text g → f ≡ g }
 {}

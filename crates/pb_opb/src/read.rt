@@ -1,11 +1,9 @@
 //! The reader of OPB texts.
-ghost use Rattle.std.specs.Prelude.{◌≡◌, ◌<◌, ◌^◌, IfOk, IfErr};
-ghost use Rattle.pb_base.specs.declared.limit.LimitKind.{LimitKind};
+ghost use Rattle.std.specs.Prelude.{◌≡◌, IfOk, IfErr};
 ghost use Rattle.pb_base.specs.Problems.{IsWithinLimits};
 ghost use Rattle.pb_opb.specs.FirstLine.{told_vars};
-ghost use Rattle.pb_opb.specs.Limits.{Keeps};
-ghost use Rattle.pb_opb.specs.Faults.{Says, Reads, IsAdmitted, IsFirstFault};
-ghost use Rattle.pb_opb.specs.Takes.{IsTokenFault};
+ghost use Rattle.pb_opb.specs.Faults.{Reads, IsAdmitted, IsFirstFault};
+ghost use Rattle.pb_opb.specs.reader.Takes.{IsTokenFault};
 
 use crate::fault::OpbFault;
 use crate::first_line::told_vars;
@@ -43,9 +41,7 @@ pub fn read_opb(alloc: Global, text: &[u8]) -> Result<Problem, OpbFault>
 fn read_tokens(alloc: Global, text: &[u8], told: u32) -> Result<Problem, OpbFault>
     requires admitted { IsAdmitted text.now }
     requires told { told ≡ told_vars text.now }
-    ensures says { IfOk result (Says text.now) }
-    ensures keeps { IfOk result (λ p. (which : LimitKind) → Keeps which p) }
-    ensures vars { IfOk result (λ p. p.vars < 2 ^ 31) }
+    ensures reads { IfOk result (Reads text.now) }
     ensures fault { IfErr result (IsTokenFault text.now) }
 {
     let mut reader = Reader::new(alloc);

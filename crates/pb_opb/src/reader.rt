@@ -3,9 +3,9 @@ ghost use Rattle.std.specs.Prelude.{◌≡◌, ◌+◌, ◌∷◌, ◌<◌, ◌�
 ghost use Rattle.pb_opb.specs.declared.stage.Stage.TheVariants.{Start, Next};
 ghost use Rattle.pb_opb.specs.Grammar.{kind_of};
 ghost use Rattle.pb_opb.specs.Grammar.Kind.{end};
-ghost use Rattle.pb_opb.specs.Front.{IsRead, read_kinds};
-ghost use Rattle.pb_opb.specs.Takes.{Refuses, Took, Finishes, PassesAt};
-ghost use Rattle.pb_opb.specs.Moves.{IsStopped, moved, with_term, with_statement, with_objective};
+ghost use Rattle.pb_opb.specs.reader.Front.{IsRead, read_kinds};
+ghost use Rattle.pb_opb.specs.reader.Takes.{Refuses, Took, Finishes, PassesAt};
+ghost use Rattle.pb_opb.specs.reader.Moves.{IsStopped, moved, with_term, with_statement, with_objective};
 
 use crate::fault::Refusal;
 use crate::stage::{Part, Stage, Step, WEIGHT};

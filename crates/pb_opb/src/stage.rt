@@ -44,11 +44,11 @@ impl Stage {
     ghost use Rattle.pb_base.specs.declared.literal.Lit.{Lit};
     ghost use Rattle.pb_opb.specs.Grammar.{Kind};
     ghost use Rattle.pb_opb.specs.Grammar.Kind.{minimise, integer, literal, relation, semicolon};
-    ghost use Rattle.pb_opb.specs.Automaton.{expected};
-    ghost use Rattle.pb_opb.specs.Front.{state_of, begun_statements, begun_terms};
-    ghost use Rattle.pb_opb.specs.Symbols.{Shows};
-    ghost use Rattle.pb_opb.specs.Steps.{CallsFor, stage_weight};
-    ghost use Rattle.pb_opb.specs.Takes.{Passes};
+    ghost use Rattle.pb_opb.specs.reader.Automaton.{expected};
+    ghost use Rattle.pb_opb.specs.reader.Front.{state_of, begun_statements, begun_terms};
+    ghost use Rattle.pb_opb.specs.reader.Symbols.{Shows};
+    ghost use Rattle.pb_opb.specs.reader.Steps.{CallsFor, stage_weight};
+    ghost use Rattle.pb_opb.specs.reader.Takes.{Passes};
 
     /// What could stand where a reader stands.
     pub fn expected(self) -> Expected

@@ -12,6 +12,7 @@ use Rattle.pb_choice.specs.declared.options.General.{General}
 use Rattle.pb_choice.specs.declared.options.Options.{Options}
 use Rattle.pb_words.specs.Digits.{within}
 use Rattle.pb_words.specs.EncodeWords.{EncodeWords, encode_from, encode_in}
+use Rattle.pb_words.specs.Fit.{IsFitEncode}
 use Rattle.pb_words.specs.Names.{are_different}
 use Rattle.pb_words.specs.OptionWords.{amo_in, budget_in, budget_of, card_in, chosen, general_in, options_from, options_in}
 
@@ -51,12 +52,6 @@ differ a b = go (bytes_eq a b) (bytes_eq-Decides a b)
     go : (t : Bool) → Decides t (a ≡ b) → (not (t || false) && (not false && true)) ≡ true → a ≢ b
     go true same e equal = cc
     go false other e equal = let bad : false ≡ true = other.1 equal in cc
-
--- what `encode` is asked for: two different names, and a budget within its range
-pub record IsFitEncode (w : EncodeWords) : Type 0 where
-  pub different : w.opb ≢ w.cnf
-  pub low : 1 ≤ w.options.budget
-  pub high : w.options.budget ≤ 10000000
 
 fit_if : (opb cnf : Text) (options : Options) (b : Bool) (w : EncodeWords) → are_different (opb ∷ cnf ∷ []) ≡ b → IsBudget options.budget
     → cond b (Some (record { opb = opb; cnf = cnf; options = options })) None ≡ Some w → IsFitEncode w

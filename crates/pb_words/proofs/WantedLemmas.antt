@@ -3,14 +3,11 @@ use Rattle.std.proofs.Common.{◌≡◌, Bool, true, false, List, [], ◌∷◌,
 use Rattle.std.specs.Str.{bytes_eq}
 use Rattle.clap.specs.Words.{Kinds, Row, Text, fault_of, subcommand_of}
 use Rattle.pb_words.specs.EncodeWords.{encode_in}
+use Rattle.pb_words.specs.Fit.{IsFit}
 use Rattle.pb_words.specs.Taken.{is_faultless, program_app, taken_of, wanted_by, wanted_in, Wanted}
 use Rattle.pb_words.specs.Taken.Wanted.{Encode, Probe}
 use Rattle.pb_words.specs.ProbeWords.{probe_in}
-use Rattle.pb_words.proofs.EncodeLemmas.{encode_fit, IsFitEncode}
-
-abbrev pub IsFit : Wanted → Type 0
-IsFit (Encode w) = IsFitEncode w
-IsFit (Probe w) = Unit {0}
+use Rattle.pb_words.proofs.EncodeLemmas.{encode_fit}
 
 -- the command of one name, or one of the others
 one_or : (named : Bool) (own others : Option Wanted) (w : Wanted) → (own ≡ Some w → IsFit w) → (others ≡ Some w → IsFit w)

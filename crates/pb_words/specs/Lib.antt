@@ -6,3 +6,4 @@ pub mod EncodeWords
 pub mod LitWords
 pub mod ProbeWords
 pub mod Taken
+pub mod Fit

@@ -17,6 +17,3 @@ pub use fault::WordsFault;
 pub use line::taken;
 pub use probe::Probing;
 pub use request::Request;
-
-#[cfg(test)]
-mod tests;

@@ -62,7 +62,8 @@ fn request_by<'a>(alloc: Global, matches: &ArgMatches<'a>) -> Result<Request<'a>
 
 // Words that clap does not take are none of the program's, unless memory was wanting.
 fn fault_of(error: &clap::Error) -> WordsFault
-    ensures { result ≡ WordsFault.Usage → kind_of error.now ≢ ErrorKind.OutOfMemory }
+    ensures usage { result ≡ WordsFault.Usage → kind_of error.now ≢ ErrorKind.OutOfMemory }
+    ensures memory { result ≡ WordsFault.NoMemory → kind_of error.now ≡ ErrorKind.OutOfMemory }
 {
     if error.kind() == ErrorKind::OutOfMemory {
         WordsFault::NoMemory

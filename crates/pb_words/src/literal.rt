@@ -1,42 +1,18 @@
 // Literals in words.
-ghost use Rattle.std.specs.Prelude.{◌≡◌, IfOk, IsErrOf, None, Some, map, option_and_then};
-ghost use Rattle.pb_base.specs.Numbers.{natural_of};
-ghost use Rattle.pb_opb.specs.Grammar.{indexed, variable_of};
-ghost use Rattle.pb_words.specs.LitWords.{lit_in, lits_in, numbered};
+ghost use Rattle.std.specs.Prelude.{◌≡◌, IfOk, IsErrOf, None, Some, map};
+ghost use Rattle.pb_words.specs.LitWords.{lit_in, lits_in};
 
-use crate::digits::number_within;
 use crate::fault::WordsFault;
-use pb_base::{Lit, Lits, MAX_VARIABLES, Var};
+use pb_base::{Lit, LitWord, Lits, read_literal};
 use std::alloc::Global;
 
-// The literal of a variable whose number is written in digits.
-fn numbered_in(positive: bool, digits: &[u8]) -> Option<Lit>
-    ensures { result ≡ option_and_then numbered (indexed positive (natural_of digits.now)) }
-{
-    let index = number_within(digits, 1, u64::from(MAX_VARIABLES))?;
-    Some(Lit {
-        var: Var::new(index as u32),
-        positive,
-    })
-}
-
-// `x` and digits.
-fn variable_in(positive: bool, word: &[u8]) -> Option<Lit>
-    ensures { result ≡ option_and_then numbered (variable_of positive word.now) }
-{
-    match word {
-        [b'x', digits @ ..] => numbered_in(positive, digits),
-        _ => None,
-    }
-}
-
-/// The literal that a word is: as in an OPB text, of a variable up to 2^31 - 1.
+/// The literal that a word is, of a variable up to 2^31 - 1.
 pub fn lit_in(word: &[u8]) -> Option<Lit>
     ensures { result ≡ lit_in word.now }
 {
-    match word {
-        [b'~', rest @ ..] => variable_in(false, rest),
-        _ => variable_in(true, word),
+    match read_literal(word) {
+        LitWord::Within(lit) => Some(lit),
+        LitWord::TooGreat | LitWord::NotALiteral => None,
     }
 }
 

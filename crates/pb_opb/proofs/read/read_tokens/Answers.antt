@@ -2,7 +2,7 @@ use Rattle.std.proofs.Common.{List, [], ◌∷◌, ◌++◌, sym, ap, ◌∙◌,
 use Rattle.pb_base.specs.Tokens.{Piece}
 use Rattle.pb_opb.specs.Grammar.{Kind, kind_of}
 use Rattle.pb_opb.specs.Grammar.Kind.{end}
-use Rattle.pb_opb.specs.Takes.{Refuses, Finishes, IsTokenFault, fault_at}
+use Rattle.pb_opb.specs.reader.Takes.{Refuses, Finishes, IsTokenFault, fault_at}
 use Rattle.pb_opb.proofs.Reading.{piece_kinds, fault-at_token, fault-at_end, says, read-more}
 use Rattle.pb_opb.proofs.read.read_tokens.Goals as goal
 
@@ -25,10 +25,10 @@ returns-in-Err-clause-fault c =
     (cut ∙ ap (λ (ts : List Piece). before ++ ts) c.in-Some.ensures.steps)
     (subst (λ (ks : List Kind). Refuses ks (kind_of c.in-Some.token.text.now) c.in-Err.refusal) read c.in-Err.ensures.err))
 
-pub returns-in-Ok-finish-clause-says : goal.returns-in-Ok-finish-clause-says
-returns-in-Ok-finish-clause-says c =
+pub returns-in-Ok-finish-clause-reads : goal.returns-in-Ok-finish-clause-reads
+returns-in-Ok-finish-clause-reads c =
     let (before, cut, read, kept) = c.loop-token.invariant in
-    says c.args.text.now before c.in-Ok-finish.problem
+    says c.args.text.now before c.in-Ok-finish.problem c.requires.admitted
     (cut ∙ ap (λ (ts : List Piece). before ++ ts) c.in-None.ensures.steps.0 ∙ append-nil before)
     (subst (λ n. Finishes (piece_kinds before) n c.in-Ok-finish.problem) c.requires.told (subst (λ (ks : List Kind). Finishes ks c.args.told c.in-Ok-finish.problem) read c.in-Ok-finish.ensures.ok))
 

@@ -6,7 +6,7 @@ use Rattle.pb_words.proofs.line.taken.Goals as goal
 
 pub returns-in-Err-clause-usage : goal.returns-in-Err-clause-usage
 returns-in-Err-clause-usage c =
-    λ usage. refused_by _ (map string_bytes c.args.words.now) c.in-Err.error c.in_ok-program.ensures.0 c.in-Err.ensures.kinds (c.fault_of.ensures (refusal_is _ usage))
+    λ usage. refused_by _ (map string_bytes c.args.words.now) c.in-Err.error c.in_ok-program.ensures.0 c.in-Err.ensures.kinds (c.fault_of.ensures.usage (refusal_is _ usage))
 
 tells : (c : goal.Joined-matches) → Tells (taken_of (map string_bytes c.args.words.now)) c.request_by.result
 tells c =

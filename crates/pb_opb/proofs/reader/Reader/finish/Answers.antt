@@ -2,13 +2,13 @@ use Rattle.std.proofs.Common.{sym, subst}
 use Rattle.pb_base.specs.declared.expected.Expected.{Expected}
 use Rattle.pb_opb.specs.declared.fault.Refusal.TheVariants.{Unexpected}
 use Rattle.pb_opb.specs.Grammar.Kind.{end}
-use Rattle.pb_opb.specs.Front.{read_kinds}
-use Rattle.pb_opb.specs.Takes.{Refuses}
+use Rattle.pb_opb.specs.reader.Front.{read_kinds}
+use Rattle.pb_opb.specs.reader.Takes.{Refuses}
 use Rattle.pb_opb.proofs.Kept.{finishes, unended}
 use Rattle.pb_opb.proofs.reader.Reader.finish.Goals as goal
 
 pub returns-in-Start-clause-ok : goal.returns-in-Start-clause-ok
-returns-in-Start-clause-ok c = finishes c.args.self c.args.told c.max.result c.requires.read c.in-Start.is c.requires.few c.max.ensures
+returns-in-Start-clause-ok c = finishes c.args.self c.args.told c.max.result c.requires.read c.in-Start.is c.max.ensures
 
 pub returns-in_default : goal.returns-in_default
 returns-in_default c = record {

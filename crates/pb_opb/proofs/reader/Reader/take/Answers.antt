@@ -2,13 +2,13 @@ use Rattle.std.proofs.Common.{◌≡◌, sym, subst, arith, rules}
 use mir.Val.{SFits}
 use mir.Syntax.{w128}
 use Rattle.std.proofs.lemmas.Int.{to_z-of_z}
-use Rattle.pb_opb.specs.Moves.{with_statement}
+use Rattle.pb_opb.specs.reader.Moves.{with_statement}
 use Rattle.pb_opb.specs.declared.fault.Refusal.TheVariants.{Unexpected}
 use Rattle.pb_opb.specs.declared.reader.Reader.{Reader}
 use Rattle.pb_base.specs.declared.expected.Expected.{Expected}
 use Rattle.pb_opb.specs.Grammar.{kind_of}
-use Rattle.pb_opb.specs.Front.{read_kinds}
-use Rattle.pb_opb.specs.Takes.{Refuses, Took}
+use Rattle.pb_opb.specs.reader.Front.{read_kinds}
+use Rattle.pb_opb.specs.reader.Takes.{Refuses, Took}
 use Rattle.pb_opb.proofs.Kept.{went, stopped-at, wide-stopped, took-literal, took-semicolon, took-end, too-far, unexpected}
 use Rattle.pb_opb.proofs.reader.Reader.take.Goals as goal
 

@@ -1,5 +1,5 @@
 -- What a reader answers to a token.
-use Rattle.std.specs.Prelude.{◌≡◌, ℕ, ◌+◌, max, ◌<◌, ◌≤◌, ◌^◌, List, [], ◌∷◌, ◌++◌, length, Option, Some, None}
+use Rattle.std.specs.Prelude.{◌≡◌, ℕ, ◌+◌, ◌<◌, ◌≤◌, ◌^◌, List, [], ◌∷◌, ◌++◌, length, Option, Some, None}
 use Rattle.pb_base.specs.declared.place.Place.{Place}
 use Rattle.pb_base.specs.declared.problem.Problem.{Problem}
 use Rattle.pb_base.specs.declared.limit.LimitKind.{LimitKind}
@@ -10,11 +10,12 @@ use Rattle.pb_opb.specs.declared.fault.OpbFault.{OpbFault}
 use Rattle.pb_opb.specs.declared.fault.OpbFault.TheVariants.{Token, NoMemory, Limit as OverLimit}
 use Rattle.pb_opb.specs.declared.reader.Reader.{Reader}
 use Rattle.pb_opb.specs.declared.stage.Stage.{Stage}
-use Rattle.pb_opb.specs.Grammar.{Kind, text_kinds, greatest}
+use Rattle.pb_opb.specs.Grammar.{Kind, text_kinds}
 use Rattle.pb_opb.specs.Grammar.Kind.{end}
-use Rattle.pb_opb.specs.Limits.{Keeps, BeginsWithin, IsWithin, rank}
+use Rattle.pb_opb.specs.Written.{Written, problem_of}
+use Rattle.pb_opb.specs.Limits.{Keeps, BeginsWithin, IsWithinEach, rank}
 use Rattle.pb_opb.specs.Faults.{Begins, Expects, IsWrong, IsTooGreat}
-use Rattle.pb_opb.specs.Front.{IsRead, read_kinds, begun_statements, begun_terms}
+use Rattle.pb_opb.specs.reader.Front.{IsRead, read_kinds, begun_statements, begun_terms}
 
 -- The first limit that numbers of statements and terms and a weight pass.
 abbrev pub Passes : Option LimitKind → ℕ → ℕ → ℕ → Type 0
@@ -30,8 +31,8 @@ PassesAt o r next weight = Passes o (length r.statements + begun_statements next
 
 -- No text begins so, and this is what could stand there; or it passes a limit.
 abbrev pub Refuses : List Kind → Kind → Refusal → Type 0
-Refuses before k (Unexpected e) = (Begins (before ++ k ∷ []) → ⊥) × Expects e before × IsWithin before
-Refuses before k (Limit which) = Begins (before ++ k ∷ []) × (BeginsWithin which (before ++ k ∷ []) → ⊥) × ((w : LimitKind) → rank w < rank which → BeginsWithin w (before ++ k ∷ [])) × IsWithin before
+Refuses before k (Unexpected e) = (Begins (before ++ k ∷ []) → ⊥) × Expects e before × IsWithinEach before
+Refuses before k (Limit which) = Begins (before ++ k ∷ []) × (BeginsWithin which (before ++ k ∷ []) → ⊥) × ((w : LimitKind) → rank w < rank which → BeginsWithin w (before ++ k ∷ [])) × IsWithinEach before
 Refuses before k Memory = Unit {0}
 
 -- the reader took the token
@@ -39,12 +40,12 @@ pub record Took (old new : Reader) (k : Kind) : Type 0 where
   pub read : IsRead new
   pub kinds : read_kinds new ≡ read_kinds old ++ k ∷ []
 
--- the tokens and the end make a text of the problem
+-- the tokens and the end spell the problem
 pub record Finishes (before : List Kind) (told : ℕ) (p : Problem) : Type 0 where
-  pub kinds : text_kinds p ≡ before ++ end ∷ []
-  pub keeps : (which : LimitKind) → Keeps which p
-  pub vars : p.vars ≡ max told (greatest before)
-  pub bounded : p.vars < 2 ^ 31
+  pub written : Written
+  pub kinds : text_kinds written ≡ before ++ end ∷ []
+  pub keeps : (which : LimitKind) → Keeps which written
+  pub means : p ≡ problem_of told written
 
 abbrev pub fault_at : Place → Refusal → OpbFault
 fault_at p (Unexpected e) = Token p e

@@ -1,17 +1,10 @@
 -- What the code keeps of a token: all of it within the limits, and that it is past them.
-use Rattle.std.specs.Prelude.{◌≡◌, ◌^◌, ◌≤◌, ◌<◌, ℤ, unsigned_abs, Option, Some, None}
+use Rattle.std.specs.Prelude.{◌≡◌, ◌^◌, ◌≤◌, ◌<◌, ℤ, unsigned_abs}
 use Rattle.pb_base.specs.declared.literal.Lit.{Lit}
-use Rattle.pb_opb.specs.declared.symbol.Literal.{Literal}
-use Rattle.pb_opb.specs.declared.symbol.Literal.TheVariants as named
 use Rattle.pb_opb.specs.declared.symbol.Symbol.{Symbol}
 use Rattle.pb_opb.specs.declared.symbol.Symbol.TheVariants as symbol
 use Rattle.pb_opb.specs.Grammar.{Kind}
 use Rattle.pb_opb.specs.Grammar.Kind.{minimise, integer, literal, relation, semicolon, other}
-
-abbrev pub Names : Literal → Option Lit → Type 0
-Names (named.Near l) o = (o ≡ Some l) × (l.var < 2 ^ 31)
-Names named.Far o = (l : Lit) × (o ≡ Some l) × (2 ^ 31 ≤ l.var)
-Names named.NotALiteral o = o ≡ None
 
 abbrev pub Shows : Symbol → Kind → Type 0
 Shows symbol.Minimise k = k ≡ minimise

@@ -1,8 +1,7 @@
 -- What was read of a text so far, as its tokens.
-use Rattle.std.specs.Prelude.{◌≡◌, ℕ, ◌+◌, ◌<◌, ◌≤◌, ◌^◌, length, unsigned_abs, List, [], ◌∷◌, ◌++◌, Option, Some, None, ℤ, pos, true}
+use Rattle.std.specs.Prelude.{◌≡◌, ℕ, max, ◌+◌, ◌<◌, ◌≤◌, ◌^◌, length, unsigned_abs, List, [], ◌∷◌, ◌++◌, Option, Some, None, ℤ, pos, true}
 use Rattle.std.specs.List.{flat_map, AllByRecursion}
 use Rattle.pb_base.specs.declared.literal.Term.{Term}
-use Rattle.pb_base.specs.declared.problem.Problem.{Problem}
 use Rattle.pb_base.specs.declared.problem.Relation.{Relation}
 use Rattle.pb_base.specs.declared.problem.Relation.TheVariants.{AtLeast}
 use Rattle.pb_base.specs.declared.problem.Raw.{Raw}
@@ -14,10 +13,11 @@ use Rattle.pb_base.specs.declared.limit.LimitKind.{LimitKind}
 use Rattle.pb_base.specs.Problems.{magnitude}
 use Rattle.pb_opb.specs.declared.reader.Reader.{Reader}
 use Rattle.pb_opb.specs.Limits.{Keeps}
-use Rattle.pb_opb.specs.Grammar.{Kind, sum_kinds, objective_kinds, statement_kinds, greatest}
-use Rattle.pb_opb.specs.Grammar.Kind.{minimise, integer, relation}
-use Rattle.pb_opb.specs.Automaton.{State, run}
-use Rattle.pb_opb.specs.Automaton.State.{start, next, in_sum, coefficient, related, right}
+use Rattle.pb_opb.specs.Grammar.{Kind, sum_kinds, objective_kinds, statement_kinds}
+use Rattle.pb_opb.specs.Written.{Written}
+use Rattle.pb_opb.specs.Grammar.Kind.{minimise, integer, literal, relation}
+use Rattle.pb_opb.specs.reader.Automaton.{ReaderState, run}
+use Rattle.pb_opb.specs.reader.Automaton.ReaderState.{start, next, in_sum, coefficient, related, right}
 
 abbrev pub part_kinds : Part → List Kind
 part_kinds Objective = minimise ∷ []
@@ -34,8 +34,8 @@ stage_kinds (Right r n) ts = sum_kinds ts ++ relation r ∷ integer n ∷ []
 abbrev pub front_kinds : Option (List Term) → List Raw → Stage → List Term → List Kind
 front_kinds o ss stage ts = objective_kinds o ++ flat_map statement_kinds ss ++ stage_kinds stage ts
 
-abbrev pub problem : Option (List Term) → List Raw → Problem
-problem o ss = record { vars = 0; objective = o; statements = ss }
+abbrev pub written_of : Option (List Term) → List Raw → Written
+written_of o ss = record { objective = o; statements = ss }
 
 abbrev pub raw : List Term → Relation → ℤ → Raw
 raw ts r n = record { terms = ts; relation = r; right = n }
@@ -44,17 +44,17 @@ abbrev pub first : ℤ → Term
 first c = record { coef = c; lit = record { var = 1; positive = true } }
 
 -- the shortest end of what was read
-abbrev pub complete : Option (List Term) → List Raw → Stage → List Term → Problem
-complete o ss Start ts = problem o ss
-complete o ss Next ts = problem o ss
-complete o ss (Sum Objective) ts = problem (Some ts) ss
-complete o ss (Sum Statement) ts = problem o (ss ++ raw ts AtLeast (pos 0) ∷ [])
-complete o ss (Coefficient Objective c) ts = problem (Some (ts ++ first c ∷ [])) ss
-complete o ss (Coefficient Statement c) ts = problem o (ss ++ raw (ts ++ first c ∷ []) AtLeast (pos 0) ∷ [])
-complete o ss (Related r) ts = problem o (ss ++ raw ts r (pos 0) ∷ [])
-complete o ss (Right r n) ts = problem o (ss ++ raw ts r n ∷ [])
+abbrev pub complete : Option (List Term) → List Raw → Stage → List Term → Written
+complete o ss Start ts = written_of o ss
+complete o ss Next ts = written_of o ss
+complete o ss (Sum Objective) ts = written_of (Some ts) ss
+complete o ss (Sum Statement) ts = written_of o (ss ++ raw ts AtLeast (pos 0) ∷ [])
+complete o ss (Coefficient Objective c) ts = written_of (Some (ts ++ first c ∷ [])) ss
+complete o ss (Coefficient Statement c) ts = written_of o (ss ++ raw (ts ++ first c ∷ []) AtLeast (pos 0) ∷ [])
+complete o ss (Related r) ts = written_of o (ss ++ raw ts r (pos 0) ∷ [])
+complete o ss (Right r n) ts = written_of o (ss ++ raw ts r n ∷ [])
 
-abbrev pub state_of : Stage → State
+abbrev pub state_of : Stage → ReaderState
 state_of Start = start
 state_of Next = next
 state_of (Sum part) = in_sum part
@@ -92,6 +92,15 @@ abbrev pub begun_terms : Stage → ℕ
 begun_terms (Coefficient part c) = 1
 begun_terms _ = 0
 
+-- the greatest index, or 0
+abbrev pub index_of : Kind → ℕ
+index_of (literal l) = l.var
+index_of _ = 0
+
+abbrev pub greatest : List Kind → ℕ
+greatest [] = 0
+greatest (k ∷ ks) = max (index_of k) (greatest ks)
+
 -- the tokens that a reader took
 abbrev pub read_kinds : Reader → List Kind
 read_kinds r = front_kinds r.objective r.statements r.stage r.terms
@@ -99,11 +108,10 @@ read_kinds r = front_kinds r.objective r.statements r.stage r.terms
 -- what a reader keeps
 pub record IsRead (r : Reader) : Type 0 where
   pub front : IsFront r.objective r.statements r.stage r.terms
-  pub closed : (which : LimitKind) → Keeps which (problem r.objective r.statements)
+  pub closed : (which : LimitKind) → Keeps which (written_of r.objective r.statements)
   pub near : AllByRecursion (λ t. t.lit.var < 2 ^ 31) r.terms
   pub few : length r.statements + begun_statements r.stage ≤ 2 ^ 24
   pub short : length r.terms + begun_terms r.stage ≤ 2 ^ 20
   pub weighed : r.weight ≡ open_weight r.stage r.terms
   pub light : r.weight < 2 ^ 100
   pub reached : r.greatest ≡ greatest (read_kinds r)
-  pub bounded : r.greatest < 2 ^ 31

@@ -9,11 +9,11 @@ use Rattle.pb_opb.specs.declared.stage.Stage.{Stage}
 use Rattle.pb_opb.specs.declared.stage.Stage.TheVariants.{Sum, Coefficient, Right}
 use Rattle.pb_opb.specs.declared.stage.Step.{Step}
 use Rattle.pb_opb.specs.declared.stage.Step.TheVariants.{To, Wide, EndTerm, EndStatement, EndObjective, Wrong, Far}
-use Rattle.pb_opb.specs.Grammar.{Kind, index_of}
+use Rattle.pb_opb.specs.Grammar.{Kind}
 use Rattle.pb_opb.specs.Grammar.Kind.{literal, semicolon}
 use Rattle.pb_opb.specs.Faults.{allows}
-use Rattle.pb_opb.specs.Automaton.{expected, move}
-use Rattle.pb_opb.specs.Front.{state_of, front_kinds, open_weight, begun_statements, begun_terms, IsPlaced}
+use Rattle.pb_opb.specs.reader.Automaton.{expected, move}
+use Rattle.pb_opb.specs.reader.Front.{index_of, state_of, front_kinds, open_weight, begun_statements, begun_terms, IsPlaced}
 
 -- how much a stage adds to the sum's weight
 abbrev pub stage_weight : Stage → ℕ

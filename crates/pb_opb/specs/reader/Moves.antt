@@ -8,8 +8,8 @@ use Rattle.pb_opb.specs.declared.fault.Refusal.TheVariants.{Limit}
 use Rattle.pb_opb.specs.declared.stage.Part.{Part}
 use Rattle.pb_opb.specs.declared.stage.Stage.{Stage}
 use Rattle.pb_opb.specs.declared.stage.Stage.TheVariants.{Next, Sum}
-use Rattle.pb_opb.specs.Front.{raw}
-use Rattle.pb_opb.specs.Takes.{PassesAt}
+use Rattle.pb_opb.specs.reader.Front.{raw}
+use Rattle.pb_opb.specs.reader.Takes.{PassesAt}
 
 abbrev pub IsStopped : Reader → Stage → ℕ → Refusal → Type 0
 IsStopped r reached weight (Limit which) = PassesAt (Some which) r reached weight

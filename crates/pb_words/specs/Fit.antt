@@ -1,0 +1,15 @@
+-- What holds of all that is asked for. Our own.
+use Rattle.std.specs.Prelude.{◌≢◌, ◌≤◌}
+use Rattle.pb_words.specs.EncodeWords.{EncodeWords}
+use Rattle.pb_words.specs.Taken.{Wanted}
+use Rattle.pb_words.specs.Taken.Wanted.{Encode, Probe}
+
+-- two different names, and a budget within its range
+pub record IsFitEncode (w : EncodeWords) : Type 0 where
+  pub different : w.opb ≢ w.cnf
+  pub low : 1 ≤ w.options.budget
+  pub high : w.options.budget ≤ 10000000
+
+abbrev pub IsFit : Wanted → Type 0
+IsFit (Encode w) = IsFitEncode w
+IsFit (Probe w) = Unit {0}
