@@ -1,12 +1,12 @@
 -- The first limit that a line passes, piece by piece.
-use Rattle.std.proofs.Common.{◌≡◌, ◌≤◌, ◌<◌, ◌+◌, ◌-◌, ℕ, zero, suc, Bool, true, false, not, cond, List, [], ◌∷◌, ◌++◌, Option, Some, None, arith, length, refl, ap, sym, ◌∙◌, eqb, ltb, ◌&&◌, ◌||◌}
+use Rattle.std.proofs.Common.{◌≡◌, ◌+◌, ◌-◌, ℕ, Bool, true, false, cond, List, [], ◌∷◌, ◌++◌, Option, Some, None, arith, length, refl, ap, sym, ◌∙◌, eqb, ◌&&◌}
 use Rattle.std.specs.Prelude.{if◌then◌else◌, ◌==◌}
 use Rattle.std.proofs.lemmas.List.Elements.{All-head, All-tail}
 use Rattle.std.proofs.lemmas.Bool.Decides.{nat_tests}
 use Rattle.pb_base.specs.declared.limit.LimitKind.{LimitKind}
 use Rattle.pb_base.specs.declared.limit.LimitKind.TheVariants.{Text, Lines, Line}
 use Rattle.pb_desk.specs.Lines.{IsUnbroken}
-use Rattle.pb_desk.specs.Limits.{first_of, limit_of_byte, limit_of, limit_of_piece}
+use Rattle.pb_desk.specs.Limits.{first_of, limit_of, limit_of_piece}
 
 -- the limit that a byte other than LF passes
 abbrev limit_of_plain : ℕ → Bool → ℕ → Option LimitKind

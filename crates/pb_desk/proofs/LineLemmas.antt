@@ -1,7 +1,8 @@
 -- Lines of a text whose first bytes are known.
-use Rattle.std.proofs.Common.{◌≡◌, ◌≤◌, ◌<◌, ◌+◌, ◌-◌, ℕ, suc, Bool, true, false, List, [], ◌∷◌, ◌++◌, arith, length, length-append, refl, ap, sym, ◌∙◌, eqb}
+use Rattle.std.proofs.Common.{◌≡◌, ℕ, false, List, [], ◌∷◌, ◌++◌, arith, length, length-append, refl, ap, sym, ◌∙◌, eqb}
 use Rattle.std.proofs.lemmas.List.Elements.{All-head, All-tail}
-use Rattle.pb_desk.specs.Lines.{with_byte, lines_of, first_line, behind_first, IsUnbroken, BeginsWith}
+use Rattle.pb_base.specs.Lines.{first_line}
+use Rattle.pb_desk.specs.Lines.{with_byte, lines_of, behind_first, IsUnbroken, BeginsWith}
 
 -- bytes up to an LF are a line
 pub lines_break : (xs ys : List ℕ) → IsUnbroken xs → lines_of (xs ++ 10 ∷ ys) ≡ xs ∷ lines_of ys

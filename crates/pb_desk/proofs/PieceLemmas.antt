@@ -1,16 +1,15 @@
 -- A line that grows by a piece.
-use Rattle.std.proofs.Common.{◌≡◌, ◌≤◌, ◌<◌, ◌+◌, ◌-◌, ℕ, zero, suc, Bool, true, false, not, cond, inl, inr, List, [], ◌∷◌, ◌++◌, Option, Some, None, arith, length, drop, refl, ap, sym, ◌∙◌, subst, eqb, ltb, ◌&&◌, ◌||◌, append_assoc, length-append}
-use Rattle.std.specs.Bool.{OnTrue, OnFalse}
-use Rattle.std.proofs.lemmas.List.{append-nil, drop_all}
+use Rattle.std.proofs.Common.{◌≡◌, ◌≤◌, ◌<◌, ◌+◌, ◌-◌, ℕ, Bool, true, false, cond, inl, inr, List, ◌∷◌, ◌++◌, Option, Some, None, arith, length, drop, refl, ap, sym, ◌∙◌, subst, eqb, append_assoc, length-append}
+use Rattle.std.proofs.lemmas.List.{drop_all}
 use Rattle.std.proofs.lemmas.List.Elements.{All-append}
 use Rattle.std.proofs.lemmas.Bool.{cases_lt}
 use Rattle.std.proofs.lemmas.Bool.Decides.{nat_tests}
 use Rattle.pb_base.specs.declared.limit.LimitKind.{LimitKind}
-use Rattle.pb_base.specs.declared.limit.LimitKind.TheVariants.{Text, Lines, Line}
 use Rattle.pb_desk.specs.declared.limits.Left.{Left}
 use Rattle.pb_desk.specs.Lines.{IsUnbroken}
 use Rattle.pb_desk.specs.Limits.{first_of, limit_of, limit_of_piece}
-use Rattle.pb_desk.specs.LineReading.{limit_in, limit_after, InLine, IsEnded, IsPiece, TakesPiece}
+use Rattle.pb_desk.specs.LineReading.{limit_in}
+use Rattle.pb_desk.specs.laws.PieceReading.{limit_after, InLine, IsEnded, IsPiece, TakesPiece}
 use Rattle.pb_desk.proofs.LimitLemmas.{limit_of-piece, limit_of-ended}
 
 piece_fits : (text : ℕ) (is_last : Bool) (line n : ℕ) → limit_of_piece text is_last line n false ≡ None → (n ≤ text) × (n ≤ line)

@@ -1,24 +1,22 @@
 -- Bytes that go from a slot to a line.
-use Rattle.std.proofs.Common.{◌≡◌, ◌≤◌, ◌<◌, ◌+◌, ◌-◌, ℕ, zero, suc, Bool, true, false, List, [], ◌∷◌, ◌++◌, arith, length, drop, refl, ap, sym, ◌∙◌, subst, length-append, append_assoc}
+use Rattle.std.proofs.Common.{◌≡◌, ◌≤◌, ◌<◌, ◌+◌, ℕ, Bool, true, false, List, [], ◌∷◌, ◌++◌, arith, length, drop, refl, ap, sym, ◌∙◌, subst, append_assoc}
 use Rattle.std.specs.Prelude.{IfSome, IsTrue, ◌==◌}
 use Rattle.std.proofs.lemmas.Bool.{true≢false}
-use Rattle.std.specs.Option.{option_map}
 use Rattle.std.specs.declared.option.Option.{Option}
 use Rattle.std.specs.declared.option.Option.TheVariants.{Some, None}
 use Rattle.std.proofs.lemmas.List.{drop-drop, append-nil, length-drop}
-use Rattle.pb_desk.specs.View.{Told, View, put, taken}
-use Rattle.pb_desk.specs.Desk.{DeskState, Reaches, FailsToRead, Takes, IfTold, IsSteady, same}
+use Rattle.pb_desk.specs.View.{Told, View, taken}
+use Rattle.pb_desk.specs.Desk.{DeskState, FailsToRead, Advances, IfTold, IsSteady, same}
 use Rattle.pb_desk.proofs.Steps.{begin, then, then_fails_to_read}
 use Rattle.pb_desk.proofs.Readings.{taken-taken, told_after, both_told}
 use Rattle.pb_desk.proofs.Slots.{put_there}
 use Rattle.pb_desk.specs.declared.limits.Left.{Left}
 use Rattle.pb_desk.specs.declared.piece.Stop.{Stop}
 use Rattle.pb_desk.specs.declared.piece.Stop.TheVariants as stop
-use Rattle.pb_desk.specs.declared.line.Found.{Found}
-use Rattle.pb_desk.specs.declared.line.Found.TheVariants.{Nothing, Last, Ended}
-use Rattle.pb_desk.specs.Lines.{lines_of}
+use Rattle.pb_desk.specs.declared.line.Found.TheVariants.{Ended}
 use Rattle.pb_desk.proofs.LineLemmas.{begins_break, begins_last}
-use Rattle.pb_desk.specs.LineReading.{limit_in, InLine, IsEnded, TakesPiece, StopsPiece, Finds, Fits, Stops, found_at_end, Reads, FailsInLine, Refills}
+use Rattle.pb_desk.specs.LineReading.{limit_in, TakesAhead, FailsInLine}
+use Rattle.pb_desk.specs.laws.PieceReading.{InLine, TakesPiece, StopsPiece, Finds, Fits, StopsLine, found_at_end, Refills}
 
 taken-none : (slot : ℕ) (view : View) → taken slot 0 view ≡ view
 taken-none slot view = elim view.told as (λ (o : Option Told). taken slot 0 (record view { told = o }) ≡ record view { told = o }) [
@@ -37,14 +35,14 @@ weaker_told a P Q h p = by_cases a.view.told p
     by_cases (Some t) p = h t p
 
 -- nothing was read yet
-pub reads_begin : (slot : ℕ) (ahead : List ℕ) (a : DeskState) (P : List ℕ → List ℕ → Type 0) → ((text : List ℕ) → P text text) → Reads slot ahead ahead a a P
+pub reads_begin : (slot : ℕ) (ahead : List ℕ) (a : DeskState) (P : List ℕ → List ℕ → Type 0) → ((text : List ℕ) → P text text) → TakesAhead slot ahead ahead a a P
 reads_begin slot ahead a P h = record {
   count = 0;
   takes = record { reached = begin (taken slot 0) a (taken-none slot); were_left = always_told a (λ t. 0 ≤ length (t.left slot)) (λ t. omega arith) };
   told = always_told a (λ t. P (ahead ++ t.left slot) (ahead ++ drop 0 (t.left slot))) (λ t. h (ahead ++ t.left slot));
 }
 
-takes_takes : (slot n m : ℕ) (a b c : DeskState) → Takes slot n a b → Takes slot m b c → Takes slot (n + m) a c
+takes_takes : (slot n m : ℕ) (a b c : DeskState) → Advances slot n a b → Advances slot m b c → Advances slot (n + m) a c
 takes_takes slot n m a b c first second = record {
   reached = then (taken slot n) (taken slot m) (taken slot (n + m)) a b c (taken-taken slot n m) first.reached second.reached;
   were_left = both_told (λ t. n ≤ length (t.left slot)) (λ t. m ≤ length (drop n (t.left slot))) (λ t. n + m ≤ length (t.left slot)) a
@@ -52,7 +50,7 @@ takes_takes slot n m a b c first second = record {
 }
 
 -- one read after another
-pub reads_then : (slot : ℕ) (x y z : List ℕ) (a b c : DeskState) (P Q R : List ℕ → List ℕ → Type 0) → ((text middle rest : List ℕ) → P text middle → Q middle rest → R text rest) → Reads slot x y a b P → Reads slot y z b c Q → Reads slot x z a c R
+pub reads_then : (slot : ℕ) (x y z : List ℕ) (a b c : DeskState) (P Q R : List ℕ → List ℕ → Type 0) → ((text middle rest : List ℕ) → P text middle → Q middle rest → R text rest) → TakesAhead slot x y a b P → TakesAhead slot y z b c Q → TakesAhead slot x z a c R
 reads_then slot x y z a b c P Q R joins first second =
     let later : IfTold a (λ t. Q (y ++ drop first.count (t.left slot)) (z ++ drop second.count (drop first.count (t.left slot)))) =
     told_after slot first.count (λ left. Q (y ++ left) (z ++ drop second.count left)) a b first.takes.reached.view second.told in
@@ -68,7 +66,7 @@ reads_then slot x y z a b c P Q R joins first second =
     drop-drop' n m xs = drop-drop m n xs
 
 -- bytes that were ahead are used
-pub reads_ahead : (slot : ℕ) (x y z : List ℕ) (a b : DeskState) (P Q : List ℕ → List ℕ → Type 0) → ((text left : List ℕ) → P text (y ++ left) → Q text (z ++ left)) → Reads slot x y a b P → Reads slot x z a b Q
+pub reads_ahead : (slot : ℕ) (x y z : List ℕ) (a b : DeskState) (P Q : List ℕ → List ℕ → Type 0) → ((text left : List ℕ) → P text (y ++ left) → Q text (z ++ left)) → TakesAhead slot x y a b P → TakesAhead slot x z a b Q
 reads_ahead slot x y z a b P Q h first = record {
   count = first.count;
   takes = first.takes;
@@ -76,7 +74,7 @@ reads_ahead slot x y z a b P Q h first = record {
 }
 
 -- what a read gave to the empty room
-pub reads_filled : (slot : ℕ) (given : List ℕ) (a b : DeskState) → Takes slot (length given) a b → IfTold a (λ t. t.left slot ≡ given ++ drop (length given) (t.left slot)) → (given ≡ [] → IfTold a (λ t. t.left slot ≡ [])) → Reads slot [] given a b (λ text rest. (text ≡ rest) × (given ≡ [] → rest ≡ []))
+pub reads_filled : (slot : ℕ) (given : List ℕ) (a b : DeskState) → Advances slot (length given) a b → IfTold a (λ t. t.left slot ≡ given ++ drop (length given) (t.left slot)) → (given ≡ [] → IfTold a (λ t. t.left slot ≡ [])) → TakesAhead slot [] given a b (λ text rest. (text ≡ rest) × (given ≡ [] → rest ≡ []))
 reads_filled slot given a b takes bytes end = record {
   count = length given;
   takes = takes;
@@ -88,16 +86,16 @@ reads_filled slot given a b takes bytes end = record {
     by_cases (Some t) bytes end = (bytes, λ none. sym bytes ∙ end none)
 
 -- the read after which nothing more could be had
-pub fails_then : (slot : ℕ) (x y : List ℕ) (a b c : DeskState) (P : List ℕ → List ℕ → Type 0) → Reads slot x y a b P → FailsToRead same b c → FailsInLine slot a c
+pub fails_then : (slot : ℕ) (x y : List ℕ) (a b c : DeskState) (P : List ℕ → List ℕ → Type 0) → TakesAhead slot x y a b P → FailsToRead same b c → FailsInLine slot a c
 fails_then slot x y a b c P first fails = record {
   count = first.count;
   fails = then_fails_to_read (taken slot first.count) same (taken slot first.count) a b c (λ v. refl) first.takes.reached fails;
 }
 
-pub still_steady : (slot : ℕ) (x y : List ℕ) (a b : DeskState) (P : List ℕ → List ℕ → Type 0) → Reads slot x y a b P → IsSteady a → IsSteady b
+pub still_steady : (slot : ℕ) (x y : List ℕ) (a b : DeskState) (P : List ℕ → List ℕ → Type 0) → TakesAhead slot x y a b P → IsSteady a → IsSteady b
 still_steady slot x y a b P first steady = ap (λ (v : View). v.steady) first.takes.reached.view ∙ steady
 
-pub still_open : (slot : ℕ) (x y : List ℕ) (a b : DeskState) (P : List ℕ → List ℕ → Type 0) → Reads slot x y a b P → IsTrue (a.view.reading slot) → IsTrue (b.view.reading slot)
+pub still_open : (slot : ℕ) (x y : List ℕ) (a b : DeskState) (P : List ℕ → List ℕ → Type 0) → TakesAhead slot x y a b P → IsTrue (a.view.reading slot) → IsTrue (b.view.reading slot)
 still_open slot x y a b P first is_open = ap (λ (v : View). v.reading slot) first.takes.reached.view ∙ is_open
 
 -- something is ahead already
@@ -116,7 +114,7 @@ refilled_before slot ahead bytes a same' some = record {
 abbrev pub Behind : List ℕ → List ℕ → List ℕ → Type 0
 Behind line text rest = text ≡ line ++ rest
 
-pub refilled_line : (slot : ℕ) (some : Bool) (line x y z : List ℕ) (a b c : DeskState) → Reads slot x y a b (Behind line) → Refills slot some y z b c → Reads slot x z a c (Behind line)
+pub refilled_line : (slot : ℕ) (some : Bool) (line x y z : List ℕ) (a b c : DeskState) → TakesAhead slot x y a b (Behind line) → Refills slot some y z b c → TakesAhead slot x z a c (Behind line)
 refilled_line slot some line x y z a b c first more =
     reads_then slot x y z a b c (Behind line) (λ text rest. (text ≡ rest) × (some ≡ false → rest ≡ [])) (Behind line) (λ text middle rest p q. p ∙ ap (λ (xs : List ℕ). line ++ xs) q.0) first more.reads
 
@@ -127,7 +125,7 @@ end_finds left (b ∷ bytes) text middle rest h p q r =
     (whole, r, begins_last b bytes text rest h.unbroken whole r, ap (limit_in left) (p ∙ ap (λ (xs : List ℕ). b ∷ bytes ++ xs) (q ∙ r)) ∙ h.limit [])
 
 -- the text ends
-pub end_found : (left : Left) (slot : ℕ) (some : Bool) (line x y z : List ℕ) (a b c : DeskState) → some ≡ false → InLine left line → Reads slot x y a b (Behind line) → Refills slot some y z b c → Reads slot x z a c (Finds left (found_at_end line) line)
+pub end_found : (left : Left) (slot : ℕ) (some : Bool) (line x y z : List ℕ) (a b c : DeskState) → some ≡ false → InLine left line → TakesAhead slot x y a b (Behind line) → Refills slot some y z b c → TakesAhead slot x z a c (Finds left (found_at_end line) line)
 end_found left slot some line x y z a b c none h first more =
     reads_then slot x y z a b c (Behind line) (λ text rest. (text ≡ rest) × (some ≡ false → rest ≡ [])) (Finds left (found_at_end line) line) (λ text middle rest p q. end_finds left line text middle rest h p q.0 (q.1 none)) first more.reads
 
@@ -136,7 +134,7 @@ end_fits left [] h = refl
 end_fits left (b ∷ bytes) h = (h.in_text, h.is_line (omega arith))
 
 -- the line ends
-pub line_found : (left : Left) (slot : ℕ) (line grown x z w : List ℕ) (a c : DeskState) → TakesPiece left true z w line grown → Reads slot x z a c (Behind line) → Reads slot x w a c (Finds left Ended grown)
+pub line_found : (left : Left) (slot : ℕ) (line grown x z w : List ℕ) (a c : DeskState) → TakesPiece left true z w line grown → TakesAhead slot x z a c (Behind line) → TakesAhead slot x w a c (Finds left Ended grown)
 line_found left slot line grown x z w a c takes first =
     reads_ahead slot x z w a c (Behind line) (Finds left Ended grown)
     (λ text more p.
@@ -145,14 +143,14 @@ line_found left slot line grown x z w a c takes first =
     first
 
 -- the line goes on
-pub line_grows : (left : Left) (slot : ℕ) (line grown x z w : List ℕ) (a c : DeskState) → TakesPiece left false z w line grown → Reads slot x z a c (Behind line) → Reads slot x w a c (Behind grown)
+pub line_grows : (left : Left) (slot : ℕ) (line grown x z w : List ℕ) (a c : DeskState) → TakesPiece left false z w line grown → TakesAhead slot x z a c (Behind line) → TakesAhead slot x w a c (Behind grown)
 line_grows left slot line grown x z w a c takes first =
     reads_ahead slot x z w a c (Behind line) (Behind grown)
     (λ text more p.
     p ∙ (sym (append_assoc line z more) ∙ (ap (λ (xs : List ℕ). xs ++ more) (sym takes.1) ∙ ap (λ (xs : List ℕ). grown ++ (xs ++ more)) (sym takes.2))))
     first
 
-pub line_stops : (left : Left) (slot : ℕ) (s : Stop) (line x z w : List ℕ) (a c : DeskState) → StopsPiece left z line s → Reads slot x z a c (Behind line) → Stops left slot x w a c s
+pub line_stops : (left : Left) (slot : ℕ) (s : Stop) (line x z w : List ℕ) (a c : DeskState) → StopsPiece left z line s → TakesAhead slot x z a c (Behind line) → StopsLine left slot x w a c s
 line_stops left slot stop.Failed line x z w a c stops first = absurd stops
 line_stops left slot (stop.Limit which) line x z w a c stops first =
     reads_ahead slot x z w a c (Behind line) (λ text rest. limit_in left text ≡ Some which)

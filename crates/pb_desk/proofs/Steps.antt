@@ -1,5 +1,5 @@
 -- One call after another.
-use Rattle.std.proofs.Common.{◌≡◌, ◌≤◌, ℕ, ◌+◌, ◌-◌, length, List, ◌++◌, take, drop, refl, sym, ap, ◌∙◌, arith, inl, inr}
+use Rattle.std.proofs.Common.{◌≡◌, ◌≤◌, ℕ, ◌+◌, ◌-◌, length, List, ◌++◌, take, drop, refl, sym, subst, ap, ◌∙◌, arith, inl, inr}
 use Rattle.std.proofs.Math.Seq.{take-add, take-length}
 use Rattle.std.proofs.lemmas.List.{length-drop}
 use Rattle.std.specs.Prelude.{Result, OnErr}
@@ -9,41 +9,40 @@ use Rattle.pb_desk.specs.View.{View}
 use Rattle.pb_desk.specs.Desk.{DeskState, Reaches, FailsToWrite, FailsToRead}
 
 pub begin : (f : View → View) (a : DeskState) → ((v : View) → f v ≡ v) → Reaches f a a
-begin f a stays = record { view = sym (stays a.view); tells = refl; reads = omega arith; writes = omega arith; quiet = λ told. (refl, refl) }
+begin f a stays = record { view = sym (stays a.view); tells = refl; reads = refl; writes = refl }
 
 -- a call that goes on from what was reached
 pub then : (f g h : View → View) (a b c : DeskState) → ((v : View) → g (f v) ≡ h v) → Reaches f a b → Reaches g b c → Reaches h a c
 then f g h a b c joins first second = record {
   view = second.view ∙ ap g first.view ∙ joins a.view;
   tells = second.tells ∙ first.tells;
-  reads = omega arith;
-  writes = omega arith;
-  quiet = λ told. let more = second.quiet (first.tells ∙ told) in let before = first.quiet told in (more.0 ∙ before.0, more.1 ∙ before.1);
+  reads = second.reads ∙ first.reads;
+  writes = second.writes ∙ first.writes;
 }
 
--- a count that rose later has risen since before
-pub rose_later : (before then now : ℕ) → before ≤ then → Rose then now → Rose before now
-rose_later before then now le (inl lt) = inl (omega arith)
-rose_later before then now le (inr last) = inr last
+-- a count that rose from a value it had before
+pub rose_later : (before then now : ℕ) → then ≡ before → Rose then now → Rose before now
+rose_later before then now same rose = subst (λ (n : ℕ). Rose n now) same rose
+
+-- a count that rose has not fallen
+pub rose_from : (before now : ℕ) → Rose before now → before ≤ now
+rose_from before now (inl next) = omega (arith, next)
+rose_from before now (inr last) = omega (arith, last.0)
 
 pub then_fails_to_write : (f g h : View → View) (a b c : DeskState) → ((v : View) → g (f v) ≡ h v) → Reaches f a b → FailsToWrite g b c → FailsToWrite h a c
 then_fails_to_write f g h a b c joins first second = record {
   view = second.view ∙ ap g first.view ∙ joins a.view;
   tells = second.tells ∙ first.tells;
-  later = omega arith;
-  reads = omega arith;
+  reads = second.reads ∙ first.reads;
   writes = rose_later _ _ _ first.writes second.writes;
-  alone = λ told. second.alone (first.tells ∙ told) ∙ (first.quiet told).0;
 }
 
 pub then_fails_to_read : (f g h : View → View) (a b c : DeskState) → ((v : View) → g (f v) ≡ h v) → Reaches f a b → FailsToRead g b c → FailsToRead h a c
 then_fails_to_read f g h a b c joins first second = record {
   view = second.view ∙ ap g first.view ∙ joins a.view;
   tells = second.tells ∙ first.tells;
-  later = omega arith;
   reads = rose_later _ _ _ first.reads second.reads;
-  writes = omega arith;
-  alone = λ told. second.alone (first.tells ∙ told) ∙ (first.quiet told).1;
+  writes = second.writes ∙ first.writes;
 }
 
 -- the slice `&text[at..]`, as a goal has it

@@ -1,5 +1,6 @@
 -- How a call leaves a desk (our own).
-use Rattle.std.specs.Prelude.{ℕ, ◌+◌, ◌≤◌, ◌<◌, ◌≡◌, ◌⊎◌, false, List, [], ◌∷◌, take, length, is_some, IsSome, IfSome, IsSomeAnd, IsTrue, All}
+use Rattle.std.specs.Prelude.{ℕ, ◌+◌, ◌≤◌, ◌<◌, ◌≡◌, ◌⊎◌, false, List, [], ◌∷◌, take, length, is_some, IfSome, IsSomeAnd, IsTrue, All}
+use Rattle.std.specs.declared.option.Option.{Option}
 use Rattle.std.specs.declared.option.Option.TheVariants.{Some}
 use Rattle.pb_desk.specs.Causes.{Rose}
 use Rattle.pb_desk.specs.View.{Made, Told, View, bytes_in, taken}
@@ -10,31 +11,26 @@ pub record DeskState : Type 0 where
   pub read_faults : ℕ
   pub write_faults : ℕ
 
--- Nothing failed: the view changed so. The counts do not fall, and stay where the desk tells.
+-- Nothing failed: the view changed so, and the counts stay.
 pub record Reaches (change : View → View) (old new : DeskState) : Type 0 where
   pub view : new.view ≡ change old.view
   pub tells : is_some new.view.told ≡ is_some old.view.told
-  pub reads : old.read_faults ≤ new.read_faults
-  pub writes : old.write_faults ≤ new.write_faults
-  pub quiet : IsSome old.view.told → (new.read_faults ≡ old.read_faults) × (new.write_faults ≡ old.write_faults)
+  pub reads : new.read_faults ≡ old.read_faults
+  pub writes : new.write_faults ≡ old.write_faults
 
--- A read failed after the view changed so. The count of reads rose, alone where the desk tells.
+-- A read failed after the view changed so. The count of reads rose by one, and that of writes stays.
 pub record FailsToRead (change : View → View) (old new : DeskState) : Type 0 where
   pub view : new.view ≡ change old.view
   pub tells : is_some new.view.told ≡ is_some old.view.told
-  pub later : old.read_faults ≤ new.read_faults
   pub reads : Rose old.read_faults new.read_faults
-  pub writes : old.write_faults ≤ new.write_faults
-  pub alone : IsSome old.view.told → new.write_faults ≡ old.write_faults
+  pub writes : new.write_faults ≡ old.write_faults
 
--- A write failed after the view changed so. The count of writes rose, alone where the desk tells.
+-- A write failed after the view changed so. The count of writes rose by one, and that of reads stays.
 pub record FailsToWrite (change : View → View) (old new : DeskState) : Type 0 where
   pub view : new.view ≡ change old.view
   pub tells : is_some new.view.told ≡ is_some old.view.told
-  pub reads : old.read_faults ≤ new.read_faults
-  pub later : old.write_faults ≤ new.write_faults
+  pub reads : new.read_faults ≡ old.read_faults
   pub writes : Rose old.write_faults new.write_faults
-  pub alone : IsSome old.view.told → new.read_faults ≡ old.read_faults
 
 -- the view stays
 abbrev pub same : View → View
@@ -53,7 +49,7 @@ abbrev pub IsTold : DeskState → (Told → Type 0) → Type 0
 IsTold desk P = IsSomeAnd desk.view.told P
 
 -- so many bytes of a slot were taken, of those that were left
-pub record Takes (slot count : ℕ) (old new : DeskState) : Type 0 where
+pub record Advances (slot count : ℕ) (old new : DeskState) : Type 0 where
   pub reached : Reaches (taken slot count) old new
   pub were_left : IfTold old (λ t. count ≤ length (t.left slot))
 
@@ -116,3 +112,7 @@ pub record IsFresh (t : Told) (desk : DeskState) : Type 0 where
   pub said : t.said ≡ []
   pub no_reads : desk.read_faults ≡ 0
   pub no_writes : desk.write_faults ≡ 0
+
+-- so, and what it tells to lie on its shelf is this
+abbrev pub IsFreshWith : (List ℕ → Option (List ℕ)) → DeskState → Type 0
+IsFreshWith shelf desk = IsTold desk (λ t. (t.shelf ≡ shelf) × IsFresh t desk)

@@ -3,10 +3,9 @@ pub mod View
 pub mod Desk
 pub mod Memory
 pub mod MemoryState
-pub mod MemoryFiles
-pub mod MemoryLaws
 pub mod RealState
 pub mod Lines
 pub mod Limits
 pub mod LineReading
 pub mod LineReaders
+pub mod laws

@@ -1,5 +1,5 @@
 -- Which limit a line passes first (our own).
-use Rattle.std.specs.Prelude.{ℕ, Bool, true, false, ◌+◌, ◌-◌, ◌==◌, ◌&&◌, ◌||◌, not, nat_lt, if◌then◌else◌, List, [], ◌∷◌, Option, Some, None}
+use Rattle.std.specs.Prelude.{ℕ, Bool, ◌-◌, ◌==◌, ◌&&◌, ◌||◌, not, nat_lt, if◌then◌else◌, List, [], ◌∷◌, Option, Some, None}
 use Rattle.pb_base.specs.declared.limit.LimitKind.{LimitKind}
 use Rattle.pb_base.specs.declared.limit.LimitKind.TheVariants.{Text, Lines, Line}
 

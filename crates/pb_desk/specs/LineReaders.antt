@@ -1,5 +1,5 @@
 -- Line after line (our own).
-use Rattle.std.specs.Prelude.{◌≡◌, ◌≤◌, ◌<◌, ◌^◌, ℕ, Bool, true, false, ◌+◌, ◌-◌, List, [], ◌∷◌, ◌++◌, length, nat_le, Option, Some, None}
+use Rattle.std.specs.Prelude.{◌≡◌, ◌≤◌, ◌<◌, ◌^◌, ℕ, Bool, true, false, ◌+◌, ◌-◌, List, [], length, nat_le, Option, Some, None}
 use Rattle.pb_desk.specs.Desk.{DeskState}
 use Rattle.pb_desk.specs.declared.limits.LineLimits.{LineLimits}
 use Rattle.pb_desk.specs.declared.limits.Left.{Left}
@@ -8,7 +8,7 @@ use Rattle.pb_desk.specs.declared.piece.Stop.TheVariants as stop
 use Rattle.pb_desk.specs.declared.lines.LineFault.{LineFault}
 use Rattle.pb_desk.specs.declared.lines.LineFault.TheVariants.{Failed, Limit, NoMemory}
 use Rattle.pb_desk.specs.Lines.{BeginsWith}
-use Rattle.pb_desk.specs.LineReading.{Reads, FailsInLine, limit_in}
+use Rattle.pb_desk.specs.LineReading.{TakesAhead, FailsInLine, limit_in}
 
 -- A reader, as contracts see it: its slot and limits; the bytes taken from the slot that stand in no line yet, and how many bytes
 -- stand before them; how many lines were read, and the last of them; and the fault that ended it.
@@ -46,23 +46,24 @@ pub record Follows (old new : Reader) : Type 0 where
 
 -- a line was read, or the text has ended
 abbrev pub GivesLine : Bool → Reader → Reader → DeskState → DeskState → Type 0
-GivesLine true old new before after = Follows old new × (new.number ≡ old.number + 1) × (old.at + length new.line ≤ new.at) × Reads old.slot old.ahead new.ahead before after (IsNextLine old new)
+GivesLine true old new before after = Follows old new × (new.number ≡ old.number + 1) × (old.at + length new.line ≤ new.at) × TakesAhead old.slot old.ahead new.ahead before after (IsNextLine old new)
 GivesLine false old new before after =
-    Follows old new × (new.number ≡ old.number) × (new.at ≡ old.at) × (new.line ≡ []) × Reads old.slot old.ahead new.ahead before after (λ text rest. (text ≡ []) × (rest ≡ []))
+    Follows old new × (new.number ≡ old.number) × (new.at ≡ old.at) × (new.line ≡ []) × TakesAhead old.slot old.ahead new.ahead before after (λ text rest. (text ≡ []) × (rest ≡ []))
 
 -- why a line was not read: a read failed, or the line is the first that passes a limit
-abbrev pub Stops : LineFault → Reader → Reader → DeskState → DeskState → Type 0
-Stops Failed old new before after = FailsInLine old.slot before after
-Stops (Limit which line) old new before after = (line ≡ old.number + 1) × Reads old.slot old.ahead new.ahead before after (λ text rest. limit_in (left_for old) text ≡ Some which)
-Stops NoMemory old new before after = Reads old.slot old.ahead new.ahead before after (λ text rest. Unit {0})
+abbrev pub StopsReader : LineFault → Reader → Reader → DeskState → DeskState → Type 0
+StopsReader Failed old new before after = FailsInLine old.slot before after
+StopsReader (Limit which line) old new before after = (line ≡ old.number + 1) × TakesAhead old.slot old.ahead new.ahead before after (λ text rest. limit_in (left_for old) text ≡ Some which)
+StopsReader NoMemory old new before after = TakesAhead old.slot old.ahead new.ahead before after (λ text rest. Unit {0})
 
 -- a fault, which the reader keeps
 pub record StopsAt (fault : LineFault) (old new : Reader) (before after : DeskState) : Type 0 where
   pub slot : new.slot ≡ old.slot
   pub limits : new.limits ≡ old.limits
   pub number : new.number ≡ old.number
+  pub at : new.at ≡ old.at
   pub kept : new.fault ≡ Some fault
-  pub cause : Stops fault old new before after
+  pub cause : StopsReader fault old new before after
 
 -- the fault at a line of this number
 abbrev pub fault_at : ℕ → Stop → LineFault

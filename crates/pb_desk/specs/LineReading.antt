@@ -1,91 +1,22 @@
--- How a line is read.
-use Rattle.std.specs.Prelude.{◌≡◌, ◌≤◌, ◌<◌, ℕ, Bool, true, false, ◌+◌, ◌-◌, List, [], ◌∷◌, ◌++◌, length, drop, Option, Some, None}
-use Rattle.std.specs.Bool.{OnTrue, OnFalse}
-use Rattle.pb_desk.specs.View.{taken}
-use Rattle.pb_desk.specs.Desk.{DeskState, Takes, FailsToRead, IfTold}
+-- What is taken where a line is read.
+use Rattle.std.specs.Prelude.{◌++◌, ℕ, List, drop, Option}
 use Rattle.pb_base.specs.declared.limit.LimitKind.{LimitKind}
 use Rattle.pb_desk.specs.declared.limits.Left.{Left}
-use Rattle.pb_desk.specs.declared.piece.Stop.{Stop}
-use Rattle.pb_desk.specs.declared.piece.Stop.TheVariants.{Failed, Limit, NoMemory}
-use Rattle.pb_desk.specs.declared.line.Found.{Found}
-use Rattle.pb_desk.specs.declared.line.Found.TheVariants.{Nothing, Last, Ended}
-use Rattle.pb_desk.specs.Lines.{BeginsWith, IsUnbroken}
+use Rattle.pb_desk.specs.View.{taken}
+use Rattle.pb_desk.specs.Desk.{DeskState, Advances, FailsToRead, IfTold}
 use Rattle.pb_desk.specs.Limits.{limit_of}
 
 -- the first limit that a line passes, from its start on
 abbrev pub limit_in : Left → List ℕ → Option LimitKind
 limit_in left bytes = limit_of left.text left.is_last left.line bytes
 
--- the same where the line has so many bytes already
-abbrev pub limit_after : Left → ℕ → List ℕ → Option LimitKind
-limit_after left count bytes = limit_of (left.text - count) left.is_last (left.line - count) bytes
-
--- a line's first bytes, which have no LF and pass no limit
-pub record InLine (left : Left) (line : List ℕ) : Type 0 where
-  pub unbroken : IsUnbroken line
-  pub in_text : length line ≤ left.text
-  pub in_line : length line ≤ left.line
-  pub is_line : 0 < length line → left.is_last ≡ false
-  pub limit : (more : List ℕ) → limit_in left (line ++ more) ≡ limit_after left (length line) more
-
--- the whole line, which ends with LF
-pub record IsEnded (left : Left) (line : List ℕ) : Type 0 where
-  pub unbroken : IsUnbroken line
-  pub in_text : length line < left.text
-  pub is_line : left.is_last ≡ false
-  pub limit : (more : List ℕ) → limit_in left (line ++ 10 ∷ more) ≡ None
-
--- the bytes up to the first LF, and whether there is one
-pub record IsPiece (bytes piece : List ℕ) (is_ended : Bool) : Type 0 where
-  pub unbroken : IsUnbroken piece
-  pub ended : OnTrue is_ended (bytes ≡ piece ++ 10 ∷ drop (length piece + 1) bytes)
-  pub whole : OnFalse is_ended (piece ≡ bytes)
-
-abbrev pub TakesPiece : Left → Bool → List ℕ → List ℕ → List ℕ → List ℕ → Type 0
-TakesPiece left true ahead ahead' line line' = IsEnded left line' × (line ++ ahead ≡ line' ++ 10 ∷ ahead')
-TakesPiece left false ahead ahead' line line' = InLine left line' × (line' ≡ line ++ ahead) × (ahead' ≡ [])
-
-abbrev pub StopsPiece : Left → List ℕ → List ℕ → Stop → Type 0
-StopsPiece left ahead line Failed = ⊥
-StopsPiece left ahead line (Limit which) = (more : List ℕ) → limit_in left (line ++ ahead ++ more) ≡ Some which
-StopsPiece left ahead line NoMemory = Unit {0}
-
--- ---- one line
-
 -- So many bytes of the slot were taken. What stood before the end of the text, ahead or in the slot, and what stands there now
-pub record Reads (slot : ℕ) (ahead ahead' : List ℕ) (before after : DeskState) (P : List ℕ → List ℕ → Type 0) : Type 0 where
+pub record TakesAhead (slot : ℕ) (ahead ahead' : List ℕ) (before after : DeskState) (P : List ℕ → List ℕ → Type 0) : Type 0 where
   pub count : ℕ
-  pub takes : Takes slot count before after
+  pub takes : Advances slot count before after
   pub told : IfTold before (λ t. P (ahead ++ t.left slot) (ahead' ++ drop count (t.left slot)))
-
--- what was found at the start of a line, with the text from there on, and what is left of it
-abbrev pub Finds : Left → Found → List ℕ → List ℕ → List ℕ → Type 0
-Finds left Nothing line text rest = (text ≡ []) × (rest ≡ [])
-Finds left Last line text rest = (text ≡ line) × (rest ≡ []) × BeginsWith line text rest × (limit_in left text ≡ None)
-Finds left Ended line text rest = (text ≡ line ++ 10 ∷ rest) × BeginsWith line text rest × (limit_in left text ≡ None)
-
--- the line is within what is left
-abbrev pub Fits : Left → Found → List ℕ → Type 0
-Fits left Nothing line = line ≡ []
-Fits left Last line = (length line ≤ left.text) × (left.is_last ≡ false)
-Fits left Ended line = (length line < left.text) × (left.is_last ≡ false)
 
 -- a read failed, after so many bytes of the slot
 pub record FailsInLine (slot : ℕ) (before after : DeskState) : Type 0 where
   pub count : ℕ
   pub fails : FailsToRead (taken slot count) before after
-
-abbrev pub Stops : Left → ℕ → List ℕ → List ℕ → DeskState → DeskState → Stop → Type 0
-Stops left slot ahead ahead' before after Failed = FailsInLine slot before after
-Stops left slot ahead ahead' before after (Limit which) = Reads slot ahead ahead' before after (λ text rest. limit_in left text ≡ Some which)
-Stops left slot ahead ahead' before after NoMemory = Reads slot ahead ahead' before after (λ text rest. Unit {0})
-
--- more was taken from the slot where nothing was ahead: none at the end of the text
-pub record Refills (slot : ℕ) (some : Bool) (ahead ahead' : List ℕ) (before after : DeskState) : Type 0 where
-  pub reads : Reads slot ahead ahead' before after (λ text rest. (text ≡ rest) × (some ≡ false → rest ≡ []))
-  pub some_ahead : some ≡ true → 0 < length ahead'
-
--- what stands at the end of the text
-abbrev pub found_at_end : List ℕ → Found
-found_at_end [] = Nothing
-found_at_end (b ∷ bytes) = Last

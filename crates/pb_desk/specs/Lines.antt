@@ -1,5 +1,6 @@
 -- The lines of a text, each ended by LF or by the end of the text (POSIX, but that a last line needs no LF).
 use Rattle.std.specs.Prelude.{◌≡◌, ◌<◌, ℕ, ◌==◌, if◌then◌else◌, List, [], ◌∷◌, length, All, false}
+use Rattle.pb_base.specs.Lines.{first_line}
 
 -- the lines, with a byte more at the start of the first
 abbrev pub with_byte : ℕ → List (List ℕ) → List (List ℕ)
@@ -10,11 +11,6 @@ with_byte b (line ∷ lines) = (b ∷ line) ∷ lines
 abbrev pub lines_of : List ℕ → List (List ℕ)
 lines_of [] = []
 lines_of (b ∷ bytes) = if b == 10 then [] ∷ lines_of bytes else with_byte b (lines_of bytes)
-
--- the bytes up to the first LF
-abbrev pub first_line : List ℕ → List ℕ
-first_line [] = []
-first_line (b ∷ bytes) = if b == 10 then [] else b ∷ first_line bytes
 
 -- what stands behind the first LF
 abbrev pub behind_first : List ℕ → List ℕ

@@ -24,8 +24,8 @@ abbrev pub at_two : {X : Type 0} → X → X → X → ℕ → X
 at_two zero one elsewhere slot = if slot == 0 then zero else if slot == 1 then one else elsewhere
 
 -- what it tells
-abbrev pub told_of : MemoryDesk → Told
-told_of desk = record {
+abbrev pub desk_told : MemoryDesk → Told
+desk_told desk = record {
   shelf = shelf_of desk.shelf;
   left = λ slot. left_of desk.shelf (slice_index_or desk.reading slot None);
   made = files_of desk.one_is_newest desk.zero desk.one;
@@ -38,7 +38,7 @@ state_of desk = record {
   view = record {
     reading = λ slot. is_some (slice_index_or desk.reading slot None);
     writing = at_two desk.zero.is_open desk.one.is_open false;
-    told = Some (told_of desk);
+    told = Some (desk_told desk);
     room = Some desk.room;
     steady = is_nil desk.script.fails;
   };

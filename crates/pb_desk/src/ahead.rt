@@ -1,6 +1,6 @@
 // Bytes that were taken from a slot before they are needed.
 ghost use Rattle.std.specs.Prelude.{◌≡◌, ◌≤◌, ◌<◌, ◌++◌, [], ℕ, List, length, drop, IfOk, OnOk, OnErr, IsTrue};
-ghost use Rattle.pb_desk.specs.Desk.{Takes, FailsToRead, IfTold, IsSteady, same};
+ghost use Rattle.pb_desk.specs.Desk.{Advances, FailsToRead, IfTold, IsSteady, same};
 
 use crate::Desk;
 use crate::whole::make_room;
@@ -58,7 +58,7 @@ impl Ahead {
         requires empty { self.old ≡ [] }
         requires kind { slot < 4 }
         requires open { IsTrue ((D.state desk.old).view.reading slot) }
-        ensures taken { OnOk result (Takes slot (length self.new) (D.state desk.old) (D.state desk.new)) }
+        ensures taken { OnOk result (Advances slot (length self.new) (D.state desk.old) (D.state desk.new)) }
         ensures bytes { OnOk result (IfTold (D.state desk.old) (λ t. t.left slot ≡ self.new ++ drop (length self.new) (t.left slot))) }
         ensures end { OnOk result (self.new ≡ [] → IfTold (D.state desk.old) (λ t. t.left slot ≡ [])) }
         ensures failed { OnErr result (FailsToRead same (D.state desk.old) (D.state desk.new)) }

@@ -1,5 +1,5 @@
 // How often something has failed.
-ghost use Rattle.std.specs.Prelude.{◌≡◌, ◌≤◌};
+ghost use Rattle.std.specs.Prelude.{◌≡◌};
 ghost use Rattle.pb_desk.specs.Causes.{Rose};
 
 use pb_base::Failed;
@@ -29,10 +29,9 @@ impl FaultCount {
         FaultCount { count: 0 }
     }
 
-    /// One more fault, and the answer that tells of it.
+    /// One more fault, and the answer that tells of it: the count rises by one, up to its last value.
     pub fn rise(&mut self) -> Failed
-        ensures later { self.old ≤ self.new }
-        ensures rose { Rose self.old self.new }
+        ensures { Rose self.old self.new }
     {
         self.count = self.count.saturating_add(1);
         Failed

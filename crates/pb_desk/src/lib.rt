@@ -24,8 +24,3 @@ pub use memory::MemoryDesk;
 pub use real::RealDesk;
 pub use shelf::{Named, Shelf};
 pub use whole::{TextFault, read_whole, say_all, write_all};
-
-#[cfg(test)]
-mod line_tests;
-#[cfg(test)]
-mod tests;

@@ -1,7 +1,8 @@
 // One line, from a desk in pieces.
 ghost use Rattle.std.specs.Prelude.{◌≡◌, ◌≢◌, ◌<◌, [], ℕ, List, true, IsTrue, IfOk, IfErr, OnErr, Err};
 ghost use Rattle.pb_desk.specs.Desk.{IsSteady, FailsToRead, same};
-ghost use Rattle.pb_desk.specs.LineReading.{Reads, Finds, Fits, Stops, Refills, found_at_end};
+ghost use Rattle.pb_desk.specs.LineReading.{TakesAhead};
+ghost use Rattle.pb_desk.specs.laws.PieceReading.{Finds, Fits, StopsLine, Refills, found_at_end};
 
 use crate::Desk;
 use crate::ahead::Ahead;
@@ -65,9 +66,9 @@ pub fn read_line<D: Desk>(
     requires kind { slot < 4 }
     requires open { IsTrue ((D.state desk.old).view.reading slot) }
     requires empty { line.old.items ≡ [] }
-    ensures found { IfOk result (λ found. Reads slot ahead.old ahead.new (D.state desk.old) (D.state desk.new) (Finds left.now found line.new.items)) }
+    ensures found { IfOk result (λ found. TakesAhead slot ahead.old ahead.new (D.state desk.old) (D.state desk.new) (Finds left.now found line.new.items)) }
     ensures fits { IfOk result (λ found. Fits left.now found line.new.items) }
-    ensures stopped { IfErr result (Stops left.now slot ahead.old ahead.new (D.state desk.old) (D.state desk.new)) }
+    ensures stopped { IfErr result (StopsLine left.now slot ahead.old ahead.new (D.state desk.old) (D.state desk.new)) }
     ensures steady { IsSteady (D.state desk.old) → result ≢ Err Stop.Failed }
 {
     'pieces: loop {

@@ -96,7 +96,7 @@ impl LineReader {
     /// Reads the next line, of an open slot from which nothing else reads. False at the end of the text.
     pub fn next_line<D: Desk>(&mut self, desk: &mut D) -> Result<bool, LineFault>
         requires { IsTrue ((D.state desk.old).view.reading self.old.slot) }
-        ensures again { (fault : LineFault) → self.old.fault ≡ Some fault → (result ≡ Err fault) × (self.new ≡ self.old) × (D.state desk.new ≡ D.state desk.old) }
+        ensures again { (f : LineFault) → self.old.fault ≡ Some f → (result ≡ Err f) × (self.new ≡ self.old) × (D.state desk.new ≡ D.state desk.old) }
         ensures line { self.old.fault ≡ None → IfOk result (λ more. GivesLine more self.old self.new (D.state desk.old) (D.state desk.new)) }
         ensures stopped { self.old.fault ≡ None → IfErr result (λ fault. StopsAt fault self.old self.new (D.state desk.old) (D.state desk.new)) }
         ensures in_text { OnOk result (self.new.at ≤ self.new.limits.text) }

@@ -35,7 +35,7 @@ impl MemoryDesk {
     ghost use Rattle.pb_desk.specs.Memory.{shelf_of};
     ghost use Rattle.pb_desk.specs.MemoryState.{plan_of};
     ghost use Rattle.pb_desk.specs.View.{bytes_in};
-    ghost use Rattle.pb_desk.specs.Desk.{IsTold, IsSteady, IsClosed, IsFresh, HasSlot};
+    ghost use Rattle.pb_desk.specs.Desk.{IsTold, IsSteady, IsClosed, IsFreshWith, HasSlot};
 
     /// A desk with these files to read. The calls with a number in `fails` fail, counted from 1 over all calls; a read,
     /// a write or a say moves at most `piece` bytes, which is at least 1; each file and what is said have `room` bytes,
@@ -49,7 +49,7 @@ impl MemoryDesk {
     ) -> Result<Self, NoMemory>
         requires { 1 ≤ piece }
         ensures closed { IfOk result (λ desk. IsClosed (⟦<MemoryDesk as Desk>⟧.state desk)) }
-        ensures fresh { IfOk result (λ desk. IsTold (⟦<MemoryDesk as Desk>⟧.state desk) (λ t. (t.shelf ≡ shelf_of shelf) × IsFresh t (⟦<MemoryDesk as Desk>⟧.state desk))) }
+        ensures fresh { IfOk result (λ desk. IsFreshWith (shelf_of shelf) (⟦<MemoryDesk as Desk>⟧.state desk)) }
         ensures room { IfOk result (λ desk. (⟦<MemoryDesk as Desk>⟧.state desk).view.room ≡ Some room) }
         ensures steady { IfOk result (λ desk. IsSteady (⟦<MemoryDesk as Desk>⟧.state desk) ↔ (fails ≡ [])) }
         ensures plan { IfOk result (λ desk. plan_of desk ≡ record { fails = fails; calls = 0; piece = piece }) }
@@ -105,12 +105,12 @@ impl MemoryDesk {
 // a cause, and it moves at most a piece.
 #[tactic(auto, unfolding(crate::specs::MemoryState::state_of, crate::specs::MemoryState::plan_of))]
 impl Desk for MemoryDesk {
-    ghost use Rattle.std.specs.Prelude.{◌≡◌, ◌≤◌, ◌<◌, ◌↔◌, ◌⊎◌, refl, length, take, false, IsTrue, IsSome, IsNone, IsErr, IfOk, OnOk, OnErr};
+    ghost use Rattle.std.specs.Prelude.{◌≡◌, ◌≤◌, ◌<◌, ◌↔◌, ◌⊎◌, refl, length, take, drop, false, IsTrue, IsSome, IsNone, IsErr, IfOk, OnOk, OnErr};
     ghost use Rattle.pb_desk.specs.View.{opened, taken, created, wrote, closed, spoke};
     ghost use Rattle.pb_desk.specs.Desk.{Reaches, FailsToRead, FailsToWrite, same, IsSteady, IfTold, IsTold, Gives, TakesSome, HasName, IsTaken, LacksRoom, written, words};
     ghost use Rattle.pb_desk.specs.Memory.{counted, is_failing};
     ghost use Rattle.pb_desk.specs.MemoryState.{state_of, plan_of};
-    ghost use Rattle.pb_desk.specs.MemoryLaws.{memory_has_file, memory_tells, memory_has_room, memory_fits};
+    ghost use Rattle.pb_desk.specs.laws.MemoryLaws.{memory_has_file, memory_tells, memory_has_room, memory_fits};
 
     ghost state = { state_of };
 
@@ -144,6 +144,8 @@ impl Desk for MemoryDesk {
         ensures counted { plan_of self.new ≡ counted (plan_of self.old) }
         ensures fails { IsErr result ↔ IsTrue (is_failing (plan_of self.old)) }
         ensures moved { IfOk result (λ count. count ≤ (plan_of self.old).piece) }
+        ensures behind { IfOk result (λ count. drop count room.new ≡ drop count room.old) }
+        ensures untouched { OnErr result (room.new ≡ room.old) }
     {
         if self.script.is_failing() {
             return Err(self.read_faults.rise());

@@ -1,7 +1,7 @@
 // The bytes of a line that are there, up to its end.
 ghost use Rattle.std.specs.Prelude.{◌≡◌, ◌≤◌, ◌<◌, ◌+◌, ◌-◌, ◌++◌, ◌∷◌, [], ℕ, List, if◌then◌else◌, length, drop, Some, None, IfOk, IfErr};
 ghost use Rattle.pb_desk.specs.Limits.{limit_of_piece};
-ghost use Rattle.pb_desk.specs.LineReading.{InLine, IsPiece, TakesPiece, StopsPiece};
+ghost use Rattle.pb_desk.specs.laws.PieceReading.{InLine, IsPiece, TakesPiece, StopsPiece};
 
 use crate::ahead::Ahead;
 use crate::limits::{Left, limit_of_piece};

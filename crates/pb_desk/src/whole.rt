@@ -1,7 +1,7 @@
 // Calls over a desk that go on until all is done.
 ghost use Rattle.std.specs.Prelude.{◌≡◌, ◌≤◌, ◌<◌, ◌≢◌, ℕ, length, take, true, false, IsTrue, IfOk, OnOk, OnErr};
 ghost use Rattle.pb_desk.specs.View.{wrote, spoke, taken};
-ghost use Rattle.pb_desk.specs.Desk.{Reaches, IsSteady, IfTold, LacksRoom, written, words, StopsIn, Takes, FailsToRead};
+ghost use Rattle.pb_desk.specs.Desk.{Reaches, IsSteady, IfTold, LacksRoom, written, words, StopsIn, Advances, FailsToRead};
 
 use crate::Desk;
 use pb_base::{Bytes, Failed};
@@ -63,12 +63,12 @@ fn read_pieces<D: Desk>(
     requires kind { slot < 4 }
     requires open { IsTrue ((D.state desk.old).view.reading slot) }
     requires some_room { 0 < length room.old }
-    ensures taken { IfOk result (λ text. Takes slot (length text) (D.state desk.old) (D.state desk.new)) }
+    ensures taken { IfOk result (λ text. Advances slot (length text) (D.state desk.old) (D.state desk.new)) }
     ensures whole { IfOk result (λ text. IfTold (D.state desk.old) (λ t. text ≡ t.left slot)) }
     ensures in_limit { IfOk result (λ text. length text ≤ limit) }
-    ensures too_long { result ≡ Err TextFault.TooLong → (count : ℕ) × (limit < count) × Takes slot count (D.state desk.old) (D.state desk.new) }
+    ensures too_long { result ≡ Err TextFault.TooLong → (count : ℕ) × (limit < count) × Advances slot count (D.state desk.old) (D.state desk.new) }
     ensures failed { result ≡ Err TextFault.Failed → (count : ℕ) × (count ≤ limit) × FailsToRead (taken slot count) (D.state desk.old) (D.state desk.new) }
-    ensures no_memory { result ≡ Err TextFault.NoMemory → (count : ℕ) × (count ≤ limit) × Takes slot count (D.state desk.old) (D.state desk.new) }
+    ensures no_memory { result ≡ Err TextFault.NoMemory → (count : ℕ) × (count ≤ limit) × Advances slot count (D.state desk.old) (D.state desk.new) }
     ensures steady { IsSteady (D.state desk.old) → result ≢ Err TextFault.Failed }
 {
     let mut text = Vec::new(alloc);
@@ -93,12 +93,12 @@ pub fn read_whole<D: Desk>(
 ) -> Result<Bytes, TextFault>
     requires kind { slot < 4 }
     requires open { IsTrue ((D.state desk.old).view.reading slot) }
-    ensures taken { IfOk result (λ text. Takes slot (length text) (D.state desk.old) (D.state desk.new)) }
+    ensures taken { IfOk result (λ text. Advances slot (length text) (D.state desk.old) (D.state desk.new)) }
     ensures whole { IfOk result (λ text. IfTold (D.state desk.old) (λ t. text ≡ t.left slot)) }
     ensures in_limit { IfOk result (λ text. length text ≤ limit) }
-    ensures too_long { result ≡ Err TextFault.TooLong → (count : ℕ) × (limit < count) × Takes slot count (D.state desk.old) (D.state desk.new) }
+    ensures too_long { result ≡ Err TextFault.TooLong → (count : ℕ) × (limit < count) × Advances slot count (D.state desk.old) (D.state desk.new) }
     ensures failed { result ≡ Err TextFault.Failed → (count : ℕ) × (count ≤ limit) × FailsToRead (taken slot count) (D.state desk.old) (D.state desk.new) }
-    ensures no_memory { result ≡ Err TextFault.NoMemory → (count : ℕ) × (count ≤ limit) × Takes slot count (D.state desk.old) (D.state desk.new) }
+    ensures no_memory { result ≡ Err TextFault.NoMemory → (count : ℕ) × (count ≤ limit) × Advances slot count (D.state desk.old) (D.state desk.new) }
     ensures steady { IsSteady (D.state desk.old) → result ≢ Err TextFault.Failed }
 {
     let mut room = make_room(alloc)?;

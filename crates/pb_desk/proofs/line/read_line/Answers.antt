@@ -1,8 +1,8 @@
 use Rattle.std.proofs.Common.{◌≡◌, ap, sym, ◌∙◌, true, false, List, ℕ, Bool, subst}
-use Rattle.pb_desk.specs.Desk.{DeskState}
 use Rattle.pb_desk.specs.declared.line.Found.{Found}
-use Rattle.pb_desk.specs.LineReading.{Reads, Finds, Refills, InLine, TakesPiece, found_at_end}
-use Rattle.pb_desk.proofs.ReadLemmas.{end_found, line_found, line_grows, line_stops, refilled_line, Behind}
+use Rattle.pb_desk.specs.LineReading.{TakesAhead}
+use Rattle.pb_desk.specs.laws.PieceReading.{Finds, TakesPiece, found_at_end}
+use Rattle.pb_desk.proofs.ReadLemmas.{end_found, line_found, line_grows, line_stops, refilled_line}
 use Rattle.pb_desk.proofs.line.read_line.Goals as goal
 
 pub returns-then-not-branch-clause-found : goal.returns-then-not-branch-clause-found
@@ -10,7 +10,7 @@ returns-then-not-branch-clause-found g c =
     let line : List ℕ = c.pieces.line.items in
     let answer : found_at_end line ≡ c.at_end.result = ap found_at_end (sym c.as_slice.ensures.value) ∙ sym c.at_end.ensures in
     let found = end_found c.args.left.now c.args.slot c.in_ok-refill.field-0 line c.args.ahead.now c.pieces.ahead c.refill.new.ahead (g.D.Desk.state c.args.desk.now) (g.D.Desk.state c.pieces.desk) (g.D.Desk.state c.refill.new.desk) c.if-not-branch.true c.pieces.invariant.in_line c.pieces.invariant.reads c.in_ok-refill.ensures.filled in
-    subst (λ (f : Found). Reads c.args.slot c.args.ahead.now c.refill.new.ahead (g.D.Desk.state c.args.desk.now) (g.D.Desk.state c.refill.new.desk) (Finds c.args.left.now f line)) answer found
+    subst (λ (f : Found). TakesAhead c.args.slot c.args.ahead.now c.refill.new.ahead (g.D.Desk.state c.args.desk.now) (g.D.Desk.state c.refill.new.desk) (Finds c.args.left.now f line)) answer found
 
 pub returns-in-Ok-true-clause-found : goal.returns-in-Ok-true-clause-found
 returns-in-Ok-true-clause-found g c =

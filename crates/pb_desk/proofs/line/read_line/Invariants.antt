@@ -1,12 +1,12 @@
-use Rattle.std.proofs.Common.{◌≡◌, ◌++◌, ◌-◌, List, ℕ, length, true}
-use Rattle.std.specs.Prelude.{IsTrue}
-use Rattle.pb_desk.specs.LineReading.{Reads, InLine}
+use Rattle.std.proofs.Common.{◌≡◌, ◌++◌, ◌-◌, length}
+use Rattle.pb_desk.specs.LineReading.{TakesAhead}
+use Rattle.pb_desk.specs.laws.PieceReading.{InLine}
 use Rattle.pb_desk.proofs.line.read_line.Given as goal
 
 abbrev pub invariant-pieces : goal.invariant-pieces
 invariant-pieces g l = record {
   in_line : InLine l.left l.line.items;
-  reads : Reads l.slot l.initial.ahead l.ahead (g.D.Desk.state l.initial.desk) (g.D.Desk.state l.desk) (λ text rest. text ≡ l.line.items ++ rest);
+  reads : TakesAhead l.slot l.initial.ahead l.ahead (g.D.Desk.state l.initial.desk) (g.D.Desk.state l.desk) (λ text rest. text ≡ l.line.items ++ rest);
 }
 
 abbrev pub decreases-pieces : goal.decreases-pieces

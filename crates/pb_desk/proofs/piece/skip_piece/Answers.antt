@@ -1,4 +1,4 @@
-use Rattle.std.proofs.Common.{ap, ◌∙◌, drop, List, ℕ, refl}
+use Rattle.std.proofs.Common.{ap, ◌∙◌, drop, List, ℕ}
 use Rattle.std.proofs.lemmas.List.{drop-drop}
 use Rattle.pb_desk.proofs.piece.skip_piece.Goals as goal
 

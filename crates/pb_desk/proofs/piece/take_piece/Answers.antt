@@ -1,8 +1,8 @@
-use Rattle.std.proofs.Common.{◌≡◌, ◌-◌, ap, sym, ◌∙◌, length, ℕ, Bool, List, Option, Some, None, subst}
+use Rattle.std.proofs.Common.{◌-◌, ap, sym, ◌∙◌, length, ℕ, Bool, List, Option, subst}
 use Rattle.pb_base.specs.declared.limit.LimitKind.{LimitKind}
 use Rattle.pb_desk.specs.declared.limits.Left.{Left}
 use Rattle.pb_desk.specs.Limits.{limit_of_piece}
-use Rattle.pb_desk.specs.LineReading.{IsPiece}
+use Rattle.pb_desk.specs.laws.PieceReading.{IsPiece}
 use Rattle.pb_desk.proofs.PieceLemmas.{stopped_by, taken_piece}
 use Rattle.pb_desk.proofs.piece.take_piece.Goals as goal
 

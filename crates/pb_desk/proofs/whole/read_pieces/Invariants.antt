@@ -1,11 +1,11 @@
 use Rattle.std.proofs.Common.{◌≡◌, ◌≤◌, length, take, ◌-◌}
-use Rattle.pb_desk.specs.Desk.{Takes, IfTold}
+use Rattle.pb_desk.specs.Desk.{Advances, IfTold}
 use Rattle.pb_desk.proofs.whole.read_pieces.Given as goal
 
 abbrev pub invariant-loop-text : goal.invariant-loop-text
 invariant-loop-text g l = record {
   in_limit : length l.text.items ≤ l.limit;
-  taken : Takes l.slot (length l.text.items) (g.D.Desk.state l.initial.desk) (g.D.Desk.state l.desk);
+  taken : Advances l.slot (length l.text.items) (g.D.Desk.state l.initial.desk) (g.D.Desk.state l.desk);
   so_far : IfTold (g.D.Desk.state l.initial.desk) (λ t. l.text.items ≡ take (length l.text.items) (t.left l.slot));
 }
 

@@ -3,7 +3,7 @@ use Rattle.std.specs.Prelude.{ℕ, IsSome, IsTrue, IfSome, refl}
 use Rattle.pb_desk.specs.declared.memory.MemoryDesk.{MemoryDesk}
 use Rattle.pb_desk.specs.Desk.{HasSlot, IfTold, FitsRoom}
 use Rattle.pb_desk.specs.MemoryState.{state_of}
-use Rattle.pb_desk.specs.MemoryFiles.{in_files, in_room, all_fit}
+use Rattle.pb_desk.specs.laws.MemoryFiles.{in_files, in_room, all_fit}
 
 pub memory_tells : (desk : MemoryDesk) → IsSome (state_of desk).view.told
 unfolding state_of

@@ -1,0 +1,3 @@
+pub mod MemoryFiles
+pub mod MemoryLaws
+pub mod PieceReading
