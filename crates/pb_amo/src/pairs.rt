@@ -1,7 +1,6 @@
 //! At most one of some literals, by a clause for each two of them.
-ghost use Rattle.std.specs.Prelude.{◌≡◌, ◌<◌, ◌+◌, ◌^◌, ℕ, true, length, OnOk, OnErr};
-ghost use Rattle.pb_family.specs.ClauseText.{clauses_text};
-ghost use Rattle.pb_family.specs.Sinks.{Takes, FailsToTake};
+ghost use Rattle.std.specs.Prelude.{◌≡◌, ◌<◌, ◌+◌, ◌^◌, ℕ, true, length};
+ghost use Rattle.pb_family.specs.Handing.{Hands};
 ghost use Rattle.pb_norm.specs.BoundedSums.{IsOverDistinct};
 ghost use Rattle.pb_norm.specs.Reduction.{all_weigh, lits_of};
 ghost use Rattle.pb_amo.specs.Pairwise.{pair_count, pairwise_clauses};
@@ -28,13 +27,12 @@ impl<'a> Pairwise<'a> {
     pub fn over(of: &'a AtMost) -> Self
         requires at_most_one { of.now.bound ≡ 1 }
         requires units { all_weigh 1 of.now.terms ≡ true }
-        requires few { length of.now.terms < 2 ^ 31 }
         ensures constraint { ⟦<Self as Family>⟧.constraint result ≡ of.now }
         ensures fresh { ⟦<Self as Family>⟧.fresh_count result ≡ 0 }
         ensures clauses { ⟦<Self as Family>⟧.clause_count result ≡ pair_count (length of.now.terms) }
         ensures list { (first : ℕ) → ⟦<Self as Family>⟧.clause_list result first ≡ pairwise_clauses (lits_of of.now.terms) }
     {
-        // Brings in that its variables are distinct.
+        // Brings in that its variables are distinct, and its terms few.
         let _ = of.bound();
         Pairwise { of }
     }
@@ -43,8 +41,7 @@ impl<'a> Pairwise<'a> {
 /// Hands over a clause for each two of the literals.
 pub(crate) fn emit_pairs<S: ClauseSink>(literals: &Source, sink: &mut S) -> Result<(), Failed>
     requires few { length (source_literals literals.now) < 2 ^ 31 }
-    ensures ok { OnOk result (Takes (clauses_text (pairwise_clauses (source_literals literals.now))) (S.state sink.old) (S.state sink.new)) }
-    ensures failed { OnErr result (FailsToTake (clauses_text (pairwise_clauses (source_literals literals.now))) (S.state sink.old) (S.state sink.new)) }
+    ensures { Hands (pairwise_clauses (source_literals literals.now)) result (S.state sink.old) (S.state sink.new) }
 {
     let count = literals.len();
     for i in 0..count {
@@ -56,12 +53,11 @@ pub(crate) fn emit_pairs<S: ClauseSink>(literals: &Source, sink: &mut S) -> Resu
 }
 
 impl Family for Pairwise<'_> {
-    ghost use Rattle.std.specs.Prelude.{◌≡◌, ◌≢◌, ◌≤◌, ◌+◌, ◌^◌, IfErr, OnOk, Err};
-    ghost use Rattle.pb_family.specs.ClauseText.{clauses_text};
+    ghost use Rattle.std.specs.Prelude.{◌≡◌, ◌≢◌, ◌≤◌, ◌+◌, ◌^◌, Err};
     ghost use Rattle.pb_family.specs.Families.{VarsBelow};
-    ghost use Rattle.pb_family.specs.Sinks.{Stops, Takes};
+    ghost use Rattle.pb_family.specs.Handing.{HandsIfMemory};
     ghost use Rattle.pb_family.specs.declared.sink.SinkFault.TheVariants as fault;
-    ghost use Rattle.pb_amo.specs.PairwiseLaws.{pairwise_sound, pairwise_extends, pairwise_counts, pairwise_names};
+    ghost use Rattle.pb_amo.specs.laws.PairwiseLaws.{pairwise_sound, pairwise_extends, pairwise_counts, pairwise_names};
 
     ghost constraint = { λ f. f.of.now };
 
@@ -88,8 +84,7 @@ impl Family for Pairwise<'_> {
         requires original { VarsBelow first (⟦<Self as Family>⟧.constraint self.now).terms }
         requires low { 1 ≤ first }
         requires fits { first + ⟦<Self as Family>⟧.fresh_count self.now ≤ 2 ^ 31 }
-        ensures ok { OnOk result (Takes (clauses_text (⟦<Self as Family>⟧.clause_list self.now first)) (S.state sink.old) (S.state sink.new)) }
-        ensures stops { IfErr result (Stops (clauses_text (⟦<Self as Family>⟧.clause_list self.now first)) (S.state sink.old) (S.state sink.new)) }
+        ensures hands { HandsIfMemory (⟦<Self as Family>⟧.clause_list self.now first) result (S.state sink.old) (S.state sink.new) }
         ensures never { result ≢ Err fault.NoMemory }
     {
         let _ = alloc;
@@ -108,7 +103,7 @@ impl Family for Pairwise<'_> {
 }
 
 impl Strong for Pairwise<'_> {
-    ghost use Rattle.pb_amo.specs.PairwiseLaws.{pairwise_propagates};
+    ghost use Rattle.pb_amo.specs.laws.PairwiseLaws.{pairwise_propagates};
 
     ghost propagates = { λ f first below. pairwise_propagates f.of.now f.at_most_one f.units f.distinct };
 }

@@ -4,7 +4,7 @@ use Rattle.std.specs.Prelude.{Contains, sum}
 use Rattle.pb_diagram.specs.declared.interval.Interval.{Interval}
 use Rattle.pb_diagram.specs.Intervals.{IsPartSum, IsIntervalOf, ChildrenAreOfNodes}
 use Rattle.pb_diagram.specs.Sums.{sums}
-use Rattle.pb_diagram.specs.SumFacts.{sums_without, sums_with, sums_none, sums_all}
+use Rattle.pb_diagram.specs.laws.SumFacts.{sums_without, sums_with, sums_none, sums_all}
 use Rattle.pb_diagram.proofs.Intervals.{part_of_sum, from_part}
 
 -- a sum of the interval's list is above one residue where it is above the other

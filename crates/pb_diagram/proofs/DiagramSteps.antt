@@ -1,6 +1,6 @@
 -- The steps of loops over the levels of a diagram.
 use Rattle.std.proofs.Common.{◌≡◌, ◌<◌, ◌≤◌, ◌+◌, ◌-◌, ◌++◌, ℕ, List, [], ◌∷◌, length, get_or, drop, refl, sym, ap, ◌∙◌, subst, arith, append_assoc, inl, inr, zero, suc}
-use Rattle.std.specs.Prelude.{All}
+use Rattle.std.specs.Prelude.{All, Result, IsErrAnd}
 use Rattle.std.specs.List.{count_by}
 use Rattle.std.proofs.Common.{ltb}
 use Rattle.std.proofs.Math.Seq.{drop-cons}
@@ -15,15 +15,17 @@ use Rattle.pb_norm.specs.BoundedSums.{BoundedSum, sum_within}
 use Rattle.pb_base.proofs.Members.{Contains-nil}
 use Rattle.pb_norm.proofs.AdditionSizes.{weight-cons}
 use Rattle.pb_family.specs.ClauseText.{clauses_text}
+use Rattle.pb_base.specs.declared.fault.Failed.{Failed}
+use Rattle.pb_family.specs.Handing.{Hands}
 use Rattle.pb_family.specs.Sinks.{SinkState, Takes, FailsToTake}
-use Rattle.pb_family.proofs.Emission.{Emitting, emitting_step, emitting_fails}
+use Rattle.pb_family.proofs.Emission.{Emitting, emitting_step, hands_fault}
 use Rattle.pb_diagram.specs.declared.interval.Interval.{Interval}
 use Rattle.pb_diagram.specs.Clauses.{head_level, level_clauses, node_clauses, node_count, inner_count}
-use Rattle.pb_diagram.specs.LevelFacts.{levels_linked, levels_root, level_apart, node_of}
-use Rattle.pb_diagram.specs.LinkedNodes.{head_le}
-use Rattle.pb_diagram.specs.Links.{Stands, Linked, AreLinked}
+use Rattle.pb_diagram.specs.laws.LevelFacts.{levels_linked, levels_root, level_apart, node_of}
+use Rattle.pb_diagram.specs.laws.LinkedNodes.{head_le}
+use Rattle.pb_diagram.specs.laws.Links.{StandApart, Linked, AreLinked}
 use Rattle.pb_diagram.specs.Levels.{coefs_of, levels_of}
-use Rattle.pb_diagram.specs.Search.{nodes_at, before_at}
+use Rattle.pb_diagram.specs.laws.Search.{nodes_at, before_at}
 use Rattle.pb_diagram.proofs.SearchSteps.{levels_from_length, levels_from_at}
 
 linked_drop : (ts : List Weighted) (ls : List (List Interval)) (i : ℕ) → AreLinked ts ls → AreLinked (drop i ts) (drop i ls)
@@ -48,7 +50,7 @@ drop_at xs i d within =
 -- what there is at a level, and after it
 pub record AtLevel (ts : List Weighted) (ls : List (List Interval)) (i : ℕ) (t : Weighted) : Type 0 where
   pub linked : All (Linked t.coef (weight (drop (i + 1) ts)) (nodes_at ls (i + 1))) (nodes_at ls i)
-  pub stands : Stands (nodes_at ls (i + 1))
+  pub stands : StandApart (nodes_at ls (i + 1))
   pub clauses : (first : ℕ) → node_clauses first (drop i ts) (drop i ls) ≡ level_clauses t (weight (drop (i + 1) ts)) (first + length (nodes_at ls i)) (nodes_at ls (i + 1)) first (nodes_at ls i) ++ node_clauses (first + length (nodes_at ls i)) (drop (i + 1) ts) (drop (i + 1) ls)
   pub sums : weight (drop i ts) ≡ t.coef + weight (drop (i + 1) ts)
   pub counts : node_count (drop i ls) ≡ length (nodes_at ls i) + node_count (drop (i + 1) ls)
@@ -56,17 +58,17 @@ pub record AtLevel (ts : List Weighted) (ls : List (List Interval)) (i : ℕ) (t
   pub inner : inner_count (drop i ts) (drop i ls) ≡ count_by (λ g. ltb g.low (weight (drop (i + 1) ts))) (nodes_at ls i) + inner_count (drop (i + 1) ts) (drop (i + 1) ls)
   pub listed : i < length ls
 
-stands_at : (c : BoundedSum) (i : ℕ) → Stands (nodes_at (levels_of c) i)
+stands_at : (c : BoundedSum) (i : ℕ) → StandApart (nodes_at (levels_of c) i)
 stands_at c i =
-    elim (cases_lt i (length (coefs_of c.terms))) as (λ _. Stands (nodes_at (levels_of c) i)) [
+    elim (cases_lt i (length (coefs_of c.terms))) as (λ _. StandApart (nodes_at (levels_of c) i)) [
       | inl within ↦
           let before = before_at [] (coefs_of c.terms) i in
           let rest = drop i (coefs_of c.terms) in
-          subst Stands (sym (levels_from_at c.bound [] (coefs_of c.terms) i within)) (record {
+          subst StandApart (sym (levels_from_at c.bound [] (coefs_of c.terms) i within)) (record {
             apart = level_apart c.bound before rest;
             rise = λ g h. (node_of c.bound before rest g h).interval.rises;
           })
-      | inr past ↦ subst Stands (sym (get_or_past (levels_of c) i [] (omega (arith, levels_from_length c.bound [] (coefs_of c.terms))))) (record { apart = tt; rise = λ g h. absurd (Contains-nil g h) })
+      | inr past ↦ subst StandApart (sym (get_or_past (levels_of c) i [] (omega (arith, levels_from_length c.bound [] (coefs_of c.terms))))) (record { apart = tt; rise = λ g h. absurd (Contains-nil g h) })
     ]
 
 at_level_of : (c : BoundedSum) (i : ℕ) (d : Weighted) → i < length c.terms → AtLevel c.terms (levels_of c) i (get_or c.terms i d)
@@ -109,8 +111,8 @@ read_linked ts ls i t whole nodes next read =
     (subst (λ (l : List Interval). All (Linked t.coef whole l) (nodes_at ls i)) (sym read.next_is)
     (subst (λ (n : ℕ). All (Linked t.coef n (nodes_at ls (i + 1))) (nodes_at ls i)) (sym read.whole_is) read.at.linked))
 
-pub read_stands : (ts : List Weighted) (ls : List (List Interval)) (i : ℕ) (t : Weighted) (whole : ℕ) (nodes next : List Interval) → Read ts ls i t whole nodes next → Stands next
-read_stands ts ls i t whole nodes next read = subst Stands (sym read.next_is) read.at.stands
+pub read_stands : (ts : List Weighted) (ls : List (List Interval)) (i : ℕ) (t : Weighted) (whole : ℕ) (nodes next : List Interval) → Read ts ls i t whole nodes next → StandApart next
+read_stands ts ls i t whole nodes next read = subst StandApart (sym read.next_is) read.at.stands
 
 -- the clauses of the level, and those after it
 pub read_left : (ts : List Weighted) (ls : List (List Interval)) (i : ℕ) (t : Weighted) (whole : ℕ) (nodes next : List Interval) → Read ts ls i t whole nodes next → (start : ℕ) (last : List (List Lit))
@@ -196,12 +198,12 @@ pub level_taken : {R : Type 0} {all : List (List Lit)} {old now : SinkState R} (
 level_taken {all = all} {old} {now} ts ls i t whole nodes next read start last after e taken =
     emitting_step (level_clauses t whole (start + length nodes) next start nodes) after (subst (λ (cs : List (List Lit)). Emitting all cs old now) (read_left ts ls i t whole nodes next read start last) e) taken
 
-pub level_fails : {R : Type 0} {all : List (List Lit)} {old now : SinkState R} (ts : List Weighted) (ls : List (List Interval)) (i : ℕ) (t : Weighted) (whole : ℕ) (nodes next : List Interval) → Read ts ls i t whole nodes next → (start : ℕ) (last : List (List Lit)) (after : SinkState R)
+pub level_fault : {R T : Type 0} {all : List (List Lit)} {old now : SinkState R} (r : Result T Failed) (f : Failed) → IsErrAnd r (λ e. e ≡ f) → (ts : List Weighted) (ls : List (List Interval)) (i : ℕ) (t : Weighted) (whole : ℕ) (nodes next : List Interval) → Read ts ls i t whole nodes next → (start : ℕ) (last : List (List Lit)) (after : SinkState R)
     → Emitting all (node_clauses start (drop i ts) (drop i ls) ++ last) old now
     → FailsToTake (clauses_text (level_clauses t whole (start + length nodes) next start nodes)) now after
-    → FailsToTake (clauses_text all) old after
-level_fails {all = all} {old} {now} ts ls i t whole nodes next read start last after e part =
-    emitting_fails (level_clauses t whole (start + length nodes) next start nodes) (node_clauses (start + length nodes) (drop (i + 1) ts) (drop (i + 1) ls) ++ last) after
+    → Hands all r old after
+level_fault {all = all} {old} {now} r f is ts ls i t whole nodes next read start last after e part =
+    hands_fault r f (level_clauses t whole (start + length nodes) next start nodes) (node_clauses (start + length nodes) (drop (i + 1) ts) (drop (i + 1) ls) ++ last) after is
     (subst (λ (cs : List (List Lit)). Emitting all cs old now) (read_left ts ls i t whole nodes next read start last) e) part
 
 -- what comes after the nodes is left

@@ -3,10 +3,10 @@ use Rattle.std.proofs.Common.{◌≡◌, ◌<◌, ◌≤◌, ◌+◌, ◌-◌, �
 use Rattle.std.specs.Prelude.{Contains, sum}
 use Rattle.std.proofs.lemmas.Bool.{cases_lt, cases_order}
 use Rattle.pb_diagram.specs.declared.interval.Interval.{Interval}
-use Rattle.pb_diagram.specs.Nodes.{LiesIn, IsInterval, IsResidue, IsNode}
-use Rattle.pb_diagram.specs.Search.{IsPart, IsKnown, IsClosed, IsJoined}
+use Rattle.pb_diagram.specs.laws.Nodes.{LiesIn, IsInterval, IsResidue, IsNode}
+use Rattle.pb_diagram.specs.laws.Search.{IsPartSearched, IsKnown, IsIntervalClosed, IsJoined}
 use Rattle.pb_diagram.specs.Sums.{sums}
-use Rattle.pb_diagram.specs.SumFacts.{sums_without, sums_with, sums_cases, sums_none, sums_all, sums-le, sum-cons}
+use Rattle.pb_diagram.specs.laws.SumFacts.{sums_without, sums_with, sums_cases, sums_none, sums_all, sums-le, sum-cons}
 
 -- what is known of a child, shifted: a sum of both that holds the residue, and none of its kind between
 record Side (ss : List ℕ) (residue : ℕ) (side : Interval) : Type 0 where
@@ -14,7 +14,7 @@ record Side (ss : List ℕ) (residue : ℕ) (side : Interval) : Type 0 where
   top_in : Contains ss side.top
   inside : LiesIn residue side
 
-off_side : (bound a : ℕ) (before rest : List ℕ) (next : List Interval) (residue : ℕ) (g : Interval) → IsPart bound (a ∷ before) rest next → residue < sum (a ∷ rest) → IsJoined a (sum rest) next residue g
+off_side : (bound a : ℕ) (before rest : List ℕ) (next : List Interval) (residue : ℕ) (g : Interval) → IsPartSearched bound (a ∷ before) rest next → residue < sum (a ∷ rest) → IsJoined a (sum rest) next residue g
     → (off : Interval) → (sum rest ≤ residue → (off.low ≡ sum rest) × (off.top ≡ sum rest + a)) → (residue < sum rest → Contains next off × LiesIn residue off) → Side (sums (a ∷ rest)) residue off
 off_side bound a before rest next residue g part below joined off at_end at_node =
     let all = sum-cons a rest in
@@ -33,7 +33,7 @@ off_side bound a before rest next residue g part below joined off at_end at_node
           }
     ]
 
-on_side : (bound a : ℕ) (before rest : List ℕ) (next : List Interval) (residue : ℕ) → IsPart bound (a ∷ before) rest next
+on_side : (bound a : ℕ) (before rest : List ℕ) (next : List Interval) (residue : ℕ) → IsPartSearched bound (a ∷ before) rest next
     → (on : Interval) → (residue < a → (on.low ≡ 0) × (on.top ≡ a)) → (a ≤ residue → (h : Interval) × Contains next h × LiesIn (residue - a) h × (on.low ≡ a + h.low) × (on.top ≡ a + h.top)) → Side (sums (a ∷ rest)) residue on
 on_side bound a before rest next residue part on at_end at_node =
     elim (cases_lt residue a) as (λ _. Side (sums (a ∷ rest)) residue on) [
@@ -62,9 +62,9 @@ on_side bound a before rest next residue part on at_end at_node =
 pub record JoinedNode (bound a : ℕ) (before rest : List ℕ) (next : List Interval) (residue : ℕ) (g : Interval) : Type 0 where
   pub node : IsNode bound before (a ∷ rest) g
   pub inside : LiesIn residue g
-  pub closed : IsClosed a rest next g
+  pub closed : IsIntervalClosed a rest next g
 
-pub joined_node : (bound a : ℕ) (before rest : List ℕ) (next : List Interval) (residue : ℕ) (g : Interval) → IsPart bound (a ∷ before) rest next → IsResidue bound before residue → residue < sum (a ∷ rest) → IsJoined a (sum rest) next residue g
+pub joined_node : (bound a : ℕ) (before rest : List ℕ) (next : List Interval) (residue : ℕ) (g : Interval) → IsPartSearched bound (a ∷ before) rest next → IsResidue bound before residue → residue < sum (a ∷ rest) → IsJoined a (sum rest) next residue g
     → JoinedNode bound a before rest next residue g
 joined_node bound a before rest next residue g part reached below joined =
     let off = joined.off in

@@ -7,19 +7,23 @@ use Rattle.std.proofs.lemmas.List.Sums.{sum_by-cons, sum_by-set}
 use Rattle.pb_diagram.specs.declared.interval.Interval.{Interval}
 use Rattle.pb_diagram.specs.Clauses.{node_count}
 use Rattle.pb_diagram.specs.Levels.{level, levels_from}
-use Rattle.pb_diagram.specs.Nodes.{LiesIn, IsResidue, IsNode}
-use Rattle.pb_diagram.specs.LevelFacts.{first_residue, node_of, listed_node, level_apart, node_around, same_interval}
-use Rattle.pb_diagram.specs.Search.{nodes_at, before_at, IsPart, IsClosed, IsSearch, IsGrown}
+use Rattle.pb_diagram.specs.laws.Nodes.{LiesIn, IsInterval, IsResidue, IsNode}
+use Rattle.pb_diagram.specs.laws.LevelFacts.{first_residue, node_of, listed_node, level_apart, node_around, same_interval}
+use Rattle.pb_diagram.specs.laws.Search.{nodes_at, before_at, IsPartSearched, IsIntervalClosed, IsSearch, IsGrown}
 use Rattle.pb_diagram.specs.Sums.{sums}
-use Rattle.pb_diagram.specs.SumFacts.{sums_without, sums_with, sums_cases, sums_none, sums-le, sum-cons}
+use Rattle.pb_diagram.specs.laws.SumFacts.{sums_without, sums_with, sums_cases, sums_none, sums-le, sum-cons}
 use Rattle.pb_diagram.proofs.SameNodes.{same_nodes, length_within}
 use Rattle.pb_diagram.proofs.SearchSteps.{before_at_next, drop_here, levels_from_length, levels_from_at, before_at_first, next_part}
+
+-- a node that holds a residue which a known node holds is that one
+known_node : (ss : List ℕ) (nodes : List Interval) (g h : Interval) (residue : ℕ) → IsInterval ss g → IsInterval ss h → LiesIn residue g → LiesIn residue h → Contains nodes g → Contains nodes h
+known_node ss nodes g h residue is_g is_h in_g in_h among = subst (λ (j : Interval). Contains nodes j) (same_interval ss g h residue is_g is_h in_g in_h) among
 
 -- a node of the next level has a parent, whose child it is
 child_known : (bound a : ℕ) (before rest : List ℕ) (nodes next : List Interval)
     → ((g : Interval) → IsNode bound before (a ∷ rest) g → Contains nodes g)
-    → IsPart bound (a ∷ before) rest next
-    → ((g : Interval) → Contains nodes g → IsClosed a rest next g)
+    → IsPartSearched bound (a ∷ before) rest next
+    → ((g : Interval) → Contains nodes g → IsIntervalClosed a rest next g)
     → (h : Interval) → IsNode bound (a ∷ before) rest h → Contains next h
 child_known bound a before rest nodes next complete part closed h node =
     let r = node.residue in
@@ -36,7 +40,7 @@ child_known bound a before rest nodes next complete part closed h node =
           let is_child = (part.is_node child.0 child.1).interval in
           let in_child = child.2 in
           let up = parent.1.interval.next child.0.top (sums_without a rest child.0.top is_child.top_in) (omega arith) in
-          subst (λ (j : Interval). Contains next j) (same_interval (sums rest) child.0 h r is_child node.interval (omega arith, omega arith) bounds) child.1
+          known_node (sums rest) next child.0 h r is_child node.interval (omega arith, omega arith) bounds child.1
       | inr with_a ↦
           let spent = with_a.2 in
           let parent = node_around bound before (a ∷ rest) (r + a) (record { spent = with_a.0; is_sum = with_a.1; whole = omega arith }) (omega arith) in
@@ -53,7 +57,7 @@ child_known bound a before rest nodes next complete part closed h node =
           let is_child = (part.is_node child.0 child.1).interval in
           let in_child = child.2 in
           let up = parent.1.interval.next (a + child.0.top) (sums_with a rest child.0.top is_child.top_in) (omega arith) in
-          subst (λ (j : Interval). Contains next j) (same_interval (sums rest) child.0 h r is_child node.interval (omega arith, omega arith) bounds) child.1
+          known_node (sums rest) next child.0 h r is_child node.interval (omega arith, omega arith) bounds child.1
     ]
 
 complete_at : (bound : ℕ) (coefs : List ℕ) (known : List (List Interval)) → IsSearch bound coefs known [] → (i : ℕ) → i < length coefs → (g : Interval) → IsNode bound (before_at [] coefs i) (drop i coefs) g → Contains (nodes_at known i) g
@@ -64,7 +68,7 @@ complete_at bound coefs known search zero within g node =
           let is_root = ((search.parts 0 within).is_node root.0 root.1).interval in
           let start : node.residue ≡ bound = first_residue bound node.residue (subst (λ (l : List ℕ). IsResidue bound l node.residue) (before_at_first [] coefs) node.reached) in
           let inside = subst (λ (n : ℕ). LiesIn n g) start node.inside in
-          subst (λ (j : Interval). Contains (nodes_at known 0) j) (same_interval (sums (drop 0 coefs)) root.0 g bound is_root node.interval root.2 inside) root.1
+          known_node (sums (drop 0 coefs)) (nodes_at known 0) root.0 g bound is_root node.interval root.2 inside root.1
     ]
 complete_at bound coefs known search (suc i) within g node =
     let shift : suc i ≡ i + 1 = omega arith in

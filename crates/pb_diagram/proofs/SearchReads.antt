@@ -12,12 +12,12 @@ use Rattle.pb_diagram.specs.declared.interval.Interval.{Interval}
 use Rattle.pb_diagram.specs.declared.search.Top.{Top}
 use Rattle.pb_diagram.specs.Clauses.{node_count}
 use Rattle.pb_diagram.specs.Levels.{coefs_of, levels_of}
-use Rattle.pb_diagram.specs.Search.{nodes_at, before_at, IsPart, IsSearch, IsJoined, IsMissing, IsGrown, IsTop, IsSearching}
-use Rattle.pb_diagram.specs.SumFacts.{sums-le, sum-cons}
+use Rattle.pb_diagram.specs.laws.Search.{nodes_at, before_at, IsPartSearched, IsSearch, IsJoined, IsMissing, IsGrown, IsTop, IsSearching}
+use Rattle.pb_diagram.specs.laws.SumFacts.{sums-le, sum-cons}
 use Rattle.pb_diagram.proofs.SearchSteps.{drop_here, some_left, drop_first, search_starts, search_pushes, search_depth, next_part, search_inserts, joined_apart}
 use Rattle.pb_diagram.proofs.SearchEnds.{rises_of, search_ends, search_count}
 
-next_within : (bound : ℕ) (before rest : List ℕ) (nodes : List Interval) → IsPart bound before rest nodes → (h : Interval) → Contains nodes h → (h.low ≤ sum rest) × (h.top ≤ sum rest)
+next_within : (bound : ℕ) (before rest : List ℕ) (nodes : List Interval) → IsPartSearched bound before rest nodes → (h : Interval) → Contains nodes h → (h.low ≤ sum rest) × (h.top ≤ sum rest)
 next_within bound before rest nodes part h among =
     let interval = (part.is_node h among).interval in
     (sums-le rest h.low interval.low_in, sums-le rest h.top interval.top_in)

@@ -7,11 +7,11 @@ use Rattle.std.proofs.lemmas.List.{length-replicate, get_or_past, get_or-replica
 use Rattle.pb_base.proofs.Members.{Contains-nil, Contains-here}
 use Rattle.pb_diagram.specs.declared.interval.Interval.{Interval}
 use Rattle.pb_diagram.specs.Levels.{level, levels_from}
-use Rattle.pb_diagram.specs.Nodes.{LiesIn, IsResidue, IsNode}
-use Rattle.pb_diagram.specs.LevelFacts.{first_residue, residue_off, residue_on}
-use Rattle.pb_diagram.specs.Search.{nodes_at, before_at, IsPart, IsKnown, IsClosed, IsWanted, IsSearch, IsJoined, IsMissing, IsGrown}
+use Rattle.pb_diagram.specs.laws.Nodes.{LiesIn, IsResidue, IsNode}
+use Rattle.pb_diagram.specs.laws.LevelFacts.{first_residue, residue_off, residue_on}
+use Rattle.pb_diagram.specs.laws.Search.{nodes_at, before_at, IsPartSearched, IsKnown, IsIntervalClosed, IsWanted, IsSearch, IsJoined, IsMissing, IsGrown}
 use Rattle.pb_diagram.specs.Sums.{sums}
-use Rattle.pb_diagram.specs.SumFacts.{sum-cons}
+use Rattle.pb_diagram.specs.laws.SumFacts.{sum-cons}
 use Rattle.pb_diagram.proofs.Joins.{joined_node, apart_from}
 
 -- ---- places
@@ -72,7 +72,7 @@ search_starts bound coefs below =
     let none : (i : ℕ) → i < length coefs → nodes_at known i ≡ [] = λ i within. get_or-replicate (length coefs) i [] [] within in
     record {
       levels = length-replicate (length coefs) [];
-      parts = λ i within. subst (λ (l : List Interval). IsPart bound (before_at [] coefs i) (drop i coefs) l) (sym (none i within)) (record { apart = tt; is_node = λ g h. absurd (Contains-nil g h) });
+      parts = λ i within. subst (λ (l : List Interval). IsPartSearched bound (before_at [] coefs i) (drop i coefs) l) (sym (none i within)) (record { apart = tt; is_node = λ g h. absurd (Contains-nil g h) });
       closed = λ i within g h. absurd (Contains-nil g (subst (λ (l : List Interval). Contains l g) (none i within) h));
       path = start_path bound coefs known below none;
       root = inl (omega arith);
@@ -146,21 +146,21 @@ at_set_keeps known i g more within grown k h among =
       | inr other ↦ subst (λ (l : List Interval). Contains l h) (sym other.1) among
     ]
 
-still_closed : (a : ℕ) (rest : List ℕ) (next more : List Interval) (g : Interval) → ((h : Interval) → Contains next h → Contains more h) → IsClosed a rest next g → IsClosed a rest more g
+still_closed : (a : ℕ) (rest : List ℕ) (next more : List Interval) (g : Interval) → ((h : Interval) → Contains next h → Contains more h) → IsIntervalClosed a rest next g → IsIntervalClosed a rest more g
 still_closed a rest next more g keeps closed = record {
   off = λ inner. let found = closed.off inner in (found.0, keeps found.0 found.1, found.2);
   on = λ room. let found = closed.on room in (found.0, keeps found.0 found.1, found.2);
 }
 
 -- the nodes known of the next level, which are none at the last
-pub next_part : (bound : ℕ) (coefs : List ℕ) (known : List (List Interval)) (wanted : List ℕ) → IsSearch bound coefs known wanted → (i : ℕ) → i < length coefs → IsPart bound (get_or coefs i 0 ∷ before_at [] coefs i) (drop (i + 1) coefs) (nodes_at known (i + 1))
+pub next_part : (bound : ℕ) (coefs : List ℕ) (known : List (List Interval)) (wanted : List ℕ) → IsSearch bound coefs known wanted → (i : ℕ) → i < length coefs → IsPartSearched bound (get_or coefs i 0 ∷ before_at [] coefs i) (drop (i + 1) coefs) (nodes_at known (i + 1))
 next_part bound coefs known wanted search i within =
     let before = get_or coefs i 0 ∷ before_at [] coefs i in
     let rest = drop (i + 1) coefs in
     let same_length = search.levels in
-    elim (cases_lt (i + 1) (length coefs)) as (λ _. IsPart bound before rest (nodes_at known (i + 1))) [
-      | inl inner ↦ subst (λ (l : List ℕ). IsPart bound l rest (nodes_at known (i + 1))) (before_at_next [] coefs i within) (search.parts (i + 1) inner)
-      | inr last ↦ subst (λ (l : List Interval). IsPart bound before rest l) (sym (get_or_past known (i + 1) [] (omega arith))) (record { apart = tt; is_node = λ g h. absurd (Contains-nil g h) })
+    elim (cases_lt (i + 1) (length coefs)) as (λ _. IsPartSearched bound before rest (nodes_at known (i + 1))) [
+      | inl inner ↦ subst (λ (l : List ℕ). IsPartSearched bound l rest (nodes_at known (i + 1))) (before_at_next [] coefs i within) (search.parts (i + 1) inner)
+      | inr last ↦ subst (λ (l : List Interval). IsPartSearched bound before rest l) (sym (get_or_past known (i + 1) [] (omega arith))) (record { apart = tt; is_node = λ g h. absurd (Contains-nil g h) })
     ]
 
 pub search_inserts : (bound : ℕ) (coefs : List ℕ) (known : List (List Interval)) (less : List ℕ) (residue : ℕ) (g : Interval) (more : List Interval) → IsSearch bound coefs known (less ++ residue ∷ [])
@@ -186,9 +186,9 @@ search_inserts bound coefs known less residue g more search joined grown =
     record {
       levels = length-set known i more ∙ search.levels;
       parts = λ k below.
-          elim (at_set known i k more in_known) as (λ _. IsPart bound (before_at [] coefs k) (drop k coefs) (nodes_at now k)) [
-            | inl at ↦ subst (λ (l : List Interval). IsPart bound (before_at [] coefs k) (drop k coefs) l) (sym at.1)
-                (subst (λ (n : ℕ). IsPart bound (before_at [] coefs n) (drop n coefs) more) (sym at.0) (record {
+          elim (at_set known i k more in_known) as (λ _. IsPartSearched bound (before_at [] coefs k) (drop k coefs) (nodes_at now k)) [
+            | inl at ↦ subst (λ (l : List Interval). IsPartSearched bound (before_at [] coefs k) (drop k coefs) l) (sym at.1)
+                (subst (λ (n : ℕ). IsPartSearched bound (before_at [] coefs n) (drop n coefs) more) (sym at.0) (record {
                   apart = grown.apart;
                   is_node = λ h among.
                       elim (grown.cases h among) as (λ _. IsNode bound before (drop i coefs) h) [
@@ -196,14 +196,14 @@ search_inserts bound coefs known less residue g more search joined grown =
                         | inr old ↦ (search.parts i within).is_node h old
                       ];
                 }))
-            | inr other ↦ subst (λ (l : List Interval). IsPart bound (before_at [] coefs k) (drop k coefs) l) (sym other.1) (search.parts k below)
+            | inr other ↦ subst (λ (l : List Interval). IsPartSearched bound (before_at [] coefs k) (drop k coefs) l) (sym other.1) (search.parts k below)
           ];
       closed = λ k below h among.
-          elim (at_set known i k more in_known) as (λ _. IsClosed (get_or coefs k 0) (drop (k + 1) coefs) (nodes_at now (k + 1)) h) [
-            | inl at ↦ elim (grown.cases h (subst (λ (l : List Interval). Contains l h) at.1 among)) as (λ _. IsClosed (get_or coefs k 0) (drop (k + 1) coefs) (nodes_at now (k + 1)) h) [
+          elim (at_set known i k more in_known) as (λ _. IsIntervalClosed (get_or coefs k 0) (drop (k + 1) coefs) (nodes_at now (k + 1)) h) [
+            | inl at ↦ elim (grown.cases h (subst (λ (l : List Interval). Contains l h) at.1 among)) as (λ _. IsIntervalClosed (get_or coefs k 0) (drop (k + 1) coefs) (nodes_at now (k + 1)) h) [
               | inl e ↦
-                  let new : IsClosed a rest (nodes_at known (i + 1)) h = subst (λ (j : Interval). IsClosed a rest (nodes_at known (i + 1)) j) e made.closed in
-                  subst (λ (n : ℕ). IsClosed (get_or coefs n 0) (drop (n + 1) coefs) (nodes_at now (n + 1)) h) (sym at.0) (still_closed a rest (nodes_at known (i + 1)) (nodes_at now (i + 1)) h (keeps (i + 1)) new)
+                  let new : IsIntervalClosed a rest (nodes_at known (i + 1)) h = subst (λ (j : Interval). IsIntervalClosed a rest (nodes_at known (i + 1)) j) e made.closed in
+                  subst (λ (n : ℕ). IsIntervalClosed (get_or coefs n 0) (drop (n + 1) coefs) (nodes_at now (n + 1)) h) (sym at.0) (still_closed a rest (nodes_at known (i + 1)) (nodes_at now (i + 1)) h (keeps (i + 1)) new)
               | inr old ↦ still_closed (get_or coefs k 0) (drop (k + 1) coefs) (nodes_at known (k + 1)) (nodes_at now (k + 1)) h (keeps (k + 1)) (search.closed k below h (subst (λ (n : ℕ). Contains (nodes_at known n) h) (sym at.0) old))
             ]
             | inr other ↦ still_closed (get_or coefs k 0) (drop (k + 1) coefs) (nodes_at known (k + 1)) (nodes_at now (k + 1)) h (keeps (k + 1)) (search.closed k below h (subst (λ (l : List Interval). Contains l h) other.1 among))

@@ -10,7 +10,7 @@ ghost use Rattle.pb_diagram.specs.Levels.{levels_of};
 use crate::interval::Interval;
 use crate::level::{Level, nodes_after};
 use pb_base::Term;
-use pb_family::weight_of;
+use pb_norm::weight_of;
 
 /// How many nodes there are.
 pub fn count_nodes(levels: &[Level]) -> u64

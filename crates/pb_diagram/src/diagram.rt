@@ -49,8 +49,8 @@ impl Diagram {
     ghost use Rattle.pb_norm.specs.Constraints.{weight};
     ghost use Rattle.pb_family.specs.Budgets.{IsOverExactly, IfFits};
 
-    /// The diagram of a sum, if it has no more nodes than the budget. The search holds at most one node over the budget, and
-    /// takes at most two steps for each node of the budget and one for each term.
+    /// The diagram of a sum, if it has no more nodes than the budget. The search ends at the first node over the budget, which
+    /// bounds the memory and time that it takes; no clause says so.
     pub fn build(alloc: Global, of: &AtMost, budget: u64) -> Result<Built<Diagram>, NoMemory>
         requires light { weight of.now.terms < 2 ^ 100 }
         requires modest { budget < 2 ^ 31 }
@@ -81,14 +81,12 @@ impl Diagram {
 }
 
 impl Family for Diagram {
-    ghost use Rattle.std.specs.Prelude.{◌≡◌, ◌≢◌, ◌≤◌, ◌<◌, ◌+◌, ◌^◌, ℕ, List, length, OnOk, IfErr, Err};
-    ghost use Rattle.pb_base.specs.declared.literal.Lit.{Lit};
-    ghost use Rattle.pb_norm.specs.BoundedSums.{BoundedSum, sum_within};
-    ghost use Rattle.pb_family.specs.ClauseText.{clauses_text};
+    ghost use Rattle.std.specs.Prelude.{◌≡◌, ◌≢◌, ◌≤◌, ◌<◌, ◌+◌, ◌^◌, ℕ, Err};
+    ghost use Rattle.pb_norm.specs.BoundedSums.{sum_within};
     ghost use Rattle.pb_family.specs.Families.{VarsBelow};
-    ghost use Rattle.pb_family.specs.Sinks.{Stops, Takes};
+    ghost use Rattle.pb_family.specs.Handing.{HandsIfMemory};
     ghost use Rattle.pb_diagram.specs.Clauses.{diagram_clauses, diagram_fresh, diagram_size};
-    ghost use Rattle.pb_diagram.specs.DiagramLaws.{diagram_sound, diagram_extends, diagram_counts, diagram_names};
+    ghost use Rattle.pb_diagram.specs.laws.DiagramLaws.{diagram_sound, diagram_extends, diagram_counts, diagram_names};
 
     ghost constraint = { λ f. sum_within f.terms.items f.bound };
 
@@ -111,8 +109,7 @@ impl Family for Diagram {
         requires original { VarsBelow first (⟦<Diagram as Family>⟧.constraint self.now).terms }
         requires low { 1 ≤ first }
         requires fits { first + ⟦<Diagram as Family>⟧.fresh_count self.now ≤ 2 ^ 31 }
-        ensures ok { OnOk result (Takes (clauses_text (⟦<Diagram as Family>⟧.clause_list self.now first)) (S.state sink.old) (S.state sink.new)) }
-        ensures stops { IfErr result (Stops (clauses_text (⟦<Diagram as Family>⟧.clause_list self.now first)) (S.state sink.old) (S.state sink.new)) }
+        ensures hands { HandsIfMemory (⟦<Diagram as Family>⟧.clause_list self.now first) result (S.state sink.old) (S.state sink.new) }
         ensures never { result ≢ Err SinkFault.NoMemory }
     {
         emit_whole(
@@ -136,7 +133,7 @@ impl Family for Diagram {
 
 impl Strong for Diagram {
     ghost use Rattle.pb_norm.specs.BoundedSums.{sum_within};
-    ghost use Rattle.pb_diagram.specs.DiagramLaws.{diagram_propagates};
+    ghost use Rattle.pb_diagram.specs.laws.DiagramLaws.{diagram_propagates};
 
     ghost propagates = { λ f first below. diagram_propagates (sum_within f.terms.items f.bound) f.proper first };
 }

@@ -1,18 +1,17 @@
 //! The clauses of the nodes, level by level.
-ghost use Rattle.std.specs.Prelude.{◌≡◌, ◌≤◌, ◌<◌, ◌+◌, ◌-◌, ◌^◌, All, length, OnOk, OnErr};
-ghost use Rattle.std.specs.List.{position_or_len};
+ghost use Rattle.std.specs.Prelude.{◌≡◌, ◌≤◌, ◌<◌, ◌+◌, ◌-◌, ◌^◌, ◌∷◌, [], All, length};
 ghost use Rattle.pb_norm.specs.Constraints.{weight, weighted, weights};
 ghost use Rattle.pb_norm.specs.BoundedSums.{sum_within};
-ghost use Rattle.pb_family.specs.ClauseText.{clause_text, clauses_text};
-ghost use Rattle.pb_family.specs.Sinks.{Takes, FailsToTake};
+ghost use Rattle.pb_family.specs.Handing.{Hands};
 ghost use Rattle.pb_diagram.specs.Clauses.{false_clause, true_clause, level_clauses, diagram_clauses, diagram_fresh};
-ghost use Rattle.pb_diagram.specs.Levels.{lies_in, levels_of};
-ghost use Rattle.pb_diagram.specs.Links.{Linked, Stands};
+ghost use Rattle.pb_diagram.specs.Levels.{levels_of};
+ghost use Rattle.pb_diagram.specs.laws.Links.{HasPlace, Linked, StandApart};
 
 use crate::interval::Interval;
 use crate::level::{Level, node_at, nodes_after};
 use pb_base::{Failed, Term};
-use pb_family::{ClauseSink, fresh_at, weight_of};
+use pb_family::{ClauseSink, fresh_at};
+use pb_norm::weight_of;
 
 /// The nodes of the next level, and where their variables begin.
 #[derive(Clone, Copy)]
@@ -27,24 +26,23 @@ fn emit_false<S: ClauseSink>(
     next: Next,
     first: u32,
     place: usize,
-    interval: Interval,
+    node: Interval,
     sink: &mut S,
 ) -> Result<(), Failed>
-    requires stands { Stands next.nodes.now }
-    requires held { interval.low < whole → position_or_len (lies_in interval.low) next.nodes.now < length next.nodes.now }
+    requires stands { StandApart next.nodes.now }
+    requires held { node.low < whole → HasPlace next.nodes.now node.low }
     requires low { 1 ≤ first }
     requires next_low { 1 ≤ next.first }
     requires high { first + place < 2 ^ 31 }
     requires next_high { next.first + length next.nodes.now ≤ 2 ^ 31 }
-    ensures ok { OnOk result (Takes (clauses_text (false_clause whole next.entry.first next.entry.nodes.now (first + place) interval)) (S.state sink.old) (S.state sink.new)) }
-    ensures failed { OnErr result (FailsToTake (clauses_text (false_clause whole next.entry.first next.entry.nodes.now (first + place) interval)) (S.state sink.old) (S.state sink.new)) }
+    ensures { Hands (false_clause whole next.entry.first next.entry.nodes.now (first + place) node) result (S.state sink.old) (S.state sink.new) }
 {
-    if whole <= interval.low {
+    if whole <= node.low {
         return Ok(());
     }
     sink.clause(&[
         fresh_at(first, place).not(),
-        node_at(next.first, next.nodes, interval.low),
+        node_at(next.first, next.nodes, node.low),
     ])
 }
 
@@ -54,27 +52,26 @@ fn emit_true<S: ClauseSink>(
     next: Next,
     first: u32,
     place: usize,
-    interval: Interval,
+    node: Interval,
     sink: &mut S,
 ) -> Result<(), Failed>
-    requires stands { Stands next.nodes.now }
-    requires held { (weighted term.now).coef ≤ interval.low → position_or_len (lies_in (interval.low - (weighted term.now).coef)) next.nodes.now < length next.nodes.now }
+    requires stands { StandApart next.nodes.now }
+    requires held { (weighted term.now).coef ≤ node.low → HasPlace next.nodes.now (node.low - (weighted term.now).coef) }
     requires low { 1 ≤ first }
     requires next_low { 1 ≤ next.first }
     requires high { first + place < 2 ^ 31 }
     requires next_high { next.first + length next.nodes.now ≤ 2 ^ 31 }
-    ensures ok { OnOk result (Takes (clause_text (true_clause (weighted term.now) next.entry.first next.entry.nodes.now (first + place) interval)) (S.state sink.old) (S.state sink.new)) }
-    ensures failed { OnErr result (FailsToTake (clause_text (true_clause (weighted term.now) next.entry.first next.entry.nodes.now (first + place) interval)) (S.state sink.old) (S.state sink.new)) }
+    ensures { Hands (true_clause (weighted term.now) next.entry.first next.entry.nodes.now (first + place) node ∷ []) result (S.state sink.old) (S.state sink.new) }
 {
-    let node = fresh_at(first, place).not();
+    let not_node = fresh_at(first, place).not();
     let coef = term.weight();
-    if interval.low < coef {
-        sink.clause(&[node, term.lit.not()])
+    if node.low < coef {
+        sink.clause(&[not_node, term.lit.not()])
     } else {
         sink.clause(&[
-            node,
+            not_node,
             term.lit.not(),
-            node_at(next.first, next.nodes, interval.low - coef),
+            node_at(next.first, next.nodes, node.low - coef),
         ])
     }
 }
@@ -89,12 +86,11 @@ fn emit_level<S: ClauseSink>(
     sink: &mut S,
 ) -> Result<(), Failed>
     requires linked { All (Linked (weighted term.now).coef whole next.nodes.now) nodes.now }
-    requires stands { Stands next.nodes.now }
+    requires stands { StandApart next.nodes.now }
     requires low { 1 ≤ first }
     requires after { next.first ≡ first + length nodes.now }
     requires high { next.first + length next.nodes.now ≤ 2 ^ 31 }
-    ensures ok { OnOk result (Takes (clauses_text (level_clauses (weighted term.now) whole next.entry.first next.entry.nodes.now first nodes.now)) (S.state sink.old) (S.state sink.new)) }
-    ensures failed { OnErr result (FailsToTake (clauses_text (level_clauses (weighted term.now) whole next.entry.first next.entry.nodes.now first nodes.now)) (S.state sink.old) (S.state sink.new)) }
+    ensures { Hands (level_clauses (weighted term.now) whole next.entry.first next.entry.nodes.now first nodes.now) result (S.state sink.old) (S.state sink.new) }
 {
     for place in 0..nodes.len() {
         emit_false(whole, next, first, place, nodes[place], sink)?;
@@ -116,8 +112,7 @@ pub fn emit_whole<S: ClauseSink>(
     requires nodes { levels.now ≡ levels_of (sum_within terms.now bound) }
     requires low { 1 ≤ first }
     requires fits { first + diagram_fresh (sum_within terms.now bound) ≤ 2 ^ 31 }
-    ensures ok { OnOk result (Takes (clauses_text (diagram_clauses (sum_within terms.now bound) first)) (S.state sink.old) (S.state sink.new)) }
-    ensures failed { OnErr result (FailsToTake (clauses_text (diagram_clauses (sum_within terms.now bound) first)) (S.state sink.old) (S.state sink.new)) }
+    ensures { Hands (diagram_clauses (sum_within terms.now bound) first) result (S.state sink.old) (S.state sink.new) }
 {
     let mut whole = weight_of(terms);
     let mut start = first;

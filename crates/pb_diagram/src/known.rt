@@ -1,10 +1,9 @@
 //! The nodes of a level that are known.
-ghost use Rattle.std.specs.Prelude.{◌≡◌, ◌≤◌, ◌<◌, ◌⊎◌, [], List, Contains, MatchOption, OnOk, IfOk};
+ghost use Rattle.std.specs.Prelude.{◌≡◌, ◌≤◌, ◌<◌, ◌⊎◌, [], List, Contains, OnOk, IfOk};
 ghost use Rattle.pb_diagram.specs.declared.interval.Interval.{Interval};
 ghost use Rattle.pb_diagram.specs.Intervals.{AreApart};
-ghost use Rattle.pb_diagram.specs.Known.{intervals_of};
-ghost use Rattle.pb_diagram.specs.Nodes.{LiesIn};
-ghost use Rattle.pb_diagram.specs.Search.{IsGrown};
+ghost use Rattle.pb_diagram.specs.laws.Known.{intervals_of};
+ghost use Rattle.pb_diagram.specs.laws.Search.{IsFound, IsGrown};
 
 use crate::interval::Interval;
 use std::alloc::{AllocError, Global};
@@ -21,7 +20,7 @@ pub struct Known {
 impl Model for Known {
     ghost use Rattle.std.specs.Prelude.{List};
     ghost use Rattle.pb_diagram.specs.declared.interval.Interval.{Interval};
-    ghost use Rattle.pb_diagram.specs.Known.{intervals_of};
+    ghost use Rattle.pb_diagram.specs.laws.Known.{intervals_of};
 
     ghost Value = { List Interval };
 
@@ -41,7 +40,7 @@ impl Known {
     /// The interval in which a residue lies.
     pub fn find(&self, residue: u128) -> Option<Interval>
         requires { AreApart self.now }
-        ensures { MatchOption result ((h : Interval) → Contains self.now h → ¬ LiesIn residue h) (λ g. Contains self.now g × LiesIn residue g) }
+        ensures { IsFound self.now residue result }
     {
         match self
             .tops

@@ -3,8 +3,8 @@ ghost use Rattle.std.specs.Prelude.{◌≡◌, ◌≤◌, ◌<◌, ◌+◌, ◌^
 ghost use Rattle.std.specs.List.{position_or_len};
 ghost use Rattle.pb_diagram.specs.Clauses.{node_at};
 ghost use Rattle.pb_diagram.specs.Levels.{lies_in};
-ghost use Rattle.pb_diagram.specs.Links.{Stands};
-ghost use Rattle.pb_diagram.specs.Search.{nodes_at};
+ghost use Rattle.pb_diagram.specs.laws.Links.{HasPlace, StandApart};
+ghost use Rattle.pb_diagram.specs.laws.Search.{nodes_at};
 
 use crate::interval::Interval;
 use pb_base::Lit;
@@ -55,8 +55,8 @@ pub fn nodes_after(levels: &[Level], place: usize) -> &[Interval]
 
 /// The place of the node in which a residue lies.
 fn place(nodes: &[Interval], residue: u128) -> usize
-    requires stands { Stands nodes.now }
-    requires held { position_or_len (lies_in residue) nodes.now < length nodes.now }
+    requires stands { StandApart nodes.now }
+    requires held { HasPlace nodes.now residue }
     ensures { result ≡ position_or_len (lies_in residue) nodes.now }
 {
     nodes.partition_point(|interval| interval.top <= residue)
@@ -64,8 +64,8 @@ fn place(nodes: &[Interval], residue: u128) -> usize
 
 /// The variable of the node in which a residue lies, where the level's variables begin at `first`.
 pub fn node_at(first: u32, nodes: &[Interval], residue: u128) -> Lit
-    requires stands { Stands nodes.now }
-    requires held { position_or_len (lies_in residue) nodes.now < length nodes.now }
+    requires stands { StandApart nodes.now }
+    requires held { HasPlace nodes.now residue }
     requires low { 1 ≤ first }
     requires high { first + length nodes.now ≤ 2 ^ 31 }
     ensures { result ≡ node_at first nodes.now residue }

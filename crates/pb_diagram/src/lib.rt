@@ -13,6 +13,3 @@ mod search;
 
 pub use diagram::Diagram;
 pub use laws::{children_are_of_nodes, nodes_are_intervals};
-
-#[cfg(test)]
-mod tests;

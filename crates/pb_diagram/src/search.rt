@@ -1,18 +1,16 @@
 //! The search for the nodes of a diagram: from the bound down to the children that are not known yet, and up again with the
 //! intervals that they give.
-ghost use Rattle.std.specs.Prelude.{[], replicate, ◌≡◌, ◌≤◌, ◌<◌, ◌+◌, ◌-◌, ◌^◌, ℕ, Contains, MatchOption, IfOk, OnOk, true, false, drop, length, sum, slice_index};
+ghost use Rattle.std.specs.Prelude.{[], replicate, ◌≡◌, ◌≤◌, ◌<◌, ◌+◌, ◌-◌, ◌^◌, Contains, MatchOption, IfOk, OnOk, true, false, length, sum};
 ghost use Rattle.pb_norm.specs.Constraints.{weight};
 ghost use Rattle.pb_diagram.specs.declared.interval.Interval.{Interval};
 ghost use Rattle.pb_diagram.specs.Clauses.{node_count};
 ghost use Rattle.pb_diagram.specs.Intervals.{AreApart};
 ghost use Rattle.pb_diagram.specs.Levels.{coefs_of, levels_of};
-ghost use Rattle.pb_diagram.specs.Nodes.{LiesIn};
-ghost use Rattle.pb_diagram.specs.Search.{nodes_at, IsOff, IsOn, Looked, IsMissing, IsJoined, IsTop, IsSearching, Advanced};
+ghost use Rattle.pb_diagram.specs.laws.Search.{nodes_at, AreAllNodes, IsFound, IsUnknown, IsOff, IsOn, Looked, IsMissing, IsJoined, IsTop, IsSearching, Advanced};
 
 use crate::interval::Interval;
 use crate::known::Known;
-use pb_family::weight_of;
-use pb_norm::AtMost;
+use pb_norm::{AtMost, weight_of};
 use std::alloc::{AllocError, Global};
 
 /// What a look at a residue gives: its node, or a child's residue whose node is not known.
@@ -25,7 +23,7 @@ enum Look {
 /// The node of a level in which a residue lies, if it is known.
 fn find_at(levels: &[Known], place: usize, residue: u128) -> Option<Interval>
     requires { AreApart (nodes_at levels.now place) }
-    ensures { MatchOption result ((h : Interval) → Contains (nodes_at levels.now place) h → ¬ LiesIn residue h) (λ g. Contains (nodes_at levels.now place) g × LiesIn residue g) }
+    ensures { IsFound (nodes_at levels.now place) residue result }
 {
     if place < levels.len() {
         levels[place].find(residue)
@@ -44,7 +42,7 @@ fn off_side(
 ) -> Option<Interval>
     requires apart { AreApart (nodes_at levels.now place) }
     requires fits { whole + coef < 2 ^ 100 }
-    ensures { MatchOption result ((residue < whole) × ((h : Interval) → Contains (nodes_at levels.now place) h → ¬ LiesIn residue h)) (λ off. IsOff coef whole (nodes_at levels.now place) residue off) }
+    ensures { MatchOption result ((residue < whole) × IsUnknown (nodes_at levels.now place) residue) (IsOff coef whole (nodes_at levels.now place) residue) }
 {
     if residue < whole {
         find_at(levels, place, residue)
@@ -67,7 +65,7 @@ fn on_side(
     requires apart { AreApart (nodes_at levels.now place) }
     requires fits { whole + coef < 2 ^ 100 }
     requires within { (h : Interval) → Contains (nodes_at levels.now place) h → (h.low ≤ whole) × (h.top ≤ whole) }
-    ensures { MatchOption result ((coef ≤ residue) × ((h : Interval) → Contains (nodes_at levels.now place) h → ¬ LiesIn (residue - coef) h)) (λ on. IsOn coef (nodes_at levels.now place) residue on) }
+    ensures { MatchOption result ((coef ≤ residue) × IsUnknown (nodes_at levels.now place) (residue - coef)) (IsOn coef (nodes_at levels.now place) residue) }
 {
     if residue < coef {
         return Some(Interval { low: 0, top: coef });
@@ -228,7 +226,7 @@ pub fn known_levels(
     requires above { of.now.bound < weight of.now.terms }
     requires fits { weight of.now.terms < 2 ^ 100 }
     requires small { budget < 2 ^ 31 }
-    ensures { IfOk result (λ found. MatchOption found (budget < node_count (levels_of of.now)) (λ ls. (ls.items ≡ levels_of of.now) × (node_count (levels_of of.now) ≤ budget))) }
+    ensures { IfOk result (λ found. MatchOption found (budget < node_count (levels_of of.now)) (λ ls. AreAllNodes of.now budget ls.items)) }
 {
     let mut search = Search::start(alloc, of)?;
     let mut count = 0;

@@ -1,8 +1,10 @@
 pub mod Taking
 pub mod Emission
+pub mod Stopping
 pub mod Extended
 pub mod Filters
 pub mod FlatRanges
+pub mod Fronts
 pub mod Models
 pub mod Opposites
 pub mod Pushes

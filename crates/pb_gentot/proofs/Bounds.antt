@@ -1,5 +1,5 @@
 -- Bounds on the numbers of a generalized totalizer.
-use Rattle.std.proofs.Common.{◌≡◌, ◌<◌, ◌≤◌, ◌+◌, ◌*◌, ◌/◌, ℕ, List, [], ◌∷◌, length, take, drop, subst, arith, zero, suc, length-drop}
+use Rattle.std.proofs.Common.{◌≡◌, ◌<◌, ◌≤◌, ◌+◌, ◌*◌, ◌/◌, ◌^◌, ℕ, List, [], ◌∷◌, length, take, drop, subst, arith, zero, suc, length-drop}
 use Rattle.std.proofs.lemmas.List.{length-take, length-map}
 use Rattle.std.proofs.lemmas.Nat.{mul-le}
 use Rattle.pb_base.specs.declared.literal.Term.{Term}
@@ -7,7 +7,8 @@ use Rattle.pb_norm.specs.Constraints.{Weighted, weighted, weights, weight}
 use Rattle.pb_tree.specs.Tree.{Tree, node, split_within, tree_of}
 use Rattle.pb_tree.specs.Scheme.{values, fresh_of, clause_count_of}
 use Rattle.pb_tree.proofs.Splitting.{halves}
-use Rattle.pb_tree.proofs.Numbers.{bounds_step}
+use Rattle.pb_tree.proofs.Halves.{Halves}
+use Rattle.pb_tree.proofs.Numbers.{bounds_step, sums_fit}
 use Rattle.pb_gentot.specs.Generalized.{generalized}
 
 pub record Bounds (bound : ℕ) (t : Tree) (n : ℕ) : Type 0 where
@@ -53,8 +54,32 @@ bounds bound ts some =
     let long : length (weights ts) ≡ length ts = length-map ts weighted in
     subst (λ (n : ℕ). Bounds bound (tree_of (weights ts)) n) long (bounds_within bound (length (weights ts)) (weights ts) (omega arith) (omega arith))
 
-pub pair_bound : (a b m n : ℕ) → a ≤ m → b ≤ n → a * b + a + b + 1 ≤ (m + 1) * (n + 1)
-pair_bound a b m n h k = grid a b m n h k
+-- the numbers of two halves fit, and those of a node over them
+pub record Sizes (bound : ℕ) (l r : Tree) : Type 0 where
+  pub left_small : length (values (generalized bound) l) < 2 ^ 32
+  pub right_small : length (values (generalized bound) r) < 2 ^ 32
+  pub parts_fit : clause_count_of (generalized bound) l + clause_count_of (generalized bound) r < 2 ^ 64
+  pub all_fit : clause_count_of (generalized bound) l + clause_count_of (generalized bound) r
+      + (length (values (generalized bound) l) * length (values (generalized bound) r) + length (values (generalized bound) l) + length (values (generalized bound) r)) < 2 ^ 64
+
+pub sizes_of : (bound budget : ℕ) (ts fronts backs : List Term) → Halves ts fronts backs → length ts < 2 ^ 31 → budget < 2 ^ 24
+    → fresh_of (generalized bound) (tree_of (weights fronts)) + fresh_of (generalized bound) (tree_of (weights backs)) ≤ budget
+    → Sizes bound (tree_of (weights fronts)) (tree_of (weights backs))
+sizes_of bound budget ts fronts backs halves few modest fits =
+    let s = generalized bound in
+    let l = tree_of (weights fronts) in
+    let r = tree_of (weights backs) in
+    let a = length (values s l) in
+    let b = length (values s r) in
+    let one = bounds bound fronts halves.front_some in
+    let two = bounds bound backs halves.back_some in
+    let m = fresh_of s l + length fronts in
+    let n = fresh_of s r + length backs in
+    let some : 1 ≤ m = omega (arith, halves.front_some) in
+    let also : 1 ≤ n = omega (arith, halves.back_some) in
+    let small : m + n < 2 ^ 32 = omega (arith, halves.whole) in
+    let fit = sums_fit m n (clause_count_of s l) (clause_count_of s r) (a * b + a + b) some also small one.clauses two.clauses (grid a b m n one.count two.count) in
+    record { left_small = omega (arith, one.count); right_small = omega (arith, two.count); parts_fit = fit.0; all_fit = fit.1 }
 
 pub some_terms : (bound : ℕ) (ts : List Weighted) → bound < weight ts → 1 ≤ length ts
 some_terms bound [] passes = absurd (omega arith)

@@ -1,6 +1,5 @@
 -- The clauses of a node over two parts, as the code hands them over.
-use Rattle.std.proofs.Common.{◌≡◌, ◌+◌, ◌++◌, ℕ, List, min, sym, ap, ◌∙◌, subst}
-use Rattle.std.specs.Prelude.{All, Contains}
+use Rattle.std.proofs.Common.{◌≡◌, ◌+◌, ◌++◌, ℕ, List, sym, ap, ◌∙◌, subst}
 use Rattle.pb_base.specs.declared.literal.Lit.{Lit}
 use Rattle.pb_base.specs.declared.literal.Term.{Term}
 use Rattle.pb_norm.specs.Constraints.{weights}
@@ -8,14 +7,12 @@ use Rattle.pb_base.proofs.Members.{Contains-nil}
 use Rattle.pb_family.specs.Fresh.{positive_of}
 use Rattle.pb_tree.specs.Tree.{Tree, empty, leaf, node, tree_of}
 use Rattle.pb_tree.specs.Scheme.{values, fresh_of, output, clauses_of}
-use Rattle.pb_tree.proofs.Extending.{all_from_each}
 use Rattle.pb_tree.specs.Places.{place_of}
-use Rattle.pb_gentot.specs.Outputs.{output_in}
+use Rattle.pb_gentot.specs.laws.Outputs.{output_in}
 use Rattle.pb_gentot.specs.declared.outputs.Outputs.TheVariants.{Fresh}
-use Rattle.pb_gentot.specs.Rising.{Rising}
+use Rattle.pb_gentot.specs.laws.Rising.{Rising}
 use Rattle.pb_gentot.proofs.RisingLists.{rising_ascending}
 use Rattle.pb_gentot.specs.Generalized.{generalized, value_clauses, sums}
-use Rattle.pb_gentot.specs.GeneralizedLaws.{left_value, right_value, both_value}
 
 rising_of : (bound : ℕ) (t : Tree) → Rising (values (generalized bound) t)
 rising_of bound empty = tt
@@ -24,22 +21,6 @@ rising_of bound (node l r) = rising_ascending (bound + 1) (sums (bound + 1) (val
 
 pub rising_values : (bound : ℕ) (t : Tree) (us : List ℕ) → us ≡ values (generalized bound) t → Rising us
 rising_values bound t us is = subst Rising (sym is) (rising_of bound t)
-
-pub has_left : (bound : ℕ) (l r : Tree) (us ws : List ℕ) → us ≡ values (generalized bound) l → ws ≡ values (generalized bound) (node l r) → All (Contains ws) us
-has_left bound l r us ws left own =
-    all_from_each (Contains ws) us (λ u h. subst (λ (xs : List ℕ). Contains xs u) (sym own) (left_value bound l r u (subst (λ (xs : List ℕ). Contains xs u) left h)))
-
-pub has_right : (bound : ℕ) (l r : Tree) (vs ws : List ℕ) → vs ≡ values (generalized bound) r → ws ≡ values (generalized bound) (node l r) → All (Contains ws) vs
-has_right bound l r vs ws right own =
-    all_from_each (Contains ws) vs (λ v h. subst (λ (xs : List ℕ). Contains xs v) (sym own) (right_value bound l r v (subst (λ (xs : List ℕ). Contains xs v) right h)))
-
-pub has_both : (bound : ℕ) (l r : Tree) (us vs ws : List ℕ) → us ≡ values (generalized bound) l → vs ≡ values (generalized bound) r → ws ≡ values (generalized bound) (node l r)
-    → All (λ u. All (λ v. Contains ws (min (u + v) (bound + 1))) vs) us
-has_both bound l r us vs ws left right own =
-    all_from_each (λ u. All (λ v. Contains ws (min (u + v) (bound + 1))) vs) us (λ u h.
-    all_from_each (λ v. Contains ws (min (u + v) (bound + 1))) vs (λ v k.
-    subst (λ (xs : List ℕ). Contains xs (min (u + v) (bound + 1))) (sym own)
-    (both_value bound l r u v (subst (λ (xs : List ℕ). Contains xs u) left h) (subst (λ (xs : List ℕ). Contains xs v) right k))))
 
 abbrev pub own_clauses : ℕ → Tree → Tree → ℕ → ℕ → List (List Lit)
 own_clauses bound l r first next =

@@ -12,9 +12,9 @@ use Rattle.std.proofs.lemmas.List.{take_more, take_all}
 use Rattle.pb_base.proofs.Members.{Contains-nil, Contains-here, Contains-there, Contains-cons_cases}
 use Rattle.pb_tree.proofs.Lists.{Contains-flat_map, Contains-flat_map_cases}
 use Rattle.pb_gentot.specs.Generalized.{sums, ascending}
-use Rattle.pb_gentot.specs.GeneralizedLaws.{ascending_has, ascending_cases}
-use Rattle.pb_gentot.specs.Members.{SameMembers}
-use Rattle.pb_gentot.specs.Rising.{Rising}
+use Rattle.pb_gentot.specs.laws.GeneralizedLaws.{ascending_has, ascending_cases}
+use Rattle.pb_gentot.specs.laws.Members.{SameMembers}
+use Rattle.pb_gentot.specs.laws.Rising.{Rising}
 use Rattle.pb_gentot.proofs.RisingLists.{rising_same, rising_ascending, sums_within}
 
 pub same_itself : (xs : List ℕ) → SameMembers xs xs

@@ -2,6 +2,7 @@ pub mod Bounds
 pub mod Emitting
 pub mod Joining
 pub mod Marking
+pub mod Over
 pub mod Parts
 pub mod Ranking
 pub mod RisingLists

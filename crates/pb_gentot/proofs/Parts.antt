@@ -7,10 +7,15 @@ use Rattle.pb_tree.specs.Tree.{Tree, node, tree_of}
 use Rattle.pb_tree.specs.Scheme.{values, fresh_of, clause_count_of}
 use Rattle.pb_tree.proofs.Extending.{all_from_each}
 use Rattle.pb_gentot.specs.Generalized.{generalized, ascending, sums}
-use Rattle.pb_gentot.specs.GeneralizedLaws.{values_within}
+use Rattle.pb_gentot.specs.laws.GeneralizedLaws.{values_within}
 
 pub all_within : (bound : ℕ) (t : Tree) (us : List ℕ) → us ≡ values (generalized bound) t → All (λ u. u ≤ bound + 1) us
 all_within bound t us is = all_from_each (λ u. u ≤ bound + 1) us (λ u h. values_within bound t u (subst (λ (xs : List ℕ). Contains xs u) is h))
+
+pub values_are_over : (bound : ℕ) (l r : Tree) (us vs : List ℕ) → us ≡ values (generalized bound) l → vs ≡ values (generalized bound) r
+    → ascending (bound + 1) (sums (bound + 1) us vs) ≡ values (generalized bound) (node l r)
+values_are_over bound l r us vs left right =
+    ap (λ (xs : List ℕ). ascending (bound + 1) (sums (bound + 1) xs vs)) left ∙ ap (λ (xs : List ℕ). ascending (bound + 1) (sums (bound + 1) (values (generalized bound) l) xs)) right
 
 -- the numbers of the node
 pub record Numbers (bound : ℕ) (ts : List Term) (l r : Tree) (made : List ℕ) : Type 0 where
@@ -22,7 +27,7 @@ pub record Numbers (bound : ℕ) (ts : List Term) (l r : Tree) (made : List ℕ)
 pub numbers_of : (bound : ℕ) (ts : List Term) (l r : Tree) (us vs made : List ℕ) → tree_of (weights ts) ≡ node l r → us ≡ values (generalized bound) l → vs ≡ values (generalized bound) r
     → made ≡ ascending (bound + 1) (sums (bound + 1) us vs) → Numbers bound ts l r made
 numbers_of bound ts l r us vs made tree left right is =
-    let same : made ≡ values (generalized bound) (node l r) = is ∙ ap (λ (xs : List ℕ). ascending (bound + 1) (sums (bound + 1) xs vs)) left ∙ ap (λ (xs : List ℕ). ascending (bound + 1) (sums (bound + 1) (values (generalized bound) l) xs)) right in
+    let same : made ≡ values (generalized bound) (node l r) = is ∙ values_are_over bound l r us vs left right in
     let long = ap length same in
     let fresh = ap (fresh_of (generalized bound)) tree in
     record {

@@ -1,9 +1,3 @@
 pub mod Examples
 pub mod Generalized
-pub mod GeneralizedLaws
-pub mod Marks
-pub mod Measured
-pub mod Members
-pub mod Nodes
-pub mod Outputs
-pub mod Rising
+pub mod laws

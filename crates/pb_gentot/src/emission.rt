@@ -1,12 +1,9 @@
 //! The clauses of a node, one after another.
-ghost use Rattle.std.specs.Prelude.{◌≤◌, ◌<◌, ◌+◌, ◌^◌, All, map, min, length, slice_index, Contains, OnOk, OnErr};
-ghost use Rattle.std.specs.List.{flat_map};
-ghost use Rattle.pb_family.specs.ClauseText.{clauses_text};
-ghost use Rattle.pb_family.specs.Sinks.{Takes, FailsToTake};
-ghost use Rattle.pb_gentot.specs.Nodes.{IsReady, own_output};
-ghost use Rattle.pb_gentot.specs.Outputs.{output_in, HasRoom};
-ghost use Rattle.pb_gentot.specs.Rising.{Rising};
-ghost use Rattle.pb_gentot.specs.Generalized.{one_clause, both_clause, value_clauses};
+ghost use Rattle.std.specs.Prelude.{◌≤◌, ◌<◌, ◌+◌, ◌^◌, All, min, length, slice_index, Contains};
+ghost use Rattle.pb_family.specs.Handing.{Hands};
+ghost use Rattle.pb_gentot.specs.laws.Nodes.{IsReady, ones_over, row_over, pairs_over, clauses_over};
+ghost use Rattle.pb_gentot.specs.laws.Outputs.{HasRoom};
+ghost use Rattle.pb_gentot.specs.laws.Rising.{Rising};
 
 use crate::node::Node;
 use crate::outputs::Outputs;
@@ -24,8 +21,7 @@ fn emit_ones<S: ClauseSink>(
     requires room { HasRoom outputs.now (length values.now) }
     requires ready { IsReady own.now }
     requires has { All (Contains own.now.values.items) values.now }
-    ensures ok { OnOk result (Takes (clauses_text (map (one_clause (output_in outputs.now values.now) (own_output own.now)) values.now)) (S.state sink.old) (S.state sink.new)) }
-    ensures failed { OnErr result (FailsToTake (clauses_text (map (one_clause (output_in outputs.now values.now) (own_output own.now)) values.now)) (S.state sink.old) (S.state sink.new)) }
+    ensures { Hands (ones_over outputs.now values.now own.now) result (S.state sink.old) (S.state sink.new) }
 {
     for i in 0..values.len() {
         sink.clause(&[outputs.at(values, i).not(), own.of(values[i])])?;
@@ -54,8 +50,7 @@ fn emit_row<S: ClauseSink>(
     requires right_small { All (λ v. v ≤ cap) rights.now }
     requires few { cap < 2 ^ 101 }
     requires has { All (λ v. Contains own.now.values.items (min (slice_index lefts.now i + v) cap)) rights.now }
-    ensures ok { OnOk result (Takes (clauses_text (map (both_clause cap (output_in left.now lefts.now) (output_in right.now rights.now) (own_output own.now) (slice_index lefts.now i)) rights.now)) (S.state sink.old) (S.state sink.new)) }
-    ensures failed { OnErr result (FailsToTake (clauses_text (map (both_clause cap (output_in left.now lefts.now) (output_in right.now rights.now) (own_output own.now) (slice_index lefts.now i)) rights.now)) (S.state sink.old) (S.state sink.new)) }
+    ensures { Hands (row_over cap left.now lefts.now right.now rights.now own.now (slice_index lefts.now i)) result (S.state sink.old) (S.state sink.new) }
 {
     let value = lefts[i];
     let literal = left.at(lefts, i);
@@ -85,8 +80,7 @@ fn emit_pairs<S: ClauseSink>(
     requires right_small { All (λ v. v ≤ cap) rights.now }
     requires few { cap < 2 ^ 101 }
     requires has { All (λ u. All (λ v. Contains own.now.values.items (min (u + v) cap)) rights.now) lefts.now }
-    ensures ok { OnOk result (Takes (clauses_text (flat_map (λ u. map (both_clause cap (output_in left.now lefts.now) (output_in right.now rights.now) (own_output own.now) u) rights.now) lefts.now)) (S.state sink.old) (S.state sink.new)) }
-    ensures failed { OnErr result (FailsToTake (clauses_text (flat_map (λ u. map (both_clause cap (output_in left.now lefts.now) (output_in right.now rights.now) (own_output own.now) u) rights.now) lefts.now)) (S.state sink.old) (S.state sink.new)) }
+    ensures { Hands (pairs_over cap left.now lefts.now right.now rights.now own.now) result (S.state sink.old) (S.state sink.new) }
 {
     for i in 0..lefts.len() {
         emit_row(lefts, left, i, rights, right, own, cap, sink)?;
@@ -115,11 +109,9 @@ pub fn emit_node<S: ClauseSink>(
     requires has_lefts { All (Contains own.now.values.items) lefts.now }
     requires has_rights { All (Contains own.now.values.items) rights.now }
     requires has { All (λ u. All (λ v. Contains own.now.values.items (min (u + v) cap)) rights.now) lefts.now }
-    ensures ok { OnOk result (Takes (clauses_text (value_clauses cap lefts.now rights.now (output_in left.now lefts.now) (output_in right.now rights.now) (own_output own.now))) (S.state sink.old) (S.state sink.new)) }
-    ensures failed { OnErr result (FailsToTake (clauses_text (value_clauses cap lefts.now rights.now (output_in left.now lefts.now) (output_in right.now rights.now) (own_output own.now))) (S.state sink.old) (S.state sink.new)) }
+    ensures { Hands (clauses_over cap left.now lefts.now right.now rights.now own.now) result (S.state sink.old) (S.state sink.new) }
 {
     emit_ones(lefts, left, own, sink)?;
     emit_ones(rights, right, own, sink)?;
-    emit_pairs(lefts, left, rights, right, own, cap, sink)?;
-    Ok(())
+    emit_pairs(lefts, left, rights, right, own, cap, sink)
 }

@@ -13,6 +13,3 @@ mod tree;
 mod weighted;
 
 pub use weighted::Weighted;
-
-#[cfg(test)]
-mod tests;

@@ -2,7 +2,7 @@
 ghost use Rattle.std.specs.Prelude.{◌≡◌, ◌≤◌, ◌<◌, ◌+◌, ◌*◌, ◌^◌, length, IfOk};
 ghost use Rattle.pb_norm.specs.Constraints.{weights};
 ghost use Rattle.pb_tree.specs.Tree.{tree_of};
-ghost use Rattle.pb_gentot.specs.Measured.{IsMeasured};
+ghost use Rattle.pb_gentot.specs.laws.Measured.{IsMeasured};
 
 use crate::sets::{joined, single};
 use pb_base::Term;

@@ -1,8 +1,8 @@
 //! The values of a node.
 ghost use Rattle.std.specs.Prelude.{◌≡◌, ◌≤◌, ◌<◌, ◌+◌, ◌^◌, ◌++◌, ◌∷◌, [], All, map, min, length, IfOk, IfSome, IfNone};
-ghost use Rattle.pb_gentot.specs.Rising.{Rising};
-ghost use Rattle.pb_gentot.specs.Marks.{MarksOnly};
-ghost use Rattle.pb_gentot.specs.Members.{SameMembers};
+ghost use Rattle.pb_gentot.specs.laws.Rising.{Rising};
+ghost use Rattle.pb_gentot.specs.laws.Marks.{MarksOnly};
+ghost use Rattle.pb_gentot.specs.laws.Members.{SameMembers};
 ghost use Rattle.pb_gentot.specs.Generalized.{sums, ascending};
 
 use crate::seen::Seen;

@@ -1,11 +1,11 @@
 //! The clauses of a generalized totalizer, part by part.
-ghost use Rattle.std.specs.Prelude.{◌≡◌, ◌≤◌, ◌<◌, ◌+◌, ◌^◌, length, Contains, OnOk, OnErr, IfOk, IfErr};
+ghost use Rattle.std.specs.Prelude.{◌≡◌, ◌≤◌, ◌<◌, ◌+◌, ◌^◌, length, Contains, IfOk};
 ghost use Rattle.pb_norm.specs.Constraints.{weights};
-ghost use Rattle.pb_family.specs.ClauseText.{clauses_text};
-ghost use Rattle.pb_family.specs.Sinks.{Stops, Takes};
+ghost use Rattle.pb_family.specs.Handing.{HandsIfMemory};
 ghost use Rattle.pb_tree.specs.Tree.{tree_of};
 ghost use Rattle.pb_tree.specs.Scheme.{values, fresh_of, output, clauses_of, tree_clauses};
-ghost use Rattle.pb_gentot.specs.Outputs.{output_in, HasRoom};
+ghost use Rattle.pb_gentot.specs.laws.Outputs.{output_in, HasRoom};
+ghost use Rattle.pb_gentot.specs.laws.Parts.{IsPartWithin, values_over, output_over, clauses_over_parts};
 ghost use Rattle.pb_gentot.specs.Generalized.{generalized};
 
 use crate::emission::emit_node;
@@ -26,37 +26,25 @@ pub struct Emitted {
     pub next: u32,
 }
 
-/// Hands over the clauses of some terms, whose fresh variables begin at a number.
-pub fn emit_part<S: ClauseSink>(
+/// Hands over a node's own clauses, over two parts.
+fn emit_over<S: ClauseSink>(
     alloc: Global,
-    terms: &[Term],
-    bound: u128,
-    first: u32,
+    left: &Emitted,
+    right: &Emitted,
+    cap: u128,
     sink: &mut S,
 ) -> Result<Emitted, SinkFault>
-    requires some { 1 ≤ length terms.now }
-    requires small { bound < 2 ^ 100 }
-    requires low { 1 ≤ first }
-    requires fits { first + fresh_of (generalized bound) (tree_of (weights terms.now)) ≤ 2 ^ 31 }
-    ensures ok { OnOk result (Takes (clauses_text (clauses_of (generalized bound) (tree_of (weights terms.now)) first)) (S.state sink.old) (S.state sink.new)) }
-    ensures values { IfOk result (λ part. part.values.items ≡ values (generalized bound) (tree_of (weights terms.now))) }
-    ensures outputs { IfOk result (λ part. output_in part.outputs part.values.items ≡ output (generalized bound) (tree_of (weights terms.now)) first) }
+    requires left { IsPartWithin cap left.now }
+    requires right { IsPartWithin cap right.now }
+    requires few { cap < 2 ^ 101 }
+    requires low { 1 ≤ right.now.next }
+    requires fits { right.now.next + length (values_over cap left.now right.now) ≤ 2 ^ 31 }
+    ensures hands { HandsIfMemory (clauses_over_parts cap left.now right.now) result (S.state sink.old) (S.state sink.new) }
+    ensures values { IfOk result (λ part. part.values.items ≡ values_over cap left.now right.now) }
+    ensures outputs { IfOk result (λ part. output_in part.outputs part.values.items ≡ output_over cap left.now right.now) }
     ensures room { IfOk result (λ part. HasRoom part.outputs (length part.values.items)) }
-    ensures next { IfOk result (λ part. part.next ≡ first + fresh_of (generalized bound) (tree_of (weights terms.now))) }
-    ensures stops { IfErr result (Stops (clauses_text (clauses_of (generalized bound) (tree_of (weights terms.now)) first)) (S.state sink.old) (S.state sink.new)) }
+    ensures next { IfOk result (λ part. part.next ≡ right.now.next + length (values_over cap left.now right.now)) }
 {
-    let cap = bound + 1;
-    if terms.len() == 1 {
-        let values = single(alloc, terms[0].weight().min(cap))?;
-        return Ok(Emitted {
-            values,
-            outputs: Outputs::Single(terms[0].lit),
-            next: first,
-        });
-    }
-    let (fronts, backs) = terms.split_at(terms.len() / 2);
-    let left = emit_part(alloc, fronts, bound, first, sink)?;
-    let right = emit_part(alloc, backs, bound, left.next, sink)?;
     let lefts = left.values.as_slice();
     let rights = right.values.as_slice();
     let found = joined(alloc, lefts, rights, cap, 1 << 31)?;
@@ -85,6 +73,39 @@ pub fn emit_part<S: ClauseSink>(
     })
 }
 
+/// Hands over the clauses of some terms, whose fresh variables begin at a number.
+pub fn emit_part<S: ClauseSink>(
+    alloc: Global,
+    terms: &[Term],
+    bound: u128,
+    first: u32,
+    sink: &mut S,
+) -> Result<Emitted, SinkFault>
+    requires some { 1 ≤ length terms.now }
+    requires small { bound < 2 ^ 100 }
+    requires low { 1 ≤ first }
+    requires fits { first + fresh_of (generalized bound) (tree_of (weights terms.now)) ≤ 2 ^ 31 }
+    ensures hands { HandsIfMemory (clauses_of (generalized bound) (tree_of (weights terms.now)) first) result (S.state sink.old) (S.state sink.new) }
+    ensures values { IfOk result (λ part. part.values.items ≡ values (generalized bound) (tree_of (weights terms.now))) }
+    ensures outputs { IfOk result (λ part. output_in part.outputs part.values.items ≡ output (generalized bound) (tree_of (weights terms.now)) first) }
+    ensures room { IfOk result (λ part. HasRoom part.outputs (length part.values.items)) }
+    ensures next { IfOk result (λ part. part.next ≡ first + fresh_of (generalized bound) (tree_of (weights terms.now))) }
+{
+    let cap = bound + 1;
+    if terms.len() == 1 {
+        let values = single(alloc, terms[0].weight().min(cap))?;
+        return Ok(Emitted {
+            values,
+            outputs: Outputs::Single(terms[0].lit),
+            next: first,
+        });
+    }
+    let (fronts, backs) = terms.split_at(terms.len() / 2);
+    let left = emit_part(alloc, fronts, bound, first, sink)?;
+    let right = emit_part(alloc, backs, bound, left.next, sink)?;
+    emit_over(alloc, &left, &right, cap, sink)
+}
+
 /// Hands over the clauses of some terms, with that of the root.
 pub fn emit_whole<S: ClauseSink>(
     alloc: Global,
@@ -98,8 +119,7 @@ pub fn emit_whole<S: ClauseSink>(
     requires root { Contains (values (generalized bound) (tree_of (weights terms.now))) (bound + 1) }
     requires low { 1 ≤ first }
     requires fits { first + fresh_of (generalized bound) (tree_of (weights terms.now)) ≤ 2 ^ 31 }
-    ensures ok { OnOk result (Takes (clauses_text (tree_clauses (generalized bound) (tree_of (weights terms.now)) first)) (S.state sink.old) (S.state sink.new)) }
-    ensures stops { IfErr result (Stops (clauses_text (tree_clauses (generalized bound) (tree_of (weights terms.now)) first)) (S.state sink.old) (S.state sink.new)) }
+    ensures { HandsIfMemory (tree_clauses (generalized bound) (tree_of (weights terms.now)) first) result (S.state sink.old) (S.state sink.new) }
 {
     let root = emit_part(alloc, terms, bound, first, sink)?;
     sink.clause(&[root.outputs.of(root.values.as_slice(), bound + 1).not()])?;

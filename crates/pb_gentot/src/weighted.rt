@@ -33,7 +33,6 @@ impl Weighted {
     /// The generalized totalizer of a sum, if it has no more fresh variables than the budget.
     pub fn build(alloc: Global, of: &AtMost, budget: u64) -> Result<Built<Weighted>, NoMemory>
         requires light { weight of.now.terms < 2 ^ 100 }
-        requires few { length of.now.terms < 2 ^ 31 }
         requires modest { budget ≤ 10000000 }
         ensures over { IfOk result (λ built. IsOverExactly (generalized_fresh of.now) budget built) }
         ensures constraint { IfOk result (λ built. IfFits (λ t. ⟦<Weighted as Family>⟧.constraint t ≡ of.now) built) }
@@ -58,14 +57,13 @@ impl Weighted {
 }
 
 impl Family for Weighted {
-    ghost use Rattle.std.specs.Prelude.{◌≡◌, ◌≢◌, ◌≤◌, ◌<◌, ◌+◌, ◌^◌, ℕ, List, length, OnOk, IfErr, Err};
+    ghost use Rattle.std.specs.Prelude.{◌≡◌, ◌≤◌, ◌+◌, ◌^◌, ℕ, List, length};
     ghost use Rattle.pb_base.specs.declared.literal.Lit.{Lit};
     ghost use Rattle.pb_norm.specs.BoundedSums.{BoundedSum, sum_within};
-    ghost use Rattle.pb_family.specs.ClauseText.{clauses_text};
     ghost use Rattle.pb_family.specs.Families.{VarsBelow};
-    ghost use Rattle.pb_family.specs.Sinks.{Stops, Takes};
+    ghost use Rattle.pb_family.specs.Handing.{HandsIfMemory};
     ghost use Rattle.pb_gentot.specs.Generalized.{generalized_clauses, generalized_fresh, generalized_size};
-    ghost use Rattle.pb_gentot.specs.GeneralizedLaws.{generalized_sound, generalized_extends, generalized_counts, generalized_names};
+    ghost use Rattle.pb_gentot.specs.laws.GeneralizedLaws.{generalized_sound, generalized_extends, generalized_counts, generalized_names};
 
     ghost constraint = { λ f. sum_within f.terms.items f.bound };
 
@@ -103,7 +101,7 @@ impl Family for Weighted {
 
 impl Strong for Weighted {
     ghost use Rattle.pb_norm.specs.BoundedSums.{sum_within};
-    ghost use Rattle.pb_gentot.specs.GeneralizedLaws.{generalized_propagates};
+    ghost use Rattle.pb_gentot.specs.laws.GeneralizedLaws.{generalized_propagates};
 
     ghost propagates = { λ f first below. generalized_propagates (sum_within f.terms.items f.bound) f.proper first };
 }

@@ -1,12 +1,11 @@
 //! The clauses of a totalizer, one after another.
-ghost use Rattle.std.specs.Prelude.{◌≡◌, ◌≤◌, ◌<◌, ◌+◌, ◌-◌, ◌^◌, map, min, length, OnOk, OnErr, IfOk};
+ghost use Rattle.std.specs.Prelude.{◌≡◌, ◌≤◌, ◌<◌, ◌+◌, ◌-◌, ◌^◌, ◌∷◌, [], min, length, IfOk};
 ghost use Rattle.pb_norm.specs.Constraints.{weights};
-ghost use Rattle.pb_family.specs.ClauseText.{clause_text, clauses_text};
-ghost use Rattle.pb_family.specs.Sinks.{Takes, FailsToTake};
+ghost use Rattle.pb_family.specs.Handing.{Hands};
 ghost use Rattle.pb_tree.specs.Tree.{tree_of};
 ghost use Rattle.pb_tree.specs.Scheme.{values, fresh_of, output, clauses_of, tree_clauses};
-ghost use Rattle.pb_totalizer.specs.Outputs.{output_count, output_at};
-ghost use Rattle.pb_totalizer.specs.Totalizer.{sum_clause, partners, sum_clauses, totalizer};
+ghost use Rattle.pb_totalizer.specs.laws.Outputs.{output_count, output_at, clause_over, row_over, clauses_over};
+ghost use Rattle.pb_totalizer.specs.Totalizer.{totalizer};
 
 use crate::outputs::{Outputs, Run};
 use pb_base::{Failed, Term};
@@ -26,8 +25,7 @@ fn hand_over<S: ClauseSink>(
     requires some { 1 ≤ i + j }
     requires own_has { i + j ≤ output_count own.now }
     requires few { output_count own.now < 2 ^ 32 }
-    ensures ok { OnOk result (Takes (clause_text (sum_clause (output_at left.now) (output_at right.now) (output_at own.now) i j)) (S.state sink.old) (S.state sink.new)) }
-    ensures failed { OnErr result (FailsToTake (clause_text (sum_clause (output_at left.now) (output_at right.now) (output_at own.now) i j)) (S.state sink.old) (S.state sink.new)) }
+    ensures { Hands (clause_over left.now right.now own.now i j ∷ []) result (S.state sink.old) (S.state sink.new) }
 {
     let sum = own.at(i + j);
     if i == 0 {
@@ -60,8 +58,7 @@ fn emit_row<S: ClauseSink>(
     requires own_count { output_count own.now ≡ min (output_count left.now + output_count right.now) cap }
     requires few { cap < 2 ^ 32 }
     requires few_right { output_count right.now < 2 ^ 32 }
-    ensures ok { OnOk result (Takes (clauses_text (map (sum_clause (output_at left.now) (output_at right.now) (output_at own.now) i) (partners cap (output_count right.now) i))) (S.state sink.old) (S.state sink.new)) }
-    ensures failed { OnErr result (FailsToTake (clauses_text (map (sum_clause (output_at left.now) (output_at right.now) (output_at own.now) i) (partners cap (output_count right.now) i))) (S.state sink.old) (S.state sink.new)) }
+    ensures { Hands (row_over cap left.now right.now own.now i) result (S.state sink.old) (S.state sink.new) }
 {
     let low = least_partner(i);
     let high = right.count().min(cap - i) + 1;
@@ -83,8 +80,7 @@ fn emit_node<S: ClauseSink>(
     requires own_count { output_count own.now ≡ min (output_count left.now + output_count right.now) cap }
     requires few { cap < 2 ^ 32 }
     requires few_right { output_count right.now < 2 ^ 32 }
-    ensures ok { OnOk result (Takes (clauses_text (sum_clauses cap (output_count left.now) (output_count right.now) (output_at left.now) (output_at right.now) (output_at own.now))) (S.state sink.old) (S.state sink.new)) }
-    ensures failed { OnErr result (FailsToTake (clauses_text (sum_clauses cap (output_count left.now) (output_count right.now) (output_at left.now) (output_at right.now) (output_at own.now))) (S.state sink.old) (S.state sink.new)) }
+    ensures { Hands (clauses_over cap left.now right.now own.now) result (S.state sink.old) (S.state sink.new) }
 {
     for i in 0..left.count() + 1 {
         emit_row(left, i, right, own, cap, sink)?;
@@ -110,11 +106,10 @@ pub fn emit_part<S: ClauseSink>(
     requires small { bound < 2 ^ 31 }
     requires low { 1 ≤ first }
     requires fits { first + fresh_of (totalizer bound) (tree_of (weights terms.now)) ≤ 2 ^ 31 }
-    ensures ok { OnOk result (Takes (clauses_text (clauses_of (totalizer bound) (tree_of (weights terms.now)) first)) (S.state sink.old) (S.state sink.new)) }
+    ensures hands { Hands (clauses_of (totalizer bound) (tree_of (weights terms.now)) first) result (S.state sink.old) (S.state sink.new) }
     ensures outputs { IfOk result (λ part. output_at part.outputs ≡ output (totalizer bound) (tree_of (weights terms.now)) first) }
     ensures count { IfOk result (λ part. output_count part.outputs ≡ length (values (totalizer bound) (tree_of (weights terms.now)))) }
     ensures next { IfOk result (λ part. part.next ≡ first + fresh_of (totalizer bound) (tree_of (weights terms.now))) }
-    ensures failed { OnErr result (FailsToTake (clauses_text (clauses_of (totalizer bound) (tree_of (weights terms.now)) first)) (S.state sink.old) (S.state sink.new)) }
 {
     if terms.len() == 1 {
         return Ok(Part {
@@ -150,8 +145,7 @@ pub fn emit_whole<S: ClauseSink>(
     requires few { length terms.now < 2 ^ 31 }
     requires low { 1 ≤ first }
     requires fits { first + fresh_of (totalizer bound) (tree_of (weights terms.now)) ≤ 2 ^ 31 }
-    ensures ok { OnOk result (Takes (clauses_text (tree_clauses (totalizer bound) (tree_of (weights terms.now)) first)) (S.state sink.old) (S.state sink.new)) }
-    ensures failed { OnErr result (FailsToTake (clauses_text (tree_clauses (totalizer bound) (tree_of (weights terms.now)) first)) (S.state sink.old) (S.state sink.new)) }
+    ensures { Hands (tree_clauses (totalizer bound) (tree_of (weights terms.now)) first) result (S.state sink.old) (S.state sink.new) }
 {
     let root = emit_part(terms, bound, first, sink)?;
     sink.clause(&[root.outputs.at(bound + 1).not()])

@@ -7,6 +7,3 @@ mod size;
 mod totalizer;
 
 pub use totalizer::Totalizer;
-
-#[cfg(test)]
-mod tests;

@@ -2,6 +2,6 @@ use Rattle.pb_diagram.proofs.LevelSteps.{false_none}
 use Rattle.std.proofs.Common.{◌+◌}
 use Rattle.pb_diagram.proofs.emission.emit_false.Goals as goal
 
-pub returns-then-whole-interval-clause-ok : goal.returns-then-whole-interval-clause-ok
-returns-then-whole-interval-clause-ok g c =
-    false_none c.args.whole c.args.next.first c.args.next.nodes.now (c.args.first + c.args.place) c.args.interval _ c.if-whole-interval.true
+pub returns-then-whole-node : goal.returns-then-whole-node
+returns-then-whole-node g c =
+    false_none c.args.whole c.args.next.first c.args.next.nodes.now (c.args.first + c.args.place) c.args.node _ c.if-whole-node.true

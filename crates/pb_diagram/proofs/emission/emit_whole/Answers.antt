@@ -1,15 +1,13 @@
-use Rattle.std.proofs.Common.{◌≡◌, ◌+◌, ◌-◌, ◌++◌, ◌∷◌, [], List, ap, sym, ◌∙◌, subst, arith}
-use Rattle.std.specs.Prelude.{OnOk, OnErr}
+use Rattle.std.proofs.Common.{◌≡◌, ◌+◌, ◌++◌, ◌∷◌, [], List, ap, sym, ◌∙◌, subst, arith}
 use Rattle.std.proofs.lemmas.List.{length-map}
 use Rattle.pb_base.specs.declared.literal.Lit.{Lit}
 use Rattle.pb_norm.specs.Constraints.{weighted, weights}
 use Rattle.pb_norm.specs.BoundedSums.{sum_within}
-use Rattle.pb_family.specs.ClauseText.{clause_text}
 use Rattle.pb_family.specs.Fresh.{positive_of}
-use Rattle.pb_family.specs.Sinks.{Takes, FailsToTake}
-use Rattle.pb_family.proofs.Emission.{emitting_from, on_err, ok_last_clause, err_last_clause}
+use Rattle.pb_family.specs.Handing.{Hands}
+use Rattle.pb_family.proofs.Emission.{emitting_from, hands_last}
 use Rattle.pb_diagram.specs.Clauses.{node_count, node_clauses, diagram_clauses}
-use Rattle.pb_diagram.proofs.DiagramSteps.{Read, read_of, read_linked, read_stands, read_counts, coef_within, level_taken, level_fails, last_left, some_node}
+use Rattle.pb_diagram.proofs.DiagramSteps.{read_of, read_linked, read_stands, read_counts, coef_within, level_taken, level_fault, last_left, some_node}
 use Rattle.pb_diagram.proofs.emission.emit_whole.Goals as goal
 
 pub loop-i-init : goal.loop-i-init
@@ -26,82 +24,42 @@ overflow_sub-whole g c =
 
 pub emit_level-requires-clause-linked : goal.emit_level-requires-clause-linked
 emit_level-requires-clause-linked g c =
-    let terms = c.args.terms.now in
-    let ls = c.args.levels.now in
-    let i = c.loop-i.i in
-    let t = c.index-terms-i.result in
-    let whole = c.loop-i.whole - c.weight-whole.result in
-    let nodes = c.nodes_after-nodes.result.now in
-    let next = c.nodes_after.result.now in
-    let read : Read (weights terms) ls i (weighted t) whole nodes next = read_of terms c.args.bound ls i t c.weight-whole.result c.loop-i.whole nodes next c.requires.nodes c.loop-i-test.true c.index-terms-i.is c.weight-whole.ensures c.loop-i.invariant.left c.nodes_after-nodes.ensures c.nodes_after.ensures in
-    read_linked (weights terms) ls i (weighted t) whole nodes next read
+    let read = read_of c.args.terms.now c.args.bound c.args.levels.now c.loop-i.i c.index-terms-i.result c.weight-whole.result c.loop-i.whole c.nodes_after-nodes.result.now c.nodes_after.result.now c.requires.nodes c.loop-i-test.true c.index-terms-i.is c.weight-whole.ensures c.loop-i.invariant.left c.nodes_after-nodes.ensures c.nodes_after.ensures in
+    read_linked _ _ _ _ _ _ _ read
 
 pub emit_level-requires-clause-stands : goal.emit_level-requires-clause-stands
 emit_level-requires-clause-stands g c =
-    let terms = c.args.terms.now in
-    let ls = c.args.levels.now in
-    let i = c.loop-i.i in
-    let t = c.index-terms-i.result in
-    let whole = c.loop-i.whole - c.weight-whole.result in
-    let nodes = c.nodes_after-nodes.result.now in
-    let next = c.nodes_after.result.now in
-    let read : Read (weights terms) ls i (weighted t) whole nodes next = read_of terms c.args.bound ls i t c.weight-whole.result c.loop-i.whole nodes next c.requires.nodes c.loop-i-test.true c.index-terms-i.is c.weight-whole.ensures c.loop-i.invariant.left c.nodes_after-nodes.ensures c.nodes_after.ensures in
-    read_stands (weights terms) ls i (weighted t) whole nodes next read
+    let read = read_of c.args.terms.now c.args.bound c.args.levels.now c.loop-i.i c.index-terms-i.result c.weight-whole.result c.loop-i.whole c.nodes_after-nodes.result.now c.nodes_after.result.now c.requires.nodes c.loop-i-test.true c.index-terms-i.is c.weight-whole.ensures c.loop-i.invariant.left c.nodes_after-nodes.ensures c.nodes_after.ensures in
+    read_stands _ _ _ _ _ _ _ read
 
-pub returns-in_err-emit_level-clause-failed : goal.returns-in_err-emit_level-clause-failed
-returns-in_err-emit_level-clause-failed g c =
-    let terms = c.args.terms.now in
-    let ls = c.args.levels.now in
-    let i = c.loop-i.i in
-    let t = c.index-terms-i.result in
-    let whole = c.loop-i.whole - c.weight-whole.result in
-    let nodes = c.nodes_after-nodes.result.now in
-    let next = c.nodes_after.result.now in
-    let read : Read (weights terms) ls i (weighted t) whole nodes next = read_of terms c.args.bound ls i t c.weight-whole.result c.loop-i.whole nodes next c.requires.nodes c.loop-i-test.true c.index-terms-i.is c.weight-whole.ensures c.loop-i.invariant.left c.nodes_after-nodes.ensures c.nodes_after.ensures in
-    on_err _ (level_fails (weights terms) ls i (weighted t) whole nodes next read c.loop-i.start ((positive_of c.args.first ∷ []) ∷ []) _ c.loop-i.invariant.clauses c.in_err-emit_level.ensures.failed)
+pub returns-in_err-emit_level : goal.returns-in_err-emit_level
+returns-in_err-emit_level g c =
+    let read = read_of c.args.terms.now c.args.bound c.args.levels.now c.loop-i.i c.index-terms-i.result c.weight-whole.result c.loop-i.whole c.nodes_after-nodes.result.now c.nodes_after.result.now c.requires.nodes c.loop-i-test.true c.index-terms-i.is c.weight-whole.ensures c.loop-i.invariant.left c.nodes_after-nodes.ensures c.nodes_after.ensures in
+    level_fault c.from_residual.result _ c.from_residual.ensures.1 _ _ _ _ _ _ _ read c.loop-i.start ((positive_of c.args.first ∷ []) ∷ []) _ c.loop-i.invariant.clauses c.in_err-emit_level.ensures
 
 pub loop-i-preserved : goal.loop-i-preserved
 loop-i-preserved g c =
-    let terms = c.args.terms.now in
-    let ls = c.args.levels.now in
-    let i = c.loop-i.i in
-    let t = c.index-terms-i.result in
-    let whole = c.loop-i.whole - c.weight-whole.result in
-    let nodes = c.nodes_after-nodes.result.now in
-    let next = c.nodes_after.result.now in
-    let read : Read (weights terms) ls i (weighted t) whole nodes next = read_of terms c.args.bound ls i t c.weight-whole.result c.loop-i.whole nodes next c.requires.nodes c.loop-i-test.true c.index-terms-i.is c.weight-whole.ensures c.loop-i.invariant.left c.nodes_after-nodes.ensures c.nodes_after.ensures in
-    let counts = read_counts (weights terms) ls i (weighted t) whole nodes next read in
+    let read = read_of c.args.terms.now c.args.bound c.args.levels.now c.loop-i.i c.index-terms-i.result c.weight-whole.result c.loop-i.whole c.nodes_after-nodes.result.now c.nodes_after.result.now c.requires.nodes c.loop-i-test.true c.index-terms-i.is c.weight-whole.ensures c.loop-i.invariant.left c.nodes_after-nodes.ensures c.nodes_after.ensures in
+    let counts = read_counts _ _ _ _ _ _ _ read in
     let left = read.whole_is in
     record {
       left = left;
       room = omega (arith, c.loop-i.invariant.room);
       low = omega (arith, c.loop-i.invariant.low);
-      clauses = level_taken (weights terms) ls i (weighted t) whole nodes next read c.loop-i.start ((positive_of c.args.first ∷ []) ∷ []) _ c.loop-i.invariant.clauses c.in_ok-emit_level.ensures.ok;
+      clauses = level_taken _ _ _ _ _ _ _ read c.loop-i.start ((positive_of c.args.first ∷ []) ∷ []) _ c.loop-i.invariant.clauses c.in_ok-emit_level.ensures;
     }
 
 pub fresh_at-requires-clause-high : goal.fresh_at-requires-clause-high
 fresh_at-requires-clause-high g c = omega (arith, some_node (sum_within c.args.terms.now c.args.bound) c.requires.above, c.requires.fits)
 
-pub returns-clause-ok : goal.returns-clause-ok
-returns-clause-ok g c =
+pub returns : goal.returns
+returns g c =
     let sink = g.S.ClauseSink in
     let ts = weights c.args.terms.now in
     let count = length-map c.args.terms.now weighted in
     let root : List Lit = positive_of c.args.first ∷ [] in
     let zeroth : c.args.first + 0 ≡ c.args.first = omega arith in
     let same = c.fresh_at.ensures ∙ ap positive_of zeroth in
-    let handed = subst (λ (l : Lit). OnOk c.clause.result (Takes (clause_text (l ∷ [])) (sink.state c.loop-i.sink) (sink.state c.clause.new.self))) same c.clause.ensures.ok in
-    ok_last_clause {all = diagram_clauses (sum_within c.args.terms.now c.args.bound) c.args.first} c.clause.result root (sink.state c.clause.new.self)
-    (last_left ts c.args.levels.now c.loop-i.i c.loop-i.start (root ∷ []) (omega arith) c.loop-i.invariant.clauses) handed
-
-pub returns-clause-failed : goal.returns-clause-failed
-returns-clause-failed g c =
-    let sink = g.S.ClauseSink in
-    let ts = weights c.args.terms.now in
-    let count = length-map c.args.terms.now weighted in
-    let root : List Lit = positive_of c.args.first ∷ [] in
-    let zeroth : c.args.first + 0 ≡ c.args.first = omega arith in
-    let same = c.fresh_at.ensures ∙ ap positive_of zeroth in
-    let handed = subst (λ (l : Lit). OnErr c.clause.result (FailsToTake (clause_text (l ∷ [])) (sink.state c.loop-i.sink) (sink.state c.clause.new.self))) same c.clause.ensures.failed in
-    err_last_clause {all = diagram_clauses (sum_within c.args.terms.now c.args.bound) c.args.first} c.clause.result root (sink.state c.clause.new.self)
+    let handed = subst (λ (l : Lit). Hands ((l ∷ []) ∷ []) c.clause.result (sink.state c.loop-i.sink) (sink.state c.clause.new.self)) same c.clause.ensures in
+    hands_last {all = diagram_clauses (sum_within c.args.terms.now c.args.bound) c.args.first} c.clause.result (root ∷ []) (sink.state c.clause.new.self)
     (last_left ts c.args.levels.now c.loop-i.i c.loop-i.start (root ∷ []) (omega arith) c.loop-i.invariant.clauses) handed

@@ -1,6 +1,6 @@
 use Rattle.std.proofs.Common.{◌≡◌, ◌≤◌, ◌+◌, ◌*◌, ◌-◌, length}
 use Rattle.pb_diagram.specs.Clauses.{node_count}
-use Rattle.pb_diagram.specs.Search.{IsSearching}
+use Rattle.pb_diagram.specs.laws.Search.{IsSearching}
 use Rattle.pb_diagram.proofs.search.known_levels.Given as goal
 
 abbrev pub invariant-loop-search : goal.invariant-loop-search

@@ -1,25 +1,25 @@
 use Rattle.std.proofs.Common.{arith, ◌∙◌, ap}
 use Rattle.pb_base.specs.Literals.{negated}
 use Rattle.std.specs.Prelude.{slice_index}
-use Rattle.pb_family.proofs.Emission.{emitting_starts, on_err, two_literals}
-use Rattle.pb_gentot.specs.Nodes.{own_output}
-use Rattle.pb_gentot.specs.Outputs.{output_in}
+use Rattle.pb_family.proofs.Emission.{emitting_starts, two_literals}
+use Rattle.pb_gentot.specs.laws.Nodes.{own_output}
+use Rattle.pb_gentot.specs.laws.Outputs.{output_in}
 use Rattle.pb_gentot.specs.Generalized.{one_clause}
-use Rattle.pb_gentot.proofs.Steps.{value_step, value_fails, values_taken}
+use Rattle.pb_gentot.proofs.Steps.{value_step, value_fault, values_taken}
 use Rattle.pb_gentot.proofs.emission.emit_ones.Goals as goal
 
 pub loop-i-init : goal.loop-i-init
 loop-i-init g c =
     emitting_starts _ _
 
-pub returns-in_err-clause-clause-failed : goal.returns-in_err-clause-clause-failed
-returns-in_err-clause-clause-failed g c =
+pub returns-in_err-clause : goal.returns-in_err-clause
+returns-in_err-clause g c =
     let f = output_in c.args.outputs.now c.args.values.now in
     let o = own_output c.args.own.now in
     let u = slice_index c.args.values.now c.loop-i.i in
     let clause = one_clause f o in
     let same = two_literals _ _ (negated (f u)) (o u) (c.not.ensures ∙ ap negated c.at.ensures) c.of.ensures in
-    on_err _ (value_fails clause c.args.values.now c.loop-i.i _ _ (omega arith) same c.loop-i.invariant c.in_err-clause.ensures.failed)
+    value_fault c.from_residual.result _ clause c.args.values.now c.loop-i.i _ _ c.from_residual.ensures.1 (omega arith) same c.loop-i.invariant c.in_err-clause.ensures
 
 pub loop-i-preserved : goal.loop-i-preserved
 loop-i-preserved g c =
@@ -28,12 +28,8 @@ loop-i-preserved g c =
     let u = slice_index c.args.values.now c.loop-i.i in
     let clause = one_clause f o in
     let same = two_literals _ _ (negated (f u)) (o u) (c.not.ensures ∙ ap negated c.at.ensures) c.of.ensures in
-    value_step clause c.args.values.now c.loop-i.i _ _ (omega arith) same c.loop-i.invariant c.in_ok-clause.ensures.ok
+    value_step clause c.args.values.now c.loop-i.i _ _ (omega arith) same c.loop-i.invariant c.in_ok-clause.ensures
 
-pub returns-clause-ok : goal.returns-clause-ok
-returns-clause-ok g c =
-    let f = output_in c.args.outputs.now c.args.values.now in
-    let o = own_output c.args.own.now in
-    let u = slice_index c.args.values.now c.loop-i.i in
-    let clause = one_clause f o in
-    values_taken clause c.args.values.now c.loop-i.i (omega arith) c.loop-i.invariant
+pub returns : goal.returns
+returns g c =
+    values_taken (one_clause (output_in c.args.outputs.now c.args.values.now) (own_output c.args.own.now)) c.args.values.now c.loop-i.i (omega arith) c.loop-i.invariant

@@ -1,27 +1,25 @@
-use Rattle.std.proofs.Common.{arith, ℕ}
-use Rattle.std.specs.Prelude.{map}
-use Rattle.pb_family.proofs.Emission.{emitting_starts, on_err}
-use Rattle.pb_gentot.specs.Nodes.{own_output}
-use Rattle.pb_gentot.specs.Outputs.{output_in}
-use Rattle.pb_gentot.specs.Generalized.{both_clause}
-use Rattle.pb_gentot.proofs.Steps.{row_step, row_fails, rows_taken}
+use Rattle.std.proofs.Common.{arith}
+use Rattle.std.specs.Prelude.{slice_index}
+use Rattle.pb_family.proofs.Emission.{emitting_starts, emitting_step, hands_fault}
+use Rattle.pb_gentot.specs.laws.Nodes.{row_over}
+use Rattle.pb_gentot.proofs.Steps.{row_next, rows_taken}
 use Rattle.pb_gentot.proofs.emission.emit_pairs.Goals as goal
 
 pub loop-i-init : goal.loop-i-init
-loop-i-init g c =
-    emitting_starts _ _
+loop-i-init g c = emitting_starts _ _
 
-pub returns-in_err-emit_row-clause-failed : goal.returns-in_err-emit_row-clause-failed
-returns-in_err-emit_row-clause-failed g c =
-    let row = λ (u : ℕ). map (both_clause c.args.cap (output_in c.args.left.now c.args.lefts.now) (output_in c.args.right.now c.args.rights.now) (own_output c.args.own.now) u) c.args.rights.now in
-    on_err _ (row_fails row c.args.lefts.now c.loop-i.i _ (omega arith) c.loop-i.invariant c.in_err-emit_row.ensures.failed)
+pub returns-in_err-emit_row : goal.returns-in_err-emit_row
+returns-in_err-emit_row g c =
+    let row = row_over c.args.cap c.args.left.now c.args.lefts.now c.args.right.now c.args.rights.now c.args.own.now in
+    let u = slice_index c.args.lefts.now c.loop-i.i in
+    hands_fault c.from_residual.result _ (row u) _ _ c.from_residual.ensures.1 (row_next row c.args.lefts.now c.loop-i.i (omega arith) c.loop-i.invariant) c.in_err-emit_row.ensures
 
 pub loop-i-preserved : goal.loop-i-preserved
 loop-i-preserved g c =
-    let row = λ (u : ℕ). map (both_clause c.args.cap (output_in c.args.left.now c.args.lefts.now) (output_in c.args.right.now c.args.rights.now) (own_output c.args.own.now) u) c.args.rights.now in
-    row_step row c.args.lefts.now c.loop-i.i _ (omega arith) c.loop-i.invariant c.in_ok-emit_row.ensures.ok
+    let row = row_over c.args.cap c.args.left.now c.args.lefts.now c.args.right.now c.args.rights.now c.args.own.now in
+    let u = slice_index c.args.lefts.now c.loop-i.i in
+    emitting_step (row u) _ (row_next row c.args.lefts.now c.loop-i.i (omega arith) c.loop-i.invariant) c.in_ok-emit_row.ensures
 
-pub returns-clause-ok : goal.returns-clause-ok
-returns-clause-ok g c =
-    let row = λ (u : ℕ). map (both_clause c.args.cap (output_in c.args.left.now c.args.lefts.now) (output_in c.args.right.now c.args.rights.now) (own_output c.args.own.now) u) c.args.rights.now in
-    rows_taken row c.args.lefts.now c.loop-i.i (omega arith) c.loop-i.invariant
+pub returns : goal.returns
+returns g c =
+    rows_taken (row_over c.args.cap c.args.left.now c.args.lefts.now c.args.right.now c.args.rights.now c.args.own.now) c.args.lefts.now c.loop-i.i (omega arith) c.loop-i.invariant

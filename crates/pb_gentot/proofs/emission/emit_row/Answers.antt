@@ -1,11 +1,11 @@
 use Rattle.std.proofs.Common.{arith, ℕ, ◌+◌, ◌∙◌, min, ap, sym, subst}
 use Rattle.pb_base.specs.Literals.{negated}
 use Rattle.std.specs.Prelude.{Contains, slice_index}
-use Rattle.pb_family.proofs.Emission.{emitting_starts, on_err, three_literals}
-use Rattle.pb_gentot.specs.Nodes.{own_output}
-use Rattle.pb_gentot.specs.Outputs.{output_in}
+use Rattle.pb_family.proofs.Emission.{emitting_starts, three_literals}
+use Rattle.pb_gentot.specs.laws.Nodes.{own_output}
+use Rattle.pb_gentot.specs.laws.Outputs.{output_in}
 use Rattle.pb_gentot.specs.Generalized.{both_clause}
-use Rattle.pb_gentot.proofs.Steps.{value_step, value_fails, values_taken}
+use Rattle.pb_gentot.proofs.Steps.{value_step, value_fault, values_taken}
 use Rattle.pb_gentot.proofs.emission.emit_row.Goals as goal
 
 pub loop-j-init : goal.loop-j-init
@@ -16,8 +16,8 @@ pub of-requires-clause-has : goal.of-requires-clause-has
 of-requires-clause-has g c =
     subst (λ (n : ℕ). Contains c.args.own.now.values.items n) (sym c.min-sum.ensures) (c.requires.has c.loop-j.j 0 c.loop-j-test.true)
 
-pub returns-in_err-clause-clause-failed : goal.returns-in_err-clause-clause-failed
-returns-in_err-clause-clause-failed g c =
+pub returns-in_err-clause : goal.returns-in_err-clause
+returns-in_err-clause g c =
     let f = output_in c.args.left.now c.args.lefts.now in
     let h = output_in c.args.right.now c.args.rights.now in
     let o = own_output c.args.own.now in
@@ -25,7 +25,7 @@ returns-in_err-clause-clause-failed g c =
     let v = slice_index c.args.rights.now c.loop-j.j in
     let clause = both_clause c.args.cap f h o u in
     let same = three_literals _ _ _ (negated (f u)) (negated (h v)) (o (min (u + v) c.args.cap)) (c.not.ensures ∙ ap negated c.at-literal.ensures) (c.not-in-loop-j.ensures ∙ ap negated c.at.ensures) (c.of.ensures ∙ ap o c.min-sum.ensures) in
-    on_err _ (value_fails clause c.args.rights.now c.loop-j.j _ _ (omega arith) same c.loop-j.invariant c.in_err-clause.ensures.failed)
+    value_fault c.from_residual.result _ clause c.args.rights.now c.loop-j.j _ _ c.from_residual.ensures.1 (omega arith) same c.loop-j.invariant c.in_err-clause.ensures
 
 pub loop-j-preserved : goal.loop-j-preserved
 loop-j-preserved g c =
@@ -36,14 +36,9 @@ loop-j-preserved g c =
     let v = slice_index c.args.rights.now c.loop-j.j in
     let clause = both_clause c.args.cap f h o u in
     let same = three_literals _ _ _ (negated (f u)) (negated (h v)) (o (min (u + v) c.args.cap)) (c.not.ensures ∙ ap negated c.at-literal.ensures) (c.not-in-loop-j.ensures ∙ ap negated c.at.ensures) (c.of.ensures ∙ ap o c.min-sum.ensures) in
-    value_step clause c.args.rights.now c.loop-j.j _ _ (omega arith) same c.loop-j.invariant c.in_ok-clause.ensures.ok
+    value_step clause c.args.rights.now c.loop-j.j _ _ (omega arith) same c.loop-j.invariant c.in_ok-clause.ensures
 
-pub returns-clause-ok : goal.returns-clause-ok
-returns-clause-ok g c =
-    let f = output_in c.args.left.now c.args.lefts.now in
-    let h = output_in c.args.right.now c.args.rights.now in
-    let o = own_output c.args.own.now in
-    let u = slice_index c.args.lefts.now c.args.i in
-    let v = slice_index c.args.rights.now c.loop-j.j in
-    let clause = both_clause c.args.cap f h o u in
+pub returns : goal.returns
+returns g c =
+    let clause = both_clause c.args.cap (output_in c.args.left.now c.args.lefts.now) (output_in c.args.right.now c.args.rights.now) (own_output c.args.own.now) (slice_index c.args.lefts.now c.args.i) in
     values_taken clause c.args.rights.now c.loop-j.j (omega arith) c.loop-j.invariant

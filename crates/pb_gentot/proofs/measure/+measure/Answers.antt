@@ -1,13 +1,12 @@
 use Rattle.std.specs.Int.RustNames.{unsigned_abs}
 use Rattle.pb_base.specs.declared.literal.Term.{Term}
-use Rattle.std.proofs.Common.{◌≡◌, ◌≤◌, ◌<◌, ◌+◌, ◌*◌, ◌^◌, ◌∷◌, [], ℕ, length, min, ap, ◌∙◌, arith, refl}
+use Rattle.std.proofs.Common.{◌≡◌, ◌+◌, ◌*◌, ◌∷◌, [], ℕ, length, min, ap, ◌∙◌, arith, refl}
 use Rattle.pb_norm.specs.Constraints.{weights}
 use Rattle.pb_tree.specs.Tree.{tree_of}
-use Rattle.pb_tree.specs.Scheme.{values, fresh_of, clause_count_of}
+use Rattle.pb_tree.specs.Scheme.{values}
 use Rattle.pb_tree.proofs.Halves.{halves_of, leaf_of, fresh_parts}
-use Rattle.pb_tree.proofs.Numbers.{sums_fit}
 use Rattle.pb_gentot.specs.Generalized.{generalized}
-use Rattle.pb_gentot.proofs.Bounds.{bounds, pair_bound}
+use Rattle.pb_gentot.proofs.Bounds.{sizes_of}
 use Rattle.pb_gentot.proofs.Parts.{all_within, numbers_of}
 use Rattle.pb_gentot.proofs.measure.+measure.Goals as goal
 
@@ -77,101 +76,45 @@ returns-in-None-found t c =
 pub overflow_add-result-3 : goal.overflow_add-result-3
 overflow_add-result-3 t c =
     let ts = c.args.terms.now in
-    let lefts = c.split_at.result.0.now in
-    let rights = c.split_at.result.1.now in
-    let s = generalized c.args.bound in
-    let l = tree_of (weights lefts) in
-    let r = tree_of (weights rights) in
-    let halves = halves_of ts lefts rights c.requires.some c.if-terms-eq1.false c.split_at.ensures.front c.split_at.ensures.back in
+    let halves = halves_of ts c.split_at.result.0.now c.split_at.result.1.now c.requires.some c.if-terms-eq1.false c.split_at.ensures.front c.split_at.ensures.back in
     let left = rw c.in-Some.is at c.in_ok-part.ensures in
     let right = rw c.in-Some-2.is at c.in_ok-part-2.ensures in
-    let a = length (values s l) in
-    let b = length (values s r) in
-    let lefts_are : length c.as_slice-4.result.now ≡ a = ap length (c.as_slice-4.ensures.value ∙ left.values_are) in
-    let rights_are : length c.as_slice-5.result.now ≡ b = ap length (c.as_slice-5.ensures.value ∙ right.values_are) in
-    let one = bounds c.args.bound lefts halves.front_some in
-    let two = bounds c.args.bound rights halves.back_some in
-    let few : length ts < 2 ^ 31 = c.requires.few in
-    let modest : c.args.budget < 2 ^ 24 = c.requires.modest in
-    let left_fits : fresh_of s l ≤ c.args.budget = left.fits in
-    let right_fits : fresh_of s l + fresh_of s r ≤ c.args.budget = omega (arith, left.fits, left.fresh_is, right.fits) in
-    let m = fresh_of s l + length lefts in
-    let n = fresh_of s r + length rights in
-    let fit = sums_fit m n (clause_count_of s l) (clause_count_of s r) (a * b + a + b) (omega (arith, halves.front_some)) (omega (arith, halves.back_some)) (omega (arith, halves.whole)) one.clauses two.clauses (pair_bound a b m n one.count two.count) in
-    omega (arith, fit.0, left.clauses_are, right.clauses_are)
+    let sizes = sizes_of c.args.bound c.args.budget ts c.split_at.result.0.now c.split_at.result.1.now halves c.requires.few c.requires.modest (omega (arith, left.fits, left.fresh_is, right.fits)) in
+    omega (arith, sizes.parts_fit, left.clauses_are, right.clauses_are)
 
 pub node_clauses-requires-clause-left_small : goal.node_clauses-requires-clause-left_small
 node_clauses-requires-clause-left_small t c =
     let ts = c.args.terms.now in
-    let lefts = c.split_at.result.0.now in
-    let rights = c.split_at.result.1.now in
-    let s = generalized c.args.bound in
-    let l = tree_of (weights lefts) in
-    let r = tree_of (weights rights) in
-    let halves = halves_of ts lefts rights c.requires.some c.if-terms-eq1.false c.split_at.ensures.front c.split_at.ensures.back in
+    let halves = halves_of ts c.split_at.result.0.now c.split_at.result.1.now c.requires.some c.if-terms-eq1.false c.split_at.ensures.front c.split_at.ensures.back in
     let left = rw c.in-Some.is at c.in_ok-part.ensures in
     let right = rw c.in-Some-2.is at c.in_ok-part-2.ensures in
-    let a = length (values s l) in
-    let b = length (values s r) in
-    let lefts_are : length c.as_slice-4.result.now ≡ a = ap length (c.as_slice-4.ensures.value ∙ left.values_are) in
-    let rights_are : length c.as_slice-5.result.now ≡ b = ap length (c.as_slice-5.ensures.value ∙ right.values_are) in
-    let one = bounds c.args.bound lefts halves.front_some in
-    let two = bounds c.args.bound rights halves.back_some in
-    let few : length ts < 2 ^ 31 = c.requires.few in
-    let modest : c.args.budget < 2 ^ 24 = c.requires.modest in
-    let left_fits : fresh_of s l ≤ c.args.budget = left.fits in
-    let right_fits : fresh_of s l + fresh_of s r ≤ c.args.budget = omega (arith, left.fits, left.fresh_is, right.fits) in
-    omega (arith, one.count, halves.whole)
+    let sizes = sizes_of c.args.bound c.args.budget ts c.split_at.result.0.now c.split_at.result.1.now halves c.requires.few c.requires.modest (omega (arith, left.fits, left.fresh_is, right.fits)) in
+    let count = ap length (c.as_slice-4.ensures.value ∙ left.values_are) in
+    omega (arith, sizes.left_small)
 
 pub node_clauses-requires-clause-right_small : goal.node_clauses-requires-clause-right_small
 node_clauses-requires-clause-right_small t c =
     let ts = c.args.terms.now in
-    let lefts = c.split_at.result.0.now in
-    let rights = c.split_at.result.1.now in
-    let s = generalized c.args.bound in
-    let l = tree_of (weights lefts) in
-    let r = tree_of (weights rights) in
-    let halves = halves_of ts lefts rights c.requires.some c.if-terms-eq1.false c.split_at.ensures.front c.split_at.ensures.back in
+    let halves = halves_of ts c.split_at.result.0.now c.split_at.result.1.now c.requires.some c.if-terms-eq1.false c.split_at.ensures.front c.split_at.ensures.back in
     let left = rw c.in-Some.is at c.in_ok-part.ensures in
     let right = rw c.in-Some-2.is at c.in_ok-part-2.ensures in
-    let a = length (values s l) in
-    let b = length (values s r) in
-    let lefts_are : length c.as_slice-4.result.now ≡ a = ap length (c.as_slice-4.ensures.value ∙ left.values_are) in
-    let rights_are : length c.as_slice-5.result.now ≡ b = ap length (c.as_slice-5.ensures.value ∙ right.values_are) in
-    let one = bounds c.args.bound lefts halves.front_some in
-    let two = bounds c.args.bound rights halves.back_some in
-    let few : length ts < 2 ^ 31 = c.requires.few in
-    let modest : c.args.budget < 2 ^ 24 = c.requires.modest in
-    let left_fits : fresh_of s l ≤ c.args.budget = left.fits in
-    let right_fits : fresh_of s l + fresh_of s r ≤ c.args.budget = omega (arith, left.fits, left.fresh_is, right.fits) in
-    omega (arith, two.count, halves.whole)
+    let sizes = sizes_of c.args.bound c.args.budget ts c.split_at.result.0.now c.split_at.result.1.now halves c.requires.few c.requires.modest (omega (arith, left.fits, left.fresh_is, right.fits)) in
+    let count = ap length (c.as_slice-5.ensures.value ∙ right.values_are) in
+    omega (arith, sizes.right_small)
 
 pub overflow_add-result-4 : goal.overflow_add-result-4
 overflow_add-result-4 t c =
     let ts = c.args.terms.now in
-    let lefts = c.split_at.result.0.now in
-    let rights = c.split_at.result.1.now in
-    let s = generalized c.args.bound in
-    let l = tree_of (weights lefts) in
-    let r = tree_of (weights rights) in
-    let halves = halves_of ts lefts rights c.requires.some c.if-terms-eq1.false c.split_at.ensures.front c.split_at.ensures.back in
+    let halves = halves_of ts c.split_at.result.0.now c.split_at.result.1.now c.requires.some c.if-terms-eq1.false c.split_at.ensures.front c.split_at.ensures.back in
     let left = rw c.in-Some.is at c.in_ok-part.ensures in
     let right = rw c.in-Some-2.is at c.in_ok-part-2.ensures in
-    let a = length (values s l) in
-    let b = length (values s r) in
+    let sizes = sizes_of c.args.bound c.args.budget ts c.split_at.result.0.now c.split_at.result.1.now halves c.requires.few c.requires.modest (omega (arith, left.fits, left.fresh_is, right.fits)) in
+    let s = generalized c.args.bound in
+    let a = length (values s (tree_of (weights c.split_at.result.0.now))) in
     let lefts_are : length c.as_slice-4.result.now ≡ a = ap length (c.as_slice-4.ensures.value ∙ left.values_are) in
-    let rights_are : length c.as_slice-5.result.now ≡ b = ap length (c.as_slice-5.ensures.value ∙ right.values_are) in
-    let one = bounds c.args.bound lefts halves.front_some in
-    let two = bounds c.args.bound rights halves.back_some in
-    let few : length ts < 2 ^ 31 = c.requires.few in
-    let modest : c.args.budget < 2 ^ 24 = c.requires.modest in
-    let left_fits : fresh_of s l ≤ c.args.budget = left.fits in
-    let right_fits : fresh_of s l + fresh_of s r ≤ c.args.budget = omega (arith, left.fits, left.fresh_is, right.fits) in
-    let m = fresh_of s l + length lefts in
-    let n = fresh_of s r + length rights in
-    let fit = sums_fit m n (clause_count_of s l) (clause_count_of s r) (a * b + a + b) (omega (arith, halves.front_some)) (omega (arith, halves.back_some)) (omega (arith, halves.whole)) one.clauses two.clauses (pair_bound a b m n one.count two.count) in
+    let rights_are = ap length (c.as_slice-5.ensures.value ∙ right.values_are) in
     let own = c.node_clauses.ensures ∙ ap (λ (k : ℕ). k * length c.as_slice-5.result.now + k + length c.as_slice-5.result.now) lefts_are ∙ ap (λ (k : ℕ). a * k + a + k) rights_are in
-    omega (arith, fit.1, left.clauses_are, right.clauses_are)
+    omega (arith, sizes.all_fit, left.clauses_are, right.clauses_are)
 
 pub returns : goal.returns
 returns t c =

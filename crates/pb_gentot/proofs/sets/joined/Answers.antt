@@ -1,6 +1,6 @@
 use Rattle.std.proofs.Common.{◌+◌, ℕ, List, arith, ap, sym, subst}
-use Rattle.pb_gentot.specs.Marks.{MarksOnly}
-use Rattle.pb_gentot.specs.Members.{SameMembers}
+use Rattle.pb_gentot.specs.laws.Marks.{MarksOnly}
+use Rattle.pb_gentot.specs.laws.Members.{SameMembers}
 use Rattle.pb_gentot.proofs.Joining.{gathered, gathered_next, gathered_last, gathered_within, same_turned, same_then, values_of, values_more}
 use Rattle.pb_gentot.proofs.Marking.{marks_kept}
 use Rattle.pb_gentot.proofs.sets.joined.Goals as goal

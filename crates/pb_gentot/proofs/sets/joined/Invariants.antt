@@ -1,5 +1,5 @@
-use Rattle.pb_gentot.specs.Marks.{MarksOnly}
-use Rattle.pb_gentot.specs.Members.{SameMembers}
+use Rattle.pb_gentot.specs.laws.Marks.{MarksOnly}
+use Rattle.pb_gentot.specs.laws.Members.{SameMembers}
 use Rattle.pb_gentot.proofs.Joining.{gathered}
 use Rattle.pb_gentot.proofs.sets.joined.Given as goal
 

@@ -1,7 +1,7 @@
 use Rattle.std.proofs.Common.{sym, subst, List, ℕ}
-use Rattle.pb_diagram.specs.Known.{intervals_of}
+use Rattle.pb_diagram.specs.laws.Known.{intervals_of}
 use Rattle.pb_diagram.specs.Levels.{interval_from}
-use Rattle.pb_diagram.specs.Search.{IsGrown}
+use Rattle.pb_diagram.specs.laws.Search.{IsGrown}
 use Rattle.pb_diagram.proofs.KnownFacts.{inserted_view}
 use Rattle.pb_diagram.proofs.known.Known.insert.Goals as goal
 

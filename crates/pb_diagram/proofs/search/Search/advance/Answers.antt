@@ -1,7 +1,7 @@
 use Rattle.std.proofs.Common.{◌+◌, subst, List}
 use Rattle.std.specs.Prelude.{Contains}
 use Rattle.pb_diagram.specs.declared.interval.Interval.{Interval}
-use Rattle.pb_diagram.specs.Search.{nodes_at}
+use Rattle.pb_diagram.specs.laws.Search.{nodes_at}
 use Rattle.pb_diagram.proofs.search.Search.advance.Goals as goal
 
 pub look_for-requires-clause-within : goal.look_for-requires-clause-within

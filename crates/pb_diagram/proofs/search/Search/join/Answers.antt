@@ -1,7 +1,7 @@
 use Rattle.std.proofs.Common.{subst, List, arith}
 use Rattle.std.specs.Prelude.{Contains}
 use Rattle.pb_diagram.specs.declared.interval.Interval.{Interval}
-use Rattle.pb_diagram.specs.Search.{IsGrown}
+use Rattle.pb_diagram.specs.laws.Search.{IsGrown}
 use Rattle.pb_diagram.proofs.SearchReads.{joined_stands, joins, row_read, popped}
 use Rattle.pb_diagram.proofs.search.Search.join.Goals as goal
 

@@ -2,7 +2,7 @@ use Rattle.std.proofs.Common.{◌≡◌, ◌-◌, ◌++◌, ◌∷◌, [], List,
 use Rattle.std.specs.Int.RustNames.{unsigned_abs}
 use Rattle.pb_norm.specs.Constraints.{weight, weighted}
 use Rattle.std.proofs.lemmas.List.{length-map}
-use Rattle.pb_diagram.specs.Search.{IsSearching}
+use Rattle.pb_diagram.specs.laws.Search.{IsSearching}
 use Rattle.pb_diagram.proofs.SearchReads.{starts}
 use Rattle.pb_diagram.proofs.search.Search.start.Goals as goal
 

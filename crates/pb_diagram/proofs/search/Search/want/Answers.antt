@@ -1,5 +1,5 @@
 use Rattle.std.proofs.Common.{◌-◌, ◌+◌, List, ℕ, sym, subst, arith}
-use Rattle.pb_diagram.specs.Search.{IsSearching}
+use Rattle.pb_diagram.specs.laws.Search.{IsSearching}
 use Rattle.pb_diagram.proofs.SearchReads.{child_level, wants, coef_read}
 use Rattle.pb_diagram.proofs.search.Search.want.Goals as goal
 

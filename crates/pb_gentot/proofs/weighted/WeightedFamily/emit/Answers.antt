@@ -7,7 +7,7 @@ use Rattle.pb_gentot.specs.Generalized.{generalized}
 use Rattle.std.proofs.lemmas.List.{length-map}
 use Rattle.pb_norm.specs.Constraints.{weighted, weights}
 use Rattle.pb_norm.specs.BoundedSums.{sum_within}
-use Rattle.pb_gentot.specs.GeneralizedLaws.{generalized_cap}
+use Rattle.pb_gentot.specs.laws.GeneralizedLaws.{generalized_cap}
 use Rattle.pb_gentot.proofs.Bounds.{some_terms}
 use Rattle.pb_gentot.proofs.weighted.WeightedFamily.emit.Goals as goal
 

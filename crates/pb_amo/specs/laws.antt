@@ -1,0 +1,11 @@
+pub mod Choice
+pub mod GridClauses
+pub mod GridCounts
+pub mod GridExtends
+pub mod GridNames
+pub mod GridPushes
+pub mod GridSides
+pub mod LadderLaws
+pub mod LineLaws
+pub mod PairwiseLaws
+pub mod ProductLaws

@@ -1,0 +1,5 @@
+pub mod CounterLaws
+pub mod CounterModels
+pub mod CounterPlaces
+pub mod CounterSteps
+pub mod SeenLiterals

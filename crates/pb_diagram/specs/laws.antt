@@ -1,0 +1,13 @@
+pub mod ClauseRows
+pub mod DiagramLaws
+pub mod Known
+pub mod LevelFacts
+pub mod LinkedCounts
+pub mod LinkedExtends
+pub mod LinkedNodes
+pub mod LinkedPropagates
+pub mod Links
+pub mod Nodes
+pub mod Search
+pub mod SumFacts
+pub mod Within

@@ -1,0 +1,2 @@
+pub mod TotalizerLaws
+pub mod Outputs
