@@ -1,0 +1,3 @@
+pub mod CnfLaws
+pub mod CnfWholeLaws
+pub mod OutboxSinks
