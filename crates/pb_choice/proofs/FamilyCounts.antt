@@ -8,10 +8,11 @@ use Rattle.std.proofs.lemmas.Nat.{mul-le}
 use Rattle.pb_norm.specs.Constraints.{Weighted, term_of, terms_of, weight, weights}
 use Rattle.pb_norm.specs.BoundedSums.{BoundedSum, IsProper}
 use Rattle.pb_norm.proofs.KeptTerms.{weights-terms_of}
-use Rattle.pb_norm.proofs.RestClasses.{IsCardinality, units-weight}
+use Rattle.pb_norm.specs.Classes.{IsCardinality}
+use Rattle.pb_norm.proofs.RestClasses.{units-weight}
 use Rattle.pb_tree.specs.Tree.{tree_of}
 use Rattle.pb_amo.specs.Pairwise.{pair_count}
-use Rattle.pb_amo.specs.GridCounts.{count_within_square}
+use Rattle.pb_amo.specs.laws.GridCounts.{count_within_square}
 use Rattle.pb_counter.specs.Counter.{counter_size}
 use Rattle.pb_totalizer.specs.Totalizer.{totalizer_size}
 use Rattle.pb_totalizer.proofs.Counting as totalizer
@@ -24,16 +25,16 @@ use Rattle.pb_adder.specs.declared.gate.Gate.{Gate}
 use Rattle.pb_adder.specs.declared.gate.Gate.TheVariants.{Full, Half}
 use Rattle.pb_adder.specs.Comparator.{is_odd}
 use Rattle.pb_adder.specs.Counts.{adder_size, gate_clause_count, has_end, is_covered, kept_count}
-use Rattle.pb_adder.specs.CountLaws.{counted_total, gates_few}
+use Rattle.pb_adder.specs.laws.CountLaws.{counted_total, gates_few}
 use Rattle.pb_adder.specs.Network.{level_count, network_ends, network_gates}
-use Rattle.pb_adder.specs.NetworkLaws.{digits_few}
+use Rattle.pb_adder.specs.laws.NetworkLaws.{digits_few}
 use Rattle.pb_adder.proofs.Fits.{ends_few}
 use Rattle.pb_choice.specs.declared.chosen.Chosen.{Chosen}
 use Rattle.pb_choice.specs.declared.chosen.Chosen.TheVariants as chosen
 use Rattle.pb_choice.specs.declared.left.Left.{Left}
 use Rattle.pb_choice.specs.declared.left.Left.TheVariants as left
-use Rattle.pb_choice.specs.Chosen.{sum_at, treatment_at}
-use Rattle.pb_choice.specs.Left.{left_count}
+use Rattle.pb_choice.specs.laws.Chosen.{sum_at, treatment_at}
+use Rattle.pb_choice.specs.laws.Left.{left_count}
 use Rattle.pb_choice.specs.Sums.{sum_count}
 
 square_small : (n : ℕ) → n < 2 ^ 31 → n * n < 2 ^ 62
@@ -54,10 +55,10 @@ counter_small n k few lt =
 bound_few : (m : BoundedSum) → IsCardinality m → m.bound < length m.terms
 bound_few m h = omega (arith, h.proper.heavy, units-weight m.terms h.units)
 
-totalizer_small : (m : BoundedSum) → IsCardinality m → length m.terms < 2 ^ 31 → totalizer_size m < 2 ^ 63
-totalizer_small m h few =
+totalizer_small : (m : BoundedSum) → IsCardinality m → totalizer_size m < 2 ^ 63
+totalizer_small m h =
     let all = totalizer.bounds m.bound m.terms (omega (arith, bound_few m h)) in
-    omega (arith, all.clauses, square_small (length m.terms) few)
+    omega (arith, all.clauses, square_small (length m.terms) h.proper.few)
 
 tree_bounds : (bound : ℕ) (ts : List Weighted) → 1 ≤ length ts → Bounds bound (tree_of ts) (length ts)
 tree_bounds bound ts some =
@@ -66,11 +67,11 @@ tree_bounds bound ts some =
     let same : Bounds bound (tree_of ts) (length (terms_of ts)) = subst (λ (us : List Weighted). Bounds bound (tree_of us) (length (terms_of ts))) (weights-terms_of ts) kept in
     subst (λ (n : ℕ). Bounds bound (tree_of ts) n) long same
 
-tree_small : (m : BoundedSum) → IsProper m → length m.terms < 2 ^ 31 → generalized_fresh m ≤ 10000000 → generalized_size m < 2 ^ 63
-tree_small m h few modest =
+tree_small : (m : BoundedSum) → IsProper m → generalized_fresh m ≤ 10000000 → generalized_size m < 2 ^ 63
+tree_small m h modest =
     let all = tree_bounds m.bound m.terms (some_terms m.bound m.terms h.heavy) in
     let n = generalized_fresh m + length m.terms in
-    let most : n ≤ 2 ^ 31 + 10000000 = omega (arith, few, modest) in
+    let most : n ≤ 2 ^ 31 + 10000000 = omega (arith, h.few, modest) in
     let square = mul-le n n (2 ^ 31 + 10000000) (2 ^ 31 + 10000000) most most in
     omega (arith, all.clauses, square)
 
@@ -112,14 +113,14 @@ adder_small ts bound few light =
 -- ---- the family that was chosen
 
 chosen_small : (f : Chosen) → sum_count (treatment_at f) (sum_at f) < 2 ^ 63 + 2 ^ 31
-chosen_small (chosen.Pairwise held) = omega (arith, pairs_small (length held.sum.terms) held.few)
-chosen_small (chosen.Ladder held) = let few : length held.sum.terms < 2 ^ 31 = held.few in omega (arith, few)
-chosen_small (chosen.Product held) = omega (arith, square_small (length held.sum.terms) held.few, count_within_square (length held.sum.terms) (length held.sum.terms))
-chosen_small (chosen.Counter held) = counter_small (length held.sum.terms) held.sum.bound held.few (bound_few held.sum held.class)
-chosen_small (chosen.Totalizer held) = omega (arith, totalizer_small held.sum held.class held.few)
+chosen_small (chosen.Pairwise held) = omega (arith, pairs_small (length held.sum.terms) held.class.proper.few)
+chosen_small (chosen.Ladder held) = let few : length held.sum.terms < 2 ^ 31 = held.class.proper.few in omega (arith, few)
+chosen_small (chosen.Product held) = omega (arith, square_small (length held.sum.terms) held.class.proper.few, count_within_square (length held.sum.terms) (length held.sum.terms))
+chosen_small (chosen.Counter held) = counter_small (length held.sum.terms) held.sum.bound held.class.proper.few (bound_few held.sum held.class)
+chosen_small (chosen.Totalizer held) = omega (arith, totalizer_small held.sum held.class)
 chosen_small (chosen.Diagram held) = omega (arith, diagram_small held.sum held.modest)
-chosen_small (chosen.Tree held) = omega (arith, tree_small held.sum held.class held.few held.modest)
-chosen_small (chosen.Adder held) = omega (arith, adder_small held.sum.terms held.sum.bound held.few held.light)
+chosen_small (chosen.Tree held) = omega (arith, tree_small held.sum held.class held.modest)
+chosen_small (chosen.Adder held) = omega (arith, adder_small held.sum.terms held.sum.bound held.class.few held.light)
 
 pub left_small : (l : Left) → left_count l < 2 ^ 63 + 2 ^ 31
 left_small left.Nothing = omega arith

@@ -2,7 +2,7 @@ pub mod Composition
 pub mod Encoded
 pub mod FamilyCounts
 pub mod Forced
-pub mod Handing
+pub mod PlanClauses
 pub mod RestLaws
 pub mod RestTerms
 pub mod Selection

@@ -5,30 +5,17 @@ use Rattle.std.proofs.lemmas.List.{length-map}
 use Rattle.pb_norm.specs.declared.reduction.Rest.{Rest}
 use Rattle.pb_norm.specs.declared.reduction.Rest.TheVariants as rest
 use Rattle.pb_norm.specs.Constraints.{Weighted, Constraint, AllPositive, IsLinear, slack, weight}
-use Rattle.pb_norm.specs.Open.{IsOpen}
+use Rattle.pb_norm.specs.laws.Open.{IsOpen}
 use Rattle.pb_norm.specs.Reduction.{all_weigh, at_most, class_of, core, cut_to, divided, first_coef, forcing_terms, is_forcing, is_too_light, lits_of, opposite, quotient_up, rest_of, saturated, single, sorted, units_of, without_units}
 use Rattle.pb_norm.proofs.AdditionSizes.{weight-cons}
-use Rattle.pb_norm.proofs.Lengths.{HasAtMost, length-filter-le, rest-few}
+use Rattle.pb_norm.proofs.Lengths.{length-filter-le}
 use Rattle.pb_norm.proofs.Opened.{saturated_open}
 use Rattle.pb_norm.proofs.RestClasses.{RestOver, rest-over}
 use Rattle.pb_norm.proofs.Sorting.{by_weight-sum}
 use Rattle.pb_norm.proofs.Units.{split_weight, without_open}
 use Rattle.pb_family.specs.Families.{VarsBelow}
 use Rattle.std.proofs.lemmas.List.Elements.{All-nil, All-head, All-tail}
-use Rattle.pb_choice.specs.Left.{rest_terms}
-
--- ---- it has no more terms
-
-few_terms : (n : ℕ) (r : Rest) → HasAtMost n r → length (rest_terms r) ≤ n
-few_terms n rest.Nothing h = omega arith
-few_terms n rest.Empty h = omega arith
-few_terms n (rest.Clause ls) h = omega arith
-few_terms n (rest.One m) h = h
-few_terms n (rest.Card m) h = h
-few_terms n (rest.General m) h = h
-
-pub rest_short : (c : Constraint) → length (rest_terms (rest_of c)) ≤ length c.terms
-rest_short c = few_terms (length c.terms) (rest_of c) (rest-few c)
+use Rattle.pb_choice.specs.laws.Left.{rest_terms}
 
 -- ---- over variables of the constraint
 

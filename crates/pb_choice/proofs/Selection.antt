@@ -10,8 +10,8 @@ use Rattle.pb_choice.specs.declared.options.Options.{Options}
 use Rattle.pb_choice.specs.declared.treatment.Treatment.{Treatment}
 use Rattle.pb_choice.specs.declared.treatment.Treatment.TheVariants as treatment
 use Rattle.pb_choice.specs.Choice.{treatment_of, within_budget}
-use Rattle.pb_choice.specs.Chosen.{sum_at, treatment_at, IsChosen}
-use Rattle.pb_choice.specs.Left.{IsLeft}
+use Rattle.pb_choice.specs.laws.Chosen.{sum_at, treatment_at, IsChosen}
+use Rattle.pb_choice.specs.laws.Left.{IsLeft}
 use Rattle.pb_choice.specs.Sums.{sum_clauses, sum_count, sum_fresh}
 
 -- ---- the budget

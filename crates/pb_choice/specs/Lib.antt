@@ -1,10 +1,6 @@
-pub mod Chosen
 pub mod Choice
 pub mod Clauses
 pub mod Defaults
 pub mod Examples
-pub mod Laws
-pub mod Left
-pub mod Suits
-pub mod SumLaws
 pub mod Sums
+pub mod laws

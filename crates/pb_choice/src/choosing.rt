@@ -2,10 +2,10 @@
 ghost use Rattle.std.specs.Prelude.{◌≤◌, ◌<◌, ◌^◌, IfOk, length};
 ghost use Rattle.pb_norm.specs.Constraints.{weight};
 ghost use Rattle.pb_norm.specs.BoundedSums.{IsProper};
-ghost use Rattle.pb_norm.proofs.RestClasses.{IsAtMostOne, IsCardinality, RestIs};
+ghost use Rattle.pb_norm.specs.Classes.{IsAtMostOne, IsCardinality, RestIs};
 ghost use Rattle.pb_choice.specs.Choice.{amo_treatment, card_treatment, general_treatment, within_budget};
-ghost use Rattle.pb_choice.specs.Chosen.{IsChosen};
-ghost use Rattle.pb_choice.specs.Left.{rest_terms, IsLeft};
+ghost use Rattle.pb_choice.specs.laws.Chosen.{IsChosen};
+ghost use Rattle.pb_choice.specs.laws.Left.{rest_terms, IsLeft};
 
 use crate::chosen::Chosen;
 use crate::held::AtMostOne;
@@ -19,7 +19,6 @@ use std::alloc::Global;
 // For at most one literal.
 fn one_of(amo: Amo, sum: AtMost) -> Chosen
     requires class { IsAtMostOne sum }
-    requires few { length sum.terms < 2 ^ 31 }
     ensures { IsChosen (amo_treatment amo (length sum.terms)) sum result }
 {
     let count = sum.terms().len();
@@ -37,7 +36,6 @@ fn one_of(amo: Amo, sum: AtMost) -> Chosen
 // For at most so many literals.
 fn card_of(alloc: Global, options: &Options, sum: AtMost) -> Result<Chosen, NoMemory>
     requires class { IsCardinality sum }
-    requires few { length sum.terms < 2 ^ 31 }
     requires light { weight sum.terms < 2 ^ 100 }
     ensures { IfOk result (IsChosen (within_budget options.now.budget sum (card_treatment options.now.card sum.bound)) sum) }
 {
@@ -53,7 +51,6 @@ fn card_of(alloc: Global, options: &Options, sum: AtMost) -> Result<Chosen, NoMe
 // For a sum with weights.
 fn general_of(alloc: Global, options: &Options, sum: AtMost) -> Result<Chosen, NoMemory>
     requires class { IsProper sum }
-    requires few { length sum.terms < 2 ^ 31 }
     requires light { weight sum.terms < 2 ^ 100 }
     requires modest { options.now.budget ≤ 10000000 }
     ensures { IfOk result (IsChosen (within_budget options.now.budget sum (general_treatment options.now.general)) sum) }
@@ -68,7 +65,6 @@ fn general_of(alloc: Global, options: &Options, sum: AtMost) -> Result<Chosen, N
 /// What is left of a constraint, with the family that is chosen for it.
 pub fn left_of(alloc: Global, options: &Options, rest: Rest) -> Result<Left, NoMemory>
     requires class { RestIs rest }
-    requires few { length (rest_terms rest) < 2 ^ 31 }
     requires light { weight (rest_terms rest) < 2 ^ 100 }
     requires modest { options.now.budget ≤ 10000000 }
     ensures { IfOk result (IsLeft options.now rest) }

@@ -22,7 +22,7 @@ pub enum Chosen {
 
 impl Chosen {
     ghost use Rattle.std.specs.Prelude.{◌≡◌};
-    ghost use Rattle.pb_choice.specs.Chosen.{treatment_at};
+    ghost use Rattle.pb_choice.specs.laws.Chosen.{treatment_at};
 
     /// Which family it is.
     pub fn treatment(&self) -> Treatment
@@ -42,9 +42,9 @@ impl Chosen {
 }
 
 impl Family for Chosen {
-    ghost use Rattle.pb_choice.specs.Chosen.{chosen_suits, sum_at, treatment_at};
+    ghost use Rattle.pb_choice.specs.laws.Chosen.{chosen_suits, sum_at, treatment_at};
     ghost use Rattle.pb_choice.specs.Sums.{sum_clauses, sum_count, sum_fresh};
-    ghost use Rattle.pb_choice.specs.SumLaws.{sum_counts, sum_extends, sum_names, sum_sound};
+    ghost use Rattle.pb_choice.specs.laws.SumLaws.{sum_counts, sum_extends, sum_names, sum_sound};
 
     ghost constraint = { λ f. sum_at f };
 

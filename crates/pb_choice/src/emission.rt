@@ -1,7 +1,6 @@
 //! Clauses that no family has, handed over.
-ghost use Rattle.std.specs.Prelude.{◌∷◌, [], map, OnOk, OnErr, IfErr};
-ghost use Rattle.pb_family.specs.ClauseText.{clauses_text};
-ghost use Rattle.pb_family.specs.Sinks.{FailsToTake, Stops, Takes};
+ghost use Rattle.std.specs.Prelude.{◌∷◌, [], map};
+ghost use Rattle.pb_family.specs.Handing.{Hands, HandsIfMemory};
 ghost use Rattle.pb_choice.specs.Clauses.{unit_clause};
 
 use pb_base::{Failed, Lit, Lits};
@@ -9,8 +8,7 @@ use pb_family::{ClauseSink, SinkFault};
 
 /// Hands over unit clauses.
 pub fn emit_units<S: ClauseSink>(units: &Lits, sink: &mut S) -> Result<(), Failed>
-    ensures ok { OnOk result (Takes (clauses_text (map unit_clause units.now)) (S.state sink.old) (S.state sink.new)) }
-    ensures failed { OnErr result (FailsToTake (clauses_text (map unit_clause units.now)) (S.state sink.old) (S.state sink.new)) }
+    ensures { Hands (map unit_clause units.now) result (S.state sink.old) (S.state sink.new) }
 {
     for unit in units.as_slice() {
         sink.clause(&[*unit])?;
@@ -20,8 +18,7 @@ pub fn emit_units<S: ClauseSink>(units: &Lits, sink: &mut S) -> Result<(), Faile
 
 /// Hands over one clause.
 pub fn emit_one<S: ClauseSink>(clause: &[Lit], sink: &mut S) -> Result<(), SinkFault>
-    ensures ok { OnOk result (Takes (clauses_text (clause.now ∷ [])) (S.state sink.old) (S.state sink.new)) }
-    ensures stops { IfErr result (Stops (clauses_text (clause.now ∷ [])) (S.state sink.old) (S.state sink.new)) }
+    ensures { HandsIfMemory (clause.now ∷ []) result (S.state sink.old) (S.state sink.new) }
 {
     sink.clause(clause)?;
     Ok(())

@@ -1,8 +1,8 @@
 //! Sums that a plan keeps, with what was built of them.
-ghost use Rattle.std.specs.Prelude.{◌≡◌, ◌≤◌, ◌<◌, ◌^◌, length};
+ghost use Rattle.std.specs.Prelude.{◌≡◌, ◌≤◌, ◌<◌, ◌^◌};
 ghost use Rattle.pb_norm.specs.Constraints.{weight};
 ghost use Rattle.pb_norm.specs.BoundedSums.{IsProper};
-ghost use Rattle.pb_norm.proofs.RestClasses.{IsAtMostOne, IsCardinality};
+ghost use Rattle.pb_norm.specs.Classes.{IsAtMostOne, IsCardinality};
 ghost use Rattle.pb_diagram.specs.Clauses.{diagram_fresh};
 ghost use Rattle.pb_gentot.specs.Generalized.{generalized_fresh};
 
@@ -18,7 +18,6 @@ use pb_totalizer::Totalizer;
 pub struct AtMostOne {
     pub sum: AtMost,
     pub ghost class: { IsAtMostOne sum },
-    pub ghost few: { length sum.terms < 2 ^ 31 },
 }
 
 /// At most so many of more literals.
@@ -26,7 +25,6 @@ pub struct AtMostOne {
 pub struct Cardinality {
     pub sum: AtMost,
     pub ghost class: { IsCardinality sum },
-    pub ghost few: { length sum.terms < 2 ^ 31 },
 }
 
 /// A totalizer and its sum.
@@ -35,7 +33,6 @@ pub struct TotalizerOf {
     pub sum: AtMost,
     pub family: Totalizer,
     pub ghost class: { IsCardinality sum },
-    pub ghost few: { length sum.terms < 2 ^ 31 },
     pub ghost over: { ⟦<Totalizer as Family>⟧.constraint family ≡ sum },
 }
 
@@ -55,7 +52,6 @@ pub struct TreeOf {
     pub sum: AtMost,
     pub family: Weighted,
     pub ghost class: { IsProper sum },
-    pub ghost few: { length sum.terms < 2 ^ 31 },
     pub ghost modest: { generalized_fresh sum ≤ 10000000 },
     pub ghost over: { ⟦<Weighted as Family>⟧.constraint family ≡ sum },
 }
@@ -65,7 +61,7 @@ pub struct TreeOf {
 pub struct AdderOf {
     pub sum: AtMost,
     pub family: Adder,
-    pub ghost few: { length sum.terms < 2 ^ 31 },
+    pub ghost class: { IsProper sum },
     pub ghost light: { weight sum.terms < 2 ^ 100 },
     pub ghost over: { ⟦<Adder as Family>⟧.constraint family ≡ sum },
 }

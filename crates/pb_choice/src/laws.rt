@@ -1,5 +1,5 @@
 //! Laws about the definitions.
-ghost use Rattle.pb_choice.specs.Laws.{ClausesEncode, ClausesForce};
+ghost use Rattle.pb_choice.specs.laws.Laws.{ClausesEncode, ClausesForce};
 
 /// The law that the clauses of a constraint say what it says, under any options.
 pub fn clauses_encode()

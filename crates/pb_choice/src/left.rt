@@ -21,11 +21,10 @@ pub enum Left {
 }
 
 impl Left {
-    ghost use Rattle.std.specs.Prelude.{◌≡◌, ◌≤◌, ◌+◌, ◌^◌, OnOk, IfErr};
-    ghost use Rattle.pb_family.specs.ClauseText.{clauses_text};
+    ghost use Rattle.std.specs.Prelude.{◌≡◌, ◌≤◌, ◌+◌, ◌^◌};
     ghost use Rattle.pb_family.specs.Families.{VarsBelow};
-    ghost use Rattle.pb_family.specs.Sinks.{Stops, Takes};
-    ghost use Rattle.pb_choice.specs.Left.{left_clauses, left_count, left_fresh, left_terms, left_treatment};
+    ghost use Rattle.pb_family.specs.Handing.{HandsIfMemory};
+    ghost use Rattle.pb_choice.specs.laws.Left.{left_clauses, left_count, left_fresh, left_terms, left_treatment};
 
     /// How it is encoded.
     pub fn treatment(&self) -> Treatment
@@ -70,8 +69,7 @@ impl Left {
         requires original { VarsBelow first (left_terms self.now) }
         requires low { 1 ≤ first }
         requires fits { first + left_fresh self.now ≤ 2 ^ 31 }
-        ensures ok { OnOk result (Takes (clauses_text (left_clauses self.now first)) (S.state sink.old) (S.state sink.new)) }
-        ensures stops { IfErr result (Stops (clauses_text (left_clauses self.now first)) (S.state sink.old) (S.state sink.new)) }
+        ensures { HandsIfMemory (left_clauses self.now first) result (S.state sink.old) (S.state sink.new) }
     {
         match self {
             Left::Nothing => Ok(()),

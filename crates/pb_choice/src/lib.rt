@@ -18,6 +18,3 @@ pub use options::{Amo, Card, DEFAULT_BUDGET, General, MAX_BUDGET, Options};
 pub use planning::plan;
 pub use plans::{Counts, Plan};
 pub use treatment::Treatment;
-
-#[cfg(test)]
-mod tests;

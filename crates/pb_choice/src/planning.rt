@@ -20,7 +20,6 @@ pub fn plan<'a>(
     ensures constraint { IfOk result (λ plan. plan.constraint.now ≡ constraint.now) }
     ensures options { IfOk result (λ plan. plan.options ≡ options.now) }
 {
-    let _ = constraint.len();
     let Reduced { units, rest } = reduce(alloc, constraint)?;
     let left = left_of(alloc, options, rest)?;
     Ok(Plan {

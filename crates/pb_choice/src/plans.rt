@@ -1,12 +1,11 @@
 //! How one constraint is encoded.
-ghost use Rattle.std.specs.Prelude.{◌≡◌, ◌≤◌, ◌+◌, ◌^◌, OnOk, IfErr};
+ghost use Rattle.std.specs.Prelude.{◌≡◌, ◌≤◌, ◌+◌, ◌^◌};
 ghost use Rattle.pb_norm.specs.Reduction.{rest_of, units_of};
-ghost use Rattle.pb_family.specs.ClauseText.{clauses_text};
 ghost use Rattle.pb_family.specs.Families.{VarsBelow};
-ghost use Rattle.pb_family.specs.Sinks.{Stops, Takes};
+ghost use Rattle.pb_family.specs.Handing.{HandsIfMemory};
 ghost use Rattle.pb_choice.specs.Choice.{treatment_of};
 ghost use Rattle.pb_choice.specs.Clauses.{constraint_clauses, constraint_count, constraint_fresh};
-ghost use Rattle.pb_choice.specs.Left.{IsLeft};
+ghost use Rattle.pb_choice.specs.laws.Left.{IsLeft};
 
 use crate::emission::emit_units;
 use crate::left::Left;
@@ -66,8 +65,7 @@ impl Plan<'_> {
         requires original { VarsBelow first self.now.constraint.now.terms }
         requires low { 1 ≤ first }
         requires fits { first + constraint_fresh self.now.options self.now.constraint.now ≤ 2 ^ 31 }
-        ensures ok { OnOk result (Takes (clauses_text (constraint_clauses self.now.options self.now.constraint.now first)) (S.state sink.old) (S.state sink.new)) }
-        ensures stops { IfErr result (Stops (clauses_text (constraint_clauses self.now.options self.now.constraint.now first)) (S.state sink.old) (S.state sink.new)) }
+        ensures { HandsIfMemory (constraint_clauses self.now.options self.now.constraint.now first) result (S.state sink.old) (S.state sink.new) }
     {
         emit_units(&self.units, sink)?;
         self.left.emit(alloc, first, sink)

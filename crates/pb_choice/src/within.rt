@@ -1,10 +1,10 @@
 //! Families within a budget of fresh variables, and the adder in their place.
-ghost use Rattle.std.specs.Prelude.{◌≤◌, ◌<◌, ◌^◌, IfOk, length};
+ghost use Rattle.std.specs.Prelude.{◌≤◌, ◌<◌, ◌^◌, IfOk};
 ghost use Rattle.pb_norm.specs.Constraints.{weight};
 ghost use Rattle.pb_norm.specs.BoundedSums.{IsProper};
-ghost use Rattle.pb_norm.proofs.RestClasses.{IsCardinality};
+ghost use Rattle.pb_norm.specs.Classes.{IsCardinality};
 ghost use Rattle.pb_choice.specs.Choice.{within_budget};
-ghost use Rattle.pb_choice.specs.Chosen.{IsChosen};
+ghost use Rattle.pb_choice.specs.laws.Chosen.{IsChosen};
 
 use crate::chosen::Chosen;
 use crate::held::{AdderOf, Cardinality, DiagramOf, TotalizerOf, TreeOf};
@@ -21,7 +21,7 @@ use std::alloc::Global;
 
 /// The adder, however large.
 pub fn adder_of(alloc: Global, sum: AtMost) -> Result<Chosen, NoMemory>
-    requires few { length sum.terms < 2 ^ 31 }
+    requires class { IsProper sum }
     requires light { weight sum.terms < 2 ^ 100 }
     ensures { IfOk result (IsChosen Treatment.Adder sum) }
 {
@@ -32,7 +32,6 @@ pub fn adder_of(alloc: Global, sum: AtMost) -> Result<Chosen, NoMemory>
 /// The counter, or the adder.
 pub fn counter_within(alloc: Global, sum: AtMost, budget: u64) -> Result<Chosen, NoMemory>
     requires class { IsCardinality sum }
-    requires few { length sum.terms < 2 ^ 31 }
     requires light { weight sum.terms < 2 ^ 100 }
     ensures { IfOk result (IsChosen (within_budget budget sum Treatment.Counter) sum) }
 {
@@ -45,7 +44,6 @@ pub fn counter_within(alloc: Global, sum: AtMost, budget: u64) -> Result<Chosen,
 /// The totalizer, or the adder.
 pub fn totalizer_within(alloc: Global, sum: AtMost, budget: u64) -> Result<Chosen, NoMemory>
     requires class { IsCardinality sum }
-    requires few { length sum.terms < 2 ^ 31 }
     requires light { weight sum.terms < 2 ^ 100 }
     ensures { IfOk result (IsChosen (within_budget budget sum Treatment.Totalizer) sum) }
 {
@@ -58,7 +56,6 @@ pub fn totalizer_within(alloc: Global, sum: AtMost, budget: u64) -> Result<Chose
 /// The diagram, or the adder.
 pub fn diagram_within(alloc: Global, sum: AtMost, budget: u64) -> Result<Chosen, NoMemory>
     requires class { IsProper sum }
-    requires few { length sum.terms < 2 ^ 31 }
     requires light { weight sum.terms < 2 ^ 100 }
     requires modest { budget ≤ 10000000 }
     ensures { IfOk result (IsChosen (within_budget budget sum Treatment.Diagram) sum) }
@@ -72,7 +69,6 @@ pub fn diagram_within(alloc: Global, sum: AtMost, budget: u64) -> Result<Chosen,
 /// The generalized totalizer, or the adder.
 pub fn tree_within(alloc: Global, sum: AtMost, budget: u64) -> Result<Chosen, NoMemory>
     requires class { IsProper sum }
-    requires few { length sum.terms < 2 ^ 31 }
     requires light { weight sum.terms < 2 ^ 100 }
     requires modest { budget ≤ 10000000 }
     ensures { IfOk result (IsChosen (within_budget budget sum Treatment.Tree) sum) }

@@ -8,11 +8,7 @@ use Rattle.pb_norm.specs.Halves.{half_of, halves_of, constraints_of, loaded}
 use Rattle.pb_norm.proofs.Loaded.{loaded_more}
 use Rattle.pb_encode.specs.declared.tally.Tally.{Tally}
 use Rattle.pb_choice.specs.declared.options.Options.{Options}
-use Rattle.pb_encode.specs.Tallies.{IsTally}
-
--- these constraints were counted on top of any that were counted before
-abbrev pub Counts : Options → Tally → Tally → List Constraint → Type 0
-Counts o old new cs = (before : List Constraint) → IsTally o before old → IsTally o (before ++ cs) new
+use Rattle.pb_encode.specs.laws.Tallies.{Counts, IsTally}
 
 -- the tally of the same constraints, written another way
 tally_same : (o : Options) (cs ds : List Constraint) (t : Tally) → cs ≡ ds → IsTally o cs t → IsTally o ds t

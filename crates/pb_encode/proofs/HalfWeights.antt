@@ -1,5 +1,5 @@
 -- What the halves of a statement weigh.
-use Rattle.std.proofs.Common.{◌≡◌, ◌<◌, ◌+◌, ℕ, List, [], ◌∷◌, map, refl, arith}
+use Rattle.std.proofs.Common.{◌≡◌, ◌<◌, ℕ, List, [], ◌∷◌, map, refl, arith}
 use Rattle.std.specs.Int.RustNames.{unsigned_abs}
 use Rattle.std.proofs.lemmas.List.Sums.{sum_by-cons}
 use Rattle.pb_base.specs.declared.literal.Term.{Term}
@@ -8,7 +8,7 @@ use Rattle.pb_base.specs.Problems.{magnitude, StaysBelow}
 use Rattle.pb_base.proofs.Sums.{sum_by-parts}
 use Rattle.pb_norm.specs.declared.halves.Half.{Half}
 use Rattle.pb_norm.specs.Addition.{joined}
-use Rattle.pb_norm.specs.Constraints.{Weighted, Constraint, weight}
+use Rattle.pb_norm.specs.Constraints.{Weighted, weight}
 use Rattle.pb_norm.specs.Halves.{half_of, half_terms, is_positive, unsigned}
 use Rattle.pb_norm.proofs.AdditionSizes.{weight-cons, weight-joined}
 use Rattle.pb_norm.proofs.NetBounds.{magnitude-half}

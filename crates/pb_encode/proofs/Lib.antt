@@ -5,5 +5,4 @@ pub mod Residuals
 pub mod Solutions
 pub mod StreamSteps
 pub mod TallyLemmas
-pub mod TextParts
 pub mod WholeTexts

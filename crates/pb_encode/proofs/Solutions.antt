@@ -1,10 +1,9 @@
 -- The clauses of a problem have its solutions, its counts and its variables, and force what its constraints do.
-use Rattle.std.proofs.Common.{◌≡◌, ◌≤◌, ◌<◌, ◌+◌, ◌^◌, ◌++◌, ℕ, zero, suc, List, [], ◌∷◌, Bool, false, All, map, take, length, get_or, ◌↔◌, refl, ap, sym, subst, ◌∙◌, arith, inl, inr}
+use Rattle.std.proofs.Common.{◌≡◌, ◌≤◌, ◌<◌, ◌+◌, ◌-◌, ◌^◌, ◌++◌, ℕ, zero, suc, List, [], ◌∷◌, Bool, false, All, map, take, length, refl, ap, sym, subst, ◌∙◌, arith, inl, inr}
 use Rattle.std.specs.Prelude.{Contains}
 use Rattle.pb_base.proofs.Members.{Contains-nil, Contains-here, Contains-there, Contains-cons_cases}
 use Rattle.std.specs.List.{range_with_len}
-use Rattle.std.proofs.Math.Seq.{take-length}
-use Rattle.std.proofs.lemmas.List.{ext_get_or, length-map, get_or-take}
+use Rattle.std.proofs.lemmas.List.{ext_get_or, length-map, length-take, take-take}
 use Rattle.std.proofs.lemmas.List.FromFn.{get_or-map-range_with_len, take-map-range_with_len, length-range_with_len}
 use Rattle.std.proofs.lemmas.List.Elements.{All-nil, All-cons, All-head, All-tail, All-append, All-weaker}
 use Rattle.pb_base.specs.declared.literal.Lit.{Lit}
@@ -12,18 +11,19 @@ use Rattle.pb_base.specs.declared.problem.Relation.{Relation}
 use Rattle.pb_base.specs.declared.problem.Relation.TheVariants.{AtLeast, AtMost, Equal}
 use Rattle.pb_base.specs.declared.problem.Raw.{Raw}
 use Rattle.pb_base.specs.declared.problem.Problem.{Problem}
-use Rattle.pb_base.specs.Literals.{Assignment, AgreeBelow, assigned_by, IsModel}
-use Rattle.pb_base.specs.Problems.{IsSolution, IsSumWithin, IsWithinLimits, StaysBelow}
+use Rattle.pb_base.specs.Literals.{Assignment, AgreeBelow, assigned_by}
+use Rattle.pb_base.specs.Problems.{IsSolution, IsSumWithin, IsWithinLimits, StaysBelow, originals}
 use Rattle.pb_norm.specs.declared.halves.Half.TheVariants.{Lower, Upper}
-use Rattle.pb_norm.specs.Constraints.{Constraint, IsLinear, Holds, Solves}
-use Rattle.pb_norm.specs.Halves.{loaded, half_of, halves_of, constraints_of}
+use Rattle.pb_norm.specs.Constraints.{Constraint, Weighted, IsAscending, IsLinear, Holds, Solves}
+use Rattle.pb_norm.specs.Halves.{loaded, loaded_of, half_of, halves_of, constraints_of}
 use Rattle.pb_norm.specs.ClausePropagation.{ClausesPropagate}
 use Rattle.pb_norm.specs.ClauseForm.{clause_form}
 use Rattle.pb_norm.specs.Propagation.{Propagates}
-use Rattle.pb_norm.specs.PropagationLaws.{AreAmong}
+use Rattle.pb_norm.specs.laws.PropagationLaws.{AreAmong}
 use Rattle.pb_norm.proofs.Agreement.{IsModel-agree, cut-agrees}
 use Rattle.pb_norm.proofs.ClauseLift.{propagates_lifts}
-use Rattle.pb_norm.proofs.Loaded.{solutions_of_loaded}
+use Rattle.pb_norm.proofs.Lengths.{ascending_few}
+use Rattle.pb_norm.proofs.Loaded.{are_fronts}
 use Rattle.pb_norm.proofs.NetBounds.{made-linear}
 use Rattle.pb_norm.proofs.PropagationMore.{ClausesPropagate-more}
 use Rattle.pb_norm.proofs.Variables.{OfLit, OfTerm, OfWritten, IsOver, loaded-vars}
@@ -32,8 +32,8 @@ use Rattle.pb_choice.specs.Choice.{IsSentToAdder}
 use Rattle.pb_choice.specs.Clauses.{constraint_clauses, constraint_fresh}
 use Rattle.pb_choice.proofs.Composition.{IsOneBelow, IsReady, holds-agree, all-sound, all-extend, all-within, all-count}
 use Rattle.pb_choice.proofs.Forced.{clauses-propagate}
-use Rattle.pb_dimacs.specs.CnfReading.{IsWithin}
-use Rattle.pb_encode.specs.Clauses.{clauses_from, clause_total, fresh_total, problem_clauses, problem_vars}
+use Rattle.pb_dimacs.specs.CnfReading.{IsLitWithin}
+use Rattle.pb_encode.specs.Clauses.{clauses_from, clause_total, problem_clauses, problem_vars}
 use Rattle.pb_encode.specs.Models.{IsModelOver, HasSolutionsOf}
 
 -- ---- the loaded constraints are in normal form, over the problem's variables
@@ -53,35 +53,44 @@ wider ss small = All-weaker (StaysBelow (2 ^ 100)) (StaysBelow (2 ^ 126)) (λ s 
 written-below : (vars : ℕ) (ss : List Raw) → All (λ s. IsSumWithin vars s.terms) ss → All (λ s. All (OfWritten (IsOneBelow (vars + 1))) s.terms) ss
 written-below vars ss h = All-weaker (λ s. IsSumWithin vars s.terms) (λ s. All (OfWritten (IsOneBelow (vars + 1))) s.terms) (λ s k i d l. (k.vars_from i d l, omega (arith, k.vars_within i d l))) ss h
 
-ready_each : (o : Options) (n : ℕ) (cs : List Constraint) → All IsLinear cs → All (IsOver (IsOneBelow n)) cs → All (IsReady o n) cs
-ready_each o n [] linear over = All-nil (IsReady o n)
-ready_each o n (c ∷ cs) linear over =
-    All-cons (IsReady o n) c cs
-    (record { linear = All-head IsLinear c cs linear; within = All-head (IsOver (IsOneBelow n)) c cs over })
-    (ready_each o n cs (All-tail IsLinear c cs linear) (All-tail (IsOver (IsOneBelow n)) c cs over))
+-- fewer terms than the number that their variables stay below
+few_below : (n : ℕ) (ts : List Weighted) → IsAscending ts → All (OfTerm (IsOneBelow n)) ts → 1 ≤ n → length ts < n
+few_below n ts ascending over from =
+    let any : Weighted = record { lit = record { var = 1; positive = false }; coef = 0 } in
+    ascending_few ts any n ascending (λ some. (over 0 any some).0) (λ some. (over (length ts - 1) any (omega (arith, some))).1) from
 
-pub loaded_ready : (o : Options) (p : Problem) → IsWithinLimits p → All (IsReady o (p.vars + 1)) (loaded p.statements)
+ready_each : (o : Options) (n : ℕ) (cs : List Constraint) → 1 ≤ n → n ≤ 2 ^ 31 → All IsLinear cs → All (IsOver (IsOneBelow n)) cs → All (IsReady o n) cs
+ready_each o n [] from most linear over = All-nil (IsReady o n)
+ready_each o n (c ∷ cs) from most linear over =
+    let is_linear : IsLinear c = All-head IsLinear c cs linear in
+    let is_over : IsOver (IsOneBelow n) c = All-head (IsOver (IsOneBelow n)) c cs over in
+    let few : length c.terms < n = few_below n c.terms is_linear.ascending is_over from in
+    All-cons (IsReady o n) c cs
+    (record { linear = is_linear; few = omega (arith, few, most); within = is_over })
+    (ready_each o n cs from most (All-tail IsLinear c cs linear) (All-tail (IsOver (IsOneBelow n)) c cs over))
+
+pub loaded_ready : (o : Options) (p : Problem) → IsWithinLimits p → All (IsReady o (originals p + 1)) (loaded_of p)
 loaded_ready o p within =
-    ready_each o (p.vars + 1) (loaded p.statements) (loaded_linear p.statements (wider p.statements within.numbers))
-    (loaded-vars (IsOneBelow (p.vars + 1)) p.statements (written-below p.vars p.statements within.sums))
+    ready_each o (originals p + 1) (loaded_of p) (omega arith) (omega (arith, within.vars)) (loaded_linear p.statements (wider p.statements within.numbers))
+    (loaded-vars (IsOneBelow (originals p + 1)) p.statements (written-below (originals p) p.statements within.sums))
 
 -- ---- all clauses
 
 abbrev all_from : Options → List Constraint → ℕ → List (List Lit)
 all_from o cs first = clauses_from o first cs
 
-below_all : (o : Options) (p : Problem) → All (IsReady o (p.vars + 1)) (loaded p.statements) → All (All (OfLit (IsOneBelow (problem_vars o p + 1)))) (problem_clauses o p)
-below_all o p ready = all-within o (all_from o) (λ first. refl) (λ c cs first. refl) (p.vars + 1) (loaded p.statements) (p.vars + 1) (problem_vars o p + 1) (omega arith) (omega arith) (omega arith) ready
+below_all : (o : Options) (p : Problem) → All (IsReady o (originals p + 1)) (loaded_of p) → All (All (OfLit (IsOneBelow (problem_vars o p + 1)))) (problem_clauses o p)
+below_all o p ready = all-within o (all_from o) (λ first. refl) (λ c cs first. refl) (originals p + 1) (loaded_of p) (originals p + 1) (problem_vars o p + 1) (omega arith) (omega arith) (omega arith) ready
 
-pub problem-within : (o : Options) (p : Problem) → IsWithinLimits p → All (All (IsWithin (problem_vars o p))) (problem_clauses o p)
+pub problem-within : (o : Options) (p : Problem) → IsWithinLimits p → All (All (IsLitWithin (problem_vars o p))) (problem_clauses o p)
 problem-within o p within =
     let vars = problem_vars o p in
-    All-weaker (All (OfLit (IsOneBelow (vars + 1)))) (All (IsWithin vars))
-    (λ ls h. All-weaker (OfLit (IsOneBelow (vars + 1))) (IsWithin vars) (λ l k. record { low = k.0; high = omega (arith, k.1) }) ls h)
+    All-weaker (All (OfLit (IsOneBelow (vars + 1)))) (All (IsLitWithin vars))
+    (λ ls h. All-weaker (OfLit (IsOneBelow (vars + 1))) (IsLitWithin vars) (λ l k. record { low = k.0; high = omega (arith, k.1) }) ls h)
     (problem_clauses o p) (below_all o p (loaded_ready o p within))
 
-pub clauses-count : (o : Options) (p : Problem) → IsWithinLimits p → length (problem_clauses o p) ≡ clause_total o (loaded p.statements)
-clauses-count o p within = all-count o (all_from o) (λ first. refl) (λ c cs first. refl) (p.vars + 1) (loaded p.statements) (p.vars + 1) (loaded_ready o p within)
+pub clauses-count : (o : Options) (p : Problem) → IsWithinLimits p → length (problem_clauses o p) ≡ clause_total o (loaded_of p)
+clauses-count o p within = all-count o (all_from o) (λ first. refl) (λ c cs first. refl) (originals p + 1) (loaded_of p) (originals p + 1) (loaded_ready o p within)
 
 -- ---- lists of values
 
@@ -118,33 +127,51 @@ solves-agree n a b agree (c ∷ cs) over holds =
 over_ready : (o : Options) (n : ℕ) (cs : List Constraint) → All (IsReady o n) cs → All (IsOver (IsOneBelow n)) cs
 over_ready o n cs ready = All-weaker (IsReady o n) (IsOver (IsOneBelow n)) (λ c h. h.within) cs ready
 
-model_from : (o : Options) (p : Problem) → All (IsReady o (p.vars + 1)) (loaded p.statements) → (values : List Bool) → length values ≡ p.vars → Solves (assigned_by values) (loaded p.statements)
-    → (model : List Bool) × IsModelOver (problem_vars o p) (problem_clauses o p) model × (take p.vars model ≡ values)
-model_from o p ready values covers solves =
-    let first = p.vars + 1 in
+-- where the loaded constraints hold, there is a model
+model_from : (o : Options) (p : Problem) → All (IsReady o (originals p + 1)) (loaded_of p) → (all : List Bool) → length all ≡ originals p → Solves (assigned_by all) (loaded_of p)
+    → (model : List Bool) × IsModelOver (problem_vars o p) (problem_clauses o p) model × (take (originals p) model ≡ all)
+model_from o p ready all covers solves =
+    let first = originals p + 1 in
     let vars = problem_vars o p in
-    let found = all-extend o (all_from o) (λ n. refl) (λ c cs n. refl) first (loaded p.statements) first (omega arith) (omega arith) ready (assigned_by values) solves in
+    let found = all-extend o (all_from o) (λ n. refl) (λ c cs n. refl) first (loaded_of p) first (omega arith) (omega arith) ready (assigned_by all) solves in
     let b = found.0 in
     let none : b 0 ≡ false = sym (found.1 0 (omega arith)) in
     let below = All-weaker (All (OfLit (IsOneBelow (vars + 1)))) (All (λ l. l.var < vars + 1)) (λ ls h. All-weaker (OfLit (IsOneBelow (vars + 1))) (λ l. l.var < vars + 1) (λ l k. k.1) ls h) (problem_clauses o p) (below_all o p ready) in (
       listed b vars,
       record { covers = listed_covers b vars; satisfies = IsModel-agree (vars + 1) b (assigned_by (listed b vars)) (listed-agrees b vars none) (problem_clauses o p) below found.2 },
-      listed_front b vars p.vars (omega arith) ∙ listed_is b values p.vars covers found.1,
+      listed_front b vars (originals p) (omega arith) ∙ listed_is b all (originals p) covers found.1,
     )
 
-solves_from : (o : Options) (p : Problem) → All (IsReady o (p.vars + 1)) (loaded p.statements) → (values model : List Bool) → IsModelOver (problem_vars o p) (problem_clauses o p) model → take p.vars model ≡ values → Solves (assigned_by values) (loaded p.statements)
-solves_from o p ready values model is front =
-    let first = p.vars + 1 in
-    let solves = all-sound o (all_from o) (λ n. refl) (λ c cs n. refl) first (loaded p.statements) first (omega arith) ready (assigned_by model) is.satisfies in
-    subst (λ (xs : List Bool). Solves (assigned_by xs) (loaded p.statements)) front
-    (solves-agree first (assigned_by model) (assigned_by (take p.vars model)) (cut-agrees model p.vars) (loaded p.statements) (over_ready o first (loaded p.statements) ready) solves)
+-- under the first values of a model they hold
+solves_from : (o : Options) (p : Problem) → All (IsReady o (originals p + 1)) (loaded_of p) → (model : List Bool) → IsModelOver (problem_vars o p) (problem_clauses o p) model → Solves (assigned_by (take (originals p) model)) (loaded_of p)
+solves_from o p ready model is =
+    let first = originals p + 1 in
+    let solves = all-sound o (all_from o) (λ n. refl) (λ c cs n. refl) first (loaded_of p) first (omega arith) ready (assigned_by model) is.satisfies in
+    solves-agree first (assigned_by model) (assigned_by (take (originals p) model)) (cut-agrees model (originals p)) (loaded_of p) (over_ready o first (loaded_of p) ready) solves
+
+-- the problem's variables are among those of the constraints
+cut_twice : (p : Problem) (model : List Bool) → take p.vars (take (originals p) model) ≡ take p.vars model
+cut_twice p model = take-take p.vars (originals p) model (omega arith)
 
 pub have_solutions : (o : Options) (p : Problem) → IsWithinLimits p → HasSolutionsOf p (problem_vars o p) (problem_clauses o p)
 have_solutions o p within values covers =
-    let solves = solutions_of_loaded p (loaded p.statements) refl values covers in
+    let fronts = are_fronts p values in
     let ready = loaded_ready o p within in (
-      (λ (h : IsSolution p values). model_from o p ready values covers (solves.0 h)),
-      (λ (found : (model : List Bool) × IsModelOver (problem_vars o p) (problem_clauses o p) model × (take p.vars model ≡ values)). solves.1 (solves_from o p ready values found.0 found.1 found.2)),
+      (λ (h : IsSolution p values).
+          let front = fronts.0 h in
+          let found = model_from o p ready front.0 front.1.covers front.1.solves in
+          (found.0, found.1, sym (cut_twice p found.0) ∙ ap (take p.vars) found.2 ∙ front.1.front)),
+      (λ (found : (model : List Bool) × IsModelOver (problem_vars o p) (problem_clauses o p) model × (take p.vars model ≡ values)).
+          let model = found.0 in
+          let long : length model ≡ problem_vars o p = found.1.covers in
+          fronts.1 (
+            take (originals p) model,
+            record {
+              covers = omega (arith, length-take (originals p) model, long);
+              solves = solves_from o p ready model found.1;
+              front = cut_twice p model ∙ found.2;
+            },
+          )),
     )
 
 -- ---- what is forced
@@ -178,11 +205,11 @@ force_each o n first (c ∷ cs) ready =
     let whole = clauses_from o first (c ∷ cs) in
     let here = All-head (IsReady o n) c cs ready in
     All-cons (Forces o whole) c cs
-    (λ other. ClausesPropagate-more (constraint_clauses o c first) whole (front_among (constraint_clauses o c first) (clauses_from o next cs)) (λ a. Holds a c) (clauses-propagate o c first here.linear other))
+    (λ other. ClausesPropagate-more (constraint_clauses o c first) whole (front_among (constraint_clauses o c first) (clauses_from o next cs)) (λ a. Holds a c) (clauses-propagate o c first here.linear here.few other))
     (All-weaker (Forces o (clauses_from o next cs)) (Forces o whole)
     (λ d h other. ClausesPropagate-more (clauses_from o next cs) whole (back_among (constraint_clauses o c first) (clauses_from o next cs)) (λ a. Holds a d) (h other)) cs (force_each o n next cs (All-tail (IsReady o n) c cs ready)))
 
-pub problem_forces : (o : Options) (p : Problem) → IsWithinLimits p → All (λ c. ¬ IsSentToAdder o c → Propagates (map clause_form (problem_clauses o p)) (λ a. Holds a c)) (loaded p.statements)
+pub problem_forces : (o : Options) (p : Problem) → IsWithinLimits p → All (λ c. ¬ IsSentToAdder o c → Propagates (map clause_form (problem_clauses o p)) (λ a. Holds a c)) (loaded_of p)
 problem_forces o p within =
     All-weaker (Forces o (problem_clauses o p)) (λ c. ¬ IsSentToAdder o c → Propagates (map clause_form (problem_clauses o p)) (λ a. Holds a c))
-    (λ c h other. propagates_lifts (problem_clauses o p) (λ a. Holds a c) (h other)) (loaded p.statements) (force_each o (p.vars + 1) (p.vars + 1) (loaded p.statements) (loaded_ready o p within))
+    (λ c h other. propagates_lifts (problem_clauses o p) (λ a. Holds a c) (h other)) (loaded_of p) (force_each o (originals p + 1) (originals p + 1) (loaded_of p) (loaded_ready o p within))

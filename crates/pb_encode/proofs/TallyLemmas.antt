@@ -1,5 +1,5 @@
 -- What a tally counts.
-use Rattle.std.proofs.Common.{◌≡◌, ◌≢◌, ◌≤◌, ◌<◌, ◌+◌, ◌*◌, ◌^◌, ◌==◌, ◌++◌, ℕ, Bool, true, false, cond, List, [], ◌∷◌, length, map, refl, ap, sym, subst, ◌∙◌, arith, inl, inr}
+use Rattle.std.proofs.Common.{◌≡◌, ◌≤◌, ◌<◌, ◌+◌, ◌*◌, ◌^◌, ◌++◌, ℕ, Bool, true, false, cond, List, [], ◌∷◌, length, map, ap, sym, ◌∙◌, arith, inl, inr}
 use Rattle.std.specs.Prelude.{slice_index_or, slice_set}
 use Rattle.std.proofs.lemmas.Bool.{cases_eq, eq-eqb, ne_eqb}
 use Rattle.std.proofs.lemmas.List.{length-append, get_or-set_same, get_or-set_other, length-set}
@@ -8,8 +8,9 @@ use Rattle.pb_base.specs.declared.problem.Relation.{Relation}
 use Rattle.pb_base.specs.declared.problem.Relation.TheVariants.{AtLeast, AtMost, Equal}
 use Rattle.pb_base.specs.declared.problem.Raw.{Raw}
 use Rattle.pb_base.specs.declared.problem.Problem.{Problem}
+use Rattle.pb_base.specs.Problems.{originals}
 use Rattle.pb_norm.specs.Constraints.{Constraint}
-use Rattle.pb_norm.specs.Halves.{half_of, halves_of, constraints_of, loaded}
+use Rattle.pb_norm.specs.Halves.{half_of, halves_of, constraints_of, loaded, loaded_of}
 use Rattle.pb_norm.specs.Reduction.{rest_of}
 use Rattle.pb_choice.specs.declared.options.Options.{Options}
 use Rattle.pb_choice.specs.Choice.{treatment_of}
@@ -19,7 +20,7 @@ use Rattle.pb_encode.specs.declared.summary.Treatments.{Treatments}
 use Rattle.pb_encode.specs.declared.summary.Summary.{Summary}
 use Rattle.pb_encode.specs.Clauses.{clause_total, fresh_total, problem_vars}
 use Rattle.pb_encode.specs.Summaries.{is_at, place_of, treated, treatments_of, summary_of}
-use Rattle.pb_encode.specs.Tallies.{capped, IsTally}
+use Rattle.pb_encode.specs.laws.Tallies.{capped, IsTally}
 
 capped-sum : (a b n : ℕ) → n ≡ a + b → capped n ≡ capped (capped a + b)
 capped-sum a b n e = omega (arith, e)
@@ -89,12 +90,12 @@ treated-le o place (c ∷ cs) =
 pub exact : (o : Options) (cs : List Constraint) (t : Tally) (place n : ℕ) → length cs < 2 ^ 64 → IsTally o cs t → place < 11 → n ≡ slice_index_or t.treated place 0 → n ≡ treated o place cs
 exact o cs t place n few h within is = omega (arith, is, h.treated place within, treated-le o place cs, few)
 
-pub summary_is : (o : Options) (p : Problem) (t : Tally) (v : ℕ) (ts : Treatments) → IsTally o (loaded p.statements) t → v ≡ capped (p.vars + t.fresh) → v < 2 ^ 31 → t.clauses ≤ 2 ^ 36 → ts ≡ treatments_of o (loaded p.statements)
-    → ◌≡◌ {A = Summary} (record { vars = v; original = p.vars; clauses = t.clauses; treatments = ts }) (summary_of o p)
-summary_is o p t v ts h vars small le same = λ i. record { vars = all i; original = p.vars; clauses = total i; treatments = same i }
+pub summary_is : (o : Options) (p : Problem) (t : Tally) (v n : ℕ) (ts : Treatments) → IsTally o (loaded_of p) t → n ≡ originals p → v ≡ capped (n + t.fresh) → v < 2 ^ 31 → t.clauses ≤ 2 ^ 36 → ts ≡ treatments_of o (loaded_of p)
+    → ◌≡◌ {A = Summary} (record { vars = v; original = n; clauses = t.clauses; treatments = ts }) (summary_of o p)
+summary_is o p t v n ts h is vars small le same = λ i. record { vars = all i; original = is i; clauses = total i; treatments = same i }
   where
     all : v ≡ problem_vars o p
-    all = omega (arith, vars, small, h.fresh)
+    all = omega (arith, vars, is, small, h.fresh)
 
-    total : t.clauses ≡ clause_total o (loaded p.statements)
+    total : t.clauses ≡ clause_total o (loaded_of p)
     total = omega (arith, h.clauses, le)

@@ -1,64 +1,67 @@
--- What a sink that held nothing has written of a text.
-use Rattle.std.proofs.Common.{◌≡◌, ◌≤◌, ◌++◌, ℕ, List, [], length, take, drop, sym, ap, ◌∙◌, subst, arith, length-append, append-nil}
-use Rattle.std.proofs.lemmas.List.{take-append-drop, take-append-le}
-use Rattle.std.proofs.Math.Seq.{take-append_seam}
+-- What a sink over slot 0 that held nothing has written of a text.
+use Rattle.std.proofs.Common.{◌≡◌, ◌∙◌, ◌++◌, ℕ, List, [], ap, subst}
+use Rattle.std.specs.Prelude.{IsSome}
 use Rattle.pb_desk.specs.View.{wrote}
-use Rattle.pb_desk.specs.Desk.{DeskState, Reaches, FailsToWrite, IsSteady, LacksRoom, written}
-use Rattle.pb_family.specs.Sinks.{SinkState, StaysOver, Takes, TakesPart, FailsToTake}
-use Rattle.pb_family.specs.Sinks.{Stops as StopsTaking}
-use Rattle.pb_family.specs.declared.sink.SinkFault.{SinkFault}
-use Rattle.pb_family.specs.declared.sink.SinkFault.TheVariants as sink
+use Rattle.pb_desk.specs.Desk.{DeskState, Reaches, IsSteady}
 use Rattle.pb_desk.proofs.Steps.{begin}
 use Rattle.pb_desk.proofs.Views.{wrote-nil}
+use Rattle.pb_family.specs.Sinks.{SinkState, Takes, TakesPart, FailsToTake}
+use Rattle.pb_family.specs.Handing.{Stops as StopsTaking}
+use Rattle.pb_family.specs.declared.sink.SinkFault.{SinkFault}
+use Rattle.pb_family.specs.declared.sink.SinkFault.TheVariants as sink
+use Rattle.pb_family.proofs.Taking.{then_fails, then_part}
+use Rattle.pb_dimacs.specs.Outboxes.{IsAllSent, SlotRest, slot_sink}
+use Rattle.pb_dimacs.proofs.Holding.{reaches_whole, reaches_part, fails_part, lacks_of, all_held}
+use Rattle.pb_encode.specs.declared.fault.EncodeFault.TheVariants as fault
 use Rattle.pb_encode.specs.Faults.{of_sink}
-use Rattle.pb_encode.specs.Sending.{Stops, StopsSending, SendsPart}
+use Rattle.pb_encode.specs.laws.Sending.{LacksFor, Stops, StopsSending, SendsPart}
 
--- the sink is at the start of slot 0
-pub record Starts {R : Type 0} (a : SinkState R) : Type 0 where
-  pub slot : a.slot ≡ 0
-  pub none : a.held ≡ []
+-- the sink is at the start of slot 0 of a desk
+abbrev pub Starts : {N : Type 0} → N → DeskState → List ℕ → SinkState (SlotRest N) → Type 0
+Starts n desk held s = s ≡ slot_sink n 0 held desk
 
-pub sent_whole : {R : Type 0} (text : List ℕ) (a c : SinkState R) → Starts a → c.held ≡ [] → Takes text a c → Reaches (wrote 0 text) a.desk c.desk
-sent_whole text a c starts none h =
-    let same = ap (λ (xs : List ℕ). xs ++ text) (sym starts.none) ∙ h.whole ∙ ap (λ (xs : List ℕ). h.sent ++ xs) none ∙ append-nil h.sent in
-    let to_slot = subst (λ (n : ℕ). Reaches (wrote n h.sent) a.desk c.desk) starts.slot h.reached in
-    subst (λ (xs : List ℕ). Reaches (wrote 0 xs) a.desk c.desk) (sym same) to_slot
+module _ {N : Type 0} (n m : N) (k : ℕ) (a b : DeskState) (held left text : List ℕ) (s : SinkState (SlotRest N)) (starts : Starts n a held s) (none : held ≡ []) where
+  start : s ≡ slot_sink n 0 [] a
+  start = starts ∙ ap (λ (xs : List ℕ). slot_sink n 0 xs a) none
 
-pub stops_whole : {R : Type 0} (text : List ℕ) (a c : SinkState R) → Starts a → FailsToTake text a c → StopsSending text a.desk c.desk
-stops_whole text a c starts h =
-    let to_slot = subst (λ (n : ℕ). FailsToWrite (wrote n (take h.count (a.held ++ text))) a.desk c.desk) starts.slot h.fails in
-    record { count = h.count; fails = subst (λ (xs : List ℕ). FailsToWrite (wrote 0 (take h.count (xs ++ text))) a.desk c.desk) starts.none to_slot }
+  pub sent_whole : IsAllSent (slot_sink m k left b) → Takes text s (slot_sink m k left b) → Reaches (wrote 0 text) a b
+  sent_whole all h =
+      let from = subst (λ (x : SinkState (SlotRest N)). Takes text x (slot_sink m k left b)) start h in
+      let to = subst (λ (x : SinkState (SlotRest N)). Takes text (slot_sink n 0 [] a) x) (all_held m k left b all) from in
+      reaches_whole n m 0 k a b text to
 
-pub lacks_whole : {R : Type 0} (text : List ℕ) (a c : SinkState R) → Starts a → FailsToTake text a c → IsSteady a.desk → LacksRoom (written 0) (length text) a.desk
-lacks_whole text a c starts h steady =
-    let to_slot = subst (λ (n : ℕ). LacksRoom (written n) (length (a.held ++ text)) a.desk) starts.slot (h.lacks steady) in
-    subst (λ (xs : List ℕ). LacksRoom (written 0) (length (xs ++ text)) a.desk) starts.none to_slot
+  pub stops_whole : FailsToTake text s (slot_sink m k left b) → StopsSending text a b
+  stops_whole h =
+      let found = fails_part n m 0 k a b text left (subst (λ (x : SinkState (SlotRest N)). FailsToTake text x (slot_sink m k left b)) start h) in
+      record { count = found.0; fails = found.1 }
 
-pub sends_whole : {R : Type 0} (text : List ℕ) (a c : SinkState R) → Starts a → TakesPart text a c → SendsPart text a.desk c.desk
-sends_whole text a c starts h =
-    let sent = h.taken.sent in
-    let part = take h.count text in
-    let same : part ≡ sent ++ c.held = ap (λ (xs : List ℕ). xs ++ part) (sym starts.none) ∙ h.taken.whole in
-    let within : length sent ≤ length part = omega (arith, ap length same, length-append sent c.held) in
-    let front : take (length sent) text ≡ sent =
-    ap (take (length sent)) (sym (take-append-drop h.count text)) ∙ take-append-le (length sent) part (drop h.count text) within
-    ∙ ap (take (length sent)) same ∙ take-append_seam sent c.held in
-    let to_slot = subst (λ (n : ℕ). Reaches (wrote n sent) a.desk c.desk) starts.slot h.taken.reached in
-    record { count = length sent; reached = subst (λ (xs : List ℕ). Reaches (wrote 0 xs) a.desk c.desk) (sym front) to_slot }
+  pub stopped_whole : (f : SinkFault) → StopsTaking text s (slot_sink m k left b) f → Stops text a b (of_sink f)
+  stopped_whole sink.Failed h = stops_whole h
+  stopped_whole sink.NoMemory h =
+      let part = subst (λ (x : SinkState (SlotRest N)). TakesPart text x (slot_sink m k left b)) start h in
+      let found = reaches_part n m 0 k a b text part.count left part.taken in
+      record { count = found.0; reached = found.1 }
 
--- such a sink stands over a slot that it was made for
-pub starts_at : {R : Type 0} (a : SinkState R) (desk : DeskState) (held : List ℕ) (rest : R) → a ≡ (record { desk = desk; slot = 0; held = held; rest = rest }) → held ≡ [] → Starts a
-starts_at a desk held rest is none = record { slot = ap (λ (s : SinkState _). s.slot) is; none = ap (λ (s : SinkState _). s.held) is ∙ none }
+  pub lacks_whole : FailsToTake text s (slot_sink m k left b) → IsSteady a → IsSome a.view.room → LacksFor text a
+  lacks_whole h steady some = lacks_of n m 0 k a b text left (subst (λ (x : SinkState (SlotRest N)). FailsToTake text x (slot_sink m k left b)) start h) steady some
 
--- the sink was stopped
+  pub lacks_stopped : (f : SinkFault) → of_sink f ≡ fault.WriteFault → StopsTaking text s (slot_sink m k left b) f → IsSteady a → IsSome a.view.room → LacksFor text a
+  lacks_stopped sink.Failed is h steady some = lacks_whole h steady some
+  lacks_stopped sink.NoMemory is h steady some = cc
 
-pub stopped_whole : {R : Type 0} (text : List ℕ) (a c : SinkState R) (f : SinkFault) → Starts a → StopsTaking text a c f → Stops text a.desk c.desk (of_sink f)
-stopped_whole text a c sink.Failed starts h = stops_whole text a c starts h
-stopped_whole text a c sink.NoMemory starts h = sends_whole text a c starts h
+-- a text that was taken before one that was stopped
+pub then_stops : {R : Type 0} (xs ys : List ℕ) (a b c : SinkState R) (f : SinkFault) → Takes xs a b → StopsTaking ys b c f → StopsTaking (xs ++ ys) a c f
+then_stops xs ys a b c sink.Failed first second = then_fails xs ys a b c first second
+then_stops xs ys a b c sink.NoMemory first second = then_part xs ys a b c first second
 
-pub stays_stopped : {R : Type 0} (text : List ℕ) (a c : SinkState R) (f : SinkFault) → StopsTaking text a c f → StaysOver a c
-stays_stopped text a c sink.Failed h = h.stays
-stays_stopped text a c sink.NoMemory h = h.taken.stays
+-- the name under which the sink stands
+pub name_stays : {N : Type 0} (n m : N) (k : ℕ) (a b : DeskState) (held left : List ℕ) (s : SinkState (SlotRest N)) → Starts n a held s → (slot_sink m k left b).rest ≡ s.rest → m ≡ n
+name_stays n m k a b held left s starts stays = ap (λ (r : SlotRest _). r.name) stays ∙ ap (λ (x : SinkState (SlotRest _)). x.rest.name) starts
+
+-- it stays in whichever way it was stopped
+pub rest_stays : {R : Type 0} (text : List ℕ) (s t : SinkState R) (f : SinkFault) → StopsTaking text s t f → t.rest ≡ s.rest
+rest_stays text s t sink.Failed h = h.grows.rest
+rest_stays text s t sink.NoMemory h = h.taken.grows.rest
 
 -- nothing was sent
 pub sends_none : (text : List ℕ) (a : DeskState) → SendsPart text a a

@@ -2,8 +2,9 @@
 use Rattle.std.specs.Prelude.{ℕ, ◌+◌, List, [], ◌∷◌, ◌++◌, sum_by}
 use Rattle.pb_base.specs.declared.literal.Lit.{Lit}
 use Rattle.pb_base.specs.declared.problem.Problem.{Problem}
+use Rattle.pb_base.specs.Problems.{originals}
 use Rattle.pb_norm.specs.Constraints.{Constraint}
-use Rattle.pb_norm.specs.Halves.{loaded}
+use Rattle.pb_norm.specs.Halves.{loaded_of}
 use Rattle.pb_choice.specs.declared.options.Options.{Options}
 use Rattle.pb_choice.specs.Clauses.{constraint_clauses, constraint_count, constraint_fresh}
 
@@ -20,8 +21,8 @@ clause_total o cs = sum_by (constraint_count o) cs
 
 -- in the order of the loaded constraints, the fresh variables after those of the problem
 abbrev pub problem_clauses : Options → Problem → List (List Lit)
-problem_clauses o p = clauses_from o (p.vars + 1) (loaded p.statements)
+problem_clauses o p = clauses_from o (originals p + 1) (loaded_of p)
 
 -- all variables
 abbrev pub problem_vars : Options → Problem → ℕ
-problem_vars o p = p.vars + fresh_total o (loaded p.statements)
+problem_vars o p = originals p + fresh_total o (loaded_of p)

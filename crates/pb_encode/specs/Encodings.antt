@@ -1,12 +1,13 @@
 -- What encoding a problem does to a desk. Our own.
 use Rattle.std.specs.Prelude.{ℕ, ◌<◌, List, take, length, IsSomeAnd}
+use Rattle.pb_base.specs.declared.limit.LimitKind.{LimitKind}
 use Rattle.pb_base.specs.declared.problem.Problem.{Problem}
 use Rattle.pb_desk.specs.View.{View, created, wrote, closed}
 use Rattle.pb_desk.specs.Desk.{DeskState, Reaches, FailsToWrite, IsTaken, IsTold, same}
 use Rattle.pb_dimacs.specs.CnfText.{cnf_text}
 use Rattle.pb_choice.specs.declared.options.Options.{Options}
 use Rattle.pb_encode.specs.Clauses.{problem_clauses, problem_vars}
-use Rattle.pb_encode.specs.Summaries.{IsEncodable}
+use Rattle.pb_encode.specs.Summaries.{IsEncodable, IsOver}
 
 -- the CNF text of a problem
 abbrev pub problem_text : Options → Problem → List ℕ
@@ -34,3 +35,17 @@ pub data WantsMemory (o : Options) (p : Problem) (name : List ℕ) (old new : De
 pub data LacksToMake (name text : List ℕ) (desk : DeskState) : Type 0 where
   is_taken : IsTold desk (λ t. IsTaken 0 name t.made) → LacksToMake name text desk
   no_room : IsSomeAnd desk.view.room (λ most. most < length text) → LacksToMake name text desk
+
+-- ---- why a problem is not encoded
+
+-- it passes a limit, and the desk is as it was
+abbrev pub Refuses : LimitKind → Options → Problem → DeskState → DeskState → Type 0
+Refuses which o p old new = IsOver which o p × Reaches same old new
+
+-- a write failed on the way
+abbrev pub IsCutOff : Options → Problem → List ℕ → DeskState → DeskState → Type 0
+IsCutOff o p name old new = IsEncodable o p × StopsMaking name (problem_text o p) old new
+
+-- a steady desk can't hold its file
+abbrev pub LacksForFile : Options → Problem → List ℕ → DeskState → Type 0
+LacksForFile o p name desk = LacksToMake name (problem_text o p) desk

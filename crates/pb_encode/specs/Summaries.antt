@@ -3,8 +3,9 @@ use Rattle.std.specs.Prelude.{ℕ, ◌-◌, ◌≤◌, ◌<◌, ◌^◌, Bool, �
 use Rattle.pb_base.specs.declared.limit.LimitKind.{LimitKind}
 use Rattle.pb_base.specs.declared.limit.LimitKind.TheVariants as limit
 use Rattle.pb_base.specs.declared.problem.Problem.{Problem}
+use Rattle.pb_base.specs.Problems.{originals}
 use Rattle.pb_norm.specs.Constraints.{Constraint}
-use Rattle.pb_norm.specs.Halves.{loaded}
+use Rattle.pb_norm.specs.Halves.{loaded_of}
 use Rattle.pb_norm.specs.Reduction.{rest_of}
 use Rattle.pb_choice.specs.declared.options.Options.{Options}
 use Rattle.pb_choice.specs.declared.treatment.Treatment.{Treatment}
@@ -56,9 +57,9 @@ treatments_of o cs = record {
 abbrev pub summary_of : Options → Problem → Summary
 summary_of o p = record {
   vars = problem_vars o p;
-  original = p.vars;
-  clauses = clause_total o (loaded p.statements);
-  treatments = treatments_of o (loaded p.statements);
+  original = originals p;
+  clauses = clause_total o (loaded_of p);
+  treatments = treatments_of o (loaded_of p);
 }
 
 -- ---- which problems are encoded
@@ -66,12 +67,12 @@ summary_of o p = record {
 -- there are not too many variables or clauses
 pub record IsEncodable (o : Options) (p : Problem) : Type 0 where
   pub vars : problem_vars o p < 2 ^ 31
-  pub clauses : clause_total o (loaded p.statements) ≤ 2 ^ 36
+  pub clauses : clause_total o (loaded_of p) ≤ 2 ^ 36
 
 -- what a problem passes that is not encoded: the variables before the clauses
 abbrev pub IsOver : LimitKind → Options → Problem → Type 0
 IsOver limit.Variables o p = 2 ^ 31 ≤ problem_vars o p
-IsOver limit.Clauses o p = (problem_vars o p < 2 ^ 31) × (2 ^ 36 < clause_total o (loaded p.statements))
+IsOver limit.Clauses o p = (problem_vars o p < 2 ^ 31) × (2 ^ 36 < clause_total o (loaded_of p))
 IsOver which o p = ⊥
 
 -- ---- the words

@@ -1,14 +1,12 @@
 //! A problem's CNF file.
-ghost use Rattle.std.specs.Prelude.{◌≡◌, ◌≤◌, false, Err, OnOk, IfOk, IfErr, IsTrue, length};
+ghost use Rattle.std.specs.Prelude.{◌≡◌, ◌≤◌, false, Err, OnOk, IfOk, IfErr, IsTrue};
 ghost use Rattle.pb_base.specs.declared.limit.LimitKind.{LimitKind};
 ghost use Rattle.pb_base.specs.Problems.{IsWithinLimits};
 ghost use Rattle.pb_desk.specs.View.{wrote};
-ghost use Rattle.pb_desk.specs.Desk.{IsSteady, LacksRoom, Reaches, same, written};
-ghost use Rattle.pb_family.specs.ClauseText.{clauses_text};
-ghost use Rattle.pb_encode.specs.Clauses.{problem_clauses};
-ghost use Rattle.pb_encode.specs.Encodings.{made, problem_text, LacksToMake, StopsMaking, WantsMemory};
-ghost use Rattle.pb_encode.specs.Sending.{Stops};
-ghost use Rattle.pb_encode.specs.Summaries.{summary_of, IsEncodable, IsOver};
+ghost use Rattle.pb_desk.specs.Desk.{IsSteady, Reaches, written};
+ghost use Rattle.pb_encode.specs.Encodings.{made, problem_text, IsCutOff, Refuses, LacksForFile, WantsMemory};
+ghost use Rattle.pb_encode.specs.laws.Sending.{LacksFor, Stops};
+ghost use Rattle.pb_encode.specs.Summaries.{summary_of, IsEncodable};
 
 use crate::fault::EncodeFault;
 use crate::measuring::measure;
@@ -17,30 +15,8 @@ use crate::summary::Summary;
 use pb_base::Problem;
 use pb_choice::Options;
 use pb_desk::Desk;
-use pb_dimacs::{ClauseWriter, Outbox, header};
+use pb_dimacs::{ClauseWriter, Outbox};
 use std::alloc::Global;
-
-// Writes the clauses of a problem to slot 0.
-fn write_clauses<D: Desk>(
-    alloc: Global,
-    problem: &Problem,
-    options: &Options,
-    desk: &mut D,
-) -> Result<(), EncodeFault>
-    requires within { IsWithinLimits problem.now }
-    requires encodable { IsEncodable options.now problem.now }
-    requires modest { options.now.budget ≤ 10000000 }
-    requires open { IsTrue ((D.state desk.old).view.writing 0) }
-    ensures written { OnOk result (Reaches (wrote 0 (clauses_text (problem_clauses options.now problem.now))) (D.state desk.old) (D.state desk.new)) }
-    ensures stopped { IfErr result (Stops (clauses_text (problem_clauses options.now problem.now)) (D.state desk.old) (D.state desk.new)) }
-    ensures steady { IsSteady (D.state desk.old) → result ≡ Err EncodeFault.WriteFault → LacksRoom (written 0) (length (clauses_text (problem_clauses options.now problem.now))) (D.state desk.old) }
-{
-    let mut outbox = Outbox::new(alloc)?;
-    let mut writer = ClauseWriter::new(desk, 0, &mut outbox);
-    stream_clauses(alloc, problem, options, &mut writer)?;
-    writer.flush()?;
-    Ok(())
-}
 
 // Writes the CNF text of a problem to slot 0, given its summary.
 fn write_cnf<D: Desk>(
@@ -57,10 +33,14 @@ fn write_cnf<D: Desk>(
     requires open { IsTrue ((D.state desk.old).view.writing 0) }
     ensures written { OnOk result (Reaches (wrote 0 (problem_text options.now problem.now)) (D.state desk.old) (D.state desk.new)) }
     ensures stopped { IfErr result (Stops (problem_text options.now problem.now) (D.state desk.old) (D.state desk.new)) }
-    ensures steady { IsSteady (D.state desk.old) → result ≡ Err EncodeFault.WriteFault → LacksRoom (written 0) (length (problem_text options.now problem.now)) (D.state desk.old) }
+    ensures steady { IsSteady (D.state desk.old) → result ≡ Err EncodeFault.WriteFault → LacksFor (problem_text options.now problem.now) (D.state desk.old) }
 {
-    header(desk, 0, summary.vars, summary.clauses)?;
-    write_clauses(alloc, problem, options, desk)
+    let mut outbox = Outbox::new(alloc)?;
+    let mut writer = ClauseWriter::new(desk, 0, &mut outbox);
+    writer.header(summary.vars, summary.clauses)?;
+    stream_clauses(alloc, problem, options, &mut writer)?;
+    writer.flush()?;
+    Ok(())
 }
 
 /// Writes the CNF of a problem to a new file in slot 0. The size is taken before the file is made, so that a problem
@@ -80,10 +60,10 @@ pub fn encode<D: Desk>(
     ensures encodable { OnOk result (IsEncodable options.now problem.now) }
     ensures made { OnOk result (Reaches (made name.now (problem_text options.now problem.now)) (D.state desk.old) (D.state desk.new)) }
 
-    ensures limit { (which : LimitKind) → result ≡ Err (EncodeFault.Limit which) → IsOver which options.now problem.now × Reaches same (D.state desk.old) (D.state desk.new) }
-    ensures write_fault { result ≡ Err EncodeFault.WriteFault → IsEncodable options.now problem.now × StopsMaking name.now (problem_text options.now problem.now) (D.state desk.old) (D.state desk.new) }
+    ensures limit { (k : LimitKind) → result ≡ Err (EncodeFault.Limit k) → Refuses k options.now problem.now (D.state desk.old) (D.state desk.new) }
+    ensures write_fault { result ≡ Err EncodeFault.WriteFault → IsCutOff options.now problem.now name.now (D.state desk.old) (D.state desk.new) }
     ensures no_memory { result ≡ Err EncodeFault.NoMemory → WantsMemory options.now problem.now name.now (D.state desk.old) (D.state desk.new) }
-    ensures steady { IsSteady (D.state desk.old) → result ≡ Err EncodeFault.WriteFault → LacksToMake name.now (problem_text options.now problem.now) (D.state desk.old) }
+    ensures steady { IsSteady (D.state desk.old) → result ≡ Err EncodeFault.WriteFault → LacksForFile options.now problem.now name.now (D.state desk.old) }
 {
     let summary = measure(alloc, problem, options)?;
     desk.create(0, name)?;

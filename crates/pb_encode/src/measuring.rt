@@ -1,11 +1,10 @@
 //! The size of an encoding, before anything is written.
-ghost use Rattle.std.specs.Prelude.{◌≡◌, ◌≤◌, [], ◌∷◌, ◌++◌, ◌^◌, List, All, IfOk, OnOk, Err};
+ghost use Rattle.std.specs.Prelude.{◌≡◌, ◌≤◌, [], ◌∷◌, ◌^◌, All, IfOk, OnOk, Err};
 ghost use Rattle.pb_base.specs.Problems.{IsWithinLimits, StaysBelow};
 ghost use Rattle.pb_base.specs.declared.limit.LimitKind.{LimitKind};
-ghost use Rattle.pb_norm.specs.Constraints.{Constraint};
 ghost use Rattle.pb_norm.specs.Halves.{half_of, constraints_of, loaded};
 ghost use Rattle.pb_encode.specs.Summaries.{summary_of, IsEncodable, IsOver};
-ghost use Rattle.pb_encode.specs.Tallies.{IsTally};
+ghost use Rattle.pb_encode.specs.laws.Tallies.{Counts, IsTally};
 
 use crate::fault::MeasureFault;
 use crate::summary::Summary;
@@ -25,7 +24,7 @@ fn count_half(
 ) -> Result<(), NoMemory>
     requires numbers { StaysBelow (2 ^ 100) statement.now }
     requires modest { options.now.budget ≤ 10000000 }
-    ensures { (cs : List Constraint) → IsTally options.now cs tally.old → OnOk result (IsTally options.now (cs ++ half_of half statement.now ∷ []) tally.new) }
+    ensures { OnOk result (Counts options.now tally.old tally.new (half_of half statement.now ∷ [])) }
 {
     let constraint = normalize(alloc, statement, half)?;
     let plan = plan(alloc, &constraint, options)?;
@@ -42,7 +41,7 @@ fn count_statement(
 ) -> Result<(), NoMemory>
     requires numbers { StaysBelow (2 ^ 100) statement.now }
     requires modest { options.now.budget ≤ 10000000 }
-    ensures { (cs : List Constraint) → IsTally options.now cs tally.old → OnOk result (IsTally options.now (cs ++ constraints_of statement.now) tally.new) }
+    ensures { OnOk result (Counts options.now tally.old tally.new (constraints_of statement.now)) }
 {
     for half in halves_of(statement.relation) {
         count_half(alloc, statement, *half, options, tally)?;
@@ -72,7 +71,8 @@ pub fn measure(alloc: Global, problem: &Problem, options: &Options) -> Result<Su
     ensures limit { (which : LimitKind) → result ≡ Err (MeasureFault.Limit which) → IsOver which options.now problem.now }
 {
     let tally = count_statements(alloc, problem.statements.as_slice(), options)?;
-    let vars = (problem.vars as u64).saturating_add(tally.fresh);
+    let original = problem.originals();
+    let vars = (original as u64).saturating_add(tally.fresh);
     if vars > MAX_VARIABLES as u64 {
         return Err(MeasureFault::Limit {
             which: LimitKind::Variables,
@@ -85,7 +85,7 @@ pub fn measure(alloc: Global, problem: &Problem, options: &Options) -> Result<Su
     }
     Ok(Summary {
         vars: vars as u32,
-        original: problem.vars,
+        original,
         clauses: tally.clauses,
         treatments: tally.treatments(),
     })

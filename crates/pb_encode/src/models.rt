@@ -1,15 +1,10 @@
 //! What the clauses of a problem say.
-ghost use Rattle.std.specs.Prelude.{All, map};
 ghost use Rattle.pb_base.specs.declared.problem.Problem.{Problem};
 ghost use Rattle.pb_base.specs.Problems.{IsWithinLimits};
-ghost use Rattle.pb_norm.specs.Constraints.{Holds};
-ghost use Rattle.pb_norm.specs.ClauseForm.{clause_form};
-ghost use Rattle.pb_norm.specs.Halves.{loaded};
-ghost use Rattle.pb_norm.specs.Propagation.{Propagates};
+ghost use Rattle.pb_norm.specs.Halves.{loaded_of};
 ghost use Rattle.pb_choice.specs.declared.options.Options.{Options};
-ghost use Rattle.pb_choice.specs.Choice.{IsSentToAdder};
 ghost use Rattle.pb_encode.specs.Clauses.{problem_clauses, problem_vars};
-ghost use Rattle.pb_encode.specs.Models.{HasSolutionsOf};
+ghost use Rattle.pb_encode.specs.Models.{ForceEach, HasSolutionsOf};
 
 /// The law that the clauses of a problem have its solutions, under any options.
 pub fn clauses_have_the_solutions()
@@ -19,5 +14,5 @@ pub fn clauses_have_the_solutions()
 /// The law that unit propagation over all of them reaches what each loaded constraint forces, or a conflict, but for the
 /// constraints that are sent to the adder.
 pub fn clauses_force_what_constraints_do()
-    ensures { (o : Options) (p : Problem) → IsWithinLimits p → All (λ c. ¬ IsSentToAdder o c → Propagates (map clause_form (problem_clauses o p)) (λ a. Holds a c)) (loaded p.statements) }
+    ensures { (o : Options) (p : Problem) → IsWithinLimits p → ForceEach o (problem_clauses o p) (loaded_of p) }
 {}

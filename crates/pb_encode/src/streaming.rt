@@ -1,13 +1,12 @@
 //! The clauses of a problem, handed to a sink.
-ghost use Rattle.std.specs.Prelude.{◌≡◌, ◌≤◌, ◌<◌, ◌+◌, ◌^◌, All, OnOk, IfOk, IfErr};
+ghost use Rattle.std.specs.Prelude.{◌≡◌, ◌≤◌, ◌<◌, ◌+◌, ◌^◌, All, IfOk};
 ghost use Rattle.pb_base.specs.Problems.{IsWithinLimits, StaysBelow};
 ghost use Rattle.pb_norm.specs.Halves.{half_of, constraints_of, loaded};
-ghost use Rattle.pb_family.specs.ClauseText.{clauses_text};
-ghost use Rattle.pb_family.specs.Sinks.{Stops, Takes};
+ghost use Rattle.pb_family.specs.Handing.{HandsIfMemory};
 ghost use Rattle.pb_choice.specs.Clauses.{constraint_clauses, constraint_fresh};
 ghost use Rattle.pb_encode.specs.Clauses.{clauses_from, fresh_total, problem_clauses};
 ghost use Rattle.pb_encode.specs.Summaries.{IsEncodable};
-ghost use Rattle.pb_encode.specs.Streams.{IsOverBelow};
+ghost use Rattle.pb_encode.specs.laws.Streams.{IsOverBelow};
 
 use pb_base::{Problem, Raw};
 use pb_choice::{Options, plan};
@@ -30,8 +29,7 @@ fn stream_half<S: ClauseSink>(
     requires modest { options.now.budget ≤ 10000000 }
     requires fits { first + constraint_fresh options.now (half_of half statement.now) ≤ 2 ^ 31 }
     ensures next { IfOk result (λ next. next ≡ first + constraint_fresh options.now (half_of half statement.now)) }
-    ensures ok { OnOk result (Takes (clauses_text (constraint_clauses options.now (half_of half statement.now) first)) (S.state sink.old) (S.state sink.new)) }
-    ensures stops { IfErr result (Stops (clauses_text (constraint_clauses options.now (half_of half statement.now) first)) (S.state sink.old) (S.state sink.new)) }
+    ensures hands { HandsIfMemory (constraint_clauses options.now (half_of half statement.now) first) result (S.state sink.old) (S.state sink.new) }
 {
     let constraint = normalize(alloc, statement, half)?;
     let plan = plan(alloc, &constraint, options)?;
@@ -53,8 +51,7 @@ fn stream_statement<S: ClauseSink>(
     requires modest { options.now.budget ≤ 10000000 }
     requires fits { first + fresh_total options.now (constraints_of statement.now) ≤ 2 ^ 31 }
     ensures next { IfOk result (λ next. next ≡ first + fresh_total options.now (constraints_of statement.now)) }
-    ensures ok { OnOk result (Takes (clauses_text (clauses_from options.now first (constraints_of statement.now))) (S.state sink.old) (S.state sink.new)) }
-    ensures stops { IfErr result (Stops (clauses_text (clauses_from options.now first (constraints_of statement.now))) (S.state sink.old) (S.state sink.new)) }
+    ensures hands { HandsIfMemory (clauses_from options.now first (constraints_of statement.now)) result (S.state sink.old) (S.state sink.new) }
 {
     let mut next = first;
     for half in halves_of(statement.relation) {
@@ -76,8 +73,7 @@ fn stream_statements<S: ClauseSink>(
     requires low { 1 ≤ first }
     requires modest { options.now.budget ≤ 10000000 }
     requires fits { first + fresh_total options.now (loaded statements.now) ≤ 2 ^ 31 }
-    ensures ok { OnOk result (Takes (clauses_text (clauses_from options.now first (loaded statements.now))) (S.state sink.old) (S.state sink.new)) }
-    ensures stops { IfErr result (Stops (clauses_text (clauses_from options.now first (loaded statements.now))) (S.state sink.old) (S.state sink.new)) }
+    ensures { HandsIfMemory (clauses_from options.now first (loaded statements.now)) result (S.state sink.old) (S.state sink.new) }
 {
     let mut next = first;
     for statement in statements {
@@ -96,14 +92,13 @@ pub fn stream_clauses<S: ClauseSink>(
     requires within { IsWithinLimits problem.now }
     requires encodable { IsEncodable options.now problem.now }
     requires modest { options.now.budget ≤ 10000000 }
-    ensures ok { OnOk result (Takes (clauses_text (problem_clauses options.now problem.now)) (S.state sink.old) (S.state sink.new)) }
-    ensures stops { IfErr result (Stops (clauses_text (problem_clauses options.now problem.now)) (S.state sink.old) (S.state sink.new)) }
+    ensures { HandsIfMemory (problem_clauses options.now problem.now) result (S.state sink.old) (S.state sink.new) }
 {
     stream_statements(
         alloc,
         problem.statements.as_slice(),
         options,
-        problem.vars + 1,
+        problem.originals() + 1,
         sink,
     )
 }

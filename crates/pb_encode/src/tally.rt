@@ -1,5 +1,5 @@
 //! Counts of what is encoded.
-ghost use Rattle.std.specs.Prelude.{◌≡◌, ◌<◌, ◌^◌, [], ◌∷◌, ◌++◌, List, length};
+ghost use Rattle.std.specs.Prelude.{◌≡◌, ◌<◌, ◌^◌, [], ◌∷◌, List, length};
 ghost use Rattle.pb_norm.specs.Constraints.{Constraint};
 ghost use Rattle.pb_choice.specs.declared.options.Options.{Options};
 ghost use Rattle.pb_encode.specs.Summaries.{place_of, treated, treatments_of};
@@ -37,7 +37,7 @@ fn place_of(treatment: Treatment) -> usize
 }
 
 impl Tally {
-    ghost use Rattle.pb_encode.specs.Tallies.{IsTally};
+    ghost use Rattle.pb_encode.specs.laws.Tallies.{Counts, IsTally};
 
     /// Of no constraint.
     pub fn new() -> Self
@@ -52,7 +52,7 @@ impl Tally {
 
     /// Counts one more constraint.
     pub fn add(&mut self, plan: &Plan)
-        ensures { (cs : List Constraint) → IsTally plan.now.options cs self.old → IsTally plan.now.options (cs ++ plan.now.constraint.now ∷ []) self.new }
+        ensures { Counts plan.now.options self.old self.new (plan.now.constraint.now ∷ []) }
     {
         let counts = plan.counts();
         self.fresh = self.fresh.saturating_add(counts.fresh);

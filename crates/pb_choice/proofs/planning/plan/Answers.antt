@@ -1,26 +1,14 @@
-use Rattle.std.proofs.Common.{◌<◌, ◌^◌, length, ap, sym, subst, arith}
+use Rattle.std.proofs.Common.{◌<◌, ◌^◌, ap, sym, subst, arith}
 use Rattle.pb_norm.specs.declared.reduction.Reduced.{Reduced}
 use Rattle.pb_norm.specs.declared.reduction.Rest.{Rest}
 use Rattle.pb_norm.specs.Constraints.{weight}
 use Rattle.pb_norm.specs.Reduction.{rest_of}
-use Rattle.pb_norm.proofs.RestClasses.{RestIs, rest_is}
-use Rattle.pb_choice.specs.Left.{rest_terms}
-use Rattle.pb_choice.proofs.RestTerms.{rest_light, rest_short}
+use Rattle.pb_choice.specs.laws.Left.{rest_terms}
+use Rattle.pb_choice.proofs.RestTerms.{rest_light}
 use Rattle.pb_choice.proofs.planning.plan.Goals as goal
-
-pub left_of-requires-clause-class : goal.left_of-requires-clause-class
-left_of-requires-clause-class c =
-    let same = ap (λ (r : Reduced). r.rest) c.in_ok-units.ensures.split in
-    subst RestIs (sym same) (rest_is c.args.constraint.now c.len.ensures.linear)
-
-pub left_of-requires-clause-few : goal.left_of-requires-clause-few
-left_of-requires-clause-few c =
-    let same = ap (λ (r : Reduced). r.rest) c.in_ok-units.ensures.split in
-    let short : length (rest_terms (rest_of c.args.constraint.now)) < 2 ^ 31 = omega (arith, c.len.ensures.few, rest_short c.args.constraint.now) in
-    subst (λ (r : Rest). length (rest_terms r) < 2 ^ 31) (sym same) short
 
 pub left_of-requires-clause-light : goal.left_of-requires-clause-light
 left_of-requires-clause-light c =
     let same = ap (λ (r : Reduced). r.rest) c.in_ok-units.ensures.split in
-    let light : weight (rest_terms (rest_of c.args.constraint.now)) < 2 ^ 100 = omega (arith, c.requires.light, rest_light c.args.constraint.now c.len.ensures.linear) in
+    let light : weight (rest_terms (rest_of c.args.constraint.now)) < 2 ^ 100 = omega (arith, c.requires.light, rest_light c.args.constraint.now c.reduce.ensures.linear) in
     subst (λ (r : Rest). weight (rest_terms r) < 2 ^ 100) (sym same) light

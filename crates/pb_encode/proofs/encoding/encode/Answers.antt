@@ -8,7 +8,7 @@ use Rattle.pb_encode.specs.declared.fault.EncodeFault.TheVariants as fault
 use Rattle.pb_encode.specs.Encodings.{begun, problem_text}
 use Rattle.pb_encode.specs.Encodings.StopsMaking.{in_text}
 use Rattle.pb_encode.specs.Encodings.WantsMemory.{in_text as wants_in_text}
-use Rattle.pb_encode.specs.Sending.{Stops}
+use Rattle.pb_encode.specs.laws.Sending.{Stops}
 use Rattle.pb_encode.proofs.encoding.encode.Goals as goal
 
 pub returns-in_err-write_cnf-clause-write_fault : goal.returns-in_err-write_cnf-clause-write_fault

@@ -1,6 +1,6 @@
 use Rattle.std.proofs.Common.{map, take}
 use Rattle.pb_norm.specs.Halves.{half_of}
-use Rattle.pb_encode.proofs.CountingLoops.{Counts}
+use Rattle.pb_encode.specs.laws.Tallies.{Counts}
 use Rattle.pb_encode.proofs.measuring.count_statement.Given as goal
 
 abbrev pub invariant-loop-half : goal.invariant-loop-half

@@ -1,6 +1,6 @@
 use Rattle.std.proofs.Common.{take}
 use Rattle.pb_norm.specs.Halves.{loaded}
-use Rattle.pb_encode.specs.Tallies.{IsTally}
+use Rattle.pb_encode.specs.laws.Tallies.{IsTally}
 use Rattle.pb_encode.proofs.measuring.count_statements.Given as goal
 
 abbrev pub invariant-loop-statement : goal.invariant-loop-statement

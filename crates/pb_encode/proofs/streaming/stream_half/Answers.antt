@@ -1,33 +1,36 @@
-use Rattle.std.proofs.Common.{◌<◌, ◌^◌, ℕ, sym, subst, ◌∙◌}
+use Rattle.std.proofs.Common.{◌<◌, ◌^◌, ap, sym, subst, ◌∙◌}
 use Rattle.pb_norm.specs.Constraints.{Constraint, weight}
 use Rattle.pb_norm.specs.Halves.{half_of}
 use Rattle.pb_norm.proofs.Variables.{half_of-vars}
-use Rattle.pb_family.specs.ClauseText.{clauses_text}
 use Rattle.pb_family.specs.Families.{VarsBelow}
-use Rattle.pb_family.specs.Sinks.{Stops}
-use Rattle.pb_family.specs.declared.sink.SinkFault.TheVariants as fault
-use Rattle.pb_family.proofs.Taking.{part_of_nothing}
+use Rattle.pb_family.specs.ClauseText.{clauses_text}
+use Rattle.pb_family.proofs.Emission.{emitting_starts}
+use Rattle.pb_family.proofs.Stopping.{stops_between}
+use Rattle.pb_family.proofs.Taking.{takes_same}
+use Rattle.pb_choice.specs.declared.options.Options.{Options}
 use Rattle.pb_choice.specs.Clauses.{constraint_clauses}
 use Rattle.pb_encode.proofs.HalfWeights.{half_light}
-use Rattle.pb_encode.proofs.Residuals.{on_fault}
 use Rattle.pb_encode.proofs.streaming.stream_half.Goals as goal
 
-pub returns-in_err-constraint-clause-stops : goal.returns-in_err-constraint-clause-stops
-returns-in_err-constraint-clause-stops g c =
-    let a = g.S.ClauseSink.state c.args.sink.now in
-    let text = clauses_text (constraint_clauses c.args.options.now (half_of c.args.half c.args.statement.now) c.args.first) in
-    on_fault (Stops text a a) c.from_residual.result fault.NoMemory c.from_residual.ensures.1 (part_of_nothing text a)
+pub returns-in_err-constraint-clause-hands : goal.returns-in_err-constraint-clause-hands
+returns-in_err-constraint-clause-hands g c =
+    stops_between c.from_residual.result c.from_residual.ensures.1 (emitting_starts (constraint_clauses c.args.options.now (half_of c.args.half c.args.statement.now) c.args.first) _)
 
 pub plan-requires-clause-light : goal.plan-requires-clause-light
 plan-requires-clause-light g c = subst (λ (d : Constraint). weight d.terms < 2 ^ 100) (sym c.in_ok-constraint.ensures.form) (half_light c.args.half c.args.statement.now (2 ^ 100) c.requires.numbers)
 
-pub returns-in_err-plan-clause-stops : goal.returns-in_err-plan-clause-stops
-returns-in_err-plan-clause-stops g c =
-    let a = g.S.ClauseSink.state c.args.sink.now in
-    let text = clauses_text (constraint_clauses c.args.options.now (half_of c.args.half c.args.statement.now) c.args.first) in
-    on_fault (Stops text a a) c.from_residual-in_err-plan.result fault.NoMemory c.from_residual-in_err-plan.ensures.1 (part_of_nothing text a)
+pub returns-in_err-plan-clause-hands : goal.returns-in_err-plan-clause-hands
+returns-in_err-plan-clause-hands g c =
+    stops_between c.from_residual-in_err-plan.result c.from_residual-in_err-plan.ensures.1 (emitting_starts (constraint_clauses c.args.options.now (half_of c.args.half c.args.statement.now) c.args.first) _)
 
 pub emit-requires-clause-original : goal.emit-requires-clause-original
 emit-requires-clause-original g c =
     let over = half_of-vars (λ v. v < c.args.first) c.args.half c.args.statement.now c.requires.vars in
     subst (λ (d : Constraint). VarsBelow c.args.first d.terms) (sym (c.in_ok-plan.ensures.constraint ∙ c.in_ok-constraint.ensures.form)) over
+
+pub returns-clause-hands : goal.returns-clause-hands
+returns-clause-hands g c =
+    let plan = c.in_ok-plan.plan in
+    let half = half_of c.args.half c.args.statement.now in
+    let same = ap (λ (d : Constraint). constraint_clauses plan.options d c.args.first) (c.in_ok-plan.ensures.constraint ∙ c.in_ok-constraint.ensures.form) ∙ ap (λ (o : Options). constraint_clauses o half c.args.first) c.in_ok-plan.ensures.options in
+    takes_same _ _ (g.S.ClauseSink.state c.args.sink.now) (g.S.ClauseSink.state c.emit.new.sink) (ap clauses_text same) c.in_ok-emit.ensures

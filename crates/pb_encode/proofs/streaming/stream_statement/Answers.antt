@@ -1,19 +1,34 @@
-use Rattle.std.proofs.Common.{◌≡◌, ◌+◌, ℕ, List, [], ◌∷◌, take, drop, get_or, sym, ap, subst, ◌∙◌}
+use Rattle.std.proofs.Common.{◌+◌, ℕ, List, [], ◌∷◌, drop, get_or, sym, ap, subst, ◌∙◌, arith}
+use Rattle.pb_norm.specs.declared.halves.Half.{Half}
 use Rattle.pb_norm.specs.declared.halves.Half.TheVariants.{Lower}
-use Rattle.pb_norm.specs.Constraints.{Constraint}
-use Rattle.pb_norm.specs.Halves.{half_of, constraints_of}
-use Rattle.pb_family.specs.Sinks.{Stops}
-use Rattle.pb_family.proofs.Taking.{takes_same}
-use Rattle.pb_choice.proofs.Handing.{stops_same}
-use Rattle.pb_encode.proofs.Residuals.{on_fault}
-use Rattle.pb_encode.proofs.StreamSteps.{Streamed, halves_made, halves_longer, halves_parts, one_fresh, one_text, streamed_more, streamed_none, streamed_stops, text_from}
+use Rattle.pb_norm.specs.Halves.{half_of}
+use Rattle.pb_base.specs.declared.literal.Lit.{Lit}
+use Rattle.pb_family.specs.ClauseText.{clauses_text}
+use Rattle.pb_family.specs.Handing.{HandsIfMemory, Stops}
+use Rattle.pb_family.specs.Sinks.{Takes}
+use Rattle.pb_encode.specs.Clauses.{clauses_from, fresh_total}
+use Rattle.pb_encode.proofs.StreamSteps.{halves_done, halves_made, halves_rest, one_clauses, one_fresh, streams_all, streams_below, streams_fit, streams_more, streams_next, streams_none, streams_stop}
 use Rattle.pb_encode.proofs.streaming.stream_statement.Goals as goal
 
 pub loop-half-init : goal.loop-half-init
-loop-half-init g c = streamed_none c.args.options.now c.args.first _
+loop-half-init g c = streams_none c.args.options.now c.args.first _ _
 
-pub returns-in_err-next-clause-stops : goal.returns-in_err-next-clause-stops
-returns-in_err-next-clause-stops g c =
+pub stream_half-requires-clause-vars : goal.stream_half-requires-clause-vars
+stream_half-requires-clause-vars g c = streams_below c.args.options.now c.args.first c.loop-half.next _ _ _ _ c.args.statement.now c.loop-half.invariant c.requires.vars
+
+pub stream_half-requires-clause-fits : goal.stream_half-requires-clause-fits
+stream_half-requires-clause-fits g c =
+    let o = c.args.options.now in
+    let s = c.args.statement.now in
+    let items = c.halves_of-half-items.result.now in
+    let i = c.loop-half.half-index in
+    let one = half_of (get_or items i Lower) s in
+    let all = ap (λ (hs : List Half). c.args.first + fresh_total o (halves_made s hs)) c.halves_of-half-items.ensures in
+    let fits = streams_fit o c.args.first c.loop-half.next _ (one ∷ []) _ _ _ _ (halves_rest s items i Lower c.loop-half-test.true) c.loop-half.invariant (omega (arith, c.requires.fits, all)) in
+    omega (arith, fits, one_fresh o one)
+
+pub returns-in_err-next-clause-hands : goal.returns-in_err-next-clause-hands
+returns-in_err-next-clause-hands g c =
     let o = c.args.options.now in
     let s = c.args.statement.now in
     let first = c.args.first in
@@ -24,9 +39,10 @@ returns-in_err-next-clause-stops g c =
     let b = g.S.ClauseSink.state c.loop-half.sink in
     let d = g.S.ClauseSink.state c.stream_half.new.sink in
     let f = c.in_err-next.field-0.0 in
-    let whole = halves_parts s items i Lower c.loop-half-test.true ∙ ap (halves_made s) c.halves_of-half-items.ensures in
-    let stops = streamed_stops o first (halves_made s (take i items)) (one ∷ []) (halves_made s (drop (i + 1) items)) c.loop-half.next a b d f c.loop-half.invariant (stops_same _ _ b d f (one_text o c.loop-half.next one) c.in_err-next.ensures.stops) in
-    on_fault (Stops (text_from o first (constraints_of s)) a d) c.from_residual.result f c.from_residual.ensures.1 (stops_same _ _ a d f (ap (text_from o first) whole) stops)
+    let r = c.from_residual.result in
+    let stops = subst (λ (cs : List (List Lit)). Stops (clauses_text cs) b d f) (one_clauses o c.loop-half.next one) c.in_err-next.ensures.hands in
+    subst (λ (hs : List Half). HandsIfMemory (clauses_from o first (halves_made s hs)) r a d) c.halves_of-half-items.ensures
+    (streams_stop o first c.loop-half.next (halves_made s items) (one ∷ []) (halves_made s (drop (i + 1) items)) _ a b d r f (halves_rest s items i Lower c.loop-half-test.true) c.from_residual.ensures.1 c.loop-half.invariant stops)
 
 pub loop-half-preserved : goal.loop-half-preserved
 loop-half-preserved g c =
@@ -40,6 +56,23 @@ loop-half-preserved g c =
     let b = g.S.ClauseSink.state c.loop-half.sink in
     let d = g.S.ClauseSink.state c.stream_half.new.sink in
     let next = c.in_ok-next.ensures.next ∙ ap (λ (n : ℕ). c.loop-half.next + n) (sym (one_fresh o one)) in
-    let taken = takes_same _ _ b d (one_text o c.loop-half.next one) c.in_ok-next.ensures.ok in
-    subst (λ (cs : List Constraint). Streamed o first cs c.in_ok-next.next a d) (halves_longer s items i Lower c.loop-half-test.true)
-    (streamed_more o first (halves_made s (take i items)) (one ∷ []) c.loop-half.next c.in_ok-next.next a b d c.loop-half.invariant next taken)
+    let taken = subst (λ (cs : List (List Lit)). Takes (clauses_text cs) b d) (one_clauses o c.loop-half.next one) c.in_ok-next.ensures.hands in
+    streams_more o first c.loop-half.next c.in_ok-next.next (halves_made s items) (one ∷ []) (halves_made s (drop (i + 1) items)) _ a b d (halves_rest s items i Lower c.loop-half-test.true) next c.loop-half.invariant taken
+
+pub returns-clause-next : goal.returns-clause-next
+returns-clause-next g c =
+    let o = c.args.options.now in
+    let s = c.args.statement.now in
+    let items = c.halves_of-half-items.result.now in
+    streams_next o c.args.first c.loop-half.next (halves_made s items) _ _ _ (halves_done s items c.loop-half.half-index c.loop-half-test.false) c.loop-half.invariant
+    ∙ ap (λ (hs : List Half). c.args.first + fresh_total o (halves_made s hs)) c.halves_of-half-items.ensures
+
+pub returns-clause-hands : goal.returns-clause-hands
+returns-clause-hands g c =
+    let o = c.args.options.now in
+    let s = c.args.statement.now in
+    let items = c.halves_of-half-items.result.now in
+    let a = g.S.ClauseSink.state c.args.sink.now in
+    let b = g.S.ClauseSink.state c.loop-half.sink in
+    subst (λ (hs : List Half). Takes (clauses_text (clauses_from o c.args.first (halves_made s hs))) a b) c.halves_of-half-items.ensures
+    (streams_all o c.args.first c.loop-half.next (halves_made s items) _ a b (halves_done s items c.loop-half.half-index c.loop-half-test.false) c.loop-half.invariant)

@@ -5,7 +5,7 @@ use Rattle.pb_choice.specs.declared.chosen.Chosen.{Chosen}
 use Rattle.pb_choice.specs.declared.chosen.Chosen.TheVariants.{Pairwise, Ladder, Product, Counter, Totalizer, Diagram, Tree, Adder}
 use Rattle.pb_choice.specs.declared.treatment.Treatment.{Treatment}
 use Rattle.pb_choice.specs.declared.treatment.Treatment.TheVariants as treatment
-use Rattle.pb_choice.specs.Suits.{Suits}
+use Rattle.pb_choice.specs.laws.Suits.{Suits}
 
 abbrev pub treatment_at : Chosen → Treatment
 treatment_at (Pairwise held) = treatment.Pairwise

@@ -1,4 +1,4 @@
--- Statements whose variables are below a number. This serves proofs.
+-- Statements whose variables are below a number.
 use Rattle.std.specs.Prelude.{ℕ, ◌<◌, All}
 use Rattle.pb_base.specs.declared.problem.Raw.{Raw}
 

@@ -4,18 +4,18 @@ use Rattle.pb_base.specs.Literals.{Assignment, AgreeBelow, IsModel}
 use Rattle.pb_norm.specs.BoundedSums.{BoundedSum, StaysWithin}
 use Rattle.pb_norm.specs.ClausePropagation.{ClausesPropagate}
 use Rattle.pb_family.specs.Families.{NamesOnly, VarsBelow}
-use Rattle.pb_amo.specs.PairwiseLaws.{pairwise_sound, pairwise_extends, pairwise_names, pairwise_counts, pairwise_propagates}
-use Rattle.pb_amo.specs.LadderLaws.{ladder_sound, ladder_extends, ladder_names, ladder_counts, ladder_propagates}
-use Rattle.pb_amo.specs.ProductLaws.{product_sound, product_extends, product_names, product_counts, product_propagates}
-use Rattle.pb_counter.specs.CounterLaws.{counter_sound, counter_extends, counter_names, counter_counts, counter_propagates}
-use Rattle.pb_totalizer.specs.TotalizerLaws.{totalizer_sound, totalizer_extends, totalizer_names, totalizer_counts, totalizer_propagates}
-use Rattle.pb_gentot.specs.GeneralizedLaws.{generalized_sound, generalized_extends, generalized_names, generalized_counts, generalized_propagates}
-use Rattle.pb_diagram.specs.DiagramLaws.{diagram_sound, diagram_extends, diagram_names, diagram_counts, diagram_propagates}
-use Rattle.pb_adder.specs.AdderLaws.{adder_sound, adder_extends, adder_names, adder_counts}
+use Rattle.pb_amo.specs.laws.PairwiseLaws.{pairwise_sound, pairwise_extends, pairwise_names, pairwise_counts, pairwise_propagates}
+use Rattle.pb_amo.specs.laws.LadderLaws.{ladder_sound, ladder_extends, ladder_names, ladder_counts, ladder_propagates}
+use Rattle.pb_amo.specs.laws.ProductLaws.{product_sound, product_extends, product_names, product_counts, product_propagates}
+use Rattle.pb_counter.specs.laws.CounterLaws.{counter_sound, counter_extends, counter_names, counter_counts, counter_propagates}
+use Rattle.pb_totalizer.specs.laws.TotalizerLaws.{totalizer_sound, totalizer_extends, totalizer_names, totalizer_counts, totalizer_propagates}
+use Rattle.pb_gentot.specs.laws.GeneralizedLaws.{generalized_sound, generalized_extends, generalized_names, generalized_counts, generalized_propagates}
+use Rattle.pb_diagram.specs.laws.DiagramLaws.{diagram_sound, diagram_extends, diagram_names, diagram_counts, diagram_propagates}
+use Rattle.pb_adder.specs.laws.AdderLaws.{adder_sound, adder_extends, adder_names, adder_counts}
 use Rattle.pb_choice.specs.declared.treatment.Treatment.{Treatment}
 use Rattle.pb_choice.specs.declared.treatment.Treatment.TheVariants as treatment
 use Rattle.pb_choice.specs.Sums.{sum_clauses, sum_fresh, sum_count}
-use Rattle.pb_choice.specs.Suits.{Suits}
+use Rattle.pb_choice.specs.laws.Suits.{Suits}
 
 -- under a model the sum stays within its bound
 pub sum_sound : (t : Treatment) (m : BoundedSum) (first : ℕ) → Suits t m → (a : Assignment) → IsModel a (sum_clauses t m first) → StaysWithin a m

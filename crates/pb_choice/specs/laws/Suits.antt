@@ -1,8 +1,8 @@
--- Which sums each family is for. This serves proofs.
+-- Which sums each family is for.
 use Rattle.pb_norm.specs.BoundedSums.{BoundedSum, IsProper}
 use Rattle.pb_norm.specs.declared.reduction.Rest.{Rest}
 use Rattle.pb_norm.specs.declared.reduction.Rest.TheVariants as rest
-use Rattle.pb_norm.proofs.RestClasses.{IsCardinality, IsAtMostOne}
+use Rattle.pb_norm.specs.Classes.{IsCardinality, IsAtMostOne}
 use Rattle.pb_choice.specs.declared.treatment.Treatment.{Treatment}
 use Rattle.pb_choice.specs.declared.treatment.Treatment.TheVariants as treatment
 

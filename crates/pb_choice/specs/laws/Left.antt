@@ -10,7 +10,7 @@ use Rattle.pb_choice.specs.declared.options.Options.{Options}
 use Rattle.pb_choice.specs.declared.treatment.Treatment.{Treatment}
 use Rattle.pb_choice.specs.declared.treatment.Treatment.TheVariants as treatment
 use Rattle.pb_choice.specs.Choice.{treatment_of}
-use Rattle.pb_choice.specs.Chosen.{sum_at, treatment_at}
+use Rattle.pb_choice.specs.laws.Chosen.{sum_at, treatment_at}
 use Rattle.pb_choice.specs.Clauses.{rest_clauses, rest_count, rest_fresh}
 use Rattle.pb_choice.specs.Sums.{sum_clauses, sum_count, sum_fresh}
 

@@ -1,5 +1,5 @@
--- Counts as they are kept while a problem is measured: each stands still at the end of its type. These serve proofs.
-use Rattle.std.specs.Prelude.{ℕ, ◌≡◌, ◌-◌, ◌<◌, ◌^◌, min, List, slice_index_or, length}
+-- Counts as they are kept while a problem is measured: each stands still at the end of its type.
+use Rattle.std.specs.Prelude.{ℕ, ◌≡◌, ◌-◌, ◌<◌, ◌^◌, min, List, ◌++◌, slice_index_or, length}
 use Rattle.pb_norm.specs.Constraints.{Constraint}
 use Rattle.pb_choice.specs.declared.options.Options.{Options}
 use Rattle.pb_encode.specs.declared.tally.Tally.{Tally}
@@ -15,3 +15,7 @@ pub record IsTally (o : Options) (cs : List Constraint) (t : Tally) : Type 0 whe
   pub clauses : t.clauses ≡ capped (clause_total o cs)
   pub size : length t.treated ≡ 11
   pub treated : (place : ℕ) → place < 11 → slice_index_or t.treated place 0 ≡ capped (treated o place cs)
+
+-- these constraints were counted on top of any that were counted before
+abbrev pub Counts : Options → Tally → Tally → List Constraint → Type 0
+Counts o old new cs = (before : List Constraint) → IsTally o before old → IsTally o (before ++ cs) new

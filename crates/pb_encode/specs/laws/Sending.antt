@@ -1,7 +1,7 @@
--- How writing a text to slot 0 may end. This serves proofs.
-use Rattle.std.specs.Prelude.{ℕ, List, take}
+-- How writing a text to slot 0 may end.
+use Rattle.std.specs.Prelude.{ℕ, List, take, length}
 use Rattle.pb_desk.specs.View.{wrote}
-use Rattle.pb_desk.specs.Desk.{DeskState, Reaches, FailsToWrite}
+use Rattle.pb_desk.specs.Desk.{DeskState, Reaches, FailsToWrite, LacksRoom, written}
 use Rattle.pb_encode.specs.declared.fault.EncodeFault.{EncodeFault}
 use Rattle.pb_encode.specs.declared.fault.EncodeFault.TheVariants as fault
 
@@ -20,3 +20,7 @@ abbrev pub Stops : List ℕ → DeskState → DeskState → EncodeFault → Type
 Stops text old new fault.WriteFault = StopsSending text old new
 Stops text old new fault.NoMemory = SendsPart text old new
 Stops text old new (fault.Limit which) = ⊥
+
+-- the slot has no room for the text
+abbrev pub LacksFor : List ℕ → DeskState → Type 0
+LacksFor text desk = LacksRoom (written 0) (length text) desk
