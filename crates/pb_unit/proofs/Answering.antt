@@ -1,9 +1,9 @@
 -- What an engine keeps, and what its answers mean.
-use Rattle.std.proofs.Common.{◌≡◌, ◌≤◌, ◌<◌, ◌-◌, ◌⊎◌, inl, inr, ℕ, Bool, true, false, cond, List, [], ◌∷◌, arith, length, get_or, refl, subst, Some, None}
-use Rattle.std.specs.Prelude.{All, Contains, slice_get}
+use Rattle.std.proofs.Common.{◌≡◌, ◌-◌, ◌⊎◌, inl, inr, ℕ, Bool, true, false, cond, List, [], ◌∷◌, arith, get_or, refl, subst, Option}
+use Rattle.std.specs.Prelude.{Contains}
 use Rattle.std.proofs.lemmas.Bool.{or_cases, or_left, or_right, both_ways}
+use Rattle.std.proofs.lemmas.List.{get_or_default}
 use Rattle.std.proofs.lemmas.List.Elements.{All-contains}
-use Rattle.std.proofs.lemmas.Option.{slice_get_cases}
 use Rattle.pb_base.specs.declared.literal.Lit.{Lit}
 use Rattle.pb_base.specs.Literals.{negated, is_same, is_among}
 use Rattle.pb_base.proofs.LiteralLemmas.{same_lit, is_same-refl}
@@ -16,47 +16,46 @@ use Rattle.pb_norm.proofs.PropagationFixed.{fixed-no_conflict, reached-within}
 use Rattle.pb_norm.proofs.PropagationMore.{Reached-given}
 use Rattle.pb_unit.specs.declared.engine.Outcome.{Outcome}
 use Rattle.pb_unit.specs.declared.engine.Outcome.TheVariants as outcome
-use Rattle.pb_unit.specs.States.{State, IsReached, assumed, with_lit}
-use Rattle.pb_unit.specs.Steps.{IsDecided, IsAtRest, IsQuiet, Advances, Ends}
-use Rattle.pb_unit.specs.Outcomes.{Answers}
-
-contains_at : {X : Type 0} (xs : List X) (i : ℕ) (x : X) → slice_get xs i ≡ Some x → Contains xs x
-contains_at {X} xs i x e = by_cases (slice_get_cases xs i).1 where
-  by_cases : ((y : X) × (i < length xs) × (slice_get xs i ≡ Some y) × (get_or xs i y ≡ y)) ⊎ ((length xs ≤ i) × (slice_get xs i ≡ None)) → Contains xs x
-  by_cases (inl (y, below, at, is)) = let same : y ≡ x = cc (at, e) in subst (Contains xs) same (i, below, is)
-  by_cases (inr (past, none)) = let no : ⊥ = cc (none, e) in absurd no
+use Rattle.pb_unit.specs.States.{EngineState, standing, Stands, IsReached, assumed, with_lit}
+use Rattle.pb_unit.specs.Ends.{Ends}
+use Rattle.pb_unit.proofs.Standing.{contains_stands, stands_contains}
+use Rattle.pb_unit.specs.Steps.{IsDecided, IsAtRest, IsCalm, Advances}
+use Rattle.pb_unit.specs.Outcomes.{AnswersOf}
 
 -- ---- a fixed list
 
-fixed_from : (cs : List Constraint) (given ls : List Lit) → IsConsistent ls → All (IsQuiet ls) cs → ((l : Lit) → is_among given l ≡ true → is_among ls l ≡ true) → IsFixed cs given ls
-fixed_from cs given ls consistent quiet has = record {
+fixed_from : (ps : List (Option Constraint)) (given ls : List Lit) → IsConsistent ls → ((p : ℕ) (c : Constraint) → Stands ps p c → IsCalm (room ls c.terms) ls c) → ((l : Lit) → is_among given l ≡ true → is_among ls l ≡ true) → IsFixed (standing ps) given ls
+fixed_from ps given ls consistent calm has = record {
   has_given = λ l h. has l (among_from given l h);
   consistent = λ l h. not_among_from ls (negated l) (consistent l (from_among ls l h));
   closed = λ l n.
-      let calm : IsQuiet ls n.by = All-contains (IsQuiet ls) cs n.by quiet n.known in
+      let at = contains_stands ps n.by n.known in
+      let quiet : IsCalm (room ls n.by.terms) ls n.by = calm at.0 n.by at.1 in
       let t : Weighted = record { coef = n.coef; lit = l } in
-      let decided : IsDecided ls l = All-contains (IsAtRest ls (room ls n.by.terms - n.by.degree)) n.by.terms t calm.closed n.term (omega (arith, n.short, calm.enough)) in
+      let decided : IsDecided ls l = All-contains (IsAtRest ls (room ls n.by.terms - n.by.degree)) n.by.terms t quiet.closed n.term (omega (arith, n.short, quiet.enough)) in
       elim decided [
         | inl there ↦ both_ways (is_among ls l) n.absent there
         | inr opposite ↦ both_ways (is_among ls (negated l)) n.undecided opposite
       ];
-  enough = λ k d below. (quiet k d below).enough;
+  enough = λ k d below.
+      let at = contains_stands ps (get_or (standing ps) k d) (k, below, get_or_default (standing ps) k (get_or (standing ps) k d) d below) in
+      (calm at.0 (get_or (standing ps) k d) at.1).enough;
 }
 
 -- the answer, from how propagation ends
-pub answers_from : (s : State) (o : Outcome) → IsReached s → Ends s.constraints s.held o → Answers s o
+pub answers_from : (s : EngineState) (o : Outcome) → IsReached s → Ends s.places s.held o → AnswersOf s o
 answers_from s (outcome.Conflict place) r e =
-    let known : Contains s.constraints e.constraint = contains_at s.constraints place e.constraint e.at in (
+    let known : Contains (standing s.places) e.constraint = stands_contains s.places place e.constraint e.at in (
       inr (s.held, e.constraint, r.reached, known, e.short),
       record { list = s.held; constraint = e.constraint; at = e.at; reached = r.reached; short = e.short },
     )
 answers_from s outcome.Fixed r e =
-    let fixed = fixed_from s.constraints s.given s.held r.consistent e r.assumed in
+    let fixed = fixed_from s.places s.given s.held r.consistent e r.assumed in
     record {
-      no_conflict = fixed-no_conflict s.constraints s.given s.held fixed;
+      no_conflict = fixed-no_conflict (standing s.places) s.given s.held fixed;
       exact = λ l. (
         (λ h. (s.held, r.reached, from_among s.held l h)),
-        (λ reaches. reached-within s.constraints s.given reaches.0 s.held fixed reaches.1 l (among_from reaches.0 l reaches.2)),
+        (λ reaches. reached-within (standing s.places) s.given reaches.0 s.held fixed reaches.1 l (among_from reaches.0 l reaches.2)),
       );
     }
 
@@ -80,7 +79,7 @@ with_lit-cases l ls k = by_cases (is_among ls l) where
   by_cases true h = inr h
   by_cases false h = elim (or_cases (is_same l k) (is_among ls k) h) [ inl same ↦ inl (same_lit l k same) | inr rest ↦ inr rest ]
 
-pub assumed_reached : (s : State) (l : Lit) → IsReached s → is_among s.held (negated l) ≡ false → IsReached (assumed l s)
+pub assumed_reached : (s : EngineState) (l : Lit) → IsReached s → is_among s.held (negated l) ≡ false → IsReached (assumed l s)
 assumed_reached s l r undecided = record {
   reached = by_cases (is_among s.held l);
   assumed = λ k h. elim (with_lit-cases l s.given k h) [
@@ -90,10 +89,10 @@ assumed_reached s l r undecided = record {
   consistent = still (is_among s.held l);
 }
   where
-    more : Reached s.constraints (with_lit l s.given) s.held
-    more = Reached-given s.constraints s.given (with_lit l s.given) (λ k h. from_among (with_lit l s.given) k (with_lit-keeps l s.given k (among_from s.given k h))) s.held r.reached
+    more : Reached (standing s.places) (with_lit l s.given) s.held
+    more = Reached-given (standing s.places) s.given (with_lit l s.given) (λ k h. from_among (with_lit l s.given) k (with_lit-keeps l s.given k (among_from s.given k h))) s.held r.reached
 
-    by_cases : (b : Bool) → Reached s.constraints (with_lit l s.given) (cond b s.held (l ∷ s.held))
+    by_cases : (b : Bool) → Reached (standing s.places) (with_lit l s.given) (cond b s.held (l ∷ s.held))
     by_cases true = more
     by_cases false = (inl (from_among (with_lit l s.given) l (with_lit-has l s.given)), more)
 
@@ -101,14 +100,14 @@ assumed_reached s l r undecided = record {
     still true = r.consistent
     still false = consistent-cons l s.held r.consistent undecided
 
-pub started_reached : (vars : ℕ) (cs : List Constraint) → IsReached (record { vars = vars; constraints = cs; given = []; held = [] })
-started_reached vars cs = record {
+pub started_reached : (vars : ℕ) (ps : List (Option Constraint)) → IsReached (record { vars = vars; places = ps; given = []; held = [] })
+started_reached vars ps = record {
   reached = tt;
   assumed = λ l h. h;
   consistent = consistent-nil;
 }
 
-pub advanced : (s : State) (ls : List Lit) → IsReached s → Advances s.constraints s.given (Unit {0}) s.held ls → IsReached (record s { held = ls })
+pub advanced : (s : EngineState) (ls : List Lit) → IsReached s → Advances (standing s.places) s.given s.held ls → IsReached (record s { held = ls })
 advanced s ls r f = record {
   reached = f.reached r.reached;
   assumed = λ l h. f.kept l (r.assumed l h);

@@ -1,5 +1,14 @@
 pub mod Answering
+pub mod Entering
 pub mod Lawful
+pub mod Placing
+pub mod Pushing
+pub mod Queueing
 pub mod Rows
-pub mod Stepping
+pub mod Sections
+pub mod Slotting
+pub mod Standing
+pub mod Sweeping
+pub mod Telling
 pub mod Trailing
+pub mod Visits

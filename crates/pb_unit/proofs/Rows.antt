@@ -1,11 +1,11 @@
 -- Worked examples of what an engine holds and reaches, most of which the check computes.
-use Rattle.std.proofs.Common.{◌≡◌, ◌-◌, inl, inr, lit<, ℕ, true, false, List, [], ◌∷◌, map, refl}
+use Rattle.std.proofs.Common.{◌≡◌, ◌-◌, inl, inr, lit<, ℕ, true, false, List, [], ◌∷◌, Some, None, pos, map, refl}
 use Rattle.pb_base.specs.declared.literal.Lit.{Lit}
 use Rattle.pb_base.proofs.Members.{Contains-here, Contains-there}
 use Rattle.pb_norm.specs.Constraints.{Weighted, Constraint}
 use Rattle.pb_norm.specs.ClauseForm.{clause_form}
 use Rattle.pb_norm.specs.Propagation.{room, Needs, Reached}
-use Rattle.pb_unit.specs.States.{started, assumed, cleared, IsRefuted}
+use Rattle.pb_unit.specs.States.{started, assumed, cleared, added, removed, slack_at, standing, IsRefuted}
 use Rattle.pb_unit.specs.Steps.{with_all_needed}
 
 abbrev x : ℕ → Lit
@@ -69,7 +69,7 @@ pub both_reached : Reached cs (not_x 1 ∷ []) (x 3 ∷ x 2 ∷ not_x 1 ∷ [])
 both_reached = (inr needs_three, (inr needs_two, (inl (Contains-here (not_x 1) []), tt)))
 
 -- with the second variable false too, the slack is negative
-pub too_little : IsRefuted cs (not_x 2 ∷ not_x 1 ∷ []) 0
+pub too_little : IsRefuted (map Some cs) (not_x 2 ∷ not_x 1 ∷ []) 0
 too_little = record {
   list = not_x 2 ∷ not_x 1 ∷ [];
   constraint = three_of_five;
@@ -80,16 +80,43 @@ too_little = record {
 
 -- ---- what calls make of an engine
 
-pub assumed_once : assumed (x 1) (assumed (x 1) (started 3 cs)) ≡ record { vars = 3; constraints = cs; given = x 1 ∷ []; held = x 1 ∷ [] }
+pub assumed_once : assumed (x 1) (assumed (x 1) (started 3 cs)) ≡ record { vars = 3; places = map Some cs; given = x 1 ∷ []; held = x 1 ∷ [] }
 assumed_once = refl
 
 -- a literal that was reached before is assumed all the same
-pub assumed_later : assumed (x 2) (record { vars = 3; constraints = cs; given = not_x 1 ∷ []; held = x 3 ∷ x 2 ∷ not_x 1 ∷ [] })
-    ≡ record { vars = 3; constraints = cs; given = x 2 ∷ not_x 1 ∷ []; held = x 3 ∷ x 2 ∷ not_x 1 ∷ [] }
+pub assumed_later : assumed (x 2) (record { vars = 3; places = map Some cs; given = not_x 1 ∷ []; held = x 3 ∷ x 2 ∷ not_x 1 ∷ [] })
+    ≡ record { vars = 3; places = map Some cs; given = x 2 ∷ not_x 1 ∷ []; held = x 3 ∷ x 2 ∷ not_x 1 ∷ [] }
 assumed_later = refl
 
 pub cleared_again : cleared (assumed (x 1) (started 3 cs)) ≡ started 3 cs
 cleared_again = refl
+
+-- ---- constraints that come and go
+
+abbrev not_both : Constraint
+not_both = clause_form (not_x 1 ∷ not_x 2 ∷ [])
+
+pub added_last : (added 1 not_both (assumed (x 1) (started 3 cs))).places ≡ Some three_of_five ∷ Some not_both ∷ []
+added_last = refl
+
+-- the others keep their places, and nothing is assumed any more
+pub removed_first : removed 0 (assumed (x 1) (started 3 (three_of_five ∷ not_both ∷ []))) ≡ record { vars = 3; places = None ∷ Some not_both ∷ []; given = []; held = [] }
+removed_first = refl
+
+pub one_stands : standing (None ∷ Some not_both ∷ []) ≡ not_both ∷ []
+one_stands = refl
+
+pub added_at_a_free_place : (added 0 not_both (removed 0 (started 3 cs))).places ≡ Some not_both ∷ []
+added_at_a_free_place = refl
+
+pub slack_at_first : slack_at (started 3 cs) 0 ≡ Some (pos 2)
+slack_at_first = refl
+
+pub slack_without_the_first : slack_at (assumed (not_x 1) (started 3 cs)) 0 ≡ Some (pos 0)
+slack_without_the_first = refl
+
+pub no_slack_past_the_end : slack_at (started 3 cs) 1 ≡ None
+no_slack_past_the_end = refl
 
 -- ---- rounds over the clauses of a sequential counter: at most two of the variables 1 to 4
 

@@ -1,5 +1,9 @@
+pub mod Ends
+pub mod Index
+pub mod Kept
 pub mod Laws
 pub mod Outcomes
+pub mod Slots
 pub mod States
 pub mod Steps
 pub mod Trails

@@ -1,10 +1,19 @@
 //! Assumed literals, and what constraints make of them.
-ghost use Rattle.std.specs.Prelude.{◌≡◌, ◌≤◌, if◌then◌else◌, not, IfOk};
+ghost use Rattle.std.specs.Prelude.{◌≡◌, ◌≤◌, ◌<◌, ◌^◌, ◌-ℤ◌, if◌then◌else◌, not, true, is_some, pos, map, [], IfOk, IsErr};
+ghost use Rattle.std.specs.Bool.{OnTrue};
+ghost use Rattle.pb_norm.specs.Constraints.{HasVarsWithin, AreVarsWithin};
+ghost use Rattle.pb_unit.specs.Index.{IsStore};
 ghost use Rattle.pb_base.specs.Literals.{negated, is_among};
-ghost use Rattle.pb_unit.specs.States.{AreWithin, IsReached, started, assumed, cleared};
-ghost use Rattle.pb_unit.specs.Outcomes.{Answers};
+ghost use Rattle.pb_unit.specs.States.{IsReached, IsFree, at_place, started, assumed, cleared, added, removed, slack_at};
+ghost use Rattle.pb_unit.specs.Outcomes.{AnswersOf};
+ghost use Rattle.pb_unit.specs.Ends.{Ends};
+ghost use Rattle.pb_base.specs.declared.literal.Lit.{Lit};
 
-use crate::rounds;
+use crate::index::Index;
+use crate::kept::{Kept, room_of};
+use crate::places::Places;
+use crate::queue::{self, Phase};
+use crate::store::{self, Wear};
 use crate::trail::Trail;
 use pb_base::{Lit, NoMemory};
 use pb_norm::Linear;
@@ -23,43 +32,89 @@ pub enum Outcome {
 /// Constraints, literals assumed beside them, and the literals that unit propagation has reached.
 #[derive(Drop)]
 pub struct Engine {
-    constraints: Vec<Linear>,
+    alloc: Global,
+    places: Places,
+    kept: Vec<Kept>,
+    lists: Index,
+    tight: Vec<usize>,
     assumed: Trail,
     held: Trail,
+    counted: usize,
+    phase: Phase,
+    wear: Wear,
 }
 
 impl Model for Engine {
-    ghost use Rattle.std.specs.Prelude.{◌≡◌};
-    ghost use Rattle.pb_unit.specs.States.{State, IsEngine};
+    ghost use Rattle.pb_unit.specs.States.{EngineState};
+    ghost use Rattle.pb_unit.specs.Kept.{IsKept};
 
-    ghost Value = { State };
+    ghost Value = { EngineState };
 
-    ghost view = { λ e. record { vars = e.held.vars; constraints = e.constraints.items; given = e.assumed.lits; held = e.held.lits } };
+    ghost view = { λ e. record { vars = e.held.vars; places = e.places; given = e.assumed.lits; held = e.held.lits } };
 
-    ghost invariant = { λ e. (e.assumed.vars ≡ e.held.vars) × IsEngine (record { vars = e.held.vars; constraints = e.constraints.items; given = e.assumed.lits; held = e.held.lits }) };
+    ghost invariant = { λ e. IsKept e.assumed.vars e.lists e.kept.items e.tight.items e.counted e.phase (record { vars = e.held.vars; places = e.places; given = e.assumed.lits; held = e.held.lits }) };
 }
 
-// The constraints once more.
-fn copied(alloc: Global, constraints: &[Linear]) -> Result<Vec<Linear>, NoMemory>
-    ensures { IfOk result (λ v. v.items ≡ constraints.now) }
+// The constraints at the first places.
+fn filled(
+    alloc: Global,
+    vars: u32,
+    places: &mut Places,
+    lists: &mut Index,
+    kept: &mut Vec<Kept>,
+    tight: &mut Vec<usize>,
+    constraints: Vec<Linear>,
+) -> bool
+    requires within { AreVarsWithin vars constraints.items }
+    requires none { places.old ≡ [] }
+    requires store { IsStore vars places.old lists.old kept.old.items tight.old.items }
+    ensures places { OnTrue result (places.new ≡ map Some constraints.items) }
+    ensures store { IsStore vars places.new lists.new kept.new.items tight.new.items }
 {
-    let mut copies = Vec::with_capacity(alloc, constraints.len())?;
     for constraint in constraints {
-        copies.push(constraint.copy(alloc)?)?;
+        let place = places.len();
+        if !store::put(
+            alloc, vars, places, lists, kept, tight, place, constraint, true,
+        ) {
+            return false;
+        }
     }
-    Ok(copies)
+    true
 }
 
 impl Engine {
     /// An engine over constraints whose variables are at most `vars`. Nothing is assumed. All memory that later calls need is taken here.
-    pub fn new(alloc: Global, vars: u32, constraints: &[Linear]) -> Result<Engine, NoMemory>
-        requires within { AreWithin vars constraints.now }
-        ensures start { IfOk result (λ engine. engine ≡ started vars constraints.now) }
+    pub fn new(alloc: Global, vars: u32, constraints: Vec<Linear>) -> Result<Engine, NoMemory>
+        requires within { AreVarsWithin vars constraints.items }
+        ensures start { IfOk result (λ engine. engine ≡ started vars constraints.items) }
     {
+        let count = constraints.len();
+        let mut lists = store::empty_index(alloc, vars, &constraints)?;
+        let mut places = Places::new(alloc, count)?;
+        let mut kept = Vec::with_capacity(alloc, count)?;
+        let mut tight = Vec::new(alloc);
+        if !filled(
+            alloc,
+            vars,
+            &mut places,
+            &mut lists,
+            &mut kept,
+            &mut tight,
+            constraints,
+        ) {
+            return Err(NoMemory);
+        }
         Ok(Engine {
-            constraints: copied(alloc, constraints)?,
+            alloc,
+            places,
+            kept,
+            lists,
+            tight,
             assumed: Trail::new(alloc, vars)?,
             held: Trail::new(alloc, vars)?,
+            counted: 0,
+            phase: Phase::Fresh,
+            wear: Wear::new(count),
         })
     }
 
@@ -89,17 +144,114 @@ impl Engine {
     /// Has all literals hold that are reached, or finds a conflict.
     pub fn propagate(&mut self) -> Outcome
         ensures same { self.new ≡ record self.old { held = self.new.held } }
-        ensures answer { Answers self.new result }
+        ensures answer { AnswersOf self.new result }
+        ensures shown { Ends self.new.places self.new.held result }
+        ensures kept { (l : Lit) → is_among self.old.held l ≡ true → is_among self.new.held l ≡ true }
         ensures reached { IsReached self.new }
     {
-        rounds::propagate(&self.constraints, &mut self.held)
+        queue::propagate(
+            &self.places,
+            &mut self.kept,
+            &self.lists,
+            &self.tight,
+            &mut self.held,
+            &mut self.counted,
+            &mut self.phase,
+        )
     }
 
     /// Takes all assumptions back.
     pub fn reset(&mut self)
         ensures after { self.new ≡ cleared self.old }
     {
+        queue::rewind(
+            &self.places,
+            &mut self.kept,
+            &self.lists,
+            &self.held,
+            &mut self.counted,
+            &mut self.phase,
+        );
         self.assumed.clear();
         self.held.clear();
+    }
+
+    /// Adds a constraint, and takes all assumptions back. Its place is one that was free.
+    pub fn add(&mut self, constraint: &Linear) -> Result<u64, NoMemory>
+        requires within { HasVarsWithin self.old.vars constraint.now.terms }
+        ensures ok { IfOk result (λ place. IsFree self.old place × (self.new ≡ added place constraint.now self.old)) }
+        ensures refused { IsErr result → self.new ≡ self.old }
+    {
+        let copy = constraint.copy(self.alloc)?;
+        queue::rewind(
+            &self.places,
+            &mut self.kept,
+            &self.lists,
+            &self.held,
+            &mut self.counted,
+            &mut self.phase,
+        );
+        let place = store::free_place(&self.places, &self.kept, self.wear.next);
+        if !store::put(
+            self.alloc,
+            self.held.vars(),
+            &mut self.places,
+            &mut self.lists,
+            &mut self.kept,
+            &mut self.tight,
+            place,
+            copy,
+            false,
+        ) {
+            return Err(NoMemory);
+        }
+        self.wear.next = place;
+        self.assumed.clear();
+        self.held.clear();
+        Ok(place as u64)
+    }
+
+    /// Removes what stands at the place, and takes all assumptions back. Whether there was a constraint.
+    pub fn remove(&mut self, place: u64) -> bool
+        ensures answer { result ≡ is_some (at_place self.old.places place) }
+        ensures after { self.new ≡ (if result then removed place self.old else self.old) }
+    {
+        let place = place as usize;
+        if !self.places.stands(place) {
+            return false;
+        }
+        queue::rewind(
+            &self.places,
+            &mut self.kept,
+            &self.lists,
+            &self.held,
+            &mut self.counted,
+            &mut self.phase,
+        );
+        self.assumed.clear();
+        self.held.clear();
+        let terms = self.places.count(place);
+        let listed = store::is_tight(&self.kept, place);
+        self.wear.count(terms, listed);
+        self.places.clear(place);
+        store::tidy(
+            &mut self.wear,
+            &mut self.lists,
+            &mut self.kept,
+            &mut self.tight,
+            self.held.vars(),
+            &self.places,
+        );
+        true
+    }
+
+    /// By how much what the constraint at the place can still add is above its degree.
+    pub fn slack(&self, place: u64) -> Option<i128>
+        ensures { result ≡ slack_at self.now place }
+    {
+        let place = place as usize;
+        let told = self.counted == self.held.len();
+        let left = room_of(&self.kept, place);
+        self.places.slack(place, left, told, &self.held)
     }
 }

@@ -2,12 +2,15 @@
 #![tactic(auto)]
 
 mod engine;
+mod index;
+mod kept;
 mod laws;
-mod rounds;
+mod places;
+mod queue;
+mod slack;
+mod store;
 mod trail;
+mod visit;
 
 pub use engine::{Engine, Outcome};
 pub use laws::{a_conflict_stays, a_refused_literal_conflicts, answers_over_clauses};
-
-#[cfg(test)]
-mod tests;

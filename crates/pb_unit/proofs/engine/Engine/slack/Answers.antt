@@ -1,0 +1,22 @@
+use Rattle.std.proofs.Common.{◌∙◌, ap, List, arith}
+use Rattle.std.proofs.lemmas.Bool.{eqb-true}
+use Rattle.pb_norm.specs.Constraints.{weight}
+use Rattle.pb_unit.specs.declared.kept.Kept.{Kept}
+use Rattle.pb_unit.specs.States.{EngineState, slack_at}
+use Rattle.pb_unit.specs.Index.{room_at}
+use Rattle.pb_unit.proofs.Queueing.{room_told}
+use Rattle.pb_unit.proofs.engine.Engine.slack.Goals as goal
+
+pub slack-requires-clause-told : goal.slack-requires-clause-told
+slack-requires-clause-told c = λ told d at.
+    c.room_of-left.ensures ∙
+    (ap (λ (ks : List Kept). room_at ks c.args.place) c.deref.ensures.value ∙
+    room_told c.self.inside.held.vars c.self.inside.places c.self.inside.lists c.self.inside.kept.items c.self.inside.tight.items c.self.inside.held.lits c.self.inside.counted c.self.inside.phase c.self.invariant.queue
+    (eqb-true c.self.inside.counted c.len.result told ∙ c.len.ensures.count) c.args.place d at)
+
+pub slack-requires-clause-narrow : goal.slack-requires-clause-narrow
+slack-requires-clause-narrow c = λ d at.
+    omega (arith, ap weight (c.self.invariant.queue.counts.same c.args.place d at), c.self.invariant.queue.counts.narrow c.args.place)
+
+pub returns : goal.returns
+returns c = c.slack.ensures ∙ ap (λ (s : EngineState). slack_at s c.args.place) c.self.view_is

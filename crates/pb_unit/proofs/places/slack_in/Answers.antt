@@ -1,0 +1,18 @@
+use Rattle.std.proofs.Common.{◌∙◌, sym, ap, Some, List, map}
+use Rattle.std.proofs.lemmas.Bool.{ltb-true}
+use Rattle.pb_base.specs.declared.literal.Lit.{Lit}
+use Rattle.pb_unit.specs.States.{Stands}
+use Rattle.pb_unit.specs.Slots.{clause_of, slot_at}
+use Rattle.pb_unit.proofs.Slotting.{at_slot}
+use Rattle.pb_unit.proofs.places.slack_in.Goals as goal
+
+clause_at : (c : goal.After-part) → Stands (map (slot_at c.args.lits.now) c.args.slots.now) c.args.place (clause_of c.part.result.now)
+clause_at c =
+    let e = c.in-Some-Clause.ensures.lookup in
+    at_slot c.args.lits.now c.args.slots.now c.args.place c.in-Some-Clause.field-0.now (ltb-true _ _ (sym e.0)) e.1 ∙ (ap (slot_at c.args.lits.now) c.in-Some-Clause.field-0-is ∙ ap (λ (ls : List Lit). Some (clause_of ls)) (sym c.part.ensures))
+
+pub slack_of_clause-requires-clause-told : goal.slack_of_clause-requires-clause-told
+slack_of_clause-requires-clause-told c = λ told. c.requires.told told (clause_of c.part.result.now) (clause_at c)
+
+pub slack_of_clause-requires-clause-narrow : goal.slack_of_clause-requires-clause-narrow
+slack_of_clause-requires-clause-narrow c = c.requires.narrow (clause_of c.part.result.now) (clause_at c)

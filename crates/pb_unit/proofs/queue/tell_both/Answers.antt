@@ -1,0 +1,27 @@
+use Rattle.std.proofs.Common.{◌≡◌, ◌≤◌, ◌<◌, ◌+◌, ◌++◌, ℕ, List, map, subst, sym, length}
+use Rattle.std.specs.Prelude.{All}
+use Rattle.pb_norm.specs.Propagation.{room}
+use Rattle.pb_unit.specs.declared.index.Occurrence.{Occurrence}
+use Rattle.pb_unit.specs.Index.{unit_at, list_at, sum_at, room_at, IsTold}
+use Rattle.pb_unit.proofs.Telling.{told_then, parts_all, rest_bound}
+use Rattle.pb_unit.proofs.Pushing.{list_parts}
+use Rattle.pb_unit.proofs.queue.tell_both.Goals as goal
+
+pub tell_all-requires-clause-known : goal.tell_all-requires-clause-known
+tell_all-requires-clause-known c =
+    let parts : list_at c.args.lists.now c.args.falsified.now ≡ map unit_at c.units.result.now ++ c.others.result.now = list_parts c.args.lists.now c.args.falsified.now c.units.result.now c.others.result.now c.units.ensures c.others.ensures in
+    let all : All (λ (o : Occurrence). o.place < length c.args.kept.now) (map unit_at c.units.result.now ++ c.others.result.now) = subst (All (λ (o : Occurrence). o.place < length c.args.kept.now)) parts c.requires.known in
+    subst (λ (n : ℕ). All (λ (o : Occurrence). o.place < n) c.others.result.now) (sym c.tell_units-short.ensures.told.lowered.size)
+    (parts_all (λ (o : Occurrence). o.place < length c.args.kept.now) (map unit_at c.units.result.now) c.others.result.now all).1
+
+pub tell_all-requires-clause-bound : goal.tell_all-requires-clause-bound
+tell_all-requires-clause-bound c =
+    let parts : list_at c.args.lists.now c.args.falsified.now ≡ map unit_at c.units.result.now ++ c.others.result.now = list_parts c.args.lists.now c.args.falsified.now c.units.result.now c.others.result.now c.units.ensures c.others.ensures in
+    rest_bound c.args.places.now (map unit_at c.units.result.now) c.others.result.now c.args.kept.now c.tell_units-short.new.kept c.args.held.now.lits c.tell_units-short.new.held.lits c.tell_units-short.result c.tell_units-short.ensures.told
+    (λ p d at. subst (λ (os : List Occurrence). room c.args.held.now.lits d.terms + sum_at p os ≤ room_at c.args.kept.now p) parts (c.requires.bound p d at))
+
+pub returns-clause-told : goal.returns-clause-told
+returns-clause-told c =
+    let parts : list_at c.args.lists.now c.args.falsified.now ≡ map unit_at c.units.result.now ++ c.others.result.now = list_parts c.args.lists.now c.args.falsified.now c.units.result.now c.others.result.now c.units.ensures c.others.ensures in
+    subst (λ (os : List Occurrence). IsTold c.args.places.now os c.args.kept.now c.tell_all.new.kept c.args.held.now.lits c.tell_all.new.held.lits c.tell_all.result) (sym parts)
+    (told_then c.args.places.now (map unit_at c.units.result.now) c.others.result.now c.args.kept.now c.tell_units-short.new.kept c.tell_all.new.kept c.args.held.now.lits c.tell_units-short.new.held.lits c.tell_all.new.held.lits c.tell_units-short.result c.tell_all.result c.tell_units-short.ensures.told c.tell_all.ensures.told c.tell_all.ensures.still)

@@ -1,8 +1,0 @@
-use Rattle.std.proofs.Common.{arith, ap}
-use Rattle.pb_norm.specs.Constraints.{weight, weights}
-use Rattle.pb_norm.proofs.Rooms.{room-le-weight}
-use Rattle.pb_unit.proofs.rounds.visit.Goals as goal
-
-pub room-room-requires : goal.room-room-requires
-room-room-requires c =
-    omega (arith, room-le-weight c.args.held.now.lits (weights c.terms.result.now), ap weight c.terms.ensures.weights, c.terms.ensures.linear.weight_fits)

@@ -1,0 +1,31 @@
+-- What is true of every engine inside.
+use Rattle.std.specs.Prelude.{◌≡◌, ◌≤◌, ℕ, List, Option, length}
+use Rattle.pb_base.specs.declared.literal.Lit.{Lit}
+use Rattle.pb_norm.specs.Constraints.{Constraint}
+use Rattle.pb_unit.specs.declared.kept.Kept.{Kept}
+use Rattle.pb_unit.specs.declared.queue.Phase.{Phase}
+use Rattle.pb_unit.specs.declared.queue.Phase.TheVariants.{Fresh, Calm, Short}
+use Rattle.pb_unit.specs.States.{EngineState, IsEngine}
+use Rattle.pb_unit.specs.Steps.{HasTooLittle}
+use Rattle.pb_unit.specs.Trails.{oldest}
+use Rattle.pb_unit.specs.Index.{Lists, AreCalm, IsCounted, AreListed}
+
+-- how far propagation has come
+abbrev pub IsAtNow : Phase → List (Option Constraint) → List Kept → List Lit → Type 0
+IsAtNow Fresh places kept held = Unit {0}
+IsAtNow Calm places kept held = AreCalm places kept held
+IsAtNow (Short place) places kept held = HasTooLittle places held place
+
+-- the rooms count the oldest literals that hold
+pub record IsQueue (vars : ℕ) (places : List (Option Constraint)) (lists : Lists) (kept : List Kept) (tight : List ℕ) (held : List Lit) (counted : ℕ) (phase : Phase) : Type 0 where
+  pub in_held : counted ≤ length held
+  pub counts : IsCounted vars places lists kept (oldest counted held)
+  pub listed : AreListed places kept tight
+  pub even : length kept ≡ length places
+  pub fresh : phase ≡ Fresh → counted ≡ 0
+  pub at : IsAtNow phase places kept held
+
+pub record IsKept (given_vars : ℕ) (lists : Lists) (kept : List Kept) (tight : List ℕ) (counted : ℕ) (phase : Phase) (s : EngineState) : Type 0 where
+  pub same_vars : given_vars ≡ s.vars
+  pub engine : IsEngine s
+  pub queue : IsQueue s.vars s.places lists kept tight s.held counted phase

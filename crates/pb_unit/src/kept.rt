@@ -1,0 +1,69 @@
+//! The room that is kept of each constraint.
+ghost use Rattle.std.specs.Prelude.{◌≡◌, ◌≤◌, ◌<◌, ◌+◌, ◌^◌, ◌∷◌, [], ℕ, nat_lt, List, length, map, All, take};
+ghost use Rattle.pb_unit.specs.Index.{unit_at, sum_at, room_at, alert_at, AreLowered};
+
+use crate::index::Occurrence;
+
+/// What the terms of a constraint can still add, and with how much of that it needs no literal, whatever holds.
+#[derive(Clone, Copy, Debug, PartialEq, Eq)]
+pub(crate) struct Kept {
+    pub(crate) room: u128,
+    pub(crate) alert: u128,
+}
+
+// Takes a coefficient from the room of its constraint. Whether the constraint may need something now.
+pub(crate) fn lower(kept: &mut [Kept], occurrence: &Occurrence) -> bool
+    requires known { occurrence.now.place < length kept.old }
+    requires enough { occurrence.now.coef ≤ room_at kept.old occurrence.now.place }
+    ensures lowered { AreLowered (occurrence.now ∷ []) kept.old kept.new }
+    ensures answer { result ≡ nat_lt (room_at kept.new occurrence.now.place) (alert_at kept.new occurrence.now.place) }
+{
+    let at = &mut kept[occurrence.place];
+    at.room -= occurrence.coef;
+    at.room < at.alert
+}
+
+// Gives a coefficient back.
+pub(crate) fn raise(kept: &mut [Kept], occurrence: &Occurrence)
+    requires known { occurrence.now.place < length kept.old }
+    requires fits { room_at kept.old occurrence.now.place + occurrence.now.coef < 2 ^ 128 }
+    ensures { AreLowered (occurrence.now ∷ []) kept.new kept.old }
+{
+    kept[occurrence.place].room += occurrence.coef;
+}
+
+// Gives the coefficients back to the rooms.
+pub(crate) fn raise_all(kept: &mut [Kept], occurrences: &[Occurrence])
+    requires known { All (λ o. o.place < length kept.old) occurrences.now }
+    requires fits { (p : ℕ) → room_at kept.old p + sum_at p occurrences.now < 2 ^ 128 }
+    ensures { AreLowered occurrences.now kept.new kept.old }
+{
+    for occurrence in occurrences {
+        raise(kept, occurrence);
+    }
+}
+
+// Gives a coefficient of 1 back to the rooms of these places.
+pub(crate) fn raise_units(kept: &mut [Kept], places: &[u32])
+    requires known { All (λ o. o.place < length kept.old) (map unit_at places.now) }
+    requires fits { (p : ℕ) → room_at kept.old p + sum_at p (map unit_at places.now) < 2 ^ 128 }
+    ensures { AreLowered (map unit_at places.now) kept.new kept.old }
+{
+    for place in places {
+        let occurrence = Occurrence {
+            place: *place as usize,
+            coef: 1,
+        };
+        raise(kept, &occurrence);
+    }
+}
+
+// The room at a place, 0 past the end.
+pub(crate) fn room_of(kept: &[Kept], place: usize) -> u128
+    ensures { result ≡ room_at kept.now place }
+{
+    match kept.get(place) {
+        Some(at) => at.room,
+        None => 0,
+    }
+}

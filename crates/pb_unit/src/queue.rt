@@ -1,0 +1,350 @@
+//! Propagation with kept rooms, occurrences of literals and a queue.
+ghost use Rattle.std.specs.Prelude.{◌≡◌, ◌≤◌, ◌<◌, ◌+◌, ◌^◌, ◌∷◌, [], ℕ, List, length, map, All, IfSome, IsNone};
+ghost use Rattle.std.specs.Bool.{OnTrue, OnFalse};
+ghost use Rattle.pb_base.specs.declared.literal.Lit.{Lit};
+ghost use Rattle.pb_norm.specs.Constraints.{Constraint, weight};
+ghost use Rattle.pb_norm.specs.Propagation.{room};
+ghost use Rattle.pb_unit.specs.States.{StandWithin, Stands, standing};
+ghost use Rattle.pb_unit.specs.Steps.{IsAlert, IsCalm, Advances, HasTooLittle};
+ghost use Rattle.pb_unit.specs.Trails.{oldest};
+ghost use Rattle.pb_unit.specs.Index.{code, size_of, unit_at, list_at, IsStore, AreListed, AreAlerts, sum_at, room_at, alert_at, HasRoom, IsCalmAt, AreCalm, AreLowered, IsTold, IsCounted};
+ghost use Rattle.pb_unit.specs.Kept.{IsQueue, IsAtNow};
+ghost use Rattle.pb_unit.specs.Ends.{Ends};
+
+use crate::engine::Outcome;
+use crate::index::{Index, Occurrence};
+use crate::kept::{Kept, lower, raise_all, raise_units, room_of};
+use crate::places::Places;
+use crate::trail::Trail;
+use pb_base::Lit;
+
+/// How far propagation has come.
+#[derive(Clone, Copy, Debug, PartialEq, Eq)]
+pub(crate) enum Phase {
+    /// No literal was told, and no constraint was looked at.
+    Fresh,
+    /// Each constraint is calm with its room.
+    Calm,
+    /// The constraint at the place has too little room.
+    Short(usize),
+}
+
+// Tells a literal to a constraint in which its negation stands. Whether the constraint has room enough.
+fn tell_one(places: &Places, kept: &mut [Kept], occurrence: &Occurrence, held: &mut Trail) -> bool
+    requires within { StandWithin held.old.vars places.now }
+    requires known { occurrence.now.place < length kept.old }
+    requires enough { occurrence.now.coef ≤ room_at kept.old occurrence.now.place }
+    requires bound { HasRoom places.now kept.old held.old.lits occurrence.now.place occurrence.now.coef }
+    requires alerts { (c : Constraint) → Stands places.now occurrence.now.place c → IsAlert (alert_at kept.old occurrence.now.place) c }
+    ensures vars { held.new.vars ≡ held.old.vars }
+    ensures lowered { AreLowered (occurrence.now ∷ []) kept.old kept.new }
+    ensures advances { (given : List Lit) → Advances (standing places.now) given held.old.lits held.new.lits }
+    ensures calm { OnTrue result (IsCalmAt places.now kept.new held.new.lits occurrence.now.place) }
+    ensures short { OnFalse result (HasTooLittle places.now held.new.lits occurrence.now.place) }
+{
+    if !lower(kept, occurrence) {
+        return true;
+    }
+    places.look(occurrence.place, room_of(kept, occurrence.place), held)
+}
+
+// The same, where no constraint had too little room so far. Else only the room is counted.
+fn tell_next(
+    places: &Places,
+    kept: &mut [Kept],
+    occurrence: &Occurrence,
+    short: Option<usize>,
+    held: &mut Trail,
+) -> Option<usize>
+    requires within { StandWithin held.old.vars places.now }
+    requires known { occurrence.now.place < length kept.old }
+    requires enough { occurrence.now.coef ≤ room_at kept.old occurrence.now.place }
+    requires bound { HasRoom places.now kept.old held.old.lits occurrence.now.place occurrence.now.coef }
+    requires alerts { (c : Constraint) → Stands places.now occurrence.now.place c → IsAlert (alert_at kept.old occurrence.now.place) c }
+    requires short { IfSome short (HasTooLittle places.now held.old.lits) }
+    ensures vars { held.new.vars ≡ held.old.vars }
+    ensures told { IsTold places.now (occurrence.now ∷ []) kept.old kept.new held.old.lits held.new.lits result }
+    ensures still { IsNone result → IsNone short }
+{
+    if let Some(place) = short {
+        lower(kept, occurrence);
+        return Some(place);
+    }
+    if tell_one(places, kept, occurrence, held) {
+        return None;
+    }
+    Some(occurrence.place)
+}
+
+// Tells a literal to the constraints in which its negation stands with the coefficient 1. The place is that of one with too little room.
+fn tell_units(places: &Places, kept: &mut [Kept], units: &[u32], held: &mut Trail) -> Option<usize>
+    requires within { StandWithin held.old.vars places.now }
+    requires known { All (λ o. o.place < length kept.old) (map unit_at units.now) }
+    requires enough { (p : ℕ) → sum_at p (map unit_at units.now) ≤ room_at kept.old p }
+    requires bound { (p : ℕ) → HasRoom places.now kept.old held.old.lits p (sum_at p (map unit_at units.now)) }
+    requires alerts { AreAlerts places.now kept.old }
+    ensures vars { held.new.vars ≡ held.old.vars }
+    ensures told { IsTold places.now (map unit_at units.now) kept.old kept.new held.old.lits held.new.lits result }
+{
+    let mut short = None;
+    for place in units {
+        let occurrence = Occurrence {
+            place: *place as usize,
+            coef: 1,
+        };
+        short = tell_next(places, kept, &occurrence, short, held);
+    }
+    short
+}
+
+// Tells a literal to more constraints in which its negation stands. The place is that of one with too little room, as before these or here.
+fn tell_all(
+    places: &Places,
+    kept: &mut [Kept],
+    occurrences: &[Occurrence],
+    before: Option<usize>,
+    held: &mut Trail,
+) -> Option<usize>
+    requires within { StandWithin held.old.vars places.now }
+    requires known { All (λ o. o.place < length kept.old) occurrences.now }
+    requires enough { (p : ℕ) → sum_at p occurrences.now ≤ room_at kept.old p }
+    requires bound { (p : ℕ) → HasRoom places.now kept.old held.old.lits p (sum_at p occurrences.now) }
+    requires alerts { AreAlerts places.now kept.old }
+    requires short { IfSome before (HasTooLittle places.now held.old.lits) }
+    ensures vars { held.new.vars ≡ held.old.vars }
+    ensures told { IsTold places.now occurrences.now kept.old kept.new held.old.lits held.new.lits result }
+    ensures still { IsNone result → IsNone before }
+{
+    let mut short = before;
+    for occurrence in occurrences {
+        short = tell_next(places, kept, occurrence, short, held);
+    }
+    short
+}
+
+// Tells a literal to all constraints in which its negation stands. The place is that of one with too little room.
+fn tell_both(
+    places: &Places,
+    kept: &mut [Kept],
+    lists: &Index,
+    falsified: &Lit,
+    held: &mut Trail,
+) -> Option<usize>
+    requires listed { code falsified.now < size_of lists.now }
+    requires within { StandWithin held.old.vars places.now }
+    requires known { All (λ o. o.place < length kept.old) (list_at lists.now falsified.now) }
+    requires enough { (p : ℕ) → sum_at p (list_at lists.now falsified.now) ≤ room_at kept.old p }
+    requires bound { (p : ℕ) → HasRoom places.now kept.old held.old.lits p (sum_at p (list_at lists.now falsified.now)) }
+    requires alerts { AreAlerts places.now kept.old }
+    ensures vars { held.new.vars ≡ held.old.vars }
+    ensures told { IsTold places.now (list_at lists.now falsified.now) kept.old kept.new held.old.lits held.new.lits result }
+{
+    let short = tell_units(places, kept, lists.units(falsified), held);
+    tell_all(places, kept, lists.others(falsified), short, held)
+}
+
+// Tells the next literal that holds.
+fn tell(
+    places: &Places,
+    kept: &mut [Kept],
+    lists: &Index,
+    held: &mut Trail,
+    counted: usize,
+) -> Option<usize>
+    requires within { StandWithin held.old.vars places.now }
+    requires counts { IsCounted held.old.vars places.now lists.now kept.old (oldest counted held.old.lits) }
+    requires calm { AreCalm places.now kept.old held.old.lits }
+    requires next { counted < length held.old.lits }
+    ensures vars { held.new.vars ≡ held.old.vars }
+    ensures advances { (given : List Lit) → Advances (standing places.now) given held.old.lits held.new.lits }
+    ensures counts { IsCounted held.new.vars places.now lists.now kept.new (oldest (counted + 1) held.new.lits) }
+    ensures alerts { (p : ℕ) → alert_at kept.new p ≡ alert_at kept.old p }
+    ensures calm { IsNone result → AreCalm places.now kept.new held.new.lits }
+    ensures short { IfSome result (HasTooLittle places.now held.new.lits) }
+{
+    let falsified = held.nth(counted).not();
+    tell_both(places, kept, lists, &falsified, held)
+}
+
+// Looks at the constraints that are listed. The place is that of one with too little room.
+fn look_all(places: &Places, kept: &[Kept], tight: &[usize], held: &mut Trail) -> Option<usize>
+    requires within { StandWithin held.old.vars places.now }
+    requires bound { (p : ℕ) (c : Constraint) → Stands places.now p c → room held.old.lits c.terms ≤ room_at kept.now p }
+    ensures vars { held.new.vars ≡ held.old.vars }
+    ensures advances { (given : List Lit) → Advances (standing places.now) given held.old.lits held.new.lits }
+    ensures calm { IsNone result → All (IsCalmAt places.now kept.now held.new.lits) tight.now }
+    ensures short { IfSome result (HasTooLittle places.now held.new.lits) }
+{
+    for place in tight {
+        if !places.look(*place, room_of(kept, *place), held) {
+            return Some(*place);
+        }
+    }
+    None
+}
+
+// Tells the literals that hold, one after another, until nothing more joins.
+fn tell_rest(
+    places: &Places,
+    kept: &mut [Kept],
+    lists: &Index,
+    held: &mut Trail,
+    counted: &mut usize,
+) -> Option<usize>
+    requires within { StandWithin held.old.vars places.now }
+    requires in_held { counted.old ≤ length held.old.lits }
+    requires counts { IsCounted held.old.vars places.now lists.now kept.old (oldest counted.old held.old.lits) }
+    requires calm { AreCalm places.now kept.old held.old.lits }
+    ensures vars { held.new.vars ≡ held.old.vars }
+    ensures advances { (given : List Lit) → Advances (standing places.now) given held.old.lits held.new.lits }
+    ensures in_held { counted.new ≤ length held.new.lits }
+    ensures counts { IsCounted held.new.vars places.now lists.now kept.new (oldest counted.new held.new.lits) }
+    ensures alerts { (p : ℕ) → alert_at kept.new p ≡ alert_at kept.old p }
+    ensures calm { IsNone result → (length held.new.lits ≤ counted.new) × AreCalm places.now kept.new held.new.lits }
+    ensures short { IfSome result (HasTooLittle places.now held.new.lits) }
+{
+    'queue: while *counted < held.len() {
+        let next = *counted;
+        *counted += 1;
+        if let Some(place) = tell(places, kept, lists, held, next) {
+            return Some(place);
+        }
+    }
+    None
+}
+
+// Looks at the listed constraints, where none was looked at yet. The place is that of one with too little room.
+fn begin(
+    places: &Places,
+    kept: &[Kept],
+    tight: &[usize],
+    held: &mut Trail,
+    phase: Phase,
+) -> Option<usize>
+    requires within { StandWithin held.old.vars places.now }
+    requires bound { (p : ℕ) (c : Constraint) → Stands places.now p c → room held.old.lits c.terms ≤ room_at kept.now p }
+    requires full { phase ≡ Phase.Fresh → (p : ℕ) (c : Constraint) → Stands places.now p c → room_at kept.now p ≡ weight c.terms }
+    requires listed { AreListed places.now kept.now tight.now }
+    requires alerts { AreAlerts places.now kept.now }
+    requires at { IsAtNow phase places.now kept.now held.old.lits }
+    ensures vars { held.new.vars ≡ held.old.vars }
+    ensures advances { (given : List Lit) → Advances (standing places.now) given held.old.lits held.new.lits }
+    ensures calm { IsNone result → AreCalm places.now kept.now held.new.lits }
+    ensures short { IfSome result (HasTooLittle places.now held.new.lits) }
+{
+    match phase {
+        Phase::Fresh => look_all(places, kept, tight, held),
+        Phase::Calm => None,
+        Phase::Short(place) => Some(place),
+    }
+}
+
+// Goes on until nothing more joins. The place is that of a constraint with too little room.
+fn go_on(
+    places: &Places,
+    kept: &mut [Kept],
+    lists: &Index,
+    tight: &[usize],
+    held: &mut Trail,
+    counted: &mut usize,
+    phase: Phase,
+) -> Option<usize>
+    requires within { StandWithin held.old.vars places.now }
+    requires queue { IsQueue held.old.vars places.now lists.now kept.old tight.now held.old.lits counted.old phase }
+    ensures vars { held.new.vars ≡ held.old.vars }
+    ensures advances { (given : List Lit) → Advances (standing places.now) given held.old.lits held.new.lits }
+    ensures in_held { counted.new ≤ length held.new.lits }
+    ensures counts { IsCounted held.new.vars places.now lists.now kept.new (oldest counted.new held.new.lits) }
+    ensures listed { AreListed places.now kept.new tight.now }
+    ensures calm { IsNone result → (length held.new.lits ≤ counted.new) × AreCalm places.now kept.new held.new.lits }
+    ensures short { IfSome result (HasTooLittle places.now held.new.lits) }
+{
+    if let Some(place) = begin(places, kept, tight, held, phase) {
+        return Some(place);
+    }
+    tell_rest(places, kept, lists, held, counted)
+}
+
+// Has all literals hold that are reached, or finds a constraint with too little room.
+pub(crate) fn propagate(
+    places: &Places,
+    kept: &mut [Kept],
+    lists: &Index,
+    tight: &[usize],
+    held: &mut Trail,
+    counted: &mut usize,
+    phase: &mut Phase,
+) -> Outcome
+    requires within { StandWithin held.old.vars places.now }
+    requires queue { IsQueue held.old.vars places.now lists.now kept.old tight.now held.old.lits counted.old phase.old }
+    ensures vars { held.new.vars ≡ held.old.vars }
+    ensures advances { (given : List Lit) → Advances (standing places.now) given held.old.lits held.new.lits }
+    ensures queue { IsQueue held.new.vars places.now lists.now kept.new tight.now held.new.lits counted.new phase.new }
+    ensures ends { Ends places.now held.new.lits result }
+{
+    match go_on(places, kept, lists, tight, held, counted, *phase) {
+        Some(place) => {
+            *phase = Phase::Short(place);
+            Outcome::Conflict {
+                place: place as u64,
+            }
+        }
+        None => {
+            *phase = Phase::Calm;
+            Outcome::Fixed
+        }
+    }
+}
+
+// Gives the coefficients of a literal back to the rooms.
+fn raise_both(kept: &mut [Kept], lists: &Index, lit: &Lit)
+    requires listed { code lit.now < size_of lists.now }
+    requires known { All (λ o. o.place < length kept.old) (list_at lists.now lit.now) }
+    requires fits { (p : ℕ) → room_at kept.old p + sum_at p (list_at lists.now lit.now) < 2 ^ 128 }
+    ensures { AreLowered (list_at lists.now lit.now) kept.new kept.old }
+{
+    raise_units(kept, lists.units(lit));
+    raise_all(kept, lists.others(lit));
+}
+
+// Counts no literal in the rooms any more. This takes as long as it took to count them.
+pub(crate) fn uncount(
+    places: &Places,
+    kept: &mut [Kept],
+    lists: &Index,
+    held: &Trail,
+    counted: usize,
+)
+    requires in_held { counted ≤ length held.now.lits }
+    requires counts { IsCounted held.now.vars places.now lists.now kept.old (oldest counted held.now.lits) }
+    ensures counts { IsCounted held.now.vars places.now lists.now kept.new [] }
+    ensures alerts { (p : ℕ) → alert_at kept.new p ≡ alert_at kept.old p }
+{
+    let mut left = counted;
+    while left > 0 {
+        left -= 1;
+        let falsified = held.nth(left).not();
+        raise_both(kept, lists, &falsified);
+    }
+}
+
+// Begins anew: no literal was told, and no constraint was looked at.
+pub(crate) fn rewind(
+    places: &Places,
+    kept: &mut [Kept],
+    lists: &Index,
+    held: &Trail,
+    counted: &mut usize,
+    phase: &mut Phase,
+)
+    requires even { length kept.old ≡ length places.now }
+    requires in_held { counted.old ≤ length held.now.lits }
+    requires counts { IsCounted held.now.vars places.now lists.now kept.old (oldest counted.old held.now.lits) }
+    ensures counted { counted.new ≡ 0 }
+    ensures phase { phase.new ≡ Phase.Fresh }
+    ensures store { (tight : List ℕ) → AreListed places.now kept.old tight → IsStore held.now.vars places.now lists.now kept.new tight }
+{
+    uncount(places, kept, lists, held, *counted);
+    *counted = 0;
+    *phase = Phase::Fresh;
+}

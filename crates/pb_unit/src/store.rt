@@ -1,0 +1,402 @@
+//! Constraints at their places, with the index of their literals and their rooms.
+ghost use Rattle.std.specs.Prelude.{◌≡◌, ◌≤◌, ◌<◌, ◌+◌, ◌^◌, ◌∷◌, ◌++◌, [], ◌⊎◌, ◌*◌, if◌then◌else◌, max, filter, IfOk, ℕ, List, length, All, Contains, IfSome, None, is_some, vec_capacity, slice_index_or};
+ghost use Rattle.std.specs.Bool.{OnTrue, OnFalse};
+ghost use Rattle.pb_norm.specs.Constraints.{Weighted, Constraint, IsLinear, weight, weighted, weights, HasVarsWithin};
+ghost use Rattle.pb_unit.specs.States.{Stands, at_place, placed};
+ghost use Rattle.pb_unit.specs.Steps.{IsAlert};
+ghost use Rattle.pb_base.specs.declared.literal.Lit.{Lit};
+ghost use Rattle.pb_unit.specs.Index.{Enters, list_at, size_of, room_at, alert_at, AreListed, IsCounted, IsEntered, IsStore};
+
+use crate::index::{Index, Occurrence, code};
+use crate::kept::{Kept, raise, room_of};
+use crate::places::Places;
+use pb_base::{NoMemory, Term};
+use pb_norm::Linear;
+use std::alloc::Global;
+
+/// What removed constraints have left behind. These are counts and hints: nothing is true by them.
+#[derive(Clone, Copy, Debug, PartialEq, Eq)]
+pub(crate) struct Wear {
+    /// So many terms may be left before a sweep pays for itself.
+    limit: usize,
+    /// So many terms are left.
+    terms: usize,
+    /// So many listed places are left.
+    listed: usize,
+    /// From this place on there may be a free one.
+    pub(crate) next: usize,
+}
+
+impl Wear {
+    // None yet, with so many places.
+    pub(crate) fn new(places: usize) -> Wear {
+        Wear {
+            limit: places,
+            terms: 0,
+            listed: 0,
+            next: places,
+        }
+    }
+
+    // A constraint with so many terms goes.
+    pub(crate) fn count(&mut self, terms: usize, is_listed: bool) {
+        self.terms = self.terms.saturating_add(terms);
+        if is_listed {
+            self.listed = self.listed.saturating_add(1);
+        }
+    }
+}
+
+// A place without a constraint and without occurrences, from a place on, or the next.
+pub(crate) fn free_place(places: &Places, kept: &[Kept], from: usize) -> usize
+    requires { length kept.now ≡ length places.now }
+    ensures near { result ≤ length places.now }
+    ensures empty { at_place places.now result ≡ None }
+    ensures unused { room_at kept.now result ≡ 0 }
+{
+    let mut place = from;
+    while place < places.len() {
+        if !places.stands(place) && room_of(kept, place) == 0 {
+            return place;
+        }
+        place += 1;
+    }
+    places.len()
+}
+
+// With this room a constraint needs nothing, whatever holds.
+fn alert_of(constraint: &Linear) -> u128
+    ensures { IsAlert result constraint.now }
+{
+    let mut greatest = 0;
+    for term in constraint.terms() {
+        let weight = term.weight();
+        if weight > greatest {
+            greatest = weight;
+        }
+    }
+    constraint.degree() + greatest
+}
+
+// Adds a term at a place to the index and to the room there, if there is memory.
+fn enter_one(
+    alloc: Global,
+    lists: &mut Index,
+    kept: &mut [Kept],
+    vars: u32,
+    places: &Places,
+    place: usize,
+    term: &Term,
+) -> bool
+    requires within { term.now.lit.var ≤ vars }
+    requires empty { at_place places.now place ≡ None }
+    requires known { place < length kept.old }
+    requires fits { room_at kept.old place + (weighted term.now).coef ≤ 2 ^ 126 }
+    requires counts { IsCounted vars places.now lists.old kept.old [] }
+    ensures entered { OnTrue result (Enters vars places.now place (weighted term.now) lists.old kept.old lists.new kept.new) }
+    ensures refused { OnFalse result (IsCounted vars places.now lists.new kept.new []) }
+    ensures alerts { (p : ℕ) → alert_at kept.new p ≡ alert_at kept.old p }
+{
+    let coef = term.weight();
+    if !lists.push(alloc, &term.lit, place, coef) {
+        return false;
+    }
+    raise(kept, &Occurrence { place, coef });
+    true
+}
+
+// Adds terms at a place, as long as there is memory.
+fn enter_all(
+    alloc: Global,
+    lists: &mut Index,
+    kept: &mut [Kept],
+    vars: u32,
+    places: &Places,
+    place: usize,
+    terms: &[Term],
+) -> bool
+    requires within { HasVarsWithin vars (weights terms.now) }
+    requires empty { at_place places.now place ≡ None }
+    requires known { place < length kept.old }
+    requires fits { weight (weights terms.now) ≤ 2 ^ 126 }
+    requires entered { IsEntered vars places.now lists.old kept.old place [] }
+    ensures entered { OnTrue result (IsEntered vars places.now lists.new kept.new place (weights terms.now)) }
+    ensures refused { OnFalse result (IsCounted vars places.now lists.new kept.new []) }
+    ensures alerts { (p : ℕ) → alert_at kept.new p ≡ alert_at kept.old p }
+{
+    for term in terms {
+        if !enter_one(alloc, lists, kept, vars, places, place, term) {
+            return false;
+        }
+    }
+    true
+}
+
+// An entry for the place, if there is memory.
+fn grow(kept: &mut Vec<Kept>, vars: u32, places: &Places, lists: &Index, place: usize) -> bool
+    requires near { place ≤ length kept.old.items }
+    requires counts { IsCounted vars places.now lists.now kept.old.items [] }
+    ensures counts { IsCounted vars places.now lists.now kept.new.items [] }
+    ensures alerts { (p : ℕ) → alert_at kept.new.items p ≡ alert_at kept.old.items p }
+    ensures rooms { (p : ℕ) → room_at kept.new.items p ≡ room_at kept.old.items p }
+    ensures known { OnTrue result (place < length kept.new.items) }
+    ensures size { length kept.new.items ≤ max (length kept.old.items) (place + 1) }
+{
+    if place < kept.len() {
+        return true;
+    }
+    let none = Kept { room: 0, alert: 0 };
+    kept.push(none).is_ok()
+}
+
+// Adds the terms of a constraint at a place, if there is memory.
+fn enter(
+    alloc: Global,
+    lists: &mut Index,
+    kept: &mut Vec<Kept>,
+    vars: u32,
+    places: &Places,
+    place: usize,
+    constraint: &Linear,
+) -> bool
+    requires within { HasVarsWithin vars constraint.now.terms }
+    requires empty { at_place places.now place ≡ None }
+    requires near { place ≤ length kept.old.items }
+    requires unused { room_at kept.old.items place ≡ 0 }
+    requires counts { IsCounted vars places.now lists.old kept.old.items [] }
+    ensures entered { OnTrue result (IsEntered vars places.now lists.new kept.new.items place constraint.now.terms) }
+    ensures refused { OnFalse result (IsCounted vars places.now lists.new kept.new.items []) }
+    ensures alerts { (p : ℕ) → alert_at kept.new.items p ≡ alert_at kept.old.items p }
+    ensures known { OnTrue result (place < length kept.new.items) }
+    ensures size { length kept.new.items ≤ max (length kept.old.items) (place + 1) }
+{
+    if !grow(kept, vars, places, lists, place) {
+        return false;
+    }
+    enter_all(alloc, lists, kept, vars, places, place, constraint.terms())
+}
+
+// Has no room at places where no constraint stands.
+fn sweep_rooms(kept: &mut [Kept], places: &Places)
+    ensures clean { (p : ℕ) → at_place places.now p ≡ None → room_at kept.new p ≡ 0 }
+    ensures others { (p : ℕ) (c : Constraint) → Stands places.now p c → room_at kept.new p ≡ room_at kept.old p }
+    ensures alerts { (p : ℕ) → alert_at kept.new p ≡ alert_at kept.old p }
+{
+    for place in 0..kept.len() {
+        if !places.stands(place) {
+            kept[place].room = 0;
+        }
+    }
+}
+
+// Drops what is left of constraints that do not stand.
+pub(crate) fn sweep(lists: &mut Index, kept: &mut Vec<Kept>, vars: u32, places: &Places)
+    requires counts { IsCounted vars places.now lists.old kept.old.items [] }
+    ensures counts { IsCounted vars places.now lists.new kept.new.items [] }
+    ensures alerts { (p : ℕ) (c : Constraint) → Stands places.now p c → alert_at kept.new.items p ≡ alert_at kept.old.items p }
+    ensures even { length kept.new.items ≡ length places.now }
+{
+    kept.truncate(places.len());
+    lists.sweep(places);
+    sweep_rooms(kept, places);
+}
+
+// One more place, for which there is room.
+fn list_place(tight: &mut Vec<usize>, place: usize)
+    requires { length tight.old.items < vec_capacity tight.old }
+    ensures { tight.new.items ≡ tight.old.items ++ place ∷ [] }
+{
+    match tight.push(place) {
+        Ok(()) => {}
+        Err(_) => {}
+    }
+}
+
+// Keeps the alert of a constraint at a place, which is listed where its room is less.
+fn settle(kept: &mut [Kept], tight: &mut Vec<usize>, place: usize, alert: u128)
+    requires known { place < length kept.old }
+    requires free { length tight.old.items < vec_capacity tight.old }
+    ensures rooms { (p : ℕ) → room_at kept.new p ≡ room_at kept.old p }
+    ensures alert { alert_at kept.new place ≡ alert }
+    ensures others { (p : ℕ) → (p ≡ place → ⊥) → alert_at kept.new p ≡ alert_at kept.old p }
+    ensures listed { (alert_at kept.new place ≤ room_at kept.old place) ⊎ Contains tight.new.items place }
+    ensures more { (p : ℕ) → Contains tight.old.items p → Contains tight.new.items p }
+{
+    let at = &mut kept[place];
+    at.alert = alert;
+    if at.room < alert {
+        list_place(tight, place);
+    }
+}
+
+// A constraint at a place, with its terms in the index, if there is memory. Else nothing stands that did not stand before.
+fn enter_and_put(
+    alloc: Global,
+    vars: u32,
+    places: &mut Places,
+    lists: &mut Index,
+    kept: &mut Vec<Kept>,
+    place: usize,
+    constraint: Linear,
+    common: bool,
+) -> bool
+    requires within { HasVarsWithin vars constraint.terms }
+    requires near { place ≤ length places.old }
+    requires empty { at_place places.old place ≡ None }
+    requires near_kept { place ≤ length kept.old.items }
+    requires unused { room_at kept.old.items place ≡ 0 }
+    requires counts { IsCounted vars places.old lists.old kept.old.items [] }
+    ensures placed { places.new ≡ (if result then placed place constraint places.old else places.old) }
+    ensures entered { OnTrue result (IsEntered vars places.old lists.new kept.new.items place constraint.terms) }
+    ensures refused { OnFalse result (IsCounted vars places.old lists.new kept.new.items []) }
+    ensures alerts { (p : ℕ) → alert_at kept.new.items p ≡ alert_at kept.old.items p }
+    ensures known { OnTrue result (place < length kept.new.items) }
+    ensures size { length kept.new.items ≤ max (length kept.old.items) (place + 1) }
+{
+    if !enter(alloc, lists, kept, vars, places, place, &constraint) {
+        return false;
+    }
+    places.put(alloc, place, constraint, common)
+}
+
+// A constraint at a free place, if there is memory. Else nothing stands that did not stand before.
+pub(crate) fn put(
+    alloc: Global,
+    vars: u32,
+    places: &mut Places,
+    lists: &mut Index,
+    kept: &mut Vec<Kept>,
+    tight: &mut Vec<usize>,
+    place: usize,
+    constraint: Linear,
+    common: bool,
+) -> bool
+    requires store { IsStore vars places.old lists.old kept.old.items tight.old.items }
+    requires within { HasVarsWithin vars constraint.terms }
+    requires near { place ≤ length places.old }
+    requires empty { at_place places.old place ≡ None }
+    requires unused { room_at kept.old.items place ≡ 0 }
+    ensures placed { places.new ≡ (if result then placed place constraint places.old else places.old) }
+    ensures store { IsStore vars places.new lists.new kept.new.items tight.new.items }
+{
+    if tight.reserve(1).is_err() {
+        return false;
+    }
+    let alert = alert_of(&constraint);
+    if !enter_and_put(alloc, vars, places, lists, kept, place, constraint, common) {
+        sweep(lists, kept, vars, places);
+        return false;
+    }
+    settle(kept, tight, place, alert);
+    true
+}
+
+// How many terms have each literal, by the literals' numbers.
+fn counts_of(alloc: Global, vars: u32, constraints: &[Linear]) -> Result<Vec<u32>, NoMemory>
+    ensures { IfOk result (λ v. length v.items ≡ 2 * vars + 2) }
+{
+    let mut counts: Vec<u32> = vec![in alloc; 0; 2 * vars as usize + 2]?;
+    for constraint in constraints {
+        count_terms(&mut counts, constraint.terms());
+    }
+    Ok(counts)
+}
+
+// No occurrences yet, with room for those of the constraints.
+pub(crate) fn empty_index(
+    alloc: Global,
+    vars: u32,
+    constraints: &[Linear],
+) -> Result<Index, NoMemory>
+    ensures size { IfOk result (λ lists. size_of lists ≡ 2 * vars + 2) }
+    ensures empty { IfOk result (λ lists. (l : Lit) → list_at lists l ≡ []) }
+{
+    let counts = counts_of(alloc, vars, constraints)?;
+    Index::new(alloc, &counts)
+}
+
+// Counts the terms with the coefficient 1 by literals.
+fn count_terms(counts: &mut [u32], terms: &[Term]) {
+    for term in terms {
+        if term.weight() == 1
+            && let Some(count) = counts.get_mut(code(&term.lit))
+        {
+            *count = count.saturating_add(1);
+        }
+    }
+}
+
+// Lists only places where a constraint stands.
+pub(crate) fn prune(tight: &mut Vec<usize>, places: &Places)
+    ensures { tight.new.items ≡ filter (λ p. is_some (at_place places.now p)) tight.old.items }
+{
+    tight.retain(|place| places.stands(*place));
+}
+
+// Drops what is left of constraints that do not stand, where that is due.
+pub(crate) fn sweep_if(
+    due: bool,
+    lists: &mut Index,
+    kept: &mut Vec<Kept>,
+    tight: &[usize],
+    vars: u32,
+    places: &Places,
+)
+    requires { IsStore vars places.now lists.old kept.old.items tight.now }
+    ensures { IsStore vars places.now lists.new kept.new.items tight.now }
+{
+    if due {
+        sweep(lists, kept, vars, places);
+    }
+}
+
+// Lists only places where a constraint stands, where that is due.
+pub(crate) fn prune_if(
+    due: bool,
+    lists: &Index,
+    kept: &[Kept],
+    tight: &mut Vec<usize>,
+    vars: u32,
+    places: &Places,
+)
+    requires { IsStore vars places.now lists.now kept.now tight.old.items }
+    ensures { IsStore vars places.now lists.now kept.now tight.new.items }
+{
+    if due {
+        prune(tight, places);
+    }
+}
+
+// Drops what is left of constraints that do not stand, as far as that is due.
+pub(crate) fn tidy(
+    wear: &mut Wear,
+    lists: &mut Index,
+    kept: &mut Vec<Kept>,
+    tight: &mut Vec<usize>,
+    vars: u32,
+    places: &Places,
+)
+    requires { IsStore vars places.now lists.old kept.old.items tight.old.items }
+    ensures { IsStore vars places.now lists.new kept.new.items tight.new.items }
+{
+    let due = wear.terms > wear.limit;
+    let crowded = wear.listed > tight.len() / 2;
+    sweep_if(due, lists, kept, tight, vars, places);
+    prune_if(crowded, lists, kept, tight, vars, places);
+    if due {
+        wear.terms = 0;
+        wear.next = 0;
+        wear.limit = lists.len().saturating_add(places.len()) / 2;
+    }
+    if crowded {
+        wear.listed = 0;
+    }
+}
+
+// Whether the room at a place is less than its alert.
+pub(crate) fn is_tight(kept: &[Kept], place: usize) -> bool {
+    match kept.get(place) {
+        Some(at) => at.room < at.alert,
+        None => false,
+    }
+}
