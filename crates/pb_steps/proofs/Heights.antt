@@ -1,0 +1,76 @@
+-- How high stacks are.
+use Rattle.std.proofs.Common.{◌≡◌, ℕ, suc, Bool, true, false, cond, List, [], ◌∷◌, arith, refl, ◌∙◌, length, ltb, subst}
+use Rattle.std.specs.Prelude.{Some, None, Option, option_map, option_and_then, unsigned_abs}
+use Rattle.std.proofs.lemmas.Bool.{eqb-true, both_ways}
+use Rattle.pb_norm.specs.Constraints.{Constraint}
+use Rattle.pb_steps.specs.declared.op.PolOp.{PolOp}
+use Rattle.pb_steps.specs.declared.op.PolOp.TheVariants.{Push, Axiom, Add, Mul, Div, Saturate, Weaken}
+use Rattle.pb_steps.specs.Operations.{axiom_of, multiple, division, saturation, weakening, is_narrow}
+use Rattle.pb_steps.specs.Database.{Entry, constraint_at}
+use Rattle.pb_steps.specs.Stacks.{higher, lower, same_height, height_after, height_from, leaves_one, is_stacked, on_top, added, after_op, with_room, after_ops}
+
+-- the stack, if there is one, is as high as told, if it is told
+abbrev IsAsHigh : Option (List Constraint) → Option ℕ → Type 0
+IsAsHigh (Some stack) (Some h) = length stack ≡ h
+IsAsHigh _ _ = Unit {0}
+
+higher-high : (o : Option Constraint) (stack : List Constraint) → IsAsHigh (option_map (λ c. c ∷ stack) o) (higher (length stack))
+higher-high None stack = tt
+higher-high (Some c) stack = by_test (ltb (length stack) 65536) where
+  by_test : (b : Bool) → IsAsHigh (Some (c ∷ stack)) (cond {A = Option ℕ} b (Some (suc (length stack))) None)
+  by_test true = omega arith
+  by_test false = tt
+
+top-high : (f : Constraint → Constraint) (stack : List Constraint) → IsAsHigh (on_top f stack) (same_height (length stack))
+top-high f [] = tt
+top-high f (c ∷ stack) = refl
+
+added-high : (stack : List Constraint) → IsAsHigh (added stack) (lower (length stack))
+added-high [] = tt
+added-high (c ∷ []) = tt
+added-high (d ∷ c ∷ stack) = refl
+
+op-high : (live : List Entry) (op : PolOp) (stack : List Constraint) → IsAsHigh (after_op live op stack) (height_after op (length stack))
+op-high live (Push id) stack = higher-high (constraint_at live id) stack
+op-high live (Axiom l) stack = higher-high (Some (axiom_of l)) stack
+op-high live Add stack = added-high stack
+op-high live (Mul n) stack = top-high (multiple (unsigned_abs n)) stack
+op-high live (Div n) stack = top-high (division (unsigned_abs n)) stack
+op-high live Saturate stack = top-high saturation stack
+op-high live (Weaken v) stack = top-high (weakening v) stack
+
+room-high : (o : Option (List Constraint)) (h : Option ℕ) → IsAsHigh o h → IsAsHigh (option_and_then with_room o) h
+room-high None h k = tt
+room-high (Some []) h k = tt
+room-high (Some (c ∷ stack)) h k = by_test (is_narrow c) h k where
+  by_test : (b : Bool) (h : Option ℕ) → IsAsHigh (Some (c ∷ stack)) h → IsAsHigh (cond {A = Option (List Constraint)} b (Some (c ∷ stack)) None) h
+  by_test true h k = k
+  by_test false h k = tt
+
+untold : (o : Option (List Constraint)) → IsAsHigh o None
+untold None = tt
+untold (Some s) = tt
+
+ops-high : (live : List Entry) (ops : List PolOp) (stack : List Constraint) → IsAsHigh (after_ops live ops stack) (height_from (length stack) ops)
+ops-high live [] stack = refl
+ops-high live (op ∷ ops) stack =
+    go (option_and_then with_room (after_op live op stack)) (height_after op (length stack)) (room-high (after_op live op stack) (height_after op (length stack)) (op-high live op stack)) (ops-high live ops)
+  where
+    go : (o : Option (List Constraint)) (h : Option ℕ) → IsAsHigh o h → ((s : List Constraint) → IsAsHigh (after_ops live ops s) (height_from (length s) ops)) →
+        IsAsHigh (option_and_then (after_ops live ops) o) (option_and_then (λ k. height_from k ops) h)
+    go None h k ih = tt
+    go (Some s) None k ih = untold (after_ops live ops s)
+    go (Some s) (Some h) k ih = subst (λ (n : ℕ). IsAsHigh (after_ops live ops s) (height_from n ops)) k (ih s)
+
+-- where one constraint is to be left, one is
+pub one_left : (live : List Entry) (ops : List PolOp) (stack : List Constraint) → is_stacked ops ≡ true → after_ops live ops [] ≡ Some stack → (c : Constraint) × (stack ≡ c ∷ [])
+one_left live ops stack stacked e =
+    of_height (height_from 0 ops) stacked (subst (λ (o : Option (List Constraint)). IsAsHigh o (height_from 0 ops)) e (ops-high live ops [])) where
+      of_length : (s : List Constraint) → length s ≡ 1 → (c : Constraint) × (s ≡ c ∷ [])
+      of_length [] h = absurd (omega (arith, h))
+      of_length (c ∷ []) h = (c, refl)
+      of_length (c ∷ d ∷ s) h = absurd (omega (arith, h))
+
+      of_height : (h : Option ℕ) → leaves_one h ≡ true → IsAsHigh (Some stack) h → (c : Constraint) × (stack ≡ c ∷ [])
+      of_height None h k = absurd (both_ways false refl h)
+      of_height (Some n) h k = of_length stack (k ∙ eqb-true n 1 h)

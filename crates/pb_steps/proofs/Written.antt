@@ -1,0 +1,44 @@
+-- Text that is appended piece by piece.
+use Rattle.std.proofs.Common.{◌≡◌, ◌≤◌, ℕ, List, [], ◌∷◌, ◌++◌, length, take, refl, sym, ap, ◌∙◌, arith, append_assoc, append-nil, length-append}
+use Rattle.std.specs.Prelude.{ℤ, Result, Ok, Err, OnErr, codes}
+use Rattle.std.specs.List.{flat_map}
+use Rattle.std.proofs.lemmas.List.{take-take, take_at}
+use Rattle.std.proofs.lemmas.Grind.{flat_map-append}
+use Rattle.pb_base.specs.declared.literal.Term.{Term}
+use Rattle.pb_steps.specs.StepText.{with_blanks, word_of}
+use Rattle.pb_steps.specs.declared.op.Set.{Set}
+use Rattle.pb_steps.specs.StepGrammar.{StepSymbol, term_symbols, set_symbols, constraint_symbols}
+use Rattle.pb_steps.specs.StepGrammar.StepSymbol.{key, integer}
+use Rattle.pb_steps.specs.laws.Appending.{KeepsFront}
+
+pub on_err : {T E P : Type 0} (r : Result T E) → P → OnErr r P
+on_err (Ok x) p = tt
+on_err (Err e) p = p
+
+-- what is kept of more is kept
+pub kept_further : (xs ys zs ws : List ℕ) → zs ≡ xs ++ ys → KeepsFront zs ws → KeepsFront xs ws
+kept_further xs ys zs ws is kept =
+    let long : length xs ≤ length zs = omega (arith, ap length is, length-append xs ys) in
+    sym (take-take (length xs) (length zs) ws long) ∙ ap (take (length xs)) (kept ∙ is) ∙ take_at xs ys (length xs) refl
+
+-- words of pieces, each behind a blank
+pub behind_flat : {X : Type 0} (f : X → List StepSymbol) (xs : List X) → with_blanks (flat_map f xs) ≡ flat_map (λ x. with_blanks (f x)) xs
+behind_flat f [] = refl
+behind_flat {X} f (x ∷ xs) = flat_map-append (λ k. 32 ∷ word_of k) (f x) (flat_map f xs) ∙ ap (λ (ys : List ℕ). with_blanks (f x) ++ ys) (behind_flat f xs)
+
+-- a constraint, part by part
+pub constraint_text : (ts : List Term) (right : ℤ) (rest : List StepSymbol) → with_blanks (constraint_symbols ts right rest) ≡ flat_map (λ t. with_blanks (term_symbols t)) ts ++ (with_blanks (key (codes ">=") ∷ integer right ∷ key (codes ";") ∷ []) ++ with_blanks rest)
+constraint_text ts right rest =
+    flat_map-append (λ k. 32 ∷ word_of k) (flat_map term_symbols ts) (key (codes ">=") ∷ integer right ∷ key (codes ";") ∷ rest)
+    ∙ ap (λ (ys : List ℕ). ys ++ with_blanks (key (codes ">=") ∷ integer right ∷ key (codes ";") ∷ rest)) (behind_flat term_symbols ts)
+    ∙ ap (λ (ys : List ℕ). flat_map (λ t. with_blanks (term_symbols t)) ts ++ ys) (flat_map-append (λ k. 32 ∷ word_of k) (key (codes ">=") ∷ integer right ∷ key (codes ";") ∷ []) rest)
+
+-- what follows its `;` comes behind it
+pub constraint_then : (ts : List Term) (right : ℤ) (rest : List StepSymbol) → with_blanks (constraint_symbols ts right rest) ≡ with_blanks (constraint_symbols ts right []) ++ with_blanks rest
+constraint_then ts right rest =
+    constraint_text ts right rest
+    ∙ sym (append_assoc (flat_map (λ t. with_blanks (term_symbols t)) ts) (with_blanks (key (codes ">=") ∷ integer right ∷ key (codes ";") ∷ [])) (with_blanks rest))
+    ∙ ap (λ (ys : List ℕ). ys ++ with_blanks rest) (sym (constraint_text ts right [] ∙ ap (λ (ys : List ℕ). flat_map (λ t. with_blanks (term_symbols t)) ts ++ ys) (append-nil (with_blanks (key (codes ">=") ∷ integer right ∷ key (codes ";") ∷ [])))))
+
+pub constraint_sets : (ts : List Term) (right : ℤ) (sets : List Set) → with_blanks (constraint_symbols ts right (flat_map set_symbols sets)) ≡ with_blanks (constraint_symbols ts right []) ++ flat_map (λ s. with_blanks (set_symbols s)) sets
+constraint_sets ts right sets = constraint_then ts right (flat_map set_symbols sets) ∙ ap (λ (ys : List ℕ). with_blanks (constraint_symbols ts right []) ++ ys) (behind_flat set_symbols sets)

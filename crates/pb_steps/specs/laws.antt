@@ -1,0 +1,5 @@
+pub mod Ahead
+pub mod Appending
+pub mod StepLines
+pub mod DenialLaws
+pub mod RunLaws

@@ -1,0 +1,91 @@
+//! The parts of a `rup` or `red` line.
+ghost use Rattle.std.specs.Prelude.{◌≡◌, ◌<◌, ℕ, ℤ, length, Ok, Err, IfOk, IfErr};
+ghost use Rattle.pb_steps.specs.LineSteps.{IsFaultOf, terms_in, right_in, ids_in, sets_in, arrow_in, with_item};
+
+use crate::fault::StepFault;
+use crate::op::Set;
+use crate::past::take;
+use crate::step::Sets;
+use crate::word::{bit_in, id_in, integer_in, literal_in, token_fault, variable_in};
+use pb_base::{Expected, Ids, Term, Terms, Words};
+use std::alloc::Global;
+
+/// The terms before a `>=`, and takes that.
+pub fn read_terms(alloc: Global, words: &mut Words<'_>, end: u64) -> Result<Terms, StepFault>
+    ensures ok { IfOk result (λ terms. terms_in end words.old ≡ Ok (terms, words.new)) }
+    ensures err { IfErr result (IsFaultOf (terms_in end words.old)) }
+{
+    let mut terms = Terms::new(alloc);
+    'terms: while let Some(word) = words.next() {
+        if word.text == b">=".as_slice() {
+            return Ok(terms);
+        }
+        let coef = integer_in(&word, Expected::Term)?;
+        let Some(name) = words.next() else {
+            return Err(token_fault(end, Expected::Literal));
+        };
+        let lit = literal_in(&name, Expected::Literal)?;
+        terms.push(Term { coef, lit })?;
+    }
+    Err(token_fault(end, Expected::Term))
+}
+
+/// The right side and its `;`.
+pub fn read_right(words: &mut Words<'_>, end: u64) -> Result<i128, StepFault>
+    ensures ok { IfOk result (λ right. right_in end words.old ≡ Ok (right, words.new)) }
+    ensures err { IfErr result (λ fault. right_in end words.old ≡ Err fault) }
+{
+    let Some(word) = words.next() else {
+        return Err(token_fault(end, Expected::Integer));
+    };
+    let right = integer_in(&word, Expected::Integer)?;
+    take(words, end, b";", Expected::Semicolon)?;
+    Ok(right)
+}
+
+/// The ids that words are.
+pub fn read_ids(alloc: Global, words: Words<'_>) -> Result<Ids, StepFault>
+    ensures ok { IfOk result (λ ids. ids_in words.entry ≡ Ok ids) }
+    ensures err { IfErr result (IsFaultOf (ids_in words.entry)) }
+{
+    let mut ids = Ids::new(alloc);
+    for word in words {
+        ids.push(id_in(&word, Expected::Id)?)?;
+    }
+    Ok(ids)
+}
+
+// The value behind a variable.
+fn read_value(words: &mut Words<'_>, end: u64) -> Result<bool, StepFault>
+    ensures ok { (v : ℕ) → IfOk result (λ value. arrow_in end v words.old ≡ with_item (record { var = v; value = value }) (sets_in end v words.new)) }
+    ensures err { (v : ℕ) → IfErr result (λ fault. arrow_in end v words.old ≡ Err fault) }
+    ensures fewer { IfOk result (λ _. length words.new < length words.old) }
+{
+    let Some(arrow) = words.next() else {
+        return Err(token_fault(end, Expected::Arrow));
+    };
+    if arrow.text != b"->".as_slice() {
+        return Err(token_fault(arrow.column, Expected::Arrow));
+    }
+    let Some(value) = words.next() else {
+        return Err(token_fault(end, Expected::Bit));
+    };
+    bit_in(&value)
+}
+
+/// The variables that words set, and their values.
+pub fn read_sets(alloc: Global, words: Words<'_>, end: u64) -> Result<Sets, StepFault>
+    ensures ok { IfOk result (λ sets. sets_in end 0 words.entry ≡ Ok sets) }
+    ensures err { IfErr result (IsFaultOf (sets_in end 0 words.entry)) }
+{
+    let mut words = words;
+    let mut sets = Sets::new(alloc);
+    let mut above = 0;
+    'sets: while let Some(word) = words.next() {
+        let var = variable_in(&word, above)?;
+        let value = read_value(&mut words, end)?;
+        sets.push(Set { var, value })?;
+        above = var.index();
+    }
+    Ok(sets)
+}

@@ -1,0 +1,27 @@
+//! Derivations: their steps, which steps are allowed, and their lines.
+#![tactic(auto)]
+
+mod constraint;
+mod denied;
+mod fault;
+mod laws;
+mod line_laws;
+mod op;
+mod past;
+mod pol;
+mod read;
+mod step;
+mod word;
+mod write;
+mod write_word;
+
+pub use denied::Denied;
+pub use fault::StepFault;
+pub use laws::{accepted_extends, allowed_or_denied};
+pub use line_laws::{
+    faults_say_nothing, lines_are_bounded, lines_differ, reads_what_is_said, written_line_reads,
+};
+pub use op::{PolOp, Set};
+pub use read::read_step;
+pub use step::{PolOps, Sets, Step};
+pub use write::write_step;
