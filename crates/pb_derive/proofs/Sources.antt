@@ -1,0 +1,46 @@
+-- One or two constraints that are added, and literals of short clauses.
+use Rattle.std.proofs.Common.{◌≡◌, ◌+◌, ◌||◌, ◌⊎◌, inl, inr, ℕ, true, false, [], ◌∷◌, arith}
+use Rattle.std.specs.Prelude.{Contains}
+use Rattle.std.proofs.lemmas.Bool.{cases_Bool, or_parts}
+use Rattle.pb_base.specs.declared.literal.Lit.{Lit}
+use Rattle.pb_base.specs.Literals.{Assignment, is_same, is_among}
+use Rattle.pb_base.proofs.Members.{Contains-nil, Contains-cons_cases}
+use Rattle.pb_norm.specs.Constraints.{Constraint, weight, value}
+use Rattle.pb_norm.specs.Addition.{coef_of}
+use Rattle.pb_derive.specs.laws.Follows.{degrees, weight_in, value_in, coef_in}
+use Rattle.pb_derive.proofs.Closing.{degrees-cons, weight_in-cons, value_in-cons, coef_in-cons}
+
+pub degrees-two : (s t : Constraint) → degrees (s ∷ t ∷ []) ≡ s.degree + t.degree
+degrees-two s t = omega (arith, degrees-cons s (t ∷ []), degrees-cons t [])
+
+pub value_in-two : (a : Assignment) (s t : Constraint) → value_in a (s ∷ t ∷ []) ≡ value a s.terms + value a t.terms
+value_in-two a s t = omega (arith, value_in-cons a s (t ∷ []), value_in-cons a t [])
+
+pub weight_in-two : (s t : Constraint) → weight_in (s ∷ t ∷ []) ≡ weight s.terms + weight t.terms
+weight_in-two s t = omega (arith, weight_in-cons s (t ∷ []), weight_in-cons t [])
+
+pub coef_in-two : (l : Lit) (s t : Constraint) → coef_in (s ∷ t ∷ []) l ≡ coef_of s.terms l + coef_of t.terms l
+coef_in-two l s t = omega (arith, coef_in-cons l s (t ∷ []), coef_in-cons l t [])
+
+-- a literal is one of two, or neither
+pub cases_two : (x y l : Lit) → (is_among (x ∷ y ∷ []) l ≡ true) ⊎ ((is_same x l ≡ false) × (is_same y l ≡ false))
+cases_two x y l =
+    elim (cases_Bool (is_among (x ∷ y ∷ []) l)) as (λ _. (is_among (x ∷ y ∷ []) l ≡ true) ⊎ ((is_same x l ≡ false) × (is_same y l ≡ false))) [
+      | inl among ↦ inl among
+      | inr none ↦
+          let parts = or_parts (is_same x l) (is_same y l || false) none in
+          inr (parts.0, (or_parts (is_same y l) false parts.1).0)
+    ]
+
+pub cases_three : (x y z l : Lit) → (is_among (x ∷ y ∷ z ∷ []) l ≡ true) ⊎ ((is_same x l ≡ false) × (is_same y l ≡ false) × (is_same z l ≡ false))
+cases_three x y z l =
+    elim (cases_Bool (is_among (x ∷ y ∷ z ∷ []) l)) as (λ _. (is_among (x ∷ y ∷ z ∷ []) l ≡ true) ⊎ ((is_same x l ≡ false) × (is_same y l ≡ false) × (is_same z l ≡ false))) [
+      | inl among ↦ inl among
+      | inr none ↦
+          let parts = or_parts (is_same x l) (is_same y l || (is_same z l || false)) none in
+          let more = or_parts (is_same y l) (is_same z l || false) parts.1 in
+          inr (parts.0, more.0, (or_parts (is_same z l) false more.1).0)
+    ]
+
+pub only : (v w : ℕ) → Contains (v ∷ []) w → v ≡ w
+only v w h = elim (Contains-cons_cases v [] w h) as (λ _. v ≡ w) [ inl e ↦ e | inr none ↦ absurd (Contains-nil w none) ]

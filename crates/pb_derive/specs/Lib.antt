@@ -1,0 +1,14 @@
+pub mod Forms
+pub mod Later
+pub mod Ones
+pub mod Meanings
+pub mod Claims
+pub mod Deletions
+pub mod Reasons
+pub mod Rups
+pub mod Phases
+pub mod FollowedBy
+pub mod Derivations
+pub mod Short
+pub mod Examples
+pub mod laws

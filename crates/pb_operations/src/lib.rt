@@ -1,0 +1,12 @@
+//! The operations on constraints that the rules of a derivation use, each equal to its definition.
+#![tactic(auto)]
+
+mod algebra;
+mod implication;
+mod join;
+mod substitution;
+mod terms;
+
+pub use algebra::{axiom, division, multiple, negation, plus, saturation, weakening};
+pub use implication::implies;
+pub use substitution::{names_set, restriction};
