@@ -1,15 +1,17 @@
 //! What given literals reach over clauses.
-ghost use Rattle.std.specs.Prelude.{◌≡◌, ◌≤◌, ◌<◌, ◌^◌, ◌↔◌, ◌++◌, [], List, Contains, All, IfOk, OnOk, map};
+ghost use Rattle.std.specs.Prelude.{◌≡◌, ◌≤◌, ◌<◌, ◌^◌, ◌++◌, [], All, IfOk, OnOk, map};
 ghost use Rattle.std.specs.Option.{MatchOption};
-ghost use Rattle.pb_base.specs.declared.literal.Lit.{Lit};
-ghost use Rattle.pb_norm.specs.ClauseForm.{clause_form};
 ghost use Rattle.pb_norm.specs.ClausePropagation.{ClauseConflict};
-ghost use Rattle.pb_dimacs.specs.CnfReading.{IsWithin};
-ghost use Rattle.pb_unit.specs.States.{AreWithin};
-ghost use Rattle.pb_suite.specs.DueProbe.{AreReached};
-ghost use Rattle.pb_suite.specs.Reaching.{beyond, held_to, value_at, AreAscending, AreAssumed, AreSorted, HaveOpposites};
+ghost use Rattle.pb_norm.specs.Propagation.{Conflict};
+ghost use Rattle.pb_suite.specs.OwedProbe.{AreReached};
+ghost use Rattle.pb_suite.specs.laws.Reaching.{held_to, value_at, AreAscending, AreAssumed, AreReachedOver, AreSorted, HaveOpposites, IsUpTo, OfClauses, OfConstraint, OfLit};
+ghost use Rattle.pb_suite.specs.laws.Renaming.{AreNamed, AreNames};
 
-use pb_base::{Lit, Lits, NoMemory, Term, Var};
+use crate::numbering::{
+    greatest, greatest_of, lit_at, named_lits, names_of, numbered_forms, numbered_lits, size_of,
+    vars_of,
+};
+use pb_base::{Lit, Lits, NoMemory, Term};
 use pb_norm::{Linear, clause_form};
 use pb_unit::{Engine, Outcome};
 use std::alloc::{AllocError, Global};
@@ -32,30 +34,16 @@ fn sorted(alloc: Global, lits: &Lits) -> Result<Option<Vec<Lit>>, NoMemory>
     Ok(Some(lits_of(alloc, form.terms())?))
 }
 
-// Assumes the literals of the variables that the engine has.
-fn assume_all(engine: &mut Engine, lits: &[Lit], vars: u32)
+// Assumes the literals.
+fn assume_all(engine: &mut Engine, lits: &[Lit])
     requires ascending { AreAscending lits.now }
-    requires start { AreAssumed vars [] engine.old }
-    ensures constraints { engine.new.constraints ≡ engine.old.constraints }
-    ensures assumed { AreAssumed vars lits.now engine.new }
-    ensures low { All (λ l. 1 ≤ l.var) lits.now }
+    requires within { All (λ l. l.var ≤ engine.old.vars) lits.now }
+    requires start { AreAssumed [] engine.old }
+    ensures places { engine.new.places ≡ engine.old.places }
+    ensures assumed { AreAssumed lits.now engine.new }
 {
     for lit in lits {
-        if lit.index() <= vars {
-            let _ = engine.assume(*lit);
-        }
-    }
-}
-
-// A literal of a variable.
-fn lit_at(index: u32, positive: bool) -> Lit
-    requires low { 1 ≤ index }
-    requires high { index < 2 ^ 31 }
-    ensures { result ≡ record { var = index; positive = positive } }
-{
-    Lit {
-        var: Var::new(index),
-        positive,
+        let _ = engine.assume(*lit);
     }
 }
 
@@ -86,50 +74,83 @@ fn push_held(engine: &Engine, vars: u32, out: &mut Vec<Lit>) -> Result<(), Alloc
     Ok(())
 }
 
-// Adds the literals of greater variables.
-fn push_beyond(lits: &[Lit], vars: u32, out: &mut Vec<Lit>) -> Result<(), AllocError>
-    ensures { OnOk result (out.new.items ≡ out.old.items ++ beyond vars lits.now) }
-{
-    for lit in lits {
-        if vars < lit.index() {
-            out.push(*lit)?;
-        }
-    }
-    Ok(())
-}
-
-// The literals that hold, and the given ones of variables that the engine lacks.
-fn all_held(alloc: Global, engine: &Engine, vars: u32, lits: &[Lit]) -> Result<Vec<Lit>, AllocError>
+// The literals that hold, by variable.
+fn all_held(alloc: Global, engine: &Engine, vars: u32) -> Result<Vec<Lit>, AllocError>
     requires { vars < 2 ^ 31 }
-    ensures { IfOk result (λ v. v.items ≡ held_to engine.now.held vars ++ beyond vars lits.now) }
+    ensures { IfOk result (λ v. v.items ≡ held_to engine.now.held vars) }
 {
     let mut out = Vec::new(alloc);
     push_held(engine, vars, &mut out)?;
-    push_beyond(lits, vars, &mut out)?;
     Ok(out)
 }
 
-/// The literals that unit propagation over clauses reaches from given ones, variables ascending, the given ones included; none
-/// where that is a conflict. The clauses are over the variables up to `vars`, and are given by their forms. The given
-/// literals may be of others, which take no memory by their numbers.
-pub fn reached(
+// What is reached over constraints of the variables up to `vars`, by variable; none where that is a conflict. Tables have
+// an entry for each of them.
+fn reached_within(
     alloc: Global,
     vars: u32,
-    forms: &[Linear],
-    lits: &Lits,
+    forms: Vec<Linear>,
+    given: &[Lit],
 ) -> Result<Option<Vec<Lit>>, NoMemory>
     requires few { vars < 2 ^ 31 }
-    requires within { AreWithin vars forms.now }
-    ensures { (clauses : List (List Lit)) → forms.now ≡ map clause_form clauses → All (All (IsWithin vars)) clauses → IfOk result (λ found. MatchOption found (ClauseConflict clauses lits.now) (λ v. AreReached clauses lits.now v.items)) }
+    requires within { All (OfConstraint (IsUpTo vars)) forms.items }
+    requires given { All (OfLit (IsUpTo vars)) given.now }
+    requires ascending { AreAscending given.now }
+    ensures { IfOk result (λ found. MatchOption found (Conflict forms.items given.now) (λ v. AreReachedOver forms.items given.now v.items)) }
+{
+    let mut engine = Engine::new(alloc, vars, forms)?;
+    assume_all(&mut engine, given);
+    match engine.propagate() {
+        Outcome::Conflict { .. } => Ok(None),
+        Outcome::Fixed => Ok(Some(all_held(alloc, &engine, vars)?)),
+    }
+}
+
+// The same over the places of the variables among those that occur.
+fn reached_by_names(
+    alloc: Global,
+    names: &[u32],
+    forms: &[Linear],
+    given: &[Lit],
+) -> Result<Option<Vec<Lit>>, NoMemory>
+    requires names { AreNames names.now }
+    requires named { AreNamed names.now forms.now given.now }
+    requires ascending { AreAscending given.now }
+    ensures { IfOk result (λ found. MatchOption found (Conflict forms.now given.now) (λ v. AreReachedOver forms.now given.now v.items)) }
+{
+    let numbered = numbered_forms(alloc, names, forms)?;
+    let lits = numbered_lits(alloc, names, given)?;
+    match reached_within(alloc, names.len() as u32, numbered, &lits)? {
+        None => Ok(None),
+        Some(found) => Ok(Some(named_lits(alloc, names, &found)?)),
+    }
+}
+
+// The same over the variables as they are, or by their places where that takes less room.
+fn reached_over(
+    alloc: Global,
+    forms: Vec<Linear>,
+    given: &[Lit],
+) -> Result<Option<Vec<Lit>>, NoMemory>
+    requires ascending { AreAscending given.now }
+    ensures { IfOk result (λ found. MatchOption found (Conflict forms.items given.now) (λ v. AreReachedOver forms.items given.now v.items)) }
+{
+    let most = greatest_of(&forms, greatest(given));
+    if most as usize <= size_of(&forms).saturating_add(given.len()) {
+        return reached_within(alloc, most, forms, given);
+    }
+    let names = names_of(vars_of(alloc, &forms, given)?);
+    reached_by_names(alloc, &names, &forms, given)
+}
+
+/// The literals that unit propagation over clauses reaches from given ones, variables ascending, the given ones included; none
+/// where that is a conflict. The clauses are given by their forms. Memory and time go by the number of literals, not by
+/// the numbers of variables.
+pub fn reached(alloc: Global, forms: Vec<Linear>, lits: &Lits) -> Result<Option<Vec<Lit>>, NoMemory>
+    ensures { OfClauses forms.items (λ cs. IfOk result (λ found. MatchOption found (ClauseConflict cs lits.now) (λ v. AreReached cs lits.now v.items))) }
 {
     let Some(sorted) = sorted(alloc, lits)? else {
         return Ok(None);
     };
-    let given = sorted.as_slice();
-    let mut engine = Engine::new(alloc, vars, forms)?;
-    assume_all(&mut engine, given, vars);
-    match engine.propagate() {
-        Outcome::Conflict { .. } => Ok(None),
-        Outcome::Fixed => Ok(Some(all_held(alloc, &engine, vars, given)?)),
-    }
+    reached_over(alloc, forms, sorted.as_slice())
 }

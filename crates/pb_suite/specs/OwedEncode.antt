@@ -1,0 +1,47 @@
+-- What encoding a problem owes. Our own.
+use Rattle.std.specs.Prelude.{ℕ, ◌≡◌, List, [], ◌∷◌, Some, None}
+use Rattle.pb_base.specs.declared.file.File.TheVariants.{Opb}
+use Rattle.pb_base.specs.declared.limit.LimitKind.{LimitKind}
+use Rattle.pb_base.specs.declared.problem.Problem.{Problem}
+use Rattle.pb_desk.specs.View.{Made}
+use Rattle.pb_opb.specs.Faults.{Reads}
+use Rattle.pb_choice.specs.declared.options.Options.{Options}
+use Rattle.pb_encode.specs.Encodings.{problem_text}
+use Rattle.pb_encode.specs.Summaries.{summary_of, summary_text, IsEncodable, IsOver}
+use Rattle.pb_words.specs.EncodeWords.{EncodeWords}
+use Rattle.pb_suite.specs.declared.outcome.Outcome.{Outcome}
+use Rattle.pb_suite.specs.declared.outcome.Outcome.TheVariants as outcome
+use Rattle.pb_suite.specs.Outputs.{Output}
+use Rattle.pb_suite.specs.Owed.{Owed, Shelf}
+use Rattle.pb_suite.specs.Refusals.{RefusesOpb}
+
+-- a file that was made, in slot 0
+abbrev pub file_of : List ℕ → List ℕ → Made
+file_of name bytes = record { slot = 0; name = name; bytes = bytes }
+
+abbrev pub due_words : Options → Problem → List ℕ
+due_words o p = summary_text (summary_of o p)
+
+-- the CNF file of a problem, and its size in words
+abbrev pub encoded_output : List ℕ → Options → Problem → Output
+encoded_output name o p = record { made = file_of name (problem_text o p) ∷ []; said = due_words o p }
+
+-- the shelf has a text that says this problem, which is encoded
+pub record IsEncoded (shelf : Shelf) (w : EncodeWords) (p : Problem) : Type 0 where
+  pub text : List ℕ
+  pub on_shelf : shelf w.opb ≡ Some text
+  pub reads : Reads text p
+  pub encodable : IsEncodable w.options p
+
+-- in the order of a run: the text, and then its numbers of variables and of clauses
+pub data StopsEncode (shelf : Shelf) (w : EncodeWords) : Outcome → Type 0 where
+  lacking : shelf w.opb ≡ None → StopsEncode shelf w outcome.ReadFault
+  refused : (text : List ℕ) (answer : Outcome) → shelf w.opb ≡ Some text → RefusesOpb text answer → StopsEncode shelf w answer
+  over : (text : List ℕ) (p : Problem) (which : LimitKind) → shelf w.opb ≡ Some text → Reads text p → IsOver which w.options p → StopsEncode shelf w (outcome.Limit None which None)
+
+abbrev pub owed_encode : EncodeWords → Owed
+owed_encode w = record {
+  texts = record { kind = Opb; name = w.opb } ∷ [];
+  stops = λ shelf answer. StopsEncode shelf w answer;
+  done = λ shelf out. (p : Problem) × IsEncoded shelf w p × (out ≡ encoded_output w.cnf w.options p);
+}

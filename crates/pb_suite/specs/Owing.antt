@@ -1,0 +1,24 @@
+-- What each command owes. Our own.
+use Rattle.std.specs.Prelude.{ℕ, List, Option}
+use Rattle.std.specs.Option.{ForSome}
+use Rattle.pb_desk.specs.View.{Told}
+use Rattle.pb_desk.specs.Desk.{DeskState, IsFresh, IsSteady}
+use Rattle.pb_words.specs.Taken.{Wanted, taken_of}
+use Rattle.pb_words.specs.Taken.Wanted.{Encode, Probe}
+use Rattle.pb_suite.specs.Owed.{Owed, Shelf, Suffices}
+use Rattle.pb_suite.specs.OwedEncode.{owed_encode}
+use Rattle.pb_suite.specs.OwedProbe.{owed_probe}
+
+abbrev pub owed : Wanted → Owed
+owed (Encode w) = owed_encode w
+owed (Probe w) = owed_probe w
+
+-- what the words call for is there
+abbrev pub SufficesFor : List (List ℕ) → Shelf → Option ℕ → Type 0
+SufficesFor words shelf space = ForSome (taken_of words) (λ w. Suffices (owed w) shelf space)
+
+-- a fresh and steady desk with what the words call for
+pub record IsAmple (t : Told) (words : List (List ℕ)) (desk : DeskState) : Type 0 where
+  pub fresh : IsFresh t desk
+  pub steady : IsSteady desk
+  pub enough : SufficesFor words t.shelf desk.view.room

@@ -1,0 +1,23 @@
+-- Which outcome refuses a text. Our own.
+use Rattle.std.specs.Prelude.{ℕ, ◌≡◌, List, Option, Some}
+use Rattle.pb_base.specs.declared.expected.Expected.{Expected}
+use Rattle.pb_base.specs.declared.file.File.TheVariants.{Opb, Cnf}
+use Rattle.pb_base.specs.declared.limit.LimitKind.{LimitKind}
+use Rattle.pb_base.specs.declared.place.Place.{Place}
+use Rattle.pb_opb.specs.declared.fault.OpbFault.TheVariants as opb
+use Rattle.pb_opb.specs.Faults.{IsFirstFault}
+use Rattle.pb_dimacs.specs.declared.fault.CnfFault.TheVariants as cnf
+use Rattle.pb_dimacs.specs.CnfWhole.{told_of}
+use Rattle.pb_dimacs.specs.CnfWhole.CnfTold.{refuses}
+use Rattle.pb_suite.specs.declared.outcome.Outcome.{Outcome}
+use Rattle.pb_suite.specs.declared.outcome.Outcome.TheVariants as outcome
+
+-- the outcome tells the OPB text's first fault
+pub data RefusesOpb (text : List ℕ) : Outcome → Type 0 where
+  token : (place : Place) (expected : Expected) → IsFirstFault text (opb.Token place expected) → RefusesOpb text (outcome.Refused Opb place expected)
+  limit : (place : Option Place) (which : LimitKind) → IsFirstFault text (opb.Limit place which) → RefusesOpb text (outcome.Limit (Some Opb) which place)
+
+-- the outcome tells the CNF text's first fault
+pub data RefusesCnf (text : List ℕ) : Outcome → Type 0 where
+  token : (place : Place) (expected : Expected) → told_of text ≡ refuses (cnf.Token place expected) → RefusesCnf text (outcome.Refused Cnf place expected)
+  limit : (place : Option Place) (which : LimitKind) → told_of text ≡ refuses (cnf.Limit place which) → RefusesCnf text (outcome.Limit (Some Cnf) which place)

@@ -1,0 +1,102 @@
+-- What the steps of a run do to a desk. It serves proofs.
+use Rattle.std.specs.Prelude.{ℕ, ◌≡◌, ◌≤◌, ◌<◌, List, take, length, Option, Some, None}
+use Rattle.pb_base.specs.declared.expected.Expected.{Expected}
+use Rattle.pb_base.specs.declared.file.File.{File}
+use Rattle.pb_base.specs.declared.file.File.TheVariants.{Opb, Cnf}
+use Rattle.pb_base.specs.declared.limit.LimitKind.{LimitKind}
+use Rattle.pb_base.specs.declared.place.Place.{Place}
+use Rattle.pb_base.specs.declared.problem.Problem.{Problem}
+use Rattle.pb_desk.specs.View.{View, opened, taken, spoke}
+use Rattle.pb_desk.specs.Desk.{DeskState, Reaches, FailsToRead, FailsToWrite, IfTold, LacksRoom, words, same}
+use Rattle.pb_opb.specs.declared.fault.OpbFault.{OpbFault}
+use Rattle.pb_opb.specs.declared.fault.OpbFault.TheVariants as opb
+use Rattle.pb_dimacs.specs.declared.fault.CnfFault.{CnfFault}
+use Rattle.pb_dimacs.specs.declared.fault.CnfFault.TheVariants as cnf
+use Rattle.pb_choice.specs.declared.options.Options.{Options}
+use Rattle.pb_encode.specs.declared.fault.EncodeFault.{EncodeFault}
+use Rattle.pb_encode.specs.declared.fault.EncodeFault.TheVariants as encode
+use Rattle.pb_encode.specs.Encodings.{made, problem_text, StopsMaking, WantsMemory, LacksToMake}
+use Rattle.pb_encode.specs.Summaries.{IsOver, IsEncodable}
+use Rattle.pb_suite.specs.declared.outcome.Outcome.{Outcome}
+use Rattle.pb_suite.specs.declared.outcome.Outcome.TheVariants as outcome
+use Rattle.pb_suite.specs.OwedEncode.{due_words}
+
+-- so many bytes of the file were read, in this slot
+abbrev pub fetched : ℕ → List ℕ → ℕ → View → View
+fetched slot name count view = taken slot count (opened slot name view)
+
+-- the outcome of an OPB text's fault
+abbrev pub opb_refusal : OpbFault → Outcome
+opb_refusal (opb.Token place e) = outcome.Refused Opb place e
+opb_refusal (opb.Limit place which) = outcome.Limit (Some Opb) which place
+opb_refusal opb.NoMemory = outcome.NoMemory
+
+-- the outcome of a CNF text's fault
+abbrev pub cnf_refusal : CnfFault → Outcome
+cnf_refusal (cnf.Token place e) = outcome.Refused Cnf place e
+cnf_refusal (cnf.Limit place which) = outcome.Limit (Some Cnf) which place
+cnf_refusal cnf.Failed = outcome.ReadFault
+cnf_refusal cnf.NoMemory = outcome.NoMemory
+
+-- the outcome refuses a text of this kind
+pub data RefusesFile (file : File) : Outcome → Type 0 where
+  token : (place : Place) (expected : Expected) → RefusesFile file (outcome.Refused file place expected)
+  limit : (place : Option Place) (which : LimitKind) → RefusesFile file (outcome.Limit (Some file) which place)
+
+-- the file of the name has this text, if the desk tells
+abbrev pub HasText : List ℕ → (List ℕ → Type 0) → DeskState → Type 0
+HasText name P desk = IfTold desk (λ t. (text : List ℕ) × (t.shelf name ≡ Some text) × P text)
+
+-- A read failed: before the file was open, or in its bytes.
+pub data StopsFetching (slot : ℕ) (name : List ℕ) (old new : DeskState) : Type 0 where
+  not_open : FailsToRead same old new → StopsFetching slot name old new
+  in_text : (count : ℕ) → FailsToRead (fetched slot name count) old new → StopsFetching slot name old new
+
+-- How reading a text ended without what it says: a read failed, memory was wanting, or the text is refused.
+pub data StopsReading (file : File) (slot : ℕ) (name : List ℕ) (refuses_text : List ℕ → Outcome → Type 0) (old new : DeskState) : Outcome → Type 0 where
+  not_read : StopsFetching slot name old new → StopsReading file slot name refuses_text old new outcome.ReadFault
+  no_memory : (count : ℕ) → Reaches (fetched slot name count) old new → StopsReading file slot name refuses_text old new outcome.NoMemory
+  refused : (count : ℕ) (answer : Outcome) → RefusesFile file answer → Reaches (fetched slot name count) old new → HasText name (λ text. refuses_text text answer) old → StopsReading file slot name refuses_text old new answer
+
+-- the file was made and ended, and the words were said
+abbrev pub stored : List ℕ → List ℕ → List ℕ → View → View
+stored name text said view = spoke said (made name text view)
+
+-- the outcome of a fault of encoding
+abbrev pub outcome_of : EncodeFault → Outcome
+outcome_of (encode.Limit which) = outcome.Limit None which None
+outcome_of encode.WriteFault = outcome.WriteFault
+outcome_of encode.NoMemory = outcome.NoMemory
+
+-- how storing an encoding ended without it
+pub data StopsStoring (o : Options) (p : Problem) (name text said : List ℕ) (old new : DeskState) : Outcome → Type 0 where
+  over : (which : LimitKind) → IsOver which o p → Reaches same old new → StopsStoring o p name text said old new (outcome.Limit None which None)
+  not_made : IsEncodable o p → StopsMaking name text old new → StopsStoring o p name text said old new outcome.WriteFault
+  in_words : IsEncodable o p → (count : ℕ) → FailsToWrite (stored name text (take count said)) old new → StopsStoring o p name text said old new outcome.WriteFault
+  no_memory : WantsMemory o p name old new → StopsStoring o p name text said old new outcome.NoMemory
+  no_words : IsEncodable o p → Reaches (made name text) old new → StopsStoring o p name text said old new outcome.NoMemory
+
+-- Why a steady desk may fail to store: the name or the slot is used, or there is no room for the text or the words.
+pub data LacksToStore (name text said : List ℕ) (desk : DeskState) : Type 0 where
+  to_make : LacksToMake name text desk → LacksToStore name text said desk
+  to_say : LacksRoom words (length said) desk → LacksToStore name text said desk
+
+-- so many bytes of the file were read, of those that it has
+pub record FetchesPart (slot : ℕ) (name : List ℕ) (count : ℕ) (old new : DeskState) : Type 0 where
+  pub reached : Reaches (fetched slot name count) old new
+  pub on_shelf : IfTold old (λ t. (text : List ℕ) × (t.shelf name ≡ Some text) × (count ≤ length text))
+
+-- more bytes than these were read
+abbrev pub FetchesMore : ℕ → List ℕ → ℕ → DeskState → DeskState → Type 0
+FetchesMore slot name most old new = (count : ℕ) × (most < count) × FetchesPart slot name count old new
+
+-- ---- storing what a problem becomes
+
+abbrev pub stored_problem : Options → Problem → List ℕ → View → View
+stored_problem o p name = stored name (problem_text o p) (due_words o p)
+
+abbrev pub StopsStoringProblem : Options → Problem → List ℕ → DeskState → DeskState → Outcome → Type 0
+StopsStoringProblem o p name old new answer = StopsStoring o p name (problem_text o p) (due_words o p) old new answer
+
+abbrev pub LacksToStoreProblem : Options → Problem → List ℕ → DeskState → Type 0
+LacksToStoreProblem o p name desk = LacksToStore name (problem_text o p) (due_words o p) desk
