@@ -119,7 +119,7 @@ fn sums_that_are_reduced(rt: HostRuntime) -> Result<(), Fail> {
     Ok(())
 }
 
-// At most one literal, and at most two of four.
+// At most one of three literals.
 const ONE: &str = "-1 x1 -1 x2 -1 x3 >= -1 ;\n";
 
 #[test]
@@ -142,6 +142,24 @@ nothing 0 empty 0 clause 0 pairwise 0 ladder 1 product 0 counter 0 totalizer 0 d
         is_encoded_by(&rt, rt.alloc(), words, ONE, cnf, said)?;
     }
     Ok(())
+}
+
+// Two fresh variables are the last that there may be.
+#[test]
+fn the_greatest_variable(rt: HostRuntime) -> Result<(), Fail> {
+    let text = "* #variable= 2147483645 #constraint= 1\n-1 x1 -1 x2 -1 x3 >= -1 ;\n";
+    let cnf = "p cnf 2147483647 5\n\
+-2147483647 2147483646 0\n-1 -2147483646 0\n-2 -2147483647 0\n-2 2147483646 0\n-3 2147483647 0\n";
+    let said = "variables 2147483647 original 2147483645 fresh 2 clauses 5\n\
+nothing 0 empty 0 clause 0 pairwise 0 ladder 1 product 0 counter 0 totalizer 0 diagram 0 tree 0 adder 0\n";
+    is_encoded_by(
+        &rt,
+        rt.alloc(),
+        "pbcnf encode --amo ladder a c",
+        text,
+        cnf,
+        said,
+    )
 }
 
 // At most two of four literals.

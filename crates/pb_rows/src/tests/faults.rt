@@ -52,12 +52,9 @@ fn ends_at(rt: &impl Abort, alloc: Global, call: u64, piece: usize, status: u8) 
 fn each_call_fails_in_turn(rt: HostRuntime) -> Result<(), Fail> {
     // How many calls open and read the text to its end, and how many create, write and close the file and say the
     // words. The counts are exact, so that a fault that is passed over shows.
-    // By pieces of a byte, each of the 24 bytes of the file and of the 145 bytes of the words is a call. Else the p line is
-    // written in five pieces, and the clauses in one.
-    let cases = [
-        (1, 1 + 19, 1 + 24 + 1 + 145),
-        (4096, 1 + 2, 1 + 5 + 1 + 1 + 1),
-    ];
+    // By pieces of a byte, each of the 24 bytes of the file and of the 145 bytes of the words is a call. Else the file is
+    // written in one piece.
+    let cases = [(1, 1 + 19, 1 + 24 + 1 + 145), (4096, 1 + 2, 1 + 1 + 1 + 1)];
     for &(piece, reads, writes) in &cases {
         for call in 1..=reads + writes + 1 {
             ends_at(&rt, rt.alloc(), call, piece, status_at(call, reads, writes))?;

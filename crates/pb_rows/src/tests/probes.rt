@@ -26,6 +26,8 @@ fn is_said(rt: &impl Abort, alloc: Global, words: &str, cnf: &str, line: &str) -
 #[test]
 fn what_is_reached(rt: HostRuntime) -> Result<(), Fail> {
     let spread = "p cnf 2 2\n1 -1 0\nc note\n1\n2 0\n";
+    // What is kept goes by what the text has, not by its numbers.
+    let sparse = "p cnf 2147483647 1\n1 2147483647 0\n";
     let cases = [
         (
             "pbcnf probe a x1 x2",
@@ -39,6 +41,7 @@ fn what_is_reached(rt: HostRuntime) -> Result<(), Fail> {
         ),
         ("pbcnf probe a x4", COUNTER, "fixed 4 -6 -8 -10 0\n"),
         ("pbcnf probe a ~x1", spread, "fixed -1 2 0\n"),
+        ("pbcnf probe a ~x1", sparse, "fixed -1 2147483647 0\n"),
         ("pbcnf probe a", ONE, "fixed 0\n"),
         // Variables that the CNF does not have.
         ("pbcnf probe a x9", ONE, "fixed 9 0\n"),

@@ -1,0 +1,3 @@
+mod clause_reader;
+mod clause_writer;
+mod propagation;

@@ -1,0 +1,3 @@
+mod adders;
+mod at_most_one;
+mod constraints;

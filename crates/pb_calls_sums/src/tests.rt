@@ -1,0 +1,4 @@
+mod counters;
+mod diagrams;
+mod generalized_totalizers;
+mod totalizers;
