@@ -9,3 +9,4 @@ pub mod LineLemmas
 pub mod LimitLemmas
 pub mod PieceLemmas
 pub mod ReadLemmas
+pub mod BothSlots

@@ -18,16 +18,16 @@ use Rattle.pb_desk.proofs.LineLemmas.{begins_break, begins_last}
 use Rattle.pb_desk.specs.LineReading.{limit_in, TakesAhead, FailsInLine}
 use Rattle.pb_desk.specs.laws.PieceReading.{InLine, TakesPiece, StopsPiece, Finds, Fits, StopsLine, found_at_end, Refills}
 
-taken-none : (slot : ℕ) (view : View) → taken slot 0 view ≡ view
+pub taken-none : (slot : ℕ) (view : View) → taken slot 0 view ≡ view
 taken-none slot view = elim view.told as (λ (o : Option Told). taken slot 0 (record view { told = o }) ≡ record view { told = o }) [
   | None ↦ refl
   | Some t ↦ ap (λ (left : ℕ → List ℕ). record view { told = Some (record t { left = left }) }) (put_there t.left slot (drop 0 (t.left slot)) refl)
 ]
 
-always_told : (a : DeskState) (P : Told → Type 0) → ((t : Told) → P t) → IfTold a P
+pub always_told : (a : DeskState) (P : Told → Type 0) → ((t : Told) → P t) → IfTold a P
 always_told a P h = elim a.view.told as (λ (o : Option Told). IfSome o P) [ None ↦ tt | Some t ↦ h t ]
 
-weaker_told : (a : DeskState) (P Q : Told → Type 0) → ((t : Told) → P t → Q t) → IfTold a P → IfTold a Q
+pub weaker_told : (a : DeskState) (P Q : Told → Type 0) → ((t : Told) → P t → Q t) → IfTold a P → IfTold a Q
 weaker_told a P Q h p = by_cases a.view.told p
   where
     by_cases : (told : Option Told) → IfSome told P → IfSome told Q

@@ -8,4 +8,5 @@ pub mod Lines
 pub mod Limits
 pub mod LineReading
 pub mod LineReaders
+pub mod TwoSlots
 pub mod laws
