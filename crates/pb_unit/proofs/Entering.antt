@@ -39,7 +39,7 @@ coef_of-one t l =
     let result : sum_by f (t ∷ []) ≡ f t = omega (arith, one) in
     result
 
-coef_of-push : (ts : List Weighted) (t : Weighted) (l : Lit) → coef_of (ts ++ t ∷ []) l ≡ coef_of ts l + cond (is_same t.lit l) t.coef 0
+pub coef_of-push : (ts : List Weighted) (t : Weighted) (l : Lit) → coef_of (ts ++ t ∷ []) l ≡ coef_of ts l + cond (is_same t.lit l) t.coef 0
 coef_of-push ts t l = sum_by-append (λ (t : Weighted). cond (is_same t.lit l) t.coef 0) ts (t ∷ []) ∙ ap (λ (n : ℕ). coef_of ts l + n) (coef_of-one t l)
 
 pub weight-push : (ts : List Weighted) (t : Weighted) → weight (ts ++ t ∷ []) ≡ weight ts + t.coef
@@ -58,10 +58,10 @@ code-within vars l h = by_sign l.positive
 
 -- ---- the list of one literal with an occurrence more
 
-other_code : (k l : Lit) → is_same k l ≡ false → code l ≡ code k → ⊥
+pub other_code : (k l : Lit) → is_same k l ≡ false → code l ≡ code k → ⊥
 other_code k l e h = both_ways (is_same k l) e (ap (is_same k) (same_code l k h) ∙ is_same-refl k)
 
-sums_more : (lists lists' : Lists) (o : Occurrence) (t : Weighted) (l : Lit) (p : ℕ) → IsPushed t.lit o lists lists' → sum_at p (list_at lists' l) ≡ sum_at p (list_at lists l) + cond (is_same t.lit l) (sum_at p (o ∷ [])) 0
+pub sums_more : (lists lists' : Lists) (o : Occurrence) (t : Weighted) (l : Lit) (p : ℕ) → IsPushed t.lit o lists lists' → sum_at p (list_at lists' l) ≡ sum_at p (list_at lists l) + cond (is_same t.lit l) (sum_at p (o ∷ [])) 0
 sums_more lists lists' o t l p pushed = elim (cases_Bool (is_same t.lit l)) [
   | inl same ↦
       let here : sum_at p (list_at lists' t.lit) ≡ sum_at p (list_at lists t.lit) + sum_at p (o ∷ []) = omega (arith, ap (sum_at p) pushed.was, ap (sum_at p) pushed.is, sum_at-append p pushed.front pushed.back, sum_at-append p pushed.front (o ∷ pushed.back), sum_at-append p (o ∷ []) pushed.back) in
@@ -221,7 +221,7 @@ counted_wider vars ps lists kept h = record {
     terms : (p : ℕ) → terms_at (h.inner ++ [] ∷ []) p ≡ terms_at h.inner p
     terms p = get_or-push_default h.inner [] p
 
-coef_of-le : (ts : List Weighted) (l : Lit) → coef_of ts l ≤ weight ts
+pub coef_of-le : (ts : List Weighted) (l : Lit) → coef_of ts l ≤ weight ts
 coef_of-le ts l = sum_by-le-sum_by (λ (t : Weighted). cond (is_same t.lit l) t.coef 0) (λ (t : Weighted). t.coef) ts (λ t. compare t.coef (is_same t.lit l))
   where
     compare : (n : ℕ) (b : Bool) → cond b n 0 ≤ n

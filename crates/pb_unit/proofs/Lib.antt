@@ -1,6 +1,9 @@
 pub mod Answering
 pub mod Entering
+pub mod Fillings
 pub mod Lawful
+pub mod Laying
+pub mod Listing
 pub mod Placing
 pub mod Pushing
 pub mod Queueing

@@ -187,6 +187,9 @@ pub within_all : (vars : ℕ) (cs : List Constraint) → AreVarsWithin vars cs �
 within_all vars cs all p c at =
     All-contains (λ (c : Constraint). HasVarsWithin vars c.terms) cs c all (subst (λ (ds : List Constraint). Contains ds c) (standing_all cs) (stands_contains (map Some cs) p c at))
 
+pub within_read : {vars vars' : ℕ} {ps ps' : List (Option Constraint)} → vars ≡ vars' → ps ≡ ps' → StandWithin vars ps → StandWithin vars' ps'
+within_read {vars} {vars'} {ps} {ps'} a b h = subst (λ (n : ℕ). StandWithin n ps') a (subst (StandWithin vars) b h)
+
 pub at_none : (ps : List (Option Constraint)) (n : ℕ) → length ps ≤ n → at_place ps n ≡ None
 at_none ps n past = get_or_past ps n None past
 

@@ -78,9 +78,12 @@ pub none_alone : (cs : List Constraint) → None ≡ slice_get cs 0 → alone_in
 none_alone [] e = refl
 none_alone (d ∷ cs) e = sym e
 
+pub units_all : (P : Lit → Type 0) (ls : List Lit) → All (λ (t : Weighted). P t.lit) (map unit ls) → All P ls
+units_all P [] h = All-nil P
+units_all P (l ∷ ls) h = All-cons P l ls (All-head (λ (t : Weighted). P t.lit) (unit l) (map unit ls) h) (units_all P ls (All-tail (λ (t : Weighted). P t.lit) (unit l) (map unit ls) h))
+
 pub lits_within : (vars : ℕ) (ls : List Lit) → HasVarsWithin vars (map unit ls) → All (λ (l : Lit). l.var ≤ vars) ls
-lits_within vars [] h = All-nil (λ (l : Lit). l.var ≤ vars)
-lits_within vars (l ∷ ls) h = All-cons (λ (l : Lit). l.var ≤ vars) l ls (All-head (λ (t : Weighted). t.lit.var ≤ vars) (unit l) (map unit ls) h) (lits_within vars ls (All-tail (λ (t : Weighted). t.lit.var ≤ vars) (unit l) (map unit ls) h))
+lits_within vars ls h = units_all (λ (l : Lit). l.var ≤ vars) ls h
 
 -- ---- the slot of a clause
 
@@ -116,6 +119,15 @@ put_view false lits lits' slots slots' place slot c longer h is _ e = ap (map (s
 pub put_slots : (b : Bool) (lits lits' : List Lit) (slots slots' : List Slot) (place : ℕ) (slot : Slot) → take (length lits) lits' ≡ lits → AreSlots (length lits) slots → IsSlot (length lits') slot → OnTrue b (slots' ≡ with_slot slots place slot) → OnFalse b (slots' ≡ slots) → AreSlots (length lits') slots'
 put_slots true lits lits' slots slots' place slot longer h is e _ = subst (AreSlots (length lits')) (sym e) (slots_placed (length lits') slots place slot is (slots_wider lits lits' slots longer h))
 put_slots false lits lits' slots slots' place slot longer h is _ e = subst (AreSlots (length lits')) (sym e) (slots_wider lits lits' slots longer h)
+
+pub push_view : (b : Bool) (lits lits' : List Lit) (slots slots' : List Slot) (slot : Slot) (c : Constraint) → take (length lits) lits' ≡ lits → AreSlots (length lits) slots → slot_at lits' slot ≡ Some c → slots' ≡ cond b (slots ++ slot ∷ []) slots → map (slot_at lits') slots' ≡ cond b (map (slot_at lits) slots ++ Some c ∷ []) (map (slot_at lits) slots)
+push_view true lits lits' slots slots' slot c longer h is e =
+    ap (map (slot_at lits')) e ∙ (map_push (slot_at lits') slots slot ∙ (ap (λ (o : Option Constraint). map (slot_at lits') slots ++ o ∷ []) is ∙ ap (λ (ps : List (Option Constraint)). ps ++ Some c ∷ []) (slots_longer lits lits' slots longer h)))
+push_view false lits lits' slots slots' slot c longer h is e = ap (map (slot_at lits')) e ∙ slots_longer lits lits' slots longer h
+
+pub push_slots : (b : Bool) (lits lits' : List Lit) (slots slots' : List Slot) (slot : Slot) → take (length lits) lits' ≡ lits → AreSlots (length lits) slots → IsSlot (length lits') slot → slots' ≡ cond b (slots ++ slot ∷ []) slots → AreSlots (length lits') slots'
+push_slots true lits lits' slots slots' slot longer h is e = subst (AreSlots (length lits')) (sym e) (All-push (IsSlot (length lits')) slots slot (slots_wider lits lits' slots longer h) is)
+push_slots false lits lits' slots slots' slot longer h is e = subst (AreSlots (length lits')) (sym e) (slots_wider lits lits' slots longer h)
 
 pub at_read : {lits lits' : List Lit} {slots slots' : List Slot} {ps : List (Option Constraint)} → lits ≡ lits' → slots ≡ slots' → map (slot_at lits') slots' ≡ ps → (place : ℕ) → at_place (map (slot_at lits) slots) place ≡ at_place ps place
 at_read a b is place = ap (λ (qs : List (Option Constraint)). at_place qs place) (slots_read a b ∙ is)

@@ -10,20 +10,16 @@ use Rattle.pb_norm.specs.Constraints.{Weighted, Constraint, weight}
 use Rattle.pb_norm.specs.Propagation.{room}
 use Rattle.pb_unit.specs.declared.index.Occurrence.{Occurrence}
 use Rattle.pb_unit.specs.declared.kept.Kept.{Kept}
+use Rattle.pb_unit.specs.Filling.{terms_in}
 use Rattle.pb_unit.specs.States.{Stands, at_place}
 use Rattle.pb_unit.specs.Steps.{IsAlert}
 use Rattle.pb_unit.proofs.Standing.{contains_head, contains_tail, contains_cases}
 use Rattle.pb_unit.specs.Index.{Lists, size_of, unit_at, coef_of, sum_at, list_at, terms_at, room_at, alert_at, IsCounted}
 
-terms_of : Option Constraint → List Weighted
-terms_of None = []
-terms_of (Some c) = c.terms
-
 abbrev stand_at : List (Option Constraint) → Occurrence → Bool
 stand_at ps o = is_some (at_place ps o.place)
 
-terms_all : (ps : List (Option Constraint)) (p : ℕ) → terms_at (map terms_of ps) p ≡ terms_of (at_place ps p)
-unfolding terms_of
+pub terms_all : (ps : List (Option Constraint)) (p : ℕ) → terms_at (map terms_in ps) p ≡ terms_in (at_place ps p)
 terms_all [] zero = refl
 terms_all [] (suc p) = refl
 terms_all (o ∷ ps) zero = refl
@@ -77,12 +73,11 @@ known-filter ps (o ∷ os) = by_test (stand_at ps o) refl (known-filter ps os)
     by_test false e rest = rest
 
 pub swept : (vars : ℕ) (ps : List (Option Constraint)) (lists lists' : Lists) (kept kept' : List Kept) → IsCounted vars ps lists kept [] → size_of lists' ≡ size_of lists → ((l : Lit) → list_at lists' l ≡ filter (stand_at ps) (list_at lists l)) → length kept' ≡ length ps → ((p : ℕ) → at_place ps p ≡ None → room_at kept' p ≡ 0) → ((p : ℕ) (c : Constraint) → Stands ps p c → room_at kept' p ≡ room_at kept p) → ((p : ℕ) (c : Constraint) → Stands ps p c → alert_at kept' p ≡ alert_at kept p) → IsCounted vars ps lists' kept' []
-unfolding terms_of
 swept vars ps lists lists' kept kept' h same_width filtered even clean others alerts = record {
-  inner = map terms_of ps;
-  size = even ∙ sym (length-map ps terms_of);
+  inner = map terms_in ps;
+  size = even ∙ sym (length-map ps terms_in);
   longer = omega (arith, even);
-  same = λ p c at. terms_all ps p ∙ ap terms_of at;
+  same = λ p c at. terms_all ps p ∙ ap terms_in at;
   narrow = λ p. omega (arith, ap weight (terms_all ps p), narrow_at (at_place ps p) p refl);
   width = same_width ∙ h.width;
   sums = λ l p. ap (sum_at p) (filtered l) ∙ (sum_at-filter ps p (list_at lists l) ∙ (sums_at (at_place ps p) l p refl ∙ ap (λ (ts : List Weighted). coef_of ts l) (sym (terms_all ps p))));
@@ -91,15 +86,15 @@ swept vars ps lists lists' kept kept' h same_width filtered even clean others al
   alerts = λ p c at. subst (λ (a : ℕ). IsAlert a c) (sym (alerts p c at)) (h.alerts p c at);
 }
   where
-    narrow_at : (o : Option Constraint) (p : ℕ) → at_place ps p ≡ o → weight (terms_of o) ≤ 2 ^ 126
+    narrow_at : (o : Option Constraint) (p : ℕ) → at_place ps p ≡ o → weight (terms_in o) ≤ 2 ^ 126
     narrow_at None p e = omega arith
     narrow_at (Some c) p e = omega (arith, h.narrow p, ap weight (h.same p c e))
 
-    sums_at : (o : Option Constraint) (l : Lit) (p : ℕ) → at_place ps p ≡ o → cond (is_some o) (sum_at p (list_at lists l)) 0 ≡ coef_of (terms_of o) l
+    sums_at : (o : Option Constraint) (l : Lit) (p : ℕ) → at_place ps p ≡ o → cond (is_some o) (sum_at p (list_at lists l)) 0 ≡ coef_of (terms_in o) l
     sums_at None l p e = refl
     sums_at (Some c) l p e = h.sums l p ∙ ap (λ (ts : List Weighted). coef_of ts l) (h.same p c e)
 
-    room_of : (o : Option Constraint) (p : ℕ) → at_place ps p ≡ o → room_at kept' p ≡ room [] (terms_of o)
+    room_of : (o : Option Constraint) (p : ℕ) → at_place ps p ≡ o → room_at kept' p ≡ room [] (terms_in o)
     room_of None p e = clean p e
     room_of (Some c) p e = others p c e ∙ (h.rooms p ∙ ap (room []) (h.same p c e))
 

@@ -4,6 +4,7 @@ use Rattle.pb_base.specs.declared.literal.Lit.{Lit}
 use Rattle.pb_norm.specs.Constraints.{Constraint}
 use Rattle.pb_unit.specs.declared.kept.Kept.{Kept}
 use Rattle.pb_unit.specs.declared.queue.Phase.{Phase}
+use Rattle.pb_unit.specs.declared.queue.Queue.{Queue}
 use Rattle.pb_unit.specs.declared.queue.Phase.TheVariants.{Fresh, Calm, Short}
 use Rattle.pb_unit.specs.States.{EngineState, IsEngine}
 use Rattle.pb_unit.specs.Steps.{HasTooLittle}
@@ -24,6 +25,13 @@ pub record IsQueue (vars : ℕ) (places : List (Option Constraint)) (lists : Lis
   pub even : length kept ≡ length places
   pub fresh : phase ≡ Fresh → counted ≡ 0
   pub at : IsAtNow phase places kept held
+
+abbrev pub IsInQueue : Queue → Type 0
+IsInQueue q = IsQueue q.held.vars q.places q.lists q.kept.items q.tight.items q.held.lits q.counted q.phase
+
+-- what contracts see
+abbrev pub state_of : Queue → List Lit → EngineState
+state_of q given = record { vars = q.held.vars; places = q.places; given = given; held = q.held.lits }
 
 pub record IsKept (given_vars : ℕ) (lists : Lists) (kept : List Kept) (tight : List ℕ) (counted : ℕ) (phase : Phase) (s : EngineState) : Type 0 where
   pub same_vars : given_vars ≡ s.vars

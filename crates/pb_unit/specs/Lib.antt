@@ -1,8 +1,10 @@
 pub mod Ends
+pub mod Filling
 pub mod Index
 pub mod Kept
 pub mod Laws
 pub mod Outcomes
+pub mod Reads
 pub mod Slots
 pub mod States
 pub mod Steps

@@ -9,10 +9,10 @@ ghost use Rattle.pb_unit.specs.Outcomes.{AnswersOf};
 ghost use Rattle.pb_unit.specs.Ends.{Ends};
 ghost use Rattle.pb_base.specs.declared.literal.Lit.{Lit};
 
-use crate::index::Index;
-use crate::kept::{Kept, room_of};
-use crate::places::Places;
-use crate::queue::{self, Phase};
+use crate::constraints::Constraints;
+use crate::filling;
+use crate::kept::room_of;
+use crate::queue::{Phase, Queue};
 use crate::store::{self, Wear};
 use crate::trail::Trail;
 use pb_base::{Lit, NoMemory};
@@ -33,53 +33,20 @@ pub enum Outcome {
 #[derive(Drop)]
 pub struct Engine {
     alloc: Global,
-    places: Places,
-    kept: Vec<Kept>,
-    lists: Index,
-    tight: Vec<usize>,
+    queue: Queue,
     assumed: Trail,
-    held: Trail,
-    counted: usize,
-    phase: Phase,
     wear: Wear,
 }
 
 impl Model for Engine {
     ghost use Rattle.pb_unit.specs.States.{EngineState};
-    ghost use Rattle.pb_unit.specs.Kept.{IsKept};
+    ghost use Rattle.pb_unit.specs.Kept.{IsKept, state_of};
 
     ghost Value = { EngineState };
 
-    ghost view = { λ e. record { vars = e.held.vars; places = e.places; given = e.assumed.lits; held = e.held.lits } };
+    ghost view = { λ e. state_of e.queue e.assumed.lits };
 
-    ghost invariant = { λ e. IsKept e.assumed.vars e.lists e.kept.items e.tight.items e.counted e.phase (record { vars = e.held.vars; places = e.places; given = e.assumed.lits; held = e.held.lits }) };
-}
-
-// The constraints at the first places.
-fn filled(
-    alloc: Global,
-    vars: u32,
-    places: &mut Places,
-    lists: &mut Index,
-    kept: &mut Vec<Kept>,
-    tight: &mut Vec<usize>,
-    constraints: Vec<Linear>,
-) -> bool
-    requires within { AreVarsWithin vars constraints.items }
-    requires none { places.old ≡ [] }
-    requires store { IsStore vars places.old lists.old kept.old.items tight.old.items }
-    ensures places { OnTrue result (places.new ≡ map Some constraints.items) }
-    ensures store { IsStore vars places.new lists.new kept.new.items tight.new.items }
-{
-    for constraint in constraints {
-        let place = places.len();
-        if !store::put(
-            alloc, vars, places, lists, kept, tight, place, constraint, true,
-        ) {
-            return false;
-        }
-    }
-    true
+    ghost invariant = { λ e. IsKept e.assumed.vars e.queue.lists e.queue.kept.items e.queue.tight.items e.queue.counted e.queue.phase (state_of e.queue e.assumed.lits) };
 }
 
 impl Engine {
@@ -88,32 +55,37 @@ impl Engine {
         requires within { AreVarsWithin vars constraints.items }
         ensures start { IfOk result (λ engine. engine ≡ started vars constraints.items) }
     {
-        let count = constraints.len();
-        let mut lists = store::empty_index(alloc, vars, &constraints)?;
-        let mut places = Places::new(alloc, count)?;
+        Engine::over(alloc, vars, Constraints::from_vec(alloc, constraints)?)
+    }
+
+    /// The same over a list, which the engine keeps as it is: no constraint is copied.
+    pub fn over(alloc: Global, vars: u32, constraints: Constraints) -> Result<Engine, NoMemory>
+        requires within { AreVarsWithin vars constraints }
+        ensures start { IfOk result (λ engine. engine ≡ started vars constraints) }
+    {
+        let places = constraints.into_places();
+        let count = places.len();
+        let mut lists = filling::empty_index(alloc, vars, &places)?;
         let mut kept = Vec::with_capacity(alloc, count)?;
         let mut tight = Vec::new(alloc);
-        if !filled(
-            alloc,
-            vars,
-            &mut places,
-            &mut lists,
-            &mut kept,
-            &mut tight,
-            constraints,
-        ) {
+        if !store::lay_all(&places, &mut kept, &mut tight) {
+            return Err(NoMemory);
+        }
+        if !filling::fill(alloc, &places, &mut lists, vars) {
             return Err(NoMemory);
         }
         Ok(Engine {
             alloc,
-            places,
-            kept,
-            lists,
-            tight,
+            queue: Queue {
+                places,
+                kept,
+                lists,
+                tight,
+                held: Trail::new(alloc, vars)?,
+                counted: 0,
+                phase: Phase::Fresh,
+            },
             assumed: Trail::new(alloc, vars)?,
-            held: Trail::new(alloc, vars)?,
-            counted: 0,
-            phase: Phase::Fresh,
             wear: Wear::new(count),
         })
     }
@@ -123,7 +95,7 @@ impl Engine {
         ensures answer { result ≡ is_among self.now.held lit }
         ensures reached { IsReached self.now }
     {
-        self.held.holds(&lit)
+        self.queue.held.holds(&lit)
     }
 
     /// Assumes a literal, unless its negation holds.
@@ -133,11 +105,11 @@ impl Engine {
         ensures after { self.new ≡ (if result then assumed lit self.old else self.old) }
         ensures reached { IsReached self.new }
     {
-        if self.held.holds(&lit.not()) {
+        if self.queue.held.holds(&lit.not()) {
             return false;
         }
         self.assumed.add(&lit);
-        self.held.add(&lit);
+        self.queue.held.add(&lit);
         true
     }
 
@@ -149,31 +121,16 @@ impl Engine {
         ensures kept { (l : Lit) → is_among self.old.held l ≡ true → is_among self.new.held l ≡ true }
         ensures reached { IsReached self.new }
     {
-        queue::propagate(
-            &self.places,
-            &mut self.kept,
-            &self.lists,
-            &self.tight,
-            &mut self.held,
-            &mut self.counted,
-            &mut self.phase,
-        )
+        self.queue.propagate()
     }
 
     /// Takes all assumptions back.
     pub fn reset(&mut self)
         ensures after { self.new ≡ cleared self.old }
     {
-        queue::rewind(
-            &self.places,
-            &mut self.kept,
-            &self.lists,
-            &self.held,
-            &mut self.counted,
-            &mut self.phase,
-        );
+        self.queue.rewind();
         self.assumed.clear();
-        self.held.clear();
+        self.queue.held.clear();
     }
 
     /// Adds a constraint, and takes all assumptions back. Its place is one that was free.
@@ -183,31 +140,23 @@ impl Engine {
         ensures refused { IsErr result → self.new ≡ self.old }
     {
         let copy = constraint.copy(self.alloc)?;
-        queue::rewind(
-            &self.places,
-            &mut self.kept,
-            &self.lists,
-            &self.held,
-            &mut self.counted,
-            &mut self.phase,
-        );
-        let place = store::free_place(&self.places, &self.kept, self.wear.next);
+        self.queue.rewind();
+        let place = store::free_place(&self.queue.places, &self.queue.kept, self.wear.next);
         if !store::put(
             self.alloc,
-            self.held.vars(),
-            &mut self.places,
-            &mut self.lists,
-            &mut self.kept,
-            &mut self.tight,
+            self.queue.held.vars(),
+            &mut self.queue.places,
+            &mut self.queue.lists,
+            &mut self.queue.kept,
+            &mut self.queue.tight,
             place,
             copy,
-            false,
         ) {
             return Err(NoMemory);
         }
         self.wear.next = place;
         self.assumed.clear();
-        self.held.clear();
+        self.queue.held.clear();
         Ok(place as u64)
     }
 
@@ -217,30 +166,23 @@ impl Engine {
         ensures after { self.new ≡ (if result then removed place self.old else self.old) }
     {
         let place = place as usize;
-        if !self.places.stands(place) {
+        if !self.queue.places.stands(place) {
             return false;
         }
-        queue::rewind(
-            &self.places,
-            &mut self.kept,
-            &self.lists,
-            &self.held,
-            &mut self.counted,
-            &mut self.phase,
-        );
+        self.queue.rewind();
         self.assumed.clear();
-        self.held.clear();
-        let terms = self.places.count(place);
-        let listed = store::is_tight(&self.kept, place);
+        self.queue.held.clear();
+        let terms = self.queue.places.count(place);
+        let listed = store::is_tight(&self.queue.kept, place);
         self.wear.count(terms, listed);
-        self.places.clear(place);
+        self.queue.places.clear(place);
         store::tidy(
             &mut self.wear,
-            &mut self.lists,
-            &mut self.kept,
-            &mut self.tight,
-            self.held.vars(),
-            &self.places,
+            &mut self.queue.lists,
+            &mut self.queue.kept,
+            &mut self.queue.tight,
+            self.queue.held.vars(),
+            &self.queue.places,
         );
         true
     }
@@ -250,8 +192,8 @@ impl Engine {
         ensures { result ≡ slack_at self.now place }
     {
         let place = place as usize;
-        let told = self.counted == self.held.len();
-        let left = room_of(&self.kept, place);
-        self.places.slack(place, left, told, &self.held)
+        let told = self.queue.counted == self.queue.held.len();
+        let left = room_of(&self.queue.kept, place);
+        self.queue.places.slack(place, left, told, &self.queue.held)
     }
 }

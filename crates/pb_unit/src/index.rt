@@ -239,6 +239,11 @@ impl Index {
         })
     }
 
+    // How many coefficients of 1 there is room for.
+    pub(crate) fn room(&self) -> usize {
+        self.units.len()
+    }
+
     // How many numbers of literals there are.
     pub(crate) fn size(&self) -> usize
         ensures { result ≡ size_of self.now }

@@ -1,8 +1,12 @@
 //! The room that is kept of each constraint.
-ghost use Rattle.std.specs.Prelude.{◌≡◌, ◌≤◌, ◌<◌, ◌+◌, ◌^◌, ◌∷◌, [], ℕ, nat_lt, List, length, map, All, take};
+ghost use Rattle.std.specs.Prelude.{◌≡◌, ◌≤◌, ◌<◌, ◌+◌, ◌^◌, ◌∷◌, [], ℕ, nat_lt, List, length, map, All, take, Some};
+ghost use Rattle.pb_norm.specs.Constraints.{weight, weights};
+ghost use Rattle.pb_unit.specs.Steps.{IsAlert};
+ghost use Rattle.pb_unit.specs.Filling.{IsKeptOf};
 ghost use Rattle.pb_unit.specs.Index.{unit_at, sum_at, room_at, alert_at, AreLowered};
 
 use crate::index::Occurrence;
+use pb_norm::Linear;
 
 /// What the terms of a constraint can still add, and with how much of that it needs no literal, whatever holds.
 #[derive(Clone, Copy, Debug, PartialEq, Eq)]
@@ -65,5 +69,32 @@ pub(crate) fn room_of(kept: &[Kept], place: usize) -> u128
     match kept.get(place) {
         Some(at) => at.room,
         None => 0,
+    }
+}
+
+/// Nothing is kept where nothing stands.
+pub(crate) const NOTHING: Kept = Kept { room: 0, alert: 0 };
+
+// With this room a constraint needs nothing, whatever holds.
+pub(crate) fn alert_of(constraint: &Linear) -> u128
+    ensures { IsAlert result constraint.now }
+{
+    let mut greatest = 0;
+    for term in constraint.terms() {
+        let weight = term.weight();
+        if weight > greatest {
+            greatest = weight;
+        }
+    }
+    constraint.degree() + greatest
+}
+
+// What is kept of a constraint, while nothing is told.
+pub(crate) fn kept_of(constraint: &Linear) -> Kept
+    ensures { IsKeptOf (Some constraint.now) result }
+{
+    Kept {
+        room: constraint.weight(),
+        alert: alert_of(constraint),
     }
 }

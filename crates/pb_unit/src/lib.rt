@@ -1,7 +1,9 @@
-//! Unit propagation over constraints.
+//! Lists of constraints, and unit propagation over them.
 #![tactic(auto)]
 
+mod constraints;
 mod engine;
+mod filling;
 mod index;
 mod kept;
 mod laws;
@@ -12,5 +14,6 @@ mod store;
 mod trail;
 mod visit;
 
+pub use constraints::Constraints;
 pub use engine::{Engine, Outcome};
 pub use laws::{a_conflict_stays, a_refused_literal_conflicts, answers_over_clauses};

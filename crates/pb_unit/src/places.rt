@@ -1,14 +1,20 @@
 //! Constraints by their places.
-ghost use Rattle.std.specs.Prelude.{◌≡◌, ◌≤◌, ◌<◌, ◌+◌, ◌-◌, ◌^◌, ◌++◌, ◌∷◌, [], if◌then◌else◌, ℕ, List, Some, None, IsTrue, IfOk, IfSome, length, map, take, is_some, nat_lt, slice_set};
+ghost use Rattle.std.specs.Prelude.{◌≡◌, ◌≤◌, ◌<◌, ◌+◌, ◌*◌, ◌-◌, ◌^◌, ◌++◌, ◌∷◌, [], if◌then◌else◌, ℕ, List, Some, None, IsTrue, IfOk, IfSome, OnOk, length, map, take, is_some, nat_lt, slice_set};
 ghost use Rattle.std.specs.Bool.{OnTrue, OnFalse};
 ghost use Rattle.std.specs.Option.{option_map};
 ghost use Rattle.pb_base.specs.declared.literal.Lit.{Lit};
-ghost use Rattle.pb_norm.specs.Constraints.{Constraint, weight, weights, HasVarsWithin};
+ghost use Rattle.pb_norm.specs.Constraints.{Constraint, terms_of, weight, weights, HasVarsWithin};
 ghost use Rattle.pb_norm.specs.Propagation.{room};
-ghost use Rattle.pb_unit.specs.States.{Stands, at_place, placed, standing, slack_of};
+ghost use Rattle.pb_unit.specs.States.{StandWithin, Stands, at_place, placed, standing, slack_of};
 ghost use Rattle.pb_unit.specs.Steps.{IsCalm, Advances, HasTooLittle};
+ghost use Rattle.pb_unit.specs.Filling.{terms_in, IsFilling, IsInRange, IsKeptOf};
+ghost use Rattle.pb_unit.specs.Index.{list_at, size_of};
 ghost use Rattle.pb_unit.specs.Slots.{unit, part, slot_at, with_slot, AreSlots, IsSlot};
+ghost use Rattle.pb_unit.specs.Reads.{ReadsAt};
 
+use crate::filling::{count_lits, count_terms, fill_range};
+use crate::index::Index;
+use crate::kept::{Kept, NOTHING, kept_of};
 use crate::slack::{slack_of, slack_of_clause};
 use crate::trail::Trail;
 use crate::visit::{visit, visit_clause};
@@ -101,15 +107,18 @@ fn general_slot(alloc: Global, constraint: Linear) -> Option<Slot>
     }
 }
 
-// A slot for a constraint, if there is memory. A clause may go to the list of literals.
-fn slot_for(alloc: Global, lits: &mut Vec<Lit>, constraint: Linear, common: bool) -> Option<Slot>
+// A slot for a copy of a constraint, if there is memory. A clause goes to the list of literals.
+fn slot_of(alloc: Global, lits: &mut Vec<Lit>, constraint: &Linear) -> Option<Slot>
     ensures longer { take (length lits.old.items) lits.new.items ≡ lits.old.items }
-    ensures slot { IfSome result (λ slot. IsSlot (length lits.new.items) slot × (slot_at lits.new.items slot ≡ Some constraint)) }
+    ensures slot { IfSome result (λ slot. IsSlot (length lits.new.items) slot × (slot_at lits.new.items slot ≡ Some constraint.now)) }
 {
-    if common && let Some(slot) = clause_slot(lits, &constraint) {
+    if let Some(slot) = clause_slot(lits, constraint) {
         return Some(slot);
     }
-    general_slot(alloc, constraint)
+    match constraint.copy(alloc) {
+        Ok(copy) => general_slot(alloc, copy),
+        Err(NoMemory) => None,
+    }
 }
 
 // One more slot, if there is memory.
@@ -133,7 +142,7 @@ fn set_slot(slots: &mut Vec<Slot>, place: usize, slot: Slot) -> bool
 }
 
 // The part of a list of literals.
-fn part(lits: &[Lit], start: u32, len: u32) -> &[Lit]
+pub(crate) fn part(lits: &[Lit], start: u32, len: u32) -> &[Lit]
     requires { start + len ≤ length lits.now }
     ensures { result.now ≡ part lits.now start len }
 {
@@ -197,15 +206,99 @@ fn slack_in(
     }
 }
 
+// Adds the terms of literals with the coefficient 1.
+fn push_units(terms: &mut Vec<Term>, lits: &[Lit]) -> Result<(), NoMemory>
+    ensures { OnOk result (terms.new.items ≡ terms.old.items ++ terms_of (map unit lits.now)) }
+{
+    for lit in lits {
+        terms.push(Term::weighing(1, *lit))?;
+    }
+    Ok(())
+}
+
+// Adds terms.
+fn push_terms(terms: &mut Vec<Term>, more: &[Term]) -> Result<(), NoMemory>
+    ensures { OnOk result (terms.new.items ≡ terms.old.items ++ more.now) }
+{
+    for term in more {
+        terms.push(*term)?;
+    }
+    Ok(())
+}
+
+// The terms and the degree of what stands at the place.
+fn read_in(
+    slots: &[Slot],
+    lits: &[Lit],
+    place: usize,
+    terms: &mut Vec<Term>,
+) -> Result<u128, NoMemory>
+    requires { AreSlots (length lits.now) slots.now }
+    ensures { IfOk result (λ degree. ReadsAt (map (slot_at lits.now) slots.now) place terms.new.items degree) }
+{
+    terms.clear();
+    match slots.get(place) {
+        Some(Slot::Clause { start, len }) => {
+            push_units(terms, part(lits, *start, *len))?;
+            Ok(1)
+        }
+        Some(Slot::General(alone)) => match alone.first() {
+            Some(constraint) => {
+                push_terms(terms, constraint.terms())?;
+                Ok(constraint.degree())
+            }
+            None => Ok(0),
+        },
+        _ => Ok(0),
+    }
+}
+
+// What is kept of what stands at the place, while nothing is told.
+fn kept_in(slots: &[Slot], lits: &[Lit], place: usize) -> Kept
+    requires slots { AreSlots (length lits.now) slots.now }
+    requires known { place < length slots.now }
+    ensures { IsKeptOf (at_place (map (slot_at lits.now) slots.now) place) result }
+{
+    match &slots[place] {
+        Slot::Clause { start, len } => {
+            let lits = part(lits, *start, *len);
+            Kept {
+                room: lits.len() as u128,
+                alert: 2,
+            }
+        }
+        Slot::General(alone) => match alone.first() {
+            Some(constraint) => kept_of(constraint),
+            None => NOTHING,
+        },
+        Slot::Empty => NOTHING,
+    }
+}
+
+// Counts the coefficients of 1 in a slot by literals.
+fn count_slot(slot: &Slot, lits: &[Lit], counts: &mut [u32])
+    requires { IsSlot (length lits.now) slot.now }
+{
+    match slot {
+        Slot::Clause { start, len } => count_lits(part(lits, *start, *len), counts),
+        Slot::General(alone) => {
+            if let Some(constraint) = alone.first() {
+                count_terms(constraint.terms(), counts);
+            }
+        }
+        Slot::Empty => {}
+    }
+}
+
 impl Places {
-    // No place yet, with room for so many.
-    pub(crate) fn new(alloc: Global, count: usize) -> Result<Places, NoMemory>
-        ensures { IfOk result (λ places. places ≡ []) }
+    // No place yet.
+    pub(crate) fn new(alloc: Global) -> Places
+        ensures { result ≡ [] }
     {
-        Ok(Places {
-            slots: Vec::with_capacity(alloc, count)?,
+        Places {
+            slots: Vec::new(alloc),
             lits: Vec::new(alloc),
-        })
+        }
     }
 
     // How many places there are.
@@ -213,6 +306,11 @@ impl Places {
         ensures { result ≡ length self.now }
     {
         self.slots.len()
+    }
+
+    // How many literals the clauses have that came in order.
+    pub(crate) fn clause_lits(&self) -> usize {
+        self.lits.len()
     }
 
     // Whether a constraint stands at the place.
@@ -234,21 +332,46 @@ impl Places {
         }
     }
 
-    // Has a constraint stand at the place, which is one of the list or the next, if there is memory. A clause may
-    // go to the common list of literals.
-    pub(crate) fn put(
-        &mut self,
-        alloc: Global,
-        place: usize,
-        constraint: Linear,
-        common: bool,
-    ) -> bool
+    // Has a constraint stand at the place, which is one of the list or the next, if there is memory.
+    pub(crate) fn put(&mut self, alloc: Global, place: usize, constraint: Linear) -> bool
         requires { place ≤ length self.old }
         ensures { self.new ≡ (if result then placed place constraint self.old else self.old) }
     {
-        match slot_for(alloc, &mut self.lits, constraint, common) {
+        match general_slot(alloc, constraint) {
             Some(slot) => set_slot(&mut self.slots, place, slot),
             None => false,
+        }
+    }
+
+    // Has a copy of a constraint stand at the next place, if there is memory.
+    pub(crate) fn push(&mut self, alloc: Global, constraint: &Linear) -> bool
+        ensures { self.new ≡ (if result then self.old ++ Some constraint.now ∷ [] else self.old) }
+    {
+        match slot_of(alloc, &mut self.lits, constraint) {
+            Some(slot) => push_slot(&mut self.slots, slot),
+            None => false,
+        }
+    }
+
+    // The terms and the degree of what stands at the place.
+    pub(crate) fn read(&self, place: usize, terms: &mut Vec<Term>) -> Result<u128, NoMemory>
+        ensures { IfOk result (λ degree. ReadsAt self.now place terms.new.items degree) }
+    {
+        read_in(&self.slots, &self.lits, place, terms)
+    }
+
+    // What is kept of what stands at the place, while nothing is told.
+    pub(crate) fn kept(&self, place: usize) -> Kept
+        requires { place < length self.now }
+        ensures { IsKeptOf (at_place self.now place) result }
+    {
+        kept_in(&self.slots, &self.lits, place)
+    }
+
+    // Counts the coefficients of 1 by literals.
+    pub(crate) fn count_units(&self, counts: &mut [u32]) {
+        for slot in &self.slots {
+            count_slot(slot, &self.lits, counts);
         }
     }
 
@@ -270,6 +393,23 @@ impl Places {
         ensures short { OnFalse result (HasTooLittle self.now held.new.lits place) }
     {
         look_at(&self.slots, &self.lits, place, left, held)
+    }
+
+    // The index of all that stands, as far as its literals are in a range, if there is memory.
+    pub(crate) fn fill(
+        &self,
+        alloc: Global,
+        lists: &mut Index,
+        vars: u32,
+        low: usize,
+        high: usize,
+    ) -> bool
+        requires within { StandWithin vars self.now }
+        requires width { size_of lists.old ≡ 2 * vars + 2 }
+        requires empty { (l : Lit) → IsInRange low high l → list_at lists.old l ≡ [] }
+        ensures { OnTrue result (IsFilling low high lists.old lists.new (map terms_in self.now)) }
+    {
+        fill_range(alloc, lists, &self.slots, &self.lits, low, high)
     }
 
     // The slack of what stands at the place. The room is that, if all literals that hold were told.

@@ -8,7 +8,7 @@ ghost use Rattle.pb_unit.specs.States.{StandWithin, Stands, standing};
 ghost use Rattle.pb_unit.specs.Steps.{IsAlert, IsCalm, Advances, HasTooLittle};
 ghost use Rattle.pb_unit.specs.Trails.{oldest};
 ghost use Rattle.pb_unit.specs.Index.{code, size_of, unit_at, list_at, IsStore, AreListed, AreAlerts, sum_at, room_at, alert_at, HasRoom, IsCalmAt, AreCalm, AreLowered, IsTold, IsCounted};
-ghost use Rattle.pb_unit.specs.Kept.{IsQueue, IsAtNow};
+ghost use Rattle.pb_unit.specs.Kept.{IsQueue, IsInQueue, IsAtNow};
 ghost use Rattle.pb_unit.specs.Ends.{Ends};
 
 use crate::engine::Outcome;
@@ -27,6 +27,18 @@ pub(crate) enum Phase {
     Calm,
     /// The constraint at the place has too little room.
     Short(usize),
+}
+
+/// Constraints with their index and rooms, the literals that hold, and how many of those, the oldest, the rooms count.
+#[derive(Drop)]
+pub(crate) struct Queue {
+    pub(crate) places: Places,
+    pub(crate) kept: Vec<Kept>,
+    pub(crate) lists: Index,
+    pub(crate) tight: Vec<usize>,
+    pub(crate) held: Trail,
+    pub(crate) counted: usize,
+    pub(crate) phase: Phase,
 }
 
 // Tells a literal to a constraint in which its negation stands. Whether the constraint has room enough.
@@ -265,37 +277,6 @@ fn go_on(
     tell_rest(places, kept, lists, held, counted)
 }
 
-// Has all literals hold that are reached, or finds a constraint with too little room.
-pub(crate) fn propagate(
-    places: &Places,
-    kept: &mut [Kept],
-    lists: &Index,
-    tight: &[usize],
-    held: &mut Trail,
-    counted: &mut usize,
-    phase: &mut Phase,
-) -> Outcome
-    requires within { StandWithin held.old.vars places.now }
-    requires queue { IsQueue held.old.vars places.now lists.now kept.old tight.now held.old.lits counted.old phase.old }
-    ensures vars { held.new.vars ≡ held.old.vars }
-    ensures advances { (given : List Lit) → Advances (standing places.now) given held.old.lits held.new.lits }
-    ensures queue { IsQueue held.new.vars places.now lists.now kept.new tight.now held.new.lits counted.new phase.new }
-    ensures ends { Ends places.now held.new.lits result }
-{
-    match go_on(places, kept, lists, tight, held, counted, *phase) {
-        Some(place) => {
-            *phase = Phase::Short(place);
-            Outcome::Conflict {
-                place: place as u64,
-            }
-        }
-        None => {
-            *phase = Phase::Calm;
-            Outcome::Fixed
-        }
-    }
-}
-
 // Gives the coefficients of a literal back to the rooms.
 fn raise_both(kept: &mut [Kept], lists: &Index, lit: &Lit)
     requires listed { code lit.now < size_of lists.now }
@@ -328,23 +309,57 @@ pub(crate) fn uncount(
     }
 }
 
-// Begins anew: no literal was told, and no constraint was looked at.
-pub(crate) fn rewind(
-    places: &Places,
-    kept: &mut [Kept],
-    lists: &Index,
-    held: &Trail,
-    counted: &mut usize,
-    phase: &mut Phase,
-)
-    requires even { length kept.old ≡ length places.now }
-    requires in_held { counted.old ≤ length held.now.lits }
-    requires counts { IsCounted held.now.vars places.now lists.now kept.old (oldest counted.old held.now.lits) }
-    ensures counted { counted.new ≡ 0 }
-    ensures phase { phase.new ≡ Phase.Fresh }
-    ensures store { (tight : List ℕ) → AreListed places.now kept.old tight → IsStore held.now.vars places.now lists.now kept.new tight }
-{
-    uncount(places, kept, lists, held, *counted);
-    *counted = 0;
-    *phase = Phase::Fresh;
+impl Queue {
+    // Has all literals hold that are reached, or finds a constraint with too little room.
+    pub(crate) fn propagate(&mut self) -> Outcome
+        requires within { StandWithin self.old.held.vars self.old.places }
+        requires queue { IsInQueue self.old }
+        ensures places { self.new.places ≡ self.old.places }
+        ensures vars { self.new.held.vars ≡ self.old.held.vars }
+        ensures advances { (given : List Lit) → Advances (standing self.old.places) given self.old.held.lits self.new.held.lits }
+        ensures queue { IsInQueue self.new }
+        ensures ends { Ends self.new.places self.new.held.lits result }
+    {
+        let ended = go_on(
+            &self.places,
+            &mut self.kept,
+            &self.lists,
+            &self.tight,
+            &mut self.held,
+            &mut self.counted,
+            self.phase,
+        );
+        match ended {
+            Some(place) => {
+                self.phase = Phase::Short(place);
+                Outcome::Conflict {
+                    place: place as u64,
+                }
+            }
+            None => {
+                self.phase = Phase::Calm;
+                Outcome::Fixed
+            }
+        }
+    }
+
+    // Begins anew: no literal was told, and no constraint was looked at.
+    pub(crate) fn rewind(&mut self)
+        requires { IsInQueue self.old }
+        ensures places { self.new.places ≡ self.old.places }
+        ensures held { self.new.held ≡ self.old.held }
+        ensures counted { self.new.counted ≡ 0 }
+        ensures phase { self.new.phase ≡ Phase.Fresh }
+        ensures store { IsStore self.new.held.vars self.new.places self.new.lists self.new.kept.items self.new.tight.items }
+    {
+        uncount(
+            &self.places,
+            &mut self.kept,
+            &self.lists,
+            &self.held,
+            self.counted,
+        );
+        self.counted = 0;
+        self.phase = Phase::Fresh;
+    }
 }

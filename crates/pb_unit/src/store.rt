@@ -1,14 +1,15 @@
 //! Constraints at their places, with the index of their literals and their rooms.
-ghost use Rattle.std.specs.Prelude.{◌≡◌, ◌≤◌, ◌<◌, ◌+◌, ◌^◌, ◌∷◌, ◌++◌, [], ◌⊎◌, ◌*◌, if◌then◌else◌, max, filter, IfOk, ℕ, List, length, All, Contains, IfSome, None, is_some, vec_capacity, slice_index_or};
+ghost use Rattle.std.specs.Prelude.{◌≡◌, ◌≤◌, ◌<◌, ◌+◌, ◌^◌, ◌∷◌, ◌++◌, [], ◌⊎◌, ◌*◌, if◌then◌else◌, max, filter, IfOk, ℕ, List, length, All, Contains, IfSome, None, is_some, vec_capacity, slice_index_or, IsTrue};
 ghost use Rattle.std.specs.Bool.{OnTrue, OnFalse};
-ghost use Rattle.pb_norm.specs.Constraints.{Weighted, Constraint, IsLinear, weight, weighted, weights, HasVarsWithin};
+ghost use Rattle.pb_norm.specs.Constraints.{Weighted, Constraint, weight, weighted, weights, HasVarsWithin};
 ghost use Rattle.pb_unit.specs.States.{Stands, at_place, placed};
 ghost use Rattle.pb_unit.specs.Steps.{IsAlert};
+ghost use Rattle.pb_unit.specs.Filling.{AreLaid};
 ghost use Rattle.pb_base.specs.declared.literal.Lit.{Lit};
 ghost use Rattle.pb_unit.specs.Index.{Enters, list_at, size_of, room_at, alert_at, AreListed, IsCounted, IsEntered, IsStore};
 
 use crate::index::{Index, Occurrence, code};
-use crate::kept::{Kept, raise, room_of};
+use crate::kept::{Kept, alert_of, raise, room_of};
 use crate::places::Places;
 use pb_base::{NoMemory, Term};
 use pb_norm::Linear;
@@ -62,20 +63,6 @@ pub(crate) fn free_place(places: &Places, kept: &[Kept], from: usize) -> usize
         place += 1;
     }
     places.len()
-}
-
-// With this room a constraint needs nothing, whatever holds.
-fn alert_of(constraint: &Linear) -> u128
-    ensures { IsAlert result constraint.now }
-{
-    let mut greatest = 0;
-    for term in constraint.terms() {
-        let weight = term.weight();
-        if weight > greatest {
-            greatest = weight;
-        }
-    }
-    constraint.degree() + greatest
 }
 
 // Adds a term at a place to the index and to the room there, if there is memory.
@@ -238,7 +225,6 @@ fn enter_and_put(
     kept: &mut Vec<Kept>,
     place: usize,
     constraint: Linear,
-    common: bool,
 ) -> bool
     requires within { HasVarsWithin vars constraint.terms }
     requires near { place ≤ length places.old }
@@ -256,7 +242,7 @@ fn enter_and_put(
     if !enter(alloc, lists, kept, vars, places, place, &constraint) {
         return false;
     }
-    places.put(alloc, place, constraint, common)
+    places.put(alloc, place, constraint)
 }
 
 // A constraint at a free place, if there is memory. Else nothing stands that did not stand before.
@@ -269,7 +255,6 @@ pub(crate) fn put(
     tight: &mut Vec<usize>,
     place: usize,
     constraint: Linear,
-    common: bool,
 ) -> bool
     requires store { IsStore vars places.old lists.old kept.old.items tight.old.items }
     requires within { HasVarsWithin vars constraint.terms }
@@ -283,7 +268,7 @@ pub(crate) fn put(
         return false;
     }
     let alert = alert_of(&constraint);
-    if !enter_and_put(alloc, vars, places, lists, kept, place, constraint, common) {
+    if !enter_and_put(alloc, vars, places, lists, kept, place, constraint) {
         sweep(lists, kept, vars, places);
         return false;
     }
@@ -291,39 +276,44 @@ pub(crate) fn put(
     true
 }
 
-// How many terms have each literal, by the literals' numbers.
-fn counts_of(alloc: Global, vars: u32, constraints: &[Linear]) -> Result<Vec<u32>, NoMemory>
-    ensures { IfOk result (λ v. length v.items ≡ 2 * vars + 2) }
+// One more place, where that is asked for and there is memory.
+fn list_if(tight: &mut Vec<usize>, place: usize, asked: bool) -> bool
+    ensures listed { OnTrue result (IsTrue asked → Contains tight.new.items place) }
+    ensures more { OnTrue result ((p : ℕ) → Contains tight.old.items p → Contains tight.new.items p) }
 {
-    let mut counts: Vec<u32> = vec![in alloc; 0; 2 * vars as usize + 2]?;
-    for constraint in constraints {
-        count_terms(&mut counts, constraint.terms());
+    if !asked {
+        return true;
     }
-    Ok(counts)
+    tight.push(place).is_ok()
 }
 
-// No occurrences yet, with room for those of the constraints.
-pub(crate) fn empty_index(
-    alloc: Global,
-    vars: u32,
-    constraints: &[Linear],
-) -> Result<Index, NoMemory>
-    ensures size { IfOk result (λ lists. size_of lists ≡ 2 * vars + 2) }
-    ensures empty { IfOk result (λ lists. (l : Lit) → list_at lists l ≡ []) }
+// One more room that is kept, if there is memory.
+fn keep(kept: &mut Vec<Kept>, at: Kept) -> bool
+    ensures { OnTrue result (kept.new.items ≡ kept.old.items ++ at ∷ []) }
 {
-    let counts = counts_of(alloc, vars, constraints)?;
-    Index::new(alloc, &counts)
+    kept.push(at).is_ok()
 }
 
-// Counts the terms with the coefficient 1 by literals.
-fn count_terms(counts: &mut [u32], terms: &[Term]) {
-    for term in terms {
-        if term.weight() == 1
-            && let Some(count) = counts.get_mut(code(&term.lit))
-        {
-            *count = count.saturating_add(1);
+// What is kept of the next place, which is listed where the room there is less than the alert, if there is memory.
+fn lay(kept: &mut Vec<Kept>, tight: &mut Vec<usize>, place: usize, at: Kept) -> bool
+    ensures kept { OnTrue result (kept.new.items ≡ kept.old.items ++ at ∷ []) }
+    ensures listed { OnTrue result ((at.alert ≤ at.room) ⊎ Contains tight.new.items place) }
+    ensures more { OnTrue result ((p : ℕ) → Contains tight.old.items p → Contains tight.new.items p) }
+{
+    list_if(tight, place, at.room < at.alert) && keep(kept, at)
+}
+
+// What is kept of all places, if there is memory.
+pub(crate) fn lay_all(places: &Places, kept: &mut Vec<Kept>, tight: &mut Vec<usize>) -> bool
+    requires { kept.old.items ≡ [] }
+    ensures { OnTrue result (AreLaid places.now kept.new.items tight.new.items) }
+{
+    for place in 0..places.len() {
+        if !lay(kept, tight, place, places.kept(place)) {
+            return false;
         }
     }
+    true
 }
 
 // Lists only places where a constraint stands.

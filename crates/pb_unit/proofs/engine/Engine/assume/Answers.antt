@@ -7,11 +7,11 @@ use Rattle.pb_unit.proofs.engine.Engine.assume.Goals as goal
 
 -- the engine's fields at the call
 abbrev before : goal.After-add-2 → EngineState
-before c = record { vars = c.self.inside.held.vars; places = c.self.inside.places; given = c.self.inside.assumed.lits; held = c.self.inside.held.lits }
+before c = record { vars = c.self.inside.queue.held.vars; places = c.self.inside.queue.places; given = c.self.inside.assumed.lits; held = c.self.inside.queue.held.lits }
 
 after : (c : goal.After-add-2) → IsReached (assumed c.args.lit (before c))
 after c =
-    let undecided : is_among c.self.inside.held.lits (negated c.args.lit) ≡ false = ap (is_among c.self.inside.held.lits) (sym c.not.ensures) ∙ sym c.holds.ensures ∙ c.if-holds.false in
+    let undecided : is_among c.self.inside.queue.held.lits (negated c.args.lit) ≡ false = ap (is_among c.self.inside.queue.held.lits) (sym c.not.ensures) ∙ sym c.holds.ensures ∙ c.if-holds.false in
     assumed_reached (before c) c.args.lit c.self.invariant.engine.holds undecided
 
 pub invariant_of-self : goal.invariant_of-self
@@ -24,7 +24,7 @@ invariant_of-self c =
         within = c.self.invariant.engine.within;
         holds = record { reached = all.reached; assumed = all.assumed; consistent = all.consistent };
       };
-      queue = queue_assumed c.self.inside.held.vars c.self.inside.places c.self.inside.lists c.self.inside.kept.items c.self.inside.tight.items c.self.inside.held.lits c.self.inside.counted c.self.inside.phase c.args.lit c.self.invariant.queue;
+      queue = queue_assumed c.self.inside.queue.held.vars c.self.inside.queue.places c.self.inside.queue.lists c.self.inside.queue.kept.items c.self.inside.queue.tight.items c.self.inside.queue.held.lits c.self.inside.queue.counted c.self.inside.queue.phase c.args.lit c.self.invariant.queue;
     }
     )
 

@@ -11,8 +11,8 @@ pub slack-requires-clause-told : goal.slack-requires-clause-told
 slack-requires-clause-told c = λ told d at.
     c.room_of-left.ensures ∙
     (ap (λ (ks : List Kept). room_at ks c.args.place) c.deref.ensures.value ∙
-    room_told c.self.inside.held.vars c.self.inside.places c.self.inside.lists c.self.inside.kept.items c.self.inside.tight.items c.self.inside.held.lits c.self.inside.counted c.self.inside.phase c.self.invariant.queue
-    (eqb-true c.self.inside.counted c.len.result told ∙ c.len.ensures.count) c.args.place d at)
+    room_told c.self.inside.queue.held.vars c.self.inside.queue.places c.self.inside.queue.lists c.self.inside.queue.kept.items c.self.inside.queue.tight.items c.self.inside.queue.held.lits c.self.inside.queue.counted c.self.inside.queue.phase c.self.invariant.queue
+    (eqb-true c.self.inside.queue.counted c.len.result told ∙ c.len.ensures.count) c.args.place d at)
 
 pub slack-requires-clause-narrow : goal.slack-requires-clause-narrow
 slack-requires-clause-narrow c = λ d at.

@@ -4,8 +4,8 @@ use Rattle.std.proofs.lemmas.List.{take_all}
 use Rattle.pb_base.specs.declared.literal.Term.{Term}
 use Rattle.pb_norm.specs.Constraints.{Weighted, weight, weights, weighted}
 use Rattle.pb_unit.proofs.Entering.{greatest_more, coef_fits, alert_all}
-use Rattle.pb_unit.proofs.store.alert_of.Goals as goal
-use Rattle.pb_unit.proofs.store.alert_of.Goals.{then-weight-greatest, else-weight-greatest}
+use Rattle.pb_unit.proofs.kept.alert_of.Goals as goal
+use Rattle.pb_unit.proofs.kept.alert_of.Goals.{then-weight-greatest, else-weight-greatest}
 
 pub loop-term-preserved : goal.loop-term-preserved
 loop-term-preserved c =

@@ -1,0 +1,11 @@
+use Rattle.std.proofs.Common.{◌≡◌, take, map}
+use Rattle.pb_unit.specs.Slots.{unit}
+use Rattle.pb_unit.specs.Index.{size_of}
+use Rattle.pb_unit.specs.Filling.{AddsPlace}
+use Rattle.pb_unit.proofs.filling.enter_clause.Given as goal
+
+abbrev pub invariant-loop-lit : goal.invariant-loop-lit
+invariant-loop-lit l = record {
+  size : size_of l.lists ≡ size_of l.initial.lists;
+  added : AddsPlace l.low l.high l.place (map unit (take l.lit-index l.lits)) l.initial.lists l.lists;
+}

@@ -1,0 +1,92 @@
+//! Lists of constraints.
+ghost use Rattle.std.specs.Prelude.{◌≡◌, ◌<◌, ◌++◌, ◌∷◌, [], Some, IfOk, IsErr, OnOk, length, map};
+ghost use Rattle.pb_unit.specs.Reads.{IsRead};
+
+use crate::places::Places;
+use pb_base::{NoMemory, Term};
+use pb_norm::Linear;
+use std::alloc::Global;
+use std::marker::Model;
+
+/// Constraints in order. The literals of all clauses stand in one list, so that a clause takes little.
+#[derive(Drop)]
+pub struct Constraints {
+    alloc: Global,
+    places: Places,
+}
+
+impl Model for Constraints {
+    ghost use Rattle.std.specs.Prelude.{List};
+    ghost use Rattle.pb_norm.specs.Constraints.{Constraint};
+    ghost use Rattle.pb_unit.specs.States.{standing};
+    ghost use Rattle.pb_unit.specs.Reads.{IsWhole};
+
+    ghost Value = { List Constraint };
+
+    ghost view = { λ l. standing l.places };
+
+    ghost invariant = { λ l. IsWhole l.places };
+}
+
+impl Constraints {
+    /// No constraint.
+    pub fn new(alloc: Global) -> Constraints
+        ensures { result ≡ [] }
+    {
+        Constraints {
+            alloc,
+            places: Places::new(alloc),
+        }
+    }
+
+    /// The constraints of a vector.
+    pub fn from_vec(alloc: Global, constraints: Vec<Linear>) -> Result<Constraints, NoMemory>
+        ensures { IfOk result (λ list. list ≡ constraints.items) }
+    {
+        let mut list = Constraints::new(alloc);
+        for constraint in constraints {
+            list.push(&constraint)?;
+        }
+        Ok(list)
+    }
+
+    /// Adds a constraint at the end.
+    pub fn push(&mut self, constraint: &Linear) -> Result<(), NoMemory>
+        ensures ok { OnOk result (self.new ≡ self.old ++ constraint.now ∷ []) }
+        ensures refused { IsErr result → self.new ≡ self.old }
+    {
+        let _ = constraint.degree();
+        if !self.places.push(self.alloc, constraint) {
+            return Err(NoMemory);
+        }
+        Ok(())
+    }
+
+    /// How many constraints there are.
+    pub fn len(&self) -> usize
+        ensures { result ≡ length self.now }
+    {
+        self.places.len()
+    }
+
+    /// How many literals the clauses among them have.
+    pub fn clause_lits(&self) -> usize {
+        self.places.clause_lits()
+    }
+
+    /// The terms of the constraint at a place, which are written over others, and its degree.
+    pub fn read(&self, place: usize, terms: &mut Vec<Term>) -> Result<u128, NoMemory>
+        requires { place < length self.now }
+        ensures { IfOk result (λ degree. IsRead self.now place terms.new.items degree) }
+    {
+        let degree = self.places.read(place, terms)?;
+        Ok(degree)
+    }
+
+    // The constraints by their places.
+    pub(crate) fn into_places(self) -> Places
+        ensures { result ≡ map Some self }
+    {
+        self.places
+    }
+}

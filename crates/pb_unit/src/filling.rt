@@ -1,0 +1,192 @@
+//! The index of the first constraints, a range of literals at a time, so that what is written lies close together.
+ghost use Rattle.std.specs.Prelude.{◌≡◌, ◌≤◌, ◌<◌, ◌+◌, ◌*◌, [], ◌∷◌, ◌++◌, map, length, All, IfOk};
+ghost use Rattle.std.specs.Bool.{OnTrue};
+ghost use Rattle.pb_base.specs.declared.literal.Lit.{Lit};
+ghost use Rattle.pb_norm.specs.Constraints.{weighted, weights};
+ghost use Rattle.pb_unit.specs.Filling.{terms_in, AddsPlace, AddsTerm, AreNumbered, IsFilled, IsFilling, IsInRange};
+ghost use Rattle.pb_unit.specs.Index.{code, list_at, size_of};
+ghost use Rattle.pb_unit.specs.Slots.{unit, slot_at, AreSlots, IsSlot};
+ghost use Rattle.pb_unit.specs.States.{StandWithin};
+
+use crate::index::{Index, code};
+use crate::places::{Places, Slot, part};
+use pb_base::{Lit, NoMemory, Term};
+use std::alloc::Global;
+
+// So many occurrences are written near each other, in so many ranges at most.
+const RANGE: usize = 2_097_152;
+
+const MOST_RANGES: usize = 16;
+
+// How many terms have each literal with the coefficient 1, by the literals' numbers.
+fn counts_of(alloc: Global, vars: u32, places: &Places) -> Result<Vec<u32>, NoMemory>
+    ensures { IfOk result (λ v. length v.items ≡ 2 * vars + 2) }
+{
+    let mut counts: Vec<u32> = vec![in alloc; 0; 2 * vars as usize + 2]?;
+    places.count_units(&mut counts);
+    Ok(counts)
+}
+
+// No occurrences yet, with room for those of what stands.
+pub(crate) fn empty_index(alloc: Global, vars: u32, places: &Places) -> Result<Index, NoMemory>
+    ensures size { IfOk result (λ lists. size_of lists ≡ 2 * vars + 2) }
+    ensures empty { IfOk result (λ lists. (l : Lit) → list_at lists l ≡ []) }
+{
+    let counts = counts_of(alloc, vars, places)?;
+    Index::new(alloc, &counts)
+}
+
+// Counts one more occurrence of a literal.
+fn count_lit(lit: &Lit, counts: &mut [u32]) {
+    if let Some(count) = counts.get_mut(code(lit)) {
+        *count = count.saturating_add(1);
+    }
+}
+
+// Counts literals.
+pub(crate) fn count_lits(lits: &[Lit], counts: &mut [u32]) {
+    for lit in lits {
+        count_lit(lit, counts);
+    }
+}
+
+// Counts the literals of the terms with the coefficient 1.
+pub(crate) fn count_terms(terms: &[Term], counts: &mut [u32]) {
+    for term in terms {
+        if term.weight() == 1 {
+            count_lit(&term.lit, counts);
+        }
+    }
+}
+
+// A term at a place, if its literal is in the range and there is memory.
+fn enter_term(
+    alloc: Global,
+    lists: &mut Index,
+    place: usize,
+    lit: &Lit,
+    coef: u128,
+    low: usize,
+    high: usize,
+) -> bool
+    requires { code lit.now < size_of lists.old }
+    ensures size { size_of lists.new ≡ size_of lists.old }
+    ensures added { OnTrue result (AddsTerm low high place (record { coef = coef; lit = lit.now }) lists.old lists.new) }
+{
+    let number = code(lit);
+    if number < low || number >= high {
+        return true;
+    }
+    lists.push(alloc, lit, place, coef)
+}
+
+// The literals of a clause at a place, as far as they are in the range.
+fn enter_clause(
+    alloc: Global,
+    lists: &mut Index,
+    place: usize,
+    lits: &[Lit],
+    low: usize,
+    high: usize,
+) -> bool
+    requires { All (λ l. code l < size_of lists.old) lits.now }
+    ensures size { size_of lists.new ≡ size_of lists.old }
+    ensures added { OnTrue result (AddsPlace low high place (map unit lits.now) lists.old lists.new) }
+{
+    for lit in lits {
+        if !enter_term(alloc, lists, place, lit, 1, low, high) {
+            return false;
+        }
+    }
+    true
+}
+
+// The terms of a constraint at a place, as far as their literals are in the range.
+fn enter_terms(
+    alloc: Global,
+    lists: &mut Index,
+    place: usize,
+    terms: &[Term],
+    low: usize,
+    high: usize,
+) -> bool
+    requires { AreNumbered lists.old (weights terms.now) }
+    ensures size { size_of lists.new ≡ size_of lists.old }
+    ensures added { OnTrue result (AddsPlace low high place (weights terms.now) lists.old lists.new) }
+{
+    for term in terms {
+        if !enter_term(alloc, lists, place, &term.lit, term.weight(), low, high) {
+            return false;
+        }
+    }
+    true
+}
+
+// What stands at a place, as far as its literals are in the range.
+fn enter_slot(
+    alloc: Global,
+    lists: &mut Index,
+    place: usize,
+    slot: &Slot,
+    lits: &[Lit],
+    low: usize,
+    high: usize,
+) -> bool
+    requires slot { IsSlot (length lits.now) slot.now }
+    requires numbered { AreNumbered lists.old (terms_in (slot_at lits.now slot.now)) }
+    ensures size { size_of lists.new ≡ size_of lists.old }
+    ensures added { OnTrue result (AddsPlace low high place (terms_in (slot_at lits.now slot.now)) lists.old lists.new) }
+{
+    match slot {
+        Slot::Clause { start, len } => {
+            enter_clause(alloc, lists, place, part(lits, *start, *len), low, high)
+        }
+        Slot::General(alone) => match alone.first() {
+            Some(constraint) => enter_terms(alloc, lists, place, constraint.terms(), low, high),
+            None => true,
+        },
+        Slot::Empty => true,
+    }
+}
+
+// All that stands, as far as its literals are in the range.
+pub(crate) fn fill_range(
+    alloc: Global,
+    lists: &mut Index,
+    slots: &[Slot],
+    lits: &[Lit],
+    low: usize,
+    high: usize,
+) -> bool
+    requires slots { AreSlots (length lits.now) slots.now }
+    requires numbered { All (λ s. AreNumbered lists.old (terms_in (slot_at lits.now s))) slots.now }
+    requires empty { (l : Lit) → IsInRange low high l → list_at lists.old l ≡ [] }
+    ensures { OnTrue result (IsFilling low high lists.old lists.new (map terms_in (map (slot_at lits.now) slots.now))) }
+{
+    for place in 0..slots.len() {
+        if !enter_slot(alloc, lists, place, &slots[place], lits, low, high) {
+            return false;
+        }
+    }
+    true
+}
+
+// All that stands, if there is memory.
+pub(crate) fn fill(alloc: Global, places: &Places, lists: &mut Index, vars: u32) -> bool
+    requires within { StandWithin vars places.now }
+    requires width { size_of lists.old ≡ 2 * vars + 2 }
+    requires empty { (l : Lit) → list_at lists.old l ≡ [] }
+    ensures { OnTrue result (IsFilled vars places.now lists.new) }
+{
+    let size = 2 * vars as usize + 2;
+    let step = size / (lists.room() / RANGE + 1).min(MOST_RANGES) + 1;
+    let mut low = 0;
+    while low < size {
+        let high = low + step;
+        if !places.fill(alloc, lists, vars, low, high) {
+            return false;
+        }
+        low = high;
+    }
+    true
+}
