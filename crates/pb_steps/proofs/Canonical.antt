@@ -107,7 +107,7 @@ variable_written v ok = record { spells = index_printed true v ok; some = omega 
 weakened_written : (v : ℕ) → IsVariable v → IsWritten (weakened v)
 weakened_written v ok = record { spells = (true, index_printed true v ok); some = omega arith; black = variable_black v ok }
 
-abbrev AllWritten : List StepSymbol → Type 0
+abbrev pub AllWritten : List StepSymbol → Type 0
 AllWritten ks = AllByRecursion IsWritten ks
 
 written_both : (ks ls : List StepSymbol) → AllWritten ks → AllWritten ls → AllWritten (ks ++ ls)
@@ -149,7 +149,7 @@ sets_written above (s ∷ sets) ok =
     let low : 1 ≤ s.var = omega (arith, ok.0) in
     (variable_written s.var (low, ok.1), (certain 45 (62 ∷ []) refl, (bit_written s.value, sets_written s.var sets ok.2)))
 
-step_written : (s : Step) → IsSayable s → AllWritten (step_symbols s)
+pub step_written : (s : Step) → IsSayable s → AllWritten (step_symbols s)
 step_written Blank ok = tt
 step_written Head ok = (certain 112 _ refl, (certain 100 _ refl, (certain 112 _ refl, (certain 49 _ refl, tt))))
 step_written (Loaded n) ok = (certain 102 _ refl, (number_written n ok, tt))

@@ -26,3 +26,4 @@ pub mod Spelling
 pub mod Written
 pub mod Sizes
 pub mod WordText
+pub mod Unbroken

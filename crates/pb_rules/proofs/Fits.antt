@@ -1,0 +1,191 @@
+-- Constraints on a stack keep their room and their variables.
+use Rattle.std.proofs.Common.{◌≡◌, ◌≤◌, ◌<◌, ◌+◌, ℕ, zero, suc, ltb, length, get_or, drop, drop-cons, List, [], ◌∷◌, ◌++◌, Bool, true, false, cond, arith, refl, ap, sym, ◌∙◌, subst, Option, Some, None, reverse}
+use Rattle.std.specs.Prelude.{All, map, flat_map, unsigned_abs, option_and_then, option_map}
+use Rattle.std.specs.Option.{option_or}
+use Rattle.std.proofs.lemmas.Bool.{ltb-false, false≢true, true≢false}
+use Rattle.std.proofs.lemmas.List.{reverse-append}
+use Rattle.std.proofs.lemmas.List.Elements.{All-nil, All-cons, All-head, All-tail, All-map, All-filter, All-weaker}
+use Rattle.pb_base.specs.declared.literal.Lit.{Lit}
+use Rattle.pb_base.proofs.Members.{All-append_both}
+use Rattle.pb_norm.specs.Constraints.{Weighted, Constraint}
+use Rattle.pb_norm.specs.Addition.{sum_of}
+use Rattle.pb_norm.specs.Halves.{is_positive}
+use Rattle.pb_norm.specs.Reduction.{cut_to}
+use Rattle.pb_norm.proofs.Variables.{joined-vars}
+use Rattle.pb_norm.specs.Constraints.{HasVarsWithin}
+use Rattle.pb_steps.specs.declared.denied.Denied.{Denied}
+use Rattle.pb_steps.specs.declared.denied.Denied.TheVariants.{Width, Stack, UnknownVar}
+use Rattle.pb_steps.specs.declared.op.PolOp.{PolOp}
+use Rattle.pb_steps.specs.declared.op.PolOp.TheVariants.{Push, Axiom, Add, Mul, Div, Saturate, Weaken}
+use Rattle.pb_steps.specs.declared.step.Step.TheVariants.{Pol}
+use Rattle.pb_steps.specs.Steps.{vars_of_op, IsSpelled}
+use Rattle.pb_steps.specs.Operations.{is_narrow, IsNarrow, axiom_of, multiple, scaled, division, shrunk, saturation, weakening, is_other}
+use Rattle.pb_steps.specs.Database.{Entry, Database, constraint_at, grown}
+use Rattle.pb_steps.specs.Stacks.{after_ops, with_room, is_stacked}
+use Rattle.pb_steps.specs.Allowed.{Allowed}
+use Rattle.pb_steps.specs.Denials.{seen_denial, width, unknown_var, unknown_id}
+use Rattle.pb_steps.specs.Denials as denials
+use Rattle.pb_steps.proofs.Searching.{none-some, from_unless-none, from_find-none, from_map-none}
+use Rattle.pb_steps.proofs.Heights.{one_left}
+use Rattle.pb_rules.specs.laws.Sound.{IsSound}
+use Rattle.pb_rules.specs.laws.Tops.{done_op, IsSoundConstraint, AreSoundConstraints, IsOutcome}
+use Rattle.pb_rules.specs.laws.Early.{early}
+use Rattle.pb_rules.proofs.Withins.{at-sound}
+use Rattle.pb_rules.proofs.Seen.{by_elimination}
+
+abbrev Within : ℕ → Weighted → Type 0
+Within vars t = t.lit.var ≤ vars
+
+room-fit : (vars : ℕ) (c : Constraint) (stack after : List Constraint) → HasVarsWithin vars c.terms → AreSoundConstraints vars stack → with_room (c ∷ stack) ≡ Some after → AreSoundConstraints vars after
+room-fit vars c stack after within fit e = test (is_narrow c) refl e where
+  test : (b : Bool) → is_narrow c ≡ b → cond {A = Option (List Constraint)} b (Some (c ∷ stack)) None ≡ Some after → AreSoundConstraints vars after
+  test true narrow f = let same : c ∷ stack ≡ after = cc in subst (AreSoundConstraints vars) same (All-cons (IsSoundConstraint vars) c stack (record { narrow = narrow; within = within }) fit)
+  test false narrow f = absurd (none-some after f)
+
+-- an operation keeps them
+pub done-fit : (vars : ℕ) (live : List Entry) (op : PolOp) (stack after : List Constraint) → All (IsSound vars) live → All (λ v. v ≤ vars) (vars_of_op op) → AreSoundConstraints vars stack → done_op live op stack ≡ Some after → AreSoundConstraints vars after
+done-fit vars live (Push id) stack after sound known fit e = look (constraint_at live id) refl e where
+  look : (o : Option Constraint) → constraint_at live id ≡ o → option_and_then with_room (option_map (λ (c : Constraint). c ∷ stack) o) ≡ Some after → AreSoundConstraints vars after
+  look None f g = absurd (none-some after g)
+  look (Some c) f g = room-fit vars c stack after (at-sound vars live id c sound f).1 fit g
+done-fit vars live (Axiom l) stack after sound known fit e =
+    room-fit vars (axiom_of l) stack after (All-cons (Within vars) (record { coef = 1; lit = l }) [] (All-head (λ v. v ≤ vars) l.var [] known) (All-nil (Within vars))) fit e
+done-fit vars live Add [] after sound known fit e = absurd (none-some after e)
+done-fit vars live Add (d ∷ []) after sound known fit e = absurd (none-some after e)
+done-fit vars live Add (d ∷ c ∷ stack) after sound known fit e =
+    let rest = All-tail (IsSoundConstraint vars) d (c ∷ stack) fit in
+    room-fit vars (sum_of c d) stack after
+    (joined-vars (λ v. v ≤ vars) c.terms d.terms (All-head (IsSoundConstraint vars) c stack rest).within (All-head (IsSoundConstraint vars) d (c ∷ stack) fit).within)
+    (All-tail (IsSoundConstraint vars) c stack rest) e
+done-fit vars live (Mul n) [] after sound known fit e = absurd (none-some after e)
+done-fit vars live (Mul n) (c ∷ stack) after sound known fit e =
+    room-fit vars (multiple (unsigned_abs n) c) stack after (All-map (Within vars) (scaled (unsigned_abs n)) c.terms (All-head (IsSoundConstraint vars) c stack fit).within) (All-tail (IsSoundConstraint vars) c stack fit) e
+done-fit vars live (Div n) [] after sound known fit e = absurd (none-some after e)
+done-fit vars live (Div n) (c ∷ stack) after sound known fit e =
+    room-fit vars (division (unsigned_abs n) c) stack after (All-map (Within vars) (shrunk (unsigned_abs n)) c.terms (All-head (IsSoundConstraint vars) c stack fit).within) (All-tail (IsSoundConstraint vars) c stack fit) e
+done-fit vars live Saturate [] after sound known fit e = absurd (none-some after e)
+done-fit vars live Saturate (c ∷ stack) after sound known fit e =
+    room-fit vars (saturation c) stack after (All-filter is_positive (Within vars) (map (cut_to c.degree) c.terms) (All-map (Within vars) (cut_to c.degree) c.terms (All-head (IsSoundConstraint vars) c stack fit).within)) (All-tail (IsSoundConstraint vars) c stack fit) e
+done-fit vars live (Weaken v) [] after sound known fit e = absurd (none-some after e)
+done-fit vars live (Weaken v) (c ∷ stack) after sound known fit e =
+    room-fit vars (weakening v c) stack after (All-filter (is_other v) (Within vars) c.terms (All-head (IsSoundConstraint vars) c stack fit).within) (All-tail (IsSoundConstraint vars) c stack fit) e
+
+pub after_ops-fit : (vars : ℕ) (live : List Entry) (ops : List PolOp) (stack after : List Constraint) → All (IsSound vars) live → All (λ v. v ≤ vars) (flat_map vars_of_op ops) → AreSoundConstraints vars stack → after_ops live ops stack ≡ Some after → AreSoundConstraints vars after
+after_ops-fit vars live [] stack after sound known fit e = let same : stack ≡ after = cc in subst (AreSoundConstraints vars) same fit
+after_ops-fit vars live (op ∷ ops) stack after sound known fit e =
+    let parts = All-append_both (λ v. v ≤ vars) (vars_of_op op) (flat_map vars_of_op ops) known in
+    step (done_op live op stack) (λ next f. done-fit vars live op stack next sound parts.0 fit f) (λ next g h. after_ops-fit vars live ops next after sound parts.1 h g) refl e
+  where
+    step : (o : Option (List Constraint)) → ((next : List Constraint) → done_op live op stack ≡ Some next → AreSoundConstraints vars next) → ((next : List Constraint) → after_ops live ops next ≡ Some after → AreSoundConstraints vars next → AreSoundConstraints vars after) →
+        done_op live op stack ≡ o → option_and_then (after_ops live ops) o ≡ Some after → AreSoundConstraints vars after
+    step None one rest f g = absurd (none-some after g)
+    step (Some next) one rest f g = rest next g (one next f)
+
+pub narrow-fit : (vars : ℕ) (stack : List Constraint) → AreSoundConstraints vars stack → All IsNarrow stack
+narrow-fit vars stack fit = All-weaker (IsSoundConstraint vars) IsNarrow (λ c h. h.narrow) stack fit
+
+-- ---- the topmost of a list that is kept from the bottom
+
+pub reverse_top : {X : Type 0} (old new : List X) (x : X) → old ≡ new ++ x ∷ [] → reverse old ≡ x ∷ reverse new
+reverse_top old new x e = ap reverse e ∙ reverse-append new (x ∷ [])
+
+pub top_has : {X : Type 0} (P : X → Type 0) (old new : List X) (x : X) → old ≡ new ++ x ∷ [] → All P (reverse old) → P x
+top_has P old new x e h = All-head P x (reverse new) (subst (All P) (reverse_top old new x e) h)
+
+pub only_top : {X : Type 0} (old new : List X) (x y : X) → old ≡ new ++ x ∷ [] → reverse old ≡ y ∷ [] → reverse old ≡ x ∷ []
+only_top {X} old new x y e f =
+    let both : x ∷ reverse new ≡ y ∷ [] = sym (reverse_top old new x e) ∙ f in
+    let same : y ≡ x = cc in
+    f ∙ ap (λ (z : X). z ∷ []) same
+
+-- ---- the causes of a denial in their order
+
+abbrev in_order : Option Denied → Option Denied → Option Denied → Option Denied → Option Denied
+in_order o p q w = option_or o (option_or p (option_or q (option_or w None)))
+
+ordered : (o p q w : Option Denied) → in_order o p q w ≡ option_or (option_or o (option_or p q)) w
+ordered (Some d) p q w = refl
+ordered None (Some d) q w = refl
+ordered None None (Some d) w = refl
+ordered None None None (Some d) = refl
+ordered None None None None = refl
+
+seen_denial-pol : (db : Database) (ops : List PolOp) (clause : Option (List Lit)) → seen_denial db (Pol ops) clause ≡ option_or (early db ops) (width db (Pol ops))
+seen_denial-pol db ops clause = ordered (unknown_var db (Pol ops)) (unknown_id db (Pol ops)) (denials.stack (Pol ops)) (width db (Pol ops))
+
+pub seen_denial-early : (db : Database) (ops : List PolOp) (clause : Option (List Lit)) (d : Denied) → Some d ≡ early db ops → seen_denial db (Pol ops) clause ≡ Some d
+seen_denial-early db ops clause d e = seen_denial-pol db ops clause ∙ rw (← e) refl
+
+pub seen_denial-width : (db : Database) (ops : List PolOp) (clause : Option (List Lit)) → None ≡ early db ops → after_ops db.live ops [] ≡ None → seen_denial db (Pol ops) clause ≡ Some Width
+seen_denial-width db ops clause e f = seen_denial-pol db ops clause ∙ rw (← e, f) refl
+
+pub seen_denial-no_width : (db : Database) (ops : List PolOp) (clause : Option (List Lit)) (stack : List Constraint) → None ≡ early db ops → after_ops db.live ops [] ≡ Some stack → seen_denial db (Pol ops) clause ≡ None
+seen_denial-no_width db ops clause stack e f = seen_denial-pol db ops clause ∙ rw (← e, f) refl
+
+or-parts : (o p : Option Denied) → option_or o p ≡ None → (o ≡ None) × (p ≡ None)
+or-parts None p e = (refl, e)
+or-parts (Some d) p e = absurd (none-some d (sym e))
+
+pub early-vars : (db : Database) (ops : List PolOp) → None ≡ early db ops → All (λ v. v ≤ db.vars) (flat_map vars_of_op ops)
+early-vars db ops e =
+    let row : unknown_var db (Pol ops) ≡ None = (or-parts (unknown_var db (Pol ops)) (option_or (unknown_id db (Pol ops)) (denials.stack (Pol ops))) (sym e)).0 in
+    All-weaker (λ v. ltb db.vars v ≡ false) (λ v. v ≤ db.vars) (λ v h. ltb-false db.vars v h) (flat_map vars_of_op ops) (from_find-none (λ v. ltb db.vars v) (flat_map vars_of_op ops) (from_map-none UnknownVar _ row))
+
+pub early-stacked : (db : Database) (ops : List PolOp) → None ≡ early db ops → is_stacked ops ≡ true
+early-stacked db ops e =
+    let rest = (or-parts (unknown_var db (Pol ops)) (option_or (unknown_id db (Pol ops)) (denials.stack (Pol ops))) (sym e)).1 in
+    let row : denials.stack (Pol ops) ≡ None = (or-parts (unknown_id db (Pol ops)) (denials.stack (Pol ops)) rest).1 in
+    from_unless-none (is_stacked ops) Stack row
+
+-- ---- the step as a whole
+
+-- the operations leave this constraint alone
+pub record IsOneLeft (db : Database) (ops : List PolOp) (c : Constraint) : Type 0 where
+  pub unseen : None ≡ early db ops
+  pub alone : after_ops db.live ops [] ≡ Some (c ∷ [])
+
+pub left_from : (db : Database) (ops : List PolOp) (old new : List Constraint) (x : Constraint) → None ≡ early db ops → after_ops db.live ops [] ≡ Some (reverse old) → old ≡ new ++ x ∷ [] → IsOneLeft db ops x
+left_from db ops old new x e f g =
+    let one = one_left db.live ops (reverse old) (early-stacked db ops e) f in
+    record { unseen = e; alone = f ∙ ap (λ (s : List Constraint). Some s) (only_top old new x one.0 g one.1) }
+
+pub left-fit : (db : Database) (ops : List PolOp) (c : Constraint) → All (IsSound db.vars) db.live → IsOneLeft db ops c → IsSoundConstraint db.vars c
+left-fit db ops c sound h =
+    All-head (IsSoundConstraint db.vars) c [] (after_ops-fit db.vars db.live ops [] (c ∷ []) sound (early-vars db ops h.unseen) (All-nil (IsSoundConstraint db.vars)) h.alone)
+
+pub left-allowed : (db : Database) (ops : List PolOp) (c : Constraint) (clause : Option (List Lit)) → IsSpelled (Pol ops) → IsOneLeft db ops c → Allowed db (Pol ops) clause (grown db c)
+left-allowed db ops c clause spelled h =
+    let found = by_elimination db (Pol ops) clause tt spelled (seen_denial-no_width db ops clause (c ∷ []) h.unseen h.alone) (λ d by. by) in
+    let sum = found.1.rule.sum in
+    let both : Some (sum ∷ []) ≡ Some (c ∷ []) = sym found.1.rule.result ∙ h.alone in
+    let same : sum ≡ c = cc in
+    subst (Allowed db (Pol ops) clause) (found.1.rule.after ∙ ap (grown db) same) found.1
+
+-- nothing is left where something was
+pub no_one_left : (db : Database) (ops : List PolOp) (old : List Constraint) → None ≡ early db ops → after_ops db.live ops [] ≡ Some (reverse old) → old ≡ [] → ⊥
+no_one_left db ops old e f g =
+    let one = one_left db.live ops (reverse old) (early-stacked db ops e) f in
+    let none : [] ≡ one.0 ∷ [] = sym (ap reverse g) ∙ one.1 in
+    cc
+
+-- ---- steps of loops
+
+pub outcome_true : (done : Bool) (after : Option (List Constraint)) (stack : List Constraint) → done ≡ true → IsOutcome done after stack → after ≡ Some stack
+outcome_true true after stack e h = h
+outcome_true false after stack e h = absurd (false≢true e)
+
+pub outcome_false : (done : Bool) (after : Option (List Constraint)) (stack : List Constraint) → done ≡ false → IsOutcome done after stack → after ≡ None
+outcome_false false after stack e h = h
+outcome_false true after stack e h = absurd (true≢false e)
+
+pub ops_more : (live : List Entry) (ops : List PolOp) (i : ℕ) (op : PolOp) (before after : List Constraint) → i < length ops → op ≡ get_or ops i op → done_op live op before ≡ Some after →
+    after_ops live (drop i ops) before ≡ after_ops live (drop (i + 1) ops) after
+ops_more live ops i op before after below at e =
+    let next : suc i ≡ i + 1 = omega arith in
+    let parts : drop i ops ≡ op ∷ drop (i + 1) ops = drop-cons ops i op below ∙ (ap (λ (x : PolOp). x ∷ drop (suc i) ops) (sym at) ∙ ap (λ (k : ℕ). op ∷ drop k ops) next) in
+    ap (λ (xs : List PolOp). after_ops live xs before) parts ∙ ap (option_and_then (after_ops live (drop (i + 1) ops))) e
+
+pub flat-at : {X Y : Type 0} (P : Y → Type 0) (f : X → List Y) (xs : List X) (i : ℕ) (d : X) → All P (flat_map f xs) → i < length xs → All P (f (get_or xs i d))
+flat-at P f [] i d h below = absurd (omega arith)
+flat-at P f (x ∷ xs) zero d h below = (All-append_both P (f x) (flat_map f xs) h).0
+flat-at P f (x ∷ xs) (suc i) d h below = flat-at P f xs i d (All-append_both P (f x) (flat_map f xs) h).1 (omega arith)

@@ -1,0 +1,216 @@
+-- The lists of ids by variables.
+use Rattle.std.proofs.Common.{◌≡◌, ◌≤◌, ◌<◌, ◌+◌, ◌⊎◌, inl, inr, ℕ, zero, suc, Bool, true, false, List, [], ◌∷◌, ◌++◌, Some, arith, length, get_or, set, take, refl, ap, sym, ◌∙◌, subst, eqb, cond}
+use Rattle.std.specs.Prelude.{All, Contains, IsTrue, not, is_none, ◌||◌}
+use Rattle.std.specs.List.{list_any, dedup}
+use Rattle.std.specs.List.Sorted.{IsPermutation}
+use Rattle.std.proofs.lemmas.List.Kept.{Contains-dedup_nat}
+use Rattle.std.proofs.lemmas.List.Sorted.{Contains-permutation}
+use Rattle.std.proofs.lemmas.Bool.{cases_eq, eqb-true, eq-eqb, false≢true}
+use Rattle.std.proofs.lemmas.List.{get_or-set_same, get_or-set_other, length-set, length-take-le}
+use Rattle.std.proofs.lemmas.List.Folds.{Any-from_list_any}
+use Rattle.std.proofs.lemmas.List.Elements.{All-contains, Contains-append_left, Contains-append_right, All-map}
+use Rattle.pb_base.proofs.Members.{Contains-here, Contains-there, Contains-nil}
+use Rattle.pb_base.specs.declared.literal.Term.{Term}
+use Rattle.pb_norm.specs.Constraints.{Weighted, Constraint, weighted, weights, HasVarsWithin, AreVarsWithin}
+use Rattle.pb_steps.specs.declared.op.Set.{Set}
+use Rattle.pb_steps.specs.Steps.{vars_of_sets}
+use Rattle.pb_steps.specs.Database.{Entry}
+use Rattle.pb_steps.specs.Substitutions.{names_set, set_value, is_unset}
+use Rattle.pb_rules.specs.Naming.{is_of, names_var}
+use Rattle.pb_rules.specs.declared.slots.Slot.{Slot}
+use Rattle.pb_rules.specs.laws.Slots.{hole, whole, placed_from, slot_at, slot_of, slots_without, marked_slots, entries_from}
+use Rattle.pb_rules.specs.laws.Indexed.{ids_at, IsIndexed, KeepsIds, HasNamed, HasNaming}
+use Rattle.pb_unit.proofs.Standing.{read_as}
+use Rattle.pb_rules.proofs.SlotLemmas.{constraint_at-slot, placed_more, length-placed_from}
+use Rattle.pb_rules.proofs.Withins.{All-unmap}
+use Rattle.pb_rules.proofs.Mirroring.{slot_at-push, slot_at-push_other, slot_at-set, slot_at-set_other, marked-constraint}
+
+-- ---- one more id
+
+abbrev with_id : List (List ℕ) → ℕ → ℕ → List (List ℕ)
+with_id lists var id = set lists var (ids_at lists var ++ id ∷ [])
+
+with_id-keeps : (lists : List (List ℕ)) (var id : ℕ) → KeepsIds lists (with_id lists var id)
+with_id-keeps lists var id = record { size = length-set lists var (ids_at lists var ++ id ∷ []); more = more }
+  where
+    here : (k : ℕ) → Contains (ids_at lists var) k → Contains (ids_at (with_id lists var id) var) k
+    here k h = elim (cases_below lists var) [
+      | inl below ↦ subst (λ (ks : List ℕ). Contains ks k) (sym (get_or-set_same lists var (ids_at lists var ++ id ∷ []) [] below)) (Contains-append_left (ids_at lists var) (id ∷ []) k h)
+      | inr past ↦ absurd (Contains-nil k (subst (λ (ks : List ℕ). Contains ks k) past h))
+    ]
+      where
+        cases_below : (lists : List (List ℕ)) (v : ℕ) → (v < length lists) ⊎ (ids_at lists v ≡ [])
+        cases_below [] zero = inr refl
+        cases_below [] (suc v) = inr refl
+        cases_below (xs ∷ lists) zero = inl (omega arith)
+        cases_below (xs ∷ lists) (suc v) = elim (cases_below lists v) [ inl h ↦ inl (omega (arith, h)) | inr e ↦ inr e ]
+
+    more : (v k : ℕ) → Contains (ids_at lists v) k → Contains (ids_at (with_id lists var id) v) k
+    more v k h = elim (cases_eq v var) [
+      | inl e ↦ subst (λ (w : ℕ). Contains (ids_at (with_id lists var id) w) k) (sym e) (here k (subst (λ (w : ℕ). Contains (ids_at lists w) k) e h))
+      | inr ne ↦ subst (λ (ks : List ℕ). Contains ks k) (sym (get_or-set_other lists var v (ids_at lists var ++ id ∷ []) [] ne)) h
+    ]
+
+pub keeps_with : (lists after : List (List ℕ)) (var id : ℕ) → after ≡ with_id lists var id → KeepsIds lists after
+keeps_with lists after var id e = subst (KeepsIds lists) (sym e) (with_id-keeps lists var id)
+
+pub has_with : (lists after : List (List ℕ)) (var id : ℕ) → var < length lists → after ≡ with_id lists var id → Contains (ids_at after var) id
+has_with lists after var id below e =
+    subst (λ (ks : List ℕ). Contains ks id) (sym (ap (λ (ls : List (List ℕ)). ids_at ls var) e ∙ get_or-set_same lists var (ids_at lists var ++ id ∷ []) [] below)) (Contains-append_right (ids_at lists var) (id ∷ []) id (Contains-here id []))
+
+pub keeps_ids_same : (lists after : List (List ℕ)) → after ≡ lists → KeepsIds lists after
+keeps_ids_same lists after e = subst (KeepsIds lists) (sym e) (record { size = refl; more = λ v k h. h })
+
+pub keeps_ids_again : (first mid last : List (List ℕ)) → KeepsIds first mid → KeepsIds mid last → KeepsIds first last
+keeps_ids_again first mid last h k = record { size = k.size ∙ h.size; more = λ v id m. k.more v id (h.more v id m) }
+
+-- ---- the variables of terms
+
+pub term-below : (ts : List Term) (n k : ℕ) (t : Term) → All (λ t. t.lit.var < n) (weights ts) → k < length ts → t ≡ get_or ts k t → t.lit.var < n
+term-below ts n k t h below at =
+    let all = All-unmap {X = Term} {Y = Weighted} (λ t. t.lit.var < n) weighted ts h in
+    subst (λ (x : Term). x.lit.var < n) (sym at) (all k t below)
+
+abbrev AddedTo : List (List ℕ) → List Term → ℕ → ℕ → Type 0
+AddedTo lists ts id i = (k : ℕ) (d : Term) → k < i → Contains (ids_at lists (get_or ts k d).lit.var) id
+
+pub added_more : (ts : List Term) (id i : ℕ) (t : Term) (var : ℕ) (lists after : List (List ℕ)) → i < length ts → t ≡ get_or ts i t → var ≡ t.lit.var → KeepsIds lists after → Contains (ids_at after var) id → AddedTo lists ts id i → AddedTo after ts id (i + 1)
+added_more ts id i t var lists after below at same kept here h k d low = elim (cases_eq k i) [
+  | inl e ↦
+      let own : get_or ts i d ≡ t = read_as ts i t d below at in
+      let found : var ≡ (get_or ts k d).lit.var = same ∙ ap (λ (x : Term). x.lit.var) (sym own) ∙ ap (λ (j : ℕ). (get_or ts j d).lit.var) (sym e) in
+      subst (λ (v : ℕ). Contains (ids_at after v) id) found here
+  | inr ne ↦ kept.more (get_or ts k d).lit.var id (h k d (omega (arith, ne, low)))
+]
+
+pub all_added : (ts : List Term) (id i : ℕ) (lists : List (List ℕ)) → length ts ≤ i → AddedTo lists ts id i → All (λ t. Contains (ids_at lists t.lit.var) id) (weights ts)
+all_added ts id i lists past h = All-map {X = Weighted} (λ t. Contains (ids_at lists t.lit.var) id) weighted ts (λ k d below. h k d (omega (arith, below, past)))
+
+-- ---- what is indexed
+
+pub indexed-kept : (vars : ℕ) (ss : List Slot) (lists after : List (List ℕ)) → KeepsIds lists after → IsIndexed vars ss lists → IsIndexed vars ss after
+indexed-kept vars ss lists after k h = record { size = k.size ∙ h.size; complete = λ id v named. k.more v id (h.complete id v named) }
+
+-- the same constraints
+pub indexed-same : (vars : ℕ) (ss ss' : List Slot) (lists : List (List ℕ)) → ((k : ℕ) → (slot_at ss' k).constraint ≡ (slot_at ss k).constraint) → IsIndexed vars ss lists → IsIndexed vars ss' lists
+indexed-same vars ss ss' lists same h = record { size = h.size; complete = complete }
+  where
+    complete : (id v : ℕ) → names_var v (slot_of ss' id).constraint ≡ true → Contains (ids_at lists v) id
+    complete zero v named = absurd (false≢true named)
+    complete (suc k) v named = h.complete (suc k) v (ap (names_var v) (sym (same k)) ∙ named)
+
+pub indexed-marked : (vars id : ℕ) (ss ss' : List Slot) (lists : List (List ℕ)) → ss' ≡ marked_slots ss id → IsIndexed vars ss lists → IsIndexed vars ss' lists
+indexed-marked vars id ss ss' lists e h = subst (λ (ts : List Slot). IsIndexed vars ts lists) (sym e) (indexed-same vars ss (marked_slots ss id) lists (marked-constraint ss id) h)
+
+pub indexed-without : (vars id : ℕ) (ss ss' : List Slot) (lists : List (List ℕ)) → ss' ≡ slots_without ss id → IsIndexed vars ss lists → IsIndexed vars ss' lists
+indexed-without vars zero ss ss' lists e h = subst (λ (ts : List Slot). IsIndexed vars ts lists) (sym e) h
+indexed-without vars (suc k) ss ss' lists e h = subst (λ (ts : List Slot). IsIndexed vars ts lists) (sym e) (record { size = h.size; complete = complete })
+  where
+    complete : (id v : ℕ) → names_var v (slot_of (set ss k hole) id).constraint ≡ true → Contains (ids_at lists v) id
+    complete zero v named = absurd (false≢true named)
+    complete (suc j) v named = elim (cases_eq j k) [
+      | inl same ↦ absurd (false≢true (sym (ap (λ (s : Slot). names_var v s.constraint) (ap (slot_at (set ss k hole)) same ∙ slot_at-set ss k)) ∙ named))
+      | inr ne ↦ h.complete (suc j) v (ap (λ (s : Slot). names_var v s.constraint) (sym (slot_at-set_other ss k j ne)) ∙ named)
+    ]
+
+-- a term of the variable
+pub named-contains : (lists : List (List ℕ)) (v id : ℕ) (ts : List Weighted) → list_any (is_of v) ts ≡ true → All (λ t. Contains (ids_at lists t.lit.var) id) ts → Contains (ids_at lists v) id
+named-contains lists v id ts named all =
+    let found = Any-from_list_any (is_of v) ts named in
+    let here : Contains (ids_at lists (get_or ts found.0 found.1).lit.var) id = all found.0 found.1 found.2 in
+    let var : (get_or ts found.0 found.1).lit.var ≡ v = ap (λ (t : Weighted). t.lit.var) found.3 ∙ eqb-true found.1.lit.var v found.4 in
+    subst (λ (w : ℕ). Contains (ids_at lists w) id) var here
+
+pub indexed-pushed : (vars : ℕ) (ss ss' : List Slot) (lists : List (List ℕ)) (c : Constraint) (p id : ℕ) → ss' ≡ ss ++ whole c p ∷ [] → id ≡ length ss + 1 → All (λ t. Contains (ids_at lists t.lit.var) id) c.terms → IsIndexed vars ss lists → IsIndexed vars ss' lists
+indexed-pushed vars ss ss' lists c p id e is_next all h = subst (λ (ts : List Slot). IsIndexed vars ts lists) (sym e) (record { size = h.size; complete = complete })
+  where
+    complete : (i v : ℕ) → names_var v (slot_of (ss ++ whole c p ∷ []) i).constraint ≡ true → Contains (ids_at lists v) i
+    complete zero v named = absurd (false≢true named)
+    complete (suc k) v named = elim (cases_eq k (length ss)) [
+      | inl last ↦
+          let own : list_any (is_of v) c.terms ≡ true = ap (λ (s : Slot). names_var v s.constraint) (sym (ap (slot_at (ss ++ whole c p ∷ [])) last ∙ slot_at-push ss (whole c p))) ∙ named in
+          let same : id ≡ suc k = omega (arith, is_next, last) in
+          subst (Contains (ids_at lists v)) same (named-contains lists v id c.terms own all)
+      | inr ne ↦ h.complete (suc k) v (ap (λ (s : Slot). names_var v s.constraint) (sym (slot_at-push_other ss (whole c p) k ne)) ∙ named)
+    ]
+
+pub indexed-empty : (vars : ℕ) (lists : List (List ℕ)) → length lists ≡ vars + 1 → IsIndexed vars [] lists
+indexed-empty vars lists e = record { size = e; complete = complete }
+  where
+    complete : (id v : ℕ) → names_var v (slot_of [] id).constraint ≡ true → Contains (ids_at lists v) id
+    complete zero v named = absurd (false≢true named)
+    complete (suc zero) v named = absurd (false≢true named)
+    complete (suc (suc k)) v named = absurd (false≢true named)
+
+-- variables that there are have lists
+pub vars-below : (vars : ℕ) (n : ℕ) (ts : List Weighted) → n ≡ vars + 1 → All (λ t. t.lit.var ≤ vars) ts → All (λ t. t.lit.var < n) ts
+vars-below vars n ts e h = λ k d below. omega (arith, h k d below, e)
+
+-- ---- of a variable
+
+pub has_naming : (vars : ℕ) (ss : List Slot) (lists : List (List ℕ)) (v : ℕ) → IsIndexed vars ss lists → HasNaming (entries_from 1 ss) v (ids_at lists v)
+has_naming vars ss lists v h id named = h.complete id v (ap (names_var v) (sym (constraint_at-slot id ss)) ∙ named)
+
+-- ---- of the variables of a substitution
+
+set-var : (sets : List Set) (v : ℕ) → not (is_none (set_value sets v)) ≡ true → Contains (vars_of_sets sets) v
+set-var [] v e = absurd (false≢true e)
+set-var (s ∷ sets) v e = look (eqb s.var v) refl e (λ f. set-var sets v f) where
+  look : (b : Bool) → eqb s.var v ≡ b → not (is_none (cond b (Some s.value) (set_value sets v))) ≡ true → (not (is_none (set_value sets v)) ≡ true → Contains (vars_of_sets sets) v) → Contains (s.var ∷ vars_of_sets sets) v
+  look true f g later = subst (Contains (s.var ∷ vars_of_sets sets)) (eqb-true s.var v f) (Contains-here s.var (vars_of_sets sets))
+  look false f g later = Contains-there s.var (vars_of_sets sets) v (later g)
+
+-- a constraint with a set variable has one of the variables
+named-var : (sets : List Set) (c : Constraint) → IsTrue (names_set sets c) → (v : ℕ) × Contains (vars_of_sets sets) v × (names_var v (Some c) ≡ true)
+named-var sets c h = at c.terms h where
+  at : (ts : List Weighted) → list_any (λ t. not (is_unset sets t)) ts ≡ true → (v : ℕ) × Contains (vars_of_sets sets) v × (list_any (is_of v) ts ≡ true)
+  at [] e = absurd (false≢true e)
+  at (t ∷ ts) e = look (not (is_unset sets t)) refl e (λ f. at ts f) where
+    or_true : (b : Bool) → (b || true) ≡ true
+    or_true true = refl
+    or_true false = refl
+
+    look : (b : Bool) → not (is_unset sets t) ≡ b → (b || list_any (λ t. not (is_unset sets t)) ts) ≡ true →
+        (list_any (λ t. not (is_unset sets t)) ts ≡ true → (v : ℕ) × Contains (vars_of_sets sets) v × (list_any (is_of v) ts ≡ true)) → (v : ℕ) × Contains (vars_of_sets sets) v × (list_any (is_of v) (t ∷ ts) ≡ true)
+    look true f g later = (t.lit.var, set-var sets t.lit.var f, ap (λ (b : Bool). b || list_any (is_of t.lit.var) ts) (eq-eqb t.lit.var t.lit.var refl))
+    look false f g later =
+        let rest = later g in
+        (rest.0, rest.1, ap (λ (b : Bool). is_of rest.0 t || b) rest.2 ∙ or_true (is_of rest.0 t))
+
+pub has_named : (live : List Entry) (sets : List Set) (ids : List ℕ) → ((v : ℕ) → Contains (vars_of_sets sets) v → HasNaming live v ids) → HasNamed live sets ids
+has_named live sets ids h id c at is_named =
+    let found = named-var sets c is_named in
+    h found.0 found.1 id (ap (names_var found.0) at ∙ found.2)
+
+-- ---- constraints that are loaded
+
+pub loaded-at : (vars : ℕ) (loaded : List Constraint) (i : ℕ) (c : Constraint) → AreVarsWithin vars loaded → i < length loaded → c ≡ get_or loaded i c → HasVarsWithin vars c.terms
+loaded-at vars loaded i c h below at = subst (λ (x : Constraint). HasVarsWithin vars x.terms) (sym at) (h i c below)
+
+pub loaded_more : (vars : ℕ) (loaded : List Constraint) (i id : ℕ) (c : Constraint) (ts : List Weighted) (lists after : List (List ℕ)) → i < length loaded → c ≡ get_or loaded i c → id ≡ i + 1 → ts ≡ c.terms →
+    KeepsIds lists after → All (λ t. Contains (ids_at after t.lit.var) id) ts → IsIndexed vars (placed_from 0 (take i loaded)) lists → IsIndexed vars (placed_from 0 (take (i + 1) loaded)) after
+loaded_more vars loaded i id c ts lists after below at next terms kept added h =
+    let front = placed_from 0 (take i loaded) in
+    let count : id ≡ length front + 1 = omega (arith, next, length-placed_from 0 (take i loaded), length-take-le i loaded (omega (arith, below))) in
+    indexed-pushed vars front (placed_from 0 (take (i + 1) loaded)) after c i id (sym (placed_more loaded i c c front (front ++ whole c i ∷ []) below at refl refl refl)) count
+    (subst (λ (us : List Weighted). All (λ (t : Weighted). Contains (ids_at after t.lit.var) id) us) terms added) (indexed-kept vars front lists after kept h)
+
+-- ---- ids of all set variables
+
+pub sets_more : (live : List Entry) (sets : List Set) (i : ℕ) (s : Set) (before after : List ℕ) → i < length sets → s ≡ get_or sets i s → ((id : ℕ) → Contains before id → Contains after id) → HasNaming live s.var after →
+    ((k : ℕ) (d : Set) → k < i → HasNaming live (get_or sets k d).var before) → (k : ℕ) (d : Set) → k < i + 1 → HasNaming live (get_or sets k d).var after
+sets_more live sets i s before after below at kept here h k d low = elim (cases_eq k i) [
+  | inl e ↦
+      let own : s ≡ get_or sets k d = sym (read_as sets i s d below at) ∙ ap (λ (j : ℕ). get_or sets j d) (sym e) in
+      subst (λ (x : Set). HasNaming live x.var after) own here
+  | inr ne ↦ λ id named. kept id (h k d (omega (arith, ne, low)) id named)
+]
+
+pub sets_named : (live : List Entry) (sets : List Set) (i : ℕ) (ids : List ℕ) → length sets ≤ i → ((k : ℕ) (d : Set) → k < i → HasNaming live (get_or sets k d).var ids) → HasNamed live sets ids
+sets_named live sets i ids past h =
+    let all : All (λ v. HasNaming live v ids) (vars_of_sets sets) = All-map {X = ℕ} (λ v. HasNaming live v ids) (λ (s : Set). s.var) sets (λ k d below. h k d (omega (arith, below, past))) in
+    has_named live sets ids (λ v known. All-contains (λ v. HasNaming live v ids) (vars_of_sets sets) v all known)
+
+-- the same ids, in order and each once
+pub named_tidied : (live : List Entry) (sets : List Set) (xs ys : List ℕ) → IsPermutation xs ys → HasNamed live sets xs → HasNamed live sets (dedup eqb ys)
+named_tidied live sets xs ys moved h id c at is_named = Contains-dedup_nat ys id (Contains-permutation xs ys id moved (h id c at is_named))

@@ -1,0 +1,10 @@
+pub mod SlotLemmas
+pub mod Seen
+pub mod Withins
+pub mod Fits
+pub mod Obliged
+pub mod Mirroring
+pub mod Refuting
+pub mod Gone
+pub mod Indexing
+pub mod Least

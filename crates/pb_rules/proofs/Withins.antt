@@ -1,0 +1,89 @@
+-- The variables of what is made are within those that there are.
+use Rattle.std.proofs.Common.{◌≡◌, ◌≤◌, ℕ, ℤ, List, [], ◌∷◌, Bool, true, false, cond, arith, refl, sym, ◌∙◌, eqb, subst, Option, Some, None}
+use Rattle.std.specs.Prelude.{All, map, filter, filter_map}
+use Rattle.std.specs.List.{cons_option}
+use Rattle.std.proofs.lemmas.List.Elements.{All-nil, All-cons, All-head, All-tail, All-map, All-weaker, All-filter}
+use Rattle.pb_base.specs.declared.literal.Term.{Term}
+use Rattle.pb_norm.specs.Constraints.{Weighted, Constraint, weight}
+use Rattle.pb_norm.specs.Halves.{written}
+use Rattle.pb_norm.specs.Reduction.{opposite}
+use Rattle.pb_norm.proofs.Variables.{normal_terms-vars}
+use Rattle.pb_norm.proofs.WrittenForm.{normal_terms-weight, normal_degree-le}
+use Rattle.pb_operations.proofs.Parts.{narrow-from, weight-narrow, degree-narrow}
+use Rattle.pb_norm.specs.Constraints.{HasVarsWithin, AreVarsWithin}
+use Rattle.pb_steps.specs.Steps.{vars_of_terms}
+use Rattle.pb_steps.specs.Operations.{IsNarrow, negation}
+use Rattle.pb_steps.specs.Database.{Entry, constraint_at, live_constraints}
+use Rattle.pb_steps.specs.Allowed.{IsSlim, hinted, propagated, to_refute}
+use Rattle.std.proofs.lemmas.List.Sums.{sum_by-le-sum_by}
+use Rattle.pb_base.proofs.Sums.{sum_by-filter}
+use Rattle.pb_steps.specs.declared.op.Set.{Set}
+use Rattle.pb_steps.specs.Substitutions.{restriction, is_unset}
+use Rattle.pb_rules.specs.laws.Sound.{IsSound}
+
+abbrev WithinC : ℕ → Constraint → Type 0
+WithinC vars c = HasVarsWithin vars c.terms
+
+pub All-unmap : {X Y : Type 0} (P : Y → Type 0) (f : X → Y) (xs : List X) → All P (map f xs) → All (λ x. P (f x)) xs
+All-unmap P f [] h = All-nil (λ x. P (f x))
+All-unmap P f (x ∷ xs) h = All-cons (λ x. P (f x)) x xs (All-head P (f x) (map f xs) h) (All-unmap P f xs (All-tail P (f x) (map f xs) h))
+
+-- a written constraint over known variables, with room
+pub written-within : (vars : ℕ) (ts : List Term) (right : ℤ) → All (λ v. v ≤ vars) (vars_of_terms ts) → HasVarsWithin vars (written ts right).terms
+written-within vars ts right h = normal_terms-vars (λ v. v ≤ vars) ts (All-unmap {X = Term} (λ v. v ≤ vars) (λ t. t.lit.var) ts h)
+
+pub written-narrow : (ts : List Term) (right : ℤ) → IsSlim ts right → IsNarrow (written ts right)
+written-narrow ts right h = narrow-from (written ts right) (omega (arith, normal_terms-weight ts, h)) (omega (arith, normal_degree-le ts right, h))
+
+pub negation-within : (vars : ℕ) (c : Constraint) → HasVarsWithin vars c.terms → HasVarsWithin vars (negation c).terms
+negation-within vars c h = All-map {X = Weighted} (λ t. t.lit.var ≤ vars) opposite c.terms h
+
+-- what is found is of what stands
+pub at-sound : (vars : ℕ) (es : List Entry) (id : ℕ) (c : Constraint) → All (IsSound vars) es → constraint_at es id ≡ Some c → IsNarrow c × HasVarsWithin vars c.terms
+at-sound vars [] id c h e = absurd (cc)
+at-sound vars (x ∷ es) id c h e = test (eqb x.id id) (All-head (IsSound vars) x es h) e (at-sound vars es id c (All-tail (IsSound vars) x es h)) where
+  test : (b : Bool) → IsSound vars x → cond b (Some x.constraint) (constraint_at es id) ≡ Some c → (constraint_at es id ≡ Some c → IsNarrow c × HasVarsWithin vars c.terms) → IsNarrow c × HasVarsWithin vars c.terms
+  test true sound f rest =
+      let same : x.constraint ≡ c = cc in
+      (subst IsNarrow same sound.narrow, subst (WithinC vars) same sound.within)
+  test false sound f rest = rest f
+
+pub live-within : (vars : ℕ) (es : List Entry) → All (IsSound vars) es → AreVarsWithin vars (live_constraints es)
+live-within vars es h = All-map (WithinC vars) (λ (e : Entry). e.constraint) es (All-weaker (IsSound vars) (λ e. WithinC vars e.constraint) (λ e sound. sound.within) es h)
+
+listed-within : (vars : ℕ) (es : List Entry) (ids : List ℕ) → All (IsSound vars) es → AreVarsWithin vars (filter_map (constraint_at es) ids)
+listed-within vars es [] h = All-nil (WithinC vars)
+listed-within vars es (id ∷ ids) h = step (constraint_at es id) refl (listed-within vars es ids h) where
+  step : (o : Option Constraint) → constraint_at es id ≡ o → AreVarsWithin vars (filter_map (constraint_at es) ids) → AreVarsWithin vars (cons_option o (filter_map (constraint_at es) ids))
+  step None e rest = rest
+  step (Some c) e rest = All-cons (WithinC vars) c (filter_map (constraint_at es) ids) (at-sound vars es id c h e).1 rest
+
+hinted-within : (vars : ℕ) (es : List Entry) (ids : List ℕ) → All (IsSound vars) es → AreVarsWithin vars (hinted es ids)
+hinted-within vars es [] h = live-within vars es h
+hinted-within vars es (id ∷ ids) h = listed-within vars es (id ∷ ids) h
+
+pub propagated-within : (vars : ℕ) (es : List Entry) (claim : Constraint) (ids : List ℕ) → All (IsSound vars) es → HasVarsWithin vars claim.terms → AreVarsWithin vars (propagated es claim ids)
+propagated-within vars es claim ids h k = All-cons (WithinC vars) (negation claim) (hinted es ids) (negation-within vars claim k) (hinted-within vars es ids h)
+
+-- ---- restriction
+
+weight-kept : (p : Weighted → Bool) (ts : List Weighted) → weight (filter p ts) ≤ weight ts
+weight-kept p ts = omega (arith, sum_by-filter {X = Weighted} (λ t. t.coef) p ts, sum_by-le-sum_by {X = Weighted} (λ t. cond (p t) t.coef 0) (λ t. t.coef) ts (λ t. kept (p t) t.coef)) where
+  kept : (b : Bool) (k : ℕ) → cond b k 0 ≤ k
+  kept true k = omega arith
+  kept false k = omega arith
+
+pub restriction-narrow : (sets : List Set) (c : Constraint) → IsNarrow c → IsNarrow (restriction sets c)
+restriction-narrow sets c h = narrow-from (restriction sets c) (omega (arith, weight-kept (is_unset sets) c.terms, weight-narrow c h)) (omega (arith, degree-narrow c h))
+
+pub restriction-within : (vars : ℕ) (sets : List Set) (c : Constraint) → HasVarsWithin vars c.terms → HasVarsWithin vars (restriction sets c).terms
+restriction-within vars sets c h = All-filter (is_unset sets) (λ t. t.lit.var ≤ vars) c.terms h
+
+pub to_refute-within : (vars : ℕ) (es : List Entry) (claim goal : Constraint) → All (IsSound vars) es → HasVarsWithin vars claim.terms → HasVarsWithin vars goal.terms → AreVarsWithin vars (to_refute es claim goal)
+to_refute-within vars es claim goal h k m =
+    All-cons (WithinC vars) (negation claim) (negation goal ∷ live_constraints es) (negation-within vars claim k)
+    (All-cons (WithinC vars) (negation goal) (live_constraints es) (negation-within vars goal m) (live-within vars es h))
+
+-- what is looked up is sound
+pub at-option : (vars : ℕ) (es : List Entry) (id : ℕ) (o : Option Constraint) (c : Constraint) → All (IsSound vars) es → o ≡ constraint_at es id → o ≡ Some c → IsNarrow c × HasVarsWithin vars c.terms
+at-option vars es id o c h e f = at-sound vars es id c h (sym e ∙ f)

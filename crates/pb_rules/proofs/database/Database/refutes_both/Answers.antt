@@ -1,0 +1,7 @@
+use Rattle.std.proofs.Common.{◌∷◌, []}
+use Rattle.pb_rules.proofs.Refuting.{tells_live}
+use Rattle.pb_rules.proofs.database.Database.refutes_both.Goals as goal
+
+pub returns-clause-answer : goal.returns-clause-answer
+returns-clause-answer c =
+    tells_live c.self.inside.original c.self.inside.vars c.self.inside.slots.items c.self.inside.engine c.args.self.now (c.args.first.now ∷ c.args.second.now ∷ []) c.is_refuted_with_both.result c.self.invariant.mirrored c.self.view_is c.is_refuted_with_both.ensures.answer

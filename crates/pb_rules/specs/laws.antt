@@ -1,0 +1,10 @@
+pub mod Slots
+pub mod Conflicts
+pub mod Indexed
+pub mod Mirrors
+pub mod Sound
+pub mod Tops
+pub mod Early
+pub mod Ordered
+pub mod Obligations
+pub mod Claims

@@ -1,0 +1,250 @@
+//! The constraints that stand.
+ghost use Rattle.std.specs.Prelude.{◌≡◌, ◌∷◌, [], IfOk, OnOk, OnErr, All, filter_map};
+ghost use Rattle.std.specs.Option.{option_copied};
+ghost use Rattle.pb_norm.specs.Constraints.{HasVarsWithin, AreVarsWithin};
+ghost use Rattle.pb_steps.specs.Operations.{IsNarrow};
+ghost use Rattle.pb_steps.specs.Database.{live_constraints, constraint_at, is_live, is_out, grown, reduced, marked, loaded_database};
+ghost use Rattle.pb_rules.specs.laws.Slots.{placed_from};
+ghost use Rattle.pb_rules.specs.laws.Ordered.{IsOrdered};
+ghost use Rattle.pb_rules.specs.laws.Sound.{IsDatabase};
+ghost use Rattle.pb_rules.specs.laws.Indexed.{IsIndexed, HasNaming};
+ghost use Rattle.pb_rules.specs.laws.Mirrors.{TellsConflict};
+
+use crate::index;
+use crate::listed::is_refuted_by;
+use crate::refutation::{is_refuted_with, is_refuted_with_both};
+use crate::slots::{self, Slot};
+use pb_base::{Ids, NoMemory, Var};
+use pb_norm::Linear;
+use pb_unit::Engine;
+use std::alloc::Global;
+use std::marker::Model;
+
+/// The constraints that stand while a derivation is checked, by their ids. The sum of the coefficients and the degree of each are below 2^126.
+#[derive(Drop)]
+pub struct Database {
+    original: u32,
+    vars: u32,
+    slots: Vec<Slot>,
+    // All that stands.
+    engine: Engine,
+    // Nothing stands in it between calls.
+    idle: Engine,
+    // By variables, ids of constraints that have them.
+    named: Vec<Ids>,
+    alloc: Global,
+}
+
+impl Model for Database {
+    ghost use Rattle.pb_steps.specs.Database.{Database};
+    ghost use Rattle.pb_rules.specs.laws.Slots.{database_of};
+    ghost use Rattle.pb_rules.specs.laws.Mirrors.{IsKept};
+
+    ghost Value = { Database };
+
+    ghost view = { λ d. database_of d.original d.vars d.slots.items };
+
+    ghost invariant = { λ d. IsKept d.original d.vars d.slots.items d.engine d.idle d.named.items };
+}
+
+// The slots of constraints that are loaded.
+fn loaded_slots(alloc: Global, loaded: &[Linear]) -> Result<Vec<Slot>, NoMemory>
+    ensures { IfOk result (λ v. v.items ≡ placed_from 0 loaded.now) }
+{
+    let mut slots = Vec::with_capacity(alloc, loaded.len())?;
+    for (place, constraint) in loaded.iter().enumerate() {
+        let copy = constraint.copy(alloc)?;
+        slots.push(Slot {
+            constraint: Some(copy),
+            place: place as u64,
+            out: false,
+        })?;
+    }
+    Ok(slots)
+}
+
+// The index of constraints that are loaded.
+fn loaded_index(alloc: Global, vars: u32, loaded: &[Linear]) -> Result<Vec<Ids>, NoMemory>
+    requires { AreVarsWithin vars loaded.now }
+    ensures { IfOk result (λ lists. IsIndexed vars (placed_from 0 loaded.now) lists.items) }
+{
+    let mut lists = index::empty(alloc, vars)?;
+    for (place, constraint) in loaded.iter().enumerate() {
+        if !index::enter(&mut lists, constraint.terms(), place as u64 + 1) {
+            return Err(NoMemory);
+        }
+    }
+    Ok(lists)
+}
+
+// The constraints again.
+fn copies(alloc: Global, loaded: &[Linear]) -> Result<Vec<Linear>, NoMemory>
+    ensures { IfOk result (λ v. v.items ≡ loaded.now) }
+{
+    let mut list = Vec::with_capacity(alloc, loaded.len())?;
+    for constraint in loaded {
+        list.push(constraint.copy(alloc)?)?;
+    }
+    Ok(list)
+}
+
+impl Database {
+    /// The database of loaded constraints, whose ids are 1, 2, .., over `original` variables of a problem and fresh ones up to `vars`.
+    pub fn new(
+        alloc: Global,
+        original: u32,
+        vars: u32,
+        loaded: &[Linear],
+    ) -> Result<Database, NoMemory>
+        requires within { AreVarsWithin vars loaded.now }
+        requires narrow { All IsNarrow loaded.now }
+        ensures { IfOk result (λ db. db ≡ loaded_database original vars loaded.now) }
+    {
+        Ok(Database {
+            original,
+            vars,
+            slots: loaded_slots(alloc, loaded)?,
+            engine: Engine::new(alloc, vars, copies(alloc, loaded)?)?,
+            idle: Engine::new(alloc, vars, Vec::new(alloc))?,
+            named: loaded_index(alloc, vars, loaded)?,
+            alloc,
+        })
+    }
+
+    /// The constraint with an id.
+    pub(crate) fn constraint_at(&self, id: u64) -> Option<&Linear>
+        ensures found { option_copied result ≡ constraint_at self.now.live id }
+        ensures sound { IsDatabase self.now }
+    {
+        slots::constraint_at(&self.slots, id)
+    }
+
+    /// Whether a constraint stands under an id.
+    pub(crate) fn is_live(&self, id: u64) -> bool
+        ensures { result ≡ is_live self.now.live id }
+    {
+        self.constraint_at(id).is_some()
+    }
+
+    /// Whether the constraint with an id was put out.
+    pub(crate) fn is_out(&self, id: u64) -> bool
+        ensures { result ≡ is_out self.now.live id }
+    {
+        slots::is_out(&self.slots, id)
+    }
+
+    /// How many variables there are.
+    pub(crate) fn vars(&self) -> u32
+        ensures value { result ≡ self.now.vars }
+        ensures sound { IsDatabase self.now }
+    {
+        self.vars
+    }
+
+    /// The id that the next constraint takes.
+    pub(crate) fn next(&self) -> u64
+        ensures value { result ≡ self.now.next }
+        ensures ordered { IsOrdered self.now }
+    {
+        self.slots.len() as u64 + 1
+    }
+
+    /// How many variables the problem has.
+    pub(crate) fn original(&self) -> u32
+        ensures { result ≡ self.now.original }
+    {
+        self.original
+    }
+
+    /// Whether propagation over a constraint and all that stands reaches a conflict.
+    pub(crate) fn refutes(&mut self, more: &Linear) -> Result<bool, NoMemory>
+        requires { HasVarsWithin self.old.vars more.now.terms }
+        ensures same { self.new ≡ self.old }
+        ensures answer { IfOk result (TellsConflict (more.now ∷ live_constraints self.old.live)) }
+    {
+        is_refuted_with(&mut self.engine, more)
+    }
+
+    /// The same with two constraints.
+    pub(crate) fn refutes_both(&mut self, first: &Linear, second: &Linear) -> Result<bool, NoMemory>
+        requires first { HasVarsWithin self.old.vars first.now.terms }
+        requires second { HasVarsWithin self.old.vars second.now.terms }
+        ensures same { self.new ≡ self.old }
+        ensures answer { IfOk result (TellsConflict (first.now ∷ second.now ∷ live_constraints self.old.live)) }
+    {
+        is_refuted_with_both(&mut self.engine, first, second)
+    }
+
+    /// The same with one constraint, over those with the ids alone.
+    pub(crate) fn refutes_listed(&mut self, more: &Linear, ids: &[u64]) -> Result<bool, NoMemory>
+        requires { HasVarsWithin self.old.vars more.now.terms }
+        ensures same { self.new ≡ self.old }
+        ensures answer { IfOk result (TellsConflict (more.now ∷ filter_map (constraint_at self.old.live) ids.now)) }
+    {
+        is_refuted_by(self.alloc, &mut self.idle, &self.slots, more, ids)
+    }
+
+    /// Ids, among them those of all constraints that have the variable.
+    pub(crate) fn ids_of(&self, var: Var) -> &[u64]
+        ensures { HasNaming self.now.live var result.now }
+    {
+        index::ids_of(&self.named, var)
+    }
+
+    /// Adds a constraint under the next id, which is the answer.
+    pub(crate) fn grow(&mut self, constraint: Linear) -> Result<u64, NoMemory>
+        requires narrow { IsNarrow constraint }
+        requires within { HasVarsWithin self.old.vars constraint.terms }
+        ensures id { IfOk result (λ id. id ≡ self.old.next) }
+        ensures ok { OnOk result (self.new ≡ grown self.old constraint) }
+        ensures err { OnErr result (self.new ≡ self.old) }
+    {
+        let id = self.slots.len() as u64 + 1;
+        if !index::enter(&mut self.named, constraint.terms(), id) {
+            return Err(NoMemory);
+        }
+        let place = self.engine.add(&constraint)?;
+        let slot = Slot {
+            constraint: Some(constraint),
+            place,
+            out: false,
+        };
+        match self.slots.push(slot) {
+            Ok(()) => Ok(id),
+            Err(_) => {
+                self.engine.remove(place);
+                Err(NoMemory)
+            }
+        }
+    }
+
+    // Takes the constraint with an id away.
+    fn remove_one(&mut self, id: u64)
+        ensures { self.new ≡ reduced self.old (id ∷ []) }
+    {
+        if let Some(place) = slots::clear(&mut self.slots, id) {
+            self.engine.remove(place);
+        }
+    }
+
+    /// Takes the constraints with the ids away.
+    pub(crate) fn remove(&mut self, ids: &[u64])
+        ensures { self.new ≡ reduced self.old ids.now }
+    {
+        for id in ids {
+            self.remove_one(*id);
+        }
+    }
+
+    /// Marks the constraint with an id as put out.
+    pub(crate) fn mark(&mut self, id: u64)
+        ensures { self.new ≡ marked self.old id }
+    {
+        slots::mark(&mut self.slots, id);
+    }
+
+    /// The allocator that it was made with.
+    pub(crate) fn alloc(&self) -> Global {
+        self.alloc
+    }
+}

@@ -1,0 +1,63 @@
+//! Constraints that are taken away.
+ghost use Rattle.std.specs.Prelude.{◌≡◌, ◌||◌, List, Option, IfOk, OnOk, IfErr, find, not};
+ghost use Rattle.pb_base.specs.declared.literal.Lit.{Lit};
+ghost use Rattle.pb_steps.specs.declared.step.Step.TheVariants.{Del};
+ghost use Rattle.pb_steps.specs.Steps.{IsSpelled};
+ghost use Rattle.pb_steps.specs.Database.{is_live, is_out, reduced};
+ghost use Rattle.pb_steps.specs.Allowed.{Allowed};
+ghost use Rattle.pb_steps.specs.Denials.{first_gone};
+ghost use Rattle.pb_rules.specs.Faults.{IsFault};
+
+use crate::database::Database;
+use crate::fault::RuleFault;
+use pb_base::NoMemory;
+use pb_steps::Denied;
+use std::collections::BTreeSet;
+
+// Whether nothing stands under an id, which may be taken away before.
+fn is_gone(db: &Database, is_fresh: bool, id: u64) -> bool
+    ensures { result ≡ (not is_fresh || not (is_live db.now.live id)) }
+{
+    !is_fresh || !db.is_live(id)
+}
+
+// The first id that is gone once those before it are taken away.
+fn first_gone(db: &Database, ids: &[u64]) -> Result<Option<u64>, NoMemory>
+    ensures { IfOk result (λ found. found ≡ first_gone db.now.live ids.now) }
+{
+    let mut before = BTreeSet::new(db.alloc());
+    for id in ids {
+        let is_fresh = before.insert(*id)?;
+        if is_gone(db, is_fresh, *id) {
+            return Ok(Some(*id));
+        }
+    }
+    Ok(None)
+}
+
+// The first id whose constraint was put out.
+fn first_out(db: &Database, ids: &[u64]) -> Option<u64>
+    ensures { result ≡ find (is_out db.now.live) ids.now }
+{
+    for id in ids {
+        if db.is_out(*id) {
+            return Some(*id);
+        }
+    }
+    None
+}
+
+/// Tests whether the constraints with the ids may be taken away.
+pub(crate) fn test(db: &Database, ids: &[u64]) -> Result<(), RuleFault>
+    requires { IsSpelled (Del ids.now) }
+    ensures allowed { (clause : Option (List Lit)) → OnOk result (Allowed db.now (Del ids.now) clause (reduced db.now ids.now)) }
+    ensures fault { (clause : Option (List Lit)) → IfErr result (IsFault db.now (Del ids.now) clause) }
+{
+    if let Some(id) = first_gone(db, ids)? {
+        return Err(RuleFault::Denied(Denied::UnknownId { id }));
+    }
+    if let Some(id) = first_out(db, ids) {
+        return Err(RuleFault::Denied(Denied::OutDeleted { id }));
+    }
+    Ok(())
+}

@@ -1,0 +1,21 @@
+//! The constraints that stand while a derivation is checked, and the rules by which steps change them.
+#![tactic(auto)]
+
+mod apply;
+mod database;
+mod del;
+mod fault;
+mod index;
+mod listed;
+mod naming;
+mod out;
+mod pol;
+mod red;
+mod refutation;
+mod rows;
+mod rup;
+mod slots;
+
+pub use apply::Applied;
+pub use database::Database;
+pub use fault::RuleFault;

@@ -1,0 +1,62 @@
+//! Constraints by the variables that they have.
+ghost use Rattle.std.specs.Prelude.{◌≡◌, ◌∷◌, ◌++◌, [], ℕ, List, MatchOption};
+ghost use Rattle.std.specs.List.{list_any};
+ghost use Rattle.pb_norm.specs.laws.Kept.{on_weight};
+ghost use Rattle.pb_rules.specs.Naming.{is_of, names_at, IsUnnamed, IsFirstNaming};
+ghost use Rattle.pb_rules.specs.laws.Indexed.{IsLeast, IsNaming, lesser};
+
+use crate::database::Database;
+use pb_base::{Term, Var};
+
+// Whether some term is of the variable.
+fn has_var(terms: &[Term], var: Var) -> bool
+    ensures { result ≡ list_any (on_weight (is_of var)) terms.now }
+{
+    terms.iter().any(|term| term.lit.var == var)
+}
+
+// The id, or what was found before where that is not greater.
+fn lesser(best: Option<u64>, id: u64) -> Option<u64>
+    ensures { result ≡ lesser best id }
+{
+    match best {
+        Some(found) => { if found <= id { Some(found) } else { Some(id) } }
+        None => Some(id),
+    }
+}
+
+impl Database {
+    // Whether the constraint with an id has the variable.
+    fn names(&self, id: u64, var: Var) -> bool
+        ensures { result ≡ names_at self.now.live var id }
+    {
+        match self.constraint_at(id) {
+            Some(constraint) => has_var(constraint.terms(), var),
+            None => false,
+        }
+    }
+
+    // The least id from a number on whose constraint has the variable, where one more is looked at.
+    fn sooner(&self, best: Option<u64>, id: u64, var: Var, from: u64) -> Option<u64>
+        ensures { (ids : List ℕ) → IsLeast (IsNaming self.now.live var from) ids best → IsLeast (IsNaming self.now.live var from) (ids ++ id ∷ []) result }
+    {
+        if id < from {
+            return best;
+        }
+        if !self.names(id, var) {
+            return best;
+        }
+        lesser(best, id)
+    }
+
+    /// The least id, from a number on, whose constraint has the variable, or None where none has it.
+    pub fn naming(&self, var: Var, from: u64) -> Option<u64>
+        ensures { MatchOption result (IsUnnamed self.now var from) (IsFirstNaming self.now.live var from) }
+    {
+        let mut best = None;
+        for id in self.ids_of(var) {
+            best = self.sooner(best, *id, var, from);
+        }
+        best
+    }
+}

@@ -1,0 +1,32 @@
+//! Clauses that are put out.
+ghost use Rattle.std.specs.Prelude.{OnOk, IfErr};
+ghost use Rattle.std.specs.Option.{option_copied};
+ghost use Rattle.pb_steps.specs.declared.step.Step.TheVariants.{Out};
+ghost use Rattle.pb_steps.specs.Database.{marked};
+ghost use Rattle.pb_steps.specs.Allowed.{Allowed};
+ghost use Rattle.pb_rules.specs.Faults.{IsFault};
+
+use crate::database::Database;
+use crate::fault::RuleFault;
+use pb_base::Clause;
+use pb_norm::clause_form;
+use pb_operations::implies;
+use pb_steps::Denied;
+
+/// Tests whether the constraint with an id gives the next clause.
+pub(crate) fn test(db: &Database, id: u64, next: Option<&Clause>) -> Result<(), RuleFault>
+    ensures allowed { OnOk result (Allowed db.now (Out id) (option_copied next.entry) (marked db.now id)) }
+    ensures fault { IfErr result (IsFault db.now (Out id) (option_copied next.entry)) }
+{
+    let Some(found) = db.constraint_at(id) else {
+        return Err(RuleFault::Denied(Denied::UnknownId { id }))
+    };
+    let Some(clause) = next else {
+        return Err(RuleFault::Denied(Denied::NoClause))
+    };
+    let form = clause_form(db.alloc(), clause)?;
+    if !implies(found, &form) {
+        return Err(RuleFault::Denied(Denied::NotImplied { id }));
+    }
+    Ok(())
+}

@@ -1,0 +1,284 @@
+//! Operations on a stack of constraints.
+ghost use Rattle.std.specs.Prelude.{◌≡◌, ◌≤◌, ◌<◌, ◌^◌, ℤ, [], List, Option, All, Some, None, IfSome, IfOk, IfErr, nat_lt, not, find, flat_map, reverse, unsigned_abs};
+ghost use Rattle.pb_base.specs.declared.literal.Lit.{Lit};
+ghost use Rattle.pb_steps.specs.declared.op.PolOp.TheVariants.{Push, Axiom, Add, Mul, Div, Saturate, Weaken};
+ghost use Rattle.pb_steps.specs.declared.step.Step.TheVariants.{Pol};
+ghost use Rattle.pb_steps.specs.Steps.{HasFactor, IsSpelled, ids_of_op, vars_of_op};
+ghost use Rattle.pb_steps.specs.Operations.{IsNarrow};
+ghost use Rattle.pb_steps.specs.Database.{is_live};
+ghost use Rattle.pb_steps.specs.Stacks.{after_ops, height_after, is_stacked};
+ghost use Rattle.pb_rules.specs.laws.Early.{early};
+ghost use Rattle.pb_operations.specs.Room.{fitting};
+ghost use Rattle.pb_rules.specs.Faults.{IsFault};
+ghost use Rattle.pb_rules.specs.laws.Claims.{AllowsClaim};
+ghost use Rattle.pb_rules.specs.laws.Tops.{topped, IsOutcome, IsOpOutcome, IsSoundConstraint, AreSoundConstraints};
+ghost use Rattle.pb_rules.specs.laws.Sound.{IsDatabase};
+
+use crate::database::Database;
+use crate::fault::RuleFault;
+use pb_base::{NoMemory, Var};
+use pb_norm::Linear;
+use pb_operations::{axiom, division, multiple, plus, saturation, weakening};
+use pb_steps::{Denied, PolOp};
+use std::alloc::{AllocError, Global};
+
+// ---- what the operations name
+
+// The variable of an operation, where it is above a number.
+fn op_above(vars: u32, op: &PolOp) -> Option<Var>
+    ensures { result ≡ find (λ v. nat_lt vars v) (vars_of_op op.now) }
+{
+    let var = match op {
+        PolOp::Axiom(lit) => lit.var,
+        PolOp::Weaken(var) => *var,
+        _ => return None,
+    };
+    if var.index() > vars { Some(var) } else { None }
+}
+
+// The first variable above a number.
+fn var_above(vars: u32, ops: &[PolOp]) -> Option<Var>
+    ensures { result ≡ find (λ v. nat_lt vars v) (flat_map vars_of_op ops.now) }
+{
+    for op in ops {
+        if let Some(var) = op_above(vars, op) {
+            return Some(var);
+        }
+    }
+    None
+}
+
+// The id of an operation, where nothing stands under it.
+fn op_gone(db: &Database, op: &PolOp) -> Option<u64>
+    ensures { result ≡ find (λ id. not (is_live db.now.live id)) (ids_of_op op.now) }
+{
+    match op {
+        PolOp::Push(id) if db.constraint_at(*id).is_none() => Some(*id),
+        _ => None,
+    }
+}
+
+// The first id under which nothing stands.
+fn id_gone(db: &Database, ops: &[PolOp]) -> Option<u64>
+    ensures { result ≡ find (λ id. not (is_live db.now.live id)) (flat_map ids_of_op ops.now) }
+{
+    for op in ops {
+        if let Some(id) = op_gone(db, op) {
+            return Some(id);
+        }
+    }
+    None
+}
+
+// ---- how high the stack is
+
+// The most constraints on a stack.
+const DEPTH: u64 = 65536;
+
+fn height_after(op: &PolOp, height: u64) -> Option<u64>
+    requires { height ≤ 65536 }
+    ensures value { result ≡ height_after op.now height }
+    ensures low { IfSome result (λ h. h ≤ 65536) }
+{
+    match op {
+        PolOp::Push(_) | PolOp::Axiom(_) => {
+            if height < DEPTH {
+                Some(height + 1)
+            } else {
+                None
+            }
+        }
+        PolOp::Add => { if height < 2 { None } else { Some(height - 1) } }
+        _ => { if height < 1 { None } else { Some(height) } }
+    }
+}
+
+// Whether all operands are there, the stack is never too high, and one constraint is left.
+fn is_stacked(ops: &[PolOp]) -> bool
+    ensures { result ≡ is_stacked ops.now }
+{
+    let mut height = 0;
+    for op in ops {
+        match height_after(op, height) {
+            Some(next) => height = next,
+            None => return false,
+        }
+    }
+    height == 1
+}
+
+// ---- what is on it
+
+// Sums of coefficients and degrees stay below this.
+const LIMIT: u128 = 1 << 126;
+
+// The constraint, where its numbers have room.
+fn fitting(made: Linear) -> Option<Linear>
+    ensures { result ≡ fitting made }
+{
+    if made.weight() < LIMIT && made.degree() < LIMIT {
+        Some(made)
+    } else {
+        None
+    }
+}
+
+// Pushes a constraint, if there is one.
+fn push_onto(stack: &mut Vec<Linear>, made: Option<Linear>) -> Result<bool, AllocError>
+    ensures { IfOk result (λ done. IsOutcome done (topped made (reverse stack.old.items)) (reverse stack.new.items)) }
+{
+    match made {
+        Some(constraint) => {
+            stack.push(constraint)?;
+            Ok(true)
+        }
+        None => Ok(false),
+    }
+}
+
+// Adds the two topmost constraints.
+fn add_top(alloc: Global, stack: &mut Vec<Linear>) -> Result<bool, NoMemory>
+    requires { All IsNarrow (reverse stack.old.items) }
+    ensures { IfOk result (IsOpOutcome [] Add stack.old.items stack.new.items) }
+{
+    let Some(d) = stack.pop() else {
+        return Ok(false)
+    };
+    let Some(c) = stack.pop() else {
+        return Ok(false)
+    };
+    let sum = plus(alloc, &c, &d)?;
+    Ok(push_onto(stack, sum)?)
+}
+
+// Multiplies the topmost constraint.
+fn multiply_top(alloc: Global, factor: u128, stack: &mut Vec<Linear>) -> Result<bool, NoMemory>
+    requires { 0 < factor }
+    ensures { (n : ℤ) → unsigned_abs n ≡ factor → IfOk result (IsOpOutcome [] (Mul n) stack.old.items stack.new.items) }
+{
+    let Some(c) = stack.pop() else {
+        return Ok(false)
+    };
+    let made = multiple(alloc, &c, factor)?;
+    Ok(push_onto(stack, made)?)
+}
+
+// Divides the topmost constraint.
+fn divide_top(alloc: Global, divisor: u128, stack: &mut Vec<Linear>) -> Result<bool, NoMemory>
+    requires some { 0 < divisor }
+    requires small { divisor ≤ 2 ^ 127 }
+    ensures { (n : ℤ) → unsigned_abs n ≡ divisor → IfOk result (IsOpOutcome [] (Div n) stack.old.items stack.new.items) }
+{
+    let Some(c) = stack.pop() else {
+        return Ok(false)
+    };
+    let made = fitting(division(alloc, &c, divisor)?);
+    Ok(push_onto(stack, made)?)
+}
+
+// Saturates the topmost constraint.
+fn saturate_top(alloc: Global, stack: &mut Vec<Linear>) -> Result<bool, NoMemory>
+    ensures { IfOk result (IsOpOutcome [] Saturate stack.old.items stack.new.items) }
+{
+    let Some(c) = stack.pop() else {
+        return Ok(false)
+    };
+    let made = fitting(saturation(alloc, &c)?);
+    Ok(push_onto(stack, made)?)
+}
+
+// Weakens the topmost constraint.
+fn weaken_top(alloc: Global, var: Var, stack: &mut Vec<Linear>) -> Result<bool, NoMemory>
+    ensures { IfOk result (IsOpOutcome [] (Weaken var) stack.old.items stack.new.items) }
+{
+    let Some(c) = stack.pop() else {
+        return Ok(false)
+    };
+    let made = fitting(weakening(alloc, &c, var)?);
+    Ok(push_onto(stack, made)?)
+}
+
+// Pushes the constraint with an id.
+fn push_at(db: &Database, id: u64, stack: &mut Vec<Linear>) -> Result<bool, NoMemory>
+    ensures { IfOk result (IsOpOutcome db.now.live (Push id) stack.old.items stack.new.items) }
+{
+    let Some(found) = db.constraint_at(id) else {
+        return Ok(false)
+    };
+    let made = fitting(found.copy(db.alloc())?);
+    Ok(push_onto(stack, made)?)
+}
+
+// Does an operation, or says that it cannot be done.
+fn apply_op(db: &Database, op: &PolOp, stack: &mut Vec<Linear>) -> Result<bool, NoMemory>
+    requires factor { HasFactor op.now }
+    requires narrow { All IsNarrow (reverse stack.old.items) }
+    ensures { IfOk result (IsOpOutcome db.now.live op.now stack.old.items stack.new.items) }
+{
+    let alloc = db.alloc();
+    match op {
+        PolOp::Push(id) => push_at(db, *id, stack),
+        PolOp::Axiom(lit) => {
+            let made = fitting(axiom(alloc, *lit)?);
+            Ok(push_onto(stack, made)?)
+        }
+        PolOp::Add => add_top(alloc, stack),
+        PolOp::Mul(factor) => multiply_top(alloc, factor.unsigned_abs(), stack),
+        PolOp::Div(divisor) => divide_top(alloc, divisor.unsigned_abs(), stack),
+        PolOp::Saturate => saturate_top(alloc, stack),
+        PolOp::Weaken(var) => weaken_top(alloc, *var, stack),
+    }
+}
+
+// Does operations one after the other, until one cannot be done.
+fn apply_ops(db: &Database, ops: &[PolOp], stack: &mut Vec<Linear>) -> Result<bool, NoMemory>
+    requires sound { IsDatabase db.now }
+    requires factors { All HasFactor ops.now }
+    requires known { All (λ v. v ≤ db.now.vars) (flat_map vars_of_op ops.now) }
+    requires fit { AreSoundConstraints db.now.vars (reverse stack.old.items) }
+    ensures { IfOk result (λ done. IsOutcome done (after_ops db.now.live ops.now (reverse stack.old.items)) (reverse stack.new.items)) }
+{
+    for op in ops {
+        if !apply_op(db, op, stack)? {
+            return Ok(false);
+        }
+    }
+    Ok(true)
+}
+
+// The cause of a denial that is seen before the operations are done.
+fn early(db: &Database, ops: &[PolOp]) -> Option<Denied>
+    ensures value { result ≡ early db.now ops.now }
+    ensures sound { IsDatabase db.now }
+{
+    if let Some(var) = var_above(db.vars(), ops) {
+        return Some(Denied::UnknownVar { var });
+    }
+    if let Some(id) = id_gone(db, ops) {
+        return Some(Denied::UnknownId { id });
+    }
+    if !is_stacked(ops) {
+        return Some(Denied::Stack);
+    }
+    None
+}
+
+/// The constraint that the step adds.
+pub(crate) fn sum_of(db: &Database, ops: &[PolOp]) -> Result<Linear, RuleFault>
+    requires { IsSpelled (Pol ops.now) }
+    ensures fit { IfOk result (IsSoundConstraint db.now.vars) }
+    ensures allowed { IfOk result (AllowsClaim db.now (Pol ops.now)) }
+    ensures fault { (clause : Option (List Lit)) → IfErr result (IsFault db.now (Pol ops.now) clause) }
+{
+    if let Some(denied) = early(db, ops) {
+        return Err(RuleFault::Denied(denied));
+    }
+    let mut stack = Vec::new(db.alloc());
+    if !apply_ops(db, ops, &mut stack)? {
+        return Err(RuleFault::Denied(Denied::Width));
+    }
+    match stack.pop() {
+        Some(made) => Ok(made),
+        None => Err(RuleFault::Denied(Denied::Width)),
+    }
+}
