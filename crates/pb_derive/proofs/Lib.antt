@@ -19,7 +19,9 @@ pub mod Rups
 pub mod SameTerms
 pub mod Sayable
 pub mod Short
+pub mod Sides
 pub mod Scoped
+pub mod ShortReasons
 pub mod ShortRups
 pub mod Sizes
 pub mod SomeFollows

@@ -83,11 +83,11 @@ swept_derives db steps clauses limit ids numbered h = record {
 
 -- ---- how many lines
 
-length-meanings : (next : ℕ) (ms : List Meaning) → length (meaning_steps next ms) ≡ 2 * length ms
+pub length-meanings : (next : ℕ) (ms : List Meaning) → length (meaning_steps next ms) ≡ 2 * length ms
 length-meanings next [] = refl
 length-meanings next (m ∷ ms) = omega (arith, length-meanings (next + 2) ms)
 
-length-claims : (next : ℕ) (cs : List Claim) → length (claim_steps next cs) ≡ 2 * length cs
+pub length-claims : (next : ℕ) (cs : List Claim) → length (claim_steps next cs) ≡ 2 * length cs
 length-claims next [] = refl
 length-claims next (c ∷ cs) = omega (arith, length-claims (next + 1) cs)
 

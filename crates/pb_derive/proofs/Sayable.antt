@@ -1,10 +1,11 @@
 -- Lines can say the steps of derivations, where ids and variables are within their limits.
-use Rattle.std.proofs.Common.{◌≡◌, ◌≤◌, ◌<◌, ◌+◌, ◌*◌, ◌^◌, ℕ, zero, suc, Bool, true, false, cond, List, [], ◌∷◌, ◌++◌, length, map, arith, ltb, pos}
+use Rattle.std.proofs.Common.{◌≡◌, ◌≤◌, ◌<◌, ◌+◌, ◌*◌, ◌^◌, ◌∙◌, ℕ, zero, suc, Bool, true, false, cond, List, [], ◌∷◌, ◌++◌, length, map, ap, append-nil, arith, ltb, pos}
 use Rattle.std.specs.Prelude.{All, ◌≤ℤ◌}
 use Rattle.std.specs.List.{AllByRecursion}
 use Rattle.std.proofs.lemmas.Int.{ints}
 use Rattle.std.proofs.lemmas.List.Elements.{All-nil, All-cons, All-head, All-tail, All-append, All-map, recursion_from_All}
 use Rattle.pb_base.specs.declared.literal.Lit.{Lit}
+use Rattle.pb_norm.specs.ClauseForm.{one_of, distinct}
 use Rattle.pb_norm.specs.Constraints.{Weighted, Constraint, weight, terms_of}
 use Rattle.pb_norm.specs.Reduction.{opposite}
 use Rattle.pb_steps.specs.declared.step.Step.{Step}
@@ -15,6 +16,8 @@ use Rattle.pb_derive.specs.Deletions.{deletion_steps}
 use Rattle.pb_derive.specs.Meanings.{Meaning, spare, forward_of, reverse_of, redundant, meaning_steps}
 use Rattle.pb_derive.specs.Phases.{phases}
 use Rattle.pb_derive.specs.Reasons.{widest, closing}
+use Rattle.pb_derive.specs.Rups.{by_rup}
+use Rattle.pb_derive.proofs.ClauseClaims.{distinct-all}
 use Rattle.pb_derive.proofs.Reasoned.{closing-all}
 
 abbrev pub IsSlimTerm : Weighted → Type 0
@@ -95,3 +98,19 @@ closing_sayable clause id ids vs known gone =
     let one : pos 1 ≤ℤ pos widest = omega (arith, ints) in
     let small : widest < 2 ^ 126 = omega arith in
     recursion_from_All IsOp (closing (record { clause = clause; ids = id ∷ ids; weakened = vs })) (closing-all IsOp clause id ids vs known tt gone (one, small))
+
+ones_sayable : (ls : List Lit) → All (λ l. IsVariable l.var) ls → AllByRecursion IsTerm (map one_of ls)
+ones_sayable [] h = tt
+ones_sayable (l ∷ ls) h =
+    let small : 1 < 2 ^ 126 = omega arith in
+    ((small, All-head (λ (l : Lit). IsVariable l.var) l ls h), ones_sayable ls (All-tail (λ (l : Lit). IsVariable l.var) l ls h))
+
+-- the line of a clause by propagation
+pub rup_sayable : (ids : List ℕ) (clause : List Lit) → All IsId ids → All (λ l. IsVariable l.var) clause → IsSayable (by_rup ids clause).step
+rup_sayable ids clause known vars =
+    let small : 1 < 2 ^ 126 = omega arith in
+    (ones_sayable (distinct clause) (distinct-all (λ l. IsVariable l.var) clause vars), small, recursion_from_All IsId ids known)
+
+-- clauses alone are a derivation with no meaning
+pub claims_alone : (next : ℕ) (cs : List Claim) → phases next [] cs ≡ claim_steps next cs
+claims_alone next cs = append-nil (claim_steps (next + 2 * 0) cs) ∙ ap (λ (n : ℕ). claim_steps n cs) (let e : next + 2 * 0 ≡ next = omega arith in e)

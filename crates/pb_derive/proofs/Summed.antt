@@ -28,7 +28,7 @@ pub record Summed (P : ℕ → Type 0) (db : Database) (ids : List ℕ) (t : Con
   pub ran : Ran P db (Pol (adding ids) ∷ []) [] 1
   pub known : Knows ran.end db.next t
 
-adding-all : (Q : PolOp → Type 0) (id : ℕ) (ids : List ℕ) → All (λ i. Q (Push i)) (id ∷ ids) → Q Add → All Q (adding (id ∷ ids))
+pub adding-all : (Q : PolOp → Type 0) (id : ℕ) (ids : List ℕ) → All (λ i. Q (Push i)) (id ∷ ids) → Q Add → All Q (adding (id ∷ ids))
 adding-all Q id ids pushed added =
     All-cons Q (Push id) (flat_map push_and_add ids) (All-head (λ i. Q (Push i)) id ids pushed)
     (All-flat_map Q push_and_add ids (All-weaker (λ i. Q (Push i)) (λ i. All Q (push_and_add i)) (λ i h. All-cons Q (Push i) (Add ∷ []) h (All-cons Q Add [] added (All-nil Q))) ids (All-tail (λ i. Q (Push i)) id ids pushed)))

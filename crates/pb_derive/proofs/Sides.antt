@@ -1,0 +1,472 @@
+-- Clauses that follow from the meanings of their literals, over plain lists.
+use Rattle.std.proofs.Common.{◌≡◌, ◌≤◌, ◌<◌, ◌+◌, ◌-◌, ◌*◌, ◌^◌, ◌⊎◌, ℕ, Bool, true, false, not, cond, List, [], ◌∷◌, ◌++◌, map, refl, ap, sym, ◌∙◌, subst, arith, inl, inr}
+use Rattle.std.specs.Prelude.{Contains}
+use Rattle.std.proofs.lemmas.Bool.{cases_Bool, cond-true, cond-false}
+use Rattle.std.proofs.lemmas.List.Elements.{All-contains, Contains-append_left, Contains-append_right, Contains-append_cases}
+use Rattle.std.proofs.lemmas.List.Sums.{sum_by-cons, sum_by-append}
+use Rattle.pb_base.specs.declared.literal.Lit.{Lit}
+use Rattle.pb_base.specs.Literals.{Assignment, negated, lit_value, is_among, is_same}
+use Rattle.pb_base.proofs.LiteralLemmas.{lit_value-negated, negated-negated, same_lit}
+use Rattle.pb_base.proofs.Members.{Contains-nil, Contains-here, Contains-there, Contains-cons_cases, from_among}
+use Rattle.pb_norm.specs.Constraints.{Weighted, Constraint, weight, value, term_value}
+use Rattle.pb_norm.specs.Addition.{coef_of}
+use Rattle.pb_norm.specs.Reduction.{opposite}
+use Rattle.pb_norm.proofs.AdditionValues.{value-cons, coef_of-cons}
+use Rattle.pb_norm.proofs.AdditionSizes.{weight-cons}
+use Rattle.pb_norm.proofs.Extremes.{value-le-weight}
+use Rattle.pb_derive.proofs.Closing.{coef_in-cons}
+use Rattle.pb_derive.proofs.Opposites.{weight-opposite, value-opposite, coef_of-opposite}
+use Rattle.pb_derive.specs.Meanings.{Meaning, forward_of, reverse_of, spare}
+use Rattle.pb_derive.specs.Reasons.{Reason}
+use Rattle.pb_derive.specs.laws.Follows.{coef_in, value_in, degrees, weight_in, AllFalse, FollowsFrom}
+
+-- the literal that says that a variable is true
+abbrev positive_of : ℕ → Lit
+positive_of v = record { var = v; positive = true }
+
+-- ---- sums
+
+coef_of-append : (ts us : List Weighted) (l : Lit) → coef_of (ts ++ us) l ≡ coef_of ts l + coef_of us l
+coef_of-append ts us l = sum_by-append {X = Weighted} (λ t. cond (is_same t.lit l) t.coef 0) ts us
+
+pub value-append : (a : Assignment) (ts us : List Weighted) → value a (ts ++ us) ≡ value a ts + value a us
+value-append a ts us = sum_by-append (term_value a) ts us
+
+pub weight-append : (ts us : List Weighted) → weight (ts ++ us) ≡ weight ts + weight us
+weight-append ts us = sum_by-append {X = Weighted} (λ t. t.coef) ts us
+
+-- ---- sources
+
+coef_in-append : (l : Lit) (ss us : List Constraint) → coef_in (ss ++ us) l ≡ coef_in ss l + coef_in us l
+coef_in-append l ss us = sum_by-append {X = Constraint} (λ s. coef_of s.terms l) ss us
+
+value_in-append : (a : Assignment) (ss us : List Constraint) → value_in a (ss ++ us) ≡ value_in a ss + value_in a us
+value_in-append a ss us = sum_by-append {X = Constraint} (λ s. value a s.terms) ss us
+
+degrees-append : (ss us : List Constraint) → degrees (ss ++ us) ≡ degrees ss + degrees us
+degrees-append ss us = sum_by-append {X = Constraint} (λ s. s.degree) ss us
+
+weight_in-append : (ss us : List Constraint) → weight_in (ss ++ us) ≡ weight_in ss + weight_in us
+weight_in-append ss us = sum_by-append {X = Constraint} (λ s. weight s.terms) ss us
+
+coef_in-one : (l : Lit) (s : Constraint) → coef_in (s ∷ []) l ≡ coef_of s.terms l
+coef_in-one l s = omega (arith, coef_in-cons l s [])
+
+value_in-one : (a : Assignment) (s : Constraint) → value_in a (s ∷ []) ≡ value a s.terms
+value_in-one a s = omega (arith, sum_by-cons {X = Constraint} (λ s. value a s.terms) s [])
+
+degrees-one : (s : Constraint) → degrees (s ∷ []) ≡ s.degree
+degrees-one s = omega (arith, sum_by-cons {X = Constraint} (λ s. s.degree) s [])
+
+weight_in-one : (s : Constraint) → weight_in (s ∷ []) ≡ weight s.terms
+weight_in-one s = omega (arith, sum_by-cons {X = Constraint} (λ s. weight s.terms) s [])
+
+is_false : (a : Assignment) (clause : List Lit) → AllFalse a clause → (l : Lit) → Contains clause l → lit_value a l ≡ false
+is_false a clause h l m = All-contains (λ (l : Lit). lit_value a l ≡ false) clause l h m
+
+abbrev pub reason : List Lit → List ℕ → List ℕ → Reason
+reason clause ids weakened = record { clause = clause; ids = ids; weakened = weakened }
+
+-- ---- a side: a sum that is known to reach a number where the clause is false
+
+pub record Side (clause : List Lit) (ts : List Weighted) (u : ℕ) (sources : List Constraint) (weakened : List ℕ) : Type 0 where
+  pub within : (l : Lit) → is_among clause l ≡ true ⊎ (Contains weakened l.var ⊎ (coef_in sources l + coef_of ts (negated l) ≤ coef_in sources (negated l) + coef_of ts l))
+  pub apart : (l : Lit) → Contains clause l → ¬ Contains weakened l.var
+  pub short : (a : Assignment) → AllFalse a clause → value_in a sources + u ≤ degrees sources + value a ts
+  pub reachable : u ≤ weight ts
+  pub light : weight_in sources ≤ 2 * weight ts
+  pub low : degrees sources ≤ weight ts
+
+-- a literal has no coefficient, or its variable is one of the terms
+cases_coef : (ts : List Weighted) (l : Lit) → (coef_of ts l ≡ 0) ⊎ ((t : Weighted) × Contains ts t × (t.lit.var ≡ l.var))
+cases_coef [] l = inl refl
+cases_coef (t ∷ ts) l =
+    let cons = coef_of-cons l t ts in
+    elim (cases_Bool (is_same t.lit l)) as (λ _. (coef_of (t ∷ ts) l ≡ 0) ⊎ ((u : Weighted) × Contains (t ∷ ts) u × (u.lit.var ≡ l.var))) [
+      | inl same ↦ inr (t, Contains-here t ts, ap (λ (k : Lit). k.var) (same_lit t.lit l same))
+      | inr other ↦
+          let nothing : cond (is_same t.lit l) t.coef 0 ≡ 0 = cond-false (is_same t.lit l) t.coef 0 other in
+          elim (cases_coef ts l) as (λ _. (coef_of (t ∷ ts) l ≡ 0) ⊎ ((u : Weighted) × Contains (t ∷ ts) u × (u.lit.var ≡ l.var))) [
+            | inl none ↦ inl (omega arith)
+            | inr some ↦ inr (some.0, Contains-there t ts some.0 some.1, some.2)
+          ]
+    ]
+
+-- nothing is known but that the sum is not negative
+pub side_none : (clause : List Lit) (ts : List Weighted) (weakened : List ℕ) → ((t : Weighted) → Contains ts t → Contains weakened t.lit.var) → ((l : Lit) → Contains clause l → ¬ Contains weakened l.var)
+    → Side clause ts 0 [] weakened
+side_none clause ts weakened all apart = record {
+  within = λ l. elim (cases_coef ts (negated l)) as (λ _. is_among clause l ≡ true ⊎ (Contains weakened l.var ⊎ (0 + coef_of ts (negated l) ≤ 0 + coef_of ts l))) [
+    | inl none ↦ inr (inr (omega arith))
+    | inr some ↦ inr (inl (subst (λ (v : ℕ). Contains weakened v) some.2 (all some.0 some.1)))
+  ];
+  apart = apart;
+  short = λ a h. omega arith;
+  reachable = omega arith;
+  light = omega arith;
+  low = omega arith;
+}
+
+none_apart : (clause : List Lit) (l : Lit) → Contains clause l → ¬ Contains {X = ℕ} [] l.var
+none_apart clause l h = Contains-nil l.var
+
+-- a leaf, whose literal is true where the clause, which has its negation, is false
+pub side_leaf : (clause : List Lit) (t : Weighted) (u : ℕ) → u ≤ t.coef → is_among clause (negated t.lit) ≡ true → Side clause (t ∷ []) u [] []
+side_leaf clause t u le among = record {
+  within = λ l. elim (cases_Bool (is_same t.lit (negated l))) as (λ _. is_among clause l ≡ true ⊎ (Contains [] l.var ⊎ (0 + coef_of (t ∷ []) (negated l) ≤ 0 + coef_of (t ∷ []) l))) [
+    | inl same ↦ inl (subst (λ (k : Lit). is_among clause k ≡ true) (ap negated (same_lit t.lit (negated l) same) ∙ negated-negated l) among)
+    | inr other ↦
+        let nothing : cond (is_same t.lit (negated l)) t.coef 0 ≡ 0 = cond-false (is_same t.lit (negated l)) t.coef 0 other in
+        inr (inr (omega (arith, coef_of-cons (negated l) t [])))
+  ];
+  apart = none_apart clause;
+  short = λ a h.
+      let on : lit_value a t.lit ≡ true = not_false (lit_value a t.lit) (sym (lit_value-negated a t.lit) ∙ is_false a clause h (negated t.lit) (from_among clause (negated t.lit) among)) in
+      let whole : term_value a t ≡ t.coef = cond-true (lit_value a t.lit) t.coef 0 on in
+      omega (arith, value-cons a t []);
+  reachable = omega (arith, weight-cons t []);
+  light = omega arith;
+  low = omega arith;
+}
+  where
+    not_false : (b : Bool) → not b ≡ false → b ≡ true
+    not_false true h = refl
+    not_false false h = sym h
+
+-- a variable that means it, which is true where the clause, which has its negation, is false
+pub side_fresh : (clause : List Lit) (m : Meaning) → m.least ≤ weight m.sum → is_among clause (negated (positive_of m.var)) ≡ true → Side clause m.sum m.least (forward_of m ∷ []) []
+side_fresh clause m le among =
+    let x = negated (positive_of m.var) in
+    let head : Weighted = record { coef = m.least; lit = x } in
+    record {
+      within = λ l. elim (cases_Bool (is_same x l)) as (λ _. is_among clause l ≡ true ⊎ (Contains [] l.var ⊎ (coef_in (forward_of m ∷ []) l + coef_of m.sum (negated l) ≤ coef_in (forward_of m ∷ []) (negated l) + coef_of m.sum l))) [
+        | inl same ↦ inl (subst (λ (k : Lit). is_among clause k ≡ true) (same_lit x l same) among)
+        | inr other ↦
+            let nothing : cond (is_same x l) m.least 0 ≡ 0 = cond-false (is_same x l) m.least 0 other in
+            inr (inr (omega (arith, coef_in-one l (forward_of m), coef_in-one (negated l) (forward_of m), coef_of-cons l head m.sum, coef_of-cons (negated l) head m.sum)))
+      ];
+      apart = none_apart clause;
+      short = λ a h.
+          let off : lit_value a x ≡ false = is_false a clause h x (from_among clause x among) in
+          let nothing : term_value a head ≡ 0 = cond-false (lit_value a x) m.least 0 off in
+          omega (arith, value_in-one a (forward_of m), degrees-one (forward_of m), value-cons a head m.sum);
+      reachable = le;
+      light = omega (arith, weight_in-one (forward_of m), weight-cons head m.sum);
+      low = omega (arith, degrees-one (forward_of m));
+    }
+
+-- ---- clauses
+
+-- what a side leaves of a literal that is not in the clause, with more of both signs
+-- two sides reach two numbers, so that a variable is true which means that both sums together reach at most the sum of these
+pub follows_pair : (clause : List Lit) (ts us : List Weighted) (u v : ℕ) (ss rs : List Constraint) (ws xs : List ℕ) (m : Meaning)
+    → Side clause ts u ss ws → Side clause us v rs xs → m.sum ≡ ts ++ us → m.least ≤ u + v → is_among clause (positive_of m.var) ≡ true → weight ts + weight us < 2 ^ 100
+    → (ids : List ℕ) → FollowsFrom (ss ++ (rs ++ reverse_of m ∷ [])) (reason clause ids (ws ++ xs))
+follows_pair clause ts us u v ss rs ws xs m left right sum le among light ids =
+    let o = positive_of m.var in
+    let top : Weighted = record { coef = spare m; lit = o } in
+    let last = reverse_of m in
+    let all = ss ++ (rs ++ last ∷ []) in
+    let heavy : weight m.sum ≡ weight ts + weight us = ap weight sum ∙ weight-append ts us in
+    let split : (l : Lit) → coef_in all l ≡ coef_in ss l + (coef_in rs l + coef_of last.terms l) = λ l. omega (arith, coef_in-append l ss (rs ++ last ∷ []), coef_in-append l rs (last ∷ []), coef_in-one l last) in
+    let own : (l : Lit) → coef_of last.terms l ≡ cond (is_same o l) (spare m) 0 + (coef_of ts (negated l) + coef_of us (negated l)) = λ l.
+    omega (arith, coef_of-cons l top (map opposite m.sum), coef_of-opposite m.sum l, ap (λ (ws : List Weighted). coef_of ws (negated l)) sum, coef_of-append ts us (negated l)) in
+    let back : (l : Lit) → coef_of last.terms (negated l) ≡ cond (is_same o (negated l)) (spare m) 0 + (coef_of ts l + coef_of us l) = λ l.
+    own (negated l) ∙ ap (λ (k : Lit). cond (is_same o (negated l)) (spare m) 0 + (coef_of ts k + coef_of us k)) (negated-negated l) in
+    record {
+      within = λ l.
+          let Goal : Type 0 = is_among clause l ≡ true ⊎ (Contains (ws ++ xs) l.var ⊎ (coef_in all l ≤ coef_in all (negated l))) in
+          elim (cases_Bool (is_same o l)) as (λ _. Goal) [
+            | inl same ↦ inl (subst (λ (k : Lit). is_among clause k ≡ true) (same_lit o l same) among)
+            | inr other ↦
+                let nothing : cond (is_same o l) (spare m) 0 ≡ 0 = cond-false (is_same o l) (spare m) 0 other in
+                elim (left.within l) as (λ _. Goal) [
+                  | inl here ↦ inl here
+                  | inr more ↦ elim more as (λ _. Goal) [
+                    | inl gone ↦ inr (inl (Contains-append_left ws xs l.var gone))
+                    | inr one ↦ elim (right.within l) as (λ _. Goal) [
+                      | inl here ↦ inl here
+                      | inr rest ↦ elim rest as (λ _. Goal) [
+                        | inl gone ↦ inr (inl (Contains-append_right ws xs l.var gone))
+                        | inr two ↦ inr (inr (omega (arith, one, two, nothing, split l, split (negated l), own l, back l)))
+                      ]
+                    ]
+                  ]
+                ]
+          ];
+      apart = λ l h gone. elim (Contains-append_cases ws xs l.var gone) [ inl first ↦ left.apart l h first | inr second ↦ right.apart l h second ];
+      short = λ a h.
+          let off : lit_value a o ≡ false = is_false a clause h o (from_among clause o among) in
+          let nothing : term_value a top ≡ 0 = cond-false (lit_value a o) (spare m) 0 off in
+          let one = left.short a h in
+          let two = right.short a h in
+          let values : value a m.sum ≡ value a ts + value a us = ap (value a) sum ∙ value-append a ts us in
+          omega (
+            arith,
+            one,
+            two,
+            nothing,
+            values,
+            heavy,
+            le,
+            left.reachable,
+            right.reachable,
+            value_in-append a ss (rs ++ last ∷ []),
+            value_in-append a rs (last ∷ []),
+            value_in-one a last,
+            value-cons a top (map opposite m.sum),
+            value-opposite a m.sum,
+            degrees-append ss (rs ++ last ∷ []),
+            degrees-append rs (last ∷ []),
+            degrees-one last,
+          );
+      weight_fits = omega (
+        arith,
+        left.light,
+        right.light,
+        heavy,
+        light,
+        weight_in-append ss (rs ++ last ∷ []),
+        weight_in-append rs (last ∷ []),
+        weight_in-one last,
+        weight-cons top (map opposite m.sum),
+        weight-opposite m.sum,
+      );
+      degree_fits = omega (
+        arith,
+        left.low,
+        right.low,
+        heavy,
+        light,
+        degrees-append ss (rs ++ last ∷ []),
+        degrees-append rs (last ∷ []),
+        degrees-one last,
+      );
+    }
+
+-- a side that reaches more than the bound, so that the sum's own constraint is broken
+pub follows_root : (clause : List Lit) (ts : List Weighted) (bound u : ℕ) (ss : List Constraint) → Side clause ts u ss [] → bound < u → bound ≤ weight ts → weight ts < 2 ^ 100
+    → (ids : List ℕ) → FollowsFrom (ss ++ record { terms = map opposite ts; degree = weight ts - bound } ∷ []) (reason clause ids [])
+follows_root clause ts bound u ss side above within light ids =
+    let last : Constraint = record { terms = map opposite ts; degree = weight ts - bound } in
+    let all = ss ++ last ∷ [] in
+    let back : (l : Lit) → coef_of last.terms (negated l) ≡ coef_of ts l = λ l. coef_of-opposite ts (negated l) ∙ ap (coef_of ts) (negated-negated l) in
+    record {
+      within = λ l.
+          let Goal : Type 0 = is_among clause l ≡ true ⊎ (Contains [] l.var ⊎ (coef_in all l ≤ coef_in all (negated l))) in
+          elim (side.within l) as (λ _. Goal) [
+            | inl here ↦ inl here
+            | inr more ↦ elim more as (λ _. Goal) [
+              | inl gone ↦ inr (inl gone)
+              | inr one ↦ inr (inr (omega (
+                arith,
+                one,
+                coef_in-append l ss (last ∷ []),
+                coef_in-append (negated l) ss (last ∷ []),
+                coef_in-one l last,
+                coef_in-one (negated l) last,
+                coef_of-opposite ts l,
+                back l,
+              )))
+            ]
+          ];
+      apart = side.apart;
+      short = λ a h.
+          let one = side.short a h in
+          omega (arith, one, above, within, value_in-append a ss (last ∷ []), value_in-one a last, value-opposite a ts, degrees-append ss (last ∷ []), degrees-one last);
+      weight_fits = omega (arith, side.light, light, weight_in-append ss (last ∷ []), weight_in-one last, weight-opposite ts);
+      degree_fits = omega (arith, side.low, light, degrees-append ss (last ∷ []), degrees-one last);
+    }
+
+-- ---- a sum with something before
+
+-- what stands before the sum of the other variable leaves nothing that counts, and adds at most so much
+pub record Front (clause : List Lit) (ts : List Weighted) (weakened : List ℕ) (most : ℕ) : Type 0 where
+  pub within : (l : Lit) → is_among clause l ≡ true ⊎ (Contains weakened l.var ⊎ (coef_of ts l ≤ coef_of ts (negated l)))
+  pub apart : (l : Lit) → Contains clause l → ¬ Contains weakened l.var
+  pub short : (a : Assignment) → AllFalse a clause → value a ts ≤ most
+
+-- a weakened term adds its coefficient
+pub front_weakened : (clause : List Lit) (t : Weighted) → ((l : Lit) → Contains clause l → l.var ≡ t.lit.var → ⊥) → Front clause (t ∷ []) (t.lit.var ∷ []) t.coef
+front_weakened clause t apart = record {
+  within = λ l. elim (cases_coef (t ∷ []) l) as (λ _. is_among clause l ≡ true ⊎ (Contains (t.lit.var ∷ []) l.var ⊎ (coef_of (t ∷ []) l ≤ coef_of (t ∷ []) (negated l)))) [
+    | inl none ↦ inr (inr (omega arith))
+    | inr some ↦ inr (inl (elim (Contains-cons_cases t [] some.0 some.1) as (λ _. Contains (t.lit.var ∷ []) l.var) [
+      | inl same ↦ subst (λ (v : ℕ). Contains (t.lit.var ∷ []) v) (ap (λ (u : Weighted). u.lit.var) same ∙ some.2) (Contains-here t.lit.var [])
+      | inr none ↦ absurd (Contains-nil some.0 none)
+    ]))
+  ];
+  apart = λ l h gone. elim (Contains-cons_cases t.lit.var [] l.var gone) [ inl same ↦ apart l h (sym same) | inr none ↦ absurd (Contains-nil l.var none) ];
+  short = λ a h. omega (arith, value-cons a t [], at_most (lit_value a t.lit) t.coef);
+}
+  where
+    at_most : (b : Bool) (n : ℕ) → cond b n 0 ≤ n
+    at_most true n = omega arith
+    at_most false n = omega arith
+
+-- a term of the clause adds nothing where that is false
+pub front_false : (clause : List Lit) (t : Weighted) → is_among clause t.lit ≡ true → Front clause (t ∷ []) [] 0
+front_false clause t among = record {
+  within = λ l. elim (cases_Bool (is_same t.lit l)) as (λ _. is_among clause l ≡ true ⊎ (Contains [] l.var ⊎ (coef_of (t ∷ []) l ≤ coef_of (t ∷ []) (negated l)))) [
+    | inl same ↦ inl (subst (λ (k : Lit). is_among clause k ≡ true) (same_lit t.lit l same) among)
+    | inr other ↦
+        let nothing : cond (is_same t.lit l) t.coef 0 ≡ 0 = cond-false (is_same t.lit l) t.coef 0 other in
+        inr (inr (omega (arith, coef_of-cons l t [])))
+  ];
+  apart = none_apart clause;
+  short = λ a h.
+      let nothing : term_value a t ≡ 0 = cond-false (lit_value a t.lit) t.coef 0 (is_false a clause h t.lit (from_among clause t.lit among)) in
+      omega (arith, value-cons a t []);
+}
+
+-- a side over a sum with something before, and a true variable that means that the sum stays below so much less
+pub follows_rest : (clause : List Lit) (ts us : List Weighted) (u most : ℕ) (ss : List Constraint) (ws : List ℕ) (m : Meaning)
+    → Side clause (ts ++ us) u ss [] → Front clause ts ws most → m.sum ≡ us → m.least + most ≤ u → m.least ≤ weight us + 1 → is_among clause (positive_of m.var) ≡ true → weight (ts ++ us) < 2 ^ 100
+    → (ids : List ℕ) → FollowsFrom (ss ++ reverse_of m ∷ []) (reason clause ids ws)
+follows_rest clause ts us u most ss ws m side front sum le room among light ids =
+    let o = positive_of m.var in
+    let top : Weighted = record { coef = spare m; lit = o } in
+    let last = reverse_of m in
+    let all = ss ++ last ∷ [] in
+    let heavy : weight m.sum ≡ weight us = ap weight sum in
+    let whole = weight-append ts us in
+    let split : (l : Lit) → coef_in all l ≡ coef_in ss l + coef_of last.terms l = λ l. omega (arith, coef_in-append l ss (last ∷ []), coef_in-one l last) in
+    let own : (l : Lit) → coef_of last.terms l ≡ cond (is_same o l) (spare m) 0 + coef_of us (negated l) = λ l.
+    omega (arith, coef_of-cons l top (map opposite m.sum), coef_of-opposite m.sum l, ap (λ (ws : List Weighted). coef_of ws (negated l)) sum) in
+    let back : (l : Lit) → coef_of last.terms (negated l) ≡ cond (is_same o (negated l)) (spare m) 0 + coef_of us l = λ l.
+    own (negated l) ∙ ap (λ (k : Lit). cond (is_same o (negated l)) (spare m) 0 + coef_of us k) (negated-negated l) in
+    record {
+      within = λ l.
+          let Goal : Type 0 = is_among clause l ≡ true ⊎ (Contains ws l.var ⊎ (coef_in all l ≤ coef_in all (negated l))) in
+          elim (cases_Bool (is_same o l)) as (λ _. Goal) [
+            | inl same ↦ inl (subst (λ (k : Lit). is_among clause k ≡ true) (same_lit o l same) among)
+            | inr other ↦
+                let nothing : cond (is_same o l) (spare m) 0 ≡ 0 = cond-false (is_same o l) (spare m) 0 other in
+                elim (front.within l) as (λ _. Goal) [
+                  | inl here ↦ inl here
+                  | inr more ↦ elim more as (λ _. Goal) [
+                    | inl gone ↦ inr (inl gone)
+                    | inr two ↦ elim (side.within l) as (λ _. Goal) [
+                      | inl here ↦ inl here
+                      | inr rest ↦ elim rest as (λ _. Goal) [
+                        | inl gone ↦ absurd (Contains-nil l.var gone)
+                        | inr one ↦ inr (inr (omega (arith, one, two, nothing, split l, split (negated l), own l, back l, coef_of-append ts us l, coef_of-append ts us (negated l))))
+                      ]
+                    ]
+                  ]
+                ]
+          ];
+      apart = front.apart;
+      short = λ a h.
+          let off : lit_value a o ≡ false = is_false a clause h o (from_among clause o among) in
+          let nothing : term_value a top ≡ 0 = cond-false (lit_value a o) (spare m) 0 off in
+          let one = side.short a h in
+          let two = front.short a h in
+          let values : value a m.sum ≡ value a us = ap (value a) sum in
+          omega (
+            arith,
+            one,
+            two,
+            nothing,
+            values,
+            heavy,
+            le,
+            room,
+            value-append a ts us,
+            value_in-append a ss (last ∷ []),
+            value_in-one a last,
+            value-cons a top (map opposite m.sum),
+            value-opposite a m.sum,
+            degrees-append ss (last ∷ []),
+            degrees-one last,
+          );
+      weight_fits = omega (
+        arith,
+        side.light,
+        heavy,
+        whole,
+        light,
+        weight_in-append ss (last ∷ []),
+        weight_in-one last,
+        weight-cons top (map opposite m.sum),
+        weight-opposite m.sum,
+      );
+      degree_fits = omega (arith, side.low, heavy, whole, light, degrees-append ss (last ∷ []), degrees-one last);
+    }
+
+-- a true variable that means that its own sum is large, where the sum's front is false and the rest too light
+pub follows_alone : (clause : List Lit) (t : Weighted) (us : List Weighted) (ws : List ℕ) (m : Meaning)
+    → m.sum ≡ t ∷ us → is_among clause (negated (positive_of m.var)) ≡ true → is_among clause t.lit ≡ true → weight us < m.least → m.least ≤ weight m.sum → ((u : Weighted) → Contains us u → Contains ws u.lit.var)
+    → ((l : Lit) → Contains clause l → ¬ Contains ws l.var) → weight m.sum < 2 ^ 100
+    → (ids : List ℕ) → FollowsFrom (forward_of m ∷ []) (reason clause ids ws)
+follows_alone clause t us ws m sum among also short le gone apart light ids =
+    let x = negated (positive_of m.var) in
+    let head : Weighted = record { coef = m.least; lit = x } in
+    let only = forward_of m in
+    record {
+      within = λ l.
+          let Goal : Type 0 = is_among clause l ≡ true ⊎ (Contains ws l.var ⊎ (coef_in (only ∷ []) l ≤ coef_in (only ∷ []) (negated l))) in
+          elim (cases_Bool (is_same x l)) as (λ _. Goal) [
+            | inl same ↦ inl (subst (λ (k : Lit). is_among clause k ≡ true) (same_lit x l same) among)
+            | inr other ↦ elim (cases_Bool (is_same t.lit l)) as (λ _. Goal) [
+              | inl same ↦ inl (subst (λ (k : Lit). is_among clause k ≡ true) (same_lit t.lit l same) also)
+              | inr different ↦ elim (cases_coef us l) as (λ _. Goal) [
+                | inl none ↦
+                    let nothing : cond (is_same x l) m.least 0 ≡ 0 = cond-false (is_same x l) m.least 0 other in
+                    let little : cond (is_same t.lit l) t.coef 0 ≡ 0 = cond-false (is_same t.lit l) t.coef 0 different in
+                    inr (inr (omega (arith, coef_in-one l only, coef_of-cons l head m.sum, ap (λ (ws : List Weighted). coef_of ws l) sum, coef_of-cons l t us)))
+                | inr some ↦ inr (inl (subst (λ (v : ℕ). Contains ws v) some.2 (gone some.0 some.1)))
+              ]
+            ]
+          ];
+      apart = apart;
+      short = λ a h.
+          let off : lit_value a x ≡ false = is_false a clause h x (from_among clause x among) in
+          let nothing : term_value a head ≡ 0 = cond-false (lit_value a x) m.least 0 off in
+          let little : term_value a t ≡ 0 = cond-false (lit_value a t.lit) t.coef 0 (is_false a clause h t.lit (from_among clause t.lit also)) in
+          omega (arith, value_in-one a only, degrees-one only, value-cons a head m.sum, ap (value a) sum, value-cons a t us, value-le-weight a us);
+      weight_fits = omega (arith, weight_in-one only, weight-cons head m.sum);
+      degree_fits = omega (arith, degrees-one only);
+    }
+
+-- a false variable that means that its sum is small, which the sum's own constraint denies
+pub follows_top : (clause : List Lit) (m : Meaning) (own : Constraint)
+    → is_among clause (positive_of m.var) ≡ true → own.terms ≡ m.sum → weight m.sum < spare m + own.degree → own.degree ≤ weight m.sum → weight m.sum < 2 ^ 100
+    → (ids : List ℕ) → FollowsFrom (reverse_of m ∷ own ∷ []) (reason clause ids [])
+follows_top clause m own among terms heavy within light ids =
+    let o = positive_of m.var in
+    let top : Weighted = record { coef = spare m; lit = o } in
+    let one = reverse_of m in
+    let all = one ∷ own ∷ [] in
+    let split : (l : Lit) → coef_in all l ≡ cond (is_same o l) (spare m) 0 + coef_of m.sum (negated l) + coef_of m.sum l = λ l.
+    omega (arith, coef_in-cons l one (own ∷ []), coef_in-one l own, coef_of-cons l top (map opposite m.sum), coef_of-opposite m.sum l, ap (λ (ws : List Weighted). coef_of ws l) terms) in
+    let back : (l : Lit) → coef_in all (negated l) ≡ cond (is_same o (negated l)) (spare m) 0 + coef_of m.sum l + coef_of m.sum (negated l) = λ l.
+    split (negated l) ∙ ap (λ (k : Lit). cond (is_same o (negated l)) (spare m) 0 + coef_of m.sum k + coef_of m.sum (negated l)) (negated-negated l) in
+    record {
+      within = λ l.
+          let Goal : Type 0 = is_among clause l ≡ true ⊎ (Contains [] l.var ⊎ (coef_in all l ≤ coef_in all (negated l))) in
+          elim (cases_Bool (is_same o l)) as (λ _. Goal) [
+            | inl same ↦ inl (subst (λ (k : Lit). is_among clause k ≡ true) (same_lit o l same) among)
+            | inr other ↦
+                let nothing : cond (is_same o l) (spare m) 0 ≡ 0 = cond-false (is_same o l) (spare m) 0 other in
+                inr (inr (omega (arith, nothing, split l, back l)))
+          ];
+      apart = none_apart clause;
+      short = λ a h.
+          let off : lit_value a o ≡ false = is_false a clause h o (from_among clause o among) in
+          let nothing : term_value a top ≡ 0 = cond-false (lit_value a o) (spare m) 0 off in
+          omega (
+            arith,
+            nothing,
+            heavy,
+            sum_by-cons {X = Constraint} (λ s. value a s.terms) one (own ∷ []),
+            value_in-one a own,
+            value-cons a top (map opposite m.sum),
+            value-opposite a m.sum,
+            ap (value a) terms,
+            sum_by-cons {X = Constraint} (λ s. s.degree) one (own ∷ []),
+            degrees-one own,
+          );
+      weight_fits = omega (arith, light, sum_by-cons {X = Constraint} (λ s. weight s.terms) one (own ∷ []), weight_in-one own, weight-cons top (map opposite m.sum), weight-opposite m.sum, ap weight terms);
+      degree_fits = omega (arith, light, within, sum_by-cons {X = Constraint} (λ s. s.degree) one (own ∷ []), degrees-one own);
+    }

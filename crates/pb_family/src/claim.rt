@@ -1,0 +1,149 @@
+//! Steps that give a clause, or add constraints.
+ghost use Rattle.std.specs.Prelude.{◌≡◌, ◌≤◌, ◌<◌, ◌+◌, ◌^◌, [], ◌∷◌, ◌++◌, pos, length, map, flat_map, IfOk};
+ghost use Rattle.pb_base.specs.Literals.{is_among};
+ghost use Rattle.pb_norm.specs.BoundedSums.{vars_of};
+ghost use Rattle.pb_norm.specs.ClauseForm.{one_of, distinct};
+ghost use Rattle.pb_norm.specs.Constraints.{weights};
+ghost use Rattle.pb_steps.specs.declared.op.PolOp.TheVariants.{Div, Push, Weaken};
+ghost use Rattle.pb_steps.specs.declared.step.Step.TheVariants.{Pol};
+ghost use Rattle.pb_derive.specs.Reasons.{adding, push_and_add, widest};
+ghost use Rattle.pb_derive.specs.Rups.{by_rup};
+ghost use Rattle.pb_family.specs.Derivations.{closed, claimed, propagated};
+ghost use Rattle.pb_family.specs.StepSinks.{HandsSteps};
+
+use crate::sink::SinkFault;
+use crate::step_sink::{StepSink, take_steps};
+use pb_base::{Ids, Lit, Term, Terms};
+use pb_steps::{PolOp, PolOps, Step};
+use std::alloc::{AllocError, Global};
+
+// Above all numbers of a constraint that has room, so that division by it leaves 1 of each.
+const WIDEST: i128 = 85070591730234615865843651857942052863;
+
+// Adds that constraints are pushed and added.
+fn push_sum(ops: &mut Vec<PolOp>, first: u64, more: &[u64]) -> Result<(), AllocError>
+    ensures { IfOk result (λ _. ops.new.items ≡ ops.old.items ++ Push first ∷ flat_map push_and_add more.now) }
+{
+    ops.push(PolOp::Push(first))?;
+    for id in more {
+        ops.push(PolOp::Push(*id))?;
+        ops.push(PolOp::Add)?;
+    }
+    Ok(())
+}
+
+// Adds that the variables of terms are weakened away.
+fn push_weakened(ops: &mut Vec<PolOp>, terms: &[Term]) -> Result<(), AllocError>
+    ensures { IfOk result (λ _. ops.new.items ≡ ops.old.items ++ map Weaken (vars_of (weights terms.now))) }
+{
+    for term in terms {
+        ops.push(PolOp::Weaken(term.lit.var))?;
+    }
+    Ok(())
+}
+
+// Adds that one of each literal is left.
+fn push_division(ops: &mut Vec<PolOp>) -> Result<(), AllocError>
+    ensures { IfOk result (λ _. ops.new.items ≡ ops.old.items ++ Div (pos widest) ∷ []) }
+{
+    ops.push(PolOp::Div(WIDEST))?;
+    Ok(())
+}
+
+// The sum of constraints.
+fn sum_step(alloc: Global, ids: &[u64]) -> Result<Step, AllocError>
+    requires some { 1 ≤ length ids.now }
+    ensures { IfOk result (λ step. step ≡ Pol (adding ids.now)) }
+{
+    let mut ops = Vec::new(alloc);
+    push_sum(&mut ops, ids[0], &ids[1..])?;
+    Ok(Step::Pol(PolOps::from_vec(ops)))
+}
+
+// A clause, by constraints without the variables of some terms.
+fn closing_step(alloc: Global, ids: &[u64], weakened: &[Term]) -> Result<Step, AllocError>
+    requires some { 1 ≤ length ids.now }
+    ensures { IfOk result (λ step. step ≡ Pol (closed ids.now (vars_of (weights weakened.now)))) }
+{
+    let mut ops = Vec::new(alloc);
+    push_sum(&mut ops, ids[0], &ids[1..])?;
+    push_weakened(&mut ops, weakened)?;
+    push_division(&mut ops)?;
+    Ok(Step::Pol(PolOps::from_vec(ops)))
+}
+
+// Whether a literal is among others.
+fn is_among(lits: &[Lit], lit: &Lit) -> bool
+    ensures { result ≡ is_among lits.now lit.now }
+{
+    lits.contains(lit)
+}
+
+// Each literal once, with the coefficient 1.
+fn each_once(alloc: Global, clause: &[Lit]) -> Result<Vec<Term>, AllocError>
+    ensures { IfOk result (λ v. v.items ≡ map one_of (distinct clause.now)) }
+{
+    let mut terms = Vec::new(alloc);
+    for place in 0..clause.len() {
+        let lit = clause[place];
+        if !is_among(&clause[place + 1..], &lit) {
+            terms.push(Term { coef: 1, lit })?;
+        }
+    }
+    Ok(terms)
+}
+
+// A clause, by propagation from constraints.
+fn propagated_step(alloc: Global, ids: &[u64], clause: &[Lit]) -> Result<Step, AllocError>
+    ensures { IfOk result (λ step. step ≡ (by_rup ids.now clause.now).step) }
+{
+    let terms = each_once(alloc, clause)?;
+    let mut used = Vec::new(alloc);
+    used.extend_from_slice(ids)?;
+    Ok(Step::Rup {
+        terms: Terms::from_vec(terms),
+        right: 1,
+        ids: Ids::from_vec(used),
+    })
+}
+
+/// Hands over the sum of the constraints with some ids.
+pub fn take_sum<T: StepSink>(alloc: Global, ids: &[u64], sink: &mut T) -> Result<(), SinkFault>
+    requires some { 1 ≤ length ids.now }
+    requires few { (T.state sink.old).next < 2 ^ 62 }
+    ensures { HandsSteps (Pol (adding ids.now) ∷ []) result (T.state sink.old) (T.state sink.new) }
+{
+    let step = sum_step(alloc, ids)?;
+    sink.step(&step)
+}
+
+/// Hands over that a clause follows from the constraints with some ids, without the variables of some terms, and puts it out.
+pub fn take_claim<T: StepSink>(
+    alloc: Global,
+    ids: &[u64],
+    weakened: &[Term],
+    sink: &mut T,
+) -> Result<(), SinkFault>
+    requires some { 1 ≤ length ids.now }
+    requires few { (T.state sink.old).next + 1 < 2 ^ 62 }
+    ensures { HandsSteps (claimed (T.state sink.old).next ids.now (vars_of (weights weakened.now))) result (T.state sink.old) (T.state sink.new) }
+{
+    let id = sink.next_id();
+    let step = closing_step(alloc, ids, weakened)?;
+    take_steps(&step, &Step::Out { id }, sink)
+}
+
+/// Hands over that a short clause follows by propagation from the constraints with some ids, and puts it out.
+pub fn take_propagated<T: StepSink>(
+    alloc: Global,
+    ids: &[u64],
+    clause: &[Lit],
+    sink: &mut T,
+) -> Result<(), SinkFault>
+    requires few { (T.state sink.old).next + 1 < 2 ^ 62 }
+    ensures { HandsSteps (propagated (T.state sink.old).next ids.now clause.now) result (T.state sink.old) (T.state sink.new) }
+{
+    let id = sink.next_id();
+    let shown = propagated_step(alloc, ids, clause)?;
+    take_steps(&shown, &Step::Out { id }, sink)
+}

@@ -1,0 +1,57 @@
+//! Steps that delete constraints.
+ghost use Rattle.std.specs.Prelude.{◌≡◌, ◌≤◌, ◌<◌, ◌+◌, ◌*◌, ◌^◌, [], ◌∷◌, IfOk};
+ghost use Rattle.std.specs.List.{range_with_len};
+ghost use Rattle.pb_steps.specs.declared.step.Step.TheVariants.{Del};
+ghost use Rattle.pb_derive.specs.Deletions.{deletion_steps};
+ghost use Rattle.pb_family.specs.StepSinks.{HandsSteps};
+
+use crate::sink::SinkFault;
+use crate::step_sink::StepSink;
+use pb_base::Ids;
+use pb_steps::Step;
+use std::alloc::{AllocError, Global};
+
+// So many neighbouring ids go.
+fn deletion_step(alloc: Global, id: u64, width: u64) -> Result<Step, AllocError>
+    requires fits { id + width < 2 ^ 64 }
+    ensures { IfOk result (λ step. step ≡ Del (range_with_len id width)) }
+{
+    let mut ids = Vec::new(alloc);
+    for next in id..id + width {
+        ids.push(next)?;
+    }
+    Ok(Step::Del(Ids::from_vec(ids)))
+}
+
+/// Hands over that so many neighbouring ids go.
+pub fn take_deletion<T: StepSink>(
+    alloc: Global,
+    id: u64,
+    width: u64,
+    sink: &mut T,
+) -> Result<(), SinkFault>
+    requires fits { id + width < 2 ^ 64 }
+    requires few { (T.state sink.old).next < 2 ^ 62 }
+    ensures { HandsSteps (Del (range_with_len id width) ∷ []) result (T.state sink.old) (T.state sink.new) }
+{
+    let step = deletion_step(alloc, id, width)?;
+    sink.step(&step)
+}
+
+/// Hands over that neighbouring ids go, as many in each of `count` steps.
+pub fn take_deletions<T: StepSink>(
+    alloc: Global,
+    id: u64,
+    width: u64,
+    count: u64,
+    sink: &mut T,
+) -> Result<(), SinkFault>
+    requires fits { id + width * count < 2 ^ 64 }
+    requires few { (T.state sink.old).next < 2 ^ 62 }
+    ensures { HandsSteps (deletion_steps width id count) result (T.state sink.old) (T.state sink.new) }
+{
+    for k in 0..count {
+        take_deletion(alloc, id + width * k, width, sink)?;
+    }
+    Ok(())
+}

@@ -1,0 +1,50 @@
+//! Families that derive their clauses.
+ghost use Rattle.std.specs.Prelude.{◌≡◌, ◌≤◌, ◌<◌, ◌+◌, ◌*◌, ◌^◌, ℕ, List, All, length};
+ghost use Rattle.pb_steps.specs.declared.step.Step.{Step};
+ghost use Rattle.pb_steps.specs.Database.{Database};
+ghost use Rattle.pb_steps.specs.Sayable.{IsSayable};
+ghost use Rattle.pb_derive.specs.Derivations.{IsReadyFor, Derives};
+ghost use Rattle.pb_derive.specs.Short.{AreShort};
+ghost use Rattle.pb_family.specs.Derivations.{AreOriginal, MayStart};
+ghost use Rattle.pb_family.specs.Families.{VarsBelow};
+ghost use Rattle.pb_family.specs.StepSinks.{HandsSteps};
+
+use crate::family::Family;
+use crate::sink::SinkFault;
+use crate::step_sink::StepSink;
+use std::alloc::Global;
+
+/// Families that derive their clauses from the constraint which they stand for.
+pub trait Derive: Family {
+    /// The steps, where the fresh variables are numbered from the first number on, the second is the id of the constraint, and
+    /// the third is the next id.
+    ghost step_list: { Self → ℕ → ℕ → ℕ → List Step };
+
+    /// Hands over the steps, in order. The fresh variables are numbered from `first` on, and `id` is the constraint's.
+    fn derive<T: StepSink>(
+        &self,
+        alloc: Global,
+        first: u32,
+        id: u64,
+        sink: &mut T,
+    ) -> Result<(), SinkFault>
+        requires original { VarsBelow first (Self.constraint self.now).terms }
+        requires low { 1 ≤ first }
+        requires fits { first + Self.fresh_count self.now ≤ 2 ^ 31 }
+        requires given { 1 ≤ id }
+        requires known { id < (T.state sink.old).next }
+        requires few { (T.state sink.old).next ≤ 2 ^ 61 }
+        ensures { HandsSteps (step_list self.now first id (T.state sink.old).next) result (T.state sink.old) (T.state sink.new) };
+
+    /// From a database in which the constraint has the id, the steps are allowed one after the other and put out the clauses.
+    ghost derives: { (f : Self) (first id : ℕ) (db : Database) → VarsBelow first (Self.constraint f).terms → IsReadyFor (Self.constraint f) first (Self.fresh_count f) id db → Derives db (step_list f first id db.next) (Self.clause_list f first) (first + Self.fresh_count f) };
+
+    /// The steps are few.
+    ghost few_steps: { (f : Self) (first id next : ℕ) → length (step_list f first id next) ≤ 8 * (Self.fresh_count f + Self.clause_count f) };
+
+    /// Lines can say them: all numbers are within their limits.
+    ghost sayable: { (f : Self) (first id next : ℕ) → AreOriginal first (Self.constraint f).terms → MayStart first (Self.fresh_count f) id next → All IsSayable (step_list f first id next) };
+
+    /// These lines are short.
+    ghost short: { (f : Self) (first id next : ℕ) → AreOriginal first (Self.constraint f).terms → MayStart first (Self.fresh_count f) id next → length (Self.constraint f).terms ≤ 2 ^ 21 → AreShort (length (Self.constraint f).terms) (Self.fresh_count f) (Self.clause_count f) (step_list f first id next) };
+}

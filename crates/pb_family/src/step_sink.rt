@@ -1,0 +1,45 @@
+//! What takes steps of a derivation.
+ghost use Rattle.std.specs.Prelude.{◌≡◌, ◌<◌, ◌+◌, ◌^◌, ◌∷◌, [], count_by};
+ghost use Rattle.pb_steps.specs.Steps.{takes_id};
+ghost use Rattle.pb_family.specs.StepSinks.{StepState, HandsSteps};
+
+use crate::sink::SinkFault;
+use pb_steps::Step;
+
+/// Takes steps, each as its line, and counts the ids that they take.
+pub trait StepSink {
+    /// What it stands over beside its text.
+    ghost Rest: { Type 0 };
+
+    /// The sink, as contracts see it.
+    ghost state: { Self → StepState Rest };
+
+    /// Takes a step. Where that fails, a first part of its line was taken, and no id.
+    fn step(&mut self, step: &Step) -> Result<(), SinkFault>
+        requires few { (state self.old).next < 2 ^ 62 }
+        ensures { HandsSteps (step.now ∷ []) result (state self.old) (state self.new) };
+
+    /// The id of the next step that takes one.
+    fn next_id(&self) -> u64
+        ensures { result ≡ (state self.now).next };
+}
+
+/// The next id after a step, where it was the given one before.
+pub fn next_after(step: &Step, next: u64) -> u64
+    requires few { next < 2 ^ 62 }
+    ensures { result ≡ next + count_by takes_id (step.now ∷ []) }
+{
+    match step {
+        Step::Pol(_) | Step::Rup { .. } | Step::Red { .. } => next + 1,
+        _ => next,
+    }
+}
+
+/// Hands over two steps.
+pub fn take_steps<T: StepSink>(one: &Step, other: &Step, sink: &mut T) -> Result<(), SinkFault>
+    requires few { (T.state sink.old).next + 1 < 2 ^ 62 }
+    ensures { HandsSteps (one.now ∷ other.now ∷ []) result (T.state sink.old) (T.state sink.new) }
+{
+    sink.step(one)?;
+    sink.step(other)
+}
