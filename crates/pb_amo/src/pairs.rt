@@ -6,9 +6,10 @@ ghost use Rattle.pb_norm.specs.Reduction.{all_weigh, lits_of};
 ghost use Rattle.pb_amo.specs.Pairwise.{pair_count, pairwise_clauses};
 ghost use Rattle.pb_amo.specs.Source.{source_literals};
 
+use crate::claims::derive_pairs;
 use crate::source::Source;
 use pb_base::Failed;
-use pb_family::{ClauseSink, Family, SinkFault, Strong};
+use pb_family::{ClauseSink, Derive, Family, SinkFault, StepSink, Strong};
 use pb_norm::AtMost;
 use std::alloc::Global;
 
@@ -106,4 +107,31 @@ impl Strong for Pairwise<'_> {
     ghost use Rattle.pb_amo.specs.laws.PairwiseLaws.{pairwise_propagates};
 
     ghost propagates = { λ f first below. pairwise_propagates f.of.now f.at_most_one f.units f.distinct };
+}
+
+impl Derive for Pairwise<'_> {
+    ghost use Rattle.pb_amo.specs.PairwiseSteps.{pairwise_steps};
+    ghost use Rattle.pb_amo.specs.laws.PairwiseDerivation.{pairwise_derives, pairwise_few};
+    ghost use Rattle.pb_amo.specs.laws.PairwiseShort.{pairwise_sayable, pairwise_short};
+
+    ghost step_list = { λ f first id next. pairwise_steps (lits_of f.of.now.terms) id next };
+
+    fn derive<T: StepSink>(
+        &self,
+        alloc: Global,
+        first: u32,
+        id: u64,
+        sink: &mut T,
+    ) -> Result<(), SinkFault> {
+        let _ = first;
+        derive_pairs(alloc, &Source::OfTerms(self.of.terms()), id, sink)
+    }
+
+    ghost derives = { λ f first id db below ready. pairwise_derives f.of.now f.at_most_one f.units f.distinct first id db below ready };
+
+    ghost few_steps = { λ f first id next. pairwise_few f.of.now.terms id next };
+
+    ghost sayable = { λ f first id next original start. pairwise_sayable f.of.now.terms first id next original start f.few };
+
+    ghost short = { λ f first id next original start. pairwise_short f.of.now.terms first id next original start f.few };
 }

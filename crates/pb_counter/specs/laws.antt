@@ -1,5 +1,9 @@
+pub mod CounterDerives
+pub mod CounterFollows
 pub mod CounterLaws
 pub mod CounterModels
 pub mod CounterPlaces
-pub mod CounterSteps
+pub mod CounterPropagation
+pub mod CounterShort
+pub mod HandedReasons
 pub mod SeenLiterals

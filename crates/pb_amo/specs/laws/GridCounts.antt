@@ -4,7 +4,7 @@ use Rattle.std.proofs.Math.Nat.{mul-le-mul_right, mul-le-mul_left}
 use Rattle.std.proofs.lemmas.Bool.{cases_lt, le-leb, lt-leb}
 use Rattle.pb_amo.specs.Pairwise.{pair_count}
 use Rattle.pb_amo.specs.Product.{columns, rows, fresh_within, count_within, product_fresh, product_count}
-use Rattle.pb_amo.specs.laws.GridSides.{columns_positive, rows_are, sides_fit, rows_positive}
+use Rattle.pb_amo.specs.laws.GridSides.{columns_positive, rows_are, sides_fit, sides_half, rows_positive}
 use Rattle.pb_amo.specs.laws.Choice.{chosen_true, chosen_false}
 
 pub fresh_last : (n : ℕ) → fresh_within zero n ≡ 0
@@ -177,3 +177,16 @@ is_grid n many few =
       clauses = count_step n many;
       clauses_small = omega arith;
     }
+
+-- the clauses grow with the literals
+pub count_linear : (k n : ℕ) → n ≤ k → count_within k n ≤ 16 * n
+count_linear zero n within = omega (arith, count_within_square zero n, mul-le-mul_left n (let none : n ≤ 16 = omega (arith, within) in none))
+count_linear (suc more) n within =
+    elim (cases_lt 16 n) as (λ _. count_within (suc more) n ≤ 16 * n) [
+      | inr small ↦ omega (arith, count_within_square (suc more) n, mul-le-mul_left n small)
+      | inl many ↦
+          let r = rows n in
+          let q = columns n in
+          let half = sides_half n (omega (arith, many)) in
+          omega (arith, count_many more n (omega (arith, many)), half, many, count_linear more r (omega (arith, half, many, within)), count_linear more q (omega (arith, half, many, within)))
+    ]

@@ -162,6 +162,24 @@ sides_fit n h =
     let three = three_rows n h in
     fits (rows n) (columns n) n (omega arith) (omega arith) close
 
+-- and little more than half of them
+half : (x y n : ℕ) → (x + 3) * (y + 2) < n + (y + 2) → 2 * (x + 3 + (y + 2)) ≤ n + 5
+half x y n h = omega (arith, h)
+
+pub sides_half : (n : ℕ) → 4 < n → 2 * (rows n + columns n) ≤ n + 5
+sides_half n h =
+    let close = (rows_are n (omega arith)).close in
+    let two = two_columns n h in
+    let three = three_rows n h in
+    at_least (rows n) (columns n) three two close
+  where
+    at_least : (r q : ℕ) → 3 ≤ r → 2 ≤ q → r * q < n + q → 2 * (r + q) ≤ n + 5
+    at_least r q three two close =
+        let r_is : r - 3 + 3 ≡ r = omega (arith, three) in
+        let q_is : q - 2 + 2 ≡ q = omega (arith, two) in
+        let all = half (r - 3) (q - 2) n (subst (λ (m : ℕ). m * (q - 2 + 2) < n + (q - 2 + 2)) (sym r_is) (subst (λ (m : ℕ). r * m < n + m) (sym q_is) close)) in
+        omega (arith, all, r_is, q_is)
+
 -- two places differ in their rows or in their columns
 pub places_differ : (q i j : ℕ) → i ≢ j → (i / q ≢ j / q) ⊎ (i % q ≢ j % q)
 places_differ q i j other =

@@ -23,7 +23,7 @@ use Rattle.pb_family.proofs.Models.{sound_from_sums}
 use Rattle.pb_family.proofs.Extended.{extended, extended_below}
 use Rattle.pb_counter.specs.Counter.{count_bit, starts, starts_below, counts_one, keeps, counts_more, stops, row_pair, counter_row, counter_clauses, counter_fresh, counter_size}
 use Rattle.pb_counter.specs.laws.CounterPlaces.{from_counter_parts}
-use Rattle.pb_counter.specs.laws.CounterSteps.{refuted, pushed}
+use Rattle.pb_counter.specs.laws.CounterPropagation.{refuted, pushed}
 use Rattle.pb_counter.specs.laws.CounterModels.{counting, satisfied}
 
 -- ---- the laws

@@ -1,0 +1,8 @@
+use Rattle.std.proofs.Common.{◌+◌, ◌*◌, ◌++◌, ◌∙◌, ℕ, List, [], ◌∷◌, ap}
+use Rattle.pb_amo.proofs.GridPieces.{range_push}
+use Rattle.pb_amo.proofs.cells.ids_of.Goals as goal
+
+pub loop-line-preserved : goal.loop-line-preserved
+loop-line-preserved c =
+    let f : ℕ → ℕ = λ k. c.args.base + 2 * k in
+    c.in_ok-push.ensures.items ∙ ap (λ (is : List ℕ). is ++ f c.loop-line.line ∷ []) c.loop-line.invariant ∙ ap (λ (is : List ℕ). c.args.id ∷ is) (range_push f c.loop-line.line)

@@ -1,0 +1,340 @@
+-- The clauses of a grid are derived.
+use Rattle.std.proofs.Common.{◌≡◌, ◌≢◌, ◌≤◌, ◌<◌, ◌+◌, ◌*◌, ◌^◌, ℕ, true, leb, List, [], ◌∷◌, ◌++◌, length, length-append, refl, ap, sym, ◌∙◌, subst, arith, inl, inr, get_or, zero, suc}
+use Rattle.std.specs.Prelude.{All, map, count_by}
+use Rattle.std.specs.List.{range_with_len, flat_map}
+use Rattle.std.proofs.lemmas.Bool.{cases_lt, le-leb, lt-leb}
+use Rattle.std.proofs.lemmas.List.{get_or_append_left, get_or-append-add, length-map}
+use Rattle.std.proofs.lemmas.List.Elements.{All-nil, All-cons, All-append, All-map, All-weaker, All-contains_itself}
+use Rattle.std.proofs.lemmas.List.FromFn.{length-map-range_with_len, get_or-map-range_with_len}
+use Rattle.pb_base.specs.declared.literal.Lit.{Lit}
+use Rattle.pb_norm.specs.Constraints.{Weighted}
+use Rattle.pb_steps.specs.Database.{Database}
+use Rattle.pb_steps.specs.declared.step.Step.{Step}
+use Rattle.pb_derive.specs.Deletions.{deletion_steps}
+use Rattle.pb_derive.specs.Derivations.{as_constraint, IsReadyFor, Derives}
+use Rattle.pb_derive.specs.FollowedBy.{followed_by}
+use Rattle.pb_derive.specs.Claims.{Claim}
+use Rattle.pb_steps.specs.Steps.{takes_id}
+use Rattle.pb_derive.specs.Later.{Knows, IsLater}
+use Rattle.pb_derive.specs.Meanings.{Meaning, meaning_steps, forward_of}
+use Rattle.pb_derive.specs.Ones.{ones}
+use Rattle.pb_derive.specs.laws.Ran.{RanSwept, IsClaim}
+use Rattle.pb_derive.specs.laws.Meant.{IsMeant}
+use Rattle.pb_derive.specs.Reasons.{Reason, by_reason}
+use Rattle.pb_derive.proofs.FollowedBy.{followed_swept, swept_counted, later_wider}
+use Rattle.pb_derive.proofs.InRow.{AreInRow, IsFitMeaning, row-append, row_by_places, row_meanings}
+use Rattle.pb_derive.proofs.Laters.{known_below, later_knows, later_then}
+use Rattle.pb_derive.proofs.Meant.{Meant, meanings_ran, meant_at}
+use Rattle.pb_derive.proofs.Phases.{meanings_add, swept_derives}
+use Rattle.pb_derive.proofs.PinLemmas.{AreApartLits}
+use Rattle.pb_derive.proofs.Running.{claims_ran}
+use Rattle.pb_derive.proofs.Scoped.{Scoped, scoped}
+use Rattle.pb_derive.proofs.UnitTerms.{ones-lits}
+use Rattle.pb_family.proofs.Ranges.{range_each}
+use Rattle.pb_family.proofs.FlatRanges.{flat_each}
+use Rattle.pb_amo.specs.laws.Choice.{chosen_true, chosen_false}
+use Rattle.pb_amo.specs.laws.GridSides.{columns_positive, row_within, sides_fit}
+use Rattle.pb_amo.specs.Pairwise.{pairwise_clauses}
+use Rattle.pb_amo.specs.laws.PairwiseDerives.{pairwise_swept}
+use Rattle.pb_amo.specs.Product.{rows, columns, line, cells, cell, fresh_within, clauses_within, product_fresh, product_clauses}
+use Rattle.pb_amo.specs.laws.ProductLines.{line_fit, line_claim, Derivable, side_swept}
+use Rattle.pb_amo.specs.ProductSteps.{line_meaning, line_meanings, line_reason, line_sum, side_steps, row_of, column_of, grid_meanings, cell_reasons, cells_steps, steps_within, product_steps}
+use Rattle.pb_amo.specs.AtMostOne.{at_most_one}
+use Rattle.pb_amo.specs.PairwiseSteps.{pairwise_claims, pairwise_steps}
+use Rattle.pb_amo.specs.laws.GridCounts.{fresh_last, fresh_few, fresh_many}
+use Rattle.pb_amo.specs.laws.GridClauses.{clauses_last, clauses_few, clauses_many}
+use Rattle.pb_base.proofs.Pairs.{AllPairs-map}
+use Rattle.pb_family.proofs.UnitSums.{unit_coefficient}
+use Rattle.pb_family.specs.Families.{VarsBelow}
+use Rattle.pb_norm.proofs.Proper.{apart}
+use Rattle.pb_norm.specs.Reduction.{lits_of, all_weigh}
+use Rattle.pb_norm.specs.BoundedSums.{BoundedSum, IsOverDistinct}
+
+-- ---- the steps by cases
+
+pub steps_last : (ms : List Lit) (first id next : ℕ) → steps_within zero ms first id next ≡ pairwise_steps ms id next
+unfolding steps_within
+steps_last ms first id next = refl
+
+pub steps_few : (more : ℕ) (ms : List Lit) (first id next : ℕ) → length ms ≤ 4 → steps_within (suc more) ms first id next ≡ pairwise_steps ms id next
+unfolding steps_within
+steps_few more ms first id next few = chosen_true (leb (length ms) 4) (pairwise_steps ms id next) _ (le-leb (length ms) 4 few)
+
+-- the rows' part and the columns'
+abbrev pub rows_steps : ℕ → List Lit → ℕ → ℕ → ℕ → ℕ → List Step
+rows_steps more ms first id base = side_steps (line_sum id base (rows (length ms))) (steps_within more (line first (rows (length ms))) (first + rows (length ms) + columns (length ms)))
+
+abbrev pub columns_steps : ℕ → List Lit → ℕ → ℕ → ℕ → ℕ → List Step
+columns_steps more ms first id base =
+    side_steps (line_sum id (base + 2 * rows (length ms)) (columns (length ms)))
+    (steps_within more (line (first + rows (length ms)) (columns (length ms))) (first + rows (length ms) + columns (length ms) + fresh_within more (rows (length ms))))
+
+-- between the meanings and their deletion
+abbrev pub grid_body : ℕ → List Lit → ℕ → ℕ → ℕ → ℕ → List Step
+grid_body more ms first id base = followed_by (cells_steps ms first (rows (length ms)) (columns (length ms)) base) (followed_by (rows_steps more ms first id base) (columns_steps more ms first id base))
+
+abbrev pub grid_steps : ℕ → List Lit → ℕ → ℕ → ℕ → List Step
+grid_steps more ms first id next =
+    let r = rows (length ms) in
+    let q = columns (length ms) in
+    meaning_steps next (grid_meanings ms first r q) ++ (grid_body more ms first id next (next + 2 * (r + q)) ++ deletion_steps 2 next (r + q))
+
+pub steps_many : (more : ℕ) (ms : List Lit) (first id next : ℕ) → 4 < length ms → steps_within (suc more) ms first id next ≡ grid_steps more ms first id next
+unfolding steps_within
+steps_many more ms first id next many = chosen_false (leb (length ms) 4) (pairwise_steps ms id next) _ (lt-leb (length ms) 4 many)
+
+-- the clauses of the cells
+pub cells-clauses : (ms : List Lit) (first r q base a n : ℕ) → map (λ (c : Claim). c.clause) (map by_reason (flat_map (cell_reasons ms first r q base) (range_with_len a n))) ≡ flat_map (cell ms first r q) (range_with_len a n)
+cells-clauses ms first r q base a zero = refl
+cells-clauses ms first r q base a (suc n) = ap (λ (cs : List (List Lit)). (line_reason (row_of q) ms first base a).clause ∷ (line_reason (column_of q) ms (first + r) (base + 2 * r) a).clause ∷ cs) (cells-clauses ms first r q base (a + 1) n)
+
+-- ---- up to four literals
+
+leaf_swept : (ms : List Lit) → AreApartLits ms → (first id : ℕ) → All (λ l. l.var < first) ms → (db : Database) → IsReadyFor (at_most_one ms) first 0 id db →
+    RanSwept (λ v. v < first + 0) db (pairwise_steps ms id db.next) (pairwise_clauses ms) (count_by takes_id (pairwise_steps ms id db.next))
+leaf_swept ms other first id below db ready =
+    let P : ℕ → Type 0 = λ v. v < first + 0 in
+    let fits = ready.vars in
+    swept_counted P db (pairwise_steps ms id db.next) (pairwise_clauses ms) (length (pairwise_claims ms id))
+    (pairwise_swept ms other P id db ready.numbered ready.stands
+    (All-weaker (λ (l : Lit). l.var < first) (λ (l : Lit). P l.var) (λ l h. omega arith) ms below)
+    (All-weaker (λ (l : Lit). l.var < first) (λ (l : Lit). l.var ≤ db.vars) (λ l h. omega arith) ms below))
+
+-- ---- a grid
+
+module _ (more : ℕ) (inductive : Derivable more) (ms : List Lit) (other : AreApartLits ms) (few : length ms < 2 ^ 31) (many : 4 < length ms) (first id : ℕ) (below : All (λ l. l.var < first) ms)
+    (db : Database) (ready : IsReadyFor (at_most_one ms) first (rows (length ms) + columns (length ms) + fresh_within more (rows (length ms)) + fresh_within more (columns (length ms))) id db) where
+  abbrev n : ℕ
+  n = length ms
+
+  abbrev r : ℕ
+  r = rows n
+
+  abbrev q : ℕ
+  q = columns n
+
+  abbrev by_rows : List Meaning
+  by_rows = line_meanings (row_of q) ms first r
+
+  abbrev by_columns : List Meaning
+  by_columns = line_meanings (column_of q) ms (first + r) q
+
+  abbrev lines : List Meaning
+  lines = by_rows ++ by_columns
+
+  abbrev P : ℕ → Type 0
+  P v = v < first + r + q
+
+  row_size : length by_rows ≡ r
+  row_size = length-map-range_with_len (line_meaning (row_of q) ms first) 0 r
+
+  size : length lines ≡ r + q
+  size = omega (arith, length-append by_rows by_columns, row_size, length-map-range_with_len (line_meaning (column_of q) ms (first + r)) 0 q)
+
+  some : 0 < q
+  some = columns_positive n (omega arith)
+
+  row_in : (e : ℕ) → e < n → row_of q e < r
+  row_in e h = row_within n e h
+
+  column_in : (e : ℕ) → e < n → column_of q e < q
+  column_in e h = omega (arith, some)
+
+  in_row_of : AreInRow first lines
+  in_row_of =
+      row-append first by_rows by_columns
+      (subst (λ (v : ℕ). AreInRow v by_rows) (let e : first + 0 ≡ first = omega arith in e) (row_by_places (line_meaning (row_of q) ms first) first 0 r (λ k. refl)))
+      (subst (λ (v : ℕ). AreInRow v by_columns) (let e : first + r + 0 ≡ first + length by_rows = omega (arith, row_size) in e) (row_by_places (line_meaning (column_of q) ms (first + r)) (first + r) 0 q (λ k. refl)))
+
+  lines_fit : All (IsFitMeaning first) lines
+  lines_fit =
+      All-append (IsFitMeaning first) by_rows by_columns
+      (range_each (IsFitMeaning first) (line_meaning (row_of q) ms first) 0 r (λ k low high. line_fit (row_of q) ms other few first below first k))
+      (range_each (IsFitMeaning first) (line_meaning (column_of q) ms (first + r)) 0 q (λ k low high. line_fit (column_of q) ms other few first below (first + r) k))
+
+  meant : Meant P db lines
+  meant =
+      meanings_ran P db lines ready.numbered
+      (row_meanings P db first lines in_row_of lines_fit ready.original (omega (arith, size, ready.vars))
+      (λ v low high. (omega (arith, high, size), ready.unnamed v low (omega (arith, high, size))))
+      (All-weaker (IsFitMeaning first) (λ m. All (λ t. P t.lit.var) m.sum) (λ m fit. All-weaker (λ (t : Weighted). t.lit.var < first) (λ (t : Weighted). P t.lit.var) (λ t h. omega (arith, h)) m.sum fit.below) lines lines_fit))
+
+  abbrev mid : Database
+  mid = meant.ran.end
+
+  at_row : (k : ℕ) → k < r → IsMeant mid (db.next + 2 * k) (line_meaning (row_of q) ms first k)
+  at_row k within =
+      let m : Meaning = line_meaning (row_of q) ms first 0 in
+      subst (IsMeant mid (db.next + 2 * k)) (get_or_append_left by_rows by_columns m k (omega (arith, row_size, within)) ∙ get_or-map-range_with_len (line_meaning (row_of q) ms first) 0 r k k m within (omega arith))
+      (meant_at mid db.next lines k m (omega (arith, size, within)) meant.meant)
+
+  at_column : (k : ℕ) → k < q → IsMeant mid (db.next + 2 * r + 2 * k) (line_meaning (column_of q) ms (first + r) k)
+  at_column k within =
+      let m : Meaning = line_meaning (row_of q) ms first 0 in
+      subst (IsMeant mid (db.next + 2 * r + 2 * k)) (get_or-append-add by_rows by_columns k m ∙ get_or-map-range_with_len (line_meaning (column_of q) ms (first + r)) 0 q k k m within (omega arith))
+      (subst (λ (i : ℕ). IsMeant mid i (get_or lines (length by_rows + k) m)) (let e : db.next + 2 * (length by_rows + k) ≡ db.next + 2 * r + 2 * k = omega (arith, row_size) in e)
+      (meant_at mid db.next lines (length by_rows + k) m (omega (arith, size, row_size, within)) meant.meant))
+
+  abbrev rs : List Reason
+  rs = flat_map (cell_reasons ms first r q db.next) (range_with_len 0 n)
+
+  mid_vars : first + r + q ≤ mid.vars + 1
+  mid_vars = omega (arith, ready.vars, meant.ran.later.vars)
+
+  claims : All (λ r. IsClaim P mid (by_reason r)) rs
+  claims =
+      let Q : Reason → Type 0 = λ r. IsClaim P mid (by_reason r) in
+      flat_each Q (cell_reasons ms first r q db.next) 0 n (λ e low high.
+      All-cons Q (line_reason (row_of q) ms first db.next e) (line_reason (column_of q) ms (first + r) (db.next + 2 * r) e ∷ [])
+      (line_claim (row_of q) ms other few first below P mid first r db.next meant.ran.later.numbered (omega arith) (λ v h. omega (arith, h)) (omega (arith, mid_vars)) row_in at_row e (omega (arith, high)))
+      (All-cons Q (line_reason (column_of q) ms (first + r) (db.next + 2 * r) e) []
+      (line_claim (column_of q) ms other few first below P mid (first + r) q (db.next + 2 * r) meant.ran.later.numbered (omega arith) (λ v h. omega (arith, h)) (omega (arith, mid_vars)) column_in at_column e (omega (arith, high)))
+      (All-nil Q)))
+
+  cells_swept : RanSwept P mid (cells_steps ms first r q db.next mid.next) (cells ms first r q) (length (map by_reason rs))
+  cells_swept =
+      subst (λ (cs : List (List Lit)). RanSwept P mid (cells_steps ms first r q db.next mid.next) cs (length (map by_reason rs))) (cells-clauses ms first r q db.next 0 n)
+      (claims_ran P mid (map by_reason rs) meant.ran.later.numbered (All-map (IsClaim P mid) by_reason rs claims))
+
+  abbrev db1 : Database
+  db1 = cells_swept.ran.end
+
+  abbrev later_cells : IsLater P mid db1
+  later_cells = cells_swept.ran.later
+
+  later_both : IsLater P db db1
+  later_both = later_then P db mid db1 meant.ran.later later_cells
+
+  forward_known : (i : ℕ) (m : Meaning) → IsMeant mid i m → Knows db1 i (forward_of m)
+  forward_known i m h = later_knows P mid db1 i (forward_of m) later_cells (known_below mid i (forward_of m) meant.ran.later.numbered h.first) h.first
+
+  own : Knows db1 id (as_constraint (at_most_one ms))
+  own = later_knows P db db1 id (as_constraint (at_most_one ms)) later_both (known_below db id (as_constraint (at_most_one ms)) ready.numbered ready.stands) ready.stands
+
+  abbrev inner : ℕ
+  inner = first + r + q
+
+  abbrev last : ℕ
+  last = inner + fresh_within more r
+
+  abbrev fresh : ℕ
+  fresh = r + q + fresh_within more r + fresh_within more q
+
+  fit : r + q ≤ n
+  fit = sides_fit n many
+
+  rows_swept : RanSwept (λ v. v < last) db1 (rows_steps more ms first id db.next db1.next) (clauses_within more (line first r) inner) (count_by takes_id (rows_steps more ms first id db.next db1.next))
+  rows_swept =
+      side_swept more inductive (row_of q) ms other few (omega arith) first below first r inner id db.next db1 later_both.numbered own
+      (λ j h. forward_known (db.next + 2 * j) (line_meaning (row_of q) ms first j) (at_row j h)) row_in (omega (arith, fit, few)) (omega arith) (omega arith)
+      (omega (arith, later_both.original, ready.original)) (omega (arith, later_both.vars, ready.vars))
+      (λ v low high. later_both.unnamed v (λ h. omega (arith, h, low)) (ready.unnamed v (omega (arith, low)) (omega (arith, high))))
+
+  abbrev db2 : Database
+  db2 = rows_swept.ran.end
+
+  columns_swept : RanSwept (λ v. v < last + fresh_within more q) db2 (columns_steps more ms first id db.next db2.next) (clauses_within more (line (first + r) q) last) (count_by takes_id (columns_steps more ms first id db.next db2.next))
+  columns_swept =
+      let later = rows_swept.ran.later in
+      side_swept more inductive (column_of q) ms other few (omega arith) first below (first + r) q last id (db.next + 2 * r) db2 later.numbered
+      (later_knows (λ v. v < last) db1 db2 id (as_constraint (at_most_one ms)) later (known_below db1 id (as_constraint (at_most_one ms)) later_both.numbered own) own)
+      (λ j h.
+      let m : Meaning = line_meaning (column_of q) ms (first + r) j in
+      let known = forward_known (db.next + 2 * r + 2 * j) m (at_column j h) in
+      later_knows (λ v. v < last) db1 db2 (db.next + 2 * r + 2 * j) (forward_of m) later (known_below db1 (db.next + 2 * r + 2 * j) (forward_of m) later_both.numbered known) known)
+      column_in (omega (arith, fit, few)) (omega arith) (omega arith)
+      (omega (arith, later.original, later_both.original, ready.original)) (omega (arith, later.vars, later_both.vars, ready.vars))
+      (λ v low high. later.unnamed v (λ h. omega (arith, h, low)) (later_both.unnamed v (λ h. omega (arith, h, low)) (ready.unnamed v (omega (arith, low)) (omega (arith, high)))))
+
+  abbrev Whole : ℕ → Type 0
+  Whole v = v < first + fresh
+
+  -- the clauses of the three parts
+  abbrev all_clauses : List (List Lit)
+  all_clauses = cells ms first r q ++ (clauses_within more (line first r) inner ++ clauses_within more (line (first + r) q) last)
+
+  abbrev ids_between : ℕ
+  ids_between = length (map by_reason rs) + (count_by takes_id (rows_steps more ms first id db.next db1.next) + count_by takes_id (columns_steps more ms first id db.next db2.next))
+
+  body_swept : RanSwept Whole mid (grid_body more ms first id db.next mid.next) all_clauses ids_between
+  body_swept =
+      let ds = clauses_within more (line first r) inner in
+      let es = clauses_within more (line (first + r) q) last in
+      let f = rows_steps more ms first id db.next in
+      let g = columns_steps more ms first id db.next in
+      let one : RanSwept Whole mid (cells_steps ms first r q db.next mid.next) (cells ms first r q) (length (map by_reason rs)) = record {
+        ran = record { end = db1; runs = cells_swept.ran.runs; later = later_wider P Whole (λ v h. omega (arith, h)) mid db1 later_cells; next = cells_swept.ran.next };
+        swept = cells_swept.swept;
+        unmarked = cells_swept.unmarked;
+      } in
+      let two : RanSwept Whole db1 (f db1.next) ds (count_by takes_id (f db1.next)) = record {
+        ran = record { end = db2; runs = rows_swept.ran.runs; later = later_wider (λ v. v < last) Whole (λ v h. omega (arith, h)) db1 db2 rows_swept.ran.later; next = rows_swept.ran.next };
+        swept = rows_swept.swept;
+        unmarked = rows_swept.unmarked;
+      } in
+      let three : RanSwept Whole db2 (g db2.next) es (count_by takes_id (g db2.next)) = record {
+        ran = record {
+          end = columns_swept.ran.end;
+          runs = columns_swept.ran.runs;
+          later = later_wider (λ v. v < last + fresh_within more q) Whole (λ v h. omega (arith, h)) db2 columns_swept.ran.end columns_swept.ran.later;
+          next = columns_swept.ran.next;
+        };
+        swept = columns_swept.swept;
+        unmarked = columns_swept.unmarked;
+      } in
+      let back = followed_swept Whole db1 f g ds es (count_by takes_id (f db1.next)) (count_by takes_id (g db2.next)) two three in
+      followed_swept Whole mid (cells_steps ms first r q db.next) (followed_by f g) (cells ms first r q) (ds ++ es) (length (map by_reason rs)) (count_by takes_id (f db1.next) + count_by takes_id (g db2.next)) one back
+
+  grid_swept : RanSwept Whole db (steps_within (suc more) ms first id db.next) (clauses_within (suc more) ms first) (count_by takes_id (steps_within (suc more) ms first id db.next))
+  grid_swept =
+      let start : mid.next ≡ db.next + 2 * (r + q) = omega (arith, meant.ran.next, size) in
+      let body : List Step = grid_body more ms first id db.next (db.next + 2 * (r + q)) in
+      let whole : Scoped Whole db (meaning_steps db.next lines ++ (body ++ deletion_steps 2 db.next (r + q))) all_clauses (2 * length lines + ids_between) (2 * length lines) =
+      scoped Whole db (meaning_steps db.next lines) body all_clauses (2 * length lines) ids_between 2 (r + q)
+      (record { end = mid; runs = meant.ran.runs; later = later_wider P Whole (λ v h. omega (arith, h)) db mid meant.ran.later; next = meant.ran.next }) ready.numbered (meanings_add db.next lines)
+      (subst (λ (k : ℕ). RanSwept Whole mid (grid_body more ms first id db.next k) all_clauses ids_between) start body_swept) (omega (arith, size)) in
+      let counted = swept_counted Whole db (grid_steps more ms first id db.next) all_clauses (2 * length lines + ids_between) whole.all in
+      subst (λ (ss : List Step). RanSwept Whole db ss (clauses_within (suc more) ms first) (count_by takes_id ss)) (sym (steps_many more ms first id db.next many))
+      (subst (λ (xs : List (List Lit)). RanSwept Whole db (grid_steps more ms first id db.next) xs (count_by takes_id (grid_steps more ms first id db.next))) (sym (clauses_many more ms first many)) counted)
+
+-- ---- grids within grids
+
+pairs_ready : (k : ℕ) (ms : List Lit) → AreApartLits ms → (first id : ℕ) → All (λ l. l.var < first) ms → (db : Database) (count : ℕ) (ss : List Step) (cs : List (List Lit)) → count ≡ 0 → ss ≡ pairwise_steps ms id db.next → cs ≡ pairwise_clauses ms
+    → IsReadyFor (at_most_one ms) first count id db → RanSwept (λ v. v < first + count) db ss cs (count_by takes_id ss)
+pairs_ready k ms other first id below db count ss cs none steps clauses ready =
+    let ran = leaf_swept ms other first id below db (subst (λ (f : ℕ). IsReadyFor (at_most_one ms) first f id db) none ready) in
+    subst (λ (f : ℕ). RanSwept (λ v. v < first + f) db ss cs (count_by takes_id ss)) (sym none)
+    (subst (λ (xs : List Step). RanSwept (λ v. v < first + 0) db xs cs (count_by takes_id xs)) (sym steps) (subst (λ (ds : List (List Lit)). RanSwept (λ v. v < first + 0) db (pairwise_steps ms id db.next) ds (count_by takes_id (pairwise_steps ms id db.next))) (sym clauses) ran))
+
+pub derivable : (k : ℕ) → Derivable k
+derivable zero ms n size other few first id below db ready =
+    pairs_ready zero ms other first id below db (fresh_within zero n) (steps_within zero ms first id db.next) (clauses_within zero ms first) (fresh_last n) (steps_last ms first id db.next) (clauses_last ms first) ready
+derivable (suc more) ms n size other few first id below db ready =
+    elim (cases_lt 4 (length ms)) as (λ _. RanSwept (λ v. v < first + fresh_within (suc more) n) db (steps_within (suc more) ms first id db.next) (clauses_within (suc more) ms first) (count_by takes_id (steps_within (suc more) ms first id db.next))) [
+      | inr small ↦
+          pairs_ready (suc more) ms other first id below db (fresh_within (suc more) n) (steps_within (suc more) ms first id db.next) (clauses_within (suc more) ms first) (fresh_few more n (omega (arith, size, small))) (steps_few more ms first id db.next small) (clauses_few more ms first small) ready
+      | inl many ↦
+          let inductive = derivable more in
+          let count : fresh_within (suc more) n ≡ rows (length ms) + columns (length ms) + fresh_within more (rows (length ms)) + fresh_within more (columns (length ms)) =
+          ap (fresh_within (suc more)) (sym size) ∙ fresh_many more (length ms) many in
+          subst (λ (f : ℕ). RanSwept (λ v. v < first + f) db (steps_within (suc more) ms first id db.next) (clauses_within (suc more) ms first) (count_by takes_id (steps_within (suc more) ms first id db.next))) (sym count)
+          (grid_swept more inductive ms other (omega (arith, size, few)) many first id below db (subst (λ (f : ℕ). IsReadyFor (at_most_one ms) first f id db) count ready))
+    ]
+
+-- ---- the family
+
+pub product_derives : (c : BoundedSum) → c.bound ≡ 1 → all_weigh 1 c.terms ≡ true → IsOverDistinct c.terms → length c.terms < 2 ^ 31 → (first id : ℕ) (db : Database) → VarsBelow first c.terms → IsReadyFor c first (product_fresh (length c.terms)) id db
+    → Derives db (product_steps (lits_of c.terms) first id db.next) (product_clauses (lits_of c.terms) first) (first + product_fresh (length c.terms))
+product_derives c one units distinct few first id db below ready =
+    let ms : List Lit = lits_of c.terms in
+    let n : ℕ = length c.terms in
+    let size : length ms ≡ n = length-map c.terms (λ (t : Weighted). t.lit) in
+    let fresh : fresh_within (length ms) n ≡ product_fresh n = ap (λ (k : ℕ). fresh_within k n) size in
+    let terms : ones ms ≡ c.terms = ones-lits c.terms (λ k d within. unit_coefficient c.terms units (get_or c.terms k d) (All-contains_itself c.terms k d within)) in
+    let same : c ≡ at_most_one ms = (λ i. record { terms = sym terms i; bound = one i }) in
+    let other : AreApartLits ms = AllPairs-map (λ (s t : Weighted). s.lit.var ≢ t.lit.var) (λ (k l : Lit). k.var ≢ l.var) (λ (t : Weighted). t.lit) (λ s t h. h) c.terms (apart c.terms distinct) in
+    let under : All (λ (l : Lit). l.var < first) ms = All-map (λ (l : Lit). l.var < first) (λ (t : Weighted). t.lit) c.terms below in
+    let steps : List Step = product_steps ms first id db.next in
+    let ran = derivable (length ms) ms n size other few first id under db (subst (λ (m : BoundedSum). IsReadyFor m first (fresh_within (length ms) n) id db) same (subst (λ (f : ℕ). IsReadyFor c first f id db) (sym fresh) ready)) in
+    subst (λ (f : ℕ). Derives db steps (product_clauses ms first) (first + f)) fresh
+    (swept_derives db steps (product_clauses ms first) (first + fresh_within (length ms) n) (count_by takes_id steps) ready.numbered ran)

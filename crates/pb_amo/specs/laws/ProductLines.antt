@@ -1,0 +1,167 @@
+-- The lines of a grid's side are derived.
+use Rattle.std.proofs.Common.{◌≡◌, ◌≢◌, ◌≤◌, ◌<◌, ◌+◌, ◌*◌, ◌^◌, ◌&&◌, ◌++◌, ℕ, Bool, true, false, not, List, [], ◌∷◌, length, refl, ap, sym, ◌∙◌, subst, arith, eqb, inl, inr, get_or}
+use Rattle.std.specs.Prelude.{All, Contains, map, sum_by, count_by}
+use Rattle.std.specs.List.{range_with_len}
+use Rattle.std.proofs.lemmas.Bool.{eq-eqb, ne_eqb, and_parts, cases_order, not-true, true≢false}
+use Rattle.std.proofs.lemmas.List.{get_or_default}
+use Rattle.pb_norm.specs.Reduction.{opposite}
+use Rattle.std.proofs.lemmas.List.Elements.{All-nil, All-cons, All-map, All-weaker}
+use Rattle.pb_base.specs.declared.literal.Lit.{Lit}
+use Rattle.pb_base.specs.Literals.{negated}
+use Rattle.pb_norm.specs.Constraints.{Weighted, Constraint, weight}
+use Rattle.pb_norm.specs.BoundedSums.{vars_of}
+use Rattle.pb_steps.specs.Database.{Database}
+use Rattle.pb_steps.specs.declared.step.Step.{Step}
+use Rattle.pb_derive.specs.Derivations.{as_constraint, IsReadyFor}
+use Rattle.pb_derive.specs.Deletions.{deletion_steps}
+use Rattle.pb_steps.specs.Steps.{takes_id}
+use Rattle.pb_derive.specs.Later.{IsNumbered, IsUnnamed, Knows}
+use Rattle.pb_derive.specs.Meanings.{Meaning, forward_of, reverse_of}
+use Rattle.pb_derive.specs.Ones.{unit_of, ones}
+use Rattle.pb_derive.specs.Reasons.{by_reason}
+use Rattle.pb_derive.specs.laws.Ran.{RanSwept, IsClaim}
+use Rattle.pb_derive.specs.laws.Meant.{IsMeant}
+use Rattle.pb_derive.specs.laws.Follows.{FollowsFrom, AllKnown}
+use Rattle.pb_derive.proofs.ClauseClaims.{ones-apart}
+use Rattle.pb_derive.proofs.FollowedBy.{swept_counted, later_wider}
+use Rattle.pb_derive.proofs.InRow.{IsFitMeaning}
+use Rattle.pb_derive.proofs.KnownRanges.{known_range}
+use Rattle.pb_derive.proofs.Reasoned.{reason_claims}
+use Rattle.pb_derive.proofs.PinLemmas.{AreApartLits}
+use Rattle.pb_derive.proofs.Rups.{ones-weight}
+use Rattle.pb_derive.proofs.Scoped.{Scoped, scoped}
+use Rattle.pb_derive.proofs.SomeFollows.{some_follows}
+use Rattle.pb_derive.proofs.Summed.{Summed, summed}
+use Rattle.pb_derive.proofs.UnitTerms.{ones-all, ones-sum, vars-ones}
+use Rattle.pb_family.specs.Fresh.{positive_of, literal_at, fresh_at}
+use Rattle.pb_family.proofs.Ranges.{range_each}
+use Rattle.pb_amo.specs.laws.LineLaws.{length-line}
+use Rattle.pb_amo.specs.laws.LineSums.{line-other, lines-sum}
+use Rattle.pb_amo.specs.Passing.{passing, in_line, is_beside}
+use Rattle.pb_amo.specs.laws.PassingSums.{passing-each, passing-all, passing-pairs, passing-le, passing-but}
+use Rattle.pb_amo.specs.Product.{line, fresh_within, clauses_within}
+use Rattle.pb_amo.specs.AtMostOne.{at_most_one}
+use Rattle.pb_amo.specs.ProductSteps.{line_meaning, line_reason, line_sum, side_steps, steps_within}
+
+and_true : (b : Bool) → b && true ≡ b
+and_true true = refl
+and_true false = refl
+
+and_false : (b : Bool) → b && false ≡ false
+and_false true = refl
+and_false false = refl
+
+not_listed : (x : ℕ) (vs : List ℕ) → All (λ v. v ≢ x) vs → ¬ Contains vs x
+not_listed x vs h c = h c.0 x c.1 c.2
+
+module _ (side : ℕ → ℕ) (ms : List Lit) (other : AreApartLits ms) (few : length ms < 2 ^ 31) (first : ℕ) (below : All (λ l. l.var < first) ms) where
+  abbrev some_weight : (ℕ → Bool) → ℕ
+  some_weight p = weight (ones (passing p 0 ms))
+
+  light : (p : ℕ → Bool) → some_weight p < 2 ^ 31
+  light p =
+      let c : Weighted → ℕ = λ t. t.coef in
+      omega (arith, ones-sum c (passing p 0 ms), passing-le (λ (l : Lit). c (unit_of l)) p 0 ms, ones-sum c ms, ones-weight ms, few)
+
+  pub line_fit : (from k : ℕ) → IsFitMeaning first (line_meaning side ms from k)
+  line_fit from k = record {
+    below = ones-all (λ (t : Weighted). t.lit.var < first) (passing (in_line side k) 0 ms) (passing-all (λ (l : Lit). l.var < first) (in_line side k) 0 ms below);
+    apart = ones-apart (passing (in_line side k) 0 ms) (passing-pairs (λ (k l : Lit). k.var ≢ l.var) (in_line side k) 0 ms other);
+    positive = ones-all (λ (t : Weighted). 0 < t.coef) (passing (in_line side k) 0 ms) (λ i d h. omega arith);
+    some = omega arith;
+    light = omega (arith, light (in_line side k));
+  }
+
+  -- ---- a literal makes its line true
+
+  abbrev rest : ℕ → List Lit
+  rest e = passing (is_beside side e) 0 ms
+
+  line_parts : (e : ℕ) → e < length ms → (f : Weighted → ℕ) → sum_by f (ones (passing (in_line side (side e)) 0 ms)) ≡ f (unit_of (literal_at ms e)) + sum_by f (ones (rest e))
+  line_parts e within f =
+      let but = passing-but (λ (l : Lit). f (unit_of l)) (in_line side (side e)) (is_beside side e) e 0 e ms (positive_of 0) (omega arith) within (eq-eqb (side e) (side e) refl)
+      (ap (λ (b : Bool). eqb (side e) (side e) && not b) (eq-eqb e e refl) ∙ and_false (eqb (side e) (side e)))
+      (λ j apart. ap (λ (b : Bool). eqb (side j) (side e) && not b) (ne_eqb j e apart) ∙ and_true (eqb (side j) (side e))) in
+      omega (arith, ones-sum f (passing (in_line side (side e)) 0 ms), but, ones-sum f (rest e))
+
+  rest_other : (e : ℕ) → e < length ms → All (λ l. l.var ≢ (literal_at ms e).var) (rest e)
+  rest_other e within =
+      passing-each (λ (l : Lit). l.var ≢ (literal_at ms e).var) (is_beside side e) 0 ms (λ j i d at inside passes.
+      let at_j : i ≡ j = omega (arith, at) in
+      let distinct : not (eqb j e) ≡ true = (and_parts (eqb (side j) (side e)) (not (eqb j e)) (subst (λ (i : ℕ). is_beside side e i ≡ true) at_j passes)).1 in
+      elim (cases_order j e) as (λ _. (get_or ms j d).var ≢ (literal_at ms e).var) [
+        | inl same ↦ λ is. true≢false (sym (eq-eqb j e same) ∙ not-true (eqb j e) distinct)
+        | inr apart ↦ elim apart as (λ _. (get_or ms j d).var ≢ (literal_at ms e).var) [
+          | inl before ↦ λ is. other j e d before within (is ∙ ap (λ (l : Lit). l.var) (get_or_default ms e (positive_of 0) d within))
+          | inr after ↦ λ is. other e j d after inside (sym (is ∙ ap (λ (l : Lit). l.var) (get_or_default ms e (positive_of 0) d within)))
+        ]
+      ])
+
+  pub line_claim : (P : ℕ → Type 0) (db : Database) (from w base : ℕ) → IsNumbered db → first ≤ from → ((v : ℕ) → v < from + w → P v) → from + w ≤ db.vars + 1 →
+      ((e : ℕ) → e < length ms → side e < w) → ((k : ℕ) → k < w → IsMeant db (base + 2 * k) (line_meaning side ms from k)) → (e : ℕ) → e < length ms → IsClaim P db (by_reason (line_reason side ms from base e))
+  line_claim P db from w base numbered low named vars inside meant e within =
+      let m : Meaning = line_meaning side ms from (side e) in
+      let l : Lit = literal_at ms e in
+      let ids : List ℕ = (base + 2 * side e + 1) ∷ [] in
+      let parts = line_parts e within in
+      let count : side e < w = inside e within in
+      let under : l.var < first = below e (positive_of 0) within in
+      let own : ¬ Contains (vars_of (ones (rest e))) l.var =
+      not_listed l.var (vars_of (ones (rest e))) (All-map (λ (v : ℕ). v ≢ l.var) (λ (t : Weighted). t.lit.var) (ones (rest e)) (ones-all (λ (t : Weighted). t.lit.var ≢ l.var) (rest e) (rest_other e within))) in
+      let rest_below : All (λ l. l.var < first) (rest e) = passing-all (λ (l : Lit). l.var < first) (is_beside side e) 0 ms below in
+      let fresh : ¬ Contains (vars_of (ones (rest e))) m.var =
+      not_listed m.var (vars_of (ones (rest e))) (All-map (λ (v : ℕ). v ≢ m.var) (λ (t : Weighted). t.lit.var) (ones (rest e)) (ones-all (λ (t : Weighted). t.lit.var ≢ m.var) (rest e) (All-weaker (λ (l : Lit). l.var < first) (λ (l : Lit). l.var ≢ m.var) (λ l h is. omega (arith, h, is, low)) (rest e) rest_below))) in
+      let follows = some_follows m (unit_of l) (ones (rest e)) ids parts (omega arith) (omega arith) (omega (arith, light (in_line side (side e)))) own fresh in
+      reason_claims P db (line_reason side ms from base e) numbered
+      (All-cons (λ (l : Lit). P l.var) (negated l) (fresh_at from (side e) ∷ []) (named l.var (omega (arith, under, low)))
+      (All-cons (λ (l : Lit). P l.var) (fresh_at from (side e)) [] (named (from + side e) (omega (arith, count))) (All-nil (λ (l : Lit). P l.var))))
+      (record {
+        some = λ e. cc;
+        sources = reverse_of m ∷ [];
+        found = ((meant (side e) count).second (omega (arith, parts (λ t. t.coef))), tt);
+        follows = subst (λ (vs : List ℕ). FollowsFrom (reverse_of m ∷ []) (record { clause = negated l ∷ fresh_at from (side e) ∷ []; ids = ids; weakened = vs })) (vars-ones (rest e)) follows;
+        vars_known = All-map (λ (v : ℕ). v ≤ db.vars) (λ (l : Lit). l.var) (rest e) (All-weaker (λ (l : Lit). l.var < first) (λ (l : Lit). l.var ≤ db.vars) (λ l h. omega (arith, h, low, vars, count)) (rest e) rest_below);
+      })
+
+-- ---- at most one line
+
+-- from each database that is ready, the steps with so many grids at most run
+abbrev pub Derivable : ℕ → Type 1
+Derivable k = (ms : List Lit) (n : ℕ) → length ms ≡ n → AreApartLits ms → n < 2 ^ 31 → (first id : ℕ) → All (λ l. l.var < first) ms → (db : Database) → IsReadyFor (at_most_one ms) first (fresh_within k n) id db →
+    RanSwept (λ v. v < first + fresh_within k n) db (steps_within k ms first id db.next) (clauses_within k ms first) (count_by takes_id (steps_within k ms first id db.next))
+
+pub side_swept : (k : ℕ) → Derivable k → (side : ℕ → ℕ) (ms : List Lit) (other : AreApartLits ms) (few : length ms < 2 ^ 31) (some : 0 < length ms) (first : ℕ) (below : All (λ l. l.var < first) ms)
+    (from w inner id base : ℕ) (db : Database) → IsNumbered db → Knows db id (as_constraint (at_most_one ms)) → ((j : ℕ) → j < w → Knows db (base + 2 * j) (forward_of (line_meaning side ms from j)))
+    → ((e : ℕ) → e < length ms → side e < w) → w < 2 ^ 31 → first ≤ from → from + w ≤ inner → db.original < inner → inner + fresh_within k w ≤ db.vars + 1
+    → ((v : ℕ) → inner ≤ v → v < inner + fresh_within k w → IsUnnamed v db)
+    → RanSwept (λ v. v < inner + fresh_within k w) db (side_steps (line_sum id base w) (steps_within k (line from w) inner) db.next) (clauses_within k (line from w) inner) (count_by takes_id (side_steps (line_sum id base w) (steps_within k (line from w) inner) db.next))
+side_swept k inductive side [] other few some first below from w inner id base db numbered own lines within narrow low high original vars unnamed = absurd (omega arith)
+side_swept k inductive side (m ∷ others) other few some first below from w inner id base db numbered own lines within narrow low high original vars unnamed =
+    let ms : List Lit = m ∷ others in
+    let P : ℕ → Type 0 = λ v. v < inner + fresh_within k w in
+    let Q : ℕ → Type 0 = λ v. v < inner in
+    let ids : List ℕ = map (λ j. base + 2 * j) (range_with_len 0 w) in
+    let ss : List Constraint = map (λ j. forward_of (line_meaning side ms from j)) (range_with_len 0 w) in
+    let known : AllKnown (Knows db) ids ss = known_range db (λ j. base + 2 * j) (λ j. forward_of (line_meaning side ms from j)) 0 w (λ j below above. lines j (omega arith)) in
+    let size = length-line from w in
+    let under_line : All (λ l. l.var < inner) (line from w) = range_each (λ (l : Lit). l.var < inner) (fresh_at from) 0 w (λ j below above. omega arith) in
+    let t : Constraint = as_constraint (at_most_one (line from w)) in
+    let sum : Summed Q db (id ∷ ids) t = summed Q db id ids (as_constraint (at_most_one ms) ∷ ss) t numbered (own, known)
+    (lines-sum side m others from w other (All-weaker (λ (l : Lit). l.var < first) (λ (l : Lit). l.var < from) (λ l h. omega (arith, h, low)) ms below) within few narrow)
+    (All-map (λ (u : Weighted). Q u.lit.var) opposite (ones (line from w)) (ones-all (λ (u : Weighted). Q u.lit.var) (line from w) under_line)) in
+    let mid : Database = sum.ran.end in
+    let deeper = inductive (line from w) w size (line-other from w) narrow inner db.next under_line mid (record {
+      original = omega (arith, sum.ran.later.original, original);
+      vars = omega (arith, sum.ran.later.vars, vars);
+      numbered = sum.ran.later.numbered;
+      stands = sum.known;
+      unnamed = λ v from_inner to. sum.ran.later.unnamed v (λ h. omega (arith, h, from_inner)) (unnamed v from_inner to);
+    }) in
+    let cs : List (List Lit) = clauses_within k (line from w) inner in
+    let steps : ℕ → List Step = λ n. line_sum id base w ∷ (steps_within k (line from w) inner db.next n ++ deletion_steps 1 db.next 1) in
+    let ids_of : ℕ = 1 + count_by takes_id (steps_within k (line from w) inner db.next mid.next) in
+    let whole : Scoped P db (steps mid.next) cs ids_of 1 =
+    scoped P db (line_sum id base w ∷ []) (steps_within k (line from w) inner db.next mid.next) cs 1 (count_by takes_id (steps_within k (line from w) inner db.next mid.next)) 1 1
+    (record { end = mid; runs = sum.ran.runs; later = later_wider Q P (λ v h. omega (arith, h)) db mid sum.ran.later; next = sum.ran.next }) numbered
+    (All-cons (λ (s : Step). takes_id s ≡ true) (line_sum id base w) [] refl (All-nil (λ (s : Step). takes_id s ≡ true))) deeper refl in
+    subst (λ (n : ℕ). RanSwept P db (steps n) cs (count_by takes_id (steps n))) sum.ran.next (swept_counted P db (steps mid.next) cs ids_of whole.all)
