@@ -1,3 +1,4 @@
 pub mod Examples
 pub mod Generalized
+pub mod GeneralizedSteps
 pub mod laws

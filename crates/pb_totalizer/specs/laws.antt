@@ -1,2 +1,5 @@
-pub mod TotalizerLaws
+pub mod ByPairs
 pub mod Outputs
+pub mod TotalizerDerives
+pub mod TotalizerLaws
+pub mod TotalizerShort

@@ -1,3 +1,5 @@
+pub mod Pairs
 pub mod Places
 pub mod Scheme
 pub mod Tree
+pub mod TreeSteps

@@ -167,7 +167,7 @@ generalized_lawful bound =
 
 -- ---- what a sum has to be, and the laws
 
-generalized_suits : (m : BoundedSum) → IsProper m → Suits (generalized m.bound) m
+pub generalized_suits : (m : BoundedSum) → IsProper m → Suits (generalized m.bound) m
 generalized_suits m proper = record {
   cut = refl;
   weights = λ t h. refl;

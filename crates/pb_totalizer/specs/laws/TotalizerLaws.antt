@@ -1,15 +1,15 @@
 -- A totalizer is lawful, and its counts in closed form.
-use Rattle.std.proofs.Common.{◌≡◌, ◌<◌, ◌≤◌, ◌+◌, ◌-◌, ◌⊎◌, ◌==◌, ℕ, Bool, true, List, [], ◌∷◌, length, min, refl, sym, ap, ◌∙◌, subst, arith, inl, inr, zero, suc}
+use Rattle.std.proofs.Common.{◌≡◌, ◌≤◌, ◌+◌, ◌-◌, ◌⊎◌, ℕ, Bool, true, List, [], ◌∷◌, length, min, refl, sym, ap, ◌∙◌, subst, arith, inl, inr, zero, suc}
 use Rattle.std.specs.Prelude.{Contains, map, sum_by, count_by, nat_le}
 use Rattle.std.specs.List.{range_with_len}
-use Rattle.std.proofs.lemmas.Bool.{cases_eq, eqb-true, leb-true, le-leb, and_from, and_parts}
+use Rattle.std.proofs.lemmas.Bool.{cases_eq, leb-true, le-leb, and_from, and_parts}
 use Rattle.std.proofs.lemmas.List.{length-map}
 use Rattle.std.proofs.lemmas.List.FromFn.{length-range_with_len, get_or-range_with_len}
 use Rattle.std.proofs.lemmas.List.Concat.{length-flat_map}
 use Rattle.std.proofs.lemmas.List.Sums.{length-filter, sum_by-cons}
 use Rattle.pb_base.specs.declared.literal.Lit.{Lit}
 use Rattle.pb_base.specs.Literals.{Assignment, negated, IsModel, AgreeBelow}
-use Rattle.pb_norm.specs.Constraints.{Weighted, weight}
+use Rattle.pb_norm.specs.Constraints.{Weighted}
 use Rattle.pb_norm.specs.BoundedSums.{BoundedSum, StaysWithin, IsProper}
 use Rattle.pb_norm.specs.ClausePropagation.{ClausesPropagate}
 use Rattle.pb_norm.specs.Reduction.{all_weigh}
@@ -239,7 +239,7 @@ totalizer_lawful bound =
 
 -- ---- what a sum has to be
 
-totalizer_suits : (m : BoundedSum) → all_weigh 1 m.terms ≡ true → IsProper m → Suits (totalizer m.bound) m
+pub totalizer_suits : (m : BoundedSum) → all_weigh 1 m.terms ≡ true → IsProper m → Suits (totalizer m.bound) m
 totalizer_suits m units proper = record {
   cut = refl;
   weights = λ t h. sym (unit_coefficient m.terms units t h);

@@ -18,5 +18,5 @@ overflow_add-result c =
     let part = rw c.in-Some.is at c.in_ok-part.ensures in
     let b = bounds c.bound-bound.result ts (omega arith) in
     let fits : fresh_of (generalized c.bound-bound.result) t ≤ c.args.budget = part.fits in
-    let square = square_fits (fresh_of (generalized c.bound-bound.result) t + length ts) (omega (arith, c.requires.modest, c.bound-bound.ensures.proper.few)) in
+    let square = square_fits (fresh_of (generalized c.bound-bound.result) t + length ts) (omega (arith, c.requires.modest, c.bound-bound.ensures.few)) in
     omega (arith, b.clauses, part.clauses_are)

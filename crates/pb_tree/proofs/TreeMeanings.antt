@@ -1,0 +1,93 @@
+-- The meanings of the fresh variables along a tree, by their places.
+use Rattle.std.proofs.Common.{◌≡◌, ◌<◌, ◌+◌, ◌*◌, ℕ, zero, suc, List, [], ◌∷◌, ◌++◌, length, get_or, refl, ◌∙◌, subst, arith, length-append}
+use Rattle.std.specs.Prelude.{Contains}
+use Rattle.std.proofs.lemmas.List.{get_or_append_left, get_or-append-add, get_or_default}
+use Rattle.pb_norm.specs.Constraints.{Weighted, Constraint}
+use Rattle.pb_tree.specs.Tree.{Tree, empty, leaf, node}
+use Rattle.pb_tree.specs.Scheme.{Scheme, values, fresh_of, output}
+use Rattle.pb_tree.proofs.Sums.{IsLawful}
+use Rattle.pb_derive.specs.Meanings.{Meaning, forward_of, reverse_of}
+use Rattle.pb_derive.specs.Reasons.{Reason}
+use Rattle.pb_derive.specs.laws.Follows.{AllKnown, FollowsFrom}
+use Rattle.pb_tree.specs.TreeSteps.{leaves, meanings_from, meanings}
+
+-- the variable at a place means this
+pub record IsMeaningAt (ms : List Meaning) (k : ℕ) (m : Meaning) : Type 0 where
+  pub within : k < length ms
+  pub here : get_or ms k m ≡ m
+
+-- the two constraints of each variable are known under neighbouring ids, from a number on
+abbrev pub MeaningsKnown : (ℕ → Constraint → Type 0) → ℕ → List Meaning → Type 0
+MeaningsKnown Known id ms = (k : ℕ) (m : Meaning) → IsMeaningAt ms k m → Known (id + 2 * k) (forward_of m) × Known (id + 2 * k + 1) (reverse_of m)
+
+-- the constraints under its ids give the clause
+abbrev pub IsJustified : (ℕ → Constraint → Type 0) → Reason → Type 0
+IsJustified Known r = (sources : List Constraint) × AllKnown Known r.ids sources × FollowsFrom sources r
+
+abbrev pub meaning : ℕ → List Weighted → ℕ → Meaning
+meaning v ts u = record { var = v; sum = ts; least = u }
+
+pub length-meanings_from : (var : ℕ) (ts : List Weighted) (us : List ℕ) → length (meanings_from var ts us) ≡ length us
+length-meanings_from var ts [] = refl
+length-meanings_from var ts (u ∷ us) = let more = length-meanings_from (var + 1) ts us in omega arith
+
+get_or-meanings_from : (var : ℕ) (ts : List Weighted) (us : List ℕ) (p v u : ℕ) → p < length us → get_or us p u ≡ u → var + p ≡ v → get_or (meanings_from var ts us) p (meaning v ts u) ≡ meaning v ts u
+get_or-meanings_from var ts [] p v u within is at = absurd (omega arith)
+get_or-meanings_from var ts (x ∷ us) zero v u within is at = let e : var ≡ v = omega arith in λ i. record { var = e i; sum = ts; least = is i }
+get_or-meanings_from var ts (x ∷ us) (suc p) v u within is at = get_or-meanings_from (var + 1) ts us p v u (omega arith) is (omega arith)
+
+pub length-meanings : (s : Scheme) (t : Tree) (first : ℕ) → length (meanings s t first) ≡ fresh_of s t
+length-meanings s empty first = refl
+length-meanings s (leaf t) first = refl
+length-meanings s (node l r) first =
+    let own = meanings_from (first + fresh_of s l + fresh_of s r) (leaves (node l r)) (values s (node l r)) in
+    let rights = meanings s r (first + fresh_of s l) in
+    omega (
+      arith,
+      length-append (meanings s l first) (rights ++ own),
+      length-append rights own,
+      length-meanings s l first,
+      length-meanings s r (first + fresh_of s l),
+      length-meanings_from (first + fresh_of s l + fresh_of s r) (leaves (node l r)) (values s (node l r)),
+    )
+
+-- ---- meanings that stand in a database
+
+known_front : (K : ℕ → Constraint → Type 0) (id : ℕ) (ms ns : List Meaning) → MeaningsKnown K id (ms ++ ns) → MeaningsKnown K id ms
+known_front K id ms ns h k m at =
+    h k m (record { within = omega (arith, at.within, length-append ms ns); here = get_or_append_left ms ns m k at.within ∙ at.here })
+
+known_back : (K : ℕ → Constraint → Type 0) (id n : ℕ) (ms ns : List Meaning) → length ms ≡ n → MeaningsKnown K id (ms ++ ns) → MeaningsKnown K (id + 2 * n) ns
+known_back K id n ms ns count h k m at =
+    let both = h (length ms + k) m (record { within = omega (arith, at.within, length-append ms ns); here = get_or-append-add ms ns k m ∙ at.here }) in
+    let e : id + 2 * (length ms + k) ≡ id + 2 * n + 2 * k = omega arith in
+    (subst (λ (i : ℕ). K i (forward_of m)) e both.0, subst (λ (i : ℕ). K (i + 1) (reverse_of m)) e both.1)
+
+pub known_left : (K : ℕ → Constraint → Type 0) (s : Scheme) (l r : Tree) (first id : ℕ) → MeaningsKnown K id (meanings s (node l r) first) → MeaningsKnown K id (meanings s l first)
+known_left K s l r first id h =
+    known_front K id (meanings s l first) (meanings s r (first + fresh_of s l) ++ meanings_from (first + fresh_of s l + fresh_of s r) (leaves (node l r)) (values s (node l r))) h
+
+known_rest : (K : ℕ → Constraint → Type 0) (s : Scheme) (l r : Tree) (first id : ℕ) → MeaningsKnown K id (meanings s (node l r) first)
+    → MeaningsKnown K (id + 2 * fresh_of s l) (meanings s r (first + fresh_of s l) ++ meanings_from (first + fresh_of s l + fresh_of s r) (leaves (node l r)) (values s (node l r)))
+known_rest K s l r first id h =
+    known_back K id (fresh_of s l) (meanings s l first) (meanings s r (first + fresh_of s l) ++ meanings_from (first + fresh_of s l + fresh_of s r) (leaves (node l r)) (values s (node l r))) (length-meanings s l first) h
+
+pub known_right : (K : ℕ → Constraint → Type 0) (s : Scheme) (l r : Tree) (first id : ℕ) → MeaningsKnown K id (meanings s (node l r) first) → MeaningsKnown K (id + 2 * fresh_of s l) (meanings s r (first + fresh_of s l))
+known_right K s l r first id h =
+    known_front K (id + 2 * fresh_of s l) (meanings s r (first + fresh_of s l)) (meanings_from (first + fresh_of s l + fresh_of s r) (leaves (node l r)) (values s (node l r))) (known_rest K s l r first id h)
+
+-- the two constraints of an output of a node
+pub output_known : (K : ℕ → Constraint → Type 0) (s : Scheme) (W : ℕ → Type 0) → IsLawful s W → (l r : Tree) (first id u : ℕ) → MeaningsKnown K id (meanings s (node l r) first) → Contains (values s (node l r)) u
+    → (let m = meaning (output s (node l r) first u).var (leaves (node l r)) u in let i = id + 2 * (fresh_of s l + fresh_of s r + s.place u (values s (node l r))) in K i (forward_of m) × K (i + 1) (reverse_of m))
+output_known K s W laws l r first id u h here =
+    let t = node l r in
+    let us = values s t in
+    let p = s.place u us in
+    let start = first + fresh_of s l + fresh_of s r in
+    let m = meaning (output s t first u).var (leaves t) u in
+    let own = known_back K (id + 2 * fresh_of s l) (fresh_of s r) (meanings s r (first + fresh_of s l)) (meanings_from start (leaves t) us) (length-meanings s r (first + fresh_of s l)) (known_rest K s l r first id h) in
+    let within = laws.place_within l r u here in
+    let is : get_or us p u ≡ u = get_or_default us p u 0 within ∙ laws.at_place l r u here in
+    let both = own p m (record { within = omega (arith, within, length-meanings_from start (leaves t) us); here = get_or-meanings_from start (leaves t) us p (start + p) u within is refl }) in
+    let e : id + 2 * fresh_of s l + 2 * fresh_of s r + 2 * p ≡ id + 2 * (fresh_of s l + fresh_of s r + p) = omega arith in
+    (subst (λ (i : ℕ). K i (forward_of m)) e both.0, subst (λ (i : ℕ). K (i + 1) (reverse_of m)) e both.1)

@@ -1,0 +1,181 @@
+-- What the meanings along a tree are by themselves.
+use Rattle.std.proofs.Common.{◌≡◌, ◌≢◌, ◌≤◌, ◌<◌, ◌+◌, ◌/◌, ◌^◌, ℕ, zero, suc, List, [], ◌∷◌, ◌++◌, length, take, drop, refl, ◌∙◌, subst, arith, inl, inr, take-append-drop, length-append}
+use Rattle.std.specs.Prelude.{Contains, All}
+use Rattle.std.proofs.lemmas.List.Elements.{All-nil, All-cons, All-append, All-head, All-tail, All-contains}
+use Rattle.std.proofs.lemmas.List.Kept.{AllPairs-cons}
+use Rattle.pb_base.proofs.Members.{Contains-nil, Contains-here, Contains-there, Contains-cons_cases, All-append_both}
+use Rattle.pb_base.proofs.Pairs.{AllPairs-head, AllPairs-tail, AllPairs-nil}
+use Rattle.pb_norm.specs.Constraints.{Weighted, AllPositive, weight}
+use Rattle.pb_norm.specs.BoundedSums.{IsOverDistinct, vars_of}
+use Rattle.pb_derive.specs.Forms.{AreApartTerms}
+use Rattle.pb_derive.specs.Meanings.{Meaning}
+use Rattle.pb_derive.proofs.InRow.{AreInRow, IsFitMeaning, row-append}
+use Rattle.pb_derive.proofs.Sides.{weight-append}
+use Rattle.pb_tree.specs.Pairs.{Pair}
+use Rattle.pb_tree.specs.Scheme.{Scheme, values, fresh_of}
+use Rattle.pb_tree.specs.Tree.{Tree, empty, leaf, node, split_within, tree_of, IsLeafOf}
+use Rattle.pb_tree.specs.TreeSteps.{leaves, meanings_from, meanings}
+use Rattle.pb_tree.proofs.PairReasons.{IsByPairs, IsPositive}
+use Rattle.pb_tree.proofs.Splitting.{halves}
+use Rattle.pb_tree.proofs.TreeMeanings.{length-meanings}
+use Rattle.pb_tree.proofs.TreeParts.{IsApart, listed_leaf, value_le}
+
+-- a sum of variables below the fresh ones, and a number that it can reach
+pub record IsNodeFit (low : ℕ) (m : Meaning) : Type 0 where
+  pub below : All (λ t. t.lit.var < low) m.sum
+  pub apart : AreApartTerms m.sum
+  pub positive : AllPositive m.sum
+  pub some : 1 ≤ m.least
+  pub reached : m.least ≤ weight m.sum
+  pub light : weight m.sum < 2 ^ 100
+
+pub node_fits : (low : ℕ) (m : Meaning) → IsNodeFit low m → IsFitMeaning low m
+node_fits low m h =
+    let reached = h.reached in
+    let light = h.light in
+    record { below = h.below; apart = h.apart; positive = h.positive; some = h.some; light = omega arith }
+
+-- ---- the leaves of a list's tree
+
+leaves_within : (more : ℕ) (ts : List Weighted) → length ts ≤ more → leaves (split_within more ts) ≡ ts
+unfolding split_within
+leaves_within zero [] fits = refl
+leaves_within zero (t ∷ ts) fits = absurd (omega arith)
+leaves_within (suc more) [] fits = refl
+leaves_within (suc more) (t ∷ []) fits = refl
+leaves_within (suc more) (t ∷ u ∷ us) fits =
+    let ts = t ∷ u ∷ us in
+    let n = length ts / 2 in
+    let short = halves t u us more fits in
+    (λ i. leaves_within more (take n ts) short.0 i ++ leaves_within more (drop n ts) short.1 i) ∙ take-append-drop n ts
+
+pub leaves_of : (ts : List Weighted) → leaves (tree_of ts) ≡ ts
+leaves_of ts = leaves_within (length ts) ts (omega arith)
+
+-- ---- distinct variables
+
+abbrev Other : Weighted → Weighted → Type 0
+Other s t = s.lit.var ≢ t.lit.var
+
+apart-append : (ts us : List Weighted) → AreApartTerms (ts ++ us) → AreApartTerms ts × AreApartTerms us × ((t u : Weighted) → Contains ts t → Contains us u → Other t u)
+apart-append [] us h = (AllPairs-nil Other, h, (λ t u k. absurd (Contains-nil t k)))
+apart-append (t ∷ ts) us h =
+    let head = All-append_both (Other t) ts us (AllPairs-head Other t (ts ++ us) h) in
+    let rest = apart-append ts us (AllPairs-tail Other t (ts ++ us) h) in (
+      AllPairs-cons Other t ts head.0 rest.0,
+      rest.1,
+      (λ s u k m. elim (Contains-cons_cases t ts s k) as (λ _. Other s u) [
+        | inl same ↦ subst (λ (w : Weighted). Other w u) same (All-contains (Other t) us u head.1 m)
+        | inr later ↦ rest.2 s u later m
+      ]),
+    )
+
+pub apart_tree : (t : Tree) → AreApartTerms (leaves t) → IsApart t
+apart_tree empty h = tt
+apart_tree (leaf t) h = tt
+apart_tree (node l r) h =
+    let parts = apart-append (leaves l) (leaves r) h in
+    (apart_tree l parts.0, apart_tree r parts.1, (λ u v k m. parts.2 u v (listed_leaf l u k) (listed_leaf r v m)))
+
+pub apart_from_vars : (ts : List Weighted) → IsOverDistinct ts → AreApartTerms ts
+apart_from_vars [] h = AllPairs-nil Other
+apart_from_vars (t ∷ ts) h =
+    AllPairs-cons Other t ts (all_unmapped (λ (v : ℕ). t.lit.var ≢ v) ts (AllPairs-head (λ v w. v ≢ w) t.lit.var (vars_of ts) h)) (apart_from_vars ts (AllPairs-tail (λ v w. v ≢ w) t.lit.var (vars_of ts) h))
+  where
+    all_unmapped : (P : ℕ → Type 0) (us : List Weighted) → All P (vars_of us) → All (λ u. P u.lit.var) us
+    all_unmapped P [] k = All-nil (λ (u : Weighted). P u.lit.var)
+    all_unmapped P (u ∷ us) k = All-cons (λ (u : Weighted). P u.lit.var) u us (All-head P u.lit.var (vars_of us) k) (all_unmapped P us (All-tail P u.lit.var (vars_of us) k))
+
+-- ---- the meanings
+
+row_from : (var : ℕ) (ts : List Weighted) (us : List ℕ) → AreInRow var (meanings_from var ts us)
+row_from var ts [] = tt
+row_from var ts (u ∷ us) = (refl, row_from (var + 1) ts us)
+
+pub tree_row : (s : Scheme) (t : Tree) (first : ℕ) → AreInRow first (meanings s t first)
+tree_row s empty first = tt
+tree_row s (leaf t) first = tt
+tree_row s (node l r) first =
+    let middle = first + fresh_of s l in
+    let start = first + fresh_of s l + fresh_of s r in
+    let rights = meanings s r middle in
+    let own = meanings_from start (leaves (node l r)) (values s (node l r)) in
+    let one : middle ≡ first + length (meanings s l first) = omega (arith, length-meanings s l first) in
+    let two : start ≡ middle + length rights = omega (arith, length-meanings s r middle) in
+    row-append first (meanings s l first) (rights ++ own) (tree_row s l first)
+    (subst (λ (n : ℕ). AreInRow n (rights ++ own)) one
+    (row-append middle rights own (tree_row s r middle) (subst (λ (n : ℕ). AreInRow n own) two (row_from start (leaves (node l r)) (values s (node l r))))))
+
+-- a sum as meanings have it
+pub record IsSum (low : ℕ) (ts : List Weighted) : Type 0 where
+  pub below : All (λ t. t.lit.var < low) ts
+  pub apart : AreApartTerms ts
+  pub positive : AllPositive ts
+  pub light : weight ts < 2 ^ 100
+
+sum_parts : (low : ℕ) (ts us : List Weighted) → IsSum low (ts ++ us) → IsSum low ts × IsSum low us
+sum_parts low ts us h =
+    let below = All-append_both (λ (t : Weighted). t.lit.var < low) ts us h.below in
+    let apart = apart-append ts us h.apart in
+    let positive = All-append_both (λ (t : Weighted). 0 < t.coef) ts us h.positive in
+    let light = h.light in
+    let sum = weight-append ts us in (
+      record { below = below.0; apart = apart.0; positive = positive.0; light = omega arith },
+      record { below = below.1; apart = apart.1; positive = positive.1; light = omega arith },
+    )
+
+fit_from : (low var : ℕ) (ts : List Weighted) (us : List ℕ) → IsSum low ts → ((u : ℕ) → Contains us u → (1 ≤ u) × (u ≤ weight ts)) → All (IsNodeFit low) (meanings_from var ts us)
+fit_from low var ts [] sum each = All-nil (IsNodeFit low)
+fit_from low var ts (u ∷ us) sum each =
+    let own = each u (Contains-here u us) in
+    All-cons (IsNodeFit low) (record { var = var; sum = ts; least = u }) (meanings_from (var + 1) ts us)
+    (record { below = sum.below; apart = sum.apart; positive = sum.positive; some = own.0; reached = own.1; light = sum.light })
+    (fit_from low (var + 1) ts us sum (λ v h. each v (Contains-there u us v h)))
+
+pub tree_fit : (s : Scheme) (pairs : List ℕ → List ℕ → List Pair) → IsByPairs s pairs → (low : ℕ) (t : Tree) (first : ℕ) → IsSum low (leaves t) → ((u : Weighted) → IsLeafOf t u → s.weight u ≡ u.coef) → IsPositive s t → All (IsNodeFit low) (meanings s t first)
+tree_fit s pairs by low empty first sum weights positive = All-nil (IsNodeFit low)
+tree_fit s pairs by low (leaf t) first sum weights positive = All-nil (IsNodeFit low)
+tree_fit s pairs by low (node l r) first sum weights positive =
+    let middle = first + fresh_of s l in
+    let start = first + fresh_of s l + fresh_of s r in
+    let parts = sum_parts low (leaves l) (leaves r) sum in
+    let t = node l r in
+    All-append (IsNodeFit low) (meanings s l first) (meanings s r middle ++ meanings_from start (leaves t) (values s t))
+    (tree_fit s pairs by low l first parts.0 (λ u h. weights u (inl h)) (λ u h. positive u (inl h)))
+    (All-append (IsNodeFit low) (meanings s r middle) (meanings_from start (leaves t) (values s t))
+    (tree_fit s pairs by low r middle parts.1 (λ u h. weights u (inr h)) (λ u h. positive u (inr h)))
+    (fit_from low start (leaves t) (values s t) sum (λ u h. (by.low t positive u h, value_le s by.from t weights u h))))
+
+-- what holds of each term holds of those of each meaning
+from_terms : (P : Weighted → Type 0) (var : ℕ) (ts : List Weighted) (us : List ℕ) → All P ts → All (λ m. All P m.sum) (meanings_from var ts us)
+from_terms P var ts [] h = All-nil (λ (m : Meaning). All P m.sum)
+from_terms P var ts (u ∷ us) h = All-cons (λ (m : Meaning). All P m.sum) (record { var = var; sum = ts; least = u }) (meanings_from (var + 1) ts us) h (from_terms P (var + 1) ts us h)
+
+pub tree_terms : (P : Weighted → Type 0) (s : Scheme) (t : Tree) (first : ℕ) → All P (leaves t) → All (λ m. All P m.sum) (meanings s t first)
+tree_terms P s empty first h = All-nil (λ (m : Meaning). All P m.sum)
+tree_terms P s (leaf t) first h = All-nil (λ (m : Meaning). All P m.sum)
+tree_terms P s (node l r) first h =
+    let Q : Meaning → Type 0 = λ m. All P m.sum in
+    let parts = All-append_both P (leaves l) (leaves r) h in
+    let middle = first + fresh_of s l in
+    let start = first + fresh_of s l + fresh_of s r in
+    let own = meanings_from start (leaves (node l r)) (values s (node l r)) in
+    All-append Q (meanings s l first) (meanings s r middle ++ own) (tree_terms P s l first parts.0)
+    (All-append Q (meanings s r middle) own (tree_terms P s r middle parts.1) (from_terms P start (leaves (node l r)) (values s (node l r)) h))
+
+-- a meaning's sum is of no more terms than there are leaves
+few_from : (n var : ℕ) (ts : List Weighted) (us : List ℕ) → length ts ≤ n → All (λ m. length m.sum ≤ n) (meanings_from var ts us)
+few_from n var ts [] h = All-nil (λ (m : Meaning). length m.sum ≤ n)
+few_from n var ts (u ∷ us) h = All-cons (λ (m : Meaning). length m.sum ≤ n) (record { var = var; sum = ts; least = u }) (meanings_from (var + 1) ts us) h (few_from n (var + 1) ts us h)
+
+pub tree_sums : (n : ℕ) (s : Scheme) (t : Tree) (first : ℕ) → length (leaves t) ≤ n → All (λ m. length m.sum ≤ n) (meanings s t first)
+tree_sums n s empty first h = All-nil (λ (m : Meaning). length m.sum ≤ n)
+tree_sums n s (leaf t) first h = All-nil (λ (m : Meaning). length m.sum ≤ n)
+tree_sums n s (node l r) first h =
+    let Q : Meaning → Type 0 = λ m. length m.sum ≤ n in
+    let size = length-append (leaves l) (leaves r) in
+    let middle = first + fresh_of s l in
+    let start = first + fresh_of s l + fresh_of s r in
+    let own = meanings_from start (leaves (node l r)) (values s (node l r)) in
+    All-append Q (meanings s l first) (meanings s r middle ++ own) (tree_sums n s l first (omega arith))
+    (All-append Q (meanings s r middle) own (tree_sums n s r middle (omega arith)) (few_from n start (leaves (node l r)) (values s (node l r)) h))

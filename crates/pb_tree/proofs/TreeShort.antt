@@ -1,0 +1,335 @@
+-- The lines of a derivation along a tree are within their limits, and short.
+use Rattle.std.proofs.Common.{◌≡◌, ◌≢◌, ◌≤◌, ◌<◌, ◌+◌, ◌*◌, ◌^◌, ℕ, zero, suc, Bool, true, false, cond, List, [], ◌∷◌, ◌++◌, length, min, map, refl, ap, sym, ◌∙◌, subst, arith, inl, inr, length-append}
+use Rattle.std.specs.Prelude.{Contains, All, sum_by, count_by}
+use Rattle.std.proofs.Math.Nat.{mul-le-mul_right}
+use Rattle.std.proofs.lemmas.List.{length-map}
+use Rattle.std.proofs.lemmas.List.Elements.{All-nil, All-cons, All-append, All-head, All-tail, All-weaker, All-map}
+use Rattle.std.proofs.lemmas.List.Sums.{sum_by-cons, sum_by-append}
+use Rattle.pb_base.specs.declared.literal.Lit.{Lit}
+use Rattle.pb_base.proofs.Members.{Contains-here, Contains-there, All-append_both}
+use Rattle.pb_norm.specs.Constraints.{Weighted, weight}
+use Rattle.pb_norm.specs.BoundedSums.{BoundedSum, vars_of}
+use Rattle.pb_steps.specs.declared.step.Step.{Step}
+use Rattle.pb_steps.specs.declared.step.Step.TheVariants.{Pol}
+use Rattle.pb_steps.specs.Sayable.{IsId, IsVariable, IsSayable}
+use Rattle.pb_steps.specs.StepSizes.{step_size}
+use Rattle.pb_derive.specs.Claims.{Claim}
+use Rattle.pb_derive.specs.Meanings.{Meaning}
+use Rattle.pb_derive.specs.Reasons.{Reason, by_reason, closing}
+use Rattle.pb_derive.specs.Short.{AreShort}
+use Rattle.pb_derive.proofs.InRow.{AreInRow}
+use Rattle.pb_derive.proofs.Sayable.{IsSlimTerm, IsSlimMeaning, phases_sayable, closing_sayable}
+use Rattle.pb_derive.proofs.Short.{phases_short}
+use Rattle.pb_derive.proofs.Sizes.{closing-size}
+use Rattle.pb_family.specs.Derivations.{AreOriginal, MayStart}
+use Rattle.pb_family.specs.Families.{VarsBelow}
+use Rattle.pb_tree.specs.Pairs.{Pair}
+use Rattle.pb_tree.specs.Scheme.{Scheme, values, fresh_of, tree_clauses}
+use Rattle.pb_tree.specs.Tree.{Tree, empty, leaf, node, tree_of}
+use Rattle.pb_tree.specs.TreeSteps.{leaves, meanings, output_ids, part_ids, part_weakened, pair_reason, reasons, root_reason, tree_reasons, tree_steps}
+use Rattle.pb_tree.proofs.Laws.{Suits, cap_value}
+use Rattle.pb_tree.proofs.PairCounts.{is_none}
+use Rattle.pb_tree.proofs.PairReasons.{IsByPairs, IsPositive}
+use Rattle.pb_tree.proofs.Sums.{IsLawful}
+use Rattle.pb_tree.proofs.TreeDerives.{clauses_are, leaves_positive, nodes_fit}
+use Rattle.pb_tree.proofs.TreeMeanings.{length-meanings}
+use Rattle.pb_tree.proofs.TreeParts.{IsPart}
+use Rattle.pb_tree.proofs.TreeRows.{IsNodeFit, leaves_of, tree_row, tree_terms, tree_sums}
+
+-- a reason by at most three constraints, with at most n variables beside
+record IsShort (n : ℕ) (r : Reason) : Type 0 where
+  pub some : r.ids ≢ []
+  pub three : length r.ids ≤ 3
+  pub ids : All IsId r.ids
+  pub variables : All IsVariable r.weakened
+  pub few : length r.weakened ≤ n
+
+abbrev gone_in : List Reason → ℕ
+gone_in rs = sum_by (λ r. length r.weakened) rs
+
+-- ---- how many variables go
+
+-- the pairs that lack a value on a side are no more than the other side has values, and a node has no fewer than a part
+pub record IsSparing (s : Scheme) (pairs : List ℕ → List ℕ → List Pair) : Type 0 where
+  pub no_left : (l r : Tree) → IsPositive s l → IsPositive s r → count_by (λ p. is_none p.left) (pairs (values s l) (values s r)) ≤ length (values s r)
+  pub no_right : (l r : Tree) → IsPositive s l → IsPositive s r → count_by (λ p. is_none p.right) (pairs (values s l) (values s r)) ≤ length (values s l)
+  pub left_grows : (l r : Tree) → length (values s l) ≤ length (values s (node l r))
+  pub right_grows : (l r : Tree) → length (values s r) ≤ length (values s (node l r))
+
+length-vars : (ts : List Weighted) → length (vars_of ts) ≡ length ts
+length-vars ts = length-map ts (λ (t : Weighted). t.lit.var)
+
+part_gone : (t : Tree) (u : ℕ) → length (part_weakened t u) ≡ cond (is_none u) (length (leaves t)) 0
+part_gone t zero = length-vars (leaves t)
+part_gone t (suc u) = refl
+
+gone-append : (rs qs : List Reason) → gone_in (rs ++ qs) ≡ gone_in rs + gone_in qs
+gone-append rs qs = sum_by-append (λ (r : Reason). length r.weakened) rs qs
+
+some_or_none : (b : Bool) (n k : ℕ) → cond b n 0 + k * n ≡ (cond b 1 0 + k) * n
+some_or_none true n k = omega arith
+some_or_none false n k = omega arith
+
+pairs_gone : (s : Scheme) (l r : Tree) (first id : ℕ) (ps : List Pair)
+    → gone_in (map (pair_reason s l r first id) ps) ≡ count_by (λ p. is_none p.left) ps * length (leaves l) + count_by (λ p. is_none p.right) ps * length (leaves r)
+pairs_gone s l r first id [] = let none : gone_in (map (pair_reason s l r first id) []) ≡ 0 = refl in let left : count_by (λ (p : Pair). is_none p.left) [] ≡ 0 = refl in let right : count_by (λ (p : Pair). is_none p.right) [] ≡ 0 = refl in
+    none ∙ (let e : 0 ≡ 0 * length (leaves l) + 0 * length (leaves r) = omega arith in e)
+pairs_gone s l r first id (p ∷ ps) =
+    let a = length (leaves l) in
+    let b = length (leaves r) in
+    let i = count_by (λ (p : Pair). is_none p.left) ps in
+    let j = count_by (λ (p : Pair). is_none p.right) ps in
+    let one = sum_by-cons (λ (r : Reason). length r.weakened) (pair_reason s l r first id p) (map (pair_reason s l r first id) ps) in
+    let two = length-append (part_weakened l p.left) (part_weakened r p.right) in
+    let three : count_by (λ (p : Pair). is_none p.left) (p ∷ ps) ≡ cond (is_none p.left) 1 0 + i = sum_by-cons (λ (p : Pair). cond (is_none p.left) 1 0) p ps in
+    let four : count_by (λ (p : Pair). is_none p.right) (p ∷ ps) ≡ cond (is_none p.right) 1 0 + j = sum_by-cons (λ (p : Pair). cond (is_none p.right) 1 0) p ps in
+    let five : count_by (λ (p : Pair). is_none p.left) (p ∷ ps) * a ≡ cond (is_none p.left) a 0 + i * a = ap (λ (n : ℕ). n * a) three ∙ sym (some_or_none (is_none p.left) a i) in
+    let six : count_by (λ (p : Pair). is_none p.right) (p ∷ ps) * b ≡ cond (is_none p.right) b 0 + j * b = ap (λ (n : ℕ). n * b) four ∙ sym (some_or_none (is_none p.right) b j) in
+    omega (arith, one, two, part_gone l p.left, part_gone r p.right, five, six, pairs_gone s l r first id ps)
+
+reasons_gone : (s : Scheme) (pairs : List ℕ → List ℕ → List Pair) → IsSparing s pairs → (t : Tree) (first id : ℕ) → IsPositive s t → gone_in (reasons s pairs t first id) ≤ fresh_of s t * length (leaves t)
+reasons_gone s pairs sparing empty first id positive = let none : gone_in (reasons s pairs empty first id) ≡ 0 = refl in omega (arith, none)
+reasons_gone s pairs sparing (leaf t) first id positive = let none : gone_in (reasons s pairs (leaf t) first id) ≡ 0 = refl in omega (arith, none)
+reasons_gone s pairs sparing (node l r) first id positive =
+    let middle = first + fresh_of s l in
+    let next = id + 2 * fresh_of s l in
+    let ps = pairs (values s l) (values s r) in
+    let own = map (pair_reason s l r first id) ps in
+    let a = length (leaves l) in
+    let b = length (leaves r) in
+    let f = fresh_of s l in
+    let g = fresh_of s r in
+    let c = length (values s (node l r)) in
+    let i = count_by (λ (p : Pair). is_none p.left) ps in
+    let j = count_by (λ (p : Pair). is_none p.right) ps in
+    let lows : i * a ≤ c * a = mul-le-mul_right a (omega (arith, sparing.no_left l r (λ u h. positive u (inl h)) (λ u h. positive u (inr h)), sparing.right_grows l r)) in
+    let highs : j * b ≤ c * b = mul-le-mul_right b (omega (arith, sparing.no_right l r (λ u h. positive u (inl h)) (λ u h. positive u (inr h)), sparing.left_grows l r)) in
+    let grid : (f + g + c) * (a + b) ≡ f * a + f * b + (g * a + g * b) + (c * a + c * b) = omega arith in
+    let whole : fresh_of s (node l r) * length (leaves (node l r)) ≡ (f + g + c) * (a + b) = ap (λ (n : ℕ). (f + g + c) * n) (length-append (leaves l) (leaves r)) in
+    omega (
+      arith,
+      gone-append (reasons s pairs l first id) (reasons s pairs r middle next ++ own),
+      gone-append (reasons s pairs r middle next) own,
+      pairs_gone s l r first id ps,
+      reasons_gone s pairs sparing l first id (λ u h. positive u (inl h)),
+      reasons_gone s pairs sparing r middle next (λ u h. positive u (inr h)),
+      lows,
+      highs,
+      grid,
+      whole,
+    )
+
+-- ---- each reason
+
+-- the outputs have their ids
+abbrev none_ids : All IsId [] × All IsId [] × (0 ≤ 1)
+none_ids = (All-nil IsId, All-nil IsId, omega arith)
+
+output_ids_are : (s : Scheme) (W : ℕ → Type 0) → IsLawful s W → (t : Tree) (id u : ℕ) → 1 ≤ id → id + 2 * fresh_of s t < 2 ^ 63 → Contains (values s t) u
+    → All IsId (output_ids s t id u) × All IsId (map (λ i. i + 1) (output_ids s t id u)) × (length (output_ids s t id u) ≤ 1)
+output_ids_are s W laws empty id u low high h = none_ids
+output_ids_are s W laws (leaf t) id u low high h = none_ids
+output_ids_are s W laws (node l r) id u low high h =
+    let i = id + 2 * (fresh_of s l + fresh_of s r + s.place u (values s (node l r))) in
+    let within = laws.place_within l r u h in
+    let one : IsId i = (omega arith, omega arith) in
+    let two : IsId (i + 1) = (omega arith, omega arith) in
+    (All-cons IsId i [] one (All-nil IsId), All-cons IsId (i + 1) [] two (All-nil IsId), omega arith)
+
+part_ids_are : (s : Scheme) (W : ℕ → Type 0) → IsLawful s W → (t : Tree) (id u : ℕ) → 1 ≤ id → id + 2 * fresh_of s t < 2 ^ 63 → IsPart (values s t) u
+    → All IsId (part_ids s t id u) × (length (part_ids s t id u) ≤ 1)
+part_ids_are s W laws t id zero low high h = (All-nil IsId, omega arith)
+part_ids_are s W laws t id (suc u) low high h =
+    let are = output_ids_are s W laws t id (suc u) low high (elim h as (λ _. Contains (values s t) (suc u)) [ inl none ↦ absurd (omega (arith, none)) | inr here ↦ here ]) in
+    (are.0, are.2)
+
+part_variables : (t : Tree) (u : ℕ) → All (λ w. IsVariable w.lit.var) (leaves t) → All IsVariable (part_weakened t u)
+part_variables t zero h = All-map IsVariable (λ (w : Weighted). w.lit.var) (leaves t) h
+part_variables t (suc u) h = All-nil IsVariable
+
+part_few : (t : Tree) (u : ℕ) → length (part_weakened t u) ≤ length (leaves t)
+part_few t zero = omega (arith, length-vars (leaves t))
+part_few t (suc u) = omega arith
+
+not_empty : (is js ks : List ℕ) → 1 ≤ length ks → is ++ (js ++ ks) ≢ []
+not_empty is js ks some e = omega (arith, length-append is (js ++ ks), length-append js ks, ap length e, some)
+
+own_some : (s : Scheme) (l r : Tree) (id u : ℕ) → length (map (λ i. i + 1) (output_ids s (node l r) id u)) ≡ 1
+own_some s l r id u = refl
+
+module _ (s : Scheme) (W : ℕ → Type 0) (laws : IsLawful s W) (pairs : List ℕ → List ℕ → List Pair) (by : IsByPairs s pairs) where
+  pair_short : (n : ℕ) (l r : Tree) (first id : ℕ) → 1 ≤ id → id + 2 * fresh_of s (node l r) < 2 ^ 63 → All (λ w. IsVariable w.lit.var) (leaves (node l r)) → length (leaves (node l r)) ≤ n
+      → (p : Pair) → Contains (pairs (values s l) (values s r)) p → IsShort n (pair_reason s l r first id p)
+  pair_short n l r first id low high known few p h =
+      let w = min (p.left + p.right) s.cap in
+      let next = id + 2 * fresh_of s l in
+      let left = part_ids_are s W laws l id p.left low (omega arith) (by.lefts l r p h) in
+      let right = part_ids_are s W laws r next p.right (omega arith) (omega arith) (by.rights l r p h) in
+      let own = output_ids_are s W laws (node l r) id w low high (by.owns l r p h) in
+      let lefts = part_ids s l id p.left in
+      let rights = part_ids s r next p.right in
+      let owns = map (λ (i : ℕ). i + 1) (output_ids s (node l r) id w) in
+      let parts = All-append_both (λ (w : Weighted). IsVariable w.lit.var) (leaves l) (leaves r) known in
+      let size = own_some s l r id w in
+      record {
+        some = not_empty lefts rights owns (omega (arith, size));
+        three = omega (arith, length-append lefts (rights ++ owns), length-append rights owns, left.1, right.1, size);
+        ids = All-append IsId lefts (rights ++ owns) left.0 (All-append IsId rights owns right.0 own.1);
+        variables = All-append IsVariable (part_weakened l p.left) (part_weakened r p.right) (part_variables l p.left parts.0) (part_variables r p.right parts.1);
+        few = omega (arith, few, length-append (part_weakened l p.left) (part_weakened r p.right), part_few l p.left, part_few r p.right, length-append (leaves l) (leaves r));
+      }
+
+  pairs_short : (n : ℕ) (l r : Tree) (first id : ℕ) → 1 ≤ id → id + 2 * fresh_of s (node l r) < 2 ^ 63 → All (λ w. IsVariable w.lit.var) (leaves (node l r)) → length (leaves (node l r)) ≤ n
+      → (ps : List Pair) → ((p : Pair) → Contains ps p → Contains (pairs (values s l) (values s r)) p) → All (IsShort n) (map (pair_reason s l r first id) ps)
+  pairs_short n l r first id low high known few [] h = All-nil (IsShort n)
+  pairs_short n l r first id low high known few (p ∷ ps) h =
+      All-cons (IsShort n) (pair_reason s l r first id p) (map (pair_reason s l r first id) ps) (pair_short n l r first id low high known few p (h p (Contains-here p ps)))
+      (pairs_short n l r first id low high known few ps (λ q m. h q (Contains-there p ps q m)))
+
+  reasons_short : (n : ℕ) (t : Tree) (first id : ℕ) → 1 ≤ id → id + 2 * fresh_of s t < 2 ^ 63 → All (λ w. IsVariable w.lit.var) (leaves t) → length (leaves t) ≤ n → All (IsShort n) (reasons s pairs t first id)
+  reasons_short n empty first id low high known few = All-nil (IsShort n)
+  reasons_short n (leaf t) first id low high known few = All-nil (IsShort n)
+  reasons_short n (node l r) first id low high known few =
+      let middle = first + fresh_of s l in
+      let next = id + 2 * fresh_of s l in
+      let ps = pairs (values s l) (values s r) in
+      let parts = All-append_both (λ (w : Weighted). IsVariable w.lit.var) (leaves l) (leaves r) known in
+      let size = length-append (leaves l) (leaves r) in
+      All-append (IsShort n) (reasons s pairs l first id) (reasons s pairs r middle next ++ map (pair_reason s l r first id) ps)
+      (reasons_short n l first id low (omega arith) parts.0 (omega arith))
+      (All-append (IsShort n) (reasons s pairs r middle next) (map (pair_reason s l r first id) ps)
+      (reasons_short n r middle next (omega arith) (omega arith) parts.1 (omega arith))
+      (pairs_short n l r first id low high known few ps (λ p h. h)))
+
+  root_short : (n : ℕ) (t : Tree) (first id own : ℕ) → 1 ≤ id → id + 2 * fresh_of s t < 2 ^ 63 → IsId own → Contains (values s t) s.cap → IsShort n (root_reason s t first id own)
+  root_short n t first id own low high given top =
+      let are = output_ids_are s W laws t id s.cap low high top in
+      record {
+        some = not_empty [] (output_ids s t id s.cap) (own ∷ []) (omega arith);
+        three = omega (arith, length-append (output_ids s t id s.cap) (own ∷ []), are.2);
+        ids = All-append IsId (output_ids s t id s.cap) (own ∷ []) are.0 (All-cons IsId own [] given (All-nil IsId));
+        variables = All-nil IsVariable;
+        few = omega arith;
+      }
+
+  tree_short : (n : ℕ) (t : Tree) (first id own : ℕ) → 1 ≤ id → id + 2 * fresh_of s t < 2 ^ 63 → IsId own → Contains (values s t) s.cap → All (λ w. IsVariable w.lit.var) (leaves t) → length (leaves t) ≤ n
+      → All (IsShort n) (tree_reasons s pairs t first id own)
+  tree_short n t first id own low high given top known few =
+      All-append (IsShort n) (reasons s pairs t first id) (root_reason s t first id own ∷ []) (reasons_short n t first id low high known few)
+      (All-cons (IsShort n) (root_reason s t first id own) [] (root_short n t first id own low high given top) (All-nil (IsShort n)))
+
+-- ---- the whole
+
+short_size : (n : ℕ) (rs : List Reason) → All (IsShort n) rs → sum_by (λ c. step_size c.step) (map by_reason rs) ≤ 111 * length rs + 14 * gone_in rs
+short_size n [] h = let none : sum_by (λ (c : Claim). step_size c.step) (map by_reason []) ≡ 0 = refl in omega (arith, none)
+short_size n (r ∷ rs) h =
+    omega (
+      arith,
+      sum_by-cons (λ (c : Claim). step_size c.step) (by_reason r) (map by_reason rs),
+      sum_by-cons (λ (r : Reason). length r.weakened) r rs,
+      closing-size r,
+      (All-head (IsShort n) r rs h).three,
+      short_size n rs (All-tail (IsShort n) r rs h),
+    )
+
+some_sayable : (clause : List Lit) (ids vs : List ℕ) → ids ≢ [] → All IsId ids → All IsVariable vs → IsSayable (Pol (closing (record { clause = clause; ids = ids; weakened = vs })))
+some_sayable clause [] vs some known gone = absurd (some refl)
+some_sayable clause (id ∷ ids) vs some known gone = closing_sayable clause id ids vs known gone
+
+-- no coefficient is more than all together
+light_each : (ts : List Weighted) → weight ts < 2 ^ 126 → All (λ w. w.coef < 2 ^ 126) ts
+light_each [] h = All-nil (λ (w : Weighted). w.coef < 2 ^ 126)
+light_each (w ∷ ts) h = let sum = sum_by-cons (λ (w : Weighted). w.coef) w ts in All-cons (λ (w : Weighted). w.coef < 2 ^ 126) w ts (omega arith) (light_each ts (omega arith))
+
+row_variables : (first : ℕ) (ms : List Meaning) → AreInRow first ms → 1 ≤ first → first + length ms ≤ 2 ^ 31 → All (λ m. IsVariable m.var) ms
+row_variables first [] h low high = All-nil (λ (m : Meaning). IsVariable m.var)
+row_variables first (m ∷ ms) h low high = let is = h.0 in All-cons (λ (m : Meaning). IsVariable m.var) m ms (omega arith, omega arith) (row_variables (first + 1) ms h.1 (omega arith) (omega arith))
+
+module _ (s : Scheme) (W : ℕ → Type 0) (laws : IsLawful s W) (pairs : List ℕ → List ℕ → List Pair) (by : IsByPairs s pairs) (m : BoundedSum) (suits : Suits s m) (light : weight m.terms < 2 ^ 100)
+    (first id next : ℕ) (original : AreOriginal first m.terms) (start : MayStart first (fresh_of s (tree_of m.terms)) id next) where
+  abbrev t : Tree
+  t = tree_of m.terms
+
+  abbrev fresh : ℕ
+  fresh = fresh_of s (tree_of m.terms)
+
+  abbrev ms : List Meaning
+  ms = meanings s (tree_of m.terms) first
+
+  abbrev rs : List Reason
+  rs = tree_reasons s pairs (tree_of m.terms) first next id
+
+  known_terms : All (λ w. IsVariable w.lit.var) (leaves t)
+  known_terms =
+      let fits = start.fits in
+      subst (λ (us : List Weighted). All (λ w. IsVariable w.lit.var) us) (sym (leaves_of m.terms))
+      (All-weaker (λ (w : Weighted). (1 ≤ w.lit.var) × (w.lit.var < first)) (λ (w : Weighted). IsVariable w.lit.var) (λ w h. let low = h.0 in let high = h.1 in (low, omega arith)) m.terms original)
+
+  below_terms : VarsBelow first m.terms
+  below_terms = All-weaker (λ (w : Weighted). (1 ≤ w.lit.var) × (w.lit.var < first)) (λ (w : Weighted). w.lit.var < first) (λ w h. h.1) m.terms original
+
+  all_short : All (IsShort (length m.terms)) rs
+  all_short =
+      let fits = start.fits in
+      let given = start.given in
+      let known = start.known in
+      let few = start.few in
+      let own : IsId id = (given, omega arith) in
+      let size : length (leaves t) ≡ length m.terms = ap length (leaves_of m.terms) in
+      tree_short s W laws pairs by (length m.terms) t first next id (omega arith) (omega arith) own (cap_value s W laws m suits) known_terms (omega arith)
+
+  slim_leaves : All IsSlimTerm (leaves t)
+  slim_leaves =
+      let total : weight (leaves t) ≡ weight m.terms = ap weight (leaves_of m.terms) in
+      let coefs : All (λ w. w.coef < 2 ^ 126) (leaves t) = light_each (leaves t) (omega arith) in
+      λ i d w. (coefs i d w, known_terms i d w)
+
+  abbrev IsSlimNode : Meaning → Type 0
+  IsSlimNode x = IsVariable x.var × (IsNodeFit first x × All IsSlimTerm x.sum)
+
+  slim_meanings : All IsSlimMeaning ms
+  slim_meanings =
+      let fits = start.fits in
+      let low = start.low in
+      let count = length-meanings s t first in
+      let vars = row_variables first ms (tree_row s t first) low (omega arith) in
+      let fit = nodes_fit s W laws pairs by m suits first below_terms light in
+      let sums = tree_terms IsSlimTerm s t first slim_leaves in
+      let all : All IsSlimNode ms = λ i d w. (vars i d w, (fit i d w, sums i d w)) in
+      All-weaker IsSlimNode IsSlimMeaning (λ x h.
+      let reached = h.1.0.reached in
+      let little = h.1.0.light in
+      record { sum = h.1.1; var = h.0; light = omega arith }) ms all
+
+  module _ (few_clauses : length (tree_clauses s (tree_of m.terms) first) < 5 * 2 ^ 60) where
+    count_reasons : length (map by_reason rs) ≡ length (tree_clauses s t first)
+    count_reasons = sym (length-map (map by_reason rs) (λ (c : Claim). c.clause)) ∙ ap length (clauses_are s W laws pairs by m suits first next id)
+
+    pub tree_sayable : All IsSayable (tree_steps s pairs (tree_of m.terms) first id next)
+    tree_sayable =
+        let fits = start.fits in
+        let given = start.given in
+        let known = start.known in
+        let few = start.few in
+        let count = length-meanings s t first in
+        let size = count_reasons in
+        phases_sayable next ms (map by_reason rs) (omega arith) (omega arith) slim_meanings
+        (All-map (λ (c : Claim). IsSayable c.step) by_reason rs (All-weaker (IsShort (length m.terms)) (λ (r : Reason). IsSayable (by_reason r).step) (λ r h. some_sayable r.clause r.ids r.weakened h.some h.ids h.variables) rs all_short))
+
+    pub tree_lines_short : IsSparing s pairs → length m.terms ≤ 2 ^ 21 → AreShort (length m.terms) (fresh_of s (tree_of m.terms)) (length (tree_clauses s (tree_of m.terms) first)) (tree_steps s pairs (tree_of m.terms) first id next)
+    tree_lines_short sparing narrow =
+        let n = length m.terms in
+        let size : length (leaves t) ≡ n = ap length (leaves_of m.terms) in
+        let count = length-meanings s t first in
+        let gone : gone_in (reasons s pairs t first next) ≤ fresh * n = subst (λ (k : ℕ). gone_in (reasons s pairs t first next) ≤ fresh * k) size (reasons_gone s pairs sparing t first next (leaves_positive s W laws pairs by m suits)) in
+        let all_gone : gone_in rs ≤ fresh * n =
+        (let last : gone_in (root_reason s t first next id ∷ []) ≡ 0 = refl in omega (arith, gone, last, gone-append (reasons s pairs t first next) (root_reason s t first next id ∷ []))) in
+        let each : All (λ (c : Claim). step_size c.step ≤ 2 ^ 28) (map by_reason rs) =
+        All-map (λ (c : Claim). step_size c.step ≤ 2 ^ 28) by_reason rs (All-weaker (IsShort n) (λ (r : Reason). step_size (by_reason r).step ≤ 2 ^ 28) (λ r h. let three = h.three in let few = h.few in omega (arith, closing-size r)) rs all_short) in
+        let lines = length-map rs by_reason in
+        let grow : (fresh + 1) * n ≡ fresh * n + n = omega arith in
+        let counted : (length ms + 1) * n ≡ (fresh + 1) * n = ap (λ (k : ℕ). (k + 1) * n) count in
+        let short = phases_short n next ms (map by_reason rs) tree_sayable narrow (tree_sums n s t first (omega arith)) each
+        (omega (arith, short_size n rs all_short, all_gone, lines, grow, counted)) in
+        let steps : List Step = tree_steps s pairs t first id next in
+        subst (λ (k : ℕ). AreShort n fresh k steps) count_reasons (subst (λ (k : ℕ). AreShort n k (length (map by_reason rs)) steps) count short)

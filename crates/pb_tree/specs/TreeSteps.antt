@@ -1,0 +1,85 @@
+-- How the clauses along a tree are derived: an output means that its leaves reach its value (our own).
+use Rattle.std.specs.Prelude.{ℕ, zero, suc, ◌+◌, ◌*◌, List, [], ◌∷◌, ◌++◌, map, min}
+use Rattle.pb_base.specs.Literals.{negated}
+use Rattle.pb_norm.specs.Constraints.{Weighted}
+use Rattle.pb_norm.specs.BoundedSums.{vars_of}
+use Rattle.pb_steps.specs.declared.step.Step.{Step}
+use Rattle.pb_derive.specs.Meanings.{Meaning}
+use Rattle.pb_derive.specs.Phases.{phases}
+use Rattle.pb_derive.specs.Reasons.{Reason, by_reason}
+use Rattle.pb_tree.specs.Pairs.{Pair, pair_clause}
+use Rattle.pb_tree.specs.Scheme.{Scheme, values, fresh_of, output}
+use Rattle.pb_tree.specs.Tree.{Tree, empty, leaf, node}
+
+abbrev pub leaves : Tree → List Weighted
+leaves empty = []
+leaves (leaf t) = t ∷ []
+leaves (node l r) = leaves l ++ leaves r
+
+-- ---- what the fresh variables mean
+
+-- variables in a row, from a number on, each for a value of a sum
+abbrev pub meanings_from : ℕ → List Weighted → List ℕ → List Meaning
+meanings_from var ts [] = []
+meanings_from var ts (u ∷ us) = record { var = var; sum = ts; least = u } ∷ meanings_from (var + 1) ts us
+
+-- in the order of the numbers: of the left part, of the right part, and of the node itself
+abbrev pub meanings : Scheme → Tree → ℕ → List Meaning
+meanings s empty first = []
+meanings s (leaf t) first = []
+meanings s (node l r) first =
+    meanings s l first
+    ++ (meanings s r (first + fresh_of s l)
+    ++ meanings_from (first + fresh_of s l + fresh_of s r) (leaves (node l r)) (values s (node l r)))
+
+-- ---- why the clauses hold
+
+-- Where an output's two constraints have their ids, if the first fresh variable's have `id` and `id + 1`: a leaf has none.
+abbrev pub output_ids : Scheme → Tree → ℕ → ℕ → List ℕ
+output_ids s empty id u = []
+output_ids s (leaf t) id u = []
+output_ids s (node l r) id u = (id + 2 * (fresh_of s l + fresh_of s r + s.place u (values s (node l r)))) ∷ []
+
+-- the first constraint of a part's value
+abbrev pub part_ids : Scheme → Tree → ℕ → ℕ → List ℕ
+part_ids s t id zero = []
+part_ids s t id (suc u) = output_ids s t id (suc u)
+
+-- where a part has no value in the clause, all its leaves are weakened away
+abbrev pub part_weakened : Tree → ℕ → List ℕ
+part_weakened t zero = vars_of (leaves t)
+part_weakened t (suc u) = []
+
+-- the first constraints of the parts' values, and the second one of the node's
+abbrev pub pair_reason : Scheme → Tree → Tree → ℕ → ℕ → Pair → Reason
+pair_reason s l r first id p = record {
+  clause = pair_clause s.cap (output s l first) (output s r (first + fresh_of s l)) (output s (node l r) first) p;
+  ids = part_ids s l id p.left
+      ++ (part_ids s r (id + 2 * fresh_of s l) p.right
+      ++ map (λ i. i + 1) (output_ids s (node l r) id (min (p.left + p.right) s.cap)));
+  weakened = part_weakened l p.left ++ part_weakened r p.right;
+}
+
+-- by the pairs of values that have a clause
+abbrev pub reasons : Scheme → (List ℕ → List ℕ → List Pair) → Tree → ℕ → ℕ → List Reason
+reasons s pairs empty first id = []
+reasons s pairs (leaf t) first id = []
+reasons s pairs (node l r) first id =
+    reasons s pairs l first id
+    ++ (reasons s pairs r (first + fresh_of s l) (id + 2 * fresh_of s l)
+    ++ map (pair_reason s l r first id) (pairs (values s l) (values s r)))
+
+-- of the whole tree, where the sum's own constraint has the id `own`
+abbrev pub root_reason : Scheme → Tree → ℕ → ℕ → ℕ → Reason
+root_reason s t first id own = record {
+  clause = negated (output s t first s.cap) ∷ [];
+  ids = output_ids s t id s.cap ++ own ∷ [];
+  weakened = [];
+}
+
+abbrev pub tree_reasons : Scheme → (List ℕ → List ℕ → List Pair) → Tree → ℕ → ℕ → ℕ → List Reason
+tree_reasons s pairs t first id own = reasons s pairs t first id ++ root_reason s t first id own ∷ []
+
+-- from the next id on
+abbrev pub tree_steps : Scheme → (List ℕ → List ℕ → List Pair) → Tree → ℕ → ℕ → ℕ → List Step
+tree_steps s pairs t first own next = phases next (meanings s t first) (map by_reason (tree_reasons s pairs t first next own))
