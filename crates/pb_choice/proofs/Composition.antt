@@ -1,5 +1,5 @@
 -- The clauses of several constraints, one after another, with fresh variables of their own.
-use Rattle.std.proofs.Common.{◌≡◌, ◌≤◌, ◌<◌, ◌+◌, ◌^◌, ℕ, List, [], ◌∷◌, ◌++◌, length, All, refl, sym, ap, subst, ◌∙◌, arith}
+use Rattle.std.proofs.Common.{◌≡◌, ◌≤◌, ◌<◌, ◌+◌, ℕ, List, [], ◌∷◌, ◌++◌, length, All, refl, sym, ap, subst, ◌∙◌, arith}
 use Rattle.std.specs.Prelude.{sum_by}
 use Rattle.std.proofs.lemmas.List.{length-append}
 use Rattle.std.proofs.lemmas.List.Elements.{All-nil, All-cons, All-head, All-tail, All-append, All-weaker}
@@ -20,10 +20,9 @@ use Rattle.pb_choice.proofs.Encoded.{clauses-sound, clauses-extend, clauses-coun
 abbrev pub IsOneBelow : ℕ → ℕ → Type 0
 IsOneBelow n v = (1 ≤ v) × (v < n)
 
--- in normal form, with fewer than 2 ^ 31 terms, over variables from 1 and below a number
+-- in normal form, over variables from 1 and below a number
 pub record IsReady (o : Options) (n : ℕ) (c : Constraint) : Type 0 where
   pub linear : IsLinear c
-  pub few : length c.terms < 2 ^ 31
   pub within : All (OfTerm (IsOneBelow n)) c.terms
 
 ready-below : (o : Options) (n first : ℕ) (c : Constraint) → n ≤ first → IsReady o n c → VarsBelow first c.terms
@@ -58,7 +57,7 @@ module _ (o : Options) (all : List Constraint → ℕ → List (List Lit))
         let parts = All-append_both (IsTrueClause a) (constraint_clauses o c first) (all cs next) (subst (Models a) (more c cs first) model) in
         let here : IsReady o n c = All-head (IsReady o n) c cs ready in
         All-cons (Holds a) c cs
-        (clauses-sound o c first here.linear here.few a parts.0)
+        (clauses-sound o c first here.linear a parts.0)
         (all-sound n cs next (omega (arith, le)) (All-tail (IsReady o n) c cs ready) a parts.1)
 
     -- where each holds, a model extends the assignment
@@ -69,12 +68,12 @@ module _ (o : Options) (all : List Constraint → ℕ → List (List Lit))
         let is_more : first ≤ next = omega arith in
         let here : IsReady o n c = All-head (IsReady o n) c cs ready in
         let others = All-tail (IsReady o n) c cs ready in
-        let one = clauses-extend o c first here.linear here.few (ready-below o n first c le here) a (All-head (Holds a) c cs holds) in
+        let one = clauses-extend o c first here.linear (ready-below o n first c le here) a (All-head (Holds a) c cs holds) in
         let still = solves-agree o n a one.0 (λ v h. one.1 v (omega (arith, le, h))) cs others (All-tail (Holds a) c cs holds) in
         let rest = all-extend n cs next (omega (arith, from, is_more)) (omega (arith, le, is_more)) others one.0 still in
         let Low : Lit → Type 0 = λ l. l.var < next in
         let low = All-weaker (All (OfLit (IsOneBelow next))) (All Low) (λ ls k. All-weaker (OfLit (IsOneBelow next)) Low (λ l h. h.1) ls k) (constraint_clauses o c first)
-        (clauses-within o c first here.linear here.few from (ready-more o n first c le here)) in
+        (clauses-within o c first here.linear from (ready-more o n first c le here)) in
         let own = IsModel-agree next one.0 rest.0 rest.1 (constraint_clauses o c first) low one.2 in
         let whole = All-append (IsTrueClause rest.0) (constraint_clauses o c first) (all cs next) own rest.2 in
         (rest.0, (λ v h. one.1 v h ∙ rest.1 v (omega (arith, h, is_more))), subst (Models rest.0) (sym (more c cs first)) whole)
@@ -88,7 +87,7 @@ module _ (o : Options) (all : List Constraint → ℕ → List (List Lit))
         let is_more : first ≤ next = omega arith in
         let is_last : next ≤ last = omega (arith, fits, sum) in
         let here : IsReady o n c = All-head (IsReady o n) c cs ready in
-        let one = clauses-within o c first here.linear here.few from (ready-more o n first c le here) in
+        let one = clauses-within o c first here.linear from (ready-more o n first c le here) in
         let own = All-weaker (All (OfLit (IsOneBelow next))) (All (OfLit (IsOneBelow last))) (λ ls k. All-weaker (OfLit (IsOneBelow next)) (OfLit (IsOneBelow last)) (λ l h. (h.0, omega (arith, h.1, is_last))) ls k) (constraint_clauses o c first) one in
         let rest = all-within n cs next last (omega (arith, from, is_more)) (omega (arith, le, is_more)) (omega (arith, fits, sum)) (All-tail (IsReady o n) c cs ready) in
         subst (λ (clauses : List (List Lit)). All (All (OfLit (IsOneBelow last))) clauses) (sym (more c cs first)) (All-append (All (OfLit (IsOneBelow last))) (constraint_clauses o c first) (all cs next) own rest)
@@ -104,7 +103,7 @@ module _ (o : Options) (all : List Constraint → ℕ → List (List Lit))
           arith,
           split,
           length-append (constraint_clauses o c first) (all cs next),
-          clauses-count o c first here.linear here.few,
+          clauses-count o c first here.linear,
           all-count n cs next (All-tail (IsReady o n) c cs ready),
           sum_by-cons (constraint_count o) c cs,
         )

@@ -1,5 +1,5 @@
 -- The clauses of a constraint say what it says.
-use Rattle.std.proofs.Common.{◌≡◌, ◌≤◌, ◌<◌, ◌+◌, ◌^◌, ℕ, List, map, length, All, arith, inl, inr}
+use Rattle.std.proofs.Common.{◌≡◌, ◌≤◌, ◌<◌, ◌+◌, ℕ, List, map, length, All, arith, inl, inr}
 use Rattle.std.specs.Prelude.{Contains}
 use Rattle.std.proofs.lemmas.List.{length-append, length-map}
 use Rattle.std.proofs.lemmas.List.Elements.{All-append, All-weaker, All-map, All-contains, All-contains_itself}
@@ -25,10 +25,10 @@ use Rattle.pb_choice.proofs.RestLaws.{IsTrueClause, rest_sound, rest_extends, re
 use Rattle.pb_choice.proofs.UnitClauses.{units_model, units-all}
 
 -- the chosen treatment suits what is left
-pub chosen_suits : (o : Options) (c : Constraint) → IsLinear c → length c.terms < 2 ^ 31 → RestSuits (treatment_of o (rest_of c)) (rest_of c)
-chosen_suits o c linear few = treatment_suits o (rest_of c) (rest_is c linear few)
+pub chosen_suits : (o : Options) (c : Constraint) → IsLinear c → RestSuits (treatment_of o (rest_of c)) (rest_of c)
+chosen_suits o c linear = treatment_suits o (rest_of c) (rest_is c linear)
 
-module _ (o : Options) (c : Constraint) (first : ℕ) (linear : IsLinear c) (few : length c.terms < 2 ^ 31) where
+module _ (o : Options) (c : Constraint) (first : ℕ) (linear : IsLinear c) where
   abbrev units : List (List Lit)
   units = map unit_clause (units_of c)
 
@@ -41,13 +41,13 @@ module _ (o : Options) (c : Constraint) (first : ℕ) (linear : IsLinear c) (few
   pub clauses-sound : (a : Assignment) → IsModel a (constraint_clauses o c first) → Holds a c
   clauses-sound a model =
       let both = All-append_both (IsTrueClause a) units left model in
-      (split_holds a c linear).1 ((units_model a (units_of c)).1 both.0, rest_sound chosen (rest_of c) first (chosen_suits o c linear few) a both.1)
+      (split_holds a c linear).1 ((units_model a (units_of c)).1 both.0, rest_sound chosen (rest_of c) first (chosen_suits o c linear) a both.1)
 
   -- the units keep their values
   pub clauses-extend : VarsBelow first c.terms → (a : Assignment) → Holds a c → (b : Assignment) × AgreeBelow first a b × IsModel b (constraint_clauses o c first)
   clauses-extend below a holds =
       let both = (split_holds a c linear).0 holds in
-      let more = rest_extends chosen (rest_of c) first (chosen_suits o c linear few) (rest-over (λ v. v < first) c below) a both.1 in
+      let more = rest_extends chosen (rest_of c) first (chosen_suits o c linear) (rest-over (λ v. v < first) c below) a both.1 in
       let low = units-all (λ l. l.var < first) (units_of c) (units_of-vars (λ v. v < first) c below) in
       let stay = IsModel-agree first a more.0 more.1 units low ((units_model a (units_of c)).0 both.0) in
       (more.0, more.1, All-append (IsTrueClause more.0) units left stay more.2)
@@ -58,29 +58,29 @@ module _ (o : Options) (c : Constraint) (first : ℕ) (linear : IsLinear c) (few
       let over : IsOver (Contains (vars_of c.terms)) c = own_vars c.terms in
       All-append (All Named) units left
       (units-all Named (units_of c) (All-weaker (OfLit (Contains (vars_of c.terms))) Named (λ l among. inl among) (units_of c) (units_of-vars (Contains (vars_of c.terms)) c over)))
-      (rest_names c.terms chosen (rest_of c) first (chosen_suits o c linear few) (rest-over (Contains (vars_of c.terms)) c over))
+      (rest_names c.terms chosen (rest_of c) first (chosen_suits o c linear) (rest-over (Contains (vars_of c.terms)) c over))
     where
       own_vars : (ts : List Weighted) → All (OfTerm (Contains (vars_of ts))) ts
       own_vars ts = All-weaker (Contains ts) (OfTerm (Contains (vars_of ts))) (λ t among. Contains-map (λ (u : Weighted). u.lit.var) ts t among) ts (All-contains_itself ts)
 
   pub clauses-count : length (constraint_clauses o c first) ≡ constraint_count o c
   clauses-count =
-      omega (arith, length-append units left, length-map (units_of c) unit_clause, rest_counts chosen (rest_of c) first (chosen_suits o c linear few))
+      omega (arith, length-append units left, length-map (units_of c) unit_clause, rest_counts chosen (rest_of c) first (chosen_suits o c linear))
 
 pub clauses_encode : ClausesEncode
-clauses_encode o c first linear few below = record {
-  sound = clauses-sound o c first linear few;
-  extends = clauses-extend o c first linear few below;
-  names = clauses-name o c first linear few;
-  counts = clauses-count o c first linear few;
+clauses_encode o c first linear below = record {
+  sound = clauses-sound o c first linear;
+  extends = clauses-extend o c first linear below;
+  names = clauses-name o c first linear;
+  counts = clauses-count o c first linear;
 }
 
 -- ---- the variables, for the layers above
 
 -- each is from 1 and below the first number after the fresh ones, where those of the constraint are from 1 and below the first fresh one
-pub clauses-within : (o : Options) (c : Constraint) (first : ℕ) → IsLinear c → length c.terms < 2 ^ 31 → 1 ≤ first → All (OfTerm (λ v. (1 ≤ v) × (v < first))) c.terms
+pub clauses-within : (o : Options) (c : Constraint) (first : ℕ) → IsLinear c → 1 ≤ first → All (OfTerm (λ v. (1 ≤ v) × (v < first))) c.terms
     → All (All (OfLit (λ v. (1 ≤ v) × (v < first + constraint_fresh o c)))) (constraint_clauses o c first)
-clauses-within o c first linear few from within =
+clauses-within o c first linear from within =
     let Named : Lit → Type 0 = IsNamed c.terms first (constraint_fresh o c) in
     let Within : Lit → Type 0 = OfLit (λ v. (1 ≤ v) × (v < first + constraint_fresh o c)) in
     let vars : All (λ v. (1 ≤ v) × (v < first)) (vars_of c.terms) = All-map (λ v. (1 ≤ v) × (v < first)) (λ (t : Weighted). t.lit.var) c.terms within in
@@ -89,4 +89,4 @@ clauses-within o c first linear few from within =
       | inl among ↦ let own = All-contains (λ v. (1 ≤ v) × (v < first)) (vars_of c.terms) l.var vars among in (own.0, omega (arith, own.1))
       | inr is_fresh ↦ (omega (arith, from, is_fresh.0), is_fresh.1)
     ] in
-    All-weaker (All Named) (All Within) (λ ls h. All-weaker Named Within each ls h) (constraint_clauses o c first) (clauses-name o c first linear few)
+    All-weaker (All Named) (All Within) (λ ls h. All-weaker Named Within each ls h) (constraint_clauses o c first) (clauses-name o c first linear)

@@ -1,4 +1,4 @@
--- The numbers of clauses fit 64 bits, with as many units.
+-- The numbers of clauses of fewer than 2 ^ 31 terms fit 64 bits, with as many units.
 use Rattle.std.proofs.Common.{◌≡◌, ◌<◌, ◌≤◌, ◌+◌, ◌-◌, ◌*◌, ◌/◌, ◌^◌, ◌&&◌, ℕ, Bool, true, false, not, cond, List, [], ◌∷◌, length, refl, subst, arith}
 use Rattle.std.specs.Prelude.{map, sum_by}
 use Rattle.std.proofs.Math.Nat.{mul-le-mul_left}
@@ -34,7 +34,7 @@ use Rattle.pb_choice.specs.declared.chosen.Chosen.TheVariants as chosen
 use Rattle.pb_choice.specs.declared.left.Left.{Left}
 use Rattle.pb_choice.specs.declared.left.Left.TheVariants as left
 use Rattle.pb_choice.specs.laws.Chosen.{sum_at, treatment_at}
-use Rattle.pb_choice.specs.laws.Left.{left_count}
+use Rattle.pb_choice.specs.laws.Left.{left_count, left_terms}
 use Rattle.pb_choice.specs.Sums.{sum_count}
 
 square_small : (n : ℕ) → n < 2 ^ 31 → n * n < 2 ^ 62
@@ -55,10 +55,10 @@ counter_small n k few lt =
 bound_few : (m : BoundedSum) → IsCardinality m → m.bound < length m.terms
 bound_few m h = omega (arith, h.proper.heavy, units-weight m.terms h.units)
 
-totalizer_small : (m : BoundedSum) → IsCardinality m → totalizer_size m < 2 ^ 63
-totalizer_small m h =
+totalizer_small : (m : BoundedSum) → IsCardinality m → length m.terms < 2 ^ 31 → totalizer_size m < 2 ^ 63
+totalizer_small m h few =
     let all = totalizer.bounds m.bound m.terms (omega (arith, bound_few m h)) in
-    omega (arith, all.clauses, square_small (length m.terms) h.proper.few)
+    omega (arith, all.clauses, square_small (length m.terms) few)
 
 tree_bounds : (bound : ℕ) (ts : List Weighted) → 1 ≤ length ts → Bounds bound (tree_of ts) (length ts)
 tree_bounds bound ts some =
@@ -67,11 +67,11 @@ tree_bounds bound ts some =
     let same : Bounds bound (tree_of ts) (length (terms_of ts)) = subst (λ (us : List Weighted). Bounds bound (tree_of us) (length (terms_of ts))) (weights-terms_of ts) kept in
     subst (λ (n : ℕ). Bounds bound (tree_of ts) n) long same
 
-tree_small : (m : BoundedSum) → IsProper m → generalized_fresh m ≤ 10000000 → generalized_size m < 2 ^ 63
-tree_small m h modest =
+tree_small : (m : BoundedSum) → IsProper m → length m.terms < 2 ^ 31 → generalized_fresh m ≤ 10000000 → generalized_size m < 2 ^ 63
+tree_small m h few modest =
     let all = tree_bounds m.bound m.terms (some_terms m.bound m.terms h.heavy) in
     let n = generalized_fresh m + length m.terms in
-    let most : n ≤ 2 ^ 31 + 10000000 = omega (arith, h.few, modest) in
+    let most : n ≤ 2 ^ 31 + 10000000 = omega (arith, few, modest) in
     let square = mul-le n n (2 ^ 31 + 10000000) (2 ^ 31 + 10000000) most most in
     omega (arith, all.clauses, square)
 
@@ -112,18 +112,18 @@ adder_small ts bound few light =
 
 -- ---- the family that was chosen
 
-chosen_small : (f : Chosen) → sum_count (treatment_at f) (sum_at f) < 2 ^ 63 + 2 ^ 31
-chosen_small (chosen.Pairwise held) = omega (arith, pairs_small (length held.sum.terms) held.class.proper.few)
-chosen_small (chosen.Ladder held) = let few : length held.sum.terms < 2 ^ 31 = held.class.proper.few in omega (arith, few)
-chosen_small (chosen.Product held) = omega (arith, square_small (length held.sum.terms) held.class.proper.few, count_within_square (length held.sum.terms) (length held.sum.terms))
-chosen_small (chosen.Counter held) = counter_small (length held.sum.terms) held.sum.bound held.class.proper.few (bound_few held.sum held.class)
-chosen_small (chosen.Totalizer held) = omega (arith, totalizer_small held.sum held.class)
-chosen_small (chosen.Diagram held) = omega (arith, diagram_small held.sum held.modest)
-chosen_small (chosen.Tree held) = omega (arith, tree_small held.sum held.class held.modest)
-chosen_small (chosen.Adder held) = omega (arith, adder_small held.sum.terms held.sum.bound held.class.few held.light)
+chosen_small : (f : Chosen) → length (sum_at f).terms < 2 ^ 31 → sum_count (treatment_at f) (sum_at f) < 2 ^ 63 + 2 ^ 31
+chosen_small (chosen.Pairwise held) few = omega (arith, pairs_small (length held.sum.terms) few)
+chosen_small (chosen.Ladder held) few = omega (arith, few)
+chosen_small (chosen.Product held) few = omega (arith, square_small (length held.sum.terms) few, count_within_square (length held.sum.terms) (length held.sum.terms))
+chosen_small (chosen.Counter held) few = counter_small (length held.sum.terms) held.sum.bound few (bound_few held.sum held.class)
+chosen_small (chosen.Totalizer held) few = omega (arith, totalizer_small held.sum held.class few)
+chosen_small (chosen.Diagram held) few = omega (arith, diagram_small held.sum held.modest)
+chosen_small (chosen.Tree held) few = omega (arith, tree_small held.sum held.class few held.modest)
+chosen_small (chosen.Adder held) few = omega (arith, adder_small held.sum.terms held.sum.bound few held.light)
 
-pub left_small : (l : Left) → left_count l < 2 ^ 63 + 2 ^ 31
-left_small left.Nothing = omega arith
-left_small left.Empty = omega arith
-left_small (left.Clause ls) = omega arith
-left_small (left.Sum f) = chosen_small f
+pub left_small : (l : Left) → length (left_terms l) < 2 ^ 31 → left_count l < 2 ^ 63 + 2 ^ 31
+left_small left.Nothing few = omega arith
+left_small left.Empty few = omega arith
+left_small (left.Clause ls) few = omega arith
+left_small (left.Sum f) few = chosen_small f few

@@ -1,5 +1,5 @@
 -- Unit propagation over the clauses of a constraint reaches what it forces.
-use Rattle.std.proofs.Common.{ℕ, ◌≢◌, ◌<◌, ◌^◌, length}
+use Rattle.std.proofs.Common.{ℕ, ◌≢◌}
 use Rattle.pb_base.specs.Literals.{Assignment, AllTrue}
 use Rattle.pb_norm.specs.declared.reduction.Rest.{Rest}
 use Rattle.pb_norm.specs.declared.reduction.Rest.TheVariants as rest
@@ -28,13 +28,13 @@ rest_propagates t (rest.One m) first h other = sum_propagates t m first h other
 rest_propagates t (rest.Card m) first h other = sum_propagates t m first h other
 rest_propagates t (rest.General m) first h other = sum_propagates t m first h other
 
-pub clauses-propagate : (o : Options) (c : Constraint) (first : ℕ) → IsLinear c → length c.terms < 2 ^ 31 → ¬ IsSentToAdder o c → ClausesPropagate (constraint_clauses o c first) (λ a. Holds a c)
-clauses-propagate o c first linear few other =
+pub clauses-propagate : (o : Options) (c : Constraint) (first : ℕ) → IsLinear c → ¬ IsSentToAdder o c → ClausesPropagate (constraint_clauses o c first) (λ a. Holds a c)
+clauses-propagate o c first linear other =
     let chosen = treatment_of o (rest_of c) in
-    let left = rest_propagates chosen (rest_of c) first (chosen_suits o c linear few) other in
+    let left = rest_propagates chosen (rest_of c) first (chosen_suits o c linear) other in
     let Left : Assignment → Type 0 = λ a. RestHolds a (rest_of c) in
     propagates_same (constraint_clauses o c first) (λ a. AllTrue a (units_of c) × Left a) (λ a. Holds a c) (λ a. split_holds a c linear)
     (propagates_with_units (units_of c) (rest_clauses chosen (rest_of c) first) Left (units-consistent c linear) left)
 
 pub clauses_force : ClausesForce
-clauses_force o c first linear few other below = clauses-propagate o c first linear few other
+clauses_force o c first linear other below = clauses-propagate o c first linear other

@@ -8,7 +8,7 @@ use Rattle.pb_norm.specs.Constraints.{Weighted, Constraint, AllPositive, IsLinea
 use Rattle.pb_norm.specs.laws.Open.{IsOpen}
 use Rattle.pb_norm.specs.Reduction.{all_weigh, at_most, class_of, core, cut_to, divided, first_coef, forcing_terms, is_forcing, is_too_light, lits_of, opposite, quotient_up, rest_of, saturated, single, sorted, units_of, without_units}
 use Rattle.pb_norm.proofs.AdditionSizes.{weight-cons}
-use Rattle.pb_norm.proofs.Lengths.{length-filter-le}
+use Rattle.pb_norm.proofs.Lengths.{HasAtMost, length-filter-le, rest-few}
 use Rattle.pb_norm.proofs.Opened.{saturated_open}
 use Rattle.pb_norm.proofs.RestClasses.{RestOver, rest-over}
 use Rattle.pb_norm.proofs.Sorting.{by_weight-sum}
@@ -29,6 +29,19 @@ terms_over first (rest.General m) h = h
 
 pub rest_below : (c : Constraint) (first : ℕ) → VarsBelow first c.terms → VarsBelow first (rest_terms (rest_of c))
 rest_below c first below = terms_over first (rest_of c) (rest-over (λ v. v < first) c below)
+
+-- ---- it is no longer
+
+terms_short : (n : ℕ) (r : Rest) → HasAtMost n r → length (rest_terms r) ≤ n
+terms_short n rest.Nothing h = omega arith
+terms_short n rest.Empty h = omega arith
+terms_short n (rest.Clause ls) h = omega arith
+terms_short n (rest.One m) h = h
+terms_short n (rest.Card m) h = h
+terms_short n (rest.General m) h = h
+
+pub rest_short : (c : Constraint) → length (rest_terms (rest_of c)) ≤ length c.terms
+rest_short c = terms_short (length c.terms) (rest_of c) (rest-few c)
 
 -- ---- it weighs no more
 

@@ -61,7 +61,6 @@ pub struct TreeOf {
 pub struct AdderOf {
     pub sum: AtMost,
     pub family: Adder,
-    pub ghost class: { IsProper sum },
     pub ghost light: { weight sum.terms < 2 ^ 100 },
     pub ghost over: { ⟦<Adder as Family>⟧.constraint family ≡ sum },
 }

@@ -21,7 +21,6 @@ use std::alloc::Global;
 
 /// The adder, however large.
 pub fn adder_of(alloc: Global, sum: AtMost) -> Result<Chosen, NoMemory>
-    requires class { IsProper sum }
     requires light { weight sum.terms < 2 ^ 100 }
     ensures { IfOk result (IsChosen Treatment.Adder sum) }
 {

@@ -1,5 +1,5 @@
 -- The clauses of a problem have its solutions, its counts and its variables, and force what its constraints do.
-use Rattle.std.proofs.Common.{◌≡◌, ◌≤◌, ◌<◌, ◌+◌, ◌-◌, ◌^◌, ◌++◌, ℕ, zero, suc, List, [], ◌∷◌, Bool, false, All, map, take, length, refl, ap, sym, subst, ◌∙◌, arith, inl, inr}
+use Rattle.std.proofs.Common.{◌≡◌, ◌≤◌, ◌<◌, ◌+◌, ◌^◌, ◌++◌, ℕ, zero, suc, List, [], ◌∷◌, Bool, false, All, map, take, length, refl, ap, sym, subst, ◌∙◌, arith, inl, inr}
 use Rattle.std.specs.Prelude.{Contains}
 use Rattle.pb_base.proofs.Members.{Contains-nil, Contains-here, Contains-there, Contains-cons_cases}
 use Rattle.std.specs.List.{range_with_len}
@@ -14,7 +14,7 @@ use Rattle.pb_base.specs.declared.problem.Problem.{Problem}
 use Rattle.pb_base.specs.Literals.{Assignment, AgreeBelow, assigned_by}
 use Rattle.pb_base.specs.Problems.{IsSolution, IsSumWithin, IsWithinLimits, StaysBelow, originals}
 use Rattle.pb_norm.specs.declared.halves.Half.TheVariants.{Lower, Upper}
-use Rattle.pb_norm.specs.Constraints.{Constraint, Weighted, IsAscending, IsLinear, Holds, Solves}
+use Rattle.pb_norm.specs.Constraints.{Constraint, IsLinear, Holds, Solves}
 use Rattle.pb_norm.specs.Halves.{loaded, loaded_of, half_of, halves_of, constraints_of}
 use Rattle.pb_norm.specs.ClausePropagation.{ClausesPropagate}
 use Rattle.pb_norm.specs.ClauseForm.{clause_form}
@@ -22,7 +22,6 @@ use Rattle.pb_norm.specs.Propagation.{Propagates}
 use Rattle.pb_norm.specs.laws.PropagationLaws.{AreAmong}
 use Rattle.pb_norm.proofs.Agreement.{IsModel-agree, cut-agrees}
 use Rattle.pb_norm.proofs.ClauseLift.{propagates_lifts}
-use Rattle.pb_norm.proofs.Lengths.{ascending_few}
 use Rattle.pb_norm.proofs.Loaded.{are_fronts}
 use Rattle.pb_norm.proofs.NetBounds.{made-linear}
 use Rattle.pb_norm.proofs.PropagationMore.{ClausesPropagate-more}
@@ -53,25 +52,16 @@ wider ss small = All-weaker (StaysBelow (2 ^ 100)) (StaysBelow (2 ^ 126)) (λ s 
 written-below : (vars : ℕ) (ss : List Raw) → All (λ s. IsSumWithin vars s.terms) ss → All (λ s. All (OfWritten (IsOneBelow (vars + 1))) s.terms) ss
 written-below vars ss h = All-weaker (λ s. IsSumWithin vars s.terms) (λ s. All (OfWritten (IsOneBelow (vars + 1))) s.terms) (λ s k i d l. (k.vars_from i d l, omega (arith, k.vars_within i d l))) ss h
 
--- fewer terms than the number that their variables stay below
-few_below : (n : ℕ) (ts : List Weighted) → IsAscending ts → All (OfTerm (IsOneBelow n)) ts → 1 ≤ n → length ts < n
-few_below n ts ascending over from =
-    let any : Weighted = record { lit = record { var = 1; positive = false }; coef = 0 } in
-    ascending_few ts any n ascending (λ some. (over 0 any some).0) (λ some. (over (length ts - 1) any (omega (arith, some))).1) from
-
-ready_each : (o : Options) (n : ℕ) (cs : List Constraint) → 1 ≤ n → n ≤ 2 ^ 31 → All IsLinear cs → All (IsOver (IsOneBelow n)) cs → All (IsReady o n) cs
-ready_each o n [] from most linear over = All-nil (IsReady o n)
-ready_each o n (c ∷ cs) from most linear over =
-    let is_linear : IsLinear c = All-head IsLinear c cs linear in
-    let is_over : IsOver (IsOneBelow n) c = All-head (IsOver (IsOneBelow n)) c cs over in
-    let few : length c.terms < n = few_below n c.terms is_linear.ascending is_over from in
+ready_each : (o : Options) (n : ℕ) (cs : List Constraint) → All IsLinear cs → All (IsOver (IsOneBelow n)) cs → All (IsReady o n) cs
+ready_each o n [] linear over = All-nil (IsReady o n)
+ready_each o n (c ∷ cs) linear over =
     All-cons (IsReady o n) c cs
-    (record { linear = is_linear; few = omega (arith, few, most); within = is_over })
-    (ready_each o n cs from most (All-tail IsLinear c cs linear) (All-tail (IsOver (IsOneBelow n)) c cs over))
+    (record { linear = All-head IsLinear c cs linear; within = All-head (IsOver (IsOneBelow n)) c cs over })
+    (ready_each o n cs (All-tail IsLinear c cs linear) (All-tail (IsOver (IsOneBelow n)) c cs over))
 
 pub loaded_ready : (o : Options) (p : Problem) → IsWithinLimits p → All (IsReady o (originals p + 1)) (loaded_of p)
 loaded_ready o p within =
-    ready_each o (originals p + 1) (loaded_of p) (omega arith) (omega (arith, within.vars)) (loaded_linear p.statements (wider p.statements within.numbers))
+    ready_each o (originals p + 1) (loaded_of p) (loaded_linear p.statements (wider p.statements within.numbers))
     (loaded-vars (IsOneBelow (originals p + 1)) p.statements (written-below (originals p) p.statements within.sums))
 
 -- ---- all clauses
@@ -205,7 +195,7 @@ force_each o n first (c ∷ cs) ready =
     let whole = clauses_from o first (c ∷ cs) in
     let here = All-head (IsReady o n) c cs ready in
     All-cons (Forces o whole) c cs
-    (λ other. ClausesPropagate-more (constraint_clauses o c first) whole (front_among (constraint_clauses o c first) (clauses_from o next cs)) (λ a. Holds a c) (clauses-propagate o c first here.linear here.few other))
+    (λ other. ClausesPropagate-more (constraint_clauses o c first) whole (front_among (constraint_clauses o c first) (clauses_from o next cs)) (λ a. Holds a c) (clauses-propagate o c first here.linear other))
     (All-weaker (Forces o (clauses_from o next cs)) (Forces o whole)
     (λ d h other. ClausesPropagate-more (clauses_from o next cs) whole (back_among (constraint_clauses o c first) (clauses_from o next cs)) (λ a. Holds a d) (h other)) cs (force_each o n next cs (All-tail (IsReady o n) c cs ready)))
 

@@ -1,5 +1,5 @@
 -- What the clauses of a constraint say.
-use Rattle.std.specs.Prelude.{ℕ, ◌≡◌, ◌<◌, ◌^◌, List, length}
+use Rattle.std.specs.Prelude.{ℕ, ◌≡◌, List, length}
 use Rattle.pb_base.specs.declared.literal.Lit.{Lit}
 use Rattle.pb_base.specs.Literals.{Assignment, AgreeBelow, IsModel}
 use Rattle.pb_norm.specs.Constraints.{Constraint, Holds, IsLinear}
@@ -19,8 +19,8 @@ pub record Encodes (c : Constraint) (first fresh count : ℕ) (clauses : List (L
 
 -- the clauses of a constraint say what it says
 abbrev pub ClausesEncode : Type 0
-ClausesEncode = (o : Options) (c : Constraint) (first : ℕ) → IsLinear c → length c.terms < 2 ^ 31 → VarsBelow first c.terms → Encodes c first (constraint_fresh o c) (constraint_count o c) (constraint_clauses o c first)
+ClausesEncode = (o : Options) (c : Constraint) (first : ℕ) → IsLinear c → VarsBelow first c.terms → Encodes c first (constraint_fresh o c) (constraint_count o c) (constraint_clauses o c first)
 
 -- unit propagation over them reaches all that it forces, where it is not sent to the adder
 abbrev pub ClausesForce : Type 0
-ClausesForce = (o : Options) (c : Constraint) (first : ℕ) → IsLinear c → length c.terms < 2 ^ 31 → ¬ IsSentToAdder o c → VarsBelow first c.terms → ClausesPropagate (constraint_clauses o c first) (λ a. Holds a c)
+ClausesForce = (o : Options) (c : Constraint) (first : ℕ) → IsLinear c → ¬ IsSentToAdder o c → VarsBelow first c.terms → ClausesPropagate (constraint_clauses o c first) (λ a. Holds a c)
