@@ -1,0 +1,16 @@
+pub mod Accepted
+pub mod Values
+pub mod Extending
+pub mod Answering
+pub mod Told
+pub mod Running
+pub mod Writing
+pub mod TurnLemmas
+pub mod NextLines
+pub mod Takes
+pub mod BothStops
+pub mod StepRuns
+pub mod Places
+pub mod LineRuns
+pub mod Loading
+pub mod WholeRuns

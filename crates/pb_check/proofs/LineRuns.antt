@@ -1,0 +1,88 @@
+-- All lines, from the first on.
+use Rattle.std.proofs.Common.{◌≡◌, ℕ, List, length, Some, None, Ok, Err, refl, sym, ◌∙◌, subst}
+use Rattle.std.specs.Prelude.{◌≢◌}
+use Rattle.pb_desk.specs.Desk.{DeskState}
+use Rattle.pb_desk.specs.LineReading.{TakesAhead}
+use Rattle.pb_desk.specs.LineReaders.{Reader}
+use Rattle.pb_dimacs.specs.CnfReaders.{CnfReader}
+use Rattle.pb_dimacs.specs.Cursors.{rows_left}
+use Rattle.pb_steps.specs.Database.{Database}
+use Rattle.pb_check.specs.declared.verdict.Verdict.{Verdict}
+use Rattle.pb_check.specs.declared.verdict.Verdict.TheVariants.{Accepted}
+use Rattle.pb_check.specs.declared.verdict.CheckFault.{CheckFault}
+use Rattle.pb_check.specs.Turns.{Answer, Task, Clauses}
+use Rattle.pb_check.specs.Turns.Stage.{head_wanted, count_wanted, at_steps, ended}
+use Rattle.pb_check.specs.Walk.{Walks}
+use Rattle.pb_desk.specs.TwoSlots.{ReadsBoth}
+use Rattle.pb_check.specs.laws.Calls.{CountLeads}
+use Rattle.pb_check.specs.laws.Phases.{StopsOne, StopsBoth, Leads, clauses_of, StepsGive, StepsStop, IsTask, LinesAnswer}
+use Rattle.pb_desk.proofs.BothSlots.{both_of_two, both_then}
+use Rattle.pb_check.proofs.BothStops.{stops_of_proof, both_stops}
+
+-- the head line was read
+abbrev pub Begun : Reader → Reader → List ℕ → List ℕ → List ℕ → List ℕ → Type 0
+Begun l0 l1 c p c' p' = (c' ≡ c) × Leads count_wanted (rows_left l1 p') head_wanted (rows_left l0 p)
+
+-- the steps are to come
+abbrev pub Ready : CnfReader → Database → ℕ → Reader → Reader → List ℕ → List ℕ → List ℕ → List ℕ → Type 0
+Ready cnf db count l0 l2 c p c' p' = (task : Task) (answer : Answer) → IsTask task cnf.vars count db → Walks task (at_steps db) (clauses_of cnf c') (rows_left l2 p') answer → Walks task head_wanted (clauses_of cnf c) (rows_left l0 p) answer
+
+-- nothing more is to come
+abbrev pub Done : CnfReader → Database → ℕ → Reader → Reader → List ℕ → List ℕ → List ℕ → List ℕ → Type 0
+Done cnf db count l0 l3 c p c' p' = (task : Task) (answer : Answer) → IsTask task cnf.vars count db → ((cs : Clauses) → Walks task ended cs (rows_left l3 p') answer) → Walks task head_wanted (clauses_of cnf c) (rows_left l0 p) answer
+
+pub begun : (cnf : CnfReader) (l0 l1 : Reader) (a b : DeskState) → cnf.lines.slot ≢ l0.slot → l1.slot ≡ l0.slot → TakesAhead l0.slot l0.ahead l1.ahead a b (λ text rest. Leads count_wanted (rows_left l1 rest) head_wanted (rows_left l0 text)) → ReadsBoth cnf.lines l0 cnf.lines l1 a b (Begun l0 l1)
+begun cnf l0 l1 a b apart slot reads = both_of_two cnf.lines l0 l1 a b (λ text rest. Leads count_wanted (rows_left l1 rest) head_wanted (rows_left l0 text)) (Begun l0 l1) apart slot (λ c p p' h. (refl, h)) reads
+
+pub ready : (cnf : CnfReader) (db : Database) (count : ℕ) (l0 l1 l2 : Reader) (a b d : DeskState) → cnf.lines.slot ≢ l1.slot → l2.slot ≡ l1.slot → ReadsBoth cnf.lines l0 cnf.lines l1 a b (Begun l0 l1) → TakesAhead l1.slot l1.ahead l2.ahead b d (CountLeads count l1 l2)
+    → ReadsBoth cnf.lines l0 cnf.lines l2 a d (Ready cnf db count l0 l2)
+ready cnf db count l0 l1 l2 a b d apart slot first reads =
+    both_then cnf.lines l0 cnf.lines l1 cnf.lines l2 a b d (Begun l0 l1) (λ c p c' p'. (c' ≡ c) × CountLeads count l1 l2 p p') (Ready cnf db count l0 l2)
+    (λ t0 u0 t1 u1 t2 u2 p q task answer is w. p.1 task (clauses_of cnf t0) answer (q.1 task (clauses_of cnf t0) answer is.same_count
+    (subst (λ (x : Database). Walks task (at_steps x) (clauses_of cnf t0) (rows_left l2 u2) answer) is.database
+    (subst (λ (x : List ℕ). Walks task (at_steps db) (clauses_of cnf x) (rows_left l2 u2) answer) (q.0 ∙ p.0) w))))
+    first (both_of_two cnf.lines l1 l2 b d (CountLeads count l1 l2) (λ c p c' p'. (c' ≡ c) × CountLeads count l1 l2 p p') apart slot (λ c p p' h. (refl, h)) reads)
+
+pub head_fault : (f : CheckFault) (cnf : CnfReader) (db : Database) (count : ℕ) (l0 l1 : Reader) (a b : DeskState) → cnf.lines.slot ≢ l0.slot → l1.slot ≡ l0.slot
+    → StopsOne f l0 l1 a b (λ text f. (task : Task) (clauses : Clauses) → Walks task head_wanted clauses (rows_left l0 text) (Err f)) → StopsBoth f cnf.lines l0 cnf.lines l1 a b (λ c p f. LinesAnswer cnf db count l0 c p (Err f))
+head_fault f cnf db count l0 l1 a b apart slot stops =
+    stops_of_proof f cnf.lines l0 l1 a b (λ text f. (task : Task) (clauses : Clauses) → Walks task head_wanted clauses (rows_left l0 text) (Err f)) (λ c p f. LinesAnswer cnf db count l0 c p (Err f)) apart slot (λ c p f h task is. h task (clauses_of cnf c)) stops
+
+pub count_fault : (f : CheckFault) (cnf : CnfReader) (db : Database) (count : ℕ) (l0 l1 l2 : Reader) (a b d : DeskState) → cnf.lines.slot ≢ l1.slot → l2.slot ≡ l1.slot → ReadsBoth cnf.lines l0 cnf.lines l1 a b (Begun l0 l1)
+    → StopsOne f l1 l2 b d (λ text f. (task : Task) (clauses : Clauses) → length task.loaded ≡ count → Walks task count_wanted clauses (rows_left l1 text) (Err f)) → StopsBoth f cnf.lines l0 cnf.lines l2 a d (λ c p f. LinesAnswer cnf db count l0 c p (Err f))
+count_fault f cnf db count l0 l1 l2 a b d apart slot first stops =
+    both_stops f cnf.lines l0 cnf.lines l1 cnf.lines l2 a b d (Begun l0 l1) (λ c p f. (task : Task) (clauses : Clauses) → length task.loaded ≡ count → Walks task count_wanted clauses (rows_left l1 p) (Err f)) (λ c p f. LinesAnswer cnf db count l0 c p (Err f))
+    (λ t u t' u' f p q task is. p.1 task (clauses_of cnf t) (Err f) (q task (clauses_of cnf t) is.same_count)) first
+    (stops_of_proof f cnf.lines l1 l2 b d (λ text f. (task : Task) (clauses : Clauses) → length task.loaded ≡ count → Walks task count_wanted clauses (rows_left l1 text) (Err f)) (λ c p f. (task : Task) (clauses : Clauses) → length task.loaded ≡ count → Walks task count_wanted clauses (rows_left l1 p) (Err f)) apart slot (λ c p f h. h) stops)
+
+pub steps_fault : (f : CheckFault) (cnf cnf' : CnfReader) (db : Database) (count : ℕ) (l0 l2 l3 : Reader) (a d e : DeskState) → ReadsBoth cnf.lines l0 cnf.lines l2 a d (Ready cnf db count l0 l2) → StopsBoth f cnf.lines l2 cnf'.lines l3 d e (λ c p f. StepsStop cnf db l2 c p f)
+    → StopsBoth f cnf.lines l0 cnf'.lines l3 a e (λ c p f. LinesAnswer cnf db count l0 c p (Err f))
+steps_fault f cnf cnf' db count l0 l2 l3 a d e first stops =
+    both_stops f cnf.lines l0 cnf.lines l2 cnf'.lines l3 a d e (Ready cnf db count l0 l2) (λ c p f. StepsStop cnf db l2 c p f) (λ c p f. LinesAnswer cnf db count l0 c p (Err f)) (λ t u t' u' f p q task is. p task (Err f) is (q task is.same_vars)) first stops
+
+pub steps_verdict : (v : Verdict) (cnf cnf' : CnfReader) (db : Database) (count : ℕ) (l0 l2 l3 : Reader) (a d e : DeskState) → ReadsBoth cnf.lines l0 cnf.lines l2 a d (Ready cnf db count l0 l2) → ReadsBoth cnf.lines l2 cnf'.lines l3 d e (λ c p c' p'. StepsGive (Some v) cnf db l2 l3 c p p')
+    → ReadsBoth cnf.lines l0 cnf'.lines l3 a e (λ c p c' p'. LinesAnswer cnf db count l0 c p (Ok v))
+steps_verdict v cnf cnf' db count l0 l2 l3 a d e first steps =
+    both_then cnf.lines l0 cnf.lines l2 cnf'.lines l3 a d e (Ready cnf db count l0 l2) (λ c p c' p'. StepsGive (Some v) cnf db l2 l3 c p p') (λ c p c' p'. LinesAnswer cnf db count l0 c p (Ok v)) (λ t0 u0 t1 u1 t2 u2 p q task is. p task (Ok v) is (q task is.same_vars)) first steps
+
+pub done : (cnf cnf' : CnfReader) (db : Database) (count : ℕ) (l0 l2 l3 : Reader) (a d e : DeskState) → ReadsBoth cnf.lines l0 cnf.lines l2 a d (Ready cnf db count l0 l2) → ReadsBoth cnf.lines l2 cnf'.lines l3 d e (λ c p c' p'. StepsGive None cnf db l2 l3 c p p')
+    → ReadsBoth cnf.lines l0 cnf'.lines l3 a e (Done cnf db count l0 l3)
+done cnf cnf' db count l0 l2 l3 a d e first steps =
+    both_then cnf.lines l0 cnf.lines l2 cnf'.lines l3 a d e (Ready cnf db count l0 l2) (λ c p c' p'. StepsGive None cnf db l2 l3 c p p') (Done cnf db count l0 l3) (λ t0 u0 t1 u1 t2 u2 p q task answer is w. p task answer is (q task answer is.same_vars w)) first steps
+
+pub rest_verdict : (cnf cnf' : CnfReader) (db : Database) (count : ℕ) (l0 l3 l4 : Reader) (a e h : DeskState) → cnf'.lines.slot ≢ l3.slot → l4.slot ≡ l3.slot → ReadsBoth cnf.lines l0 cnf'.lines l3 a e (Done cnf db count l0 l3)
+    → TakesAhead l3.slot l3.ahead l4.ahead e h (λ text rest. (task : Task) (clauses : Clauses) → Walks task ended clauses (rows_left l3 text) (Ok Accepted)) → ReadsBoth cnf.lines l0 cnf'.lines l4 a h (λ c p c' p'. LinesAnswer cnf db count l0 c p (Ok Accepted))
+rest_verdict cnf cnf' db count l0 l3 l4 a e h apart slot first reads =
+    both_then cnf.lines l0 cnf'.lines l3 cnf'.lines l4 a e h (Done cnf db count l0 l3) (λ c p c' p'. (task : Task) (clauses : Clauses) → Walks task ended clauses (rows_left l3 p) (Ok Accepted)) (λ c p c' p'. LinesAnswer cnf db count l0 c p (Ok Accepted))
+    (λ t0 u0 t1 u1 t2 u2 p q task is. p task (Ok Accepted) is (q task)) first
+    (both_of_two cnf'.lines l3 l4 e h (λ text rest. (task : Task) (clauses : Clauses) → Walks task ended clauses (rows_left l3 text) (Ok Accepted)) (λ c p c' p'. (task : Task) (clauses : Clauses) → Walks task ended clauses (rows_left l3 p) (Ok Accepted)) apart slot (λ c p p' h. h) reads)
+
+pub rest_fault : (f : CheckFault) (cnf cnf' : CnfReader) (db : Database) (count : ℕ) (l0 l3 l4 : Reader) (a e h : DeskState) → cnf'.lines.slot ≢ l3.slot → l4.slot ≡ l3.slot → ReadsBoth cnf.lines l0 cnf'.lines l3 a e (Done cnf db count l0 l3)
+    → StopsOne f l3 l4 e h (λ text f. (task : Task) (clauses : Clauses) → Walks task ended clauses (rows_left l3 text) (Err f)) → StopsBoth f cnf.lines l0 cnf'.lines l4 a h (λ c p f. LinesAnswer cnf db count l0 c p (Err f))
+rest_fault f cnf cnf' db count l0 l3 l4 a e h apart slot first stops =
+    both_stops f cnf.lines l0 cnf'.lines l3 cnf'.lines l4 a e h (Done cnf db count l0 l3) (λ c p f. (task : Task) (clauses : Clauses) → Walks task ended clauses (rows_left l3 p) (Err f)) (λ c p f. LinesAnswer cnf db count l0 c p (Err f))
+    (λ t u t' u' f p q task is. p task (Err f) is (q task)) first
+    (stops_of_proof f cnf'.lines l3 l4 e h (λ text f. (task : Task) (clauses : Clauses) → Walks task ended clauses (rows_left l3 text) (Err f)) (λ c p f. (task : Task) (clauses : Clauses) → Walks task ended clauses (rows_left l3 p) (Err f)) apart slot (λ c p f h. h) stops)
+
+pub apart_then : (cnf proof cnf' proof' : Reader) (a b : DeskState) (P : List ℕ → List ℕ → List ℕ → List ℕ → Type 0) → ReadsBoth cnf proof cnf' proof' a b P → cnf'.slot ≢ proof'.slot
+apart_then cnf proof cnf' proof' a b P reads e = reads.apart (sym reads.one_slot ∙ e ∙ reads.two_slot)

@@ -1,0 +1,130 @@
+-- Lines that stand in no place among the steps.
+use Rattle.std.proofs.Common.{◌≡◌, ◌+◌, ℕ, Bool, false, cond, List, length, Some, None, Ok, Err, refl, sym, ap, ◌∙◌, subst, eq-eqb}
+use Rattle.std.specs.Prelude.{◌≢◌, ◌==◌}
+use Rattle.std.proofs.lemmas.Bool.{true≢false}
+use Rattle.pb_base.specs.declared.expected.Expected.TheVariants as expected
+use Rattle.pb_desk.specs.Desk.{DeskState}
+use Rattle.pb_desk.specs.LineReading.{TakesAhead}
+use Rattle.pb_desk.specs.LineReaders.{Reader}
+use Rattle.pb_dimacs.specs.Cursors.{rows_left}
+use Rattle.pb_dimacs.proofs.RowLemmas.{reads_weaker}
+use Rattle.pb_steps.specs.declared.step.Step.{Step}
+use Rattle.pb_steps.specs.declared.step.Step.TheVariants.{Blank, Head, Loaded, Pol, Rup, Red, Del, Out, End}
+use Rattle.pb_steps.specs.Database.{loaded_database}
+use Rattle.pb_check.specs.declared.verdict.CheckFault.{CheckFault}
+use Rattle.pb_check.specs.declared.verdict.Verdict.TheVariants.{Accepted}
+use Rattle.pb_check.specs.Turns.{Answer, Task, Clauses, Stage, Turn, misplaced, head_turn, count_turn, end_turn, turn_by, last_turn}
+use Rattle.pb_check.specs.Turns.Stage.{head_wanted, count_wanted, at_steps, ended}
+use Rattle.pb_check.specs.Turns.Turn.{go, stop}
+use Rattle.pb_check.specs.Walk.{Walks}
+use Rattle.pb_check.specs.Faults.{misplaced_line, miscounted_line, early_end}
+use Rattle.pb_check.specs.laws.Phases.{says_nothing, StopsOne, NextSays, FollowsRows, Leads}
+use Rattle.pb_desk.proofs.BothSlots.{differs}
+use Rattle.pb_check.proofs.NextLines.{stops_weaker}
+use Rattle.pb_check.proofs.TurnLemmas.{next_walks, end_walks}
+
+head_misplaced : (s : Step) (clauses : Clauses) (number : ℕ) (line : List ℕ) → says_nothing s ≡ false → s ≢ Head → head_turn clauses number line s ≡ misplaced number line expected.Head
+head_misplaced Blank clauses number line some other = absurd (true≢false some)
+head_misplaced Head clauses number line some other = absurd (other refl)
+head_misplaced (Loaded count) clauses number line some other = refl
+head_misplaced (Pol ops) clauses number line some other = refl
+head_misplaced (Rup ts right ids) clauses number line some other = refl
+head_misplaced (Red ts right sets) clauses number line some other = refl
+head_misplaced (Del ids) clauses number line some other = refl
+head_misplaced (Out id) clauses number line some other = refl
+head_misplaced End clauses number line some other = refl
+
+count_misplaced : (s : Step) (task : Task) (clauses : Clauses) (number : ℕ) (line : List ℕ) → says_nothing s ≡ false → ((count : ℕ) → s ≢ Loaded count) → count_turn task clauses number line s ≡ misplaced number line expected.Loaded
+count_misplaced Blank task clauses number line some other = absurd (true≢false some)
+count_misplaced Head task clauses number line some other = refl
+count_misplaced (Loaded count) task clauses number line some other = absurd (other count refl)
+count_misplaced (Pol ops) task clauses number line some other = refl
+count_misplaced (Rup ts right ids) task clauses number line some other = refl
+count_misplaced (Red ts right sets) task clauses number line some other = refl
+count_misplaced (Del ids) task clauses number line some other = refl
+count_misplaced (Out id) task clauses number line some other = refl
+count_misplaced End task clauses number line some other = refl
+
+end_misplaced : (s : Step) (clauses : Clauses) (number : ℕ) (line : List ℕ) → says_nothing s ≡ false → end_turn clauses number line s ≡ misplaced number line expected.DerivationEnd
+end_misplaced Blank clauses number line some = absurd (true≢false some)
+end_misplaced Head clauses number line some = refl
+end_misplaced (Loaded count) clauses number line some = refl
+end_misplaced (Pol ops) clauses number line some = refl
+end_misplaced (Rup ts right ids) clauses number line some = refl
+end_misplaced (Red ts right sets) clauses number line some = refl
+end_misplaced (Del ids) clauses number line some = refl
+end_misplaced (Out id) clauses number line some = refl
+end_misplaced End clauses number line some = refl
+
+-- a line that stops
+stops_line : (f g : CheckFault) (s : Step) (stage : Stage) (premise : Task → Type 0) (old new : Reader) (a b : DeskState) → f ≡ g → ((task : Task) (clauses : Clauses) → premise task → turn_by task stage clauses new.number new.line s ≡ stop (Err g))
+    → (TakesAhead old.slot old.ahead new.ahead a b (λ text rest. (task : Task) (clauses : Clauses) → premise task → Walks task stage clauses (rows_left old text) (Err g)) → StopsOne g old new a b (λ text f. (task : Task) (clauses : Clauses) → premise task → Walks task stage clauses (rows_left old text) (Err f)))
+    → TakesAhead old.slot old.ahead new.ahead a b (λ text rest. NextSays (Some s) new (rows_left old text) (rows_left new rest)) → StopsOne f old new a b (λ text f. (task : Task) (clauses : Clauses) → premise task → Walks task stage clauses (rows_left old text) (Err f))
+stops_line f g s stage premise old new a b is turn at reads =
+    subst (λ (f : CheckFault). StopsOne f old new a b (λ text f. (task : Task) (clauses : Clauses) → premise task → Walks task stage clauses (rows_left old text) (Err f))) (sym is)
+    (at (reads_weaker old.slot old.ahead new.ahead a b (λ text rest. NextSays (Some s) new (rows_left old text) (rows_left new rest)) (λ text rest. (task : Task) (clauses : Clauses) → premise task → Walks task stage clauses (rows_left old text) (Err g))
+    (λ text rest p task clauses holds. next_walks task stage clauses (rows_left old text) (rows_left new rest) new.number new.line s (Err g) p.0 p.1
+    (subst (λ (t : Turn). FollowsRows task new.number t (rows_left new rest) (Err g)) (sym (turn task clauses holds)) refl)) reads))
+
+-- the same with no premise
+plain : (f : CheckFault) (stage : Stage) (old new : Reader) (a b : DeskState) → f ≡ f → StopsOne f old new a b (λ text f. (task : Task) (clauses : Clauses) → Unit {0} → Walks task stage clauses (rows_left old text) (Err f))
+    → StopsOne f old new a b (λ text f. (task : Task) (clauses : Clauses) → Walks task stage clauses (rows_left old text) (Err f))
+plain f stage old new a b e stops = stops_weaker f old new a b (λ text f. (task : Task) (clauses : Clauses) → Unit {0} → Walks task stage clauses (rows_left old text) (Err f))
+    (λ text f. (task : Task) (clauses : Clauses) → Walks task stage clauses (rows_left old text) (Err f)) (λ text f h task clauses. h task clauses tt) stops
+
+pub head_stops : (f : CheckFault) (s : Step) (old new : Reader) (a b : DeskState) → f ≡ misplaced_line new.number new.line expected.Head → says_nothing s ≡ false → s ≢ Head
+    → TakesAhead old.slot old.ahead new.ahead a b (λ text rest. NextSays (Some s) new (rows_left old text) (rows_left new rest)) → StopsOne f old new a b (λ text f. (task : Task) (clauses : Clauses) → Walks task head_wanted clauses (rows_left old text) (Err f))
+head_stops f s old new a b is some other reads =
+    plain f head_wanted old new a b refl (stops_line f (misplaced_line new.number new.line expected.Head) s head_wanted (λ task. Unit {0}) old new a b is (λ task clauses _. head_misplaced s clauses new.number new.line some other) (λ r. r) reads)
+
+pub rest_stops : (f : CheckFault) (s : Step) (old new : Reader) (a b : DeskState) → f ≡ misplaced_line new.number new.line expected.DerivationEnd → says_nothing s ≡ false
+    → TakesAhead old.slot old.ahead new.ahead a b (λ text rest. NextSays (Some s) new (rows_left old text) (rows_left new rest)) → StopsOne f old new a b (λ text f. (task : Task) (clauses : Clauses) → Walks task ended clauses (rows_left old text) (Err f))
+rest_stops f s old new a b is some reads =
+    plain f ended old new a b refl (stops_line f (misplaced_line new.number new.line expected.DerivationEnd) s ended (λ task. Unit {0}) old new a b is (λ task clauses _. end_misplaced s clauses new.number new.line some) (λ r. r) reads)
+
+pub count_stops : (f : CheckFault) (s : Step) (loaded : ℕ) (old new : Reader) (a b : DeskState) → f ≡ misplaced_line new.number new.line expected.Loaded → says_nothing s ≡ false → ((count : ℕ) → s ≢ Loaded count)
+    → TakesAhead old.slot old.ahead new.ahead a b (λ text rest. NextSays (Some s) new (rows_left old text) (rows_left new rest)) → StopsOne f old new a b (λ text f. (task : Task) (clauses : Clauses) → length task.loaded ≡ loaded → Walks task count_wanted clauses (rows_left old text) (Err f))
+count_stops f s loaded old new a b is some other reads =
+    stops_line f (misplaced_line new.number new.line expected.Loaded) s count_wanted (λ task. length task.loaded ≡ loaded) old new a b is (λ task clauses _. count_misplaced s task clauses new.number new.line some other) (λ r. r) reads
+
+pub miscounted_stops : (f : CheckFault) (s : Step) (count loaded : ℕ) (old new : Reader) (a b : DeskState) → f ≡ miscounted_line new.number new.line → s ≡ Loaded count → (count ≡ loaded → ⊥)
+    → TakesAhead old.slot old.ahead new.ahead a b (λ text rest. NextSays (Some s) new (rows_left old text) (rows_left new rest)) → StopsOne f old new a b (λ text f. (task : Task) (clauses : Clauses) → length task.loaded ≡ loaded → Walks task count_wanted clauses (rows_left old text) (Err f))
+miscounted_stops f s count loaded old new a b is says wrong reads =
+    stops_line f (miscounted_line new.number new.line) s count_wanted (λ task. length task.loaded ≡ loaded) old new a b is
+    (λ task clauses same. ap (count_turn task clauses new.number new.line) says
+    ∙ ap (λ (t : Bool). cond t (go (at_steps (loaded_database task.original task.vars task.loaded)) clauses) (stop (Err (miscounted_line new.number new.line)))) (ap (λ (n : ℕ). count == n) same ∙ differs count loaded wrong)) (λ r. r) reads
+
+-- the text ends too early
+pub early_stops : (f : CheckFault) (stage : Stage) (premise : Task → Type 0) (old new : Reader) (a b : DeskState) → f ≡ early_end (new.number + 1) → last_turn stage (new.number + 1) ≡ stop (Err (early_end (new.number + 1)))
+    → TakesAhead old.slot old.ahead new.ahead a b (λ text rest. NextSays None new (rows_left old text) (rows_left new rest)) → StopsOne f old new a b (λ text f. (task : Task) (clauses : Clauses) → premise task → Walks task stage clauses (rows_left old text) (Err f))
+early_stops f stage premise old new a b is ends reads =
+    subst (λ (f : CheckFault). StopsOne f old new a b (λ text f. (task : Task) (clauses : Clauses) → premise task → Walks task stage clauses (rows_left old text) (Err f))) (sym is)
+    (reads_weaker old.slot old.ahead new.ahead a b (λ text rest. NextSays None new (rows_left old text) (rows_left new rest)) (λ text rest. (task : Task) (clauses : Clauses) → premise task → Walks task stage clauses (rows_left old text) (Err (early_end (new.number + 1))))
+    (λ text rest p task clauses holds. end_walks task stage clauses (rows_left old text) (new.number + 1) (Err (early_end (new.number + 1))) p ends) reads)
+
+pub head_early : (f : CheckFault) (old new : Reader) (a b : DeskState) → f ≡ early_end (new.number + 1)
+    → TakesAhead old.slot old.ahead new.ahead a b (λ text rest. NextSays None new (rows_left old text) (rows_left new rest)) → StopsOne f old new a b (λ text f. (task : Task) (clauses : Clauses) → Walks task head_wanted clauses (rows_left old text) (Err f))
+head_early f old new a b is reads = plain f head_wanted old new a b refl (early_stops f head_wanted (λ task. Unit {0}) old new a b is refl reads)
+
+-- a line that leads on
+pub head_leads : (s : Step) (old new : Reader) (a b : DeskState) → s ≡ Head → TakesAhead old.slot old.ahead new.ahead a b (λ text rest. NextSays (Some s) new (rows_left old text) (rows_left new rest))
+    → TakesAhead old.slot old.ahead new.ahead a b (λ text rest. Leads count_wanted (rows_left new rest) head_wanted (rows_left old text))
+head_leads s old new a b is reads =
+    reads_weaker old.slot old.ahead new.ahead a b (λ text rest. NextSays (Some s) new (rows_left old text) (rows_left new rest)) (λ text rest. Leads count_wanted (rows_left new rest) head_wanted (rows_left old text))
+    (λ text rest p task clauses answer w. next_walks task head_wanted clauses (rows_left old text) (rows_left new rest) new.number new.line s answer p.0 p.1
+    (subst (λ (s : Step). FollowsRows task new.number (head_turn clauses new.number new.line s) (rows_left new rest) answer) (sym is) w)) reads
+
+pub count_leads : (s : Step) (count loaded : ℕ) (old new : Reader) (a b : DeskState) → s ≡ Loaded count → count ≡ loaded → TakesAhead old.slot old.ahead new.ahead a b (λ text rest. NextSays (Some s) new (rows_left old text) (rows_left new rest))
+    → TakesAhead old.slot old.ahead new.ahead a b (λ text rest. (task : Task) (clauses : Clauses) (a : Answer) → length task.loaded ≡ loaded → Walks task (at_steps (loaded_database task.original task.vars task.loaded)) clauses (rows_left new rest) a → Walks task count_wanted clauses (rows_left old text) a)
+count_leads s count loaded old new a b is right reads =
+    reads_weaker old.slot old.ahead new.ahead a b (λ text rest. NextSays (Some s) new (rows_left old text) (rows_left new rest))
+    (λ text rest. (task : Task) (clauses : Clauses) (a : Answer) → length task.loaded ≡ loaded → Walks task (at_steps (loaded_database task.original task.vars task.loaded)) clauses (rows_left new rest) a → Walks task count_wanted clauses (rows_left old text) a)
+    (λ text rest p task clauses answer same w. next_walks task count_wanted clauses (rows_left old text) (rows_left new rest) new.number new.line s answer p.0 p.1
+    (subst (λ (t : Turn). FollowsRows task new.number t (rows_left new rest) answer) (sym (ap (count_turn task clauses new.number new.line) is
+    ∙ ap (λ (t : Bool). cond t (go (at_steps (loaded_database task.original task.vars task.loaded)) clauses) (stop (Err (miscounted_line new.number new.line)))) (ap (λ (n : ℕ). count == n) same ∙ eq-eqb count loaded right))) w)) reads
+
+pub rest_ends : (old new : Reader) (a b : DeskState) → TakesAhead old.slot old.ahead new.ahead a b (λ text rest. NextSays None new (rows_left old text) (rows_left new rest))
+    → TakesAhead old.slot old.ahead new.ahead a b (λ text rest. (task : Task) (clauses : Clauses) → Walks task ended clauses (rows_left old text) (Ok Accepted))
+rest_ends old new a b reads =
+    reads_weaker old.slot old.ahead new.ahead a b (λ text rest. NextSays None new (rows_left old text) (rows_left new rest)) (λ text rest. (task : Task) (clauses : Clauses) → Walks task ended clauses (rows_left old text) (Ok Accepted))
+    (λ text rest p task clauses. end_walks task ended clauses (rows_left old text) (new.number + 1) (Ok Accepted) p refl) reads

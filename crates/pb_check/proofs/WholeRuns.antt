@@ -1,0 +1,178 @@
+-- All of both texts, from the p line on.
+use Rattle.std.proofs.Common.{◌≡◌, ◌≤◌, ◌<◌, ℕ, Bool, true, false, List, length, Err, refl, sym, ap, ◌∙◌, subst, arith, leb}
+use Rattle.std.specs.Prelude.{◌≢◌}
+use Rattle.std.proofs.lemmas.Bool.{leb-true, le-leb}
+use Rattle.pb_base.specs.declared.problem.Problem.{Problem}
+use Rattle.pb_base.specs.declared.file.File.TheVariants.{Cnf}
+use Rattle.pb_base.specs.Problems.{originals}
+use Rattle.pb_norm.specs.Constraints.{Constraint}
+use Rattle.pb_norm.specs.Halves.{loaded_of}
+use Rattle.pb_desk.specs.Desk.{DeskState}
+use Rattle.pb_desk.specs.LineReaders.{Reader}
+use Rattle.pb_desk.specs.TwoSlots.{ReadsBoth, TakesBoth, FailsBoth}
+use Rattle.pb_desk.proofs.BothSlots.{both_begin, both_of_one, both_then, both_weaker, takes_both}
+use Rattle.pb_dimacs.specs.declared.fault.CnfFault.{CnfFault}
+use Rattle.pb_dimacs.specs.declared.fault.CnfFault.TheVariants as cnf_fault
+use Rattle.pb_dimacs.specs.declared.head.CnfHead.{CnfHead}
+use Rattle.pb_dimacs.specs.CnfReaders.{CnfReader, new_reader, symbols_left, GivesHead, StopsHead}
+use Rattle.pb_dimacs.specs.CnfRows.{CnfRow, rows_of}
+use Rattle.pb_dimacs.specs.CnfSymbols.{Start, start_of}
+use Rattle.pb_dimacs.specs.CnfSymbols.Start.{told, wrong}
+use Rattle.pb_dimacs.specs.Cursors.{rows_left}
+use Rattle.pb_dimacs.proofs.FormLemmas.{start_rows}
+use Rattle.pb_dimacs.proofs.RowLemmas.{reads_weaker}
+use Rattle.pb_steps.specs.Database.{Database, loaded_database}
+use Rattle.pb_check.specs.declared.verdict.CheckFault.{CheckFault}
+use Rattle.pb_check.specs.declared.verdict.CheckFault.TheVariants.{Refused, Limit, ReadFault, NoMemory}
+use Rattle.pb_check.specs.Faults.{of_cnf, too_few_vars}
+use Rattle.pb_check.specs.Turns.{Answer}
+use Rattle.pb_check.specs.Turns.Stage.{head_wanted}
+use Rattle.pb_check.specs.Walk.{Walks, WalksFrom, WalksBy, Walk, task_of}
+use Rattle.pb_check.specs.Outcomes.{StopsCheck}
+use Rattle.pb_check.specs.laws.Phases.{StopsOne, StopsBoth, LinesAnswer, HeadAnswer}
+use Rattle.pb_check.proofs.BothStops.{stops_of_cnf, stops_both_weaker, both_stops}
+
+-- ---- behind the p line
+
+lt-leb-false : (m n : ℕ) → m < n → leb n m ≡ false
+lt-leb-false m n less = by_test (leb n m) refl
+  where
+    by_test : (b : Bool) → leb n m ≡ b → b ≡ false
+    by_test true is = let le = leb-true n m is in absurd (omega (arith, le, less))
+    by_test false is = refl
+
+-- the CNF has too few variables
+pub too_few : (f : CheckFault) (p : Problem) (head : CnfHead) (cnf : CnfReader) (proof : Reader) (a : DeskState) → f ≡ too_few_vars head → cnf.lines.slot ≢ proof.slot → head.vars < originals p
+    → StopsBoth f cnf.lines proof cnf.lines proof a a (λ c d f. HeadAnswer p head cnf proof c d (Err f))
+too_few f p head cnf proof a is apart less =
+    subst (λ (f : CheckFault). StopsBoth f cnf.lines proof cnf.lines proof a a (λ c d f. HeadAnswer p head cnf proof c d (Err f))) (sym is)
+    (both_begin cnf.lines proof a (λ c d c' d'. HeadAnswer p head cnf proof c d (Err (too_few_vars head))) apart
+    (λ c d. subst (λ (b : Bool). WalksFrom p (rows_left proof d) head (symbols_left cnf c) b (Err (too_few_vars head))) (sym (lt-leb-false head.vars (originals p) less)) refl))
+
+-- memory was wanting before a line was read
+pub none_read : (cnf proof : Reader) (a : DeskState) → cnf.slot ≢ proof.slot → ReadsBoth cnf proof cnf proof a a (λ c d c' d'. Unit {0})
+none_read cnf proof a apart = both_begin cnf proof a (λ c d c' d'. Unit {0}) apart (λ c d. tt)
+
+-- the database is that of the loaded constraints
+pub record IsLoaded (p : Problem) (head : CnfHead) (cnf : CnfReader) (db : Database) (count : ℕ) : Type 0 where
+  pub vars : cnf.vars ≡ head.vars
+  pub left : cnf.left ≡ head.clauses
+  pub enough : originals p ≤ head.vars
+  pub counted : count ≡ length (loaded_of p)
+  pub database : db ≡ loaded_database (originals p) head.vars (loaded_of p)
+
+pub database_is : (p : Problem) (head : CnfHead) (loaded : List Constraint) (db : Database) (given : List Constraint) (original : ℕ) → loaded ≡ loaded_of p → given ≡ loaded → original ≡ originals p → db ≡ loaded_database original head.vars given
+    → db ≡ loaded_database (originals p) head.vars (loaded_of p)
+database_is p head loaded db given original is same first made =
+    made ∙ ap (λ (n : ℕ). loaded_database n head.vars given) first ∙ ap (loaded_database (originals p) head.vars) (same ∙ is)
+
+pub loaded_is : (p : Problem) (head : CnfHead) (cnf : CnfReader) (db : Database) (loaded : List Constraint) (count : ℕ) → cnf.vars ≡ head.vars → cnf.left ≡ head.clauses → originals p ≤ head.vars → loaded ≡ loaded_of p → count ≡ length loaded
+    → db ≡ loaded_database (originals p) head.vars (loaded_of p) → IsLoaded p head cnf db count
+loaded_is p head cnf db loaded count vars left enough is counts made = record { vars = vars; left = left; enough = enough; counted = counts ∙ ap (λ (cs : List Constraint). length cs) is; database = made }
+
+lines_answer : (p : Problem) (head : CnfHead) (cnf : CnfReader) (proof : Reader) (db : Database) (count : ℕ) → IsLoaded p head cnf db count → (c d : List ℕ) (a : Answer) → LinesAnswer cnf db count proof c d a → HeadAnswer p head cnf proof c d a
+lines_answer p head cnf proof db count is c d a w =
+    subst (λ (b : Bool). WalksFrom p (rows_left proof d) head (symbols_left cnf c) b a) (sym (le-leb (originals p) head.vars is.enough))
+    (subst (λ (n : ℕ). Walks (task_of p head) head_wanted (record { left = n; symbols = symbols_left cnf c }) (rows_left proof d) a) is.left
+    (w (task_of p head) (record { same_vars = sym is.vars; same_count = sym is.counted; database = is.database })))
+
+pub lines_given : (p : Problem) (head : CnfHead) (cnf cnf' : CnfReader) (proof proof' : Reader) (db : Database) (count : ℕ) (a b : DeskState) (answer : Answer) → IsLoaded p head cnf db count
+    → ReadsBoth cnf.lines proof cnf'.lines proof' a b (λ c d c' d'. LinesAnswer cnf db count proof c d answer) → ReadsBoth cnf.lines proof cnf'.lines proof' a b (λ c d c' d'. HeadAnswer p head cnf proof c d answer)
+lines_given p head cnf cnf' proof proof' db count a b answer is reads =
+    both_weaker cnf.lines proof cnf'.lines proof' a b (λ c d c' d'. LinesAnswer cnf db count proof c d answer) (λ c d c' d'. HeadAnswer p head cnf proof c d answer)
+    (λ c d c' d' w. lines_answer p head cnf proof db count is c d answer w) reads
+
+pub lines_stopped : (f : CheckFault) (p : Problem) (head : CnfHead) (cnf cnf' : CnfReader) (proof proof' : Reader) (db : Database) (count : ℕ) (a b : DeskState) → IsLoaded p head cnf db count
+    → StopsBoth f cnf.lines proof cnf'.lines proof' a b (λ c d f. LinesAnswer cnf db count proof c d (Err f)) → StopsBoth f cnf.lines proof cnf'.lines proof' a b (λ c d f. HeadAnswer p head cnf proof c d (Err f))
+lines_stopped f p head cnf cnf' proof proof' db count a b is stops =
+    stops_both_weaker f cnf.lines proof cnf'.lines proof' a b (λ c d f. LinesAnswer cnf db count proof c d (Err f)) (λ c d f. HeadAnswer p head cnf proof c d (Err f))
+    (λ c d f w. lines_answer p head cnf proof db count is c d (Err f) w) stops
+
+-- ---- from the first byte of both texts on
+
+abbrev WholeAnswer : Problem → CnfReader → Reader → List ℕ → List ℕ → Answer → Type 0
+WholeAnswer p cnf proof c d answer = WalksBy p (rows_left proof d) (start_of (rows_left cnf.lines c)) answer
+
+-- the readers are new ones of these slots
+pub record AreNew (x y : ℕ) (cnf : CnfReader) (proof : Reader) : Type 0 where
+  pub cnf_new : cnf ≡ new_reader x
+  pub proof_new : proof ≡ (new_reader y).lines
+
+pub apart_new : (x y : ℕ) (cnf : CnfReader) (proof : Reader) → AreNew x y cnf proof → x ≢ y → cnf.lines.slot ≢ proof.slot
+apart_new x y cnf proof new apart e = apart (sym (ap (λ (r : CnfReader). r.lines.slot) new.cnf_new) ∙ e ∙ ap (λ (r : Reader). r.slot) new.proof_new)
+
+walk_answer : (p : Problem) (x y : ℕ) (cnf : CnfReader) (proof : Reader) → AreNew x y cnf proof → (c d : List ℕ) (answer : Answer) → WholeAnswer p cnf proof c d answer → Walk p c d answer
+walk_answer p x y cnf proof new c d answer w =
+    subst (λ (rows : List CnfRow). WalksBy p rows (start_of (rows_of c)) answer) (ap (λ (r : Reader). rows_left r d) new.proof_new ∙ start_rows y d)
+    (subst (λ (rows : List CnfRow). WalksBy p (rows_left proof d) (start_of rows) answer) (ap (λ (r : CnfReader). rows_left r.lines c) new.cnf_new ∙ start_rows x c) w)
+
+takes_new : (p : Problem) (x y : ℕ) (cnf cnf' : CnfReader) (proof proof' : Reader) (a b : DeskState) (P : List ℕ → List ℕ → List ℕ → List ℕ → Type 0) (Q : List ℕ → List ℕ → Type 0) → AreNew x y cnf proof
+    → ((c d c' d' : List ℕ) → P c d c' d' → Q c d) → ReadsBoth cnf.lines proof cnf'.lines proof' a b P → TakesBoth x y Q a b
+takes_new p x y cnf cnf' proof proof' a b P Q new gives reads =
+    takes_both cnf.lines proof cnf'.lines proof' x y a b P Q (ap (λ (r : CnfReader). r.lines.slot) new.cnf_new) (ap (λ (r : Reader). r.slot) new.proof_new)
+    (ap (λ (r : CnfReader). r.lines.ahead) new.cnf_new) (ap (λ (r : Reader). r.ahead) new.proof_new) gives reads
+
+takes_walk : (p : Problem) (x y : ℕ) (cnf cnf' : CnfReader) (proof proof' : Reader) (a b : DeskState) (answer : Answer) → AreNew x y cnf proof
+    → ReadsBoth cnf.lines proof cnf'.lines proof' a b (λ c d c' d'. WholeAnswer p cnf proof c d answer) → TakesBoth x y (λ c d. Walk p c d answer) a b
+takes_walk p x y cnf cnf' proof proof' a b answer new reads =
+    takes_new p x y cnf cnf' proof proof' a b (λ c d c' d'. WholeAnswer p cnf proof c d answer) (λ c d. Walk p c d answer) new
+    (λ c d c' d' w. walk_answer p x y cnf proof new c d answer w) reads
+
+stops_walk : (f : CheckFault) (p : Problem) (x y : ℕ) (cnf cnf' : CnfReader) (proof proof' : Reader) (a b : DeskState) → AreNew x y cnf proof
+    → StopsBoth f cnf.lines proof cnf'.lines proof' a b (λ c d f. WholeAnswer p cnf proof c d (Err f)) → StopsCheck p x y a b f
+stops_walk ReadFault p x y cnf cnf' proof proof' a b new stops =
+    subst (λ (s : ℕ). FailsBoth s y a b) (ap (λ (r : CnfReader). r.lines.slot) new.cnf_new) (subst (λ (s : ℕ). FailsBoth cnf.lines.slot s a b) (ap (λ (r : Reader). r.slot) new.proof_new) stops)
+stops_walk NoMemory p x y cnf cnf' proof proof' a b new stops =
+    takes_new p x y cnf cnf' proof proof' a b (λ c d c' d'. Unit {0}) (λ c d. Unit {0}) new (λ c d c' d' t. tt) stops
+stops_walk (Refused file place e) p x y cnf cnf' proof proof' a b new stops = takes_walk p x y cnf cnf' proof proof' a b (Err (Refused file place e)) new stops
+stops_walk (Limit file place which) p x y cnf cnf' proof proof' a b new stops = takes_walk p x y cnf cnf' proof proof' a b (Err (Limit file place which)) new stops
+
+-- the p line was read
+abbrev Started : CnfHead → CnfReader → CnfReader → List ℕ → List ℕ → List ℕ → List ℕ → Type 0
+Started head cnf cnf' c d c' d' = (start_of (rows_left cnf.lines c) ≡ told head (symbols_left cnf' c')) × (d' ≡ d)
+
+started_with : (head : CnfHead) (cnf cnf' : CnfReader) (proof : Reader) (a b : DeskState) → cnf.lines.slot ≢ proof.slot → cnf'.lines.slot ≡ cnf.lines.slot → GivesHead head cnf cnf' a b
+    → ReadsBoth cnf.lines proof cnf'.lines proof a b (Started head cnf cnf')
+started_with head cnf cnf' proof a b apart slot given =
+    both_of_one cnf.lines cnf'.lines proof a b (λ text rest. start_of (rows_left cnf.lines text) ≡ told head (symbols_left cnf' rest)) (Started head cnf cnf') apart slot (λ c d c' h. (h, refl)) given
+
+head_answer : (p : Problem) (head : CnfHead) (cnf cnf' : CnfReader) (proof : Reader) (answer : Answer) (c d c' d' : List ℕ) → Started head cnf cnf' c d c' d' → HeadAnswer p head cnf' proof c' d' answer → WholeAnswer p cnf proof c d answer
+head_answer p head cnf cnf' proof answer c d c' d' start w =
+    subst (λ (s : Start). WalksBy p (rows_left proof d) s answer) (sym start.0)
+    (subst (λ (text : List ℕ). HeadAnswer p head cnf' proof c' text answer) start.1 w)
+
+pub walk_given : (p : Problem) (head : CnfHead) (x y : ℕ) (cnf cnf' cnf'' : CnfReader) (proof proof' : Reader) (a b d : DeskState) (answer : Answer) → AreNew x y cnf proof → cnf.lines.slot ≢ proof.slot → cnf'.lines.slot ≡ cnf.lines.slot
+    → GivesHead head cnf cnf' a b → ReadsBoth cnf'.lines proof cnf''.lines proof' b d (λ t u t' u'. HeadAnswer p head cnf' proof t u answer) → TakesBoth x y (λ c d. Walk p c d answer) a d
+walk_given p head x y cnf cnf' cnf'' proof proof' a b d answer new apart slot given reads =
+    takes_walk p x y cnf cnf'' proof proof' a d answer new
+    (both_then cnf.lines proof cnf'.lines proof cnf''.lines proof' a b d (Started head cnf cnf') (λ t u t' u'. HeadAnswer p head cnf' proof t u answer) (λ t u t' u'. WholeAnswer p cnf proof t u answer)
+    (λ t u t' u' t'' u'' start w. head_answer p head cnf cnf' proof answer t u t' u' start w) (started_with head cnf cnf' proof a b apart slot given) reads)
+
+pub walk_stopped : (f : CheckFault) (p : Problem) (head : CnfHead) (x y : ℕ) (cnf cnf' cnf'' : CnfReader) (proof proof' : Reader) (a b d : DeskState) → AreNew x y cnf proof → cnf.lines.slot ≢ proof.slot → cnf'.lines.slot ≡ cnf.lines.slot
+    → GivesHead head cnf cnf' a b → StopsBoth f cnf'.lines proof cnf''.lines proof' b d (λ t u f. HeadAnswer p head cnf' proof t u (Err f)) → StopsCheck p x y a d f
+walk_stopped f p head x y cnf cnf' cnf'' proof proof' a b d new apart slot given stops =
+    stops_walk f p x y cnf cnf'' proof proof' a d new
+    (both_stops f cnf.lines proof cnf'.lines proof cnf''.lines proof' a b d (Started head cnf cnf') (λ t u f. HeadAnswer p head cnf' proof t u (Err f)) (λ t u f. WholeAnswer p cnf proof t u (Err f))
+    (λ t u t' u' f start w. head_answer p head cnf cnf' proof (Err f) t u t' u' start w) (started_with head cnf cnf' proof a b apart slot given) stops)
+
+-- the p line was not read
+wrong_start : (p : Problem) (rows : List CnfRow) (s : Start) (f : CnfFault) → s ≡ wrong f → WalksBy p rows s (Err (of_cnf f))
+wrong_start p rows s f is = subst (λ (s : Start). WalksBy p rows s (Err (of_cnf f))) (sym is) refl
+
+head_missed : (fault : CnfFault) (p : Problem) (cnf cnf' : CnfReader) (a b : DeskState) → StopsHead fault cnf cnf' a b
+    → StopsOne (of_cnf fault) cnf.lines cnf'.lines a b (λ text f. (rows : List CnfRow) → WalksBy p rows (start_of (rows_left cnf.lines text)) (Err f))
+head_missed cnf_fault.Failed p cnf cnf' a b stops = stops
+head_missed cnf_fault.NoMemory p cnf cnf' a b stops = stops
+head_missed (cnf_fault.Token place e) p cnf cnf' a b stops =
+    reads_weaker cnf.lines.slot cnf.lines.ahead cnf'.lines.ahead a b (λ text rest. start_of (rows_left cnf.lines text) ≡ wrong (cnf_fault.Token place e)) (λ text rest. (rows : List CnfRow) → WalksBy p rows (start_of (rows_left cnf.lines text)) (Err (Refused Cnf place e)))
+    (λ text rest is rows. wrong_start p rows (start_of (rows_left cnf.lines text)) (cnf_fault.Token place e) is) stops
+head_missed (cnf_fault.Limit place which) p cnf cnf' a b stops =
+    reads_weaker cnf.lines.slot cnf.lines.ahead cnf'.lines.ahead a b (λ text rest. start_of (rows_left cnf.lines text) ≡ wrong (cnf_fault.Limit place which)) (λ text rest. (rows : List CnfRow) → WalksBy p rows (start_of (rows_left cnf.lines text)) (Err (Limit Cnf place which)))
+    (λ text rest is rows. wrong_start p rows (start_of (rows_left cnf.lines text)) (cnf_fault.Limit place which) is) stops
+
+pub walk_unstarted : (fault : CnfFault) (p : Problem) (x y : ℕ) (cnf cnf' : CnfReader) (proof : Reader) (a b : DeskState) → AreNew x y cnf proof → cnf.lines.slot ≢ proof.slot → cnf'.lines.slot ≡ cnf.lines.slot
+    → StopsHead fault cnf cnf' a b → StopsCheck p x y a b (of_cnf fault)
+walk_unstarted fault p x y cnf cnf' proof a b new apart slot stops =
+    stops_walk (of_cnf fault) p x y cnf cnf' proof proof a b new
+    (stops_of_cnf (of_cnf fault) cnf.lines cnf'.lines proof a b (λ text f. (rows : List CnfRow) → WalksBy p rows (start_of (rows_left cnf.lines text)) (Err f)) (λ c d f. WholeAnswer p cnf proof c d (Err f)) apart slot
+    (λ c d f h. h (rows_left proof d)) (head_missed fault p cnf cnf' a b stops))

@@ -1,0 +1,62 @@
+use Rattle.std.proofs.Common.{refl, ◌∙◌, subst}
+use Rattle.pb_desk.specs.TwoSlots.{ReadsBoth}
+use Rattle.pb_check.specs.declared.taking.Taken.{Taken}
+use Rattle.pb_check.specs.declared.taking.Taken.TheVariants as taken
+use Rattle.pb_check.specs.laws.Phases.{LineGives}
+use Rattle.pb_dimacs.proofs.CursorLemmas.{goes_then}
+use Rattle.pb_desk.proofs.BothSlots.{both_begin}
+use Rattle.pb_check.proofs.StepRuns.{runs_on, runs_out, runs_denied, runs_stop}
+use Rattle.pb_check.proofs.stages.run_steps.Goals as goal
+
+pub steps-init : goal.steps-init
+steps-init g c =
+    let cnf = c.args.cnf.now in
+    let proof = c.args.lines.now in
+    record {
+      goes_on = record { slot = refl; limits = refl; fine = c.requires.fine };
+      vars = refl;
+      fine = c.requires.cnf_fine;
+      reads = both_begin cnf.lines proof (g.D.Desk.state c.args.desk.now) (LineGives taken.On cnf c.args.db.now proof cnf c.args.db.now proof) c.requires.apart (λ t u task answer vars w. w);
+    }
+
+pub steps-preserved : goal.steps-preserved
+steps-preserved g c =
+    let a = g.D.Desk.state c.args.desk.now in
+    let b = g.D.Desk.state c.steps.desk in
+    let d = g.D.Desk.state c.take_line.new.desk in
+    let cnf = c.steps.cnf in
+    let cnf' = c.take_line.new.cnf in
+    let gives = subst (λ (t : Taken). ReadsBoth cnf.lines c.steps.lines cnf'.lines c.take_line.new.lines b d (LineGives t cnf c.steps.db c.steps.lines cnf' c.take_line.new.db c.take_line.new.lines)) c.in-Ok-On.field-0-is c.in-Ok-On.ensures.gives in
+    record {
+      goes_on = goes_then c.args.lines.now c.steps.lines c.steps.lines c.take_line.new.lines c.take_line.new.lines c.steps.invariant.goes_on refl c.in-Ok-On.ensures.follows refl;
+      vars = c.in-Ok-On.ensures.cnf_vars ∙ c.steps.invariant.vars;
+      fine = c.in-Ok-On.ensures.cnf_fine;
+      reads = runs_on c.args.cnf.now cnf cnf' c.args.db.now c.steps.db c.take_line.new.db c.args.lines.now c.steps.lines c.take_line.new.lines a b d c.steps.invariant.vars c.steps.invariant.reads gives;
+    }
+
+pub returns-in-Ok-Last-clause-steps : goal.returns-in-Ok-Last-clause-steps
+returns-in-Ok-Last-clause-steps g c =
+    let a = g.D.Desk.state c.args.desk.now in
+    let b = g.D.Desk.state c.steps.desk in
+    let d = g.D.Desk.state c.take_line.new.desk in
+    let cnf = c.steps.cnf in
+    let cnf' = c.take_line.new.cnf in
+    let gives = subst (λ (t : Taken). ReadsBoth cnf.lines c.steps.lines cnf'.lines c.take_line.new.lines b d (LineGives t cnf c.steps.db c.steps.lines cnf' c.take_line.new.db c.take_line.new.lines)) c.in-Ok-Last.field-0-is c.in-Ok-Last.ensures.gives in
+    runs_out c.args.cnf.now cnf cnf' c.args.db.now c.steps.db c.take_line.new.db c.args.lines.now c.steps.lines c.take_line.new.lines a b d c.steps.invariant.vars c.steps.invariant.reads gives
+
+pub returns-in-Ok-Denied-clause-steps : goal.returns-in-Ok-Denied-clause-steps
+returns-in-Ok-Denied-clause-steps g c =
+    let a = g.D.Desk.state c.args.desk.now in
+    let b = g.D.Desk.state c.steps.desk in
+    let d = g.D.Desk.state c.take_line.new.desk in
+    let cnf = c.steps.cnf in
+    let cnf' = c.take_line.new.cnf in
+    let gives = subst (λ (t : Taken). ReadsBoth cnf.lines c.steps.lines cnf'.lines c.take_line.new.lines b d (LineGives t cnf c.steps.db c.steps.lines cnf' c.take_line.new.db c.take_line.new.lines)) c.in-Ok-Denied.field-0-is c.in-Ok-Denied.ensures.gives in
+    runs_denied c.in-Ok-Denied.denied c.number.result c.args.cnf.now cnf cnf' c.args.db.now c.steps.db c.take_line.new.db c.args.lines.now c.steps.lines c.take_line.new.lines a b d c.number.ensures c.steps.invariant.vars c.steps.invariant.reads gives
+
+pub returns-in-Err-clause-stopped : goal.returns-in-Err-clause-stopped
+returns-in-Err-clause-stopped g c =
+    let a = g.D.Desk.state c.args.desk.now in
+    let b = g.D.Desk.state c.steps.desk in
+    let d = g.D.Desk.state c.take_line.new.desk in
+    runs_stop c.in-Err.fault c.args.cnf.now c.steps.cnf c.take_line.new.cnf c.args.db.now c.steps.db c.args.lines.now c.steps.lines c.take_line.new.lines a b d c.steps.invariant.vars c.steps.invariant.reads c.in-Err.ensures.stopped

@@ -1,0 +1,55 @@
+use Rattle.std.proofs.Common.{◌≡◌, Option, false, length, refl, sym, subst, inr}
+use Rattle.std.specs.Prelude.{IfSome}
+use Rattle.pb_desk.specs.LineReading.{TakesAhead}
+use Rattle.pb_dimacs.specs.Cursors.{rows_left}
+use Rattle.pb_steps.specs.declared.step.Step.{Step}
+use Rattle.pb_check.specs.Turns.Stage.{count_wanted}
+use Rattle.pb_check.specs.Turns.{Task}
+use Rattle.pb_check.specs.Outcomes.{NamesText}
+use Rattle.pb_check.specs.laws.Phases.{says_nothing, NextSays}
+use Rattle.pb_check.proofs.Places.{count_stops, miscounted_stops, early_stops, count_leads}
+use Rattle.pb_check.proofs.stages.take_count.Goals as goal
+
+pub returns-in_default-clause-stopped : goal.returns-in_default-clause-stopped
+returns-in_default-clause-stopped g c =
+    let old = c.args.lines.now in
+    let new = c.next_step.new.lines in
+    let a = g.D.Desk.state c.args.desk.now in
+    let b = g.D.Desk.state c.next_step.new.desk in
+    early_stops c.ended.result count_wanted (λ (task : Task). length task.loaded ≡ c.args.loaded) old new a b c.ended.ensures refl
+    (subst (λ (o : Option Step). TakesAhead old.slot old.ahead new.ahead a b (λ text rest. NextSays o new (rows_left old text) (rows_left new rest))) c.in_default.is c.in-Ok.ensures.next)
+
+pub returns-then-count-loaded-clause-leads : goal.returns-then-count-loaded-clause-leads
+returns-then-count-loaded-clause-leads g c =
+    let old = c.args.lines.now in
+    let new = c.next_step.new.lines in
+    let a = g.D.Desk.state c.args.desk.now in
+    let b = g.D.Desk.state c.next_step.new.desk in
+    count_leads c.in-Some.step c.in-Loaded.count c.args.loaded old new a b c.in-Loaded.is c.if-count-loaded.true
+    (subst (λ (o : Option Step). TakesAhead old.slot old.ahead new.ahead a b (λ text rest. NextSays o new (rows_left old text) (rows_left new rest))) c.in-Some.is c.in-Ok.ensures.next)
+
+pub returns-in-Loaded-clause-stopped : goal.returns-in-Loaded-clause-stopped
+returns-in-Loaded-clause-stopped g c =
+    let old = c.args.lines.now in
+    let new = c.next_step.new.lines in
+    let a = g.D.Desk.state c.args.desk.now in
+    let b = g.D.Desk.state c.next_step.new.desk in
+    miscounted_stops c.miscounted.result c.in-Some.step c.in-Loaded.count c.args.loaded old new a b c.miscounted.ensures c.in-Loaded.is c.if-count-loaded.false
+    (subst (λ (o : Option Step). TakesAhead old.slot old.ahead new.ahead a b (λ text rest. NextSays o new (rows_left old text) (rows_left new rest))) c.in-Some.is c.in-Ok.ensures.next)
+
+pub returns : goal.returns
+returns g c =
+    let old = c.args.lines.now in
+    let new = c.next_step.new.lines in
+    let a = g.D.Desk.state c.args.desk.now in
+    let b = g.D.Desk.state c.next_step.new.desk in
+    let said = subst (λ (o : Option Step). IfSome o (λ s. says_nothing s ≡ false)) c.in-Some.is c.in-Ok.ensures.said in
+    record {
+      follows = tt;
+      slot = c.in-Ok.ensures.slot;
+      leads = tt;
+      stopped = count_stops c.misplaced.result c.in-Some.step c.args.loaded old new a b c.misplaced.ensures said c.in_default-step.not-Loaded
+          (subst (λ (o : Option Step). TakesAhead old.slot old.ahead new.ahead a b (λ text rest. NextSays o new (rows_left old text) (rows_left new rest))) c.in-Some.is c.in-Ok.ensures.next);
+      named = subst NamesText (sym c.misplaced.ensures) (inr refl);
+      steady = λ s e. let is = c.misplaced.ensures in cc;
+    }

@@ -1,0 +1,44 @@
+use Rattle.std.proofs.Common.{◌≡◌, Option, false, refl, sym, subst, inr}
+use Rattle.std.specs.Prelude.{IfSome}
+use Rattle.pb_desk.specs.LineReading.{TakesAhead}
+use Rattle.pb_dimacs.specs.Cursors.{rows_left}
+use Rattle.pb_steps.specs.declared.step.Step.{Step}
+use Rattle.pb_check.specs.Outcomes.{NamesText}
+use Rattle.pb_check.specs.laws.Phases.{says_nothing, NextSays}
+use Rattle.pb_check.proofs.Places.{head_stops, head_early, head_leads}
+use Rattle.pb_check.proofs.stages.take_head.Goals as goal
+
+pub returns-in_default-clause-stopped : goal.returns-in_default-clause-stopped
+returns-in_default-clause-stopped g c =
+    let old = c.args.lines.now in
+    let new = c.next_step.new.lines in
+    let a = g.D.Desk.state c.args.desk.now in
+    let b = g.D.Desk.state c.next_step.new.desk in
+    head_early c.ended.result old new a b c.ended.ensures
+    (subst (λ (o : Option Step). TakesAhead old.slot old.ahead new.ahead a b (λ text rest. NextSays o new (rows_left old text) (rows_left new rest))) c.in_default.is c.in-Ok.ensures.next)
+
+pub returns-in-Head-clause-leads : goal.returns-in-Head-clause-leads
+returns-in-Head-clause-leads g c =
+    let old = c.args.lines.now in
+    let new = c.next_step.new.lines in
+    let a = g.D.Desk.state c.args.desk.now in
+    let b = g.D.Desk.state c.next_step.new.desk in
+    head_leads c.in-Some.step old new a b c.in-Head.is
+    (subst (λ (o : Option Step). TakesAhead old.slot old.ahead new.ahead a b (λ text rest. NextSays o new (rows_left old text) (rows_left new rest))) c.in-Some.is c.in-Ok.ensures.next)
+
+pub returns : goal.returns
+returns g c =
+    let old = c.args.lines.now in
+    let new = c.next_step.new.lines in
+    let a = g.D.Desk.state c.args.desk.now in
+    let b = g.D.Desk.state c.next_step.new.desk in
+    let said = subst (λ (o : Option Step). IfSome o (λ s. says_nothing s ≡ false)) c.in-Some.is c.in-Ok.ensures.said in
+    record {
+      follows = tt;
+      slot = c.in-Ok.ensures.slot;
+      leads = tt;
+      stopped = head_stops c.misplaced.result c.in-Some.step old new a b c.misplaced.ensures said c.in_default-step.not-Head
+          (subst (λ (o : Option Step). TakesAhead old.slot old.ahead new.ahead a b (λ text rest. NextSays o new (rows_left old text) (rows_left new rest))) c.in-Some.is c.in-Ok.ensures.next);
+      named = subst NamesText (sym c.misplaced.ensures) (inr refl);
+      steady = λ s e. let is = c.misplaced.ensures in cc;
+    }

@@ -1,0 +1,60 @@
+use Rattle.std.proofs.Common.{◌≡◌, Option, subst}
+use Rattle.pb_desk.specs.LineReading.{TakesAhead}
+use Rattle.pb_dimacs.specs.Cursors.{rows_left}
+use Rattle.pb_steps.specs.declared.step.Step.{Step}
+use Rattle.pb_check.specs.Turns.{Task, step_turn}
+use Rattle.pb_desk.specs.TwoSlots.{ReadsBoth}
+use Rattle.pb_check.specs.laws.Phases.{StopsOne, StopsBoth, NextSays, clauses_of, TurnGives, TurnStops, LineGives, StepsStop}
+use Rattle.pb_check.proofs.Takes.{at_err, at_ok}
+use Rattle.pb_check.proofs.StepRuns.{took, line_gives, line_fault, line_missing, line_stop}
+use Rattle.pb_check.proofs.stages.take_line.Goals as goal
+
+pub returns-in-Err-clause-stopped : goal.returns-in-Err-clause-stopped
+returns-in-Err-clause-stopped g c =
+    line_fault c.in-Err.fault c.args.cnf.now c.args.db.now c.args.lines.now c.next_step.new.lines (g.D.Desk.state c.args.desk.now) (g.D.Desk.state c.next_step.new.desk) c.in-Err.ensures.slot c.requires.apart c.in-Err.ensures.stopped
+
+pub returns-in_default-clause-stopped : goal.returns-in_default-clause-stopped
+returns-in_default-clause-stopped g c =
+    let old = c.args.lines.now in
+    let new = c.next_step.new.lines in
+    let a = g.D.Desk.state c.args.desk.now in
+    let b = g.D.Desk.state c.next_step.new.desk in
+    line_missing c.ended.result c.args.cnf.now c.args.db.now old new a b c.ended.ensures c.in-Ok.ensures.slot c.requires.apart
+    (subst (λ (o : Option Step). TakesAhead old.slot old.ahead new.ahead a b (λ text rest. NextSays o new (rows_left old text) (rows_left new rest))) c.in_default.is c.in-Ok.ensures.next)
+
+pub returns-clause-gives : goal.returns-clause-gives
+returns-clause-gives g c =
+    let old = c.args.lines.now in
+    let new = c.next_step.new.lines in
+    let cnf = c.args.cnf.now in
+    let cnf' = c.take_step.new.cnf in
+    let db = c.args.db.now in
+    let db' = c.take_step.new.db in
+    let s = c.in-Some.step in
+    let a = g.D.Desk.state c.args.desk.now in
+    let b = g.D.Desk.state c.next_step.new.desk in
+    let d = g.D.Desk.state c.take_step.new.desk in
+    let line = subst (λ (o : Option Step). TakesAhead old.slot old.ahead new.ahead a b (λ text rest. NextSays o new (rows_left old text) (rows_left new rest))) c.in-Some.is c.in-Ok.ensures.next in
+    at_ok c.take_step.result
+    (λ got. TakesAhead cnf.lines.slot cnf.lines.ahead cnf'.lines.ahead b d (λ text rest. (task : Task) → task.vars ≡ cnf.vars → TurnGives got task new.number (step_turn task db (clauses_of cnf text) new.number new.line s) db' (clauses_of cnf' rest)))
+    (λ got. ReadsBoth cnf.lines old cnf'.lines new a d (LineGives got cnf db old cnf' db' new))
+    (λ got step. line_gives got s cnf cnf' db db' old new a d (took got s cnf cnf' db db' old new a b d c.requires.apart c.in-Ok.ensures.slot c.take_step.ensures.slot line step))
+    c.take_step.ensures.gives
+
+pub returns-clause-stopped : goal.returns-clause-stopped
+returns-clause-stopped g c =
+    let old = c.args.lines.now in
+    let new = c.next_step.new.lines in
+    let cnf = c.args.cnf.now in
+    let cnf' = c.take_step.new.cnf in
+    let db = c.args.db.now in
+    let s = c.in-Some.step in
+    let a = g.D.Desk.state c.args.desk.now in
+    let b = g.D.Desk.state c.next_step.new.desk in
+    let d = g.D.Desk.state c.take_step.new.desk in
+    let line = subst (λ (o : Option Step). TakesAhead old.slot old.ahead new.ahead a b (λ text rest. NextSays o new (rows_left old text) (rows_left new rest))) c.in-Some.is c.in-Ok.ensures.next in
+    at_err c.take_step.result
+    (λ f. StopsOne f cnf.lines cnf'.lines b d (λ text f. (task : Task) → task.vars ≡ cnf.vars → TurnStops task new.number (step_turn task db (clauses_of cnf text) new.number new.line s) f))
+    (λ f. StopsBoth f cnf.lines old cnf'.lines new a d (λ c p f. StepsStop cnf db old c p f))
+    (λ f stops. line_stop f s cnf cnf' db old new a b d c.in-Ok.ensures.slot c.take_step.ensures.slot c.requires.apart line stops)
+    c.take_step.ensures.stopped

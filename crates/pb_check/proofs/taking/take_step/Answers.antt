@@ -1,0 +1,84 @@
+use Rattle.std.proofs.Common.{◌≡◌, ℕ, refl, sym, subst}
+use Rattle.pb_base.specs.declared.expected.Expected.TheVariants.{StepWord}
+use Rattle.pb_desk.proofs.ReadLemmas.{reads_begin}
+use Rattle.pb_steps.specs.declared.step.Step.{Step}
+use Rattle.pb_check.specs.declared.taking.Taken.TheVariants.{On}
+use Rattle.pb_check.specs.Turns.{Task, step_turn, at_out, at_end, next_in}
+use Rattle.pb_check.specs.Faults.{misplaced_line}
+use Rattle.pb_check.specs.laws.Phases.{StopsOne, clauses_of, TurnGives, TurnStops}
+use Rattle.pb_check.proofs.NextLines.{stops_weaker}
+use Rattle.pb_check.proofs.Takes.{rule_given, misplaced_stops, at_err}
+use Rattle.pb_check.proofs.taking.take_step.Goals as goal
+
+pub returns-in-Blank-clause-gives : goal.returns-in-Blank-clause-gives
+returns-in-Blank-clause-gives g c =
+    let r = c.args.cnf.now in
+    reads_begin r.lines.slot r.lines.ahead (g.D.Desk.state c.args.desk.now)
+    (λ text rest. (task : Task) → task.vars ≡ r.vars → TurnGives On task c.args.lines.now.number (step_turn task c.args.db.now (clauses_of r text) c.args.lines.now.number c.args.lines.now.line c.args.step.now) c.args.db.now (clauses_of r rest))
+    (λ text task vars. subst (λ (s : Step). TurnGives On task c.args.lines.now.number (step_turn task c.args.db.now (clauses_of r text) c.args.lines.now.number c.args.lines.now.line s) c.args.db.now (clauses_of r text)) (sym c.in-Blank.is) (λ rows a w. w))
+
+pub returns-in-Head-clause-stopped : goal.returns-in-Head-clause-stopped
+returns-in-Head-clause-stopped g c =
+    let r = c.args.cnf.now in
+    let n = c.args.lines.now.number in
+    let line = c.args.lines.now.line in
+    let a = g.D.Desk.state c.args.desk.now in
+    misplaced_stops c.misplaced.result n line StepWord r.lines r.lines a a
+    (λ text f. (task : Task) → task.vars ≡ r.vars → TurnStops task n (step_turn task c.args.db.now (clauses_of r text) n line c.args.step.now) f) c.misplaced.ensures
+    (reads_begin r.lines.slot r.lines.ahead a (λ text rest. (task : Task) → task.vars ≡ r.vars → TurnStops task n (step_turn task c.args.db.now (clauses_of r text) n line c.args.step.now) (misplaced_line n line StepWord))
+    (λ text task vars. subst (λ (s : Step). TurnStops task n (step_turn task c.args.db.now (clauses_of r text) n line s) (misplaced_line n line StepWord)) (sym c.in-Head.is) (λ rows. refl)))
+
+pub returns-in-Loaded-clause-stopped : goal.returns-in-Loaded-clause-stopped
+returns-in-Loaded-clause-stopped g c =
+    let r = c.args.cnf.now in
+    let n = c.args.lines.now.number in
+    let line = c.args.lines.now.line in
+    let a = g.D.Desk.state c.args.desk.now in
+    misplaced_stops c.misplaced-in-Loaded.result n line StepWord r.lines r.lines a a
+    (λ text f. (task : Task) → task.vars ≡ r.vars → TurnStops task n (step_turn task c.args.db.now (clauses_of r text) n line c.args.step.now) f) c.misplaced-in-Loaded.ensures
+    (reads_begin r.lines.slot r.lines.ahead a (λ text rest. (task : Task) → task.vars ≡ r.vars → TurnStops task n (step_turn task c.args.db.now (clauses_of r text) n line c.args.step.now) (misplaced_line n line StepWord))
+    (λ text task vars. subst (λ (s : Step). TurnStops task n (step_turn task c.args.db.now (clauses_of r text) n line s) (misplaced_line n line StepWord)) (sym c.in-Loaded.is) (λ rows. refl)))
+
+pub returns-in-Out-clause-stopped : goal.returns-in-Out-clause-stopped
+returns-in-Out-clause-stopped g c =
+    let r = c.args.cnf.now in
+    let new = c.put_out.new.cnf in
+    let n = c.args.lines.now.number in
+    let line = c.args.lines.now.line in
+    let a = g.D.Desk.state c.args.desk.now in
+    let b = g.D.Desk.state c.put_out.new.desk in
+    let id = c.in-Out.id in
+    at_err c.put_out.result
+    (λ f. StopsOne f r.lines new.lines a b (λ text f. (task : Task) (number : ℕ) → task.vars ≡ r.vars → TurnStops task number (at_out c.args.db.now id (clauses_of r text) (next_in task (clauses_of r text))) f))
+    (λ f. StopsOne f r.lines new.lines a b (λ text f. (task : Task) → task.vars ≡ r.vars → TurnStops task n (step_turn task c.args.db.now (clauses_of r text) n line c.args.step.now) f))
+    (λ f. stops_weaker f r.lines new.lines a b
+    (λ text f. (task : Task) (number : ℕ) → task.vars ≡ r.vars → TurnStops task number (at_out c.args.db.now id (clauses_of r text) (next_in task (clauses_of r text))) f)
+    (λ text f. (task : Task) → task.vars ≡ r.vars → TurnStops task n (step_turn task c.args.db.now (clauses_of r text) n line c.args.step.now) f)
+    (λ text f t task vars. subst (λ (s : Step). TurnStops task n (step_turn task c.args.db.now (clauses_of r text) n line s) f) (sym c.in-Out.is) (t task n vars)))
+    c.put_out.ensures.stopped
+
+pub returns-in-End-clause-stopped : goal.returns-in-End-clause-stopped
+returns-in-End-clause-stopped g c =
+    let r = c.args.cnf.now in
+    let new = c.end_steps.new.cnf in
+    let n = c.args.lines.now.number in
+    let line = c.args.lines.now.line in
+    let a = g.D.Desk.state c.args.desk.now in
+    let b = g.D.Desk.state c.end_steps.new.desk in
+    at_err c.end_steps.result
+    (λ f. StopsOne f r.lines new.lines a b (λ text f. (task : Task) (number : ℕ) → task.vars ≡ r.vars → TurnStops task number (at_end number (clauses_of r text) (next_in task (clauses_of r text))) f))
+    (λ f. StopsOne f r.lines new.lines a b (λ text f. (task : Task) → task.vars ≡ r.vars → TurnStops task n (step_turn task c.args.db.now (clauses_of r text) n line c.args.step.now) f))
+    (λ f. stops_weaker f r.lines new.lines a b
+    (λ text f. (task : Task) (number : ℕ) → task.vars ≡ r.vars → TurnStops task number (at_end number (clauses_of r text) (next_in task (clauses_of r text))) f)
+    (λ text f. (task : Task) → task.vars ≡ r.vars → TurnStops task n (step_turn task c.args.db.now (clauses_of r text) n line c.args.step.now) f)
+    (λ text f t task vars. subst (λ (s : Step). TurnStops task n (step_turn task c.args.db.now (clauses_of r text) n line s) f) (sym c.in-End.is) (t task n vars)))
+    c.end_steps.ensures.stopped
+
+pub returns-in-Ok-clause-gives : goal.returns-in-Ok-clause-gives
+returns-in-Ok-clause-gives g c =
+    let r = c.args.cnf.now in
+    let n = c.args.lines.now.number in
+    let line = c.args.lines.now.line in
+    reads_begin r.lines.slot r.lines.ahead (g.D.Desk.state c.args.desk.now)
+    (λ text rest. (task : Task) → task.vars ≡ r.vars → TurnGives c.in-Ok.taken task n (step_turn task c.args.db.now (clauses_of r text) n line c.args.step.now) c.judge.new.db (clauses_of r rest))
+    (λ text task vars. rule_given c.args.step.now c.in-Ok.taken task n line c.args.db.now c.judge.new.db r text c.in_default.not-Blank c.in_default.not-Head c.in_default.not-Loaded c.in_default.not-Out c.in_default.not-End c.in-Ok.ensures)

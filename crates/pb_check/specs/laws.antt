@@ -1,0 +1,4 @@
+pub mod WalkLaws
+pub mod Judging
+pub mod Phases
+pub mod Calls

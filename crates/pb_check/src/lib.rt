@@ -1,0 +1,16 @@
+//! Whether a derivation shows that every solution of a problem extends to a model of a CNF.
+#![tactic(auto)]
+
+mod checking;
+mod fault;
+mod laws;
+mod reading;
+mod stages;
+mod taking;
+mod verdict;
+
+pub use checking::check;
+pub use laws::{
+    accepted_cnf_extends, runs_are_accepted, walk_has_one_answer, written_runs_are_accepted,
+};
+pub use verdict::{CheckFault, Verdict};

@@ -1,0 +1,176 @@
+//! The lines of a derivation by their places.
+ghost use Rattle.std.specs.Prelude.{◌≡◌, ◌≢◌, ◌≤◌, ◌<◌, ◌^◌, IsTrue, Ok, Err, None, IfOk, IfErr, OnOk};
+ghost use Rattle.pb_desk.specs.Desk.{IsSteady};
+ghost use Rattle.pb_desk.specs.LineReading.{TakesAhead};
+ghost use Rattle.pb_dimacs.specs.CnfRows.{cnf_limits};
+ghost use Rattle.pb_dimacs.specs.Cursors.{GoesOn};
+ghost use Rattle.pb_check.specs.Turns.Stage.{head_wanted, ended};
+ghost use Rattle.pb_check.specs.Outcomes.{NamesText};
+ghost use Rattle.pb_check.specs.laws.Calls.{StopsStage, TakesHead, TakesCount, StopsCount, TakesLine, TakesSteps, StopsSteps, TakesRest};
+
+use crate::fault::{ended, miscounted, misplaced};
+use crate::reading::next_step;
+use crate::taking::{Taken, take_step};
+use crate::verdict::{CheckFault, Verdict};
+use pb_base::Expected;
+use pb_desk::{Desk, LineReader};
+use pb_dimacs::ClauseReader;
+use pb_rules::Database;
+use pb_steps::Step;
+use std::alloc::Global;
+
+/// TakesAhead the head line.
+pub fn take_head<D: Desk>(
+    alloc: Global,
+    desk: &mut D,
+    lines: &mut LineReader,
+) -> Result<(), CheckFault>
+    requires open { IsTrue ((D.state desk.old).view.reading lines.old.slot) }
+    requires fine { lines.old.fault ≡ None }
+    requires limits { lines.old.limits ≡ cnf_limits }
+    ensures follows { OnOk result (GoesOn lines.old lines.new) }
+    ensures slot { lines.new.slot ≡ lines.old.slot }
+    ensures leads { OnOk result (TakesHead lines.old lines.new (D.state desk.old) (D.state desk.new)) }
+    ensures stopped { IfErr result (λ fault. StopsStage head_wanted fault lines.old lines.new (D.state desk.old) (D.state desk.new)) }
+    ensures named { IfErr result NamesText }
+    ensures steady { IsSteady (D.state desk.old) → result ≢ Err CheckFault.ReadFault }
+{
+    let next = match next_step(alloc, desk, lines) {
+        Ok(next) => next,
+        Err(fault) => return Err(fault),
+    };
+    let Some(step) = next else {
+        return Err(ended(lines));
+    };
+    match &step {
+        Step::Head => Ok(()),
+        _ => Err(misplaced(lines, Expected::Head)),
+    }
+}
+
+/// TakesAhead the line that tells the number of loaded constraints.
+pub fn take_count<D: Desk>(
+    alloc: Global,
+    desk: &mut D,
+    lines: &mut LineReader,
+    loaded: u64,
+) -> Result<(), CheckFault>
+    requires open { IsTrue ((D.state desk.old).view.reading lines.old.slot) }
+    requires fine { lines.old.fault ≡ None }
+    requires limits { lines.old.limits ≡ cnf_limits }
+    ensures follows { OnOk result (GoesOn lines.old lines.new) }
+    ensures slot { lines.new.slot ≡ lines.old.slot }
+    ensures leads { OnOk result (TakesCount loaded lines.old lines.new (D.state desk.old) (D.state desk.new)) }
+    ensures stopped { IfErr result (λ fault. StopsCount loaded fault lines.old lines.new (D.state desk.old) (D.state desk.new)) }
+    ensures named { IfErr result NamesText }
+    ensures steady { IsSteady (D.state desk.old) → result ≢ Err CheckFault.ReadFault }
+{
+    let next = match next_step(alloc, desk, lines) {
+        Ok(next) => next,
+        Err(fault) => return Err(fault),
+    };
+    let Some(step) = next else {
+        return Err(ended(lines));
+    };
+    match &step {
+        Step::Loaded { count } => {
+            if *count == loaded {
+                Ok(())
+            } else {
+                Err(miscounted(lines))
+            }
+        }
+        _ => Err(misplaced(lines, Expected::Loaded)),
+    }
+}
+
+// Takes the next line that says something, as a line among the steps.
+fn take_line<D: Desk>(
+    alloc: Global,
+    desk: &mut D,
+    cnf: &mut ClauseReader,
+    lines: &mut LineReader,
+    db: &mut Database,
+) -> Result<Taken, CheckFault>
+    requires apart { cnf.old.lines.slot ≢ lines.old.slot }
+    requires open { IsTrue ((D.state desk.old).view.reading lines.old.slot) }
+    requires fine { lines.old.fault ≡ None }
+    requires limits { lines.old.limits ≡ cnf_limits }
+    requires cnf_open { IsTrue ((D.state desk.old).view.reading cnf.old.lines.slot) }
+    requires cnf_fine { cnf.old.fault ≡ None }
+    ensures follows { OnOk result (GoesOn lines.old lines.new) }
+    ensures cnf_fine { OnOk result (cnf.new.fault ≡ None) }
+    ensures cnf_vars { cnf.new.vars ≡ cnf.old.vars }
+    ensures further { OnOk result (lines.old.number < lines.new.number) }
+    ensures few { OnOk result (lines.new.number ≤ 2 ^ 40) }
+    ensures gives { IfOk result (λ got. TakesLine got cnf.old db.old lines.old cnf.new db.new lines.new (D.state desk.old) (D.state desk.new)) }
+    ensures stopped { IfErr result (λ fault. StopsSteps fault cnf.old db.old lines.old cnf.new lines.new (D.state desk.old) (D.state desk.new)) }
+    ensures named { IfErr result NamesText }
+    ensures steady { IsSteady (D.state desk.old) → result ≢ Err CheckFault.ReadFault }
+{
+    let next = match next_step(alloc, desk, lines) {
+        Ok(next) => next,
+        Err(fault) => return Err(fault),
+    };
+    let Some(step) = next else {
+        return Err(ended(lines));
+    };
+    take_step(desk, cnf, db, lines, &step)
+}
+
+/// Takes steps up to the line that ends them, or to the first that is not allowed, which gives a verdict.
+pub fn run_steps<D: Desk>(
+    alloc: Global,
+    desk: &mut D,
+    cnf: &mut ClauseReader,
+    lines: &mut LineReader,
+    db: &mut Database,
+) -> Result<Option<Verdict>, CheckFault>
+    requires apart { cnf.old.lines.slot ≢ lines.old.slot }
+    requires open { IsTrue ((D.state desk.old).view.reading lines.old.slot) }
+    requires fine { lines.old.fault ≡ None }
+    requires limits { lines.old.limits ≡ cnf_limits }
+    requires cnf_open { IsTrue ((D.state desk.old).view.reading cnf.old.lines.slot) }
+    requires cnf_fine { cnf.old.fault ≡ None }
+    ensures follows { OnOk result (GoesOn lines.old lines.new) }
+    ensures steps { IfOk result (λ verdict. TakesSteps verdict cnf.old db.old lines.old cnf.new lines.new (D.state desk.old) (D.state desk.new)) }
+    ensures stopped { IfErr result (λ fault. StopsSteps fault cnf.old db.old lines.old cnf.new lines.new (D.state desk.old) (D.state desk.new)) }
+    ensures named { IfErr result NamesText }
+    ensures steady { IsSteady (D.state desk.old) → result ≢ Err CheckFault.ReadFault }
+{
+    'steps: loop {
+        match take_line(alloc, desk, cnf, lines, db) {
+            Ok(Taken::On) => {}
+            Ok(Taken::Last) => return Ok(None),
+            Ok(Taken::Denied(denied)) => {
+                return Ok(Some(Verdict::Rejected {
+                    line: lines.number(),
+                    denied,
+                }));
+            }
+            Err(fault) => return Err(fault),
+        }
+    }
+}
+
+/// TakesAhead on to the end of the text, where no line may say anything.
+pub fn take_rest<D: Desk>(
+    alloc: Global,
+    desk: &mut D,
+    lines: &mut LineReader,
+) -> Result<(), CheckFault>
+    requires open { IsTrue ((D.state desk.old).view.reading lines.old.slot) }
+    requires fine { lines.old.fault ≡ None }
+    requires limits { lines.old.limits ≡ cnf_limits }
+    ensures slot { lines.new.slot ≡ lines.old.slot }
+    ensures ends { OnOk result (TakesRest lines.old lines.new (D.state desk.old) (D.state desk.new)) }
+    ensures stopped { IfErr result (λ fault. StopsStage ended fault lines.old lines.new (D.state desk.old) (D.state desk.new)) }
+    ensures named { IfErr result NamesText }
+    ensures steady { IsSteady (D.state desk.old) → result ≢ Err CheckFault.ReadFault }
+{
+    match next_step(alloc, desk, lines) {
+        Ok(None) => Ok(()),
+        Ok(Some(_)) => Err(misplaced(lines, Expected::DerivationEnd)),
+        Err(fault) => Err(fault),
+    }
+}

@@ -1,0 +1,23 @@
+use Rattle.std.proofs.Common.{[]}
+use Rattle.pb_dimacs.specs.Outboxes.{held_in}
+use Rattle.pb_dimacs.specs.laws.OutboxSinks.{sink_of}
+use Rattle.pb_family.proofs.Taking.{fails_front}
+use Rattle.pb_dimacs.proofs.Holding.{holds_next, still_open, text_fault}
+use Rattle.pb_dimacs.proofs.writing.put_piece.Goals as goal
+
+pub returns : goal.returns
+returns g c =
+    let slot = c.args.slot in
+    let h0 = held_in c.args.outbox.now in
+    let h1 = held_in c.make_room.new.outbox in
+    let a = g.D.Desk.state c.args.desk.now in
+    let b = g.D.Desk.state c.make_room.new.desk in
+    let made = c.in_ok-make_room.ensures.taken in
+    holds_next slot c.args.piece.now h0 h1 (held_in c.push_piece.new.self) a b (g.met.D.Desk.open_has_file c.make_room.new.desk slot (still_open slot [] h0 h1 a b made.grows c.requires.open)) c.push_piece.ensures made
+
+pub returns-in_err-make_room : goal.returns-in_err-make_room
+returns-in_err-make_room g c =
+    let s0 = sink_of c.args.slot c.args.outbox.now (g.D.Desk.state c.args.desk.now) in
+    let s1 = sink_of c.args.slot c.make_room.new.outbox (g.D.Desk.state c.make_room.new.desk) in
+    let text = c.args.piece.now in
+    text_fault c.from_residual.result _ text s0 s1 c.from_residual.ensures.1 (fails_front [] text s0 s1 c.in_err-make_room.ensures.taken)

@@ -1,0 +1,90 @@
+//! A slot of a desk that takes steps of a derivation.
+ghost use Rattle.std.specs.Prelude.{◌≡◌, ◌<◌, ◌^◌, ◌∷◌, [], Err, IsTrue, OnOk};
+ghost use Rattle.pb_family.specs.Handing.{HandsText};
+ghost use Rattle.pb_family.specs.StepSinks.{StepState, HandsSteps};
+
+use crate::outbox::Outbox;
+use crate::writing::{flush, put_text};
+use pb_base::Failed;
+use pb_desk::Desk;
+use pb_family::{SinkFault, StepSink, next_after};
+use pb_steps::{Step, write_step};
+use std::alloc::Global;
+
+/// Writes steps to a slot, a line each, by pieces of up to 64 KiB. What was taken is written once `flush` was called.
+#[derive(Drop)]
+pub struct StepWriter<'a, D: Desk> {
+    desk: &'a mut D,
+    slot: u8,
+    outbox: &'a mut Outbox,
+    alloc: Global,
+    line: Vec<u8>,
+    next: u64,
+    ghost is_slot: { slot < 2 },
+    ghost is_open: { IsTrue ((D.state desk.now).view.writing slot) },
+}
+
+impl<'a, D: Desk> StepSink for StepWriter<'a, D> {
+    ghost use Rattle.std.specs.Prelude.{◌≡◌, ◌<◌, ◌^◌, ◌∷◌, [], Err};
+    ghost use Rattle.pb_family.specs.StepSinks.{HandsSteps};
+    ghost use Rattle.pb_family.specs.declared.sink.SinkFault.TheVariants as fault;
+    ghost use base.Fml.{GName};
+    ghost use Rattle.pb_dimacs.specs.Outboxes.{SlotRest, held_in, slot_sink};
+
+    ghost Rest = { SlotRest GName };
+
+    ghost state = { λ w. record { sink = slot_sink w.desk.ghost_name w.slot (held_in w.outbox.now) (D.state w.desk.now); next = w.next } };
+
+    /// Where memory is wanting, nothing of the line was taken.
+    fn step(&mut self, step: &Step) -> Result<(), SinkFault>
+        requires few { (⟦<StepWriter<'a, D> as StepSink>⟧.state self.old).next < 2 ^ 62 }
+        ensures hands { let seen = ⟦<StepWriter<'a, D> as StepSink>⟧.state in HandsSteps (step.now ∷ []) result (seen self.old) (seen self.new) }
+        ensures lacking { result ≡ Err fault.NoMemory → ⟦<StepWriter<'a, D> as StepSink>⟧.state self.new ≡ ⟦<StepWriter<'a, D> as StepSink>⟧.state self.old }
+    {
+        self.line.clear();
+        write_step(self.alloc, step, &mut self.line)?;
+        put_text(self.desk, self.slot, self.outbox, self.line.as_slice())?;
+        self.next = next_after(step, self.next);
+        Ok(())
+    }
+
+    fn next_id(&self) -> u64 {
+        self.next
+    }
+}
+
+impl<'a, D: Desk> StepWriter<'a, D> {
+    ghost use Rattle.pb_dimacs.specs.Outboxes.{IsAllSent, held_in, slot_sink};
+
+    /// Takes steps for an open slot, behind what the outbox holds. The first step that takes an id gets this one.
+    pub fn new(
+        alloc: Global,
+        desk: &'a mut D,
+        slot: u8,
+        outbox: &'a mut Outbox,
+        next: u64,
+    ) -> StepWriter<'a, D>
+        requires kind { slot < 2 }
+        requires open { IsTrue ((D.state desk.old).view.writing slot) }
+        ensures sink { (⟦<StepWriter<'a, D> as StepSink>⟧.state result).sink ≡ slot_sink desk.entry.ghost_name slot (held_in outbox.old) (D.state desk.old) }
+        ensures next { (⟦<StepWriter<'a, D> as StepSink>⟧.state result).next ≡ next }
+    {
+        StepWriter {
+            desk,
+            slot,
+            outbox,
+            alloc,
+            line: Vec::new(alloc),
+            next,
+        }
+    }
+
+    /// Writes all that is held.
+    pub fn flush(&mut self) -> Result<(), Failed>
+        ensures taken { let seen = ⟦<StepWriter<'a, D> as StepSink>⟧.state in HandsText [] result (seen self.old).sink (seen self.new).sink }
+        ensures all_sent { OnOk result (IsAllSent ((⟦<StepWriter<'a, D> as StepSink>⟧.state self.new).sink)) }
+        ensures next { let seen = ⟦<StepWriter<'a, D> as StepSink>⟧.state in (seen self.new).next ≡ (seen self.old).next }
+    {
+        flush(self.desk, self.slot, self.outbox)
+    }
+}
