@@ -3,9 +3,10 @@ use Rattle.std.proofs.Common.{◌≡◌, ◌∙◌, ℕ, Bool, true, false, List
 use Rattle.std.specs.Prelude.{◌==◌, ◌⊎◌, is_some, IfSome, IsSomeAnd}
 use Rattle.std.proofs.lemmas.List.{append-nil}
 use Rattle.std.proofs.lemmas.Bool.{eqb-true}
-use Rattle.pb_desk.specs.View.{Made, Told, View, spoke}
+use Rattle.pb_desk.specs.View.{Made, Told, View, opened, spoke}
 use Rattle.pb_desk.specs.Desk.{DeskState, HasSlot, IfTold, IsTold, Reaches, same}
 use Rattle.pb_desk.proofs.Tells.{told_by}
+use Rattle.pb_desk.specs.TwoSlots.{both_taken}
 use Rattle.pb_encode.specs.Encodings.{begun, made}
 use Rattle.pb_suite.specs.Obeying.{KeepsSlots}
 use Rattle.pb_suite.specs.Outputs.{nothing, Adds, IsMore, Output}
@@ -41,6 +42,12 @@ by_same = record { told = λ v t. more_of t t refl refl refl; slots = λ v slot.
 
 pub by_reading : (slot : ℕ) (name : List ℕ) (count : ℕ) → AddsBy nothing (fetched slot name count)
 by_reading slot name count = record { told = λ v t. more_of t _ refl refl refl; slots = λ v slot. inr refl; room = λ v. refl; steady = λ v. refl }
+
+pub by_opened : (slot : ℕ) (name : List ℕ) → AddsBy nothing (opened slot name)
+by_opened slot name = record { told = λ v t. more_of t _ refl refl refl; slots = λ v slot. inr refl; room = λ v. refl; steady = λ v. refl }
+
+pub by_both_taken : (slot other n m : ℕ) → AddsBy nothing (both_taken slot other n m)
+by_both_taken slot other n m = record { told = λ v t. more_of t _ refl refl refl; slots = λ v slot. inr refl; room = λ v. refl; steady = λ v. refl }
 
 pub by_words : (bytes : List ℕ) → AddsBy (record { made = []; said = bytes }) (spoke bytes)
 by_words bytes = record { told = λ v t. record { shelf = refl; made = refl; said = refl }; slots = λ v slot. inr refl; room = λ v. refl; steady = λ v. refl }

@@ -1,11 +1,12 @@
 //! Variables by their places among those that occur, so that tables over them are no longer than the text.
 ghost use Rattle.std.specs.Prelude.{◌≡◌, ◌≤◌, ◌<◌, ◌^◌, ◌++◌, ℕ, length, map, All, Contains, IfOk, OnOk};
-ghost use Rattle.pb_norm.specs.Constraints.{weights};
+ghost use Rattle.pb_norm.specs.Constraints.{constraint_of, weights, AreUnsigned, IsLinear};
 ghost use Rattle.pb_suite.specs.laws.Reaching.{IsUpTo, OfConstraint, OfLit, OfTerm};
 ghost use Rattle.pb_suite.specs.laws.Renaming.{all_vars, form_vars, lit_vars, name_at, number_in, renamed, renamed_lit, term_vars, AreNames, IsName};
 
 use pb_base::{Lit, NoMemory, Term, Var};
 use pb_norm::Linear;
+use pb_unit::Constraints;
 use std::alloc::{AllocError, Global};
 
 // Adds the variables of terms.
@@ -21,13 +22,15 @@ fn push_term_vars(terms: &[Term], out: &mut Vec<u32>) -> Result<(), AllocError>
 }
 
 // Adds the variables of constraints.
-fn push_form_vars(forms: &[Linear], out: &mut Vec<u32>) -> Result<(), AllocError>
+fn push_form_vars(alloc: Global, forms: &Constraints, out: &mut Vec<u32>) -> Result<(), NoMemory>
     requires { All IsName out.old.items }
     ensures vars { OnOk result (out.new.items ≡ out.old.items ++ form_vars forms.now) }
     ensures names { OnOk result (All IsName out.new.items) }
 {
-    for form in forms {
-        push_term_vars(form.terms(), out)?;
+    let mut terms = Vec::new(alloc);
+    for place in 0..forms.len() {
+        let _ = forms.read(place, &mut terms)?;
+        push_term_vars(&terms, out)?;
     }
     Ok(())
 }
@@ -45,12 +48,12 @@ fn push_lit_vars(lits: &[Lit], out: &mut Vec<u32>) -> Result<(), AllocError>
 }
 
 /// The variable of each literal of constraints, and of other literals.
-pub fn vars_of(alloc: Global, forms: &[Linear], lits: &[Lit]) -> Result<Vec<u32>, AllocError>
+pub fn vars_of(alloc: Global, forms: &Constraints, lits: &[Lit]) -> Result<Vec<u32>, NoMemory>
     ensures vars { IfOk result (λ v. v.items ≡ all_vars forms.now lits.now) }
     ensures names { IfOk result (λ v. All IsName v.items) }
 {
     let mut vars = Vec::new(alloc);
-    push_form_vars(forms, &mut vars)?;
+    push_form_vars(alloc, forms, &mut vars)?;
     push_lit_vars(lits, &mut vars)?;
     Ok(vars)
 }
@@ -70,17 +73,19 @@ fn greatest_in(terms: &[Term], least: u32) -> u32
 }
 
 /// The greatest variable of constraints, or a number that is no less.
-pub fn greatest_of(forms: &[Linear], least: u32) -> u32
+pub fn greatest_of(alloc: Global, forms: &Constraints, least: u32) -> Result<u32, NoMemory>
     requires { least < 2 ^ 31 }
-    ensures within { All (OfConstraint (IsUpTo result)) forms.now }
-    ensures no_less { least ≤ result }
-    ensures few { result < 2 ^ 31 }
+    ensures within { IfOk result (λ most. All (OfConstraint (IsUpTo most)) forms.now) }
+    ensures no_less { IfOk result (λ most. least ≤ most) }
+    ensures few { IfOk result (λ most. most < 2 ^ 31) }
 {
+    let mut terms = Vec::new(alloc);
     let mut most = least;
-    for form in forms {
-        most = greatest_in(form.terms(), most);
+    for place in 0..forms.len() {
+        let _ = forms.read(place, &mut terms)?;
+        most = greatest_in(&terms, most);
     }
-    most
+    Ok(most)
 }
 
 /// The greatest variable of literals, or 0.
@@ -93,15 +98,6 @@ pub fn greatest(lits: &[Lit]) -> u32
         most = most.max(lit.index());
     }
     most
-}
-
-/// How many literals constraints have, as far as such a number goes. It decides only over which numbers tables are made.
-pub fn size_of(forms: &[Linear]) -> usize {
-    let mut size: usize = 0;
-    for form in forms {
-        size = size.saturating_add(form.terms().len());
-    }
-    size
 }
 
 /// The variables, each once, ascending.
@@ -157,28 +153,38 @@ fn numbered_terms(alloc: Global, names: &[u32], terms: &[Term]) -> Result<Vec<Te
 }
 
 // A constraint over the places of its variables.
-fn numbered_form(alloc: Global, names: &[u32], form: &Linear) -> Result<Linear, NoMemory>
+fn numbered_form(
+    alloc: Global,
+    names: &[u32],
+    terms: &[Term],
+    degree: u128,
+) -> Result<Linear, NoMemory>
     requires names { AreNames names.now }
-    requires known { OfConstraint (Contains names.now) form.now }
-    ensures { IfOk result (λ c. c ≡ renamed (number_in names.now) form.now) }
+    requires unsigned { AreUnsigned terms.now }
+    requires linear { IsLinear (constraint_of terms.now degree) }
+    requires known { OfConstraint (Contains names.now) (constraint_of terms.now degree) }
+    ensures { IfOk result (λ c. c ≡ renamed (number_in names.now) (constraint_of terms.now degree)) }
 {
-    let terms = numbered_terms(alloc, names, form.terms())?;
-    Ok(Linear::from_parts(terms, form.degree()))
+    let terms = numbered_terms(alloc, names, terms)?;
+    Ok(Linear::from_parts(terms, degree))
 }
 
 /// Constraints over the places of their variables.
 pub fn numbered_forms(
     alloc: Global,
     names: &[u32],
-    forms: &[Linear],
-) -> Result<Vec<Linear>, NoMemory>
+    forms: &Constraints,
+) -> Result<Constraints, NoMemory>
     requires names { AreNames names.now }
     requires known { All (OfConstraint (Contains names.now)) forms.now }
-    ensures { IfOk result (λ v. v.items ≡ map (renamed (number_in names.now)) forms.now) }
+    ensures { IfOk result (λ made. made ≡ map (renamed (number_in names.now)) forms.now) }
 {
-    let mut made = Vec::with_capacity(alloc, forms.len())?;
-    for form in forms {
-        made.push(numbered_form(alloc, names, form)?)?;
+    let mut made = Constraints::new(alloc);
+    let mut terms = Vec::new(alloc);
+    for place in 0..forms.len() {
+        let degree = forms.read(place, &mut terms)?;
+        let form = numbered_form(alloc, names, &terms, degree)?;
+        made.push(&form)?;
     }
     Ok(made)
 }

@@ -8,12 +8,11 @@ ghost use Rattle.pb_suite.specs.laws.Reaching.{held_to, value_at, AreAscending, 
 ghost use Rattle.pb_suite.specs.laws.Renaming.{AreNamed, AreNames};
 
 use crate::numbering::{
-    greatest, greatest_of, lit_at, named_lits, names_of, numbered_forms, numbered_lits, size_of,
-    vars_of,
+    greatest, greatest_of, lit_at, named_lits, names_of, numbered_forms, numbered_lits, vars_of,
 };
 use pb_base::{Lit, Lits, NoMemory, Term};
-use pb_norm::{Linear, clause_form};
-use pb_unit::{Engine, Outcome};
+use pb_norm::clause_form;
+use pb_unit::{Constraints, Engine, Outcome};
 use std::alloc::{AllocError, Global};
 
 // The literals of terms.
@@ -89,16 +88,16 @@ fn all_held(alloc: Global, engine: &Engine, vars: u32) -> Result<Vec<Lit>, Alloc
 fn reached_within(
     alloc: Global,
     vars: u32,
-    forms: Vec<Linear>,
+    forms: Constraints,
     given: &[Lit],
 ) -> Result<Option<Vec<Lit>>, NoMemory>
     requires few { vars < 2 ^ 31 }
-    requires within { All (OfConstraint (IsUpTo vars)) forms.items }
+    requires within { All (OfConstraint (IsUpTo vars)) forms }
     requires given { All (OfLit (IsUpTo vars)) given.now }
     requires ascending { AreAscending given.now }
-    ensures { IfOk result (λ found. MatchOption found (Conflict forms.items given.now) (λ v. AreReachedOver forms.items given.now v.items)) }
+    ensures { IfOk result (λ found. MatchOption found (Conflict forms given.now) (λ v. AreReachedOver forms given.now v.items)) }
 {
-    let mut engine = Engine::new(alloc, vars, forms)?;
+    let mut engine = Engine::over(alloc, vars, forms)?;
     assume_all(&mut engine, given);
     match engine.propagate() {
         Outcome::Conflict { .. } => Ok(None),
@@ -110,7 +109,7 @@ fn reached_within(
 fn reached_by_names(
     alloc: Global,
     names: &[u32],
-    forms: &[Linear],
+    forms: &Constraints,
     given: &[Lit],
 ) -> Result<Option<Vec<Lit>>, NoMemory>
     requires names { AreNames names.now }
@@ -129,14 +128,14 @@ fn reached_by_names(
 // The same over the variables as they are, or by their places where that takes less room.
 fn reached_over(
     alloc: Global,
-    forms: Vec<Linear>,
+    forms: Constraints,
     given: &[Lit],
 ) -> Result<Option<Vec<Lit>>, NoMemory>
     requires ascending { AreAscending given.now }
-    ensures { IfOk result (λ found. MatchOption found (Conflict forms.items given.now) (λ v. AreReachedOver forms.items given.now v.items)) }
+    ensures { IfOk result (λ found. MatchOption found (Conflict forms given.now) (λ v. AreReachedOver forms given.now v.items)) }
 {
-    let most = greatest_of(&forms, greatest(given));
-    if most as usize <= size_of(&forms).saturating_add(given.len()) {
+    let most = greatest_of(alloc, &forms, greatest(given))?;
+    if most as usize <= forms.clause_lits().saturating_add(given.len()) {
         return reached_within(alloc, most, forms, given);
     }
     let names = names_of(vars_of(alloc, &forms, given)?);
@@ -146,8 +145,8 @@ fn reached_over(
 /// The literals that unit propagation over clauses reaches from given ones, variables ascending, the given ones included; none
 /// where that is a conflict. The clauses are given by their forms. Memory and time go by the number of literals, not by
 /// the numbers of variables.
-pub fn reached(alloc: Global, forms: Vec<Linear>, lits: &Lits) -> Result<Option<Vec<Lit>>, NoMemory>
-    ensures { OfClauses forms.items (λ cs. IfOk result (λ found. MatchOption found (ClauseConflict cs lits.now) (λ v. AreReached cs lits.now v.items))) }
+pub fn reached(alloc: Global, forms: Constraints, lits: &Lits) -> Result<Option<Vec<Lit>>, NoMemory>
+    ensures { OfClauses forms (λ cs. IfOk result (λ found. MatchOption found (ClauseConflict cs lits.now) (λ v. AreReached cs lits.now v.items))) }
 {
     let Some(sorted) = sorted(alloc, lits)? else {
         return Ok(None);

@@ -10,7 +10,7 @@ use Rattle.pb_choice.specs.declared.options.Options.{Options}
 use Rattle.pb_choice.specs.Defaults.{default_options}
 use Rattle.pb_base.specs.declared.literal.Lit.{Lit}
 use Rattle.pb_words.specs.Taken.{Wanted, taken_of}
-use Rattle.pb_words.specs.Taken.Wanted.{Encode, Probe}
+use Rattle.pb_words.specs.Taken.Wanted.{Encode, Check, Probe}
 
 -- what a line asks for whose words stand between blanks
 abbrev said : Text → Option Wanted
@@ -21,6 +21,9 @@ encode opb cnf options = Some (Encode (record { opb = opb; cnf = cnf; options = 
 
 abbrev encode_a_b : Options → Option Wanted
 encode_a_b = encode (codes "a") (codes "b")
+
+abbrev check : Text → Text → Text → Option Wanted
+check opb cnf proof = Some (Check (record { opb = opb; cnf = cnf; proof = proof }))
 
 abbrev probe : Text → List Lit → Option Wanted
 probe cnf lits = Some (Probe (record { cnf = cnf; lits = lits }))
@@ -96,6 +99,14 @@ another_program_name : said (codes "x encode a b") ≡ encode_a_b default_option
 unfolding taken_of clap_on_literals
 another_program_name = refl
 
+three_texts : said (codes "pbcnf check a b c") ≡ check (codes "a") (codes "b") (codes "c")
+unfolding taken_of clap_on_literals
+three_texts = refl
+
+texts_behind_dashes : said (codes "pbcnf check a -- --b -") ≡ check (codes "a") (codes "--b") (codes "-")
+unfolding taken_of clap_on_literals
+texts_behind_dashes = refl
+
 no_literals : said (codes "pbcnf probe c") ≡ probe (codes "c") []
 unfolding taken_of clap_on_literals
 no_literals = refl
@@ -138,6 +149,26 @@ three_names = refl
 equal_names : said (codes "pbcnf encode a a") ≡ None
 unfolding taken_of clap_on_literals
 equal_names = refl
+
+two_texts : said (codes "pbcnf check a b") ≡ None
+unfolding taken_of clap_on_literals
+two_texts = refl
+
+four_texts : said (codes "pbcnf check a b c d") ≡ None
+unfolding taken_of clap_on_literals
+four_texts = refl
+
+the_first_text_again : said (codes "pbcnf check a b a") ≡ None
+unfolding taken_of clap_on_literals
+the_first_text_again = refl
+
+the_second_text_again : said (codes "pbcnf check a b b") ≡ None
+unfolding taken_of clap_on_literals
+the_second_text_again = refl
+
+option_of_encode : said (codes "pbcnf check a b c --budget 9") ≡ None
+unfolding taken_of clap_on_literals
+option_of_encode = refl
 
 unknown_command : said (codes "pbcnf decide a b") ≡ None
 unfolding taken_of clap_on_literals

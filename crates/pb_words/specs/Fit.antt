@@ -2,7 +2,7 @@
 use Rattle.std.specs.Prelude.{◌≢◌, ◌≤◌}
 use Rattle.pb_words.specs.EncodeWords.{EncodeWords}
 use Rattle.pb_words.specs.Taken.{Wanted}
-use Rattle.pb_words.specs.Taken.Wanted.{Encode, Probe}
+use Rattle.pb_words.specs.Taken.Wanted.{Encode, Check, Probe}
 
 -- two different names, and a budget within its range
 pub record IsFitEncode (w : EncodeWords) : Type 0 where
@@ -12,4 +12,5 @@ pub record IsFitEncode (w : EncodeWords) : Type 0 where
 
 abbrev pub IsFit : Wanted → Type 0
 IsFit (Encode w) = IsFitEncode w
+IsFit (Check w) = Unit {0}
 IsFit (Probe w) = Unit {0}

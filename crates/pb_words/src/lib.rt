@@ -2,6 +2,7 @@
 #![tactic(auto)]
 
 mod argument;
+mod check;
 mod digits;
 mod encode;
 mod fault;
@@ -12,6 +13,7 @@ mod probe;
 mod program;
 mod request;
 
+pub use check::Checking;
 pub use encode::Encoding;
 pub use fault::WordsFault;
 pub use line::taken;

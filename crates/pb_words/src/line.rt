@@ -1,11 +1,13 @@
 //! The request that a command line makes.
 ghost use Rattle.std.specs.Prelude.{◌≡◌, ◌≢◌, IfOk, IsErrOf, None, Some, map, option_map, string_bytes};
 ghost use Rattle.clap.specs.Words.{found_of, kind_of, rows_of, subcommand_rows_of};
+ghost use Rattle.pb_words.specs.CheckWords.{check_in};
 ghost use Rattle.pb_words.specs.EncodeWords.{encode_in};
 ghost use Rattle.pb_words.specs.ProbeWords.{probe_in};
 ghost use Rattle.pb_words.specs.Taken.{taken_of, wanted_as, wanted_by, wanted_in, Tells};
-ghost use Rattle.pb_words.specs.Taken.Wanted.{Encode, Probe};
+ghost use Rattle.pb_words.specs.Taken.Wanted.{Encode, Check, Probe};
 
+use crate::check::checking_in;
 use crate::encode::encoding_in;
 use crate::fault::WordsFault;
 use crate::probe::probing_in;
@@ -21,6 +23,16 @@ fn encode_request<'a>(given: &ArgMatches<'a>) -> Result<Request<'a>, WordsFault>
 {
     match encoding_in(given) {
         Some(encoding) => Ok(Request::Encode(encoding)),
+        None => Err(WordsFault::Usage),
+    }
+}
+
+// What `check` was asked for.
+fn check_request<'a>(given: &ArgMatches<'a>) -> Result<Request<'a>, WordsFault>
+    ensures { Tells (option_map Check (check_in (rows_of (found_of given.now)))) result }
+{
+    match checking_in(given) {
+        Some(checking) => Ok(Request::Check(checking)),
         None => Err(WordsFault::Usage),
     }
 }
@@ -45,6 +57,7 @@ fn request_in<'a>(
 {
     match name {
         "encode" => encode_request(given),
+        "check" => check_request(given),
         "probe" => probe_request(alloc, given),
         _ => Err(WordsFault::Usage),
     }

@@ -3,7 +3,7 @@ ghost use Rattle.std.specs.Prelude.{◌≡◌, IfOk, codes};
 ghost use Rattle.pb_words.specs.Rules.{bare_program, IsCommand};
 ghost use Rattle.pb_words.specs.Taken.{program_app};
 
-use crate::{encode, probe};
+use crate::{check, encode, probe};
 use clap::Command;
 use std::alloc::{AllocError, Global};
 
@@ -24,5 +24,6 @@ pub fn program<'a>(alloc: Global) -> Result<Command<'a>, AllocError>
 {
     bare(alloc)
         .subcommand(encode::command(alloc)?)?
+        .subcommand(check::command(alloc)?)?
         .subcommand(probe::command(alloc)?)
 }

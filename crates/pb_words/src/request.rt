@@ -1,4 +1,5 @@
 //! What the words ask for.
+use crate::check::Checking;
 use crate::encode::Encoding;
 use crate::probe::Probing;
 
@@ -7,6 +8,8 @@ use crate::probe::Probing;
 pub enum Request<'a> {
     /// Encode a problem.
     Encode(Encoding<'a>),
+    /// Check a derivation.
+    Check(Checking<'a>),
     /// Propagate some literals over a CNF.
     Probe(Probing<'a>),
 }

@@ -12,6 +12,8 @@ use Rattle.pb_opb.specs.declared.fault.OpbFault.{OpbFault}
 use Rattle.pb_opb.specs.declared.fault.OpbFault.TheVariants as opb
 use Rattle.pb_dimacs.specs.declared.fault.CnfFault.{CnfFault}
 use Rattle.pb_dimacs.specs.declared.fault.CnfFault.TheVariants as cnf
+use Rattle.pb_check.specs.declared.verdict.CheckFault.{CheckFault}
+use Rattle.pb_check.specs.declared.verdict.CheckFault.TheVariants as check
 use Rattle.pb_choice.specs.declared.options.Options.{Options}
 use Rattle.pb_encode.specs.declared.fault.EncodeFault.{EncodeFault}
 use Rattle.pb_encode.specs.declared.fault.EncodeFault.TheVariants as encode
@@ -37,6 +39,13 @@ cnf_refusal (cnf.Token place e) = outcome.Refused Cnf place e
 cnf_refusal (cnf.Limit place which) = outcome.Limit (Some Cnf) which place
 cnf_refusal cnf.Failed = outcome.ReadFault
 cnf_refusal cnf.NoMemory = outcome.NoMemory
+
+-- the outcome of a fault of checking
+abbrev pub check_refusal : CheckFault → Outcome
+check_refusal (check.Refused file place e) = outcome.Refused file place e
+check_refusal (check.Limit file place which) = outcome.Limit (Some file) which place
+check_refusal check.ReadFault = outcome.ReadFault
+check_refusal check.NoMemory = outcome.NoMemory
 
 -- the outcome refuses a text of this kind
 pub data RefusesFile (file : File) : Outcome → Type 0 where

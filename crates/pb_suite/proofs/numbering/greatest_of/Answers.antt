@@ -1,23 +1,21 @@
-use Rattle.std.proofs.Common.{ℕ, arith, subst}
+use Rattle.std.proofs.Common.{◌<◌, length, subst, arith}
 use Rattle.std.specs.Prelude.{All}
+use Rattle.pb_base.specs.declared.literal.Term.{Term}
+use Rattle.pb_suite.specs.laws.Reaching.{IsUpTo, OfConstraint}
 use Rattle.std.proofs.lemmas.List.{take_all}
-use Rattle.std.proofs.lemmas.List.Elements.{All-weaker}
-use Rattle.pb_norm.specs.Constraints.{Constraint}
-use Rattle.pb_suite.specs.laws.Reaching.{IsUpTo, OfConstraint, OfTerm}
-use Rattle.pb_suite.proofs.Greatest.{all_next, of_terms, up_to}
+use Rattle.pb_suite.proofs.ReadForms.{greatest_read}
 use Rattle.pb_suite.proofs.numbering.greatest_of.Goals as goal
 
-pub loop-form-preserved : goal.loop-form-preserved
-loop-form-preserved c =
-    let most = c.loop-form.most in
+pub loop-place-preserved : goal.loop-place-preserved
+loop-place-preserved c =
     let next = c.greatest_in-most.result in
-    let form = c.form-item.result in
+    let below : c.loop-place.place < length c.args.forms.now = omega (arith, c.loop-place-test.true, c.len-place-end.ensures) in
+    let here : All (λ (t : Term). IsUpTo next t.lit.var) c.read.new.terms.items = subst (All (λ (t : Term). IsUpTo next t.lit.var)) c.deref.ensures.value c.greatest_in-most.ensures.within in
     record {
-      within = all_next (λ (m : ℕ) (d : Constraint). OfConstraint (IsUpTo m) d) (λ m n le d h. All-weaker (OfTerm (IsUpTo m)) (OfTerm (IsUpTo n)) (λ t k. up_to m n le t.lit.var k) d.terms h) c.args.forms.now c.loop-form.form-index form most next (omega arith) c.form-item.is c.loop-form.invariant.within c.greatest_in-most.ensures.no_less
-          (of_terms (IsUpTo next) c.terms.result.now form.terms c.terms.ensures.weights c.greatest_in-most.ensures.within);
-      no_less = omega (arith, c.greatest_in-most.ensures.no_less, c.loop-form.invariant.no_less);
+      within = greatest_read c.args.forms.now c.loop-place.place c.read.new.terms.items c.in_ok-read.field-0 below c.in_ok-read.ensures c.loop-place.most next c.loop-place.invariant.within c.greatest_in-most.ensures.no_less here;
+      no_less = omega (arith, c.greatest_in-most.ensures.no_less, c.loop-place.invariant.no_less);
       few = c.greatest_in-most.ensures.few;
     }
 
 pub returns-clause-within : goal.returns-clause-within
-returns-clause-within c = subst (All (OfConstraint (IsUpTo c.loop-form.most))) (take_all c.loop-form.form-index c.args.forms.now (omega arith)) c.loop-form.invariant.within
+returns-clause-within c = subst (All (OfConstraint (IsUpTo c.loop-place.most))) (take_all c.loop-place.place c.args.forms.now (omega (arith, c.loop-place-test.false, c.len-place-end.ensures))) c.loop-place.invariant.within

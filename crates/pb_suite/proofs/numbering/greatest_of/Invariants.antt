@@ -3,9 +3,9 @@ use Rattle.std.specs.Prelude.{All}
 use Rattle.pb_suite.specs.laws.Reaching.{IsUpTo, OfConstraint}
 use Rattle.pb_suite.proofs.numbering.greatest_of.Given as goal
 
-abbrev pub invariant-loop-form : goal.invariant-loop-form
-invariant-loop-form l = record {
-  within : All (OfConstraint (IsUpTo l.most)) (take l.form-index l.forms);
+abbrev pub invariant-loop-place : goal.invariant-loop-place
+invariant-loop-place l = record {
+  within : All (OfConstraint (IsUpTo l.most)) (take l.place l.forms);
   no_less : l.least ≤ l.most;
   few : l.most < 2 ^ 31;
 }

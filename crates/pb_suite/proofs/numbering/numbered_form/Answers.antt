@@ -1,20 +1,24 @@
-use Rattle.std.proofs.Common.{◌∙◌, sym, subst}
-use Rattle.pb_norm.specs.Constraints.{IsLinear}
+use Rattle.std.proofs.Common.{◌∙◌, sym, subst, refl}
+use Rattle.pb_norm.specs.Constraints.{IsLinear, Constraint, constraint_of}
+use Rattle.pb_norm.proofs.KeptTerms.{terms_of-weights}
 use Rattle.pb_suite.specs.laws.Renaming.{number_in}
 use Rattle.pb_suite.proofs.Numbered.{numbered_is, numbered_known, numbered_linear, numbered_unsigned}
 use Rattle.pb_suite.proofs.numbering.numbered_form.Goals as goal
 
 pub from_parts-requires-clause-terms : goal.from_parts-requires-clause-terms
-from_parts-requires-clause-terms c = numbered_unsigned (number_in c.args.names.now) c.args.form.now c.terms.result.now c.in_ok-terms.terms.items c.terms.ensures.terms c.in_ok-terms.ensures
+from_parts-requires-clause-terms c =
+    numbered_unsigned (number_in c.args.names.now) (constraint_of c.args.terms.now c.args.degree) c.args.terms.now c.in_ok-terms.terms.items (sym (terms_of-weights c.args.terms.now c.requires.unsigned)) c.in_ok-terms.ensures
 
 pub from_parts-requires-clause-linear : goal.from_parts-requires-clause-linear
 from_parts-requires-clause-linear c =
-    let form = c.args.form.now in
-    let is = numbered_is (number_in c.args.names.now) form c.terms.result.now c.in_ok-terms.terms.items c.terms.ensures.terms c.in_ok-terms.ensures c.degree.result c.degree.ensures.value in
-    subst IsLinear (sym is) (numbered_linear c.args.names.now c.requires.names form c.requires.known c.terms.ensures.linear)
+    let form : Constraint = constraint_of c.args.terms.now c.args.degree in
+    let is = numbered_is (number_in c.args.names.now) form c.args.terms.now c.in_ok-terms.terms.items (sym (terms_of-weights c.args.terms.now c.requires.unsigned)) c.in_ok-terms.ensures c.args.degree refl in
+    subst IsLinear (sym is) (numbered_linear c.args.names.now c.requires.names form c.requires.known c.requires.linear)
 
 pub numbered_terms-requires-clause-known : goal.numbered_terms-requires-clause-known
-numbered_terms-requires-clause-known c = numbered_known c.args.names.now c.args.form.now c.terms.result.now c.terms.ensures.terms c.requires.known
+numbered_terms-requires-clause-known c = numbered_known c.args.names.now (constraint_of c.args.terms.now c.args.degree) c.args.terms.now (sym (terms_of-weights c.args.terms.now c.requires.unsigned)) c.requires.known
 
 pub returns : goal.returns
-returns c = c.from_parts.ensures ∙ numbered_is (number_in c.args.names.now) c.args.form.now c.terms.result.now c.in_ok-terms.terms.items c.terms.ensures.terms c.in_ok-terms.ensures c.degree.result c.degree.ensures.value
+returns c =
+    c.from_parts.ensures ∙
+    numbered_is (number_in c.args.names.now) (constraint_of c.args.terms.now c.args.degree) c.args.terms.now c.in_ok-terms.terms.items (sym (terms_of-weights c.args.terms.now c.requires.unsigned)) c.in_ok-terms.ensures c.args.degree refl

@@ -11,4 +11,4 @@ reached_over-requires c =
 pub returns : goal.returns
 returns c = λ clauses are.
     let is_sorted : AreSorted c.args.lits.now c.as_slice.result.now = subst (AreSorted c.args.lits.now) (sym c.as_slice.ensures.value) (rw c.in-Some.is at c.in_ok-sorted.ensures) in
-    clauses_answer c.args.forms.items clauses are c.args.lits.now c.as_slice.result.now is_sorted c.reached_over.result (λ v. v.items) c.reached_over.ensures
+    clauses_answer c.args.forms clauses are c.args.lits.now c.as_slice.result.now is_sorted c.reached_over.result (λ v. v.items) c.reached_over.ensures

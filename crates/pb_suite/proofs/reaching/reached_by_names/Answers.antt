@@ -42,7 +42,7 @@ pub named_lits-requires-clause-places : goal.named_lits-requires-clause-places
 named_lits-requires-clause-places c =
     let forms = c.in_ok-numbered.ensures in
     let lits = c.deref.ensures.value ∙ c.in_ok-lits.ensures in
-    let found : AreReachedOver c.in_ok-numbered.numbered.items c.deref.result.now c.in-Some.found.items = rw c.in-Some.is at c.in_ok-reached_within.ensures in
+    let found : AreReachedOver c.in_ok-numbered.numbered c.deref.result.now c.in-Some.found.items = rw c.in-Some.is at c.in_ok-reached_within.ensures in
     let over = subst (λ (ls : List Lit). AreReachedOver (map (renamed (number_in c.args.names.now)) c.args.forms.now) ls c.in-Some.found.items) lits (subst (λ (cs : List Constraint). AreReachedOver cs c.deref.result.now c.in-Some.found.items) forms found) in
     subst (All (OfLit (IsUpTo (length c.args.names.now)))) (sym c.deref-in-Some.ensures.value) (found_places c.args.names.now c.requires.names c.args.forms.now c.args.given.now c.requires.named c.in-Some.found.items over)
 
@@ -50,7 +50,7 @@ pub returns : goal.returns
 returns c =
     let forms = c.in_ok-numbered.ensures in
     let lits = c.deref.ensures.value ∙ c.in_ok-lits.ensures in
-    let found : AreReachedOver c.in_ok-numbered.numbered.items c.deref.result.now c.in-Some.found.items = rw c.in-Some.is at c.in_ok-reached_within.ensures in
+    let found : AreReachedOver c.in_ok-numbered.numbered c.deref.result.now c.in-Some.found.items = rw c.in-Some.is at c.in_ok-reached_within.ensures in
     let over = subst (λ (ls : List Lit). AreReachedOver (map (renamed (number_in c.args.names.now)) c.args.forms.now) ls c.in-Some.found.items) lits (subst (λ (cs : List Constraint). AreReachedOver cs c.deref.result.now c.in-Some.found.items) forms found) in
     let made = c.in_ok-named_lits-in-Some.ensures ∙ ap (map (renamed_lit (name_at c.args.names.now))) c.deref-in-Some.ensures.value in
     subst (AreReachedOver c.args.forms.now c.args.given.now) (sym made) (reached_named c.args.names.now c.requires.names c.args.forms.now c.args.given.now c.requires.named c.in-Some.found.items over)

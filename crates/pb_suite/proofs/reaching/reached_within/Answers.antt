@@ -8,8 +8,8 @@ use Rattle.pb_suite.specs.laws.Reaching.{AreReachedOver, IsUpTo, OfLit}
 use Rattle.pb_suite.proofs.Probed.{conflict_held, reached_held, within_most}
 use Rattle.pb_suite.proofs.reaching.reached_within.Goals as goal
 
-pub new-requires : goal.new-requires
-new-requires c = record { within = within_most c.args.vars c.args.forms.items c.requires.within }
+pub over-requires : goal.over-requires
+over-requires c = record { within = within_most c.args.vars c.args.forms c.requires.within }
 
 pub assume_all-requires-clause-within : goal.assume_all-requires-clause-within
 assume_all-requires-clause-within c =
@@ -19,14 +19,14 @@ assume_all-requires-clause-within c =
 pub returns-in-Conflict : goal.returns-in-Conflict
 returns-in-Conflict c =
     let s = c.propagate.new.self in
-    let over = ap standing (ap (λ (t : EngineState). t.places) c.propagate.ensures.same ∙ c.assume_all.ensures.places ∙ ap (λ (t : EngineState). t.places) c.in_ok-engine.ensures.start) ∙ standing_all c.args.forms.items in
+    let over = ap standing (ap (λ (t : EngineState). t.places) c.propagate.ensures.same ∙ c.assume_all.ensures.places ∙ ap (λ (t : EngineState). t.places) c.in_ok-engine.ensures.start) ∙ standing_all c.args.forms in
     let same = subst (λ (ls : List Lit). (l : Lit) → Contains ls l ↔ Contains c.args.given.now l) (sym (ap (λ (t : EngineState). t.given) c.propagate.ensures.same)) c.assume_all.ensures.assumed.exact in
-    conflict_held c.args.vars c.args.forms.items c.args.given.now c.requires.within c.requires.given s over same c.in-Conflict.place c.in-Conflict.ensures.answer
+    conflict_held c.args.vars c.args.forms c.args.given.now c.requires.within c.requires.given s over same c.in-Conflict.place c.in-Conflict.ensures.answer
 
 pub returns : goal.returns
 returns c =
     let s = c.propagate.new.self in
-    let over = ap standing (ap (λ (t : EngineState). t.places) c.propagate.ensures.same ∙ c.assume_all.ensures.places ∙ ap (λ (t : EngineState). t.places) c.in_ok-engine.ensures.start) ∙ standing_all c.args.forms.items in
+    let over = ap standing (ap (λ (t : EngineState). t.places) c.propagate.ensures.same ∙ c.assume_all.ensures.places ∙ ap (λ (t : EngineState). t.places) c.in_ok-engine.ensures.start) ∙ standing_all c.args.forms in
     let same = subst (λ (ls : List Lit). (l : Lit) → Contains ls l ↔ Contains c.args.given.now l) (sym (ap (λ (t : EngineState). t.given) c.propagate.ensures.same)) c.assume_all.ensures.assumed.exact in
-    subst (AreReachedOver c.args.forms.items c.args.given.now) (sym c.in_ok-all_held-in-Fixed.ensures)
-    (reached_held c.args.vars c.args.forms.items c.args.given.now c.requires.within c.requires.given s over same c.in-Fixed.ensures.answer c.propagate.ensures.reached)
+    subst (AreReachedOver c.args.forms c.args.given.now) (sym c.in_ok-all_held-in-Fixed.ensures)
+    (reached_held c.args.vars c.args.forms c.args.given.now c.requires.within c.requires.given s over same c.in-Fixed.ensures.answer c.propagate.ensures.reached)

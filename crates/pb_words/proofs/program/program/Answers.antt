@@ -1,6 +1,7 @@
 use Rattle.std.proofs.Common.{codes}
 use Rattle.std.proofs.lemmas.Result.{IfOk-weaker}
-use Rattle.clap.specs.Words.{with_subcommand}
+use Rattle.clap.specs.Words.{App, with_subcommand}
+use Rattle.pb_words.specs.CheckWords.{check_app}
 use Rattle.pb_words.specs.EncodeWords.{encode_app}
 use Rattle.pb_words.specs.ProbeWords.{probe_app}
 use Rattle.pb_words.specs.Rules.{bare_program}
@@ -9,5 +10,8 @@ use Rattle.pb_words.proofs.program.program.Goals as goal
 
 pub returns : goal.returns
 returns c =
-    let encode = adds_command (bare_program (codes "pbcnf")) encode_app _ _ _ c.in_ok-subcommand.ensures c.bare.ensures c.in_ok-command.ensures in
-    IfOk-weaker c.subcommand-2.result _ _ (λ new adds. adds_command (with_subcommand (bare_program (codes "pbcnf")) encode_app.top) probe_app _ _ _ adds encode c.in_ok-command-2.ensures) c.subcommand-2.ensures
+    let bare : App = bare_program (codes "pbcnf") in
+    let with_encode : App = with_subcommand bare encode_app.top in
+    let encode = adds_command bare encode_app _ _ _ c.in_ok-subcommand.ensures c.bare.ensures c.in_ok-command.ensures in
+    let check = adds_command with_encode check_app _ _ _ c.in_ok-subcommand-2.ensures encode c.in_ok-command-2.ensures in
+    IfOk-weaker c.subcommand-3.result _ _ (λ new adds. adds_command (with_subcommand with_encode check_app.top) probe_app _ _ _ adds check c.in_ok-command-3.ensures) c.subcommand-3.ensures

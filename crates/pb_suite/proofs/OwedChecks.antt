@@ -1,0 +1,172 @@
+-- How going through a CNF and a derivation side by side ends a command that owes it.
+use Rattle.std.proofs.Common.{◌≡◌, ◌≢◌, ◌∙◌, ℕ, List, [], ◌∷◌, Option, Some, None, Ok, Err, ap, inl, inr, length, refl, sym, subst}
+use Rattle.std.specs.Prelude.{◌⊎◌, Contains, IfSome, IsNone, IsSome}
+use Rattle.std.specs.Option.{unwrap_or}
+use Rattle.pb_base.specs.declared.file.File.{File}
+use Rattle.pb_base.specs.declared.file.File.TheVariants.{Opb, Cnf, Proof}
+use Rattle.pb_base.specs.declared.problem.Problem.{Problem}
+use Rattle.pb_base.proofs.Members.{Contains-here, Contains-there}
+use Rattle.pb_desk.specs.View.{Told, View, opened, spoke}
+use Rattle.pb_desk.specs.Desk.{DeskState, FailsToRead, IfTold, IsSteady, IsTold, LacksRoom, Reaches, StopsIn, same, words}
+use Rattle.pb_opb.specs.Faults.{Reads}
+use Rattle.pb_steps.specs.declared.denied.Denied.{Denied}
+use Rattle.pb_check.specs.declared.verdict.CheckFault.{CheckFault}
+use Rattle.pb_check.specs.declared.verdict.CheckFault.TheVariants as fault
+use Rattle.pb_check.specs.declared.verdict.Verdict.TheVariants.{Accepted, Rejected}
+use Rattle.pb_check.specs.Outcomes.{NamesText, StopsCheck as StopsChecking}
+use Rattle.pb_check.specs.Turns.{Answer}
+use Rattle.pb_desk.specs.TwoSlots.{both_taken, TakesBoth}
+use Rattle.pb_check.specs.Walk.{Walk}
+use Rattle.pb_words.specs.CheckWords.{CheckWords}
+use Rattle.pb_suite.specs.declared.outcome.Outcome.{Outcome}
+use Rattle.pb_suite.specs.declared.outcome.Outcome.TheVariants as outcome
+use Rattle.pb_suite.specs.Obeying.{Obeys}
+use Rattle.pb_suite.specs.Outputs.{nothing, only_words}
+use Rattle.pb_suite.specs.Owed.{HasKind, Text}
+use Rattle.pb_suite.specs.OwedCheck.{accepted_line, owed_check, IsJudged, IsPosed}
+use Rattle.pb_suite.specs.OwedCheck.StopsCheck.{token, limit, denial}
+use Rattle.pb_suite.specs.laws.Runs.{check_refusal, HasText}
+use Rattle.pb_suite.proofs.Afterwards.{obeys_after}
+use Rattle.pb_suite.proofs.Endings.{bare_memory, is_refused, is_unread}
+use Rattle.pb_suite.proofs.Going.{by_both_taken, by_opened, by_same, goes_by, shelf_is_if, Goes}
+use Rattle.pb_suite.proofs.Says.{said_obeys, saying_obeys}
+use Rattle.pb_suite.proofs.Texts.{told_more}
+
+module _ (w : CheckWords) where
+  abbrev first_text : Text
+  first_text = record { kind = Opb; name = w.opb }
+
+  abbrev cnf_text : Text
+  cnf_text = record { kind = Cnf; name = w.cnf }
+
+  abbrev proof_text : Text
+  proof_text = record { kind = Proof; name = w.proof }
+
+  has_cnf_text : Contains (owed_check w).texts cnf_text
+  has_cnf_text = Contains-there first_text (cnf_text ∷ proof_text ∷ []) cnf_text (Contains-here cnf_text (proof_text ∷ []))
+
+  has_proof_text : Contains (owed_check w).texts proof_text
+  has_proof_text = Contains-there first_text (cnf_text ∷ proof_text ∷ []) proof_text (Contains-there cnf_text (proof_text ∷ []) proof_text (Contains-here proof_text []))
+
+  -- a file that was not opened
+  pub no_cnf : (a b : DeskState) → FailsToRead same a b → (IsSteady a → IsTold a (λ t. IsNone (t.shelf w.cnf))) → Obeys (owed_check w) a b outcome.ReadFault
+  no_cnf a b fails lacks = is_unread (owed_check w) a b same by_same fails (λ steady. (cnf_text, has_cnf_text, lacks steady))
+
+  pub no_proof : (a b : DeskState) → FailsToRead same a b → (IsSteady a → IsTold a (λ t. IsNone (t.shelf w.proof))) → Obeys (owed_check w) a b outcome.ReadFault
+  no_proof a b fails lacks = is_unread (owed_check w) a b same by_same fails (λ steady. (proof_text, has_proof_text, lacks steady))
+
+-- a problem that was read
+pub posed_by : (w : CheckWords) (p : Problem) (a b : DeskState) → Goes nothing a b → HasText w.opb (λ text. Reads text p) a → IfTold b (λ t. IsPosed t.shelf w p)
+posed_by w p a b goes says =
+    shelf_is_if a b goes (λ shelf. IsPosed shelf w p)
+    (told_more a (λ t. (text : List ℕ) × (t.shelf w.opb ≡ Some text) × Reads text p) (λ t. IsPosed t.shelf w p) (λ t found. record { text = found.0; on_shelf = found.1; reads = found.2 }) says)
+
+-- both texts stand in their slots from their first bytes on
+pub record HasBoth (w : CheckWords) (t : Told) : Type 0 where
+  pub cnf : t.shelf w.cnf ≡ Some (t.left 1)
+  pub proof : t.shelf w.proof ≡ Some (t.left 2)
+
+some_is : (o : Option (List ℕ)) → IsSome o → o ≡ Some (unwrap_or o [])
+some_is None some = cc
+some_is (Some text) some = refl
+
+abbrev opened_both : CheckWords → View → View
+opened_both w view = opened 2 w.proof (opened 1 w.cnf view)
+
+-- once both files were opened that the shelf has
+pub have_both : (w : CheckWords) (a b d : DeskState) → b.view ≡ opened 1 w.cnf a.view → d.view ≡ opened 2 w.proof b.view
+    → IfTold a (λ t. IsSome (t.shelf w.cnf)) → IfTold b (λ t. IsSome (t.shelf w.proof)) → IfTold d (HasBoth w)
+have_both w a b d first second found_cnf found_proof =
+    let is : d.view ≡ opened_both w a.view = second ∙ ap (opened 2 w.proof) first in
+    subst (λ (v : View). IfSome v.told (HasBoth w)) (sym is) (by_cases a.view.told found_cnf (subst (λ (v : View). IfSome v.told (λ t. IsSome (t.shelf w.proof))) first found_proof))
+  where
+    by_cases : (told : Option Told) → IfSome told (λ t. IsSome (t.shelf w.cnf)) → IfSome (opened 1 w.cnf (record a.view { told = told })).told (λ t. IsSome (t.shelf w.proof))
+        → IfSome (opened_both w (record a.view { told = told })).told (HasBoth w)
+    by_cases None cnf proof = tt
+    by_cases (Some t) cnf proof = record { cnf = some_is (t.shelf w.cnf) cnf; proof = some_is (t.shelf w.proof) proof }
+
+module _ (w : CheckWords) (p : Problem) (d e : DeskState) (posed : IfTold d (λ t. IsPosed t.shelf w p)) (both : IfTold d (HasBoth w)) where
+  abbrev JudgedSo : Answer → Type 0
+  JudgedSo answer = IfTold d (λ t. IsJudged t.shelf w answer)
+
+  judged_so : (answer : Answer) → TakesBoth 1 2 (λ c q. Walk p c q answer) d e → JudgedSo answer
+  judged_so answer takes = by_cases d.view.told posed both takes.texts
+    where
+      by_cases : (told : Option Told) → IfSome told (λ t. IsPosed t.shelf w p) → IfSome told (HasBoth w) → IfSome told (λ t. Walk p (t.left 1) (t.left 2) answer) → IfSome told (λ t. IsJudged t.shelf w answer)
+      by_cases None posed both walk = tt
+      by_cases (Some t) posed both walk = record {
+        problem = p;
+        cnf = t.left 1;
+        proof = t.left 2;
+        posed = posed;
+        has_cnf = both.cnf;
+        has_proof = both.proof;
+        judged = walk;
+      }
+
+  goes_both : (P : List ℕ → List ℕ → Type 0) → TakesBoth 1 2 P d e → Goes nothing d e
+  goes_both P takes = goes_by nothing (both_taken 1 2 takes.of_one takes.of_two) d e (by_both_taken 1 2 takes.of_one takes.of_two) takes.reached
+
+  has_kind : (file : File) → (file ≡ Cnf) ⊎ (file ≡ Proof) → HasKind file (owed_check w).texts
+  has_kind file (inl cnf) = inr (inl (sym cnf))
+  has_kind file (inr proof) = inr (inr (inl (sym proof)))
+
+  -- a text's fault, a read that failed, or want of memory
+  stopped_obeys : (f : CheckFault) → StopsChecking p 1 2 d e f → NamesText f → (IsSteady d → f ≢ fault.ReadFault) → Obeys (owed_check w) d e (check_refusal f)
+  stopped_obeys (fault.Refused file place expected) stops names steady =
+      is_refused (owed_check w) d e _ (goes_both _ stops) (has_kind file names)
+      (told_more d _ _ (λ t judged. token file place expected judged) (judged_so (Err (fault.Refused file place expected)) stops))
+  stopped_obeys (fault.Limit file place which) stops names steady =
+      is_refused (owed_check w) d e _ (goes_both _ stops) (has_kind file names)
+      (told_more d _ _ (λ t judged. limit file place which judged) (judged_so (Err (fault.Limit file place which)) stops))
+  stopped_obeys fault.ReadFault stops names steady =
+      is_unread (owed_check w) d e (both_taken 1 2 stops.of_one stops.of_two) (by_both_taken 1 2 stops.of_one stops.of_two) stops.fails (λ is. absurd (steady is refl))
+  stopped_obeys fault.NoMemory stops names steady = bare_memory (owed_check w) d e (goes_both _ stops)
+
+  -- a step that is not allowed
+  rejected_obeys : (line : ℕ) (denied : Denied) → TakesBoth 1 2 (λ c q. Walk p c q (Ok (Rejected line denied))) d e → Obeys (owed_check w) d e (outcome.Rejected line denied)
+  rejected_obeys line denied takes =
+      is_refused (owed_check w) d e _ (goes_both _ takes) (inr (inr (inl refl)))
+      (told_more d _ _ (λ t judged. denial line denied judged) (judged_so (Ok (Rejected line denied)) takes))
+
+  -- all is allowed
+  accepted_due : TakesBoth 1 2 (λ c q. Walk p c q (Ok Accepted)) d e → Goes nothing d e × IfTold e (λ t. (owed_check w).done t.shelf (only_words accepted_line))
+  accepted_due takes =
+      let goes = goes_both _ takes in
+      (goes, shelf_is_if d e goes (λ shelf. (owed_check w).done shelf (only_words accepted_line)) (told_more d _ _ (λ t judged. (judged, refl)) (judged_so (Ok Accepted) takes)))
+
+-- ---- from before the two files were opened
+
+module _ (w : CheckWords) (p : Problem) (a b d e : DeskState) (posed : IfTold a (λ t. IsPosed t.shelf w p)) (first : Reaches (opened 1 w.cnf) a b) (second : Reaches (opened 2 w.proof) b d)
+    (found_cnf : IfTold a (λ t. IsSome (t.shelf w.cnf))) (found_proof : IfTold b (λ t. IsSome (t.shelf w.proof))) where
+  first_goes : Goes nothing a b
+  first_goes = goes_by nothing (opened 1 w.cnf) a b (by_opened 1 w.cnf) first
+
+  second_goes : Goes nothing b d
+  second_goes = goes_by nothing (opened 2 w.proof) b d (by_opened 2 w.proof) second
+
+  still_posed : IfTold d (λ t. IsPosed t.shelf w p)
+  still_posed = shelf_is_if b d second_goes (λ shelf. IsPosed shelf w p) (shelf_is_if a b first_goes (λ shelf. IsPosed shelf w p) posed)
+
+  both : IfTold d (HasBoth w)
+  both = have_both w a b d first.view second.view found_cnf found_proof
+
+  opened_obeys : (f : DeskState) (answer : Outcome) → Obeys (owed_check w) d f answer → Obeys (owed_check w) a f answer
+  opened_obeys f answer obeys = obeys_after (owed_check w) a b f first_goes answer (obeys_after (owed_check w) b d f second_goes answer obeys)
+
+  pub after_stop : (f : CheckFault) → StopsChecking p 1 2 d e f → NamesText f → (IsSteady d → f ≢ fault.ReadFault) → Obeys (owed_check w) a e (check_refusal f)
+  after_stop f stops names steady = opened_obeys e _ (stopped_obeys w p d e still_posed both f stops names steady)
+
+  pub after_denial : (line : ℕ) (denied : Denied) → TakesBoth 1 2 (λ c q. Walk p c q (Ok (Rejected line denied))) d e → Obeys (owed_check w) a e (outcome.Rejected line denied)
+  after_denial line denied takes = opened_obeys e _ (rejected_obeys w p d e still_posed both line denied takes)
+
+  pub after_saying_all : (f : DeskState) → (IsSteady e → IsSome e.view.told) → TakesBoth 1 2 (λ c q. Walk p c q (Ok Accepted)) d e → Reaches (spoke accepted_line) e f → Obeys (owed_check w) a f outcome.Done
+  after_saying_all f tells takes said =
+      let due = accepted_due w p d e still_posed both takes in
+      opened_obeys f _ (obeys_after (owed_check w) d e f due.0 _ (said_obeys (owed_check w) accepted_line e f tells due.1 said))
+
+  pub after_saying_some : (f : DeskState) → (IsSteady e → IsSome e.view.told) → TakesBoth 1 2 (λ c q. Walk p c q (Ok Accepted)) d e → StopsIn accepted_line spoke e f → (IsSteady e → LacksRoom words (length accepted_line) e)
+      → Obeys (owed_check w) a f outcome.WriteFault
+  after_saying_some f tells takes stop lacks =
+      let due = accepted_due w p d e still_posed both takes in
+      opened_obeys f _ (obeys_after (owed_check w) d e f due.0 _ (saying_obeys (owed_check w) accepted_line e f tells due.1 stop lacks))
