@@ -1,24 +1,59 @@
+mod checks;
 mod encodes;
 mod faults;
 mod probes;
 mod refuses;
 mod words;
 
-ghost use Rattle.std.specs.Prelude.{◌≤◌};
+ghost use Rattle.std.specs.Prelude.{◌≤◌, IfOk};
+ghost use Rattle.pb_desk.specs.Desk.{IsClosed};
 
-use crate::desk_with;
-use pb_base::{Ids, NoMemory};
-use pb_desk::MemoryDesk;
+use pb_base::{Bytes, Ids, NoMemory, Seq, Text};
+use pb_desk::{Desk, MemoryDesk, Named};
 use pb_suite::{Outcome, run};
 use std::alloc::{Alloc, Global};
-use std::process::Abort;
-use std::test::Fail;
 
 // How a run ended, and what it left.
 #[derive(Drop)]
 struct Run {
     outcome: Outcome,
     desk: MemoryDesk,
+}
+
+// The words that stand between blanks.
+fn owned_words(alloc: Global, words: &str) -> Result<Vec<String>, NoMemory> {
+    let mut owned = Vec::new(alloc);
+    for word in words.split(' ') {
+        owned.push(word.to_string(alloc)?)?;
+    }
+    Ok(owned)
+}
+
+// A desk in memory whose one file to read has the name `a`. The calls with a number in `fails` fail, counted from 1
+// over all calls; a call moves at most `piece` bytes; each file and what is said have `room` bytes.
+fn desk_with(
+    alloc: Global,
+    text: &[u8],
+    fails: Ids,
+    piece: usize,
+    room: usize,
+) -> Result<MemoryDesk, NoMemory>
+    requires { 1 ≤ piece }
+    ensures { IfOk result (λ desk. IsClosed (⟦<MemoryDesk as Desk>⟧.state desk)) }
+{
+    let mut files = Seq::new(alloc);
+    files.push(Named {
+        name: Text::from_string("a".to_string(alloc)?),
+        bytes: Bytes::from_vec(text.to_vec(alloc)?),
+    })?;
+    MemoryDesk::new(alloc, files, fails, piece, room)
+}
+
+// A run, of which nothing is known but what it leaves.
+fn ended<D: Desk>(alloc: Global, words: &Vec<String>, desk: &mut D) -> Outcome
+    requires { IsClosed (D.state desk.old) }
+{
+    run(alloc, words, desk)
 }
 
 // A run with these words, with a blank between any two, on a desk whose file `a` has this text.
@@ -32,12 +67,9 @@ fn run_with(
 ) -> Result<Run, NoMemory>
     requires { 1 ≤ piece }
 {
-    let mut owned = Vec::new(alloc);
-    for word in words.split(' ') {
-        owned.push(word.to_string(alloc)?)?;
-    }
+    let owned = owned_words(alloc, words)?;
     let mut desk = desk_with(alloc, text, fails, piece, room)?;
-    let outcome = run(alloc, &owned, &mut desk);
+    let outcome = ended(alloc, &owned, &mut desk);
     Ok(Run { outcome, desk })
 }
 
@@ -46,23 +78,18 @@ fn run_freely(alloc: Global, words: &str, text: &[u8]) -> Result<Run, NoMemory> 
     run_with(alloc, words, text, Ids::new(alloc), 4096, 4096)
 }
 
-// Such a run ends with this status and fault line, and makes and says nothing.
-fn is_refused(
-    rt: &impl Abort,
-    alloc: Global,
-    words: &str,
-    text: &[u8],
-    status: u8,
-    line: &str,
-) -> Result<(), Fail> {
-    let Run { outcome, desk } = run_freely(alloc, words, text)?;
-    let told = outcome.to_string(alloc)?;
-    assert_eq!(rt; told.as_str(), line, "at {words} {text:?}");
-    assert_eq!(rt; outcome.status(), status, "at {words} {text:?}");
-    assert!(rt; desk.made(0).is_none(), "at {words} {text:?}");
-    assert!(rt; desk.made(1).is_none(), "at {words} {text:?}");
-    assert!(rt; desk.said().is_empty(), "at {words} {text:?}");
-    Ok(())
+// The run made and said nothing.
+fn is_silent(run: &Run) -> bool {
+    run.desk.made(0).is_none() && run.desk.made(1).is_none() && run.desk.said().is_empty()
+}
+
+// How such a run ends, which makes and says nothing: its status and its fault line.
+fn refusal(alloc: Global, words: &str, text: &[u8]) -> Option<String> {
+    let run = run_freely(alloc, words, text).ok()?;
+    if !is_silent(&run) {
+        return None;
+    }
+    format!(in alloc; "{} {}", run.outcome.status(), run.outcome).ok()
 }
 
 // The status of a run of which the call of this number fails, where so many calls read, and then so many write.

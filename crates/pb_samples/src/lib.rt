@@ -1,69 +1,105 @@
-//! Terms and constraints that tests are made of.
+//! Constraints that tests are made of, and texts that show them.
 #![tactic(auto)]
 
-ghost use Rattle.std.specs.Prelude.{◌≡◌, ◌≤◌, ◌<◌, ◌^◌};
+ghost use Rattle.std.specs.Prelude.{◌≤◌, ◌<◌};
+ghost use Rattle.pb_family.specs.Families.{VarsBelow};
 
-use pb_base::{Lit, NoMemory, Raw, Relation, Term, Terms, Var};
-use pb_norm::{Half, Linear, normalize};
+use pb_base::{Lit, LitWord, Term, read_literal, words};
+use pb_family::{Family, TextSink};
+use pb_norm::{AtMost, Half, Linear, Linears, Rest, load, normalize, reduce};
+use pb_opb::read_opb;
 use std::alloc::Global;
 
-/// A coefficient at a variable.
-pub fn term(coef: i128, index: u32) -> Term
-    requires low { 1 ≤ index }
-    requires high { index < 2 ^ 31 }
-    ensures coef { result.coef ≡ coef }
-    ensures var { result.lit.var ≡ index }
-{
-    signed_term(coef, index, true)
+/// The literals that stand in a text, as in `x1 ~x2`.
+pub fn lits(alloc: Global, text: &str) -> Option<Vec<Lit>> {
+    let mut made = Vec::new(alloc);
+    for word in words(text.as_bytes()) {
+        match read_literal(word.text) {
+            LitWord::Within(lit) => made.push(lit).ok()?,
+            _ => return None,
+        }
+    }
+    Some(made)
 }
 
-/// A weight where the variable is false.
-pub fn negative(index: u32, weight: i128) -> Term
-    requires low { 1 ≤ index }
-    requires high { index < 2 ^ 31 }
-    ensures coef { result.coef ≡ weight }
-    ensures var { result.lit.var ≡ index }
-{
-    signed_term(weight, index, false)
+/// The constraints of an OPB text.
+pub fn loaded(alloc: Global, text: &str) -> Option<Linears> {
+    let problem = read_opb(alloc, text.as_bytes()).ok()?;
+    load(alloc, &problem).ok()
 }
 
-/// A coefficient at a variable or its negation.
-pub fn signed_term(coef: i128, index: u32, positive: bool) -> Term
-    requires low { 1 ≤ index }
-    requires high { index < 2 ^ 31 }
-    ensures coef { result.coef ≡ coef }
-    ensures var { result.lit.var ≡ index }
-{
-    let var = Var::new(index);
-    Term {
-        coef,
-        lit: Lit { var, positive },
+/// The lower half of the first statement of an OPB text.
+pub fn linear(alloc: Global, text: &str) -> Option<Linear> {
+    let problem = read_opb(alloc, text.as_bytes()).ok()?;
+    match problem.statements.as_slice() {
+        [raw, ..] => normalize(alloc, raw, Half::Lower).ok(),
+        [] => None,
     }
 }
 
-/// Two of four negated variables are to be true.
-pub fn two_of_four(alloc: Global) -> Result<Linear, NoMemory> {
-    let terms = vec![in alloc;
-        negative(1, 1),
-        negative(2, 1),
-        negative(3, 1),
-        negative(4, 1),
-    ]?;
-    let raw = Raw {
-        terms: Terms::from_vec(terms),
-        relation: Relation::AtLeast,
-        right: 2,
-    };
-    normalize(alloc, &raw, Half::Lower)
+fn bounded(rest: Rest) -> Option<AtMost> {
+    match rest {
+        Rest::One(sum) => Some(sum),
+        Rest::Card(sum) => Some(sum),
+        Rest::General(sum) => Some(sum),
+        Rest::Empty => None,
+        Rest::Nothing => None,
+        Rest::Clause(_) => None,
+    }
 }
 
-/// Three weights of negated variables are to reach four.
-pub fn three_weights(alloc: Global) -> Result<Linear, NoMemory> {
-    let terms = vec![in alloc; negative(1, 4), negative(2, 3), negative(3, 2)]?;
-    let raw = Raw {
-        terms: Terms::from_vec(terms),
-        relation: Relation::AtLeast,
-        right: 4,
-    };
-    normalize(alloc, &raw, Half::Lower)
+/// The bounded sum that is left of a statement without its units.
+pub fn at_most(alloc: Global, text: &str) -> Option<AtMost> {
+    let constraint = linear(alloc, text)?;
+    let reduced = reduce(alloc, &constraint).ok()?;
+    bounded(reduced.rest)
+}
+
+/// How many fresh variables and clauses a family has, and its clauses in lines.
+pub fn family_text<F: Family>(alloc: Global, family: &F, first: u32) -> Option<String>
+    requires { VarsBelow first (F.constraint family.now).terms }
+{
+    let fresh = family.fresh();
+    if first < 1 || first > 1000 || fresh > 1000 {
+        return None;
+    }
+    let mut sink = TextSink::new(alloc);
+    family.emit(alloc, first, &mut sink).ok()?;
+    let lines = str::from_utf8(sink.text()).ok()?;
+    format!(in alloc; "{} {}\n{}", fresh, family.clauses(), lines).ok()
+}
+
+/// A literal, as `x1` or `~x1`.
+pub fn lit_text(alloc: Global, lit: Lit) -> Option<String> {
+    let sign = if lit.positive { "" } else { "~" };
+    format!(in alloc; "{}x{}", sign, lit.index()).ok()
+}
+
+/// Literals, each with a blank before it.
+pub fn lits_text(alloc: Global, lits: &[Lit]) -> Option<String> {
+    let mut text = String::new(alloc);
+    for lit in lits {
+        let more = lit_text(alloc, *lit)?;
+        text.push(' ').ok()?;
+        text.push_str(more.as_str()).ok()?;
+    }
+    Some(text)
+}
+
+/// A constraint by its terms and its degree, as `3 x1 2 ~x2 >= 3`.
+pub fn constraint_text(alloc: Global, terms: &[Term], degree: u128) -> Option<String> {
+    let mut text = String::new(alloc);
+    for term in terms {
+        let lit = lit_text(alloc, term.lit)?;
+        let more = format!(in alloc; "{} {} ", term.weight(), lit.as_str()).ok()?;
+        text.push_str(more.as_str()).ok()?;
+    }
+    let more = format!(in alloc; ">= {}", degree).ok()?;
+    text.push_str(more.as_str()).ok()?;
+    Some(text)
+}
+
+/// A constraint, as `3 x1 2 ~x2 >= 3`.
+pub fn linear_text(alloc: Global, constraint: &Linear) -> Option<String> {
+    constraint_text(alloc, constraint.terms(), constraint.degree())
 }

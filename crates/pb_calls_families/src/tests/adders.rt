@@ -1,90 +1,36 @@
 use pb_adder::{Adder, adder_has_all_levels};
-use pb_base::{Raw, Relation, Terms};
-use pb_family::{Family, TextSink, are_below, is_light};
-use pb_norm::{Half, Rest, normalize, reduce};
-use pb_samples::term;
+use pb_family::{are_below, is_light};
+use pb_samples::{at_most, family_text};
+use std::alloc::Global;
 use std::test::Fail;
+
+// The numbers and the clauses of the adder of what a statement leaves.
+fn adder(alloc: Global, text: &str, first: u32) -> Option<String> {
+    let of = at_most(alloc, text)?;
+    if !is_light(&of) || !are_below(of.terms(), first) {
+        return None;
+    }
+    let adder = Adder::build(alloc, &of).ok()?;
+    adder.settles();
+    family_text(alloc, &adder, first)
+}
 
 #[test]
 fn three_terms(rt: HostRuntime) -> Result<(), Fail> {
-    let alloc = rt.alloc();
-    let terms = vec![in alloc; term(-4, 1), term(-3, 2), term(-2, 3)]?;
-    let raw = Raw {
-        terms: Terms::from_vec(terms),
-        relation: Relation::AtLeast,
-        right: -5,
-    };
-    let constraint = normalize(alloc, &raw, Half::Lower)?;
-    let reduced = reduce(alloc, &constraint)?;
-    let Rest::General(of) = &reduced.rest else {
-        panic!(&rt; "its coefficients differ");
-    };
-    assert!(rt; is_light(of));
-    assert!(rt; are_below(of.terms(), 4));
-    let adder = Adder::build(alloc, of)?;
-    assert_eq!(rt; adder.fresh(), 4);
-    assert_eq!(rt; adder.clauses(), 16);
-    let mut sink = TextSink::new(alloc);
-    adder.emit(alloc, 4, &mut sink)?;
-    let expected = b"2 3 -4 0\n\
-2 -3 4 0\n\
--2 3 4 0\n\
--2 -3 -4 0\n\
--2 -3 5 0\n\
-2 -5 0\n\
-3 -5 0\n\
-1 5 -6 0\n\
-1 -5 6 0\n\
--1 5 6 0\n\
--1 -5 -6 0\n\
--1 -5 7 0\n\
-1 -7 0\n\
-5 -7 0\n\
--4 -6 0\n\
--7 0\n";
-    assert_eq!(rt; sink.text(), expected.as_slice());
-    adder.settles();
+    let found = adder(rt.alloc(), "-4 x1 -3 x2 -2 x3 >= -5 ;", 4);
+    let expected = "4 16\n2 3 -4 0\n2 -3 4 0\n-2 3 4 0\n-2 -3 -4 0\n-2 -3 5 0\n2 -5 0\n3 -5 0\n\
+1 5 -6 0\n1 -5 6 0\n-1 5 6 0\n-1 -5 -6 0\n-1 -5 7 0\n1 -7 0\n5 -7 0\n-4 -6 0\n-7 0\n";
+    assert_eq!(rt; found.as_deref(), Some(expected));
     adder_has_all_levels();
     Ok(())
 }
 
 #[test]
 fn a_literal_twice(rt: HostRuntime) -> Result<(), Fail> {
-    let alloc = rt.alloc();
-    let terms = vec![in alloc; term(-8, 1), term(-8, 2), term(-8, 3), term(-5, 4)]?;
-    let raw = Raw {
-        terms: Terms::from_vec(terms),
-        relation: Relation::AtLeast,
-        right: -12,
-    };
-    let constraint = normalize(alloc, &raw, Half::Lower)?;
-    let reduced = reduce(alloc, &constraint)?;
-    let Rest::General(of) = &reduced.rest else {
-        panic!(&rt; "its coefficients differ");
-    };
-    assert!(rt; is_light(of));
-    assert!(rt; are_below(of.terms(), 5));
-    let adder = Adder::build(alloc, of)?;
-    assert_eq!(rt; adder.fresh(), 2);
-    assert_eq!(rt; adder.clauses(), 16);
-    let mut sink = TextSink::new(alloc);
-    adder.emit(alloc, 5, &mut sink)?;
-    let expected = b"1 2 3 -5 0\n\
-1 2 -3 5 0\n\
-1 -2 3 5 0\n\
-1 -2 -3 -5 0\n\
--1 2 3 5 0\n\
--1 2 -3 -5 0\n\
--1 -2 3 -5 0\n\
--1 -2 -3 5 0\n\
--1 -2 6 0\n\
--1 -3 6 0\n\
--2 -3 6 0\n\
-1 2 -6 0\n\
-1 3 -6 0\n\
-2 3 -6 0\n\
--4 -4 -5 0\n\
--6 0\n";
-    assert_eq!(rt; sink.text(), expected.as_slice());
+    let found = adder(rt.alloc(), "-8 x1 -8 x2 -8 x3 -5 x4 >= -12 ;", 5);
+    let expected = "2 16\n1 2 3 -5 0\n1 2 -3 5 0\n1 -2 3 5 0\n1 -2 -3 -5 0\n-1 2 3 5 0\n\
+-1 2 -3 -5 0\n-1 -2 3 -5 0\n-1 -2 -3 5 0\n-1 -2 6 0\n-1 -3 6 0\n-2 -3 6 0\n\
+1 2 -6 0\n1 3 -6 0\n2 3 -6 0\n-4 -4 -5 0\n-6 0\n";
+    assert_eq!(rt; found.as_deref(), Some(expected));
     Ok(())
 }

@@ -1,116 +1,98 @@
-ghost use Rattle.std.specs.Prelude.{◌≡◌};
-
-use pb_base::{Clause, Problem, Raw, Relation, Statements, Terms};
-use pb_norm::{Half, Rest, clause_form, load, normalize, reduce, value};
-use pb_samples::signed_term;
+use pb_base::Clause;
+use pb_family::are_below;
+use pb_norm::{Linear, Rest, clause_form, reduce, value};
+use pb_samples::{linear, linear_text, lits, lits_text, loaded};
+use std::alloc::Global;
 use std::test::Fail;
 
-// The problem of statements over so many variables, with nothing to minimize.
-fn problem_of(vars: u32, statements: Statements) -> Problem
-    ensures statements { result.statements ≡ statements }
-{
-    Problem {
-        vars,
-        objective: None,
-        statements,
-    }
-}
-
-#[test]
-fn forces_one_literal(rt: HostRuntime) -> Result<(), Fail> {
-    let alloc = rt.alloc();
-    let terms = vec![in alloc;
-        signed_term(5, 1, true),
-        signed_term(3, 2, true),
-        signed_term(2, 3, true),
-    ]?;
-    let raw = Raw {
-        terms: Terms::from_vec(terms),
-        relation: Relation::AtLeast,
-        right: 6,
-    };
-    let constraint = normalize(alloc, &raw, Half::Lower)?;
-    assert_eq!(rt; constraint.degree(), 6);
-    assert!(rt; value(&constraint, &[true, false, true]));
-    assert!(rt; !value(&constraint, &[false, true, true]));
-    assert_eq!(rt; constraint.copy(alloc)?.weight(), 10);
-    let reduced = reduce(alloc, &constraint)?;
-    assert_eq!(rt; reduced.units.len(), 1);
-    assert!(rt; matches!(&reduced.rest, Rest::Clause(lits) if lits.len() == 2));
-    Ok(())
+// A constraint's normal form.
+fn normal(alloc: Global, text: &str) -> Option<String> {
+    let constraint = linear(alloc, text)?.copy(alloc).ok()?;
+    linear_text(alloc, &constraint)
 }
 
 #[test]
 fn terms_in_any_order_have_one_form(rt: HostRuntime) -> Result<(), Fail> {
-    let alloc = rt.alloc();
-    let terms = vec![in alloc;
-        signed_term(3, 1, true),
-        signed_term(-2, 2, true),
-        signed_term(0, 3, true),
-        signed_term(4, 4, false),
-    ]?;
-    let ordered = Raw {
-        terms: Terms::from_vec(terms),
-        relation: Relation::AtLeast,
-        right: 1,
-    };
-    let terms = vec![in alloc;
-        signed_term(4, 4, false),
-        signed_term(1, 1, true),
-        signed_term(-2, 2, true),
-        signed_term(2, 1, true),
-    ]?;
-    let unordered = Raw {
-        terms: Terms::from_vec(terms),
-        relation: Relation::AtLeast,
-        right: 1,
-    };
-    let expected = [
-        signed_term(3, 1, true),
-        signed_term(2, 2, false),
-        signed_term(4, 4, false),
-    ];
-    let plain = normalize(alloc, &ordered, Half::Lower)?;
-    let gathered = normalize(alloc, &unordered, Half::Lower)?;
-    assert_eq!(rt; plain.terms(), expected.as_slice());
-    assert_eq!(rt; gathered.terms(), expected.as_slice());
-    assert_eq!(rt; plain.degree(), 3);
-    assert_eq!(rt; gathered.degree(), 3);
+    let form = Some("3 x1 2 ~x2 4 ~x4 >= 3");
+    let ordered = normal(rt.alloc(), "3 x1 -2 x2 0 x3 4 ~x4 >= 1 ;");
+    assert_eq!(rt; ordered.as_deref(), form);
+    let unordered = normal(rt.alloc(), "4 ~x4 1 x1 -2 x2 2 x1 >= 1 ;");
+    assert_eq!(rt; unordered.as_deref(), form);
     Ok(())
+}
+
+// Whether a constraint over three variables holds under values of these.
+fn holds(constraint: &Linear, model: &[bool; 3]) -> Option<bool> {
+    if !are_below(constraint.terms(), 4) {
+        return None;
+    }
+    Some(value(constraint, model))
+}
+
+// The same of a text.
+fn holds_of(alloc: Global, text: &str, model: &[bool; 3]) -> Option<bool> {
+    let constraint = linear(alloc, text)?;
+    holds(&constraint, model)
+}
+
+#[test]
+fn a_constraint_holds_by_its_weights(rt: HostRuntime) -> Result<(), Fail> {
+    let text = "5 x1 3 x2 2 x3 >= 6 ;";
+    let both = holds_of(rt.alloc(), text, &[true, false, true]);
+    assert!(rt; both == Some(true));
+    let light = holds_of(rt.alloc(), text, &[false, true, true]);
+    assert!(rt; light == Some(false));
+    Ok(())
+}
+
+// The units of a constraint, and the clause that is left.
+fn units_and_clause(alloc: Global, text: &str) -> Option<String> {
+    let reduced = reduce(alloc, &linear(alloc, text)?).ok()?;
+    let units = lits_text(alloc, reduced.units.as_slice())?;
+    let Rest::Clause(lits) = &reduced.rest else {
+        return None;
+    };
+    let clause = lits_text(alloc, lits.as_slice())?;
+    format!(in alloc; "{};{}", units.as_str(), clause.as_str()).ok()
+}
+
+#[test]
+fn forces_one_literal(rt: HostRuntime) -> Result<(), Fail> {
+    let found = units_and_clause(rt.alloc(), "5 x1 3 x2 2 x3 >= 6 ;");
+    assert_eq!(rt; found.as_deref(), Some(" x1; x2 x3"));
+    Ok(())
+}
+
+// The constraints of a text, each in a line.
+fn loaded_text(alloc: Global, text: &str) -> Option<String> {
+    let constraints = loaded(alloc, text)?;
+    let mut lines = String::new(alloc);
+    for constraint in constraints.as_slice() {
+        let line = linear_text(alloc, constraint)?;
+        lines.push_str(line.as_str()).ok()?;
+        lines.push('\n').ok()?;
+    }
+    Some(lines)
 }
 
 #[test]
 fn loads_both_halves(rt: HostRuntime) -> Result<(), Fail> {
-    let alloc = rt.alloc();
-    let terms = vec![in alloc;
-        signed_term(-4, 3, true),
-        signed_term(3, 2, false),
-        signed_term(1, 1, true),
-    ]?;
-    let raw = Raw {
-        terms: Terms::from_vec(terms),
-        relation: Relation::Equal,
-        right: -2,
-    };
-    let problem = problem_of(3, Statements::from_vec(vec![in alloc; raw]?));
-    let constraints = load(alloc, &problem)?;
-    let mut degrees = Vec::new(alloc);
-    for constraint in constraints.as_slice() {
-        degrees.push(constraint.degree())?;
-    }
-    assert_eq!(rt; degrees.as_slice(), [2, 6].as_slice());
+    let found = loaded_text(rt.alloc(), "-4 x3 3 ~x2 1 x1 = -2 ;");
+    let expected = "1 x1 3 ~x2 4 ~x3 >= 2\n1 ~x1 3 x2 4 x3 >= 6\n";
+    assert_eq!(rt; found.as_deref(), Some(expected));
     Ok(())
+}
+
+// The constraint of a clause.
+fn clause_text(alloc: Global, text: &str) -> Option<String> {
+    let clause = Clause::from_vec(lits(alloc, text)?);
+    let constraint = clause_form(alloc, &clause).ok()?;
+    linear_text(alloc, &constraint)
 }
 
 #[test]
 fn a_clause_names_each_literal_once(rt: HostRuntime) -> Result<(), Fail> {
-    let alloc = rt.alloc();
-    let (five, four) = (signed_term(1, 5, true).lit, signed_term(1, 4, false).lit);
-    let clause = Clause::from_vec(vec![in alloc; five, four, five]?);
-    let constraint = clause_form(alloc, &clause)?;
-    assert_eq!(rt; constraint.degree(), 1);
-    assert_eq!(rt; constraint.weight(), 2);
-    let first = constraint.terms().first().map(|term| term.lit);
-    assert_eq!(rt; first, Some(four));
+    let found = clause_text(rt.alloc(), "x5 ~x4 x5");
+    assert_eq!(rt; found.as_deref(), Some("1 ~x4 1 x5 >= 1"));
     Ok(())
 }

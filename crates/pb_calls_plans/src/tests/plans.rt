@@ -1,352 +1,170 @@
-ghost use Rattle.std.specs.Prelude.{◌≡◌, ◌≤◌, ◌<◌};
+ghost use Rattle.std.specs.Prelude.{◌≤◌};
+ghost use Rattle.pb_family.specs.Families.{VarsBelow};
 
-use pb_base::{Raw, Relation, Terms};
-use pb_choice::{Amo, Card, General, MAX_BUDGET, Options, Treatment, plan};
+use pb_choice::{Amo, Card, General, MAX_BUDGET, Options, Plan, Treatment, plan};
 use pb_family::{TextSink, are_below};
-use pb_norm::{Half, Linear, normalize};
-use pb_samples::{negative, three_weights, two_of_four};
+use pb_samples::linear;
 use std::alloc::Global;
-use std::process::Abort;
 use std::test::Fail;
 
-// At most one of three variables is to be true.
-fn one_of_three(alloc: Global) -> Result<Linear, Fail> {
-    let terms = vec![in alloc; negative(1, 1), negative(2, 1), negative(3, 1)]?;
-    let raw = Raw {
-        terms: Terms::from_vec(terms),
-        relation: Relation::AtLeast,
-        right: 2,
-    };
-    Ok(normalize(alloc, &raw, Half::Lower)?)
-}
-
-// One weight forces its literal, and one of the others is to be true.
-fn unit_and_clause(alloc: Global) -> Result<Linear, Fail> {
-    let terms = vec![in alloc; negative(1, 5), negative(2, 3), negative(3, 2)]?;
-    let raw = Raw {
-        terms: Terms::from_vec(terms),
-        relation: Relation::AtLeast,
-        right: 6,
-    };
-    Ok(normalize(alloc, &raw, Half::Lower)?)
-}
-
-// Compares what a plan says and hands over with what is expected.
-fn assert_plan(
-    rt: &impl Abort,
-    alloc: Global,
-    constraint: &Linear,
-    first: u32,
-    options: &Options,
-    treatment: Treatment,
-    fresh: u64,
-    clauses: u64,
-    expected: &[u8],
-) -> Result<(), Fail>
-    requires modest { options.now.budget ≤ 10000000 }
-    requires low { 1 ≤ first }
-    requires small { first < 1000 }
-    requires few { fresh < 1000 }
+// How a plan treats its constraint, its numbers of fresh variables and clauses, and the clauses.
+fn plan_text(alloc: Global, plan: &Plan<'_>, first: u32) -> Option<String>
+    requires { VarsBelow first plan.now.constraint.now.terms }
 {
-    assert!(rt; constraint.weight() < 1 << 100);
-    assert!(rt; are_below(constraint.terms(), first));
-    let plan = plan(alloc, constraint, options)?;
     let counts = plan.counts();
-    assert_eq!(rt; plan.treatment(), treatment);
-    assert_eq!(rt; counts.fresh, fresh);
-    assert_eq!(rt; counts.clauses, clauses);
+    if first < 1 || first > 1000 || counts.fresh > 1000 {
+        return None;
+    }
     let mut sink = TextSink::new(alloc);
-    plan.emit(alloc, first, &mut sink)?;
-    assert_eq!(rt; sink.text(), expected);
-    Ok(())
+    plan.emit(alloc, first, &mut sink).ok()?;
+    let lines = str::from_utf8(sink.text()).ok()?;
+    let treatment = plan.treatment();
+    format!(in alloc;
+        "{treatment:?} {} {}\n{lines}",
+        counts.fresh, counts.clauses
+    )
+    .ok()
+}
+
+// The same of a statement's plan.
+fn planned(alloc: Global, text: &str, options: &Options, first: u32) -> Option<String> {
+    let constraint = linear(alloc, text)?;
+    if constraint.weight() >= 1 << 100 || options.budget > MAX_BUDGET {
+        return None;
+    }
+    if !are_below(constraint.terms(), first) {
+        return None;
+    }
+    let plan = plan(alloc, &constraint, options).ok()?;
+    plan_text(alloc, &plan, first)
+}
+
+// How a statement is treated.
+fn treatment(alloc: Global, text: &str, options: &Options) -> Option<Treatment> {
+    let constraint = linear(alloc, text)?;
+    if constraint.weight() >= 1 << 100 || options.budget > MAX_BUDGET {
+        return None;
+    }
+    let plan = plan(alloc, &constraint, options).ok()?;
+    Some(plan.treatment())
 }
 
 // Options that differ from those where nothing is chosen by one family and the budget.
-fn with_card(card: Card, budget: u64) -> Options
-    ensures { result.budget ≡ budget }
-{
+fn with_card(card: Card, budget: u64) -> Options {
     Options {
-        amo: Amo::Auto,
         card,
-        general: General::Diagram,
         budget,
+        ..Options::default()
     }
 }
 
-fn with_general(general: General, budget: u64) -> Options
-    ensures { result.budget ≡ budget }
-{
+fn with_general(general: General, budget: u64) -> Options {
     Options {
-        amo: Amo::Auto,
-        card: Card::Auto,
         general,
         budget,
+        ..Options::default()
     }
 }
 
-fn with_amo(amo: Amo, budget: u64) -> Options
-    ensures { result.budget ≡ budget }
-{
+fn with_amo(amo: Amo, budget: u64) -> Options {
     Options {
         amo,
-        card: Card::Auto,
-        general: General::Diagram,
         budget,
+        ..Options::default()
     }
 }
 
-// The adder of three weights.
-const ADDED: &[u8] = b"2 3 -4 0\n\
-2 -3 4 0\n\
--2 3 4 0\n\
--2 -3 -4 0\n\
--2 -3 5 0\n\
-2 -5 0\n\
-3 -5 0\n\
-1 5 -6 0\n\
-1 -5 6 0\n\
--1 5 6 0\n\
--1 -5 -6 0\n\
--1 -5 7 0\n\
-1 -7 0\n\
-5 -7 0\n\
--4 -6 0\n\
--7 0\n";
+// Three weights of negated variables are to reach four.
+const WEIGHTS: &str = "4 ~x1 3 ~x2 2 ~x3 >= 4 ;";
+
+const NODES: &str = "Diagram 3 5\n-4 -1 5 0\n-5 6 0\n-5 -2 0\n-6 -3 0\n4 0\n";
+
+const ADDED: &str = "Adder 4 16\n2 3 -4 0\n2 -3 4 0\n-2 3 4 0\n-2 -3 -4 0\n-2 -3 5 0\n2 -5 0\n\
+3 -5 0\n1 5 -6 0\n1 -5 6 0\n-1 5 6 0\n-1 -5 -6 0\n-1 -5 7 0\n1 -7 0\n5 -7 0\n-4 -6 0\n-7 0\n";
+
+const MERGED: &str = "Tree 8 11\n-2 5 0\n-3 4 0\n-2 -3 6 0\n-1 9 0\n-4 7 0\n-5 8 0\n-6 10 0\n\
+-1 -4 11 0\n-1 -5 11 0\n-1 -6 11 0\n-11 0\n";
 
 #[test]
 fn weights(rt: HostRuntime) -> Result<(), Fail> {
-    let alloc = rt.alloc();
-    let three = three_weights(alloc)?;
-    let nodes = b"-4 -1 5 0\n\
--5 6 0\n\
--5 -2 0\n\
--6 -3 0\n\
-4 0\n";
-    let options = with_general(General::Diagram, 3);
-    assert_plan(
-        &rt,
-        alloc,
-        &three,
-        4,
-        &options,
-        Treatment::Diagram,
-        3,
-        5,
-        nodes.as_slice(),
-    )?;
-    let options = with_general(General::Diagram, 2);
-    assert_plan(
-        &rt,
-        alloc,
-        &three,
-        4,
-        &options,
-        Treatment::Adder,
-        4,
-        16,
-        ADDED,
-    )?;
-    let options = with_general(General::Adder, 1);
-    assert_plan(
-        &rt,
-        alloc,
-        &three,
-        4,
-        &options,
-        Treatment::Adder,
-        4,
-        16,
-        ADDED,
-    )
+    let cases = [
+        (General::Diagram, 3, NODES),
+        (General::Diagram, 2, ADDED),
+        (General::Adder, 1, ADDED),
+        (General::Tree, 8, MERGED),
+        (General::Tree, 7, ADDED),
+    ];
+    for (general, budget, expected) in cases {
+        let found = planned(rt.alloc(), WEIGHTS, &with_general(general, budget), 4);
+        assert_eq!(rt; found.as_deref(), Some(expected));
+    }
+    Ok(())
 }
 
-#[test]
-fn a_tree_of_weights(rt: HostRuntime) -> Result<(), Fail> {
-    let alloc = rt.alloc();
-    let three = three_weights(alloc)?;
-    let tree = b"-2 5 0\n\
--3 4 0\n\
--2 -3 6 0\n\
--1 9 0\n\
--4 7 0\n\
--5 8 0\n\
--6 10 0\n\
--1 -4 11 0\n\
--1 -5 11 0\n\
--1 -6 11 0\n\
--11 0\n";
-    let options = with_general(General::Tree, 8);
-    assert_plan(
-        &rt,
-        alloc,
-        &three,
-        4,
-        &options,
-        Treatment::Tree,
-        8,
-        11,
-        tree.as_slice(),
-    )?;
-    let options = with_general(General::Tree, 7);
-    assert_plan(
-        &rt,
-        alloc,
-        &three,
-        4,
-        &options,
-        Treatment::Adder,
-        4,
-        16,
-        ADDED,
-    )
-}
+// Two of four negated variables are to be true.
+const TWO: &str = "1 ~x1 1 ~x2 1 ~x3 1 ~x4 >= 2 ;";
+
+const ROWS: &str =
+    "Counter 6 13\n-1 5 0\n-6 0\n-2 7 0\n-5 7 0\n-2 -5 8 0\n-6 8 0\n-2 -6 0\n-3 9 0\n\
+-7 9 0\n-3 -7 10 0\n-8 10 0\n-3 -8 0\n-4 -10 0\n";
+
+const HALVES: &str =
+    "Totalizer 7 14\n-2 5 0\n-1 5 0\n-1 -2 6 0\n-4 7 0\n-3 7 0\n-3 -4 8 0\n-7 9 0\n\
+-8 10 0\n-5 9 0\n-5 -7 10 0\n-5 -8 11 0\n-6 10 0\n-6 -7 11 0\n-11 0\n";
 
 #[test]
 fn cardinalities(rt: HostRuntime) -> Result<(), Fail> {
-    let alloc = rt.alloc();
-    let four = two_of_four(alloc)?;
-    let rows = b"-1 5 0\n\
--6 0\n\
--2 7 0\n\
--5 7 0\n\
--2 -5 8 0\n\
--6 8 0\n\
--2 -6 0\n\
--3 9 0\n\
--7 9 0\n\
--3 -7 10 0\n\
--8 10 0\n\
--3 -8 0\n\
--4 -10 0\n";
-    let options = with_card(Card::Counter, 6);
-    assert_plan(
-        &rt,
-        alloc,
-        &four,
-        5,
-        &options,
-        Treatment::Counter,
-        6,
-        13,
-        rows.as_slice(),
-    )?;
-    let halves = b"-2 5 0\n\
--1 5 0\n\
--1 -2 6 0\n\
--4 7 0\n\
--3 7 0\n\
--3 -4 8 0\n\
--7 9 0\n\
--8 10 0\n\
--5 9 0\n\
--5 -7 10 0\n\
--5 -8 11 0\n\
--6 10 0\n\
--6 -7 11 0\n\
--11 0\n";
-    let options = with_card(Card::Totalizer, 7);
-    assert_plan(
-        &rt,
-        alloc,
-        &four,
-        5,
-        &options,
-        Treatment::Totalizer,
-        7,
-        14,
-        halves.as_slice(),
-    )
+    for (card, budget, expected) in [(Card::Counter, 6, ROWS), (Card::Totalizer, 7, HALVES)] {
+        let found = planned(rt.alloc(), TWO, &with_card(card, budget), 5);
+        assert_eq!(rt; found.as_deref(), Some(expected));
+    }
+    Ok(())
 }
 
 #[test]
 fn past_the_budget(rt: HostRuntime) -> Result<(), Fail> {
-    let alloc = rt.alloc();
-    let four = two_of_four(alloc)?;
-    assert!(rt; four.weight() < 1 << 100);
-    let plan_of = plan(alloc, &four, &with_card(Card::Counter, 5))?;
-    assert_eq!(rt; plan_of.treatment(), Treatment::Adder);
-    let plan_of = plan(alloc, &four, &with_card(Card::Totalizer, 6))?;
-    assert_eq!(rt; plan_of.treatment(), Treatment::Adder);
+    for (card, budget) in [(Card::Counter, 5), (Card::Totalizer, 6)] {
+        let found = treatment(rt.alloc(), TWO, &with_card(card, budget));
+        assert_eq!(rt; found, Some(Treatment::Adder));
+    }
     Ok(())
 }
 
 #[test]
 fn at_most_one(rt: HostRuntime) -> Result<(), Fail> {
-    let alloc = rt.alloc();
-    let three = one_of_three(alloc)?;
-    let pairs = b"-1 -2 0\n\
--1 -3 0\n\
--2 -3 0\n";
-    let options = with_amo(Amo::Auto, 1);
-    assert_plan(
-        &rt,
-        alloc,
-        &three,
-        4,
-        &options,
-        Treatment::Pairwise,
-        0,
-        3,
-        pairs.as_slice(),
-    )?;
-    let options = with_amo(Amo::Product, 1);
-    assert_plan(
-        &rt,
-        alloc,
-        &three,
-        4,
-        &options,
-        Treatment::Product,
-        0,
-        3,
-        pairs.as_slice(),
-    )?;
-    let steps = b"-5 4 0\n\
--1 -4 0\n\
--2 -5 0\n\
--2 4 0\n\
--3 5 0\n";
-    let options = with_amo(Amo::Ladder, 1);
-    assert_plan(
-        &rt,
-        alloc,
-        &three,
-        4,
-        &options,
-        Treatment::Ladder,
-        2,
-        5,
-        steps.as_slice(),
-    )
+    let cases = [
+        (Amo::Auto, "Pairwise 0 3\n-1 -2 0\n-1 -3 0\n-2 -3 0\n"),
+        (Amo::Product, "Product 0 3\n-1 -2 0\n-1 -3 0\n-2 -3 0\n"),
+        (
+            Amo::Ladder,
+            "Ladder 2 5\n-5 4 0\n-1 -4 0\n-2 -5 0\n-2 4 0\n-3 5 0\n",
+        ),
+    ];
+    for (amo, expected) in cases {
+        let found = planned(rt.alloc(), "1 ~x1 1 ~x2 1 ~x3 >= 2 ;", &with_amo(amo, 1), 4);
+        assert_eq!(rt; found.as_deref(), Some(expected));
+    }
+    Ok(())
 }
 
+// One weight forces its literal, and one of the others is to be true.
 #[test]
 fn units_come_first(rt: HostRuntime) -> Result<(), Fail> {
-    let alloc = rt.alloc();
-    let constraint = unit_and_clause(alloc)?;
-    let expected = b"-1 0\n\
--2 -3 0\n";
-    let options = Options::default();
-    assert_plan(
-        &rt,
-        alloc,
-        &constraint,
-        4,
-        &options,
-        Treatment::Clause,
-        0,
-        2,
-        expected.as_slice(),
-    )
+    let text = "5 ~x1 3 ~x2 2 ~x3 >= 6 ;";
+    let found = planned(rt.alloc(), text, &Options::default(), 4);
+    assert_eq!(rt; found.as_deref(), Some("Clause 0 2\n-1 0\n-2 -3 0\n"));
+    Ok(())
 }
 
 #[test]
 fn defaults(rt: HostRuntime) -> Result<(), Fail> {
-    let options = Options::default();
-    assert_eq!(rt; options.amo, Amo::Auto);
-    assert_eq!(rt; options.card, Card::Auto);
-    assert_eq!(rt; options.general, General::Diagram);
-    assert_eq!(rt; options.budget, 50_000);
+    let wanted = Options {
+        amo: Amo::Auto,
+        card: Card::Auto,
+        general: General::Diagram,
+        budget: 50_000,
+    };
+    assert_eq!(rt; Options::default(), wanted);
     assert_eq!(rt; MAX_BUDGET, 10_000_000);
     Ok(())
 }

@@ -1,85 +1,46 @@
-ghost use Rattle.std.specs.Prelude.{◌≤◌, ◌<◌};
+ghost use Rattle.std.specs.Prelude.{◌<◌, ◌^◌};
 
-use pb_base::{Raw, Relation, Terms};
 use pb_diagram::Diagram;
-use pb_family::{Built, Family, TextSink, are_below, is_light};
-use pb_norm::{AtMost, Half, Rest, normalize, reduce};
-use pb_samples::{negative, three_weights};
+use pb_family::{Built, are_below, is_light};
+use pb_samples::{at_most, family_text};
 use std::alloc::Global;
-use std::process::Abort;
 use std::test::Fail;
 
-// Builds the diagram of a sum, and compares its numbers and its clauses with what is expected.
-fn assert_diagram(
-    rt: &impl Abort,
-    alloc: Global,
-    of: &AtMost,
-    first: u32,
-    fresh: u64,
-    clauses: u64,
-    expected: &[u8],
-) -> Result<(), Fail>
-    requires low { 1 ≤ first }
-    requires some { 1 ≤ fresh }
-    requires few { fresh ≤ 1000 }
-    requires small { first < 1000 }
+// The numbers and the clauses of the diagram of what a statement leaves, within a budget.
+fn diagram(alloc: Global, text: &str, budget: u64, first: u32) -> Option<String>
+    requires { budget < 2 ^ 31 }
 {
-    assert!(rt; is_light(of));
-    assert!(rt; are_below(of.terms(), first));
-    assert!(rt; matches!(Diagram::build(alloc, of, fresh - 1)?, Built::Over));
-    let Built::Fits(diagram) = Diagram::build(alloc, of, fresh)? else {
-        panic!(rt; "it is within its budget");
-    };
-    assert_eq!(rt; diagram.fresh(), fresh);
-    assert_eq!(rt; diagram.clauses(), clauses);
-    let mut sink = TextSink::new(alloc);
-    diagram.emit(alloc, first, &mut sink)?;
-    assert_eq!(rt; sink.text(), expected);
+    let of = at_most(alloc, text)?;
+    if !is_light(&of) || !are_below(of.terms(), first) {
+        return None;
+    }
+    match Diagram::build(alloc, &of, budget).ok()? {
+        Built::Fits(diagram) => family_text(alloc, &diagram, first),
+        Built::Over => "over".to_string(alloc).ok(),
+    }
+}
+
+const THREE: &str = "4 ~x1 3 ~x2 2 ~x3 >= 4 ;";
+
+#[test]
+fn three_terms(rt: HostRuntime) -> Result<(), Fail> {
+    let found = diagram(rt.alloc(), THREE, 3, 4);
+    let expected = "3 5\n-4 -1 5 0\n-5 6 0\n-5 -2 0\n-6 -3 0\n4 0\n";
+    assert_eq!(rt; found.as_deref(), Some(expected));
     Ok(())
 }
 
 #[test]
-fn three_terms(rt: HostRuntime) -> Result<(), Fail> {
-    let alloc = rt.alloc();
-    let constraint = three_weights(alloc)?;
-    let reduced = reduce(alloc, &constraint)?;
-    let Rest::General(of) = &reduced.rest else {
-        panic!(&rt; "its coefficients differ");
-    };
-    let expected = b"-4 -1 5 0\n\
--5 6 0\n\
--5 -2 0\n\
--6 -3 0\n\
-4 0\n";
-    assert_diagram(&rt, alloc, of, 4, 3, 5, expected.as_slice())
+fn two_are_too_few(rt: HostRuntime) -> Result<(), Fail> {
+    let found = diagram(rt.alloc(), THREE, 2, 4);
+    assert_eq!(rt; found.as_deref(), Some("over"));
+    Ok(())
 }
 
 #[test]
 fn residues_meet(rt: HostRuntime) -> Result<(), Fail> {
-    let alloc = rt.alloc();
-    let terms = vec![in alloc;
-        negative(1, 5),
-        negative(2, 4),
-        negative(3, 3),
-        negative(4, 3),
-    ]?;
-    let raw = Raw {
-        terms: Terms::from_vec(terms),
-        relation: Relation::AtLeast,
-        right: 7,
-    };
-    let constraint = normalize(alloc, &raw, Half::Lower)?;
-    let reduced = reduce(alloc, &constraint)?;
-    let Rest::General(of) = &reduced.rest else {
-        panic!(&rt; "its coefficients differ");
-    };
-    let expected = b"-5 7 0\n\
--5 -1 6 0\n\
--6 8 0\n\
--6 -2 0\n\
--7 -2 8 0\n\
--8 -3 9 0\n\
--9 -4 0\n\
-5 0\n";
-    assert_diagram(&rt, alloc, of, 5, 5, 8, expected.as_slice())
+    let found = diagram(rt.alloc(), "5 ~x1 4 ~x2 3 ~x3 3 ~x4 >= 7 ;", 5, 5);
+    let expected = "5 8\n-5 7 0\n-5 -1 6 0\n-6 8 0\n-6 -2 0\n-7 -2 8 0\n-8 -3 9 0\n-9 -4 0\n5 0\n";
+    assert_eq!(rt; found.as_deref(), Some(expected));
+    Ok(())
 }

@@ -1,97 +1,59 @@
-use pb_choice::{Amo, Card, General, Options};
-use pb_words::{Encoding, Request, WordsFault, taken};
+use pb_samples::lits_text;
+use pb_words::{Encoding, Probing, Request, WordsFault, taken};
 use std::alloc::Global;
-use std::process::Abort;
 use std::test::Fail;
 
 // The words of a line that is parted at blanks.
-fn words_of(alloc: Global, line: &str) -> Result<Vec<String>, Fail> {
+fn words_of(alloc: Global, line: &str) -> Option<Vec<String>> {
     let mut words = Vec::new(alloc);
     for word in line.split(' ') {
-        words.push(String::from_str(alloc, word)?)?;
+        words.push(word.to_string(alloc).ok()?).ok()?;
     }
-    Ok(words)
+    Some(words)
 }
 
-// The words ask for this encoding.
-fn is_encoding(
-    rt: &impl Abort,
-    alloc: Global,
-    words: &[String],
-    wanted: Encoding<'_>,
-) -> Result<(), Fail> {
-    match taken(alloc, words) {
-        Ok(Request::Encode(encoding)) => assert_eq!(rt; encoding, wanted),
-        _ => assert!(rt; false),
-    }
-    Ok(())
+fn encoding_text(alloc: Global, asked: &Encoding<'_>) -> Option<String> {
+    let options = &asked.options;
+    let families = format!(in alloc;
+        "{:?} {:?} {:?}",
+        options.amo, options.card, options.general
+    )
+    .ok()?;
+    format!(in alloc; "{} {} {families} {}", asked.opb, asked.cnf, options.budget).ok()
 }
 
-// The words ask for this file, and for literals that stand in the slice.
-fn is_probing(
-    rt: &impl Abort,
-    alloc: Global,
-    line: &str,
-    cnf: &str,
-    lits: &[(u32, bool)],
-) -> Result<(), Fail> {
+fn probing_text(alloc: Global, asked: &Probing<'_>) -> Option<String> {
+    let lits = lits_text(alloc, asked.lits.as_slice())?;
+    format!(in alloc; "{}{lits}", asked.cnf).ok()
+}
+
+// What a line asks for.
+fn asked(alloc: Global, line: &str) -> Option<String> {
     let words = words_of(alloc, line)?;
     match taken(alloc, &words) {
-        Ok(Request::Probe(probing)) => {
-            assert_eq!(rt; probing.cnf, cnf);
-            let given = probing.lits.as_slice();
-            assert_eq!(rt; given.len(), lits.len());
-            for (lit, &(index, positive)) in given.iter().zip(lits) {
-                assert_eq!(rt; lit.index(), index);
-                assert_eq!(rt; lit.positive, positive);
-            }
-        }
-        _ => assert!(rt; false),
+        Ok(Request::Encode(encoding)) => encoding_text(alloc, &encoding),
+        Ok(Request::Probe(probing)) => probing_text(alloc, &probing),
+        Err(WordsFault::Usage) => "usage".to_string(alloc).ok(),
+        _ => None,
+    }
+}
+
+#[test]
+fn what_is_asked_for(rt: HostRuntime) -> Result<(), Fail> {
+    let cases = [
+        ("pbcnf probe c", "c"),
+        ("pbcnf probe c x1 ~x02 x2147483647", "c x1 ~x2 x2147483647"),
+        ("pbcnf encode a b", "a b Auto Auto Diagram 50000"),
+        (
+            "pbcnf encode --amo ladder x.opb --card=totalizer x.cnf --budget=007 --general adder",
+            "x.opb x.cnf Ladder Totalizer Adder 7",
+        ),
+    ];
+    for (line, expected) in cases {
+        let found = asked(rt.alloc(), line);
+        assert_eq!(rt; found.as_deref(), Some(expected), "at {line}");
     }
     Ok(())
-}
-
-#[test]
-fn literals(rt: HostRuntime) -> Result<(), Fail> {
-    let alloc = rt.alloc();
-    is_probing(&rt, alloc, "pbcnf probe c", "c", &[])?;
-    is_probing(
-        &rt,
-        alloc,
-        "pbcnf probe c x1 ~x02 x2147483647",
-        "c",
-        &[(1, true), (2, false), (2147483647, true)],
-    )
-}
-
-#[test]
-fn defaults(rt: HostRuntime) -> Result<(), Fail> {
-    let words = words_of(rt.alloc(), "pbcnf encode a b")?;
-    let wanted = Encoding {
-        opb: "a",
-        cnf: "b",
-        options: Options::default(),
-    };
-    is_encoding(&rt, rt.alloc(), &words, wanted)
-}
-
-#[test]
-fn all_options(rt: HostRuntime) -> Result<(), Fail> {
-    let words = words_of(
-        rt.alloc(),
-        "pbcnf encode --amo ladder x.opb --card=totalizer x.cnf --budget=007 --general adder",
-    )?;
-    let wanted = Encoding {
-        opb: "x.opb",
-        cnf: "x.cnf",
-        options: Options {
-            amo: Amo::Ladder,
-            card: Card::Totalizer,
-            general: General::Adder,
-            budget: 7,
-        },
-    };
-    is_encoding(&rt, rt.alloc(), &words, wanted)
 }
 
 #[test]
@@ -114,8 +76,8 @@ fn usage(rt: HostRuntime) -> Result<(), Fail> {
         "pbcnf probe c x2147483648",
     ];
     for line in lines {
-        let words = words_of(rt.alloc(), line)?;
-        assert!(rt; matches!(taken(rt.alloc(), &words), Err(WordsFault::Usage)));
+        let found = asked(rt.alloc(), line);
+        assert_eq!(rt; found.as_deref(), Some("usage"), "at {line}");
     }
     Ok(())
 }

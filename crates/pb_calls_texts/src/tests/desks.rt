@@ -7,18 +7,26 @@ use std::alloc::{Alloc, Global};
 use std::fs;
 use std::test::Fail;
 
-// A desk with the file `in` of seven bytes, whose calls of these numbers fail.
-fn desk_with(alloc: Global, fails: Ids, piece: usize, room: usize) -> Result<MemoryDesk, NoMemory>
+/// A desk with the file `in` of these bytes, whose calls of these numbers fail.
+pub fn desk_with(
+    alloc: Global,
+    bytes: &[u8],
+    fails: Ids,
+    piece: usize,
+    room: usize,
+) -> Result<MemoryDesk, NoMemory>
     requires { 1 ≤ piece }
     ensures { IfOk result (λ desk. IsClosed (⟦<MemoryDesk as Desk>⟧.state desk)) }
 {
     let mut files = Seq::new(alloc);
     files.push(Named {
         name: Text::from_string("in".to_string(alloc)?),
-        bytes: Bytes::from_vec(b"+1 x1;\n".to_vec(alloc)?),
+        bytes: Bytes::from_vec(bytes.to_vec(alloc)?),
     })?;
     MemoryDesk::new(alloc, files, fails, piece, room)
 }
+
+const TEXT: &[u8] = b"+1 x1;\n";
 
 // Reads `from`, writes it to `to`, and says it.
 fn copy<D: Desk>(
@@ -39,78 +47,91 @@ fn copy<D: Desk>(
     Ok(text)
 }
 
+// How a copy of a text ended, what was made in slot 1 and what was said.
+fn copied(alloc: Global, fails: Ids, piece: usize, room: usize, limit: u64) -> Option<String>
+    requires { 1 ≤ piece }
+{
+    let mut desk = desk_with(alloc, TEXT, fails, piece, room).ok()?;
+    let end = match copy(alloc, &mut desk, "in", "out", limit) {
+        Ok(text) => text.as_slice() == TEXT,
+        Err(_) => false,
+    };
+    let made = str::from_utf8(desk.made(1).unwrap_or(b"nothing")).ok()?;
+    let said = str::from_utf8(desk.said()).ok()?;
+    format!(in alloc; "{end} {made:?} {said:?}").ok()
+}
+
 #[test]
 fn a_text_is_read_written_and_said(rt: HostRuntime) -> Result<(), Fail> {
-    let alloc = rt.alloc();
-    let mut desk = desk_with(alloc, Ids::new(alloc), 2, 16)?;
-    let text = copy(alloc, &mut desk, "in", "out", 7)?;
-    assert_eq!(rt; text.as_slice(), b"+1 x1;\n".as_slice());
-    assert!(rt; desk.made(0).is_none());
-    assert!(rt; desk.made(1) == Some(b"+1 x1;\n".as_slice()));
-    assert_eq!(rt; desk.said(), b"+1 x1;\n".as_slice());
-    Ok(())
-}
-
-#[test]
-fn a_text_is_too_long(rt: HostRuntime) -> Result<(), Fail> {
-    let alloc = rt.alloc();
-    let mut desk = desk_with(alloc, Ids::new(alloc), 2, 16)?;
-    assert!(rt; copy(alloc, &mut desk, "in", "out", 6).err() == Some(TextFault::TooLong));
-    assert!(rt; desk.made(1).is_none());
-    Ok(())
-}
-
-#[test]
-fn each_call_fails_in_turn(rt: HostRuntime) -> Result<(), Fail> {
-    let alloc = rt.alloc();
-    for call in 1..9 {
-        let fails = Ids::from_vec(vec![in alloc; call]?);
-        let mut desk = desk_with(alloc, fails, 100, 16)?;
-        let copied = copy(alloc, &mut desk, "in", "out", 7);
-        // Opened, read to the end in two calls, created, written, closed, said.
-        assert_eq!(rt; copied.is_err(), call < 8, "call {call}");
-        assert_eq!(rt; desk.made(1).is_some(), call > 4, "call {call}");
+    // Whole; too long by a byte; with too little room for the file.
+    let cases = [
+        (2, 16, 7, "true \"+1 x1;\\n\" \"+1 x1;\\n\""),
+        (2, 16, 6, "false \"nothing\" \"\""),
+        (4096, 4, 7, "false \"+1 x\" \"\""),
+    ];
+    for (piece, room, limit, expected) in cases {
+        let found = copied(rt.alloc(), Ids::new(rt.alloc()), piece, room, limit);
+        assert_eq!(rt; found.as_deref(), Some(expected));
     }
     Ok(())
 }
 
+// Whether the copy succeeded and whether a file was made, where the call of this number fails.
+fn ends_at(alloc: Global, call: u64) -> Option<(bool, bool)> {
+    let fails = Ids::from_vec(vec![in alloc; call].ok()?);
+    let mut desk = desk_with(alloc, TEXT, fails, 100, 16).ok()?;
+    let is_copied = copy(alloc, &mut desk, "in", "out", 7).is_ok();
+    Some((is_copied, desk.made(1).is_some()))
+}
+
 #[test]
-fn a_full_file_keeps_a_first_part(rt: HostRuntime) -> Result<(), Fail> {
-    let alloc = rt.alloc();
-    let mut desk = desk_with(alloc, Ids::new(alloc), 4096, 4)?;
-    assert!(rt; copy(alloc, &mut desk, "in", "out", 7).err() == Some(TextFault::Failed));
-    assert!(rt; desk.made(1) == Some(b"+1 x".as_slice()));
-    assert!(rt; desk.said().is_empty());
+fn each_call_fails_in_turn(rt: HostRuntime) -> Result<(), Fail> {
+    for call in 1..9 {
+        // Opened, read to the end in two calls, created, written, closed, said.
+        let expected = Some((call == 8, call > 4));
+        assert_eq!(rt; ends_at(rt.alloc(), call), expected, "call {call}");
+    }
     Ok(())
+}
+
+// Whether a name is made once, and opened where it is there alone.
+fn uses_names_once<D: Desk>(desk: &mut D) -> bool
+    requires { IsClosed (D.state desk.old) }
+{
+    let Ok(()) = desk.create(0, "out") else {
+        return false;
+    };
+    let Err(Failed) = desk.create(1, "out") else {
+        return false;
+    };
+    let Err(Failed) = desk.open(3, "out") else {
+        return false;
+    };
+    desk.open(3, "in").is_ok()
+}
+
+fn uses_names_once_in_memory(alloc: Global) -> Result<bool, NoMemory> {
+    let mut desk = desk_with(alloc, TEXT, Ids::new(alloc), 1, 1)?;
+    Ok(uses_names_once(&mut desk))
 }
 
 #[test]
 fn a_name_is_used_once(rt: HostRuntime) -> Result<(), Fail> {
-    let alloc = rt.alloc();
-    let mut desk = desk_with(alloc, Ids::new(alloc), 1, 1)?;
-    assert!(rt; desk.create(0, "out") == Ok(()));
-    assert!(rt; desk.create(1, "out") == Err(Failed));
-    assert!(rt; desk.open(3, "out") == Err(Failed));
-    assert!(rt; desk.open(3, "in") == Ok(()));
+    let once = uses_names_once_in_memory(rt.alloc())?;
+    assert!(rt; once);
     Ok(())
 }
 
 #[test]
 fn the_system_keeps_a_file(rt: HostRuntime) -> Result<(), Fail> {
-    let alloc = rt.alloc();
-    fs::write(&rt, "pb_desk_in.tmp", "* kept\n")?;
-    let copied = copy(
-        alloc,
-        &mut RealDesk::new(&rt),
-        "pb_desk_in.tmp",
-        "pb_desk_out.tmp",
-        100,
-    );
-    let kept = fs::read_to_string(&rt, "pb_desk_out.tmp");
-    fs::remove_file(&rt, "pb_desk_in.tmp")?;
-    fs::remove_file(&rt, "pb_desk_out.tmp")?;
+    let (from, to) = ("pb_desk_in.tmp", "pb_desk_out.tmp");
+    fs::write(&rt, from, "* kept\n")?;
+    let copied = copy(rt.alloc(), &mut RealDesk::new(&rt), from, to, 100);
+    let kept = fs::read_to_string(&rt, to);
+    fs::remove_file(&rt, from)?;
+    fs::remove_file(&rt, to)?;
     assert_eq!(rt; copied?.as_slice(), b"* kept\n".as_slice());
     assert_eq!(rt; kept?.as_str(), "* kept\n");
-    assert!(rt; RealDesk::new(&rt).open(0, "pb_desk_in.tmp") == Err(Failed));
+    assert!(rt; RealDesk::new(&rt).open(0, from) == Err(Failed));
     Ok(())
 }

@@ -1,51 +1,56 @@
 use pb_base::{Number, end_of, read_number, tokens, words};
+use std::alloc::Global;
 use std::test::Fail;
+
+// Where each token stands, and how long it is.
+fn tokens_text(alloc: Global, text: &[u8]) -> Option<String> {
+    let mut found = String::new(alloc);
+    for token in tokens(text) {
+        let piece = format!(in alloc; "{}+{} ", token.place, token.text.len()).ok()?;
+        found.push_str(piece.as_str()).ok()?;
+    }
+    Some(found)
+}
 
 #[test]
 fn tokens_of_a_text(rt: HostRuntime) -> Result<(), Fail> {
-    let mut found = Vec::new(rt.alloc());
-    for token in tokens(b"min:+1 x1;* all >= here\n>= >==a<b* c") {
-        found.push((token.place.line, token.place.column, token.text.len()))?;
-    }
-    let wanted = [
-        (1, 1, 4),
-        (1, 5, 2),
-        (1, 8, 2),
-        (1, 10, 1),
-        (2, 1, 2),
-        (2, 4, 2),
-        (2, 6, 1),
-        (2, 7, 1),
-        (2, 8, 1),
-        (2, 9, 2),
-        (2, 12, 1),
-    ];
-    assert_eq!(rt; found.as_slice(), wanted.as_slice());
+    let found = tokens_text(rt.alloc(), b"min:+1 x1;* all >= here\n>= >==a<b* c");
+    let expected = "1:1+4 1:5+2 1:8+2 1:10+1 2:1+2 2:4+2 2:6+1 2:7+1 2:8+1 2:9+2 2:12+1 ";
+    assert_eq!(rt; found.as_deref(), Some(expected));
     Ok(())
+}
+
+// Where each word of a line stands, and how long it is.
+fn words_text(alloc: Global, text: &[u8]) -> Option<String> {
+    let mut found = String::new(alloc);
+    for word in words(text) {
+        let piece = format!(in alloc; "{}+{} ", word.column, word.text.len()).ok()?;
+        found.push_str(piece.as_str()).ok()?;
+    }
+    Some(found)
 }
 
 #[test]
 fn words_of_a_line(rt: HostRuntime) -> Result<(), Fail> {
-    let mut found = Vec::new(rt.alloc());
-    for word in words(b"\t p cnf  3*;\r") {
-        found.push((word.column, word.text.len()))?;
-    }
-    assert_eq!(rt; found.as_slice(), [(3, 1), (5, 3), (10, 3)].as_slice());
+    let found = words_text(rt.alloc(), b"\t p cnf  3*;\r");
+    assert_eq!(rt; found.as_deref(), Some("3+1 5+3 10+3 "));
     Ok(())
 }
 
 #[test]
 fn numbers(rt: HostRuntime) -> Result<(), Fail> {
-    assert_eq!(rt; read_number(b"-007"), Number::Value(-7));
-    assert_eq!(rt; read_number(b"+"), Number::NotANumber);
-    assert_eq!(rt;
-        read_number(b"85070591730234615865843651857942052864"),
-        Number::TooWide
-    );
-    assert_eq!(rt;
-        read_number(b"-85070591730234615865843651857942052863"),
-        Number::Value(-85070591730234615865843651857942052863)
-    );
+    let cases = [
+        ("-007", Number::Value(-7)),
+        ("+", Number::NotANumber),
+        ("85070591730234615865843651857942052864", Number::TooWide),
+        (
+            "-85070591730234615865843651857942052863",
+            Number::Value(-85070591730234615865843651857942052863),
+        ),
+    ];
+    for (text, number) in cases {
+        assert_eq!(rt; read_number(text.as_bytes()), number, "at {text}");
+    }
     Ok(())
 }
 

@@ -1,9 +1,8 @@
 ghost use Rattle.std.specs.Prelude.{◌≤◌};
 
-use super::{Run, is_refused, run_freely, run_with, status_at};
+use super::{Run, refusal, run_freely, run_with, status_at};
 use pb_base::Ids;
-use std::alloc::{Alloc, Global};
-use std::process::Abort;
+use std::alloc::Global;
 use std::test::Fail;
 
 // At most two of the first four variables, by a sequential counter.
@@ -13,14 +12,13 @@ const COUNTER: &str = "p cnf 10 13\n-1 5 0\n-6 0\n-2 7 0\n-5 7 0\n-2 -5 8 0\n-6 
 // Exactly one of two variables.
 const ONE: &str = "p cnf 2 2\n1 2 0\n-1 -2 0\n";
 
-// Probing the CNF with these words says this line, and makes no file.
-fn is_said(rt: &impl Abort, alloc: Global, words: &str, cnf: &str, line: &str) -> Result<(), Fail> {
-    let Run { outcome, desk } = run_freely(alloc, words, cnf.as_bytes())?;
-    assert_eq!(rt; outcome.status(), 0, "at {words}");
-    assert!(rt; desk.made(0).is_none(), "at {words}");
-    assert!(rt; desk.made(1).is_none(), "at {words}");
-    assert_eq!(rt; desk.said(), line.as_bytes(), "at {words}");
-    Ok(())
+// What probing the CNF with these words says, where it is done and makes no file.
+fn said(alloc: Global, words: &str, cnf: &str) -> Option<String> {
+    let run = run_freely(alloc, words, cnf.as_bytes()).ok()?;
+    if run.outcome.status() != 0 || run.desk.made(0).is_some() || run.desk.made(1).is_some() {
+        return None;
+    }
+    str::from_utf8(run.desk.said()).ok()?.to_string(alloc).ok()
 }
 
 #[test]
@@ -52,7 +50,8 @@ fn what_is_reached(rt: HostRuntime) -> Result<(), Fail> {
         ),
     ];
     for &(words, cnf, line) in &cases {
-        is_said(&rt, rt.alloc(), words, cnf, line)?;
+        let found = said(rt.alloc(), words, cnf);
+        assert_eq!(rt; found.as_deref(), Some(line), "at {words}");
     }
     Ok(())
 }
@@ -66,7 +65,8 @@ fn conflicts(rt: HostRuntime) -> Result<(), Fail> {
         ("pbcnf probe a x1 x2", ONE),
     ];
     for &(words, cnf) in &cases {
-        is_said(&rt, rt.alloc(), words, cnf, "conflict\n")?;
+        let found = said(rt.alloc(), words, cnf);
+        assert_eq!(rt; found.as_deref(), Some("conflict\n"), "at {words}");
     }
     Ok(())
 }
@@ -74,105 +74,108 @@ fn conflicts(rt: HostRuntime) -> Result<(), Fail> {
 #[test]
 fn texts_out_of_the_grammar(rt: HostRuntime) -> Result<(), Fail> {
     let cases = [
-        ("p cnf 1 2\n1 0\n", "pbcnf: CNF 3:1: expected clause word"),
-        ("p cnf 1 1\n2 0\n", "pbcnf: CNF 2:1: expected clause word"),
-        ("", "pbcnf: CNF 1:1: expected p line"),
-        ("p dnf 1 1\n", "pbcnf: CNF 1:3: expected cnf word"),
-        ("p cnf 1\n", "pbcnf: CNF 1:8: expected clause count"),
-        ("p cnf 1 1\n1\n", "pbcnf: CNF 3:1: expected clause word"),
+        ("p cnf 1 2\n1 0\n", "1 pbcnf: CNF 3:1: expected clause word"),
+        ("p cnf 1 1\n2 0\n", "1 pbcnf: CNF 2:1: expected clause word"),
+        ("", "1 pbcnf: CNF 1:1: expected p line"),
+        ("p dnf 1 1\n", "1 pbcnf: CNF 1:3: expected cnf word"),
+        ("p cnf 1\n", "1 pbcnf: CNF 1:8: expected clause count"),
+        ("p cnf 1 1\n1\n", "1 pbcnf: CNF 3:1: expected clause word"),
+        ("p cnf 2147483648 0\n", "3 pbcnf: CNF 1:7: limit variables"),
     ];
     for &(text, line) in &cases {
-        is_refused(
-            &rt,
-            rt.alloc(),
-            "pbcnf probe a x1",
-            text.as_bytes(),
-            1,
-            line,
-        )?;
+        let found = refusal(rt.alloc(), "pbcnf probe a x1", text.as_bytes());
+        assert_eq!(rt; found.as_deref(), Some(line), "at {text}");
     }
     Ok(())
 }
 
 #[test]
-fn words_and_limits(rt: HostRuntime) -> Result<(), Fail> {
-    let usage = "pbcnf: usage: encode, check, decode, probe or bench";
+fn words_and_names(rt: HostRuntime) -> Result<(), Fail> {
+    let usage = "2 pbcnf: usage: encode, check, decode, probe or bench";
     let cases = [
-        ("pbcnf probe", 2, usage),
-        ("pbcnf probe a x0", 2, usage),
-        ("pbcnf probe a x1 y", 2, usage),
-        ("pbcnf probe b x1", 4, "pbcnf: read fault"),
+        ("pbcnf probe", usage),
+        ("pbcnf probe a x0", usage),
+        ("pbcnf probe a x1 y", usage),
+        ("pbcnf probe b x1", "4 pbcnf: read fault"),
     ];
-    for &(words, status, line) in &cases {
-        is_refused(&rt, rt.alloc(), words, ONE.as_bytes(), status, line)?;
+    for &(words, line) in &cases {
+        let found = refusal(rt.alloc(), words, ONE.as_bytes());
+        assert_eq!(rt; found.as_deref(), Some(line), "at {words}");
     }
-    is_refused(
-        &rt,
-        rt.alloc(),
-        "pbcnf probe a x1",
-        b"p cnf 2147483648 0\n",
-        3,
-        "pbcnf: CNF 1:7: limit variables",
-    )
+    Ok(())
 }
 
 const SAID: &[u8] = b"fixed 1 -2 0\n";
 
-// Where the call of this number fails, the run ends with this status, and has said a first part.
-fn ends_at(rt: &impl Abort, alloc: Global, call: u64, piece: usize, status: u8) -> Result<(), Fail>
+// A run that is due to say it, of which the call of this number fails.
+fn run_due(alloc: Global, call: u64, piece: usize, room: usize) -> Option<Run>
     requires { 1 ≤ piece }
 {
-    let fails = Ids::from_vec(vec![in alloc; call]?);
-    let Run { outcome, desk } = run_with(
-        alloc,
-        "pbcnf probe a x1",
-        ONE.as_bytes(),
-        fails,
-        piece,
-        4096,
-    )?;
-    let said = desk.said();
-    assert_eq!(rt; outcome.status(), status, "call {call}");
-    assert!(rt; desk.made(0).is_none(), "call {call}");
-    match status {
-        0 => assert_eq!(rt; said, SAID, "call {call}"),
-        4 => assert!(rt; said.is_empty(), "call {call}"),
-        _ => assert!(rt;
-            SAID.starts_with(said) && said.len() < SAID.len(),
-            "call {call}"
-        ),
+    let fails = Ids::from_vec(vec![in alloc; call].ok()?);
+    let text = ONE.as_bytes();
+    run_with(alloc, "pbcnf probe a x1", text, fails, piece, room).ok()
+}
+
+// What is said fits the status: all; nothing; a first part.
+fn fits(run: &Run) -> bool {
+    let said = run.desk.said();
+    match run.outcome.status() {
+        0 => said == SAID,
+        4 => said.is_empty(),
+        _ => SAID.starts_with(said) && said.len() < SAID.len(),
     }
-    Ok(())
+}
+
+// Where the call of this number fails, the run ends with this status, and has said a first part.
+fn ends_at(alloc: Global, call: u64, piece: usize, status: u8) -> bool
+    requires { 1 ≤ piece }
+{
+    match run_due(alloc, call, piece, 4096) {
+        Some(run) => { run.outcome.status() == status && run.desk.made(0).is_none() && fits(&run) }
+        None => false,
+    }
+}
+
+// How many calls open and read the text to its end, and how many say the words. The counts are exact, so that a fault that
+// is passed over shows.
+fn all_end(alloc: Global, piece: usize, reads: u64, writes: u64) -> bool
+    requires { 1 ≤ piece }
+{
+    if reads > 1000 || writes > 1000 {
+        return false;
+    }
+    for call in 1..=reads + writes + 1 {
+        if !ends_at(alloc, call, piece, status_at(call, reads, writes)) {
+            return false;
+        }
+    }
+    true
 }
 
 #[test]
 fn each_call_fails_in_turn(rt: HostRuntime) -> Result<(), Fail> {
-    // How many calls open and read the text to its end, and how many say the words. The counts are exact, so that a
-    // fault that is passed over shows.
-    let cases = [(1, 1 + 24 + 1, 13), (4096, 1 + 2, 1)];
-    for &(piece, reads, writes) in &cases {
-        for call in 1..=reads + writes + 1 {
-            ends_at(&rt, rt.alloc(), call, piece, status_at(call, reads, writes))?;
-        }
-    }
+    let by_bytes = all_end(rt.alloc(), 1, 1 + 24 + 1, 13);
+    assert!(rt; by_bytes);
+    let whole = all_end(rt.alloc(), 4096, 1 + 2, 1);
+    assert!(rt; whole);
     Ok(())
+}
+
+// In this room, the run says as much as fits.
+fn fills(alloc: Global, room: usize) -> bool {
+    let Some(run) = run_due(alloc, 0, 4096, room) else {
+        return false;
+    };
+    let said = run.desk.said();
+    let status = if room < SAID.len() { 5 } else { 0 };
+    run.outcome.status() == status && SAID.starts_with(said) && said.len() == room.min(SAID.len())
 }
 
 #[test]
 fn each_room_is_too_small_in_turn(rt: HostRuntime) -> Result<(), Fail> {
-    let alloc = rt.alloc();
-    for room in 0..=SAID.len() {
-        let Run { outcome, desk } = run_with(
-            alloc,
-            "pbcnf probe a x1",
-            ONE.as_bytes(),
-            Ids::new(alloc),
-            4096,
-            room,
-        )?;
-        let status = if room < SAID.len() { 5 } else { 0 };
-        assert_eq!(rt; outcome.status(), status, "room {room}");
-        assert_eq!(rt; desk.said(), &SAID[..room], "room {room}");
+    for room in 0..=13 {
+        let fills = fills(rt.alloc(), room);
+        assert!(rt; fills, "room {room}");
     }
     Ok(())
 }

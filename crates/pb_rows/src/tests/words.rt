@@ -1,4 +1,4 @@
-use super::is_refused;
+use super::refusal;
 use std::test::Fail;
 
 const TEXT: &[u8] = b"+1 x1 +1 x2 >= 1 ;\n";
@@ -13,6 +13,11 @@ fn words_that_ask_for_nothing(rt: HostRuntime) -> Result<(), Fail> {
         "pbcnf encode a c d",
         // One file to read and to make.
         "pbcnf encode a a",
+        "pbcnf check a c",
+        "pbcnf check a c p q",
+        "pbcnf check a a p",
+        "pbcnf check a c a",
+        "pbcnf check a c c",
         // No names of files.
         "pbcnf encode -a c",
         "pbcnf encode a --card",
@@ -20,21 +25,17 @@ fn words_that_ask_for_nothing(rt: HostRuntime) -> Result<(), Fail> {
         "pbcnf decide a c",
         "pbcnf  a c",
     ];
-    let line = "pbcnf: usage: encode, check, decode, probe or bench";
+    let line = "2 pbcnf: usage: encode, check, decode, probe or bench";
     for &words in &cases {
-        is_refused(&rt, rt.alloc(), words, TEXT, 2, line)?;
+        let found = refusal(rt.alloc(), words, TEXT);
+        assert_eq!(rt; found.as_deref(), Some(line), "at {words}");
     }
     Ok(())
 }
 
 #[test]
 fn a_file_that_is_not_there(rt: HostRuntime) -> Result<(), Fail> {
-    is_refused(
-        &rt,
-        rt.alloc(),
-        "pbcnf encode b c",
-        TEXT,
-        4,
-        "pbcnf: read fault",
-    )
+    let found = refusal(rt.alloc(), "pbcnf encode b c", TEXT);
+    assert_eq!(rt; found.as_deref(), Some("4 pbcnf: read fault"));
+    Ok(())
 }
