@@ -71,6 +71,10 @@ impl fmt::Display for Expected {
             Expected::Arrow => "arrow",
             Expected::Bit => "bit",
             Expected::DerivationEnd => "derivation end",
+            Expected::LratId => "lrat id",
+            Expected::LratLiteral => "lrat literal",
+            Expected::LratHint => "lrat hint",
+            Expected::LratEnd => "lrat end",
         })
     }
 }

@@ -25,7 +25,7 @@ pub struct StepWriter<'a, D: Desk> {
 }
 
 impl<'a, D: Desk> StepSink for StepWriter<'a, D> {
-    ghost use Rattle.std.specs.Prelude.{◌≡◌, ◌<◌, ◌^◌, ◌∷◌, [], Err};
+    ghost use Rattle.std.specs.Prelude.{◌≡◌, ◌<◌, ◌^◌, ◌∷◌, [], Err, OnErr};
     ghost use Rattle.pb_family.specs.StepSinks.{HandsSteps};
     ghost use Rattle.pb_family.specs.declared.sink.SinkFault.TheVariants as fault;
     ghost use base.Fml.{GName};
@@ -39,6 +39,7 @@ impl<'a, D: Desk> StepSink for StepWriter<'a, D> {
     fn step(&mut self, step: &Step) -> Result<(), SinkFault>
         requires few { (⟦<StepWriter<'a, D> as StepSink>⟧.state self.old).next < 2 ^ 62 }
         ensures hands { let seen = ⟦<StepWriter<'a, D> as StepSink>⟧.state in HandsSteps (step.now ∷ []) result (seen self.old) (seen self.new) }
+        ensures no_id { let seen = ⟦<StepWriter<'a, D> as StepSink>⟧.state in OnErr result ((seen self.new).next ≡ (seen self.old).next) }
         ensures lacking { result ≡ Err fault.NoMemory → ⟦<StepWriter<'a, D> as StepSink>⟧.state self.new ≡ ⟦<StepWriter<'a, D> as StepSink>⟧.state self.old }
     {
         self.line.clear();

@@ -14,7 +14,7 @@ use Rattle.pb_steps.specs.declared.fault.StepFault.{StepFault}
 use Rattle.pb_steps.specs.declared.fault.StepFault.TheVariants.{Token, Limit}
 
 -- what is made of a part once it was read; its fault stays
-abbrev pub and_then : {A B : Type 0} → (A → Result B StepFault) → Result A StepFault → Result B StepFault
+abbrev pub and_then : {A B F : Type 0} → (A → Result B F) → Result A F → Result B F
 and_then f (Ok a) = f a
 and_then f (Err fault) = Err fault
 

@@ -24,4 +24,5 @@ pub use line_laws::{
 pub use op::{PolOp, Set};
 pub use read::read_step;
 pub use step::{PolOps, Sets, Step};
+pub use word::{id_in, number_between, token_fault};
 pub use write::write_step;

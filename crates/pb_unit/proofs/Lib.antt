@@ -13,5 +13,6 @@ pub mod Slotting
 pub mod Standing
 pub mod Sweeping
 pub mod Telling
+pub mod TrailValues
 pub mod Trailing
 pub mod Visits

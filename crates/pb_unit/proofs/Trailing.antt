@@ -1,26 +1,18 @@
 -- A trail with one more literal.
-use Rattle.std.proofs.Common.{◌≡◌, ◌≤◌, ◌<◌, ◌+◌, ◌-◌, inl, inr, ℕ, zero, suc, Bool, true, false, not, cond, List, [], ◌∷◌, ◌++◌, Option, Some, None, arith, length, get_or, set, eqb, ◌&&◌, ◌||◌, refl, ap, sym, ◌∙◌, take}
+use Rattle.std.proofs.Common.{◌≡◌, ◌≤◌, ◌<◌, ◌+◌, ◌-◌, inl, inr, ℕ, zero, suc, Bool, true, false, not, cond, List, [], ◌∷◌, ◌++◌, Option, Some, None, arith, length, get_or, set, refl, ap, sym, ◌∙◌, take}
 use Rattle.std.specs.Prelude.{is_some, option_to_list}
 use Rattle.std.specs.List.{count_by}
-use mathlib.Core.Bool.{beq}
-use Rattle.std.proofs.lemmas.Bool.{cases_Bool, cases_lt, or_left, or_right, eqb-true, eqb-false}
+use Rattle.std.proofs.lemmas.Bool.{cases_lt, or_left, or_right}
 use Rattle.std.proofs.lemmas.List.{get_or-set_same, get_or-set_other, length-set}
 use Rattle.std.proofs.lemmas.List.Sums.{sum_by-set, count_by-le-length}
 use Rattle.pb_base.specs.declared.literal.Lit.{Lit}
 use Rattle.pb_base.specs.Literals.{negated, is_same, is_among}
-use Rattle.pb_base.proofs.LiteralLemmas.{same_lit, opposite_lit, is_same-refl}
+use Rattle.pb_base.proofs.LiteralLemmas.{is_same-refl}
 use Rattle.std.proofs.lemmas.List.{get_or-reverse, length-reverse, get_or_past, reverse-append}
 use Rattle.std.proofs.Math.Seq.{drop-cons}
 use Rattle.std.specs.Prelude.{reverse, drop}
 use Rattle.pb_unit.specs.Trails.{is_value, IsTrail, AreDifferent, oldest}
-
--- a variable that the list has neither way stands in no literal of it
-absent_var : (ls : List Lit) (l m : Lit) → is_among ls l ≡ false → is_among ls (negated l) ≡ false → l.var ≡ m.var → is_among ls m ≡ false
-absent_var ls l m absent undecided e =
-    elim (cases_Bool (is_same l m)) [
-      | inl same ↦ ap (is_among ls) (sym (same_lit l m same)) ∙ absent
-      | inr other ↦ ap (is_among ls) (opposite_lit l m e other) ∙ undecided
-    ]
+use Rattle.pb_unit.proofs.TrailValues.{told_more as values_more, told_less as values_less}
 
 -- a variable without a value
 no_value : (o : Option Bool) (p : Bool) → is_value o p ≡ false → is_value o (not p) ≡ false → is_some o ≡ false
@@ -32,23 +24,8 @@ no_value (Some false) false a b = cc
 
 told_more : (values : List (Option Bool)) (ls : List Lit) (l m : Lit) → l.var < length values → ((k : Lit) → is_among ls k ≡ is_value (get_or values k.var None) k.positive) → is_among ls l ≡ false → is_among ls (negated l) ≡ false → is_among (l ∷ ls) m ≡ is_value (get_or (set values l.var (Some l.positive)) m.var None) m.positive
 told_more values ls l m within told absent undecided =
-    elim (cases_Bool (eqb l.var m.var)) [
-      | inl same ↦
-          let e : l.var ≡ m.var = eqb-true l.var m.var same in
-          let new : get_or (set values l.var (Some l.positive)) m.var None ≡ Some l.positive =
-          ap (λ (v : ℕ). get_or (set values l.var (Some l.positive)) v None) (sym e) ∙ get_or-set_same values l.var (Some l.positive) None within in
-          let before : is_among ls m ≡ false = absent_var ls l m absent undecided e in
-          rw (new, before, same) (by_sign (beq l.positive m.positive))
-      | inr other ↦
-          let ne : m.var ≡ l.var → ⊥ = λ e. eqb-false l.var m.var other (sym e) in
-          let old : get_or (set values l.var (Some l.positive)) m.var None ≡ get_or values m.var None =
-          get_or-set_other values l.var m.var (Some l.positive) None ne in
-          rw (old, other) (told m)
-    ]
-  where
-    by_sign : (b : Bool) → (b || false) ≡ b
-    by_sign true = refl
-    by_sign false = refl
+    values_more (λ v. get_or values v None) (λ v. get_or (set values l.var (Some l.positive)) v None) ls l (get_or-set_same values l.var (Some l.positive) None within)
+    (λ v ne. get_or-set_other values l.var v (Some l.positive) None ne) told absent undecided m
 
 -- one more variable has a value
 count_more : (values : List (Option Bool)) (v : ℕ) (p : Bool) → v < length values → is_some (get_or values v None) ≡ false → count_by is_some (set values v (Some p)) ≡ count_by is_some values + 1
@@ -124,40 +101,10 @@ nth_absent vars values ls capacity k l rest h e = different_at ls k l rest h.dif
 
 -- ---- the newest literal holds no more
 
-absent_negated : (vars : ℕ) (values : List (Option Bool)) (l : Lit) (ls : List Lit) (capacity : ℕ) → IsTrail vars values (l ∷ ls) capacity → is_among ls (negated l) ≡ false
-absent_negated vars values l ls capacity h = by_value (get_or values l.var None) (sym (h.told l) ∙ or_left (is_same l l) (is_among ls l) (is_same-refl l)) (h.told (negated l))
-  where
-    by_value : (o : Option Bool) → is_value o l.positive ≡ true → (is_same l (negated l) || is_among ls (negated l)) ≡ is_value o (not l.positive) → is_among ls (negated l) ≡ false
-    by_value None a b = let no : ⊥ = cc in absurd no
-    by_value (Some v) a b = right (is_same l (negated l)) (is_among ls (negated l)) (b ∙ flip v l.positive a)
-      where
-        flip : (p q : Bool) → beq p q ≡ true → beq p (not q) ≡ false
-        flip true true e = refl
-        flip true false e = let no : ⊥ = cc in absurd no
-        flip false true e = let no : ⊥ = cc in absurd no
-        flip false false e = refl
-
-        right : (p q : Bool) → (p || q) ≡ false → q ≡ false
-        right true q e = let no : ⊥ = cc in absurd no
-        right false q e = e
-
-told_less : (values : List (Option Bool)) (ls : List Lit) (l m : Lit) → l.var < length values → ((k : Lit) → is_among (l ∷ ls) k ≡ is_value (get_or values k.var None) k.positive) → is_among ls l ≡ false → is_among ls (negated l) ≡ false → is_among ls m ≡ is_value (get_or (set values l.var None) m.var None) m.positive
-told_less values ls l m within told absent undecided =
-    elim (cases_Bool (eqb l.var m.var)) [
-      | inl same ↦
-          let e : l.var ≡ m.var = eqb-true l.var m.var same in
-          let new : get_or (set values l.var None) m.var None ≡ None =
-          ap (λ (v : ℕ). get_or (set values l.var None) v None) (sym e) ∙ get_or-set_same values l.var None None within in
-          absent_var ls l m absent undecided e ∙ sym (ap (λ (o : Option Bool). is_value o m.positive) new)
-      | inr other ↦
-          let ne : m.var ≡ l.var → ⊥ = λ e. eqb-false l.var m.var other (sym e) in
-          let old : get_or (set values l.var None) m.var None ≡ get_or values m.var None =
-          get_or-set_other values l.var m.var None None ne in
-          first_other other ∙ (told m ∙ sym (ap (λ (o : Option Bool). is_value o m.positive) old))
-    ]
-  where
-    first_other : eqb l.var m.var ≡ false → is_among ls m ≡ is_among (l ∷ ls) m
-    first_other e = sym (ap (λ (b : Bool). (b && beq l.positive m.positive) || is_among ls m) e)
+told_less : (values : List (Option Bool)) (ls : List Lit) (l m : Lit) → l.var < length values → ((k : Lit) → is_among (l ∷ ls) k ≡ is_value (get_or values k.var None) k.positive) → is_among ls l ≡ false → is_among ls m ≡ is_value (get_or (set values l.var None) m.var None) m.positive
+told_less values ls l m within told absent =
+    values_less (λ v. get_or values v None) (λ v. get_or (set values l.var None) v None) ls l (get_or-set_same values l.var None None within)
+    (λ v ne. get_or-set_other values l.var v None None ne) told absent m
 
 count_less : (values : List (Option Bool)) (v : ℕ) → v < length values → is_some (get_or values v None) ≡ true → count_by is_some (set values v None) + 1 ≡ count_by is_some values
 count_less values v within there =
@@ -176,7 +123,7 @@ popped vars values l ls capacity less h grows =
     let counts = count_less values l.var within there in
     record {
       size = length-set values l.var None ∙ h.size;
-      told = λ m. told_less values ls l m within h.told h.different.0 (absent_negated vars values l ls capacity h);
+      told = λ m. told_less values ls l m within h.told h.different.0;
       count = omega (arith, h.count, counts);
       room = omega (arith, h.room, grows);
       different = h.different.1;
