@@ -44,7 +44,7 @@ none_at i (e ∷ es) h =
 -- ---- one line
 
 -- a constraint that is held was not put out
-not_out : (n m i : ℕ) (es : List Entry) → n ≤ i → i < m → All (λ e. n ≤ e.id → e.id < m → e.out ≡ false) es → is_out es i ≡ false
+pub not_out : (n m i : ℕ) (es : List Entry) → n ≤ i → i < m → All (λ e. n ≤ e.id → e.id < m → e.out ≡ false) es → is_out es i ≡ false
 not_out n m i [] low high h = refl
 not_out n m i (e ∷ es) low high h =
     by_test (eqb e.id i) refl (All-head (λ (e : Entry). n ≤ e.id → e.id < m → e.out ≡ false) e es h) (not_out n m i es low high (All-tail (λ (e : Entry). n ≤ e.id → e.id < m → e.out ≡ false) e es h))

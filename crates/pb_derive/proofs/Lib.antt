@@ -1,3 +1,4 @@
+pub mod Carried
 pub mod ClauseClaims
 pub mod Closed
 pub mod Closing
@@ -6,17 +7,20 @@ pub mod Exact
 pub mod FollowedBy
 pub mod Held
 pub mod InRow
+pub mod Justified
 pub mod KnownRanges
 pub mod Laters
 pub mod Meant
 pub mod Opposites
 pub mod Phases
 pub mod PinLemmas
+pub mod PinnedRups
 pub mod ReasonClauses
 pub mod Reasoned
 pub mod Running
 pub mod Rups
 pub mod SameTerms
+pub mod SameValues
 pub mod Sayable
 pub mod Short
 pub mod Sides
@@ -24,6 +28,7 @@ pub mod Scoped
 pub mod ShortReasons
 pub mod ShortRups
 pub mod Sizes
+pub mod SlimRows
 pub mod SomeFollows
 pub mod Sources
 pub mod Stacked

@@ -321,7 +321,7 @@ meanings_left P db steps m ms first h =
       in_order = AllPairs-tail NamesNot m ms h.in_order;
     }
 
-meant_all : (P : ℕ → Type 0) (db end : Database) (id : ℕ) (ms : List Meaning) → IsLater P db end → IsNumbered db → AreMeant db id ms → AreMeant end id ms
+pub meant_all : (P : ℕ → Type 0) (db end : Database) (id : ℕ) (ms : List Meaning) → IsLater P db end → IsNumbered db → AreMeant db id ms → AreMeant end id ms
 meant_all P db end id [] later numbered h = tt
 meant_all P db end id (m ∷ ms) later numbered h = (meant_later P db end id m later numbered h.0, meant_all P db end (id + 2) ms later numbered h.1)
 

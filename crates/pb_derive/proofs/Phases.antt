@@ -79,6 +79,7 @@ swept_derives db steps clauses limit ids numbered h = record {
   runs = h.ran.runs;
   later = h.ran.later;
   swept = h.swept (λ i. i < db.next) (λ k d w. inl (numbered k d w));
+  unmarked = h.unmarked;
 }
 
 -- ---- how many lines

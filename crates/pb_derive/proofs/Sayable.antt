@@ -54,7 +54,7 @@ reverse_sayable m h =
 nothing_sayable : (id : ℕ) → IsId id → IsSayable (Rup [] (pos 0) (id ∷ []))
 nothing_sayable id h = let small : 0 < 2 ^ 126 = omega arith in (tt, small, (h, tt))
 
-meanings_sayable : (next : ℕ) (ms : List Meaning) → 1 ≤ next → next + 2 * length ms < 2 ^ 63 → All IsSlimMeaning ms → All IsSayable (meaning_steps next ms)
+pub meanings_sayable : (next : ℕ) (ms : List Meaning) → 1 ≤ next → next + 2 * length ms < 2 ^ 63 → All IsSlimMeaning ms → All IsSayable (meaning_steps next ms)
 meanings_sayable next [] low high h = All-nil IsSayable
 meanings_sayable next (m ∷ ms) low high h =
     let own = All-head IsSlimMeaning m ms h in
@@ -68,7 +68,7 @@ meanings_sayable next (m ∷ ms) low high h =
     either true id own = nothing_sayable next id
     either false id own = reverse_sayable m own
 
-claims_sayable : (next : ℕ) (cs : List Claim) → 1 ≤ next → next + length cs < 2 ^ 63 → All (λ c. IsSayable c.step) cs → All IsSayable (claim_steps next cs)
+pub claims_sayable : (next : ℕ) (cs : List Claim) → 1 ≤ next → next + length cs < 2 ^ 63 → All (λ c. IsSayable c.step) cs → All IsSayable (claim_steps next cs)
 claims_sayable next [] low high h = All-nil IsSayable
 claims_sayable next (c ∷ cs) low high h =
     let id : IsId next = (low, (let small : next < 2 ^ 63 = omega (arith, high) in small)) in
@@ -79,7 +79,7 @@ claims_sayable next (c ∷ cs) low high h =
 some_ids : (id : ℕ) (ids : List ℕ) → id ∷ ids ≡ [] → ⊥
 some_ids id ids e = cc
 
-deletions_sayable : (id n : ℕ) → 1 ≤ id → id + 2 * n < 2 ^ 63 → All IsSayable (deletion_steps 2 id n)
+pub deletions_sayable : (id n : ℕ) → 1 ≤ id → id + 2 * n < 2 ^ 63 → All IsSayable (deletion_steps 2 id n)
 deletions_sayable id zero low high = All-nil IsSayable
 deletions_sayable id (suc n) low high =
     let one : IsId id = (low, (let small : id < 2 ^ 63 = omega (arith, high) in small)) in

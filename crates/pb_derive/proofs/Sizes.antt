@@ -135,7 +135,7 @@ module _ (most : ℕ) (room : 44 ≤ most) where
   abbrev Fits : Step → Type 0
   Fits s = step_size s ≤ most
 
-  meanings_each : (next : ℕ) (ms : List Meaning) → All (λ m. 119 + 53 * length m.sum ≤ most) ms → All Fits (meaning_steps next ms)
+  pub meanings_each : (next : ℕ) (ms : List Meaning) → All (λ m. 119 + 53 * length m.sum ≤ most) ms → All Fits (meaning_steps next ms)
   meanings_each next [] h = All-nil Fits
   meanings_each next (m ∷ ms) h =
       let own = All-head (λ (m : Meaning). 119 + 53 * length m.sum ≤ most) m ms h in
@@ -144,7 +144,7 @@ module _ (most : ℕ) (room : 44 ≤ most) where
       (All-cons Fits second (meaning_steps (next + 2) ms) (omega (arith, second-size next m (ltb (weight m.sum) m.least), own))
       (meanings_each (next + 2) ms (All-tail (λ (m : Meaning). 119 + 53 * length m.sum ≤ most) m ms h)))
 
-  claims_each : (next : ℕ) (cs : List Claim) → All (λ c. step_size c.step ≤ most) cs → All Fits (claim_steps next cs)
+  pub claims_each : (next : ℕ) (cs : List Claim) → All (λ c. step_size c.step ≤ most) cs → All Fits (claim_steps next cs)
   claims_each next [] h = All-nil Fits
   claims_each next (c ∷ cs) h =
       let out : step_size (Out next) ≡ 24 = refl in
@@ -152,7 +152,7 @@ module _ (most : ℕ) (room : 44 ≤ most) where
       (All-cons Fits (Out next) (claim_steps (next + 1) cs) (omega (arith, out, room))
       (claims_each (next + 1) cs (All-tail (λ (c : Claim). step_size c.step ≤ most) c cs h)))
 
-  deletions_each : (id n : ℕ) → All Fits (deletion_steps 2 id n)
+  pub deletions_each : (id n : ℕ) → All Fits (deletion_steps 2 id n)
   deletions_each id zero = All-nil Fits
   deletions_each id (suc n) =
       let here : step_size (Del (id ∷ (id + 1) ∷ [])) ≡ 44 = refl in

@@ -64,13 +64,13 @@ roomy c stack h k = ap (λ (b : Bool). cond {A = Option (List Constraint)} b (So
 
 module _ (live : List Entry) where
   -- an operation whose result has room
-  after_step : (op : PolOp) (ops : List PolOp) (stack : List Constraint) (c : Constraint) (rest : List Constraint) → after_op live op stack ≡ Some (c ∷ rest) → weight c.terms < 2 ^ 126 → c.degree < 2 ^ 126 →
+  pub after_step : (op : PolOp) (ops : List PolOp) (stack : List Constraint) (c : Constraint) (rest : List Constraint) → after_op live op stack ≡ Some (c ∷ rest) → weight c.terms < 2 ^ 126 → c.degree < 2 ^ 126 →
       after_ops live (op ∷ ops) stack ≡ after_ops live ops (c ∷ rest)
   after_step op ops stack c rest e h k =
       ap (λ (o : Option (List Constraint)). option_and_then (after_ops live ops) (option_and_then with_room o)) e
       ∙ ap (λ (o : Option (List Constraint)). option_and_then (after_ops live ops) o) (roomy c rest h k)
 
-  push_step : (id : ℕ) (ops : List PolOp) (stack : List Constraint) (c : Constraint) → constraint_at live id ≡ Some c → weight c.terms < 2 ^ 126 → c.degree < 2 ^ 126 →
+  pub push_step : (id : ℕ) (ops : List PolOp) (stack : List Constraint) (c : Constraint) → constraint_at live id ≡ Some c → weight c.terms < 2 ^ 126 → c.degree < 2 ^ 126 →
       after_ops live (Push id ∷ ops) stack ≡ after_ops live ops (c ∷ stack)
   push_step id ops stack c e h k = after_step (Push id) ops stack c stack (ap (λ (o : Option Constraint). option_map (λ (c : Constraint). c ∷ stack) o) e) h k
 

@@ -7,7 +7,7 @@ use Rattle.pb_norm.specs.Reduction.{opposite}
 use Rattle.pb_steps.specs.declared.step.Step.{Step}
 use Rattle.pb_steps.specs.Database.{Database}
 use Rattle.pb_steps.specs.Runs.{Runs}
-use Rattle.pb_derive.specs.Later.{IsUnnamed, IsNumbered, Knows, IsLater, IsSwept}
+use Rattle.pb_derive.specs.Later.{IsUnnamed, IsNumbered, Knows, IsLater, IsUnmarked, IsSwept}
 
 -- a bounded sum as a constraint: the literals' negations are to reach what the weight has above the bound
 abbrev pub as_constraint : BoundedSum → Constraint
@@ -21,10 +21,12 @@ pub record IsReadyFor (m : BoundedSum) (first fresh id : ℕ) (db : Database) : 
   pub stands : Knows db id (as_constraint m)
   pub unnamed : (v : ℕ) → first ≤ v → v < first + fresh → IsUnnamed v db
 
--- Steps that are allowed one after the other and put out the clauses in order. What stood before still does, what is new
--- names only variables below a number, and beside what stood before nothing is left but constraints that were put out.
+-- Steps that are allowed one after the other and put out the clauses in order. What stood before still does and is not put
+-- out, what is new names only variables below a number, and beside what stood before nothing is left but constraints that were
+-- put out.
 pub record Derives (db : Database) (steps : List Step) (clauses : List (List Lit)) (limit : ℕ) : Type 0 where
   pub end : Database
   pub runs : Runs db steps clauses end
   pub later : IsLater (λ v. v < limit) db end
   pub swept : IsSwept (λ id. id < db.next) end
+  pub unmarked : (n m : ℕ) → m ≤ db.next → IsUnmarked n m db → IsUnmarked n m end

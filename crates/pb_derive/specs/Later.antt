@@ -1,5 +1,5 @@
 -- Databases that steps leave: what stood before still stands, and what is new names only some variables (our own).
-use Rattle.std.specs.Prelude.{◌≡◌, ◌≢◌, ◌≤◌, ◌<◌, ◌⊎◌, ℕ, true, Some, All}
+use Rattle.std.specs.Prelude.{◌≡◌, ◌≢◌, ◌≤◌, ◌<◌, ◌⊎◌, ℕ, true, false, Some, All}
 use Rattle.pb_norm.specs.Constraints.{Weighted, Constraint}
 use Rattle.pb_steps.specs.Database.{Database, constraint_at}
 use Rattle.pb_derive.specs.Forms.{IsFormOf}
@@ -28,6 +28,10 @@ pub record IsLater (P : ℕ → Type 0) (db end : Database) : Type 0 where
   pub numbered : IsNumbered end
   pub stands : (id : ℕ) → id < db.next → constraint_at end.live id ≡ constraint_at db.live id
   pub unnamed : (v : ℕ) → ¬ (P v) → IsUnnamed v db → IsUnnamed v end
+
+-- no constraint with an id from a number to another was put out
+abbrev pub IsUnmarked : ℕ → ℕ → Database → Type 0
+IsUnmarked n m db = All (λ e. n ≤ e.id → e.id < m → e.out ≡ false) db.live
 
 -- each constraint that stands has an id that meets S, or was put out
 abbrev pub IsSwept : (ℕ → Type 0) → Database → Type 0

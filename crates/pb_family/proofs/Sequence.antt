@@ -57,6 +57,12 @@ range_more a (suc n) j e = ap (λ (is : List ℕ). a ∷ is) (range_more (a + 1)
 
 -- ---- parts
 
+pub meanings_split : (id : ℕ) (xs ys : List Meaning) → meaning_steps id (xs ++ ys) ≡ meaning_steps id xs ++ meaning_steps (id + 2 * length xs) ys
+meanings_split id [] ys = ap (λ (n : ℕ). meaning_steps n ys) (let e : id ≡ id + 2 * 0 = omega arith in e)
+meanings_split id (x ∷ xs) ys =
+    ap (λ (ss : List Step). redundant (forward_of x) x.var false ∷ cond {A = Step} (ltb (weight x.sum) x.least) (Rup [] (pos 0) (id ∷ [])) (redundant (reverse_of x) x.var true) ∷ ss)
+    (meanings_split (id + 2) xs ys ∙ ap (λ (n : ℕ). meaning_steps (id + 2) xs ++ meaning_steps n ys) (let e : id + 2 + 2 * length xs ≡ id + 2 * length (x ∷ xs) = omega arith in e))
+
 pub reasons_split : (id : ℕ) (xs ys : List Reason) → claim_steps id (map by_reason (xs ++ ys)) ≡ claim_steps id (map by_reason xs) ++ claim_steps (id + length xs) (map by_reason ys)
 reasons_split id [] ys = ap (λ (n : ℕ). claim_steps n (map by_reason ys)) (let e : id ≡ id + 0 = omega arith in e)
 reasons_split id (x ∷ xs) ys =

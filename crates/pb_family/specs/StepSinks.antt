@@ -47,6 +47,10 @@ abbrev pub HandsSteps : {T Rest : Type 0} → List Step → Result T SinkFault �
 HandsSteps steps (Ok x) old new = TakesSteps steps old new
 HandsSteps steps (Err f) old new = StopsInSteps steps old new f
 
+-- the same of steps that are given by the sink's next id
+abbrev pub HandsFrom : {T Rest : Type 0} → (ℕ → List Step) → Result T SinkFault → StepState Rest → StepState Rest → Type 0
+HandsFrom steps result old new = HandsSteps (steps old.next) result old new
+
 -- a sink in memory, which never fails itself
 abbrev pub steps_in_memory : List ℕ → ℕ → StepState (Unit {0})
 steps_in_memory text next = record { sink = in_memory text 0; next = next }

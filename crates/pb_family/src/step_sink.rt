@@ -1,5 +1,5 @@
 //! What takes steps of a derivation.
-ghost use Rattle.std.specs.Prelude.{◌≡◌, ◌<◌, ◌+◌, ◌^◌, ◌∷◌, [], count_by};
+ghost use Rattle.std.specs.Prelude.{◌≡◌, ◌<◌, ◌+◌, ◌^◌, ◌∷◌, [], count_by, OnErr};
 ghost use Rattle.pb_steps.specs.Steps.{takes_id};
 ghost use Rattle.pb_family.specs.StepSinks.{StepState, HandsSteps};
 
@@ -17,7 +17,8 @@ pub trait StepSink {
     /// Takes a step. Where that fails, a first part of its line was taken, and no id.
     fn step(&mut self, step: &Step) -> Result<(), SinkFault>
         requires few { (state self.old).next < 2 ^ 62 }
-        ensures { HandsSteps (step.now ∷ []) result (state self.old) (state self.new) };
+        ensures hands { HandsSteps (step.now ∷ []) result (state self.old) (state self.new) }
+        ensures no_id { OnErr result ((state self.new).next ≡ (state self.old).next) };
 
     /// The id of the next step that takes one.
     fn next_id(&self) -> u64

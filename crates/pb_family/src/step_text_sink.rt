@@ -26,6 +26,7 @@ impl StepSink for StepTextSink {
     fn step(&mut self, step: &Step) -> Result<(), SinkFault>
         requires few { (⟦<StepTextSink as StepSink>⟧.state self.old).next < 2 ^ 62 }
         ensures hands { HandsSteps (step.now ∷ []) result (⟦<StepTextSink as StepSink>⟧.state self.old) (⟦<StepTextSink as StepSink>⟧.state self.new) }
+        ensures no_id { let seen = ⟦<StepTextSink as StepSink>⟧.state in OnErr result ((seen self.new).next ≡ (seen self.old).next) }
         ensures failed { OnErr result (⟦<StepTextSink as StepSink>⟧.state self.new ≡ ⟦<StepTextSink as StepSink>⟧.state self.old) }
     {
         write_step(self.alloc, step, &mut self.text)?;

@@ -1,5 +1,5 @@
 -- Steps that ran, and steps that give clauses. These serve the proofs that derivations run.
-use Rattle.std.specs.Prelude.{◌≡◌, ◌≤◌, ◌<◌, ◌+◌, ℕ, true, false, List, Option, All, Contains}
+use Rattle.std.specs.Prelude.{◌≡◌, ◌≤◌, ◌+◌, ℕ, true, List, Option, All, Contains}
 use Rattle.pb_base.specs.declared.literal.Lit.{Lit}
 use Rattle.pb_norm.specs.Constraints.{Constraint}
 use Rattle.pb_norm.specs.ClauseForm.{clause_form}
@@ -10,7 +10,7 @@ use Rattle.pb_steps.specs.Database.{Database, grown}
 use Rattle.pb_steps.specs.Allowed.{Allowed}
 use Rattle.pb_steps.specs.Runs.{Runs}
 use Rattle.pb_derive.specs.Claims.{Claim}
-use Rattle.pb_derive.specs.Later.{IsLater, IsSwept}
+use Rattle.pb_derive.specs.Later.{IsLater, IsUnmarked, IsSwept}
 
 -- the step gives a constraint over the clause's literals that implies the clause
 pub record StepGives (db : Database) (step : Step) (clause : List Lit) : Type 0 where
@@ -31,10 +31,6 @@ pub record Ran (P : ℕ → Type 0) (db : Database) (steps : List Step) (clauses
   pub runs : Runs db steps clauses end
   pub later : IsLater P db end
   pub next : end.next ≡ db.next + ids
-
--- no constraint with an id from a number to another was put out
-abbrev pub IsUnmarked : ℕ → ℕ → Database → Type 0
-IsUnmarked n m db = All (λ e. n ≤ e.id → e.id < m → e.out ≡ false) db.live
 
 -- and each new constraint was put out or is gone, while none of those that stood before was put out
 pub record RanSwept (P : ℕ → Type 0) (db : Database) (steps : List Step) (clauses : List (List Lit)) (ids : ℕ) : Type 1 where

@@ -1,0 +1,128 @@
+-- Derivations whose clauses follow from meanings in a row and from the sum's own constraint.
+use Rattle.std.proofs.Common.{◌≡◌, ◌≢◌, ◌≤◌, ◌<◌, ◌+◌, ◌*◌, ◌^◌, ℕ, List, [], ◌∷◌, ◌++◌, length, get_or, map, sym, ◌∙◌, subst, arith, length-append}
+use Rattle.std.specs.Prelude.{All}
+use Rattle.std.proofs.lemmas.List.{get_or_append_left, get_or-append-add}
+use Rattle.std.proofs.lemmas.List.Elements.{All-nil, All-cons, All-head, All-tail, All-weaker}
+use Rattle.std.proofs.lemmas.List.Kept.{AllPairs-cons}
+use Rattle.pb_base.proofs.Pairs.{AllPairs-nil, AllPairs-head, AllPairs-tail}
+use Rattle.pb_norm.specs.Constraints.{Weighted, Constraint, AllPositive, weight}
+use Rattle.pb_norm.specs.BoundedSums.{BoundedSum, IsOverDistinct, vars_of}
+use Rattle.pb_steps.specs.Database.{Database}
+use Rattle.pb_derive.specs.Derivations.{as_constraint, IsReadyFor, Derives}
+use Rattle.pb_derive.specs.Forms.{AreApartTerms}
+use Rattle.pb_derive.specs.Later.{Knows, IsLater}
+use Rattle.pb_derive.specs.Meanings.{Meaning, forward_of, reverse_of}
+use Rattle.pb_derive.specs.Phases.{phases}
+use Rattle.pb_derive.specs.Reasons.{Reason, by_reason}
+use Rattle.pb_derive.specs.laws.Follows.{AllKnown, FollowsFrom, IsReason}
+use Rattle.pb_derive.specs.laws.Meant.{AreMeant}
+use Rattle.pb_derive.proofs.InRow.{AreInRow, IsFitMeaning, row_meanings}
+use Rattle.pb_derive.proofs.Laters.{known_below, later_knows}
+use Rattle.pb_derive.proofs.Meant.{meanings_ran, meant_at}
+use Rattle.pb_derive.proofs.Phases.{reasoned_ran, swept_derives}
+use Rattle.pb_derive.proofs.ReasonClauses.{reason_clauses}
+
+-- ---- what is known of the meanings
+
+-- the variable at a place means this
+pub record IsMeaningAt (ms : List Meaning) (k : ℕ) (m : Meaning) : Type 0 where
+  pub within : k < length ms
+  pub here : get_or ms k m ≡ m
+
+-- the two constraints of each variable are known under neighbouring ids, from a number on
+abbrev pub MeaningsKnown : (ℕ → Constraint → Type 0) → ℕ → List Meaning → Type 0
+MeaningsKnown Known id ms = (k : ℕ) (m : Meaning) → IsMeaningAt ms k m → Known (id + 2 * k) (forward_of m) × Known (id + 2 * k + 1) (reverse_of m)
+
+-- those of a first part
+pub known_front : (K : ℕ → Constraint → Type 0) (id : ℕ) (ms ns : List Meaning) → MeaningsKnown K id (ms ++ ns) → MeaningsKnown K id ms
+known_front K id ms ns h k m at =
+    h k m (record { within = omega (arith, at.within, length-append ms ns); here = get_or_append_left ms ns m k at.within ∙ at.here })
+
+-- and of the part behind it
+pub known_back : (K : ℕ → Constraint → Type 0) (id n : ℕ) (ms ns : List Meaning) → length ms ≡ n → MeaningsKnown K id (ms ++ ns) → MeaningsKnown K (id + 2 * n) ns
+known_back K id n ms ns is h k m at =
+    let both = h (length ms + k) m (record { within = omega (arith, at.within, length-append ms ns); here = get_or-append-add ms ns k m ∙ at.here }) in
+    let e : id + 2 * (length ms + k) ≡ id + 2 * n + 2 * k = omega (arith, is) in
+    (subst (λ (i : ℕ). K i (forward_of m)) e both.0, subst (λ (i : ℕ). K (i + 1) (reverse_of m)) e both.1)
+
+-- ---- what reasons need
+
+-- the constraints under its ids give the clause
+abbrev pub IsJustified : (ℕ → Constraint → Type 0) → Reason → Type 0
+IsJustified Known r = (sources : List Constraint) × AllKnown Known r.ids sources × FollowsFrom sources r
+
+-- a reason names some id, and variables that are known
+pub record IsWhole (vars : ℕ) (r : Reason) : Type 0 where
+  pub some : r.ids ≢ []
+  pub vars_known : All (λ v. v ≤ vars) r.weakened
+
+-- a sum of variables below the fresh ones, and a number that it can reach
+pub record IsReached (low : ℕ) (m : Meaning) : Type 0 where
+  pub below : All (λ t. t.lit.var < low) m.sum
+  pub apart : AreApartTerms m.sum
+  pub positive : AllPositive m.sum
+  pub some : 1 ≤ m.least
+  pub reached : m.least ≤ weight m.sum
+  pub light : weight m.sum < 2 ^ 100
+
+reached_fits : (low : ℕ) (m : Meaning) → IsReached low m → IsFitMeaning low m
+reached_fits low m h =
+    let reached = h.reached in
+    let light = h.light in
+    record { below = h.below; apart = h.apart; positive = h.positive; some = h.some; light = omega arith }
+
+-- a sum as meanings have it
+pub record IsSum (low : ℕ) (ts : List Weighted) : Type 0 where
+  pub below : All (λ t. t.lit.var < low) ts
+  pub apart : AreApartTerms ts
+  pub positive : AllPositive ts
+  pub light : weight ts < 2 ^ 100
+
+abbrev Other : Weighted → Weighted → Type 0
+Other s t = s.lit.var ≢ t.lit.var
+
+pub all_unmapped : {X Y : Type 0} (P : Y → Type 0) (f : X → Y) (xs : List X) → All P (map f xs) → All (λ x. P (f x)) xs
+all_unmapped P f [] h = All-nil (λ x. P (f x))
+all_unmapped P f (x ∷ xs) h = All-cons (λ x. P (f x)) x xs (All-head P (f x) (map f xs) h) (all_unmapped P f xs (All-tail P (f x) (map f xs) h))
+
+-- terms over distinct variables
+pub apart_from_vars : (ts : List Weighted) → IsOverDistinct ts → AreApartTerms ts
+apart_from_vars [] h = AllPairs-nil Other
+apart_from_vars (t ∷ ts) h =
+    AllPairs-cons Other t ts (all_unmapped (λ (v : ℕ). t.lit.var ≢ v) (λ (u : Weighted). u.lit.var) ts (AllPairs-head (λ v w. v ≢ w) t.lit.var (vars_of ts) h))
+    (apart_from_vars ts (AllPairs-tail (λ v w. v ≢ w) t.lit.var (vars_of ts) h))
+
+-- ---- the whole
+
+-- the meanings stand under their ids
+meant_known : (db : Database) (id : ℕ) (ms : List Meaning) → AreMeant db id ms → All (λ m. m.least ≤ weight m.sum) ms → MeaningsKnown (Knows db) id ms
+meant_known db id ms meant reached k m at =
+    let within = at.within in
+    let here = meant_at db id ms k m within meant in
+    let both : Knows db (id + 2 * k) (forward_of (get_or ms k m)) × Knows db (id + 2 * k + 1) (reverse_of (get_or ms k m)) = (here.first, here.second (reached k m within)) in
+    subst (λ (n : Meaning). Knows db (id + 2 * k) (forward_of n) × Knows db (id + 2 * k + 1) (reverse_of n)) at.here both
+
+All-both : {X : Type 0} (P Q R : X → Type 0) (xs : List X) → ((x : X) → P x → Q x → R x) → All P xs → All Q xs → All R xs
+All-both P Q R xs both h k = λ i d within. both (get_or xs i d) (h i d within) (k i d within)
+
+-- from a ready database, meanings in a row and clauses that they and the sum's constraint justify
+pub justified_derives : (m : BoundedSum) (first fresh id : ℕ) (db : Database) (ms : List Meaning) (rs : List Reason) → IsReadyFor m first fresh id db → AreInRow first ms → length ms ≡ fresh → All (IsReached first) ms
+    → All (λ r. All (λ l. l.var < first + fresh) r.clause) rs → All (IsWhole db.vars) rs
+    → ((K : ℕ → Constraint → Type 0) → MeaningsKnown K db.next ms → K id (as_constraint m) → All (IsJustified K) rs)
+    → Derives db (phases db.next ms (map by_reason rs)) (reason_clauses rs) (first + fresh)
+justified_derives m first fresh id db ms rs ready row count fit names whole justified =
+    let P : ℕ → Type 0 = λ v. v < first + fresh in
+    let vars = ready.vars in
+    let named_terms : All (λ (x : Meaning). All (λ (t : Weighted). P t.lit.var) x.sum) ms =
+    All-weaker (IsReached first) (λ (x : Meaning). All (λ (t : Weighted). P t.lit.var) x.sum)
+    (λ x h. All-weaker (λ (t : Weighted). t.lit.var < first) (λ (t : Weighted). P t.lit.var) (λ t k. let less : t.lit.var < first + fresh = omega arith in less) x.sum h.below) ms fit in
+    let are = row_meanings P db first ms row (All-weaker (IsReached first) (IsFitMeaning first) (reached_fits first) ms fit) ready.original (omega (arith, vars, count))
+    (λ v low high. let less : v < first + fresh = omega (arith, high, count) in (less, ready.unnamed v low less)) named_terms in
+    let reasoned : (end : Database) → IsLater P db end → AreMeant end db.next ms → All (IsReason (Knows end) end.vars) rs = λ end later meant.
+    let known = meant_known end db.next ms meant (All-weaker (IsReached first) (λ (x : Meaning). x.least ≤ weight x.sum) (λ x h. h.reached) ms fit) in
+    let own = later_knows P db end id (as_constraint m) later (known_below db id (as_constraint m) ready.numbered ready.stands) ready.stands in
+    let still : All (IsWhole end.vars) rs = subst (λ (v : ℕ). All (IsWhole v) rs) (sym later.vars) whole in
+    All-both (IsWhole end.vars) (IsJustified (Knows end)) (IsReason (Knows end) end.vars) rs
+    (λ r w h. record { some = w.some; sources = h.0; found = h.1; follows = h.2; vars_known = w.vars_known }) still (justified (Knows end) known own) in
+    let ran = reasoned_ran P db ms rs (meanings_ran P db ms ready.numbered are) ready.numbered names reasoned in
+    swept_derives db (phases db.next ms (map by_reason rs)) (reason_clauses rs) (first + fresh) (2 * length ms + length (map by_reason rs)) ready.numbered ran.all
