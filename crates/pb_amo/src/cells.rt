@@ -2,10 +2,10 @@
 ghost use Rattle.std.specs.Prelude.{◌≡◌, ◌≢◌, ◌≤◌, ◌<◌, ◌+◌, ◌*◌, ◌^◌, ℕ, Bool, [], ◌∷◌, ◌++◌, map, IfOk};
 ghost use Rattle.std.specs.List.{range_with_len};
 ghost use Rattle.pb_norm.specs.Constraints.{weight, weights};
-ghost use Rattle.pb_family.specs.StepSinks.{HandsSteps};
+ghost use Rattle.pb_family.specs.StepSinks.{HandsFrom, HandsSteps};
 ghost use Rattle.pb_amo.specs.ProductSteps.{row_of, column_of, cells_steps, line_sum};
 ghost use Rattle.pb_amo.specs.Source.{source_literals};
-ghost use Rattle.pb_amo.specs.laws.ProductParts.{HandsFrom, source_size, IsMet, passed, unit_at, line_steps, beside_steps, side_meaning_steps, grid_meaning_steps, cell_steps};
+ghost use Rattle.pb_amo.specs.laws.ProductParts.{source_size, IsMet, passed, unit_at, line_steps, beside_steps, side_meaning_steps, grid_meaning_steps, cell_steps};
 
 use crate::sides::Sides;
 use crate::source::{Source, Stride};

@@ -1,10 +1,10 @@
 //! The steps of a grid, and of the grids inside it.
 ghost use Rattle.std.specs.Prelude.{◌≡◌, ◌≤◌, ◌<◌, ◌+◌, ◌*◌, ◌^◌};
-ghost use Rattle.pb_family.specs.StepSinks.{HandsSteps};
+ghost use Rattle.pb_family.specs.StepSinks.{HandsFrom, HandsSteps};
 ghost use Rattle.pb_amo.specs.Product.{product_fresh};
 ghost use Rattle.pb_amo.specs.ProductSteps.{product_steps};
 ghost use Rattle.pb_amo.specs.Source.{source_literals};
-ghost use Rattle.pb_amo.specs.laws.ProductParts.{HandsFrom, source_size, most_steps, opening_steps, turning_steps, closing_steps};
+ghost use Rattle.pb_amo.specs.laws.ProductParts.{source_size, most_steps, opening_steps, turning_steps, closing_steps};
 
 use crate::cells::{take_cells, take_line_sum, take_lines};
 use crate::claims::derive_pairs;

@@ -5,5 +5,4 @@ pub mod CounterModels
 pub mod CounterPlaces
 pub mod CounterPropagation
 pub mod CounterShort
-pub mod HandedReasons
 pub mod SeenLiterals

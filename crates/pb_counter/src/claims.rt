@@ -3,7 +3,7 @@ ghost use Rattle.std.specs.Prelude.{◌≡◌, ◌≤◌, ◌<◌, ◌+◌, ◌*
 ghost use Rattle.pb_norm.specs.Constraints.{weight, weights};
 ghost use Rattle.pb_derive.specs.Meanings.{meaning_steps};
 ghost use Rattle.pb_family.specs.StepSinks.{HandsSteps};
-ghost use Rattle.pb_counter.specs.laws.HandedReasons.{HandsReasons};
+ghost use Rattle.pb_family.specs.laws.HandedReasons.{HandsReasons};
 ghost use Rattle.pb_counter.specs.CounterSteps.{reached_id, missed_id, counted_at, start_reason, below_reason, one_reason, keep_reason, more_reason, pair_reasons, stop_reason};
 
 use pb_base::Term;

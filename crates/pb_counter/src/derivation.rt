@@ -4,7 +4,7 @@ ghost use Rattle.std.specs.List.{range_with_len, flat_map};
 ghost use Rattle.pb_norm.specs.Constraints.{weight, weights};
 ghost use Rattle.pb_derive.specs.Meanings.{meaning_steps};
 ghost use Rattle.pb_family.specs.StepSinks.{HandsSteps};
-ghost use Rattle.pb_counter.specs.laws.HandedReasons.{HandsReasons};
+ghost use Rattle.pb_family.specs.laws.HandedReasons.{HandsReasons};
 ghost use Rattle.pb_counter.specs.CounterSteps.{counts, start_reasons, below_reason, row_start_reasons, pair_reasons, row_rest_reasons, row_reasons, later_reasons, counter_reasons, counter_steps};
 
 use crate::claims::{

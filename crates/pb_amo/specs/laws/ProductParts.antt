@@ -1,5 +1,5 @@
 -- A grid's derivation in parts, as code hands them over around those of the rows and the columns.
-use Rattle.std.specs.Prelude.{ℕ, ◌+◌, ◌*◌, Bool, List, [], ◌∷◌, ◌++◌, Result, length, map}
+use Rattle.std.specs.Prelude.{ℕ, ◌+◌, ◌*◌, Bool, List, [], ◌∷◌, ◌++◌, length, map}
 use Rattle.pb_base.specs.declared.literal.Lit.{Lit}
 use Rattle.pb_norm.specs.BoundedSums.{vars_of}
 use Rattle.pb_norm.specs.Constraints.{Weighted}
@@ -11,18 +11,12 @@ use Rattle.pb_derive.specs.Ones.{unit_of, ones}
 use Rattle.pb_derive.specs.Reasons.{by_reason}
 use Rattle.pb_family.specs.Derivations.{meant, claimed}
 use Rattle.pb_family.specs.Fresh.{literal_at}
-use Rattle.pb_family.specs.StepSinks.{HandsSteps, StepState}
-use Rattle.pb_family.specs.declared.sink.SinkFault.{SinkFault}
 use Rattle.pb_amo.specs.Passing.{passing, Visits}
 use Rattle.pb_amo.specs.Product.{product_fresh, product_count}
 use Rattle.pb_amo.specs.ProductSteps.{line_meanings, grid_meanings, cell_reasons, cells_steps, line_sum}
 use Rattle.pb_amo.specs.Source.{source_literals}
 use Rattle.pb_amo.specs.declared.source.Source.{Source}
 use Rattle.pb_amo.specs.declared.source.Stride.{Stride}
-
--- steps that are written from the sink's next id on
-abbrev pub HandsFrom : {T Rest : Type 0} → (ℕ → List Step) → Result T SinkFault → StepState Rest → StepState Rest → Type 0
-HandsFrom steps result old new = HandsSteps (steps old.next) result old new
 
 -- ---- the literals at some places
 
