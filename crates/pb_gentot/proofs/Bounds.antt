@@ -9,11 +9,19 @@ use Rattle.pb_tree.specs.Scheme.{values, fresh_of, clause_count_of}
 use Rattle.pb_tree.proofs.Splitting.{halves}
 use Rattle.pb_tree.proofs.Halves.{Halves}
 use Rattle.pb_tree.proofs.Numbers.{bounds_step, sums_fit}
+use Rattle.pb_tree.proofs.TreeCounts.{reasons_counted}
 use Rattle.pb_gentot.specs.Generalized.{generalized}
+use Rattle.pb_gentot.specs.GeneralizedSteps.{generalized_pairs}
+use Rattle.pb_gentot.specs.laws.ByPairs.{generalized_by_pairs}
+use Rattle.pb_gentot.specs.laws.GeneralizedLaws.{Always, generalized_lawful}
+use Rattle.pb_gentot.specs.laws.GeneralizedShort.{generalized_sparing}
+use Rattle.pb_gentot.specs.laws.Sources.{AreLeavesPositive, part_reasons}
 
 pub record Bounds (bound : ℕ) (t : Tree) (n : ℕ) : Type 0 where
   pub count : length (values (generalized bound) t) ≤ fresh_of (generalized bound) t + n
   pub clauses : clause_count_of (generalized bound) t + 1 ≤ (fresh_of (generalized bound) t + n) * (fresh_of (generalized bound) t + n)
+  pub some : 1 ≤ length (values (generalized bound) t)
+  pub leaves : n ≤ fresh_of (generalized bound) t + 1
 
 grid : (a b m n : ℕ) → a ≤ m → b ≤ n → a * b + a + b + 1 ≤ (m + 1) * (n + 1)
 grid a b m n h k = let e : a * b + a + b + 1 ≡ (a + 1) * (b + 1) = omega arith in omega (arith, mul-le (a + 1) (b + 1) (m + 1) (n + 1) (omega arith) (omega arith))
@@ -22,7 +30,7 @@ bounds_within : (bound more : ℕ) (ts : List Weighted) → length ts ≤ more �
 unfolding split_within
 bounds_within bound zero ts fits some = absurd (omega arith)
 bounds_within bound (suc more) [] fits some = absurd (omega arith)
-bounds_within bound (suc more) (t ∷ []) fits some = record { count = omega arith; clauses = omega arith }
+bounds_within bound (suc more) (t ∷ []) fits some = record { count = omega arith; clauses = omega arith; some = omega arith; leaves = omega arith }
 bounds_within bound (suc more) (t ∷ u ∷ us) fits some =
     let ts = t ∷ u ∷ us in
     let n = length ts / 2 in
@@ -44,9 +52,13 @@ bounds_within bound (suc more) (t ∷ u ∷ us) fits some =
     let whole = fresh_of s (node l r) + length ts in
     let more_than : i + j ≤ whole = omega arith in
     let square = mul-le (i + j) (i + j) whole whole more_than more_than in
+    let grows = (generalized_sparing bound).left_grows l r in
+    let more : 1 ≤ length (values s (node l r)) = omega (arith, grows, left.some) in
     record {
       count = omega arith;
       clauses = omega (arith, step.1, square);
+      some = more;
+      leaves = omega (arith, more, left.leaves, right.leaves);
     }
 
 pub bounds : (bound : ℕ) (ts : List Term) → 1 ≤ length ts → Bounds bound (tree_of (weights ts)) (length ts)
@@ -84,3 +96,15 @@ sizes_of bound budget ts fronts backs halves few modest fits =
 pub some_terms : (bound : ℕ) (ts : List Weighted) → bound < weight ts → 1 ≤ length ts
 some_terms bound [] passes = absurd (omega arith)
 some_terms bound (t ∷ ts) passes = omega arith
+
+-- where the fresh variables are within a budget, the clauses are fewer than 2 ^ 60
+pub clauses_modest : (bound : ℕ) (ts : List Term) → 1 ≤ length ts → fresh_of (generalized bound) (tree_of (weights ts)) ≤ 10000000 → clause_count_of (generalized bound) (tree_of (weights ts)) + 1 < 2 ^ 60
+clauses_modest bound ts some fits =
+    let b = bounds bound ts some in
+    let m = fresh_of (generalized bound) (tree_of (weights ts)) + length ts in
+    let small : m ≤ 20000001 = omega (arith, b.leaves, fits) in
+    omega (arith, b.clauses, mul-le m m 20000001 20000001 small small)
+
+-- one reason for each clause
+pub reasons_are : (bound : ℕ) (ts : List Term) (id : ℕ) → AreLeavesPositive (tree_of (weights ts)) → length (part_reasons bound ts id) ≡ clause_count_of (generalized bound) (tree_of (weights ts))
+reasons_are bound ts id positive = reasons_counted (generalized bound) Always (generalized_lawful bound) generalized_pairs (generalized_by_pairs bound) (tree_of (weights ts)) 0 id positive

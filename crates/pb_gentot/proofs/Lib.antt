@@ -1,5 +1,6 @@
 pub mod Bounds
 pub mod Emitting
+pub mod Handed
 pub mod Joining
 pub mod Marking
 pub mod Over

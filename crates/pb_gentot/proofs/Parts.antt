@@ -1,5 +1,5 @@
 -- A part of a generalized totalizer, over its two halves.
-use Rattle.std.proofs.Common.{◌≡◌, ◌≤◌, ◌+◌, ◌*◌, ℕ, List, length, refl, ap, ◌∙◌, sym, subst, arith}
+use Rattle.std.proofs.Common.{◌≡◌, ◌≤◌, ◌<◌, ◌+◌, ◌*◌, ◌^◌, ℕ, List, length, refl, ap, ◌∙◌, sym, subst, arith}
 use Rattle.std.specs.Prelude.{All, Contains, Option, Some, None, IsSome, IfNone}
 use Rattle.pb_base.specs.declared.literal.Term.{Term}
 use Rattle.pb_norm.specs.Constraints.{weights}
@@ -11,6 +11,10 @@ use Rattle.pb_gentot.specs.laws.GeneralizedLaws.{values_within}
 
 pub all_within : (bound : ℕ) (t : Tree) (us : List ℕ) → us ≡ values (generalized bound) t → All (λ u. u ≤ bound + 1) us
 all_within bound t us is = all_from_each (λ u. u ≤ bound + 1) us (λ u h. values_within bound t u (subst (λ (xs : List ℕ). Contains xs u) is h))
+
+pub all_below : (bound : ℕ) (t : Tree) (us : List ℕ) → bound < 2 ^ 100 → us ≡ values (generalized bound) t → All (λ u. u < 2 ^ 101) us
+all_below bound t us small is =
+    all_from_each (λ u. u < 2 ^ 101) us (λ u h. let within = values_within bound t u (subst (λ (xs : List ℕ). Contains xs u) is h) in omega arith)
 
 pub values_are_over : (bound : ℕ) (l r : Tree) (us vs : List ℕ) → us ≡ values (generalized bound) l → vs ≡ values (generalized bound) r
     → ascending (bound + 1) (sums (bound + 1) us vs) ≡ values (generalized bound) (node l r)

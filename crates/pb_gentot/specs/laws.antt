@@ -9,3 +9,4 @@ pub mod Nodes
 pub mod Outputs
 pub mod Parts
 pub mod Rising
+pub mod Sources

@@ -1,7 +1,11 @@
 //! Generalized totalizers (Joshi, Martins and Manquinho 2015): a bounded sum with any coefficients.
 #![tactic(auto)]
 
+mod claims;
+mod derivation;
 mod emission;
+mod handing;
+mod meanings;
 mod measure;
 mod node;
 mod outputs;

@@ -98,3 +98,20 @@ pub fn single(alloc: Global, value: u128) -> Result<Vec<u128>, AllocError>
     values.push(value)?;
     Ok(values)
 }
+
+/// The values of a node over two parts, where they are no more than the variables that there can be.
+pub fn values_over(
+    alloc: Global,
+    left: &[u128],
+    right: &[u128],
+    cap: u128,
+) -> Result<Vec<u128>, AllocError>
+    requires left_small { All (λ v. v ≤ cap) left.now }
+    requires right_small { All (λ v. v ≤ cap) right.now }
+    requires few { cap < 2 ^ 101 }
+    requires fits { length (ascending cap (sums cap left.now right.now)) ≤ 2 ^ 31 }
+    ensures { IfOk result (λ made. made.items ≡ ascending cap (sums cap left.now right.now)) }
+{
+    let found = joined(alloc, left, right, cap, 1 << 31)?;
+    Ok(found.unwrap())
+}

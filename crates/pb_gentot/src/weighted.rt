@@ -1,13 +1,14 @@
 //! A bounded sum with any coefficients, by a generalized totalizer.
 ghost use Rattle.std.specs.Prelude.{◌≡◌, ◌<◌, ◌^◌};
-ghost use Rattle.pb_norm.specs.Constraints.{weights};
+ghost use Rattle.pb_norm.specs.Constraints.{weight, weights};
 ghost use Rattle.pb_norm.specs.BoundedSums.{IsProper, sum_within};
 ghost use Rattle.pb_gentot.specs.Generalized.{generalized_clauses, generalized_fresh, generalized_size};
 
+use crate::derivation::derive_weighted;
 use crate::measure::measure;
 use crate::tree::emit_whole;
 use pb_base::{NoMemory, Term};
-use pb_family::{Built, ClauseSink, Family, SinkFault, Strong};
+use pb_family::{Built, ClauseSink, Derive, Family, SinkFault, StepSink, Strong};
 use pb_norm::AtMost;
 use std::alloc::Global;
 
@@ -23,6 +24,8 @@ pub struct Weighted {
     ghost small: { bound < 2 ^ 100 },
     ghost fresh_is: { fresh ≡ generalized_fresh (sum_within terms.items bound) },
     ghost clauses_is: { clauses ≡ generalized_size (sum_within terms.items bound) },
+    ghost light: { weight (weights terms.items) < 2 ^ 100 },
+    ghost modest: { clauses < 2 ^ 60 },
 }
 
 impl Weighted {
@@ -104,4 +107,32 @@ impl Strong for Weighted {
     ghost use Rattle.pb_gentot.specs.laws.GeneralizedLaws.{generalized_propagates};
 
     ghost propagates = { λ f first below. generalized_propagates (sum_within f.terms.items f.bound) f.proper first };
+}
+
+impl Derive for Weighted {
+    ghost use Rattle.pb_norm.specs.BoundedSums.{sum_within};
+    ghost use Rattle.pb_gentot.specs.Generalized.{generalized_size};
+    ghost use Rattle.pb_gentot.specs.GeneralizedSteps.{generalized_steps};
+    ghost use Rattle.pb_gentot.specs.laws.GeneralizedDerives.{generalized_derives, generalized_lines};
+    ghost use Rattle.pb_gentot.specs.laws.GeneralizedShort.{generalized_sayable, generalized_short, size_fits};
+
+    ghost step_list = { λ f. generalized_steps (sum_within f.terms.items f.bound) };
+
+    fn derive<T: StepSink>(
+        &self,
+        alloc: Global,
+        first: u32,
+        id: u64,
+        sink: &mut T,
+    ) -> Result<(), SinkFault> {
+        derive_weighted(alloc, self.terms.as_slice(), self.bound, first, id, sink)
+    }
+
+    ghost derives = { λ f first id db below ready. generalized_derives (sum_within f.terms.items f.bound) f.proper f.light first id db below ready };
+
+    ghost few_steps = { λ f first id next. generalized_lines (sum_within f.terms.items f.bound) f.proper first id next };
+
+    ghost sayable = { λ f first id next original start. generalized_sayable (sum_within f.terms.items f.bound) f.proper f.light (size_fits f.clauses (generalized_size (sum_within f.terms.items f.bound)) f.clauses_is f.modest) first id next original start };
+
+    ghost short = { λ f first id next original start. generalized_short (sum_within f.terms.items f.bound) f.proper f.light (size_fits f.clauses (generalized_size (sum_within f.terms.items f.bound)) f.clauses_is f.modest) first id next original start };
 }

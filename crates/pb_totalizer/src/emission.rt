@@ -38,7 +38,7 @@ fn hand_over<S: ClauseSink>(
 }
 
 /// The least number of the right that one of the left goes with.
-fn least_partner(i: u64) -> u64
+pub fn least_partner(i: u64) -> u64
     ensures { result ≡ 1 - i }
 {
     if i == 0 { 1 } else { 0 }

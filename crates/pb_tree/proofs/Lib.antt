@@ -12,7 +12,9 @@ pub mod Pushing
 pub mod Splitting
 pub mod Sums
 pub mod Threes
+pub mod TreeCounts
 pub mod TreeDerives
+pub mod TreeHalves
 pub mod TreeHanded
 pub mod TreeMeanings
 pub mod TreeParts

@@ -15,7 +15,7 @@ use Rattle.pb_tree.specs.Pairs.{unless_none}
 use Rattle.pb_derive.specs.Meanings.{reverse_of}
 use Rattle.pb_derive.specs.Reasons.{Reason}
 use Rattle.pb_derive.specs.laws.Follows.{AllKnown}
-use Rattle.pb_tree.proofs.TreeMeanings.{IsJustified, MeaningsKnown}
+use Rattle.pb_derive.proofs.Justified.{IsJustified, MeaningsKnown}
 use Rattle.pb_tree.specs.Pairs.{Pair, pair_clause}
 use Rattle.pb_tree.specs.TreeSteps.{leaves, meanings, output_ids, part_ids, part_weakened, pair_reason, reasons, root_reason, tree_reasons}
 use Rattle.pb_tree.proofs.TreeMeanings.{meaning, output_known, known_left, known_right}

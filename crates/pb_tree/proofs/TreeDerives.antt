@@ -1,23 +1,18 @@
 -- The derivation of a sum along its tree runs, and puts out the tree's clauses.
-use Rattle.std.proofs.Common.{◌≡◌, ◌≢◌, ◌≤◌, ◌<◌, ◌+◌, ◌-◌, ◌*◌, ◌^◌, ℕ, zero, suc, List, [], ◌∷◌, ◌++◌, length, min, map, ap, sym, ◌∙◌, subst, arith, inl, inr, get_or}
+use Rattle.std.proofs.Common.{◌≡◌, ◌≢◌, ◌≤◌, ◌<◌, ◌+◌, ◌-◌, ◌*◌, ◌^◌, ℕ, zero, suc, List, [], ◌∷◌, ◌++◌, length, min, map, ap, sym, ◌∙◌, subst, arith, inl, inr}
 use Rattle.std.specs.Prelude.{Contains, All}
 use Rattle.std.proofs.lemmas.List.Elements.{All-nil, All-cons, All-append, All-head, All-tail, All-weaker, All-contains}
 use Rattle.pb_base.specs.declared.literal.Lit.{Lit}
 use Rattle.pb_base.proofs.Members.{All-append_both}
-use Rattle.pb_norm.specs.Constraints.{Weighted, weight}
+use Rattle.pb_norm.specs.Constraints.{Weighted, Constraint, weight}
 use Rattle.pb_norm.specs.BoundedSums.{BoundedSum, vars_of}
 use Rattle.pb_norm.specs.Reduction.{opposite}
 use Rattle.pb_steps.specs.Database.{Database}
 use Rattle.pb_derive.specs.Derivations.{as_constraint, IsReadyFor, Derives}
-use Rattle.pb_derive.specs.Later.{Knows, IsLater}
-use Rattle.pb_derive.specs.Meanings.{Meaning, forward_of, reverse_of}
+use Rattle.pb_derive.specs.Meanings.{Meaning}
 use Rattle.pb_derive.specs.Reasons.{Reason, by_reason}
-use Rattle.pb_derive.specs.laws.Follows.{IsReason}
-use Rattle.pb_derive.specs.laws.Meant.{AreMeant}
-use Rattle.pb_derive.proofs.InRow.{IsFitMeaning, row_meanings}
-use Rattle.pb_derive.proofs.Laters.{known_below, later_knows}
-use Rattle.pb_derive.proofs.Meant.{meanings_ran, meant_at}
-use Rattle.pb_derive.proofs.Phases.{phases_few, reasoned_ran, swept_derives}
+use Rattle.pb_derive.proofs.Justified.{MeaningsKnown, IsJustified, IsWhole, IsReached, IsSum, all_unmapped, apart_from_vars, justified_derives}
+use Rattle.pb_derive.proofs.Phases.{phases_few}
 use Rattle.pb_derive.proofs.ReasonClauses.{reason_clauses, clauses-reasons}
 use Rattle.pb_family.specs.Families.{VarsBelow, IsNamed}
 use Rattle.pb_tree.specs.Pairs.{Pair}
@@ -30,16 +25,11 @@ use Rattle.pb_tree.proofs.Laws.{Suits, cap_value, tree_names}
 use Rattle.pb_tree.proofs.PairReasons.{IsByPairs, IsPositive, tree_reasons_clauses, tree_justified}
 use Rattle.pb_tree.proofs.Splitting.{leaf_listed as leaf_of_terms}
 use Rattle.pb_tree.proofs.Sums.{IsLawful}
-use Rattle.pb_tree.proofs.TreeMeanings.{IsJustified, MeaningsKnown, length-meanings}
+use Rattle.pb_tree.proofs.TreeMeanings.{length-meanings}
 use Rattle.pb_tree.proofs.TreeParts.{IsOver}
-use Rattle.pb_tree.proofs.TreeRows.{IsNodeFit, IsSum, node_fits, leaves_of, apart_tree, apart_from_vars, tree_row, tree_fit, tree_terms}
+use Rattle.pb_tree.proofs.TreeRows.{leaves_of, apart_tree, tree_row, tree_fit}
 
 -- ---- the reasons by themselves
-
--- a reason names some id, and variables that are known
-record IsWhole (vars : ℕ) (r : Reason) : Type 0 where
-  pub some : r.ids ≢ []
-  pub vars_known : All (λ v. v ≤ vars) r.weakened
 
 not_empty : (is js : List ℕ) (i : ℕ) → is ++ (js ++ i ∷ []) ≢ []
 not_empty [] [] i e = absurd (omega (arith, ap length e))
@@ -88,22 +78,7 @@ tree_whole vars s pairs t first id own h =
     All-append (IsWhole vars) (reasons s pairs t first id) (root_reason s t first id own ∷ []) (reasons_whole vars s pairs t first id h)
     (All-cons (IsWhole vars) (root_reason s t first id own) [] (record { some = not_empty_two (output_ids s t id s.cap) own; vars_known = All-nil (UpTo vars) }) (All-nil (IsWhole vars)))
 
-all_unmapped : {X Y : Type 0} (P : Y → Type 0) (f : X → Y) (xs : List X) → All P (map f xs) → All (λ x. P (f x)) xs
-all_unmapped P f [] h = All-nil (λ x. P (f x))
-all_unmapped P f (x ∷ xs) h = All-cons (λ x. P (f x)) x xs (All-head P (f x) (map f xs) h) (all_unmapped P f xs (All-tail P (f x) (map f xs) h))
-
 -- ---- the whole
-
--- the meanings stand under their ids
-meant_known : (db : Database) (id : ℕ) (ms : List Meaning) → AreMeant db id ms → All (λ m. m.least ≤ weight m.sum) ms → MeaningsKnown (Knows db) id ms
-meant_known db id ms meant reached k m at =
-    let within = at.within in
-    let here = meant_at db id ms k m within meant in
-    let both : Knows db (id + 2 * k) (forward_of (get_or ms k m)) × Knows db (id + 2 * k + 1) (reverse_of (get_or ms k m)) = (here.first, here.second (reached k m within)) in
-    subst (λ (n : Meaning). Knows db (id + 2 * k) (forward_of n) × Knows db (id + 2 * k + 1) (reverse_of n)) at.here both
-
-abbrev All-both : {X : Type 0} (P Q R : X → Type 0) (xs : List X) → ((x : X) → P x → Q x → R x) → All P xs → All Q xs → All R xs
-All-both P Q R xs both h k = λ i d within. both (get_or xs i d) (h i d within) (k i d within)
 
 module _ (s : Scheme) (W : ℕ → Type 0) (laws : IsLawful s W) (pairs : List ℕ → List ℕ → List Pair) (by : IsByPairs s pairs) (m : BoundedSum) (suits : Suits s m) where
   abbrev ts : List Weighted
@@ -142,7 +117,7 @@ module _ (s : Scheme) (W : ℕ → Type 0) (laws : IsLawful s W) (pairs : List �
   sum_of_leaves first below light =
       subst (IsSum first) (sym (leaves_of ts)) (record { below = below; apart = apart_from_vars ts suits.distinct; positive = all_from_each (λ (u : Weighted). 0 < u.coef) ts suits.positive; light = light })
 
-  pub nodes_fit : (first : ℕ) → VarsBelow first m.terms → weight m.terms < 2 ^ 100 → All (IsNodeFit first) (meanings s t first)
+  pub nodes_fit : (first : ℕ) → VarsBelow first m.terms → weight m.terms < 2 ^ 100 → All (IsReached first) (meanings s t first)
   nodes_fit first below light = tree_fit s pairs by first t first (sum_of_leaves first below light) leaf_weights leaves_positive
 
   module _ (light : weight m.terms < 2 ^ 100) (first id : ℕ) (db : Database) (below : VarsBelow first m.terms) (ready : IsReadyFor m first (fresh_of s (tree_of m.terms)) id db) where
@@ -170,9 +145,6 @@ module _ (s : Scheme) (W : ℕ → Type 0) (laws : IsLawful s W) (pairs : List �
         let vars = ready.vars in
         All-weaker (λ (w : Weighted). w.lit.var < first) (λ (w : Weighted). w.lit.var ≤ db.vars) (λ w k. omega arith) (leaves t) low_leaves
 
-    named_terms : All (λ (m : Meaning). All (λ t. P t.lit.var) m.sum) ms
-    named_terms = tree_terms (λ (w : Weighted). P w.lit.var) s t first (All-weaker (λ (w : Weighted). w.lit.var < first) (λ (w : Weighted). P w.lit.var) (λ w k. omega arith) (leaves t) low_leaves)
-
     name_low : (l : Lit) → IsNamed m.terms first fresh l → P l.var
     name_low l h =
         elim h as (λ _. P l.var) [
@@ -189,29 +161,19 @@ module _ (s : Scheme) (W : ℕ → Type 0) (laws : IsLawful s W) (pairs : List �
         (subst (λ (cs : List (List Lit)). All (All (λ (l : Lit). P l.var)) cs) (sym (tree_reasons_clauses s pairs by t first db.next id leaves_positive))
         (All-weaker (All (IsNamed m.terms first fresh)) (All (λ (l : Lit). P l.var)) (λ c h. All-weaker (IsNamed m.terms first fresh) (λ (l : Lit). P l.var) name_low c h) (tree_clauses s t first) (tree_names s W laws m suits first)))
 
-    own_known : (end : Database) → IsLater P db end → Knows end id (record { terms = map opposite (leaves t); degree = weight (leaves t) - m.bound })
-    own_known end later =
+    own_known : (K : ℕ → Constraint → Type 0) → K id (as_constraint m) → K id (record { terms = map opposite (leaves t); degree = weight (leaves t) - m.bound })
+    own_known K held =
         let is = leaves_of ts in
         let same : as_constraint m ≡ record { terms = map opposite (leaves t); degree = weight (leaves t) - m.bound } = λ i. record { terms = map opposite (sym is i); degree = weight (sym is i) - m.bound } in
-        subst (Knows end id) same (later_knows P db end id (as_constraint m) later (known_below db id (as_constraint m) ready.numbered ready.stands) ready.stands)
+        subst (K id) same held
 
-    reasoned : (end : Database) → IsLater P db end → AreMeant end db.next ms → All (IsReason (Knows end) end.vars) rs
-    reasoned end later meant =
+    justified : (K : ℕ → Constraint → Type 0) → MeaningsKnown K db.next ms → K id (as_constraint m) → All (IsJustified K) rs
+    justified K known held =
         let total : weight (leaves t) ≡ weight ts = ap weight (leaves_of ts) in
         let passes = suits.passes in
-        let known = meant_known end db.next ms meant (All-weaker (IsNodeFit first) (λ (x : Meaning). x.least ≤ weight x.sum) (λ x h. h.reached) ms (nodes_fit first below light)) in
-        let justified = tree_justified (Knows end) s W laws pairs by first t first db.next id m.bound (omega arith) over (omega arith) known suits.cut (omega arith) (cap_value s W laws m suits) (own_known end later) in
-        let whole : All (IsWhole end.vars) rs = subst (λ (v : ℕ). All (IsWhole v) rs) (sym later.vars) (tree_whole db.vars s pairs t first db.next id known_leaves) in
-        All-both (IsWhole end.vars) (IsJustified (Knows end)) (IsReason (Knows end) end.vars) rs
-        (λ r w h. record { some = w.some; sources = h.0; found = h.1; follows = h.2; vars_known = w.vars_known }) whole justified
+        tree_justified K s W laws pairs by first t first db.next id m.bound (omega arith) over (omega arith) known suits.cut (omega arith) (cap_value s W laws m suits) (own_known K held)
 
     pub tree_derives : Derives db (tree_steps s pairs (tree_of m.terms) first id db.next) (tree_clauses s (tree_of m.terms) first) (first + fresh_of s (tree_of m.terms))
     tree_derives =
-        let count = length-meanings s t first in
-        let vars = ready.vars in
-        let are = row_meanings P db first ms (tree_row s t first)
-        (All-weaker (IsNodeFit first) (IsFitMeaning first) (λ x h. node_fits first x h) ms (nodes_fit first below light)) ready.original (omega arith)
-        (λ v low high. (omega arith, ready.unnamed v low (omega arith))) named_terms in
-        let ran = reasoned_ran P db ms rs (meanings_ran P db ms ready.numbered are) ready.numbered names reasoned in
         subst (λ (cs : List (List Lit)). Derives db (tree_steps s pairs t first id db.next) cs (first + fresh)) (clauses_are first db.next id)
-        (swept_derives db (tree_steps s pairs t first id db.next) (reason_clauses rs) (first + fresh) (2 * length ms + length (map by_reason rs)) ready.numbered ran.all)
+        (justified_derives m first fresh id db ms rs ready (tree_row s t first) (length-meanings s t first) (nodes_fit first below light) names (tree_whole db.vars s pairs t first db.next id known_leaves) justified)

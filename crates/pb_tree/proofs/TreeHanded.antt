@@ -1,35 +1,28 @@
 -- Meanings and clauses along a tree that are handed over part by part.
-use Rattle.std.proofs.Common.{◌≡◌, ◌≤◌, ◌<◌, ◌+◌, ◌-◌, ◌*◌, ◌++◌, ℕ, zero, suc, true, false, cond, ltb, pos, List, [], ◌∷◌, length, map, refl, sym, ap, ◌∙◌, arith, append-nil, length-append}
+use Rattle.std.proofs.Common.{◌≡◌, ◌≤◌, ◌<◌, ◌+◌, ◌-◌, ◌*◌, ◌++◌, ℕ, zero, suc, List, [], ◌∷◌, length, map, refl, sym, ap, ◌∙◌, arith, append-nil, length-append}
 use Rattle.std.specs.Prelude.{Result, IsErrAnd}
 use Rattle.std.specs.List.{flat_map, range_with_len}
 use Rattle.std.proofs.lemmas.List.{length-map}
 use Rattle.std.proofs.lemmas.List.Concat.{flat_map-cons}
-use Rattle.pb_norm.specs.Constraints.{weight}
 use Rattle.pb_steps.specs.declared.step.Step.{Step}
-use Rattle.pb_steps.specs.declared.step.Step.TheVariants.{Rup, Out}
+use Rattle.pb_steps.specs.declared.step.Step.TheVariants.{Out}
 use Rattle.pb_derive.specs.Claims.{claim_steps}
-use Rattle.pb_derive.specs.Meanings.{Meaning, meaning_steps, forward_of, reverse_of, redundant}
+use Rattle.pb_derive.specs.Meanings.{Meaning, meaning_steps}
 use Rattle.pb_derive.specs.Reasons.{Reason, by_reason}
 use Rattle.pb_family.specs.StepSinks.{StepState, TakesSteps, StopsInSteps, HandsSteps}
 use Rattle.pb_family.specs.declared.sink.SinkFault.{SinkFault}
 use Rattle.pb_family.proofs.Deriving.{Deriving, deriving_from, deriving_as, deriving_step, deriving_ends, steps_fault, steps_last}
 use Rattle.pb_family.proofs.SameSteps.{HaveSameSteps, same_none, same_append}
-use Rattle.pb_family.proofs.Sequence.{meanings_ids, reasons_ids, reasons_split}
+use Rattle.pb_family.proofs.Sequence.{meanings_ids, meanings_split, reasons_ids, reasons_split}
 use Rattle.pb_tree.specs.Pairs.{Pair}
 use Rattle.pb_tree.specs.Scheme.{Scheme, values, fresh_of}
 use Rattle.pb_tree.specs.Tree.{Tree, empty, leaf, node}
-use Rattle.pb_tree.specs.TreeSteps.{pair_reason, reasons}
+use Rattle.pb_tree.specs.TreeSteps.{pair_reason, reasons, root_reason, tree_reasons}
 
 pub steps_stopped : {R T : Type 0} (r : Result T SinkFault) (f : SinkFault) (ss : List Step) (a b : StepState R) → IsErrAnd r (λ g. g ≡ f) → StopsInSteps ss a b f → HandsSteps ss r a b
 steps_stopped r f ss a b is part = steps_fault r f ss [] b is (deriving_from a (sym (append-nil ss))) part
 
 -- ---- meanings
-
-meanings_split : (id : ℕ) (xs ys : List Meaning) → meaning_steps id (xs ++ ys) ≡ meaning_steps id xs ++ meaning_steps (id + 2 * length xs) ys
-meanings_split id [] ys = ap (λ (n : ℕ). meaning_steps n ys) (let e : id ≡ id + 2 * 0 = omega arith in e)
-meanings_split id (x ∷ xs) ys =
-    ap (λ (ss : List Step). redundant (forward_of x) x.var false ∷ cond {A = Step} (ltb (weight x.sum) x.least) (Rup [] (pos 0) (id ∷ [])) (redundant (reverse_of x) x.var true) ∷ ss)
-    (meanings_split (id + 2) xs ys ∙ ap (λ (n : ℕ). meaning_steps (id + 2) xs ++ meaning_steps n ys) (let e : id + 2 + 2 * length xs ≡ id + 2 * length (x ∷ xs) = omega arith in e))
 
 -- some were handed over, and then the others
 pub meanings_then : {R T : Type 0} (r : Result T SinkFault) (xs ys : List Meaning) (old mid new : StepState R) → TakesSteps (meaning_steps old.next xs) old mid → HandsSteps (meaning_steps mid.next ys) r mid new
@@ -129,3 +122,7 @@ first_free s pairs (node l r) f g id =
     (first_free s pairs l f g id)
     (same_append (reasons s pairs r (f + fresh_of s l) next) (reasons s pairs r (g + fresh_of s l) next) (map (pair_reason s l r f id) ps) (map (pair_reason s l r g id) ps)
     (first_free s pairs r (f + fresh_of s l) (g + fresh_of s l) next) (pairs_same s l r f g id ps))
+
+pub all_first_free : (s : Scheme) (pairs : List ℕ → List ℕ → List Pair) (t : Tree) (f g id own : ℕ) → HaveSameSteps (tree_reasons s pairs t f id own) (tree_reasons s pairs t g id own)
+all_first_free s pairs t f g id own =
+    same_append (reasons s pairs t f id) (reasons s pairs t g id) (root_reason s t f id own ∷ []) (root_reason s t g id own ∷ []) (first_free s pairs t f g id) (record { count = refl; steps = λ next. refl })

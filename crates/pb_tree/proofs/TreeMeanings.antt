@@ -1,28 +1,14 @@
 -- The meanings of the fresh variables along a tree, by their places.
 use Rattle.std.proofs.Common.{◌≡◌, ◌<◌, ◌+◌, ◌*◌, ℕ, zero, suc, List, [], ◌∷◌, ◌++◌, length, get_or, refl, ◌∙◌, subst, arith, length-append}
 use Rattle.std.specs.Prelude.{Contains}
-use Rattle.std.proofs.lemmas.List.{get_or_append_left, get_or-append-add, get_or_default}
+use Rattle.std.proofs.lemmas.List.{get_or_default}
 use Rattle.pb_norm.specs.Constraints.{Weighted, Constraint}
 use Rattle.pb_tree.specs.Tree.{Tree, empty, leaf, node}
 use Rattle.pb_tree.specs.Scheme.{Scheme, values, fresh_of, output}
 use Rattle.pb_tree.proofs.Sums.{IsLawful}
 use Rattle.pb_derive.specs.Meanings.{Meaning, forward_of, reverse_of}
-use Rattle.pb_derive.specs.Reasons.{Reason}
-use Rattle.pb_derive.specs.laws.Follows.{AllKnown, FollowsFrom}
+use Rattle.pb_derive.proofs.Justified.{MeaningsKnown, known_front, known_back}
 use Rattle.pb_tree.specs.TreeSteps.{leaves, meanings_from, meanings}
-
--- the variable at a place means this
-pub record IsMeaningAt (ms : List Meaning) (k : ℕ) (m : Meaning) : Type 0 where
-  pub within : k < length ms
-  pub here : get_or ms k m ≡ m
-
--- the two constraints of each variable are known under neighbouring ids, from a number on
-abbrev pub MeaningsKnown : (ℕ → Constraint → Type 0) → ℕ → List Meaning → Type 0
-MeaningsKnown Known id ms = (k : ℕ) (m : Meaning) → IsMeaningAt ms k m → Known (id + 2 * k) (forward_of m) × Known (id + 2 * k + 1) (reverse_of m)
-
--- the constraints under its ids give the clause
-abbrev pub IsJustified : (ℕ → Constraint → Type 0) → Reason → Type 0
-IsJustified Known r = (sources : List Constraint) × AllKnown Known r.ids sources × FollowsFrom sources r
 
 abbrev pub meaning : ℕ → List Weighted → ℕ → Meaning
 meaning v ts u = record { var = v; sum = ts; least = u }
@@ -52,16 +38,6 @@ length-meanings s (node l r) first =
     )
 
 -- ---- meanings that stand in a database
-
-known_front : (K : ℕ → Constraint → Type 0) (id : ℕ) (ms ns : List Meaning) → MeaningsKnown K id (ms ++ ns) → MeaningsKnown K id ms
-known_front K id ms ns h k m at =
-    h k m (record { within = omega (arith, at.within, length-append ms ns); here = get_or_append_left ms ns m k at.within ∙ at.here })
-
-known_back : (K : ℕ → Constraint → Type 0) (id n : ℕ) (ms ns : List Meaning) → length ms ≡ n → MeaningsKnown K id (ms ++ ns) → MeaningsKnown K (id + 2 * n) ns
-known_back K id n ms ns count h k m at =
-    let both = h (length ms + k) m (record { within = omega (arith, at.within, length-append ms ns); here = get_or-append-add ms ns k m ∙ at.here }) in
-    let e : id + 2 * (length ms + k) ≡ id + 2 * n + 2 * k = omega arith in
-    (subst (λ (i : ℕ). K i (forward_of m)) e both.0, subst (λ (i : ℕ). K (i + 1) (reverse_of m)) e both.1)
 
 pub known_left : (K : ℕ → Constraint → Type 0) (s : Scheme) (l r : Tree) (first id : ℕ) → MeaningsKnown K id (meanings s (node l r) first) → MeaningsKnown K id (meanings s l first)
 known_left K s l r first id h =

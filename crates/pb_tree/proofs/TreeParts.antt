@@ -14,7 +14,7 @@ use Rattle.pb_tree.proofs.Lists.{Contains-map_cases}
 use Rattle.pb_tree.proofs.Sums.{IsLawful}
 use Rattle.pb_derive.specs.Meanings.{forward_of}
 use Rattle.pb_derive.specs.laws.Follows.{AllKnown}
-use Rattle.pb_tree.proofs.TreeMeanings.{MeaningsKnown}
+use Rattle.pb_derive.proofs.Justified.{MeaningsKnown}
 use Rattle.pb_tree.specs.TreeSteps.{leaves, meanings, output_ids, part_ids, part_weakened}
 use Rattle.pb_tree.proofs.TreeMeanings.{meaning, output_known}
 use Rattle.pb_derive.proofs.Sides.{Side, side_none, side_leaf, side_fresh}

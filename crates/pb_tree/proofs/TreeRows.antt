@@ -1,15 +1,15 @@
 -- What the meanings along a tree are by themselves.
-use Rattle.std.proofs.Common.{◌≡◌, ◌≢◌, ◌≤◌, ◌<◌, ◌+◌, ◌/◌, ◌^◌, ℕ, zero, suc, List, [], ◌∷◌, ◌++◌, length, take, drop, refl, ◌∙◌, subst, arith, inl, inr, take-append-drop, length-append}
+use Rattle.std.proofs.Common.{◌≡◌, ◌≢◌, ◌≤◌, ◌<◌, ◌+◌, ◌/◌, ℕ, zero, suc, List, [], ◌∷◌, ◌++◌, length, take, drop, refl, ◌∙◌, subst, arith, inl, inr, take-append-drop, length-append}
 use Rattle.std.specs.Prelude.{Contains, All}
-use Rattle.std.proofs.lemmas.List.Elements.{All-nil, All-cons, All-append, All-head, All-tail, All-contains}
+use Rattle.std.proofs.lemmas.List.Elements.{All-nil, All-cons, All-append, All-contains}
 use Rattle.std.proofs.lemmas.List.Kept.{AllPairs-cons}
 use Rattle.pb_base.proofs.Members.{Contains-nil, Contains-here, Contains-there, Contains-cons_cases, All-append_both}
 use Rattle.pb_base.proofs.Pairs.{AllPairs-head, AllPairs-tail, AllPairs-nil}
-use Rattle.pb_norm.specs.Constraints.{Weighted, AllPositive, weight}
-use Rattle.pb_norm.specs.BoundedSums.{IsOverDistinct, vars_of}
+use Rattle.pb_norm.specs.Constraints.{Weighted, weight}
 use Rattle.pb_derive.specs.Forms.{AreApartTerms}
 use Rattle.pb_derive.specs.Meanings.{Meaning}
-use Rattle.pb_derive.proofs.InRow.{AreInRow, IsFitMeaning, row-append}
+use Rattle.pb_derive.proofs.InRow.{AreInRow, row-append}
+use Rattle.pb_derive.proofs.Justified.{IsReached, IsSum}
 use Rattle.pb_derive.proofs.Sides.{weight-append}
 use Rattle.pb_tree.specs.Pairs.{Pair}
 use Rattle.pb_tree.specs.Scheme.{Scheme, values, fresh_of}
@@ -19,21 +19,6 @@ use Rattle.pb_tree.proofs.PairReasons.{IsByPairs, IsPositive}
 use Rattle.pb_tree.proofs.Splitting.{halves}
 use Rattle.pb_tree.proofs.TreeMeanings.{length-meanings}
 use Rattle.pb_tree.proofs.TreeParts.{IsApart, listed_leaf, value_le}
-
--- a sum of variables below the fresh ones, and a number that it can reach
-pub record IsNodeFit (low : ℕ) (m : Meaning) : Type 0 where
-  pub below : All (λ t. t.lit.var < low) m.sum
-  pub apart : AreApartTerms m.sum
-  pub positive : AllPositive m.sum
-  pub some : 1 ≤ m.least
-  pub reached : m.least ≤ weight m.sum
-  pub light : weight m.sum < 2 ^ 100
-
-pub node_fits : (low : ℕ) (m : Meaning) → IsNodeFit low m → IsFitMeaning low m
-node_fits low m h =
-    let reached = h.reached in
-    let light = h.light in
-    record { below = h.below; apart = h.apart; positive = h.positive; some = h.some; light = omega arith }
 
 -- ---- the leaves of a list's tree
 
@@ -77,15 +62,6 @@ apart_tree (node l r) h =
     let parts = apart-append (leaves l) (leaves r) h in
     (apart_tree l parts.0, apart_tree r parts.1, (λ u v k m. parts.2 u v (listed_leaf l u k) (listed_leaf r v m)))
 
-pub apart_from_vars : (ts : List Weighted) → IsOverDistinct ts → AreApartTerms ts
-apart_from_vars [] h = AllPairs-nil Other
-apart_from_vars (t ∷ ts) h =
-    AllPairs-cons Other t ts (all_unmapped (λ (v : ℕ). t.lit.var ≢ v) ts (AllPairs-head (λ v w. v ≢ w) t.lit.var (vars_of ts) h)) (apart_from_vars ts (AllPairs-tail (λ v w. v ≢ w) t.lit.var (vars_of ts) h))
-  where
-    all_unmapped : (P : ℕ → Type 0) (us : List Weighted) → All P (vars_of us) → All (λ u. P u.lit.var) us
-    all_unmapped P [] k = All-nil (λ (u : Weighted). P u.lit.var)
-    all_unmapped P (u ∷ us) k = All-cons (λ (u : Weighted). P u.lit.var) u us (All-head P u.lit.var (vars_of us) k) (all_unmapped P us (All-tail P u.lit.var (vars_of us) k))
-
 -- ---- the meanings
 
 row_from : (var : ℕ) (ts : List Weighted) (us : List ℕ) → AreInRow var (meanings_from var ts us)
@@ -106,13 +82,6 @@ tree_row s (node l r) first =
     (subst (λ (n : ℕ). AreInRow n (rights ++ own)) one
     (row-append middle rights own (tree_row s r middle) (subst (λ (n : ℕ). AreInRow n own) two (row_from start (leaves (node l r)) (values s (node l r))))))
 
--- a sum as meanings have it
-pub record IsSum (low : ℕ) (ts : List Weighted) : Type 0 where
-  pub below : All (λ t. t.lit.var < low) ts
-  pub apart : AreApartTerms ts
-  pub positive : AllPositive ts
-  pub light : weight ts < 2 ^ 100
-
 sum_parts : (low : ℕ) (ts us : List Weighted) → IsSum low (ts ++ us) → IsSum low ts × IsSum low us
 sum_parts low ts us h =
     let below = All-append_both (λ (t : Weighted). t.lit.var < low) ts us h.below in
@@ -124,25 +93,25 @@ sum_parts low ts us h =
       record { below = below.1; apart = apart.1; positive = positive.1; light = omega arith },
     )
 
-fit_from : (low var : ℕ) (ts : List Weighted) (us : List ℕ) → IsSum low ts → ((u : ℕ) → Contains us u → (1 ≤ u) × (u ≤ weight ts)) → All (IsNodeFit low) (meanings_from var ts us)
-fit_from low var ts [] sum each = All-nil (IsNodeFit low)
+fit_from : (low var : ℕ) (ts : List Weighted) (us : List ℕ) → IsSum low ts → ((u : ℕ) → Contains us u → (1 ≤ u) × (u ≤ weight ts)) → All (IsReached low) (meanings_from var ts us)
+fit_from low var ts [] sum each = All-nil (IsReached low)
 fit_from low var ts (u ∷ us) sum each =
     let own = each u (Contains-here u us) in
-    All-cons (IsNodeFit low) (record { var = var; sum = ts; least = u }) (meanings_from (var + 1) ts us)
+    All-cons (IsReached low) (record { var = var; sum = ts; least = u }) (meanings_from (var + 1) ts us)
     (record { below = sum.below; apart = sum.apart; positive = sum.positive; some = own.0; reached = own.1; light = sum.light })
     (fit_from low (var + 1) ts us sum (λ v h. each v (Contains-there u us v h)))
 
-pub tree_fit : (s : Scheme) (pairs : List ℕ → List ℕ → List Pair) → IsByPairs s pairs → (low : ℕ) (t : Tree) (first : ℕ) → IsSum low (leaves t) → ((u : Weighted) → IsLeafOf t u → s.weight u ≡ u.coef) → IsPositive s t → All (IsNodeFit low) (meanings s t first)
-tree_fit s pairs by low empty first sum weights positive = All-nil (IsNodeFit low)
-tree_fit s pairs by low (leaf t) first sum weights positive = All-nil (IsNodeFit low)
+pub tree_fit : (s : Scheme) (pairs : List ℕ → List ℕ → List Pair) → IsByPairs s pairs → (low : ℕ) (t : Tree) (first : ℕ) → IsSum low (leaves t) → ((u : Weighted) → IsLeafOf t u → s.weight u ≡ u.coef) → IsPositive s t → All (IsReached low) (meanings s t first)
+tree_fit s pairs by low empty first sum weights positive = All-nil (IsReached low)
+tree_fit s pairs by low (leaf t) first sum weights positive = All-nil (IsReached low)
 tree_fit s pairs by low (node l r) first sum weights positive =
     let middle = first + fresh_of s l in
     let start = first + fresh_of s l + fresh_of s r in
     let parts = sum_parts low (leaves l) (leaves r) sum in
     let t = node l r in
-    All-append (IsNodeFit low) (meanings s l first) (meanings s r middle ++ meanings_from start (leaves t) (values s t))
+    All-append (IsReached low) (meanings s l first) (meanings s r middle ++ meanings_from start (leaves t) (values s t))
     (tree_fit s pairs by low l first parts.0 (λ u h. weights u (inl h)) (λ u h. positive u (inl h)))
-    (All-append (IsNodeFit low) (meanings s r middle) (meanings_from start (leaves t) (values s t))
+    (All-append (IsReached low) (meanings s r middle) (meanings_from start (leaves t) (values s t))
     (tree_fit s pairs by low r middle parts.1 (λ u h. weights u (inr h)) (λ u h. positive u (inr h)))
     (fit_from low start (leaves t) (values s t) sum (λ u h. (by.low t positive u h, value_le s by.from t weights u h))))
 

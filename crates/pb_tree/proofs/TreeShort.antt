@@ -17,10 +17,10 @@ use Rattle.pb_derive.specs.Claims.{Claim}
 use Rattle.pb_derive.specs.Meanings.{Meaning}
 use Rattle.pb_derive.specs.Reasons.{Reason, by_reason, closing}
 use Rattle.pb_derive.specs.Short.{AreShort}
-use Rattle.pb_derive.proofs.InRow.{AreInRow}
 use Rattle.pb_derive.proofs.Sayable.{IsSlimTerm, IsSlimMeaning, phases_sayable, closing_sayable}
 use Rattle.pb_derive.proofs.Short.{phases_short}
 use Rattle.pb_derive.proofs.Sizes.{closing-size}
+use Rattle.pb_derive.proofs.SlimRows.{slim_terms, row_slim}
 use Rattle.pb_family.specs.Derivations.{AreOriginal, MayStart}
 use Rattle.pb_family.specs.Families.{VarsBelow}
 use Rattle.pb_tree.specs.Pairs.{Pair}
@@ -34,7 +34,7 @@ use Rattle.pb_tree.proofs.Sums.{IsLawful}
 use Rattle.pb_tree.proofs.TreeDerives.{clauses_are, leaves_positive, nodes_fit}
 use Rattle.pb_tree.proofs.TreeMeanings.{length-meanings}
 use Rattle.pb_tree.proofs.TreeParts.{IsPart}
-use Rattle.pb_tree.proofs.TreeRows.{IsNodeFit, leaves_of, tree_row, tree_terms, tree_sums}
+use Rattle.pb_tree.proofs.TreeRows.{leaves_of, tree_row, tree_terms, tree_sums}
 
 -- a reason by at most three constraints, with at most n variables beside
 record IsShort (n : ℕ) (r : Reason) : Type 0 where
@@ -236,15 +236,6 @@ some_sayable : (clause : List Lit) (ids vs : List ℕ) → ids ≢ [] → All Is
 some_sayable clause [] vs some known gone = absurd (some refl)
 some_sayable clause (id ∷ ids) vs some known gone = closing_sayable clause id ids vs known gone
 
--- no coefficient is more than all together
-light_each : (ts : List Weighted) → weight ts < 2 ^ 126 → All (λ w. w.coef < 2 ^ 126) ts
-light_each [] h = All-nil (λ (w : Weighted). w.coef < 2 ^ 126)
-light_each (w ∷ ts) h = let sum = sum_by-cons (λ (w : Weighted). w.coef) w ts in All-cons (λ (w : Weighted). w.coef < 2 ^ 126) w ts (omega arith) (light_each ts (omega arith))
-
-row_variables : (first : ℕ) (ms : List Meaning) → AreInRow first ms → 1 ≤ first → first + length ms ≤ 2 ^ 31 → All (λ m. IsVariable m.var) ms
-row_variables first [] h low high = All-nil (λ (m : Meaning). IsVariable m.var)
-row_variables first (m ∷ ms) h low high = let is = h.0 in All-cons (λ (m : Meaning). IsVariable m.var) m ms (omega arith, omega arith) (row_variables (first + 1) ms h.1 (omega arith) (omega arith))
-
 module _ (s : Scheme) (W : ℕ → Type 0) (laws : IsLawful s W) (pairs : List ℕ → List ℕ → List Pair) (by : IsByPairs s pairs) (m : BoundedSum) (suits : Suits s m) (light : weight m.terms < 2 ^ 100)
     (first id next : ℕ) (original : AreOriginal first m.terms) (start : MayStart first (fresh_of s (tree_of m.terms)) id next) where
   abbrev t : Tree
@@ -278,28 +269,13 @@ module _ (s : Scheme) (W : ℕ → Type 0) (laws : IsLawful s W) (pairs : List �
       let size : length (leaves t) ≡ length m.terms = ap length (leaves_of m.terms) in
       tree_short s W laws pairs by (length m.terms) t first next id (omega arith) (omega arith) own (cap_value s W laws m suits) known_terms (omega arith)
 
-  slim_leaves : All IsSlimTerm (leaves t)
-  slim_leaves =
-      let total : weight (leaves t) ≡ weight m.terms = ap weight (leaves_of m.terms) in
-      let coefs : All (λ w. w.coef < 2 ^ 126) (leaves t) = light_each (leaves t) (omega arith) in
-      λ i d w. (coefs i d w, known_terms i d w)
-
-  abbrev IsSlimNode : Meaning → Type 0
-  IsSlimNode x = IsVariable x.var × (IsNodeFit first x × All IsSlimTerm x.sum)
-
   slim_meanings : All IsSlimMeaning ms
   slim_meanings =
       let fits = start.fits in
       let low = start.low in
+      let total : weight (leaves t) ≡ weight m.terms = ap weight (leaves_of m.terms) in
       let count = length-meanings s t first in
-      let vars = row_variables first ms (tree_row s t first) low (omega arith) in
-      let fit = nodes_fit s W laws pairs by m suits first below_terms light in
-      let sums = tree_terms IsSlimTerm s t first slim_leaves in
-      let all : All IsSlimNode ms = λ i d w. (vars i d w, (fit i d w, sums i d w)) in
-      All-weaker IsSlimNode IsSlimMeaning (λ x h.
-      let reached = h.1.0.reached in
-      let little = h.1.0.light in
-      record { sum = h.1.1; var = h.0; light = omega arith }) ms all
+      row_slim first ms (tree_row s t first) low (omega arith) (nodes_fit s W laws pairs by m suits first below_terms light) (tree_terms IsSlimTerm s t first (slim_terms (leaves t) (omega arith) known_terms))
 
   module _ (few_clauses : length (tree_clauses s (tree_of m.terms) first) < 5 * 2 ^ 60) where
     count_reasons : length (map by_reason rs) ≡ length (tree_clauses s t first)

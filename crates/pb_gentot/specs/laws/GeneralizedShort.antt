@@ -73,7 +73,7 @@ grows bound (node a b) l r each =
     let range = range_with_len 0 (cap + 1) in
     filter_weaker p q range (λ n h holds. (Contains-filter_cases q range n (each n (Contains-filter p range n h holds))).1)
 
-generalized_sparing : (bound : ℕ) → IsSparing (generalized bound) generalized_pairs
+pub generalized_sparing : (bound : ℕ) → IsSparing (generalized bound) generalized_pairs
 generalized_sparing bound =
     let s = generalized bound in
     record {
@@ -82,6 +82,9 @@ generalized_sparing bound =
       left_grows = λ l r. grows bound l l r (left_value bound l r);
       right_grows = λ l r. grows bound r l r (right_value bound l r);
     }
+
+pub size_fits : (clauses size : ℕ) → clauses ≡ size → clauses < 2 ^ 60 → size < 5 * 2 ^ 60
+size_fits clauses size is small = omega (arith, is, small)
 
 module _ (m : BoundedSum) (proper : IsProper m) (light : weight m.terms < 2 ^ 100) (modest : generalized_size m < 5 * 2 ^ 60) (first id next : ℕ)
     (original : AreOriginal first m.terms) (start : MayStart first (generalized_fresh m) id next) where

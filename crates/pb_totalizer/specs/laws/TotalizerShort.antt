@@ -6,7 +6,9 @@ use Rattle.std.proofs.lemmas.List.{length-map}
 use Rattle.std.proofs.lemmas.List.Concat.{flat_map-cons}
 use Rattle.std.proofs.lemmas.List.FromFn.{length-range_with_len}
 use Rattle.std.proofs.lemmas.List.Sums.{count_by-le-length, length-filter}
+use Rattle.pb_base.specs.declared.literal.Term.{Term}
 use Rattle.pb_norm.specs.BoundedSums.{BoundedSum, IsProper}
+use Rattle.pb_norm.specs.Constraints.{weighted, weights}
 use Rattle.pb_norm.specs.Reduction.{all_weigh}
 use Rattle.pb_steps.specs.Sayable.{IsSayable}
 use Rattle.pb_derive.specs.Short.{AreShort}
@@ -91,6 +93,12 @@ totalizer_sparing bound =
       left_grows = λ l r. omega (arith, values_length bound l, length-range_with_len 1 (min (length (values s l) + length (values s r)) (bound + 1)));
       right_grows = λ l r. omega (arith, values_length bound r, length-range_with_len 1 (min (length (values s l) + length (values s r)) (bound + 1)));
     }
+
+pub few_terms : (ts : List Term) → length ts < 2 ^ 31 → length (weights ts) < 2 ^ 31
+few_terms ts few = omega (arith, length-map ts weighted, few)
+
+pub size_fits : (clauses size : ℕ) → clauses ≡ size → clauses < 5 * 2 ^ 60 → size < 5 * 2 ^ 60
+size_fits clauses size is small = omega (arith, is, small)
 
 module _ (m : BoundedSum) (units : all_weigh 1 m.terms ≡ true) (proper : IsProper m) (few : length m.terms < 2 ^ 31) (modest : totalizer_size m < 5 * 2 ^ 60) (first id next : ℕ)
     (original : AreOriginal first m.terms) (start : MayStart first (totalizer_fresh m) id next) where

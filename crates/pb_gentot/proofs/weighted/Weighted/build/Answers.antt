@@ -1,11 +1,11 @@
-use Rattle.std.proofs.Common.{◌≤◌, ◌+◌, arith, ap, length}
+use Rattle.std.proofs.Common.{rules, ◌≤◌, ◌<◌, ◌+◌, ◌^◌, arith, ap, length}
 use Rattle.std.proofs.lemmas.List.{length-map}
 use Rattle.pb_norm.specs.Constraints.{weighted, weights}
 use Rattle.pb_tree.specs.Tree.{tree_of}
 use Rattle.pb_tree.specs.Scheme.{fresh_of}
 use Rattle.pb_tree.proofs.Numbers.{square_fits}
 use Rattle.pb_gentot.specs.Generalized.{generalized}
-use Rattle.pb_gentot.proofs.Bounds.{bounds, some_terms}
+use Rattle.pb_gentot.proofs.Bounds.{bounds, clauses_modest, some_terms}
 use Rattle.pb_gentot.proofs.weighted.Weighted.build.Goals as goal
 
 pub overflow_add-result : goal.overflow_add-result
@@ -20,3 +20,14 @@ overflow_add-result c =
     let fits : fresh_of (generalized c.bound-bound.result) t ≤ c.args.budget = part.fits in
     let square = square_fits (fresh_of (generalized c.bound-bound.result) t + length ts) (omega (arith, c.requires.modest, c.bound-bound.ensures.few)) in
     omega (arith, b.clauses, part.clauses_are)
+
+pub invariant_of-result : goal.invariant_of-result
+invariant_of-result c =
+    let ts = c.terms.result.now in
+    let long = length-map ts weighted in
+    let same = ap length c.terms.ensures.weights in
+    let some = some_terms c.args.of.now.bound c.args.of.now.terms c.bound-bound.ensures.proper.heavy in
+    let part = rw c.in-Some.is at c.in_ok-part.ensures in
+    let all = clauses_modest c.bound-bound.result ts (omega arith) (omega (arith, part.fits, c.requires.modest)) in
+    let modest : c.in-Some.part.clauses + 1 < 2 ^ 60 = omega (arith, all, part.clauses_are) in
+    search rules

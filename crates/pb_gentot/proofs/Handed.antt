@@ -1,0 +1,275 @@
+-- The steps of a generalized totalizer's derivation as the code has their parts.
+use Rattle.std.proofs.Common.{◌≡◌, ◌≤◌, ◌<◌, ◌+◌, ◌*◌, ◌++◌, ℕ, zero, suc, List, [], ◌∷◌, length, map, get_or, min, refl, sym, ap, ◌∙◌, subst, arith, inl, inr, append-nil, length-append}
+use Rattle.std.specs.Prelude.{Contains}
+use Rattle.std.specs.List.{flat_map, range_with_len}
+use Rattle.std.proofs.lemmas.List.Elements.{Contains-get_or}
+use Rattle.std.proofs.lemmas.List.Folds.{flat_map-map}
+use Rattle.std.proofs.lemmas.List.FromFn.{length-map-range_with_len}
+use Rattle.pb_base.specs.declared.literal.Term.{Term}
+use Rattle.pb_norm.specs.BoundedSums.{vars_of}
+use Rattle.pb_norm.specs.Constraints.{Weighted, weights}
+use Rattle.pb_steps.specs.declared.step.Step.{Step}
+use Rattle.pb_derive.specs.Claims.{claim_steps}
+use Rattle.pb_derive.specs.Meanings.{meaning_steps}
+use Rattle.pb_derive.specs.Reasons.{Reason, by_reason}
+use Rattle.pb_family.specs.Derivations.{pieces}
+use Rattle.pb_family.proofs.SameSteps.{HaveSameSteps, same_append}
+use Rattle.pb_family.proofs.Sequence.{meaning_pieces}
+use Rattle.pb_tree.specs.Pairs.{Pair, pair_of}
+use Rattle.pb_tree.specs.Places.{place_of}
+use Rattle.pb_tree.specs.Scheme.{values, fresh_of}
+use Rattle.pb_tree.specs.Tree.{Tree, node, tree_of}
+use Rattle.pb_tree.specs.TreeSteps.{leaves, meanings_from, output_ids, pair_reason, root_reason, tree_reasons}
+use Rattle.pb_tree.proofs.Lists.{Contains-range_cases}
+use Rattle.pb_tree.proofs.PairLists.{map_same, map-append, map-map, rows_same}
+use Rattle.pb_tree.proofs.TreeHalves.{node_reasons, halves_given}
+use Rattle.pb_tree.proofs.TreeHanded.{bare, bare_same, all_first_free}
+use Rattle.pb_tree.proofs.TreeRows.{leaves_of}
+use Rattle.pb_gentot.specs.Generalized.{generalized}
+use Rattle.pb_gentot.specs.GeneralizedSteps.{generalized_pairs}
+use Rattle.pb_gentot.specs.declared.claims.Handed.{Handed}
+use Rattle.pb_gentot.specs.declared.claims.Owned.{Owned}
+use Rattle.pb_gentot.specs.declared.claims.Source.{Source}
+use Rattle.pb_gentot.specs.declared.claims.Source.TheVariants.{Leaf, Fresh}
+use Rattle.pb_gentot.specs.laws.ByPairs.{value_from}
+use Rattle.pb_gentot.specs.laws.GeneralizedLaws.{values_within}
+use Rattle.pb_gentot.specs.laws.Sources.{output_meaning, ids_at, ids_of, HasIds, second_of, one_at, ones_given, both_at, row_given, pairs_given, node_given, root_given, part_reasons, all_reasons, AreLeavesPositive}
+use Rattle.pb_gentot.proofs.Emitting.{rising_values}
+use Rattle.pb_gentot.proofs.RisingLists.{place_at}
+
+-- ---- values by their places
+
+values_from : (us all : List ℕ) (a : ℕ) → ((k : ℕ) → get_or us k 0 ≡ get_or all (a + k) 0) → us ≡ map (λ i. get_or all i 0) (range_with_len a (length us))
+values_from [] all a same = refl
+values_from (u ∷ us) all a same =
+    let here : u ≡ get_or all a 0 = same 0 ∙ ap (λ (n : ℕ). get_or all n 0) (let e : a + 0 ≡ a = omega arith in e) in
+    let rest = values_from us all (a + 1) (λ k. same (suc k) ∙ ap (λ (n : ℕ). get_or all n 0) (let e : a + suc k ≡ a + 1 + k = omega arith in e)) in
+    λ i. here i ∷ rest i
+
+from_first : (us : List ℕ) (k : ℕ) → get_or us k 0 ≡ get_or us (0 + k) 0
+from_first us k = ap (λ (n : ℕ). get_or us n 0) (let e : k ≡ 0 + k = omega arith in e)
+
+by_places : {X : Type 0} (f : ℕ → X) (us : List ℕ) → map f us ≡ map (λ i. f (get_or us i 0)) (range_with_len 0 (length us))
+by_places f us = ap (map f) (values_from us us 0 (from_first us)) ∙ map-map f (λ i. get_or us i 0) (range_with_len 0 (length us))
+
+rows_by_places : {X : Type 0} (f : ℕ → List X) (us : List ℕ) → flat_map f us ≡ flat_map (λ i. f (get_or us i 0)) (range_with_len 0 (length us))
+rows_by_places f us = ap (flat_map f) (values_from us us 0 (from_first us)) ∙ flat_map-map f (λ i. get_or us i 0) (range_with_len 0 (length us))
+
+-- ---- meanings
+
+outputs_from : (first : ℕ) (ts : List Weighted) (us all : List ℕ) (var a : ℕ) → var ≡ first + a → ((k : ℕ) → get_or us k 0 ≡ get_or all (a + k) 0)
+    → meanings_from var ts us ≡ map (output_meaning first ts all) (range_with_len a (length us))
+outputs_from first ts [] all var a is same = refl
+outputs_from first ts (u ∷ us) all var a is same =
+    let here : u ≡ get_or all a 0 = same 0 ∙ ap (λ (n : ℕ). get_or all n 0) (let e : a + 0 ≡ a = omega arith in e) in
+    let rest = outputs_from first ts us all (var + 1) (a + 1) (let e : var + 1 ≡ first + (a + 1) = omega (arith, is) in e)
+    (λ k. same (suc k) ∙ ap (λ (n : ℕ). get_or all n 0) (let e : a + suc k ≡ a + 1 + k = omega arith in e)) in
+    λ i. record { var = is i; sum = ts; least = here i } ∷ rest i
+
+abbrev pub output_piece : ℕ → List Weighted → List ℕ → ℕ → ℕ → List Step
+output_piece first ts us id k = meaning_steps id (output_meaning first ts us k ∷ [])
+
+pub output_pieces : (first : ℕ) (ts : List Weighted) (us : List ℕ) (next : ℕ) → meaning_steps next (meanings_from first ts us) ≡ pieces (output_piece first ts us) 2 next 0 (length us)
+output_pieces first ts us next =
+    ap (meaning_steps next) (outputs_from first ts us us first 0 (let e : first ≡ first + 0 = omega arith in e) (from_first us)) ∙ meaning_pieces (output_meaning first ts us) next 0 (length us)
+
+-- ---- clauses by places
+
+abbrev pub claim_piece : (ℕ → Reason) → ℕ → ℕ → List Step
+claim_piece f id k = claim_steps id (by_reason (f k) ∷ [])
+
+-- fewer outputs have their ids too
+pub has_fewer : (source : Source) (n k : ℕ) → k ≤ n → HasIds source n → HasIds source k
+has_fewer Leaf n k le has = tt
+has_fewer (Fresh id) n k le has = omega (arith, has, le)
+
+pub row_length : (cap : ℕ) (left right : Handed) (own : Owned) (i : ℕ) → length (row_given cap left right own i) ≡ length right.values.items
+row_length cap left right own i = length-map-range_with_len (both_at cap left right own i) 0 (length right.values.items)
+
+pub ones_length : (part : Handed) (others : List Term) (own : Owned) → length (ones_given part others own) ≡ length part.values.items
+ones_length part others own = length-map-range_with_len (one_at part others own) 0 (length part.values.items)
+
+pub node_length : (cap : ℕ) (left : Handed) (lefts : List Term) (right : Handed) (rights : List Term) (own : Owned)
+    → length (node_given cap left lefts right rights own) ≡ length left.values.items + (length right.values.items + length (pairs_given cap left right own))
+node_length cap left lefts right rights own =
+    omega (
+      arith,
+      length-append (ones_given left rights own) (ones_given right lefts own ++ pairs_given cap left right own),
+      length-append (ones_given right lefts own) (pairs_given cap left right own),
+      ones_length left rights own,
+      ones_length right lefts own,
+    )
+
+-- ---- the clauses of a node
+
+abbrev named : List ℕ → List ℕ → Reason
+named ids weakened = record { clause = []; ids = ids; weakened = weakened }
+
+module _ (bound : ℕ) (lefts rights : List Term) (id : ℕ) (left right : Handed) (own : Owned)
+    (lv : left.values.items ≡ values (generalized bound) (tree_of (weights lefts)))
+    (rv : right.values.items ≡ values (generalized bound) (tree_of (weights rights)))
+    (li : ids_of left ≡ output_ids (generalized bound) (tree_of (weights lefts)) id)
+    (ri : ids_of right ≡ output_ids (generalized bound) (tree_of (weights rights)) (id + 2 * fresh_of (generalized bound) (tree_of (weights lefts))))
+    (ov : own.values.items ≡ values (generalized bound) (node (tree_of (weights lefts)) (tree_of (weights rights))))
+    (at : own.id ≡ id + 2 * fresh_of (generalized bound) (tree_of (weights lefts)) + 2 * fresh_of (generalized bound) (tree_of (weights rights)))
+    (positive : AreLeavesPositive (node (tree_of (weights lefts)) (tree_of (weights rights)))) where
+  abbrev l : Tree
+  l = tree_of (weights lefts)
+
+  abbrev r : Tree
+  r = tree_of (weights rights)
+
+  abbrev claim : Pair → Reason
+  claim p = bare (pair_reason (generalized bound) (tree_of (weights lefts)) (tree_of (weights rights)) 0 id p)
+
+  second_is : (w x : ℕ) → w ≡ x
+      → second_of own w ≡ id + 2 * (fresh_of (generalized bound) l + fresh_of (generalized bound) r + place_of x (values (generalized bound) (node l r))) + 1
+  second_is w x same =
+      let place : place_of w own.values.items ≡ place_of x (values (generalized bound) (node l r)) = λ i. place_of (same i) (ov i) in
+      omega (arith, at, place)
+
+  left_one : (u : ℕ) → 1 ≤ u → u ≤ bound + 1 → named (ids_of left u ++ second_of own u ∷ []) (vars_of (weights rights)) ≡ claim (pair_of u 0)
+  left_one zero low high = absurd (omega arith)
+  left_one (suc u) low high =
+      let ids = ap (λ (f : ℕ → List ℕ). f (suc u)) li in
+      let second = second_is (suc u) (min (suc u + 0) (bound + 1)) (omega arith) in
+      let gone = ap vars_of (sym (leaves_of (weights rights))) in
+      λ k. named (ids k ++ second k ∷ []) (gone k)
+
+  right_one : (v : ℕ) → 1 ≤ v → v ≤ bound + 1 → named (ids_of right v ++ second_of own v ∷ []) (vars_of (weights lefts)) ≡ claim (pair_of 0 v)
+  right_one zero low high = absurd (omega arith)
+  right_one (suc v) low high =
+      let ids = ap (λ (f : ℕ → List ℕ). f (suc v)) ri in
+      let second = second_is (suc v) (min (0 + suc v) (bound + 1)) (omega arith) in
+      let gone = ap vars_of (sym (leaves_of (weights lefts))) ∙ sym (append-nil (vars_of (leaves l))) in
+      λ k. named (ids k ++ second k ∷ []) (gone k)
+
+  both_one : (u v : ℕ) → 1 ≤ u → 1 ≤ v → named (ids_of left u ++ (ids_of right v ++ second_of own (min (u + v) (bound + 1)) ∷ [])) [] ≡ claim (pair_of u v)
+  both_one zero v low high = absurd (omega arith)
+  both_one (suc u) zero low high = absurd (omega arith)
+  both_one (suc u) (suc v) low high =
+      let one = ap (λ (f : ℕ → List ℕ). f (suc u)) li in
+      let two = ap (λ (f : ℕ → List ℕ). f (suc v)) ri in
+      let second = second_is (min (suc u + suc v) (bound + 1)) (min (suc u + suc v) (bound + 1)) refl in
+      λ k. named (one k ++ (two k ++ second k ∷ [])) []
+
+  left_has : (i : ℕ) → i < length left.values.items → Contains (values (generalized bound) l) (get_or left.values.items i 0)
+  left_has i within = subst (λ (us : List ℕ). Contains us (get_or left.values.items i 0)) lv (Contains-get_or left.values.items i 0 within)
+
+  right_has : (j : ℕ) → j < length right.values.items → Contains (values (generalized bound) r) (get_or right.values.items j 0)
+  right_has j within = subst (λ (us : List ℕ). Contains us (get_or right.values.items j 0)) rv (Contains-get_or right.values.items j 0 within)
+
+  left_low : (i : ℕ) → i < length left.values.items → 1 ≤ get_or left.values.items i 0
+  left_low i within = value_from bound l (λ w m. positive w (inl m)) (get_or left.values.items i 0) (left_has i within)
+
+  right_low : (j : ℕ) → j < length right.values.items → 1 ≤ get_or right.values.items j 0
+  right_low j within = value_from bound r (λ w m. positive w (inr m)) (get_or right.values.items j 0) (right_has j within)
+
+  left_place : (i : ℕ) → i < length left.values.items → i ≡ place_of (get_or left.values.items i 0) left.values.items
+  left_place i within = sym (place_at left.values.items i 0 (rising_values bound l left.values.items lv) within)
+
+  right_place : (j : ℕ) → j < length right.values.items → j ≡ place_of (get_or right.values.items j 0) right.values.items
+  right_place j within = sym (place_at right.values.items j 0 (rising_values bound r right.values.items rv) within)
+
+  left_at : (i : ℕ) → i < length left.values.items → one_at left rights own i ≡ claim (pair_of (get_or left.values.items i 0) 0)
+  left_at i within =
+      let u = get_or left.values.items i 0 in
+      ap (λ (k : ℕ). named (ids_at left.source k ++ second_of own u ∷ []) (vars_of (weights rights))) (left_place i within)
+      ∙ left_one u (left_low i within) (values_within bound l u (left_has i within))
+
+  right_at : (j : ℕ) → j < length right.values.items → one_at right lefts own j ≡ claim (pair_of 0 (get_or right.values.items j 0))
+  right_at j within =
+      let v = get_or right.values.items j 0 in
+      ap (λ (k : ℕ). named (ids_at right.source k ++ second_of own v ∷ []) (vars_of (weights lefts))) (right_place j within)
+      ∙ right_one v (right_low j within) (values_within bound r v (right_has j within))
+
+  pair_at : (i j : ℕ) → i < length left.values.items → j < length right.values.items
+      → both_at (bound + 1) left right own i j ≡ claim (pair_of (get_or left.values.items i 0) (get_or right.values.items j 0))
+  pair_at i j within also =
+      let u = get_or left.values.items i 0 in
+      let v = get_or right.values.items j 0 in
+      let one = left_place i within in
+      let two = right_place j also in
+      (λ k. named (ids_at left.source (one k) ++ (ids_at right.source (two k) ++ second_of own (min (u + v) (bound + 1)) ∷ [])) [])
+      ∙ both_one u v (left_low i within) (right_low j also)
+
+  left_ones : ones_given left rights own ≡ map claim (map (λ u. pair_of u 0) (values (generalized bound) l))
+  left_ones =
+      let us = left.values.items in
+      map_same (one_at left rights own) (λ i. claim (pair_of (get_or us i 0) 0)) (range_with_len 0 (length us)) (λ i h. let within = Contains-range_cases 0 (length us) i h in left_at i (omega arith))
+      ∙ sym (by_places (λ u. claim (pair_of u 0)) us)
+      ∙ ap (map (λ u. claim (pair_of u 0))) lv
+      ∙ sym (map-map claim (λ u. pair_of u 0) (values (generalized bound) l))
+
+  right_ones : ones_given right lefts own ≡ map claim (map (pair_of 0) (values (generalized bound) r))
+  right_ones =
+      let vs = right.values.items in
+      map_same (one_at right lefts own) (λ j. claim (pair_of 0 (get_or vs j 0))) (range_with_len 0 (length vs)) (λ j h. let within = Contains-range_cases 0 (length vs) j h in right_at j (omega arith))
+      ∙ sym (by_places (λ v. claim (pair_of 0 v)) vs)
+      ∙ ap (map (λ v. claim (pair_of 0 v))) rv
+      ∙ sym (map-map claim (pair_of 0) (values (generalized bound) r))
+
+  row_is : (i : ℕ) → i < length left.values.items
+      → row_given (bound + 1) left right own i ≡ map claim (map (pair_of (get_or left.values.items i 0)) (values (generalized bound) r))
+  row_is i within =
+      let u = get_or left.values.items i 0 in
+      let vs = right.values.items in
+      map_same (both_at (bound + 1) left right own i) (λ j. claim (pair_of u (get_or vs j 0))) (range_with_len 0 (length vs))
+      (λ j h. let also = Contains-range_cases 0 (length vs) j h in pair_at i j within (omega arith))
+      ∙ sym (by_places (λ v. claim (pair_of u v)) vs)
+      ∙ ap (map (λ v. claim (pair_of u v))) rv
+      ∙ sym (map-map claim (pair_of u) (values (generalized bound) r))
+
+  pairs_are : pairs_given (bound + 1) left right own ≡ map claim (flat_map (λ u. map (pair_of u) (values (generalized bound) r)) (values (generalized bound) l))
+  pairs_are =
+      let us = left.values.items in
+      let row = λ (u : ℕ). map (pair_of u) (values (generalized bound) r) in
+      rows_same claim (λ i. row (get_or us i 0)) (row_given (bound + 1) left right own) (range_with_len 0 (length us)) (λ i h. let within = Contains-range_cases 0 (length us) i h in row_is i (omega arith))
+      ∙ ap (map claim) (sym (rows_by_places row us) ∙ ap (flat_map row) lv)
+
+  node_are : node_given (bound + 1) left lefts right rights own ≡ map bare (node_reasons (generalized bound) generalized_pairs l r id)
+  node_are =
+      let us = values (generalized bound) l in
+      let vs = values (generalized bound) r in
+      let ones = map (λ u. pair_of u 0) us in
+      let others = map (pair_of 0) vs in
+      let twos = flat_map (λ u. map (pair_of u) vs) us in
+      (λ k. left_ones k ++ (right_ones k ++ pairs_are k))
+      ∙ ap (λ (rs : List Reason). map claim ones ++ rs) (sym (map-append claim others twos))
+      ∙ sym (map-append claim ones (others ++ twos))
+      ∙ sym (map-map bare (pair_reason (generalized bound) l r 0 id) (generalized_pairs us vs))
+
+  -- the clauses of a part are those of its halves, and its own
+  pub parts_given : (ts : List Term) (middle : ℕ) → tree_of (weights ts) ≡ node (tree_of (weights lefts)) (tree_of (weights rights)) → middle ≡ id + 2 * fresh_of (generalized bound) (tree_of (weights lefts))
+      → HaveSameSteps (part_reasons bound lefts id ++ (part_reasons bound rights middle ++ node_given (bound + 1) left lefts right rights own)) (part_reasons bound ts id)
+  parts_given ts middle tree is =
+      let owns = node_reasons (generalized bound) generalized_pairs l r id in
+      halves_given (generalized bound) generalized_pairs (tree_of (weights ts)) l r id tree middle (node_given (bound + 1) left lefts right rights own) is
+      (subst (λ (rs : List Reason). HaveSameSteps rs owns) (sym node_are) (bare_same owns))
+
+pub source_is : (bound : ℕ) (ts : List Term) (l r : Tree) (id base : ℕ) (us : List ℕ) → tree_of (weights ts) ≡ node l r → us ≡ values (generalized bound) (node l r)
+    → base ≡ id + 2 * fresh_of (generalized bound) l + 2 * fresh_of (generalized bound) r
+    → (λ (u : ℕ). (base + 2 * place_of u us) ∷ []) ≡ output_ids (generalized bound) (tree_of (weights ts)) id
+source_is bound ts l r id base us tree own is =
+    let s = generalized bound in
+    let e : (u : ℕ) → base + 2 * place_of u us ≡ id + 2 * (fresh_of s l + fresh_of s r + place_of u (values s (node l r))) = λ u. omega (arith, is, ap (place_of u) own) in
+    (λ i u. (e u i) ∷ []) ∙ ap (λ (t : Tree). output_ids s t id) (sym tree)
+
+-- ---- the root
+
+-- all clauses are those of the nodes and that of the root
+pub root_given_last : (bound : ℕ) (ts : List Term) (id own : ℕ) (root : Handed) → ids_of root ≡ output_ids (generalized bound) (tree_of (weights ts)) id
+    → HaveSameSteps (part_reasons bound ts id ++ root_given root (bound + 1) own ∷ []) (all_reasons bound ts id own)
+root_given_last bound ts id own root same =
+    let last = root_reason (generalized bound) (tree_of (weights ts)) 0 id own in
+    let is : root_given root (bound + 1) own ≡ bare last = ap (λ (f : ℕ → List ℕ). named (f (bound + 1) ++ own ∷ []) []) same in
+    same_append (part_reasons bound ts id) (part_reasons bound ts id) (root_given root (bound + 1) own ∷ []) (last ∷ []) (record { count = refl; steps = λ next. refl })
+    (subst (λ (r : Reason). HaveSameSteps (r ∷ []) (last ∷ [])) (sym is) (bare_same (last ∷ [])))
+
+-- from the sink's next id on
+pub all_same : (bound : ℕ) (ts : List Term) (first own base next : ℕ) → base ≡ next
+    → HaveSameSteps (all_reasons bound ts base own) (tree_reasons (generalized bound) generalized_pairs (tree_of (weights ts)) first next own)
+all_same bound ts first own base next is =
+    let s = generalized bound in
+    let t = tree_of (weights ts) in
+    subst (λ (b : ℕ). HaveSameSteps (all_reasons bound ts base own) (tree_reasons s generalized_pairs t first b own)) is (all_first_free s generalized_pairs t 0 first base own)

@@ -1,0 +1,22 @@
+use Rattle.std.proofs.Common.{ap, ◌∙◌, arith}
+use Rattle.pb_tree.specs.Places.{place_of}
+use Rattle.pb_tree.proofs.Places.{place_within}
+use Rattle.pb_gentot.proofs.claims.Owned.second.Goals as goal
+
+pub overflow_mul-result : goal.overflow_mul-result
+overflow_mul-result c =
+    let own = c.args.self.now in
+    let place = c.place-place.ensures ∙ ap (place_of c.args.value) c.as_slice.ensures.value in
+    omega (arith, place, place_within c.args.value own.values.items c.requires.has, c.requires.owned.ids)
+
+pub overflow_add-result : goal.overflow_add-result
+overflow_add-result c =
+    let own = c.args.self.now in
+    let place = c.place-place.ensures ∙ ap (place_of c.args.value) c.as_slice.ensures.value in
+    omega (arith, place, place_within c.args.value own.values.items c.requires.has, c.requires.owned.ids)
+
+pub overflow_add-result-2 : goal.overflow_add-result-2
+overflow_add-result-2 c =
+    let own = c.args.self.now in
+    let place = c.place-place.ensures ∙ ap (place_of c.args.value) c.as_slice.ensures.value in
+    omega (arith, place, place_within c.args.value own.values.items c.requires.has, c.requires.owned.ids)

@@ -1,0 +1,65 @@
+use Rattle.std.proofs.Common.{◌++◌, arith}
+use Rattle.pb_family.proofs.FlatPieces.{reasons_then, reasons_stopped, reasons_next}
+use Rattle.pb_gentot.specs.laws.Sources.{ones_given, pairs_given}
+use Rattle.pb_gentot.proofs.Handed.{ones_length, node_length}
+use Rattle.pb_gentot.proofs.claims.take_node.Goals as goal
+
+pub take_ones-requires-clause-few : goal.take_ones-requires-clause-few
+take_ones-requires-clause-few g c =
+    omega (arith, node_length c.args.cap c.args.left.now c.args.lefts.now c.args.right.now c.args.rights.now c.args.own.now, c.requires.few)
+
+pub returns-in_err-take_ones : goal.returns-in_err-take_ones
+returns-in_err-take_ones g c =
+    let xs = ones_given c.args.left.now c.args.rights.now c.args.own.now in
+    let ys = ones_given c.args.right.now c.args.lefts.now c.args.own.now in
+    let zs = pairs_given c.args.cap c.args.left.now c.args.right.now c.args.own.now in
+    reasons_stopped c.from_residual.result _ xs (ys ++ zs) (g.T.StepSink.state c.args.sink.now) (g.T.StepSink.state c.take_ones.new.sink) c.from_residual.ensures.1 c.in_err-take_ones.ensures
+
+pub take_ones-requires-2-clause-few : goal.take_ones-requires-2-clause-few
+take_ones-requires-2-clause-few g c =
+    let xs = ones_given c.args.left.now c.args.rights.now c.args.own.now in
+    let next = reasons_next xs (g.T.StepSink.state c.args.sink.now) (g.T.StepSink.state c.take_ones.new.sink) c.in_ok-take_ones.ensures in
+    omega (arith, next, ones_length c.args.left.now c.args.rights.now c.args.own.now, node_length c.args.cap c.args.left.now c.args.lefts.now c.args.right.now c.args.rights.now c.args.own.now, c.requires.few)
+
+pub returns-in_err-take_ones-2 : goal.returns-in_err-take_ones-2
+returns-in_err-take_ones-2 g c =
+    let xs = ones_given c.args.left.now c.args.rights.now c.args.own.now in
+    let ys = ones_given c.args.right.now c.args.lefts.now c.args.own.now in
+    let zs = pairs_given c.args.cap c.args.left.now c.args.right.now c.args.own.now in
+    let result = c.from_residual-in_err-take_ones-2.result in
+    let mid = g.T.StepSink.state c.take_ones.new.sink in
+    let after = g.T.StepSink.state c.take_ones-2.new.sink in
+    reasons_then result xs (ys ++ zs) (g.T.StepSink.state c.args.sink.now) mid after c.in_ok-take_ones.ensures
+    (reasons_stopped result _ ys zs mid after c.from_residual-in_err-take_ones-2.ensures.1 c.in_err-take_ones-2.ensures)
+
+pub take_pairs-requires-clause-few : goal.take_pairs-requires-clause-few
+take_pairs-requires-clause-few g c =
+    let mid = g.T.StepSink.state c.take_ones.new.sink in
+    let one = reasons_next (ones_given c.args.left.now c.args.rights.now c.args.own.now) (g.T.StepSink.state c.args.sink.now) mid c.in_ok-take_ones.ensures in
+    let two = reasons_next (ones_given c.args.right.now c.args.lefts.now c.args.own.now) mid (g.T.StepSink.state c.take_ones-2.new.sink) c.in_ok-take_ones-2.ensures in
+    omega (
+      arith,
+      one,
+      two,
+      ones_length c.args.left.now c.args.rights.now c.args.own.now,
+      ones_length c.args.right.now c.args.lefts.now c.args.own.now,
+      node_length c.args.cap c.args.left.now c.args.lefts.now c.args.right.now c.args.rights.now c.args.own.now,
+      c.requires.few,
+    )
+
+pub returns : goal.returns
+returns g c =
+    let xs = ones_given c.args.left.now c.args.rights.now c.args.own.now in
+    let ys = ones_given c.args.right.now c.args.lefts.now c.args.own.now in
+    let zs = pairs_given c.args.cap c.args.left.now c.args.right.now c.args.own.now in
+    let result = c.take_pairs.result in
+    let mid = g.T.StepSink.state c.take_ones.new.sink in
+    let two = g.T.StepSink.state c.take_ones-2.new.sink in
+    let new = g.T.StepSink.state c.take_pairs.new.sink in
+    reasons_then result xs (ys ++ zs) (g.T.StepSink.state c.args.sink.now) mid new c.in_ok-take_ones.ensures (reasons_then result ys zs mid two new c.in_ok-take_ones-2.ensures c.take_pairs.ensures)
+
+pub take_ones-requires-clause-room : goal.take_ones-requires-clause-room
+take_ones-requires-clause-room g c = c.requires.left.ids
+
+pub take_ones-requires-2-clause-room : goal.take_ones-requires-2-clause-room
+take_ones-requires-2-clause-room g c = c.requires.right.ids

@@ -1,0 +1,88 @@
+//! The clauses of a generalized totalizer's derivation, part by part.
+ghost use Rattle.std.specs.Prelude.{◌≡◌, ◌≤◌, ◌<◌, ◌+◌, ◌*◌, ◌^◌, All, length, IfOk};
+ghost use Rattle.pb_norm.specs.Constraints.{weights};
+ghost use Rattle.pb_family.specs.laws.HandedReasons.{HandsReasons};
+ghost use Rattle.pb_tree.specs.Tree.{tree_of};
+ghost use Rattle.pb_tree.specs.Scheme.{values, fresh_of};
+ghost use Rattle.pb_tree.specs.TreeSteps.{output_ids};
+ghost use Rattle.pb_gentot.specs.Generalized.{generalized, ascending, sums};
+ghost use Rattle.pb_gentot.specs.laws.Sources.{AreLeavesPositive, HasIds, IsOwned, ids_of, part_reasons};
+
+use crate::claims::{Handed, Owned, Source, take_node};
+use crate::ranks::Ranks;
+use crate::sets::{single, values_over};
+use crate::tables::table_size;
+use pb_base::Term;
+use pb_family::{SinkFault, StepSink};
+use std::alloc::{AllocError, Global};
+
+/// What a node has over two parts.
+fn owned(
+    alloc: Global,
+    left: &[u128],
+    right: &[u128],
+    id: u64,
+    cap: u128,
+) -> Result<Owned, AllocError>
+    requires left_small { All (λ v. v ≤ cap) left.now }
+    requires right_small { All (λ v. v ≤ cap) right.now }
+    requires few { cap < 2 ^ 101 }
+    requires fits { length (ascending cap (sums cap left.now right.now)) ≤ 2 ^ 31 }
+    requires room { id + 2 * length (ascending cap (sums cap left.now right.now)) < 2 ^ 62 }
+    ensures values { IfOk result (λ own. own.values.items ≡ ascending cap (sums cap left.now right.now)) }
+    ensures id { IfOk result (λ own. own.id ≡ id) }
+    ensures owned { IfOk result (λ own. IsOwned own) }
+{
+    let values = values_over(alloc, left, right, cap)?;
+    let size = table_size(cap, left.len(), right.len());
+    let ranks = Ranks::of(alloc, values.as_slice(), size)?;
+    Ok(Owned { values, id, ranks })
+}
+
+/// The clauses of the generalized totalizer of some terms, whose variables' constraints have the ids from `id` on.
+pub fn take_part<T: StepSink>(
+    alloc: Global,
+    terms: &[Term],
+    bound: u128,
+    id: u64,
+    sink: &mut T,
+) -> Result<Handed, SinkFault>
+    requires some { 1 ≤ length terms.now }
+    requires positive { AreLeavesPositive (tree_of (weights terms.now)) }
+    requires small { bound < 2 ^ 100 }
+    requires few { fresh_of (generalized bound) (tree_of (weights terms.now)) ≤ 2 ^ 31 }
+    requires ids { id + 2 * fresh_of (generalized bound) (tree_of (weights terms.now)) < 2 ^ 62 }
+    requires room { (T.state sink.old).next + length (part_reasons bound terms.now id) < 2 ^ 62 }
+    ensures hands { HandsReasons (part_reasons bound terms.now id) result (T.state sink.old) (T.state sink.new) }
+    ensures values { IfOk result (λ part. part.values.items ≡ values (generalized bound) (tree_of (weights terms.now))) }
+    ensures ids { IfOk result (λ part. ids_of part ≡ output_ids (generalized bound) (tree_of (weights terms.now)) id) }
+    ensures has { IfOk result (λ part. HasIds part.source (length part.values.items)) }
+    ensures next { IfOk result (λ part. part.next ≡ id + 2 * fresh_of (generalized bound) (tree_of (weights terms.now))) }
+{
+    let cap = bound + 1;
+    if terms.len() == 1 {
+        let values = single(alloc, terms[0].weight().min(cap))?;
+        return Ok(Handed {
+            values,
+            source: Source::Leaf,
+            next: id,
+        });
+    }
+    let (lefts, rights) = terms.split_at(terms.len() / 2);
+    let left = take_part(alloc, lefts, bound, id, sink)?;
+    let right = take_part(alloc, rights, bound, left.next, sink)?;
+    let own = owned(
+        alloc,
+        left.values.as_slice(),
+        right.values.as_slice(),
+        right.next,
+        cap,
+    )?;
+    take_node(alloc, &left, lefts, &right, rights, &own, cap, sink)?;
+    let next = right.next + 2 * own.values.as_slice().len() as u64;
+    Ok(Handed {
+        values: own.values,
+        source: Source::Fresh(right.next),
+        next,
+    })
+}

@@ -1,0 +1,98 @@
+//! What the fresh variables of a generalized totalizer mean.
+ghost use Rattle.std.specs.Prelude.{◌≡◌, ◌≤◌, ◌<◌, ◌+◌, ◌*◌, ◌^◌, ◌∷◌, [], All, length, IfOk};
+ghost use Rattle.pb_norm.specs.Constraints.{weight, weights};
+ghost use Rattle.pb_family.specs.laws.HandedReasons.{HandsMeanings};
+ghost use Rattle.pb_tree.specs.Tree.{tree_of};
+ghost use Rattle.pb_tree.specs.Scheme.{values, fresh_of};
+ghost use Rattle.pb_tree.specs.TreeSteps.{meanings_from, meanings};
+ghost use Rattle.pb_gentot.specs.Generalized.{generalized};
+ghost use Rattle.pb_gentot.specs.laws.Sources.{output_meaning};
+
+use crate::sets::{single, values_over};
+use pb_base::Term;
+use pb_family::{SinkFault, StepSink, fresh_at, take_meaning};
+use std::alloc::Global;
+
+/// What the output of the value at a place means.
+fn take_output<T: StepSink>(
+    alloc: Global,
+    terms: &[Term],
+    first: u32,
+    values: &[u128],
+    place: usize,
+    sink: &mut T,
+) -> Result<(), SinkFault>
+    requires low { 1 ≤ first }
+    requires high { first + place < 2 ^ 31 }
+    requires light { weight (weights terms.now) < 2 ^ 100 }
+    requires within { place < length values.now }
+    requires small { All (λ u. u < 2 ^ 101) values.now }
+    requires few { (T.state sink.old).next + 1 < 2 ^ 62 }
+    ensures { HandsMeanings (output_meaning first (weights terms.now) values.now place ∷ []) result (T.state sink.old) (T.state sink.new) }
+{
+    let var = fresh_at(first, place).var;
+    take_meaning(alloc, var, terms, values[place], sink)
+}
+
+/// What the outputs of a node mean.
+fn take_outputs<T: StepSink>(
+    alloc: Global,
+    terms: &[Term],
+    first: u32,
+    values: &[u128],
+    sink: &mut T,
+) -> Result<(), SinkFault>
+    requires low { 1 ≤ first }
+    requires high { first + length values.now ≤ 2 ^ 31 }
+    requires light { weight (weights terms.now) < 2 ^ 100 }
+    requires small { All (λ u. u < 2 ^ 101) values.now }
+    requires few { (T.state sink.old).next + 2 * length values.now ≤ 2 ^ 61 + 2 ^ 33 }
+    ensures { HandsMeanings (meanings_from first (weights terms.now) values.now) result (T.state sink.old) (T.state sink.new) }
+{
+    for place in 0..values.len() {
+        take_output(alloc, terms, first, values, place, sink)?;
+    }
+    Ok(())
+}
+
+/// The values of a part, and the number after its fresh variables.
+#[derive(Drop)]
+pub struct Meant {
+    pub values: Vec<u128>,
+    pub next: u32,
+}
+
+/// What the fresh variables of the generalized totalizer of some terms mean, which begin at a number.
+pub fn take_meanings<T: StepSink>(
+    alloc: Global,
+    terms: &[Term],
+    bound: u128,
+    first: u32,
+    sink: &mut T,
+) -> Result<Meant, SinkFault>
+    requires some { 1 ≤ length terms.now }
+    requires small { bound < 2 ^ 100 }
+    requires low { 1 ≤ first }
+    requires light { weight (weights terms.now) < 2 ^ 100 }
+    requires fits { first + fresh_of (generalized bound) (tree_of (weights terms.now)) ≤ 2 ^ 31 }
+    requires few { (T.state sink.old).next + 2 * fresh_of (generalized bound) (tree_of (weights terms.now)) ≤ 2 ^ 61 + 2 ^ 33 }
+    ensures hands { HandsMeanings (meanings (generalized bound) (tree_of (weights terms.now)) first) result (T.state sink.old) (T.state sink.new) }
+    ensures values { IfOk result (λ part. part.values.items ≡ values (generalized bound) (tree_of (weights terms.now))) }
+    ensures next { IfOk result (λ part. part.next ≡ first + fresh_of (generalized bound) (tree_of (weights terms.now))) }
+{
+    let cap = bound + 1;
+    if terms.len() == 1 {
+        let values = single(alloc, terms[0].weight().min(cap))?;
+        return Ok(Meant {
+            values,
+            next: first,
+        });
+    }
+    let (lefts, rights) = terms.split_at(terms.len() / 2);
+    let left = take_meanings(alloc, lefts, bound, first, sink)?;
+    let right = take_meanings(alloc, rights, bound, left.next, sink)?;
+    let made = values_over(alloc, left.values.as_slice(), right.values.as_slice(), cap)?;
+    take_outputs(alloc, terms, right.next, made.as_slice(), sink)?;
+    let next = right.next + made.as_slice().len() as u32;
+    Ok(Meant { values: made, next })
+}

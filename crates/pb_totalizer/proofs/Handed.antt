@@ -1,0 +1,178 @@
+-- The steps of a totalizer's derivation as the code has their parts.
+use Rattle.std.proofs.Common.{◌≡◌, ◌≤◌, ◌+◌, ◌-◌, ◌*◌, ◌++◌, ℕ, zero, suc, List, [], ◌∷◌, length, map, min, refl, sym, ap, ◌∙◌, subst, arith}
+use Rattle.std.specs.List.{range_with_len}
+use Rattle.pb_base.specs.declared.literal.Term.{Term}
+use Rattle.pb_norm.specs.BoundedSums.{vars_of}
+use Rattle.pb_norm.specs.Constraints.{Weighted, weights}
+use Rattle.pb_steps.specs.declared.step.Step.{Step}
+use Rattle.pb_derive.specs.Claims.{claim_steps}
+use Rattle.pb_derive.specs.Meanings.{meaning_steps}
+use Rattle.pb_derive.specs.Reasons.{Reason, by_reason}
+use Rattle.pb_family.specs.Derivations.{pieces}
+use Rattle.pb_family.proofs.SameSteps.{HaveSameSteps, same_append}
+use Rattle.pb_family.proofs.Sequence.{meaning_pieces, reason_pieces}
+use Rattle.pb_tree.specs.Pairs.{Pair, pair_of}
+use Rattle.pb_tree.specs.Scheme.{values, fresh_of}
+use Rattle.pb_tree.specs.Tree.{Tree, node, tree_of}
+use Rattle.pb_tree.specs.TreeSteps.{meanings_from, meanings, output_ids, part_ids, part_weakened, pair_reason, root_reason, tree_reasons}
+use Rattle.pb_tree.proofs.PairLists.{map_same, map-map, rows_same}
+use Rattle.pb_tree.proofs.TreeHalves.{halves_meant, node_reasons, halves_given, halves_same, halves_length}
+use Rattle.pb_tree.proofs.TreeHanded.{range_shift, bare, bare_same, all_first_free}
+use Rattle.pb_tree.proofs.TreeRows.{leaves_of}
+use Rattle.pb_totalizer.specs.Totalizer.{partners, totalizer}
+use Rattle.pb_totalizer.specs.TotalizerSteps.{totalizer_pairs}
+use Rattle.pb_totalizer.specs.declared.claims.Source.{Source}
+use Rattle.pb_totalizer.specs.declared.claims.Source.TheVariants.{Fresh}
+use Rattle.pb_totalizer.specs.laws.ByPairs.{partner_bounds}
+use Rattle.pb_totalizer.specs.laws.Sources.{output_meaning, ids_from, some_ids, weakened_at, pair_given, row_given, node_given, root_given, part_reasons, all_reasons}
+use Rattle.pb_totalizer.proofs.Partners.{partners_are}
+
+-- ---- meanings
+
+outputs_from : (first : ℕ) (ts : List Weighted) (var a n : ℕ) → var ≡ first + a → meanings_from var ts (range_with_len (a + 1) n) ≡ map (output_meaning first ts) (range_with_len a n)
+outputs_from first ts var a zero is = refl
+outputs_from first ts var a (suc n) is = λ i. record { var = is i; sum = ts; least = a + 1 } ∷ outputs_from first ts (var + 1) (a + 1) n (let e : var + 1 ≡ first + (a + 1) = omega (arith, is) in e) i
+
+abbrev pub output_piece : ℕ → List Weighted → ℕ → ℕ → List Step
+output_piece first ts id k = meaning_steps id (output_meaning first ts k ∷ [])
+
+pub output_pieces : (first : ℕ) (ts : List Weighted) (next n : ℕ) → meaning_steps next (meanings_from first ts (range_with_len 1 n)) ≡ pieces (output_piece first ts) 2 next 0 n
+output_pieces first ts next n =
+    ap (meaning_steps next) (outputs_from first ts first 0 n (let e : first ≡ first + 0 = omega arith in e)) ∙ meaning_pieces (output_meaning first ts) next 0 n
+
+-- the meanings of a part are those of its halves, and its own
+pub parts_meant : (bound : ℕ) (ts lefts rights : List Term) (first middle start count : ℕ) → tree_of (weights ts) ≡ node (tree_of (weights lefts)) (tree_of (weights rights))
+    → middle ≡ first + fresh_of (totalizer bound) (tree_of (weights lefts)) → start ≡ middle + fresh_of (totalizer bound) (tree_of (weights rights))
+    → count ≡ min (length (values (totalizer bound) (tree_of (weights lefts))) + length (values (totalizer bound) (tree_of (weights rights)))) (bound + 1)
+    → meanings (totalizer bound) (tree_of (weights lefts)) first ++ (meanings (totalizer bound) (tree_of (weights rights)) middle ++ meanings_from start (weights ts) (range_with_len 1 count))
+    ≡ meanings (totalizer bound) (tree_of (weights ts)) first
+parts_meant bound ts lefts rights first middle start count tree is at counts =
+    halves_meant (totalizer bound) ts (tree_of (weights lefts)) (tree_of (weights rights)) first middle start (range_with_len 1 count) tree is at (ap (range_with_len 1) counts)
+
+-- ---- rows
+
+abbrev pub pair_piece : (ℕ → Reason) → ℕ → ℕ → ℕ → List Step
+pair_piece f low id k = claim_steps id (by_reason (f (low + k)) ∷ [])
+
+pub row_pieces : (f : ℕ → Reason) (cap b i low high next : ℕ) → i ≤ cap → low ≡ 1 - i → high ≡ min b (cap - i) + 1
+    → claim_steps next (map by_reason (map f (partners cap b i))) ≡ pieces (pair_piece f low) 1 next 0 (high - low)
+row_pieces f cap b i low high next within starts ends =
+    ap (λ (js : List ℕ). claim_steps next (map by_reason (map f js))) (partners_are cap b i low high within starts ends ∙ ap (λ (a : ℕ). range_with_len a (high - low)) (let e : low ≡ low + 0 = omega arith in e))
+    ∙ ap (λ (rs : List Reason). claim_steps next (map by_reason rs)) (range_shift f low 0 (high - low))
+    ∙ reason_pieces (λ k. f (low + k)) next 0 (high - low)
+
+-- ---- the clauses of a node
+
+some_are : (source : Source) (bound : ℕ) (t : Tree) (id u : ℕ) → ids_from source ≡ output_ids (totalizer bound) t id → some_ids source u ≡ part_ids (totalizer bound) t id u
+some_are source bound t id zero same = refl
+some_are source bound t id (suc u) same = ap (λ (f : ℕ → List ℕ). f (suc u)) same
+
+weakened_are : (ts : List Term) (u : ℕ) → vars_of (weights (weakened_at ts u)) ≡ part_weakened (tree_of (weights ts)) u
+weakened_are ts zero = ap vars_of (sym (leaves_of (weights ts)))
+weakened_are ts (suc u) = refl
+
+abbrev named : List ℕ → List ℕ → Reason
+named ids weakened = record { clause = []; ids = ids; weakened = weakened }
+
+module _ (bound : ℕ) (lefts rights : List Term) (id own : ℕ) (sl sr : Source)
+    (left : ids_from sl ≡ output_ids (totalizer bound) (tree_of (weights lefts)) id)
+    (right : ids_from sr ≡ output_ids (totalizer bound) (tree_of (weights rights)) (id + 2 * fresh_of (totalizer bound) (tree_of (weights lefts))))
+    (at : own ≡ id + 2 * fresh_of (totalizer bound) (tree_of (weights lefts)) + 2 * fresh_of (totalizer bound) (tree_of (weights rights))) where
+  given_is : (i j : ℕ) → i + j ≤ bound + 1 → pair_given sl lefts sr rights own i j ≡ bare (pair_reason (totalizer bound) (tree_of (weights lefts)) (tree_of (weights rights)) 0 id (pair_of i j))
+  given_is i j le =
+      let s = totalizer bound in
+      let l = tree_of (weights lefts) in
+      let r = tree_of (weights rights) in
+      let one = some_are sl bound l id i left in
+      let two = some_are sr bound r (id + 2 * fresh_of s l) j right in
+      let last : own + 2 * (i + j - 1) + 1 ≡ id + 2 * (fresh_of s l + fresh_of s r + (min (i + j) (bound + 1) - 1)) + 1 = omega (arith, at, le) in
+      let three = weakened_are lefts i in
+      let four = weakened_are rights j in
+      λ k. named (one k ++ (two k ++ last k ∷ [])) (three k ++ four k)
+
+  node_are : (a b : ℕ) → a ≡ length (values (totalizer bound) (tree_of (weights lefts))) → b ≡ length (values (totalizer bound) (tree_of (weights rights)))
+      → node_given (bound + 1) a b sl lefts sr rights own
+      ≡ map bare (map (pair_reason (totalizer bound) (tree_of (weights lefts)) (tree_of (weights rights)) 0 id)
+      (totalizer_pairs (bound + 1) (values (totalizer bound) (tree_of (weights lefts))) (values (totalizer bound) (tree_of (weights rights)))))
+  node_are a b ea eb =
+      let s = totalizer bound in
+      let l = tree_of (weights lefts) in
+      let r = tree_of (weights rights) in
+      let n = length (values s l) in
+      let m = length (values s r) in
+      let claim = λ (p : Pair). bare (pair_reason s l r 0 id p) in
+      (λ k. node_given (bound + 1) (ea k) (eb k) sl lefts sr rights own)
+      ∙ rows_same claim (λ i. map (pair_of i) (partners (bound + 1) m i)) (row_given (bound + 1) m sl lefts sr rights own) (range_with_len 0 (n + 1))
+      (λ i here.
+      map_same (pair_given sl lefts sr rights own i) (λ j. claim (pair_of i j)) (partners (bound + 1) m i) (λ j k. given_is i j (partner_bounds (bound + 1) m i j k).1)
+      ∙ sym (map-map claim (pair_of i) (partners (bound + 1) m i)))
+      ∙ sym (map-map bare (pair_reason s l r 0 id) (totalizer_pairs (bound + 1) (values s l) (values s r)))
+
+-- the clauses of a part are those of its halves, and its own
+pub parts_given : (bound : ℕ) (ts lefts rights : List Term) (id own a b middle : ℕ) (sl sr : Source) → tree_of (weights ts) ≡ node (tree_of (weights lefts)) (tree_of (weights rights))
+    → ids_from sl ≡ output_ids (totalizer bound) (tree_of (weights lefts)) id
+    → middle ≡ id + 2 * fresh_of (totalizer bound) (tree_of (weights lefts))
+    → ids_from sr ≡ output_ids (totalizer bound) (tree_of (weights rights)) middle
+    → own ≡ middle + 2 * fresh_of (totalizer bound) (tree_of (weights rights))
+    → a ≡ length (values (totalizer bound) (tree_of (weights lefts))) → b ≡ length (values (totalizer bound) (tree_of (weights rights)))
+    → HaveSameSteps (part_reasons bound lefts id ++ (part_reasons bound rights middle ++ node_given (bound + 1) a b sl lefts sr rights own)) (part_reasons bound ts id)
+parts_given bound ts lefts rights id own a b middle sl sr tree left is right at ea eb =
+    let s = totalizer bound in
+    let l = tree_of (weights lefts) in
+    let r = tree_of (weights rights) in
+    let own_reasons = node_reasons s (totalizer_pairs (bound + 1)) l r id in
+    let right_at : ids_from sr ≡ output_ids s r (id + 2 * fresh_of s l) = right ∙ ap (λ (n : ℕ). output_ids s r n) is in
+    halves_given s (totalizer_pairs (bound + 1)) (tree_of (weights ts)) l r id tree middle (node_given (bound + 1) a b sl lefts sr rights own) is
+    (subst (λ (rs : List Reason). HaveSameSteps rs own_reasons) (sym (node_are bound lefts rights id own sl sr left right_at (omega (arith, at, is)) a b ea eb)) (bare_same own_reasons))
+
+-- how many they are
+pub parts_length : (bound : ℕ) (ts lefts rights : List Term) (id : ℕ) → tree_of (weights ts) ≡ node (tree_of (weights lefts)) (tree_of (weights rights))
+    → length (part_reasons bound lefts id) + length (part_reasons bound rights (id + 2 * fresh_of (totalizer bound) (tree_of (weights lefts)))) ≤ length (part_reasons bound ts id)
+parts_length bound ts lefts rights id tree = halves_length (totalizer bound) (totalizer_pairs (bound + 1)) (tree_of (weights ts)) (tree_of (weights lefts)) (tree_of (weights rights)) id tree
+
+-- a node's own, in the order of its pairs
+abbrev pub own_reasons : ℕ → List Term → List Term → ℕ → List Reason
+own_reasons bound lefts rights id = node_reasons (totalizer bound) (totalizer_pairs (bound + 1)) (tree_of (weights lefts)) (tree_of (weights rights)) id
+
+pub parts_same : (bound : ℕ) (ts lefts rights : List Term) (id middle : ℕ) → tree_of (weights ts) ≡ node (tree_of (weights lefts)) (tree_of (weights rights))
+    → middle ≡ id + 2 * fresh_of (totalizer bound) (tree_of (weights lefts))
+    → HaveSameSteps (part_reasons bound lefts id ++ (part_reasons bound rights middle ++ own_reasons bound lefts rights id)) (part_reasons bound ts id)
+parts_same bound ts lefts rights id middle tree is = halves_same (totalizer bound) (totalizer_pairs (bound + 1)) (tree_of (weights ts)) (tree_of (weights lefts)) (tree_of (weights rights)) id tree middle is
+
+pub source_is : (bound : ℕ) (ts lefts rights : List Term) (id own : ℕ) → tree_of (weights ts) ≡ node (tree_of (weights lefts)) (tree_of (weights rights))
+    → own ≡ id + 2 * fresh_of (totalizer bound) (tree_of (weights lefts)) + 2 * fresh_of (totalizer bound) (tree_of (weights rights))
+    → ids_from (Fresh own) ≡ output_ids (totalizer bound) (tree_of (weights ts)) id
+source_is bound ts lefts rights id own tree is =
+    let f = fresh_of (totalizer bound) (tree_of (weights lefts)) in
+    let g = fresh_of (totalizer bound) (tree_of (weights rights)) in
+    let e : (u : ℕ) → own + 2 * (u - 1) ≡ id + 2 * (f + g + (u - 1)) = λ u. omega (arith, is) in
+    (λ i u. (e u i) ∷ []) ∙ ap (λ (t : Tree). output_ids (totalizer bound) t id) (sym tree)
+
+-- ---- the root
+
+some_from : (source : Source) (u : ℕ) → 1 ≤ u → some_ids source u ≡ ids_from source u
+some_from source zero some = absurd (omega arith)
+some_from source (suc u) some = refl
+
+pub root_is : (bound : ℕ) (ts : List Term) (id own : ℕ) (root : Source) → ids_from root ≡ output_ids (totalizer bound) (tree_of (weights ts)) id
+    → root_given root (bound + 1) own ≡ bare (root_reason (totalizer bound) (tree_of (weights ts)) 0 id own)
+root_is bound ts id own root same =
+    let ids : some_ids root (bound + 1) ≡ output_ids (totalizer bound) (tree_of (weights ts)) id (bound + 1) = some_from root (bound + 1) (omega arith) ∙ ap (λ (f : ℕ → List ℕ). f (bound + 1)) same in
+    ap (λ (is : List ℕ). named (is ++ own ∷ []) []) ids
+
+-- all clauses are those of the nodes and that of the root
+pub root_given_last : (bound : ℕ) (ts : List Term) (id own : ℕ) (root : Source) → ids_from root ≡ output_ids (totalizer bound) (tree_of (weights ts)) id
+    → HaveSameSteps (part_reasons bound ts id ++ root_given root (bound + 1) own ∷ []) (all_reasons bound ts id own)
+root_given_last bound ts id own root same =
+    let last = root_reason (totalizer bound) (tree_of (weights ts)) 0 id own in
+    same_append (part_reasons bound ts id) (part_reasons bound ts id) (root_given root (bound + 1) own ∷ []) (last ∷ []) (record { count = refl; steps = λ next. refl })
+    (subst (λ (r : Reason). HaveSameSteps (r ∷ []) (last ∷ [])) (sym (root_is bound ts id own root same)) (bare_same (last ∷ [])))
+
+-- from the sink's next id on
+pub all_same : (bound : ℕ) (ts : List Term) (first own base next : ℕ) → base ≡ next
+    → HaveSameSteps (all_reasons bound ts base own) (tree_reasons (totalizer bound) (totalizer_pairs (bound + 1)) (tree_of (weights ts)) first next own)
+all_same bound ts first own base next is =
+    let s = totalizer bound in
+    let t = tree_of (weights ts) in
+    let pairs = totalizer_pairs (bound + 1) in
+    subst (λ (b : ℕ). HaveSameSteps (all_reasons bound ts base own) (tree_reasons s pairs t first b own)) is (all_first_free s pairs t 0 first base own)

@@ -1,0 +1,90 @@
+//! The derivation of a totalizer's clauses.
+ghost use Rattle.std.specs.Prelude.{◌≡◌, ◌≤◌, ◌<◌, ◌+◌, ◌*◌, ◌^◌, ◌++◌, ◌∷◌, [], length, IfOk};
+ghost use Rattle.pb_norm.specs.BoundedSums.{sum_within};
+ghost use Rattle.pb_norm.specs.Constraints.{weight, weights};
+ghost use Rattle.pb_family.specs.StepSinks.{HandsSteps};
+ghost use Rattle.pb_family.specs.laws.HandedReasons.{HandsReasons};
+ghost use Rattle.pb_tree.specs.Tree.{tree_of};
+ghost use Rattle.pb_tree.specs.Scheme.{fresh_of};
+ghost use Rattle.pb_totalizer.specs.Totalizer.{totalizer};
+ghost use Rattle.pb_totalizer.specs.TotalizerSteps.{totalizer_steps};
+ghost use Rattle.pb_totalizer.specs.laws.Sources.{HasIds, some_ids, root_given, part_reasons, all_reasons};
+
+use crate::claims::{Source, push_part};
+use crate::handing::take_part;
+use crate::meanings::take_meanings;
+use pb_base::Term;
+use pb_family::{SinkFault, StepSink, take_claim, take_deletions};
+use std::alloc::{AllocError, Global};
+
+/// The ids of the constraints that the root's clause follows from.
+fn root_ids(alloc: Global, root: Source, number: u64, own: u64) -> Result<Vec<u64>, AllocError>
+    requires room { HasIds root }
+    requires small { number < 2 ^ 33 }
+    ensures { IfOk result (λ ids. ids.items ≡ some_ids root number ++ own ∷ []) }
+{
+    let mut ids = Vec::new(alloc);
+    push_part(&mut ids, root, number)?;
+    ids.push(own)?;
+    Ok(ids)
+}
+
+/// That not so many leaves are true, by the sum's own constraint.
+fn take_root<T: StepSink>(
+    alloc: Global,
+    root: Source,
+    number: u64,
+    own: u64,
+    sink: &mut T,
+) -> Result<(), SinkFault>
+    requires room { HasIds root }
+    requires small { number < 2 ^ 33 }
+    requires few { (T.state sink.old).next + 1 < 2 ^ 62 }
+    ensures { HandsReasons (root_given root number own ∷ []) result (T.state sink.old) (T.state sink.new) }
+{
+    let ids = root_ids(alloc, root, number, own)?;
+    take_claim(alloc, ids.as_slice(), &[], sink)
+}
+
+/// The clauses of the totalizer of some terms, with that of the root.
+fn take_clauses<T: StepSink>(
+    alloc: Global,
+    terms: &[Term],
+    bound: u64,
+    id: u64,
+    own: u64,
+    sink: &mut T,
+) -> Result<(), SinkFault>
+    requires some { 1 ≤ length terms.now }
+    requires small { bound < 2 ^ 31 }
+    requires ids { id + 2 * fresh_of (totalizer bound) (tree_of (weights terms.now)) < 2 ^ 62 }
+    requires room { (T.state sink.old).next + length (part_reasons bound terms.now id) + 1 < 2 ^ 62 }
+    ensures { HandsReasons (all_reasons bound terms.now id own) result (T.state sink.old) (T.state sink.new) }
+{
+    let root = take_part(alloc, terms, bound, id, sink)?;
+    take_root(alloc, root.source, bound + 1, own, sink)
+}
+
+/// Hands over the whole derivation, where `id` is the constraint's.
+pub fn derive_totalizer<T: StepSink>(
+    alloc: Global,
+    terms: &[Term],
+    bound: u64,
+    first: u32,
+    id: u64,
+    sink: &mut T,
+) -> Result<(), SinkFault>
+    requires from { 1 ≤ bound }
+    requires more { bound < length terms.now }
+    requires short { length terms.now < 2 ^ 31 }
+    requires low { 1 ≤ first }
+    requires fits { first + fresh_of (totalizer bound) (tree_of (weights terms.now)) ≤ 2 ^ 31 }
+    requires light { weight (weights terms.now) < 2 ^ 100 }
+    requires few { (T.state sink.old).next ≤ 2 ^ 61 }
+    ensures { HandsSteps (totalizer_steps (sum_within terms.now bound) first id (T.state sink.old).next) result (T.state sink.old) (T.state sink.new) }
+{
+    let base = sink.next_id();
+    let meant = take_meanings(alloc, terms, bound, first, sink)?;
+    take_clauses(alloc, terms, bound, base, id, sink)?;
+    take_deletions(alloc, base, 2, (meant.next - first) as u64, sink)
+}

@@ -1,0 +1,55 @@
+-- Meanings and clauses of a tree over its two halves, as code hands them over.
+use Rattle.std.proofs.Common.{◌≡◌, ◌≤◌, ◌+◌, ◌*◌, ◌++◌, ℕ, List, length, map, refl, sym, ap, ◌∙◌, subst, arith, length-append}
+use Rattle.pb_base.specs.declared.literal.Term.{Term}
+use Rattle.pb_norm.specs.Constraints.{weight, weights}
+use Rattle.pb_derive.specs.Reasons.{Reason}
+use Rattle.pb_derive.proofs.Sides.{weight-append}
+use Rattle.pb_family.proofs.SameSteps.{HaveSameSteps, same_append}
+use Rattle.pb_tree.specs.Pairs.{Pair}
+use Rattle.pb_tree.specs.Scheme.{Scheme, values, fresh_of}
+use Rattle.pb_tree.specs.Tree.{Tree, node, tree_of}
+use Rattle.pb_tree.specs.TreeSteps.{leaves, meanings_from, meanings, pair_reason, reasons}
+use Rattle.pb_tree.proofs.TreeHanded.{first_free}
+use Rattle.pb_tree.proofs.TreeRows.{leaves_of}
+
+-- both halves weigh as much as all
+pub halves_weight : (ts lefts rights : List Term) → tree_of (weights ts) ≡ node (tree_of (weights lefts)) (tree_of (weights rights)) → weight (weights ts) ≡ weight (weights lefts) + weight (weights rights)
+halves_weight ts lefts rights tree =
+    ap weight (sym (leaves_of (weights ts)) ∙ ap leaves tree ∙ (λ i. leaves_of (weights lefts) i ++ leaves_of (weights rights) i)) ∙ weight-append (weights lefts) (weights rights)
+
+-- the meanings are those of the halves, and those of the node itself
+pub halves_meant : (s : Scheme) (ts : List Term) (l r : Tree) (first middle start : ℕ) (us : List ℕ) → tree_of (weights ts) ≡ node l r → middle ≡ first + fresh_of s l → start ≡ middle + fresh_of s r → us ≡ values s (node l r)
+    → meanings s l first ++ (meanings s r middle ++ meanings_from start (weights ts) us) ≡ meanings s (tree_of (weights ts)) first
+halves_meant s ts l r first middle start us tree is at own =
+    let sum : weights ts ≡ leaves (node l r) = sym (leaves_of (weights ts)) ∙ ap leaves tree in
+    let base : start ≡ first + fresh_of s l + fresh_of s r = omega (arith, at, is) in
+    (λ i. meanings s l first ++ (meanings s r (is i) ++ meanings_from (base i) (sum i) (own i))) ∙ ap (λ (t : Tree). meanings s t first) (sym tree)
+
+-- a node's own, in the order of its pairs
+abbrev pub node_reasons : Scheme → (List ℕ → List ℕ → List Pair) → Tree → Tree → ℕ → List Reason
+node_reasons s pairs l r id = map (pair_reason s l r 0 id) (pairs (values s l) (values s r))
+
+module _ (s : Scheme) (pairs : List ℕ → List ℕ → List Pair) (t l r : Tree) (id : ℕ) (tree : t ≡ node l r) where
+  -- the clauses are those of the halves, and those of the node itself
+  pub halves_given : (middle : ℕ) (given : List Reason) → middle ≡ id + 2 * fresh_of s l → HaveSameSteps given (node_reasons s pairs l r id)
+      → HaveSameSteps (reasons s pairs l 0 id ++ (reasons s pairs r 0 middle ++ given)) (reasons s pairs t 0 id)
+  halves_given middle given is owns =
+      let next = id + 2 * fresh_of s l in
+      let own = node_reasons s pairs l r id in
+      let backs : HaveSameSteps (reasons s pairs r 0 middle) (reasons s pairs r (0 + fresh_of s l) next) =
+      subst (λ (n : ℕ). HaveSameSteps (reasons s pairs r 0 n) (reasons s pairs r (0 + fresh_of s l) next)) (sym is) (first_free s pairs r 0 (0 + fresh_of s l) next) in
+      subst (λ (x : Tree). HaveSameSteps (reasons s pairs l 0 id ++ (reasons s pairs r 0 middle ++ given)) (reasons s pairs x 0 id)) (sym tree)
+      (same_append (reasons s pairs l 0 id) (reasons s pairs l 0 id) (reasons s pairs r 0 middle ++ given) (reasons s pairs r (0 + fresh_of s l) next ++ own)
+      (first_free s pairs l 0 0 id)
+      (same_append (reasons s pairs r 0 middle) (reasons s pairs r (0 + fresh_of s l) next) given own backs owns))
+
+  pub halves_same : (middle : ℕ) → middle ≡ id + 2 * fresh_of s l → HaveSameSteps (reasons s pairs l 0 id ++ (reasons s pairs r 0 middle ++ node_reasons s pairs l r id)) (reasons s pairs t 0 id)
+  halves_same middle is = halves_given middle (node_reasons s pairs l r id) is (record { count = refl; steps = λ n. refl })
+
+  -- how many they are
+  pub halves_length : length (reasons s pairs l 0 id) + length (reasons s pairs r 0 (id + 2 * fresh_of s l)) ≤ length (reasons s pairs t 0 id)
+  halves_length =
+      let next = id + 2 * fresh_of s l in
+      let own = node_reasons s pairs l r id in
+      let all = halves_same next refl in
+      omega (arith, all.count, length-append (reasons s pairs l 0 id) (reasons s pairs r 0 next ++ own), length-append (reasons s pairs r 0 next) own)
