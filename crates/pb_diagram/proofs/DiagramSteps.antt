@@ -6,7 +6,7 @@ use Rattle.std.proofs.Common.{ltb}
 use Rattle.std.proofs.Math.Seq.{drop-cons}
 use Rattle.std.proofs.lemmas.Bool.{cases_lt}
 use Rattle.std.proofs.lemmas.List.{get_or_past, get_or-map, length-map}
-use Rattle.std.proofs.lemmas.List.Sums.{sum_by-cons, count_by-le-length}
+use Rattle.std.proofs.lemmas.List.Sums.{sum_by-cons}
 use Rattle.pb_base.specs.declared.literal.Lit.{Lit}
 use Rattle.std.specs.Int.RustNames.{unsigned_abs}
 use Rattle.pb_base.specs.declared.literal.Term.{Term}
@@ -28,7 +28,7 @@ use Rattle.pb_diagram.specs.Levels.{coefs_of, levels_of}
 use Rattle.pb_diagram.specs.laws.Search.{nodes_at, before_at}
 use Rattle.pb_diagram.proofs.SearchSteps.{levels_from_length, levels_from_at}
 
-linked_drop : (ts : List Weighted) (ls : List (List Interval)) (i : ℕ) → AreLinked ts ls → AreLinked (drop i ts) (drop i ls)
+pub linked_drop : (ts : List Weighted) (ls : List (List Interval)) (i : ℕ) → AreLinked ts ls → AreLinked (drop i ts) (drop i ls)
 linked_drop [] [] zero linked = tt
 linked_drop [] [] (suc i) linked = tt
 linked_drop [] (l ∷ ls) i linked = absurd linked
@@ -36,7 +36,7 @@ linked_drop (t ∷ ts) [] i linked = absurd linked
 linked_drop (t ∷ ts) (l ∷ ls) zero linked = linked
 linked_drop (t ∷ ts) (l ∷ ls) (suc i) linked = linked_drop ts ls i linked.1
 
-head_of_drop : (ls : List (List Interval)) (i : ℕ) → head_level (drop i ls) ≡ nodes_at ls i
+pub head_of_drop : (ls : List (List Interval)) (i : ℕ) → head_level (drop i ls) ≡ nodes_at ls i
 head_of_drop [] zero = refl
 head_of_drop [] (suc i) = refl
 head_of_drop (l ∷ ls) zero = refl
@@ -57,6 +57,9 @@ pub record AtLevel (ts : List Weighted) (ls : List (List Interval)) (i : ℕ) (t
   pub next : length (nodes_at ls (i + 1)) ≤ node_count (drop (i + 1) ls)
   pub inner : inner_count (drop i ts) (drop i ls) ≡ count_by (λ g. ltb g.low (weight (drop (i + 1) ts))) (nodes_at ls i) + inner_count (drop (i + 1) ts) (drop (i + 1) ls)
   pub listed : i < length ls
+  pub terms : drop i ts ≡ t ∷ drop (i + 1) ts
+  pub levels : drop i ls ≡ nodes_at ls i ∷ drop (i + 1) ls
+  pub head : head_level (drop (i + 1) ls) ≡ nodes_at ls (i + 1)
 
 stands_at : (c : BoundedSum) (i : ℕ) → StandApart (nodes_at (levels_of c) i)
 stands_at c i =
@@ -71,7 +74,7 @@ stands_at c i =
       | inr past ↦ subst StandApart (sym (get_or_past (levels_of c) i [] (omega (arith, levels_from_length c.bound [] (coefs_of c.terms))))) (record { apart = tt; rise = λ g h. absurd (Contains-nil g h) })
     ]
 
-at_level_of : (c : BoundedSum) (i : ℕ) (d : Weighted) → i < length c.terms → AtLevel c.terms (levels_of c) i (get_or c.terms i d)
+pub at_level_of : (c : BoundedSum) (i : ℕ) (d : Weighted) → i < length c.terms → AtLevel c.terms (levels_of c) i (get_or c.terms i d)
 at_level_of c i d within =
     let ts = c.terms in
     let ls = levels_of c in
@@ -96,6 +99,9 @@ at_level_of c i d within =
       next = omega (arith, head_le (drop (i + 1) ls), ap length next);
       inner = ap (λ (l : List Weighted). inner_count l (drop i ls)) here ∙ ap (inner_count (t ∷ drop (i + 1) ts)) there;
       listed = in_levels;
+      terms = here;
+      levels = there;
+      head = next;
     }
 
 -- what code reads at a level
@@ -150,12 +156,6 @@ none_left [] ls (suc i) first past = refl
 none_left (t ∷ ts) ls zero first past = absurd (omega arith)
 none_left (t ∷ ts) [] (suc i) first past = nothing (drop i ts) first
 none_left (t ∷ ts) (l ∷ ls) (suc i) first past = none_left ts ls i first (omega arith)
-
--- each inner node is a node
-pub inner-le : (ts : List Weighted) (ls : List (List Interval)) → inner_count ts ls ≤ node_count ls
-inner-le [] ls = omega arith
-inner-le (t ∷ ts) [] = omega arith
-inner-le (t ∷ ts) (nodes ∷ ls) = omega (arith, inner-le ts ls, count_by-le-length (λ (g : Interval). ltb g.low (weight ts)) nodes, sum_by-cons (length {A = Interval}) nodes ls)
 
 -- what code reads of some terms and the levels of their diagram
 pub read_of : (terms : List Term) (bound : ℕ) (ls : List (List Interval)) (i : ℕ) (t : Term) (coef left : ℕ) (nodes next : List Interval)

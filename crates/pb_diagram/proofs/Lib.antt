@@ -4,8 +4,11 @@ pub mod Intervals
 pub mod Joins
 pub mod KnownFacts
 pub mod LevelSteps
+pub mod MeaningSteps
+pub mod NodeSteps
 pub mod Places
 pub mod SameNodes
 pub mod SearchEnds
 pub mod SearchReads
 pub mod SearchSteps
+pub mod WholeSteps

@@ -1,13 +1,16 @@
 -- Worked examples.
-use Rattle.std.specs.Prelude.{◌≡◌, ℕ, ◌+◌, List, [], ◌∷◌, refl}
+use Rattle.std.specs.Prelude.{◌≡◌, ℕ, ◌+◌, List, [], ◌∷◌, map, codes, refl}
+use Rattle.std.specs.Fmt.{digits}
 use Rattle.pb_base.specs.declared.literal.Lit.{Lit}
 use Rattle.pb_base.specs.Literals.{negated}
 use Rattle.pb_norm.specs.Constraints.{Weighted}
 use Rattle.pb_norm.specs.BoundedSums.{BoundedSum}
+use Rattle.pb_steps.specs.StepText.{step_line}
 use Rattle.pb_family.specs.Fresh.{positive_of}
 use Rattle.pb_diagram.specs.Sums.{sums}
 use Rattle.pb_diagram.specs.Levels.{interval_from, levels_of}
 use Rattle.pb_diagram.specs.Clauses.{diagram_clauses, diagram_fresh, diagram_size}
+use Rattle.pb_diagram.specs.DiagramSteps.{diagram_steps}
 
 -- the literal x of a number, and its negation
 abbrev x : ℕ → Lit
@@ -46,6 +49,31 @@ three_terms_fresh = refl
 
 pub three_terms_size : diagram_size (at_most 5 (4 ∷ 3 ∷ 2 ∷ [])) ≡ 5
 three_terms_size = refl
+
+-- its derivation, where the sum's constraint has the id 1 and the next id is 2
+pub three_terms_lines : map step_line (diagram_steps (at_most 5 (4 ∷ 3 ∷ 2 ∷ [])) 4 1 2)
+    ≡ (codes "red +4 ~x4 +4 ~x1 +3 ~x2 +2 ~x3 >= 4 ; x4 -> 0"
+    ∷ codes "red +6 x4 +4 x1 +3 x2 +2 x3 >= 6 ; x4 -> 1"
+    ∷ codes "red +4 ~x5 +3 ~x2 +2 ~x3 >= 4 ; x5 -> 0"
+    ∷ codes "red +2 x5 +3 x2 +2 x3 >= 2 ; x5 -> 1"
+    ∷ codes "red +1 ~x6 +2 ~x3 >= 1 ; x6 -> 0"
+    ∷ codes "red +2 x6 +2 x3 >= 2 ; x6 -> 1"
+    ∷ codes "pol 2 5 + 85070591730234615865843651857942052863 d"
+    ∷ codes "out 8"
+    ∷ codes "pol 4 7 + x2 w 85070591730234615865843651857942052863 d"
+    ∷ codes "out 9"
+    ∷ codes "pol 4 x3 w 85070591730234615865843651857942052863 d"
+    ∷ codes "out 10"
+    ∷ codes "pol 6 85070591730234615865843651857942052863 d"
+    ∷ codes "out 11"
+    ∷ codes "pol 3 1 + 85070591730234615865843651857942052863 d"
+    ∷ codes "out 12"
+    ∷ codes "del 2 3"
+    ∷ codes "del 4 5"
+    ∷ codes "del 6 7"
+    ∷ [])
+unfolding digits
+three_terms_lines = refl
 
 -- 5x1 + 4x2 + 3x3 + 3x4 <= 8: where the first or the second is true, the residues 3 and 4 meet in the interval from 3 to 5
 pub residues_meet : diagram_clauses (at_most 8 (5 ∷ 4 ∷ 3 ∷ 3 ∷ [])) 5

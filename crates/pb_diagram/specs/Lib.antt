@@ -1,4 +1,5 @@
 pub mod Clauses
+pub mod DiagramSteps
 pub mod Examples
 pub mod Intervals
 pub mod laws

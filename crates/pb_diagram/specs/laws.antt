@@ -1,5 +1,8 @@
 pub mod ClauseRows
+pub mod DiagramDerives
 pub mod DiagramLaws
+pub mod DiagramReasons
+pub mod DiagramShort
 pub mod Known
 pub mod LevelFacts
 pub mod LinkedCounts
@@ -7,7 +10,9 @@ pub mod LinkedExtends
 pub mod LinkedNodes
 pub mod LinkedPropagates
 pub mod Links
+pub mod NodeMeanings
 pub mod Nodes
+pub mod NodesAt
 pub mod Search
 pub mod SumFacts
 pub mod Within

@@ -6,12 +6,13 @@ ghost use Rattle.pb_diagram.specs.Clauses.{diagram_clauses, diagram_fresh, diagr
 ghost use Rattle.pb_diagram.specs.Levels.{levels_of};
 
 use crate::counts::{count_clauses, count_nodes};
+use crate::derivation::derive_whole;
 use crate::emission::emit_whole;
 use crate::known::Known;
 use crate::level::Level;
 use crate::search::known_levels;
 use pb_base::{NoMemory, Term};
-use pb_family::{Built, ClauseSink, Family, SinkFault, Strong};
+use pb_family::{Built, ClauseSink, Derive, Family, SinkFault, StepSink, Strong};
 use pb_norm::AtMost;
 use std::alloc::{AllocError, Global};
 
@@ -136,4 +137,40 @@ impl Strong for Diagram {
     ghost use Rattle.pb_diagram.specs.laws.DiagramLaws.{diagram_propagates};
 
     ghost propagates = { λ f first below. diagram_propagates (sum_within f.terms.items f.bound) f.proper first };
+}
+
+impl Derive for Diagram {
+    ghost use Rattle.pb_norm.specs.BoundedSums.{sum_within};
+    ghost use Rattle.pb_diagram.specs.DiagramSteps.{diagram_steps};
+    ghost use Rattle.pb_diagram.specs.laws.DiagramDerives.{diagram_derives, diagram_lines};
+    ghost use Rattle.pb_diagram.specs.laws.DiagramShort.{diagram_sayable, diagram_short};
+
+    ghost step_list = { λ f. diagram_steps (sum_within f.terms.items f.bound) };
+
+    fn derive<T: StepSink>(
+        &self,
+        alloc: Global,
+        first: u32,
+        id: u64,
+        sink: &mut T,
+    ) -> Result<(), SinkFault> {
+        derive_whole(
+            alloc,
+            self.terms.as_slice(),
+            self.bound,
+            self.levels.as_slice(),
+            self.fresh,
+            first,
+            id,
+            sink,
+        )
+    }
+
+    ghost derives = { λ f first id db below ready. diagram_derives (sum_within f.terms.items f.bound) f.proper f.light first below id db ready };
+
+    ghost few_steps = { λ f first id next. diagram_lines (sum_within f.terms.items f.bound) first id next };
+
+    ghost sayable = { λ f first id next original start. diagram_sayable (sum_within f.terms.items f.bound) f.proper f.light first id next original start };
+
+    ghost short = { λ f first id next original start. diagram_short (sum_within f.terms.items f.bound) f.proper f.light first id next original start };
 }

@@ -54,7 +54,7 @@ pub fn nodes_after(levels: &[Level], place: usize) -> &[Interval]
 }
 
 /// The place of the node in which a residue lies.
-fn place(nodes: &[Interval], residue: u128) -> usize
+pub fn place(nodes: &[Interval], residue: u128) -> usize
     requires stands { StandApart nodes.now }
     requires held { HasPlace nodes.now residue }
     ensures { result ≡ position_or_len (lies_in residue) nodes.now }

@@ -2,7 +2,9 @@
 //! coefficients, with a node for each interval of what the terms from a level on may still add up to.
 #![tactic(auto)]
 
+mod claims;
 mod counts;
+mod derivation;
 mod diagram;
 mod emission;
 mod interval;

@@ -4,7 +4,7 @@ use Rattle.std.specs.Prelude.{Contains, All, map}
 use Rattle.std.specs.List.{count_by}
 use Rattle.std.proofs.lemmas.Bool.{cases_lt, lt-ltb, le-ltb, le-leb, lt-leb, cond-true, cond-false}
 use Rattle.std.proofs.lemmas.List.Elements.{All-cons, All-nil, All-append}
-use Rattle.std.proofs.lemmas.List.Sums.{sum_by-cons}
+use Rattle.std.proofs.lemmas.List.Sums.{sum_by-cons, count_by-le-length}
 use Rattle.pb_base.specs.declared.literal.Lit.{Lit}
 use Rattle.pb_norm.specs.Constraints.{Weighted, weight}
 use Rattle.pb_base.specs.Literals.{negated}
@@ -52,6 +52,12 @@ length_nodes first (t ∷ ts) (nodes ∷ levels) linked =
 pub linked_counts : (ts : List Weighted) (levels : List (List Interval)) → AreLinked ts levels → (first : ℕ) → length (clauses_over ts levels first) ≡ clause_count_over ts levels
 linked_counts ts levels linked first =
     omega (arith, length-append (node_clauses first ts levels) ((positive_of first ∷ []) ∷ []), length_nodes first ts levels linked)
+
+-- each inner node is a node
+pub inner-le : (ts : List Weighted) (ls : List (List Interval)) → inner_count ts ls ≤ node_count ls
+inner-le [] ls = omega arith
+inner-le (t ∷ ts) [] = omega arith
+inner-le (t ∷ ts) (nodes ∷ ls) = omega (arith, inner-le ts ls, count_by-le-length (λ (g : Interval). ltb g.low (weight ts)) nodes, sum_by-cons (length {A = Interval}) nodes ls)
 
 -- ---- names
 

@@ -3,7 +3,8 @@ use Rattle.pb_norm.specs.Constraints.{weights}
 use Rattle.pb_norm.specs.BoundedSums.{sum_within}
 use Rattle.pb_diagram.specs.Levels.{levels_of}
 use Rattle.pb_diagram.specs.laws.Search.{nodes_at}
-use Rattle.pb_diagram.proofs.DiagramSteps.{read_of, read_inner, inner-le, coef_within}
+use Rattle.pb_diagram.specs.laws.LinkedCounts.{inner-le}
+use Rattle.pb_diagram.proofs.DiagramSteps.{read_of, read_inner, coef_within}
 use Rattle.pb_diagram.proofs.counts.count_clauses.Goals as goal
 
 pub overflow_sub-whole : goal.overflow_sub-whole

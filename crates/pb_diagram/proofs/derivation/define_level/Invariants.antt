@@ -1,0 +1,6 @@
+use Rattle.pb_norm.specs.Constraints.{weights}
+use Rattle.pb_diagram.proofs.MeaningSteps.{Defining}
+use Rattle.pb_diagram.proofs.derivation.define_level.Given as goal
+
+abbrev pub invariant-loop-place : goal.invariant-loop-place
+invariant-loop-place g l = Defining l.first (weights l.terms) l.nodes l.place (g.T.StepSink.state l.fn.sink) (g.T.StepSink.state l.sink)

@@ -1,0 +1,89 @@
+use Rattle.std.proofs.Common.{◌≤◌, ◌<◌, ◌+◌, List, length, drop, refl, sym, ap, subst, arith}
+use Rattle.std.specs.Prelude.{All}
+use Rattle.std.proofs.lemmas.List.{length-map}
+use Rattle.pb_norm.specs.Constraints.{Weighted, weight, weighted, weights}
+use Rattle.pb_norm.specs.BoundedSums.{sum_within}
+use Rattle.pb_derive.specs.Meanings.{meaning_steps}
+use Rattle.pb_family.specs.Fresh.{positive_of}
+use Rattle.pb_family.specs.StepSinks.{TakesSteps}
+use Rattle.pb_family.proofs.Deriving.{deriving_from, deriving_as, deriving_ends}
+use Rattle.pb_family.proofs.Sequence.{meanings_ids}
+use Rattle.pb_family.proofs.TermSlices.{weights_from, light_from}
+use Rattle.pb_diagram.specs.declared.interval.Interval.{Interval}
+use Rattle.pb_diagram.specs.Clauses.{node_count}
+use Rattle.pb_diagram.specs.DiagramSteps.{level_meanings, node_meanings}
+use Rattle.pb_diagram.specs.laws.NodeMeanings.{length-level}
+use Rattle.pb_diagram.proofs.MeaningSteps.{meanings_taken, meanings_stop, level_stops, nodes_left, nodes_within, nodes_count, no_meaning, turned_from, turned_length}
+use Rattle.pb_diagram.proofs.derivation.define_nodes.Goals as goal
+
+abbrev none : Weighted
+none = record { coef = 0; lit = positive_of 0 }
+
+pub loop-i-init : goal.loop-i-init
+loop-i-init g c = record {
+  room = ap (λ (ls : List (List Interval)). c.args.first + node_count ls) c.requires.nodes;
+  low = omega arith;
+  count = omega arith;
+  taken = deriving_from _ refl;
+}
+
+pub offset_bounds-negated-i : goal.offset_bounds-negated-i
+offset_bounds-negated-i g c = omega (arith, turned_length c.args.terms.now c.args.negated.now c.requires.turned, c.loop-i-test.true)
+
+pub define_level-requires-clause-light : goal.define_level-requires-clause-light
+define_level-requires-clause-light g c = omega (arith, light_from c.args.terms.now c.loop-i.i, c.requires.light)
+
+pub define_level-requires-clause-turned : goal.define_level-requires-clause-turned
+define_level-requires-clause-turned g c = turned_from c.args.terms.now c.args.negated.now c.loop-i.i c.requires.turned
+
+pub define_level-requires-clause-within : goal.define_level-requires-clause-within
+define_level-requires-clause-within g c =
+    subst (λ (ts : List Weighted). All (λ g. g.top ≤ weight ts) c.nodes_after-nodes.result.now) (sym (weights_from c.args.terms.now c.loop-i.i c.loop-i.i refl))
+    (nodes_within (sum_within c.args.terms.now c.args.bound) c.args.levels.now c.loop-i.i c.requires.nodes c.nodes_after-nodes.result.now c.nodes_after-nodes.ensures)
+
+pub define_level-requires-clause-high : goal.define_level-requires-clause-high
+define_level-requires-clause-high g c =
+    let count = nodes_count (sum_within c.args.terms.now c.args.bound) c.args.levels.now c.loop-i.i none c.requires.nodes (omega (arith, length-map c.args.terms.now weighted, c.loop-i-test.true)) c.nodes_after-nodes.result.now c.nodes_after-nodes.ensures in
+    omega (arith, count, c.loop-i.invariant.room, c.requires.fits)
+
+pub define_level-requires-clause-few : goal.define_level-requires-clause-few
+define_level-requires-clause-few g c =
+    let count = nodes_count (sum_within c.args.terms.now c.args.bound) c.args.levels.now c.loop-i.i none c.requires.nodes (omega (arith, length-map c.args.terms.now weighted, c.loop-i-test.true)) c.nodes_after-nodes.result.now c.nodes_after-nodes.ensures in
+    omega (arith, count, c.loop-i.invariant.room, c.loop-i.invariant.count, c.requires.fits, c.requires.few)
+
+pub returns-in_err-define_level : goal.returns-in_err-define_level
+returns-in_err-define_level g c =
+    let of = sum_within c.args.terms.now c.args.bound in
+    let old = g.T.StepSink.state c.args.sink.now in
+    let now = g.T.StepSink.state c.loop-i.sink in
+    let after = g.T.StepSink.state c.define_level.new.sink in
+    let i = c.loop-i.i in
+    let nodes = c.nodes_after-nodes.result.now in
+    let begun = deriving_as (ap (meaning_steps now.next) (nodes_left of c.args.levels.now i none c.requires.nodes (omega (arith, length-map c.args.terms.now weighted, c.loop-i-test.true)) nodes c.nodes_after-nodes.ensures c.loop-i.start)) c.loop-i.invariant.taken in
+    meanings_stop (level_meanings c.loop-i.start (drop i of.terms) nodes) (node_meanings (c.loop-i.start + length nodes) (drop (i + 1) of.terms) (drop (i + 1) c.args.levels.now)) old now begun c.from_residual.result _ after c.from_residual.ensures.1
+    (level_stops c.loop-i.start nodes _ (drop i of.terms) now after (weights_from c.args.terms.now i i refl) c.in_err-define_level.ensures)
+
+pub loop-i-preserved : goal.loop-i-preserved
+loop-i-preserved g c =
+    let of = sum_within c.args.terms.now c.args.bound in
+    let old = g.T.StepSink.state c.args.sink.now in
+    let now = g.T.StepSink.state c.loop-i.sink in
+    let after = g.T.StepSink.state c.define_level.new.sink in
+    let i = c.loop-i.i in
+    let nodes = c.nodes_after-nodes.result.now in
+    let within : i < length of.terms = omega (arith, length-map c.args.terms.now weighted, c.loop-i-test.true) in
+    let begun = deriving_as (ap (meaning_steps now.next) (nodes_left of c.args.levels.now i none c.requires.nodes within nodes c.nodes_after-nodes.ensures c.loop-i.start)) c.loop-i.invariant.taken in
+    let here = level_meanings c.loop-i.start (drop i of.terms) nodes in
+    let handed = subst (λ (ts : List Weighted). TakesSteps (meaning_steps now.next (level_meanings c.loop-i.start ts nodes)) now after) (weights_from c.args.terms.now i i refl) c.in_ok-define_level.ensures in
+    let count = nodes_count of c.args.levels.now i none c.requires.nodes within nodes c.nodes_after-nodes.ensures in
+    record {
+      room = omega (arith, count, c.loop-i.invariant.room);
+      low = omega (arith, c.loop-i.invariant.low);
+      count = omega (arith, handed.ids, meanings_ids now.next here, length-level c.loop-i.start (drop i of.terms) nodes, c.loop-i.invariant.count);
+      taken = meanings_taken here (node_meanings (c.loop-i.start + length nodes) (drop (i + 1) of.terms) (drop (i + 1) c.args.levels.now)) old now begun after handed;
+    }
+
+pub returns : goal.returns
+returns g c =
+    let now = g.T.StepSink.state c.loop-i.sink in
+    deriving_ends (deriving_as (ap (meaning_steps now.next) (no_meaning (weights c.args.terms.now) c.args.levels.now c.loop-i.i c.loop-i.start (omega (arith, length-map c.args.terms.now weighted)))) c.loop-i.invariant.taken)
