@@ -88,7 +88,7 @@ abbrev pub number : (Wire → Bool) → List (Option Wire) → ℕ
 number p [] = 0
 number p (e ∷ es) = end_value p e + 2 * number p es
 
-first_value : (p : Wire → Bool) (ws : List Wire) → length ws ≤ 1 → count_by p ws ≡ end_value p (oldest_of ws)
+pub first_value : (p : Wire → Bool) (ws : List Wire) → length ws ≤ 1 → count_by p ws ≡ end_value p (oldest_of ws)
 first_value p [] few = refl
 first_value p (w ∷ []) few = omega arith
 first_value p (w ∷ x ∷ ws) few = absurd (omega arith)
@@ -150,7 +150,7 @@ pub count_all : (ws : List Wire) → count_by (λ _. true) ws ≡ length ws
 count_all [] = refl
 count_all (w ∷ ws) = omega (arith, count_by-cons (λ _. true) w ws, count_all ws)
 
-value_le : (p : Wire → Bool) (ts : List Weighted) (level : ℕ) → levels_value p ts level ≤ levels_value (λ _. true) ts level
+pub value_le : (p : Wire → Bool) (ts : List Weighted) (level : ℕ) → levels_value p ts level ≤ levels_value (λ _. true) ts level
 value_le p ts level = sum_by-le-sum_by (λ (t : Weighted). cond (p (Input t.lit)) (t.coef / 2 ^ level) 0) (λ (t : Weighted). t.coef / 2 ^ level) ts (λ t. below (p (Input t.lit)) (t.coef / 2 ^ level))
   where
     below : (b : Bool) (x : ℕ) → cond b x 0 ≤ x

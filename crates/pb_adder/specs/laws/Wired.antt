@@ -73,7 +73,7 @@ left_known I (suc n) (a ∷ b ∷ c ∷ rest) m all =
     all_more I (m + 2 + 2 * length later) (m + 2 * length (Full a b c m ∷ later)) (omega arith) (level_left n (rest ++ Made m ∷ []) (m + 2))
     (left_known I n (rest ++ Made m ∷ []) (m + 2) (joined_known I m rest parts.3))
 
-carries_known : (I : Lit → Type 0) (gs : List Gate) (m : ℕ) → Wired I m gs → All (Known I (m + 2 * length gs)) (map carry_wire gs)
+pub carries_known : (I : Lit → Type 0) (gs : List Gate) (m : ℕ) → Wired I m gs → All (Known I (m + 2 * length gs)) (map carry_wire gs)
 carries_known I [] m wired = All-nil (Known I (m + 2 * 0))
 carries_known I (g ∷ gs) m wired =
     let same = wired.1 in

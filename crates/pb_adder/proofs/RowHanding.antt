@@ -1,0 +1,72 @@
+-- The rows of a comparator that are claimed one after another.
+use Rattle.std.proofs.Common.{◌≡◌, ◌≤◌, ◌+◌, ◌/◌, ◌++◌, ◌∙◌, ℕ, List, [], ◌∷◌, length, sym, ap, subst, arith}
+use Rattle.std.specs.Prelude.{map, Option, Some, None, Result, IsErrAnd}
+use Rattle.std.proofs.lemmas.Bool.{cond_both}
+use Rattle.std.proofs.lemmas.List.{length-map, map-append}
+use Rattle.pb_base.specs.declared.literal.Lit.{Lit}
+use Rattle.pb_base.specs.Literals.{negated}
+use Rattle.pb_steps.specs.declared.step.Step.{Step}
+use Rattle.pb_derive.specs.Claims.{claim_steps}
+use Rattle.pb_derive.specs.Rups.{by_rup}
+use Rattle.pb_family.specs.Derivations.{propagated}
+use Rattle.pb_family.specs.StepSinks.{StepState, TakesSteps, StopsInSteps, HandsSteps}
+use Rattle.pb_family.specs.declared.sink.SinkFault.{SinkFault}
+use Rattle.pb_family.proofs.Deriving.{Deriving, deriving_as, deriving_step, steps_fault, takes_no_steps}
+use Rattle.pb_adder.specs.AdderSteps.{row_claims}
+use Rattle.pb_adder.specs.Comparator.{is_odd, covering, row_of, row_at, row_clause, comparator}
+use Rattle.pb_adder.specs.Gates.{wire_lit}
+use Rattle.pb_adder.specs.declared.gate.Wire.{Wire}
+use Rattle.pb_adder.proofs.RowSteps.{clauses_with, last_row, level_rows, row_clauses}
+use Rattle.pb_adder.proofs.Walks.{claims-append, claims_ids}
+
+-- the steps of clauses, by one id
+abbrev pub by_last : ℕ → ℕ → List (List Lit) → List Step
+by_last id next cs = claim_steps next (row_claims id cs)
+
+pub no_rows : {R : Type 0} (id : ℕ) (cs : List (List Lit)) (a : StepState R) → cs ≡ [] → TakesSteps (by_last id a.next cs) a a
+no_rows id cs a none = subst (λ (ds : List (List Lit)). TakesSteps (by_last id a.next ds) a a) (sym none) (takes_no_steps a)
+
+-- the row that the code's loop ends with
+pub row_last : (first bound whole id next : ℕ) (front : List Lit) (w : Wire) (rest above : List (Option Wire)) → bound ≡ 0 → length rest ≡ 0
+    → clauses_with first front (covering bound rest) ≡ clauses_with first (negated (wire_lit first w) ∷ []) (covering whole above)
+    → propagated next (id ∷ []) front ≡ by_last id next (map (row_clause first) (row_of w (covering whole above)))
+row_last first bound whole id next front w [] above none done left =
+    ap (by_last id next) (sym (row_clauses first w (covering whole above) ∙ sym left ∙ last_row first bound front none))
+row_last first bound whole id next front w (e ∷ es) above none done left = absurd (omega (arith, done))
+
+-- a level has one row at most
+pub row_at_few : (bound : ℕ) (e : Option Wire) (above : List (Option Wire)) → length (row_at bound e above) ≤ 1
+row_at_few bound None above = omega arith
+row_at_few bound (Some w) above =
+    cond_both (is_odd bound) [] (row_of w (covering (bound / 2) above)) (λ (r : List (List Wire)). length r ≤ 1) (λ _. omega arith) (λ _. few (covering (bound / 2) above))
+  where
+    few : (found : Option (List Wire)) → length (row_of w found) ≤ 1
+    few None = omega arith
+    few (Some ws) = omega arith
+
+module _ {R : Type 0} {all : List Step} {old now : StepState R} (first bound id : ℕ) (e : Option Wire) (rest above : List (Option Wire)) (split : rest ≡ e ∷ above)
+    (left : Deriving all (by_last id now.next (comparator first bound rest)) old now) where
+  abbrev here : List (List Lit)
+  here = map (row_clause first) (row_at bound e above)
+
+  abbrev others : List (List Lit)
+  others = comparator first (bound / 2) above
+
+  more : Deriving all (by_last id now.next here ++ by_last id (now.next + length here) others) old now
+  more =
+      deriving_as (
+      ap (by_last id now.next) (level_rows first bound e rest above split)
+      ∙ ap (claim_steps now.next) (map-append (by_rup (id ∷ [])) here others)
+      ∙ claims-append now.next (row_claims id here) (row_claims id others)
+      ∙ ap (λ (n : ℕ). by_last id now.next here ++ by_last id (now.next + n) others) (length-map here (by_rup (id ∷ [])))) left
+
+  pub rows_taken : (after : StepState R) → TakesSteps (by_last id now.next here) now after → Deriving all (by_last id after.next others) old after
+  rows_taken after h =
+      let count : now.next + length here ≡ after.next = omega (arith, h.ids, claims_ids now.next (id ∷ []) here) in
+      deriving_as (ap (λ (n : ℕ). by_last id n others) count) (deriving_step {left = by_last id (now.next + length here) others} (by_last id now.next here) after more h)
+
+  pub rows_stopped : {T : Type 0} (r : Result T SinkFault) (f : SinkFault) (after : StepState R) → IsErrAnd r (λ g. g ≡ f) → StopsInSteps (by_last id now.next here) now after f → HandsSteps all r old after
+  rows_stopped r f after is h = steps_fault r f (by_last id now.next here) (by_last id (now.next + length here) others) after is more h
+
+  pub rows_counted : (after : StepState R) → TakesSteps (by_last id now.next here) now after → after.next ≤ now.next + 1
+  rows_counted after h = omega (arith, h.ids, claims_ids now.next (id ∷ []) here, length-map (row_at bound e above) (row_clause first), row_at_few bound e above)

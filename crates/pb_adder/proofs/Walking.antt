@@ -1,0 +1,64 @@
+-- Loops over lists that hand over steps for one element after another.
+use Rattle.std.proofs.Common.{◌≡◌, ◌<◌, ◌≤◌, ◌+◌, ◌++◌, List, [], ◌∷◌, ℕ, length, get_or, drop, suc, sym, ap, ◌∙◌, subst, arith}
+use Rattle.std.specs.Prelude.{Result, IsErrAnd}
+use Rattle.std.proofs.Math.Seq.{drop-cons}
+use Rattle.std.proofs.lemmas.List.{drop_all}
+use Rattle.pb_steps.specs.declared.step.Step.{Step}
+use Rattle.pb_family.specs.StepSinks.{StepState, TakesSteps, StopsInSteps, HandsSteps}
+use Rattle.pb_family.specs.declared.sink.SinkFault.{SinkFault}
+use Rattle.pb_family.proofs.Deriving.{Deriving, deriving_from, deriving_as, deriving_step, deriving_ends, steps_fault, steps_last}
+
+-- what is left of a list begins with the element that is read
+pub drop_next : {X : Type 0} (d : X) (xs : List X) (k : ℕ) (x : X) → k < length xs → x ≡ get_or xs k d → drop k xs ≡ x ∷ drop (k + 1) xs
+drop_next {X} d xs k x within read =
+    drop-cons xs k d within ∙ ap (λ (y : X). y ∷ drop (suc k) xs) (sym read) ∙ ap (λ (n : ℕ). x ∷ drop n xs) (let e : suc k ≡ k + 1 = omega arith in e)
+
+-- the steps of each element, where what they depend on beside it moves from one to the next
+abbrev pub walk : {X S : Type 0} → (S → X → List Step) → (S → X → S) → S → List X → List Step
+walk piece move s [] = []
+walk piece move s (x ∷ xs) = piece s x ++ walk piece move (move s x) xs
+
+module _ {R X S : Type 0} {all : List Step} {old now : StepState R} (piece : S → X → List Step) (move : S → X → S) (d : X) (xs : List X) (k : ℕ) (x : X) (s : S) (within : k < length xs) (read : x ≡ get_or xs k d)
+    (e : Deriving all (walk piece move s (drop k xs)) old now) where
+  more : Deriving all (piece s x ++ walk piece move (move s x) (drop (k + 1) xs)) old now
+  more = deriving_as (ap (walk piece move s) (drop_next d xs k x within read)) e
+
+  -- the steps of the next element were taken
+  pub walk_next : (t : S) (after : StepState R) → move s x ≡ t → TakesSteps (piece s x) now after → Deriving all (walk piece move t (drop (k + 1) xs)) old after
+  walk_next t after moved h =
+      deriving_as (ap (λ (u : S). walk piece move u (drop (k + 1) xs)) moved) (deriving_step {left = walk piece move (move s x) (drop (k + 1) xs)} (piece s x) after more h)
+
+  -- the fault in them is handed on
+  pub walk_fault : {T : Type 0} (r : Result T SinkFault) (f : SinkFault) (after : StepState R) → IsErrAnd r (λ g. g ≡ f) → StopsInSteps (piece s x) now after f → HandsSteps all r old after
+  walk_fault r f after is h = steps_fault r f (piece s x) (walk piece move (move s x) (drop (k + 1) xs)) after is more h
+
+-- all elements were taken
+pub walk_ends : {R X S : Type 0} {all : List Step} {old now : StepState R} (piece : S → X → List Step) (move : S → X → S) (xs : List X) (k : ℕ) (s : S) → length xs ≤ k → Deriving all (walk piece move s (drop k xs)) old now → TakesSteps all old now
+walk_ends piece move xs k s done e = deriving_ends (deriving_as (ap (walk piece move s) (drop_all k xs done)) e)
+
+-- ---- two parts
+
+-- the fault in the first is handed on
+pub part_stopped : {R T : Type 0} (r : Result T SinkFault) (f : SinkFault) (all xs ys : List Step) (old after : StepState R) → IsErrAnd r (λ g. g ≡ f) → all ≡ xs ++ ys → StopsInSteps xs old after f → HandsSteps all r old after
+part_stopped r f all xs ys old after is split h = steps_fault r f xs ys after is (deriving_from old split) h
+
+-- the first was taken, and the second is handed over
+pub parts_handed : {R T : Type 0} (r : Result T SinkFault) (all xs ys : List Step) (old mid after : StepState R) → all ≡ xs ++ ys → TakesSteps xs old mid → HandsSteps ys r mid after → HandsSteps all r old after
+parts_handed r all xs ys old mid after split h k = steps_last r ys after (deriving_step {left = ys} xs mid (deriving_from old split) h) k
+
+-- a step that is written another way
+pub same_stops : {R : Type 0} (s t : Step) (old after : StepState R) (f : SinkFault) → s ≡ t → StopsInSteps (s ∷ []) old after f → StopsInSteps (t ∷ []) old after f
+same_stops s t old after f same h = subst (λ (x : Step). StopsInSteps (x ∷ []) old after f) same h
+
+pub same_taken : {R : Type 0} (s t : Step) (old after : StepState R) → s ≡ t → TakesSteps (s ∷ []) old after → TakesSteps (t ∷ []) old after
+same_taken s t old after same h = subst (λ (x : Step). TakesSteps (x ∷ []) old after) same h
+
+-- ---- three parts
+
+-- the fault in the second is handed on
+pub middle_stopped : {R T : Type 0} (r : Result T SinkFault) (f : SinkFault) (all xs ys zs : List Step) (old mid after : StepState R) → IsErrAnd r (λ g. g ≡ f) → all ≡ xs ++ (ys ++ zs) → TakesSteps xs old mid → StopsInSteps ys mid after f → HandsSteps all r old after
+middle_stopped r f all xs ys zs old mid after is split h k = steps_fault r f ys zs after is (deriving_step {left = ys ++ zs} xs mid (deriving_from old split) h) k
+
+-- the first two were taken, and the third is handed over
+pub last_handed : {R T : Type 0} (r : Result T SinkFault) (all xs ys zs : List Step) (old mid late after : StepState R) → all ≡ xs ++ (ys ++ zs) → TakesSteps xs old mid → TakesSteps ys mid late → HandsSteps zs r late after → HandsSteps all r old after
+last_handed r all xs ys zs old mid late after split h k l = steps_last r zs after (deriving_step {left = zs} ys late (deriving_step {left = ys ++ zs} xs mid (deriving_from old split) h) k) l

@@ -1,0 +1,198 @@
+-- The parts of an adder network's derivation, element by element.
+use Rattle.std.proofs.Common.{◌≡◌, ◌≤◌, ◌<◌, ◌+◌, ◌++◌, ◌∙◌, ℕ, List, [], ◌∷◌, length, refl, sym, ap, subst, cond, arith, length-append}
+use Rattle.std.specs.Prelude.{map, count_by, sum_by, Result, IsErrAnd}
+use Rattle.std.specs.List.{flat_map}
+use Rattle.std.proofs.lemmas.List.{length-map, map-append}
+use Rattle.std.proofs.lemmas.List.Sums.{sum_by_from, sum_by-append}
+use Rattle.pb_base.specs.declared.literal.Lit.{Lit}
+use Rattle.pb_steps.specs.declared.step.Step.{Step}
+use Rattle.pb_steps.specs.declared.step.Step.TheVariants.{Pol}
+use Rattle.pb_steps.specs.Steps.{takes_id}
+use Rattle.pb_derive.specs.Claims.{Claim, claim_steps}
+use Rattle.pb_derive.specs.Deletions.{deletion_steps}
+use Rattle.pb_derive.specs.Meanings.{meaning_steps}
+use Rattle.pb_derive.specs.Rups.{by_rup}
+use Rattle.pb_family.specs.Derivations.{propagated}
+use Rattle.pb_adder.specs.AdderSteps.{sum_ops, later_sums, sum_steps, last_sum, last_deletion, gate_ids, gate_claims}
+use Rattle.pb_adder.specs.GateMeanings.{adder_meanings, gate_meanings}
+use Rattle.pb_adder.specs.Gates.{wire_lit, full_clauses, gate_clauses}
+use Rattle.pb_adder.specs.declared.gate.Wire.{Wire}
+use Rattle.pb_adder.specs.declared.gate.Wire.TheVariants.{Made}
+use Rattle.pb_adder.specs.declared.gate.Gate.{Gate}
+use Rattle.pb_adder.specs.declared.gate.Gate.TheVariants.{Full, Half}
+use Rattle.pb_family.specs.StepSinks.{StepState, TakesSteps, StopsInSteps, HandsSteps}
+use Rattle.pb_family.specs.declared.sink.SinkFault.{SinkFault}
+use Rattle.pb_family.proofs.Deriving.{steps_same}
+use Rattle.pb_adder.proofs.Walking.{walk, part_stopped, parts_handed}
+
+-- ---- meanings: what moves is the next id
+
+abbrev pub gate_piece : ℕ → ℕ → Gate → List Step
+gate_piece first next g = meaning_steps next (gate_meanings first g)
+
+abbrev pub four_on : {X : Type 0} → ℕ → X → ℕ
+four_on next x = next + 4
+
+pub meanings_walk : (first next : ℕ) (gs : List Gate) → meaning_steps next (flat_map (gate_meanings first) gs) ≡ walk (gate_piece first) four_on next gs
+meanings_walk first next [] = refl
+meanings_walk first next (g ∷ gs) =
+    ap (λ (ss : List Step). gate_piece first next g ++ ss)
+    (ap (λ (n : ℕ). meaning_steps n (flat_map (gate_meanings first) gs)) (let e : next + 2 + 2 ≡ next + 4 = omega arith in e) ∙ meanings_walk first (next + 4) gs)
+
+-- ---- clauses by the same ids
+
+abbrev pub clause_piece : List ℕ → ℕ → List Lit → List Step
+clause_piece ids next c = propagated next ids c
+
+abbrev pub one_on : {X : Type 0} → ℕ → X → ℕ
+one_on next x = next + 1
+
+pub clauses_walk : (ids : List ℕ) (next : ℕ) (cs : List (List Lit)) → claim_steps next (map (by_rup ids) cs) ≡ walk (clause_piece ids) one_on next cs
+clauses_walk ids next [] = refl
+clauses_walk ids next (c ∷ cs) = ap (λ (ss : List Step). clause_piece ids next c ++ ss) (clauses_walk ids (next + 1) cs)
+
+pub claims_ids : (next : ℕ) (ids : List ℕ) (cs : List (List Lit)) → count_by takes_id (claim_steps next (map (by_rup ids) cs)) ≡ length cs
+claims_ids next ids [] = refl
+claims_ids next ids (c ∷ cs) =
+    let rest = claims_ids (next + 1) ids cs in
+    sum_by_from (λ (s : Step). cond (takes_id s) 1 0) 1 (claim_steps (next + 1) (map (by_rup ids) cs)) ∙ omega arith
+
+-- claims in two parts
+pub claims-append : (next : ℕ) (xs ys : List Claim) → claim_steps next (xs ++ ys) ≡ claim_steps next xs ++ claim_steps (next + length xs) ys
+claims-append next [] ys = ap (λ (n : ℕ). claim_steps n ys) (let e : next ≡ next + 0 = omega arith in e)
+claims-append next (x ∷ xs) ys =
+    ap (λ (ss : List Step). claim_steps next (x ∷ []) ++ ss)
+    (claims-append (next + 1) xs ys ∙ ap (λ (n : ℕ). claim_steps (next + 1) xs ++ claim_steps n ys) (let e : next + 1 + length xs ≡ next + length (x ∷ xs) = omega arith in e))
+
+-- clauses by the same ids, in two parts
+rups-append : (ids : List ℕ) (next : ℕ) (us vs : List (List Lit)) → claim_steps next (map (by_rup ids) (us ++ vs)) ≡ claim_steps next (map (by_rup ids) us) ++ claim_steps (next + length us) (map (by_rup ids) vs)
+rups-append ids next us vs =
+    ap (claim_steps next) (map-append (by_rup ids) us vs)
+    ∙ claims-append next (map (by_rup ids) us) (map (by_rup ids) vs)
+    ∙ ap (λ (n : ℕ). claim_steps next (map (by_rup ids) us) ++ claim_steps (next + n) (map (by_rup ids) vs)) (length-map us (by_rup ids))
+
+-- the fault in the first part, which is written another way
+pub rups_stopped : {R T : Type 0} (r : Result T SinkFault) (f : SinkFault) (ids : List ℕ) (us vs ws : List (List Lit)) (old after : StepState R) → IsErrAnd r (λ g. g ≡ f) → ws ≡ us
+    → StopsInSteps (claim_steps old.next (map (by_rup ids) ws)) old after f → HandsSteps (claim_steps old.next (map (by_rup ids) (us ++ vs))) r old after
+rups_stopped r f ids us vs ws old after is same h =
+    part_stopped r f (claim_steps old.next (map (by_rup ids) (us ++ vs))) (claim_steps old.next (map (by_rup ids) us)) (claim_steps (old.next + length us) (map (by_rup ids) vs)) old after is (rups-append ids old.next us vs)
+    (subst (λ (cs : List (List Lit)). StopsInSteps (claim_steps old.next (map (by_rup ids) cs)) old after f) same h)
+
+-- both parts
+pub rups_handed : {R T : Type 0} (r : Result T SinkFault) (ids : List ℕ) (us vs ws xs : List (List Lit)) (old mid after : StepState R) → ws ≡ us → xs ≡ vs
+    → TakesSteps (claim_steps old.next (map (by_rup ids) ws)) old mid → HandsSteps (claim_steps mid.next (map (by_rup ids) xs)) r mid after → HandsSteps (claim_steps old.next (map (by_rup ids) (us ++ vs))) r old after
+rups_handed r ids us vs ws xs old mid after same second h k =
+    let taken = subst (λ (cs : List (List Lit)). TakesSteps (claim_steps old.next (map (by_rup ids) cs)) old mid) same h in
+    let count : mid.next ≡ old.next + length us = omega (arith, taken.ids, claims_ids old.next ids us) in
+    parts_handed r (claim_steps old.next (map (by_rup ids) (us ++ vs))) (claim_steps old.next (map (by_rup ids) us)) (claim_steps (old.next + length us) (map (by_rup ids) vs)) old mid after (rups-append ids old.next us vs) taken
+    (steps_same r (claim_steps mid.next (map (by_rup ids) xs)) (claim_steps (old.next + length us) (map (by_rup ids) vs)) mid after (λ i. claim_steps (count i) (map (by_rup ids) (second i))) k)
+
+-- ---- clauses of adders: what moves is the id of an adder's first constraint, and the next id
+
+pub record Place : Type 0 where
+  pub id : ℕ
+  pub next : ℕ
+
+abbrev pub place : ℕ → ℕ → Place
+place id next = record { id = id; next = next }
+
+abbrev pub claims_piece : ℕ → Place → Gate → List Step
+claims_piece first p g = claim_steps p.next (map (by_rup (gate_ids p.id)) (gate_clauses first g))
+
+abbrev pub claims_on : ℕ → Place → Gate → Place
+claims_on first p g = place (p.id + 4) (p.next + length (gate_clauses first g))
+
+pub gates_walk : (first id next : ℕ) (gs : List Gate) → claim_steps next (gate_claims first id gs) ≡ walk (claims_piece first) (claims_on first) (place id next) gs
+gates_walk first id next [] = refl
+gates_walk first id next (g ∷ gs) =
+    let here : List Claim = map (by_rup (gate_ids id)) (gate_clauses first g) in
+    claims-append next here (gate_claims first (id + 4) gs)
+    ∙ ap (λ (n : ℕ). claim_steps next here ++ claim_steps (next + n) (gate_claims first (id + 4) gs)) (length-map (gate_clauses first g) (by_rup (gate_ids id)))
+    ∙ ap (λ (ss : List Step). claim_steps next here ++ ss) (gates_walk first (id + 4) (next + length (gate_clauses first g)) gs)
+
+pub gate_count : (first : ℕ) (g : Gate) → length (gate_clauses first g) ≤ 14
+gate_count first (Full a b c made) = omega arith
+gate_count first (Half a b made) = omega arith
+
+-- all clauses of a network take an id each
+pub gate_claims_ids : (first id next : ℕ) (gs : List Gate) → count_by takes_id (claim_steps next (gate_claims first id gs)) ≡ length (gate_claims first id gs)
+gate_claims_ids first id next [] = refl
+gate_claims_ids first id next (g ∷ gs) =
+    let here : List Claim = map (by_rup (gate_ids id)) (gate_clauses first g) in
+    let rest : List Claim = gate_claims first (id + 4) gs in
+    let bit : Step → ℕ = λ s. cond (takes_id s) 1 0 in
+    omega (
+      arith,
+      ap (sum_by bit) (claims-append next here rest),
+      sum_by-append bit (claim_steps next here) (claim_steps (next + length here) rest),
+      claims_ids next (gate_ids id) (gate_clauses first g),
+      gate_claims_ids first (id + 4) (next + length here) gs,
+      length-append here rest,
+      length-map (gate_clauses first g) (by_rup (gate_ids id)),
+    )
+
+-- ---- sums: what moves is the id of an adder's first constraint, the sum before it, and the next id
+
+pub record Leading : Type 0 where
+  pub id : ℕ
+  pub running : ℕ
+  pub next : ℕ
+
+abbrev pub leading : ℕ → ℕ → ℕ → Leading
+leading id running next = record { id = id; running = running; next = next }
+
+abbrev pub sum_piece : Leading → ℕ → List Step
+sum_piece p level = Pol (sum_ops level p.id (p.id + 2) p.running) ∷ deletion_steps 1 p.running 1
+
+abbrev pub sum_on : Leading → ℕ → Leading
+sum_on p level = leading (p.id + 4) p.next (p.next + 1)
+
+pub sums_walk : (id running next : ℕ) (levels : List ℕ) → later_sums id running next levels ≡ walk sum_piece sum_on (leading id running next) levels
+sums_walk id running next [] = refl
+sums_walk id running next (level ∷ levels) = ap (λ (ss : List Step). sum_piece (leading id running next) level ++ ss) (sums_walk (id + 4) next (next + 1) levels)
+
+later_ids : (id running next : ℕ) (levels : List ℕ) → count_by takes_id (later_sums id running next levels) ≡ length levels
+later_ids id running next [] = refl
+later_ids id running next (level ∷ levels) =
+    let bit : Step → ℕ = λ s. cond (takes_id s) 1 0 in
+    let rest = later_sums (id + 4) next (next + 1) levels in
+    omega (arith, sum_by-append bit (sum_piece (leading id running next) level) rest, later_ids (id + 4) next (next + 1) levels)
+
+pub sums_ids : (id running next : ℕ) (levels : List ℕ) → count_by takes_id (sum_steps id running next levels) ≡ length levels
+sums_ids id running next [] = refl
+sums_ids id running next (level ∷ levels) =
+    let bit : Step → ℕ = λ s. cond (takes_id s) 1 0 in
+    let rest = later_sums (id + 4) next (next + 1) levels in
+    omega (arith, sum_by-append bit (Pol (sum_ops level id (id + 2) running) ∷ []) rest, later_ids (id + 4) next (next + 1) levels)
+
+-- the last sum's id is the constraint's, or a new one
+pub last_below : (m running next : ℕ) (levels : List ℕ) → running < m → next + length levels ≤ m → last_sum running next levels < m
+last_below m running next [] h k = h
+last_below m running next (level ∷ levels) h k = last_below m next (next + 1) levels (omega (arith, k)) (omega (arith, k))
+
+pub no_sums : (id running next : ℕ) (levels : List ℕ) → length levels ≡ 0 → sum_steps id running next levels ≡ []
+no_sums id running next [] none = refl
+no_sums id running next (level ∷ levels) none = absurd (omega (arith, none))
+
+pub no_last : (last : ℕ) (levels : List ℕ) → length levels ≡ 0 → last_deletion last levels ≡ []
+no_last last [] none = refl
+no_last last (level ∷ levels) none = absurd (omega (arith, none))
+
+-- ---- an adder, as the code reads it
+
+pub full_claims_same : (ids : List ℕ) (first next : ℕ) (g : Gate) (x y z : Wire) (made : ℕ) (a b c s d : Lit) → g ≡ Full x y z made → a ≡ wire_lit first x → b ≡ wire_lit first y → c ≡ wire_lit first z
+    → s ≡ wire_lit first (Made made) → d ≡ wire_lit first (Made (made + 1))
+    → claim_steps next (map (by_rup ids) (full_clauses a b c s d)) ≡ claim_steps next (map (by_rup ids) (gate_clauses first g))
+full_claims_same ids first next g x y z made a b c s d is ha hb hc hs hd =
+    (λ i. claim_steps next (map (by_rup ids) (full_clauses (ha i) (hb i) (hc i) (hs i) (hd i)))) ∙ ap (λ (h : Gate). claim_steps next (map (by_rup ids) (gate_clauses first h))) (sym is)
+
+pub full_meanings_same : (first next : ℕ) (g : Gate) (x y z : Wire) (made : ℕ) (a b c : Lit) (s d : ℕ) → g ≡ Full x y z made → a ≡ wire_lit first x → b ≡ wire_lit first y → c ≡ wire_lit first z
+    → s ≡ first + made → d ≡ first + (made + 1)
+    → meaning_steps next (adder_meanings (a ∷ b ∷ c ∷ []) s d) ≡ meaning_steps next (gate_meanings first g)
+full_meanings_same first next g x y z made a b c s d is ha hb hc hs hd =
+    (λ i. meaning_steps next (adder_meanings (ha i ∷ hb i ∷ hc i ∷ []) (hs i) (hd i))) ∙ ap (λ (h : Gate). meaning_steps next (gate_meanings first h)) (sym is)
+
+pub half_meanings_same : (first next : ℕ) (g : Gate) (x y : Wire) (made : ℕ) (a b : Lit) (s d : ℕ) → g ≡ Half x y made → a ≡ wire_lit first x → b ≡ wire_lit first y → s ≡ first + made → d ≡ first + (made + 1)
+    → meaning_steps next (adder_meanings (a ∷ b ∷ []) s d) ≡ meaning_steps next (gate_meanings first g)
+half_meanings_same first next g x y made a b s d is ha hb hs hd =
+    (λ i. meaning_steps next (adder_meanings (ha i ∷ hb i ∷ []) (hs i) (hd i))) ∙ ap (λ (h : Gate). meaning_steps next (gate_meanings first h)) (sym is)

@@ -1,0 +1,17 @@
+use Rattle.std.proofs.Common.{ap}
+use Rattle.pb_base.specs.declared.literal.Lit.{Lit}
+use Rattle.pb_family.proofs.Deriving.{steps_same}
+use Rattle.pb_adder.proofs.Walks.{full_meanings_same, half_meanings_same}
+use Rattle.pb_adder.proofs.meanings.take_gate_meanings.Goals as goal
+
+pub returns-in-Full : goal.returns-in-Full
+returns-in-Full g c =
+    let old = g.T.StepSink.state c.args.sink.now in
+    steps_same c.take_full.result _ _ old (g.T.StepSink.state c.take_full.new.sink)
+    (full_meanings_same c.args.first old.next c.args.gate.now _ _ _ _ _ _ _ _ _ c.in-Full.is c.lit-a.ensures c.lit-b.ensures c.lit-c.ensures (ap (λ (l : Lit). l.var) c.lit-sum.ensures) (ap (λ (l : Lit). l.var) c.lit-carry.ensures)) c.take_full.ensures
+
+pub returns-in-Half : goal.returns-in-Half
+returns-in-Half g c =
+    let old = g.T.StepSink.state c.args.sink.now in
+    steps_same c.take_half.result _ _ old (g.T.StepSink.state c.take_half.new.sink)
+    (half_meanings_same c.args.first old.next c.args.gate.now _ _ _ _ _ _ _ c.in-Half.is c.lit-a-in-Half.ensures c.lit-b-in-Half.ensures (ap (λ (l : Lit). l.var) c.lit-sum-in-Half.ensures) (ap (λ (l : Lit). l.var) c.lit-carry-in-Half.ensures)) c.take_half.ensures

@@ -1,0 +1,370 @@
+-- The lines of the derivation of an adder network are within their limits, and short.
+use Rattle.std.proofs.Common.{◌≡◌, ◌≤◌, ◌<◌, ◌+◌, ◌*◌, ◌^◌, ℕ, List, [], ◌∷◌, ◌++◌, length, refl, arith, get_or, pos, inl, inr, length-append}
+use Rattle.std.specs.Prelude.{All, map, flat_map, ◌≤ℤ◌}
+use Rattle.std.proofs.lemmas.Int.{ints}
+use Rattle.std.proofs.lemmas.List.{length-map}
+use Rattle.std.proofs.lemmas.List.Elements.{All-nil, All-cons, All-head, All-tail, All-append, All-map, All-weaker, All-contains}
+use Rattle.pb_base.specs.declared.literal.Lit.{Lit}
+use Rattle.pb_base.specs.Literals.{negated}
+use Rattle.pb_base.proofs.Members.{All-append_both}
+use Rattle.pb_norm.specs.BoundedSums.{BoundedSum}
+use Rattle.pb_norm.specs.Constraints.{Weighted}
+use Rattle.pb_steps.specs.declared.step.Step.{Step}
+use Rattle.pb_steps.specs.declared.step.Step.TheVariants.{Pol, Del}
+use Rattle.pb_steps.specs.Sayable.{IsId, IsVariable, IsFactor, IsSayable}
+use Rattle.pb_steps.specs.StepSizes.{step_size}
+use Rattle.pb_derive.specs.Claims.{Claim, claim_steps}
+use Rattle.pb_derive.specs.Deletions.{deletion_steps}
+use Rattle.pb_derive.specs.Meanings.{Meaning, meaning_steps}
+use Rattle.pb_derive.specs.Ones.{unit_of, ones}
+use Rattle.pb_derive.specs.Rups.{by_rup}
+use Rattle.pb_derive.specs.Short.{AreShort}
+use Rattle.pb_derive.proofs.Sayable.{IsSlimTerm, IsSlimMeaning, meanings_sayable, claims_sayable, deletions_sayable, rup_sayable}
+use Rattle.pb_derive.proofs.Short.{lines_sized, line_sized}
+use Rattle.pb_derive.proofs.Sizes.{rup-size, meanings_each, claims_each, deletions_each, each_all}
+use Rattle.pb_family.specs.Derivations.{AreOriginal, MayStart}
+use Rattle.pb_family.specs.Fresh.{positive_of}
+use Rattle.pb_adder.specs.declared.gate.Gate.{Gate}
+use Rattle.pb_adder.specs.declared.gate.Gate.TheVariants.{Full, Half}
+use Rattle.pb_adder.specs.declared.gate.Wire.{Wire}
+use Rattle.pb_adder.specs.declared.gate.Wire.TheVariants.{Input, Made}
+use Rattle.pb_adder.specs.Adder.{adder_clauses}
+use Rattle.pb_adder.specs.AdderSteps.{sum_ops, later_sums, sum_steps, last_sum, last_deletion, gate_ids, gate_claims, row_claims, levels_of, adder_claims, proving_steps, adder_steps}
+use Rattle.pb_adder.specs.Comparator.{comparator}
+use Rattle.pb_adder.specs.Counts.{adder_fresh, adder_size}
+use Rattle.pb_adder.specs.GateMeanings.{carry_meaning, sum_meaning, input_lits, sum_var, carry_var, gate_meanings}
+use Rattle.pb_adder.specs.Gates.{wire_lit, gate_clauses}
+use Rattle.pb_adder.specs.LeveledGates.{Leveled, leveled_gates}
+use Rattle.pb_adder.specs.Network.{level_count, network_gates, network_ends}
+use Rattle.pb_adder.specs.laws.AdderDerives.{IsForAdder, meanings-length}
+use Rattle.pb_adder.specs.laws.AdderLaws.{adder_names}
+use Rattle.pb_adder.specs.laws.AdderMeanings.{AllNamed, all_meanings}
+use Rattle.pb_adder.specs.laws.CountLaws.{network_fresh}
+use Rattle.pb_adder.specs.laws.GateClaims.{gate_few}
+use Rattle.pb_adder.specs.laws.Leveling.{few_levels, network_low}
+use Rattle.pb_adder.specs.laws.LineOps.{power_positive}
+use Rattle.pb_adder.specs.laws.RowLengths.{comparator_short, comparator_few, ends_length}
+use Rattle.pb_adder.specs.laws.StepCounts.{levels-length, adder_steps_count}
+use Rattle.pb_adder.specs.laws.Wired.{Known, Wired, network_wired}
+
+-- a line can say the step, in few bytes
+abbrev IsFine : Step → Type 0
+IsFine s = IsSayable s × (step_size s ≤ 8192)
+
+both_fine : (ss : List Step) → All IsSayable ss → All (λ s. step_size s ≤ 8192) ss → All IsFine ss
+both_fine ss h k = λ i d w. (h i d w, k i d w)
+
+abbrev AreVariables : List Lit → Type 0
+AreVariables ls = All (λ l. IsVariable l.var) ls
+
+-- ---- the variables of adders
+
+wire_variable : (first m fresh : ℕ) (w : Wire) → 1 ≤ first → first + fresh ≤ 2 ^ 31 → m ≤ fresh → Known (λ l. IsVariable l.var) m w → IsVariable (wire_lit first w).var
+wire_variable first m fresh (Input l) low fits within h = h
+wire_variable first m fresh (Made k) low fits within h = ((let from : 1 ≤ first + k = omega (arith, low) in from), (let below : first + k < 2 ^ 31 = omega (arith, h, fits, within) in below))
+
+made_variable : (first m fresh k : ℕ) → 1 ≤ first → first + fresh ≤ 2 ^ 31 → m + 2 ≤ fresh → k ≤ m + 1 → IsVariable (first + k)
+made_variable first m fresh k low fits within h = ((let from : 1 ≤ first + k = omega (arith, low) in from), (let below : first + k < 2 ^ 31 = omega (arith, h, fits, within) in below))
+
+gate_variable : (first m fresh : ℕ) (g : Gate) (gs : List Gate) → 1 ≤ first → first + fresh ≤ 2 ^ 31 → m + 2 ≤ fresh → Wired (λ l. IsVariable l.var) m (g ∷ gs) → AllNamed IsVariable first g
+gate_variable first m fresh (Full x y z made) gs low fits within wired =
+    let V : Lit → Type 0 = λ l. IsVariable l.var in
+    let same = wired.1 in
+    let on = λ (w : Wire) (h : Known V m w). wire_variable first m fresh w low fits (omega (arith, within)) h in (
+      All-cons V (wire_lit first x) (wire_lit first y ∷ wire_lit first z ∷ []) (on x wired.0.0)
+          (All-cons V (wire_lit first y) (wire_lit first z ∷ []) (on y wired.0.1) (All-cons V (wire_lit first z) [] (on z wired.0.2) (All-nil V))),
+      made_variable first m fresh made low fits within (omega (arith, same)),
+      made_variable first m fresh (made + 1) low fits within (omega (arith, same)),
+    )
+gate_variable first m fresh (Half x y made) gs low fits within wired =
+    let V : Lit → Type 0 = λ l. IsVariable l.var in
+    let same = wired.1 in
+    let on = λ (w : Wire) (h : Known V m w). wire_variable first m fresh w low fits (omega (arith, within)) h in (
+      All-cons V (wire_lit first x) (wire_lit first y ∷ []) (on x wired.0.0) (All-cons V (wire_lit first y) [] (on y wired.0.1) (All-nil V)),
+      made_variable first m fresh made low fits within (omega (arith, same)),
+      made_variable first m fresh (made + 1) low fits within (omega (arith, same)),
+    )
+
+gates_variable : (first m fresh : ℕ) (gs : List Gate) → 1 ≤ first → first + fresh ≤ 2 ^ 31 → m + 2 * length gs ≤ fresh → Wired (λ l. IsVariable l.var) m gs → All (AllNamed IsVariable first) gs
+gates_variable first m fresh [] low fits within wired = All-nil (AllNamed IsVariable first)
+gates_variable first m fresh (g ∷ gs) low fits within wired =
+    All-cons (AllNamed IsVariable first) g gs (gate_variable first m fresh g gs low fits (omega (arith, within)) wired) (gates_variable first (m + 2) fresh gs low fits (omega (arith, within)) wired.2)
+
+-- ---- the meanings
+
+-- what lines can say of a meaning, and how many terms it has
+abbrev IsSmallMeaning : Meaning → Type 0
+IsSmallMeaning m = IsSlimMeaning m × (length m.sum ≤ 4)
+
+inputs_slim : (ls : List Lit) → AreVariables ls → All IsSlimTerm (ones ls)
+inputs_slim ls h =
+    let small : 1 < 2 ^ 126 = omega arith in
+    All-map IsSlimTerm unit_of ls (All-weaker (λ (l : Lit). IsVariable l.var) (λ (l : Lit). IsSlimTerm (unit_of l)) (λ l v. (small, v)) ls h)
+
+sum_slim : (ls : List Lit) (d : ℕ) → AreVariables ls → IsVariable d → All IsSlimTerm (ones ls ++ record { coef = 2; lit = negated (positive_of d) } ∷ [])
+sum_slim ls d h v =
+    let small : 2 < 2 ^ 126 = omega arith in
+    let last : Weighted = record { coef = 2; lit = negated (positive_of d) } in
+    All-append IsSlimTerm (ones ls) (last ∷ []) (inputs_slim ls h) (All-cons IsSlimTerm last [] (small, v) (All-nil IsSlimTerm))
+
+gate_small : (first : ℕ) (g : Gate) → AllNamed IsVariable first g → IsSmallMeaning (carry_meaning (input_lits first g) (carry_var first g)) × IsSmallMeaning (sum_meaning (input_lits first g) (sum_var first g) (carry_var first g))
+gate_small first (Full x y z made) h =
+    let ls = input_lits first (Full x y z made) in (
+      (record { sum = inputs_slim ls h.0; var = h.2; light = omega arith }, omega arith),
+      (record { sum = sum_slim ls (first + (made + 1)) h.0 h.2; var = h.1; light = omega arith }, omega arith),
+    )
+gate_small first (Half x y made) h =
+    let ls = input_lits first (Half x y made) in (
+      (record { sum = inputs_slim ls h.0; var = h.2; light = omega arith }, omega arith),
+      (record { sum = sum_slim ls (first + (made + 1)) h.0 h.2; var = h.1; light = omega arith }, omega arith),
+    )
+
+-- ---- the sums
+
+abbrev IsLow : ℕ → Type 0
+IsLow level = 2 ^ level ≤ 2 ^ 100
+
+one_fine : (level carry sum running : ℕ) → IsLow level → IsId carry → IsId sum → IsId running → IsFine (Pol (sum_ops level carry sum running))
+one_fine level carry sum running low c s r =
+    let two : IsFactor (pos 2) = ((let h : pos 1 ≤ℤ pos 2 = omega (arith, ints) in h), (let h : 2 < 2 ^ 126 = omega arith in h)) in
+    let three : IsFactor (pos 3) = ((let h : pos 1 ≤ℤ pos 3 = omega (arith, ints) in h), (let h : 3 < 2 ^ 126 = omega arith in h)) in
+    let times : IsFactor (pos (2 ^ level)) = ((let h : pos 1 ≤ℤ pos (2 ^ level) = omega (arith, ints, power_positive level) in h), (let h : 2 ^ level < 2 ^ 126 = omega (arith, low) in h)) in
+    let size : step_size (Pol (sum_ops level carry sum running)) ≡ 191 = refl in
+    ((c, (two, (s, (tt, (three, (times, (r, (tt, tt)))))))), omega (arith, size))
+
+no_ids : (id : ℕ) → id ∷ [] ≡ [] → ⊥
+no_ids id e = cc
+
+gone_fine : (id : ℕ) → IsId id → IsFine (Del (id ∷ []))
+gone_fine id h = let size : step_size (Del (id ∷ [])) ≡ 24 = refl in (((h, tt), no_ids id), omega (arith, size))
+
+-- the ids from one on, so many
+abbrev Fits : ℕ → ℕ → Type 0
+Fits id n = (1 ≤ id) × (id + n < 2 ^ 63)
+
+id_at : (id n k : ℕ) → Fits id n → k ≤ n → IsId (id + k)
+id_at id n k h le = let from = h.0 in let below = h.1 in ((let a : 1 ≤ id + k = omega (arith, from) in a), (let b : id + k < 2 ^ 63 = omega (arith, below, le) in b))
+
+fits_from : (id n k m : ℕ) → Fits id n → k + m ≤ n → Fits (id + k) m
+fits_from id n k m h le = let from = h.0 in let below = h.1 in ((let a : 1 ≤ id + k = omega (arith, from) in a), (let b : id + k + m < 2 ^ 63 = omega (arith, below, le) in b))
+
+own_id : (id n : ℕ) → Fits id n → IsId id
+own_id id n h = let from = h.0 in let below = h.1 in (from, (let b : id < 2 ^ 63 = omega (arith, below) in b))
+
+later_fine : (id running next : ℕ) (levels : List ℕ) → All IsLow levels → Fits id (4 * length levels) → IsId running → Fits next (length levels) → All IsFine (later_sums id running next levels)
+later_fine id running next [] low ids r nexts = All-nil IsFine
+later_fine id running next (level ∷ levels) low ids r nexts =
+    let rest = later_sums (id + 4) next (next + 1) levels in
+    let n : ℕ = length levels in
+    All-cons IsFine (Pol (sum_ops level id (id + 2) running)) (Del (running ∷ []) ∷ rest)
+    (one_fine level id (id + 2) running (All-head IsLow level levels low) (own_id id (4 * length (level ∷ levels)) ids) (id_at id (4 * length (level ∷ levels)) 2 ids (omega arith)) r)
+    (All-cons IsFine (Del (running ∷ [])) rest (gone_fine running r)
+    (later_fine (id + 4) next (next + 1) levels (All-tail IsLow level levels low) (fits_from id (4 * length (level ∷ levels)) 4 (4 * n) ids (omega arith)) (own_id next (length (level ∷ levels)) nexts)
+    (fits_from next (length (level ∷ levels)) 1 n nexts (omega arith))))
+
+sums_fine : (id running next : ℕ) (levels : List ℕ) → All IsLow levels → Fits id (4 * length levels) → IsId running → Fits next (length levels) → All IsFine (sum_steps id running next levels)
+sums_fine id running next [] low ids r nexts = All-nil IsFine
+sums_fine id running next (level ∷ levels) low ids r nexts =
+    let n : ℕ = length levels in
+    All-cons IsFine (Pol (sum_ops level id (id + 2) running)) (later_sums (id + 4) next (next + 1) levels)
+    (one_fine level id (id + 2) running (All-head IsLow level levels low) (own_id id (4 * length (level ∷ levels)) ids) (id_at id (4 * length (level ∷ levels)) 2 ids (omega arith)) r)
+    (later_fine (id + 4) next (next + 1) levels (All-tail IsLow level levels low) (fits_from id (4 * length (level ∷ levels)) 4 (4 * n) ids (omega arith)) (own_id next (length (level ∷ levels)) nexts)
+    (fits_from next (length (level ∷ levels)) 1 n nexts (omega arith)))
+
+last_id : (running next : ℕ) (levels : List ℕ) → IsId running → Fits next (length levels) → IsId (last_sum running next levels)
+last_id running next [] r nexts = r
+last_id running next (level ∷ levels) r nexts = last_id next (next + 1) levels (own_id next (length (level ∷ levels)) nexts) (fits_from next (length (level ∷ levels)) 1 (length levels) nexts (omega arith))
+
+last_gone : (last : ℕ) (levels : List ℕ) → IsId last → All IsFine (last_deletion last levels)
+last_gone last [] h = All-nil IsFine
+last_gone last (level ∷ levels) h = All-cons IsFine (Del (last ∷ [])) [] (gone_fine last h) (All-nil IsFine)
+
+-- ---- the clauses
+
+abbrev IsFineClaim : Claim → Type 0
+IsFineClaim c = IsFine c.step
+
+gate_claims_fine : (first id : ℕ) (gs : List Gate) → All AreVariables (flat_map (gate_clauses first) gs) → Fits id (4 * length gs) → All IsFineClaim (gate_claims first id gs)
+gate_claims_fine first id [] vars ids = All-nil IsFineClaim
+gate_claims_fine first id (g ∷ gs) vars ids =
+    let parts = All-append_both AreVariables (gate_clauses first g) (flat_map (gate_clauses first) gs) vars in
+    let few = gate_few first g in
+    let n : ℕ = 4 * length (g ∷ gs) in
+    let four : All IsId (gate_ids id) =
+    All-cons IsId id ((id + 1) ∷ (id + 2) ∷ (id + 3) ∷ []) (own_id id n ids)
+    (All-cons IsId (id + 1) ((id + 2) ∷ (id + 3) ∷ []) (id_at id n 1 ids (omega arith))
+    (All-cons IsId (id + 2) ((id + 3) ∷ []) (id_at id n 2 ids (omega arith)) (All-cons IsId (id + 3) [] (id_at id n 3 ids (omega arith)) (All-nil IsId)))) in
+    All-append IsFineClaim (map (by_rup (gate_ids id)) (gate_clauses first g)) (gate_claims first (id + 4) gs)
+    (All-map IsFineClaim (by_rup (gate_ids id)) (gate_clauses first g) (λ k d h.
+    let clause : List Lit = get_or (gate_clauses first g) k d in
+    (rup_sayable (gate_ids id) clause four (parts.0 k d h), omega (arith, rup-size (gate_ids id) clause, few k d h))))
+    (gate_claims_fine first (id + 4) gs parts.1 (fits_from id n 4 (4 * length gs) ids (omega arith)))
+
+row_claims_fine : (last : ℕ) (rows : List (List Lit)) → IsId last → All AreVariables rows → All (λ (c : List Lit). length c ≤ 100) rows → All IsFineClaim (row_claims last rows)
+row_claims_fine last rows id vars few =
+    let one : All IsId (last ∷ []) = All-cons IsId last [] id (All-nil IsId) in
+    All-map IsFineClaim (by_rup (last ∷ [])) rows (λ k d h.
+    let clause : List Lit = get_or rows k d in
+    (rup_sayable (last ∷ []) clause one (vars k d h), omega (arith, rup-size (last ∷ []) clause, few k d h)))
+
+pub gate_claims_few : (first id : ℕ) (gs : List Gate) → length (gate_claims first id gs) ≤ 14 * length gs
+gate_claims_few first id [] = omega arith
+gate_claims_few first id (g ∷ gs) =
+    omega (
+      arith,
+      length-append (map (by_rup (gate_ids id)) (gate_clauses first g)) (gate_claims first (id + 4) gs),
+      length-map (gate_clauses first g) (by_rup (gate_ids id)),
+      fourteen g,
+      gate_claims_few first (id + 4) gs,
+    )
+  where
+    fourteen : (g : Gate) → length (gate_clauses first g) ≤ 14
+    fourteen (Full a b c made) = omega arith
+    fourteen (Half a b made) = omega arith
+
+-- ---- all steps
+
+module _ (m : BoundedSum) (suits : IsForAdder m) (first id next : ℕ) (original : AreOriginal first m.terms) (start : MayStart first (adder_fresh m.terms) id next) where
+  abbrev ts : List Weighted
+  ts = m.terms
+
+  abbrev gates : List Gate
+  gates = network_gates ts
+
+  abbrev ms : List Meaning
+  ms = flat_map (gate_meanings first) gates
+
+  abbrev count : ℕ
+  count = length gates
+
+  abbrev levels : List ℕ
+  levels = levels_of ts
+
+  abbrev sums_from : ℕ
+  sums_from = next + 4 * count
+
+  abbrev last : ℕ
+  last = last_sum id sums_from levels
+
+  abbrev claims : List Claim
+  claims = adder_claims ts m.bound first next last
+
+  abbrev steps : List Step
+  steps = adder_steps ts m.bound first id next
+
+  room : 2 * count ≤ 2 ^ 31
+  room = omega (arith, start.fits, network_fresh ts)
+
+  from_one : 1 ≤ next
+  from_one = omega (arith, start.given, start.known)
+
+  within : next ≤ 2 ^ 61
+  within = start.few
+
+  constraint_id : IsId id
+  constraint_id = (start.given, (let below : id < 2 ^ 63 = omega (arith, start.known, start.few) in below))
+
+  low : All IsLow levels
+  low = All-map IsLow (λ (x : Leveled). x.level) (leveled_gates ts) (network_low ts suits.small)
+
+  size : length levels ≡ count
+  size = levels-length ts
+
+  meaning_ids : Fits next (4 * count)
+  meaning_ids = (from_one, (let below : next + 4 * count < 2 ^ 63 = omega (arith, within, room) in below))
+
+  sum_ids : Fits sums_from (length levels)
+  sum_ids = ((let from : 1 ≤ sums_from = omega (arith, from_one) in from), (let below : sums_from + length levels < 2 ^ 63 = omega (arith, within, room, size) in below))
+
+  last_is : IsId last
+  last_is = last_id id sums_from levels constraint_id sum_ids
+
+  variables : All (λ t. IsVariable t.lit.var) ts
+  variables = All-weaker (λ (t : Weighted). (1 ≤ t.lit.var) × (t.lit.var < first)) (λ (t : Weighted). IsVariable t.lit.var) (λ t h. (h.0, (let b : t.lit.var < 2 ^ 31 = omega (arith, h.1, start.fits) in b))) ts original
+
+  named_gates : All (AllNamed IsVariable first) gates
+  named_gates = gates_variable first 0 (adder_fresh ts) gates start.low start.fits (omega (arith, network_fresh ts)) (network_wired (λ l. IsVariable l.var) ts variables)
+
+  meanings_small : All IsSmallMeaning ms
+  meanings_small = all_meanings IsSmallMeaning first gates (λ k d h. gate_small first (get_or gates k d) (named_gates k d h))
+
+  clause_variables : All AreVariables (adder_clauses ts m.bound first)
+  clause_variables =
+      let vars : All IsVariable (map (λ (t : Weighted). t.lit.var) ts) = All-map IsVariable (λ (t : Weighted). t.lit.var) ts variables in
+      let names = adder_names ts m.bound first in
+      λ k d h i e l.
+      elim (names k d h i e l) as (λ _. IsVariable (get_or (get_or (adder_clauses ts m.bound first) k d) i e).var) [
+        | inl input ↦ All-contains IsVariable (map (λ (t : Weighted). t.lit.var) ts) (get_or (get_or (adder_clauses ts m.bound first) k d) i e).var vars input
+        | inr made ↦
+            let from = made.0 in
+            let below = made.1 in (
+              (let a : 1 ≤ (get_or (get_or (adder_clauses ts m.bound first) k d) i e).var = omega (arith, from, start.low) in a),
+              (let b : (get_or (get_or (adder_clauses ts m.bound first) k d) i e).var < 2 ^ 31 = omega (arith, below, start.fits) in b),
+            )
+      ]
+
+  rows_few : All (λ (c : List Lit). length c ≤ 100) (comparator first m.bound (network_ends ts))
+  rows_few =
+      All-weaker (λ (c : List Lit). length c ≤ length (network_ends ts)) (λ (c : List Lit). length c ≤ 100) (λ c h. omega (arith, h, ends_length (level_count ts) 0 ts [] 0, few_levels ts suits.small))
+      (comparator first m.bound (network_ends ts)) (comparator_short first m.bound (network_ends ts))
+
+  claims_fine : All IsFineClaim claims
+  claims_fine =
+      let parts = All-append_both AreVariables (flat_map (gate_clauses first) gates) (comparator first m.bound (network_ends ts)) clause_variables in
+      All-append IsFineClaim (gate_claims first next gates) (row_claims last (comparator first m.bound (network_ends ts)))
+      (gate_claims_fine first next gates parts.0 meaning_ids) (row_claims_fine last (comparator first m.bound (network_ends ts)) last_is parts.1 rows_few)
+
+  claims_few : length claims ≤ 14 * count + 100
+  claims_few =
+      omega (
+        arith,
+        length-append (gate_claims first next gates) (row_claims last (comparator first m.bound (network_ends ts))),
+        gate_claims_few first next gates,
+        length-map (comparator first m.bound (network_ends ts)) (by_rup (last ∷ [])),
+        comparator_few first m.bound (network_ends ts),
+        ends_length (level_count ts) 0 ts [] 0,
+        few_levels ts suits.small,
+      )
+
+  fine : All IsFine steps
+  fine =
+      let meanings = meaning_steps next ms in
+      let out : ℕ = sums_from + length levels in
+      let outs = claim_steps out claims in
+      let slim : All IsSlimMeaning ms = All-weaker IsSmallMeaning IsSlimMeaning (λ m h. h.0) ms meanings_small in
+      let sizes : All (λ m. 119 + 53 * length m.sum ≤ 8192) ms = All-weaker IsSmallMeaning (λ (m : Meaning). 119 + 53 * length m.sum ≤ 8192) (λ m h. let few = h.1 in omega (arith, few)) ms meanings_small in
+      let said : All (λ (c : Claim). IsSayable c.step) claims = All-weaker IsFineClaim (λ (c : Claim). IsSayable c.step) (λ c h. h.0) claims claims_fine in
+      let sized : All (λ (c : Claim). step_size c.step ≤ 8192) claims = All-weaker IsFineClaim (λ (c : Claim). step_size c.step ≤ 8192) (λ c h. h.1) claims claims_fine in
+      let first_part : All IsFine meanings =
+      both_fine meanings (meanings_sayable next ms from_one (omega (arith, meanings-length first gates, within, room)) slim) (meanings_each 8192 (omega arith) next ms sizes) in
+      let clauses_part : All IsFine outs = both_fine outs (claims_sayable out claims (omega (arith, from_one)) (omega (arith, within, room, size, claims_few)) said) (claims_each 8192 (omega arith) out claims sized) in
+      let gone = deletion_steps 2 next (2 * count) in
+      let gone_part : All IsFine gone = both_fine gone (deletions_sayable next (2 * count) from_one (omega (arith, within, room))) (deletions_each 8192 (omega arith) next (2 * count)) in
+      let sums = sum_steps next id sums_from levels in
+      let rest = last_deletion last levels in
+      All-append IsFine meanings (proving_steps ts m.bound first id next sums_from ++ gone) first_part
+      (All-append IsFine (proving_steps ts m.bound first id next sums_from) gone
+      (All-append IsFine sums (outs ++ rest) (sums_fine next id sums_from levels low (omega_fits meaning_ids) constraint_id sum_ids)
+      (All-append IsFine outs rest clauses_part (last_gone last levels last_is)))
+      gone_part)
+    where
+      omega_fits : Fits next (4 * count) → Fits next (4 * length levels)
+      omega_fits h = let from = h.0 in let below = h.1 in (from, (let b : next + 4 * length levels < 2 ^ 63 = omega (arith, below, size) in b))
+
+  says : All IsSayable steps
+  says = All-weaker IsFine IsSayable (λ s h. h.0) steps fine
+
+  short : AreShort (length m.terms) (adder_fresh ts) (adder_size ts m.bound) steps
+  short =
+      let sizes : All (λ s. step_size s ≤ 8192) steps = All-weaker IsFine (λ (s : Step). step_size s ≤ 8192) (λ s h. h.1) steps fine in
+      record {
+        each = line_sized (2 ^ 28) steps says (All-weaker (λ (s : Step). step_size s ≤ 8192) (λ (s : Step). step_size s ≤ 2 ^ 28) (λ s h. omega (arith, h)) steps sizes);
+        all = omega (arith, lines_sized steps says, each_all 8192 steps sizes, adder_steps_count ts m.bound first id next, network_fresh ts);
+      }
+
+pub adder_sayable : (m : BoundedSum) (first id next : ℕ) → IsForAdder m → AreOriginal first m.terms → MayStart first (adder_fresh m.terms) id next → All IsSayable (adder_steps m.terms m.bound first id next)
+adder_sayable m first id next suits original start = says m suits first id next original start
+
+pub adder_short : (m : BoundedSum) (first id next : ℕ) → IsForAdder m → AreOriginal first m.terms → MayStart first (adder_fresh m.terms) id next
+    → AreShort (length m.terms) (adder_fresh m.terms) (adder_size m.terms m.bound) (adder_steps m.terms m.bound first id next)
+adder_short m first id next suits original start = short m suits first id next original start

@@ -1,0 +1,77 @@
+-- How many steps the derivation of an adder network has.
+use Rattle.std.proofs.Common.{◌≡◌, ◌≤◌, ◌+◌, ◌*◌, ℕ, List, [], ◌∷◌, ◌++◌, length, refl, ap, ◌∙◌, arith, length-append}
+use Rattle.std.specs.Prelude.{map, flat_map}
+use Rattle.std.proofs.lemmas.List.{length-map}
+use Rattle.pb_norm.specs.Constraints.{Weighted}
+use Rattle.pb_derive.specs.Claims.{Claim, claim_steps}
+use Rattle.pb_derive.specs.Deletions.{deletion_steps}
+use Rattle.pb_derive.specs.Meanings.{Meaning, meaning_steps}
+use Rattle.pb_derive.proofs.Phases.{length-meanings, length-claims, length-deletions}
+use Rattle.pb_adder.specs.AdderSteps.{later_sums, sum_steps, last_sum, last_deletion, levels_of, adder_claims, proving_steps, adder_steps}
+use Rattle.pb_adder.specs.Comparator.{comparator}
+use Rattle.pb_adder.specs.Counts.{adder_fresh, adder_size}
+use Rattle.pb_adder.specs.GateMeanings.{gate_meanings}
+use Rattle.pb_adder.specs.LeveledGates.{Leveled, leveled_gates}
+use Rattle.pb_adder.specs.Network.{network_gates, network_ends}
+use Rattle.pb_adder.specs.laws.AdderDerives.{meanings-length, claims_clauses}
+use Rattle.pb_adder.specs.laws.AdderLaws.{adder_counts}
+use Rattle.pb_adder.specs.laws.CountLaws.{network_fresh}
+use Rattle.pb_adder.specs.laws.Leveling.{leveled_length}
+
+later_count : (id running next : ℕ) (levels : List ℕ) → length (later_sums id running next levels) ≡ 2 * length levels
+later_count id running next [] = refl
+later_count id running next (level ∷ levels) =
+    omega (arith, length-append (deletion_steps 1 running 1) (later_sums (id + 4) next (next + 1) levels), length-deletions 1 running 1, later_count (id + 4) next (next + 1) levels)
+
+-- each sum is made and deleted
+sums_count : (id running next last : ℕ) (levels : List ℕ) → length (sum_steps id running next levels) + length (last_deletion last levels) ≡ 2 * length levels
+sums_count id running next last [] = refl
+sums_count id running next last (level ∷ levels) = omega (arith, later_count (id + 4) next (next + 1) levels, length-deletions 1 last 1)
+
+pub levels-length : (ts : List Weighted) → length (levels_of ts) ≡ length (network_gates ts)
+levels-length ts = length-map (leveled_gates ts) (λ (x : Leveled). x.level) ∙ leveled_length ts
+
+pub claims-length : (ts : List Weighted) (bound first base last : ℕ) → length (adder_claims ts bound first base last) ≡ adder_size ts bound
+claims-length ts bound first base last =
+    let claims = adder_claims ts bound first base last in
+    let clauses : length (map (λ (c : Claim). c.clause) claims) ≡ adder_size ts bound =
+    ap length (claims_clauses first base last (network_gates ts) (comparator first bound (network_ends ts))) ∙ adder_counts ts bound first in
+    omega (arith, length-map claims (λ (c : Claim). c.clause), clauses)
+
+proving_count : (ts : List Weighted) (bound first id base next : ℕ) → length (proving_steps ts bound first id base next) ≡ 2 * length (network_gates ts) + 2 * adder_size ts bound
+proving_count ts bound first id base next =
+    let levels = levels_of ts in
+    let last = last_sum id next levels in
+    let sums = sum_steps base id next levels in
+    let outs = claim_steps (next + length levels) (adder_claims ts bound first base last) in
+    let gone = last_deletion last levels in
+    omega (
+      arith,
+      length-append sums (outs ++ gone),
+      length-append outs gone,
+      sums_count base id next last levels,
+      levels-length ts,
+      length-claims (next + length levels) (adder_claims ts bound first base last),
+      claims-length ts bound first base last,
+    )
+
+-- eight for each adder, and two for each clause
+pub adder_steps_count : (ts : List Weighted) (bound first id next : ℕ) → length (adder_steps ts bound first id next) ≡ 8 * length (network_gates ts) + 2 * adder_size ts bound
+adder_steps_count ts bound first id next =
+    let count = length (network_gates ts) in
+    let ms : List Meaning = flat_map (gate_meanings first) (network_gates ts) in
+    let meanings = meaning_steps next ms in
+    let body = proving_steps ts bound first id next (next + 4 * count) in
+    let gone = deletion_steps 2 next (2 * count) in
+    omega (
+      arith,
+      length-append meanings (body ++ gone),
+      length-append body gone,
+      length-meanings next ms,
+      meanings-length first (network_gates ts),
+      proving_count ts bound first id next (next + 4 * count),
+      length-deletions 2 next (2 * count),
+    )
+
+pub adder_lines : (ts : List Weighted) (bound first id next : ℕ) → length (adder_steps ts bound first id next) ≤ 8 * (adder_fresh ts + adder_size ts bound)
+adder_lines ts bound first id next = omega (arith, adder_steps_count ts bound first id next, network_fresh ts)

@@ -1,0 +1,211 @@
+//! The clauses of adders and of a comparator, each of which follows by propagation.
+ghost use Rattle.std.specs.Prelude.{◌≡◌, ◌≤◌, ◌<◌, ◌+◌, ◌*◌, ◌^◌, ◌∷◌, [], All, map, length};
+ghost use Rattle.pb_derive.specs.Rups.{by_rup};
+ghost use Rattle.pb_adder.specs.AdderSteps.{gate_claims, gate_ids, row_claims};
+ghost use Rattle.pb_adder.specs.Comparator.{comparator, end_needs, row_at, row_clause, row_of, covering};
+ghost use Rattle.pb_adder.specs.Gates.{full_clauses, gate_clauses, gate_needs, half_clauses, wire_needs};
+ghost use Rattle.pb_family.specs.laws.HandedReasons.{HandsClaims};
+
+use crate::comparator::LEVELS;
+use crate::emit::{full_carries, full_sums, half_threes, half_twos};
+use crate::gate::{Gate, Wire};
+use pb_base::Lit;
+use pb_family::{SinkFault, StepSink, take_propagated};
+use std::alloc::Global;
+
+/// Hands over that clauses of one length follow from constraints, and the clauses.
+fn take_each<const N: usize, T: StepSink>(
+    alloc: Global,
+    ids: &[u64],
+    clauses: &[[Lit; N]],
+    sink: &mut T,
+) -> Result<(), SinkFault>
+    requires few { (T.state sink.old).next + length clauses.now < 2 ^ 62 }
+    ensures { HandsClaims (map (by_rup ids.now) clauses.now) result (T.state sink.old) (T.state sink.new) }
+{
+    for clause in clauses {
+        take_propagated(alloc, ids, clause, sink)?;
+    }
+    Ok(())
+}
+
+/// Hands over that `s` is the sum of three bits and `d` their carry.
+fn claim_full<T: StepSink>(
+    alloc: Global,
+    ids: &[u64],
+    a: &Lit,
+    b: &Lit,
+    c: &Lit,
+    s: &Lit,
+    d: &Lit,
+    sink: &mut T,
+) -> Result<(), SinkFault>
+    requires few { (T.state sink.old).next + 14 < 2 ^ 62 }
+    ensures { HandsClaims (map (by_rup ids.now) (full_clauses a.now b.now c.now s.now d.now)) result (T.state sink.old) (T.state sink.new) }
+{
+    take_each(alloc, ids, &full_sums(a, b, c, s), sink)?;
+    take_each(alloc, ids, &full_carries(a, b, c, d), sink)
+}
+
+/// Hands over that `s` is the sum of two bits and `d` their carry.
+fn claim_half<T: StepSink>(
+    alloc: Global,
+    ids: &[u64],
+    a: &Lit,
+    b: &Lit,
+    s: &Lit,
+    d: &Lit,
+    sink: &mut T,
+) -> Result<(), SinkFault>
+    requires few { (T.state sink.old).next + 7 < 2 ^ 62 }
+    ensures { HandsClaims (map (by_rup ids.now) (half_clauses a.now b.now s.now d.now)) result (T.state sink.old) (T.state sink.new) }
+{
+    take_each(alloc, ids, &half_threes(a, b, s, d), sink)?;
+    take_each(alloc, ids, &half_twos(a, b, d), sink)
+}
+
+/// Hands over the clauses of an adder, whose constraints have four ids, from `id` on.
+fn take_gate<T: StepSink>(
+    alloc: Global,
+    gate: &Gate,
+    first: u32,
+    id: u64,
+    sink: &mut T,
+) -> Result<(), SinkFault>
+    requires low { 1 ≤ first }
+    requires fits { first + gate_needs gate.now ≤ 2 ^ 31 }
+    requires given { id + 3 < 2 ^ 62 }
+    requires few { (T.state sink.old).next + 14 < 2 ^ 62 }
+    ensures { HandsClaims (map (by_rup (gate_ids id)) (gate_clauses first gate.now)) result (T.state sink.old) (T.state sink.new) }
+{
+    let ids = [id, id + 1, id + 2, id + 3];
+    match gate {
+        Gate::Full(a, b, c, made) => {
+            let (a, b, c) = (a.lit(first), b.lit(first), c.lit(first));
+            let sum = Wire::Made(*made).lit(first);
+            let carry = Wire::Made(*made + 1).lit(first);
+            claim_full(alloc, &ids, &a, &b, &c, &sum, &carry, sink)
+        },
+        Gate::Half(a, b, made) => {
+            let (a, b) = (a.lit(first), b.lit(first));
+            let sum = Wire::Made(*made).lit(first);
+            let carry = Wire::Made(*made + 1).lit(first);
+            claim_half(alloc, &ids, &a, &b, &sum, &carry, sink)
+        },
+    }
+}
+
+/// Hands over the clauses of adders, whose constraints have four ids each, from `id` on.
+pub fn take_gates<T: StepSink>(
+    alloc: Global,
+    gates: &[Gate],
+    first: u32,
+    id: u64,
+    sink: &mut T,
+) -> Result<(), SinkFault>
+    requires low { 1 ≤ first }
+    requires fits { All (λ g. first + gate_needs g ≤ 2 ^ 31) gates.now }
+    requires given { id + 4 * length gates.now < 2 ^ 62 }
+    requires few { (T.state sink.old).next + 14 * length gates.now < 2 ^ 62 }
+    ensures { HandsClaims (gate_claims first id gates.now) result (T.state sink.old) (T.state sink.new) }
+{
+    let mut id = id;
+    for gate in gates {
+        take_gate(alloc, gate, first, id, sink)?;
+        id += 4;
+    }
+    Ok(())
+}
+
+/// Hands over that not all are true of the wire and the ends where the bound has a bit, unless some such end is missing.
+fn take_row<T: StepSink>(
+    alloc: Global,
+    wire: &Wire,
+    bound: u128,
+    above: &[Option<Wire>],
+    first: u32,
+    id: u64,
+    sink: &mut T,
+) -> Result<(), SinkFault>
+    requires low { 1 ≤ first }
+    requires few { length above.now < 128 }
+    requires wire_fits { first + wire_needs wire.now ≤ 2 ^ 31 }
+    requires fits { All (λ e. first + end_needs e ≤ 2 ^ 31) above.now }
+    requires room { (T.state sink.old).next + 1 < 2 ^ 62 }
+    ensures { HandsClaims (row_claims id (map (row_clause first) (row_of wire.now (covering bound above.now)))) result (T.state sink.old) (T.state sink.new) }
+{
+    let mut row = [wire.lit(first).not(); LEVELS];
+    let mut len = 1;
+    let mut bound = bound;
+    let mut rest = above;
+    while let Some((end, others)) = rest.split_first() {
+        if bound % 2 == 1 {
+            match end {
+                Some(other) => {
+                    row[len] = other.lit(first).not();
+                    len += 1;
+                },
+                None => return Ok(()),
+            }
+        }
+        bound /= 2;
+        rest = others;
+    }
+    if bound > 0 {
+        return Ok(());
+    }
+    take_propagated(alloc, &[id], &row[..len], sink)
+}
+
+fn take_row_at<T: StepSink>(
+    alloc: Global,
+    bound: u128,
+    end: &Option<Wire>,
+    above: &[Option<Wire>],
+    first: u32,
+    id: u64,
+    sink: &mut T,
+) -> Result<(), SinkFault>
+    requires low { 1 ≤ first }
+    requires few { length above.now < 128 }
+    requires end_fits { first + end_needs end.now ≤ 2 ^ 31 }
+    requires fits { All (λ e. first + end_needs e ≤ 2 ^ 31) above.now }
+    requires room { (T.state sink.old).next + 1 < 2 ^ 62 }
+    ensures { HandsClaims (row_claims id (map (row_clause first) (row_at bound end.now above.now))) result (T.state sink.old) (T.state sink.new) }
+{
+    match end {
+        Some(wire) => {
+            if bound % 2 == 0 {
+                take_row(alloc, wire, bound / 2, above, first, id, sink)
+            } else {
+                Ok(())
+            }
+        },
+        None => Ok(()),
+    }
+}
+
+/// Hands over that the number with these bits is at most the bound, from the constraint with an id.
+pub fn take_rows<T: StepSink>(
+    alloc: Global,
+    bound: u128,
+    ends: &[Option<Wire>],
+    first: u32,
+    id: u64,
+    sink: &mut T,
+) -> Result<(), SinkFault>
+    requires low { 1 ≤ first }
+    requires few { length ends.now ≤ 128 }
+    requires fits { All (λ e. first + end_needs e ≤ 2 ^ 31) ends.now }
+    requires room { (T.state sink.old).next + 128 < 2 ^ 62 }
+    ensures { HandsClaims (row_claims id (comparator first bound ends.now)) result (T.state sink.old) (T.state sink.new) }
+{
+    let mut bound = bound;
+    let mut rest = ends;
+    while let Some((end, above)) = rest.split_first() {
+        take_row_at(alloc, bound, end, above, first, id, sink)?;
+        bound /= 2;
+        rest = above;
+    }
+    Ok(())
+}

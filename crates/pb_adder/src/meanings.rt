@@ -1,0 +1,119 @@
+//! What the fresh variables of adders mean.
+ghost use Rattle.std.specs.Prelude.{◌≡◌, ◌≤◌, ◌<◌, ◌+◌, ◌*◌, ◌^◌, ◌∷◌, [], All, length};
+ghost use Rattle.std.specs.List.{flat_map};
+ghost use Rattle.pb_norm.specs.Constraints.{weighted};
+ghost use Rattle.pb_family.specs.laws.HandedReasons.{HandsMeanings};
+ghost use Rattle.pb_adder.specs.GateMeanings.{adder_meanings, gate_meanings, twice_off};
+ghost use Rattle.pb_adder.specs.Gates.{gate_needs};
+
+use crate::gate::{Gate, Wire};
+use pb_base::{Lit, Term, Var};
+use pb_family::{SinkFault, StepSink, take_meaning};
+use std::alloc::Global;
+
+/// A carry that is off, which counts twice.
+fn twice_off(carry: Var) -> Term
+    ensures { weighted result ≡ twice_off carry }
+{
+    let lit = Lit {
+        var: carry,
+        positive: false,
+    };
+    Term { coef: 2, lit }
+}
+
+/// Hands over what the carry and the sum of three bits mean.
+fn take_full<T: StepSink>(
+    alloc: Global,
+    a: &Lit,
+    b: &Lit,
+    c: &Lit,
+    sum: Var,
+    carry: Var,
+    sink: &mut T,
+) -> Result<(), SinkFault>
+    requires few { (T.state sink.old).next + 3 < 2 ^ 62 }
+    ensures { HandsMeanings (adder_meanings (a.now ∷ b.now ∷ c.now ∷ []) sum carry) result (T.state sink.old) (T.state sink.new) }
+{
+    let bits = [
+        Term { coef: 1, lit: *a },
+        Term { coef: 1, lit: *b },
+        Term { coef: 1, lit: *c },
+    ];
+    let all = [
+        Term { coef: 1, lit: *a },
+        Term { coef: 1, lit: *b },
+        Term { coef: 1, lit: *c },
+        twice_off(carry),
+    ];
+    take_meaning(alloc, carry, &bits, 2, sink)?;
+    take_meaning(alloc, sum, &all, 3, sink)
+}
+
+/// Hands over what the carry and the sum of two bits mean.
+fn take_half<T: StepSink>(
+    alloc: Global,
+    a: &Lit,
+    b: &Lit,
+    sum: Var,
+    carry: Var,
+    sink: &mut T,
+) -> Result<(), SinkFault>
+    requires few { (T.state sink.old).next + 3 < 2 ^ 62 }
+    ensures { HandsMeanings (adder_meanings (a.now ∷ b.now ∷ []) sum carry) result (T.state sink.old) (T.state sink.new) }
+{
+    let bits = [Term { coef: 1, lit: *a }, Term { coef: 1, lit: *b }];
+    let all = [
+        Term { coef: 1, lit: *a },
+        Term { coef: 1, lit: *b },
+        twice_off(carry),
+    ];
+    take_meaning(alloc, carry, &bits, 2, sink)?;
+    take_meaning(alloc, sum, &all, 3, sink)
+}
+
+/// Hands over what the two fresh variables of an adder mean.
+fn take_gate_meanings<T: StepSink>(
+    alloc: Global,
+    gate: &Gate,
+    first: u32,
+    sink: &mut T,
+) -> Result<(), SinkFault>
+    requires low { 1 ≤ first }
+    requires fits { first + gate_needs gate.now ≤ 2 ^ 31 }
+    requires few { (T.state sink.old).next + 3 < 2 ^ 62 }
+    ensures { HandsMeanings (gate_meanings first gate.now) result (T.state sink.old) (T.state sink.new) }
+{
+    match gate {
+        Gate::Full(a, b, c, made) => {
+            let (a, b, c) = (a.lit(first), b.lit(first), c.lit(first));
+            let sum = Wire::Made(*made).lit(first).var;
+            let carry = Wire::Made(*made + 1).lit(first).var;
+            take_full(alloc, &a, &b, &c, sum, carry, sink)
+        },
+        Gate::Half(a, b, made) => {
+            let (a, b) = (a.lit(first), b.lit(first));
+            let sum = Wire::Made(*made).lit(first).var;
+            let carry = Wire::Made(*made + 1).lit(first).var;
+            take_half(alloc, &a, &b, sum, carry, sink)
+        },
+    }
+}
+
+/// Hands over what the fresh variables of adders mean.
+pub fn take_meanings<T: StepSink>(
+    alloc: Global,
+    gates: &[Gate],
+    first: u32,
+    sink: &mut T,
+) -> Result<(), SinkFault>
+    requires low { 1 ≤ first }
+    requires fits { All (λ g. first + gate_needs g ≤ 2 ^ 31) gates.now }
+    requires few { (T.state sink.old).next + 4 * length gates.now < 2 ^ 62 }
+    ensures { HandsMeanings (flat_map (gate_meanings first) gates.now) result (T.state sink.old) (T.state sink.new) }
+{
+    for gate in gates {
+        take_gate_meanings(alloc, gate, first, sink)?;
+    }
+    Ok(())
+}
