@@ -1,26 +1,18 @@
 -- The numbers of clauses of fewer than 2 ^ 31 terms fit 64 bits, with as many units.
-use Rattle.std.proofs.Common.{◌≡◌, ◌<◌, ◌≤◌, ◌+◌, ◌-◌, ◌*◌, ◌/◌, ◌^◌, ◌&&◌, ℕ, Bool, true, false, not, cond, List, [], ◌∷◌, length, refl, subst, arith}
+use Rattle.std.proofs.Common.{◌<◌, ◌≤◌, ◌+◌, ◌-◌, ◌*◌, ◌/◌, ◌^◌, ◌&&◌, ℕ, Bool, true, false, not, cond, List, [], ◌∷◌, length, refl, arith}
 use Rattle.std.specs.Prelude.{map, sum_by}
 use Rattle.std.proofs.Math.Nat.{mul-le-mul_left}
 use Rattle.std.proofs.lemmas.List.{length-map}
 use Rattle.std.proofs.lemmas.List.Sums.{sum_by-cons}
 use Rattle.std.proofs.lemmas.Nat.{mul-le}
-use Rattle.pb_norm.specs.Constraints.{Weighted, term_of, terms_of, weight, weights}
-use Rattle.pb_norm.specs.BoundedSums.{BoundedSum, IsProper}
-use Rattle.pb_norm.proofs.KeptTerms.{weights-terms_of}
-use Rattle.pb_norm.specs.Classes.{IsCardinality}
-use Rattle.pb_norm.proofs.RestClasses.{units-weight}
-use Rattle.pb_tree.specs.Tree.{tree_of}
+use Rattle.pb_norm.specs.Constraints.{Weighted, weight}
+use Rattle.pb_norm.specs.BoundedSums.{BoundedSum}
 use Rattle.pb_amo.specs.Pairwise.{pair_count}
 use Rattle.pb_amo.specs.laws.GridCounts.{count_within_square}
 use Rattle.pb_counter.specs.Counter.{counter_size}
-use Rattle.pb_totalizer.specs.Totalizer.{totalizer_size}
-use Rattle.pb_totalizer.proofs.Counting as totalizer
-use Rattle.pb_gentot.specs.Generalized.{generalized_fresh, generalized_size}
-use Rattle.pb_gentot.proofs.Bounds.{Bounds, bounds, some_terms}
 use Rattle.pb_diagram.specs.Clauses.{diagram_fresh, diagram_size}
 use Rattle.pb_diagram.specs.Levels.{levels_of}
-use Rattle.pb_diagram.proofs.DiagramSteps.{inner-le}
+use Rattle.pb_diagram.specs.laws.LinkedCounts.{inner-le}
 use Rattle.pb_adder.specs.declared.gate.Gate.{Gate}
 use Rattle.pb_adder.specs.declared.gate.Gate.TheVariants.{Full, Half}
 use Rattle.pb_adder.specs.Comparator.{is_odd}
@@ -36,11 +28,7 @@ use Rattle.pb_choice.specs.declared.left.Left.TheVariants as left
 use Rattle.pb_choice.specs.laws.Chosen.{sum_at, treatment_at}
 use Rattle.pb_choice.specs.laws.Left.{left_count, left_terms}
 use Rattle.pb_choice.specs.Sums.{sum_count}
-
-square_small : (n : ℕ) → n < 2 ^ 31 → n * n < 2 ^ 62
-square_small n few =
-    let le : n ≤ 2 ^ 31 - 1 = omega (arith, few) in
-    omega (arith, mul-le-mul_left n le)
+use Rattle.pb_choice.specs.laws.SumSizes.{square_small, bound_few, totalizer_small, tree_small}
 
 pairs_small : (n : ℕ) → n < 2 ^ 31 → pair_count n < 2 ^ 63
 pairs_small n few =
@@ -51,29 +39,6 @@ counter_small : (n k : ℕ) → n < 2 ^ 31 → k < n → counter_size n k < 2 ^ 
 counter_small n k few lt =
     let le : k ≤ n = omega (arith, lt) in
     omega (arith, few, square_small n few, mul-le-mul_left n le)
-
-bound_few : (m : BoundedSum) → IsCardinality m → m.bound < length m.terms
-bound_few m h = omega (arith, h.proper.heavy, units-weight m.terms h.units)
-
-totalizer_small : (m : BoundedSum) → IsCardinality m → length m.terms < 2 ^ 31 → totalizer_size m < 2 ^ 63
-totalizer_small m h few =
-    let all = totalizer.bounds m.bound m.terms (omega (arith, bound_few m h)) in
-    omega (arith, all.clauses, square_small (length m.terms) few)
-
-tree_bounds : (bound : ℕ) (ts : List Weighted) → 1 ≤ length ts → Bounds bound (tree_of ts) (length ts)
-tree_bounds bound ts some =
-    let long : length (terms_of ts) ≡ length ts = length-map ts term_of in
-    let kept : Bounds bound (tree_of (weights (terms_of ts))) (length (terms_of ts)) = bounds bound (terms_of ts) (omega (arith, long, some)) in
-    let same : Bounds bound (tree_of ts) (length (terms_of ts)) = subst (λ (us : List Weighted). Bounds bound (tree_of us) (length (terms_of ts))) (weights-terms_of ts) kept in
-    subst (λ (n : ℕ). Bounds bound (tree_of ts) n) long same
-
-tree_small : (m : BoundedSum) → IsProper m → length m.terms < 2 ^ 31 → generalized_fresh m ≤ 10000000 → generalized_size m < 2 ^ 63
-tree_small m h few modest =
-    let all = tree_bounds m.bound m.terms (some_terms m.bound m.terms h.heavy) in
-    let n = generalized_fresh m + length m.terms in
-    let most : n ≤ 2 ^ 31 + 10000000 = omega (arith, few, modest) in
-    let square = mul-le n n (2 ^ 31 + 10000000) (2 ^ 31 + 10000000) most most in
-    omega (arith, all.clauses, square)
 
 diagram_small : (m : BoundedSum) → diagram_fresh m ≤ 10000000 → diagram_size m < 2 ^ 63
 diagram_small m modest = omega (arith, inner-le m.terms (levels_of m), modest)

@@ -1,21 +1,19 @@
 -- What is left of a constraint is no longer and no heavier than the constraint.
-use Rattle.std.proofs.Common.{◌≡◌, ◌<◌, ◌≤◌, ◌==◌, ℕ, Bool, true, false, not, cond, List, [], ◌∷◌, length, map, min, refl, arith}
+use Rattle.std.proofs.Common.{◌≡◌, ◌<◌, ◌≤◌, ◌==◌, ℕ, Bool, true, false, not, cond, [], length, map, refl, arith}
 use Rattle.std.proofs.lemmas.Bool.{ltb-false, eqb-false}
 use Rattle.std.proofs.lemmas.List.{length-map}
 use Rattle.pb_norm.specs.declared.reduction.Rest.{Rest}
 use Rattle.pb_norm.specs.declared.reduction.Rest.TheVariants as rest
-use Rattle.pb_norm.specs.Constraints.{Weighted, Constraint, AllPositive, IsLinear, slack, weight}
-use Rattle.pb_norm.specs.laws.Open.{IsOpen}
-use Rattle.pb_norm.specs.Reduction.{all_weigh, at_most, class_of, core, cut_to, divided, first_coef, forcing_terms, is_forcing, is_too_light, lits_of, opposite, quotient_up, rest_of, saturated, single, sorted, units_of, without_units}
-use Rattle.pb_norm.proofs.AdditionSizes.{weight-cons}
+use Rattle.pb_norm.specs.Constraints.{Weighted, Constraint, IsLinear, slack, weight}
+use Rattle.pb_norm.specs.Reduction.{all_weigh, at_most, class_of, core, forcing_terms, is_forcing, is_too_light, lits_of, opposite, rest_of, sorted, units_of, without_units}
 use Rattle.pb_norm.proofs.Lengths.{HasAtMost, length-filter-le, rest-few}
-use Rattle.pb_norm.proofs.Opened.{saturated_open}
 use Rattle.pb_norm.proofs.RestClasses.{RestOver, rest-over}
 use Rattle.pb_norm.proofs.Sorting.{by_weight-sum}
-use Rattle.pb_norm.proofs.Units.{split_weight, without_open}
+use Rattle.pb_norm.proofs.Units.{without_open}
 use Rattle.pb_family.specs.Families.{VarsBelow}
-use Rattle.std.proofs.lemmas.List.Elements.{All-nil, All-head, All-tail}
+use Rattle.std.proofs.lemmas.List.Elements.{All-nil}
 use Rattle.pb_choice.specs.laws.Left.{rest_terms}
+use Rattle.pb_choice.proofs.CoreWeights.{weight-opposite, weight-core}
 
 -- ---- over variables of the constraint
 
@@ -44,37 +42,6 @@ pub rest_short : (c : Constraint) → length (rest_terms (rest_of c)) ≤ length
 rest_short c = terms_short (length c.terms) (rest_of c) (rest-few c)
 
 -- ---- it weighs no more
-
-weight-cut : (n : ℕ) (ts : List Weighted) → weight (map (cut_to n) ts) ≤ weight ts
-weight-cut n [] = omega arith
-weight-cut n (t ∷ ts) =
-    let one : min t.coef n ≤ t.coef = omega arith in
-    omega (arith, weight-cons t ts, weight-cons (cut_to n t) (map (cut_to n) ts), weight-cut n ts)
-
-weight-single : (ts : List Weighted) → AllPositive ts → weight (map single ts) ≤ weight ts
-weight-single [] positive = omega arith
-weight-single (t ∷ ts) positive =
-    let Positive : Weighted → Type 0 = λ t. 0 < t.coef in
-    let one : 0 < t.coef = All-head Positive t ts positive in
-    omega (arith, weight-cons t ts, weight-cons (single t) (map single ts), weight-single ts (All-tail Positive t ts positive))
-
-weight-opposite : (ts : List Weighted) → weight (map opposite ts) ≡ weight ts
-weight-opposite [] = refl
-weight-opposite (t ∷ ts) = omega (arith, weight-cons t ts, weight-cons (opposite t) (map opposite ts), weight-opposite ts)
-
-weight-divided : (c : Constraint) → AllPositive c.terms → weight (divided c).terms ≤ weight c.terms
-weight-divided c positive = by_test (all_weigh (first_coef c.terms) c.terms)
-  where
-    by_test : (b : Bool) → (let d : Constraint = cond b (record { terms = map single c.terms; degree = quotient_up (first_coef c.terms) c.degree }) c in weight d.terms ≤ weight c.terms)
-    by_test true = weight-single c.terms positive
-    by_test false = omega arith
-
-weight-core : (c : Constraint) → IsOpen (without_units c) → weight (core c).terms ≤ weight c.terms
-weight-core c opened =
-    let whole = split_weight c in
-    let cut = weight-cut (without_units c).degree (without_units c).terms in
-    let last = weight-divided (saturated (without_units c)) (saturated_open (without_units c) opened).positive in
-    omega (arith, whole, cut, last)
 
 class_weight : (c : Constraint) → weight (rest_terms (class_of c)) ≤ weight c.terms
 class_weight c = by_tests (not (all_weigh 1 c.terms)) (c.degree == 1) (slack c == 1)

@@ -12,6 +12,7 @@ use Rattle.pb_choice.specs.declared.treatment.Treatment.TheVariants as treatment
 use Rattle.pb_choice.specs.Choice.{treatment_of, within_budget}
 use Rattle.pb_choice.specs.laws.Chosen.{sum_at, treatment_at, IsChosen}
 use Rattle.pb_choice.specs.laws.Left.{IsLeft}
+use Rattle.pb_choice.specs.ConstraintSteps.{reduced_steps}
 use Rattle.pb_choice.specs.Sums.{sum_clauses, sum_count, sum_fresh}
 
 -- ---- the budget
@@ -51,6 +52,7 @@ left_one o m f h =
       clauses_are = λ first. same t m f h (λ u n. sum_clauses u n first);
       fresh_is = same t m f h sum_fresh;
       count_is = same t m f h sum_count;
+      steps_are = λ reduces first id next. same t m f h (λ u n. reduced_steps reduces u n first next);
     }
 
 pub left_card : (o : Options) (m : BoundedSum) (f : Chosen) → IsChosen (treatment_of o (rest.Card m)) m f → IsLeft o (rest.Card m) (Sum f)
@@ -62,6 +64,7 @@ left_card o m f h =
       clauses_are = λ first. same t m f h (λ u n. sum_clauses u n first);
       fresh_is = same t m f h sum_fresh;
       count_is = same t m f h sum_count;
+      steps_are = λ reduces first id next. same t m f h (λ u n. reduced_steps reduces u n first next);
     }
 
 pub left_general : (o : Options) (m : BoundedSum) (f : Chosen) → IsChosen (treatment_of o (rest.General m)) m f → IsLeft o (rest.General m) (Sum f)
@@ -73,4 +76,5 @@ left_general o m f h =
       clauses_are = λ first. same t m f h (λ u n. sum_clauses u n first);
       fresh_is = same t m f h sum_fresh;
       count_is = same t m f h sum_count;
+      steps_are = λ reduces first id next. same t m f h (λ u n. reduced_steps reduces u n first next);
     }

@@ -1,6 +1,11 @@
 pub mod Choice
 pub mod Clauses
+pub mod ConstraintSteps
 pub mod Defaults
 pub mod Examples
+pub mod Readiness
+pub mod Reducing
+pub mod StepExamples
+pub mod SumSteps
 pub mod Sums
 pub mod laws

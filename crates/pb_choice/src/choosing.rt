@@ -19,6 +19,7 @@ use std::alloc::Global;
 // For at most one literal.
 fn one_of(amo: Amo, sum: AtMost) -> Chosen
     requires class { IsAtMostOne sum }
+    requires light { weight sum.terms < 2 ^ 100 }
     ensures { IsChosen (amo_treatment amo (length sum.terms)) sum result }
 {
     let count = sum.terms().len();

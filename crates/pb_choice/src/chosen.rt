@@ -4,7 +4,7 @@ use crate::held::{AdderOf, AtMostOne, Cardinality, DiagramOf, TotalizerOf, TreeO
 use crate::treatment::Treatment;
 use pb_amo::{Ladder, Pairwise, ProductGrid};
 use pb_counter::Counter;
-use pb_family::{ClauseSink, Family, SinkFault};
+use pb_family::{ClauseSink, Derive, Family, SinkFault, StepSink};
 use std::alloc::Global;
 
 /// A sum and the family that stands for it. What takes time to build is built once.
@@ -105,4 +105,39 @@ impl Family for Chosen {
     ghost counts = { λ f first. sum_counts (treatment_at f) (sum_at f) first (chosen_suits f) };
 
     ghost names = { λ f first. sum_names (treatment_at f) (sum_at f) first (chosen_suits f) };
+}
+
+impl Derive for Chosen {
+    ghost use Rattle.pb_choice.specs.laws.Chosen.{chosen_derivable, chosen_room, sum_at, treatment_at};
+    ghost use Rattle.pb_choice.specs.SumSteps.{sum_steps};
+    ghost use Rattle.pb_choice.specs.laws.SumDerives.{sum_derives, sum_few, sum_sayable, sum_short};
+
+    ghost step_list = { λ f. sum_steps (treatment_at f) (sum_at f) };
+
+    fn derive<T: StepSink>(
+        &self,
+        alloc: Global,
+        first: u32,
+        id: u64,
+        sink: &mut T,
+    ) -> Result<(), SinkFault> {
+        match self {
+            Chosen::Pairwise(held) => Pairwise::over(&held.sum).derive(alloc, first, id, sink),
+            Chosen::Ladder(held) => Ladder::over(&held.sum).derive(alloc, first, id, sink),
+            Chosen::Product(held) => ProductGrid::over(&held.sum).derive(alloc, first, id, sink),
+            Chosen::Counter(held) => Counter::over(&held.sum).derive(alloc, first, id, sink),
+            Chosen::Totalizer(held) => held.family.derive(alloc, first, id, sink),
+            Chosen::Diagram(held) => held.family.derive(alloc, first, id, sink),
+            Chosen::Tree(held) => held.family.derive(alloc, first, id, sink),
+            Chosen::Adder(held) => held.family.derive(alloc, first, id, sink),
+        }
+    }
+
+    ghost derives = { λ f first id db below ready. sum_derives (treatment_at f) (sum_at f) (chosen_derivable f) first id db below ready };
+
+    ghost few_steps = { λ f first id next. sum_few (treatment_at f) (sum_at f) (chosen_derivable f) first id next };
+
+    ghost sayable = { λ f first id next original start. sum_sayable (treatment_at f) (sum_at f) (chosen_derivable f) (chosen_room f) first id next original start };
+
+    ghost short = { λ f first id next original start. sum_short (treatment_at f) (sum_at f) (chosen_derivable f) (chosen_room f) first id next original start };
 }

@@ -1,5 +1,5 @@
 //! Sums that a plan keeps, with what was built of them.
-ghost use Rattle.std.specs.Prelude.{◌≡◌, ◌≤◌, ◌<◌, ◌^◌};
+ghost use Rattle.std.specs.Prelude.{◌≡◌, ◌≤◌, ◌<◌, ◌^◌, length};
 ghost use Rattle.pb_norm.specs.Constraints.{weight};
 ghost use Rattle.pb_norm.specs.BoundedSums.{IsProper};
 ghost use Rattle.pb_norm.specs.Classes.{IsAtMostOne, IsCardinality};
@@ -18,6 +18,8 @@ use pb_totalizer::Totalizer;
 pub struct AtMostOne {
     pub sum: AtMost,
     pub ghost class: { IsAtMostOne sum },
+    pub ghost few: { length sum.terms < 2 ^ 31 },
+    pub ghost light: { weight sum.terms < 2 ^ 100 },
 }
 
 /// At most so many of more literals.
@@ -25,6 +27,8 @@ pub struct AtMostOne {
 pub struct Cardinality {
     pub sum: AtMost,
     pub ghost class: { IsCardinality sum },
+    pub ghost few: { length sum.terms < 2 ^ 31 },
+    pub ghost light: { weight sum.terms < 2 ^ 100 },
 }
 
 /// A totalizer and its sum.
@@ -33,6 +37,8 @@ pub struct TotalizerOf {
     pub sum: AtMost,
     pub family: Totalizer,
     pub ghost class: { IsCardinality sum },
+    pub ghost few: { length sum.terms < 2 ^ 31 },
+    pub ghost light: { weight sum.terms < 2 ^ 100 },
     pub ghost over: { ⟦<Totalizer as Family>⟧.constraint family ≡ sum },
 }
 
@@ -42,6 +48,8 @@ pub struct DiagramOf {
     pub sum: AtMost,
     pub family: Diagram,
     pub ghost class: { IsProper sum },
+    pub ghost few: { length sum.terms < 2 ^ 31 },
+    pub ghost light: { weight sum.terms < 2 ^ 100 },
     pub ghost modest: { diagram_fresh sum ≤ 10000000 },
     pub ghost over: { ⟦<Diagram as Family>⟧.constraint family ≡ sum },
 }
@@ -52,6 +60,8 @@ pub struct TreeOf {
     pub sum: AtMost,
     pub family: Weighted,
     pub ghost class: { IsProper sum },
+    pub ghost few: { length sum.terms < 2 ^ 31 },
+    pub ghost light: { weight sum.terms < 2 ^ 100 },
     pub ghost modest: { generalized_fresh sum ≤ 10000000 },
     pub ghost over: { ⟦<Weighted as Family>⟧.constraint family ≡ sum },
 }
@@ -61,6 +71,8 @@ pub struct TreeOf {
 pub struct AdderOf {
     pub sum: AtMost,
     pub family: Adder,
+    pub ghost proper: { IsProper sum },
+    pub ghost few: { length sum.terms < 2 ^ 31 },
     pub ghost light: { weight sum.terms < 2 ^ 100 },
     pub ghost over: { ⟦<Adder as Family>⟧.constraint family ≡ sum },
 }

@@ -1,4 +1,5 @@
 //! Laws about the definitions.
+ghost use Rattle.pb_choice.specs.laws.DeriveLaws.{ConstraintsAreBrief, ConstraintsAreSayable, ConstraintsDerive, ConstraintsHaveFewSteps};
 ghost use Rattle.pb_choice.specs.laws.Laws.{ClausesEncode, ClausesForce};
 
 /// The law that the clauses of a constraint say what it says, under any options.
@@ -10,4 +11,13 @@ pub fn clauses_encode()
 /// the adder.
 pub fn clauses_force()
     ensures { ClausesForce }
+{}
+
+/// The laws of the steps of a constraint, under any options: they derive the clauses from it, are few, and lines can say
+/// them, which are short.
+pub fn constraints_derive()
+    ensures derive { ConstraintsDerive }
+    ensures few { ConstraintsHaveFewSteps }
+    ensures sayable { ConstraintsAreSayable }
+    ensures brief { ConstraintsAreBrief }
 {}

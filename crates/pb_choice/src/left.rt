@@ -1,10 +1,13 @@
 //! What is left of a constraint once its units are taken.
 
 use crate::chosen::Chosen;
+use crate::derivation::derive_reduced;
 use crate::emission::emit_one;
+use crate::reducing::reducing_step;
 use crate::treatment::Treatment;
 use pb_base::Lits;
-use pb_family::{ClauseSink, Family, SinkFault};
+use pb_family::{ClauseSink, Family, SinkFault, StepSink, take_propagated};
+use pb_norm::Linear;
 use std::alloc::Global;
 
 /// What is left of a constraint, with the family that was chosen for it.
@@ -21,10 +24,12 @@ pub enum Left {
 }
 
 impl Left {
-    ghost use Rattle.std.specs.Prelude.{◌≡◌, ◌≤◌, ◌+◌, ◌^◌};
+    ghost use Rattle.std.specs.Prelude.{◌≡◌, ◌≤◌, ◌+◌, ◌<◌, ◌^◌};
     ghost use Rattle.pb_family.specs.Families.{VarsBelow};
     ghost use Rattle.pb_family.specs.Handing.{HandsIfMemory};
-    ghost use Rattle.pb_choice.specs.laws.Left.{left_clauses, left_count, left_fresh, left_terms, left_treatment};
+    ghost use Rattle.pb_family.specs.StepSinks.{HandsFrom};
+    ghost use Rattle.pb_choice.specs.Reducing.{reduction};
+    ghost use Rattle.pb_choice.specs.laws.Left.{left_clauses, left_count, left_fresh, left_steps, left_terms, left_treatment};
 
     /// How it is encoded.
     pub fn treatment(&self) -> Treatment
@@ -76,6 +81,35 @@ impl Left {
             Left::Empty => emit_one(&[], sink),
             Left::Clause(lits) => emit_one(lits.as_slice(), sink),
             Left::Sum(chosen) => chosen.emit(alloc, first, sink),
+        }
+    }
+
+    /// Hands over the steps that derive its clauses from the constraint with an id, with the fresh variables from `first` on.
+    pub fn derive<T: StepSink>(
+        &self,
+        alloc: Global,
+        constraint: &Linear,
+        units: &Lits,
+        first: u32,
+        id: u64,
+        sink: &mut T,
+    ) -> Result<(), SinkFault>
+        requires original { VarsBelow first (left_terms self.now) }
+        requires low { 1 ≤ first }
+        requires fits { first + left_fresh self.now ≤ 2 ^ 31 }
+        requires clauses { left_count self.now ≤ 2 ^ 56 }
+        requires few { (T.state sink.old).next < 2 ^ 61 }
+        requires given { 1 ≤ (T.state sink.old).next }
+        ensures { HandsFrom (left_steps (reduction id units.now constraint.now) self.now first id) result (T.state sink.old) (T.state sink.new) }
+    {
+        match self {
+            Left::Nothing => Ok(()),
+            Left::Empty => take_propagated(alloc, &[id], &[], sink),
+            Left::Clause(lits) => take_propagated(alloc, &[id], lits.as_slice(), sink),
+            Left::Sum(chosen) => {
+                let step = reducing_step(alloc, constraint, units, id)?;
+                derive_reduced(alloc, chosen, &step, first, sink)
+            }
         }
     }
 }

@@ -1,18 +1,21 @@
 //! How one constraint is encoded.
-ghost use Rattle.std.specs.Prelude.{◌≡◌, ◌≤◌, ◌+◌, ◌^◌};
+ghost use Rattle.std.specs.Prelude.{◌≡◌, ◌≤◌, ◌<◌, ◌+◌, ◌^◌};
 ghost use Rattle.pb_norm.specs.Reduction.{rest_of, units_of};
 ghost use Rattle.pb_family.specs.Families.{VarsBelow};
 ghost use Rattle.pb_family.specs.Handing.{HandsIfMemory};
+ghost use Rattle.pb_family.specs.StepSinks.{HandsFrom};
 ghost use Rattle.pb_choice.specs.Choice.{treatment_of};
 ghost use Rattle.pb_choice.specs.Clauses.{constraint_clauses, constraint_count, constraint_fresh};
+ghost use Rattle.pb_choice.specs.ConstraintSteps.{constraint_steps};
 ghost use Rattle.pb_choice.specs.laws.Left.{IsLeft};
 
+use crate::derivation::derive_units;
 use crate::emission::emit_units;
 use crate::left::Left;
 use crate::options::Options;
 use crate::treatment::Treatment;
 use pb_base::Lits;
-use pb_family::{ClauseSink, SinkFault};
+use pb_family::{ClauseSink, SinkFault, StepSink};
 use pb_norm::Linear;
 use std::alloc::Global;
 
@@ -69,5 +72,30 @@ impl Plan<'_> {
     {
         emit_units(&self.units, sink)?;
         self.left.emit(alloc, first, sink)
+    }
+
+    /// Hands over the steps that derive these clauses from the constraint, which has the id: those of the units, and then
+    /// those of what is left.
+    pub fn derive<T: StepSink>(
+        &self,
+        alloc: Global,
+        first: u32,
+        id: u64,
+        sink: &mut T,
+    ) -> Result<(), SinkFault>
+        requires original { VarsBelow first self.now.constraint.now.terms }
+        requires low { 1 ≤ first }
+        requires fits { first + constraint_fresh self.now.options self.now.constraint.now ≤ 2 ^ 31 }
+        requires clauses { constraint_count self.now.options self.now.constraint.now ≤ 2 ^ 56 }
+        requires given { 1 ≤ id }
+        requires known { id < (T.state sink.old).next }
+        requires few { (T.state sink.old).next ≤ 2 ^ 60 }
+        ensures { HandsFrom (constraint_steps self.now.options self.now.constraint.now first id) result (T.state sink.old) (T.state sink.new) }
+    {
+        // Brings in that its terms are few.
+        let _ = self.constraint.len();
+        derive_units(alloc, &self.units, id, sink)?;
+        self.left
+            .derive(alloc, self.constraint, &self.units, first, id, sink)
     }
 }

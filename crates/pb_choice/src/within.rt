@@ -24,6 +24,8 @@ pub fn adder_of(alloc: Global, sum: AtMost) -> Result<Chosen, NoMemory>
     requires light { weight sum.terms < 2 ^ 100 }
     ensures { IfOk result (IsChosen Treatment.Adder sum) }
 {
+    // Brings in that it is proper, and its terms few.
+    let _ = sum.bound();
     let family = Adder::build(alloc, &sum)?;
     Ok(Chosen::Adder(AdderOf { sum, family }))
 }
@@ -34,6 +36,8 @@ pub fn counter_within(alloc: Global, sum: AtMost, budget: u64) -> Result<Chosen,
     requires light { weight sum.terms < 2 ^ 100 }
     ensures { IfOk result (IsChosen (within_budget budget sum Treatment.Counter) sum) }
 {
+    // Brings in that its terms are few.
+    let _ = sum.bound();
     if Counter::over(&sum).fresh() > budget {
         return adder_of(alloc, sum);
     }
@@ -46,6 +50,8 @@ pub fn totalizer_within(alloc: Global, sum: AtMost, budget: u64) -> Result<Chose
     requires light { weight sum.terms < 2 ^ 100 }
     ensures { IfOk result (IsChosen (within_budget budget sum Treatment.Totalizer) sum) }
 {
+    // Brings in that its terms are few.
+    let _ = sum.bound();
     match Totalizer::build(alloc, &sum, budget)? {
         Built::Fits(family) => Ok(Chosen::Totalizer(TotalizerOf { sum, family })),
         Built::Over => adder_of(alloc, sum),
@@ -59,6 +65,8 @@ pub fn diagram_within(alloc: Global, sum: AtMost, budget: u64) -> Result<Chosen,
     requires modest { budget ≤ 10000000 }
     ensures { IfOk result (IsChosen (within_budget budget sum Treatment.Diagram) sum) }
 {
+    // Brings in that its terms are few.
+    let _ = sum.bound();
     match Diagram::build(alloc, &sum, budget)? {
         Built::Fits(family) => Ok(Chosen::Diagram(DiagramOf { sum, family })),
         Built::Over => adder_of(alloc, sum),
@@ -72,6 +80,8 @@ pub fn tree_within(alloc: Global, sum: AtMost, budget: u64) -> Result<Chosen, No
     requires modest { budget ≤ 10000000 }
     ensures { IfOk result (IsChosen (within_budget budget sum Treatment.Tree) sum) }
 {
+    // Brings in that its terms are few.
+    let _ = sum.bound();
     match Weighted::build(alloc, &sum, budget)? {
         Built::Fits(family) => Ok(Chosen::Tree(TreeOf { sum, family })),
         Built::Over => adder_of(alloc, sum),

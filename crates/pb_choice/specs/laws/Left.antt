@@ -4,6 +4,7 @@ use Rattle.pb_base.specs.declared.literal.Lit.{Lit}
 use Rattle.pb_norm.specs.declared.reduction.Rest.{Rest}
 use Rattle.pb_norm.specs.declared.reduction.Rest.TheVariants as rest
 use Rattle.pb_norm.specs.Constraints.{Weighted}
+use Rattle.pb_steps.specs.declared.step.Step.{Step}
 use Rattle.pb_choice.specs.declared.left.Left.{Left}
 use Rattle.pb_choice.specs.declared.left.Left.TheVariants.{Nothing, Empty, Clause, Sum}
 use Rattle.pb_choice.specs.declared.options.Options.{Options}
@@ -12,6 +13,7 @@ use Rattle.pb_choice.specs.declared.treatment.Treatment.TheVariants as treatment
 use Rattle.pb_choice.specs.Choice.{treatment_of}
 use Rattle.pb_choice.specs.laws.Chosen.{sum_at, treatment_at}
 use Rattle.pb_choice.specs.Clauses.{rest_clauses, rest_count, rest_fresh}
+use Rattle.pb_choice.specs.ConstraintSteps.{clause_steps, reduced_steps, rest_steps}
 use Rattle.pb_choice.specs.Sums.{sum_clauses, sum_count, sum_fresh}
 
 abbrev pub left_treatment : Left → Treatment
@@ -36,6 +38,12 @@ left_count Empty = 1
 left_count (Clause ls) = 1
 left_count (Sum f) = sum_count (treatment_at f) (sum_at f)
 
+abbrev pub left_steps : Step → Left → ℕ → ℕ → ℕ → List Step
+left_steps reduces Nothing first id next = []
+left_steps reduces Empty first id next = clause_steps id next []
+left_steps reduces (Clause ls) first id next = clause_steps id next ls
+left_steps reduces (Sum f) first id next = reduced_steps reduces (treatment_at f) (sum_at f) first next
+
 -- the terms of the sum, if it is one
 abbrev pub left_terms : Left → List Weighted
 left_terms (Sum f) = (sum_at f).terms
@@ -54,3 +62,4 @@ pub record IsLeft (o : Options) (r : Rest) (left : Left) : Type 0 where
   pub clauses_are : (first : ℕ) → left_clauses left first ≡ rest_clauses (treatment_of o r) r first
   pub fresh_is : left_fresh left ≡ rest_fresh (treatment_of o r) r
   pub count_is : left_count left ≡ rest_count (treatment_of o r) r
+  pub steps_are : (reduces : Step) (first id next : ℕ) → left_steps reduces left first id next ≡ rest_steps reduces (treatment_of o r) r first id next

@@ -1,8 +1,12 @@
 -- Which sums each family is for.
+use Rattle.std.specs.Prelude.{◌<◌, ◌*◌, ◌^◌, length}
+use Rattle.pb_norm.specs.Constraints.{weight}
 use Rattle.pb_norm.specs.BoundedSums.{BoundedSum, IsProper}
 use Rattle.pb_norm.specs.declared.reduction.Rest.{Rest}
 use Rattle.pb_norm.specs.declared.reduction.Rest.TheVariants as rest
 use Rattle.pb_norm.specs.Classes.{IsCardinality, IsAtMostOne}
+use Rattle.pb_gentot.specs.Generalized.{generalized_size}
+use Rattle.pb_totalizer.specs.Totalizer.{totalizer_size}
 use Rattle.pb_choice.specs.declared.treatment.Treatment.{Treatment}
 use Rattle.pb_choice.specs.declared.treatment.Treatment.TheVariants as treatment
 
@@ -26,3 +30,16 @@ RestSuits t (rest.Clause ls) = Unit {0}
 RestSuits t (rest.One m) = Suits t m
 RestSuits t (rest.Card m) = Suits t m
 RestSuits t (rest.General m) = Suits t m
+
+-- what the derivation of its clauses asks
+pub record IsDerivable (t : Treatment) (m : BoundedSum) : Type 0 where
+  pub suits : Suits t m
+  pub proper : IsProper m
+  pub few : length m.terms < 2 ^ 31
+  pub light : weight m.terms < 2 ^ 100
+
+-- the ids of a tree's clauses have room
+abbrev pub HasRoom : Treatment → BoundedSum → Type 0
+HasRoom treatment.Totalizer m = totalizer_size m < 5 * 2 ^ 60
+HasRoom treatment.Tree m = generalized_size m < 5 * 2 ^ 60
+HasRoom t m = Unit {0}

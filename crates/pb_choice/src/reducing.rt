@@ -1,0 +1,91 @@
+//! The step by which a constraint becomes what is left of it.
+ghost use Rattle.std.specs.Prelude.{◌≡◌, ◌<◌, ◌≤◌, ◌-◌, ◌^◌, ◌++◌, pos, IfOk, filter, map};
+ghost use Rattle.pb_norm.specs.Constraints.{weight, weights};
+ghost use Rattle.pb_norm.specs.Reduction.{all_weigh, first_coef, is_above};
+ghost use Rattle.pb_choice.specs.Reducing.{cut_terms, divisor, reduction, weaken_unit};
+
+use pb_base::{Lit, Lits, Term};
+use pb_norm::Linear;
+use pb_steps::{PolOp, PolOps, Step};
+use std::alloc::{AllocError, Global};
+
+// What the terms above the slack leave of the degree.
+fn degree_left(terms: &[Term], slack: u128, degree: u128) -> u128
+    ensures { result ≡ degree - weight (filter (is_above slack) (weights terms.now)) }
+{
+    let mut left = degree;
+    for term in terms {
+        if term.weight() > slack {
+            left = left.saturating_sub(term.weight());
+        }
+    }
+    left
+}
+
+// The first coefficient within the slack, cut at the degree, and 1 if there is none.
+fn first_cut(terms: &[Term], slack: u128, degree: u128) -> u128
+    requires { degree < 2 ^ 127 }
+    ensures small { result < 2 ^ 127 }
+    ensures value { result ≡ first_coef (cut_terms slack degree (weights terms.now)) }
+{
+    for term in terms {
+        if term.weight() <= slack {
+            return term.weight().min(degree);
+        }
+    }
+    1
+}
+
+// Whether all coefficients within the slack, cut at the degree, are this number.
+fn all_cut(terms: &[Term], slack: u128, degree: u128, coef: u128) -> bool
+    ensures { result ≡ all_weigh coef (cut_terms slack degree (weights terms.now)) }
+{
+    for term in terms {
+        if term.weight() <= slack && term.weight().min(degree) != coef {
+            return false;
+        }
+    }
+    true
+}
+
+// By what a constraint is divided once its units are gone.
+fn divisor(constraint: &Linear) -> i128
+    ensures { result ≡ pos (divisor constraint.now) }
+{
+    let terms = constraint.terms();
+    let slack = constraint.weight().saturating_sub(constraint.degree());
+    let degree = degree_left(terms, slack, constraint.degree());
+    let first = first_cut(terms, slack, degree);
+    if all_cut(terms, slack, degree, first) {
+        first as i128
+    } else {
+        1
+    }
+}
+
+// Adds that the variables of units are weakened away.
+fn push_units(ops: &mut Vec<PolOp>, units: &[Lit]) -> Result<(), AllocError>
+    ensures { IfOk result (λ _. ops.new.items ≡ ops.old.items ++ map weaken_unit units.now) }
+{
+    for unit in units {
+        ops.push(PolOp::Weaken(unit.var))?;
+    }
+    Ok(())
+}
+
+/// The constraint with an id, without its units, saturated and divided.
+pub fn reducing_step(
+    alloc: Global,
+    constraint: &Linear,
+    units: &Lits,
+    id: u64,
+) -> Result<Step, AllocError>
+    ensures { IfOk result (λ step. step ≡ reduction id units.now constraint.now) }
+{
+    let mut ops = Vec::new(alloc);
+    ops.push(PolOp::Push(id))?;
+    push_units(&mut ops, units.as_slice())?;
+    ops.push(PolOp::Saturate)?;
+    ops.push(PolOp::Div(divisor(constraint)))?;
+    Ok(Step::Pol(PolOps::from_vec(ops)))
+}
