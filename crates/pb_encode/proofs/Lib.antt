@@ -1,8 +1,16 @@
+pub mod ChoiceLaws
 pub mod CountingLoops
+pub mod DerivedProblems
+pub mod HalfTerms
 pub mod HalfWeights
 pub mod Headers
+pub mod LoadedDatabases
+pub mod LoadedRuns
+pub mod ProblemSteps
 pub mod Residuals
 pub mod Solutions
+pub mod StepTexts
+pub mod StepTurns
 pub mod StreamSteps
 pub mod TallyLemmas
 pub mod WholeTexts

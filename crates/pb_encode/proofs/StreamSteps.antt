@@ -23,7 +23,7 @@ use Rattle.pb_encode.specs.laws.Streams.{IsOverBelow}
 
 -- ---- the clauses of more constraints
 
-fresh-append : (o : Options) (cs ds : List Constraint) → fresh_total o (cs ++ ds) ≡ fresh_total o cs + fresh_total o ds
+pub fresh-append : (o : Options) (cs ds : List Constraint) → fresh_total o (cs ++ ds) ≡ fresh_total o cs + fresh_total o ds
 fresh-append o cs ds = sum_by-append (constraint_fresh o) cs ds
 
 clauses_from-append : (o : Options) (first : ℕ) (cs ds : List Constraint) → clauses_from o first (cs ++ ds) ≡ clauses_from o first cs ++ clauses_from o (first + fresh_total o cs) ds

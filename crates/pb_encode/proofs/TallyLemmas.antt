@@ -62,7 +62,7 @@ tally_more o cs c old new p fresh clauses at lt is h = record {
 }
 
 -- at most two for each statement
-length-loaded : (ss : List Raw) → length (loaded ss) ≤ 2 * length ss
+pub length-loaded : (ss : List Raw) → length (loaded ss) ≤ 2 * length ss
 length-loaded [] = omega arith
 length-loaded (s ∷ ss) = omega (arith, length-loaded ss, length-append (constraints_of s) (loaded ss), of_relation s.relation)
   where

@@ -1,6 +1,8 @@
 //! Encodes problems as clauses.
 #![tactic(auto)]
 
+mod derivation;
+mod derived;
 mod encoding;
 mod fault;
 mod measuring;
@@ -9,6 +11,8 @@ mod streaming;
 mod summary;
 mod tally;
 
+pub use derivation::stream_steps;
+pub use derived::steps_derive_the_clauses;
 pub use encoding::encode;
 pub use fault::{EncodeFault, MeasureFault};
 pub use measuring::measure;

@@ -1,6 +1,12 @@
--- Statements whose variables are below a number.
-use Rattle.std.specs.Prelude.{ℕ, ◌<◌, All}
+-- Statements whose variables are below a number, and steps for which there are ids.
+use Rattle.std.specs.Prelude.{ℕ, ◌+◌, ◌≤◌, ◌<◌, ◌^◌, List, All, count_by}
 use Rattle.pb_base.specs.declared.problem.Raw.{Raw}
+use Rattle.pb_steps.specs.declared.step.Step.{Step}
+use Rattle.pb_steps.specs.Steps.{takes_id}
 
 abbrev pub IsOverBelow : ℕ → Raw → Type 0
 IsOverBelow first s = All (λ t. t.lit.var < first) s.terms
+
+-- the ids of steps from the next one on are within a bound
+abbrev pub LeavesIds : (ℕ → List Step) → ℕ → Type 0
+LeavesIds steps next = next + count_by takes_id (steps next) ≤ 2 ^ 60

@@ -1,0 +1,59 @@
+-- What the derivation of one loaded constraint shows, as the derivation of all of them asks it.
+use Rattle.std.proofs.Common.{◌≤◌, ◌<◌, ◌+◌, ◌*◌, ◌^◌, ℕ, List, length, arith}
+use Rattle.std.proofs.Math.Nat.{mul-le-mul_left}
+use Rattle.std.specs.Prelude.{All, sum_by}
+use Rattle.std.proofs.lemmas.List.Elements.{All-weaker}
+use Rattle.pb_norm.specs.Constraints.{Constraint, weight}
+use Rattle.pb_norm.proofs.Variables.{OfTerm}
+use Rattle.pb_steps.specs.declared.step.Step.{Step}
+use Rattle.pb_steps.specs.Database.{Database}
+use Rattle.pb_steps.specs.Sayable.{IsSayable}
+use Rattle.pb_derive.specs.Derivations.{Derives}
+use Rattle.pb_derive.specs.Short.{line_size}
+use Rattle.pb_family.specs.Derivations.{MayStart}
+use Rattle.pb_choice.specs.declared.options.Options.{Options}
+use Rattle.pb_choice.specs.Clauses.{constraint_clauses, constraint_count, constraint_fresh}
+use Rattle.pb_choice.specs.ConstraintSteps.{constraint_steps}
+use Rattle.pb_choice.specs.Readiness.{IsModest, IsReadyWith}
+use Rattle.pb_choice.proofs.ConstraintDerived.{constraints_derive}
+use Rattle.pb_choice.proofs.ConstraintSizes.{constraints_brief, constraints_few, constraints_sayable}
+use Rattle.pb_choice.proofs.Composition.{IsOneBelow, IsReady}
+
+-- in normal form, over variables from 1 and below a number, with few terms and small numbers
+pub record IsLight (o : Options) (n : ℕ) (c : Constraint) : Type 0 where
+  pub ready : IsReady o n c
+  pub weight : weight c.terms < 2 ^ 100
+  pub few : length c.terms ≤ 2 ^ 20
+
+-- the lines of its steps
+pub record IsSaid (fresh clauses : ℕ) (steps : List Step) : Type 0 where
+  pub sayable : All IsSayable steps
+  pub each : All (λ s. line_size s ≤ 2 ^ 28) steps
+  pub all : sum_by line_size steps ≤ 2 ^ 30 * fresh + 2 ^ 21 * clauses + 2 ^ 34
+
+modest : (o : Options) (n : ℕ) (c : Constraint) → IsLight o n c → IsModest c
+modest o n c light = record { linear = light.ready.linear; light = light.weight; few = omega (arith, light.few) }
+
+pub constraint-derives : (o : Options) (n first id : ℕ) (c : Constraint) (db : Database) → IsLight o n c → n ≤ first → IsReadyWith c first (constraint_fresh o c) id db
+    → Derives db (constraint_steps o c first id db.next) (constraint_clauses o c first) (first + constraint_fresh o c)
+constraint-derives o n first id c db light le start =
+    constraints_derive o c first id db (modest o n c light) (All-weaker (OfTerm (IsOneBelow n)) (λ t. t.lit.var < first) (λ t h. omega (arith, le, h.1)) c.terms light.ready.within) start
+
+pub constraint-few : (o : Options) (n : ℕ) (c : Constraint) (first id next : ℕ) → IsLight o n c → length (constraint_steps o c first id next) ≤ 8 * (constraint_fresh o c + constraint_count o c) + 4
+constraint-few o n c first id next light = constraints_few o c first id next (modest o n c light)
+
+-- the bytes of all lines, where the terms are few
+bytes_small : (n fresh clauses bytes : ℕ) → n ≤ 2 ^ 20 → bytes ≤ 512 * (fresh + 1) * n + 2 ^ 20 * (fresh + clauses + 5) → bytes ≤ 2 ^ 30 * fresh + 2 ^ 21 * clauses + 2 ^ 34
+bytes_small n fresh clauses bytes few h = omega (arith, h, mul-le-mul_left (512 * (fresh + 1)) few)
+
+pub constraint-said : (o : Options) (n first id next : ℕ) (c : Constraint) → IsLight o n c → n ≤ first → 1 ≤ first → first + constraint_fresh o c ≤ 2 ^ 31 → constraint_count o c ≤ 2 ^ 56 → 1 ≤ id → id < next → next ≤ 2 ^ 60
+    → IsSaid (constraint_fresh o c) (constraint_count o c) (constraint_steps o c first id next)
+constraint-said o n first id next c light le low fits counted given known few =
+    let original = All-weaker (OfTerm (IsOneBelow n)) (λ t. (1 ≤ t.lit.var) × (t.lit.var < first)) (λ t h. (h.0, omega (arith, le, h.1))) c.terms light.ready.within in
+    let start : MayStart first (constraint_fresh o c) id next = record { low = low; fits = fits; given = given; known = known; few = omega (arith, few) } in
+    let brief = constraints_brief o c first id next (modest o n c light) counted original start few (omega (arith, light.few)) in
+    record {
+      sayable = constraints_sayable o c first id next (modest o n c light) counted original start few;
+      each = brief.each;
+      all = bytes_small (length c.terms) (constraint_fresh o c) (constraint_count o c) (sum_by line_size (constraint_steps o c first id next)) light.few brief.all;
+    }

@@ -1,0 +1,51 @@
+-- How many terms the halves of a statement have.
+use Rattle.std.proofs.Common.{◌≤◌, ◌+◌, ◌-◌, ◌++◌, Bool, true, false, cond, List, [], ◌∷◌, length, map, arith, ltb, length-append}
+use Rattle.std.specs.Prelude.{filter}
+use Rattle.std.proofs.lemmas.List.{length-map}
+use Rattle.pb_base.specs.declared.problem.Raw.{Raw}
+use Rattle.pb_base.specs.Literals.{is_same}
+use Rattle.pb_norm.specs.declared.halves.Half.{Half}
+use Rattle.pb_norm.specs.Addition.{combined, joined, with_term}
+use Rattle.pb_norm.specs.Constraints.{Weighted}
+use Rattle.pb_norm.specs.Halves.{half_of, half_terms, is_positive, turned_term, unsigned}
+
+length-combined : (t u : Weighted) → length (combined t u) ≤ 1
+length-combined t u = by_tests (is_same t.lit u.lit) (ltb t.coef u.coef) (ltb u.coef t.coef)
+  where
+    by_tests : (same less more : Bool) →
+        length (cond {A = List Weighted} same (record { coef = t.coef + u.coef; lit = u.lit } ∷ [])
+        (cond {A = List Weighted} less (record { coef = u.coef - t.coef; lit = u.lit } ∷ []) (cond {A = List Weighted} more (record { coef = t.coef - u.coef; lit = t.lit } ∷ []) [])))
+        ≤ 1
+    by_tests true less more = omega arith
+    by_tests false true more = omega arith
+    by_tests false false true = omega arith
+    by_tests false false false = omega arith
+
+length-with_term : (t : Weighted) (us : List Weighted) → length (with_term t us) ≤ 1 + length us
+length-with_term t [] = omega arith
+length-with_term t (u ∷ us) = placed (ltb t.lit.var u.lit.var) (ltb u.lit.var t.lit.var) (length-with_term t us)
+  where
+    placed : (before after : Bool) → length (with_term t us) ≤ 1 + length us →
+        length (cond {A = List Weighted} before (t ∷ u ∷ us) (cond {A = List Weighted} after (u ∷ with_term t us) (combined t u ++ us))) ≤ 1 + length (u ∷ us)
+    placed true after h = omega arith
+    placed false true h = omega (arith, h)
+    placed false false h = omega (arith, length-combined t u, length-append (combined t u) us)
+
+length-joined : (ts us : List Weighted) → length (joined ts us) ≤ length ts + length us
+length-joined [] us = omega arith
+length-joined (t ∷ ts) us = omega (arith, length-with_term t (joined ts us), length-joined ts us)
+
+length-positive : (ts : List Weighted) → length (filter is_positive ts) ≤ length ts
+length-positive [] = omega arith
+length-positive (t ∷ ts) = by_test (is_positive t) (length-positive ts)
+  where
+    by_test : (b : Bool) → length (filter is_positive ts) ≤ length ts → length (cond {A = List Weighted} b (t ∷ filter is_positive ts) (filter is_positive ts)) ≤ length (t ∷ ts)
+    by_test true h = omega (arith, h)
+    by_test false h = omega (arith, h)
+
+-- a half has no more terms than the statement
+pub half_short : (half : Half) (s : Raw) → length (half_of half s).terms ≤ length s.terms
+half_short half s =
+    let ts = half_terms half s.terms in
+    let us = joined (map unsigned ts) [] in
+    omega (arith, length-positive us, length-joined (map unsigned ts) [], length-map ts unsigned, length-map s.terms (turned_term half))
