@@ -4,8 +4,9 @@ use Rattle.std.specs.Option.{ForSome}
 use Rattle.pb_desk.specs.View.{Told}
 use Rattle.pb_desk.specs.Desk.{DeskState, IsFresh, IsSteady}
 use Rattle.pb_words.specs.Taken.{Wanted, taken_of}
-use Rattle.pb_words.specs.Taken.Wanted.{Encode, Check, Probe}
+use Rattle.pb_words.specs.Taken.Wanted.{Encode, Check, Probe, Bench}
 use Rattle.pb_suite.specs.Owed.{Owed, Shelf, Suffices}
+use Rattle.pb_suite.specs.OwedBench.{owed_bench}
 use Rattle.pb_suite.specs.OwedCheck.{owed_check}
 use Rattle.pb_suite.specs.OwedEncode.{owed_encode}
 use Rattle.pb_suite.specs.OwedProbe.{owed_probe}
@@ -14,6 +15,7 @@ abbrev pub owed : Wanted → Owed
 owed (Encode w) = owed_encode w
 owed (Check w) = owed_check w
 owed (Probe w) = owed_probe w
+owed (Bench w) = owed_bench w
 
 -- what the words call for is there
 abbrev pub SufficesFor : List (List ℕ) → Shelf → Option ℕ → Type 0

@@ -1,3 +1,4 @@
+pub mod BenchLemmas
 pub mod CommandLemmas
 pub mod EncodeLemmas
 pub mod Rows

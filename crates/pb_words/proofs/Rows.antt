@@ -10,7 +10,7 @@ use Rattle.pb_choice.specs.declared.options.Options.{Options}
 use Rattle.pb_choice.specs.Defaults.{default_options}
 use Rattle.pb_base.specs.declared.literal.Lit.{Lit}
 use Rattle.pb_words.specs.Taken.{Wanted, taken_of}
-use Rattle.pb_words.specs.Taken.Wanted.{Encode, Check, Probe}
+use Rattle.pb_words.specs.Taken.Wanted.{Encode, Check, Probe, Bench}
 
 -- what a line asks for whose words stand between blanks
 abbrev said : Text → Option Wanted
@@ -27,6 +27,9 @@ check opb cnf proof = Some (Check (record { opb = opb; cnf = cnf; proof = proof 
 
 abbrev probe : Text → List Lit → Option Wanted
 probe cnf lits = Some (Probe (record { cnf = cnf; lits = lits }))
+
+abbrev bench : ℕ → ℕ → Option Text → Option Wanted
+bench count seed cnf = Some (Bench (record { count = count; seed = seed; cnf = cnf }))
 
 abbrev plain : ℕ → Lit
 plain n = record { var = n; positive = true }
@@ -123,6 +126,18 @@ the_greatest_literal = refl
 literals_behind_dashes : said (codes "pbcnf probe -- --c x1") ≡ probe (codes "--c") (plain 1 ∷ [])
 unfolding taken_of clap_on_literals
 literals_behind_dashes = refl
+
+no_file : said (codes "pbcnf bench 1 0") ≡ bench 1 0 None
+unfolding taken_of clap_on_literals
+no_file = refl
+
+the_greatest_numbers : said (codes "pbcnf bench 1000000 4294967295 c") ≡ bench 1000000 4294967295 (Some (codes "c"))
+unfolding taken_of clap_on_literals
+the_greatest_numbers = refl
+
+leading_zeros_of_numbers : said (codes "pbcnf bench 0000001000 007 c") ≡ bench 1000 7 (Some (codes "c"))
+unfolding taken_of clap_on_literals
+leading_zeros_of_numbers = refl
 
 -- ---- words that are not taken
 
@@ -302,3 +317,27 @@ nothing_to_probe = refl
 option_of_another_command : said (codes "pbcnf probe c --budget 9") ≡ None
 unfolding taken_of clap_on_literals
 option_of_another_command = refl
+
+too_many_statements : said (codes "pbcnf bench 1000001 0") ≡ None
+unfolding taken_of clap_on_literals
+too_many_statements = refl
+
+too_great_a_seed : said (codes "pbcnf bench 1 4294967296") ≡ None
+unfolding taken_of clap_on_literals
+too_great_a_seed = refl
+
+seed_with_plus : said (codes "pbcnf bench 1 +1") ≡ None
+unfolding taken_of clap_on_literals
+seed_with_plus = refl
+
+no_seed : said (codes "pbcnf bench 1") ≡ None
+unfolding taken_of clap_on_literals
+no_seed = refl
+
+two_files : said (codes "pbcnf bench 1 0 c d") ≡ None
+unfolding taken_of clap_on_literals
+two_files = refl
+
+option_of_encode_behind_bench : said (codes "pbcnf bench 1 0 --budget 9") ≡ None
+unfolding taken_of clap_on_literals
+option_of_encode_behind_bench = refl

@@ -1,8 +1,9 @@
 -- What holds of all that is asked for. Our own.
 use Rattle.std.specs.Prelude.{◌≢◌, ◌≤◌}
+use Rattle.pb_words.specs.BenchWords.{BenchWords}
 use Rattle.pb_words.specs.EncodeWords.{EncodeWords}
 use Rattle.pb_words.specs.Taken.{Wanted}
-use Rattle.pb_words.specs.Taken.Wanted.{Encode, Check, Probe}
+use Rattle.pb_words.specs.Taken.Wanted.{Encode, Check, Probe, Bench}
 
 -- two different names, and a budget within its range
 pub record IsFitEncode (w : EncodeWords) : Type 0 where
@@ -10,7 +11,13 @@ pub record IsFitEncode (w : EncodeWords) : Type 0 where
   pub low : 1 ≤ w.options.budget
   pub high : w.options.budget ≤ 10000000
 
+-- a number of statements and a seed within their ranges
+pub record IsFitBench (w : BenchWords) : Type 0 where
+  pub count : w.count ≤ 1000000
+  pub seed : w.seed ≤ 4294967295
+
 abbrev pub IsFit : Wanted → Type 0
 IsFit (Encode w) = IsFitEncode w
 IsFit (Check w) = Unit {0}
 IsFit (Probe w) = Unit {0}
+IsFit (Bench w) = IsFitBench w

@@ -3,6 +3,7 @@ pub mod Digits
 pub mod Names
 pub mod OptionWords
 pub mod EncodeWords
+pub mod BenchWords
 pub mod CheckWords
 pub mod LitWords
 pub mod ProbeWords

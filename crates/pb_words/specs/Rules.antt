@@ -10,6 +10,10 @@ use Rattle.clap.specs.declared.builder.command.Command.TheViews.{out-Command}
 abbrev pub name_rule : Text → Rule
 name_rule id = record (new_rule id) { required = true }
 
+-- a name that may be given
+abbrev pub optional_rule : Text → Rule
+optional_rule = new_rule
+
 -- any number of words, none included
 abbrev pub words_rule : Text → Rule
 words_rule id = record (new_rule id) { action = Some Append }

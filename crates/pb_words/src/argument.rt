@@ -1,7 +1,7 @@
 // Arguments of commands, and the words that they were given.
 ghost use Rattle.std.specs.Prelude.{◌≡◌, false, map, option_map};
 ghost use Rattle.clap.specs.Words.{all_of, first_of, found_of, rows_of, rule_of};
-ghost use Rattle.pb_words.specs.Rules.{name_rule, option_rule, words_rule};
+ghost use Rattle.pb_words.specs.Rules.{name_rule, option_rule, optional_rule, words_rule};
 
 use clap::{Arg, ArgAction, ArgMatches};
 use std::alloc::Global;
@@ -12,6 +12,14 @@ pub fn name<'a>(alloc: Global, id: &'a str) -> Arg<'a>
     ensures local { result.global ≡ false }
 {
     Arg::new(alloc, id).required(true)
+}
+
+/// A name that may be given.
+pub fn optional_name<'a>(alloc: Global, id: &'a str) -> Arg<'a>
+    ensures rule { rule_of result ≡ optional_rule id.entry.now }
+    ensures local { result.global ≡ false }
+{
+    Arg::new(alloc, id)
 }
 
 /// Any number of words, none included.

@@ -13,3 +13,13 @@ pub fn number_within(word: &[u8], least: u64, most: u64) -> Option<u64>
         _ => None,
     }
 }
+
+/// The same of numbers up to one of 32 bits.
+pub fn short_within(word: &[u8], most: u32) -> Option<u32>
+    ensures { result ≡ number_within 0 most word.now }
+{
+    match read_digits(word) {
+        Number::Value(n) if 0 <= n && n <= i128::from(most) => Some(n as u32),
+        _ => None,
+    }
+}

@@ -2,6 +2,7 @@
 #![tactic(auto)]
 
 mod argument;
+mod bench;
 mod check;
 mod digits;
 mod encode;
@@ -13,6 +14,7 @@ mod probe;
 mod program;
 mod request;
 
+pub use bench::Benching;
 pub use check::Checking;
 pub use encode::Encoding;
 pub use fault::WordsFault;

@@ -1,12 +1,14 @@
 //! The request that a command line makes.
 ghost use Rattle.std.specs.Prelude.{◌≡◌, ◌≢◌, IfOk, IsErrOf, None, Some, map, option_map, string_bytes};
 ghost use Rattle.clap.specs.Words.{found_of, kind_of, rows_of, subcommand_rows_of};
+ghost use Rattle.pb_words.specs.BenchWords.{bench_in};
 ghost use Rattle.pb_words.specs.CheckWords.{check_in};
 ghost use Rattle.pb_words.specs.EncodeWords.{encode_in};
 ghost use Rattle.pb_words.specs.ProbeWords.{probe_in};
 ghost use Rattle.pb_words.specs.Taken.{taken_of, wanted_as, wanted_by, wanted_in, Tells};
-ghost use Rattle.pb_words.specs.Taken.Wanted.{Encode, Check, Probe};
+ghost use Rattle.pb_words.specs.Taken.Wanted.{Encode, Check, Probe, Bench};
 
+use crate::bench::benching_in;
 use crate::check::checking_in;
 use crate::encode::encoding_in;
 use crate::fault::WordsFault;
@@ -47,6 +49,16 @@ fn probe_request<'a>(alloc: Global, given: &ArgMatches<'a>) -> Result<Request<'a
     }
 }
 
+// What `bench` was asked for.
+fn bench_request<'a>(given: &ArgMatches<'a>) -> Result<Request<'a>, WordsFault>
+    ensures { Tells (option_map Bench (bench_in (rows_of (found_of given.now)))) result }
+{
+    match benching_in(given) {
+        Some(benching) => Ok(Request::Bench(benching)),
+        None => Err(WordsFault::Usage),
+    }
+}
+
 // What a command of this name was asked for.
 fn request_in<'a>(
     alloc: Global,
@@ -59,6 +71,7 @@ fn request_in<'a>(
         "encode" => encode_request(given),
         "check" => check_request(given),
         "probe" => probe_request(alloc, given),
+        "bench" => bench_request(given),
         _ => Err(WordsFault::Usage),
     }
 }

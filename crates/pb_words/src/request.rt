@@ -1,4 +1,5 @@
 //! What the words ask for.
+use crate::bench::Benching;
 use crate::check::Checking;
 use crate::encode::Encoding;
 use crate::probe::Probing;
@@ -12,4 +13,6 @@ pub enum Request<'a> {
     Check(Checking<'a>),
     /// Propagate some literals over a CNF.
     Probe(Probing<'a>),
+    /// Encode a generated problem.
+    Bench(Benching<'a>),
 }

@@ -1,0 +1,52 @@
+//! The words of `bench`.
+ghost use Rattle.std.specs.Prelude.{◌≡◌, IfOk, option_map};
+ghost use Rattle.clap.specs.Words.{found_of, rows_of};
+ghost use Rattle.pb_words.specs.Rules.{IsCommand};
+ghost use Rattle.pb_words.specs.BenchWords.{as_bench_words, bench_app, bench_in, number_in};
+
+use crate::argument::{name, optional_name, word_of};
+use crate::digits::short_within;
+use clap::{ArgMatches, Command};
+use std::alloc::{AllocError, Global};
+
+// The most statements of a problem that is generated.
+const MAX_COUNT: u32 = 1_000_000;
+
+/// Encode a generated problem: which one, and the file that is made, if one is.
+#[derive(Clone, Copy, PartialEq, Eq, Debug)]
+pub struct Benching<'a> {
+    /// How many statements the problem has, up to 1,000,000.
+    pub count: u32,
+    /// What its draws begin with.
+    pub seed: u32,
+    /// The name of the CNF file.
+    pub cnf: Option<&'a str>,
+}
+
+/// `bench N SEED [CNF]`
+pub fn command<'a>(alloc: Global) -> Result<Command<'a>, AllocError>
+    ensures { IfOk result (IsCommand bench_app) }
+{
+    Command::new(alloc, "bench")
+        .arg(name(alloc, "n"))?
+        .arg(name(alloc, "seed"))?
+        .arg(optional_name(alloc, "cnf"))
+}
+
+// A number up to this one, in digits alone.
+fn number_in(given: &ArgMatches<'_>, id: &str, most: u32) -> Option<u32>
+    ensures { result ≡ number_in most id.now (rows_of (found_of given.now)) }
+{
+    short_within(word_of(given, id)?.as_bytes(), most)
+}
+
+/// What `bench` was asked for.
+pub fn benching_in<'a>(given: &ArgMatches<'a>) -> Option<Benching<'a>>
+    ensures { option_map as_bench_words result ≡ bench_in (rows_of (found_of given.now)) }
+{
+    Some(Benching {
+        count: number_in(given, "n", MAX_COUNT)?,
+        seed: number_in(given, "seed", u32::MAX)?,
+        cnf: word_of(given, "cnf"),
+    })
+}
