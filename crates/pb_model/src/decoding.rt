@@ -1,0 +1,99 @@
+//! Whether the values of a model are a solution.
+ghost use Rattle.std.specs.Prelude.{◌≡◌, ◌<◌, ◌≤◌, ◌^◌, ◌↔◌, IsTrue, All, length};
+ghost use Rattle.pb_base.specs.Literals.{assigned_by, lit_value};
+ghost use Rattle.pb_base.specs.Problems.{magnitude, written_value, sum_value, Satisfies, StaysBelow, IsWithinLimits};
+ghost use Rattle.pb_model.specs.Decoding.{FindsViolated, IsDecoded, AreVarsWithin};
+
+use crate::model::{Model, Says};
+use pb_base::{Lit, Problem, Raw, Relation, Term};
+
+/// What a model comes to beside a problem.
+#[derive(Clone, Copy, Debug, PartialEq, Eq)]
+pub enum Decoded {
+    /// The solver does not say that there is a model.
+    NoModel,
+    /// The values violate a statement, counted from 1, as the first.
+    Violates { statement: u64 },
+    /// The values are a solution.
+    Solution,
+}
+
+// Whether a literal is true under the values.
+fn is_true(values: &[bool], lit: Lit) -> bool
+    requires { lit.var ≤ length values.now }
+    ensures { result ≡ lit_value (assigned_by values.now) lit }
+{
+    let value = values[lit.index() as usize - 1];
+    if lit.positive { value } else { !value }
+}
+
+// What a term adds.
+fn term_value(values: &[bool], term: &Term) -> i128
+    requires { term.now.lit.var ≤ length values.now }
+    ensures { result ≡ written_value (assigned_by values.now) term.now }
+{
+    if is_true(values, term.lit) {
+        term.coef
+    } else {
+        0
+    }
+}
+
+/// The sum of the coefficients of the true terms.
+pub(crate) fn sum_of(values: &[bool], terms: &[Term]) -> i128
+    requires vars { AreVarsWithin (length values.now) terms.now }
+    requires numbers { magnitude terms.now < 2 ^ 100 }
+    ensures { result ≡ sum_value (assigned_by values.now) terms.now }
+{
+    let mut sum: i128 = 0;
+    for term in terms {
+        sum += term_value(values, term);
+    }
+    sum
+}
+
+// Whether a statement holds under the values.
+fn satisfies(values: &[bool], statement: &Raw) -> bool
+    requires vars { AreVarsWithin (length values.now) statement.now.terms }
+    requires numbers { magnitude statement.now.terms < 2 ^ 100 }
+    ensures { IsTrue result ↔ Satisfies (assigned_by values.now) statement.now }
+{
+    let sum = sum_of(values, statement.terms.as_slice());
+    match statement.relation {
+        Relation::AtLeast => sum >= statement.right,
+        Relation::AtMost => sum <= statement.right,
+        Relation::Equal => sum == statement.right,
+    }
+}
+
+// The place of the first statement that does not hold, counted from 0.
+fn first_violated(values: &[bool], statements: &[Raw]) -> Option<usize>
+    requires vars { All (λ s. AreVarsWithin (length values.now) s.terms) statements.now }
+    requires numbers { All (StaysBelow (2 ^ 100)) statements.now }
+    ensures { FindsViolated (assigned_by values.now) statements.now result }
+{
+    for (place, statement) in statements.iter().enumerate() {
+        if !satisfies(values, statement) {
+            return Some(place);
+        }
+    }
+    None
+}
+
+/// Whether the values of a model, one for each variable of the problem, are a solution of it; else the first statement that they
+/// violate. A model that says nothing of that kind is none.
+pub fn decode(problem: &Problem, model: &Model) -> Decoded
+    requires within { IsWithinLimits problem.now }
+    requires covers { length model.now.values ≡ problem.now.vars }
+    ensures { IsDecoded problem.now model.now result }
+{
+    let Says::Satisfiable = model.says else {
+        return Decoded::NoModel;
+    };
+    match first_violated(model.values.as_slice(), problem.statements.as_slice()) {
+        None => Decoded::Solution,
+        Some(place) => Decoded::Violates {
+            statement: place as u64 + 1,
+        },
+    }
+}

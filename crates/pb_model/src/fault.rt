@@ -1,0 +1,32 @@
+//! Why a model text was not read.
+use pb_base::{Expected, LimitKind, NoMemory, Place};
+use std::alloc::AllocError;
+
+/// The first fault of a model text, with the place of its word (none where the whole text is too
+/// long), or want of memory.
+#[derive(Clone, Copy, Debug, PartialEq, Eq)]
+pub enum ModelFault {
+    /// No model text goes on so; this could have stood there.
+    Token {
+        place: Place,
+        expected: Expected,
+    },
+    /// A limit is passed there.
+    Limit {
+        place: Option<Place>,
+        which: LimitKind,
+    },
+    /// An allocation was refused.
+    NoMemory,
+}
+
+impl From<AllocError> for ModelFault {
+    ghost use Rattle.std.specs.Prelude.{◌≡◌};
+    ghost use Rattle.pb_model.specs.declared.fault.ModelFault.TheVariants as fault;
+
+    ghost from_gives = { λ _ e. e ≡ fault.NoMemory };
+
+    fn from(_: AllocError) -> Self {
+        ModelFault::NoMemory
+    }
+}

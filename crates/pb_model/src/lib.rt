@@ -1,0 +1,20 @@
+//! The models that solvers print, and the solutions that they give.
+#![tactic(auto)]
+
+mod decoding;
+mod fault;
+mod laws;
+mod line;
+mod listing;
+mod meaning;
+mod model;
+mod read;
+mod reader;
+mod solution;
+
+pub use decoding::{Decoded, decode};
+pub use fault::ModelFault;
+pub use laws::told_exactly;
+pub use model::{Model, Says};
+pub use read::read_model;
+pub use solution::write_solution;

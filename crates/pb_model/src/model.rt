@@ -1,0 +1,20 @@
+//! What a model text says.
+use pb_base::Bits;
+
+/// What a solver says of the clauses.
+#[derive(Clone, Copy, Debug, PartialEq, Eq)]
+pub enum Says {
+    /// That they have a model.
+    Satisfiable,
+    /// Anything else.
+    Other,
+    /// Nothing.
+    Missing,
+}
+
+/// What a solver says, and a value for each variable, the first one for variable 1.
+#[derive(Debug, Drop)]
+pub struct Model {
+    pub says: Says,
+    pub values: Bits,
+}

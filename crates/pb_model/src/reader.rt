@@ -1,0 +1,132 @@
+//! A model text, symbol by symbol.
+ghost use Rattle.std.specs.Prelude.{◌≡◌, ◌<◌, ◌^◌, [], ◌∷◌, ℕ, List, false, IfOk};
+ghost use Rattle.pb_base.specs.declared.limit.LimitKind.TheVariants.{Variables};
+ghost use Rattle.pb_model.specs.declared.fault.ModelFault.TheVariants.{Token, Limit};
+ghost use Rattle.pb_model.specs.ModelLines.{Symbol, meant, IsWithin};
+ghost use Rattle.pb_model.specs.ModelLines.Symbol.{status, values, word};
+ghost use Rattle.pb_model.specs.ModelReading.{is_said};
+ghost use Rattle.pb_model.specs.laws.Reading.{Knows, Takes, ConcludesBy};
+
+use crate::fault::ModelFault;
+use crate::listing::Listing;
+use crate::meaning::{Meaning, meant};
+use crate::model::{Model, Says};
+use pb_base::{Expected, LimitKind, NoMemory, Number, Place};
+use std::alloc::Global;
+
+// Whether a status line said something.
+fn is_said(says: Says) -> bool
+    ensures { result ≡ is_said says }
+{
+    match says {
+        Says::Missing => false,
+        _ => true,
+    }
+}
+
+// Another word could not stand there.
+fn refused(place: Place, expected: Expected) -> ModelFault
+    ensures { result ≡ Token place expected }
+{
+    ModelFault::Token { place, expected }
+}
+
+// A variable past the limit stands there.
+fn too_great(place: Place) -> ModelFault
+    ensures { result ≡ Limit (Some place) Variables }
+{
+    ModelFault::Limit {
+        place: Some(place),
+        which: LimitKind::Variables,
+    }
+}
+
+/// What was said so far.
+#[derive(Drop)]
+pub struct Reader {
+    pub listing: Listing,
+    pub says: Says,
+    pub begun: bool,
+    pub ended: bool,
+}
+
+impl Reader {
+    /// Nothing was said.
+    pub fn new(alloc: Global, vars: u32) -> Result<Reader, NoMemory>
+        requires { vars < 2 ^ 31 }
+        ensures { IfOk result (Knows vars []) }
+    {
+        Ok(Reader {
+            listing: Listing::new(alloc, vars)?,
+            says: Says::Missing,
+            begun: false,
+            ended: false,
+        })
+    }
+
+    /// Takes a status line.
+    pub fn take_status(&mut self, place: Place, says: Says) -> Result<(), ModelFault>
+        ensures { Takes (λ _. status place says ∷ []) self.old self.new result }
+    {
+        if is_said(self.says) {
+            return Err(refused(place, Expected::ModelLine));
+        }
+        self.says = says;
+        Ok(())
+    }
+
+    /// Takes the first word of a line of values.
+    pub fn open_values(&mut self, place: Place) -> Result<(), ModelFault>
+        ensures { Takes (λ _. values place ∷ []) self.old self.new result }
+    {
+        if self.ended {
+            return Err(refused(place, Expected::ModelLine));
+        }
+        self.begun = true;
+        Ok(())
+    }
+
+    // Takes what a word means, before the end of the values.
+    fn take_meaning(&mut self, place: Place, meaning: Meaning) -> Result<(), ModelFault>
+        requires going { self.old.ended ≡ false }
+        requires within { IsWithin self.old.listing.vars meaning }
+        ensures { Takes (λ _. word place meaning ∷ []) self.old self.new result }
+    {
+        match meaning {
+            Meaning::End => self.ended = true,
+            Meaning::Literal(lit) => {
+                if !self.listing.take(lit) {
+                    return Err(refused(place, Expected::Opposite));
+                }
+            }
+            Meaning::Beyond => {}
+            Meaning::TooGreat => return Err(too_great(place)),
+            Meaning::Nothing => return Err(refused(place, Expected::ModelLiteral)),
+        }
+        Ok(())
+    }
+
+    /// Takes a word behind the first of a line of values.
+    pub fn take_word(&mut self, place: Place, number: Number) -> Result<(), ModelFault>
+        ensures { Takes (λ vars. word place (meant vars number) ∷ []) self.old self.new result }
+    {
+        if self.ended {
+            return Err(refused(place, Expected::ModelLiteral));
+        }
+        let meaning = meant(number, self.listing.vars);
+        self.take_meaning(place, meaning)
+    }
+
+    /// What was said, at the end of the text.
+    pub fn finish(self, place: Place) -> Result<Model, ModelFault>
+        ensures { (vars : ℕ) (ss : List Symbol) → Knows vars ss self → ConcludesBy vars ss place result }
+    {
+        if self.begun && !self.ended {
+            return Err(refused(place, Expected::ModelZero));
+        }
+        Ok(Model {
+            says: self.says,
+            values: self.listing.values(),
+        })
+    }
+}

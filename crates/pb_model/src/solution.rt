@@ -1,0 +1,101 @@
+//! The text of a solution.
+ghost use Rattle.std.specs.Prelude.{◌≡◌, ◌<◌, ◌^◌, ◌++◌, OnOk, OnErr, length, take, Some};
+ghost use Rattle.pb_base.specs.Literals.{assigned_by};
+ghost use Rattle.pb_base.specs.Problems.{magnitude, IsWithinLimits};
+ghost use Rattle.pb_model.specs.Decoding.{AreVarsWithin};
+ghost use Rattle.pb_model.specs.SolutionText.{objective_line, value_word, value_words, values_line, solution_text};
+
+use crate::decoding::sum_of;
+use itoa::Buffer;
+use pb_base::{Bits, NoMemory, Problem, Term};
+use std::alloc::{AllocError, Global};
+
+// Appends the value of a sum.
+fn push_sum(out: &mut Vec<u8>, terms: &[Term], values: &[bool]) -> Result<(), AllocError>
+    requires vars { AreVarsWithin (length values.now) terms.now }
+    requires numbers { magnitude terms.now < 2 ^ 100 }
+    ensures ok { OnOk result (out.new.items ≡ out.old.items ++ objective_line (assigned_by values.now) (Some terms.now)) }
+    ensures before { take (length out.old.items) out.new.items ≡ out.old.items }
+{
+    out.extend_from_slice(b"o ")?;
+    out.extend_from_slice(Buffer::new().format(sum_of(values, terms)).as_bytes())?;
+    out.extend_from_slice(b"\n")
+}
+
+// Appends a variable and its value.
+fn push_value(out: &mut Vec<u8>, variable: u64, value: bool) -> Result<(), AllocError>
+    ensures ok { OnOk result (out.new.items ≡ out.old.items ++ value_word variable value) }
+    ensures before { take (length out.old.items) out.new.items ≡ out.old.items }
+{
+    out.extend_from_slice(if value { b" x" } else { b" -x" })?;
+    out.extend_from_slice(Buffer::new().format(variable).as_bytes())
+}
+
+// Appends the values of all variables.
+fn push_values(out: &mut Vec<u8>, values: &[bool]) -> Result<(), AllocError>
+    ensures ok { OnOk result (out.new.items ≡ out.old.items ++ value_words 1 values.now) }
+    ensures before { take (length out.old.items) out.new.items ≡ out.old.items }
+{
+    for (place, value) in values.iter().enumerate() {
+        push_value(out, place as u64 + 1, *value)?;
+    }
+    Ok(())
+}
+
+// Appends the value of the objective, if there is one.
+fn push_objective(out: &mut Vec<u8>, problem: &Problem, values: &[bool]) -> Result<(), AllocError>
+    requires within { IsWithinLimits problem.now }
+    requires covers { length values.now ≡ problem.now.vars }
+    ensures ok { OnOk result (out.new.items ≡ out.old.items ++ objective_line (assigned_by values.now) problem.now.objective) }
+    ensures before { take (length out.old.items) out.new.items ≡ out.old.items }
+{
+    match &problem.objective {
+        None => Ok(()),
+        Some(terms) => push_sum(out, terms.as_slice(), values),
+    }
+}
+
+// Appends the line of the values.
+fn push_values_line(out: &mut Vec<u8>, values: &[bool]) -> Result<(), AllocError>
+    ensures ok { OnOk result (out.new.items ≡ out.old.items ++ values_line values.now) }
+    ensures before { take (length out.old.items) out.new.items ≡ out.old.items }
+{
+    out.extend_from_slice(b"v")?;
+    push_values(out, values)?;
+    out.extend_from_slice(b"\n")
+}
+
+// Appends the text of a solution, or a part of it.
+fn push_solution(out: &mut Vec<u8>, problem: &Problem, values: &[bool]) -> Result<(), AllocError>
+    requires within { IsWithinLimits problem.now }
+    requires covers { length values.now ≡ problem.now.vars }
+    ensures ok { OnOk result (out.new.items ≡ out.old.items ++ solution_text problem.now values.now) }
+    ensures before { take (length out.old.items) out.new.items ≡ out.old.items }
+{
+    push_objective(out, problem, values)?;
+    out.extend_from_slice(b"s SATISFIABLE\n")?;
+    push_values_line(out, values)
+}
+
+/// Appends the text of a solution: the value of the objective, if there is one, that there is a solution, and the value of each
+/// variable. Where memory is wanting, the bytes stay as they were.
+pub fn write_solution(
+    _alloc: Global,
+    problem: &Problem,
+    values: &Bits,
+    out: &mut Vec<u8>,
+) -> Result<(), NoMemory>
+    requires within { IsWithinLimits problem.now }
+    requires covers { length values.now ≡ problem.now.vars }
+    ensures ok { OnOk result (out.new.items ≡ out.old.items ++ solution_text problem.now values.now) }
+    ensures err { OnErr result (out.new.items ≡ out.old.items) }
+{
+    let before = out.len();
+    match push_solution(out, problem, values.as_slice()) {
+        Ok(()) => Ok(()),
+        Err(_) => {
+            out.truncate(before);
+            Err(NoMemory)
+        }
+    }
+}
