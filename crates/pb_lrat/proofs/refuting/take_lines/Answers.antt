@@ -1,0 +1,40 @@
+use Rattle.std.proofs.Common.{Bool, sym, ◌∙◌, subst}
+use Rattle.pb_desk.specs.LineReaders.{GivesLine}
+use Rattle.pb_dimacs.specs.Cursors.{GivesRow}
+use Rattle.pb_dimacs.proofs.RowLemmas.{row_given, row_stopped}
+use Rattle.pb_lrat.specs.declared.refute_fault.RefuteFault.{RefuteFault}
+use Rattle.pb_lrat.specs.Refuting.{StopsLines}
+use Rattle.pb_lrat.proofs.Walking.{line_taken, line_stopped, row_missed}
+use Rattle.pb_lrat.proofs.refuting.take_lines.Goals as goal
+
+pub returns-in-Err-clause-stopped : goal.returns-in-Err-clause-stopped
+returns-in-Err-clause-stopped g c =
+    let a = g.D.Desk.state c.args.desk.now in
+    let b = g.D.Desk.state c.rows.desk in
+    let d = g.D.Desk.state c.next_line.new.desk in
+    subst (λ (f : RefuteFault). StopsLines f c.args.checker.now c.args.lines.now c.next_line.new.self a d) (sym c.of_line.ensures)
+    (row_missed c.in-Err.fault c.args.checker.now c.rows.checker c.args.lines.now c.rows.lines c.next_line.new.self a b d c.rows.invariant.goes_on.slot c.rows.invariant.reads
+    (row_stopped c.in-Err.fault c.rows.lines c.next_line.new.self b d (c.in-Err.ensures.stopped c.rows.invariant.goes_on.fine).cause))
+
+pub returns-in-Err-line-clause-stopped : goal.returns-in-Err-line-clause-stopped
+returns-in-Err-line-clause-stopped g c =
+    let a = g.D.Desk.state c.args.desk.now in
+    let b = g.D.Desk.state c.rows.desk in
+    let d = g.D.Desk.state c.next_line.new.desk in
+    let more = subst (λ (m : Bool). GivesRow m c.rows.lines c.next_line.new.self b d) c.if-not-more.false (row_given c.in-Ok.more c.rows.lines c.next_line.new.self b d (c.in-Ok.ensures.line c.rows.invariant.goes_on.fine)) in
+    subst (λ (f : RefuteFault). StopsLines f c.args.checker.now c.args.lines.now c.next_line.new.self a d) (sym c.of_lrat.ensures)
+    (line_stopped c.in-Err-line.fault c.args.checker.now c.rows.checker c.args.lines.now c.rows.lines c.next_line.new.self a b d c.line.result.now c.number-in-Err-line.result c.rows.invariant.goes_on.slot c.line.ensures c.number-in-Err-line.ensures
+    c.in-Err-line.ensures.fault c.rows.invariant.reads more)
+
+pub rows-preserved : goal.rows-preserved
+rows-preserved g c =
+    let a = g.D.Desk.state c.args.desk.now in
+    let b = g.D.Desk.state c.rows.desk in
+    let d = g.D.Desk.state c.next_line.new.desk in
+    let given = c.in-Ok.ensures.line c.rows.invariant.goes_on.fine in
+    let more = subst (λ (m : Bool). GivesRow m c.rows.lines c.next_line.new.self b d) c.if-not-more.false (row_given c.in-Ok.more c.rows.lines c.next_line.new.self b d given) in
+    let line = subst (λ (m : Bool). GivesLine m c.rows.lines c.next_line.new.self b d) c.if-not-more.false given in
+    record {
+      goes_on = record { slot = line.0.slot ∙ c.rows.invariant.goes_on.slot; limits = line.0.limits ∙ c.rows.invariant.goes_on.limits; fine = line.0.fault ∙ c.rows.invariant.goes_on.fine };
+      reads = line_taken c.args.checker.now c.rows.checker c.line-in-rows.new.self c.args.lines.now c.rows.lines c.next_line.new.self a b d c.line.result.now c.rows.invariant.goes_on.slot c.line.ensures c.in-Ok-line.ensures.ok c.rows.invariant.reads more;
+    }

@@ -1,0 +1,10 @@
+use Rattle.std.proofs.Common.{reverse, vec_len}
+use Rattle.pb_lrat.specs.laws.Marks.{value_at}
+use Rattle.pb_lrat.specs.laws.Trails.{IsTrail}
+use Rattle.pb_lrat.proofs.trail.Trail.clear.Given as goal
+
+abbrev pub invariant-newest : goal.invariant-newest
+invariant-newest l = IsTrail (value_at l.self-inside.marks) (reverse l.self-inside.order.items)
+
+abbrev pub decreases-newest : goal.decreases-newest
+decreases-newest l = vec_len l.self-inside.order

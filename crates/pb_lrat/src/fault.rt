@@ -1,0 +1,43 @@
+//! Why a line was not taken.
+use crate::denied::LratDenied;
+use pb_base::{Expected, LimitKind, NoMemory};
+use pb_steps::StepFault;
+
+/// The first fault of a line, with the column of its word; why its clause may not be added; or want of memory.
+#[derive(Clone, Copy, Debug, PartialEq, Eq)]
+pub enum LratFault {
+    /// No line goes on so; this could have stood there.
+    Token { column: u64, expected: Expected },
+    /// A limit is passed there.
+    Limit { column: u64, which: LimitKind },
+    /// The clause may not be added.
+    Denied(LratDenied),
+    /// An allocation was refused.
+    NoMemory,
+}
+
+impl From<StepFault> for LratFault {
+    ghost use Rattle.std.specs.Prelude.{◌≡◌};
+    ghost use Rattle.pb_lrat.specs.LratStates.{fault_of};
+
+    ghost from_gives = { λ f e. e ≡ fault_of f };
+
+    fn from(fault: StepFault) -> Self {
+        match fault {
+            StepFault::Token { column, expected } => LratFault::Token { column, expected },
+            StepFault::Limit { column, which } => LratFault::Limit { column, which },
+            StepFault::NoMemory => LratFault::NoMemory,
+        }
+    }
+}
+
+impl From<NoMemory> for LratFault {
+    ghost use Rattle.std.specs.Prelude.{◌≡◌};
+    ghost use Rattle.pb_lrat.specs.declared.fault.LratFault.TheVariants as fault;
+
+    ghost from_gives = { λ _ e. e ≡ fault.NoMemory };
+
+    fn from(_: NoMemory) -> Self {
+        LratFault::NoMemory
+    }
+}

@@ -1,0 +1,130 @@
+//! Why a clause does not follow by hinted clauses.
+ghost use Rattle.std.specs.Prelude.{◌≡◌, [], ℕ, not, false, true, if◌then◌else◌, Ok, IfOk, OnOk};
+ghost use Rattle.pb_base.specs.declared.literal.Lit.{Lit};
+ghost use Rattle.pb_base.specs.Literals.{negated, is_among};
+ghost use Rattle.pb_norm.specs.ClauseForm.{is_tautology};
+ghost use Rattle.pb_lrat.specs.Hints.{clauses_at, falsified, first_missing, follows, is_nothing, left_of, with_single};
+ghost use Rattle.pb_lrat.specs.LratStates.{denied_by};
+ghost use Rattle.pb_lrat.specs.laws.Looks.{kind_of, left_with, hints_deny};
+
+use crate::denied::LratDenied;
+use crate::store::Store;
+use crate::trail::Trail;
+use pb_base::{Lit, NoMemory};
+
+// What is left of a clause once its false literals are taken out.
+#[derive(Clone, Copy)]
+pub(crate) enum Left {
+    Nothing,
+    Single(Lit),
+    More,
+}
+
+// Has each literal of a clause be false. False where two of them are opposite.
+fn falsify(clause: &[Lit], trail: &mut Trail) -> Result<bool, NoMemory>
+    requires { trail.old ≡ [] }
+    ensures apart { IfOk result (λ apart. apart ≡ not (is_tautology clause.now)) }
+    ensures falsified { result ≡ Ok true → trail.new ≡ falsified [] clause.now }
+{
+    for lit in clause {
+        if trail.holds(lit) {
+            return Ok(false);
+        }
+        trail.add(&lit.not())?;
+    }
+    Ok(true)
+}
+
+// What is left with one more literal.
+fn with_one(left: Left, lit: &Lit) -> Left
+    ensures { result ≡ left_with left lit.now }
+{
+    match left {
+        Left::Nothing => Left::Single(*lit),
+        Left::Single(found) => {
+            if found != *lit {
+                return Left::More;
+            }
+            Left::Single(found)
+        }
+        Left::More => Left::More,
+    }
+}
+
+// The same, unless the literal is false.
+fn with_next(left: Left, lit: &Lit, trail: &Trail) -> Left
+    ensures { result ≡ (if is_among trail.now (negated lit.now) then left else left_with left lit.now) }
+{
+    if trail.holds(&lit.not()) {
+        return left;
+    }
+    with_one(left, lit)
+}
+
+// What is left of a clause.
+fn left_in(clause: &[Lit], trail: &Trail) -> Left
+    ensures kind { result ≡ kind_of (left_of trail.now clause.now) }
+    ensures undecided { (l : Lit) → result ≡ Left.Single l → is_among trail.now (negated l) ≡ false }
+{
+    let mut left = Left::Nothing;
+    for lit in clause {
+        left = with_next(left, lit, trail);
+        if let Left::More = left {
+            return left;
+        }
+    }
+    left
+}
+
+// Has a single literal that is left of a clause be true. Whether none is left.
+fn look(clause: &[Lit], trail: &mut Trail) -> Result<bool, NoMemory>
+    ensures conflict { IfOk result (λ none. none ≡ is_nothing (left_of trail.old clause.now)) }
+    ensures single { OnOk result (trail.new ≡ with_single trail.old (left_of trail.old clause.now)) }
+{
+    match left_in(clause, trail) {
+        Left::Nothing => Ok(true),
+        Left::More => Ok(false),
+        Left::Single(lit) => {
+            trail.add(&lit)?;
+            Ok(false)
+        }
+    }
+}
+
+// Why hints do not allow a clause, once some literals are true. A clause may be allowed by itself; its hints must be live all the same.
+fn denied_by(
+    hints: &[u64],
+    store: &Store,
+    trail: &mut Trail,
+    allowed: bool,
+) -> Result<Option<LratDenied>, NoMemory>
+    ensures { IfOk result (λ why. why ≡ hints_deny store.now.live hints.now allowed trail.old) }
+{
+    let mut allowed = allowed;
+    for id in hints {
+        let Some(clause) = store.get(*id) else {
+            return Ok(Some(LratDenied::UnknownHint { id: *id }));
+        };
+        if !allowed {
+            allowed = look(clause, trail)?;
+        }
+    }
+    if allowed {
+        return Ok(None);
+    }
+    Ok(Some(LratDenied::NoConflict))
+}
+
+/// Why a clause does not follow by hints. What is left in the trail is of no use.
+pub(crate) fn denied(
+    clause: &[Lit],
+    hints: &[u64],
+    store: &Store,
+    trail: &mut Trail,
+) -> Result<Option<LratDenied>, NoMemory>
+    requires { trail.old ≡ [] }
+    ensures { IfOk result (λ why. why ≡ denied_by (first_missing store.now.live hints.now) (follows clause.now (clauses_at store.now.live hints.now))) }
+{
+    let apart = falsify(clause, trail)?;
+    denied_by(hints, store, trail, !apart)
+}

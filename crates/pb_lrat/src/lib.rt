@@ -1,0 +1,23 @@
+//! Refutations of CNF formulas in the LRAT format, checked line by line.
+#![tactic(auto)]
+
+mod checker;
+mod denied;
+mod fault;
+mod judge;
+mod laws;
+mod marks;
+mod read;
+mod refute_fault;
+mod refuting;
+mod said;
+mod store;
+mod trail;
+mod word;
+
+pub use checker::LratChecker;
+pub use denied::LratDenied;
+pub use fault::LratFault;
+pub use laws::{added_clauses_hold, empty_clauses_refute, refuted_have_no_model};
+pub use refute_fault::RefuteFault;
+pub use refuting::refute;

@@ -1,0 +1,158 @@
+//! A value for some variables, by pages, so that a great variable takes little memory.
+ghost use Rattle.std.specs.Prelude.{◌≡◌, ◌≢◌, ◌≤◌, ◌<◌, ℕ, [], length, slice_index_or, OnOk, OnErr, Some, None};
+ghost use Rattle.pb_lrat.specs.laws.Marks.{value_at};
+
+use pb_base::NoMemory;
+use std::alloc::Global;
+use std::marker::Model;
+
+// How many values a page has.
+const PAGE: usize = 1 << 16;
+
+/// The values of a page: none, or all.
+#[derive(Drop)]
+struct Page {
+    values: Vec<Option<bool>>,
+}
+
+impl Model for Page {
+    ghost use Rattle.std.specs.Prelude.{List, Option, Bool};
+
+    ghost Value = { List (Option Bool) };
+
+    ghost view = { λ p. p.values.items };
+}
+
+// Has so many values, if there are fewer.
+fn fill(values: &mut Vec<Option<bool>>, size: usize) -> Result<(), NoMemory>
+    ensures same { (w : ℕ) → slice_index_or values.new.items w None ≡ slice_index_or values.old.items w None }
+    ensures filled { OnOk result (size ≤ length values.new.items) }
+{
+    if size <= values.len() {
+        return Ok(());
+    }
+    values.resize(size, None)?;
+    Ok(())
+}
+
+impl Page {
+    fn new(alloc: Global) -> Page
+        ensures { result ≡ [] }
+    {
+        Page {
+            values: Vec::new(alloc),
+        }
+    }
+
+    fn get(&self, at: usize) -> Option<bool>
+        ensures { result ≡ slice_index_or self.now at None }
+    {
+        match self.values.get(at) {
+            Some(value) => *value,
+            None => None,
+        }
+    }
+
+    fn set(&mut self, at: usize, value: bool)
+        requires { at < length self.old }
+        ensures here { slice_index_or self.new at None ≡ Some value }
+        ensures others { (w : ℕ) → w ≢ at → slice_index_or self.new w None ≡ slice_index_or self.old w None }
+    {
+        self.values[at] = Some(value);
+    }
+
+    // The same, where the page may be empty.
+    fn put(&mut self, at: usize, value: bool) -> Result<(), NoMemory>
+        requires { at < 65536 }
+        ensures here { OnOk result (slice_index_or self.new at None ≡ Some value) }
+        ensures others { (w : ℕ) → w ≢ at → slice_index_or self.new w None ≡ slice_index_or self.old w None }
+        ensures same { OnErr result ((w : ℕ) → slice_index_or self.new w None ≡ slice_index_or self.old w None) }
+    {
+        fill(&mut self.values, PAGE)?;
+        self.set(at, value);
+        Ok(())
+    }
+
+    fn forget(&mut self, at: usize)
+        ensures here { slice_index_or self.new at None ≡ None }
+        ensures others { (w : ℕ) → w ≢ at → slice_index_or self.new w None ≡ slice_index_or self.old w None }
+    {
+        if at < self.values.len() {
+            self.values[at] = None;
+        }
+    }
+}
+
+/// A value for some variables.
+#[derive(Drop)]
+pub(crate) struct Marks {
+    alloc: Global,
+    pages: Vec<Page>,
+}
+
+impl Model for Marks {
+    ghost use Rattle.std.specs.Prelude.{List, Option, Bool};
+
+    ghost Value = { List (List (Option Bool)) };
+
+    ghost view = { λ m. m.pages.items };
+}
+
+// Has a page of a number.
+fn reach(alloc: Global, pages: &mut Vec<Page>, number: usize) -> Result<(), NoMemory>
+    requires { number < 65536 }
+    ensures same { (n : ℕ) → slice_index_or pages.new.items n [] ≡ slice_index_or pages.old.items n [] }
+    ensures reached { OnOk result (number < length pages.new.items) }
+{
+    'pages: while pages.len() <= number {
+        pages.push(Page::new(alloc))?;
+    }
+    Ok(())
+}
+
+impl Marks {
+    // No values.
+    pub(crate) fn new(alloc: Global) -> Marks
+        ensures { result ≡ [] }
+    {
+        Marks {
+            alloc,
+            pages: Vec::new(alloc),
+        }
+    }
+
+    // The value of a variable.
+    pub(crate) fn get(&self, var: u32) -> Option<bool>
+        ensures { result ≡ value_at self.now var }
+    {
+        let var = var as usize;
+        match self.pages.get(var / PAGE) {
+            Some(page) => page.get(var % PAGE),
+            None => None,
+        }
+    }
+
+    // Has a variable have a value.
+    pub(crate) fn set(&mut self, var: u32, value: bool) -> Result<(), NoMemory>
+        ensures here { OnOk result (value_at self.new var ≡ Some value) }
+        ensures others { (v : ℕ) → v ≢ var → value_at self.new v ≡ value_at self.old v }
+        ensures same { OnErr result ((v : ℕ) → value_at self.new v ≡ value_at self.old v) }
+    {
+        let var = var as usize;
+        let number = var / PAGE;
+        reach(self.alloc, &mut self.pages, number)?;
+        self.pages[number].put(var % PAGE, value)
+    }
+
+    // Has a variable have no value.
+    pub(crate) fn forget(&mut self, var: u32)
+        ensures here { value_at self.new var ≡ None }
+        ensures others { (v : ℕ) → v ≢ var → value_at self.new v ≡ value_at self.old v }
+    {
+        let var = var as usize;
+        let number = var / PAGE;
+        if number < self.pages.len() {
+            self.pages[number].forget(var % PAGE);
+        }
+    }
+}

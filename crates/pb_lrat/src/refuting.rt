@@ -1,0 +1,73 @@
+//! Going through a refutation, line after line.
+ghost use Rattle.std.specs.Prelude.{◌≡◌, ◌≢◌, ◌<◌, ◌^◌, IsTrue, None, Err, IfErr, OnOk};
+ghost use Rattle.pb_desk.specs.Desk.{IsSteady};
+ghost use Rattle.pb_dimacs.specs.CnfRows.{cnf_limits};
+ghost use Rattle.pb_lrat.specs.Refuting.{Refutes, StopsRefuting, RefutesLines, StopsLines};
+
+use crate::checker::LratChecker;
+use crate::denied::LratDenied;
+use crate::refute_fault::{RefuteFault, of_line, of_lrat};
+use pb_base::{Clauses, MAX_FILE, MAX_LINE, MAX_LINES};
+use pb_desk::{Desk, LineLimits, LineReader};
+use std::alloc::Global;
+
+const LIMITS: LineLimits = LineLimits {
+    text: MAX_FILE,
+    line: MAX_LINE,
+    lines: MAX_LINES,
+};
+
+// Takes the lines that are left, to the end of the text.
+fn take_lines<D: Desk>(
+    desk: &mut D,
+    lines: &mut LineReader,
+    checker: &mut LratChecker,
+) -> Result<(), RefuteFault>
+    requires open { IsTrue ((D.state desk.old).view.reading lines.old.slot) }
+    requires fine { lines.old.fault ≡ None }
+    requires limits { lines.old.limits ≡ cnf_limits }
+    ensures refuted { OnOk result (RefutesLines checker.old lines.old lines.new (D.state desk.old) (D.state desk.new)) }
+    ensures stopped { IfErr result (λ fault. StopsLines fault checker.old lines.old lines.new (D.state desk.old) (D.state desk.new)) }
+    ensures steady { IsSteady (D.state desk.old) → result ≢ Err RefuteFault.Failed }
+{
+    'rows: loop {
+        match lines.next_line(desk) {
+            Ok(more) => {
+                if !more {
+                    if checker.finish() {
+                        return Ok(());
+                    }
+                    return Err(RefuteFault::NotRefuted {
+                        line: lines.number() + 1,
+                        why: LratDenied::NoEmptyClause,
+                    });
+                }
+            }
+            Err(fault) => return Err(of_line(fault)),
+        }
+        match checker.line(lines.line()) {
+            Ok(()) => {}
+            Err(fault) => return Err(of_lrat(lines.number(), fault)),
+        }
+    }
+}
+
+/// Goes through what an open slot has left, as an LRAT refutation of clauses over so many variables. Of the text nothing is kept but a line.
+pub fn refute<D: Desk>(
+    alloc: Global,
+    desk: &mut D,
+    slot: u8,
+    vars: u32,
+    clauses: Clauses,
+) -> Result<(), RefuteFault>
+    requires kind { slot < 4 }
+    requires open { IsTrue ((D.state desk.old).view.reading slot) }
+    requires vars { vars < 2 ^ 31 }
+    ensures refuted { OnOk result (Refutes vars clauses slot (D.state desk.old) (D.state desk.new)) }
+    ensures stopped { IfErr result (StopsRefuting vars clauses slot (D.state desk.old) (D.state desk.new)) }
+    ensures steady { IsSteady (D.state desk.old) → result ≢ Err RefuteFault.Failed }
+{
+    let mut lines = LineReader::new(alloc, slot, LIMITS)?;
+    let mut checker = LratChecker::new(alloc, vars, clauses)?;
+    take_lines(desk, &mut lines, &mut checker)
+}

@@ -1,0 +1,205 @@
+//! Clauses by their ids, all literals in one list.
+ghost use Rattle.std.specs.Prelude.{◌≡◌, ◌≢◌, ◌≤◌, ◌<◌, ℕ, length, slice_index_or, slice_range, ◌==◌, ◌∷◌, ◌++◌, [], not, filter, IfSome, IfOk, OnOk, OnErr, Some, None, vec_len, vec_capacity};
+ghost use Rattle.std.specs.List.{list_any};
+ghost use Rattle.pb_lrat.specs.Hints.{clause_at};
+
+use pb_base::{Lit, NoMemory};
+use std::alloc::Global;
+use std::marker::Model;
+
+/// Where the literals of a clause stand among all literals.
+#[derive(Clone, Copy)]
+pub(crate) struct Span {
+    pub start: usize,
+    pub end: usize,
+}
+
+/// Clauses by their ids, which ascend, and the greatest id so far.
+#[derive(Drop)]
+pub(crate) struct Store {
+    alloc: Global,
+    lits: Vec<Lit>,
+    ids: Vec<u64>,
+    spans: Vec<Option<Span>>,
+    last: u64,
+    // How much of the lists deleted clauses take.
+    unused: usize,
+}
+
+impl Model for Store {
+    ghost use Rattle.pb_lrat.specs.laws.Stores.{Library, IsStore, kept_in};
+
+    ghost Value = { Library };
+
+    ghost view = { λ s. record { last = s.last; live = kept_in s.lits.items s.ids.items s.spans.items } };
+
+    ghost invariant = { λ s. IsStore s.lits.items s.ids.items s.spans.items s.last };
+}
+
+// Where an id stands among ids that ascend.
+fn place_of(ids: &[u64], id: u64) -> Option<usize>
+    requires ascending { (i j : ℕ) → i < j → j < length ids.now → slice_index_or ids.now i 0 < slice_index_or ids.now j 0 }
+    ensures within { IfSome result (λ i. i < length ids.now) }
+    ensures at { IfSome result (λ i. slice_index_or ids.now i 0 ≡ id) }
+    ensures none { result ≡ None → (k : ℕ) → k < length ids.now → slice_index_or ids.now k 0 ≢ id }
+{
+    match ids.binary_search(&id) {
+        Ok(place) => Some(place),
+        Err(_) => None,
+    }
+}
+
+// The literals of a place.
+fn part(lits: &[Lit], span: Span) -> &[Lit]
+    requires order { span.start ≤ span.end }
+    requires within { span.end ≤ length lits.now }
+    ensures { result.now ≡ slice_range lits.now span.start span.end }
+{
+    &lits[span.start..span.end]
+}
+
+// How much of the lists a clause takes: its literals, and its id.
+fn room_of(span: Option<Span>) -> usize {
+    match span {
+        None => 0,
+        Some(span) => span.end.saturating_sub(span.start).saturating_add(1),
+    }
+}
+
+// One more id, for which there is room.
+fn append_id(ids: &mut Vec<u64>, id: u64)
+    requires { vec_len ids.old < vec_capacity ids.old }
+    ensures { ids.new.items ≡ ids.old.items ++ id ∷ [] }
+{
+    match ids.push(id) {
+        Ok(()) => {}
+        Err(_) => {}
+    }
+}
+
+// One more place, for which there is room.
+fn append_span(spans: &mut Vec<Option<Span>>, span: Span)
+    requires { vec_len spans.old < vec_capacity spans.old }
+    ensures { spans.new.items ≡ spans.old.items ++ Some span ∷ [] }
+{
+    match spans.push(Some(span)) {
+        Ok(()) => {}
+        Err(_) => {}
+    }
+}
+
+impl Store {
+    // No clauses.
+    pub(crate) fn new(alloc: Global) -> Store
+        ensures { result ≡ record { last = 0; live = [] } }
+    {
+        Store {
+            alloc,
+            lits: Vec::new(alloc),
+            ids: Vec::new(alloc),
+            spans: Vec::new(alloc),
+            last: 0,
+            unused: 0,
+        }
+    }
+
+    // The greatest id so far.
+    pub(crate) fn last(&self) -> u64
+        ensures { result ≡ self.now.last }
+    {
+        self.last
+    }
+
+    // The clause of an id, if it is live.
+    pub(crate) fn get(&self, id: u64) -> Option<&[Lit]>
+        ensures some { IfSome result (λ clause. clause_at self.now.live id ≡ Some clause.now) }
+        ensures none { result ≡ None → clause_at self.now.live id ≡ None }
+    {
+        let Some(place) = place_of(&self.ids, id) else {
+            return None;
+        };
+        match self.spans[place] {
+            None => None,
+            Some(span) => Some(part(&self.lits, span)),
+        }
+    }
+
+    // Adds a clause under an id that is greater than all others.
+    pub(crate) fn push(&mut self, id: u64, clause: &[Lit]) -> Result<(), NoMemory>
+        requires { self.old.last < id }
+        ensures ok { OnOk result (self.new ≡ record { last = id; live = self.old.live ++ record { id = id; clause = clause.now } ∷ [] }) }
+        ensures err { OnErr result (self.new ≡ self.old) }
+    {
+        self.ids.reserve(1)?;
+        self.spans.reserve(1)?;
+        let start = self.lits.len();
+        self.lits.extend_from_slice(clause)?;
+        let end = self.lits.len();
+        append_id(&mut self.ids, id);
+        append_span(&mut self.spans, Span { start, end });
+        self.last = id;
+        Ok(())
+    }
+
+    // Takes a greatest id that no clause has to have.
+    fn raise(&mut self, last: u64)
+        requires { self.old.last ≤ last }
+        ensures { self.new ≡ record self.old { last = last } }
+    {
+        self.last = last;
+    }
+
+    // The same clauses, in lists without what was deleted.
+    fn packed(&self) -> Result<Store, NoMemory>
+        ensures { IfOk result (λ store. store ≡ self.now) }
+    {
+        let mut store = Store::new(self.alloc);
+        for place in 0..self.ids.len() {
+            if let Some(span) = self.spans[place] {
+                store.push(self.ids[place], part(&self.lits, span))?;
+            }
+        }
+        store.raise(self.last);
+        Ok(store)
+    }
+
+    // Gives up the room of deleted clauses, once it is more than half, unless memory is wanting for that.
+    fn pack(&mut self)
+        ensures { self.new ≡ self.old }
+    {
+        if self.unused <= (self.lits.len() / 2).saturating_add(self.ids.len() / 2) {
+            return;
+        }
+        self.unused = 0;
+        if let Ok(packed) = self.packed() {
+            *self = packed;
+        }
+    }
+
+    // Deletes the clause of an id, if it is live.
+    fn remove(&mut self, id: u64)
+        ensures { self.new ≡ record { last = self.old.last; live = filter (λ k. not (k.id == id)) self.old.live } }
+    {
+        if let Some(place) = place_of(&self.ids, id) {
+            self.unused = self.unused.saturating_add(room_of(self.spans[place]));
+            self.spans[place] = None;
+        }
+    }
+
+    // The same of several ids.
+    fn remove_each(&mut self, ids: &[u64])
+        ensures { self.new ≡ record { last = self.old.last; live = filter (λ k. not (list_any (λ id. k.id == id) ids.now)) self.old.live } }
+    {
+        for id in ids {
+            self.remove(*id);
+        }
+    }
+
+    // Deletes the clauses of ids, where they are live.
+    pub(crate) fn remove_all(&mut self, ids: &[u64])
+        ensures { self.new ≡ record { last = self.old.last; live = filter (λ k. not (list_any (λ id. k.id == id) ids.now)) self.old.live } }
+    {
+        self.remove_each(ids);
+        self.pack();
+    }
+}
