@@ -1,3 +1,4 @@
+mod benches;
 mod checks;
 mod encodes;
 mod faults;

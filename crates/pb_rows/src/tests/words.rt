@@ -21,6 +21,12 @@ fn words_that_ask_for_nothing(rt: HostRuntime) -> Result<(), Fail> {
         // No names of files.
         "pbcnf encode -a c",
         "pbcnf encode a --card",
+        // No numbers within their ranges.
+        "pbcnf bench 1",
+        "pbcnf bench 1 0 c d",
+        "pbcnf bench 1000001 0",
+        "pbcnf bench 1 4294967296",
+        "pbcnf bench +1 0",
         // No command.
         "pbcnf decide a c",
         "pbcnf  a c",

@@ -1,0 +1,5 @@
+//! Tests of public calls that take steps of derivations or hand them over: vectors from outside, and each call once on its happy path.
+#![tactic(auto)]
+
+#[cfg(test)]
+mod tests;

@@ -1,0 +1,184 @@
+// Derivations that are checked beside a CNF, over a desk in memory.
+ghost use Rattle.std.specs.Prelude.{IfSome};
+ghost use Rattle.pb_desk.specs.Desk.{IsClosed};
+
+use pb_base::{Bytes, Ids, Seq, Text};
+use pb_check::{CheckFault, Verdict, check};
+use pb_desk::{Desk, MemoryDesk, Named};
+use pb_opb::read_opb;
+use std::alloc::Global;
+use std::test::Fail;
+
+fn named(alloc: Global, name: &str, text: &str) -> Option<Named> {
+    Some(Named {
+        name: Text::from_string(name.to_string(alloc).ok()?),
+        bytes: Bytes::from_vec(text.as_bytes().to_vec(alloc).ok()?),
+    })
+}
+
+/// A desk with the files `cnf` and `proof`, whose calls of these numbers fail.
+pub fn desk_with(alloc: Global, cnf: &str, proof: &str, fails: Ids) -> Option<MemoryDesk>
+    ensures { IfSome result (λ desk. IsClosed (⟦<MemoryDesk as Desk>⟧.state desk)) }
+{
+    let mut files = Seq::new(alloc);
+    files.push(named(alloc, "cnf", cnf)?).ok()?;
+    files.push(named(alloc, "proof", proof)?).ok()?;
+    MemoryDesk::new(alloc, files, fails, 7, 256).ok()
+}
+
+fn verdict_text(alloc: Global, verdict: Verdict) -> Option<String> {
+    match verdict {
+        Verdict::Accepted => "accepted".to_string(alloc).ok(),
+        Verdict::Rejected { line, denied } => format!(in alloc; "{line}: {denied:?}").ok(),
+    }
+}
+
+fn fault_text(alloc: Global, fault: CheckFault) -> Option<String> {
+    match fault {
+        CheckFault::Refused {
+            file,
+            place,
+            expected,
+        } => format!(in alloc; "{file} {place}: {expected}").ok(),
+        CheckFault::Limit { file, which, .. } => format!(in alloc; "{file}: {which}").ok(),
+        _ => format!(in alloc; "{fault:?}").ok(),
+    }
+}
+
+// What is answered of the two files beside a problem.
+fn answer<D: Desk>(alloc: Global, opb: &str, desk: &mut D) -> Option<String>
+    requires { IsClosed (D.state desk.old) }
+{
+    let problem = read_opb(alloc, opb.as_bytes()).ok()?;
+    if desk.open(0, "cnf").is_err() || desk.open(1, "proof").is_err() {
+        return fault_text(alloc, CheckFault::ReadFault);
+    }
+    match check(alloc, &problem, desk, 0, 1) {
+        Ok(verdict) => verdict_text(alloc, verdict),
+        Err(fault) => fault_text(alloc, fault),
+    }
+}
+
+fn checked(alloc: Global, opb: &str, cnf: &str, proof: &str) -> Option<String> {
+    let mut desk = desk_with(alloc, cnf, proof, Ids::new(alloc))?;
+    answer(alloc, opb, &mut desk)
+}
+
+/// Whether a derivation is accepted.
+pub fn is_accepted(alloc: Global, opb: &str, cnf: &str, proof: &str) -> Option<bool> {
+    let found = checked(alloc, opb, cnf, proof)?;
+    Some(found.as_str() == "accepted")
+}
+
+const EQUATION: &str = "+1 x1 +1 x2 = 1 ;\n";
+
+const TWO_CLAUSES: &str = "p cnf 2 2\n1 2 0\n-1 -2 0\n";
+
+// The same behind the first two lines of a derivation.
+fn equation(alloc: Global, steps: &str) -> Option<String> {
+    let proof = format!(in alloc; "pseudo-Boolean derivation profile 1\nf 2\n{steps}").ok()?;
+    checked(alloc, EQUATION, TWO_CLAUSES, proof.as_str())
+}
+
+#[test]
+fn steps_beside_two_clauses(rt: HostRuntime) -> Result<(), Fail> {
+    let cases = [
+        ("out 1\nout 2\nend\n", "accepted"),
+        (
+            "rup +1 x1 +1 x2 >= 1 ; 1\nout 3\nrup +1 ~x1 +1 ~x2 >= 1 ; 2\nout 4\nend\n",
+            "accepted",
+        ),
+        ("out 2\n", "3: NotImplied { id: 2 }"),
+        ("out 1\nout 2\nout 1\n", "5: NoClause"),
+        (
+            "red +1 x1 >= 1 ; x1 -> 1\n",
+            "3: SetsOriginal { var: Var { index: 1 } }",
+        ),
+        ("rup +1 x1 >= 1 ;\n", "3: NotPropagated"),
+        (
+            "rup +1 x3 >= 1 ;\n",
+            "3: UnknownVar { var: Var { index: 3 } }",
+        ),
+        ("pol 1 +\n", "3: Stack"),
+        ("pol 1 2 + 3\n", "3: UnknownId { id: 3 }"),
+        (
+            "pol 1 42535295865117307932921825928971026432 *\n",
+            "3: Width",
+        ),
+        (
+            "pol 1 42535295865117307932921825928971026431 *\n",
+            "PROOF 4:1: step word",
+        ),
+        ("del 1 1\n", "3: UnknownId { id: 1 }"),
+        ("pol 1 0 d\n", "PROOF 3:7: factor"),
+    ];
+    for (steps, expected) in cases {
+        let found = equation(rt.alloc(), steps);
+        assert_eq!(rt; found.as_deref(), Some(expected), "at {steps}");
+    }
+    Ok(())
+}
+
+// A unit and a clause of three weights, behind the same lines.
+fn weighted(alloc: Global, steps: &str) -> Option<String> {
+    let proof = format!(in alloc; "pseudo-Boolean derivation profile 1\nf 1\n{steps}").ok()?;
+    let cnf = "p cnf 3 2\n1 0\n2 3 0\n";
+    checked(alloc, "+5 x1 +3 x2 +2 x3 >= 6 ;\n", cnf, proof.as_str())
+}
+
+#[test]
+fn steps_beside_a_unit_and_a_clause(rt: HostRuntime) -> Result<(), Fail> {
+    let cases = [
+        (
+            "rup +1 x1 >= 1 ; 1\nout 2\npol 1 x1 w s\nout 3\nend\n",
+            "accepted",
+        ),
+        (
+            "rup +1 x1 >= 1 ; 1\nout 2\npol 1 x1 w s\nend\n",
+            "6: ClausesLeft",
+        ),
+        (
+            "rup +1 x1 >= 1 ; 1\nout 2\ndel 1\npol 1 x1 w s\nout 3\nend\n",
+            "6: UnknownId { id: 1 }",
+        ),
+        (
+            "rup +1 x1 >= 1 ; 1\nout 2\npol 1 x1 w s\nout 3\ndel 2\nend\n",
+            "7: OutDeleted { id: 2 }",
+        ),
+        (
+            "rup +1 x1 >= 1 ; 1\nout 2\npol 1 x1 w s\nout 3\n",
+            "PROOF 7:1: step word",
+        ),
+    ];
+    for (steps, expected) in cases {
+        let found = weighted(rt.alloc(), steps);
+        assert_eq!(rt; found.as_deref(), Some(expected), "at {steps}");
+    }
+    Ok(())
+}
+
+// A denied step before many lines that say nothing, over a desk whose call of this number fails.
+fn denied_where(alloc: Global, call: u64) -> Option<String> {
+    let mut proof = String::new(alloc);
+    proof
+        .push_str("pseudo-Boolean derivation profile 1\nf 2\nred +1 x1 >= 1 ; x1 -> 1\n")
+        .ok()?;
+    for _ in 0..1000 {
+        proof.push_str("*\n").ok()?;
+    }
+    let fails = Ids::from_vec(vec![in alloc; call].ok()?);
+    let mut desk = desk_with(alloc, TWO_CLAUSES, proof.as_str(), fails)?;
+    answer(alloc, EQUATION, &mut desk)
+}
+
+#[test]
+fn nothing_is_read_behind_a_denied_step(rt: HostRuntime) -> Result<(), Fail> {
+    let found = denied_where(rt.alloc(), 100);
+    let expected = "3: SetsOriginal { var: Var { index: 1 } }";
+    assert_eq!(rt; found.as_deref(), Some(expected));
+    for call in 1..10 {
+        let found = denied_where(rt.alloc(), call);
+        assert_eq!(rt; found.as_deref(), Some("ReadFault"), "call {call}");
+    }
+    Ok(())
+}

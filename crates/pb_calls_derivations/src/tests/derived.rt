@@ -1,0 +1,177 @@
+// Derivations that families make, checked beside their clauses.
+use super::changed_lines::report;
+use super::checking::is_accepted;
+use super::files::{Kind, Sum, made};
+use std::alloc::Global;
+use std::test::Fail;
+
+const THREE: &str = "-1 x1 -1 x2 -1 x3 >= -1 ;";
+
+const FOUR: &str = "+1 ~x1 +1 ~x2 +1 ~x3 +1 ~x4 >= 2 ;";
+
+const SIX: &str = "+1 ~x1 +1 ~x2 +1 ~x3 +1 ~x4 +1 ~x5 +1 ~x6 >= 5 ;";
+
+const NINE: &str = "+1 ~x1 +1 ~x2 +1 ~x3 +1 ~x4 +1 ~x5 +1 ~x6 +1 ~x7 +1 ~x8 +1 ~x9 >= 8 ;";
+
+// At most three of five.
+const FIVE: &str = "+1 x1 +1 ~x2 +1 x3 +1 ~x4 +1 x5 >= 2 ;";
+
+// At most 5 of 9.
+const FALLING: &str = "+4 ~x1 +3 ~x2 +2 ~x3 >= 4 ;";
+
+// At most 8 of 15: two residues meet.
+const MEETING: &str = "+5 ~x1 +4 ~x2 +3 ~x3 +3 ~x4 >= 7 ;";
+
+// At most 6 of 12, with terms in no order and signs of both kinds.
+const MIXED: &str = "+1 ~x1 +5 ~x2 +2 x3 +4 ~x4 >= 6 ;";
+
+// Coefficients that add up to more than 2^99.
+const GREAT: &str = "+300000000000000000000000000001 ~x1 +300000000000000000000000000000 ~x2 \
++299999999999999999999999999999 ~x3 >= 300000000000000000000000000001 ;";
+
+// At most 12 of 29: a literal is the last bit of two levels.
+const EIGHTS: &str = "+8 ~x1 +8 ~x2 +8 ~x3 +5 ~x4 >= 17 ;";
+
+// At most 2 of 4.
+const NEAR: &str = "+1 x1 +2 ~x2 +1 x3 >= 2 ;";
+
+fn proof_of(alloc: Global, kind: Kind, sum: Sum) -> Option<String> {
+    Some(made(alloc, kind, sum)?.proof)
+}
+
+#[test]
+fn three_in_pairs_are_derived(rt: HostRuntime) -> Result<(), Fail> {
+    let sum = Sum {
+        opb: THREE,
+        first: 4,
+        loaded: 1,
+    };
+    let found = proof_of(rt.alloc(), Kind::Pairs, sum);
+    let expected = "pseudo-Boolean derivation profile 1\nf 1\nrup +1 ~x1 +1 ~x2 >= 1 ; 1\nout 2\n\
+rup +1 ~x1 +1 ~x3 >= 1 ; 1\nout 3\nrup +1 ~x2 +1 ~x3 >= 1 ; 1\nout 4\nend\n";
+    assert_eq!(rt; found.as_deref(), Some(expected));
+    Ok(())
+}
+
+// What is told of a derivation without other statements.
+fn report_of(alloc: Global, kind: Kind, opb: &str, first: u32) -> Option<String> {
+    let sum = Sum {
+        opb,
+        first,
+        loaded: 1,
+    };
+    report(alloc, kind, sum)
+}
+
+// The number of lines, and then how many of them may be left out (those that delete), be empty (these, and constraints of which no
+// clause has need), give way to the sum (at most one implies each clause of two of its literals), or to what was put out before
+// (a unit implies a clause with its literal).
+#[test]
+fn at_most_one_is_derived(rt: HostRuntime) -> Result<(), Fail> {
+    let cases = [
+        (Kind::Pairs, THREE, 4, "9: 0 0 3 0"),
+        (Kind::Ladder, THREE, 4, "19: 2 2 0 0"),
+        (Kind::Pairs, SIX, 7, "33: 0 0 15 0"),
+        (Kind::Ladder, SIX, 7, "46: 5 5 0 0"),
+        (Kind::Grid, SIX, 7, "54: 7 6 0 0"),
+    ];
+    for (kind, opb, first, expected) in cases {
+        let found = report_of(rt.alloc(), kind, opb, first);
+        assert_eq!(rt; found.as_deref(), Some(expected), "{kind:?} at {opb}");
+    }
+    Ok(())
+}
+
+#[test]
+fn counts_are_derived(rt: HostRuntime) -> Result<(), Fail> {
+    let cases = [
+        (Kind::Counter, FOUR, 5, "47: 6 8 0 1"),
+        (Kind::Totalizer, FOUR, 5, "52: 7 9 0 0"),
+        (Kind::Totalizer, FIVE, 6, "80: 11 14 0 0"),
+    ];
+    for (kind, opb, first, expected) in cases {
+        let found = report_of(rt.alloc(), kind, opb, first);
+        assert_eq!(rt; found.as_deref(), Some(expected), "{kind:?} at {opb}");
+    }
+    Ok(())
+}
+
+#[test]
+fn diagrams_are_derived(rt: HostRuntime) -> Result<(), Fail> {
+    let cases = [
+        (FALLING, 4, "22: 3 3 0 0"),
+        (MEETING, 5, "34: 5 5 0 0"),
+        (MIXED, 5, "39: 6 6 0 0"),
+        (GREAT, 4, "22: 3 3 0 0"),
+        (NEAR, 4, "22: 3 3 0 0"),
+    ];
+    for (opb, first, expected) in cases {
+        let found = report_of(rt.alloc(), Kind::Diagram, opb, first);
+        assert_eq!(rt; found.as_deref(), Some(expected), "{opb}");
+    }
+    Ok(())
+}
+
+// No clause has need of what an output of the root below the last one means where it is true.
+#[test]
+fn trees_are_derived(rt: HostRuntime) -> Result<(), Fail> {
+    let cases = [
+        (FALLING, 4, "49: 8 12 0 0"),
+        (GREAT, 4, "49: 8 12 0 0"),
+        (NEAR, 4, "36: 5 7 0 0"),
+    ];
+    for (opb, first, expected) in cases {
+        let found = report_of(rt.alloc(), Kind::Tree, opb, first);
+        assert_eq!(rt; found.as_deref(), Some(expected), "{opb}");
+    }
+    Ok(())
+}
+
+// A running sum is deleted once the next one stands, and no other line may take an id there. At most one implies each clause of two
+// of its literals and others.
+#[test]
+fn adders_are_derived(rt: HostRuntime) -> Result<(), Fail> {
+    let cases = [(FALLING, 4, "51: 6 5 0 0"), (THREE, 4, "41: 3 3 7 0")];
+    for (opb, first, expected) in cases {
+        let found = report_of(rt.alloc(), Kind::Adder, opb, first);
+        assert_eq!(rt; found.as_deref(), Some(expected), "{opb}");
+    }
+    Ok(())
+}
+
+// Whether a family derives what the second of two statements leaves, with fresh variables from 20 on.
+fn is_second_derived(alloc: Global, kind: Kind, opb: &str) -> Option<bool> {
+    let sum = Sum {
+        opb,
+        first: 20,
+        loaded: 2,
+    };
+    let files = made(alloc, kind, sum)?;
+    let problem = format!(in alloc; "+3 x1 +2 x2 +1 x3 +1 x7 >= 2 ;\n{opb}\n").ok()?;
+    is_accepted(
+        alloc,
+        problem.as_str(),
+        files.cnf.as_str(),
+        files.proof.as_str(),
+    )
+}
+
+#[test]
+fn a_second_statement_is_derived(rt: HostRuntime) -> Result<(), Fail> {
+    let cases = [
+        (Kind::Pairs, NINE),
+        (Kind::Ladder, NINE),
+        (Kind::Grid, NINE),
+        (Kind::Counter, FIVE),
+        (Kind::Totalizer, FIVE),
+        (Kind::Tree, MIXED),
+        (Kind::Diagram, MIXED),
+        (Kind::Adder, MIXED),
+        (Kind::Adder, EIGHTS),
+    ];
+    for (kind, opb) in cases {
+        let found = is_second_derived(rt.alloc(), kind, opb);
+        assert!(rt; found == Some(true), "{kind:?} at {opb}");
+    }
+    Ok(())
+}

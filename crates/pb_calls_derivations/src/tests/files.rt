@@ -1,0 +1,163 @@
+// The texts that families make of what a statement leaves: a CNF, and its derivation.
+ghost use Rattle.std.specs.Prelude.{◌≤◌, ◌<◌, ◌^◌};
+ghost use Rattle.pb_family.specs.Families.{VarsBelow};
+
+use pb_adder::Adder;
+use pb_amo::{Ladder, Pairwise, ProductGrid};
+use pb_counter::Counter;
+use pb_diagram::Diagram;
+use pb_family::{Built, Derive, Family, StepTextSink, TextSink, are_below, are_ones, is_light};
+use pb_gentot::Weighted;
+use pb_norm::AtMost;
+use pb_samples::at_most;
+use pb_totalizer::Totalizer;
+use std::alloc::Global;
+
+/// The texts of a CNF and of its derivation.
+#[derive(Drop)]
+pub struct Files {
+    pub cnf: String,
+    pub proof: String,
+}
+
+/// A statement, the first fresh variable, and how many constraints are loaded, of which the statement's is the last.
+#[derive(Clone, Copy)]
+pub struct Sum<'a> {
+    pub opb: &'a str,
+    pub first: u32,
+    pub loaded: u64,
+}
+
+// The clauses of a family behind a p line.
+fn cnf_text<F: Family>(alloc: Global, family: &F, first: u32) -> Option<String>
+    requires { VarsBelow first (F.constraint family.now).terms }
+{
+    let fresh = family.fresh();
+    if first < 1 || first > 1000 || fresh > 1000 {
+        return None;
+    }
+    let mut sink = TextSink::new(alloc);
+    family.emit(alloc, first, &mut sink).ok()?;
+    let lines = str::from_utf8(sink.text()).ok()?;
+    let vars = u64::from(first) - 1 + fresh;
+    format!(in alloc; "p cnf {vars} {}\n{lines}", family.clauses()).ok()
+}
+
+// The steps of a family between the lines that stand before and behind them, where so many constraints stand.
+fn proof_text<F: Derive>(alloc: Global, family: &F, first: u32, loaded: u64) -> Option<String>
+    requires { VarsBelow first (F.Family.constraint family.now).terms }
+{
+    if first < 1 || first > 1000 || family.fresh() > 1000 || loaded < 1 || loaded > 1000 {
+        return None;
+    }
+    let mut sink = StepTextSink::new(alloc, loaded + 1);
+    family.derive(alloc, first, loaded, &mut sink).ok()?;
+    let lines = str::from_utf8(sink.text()).ok()?;
+    format!(in alloc; "pseudo-Boolean derivation profile 1\nf {loaded}\n{lines}end\n").ok()
+}
+
+fn files_of<F: Derive>(alloc: Global, family: &F, first: u32, loaded: u64) -> Option<Files>
+    requires { VarsBelow first (F.Family.constraint family.now).terms }
+{
+    let cnf = cnf_text(alloc, family, first)?;
+    let proof = proof_text(alloc, family, first, loaded)?;
+    Some(Files { cnf, proof })
+}
+
+/// A family.
+#[derive(Clone, Copy, Debug)]
+pub enum Kind {
+    Pairs,
+    Ladder,
+    Grid,
+    Counter,
+    Totalizer,
+    Tree,
+    Diagram,
+    Adder,
+}
+
+fn pairs(alloc: Global, of: &AtMost, first: u32, loaded: u64) -> Option<Files> {
+    if of.bound() != 1 || !are_ones(of.terms()) || !are_below(of.terms(), first) {
+        return None;
+    }
+    files_of(alloc, &Pairwise::over(of), first, loaded)
+}
+
+fn ladder(alloc: Global, of: &AtMost, first: u32, loaded: u64) -> Option<Files> {
+    if of.bound() != 1 || !are_ones(of.terms()) || !are_below(of.terms(), first) {
+        return None;
+    }
+    if of.terms().len() < 3 {
+        return None;
+    }
+    files_of(alloc, &Ladder::over(of), first, loaded)
+}
+
+fn grid(alloc: Global, of: &AtMost, first: u32, loaded: u64) -> Option<Files> {
+    if of.bound() != 1 || !are_ones(of.terms()) || !are_below(of.terms(), first) {
+        return None;
+    }
+    files_of(alloc, &ProductGrid::over(of), first, loaded)
+}
+
+fn counter(alloc: Global, of: &AtMost, first: u32, loaded: u64) -> Option<Files> {
+    if !are_ones(of.terms()) || !are_below(of.terms(), first) {
+        return None;
+    }
+    files_of(alloc, &Counter::over(of), first, loaded)
+}
+
+fn totalizer(alloc: Global, of: &AtMost, first: u32, loaded: u64) -> Option<Files> {
+    if !are_ones(of.terms()) || !are_below(of.terms(), first) {
+        return None;
+    }
+    match Totalizer::build(alloc, of, 1000).ok()? {
+        Built::Fits(totalizer) => files_of(alloc, &totalizer, first, loaded),
+        Built::Over => None,
+    }
+}
+
+fn tree(alloc: Global, of: &AtMost, first: u32, loaded: u64) -> Option<Files> {
+    if !is_light(of) || !are_below(of.terms(), first) {
+        return None;
+    }
+    match Weighted::build(alloc, of, 1000).ok()? {
+        Built::Fits(tree) => files_of(alloc, &tree, first, loaded),
+        Built::Over => None,
+    }
+}
+
+fn diagram(alloc: Global, of: &AtMost, first: u32, loaded: u64) -> Option<Files> {
+    if !is_light(of) || !are_below(of.terms(), first) {
+        return None;
+    }
+    match Diagram::build(alloc, of, 1000).ok()? {
+        Built::Fits(diagram) => files_of(alloc, &diagram, first, loaded),
+        Built::Over => None,
+    }
+}
+
+fn adder(alloc: Global, of: &AtMost, first: u32, loaded: u64) -> Option<Files> {
+    if !is_light(of) || !are_below(of.terms(), first) {
+        return None;
+    }
+    files_of(alloc, &Adder::build(alloc, of).ok()?, first, loaded)
+}
+
+/// The files of what a statement leaves.
+pub fn made(alloc: Global, kind: Kind, sum: Sum) -> Option<Files> {
+    let of = at_most(alloc, sum.opb)?;
+    let first = sum.first;
+    let loaded = sum.loaded;
+    match kind {
+        Kind::Pairs => pairs(alloc, &of, first, loaded),
+        Kind::Ladder => ladder(alloc, &of, first, loaded),
+        Kind::Grid => grid(alloc, &of, first, loaded),
+        Kind::Counter => counter(alloc, &of, first, loaded),
+        Kind::Totalizer => totalizer(alloc, &of, first, loaded),
+        Kind::Tree => tree(alloc, &of, first, loaded),
+        Kind::Diagram => diagram(alloc, &of, first, loaded),
+        Kind::Adder => adder(alloc, &of, first, loaded),
+    }
+}

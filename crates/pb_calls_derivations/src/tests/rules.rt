@@ -1,0 +1,130 @@
+// Steps that are applied one by one, by hand from the rules.
+ghost use Rattle.std.specs.Prelude.{◌≡◌};
+ghost use Rattle.pb_base.specs.Problems.{IsWithinLimits};
+ghost use Rattle.pb_norm.specs.Halves.{loaded_of};
+ghost use Rattle.pb_steps.specs.Steps.{IsRule, IsSpelled};
+
+use pb_base::{Clause, Problem};
+use pb_norm::{Linears, load};
+use pb_opb::read_opb;
+use pb_rules::{Database, RuleFault};
+use pb_samples::lits;
+use pb_steps::{Step, read_step};
+use std::alloc::Global;
+use std::test::Fail;
+
+// Loaded constraints, beside fresh variables up to a number.
+fn database_with(alloc: Global, problem: &Problem, loaded: &Linears, vars: u32) -> Option<Database>
+    requires within { IsWithinLimits problem.now }
+    requires loaded { loaded.now ≡ loaded_of problem.now }
+{
+    if problem.originals() > vars {
+        return None;
+    }
+    Database::new(alloc, problem.originals(), vars, loaded.as_slice()).ok()
+}
+
+// The constraints of a text, beside fresh variables up to a number.
+fn database_of(alloc: Global, opb: &str, vars: u32) -> Option<Database> {
+    let problem = read_opb(alloc, opb.as_bytes()).ok()?;
+    let loaded = load(alloc, &problem).ok()?;
+    database_with(alloc, &problem, &loaded, vars)
+}
+
+// What is answered, or why the step is not allowed.
+fn answer(alloc: Global, db: &mut Database, step: &Step, next: Option<&Clause>) -> Option<String>
+    requires rule { IsRule step.now }
+    requires spelled { IsSpelled step.now }
+{
+    match db.apply(step, next) {
+        Ok(applied) => format!(in alloc; "{applied:?}").ok(),
+        Err(RuleFault::Denied(denied)) => format!(in alloc; "{denied:?}").ok(),
+        Err(RuleFault::NoMemory) => None,
+    }
+}
+
+// The same of a line, where no clause is left if its text is empty.
+fn line_answer(alloc: Global, db: &mut Database, line: &str, clause: &str) -> Option<String> {
+    let step = read_step(alloc, line.as_bytes()).ok()?;
+    let next = Clause::from_vec(lits(alloc, clause)?);
+    let next = if next.len() > 0 { Some(&next) } else { None };
+    match step {
+        Step::Blank | Step::Head | Step::Loaded { .. } | Step::End => None,
+        _ => answer(alloc, db, &step, next),
+    }
+}
+
+// The answers to lines, one after another.
+fn answers(alloc: Global, db: &mut Database, lines: &[(&str, &str)]) -> Option<String> {
+    let mut text = String::new(alloc);
+    for (line, clause) in lines {
+        let found = line_answer(alloc, db, line, clause)?;
+        text.push_str(found.as_str()).ok()?;
+        text.push('\n').ok()?;
+    }
+    Some(text)
+}
+
+// One weighted constraint and a fresh variable, and what is answered to each of some lines.
+fn answers_of(alloc: Global, lines: &[(&str, &str)]) -> Option<String> {
+    let mut db = database_of(alloc, "+5 x1 +3 x2 +2 x3 >= 6 ;", 4)?;
+    answers(alloc, &mut db, lines)
+}
+
+#[test]
+fn steps_are_allowed_or_denied(rt: HostRuntime) -> Result<(), Fail> {
+    let lines = [
+        ("rup +1 x1 >= 1 ; 1", ""),
+        ("rup +1 x2 >= 1 ; 1", ""),
+        ("pol 1 x1 w s", ""),
+        ("pol 1 +", ""),
+        ("pol 1 7 +", ""),
+        ("red +1 ~x4 +1 x2 >= 1 ; x4 -> 0", ""),
+        ("red +1 x4 +1 ~x2 >= 1 ; x4 -> 1", ""),
+        ("red +1 x4 >= 1 ; x4 -> 1", ""),
+        ("red +1 x1 >= 1 ; x1 -> 1", ""),
+        ("out 2", "x1"),
+        ("out 3", "x1"),
+        ("out 3", "x2 x3"),
+        ("out 3", ""),
+        ("del 1 1", ""),
+        ("del 1 2", ""),
+        ("del 1 4", ""),
+        ("rup >= 0 ; 1", ""),
+        ("rup +1 x5 >= 0 ;", ""),
+    ];
+    let found = answers_of(rt.alloc(), &lines);
+    let expected = "Id(2)\nNotPropagated\nId(3)\nStack\nUnknownId { id: 7 }\nId(4)\nId(5)\n\
+Obligation { id: 4 }\nSetsOriginal { var: Var { index: 1 } }\nDone\nNotImplied { id: 3 }\nDone\n\
+NoClause\nUnknownId { id: 1 }\nOutDeleted { id: 2 }\nDone\nUnknownId { id: 1 }\n\
+UnknownVar { var: Var { index: 5 } }\n";
+    assert_eq!(rt; found.as_deref(), Some(expected));
+    Ok(())
+}
+
+// For each literal the least id, from a number on, of a constraint that has its variable.
+fn first_ids(alloc: Global, db: &Database, names: &str, from: u64) -> Option<String> {
+    let mut text = String::new(alloc);
+    for lit in lits(alloc, names)? {
+        let found = format!(in alloc; "{:?} ", db.naming(lit.var, from)).ok()?;
+        text.push_str(found.as_str()).ok()?;
+    }
+    Some(text)
+}
+
+// The same of three constraints, of which the first is taken away.
+fn first_ids_of(alloc: Global, names: &str, from: u64) -> Option<String> {
+    let opb = "+1 x1 +1 x2 >= 1 ; +2 ~x2 +1 x3 >= 2 ; +1 ~x3 +1 x2 >= 1 ;";
+    let mut db = database_of(alloc, opb, 4)?;
+    answers(alloc, &mut db, &[("del 1", "")])?;
+    first_ids(alloc, &db, names, from)
+}
+
+#[test]
+fn constraints_are_found_by_variables(rt: HostRuntime) -> Result<(), Fail> {
+    let all = first_ids_of(rt.alloc(), "x1 x2 x3 x4", 1);
+    assert_eq!(rt; all.as_deref(), Some("None Some(2) Some(2) None "));
+    let later = first_ids_of(rt.alloc(), "x2 x3", 3);
+    assert_eq!(rt; later.as_deref(), Some("Some(3) Some(3) "));
+    Ok(())
+}

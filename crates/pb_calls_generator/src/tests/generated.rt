@@ -1,0 +1,52 @@
+// The generator of problems, against a program of another language.
+use pb_gen::generate;
+use pb_opb::read_opb;
+use std::alloc::Global;
+use std::test::Fail;
+
+fn text_of(alloc: Global, n: u32, seed: u32) -> Option<String> {
+    let text = generate(alloc, n, seed).ok()?;
+    str::from_utf8(text.as_slice()).ok()?.to_string(alloc).ok()
+}
+
+#[test]
+fn small_problems(rt: HostRuntime) -> Result<(), Fail> {
+    let cases = [
+        (0, 5, "* #variable= 10 #constraint= 0\n"),
+        (
+            1,
+            0,
+            "* #variable= 11 #constraint= 1\n+1 ~x7 +1 x3 >= 1 ;\n",
+        ),
+        (
+            3,
+            7,
+            "* #variable= 13 #constraint= 3\n\
+             +1 ~x2 +5 x11 +8 ~x4 +17 ~x12 +12 ~x2 +20 x2 +15 ~x6 +16 ~x6 +2 ~x4 +5 x6 >= 26 ;\n\
+             +1 x3 +1 x13 +1 ~x12 +1 x10 +1 x11 +1 ~x7 +1 x9 +1 x12 >= 7 ;\n\
+             +17 x3 +2 x9 +15 ~x10 +3 x7 +17 x1 +17 ~x4 >= 40 ;\n",
+        ),
+        (
+            1,
+            4_294_967_295,
+            "* #variable= 11 #constraint= 1\n+16 ~x6 +5 x7 +15 x11 +18 x11 +15 x10 +10 ~x1 +2 x11 <= 19 ;\n",
+        ),
+    ];
+    for (n, seed, expected) in cases {
+        let found = text_of(rt.alloc(), n, seed);
+        assert_eq!(rt; found.as_deref(), Some(expected), "at {n} {seed}");
+    }
+    Ok(())
+}
+
+#[test]
+fn a_thousand_statements(rt: HostRuntime) -> Result<(), Fail> {
+    let text = generate(rt.alloc(), 1000, 7).expect(&rt, "generated");
+    let last =
+        "+9 ~x812 +5 ~x313 +10 x35 +13 ~x577 +17 ~x400 +18 ~x576 +12 ~x639 +9 x683 +9 x613 >= 34 ;\n";
+    assert_eq!(rt; text.len(), 63_646);
+    assert!(rt; text.as_slice().ends_with(last.as_bytes()), "the last line");
+    let problem = read_opb(rt.alloc(), text.as_slice()).expect(&rt, "read");
+    assert_eq!(rt; (problem.vars, problem.statements.len()), (1010, 1000));
+    Ok(())
+}
