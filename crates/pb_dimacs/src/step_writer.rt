@@ -18,7 +18,7 @@ pub struct StepWriter<'a, D: Desk> {
     slot: u8,
     outbox: &'a mut Outbox,
     alloc: Global,
-    line: Vec<u8>,
+    line: &'a mut Vec<u8>,
     next: u64,
     ghost is_slot: { slot < 2 },
     ghost is_open: { IsTrue ((D.state desk.now).view.writing slot) },
@@ -43,7 +43,7 @@ impl<'a, D: Desk> StepSink for StepWriter<'a, D> {
         ensures lacking { result ≡ Err fault.NoMemory → ⟦<StepWriter<'a, D> as StepSink>⟧.state self.new ≡ ⟦<StepWriter<'a, D> as StepSink>⟧.state self.old }
     {
         self.line.clear();
-        write_step(self.alloc, step, &mut self.line)?;
+        write_step(self.alloc, step, self.line)?;
         put_text(self.desk, self.slot, self.outbox, self.line.as_slice())?;
         self.next = next_after(step, self.next);
         Ok(())
@@ -57,12 +57,14 @@ impl<'a, D: Desk> StepSink for StepWriter<'a, D> {
 impl<'a, D: Desk> StepWriter<'a, D> {
     ghost use Rattle.pb_dimacs.specs.Outboxes.{IsAllSent, held_in, slot_sink};
 
-    /// Takes steps for an open slot, behind what the outbox holds. The first step that takes an id gets this one.
+    /// Takes steps for an open slot, behind what the outbox holds. Each line is put together in the vector that is lent. The first
+    /// step that takes an id gets this one.
     pub fn new(
         alloc: Global,
         desk: &'a mut D,
         slot: u8,
         outbox: &'a mut Outbox,
+        line: &'a mut Vec<u8>,
         next: u64,
     ) -> StepWriter<'a, D>
         requires kind { slot < 2 }
@@ -75,7 +77,7 @@ impl<'a, D: Desk> StepWriter<'a, D> {
             slot,
             outbox,
             alloc,
-            line: Vec::new(alloc),
+            line,
             next,
         }
     }

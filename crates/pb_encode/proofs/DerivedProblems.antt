@@ -80,8 +80,8 @@ module _ (o : Options) (p : Problem) (within : IsWithinLimits p) (encodable : Is
   ready : All (IsReady o first) cs
   ready = loaded_ready o p within
 
-  light : All (IsLight o first) cs
-  light = light_each o first cs ready (loaded_small p.vars p.statements within.numbers within.sums)
+  pub loaded_light : All (IsLight o first) cs
+  loaded_light = light_each o first cs ready (loaded_small p.vars p.statements within.numbers within.sums)
 
   pub loaded_count : n ≤ 2 ^ 25 + 2
   loaded_count = omega (arith, length-loaded p.statements, within.count)
@@ -90,7 +90,7 @@ module _ (o : Options) (p : Problem) (within : IsWithinLimits p) (encodable : Is
   few_fresh = omega (arith, encodable.vars)
 
   few_between : length between ≤ 8 * (fresh_total o cs + clause_total o cs) + 4 * n
-  few_between = all-few o first first 1 cs (n + 1) light
+  few_between = all-few o first first 1 cs (n + 1) loaded_light
 
   -- there are ids for all steps
   pub loaded_leave : LeavesIds (steps_from o first 1 cs) (n + 1)
@@ -122,7 +122,7 @@ module _ (o : Options) (p : Problem) (within : IsWithinLimits p) (encodable : Is
 
   pub problem_derived : IsDerived o p
   problem_derived =
-      let run = all-run o first first 1 cs (record { original = originals p; vars = problem_vars o p; live = _; next = n + 1 }) (omega arith) light (record {
+      let run = all-run o first first 1 cs (record { original = originals p; vars = problem_vars o p; live = _; next = n + 1 }) (omega arith) loaded_light (record {
         original = omega arith;
         vars = omega arith;
         numbered = loaded_numbered (originals p) (problem_vars o p) cs;
@@ -130,7 +130,7 @@ module _ (o : Options) (p : Problem) (within : IsWithinLimits p) (encodable : Is
         known = omega arith;
         unnamed = λ v low. loaded_unnamed (originals p) (problem_vars o p) cs o first v low ready;
       }) in
-      let said = all-said o first first 1 cs (n + 1) light (omega arith) (omega arith) (omega (arith, encodable.vars)) (omega (arith, encodable.clauses)) (omega arith) (omega arith) loaded_leave in
+      let said = all-said o first first 1 cs (n + 1) loaded_light (omega arith) (omega arith) (omega (arith, encodable.vars)) (omega (arith, encodable.clauses)) (omega arith) (omega arith) loaded_leave in
       let rest : List Step = between ++ End ∷ [] in
       let sayable : All IsSayable (problem_steps o p) = All-append IsSayable (Head ∷ Loaded n ∷ []) rest before_sayable (All-append IsSayable between (End ∷ []) said.sayable after_sayable) in
       let each : All Fits (problem_steps o p) = All-append Fits (Head ∷ Loaded n ∷ []) rest before_short (All-append Fits between (End ∷ []) said.each after_short) in

@@ -1,6 +1,8 @@
 pub mod ChoiceLaws
+pub mod CnfTexts
 pub mod CountingLoops
 pub mod DerivedProblems
+pub mod EncodedFiles
 pub mod HalfTerms
 pub mod HalfWeights
 pub mod Headers

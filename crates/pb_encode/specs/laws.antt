@@ -1,3 +1,4 @@
+pub mod Files
 pub mod Sending
 pub mod Streams
 pub mod Tallies

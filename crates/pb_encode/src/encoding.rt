@@ -1,13 +1,15 @@
-//! A problem's CNF file.
-ghost use Rattle.std.specs.Prelude.{◌≡◌, ◌≤◌, false, Err, OnOk, IfOk, IfErr, IsTrue};
+//! A problem's files: the CNF, and the derivation of its clauses.
+ghost use Rattle.std.specs.Prelude.{◌≡◌, ◌≤◌, false, Err, OnOk, IfOk, IfErr, IsSome, IsTrue};
 ghost use Rattle.pb_base.specs.declared.limit.LimitKind.{LimitKind};
 ghost use Rattle.pb_base.specs.Problems.{IsWithinLimits};
 ghost use Rattle.pb_desk.specs.View.{wrote};
 ghost use Rattle.pb_desk.specs.Desk.{IsSteady, Reaches, written};
-ghost use Rattle.pb_encode.specs.Encodings.{made, problem_text, IsCutOff, Refuses, LacksForFile, WantsMemory};
+ghost use Rattle.pb_encode.specs.Encodings.{made, made_files, names_of, problem_text, IsCutOff, Lacks, Refuses, WantsMemory};
+ghost use Rattle.pb_encode.specs.laws.Files.{IsCnfCutOff, LacksForCnf, WantsForCnf};
 ghost use Rattle.pb_encode.specs.laws.Sending.{LacksFor, Stops};
 ghost use Rattle.pb_encode.specs.Summaries.{summary_of, IsEncodable};
 
+use crate::derivation_file::encode_steps;
 use crate::fault::EncodeFault;
 use crate::measuring::measure;
 use crate::streaming::stream_clauses;
@@ -32,8 +34,8 @@ fn write_cnf<D: Desk>(
     requires summary { summary.now ≡ summary_of options.now problem.now }
     requires open { IsTrue ((D.state desk.old).view.writing 0) }
     ensures written { OnOk result (Reaches (wrote 0 (problem_text options.now problem.now)) (D.state desk.old) (D.state desk.new)) }
-    ensures stopped { IfErr result (Stops (problem_text options.now problem.now) (D.state desk.old) (D.state desk.new)) }
-    ensures steady { IsSteady (D.state desk.old) → result ≡ Err EncodeFault.WriteFault → LacksFor (problem_text options.now problem.now) (D.state desk.old) }
+    ensures stopped { IfErr result (Stops 0 (problem_text options.now problem.now) (D.state desk.old) (D.state desk.new)) }
+    ensures steady { IsSteady (D.state desk.old) → result ≡ Err EncodeFault.WriteFault → LacksFor 0 (problem_text options.now problem.now) (D.state desk.old) }
 {
     let mut outbox = Outbox::new(alloc)?;
     let mut writer = ClauseWriter::new(desk, 0, &mut outbox);
@@ -43,9 +45,9 @@ fn write_cnf<D: Desk>(
     Ok(())
 }
 
-/// Writes the CNF of a problem to a new file in slot 0. The size is taken before the file is made, so that a problem
-/// which is not encoded makes none.
-pub fn encode<D: Desk>(
+// Writes the CNF of a problem to a new file in slot 0. The size is taken before the file is made, so that a problem which is not
+// encoded makes none.
+fn encode_cnf<D: Desk>(
     alloc: Global,
     problem: &Problem,
     options: &Options,
@@ -58,16 +60,54 @@ pub fn encode<D: Desk>(
 
     ensures summary { IfOk result (λ summary. summary ≡ summary_of options.now problem.now) }
     ensures encodable { OnOk result (IsEncodable options.now problem.now) }
-    ensures made { OnOk result (Reaches (made name.now (problem_text options.now problem.now)) (D.state desk.old) (D.state desk.new)) }
+    ensures made { OnOk result (Reaches (made 0 name.now (problem_text options.now problem.now)) (D.state desk.old) (D.state desk.new)) }
 
     ensures limit { (k : LimitKind) → result ≡ Err (EncodeFault.Limit k) → Refuses k options.now problem.now (D.state desk.old) (D.state desk.new) }
-    ensures write_fault { result ≡ Err EncodeFault.WriteFault → IsCutOff options.now problem.now name.now (D.state desk.old) (D.state desk.new) }
-    ensures no_memory { result ≡ Err EncodeFault.NoMemory → WantsMemory options.now problem.now name.now (D.state desk.old) (D.state desk.new) }
-    ensures steady { IsSteady (D.state desk.old) → result ≡ Err EncodeFault.WriteFault → LacksForFile options.now problem.now name.now (D.state desk.old) }
+    ensures write_fault { result ≡ Err EncodeFault.WriteFault → IsCnfCutOff options.now problem.now name.now (D.state desk.old) (D.state desk.new) }
+    ensures no_memory { result ≡ Err EncodeFault.NoMemory → WantsForCnf options.now problem.now name.now (D.state desk.old) (D.state desk.new) }
+    ensures steady { IsSteady (D.state desk.old) → result ≡ Err EncodeFault.WriteFault → LacksForCnf options.now problem.now name.now (D.state desk.old) }
 {
     let summary = measure(alloc, problem, options)?;
     desk.create(0, name)?;
     write_cnf(alloc, problem, options, &summary, desk)?;
     desk.close(0)?;
+    Ok(summary)
+}
+
+/// The names of the files that are made.
+#[derive(Clone, Copy, PartialEq, Eq, Debug)]
+pub struct Names<'a> {
+    pub cnf: &'a str,
+    /// The derivation's file, if one is wanted.
+    pub proof: Option<&'a str>,
+}
+
+/// Writes the CNF of a problem to a new file in slot 0, and then, if it has a name, the derivation of its clauses to one in
+/// slot 1. Of the two files no more than one is open at a time.
+pub fn encode<D: Desk>(
+    alloc: Global,
+    problem: &Problem,
+    options: &Options,
+    names: &Names<'_>,
+    desk: &mut D,
+) -> Result<Summary, EncodeFault>
+    requires within { IsWithinLimits problem.now }
+    requires modest { options.now.budget ≤ 10000000 }
+    requires free { (D.state desk.old).view.writing 0 ≡ false }
+    requires free_proof { IsSome names.now.proof → (D.state desk.old).view.writing 1 ≡ false }
+
+    ensures summary { IfOk result (λ summary. summary ≡ summary_of options.now problem.now) }
+    ensures encodable { OnOk result (IsEncodable options.now problem.now) }
+    ensures made { OnOk result (Reaches (made_files options.now problem.now (names_of names.now)) (D.state desk.old) (D.state desk.new)) }
+
+    ensures limit { (k : LimitKind) → result ≡ Err (EncodeFault.Limit k) → Refuses k options.now problem.now (D.state desk.old) (D.state desk.new) }
+    ensures write_fault { result ≡ Err EncodeFault.WriteFault → IsCutOff options.now problem.now (names_of names.now) (D.state desk.old) (D.state desk.new) }
+    ensures no_memory { result ≡ Err EncodeFault.NoMemory → WantsMemory options.now problem.now (names_of names.now) (D.state desk.old) (D.state desk.new) }
+    ensures steady { IsSteady (D.state desk.old) → result ≡ Err EncodeFault.WriteFault → Lacks options.now problem.now (names_of names.now) (D.state desk.old) }
+{
+    let summary = encode_cnf(alloc, problem, options, names.cnf, desk)?;
+    if let Some(proof) = names.proof {
+        encode_steps(alloc, problem, options, proof, desk)?;
+    }
     Ok(summary)
 }

@@ -2,6 +2,7 @@
 #![tactic(auto)]
 
 mod derivation;
+mod derivation_file;
 mod derived;
 mod encoding;
 mod fault;
@@ -12,8 +13,8 @@ mod summary;
 mod tally;
 
 pub use derivation::stream_steps;
-pub use derived::steps_derive_the_clauses;
-pub use encoding::encode;
+pub use derived::{cnf_tells_the_clauses, steps_derive_the_clauses};
+pub use encoding::{Names, encode};
 pub use fault::{EncodeFault, MeasureFault};
 pub use measuring::measure;
 pub use models::{clauses_force_what_constraints_do, clauses_have_the_solutions};

@@ -1,8 +1,11 @@
 mod benches;
 mod checks;
+mod decodes;
+mod derivations;
 mod encodes;
 mod faults;
 mod probes;
+mod proof_faults;
 mod refuses;
 mod words;
 

@@ -62,6 +62,8 @@ module _ (o : Owed) (a b d : DeskState) (goes : Goes nothing a b) where
   counts_after outcome.WriteFault counts = (counts.0 ∙ goes.reads, rose_later a.write_faults b.write_faults d.write_faults goes.writes counts.1)
   counts_after outcome.NoMemory counts = quiet_after counts
   counts_after (outcome.Rejected line denied) counts = quiet_after counts
+  counts_after (outcome.NotASolution statement) counts = quiet_after counts
+  counts_after outcome.NoModel counts = quiet_after counts
 
   lacks_text_was : LacksText o b → LacksText o a
   lacks_text_was lacks = (lacks.0, lacks.1, shelf_was a b goes (λ shelf. IsNone (shelf lacks.0.name)) lacks.2)

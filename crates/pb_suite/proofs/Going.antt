@@ -2,17 +2,15 @@
 use Rattle.std.proofs.Common.{◌≡◌, ◌∙◌, ℕ, Bool, true, false, List, [], ◌∷◌, ◌++◌, Option, Some, None, inl, inr, refl, sym, ap, subst}
 use Rattle.std.specs.Prelude.{◌==◌, ◌⊎◌, is_some, IfSome, IsSomeAnd}
 use Rattle.std.proofs.lemmas.List.{append-nil}
-use Rattle.std.proofs.lemmas.Bool.{eqb-true}
 use Rattle.pb_desk.specs.View.{Made, Told, View, opened, spoke}
 use Rattle.pb_desk.specs.Desk.{DeskState, HasSlot, IfTold, IsTold, Reaches, same}
+use Rattle.pb_desk.proofs.Steps.{begin}
 use Rattle.pb_desk.proofs.Tells.{told_by}
 use Rattle.pb_desk.specs.TwoSlots.{both_taken}
-use Rattle.pb_encode.specs.Encodings.{begun, made}
 use Rattle.pb_suite.specs.Obeying.{KeepsSlots}
 use Rattle.pb_suite.specs.Outputs.{nothing, Adds, IsMore, Output}
 use Rattle.pb_suite.specs.Owed.{Shelf}
-use Rattle.pb_suite.specs.OwedEncode.{file_of}
-use Rattle.pb_suite.specs.laws.Runs.{fetched, stored}
+use Rattle.pb_suite.specs.laws.Runs.{fetched}
 
 -- ---- what a change of the view adds
 
@@ -52,46 +50,6 @@ by_both_taken slot other n m = record { told = λ v t. more_of t _ refl refl ref
 pub by_words : (bytes : List ℕ) → AddsBy (record { made = []; said = bytes }) (spoke bytes)
 by_words bytes = record { told = λ v t. record { shelf = refl; made = refl; said = refl }; slots = λ v slot. inr refl; room = λ v. refl; steady = λ v. refl }
 
--- the slot of the file, or another
-first_or : {R : Type 0} (slot : ℕ) → ((slot == 0) ≡ false → R) → ((0 ≡ slot) ⊎ ⊥) ⊎ R
-first_or {R} slot other = by_test (slot == 0) refl
-  where
-    by_test : (found : Bool) → (slot == 0) ≡ found → ((0 ≡ slot) ⊎ ⊥) ⊎ R
-    by_test true is = inl (inl (sym (eqb-true slot 0 is)))
-    by_test false is = inr (other is)
-
-pub by_begun : (name bytes : List ℕ) → AddsBy (record { made = file_of name bytes ∷ []; said = [] }) (begun name bytes)
-by_begun name bytes = record {
-  told = λ v t. record { shelf = refl; made = refl; said = sym (append-nil t.said) };
-  slots = λ v slot. first_or slot (λ other. simp other);
-  room = λ v. refl;
-  steady = λ v. refl;
-}
-
-pub by_made : (name bytes : List ℕ) → AddsBy (record { made = file_of name bytes ∷ []; said = [] }) (made name bytes)
-by_made name bytes = record {
-  told = λ v t. record { shelf = refl; made = refl; said = sym (append-nil t.said) };
-  slots = λ v slot. first_or slot (λ other. simp other);
-  room = λ v. refl;
-  steady = λ v. refl;
-}
-
-pub by_stored : (name bytes said : List ℕ) → AddsBy (record { made = file_of name bytes ∷ []; said = said }) (stored name bytes said)
-by_stored name bytes said = record {
-  told = λ v t. record { shelf = refl; made = refl; said = refl };
-  slots = λ v slot. first_or slot (λ other. simp other);
-  room = λ v. refl;
-  steady = λ v. refl;
-}
-
--- a file that was made and ended leaves its slot as it was
-pub stored_keeps : (name bytes said : List ℕ) (a b : DeskState) → b.view ≡ stored name bytes said a.view → a.view.writing 0 ≡ false → KeepsSlots a b
-stored_keeps name bytes said a b is free slot = ap (λ (v : View). v.writing slot) is ∙ by_test (slot == 0) refl
-  where
-    by_test : (found : Bool) → (slot == 0) ≡ found → (stored name bytes said a.view).writing slot ≡ a.view.writing slot
-    by_test true at = let here : slot ≡ 0 = eqb-true slot 0 at in simp at (sym (ap a.view.writing here ∙ free))
-    by_test false at = simp at
-
 -- ---- a step that went well
 
 pub record Goes (out : Output) (a b : DeskState) : Type 0 where
@@ -107,6 +65,9 @@ goes_by out f a b by reached = record {
   reads = reached.reads;
   writes = reached.writes;
 }
+
+pub stays : (a : DeskState) → Goes nothing a a
+stays a = goes_by nothing same a a by_same (begin same a (λ v. refl))
 
 -- ---- what is told before and after a step that adds nothing
 

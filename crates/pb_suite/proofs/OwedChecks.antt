@@ -8,7 +8,6 @@ use Rattle.pb_base.specs.declared.problem.Problem.{Problem}
 use Rattle.pb_base.proofs.Members.{Contains-here, Contains-there}
 use Rattle.pb_desk.specs.View.{Told, View, opened, spoke}
 use Rattle.pb_desk.specs.Desk.{DeskState, FailsToRead, IfTold, IsSteady, IsTold, LacksRoom, Reaches, StopsIn, same, words}
-use Rattle.pb_opb.specs.Faults.{Reads}
 use Rattle.pb_steps.specs.declared.denied.Denied.{Denied}
 use Rattle.pb_check.specs.declared.verdict.CheckFault.{CheckFault}
 use Rattle.pb_check.specs.declared.verdict.CheckFault.TheVariants as fault
@@ -23,9 +22,10 @@ use Rattle.pb_suite.specs.declared.outcome.Outcome.TheVariants as outcome
 use Rattle.pb_suite.specs.Obeying.{Obeys}
 use Rattle.pb_suite.specs.Outputs.{nothing, only_words}
 use Rattle.pb_suite.specs.Owed.{HasKind, Text}
-use Rattle.pb_suite.specs.OwedCheck.{accepted_line, owed_check, IsJudged, IsPosed}
+use Rattle.pb_suite.specs.OwedCheck.{accepted_line, owed_check, IsJudged}
 use Rattle.pb_suite.specs.OwedCheck.StopsCheck.{token, limit, denial}
-use Rattle.pb_suite.specs.laws.Runs.{check_refusal, HasText}
+use Rattle.pb_suite.specs.Posed.{IsPosed}
+use Rattle.pb_suite.specs.laws.Runs.{check_refusal}
 use Rattle.pb_suite.proofs.Afterwards.{obeys_after}
 use Rattle.pb_suite.proofs.Endings.{bare_memory, is_refused, is_unread}
 use Rattle.pb_suite.proofs.Going.{by_both_taken, by_opened, by_same, goes_by, shelf_is_if, Goes}
@@ -55,12 +55,6 @@ module _ (w : CheckWords) where
   pub no_proof : (a b : DeskState) → FailsToRead same a b → (IsSteady a → IsTold a (λ t. IsNone (t.shelf w.proof))) → Obeys (owed_check w) a b outcome.ReadFault
   no_proof a b fails lacks = is_unread (owed_check w) a b same by_same fails (λ steady. (proof_text, has_proof_text, lacks steady))
 
--- a problem that was read
-pub posed_by : (w : CheckWords) (p : Problem) (a b : DeskState) → Goes nothing a b → HasText w.opb (λ text. Reads text p) a → IfTold b (λ t. IsPosed t.shelf w p)
-posed_by w p a b goes says =
-    shelf_is_if a b goes (λ shelf. IsPosed shelf w p)
-    (told_more a (λ t. (text : List ℕ) × (t.shelf w.opb ≡ Some text) × Reads text p) (λ t. IsPosed t.shelf w p) (λ t found. record { text = found.0; on_shelf = found.1; reads = found.2 }) says)
-
 -- both texts stand in their slots from their first bytes on
 pub record HasBoth (w : CheckWords) (t : Told) : Type 0 where
   pub cnf : t.shelf w.cnf ≡ Some (t.left 1)
@@ -85,14 +79,14 @@ have_both w a b d first second found_cnf found_proof =
     by_cases None cnf proof = tt
     by_cases (Some t) cnf proof = record { cnf = some_is (t.shelf w.cnf) cnf; proof = some_is (t.shelf w.proof) proof }
 
-module _ (w : CheckWords) (p : Problem) (d e : DeskState) (posed : IfTold d (λ t. IsPosed t.shelf w p)) (both : IfTold d (HasBoth w)) where
+module _ (w : CheckWords) (p : Problem) (d e : DeskState) (posed : IfTold d (λ t. IsPosed t.shelf w.opb p)) (both : IfTold d (HasBoth w)) where
   abbrev JudgedSo : Answer → Type 0
   JudgedSo answer = IfTold d (λ t. IsJudged t.shelf w answer)
 
   judged_so : (answer : Answer) → TakesBoth 1 2 (λ c q. Walk p c q answer) d e → JudgedSo answer
   judged_so answer takes = by_cases d.view.told posed both takes.texts
     where
-      by_cases : (told : Option Told) → IfSome told (λ t. IsPosed t.shelf w p) → IfSome told (HasBoth w) → IfSome told (λ t. Walk p (t.left 1) (t.left 2) answer) → IfSome told (λ t. IsJudged t.shelf w answer)
+      by_cases : (told : Option Told) → IfSome told (λ t. IsPosed t.shelf w.opb p) → IfSome told (HasBoth w) → IfSome told (λ t. Walk p (t.left 1) (t.left 2) answer) → IfSome told (λ t. IsJudged t.shelf w answer)
       by_cases None posed both walk = tt
       by_cases (Some t) posed both walk = record {
         problem = p;
@@ -137,7 +131,7 @@ module _ (w : CheckWords) (p : Problem) (d e : DeskState) (posed : IfTold d (λ 
 
 -- ---- from before the two files were opened
 
-module _ (w : CheckWords) (p : Problem) (a b d e : DeskState) (posed : IfTold a (λ t. IsPosed t.shelf w p)) (first : Reaches (opened 1 w.cnf) a b) (second : Reaches (opened 2 w.proof) b d)
+module _ (w : CheckWords) (p : Problem) (a b d e : DeskState) (posed : IfTold a (λ t. IsPosed t.shelf w.opb p)) (first : Reaches (opened 1 w.cnf) a b) (second : Reaches (opened 2 w.proof) b d)
     (found_cnf : IfTold a (λ t. IsSome (t.shelf w.cnf))) (found_proof : IfTold b (λ t. IsSome (t.shelf w.proof))) where
   first_goes : Goes nothing a b
   first_goes = goes_by nothing (opened 1 w.cnf) a b (by_opened 1 w.cnf) first
@@ -145,8 +139,8 @@ module _ (w : CheckWords) (p : Problem) (a b d e : DeskState) (posed : IfTold a 
   second_goes : Goes nothing b d
   second_goes = goes_by nothing (opened 2 w.proof) b d (by_opened 2 w.proof) second
 
-  still_posed : IfTold d (λ t. IsPosed t.shelf w p)
-  still_posed = shelf_is_if b d second_goes (λ shelf. IsPosed shelf w p) (shelf_is_if a b first_goes (λ shelf. IsPosed shelf w p) posed)
+  still_posed : IfTold d (λ t. IsPosed t.shelf w.opb p)
+  still_posed = shelf_is_if b d second_goes (λ shelf. IsPosed shelf w.opb p) (shelf_is_if a b first_goes (λ shelf. IsPosed shelf w.opb p) posed)
 
   both : IfTold d (HasBoth w)
   both = have_both w a b d first.view second.view found_cnf found_proof

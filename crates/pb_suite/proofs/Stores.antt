@@ -1,15 +1,20 @@
 -- How storing an encoding ends a command that owes it.
-use Rattle.std.proofs.Common.{◌≡◌, ℕ, List, [], ◌∷◌, None, take, inl, inr, refl, false}
-use Rattle.std.specs.Prelude.{IsSome}
+use Rattle.std.proofs.Common.{◌≡◌, ◌∙◌, ℕ, List, [], ◌∷◌, ◌++◌, Option, Some, None, take, length, inl, inr, refl, ap, sym, subst, false}
+use Rattle.std.proofs.Math.Seq.{take-length}
+use Rattle.std.specs.Prelude.{Contains, IsSome}
 use Rattle.pb_base.specs.declared.limit.LimitKind.{LimitKind}
 use Rattle.pb_base.specs.declared.problem.Problem.{Problem}
-use Rattle.pb_base.proofs.Members.{Contains-here}
-use Rattle.pb_desk.specs.Desk.{DeskState, IfTold, IsSteady, Reaches, same}
+use Rattle.pb_base.proofs.Members.{Contains-here, Contains-there}
+use Rattle.pb_desk.specs.View.{Made, View}
+use Rattle.pb_desk.specs.Desk.{DeskState, FailsToWrite, IfTold, IsSteady, Reaches, same}
+use Rattle.pb_desk.proofs.Steps.{then, then_fails_to_write}
 use Rattle.pb_choice.specs.declared.options.Options.{Options}
-use Rattle.pb_encode.specs.Encodings.{begun, made, problem_text}
+use Rattle.pb_encode.specs.Encodings.{begun, derivation_text, made, made_files, problem_text, AfterCnf, FileNames, Lacks, LacksToMake, LeavesPart, StopsEncoding, StopsMaking, WantsMemory}
+use Rattle.pb_encode.specs.Encodings.Lacks.{equal_names, for_cnf, for_proof}
 use Rattle.pb_encode.specs.Encodings.LacksToMake.{is_taken as making_taken, no_room as making_room}
+use Rattle.pb_encode.specs.Encodings.StopsEncoding.{in_cnf as stops_in_cnf, in_proof as stops_in_proof}
 use Rattle.pb_encode.specs.Encodings.StopsMaking.{not_made as making_not, in_text as making_in}
-use Rattle.pb_encode.specs.Encodings.WantsMemory.{not_made as wanting_not, in_text as wanting_in}
+use Rattle.pb_encode.specs.Encodings.WantsMemory.{not_made as wanting_not, in_cnf as wants_in_cnf, in_proof as wants_in_proof}
 use Rattle.pb_encode.specs.Summaries.{IsEncodable, IsOver}
 use Rattle.pb_suite.specs.declared.outcome.Outcome.{Outcome}
 use Rattle.pb_suite.specs.declared.outcome.Outcome.TheVariants as outcome
@@ -18,56 +23,105 @@ use Rattle.pb_suite.specs.Outputs.{nothing, IsPartOf, LacksFor, Output}
 use Rattle.pb_suite.specs.Outputs.IsPartOf.{of_file, of_words}
 use Rattle.pb_suite.specs.Outputs.LacksFor.{is_taken, no_room, no_words as no_word_room}
 use Rattle.pb_suite.specs.Owed.{LacksSpace, MayStand, Owed}
-use Rattle.pb_suite.specs.OwedEncode.{due_words, encoded_output, file_of}
-use Rattle.pb_suite.specs.laws.Runs.{stored, LacksToStore, StopsStoring}
+use Rattle.pb_suite.specs.OwedEncode.{due_words, encoded_output, file_of, proof_files}
+use Rattle.pb_suite.specs.laws.Runs.{stored, stored_whole, LacksToStore, StopsStoring}
 use Rattle.pb_suite.specs.laws.Runs.LacksToStore.{to_make, to_say}
 use Rattle.pb_suite.specs.laws.Runs.StopsStoring.{over as storing_over, not_made, in_words, no_memory, no_words}
 use Rattle.pb_suite.proofs.Endings.{all_done, bare_memory, is_refused, is_unwritten, wants_memory, always}
-use Rattle.pb_suite.proofs.Going.{by_begun, by_made, by_same, by_stored, goes_by, stored_keeps}
+use Rattle.pb_suite.proofs.Filing.{by_begun, by_begun_proof, by_files, by_made, by_stored, only_files, stored_keeps}
+use Rattle.pb_suite.proofs.Going.{by_same, goes_by}
 use Rattle.pb_suite.proofs.Texts.{is_told_so, told_more}
 
-module _ (o : Owed) (options : Options) (p : Problem) (name : List ℕ) (b d : DeskState) (tells : IsSteady b → IsSome b.view.told)
-    (due : IsEncodable options p → IfTold b (λ t. o.done t.shelf (encoded_output name options p))) (stops : (which : LimitKind) → IsOver which options p → IfTold b (λ t. o.stops t.shelf (outcome.Limit None which None))) where
+module _ (o : Owed) (options : Options) (p : Problem) (names : FileNames) (b d : DeskState) (tells : IsSteady b → IsSome b.view.told) (others : names.proof ≡ Some names.cnf → ⊥)
+    (due : IsEncodable options p → IfTold b (λ t. o.done t.shelf (encoded_output names options p))) (stops : (which : LimitKind) → IsOver which options p → IfTold b (λ t. o.stops t.shelf (outcome.Limit None which None))) where
+  abbrev name : List ℕ
+  name = names.cnf
+
   abbrev cnf : List ℕ
   cnf = problem_text options p
+
+  abbrev derivation : List ℕ
+  derivation = derivation_text options p
 
   abbrev summary : List ℕ
   summary = due_words options p
 
   abbrev whole : Output
-  whole = encoded_output name options p
+  whole = encoded_output names options p
 
-  abbrev only_file : List ℕ → Output
-  only_file bytes = record { made = file_of name bytes ∷ []; said = [] }
+  -- ---- first parts
 
   part_of : (out : Output) → IsPartOf whole out → IsEncodable options p → IfTold b (λ t. MayStand o t.shelf out)
   part_of out is_part is = told_more b (λ t. o.done t.shelf whole) (λ t. MayStand o t.shelf out) (λ t holds. inr (whole, holds, is_part)) (due is)
 
-  file_part : (n : ℕ) → IsEncodable options p → IfTold b (λ t. MayStand o t.shelf (only_file (take n cnf)))
-  file_part n is = part_of (only_file (take n cnf)) (of_file [] (file_of name cnf) [] n refl) is
+  cnf_part : (n : ℕ) → IsEncodable options p → IfTold b (λ t. MayStand o t.shelf (only_files name (take n cnf) None []))
+  cnf_part n is = part_of (only_files name (take n cnf) None []) (of_file (proof_files names.proof derivation) (file_of 0 name cnf) [] n refl) is
 
-  words_part : (n : ℕ) → IsEncodable options p → IfTold b (λ t. MayStand o t.shelf (record { made = file_of name cnf ∷ []; said = take n summary }))
-  words_part n is = part_of (record { made = file_of name cnf ∷ []; said = take n summary }) (of_words n) is
+  cnf_whole : IsEncodable options p → IfTold b (λ t. MayStand o t.shelf (only_files name cnf None []))
+  cnf_whole is = subst (λ (bytes : List ℕ). IfTold b (λ t. MayStand o t.shelf (only_files name bytes None []))) (take-length cnf) (cnf_part (length cnf) is)
+
+  proof_part : (proof : List ℕ) (n : ℕ) → names.proof ≡ Some proof → IsEncodable options p → IfTold b (λ t. MayStand o t.shelf (only_files name cnf (Some proof) (take n derivation)))
+  proof_part proof n named is =
+      part_of (only_files name cnf (Some proof) (take n derivation))
+      (of_file [] (file_of 1 proof derivation) (file_of 0 name cnf ∷ []) n (ap (λ (x : Option (List ℕ)). proof_files x derivation ++ file_of 0 name cnf ∷ []) named)) is
+
+  words_part : (n : ℕ) → IsEncodable options p → IfTold b (λ t. MayStand o t.shelf (record { made = whole.made; said = take n summary }))
+  words_part n is = part_of (record { made = whole.made; said = take n summary }) (of_words n) is
 
   bare_part : IfTold b (λ t. MayStand o t.shelf nothing)
   bare_part = always b (λ t. MayStand o t.shelf nothing) (λ t. inl refl)
 
-  lacks_for : LacksToStore name cnf summary b → LacksFor whole b
-  lacks_for (to_make (making_taken taken)) = is_taken (file_of name cnf) (Contains-here (file_of name cnf) []) taken
-  lacks_for (to_make (making_room lacks)) = no_room (file_of name cnf) (Contains-here (file_of name cnf) []) lacks
+  -- ---- what lacks
+
+  has_cnf : (proof : Option (List ℕ)) → Contains (proof_files proof derivation ++ file_of 0 name cnf ∷ []) (file_of 0 name cnf)
+  has_cnf None = Contains-here (file_of 0 name cnf) []
+  has_cnf (Some proof) = Contains-there (file_of 1 proof derivation) (file_of 0 name cnf ∷ []) (file_of 0 name cnf) (Contains-here (file_of 0 name cnf) [])
+
+  has_proof : (proof : List ℕ) → names.proof ≡ Some proof → Contains whole.made (file_of 1 proof derivation)
+  has_proof proof named =
+      subst (λ (x : Option (List ℕ)). Contains (proof_files x derivation ++ file_of 0 name cnf ∷ []) (file_of 1 proof derivation)) (sym named) (Contains-here (file_of 1 proof derivation) (file_of 0 name cnf ∷ []))
+
+  lacks_file : (slot : ℕ) (own text : List ℕ) → Contains whole.made (file_of slot own text) → LacksToMake slot own text b → LacksFor whole b
+  lacks_file slot own text has (making_taken taken) = is_taken (file_of slot own text) has taken
+  lacks_file slot own text has (making_room lacks) = no_room (file_of slot own text) has lacks
+
+  lacks_for : LacksToStore options p names b → LacksFor whole b
+  lacks_for (to_make (for_cnf lacks)) = lacks_file 0 name cnf (has_cnf names.proof) lacks
+  lacks_for (to_make (equal_names equal)) = absurd (others equal)
+  lacks_for (to_make (for_proof proof named lacks)) = lacks_file 1 proof derivation (has_proof proof named) lacks
   lacks_for (to_say lacks) = no_word_room lacks
 
-  lacks : IsEncodable options p → (IsSteady b → LacksToStore name cnf summary b) → IsSteady b → LacksSpace o b
+  lacks : IsEncodable options p → (IsSteady b → LacksToStore options p names b) → IsSteady b → LacksSpace o b
   lacks is why steady = (whole, is_told_so b (λ t. o.done t.shelf whole) (λ t. o.done t.shelf whole) (λ t holds. holds) (tells steady) (due is), lacks_for (why steady))
 
-  pub stored_obeys : IsEncodable options p → Reaches (stored name cnf summary) b d → b.view.writing 0 ≡ false → Obeys o b d outcome.Done
-  stored_obeys is far free = all_done o b d whole (goes_by whole (stored name cnf summary) b d (by_stored name cnf summary) far) (stored_keeps name cnf summary b d far.view free) (due is)
+  -- ---- how it ends
 
-  pub storing_obeys : (answer : Outcome) → StopsStoring options p name cnf summary b d answer → (IsSteady b → answer ≡ outcome.WriteFault → LacksToStore name cnf summary b) → Obeys o b d answer
+  pub stored_obeys : IsEncodable options p → Reaches (stored_whole options p names) b d → ((slot : ℕ) → b.view.writing slot ≡ false) → Obeys o b d outcome.Done
+  stored_obeys is far free = all_done o b d whole (goes_by whole (stored_whole options p names) b d (by_stored options p names summary) far) (stored_keeps options p names summary b d far.view free) (due is)
+
+  cnf_stops : IsEncodable options p → (IsSteady b → LacksToStore options p names b) → StopsMaking 0 name cnf b d → Obeys o b d outcome.WriteFault
+  cnf_stops is why (making_not fails) = is_unwritten o b d nothing same by_same fails bare_part (lacks is why)
+  cnf_stops is why (making_in n fails) = is_unwritten o b d _ (begun 0 name (take n cnf)) (by_begun name (take n cnf)) fails (cnf_part n is) (lacks is why)
+
+  proof_stops : IsEncodable options p → (IsSteady b → LacksToStore options p names b) → (proof : List ℕ) (between : DeskState) → names.proof ≡ Some proof → Reaches (made 0 name cnf) b between → StopsMaking 1 proof derivation between d → Obeys o b d outcome.WriteFault
+  proof_stops is why proof between named made_is (making_not fails) =
+      is_unwritten o b d _ (made 0 name cnf) (by_made name cnf) (then_fails_to_write (made 0 name cnf) same (made 0 name cnf) b between d (λ v. refl) made_is fails) (cnf_whole is) (lacks is why)
+  proof_stops is why proof between named made_is (making_in n fails) =
+      let both : View → View = λ v. begun 1 proof (take n derivation) (made 0 name cnf v) in
+      is_unwritten o b d _ both (by_begun_proof name cnf proof (take n derivation)) (then_fails_to_write (made 0 name cnf) (begun 1 proof (take n derivation)) both b between d (λ v. refl) made_is fails) (proof_part proof n named is) (lacks is why)
+
+  proof_wants : IsEncodable options p → (proof : List ℕ) (between : DeskState) → names.proof ≡ Some proof → Reaches (made 0 name cnf) b between → LeavesPart 1 proof derivation between d → Obeys o b d outcome.NoMemory
+  proof_wants is proof between named made_is part =
+      let text = take part.count derivation in
+      let both : View → View = λ v. begun 1 proof text (made 0 name cnf v) in
+      wants_memory o b d _ (goes_by _ both b d (by_begun_proof name cnf proof text) (then (made 0 name cnf) (begun 1 proof text) both b between d (λ v. refl) made_is part.reached)) (proof_part proof part.count named is)
+
+  pub storing_obeys : (answer : Outcome) → StopsStoring options p names b d answer → (IsSteady b → answer ≡ outcome.WriteFault → LacksToStore options p names b) → Obeys o b d answer
   storing_obeys _ (storing_over which is far) why = is_refused o b d (outcome.Limit None which None) (goes_by nothing same b d by_same far) tt (stops which is)
-  storing_obeys _ (not_made is (making_not fails)) why = is_unwritten o b d nothing same by_same fails bare_part (lacks is (λ steady. why steady refl))
-  storing_obeys _ (not_made is (making_in n fails)) why = is_unwritten o b d _ (begun name (take n cnf)) (by_begun name (take n cnf)) fails (file_part n is) (lacks is (λ steady. why steady refl))
-  storing_obeys _ (in_words is n fails) why = is_unwritten o b d _ (stored name cnf (take n summary)) (by_stored name cnf (take n summary)) fails (words_part n is) (lacks is (λ steady. why steady refl))
+  storing_obeys _ (not_made is (stops_in_cnf ends)) why = cnf_stops is (λ steady. why steady refl) ends
+  storing_obeys _ (not_made is (stops_in_proof later)) why = proof_stops is (λ steady. why steady refl) later.proof later.between later.named later.whole later.ends
+  storing_obeys _ (in_words is n fails) why = is_unwritten o b d _ (stored options p names (take n summary)) (by_stored options p names (take n summary)) fails (words_part n is) (lacks is (λ steady. why steady refl))
   storing_obeys _ (no_memory (wanting_not far)) why = bare_memory o b d (goes_by nothing same b d by_same far)
-  storing_obeys _ (no_memory (wanting_in is n far)) why = wants_memory o b d _ (goes_by _ (begun name (take n cnf)) b d (by_begun name (take n cnf)) far) (file_part n is)
-  storing_obeys _ (no_words is far) why = wants_memory o b d _ (goes_by _ (made name cnf) b d (by_made name cnf) far) (words_part 0 is)
+  storing_obeys _ (no_memory (wants_in_cnf is part)) why = wants_memory o b d _ (goes_by _ (begun 0 name (take part.count cnf)) b d (by_begun name (take part.count cnf)) part.reached) (cnf_part part.count is)
+  storing_obeys _ (no_memory (wants_in_proof is later)) why = proof_wants is later.proof later.between later.named later.whole later.ends
+  storing_obeys _ (no_words is far) why = wants_memory o b d _ (goes_by _ (made_files options p names) b d (by_files options p names) far) (words_part 0 is)

@@ -2,6 +2,7 @@
 use Rattle.std.specs.Prelude.{ℕ, ◌≡◌, List, [], Option, Some, None}
 use Rattle.pb_base.specs.declared.limit.LimitKind.{LimitKind}
 use Rattle.pb_base.specs.declared.problem.Problem.{Problem}
+use Rattle.pb_encode.specs.Encodings.{FileNames}
 use Rattle.pb_gen.specs.Generated.{generated}
 use Rattle.pb_opb.specs.Faults.{Reads}
 use Rattle.pb_choice.specs.Defaults.{default_options}
@@ -13,9 +14,13 @@ use Rattle.pb_suite.specs.Outputs.{only_words, Output}
 use Rattle.pb_suite.specs.Owed.{Owed}
 use Rattle.pb_suite.specs.OwedEncode.{due_words, encoded_output}
 
+-- no derivation
+abbrev pub only_cnf : List ℕ → FileNames
+only_cnf name = record { cnf = name; proof = None }
+
 -- the size of the encoding, beside its CNF file where that is named
 abbrev pub bench_output : Option (List ℕ) → Problem → Output
-bench_output (Some name) p = encoded_output name default_options p
+bench_output (Some name) p = encoded_output (only_cnf name) default_options p
 bench_output None p = only_words (due_words default_options p)
 
 -- the generated text says this problem, which is encoded

@@ -6,7 +6,6 @@ use Rattle.pb_base.specs.declared.file.File.TheVariants.{Opb, Cnf, Proof}
 use Rattle.pb_base.specs.declared.limit.LimitKind.{LimitKind}
 use Rattle.pb_base.specs.declared.place.Place.{Place}
 use Rattle.pb_base.specs.declared.problem.Problem.{Problem}
-use Rattle.pb_opb.specs.Faults.{Reads}
 use Rattle.pb_steps.specs.declared.denied.Denied.{Denied}
 use Rattle.pb_check.specs.declared.verdict.CheckFault.TheVariants as fault
 use Rattle.pb_check.specs.declared.verdict.Verdict.TheVariants.{Accepted, Rejected}
@@ -17,20 +16,15 @@ use Rattle.pb_suite.specs.declared.outcome.Outcome.{Outcome}
 use Rattle.pb_suite.specs.declared.outcome.Outcome.TheVariants as outcome
 use Rattle.pb_suite.specs.Outputs.{only_words}
 use Rattle.pb_suite.specs.Owed.{Owed, Shelf}
+use Rattle.pb_suite.specs.Posed.{IsPosed}
 use Rattle.pb_suite.specs.Refusals.{RefusesOpb}
-
--- the shelf has a text that says this problem
-pub record IsPosed (shelf : Shelf) (w : CheckWords) (p : Problem) : Type 0 where
-  pub text : List ℕ
-  pub on_shelf : shelf w.opb ≡ Some text
-  pub reads : Reads text p
 
 -- the shelf has all three texts, and walking through the CNF and the derivation gives this answer
 pub record IsJudged (shelf : Shelf) (w : CheckWords) (answer : Answer) : Type 0 where
   pub problem : Problem
   pub cnf : List ℕ
   pub proof : List ℕ
-  pub posed : IsPosed shelf w problem
+  pub posed : IsPosed shelf w.opb problem
   pub has_cnf : shelf w.cnf ≡ Some cnf
   pub has_proof : shelf w.proof ≡ Some proof
   pub judged : Walk problem cnf proof answer
@@ -39,7 +33,7 @@ pub record IsJudged (shelf : Shelf) (w : CheckWords) (answer : Answer) : Type 0 
 pub data StopsCheck (shelf : Shelf) (w : CheckWords) : Outcome → Type 0 where
   no_problem : shelf w.opb ≡ None → StopsCheck shelf w outcome.ReadFault
   bad_problem : (text : List ℕ) (answer : Outcome) → shelf w.opb ≡ Some text → RefusesOpb text answer → StopsCheck shelf w answer
-  lacking : (p : Problem) → IsPosed shelf w p → (shelf w.cnf ≡ None) ⊎ (shelf w.proof ≡ None) → StopsCheck shelf w outcome.ReadFault
+  lacking : (p : Problem) → IsPosed shelf w.opb p → (shelf w.cnf ≡ None) ⊎ (shelf w.proof ≡ None) → StopsCheck shelf w outcome.ReadFault
   token : (file : File) (place : Place) (expected : Expected) → IsJudged shelf w (Err (fault.Refused file place expected)) → StopsCheck shelf w (outcome.Refused file place expected)
   limit : (file : File) (place : Option Place) (which : LimitKind) → IsJudged shelf w (Err (fault.Limit file place which)) → StopsCheck shelf w (outcome.Limit (Some file) which place)
   denial : (line : ℕ) (denied : Denied) → IsJudged shelf w (Ok (Rejected line denied)) → StopsCheck shelf w (outcome.Rejected line denied)

@@ -1,12 +1,12 @@
 -- What encoding a problem owes. Our own.
-use Rattle.std.specs.Prelude.{ℕ, ◌≡◌, List, [], ◌∷◌, Some, None}
+use Rattle.std.specs.Prelude.{ℕ, ◌≡◌, List, [], ◌∷◌, ◌++◌, Option, Some, None}
 use Rattle.pb_base.specs.declared.file.File.TheVariants.{Opb}
 use Rattle.pb_base.specs.declared.limit.LimitKind.{LimitKind}
 use Rattle.pb_base.specs.declared.problem.Problem.{Problem}
 use Rattle.pb_desk.specs.View.{Made}
 use Rattle.pb_opb.specs.Faults.{Reads}
 use Rattle.pb_choice.specs.declared.options.Options.{Options}
-use Rattle.pb_encode.specs.Encodings.{problem_text}
+use Rattle.pb_encode.specs.Encodings.{derivation_text, problem_text, FileNames}
 use Rattle.pb_encode.specs.Summaries.{summary_of, summary_text, IsEncodable, IsOver}
 use Rattle.pb_words.specs.EncodeWords.{EncodeWords}
 use Rattle.pb_suite.specs.declared.outcome.Outcome.{Outcome}
@@ -15,16 +15,28 @@ use Rattle.pb_suite.specs.Outputs.{Output}
 use Rattle.pb_suite.specs.Owed.{Owed, Shelf}
 use Rattle.pb_suite.specs.Refusals.{RefusesOpb}
 
--- a file that was made, in slot 0
-abbrev pub file_of : List ℕ → List ℕ → Made
-file_of name bytes = record { slot = 0; name = name; bytes = bytes }
+-- a file that was made
+abbrev pub file_of : ℕ → List ℕ → List ℕ → Made
+file_of slot name bytes = record { slot = slot; name = name; bytes = bytes }
+
+-- the derivation's, in slot 1, if it has a name
+abbrev pub proof_files : Option (List ℕ) → List ℕ → List Made
+proof_files None bytes = []
+proof_files (Some name) bytes = file_of 1 name bytes ∷ []
+
+-- the files of a problem: its CNF, in slot 0, and the derivation after it
+abbrev pub files_of : FileNames → Options → Problem → List Made
+files_of names o p = proof_files names.proof (derivation_text o p) ++ file_of 0 names.cnf (problem_text o p) ∷ []
 
 abbrev pub due_words : Options → Problem → List ℕ
 due_words o p = summary_text (summary_of o p)
 
--- the CNF file of a problem, and its size in words
-abbrev pub encoded_output : List ℕ → Options → Problem → Output
-encoded_output name o p = record { made = file_of name (problem_text o p) ∷ []; said = due_words o p }
+-- the files of a problem, and its size in words
+abbrev pub encoded_output : FileNames → Options → Problem → Output
+encoded_output names o p = record { made = files_of names o p; said = due_words o p }
+
+abbrev pub names_in : EncodeWords → FileNames
+names_in w = record { cnf = w.cnf; proof = w.proof }
 
 -- the shelf has a text that says this problem, which is encoded
 pub record IsEncoded (shelf : Shelf) (w : EncodeWords) (p : Problem) : Type 0 where
@@ -43,5 +55,5 @@ abbrev pub owed_encode : EncodeWords → Owed
 owed_encode w = record {
   texts = record { kind = Opb; name = w.opb } ∷ [];
   stops = λ shelf answer. StopsEncode shelf w answer;
-  done = λ shelf out. (p : Problem) × IsEncoded shelf w p × (out ≡ encoded_output w.cnf w.options p);
+  done = λ shelf out. (p : Problem) × IsEncoded shelf w p × (out ≡ encoded_output (names_in w) w.options p);
 }

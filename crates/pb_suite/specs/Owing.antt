@@ -4,16 +4,18 @@ use Rattle.std.specs.Option.{ForSome}
 use Rattle.pb_desk.specs.View.{Told}
 use Rattle.pb_desk.specs.Desk.{DeskState, IsFresh, IsSteady}
 use Rattle.pb_words.specs.Taken.{Wanted, taken_of}
-use Rattle.pb_words.specs.Taken.Wanted.{Encode, Check, Probe, Bench}
+use Rattle.pb_words.specs.Taken.Wanted.{Encode, Check, Decode, Probe, Bench}
 use Rattle.pb_suite.specs.Owed.{Owed, Shelf, Suffices}
 use Rattle.pb_suite.specs.OwedBench.{owed_bench}
 use Rattle.pb_suite.specs.OwedCheck.{owed_check}
+use Rattle.pb_suite.specs.OwedDecode.{owed_decode}
 use Rattle.pb_suite.specs.OwedEncode.{owed_encode}
 use Rattle.pb_suite.specs.OwedProbe.{owed_probe}
 
 abbrev pub owed : Wanted → Owed
 owed (Encode w) = owed_encode w
 owed (Check w) = owed_check w
+owed (Decode w) = owed_decode w
 owed (Probe w) = owed_probe w
 owed (Bench w) = owed_bench w
 

@@ -1,7 +1,7 @@
 -- Which outcome refuses a text. Our own.
-use Rattle.std.specs.Prelude.{ℕ, ◌≡◌, List, Option, Some}
+use Rattle.std.specs.Prelude.{ℕ, ◌≡◌, List, Option, Some, Err}
 use Rattle.pb_base.specs.declared.expected.Expected.{Expected}
-use Rattle.pb_base.specs.declared.file.File.TheVariants.{Opb, Cnf}
+use Rattle.pb_base.specs.declared.file.File.TheVariants.{Opb, Cnf, Model}
 use Rattle.pb_base.specs.declared.limit.LimitKind.{LimitKind}
 use Rattle.pb_base.specs.declared.place.Place.{Place}
 use Rattle.pb_opb.specs.declared.fault.OpbFault.TheVariants as opb
@@ -9,6 +9,8 @@ use Rattle.pb_opb.specs.Faults.{IsFirstFault}
 use Rattle.pb_dimacs.specs.declared.fault.CnfFault.TheVariants as cnf
 use Rattle.pb_dimacs.specs.CnfWhole.{told_of}
 use Rattle.pb_dimacs.specs.CnfWhole.CnfTold.{refuses}
+use Rattle.pb_model.specs.declared.fault.ModelFault.TheVariants as model
+use Rattle.pb_model.specs.ModelReading.{told}
 use Rattle.pb_suite.specs.declared.outcome.Outcome.{Outcome}
 use Rattle.pb_suite.specs.declared.outcome.Outcome.TheVariants as outcome
 
@@ -21,3 +23,8 @@ pub data RefusesOpb (text : List ℕ) : Outcome → Type 0 where
 pub data RefusesCnf (text : List ℕ) : Outcome → Type 0 where
   token : (place : Place) (expected : Expected) → told_of text ≡ refuses (cnf.Token place expected) → RefusesCnf text (outcome.Refused Cnf place expected)
   limit : (place : Option Place) (which : LimitKind) → told_of text ≡ refuses (cnf.Limit place which) → RefusesCnf text (outcome.Limit (Some Cnf) which place)
+
+-- the outcome tells the first fault of what a solver said, beside so many variables
+pub data RefusesModel (vars : ℕ) (text : List ℕ) : Outcome → Type 0 where
+  token : (place : Place) (expected : Expected) → told vars text ≡ Err (model.Token place expected) → RefusesModel vars text (outcome.Refused Model place expected)
+  limit : (place : Option Place) (which : LimitKind) → told vars text ≡ Err (model.Limit place which) → RefusesModel vars text (outcome.Limit (Some Model) which place)

@@ -17,7 +17,7 @@ use crate::storing::store;
 use pb_base::{Failed, NoMemory, Problem};
 use pb_choice::Options;
 use pb_desk::{Desk, say_all};
-use pb_encode::{MeasureFault, measure, summary_text};
+use pb_encode::{MeasureFault, Names, measure, summary_text};
 use pb_gen::generate;
 use pb_opb::{OpbFault, read_opb};
 use pb_words::Benching;
@@ -53,7 +53,11 @@ fn store_generated<D: Desk>(
     requires named { (as_bench_words asked.now).cnf ≡ Some name.now }
     ensures { Obeys (owed_bench (as_bench_words asked.now)) (D.state desk.old) (D.state desk.new) result }
 {
-    match store(alloc, problem, &Options::default(), name, desk) {
+    let names = Names {
+        cnf: name,
+        proof: None,
+    };
+    match store(alloc, problem, &Options::default(), &names, desk) {
         Ok(()) => Outcome::Done,
         Err(outcome) => outcome,
     }

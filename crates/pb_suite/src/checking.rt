@@ -4,7 +4,8 @@ ghost use Rattle.pb_base.specs.Problems.{IsWithinLimits};
 ghost use Rattle.pb_desk.specs.Desk.{IfTold, IsClosed};
 ghost use Rattle.pb_words.specs.CheckWords.{as_check_words};
 ghost use Rattle.pb_suite.specs.Obeying.{Obeys};
-ghost use Rattle.pb_suite.specs.OwedCheck.{owed_check, IsPosed};
+ghost use Rattle.pb_suite.specs.OwedCheck.{owed_check};
+ghost use Rattle.pb_suite.specs.Posed.{IsPosed};
 ghost use Rattle.pb_suite.specs.laws.Runs.{check_refusal};
 
 use crate::outcome::Outcome;
@@ -44,7 +45,7 @@ fn judge<D: Desk>(alloc: Global, problem: &Problem, asked: &Checking<'_>, desk: 
     requires within { IsWithinLimits problem.now }
     requires cnf_free { (D.state desk.old).view.reading 1 ≡ false }
     requires proof_free { (D.state desk.old).view.reading 2 ≡ false }
-    requires posed { IfTold (D.state desk.old) (λ t. IsPosed t.shelf (as_check_words asked.now) problem.now) }
+    requires posed { IfTold (D.state desk.old) (λ t. IsPosed t.shelf (as_check_words asked.now).opb problem.now) }
     ensures { Obeys (owed_check (as_check_words asked.now)) (D.state desk.old) (D.state desk.new) result }
 {
     match desk.open(1, asked.cnf) {

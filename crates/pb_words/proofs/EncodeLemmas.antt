@@ -1,5 +1,6 @@
 -- What the words of `encode` keep.
-use Rattle.std.proofs.Common.{◌≡◌, ◌≢◌, ◌≤◌, ◌||◌, ◌&&◌, not, ℕ, Bool, true, false, List, [], ◌∷◌, Option, Some, None, cond, codes, option_and_then, refl, arith}
+use Rattle.std.proofs.Common.{◌≡◌, ◌≢◌, ◌≤◌, ◌||◌, ◌&&◌, not, ℕ, Bool, true, false, List, [], ◌∷◌, Option, Some, None, cond, codes, option_and_then, refl, subst, arith}
+use Rattle.std.specs.Option.{option_to_list, ForSome}
 use Rattle.std.specs.Bool.{Decides}
 use Rattle.std.specs.Str.{bytes_eq}
 use Rattle.std.proofs.lemmas.Bool.Decides.{nat_tests}
@@ -45,27 +46,51 @@ options_range given options e =
     let budget : budget_in given ≡ Some options.budget = from_budget (amo_in given) (card_in given) (general_in given) (budget_in given) options e in
     chosen_range (first_of (codes "budget") given) options.budget budget
 
--- names are different where the test says so
-pub differ : (a b : Text) → are_different (a ∷ b ∷ []) ≡ true → a ≢ b
-differ a b = go (bytes_eq a b) (bytes_eq-Decides a b)
-  where
-    go : (t : Bool) → Decides t (a ≡ b) → (not (t || false) && (not false && true)) ≡ true → a ≢ b
-    go true same e equal = cc
-    go false other e equal = let bad : false ≡ true = other.1 equal in cc
+-- two names are different where the test says so
+differ : (t : Bool) (a b : Text) → Decides t (a ≡ b) → t ≡ false → a ≢ b
+differ true a b same e equal = cc
+differ false a b other e equal = let bad : false ≡ true = other.1 equal in cc
 
-fit_if : (opb cnf : Text) (options : Options) (b : Bool) (w : EncodeWords) → are_different (opb ∷ cnf ∷ []) ≡ b → IsBudget options.budget
-    → cond b (Some (record { opb = opb; cnf = cnf; options = options })) None ≡ Some w → IsFitEncode w
-fit_if opb cnf options true w test budget e =
-    let same : w ≡ record { opb = opb; cnf = cnf; options = options } = cc in
-    rw same (record { different = differ opb cnf test; low = budget.0; high = budget.1 })
-fit_if opb cnf options false w test budget e = cc
+-- what the test of three names is made of
+three_differ : (x y z : Bool) → (not (x || (y || false)) && (not (z || false) && (not false && true))) ≡ true → (x ≡ false) × (y ≡ false) × (z ≡ false)
+three_differ false false false e = (refl, refl, refl)
+three_differ false false true e = cc
+three_differ false true z e = cc
+three_differ true y z e = cc
 
-fit_from : (opb cnf : Option Text) (o : Option Options) (w : EncodeWords) → ((options : Options) → o ≡ Some options → IsBudget options.budget)
-    → encode_from opb cnf o ≡ Some w → IsFitEncode w
-fit_from (Some opb) (Some cnf) (Some options) w budget e = fit_if opb cnf options (are_different (opb ∷ cnf ∷ [])) w refl (budget options refl) e
-fit_from None cnf o w budget e = cc
-fit_from (Some opb) None o w budget e = cc
-fit_from (Some opb) (Some cnf) None w budget e = cc
+two_differ : (x : Bool) → (not (x || false) && (not false && true)) ≡ true → x ≡ false
+two_differ false e = refl
+two_differ true e = cc
+
+AreOthers : Text → Text → Option Text → Type 0
+AreOthers opb cnf proof = (opb ≢ cnf) × ForSome proof (λ name. (opb ≢ name) × (cnf ≢ name))
+
+all_differ : (opb cnf : Text) (proof : Option Text) → are_different (opb ∷ cnf ∷ option_to_list proof) ≡ true → AreOthers opb cnf proof
+unfolding AreOthers
+all_differ opb cnf None e = (differ (bytes_eq opb cnf) opb cnf (bytes_eq-Decides opb cnf) (two_differ (bytes_eq opb cnf) e), λ name named. cc)
+all_differ opb cnf (Some proof) e =
+    let apart = three_differ (bytes_eq opb cnf) (bytes_eq opb proof) (bytes_eq cnf proof) e in (
+      differ (bytes_eq opb cnf) opb cnf (bytes_eq-Decides opb cnf) apart.0,
+      λ name named.
+          let same : proof ≡ name = cc in
+          subst (λ (x : Text). (opb ≢ x) × (cnf ≢ x)) same (differ (bytes_eq opb proof) opb proof (bytes_eq-Decides opb proof) apart.1, differ (bytes_eq cnf proof) cnf proof (bytes_eq-Decides cnf proof) apart.2),
+    )
+
+fit_if : (opb cnf : Text) (proof : Option Text) (options : Options) (b : Bool) (w : EncodeWords) → are_different (opb ∷ cnf ∷ option_to_list proof) ≡ b → IsBudget options.budget
+    → cond b (Some (record { opb = opb; cnf = cnf; proof = proof; options = options })) None ≡ Some w → IsFitEncode w
+unfolding AreOthers
+fit_if opb cnf proof options true w test budget e =
+    let same : w ≡ record { opb = opb; cnf = cnf; proof = proof; options = options } = cc in
+    let others = all_differ opb cnf proof test in
+    rw same (record { different = others.0; other = others.1; low = budget.0; high = budget.1 })
+fit_if opb cnf proof options false w test budget e = cc
+
+fit_from : (opb cnf proof : Option Text) (o : Option Options) (w : EncodeWords) → ((options : Options) → o ≡ Some options → IsBudget options.budget)
+    → encode_from opb cnf proof o ≡ Some w → IsFitEncode w
+fit_from (Some opb) (Some cnf) proof (Some options) w budget e = fit_if opb cnf proof options (are_different (opb ∷ cnf ∷ option_to_list proof)) w refl (budget options refl) e
+fit_from None cnf proof o w budget e = cc
+fit_from (Some opb) None proof o w budget e = cc
+fit_from (Some opb) (Some cnf) proof None w budget e = cc
 
 pub encode_fit : (given : List Row) (w : EncodeWords) → encode_in given ≡ Some w → IsFitEncode w
-encode_fit given w = fit_from _ _ (options_in given) w (options_range given)
+encode_fit given w = fit_from _ _ (first_of (codes "proof") given) (options_in given) w (options_range given)

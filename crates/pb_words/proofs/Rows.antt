@@ -10,17 +10,20 @@ use Rattle.pb_choice.specs.declared.options.Options.{Options}
 use Rattle.pb_choice.specs.Defaults.{default_options}
 use Rattle.pb_base.specs.declared.literal.Lit.{Lit}
 use Rattle.pb_words.specs.Taken.{Wanted, taken_of}
-use Rattle.pb_words.specs.Taken.Wanted.{Encode, Check, Probe, Bench}
+use Rattle.pb_words.specs.Taken.Wanted.{Encode, Check, Decode, Probe, Bench}
 
 -- what a line asks for whose words stand between blanks
 abbrev said : Text → Option Wanted
 said line = taken_of (map (λ word. word.text) (words_of line))
 
 abbrev encode : Text → Text → Options → Option Wanted
-encode opb cnf options = Some (Encode (record { opb = opb; cnf = cnf; options = options }))
+encode opb cnf options = Some (Encode (record { opb = opb; cnf = cnf; proof = None; options = options }))
 
 abbrev encode_a_b : Options → Option Wanted
 encode_a_b = encode (codes "a") (codes "b")
+
+abbrev encode_a_b_c : Options → Option Wanted
+encode_a_b_c options = Some (Encode (record { opb = codes "a"; cnf = codes "b"; proof = Some (codes "c"); options = options }))
 
 abbrev check : Text → Text → Text → Option Wanted
 check opb cnf proof = Some (Check (record { opb = opb; cnf = cnf; proof = proof }))
@@ -98,9 +101,28 @@ an_empty_name : taken_of (codes "pbcnf" ∷ codes "encode" ∷ [] ∷ codes "b" 
 unfolding taken_of clap_on_literals
 an_empty_name = refl
 
+a_third_name : said (codes "pbcnf encode a b c") ≡ encode_a_b_c default_options
+unfolding taken_of clap_on_literals
+a_third_name = refl
+
+options_between_three_names : said (codes "pbcnf encode a --budget=9 b --amo ladder c") ≡ encode_a_b_c (record default_options { amo = amo.Ladder; budget = 9 })
+unfolding taken_of clap_on_literals
+options_between_three_names = refl
+
 another_program_name : said (codes "x encode a b") ≡ encode_a_b default_options
 unfolding taken_of clap_on_literals
 another_program_name = refl
+
+abbrev decode : Text → Text → Option Wanted
+decode opb model = Some (Decode (record { opb = opb; model = model }))
+
+a_text_and_a_model : said (codes "pbcnf decode a b") ≡ decode (codes "a") (codes "b")
+unfolding taken_of clap_on_literals
+a_text_and_a_model = refl
+
+a_text_as_its_model : said (codes "pbcnf decode a a") ≡ None
+unfolding taken_of clap_on_literals
+a_text_as_its_model = refl
 
 three_texts : said (codes "pbcnf check a b c") ≡ check (codes "a") (codes "b") (codes "c")
 unfolding taken_of clap_on_literals
@@ -157,9 +179,17 @@ one_name : said (codes "pbcnf encode a") ≡ None
 unfolding taken_of clap_on_literals
 one_name = refl
 
-three_names : said (codes "pbcnf encode a b c") ≡ None
+four_names : said (codes "pbcnf encode a b c d") ≡ None
 unfolding taken_of clap_on_literals
-three_names = refl
+four_names = refl
+
+the_first_name_again : said (codes "pbcnf encode a b a") ≡ None
+unfolding taken_of clap_on_literals
+the_first_name_again = refl
+
+the_second_name_again : said (codes "pbcnf encode a b b") ≡ None
+unfolding taken_of clap_on_literals
+the_second_name_again = refl
 
 equal_names : said (codes "pbcnf encode a a") ≡ None
 unfolding taken_of clap_on_literals
@@ -193,7 +223,7 @@ part_of_a_command : said (codes "pbcnf enc a b") ≡ None
 unfolding taken_of clap_on_literals
 part_of_a_command = refl
 
-two_commands : said (codes "pbcnf encode encode a b") ≡ None
+two_commands : said (codes "pbcnf encode encode a b c") ≡ None
 unfolding taken_of clap_on_literals
 two_commands = refl
 

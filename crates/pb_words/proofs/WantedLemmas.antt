@@ -4,10 +4,11 @@ use Rattle.std.specs.Str.{bytes_eq}
 use Rattle.clap.specs.Words.{Kinds, Row, Text, fault_of, subcommand_of}
 use Rattle.pb_words.specs.BenchWords.{bench_in}
 use Rattle.pb_words.specs.CheckWords.{check_in}
+use Rattle.pb_words.specs.DecodeWords.{decode_in}
 use Rattle.pb_words.specs.EncodeWords.{encode_in}
 use Rattle.pb_words.specs.Fit.{IsFit}
 use Rattle.pb_words.specs.Taken.{is_faultless, program_app, taken_of, wanted_by, wanted_in, Wanted}
-use Rattle.pb_words.specs.Taken.Wanted.{Encode, Check, Probe, Bench}
+use Rattle.pb_words.specs.Taken.Wanted.{Encode, Check, Decode, Probe, Bench}
 use Rattle.pb_words.specs.ProbeWords.{probe_in}
 use Rattle.pb_words.proofs.BenchLemmas.{bench_fit}
 use Rattle.pb_words.proofs.EncodeLemmas.{encode_fit}
@@ -32,8 +33,9 @@ fit_in : (name : Text) (given : List Row) (w : Wanted) → wanted_in name given 
 fit_in name given w =
     one_or (bytes_eq name (codes "encode")) _ _ w (fit_as Encode (encode_in given) w (encode_fit given))
     (one_or (bytes_eq name (codes "check")) _ _ w (fit_as Check (check_in given) w (λ x is. tt))
+    (one_or (bytes_eq name (codes "decode")) _ _ w (fit_as Decode (decode_in given) w (λ x is. tt))
     (one_or (bytes_eq name (codes "probe")) _ _ w (fit_as Probe (probe_in given) w (λ x is. tt))
-    (one_or (bytes_eq name (codes "bench")) _ _ w (fit_as Bench (bench_in given) w (bench_fit given)) (none_left w))))
+    (one_or (bytes_eq name (codes "bench")) _ _ w (fit_as Bench (bench_in given) w (bench_fit given)) (none_left w)))))
 
 fit_by : (command : Option (Text × List Row)) (w : Wanted) → wanted_by command ≡ Some w → IsFit w
 fit_by None w e = cc

@@ -1,13 +1,15 @@
 -- What holds of all that is asked for. Our own.
 use Rattle.std.specs.Prelude.{◌≢◌, ◌≤◌}
+use Rattle.std.specs.Option.{ForSome}
 use Rattle.pb_words.specs.BenchWords.{BenchWords}
 use Rattle.pb_words.specs.EncodeWords.{EncodeWords}
 use Rattle.pb_words.specs.Taken.{Wanted}
-use Rattle.pb_words.specs.Taken.Wanted.{Encode, Check, Probe, Bench}
+use Rattle.pb_words.specs.Taken.Wanted.{Encode, Check, Decode, Probe, Bench}
 
--- two different names, and a budget within its range
+-- different names, and a budget within its range
 pub record IsFitEncode (w : EncodeWords) : Type 0 where
   pub different : w.opb ≢ w.cnf
+  pub other : ForSome w.proof (λ proof. (w.opb ≢ proof) × (w.cnf ≢ proof))
   pub low : 1 ≤ w.options.budget
   pub high : w.options.budget ≤ 10000000
 
@@ -19,5 +21,6 @@ pub record IsFitBench (w : BenchWords) : Type 0 where
 abbrev pub IsFit : Wanted → Type 0
 IsFit (Encode w) = IsFitEncode w
 IsFit (Check w) = Unit {0}
+IsFit (Decode w) = Unit {0}
 IsFit (Probe w) = Unit {0}
 IsFit (Bench w) = IsFitBench w

@@ -5,6 +5,7 @@ pub mod OptionWords
 pub mod EncodeWords
 pub mod BenchWords
 pub mod CheckWords
+pub mod DecodeWords
 pub mod LitWords
 pub mod ProbeWords
 pub mod Taken

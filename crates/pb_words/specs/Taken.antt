@@ -9,17 +9,19 @@ use Rattle.pb_words.specs.declared.request.Request.TheVariants as request
 use Rattle.pb_words.specs.EncodeWords.{as_encode_words, encode_app, encode_in, EncodeWords}
 use Rattle.pb_words.specs.BenchWords.{as_bench_words, bench_app, bench_in, BenchWords}
 use Rattle.pb_words.specs.CheckWords.{as_check_words, check_app, check_in, CheckWords}
+use Rattle.pb_words.specs.DecodeWords.{as_decode_words, decode_app, decode_in, DecodeWords}
 use Rattle.pb_words.specs.ProbeWords.{as_probe_words, probe_app, probe_in, ProbeWords}
 use Rattle.pb_words.specs.Rules.{program_of}
 
 -- the commands
 abbrev pub program_app : App
-program_app = program_of (codes "pbcnf") (encode_app ∷ check_app ∷ probe_app ∷ bench_app ∷ [])
+program_app = program_of (codes "pbcnf") (encode_app ∷ check_app ∷ decode_app ∷ probe_app ∷ bench_app ∷ [])
 
 -- what is asked for
 pub data Wanted : Type 0 where
   Encode : EncodeWords → Wanted
   Check : CheckWords → Wanted
+  Decode : DecodeWords → Wanted
   Probe : ProbeWords → Wanted
   Bench : BenchWords → Wanted
 
@@ -28,8 +30,9 @@ abbrev pub wanted_in : Text → List Row → Option Wanted
 wanted_in name given =
     if bytes_eq name (codes "encode") then option_map Encode (encode_in given)
     else (if bytes_eq name (codes "check") then option_map Check (check_in given)
+    else (if bytes_eq name (codes "decode") then option_map Decode (decode_in given)
     else (if bytes_eq name (codes "probe") then option_map Probe (probe_in given)
-    else (if bytes_eq name (codes "bench") then option_map Bench (bench_in given) else None)))
+    else (if bytes_eq name (codes "bench") then option_map Bench (bench_in given) else None))))
 
 -- the same, of the command that was given
 abbrev pub wanted_by : Option (Text × List Row) → Option Wanted
@@ -49,6 +52,7 @@ taken_of words =
 abbrev pub wanted_as : Request → Wanted
 wanted_as (request.Encode e) = Encode (as_encode_words e)
 wanted_as (request.Check c) = Check (as_check_words c)
+wanted_as (request.Decode d) = Decode (as_decode_words d)
 wanted_as (request.Probe p) = Probe (as_probe_words p)
 wanted_as (request.Bench b) = Bench (as_bench_words b)
 

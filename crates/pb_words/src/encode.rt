@@ -1,35 +1,49 @@
 //! The words of `encode`.
-ghost use Rattle.std.specs.Prelude.{◌≡◌, IfOk, option_map, [], ◌∷◌};
+ghost use Rattle.std.specs.Prelude.{◌≡◌, IfOk, option_copied, option_map, not, [], ◌∷◌};
+ghost use Rattle.std.specs.Option.{option_to_list};
 ghost use Rattle.clap.specs.Words.{found_of, rows_of};
 ghost use Rattle.pb_words.specs.Names.{are_different};
 ghost use Rattle.pb_words.specs.Rules.{IsCommand};
 ghost use Rattle.pb_words.specs.EncodeWords.{as_encode_words, encode_app, encode_in};
 
-use crate::argument::{name, word_of};
+use crate::argument::{name, optional_name, word_of};
 use crate::options::{options_in, with_options};
 use clap::{ArgMatches, Command};
 use pb_choice::Options;
 use std::alloc::{AllocError, Global};
 
-/// Encode a problem: the file that is read, the file that is made, and how.
+/// Encode a problem: the file that is read, the files that are made, and how.
 #[derive(Clone, Copy, PartialEq, Eq, Debug)]
 pub struct Encoding<'a> {
     /// The name of the OPB file.
     pub opb: &'a str,
     /// The name of the CNF file, which is another.
     pub cnf: &'a str,
+    /// The name of the derivation, which is a third, if one is made.
+    pub proof: Option<&'a str>,
     /// How constraints are encoded.
     pub options: Options,
 }
 
-/// `encode OPB CNF` and the options.
+/// `encode OPB CNF [PROOF]` and the options.
 pub fn command<'a>(alloc: Global) -> Result<Command<'a>, AllocError>
     ensures { IfOk result (IsCommand encode_app) }
 {
     let named = Command::new(alloc, "encode")
         .arg(name(alloc, "opb"))?
-        .arg(name(alloc, "cnf"))?;
+        .arg(name(alloc, "cnf"))?
+        .arg(optional_name(alloc, "proof"))?;
     with_options(alloc, named)
+}
+
+// Two of the names are equal.
+fn are_equal(opb: &str, cnf: &str, proof: Option<&str>) -> bool
+    ensures { not result ≡ are_different (opb.now ∷ cnf.now ∷ option_to_list (option_copied proof.entry)) }
+{
+    match proof {
+        Some(proof) => opb == cnf || opb == proof || cnf == proof,
+        None => opb == cnf,
+    }
 }
 
 /// What `encode` was asked for.
@@ -38,9 +52,15 @@ pub fn encoding_in<'a>(given: &ArgMatches<'a>) -> Option<Encoding<'a>>
 {
     let opb = word_of(given, "opb")?;
     let cnf = word_of(given, "cnf")?;
+    let proof = word_of(given, "proof");
     let options = options_in(given)?;
-    if opb == cnf {
+    if are_equal(opb, cnf, proof) {
         return None;
     }
-    Some(Encoding { opb, cnf, options })
+    Some(Encoding {
+        opb,
+        cnf,
+        proof,
+        options,
+    })
 }

@@ -4,6 +4,7 @@
 mod argument;
 mod bench;
 mod check;
+mod decode;
 mod digits;
 mod encode;
 mod fault;
@@ -16,6 +17,7 @@ mod request;
 
 pub use bench::Benching;
 pub use check::Checking;
+pub use decode::Decoding;
 pub use encode::Encoding;
 pub use fault::WordsFault;
 pub use line::taken;

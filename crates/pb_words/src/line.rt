@@ -3,13 +3,15 @@ ghost use Rattle.std.specs.Prelude.{◌≡◌, ◌≢◌, IfOk, IsErrOf, None, S
 ghost use Rattle.clap.specs.Words.{found_of, kind_of, rows_of, subcommand_rows_of};
 ghost use Rattle.pb_words.specs.BenchWords.{bench_in};
 ghost use Rattle.pb_words.specs.CheckWords.{check_in};
+ghost use Rattle.pb_words.specs.DecodeWords.{decode_in};
 ghost use Rattle.pb_words.specs.EncodeWords.{encode_in};
 ghost use Rattle.pb_words.specs.ProbeWords.{probe_in};
 ghost use Rattle.pb_words.specs.Taken.{taken_of, wanted_as, wanted_by, wanted_in, Tells};
-ghost use Rattle.pb_words.specs.Taken.Wanted.{Encode, Check, Probe, Bench};
+ghost use Rattle.pb_words.specs.Taken.Wanted.{Encode, Check, Decode, Probe, Bench};
 
 use crate::bench::benching_in;
 use crate::check::checking_in;
+use crate::decode::decoding_in;
 use crate::encode::encoding_in;
 use crate::fault::WordsFault;
 use crate::probe::probing_in;
@@ -35,6 +37,16 @@ fn check_request<'a>(given: &ArgMatches<'a>) -> Result<Request<'a>, WordsFault>
 {
     match checking_in(given) {
         Some(checking) => Ok(Request::Check(checking)),
+        None => Err(WordsFault::Usage),
+    }
+}
+
+// What `decode` was asked for.
+fn decode_request<'a>(given: &ArgMatches<'a>) -> Result<Request<'a>, WordsFault>
+    ensures { Tells (option_map Decode (decode_in (rows_of (found_of given.now)))) result }
+{
+    match decoding_in(given) {
+        Some(decoding) => Ok(Request::Decode(decoding)),
         None => Err(WordsFault::Usage),
     }
 }
@@ -70,6 +82,7 @@ fn request_in<'a>(
     match name {
         "encode" => encode_request(given),
         "check" => check_request(given),
+        "decode" => decode_request(given),
         "probe" => probe_request(alloc, given),
         "bench" => bench_request(given),
         _ => Err(WordsFault::Usage),

@@ -3,7 +3,7 @@ ghost use Rattle.std.specs.Prelude.{◌≡◌, IfOk, codes};
 ghost use Rattle.pb_words.specs.Rules.{bare_program, IsCommand};
 ghost use Rattle.pb_words.specs.Taken.{program_app};
 
-use crate::{bench, check, encode, probe};
+use crate::{bench, check, decode, encode, probe};
 use clap::Command;
 use std::alloc::{AllocError, Global};
 
@@ -25,6 +25,7 @@ pub fn program<'a>(alloc: Global) -> Result<Command<'a>, AllocError>
     bare(alloc)
         .subcommand(encode::command(alloc)?)?
         .subcommand(check::command(alloc)?)?
+        .subcommand(decode::command(alloc)?)?
         .subcommand(probe::command(alloc)?)?
         .subcommand(bench::command(alloc)?)
 }

@@ -1,6 +1,7 @@
 //! What the words ask for.
 use crate::bench::Benching;
 use crate::check::Checking;
+use crate::decode::Decoding;
 use crate::encode::Encoding;
 use crate::probe::Probing;
 
@@ -11,6 +12,8 @@ pub enum Request<'a> {
     Encode(Encoding<'a>),
     /// Check a derivation.
     Check(Checking<'a>),
+    /// Decode a model.
+    Decode(Decoding<'a>),
     /// Propagate some literals over a CNF.
     Probe(Probing<'a>),
     /// Encode a generated problem.

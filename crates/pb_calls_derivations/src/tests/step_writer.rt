@@ -21,7 +21,8 @@ fn write_pairs<D: Desk>(alloc: Global, desk: &mut D, opb: &str) -> Option<u64>
     }
     let mut outbox = Outbox::new(alloc).ok()?;
     desk.create(1, "out").ok()?;
-    let mut writer = StepWriter::new(alloc, desk, 1, &mut outbox, 7);
+    let mut line = Vec::new(alloc);
+    let mut writer = StepWriter::new(alloc, desk, 1, &mut outbox, &mut line, 7);
     Pairwise::over(&of).derive(alloc, 4, 6, &mut writer).ok()?;
     writer.flush().ok()?;
     Some(writer.next_id())

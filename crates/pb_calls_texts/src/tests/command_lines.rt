@@ -19,7 +19,12 @@ fn encoding_text(alloc: Global, asked: &Encoding<'_>) -> Option<String> {
         options.amo, options.card, options.general
     )
     .ok()?;
-    format!(in alloc; "{} {} {families} {}", asked.opb, asked.cnf, options.budget).ok()
+    let proof = asked.proof.unwrap_or("none");
+    format!(in alloc;
+        "{} {} {proof} {families} {}",
+        asked.opb, asked.cnf, options.budget
+    )
+    .ok()
 }
 
 fn probing_text(alloc: Global, asked: &Probing<'_>) -> Option<String> {
@@ -43,10 +48,11 @@ fn what_is_asked_for(rt: HostRuntime) -> Result<(), Fail> {
     let cases = [
         ("pbcnf probe c", "c"),
         ("pbcnf probe c x1 ~x02 x2147483647", "c x1 ~x2 x2147483647"),
-        ("pbcnf encode a b", "a b Auto Auto Diagram 50000"),
+        ("pbcnf encode a b", "a b none Auto Auto Diagram 50000"),
+        ("pbcnf encode a b c --budget 9", "a b c Auto Auto Diagram 9"),
         (
             "pbcnf encode --amo ladder x.opb --card=totalizer x.cnf --budget=007 --general adder",
-            "x.opb x.cnf Ladder Totalizer Adder 7",
+            "x.opb x.cnf none Ladder Totalizer Adder 7",
         ),
     ];
     for (line, expected) in cases {
@@ -62,7 +68,8 @@ fn usage(rt: HostRuntime) -> Result<(), Fail> {
         "pbcnf",
         "pbcnf encode a",
         "pbcnf encode a a",
-        "pbcnf encode a b c",
+        "pbcnf encode a b c d",
+        "pbcnf encode a b b",
         "pbcnf encode a b --budget=9 --budget=9",
         "pbcnf encode a b --budget 0",
         "pbcnf encode a b --budget +5",

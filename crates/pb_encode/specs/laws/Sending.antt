@@ -1,4 +1,4 @@
--- How writing a text to slot 0 may end.
+-- How writing a text to a slot may end.
 use Rattle.std.specs.Prelude.{ℕ, List, take, length}
 use Rattle.pb_desk.specs.View.{wrote}
 use Rattle.pb_desk.specs.Desk.{DeskState, Reaches, FailsToWrite, LacksRoom, written}
@@ -6,21 +6,21 @@ use Rattle.pb_encode.specs.declared.fault.EncodeFault.{EncodeFault}
 use Rattle.pb_encode.specs.declared.fault.EncodeFault.TheVariants as fault
 
 -- a write failed once a first part of the text was written
-pub record StopsSending (text : List ℕ) (old new : DeskState) : Type 0 where
+pub record StopsSending (slot : ℕ) (text : List ℕ) (old new : DeskState) : Type 0 where
   pub count : ℕ
-  pub fails : FailsToWrite (wrote 0 (take count text)) old new
+  pub fails : FailsToWrite (wrote slot (take count text)) old new
 
 -- a first part of the text is written
-pub record SendsPart (text : List ℕ) (old new : DeskState) : Type 0 where
+pub record SendsPart (slot : ℕ) (text : List ℕ) (old new : DeskState) : Type 0 where
   pub count : ℕ
-  pub reached : Reaches (wrote 0 (take count text)) old new
+  pub reached : Reaches (wrote slot (take count text)) old new
 
 -- how the desk stands where the text was not sent whole
-abbrev pub Stops : List ℕ → DeskState → DeskState → EncodeFault → Type 0
-Stops text old new fault.WriteFault = StopsSending text old new
-Stops text old new fault.NoMemory = SendsPart text old new
-Stops text old new (fault.Limit which) = ⊥
+abbrev pub Stops : ℕ → List ℕ → DeskState → DeskState → EncodeFault → Type 0
+Stops slot text old new fault.WriteFault = StopsSending slot text old new
+Stops slot text old new fault.NoMemory = SendsPart slot text old new
+Stops slot text old new (fault.Limit which) = ⊥
 
 -- the slot has no room for the text
-abbrev pub LacksFor : List ℕ → DeskState → Type 0
-LacksFor text desk = LacksRoom (written 0) (length text) desk
+abbrev pub LacksFor : ℕ → List ℕ → DeskState → Type 0
+LacksFor slot text desk = LacksRoom (written slot) (length text) desk

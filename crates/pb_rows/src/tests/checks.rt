@@ -27,7 +27,8 @@ const WEIGHTS: Pair = Pair {
 
 const ACCEPTED: &str = "accepted\n";
 
-fn named(alloc: Global, name: &str, text: &str) -> Result<Named, NoMemory> {
+// A file of this name.
+pub fn named(alloc: Global, name: &str, text: &str) -> Result<Named, NoMemory> {
     Ok(Named {
         name: Text::from_string(name.to_string(alloc)?),
         bytes: Bytes::from_vec(text.as_bytes().to_vec(alloc)?),
@@ -46,7 +47,7 @@ fn files_of(alloc: Global, pair: &Pair, lines: &str) -> Result<Shelf, NoMemory> 
 
 // A run with these words on a desk with these files, whose calls with a number in `fails` fail and move at most `piece`
 // bytes.
-fn run_over(
+pub fn run_over(
     alloc: Global,
     words: &str,
     files: Shelf,
@@ -62,7 +63,7 @@ fn run_over(
 }
 
 // What the run says, where it is done, or its status and its fault line, where it says nothing. It makes no file.
-fn told(alloc: Global, run: &Run) -> Option<String> {
+pub(super) fn told(alloc: Global, run: &Run) -> Option<String> {
     if run.outcome.status() != 0 && is_silent(run) {
         return format!(in alloc; "{} {}", run.outcome.status(), run.outcome).ok();
     }

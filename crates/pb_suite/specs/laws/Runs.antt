@@ -2,7 +2,7 @@
 use Rattle.std.specs.Prelude.{ℕ, ◌≡◌, ◌≤◌, ◌<◌, List, take, length, Option, Some, None}
 use Rattle.pb_base.specs.declared.expected.Expected.{Expected}
 use Rattle.pb_base.specs.declared.file.File.{File}
-use Rattle.pb_base.specs.declared.file.File.TheVariants.{Opb, Cnf}
+use Rattle.pb_base.specs.declared.file.File.TheVariants.{Opb, Cnf, Model}
 use Rattle.pb_base.specs.declared.limit.LimitKind.{LimitKind}
 use Rattle.pb_base.specs.declared.place.Place.{Place}
 use Rattle.pb_base.specs.declared.problem.Problem.{Problem}
@@ -14,10 +14,12 @@ use Rattle.pb_dimacs.specs.declared.fault.CnfFault.{CnfFault}
 use Rattle.pb_dimacs.specs.declared.fault.CnfFault.TheVariants as cnf
 use Rattle.pb_check.specs.declared.verdict.CheckFault.{CheckFault}
 use Rattle.pb_check.specs.declared.verdict.CheckFault.TheVariants as check
+use Rattle.pb_model.specs.declared.fault.ModelFault.{ModelFault}
+use Rattle.pb_model.specs.declared.fault.ModelFault.TheVariants as model
 use Rattle.pb_choice.specs.declared.options.Options.{Options}
 use Rattle.pb_encode.specs.declared.fault.EncodeFault.{EncodeFault}
 use Rattle.pb_encode.specs.declared.fault.EncodeFault.TheVariants as encode
-use Rattle.pb_encode.specs.Encodings.{made, problem_text, StopsMaking, WantsMemory, LacksToMake}
+use Rattle.pb_encode.specs.Encodings.{made_files, FileNames, Lacks, StopsEncoding, WantsMemory}
 use Rattle.pb_encode.specs.Summaries.{IsOver, IsEncodable}
 use Rattle.pb_suite.specs.declared.outcome.Outcome.{Outcome}
 use Rattle.pb_suite.specs.declared.outcome.Outcome.TheVariants as outcome
@@ -39,6 +41,12 @@ cnf_refusal (cnf.Token place e) = outcome.Refused Cnf place e
 cnf_refusal (cnf.Limit place which) = outcome.Limit (Some Cnf) which place
 cnf_refusal cnf.Failed = outcome.ReadFault
 cnf_refusal cnf.NoMemory = outcome.NoMemory
+
+-- the outcome of a model text's fault
+abbrev pub model_refusal : ModelFault → Outcome
+model_refusal (model.Token place e) = outcome.Refused Model place e
+model_refusal (model.Limit place which) = outcome.Limit (Some Model) which place
+model_refusal model.NoMemory = outcome.NoMemory
 
 -- the outcome of a fault of checking
 abbrev pub check_refusal : CheckFault → Outcome
@@ -67,9 +75,9 @@ pub data StopsReading (file : File) (slot : ℕ) (name : List ℕ) (refuses_text
   no_memory : (count : ℕ) → Reaches (fetched slot name count) old new → StopsReading file slot name refuses_text old new outcome.NoMemory
   refused : (count : ℕ) (answer : Outcome) → RefusesFile file answer → Reaches (fetched slot name count) old new → HasText name (λ text. refuses_text text answer) old → StopsReading file slot name refuses_text old new answer
 
--- the file was made and ended, and the words were said
-abbrev pub stored : List ℕ → List ℕ → List ℕ → View → View
-stored name text said view = spoke said (made name text view)
+-- the files of a problem were made and ended, and these words said
+abbrev pub stored : Options → Problem → FileNames → List ℕ → View → View
+stored o p names said view = spoke said (made_files o p names view)
 
 -- the outcome of a fault of encoding
 abbrev pub outcome_of : EncodeFault → Outcome
@@ -78,17 +86,17 @@ outcome_of encode.WriteFault = outcome.WriteFault
 outcome_of encode.NoMemory = outcome.NoMemory
 
 -- how storing an encoding ended without it
-pub data StopsStoring (o : Options) (p : Problem) (name text said : List ℕ) (old new : DeskState) : Outcome → Type 0 where
-  over : (which : LimitKind) → IsOver which o p → Reaches same old new → StopsStoring o p name text said old new (outcome.Limit None which None)
-  not_made : IsEncodable o p → StopsMaking name text old new → StopsStoring o p name text said old new outcome.WriteFault
-  in_words : IsEncodable o p → (count : ℕ) → FailsToWrite (stored name text (take count said)) old new → StopsStoring o p name text said old new outcome.WriteFault
-  no_memory : WantsMemory o p name old new → StopsStoring o p name text said old new outcome.NoMemory
-  no_words : IsEncodable o p → Reaches (made name text) old new → StopsStoring o p name text said old new outcome.NoMemory
+pub data StopsStoring (o : Options) (p : Problem) (names : FileNames) (old new : DeskState) : Outcome → Type 0 where
+  over : (which : LimitKind) → IsOver which o p → Reaches same old new → StopsStoring o p names old new (outcome.Limit None which None)
+  not_made : IsEncodable o p → StopsEncoding o p names old new → StopsStoring o p names old new outcome.WriteFault
+  in_words : IsEncodable o p → (count : ℕ) → FailsToWrite (stored o p names (take count (due_words o p))) old new → StopsStoring o p names old new outcome.WriteFault
+  no_memory : WantsMemory o p names old new → StopsStoring o p names old new outcome.NoMemory
+  no_words : IsEncodable o p → Reaches (made_files o p names) old new → StopsStoring o p names old new outcome.NoMemory
 
--- Why a steady desk may fail to store: the name or the slot is used, or there is no room for the text or the words.
-pub data LacksToStore (name text said : List ℕ) (desk : DeskState) : Type 0 where
-  to_make : LacksToMake name text desk → LacksToStore name text said desk
-  to_say : LacksRoom words (length said) desk → LacksToStore name text said desk
+-- Why a steady desk may fail to store: something lacks for the files, or there is no room for the words.
+pub data LacksToStore (o : Options) (p : Problem) (names : FileNames) (desk : DeskState) : Type 0 where
+  to_make : Lacks o p names desk → LacksToStore o p names desk
+  to_say : LacksRoom words (length (due_words o p)) desk → LacksToStore o p names desk
 
 -- so many bytes of the file were read, of those that it has
 pub record FetchesPart (slot : ℕ) (name : List ℕ) (count : ℕ) (old new : DeskState) : Type 0 where
@@ -99,13 +107,6 @@ pub record FetchesPart (slot : ℕ) (name : List ℕ) (count : ℕ) (old new : D
 abbrev pub FetchesMore : ℕ → List ℕ → ℕ → DeskState → DeskState → Type 0
 FetchesMore slot name most old new = (count : ℕ) × (most < count) × FetchesPart slot name count old new
 
--- ---- storing what a problem becomes
-
-abbrev pub stored_problem : Options → Problem → List ℕ → View → View
-stored_problem o p name = stored name (problem_text o p) (due_words o p)
-
-abbrev pub StopsStoringProblem : Options → Problem → List ℕ → DeskState → DeskState → Outcome → Type 0
-StopsStoringProblem o p name old new answer = StopsStoring o p name (problem_text o p) (due_words o p) old new answer
-
-abbrev pub LacksToStoreProblem : Options → Problem → List ℕ → DeskState → Type 0
-LacksToStoreProblem o p name desk = LacksToStore name (problem_text o p) (due_words o p) desk
+-- all was made and said
+abbrev pub stored_whole : Options → Problem → FileNames → View → View
+stored_whole o p names = stored o p names (due_words o p)

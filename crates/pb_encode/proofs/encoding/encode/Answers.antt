@@ -1,47 +1,58 @@
-use Rattle.std.proofs.Common.{◌≡◌, ℕ, List, length, take, refl, ap, sym, subst}
-use Rattle.std.proofs.Math.Seq.{take-length}
-use Rattle.pb_desk.specs.View.{created, wrote}
-use Rattle.pb_desk.specs.Desk.{same}
-use Rattle.pb_desk.proofs.Steps.{then, then_fails_to_write}
-use Rattle.pb_encode.specs.declared.fault.EncodeFault.{EncodeFault}
+use Rattle.std.proofs.Common.{◌≡◌, Err, ap, sym, ◌∙◌}
+use Rattle.std.specs.Prelude.{option_copied}
 use Rattle.pb_encode.specs.declared.fault.EncodeFault.TheVariants as fault
-use Rattle.pb_encode.specs.Encodings.{begun, problem_text}
-use Rattle.pb_encode.specs.Encodings.StopsMaking.{in_text}
-use Rattle.pb_encode.specs.Encodings.WantsMemory.{in_text as wants_in_text}
-use Rattle.pb_encode.specs.laws.Sending.{Stops}
+use Rattle.pb_desk.specs.View.{View}
+use Rattle.pb_encode.specs.Encodings.{names_of}
+use Rattle.pb_encode.specs.Encodings.Lacks.{for_cnf}
+use Rattle.pb_encode.proofs.EncodedFiles.{cut_off, left_off, proof_cut_off, proof_lacks, proof_left_off}
 use Rattle.pb_encode.proofs.encoding.encode.Goals as goal
 
-pub returns-in_err-write_cnf-clause-write_fault : goal.returns-in_err-write_cnf-clause-write_fault
-returns-in_err-write_cnf-clause-write_fault g c = λ is.
-    let a = g.D.Desk.state c.args.desk.now in
-    let b = g.D.Desk.state c.create.new.self in
-    let d = g.D.Desk.state c.write_cnf.new.desk in
-    let text = problem_text c.args.options.now c.args.problem.now in
-    let name = c.args.name.now in
-    let given = c.from_residual-in_err-write_cnf.ensures.1 in
-    let fault_is : fault.WriteFault ≡ c.in_err-write_cnf.field-0.0 = simp is at given in
-    let stop = subst (λ (f : EncodeFault). Stops text b d f) (sym fault_is) c.in_err-write_cnf.ensures.stopped in
-    (c.in_ok-summary.ensures.encodable, in_text stop.count (then_fails_to_write (created 0 name) (wrote 0 (take stop.count text)) (begun name (take stop.count text)) a b d (λ v. refl) c.in_ok-create.ensures.ok stop.fails))
+-- ---- the CNF
 
-pub returns-in_err-write_cnf-clause-no_memory : goal.returns-in_err-write_cnf-clause-no_memory
-returns-in_err-write_cnf-clause-no_memory g c = λ is.
-    let a = g.D.Desk.state c.args.desk.now in
-    let b = g.D.Desk.state c.create.new.self in
-    let d = g.D.Desk.state c.write_cnf.new.desk in
-    let text = problem_text c.args.options.now c.args.problem.now in
-    let name = c.args.name.now in
-    let given = c.from_residual-in_err-write_cnf.ensures.1 in
-    let fault_is : fault.NoMemory ≡ c.in_err-write_cnf.field-0.0 = simp is at given in
-    let stop = subst (λ (f : EncodeFault). Stops text b d f) (sym fault_is) c.in_err-write_cnf.ensures.stopped in
-    wants_in_text c.in_ok-summary.ensures.encodable stop.count (then (created 0 name) (wrote 0 (take stop.count text)) (begun name (take stop.count text)) a b d (λ v. refl) c.in_ok-create.ensures.ok stop.reached)
+pub returns-in_err-summary-clause-limit : goal.returns-in_err-summary-clause-limit
+returns-in_err-summary-clause-limit g c = λ k is.
+    let given = c.from_residual.ensures.1 in
+    let same : fault.Limit k ≡ c.in_err-summary.field-0.0 = simp is at given in
+    c.encode_cnf.ensures.limit k (c.in_err-summary.was ∙ ap Err (sym same))
 
-pub returns-in_err-close-clause-write_fault : goal.returns-in_err-close-clause-write_fault
-returns-in_err-close-clause-write_fault g c = λ is.
-    let a = g.D.Desk.state c.args.desk.now in
-    let b = g.D.Desk.state c.create.new.self in
-    let d = g.D.Desk.state c.write_cnf.new.desk in
-    let e = g.D.Desk.state c.close.new.self in
-    let text = problem_text c.args.options.now c.args.problem.now in
-    let name = c.args.name.now in
-    let begun_is = then (created 0 name) (wrote 0 text) (begun name text) a b d (λ v. refl) c.in_ok-create.ensures.ok c.in_ok-write_cnf.ensures.written in
-    (c.in_ok-summary.ensures.encodable, in_text (length text) (then_fails_to_write (begun name text) same (begun name (take (length text) text)) a d e (λ v. ap (λ (xs : List ℕ). begun name xs v) (sym (take-length text))) begun_is c.in_err-close.ensures.failed))
+pub returns-in_err-summary-clause-write_fault : goal.returns-in_err-summary-clause-write_fault
+returns-in_err-summary-clause-write_fault g c = λ is.
+    let given = c.from_residual.ensures.1 in
+    let same : fault.WriteFault ≡ c.in_err-summary.field-0.0 = simp is at given in
+    cut_off c.args.options.now c.args.problem.now (names_of c.args.names.now) _ _ (c.encode_cnf.ensures.write_fault (c.in_err-summary.was ∙ ap Err (sym same)))
+
+pub returns-in_err-summary-clause-no_memory : goal.returns-in_err-summary-clause-no_memory
+returns-in_err-summary-clause-no_memory g c = λ is.
+    let given = c.from_residual.ensures.1 in
+    let same : fault.NoMemory ≡ c.in_err-summary.field-0.0 = simp is at given in
+    left_off c.args.options.now c.args.problem.now (names_of c.args.names.now) _ _ (c.encode_cnf.ensures.no_memory (c.in_err-summary.was ∙ ap Err (sym same)))
+
+pub returns-in_err-summary-clause-steady : goal.returns-in_err-summary-clause-steady
+returns-in_err-summary-clause-steady g c = λ steady is.
+    let given = c.from_residual.ensures.1 in
+    let same : fault.WriteFault ≡ c.in_err-summary.field-0.0 = simp is at given in
+    for_cnf (c.encode_cnf.ensures.steady steady (c.in_err-summary.was ∙ ap Err (sym same)))
+
+-- ---- the derivation
+
+pub returns-in_err-encode_steps-clause-write_fault : goal.returns-in_err-encode_steps-clause-write_fault
+returns-in_err-encode_steps-clause-write_fault g c = λ is.
+    let given = c.from_residual-in_err-encode_steps.ensures.1 in
+    let same : fault.WriteFault ≡ c.in_err-encode_steps.field-0.0 = simp is at given in
+    proof_cut_off c.args.options.now c.args.problem.now (names_of c.args.names.now) (g.D.Desk.state c.args.desk.now) (g.D.Desk.state c.encode_cnf.new.desk) c.in-Some.proof.now (ap option_copied c.in-Some.is) c.in_ok-summary.ensures.made
+    (g.D.Desk.state c.encode_steps.new.desk) c.in_ok-summary.ensures.encodable (c.encode_steps.ensures.write_fault (c.in_err-encode_steps.was ∙ ap Err (sym same)))
+
+pub returns-in_err-encode_steps-clause-no_memory : goal.returns-in_err-encode_steps-clause-no_memory
+returns-in_err-encode_steps-clause-no_memory g c = λ is.
+    let given = c.from_residual-in_err-encode_steps.ensures.1 in
+    let same : fault.NoMemory ≡ c.in_err-encode_steps.field-0.0 = simp is at given in
+    proof_left_off c.args.options.now c.args.problem.now (names_of c.args.names.now) (g.D.Desk.state c.args.desk.now) (g.D.Desk.state c.encode_cnf.new.desk) c.in-Some.proof.now (ap option_copied c.in-Some.is) c.in_ok-summary.ensures.made
+    (g.D.Desk.state c.encode_steps.new.desk) c.in_ok-summary.ensures.encodable (c.encode_steps.ensures.no_memory (c.in_err-encode_steps.was ∙ ap Err (sym same)))
+
+pub returns-in_err-encode_steps-clause-steady : goal.returns-in_err-encode_steps-clause-steady
+returns-in_err-encode_steps-clause-steady g c = λ steady is.
+    let given = c.from_residual-in_err-encode_steps.ensures.1 in
+    let same : fault.WriteFault ≡ c.in_err-encode_steps.field-0.0 = simp is at given in
+    let whole = c.in_ok-summary.ensures.made in
+    proof_lacks c.args.options.now c.args.problem.now (names_of c.args.names.now) (g.D.Desk.state c.args.desk.now) (g.D.Desk.state c.encode_cnf.new.desk) c.in-Some.proof.now (ap option_copied c.in-Some.is) whole
+    (c.encode_steps.ensures.steady (ap (λ (v : View). v.steady) whole.view ∙ steady) (c.in_err-encode_steps.was ∙ ap Err (sym same)))

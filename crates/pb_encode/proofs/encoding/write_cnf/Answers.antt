@@ -28,7 +28,7 @@ pub returns-in_err-outbox-clause-stopped : goal.returns-in_err-outbox-clause-sto
 returns-in_err-outbox-clause-stopped g c =
     let text = problem_text c.args.options.now c.args.problem.now in
     let a = g.D.Desk.state c.args.desk.now in
-    on_fault (Stops text a a) c.from_residual.result fault.NoMemory c.from_residual.ensures.1 (sends_none text a)
+    on_fault (Stops 0 text a a) c.from_residual.result fault.NoMemory c.from_residual.ensures.1 (sends_none 0 text a)
 
 pub returns-in_err-header-clause-stopped : goal.returns-in_err-header-clause-stopped
 returns-in_err-header-clause-stopped g c =
@@ -43,10 +43,10 @@ returns-in_err-header-clause-stopped g c =
     let is = c.new-writer.ensures in
     let head = head_is o p c.args.summary.now c.requires.within c.requires.encodable c.requires.summary in
     let part = fails_front (head_of o p) (lines_of o p) _ _ (fails_same _ _ _ _ head c.in_err-header.ensures) in
-    let name_is = name_stays n m w.slot a b _ (held_in w.outbox.now) _ is part.grows.rest in
-    let sent = stops_whole n m w.slot a b _ (held_in w.outbox.now) text _ is c.in_ok-outbox.ensures part in
-    let to = subst (λ (d : DeskState). Stops text a d fault.WriteFault) (ap g.D.Desk.state (sym (c.in_err-header.desk-1-own.given.1 (sym name_is)))) sent in
-    on_fault (Stops text a (g.D.Desk.state c.in_err-header.desk-1-own.given.0)) c.from_residual-in_err-header.result fault.WriteFault c.from_residual-in_err-header.ensures.1 to
+    let name_is = name_stays n m 0 w.slot a b _ (held_in w.outbox.now) _ is part.grows.rest in
+    let sent = stops_whole n m 0 w.slot a b _ (held_in w.outbox.now) text _ is c.in_ok-outbox.ensures part in
+    let to = subst (λ (d : DeskState). Stops 0 text a d fault.WriteFault) (ap g.D.Desk.state (sym (c.in_err-header.desk-1-own.given.1 (sym name_is)))) sent in
+    on_fault (Stops 0 text a (g.D.Desk.state c.in_err-header.desk-1-own.given.0)) c.from_residual-in_err-header.result fault.WriteFault c.from_residual-in_err-header.ensures.1 to
 
 pub returns-in_err-header-clause-steady : goal.returns-in_err-header-clause-steady
 returns-in_err-header-clause-steady g c = λ steady fault_is.
@@ -61,7 +61,7 @@ returns-in_err-header-clause-steady g c = λ steady fault_is.
     let is = c.new-writer.ensures in
     let head = head_is o p c.args.summary.now c.requires.within c.requires.encodable c.requires.summary in
     let part = fails_front (head_of o p) (lines_of o p) _ _ (fails_same _ _ _ _ head c.in_err-header.ensures) in
-    lacks_whole n m w.slot a b _ (held_in w.outbox.now) text _ is c.in_ok-outbox.ensures part steady (g.met.D.Desk.steady_has_room c.args.desk.now steady)
+    lacks_whole n m 0 w.slot a b _ (held_in w.outbox.now) text _ is c.in_ok-outbox.ensures part steady (g.met.D.Desk.steady_has_room c.args.desk.now steady)
 
 pub returns-in_err-stream_clauses-clause-stopped : goal.returns-in_err-stream_clauses-clause-stopped
 returns-in_err-stream_clauses-clause-stopped g c =
@@ -78,10 +78,10 @@ returns-in_err-stream_clauses-clause-stopped g c =
     let begun = takes_same _ _ _ _ head c.in_ok-header.ensures in
     let f = c.in_err-stream_clauses.field-0.0 in
     let part = then_stops (head_of o p) (lines_of o p) _ _ _ f begun c.in_err-stream_clauses.ensures in
-    let name_is = name_stays n m w.slot a b _ (held_in w.outbox.now) _ is (rest_stays text _ _ f part) in
-    let sent = stopped_whole n m w.slot a b _ (held_in w.outbox.now) text _ is c.in_ok-outbox.ensures f part in
-    let to = subst (λ (d : DeskState). Stops text a d (of_sink f)) (ap g.D.Desk.state (sym (c.in_err-stream_clauses.desk-in-Break-branch-3-1-own.given.1 (sym name_is)))) sent in
-    on_fault (Stops text a (g.D.Desk.state c.in_err-stream_clauses.desk-in-Break-branch-3-1-own.given.0)) c.from_residual-in_err-stream_clauses.result (of_sink f) c.from_residual-in_err-stream_clauses.ensures.1 to
+    let name_is = name_stays n m 0 w.slot a b _ (held_in w.outbox.now) _ is (rest_stays text _ _ f part) in
+    let sent = stopped_whole n m 0 w.slot a b _ (held_in w.outbox.now) text _ is c.in_ok-outbox.ensures f part in
+    let to = subst (λ (d : DeskState). Stops 0 text a d (of_sink f)) (ap g.D.Desk.state (sym (c.in_err-stream_clauses.desk-in-Break-branch-3-1-own.given.1 (sym name_is)))) sent in
+    on_fault (Stops 0 text a (g.D.Desk.state c.in_err-stream_clauses.desk-in-Break-branch-3-1-own.given.0)) c.from_residual-in_err-stream_clauses.result (of_sink f) c.from_residual-in_err-stream_clauses.ensures.1 to
 
 pub returns-in_err-stream_clauses-clause-steady : goal.returns-in_err-stream_clauses-clause-steady
 returns-in_err-stream_clauses-clause-steady g c = λ steady fault_is.
@@ -100,7 +100,7 @@ returns-in_err-stream_clauses-clause-steady g c = λ steady fault_is.
     let part = then_stops (head_of o p) (lines_of o p) _ _ _ f begun c.in_err-stream_clauses.ensures in
     let given = c.from_residual-in_err-stream_clauses.ensures.1 in
     let kind : fault.WriteFault ≡ of_sink f = simp fault_is at given in
-    lacks_stopped n m w.slot a b _ (held_in w.outbox.now) text _ is c.in_ok-outbox.ensures f (sym kind) part steady (g.met.D.Desk.steady_has_room c.args.desk.now steady)
+    lacks_stopped n m 0 w.slot a b _ (held_in w.outbox.now) text _ is c.in_ok-outbox.ensures f (sym kind) part steady (g.met.D.Desk.steady_has_room c.args.desk.now steady)
 
 pub returns-in_err-flush-clause-stopped : goal.returns-in_err-flush-clause-stopped
 returns-in_err-flush-clause-stopped g c =
@@ -117,10 +117,10 @@ returns-in_err-flush-clause-stopped g c =
     let begun = takes_same _ _ _ _ head c.in_ok-header.ensures in
     let whole = then_takes (head_of o p) (lines_of o p) _ _ _ begun c.in_ok-stream_clauses.ensures in
     let part = fails_same (text ++ []) text _ _ (append-nil text) (then_fails text [] _ _ _ whole c.in_err-flush.ensures.taken) in
-    let name_is = name_stays n m w.slot a b _ (held_in w.outbox.now) _ is part.grows.rest in
-    let sent = stops_whole n m w.slot a b _ (held_in w.outbox.now) text _ is c.in_ok-outbox.ensures part in
-    let to = subst (λ (d : DeskState). Stops text a d fault.WriteFault) (ap g.D.Desk.state (sym (c.desk-2-1.given.1 (sym name_is)))) sent in
-    on_fault (Stops text a (g.D.Desk.state c.desk-2-1.given.0)) c.from_residual-in_err-flush.result fault.WriteFault c.from_residual-in_err-flush.ensures.1 to
+    let name_is = name_stays n m 0 w.slot a b _ (held_in w.outbox.now) _ is part.grows.rest in
+    let sent = stops_whole n m 0 w.slot a b _ (held_in w.outbox.now) text _ is c.in_ok-outbox.ensures part in
+    let to = subst (λ (d : DeskState). Stops 0 text a d fault.WriteFault) (ap g.D.Desk.state (sym (c.desk-2-1.given.1 (sym name_is)))) sent in
+    on_fault (Stops 0 text a (g.D.Desk.state c.desk-2-1.given.0)) c.from_residual-in_err-flush.result fault.WriteFault c.from_residual-in_err-flush.ensures.1 to
 
 pub returns-in_err-flush-clause-steady : goal.returns-in_err-flush-clause-steady
 returns-in_err-flush-clause-steady g c = λ steady fault_is.
@@ -137,7 +137,7 @@ returns-in_err-flush-clause-steady g c = λ steady fault_is.
     let begun = takes_same _ _ _ _ head c.in_ok-header.ensures in
     let whole = then_takes (head_of o p) (lines_of o p) _ _ _ begun c.in_ok-stream_clauses.ensures in
     let part = fails_same (text ++ []) text _ _ (append-nil text) (then_fails text [] _ _ _ whole c.in_err-flush.ensures.taken) in
-    lacks_whole n m w.slot a b _ (held_in w.outbox.now) text _ is c.in_ok-outbox.ensures part steady (g.met.D.Desk.steady_has_room c.args.desk.now steady)
+    lacks_whole n m 0 w.slot a b _ (held_in w.outbox.now) text _ is c.in_ok-outbox.ensures part steady (g.met.D.Desk.steady_has_room c.args.desk.now steady)
 
 pub returns-clause-written : goal.returns-clause-written
 returns-clause-written g c =
@@ -154,6 +154,6 @@ returns-clause-written g c =
     let begun = takes_same _ _ _ _ head c.in_ok-header.ensures in
     let whole = then_takes (head_of o p) (lines_of o p) _ _ _ begun c.in_ok-stream_clauses.ensures in
     let all = takes_same (text ++ []) text _ _ (append-nil text) (then_takes text [] _ _ _ whole c.in_ok-flush.ensures.taken) in
-    let name_is = name_stays n m w.slot a b _ (held_in w.outbox.now) _ is all.grows.rest in
-    let reached = sent_whole n m w.slot a b _ (held_in w.outbox.now) text _ is c.in_ok-outbox.ensures c.in_ok-flush.ensures.all_sent all in
+    let name_is = name_stays n m 0 w.slot a b _ (held_in w.outbox.now) _ is all.grows.rest in
+    let reached = sent_whole n m 0 w.slot a b _ (held_in w.outbox.now) text _ is c.in_ok-outbox.ensures c.in_ok-flush.ensures.all_sent all in
     subst (λ (d : DeskState). Reaches (wrote 0 text) a d) (ap g.D.Desk.state (sym (c.desk-2-1.given.1 (sym name_is)))) reached

@@ -1,25 +1,21 @@
-use Rattle.std.proofs.Common.{◌≡◌, ◌∙◌, ℕ, List, Option, None, Err, ap, length, refl, subst, sym}
+use Rattle.std.proofs.Common.{◌≡◌, ◌∙◌, ℕ, List, Option, None, Err, ap, length, subst, sym}
 use Rattle.pb_base.specs.declared.limit.LimitKind.{LimitKind}
 use Rattle.pb_choice.specs.declared.options.Options.{Options}
 use Rattle.pb_choice.specs.Defaults.{default_options}
 use Rattle.pb_desk.specs.View.{spoke}
-use Rattle.pb_desk.specs.Desk.{DeskState, LacksRoom, Reaches, StopsIn, same, words}
-use Rattle.pb_desk.proofs.Steps.{begin}
+use Rattle.pb_desk.specs.Desk.{LacksRoom, Reaches, StopsIn, words}
 use Rattle.pb_encode.specs.Summaries.{summary_of, summary_text, IsOver}
 use Rattle.pb_words.specs.BenchWords.{as_bench_words}
 use Rattle.pb_suite.specs.declared.outcome.Outcome.TheVariants as outcome
 use Rattle.pb_suite.specs.Obeying.{Obeys}
-use Rattle.pb_suite.specs.Outputs.{nothing, only_words}
+use Rattle.pb_suite.specs.Outputs.{only_words}
 use Rattle.pb_suite.specs.OwedBench.{bench_output, owed_bench}
 use Rattle.pb_suite.specs.OwedEncode.{due_words}
 use Rattle.pb_suite.proofs.Endings.{bare_memory, is_refused}
-use Rattle.pb_suite.proofs.Going.{by_same, goes_by, Goes}
+use Rattle.pb_suite.proofs.Going.{stays}
 use Rattle.pb_suite.proofs.OwedBenches.{bench_due, bench_over}
 use Rattle.pb_suite.proofs.Says.{said_obeys, saying_obeys}
 use Rattle.pb_suite.proofs.benching.say_size.Goals as goal
-
-stays : (a : DeskState) → Goes nothing a a
-stays a = goes_by nothing same a a by_same (begin same a (λ v. refl))
 
 pub returns-in-Err-NoMemory : goal.returns-in-Err-NoMemory
 returns-in-Err-NoMemory g c = bare_memory (owed_bench (as_bench_words c.args.asked.now)) (g.D.Desk.state c.args.desk.now) (g.D.Desk.state c.args.desk.now) (stays (g.D.Desk.state c.args.desk.now))

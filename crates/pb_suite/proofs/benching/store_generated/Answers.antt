@@ -1,7 +1,7 @@
 use Rattle.std.proofs.Common.{ℕ, List, Option, Err, ap, sym}
 use Rattle.pb_choice.specs.Defaults.{default_options}
 use Rattle.pb_words.specs.BenchWords.{as_bench_words}
-use Rattle.pb_suite.specs.OwedBench.{bench_output, owed_bench}
+use Rattle.pb_suite.specs.OwedBench.{bench_output, only_cnf, owed_bench}
 use Rattle.pb_suite.specs.OwedEncode.{encoded_output}
 use Rattle.pb_suite.proofs.OwedBenches.{bench_due, bench_over}
 use Rattle.pb_suite.proofs.Stores.{stored_obeys, storing_obeys}
@@ -13,10 +13,10 @@ returns-in-Ok g c =
     let p = c.args.problem.now in
     let name = c.args.name.now in
     let a = g.D.Desk.state c.args.desk.now in
-    stored_obeys (owed_bench w) default_options p name a (g.D.Desk.state c.store.new.desk) (g.met.D.Desk.steady_tells c.args.desk.now)
-    (bench_due w p a c.requires.reads (encoded_output name default_options p) (ap (λ (n : Option (List ℕ)). bench_output n p) (sym c.requires.named)))
+    stored_obeys (owed_bench w) default_options p (only_cnf name) a (g.D.Desk.state c.store.new.desk) (g.met.D.Desk.steady_tells c.args.desk.now) (λ e. cc)
+    (bench_due w p a c.requires.reads (encoded_output (only_cnf name) default_options p) (ap (λ (n : Option (List ℕ)). bench_output n p) (sym c.requires.named)))
     (bench_over w p a c.requires.reads)
-    (rw (sym c.default.ensures) c.in-Ok.ensures.encodable) (rw (sym c.default.ensures) c.in-Ok.ensures.stored) (c.requires.closed.writing 0)
+    (rw (sym c.default.ensures) c.in-Ok.ensures.encodable) (rw (sym c.default.ensures) c.in-Ok.ensures.stored) c.requires.closed.writing
 
 pub returns-in-Err : goal.returns-in-Err
 returns-in-Err g c =
@@ -24,7 +24,7 @@ returns-in-Err g c =
     let p = c.args.problem.now in
     let name = c.args.name.now in
     let a = g.D.Desk.state c.args.desk.now in
-    storing_obeys (owed_bench w) default_options p name a (g.D.Desk.state c.store.new.desk) (g.met.D.Desk.steady_tells c.args.desk.now)
-    (bench_due w p a c.requires.reads (encoded_output name default_options p) (ap (λ (n : Option (List ℕ)). bench_output n p) (sym c.requires.named)))
+    storing_obeys (owed_bench w) default_options p (only_cnf name) a (g.D.Desk.state c.store.new.desk) (g.met.D.Desk.steady_tells c.args.desk.now) (λ e. cc)
+    (bench_due w p a c.requires.reads (encoded_output (only_cnf name) default_options p) (ap (λ (n : Option (List ℕ)). bench_output n p) (sym c.requires.named)))
     (bench_over w p a c.requires.reads)
     c.in-Err.outcome (rw (sym c.default.ensures) c.in-Err.ensures.stopped) (λ steady is. rw (sym c.default.ensures) (c.in-Err.ensures.steady steady (ap Err is)))

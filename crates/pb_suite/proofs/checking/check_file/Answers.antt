@@ -11,7 +11,7 @@ use Rattle.pb_suite.specs.Refusals.{RefusesOpb}
 use Rattle.pb_suite.specs.laws.Runs.{fetched}
 use Rattle.pb_suite.proofs.Afterwards.{obeys_after}
 use Rattle.pb_suite.proofs.Going.{by_reading, goes_by}
-use Rattle.pb_suite.proofs.OwedChecks.{posed_by}
+use Rattle.pb_suite.proofs.PosedProblems.{posed_by}
 use Rattle.pb_suite.proofs.Refused.{reading_obeys}
 use Rattle.pb_suite.proofs.checking.check_file.Goals as goal
 
@@ -29,7 +29,7 @@ judge-requires-clause-posed g c =
     let a = g.D.Desk.state c.args.desk.now in
     let b = g.D.Desk.state c.read_problem.new.desk in
     let read = c.in-Ok.ensures.read in
-    posed_by w c.in-Ok.problem a b (goes_by nothing (fetched 0 w.opb read.0) a b (by_reading 0 w.opb read.0) read.1) c.in-Ok.ensures.says
+    posed_by w.opb c.in-Ok.problem a b (goes_by nothing (fetched 0 w.opb read.0) a b (by_reading 0 w.opb read.0) read.1) c.in-Ok.ensures.says
 
 pub judge-requires-clause-cnf_free : goal.judge-requires-clause-cnf_free
 judge-requires-clause-cnf_free g c = ap (λ (v : View). v.reading 1) c.in-Ok.ensures.read.1.view ∙ c.requires.closed.reading 1

@@ -3,6 +3,7 @@ use Rattle.std.proofs.lemmas.Result.{IfOk-weaker}
 use Rattle.clap.specs.Words.{App, with_subcommand}
 use Rattle.pb_words.specs.BenchWords.{bench_app}
 use Rattle.pb_words.specs.CheckWords.{check_app}
+use Rattle.pb_words.specs.DecodeWords.{decode_app}
 use Rattle.pb_words.specs.EncodeWords.{encode_app}
 use Rattle.pb_words.specs.ProbeWords.{probe_app}
 use Rattle.pb_words.specs.Rules.{bare_program}
@@ -16,5 +17,7 @@ returns c =
     let encode = adds_command bare encode_app _ _ _ c.in_ok-subcommand.ensures c.bare.ensures c.in_ok-command.ensures in
     let check = adds_command with_encode check_app _ _ _ c.in_ok-subcommand-2.ensures encode c.in_ok-command-2.ensures in
     let with_check : App = with_subcommand with_encode check_app.top in
-    let probe = adds_command with_check probe_app _ _ _ c.in_ok-subcommand-3.ensures check c.in_ok-command-3.ensures in
-    IfOk-weaker c.subcommand-4.result _ _ (λ new adds. adds_command (with_subcommand with_check probe_app.top) bench_app _ _ _ adds probe c.in_ok-command-4.ensures) c.subcommand-4.ensures
+    let decode = adds_command with_check decode_app _ _ _ c.in_ok-subcommand-3.ensures check c.in_ok-command-3.ensures in
+    let with_decode : App = with_subcommand with_check decode_app.top in
+    let probe = adds_command with_decode probe_app _ _ _ c.in_ok-subcommand-4.ensures decode c.in_ok-command-4.ensures in
+    IfOk-weaker c.subcommand-5.result _ _ (λ new adds. adds_command (with_subcommand with_decode probe_app.top) bench_app _ _ _ adds probe c.in_ok-command-5.ensures) c.subcommand-5.ensures

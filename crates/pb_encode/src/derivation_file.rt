@@ -1,0 +1,92 @@
+//! The file of a problem's derivation.
+ghost use Rattle.std.specs.Prelude.{◌≡◌, ◌≤◌, ◌^◌, ◌+◌, false, Err, OnOk, IfErr, IsTrue, length};
+ghost use Rattle.pb_base.specs.declared.limit.LimitKind.{LimitKind};
+ghost use Rattle.pb_base.specs.Problems.{IsWithinLimits};
+ghost use Rattle.pb_desk.specs.View.{wrote};
+ghost use Rattle.pb_desk.specs.Desk.{IsSteady, Reaches};
+ghost use Rattle.pb_norm.specs.Halves.{constraints_of, loaded};
+ghost use Rattle.pb_encode.specs.Encodings.{derivation_text, made};
+ghost use Rattle.pb_encode.specs.laws.Files.{LacksForProof, LeavesProof, StopsProof};
+ghost use Rattle.pb_encode.specs.laws.Sending.{LacksFor, Stops};
+ghost use Rattle.pb_encode.specs.Summaries.{IsEncodable};
+
+use crate::derivation::stream_steps;
+use crate::fault::EncodeFault;
+use pb_base::{Problem, Raw, Relation};
+use pb_choice::Options;
+use pb_desk::Desk;
+use pb_dimacs::{Outbox, StepWriter};
+use std::alloc::Global;
+
+// How many constraints a statement has.
+fn count_of(statement: &Raw) -> u64
+    ensures count { result ≡ length (constraints_of statement.now) }
+    ensures few { result ≤ 2 }
+{
+    match statement.relation {
+        Relation::AtLeast | Relation::AtMost => 1,
+        Relation::Equal => 2,
+    }
+}
+
+// How many statements have.
+fn count_loaded(statements: &[Raw]) -> u64
+    requires few { length statements.now ≤ 2 ^ 24 + 1 }
+    ensures { result ≡ length (loaded statements.now) }
+{
+    let mut count = 0_u64;
+    for statement in statements {
+        count += count_of(statement);
+    }
+    count
+}
+
+// Writes the text of a problem's derivation to slot 1.
+fn write_steps<D: Desk>(
+    alloc: Global,
+    problem: &Problem,
+    options: &Options,
+    desk: &mut D,
+) -> Result<(), EncodeFault>
+    requires within { IsWithinLimits problem.now }
+    requires encodable { IsEncodable options.now problem.now }
+    requires modest { options.now.budget ≤ 10000000 }
+    requires open { IsTrue ((D.state desk.old).view.writing 1) }
+    ensures written { OnOk result (Reaches (wrote 1 (derivation_text options.now problem.now)) (D.state desk.old) (D.state desk.new)) }
+    ensures stopped { IfErr result (Stops 1 (derivation_text options.now problem.now) (D.state desk.old) (D.state desk.new)) }
+    ensures steady { IsSteady (D.state desk.old) → result ≡ Err EncodeFault.WriteFault → LacksFor 1 (derivation_text options.now problem.now) (D.state desk.old) }
+{
+    let next = count_loaded(problem.statements.as_slice()) + 1;
+    let mut outbox = Outbox::new(alloc)?;
+    let mut line = Vec::new(alloc);
+    let mut writer = StepWriter::new(alloc, desk, 1, &mut outbox, &mut line, next);
+    stream_steps(alloc, problem, options, &mut writer)?;
+    writer.flush()?;
+    Ok(())
+}
+
+/// Writes the derivation of a problem's clauses to a new file in slot 1.
+pub fn encode_steps<D: Desk>(
+    alloc: Global,
+    problem: &Problem,
+    options: &Options,
+    name: &str,
+    desk: &mut D,
+) -> Result<(), EncodeFault>
+    requires within { IsWithinLimits problem.now }
+    requires encodable { IsEncodable options.now problem.now }
+    requires modest { options.now.budget ≤ 10000000 }
+    requires free { (D.state desk.old).view.writing 1 ≡ false }
+
+    ensures made { OnOk result (Reaches (made 1 name.now (derivation_text options.now problem.now)) (D.state desk.old) (D.state desk.new)) }
+
+    ensures limit { (k : LimitKind) → result ≡ Err (EncodeFault.Limit k) → ⊥ }
+    ensures write_fault { result ≡ Err EncodeFault.WriteFault → StopsProof options.now problem.now name.now (D.state desk.old) (D.state desk.new) }
+    ensures no_memory { result ≡ Err EncodeFault.NoMemory → LeavesProof options.now problem.now name.now (D.state desk.old) (D.state desk.new) }
+    ensures steady { IsSteady (D.state desk.old) → result ≡ Err EncodeFault.WriteFault → LacksForProof options.now problem.now name.now (D.state desk.old) }
+{
+    desk.create(1, name)?;
+    write_steps(alloc, problem, options, desk)?;
+    desk.close(1)?;
+    Ok(())
+}

@@ -1,0 +1,107 @@
+use super::checks::{named, run_over};
+use super::{Run, run_with};
+use pb_base::{Ids, NoMemory, Seq};
+use pb_desk::Shelf;
+use std::alloc::Global;
+use std::test::Fail;
+
+// A text is encoded, with these options; a derivation is named.
+fn run_named(alloc: Global, options: &str, text: &str) -> Option<Run> {
+    let words = format!(in alloc; "pbcnf encode a c p{options}").ok()?;
+    run_with(
+        alloc,
+        words.as_str(),
+        text.as_bytes(),
+        Ids::new(alloc),
+        4096,
+        1 << 20,
+    )
+    .ok()
+}
+
+// No derivation is named.
+fn run_bare(alloc: Global, options: &str, text: &str) -> Option<Run> {
+    let words = format!(in alloc; "pbcnf encode a c{options}").ok()?;
+    run_with(
+        alloc,
+        words.as_str(),
+        text.as_bytes(),
+        Ids::new(alloc),
+        4096,
+        1 << 20,
+    )
+    .ok()
+}
+
+// A problem, a CNF and a derivation.
+fn files_of(alloc: Global, opb: &str, cnf: &str, proof: &str) -> Result<Shelf, NoMemory> {
+    let mut files = Seq::new(alloc);
+    files.push(named(alloc, "a", opb)?)?;
+    files.push(named(alloc, "c", cnf)?)?;
+    files.push(named(alloc, "p", proof)?)?;
+    Ok(files)
+}
+
+// With a derivation, the same CNF is made and the same said as without; the derivation is accepted beside it.
+fn is_derived(alloc: Global, options: &str, text: &str) -> Option<bool> {
+    let bare = run_bare(alloc, options, text)?;
+    let run = run_named(alloc, options, text)?;
+    let cnf = str::from_utf8(run.desk.made(0)?).ok()?;
+    let proof = str::from_utf8(run.desk.made(1)?).ok()?;
+    let files = files_of(alloc, text, cnf, proof).ok()?;
+    let checked = run_over(alloc, "pbcnf check a c p", files, Ids::new(alloc), 4096).ok()?;
+    let is_same = bare.desk.made(0) == run.desk.made(0) && bare.desk.said() == run.desk.said();
+    let is_accepted = checked.outcome.status() == 0
+        && checked.desk.said() == "accepted\n".as_bytes();
+    Some(run.outcome.status() == 0 && bare.desk.made(1).is_none() && is_same && is_accepted)
+}
+
+#[test]
+fn what_is_made_is_accepted(rt: HostRuntime) -> Result<(), Fail> {
+    let two = "+1 ~x1 +1 ~x2 +1 ~x3 +1 ~x4 >= 2 ;\n";
+    let weights = "+4 ~x1 +3 ~x2 +2 ~x3 >= 4 ;\n";
+    let nine = "+1 ~x1 +1 ~x2 +1 ~x3 +1 ~x4 +1 ~x5 +1 ~x6 +1 ~x7 +1 ~x8 +1 ~x9 >= 8 ;\n";
+    let cases = [
+        // No statement; a clause; an equation; the empty clause; nothing; a unit and a clause; units alone.
+        ("", ""),
+        ("", "+1 x1 +1 x2 >= 1 ;\n"),
+        ("", "+1 x1 +1 x2 = 1 ;\n"),
+        ("", "+1 x1 >= 2 ;\n"),
+        ("", "+2 x1 -1 x1 +1 ~x1 >= 1 ;\n"),
+        ("", "+5 x1 +3 x2 +2 x3 >= 6 ;\n"),
+        ("", "+1 x1 +1 x2 <= 0 ;\n"),
+        // At most one.
+        ("", "-1 x1 -1 x2 -1 x3 >= -1 ;\n"),
+        (" --amo ladder", "-1 x1 -1 x2 -1 x3 >= -1 ;\n"),
+        (" --amo product", nine),
+        // Cardinalities.
+        (" --card counter", two),
+        (" --card totalizer", two),
+        // Weights, which are also sent to the adder where the budget is small.
+        (" --general tree", weights),
+        ("", weights),
+        (" --general adder", weights),
+        (" --budget 2", weights),
+        (" --budget 3", weights),
+        ("", "+5 ~x1 +4 ~x2 +3 ~x3 +3 ~x4 >= 7 ;\n"),
+        // Several constraints, of which each is derived under its own id.
+        (
+            " --card totalizer --general tree",
+            "min: +1 x1 ;\n+1 x1 +1 x2 = 1 ;\n+4 ~x1 +3 ~x2 +2 ~x3 >= 4 ;\n+1 x1 +1 x2 +1 x3 +1 x4 = 2 ;\n",
+        ),
+    ];
+    for &(options, text) in &cases {
+        let found = is_derived(rt.alloc(), options, text);
+        assert!(rt; found == Some(true), "encode{options} of {text}");
+    }
+    Ok(())
+}
+
+// The lines that stand around a derivation, and those of one clause.
+#[test]
+fn a_derivation(rt: HostRuntime) -> Result<(), Fail> {
+    let run = run_named(rt.alloc(), "", "+1 x1 +1 x2 >= 1 ;\n").expect(&rt, "run");
+    let proof = "pseudo-Boolean derivation profile 1\nf 1\nrup +1 x1 +1 x2 >= 1 ; 1\nout 2\nend\n";
+    assert_eq!(rt; run.desk.made(1), Some(proof.as_bytes()));
+    Ok(())
+}

@@ -1,0 +1,147 @@
+-- A command that owes decoding a model of the clauses says its solution.
+use Rattle.std.proofs.Common.{◌≡◌, ◌∙◌, ◌∷◌, ◌++◌, ℕ, Bool, true, false, cond, List, Option, Some, None, Result, Ok, Err, length, refl, subst, sym}
+use Rattle.std.specs.Prelude.{All, IfSome, nat_lt, ◌^◌}
+use Rattle.std.proofs.lemmas.List.Elements.{All-contains, Contains-append_right}
+use Rattle.pb_base.specs.declared.limit.LimitKind.TheVariants.{Text}
+use Rattle.pb_base.specs.declared.problem.Problem.{Problem}
+use Rattle.pb_base.specs.declared.problem.Raw.{Raw}
+use Rattle.pb_base.specs.Literals.{assigned_by, Assignment}
+use Rattle.pb_base.specs.Problems.{Satisfies, widened}
+use Rattle.pb_base.proofs.Members.{Contains-here}
+use Rattle.pb_desk.specs.View.{Told}
+use Rattle.pb_desk.specs.Desk.{DeskState, IfTold}
+use Rattle.pb_desk.proofs.Tells.{in_told}
+use Rattle.pb_choice.specs.declared.options.Options.{Options}
+use Rattle.pb_encode.proofs.Solutions.{have_solutions}
+use Rattle.pb_model.specs.declared.decoding.Decoded.TheVariants as decoded
+use Rattle.pb_model.specs.declared.fault.ModelFault.{ModelFault}
+use Rattle.pb_model.specs.declared.fault.ModelFault.TheVariants as fault
+use Rattle.pb_model.specs.declared.model.Model.{Model}
+use Rattle.pb_model.specs.Decoding.{IsDecoded, IsFirstViolated}
+use Rattle.pb_model.specs.ModelLines.{symbols_of}
+use Rattle.pb_model.specs.ModelReading.{told, told_in}
+use Rattle.pb_model.specs.SolutionText.{solution_text}
+use Rattle.pb_model.proofs.Told.{ok_covers}
+use Rattle.pb_opb.specs.declared.fault.OpbFault.TheVariants as opb
+use Rattle.pb_opb.specs.Faults.{Reads}
+use Rattle.pb_opb.proofs.Bounds.{reads-within}
+use Rattle.pb_opb.proofs.Reading.{reads-no_fault, says_one}
+use Rattle.pb_words.specs.DecodeWords.{DecodeWords}
+use Rattle.pb_suite.specs.declared.outcome.Outcome.{Outcome}
+use Rattle.pb_suite.specs.Obeying.{Answers, Obeys}
+use Rattle.pb_suite.specs.Obeying.Answers.{done as all_done, refused, read_fault as unread, write_fault as unwritten, no_memory as wanting}
+use Rattle.pb_suite.specs.Outputs.{only_words, Adds, Output}
+use Rattle.pb_suite.specs.Owed.{Shelf}
+use Rattle.pb_suite.specs.OwedDecode.{owed_decode, IsAnswered, StopsDecode}
+use Rattle.pb_suite.specs.OwedDecode.StopsDecode.{no_problem, bad_problem, lacking, bad_model, no_model, violated}
+use Rattle.pb_suite.specs.Posed.{IsPosed}
+use Rattle.pb_suite.specs.Refusals.{RefusesModel, RefusesOpb}
+use Rattle.pb_suite.specs.Refusals.RefusesModel.{token as model_token, limit as model_limit}
+use Rattle.pb_suite.specs.Refusals.RefusesOpb.{token, limit}
+use Rattle.pb_suite.specs.SaidSolutions.{IsDue, IsFrontOfModel, SaidOf, SaysOnly}
+use Rattle.pb_suite.specs.SaidSolutions.SaysOnly.{done, read_fault, write_fault, no_memory}
+
+-- ---- what texts say is one thing
+
+same_some : {X : Type 0} (o : Option X) (x y : X) → o ≡ Some x → o ≡ Some y → x ≡ y
+same_some o x y first second = let same : Some x ≡ Some y = sym first ∙ second in cc
+
+not_none : {X : Type 0} (o : Option X) (x : X) → o ≡ Some x → o ≡ None → ⊥
+not_none o x some none = let no : Some x ≡ None = sym some ∙ none in cc
+
+same_ok : {X Y : Type 0} (r : Result X Y) (x y : X) → r ≡ Ok x → r ≡ Ok y → x ≡ y
+same_ok r x y first second = let same : Ok x ≡ Ok y = sym first ∙ second in cc
+
+not_err : {X Y : Type 0} (r : Result X Y) (x : X) (y : Y) → r ≡ Ok x → r ≡ Err y → ⊥
+not_err r x y first second = let no : Ok x ≡ Err y = sym first ∙ second in cc
+
+same_posed : (shelf : Shelf) (name : List ℕ) (p q : Problem) → IsPosed shelf name p → IsPosed shelf name q → p ≡ q
+same_posed shelf name p q posed other =
+    let text : other.text ≡ posed.text = same_some (shelf name) other.text posed.text other.on_shelf posed.on_shelf in
+    says_one posed.text p q posed.reads.says (subst (λ (xs : List ℕ). Reads xs q) text other.reads).says
+
+same_told : (shelf : Shelf) (w : DecodeWords) (p : Problem) (m n : Model) → IsAnswered shelf w p m → IsAnswered shelf w p n → m ≡ n
+same_told shelf w p m n answered other =
+    let text : other.text ≡ answered.text = same_some (shelf w.model) other.text answered.text other.on_shelf answered.on_shelf in
+    same_ok (told p.vars answered.text) m n answered.says (subst (λ (xs : List ℕ). told p.vars xs ≡ Ok n) text other.says)
+
+refuses_none : (text : List ℕ) (p : Problem) (answer : Outcome) → Reads text p → RefusesOpb text answer → ⊥
+refuses_none text p _ reads (token place e first) = let no : opb.Token place e ≡ opb.NoMemory = reads-no_fault text p (opb.Token place e) reads first in cc
+refuses_none text p _ reads (limit place which first) = let no : opb.Limit place which ≡ opb.NoMemory = reads-no_fault text p (opb.Limit place which) reads first in cc
+
+model_refuses_none : (vars : ℕ) (text : List ℕ) (m : Model) (answer : Outcome) → told vars text ≡ Ok m → RefusesModel vars text answer → ⊥
+model_refuses_none vars text m _ says (model_token place e first) = not_err (told vars text) m _ says first
+model_refuses_none vars text m _ says (model_limit place which first) = not_err (told vars text) m _ says first
+
+-- a model has a value for each variable
+values_cover : (vars : ℕ) (text : List ℕ) (m : Model) → told vars text ≡ Ok m → length m.values ≡ vars
+values_cover vars text m says = by_length (nat_lt (2 ^ 32) (length text)) says
+  where
+    by_length : (long : Bool) → cond {A = Result Model ModelFault} long (Err (fault.Limit None Text)) (told_in vars (symbols_of vars text)) ≡ Ok m → length m.values ≡ vars
+    by_length true e = cc
+    by_length false e = ok_covers vars (symbols_of vars text) (Ok m) (sym e)
+
+-- values that are a solution violate nothing
+none_violated : (a : Assignment) (statements : List Raw) (number : ℕ) → All (Satisfies a) statements → IsFirstViolated a statements number → ⊥
+none_violated a statements number all first =
+    first.violated (All-contains (Satisfies a) (first.before ++ first.statement ∷ first.after) first.statement (subst (λ (xs : List Raw). All (Satisfies a) xs) first.cut all)
+    (Contains-append_right first.before (first.statement ∷ first.after) first.statement (Contains-here first.statement first.after)))
+
+-- ---- what is due
+
+module _ (w : DecodeWords) (shelf : Shelf) (p : Problem) (m : Model) (answered : IsAnswered shelf w p m) (solution : IsDecoded p m decoded.Solution) where
+  -- what holds of the problem and the model that the texts say
+  of_same : (q : Problem) (n : Model) (P : Problem → Model → Type 0) → IsAnswered shelf w q n → P q n → P p m
+  of_same q n P other holds =
+      let problems : q ≡ p = same_posed shelf w.opb q p other.posed answered.posed in
+      let models : n ≡ m = sym (same_told shelf w p m n answered (subst (λ (r : Problem). IsAnswered shelf w r n) problems other)) in
+      subst (P p) models (subst (λ (r : Problem). P r n) problems holds)
+
+  only_due : (out : Output) → (owed_decode w).done shelf out → out ≡ only_words (solution_text p m.values)
+  only_due out (q, n, comes, is) = of_same q n (λ r k. out ≡ only_words (solution_text r k.values)) comes.answered is
+
+  never_stops : (answer : Outcome) → StopsDecode shelf w answer → ⊥
+  never_stops _ (no_problem lacks) = not_none (shelf w.opb) answered.posed.text answered.posed.on_shelf lacks
+  never_stops answer (bad_problem text _ on_shelf refuses) =
+      let same = same_some (shelf w.opb) text answered.posed.text on_shelf answered.posed.on_shelf in
+      refuses_none answered.posed.text p answer answered.posed.reads (subst (λ (xs : List ℕ). RefusesOpb xs answer) same refuses)
+  never_stops _ (lacking q posed lacks) = not_none (shelf w.model) answered.text answered.on_shelf lacks
+  never_stops answer (bad_model q text _ posed on_shelf refuses) =
+      let same = same_some (shelf w.model) text answered.text on_shelf answered.on_shelf in
+      let problems = same_posed shelf w.opb q p posed answered.posed in
+      model_refuses_none p.vars answered.text m answer answered.says
+      (subst (λ (r : Problem). RefusesModel r.vars answered.text answer) problems (subst (λ (xs : List ℕ). RefusesModel q.vars xs answer) same refuses))
+  never_stops _ (no_model q n comes) = of_same q n (λ r k. IsDecoded r k decoded.NoModel) comes.answered comes.decoded solution.0
+  never_stops _ (violated q n statement comes) =
+      none_violated (assigned_by (widened p m.values)) p.statements statement solution.1.statements (of_same q n (λ r k. IsDecoded r k (decoded.Violates statement)) comes.answered comes.decoded).1
+
+  solution_is_due : IsDue (owed_decode w) shelf (only_words (solution_text p m.values))
+  solution_is_due = record {
+    done = (p, m, record { answered = answered; decoded = solution }, refl);
+    only = only_due;
+    goes_on = never_stops;
+  }
+
+-- the front of a model of the clauses is a solution
+front_solves : (o : Options) (w : DecodeWords) (shelf : Shelf) (p : Problem) (m : Model) → IsAnswered shelf w p m → IsFrontOfModel o p m → IsDecoded p m decoded.Solution
+front_solves o w shelf p m answered front =
+    let within = reads-within answered.posed.text p answered.posed.reads in
+    (front.says, (have_solutions o p within m.values (values_cover p.vars answered.text m answered.says)).1 (front.model, front.is_model, front.front))
+
+-- ---- how a run ends
+
+pub obeyed_says : (w : DecodeWords) (a b : DeskState) (answer : Outcome) → Obeys (owed_decode w) a b answer → IfTold a (SaidOf w a b answer)
+obeyed_says w a b answer obeys = by_told a.view.told refl
+  where
+    ends : (t : Told) (line : List ℕ) → a.view.told ≡ Some t → IsDue (owed_decode w) t.shelf (only_words line) → (answer : Outcome) → Answers (owed_decode w) a b answer → SaysOnly line a b answer
+    ends t line is due _ (all_done out has adds keeps) = done (subst (λ (x : Output). Adds x a b) (due.only out (in_told a t (λ u. (owed_decode w).done u.shelf out) is has)) adds)
+    ends t line is due answer (refused _ refusal stops adds) = absurd (due.goes_on answer (in_told a t (λ u. (owed_decode w).stops u.shelf answer) is stops))
+    ends t line is due _ (unread adds) = read_fault adds
+    ends t line is due _ (unwritten out part adds) = write_fault
+    ends t line is due _ (wanting out part adds) = no_memory
+
+    by_told : (told : Option Told) → a.view.told ≡ told → IfSome told (SaidOf w a b answer)
+    by_told None is = tt
+    by_told (Some t) is = λ o p m answered front.
+        let due = solution_is_due w t.shelf p m answered (front_solves o w t.shelf p m answered front) in
+        record { due = due; ends = ends t (solution_text p m.values) is due answer obeys.answers }

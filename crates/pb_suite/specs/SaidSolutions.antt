@@ -1,0 +1,52 @@
+-- What decoding says of a model of the clauses that a problem is encoded as. Our own.
+use Rattle.std.specs.Prelude.{ℕ, ◌≡◌, Bool, List, take, Option, Some}
+use Rattle.pb_base.specs.declared.problem.Problem.{Problem}
+use Rattle.pb_desk.specs.View.{Told}
+use Rattle.pb_desk.specs.Desk.{DeskState, IfTold}
+use Rattle.pb_choice.specs.declared.options.Options.{Options}
+use Rattle.pb_encode.specs.Clauses.{problem_clauses, problem_vars}
+use Rattle.pb_encode.specs.Models.{IsModelOver}
+use Rattle.pb_model.specs.declared.model.Model.{Model}
+use Rattle.pb_model.specs.declared.model.Says.TheVariants.{Satisfiable}
+use Rattle.pb_model.specs.SolutionText.{solution_text}
+use Rattle.pb_words.specs.DecodeWords.{DecodeWords}
+use Rattle.pb_words.specs.Taken.{Wanted}
+use Rattle.pb_words.specs.Taken.Wanted.{Decode}
+use Rattle.pb_suite.specs.declared.outcome.Outcome.{Outcome}
+use Rattle.pb_suite.specs.declared.outcome.Outcome.TheVariants as outcome
+use Rattle.pb_suite.specs.Outputs.{nothing, only_words, Adds, Output}
+use Rattle.pb_suite.specs.Owed.{Owed, Shelf}
+use Rattle.pb_suite.specs.OwedDecode.{owed_decode, IsAnswered}
+
+-- The solver says that there is a model, and its values are the front of one of the clauses that the problem is encoded as.
+pub record IsFrontOfModel (o : Options) (p : Problem) (m : Model) : Type 0 where
+  pub says : m.says ≡ Satisfiable
+  pub model : List Bool
+  pub is_model : IsModelOver (problem_vars o p) (problem_clauses o p) model
+  pub front : take p.vars model ≡ m.values
+
+-- this output is due, and nothing else is: the command does not stop
+pub record IsDue (o : Owed) (shelf : Shelf) (out : Output) : Type 0 where
+  pub done : o.done shelf out
+  pub only : (other : Output) → o.done shelf other → other ≡ out
+  pub goes_on : (answer : Outcome) → ¬ o.stops shelf answer
+
+-- the line was said and no file was made; or a read failed; or a write failed, or memory was wanting
+pub data SaysOnly (line : List ℕ) (old new : DeskState) : Outcome → Type 0 where
+  done : Adds (only_words line) old new → SaysOnly line old new outcome.Done
+  read_fault : Adds nothing old new → SaysOnly line old new outcome.ReadFault
+  write_fault : SaysOnly line old new outcome.WriteFault
+  no_memory : SaysOnly line old new outcome.NoMemory
+
+-- exactly the text of the solution is due, and is said unless a call failed or memory was wanting
+pub record SaysSolution (w : DecodeWords) (shelf : Shelf) (line : List ℕ) (old new : DeskState) (answer : Outcome) : Type 0 where
+  pub due : IsDue (owed_decode w) shelf (only_words line)
+  pub ends : SaysOnly line old new answer
+
+-- so it is of what is told, for each front of a model of the clauses under any options
+abbrev pub SaidOf : DecodeWords → DeskState → DeskState → Outcome → Told → Type 0
+SaidOf w old new answer t = (o : Options) (p : Problem) (m : Model) → IsAnswered t.shelf w p m → IsFrontOfModel o p m → SaysSolution w t.shelf (solution_text p m.values) old new answer
+
+-- so it is where words ask for decoding
+abbrev pub SaysSolutions : Option Wanted → Outcome → DeskState → DeskState → Type 0
+SaysSolutions asked answer old new = (w : DecodeWords) → asked ≡ Some (Decode w) → IfTold old (SaidOf w old new answer)

@@ -1,0 +1,40 @@
+//! The words of `decode`.
+ghost use Rattle.std.specs.Prelude.{◌≡◌, IfOk, option_map, [], ◌∷◌};
+ghost use Rattle.clap.specs.Words.{found_of, rows_of};
+ghost use Rattle.pb_words.specs.Names.{are_different};
+ghost use Rattle.pb_words.specs.Rules.{IsCommand};
+ghost use Rattle.pb_words.specs.DecodeWords.{as_decode_words, decode_app, decode_in};
+
+use crate::argument::{name, word_of};
+use clap::{ArgMatches, Command};
+use std::alloc::{AllocError, Global};
+
+/// Decode a model: the two files that are read.
+#[derive(Clone, Copy, PartialEq, Eq, Debug)]
+pub struct Decoding<'a> {
+    /// The name of the OPB file.
+    pub opb: &'a str,
+    /// The name of the file that a solver printed, which is another.
+    pub model: &'a str,
+}
+
+/// `decode OPB MODEL`
+pub fn command<'a>(alloc: Global) -> Result<Command<'a>, AllocError>
+    ensures { IfOk result (IsCommand decode_app) }
+{
+    Command::new(alloc, "decode")
+        .arg(name(alloc, "opb"))?
+        .arg(name(alloc, "model"))
+}
+
+/// What `decode` was asked for.
+pub fn decoding_in<'a>(given: &ArgMatches<'a>) -> Option<Decoding<'a>>
+    ensures { option_map as_decode_words result ≡ decode_in (rows_of (found_of given.now)) }
+{
+    let opb = word_of(given, "opb")?;
+    let model = word_of(given, "model")?;
+    if opb == model {
+        return None;
+    }
+    Some(Decoding { opb, model })
+}
