@@ -3,7 +3,6 @@ pub mod View
 pub mod Desk
 pub mod Memory
 pub mod MemoryState
-pub mod RealState
 pub mod Lines
 pub mod Limits
 pub mod LineReading

@@ -1,7 +1,7 @@
 //! The program: its words, the system's files, the fault line and the exit status.
 #![tactic(auto)]
 
-use pb_desk::RealDesk;
+use pb_files::{Host, RealDesk};
 use pb_suite::{Outcome, run};
 use std::process::ExitCode;
 use std::{env, io};
@@ -26,6 +26,6 @@ fn outcome_of(rt: &HostRuntime) -> Outcome {
     let Ok(words) = args.collect::<Vec<String>>(alloc) else {
         return Outcome::NoMemory;
     };
-    let mut desk = RealDesk::new(rt);
+    let mut desk = RealDesk::new(Host::new(alloc, rt));
     run(alloc, &words, &mut desk)
 }

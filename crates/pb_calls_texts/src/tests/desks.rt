@@ -2,9 +2,8 @@ ghost use Rattle.std.specs.Prelude.{◌≤◌, IfOk};
 ghost use Rattle.pb_desk.specs.Desk.{IsClosed};
 
 use pb_base::{Bytes, Failed, Ids, NoMemory, Seq, Text};
-use pb_desk::{Desk, MemoryDesk, Named, RealDesk, TextFault, read_whole, say_all, write_all};
+use pb_desk::{Desk, MemoryDesk, Named, TextFault, read_whole, say_all, write_all};
 use std::alloc::{Alloc, Global};
-use std::fs;
 use std::test::Fail;
 
 /// A desk with the file `in` of these bytes, whose calls of these numbers fail.
@@ -119,19 +118,5 @@ fn uses_names_once_in_memory(alloc: Global) -> Result<bool, NoMemory> {
 fn a_name_is_used_once(rt: HostRuntime) -> Result<(), Fail> {
     let once = uses_names_once_in_memory(rt.alloc())?;
     assert!(rt; once);
-    Ok(())
-}
-
-#[test]
-fn the_system_keeps_a_file(rt: HostRuntime) -> Result<(), Fail> {
-    let (from, to) = ("pb_desk_in.tmp", "pb_desk_out.tmp");
-    fs::write(&rt, from, "* kept\n")?;
-    let copied = copy(rt.alloc(), &mut RealDesk::new(&rt), from, to, 100);
-    let kept = fs::read_to_string(&rt, to);
-    fs::remove_file(&rt, from)?;
-    fs::remove_file(&rt, to)?;
-    assert_eq!(rt; copied?.as_slice(), b"* kept\n".as_slice());
-    assert_eq!(rt; kept?.as_str(), "* kept\n");
-    assert!(rt; RealDesk::new(&rt).open(0, from) == Err(Failed));
     Ok(())
 }

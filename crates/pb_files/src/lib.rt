@@ -1,0 +1,13 @@
+//! The desk of the system: real files and standard output, each answer of which is the system's own.
+#![tactic(auto)]
+
+mod handle;
+mod host;
+mod known;
+mod real;
+mod system;
+
+pub use handle::{FileId, Handle};
+pub use host::Host;
+pub use real::{Asks, RealDesk};
+pub use system::System;
