@@ -1,0 +1,187 @@
+// Texts that are cut off, or have one byte replaced by another.
+ghost use Rattle.std.specs.Prelude.{◌<◌};
+
+use super::run_on;
+use pb_runs::{is_silent, refusal_of};
+use std::alloc::Global;
+use std::test::Fail;
+
+// The status of a run over these texts. A run that is done says something, and any other makes and says nothing: where this
+// is not so, the mark is no digit.
+fn mark(alloc: Global, words: &str, texts: [&[u8]; 3]) -> char {
+    let Some(run) = run_on(alloc, words, texts, 0, 4096, 4096) else {
+        return '!';
+    };
+    let is_done = run.outcome.status() == 0;
+    if is_done == is_silent(&run) {
+        return '?';
+    }
+    char::from_digit(run.outcome.status() as u32, 10).unwrap_or('!')
+}
+
+// Runs over the texts of which one is cut behind each of its bytes, by their marks.
+fn cut(alloc: Global, words: &str, texts: [&[u8]; 3], at: usize) -> Option<String>
+    requires { at < 3 }
+{
+    let text = texts[at];
+    let mut marks = String::new(alloc);
+    for count in 0..=text.len() {
+        let mut broken = texts;
+        broken[at] = &text[..count];
+        marks.push(mark(alloc, words, broken)).ok()?;
+    }
+    Some(marks)
+}
+
+// Runs over the texts of which each byte of one is replaced, by their marks.
+fn replaced(alloc: Global, words: &str, texts: [&[u8]; 3], at: usize, byte: u8) -> Option<String>
+    requires { at < 3 }
+{
+    let text = texts[at];
+    let mut marks = String::new(alloc);
+    for place in 0..text.len() {
+        let mut bytes = text.to_vec(alloc).ok()?;
+        if let Some(found) = bytes.get_mut(place) {
+            *found = byte;
+        }
+        let mut broken = texts;
+        broken[at] = bytes.as_slice();
+        marks.push(mark(alloc, words, broken)).ok()?;
+    }
+    Some(marks)
+}
+
+// The marks of the cuts, and those with each byte replaced by a blank, `;`, a digit, a letter and a byte of no text.
+fn broken(alloc: Global, words: &str, texts: [&[u8]; 3], at: usize) -> Option<String> {
+    if at >= 3 {
+        return None;
+    }
+    let mut lines = cut(alloc, words, texts, at)?;
+    for byte in [b' ', b';', b'7', b'x', 255] {
+        let marks = replaced(alloc, words, texts, at, byte)?;
+        lines.push('\n').ok()?;
+        lines.push_str(marks.as_str()).ok()?;
+    }
+    Some(lines)
+}
+
+// The marks that are due were not taken from runs: another program gave them, written from the description of the formats.
+const ENCODED: &str = "\
+0000000000000000000000000000000111111111110011111111111111111100\n\
+100000000000000000000000000000111100101101001011001001100101010\n\
+100000000000000000000000000000111111111110111111111111111111101\n\
+100000000000000000000000000000111110011001100110100111001100011\n\
+100000000000000000000000000000111111110111111101111110111111111\n\
+100000000000000000000000000000111111111111111111111111111111111";
+
+#[test]
+fn encoding(rt: HostRuntime) -> Result<(), Fail> {
+    let opb: &[u8] = b"* #variable= 2 #constraint= 1\nmin: +1 x2 ;\n+1 x1 +2 ~x2 >= 2 ;\n";
+    let found = broken(rt.alloc(), "pbcnf encode a d", [opb, b"", b""], 0);
+    assert_eq!(rt; found.as_deref(), Some(ENCODED));
+    Ok(())
+}
+
+const PROBED: &str = "\
+111111111111111111111111111111111100\n\
+10000011011101011000101000001001010\n\
+10000011111111111111111111111111111\n\
+10000011111110111111111111111111111\n\
+10000011111111111111111111111111111\n\
+10000011111111111111111111111111111";
+
+#[test]
+fn probing(rt: HostRuntime) -> Result<(), Fail> {
+    let cnf: &[u8] = b"c note\np cnf 3 3\n1 -2 0\n2\n3 0\n-1 0\n";
+    let found = broken(rt.alloc(), "pbcnf probe a x1", [cnf, b"", b""], 0);
+    assert_eq!(rt; found.as_deref(), Some(PROBED));
+    Ok(())
+}
+
+const DECODED_PROBLEMS: &str = "\
+0111111111111111100\n\
+010110010110101010\n\
+111111111111111101\n\
+881181001100188811\n\
+111011111011111111\n\
+111111111111111111";
+
+const DECODED_MODELS: &str = "\
+9999999999999999999988111111100\n\
+100000910999999999999108081010\n\
+100000911999999999999111111111\n\
+100000911999999999999118100111\n\
+100000911999999999999111111111\n\
+100000911999999999999111111111";
+
+#[test]
+fn decoding(rt: HostRuntime) -> Result<(), Fail> {
+    let opb: &[u8] = b"+1 x1 +1 x2 = 1 ;\n";
+    let model: &[u8] = b"c note\ns SATISFIABLE\nv 1 -2 0\n";
+    let texts = [opb, model, b""];
+    for (at, expected) in [(0, DECODED_PROBLEMS), (1, DECODED_MODELS)] {
+        let found = broken(rt.alloc(), "pbcnf decode a b", texts, at);
+        assert_eq!(rt; found.as_deref(), Some(expected), "text {at}");
+    }
+    Ok(())
+}
+
+const CHECKED_PROBLEMS: &str = "\
+11111111111111111111111100\n\
+0101100101100101101101010\n\
+1111111111111111111111101\n\
+7711117711117711111107011\n\
+1110111110111110111111111\n\
+1111111111111111111111111";
+
+const CHECKED_CNFS: &str = "\
+111111111111111111100\n\
+10111010117010707010\n\
+11111111111111111111\n\
+11111101111111111111\n\
+11111111111111111111\n\
+11111111111111111111";
+
+const CHECKED_DERIVATIONS: &str = "\
+11111111111111111111111111111111111111111111111111111111111111111111771117711111111111111111111111117711111111111111111100\n\
+1111111111111101111111111011111110111011111001011011010100111101111107011070711110111110010110110101011011011111000011110\n\
+1111111111111111111111111111111111111111111111111111111011111111111111111111111111111111111111111110111111111111111111111\n\
+1111111111111111111111111111111111111111111177117111171117111117111117117171711111711111001171111711117111111111177711111\n\
+1111111111111111111111111111111111111111111111101111111111111111111111101111111111111111111011111111101111111111111111111\n\
+1111111111111111111111111111111111111111111111111111111111111111111111111111111111111111111111111111111111111111111111111";
+
+#[test]
+fn checking(rt: HostRuntime) -> Result<(), Fail> {
+    let opb: &[u8] = b"+5 x1 +3 x2 +2 x3 >= 6 ;\n";
+    let cnf: &[u8] = b"p cnf 4 2\n1 0\n2 3 0\n";
+    let proof: &[u8] = b"pseudo-Boolean derivation profile 1\nf 1\nrup +1 x1 >= 1 ; 1\nout 2\n\
+pol 1 x1 w s\nout 3\nred +1 x4 >= 1 ; x4 -> 1\ndel 1 4\nend\n";
+    let texts = [opb, cnf, proof];
+    let cases = [
+        (0, CHECKED_PROBLEMS),
+        (1, CHECKED_CNFS),
+        (2, CHECKED_DERIVATIONS),
+    ];
+    for (at, expected) in cases {
+        let found = broken(rt.alloc(), "pbcnf check a b c", texts, at);
+        assert_eq!(rt; found.as_deref(), Some(expected), "text {at}");
+    }
+    Ok(())
+}
+
+// A statement of one term too many, which nothing ends.
+#[test]
+fn a_huge_text(rt: HostRuntime) -> Result<(), Fail> {
+    let mut text = Vec::new(rt.alloc());
+    for _ in 0..1_048_577 {
+        text.extend_from_slice(b"1 x1 ")?;
+    }
+    let texts = [text.as_slice(), b"", b""];
+    let run = run_on(rt.alloc(), "pbcnf encode a d", texts, 0, 65_536, 4096).expect(&rt, "run");
+    let found = refusal_of(rt.alloc(), &run);
+    assert_eq!(rt;
+        found.as_deref(),
+        Some("3 pbcnf: OPB 1:5242881: limit terms")
+    );
+    Ok(())
+}

@@ -1,0 +1,96 @@
+//! Whole runs of the program on desks in memory, and what tests ask of them.
+#![tactic(auto)]
+
+ghost use Rattle.std.specs.Prelude.{◌≤◌};
+ghost use Rattle.pb_desk.specs.Desk.{IsClosed};
+
+use pb_base::{Bytes, Ids, NoMemory, Seq, Text};
+use pb_desk::{Desk, MemoryDesk, Named, Shelf};
+use pb_suite::{Outcome, run};
+use std::alloc::{Alloc, Global};
+
+/// How a run ended, and what it left.
+#[derive(Drop)]
+pub struct Run {
+    /// How it ended.
+    pub outcome: Outcome,
+    /// The desk, with what was made and said.
+    pub desk: MemoryDesk,
+}
+
+// The words that stand between blanks.
+fn owned_words(alloc: Global, words: &str) -> Result<Vec<String>, NoMemory> {
+    let mut owned = Vec::new(alloc);
+    for word in words.split(' ') {
+        owned.push(word.to_string(alloc)?)?;
+    }
+    Ok(owned)
+}
+
+/// A file of this name.
+pub fn named(alloc: Global, name: &str, text: &[u8]) -> Result<Named, NoMemory> {
+    Ok(Named {
+        name: Text::from_string(name.to_string(alloc)?),
+        bytes: Bytes::from_vec(text.to_vec(alloc)?),
+    })
+}
+
+// A run, of which nothing is known but what it leaves.
+fn ended<D: Desk>(alloc: Global, words: &Vec<String>, desk: &mut D) -> Outcome
+    requires { IsClosed (D.state desk.old) }
+{
+    run(alloc, words, desk)
+}
+
+/// A run with these words, with a blank between any two, on a desk with these files to read. Its calls with a number in
+/// `fails` fail, counted from 1 over all calls; a call moves at most `piece` bytes; each file and what is said have `room`
+/// bytes.
+pub fn run_over(
+    alloc: Global,
+    words: &str,
+    files: Shelf,
+    fails: Ids,
+    piece: usize,
+    room: usize,
+) -> Result<Run, NoMemory>
+    requires { 1 ≤ piece }
+{
+    let owned = owned_words(alloc, words)?;
+    let mut desk = MemoryDesk::new(alloc, files, fails, piece, room)?;
+    let outcome = ended(alloc, &owned, &mut desk);
+    Ok(Run { outcome, desk })
+}
+
+/// The same with one file to read, `a`.
+pub fn run_with(
+    alloc: Global,
+    words: &str,
+    text: &[u8],
+    fails: Ids,
+    piece: usize,
+    room: usize,
+) -> Result<Run, NoMemory>
+    requires { 1 ≤ piece }
+{
+    let mut files = Seq::new(alloc);
+    files.push(named(alloc, "a", text)?)?;
+    run_over(alloc, words, files, fails, piece, room)
+}
+
+/// The same on a desk that does not hinder it.
+pub fn run_freely(alloc: Global, words: &str, text: &[u8]) -> Result<Run, NoMemory> {
+    run_with(alloc, words, text, Ids::new(alloc), 4096, 4096)
+}
+
+/// The run made and said nothing.
+pub fn is_silent(run: &Run) -> bool {
+    run.desk.made(0).is_none() && run.desk.made(1).is_none() && run.desk.said().is_empty()
+}
+
+/// The status and the fault line of a run that made and said nothing.
+pub fn refusal_of(alloc: Global, run: &Run) -> Option<String> {
+    if !is_silent(run) {
+        return None;
+    }
+    format!(in alloc; "{} {}", run.outcome.status(), run.outcome).ok()
+}
