@@ -1,6 +1,6 @@
-use super::{Run, run_with};
 use pb_base::{Ids, NoMemory};
 use pb_gen::generate;
+use pb_runs::{Run, run_with};
 use std::alloc::Global;
 use std::test::Fail;
 

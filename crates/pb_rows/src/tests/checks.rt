@@ -1,9 +1,8 @@
-ghost use Rattle.std.specs.Prelude.{◌≤◌};
-
-use super::{Run, ended, is_silent, owned_words};
-use pb_base::{Bytes, Ids, NoMemory, Seq, Text};
-use pb_desk::{MemoryDesk, Named, Shelf};
-use std::alloc::{Alloc, Global};
+use super::{files_of, told, told_of};
+use pb_base::{Ids, NoMemory};
+use pb_desk::Shelf;
+use pb_runs::run_over;
+use std::alloc::Global;
 use std::test::Fail;
 
 // A problem and a CNF.
@@ -27,57 +26,19 @@ const WEIGHTS: Pair = Pair {
 
 const ACCEPTED: &str = "accepted\n";
 
-// A file of this name.
-pub fn named(alloc: Global, name: &str, text: &str) -> Result<Named, NoMemory> {
-    Ok(Named {
-        name: Text::from_string(name.to_string(alloc)?),
-        bytes: Bytes::from_vec(text.as_bytes().to_vec(alloc)?),
-    })
-}
-
 // The files `a` and `c` of the pair, and the derivation `p`, which has these lines behind its first.
-fn files_of(alloc: Global, pair: &Pair, lines: &str) -> Result<Shelf, NoMemory> {
+fn texts_of(alloc: Global, pair: &Pair, lines: &str) -> Result<Shelf, NoMemory> {
     let proof = format!(in alloc; "pseudo-Boolean derivation profile 1\n{lines}")?;
-    let mut files = Seq::new(alloc);
-    files.push(named(alloc, "a", pair.opb)?)?;
-    files.push(named(alloc, "c", pair.cnf)?)?;
-    files.push(named(alloc, "p", proof.as_str())?)?;
-    Ok(files)
-}
-
-// A run with these words on a desk with these files, whose calls with a number in `fails` fail and move at most `piece`
-// bytes.
-pub fn run_over(
-    alloc: Global,
-    words: &str,
-    files: Shelf,
-    fails: Ids,
-    piece: usize,
-) -> Result<Run, NoMemory>
-    requires { 1 ≤ piece }
-{
-    let owned = owned_words(alloc, words)?;
-    let mut desk = MemoryDesk::new(alloc, files, fails, piece, 4096)?;
-    let outcome = ended(alloc, &owned, &mut desk);
-    Ok(Run { outcome, desk })
-}
-
-// What the run says, where it is done, or its status and its fault line, where it says nothing. It makes no file.
-pub(super) fn told(alloc: Global, run: &Run) -> Option<String> {
-    if run.outcome.status() != 0 && is_silent(run) {
-        return format!(in alloc; "{} {}", run.outcome.status(), run.outcome).ok();
-    }
-    if run.outcome.status() != 0 || run.desk.made(0).is_some() || run.desk.made(1).is_some() {
-        return None;
-    }
-    str::from_utf8(run.desk.said()).ok()?.to_string(alloc).ok()
+    files_of(
+        alloc,
+        &[("a", pair.opb), ("c", pair.cnf), ("p", proof.as_str())],
+    )
 }
 
 // What is told of a derivation with these lines behind its first.
 fn judged(alloc: Global, pair: &Pair, lines: &str) -> Option<String> {
-    let files = files_of(alloc, pair, lines).ok()?;
-    let run = run_over(alloc, "pbcnf check a c p", files, Ids::new(alloc), 4096).ok()?;
-    told(alloc, &run)
+    let files = texts_of(alloc, pair, lines).ok()?;
+    told(alloc, "pbcnf check a c p", files)
 }
 
 #[test]
@@ -224,9 +185,8 @@ fn a_text_that_is_not_there(rt: HostRuntime) -> Result<(), Fail> {
         "pbcnf check a c b",
     ];
     for &words in &cases {
-        let files = files_of(alloc, &ONE, "f 2\nout 1\nout 2\nend\n")?;
-        let run = run_over(alloc, words, files, Ids::new(alloc), 4096)?;
-        let found = told(alloc, &run);
+        let files = texts_of(alloc, &ONE, "f 2\nout 1\nout 2\nend\n")?;
+        let found = told(alloc, words, files);
         assert_eq!(rt; found.as_deref(), Some("4 pbcnf: read fault"), "at {words}");
     }
     Ok(())
@@ -245,10 +205,10 @@ fn long_lines(alloc: Global, comments: u32) -> Result<String, NoMemory> {
 fn nothing_is_read_behind_the_verdict(rt: HostRuntime) -> Result<(), Fail> {
     let alloc = rt.alloc();
     let lines = long_lines(alloc, 1_000_000)?;
-    let files = files_of(alloc, &ONE, lines.as_str())?;
+    let files = texts_of(alloc, &ONE, lines.as_str())?;
     let fails = Ids::from_vec(vec![in alloc; 1_000_000]?);
-    let run = run_over(alloc, "pbcnf check a c p", files, fails, 1)?;
-    let found = told(alloc, &run);
+    let run = run_over(alloc, "pbcnf check a c p", files, fails, 1, 4096)?;
+    let found = told_of(alloc, &run);
     assert_eq!(rt;
         found.as_deref(),
         Some("7 pbcnf: PROOF line 3: sets original x1")

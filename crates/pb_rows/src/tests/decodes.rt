@@ -1,9 +1,4 @@
-ghost use Rattle.std.specs.Prelude.{◌≤◌};
-
-use super::checks::{named, run_over, told};
-use super::{Run, status_at};
-use pb_base::{Ids, NoMemory, Seq};
-use pb_desk::Shelf;
+use super::{files_of, told};
 use std::alloc::Global;
 use std::test::Fail;
 
@@ -15,19 +10,10 @@ const PRINTED: &str = "s SATISFIABLE\nv 1 -2 0\n";
 
 const SOLUTION: &str = "s SATISFIABLE\nv x1 -x2\n";
 
-// The files `a`, a problem, and `m`, what a solver printed.
-fn files_of(alloc: Global, opb: &str, printed: &str) -> Result<Shelf, NoMemory> {
-    let mut files = Seq::new(alloc);
-    files.push(named(alloc, "a", opb)?)?;
-    files.push(named(alloc, "m", printed)?)?;
-    Ok(files)
-}
-
 // What is told of a problem and what a solver printed.
 fn decoded(alloc: Global, opb: &str, printed: &str) -> Option<String> {
-    let files = files_of(alloc, opb, printed).ok()?;
-    let run = run_over(alloc, "pbcnf decode a m", files, Ids::new(alloc), 4096).ok()?;
-    told(alloc, &run)
+    let files = files_of(alloc, &[("a", opb), ("m", printed)]).ok()?;
+    told(alloc, "pbcnf decode a m", files)
 }
 
 #[test]
@@ -134,54 +120,9 @@ fn printed_texts_out_of_the_grammar(rt: HostRuntime) -> Result<(), Fail> {
 fn a_text_that_is_not_there(rt: HostRuntime) -> Result<(), Fail> {
     let alloc = rt.alloc();
     for words in ["pbcnf decode b m", "pbcnf decode a b"] {
-        let run = run_over(
-            alloc,
-            words,
-            files_of(alloc, ONE, PRINTED)?,
-            Ids::new(alloc),
-            4096,
-        )?;
-        let found = told(alloc, &run);
+        let files = files_of(alloc, &[("a", ONE), ("m", PRINTED)])?;
+        let found = told(alloc, words, files);
         assert_eq!(rt; found.as_deref(), Some("4 pbcnf: read fault"), "at {words}");
     }
-    Ok(())
-}
-
-// Where the call of this number fails, the run ends with this status, and says a first part of the solution.
-fn ends_at(alloc: Global, call: u64, piece: usize, status: u8) -> Option<bool>
-    requires { 1 ≤ piece }
-{
-    let fails = Ids::from_vec(vec![in alloc; call].ok()?);
-    let files = files_of(alloc, ONE, PRINTED).ok()?;
-    let Run { outcome, desk } = run_over(alloc, "pbcnf decode a m", files, fails, piece).ok()?;
-    let whole = status != 0 || desk.said() == SOLUTION.as_bytes();
-    let silent = status != 4 || desk.said().is_empty();
-    let fits = SOLUTION.as_bytes().starts_with(desk.said()) && whole && silent;
-    Some(outcome.status() == status && fits && desk.made(0).is_none())
-}
-
-// How many calls open and read both texts to their ends, and how many say the solution. The counts are exact, so that a
-// fault that is passed over shows.
-fn all_end(alloc: Global, piece: usize, reads: u64, writes: u64) -> bool
-    requires { 1 ≤ piece }
-{
-    if reads > 1000 || writes > 1000 {
-        return false;
-    }
-    for call in 1..=reads + writes + 1 {
-        if ends_at(alloc, call, piece, status_at(call, reads, writes)) != Some(true) {
-            return false;
-        }
-    }
-    true
-}
-
-#[test]
-fn each_call_fails_in_turn(rt: HostRuntime) -> Result<(), Fail> {
-    // By pieces of a byte, each of the 18 and 23 bytes that are read and of the 23 that are said is a call.
-    let by_bytes = all_end(rt.alloc(), 1, 1 + 19 + 1 + 24, 23);
-    assert!(rt; by_bytes);
-    let whole = all_end(rt.alloc(), 4096, 1 + 2 + 1 + 2, 1);
-    assert!(rt; whole);
     Ok(())
 }

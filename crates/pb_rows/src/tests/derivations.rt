@@ -1,7 +1,6 @@
-use super::checks::{named, run_over};
-use super::{Run, run_with};
-use pb_base::{Ids, NoMemory, Seq};
-use pb_desk::Shelf;
+use super::{files_of, told};
+use pb_base::Ids;
+use pb_runs::{Run, run_with};
 use std::alloc::Global;
 use std::test::Fail;
 
@@ -33,26 +32,16 @@ fn run_bare(alloc: Global, options: &str, text: &str) -> Option<Run> {
     .ok()
 }
 
-// A problem, a CNF and a derivation.
-fn files_of(alloc: Global, opb: &str, cnf: &str, proof: &str) -> Result<Shelf, NoMemory> {
-    let mut files = Seq::new(alloc);
-    files.push(named(alloc, "a", opb)?)?;
-    files.push(named(alloc, "c", cnf)?)?;
-    files.push(named(alloc, "p", proof)?)?;
-    Ok(files)
-}
-
 // With a derivation, the same CNF is made and the same said as without; the derivation is accepted beside it.
 fn is_derived(alloc: Global, options: &str, text: &str) -> Option<bool> {
     let bare = run_bare(alloc, options, text)?;
     let run = run_named(alloc, options, text)?;
     let cnf = str::from_utf8(run.desk.made(0)?).ok()?;
     let proof = str::from_utf8(run.desk.made(1)?).ok()?;
-    let files = files_of(alloc, text, cnf, proof).ok()?;
-    let checked = run_over(alloc, "pbcnf check a c p", files, Ids::new(alloc), 4096).ok()?;
+    let files = files_of(alloc, &[("a", text), ("c", cnf), ("p", proof)]).ok()?;
+    let judged = told(alloc, "pbcnf check a c p", files);
     let is_same = bare.desk.made(0) == run.desk.made(0) && bare.desk.said() == run.desk.said();
-    let is_accepted = checked.outcome.status() == 0
-        && checked.desk.said() == "accepted\n".as_bytes();
+    let is_accepted = judged.as_deref() == Some("accepted\n");
     Some(run.outcome.status() == 0 && bare.desk.made(1).is_none() && is_same && is_accepted)
 }
 

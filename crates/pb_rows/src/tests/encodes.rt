@@ -1,4 +1,4 @@
-use super::{Run, run_freely};
+use pb_runs::{Run, run_freely};
 use std::alloc::Global;
 use std::test::Fail;
 

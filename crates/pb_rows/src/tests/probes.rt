@@ -1,7 +1,5 @@
-ghost use Rattle.std.specs.Prelude.{◌≤◌};
-
-use super::{Run, refusal, run_freely, run_with, status_at};
-use pb_base::Ids;
+use super::refusal;
+use pb_runs::run_freely;
 use std::alloc::Global;
 use std::test::Fail;
 
@@ -101,81 +99,6 @@ fn words_and_names(rt: HostRuntime) -> Result<(), Fail> {
     for &(words, line) in &cases {
         let found = refusal(rt.alloc(), words, ONE.as_bytes());
         assert_eq!(rt; found.as_deref(), Some(line), "at {words}");
-    }
-    Ok(())
-}
-
-const SAID: &[u8] = b"fixed 1 -2 0\n";
-
-// A run that is due to say it, of which the call of this number fails.
-fn run_due(alloc: Global, call: u64, piece: usize, room: usize) -> Option<Run>
-    requires { 1 ≤ piece }
-{
-    let fails = Ids::from_vec(vec![in alloc; call].ok()?);
-    let text = ONE.as_bytes();
-    run_with(alloc, "pbcnf probe a x1", text, fails, piece, room).ok()
-}
-
-// What is said fits the status: all; nothing; a first part.
-fn fits(run: &Run) -> bool {
-    let said = run.desk.said();
-    match run.outcome.status() {
-        0 => said == SAID,
-        4 => said.is_empty(),
-        _ => SAID.starts_with(said) && said.len() < SAID.len(),
-    }
-}
-
-// Where the call of this number fails, the run ends with this status, and has said a first part.
-fn ends_at(alloc: Global, call: u64, piece: usize, status: u8) -> bool
-    requires { 1 ≤ piece }
-{
-    match run_due(alloc, call, piece, 4096) {
-        Some(run) => { run.outcome.status() == status && run.desk.made(0).is_none() && fits(&run) }
-        None => false,
-    }
-}
-
-// How many calls open and read the text to its end, and how many say the words. The counts are exact, so that a fault that
-// is passed over shows.
-fn all_end(alloc: Global, piece: usize, reads: u64, writes: u64) -> bool
-    requires { 1 ≤ piece }
-{
-    if reads > 1000 || writes > 1000 {
-        return false;
-    }
-    for call in 1..=reads + writes + 1 {
-        if !ends_at(alloc, call, piece, status_at(call, reads, writes)) {
-            return false;
-        }
-    }
-    true
-}
-
-#[test]
-fn each_call_fails_in_turn(rt: HostRuntime) -> Result<(), Fail> {
-    let by_bytes = all_end(rt.alloc(), 1, 1 + 24 + 1, 13);
-    assert!(rt; by_bytes);
-    let whole = all_end(rt.alloc(), 4096, 1 + 2, 1);
-    assert!(rt; whole);
-    Ok(())
-}
-
-// In this room, the run says as much as fits.
-fn fills(alloc: Global, room: usize) -> bool {
-    let Some(run) = run_due(alloc, 0, 4096, room) else {
-        return false;
-    };
-    let said = run.desk.said();
-    let status = if room < SAID.len() { 5 } else { 0 };
-    run.outcome.status() == status && SAID.starts_with(said) && said.len() == room.min(SAID.len())
-}
-
-#[test]
-fn each_room_is_too_small_in_turn(rt: HostRuntime) -> Result<(), Fail> {
-    for room in 0..=13 {
-        let fills = fills(rt.alloc(), room);
-        assert!(rt; fills, "room {room}");
     }
     Ok(())
 }
