@@ -9,7 +9,7 @@ use Rattle.pb_adder.specs.declared.gate.Gate.{Gate}
 use Rattle.pb_adder.specs.AdderSteps.{levels_of}
 use Rattle.pb_adder.specs.Gates.{carry_wire, made_of}
 use Rattle.pb_adder.specs.LeveledGates.{filled_up, leveled_from}
-use Rattle.pb_adder.specs.laws.LinesRun.{levels_in}
+use Rattle.pb_adder.specs.laws.TreeOps.{levels_in}
 use Rattle.pb_adder.specs.Network.{ends_from, gates_from, gates_of, level_count, level_end, network_ends, network_gates, queue_at}
 use Rattle.pb_adder.proofs.Heights.{heights_count, level_heights_step}
 use Rattle.pb_adder.proofs.NetworkSteps.{level_ends_step, level_gates_step, level_numbered}

@@ -8,7 +8,7 @@ use Rattle.pb_steps.specs.declared.step.Step.{Step}
 use Rattle.pb_steps.specs.Steps.{takes_id}
 use Rattle.pb_derive.specs.Claims.{Claim, claim_steps}
 use Rattle.pb_family.proofs.Sequence.{meanings_ids}
-use Rattle.pb_adder.specs.AdderSteps.{sum_steps, last_sum, last_deletion, gate_claims, row_claims, levels_of, adder_claims, defining_steps, proving_steps}
+use Rattle.pb_adder.specs.AdderSteps.{blocks, sum_steps, last_sum, last_deletion, gate_claims, row_claims, levels_of, adder_claims, defining_steps, proving_steps}
 use Rattle.pb_adder.specs.Comparator.{comparator}
 use Rattle.pb_adder.specs.GateMeanings.{gate_meanings}
 use Rattle.pb_adder.specs.Network.{level_count, network_ends, network_gates}
@@ -16,7 +16,7 @@ use Rattle.pb_adder.specs.laws.AdderDerives.{meanings-length}
 use Rattle.pb_adder.specs.laws.AdderShort.{gate_claims_few}
 use Rattle.pb_adder.specs.laws.Leveling.{few_levels}
 use Rattle.pb_adder.specs.laws.RowLengths.{comparator_few, ends_length}
-use Rattle.pb_adder.specs.laws.StepCounts.{levels-length}
+use Rattle.pb_adder.specs.laws.StepCounts.{few_blocks, levels-length}
 use Rattle.pb_adder.proofs.Walks.{claims-append, claims_ids, gate_claims_ids, sums_ids}
 
 abbrev bit : Step → ℕ
@@ -45,16 +45,18 @@ last_ids last (level ∷ levels) = refl
 pub proving_ids : (ts : List Weighted) (bound first id base next : ℕ) → weight ts < 2 ^ 100 → count_by takes_id (proving_steps ts bound first id base next) ≤ 15 * length (network_gates ts) + 100
 proving_ids ts bound first id base next small =
     let levels = levels_of ts in
-    let last = last_sum id next levels in
-    let sums = sum_steps base id next levels in
-    let outs = claim_steps (next + length levels) (adder_claims ts bound first base last) in
+    let parts = blocks levels in
+    let last = last_sum id next parts in
+    let sums = sum_steps base id next parts in
+    let outs = claim_steps (next + length parts) (adder_claims ts bound first base last) in
     omega (
       arith,
       sum_by-append bit sums (outs ++ last_deletion last levels),
       sum_by-append bit outs (last_deletion last levels),
-      sums_ids base id next levels,
+      sums_ids base id next parts,
+      few_blocks levels,
       levels-length ts,
-      adder_claims_ids ts bound first base last (next + length levels) small,
+      adder_claims_ids ts bound first base last (next + length parts) small,
       last_ids last levels,
     )
 

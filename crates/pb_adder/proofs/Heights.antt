@@ -9,7 +9,7 @@ use Rattle.pb_adder.specs.Gates.{carry_wire}
 use Rattle.pb_adder.specs.Network.{gates_of, queue_at}
 use Rattle.pb_adder.specs.declared.gate.Gate.{Gate}
 use Rattle.pb_adder.specs.declared.gate.Wire.{Wire}
-use Rattle.pb_adder.specs.laws.LinesRun.{levels_in}
+use Rattle.pb_adder.specs.laws.TreeOps.{levels_in}
 
 -- the adders of one level have its number
 levels_at : (level : ℕ) (gs : List Gate) → levels_in (at_level level gs) ≡ replicate (length gs) level

@@ -1,8 +1,8 @@
 -- The parts of an adder network's derivation, element by element.
-use Rattle.std.proofs.Common.{◌≡◌, ◌≤◌, ◌<◌, ◌+◌, ◌++◌, ◌∙◌, ℕ, List, [], ◌∷◌, length, refl, sym, ap, subst, cond, arith, length-append}
+use Rattle.std.proofs.Common.{◌≡◌, ◌≤◌, ◌<◌, ◌+◌, ◌*◌, ◌^◌, ◌++◌, ◌∙◌, ℕ, zero, suc, List, [], ◌∷◌, length, take, drop, min, refl, sym, ap, subst, cond, arith, length-append}
 use Rattle.std.specs.Prelude.{map, count_by, sum_by, Result, IsErrAnd}
 use Rattle.std.specs.List.{flat_map}
-use Rattle.std.proofs.lemmas.List.{length-map, map-append}
+use Rattle.std.proofs.lemmas.List.{length-map, length-drop, map-append, take_min, drop_min}
 use Rattle.std.proofs.lemmas.List.Sums.{sum_by_from, sum_by-append}
 use Rattle.pb_base.specs.declared.literal.Lit.{Lit}
 use Rattle.pb_steps.specs.declared.step.Step.{Step}
@@ -13,7 +13,7 @@ use Rattle.pb_derive.specs.Deletions.{deletion_steps}
 use Rattle.pb_derive.specs.Meanings.{meaning_steps}
 use Rattle.pb_derive.specs.Rups.{by_rup}
 use Rattle.pb_family.specs.Derivations.{propagated}
-use Rattle.pb_adder.specs.AdderSteps.{sum_ops, later_sums, sum_steps, last_sum, last_deletion, gate_ids, gate_claims}
+use Rattle.pb_adder.specs.AdderSteps.{blocks_within, blocks, sum_ops, later_sums, sum_steps, last_sum, last_deletion, gate_ids, gate_claims}
 use Rattle.pb_adder.specs.GateMeanings.{adder_meanings, gate_meanings}
 use Rattle.pb_adder.specs.Gates.{wire_lit, full_clauses, gate_clauses}
 use Rattle.pb_adder.specs.declared.gate.Wire.{Wire}
@@ -23,6 +23,7 @@ use Rattle.pb_adder.specs.declared.gate.Gate.TheVariants.{Full, Half}
 use Rattle.pb_family.specs.StepSinks.{StepState, TakesSteps, StopsInSteps, HandsSteps}
 use Rattle.pb_family.specs.declared.sink.SinkFault.{SinkFault}
 use Rattle.pb_family.proofs.Deriving.{steps_same}
+use Rattle.pb_adder.specs.laws.LineOps.{power_positive}
 use Rattle.pb_adder.proofs.Walking.{walk, part_stopped, parts_handed}
 
 -- ---- meanings: what moves is the next id
@@ -131,48 +132,65 @@ gate_claims_ids first id next (g ∷ gs) =
       length-map (gate_clauses first g) (by_rup (gate_ids id)),
     )
 
--- ---- sums: what moves is the id of an adder's first constraint, the sum before it, and the next id
+-- ---- sums
 
-pub record Leading : Type 0 where
-  pub id : ℕ
-  pub running : ℕ
-  pub next : ℕ
+-- any fuel that is enough gives the same blocks
+within_enough : (n more others : ℕ) (levels : List ℕ) → length levels ≤ more → length levels ≤ others → blocks_within n more levels ≡ blocks_within n others levels
+unfolding blocks_within
+within_enough n zero zero levels h k = refl
+within_enough n zero (suc others) [] h k = refl
+within_enough n zero (suc others) (level ∷ levels) h k = absurd (omega (arith, h))
+within_enough n (suc more) zero [] h k = refl
+within_enough n (suc more) zero (level ∷ levels) h k = absurd (omega (arith, k))
+within_enough n (suc more) (suc others) [] h k = refl
+within_enough n (suc more) (suc others) (level ∷ levels) h k =
+    let back = drop (2 ^ n) (level ∷ levels) in
+    let from = power_positive n in
+    let size = length-drop (2 ^ n) (level ∷ levels) in
+    ap (λ (bs : List (List ℕ)). take (2 ^ n) (level ∷ levels) ∷ bs) (within_enough n more others back (omega (arith, h, size, from)) (omega (arith, k, size, from)))
 
-abbrev pub leading : ℕ → ℕ → ℕ → Leading
-leading id running next = record { id = id; running = running; next = next }
+within_first : (n : ℕ) (levels : List ℕ) → 0 < length levels → blocks_within n (length levels) levels ≡ take (2 ^ n) levels ∷ blocks_within n (length (drop (2 ^ n) levels)) (drop (2 ^ n) levels)
+unfolding blocks_within
+within_first n [] some = absurd (omega (arith, some))
+within_first n (level ∷ levels) some =
+    let back = drop (2 ^ n) (level ∷ levels) in
+    ap (λ (bs : List (List ℕ)). take (2 ^ n) (level ∷ levels) ∷ bs) (within_enough n (length levels) (length back) back (omega (arith, length-drop (2 ^ n) (level ∷ levels), power_positive n)) (omega arith))
 
-abbrev pub sum_piece : Leading → ℕ → List Step
-sum_piece p level = Pol (sum_ops level p.id (p.id + 2) p.running) ∷ deletion_steps 1 p.running 1
+-- as the code splits them
+pub blocks_first : (levels block later : List ℕ) (k : ℕ) → 0 < length levels → k ≡ min (2 ^ 16) (length levels) → block ≡ take k levels → later ≡ drop k levels → blocks levels ≡ block ∷ blocks later
+blocks_first levels block later k some is front back =
+    within_first 16 levels some
+    ∙ (λ i. same_front i ∷ blocks (same_back i))
+  where
+    same_front : take (2 ^ 16) levels ≡ block
+    same_front = sym (front ∙ ap (λ (j : ℕ). take j levels) is ∙ take_min (2 ^ 16) levels)
 
-abbrev pub sum_on : Leading → ℕ → Leading
-sum_on p level = leading (p.id + 4) p.next (p.next + 1)
+    same_back : drop (2 ^ 16) levels ≡ later
+    same_back = sym (back ∙ ap (λ (j : ℕ). drop j levels) is ∙ drop_min (2 ^ 16) levels)
 
-pub sums_walk : (id running next : ℕ) (levels : List ℕ) → later_sums id running next levels ≡ walk sum_piece sum_on (leading id running next) levels
-sums_walk id running next [] = refl
-sums_walk id running next (level ∷ levels) = ap (λ (ss : List Step). sum_piece (leading id running next) level ++ ss) (sums_walk (id + 4) next (next + 1) levels)
+pub no_blocks : (levels : List ℕ) → length levels ≡ 0 → blocks levels ≡ []
+unfolding blocks_within
+no_blocks [] none = refl
+no_blocks (level ∷ levels) none = absurd (omega (arith, none))
 
-later_ids : (id running next : ℕ) (levels : List ℕ) → count_by takes_id (later_sums id running next levels) ≡ length levels
+later_ids : (id running next : ℕ) (parts : List (List ℕ)) → count_by takes_id (later_sums id running next parts) ≡ length parts
 later_ids id running next [] = refl
-later_ids id running next (level ∷ levels) =
+later_ids id running next (block ∷ parts) =
     let bit : Step → ℕ = λ s. cond (takes_id s) 1 0 in
-    let rest = later_sums (id + 4) next (next + 1) levels in
-    omega (arith, sum_by-append bit (sum_piece (leading id running next) level) rest, later_ids (id + 4) next (next + 1) levels)
+    let rest = later_sums (id + 4 * length block) next (next + 1) parts in
+    omega (arith, sum_by-append bit (Pol (sum_ops id block running) ∷ deletion_steps 1 running 1) rest, later_ids (id + 4 * length block) next (next + 1) parts)
 
-pub sums_ids : (id running next : ℕ) (levels : List ℕ) → count_by takes_id (sum_steps id running next levels) ≡ length levels
+pub sums_ids : (id running next : ℕ) (parts : List (List ℕ)) → count_by takes_id (sum_steps id running next parts) ≡ length parts
 sums_ids id running next [] = refl
-sums_ids id running next (level ∷ levels) =
+sums_ids id running next (block ∷ parts) =
     let bit : Step → ℕ = λ s. cond (takes_id s) 1 0 in
-    let rest = later_sums (id + 4) next (next + 1) levels in
-    omega (arith, sum_by-append bit (Pol (sum_ops level id (id + 2) running) ∷ []) rest, later_ids (id + 4) next (next + 1) levels)
+    let rest = later_sums (id + 4 * length block) next (next + 1) parts in
+    omega (arith, sum_by-append bit (Pol (sum_ops id block running) ∷ []) rest, later_ids (id + 4 * length block) next (next + 1) parts)
 
 -- the last sum's id is the constraint's, or a new one
-pub last_below : (m running next : ℕ) (levels : List ℕ) → running < m → next + length levels ≤ m → last_sum running next levels < m
+pub last_below : (m running next : ℕ) (parts : List (List ℕ)) → running < m → next + length parts ≤ m → last_sum running next parts < m
 last_below m running next [] h k = h
-last_below m running next (level ∷ levels) h k = last_below m next (next + 1) levels (omega (arith, k)) (omega (arith, k))
-
-pub no_sums : (id running next : ℕ) (levels : List ℕ) → length levels ≡ 0 → sum_steps id running next levels ≡ []
-no_sums id running next [] none = refl
-no_sums id running next (level ∷ levels) none = absurd (omega (arith, none))
+last_below m running next (block ∷ parts) h k = last_below m next (next + 1) parts (omega (arith, k)) (omega (arith, k))
 
 pub no_last : (last : ℕ) (levels : List ℕ) → length levels ≡ 0 → last_deletion last levels ≡ []
 no_last last [] none = refl

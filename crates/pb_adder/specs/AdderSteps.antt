@@ -1,5 +1,5 @@
 -- How the clauses of an adder network and its comparator are derived (after Gocht, Martins, Nordström and Oertel 2022).
-use Rattle.std.specs.Prelude.{ℕ, ◌+◌, ◌*◌, ◌^◌, pos, List, [], ◌∷◌, ◌++◌, length, map, flat_map}
+use Rattle.std.specs.Prelude.{ℕ, zero, suc, ◌+◌, ◌*◌, ◌^◌, nat_le, if◌then◌else◌, pos, List, [], ◌∷◌, ◌++◌, length, map, flat_map, take, drop}
 use Rattle.pb_base.specs.declared.literal.Lit.{Lit}
 use Rattle.pb_norm.specs.Constraints.{Weighted}
 use Rattle.pb_steps.specs.declared.op.PolOp.{PolOp}
@@ -17,27 +17,51 @@ use Rattle.pb_adder.specs.Gates.{gate_clauses}
 use Rattle.pb_adder.specs.LeveledGates.{Leveled, leveled_gates}
 use Rattle.pb_adder.specs.Network.{network_gates, network_ends}
 
--- ---- the running sum: after each adder, the weighted sum of all bits that wait, negated
+-- ---- what adders say, added up
 
--- An adder's inputs are no less than its outputs: that follows from the first constraints of its carry and its sum. It is
--- added, as often as its level says.
-abbrev pub sum_ops : ℕ → ℕ → ℕ → ℕ → List PolOp
-sum_ops level carry sum running = Push carry ∷ Mul (pos 2) ∷ Push sum ∷ Add ∷ Div (pos 3) ∷ Mul (pos (2 ^ level)) ∷ Push running ∷ Add ∷ []
+-- An adder's inputs are no less than its outputs: that follows from the first constraints of its carry and its sum, of the four
+-- that have ids from `id` on. It is taken as often as its level says.
+abbrev pub line_ops : ℕ → ℕ → List PolOp
+line_ops level id = Push id ∷ Mul (pos 2) ∷ Push (id + 2) ∷ Add ∷ Div (pos 3) ∷ Mul (pos (2 ^ level)) ∷ []
 
--- A line for each further adder; the constraints of each have four ids. The sum before it is deleted.
-abbrev pub later_sums : ℕ → ℕ → ℕ → List ℕ → List Step
+-- That of up to 2^n adders, one after another, as a balanced tree: so a term is added again at most n times.
+unfoldable pub tree_ops : ℕ → ℕ → List ℕ → List PolOp
+tree_ops zero id [] = []
+tree_ops zero id (level ∷ levels) = line_ops level id
+tree_ops (suc n) id levels =
+    if nat_le (length levels) (2 ^ n)
+    then tree_ops n id levels
+    else tree_ops n id (take (2 ^ n) levels) ++ (tree_ops n (id + 4 * 2 ^ n) (drop (2 ^ n) levels) ++ Add ∷ [])
+
+-- ---- the running sum: after each block of adders, the weighted sum of all bits that wait, negated
+
+-- the adders in blocks of up to 2^n
+unfoldable pub blocks_within : ℕ → ℕ → List ℕ → List (List ℕ)
+blocks_within n zero levels = []
+blocks_within n (suc more) [] = []
+blocks_within n (suc more) (level ∷ levels) = take (2 ^ n) (level ∷ levels) ∷ blocks_within n more (drop (2 ^ n) (level ∷ levels))
+
+-- each has a line of up to 12 megabytes
+abbrev pub blocks : List ℕ → List (List ℕ)
+blocks levels = blocks_within 16 (length levels) levels
+
+abbrev pub sum_ops : ℕ → List ℕ → ℕ → List PolOp
+sum_ops id block running = tree_ops 16 id block ++ Push running ∷ Add ∷ []
+
+-- A line for each further block. The sum before it is deleted.
+abbrev pub later_sums : ℕ → ℕ → ℕ → List (List ℕ) → List Step
 later_sums id running next [] = []
-later_sums id running next (level ∷ levels) = Pol (sum_ops level id (id + 2) running) ∷ (deletion_steps 1 running 1 ++ later_sums (id + 4) next (next + 1) levels)
+later_sums id running next (block ∷ blocks) = Pol (sum_ops id block running) ∷ (deletion_steps 1 running 1 ++ later_sums (id + 4 * length block) next (next + 1) blocks)
 
--- the first adder's starts with the constraint itself, which stays
-abbrev pub sum_steps : ℕ → ℕ → ℕ → List ℕ → List Step
+-- the first block's starts with the constraint itself, which stays
+abbrev pub sum_steps : ℕ → ℕ → ℕ → List (List ℕ) → List Step
 sum_steps id running next [] = []
-sum_steps id running next (level ∷ levels) = Pol (sum_ops level id (id + 2) running) ∷ later_sums (id + 4) next (next + 1) levels
+sum_steps id running next (block ∷ blocks) = Pol (sum_ops id block running) ∷ later_sums (id + 4 * length block) next (next + 1) blocks
 
--- the id of the sum after the last adder
-abbrev pub last_sum : ℕ → ℕ → List ℕ → ℕ
+-- the id of the sum after the last block
+abbrev pub last_sum : ℕ → ℕ → List (List ℕ) → ℕ
 last_sum running next [] = running
-last_sum running next (level ∷ levels) = last_sum next (next + 1) levels
+last_sum running next (block ∷ blocks) = last_sum next (next + 1) blocks
 
 -- which is deleted, where there is an adder
 abbrev pub last_deletion : ℕ → List ℕ → List Step
@@ -75,8 +99,9 @@ adder_claims ts bound first base last = gate_claims first base (network_gates ts
 abbrev pub proving_steps : List Weighted → ℕ → ℕ → ℕ → ℕ → ℕ → List Step
 proving_steps ts bound first id base next =
     let levels = levels_of ts in
-    let last = last_sum id next levels in
-    sum_steps base id next levels ++ (claim_steps (next + length levels) (adder_claims ts bound first base last) ++ last_deletion last levels)
+    let parts = blocks levels in
+    let last = last_sum id next parts in
+    sum_steps base id next parts ++ (claim_steps (next + length parts) (adder_claims ts bound first base last) ++ last_deletion last levels)
 
 -- and then the meanings are deleted
 abbrev pub adder_steps : List Weighted → ℕ → ℕ → ℕ → ℕ → List Step

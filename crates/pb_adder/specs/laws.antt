@@ -21,4 +21,5 @@ pub mod RowRups
 pub mod RunningSteps
 pub mod RunningSums
 pub mod StepCounts
+pub mod TreeOps
 pub mod Wired

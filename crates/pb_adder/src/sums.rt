@@ -1,54 +1,121 @@
-//! The running sum, which is led along the adders.
-ghost use Rattle.std.specs.Prelude.{◌≡◌, ◌<◌, ◌+◌, ◌*◌, ◌^◌, ◌∷◌, ◌++◌, [], All, length, IfOk};
+//! What adders say, added up block by block: the running sum.
+ghost use Rattle.std.specs.Prelude.{◌≡◌, ◌≤◌, ◌<◌, ◌+◌, ◌*◌, ◌^◌, ◌∷◌, ◌++◌, [], All, length, IfOk, pos};
 ghost use Rattle.pb_derive.specs.Deletions.{deletion_steps};
 ghost use Rattle.pb_steps.specs.declared.step.Step.TheVariants.{Pol};
 ghost use Rattle.pb_family.specs.StepSinks.{HandsSteps};
-ghost use Rattle.pb_adder.specs.AdderSteps.{last_deletion, last_sum, later_sums, sum_ops, sum_steps};
+ghost use Rattle.pb_adder.specs.AdderSteps.{blocks, last_deletion, last_sum, later_sums, line_ops, sum_ops, sum_steps, tree_ops};
 
 use pb_family::{SinkFault, StepSink, take_deletion};
 use pb_steps::{PolOp, PolOps, Step};
 use std::alloc::{AllocError, Global};
 
-/// The step of an adder at a level, whose constraints have four ids, from `id` on.
-fn sum_step(alloc: Global, level: u32, id: u64, running: u64) -> Result<Step, AllocError>
+/// A block has up to 2 to the power of this many adders, so that its line is short enough to be held in memory, and its
+/// trees are not high.
+const HEIGHT: u32 = 16;
+
+const BLOCK: usize = 1 << HEIGHT;
+
+/// How often an adder at a level counts.
+fn times_at(level: u32) -> i128
+    requires low { level < 126 }
+    ensures { result ≡ pos (2 ^ level) }
+{
+    1 << level
+}
+
+/// Adds what an adder at a level says, whose constraints have four ids, from `id` on.
+fn push_line(ops: &mut Vec<PolOp>, level: u32, id: u64) -> Result<(), AllocError>
     requires low { level < 126 }
     requires fits { id < 2 ^ 62 }
-    ensures { IfOk result (λ step. step ≡ Pol (sum_ops level id (id + 2) running)) }
+    ensures { IfOk result (λ _. ops.new.items ≡ ops.old.items ++ line_ops level id) }
 {
-    let times: i128 = 1 << level;
-    let ops = vec![in alloc;
-        PolOp::Push(id),
-        PolOp::Mul(2),
-        PolOp::Push(id + 2),
-        PolOp::Add,
-        PolOp::Div(3),
-        PolOp::Mul(times),
-        PolOp::Push(running),
-        PolOp::Add,
-    ]?;
+    ops.push(PolOp::Push(id))?;
+    ops.push(PolOp::Mul(2))?;
+    ops.push(PolOp::Push(id + 2))?;
+    ops.push(PolOp::Add)?;
+    ops.push(PolOp::Div(3))?;
+    ops.push(PolOp::Mul(times_at(level)))?;
+    Ok(())
+}
+
+/// Adds the sum of what up to 2^height adders say, halves before the whole, so that few terms are added often.
+fn push_tree(ops: &mut Vec<PolOp>, height: u32, levels: &[u32], id: u64) -> Result<(), AllocError>
+    requires some { 1 ≤ length levels.now }
+    requires high { height ≤ 16 }
+    requires few { length levels.now ≤ 2 ^ height }
+    requires low { All (λ l. l < 126) levels.now }
+    requires fits { id + 4 * length levels.now < 2 ^ 62 }
+    ensures { IfOk result (λ _. ops.new.items ≡ ops.old.items ++ tree_ops height id levels.now) }
+{
+    if height == 0 {
+        return push_line(ops, levels[0], id);
+    }
+    let half: usize = 1 << (height - 1);
+    if levels.len() <= half {
+        return push_tree(ops, height - 1, levels, id);
+    }
+    let (lefts, rights) = levels.split_at(half);
+    push_tree(ops, height - 1, lefts, id)?;
+    push_tree(ops, height - 1, rights, id + 4 * half as u64)?;
+    ops.push(PolOp::Add)?;
+    Ok(())
+}
+
+/// The step of a block of adders at levels, whose constraints have four ids each, from `id` on.
+fn sum_step(alloc: Global, levels: &[u32], id: u64, running: u64) -> Result<Step, AllocError>
+    requires some { 1 ≤ length levels.now }
+    requires few { length levels.now ≤ 2 ^ 16 }
+    requires low { All (λ l. l < 126) levels.now }
+    requires fits { id + 4 * length levels.now < 2 ^ 62 }
+    ensures { IfOk result (λ step. step ≡ Pol (sum_ops id levels.now running)) }
+{
+    let mut ops = Vec::new(alloc);
+    push_tree(&mut ops, HEIGHT, levels, id)?;
+    ops.push(PolOp::Push(running))?;
+    ops.push(PolOp::Add)?;
     Ok(Step::Pol(PolOps::from_vec(ops)))
 }
 
-/// Hands over the sum of an adder, and that the one before it goes.
-fn take_later_sum<T: StepSink>(
+/// Hands over the sum of a block.
+fn take_sum<T: StepSink>(
     alloc: Global,
-    level: u32,
+    levels: &[u32],
     id: u64,
     running: u64,
     sink: &mut T,
 ) -> Result<(), SinkFault>
-    requires low { level < 126 }
-    requires fits { id < 2 ^ 62 }
-    requires given { running < 2 ^ 62 }
-    requires few { (T.state sink.old).next + 1 < 2 ^ 62 }
-    ensures { HandsSteps (Pol (sum_ops level id (id + 2) running) ∷ deletion_steps 1 running 1) result (T.state sink.old) (T.state sink.new) }
+    requires some { 1 ≤ length levels.now }
+    requires few { length levels.now ≤ 2 ^ 16 }
+    requires low { All (λ l. l < 126) levels.now }
+    requires fits { id + 4 * length levels.now < 2 ^ 62 }
+    requires room { (T.state sink.old).next + 1 < 2 ^ 62 }
+    ensures { HandsSteps (Pol (sum_ops id levels.now running) ∷ []) result (T.state sink.old) (T.state sink.new) }
 {
-    let step = sum_step(alloc, level, id, running)?;
-    sink.step(&step)?;
+    let step = sum_step(alloc, levels, id, running)?;
+    sink.step(&step)
+}
+
+/// Hands over the sum of a block, and that the one before it goes.
+fn take_later_sum<T: StepSink>(
+    alloc: Global,
+    levels: &[u32],
+    id: u64,
+    running: u64,
+    sink: &mut T,
+) -> Result<(), SinkFault>
+    requires some { 1 ≤ length levels.now }
+    requires few { length levels.now ≤ 2 ^ 16 }
+    requires low { All (λ l. l < 126) levels.now }
+    requires fits { id + 4 * length levels.now < 2 ^ 62 }
+    requires given { running < 2 ^ 62 }
+    requires room { (T.state sink.old).next + 1 < 2 ^ 62 }
+    ensures { HandsSteps (Pol (sum_ops id levels.now running) ∷ deletion_steps 1 running 1) result (T.state sink.old) (T.state sink.new) }
+{
+    take_sum(alloc, levels, id, running, sink)?;
     take_deletion(alloc, running, 1, sink)
 }
 
-/// Hands over the sums of later adders, each with that the one before it goes, and gives the id of the last one.
+/// Hands over the sums of later blocks, each with that the one before it goes, and gives the id of the last one.
 fn take_later_sums<T: StepSink>(
     alloc: Global,
     levels: &[u32],
@@ -59,23 +126,26 @@ fn take_later_sums<T: StepSink>(
     requires low { All (λ l. l < 126) levels.now }
     requires fits { id + 4 * length levels.now < 2 ^ 62 }
     requires given { running < 2 ^ 62 }
-    requires few { (T.state sink.old).next + length levels.now < 2 ^ 62 }
-    ensures steps { HandsSteps (later_sums id running (T.state sink.old).next levels.now) result (T.state sink.old) (T.state sink.new) }
-    ensures last { IfOk result (λ last. last ≡ last_sum running (T.state sink.old).next levels.now) }
+    requires room { (T.state sink.old).next + length levels.now < 2 ^ 62 }
+    ensures steps { HandsSteps (later_sums id running (T.state sink.old).next (blocks levels.now)) result (T.state sink.old) (T.state sink.new) }
+    ensures last { IfOk result (λ last. last ≡ last_sum running (T.state sink.old).next (blocks levels.now)) }
 {
     let mut id = id;
     let mut running = running;
-    for level in levels {
+    let mut rest = levels;
+    while rest.len() > 0 {
+        let (block, later) = rest.split_at(BLOCK.min(rest.len()));
         let next = sink.next_id();
-        take_later_sum(alloc, *level, id, running, sink)?;
+        take_later_sum(alloc, block, id, running, sink)?;
         running = next;
-        id += 4;
+        id += 4 * block.len() as u64;
+        rest = later;
     }
     Ok(running)
 }
 
-/// Hands over the sums of adders at levels, from the constraint with the id `running` on, and gives the id of the last one. The
-/// constraints of each adder have four ids, from `id` on.
+/// Hands over the sums of adders at levels, block by block, from the constraint with the id `running` on, and gives the id
+/// of the last one. The constraints of each adder have four ids, from `id` on.
 pub fn take_sums<T: StepSink>(
     alloc: Global,
     levels: &[u32],
@@ -85,19 +155,17 @@ pub fn take_sums<T: StepSink>(
 ) -> Result<u64, SinkFault>
     requires low { All (λ l. l < 126) levels.now }
     requires fits { id + 4 * length levels.now < 2 ^ 62 }
-    requires few { (T.state sink.old).next + length levels.now < 2 ^ 62 }
-    ensures steps { HandsSteps (sum_steps id running (T.state sink.old).next levels.now) result (T.state sink.old) (T.state sink.new) }
-    ensures last { IfOk result (λ last. last ≡ last_sum running (T.state sink.old).next levels.now) }
+    requires room { (T.state sink.old).next + length levels.now < 2 ^ 62 }
+    ensures steps { HandsSteps (sum_steps id running (T.state sink.old).next (blocks levels.now)) result (T.state sink.old) (T.state sink.new) }
+    ensures last { IfOk result (λ last. last ≡ last_sum running (T.state sink.old).next (blocks levels.now)) }
 {
-    match levels.split_first() {
-        Some((level, later)) => {
-            let next = sink.next_id();
-            let step = sum_step(alloc, *level, id, running)?;
-            sink.step(&step)?;
-            take_later_sums(alloc, later, id + 4, next, sink)
-        },
-        None => Ok(running),
+    if levels.len() == 0 {
+        return Ok(running);
     }
+    let (block, later) = levels.split_at(BLOCK.min(levels.len()));
+    let next = sink.next_id();
+    take_sum(alloc, block, id, running, sink)?;
+    take_later_sums(alloc, later, id + 4 * block.len() as u64, next, sink)
 }
 
 /// Hands over that the last sum goes, where there is an adder.

@@ -40,7 +40,7 @@ use Rattle.pb_adder.specs.Gates.{gate_clauses}
 use Rattle.pb_adder.specs.Network.{level_count, network_gates, network_ends}
 use Rattle.pb_adder.specs.laws.NetworkLaws.{number}
 use Rattle.pb_adder.specs.laws.Wired.{Known, Wired, network_wired, network_rows}
-use Rattle.pb_adder.specs.AdderSteps.{last_sum, gate_ids, gate_claims, row_claims, levels_of, defining_steps, adder_claims, proving_steps, adder_steps}
+use Rattle.pb_adder.specs.AdderSteps.{blocks, last_sum, gate_ids, gate_claims, row_claims, levels_of, defining_steps, adder_claims, proving_steps, adder_steps}
 use Rattle.pb_derive.specs.Rups.{by_rup}
 use Rattle.pb_derive.specs.Derivations.{as_constraint, IsReadyFor, Derives}
 use Rattle.pb_derive.specs.Ones.{unit_of, ones}
@@ -52,9 +52,10 @@ use Rattle.pb_adder.specs.laws.ApartGates.{Low, network_apart}
 use Rattle.pb_adder.specs.laws.Chains.{on, network_chain}
 use Rattle.pb_adder.specs.laws.GateClaims.{AreThere, AreNamed, gates_claimed, rows_claimed}
 use Rattle.pb_adder.specs.laws.Leveling.{network_each, network_meanings, network_low, few_levels, count_power}
-use Rattle.pb_adder.specs.laws.LinesRun.{part-le, IsAcc, IsLaid, IsSetting, MakesFresh, meanings_of, sums_swept}
+use Rattle.pb_adder.specs.laws.LinesRun.{IsAcc, IsSetting, sums_swept}
 use Rattle.pb_adder.specs.laws.RowLengths.{comparator_short, ends_length}
 use Rattle.pb_adder.specs.laws.RowRups.{IsTrueWire, rows_refuted}
+use Rattle.pb_adder.specs.laws.TreeOps.{part-le, IsLaid, MakesFresh, meanings_of}
 
 -- ---- an assignment that makes all literals true
 
@@ -281,10 +282,10 @@ module _ (m : BoundedSum) (first id : ℕ) (db : Database) (suits : IsForAdder m
   -- ---- all together
 
   abbrev last_at : ℕ → ℕ
-  last_at next = last_sum id next (levels_of ts)
+  last_at next = last_sum id next (blocks (levels_of ts))
 
   abbrev ids : ℕ → ℕ
-  ids next = length xs + length (adder_claims ts m.bound first db.next (last_at next))
+  ids next = length (blocks (levels_of ts)) + length (adder_claims ts m.bound first db.next (last_at next))
 
   body : RanSwept P mid (proving_steps ts m.bound first id db.next mid.next) (adder_clauses ts m.bound first) (ids mid.next)
   body =

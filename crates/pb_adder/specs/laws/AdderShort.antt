@@ -1,24 +1,30 @@
 -- The lines of the derivation of an adder network are within their limits, and short.
-use Rattle.std.proofs.Common.{◌≡◌, ◌≤◌, ◌<◌, ◌+◌, ◌*◌, ◌^◌, ℕ, List, [], ◌∷◌, ◌++◌, length, refl, arith, get_or, pos, inl, inr, length-append}
-use Rattle.std.specs.Prelude.{All, map, flat_map, ◌≤ℤ◌}
+use Rattle.std.proofs.Common.{◌≡◌, ◌≤◌, ◌<◌, ◌+◌, ◌-◌, ◌*◌, ◌^◌, ℕ, zero, suc, List, [], ◌∷◌, ◌++◌, length, take, drop, refl, ap, sym, subst, arith, get_or, leb, pos, inl, inr, length-append}
+use Rattle.std.specs.Prelude.{All, map, flat_map, sum_by, ◌≤ℤ◌}
+use Rattle.std.specs.List.{AllByRecursion}
+use Rattle.std.proofs.lemmas.Bool.{cond_both, leb-false}
 use Rattle.std.proofs.lemmas.Int.{ints}
-use Rattle.std.proofs.lemmas.List.{length-map}
+use Rattle.std.proofs.lemmas.List.{length-map, length-take, length-take-le, length-drop, take-append-drop}
+use Rattle.std.proofs.lemmas.List.Sums.{sum_by-cons, sum_by-append}
 use Rattle.std.proofs.lemmas.List.Elements.{All-nil, All-cons, All-head, All-tail, All-append, All-map, All-weaker, All-contains}
 use Rattle.pb_base.specs.declared.literal.Lit.{Lit}
 use Rattle.pb_base.specs.Literals.{negated}
 use Rattle.pb_base.proofs.Members.{All-append_both}
 use Rattle.pb_norm.specs.BoundedSums.{BoundedSum}
 use Rattle.pb_norm.specs.Constraints.{Weighted}
+use Rattle.pb_steps.specs.declared.op.PolOp.{PolOp}
+use Rattle.pb_steps.specs.declared.op.PolOp.TheVariants.{Push, Add}
 use Rattle.pb_steps.specs.declared.step.Step.{Step}
 use Rattle.pb_steps.specs.declared.step.Step.TheVariants.{Pol, Del}
-use Rattle.pb_steps.specs.Sayable.{IsId, IsVariable, IsFactor, IsSayable}
-use Rattle.pb_steps.specs.StepSizes.{step_size}
+use Rattle.pb_steps.specs.Sayable.{IsId, IsVariable, IsFactor, IsOp, IsSayable}
+use Rattle.pb_steps.specs.StepSizes.{op_size, step_size}
 use Rattle.pb_derive.specs.Claims.{Claim, claim_steps}
 use Rattle.pb_derive.specs.Deletions.{deletion_steps}
 use Rattle.pb_derive.specs.Meanings.{Meaning, meaning_steps}
 use Rattle.pb_derive.specs.Ones.{unit_of, ones}
 use Rattle.pb_derive.specs.Rups.{by_rup}
 use Rattle.pb_derive.specs.Short.{AreShort}
+use Rattle.pb_derive.proofs.Phases.{length-meanings, length-claims, length-deletions}
 use Rattle.pb_derive.proofs.Sayable.{IsSlimTerm, IsSlimMeaning, meanings_sayable, claims_sayable, deletions_sayable, rup_sayable}
 use Rattle.pb_derive.proofs.Short.{lines_sized, line_sized}
 use Rattle.pb_derive.proofs.Sizes.{rup-size, meanings_each, claims_each, deletions_each, each_all}
@@ -29,7 +35,7 @@ use Rattle.pb_adder.specs.declared.gate.Gate.TheVariants.{Full, Half}
 use Rattle.pb_adder.specs.declared.gate.Wire.{Wire}
 use Rattle.pb_adder.specs.declared.gate.Wire.TheVariants.{Input, Made}
 use Rattle.pb_adder.specs.Adder.{adder_clauses}
-use Rattle.pb_adder.specs.AdderSteps.{sum_ops, later_sums, sum_steps, last_sum, last_deletion, gate_ids, gate_claims, row_claims, levels_of, adder_claims, proving_steps, adder_steps}
+use Rattle.pb_adder.specs.AdderSteps.{line_ops, tree_ops, blocks_within, blocks, sum_ops, later_sums, sum_steps, last_sum, last_deletion, gate_ids, gate_claims, row_claims, levels_of, adder_claims, proving_steps, adder_steps}
 use Rattle.pb_adder.specs.Comparator.{comparator}
 use Rattle.pb_adder.specs.Counts.{adder_fresh, adder_size}
 use Rattle.pb_adder.specs.GateMeanings.{carry_meaning, sum_meaning, input_lits, sum_var, carry_var, gate_meanings}
@@ -44,7 +50,7 @@ use Rattle.pb_adder.specs.laws.GateClaims.{gate_few}
 use Rattle.pb_adder.specs.laws.Leveling.{few_levels, network_low}
 use Rattle.pb_adder.specs.laws.LineOps.{power_positive}
 use Rattle.pb_adder.specs.laws.RowLengths.{comparator_short, comparator_few, ends_length}
-use Rattle.pb_adder.specs.laws.StepCounts.{levels-length, adder_steps_count}
+use Rattle.pb_adder.specs.laws.StepCounts.{claims-length, few_blocks, last_count, levels-length}
 use Rattle.pb_adder.specs.laws.Wired.{Known, Wired, network_wired}
 
 -- a line can say the step, in few bytes
@@ -124,14 +130,6 @@ gate_small first (Half x y made) h =
 abbrev IsLow : ℕ → Type 0
 IsLow level = 2 ^ level ≤ 2 ^ 100
 
-one_fine : (level carry sum running : ℕ) → IsLow level → IsId carry → IsId sum → IsId running → IsFine (Pol (sum_ops level carry sum running))
-one_fine level carry sum running low c s r =
-    let two : IsFactor (pos 2) = ((let h : pos 1 ≤ℤ pos 2 = omega (arith, ints) in h), (let h : 2 < 2 ^ 126 = omega arith in h)) in
-    let three : IsFactor (pos 3) = ((let h : pos 1 ≤ℤ pos 3 = omega (arith, ints) in h), (let h : 3 < 2 ^ 126 = omega arith in h)) in
-    let times : IsFactor (pos (2 ^ level)) = ((let h : pos 1 ≤ℤ pos (2 ^ level) = omega (arith, ints, power_positive level) in h), (let h : 2 ^ level < 2 ^ 126 = omega (arith, low) in h)) in
-    let size : step_size (Pol (sum_ops level carry sum running)) ≡ 191 = refl in
-    ((c, (two, (s, (tt, (three, (times, (r, (tt, tt)))))))), omega (arith, size))
-
 no_ids : (id : ℕ) → id ∷ [] ≡ [] → ⊥
 no_ids id e = cc
 
@@ -148,32 +146,175 @@ id_at id n k h le = let from = h.0 in let below = h.1 in ((let a : 1 ≤ id + k 
 fits_from : (id n k m : ℕ) → Fits id n → k + m ≤ n → Fits (id + k) m
 fits_from id n k m h le = let from = h.0 in let below = h.1 in ((let a : 1 ≤ id + k = omega (arith, from) in a), (let b : id + k + m < 2 ^ 63 = omega (arith, below, le) in b))
 
+front_fits : (id k n : ℕ) → Fits id n → k ≤ n → Fits id k
+front_fits id k n h le = let from = h.0 in let below = h.1 in (from, (let b : id + k < 2 ^ 63 = omega (arith, below, le) in b))
+
 own_id : (id n : ℕ) → Fits id n → IsId id
 own_id id n h = let from = h.0 in let below = h.1 in (from, (let b : id < 2 ^ 63 = omega (arith, below) in b))
 
-later_fine : (id running next : ℕ) (levels : List ℕ) → All IsLow levels → Fits id (4 * length levels) → IsId running → Fits next (length levels) → All IsFine (later_sums id running next levels)
-later_fine id running next [] low ids r nexts = All-nil IsFine
-later_fine id running next (level ∷ levels) low ids r nexts =
-    let rest = later_sums (id + 4) next (next + 1) levels in
-    let n : ℕ = length levels in
-    All-cons IsFine (Pol (sum_ops level id (id + 2) running)) (Del (running ∷ []) ∷ rest)
-    (one_fine level id (id + 2) running (All-head IsLow level levels low) (own_id id (4 * length (level ∷ levels)) ids) (id_at id (4 * length (level ∷ levels)) 2 ids (omega arith)) r)
-    (All-cons IsFine (Del (running ∷ [])) rest (gone_fine running r)
-    (later_fine (id + 4) next (next + 1) levels (All-tail IsLow level levels low) (fits_from id (4 * length (level ∷ levels)) 4 (4 * n) ids (omega arith)) (own_id next (length (level ∷ levels)) nexts)
-    (fits_from next (length (level ∷ levels)) 1 n nexts (omega arith))))
+ops_append : (us vs : List PolOp) → AllByRecursion IsOp us → AllByRecursion IsOp vs → AllByRecursion IsOp (us ++ vs)
+ops_append [] vs h k = k
+ops_append (u ∷ us) vs h k = (h.0, ops_append us vs h.1 k)
 
-sums_fine : (id running next : ℕ) (levels : List ℕ) → All IsLow levels → Fits id (4 * length levels) → IsId running → Fits next (length levels) → All IsFine (sum_steps id running next levels)
-sums_fine id running next [] low ids r nexts = All-nil IsFine
-sums_fine id running next (level ∷ levels) low ids r nexts =
-    let n : ℕ = length levels in
-    All-cons IsFine (Pol (sum_ops level id (id + 2) running)) (later_sums (id + 4) next (next + 1) levels)
-    (one_fine level id (id + 2) running (All-head IsLow level levels low) (own_id id (4 * length (level ∷ levels)) ids) (id_at id (4 * length (level ∷ levels)) 2 ids (omega arith)) r)
-    (later_fine (id + 4) next (next + 1) levels (All-tail IsLow level levels low) (fits_from id (4 * length (level ∷ levels)) 4 (4 * n) ids (omega arith)) (own_id next (length (level ∷ levels)) nexts)
-    (fits_from next (length (level ∷ levels)) 1 n nexts (omega arith)))
+line_said : (level id : ℕ) → IsLow level → IsId id → IsId (id + 2) → AllByRecursion IsOp (line_ops level id)
+line_said level id low c s =
+    let two : IsFactor (pos 2) = ((let h : pos 1 ≤ℤ pos 2 = omega (arith, ints) in h), (let h : 2 < 2 ^ 126 = omega arith in h)) in
+    let three : IsFactor (pos 3) = ((let h : pos 1 ≤ℤ pos 3 = omega (arith, ints) in h), (let h : 3 < 2 ^ 126 = omega arith in h)) in
+    let times : IsFactor (pos (2 ^ level)) = ((let h : pos 1 ≤ℤ pos (2 ^ level) = omega (arith, ints, power_positive level) in h), (let h : 2 ^ level < 2 ^ 126 = omega (arith, low) in h)) in
+    (c, (two, (s, (tt, (three, (times, tt))))))
 
-last_id : (running next : ℕ) (levels : List ℕ) → IsId running → Fits next (length levels) → IsId (last_sum running next levels)
+-- a tree's parts
+tree_said : (n id : ℕ) (levels : List ℕ) → All IsLow levels → Fits id (4 * length levels) → AllByRecursion IsOp (tree_ops n id levels)
+unfolding tree_ops
+tree_said zero id [] low ids = tt
+tree_said zero id (level ∷ levels) low ids = line_said level id (All-head IsLow level levels low) (own_id id (4 * length (level ∷ levels)) ids) (id_at id (4 * length (level ∷ levels)) 2 ids (omega arith))
+tree_said (suc n) id levels low ids =
+    let k = 2 ^ n in
+    let both = All-append_both IsLow (take k levels) (drop k levels) (subst (All IsLow) (sym (take-append-drop k levels)) low) in
+    cond_both (leb (length levels) k) (tree_ops n id levels) (tree_ops n id (take k levels) ++ (tree_ops n (id + 4 * k) (drop k levels) ++ Add ∷ [])) (AllByRecursion IsOp)
+    (λ e. tree_said n id levels low ids)
+    (λ e.
+    let more : k < length levels = leb-false (length levels) k e in
+    let one : length (take k levels) ≡ k = length-take-le k levels (omega (arith, more)) in
+    let other : length (drop k levels) ≡ length levels - k = length-drop k levels in
+    let from = ids.0 in
+    let below = ids.1 in
+    ops_append (tree_ops n id (take k levels)) (tree_ops n (id + 4 * k) (drop k levels) ++ Add ∷ [])
+    (tree_said n id (take k levels) both.0 (from, (let b : id + 4 * length (take k levels) < 2 ^ 63 = omega (arith, below, one, more) in b)))
+    (ops_append (tree_ops n (id + 4 * k) (drop k levels)) (Add ∷ [])
+    (tree_said n (id + 4 * k) (drop k levels) both.1 ((let f : 1 ≤ id + 4 * k = omega (arith, from) in f), (let b : id + 4 * k + 4 * length (drop k levels) < 2 ^ 63 = omega (arith, below, other, more) in b)))
+    (tt, tt)))
+
+tree_some : (n id : ℕ) (levels : List ℕ) → 1 ≤ length levels → sum_by op_size (tree_ops n id levels) + 2 ≤ 167 * length levels
+unfolding tree_ops
+tree_some zero id [] some = absurd (omega (arith, some))
+tree_some zero id (level ∷ levels) some = let size : sum_by op_size (line_ops level id) ≡ 165 = refl in omega (arith, size)
+tree_some (suc n) id levels some =
+    let k = 2 ^ n in
+    cond_both (leb (length levels) k) (tree_ops n id levels) (tree_ops n id (take k levels) ++ (tree_ops n (id + 4 * k) (drop k levels) ++ Add ∷ [])) (λ ops. sum_by op_size ops + 2 ≤ 167 * length levels)
+    (λ e. tree_some n id levels some)
+    (λ e.
+    let last : sum_by op_size (Add ∷ []) ≡ 2 = refl in
+    let more : k < length levels = leb-false (length levels) k e in
+    let one : length (take k levels) ≡ k = length-take-le k levels (omega (arith, more)) in
+    let other : length (drop k levels) ≡ length levels - k = length-drop k levels in
+    let left = tree_some n id (take k levels) (omega (arith, one, power_positive n)) in
+    let right = tree_some n (id + 4 * k) (drop k levels) (omega (arith, other, more)) in
+    omega (
+      arith,
+      sum_by-append op_size (tree_ops n id (take k levels)) (tree_ops n (id + 4 * k) (drop k levels) ++ Add ∷ []),
+      sum_by-append op_size (tree_ops n (id + 4 * k) (drop k levels)) (Add ∷ []),
+      last,
+      left,
+      right,
+      more,
+      one,
+      other,
+    ))
+
+tree_none : (n id : ℕ) → tree_ops n id [] ≡ []
+unfolding tree_ops
+tree_none zero id = refl
+tree_none (suc n) id =
+    let k = 2 ^ n in
+    cond_both (leb 0 k) (tree_ops n id []) (tree_ops n id (take k []) ++ (tree_ops n (id + 4 * k) (drop k []) ++ Add ∷ [])) (λ ops. ops ≡ [])
+    (λ e. tree_none n id) (λ e. let none : k < 0 = leb-false 0 k e in absurd (omega (arith, none)))
+
+tree_size : (n id : ℕ) (levels : List ℕ) → sum_by op_size (tree_ops n id levels) ≤ 167 * length levels
+tree_size n id [] = omega (arith, ap (sum_by op_size) (tree_none n id))
+tree_size n id (level ∷ levels) = omega (arith, tree_some n id (level ∷ levels) (omega arith))
+
+-- a block's line
+block_size : (id running : ℕ) (block : List ℕ) → step_size (Pol (sum_ops id block running)) ≤ 26 + 167 * length block
+block_size id running block =
+    let last : sum_by op_size (Push running ∷ Add ∷ []) ≡ 22 = refl in
+    omega (arith, sum_by-append op_size (tree_ops 16 id block) (Push running ∷ Add ∷ []), last, tree_size 16 id block)
+
+abbrev IsBlock : List ℕ → Type 0
+IsBlock block = All IsLow block × (length block ≤ 2 ^ 16)
+
+within_blocks : (n more : ℕ) (levels : List ℕ) → 2 ^ n ≤ 2 ^ 16 → All IsLow levels → All IsBlock (blocks_within n more levels)
+unfolding blocks_within
+within_blocks n zero levels few low = All-nil IsBlock
+within_blocks n (suc more) [] few low = All-nil IsBlock
+within_blocks n (suc more) (level ∷ levels) few low =
+    let k = 2 ^ n in
+    let all = level ∷ levels in
+    let both = All-append_both IsLow (take k all) (drop k all) (subst (All IsLow) (sym (take-append-drop k all)) low) in
+    All-cons IsBlock (take k all) (blocks_within n more (drop k all)) (both.0, (let h : length (take k all) ≤ 2 ^ 16 = omega (arith, length-take k all, few) in h)) (within_blocks n more (drop k all) few both.1)
+
+within_size : (n more : ℕ) (levels : List ℕ) → sum_by length (blocks_within n more levels) ≤ length levels
+unfolding blocks_within
+within_size n zero levels = omega arith
+within_size n (suc more) [] = omega arith
+within_size n (suc more) (level ∷ levels) =
+    let k = 2 ^ n in
+    let all = level ∷ levels in
+    omega (arith, sum_by-cons {X = List ℕ} length (take k all) (blocks_within n more (drop k all)), within_size n more (drop k all), length-append (take k all) (drop k all), ap length (take-append-drop k all))
+
+-- a line can say the step, in no more bytes than a line may have
+abbrev IsLong : Step → Type 0
+IsLong s = IsSayable s × (step_size s ≤ 2 ^ 28)
+
+fine_long : (s : Step) → IsFine s → IsLong s
+fine_long s h = let small = h.1 in (h.0, omega (arith, small))
+
+one_long : (id running : ℕ) (block : List ℕ) → IsBlock block → Fits id (4 * length block) → IsId running → IsLong (Pol (sum_ops id block running))
+one_long id running block is ids r =
+    let few = is.1 in
+    (ops_append (tree_ops 16 id block) (Push running ∷ Add ∷ []) (tree_said 16 id block is.0 ids) (r, (tt, tt)), omega (arith, block_size id running block, few))
+
+later_long : (id running next : ℕ) (parts : List (List ℕ)) → All IsBlock parts → Fits id (4 * sum_by length parts) → IsId running → Fits next (length parts) → All IsLong (later_sums id running next parts)
+later_long id running next [] are ids r nexts = All-nil IsLong
+later_long id running next (block ∷ parts) are ids r nexts =
+    let rest = later_sums (id + 4 * length block) next (next + 1) parts in
+    let whole = sum_by-cons {X = List ℕ} length block parts in
+    All-cons IsLong (Pol (sum_ops id block running)) (Del (running ∷ []) ∷ rest)
+    (one_long id running block (All-head IsBlock block parts are) (front_fits id (4 * length block) (4 * sum_by length (block ∷ parts)) ids (omega (arith, whole))) r)
+    (All-cons IsLong (Del (running ∷ [])) rest (fine_long (Del (running ∷ [])) (gone_fine running r))
+    (later_long (id + 4 * length block) next (next + 1) parts (All-tail IsBlock block parts are) (fits_from id (4 * sum_by length (block ∷ parts)) (4 * length block) (4 * sum_by length parts) ids (omega (arith, whole)))
+    (own_id next (length (block ∷ parts)) nexts) (fits_from next (length (block ∷ parts)) 1 (length parts) nexts (omega arith))))
+
+sums_long : (id running next : ℕ) (parts : List (List ℕ)) → All IsBlock parts → Fits id (4 * sum_by length parts) → IsId running → Fits next (length parts) → All IsLong (sum_steps id running next parts)
+sums_long id running next [] are ids r nexts = All-nil IsLong
+sums_long id running next (block ∷ parts) are ids r nexts =
+    let whole = sum_by-cons {X = List ℕ} length block parts in
+    All-cons IsLong (Pol (sum_ops id block running)) (later_sums (id + 4 * length block) next (next + 1) parts)
+    (one_long id running block (All-head IsBlock block parts are) (front_fits id (4 * length block) (4 * sum_by length (block ∷ parts)) ids (omega (arith, whole))) r)
+    (later_long (id + 4 * length block) next (next + 1) parts (All-tail IsBlock block parts are) (fits_from id (4 * sum_by length (block ∷ parts)) (4 * length block) (4 * sum_by length parts) ids (omega (arith, whole)))
+    (own_id next (length (block ∷ parts)) nexts) (fits_from next (length (block ∷ parts)) 1 (length parts) nexts (omega arith)))
+
+-- all of them together
+later_size : (id running next : ℕ) (parts : List (List ℕ)) → sum_by step_size (later_sums id running next parts) ≤ 50 * length parts + 167 * sum_by length parts
+later_size id running next [] = omega arith
+later_size id running next (block ∷ parts) =
+    let rest = later_sums (id + 4 * length block) next (next + 1) parts in
+    let gone : step_size (Del (running ∷ [])) ≡ 24 = refl in
+    omega (
+      arith,
+      sum_by-cons step_size (Pol (sum_ops id block running)) (Del (running ∷ []) ∷ rest),
+      sum_by-cons step_size (Del (running ∷ [])) rest,
+      gone,
+      block_size id running block,
+      later_size (id + 4 * length block) next (next + 1) parts,
+      sum_by-cons {X = List ℕ} length block parts,
+    )
+
+sums_size : (id running next : ℕ) (parts : List (List ℕ)) → sum_by step_size (sum_steps id running next parts) ≤ 50 * length parts + 167 * sum_by length parts
+sums_size id running next [] = omega arith
+sums_size id running next (block ∷ parts) =
+    let rest = later_sums (id + 4 * length block) next (next + 1) parts in
+    omega (
+      arith,
+      sum_by-cons step_size (Pol (sum_ops id block running)) rest,
+      block_size id running block,
+      later_size (id + 4 * length block) next (next + 1) parts,
+      sum_by-cons {X = List ℕ} length block parts,
+    )
+
+last_id : (running next : ℕ) (parts : List (List ℕ)) → IsId running → Fits next (length parts) → IsId (last_sum running next parts)
 last_id running next [] r nexts = r
-last_id running next (level ∷ levels) r nexts = last_id next (next + 1) levels (own_id next (length (level ∷ levels)) nexts) (fits_from next (length (level ∷ levels)) 1 (length levels) nexts (omega arith))
+last_id running next (block ∷ parts) r nexts = last_id next (next + 1) parts (own_id next (length (block ∷ parts)) nexts) (fits_from next (length (block ∷ parts)) 1 (length parts) nexts (omega arith))
 
 last_gone : (last : ℕ) (levels : List ℕ) → IsId last → All IsFine (last_deletion last levels)
 last_gone last [] h = All-nil IsFine
@@ -243,8 +384,11 @@ module _ (m : BoundedSum) (suits : IsForAdder m) (first id next : ℕ) (original
   abbrev sums_from : ℕ
   sums_from = next + 4 * count
 
+  abbrev parts : List (List ℕ)
+  parts = blocks levels
+
   abbrev last : ℕ
-  last = last_sum id sums_from levels
+  last = last_sum id sums_from parts
 
   abbrev claims : List Claim
   claims = adder_claims ts m.bound first next last
@@ -273,11 +417,14 @@ module _ (m : BoundedSum) (suits : IsForAdder m) (first id next : ℕ) (original
   meaning_ids : Fits next (4 * count)
   meaning_ids = (from_one, (let below : next + 4 * count < 2 ^ 63 = omega (arith, within, room) in below))
 
-  sum_ids : Fits sums_from (length levels)
-  sum_ids = ((let from : 1 ≤ sums_from = omega (arith, from_one) in from), (let below : sums_from + length levels < 2 ^ 63 = omega (arith, within, room, size) in below))
+  few_parts : length parts ≤ count
+  few_parts = omega (arith, few_blocks levels, size)
+
+  sum_ids : Fits sums_from (length parts)
+  sum_ids = ((let from : 1 ≤ sums_from = omega (arith, from_one) in from), (let below : sums_from + length parts < 2 ^ 63 = omega (arith, within, room, few_parts) in below))
 
   last_is : IsId last
-  last_is = last_id id sums_from levels constraint_id sum_ids
+  last_is = last_id id sums_from parts constraint_id sum_ids
 
   variables : All (λ t. IsVariable t.lit.var) ts
   variables = All-weaker (λ (t : Weighted). (1 ≤ t.lit.var) × (t.lit.var < first)) (λ (t : Weighted). IsVariable t.lit.var) (λ t h. (h.0, (let b : t.lit.var < 2 ^ 31 = omega (arith, h.1, start.fits) in b))) ts original
@@ -326,41 +473,93 @@ module _ (m : BoundedSum) (suits : IsForAdder m) (first id next : ℕ) (original
         few_levels ts suits.small,
       )
 
-  fine : All IsFine steps
-  fine =
-      let meanings = meaning_steps next ms in
-      let out : ℕ = sums_from + length levels in
-      let outs = claim_steps out claims in
+  -- ---- the parts
+
+  abbrev meanings : List Step
+  meanings = meaning_steps next ms
+
+  abbrev sums : List Step
+  sums = sum_steps next id sums_from parts
+
+  abbrev outs : List Step
+  outs = claim_steps (sums_from + length parts) claims
+
+  abbrev rest : List Step
+  rest = last_deletion last levels
+
+  abbrev gone : List Step
+  gone = deletion_steps 2 next (2 * count)
+
+  meanings_fine : All IsFine meanings
+  meanings_fine =
       let slim : All IsSlimMeaning ms = All-weaker IsSmallMeaning IsSlimMeaning (λ m h. h.0) ms meanings_small in
       let sizes : All (λ m. 119 + 53 * length m.sum ≤ 8192) ms = All-weaker IsSmallMeaning (λ (m : Meaning). 119 + 53 * length m.sum ≤ 8192) (λ m h. let few = h.1 in omega (arith, few)) ms meanings_small in
+      both_fine meanings (meanings_sayable next ms from_one (omega (arith, meanings-length first gates, within, room)) slim) (meanings_each 8192 (omega arith) next ms sizes)
+
+  outs_fine : All IsFine outs
+  outs_fine =
+      let out : ℕ = sums_from + length parts in
       let said : All (λ (c : Claim). IsSayable c.step) claims = All-weaker IsFineClaim (λ (c : Claim). IsSayable c.step) (λ c h. h.0) claims claims_fine in
       let sized : All (λ (c : Claim). step_size c.step ≤ 8192) claims = All-weaker IsFineClaim (λ (c : Claim). step_size c.step ≤ 8192) (λ c h. h.1) claims claims_fine in
-      let first_part : All IsFine meanings =
-      both_fine meanings (meanings_sayable next ms from_one (omega (arith, meanings-length first gates, within, room)) slim) (meanings_each 8192 (omega arith) next ms sizes) in
-      let clauses_part : All IsFine outs = both_fine outs (claims_sayable out claims (omega (arith, from_one)) (omega (arith, within, room, size, claims_few)) said) (claims_each 8192 (omega arith) out claims sized) in
-      let gone = deletion_steps 2 next (2 * count) in
-      let gone_part : All IsFine gone = both_fine gone (deletions_sayable next (2 * count) from_one (omega (arith, within, room))) (deletions_each 8192 (omega arith) next (2 * count)) in
-      let sums = sum_steps next id sums_from levels in
-      let rest = last_deletion last levels in
-      All-append IsFine meanings (proving_steps ts m.bound first id next sums_from ++ gone) first_part
-      (All-append IsFine (proving_steps ts m.bound first id next sums_from) gone
-      (All-append IsFine sums (outs ++ rest) (sums_fine next id sums_from levels low (omega_fits meaning_ids) constraint_id sum_ids)
-      (All-append IsFine outs rest clauses_part (last_gone last levels last_is)))
-      gone_part)
-    where
-      omega_fits : Fits next (4 * count) → Fits next (4 * length levels)
-      omega_fits h = let from = h.0 in let below = h.1 in (from, (let b : next + 4 * length levels < 2 ^ 63 = omega (arith, below, size) in b))
+      both_fine outs (claims_sayable out claims (omega (arith, from_one)) (omega (arith, within, room, few_parts, claims_few)) said) (claims_each 8192 (omega arith) out claims sized)
+
+  rest_fine : All IsFine rest
+  rest_fine = last_gone last levels last_is
+
+  gone_all : All IsFine gone
+  gone_all = both_fine gone (deletions_sayable next (2 * count) from_one (omega (arith, within, room))) (deletions_each 8192 (omega arith) next (2 * count))
+
+  all_sums : sum_by length parts ≤ count
+  all_sums = omega (arith, within_size 16 (length levels) levels, size)
+
+  sums_fit : All IsLong sums
+  sums_fit = sums_long next id sums_from parts (within_blocks 16 (length levels) levels (omega arith) low) (front_fits next (4 * sum_by length parts) (4 * count) meaning_ids (omega (arith, all_sums))) constraint_id sum_ids
+
+  -- ---- all together
+
+  all_long : All IsLong steps
+  all_long =
+      let long = λ (ss : List Step) (h : All IsFine ss). All-weaker IsFine IsLong fine_long ss h in
+      All-append IsLong meanings (proving_steps ts m.bound first id next sums_from ++ gone) (long meanings meanings_fine)
+      (All-append IsLong (proving_steps ts m.bound first id next sums_from) gone
+      (All-append IsLong sums (outs ++ rest) sums_fit (All-append IsLong outs rest (long outs outs_fine) (long rest rest_fine)))
+      (long gone gone_all))
 
   says : All IsSayable steps
-  says = All-weaker IsFine IsSayable (λ s h. h.0) steps fine
+  says = All-weaker IsLong IsSayable (λ s h. h.0) steps all_long
+
+  bytes : (ss : List Step) → All IsFine ss → sum_by step_size ss ≤ 8192 * length ss
+  bytes ss h = omega (arith, each_all 8192 ss (All-weaker IsFine (λ (s : Step). step_size s ≤ 8192) (λ s h. h.1) ss h))
+
+  size_all : sum_by step_size steps ≤ 2 ^ 20 * (adder_fresh ts + adder_size ts m.bound + 4)
+  size_all =
+      omega (
+        arith,
+        sum_by-append step_size meanings (proving_steps ts m.bound first id next sums_from ++ gone),
+        sum_by-append step_size (proving_steps ts m.bound first id next sums_from) gone,
+        sum_by-append step_size sums (outs ++ rest),
+        sum_by-append step_size outs rest,
+        bytes meanings meanings_fine,
+        length-meanings next ms,
+        meanings-length first gates,
+        bytes outs outs_fine,
+        length-claims (sums_from + length parts) claims,
+        claims-length ts m.bound first next last,
+        bytes rest rest_fine,
+        last_count last levels,
+        bytes gone gone_all,
+        length-deletions 2 next (2 * count),
+        sums_size next id sums_from parts,
+        few_parts,
+        all_sums,
+        network_fresh ts,
+      )
 
   short : AreShort (length m.terms) (adder_fresh ts) (adder_size ts m.bound) steps
-  short =
-      let sizes : All (λ s. step_size s ≤ 8192) steps = All-weaker IsFine (λ (s : Step). step_size s ≤ 8192) (λ s h. h.1) steps fine in
-      record {
-        each = line_sized (2 ^ 28) steps says (All-weaker (λ (s : Step). step_size s ≤ 8192) (λ (s : Step). step_size s ≤ 2 ^ 28) (λ s h. omega (arith, h)) steps sizes);
-        all = omega (arith, lines_sized steps says, each_all 8192 steps sizes, adder_steps_count ts m.bound first id next, network_fresh ts);
-      }
+  short = record {
+    each = line_sized (2 ^ 28) steps says (All-weaker IsLong (λ (s : Step). step_size s ≤ 2 ^ 28) (λ s h. h.1) steps all_long);
+    all = omega (arith, lines_sized steps says, size_all);
+  }
 
 pub adder_sayable : (m : BoundedSum) (first id next : ℕ) → IsForAdder m → AreOriginal first m.terms → MayStart first (adder_fresh m.terms) id next → All IsSayable (adder_steps m.terms m.bound first id next)
 adder_sayable m first id next suits original start = says m suits first id next original start

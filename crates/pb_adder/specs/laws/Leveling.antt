@@ -13,7 +13,7 @@ use Rattle.pb_adder.specs.laws.NetworkLaws.{digits_few}
 use Rattle.pb_adder.specs.GateMeanings.{gate_meanings}
 use Rattle.pb_adder.specs.LeveledGates.{Leveled, leveled, at_level, leveled_from, leveled_gates}
 use Rattle.pb_adder.specs.laws.Chains.{power_le}
-use Rattle.pb_adder.specs.laws.LinesRun.{meanings_of}
+use Rattle.pb_adder.specs.laws.TreeOps.{meanings_of}
 
 abbrev pub gates_in : List Leveled → List Gate
 gates_in xs = map (λ (x : Leveled). x.gate) xs

@@ -1,4 +1,4 @@
--- The sum that is kept within the bound while adders take bits from it and give others.
+-- What adders say, added up, and the sum that is kept within the bound while adders take bits from it and give others.
 use Rattle.std.proofs.Common.{◌≡◌, ◌≤◌, ◌<◌, ◌+◌, ◌-◌, ◌*◌, ℕ, Bool, true, false, not, cond, List, [], ◌∷◌, ◌++◌, arith, refl, ap, sym, ◌∙◌, subst}
 use Rattle.std.specs.Prelude.{map}
 use Rattle.std.proofs.Math.Nat.{mul-add}
@@ -23,7 +23,7 @@ use Rattle.pb_derive.proofs.SameTerms.{written-form}
 use Rattle.pb_derive.specs.Meanings.{forward_of}
 use Rattle.pb_derive.specs.Ones.{unit_of, ones}
 use Rattle.pb_adder.specs.GateMeanings.{carry_meaning, sum_meaning}
-use Rattle.pb_adder.specs.laws.RunningSums.{outputs, balance, line_of, Sum, IsRunning, Exchanges, StaysUpTo}
+use Rattle.pb_adder.specs.laws.RunningSums.{outputs, balance, line_of, Sum, part, IsBalanced, IsRunning, StaysUpTo}
 use Rattle.pb_derive.proofs.Closed.{joined-positive}
 use Rattle.pb_derive.proofs.SameValues.{same_values}
 
@@ -61,13 +61,6 @@ pub scaled-ascending : (n : ℕ) (ts : List Weighted) → IsAscending ts → IsA
 scaled-ascending n ts up = map-ascending (scaled n) (λ t. refl) ts up
 
 -- ---- one adder
-
--- the inputs less the outputs, with degree 3
-pub record IsLine (inputs : List Lit) (s d : ℕ) (c : Constraint) : Type 0 where
-  pub positive : AllPositive c.terms
-  pub ascending : IsAscending c.terms
-  pub degree : c.degree ≡ 3
-  pub exact : (a : Assignment) → value a c.terms + value a (outputs s d) ≡ value a (ones inputs) + 3
 
 shrunk-back : (ts : List Weighted) → map (shrunk 3) (map (scaled 3) ts) ≡ ts
 shrunk-back [] = refl
@@ -150,37 +143,58 @@ line_is inputs s d c e apart hc he =
     λ i. record { terms = divided_terms i; degree = degree i }
 
 pub line_exact : (inputs : List Lit) (s d : ℕ) (c e : Constraint) → AreApartTerms (balance inputs s d) → IsFormOf (forward_of (carry_meaning inputs d)) c → IsFormOf (forward_of (sum_meaning inputs s d)) e
-    → IsLine inputs s d (line_of c e)
+    → IsBalanced (part (ones inputs)) (part (outputs s d)) (line_of c e)
 line_exact inputs s d c e apart hc he =
     let ts = balance inputs s d in
     let same = (written-form ts 3 apart (balance-positive inputs s d)).terms in
-    subst (IsLine inputs s d) (sym (line_is inputs s d c e apart hc he)) (record {
+    subst (IsBalanced (part (ones inputs)) (part (outputs s d))) (sym (line_is inputs s d c e apart hc he)) (record {
       positive = normal_terms-positive (terms_of ts);
       ascending = normal_terms-ascending (terms_of ts);
-      degree = refl;
       exact = λ a. omega (arith, same (term_value a), balance-value a inputs s d);
     })
 
--- ---- the sum after an adder
+-- ---- several adders
 
--- a line of an adder is added
-pub running_on : (bound n : ℕ) (inputs : List Lit) (s d : ℕ) (before after : Sum) (line c : Constraint) → 0 < n → IsLine inputs s d line → IsRunning bound before c → Exchanges n inputs s d before after
-    → (a : Assignment) → bound ≤ after (lit_value a) → IsRunning bound after (sum_of (multiple n line) c)
-running_on bound n inputs s d before after line c some is_line running exchange full reached =
-    let us = map (scaled n) line.terms in
-    let gone = cancelled us c.terms in
-    let all : (a : Assignment) → value a (joined us c.terms) + gone + after (lit_value a) ≡ n * line.degree + c.degree + bound = λ a.
-    let times : n * value a line.terms + n * value a (outputs s d) ≡ n * value a (ones inputs) + n * line.degree =
-    sym (mul-add n (value a line.terms) (value a (outputs s d))) ∙ ap (λ (k : ℕ). n * k) (is_line.exact a ∙ ap (λ (k : ℕ). value a (ones inputs) + k) (sym is_line.degree)) ∙ mul-add n (value a (ones inputs)) line.degree in
-    omega (arith, joined-value a us c.terms running.ascending, value-scaled a n line.terms, running.exact a, exchange (lit_value a), times) in
-    let enough : gone ≤ n * line.degree + c.degree = omega (arith, all full, reached) in
+pub balanced_as : (ins others outs more : Sum) (c : Constraint) → ((p : Lit → Bool) → ins p ≡ others p) → ((p : Lit → Bool) → outs p ≡ more p) → IsBalanced ins outs c → IsBalanced others more c
+balanced_as ins others outs more c taken given h = record { positive = h.positive; ascending = h.ascending; exact = λ a. omega (arith, h.exact a, taken (lit_value a), given (lit_value a)) }
+
+pub balanced_times : (n : ℕ) (ins outs : Sum) (c : Constraint) → 0 < n → IsBalanced ins outs c → IsBalanced (λ p. n * ins p) (λ p. n * outs p) (multiple n c)
+balanced_times n ins outs c some h = record {
+  positive = scaled-positive n c.terms some h.positive;
+  ascending = scaled-ascending n c.terms h.ascending;
+  exact = λ a.
+      let p = lit_value a in
+      value-scaled-and n (outs p) a c ∙ ap (λ (k : ℕ). n * k) (h.exact a) ∙ mul-add n c.degree (ins p);
+}
+  where
+    value-scaled-and : (n k : ℕ) (a : Assignment) (c : Constraint) → value a (map (scaled n) c.terms) + n * k ≡ n * (value a c.terms + k)
+    value-scaled-and n k a c = omega (arith, value-scaled a n c.terms, mul-add n (value a c.terms) k)
+
+-- two are added, where for some choice no more is taken than given
+pub balanced_both : (ins outs more others : Sum) (c d : Constraint) (a : Assignment) → IsBalanced ins outs c → IsBalanced more others d → ins (lit_value a) + more (lit_value a) ≤ outs (lit_value a) + others (lit_value a)
+    → IsBalanced (λ p. ins p + more p) (λ p. outs p + others p) (sum_of c d)
+balanced_both ins outs more others c d full h k enough =
+    let gone = cancelled c.terms d.terms in
+    let all : (a : Assignment) → value a (joined c.terms d.terms) + gone + (outs (lit_value a) + others (lit_value a)) ≡ c.degree + d.degree + (ins (lit_value a) + more (lit_value a)) = λ a.
+    omega (arith, joined-value a c.terms d.terms k.ascending, h.exact a, k.exact a) in
+    let less : gone ≤ c.degree + d.degree = omega (arith, all full, enough) in
     record {
-      positive = joined-positive us c.terms (scaled-positive n line.terms some is_line.positive) running.positive;
-      ascending = joined-ascending us c.terms running.ascending;
-      exact = λ a. omega (arith, all a, enough);
+      positive = joined-positive c.terms d.terms h.positive k.positive;
+      ascending = joined-ascending c.terms d.terms k.ascending;
+      exact = λ a. omega (arith, all a, less);
     }
 
--- ---- its numbers
+-- ---- their numbers
+
+-- neither the degree nor the coefficients pass what the sums can be
+pub balanced_small : (m : ℕ) (ins outs : Sum) (c : Constraint) → IsBalanced ins outs c → StaysUpTo m ins → StaysUpTo m outs → (c.degree ≤ m) × (weight c.terms ≤ m + m)
+balanced_small m ins outs c h taken given =
+    let low = extreme false c.terms in
+    let high = extreme true c.terms in
+    let none = value-all_false low c.terms (extreme-all false c.terms h.ascending) in
+    let all = value-all_true high c.terms (extreme-all true c.terms h.ascending) in
+    let top : c.degree ≤ m = omega (arith, h.exact low, none, given (lit_value low)) in
+    (top, omega (arith, h.exact high, all, top, taken (lit_value high)))
 
 -- neither its degree nor its coefficients pass what the sum can be
 pub running_small : (bound m : ℕ) (sum : Sum) (c : Constraint) → IsRunning bound sum c → StaysUpTo m sum → (c.degree + bound ≤ m) × (weight c.terms ≤ m)

@@ -31,11 +31,15 @@ Sum = (Lit → Bool) → ℕ
 abbrev pub part : List Weighted → Sum
 part ts p = sum_by (λ t. cond (p t.lit) t.coef 0) ts
 
--- what the left side has above the degree is what the sum leaves of the bound
-pub record IsRunning (bound : ℕ) (sum : Sum) (c : Constraint) : Type 0 where
+-- what the left side has above the degree is what the second sum leaves of the first
+pub record IsBalanced (ins outs : Sum) (c : Constraint) : Type 0 where
   pub positive : AllPositive c.terms
   pub ascending : IsAscending c.terms
-  pub exact : (a : Assignment) → value a c.terms + sum (lit_value a) ≡ c.degree + bound
+  pub exact : (a : Assignment) → value a c.terms + outs (lit_value a) ≡ c.degree + ins (lit_value a)
+
+-- and of a bound
+abbrev pub IsRunning : ℕ → Sum → Constraint → Type 0
+IsRunning bound sum c = IsBalanced (λ p. bound) sum c
 
 -- so many times the inputs are taken away, and the outputs given
 abbrev pub Exchanges : ℕ → List Lit → ℕ → ℕ → Sum → Sum → Type 0
@@ -54,6 +58,19 @@ Changes first x before after = Exchanges (2 ^ x.level) (input_lits first x.gate)
 abbrev pub Chain : ℕ → ℕ → Sum → List Leveled → Sum → Type 0
 Chain first m before [] after = (p : Lit → Bool) → before p ≡ after p
 Chain first m before (x ∷ xs) after = (between : Sum) × Changes first x before between × StaysUpTo m between × Chain first m between xs after
+
+-- what adders take, and what they give
+abbrev pub taken_by : ℕ → Leveled → Sum
+taken_by first x p = 2 ^ x.level * part (ones (input_lits first x.gate)) p
+
+abbrev pub given_by : ℕ → Leveled → Sum
+given_by first x p = 2 ^ x.level * part (outputs (sum_var first x.gate) (carry_var first x.gate)) p
+
+abbrev pub taken : ℕ → List Leveled → Sum
+taken first xs p = sum_by (λ (x : Leveled). taken_by first x p) xs
+
+abbrev pub given : ℕ → List Leveled → Sum
+given first xs p = sum_by (λ (x : Leveled). given_by first x p) xs
 
 -- the inputs and outputs of an adder are of different variables
 abbrev pub IsApart : ℕ → Gate → Type 0

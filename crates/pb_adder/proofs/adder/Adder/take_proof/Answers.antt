@@ -6,11 +6,11 @@ use Rattle.pb_derive.specs.Claims.{claim_steps}
 use Rattle.pb_family.specs.StepSinks.{TakesSteps, StopsInSteps}
 use Rattle.pb_family.proofs.Deriving.{steps_same}
 use Rattle.pb_steps.specs.declared.step.Step.{Step}
-use Rattle.pb_adder.specs.AdderSteps.{adder_claims, last_deletion, last_sum, levels_of, proving_steps, sum_steps}
+use Rattle.pb_adder.specs.AdderSteps.{adder_claims, blocks, last_deletion, last_sum, levels_of, proving_steps, sum_steps}
 use Rattle.pb_adder.specs.LeveledGates.{Leveled, leveled_gates}
 use Rattle.pb_adder.specs.laws.CountLaws.{network_fresh}
 use Rattle.pb_adder.specs.laws.Leveling.{network_levels}
-use Rattle.pb_adder.specs.laws.StepCounts.{levels-length}
+use Rattle.pb_adder.specs.laws.StepCounts.{few_blocks, levels-length}
 use Rattle.pb_adder.proofs.DerivationIds.{adder_claims_ids}
 use Rattle.pb_adder.proofs.Walking.{part_stopped, middle_stopped, last_handed}
 use Rattle.pb_adder.proofs.Walks.{last_below, sums_ids}
@@ -29,8 +29,8 @@ take_sums-requires-clause-fits g c =
     let ts = weights f.terms in
     omega (arith, c.requires.given, c.requires.fits, ap length (c.as_slice-heights.ensures.value ∙ f.leveled), levels-length ts, network_fresh ts)
 
-pub take_sums-requires-clause-few : goal.take_sums-requires-clause-few
-take_sums-requires-clause-few g c =
+pub take_sums-requires-clause-room : goal.take_sums-requires-clause-room
+take_sums-requires-clause-room g c =
     let f = c.args.self.now in
     let ts = weights f.terms in
     omega (arith, c.requires.next, c.requires.given, c.requires.fits, ap length (c.as_slice-heights.ensures.value ∙ f.leveled), levels-length ts, network_fresh ts)
@@ -42,10 +42,11 @@ returns-in_err-last g c =
     let old = g.T.StepSink.state c.args.sink.now in
     let mid = g.T.StepSink.state c.take_sums.new.sink in
     let levels = levels_of ts in
-    let last = last_sum c.args.id old.next levels in
-    part_stopped c.from_residual.result _ (proving_steps ts f.bound c.args.first c.args.id c.args.base old.next) (sum_steps c.args.base c.args.id old.next levels)
-    (claim_steps (old.next + length levels) (adder_claims ts f.bound c.args.first c.args.base last) ++ last_deletion last levels) old mid c.from_residual.ensures.1 refl
-    (subst (λ (ls : List ℕ). StopsInSteps (sum_steps c.args.base c.args.id old.next ls) old mid c.in_err-last.field-0.0) (c.as_slice-heights.ensures.value ∙ f.leveled) c.in_err-last.ensures.steps)
+    let parts = blocks levels in
+    let last = last_sum c.args.id old.next parts in
+    part_stopped c.from_residual.result _ (proving_steps ts f.bound c.args.first c.args.id c.args.base old.next) (sum_steps c.args.base c.args.id old.next parts)
+    (claim_steps (old.next + length parts) (adder_claims ts f.bound c.args.first c.args.base last) ++ last_deletion last levels) old mid c.from_residual.ensures.1 refl
+    (subst (λ (ls : List ℕ). StopsInSteps (sum_steps c.args.base c.args.id old.next (blocks ls)) old mid c.in_err-last.field-0.0) (c.as_slice-heights.ensures.value ∙ f.leveled) c.in_err-last.ensures.steps)
 
 pub take_clauses-requires-clause-few : goal.take_clauses-requires-clause-few
 take_clauses-requires-clause-few g c =
@@ -55,7 +56,8 @@ take_clauses-requires-clause-few g c =
     omega (
       arith,
       c.in_ok-last.ensures.steps.ids,
-      sums_ids c.args.base c.args.id old.next c.as_slice-heights.result.now,
+      sums_ids c.args.base c.args.id old.next (blocks c.as_slice-heights.result.now),
+      few_blocks c.as_slice-heights.result.now,
       c.requires.next,
       c.requires.given,
       ap length (c.as_slice-heights.ensures.value ∙ f.leveled),
@@ -70,13 +72,14 @@ returns-in_err-take_clauses g c =
     let mid = g.T.StepSink.state c.take_sums.new.sink in
     let after = g.T.StepSink.state c.take_clauses.new.sink in
     let levels = levels_of ts in
-    let last = last_sum c.args.id old.next levels in
+    let parts = blocks levels in
+    let last = last_sum c.args.id old.next parts in
     let same = c.as_slice-heights.ensures.value ∙ f.leveled in
-    let taken = subst (λ (ls : List ℕ). TakesSteps (sum_steps c.args.base c.args.id old.next ls) old mid) same c.in_ok-last.ensures.steps in
-    let count : mid.next ≡ old.next + length levels = omega (arith, taken.ids, sums_ids c.args.base c.args.id old.next levels) in
-    let last_is : c.in_ok-last.last ≡ last = c.in_ok-last.ensures.last ∙ ap (last_sum c.args.id old.next) same in
-    let claims = claim_steps (old.next + length levels) (adder_claims ts f.bound c.args.first c.args.base last) in
-    middle_stopped c.from_residual-in_err-take_clauses.result _ (proving_steps ts f.bound c.args.first c.args.id c.args.base old.next) (sum_steps c.args.base c.args.id old.next levels) claims (last_deletion last levels) old mid after
+    let taken = subst (λ (ls : List ℕ). TakesSteps (sum_steps c.args.base c.args.id old.next (blocks ls)) old mid) same c.in_ok-last.ensures.steps in
+    let count : mid.next ≡ old.next + length parts = omega (arith, taken.ids, sums_ids c.args.base c.args.id old.next parts) in
+    let last_is : c.in_ok-last.last ≡ last = c.in_ok-last.ensures.last ∙ ap (λ (ls : List ℕ). last_sum c.args.id old.next (blocks ls)) same in
+    let claims = claim_steps (old.next + length parts) (adder_claims ts f.bound c.args.first c.args.base last) in
+    middle_stopped c.from_residual-in_err-take_clauses.result _ (proving_steps ts f.bound c.args.first c.args.id c.args.base old.next) (sum_steps c.args.base c.args.id old.next parts) claims (last_deletion last levels) old mid after
     c.from_residual-in_err-take_clauses.ensures.1 refl taken
     (subst (λ (ss : List Step). StopsInSteps ss mid after c.in_err-take_clauses.field-0.0) (λ i. claim_steps (count i) (adder_claims ts f.bound c.args.first c.args.base (last_is i))) c.in_err-take_clauses.ensures)
 
@@ -90,7 +93,8 @@ take_last_deletion-requires-clause-given g c =
     omega (
       arith,
       c.in_ok-last.ensures.last,
-      last_below (2 ^ 62) c.args.id old.next heights (omega (arith, c.requires.known, c.requires.given)) (omega (arith, c.requires.next, c.requires.given, c.requires.fits, size, levels-length ts, network_fresh ts)),
+      few_blocks heights,
+      last_below (2 ^ 62) c.args.id old.next (blocks heights) (omega (arith, c.requires.known, c.requires.given)) (omega (arith, few_blocks heights, c.requires.next, c.requires.given, c.requires.fits, size, levels-length ts, network_fresh ts)),
     )
 
 pub take_last_deletion-requires-clause-few : goal.take_last_deletion-requires-clause-few
@@ -102,7 +106,8 @@ take_last_deletion-requires-clause-few g c =
     omega (
       arith,
       c.in_ok-last.ensures.steps.ids,
-      sums_ids c.args.base c.args.id old.next c.as_slice-heights.result.now,
+      sums_ids c.args.base c.args.id old.next (blocks c.as_slice-heights.result.now),
+      few_blocks c.as_slice-heights.result.now,
       c.in_ok-take_clauses.ensures.ids,
       adder_claims_ids ts f.bound c.args.first c.args.base c.in_ok-last.last mid.next f.small,
       c.requires.next,
@@ -122,12 +127,13 @@ returns g c =
     let late = g.T.StepSink.state c.take_clauses.new.sink in
     let after = g.T.StepSink.state c.take_last_deletion.new.sink in
     let levels = levels_of ts in
-    let last = last_sum c.args.id old.next levels in
+    let parts = blocks levels in
+    let last = last_sum c.args.id old.next parts in
     let same = c.as_slice-heights.ensures.value ∙ f.leveled in
-    let taken = subst (λ (ls : List ℕ). TakesSteps (sum_steps c.args.base c.args.id old.next ls) old mid) same c.in_ok-last.ensures.steps in
-    let count : mid.next ≡ old.next + length levels = omega (arith, taken.ids, sums_ids c.args.base c.args.id old.next levels) in
-    let last_is : c.in_ok-last.last ≡ last = c.in_ok-last.ensures.last ∙ ap (last_sum c.args.id old.next) same in
-    let claims = claim_steps (old.next + length levels) (adder_claims ts f.bound c.args.first c.args.base last) in
-    last_handed c.take_last_deletion.result (proving_steps ts f.bound c.args.first c.args.id c.args.base old.next) (sum_steps c.args.base c.args.id old.next levels) claims (last_deletion last levels) old mid late after refl taken
+    let taken = subst (λ (ls : List ℕ). TakesSteps (sum_steps c.args.base c.args.id old.next (blocks ls)) old mid) same c.in_ok-last.ensures.steps in
+    let count : mid.next ≡ old.next + length parts = omega (arith, taken.ids, sums_ids c.args.base c.args.id old.next parts) in
+    let last_is : c.in_ok-last.last ≡ last = c.in_ok-last.ensures.last ∙ ap (λ (ls : List ℕ). last_sum c.args.id old.next (blocks ls)) same in
+    let claims = claim_steps (old.next + length parts) (adder_claims ts f.bound c.args.first c.args.base last) in
+    last_handed c.take_last_deletion.result (proving_steps ts f.bound c.args.first c.args.id c.args.base old.next) (sum_steps c.args.base c.args.id old.next parts) claims (last_deletion last levels) old mid late after refl taken
     (subst (λ (ss : List Step). TakesSteps ss mid late) (λ i. claim_steps (count i) (adder_claims ts f.bound c.args.first c.args.base (last_is i))) c.in_ok-take_clauses.ensures)
     (steps_same c.take_last_deletion.result (last_deletion c.in_ok-last.last c.as_slice-heights.result.now) (last_deletion last levels) late after (λ i. last_deletion (last_is i) (same i)) c.take_last_deletion.ensures)

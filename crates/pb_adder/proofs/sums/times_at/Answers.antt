@@ -1,10 +1,8 @@
-use Rattle.std.proofs.Common.{◌≡◌, ◌<◌, ◌≤◌, ◌*◌, ◌+◌, ◌^◌, ◌%◌, ℕ, ℤ, pos, [], ◌∷◌, ap, ◌∙◌, arith, to_z}
+use Rattle.std.proofs.Common.{◌≡◌, ◌<◌, ◌≤◌, ◌*◌, ◌^◌, ◌%◌, ℕ, pos, ap, ◌∙◌, arith, to_z}
 use Rattle.std.specs.Int.{w128}
 use Rattle.std.proofs.lemmas.Int.{to_z_pos}
-use Rattle.pb_steps.specs.declared.op.PolOp.TheVariants.{Push, Add, Mul, Div}
-use Rattle.pb_steps.specs.declared.step.Step.TheVariants.{Pol}
 use Rattle.pb_adder.specs.laws.Leveling.{power_up}
-use Rattle.pb_adder.proofs.sums.sum_step.Goals as goal
+use Rattle.pb_adder.proofs.sums.times_at.Goals as goal
 
 -- a power below 2 ^ 126 is what its bits say
 power_is : (level : ℕ) → level < 126 → to_z w128 (1 * 2 ^ level % 340282366920938463463374607431768211456) ≡ pos (2 ^ level)
@@ -14,9 +12,4 @@ power_is level low =
     ap (to_z w128) bits ∙ to_z_pos w128 (2 ^ level) (let h : 2 ^ level < 2 ^ 127 = omega (arith, small) in h)
 
 pub returns : goal.returns
-returns c =
-    let id = c.args.id in
-    ap Pol (
-    c.from_vec.ensures
-    ∙ c.in_ok-ops.ensures.items
-    ∙ ap (λ (z : ℤ). Push id ∷ Mul (pos 2) ∷ Push (id + 2) ∷ Add ∷ Div (pos 3) ∷ Mul z ∷ Push c.args.running ∷ Add ∷ []) (power_is c.args.level c.requires.low))
+returns c = power_is c.args.level c.requires.low
