@@ -17,7 +17,18 @@ fn file_of(run: &Run, slot: u8) -> &[u8]
 fn is_same(run: &Run, whole: &Run, slot: u8) -> bool
     requires { slot < 2 }
 {
-    run.desk.made(slot) == whole.desk.made(slot)
+    let made = file_of(run, slot);
+    let due = file_of(whole, slot);
+    run.desk.made(slot).is_some() == whole.desk.made(slot).is_some() && made == due
+}
+
+// The file in a slot is a first part of what a whole run makes there.
+fn is_front(run: &Run, whole: &Run, slot: u8) -> bool
+    requires { slot < 2 }
+{
+    let made = file_of(run, slot);
+    let due = file_of(whole, slot);
+    due.starts_with(made)
 }
 
 // What is made and said is a first part of what a whole run does: a derivation only beside a whole CNF, and words only
@@ -25,16 +36,20 @@ fn is_same(run: &Run, whole: &Run, slot: u8) -> bool
 fn is_part(run: &Run, whole: &Run) -> bool {
     let is_cnf = is_same(run, whole, 0);
     let is_proof = is_same(run, whole, 1);
-    file_of(whole, 0).starts_with(file_of(run, 0))
-        && file_of(whole, 1).starts_with(file_of(run, 1))
-        && whole.desk.said().starts_with(run.desk.said())
+    let said = run.desk.said();
+    let due = whole.desk.said();
+    is_front(run, whole, 0)
+        && is_front(run, whole, 1)
+        && due.starts_with(said)
         && (run.desk.made(1).is_none() || is_cnf)
-        && (run.desk.said().is_empty() || (is_cnf && is_proof))
+        && (said.is_empty() || (is_cnf && is_proof))
 }
 
 // What is left fits the status: all; nothing; a first part, in which words are wanting.
 fn fits(run: &Run, whole: &Run) -> bool {
-    let is_said = run.desk.said() == whole.desk.said();
+    let said = run.desk.said();
+    let due = whole.desk.said();
+    let is_said = said == due;
     match run.outcome.status() {
         0 => is_same(run, whole, 0) && is_same(run, whole, 1) && is_said,
         4 => is_silent(run),
@@ -114,13 +129,15 @@ fn fills(run: &Run, whole: &Run, room: usize) -> bool {
     let said = whole.desk.said().len();
     let proof_room = if cnf <= room { room } else { 0 };
     let said_room = if proof <= room { proof_room } else { 0 };
+    let is_proof_due = cnf <= room && whole.desk.made(1).is_some();
     let status = if said <= said_room { 0 } else { 5 };
     run.outcome.status() == status
         && fits(run, whole)
         && file_of(run, 0).len() == room.min(cnf)
         && file_of(run, 1).len() == proof_room.min(proof)
         && run.desk.said().len() == said_room.min(said)
-        && (run.desk.made(1).is_some() || cnf > room || whole.desk.made(1).is_none())
+        && run.desk.made(0).is_some() == whole.desk.made(0).is_some()
+        && run.desk.made(1).is_some() == is_proof_due
 }
 
 // Each room up to the one that suffices is tried.
