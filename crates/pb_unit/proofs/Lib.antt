@@ -15,4 +15,5 @@ pub mod Sweeping
 pub mod Telling
 pub mod TrailValues
 pub mod Trailing
+pub mod Unlisting
 pub mod Visits

@@ -65,6 +65,13 @@ pub record IsSectioned (starts ends units : List ℕ) : Type 0 where
 abbrev pub that_stand : List (Option Constraint) → List ℕ → List ℕ
 that_stand places ps = filter (λ p. is_some (at_place places p)) ps
 
+-- one more occurrence in a list
+pub record HasOneMore (o : Occurrence) (less more : List Occurrence) : Type 0 where
+  pub front : List Occurrence
+  pub back : List Occurrence
+  pub was : less ≡ front ++ back
+  pub is : more ≡ front ++ o ∷ back
+
 -- one more occurrence of a literal
 pub record IsPushed (l : Lit) (o : Occurrence) (before after : Lists) : Type 0 where
   pub size : size_of after ≡ size_of before

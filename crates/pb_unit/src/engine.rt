@@ -86,7 +86,7 @@ impl Engine {
                 phase: Phase::Fresh,
             },
             assumed: Trail::new(alloc, vars)?,
-            wear: Wear::new(count),
+            wear: Wear::new(alloc, count),
         })
     }
 
@@ -140,8 +140,11 @@ impl Engine {
         ensures refused { IsErr result → self.new ≡ self.old }
     {
         let copy = constraint.copy(self.alloc)?;
+        if !self.wear.reserve(self.queue.places.len()) {
+            return Err(NoMemory);
+        }
         self.queue.rewind();
-        let place = store::free_place(&self.queue.places, &self.queue.kept, self.wear.next);
+        let place = store::free_place(&self.queue.places, &self.queue.kept, &mut self.wear);
         if !store::put(
             self.alloc,
             self.queue.held.vars(),
@@ -154,7 +157,7 @@ impl Engine {
         ) {
             return Err(NoMemory);
         }
-        self.wear.next = place;
+        self.wear.take(place);
         self.assumed.clear();
         self.queue.held.clear();
         Ok(place as u64)
@@ -172,17 +175,14 @@ impl Engine {
         self.queue.rewind();
         self.assumed.clear();
         self.queue.held.clear();
-        let terms = self.queue.places.count(place);
-        let listed = store::is_tight(&self.queue.kept, place);
-        self.wear.count(terms, listed);
-        self.queue.places.clear(place);
-        store::tidy(
+        store::let_go(
             &mut self.wear,
+            &mut self.queue.places,
             &mut self.queue.lists,
             &mut self.queue.kept,
             &mut self.queue.tight,
             self.queue.held.vars(),
-            &self.queue.places,
+            place,
         );
         true
     }

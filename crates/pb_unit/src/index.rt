@@ -1,7 +1,7 @@
 //! For each literal, the constraints in which it stands.
-ghost use Rattle.std.specs.Prelude.{◌≡◌, ◌≤◌, ◌<◌, ◌+◌, ◌*◌, ◌^◌, ◌==◌, ◌++◌, ◌∷◌, [], ℕ, List, length, IfOk, if◌then◌else◌, slice_set, slice_index, slice_index_or, filter, is_some, take};
+ghost use Rattle.std.specs.Prelude.{◌≡◌, ◌≤◌, ◌<◌, ◌+◌, ◌*◌, ◌^◌, ◌==◌, ◌++◌, ◌∷◌, [], ℕ, List, length, IfOk, if◌then◌else◌, slice_set, slice_index, slice_index_or, filter, is_some, take, IfSome, IsNone};
 ghost use Rattle.std.specs.Bool.{OnTrue, OnFalse};
-ghost use Rattle.pb_unit.specs.Index.{code, section, size_of, units_at, others_at, that_stand, IsAscending, IsSectioned, IsPushed, AreSame};
+ghost use Rattle.pb_unit.specs.Index.{code, section, size_of, units_at, others_at, that_stand, IsAscending, IsSectioned, IsPushed, AreSame, HasOneMore};
 ghost use Rattle.pb_unit.specs.States.{at_place};
 
 use crate::places::Places;
@@ -31,6 +31,23 @@ impl Model for Occurrences {
     ghost view = { λ o. o.items.items };
 }
 
+// So many of the newest occurrences of a literal are looked at where a constraint goes: one that came late is found, and none costs more.
+pub(crate) const NEWEST: usize = 8;
+
+// Where one of the newest occurrences at a place is, if one is there.
+fn newest_at(items: &[Occurrence], place: usize) -> Option<usize>
+    ensures below { IfSome result (λ i. i < length items.now) }
+    ensures at { IfSome result (λ i. (o : Occurrence) → (slice_index_or items.now i o).place ≡ place) }
+{
+    for back in 0..items.len().min(NEWEST) {
+        let index = items.len() - 1 - back;
+        if items[index].place == place {
+            return Some(index);
+        }
+    }
+    None
+}
+
 impl Occurrences {
     fn push(&mut self, occurrence: Occurrence) -> bool
         ensures { self.new ≡ (if result then self.old ++ occurrence ∷ [] else self.old) }
@@ -42,6 +59,18 @@ impl Occurrences {
         ensures { result.now ≡ self.now }
     {
         self.items.as_slice()
+    }
+
+    // Takes out one of the newest at a place, if one is there.
+    fn take(&mut self, place: usize) -> Option<Occurrence>
+        ensures at { IfSome result (λ o. o.place ≡ place) }
+        ensures taken { IfSome result (λ o. HasOneMore o self.new self.old) }
+        ensures none { IsNone result → self.new ≡ self.old }
+    {
+        match newest_at(&self.items, place) {
+            Some(index) => Some(self.items.remove(index)),
+            None => None,
+        }
     }
 }
 
@@ -129,6 +158,19 @@ fn put_other(
         return false;
     }
     append(lists, number, occurrence)
+}
+
+// Takes out one of the newest occurrences in the list of a number at a place, if one is there.
+fn take_other(lists: &mut [Occurrences], number: usize, place: usize) -> Option<Occurrence>
+    ensures at { IfSome result (λ o. o.place ≡ place) }
+    ensures here { IfSome result (λ o. HasOneMore o (slice_index_or lists.new number []) (slice_index_or lists.old number [])) }
+    ensures others { (k : ℕ) → (k ≡ number → ⊥) → slice_index_or lists.new k [] ≡ slice_index_or lists.old k [] }
+    ensures none { IsNone result → lists.new ≡ lists.old }
+{
+    if number >= lists.len() {
+        return None;
+    }
+    lists[number].take(place)
 }
 
 // One more place in the section of a number, if the coefficient there is 1 and there is room.
@@ -288,6 +330,15 @@ impl Index {
             return true;
         }
         put_other(alloc, &mut self.lists, number, Occurrence { place, coef })
+    }
+
+    // Takes out one of the newest occurrences of a literal at a place, if one is there.
+    pub(crate) fn take(&mut self, lit: &Lit, place: usize) -> Option<Occurrence>
+        ensures at { IfSome result (λ o. o.place ≡ place) }
+        ensures taken { IfSome result (λ o. IsPushed lit.now o self.new self.old) }
+        ensures none { IsNone result → AreSame self.old self.new }
+    {
+        take_other(&mut self.lists, code(lit), place)
     }
 
     // Drops the occurrences at places where no constraint stands.

@@ -22,6 +22,7 @@ use pb_base::{Lit, NoMemory, Term};
 use pb_norm::Linear;
 use std::alloc::Global;
 use std::marker::Model;
+use std::mem;
 
 /// What stands at a place: nothing; a clause, with its part of one list of literals; or a constraint in memory of its own, so that
 /// a place takes little where a clause stands.
@@ -100,7 +101,9 @@ fn clause_slot(lits: &mut Vec<Lit>, constraint: &Linear) -> Option<Slot>
 fn general_slot(alloc: Global, constraint: Linear) -> Option<Slot>
     ensures { IfSome result (λ slot. (n : ℕ) (lits : List Lit) → IsSlot n slot × (slot_at lits slot ≡ Some constraint)) }
 {
-    let mut alone = Vec::new(alloc);
+    let Ok(mut alone) = Vec::with_capacity(alloc, 1) else {
+        return None
+    };
     match alone.push(constraint) {
         Ok(()) => Some(Slot::General(alone)),
         Err(_) => None,
@@ -320,18 +323,6 @@ impl Places {
         stands_in(&self.slots, place)
     }
 
-    // How many terms the constraint at the place has.
-    pub(crate) fn count(&self, place: usize) -> usize {
-        match self.slots.get(place) {
-            Some(Slot::Clause { len, .. }) => *len as usize,
-            Some(Slot::General(alone)) => match alone.first() {
-                Some(constraint) => constraint.len(),
-                None => 0,
-            },
-            _ => 0,
-        }
-    }
-
     // Has a constraint stand at the place, which is one of the list or the next, if there is memory.
     pub(crate) fn put(&mut self, alloc: Global, place: usize, constraint: Linear) -> bool
         requires { place ≤ length self.old }
@@ -375,12 +366,12 @@ impl Places {
         }
     }
 
-    // Has nothing stand at the place.
-    pub(crate) fn clear(&mut self, place: usize)
+    // Has nothing stand at the place, and hands out what was there.
+    pub(crate) fn take(&mut self, place: usize) -> Slot
         requires { place < length self.old }
         ensures { self.new ≡ slice_set self.old place None }
     {
-        self.slots[place] = Slot::Empty;
+        mem::replace(&mut self.slots[place], Slot::Empty)
     }
 
     // Has all hold that the constraint at the place needs with so much room left, or says that this is too little.

@@ -1,5 +1,5 @@
 //! Constraints at their places, with the index of their literals and their rooms.
-ghost use Rattle.std.specs.Prelude.{◌≡◌, ◌≤◌, ◌<◌, ◌+◌, ◌^◌, ◌∷◌, ◌++◌, [], ◌⊎◌, ◌*◌, if◌then◌else◌, max, filter, IfOk, ℕ, List, length, All, Contains, IfSome, None, is_some, vec_capacity, slice_index_or, IsTrue};
+ghost use Rattle.std.specs.Prelude.{◌≡◌, ◌≤◌, ◌<◌, ◌+◌, ◌^◌, ◌∷◌, ◌++◌, [], ◌⊎◌, ◌*◌, if◌then◌else◌, max, filter, IfOk, ℕ, List, length, All, Contains, IfSome, None, is_some, vec_capacity, slice_index_or, slice_set, IsTrue};
 ghost use Rattle.std.specs.Bool.{OnTrue, OnFalse};
 ghost use Rattle.pb_norm.specs.Constraints.{Weighted, Constraint, weight, weighted, weights, HasVarsWithin};
 ghost use Rattle.pb_unit.specs.States.{Stands, at_place, placed};
@@ -8,15 +8,15 @@ ghost use Rattle.pb_unit.specs.Filling.{AreLaid};
 ghost use Rattle.pb_base.specs.declared.literal.Lit.{Lit};
 ghost use Rattle.pb_unit.specs.Index.{Enters, list_at, size_of, room_at, alert_at, AreListed, IsCounted, IsEntered, IsStore};
 
-use crate::index::{Index, Occurrence, code};
-use crate::kept::{Kept, alert_of, raise, room_of};
-use crate::places::Places;
-use pb_base::{NoMemory, Term};
+use crate::index::{Index, NEWEST, Occurrence, code};
+use crate::kept::{Kept, alert_of, lower, raise, room_of};
+use crate::places::{Places, Slot};
+use pb_base::{Lit, NoMemory, Term};
 use pb_norm::Linear;
 use std::alloc::Global;
 
 /// What removed constraints have left behind. These are counts and hints: nothing is true by them.
-#[derive(Clone, Copy, Debug, PartialEq, Eq)]
+#[derive(Drop)]
 pub(crate) struct Wear {
     /// So many terms may be left before a sweep pays for itself.
     limit: usize,
@@ -25,31 +25,89 @@ pub(crate) struct Wear {
     /// So many listed places are left.
     listed: usize,
     /// From this place on there may be a free one.
-    pub(crate) next: usize,
+    next: usize,
+    /// Places of which no term is left.
+    free: Vec<u32>,
 }
 
 impl Wear {
     // None yet, with so many places.
-    pub(crate) fn new(places: usize) -> Wear {
+    pub(crate) fn new(alloc: Global, places: usize) -> Wear {
         Wear {
             limit: places,
             terms: 0,
             listed: 0,
             next: places,
+            free: Vec::new(alloc),
         }
     }
 
-    // A constraint with so many terms goes.
-    pub(crate) fn count(&mut self, terms: usize, is_listed: bool) {
+    // Room to note each of so many places and one more, if there is memory.
+    pub(crate) fn reserve(&mut self, places: usize) -> bool {
+        if places < self.free.capacity() {
+            return true;
+        }
+        self.free
+            .reserve(places.saturating_add(places / 2 + 8))
+            .is_ok()
+    }
+
+    // A place of which no term is left. There is room to note it, or it is found by the next sweep.
+    fn note(&mut self, place: usize) {
+        if place <= u32::MAX as usize && self.free.len() < self.free.capacity() {
+            let _ = self.free.push(place as u32);
+        }
+    }
+
+    // A constraint goes, and so many of its terms are left.
+    fn count(&mut self, place: usize, terms: usize, is_listed: bool) {
         self.terms = self.terms.saturating_add(terms);
+        if terms == 0 {
+            self.note(place);
+        }
         if is_listed {
             self.listed = self.listed.saturating_add(1);
         }
     }
+
+    // A constraint came to the place.
+    pub(crate) fn take(&mut self, place: usize) {
+        self.next = self.next.max(place);
+    }
+
+    // All that was left is gone, and so much stands.
+    fn renew(&mut self, stands: usize) {
+        self.limit = stands / 2;
+        self.terms = 0;
+        self.next = 0;
+        self.free.clear();
+    }
 }
 
-// A place without a constraint and without occurrences, from a place on, or the next.
-pub(crate) fn free_place(places: &Places, kept: &[Kept], from: usize) -> usize
+// Whether a place has no constraint and no occurrences.
+fn is_free(places: &Places, kept: &[Kept], place: usize) -> bool
+    ensures { OnTrue result (place < length places.now × (at_place places.now place ≡ None) × (room_at kept.now place ≡ 0)) }
+{
+    place < places.len() && !places.stands(place) && room_of(kept, place) == 0
+}
+
+// A place without a constraint and without occurrences.
+pub(crate) fn free_place(places: &Places, kept: &[Kept], wear: &mut Wear) -> usize
+    requires { length kept.now ≡ length places.now }
+    ensures near { result ≤ length places.now }
+    ensures empty { at_place places.now result ≡ None }
+    ensures unused { room_at kept.now result ≡ 0 }
+{
+    if let Some(place) = wear.free.pop()
+        && is_free(places, kept, place as usize)
+    {
+        return place as usize;
+    }
+    next_free(places, kept, wear.next)
+}
+
+// The same from a place on, or the next.
+fn next_free(places: &Places, kept: &[Kept], from: usize) -> usize
     requires { length kept.now ≡ length places.now }
     ensures near { result ≤ length places.now }
     ensures empty { at_place places.now result ≡ None }
@@ -316,6 +374,115 @@ pub(crate) fn lay_all(places: &Places, kept: &mut Vec<Kept>, tight: &mut Vec<usi
     true
 }
 
+// Takes an occurrence of a literal at a place where nothing stands out of the index, and its part out of the room there. Whether one was found.
+fn unlist_one(
+    lists: &mut Index,
+    kept: &mut [Kept],
+    vars: u32,
+    places: &Places,
+    place: usize,
+    lit: &Lit,
+) -> bool
+    requires empty { at_place places.now place ≡ None }
+    requires counts { IsCounted vars places.now lists.old kept.old [] }
+    ensures counts { IsCounted vars places.now lists.new kept.new [] }
+    ensures alerts { (p : ℕ) → alert_at kept.new p ≡ alert_at kept.old p }
+{
+    match lists.take(lit, place) {
+        Some(occurrence) => {
+            lower(kept, &occurrence);
+            true
+        }
+        None => false,
+    }
+}
+
+// The same for terms. How many are left.
+fn unlist(
+    lists: &mut Index,
+    kept: &mut [Kept],
+    vars: u32,
+    places: &Places,
+    place: usize,
+    terms: &[Term],
+) -> usize
+    requires empty { at_place places.now place ≡ None }
+    requires counts { IsCounted vars places.now lists.old kept.old [] }
+    ensures counts { IsCounted vars places.now lists.new kept.new [] }
+    ensures alerts { (p : ℕ) → alert_at kept.new p ≡ alert_at kept.old p }
+{
+    let mut left: usize = 0;
+    for term in terms {
+        if !unlist_one(lists, kept, vars, places, place, &term.lit) {
+            left = left.saturating_add(1);
+        }
+    }
+    left
+}
+
+// The same for what stood at the place. The literals of a clause that came in order are left.
+fn unlist_slot(
+    lists: &mut Index,
+    kept: &mut Vec<Kept>,
+    tight: &Vec<usize>,
+    vars: u32,
+    places: &Places,
+    place: usize,
+    gone: &Slot,
+) -> usize
+    requires empty { at_place places.now place ≡ None }
+    requires store { IsStore vars places.now lists.old kept.old.items tight.now.items }
+    ensures { IsStore vars places.now lists.new kept.new.items tight.now.items }
+{
+    match gone {
+        Slot::Clause { len, .. } => *len as usize,
+        Slot::General(alone) => match alone.first() {
+            Some(constraint) => unlist(lists, kept, vars, places, place, constraint.terms()),
+            None => 0,
+        },
+        Slot::Empty => 0,
+    }
+}
+
+// Where a place is among the newest that are listed, if it is.
+fn newest_listed(tight: &[usize], place: usize) -> Option<usize>
+    ensures below { IfSome result (λ i. i < length tight.now) }
+    ensures at { IfSome result (λ i. (d : ℕ) → slice_index_or tight.now i d ≡ place) }
+{
+    for back in 0..tight.len().min(NEWEST) {
+        let index = tight.len() - 1 - back;
+        if tight[index] == place {
+            return Some(index);
+        }
+    }
+    None
+}
+
+// Takes a place where nothing stands out of the list, where it is among the newest there. Whether it may still be listed.
+fn unlist_place(
+    lists: &Index,
+    kept: &Vec<Kept>,
+    tight: &mut Vec<usize>,
+    vars: u32,
+    places: &Places,
+    place: usize,
+) -> bool
+    requires empty { at_place places.now place ≡ None }
+    requires store { IsStore vars places.now lists.now kept.now.items tight.old.items }
+    ensures { IsStore vars places.now lists.now kept.now.items tight.new.items }
+{
+    if !is_tight(kept, place) {
+        return false;
+    }
+    match newest_listed(tight, place) {
+        Some(index) => {
+            tight.remove(index);
+            false
+        }
+        None => true,
+    }
+}
+
 // Lists only places where a constraint stands.
 pub(crate) fn prune(tight: &mut Vec<usize>, places: &Places)
     ensures { tight.new.items ≡ filter (λ p. is_some (at_place places.now p)) tight.old.items }
@@ -324,7 +491,7 @@ pub(crate) fn prune(tight: &mut Vec<usize>, places: &Places)
 }
 
 // Drops what is left of constraints that do not stand, where that is due.
-pub(crate) fn sweep_if(
+fn sweep_if(
     due: bool,
     lists: &mut Index,
     kept: &mut Vec<Kept>,
@@ -341,7 +508,7 @@ pub(crate) fn sweep_if(
 }
 
 // Lists only places where a constraint stands, where that is due.
-pub(crate) fn prune_if(
+fn prune_if(
     due: bool,
     lists: &Index,
     kept: &[Kept],
@@ -358,7 +525,7 @@ pub(crate) fn prune_if(
 }
 
 // Drops what is left of constraints that do not stand, as far as that is due.
-pub(crate) fn tidy(
+fn tidy(
     wear: &mut Wear,
     lists: &mut Index,
     kept: &mut Vec<Kept>,
@@ -374,13 +541,33 @@ pub(crate) fn tidy(
     sweep_if(due, lists, kept, tight, vars, places);
     prune_if(crowded, lists, kept, tight, vars, places);
     if due {
-        wear.terms = 0;
-        wear.next = 0;
-        wear.limit = lists.len().saturating_add(places.len()) / 2;
+        wear.renew(lists.len().saturating_add(places.len()));
     }
     if crowded {
         wear.listed = 0;
     }
+}
+
+// Has nothing stand at a place. What is left of the constraint goes as far as it is found, and the rest where that is due.
+pub(crate) fn let_go(
+    wear: &mut Wear,
+    places: &mut Places,
+    lists: &mut Index,
+    kept: &mut Vec<Kept>,
+    tight: &mut Vec<usize>,
+    vars: u32,
+    place: usize,
+)
+    requires known { place < length places.old }
+    requires store { IsStore vars places.old lists.old kept.old.items tight.old.items }
+    ensures removed { places.new ≡ slice_set places.old place None }
+    ensures store { IsStore vars places.new lists.new kept.new.items tight.new.items }
+{
+    let gone = places.take(place);
+    let listed = unlist_place(lists, kept, tight, vars, places, place);
+    let terms = unlist_slot(lists, kept, tight, vars, places, place, &gone);
+    wear.count(place, terms, listed);
+    tidy(wear, lists, kept, tight, vars, places);
 }
 
 // Whether the room at a place is less than its alert.

@@ -12,8 +12,8 @@ put-requires-clause-store c =
     let r = c.rewind.new.self in
     store_read r.held.vars c.vars.result (sym c.vars.ensures) refl refl refl refl c.rewind.ensures.store
 
-pub invariant_of-self : goal.invariant_of-self
-invariant_of-self c =
+pub invariant_of-self-then-not-put : goal.invariant_of-self-then-not-put
+invariant_of-self-then-not-put c =
     let r = c.rewind.new.self in
     let store : IsStore r.held.vars c.put.new.places c.put.new.lists c.put.new.kept.items c.put.new.tight.items =
     store_read c.vars.result r.held.vars c.vars.ensures refl refl refl refl c.put.ensures.store in
