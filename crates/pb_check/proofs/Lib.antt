@@ -8,9 +8,11 @@ pub mod Writing
 pub mod TurnLemmas
 pub mod NextLines
 pub mod Takes
+pub mod Keeping
 pub mod BothStops
 pub mod StepRuns
 pub mod Places
 pub mod LineRuns
 pub mod Loading
 pub mod WholeRuns
+pub mod KeepingRuns

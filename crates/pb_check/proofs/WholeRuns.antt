@@ -106,7 +106,7 @@ walk_answer p x y cnf proof new c d answer w =
     subst (λ (rows : List CnfRow). WalksBy p rows (start_of (rows_of c)) answer) (ap (λ (r : Reader). rows_left r d) new.proof_new ∙ start_rows y d)
     (subst (λ (rows : List CnfRow). WalksBy p (rows_left proof d) (start_of rows) answer) (ap (λ (r : CnfReader). rows_left r.lines c) new.cnf_new ∙ start_rows x c) w)
 
-takes_new : (p : Problem) (x y : ℕ) (cnf cnf' : CnfReader) (proof proof' : Reader) (a b : DeskState) (P : List ℕ → List ℕ → List ℕ → List ℕ → Type 0) (Q : List ℕ → List ℕ → Type 0) → AreNew x y cnf proof
+pub takes_new : (p : Problem) (x y : ℕ) (cnf cnf' : CnfReader) (proof proof' : Reader) (a b : DeskState) (P : List ℕ → List ℕ → List ℕ → List ℕ → Type 0) (Q : List ℕ → List ℕ → Type 0) → AreNew x y cnf proof
     → ((c d c' d' : List ℕ) → P c d c' d' → Q c d) → ReadsBoth cnf.lines proof cnf'.lines proof' a b P → TakesBoth x y Q a b
 takes_new p x y cnf cnf' proof proof' a b P Q new gives reads =
     takes_both cnf.lines proof cnf'.lines proof' x y a b P Q (ap (λ (r : CnfReader). r.lines.slot) new.cnf_new) (ap (λ (r : Reader). r.slot) new.proof_new)
@@ -128,10 +128,10 @@ stops_walk (Refused file place e) p x y cnf cnf' proof proof' a b new stops = ta
 stops_walk (Limit file place which) p x y cnf cnf' proof proof' a b new stops = takes_walk p x y cnf cnf' proof proof' a b (Err (Limit file place which)) new stops
 
 -- the p line was read
-abbrev Started : CnfHead → CnfReader → CnfReader → List ℕ → List ℕ → List ℕ → List ℕ → Type 0
+abbrev pub Started : CnfHead → CnfReader → CnfReader → List ℕ → List ℕ → List ℕ → List ℕ → Type 0
 Started head cnf cnf' c d c' d' = (start_of (rows_left cnf.lines c) ≡ told head (symbols_left cnf' c')) × (d' ≡ d)
 
-started_with : (head : CnfHead) (cnf cnf' : CnfReader) (proof : Reader) (a b : DeskState) → cnf.lines.slot ≢ proof.slot → cnf'.lines.slot ≡ cnf.lines.slot → GivesHead head cnf cnf' a b
+pub started_with : (head : CnfHead) (cnf cnf' : CnfReader) (proof : Reader) (a b : DeskState) → cnf.lines.slot ≢ proof.slot → cnf'.lines.slot ≡ cnf.lines.slot → GivesHead head cnf cnf' a b
     → ReadsBoth cnf.lines proof cnf'.lines proof a b (Started head cnf cnf')
 started_with head cnf cnf' proof a b apart slot given =
     both_of_one cnf.lines cnf'.lines proof a b (λ text rest. start_of (rows_left cnf.lines text) ≡ told head (symbols_left cnf' rest)) (Started head cnf cnf') apart slot (λ c d c' h. (h, refl)) given

@@ -4,4 +4,5 @@ pub mod Walk
 pub mod WalkExamples
 pub mod Models
 pub mod Outcomes
+pub mod KeptClauses
 pub mod laws

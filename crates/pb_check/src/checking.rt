@@ -1,18 +1,21 @@
 //! Checking a derivation.
-ghost use Rattle.std.specs.Prelude.{◌≡◌, ◌≢◌, ◌<◌, IsTrue, Ok, Err, None, IfOk, IfErr};
+ghost use Rattle.std.specs.Prelude.{◌≡◌, ◌≢◌, ◌<◌, ◌^◌, [], true, IsTrue, Ok, Err, None, IfOk, IfErr};
 ghost use Rattle.pb_base.specs.Problems.{IsWithinLimits};
-ghost use Rattle.pb_desk.specs.Desk.{IsSteady};
+ghost use Rattle.pb_desk.specs.Desk.{IfTold, IsSteady};
 ghost use Rattle.pb_desk.specs.TwoSlots.{TakesBoth};
 ghost use Rattle.pb_norm.specs.Halves.{loaded_of};
 ghost use Rattle.pb_dimacs.specs.CnfRows.{cnf_limits};
 ghost use Rattle.pb_check.specs.Outcomes.{StopsCheck, NamesText};
 ghost use Rattle.pb_check.specs.Walk.{Walk};
 ghost use Rattle.pb_check.specs.laws.Calls.{AnswersLines, StopsLines, AnswersBehind, StopsBehind};
+ghost use Rattle.pb_check.specs.KeptClauses.{HasVars, IsKept, SaysClauses};
+ghost use Rattle.pb_check.specs.laws.Keeping.{KeepsLines};
 
 use crate::fault::{of_cnf, too_few_vars};
+use crate::kept::Kept;
 use crate::stages::{run_steps, take_count, take_head, take_rest};
 use crate::verdict::{CheckFault, Verdict};
-use pb_base::{MAX_FILE, MAX_LINE, MAX_LINES, Problem};
+use pb_base::{Clauses, MAX_FILE, MAX_LINE, MAX_LINES, Problem};
 use pb_desk::{Desk, LineLimits, LineReader};
 use pb_dimacs::{ClauseReader, CnfHead};
 use pb_norm::{Linears, load};
@@ -30,6 +33,7 @@ fn check_lines<D: Desk>(
     alloc: Global,
     desk: &mut D,
     cnf: &mut ClauseReader,
+    kept: &mut Kept,
     lines: &mut LineReader,
     db: &mut Database,
     loaded: u64,
@@ -41,6 +45,7 @@ fn check_lines<D: Desk>(
     requires cnf_open { IsTrue ((D.state desk.old).view.reading cnf.old.lines.slot) }
     requires cnf_fine { cnf.old.fault ≡ None }
     ensures verdict { IfOk result (λ v. AnswersLines v loaded cnf.old db.old lines.old cnf.new lines.new (D.state desk.old) (D.state desk.new)) }
+    ensures keeps { IfOk result (λ v. KeepsLines v kept.old cnf.old lines.old kept.new cnf.new lines.new (D.state desk.old) (D.state desk.new)) }
     ensures stopped { IfErr result (λ fault. StopsLines fault loaded cnf.old db.old lines.old cnf.new lines.new (D.state desk.old) (D.state desk.new)) }
     ensures named { IfErr result NamesText }
     ensures steady { IsSteady (D.state desk.old) → result ≢ Err CheckFault.ReadFault }
@@ -53,7 +58,7 @@ fn check_lines<D: Desk>(
         Ok(()) => {}
         Err(fault) => return Err(fault),
     }
-    let stopped = match run_steps(alloc, desk, cnf, lines, db) {
+    let stopped = match run_steps(alloc, desk, cnf, kept, lines, db) {
         Ok(stopped) => stopped,
         Err(fault) => return Err(fault),
     };
@@ -74,6 +79,7 @@ fn check_behind<D: Desk>(
     head: &CnfHead,
     desk: &mut D,
     cnf: &mut ClauseReader,
+    kept: &mut Kept,
     lines: &mut LineReader,
 ) -> Result<Verdict, CheckFault>
     requires within { IsWithinLimits problem.now }
@@ -87,6 +93,7 @@ fn check_behind<D: Desk>(
     requires cnf_open { IsTrue ((D.state desk.old).view.reading cnf.old.lines.slot) }
     requires cnf_fine { cnf.old.fault ≡ None }
     ensures verdict { IfOk result (λ v. AnswersBehind v problem.now head.now cnf.old lines.old cnf.new lines.new (D.state desk.old) (D.state desk.new)) }
+    ensures keeps { IfOk result (λ v. KeepsLines v kept.old cnf.old lines.old kept.new cnf.new lines.new (D.state desk.old) (D.state desk.new)) }
     ensures stopped { IfErr result (λ fault. StopsBehind fault problem.now head.now cnf.old lines.old cnf.new lines.new (D.state desk.old) (D.state desk.new)) }
     ensures named { IfErr result NamesText }
     ensures steady { IsSteady (D.state desk.old) → result ≢ Err CheckFault.ReadFault }
@@ -98,7 +105,62 @@ fn check_behind<D: Desk>(
         Ok(db) => db,
         Err(_) => return Err(CheckFault::NoMemory),
     };
-    check_lines(alloc, desk, cnf, lines, &mut db, loaded.len() as u64)
+    check_lines(alloc, desk, cnf, kept, lines, &mut db, loaded.len() as u64)
+}
+
+// Checks a derivation, and keeps the clauses of the CNF if they are wanted. Beside the verdict stands how many variables the CNF has.
+fn check_by<D: Desk>(
+    alloc: Global,
+    problem: &Problem,
+    desk: &mut D,
+    cnf: u8,
+    proof: u8,
+    kept: &mut Kept,
+) -> Result<(Verdict, u32), CheckFault>
+    requires within { IsWithinLimits problem.now }
+    requires cnf_kind { cnf < 4 }
+    requires proof_kind { proof < 4 }
+    requires apart { cnf ≢ proof }
+    requires cnf_open { IsTrue ((D.state desk.old).view.reading cnf) }
+    requires proof_open { IsTrue ((D.state desk.old).view.reading proof) }
+    requires nothing { kept.old.clauses ≡ [] }
+    ensures verdict { IfOk result (λ r. TakesBoth cnf proof (λ c d. Walk problem.now c d (Ok r.0)) (D.state desk.old) (D.state desk.new)) }
+    ensures few_vars { IfOk result (λ r. r.1 < 2 ^ 31) }
+    ensures vars { IfOk result (λ r. IfTold (D.state desk.old) (λ t. HasVars (t.left cnf) r.1)) }
+    ensures clauses { kept.old.wanted ≡ true → IfOk result (λ r. r.0 ≡ Verdict.Accepted → IfTold (D.state desk.old) (λ t. SaysClauses (t.left cnf) r.1 kept.new.clauses)) }
+    ensures stopped { IfErr result (StopsCheck problem.now cnf proof (D.state desk.old) (D.state desk.new)) }
+    ensures named { IfErr result NamesText }
+    ensures steady { IsSteady (D.state desk.old) → result ≢ Err CheckFault.ReadFault }
+{
+    let loaded = match load(alloc, problem) {
+        Ok(loaded) => loaded,
+        Err(_) => return Err(CheckFault::NoMemory),
+    };
+    let mut clauses = match ClauseReader::new(alloc, cnf) {
+        Ok(clauses) => clauses,
+        Err(_) => return Err(CheckFault::NoMemory),
+    };
+    let mut lines = match LineReader::new(alloc, proof, LIMITS) {
+        Ok(lines) => lines,
+        Err(_) => return Err(CheckFault::NoMemory),
+    };
+    let head = match clauses.head(desk) {
+        Ok(head) => head,
+        Err(fault) => return Err(of_cnf(fault)),
+    };
+    match check_behind(
+        alloc,
+        problem,
+        &loaded,
+        &head,
+        desk,
+        &mut clauses,
+        kept,
+        &mut lines,
+    ) {
+        Ok(verdict) => Ok((verdict, head.vars)),
+        Err(fault) => Err(fault),
+    }
 }
 
 /// Checks a derivation for a problem and a CNF, which two open slots have, each from its first byte on. Of both texts nothing is kept but a line, a clause and
@@ -121,28 +183,41 @@ pub fn check<D: Desk>(
     ensures named { IfErr result NamesText }
     ensures steady { IsSteady (D.state desk.old) → result ≢ Err CheckFault.ReadFault }
 {
-    let loaded = match load(alloc, problem) {
-        Ok(loaded) => loaded,
-        Err(_) => return Err(CheckFault::NoMemory),
+    let mut kept = Kept::nothing(alloc);
+    match check_by(alloc, problem, desk, cnf, proof, &mut kept) {
+        Ok((verdict, _)) => Ok(verdict),
+        Err(fault) => Err(fault),
+    }
+}
+
+/// Checks as `check` does. Beside the verdict stands how many variables the CNF has, and, where the derivation is accepted, all clauses of the CNF, in order.
+pub fn check_kept<D: Desk>(
+    alloc: Global,
+    problem: &Problem,
+    desk: &mut D,
+    cnf: u8,
+    proof: u8,
+) -> Result<(Verdict, u32, Clauses), CheckFault>
+    requires within { IsWithinLimits problem.now }
+    requires cnf_kind { cnf < 4 }
+    requires proof_kind { proof < 4 }
+    requires apart { cnf ≢ proof }
+    requires cnf_open { IsTrue ((D.state desk.old).view.reading cnf) }
+    requires proof_open { IsTrue ((D.state desk.old).view.reading proof) }
+    ensures verdict { IfOk result (λ r. TakesBoth cnf proof (λ c d. Walk problem.now c d (Ok r.0)) (D.state desk.old) (D.state desk.new)) }
+    ensures few_vars { IfOk result (λ r. r.1 < 2 ^ 31) }
+    ensures kept { IfOk result (λ r. IfTold (D.state desk.old) (λ t. IsKept r.0 (t.left cnf) r.1 r.2)) }
+    ensures stopped { IfErr result (StopsCheck problem.now cnf proof (D.state desk.old) (D.state desk.new)) }
+    ensures named { IfErr result NamesText }
+    ensures steady { IsSteady (D.state desk.old) → result ≢ Err CheckFault.ReadFault }
+{
+    let mut kept = Kept::all(alloc);
+    let (verdict, vars) = match check_by(alloc, problem, desk, cnf, proof, &mut kept) {
+        Ok(found) => found,
+        Err(fault) => return Err(fault),
     };
-    let mut clauses = match ClauseReader::new(alloc, cnf) {
-        Ok(clauses) => clauses,
-        Err(_) => return Err(CheckFault::NoMemory),
-    };
-    let mut lines = match LineReader::new(alloc, proof, LIMITS) {
-        Ok(lines) => lines,
-        Err(_) => return Err(CheckFault::NoMemory),
-    };
-    match clauses.head(desk) {
-        Ok(head) => check_behind(
-            alloc,
-            problem,
-            &loaded,
-            &head,
-            desk,
-            &mut clauses,
-            &mut lines,
-        ),
-        Err(fault) => Err(of_cnf(fault)),
+    match verdict {
+        Verdict::Accepted => Ok((verdict, vars, kept.clauses)),
+        Verdict::Rejected { .. } => Ok((verdict, vars, Clauses::new(alloc))),
     }
 }

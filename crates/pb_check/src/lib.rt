@@ -3,13 +3,14 @@
 
 mod checking;
 mod fault;
+mod kept;
 mod laws;
 mod reading;
 mod stages;
 mod taking;
 mod verdict;
 
-pub use checking::check;
+pub use checking::{check, check_kept};
 pub use laws::{
     accepted_cnf_extends, runs_are_accepted, walk_has_one_answer, written_runs_are_accepted,
 };

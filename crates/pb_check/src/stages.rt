@@ -7,8 +7,10 @@ ghost use Rattle.pb_dimacs.specs.Cursors.{GoesOn};
 ghost use Rattle.pb_check.specs.Turns.Stage.{head_wanted, ended};
 ghost use Rattle.pb_check.specs.Outcomes.{NamesText};
 ghost use Rattle.pb_check.specs.laws.Calls.{StopsStage, TakesHead, TakesCount, StopsCount, TakesLine, TakesSteps, StopsSteps, TakesRest};
+ghost use Rattle.pb_check.specs.laws.Keeping.{KeepsLine, KeepsSteps};
 
 use crate::fault::{ended, miscounted, misplaced};
+use crate::kept::Kept;
 use crate::reading::next_step;
 use crate::taking::{Taken, take_step};
 use crate::verdict::{CheckFault, Verdict};
@@ -89,6 +91,7 @@ fn take_line<D: Desk>(
     alloc: Global,
     desk: &mut D,
     cnf: &mut ClauseReader,
+    kept: &mut Kept,
     lines: &mut LineReader,
     db: &mut Database,
 ) -> Result<Taken, CheckFault>
@@ -104,6 +107,7 @@ fn take_line<D: Desk>(
     ensures further { OnOk result (lines.old.number < lines.new.number) }
     ensures few { OnOk result (lines.new.number ≤ 2 ^ 40) }
     ensures gives { IfOk result (λ got. TakesLine got cnf.old db.old lines.old cnf.new db.new lines.new (D.state desk.old) (D.state desk.new)) }
+    ensures keeps { IfOk result (λ got. KeepsLine got kept.old cnf.old lines.old kept.new cnf.new lines.new (D.state desk.old) (D.state desk.new)) }
     ensures stopped { IfErr result (λ fault. StopsSteps fault cnf.old db.old lines.old cnf.new lines.new (D.state desk.old) (D.state desk.new)) }
     ensures named { IfErr result NamesText }
     ensures steady { IsSteady (D.state desk.old) → result ≢ Err CheckFault.ReadFault }
@@ -115,7 +119,7 @@ fn take_line<D: Desk>(
     let Some(step) = next else {
         return Err(ended(lines));
     };
-    take_step(desk, cnf, db, lines, &step)
+    take_step(desk, cnf, kept, db, lines, &step)
 }
 
 /// Takes steps up to the line that ends them, or to the first that is not allowed, which gives a verdict.
@@ -123,6 +127,7 @@ pub fn run_steps<D: Desk>(
     alloc: Global,
     desk: &mut D,
     cnf: &mut ClauseReader,
+    kept: &mut Kept,
     lines: &mut LineReader,
     db: &mut Database,
 ) -> Result<Option<Verdict>, CheckFault>
@@ -134,12 +139,13 @@ pub fn run_steps<D: Desk>(
     requires cnf_fine { cnf.old.fault ≡ None }
     ensures follows { OnOk result (GoesOn lines.old lines.new) }
     ensures steps { IfOk result (λ verdict. TakesSteps verdict cnf.old db.old lines.old cnf.new lines.new (D.state desk.old) (D.state desk.new)) }
+    ensures keeps { IfOk result (λ verdict. KeepsSteps verdict kept.old cnf.old lines.old kept.new cnf.new lines.new (D.state desk.old) (D.state desk.new)) }
     ensures stopped { IfErr result (λ fault. StopsSteps fault cnf.old db.old lines.old cnf.new lines.new (D.state desk.old) (D.state desk.new)) }
     ensures named { IfErr result NamesText }
     ensures steady { IsSteady (D.state desk.old) → result ≢ Err CheckFault.ReadFault }
 {
     'steps: loop {
-        match take_line(alloc, desk, cnf, lines, db) {
+        match take_line(alloc, desk, cnf, kept, lines, db) {
             Ok(Taken::On) => {}
             Ok(Taken::Last) => return Ok(None),
             Ok(Taken::Denied(denied)) => {

@@ -6,8 +6,10 @@ ghost use Rattle.pb_steps.specs.Steps.{IsRule, IsSpelled};
 ghost use Rattle.pb_check.specs.Outcomes.{NamesText};
 ghost use Rattle.pb_check.specs.laws.Calls.{PutsOut, StopsOut, EndsSteps, StopsEnd, TakesStep, StopsStep};
 ghost use Rattle.pb_check.specs.laws.Judging.{IsJudged};
+ghost use Rattle.pb_check.specs.laws.Keeping.{KeepsNext};
 
 use crate::fault::{misplaced, of_cnf};
+use crate::kept::Kept;
 use crate::verdict::CheckFault;
 use pb_base::{Clause, Expected, NoMemory};
 use pb_desk::{Desk, LineReader};
@@ -39,10 +41,11 @@ fn judge(db: &mut Database, step: &Step, next: Option<&Clause>) -> Result<Taken,
     }
 }
 
-// Puts a constraint out as the next clause.
+// Puts a constraint out as the next clause, which is kept if that is wanted.
 fn put_out<D: Desk>(
     desk: &mut D,
     cnf: &mut ClauseReader,
+    kept: &mut Kept,
     db: &mut Database,
     id: u64,
 ) -> Result<Taken, CheckFault>
@@ -53,6 +56,7 @@ fn put_out<D: Desk>(
     ensures vars { cnf.new.vars ≡ cnf.old.vars }
     ensures slot { cnf.new.lines.slot ≡ cnf.old.lines.slot }
     ensures gives { IfOk result (λ got. PutsOut got id cnf.old db.old cnf.new db.new (D.state desk.old) (D.state desk.new)) }
+    ensures keeps { IfOk result (λ got. KeepsNext got kept.old cnf.old kept.new cnf.new (D.state desk.old) (D.state desk.new)) }
     ensures stopped { IfErr result (λ fault. StopsOut fault id cnf.old db.old cnf.new (D.state desk.old) (D.state desk.new)) }
     ensures named { IfErr result NamesText }
     ensures steady { IsSteady (D.state desk.old) → result ≢ Err CheckFault.ReadFault }
@@ -61,8 +65,12 @@ fn put_out<D: Desk>(
         Ok(next) => next,
         Err(fault) => return Err(of_cnf(fault)),
     };
-    match judge(db, &Step::Out { id }, next.as_ref()) {
-        Ok(taken) => Ok(taken),
+    let taken = match judge(db, &Step::Out { id }, next.as_ref()) {
+        Ok(taken) => taken,
+        Err(_) => return Err(CheckFault::NoMemory),
+    };
+    match kept.keep(next) {
+        Ok(()) => Ok(taken),
         Err(_) => Err(CheckFault::NoMemory),
     }
 }
@@ -75,6 +83,7 @@ fn end_steps<D: Desk>(desk: &mut D, cnf: &mut ClauseReader) -> Result<Taken, Che
     ensures vars { cnf.new.vars ≡ cnf.old.vars }
     ensures slot { cnf.new.lines.slot ≡ cnf.old.lines.slot }
     ensures gives { IfOk result (λ got. EndsSteps got cnf.old cnf.new (D.state desk.old) (D.state desk.new)) }
+    ensures keeps { IfOk result (λ got. (k : Kept) → KeepsNext got k cnf.old k cnf.new (D.state desk.old) (D.state desk.new)) }
     ensures stopped { IfErr result (λ fault. StopsEnd fault cnf.old cnf.new (D.state desk.old) (D.state desk.new)) }
     ensures named { IfErr result NamesText }
     ensures steady { IsSteady (D.state desk.old) → result ≢ Err CheckFault.ReadFault }
@@ -90,6 +99,7 @@ fn end_steps<D: Desk>(desk: &mut D, cnf: &mut ClauseReader) -> Result<Taken, Che
 pub fn take_step<D: Desk>(
     desk: &mut D,
     cnf: &mut ClauseReader,
+    kept: &mut Kept,
     db: &mut Database,
     lines: &LineReader,
     step: &Step,
@@ -101,6 +111,7 @@ pub fn take_step<D: Desk>(
     ensures vars { cnf.new.vars ≡ cnf.old.vars }
     ensures slot { cnf.new.lines.slot ≡ cnf.old.lines.slot }
     ensures gives { IfOk result (λ got. TakesStep got step.now lines.now cnf.old db.old cnf.new db.new (D.state desk.old) (D.state desk.new)) }
+    ensures keeps { IfOk result (λ got. KeepsNext got kept.old cnf.old kept.new cnf.new (D.state desk.old) (D.state desk.new)) }
     ensures stopped { IfErr result (λ fault. StopsStep fault step.now lines.now cnf.old db.old cnf.new (D.state desk.old) (D.state desk.new)) }
     ensures named { IfErr result NamesText }
     ensures steady { IsSteady (D.state desk.old) → result ≢ Err CheckFault.ReadFault }
@@ -109,7 +120,7 @@ pub fn take_step<D: Desk>(
         Step::Blank => Ok(Taken::On),
         Step::Head => Err(misplaced(lines, Expected::StepWord)),
         Step::Loaded { .. } => Err(misplaced(lines, Expected::StepWord)),
-        Step::Out { id } => put_out(desk, cnf, db, *id),
+        Step::Out { id } => put_out(desk, cnf, kept, db, *id),
         Step::End => end_steps(desk, cnf),
         _ => match judge(db, step, None) {
             Ok(taken) => Ok(taken),

@@ -1,7 +1,9 @@
-use Rattle.std.proofs.Common.{Option, subst}
+use Rattle.std.proofs.Common.{Option, None, subst}
 use Rattle.pb_check.specs.declared.verdict.Verdict.{Verdict}
 use Rattle.pb_desk.specs.TwoSlots.{ReadsBoth}
 use Rattle.pb_check.specs.laws.Phases.{StepsGive}
+use Rattle.pb_check.specs.laws.Keeping.{KeepsSteps, KeptAll, KeptSoFar, Tells}
+use Rattle.pb_check.proofs.KeepingRuns.{before, behind, waits, waits_then}
 use Rattle.pb_check.proofs.LineRuns.{begun, ready, head_fault, count_fault, steps_fault, steps_verdict, done, rest_verdict, rest_fault, apart_then}
 use Rattle.pb_check.proofs.checking.check_lines.Goals as goal
 
@@ -88,3 +90,43 @@ returns-in-Err-take_rest-clause-stopped g c =
     let third = done cnf cnf' c.args.db.now c.args.loaded l0 l2 l3 a d e second
     (subst (λ (o : Option Verdict). ReadsBoth cnf.lines l2 cnf'.lines l3 d e (λ x y x' y'. StepsGive o cnf c.args.db.now l2 l3 x y y')) c.in_default.is c.in-Ok-run_steps.ensures.steps) in
     rest_fault c.in-Err-take_rest.fault cnf cnf' c.args.db.now c.args.loaded l0 l3 c.take_rest.new.lines a e (g.D.Desk.state c.take_rest.new.desk) (apart_then cnf.lines l0 cnf'.lines l3 a e _ third) c.in-Err-take_rest.ensures.slot third c.in-Err-take_rest.ensures.stopped
+
+pub returns-in-Some-clause-keeps : goal.returns-in-Some-clause-keeps
+returns-in-Some-clause-keeps g c =
+    let l0 = c.args.lines.now in
+    let l1 = c.take_head.new.lines in
+    let l2 = c.take_count.new.lines in
+    let l3 = c.run_steps.new.lines in
+    let r = c.args.cnf.now in
+    let r' = c.run_steps.new.cnf in
+    let k = c.args.kept.now in
+    let k' = c.run_steps.new.kept in
+    let a = g.D.Desk.state c.args.desk.now in
+    let b = g.D.Desk.state c.take_head.new.desk in
+    let d = g.D.Desk.state c.take_count.new.desk in
+    let e = g.D.Desk.state c.run_steps.new.desk in
+    let head = waits r.lines l0 l1 a b _ c.requires.apart c.in-Ok.ensures.slot c.in-Ok.ensures.leads in
+    let count = waits_then r.lines l0 l1 l2 a b d head (waits r.lines l1 l2 b d _ (apart_then r.lines l0 r.lines l1 a b _ head) c.in-Ok-take_count.ensures.slot c.in-Ok-take_count.ensures.leads) in
+    behind r.lines r'.lines l0 l2 l3 a d e (λ x x'. KeptAll c.in-Some.verdict k r k' x) count
+    (subst (λ (o : Option Verdict). KeepsSteps o k r l2 k' r' l3 d e) c.in-Some.is c.in-Ok-run_steps.ensures.keeps)
+
+pub returns-in-Ok-take_rest-clause-keeps : goal.returns-in-Ok-take_rest-clause-keeps
+returns-in-Ok-take_rest-clause-keeps g c =
+    let l0 = c.args.lines.now in
+    let l1 = c.take_head.new.lines in
+    let l2 = c.take_count.new.lines in
+    let l3 = c.run_steps.new.lines in
+    let r = c.args.cnf.now in
+    let r' = c.run_steps.new.cnf in
+    let k = c.args.kept.now in
+    let k' = c.run_steps.new.kept in
+    let a = g.D.Desk.state c.args.desk.now in
+    let b = g.D.Desk.state c.take_head.new.desk in
+    let d = g.D.Desk.state c.take_count.new.desk in
+    let e = g.D.Desk.state c.run_steps.new.desk in
+    let head = waits r.lines l0 l1 a b _ c.requires.apart c.in-Ok.ensures.slot c.in-Ok.ensures.leads in
+    let count = waits_then r.lines l0 l1 l2 a b d head (waits r.lines l1 l2 b d _ (apart_then r.lines l0 r.lines l1 a b _ head) c.in-Ok-take_count.ensures.slot c.in-Ok-take_count.ensures.leads) in
+    let steps = behind r.lines r'.lines l0 l2 l3 a d e (λ x x'. Tells k r x k'.clauses) count
+    (subst (λ (o : Option Verdict). KeepsSteps o k r l2 k' r' l3 d e) c.in_default.is c.in-Ok-run_steps.ensures.keeps) in
+    before r.lines r'.lines l0 l3 c.take_rest.new.lines a e (g.D.Desk.state c.take_rest.new.desk) (λ x. Tells k r x k'.clauses) steps
+    (waits r'.lines l3 c.take_rest.new.lines e (g.D.Desk.state c.take_rest.new.desk) _ (apart_then r.lines l0 r'.lines l3 a e _ steps) c.in-Ok-take_rest.ensures.slot c.in-Ok-take_rest.ensures.ends)

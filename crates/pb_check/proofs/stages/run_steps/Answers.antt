@@ -2,9 +2,11 @@ use Rattle.std.proofs.Common.{refl, ◌∙◌, subst}
 use Rattle.pb_desk.specs.TwoSlots.{ReadsBoth}
 use Rattle.pb_check.specs.declared.taking.Taken.{Taken}
 use Rattle.pb_check.specs.declared.taking.Taken.TheVariants as taken
+use Rattle.pb_check.specs.laws.Keeping.{KeepsLine}
 use Rattle.pb_check.specs.laws.Phases.{LineGives}
 use Rattle.pb_dimacs.proofs.CursorLemmas.{goes_then}
 use Rattle.pb_desk.proofs.BothSlots.{both_begin}
+use Rattle.pb_check.proofs.KeepingRuns.{none_kept, keeps_on, keeps_out, keeps_denied}
 use Rattle.pb_check.proofs.StepRuns.{runs_on, runs_out, runs_denied, runs_stop}
 use Rattle.pb_check.proofs.stages.run_steps.Goals as goal
 
@@ -17,6 +19,7 @@ steps-init g c =
       vars = refl;
       fine = c.requires.cnf_fine;
       reads = both_begin cnf.lines proof (g.D.Desk.state c.args.desk.now) (LineGives taken.On cnf c.args.db.now proof cnf c.args.db.now proof) c.requires.apart (λ t u task answer vars w. w);
+      keeps = none_kept c.args.kept.now cnf proof (g.D.Desk.state c.args.desk.now) c.requires.apart;
     }
 
 pub steps-preserved : goal.steps-preserved
@@ -32,6 +35,8 @@ steps-preserved g c =
       vars = c.in-Ok-On.ensures.cnf_vars ∙ c.steps.invariant.vars;
       fine = c.in-Ok-On.ensures.cnf_fine;
       reads = runs_on c.args.cnf.now cnf cnf' c.args.db.now c.steps.db c.take_line.new.db c.args.lines.now c.steps.lines c.take_line.new.lines a b d c.steps.invariant.vars c.steps.invariant.reads gives;
+      keeps = keeps_on c.args.kept.now c.steps.kept c.take_line.new.kept c.args.cnf.now cnf cnf' c.args.lines.now c.steps.lines c.take_line.new.lines a b d c.steps.invariant.keeps
+          (subst (λ (t : Taken). KeepsLine t c.steps.kept cnf c.steps.lines c.take_line.new.kept cnf' c.take_line.new.lines b d) c.in-Ok-On.field-0-is c.in-Ok-On.ensures.keeps);
     }
 
 pub returns-in-Ok-Last-clause-steps : goal.returns-in-Ok-Last-clause-steps
@@ -60,3 +65,22 @@ returns-in-Err-clause-stopped g c =
     let b = g.D.Desk.state c.steps.desk in
     let d = g.D.Desk.state c.take_line.new.desk in
     runs_stop c.in-Err.fault c.args.cnf.now c.steps.cnf c.take_line.new.cnf c.args.db.now c.steps.db c.args.lines.now c.steps.lines c.take_line.new.lines a b d c.steps.invariant.vars c.steps.invariant.reads c.in-Err.ensures.stopped
+
+pub returns-in-Ok-Last-clause-keeps : goal.returns-in-Ok-Last-clause-keeps
+returns-in-Ok-Last-clause-keeps g c =
+    let a = g.D.Desk.state c.args.desk.now in
+    let b = g.D.Desk.state c.steps.desk in
+    let d = g.D.Desk.state c.take_line.new.desk in
+    let cnf = c.steps.cnf in
+    let cnf' = c.take_line.new.cnf in
+    keeps_out c.args.kept.now c.steps.kept c.take_line.new.kept c.args.cnf.now cnf cnf' c.args.lines.now c.steps.lines c.take_line.new.lines a b d c.steps.invariant.keeps
+    (subst (λ (t : Taken). KeepsLine t c.steps.kept cnf c.steps.lines c.take_line.new.kept cnf' c.take_line.new.lines b d) c.in-Ok-Last.field-0-is c.in-Ok-Last.ensures.keeps)
+
+pub returns-in-Ok-Denied-clause-keeps : goal.returns-in-Ok-Denied-clause-keeps
+returns-in-Ok-Denied-clause-keeps g c =
+    let a = g.D.Desk.state c.args.desk.now in
+    let b = g.D.Desk.state c.steps.desk in
+    let d = g.D.Desk.state c.take_line.new.desk in
+    let cnf = c.steps.cnf in
+    let cnf' = c.take_line.new.cnf in
+    keeps_denied _ c.args.kept.now c.steps.kept c.take_line.new.kept c.args.cnf.now cnf cnf' c.args.lines.now c.steps.lines c.take_line.new.lines a b d c.steps.invariant.keeps c.in-Ok-Denied.ensures.keeps

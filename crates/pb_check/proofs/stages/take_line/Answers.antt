@@ -5,6 +5,8 @@ use Rattle.pb_steps.specs.declared.step.Step.{Step}
 use Rattle.pb_check.specs.Turns.{Task, step_turn}
 use Rattle.pb_desk.specs.TwoSlots.{ReadsBoth}
 use Rattle.pb_check.specs.laws.Phases.{StopsOne, StopsBoth, NextSays, clauses_of, TurnGives, TurnStops, LineGives, StepsStop}
+use Rattle.pb_check.specs.laws.Keeping.{KeepsLine, KeepsNext}
+use Rattle.pb_check.proofs.KeepingRuns.{line_keeps}
 use Rattle.pb_check.proofs.Takes.{at_err, at_ok}
 use Rattle.pb_check.proofs.StepRuns.{took, line_gives, line_fault, line_missing, line_stop}
 use Rattle.pb_check.proofs.stages.take_line.Goals as goal
@@ -58,3 +60,20 @@ returns-clause-stopped g c =
     (λ f. StopsBoth f cnf.lines old cnf'.lines new a d (λ c p f. StepsStop cnf db old c p f))
     (λ f stops. line_stop f s cnf cnf' db old new a b d c.in-Ok.ensures.slot c.take_step.ensures.slot c.requires.apart line stops)
     c.take_step.ensures.stopped
+
+pub returns-clause-keeps : goal.returns-clause-keeps
+returns-clause-keeps g c =
+    let old = c.args.lines.now in
+    let new = c.next_step.new.lines in
+    let cnf = c.args.cnf.now in
+    let cnf' = c.take_step.new.cnf in
+    let k = c.args.kept.now in
+    let k' = c.take_step.new.kept in
+    let a = g.D.Desk.state c.args.desk.now in
+    let b = g.D.Desk.state c.next_step.new.desk in
+    let d = g.D.Desk.state c.take_step.new.desk in
+    at_ok c.take_step.result
+    (λ got. KeepsNext got k cnf k' cnf' b d)
+    (λ got. KeepsLine got k cnf old k' cnf' new a d)
+    (λ got step. line_keeps got k k' cnf cnf' old new a b d _ c.requires.apart c.in-Ok.ensures.slot c.take_step.ensures.slot c.in-Ok.ensures.next step)
+    c.take_step.ensures.keeps

@@ -1,11 +1,23 @@
-use Rattle.std.proofs.Common.{List, Option, subst}
+use Rattle.std.proofs.Common.{List, Option, Ok, ap, subst}
 use Rattle.pb_base.specs.declared.literal.Lit.{Lit}
 use Rattle.pb_steps.specs.declared.step.Step.TheVariants.{Out}
 use Rattle.pb_check.specs.laws.Judging.{IsJudged}
+use Rattle.pb_check.proofs.Keeping.{by_taken, keeps_next}
+use Rattle.pb_check.proofs.KeepingRuns.{judged_not_last}
 use Rattle.pb_check.proofs.Takes.{out_given}
 use Rattle.pb_check.proofs.taking.put_out.Goals as goal
 
-pub returns-in-Ok-judge-clause-gives : goal.returns-in-Ok-judge-clause-gives
-returns-in-Ok-judge-clause-gives g c =
+pub returns-in-Ok-keep-clause-gives : goal.returns-in-Ok-keep-clause-gives
+returns-in-Ok-keep-clause-gives g c =
     out_given c.in-Ok.next c.in-Ok-judge.taken c.args.cnf.now c.next_clause.new.self (g.D.Desk.state c.args.desk.now) (g.D.Desk.state c.next_clause.new.desk) c.args.db.now c.judge.new.db c.args.id
     (c.in-Ok.ensures.next c.requires.fine) c.in-Ok.ensures.count (subst (λ (o : Option (List Lit)). IsJudged c.args.db.now (Out c.args.id) o c.judge.new.db c.in-Ok-judge.taken) c.as_ref.ensures.value c.in-Ok-judge.ensures)
+
+pub returns-in-Ok-keep-clause-keeps : goal.returns-in-Ok-keep-clause-keeps
+returns-in-Ok-keep-clause-keeps g c =
+    let r = c.args.cnf.now in
+    let new = c.next_clause.new.self in
+    let a = g.D.Desk.state c.args.desk.now in
+    let b = g.D.Desk.state c.next_clause.new.desk in
+    by_taken c.in-Ok-judge.taken c.args.kept.now c.keep.new.self r new a b
+    (judged_not_last c.args.db.now c.judge.new.db (Out c.args.id) _ c.in-Ok-judge.taken c.in-Ok-judge.ensures)
+    (keeps_next c.in-Ok.next c.args.kept.now c.keep.new.self r new a b (c.in-Ok.ensures.next c.requires.fine) c.in-Ok.ensures.count (λ is. c.in-Ok.ensures.none (ap Ok is)) c.in-Ok.ensures.vars c.in-Ok-keep.ensures)

@@ -1,4 +1,4 @@
-use Rattle.std.proofs.Common.{◌≡◌, ℕ, refl, sym, subst}
+use Rattle.std.proofs.Common.{◌≡◌, ℕ, None, refl, sym, subst}
 use Rattle.pb_base.specs.declared.expected.Expected.TheVariants.{StepWord}
 use Rattle.pb_desk.proofs.ReadLemmas.{reads_begin}
 use Rattle.pb_steps.specs.declared.step.Step.{Step}
@@ -7,7 +7,11 @@ use Rattle.pb_check.specs.Turns.{Task, step_turn, at_out, at_end, next_in}
 use Rattle.pb_check.specs.Faults.{misplaced_line}
 use Rattle.pb_check.specs.laws.Phases.{StopsOne, clauses_of, TurnGives, TurnStops}
 use Rattle.pb_check.proofs.NextLines.{stops_weaker}
-use Rattle.pb_check.proofs.Takes.{rule_given, misplaced_stops, at_err}
+use Rattle.pb_check.specs.declared.kept.Kept.{Kept}
+use Rattle.pb_check.specs.laws.Keeping.{KeepsNext}
+use Rattle.pb_check.proofs.Keeping.{rule_keeps}
+use Rattle.pb_check.proofs.KeepingRuns.{judged_not_last}
+use Rattle.pb_check.proofs.Takes.{rule_given, misplaced_stops, at_err, at_ok}
 use Rattle.pb_check.proofs.taking.take_step.Goals as goal
 
 pub returns-in-Blank-clause-gives : goal.returns-in-Blank-clause-gives
@@ -82,3 +86,18 @@ returns-in-Ok-clause-gives g c =
     reads_begin r.lines.slot r.lines.ahead (g.D.Desk.state c.args.desk.now)
     (λ text rest. (task : Task) → task.vars ≡ r.vars → TurnGives c.in-Ok.taken task n (step_turn task c.args.db.now (clauses_of r text) n line c.args.step.now) c.judge.new.db (clauses_of r rest))
     (λ text task vars. rule_given c.args.step.now c.in-Ok.taken task n line c.args.db.now c.judge.new.db r text c.in_default.not-Blank c.in_default.not-Head c.in_default.not-Loaded c.in_default.not-Out c.in_default.not-End c.in-Ok.ensures)
+
+pub returns-in-Blank-clause-keeps : goal.returns-in-Blank-clause-keeps
+returns-in-Blank-clause-keeps g c = rule_keeps On c.args.kept.now c.args.cnf.now (g.D.Desk.state c.args.desk.now) (λ e. cc)
+
+pub returns-in-End-clause-keeps : goal.returns-in-End-clause-keeps
+returns-in-End-clause-keeps g c =
+    let r = c.args.cnf.now in
+    let new = c.end_steps.new.cnf in
+    let a = g.D.Desk.state c.args.desk.now in
+    let b = g.D.Desk.state c.end_steps.new.desk in
+    at_ok c.end_steps.result (λ got. (k : Kept) → KeepsNext got k r k new a b) (λ got. KeepsNext got c.args.kept.now r c.args.kept.now new a b) (λ got keeps. keeps c.args.kept.now) c.end_steps.ensures.keeps
+
+pub returns-in-Ok-clause-keeps : goal.returns-in-Ok-clause-keeps
+returns-in-Ok-clause-keeps g c =
+    rule_keeps c.in-Ok.taken c.args.kept.now c.args.cnf.now (g.D.Desk.state c.args.desk.now) (judged_not_last c.args.db.now c.judge.new.db c.args.step.now None c.in-Ok.taken c.in-Ok.ensures)

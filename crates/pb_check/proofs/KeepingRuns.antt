@@ -1,0 +1,129 @@
+-- What is kept from line to line, and of both texts from their first bytes on.
+use Rattle.std.proofs.Common.{◌≡◌, ℕ, true, List, [], ◌++◌, Option, Some, None, refl, sym, ap, ◌∙◌, subst}
+use Rattle.std.specs.Prelude.{◌≢◌, IfSome}
+use Rattle.pb_desk.specs.View.{Told}
+use Rattle.pb_base.specs.declared.literal.Lit.{Lit}
+use Rattle.pb_base.specs.declared.problem.Problem.{Problem}
+use Rattle.pb_desk.specs.Desk.{DeskState, IfTold}
+use Rattle.pb_desk.specs.LineReading.{TakesAhead}
+use Rattle.pb_desk.specs.LineReaders.{Reader}
+use Rattle.pb_desk.specs.TwoSlots.{ReadsBoth, TakesBoth}
+use Rattle.pb_desk.proofs.BothSlots.{both_begin, both_of_one, both_of_two, both_then, both_weaker}
+use Rattle.pb_dimacs.specs.declared.head.CnfHead.{CnfHead}
+use Rattle.pb_dimacs.specs.CnfReaders.{CnfReader, new_reader, symbols_left, GivesHead}
+use Rattle.pb_dimacs.specs.CnfRows.{CnfRow, rows_of}
+use Rattle.pb_dimacs.specs.CnfSymbols.{start_of}
+use Rattle.pb_dimacs.specs.CnfSymbols.Start.{told}
+use Rattle.pb_dimacs.specs.CnfWhole.{told_after, told_from, told_of}
+use Rattle.pb_dimacs.specs.CnfWhole.CnfTold.{says}
+use Rattle.pb_dimacs.specs.Cursors.{rows_left}
+use Rattle.pb_dimacs.proofs.FormLemmas.{start_rows}
+use Rattle.pb_steps.specs.declared.step.Step.{Step}
+use Rattle.pb_steps.specs.Database.{Database}
+use Rattle.pb_steps.specs.declared.denied.Denied.{Denied}
+use Rattle.pb_check.specs.declared.kept.Kept.{Kept}
+use Rattle.pb_check.specs.declared.taking.Taken.{Taken}
+use Rattle.pb_check.specs.declared.taking.Taken.TheVariants as taken
+use Rattle.pb_check.specs.declared.verdict.Verdict.{Verdict}
+use Rattle.pb_check.specs.declared.verdict.Verdict.TheVariants.{Accepted, Rejected}
+use Rattle.pb_check.specs.KeptClauses.{HasVars, IsKept, SaysClauses}
+use Rattle.pb_check.specs.laws.Judging.{IsJudged}
+use Rattle.pb_check.specs.laws.Keeping.{Completes, Tells, Keeps, KeepsNext, KeepsLine, KeepsLines, KeptAll}
+use Rattle.pb_check.proofs.WholeRuns.{AreNew, apart_new, takes_new, started_with, Started}
+
+-- a rule is no last line
+pub judged_not_last : (db db' : Database) (s : Step) (next : Option (List Lit)) (t : Taken) → IsJudged db s next db' t → t ≢ taken.Last
+judged_not_last db db' s next taken.On judged e = cc
+judged_not_last db db' s next taken.Last judged e = judged
+judged_not_last db db' s next (taken.Denied d) judged e = cc
+
+-- ---- the other reader goes on, and nothing moves in the CNF
+
+pub waits : (r : Reader) (l l' : Reader) (a b : DeskState) (P : List ℕ → List ℕ → Type 0) → r.slot ≢ l.slot → l'.slot ≡ l.slot → TakesAhead l.slot l.ahead l'.ahead a b P → ReadsBoth r l r l' a b (λ c p c' p'. c' ≡ c)
+waits r l l' a b P apart slot reads = both_of_two r l l' a b P (λ c p c' p'. c' ≡ c) apart slot (λ c p p' h. refl) reads
+
+pub waits_then : (r l0 l1 l2 : Reader) (a b d : DeskState) → ReadsBoth r l0 r l1 a b (λ c p c' p'. c' ≡ c) → ReadsBoth r l1 r l2 b d (λ c p c' p'. c' ≡ c) → ReadsBoth r l0 r l2 a d (λ c p c' p'. c' ≡ c)
+waits_then r l0 l1 l2 a b d first second =
+    both_then r l0 r l1 r l2 a b d (λ c p c' p'. c' ≡ c) (λ c p c' p'. c' ≡ c) (λ c p c' p'. c' ≡ c) (λ t0 u0 t1 u1 t2 u2 p q. q ∙ p) first second
+
+-- what is said from there on of what is left of the CNF, also from here on
+pub behind : (r r' l0 l1 l2 : Reader) (a b d : DeskState) (Q : List ℕ → List ℕ → Type 0) → ReadsBoth r l0 r l1 a b (λ c p c' p'. c' ≡ c) → ReadsBoth r l1 r' l2 b d (λ c p c' p'. Q c c') → ReadsBoth r l0 r' l2 a d (λ c p c' p'. Q c c')
+behind r r' l0 l1 l2 a b d Q first second =
+    both_then r l0 r l1 r' l2 a b d (λ c p c' p'. c' ≡ c) (λ c p c' p'. Q c c') (λ c p c' p'. Q c c') (λ t0 u0 t1 u1 t2 u2 p q. subst (λ (x : List ℕ). Q x t2) p q) first second
+
+pub before : (r r' l0 l1 l2 : Reader) (a b d : DeskState) (Q : List ℕ → Type 0) → ReadsBoth r l0 r' l1 a b (λ c p c' p'. Q c) → ReadsBoth r' l1 r' l2 b d (λ c p c' p'. c' ≡ c) → ReadsBoth r l0 r' l2 a d (λ c p c' p'. Q c)
+before r r' l0 l1 l2 a b d Q first second =
+    both_then r l0 r' l1 r' l2 a b d (λ c p c' p'. Q c) (λ c p c' p'. c' ≡ c) (λ c p c' p'. Q c) (λ t0 u0 t1 u1 t2 u2 p q. p) first second
+
+-- ---- lines among the steps
+
+pub line_keeps : (t : Taken) (k k' : Kept) (r r' : CnfReader) (l l' : Reader) (a b d : DeskState) (P : List ℕ → List ℕ → Type 0) → r.lines.slot ≢ l.slot → l'.slot ≡ l.slot → r'.lines.slot ≡ r.lines.slot
+    → TakesAhead l.slot l.ahead l'.ahead a b P → KeepsNext t k r k' r' b d → KeepsLine t k r l k' r' l' a d
+line_keeps t k k' r r' l l' a b d P apart slot slot' line step =
+    behind r.lines r'.lines l l' l' a b d (Keeps t k r k' r') (waits r.lines l l' a b P apart slot line)
+    (both_of_one r.lines r'.lines l' b d (Keeps t k r k' r') (λ c p c' p'. Keeps t k r k' r' c c') (λ e. apart (e ∙ slot)) slot' (λ c p c' h. h) step)
+
+pub none_kept : (k : Kept) (r : CnfReader) (l : Reader) (a : DeskState) → r.lines.slot ≢ l.slot → KeepsLine taken.On k r l k r l a a
+none_kept k r l a apart = both_begin r.lines l a (λ c p c' p'. Keeps taken.On k r k r c c') apart (λ t u. (refl, λ all tells. tells))
+
+pub keeps_on : (k k' k'' : Kept) (r r' r'' : CnfReader) (l l' l'' : Reader) (a b d : DeskState) → KeepsLine taken.On k r l k' r' l' a b → KeepsLine taken.On k' r' l' k'' r'' l'' b d → KeepsLine taken.On k r l k'' r'' l'' a d
+keeps_on k k' k'' r r' r'' l l' l'' a b d first second =
+    both_then r.lines l r'.lines l' r''.lines l'' a b d (λ c p c' p'. Keeps taken.On k r k' r' c c') (λ c p c' p'. Keeps taken.On k' r' k'' r'' c c') (λ c p c' p'. Keeps taken.On k r k'' r'' c c')
+    (λ t0 u0 t1 u1 t2 u2 p q. (q.0 ∙ p.0, λ all tells. p.1 all (q.1 all tells))) first second
+
+pub keeps_out : (k k' k'' : Kept) (r r' r'' : CnfReader) (l l' l'' : Reader) (a b d : DeskState) → KeepsLine taken.On k r l k' r' l' a b → KeepsLine taken.Last k' r' l' k'' r'' l'' b d → ReadsBoth r.lines l r''.lines l'' a d (λ c p c' p'. Tells k r c k''.clauses)
+keeps_out k k' k'' r r' r'' l l' l'' a b d first second =
+    both_then r.lines l r'.lines l' r''.lines l'' a b d (λ c p c' p'. Keeps taken.On k r k' r' c c') (λ c p c' p'. Keeps taken.Last k' r' k'' r'' c c') (λ c p c' p'. Tells k r c k''.clauses)
+    (λ t0 u0 t1 u1 t2 u2 p q. p.1 k''.clauses q) first second
+
+pub keeps_denied : (t : Taken) (k k' k'' : Kept) (r r' r'' : CnfReader) (l l' l'' : Reader) (a b d : DeskState) → KeepsLine taken.On k r l k' r' l' a b → KeepsLine t k' r' l' k'' r'' l'' b d → ReadsBoth r.lines l r''.lines l'' a d (λ c p c' p'. Unit {0})
+keeps_denied t k k' k'' r r' r'' l l' l'' a b d first second =
+    both_then r.lines l r'.lines l' r''.lines l'' a b d (λ c p c' p'. Keeps taken.On k r k' r' c c') (λ c p c' p'. Keeps t k' r' k'' r'' c c') (λ c p c' p'. Unit {0})
+    (λ t0 u0 t1 u1 t2 u2 p q. tt) first second
+
+-- ---- from the first byte of both texts on
+
+start_is : (x y : ℕ) (cnf : CnfReader) (proof : Reader) (head : CnfHead) (cnf' : CnfReader) (text rest : List ℕ) → AreNew x y cnf proof → start_of (rows_left cnf.lines text) ≡ told head (symbols_left cnf' rest) → start_of (rows_of text) ≡ told head (symbols_left cnf' rest)
+start_is x y cnf proof head cnf' text rest new start =
+    ap start_of (sym (ap (λ (r : CnfReader). rows_left r.lines text) new.cnf_new ∙ start_rows x text)) ∙ start
+
+pub vars_told : (p : Problem) (x y : ℕ) (cnf cnf' : CnfReader) (proof : Reader) (head : CnfHead) (a b : DeskState) → AreNew x y cnf proof → x ≢ y → cnf'.lines.slot ≡ cnf.lines.slot → GivesHead head cnf cnf' a b → IfTold a (λ t. HasVars (t.left x) head.vars)
+vars_told p x y cnf cnf' proof head a b new apart slot given =
+    let takes : TakesBoth x y (λ c d. HasVars c head.vars) a b =
+    takes_new p x y cnf cnf' proof proof a b (Started head cnf cnf') (λ c d. HasVars c head.vars) new
+    (λ c d c' d' started. record { head = head; behind = symbols_left cnf' c'; starts = start_is x y cnf proof head cnf' c c' new started.0; vars_are = refl })
+    (started_with head cnf cnf' proof a b (apart_new x y cnf proof new apart) slot given) in
+    takes.texts
+
+all_said : (head : CnfHead) (cnf' : CnfReader) (k k' : Kept) (text rest : List ℕ) → cnf'.vars ≡ head.vars → cnf'.left ≡ head.clauses → k.wanted ≡ true → k.clauses ≡ [] → start_of (rows_of text) ≡ told head (symbols_left cnf' rest)
+    → Tells k cnf' rest k'.clauses → SaysClauses text head.vars k'.clauses
+all_said head cnf' k k' text rest vars left wanted none start tells =
+    let whole = tells wanted in
+    let all : k'.clauses ≡ whole.later = whole.all_are ∙ ap (λ (cs : List (List Lit)). cs ++ whole.later) none in
+    record {
+      head = head;
+      says_all = ap told_after start ∙ ap (λ (n : ℕ). told_from head n (symbols_left cnf' rest)) (sym left) ∙ whole.tells head (sym vars) ∙ ap (says head) (sym all);
+      vars_are = refl;
+    }
+
+pub clauses_told : (p : Problem) (x y : ℕ) (cnf cnf' cnf'' : CnfReader) (proof proof' : Reader) (head : CnfHead) (k k' : Kept) (a b d : DeskState) → AreNew x y cnf proof → x ≢ y → cnf'.lines.slot ≡ cnf.lines.slot → cnf'.vars ≡ head.vars → cnf'.left ≡ head.clauses
+    → k.wanted ≡ true → k.clauses ≡ [] → GivesHead head cnf cnf' a b → KeepsLines Accepted k cnf' proof k' cnf'' proof' b d → IfTold a (λ t. SaysClauses (t.left x) head.vars k'.clauses)
+clauses_told p x y cnf cnf' cnf'' proof proof' head k k' a b d new apart slot vars left wanted none given keeps =
+    let takes : TakesBoth x y (λ c q. SaysClauses c head.vars k'.clauses) a d =
+    takes_new p x y cnf cnf'' proof proof' a d (λ c q c' q'. SaysClauses c head.vars k'.clauses) (λ c q. SaysClauses c head.vars k'.clauses) new (λ c q c' q' h. h)
+    (both_then cnf.lines proof cnf'.lines proof cnf''.lines proof' a b d (Started head cnf cnf') (λ c q c' q'. KeptAll Accepted k cnf' k' c) (λ c q c' q'. SaysClauses c head.vars k'.clauses)
+    (λ t0 u0 t1 u1 t2 u2 started tells. all_said head cnf' k k' t0 t1 vars left wanted none (start_is x y cnf proof head cnf' t0 t1 new started.0) tells)
+    (started_with head cnf cnf' proof a b (apart_new x y cnf proof new apart) slot given) keeps) in
+    takes.texts
+
+-- ---- by the verdict
+
+pub kept_all : (a : DeskState) (x : ℕ) (v : Verdict) (vars : ℕ) (clauses : List (List Lit)) → v ≡ Accepted → IfTold a (λ t. SaysClauses (t.left x) vars clauses) → IfTold a (λ t. IsKept v (t.left x) vars clauses)
+kept_all a x v vars clauses is holds = subst (λ (w : Verdict). IfTold a (λ t. IsKept w (t.left x) vars clauses)) (sym is) holds
+
+pub kept_none : (a : DeskState) (x : ℕ) (v : Verdict) (vars : ℕ) (clauses : List (List Lit)) (line : ℕ) (denied : Denied) → v ≡ Rejected line denied → clauses ≡ [] → IfTold a (λ t. HasVars (t.left x) vars) → IfTold a (λ t. IsKept v (t.left x) vars clauses)
+kept_none a x v vars clauses line denied is none has = subst (λ (w : Verdict). IfTold a (λ t. IsKept w (t.left x) vars clauses)) (sym is) (by_cases a.view.told has)
+  where
+    by_cases : (told : Option Told) → IfSome told (λ t. HasVars (t.left x) vars) → IfSome told (λ t. IsKept (Rejected line denied) (t.left x) vars clauses)
+    by_cases None has = tt
+    by_cases (Some t) has = (has, none)
