@@ -10,7 +10,7 @@ use Rattle.pb_choice.specs.declared.options.Options.{Options}
 use Rattle.pb_choice.specs.Defaults.{default_options}
 use Rattle.pb_base.specs.declared.literal.Lit.{Lit}
 use Rattle.pb_words.specs.Taken.{Wanted, taken_of}
-use Rattle.pb_words.specs.Taken.Wanted.{Encode, Check, Decode, Probe, Bench}
+use Rattle.pb_words.specs.Taken.Wanted.{Encode, Check, Decode, Probe, Bench, Refute}
 
 -- what a line asks for whose words stand between blanks
 abbrev said : Text → Option Wanted
@@ -127,6 +127,21 @@ a_text_as_its_model = refl
 three_texts : said (codes "pbcnf check a b c") ≡ check (codes "a") (codes "b") (codes "c")
 unfolding taken_of clap_on_literals
 three_texts = refl
+
+abbrev refute : Text → Text → Text → Text → Option Wanted
+refute opb cnf proof lrat = Some (Refute (record { opb = opb; cnf = cnf; proof = proof; lrat = lrat }))
+
+four_texts : said (codes "pbcnf refute a b c d") ≡ refute (codes "a") (codes "b") (codes "c") (codes "d")
+unfolding taken_of clap_on_literals
+four_texts = refl
+
+a_derivation_as_its_refutation : said (codes "pbcnf refute a b c c") ≡ None
+unfolding taken_of clap_on_literals
+a_derivation_as_its_refutation = refl
+
+three_of_four_texts : said (codes "pbcnf refute a b c") ≡ None
+unfolding taken_of clap_on_literals
+three_of_four_texts = refl
 
 texts_behind_dashes : said (codes "pbcnf check a -- --b -") ≡ check (codes "a") (codes "--b") (codes "-")
 unfolding taken_of clap_on_literals

@@ -4,7 +4,7 @@ use Rattle.std.specs.Option.{ForSome}
 use Rattle.pb_words.specs.BenchWords.{BenchWords}
 use Rattle.pb_words.specs.EncodeWords.{EncodeWords}
 use Rattle.pb_words.specs.Taken.{Wanted}
-use Rattle.pb_words.specs.Taken.Wanted.{Encode, Check, Decode, Probe, Bench}
+use Rattle.pb_words.specs.Taken.Wanted.{Encode, Check, Decode, Probe, Bench, Refute}
 
 -- different names, and a budget within its range
 pub record IsFitEncode (w : EncodeWords) : Type 0 where
@@ -24,3 +24,4 @@ IsFit (Check w) = Unit {0}
 IsFit (Decode w) = Unit {0}
 IsFit (Probe w) = Unit {0}
 IsFit (Bench w) = IsFitBench w
+IsFit (Refute w) = Unit {0}

@@ -8,5 +8,6 @@ pub mod CheckWords
 pub mod DecodeWords
 pub mod LitWords
 pub mod ProbeWords
+pub mod RefuteWords
 pub mod Taken
 pub mod Fit

@@ -11,11 +11,12 @@ use Rattle.pb_words.specs.BenchWords.{as_bench_words, bench_app, bench_in, Bench
 use Rattle.pb_words.specs.CheckWords.{as_check_words, check_app, check_in, CheckWords}
 use Rattle.pb_words.specs.DecodeWords.{as_decode_words, decode_app, decode_in, DecodeWords}
 use Rattle.pb_words.specs.ProbeWords.{as_probe_words, probe_app, probe_in, ProbeWords}
+use Rattle.pb_words.specs.RefuteWords.{as_refute_words, refute_app, refute_in, RefuteWords}
 use Rattle.pb_words.specs.Rules.{program_of}
 
 -- the commands
 abbrev pub program_app : App
-program_app = program_of (codes "pbcnf") (encode_app ∷ check_app ∷ decode_app ∷ probe_app ∷ bench_app ∷ [])
+program_app = program_of (codes "pbcnf") (encode_app ∷ check_app ∷ decode_app ∷ probe_app ∷ bench_app ∷ refute_app ∷ [])
 
 -- what is asked for
 pub data Wanted : Type 0 where
@@ -24,6 +25,7 @@ pub data Wanted : Type 0 where
   Decode : DecodeWords → Wanted
   Probe : ProbeWords → Wanted
   Bench : BenchWords → Wanted
+  Refute : RefuteWords → Wanted
 
 -- what the command of this name is asked for, to which these arguments were given
 abbrev pub wanted_in : Text → List Row → Option Wanted
@@ -32,7 +34,8 @@ wanted_in name given =
     else (if bytes_eq name (codes "check") then option_map Check (check_in given)
     else (if bytes_eq name (codes "decode") then option_map Decode (decode_in given)
     else (if bytes_eq name (codes "probe") then option_map Probe (probe_in given)
-    else (if bytes_eq name (codes "bench") then option_map Bench (bench_in given) else None))))
+    else (if bytes_eq name (codes "bench") then option_map Bench (bench_in given)
+    else (if bytes_eq name (codes "refute") then option_map Refute (refute_in given) else None)))))
 
 -- the same, of the command that was given
 abbrev pub wanted_by : Option (Text × List Row) → Option Wanted
@@ -55,6 +58,7 @@ wanted_as (request.Check c) = Check (as_check_words c)
 wanted_as (request.Decode d) = Decode (as_decode_words d)
 wanted_as (request.Probe p) = Probe (as_probe_words p)
 wanted_as (request.Bench b) = Bench (as_bench_words b)
+wanted_as (request.Refute r) = Refute (as_refute_words r)
 
 -- an answer gives what is asked for, and says `Usage` only where nothing is
 abbrev pub Tells : Option Wanted → Result Request WordsFault → Type 0

@@ -13,6 +13,7 @@ mod literal;
 mod options;
 mod probe;
 mod program;
+mod refute;
 mod request;
 
 pub use bench::Benching;
@@ -22,4 +23,5 @@ pub use encode::Encoding;
 pub use fault::WordsFault;
 pub use line::taken;
 pub use probe::Probing;
+pub use refute::Refuting;
 pub use request::Request;

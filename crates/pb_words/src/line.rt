@@ -6,8 +6,9 @@ ghost use Rattle.pb_words.specs.CheckWords.{check_in};
 ghost use Rattle.pb_words.specs.DecodeWords.{decode_in};
 ghost use Rattle.pb_words.specs.EncodeWords.{encode_in};
 ghost use Rattle.pb_words.specs.ProbeWords.{probe_in};
+ghost use Rattle.pb_words.specs.RefuteWords.{refute_in};
 ghost use Rattle.pb_words.specs.Taken.{taken_of, wanted_as, wanted_by, wanted_in, Tells};
-ghost use Rattle.pb_words.specs.Taken.Wanted.{Encode, Check, Decode, Probe, Bench};
+ghost use Rattle.pb_words.specs.Taken.Wanted.{Encode, Check, Decode, Probe, Bench, Refute};
 
 use crate::bench::benching_in;
 use crate::check::checking_in;
@@ -16,6 +17,7 @@ use crate::encode::encoding_in;
 use crate::fault::WordsFault;
 use crate::probe::probing_in;
 use crate::program::program;
+use crate::refute::refuting_in;
 use crate::request::Request;
 use clap::ArgMatches;
 use clap::error::ErrorKind;
@@ -71,6 +73,16 @@ fn bench_request<'a>(given: &ArgMatches<'a>) -> Result<Request<'a>, WordsFault>
     }
 }
 
+// What `refute` was asked for.
+fn refute_request<'a>(given: &ArgMatches<'a>) -> Result<Request<'a>, WordsFault>
+    ensures { Tells (option_map Refute (refute_in (rows_of (found_of given.now)))) result }
+{
+    match refuting_in(given) {
+        Some(refuting) => Ok(Request::Refute(refuting)),
+        None => Err(WordsFault::Usage),
+    }
+}
+
 // What a command of this name was asked for.
 fn request_in<'a>(
     alloc: Global,
@@ -85,6 +97,7 @@ fn request_in<'a>(
         "decode" => decode_request(given),
         "probe" => probe_request(alloc, given),
         "bench" => bench_request(given),
+        "refute" => refute_request(given),
         _ => Err(WordsFault::Usage),
     }
 }

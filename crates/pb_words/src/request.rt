@@ -4,6 +4,7 @@ use crate::check::Checking;
 use crate::decode::Decoding;
 use crate::encode::Encoding;
 use crate::probe::Probing;
+use crate::refute::Refuting;
 
 /// What the words ask for: one of the program's commands.
 #[derive(Debug, Drop)]
@@ -18,4 +19,6 @@ pub enum Request<'a> {
     Probe(Probing<'a>),
     /// Encode a generated problem.
     Bench(Benching<'a>),
+    /// Check a derivation and a refutation.
+    Refute(Refuting<'a>),
 }

@@ -6,6 +6,7 @@ use Rattle.pb_words.specs.CheckWords.{check_app}
 use Rattle.pb_words.specs.DecodeWords.{decode_app}
 use Rattle.pb_words.specs.EncodeWords.{encode_app}
 use Rattle.pb_words.specs.ProbeWords.{probe_app}
+use Rattle.pb_words.specs.RefuteWords.{refute_app}
 use Rattle.pb_words.specs.Rules.{bare_program}
 use Rattle.pb_words.proofs.CommandLemmas.{adds_command}
 use Rattle.pb_words.proofs.program.program.Goals as goal
@@ -20,4 +21,6 @@ returns c =
     let decode = adds_command with_check decode_app _ _ _ c.in_ok-subcommand-3.ensures check c.in_ok-command-3.ensures in
     let with_decode : App = with_subcommand with_check decode_app.top in
     let probe = adds_command with_decode probe_app _ _ _ c.in_ok-subcommand-4.ensures decode c.in_ok-command-4.ensures in
-    IfOk-weaker c.subcommand-5.result _ _ (λ new adds. adds_command (with_subcommand with_decode probe_app.top) bench_app _ _ _ adds probe c.in_ok-command-5.ensures) c.subcommand-5.ensures
+    let with_probe : App = with_subcommand with_decode probe_app.top in
+    let bench = adds_command with_probe bench_app _ _ _ c.in_ok-subcommand-5.ensures probe c.in_ok-command-5.ensures in
+    IfOk-weaker c.subcommand-6.result _ _ (λ new adds. adds_command (with_subcommand with_probe bench_app.top) refute_app _ _ _ adds bench c.in_ok-command-6.ensures) c.subcommand-6.ensures

@@ -1,0 +1,53 @@
+//! The words of `refute`.
+ghost use Rattle.std.specs.Prelude.{◌≡◌, IfOk, option_map, [], ◌∷◌};
+ghost use Rattle.clap.specs.Words.{found_of, rows_of};
+ghost use Rattle.pb_words.specs.Names.{are_different};
+ghost use Rattle.pb_words.specs.Rules.{IsCommand};
+ghost use Rattle.pb_words.specs.RefuteWords.{as_refute_words, refute_app, refute_in};
+
+use crate::argument::{name, word_of};
+use clap::{ArgMatches, Command};
+use std::alloc::{AllocError, Global};
+
+/// Check a derivation and a refutation of the CNF: the four files that are read.
+#[derive(Clone, Copy, PartialEq, Eq, Debug)]
+pub struct Refuting<'a> {
+    /// The name of the OPB file.
+    pub opb: &'a str,
+    /// The name of the CNF file, which is another.
+    pub cnf: &'a str,
+    /// The name of the derivation, which is a third.
+    pub proof: &'a str,
+    /// The name of the refutation, which is a fourth.
+    pub lrat: &'a str,
+}
+
+/// `refute OPB CNF PROOF LRAT`
+pub fn command<'a>(alloc: Global) -> Result<Command<'a>, AllocError>
+    ensures { IfOk result (IsCommand refute_app) }
+{
+    Command::new(alloc, "refute")
+        .arg(name(alloc, "opb"))?
+        .arg(name(alloc, "cnf"))?
+        .arg(name(alloc, "proof"))?
+        .arg(name(alloc, "lrat"))
+}
+
+/// What `refute` was asked for.
+pub fn refuting_in<'a>(given: &ArgMatches<'a>) -> Option<Refuting<'a>>
+    ensures { option_map as_refute_words result ≡ refute_in (rows_of (found_of given.now)) }
+{
+    let opb = word_of(given, "opb")?;
+    let cnf = word_of(given, "cnf")?;
+    let proof = word_of(given, "proof")?;
+    let lrat = word_of(given, "lrat")?;
+    if opb == cnf || opb == proof || opb == lrat || cnf == proof || cnf == lrat || proof == lrat {
+        return None;
+    }
+    Some(Refuting {
+        opb,
+        cnf,
+        proof,
+        lrat,
+    })
+}
