@@ -64,6 +64,7 @@ module _ (o : Owed) (a b d : DeskState) (goes : Goes nothing a b) where
   counts_after (outcome.Rejected line denied) counts = quiet_after counts
   counts_after (outcome.NotASolution statement) counts = quiet_after counts
   counts_after outcome.NoModel counts = quiet_after counts
+  counts_after (outcome.NotRefuted line why) counts = quiet_after counts
 
   lacks_text_was : LacksText o b → LacksText o a
   lacks_text_was lacks = (lacks.0, lacks.1, shelf_was a b goes (λ shelf. IsNone (shelf lacks.0.name)) lacks.2)

@@ -37,6 +37,7 @@ module _ (a b : DeskState) where
   counts_quiet (outcome.Rejected line denied) no_read no_write quiet = quiet
   counts_quiet (outcome.NotASolution statement) no_read no_write quiet = quiet
   counts_quiet outcome.NoModel no_read no_write quiet = quiet
+  counts_quiet (outcome.NotRefuted line why) no_read no_write quiet = quiet
 
   pub quiet_counts : (answer : Outcome) → answer ≢ outcome.ReadFault → answer ≢ outcome.WriteFault → Counts a b answer → IsQuiet a b
   quiet_counts outcome.Done no_read no_write counts = counts
@@ -49,6 +50,7 @@ module _ (a b : DeskState) where
   quiet_counts (outcome.Rejected line denied) no_read no_write counts = counts
   quiet_counts (outcome.NotASolution statement) no_read no_write counts = counts
   quiet_counts outcome.NoModel no_read no_write counts = counts
+  quiet_counts (outcome.NotRefuted line why) no_read no_write counts = counts
 
 module _ (o : Owed) (a b : DeskState) where
   quiet_of : (out : Output) → Goes out a b → IsQuiet a b

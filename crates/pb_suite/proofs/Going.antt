@@ -2,7 +2,7 @@
 use Rattle.std.proofs.Common.{◌≡◌, ◌∙◌, ℕ, Bool, true, false, List, [], ◌∷◌, ◌++◌, Option, Some, None, inl, inr, refl, sym, ap, subst}
 use Rattle.std.specs.Prelude.{◌==◌, ◌⊎◌, is_some, IfSome, IsSomeAnd}
 use Rattle.std.proofs.lemmas.List.{append-nil}
-use Rattle.pb_desk.specs.View.{Made, Told, View, opened, spoke}
+use Rattle.pb_desk.specs.View.{Made, Told, View, opened, spoke, taken}
 use Rattle.pb_desk.specs.Desk.{DeskState, HasSlot, IfTold, IsTold, Reaches, same}
 use Rattle.pb_desk.proofs.Steps.{begin}
 use Rattle.pb_desk.proofs.Tells.{told_by}
@@ -43,6 +43,9 @@ by_reading slot name count = record { told = λ v t. more_of t _ refl refl refl;
 
 pub by_opened : (slot : ℕ) (name : List ℕ) → AddsBy nothing (opened slot name)
 by_opened slot name = record { told = λ v t. more_of t _ refl refl refl; slots = λ v slot. inr refl; room = λ v. refl; steady = λ v. refl }
+
+pub by_taken : (slot count : ℕ) → AddsBy nothing (taken slot count)
+by_taken slot count = record { told = λ v t. more_of t _ refl refl refl; slots = λ v slot. inr refl; room = λ v. refl; steady = λ v. refl }
 
 pub by_both_taken : (slot other n m : ℕ) → AddsBy nothing (both_taken slot other n m)
 by_both_taken slot other n m = record { told = λ v t. more_of t _ refl refl refl; slots = λ v slot. inr refl; room = λ v. refl; steady = λ v. refl }

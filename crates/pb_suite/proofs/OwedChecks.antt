@@ -21,8 +21,8 @@ use Rattle.pb_suite.specs.declared.outcome.Outcome.{Outcome}
 use Rattle.pb_suite.specs.declared.outcome.Outcome.TheVariants as outcome
 use Rattle.pb_suite.specs.Obeying.{Obeys}
 use Rattle.pb_suite.specs.Outputs.{nothing, only_words}
-use Rattle.pb_suite.specs.Owed.{HasKind, Text}
-use Rattle.pb_suite.specs.OwedCheck.{accepted_line, owed_check, IsJudged}
+use Rattle.pb_suite.specs.Owed.{HasKind, Owed, Shelf, Text}
+use Rattle.pb_suite.specs.OwedCheck.{accepted_line, owed_check, IsJudged, StopsCheck}
 use Rattle.pb_suite.specs.OwedCheck.StopsCheck.{token, limit, denial}
 use Rattle.pb_suite.specs.Posed.{IsPosed}
 use Rattle.pb_suite.specs.laws.Runs.{check_refusal}
@@ -36,10 +36,10 @@ module _ (w : CheckWords) where
   abbrev first_text : Text
   first_text = record { kind = Opb; name = w.opb }
 
-  abbrev cnf_text : Text
+  abbrev pub cnf_text : Text
   cnf_text = record { kind = Cnf; name = w.cnf }
 
-  abbrev proof_text : Text
+  abbrev pub proof_text : Text
   proof_text = record { kind = Proof; name = w.proof }
 
   has_cnf_text : Contains (owed_check w).texts cnf_text
@@ -48,19 +48,30 @@ module _ (w : CheckWords) where
   has_proof_text : Contains (owed_check w).texts proof_text
   has_proof_text = Contains-there first_text (cnf_text ∷ proof_text ∷ []) proof_text (Contains-there cnf_text (proof_text ∷ []) proof_text (Contains-here proof_text []))
 
-  -- a file that was not opened
-  pub no_cnf : (a b : DeskState) → FailsToRead same a b → (IsSteady a → IsTold a (λ t. IsNone (t.shelf w.cnf))) → Obeys (owed_check w) a b outcome.ReadFault
-  no_cnf a b fails lacks = is_unread (owed_check w) a b same by_same fails (λ steady. (cnf_text, has_cnf_text, lacks steady))
+  -- what a command owes that checks first: the texts are among those that it reads, and it stops with what stops the check
+  pub record Checks (o : Owed) : Type 0 where
+    pub has_cnf : Contains o.texts cnf_text
+    pub has_proof : Contains o.texts proof_text
+    pub cnf_kind : HasKind Cnf o.texts
+    pub proof_kind : HasKind Proof o.texts
+    pub stops : (shelf : Shelf) (answer : Outcome) → StopsCheck shelf w answer → o.stops shelf answer
 
-  pub no_proof : (a b : DeskState) → FailsToRead same a b → (IsSteady a → IsTold a (λ t. IsNone (t.shelf w.proof))) → Obeys (owed_check w) a b outcome.ReadFault
-  no_proof a b fails lacks = is_unread (owed_check w) a b same by_same fails (λ steady. (proof_text, has_proof_text, lacks steady))
+  pub check_checks : Checks (owed_check w)
+  check_checks = record { has_cnf = has_cnf_text; has_proof = has_proof_text; cnf_kind = inr (inl refl); proof_kind = inr (inr (inl refl)); stops = λ shelf answer stops. stops }
+
+  -- a file that was not opened
+  pub no_cnf : (o : Owed) → Checks o → (a b : DeskState) → FailsToRead same a b → (IsSteady a → IsTold a (λ t. IsNone (t.shelf w.cnf))) → Obeys o a b outcome.ReadFault
+  no_cnf o checks a b fails lacks = is_unread o a b same by_same fails (λ steady. (cnf_text, checks.has_cnf, lacks steady))
+
+  pub no_proof : (o : Owed) → Checks o → (a b : DeskState) → FailsToRead same a b → (IsSteady a → IsTold a (λ t. IsNone (t.shelf w.proof))) → Obeys o a b outcome.ReadFault
+  no_proof o checks a b fails lacks = is_unread o a b same by_same fails (λ steady. (proof_text, checks.has_proof, lacks steady))
 
 -- both texts stand in their slots from their first bytes on
 pub record HasBoth (w : CheckWords) (t : Told) : Type 0 where
   pub cnf : t.shelf w.cnf ≡ Some (t.left 1)
   pub proof : t.shelf w.proof ≡ Some (t.left 2)
 
-some_is : (o : Option (List ℕ)) → IsSome o → o ≡ Some (unwrap_or o [])
+pub some_is : (o : Option (List ℕ)) → IsSome o → o ≡ Some (unwrap_or o [])
 some_is None some = cc
 some_is (Some text) some = refl
 
@@ -80,10 +91,10 @@ have_both w a b d first second found_cnf found_proof =
     by_cases (Some t) cnf proof = record { cnf = some_is (t.shelf w.cnf) cnf; proof = some_is (t.shelf w.proof) proof }
 
 module _ (w : CheckWords) (p : Problem) (d e : DeskState) (posed : IfTold d (λ t. IsPosed t.shelf w.opb p)) (both : IfTold d (HasBoth w)) where
-  abbrev JudgedSo : Answer → Type 0
+  abbrev pub JudgedSo : Answer → Type 0
   JudgedSo answer = IfTold d (λ t. IsJudged t.shelf w answer)
 
-  judged_so : (answer : Answer) → TakesBoth 1 2 (λ c q. Walk p c q answer) d e → JudgedSo answer
+  pub judged_so : (answer : Answer) → TakesBoth 1 2 (λ c q. Walk p c q answer) d e → JudgedSo answer
   judged_so answer takes = by_cases d.view.told posed both takes.texts
     where
       by_cases : (told : Option Told) → IfSome told (λ t. IsPosed t.shelf w.opb p) → IfSome told (HasBoth w) → IfSome told (λ t. Walk p (t.left 1) (t.left 2) answer) → IfSome told (λ t. IsJudged t.shelf w answer)
@@ -98,30 +109,30 @@ module _ (w : CheckWords) (p : Problem) (d e : DeskState) (posed : IfTold d (λ 
         judged = walk;
       }
 
-  goes_both : (P : List ℕ → List ℕ → Type 0) → TakesBoth 1 2 P d e → Goes nothing d e
+  pub goes_both : (P : List ℕ → List ℕ → Type 0) → TakesBoth 1 2 P d e → Goes nothing d e
   goes_both P takes = goes_by nothing (both_taken 1 2 takes.of_one takes.of_two) d e (by_both_taken 1 2 takes.of_one takes.of_two) takes.reached
 
-  has_kind : (file : File) → (file ≡ Cnf) ⊎ (file ≡ Proof) → HasKind file (owed_check w).texts
-  has_kind file (inl cnf) = inr (inl (sym cnf))
-  has_kind file (inr proof) = inr (inr (inl (sym proof)))
+  has_kind : (o : Owed) → Checks w o → (file : File) → (file ≡ Cnf) ⊎ (file ≡ Proof) → HasKind file o.texts
+  has_kind o checks file (inl cnf) = subst (λ (f : File). HasKind f o.texts) (sym cnf) checks.cnf_kind
+  has_kind o checks file (inr proof) = subst (λ (f : File). HasKind f o.texts) (sym proof) checks.proof_kind
 
   -- a text's fault, a read that failed, or want of memory
-  stopped_obeys : (f : CheckFault) → StopsChecking p 1 2 d e f → NamesText f → (IsSteady d → f ≢ fault.ReadFault) → Obeys (owed_check w) d e (check_refusal f)
-  stopped_obeys (fault.Refused file place expected) stops names steady =
-      is_refused (owed_check w) d e _ (goes_both _ stops) (has_kind file names)
-      (told_more d _ _ (λ t judged. token file place expected judged) (judged_so (Err (fault.Refused file place expected)) stops))
-  stopped_obeys (fault.Limit file place which) stops names steady =
-      is_refused (owed_check w) d e _ (goes_both _ stops) (has_kind file names)
-      (told_more d _ _ (λ t judged. limit file place which judged) (judged_so (Err (fault.Limit file place which)) stops))
-  stopped_obeys fault.ReadFault stops names steady =
-      is_unread (owed_check w) d e (both_taken 1 2 stops.of_one stops.of_two) (by_both_taken 1 2 stops.of_one stops.of_two) stops.fails (λ is. absurd (steady is refl))
-  stopped_obeys fault.NoMemory stops names steady = bare_memory (owed_check w) d e (goes_both _ stops)
+  stopped_obeys : (o : Owed) → Checks w o → (f : CheckFault) → StopsChecking p 1 2 d e f → NamesText f → (IsSteady d → f ≢ fault.ReadFault) → Obeys o d e (check_refusal f)
+  stopped_obeys o checks (fault.Refused file place expected) stops names steady =
+      is_refused o d e _ (goes_both _ stops) (has_kind o checks file names)
+      (told_more d _ _ (λ t judged. checks.stops t.shelf _ (token file place expected judged)) (judged_so (Err (fault.Refused file place expected)) stops))
+  stopped_obeys o checks (fault.Limit file place which) stops names steady =
+      is_refused o d e _ (goes_both _ stops) (has_kind o checks file names)
+      (told_more d _ _ (λ t judged. checks.stops t.shelf _ (limit file place which judged)) (judged_so (Err (fault.Limit file place which)) stops))
+  stopped_obeys o checks fault.ReadFault stops names steady =
+      is_unread o d e (both_taken 1 2 stops.of_one stops.of_two) (by_both_taken 1 2 stops.of_one stops.of_two) stops.fails (λ is. absurd (steady is refl))
+  stopped_obeys o checks fault.NoMemory stops names steady = bare_memory o d e (goes_both _ stops)
 
   -- a step that is not allowed
-  rejected_obeys : (line : ℕ) (denied : Denied) → TakesBoth 1 2 (λ c q. Walk p c q (Ok (Rejected line denied))) d e → Obeys (owed_check w) d e (outcome.Rejected line denied)
-  rejected_obeys line denied takes =
-      is_refused (owed_check w) d e _ (goes_both _ takes) (inr (inr (inl refl)))
-      (told_more d _ _ (λ t judged. denial line denied judged) (judged_so (Ok (Rejected line denied)) takes))
+  rejected_obeys : (o : Owed) → Checks w o → (line : ℕ) (denied : Denied) → TakesBoth 1 2 (λ c q. Walk p c q (Ok (Rejected line denied))) d e → Obeys o d e (outcome.Rejected line denied)
+  rejected_obeys o checks line denied takes =
+      is_refused o d e _ (goes_both _ takes) checks.proof_kind
+      (told_more d _ _ (λ t judged. checks.stops t.shelf _ (denial line denied judged)) (judged_so (Ok (Rejected line denied)) takes))
 
   -- all is allowed
   accepted_due : TakesBoth 1 2 (λ c q. Walk p c q (Ok Accepted)) d e → Goes nothing d e × IfTold e (λ t. (owed_check w).done t.shelf (only_words accepted_line))
@@ -139,28 +150,28 @@ module _ (w : CheckWords) (p : Problem) (a b d e : DeskState) (posed : IfTold a 
   second_goes : Goes nothing b d
   second_goes = goes_by nothing (opened 2 w.proof) b d (by_opened 2 w.proof) second
 
-  still_posed : IfTold d (λ t. IsPosed t.shelf w.opb p)
+  pub still_posed : IfTold d (λ t. IsPosed t.shelf w.opb p)
   still_posed = shelf_is_if b d second_goes (λ shelf. IsPosed shelf w.opb p) (shelf_is_if a b first_goes (λ shelf. IsPosed shelf w.opb p) posed)
 
-  both : IfTold d (HasBoth w)
+  pub both : IfTold d (HasBoth w)
   both = have_both w a b d first.view second.view found_cnf found_proof
 
-  opened_obeys : (f : DeskState) (answer : Outcome) → Obeys (owed_check w) d f answer → Obeys (owed_check w) a f answer
-  opened_obeys f answer obeys = obeys_after (owed_check w) a b f first_goes answer (obeys_after (owed_check w) b d f second_goes answer obeys)
+  pub opened_obeys : (o : Owed) → (f : DeskState) (answer : Outcome) → Obeys o d f answer → Obeys o a f answer
+  opened_obeys o f answer obeys = obeys_after o a b f first_goes answer (obeys_after o b d f second_goes answer obeys)
 
-  pub after_stop : (f : CheckFault) → StopsChecking p 1 2 d e f → NamesText f → (IsSteady d → f ≢ fault.ReadFault) → Obeys (owed_check w) a e (check_refusal f)
-  after_stop f stops names steady = opened_obeys e _ (stopped_obeys w p d e still_posed both f stops names steady)
+  pub after_stop : (o : Owed) → Checks w o → (f : CheckFault) → StopsChecking p 1 2 d e f → NamesText f → (IsSteady d → f ≢ fault.ReadFault) → Obeys o a e (check_refusal f)
+  after_stop o checks f stops names steady = opened_obeys o e _ (stopped_obeys w p d e still_posed both o checks f stops names steady)
 
-  pub after_denial : (line : ℕ) (denied : Denied) → TakesBoth 1 2 (λ c q. Walk p c q (Ok (Rejected line denied))) d e → Obeys (owed_check w) a e (outcome.Rejected line denied)
-  after_denial line denied takes = opened_obeys e _ (rejected_obeys w p d e still_posed both line denied takes)
+  pub after_denial : (o : Owed) → Checks w o → (line : ℕ) (denied : Denied) → TakesBoth 1 2 (λ c q. Walk p c q (Ok (Rejected line denied))) d e → Obeys o a e (outcome.Rejected line denied)
+  after_denial o checks line denied takes = opened_obeys o e _ (rejected_obeys w p d e still_posed both o checks line denied takes)
 
   pub after_saying_all : (f : DeskState) → (IsSteady e → IsSome e.view.told) → TakesBoth 1 2 (λ c q. Walk p c q (Ok Accepted)) d e → Reaches (spoke accepted_line) e f → Obeys (owed_check w) a f outcome.Done
   after_saying_all f tells takes said =
       let due = accepted_due w p d e still_posed both takes in
-      opened_obeys f _ (obeys_after (owed_check w) d e f due.0 _ (said_obeys (owed_check w) accepted_line e f tells due.1 said))
+      opened_obeys (owed_check w) f _ (obeys_after (owed_check w) d e f due.0 _ (said_obeys (owed_check w) accepted_line e f tells due.1 said))
 
   pub after_saying_some : (f : DeskState) → (IsSteady e → IsSome e.view.told) → TakesBoth 1 2 (λ c q. Walk p c q (Ok Accepted)) d e → StopsIn accepted_line spoke e f → (IsSteady e → LacksRoom words (length accepted_line) e)
       → Obeys (owed_check w) a f outcome.WriteFault
   after_saying_some f tells takes stop lacks =
       let due = accepted_due w p d e still_posed both takes in
-      opened_obeys f _ (obeys_after (owed_check w) d e f due.0 _ (saying_obeys (owed_check w) accepted_line e f tells due.1 stop lacks))
+      opened_obeys (owed_check w) f _ (obeys_after (owed_check w) d e f due.0 _ (saying_obeys (owed_check w) accepted_line e f tells due.1 stop lacks))

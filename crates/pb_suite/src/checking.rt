@@ -16,8 +16,8 @@ use pb_desk::{Desk, say_all};
 use pb_words::Checking;
 use std::alloc::Global;
 
-// The outcome of a fault of checking.
-fn check_refusal(fault: CheckFault) -> Outcome
+/// The outcome of a fault of checking.
+pub fn check_refusal(fault: CheckFault) -> Outcome
     ensures { result ≡ check_refusal fault }
 {
     match fault {

@@ -2,7 +2,7 @@
 use Rattle.std.specs.Prelude.{ℕ, ◌≡◌, ◌≤◌, ◌<◌, List, take, length, Option, Some, None}
 use Rattle.pb_base.specs.declared.expected.Expected.{Expected}
 use Rattle.pb_base.specs.declared.file.File.{File}
-use Rattle.pb_base.specs.declared.file.File.TheVariants.{Opb, Cnf, Model}
+use Rattle.pb_base.specs.declared.file.File.TheVariants.{Opb, Cnf, Model, Lrat}
 use Rattle.pb_base.specs.declared.limit.LimitKind.{LimitKind}
 use Rattle.pb_base.specs.declared.place.Place.{Place}
 use Rattle.pb_base.specs.declared.problem.Problem.{Problem}
@@ -16,6 +16,8 @@ use Rattle.pb_check.specs.declared.verdict.CheckFault.{CheckFault}
 use Rattle.pb_check.specs.declared.verdict.CheckFault.TheVariants as check
 use Rattle.pb_model.specs.declared.fault.ModelFault.{ModelFault}
 use Rattle.pb_model.specs.declared.fault.ModelFault.TheVariants as model
+use Rattle.pb_lrat.specs.declared.refute_fault.RefuteFault.{RefuteFault}
+use Rattle.pb_lrat.specs.declared.refute_fault.RefuteFault.TheVariants as lrat
 use Rattle.pb_choice.specs.declared.options.Options.{Options}
 use Rattle.pb_encode.specs.declared.fault.EncodeFault.{EncodeFault}
 use Rattle.pb_encode.specs.declared.fault.EncodeFault.TheVariants as encode
@@ -54,6 +56,14 @@ check_refusal (check.Refused file place e) = outcome.Refused file place e
 check_refusal (check.Limit file place which) = outcome.Limit (Some file) which place
 check_refusal check.ReadFault = outcome.ReadFault
 check_refusal check.NoMemory = outcome.NoMemory
+
+-- the outcome of a text that is no refutation
+abbrev pub lrat_refusal : RefuteFault → Outcome
+lrat_refusal (lrat.Token place e) = outcome.Refused Lrat place e
+lrat_refusal (lrat.Limit place which) = outcome.Limit (Some Lrat) which place
+lrat_refusal (lrat.NotRefuted line why) = outcome.NotRefuted line why
+lrat_refusal lrat.Failed = outcome.ReadFault
+lrat_refusal lrat.NoMemory = outcome.NoMemory
 
 -- the outcome refuses a text of this kind
 pub data RefusesFile (file : File) : Outcome → Type 0 where

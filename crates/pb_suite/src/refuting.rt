@@ -1,0 +1,105 @@
+//! Refuting the problem of a file.
+ghost use Rattle.std.specs.Prelude.{◌≡◌, ◌<◌, ◌^◌, false};
+ghost use Rattle.pb_base.specs.Problems.{IsWithinLimits};
+ghost use Rattle.pb_desk.specs.Desk.{IfTold, IsClosed};
+ghost use Rattle.pb_words.specs.RefuteWords.{as_refute_words};
+ghost use Rattle.pb_suite.specs.Obeying.{Obeys};
+ghost use Rattle.pb_suite.specs.OwedRefute.{owed_refute, IsAccepted};
+ghost use Rattle.pb_suite.specs.Posed.{IsPosed};
+ghost use Rattle.pb_suite.specs.laws.Runs.{lrat_refusal};
+
+use crate::checking::check_refusal;
+use crate::outcome::Outcome;
+use crate::reading::read_problem;
+use pb_base::{Clauses, Failed, File, Problem};
+use pb_check::{Verdict, check_kept};
+use pb_desk::{Desk, say_all};
+use pb_lrat::{RefuteFault, refute};
+use pb_words::Refuting;
+use std::alloc::Global;
+
+// The outcome of a text that is no refutation.
+fn lrat_refusal(fault: RefuteFault) -> Outcome
+    ensures { result ≡ lrat_refusal fault }
+{
+    match fault {
+        RefuteFault::Token { place, expected } => Outcome::Refused {
+            file: File::Lrat,
+            place,
+            expected,
+        },
+        RefuteFault::Limit { place, which } => Outcome::Limit {
+            file: Some(File::Lrat),
+            which,
+            place,
+        },
+        RefuteFault::NotRefuted { line, why } => Outcome::NotRefuted { line, why },
+        RefuteFault::Failed => Outcome::ReadFault,
+        RefuteFault::NoMemory => Outcome::NoMemory,
+    }
+}
+
+// Opens the refutation of the clauses of a CNF whose derivation was accepted, goes through it, and says where it is one.
+fn follow<D: Desk>(
+    alloc: Global,
+    vars: u32,
+    clauses: Clauses,
+    asked: &Refuting<'_>,
+    desk: &mut D,
+) -> Outcome
+    requires few { vars < 2 ^ 31 }
+    requires free { (D.state desk.old).view.reading 3 ≡ false }
+    requires accepted { IfTold (D.state desk.old) (λ t. IsAccepted t.shelf (as_refute_words asked.now) vars clauses) }
+    ensures { Obeys (owed_refute (as_refute_words asked.now)) (D.state desk.old) (D.state desk.new) result }
+{
+    match desk.open(3, asked.lrat) {
+        Ok(()) => {}
+        Err(Failed) => return Outcome::ReadFault,
+    }
+    match refute(alloc, desk, 3, vars, clauses) {
+        Ok(()) => match say_all(desk, b"refuted\n") {
+            Ok(()) => Outcome::Done,
+            Err(Failed) => Outcome::WriteFault,
+        },
+        Err(fault) => lrat_refusal(fault),
+    }
+}
+
+// Opens the CNF and the derivation of a problem that was read, goes through both side by side, and then through the refutation.
+fn judge<D: Desk>(alloc: Global, problem: &Problem, asked: &Refuting<'_>, desk: &mut D) -> Outcome
+    requires within { IsWithinLimits problem.now }
+    requires cnf_free { (D.state desk.old).view.reading 1 ≡ false }
+    requires proof_free { (D.state desk.old).view.reading 2 ≡ false }
+    requires lrat_free { (D.state desk.old).view.reading 3 ≡ false }
+    requires posed { IfTold (D.state desk.old) (λ t. IsPosed t.shelf (as_refute_words asked.now).opb problem.now) }
+    ensures { Obeys (owed_refute (as_refute_words asked.now)) (D.state desk.old) (D.state desk.new) result }
+{
+    match desk.open(1, asked.cnf) {
+        Ok(()) => {}
+        Err(Failed) => return Outcome::ReadFault,
+    }
+    match desk.open(2, asked.proof) {
+        Ok(()) => {}
+        Err(Failed) => return Outcome::ReadFault,
+    }
+    let (verdict, vars, clauses) = match check_kept(alloc, problem, desk, 1, 2) {
+        Ok(found) => found,
+        Err(fault) => return check_refusal(fault),
+    };
+    match verdict {
+        Verdict::Accepted => follow(alloc, vars, clauses, asked, desk),
+        Verdict::Rejected { line, denied } => Outcome::Rejected { line, denied },
+    }
+}
+
+/// Says whether a problem is refuted: its derivation is accepted, so that each solution extends to a model of the CNF, and the
+/// refutation shows that there is none. The problem is read whole first; the clauses of the CNF are kept, and of the other texts a line.
+pub fn refute_file<D: Desk>(alloc: Global, asked: &Refuting<'_>, desk: &mut D) -> Outcome
+    requires closed { IsClosed (D.state desk.old) }
+    ensures { Obeys (owed_refute (as_refute_words asked.now)) (D.state desk.old) (D.state desk.new) result }
+{
+    match read_problem(alloc, asked.opb, desk) {
+        Ok(problem) => judge(alloc, &problem, asked, desk),
+        Err(outcome) => outcome,
+    }
+}
