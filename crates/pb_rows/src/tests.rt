@@ -5,6 +5,7 @@ mod derivations;
 mod encodes;
 mod probes;
 mod refuses;
+mod refutes;
 mod words;
 
 use pb_base::{Ids, NoMemory, Seq};
