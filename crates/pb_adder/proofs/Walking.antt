@@ -1,5 +1,5 @@
 -- Loops over lists that hand over steps for one element after another.
-use Rattle.std.proofs.Common.{◌≡◌, ◌<◌, ◌≤◌, ◌+◌, ◌++◌, List, [], ◌∷◌, ℕ, length, get_or, drop, suc, sym, ap, ◌∙◌, subst, arith}
+use Rattle.std.proofs.Common.{◌≡◌, ◌<◌, ◌≤◌, ◌+◌, ◌++◌, List, [], ◌∷◌, ℕ, length, get_or, drop, suc, sym, ap, ◌∙◌, arith}
 use Rattle.std.specs.Prelude.{Result, IsErrAnd}
 use Rattle.std.proofs.Math.Seq.{drop-cons}
 use Rattle.std.proofs.lemmas.List.{drop_all}
@@ -45,13 +45,6 @@ part_stopped r f all xs ys old after is split h = steps_fault r f xs ys after is
 -- the first was taken, and the second is handed over
 pub parts_handed : {R T : Type 0} (r : Result T SinkFault) (all xs ys : List Step) (old mid after : StepState R) → all ≡ xs ++ ys → TakesSteps xs old mid → HandsSteps ys r mid after → HandsSteps all r old after
 parts_handed r all xs ys old mid after split h k = steps_last r ys after (deriving_step {left = ys} xs mid (deriving_from old split) h) k
-
--- a step that is written another way
-pub same_stops : {R : Type 0} (s t : Step) (old after : StepState R) (f : SinkFault) → s ≡ t → StopsInSteps (s ∷ []) old after f → StopsInSteps (t ∷ []) old after f
-same_stops s t old after f same h = subst (λ (x : Step). StopsInSteps (x ∷ []) old after f) same h
-
-pub same_taken : {R : Type 0} (s t : Step) (old after : StepState R) → s ≡ t → TakesSteps (s ∷ []) old after → TakesSteps (t ∷ []) old after
-same_taken s t old after same h = subst (λ (x : Step). TakesSteps (x ∷ []) old after) same h
 
 -- ---- three parts
 

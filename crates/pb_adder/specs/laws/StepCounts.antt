@@ -44,12 +44,12 @@ pub last_count : (last : ℕ) (levels : List ℕ) → length (last_deletion last
 last_count last [] = omega arith
 last_count last (level ∷ levels) = omega (arith, length-deletions 1 last 1)
 
-no_last : (last : ℕ) (levels : List ℕ) → length levels ≡ 0 → length (last_deletion last levels) ≡ 0
-no_last last [] none = refl
-no_last last (level ∷ levels) none = absurd (omega (arith, none))
+none_deleted : (last : ℕ) (levels : List ℕ) → length levels ≡ 0 → length (last_deletion last levels) ≡ 0
+none_deleted last [] none = refl
+none_deleted last (level ∷ levels) none = absurd (omega (arith, none))
 
 both_count : (id running next last : ℕ) (levels : List ℕ) → length (sum_steps id running next (blocks levels)) + length (last_deletion last levels) ≤ 2 * length levels
-both_count id running next last [] = omega (arith, sums_count id running next (blocks []), few_blocks [], no_last last [] refl)
+both_count id running next last [] = omega (arith, sums_count id running next (blocks []), few_blocks [], none_deleted last [] refl)
 both_count id running next last (level ∷ levels) = omega (arith, sums_count id running next (blocks (level ∷ levels)), few_blocks (level ∷ levels), last_count last (level ∷ levels))
 
 pub levels-length : (ts : List Weighted) → length (levels_of ts) ≡ length (network_gates ts)
