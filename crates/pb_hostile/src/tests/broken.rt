@@ -19,17 +19,28 @@ fn mark(alloc: Global, words: &str, texts: [&[u8]; 3]) -> char {
     char::from_digit(run.outcome.status() as u32, 10).unwrap_or('!')
 }
 
-// Runs over the texts of which one is cut behind each of its bytes, by their marks.
+// The mark of a run over these texts, of which one is replaced.
+fn mark_with(alloc: Global, words: &str, texts: [&[u8]; 3], at: usize, text: &[u8]) -> char {
+    let [first, second, third] = texts;
+    match at {
+        0 => mark(alloc, words, [text, second, third]),
+        1 => mark(alloc, words, [first, text, third]),
+        _ => mark(alloc, words, [first, second, text]),
+    }
+}
+
+// Runs over the texts of which one is cut before each of its bytes, and then stands whole, by their marks.
 fn cut(alloc: Global, words: &str, texts: [&[u8]; 3], at: usize) -> Option<String>
     requires { at < 3 }
 {
     let text = texts[at];
     let mut marks = String::new(alloc);
-    for count in 0..=text.len() {
-        let mut broken = texts;
-        broken[at] = &text[..count];
-        marks.push(mark(alloc, words, broken)).ok()?;
+    for count in 0..text.len() {
+        marks
+            .push(mark_with(alloc, words, texts, at, &text[..count]))
+            .ok()?;
     }
+    marks.push(mark(alloc, words, texts)).ok()?;
     Some(marks)
 }
 
@@ -44,9 +55,9 @@ fn replaced(alloc: Global, words: &str, texts: [&[u8]; 3], at: usize, byte: u8) 
         if let Some(found) = bytes.get_mut(place) {
             *found = byte;
         }
-        let mut broken = texts;
-        broken[at] = bytes.as_slice();
-        marks.push(mark(alloc, words, broken)).ok()?;
+        marks
+            .push(mark_with(alloc, words, texts, at, bytes.as_slice()))
+            .ok()?;
     }
     Some(marks)
 }
