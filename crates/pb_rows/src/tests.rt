@@ -36,11 +36,11 @@ fn told(alloc: Global, words: &str, files: Shelf) -> Option<String> {
     told_of(alloc, &run)
 }
 
-// The files of these names and texts.
-fn files_of(alloc: Global, texts: &[(&str, &str)]) -> Result<Shelf, NoMemory> {
+// The files `a`, `c` and `p` of a problem, a CNF and a derivation.
+fn files_of(alloc: Global, opb: &str, cnf: &str, proof: &str) -> Result<Shelf, NoMemory> {
     let mut files = Seq::new(alloc);
-    for &(name, text) in texts {
-        files.push(named(alloc, name, text.as_bytes())?)?;
-    }
+    files.push(named(alloc, "a", opb.as_bytes())?)?;
+    files.push(named(alloc, "c", cnf.as_bytes())?)?;
+    files.push(named(alloc, "p", proof.as_bytes())?)?;
     Ok(files)
 }

@@ -29,10 +29,7 @@ const ACCEPTED: &str = "accepted\n";
 // The files `a` and `c` of the pair, and the derivation `p`, which has these lines behind its first.
 fn texts_of(alloc: Global, pair: &Pair, lines: &str) -> Result<Shelf, NoMemory> {
     let proof = format!(in alloc; "pseudo-Boolean derivation profile 1\n{lines}")?;
-    files_of(
-        alloc,
-        &[("a", pair.opb), ("c", pair.cnf), ("p", proof.as_str())],
-    )
+    files_of(alloc, pair.opb, pair.cnf, proof.as_str())
 }
 
 // What is told of a derivation with these lines behind its first.

@@ -1,4 +1,7 @@
-use super::{files_of, told};
+use super::told;
+use pb_base::{NoMemory, Seq};
+use pb_desk::Shelf;
+use pb_runs::named;
 use std::alloc::Global;
 use std::test::Fail;
 
@@ -10,9 +13,17 @@ const PRINTED: &str = "s SATISFIABLE\nv 1 -2 0\n";
 
 const SOLUTION: &str = "s SATISFIABLE\nv x1 -x2\n";
 
+// The files `a`, a problem, and `m`, what a solver printed.
+fn files_of(alloc: Global, opb: &str, printed: &str) -> Result<Shelf, NoMemory> {
+    let mut files = Seq::new(alloc);
+    files.push(named(alloc, "a", opb.as_bytes())?)?;
+    files.push(named(alloc, "m", printed.as_bytes())?)?;
+    Ok(files)
+}
+
 // What is told of a problem and what a solver printed.
 fn decoded(alloc: Global, opb: &str, printed: &str) -> Option<String> {
-    let files = files_of(alloc, &[("a", opb), ("m", printed)]).ok()?;
+    let files = files_of(alloc, opb, printed).ok()?;
     told(alloc, "pbcnf decode a m", files)
 }
 
@@ -120,7 +131,7 @@ fn printed_texts_out_of_the_grammar(rt: HostRuntime) -> Result<(), Fail> {
 fn a_text_that_is_not_there(rt: HostRuntime) -> Result<(), Fail> {
     let alloc = rt.alloc();
     for words in ["pbcnf decode b m", "pbcnf decode a b"] {
-        let files = files_of(alloc, &[("a", ONE), ("m", PRINTED)])?;
+        let files = files_of(alloc, ONE, PRINTED)?;
         let found = told(alloc, words, files);
         assert_eq!(rt; found.as_deref(), Some("4 pbcnf: read fault"), "at {words}");
     }

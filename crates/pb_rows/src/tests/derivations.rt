@@ -38,7 +38,7 @@ fn is_derived(alloc: Global, options: &str, text: &str) -> Option<bool> {
     let run = run_named(alloc, options, text)?;
     let cnf = str::from_utf8(run.desk.made(0)?).ok()?;
     let proof = str::from_utf8(run.desk.made(1)?).ok()?;
-    let files = files_of(alloc, &[("a", text), ("c", cnf), ("p", proof)]).ok()?;
+    let files = files_of(alloc, text, cnf, proof).ok()?;
     let judged = told(alloc, "pbcnf check a c p", files);
     let is_same = bare.desk.made(0) == run.desk.made(0) && bare.desk.said() == run.desk.said();
     let is_accepted = judged.as_deref() == Some("accepted\n");
