@@ -1,7 +1,7 @@
-use super::checks::{named, run_over, told};
-use super::run_with;
-use pb_base::{Ids, NoMemory, Seq};
+use super::{files_of, told};
+use pb_base::NoMemory;
 use pb_desk::Shelf;
+use pb_runs::{named, run_freely};
 use std::alloc::Global;
 use std::test::Fail;
 
@@ -20,28 +20,24 @@ const NO_PIGEONS: &str =
     "10 -6 0 8 9 1 2 4 0\n11 5 0 3 10 0\n12 2 0 1 5 11 0\n13 4 0 2 6 11 0\n14 0 12 13 7 0\n";
 
 // The files `a`, `c` and `p`, and the refutation `l`, where there is one.
-fn files_of(
+fn with_refutation(
     alloc: Global,
     opb: &str,
     cnf: &str,
     proof: &str,
     lrat: Option<&str>,
 ) -> Result<Shelf, NoMemory> {
-    let mut files = Seq::new(alloc);
-    files.push(named(alloc, "a", opb)?)?;
-    files.push(named(alloc, "c", cnf)?)?;
-    files.push(named(alloc, "p", proof)?)?;
+    let mut files = files_of(alloc, opb, cnf, proof)?;
     if let Some(lrat) = lrat {
-        files.push(named(alloc, "l", lrat)?)?;
+        files.push(named(alloc, "l", lrat.as_bytes())?)?;
     }
     Ok(files)
 }
 
 // What is told of these texts.
 fn judged(alloc: Global, opb: &str, cnf: &str, proof: &str, lrat: Option<&str>) -> Option<String> {
-    let files = files_of(alloc, opb, cnf, proof, lrat).ok()?;
-    let run = run_over(alloc, "pbcnf refute a c p l", files, Ids::new(alloc), 4096).ok()?;
-    told(alloc, &run)
+    let files = with_refutation(alloc, opb, cnf, proof, lrat).ok()?;
+    told(alloc, "pbcnf refute a c p l", files)
 }
 
 #[test]
@@ -81,15 +77,7 @@ fn what_comes_before_the_refutation(rt: HostRuntime) -> Result<(), Fail> {
 
 // What is told of a refutation of what is encoded of a text, beside the derivation that is made of it.
 fn refuted(alloc: Global, opb: &str, lrat: &str) -> Option<String> {
-    let run = run_with(
-        alloc,
-        "pbcnf encode a c p",
-        opb.as_bytes(),
-        Ids::new(alloc),
-        4096,
-        4096,
-    )
-    .ok()?;
+    let run = run_freely(alloc, "pbcnf encode a c p", opb.as_bytes()).ok()?;
     let cnf = str::from_utf8(run.desk.made(0)?).ok()?;
     let proof = str::from_utf8(run.desk.made(1)?).ok()?;
     judged(alloc, opb, cnf, proof, Some(lrat))
