@@ -1,7 +1,7 @@
 -- The lists of ids by variables.
-use Rattle.std.proofs.Common.{◌≡◌, ◌≤◌, ◌<◌, ◌+◌, ◌⊎◌, inl, inr, ℕ, zero, suc, Bool, true, false, List, [], ◌∷◌, ◌++◌, Some, arith, length, get_or, set, take, refl, ap, sym, ◌∙◌, subst, eqb, cond}
-use Rattle.std.specs.Prelude.{All, Contains, IsTrue, not, is_none, ◌||◌}
-use Rattle.std.specs.List.{list_any, dedup}
+use Rattle.std.proofs.Common.{◌≡◌, ◌≤◌, ◌<◌, ◌+◌, ◌⊎◌, inl, inr, ℕ, zero, suc, Bool, true, false, List, [], ◌∷◌, ◌++◌, Option, Some, None, arith, length, get_or, set, take, refl, ap, sym, ◌∙◌, subst, eqb, cond}
+use Rattle.std.specs.Prelude.{All, Contains, IsTrue, not, is_none, is_some, filter, ◌||◌}
+use Rattle.std.specs.List.{list_any, dedup, remove}
 use Rattle.std.specs.List.Sorted.{IsPermutation}
 use Rattle.std.proofs.lemmas.List.Kept.{Contains-dedup_nat}
 use Rattle.std.proofs.lemmas.List.Sorted.{Contains-permutation}
@@ -19,8 +19,9 @@ use Rattle.pb_steps.specs.Substitutions.{names_set, set_value, is_unset}
 use Rattle.pb_rules.specs.Naming.{is_of, names_var}
 use Rattle.pb_rules.specs.declared.slots.Slot.{Slot}
 use Rattle.pb_rules.specs.laws.Slots.{hole, whole, placed_from, slot_at, slot_of, slots_without, marked_slots, entries_from}
-use Rattle.pb_rules.specs.laws.Indexed.{ids_at, IsIndexed, KeepsIds, HasNamed, HasNaming}
-use Rattle.pb_unit.proofs.Standing.{read_as}
+use Rattle.pb_rules.specs.laws.Indexed.{ids_at, IsIndexed, KeepsIds, LosesId, HasNamed, HasNaming}
+use Rattle.pb_unit.proofs.Standing.{read_as, contains_head, contains_tail, contains_cases}
+use Rattle.pb_unit.proofs.Sweeping.{contains_filter}
 use Rattle.pb_rules.proofs.SlotLemmas.{constraint_at-slot, placed_more, length-placed_from}
 use Rattle.pb_rules.proofs.Withins.{All-unmap}
 use Rattle.pb_rules.proofs.Mirroring.{slot_at-push, slot_at-push_other, slot_at-set, slot_at-set_other, marked-constraint}
@@ -112,6 +113,64 @@ indexed-without vars (suc k) ss ss' lists e h = subst (λ (ts : List Slot). IsIn
       | inl same ↦ absurd (false≢true (sym (ap (λ (s : Slot). names_var v s.constraint) (ap (slot_at (set ss k hole)) same ∙ slot_at-set ss k)) ∙ named))
       | inr ne ↦ h.complete (suc j) v (ap (λ (s : Slot). names_var v s.constraint) (sym (slot_at-set_other ss k j ne)) ∙ named)
     ]
+
+gone-slot : (ss : List Slot) (id : ℕ) → (slot_of (slots_without ss id) id).constraint ≡ None
+gone-slot ss zero = refl
+gone-slot ss (suc k) = ap (λ (s : Slot). s.constraint) (slot_at-set ss k)
+
+-- the constraint of an id goes, and the id from lists
+pub indexed-lost : (vars id : ℕ) (ss ss' : List Slot) (lists after : List (List ℕ)) → ss' ≡ slots_without ss id → LosesId id lists after → IsIndexed vars ss lists → IsIndexed vars ss' after
+indexed-lost vars id ss ss' lists after e loses h =
+    let kept = indexed-without vars id ss ss' lists e h in
+    record { size = loses.size ∙ kept.size; complete = λ i v named. loses.others v i (other i v named) (kept.complete i v named) }
+  where
+    other : (i v : ℕ) → names_var v (slot_of ss' i).constraint ≡ true → i ≡ id → ⊥
+    other i v named same =
+        let none : (slot_of ss' i).constraint ≡ None = ap (λ (j : ℕ). (slot_of ss' j).constraint) same ∙ (ap (λ (ts : List Slot). (slot_of ts id).constraint) e ∙ gone-slot ss id) in
+        false≢true (sym (ap (names_var v) none) ∙ named)
+
+pub loses-none : (id : ℕ) (lists : List (List ℕ)) → LosesId id lists lists
+loses-none id lists = record { size = refl; others = λ v k ne h. h }
+
+pub loses-again : (id : ℕ) (first mid last : List (List ℕ)) → LosesId id first mid → LosesId id mid last → LosesId id first last
+loses-again id first mid last h k = record { size = k.size ∙ h.size; others = λ v j ne m. k.others v j ne (h.others v j ne m) }
+
+contains_remove : (xs : List ℕ) (i x y : ℕ) → i < length xs → get_or xs i x ≡ x → (y ≡ x → ⊥) → Contains xs y → Contains (remove xs i) y
+contains_remove [] i x y below at ne h = absurd (omega (arith, below))
+contains_remove (z ∷ xs) zero x y below at ne h = elim (contains_cases z xs y h) [
+  | inl e ↦ absurd (ne (sym e ∙ at))
+  | inr more ↦ more
+]
+contains_remove (z ∷ xs) (suc i) x y below at ne h = elim (contains_cases z xs y h) [
+  | inl e ↦ subst (Contains (z ∷ remove xs i)) e (contains_head z (remove xs i))
+  | inr more ↦ contains_tail z (remove xs i) y (contains_remove xs i x y (omega (arith, below)) at ne more)
+]
+
+-- an id is taken out of a list
+pub less_one : (id i : ℕ) (ids after : List ℕ) → i < length ids → ((d : ℕ) → get_or ids i d ≡ id) → after ≡ remove ids i → (k : ℕ) → (k ≡ id → ⊥) → Contains ids k → Contains after k
+less_one id i ids after below at e k ne h = subst (λ (ks : List ℕ). Contains ks k) (sym e) (contains_remove ids i id k below (at id) ne h)
+
+-- the list of one variable loses it
+pub loses-at : (id var : ℕ) (lists : List (List ℕ)) (ids : List ℕ) → var < length lists → ((k : ℕ) → (k ≡ id → ⊥) → Contains (ids_at lists var) k → Contains ids k) → LosesId id lists (set lists var ids)
+loses-at id var lists ids below h = record {
+  size = length-set lists var ids;
+  others = λ v k ne m. elim (cases_eq v var) [
+    | inl e ↦ subst (λ (ks : List ℕ). Contains ks k) (sym (ap (ids_at (set lists var ids)) e ∙ get_or-set_same lists var ids [] below)) (h k ne (subst (λ (w : ℕ). Contains (ids_at lists w) k) e m))
+    | inr other ↦ subst (λ (ks : List ℕ). Contains ks k) (sym (get_or-set_other lists var v ids [] other)) m
+  ];
+}
+
+-- the ids of what stands are left
+pub indexed-swept : (vars : ℕ) (ss : List Slot) (lists after : List (List ℕ)) → length after ≡ length lists → ((v : ℕ) → ids_at after v ≡ filter (λ (id : ℕ). is_some (slot_of ss id).constraint) (ids_at lists v)) → IsIndexed vars ss lists → IsIndexed vars ss after
+indexed-swept vars ss lists after size swept h = record {
+  size = size ∙ h.size;
+  complete = λ id v named. subst (λ (ks : List ℕ). Contains ks id) (sym (swept v))
+      (contains_filter (λ (id : ℕ). is_some (slot_of ss id).constraint) (ids_at lists v) id (stands v (slot_of ss id).constraint named) (h.complete id v named));
+}
+  where
+    stands : (v : ℕ) (o : Option Constraint) → names_var v o ≡ true → is_some o ≡ true
+    stands v None e = absurd (false≢true e)
+    stands v (Some c) e = refl
 
 -- a term of the variable
 pub named-contains : (lists : List (List ℕ)) (v id : ℕ) (ts : List Weighted) → list_any (is_of v) ts ≡ true → All (λ t. Contains (ids_at lists t.lit.var) id) ts → Contains (ids_at lists v) id

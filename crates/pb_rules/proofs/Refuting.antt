@@ -18,7 +18,7 @@ use Rattle.pb_unit.specs.declared.engine.Outcome.TheVariants.{Conflict, Fixed}
 use Rattle.pb_unit.specs.States.{EngineState, at_place, placed, added, removed, standing, started, IsFree, Stands}
 use Rattle.pb_unit.specs.Outcomes.{AnswersOf}
 use Rattle.pb_unit.proofs.Placing.{at_placed, at_placed_other}
-use Rattle.pb_unit.proofs.Standing.{contains_stands}
+use Rattle.pb_unit.proofs.Standing.{contains_stands, contains_head, contains_tail, contains_cases}
 use Rattle.std.specs.Option.{option_to_list}
 use Rattle.pb_rules.specs.declared.slots.Slot.{Slot}
 use Rattle.pb_rules.specs.laws.Conflicts.{is_conflict}
@@ -114,15 +114,29 @@ covered-held vars listed s s' e h = record {
   ];
 }
 
-pub covered-less : (vars : ℕ) (listed : List ℕ) (i : ℕ) (s s' : EngineState) (result : Bool) → i < length listed → IsCovered vars (drop i listed) s → result ≡ is_some (at_place s.places (get_or listed i 0)) →
-    s' ≡ cond result (removed (get_or listed i 0) s) s → IsCovered vars (drop (i + 1) listed) s'
-covered-less vars listed i s s' result below h answer after =
-    let next : suc i ≡ i + 1 = omega arith in
-    let parts : drop i listed ≡ get_or listed i 0 ∷ drop (i + 1) listed = drop-cons listed i 0 below ∙ ap (λ (k : ℕ). get_or listed i 0 ∷ drop k listed) next in
-    let first = get_or listed i 0 in
-    by_result result first (drop (i + 1) listed) (subst (λ (ps : List ℕ). IsCovered vars ps s) parts h) answer after
+pub nothing_taken : (n : ℕ) (xs : List ℕ) → n ≡ 0 → take n xs ≡ []
+nothing_taken n xs e = ap (λ (k : ℕ). take k xs) e ∙ zero_of xs
   where
-    by_result : (b : Bool) (p : ℕ) (rest : List ℕ) → IsCovered vars (p ∷ rest) s → b ≡ is_some (at_place s.places p) → s' ≡ cond b (removed p s) s → IsCovered vars rest s'
+    zero_of : (xs : List ℕ) → take 0 xs ≡ []
+    zero_of [] = refl
+    zero_of (x ∷ xs) = refl
+
+contains_push : (p : ℕ) (rest : List ℕ) (q : ℕ) → Contains (rest ++ p ∷ []) q → (p ≡ q) ⊎ Contains rest q
+contains_push p [] q h = contains_cases p [] q h
+contains_push p (x ∷ rest) q h = elim (contains_cases x (rest ++ p ∷ []) q h) [
+  | inl e ↦ inr (subst (Contains (x ∷ rest)) e (contains_head x rest))
+  | inr more ↦ elim (contains_push p rest q more) [
+    | inl e ↦ inl e
+    | inr there ↦ inr (contains_tail x rest q there)
+  ]
+]
+
+-- the newest goes
+pub covered-less : (vars : ℕ) (listed less : List ℕ) (p : ℕ) (s s' : EngineState) (result : Bool) → listed ≡ less ++ p ∷ [] → IsCovered vars listed s → result ≡ is_some (at_place s.places p) →
+    s' ≡ cond result (removed p s) s → IsCovered vars less s'
+covered-less vars listed less p s s' result e h answer after = by_result result p less (subst (λ (ps : List ℕ). IsCovered vars ps s) e h) answer after
+  where
+    by_result : (b : Bool) (p : ℕ) (rest : List ℕ) → IsCovered vars (rest ++ p ∷ []) s → b ≡ is_some (at_place s.places p) → s' ≡ cond b (removed p s) s → IsCovered vars rest s'
     by_result true p rest h e f = subst (IsCovered vars rest) (sym f) (record {
       vars_are = h.vars_are;
       given = refl;
@@ -130,7 +144,7 @@ covered-less vars listed i s s' result below h answer after =
         | inl same ↦ inl (ap (at_place (set s.places p None)) same ∙ emptied (at_place s.places p) refl (sym e))
         | inr ne ↦ elim (h.covered q) [
           | inl none ↦ inl (at-removed_other s.places p q ne ∙ none)
-          | inr known ↦ elim (Contains-cons_cases p rest q known) [
+          | inr known ↦ elim (contains_push p rest q known) [
             | inl same ↦ absurd (ne (sym same))
             | inr later ↦ inr later
           ]
@@ -146,7 +160,7 @@ covered-less vars listed i s s' result below h answer after =
       given = h.given;
       covered = λ q. elim (h.covered q) [
         | inl none ↦ inl none
-        | inr known ↦ elim (Contains-cons_cases p rest q known) [
+        | inr known ↦ elim (contains_push p rest q known) [
           | inl same ↦ inl (ap (at_place s.places) (sym same) ∙ is_empty (at_place s.places p) (sym e))
           | inr later ↦ inr later
         ]

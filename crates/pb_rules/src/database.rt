@@ -10,11 +10,11 @@ ghost use Rattle.pb_rules.specs.laws.Sound.{IsDatabase};
 ghost use Rattle.pb_rules.specs.laws.Indexed.{IsIndexed, HasNaming};
 ghost use Rattle.pb_rules.specs.laws.Mirrors.{TellsConflict};
 
-use crate::index;
+use crate::index::{self, Named};
 use crate::listed::is_refuted_by;
 use crate::refutation::{is_refuted_with, is_refuted_with_both};
 use crate::slots::{self, Slot};
-use pb_base::{Ids, NoMemory, Var};
+use pb_base::{NoMemory, Var};
 use pb_norm::Linear;
 use pb_unit::Engine;
 use std::alloc::Global;
@@ -31,7 +31,10 @@ pub struct Database {
     // Nothing stands in it between calls.
     idle: Engine,
     // By variables, ids of constraints that have them.
-    named: Vec<Ids>,
+    named: Vec<Named>,
+    // So many ids of constraints that do not stand are listed there; past so many a sweep pays for itself. Nothing is true by these counts.
+    left: usize,
+    limit: usize,
     alloc: Global,
 }
 
@@ -54,17 +57,13 @@ fn loaded_slots(alloc: Global, loaded: &[Linear]) -> Result<Vec<Slot>, NoMemory>
     let mut slots = Vec::with_capacity(alloc, loaded.len())?;
     for (place, constraint) in loaded.iter().enumerate() {
         let copy = constraint.copy(alloc)?;
-        slots.push(Slot {
-            constraint: Some(copy),
-            place: place as u64,
-            out: false,
-        })?;
+        slots::push(&mut slots, alloc, copy, place as u64)?;
     }
     Ok(slots)
 }
 
 // The index of constraints that are loaded.
-fn loaded_index(alloc: Global, vars: u32, loaded: &[Linear]) -> Result<Vec<Ids>, NoMemory>
+fn loaded_index(alloc: Global, vars: u32, loaded: &[Linear]) -> Result<Vec<Named>, NoMemory>
     requires { AreVarsWithin vars loaded.now }
     ensures { IfOk result (λ lists. IsIndexed vars (placed_from 0 loaded.now) lists.items) }
 {
@@ -107,6 +106,8 @@ impl Database {
             engine: Engine::new(alloc, vars, copies(alloc, loaded)?)?,
             idle: Engine::new(alloc, vars, Vec::new(alloc))?,
             named: loaded_index(alloc, vars, loaded)?,
+            left: 0,
+            limit: vars as usize,
             alloc,
         })
     }
@@ -204,12 +205,7 @@ impl Database {
             return Err(NoMemory);
         }
         let place = self.engine.add(&constraint)?;
-        let slot = Slot {
-            constraint: Some(constraint),
-            place,
-            out: false,
-        };
-        match self.slots.push(slot) {
+        match slots::push(&mut self.slots, self.alloc, constraint, place) {
             Ok(()) => Ok(id),
             Err(_) => {
                 self.engine.remove(place);
@@ -218,12 +214,31 @@ impl Database {
         }
     }
 
-    // Takes the constraint with an id away.
+    // Takes the constraint with an id away. Its room is free again.
     fn remove_one(&mut self, id: u64)
         ensures { self.new ≡ reduced self.old (id ∷ []) }
     {
-        if let Some(place) = slots::clear(&mut self.slots, id) {
-            self.engine.remove(place);
+        let gone = slots::take(&mut self.slots, id);
+        let place = gone.place;
+        match gone.constraint {
+            Some(alone) => {
+                self.engine.remove(place);
+                let left = index::leave(&mut self.named, alone.get().terms(), id);
+                self.left = self.left.saturating_add(left);
+            }
+            None => {}
+        }
+    }
+
+    // Lists only ids whose constraints stand, where too many others are listed.
+    fn tidy(&mut self)
+        ensures { self.new ≡ self.old }
+    {
+        let due = self.left > self.limit;
+        index::sweep_if(due, &mut self.named, self.vars, &self.slots);
+        if due {
+            self.left = 0;
+            self.limit = index::len(&self.named);
         }
     }
 
@@ -233,6 +248,7 @@ impl Database {
     {
         for id in ids {
             self.remove_one(*id);
+            self.tidy();
         }
     }
 

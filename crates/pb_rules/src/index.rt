@@ -1,26 +1,99 @@
 //! For each variable, ids whose constraints have it, and perhaps others.
-ghost use Rattle.std.specs.Prelude.{◌≡◌, ◌<◌, ◌+◌, ℕ, All, Contains, IfOk, length};
+ghost use Rattle.std.specs.Prelude.{◌≡◌, ◌<◌, ◌+◌, ◌++◌, ◌∷◌, [], ℕ, All, Contains, IfOk, IfSome, OnOk, OnErr, length, filter, is_some, slice_index_or};
 ghost use Rattle.std.specs.Bool.{OnTrue};
 ghost use Rattle.pb_norm.specs.Constraints.{weights};
-ghost use Rattle.pb_rules.specs.laws.Indexed.{ids_at, KeepsIds};
+ghost use Rattle.pb_rules.specs.laws.Slots.{slot_of};
+ghost use Rattle.pb_rules.specs.laws.Indexed.{ids_at, KeepsIds, LosesId, IsIndexed};
 
-use pb_base::{Ids, NoMemory, Term, Var};
+use crate::slots::{self, Slot};
+use pb_base::{NoMemory, Term, Var};
 use std::alloc::Global;
+use std::marker::Model;
+
+/// The ids that are listed for a variable, in the order in which they came.
+#[derive(Drop)]
+pub(crate) struct Named {
+    items: Vec<u64>,
+}
+
+impl Model for Named {
+    ghost use Rattle.std.specs.Prelude.{List, ℕ};
+
+    ghost Value = { List ℕ };
+
+    ghost view = { λ n. n.items.items };
+}
+
+// So many of the newest ids of a variable are looked at where a constraint goes: one that came late is found, and none costs more.
+const NEWEST: usize = 8;
+
+// Where an id is among the newest, if it is.
+fn newest_at(items: &[u64], id: u64) -> Option<usize>
+    ensures below { IfSome result (λ i. i < length items.now) }
+    ensures at { IfSome result (λ i. (d : ℕ) → slice_index_or items.now i d ≡ id) }
+{
+    for back in 0..items.len().min(NEWEST) {
+        let index = items.len() - 1 - back;
+        if items[index] == id {
+            return Some(index);
+        }
+    }
+    None
+}
+
+impl Named {
+    // One more id, if there is memory.
+    fn push(&mut self, id: u64) -> Result<(), NoMemory>
+        ensures ok { OnOk result (self.new ≡ self.old ++ id ∷ []) }
+        ensures err { OnErr result (self.new ≡ self.old) }
+    {
+        self.items.push(id)?;
+        Ok(())
+    }
+
+    // Takes an id out, where it is among the newest. Whether it was.
+    fn take(&mut self, id: u64) -> bool
+        ensures { (k : ℕ) → (k ≡ id → ⊥) → Contains self.old k → Contains self.new k }
+    {
+        match newest_at(&self.items, id) {
+            Some(index) => {
+                self.items.remove(index);
+                true
+            }
+            None => false,
+        }
+    }
+
+    // Lists only ids whose constraints stand.
+    fn sweep(&mut self, slots: &[Slot])
+        ensures { self.new ≡ filter (λ id. is_some (slot_of slots.now id).constraint) self.old }
+    {
+        self.items.retain(|id| slots::stands(slots, *id));
+    }
+
+    fn as_slice(&self) -> &[u64]
+        ensures { result.now ≡ self.now }
+    {
+        self.items.as_slice()
+    }
+}
 
 /// Empty lists for the variables up to a number.
-pub(crate) fn empty(alloc: Global, vars: u32) -> Result<Vec<Ids>, NoMemory>
+pub(crate) fn empty(alloc: Global, vars: u32) -> Result<Vec<Named>, NoMemory>
     ensures size { IfOk result (λ v. length v.items ≡ vars + 1) }
 {
     let size = vars as usize + 1;
     let mut lists = Vec::with_capacity(alloc, size)?;
     for _place in 0..size {
-        lists.push(Ids::new(alloc))?;
+        lists.push(Named {
+            items: Vec::new(alloc),
+        })?;
     }
     Ok(lists)
 }
 
 // One more id for a variable, if there is memory.
-fn append(lists: &mut Vec<Ids>, var: usize, id: u64) -> bool
+fn append(lists: &mut Vec<Named>, var: usize, id: u64) -> bool
     requires { var < length lists.old.items }
     ensures kept { KeepsIds lists.old.items lists.new.items }
     ensures added { OnTrue result (Contains (ids_at lists.new.items var) id) }
@@ -32,7 +105,7 @@ fn append(lists: &mut Vec<Ids>, var: usize, id: u64) -> bool
 }
 
 /// One more id for the variables of terms, if there is memory.
-pub(crate) fn enter(lists: &mut Vec<Ids>, terms: &[Term], id: u64) -> bool
+pub(crate) fn enter(lists: &mut Vec<Named>, terms: &[Term], id: u64) -> bool
     requires { All (λ t. t.lit.var < length lists.old.items) (weights terms.now) }
     ensures kept { KeepsIds lists.old.items lists.new.items }
     ensures added { OnTrue result (All (λ t. Contains (ids_at lists.new.items t.lit.var) id) (weights terms.now)) }
@@ -45,8 +118,59 @@ pub(crate) fn enter(lists: &mut Vec<Ids>, terms: &[Term], id: u64) -> bool
     true
 }
 
+// Takes an id out of the list of a variable, where it is among the newest there. Whether it was.
+fn take_one(lists: &mut Vec<Named>, var: usize, id: u64) -> bool
+    ensures { LosesId id lists.old.items lists.new.items }
+{
+    if var >= lists.len() {
+        return false;
+    }
+    lists[var].take(id)
+}
+
+/// Takes an id out of the lists of the variables of terms, where it is among the newest there. In how many it is left.
+pub(crate) fn leave(lists: &mut Vec<Named>, terms: &[Term], id: u64) -> usize
+    ensures { LosesId id lists.old.items lists.new.items }
+{
+    let mut left: usize = 0;
+    for term in terms {
+        if !take_one(lists, term.lit.index() as usize, id) {
+            left = left.saturating_add(1);
+        }
+    }
+    left
+}
+
+// Lists only ids whose constraints stand.
+fn sweep(lists: &mut [Named], slots: &[Slot])
+    ensures { (v : ℕ) → ids_at lists.new v ≡ filter (λ id. is_some (slot_of slots.now id).constraint) (ids_at lists.old v) }
+{
+    for var in 0..lists.len() {
+        lists[var].sweep(slots);
+    }
+}
+
+/// How many variables and ids are listed.
+pub(crate) fn len(lists: &[Named]) -> usize {
+    let mut count = lists.len();
+    for ids in lists {
+        count = count.saturating_add(ids.items.len());
+    }
+    count
+}
+
+/// Lists only ids whose constraints stand, where that is due.
+pub(crate) fn sweep_if(due: bool, lists: &mut Vec<Named>, vars: u32, slots: &[Slot])
+    requires { IsIndexed vars slots.now lists.old.items }
+    ensures { IsIndexed vars slots.now lists.new.items }
+{
+    if due {
+        sweep(lists, slots);
+    }
+}
+
 /// The ids that are listed for a variable.
-pub(crate) fn ids_of(lists: &[Ids], var: Var) -> &[u64]
+pub(crate) fn ids_of(lists: &[Named], var: Var) -> &[u64]
     ensures { result.now ≡ ids_at lists.now var }
 {
     match lists.get(var.index() as usize) {

@@ -60,13 +60,13 @@ fn join_listed(engine: &mut Engine, places: &mut Vec<u64>, slots: &[Slot], ids: 
     true
 }
 
-// Takes all constraints away.
-fn leave(engine: &mut Engine, places: &[u64])
-    requires covered { IsCovered engine.old.vars places.now engine.old }
+// Takes all constraints away, the newest first: their occurrences are the newest too.
+fn leave(engine: &mut Engine, places: &mut Vec<u64>)
+    requires covered { IsCovered engine.old.vars places.old.items engine.old }
     ensures idle { IsIdle engine.old.vars engine.new }
 {
-    for place in places {
-        engine.remove(*place);
+    'newest: while let Some(place) = places.pop() {
+        engine.remove(place);
     }
 }
 
@@ -108,7 +108,7 @@ pub(crate) fn is_refuted_by(
     let mut places = Vec::new(alloc);
     let joined = join_all(engine, &mut places, slots, more, ids);
     let outcome = engine.propagate();
-    leave(engine, &places);
+    leave(engine, &mut places);
     if !joined {
         return Err(NoMemory);
     }

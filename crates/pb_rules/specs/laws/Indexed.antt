@@ -22,6 +22,11 @@ pub record KeepsIds (before after : List (List ℕ)) : Type 0 where
   pub size : length after ≡ length before
   pub more : (v id : ℕ) → Contains (ids_at before v) id → Contains (ids_at after v) id
 
+-- the lists have the same ids but for one, and perhaps more
+pub record LosesId (id : ℕ) (before after : List (List ℕ)) : Type 0 where
+  pub size : length after ≡ length before
+  pub others : (v k : ℕ) → (k ≡ id → ⊥) → Contains (ids_at before v) k → Contains (ids_at after v) k
+
 -- each constraint that has a set variable is among the ids
 abbrev pub HasNamed : List Entry → List Set → List ℕ → Type 0
 HasNamed live sets ids = (id : ℕ) (c : Constraint) → constraint_at live id ≡ Some c → IsTrue (names_set sets c) → Contains ids id

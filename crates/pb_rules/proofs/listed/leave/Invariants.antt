@@ -1,6 +1,9 @@
-use Rattle.std.proofs.Common.{drop}
+use Rattle.std.specs.Prelude.{vec_len}
 use Rattle.pb_rules.specs.laws.Mirrors.{IsCovered}
 use Rattle.pb_rules.proofs.listed.leave.Given as goal
 
-abbrev pub invariant-loop-place : goal.invariant-loop-place
-invariant-loop-place l = IsCovered l.initial.engine.vars (drop l.place-index l.places) l.engine
+abbrev pub invariant-newest : goal.invariant-newest
+invariant-newest l = IsCovered l.initial.engine.vars l.places.items l.engine
+
+abbrev pub decreases-newest : goal.decreases-newest
+decreases-newest l = vec_len l.places

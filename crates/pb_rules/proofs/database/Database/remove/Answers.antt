@@ -8,4 +8,4 @@ loop-id-init c = sym (reduced_none c.args.self.now)
 
 pub loop-id-preserved : goal.loop-id-preserved
 loop-id-preserved c =
-    c.remove_one.ensures ∙ (ap (λ (db : Database). reduced db (get_or c.args.ids.now c.loop-id.id-index 0 ∷ [])) c.loop-id.invariant ∙ reduced_more c.args.self.now c.args.ids.now c.loop-id.id-index c.loop-id-test.true)
+    c.tidy.ensures ∙ (c.remove_one.ensures ∙ (ap (λ (db : Database). reduced db (get_or c.args.ids.now c.loop-id.id-index 0 ∷ [])) c.loop-id.invariant ∙ reduced_more c.args.self.now c.args.ids.now c.loop-id.id-index c.loop-id-test.true))
