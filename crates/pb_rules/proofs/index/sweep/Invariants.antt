@@ -1,4 +1,4 @@
-use Rattle.std.proofs.Common.{◌≡◌, ◌≤◌, ◌<◌, ℕ, length}
+use Rattle.std.proofs.Common.{◌≡◌, ◌≤◌, ◌<◌, ℕ}
 use Rattle.std.specs.Prelude.{filter, is_some}
 use Rattle.pb_rules.specs.laws.Slots.{slot_of}
 use Rattle.pb_rules.specs.laws.Indexed.{ids_at}

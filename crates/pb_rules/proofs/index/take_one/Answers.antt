@@ -1,4 +1,4 @@
-use Rattle.std.proofs.Common.{◌≡◌, ◌<◌, ℕ, List, [], arith, length, sym, subst}
+use Rattle.std.proofs.Common.{◌≡◌, ◌<◌, ℕ, List, [], arith, length, subst}
 use Rattle.std.specs.Prelude.{Contains}
 use Rattle.pb_unit.proofs.Standing.{read_as}
 use Rattle.pb_rules.specs.laws.Indexed.{ids_at}

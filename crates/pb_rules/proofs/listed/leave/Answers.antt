@@ -15,4 +15,4 @@ returns c =
     let empty : vec_len c.newest.places - 1 ≡ 0 = omega (arith, c.in_default.ensures.cases.0) in
     let rest : c.pop.new.self.items ≡ [] = c.pop.ensures.rest ∙ nothing_taken (vec_len c.newest.places - 1) c.newest.places.items empty in
     let none : c.newest.places.items ≡ [] = c.pop.ensures.items ∙ (ap (λ (xs : List ℕ). xs ++ option_to_list c.pop.result) rest ∙ ap option_to_list c.in_default.is) in
-    record { idle = subst (λ (ps : List ℕ). IsCovered c.args.engine.now.vars ps c.newest.engine) none c.newest.invariant; }
+    record { idle = subst (λ (ps : List ℕ). IsCovered c.args.engine.now.vars ps c.newest.engine) none c.newest.invariant }

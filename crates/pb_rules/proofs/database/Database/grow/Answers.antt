@@ -1,7 +1,6 @@
-use Rattle.std.proofs.Common.{◌≡◌, ◌≤◌, ◌∙◌, ◌+◌, ap, sym, ℕ, subst, List, ◌++◌, ◌∷◌, [], arith, length}
-use Rattle.std.specs.Prelude.{All, Contains, Result, OnOk}
+use Rattle.std.proofs.Common.{◌≤◌, ◌∙◌, ◌+◌, ap, sym, ℕ, subst, List, ◌++◌, ◌∷◌, [], arith, length}
+use Rattle.std.specs.Prelude.{All, Contains}
 use Rattle.std.proofs.lemmas.Bool.{OnTrue_at}
-use Rattle.pb_base.specs.declared.fault.NoMemory.{NoMemory}
 use Rattle.pb_norm.specs.Constraints.{Weighted, HasVarsWithin}
 use Rattle.pb_steps.specs.Database.{Database, grown}
 use Rattle.pb_unit.specs.States.{EngineState}

@@ -1,4 +1,4 @@
-use Rattle.std.proofs.Common.{List, subst, sym, ap, ◌∙◌}
+use Rattle.std.proofs.Common.{List, subst, sym}
 use Rattle.pb_rules.specs.declared.slots.Slot.{Slot}
 use Rattle.pb_rules.specs.laws.Indexed.{IsIndexed}
 use Rattle.pb_rules.proofs.database.Database.tidy.Goals as goal

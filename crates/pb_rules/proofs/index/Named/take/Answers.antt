@@ -1,4 +1,4 @@
-use Rattle.std.proofs.Common.{◌≡◌, ◌<◌, ◌∙◌, ℕ, List, sym, subst, length, get_or}
+use Rattle.std.proofs.Common.{◌≡◌, ◌<◌, ℕ, List, sym, subst, length, get_or}
 use Rattle.std.specs.Prelude.{Contains}
 use Rattle.pb_rules.proofs.Indexing.{less_one}
 use Rattle.pb_rules.proofs.index.Named.take.Goals as goal
