@@ -15,7 +15,7 @@ use Rattle.pb_check.specs.Walk.{Walk}
 use Rattle.pb_lrat.specs.declared.refute_fault.RefuteFault.{RefuteFault}
 use Rattle.pb_lrat.specs.declared.refute_fault.RefuteFault.TheVariants as fault
 use Rattle.pb_lrat.specs.LratWalk.{LratEnding, lrat_walk}
-use Rattle.pb_lrat.specs.LratWalk.LratEnding as ending
+use Rattle.pb_lrat.specs.LratWalk.{LratEnding as ending}
 use Rattle.pb_lrat.specs.Refuting.{Refutes, StopsRefuting}
 use Rattle.pb_words.specs.RefuteWords.{RefuteWords}
 use Rattle.pb_suite.specs.declared.outcome.Outcome.{Outcome}

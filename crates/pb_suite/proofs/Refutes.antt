@@ -9,7 +9,7 @@ use Rattle.pb_dimacs.proofs.Unique.{says_one_thing}
 use Rattle.pb_dimacs.proofs.Whole.{told_is_said}
 use Rattle.pb_check.proofs.Extending.{accepted_cnf_extends}
 use Rattle.pb_lrat.proofs.Meaning.{refuted_have_no_model}
-use Rattle.pb_lrat.specs.LratWalk.LratEnding as ending
+use Rattle.pb_lrat.specs.LratWalk.{LratEnding as ending}
 use Rattle.pb_words.specs.RefuteWords.{RefuteWords}
 use Rattle.pb_suite.specs.declared.outcome.Outcome.{Outcome}
 use Rattle.pb_suite.specs.declared.outcome.Outcome.TheVariants as outcome

@@ -9,7 +9,7 @@ use Rattle.pb_check.specs.declared.verdict.Verdict.TheVariants.{Accepted}
 use Rattle.pb_check.specs.KeptClauses.{SaysClauses}
 use Rattle.pb_lrat.specs.declared.denied.LratDenied.{LratDenied}
 use Rattle.pb_lrat.specs.LratWalk.{LratEnding, lrat_walk}
-use Rattle.pb_lrat.specs.LratWalk.LratEnding as ending
+use Rattle.pb_lrat.specs.LratWalk.{LratEnding as ending}
 use Rattle.pb_words.specs.CheckWords.{CheckWords}
 use Rattle.pb_words.specs.RefuteWords.{RefuteWords}
 use Rattle.pb_suite.specs.declared.outcome.Outcome.{Outcome}

@@ -214,9 +214,9 @@ two_texts : said (codes "pbcnf check a b") ≡ None
 unfolding taken_of clap_on_literals
 two_texts = refl
 
-four_texts : said (codes "pbcnf check a b c d") ≡ None
+a_text_too_many : said (codes "pbcnf check a b c d") ≡ None
 unfolding taken_of clap_on_literals
-four_texts = refl
+a_text_too_many = refl
 
 the_first_text_again : said (codes "pbcnf check a b a") ≡ None
 unfolding taken_of clap_on_literals
