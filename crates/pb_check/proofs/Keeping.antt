@@ -10,7 +10,6 @@ use Rattle.pb_dimacs.specs.CnfSymbols.{CnfSymbol, Next, next_of}
 use Rattle.pb_dimacs.specs.CnfSymbols.Next.{clause, nothing}
 use Rattle.pb_dimacs.specs.Cursors.{GivesNext}
 use Rattle.pb_dimacs.specs.CnfWhole.{told_from, with_clause}
-use Rattle.pb_dimacs.specs.CnfWhole.CnfTold.{says}
 use Rattle.pb_dimacs.proofs.FormLemmas.{told_clause, told_nothing}
 use Rattle.pb_dimacs.proofs.RowLemmas.{reads_weaker}
 use Rattle.pb_desk.proofs.ReadLemmas.{reads_begin}

@@ -8,13 +8,13 @@ use Rattle.pb_desk.specs.Desk.{DeskState, IfTold}
 use Rattle.pb_desk.specs.LineReading.{TakesAhead}
 use Rattle.pb_desk.specs.LineReaders.{Reader}
 use Rattle.pb_desk.specs.TwoSlots.{ReadsBoth, TakesBoth}
-use Rattle.pb_desk.proofs.BothSlots.{both_begin, both_of_one, both_of_two, both_then, both_weaker}
+use Rattle.pb_desk.proofs.BothSlots.{both_begin, both_of_one, both_of_two, both_then}
 use Rattle.pb_dimacs.specs.declared.head.CnfHead.{CnfHead}
-use Rattle.pb_dimacs.specs.CnfReaders.{CnfReader, new_reader, symbols_left, GivesHead}
-use Rattle.pb_dimacs.specs.CnfRows.{CnfRow, rows_of}
+use Rattle.pb_dimacs.specs.CnfReaders.{CnfReader, symbols_left, GivesHead}
+use Rattle.pb_dimacs.specs.CnfRows.{rows_of}
 use Rattle.pb_dimacs.specs.CnfSymbols.{start_of}
 use Rattle.pb_dimacs.specs.CnfSymbols.Start.{told}
-use Rattle.pb_dimacs.specs.CnfWhole.{told_after, told_from, told_of}
+use Rattle.pb_dimacs.specs.CnfWhole.{told_after, told_from}
 use Rattle.pb_dimacs.specs.CnfWhole.CnfTold.{says}
 use Rattle.pb_dimacs.specs.Cursors.{rows_left}
 use Rattle.pb_dimacs.proofs.FormLemmas.{start_rows}
@@ -28,7 +28,7 @@ use Rattle.pb_check.specs.declared.verdict.Verdict.{Verdict}
 use Rattle.pb_check.specs.declared.verdict.Verdict.TheVariants.{Accepted, Rejected}
 use Rattle.pb_check.specs.KeptClauses.{HasVars, IsKept, SaysClauses}
 use Rattle.pb_check.specs.laws.Judging.{IsJudged}
-use Rattle.pb_check.specs.laws.Keeping.{Completes, Tells, Keeps, KeepsNext, KeepsLine, KeepsLines, KeptAll}
+use Rattle.pb_check.specs.laws.Keeping.{Tells, Keeps, KeepsNext, KeepsLine, KeepsLines, KeptAll}
 use Rattle.pb_check.proofs.WholeRuns.{AreNew, apart_new, takes_new, started_with, Started}
 
 -- a rule is no last line

@@ -1,7 +1,7 @@
 -- How going through a refutation ends a command that owes it, once the derivation was accepted.
-use Rattle.std.proofs.Common.{◌≡◌, ◌≢◌, ◌∙◌, ℕ, List, [], ◌∷◌, Option, Some, None, Ok, ap, inl, inr, length, refl, sym, subst}
+use Rattle.std.proofs.Common.{◌≡◌, ◌≢◌, ℕ, List, [], ◌∷◌, Option, Some, None, Ok, inl, inr, length, refl, sym, subst}
 use Rattle.std.specs.Prelude.{Contains, IfSome, IsNone, IsSome}
-use Rattle.pb_base.specs.declared.file.File.TheVariants.{Opb, Cnf, Proof, Lrat}
+use Rattle.pb_base.specs.declared.file.File.TheVariants.{Opb, Lrat}
 use Rattle.pb_base.specs.declared.literal.Lit.{Lit}
 use Rattle.pb_base.specs.declared.problem.Problem.{Problem}
 use Rattle.pb_base.proofs.Members.{Contains-here, Contains-there}

@@ -1,10 +1,8 @@
 -- A command that refuted its texts has a problem with no solution.
-use Rattle.std.proofs.Common.{◌≡◌, List, Bool, Ok, subst, sym}
-use Rattle.pb_base.specs.declared.literal.Lit.{Lit}
+use Rattle.std.proofs.Common.{◌≡◌, List, Bool, subst}
 use Rattle.pb_base.specs.Literals.{assigned_by, IsModel}
 use Rattle.pb_base.specs.Problems.{IsSolution}
 use Rattle.pb_desk.specs.Desk.{DeskState, IfTold}
-use Rattle.pb_dimacs.specs.CnfReading.{CnfReads}
 use Rattle.pb_dimacs.proofs.Unique.{says_one_thing}
 use Rattle.pb_dimacs.proofs.Whole.{told_is_said}
 use Rattle.pb_check.proofs.Extending.{accepted_cnf_extends}

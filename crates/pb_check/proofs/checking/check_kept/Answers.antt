@@ -1,4 +1,4 @@
-use Rattle.std.proofs.Common.{refl, sym, ap}
+use Rattle.std.proofs.Common.{ap}
 use Rattle.pb_check.specs.declared.kept.Kept.{Kept}
 use Rattle.pb_check.proofs.KeepingRuns.{kept_all, kept_none}
 use Rattle.pb_check.proofs.checking.check_kept.Goals as goal
