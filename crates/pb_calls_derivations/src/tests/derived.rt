@@ -127,11 +127,11 @@ fn trees_are_derived(rt: HostRuntime) -> Result<(), Fail> {
     Ok(())
 }
 
-// A running sum is deleted once the next one stands, and no other line may take an id there. At most one implies each clause of two
-// of its literals and others.
+// All adders stand in one block, so there is one running sum, which goes last. At most one implies each clause of two of its
+// literals and others.
 #[test]
 fn adders_are_derived(rt: HostRuntime) -> Result<(), Fail> {
-    let cases = [(FALLING, 4, "51: 6 5 0 0"), (THREE, 4, "41: 3 3 7 0")];
+    let cases = [(FALLING, 4, "49: 5 5 0 0"), (THREE, 4, "41: 3 3 7 0")];
     for (opb, first, expected) in cases {
         let found = report_of(rt.alloc(), Kind::Adder, opb, first);
         assert_eq!(rt; found.as_deref(), Some(expected), "{opb}");
