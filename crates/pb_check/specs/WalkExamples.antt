@@ -34,7 +34,7 @@ term n v = record { coef = pos n; lit = x v }
 
 -- x1 + x2 = 1
 abbrev equation : Problem
-equation = record { vars = 2; objective = None; statements = record { terms = term 1 1 ∷ term 1 2 ∷ []; relation = Equal; right = pos 1 } ∷ [] }
+equation = record { vars = 2; numbered = 2; names = []; objective = None; statements = record { terms = term 1 1 ∷ term 1 2 ∷ []; relation = Equal; right = pos 1 } ∷ [] }
 
 abbrev two_clauses : List ℕ
 two_clauses = codes "p cnf 2 2\n1 2 0\n-1 -2 0\n"
@@ -140,7 +140,7 @@ no_third_clause =
 
 -- 5 x1 + 3 x2 + 2 x3 >= 6 forces x1
 abbrev heavy_one : Problem
-heavy_one = record { vars = 3; objective = None; statements = record { terms = term 5 1 ∷ term 3 2 ∷ term 2 3 ∷ []; relation = AtLeast; right = pos 6 } ∷ [] }
+heavy_one = record { vars = 3; numbered = 3; names = []; objective = None; statements = record { terms = term 5 1 ∷ term 3 2 ∷ term 2 3 ∷ []; relation = AtLeast; right = pos 6 } ∷ [] }
 
 abbrev unit_and_clause : List ℕ
 unit_and_clause = codes "p cnf 3 2\n1 0\n2 3 0\n"

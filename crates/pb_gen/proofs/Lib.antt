@@ -1,5 +1,6 @@
 pub mod Drawing
 pub mod Headers
+pub mod Indexed
 pub mod KindLemmas
 pub mod Lengths
 pub mod Reading

@@ -1,21 +1,25 @@
 -- A generated text says the generated problem.
-use Rattle.std.proofs.Common.{◌≡◌, ◌≤◌, ◌<◌, ◌^◌, ◌+◌, max, ℕ, List, [], ◌∷◌, ◌++◌, length, map, refl, ap, ◌∙◌, arith, None}
+use Rattle.std.proofs.Common.{◌≡◌, ◌≤◌, ◌<◌, ◌^◌, ◌+◌, max, ℕ, List, [], ◌∷◌, ◌++◌, length, map, refl, sym, ap, ◌∙◌, arith, None}
 use Rattle.std.specs.Prelude.{unsigned_abs}
 use Rattle.std.specs.List.{AllByRecursion, flat_map}
+use Rattle.std.specs.Str.{bytes_eq}
 use Rattle.pb_base.specs.declared.limit.LimitKind.{LimitKind}
-use Rattle.pb_base.specs.declared.limit.LimitKind.TheVariants.{Statements, Terms, Weight, Variables}
+use Rattle.pb_base.specs.declared.limit.LimitKind.TheVariants.{Name, Statements, Terms, Variables, Weight}
 use Rattle.pb_base.specs.declared.literal.Term.{Term}
 use Rattle.pb_base.specs.declared.problem.Raw.{Raw}
+use Rattle.pb_base.specs.Firsts.{firsts}
 use Rattle.pb_base.specs.Places.{start}
 use Rattle.pb_base.specs.Tokens.{tokens_of, uncommented, Piece}
+use Rattle.pb_named.specs.NamedProblems.{all_names, free_names, greatest, index_in, names_of, problem_of, table_of}
+use Rattle.pb_named.specs.declared.named.NamedProblem.{NamedProblem}
 use Rattle.pb_opb.specs.Faults.{kinds, symbol, Reads, Spells, Symbol}
 use Rattle.pb_opb.specs.FirstLine.{told_vars}
 use Rattle.pb_opb.specs.Grammar.{kind_of, Kind}
 use Rattle.pb_opb.specs.Grammar.Kind.{end}
-use Rattle.pb_opb.specs.Limits.{CountKeeps, Keeps, SumKeeps}
-use Rattle.pb_opb.specs.Written.{all_terms, greatest_index, problem_of, Written}
+use Rattle.pb_opb.specs.Limits.{name_len, CountKeeps, Keeps, SumKeeps}
 use Rattle.pb_gen.specs.Generated.{drawn_statements, generated, generated_problem, statement_text}
 use Rattle.pb_gen.proofs.Headers.{header_is, header_rest, header_told, rest_is_line}
+use Rattle.pb_gen.proofs.Indexed.{greatest_append, indexed_statement, indexed_term, same_magnitude, statements_as_many, statements_back, statements_unfree, terms_as_many}
 use Rattle.pb_gen.proofs.KindLemmas.{statements_spelled, CanBePrinted, IsPrintable}
 use Rattle.pb_gen.proofs.Lengths.{text_short}
 use Rattle.pb_gen.proofs.Small.{magnitude_small, statements_count, statements_small, IsSmall, IsSmallTerm}
@@ -37,8 +41,8 @@ kinds-symbols : (ts : List Piece) (last : Symbol) → kinds (map symbol ts ++ la
 kinds-symbols [] last = refl
 kinds-symbols (t ∷ ts) last = ap (λ (ks : List Kind). kind_of t.text ∷ ks) (kinds-symbols ts last)
 
-written : ℕ → ℕ → Written
-written n seed = record { objective = None; statements = drawn_statements (n + 10) n seed }
+written : ℕ → ℕ → NamedProblem
+written n seed = record { objective = None; statements = map indexed_statement (drawn_statements (n + 10) n seed) }
 
 spelled : (n seed : ℕ) → n ≤ 2 ^ 24 → Spells (generated n seed) (written n seed)
 unfolding written
@@ -54,17 +58,14 @@ spelled n seed few =
 
 -- ---- the variables
 
-greatest-append : (ts us : List Term) (vars : ℕ) → greatest_index ts ≤ vars → greatest_index us ≤ vars → greatest_index (ts ++ us) ≤ vars
-greatest-append [] us vars first second = second
-greatest-append (t ∷ ts) us vars first second = let tail : greatest_index ts ≤ vars = omega arith in omega (arith, greatest-append ts us vars tail second)
-
-terms_within : (vars : ℕ) (ts : List Term) → AllByRecursion (IsSmallTerm vars) ts → greatest_index ts ≤ vars
+terms_within : (vars : ℕ) (ts : List Term) → AllByRecursion (IsSmallTerm vars) ts → greatest (names_of (map indexed_term ts)) ≤ vars
 terms_within vars [] are = omega arith
 terms_within vars (t ∷ ts) are = omega (arith, are.0.within, terms_within vars ts are.1)
 
-statements_within : (vars : ℕ) (ss : List Raw) → AllByRecursion (IsSmall vars) ss → greatest_index (flat_map (λ s. s.terms) ss) ≤ vars
+statements_within : (vars : ℕ) (ss : List Raw) → AllByRecursion (IsSmall vars) ss → greatest (flat_map (λ s. names_of s.terms) (map indexed_statement ss)) ≤ vars
 statements_within vars [] are = omega arith
-statements_within vars (s ∷ ss) are = greatest-append s.terms (flat_map (λ u. u.terms) ss) vars (terms_within vars s.terms are.0.terms) (statements_within vars ss are.1)
+statements_within vars (s ∷ ss) are =
+    greatest_append (names_of (map indexed_term s.terms)) (flat_map (λ u. names_of u.terms) (map indexed_statement ss)) vars (terms_within vars s.terms are.0.terms) (statements_within vars ss are.1)
 
 told : (n seed : ℕ) → n ≤ 2 ^ 24 → told_vars (generated n seed) ≡ n + 10
 told n seed few = header_told (n + 10) n (flat_map statement_text (drawn_statements (n + 10) n seed)) (omega arith) (omega arith)
@@ -73,25 +74,34 @@ means : (n seed : ℕ) → n ≤ 2 ^ 24 → generated_problem n seed ≡ problem
 unfolding written
 means n seed few =
     let ss = drawn_statements (n + 10) n seed in
+    let ns = all_names (written n seed) in
     let within = statements_within (n + 10) ss (statements_small (n + 10) n seed (omega arith)) in
-    let vars : n + 10 ≡ max (told_vars (generated n seed)) (greatest_index (all_terms (written n seed))) = omega (arith, told n seed few, within) in
-    λ i. record { vars = vars i; objective = None; statements = ss }
+    let numbered : n + 10 ≡ max (told_vars (generated n seed)) (greatest ns) = omega (arith, told n seed few, within) in
+    let names : [] ≡ free_names ns = ap (firsts bytes_eq) (sym (statements_unfree ss)) in
+    let vars : n + 10 ≡ max (told_vars (generated n seed)) (greatest ns) + length (free_names ns) = omega (arith, numbered, ap length names) in
+    let statements = sym (statements_back (table_of (told_vars (generated n seed)) ns) ss) in
+    λ i. record { vars = vars i; numbered = numbered i; names = names i; objective = None; statements = statements i }
 
 -- ---- the limits
 
-terms_low : (vars : ℕ) (ts : List Term) → AllByRecursion (IsSmallTerm vars) ts → AllByRecursion (λ t. t.lit.var < 2 ^ 31) ts
+terms_low : (vars : ℕ) (ts : List Term) → AllByRecursion (IsSmallTerm vars) ts → AllByRecursion (λ t. index_in t.lit.name < 2 ^ 31) (map indexed_term ts)
 terms_low vars [] are = tt
 terms_low vars (t ∷ ts) are = (omega (arith, are.0.near), terms_low vars ts are.1)
 
-sum_kept : (which : LimitKind) (vars : ℕ) (s : Raw) → IsSmall vars s → SumKeeps which s.terms (unsigned_abs s.right)
-sum_kept Terms vars s is = omega (arith, is.count)
+terms_unnamed : (ts : List Term) → AllByRecursion (λ t. name_len t.lit.name ≤ 255) (map indexed_term ts)
+terms_unnamed [] = tt
+terms_unnamed (t ∷ ts) = (omega arith, terms_unnamed ts)
+
+sum_kept : (which : LimitKind) (vars : ℕ) (s : Raw) → IsSmall vars s → SumKeeps which (map indexed_term s.terms) (unsigned_abs s.right)
+sum_kept Terms vars s is = omega (arith, is.count, terms_as_many s.terms)
 sum_kept Weight vars s is =
     let right : unsigned_abs s.right ≡ is.right = ap unsigned_abs is.is in
-    omega (arith, right, is.most, is.count, magnitude_small vars s.terms is.terms)
+    omega (arith, right, is.most, is.count, magnitude_small vars s.terms is.terms, same_magnitude s.terms)
 sum_kept Variables vars s is = terms_low vars s.terms is.terms
+sum_kept Name vars s is = terms_unnamed s.terms
 sum_kept _ vars s is = tt
 
-sums_kept : (which : LimitKind) (vars : ℕ) (ss : List Raw) → AllByRecursion (IsSmall vars) ss → AllByRecursion (λ s. SumKeeps which s.terms (unsigned_abs s.right)) ss
+sums_kept : (which : LimitKind) (vars : ℕ) (ss : List Raw) → AllByRecursion (IsSmall vars) ss → AllByRecursion (λ s. SumKeeps which s.terms (unsigned_abs s.right)) (map indexed_statement ss)
 sums_kept which vars [] are = tt
 sums_kept which vars (s ∷ ss) are = (sum_kept which vars s are.0, sums_kept which vars ss are.1)
 
@@ -104,7 +114,7 @@ unfolding written
 kept n seed few which =
     let ss = drawn_statements (n + 10) n seed in
     record {
-      count = count_kept which (length ss) (omega (arith, statements_count (n + 10) n seed, few));
+      count = count_kept which (length (map indexed_statement ss)) (omega (arith, statements_as_many ss, statements_count (n + 10) n seed, few));
       objective = tt;
       statements = sums_kept which (n + 10) ss (statements_small (n + 10) n seed (omega arith));
     }
@@ -114,4 +124,5 @@ generated_reads n seed few = record {
   admitted = record { bytes = text_short n seed few; few = omega (arith, told n seed few) };
   says = record { written = written n seed; spells = spelled n seed few; means = means n seed few };
   keeps = kept n seed few;
+  few = omega arith;
 }

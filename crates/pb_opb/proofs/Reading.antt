@@ -1,8 +1,12 @@
 -- What a reader answers along the tokens of a text, as what the text says.
-use Rattle.std.proofs.Common.{◌≡◌, ℕ, List, [], ◌∷◌, ◌++◌, map, sym, refl, ap, ◌∙◌, subst, append_assoc, Option, Some, None, inl, inr, ◌^◌, ◌≤◌, arith}
+use Rattle.std.proofs.Common.{◌≡◌, ℕ, List, [], ◌∷◌, ◌++◌, map, sym, refl, ap, ◌∙◌, subst, append_assoc, Option, Some, None, inl, inr, ◌^◌, ◌≤◌, ◌<◌, arith}
 use Rattle.std.proofs.lemmas.List.{map-append}
 use Rattle.pb_base.specs.declared.place.Place.{Place}
 use Rattle.pb_base.specs.declared.problem.Problem.{Problem}
+use Rattle.pb_base.specs.Problems.{originals}
+use Rattle.pb_named.specs.declared.named.NamedProblem.{NamedProblem}
+use Rattle.pb_named.specs.NamedProblems.{problem_of}
+use Rattle.pb_base.specs.declared.limit.LimitKind.{LimitKind}
 use Rattle.pb_base.specs.Places.{end_of}
 use Rattle.pb_base.specs.Tokens.{Piece, tokens_of}
 use Rattle.pb_opb.specs.declared.fault.Refusal.{Refusal}
@@ -10,11 +14,10 @@ use Rattle.pb_opb.specs.declared.fault.Refusal.TheVariants.{Unexpected, Limit, M
 use Rattle.pb_opb.specs.declared.fault.OpbFault.{OpbFault}
 use Rattle.pb_opb.specs.declared.fault.OpbFault.TheVariants.{Token, NoMemory, Limit as OverLimit}
 use Rattle.pb_opb.specs.Grammar.{Kind, kind_of, text_kinds}
-use Rattle.pb_opb.specs.Written.{Written, problem_of}
 use Rattle.pb_opb.specs.Grammar.Kind.{end}
-use Rattle.pb_opb.specs.Faults.{Symbol, symbol, symbols_of, kinds, Spells, Says, Reads, IsAdmitted, IsManyAt, TellsTooMany, Begins, Expects, IsAt, IsFirstFault, so_far}
+use Rattle.pb_opb.specs.Faults.{Symbol, symbol, symbols_of, kinds, Spells, Says, Reads, HasTooMany, IsAdmitted, IsManyAt, TellsTooMany, Begins, Expects, IsAt, IsFirstFault, so_far}
 use Rattle.pb_opb.specs.FirstLine.{Count, told, told_vars, vars_or_none}
-use Rattle.pb_opb.specs.Limits.{BeginsWithin, IsWithinEach}
+use Rattle.pb_opb.specs.Limits.{Keeps, BeginsWithin, IsWithinEach}
 use Rattle.pb_opb.proofs.Decode.{one_written}
 use Rattle.pb_opb.specs.reader.Takes.{Refuses, Finishes, IsTokenFault, fault_at}
 
@@ -65,25 +68,17 @@ pub fault-at_end : (text : List ℕ) (before : List Piece) (refusal : Refusal) �
 fault-at_end text before refusal admitted cut refused =
     wrong text before (end_of text) end [] refusal admitted (ap (λ (ts : List Piece). map symbol ts ++ record { place = end_of text; kind = end } ∷ []) cut) refused
 
-pub says : (text : List ℕ) (before : List Piece) (p : Problem) → IsAdmitted text → tokens_of text ≡ before → Finishes (piece_kinds before) (told_vars text) p → Reads text p
-says text before p admitted cut f = record {
-  admitted = admitted;
-  says = record {
-    written = f.written;
-    spells = map-append (λ (s : Symbol). s.kind) (map symbol (tokens_of text)) (record { place = end_of text; kind = end } ∷ [])
-        ∙ ap (λ (ks : List Kind). ks ++ end ∷ []) (kinds-symbols (tokens_of text) ∙ ap piece_kinds cut) ∙ sym f.kinds;
-    means = f.means;
-  };
-  keeps = f.keeps;
-}
+pub spells : (text : List ℕ) (before : List Piece) (w : NamedProblem) → tokens_of text ≡ before → Finishes (piece_kinds before) w → Spells text w
+spells text before w cut f = map-append (λ (s : Symbol). s.kind) (map symbol (tokens_of text)) (record { place = end_of text; kind = end } ∷ [])
+    ∙ ap (λ (ks : List Kind). ks ++ end ∷ []) (kinds-symbols (tokens_of text) ∙ ap piece_kinds cut) ∙ sym f.kinds
 
 pub read-more : (before : List Piece) (t : Piece) → piece_kinds (before ++ t ∷ []) ≡ piece_kinds before ++ kind_of t.text ∷ []
 read-more before t = map-append (λ (s : Piece). kind_of s.text) before (t ∷ [])
 
 -- the tokens of a text up to one of them
-pub said : (text : List ℕ) (w : Written) (place : Place) (at : IsAt text place) → Spells text w → text_kinds w ≡ so_far at ++ kinds at.after
-said text w place at spells =
-    sym spells ∙ ap kinds at.cut ∙ map-append (λ (s : Symbol). s.kind) at.before (record { place = place; kind = at.here } ∷ at.after) ∙ sym (append_assoc (kinds at.before) (at.here ∷ []) (kinds at.after))
+pub said : (text : List ℕ) (w : NamedProblem) (place : Place) (at : IsAt text place) → Spells text w → text_kinds w ≡ so_far at ++ kinds at.after
+said text w place at spelled =
+    sym spelled ∙ ap kinds at.cut ∙ map-append (λ (s : Symbol). s.kind) at.before (record { place = place; kind = at.here } ∷ at.after) ∙ sym (append_assoc (kinds at.before) (at.here ∷ []) (kinds at.after))
 
 many-vars : (o : Option Count) (place : Place) → IsManyAt o place → 2 ^ 31 ≤ vars_or_none o
 many-vars None place many = absurd many
@@ -92,12 +87,34 @@ many-vars (Some c) place many = many.0
 pub too_many : (text : List ℕ) (place : Place) → TellsTooMany text place → IsAdmitted text → ⊥
 too_many text place tells admitted = let many = many-vars (told text) place tells.many in omega (arith, admitted.few)
 
-pub reads-no_fault : (text : List ℕ) (p : Problem) (fault : OpbFault) → Reads text p → IsFirstFault text fault → fault ≡ NoMemory
-reads-no_fault text p (Token place e) reads wrong = absurd (let w = reads.says.written in wrong.wrong (w, kinds wrong.at.after, said text w place wrong.at reads.says.spells))
-reads-no_fault text p (OverLimit None which) reads long = absurd (let bytes = reads.admitted.bytes in let more = long.1 in omega arith)
-reads-no_fault text p (OverLimit (Some place) which) reads (inl many) = absurd (too_many text place many.1 reads.admitted)
-reads-no_fault text p (OverLimit (Some place) which) reads (inr great) = absurd (let w = reads.says.written in great.over (w, kinds great.at.after, reads.keeps which, said text w place great.at reads.says.spells))
-reads-no_fault text p NoMemory reads fault = refl
+-- a text that says a problem within the limits has no fault among its tokens
+pub spells-no_fault : (text : List ℕ) (w : NamedProblem) (fault : OpbFault) → Spells text w → ((which : LimitKind) → Keeps which w) → IsTokenFault text fault → fault ≡ NoMemory
+spells-no_fault text w (Token place e) spelled keeps wrong = absurd (wrong.wrong (w, kinds wrong.at.after, said text w place wrong.at spelled))
+spells-no_fault text w (OverLimit None which) spelled keeps bad = absurd bad
+spells-no_fault text w (OverLimit (Some place) which) spelled keeps great = absurd (great.over (w, kinds great.at.after, keeps which, said text w place great.at spelled))
+spells-no_fault text w NoMemory spelled keeps fault = refl
 
 pub says_one : (text : List ℕ) (p q : Problem) → Says text p → Says text q → p ≡ q
 says_one text p q says other = says.means ∙ ap (problem_of (told_vars text)) (one_written says.written other.written (sym says.spells ∙ other.spells)) ∙ sym other.means
+
+not-both : (text : List ℕ) (p : Problem) (place : Place) → Reads text p → HasTooMany text place → ⊥
+not-both text p place reads many =
+    let same = ap originals (says_one text p many.problem reads.says many.says) in
+    omega (arith, reads.few, many.many, same)
+
+pub reads-no_fault : (text : List ℕ) (p : Problem) (fault : OpbFault) → Reads text p → IsFirstFault text fault → fault ≡ NoMemory
+reads-no_fault text p (Token place e) reads wrong = spells-no_fault text reads.says.written (Token place e) reads.says.spells reads.keeps wrong
+reads-no_fault text p (OverLimit None which) reads long = absurd (let bytes = reads.admitted.bytes in let more = long.1 in omega arith)
+reads-no_fault text p (OverLimit (Some place) which) reads (inl (is, inl many)) = absurd (too_many text place many reads.admitted)
+reads-no_fault text p (OverLimit (Some place) which) reads (inl (is, inr many)) = absurd (not-both text p place reads many)
+reads-no_fault text p (OverLimit (Some place) which) reads (inr great) = spells-no_fault text reads.says.written (OverLimit (Some place) which) reads.says.spells reads.keeps great
+reads-no_fault text p NoMemory reads fault = refl
+
+abbrev says-made : (text : List ℕ) (first : ℕ) (w : NamedProblem) (p : Problem) → first ≡ told_vars text → Spells text w → p ≡ problem_of first w → Says text p
+says-made text first w p same spelled is = record { written = w; spells = spelled; means = is ∙ ap (λ (n : ℕ). problem_of n w) same }
+
+pub reads-made : (text : List ℕ) (first : ℕ) (w : NamedProblem) (p : Problem) → IsAdmitted text → first ≡ told_vars text → Spells text w → ((which : LimitKind) → Keeps which w) → p ≡ problem_of first w → originals p < 2 ^ 31 → Reads text p
+reads-made text first w p admitted same spelled keeps is few = record { admitted = admitted; says = says-made text first w p same spelled is; keeps = keeps; few = few }
+
+pub many-made : (text : List ℕ) (first : ℕ) (w : NamedProblem) (place : Place) → IsAdmitted text → first ≡ told_vars text → Spells text w → ((which : LimitKind) → Keeps which w) → 2 ^ 31 ≤ originals (problem_of first w) → place ≡ end_of text → HasTooMany text place
+many-made text first w place admitted same spelled keeps many last = record { admitted = admitted; problem = problem_of first w; says = says-made text first w (problem_of first w) same spelled refl; keeps = keeps; many = many; last = last }

@@ -2,13 +2,13 @@
 use Rattle.std.proofs.Common.{◌≡◌, List, [], ◌∷◌, ◌++◌, Option, Some, None, Bool, true, false, ◌||◌, is_some, ℤ, sym, refl, ap, ◌∙◌, append_assoc}
 use Rattle.std.specs.Option.{option_and_then}
 use Rattle.std.specs.List.{flat_map}
-use Rattle.pb_base.specs.declared.literal.Term.{Term}
+use Rattle.pb_named.specs.declared.named.NamedTerm.{NamedTerm}
 use Rattle.pb_base.specs.declared.problem.Relation.{Relation}
-use Rattle.pb_base.specs.declared.problem.Raw.{Raw}
+use Rattle.pb_named.specs.declared.named.NamedStatement.{NamedStatement}
 use Rattle.pb_opb.specs.declared.stage.Part.{Part}
 use Rattle.pb_opb.specs.declared.stage.Part.TheVariants.{Objective, Statement}
 use Rattle.pb_opb.specs.Grammar.{Kind, term_kinds, sum_kinds, objective_kinds, statement_kinds, text_kinds}
-use Rattle.pb_opb.specs.Written.{Written}
+use Rattle.pb_named.specs.declared.named.NamedProblem.{NamedProblem}
 use Rattle.pb_opb.specs.Grammar.Kind.{integer, relation, semicolon, end}
 use Rattle.pb_opb.specs.Faults.{Begins}
 use Rattle.pb_opb.specs.reader.Automaton.{ReaderState, step, run}
@@ -23,7 +23,7 @@ run-append (x ∷ xs) ys s =
     ]
 
 -- a sum leads back to where it stands
-run-sum : (ts : List Term) (part : Part) (rest : List Kind) → run (in_sum part) (sum_kinds ts ++ rest) ≡ run (in_sum part) rest
+run-sum : (ts : List NamedTerm) (part : Part) (rest : List Kind) → run (in_sum part) (sum_kinds ts ++ rest) ≡ run (in_sum part) rest
 run-sum [] part rest = refl
 run-sum (t ∷ ts) Objective rest = ap (run (in_sum Objective)) (append_assoc (term_kinds t) (sum_kinds ts) rest) ∙ run-sum ts Objective rest
 run-sum (t ∷ ts) Statement rest = ap (run (in_sum Statement)) (append_assoc (term_kinds t) (sum_kinds ts) rest) ∙ run-sum ts Statement rest
@@ -34,7 +34,7 @@ between false = start
 between true = next
 
 -- a statement leads to where the next may begin
-run-statement : (b : Bool) (ts : List Term) (r : Relation) (n : ℤ) (rest : List Kind) →
+run-statement : (b : Bool) (ts : List NamedTerm) (r : Relation) (n : ℤ) (rest : List Kind) →
     run (between b) ((sum_kinds ts ++ relation r ∷ integer n ∷ semicolon ∷ []) ++ rest) ≡ run next rest
 run-statement false [] r n rest = refl
 run-statement true [] r n rest = refl
@@ -48,7 +48,7 @@ abbrev pub any_of : {A : Type 0} → List A → Bool
 any_of [] = false
 any_of (_ ∷ _) = true
 
-pub run-statements : (ss : List Raw) (b : Bool) (rest : List Kind) → run (between b) (flat_map statement_kinds ss ++ rest) ≡ run (between (b || any_of ss)) rest
+pub run-statements : (ss : List NamedStatement) (b : Bool) (rest : List Kind) → run (between b) (flat_map statement_kinds ss ++ rest) ≡ run (between (b || any_of ss)) rest
 run-statements [] false rest = refl
 run-statements [] true rest = refl
 run-statements (s ∷ ss) b rest =
@@ -57,19 +57,19 @@ run-statements (s ∷ ss) b rest =
     ∙ run-statements ss true rest
     ∙ elim b as (λ c. run next rest ≡ run (between (c || true)) rest) [ false ↦ refl | true ↦ refl ]
 
-pub run-objective : (o : Option (List Term)) (rest : List Kind) → run start (objective_kinds o ++ rest) ≡ run (between (is_some o)) rest
+pub run-objective : (o : Option (List NamedTerm)) (rest : List Kind) → run start (objective_kinds o ++ rest) ≡ run (between (is_some o)) rest
 run-objective None rest = refl
 run-objective (Some ts) rest =
     ap (run (in_sum Objective)) (append_assoc (sum_kinds ts) (semicolon ∷ []) rest) ∙ run-sum ts Objective (semicolon ∷ rest)
 
 -- what stands behind an objective and statements
-pub run-front : (o : Option (List Term)) (ss : List Raw) (rest : List Kind) → run start (objective_kinds o ++ flat_map statement_kinds ss ++ rest) ≡ run (between (is_some o || any_of ss)) rest
+pub run-front : (o : Option (List NamedTerm)) (ss : List NamedStatement) (rest : List Kind) → run start (objective_kinds o ++ flat_map statement_kinds ss ++ rest) ≡ run (between (is_some o || any_of ss)) rest
 run-front o ss rest =
     ap (run start) (append_assoc (objective_kinds o) (flat_map statement_kinds ss) rest)
     ∙ run-objective o (flat_map statement_kinds ss ++ rest) ∙ run-statements ss (is_some o) rest
 
 -- every text runs
-accepted : (p : Written) → run start (text_kinds p) ≡ Some (between (is_some p.objective || any_of p.statements))
+accepted : (p : NamedProblem) → run start (text_kinds p) ≡ Some (between (is_some p.objective || any_of p.statements))
 accepted p =
     run-front p.objective p.statements (end ∷ [])
     ∙ elim (is_some p.objective || any_of p.statements) as (λ b. run (between b) (end ∷ []) ≡ Some (between b)) [ false ↦ refl | true ↦ refl ]

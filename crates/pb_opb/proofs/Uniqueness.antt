@@ -4,28 +4,28 @@ use Rattle.std.specs.Prelude.{IfSome, length}
 use Rattle.std.specs.List.{AllByRecursion, flat_map}
 use Rattle.std.proofs.lemmas.List.{map-append}
 use Rattle.pb_base.specs.declared.place.Place.{Place}
-use Rattle.pb_base.specs.declared.literal.Lit.{Lit}
-use Rattle.pb_base.specs.declared.literal.Term.{Term}
-use Rattle.pb_base.specs.declared.problem.Raw.{Raw}
+use Rattle.pb_named.specs.declared.named.NamedLit.{NamedLit}
+use Rattle.pb_named.specs.declared.named.NamedTerm.{NamedTerm}
+use Rattle.pb_named.specs.declared.named.NamedStatement.{NamedStatement}
 use Rattle.pb_base.specs.declared.problem.Relation.TheVariants.{AtLeast}
 use Rattle.pb_base.specs.Places.{end_of}
 use Rattle.pb_base.specs.Tokens.{Piece, tokens_of}
-use Rattle.pb_base.specs.LiteralWords.{literal_of}
 use Rattle.pb_base.specs.Numbers.{integer_of}
 use Rattle.pb_base.specs.declared.expected.Expected.{Expected}
 use Rattle.pb_base.specs.declared.expected.Expected.TheVariants.{Start, Next, TermOrRelation, TermOrSemicolon, Literal, Integer, Semicolon}
 use Rattle.pb_base.specs.declared.limit.LimitKind.{LimitKind}
-use Rattle.pb_base.specs.declared.limit.LimitKind.TheVariants.{Statements, Terms, Weight, Variables}
+use Rattle.pb_base.specs.declared.limit.LimitKind.TheVariants.{Statements, Terms, Weight, Variables, Name}
+use Rattle.pb_named.specs.Names.Name.{index}
 use Rattle.pb_opb.specs.declared.fault.OpbFault.{OpbFault}
 use Rattle.pb_opb.specs.declared.fault.OpbFault.TheVariants.{Token, NoMemory, Limit}
 use Rattle.pb_opb.specs.FirstLine.{Count, told}
-use Rattle.pb_opb.specs.Grammar.{Kind, kind_of, spelled, text_kinds, objective_kinds, statement_kinds}
-use Rattle.pb_opb.specs.Written.{Written}
+use Rattle.pb_opb.specs.Grammar.{Kind, kind_of, named_literal, spelled, text_kinds, objective_kinds, statement_kinds}
+use Rattle.pb_named.specs.declared.named.NamedProblem.{NamedProblem}
 use Rattle.pb_opb.specs.Grammar.Kind.{minimise, integer, literal, relation, semicolon, end}
 use Rattle.pb_opb.specs.Limits.{BeginsWithin, IsWithinEach, rank}
-use Rattle.pb_opb.specs.Faults.{Symbol, symbol, kinds, Begins, allows, Expects, IsManyAt, IsAt, so_far, IsWrong, IsTooGreat, IsFirstFault}
+use Rattle.pb_opb.specs.Faults.{Symbol, symbol, kinds, Begins, allows, Expects, IsManyAt, TellsTooMany, HasTooMany, IsAt, so_far, IsWrong, IsTooGreat, IsFirstFault}
 use Rattle.pb_opb.proofs.Within.{all-behind}
-use Rattle.pb_opb.proofs.Reading.{too_many}
+use Rattle.pb_opb.proofs.Reading.{too_many, spells-no_fault}
 use Rattle.pb_opb.proofs.Bounds.{of-kind, is_fixed}
 
 -- one token stands before another
@@ -99,7 +99,7 @@ is_end _ = false
 abbrev GoesOn : Symbol → Type 0
 GoesOn s = is_end s.kind ≡ false
 
-spelled-goes : (z : Option ℤ) (l : Option Lit) → is_end (spelled z l) ≡ false
+spelled-goes : (z : Option ℤ) (l : Option NamedLit) → is_end (spelled z l) ≡ false
 spelled-goes (Some z) l = refl
 spelled-goes None (Some l) = refl
 spelled-goes None None = refl
@@ -109,7 +109,7 @@ fixed-goes end h = cc
 fixed-goes _ h = refl
 
 word-goes : (word : List ℕ) → is_end (kind_of word) ≡ false
-word-goes word = of-kind (λ k. is_end k ≡ false) word fixed-goes (spelled-goes (integer_of word) (literal_of word))
+word-goes word = of-kind (λ k. is_end k ≡ false) word fixed-goes (spelled-goes (integer_of word) (named_literal word))
 
 words-go : (ts : List Piece) (last : Symbol) (b : List Symbol) (s : Symbol) (x : List Symbol) → map symbol ts ++ last ∷ [] ≡ b ++ s ∷ x → AllByRecursion GoesOn b
 words-go ts last [] s x same = tt
@@ -128,7 +128,7 @@ pub record GoesBy (before : List Kind) : Type 0 where
   pub kind : Kind
   pub begins : Begins (before ++ kind ∷ [])
 
-goes-by : (before : List Kind) (p : Written) (rest : List Kind) → AllByRecursion (λ k. is_end k ≡ false) before → text_kinds p ≡ before ++ rest → GoesBy before
+goes-by : (before : List Kind) (p : NamedProblem) (rest : List Kind) → AllByRecursion (λ k. is_end k ≡ false) before → text_kinds p ≡ before ++ rest → GoesBy before
 goes-by before p (k ∷ rest) going same = record { kind = k; begins = (p, rest, same ∙ sym (append_assoc before (k ∷ []) rest)) }
 goes-by before p [] going same =
     let whole : AllByRecursion (λ k. is_end k ≡ false) (text_kinds p) = subst (AllByRecursion (λ k. is_end k ≡ false)) (sym (append-nil before) ∙ sym same) going in
@@ -145,8 +145,8 @@ named false true _ false false _ = Integer
 named false false true _ _ _ = Literal
 named false false false _ _ _ = Semicolon
 
-abbrev one_literal : Lit
-one_literal = record { var = 1; positive = true }
+abbrev one_literal : NamedLit
+one_literal = record { name = index 1; positive = true }
 
 abbrev by_allowed : Expected → Expected
 by_allowed e = named (allows e minimise) (allows e (integer (pos 0))) (allows e (literal one_literal)) (allows e (relation AtLeast)) (allows e semicolon) (allows e end)
@@ -178,13 +178,14 @@ abbrev by_rank : ℕ → LimitKind
 by_rank zero = Statements
 by_rank (suc zero) = Terms
 by_rank (suc (suc zero)) = Weight
-by_rank _ = Variables
+by_rank (suc (suc (suc zero))) = Variables
+by_rank _ = Name
 
-none-kept : (o : Option (List Term)) → IfSome o (λ ts. Unit {0})
+none-kept : (o : Option (List NamedTerm)) → IfSome o (λ ts. Unit {0})
 none-kept None = tt
 none-kept (Some ts) = tt
 
-all-kept : (ss : List Raw) → AllByRecursion (λ s. Unit {0}) ss
+all-kept : (ss : List NamedStatement) → AllByRecursion (λ s. Unit {0}) ss
 all-kept [] = tt
 all-kept (s ∷ ss) = (tt, all-kept ss)
 
@@ -194,6 +195,7 @@ ranked Statements ks begins over = refl
 ranked Terms ks begins over = refl
 ranked Weight ks begins over = refl
 ranked Variables ks begins over = refl
+ranked Name ks begins over = refl
 ranked _ ks (p, rest, same) over = absurd (over (p, rest, record { count = tt; objective = none-kept p.objective; statements = all-kept p.statements }, same))
 
 same-nat : (m n : ℕ) → (m < n → ⊥) → (n < m → ⊥) → m ≡ n
@@ -234,6 +236,40 @@ many-place (Some c) p q a b = a.1 ∙ sym b.1
 short : (text : List ℕ) (n : ℕ) → length text ≤ 2 ^ 32 → 2 ^ 32 < length text → ⊥
 short text n bytes long = omega arith
 
+-- what a limit at a place is
+abbrev AtPlace : List ℕ → Place → LimitKind → Type 0
+AtPlace text p v = ((v ≡ Variables) × (TellsTooMany text p ⊎ HasTooMany text p)) ⊎ IsTooGreat text p v
+
+wrong-many : (text : List ℕ) (p q : Place) (e : Expected) → IsWrong text p e → HasTooMany text q → ⊥
+wrong-many text p q e a b = let none = spells-no_fault text b.says.written (Token p e) b.says.spells b.keeps a in cc
+
+great-many : (text : List ℕ) (p q : Place) (v : LimitKind) → IsTooGreat text p v → HasTooMany text q → ⊥
+great-many text p q v a b = let none = spells-no_fault text b.says.written (Limit (Some p) v) b.says.spells b.keeps a in cc
+
+wrong-at : (text : List ℕ) (p q : Place) (e : Expected) (w : LimitKind) → IsWrong text p e → AtPlace text q w → ⊥
+wrong-at text p q e w a (inl (is, inl many)) = too_many text q many a.admitted
+wrong-at text p q e w a (inl (is, inr many)) = wrong-many text p q e a many
+wrong-at text p q e w a (inr great) = wrong-great text p q e w a great
+
+bytes-at : (text : List ℕ) (q : Place) (w : LimitKind) → AtPlace text q w → length text ≤ 2 ^ 32
+bytes-at text q w (inl (is, inl many)) = many.bytes
+bytes-at text q w (inl (is, inr many)) = many.admitted.bytes
+bytes-at text q w (inr great) = great.admitted.bytes
+
+limits-at : {p q : Place} {v w : LimitKind} → p ≡ q → v ≡ w → Limit (Some p) v ≡ Limit (Some q) w
+limits-at place limit = λ i. Limit (Some (place i)) (limit i)
+
+two-at : (text : List ℕ) (p q : Place) (v w : LimitKind) → AtPlace text p v → AtPlace text q w → Limit (Some p) v ≡ Limit (Some q) w
+two-at text p q v w (inl (is, inl a)) (inl (so, inl b)) = limits-at (many-place (told text) p q a.many b.many) (is ∙ sym so)
+two-at text p q v w (inl (is, inl a)) (inl (so, inr b)) = absurd (too_many text p a b.admitted)
+two-at text p q v w (inl (is, inr a)) (inl (so, inl b)) = absurd (too_many text q b a.admitted)
+two-at text p q v w (inl (is, inr a)) (inl (so, inr b)) = limits-at (a.last ∙ sym b.last) (is ∙ sym so)
+two-at text p q v w (inl (is, inl a)) (inr b) = absurd (too_many text p a b.admitted)
+two-at text p q v w (inl (is, inr a)) (inr b) = absurd (great-many text q p w b a)
+two-at text p q v w (inr a) (inl (so, inl b)) = absurd (too_many text q b a.admitted)
+two-at text p q v w (inr a) (inl (so, inr b)) = absurd (great-many text p q v a b)
+two-at text p q v w (inr a) (inr b) = two-great text p q v w a b
+
 -- two faults of a text, neither of them want of memory
 pub one_fault : (text : List ℕ) (f g : OpbFault) → (f ≡ NoMemory → ⊥) → (g ≡ NoMemory → ⊥) → IsFirstFault text f → IsFirstFault text g → f ≡ g
 one_fault text NoMemory g nf ng a b = absurd (nf refl)
@@ -242,20 +278,10 @@ one_fault text (Limit None v) NoMemory nf ng a b = absurd (ng refl)
 one_fault text (Limit (Some p) v) NoMemory nf ng a b = absurd (ng refl)
 one_fault text (Token p d) (Token q e) nf ng a b = two-wrong text p q d e a b
 one_fault text (Token p d) (Limit None w) nf ng a b = absurd (short text 0 a.admitted.bytes b.1)
-one_fault text (Token p d) (Limit (Some q) w) nf ng a (inl many) = absurd (too_many text q many.1 a.admitted)
-one_fault text (Token p d) (Limit (Some q) w) nf ng a (inr great) = absurd (wrong-great text p q d w a great)
+one_fault text (Token p d) (Limit (Some q) w) nf ng a b = absurd (wrong-at text p q d w a b)
 one_fault text (Limit None v) (Token q e) nf ng a b = absurd (short text 0 b.admitted.bytes a.1)
 one_fault text (Limit None v) (Limit None w) nf ng a b = ap (Limit None) (a.0 ∙ sym b.0)
-one_fault text (Limit None v) (Limit (Some q) w) nf ng a (inl many) = absurd (short text 0 many.1.bytes a.1)
-one_fault text (Limit None v) (Limit (Some q) w) nf ng a (inr great) = absurd (short text 0 great.admitted.bytes a.1)
-one_fault text (Limit (Some p) v) (Token q e) nf ng (inl many) b = absurd (too_many text p many.1 b.admitted)
-one_fault text (Limit (Some p) v) (Token q e) nf ng (inr great) b = absurd (wrong-great text q p e v b great)
-one_fault text (Limit (Some p) v) (Limit None w) nf ng (inl many) b = absurd (short text 0 many.1.bytes b.1)
-one_fault text (Limit (Some p) v) (Limit None w) nf ng (inr great) b = absurd (short text 0 great.admitted.bytes b.1)
-one_fault text (Limit (Some p) v) (Limit (Some q) w) nf ng (inl a) (inl b) =
-    let place = many-place (told text) p q a.1.many b.1.many in
-    let limit = a.0 ∙ sym b.0 in
-    λ i. Limit (Some (place i)) (limit i)
-one_fault text (Limit (Some p) v) (Limit (Some q) w) nf ng (inl a) (inr b) = absurd (too_many text p a.1 b.admitted)
-one_fault text (Limit (Some p) v) (Limit (Some q) w) nf ng (inr a) (inl b) = absurd (too_many text q b.1 a.admitted)
-one_fault text (Limit (Some p) v) (Limit (Some q) w) nf ng (inr a) (inr b) = two-great text p q v w a b
+one_fault text (Limit None v) (Limit (Some q) w) nf ng a b = absurd (short text 0 (bytes-at text q w b) a.1)
+one_fault text (Limit (Some p) v) (Token q e) nf ng a b = absurd (wrong-at text q p e v b a)
+one_fault text (Limit (Some p) v) (Limit None w) nf ng a b = absurd (short text 0 (bytes-at text p v a) b.1)
+one_fault text (Limit (Some p) v) (Limit (Some q) w) nf ng a b = two-at text p q v w a b

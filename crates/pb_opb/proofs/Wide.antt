@@ -18,7 +18,6 @@ leads-start n = record {
   allowed = refl;
   moves = refl;
   weighs = λ ts. refl;
-  unnamed = refl;
   shown = refl;
 }
 
@@ -29,7 +28,6 @@ leads-next n = record {
   allowed = refl;
   moves = refl;
   weighs = λ ts. refl;
-  unnamed = refl;
   shown = refl;
 }
 
@@ -40,7 +38,6 @@ leads-sum Objective n = record {
   allowed = refl;
   moves = refl;
   weighs = λ ts. refl;
-  unnamed = refl;
   shown = refl;
 }
 leads-sum Statement n = record {
@@ -49,7 +46,6 @@ leads-sum Statement n = record {
   allowed = refl;
   moves = refl;
   weighs = λ ts. refl;
-  unnamed = refl;
   shown = refl;
 }
 
@@ -60,7 +56,6 @@ leads-related r n = record {
   allowed = refl;
   moves = refl;
   weighs = λ ts. refl;
-  unnamed = refl;
   shown = refl;
 }
 

@@ -4,23 +4,23 @@ use Rattle.std.specs.Prelude.{length, unsigned_abs, IfSome}
 use Rattle.std.specs.List.{AllByRecursion, flat_map}
 use Rattle.std.proofs.lemmas.List.{length-append}
 use Rattle.std.proofs.lemmas.List.Sums.{sum_by-append, sum_by-cons}
-use Rattle.pb_base.specs.declared.literal.Lit.{Lit}
-use Rattle.pb_base.specs.declared.literal.Term.{Term}
+use Rattle.pb_named.specs.declared.named.NamedLit.{NamedLit}
+use Rattle.pb_named.specs.declared.named.NamedTerm.{NamedTerm}
 use Rattle.pb_base.specs.declared.problem.Relation.{Relation}
-use Rattle.pb_base.specs.declared.problem.Raw.{Raw}
+use Rattle.pb_named.specs.declared.named.NamedStatement.{NamedStatement}
+use Rattle.pb_named.specs.declared.named.NamedProblem.{NamedProblem}
 use Rattle.pb_base.specs.declared.limit.LimitKind.{LimitKind}
-use Rattle.pb_base.specs.declared.limit.LimitKind.TheVariants.{Statements, Terms, Weight, Variables}
+use Rattle.pb_base.specs.declared.limit.LimitKind.TheVariants.{Statements, Terms, Weight, Variables, Name}
 use Rattle.pb_opb.specs.declared.stage.Part.{Part}
 use Rattle.pb_opb.specs.declared.stage.Part.TheVariants.{Objective, Statement}
 use Rattle.pb_opb.specs.declared.stage.Stage.{Stage}
 use Rattle.pb_opb.specs.declared.stage.Stage.TheVariants.{Start, Next, Sum, Coefficient, Related, Right}
+use Rattle.pb_named.specs.NamedProblems.{index_in}
 use Rattle.pb_opb.specs.Grammar.{Kind, sum_kinds, objective_kinds, statement_kinds, text_kinds}
-use Rattle.pb_opb.specs.Written.{Written}
 use Rattle.pb_opb.specs.Grammar.Kind.{minimise, integer, literal, relation, semicolon, end}
 use Rattle.pb_opb.specs.reader.Front.{front_kinds, begun_statements, IsPlaced}
 use Rattle.pb_opb.specs.reader.Steps.{is_open_sum}
-use Rattle.pb_base.specs.Problems.{magnitude}
-use Rattle.pb_opb.specs.Limits.{SumKeeps, Keeps, BeginsWithin}
+use Rattle.pb_opb.specs.Limits.{name_len, named_magnitude, SumKeeps, Keeps, BeginsWithin}
 use Rattle.pb_opb.proofs.Decode.{sum-front, text-front, is_minimise, not_minimise}
 use Rattle.pb_opb.proofs.Fronts.{add-coefficient}
 
@@ -29,19 +29,19 @@ pub all-behind : {A : Type 0} (P : A → Type 0) (xs ys : List A) → AllByRecur
 all-behind P [] ys h = h
 all-behind P (x ∷ xs) ys h = all-behind P xs ys h.1
 
-abbrev RawKeeps : LimitKind → Raw → Type 0
+abbrev RawKeeps : LimitKind → NamedStatement → Type 0
 RawKeeps which s = SumKeeps which s.terms (unsigned_abs s.right)
 
 -- the statement that was begun, and what stands behind its open sum
-pub record OpenStatement (which : LimitKind) (ts : List Term) (behind : List Kind) : Type 0 where
-  pub more : List Term
+pub record OpenStatement (which : LimitKind) (ts : List NamedTerm) (behind : List Kind) : Type 0 where
+  pub more : List NamedTerm
   pub sign : Relation
   pub right : ℤ
   pub others : List Kind
   pub keeps : SumKeeps which (ts ++ more) (unsigned_abs right)
   pub written : sum_kinds more ++ relation sign ∷ integer right ∷ semicolon ∷ others ≡ behind
 
-open-first : (which : LimitKind) (rs : List Raw) (ts : List Term) (k : Kind) (behind : List Kind) → AllByRecursion (RawKeeps which) rs →
+open-first : (which : LimitKind) (rs : List NamedStatement) (ts : List NamedTerm) (k : Kind) (behind : List Kind) → AllByRecursion (RawKeeps which) rs →
     flat_map statement_kinds rs ++ end ∷ [] ≡ sum_kinds ts ++ k ∷ behind → (end ≡ k → ⊥) → OpenStatement which ts (k ∷ behind)
 open-first which [] [] k behind keeps same goes = absurd (goes cc)
 open-first which [] (t ∷ ts) k behind keeps same goes = cc
@@ -56,15 +56,15 @@ open-first which (s ∷ rs) ts k behind keeps same goes =
       sign = s.relation;
       right = s.right;
       others = x;
-      keeps = subst (λ (us : List Term). SumKeeps which us (unsigned_abs s.right)) front.terms keeps.0;
+      keeps = subst (λ (us : List NamedTerm). SumKeeps which us (unsigned_abs s.right)) front.terms keeps.0;
       written = front.written;
     }
 
-plain_sum : (ts : List Term) (k : Kind) (x : List Kind) → is_minimise (k ∷ x) ≡ false → is_minimise (sum_kinds ts ++ k ∷ x) ≡ false
+plain_sum : (ts : List NamedTerm) (k : Kind) (x : List Kind) → is_minimise (k ∷ x) ≡ false → is_minimise (sum_kinds ts ++ k ∷ x) ≡ false
 plain_sum [] k x h = h
 plain_sum (t ∷ ts) k x h = refl
 
-pub open-statement : (which : LimitKind) (o : Option (List Term)) (ss : List Raw) (ts : List Term) (p : Written) (k : Kind) (x : List Kind) → Keeps which p → is_minimise (k ∷ x) ≡ false → (end ≡ k → ⊥) →
+pub open-statement : (which : LimitKind) (o : Option (List NamedTerm)) (ss : List NamedStatement) (ts : List NamedTerm) (p : NamedProblem) (k : Kind) (x : List Kind) → Keeps which p → is_minimise (k ∷ x) ≡ false → (end ≡ k → ⊥) →
     text_kinds p ≡ objective_kinds o ++ flat_map statement_kinds ss ++ (sum_kinds ts ++ k ∷ x) → OpenStatement which ts (k ∷ x)
 open-statement which o ss ts p k x keeps plain goes same =
     let front = text-front o ss p (sum_kinds ts ++ k ∷ x) (plain_sum ts k x plain) same in
@@ -72,45 +72,45 @@ open-statement which o ss ts p k x keeps plain goes same =
     open-first which rest.more ts k x (all-behind (RawKeeps which) ss rest.more (subst (AllByRecursion (RawKeeps which)) rest.statements keeps.statements)) rest.written goes
 
 -- a coefficient in the open sum
-pub record OpenTerm (which : LimitKind) (ts : List Term) (c : ℤ) (x : List Kind) : Type 0 where
-  pub term : Term
-  pub more : List Term
+pub record OpenTerm (which : LimitKind) (ts : List NamedTerm) (c : ℤ) (x : List Kind) : Type 0 where
+  pub term : NamedTerm
+  pub more : List NamedTerm
   pub right : ℕ
   pub keeps : SumKeeps which (ts ++ term ∷ more) right
   pub coef : term.coef ≡ c
   pub others : List Kind
   pub written : literal term.lit ∷ others ≡ x
 
-term-of : (which : LimitKind) (ts more : List Term) (right : ℕ) (k : Kind) (y : List Kind) (c : ℤ) (x : List Kind) → (integer c ≡ k → ⊥) → SumKeeps which (ts ++ more) right → sum_kinds more ++ k ∷ y ≡ integer c ∷ x → OpenTerm which ts c x
+term-of : (which : LimitKind) (ts more : List NamedTerm) (right : ℕ) (k : Kind) (y : List Kind) (c : ℤ) (x : List Kind) → (integer c ≡ k → ⊥) → SumKeeps which (ts ++ more) right → sum_kinds more ++ k ∷ y ≡ integer c ∷ x → OpenTerm which ts c x
 term-of which ts [] right k y c x plain keeps same = absurd (plain cc)
 term-of which ts (m ∷ more) right k y c x plain keeps same =
     record { term = m; more = more; right = right; keeps = keeps; coef = cc; others = sum_kinds more ++ k ∷ y; written = cc }
 
-objective-term : (which : LimitKind) (o : Option (List Term)) (ts : List Term) (qs : List Raw) (c : ℤ) (x : List Kind) → IfSome o (λ us. SumKeeps which us 0) →
+objective-term : (which : LimitKind) (o : Option (List NamedTerm)) (ts : List NamedTerm) (qs : List NamedStatement) (c : ℤ) (x : List Kind) → IfSome o (λ us. SumKeeps which us 0) →
     objective_kinds o ++ (flat_map statement_kinds qs ++ end ∷ []) ≡ minimise ∷ (sum_kinds ts ++ integer c ∷ x) → OpenTerm which ts c x
 objective-term which None ts qs c x keeps same = absurd (not_minimise qs _ (sym same))
 objective-term which (Some us) ts qs c x keeps same =
     let y = flat_map statement_kinds qs ++ end ∷ [] in
     let tails : (sum_kinds us ++ semicolon ∷ []) ++ y ≡ sum_kinds ts ++ integer c ∷ x = cc in
     let front = sum-front ts us semicolon y (integer c ∷ x) refl (sym (append_assoc (sum_kinds us) (semicolon ∷ []) y) ∙ tails) in
-    term-of which ts front.more 0 semicolon y c x (λ bad. cc) (subst (λ (vs : List Term). SumKeeps which vs 0) front.terms keeps) front.written
+    term-of which ts front.more 0 semicolon y c x (λ bad. cc) (subst (λ (vs : List NamedTerm). SumKeeps which vs 0) front.terms keeps) front.written
 
-pub open-term : (which : LimitKind) (o : Option (List Term)) (ss : List Raw) (part : Part) (ts : List Term) (p : Written) (c : ℤ) (x : List Kind) → IsPlaced o ss (Sum part) ts → Keeps which p →
+pub open-term : (which : LimitKind) (o : Option (List NamedTerm)) (ss : List NamedStatement) (part : Part) (ts : List NamedTerm) (p : NamedProblem) (c : ℤ) (x : List Kind) → IsPlaced o ss (Sum part) ts → Keeps which p →
     text_kinds p ≡ front_kinds o ss (Sum part) ts ++ integer c ∷ x → OpenTerm which ts c x
 open-term which o ss Statement ts p c x placed keeps same =
     let s = open-statement which o ss ts p (integer c) x keeps refl (λ bad. cc) (same ∙ append_assoc (objective_kinds o ++ flat_map statement_kinds ss) (sum_kinds ts) (integer c ∷ x)) in
     term-of which ts s.more (unsigned_abs s.right) (relation s.sign) (integer s.right ∷ semicolon ∷ s.others) c x (λ bad. cc) s.keeps s.written
 open-term which o ss Objective ts p c x placed keeps same =
     objective-term which p.objective ts p.statements c x keeps.objective
-    (sym (append_assoc (objective_kinds p.objective) (flat_map statement_kinds p.statements) (end ∷ [])) ∙ same ∙ ap (λ (q : Option (List Term)). front_kinds q ss (Sum Objective) ts ++ integer c ∷ x) placed.0 ∙ ap (λ (xs : List Raw). front_kinds None xs (Sum Objective) ts ++ integer c ∷ x) placed.1)
+    (sym (append_assoc (objective_kinds p.objective) (flat_map statement_kinds p.statements) (end ∷ [])) ∙ same ∙ ap (λ (q : Option (List NamedTerm)). front_kinds q ss (Sum Objective) ts ++ integer c ∷ x) placed.0 ∙ ap (λ (xs : List NamedStatement). front_kinds None xs (Sum Objective) ts ++ integer c ∷ x) placed.1)
 
-weight-more : (ts more : List Term) (m : Term) → magnitude ts + unsigned_abs m.coef ≤ magnitude (ts ++ m ∷ more)
+weight-more : (ts more : List NamedTerm) (m : NamedTerm) → named_magnitude ts + unsigned_abs m.coef ≤ named_magnitude (ts ++ m ∷ more)
 weight-more ts more m =
-    let size = λ (u : Term). unsigned_abs u.coef in
+    let size = λ (u : NamedTerm). unsigned_abs u.coef in
     omega (arith, sum_by-append size ts (m ∷ more), sum_by-cons size m more)
 
 -- so an accepted coefficient, literal or right side is within the limit
-pub coefficient-light : (o : Option (List Term)) (ss : List Raw) (part : Part) (ts : List Term) (c : ℤ) → IsPlaced o ss (Sum part) ts → BeginsWithin Weight (front_kinds o ss (Sum part) ts ++ integer c ∷ []) → magnitude ts + unsigned_abs c < 2 ^ 100
+pub coefficient-light : (o : Option (List NamedTerm)) (ss : List NamedStatement) (part : Part) (ts : List NamedTerm) (c : ℤ) → IsPlaced o ss (Sum part) ts → BeginsWithin Weight (front_kinds o ss (Sum part) ts ++ integer c ∷ []) → named_magnitude ts + unsigned_abs c < 2 ^ 100
 coefficient-light o ss part ts c placed (p, x, keeps, same) =
     let t = open-term Weight o ss part ts p c x placed keeps (same ∙ append_assoc (front_kinds o ss (Sum part) ts) (integer c ∷ []) x) in
     let light = t.keeps in
@@ -118,41 +118,49 @@ coefficient-light o ss part ts c placed (p, x, keeps, same) =
     let same_coef = ap unsigned_abs t.coef in
     omega (arith, light, more, same_coef)
 
-pub literal-near : (o : Option (List Term)) (ss : List Raw) (part : Part) (ts : List Term) (c : ℤ) (l : Lit) → IsPlaced o ss (Sum part) ts → BeginsWithin Variables (front_kinds o ss (Coefficient part c) ts ++ literal l ∷ []) → l.var < 2 ^ 31
-literal-near o ss part ts c l placed (p, x, keeps, same) =
-    let t = open-term Variables o ss part ts p c (literal l ∷ x) placed keeps
+open-literal : (which : LimitKind) (o : Option (List NamedTerm)) (ss : List NamedStatement) (part : Part) (ts : List NamedTerm) (c : ℤ) (l : NamedLit) (P : NamedTerm → Type 0) (Q : NamedLit → Type 0) →
+    ((us : List NamedTerm) (n : ℕ) → SumKeeps which us n → AllByRecursion P us) → ((t : NamedTerm) → P t → Q t.lit) →
+    IsPlaced o ss (Sum part) ts → BeginsWithin which (front_kinds o ss (Coefficient part c) ts ++ literal l ∷ []) → Q l
+open-literal which o ss part ts c l P Q all each placed (p, x, keeps, same) =
+    let t = open-term which o ss part ts p c (literal l ∷ x) placed keeps
     (same ∙ append_assoc (front_kinds o ss (Coefficient part c) ts) (literal l ∷ []) x ∙ ap (λ (ks : List Kind). ks ++ literal l ∷ x) (sym (add-coefficient o ss part ts c)) ∙ append_assoc (front_kinds o ss (Sum part) ts) (integer c ∷ []) (literal l ∷ x)) in
     let lit : t.term.lit ≡ l = (let w = t.written in cc) in
-    let near = (all-behind (λ (u : Term). u.lit.var < 2 ^ 31) ts (t.term ∷ t.more) t.keeps).0 in
-    subst (λ (m : Lit). m.var < 2 ^ 31) lit near
+    let near = (all-behind P ts (t.term ∷ t.more) (all (ts ++ t.term ∷ t.more) t.right t.keeps)).0 in
+    subst Q lit (each t.term near)
 
-right-by : (ts more : List Term) (q r : Relation) (m n : ℤ) (y x : List Kind) → SumKeeps Weight (ts ++ more) (unsigned_abs m) → sum_kinds more ++ relation q ∷ integer m ∷ semicolon ∷ y ≡ relation r ∷ integer n ∷ x → magnitude ts + unsigned_abs n < 2 ^ 100
+pub literal-near : (o : Option (List NamedTerm)) (ss : List NamedStatement) (part : Part) (ts : List NamedTerm) (c : ℤ) (l : NamedLit) → IsPlaced o ss (Sum part) ts → BeginsWithin Variables (front_kinds o ss (Coefficient part c) ts ++ literal l ∷ []) → index_in l.name < 2 ^ 31
+literal-near o ss part ts c l placed within = open-literal Variables o ss part ts c l (λ t. index_in t.lit.name < 2 ^ 31) (λ m. index_in m.name < 2 ^ 31) (λ us n keeps. keeps) (λ t near. near) placed within
+
+pub literal-short : (o : Option (List NamedTerm)) (ss : List NamedStatement) (part : Part) (ts : List NamedTerm) (c : ℤ) (l : NamedLit) → IsPlaced o ss (Sum part) ts → BeginsWithin Name (front_kinds o ss (Coefficient part c) ts ++ literal l ∷ []) → name_len l.name ≤ 255
+literal-short o ss part ts c l placed within = open-literal Name o ss part ts c l (λ t. name_len t.lit.name ≤ 255) (λ m. name_len m.name ≤ 255) (λ us n keeps. keeps) (λ t short. short) placed within
+
+right-by : (ts more : List NamedTerm) (q r : Relation) (m n : ℤ) (y x : List Kind) → SumKeeps Weight (ts ++ more) (unsigned_abs m) → sum_kinds more ++ relation q ∷ integer m ∷ semicolon ∷ y ≡ relation r ∷ integer n ∷ x → named_magnitude ts + unsigned_abs n < 2 ^ 100
 right-by ts [] q r m n y x keeps same =
     let rights : m ≡ n = cc in
     let same_right = ap unsigned_abs rights in
-    let sums = sum_by-append (λ (u : Term). unsigned_abs u.coef) ts [] in
+    let sums = sum_by-append (λ (u : NamedTerm). unsigned_abs u.coef) ts [] in
     omega (arith, keeps, sums, same_right)
 right-by ts (t ∷ more) q r m n y x keeps same = cc
 
-pub right-light : (o : Option (List Term)) (ss : List Raw) (ts : List Term) (r : Relation) (n : ℤ) → BeginsWithin Weight (front_kinds o ss (Related r) ts ++ integer n ∷ []) → magnitude ts + unsigned_abs n < 2 ^ 100
+pub right-light : (o : Option (List NamedTerm)) (ss : List NamedStatement) (ts : List NamedTerm) (r : Relation) (n : ℤ) → BeginsWithin Weight (front_kinds o ss (Related r) ts ++ integer n ∷ []) → named_magnitude ts + unsigned_abs n < 2 ^ 100
 right-light o ss ts r n (p, x, keeps, same) =
     let s = open-statement Weight o ss ts p (relation r) (integer n ∷ x) keeps refl (λ bad. cc)
     (same ∙ append_assoc (front_kinds o ss (Related r) ts) (integer n ∷ []) x ∙ append_assoc (objective_kinds o ++ flat_map statement_kinds ss) (sum_kinds ts ++ relation r ∷ []) (integer n ∷ x) ∙ ap (λ (ks : List Kind). objective_kinds o ++ flat_map statement_kinds ss ++ ks) (append_assoc (sum_kinds ts) (relation r ∷ []) (integer n ∷ x))) in
     right-by ts s.more s.sign r s.right n s.others x s.keeps s.written
 
 -- a sum with one more term is not too long
-pub term-short : (o : Option (List Term)) (ss : List Raw) (part : Part) (ts : List Term) (c : ℤ) → IsPlaced o ss (Sum part) ts → BeginsWithin Terms (front_kinds o ss (Sum part) ts ++ integer c ∷ []) → length ts + 1 ≤ 2 ^ 20
+pub term-short : (o : Option (List NamedTerm)) (ss : List NamedStatement) (part : Part) (ts : List NamedTerm) (c : ℤ) → IsPlaced o ss (Sum part) ts → BeginsWithin Terms (front_kinds o ss (Sum part) ts ++ integer c ∷ []) → length ts + 1 ≤ 2 ^ 20
 term-short o ss part ts c placed (p, x, keeps, same) =
     let t = open-term Terms o ss part ts p c x placed keeps (same ∙ append_assoc (front_kinds o ss (Sum part) ts) (integer c ∷ []) x) in
     let short = t.keeps in
     omega (arith, short, length-append ts (t.term ∷ t.more))
 
-some-more : (rs : List Raw) (ts : List Term) (k : Kind) (x : List Kind) → flat_map statement_kinds rs ++ end ∷ [] ≡ sum_kinds ts ++ k ∷ x → (end ≡ k → ⊥) → 1 ≤ length rs
+some-more : (rs : List NamedStatement) (ts : List NamedTerm) (k : Kind) (x : List Kind) → flat_map statement_kinds rs ++ end ∷ [] ≡ sum_kinds ts ++ k ∷ x → (end ≡ k → ⊥) → 1 ≤ length rs
 some-more [] [] k x same goes = absurd (goes cc)
 some-more [] (t ∷ ts) k x same goes = cc
 some-more (r ∷ rs) ts k x same goes = omega arith
 
-one-more : (o : Option (List Term)) (ss : List Raw) (ts : List Term) (p : Written) (k : Kind) (x : List Kind) → Keeps Statements p → is_minimise (k ∷ x) ≡ false → (end ≡ k → ⊥) →
+one-more : (o : Option (List NamedTerm)) (ss : List NamedStatement) (ts : List NamedTerm) (p : NamedProblem) (k : Kind) (x : List Kind) → Keeps Statements p → is_minimise (k ∷ x) ≡ false → (end ≡ k → ⊥) →
     text_kinds p ≡ objective_kinds o ++ flat_map statement_kinds ss ++ (sum_kinds ts ++ k ∷ x) → length ss + 1 ≤ 2 ^ 24
 one-more o ss ts p k x keeps plain goes same =
     let front = text-front o ss p (sum_kinds ts ++ k ∷ x) (plain_sum ts k x plain) same in
@@ -161,7 +169,7 @@ one-more o ss ts p k x keeps plain goes same =
     omega (arith, count, some-more rest.more ts k x rest.written goes, ap length rest.statements, length-append ss rest.more)
 
 -- nor are there too many statements with one that was begun
-pub statement-few : (o : Option (List Term)) (ss : List Raw) (stage : Stage) (ts : List Term) → is_open_sum stage ≡ false → begun_statements stage ≡ 1 → BeginsWithin Statements (front_kinds o ss stage ts) → length ss + 1 ≤ 2 ^ 24
+pub statement-few : (o : Option (List NamedTerm)) (ss : List NamedStatement) (stage : Stage) (ts : List NamedTerm) → is_open_sum stage ≡ false → begun_statements stage ≡ 1 → BeginsWithin Statements (front_kinds o ss stage ts) → length ss + 1 ≤ 2 ^ 24
 statement-few o ss (Coefficient Statement c) ts shown begun (p, x, keeps, same) = one-more o ss ts p (integer c) x keeps refl (λ bad. cc) (same ∙ simp append_assoc)
 statement-few o ss (Related r) ts shown begun (p, x, keeps, same) = one-more o ss ts p (relation r) x keeps refl (λ bad. cc) (same ∙ simp append_assoc)
 statement-few o ss (Right r n) ts shown begun (p, x, keeps, same) = one-more o ss ts p (relation r) (integer n ∷ x) keeps refl (λ bad. cc) (same ∙ simp append_assoc)

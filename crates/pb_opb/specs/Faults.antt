@@ -2,6 +2,9 @@
 use Rattle.std.specs.Prelude.{◌≡◌, ◌↔◌, ◌⊎◌, IsTrue, ℕ, ◌<◌, ◌≤◌, ◌^◌, List, [], ◌∷◌, ◌++◌, length, map, Option, Some, None, Bool, true, false}
 use Rattle.pb_base.specs.declared.place.Place.{Place}
 use Rattle.pb_base.specs.declared.problem.Problem.{Problem}
+use Rattle.pb_base.specs.Problems.{originals}
+use Rattle.pb_named.specs.declared.named.NamedProblem.{NamedProblem}
+use Rattle.pb_named.specs.NamedProblems.{problem_of}
 use Rattle.pb_base.specs.Places.{end_of}
 use Rattle.pb_base.specs.Tokens.{Piece, tokens_of}
 use Rattle.pb_base.specs.declared.expected.Expected.{Expected}
@@ -11,7 +14,6 @@ use Rattle.pb_base.specs.declared.limit.LimitKind.TheVariants.{Text, Variables}
 use Rattle.pb_opb.specs.declared.fault.OpbFault.{OpbFault}
 use Rattle.pb_opb.specs.declared.fault.OpbFault.TheVariants.{Token, Limit, NoMemory}
 use Rattle.pb_opb.specs.FirstLine.{Count, told, told_vars}
-use Rattle.pb_opb.specs.Written.{Written, problem_of}
 use Rattle.pb_opb.specs.Limits.{Keeps, BeginsWithin, IsWithinEach, rank}
 use Rattle.pb_opb.specs.Grammar.{Kind, kind_of, text_kinds}
 use Rattle.pb_opb.specs.Grammar.Kind.{minimise, integer, literal, relation, semicolon, end}
@@ -32,12 +34,12 @@ abbrev pub kinds : List Symbol → List Kind
 kinds ss = map (λ s. s.kind) ss
 
 -- the tokens of the text spell what is written
-abbrev pub Spells : List ℕ → Written → Type 0
+abbrev pub Spells : List ℕ → NamedProblem → Type 0
 Spells text w = kinds (symbols_of text) ≡ text_kinds w
 
 -- the text says the problem: the problem is that of what its tokens spell
 pub record Says (text : List ℕ) (p : Problem) : Type 0 where
-  pub written : Written
+  pub written : NamedProblem
   pub spells : Spells text written
   pub means : p ≡ problem_of (told_vars text) written
 
@@ -51,6 +53,7 @@ pub record Reads (text : List ℕ) (p : Problem) : Type 0 where
   pub admitted : IsAdmitted text
   pub says : Says text p
   pub keeps : (which : LimitKind) → Keeps which says.written
+  pub few : originals p < 2 ^ 31
 
 -- too many variables are told, at this place of the first line
 abbrev pub IsManyAt : Option Count → Place → Type 0
@@ -62,9 +65,18 @@ pub record TellsTooMany (text : List ℕ) (place : Place) : Type 0 where
   pub bytes : length text ≤ 2 ^ 32
   pub many : IsManyAt (told text) place
 
+-- The text says a problem within all other limits, but of too many variables, which is told at its end.
+pub record HasTooMany (text : List ℕ) (place : Place) : Type 0 where
+  pub admitted : IsAdmitted text
+  pub problem : Problem
+  pub says : Says text problem
+  pub keeps : (which : LimitKind) → Keeps which says.written
+  pub many : 2 ^ 31 ≤ originals problem
+  pub last : place ≡ end_of text
+
 -- some accepted text begins with these tokens
 abbrev pub Begins : List Kind → Type 0
-Begins ks = (w : Written) × (rest : List Kind) × (text_kinds w ≡ ks ++ rest)
+Begins ks = (w : NamedProblem) × (rest : List Kind) × (text_kinds w ≡ ks ++ rest)
 
 -- what could stand at a place
 abbrev pub allows : Expected → Kind → Bool
@@ -118,5 +130,5 @@ pub record IsTooGreat (text : List ℕ) (place : Place) (which : LimitKind) : Ty
 abbrev pub IsFirstFault : List ℕ → OpbFault → Type 0
 IsFirstFault text (Token place e) = IsWrong text place e
 IsFirstFault text (Limit None which) = (which ≡ Text) × (2 ^ 32 < length text)
-IsFirstFault text (Limit (Some place) which) = ((which ≡ Variables) × TellsTooMany text place) ⊎ IsTooGreat text place which
+IsFirstFault text (Limit (Some place) which) = ((which ≡ Variables) × (TellsTooMany text place ⊎ HasTooMany text place)) ⊎ IsTooGreat text place which
 IsFirstFault text NoMemory = Unit {0}

@@ -1,12 +1,23 @@
 -- How great a problem may be (our own).
-use Rattle.std.specs.Prelude.{◌≡◌, ℕ, ◌+◌, ◌<◌, ◌≤◌, ◌^◌, List, ◌++◌, length, unsigned_abs, IfSome}
+use Rattle.std.specs.Prelude.{◌≡◌, ℕ, ◌+◌, ◌<◌, ◌≤◌, ◌^◌, List, ◌++◌, sum_by, length, unsigned_abs, IfSome}
 use Rattle.std.specs.List.{AllByRecursion}
-use Rattle.pb_base.specs.declared.literal.Term.{Term}
-use Rattle.pb_base.specs.Problems.{magnitude}
+use Rattle.pb_named.specs.declared.named.NamedTerm.{NamedTerm}
+use Rattle.pb_named.specs.declared.named.NamedProblem.{NamedProblem}
 use Rattle.pb_base.specs.declared.limit.LimitKind.{LimitKind}
-use Rattle.pb_base.specs.declared.limit.LimitKind.TheVariants.{Statements, Terms, Weight, Variables}
+use Rattle.pb_base.specs.declared.limit.LimitKind.TheVariants.{Statements, Terms, Weight, Variables, Name}
+use Rattle.pb_named.specs.Names.{Name as NameOf}
+use Rattle.pb_named.specs.Names.Name.{index, free}
+use Rattle.pb_named.specs.NamedProblems.{index_in}
 use Rattle.pb_opb.specs.Grammar.{Kind, text_kinds}
-use Rattle.pb_opb.specs.Written.{Written}
+
+-- the absolute values of the coefficients, added up
+abbrev pub named_magnitude : List NamedTerm → ℕ
+named_magnitude ts = sum_by (λ t. unsigned_abs t.coef) ts
+
+-- how many bytes a free name has, and 0 for an index
+abbrev pub name_len : NameOf → ℕ
+name_len (index n) = 0
+name_len (free text) = length text
 
 -- what a limit allows of the number of statements
 abbrev pub CountKeeps : LimitKind → ℕ → Type 0
@@ -14,21 +25,22 @@ CountKeeps Statements count = count ≤ 2 ^ 24
 CountKeeps _ count = Unit {0}
 
 -- what a limit allows of a sum, beside a right side of this absolute value
-abbrev pub SumKeeps : LimitKind → List Term → ℕ → Type 0
+abbrev pub SumKeeps : LimitKind → List NamedTerm → ℕ → Type 0
 SumKeeps Terms ts right = length ts ≤ 2 ^ 20
-SumKeeps Weight ts right = magnitude ts + right < 2 ^ 100
-SumKeeps Variables ts right = AllByRecursion (λ t. t.lit.var < 2 ^ 31) ts
+SumKeeps Weight ts right = named_magnitude ts + right < 2 ^ 100
+SumKeeps Variables ts right = AllByRecursion (λ t. index_in t.lit.name < 2 ^ 31) ts
+SumKeeps Name ts right = AllByRecursion (λ t. name_len t.lit.name ≤ 255) ts
 SumKeeps _ ts right = Unit {0}
 
 -- what is written is within the limit
-pub record Keeps (which : LimitKind) (w : Written) : Type 0 where
+pub record Keeps (which : LimitKind) (w : NamedProblem) : Type 0 where
   pub count : CountKeeps which (length w.statements)
   pub objective : IfSome w.objective (λ ts. SumKeeps which ts 0)
   pub statements : AllByRecursion (λ s. SumKeeps which s.terms (unsigned_abs s.right)) w.statements
 
 -- some text within the limit begins with these tokens
 abbrev pub BeginsWithin : LimitKind → List Kind → Type 0
-BeginsWithin which ks = (w : Written) × (rest : List Kind) × Keeps which w × (text_kinds w ≡ ks ++ rest)
+BeginsWithin which ks = (w : NamedProblem) × (rest : List Kind) × Keeps which w × (text_kinds w ≡ ks ++ rest)
 
 -- each limit is kept so far
 abbrev pub IsWithinEach : List Kind → Type 0
@@ -40,4 +52,5 @@ rank Statements = 0
 rank Terms = 1
 rank Weight = 2
 rank Variables = 3
-rank _ = 4
+rank Name = 4
+rank _ = 5

@@ -2,21 +2,24 @@
 ghost use Rattle.std.specs.Prelude.{◌≡◌, IfOk, IfErr};
 ghost use Rattle.pb_base.specs.Problems.{IsWithinLimits};
 ghost use Rattle.pb_opb.specs.FirstLine.{told_vars};
-ghost use Rattle.pb_opb.specs.Faults.{Reads, IsAdmitted, IsFirstFault};
+ghost use Rattle.pb_opb.specs.Limits.{Keeps};
+ghost use Rattle.pb_opb.specs.Faults.{Reads, IsAdmitted, IsFirstFault, Spells};
 ghost use Rattle.pb_opb.specs.reader.Takes.{IsTokenFault};
 
 use crate::fault::OpbFault;
 use crate::first_line::told_vars;
 use crate::reader::Reader;
 use pb_base::{LimitKind, MAX_TEXT, Problem, end_of, tokens};
+use pb_named::{NamedProblem, NumberFault, number};
 use std::alloc::Global;
 
 /// Reads an OPB text, or tells its first fault.
 ///
 /// The text is within the limits: at most 2^32 bytes, 2^24 statements, 2^20 terms in one sum and
 /// variables up to 2^31 - 1, and the absolute values of a statement's numbers, or of the
-/// objective's, add up to less than 2^100. The problem has as many variables as the first line
-/// tells, or as many as the greatest index where that is more.
+/// objective's, add up to less than 2^100. As many variables are named by numbers as the first
+/// line tells, or as many as the greatest index where that is more; behind them stand those of
+/// free names of at most 255 bytes, in the order in which the text first has them.
 pub fn read_opb(alloc: Global, text: &[u8]) -> Result<Problem, OpbFault>
     ensures reads { IfOk result (Reads text.now) }
     ensures within { IfOk result IsWithinLimits }
@@ -29,7 +32,7 @@ pub fn read_opb(alloc: Global, text: &[u8]) -> Result<Problem, OpbFault>
         });
     }
     match told_vars(text) {
-        Ok(told) => read_tokens(alloc, text, told),
+        Ok(told) => read_within(alloc, text, told),
         Err(place) => Err(OpbFault::Limit {
             place: Some(place),
             which: LimitKind::Variables,
@@ -37,11 +40,33 @@ pub fn read_opb(alloc: Global, text: &[u8]) -> Result<Problem, OpbFault>
     }
 }
 
-// Reads the tokens of a text whose first line tells a number of variables.
-fn read_tokens(alloc: Global, text: &[u8], told: u32) -> Result<Problem, OpbFault>
+// Reads a text whose first line tells a number of variables.
+fn read_within(alloc: Global, text: &[u8], told: u32) -> Result<Problem, OpbFault>
     requires admitted { IsAdmitted text.now }
     requires told { told ≡ told_vars text.now }
     ensures reads { IfOk result (Reads text.now) }
+    ensures within { IfOk result IsWithinLimits }
+    ensures fault { IfErr result (IsFirstFault text.now) }
+{
+    let named = match read_tokens(alloc, text) {
+        Ok(named) => named,
+        Err(fault) => return Err(fault),
+    };
+    match number(alloc, told, named) {
+        Ok(problem) => Ok(problem),
+        Err(NumberFault::Variables) => Err(OpbFault::Limit {
+            place: Some(end_of(text)),
+            which: LimitKind::Variables,
+        }),
+        Err(NumberFault::NoMemory) => Err(OpbFault::NoMemory),
+    }
+}
+
+// Reads the tokens of a text.
+fn read_tokens(alloc: Global, text: &[u8]) -> Result<NamedProblem<'_>, OpbFault>
+    requires { IsAdmitted text.now }
+    ensures spells { IfOk result (Spells text.now) }
+    ensures keeps { IfOk result (λ p. (which : LimitKind) → Keeps which p) }
     ensures fault { IfErr result (IsTokenFault text.now) }
 {
     let mut reader = Reader::new(alloc);
@@ -51,7 +76,7 @@ fn read_tokens(alloc: Global, text: &[u8], told: u32) -> Result<Problem, OpbFaul
             Err(refusal) => return Err(refusal.at(token.place)),
         }
     }
-    match reader.finish(told) {
+    match reader.finish() {
         Ok(problem) => Ok(problem),
         Err(refusal) => Err(refusal.at(end_of(text))),
     }

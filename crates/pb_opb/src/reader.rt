@@ -10,41 +10,39 @@ ghost use Rattle.pb_opb.specs.reader.Moves.{IsStopped, moved, with_term, with_st
 use crate::fault::Refusal;
 use crate::stage::{Part, Stage, Step, WEIGHT};
 use crate::symbol::symbol_of;
-use pb_base::{LimitKind, Problem, Raw, Relation, Statements, Term, Terms};
+use pb_base::{LimitKind, Relation, Seq};
+use pb_named::{NamedProblem, NamedStatement, NamedTerm, NamedTerms};
 use std::alloc::{AllocError, Global};
 use std::mem;
 
 /// What was read of a text so far.
 #[derive(Drop)]
-pub struct Reader {
-    pub objective: Option<Terms>,
-    pub statements: Statements,
+pub struct Reader<'a> {
+    pub objective: Option<NamedTerms<'a>>,
+    pub statements: Seq<NamedStatement<'a>>,
     pub stage: Stage,
     /// The terms of the open sum.
-    pub terms: Terms,
+    pub terms: NamedTerms<'a>,
     /// The absolute values of the open sum's numbers.
     pub weight: u128,
-    /// The greatest index so far.
-    pub greatest: u32,
 }
 
-impl Reader {
+impl<'a> Reader<'a> {
     pub fn new(alloc: Global) -> Self
         ensures read { IsRead result }
         ensures kinds { read_kinds result ≡ [] }
     {
         Reader {
             objective: None,
-            statements: Statements::new(alloc),
+            statements: Seq::new(alloc),
             stage: Stage::Start,
-            terms: Terms::new(alloc),
+            terms: NamedTerms::new(alloc),
             weight: 0,
-            greatest: 0,
         }
     }
 
     /// Takes a token, or says why not.
-    pub fn take(&mut self, alloc: Global, word: &[u8]) -> Result<(), Refusal>
+    pub fn take(&mut self, alloc: Global, word: &'a [u8]) -> Result<(), Refusal>
         requires { IsRead self.old }
         ensures ok { OnOk result (Took self.old self.new (kind_of word.now)) }
         ensures err { IfErr result (Refuses (read_kinds self.old) (kind_of word.now)) }
@@ -66,6 +64,7 @@ impl Reader {
             }
             Step::Wrong => Err(Refusal::Unexpected(self.stage.expected())),
             Step::Far => Err(Refusal::Limit(LimitKind::Variables)),
+            Step::Long => Err(Refusal::Limit(LimitKind::Name)),
         }
     }
 
@@ -88,11 +87,10 @@ impl Reader {
     }
 
     // Puts a term behind the open sum.
-    fn end_term(&mut self, part: Part, term: Term) -> Result<(), AllocError>
-        ensures { OnOk result (self.new ≡ with_term self.old part term) }
+    fn end_term(&mut self, part: Part, term: NamedTerm<'a>) -> Result<(), AllocError>
+        ensures { OnOk result (self.new ≡ with_term self.old part term.entry) }
     {
         self.terms.push(term)?;
-        self.greatest = self.greatest.max(term.lit.index());
         self.stage = Stage::Sum(part);
         Ok(())
     }
@@ -106,8 +104,8 @@ impl Reader {
     ) -> Result<(), AllocError>
         ensures { OnOk result (self.new ≡ with_statement self.old relation right) }
     {
-        let terms = mem::replace(&mut self.terms, Terms::new(alloc));
-        self.statements.push(Raw {
+        let terms = mem::replace(&mut self.terms, NamedTerms::new(alloc));
+        self.statements.push(NamedStatement {
             terms,
             relation,
             right,
@@ -121,21 +119,19 @@ impl Reader {
     fn end_objective(&mut self, alloc: Global)
         ensures { self.new ≡ with_objective self.old }
     {
-        self.objective = Some(mem::replace(&mut self.terms, Terms::new(alloc)));
+        self.objective = Some(mem::replace(&mut self.terms, NamedTerms::new(alloc)));
         self.weight = 0;
         self.stage = Stage::Next;
     }
 
-    /// Takes the end of the text, whose first line tells a number of variables.
-    pub fn finish(self, told: u32) -> Result<Problem, Refusal>
-        requires read { IsRead self }
-        requires few { told < 2 ^ 31 }
-        ensures ok { IfOk result (Finishes (read_kinds self) told) }
-        ensures err { IfErr result (Refuses (read_kinds self) end) }
+    /// Takes the end of the text.
+    pub fn finish(self) -> Result<NamedProblem<'a>, Refusal>
+        requires { IsRead self }
+        ensures ok { IfOk result (Finishes (read_kinds self.entry)) }
+        ensures err { IfErr result (Refuses (read_kinds self.entry) end) }
     {
         match self.stage {
-            Stage::Start | Stage::Next => Ok(Problem {
-                vars: told.max(self.greatest),
+            Stage::Start | Stage::Next => Ok(NamedProblem {
                 objective: self.objective,
                 statements: self.statements,
             }),

@@ -2,7 +2,8 @@
 ghost use Rattle.std.specs.Prelude.{◌≡◌};
 
 use crate::symbol::Symbol;
-use pb_base::{Expected, LimitKind, Lit, MAX_STATEMENTS, MAX_TERMS, Relation, Term, WEIGHT_BITS};
+use pb_base::{Expected, LimitKind, MAX_STATEMENTS, MAX_TERMS, Relation, WEIGHT_BITS};
+use pb_named::{NamedLit, NamedTerm};
 
 /// What a sum belongs to.
 #[derive(Clone, Copy, Debug, PartialEq, Eq)]
@@ -23,10 +24,10 @@ pub enum Stage {
 }
 
 /// What a token calls for.
-#[derive(Clone, Copy, Debug, PartialEq, Eq)]
-pub enum Step {
+#[derive(Debug, Drop)]
+pub enum Step<'a> {
     To(Stage),
-    EndTerm(Part, Term),
+    EndTerm(Part, NamedTerm<'a>),
     EndStatement(Relation, i128),
     EndObjective,
     Wrong,
@@ -34,6 +35,8 @@ pub enum Step {
     Wide(Stage),
     /// A literal of index 2 ^ 31 or more.
     Far,
+    /// A literal of a free name of more than 255 bytes.
+    Long,
 }
 
 /// The weight of a statement or objective is below this.
@@ -41,7 +44,9 @@ pub const WEIGHT: u128 = 1 << WEIGHT_BITS;
 
 impl Stage {
     ghost use Rattle.std.specs.Prelude.{ℤ, ◌+◌, ◌<◌, ◌≤◌, ◌^◌, unsigned_abs};
-    ghost use Rattle.pb_base.specs.declared.literal.Lit.{Lit};
+    ghost use Rattle.pb_named.specs.declared.named.NamedLit.{NamedLit};
+    ghost use Rattle.pb_named.specs.NamedProblems.{index_in};
+    ghost use Rattle.pb_opb.specs.Limits.{name_len};
     ghost use Rattle.pb_opb.specs.Grammar.{Kind};
     ghost use Rattle.pb_opb.specs.Grammar.Kind.{minimise, integer, literal, relation, semicolon};
     ghost use Rattle.pb_opb.specs.reader.Automaton.{expected};
@@ -123,8 +128,8 @@ impl Stage {
     }
 
     /// What a token calls for where a reader stands.
-    pub fn step(self, symbol: Symbol) -> Step
-        ensures { (k : Kind) → Shows symbol k → CallsFor self k result }
+    pub fn step(self, symbol: Symbol<'_>) -> Step<'_>
+        ensures { (k : Kind) → Shows symbol.entry k → CallsFor self k result }
     {
         match symbol {
             Symbol::Minimise => self.minimise(),
@@ -132,13 +137,14 @@ impl Stage {
             Symbol::Wide => self.wide(),
             Symbol::Literal(lit) => self.literal(lit),
             Symbol::Far => self.far(),
+            Symbol::Long => self.long(),
             Symbol::Relation(relation) => self.relation(relation),
             Symbol::Semicolon => self.semicolon(),
             Symbol::Other => Step::Wrong,
         }
     }
 
-    fn minimise(self) -> Step
+    fn minimise(self) -> Step<'static>
         ensures { CallsFor self minimise result }
     {
         match self {
@@ -147,7 +153,7 @@ impl Stage {
         }
     }
 
-    fn integer(self, n: i128) -> Step
+    fn integer(self, n: i128) -> Step<'static>
         ensures { CallsFor self (integer n) result }
     {
         match self {
@@ -160,7 +166,7 @@ impl Stage {
         }
     }
 
-    fn wide(self) -> Step
+    fn wide(self) -> Step<'static>
         ensures { (n : ℤ) → 2 ^ 126 ≤ unsigned_abs n → CallsFor self (integer n) result }
     {
         match self {
@@ -172,18 +178,19 @@ impl Stage {
         }
     }
 
-    fn literal(self, lit: Lit) -> Step
-        requires { lit.var < 2 ^ 31 }
-        ensures { CallsFor self (literal lit) result }
+    fn literal(self, lit: NamedLit<'_>) -> Step<'_>
+        requires near { index_in lit.name < 2 ^ 31 }
+        requires modest { name_len lit.name ≤ 255 }
+        ensures { CallsFor self (literal lit.entry) result }
     {
         match self {
-            Stage::Coefficient(part, coef) => Step::EndTerm(part, Term { coef, lit }),
+            Stage::Coefficient(part, coef) => Step::EndTerm(part, NamedTerm { coef, lit }),
             _ => Step::Wrong,
         }
     }
 
-    fn far(self) -> Step
-        ensures { (l : Lit) → 2 ^ 31 ≤ l.var → CallsFor self (literal l) result }
+    fn far(self) -> Step<'static>
+        ensures { (l : NamedLit) → 2 ^ 31 ≤ index_in l.name → CallsFor self (literal l) result }
     {
         match self {
             Stage::Coefficient(_, _) => Step::Far,
@@ -191,7 +198,16 @@ impl Stage {
         }
     }
 
-    fn relation(self, sign: Relation) -> Step
+    fn long(self) -> Step<'static>
+        ensures { (l : NamedLit) → 255 < name_len l.name → CallsFor self (literal l) result }
+    {
+        match self {
+            Stage::Coefficient(_, _) => Step::Long,
+            _ => Step::Wrong,
+        }
+    }
+
+    fn relation(self, sign: Relation) -> Step<'static>
         ensures { CallsFor self (relation sign) result }
     {
         match self {
@@ -202,7 +218,7 @@ impl Stage {
         }
     }
 
-    fn semicolon(self) -> Step
+    fn semicolon(self) -> Step<'static>
         ensures { CallsFor self semicolon result }
     {
         match self {

@@ -32,7 +32,10 @@ fn first_faults(rt: HostRuntime) -> Result<(), Fail> {
         ("+1 ~ x1 >= 1 ;", "1:4: a literal"),
         ("+ 1 x1 >= 1 ;", "1:1: min:, a statement or the end"),
         ("+1 x1 >= 1 2 ;", "1:12: ;"),
-        ("+1 x1\n\t+1 y >= 1 ;", "2:5: a literal"),
+        ("+1 x1\n\t+1 2y >= 1 ;", "2:5: a literal"),
+        ("+1 ~~a >= 1 ;", "1:4: a literal"),
+        ("+1 a.b >= 1 ;", "1:4: a literal"),
+        ("+1 ~x00 >= 1 ;", "1:4: a literal"),
         ("+1 x1 * c\n>= 1 * ;", "2:9: ;"),
     ];
     for (text, expected) in cases {
@@ -68,6 +71,11 @@ fn limits_and_variables(rt: HostRuntime) -> Result<(), Fail> {
             "1:39: limit weight",
         ),
         ("+1 x2147483648 >= 1 ;", "1:4: limit variables"),
+        ("+1 x2147483647 >= 1 ;", "2147483647 variables"),
+        (
+            "+1 a >= 1 ;\n+1 x2147483647 >= 1 ;",
+            "2:22: limit variables",
+        ),
         (
             "* #variable= 340282366920938463463374607431768211456\n(",
             "1:14: limit variables",
@@ -77,6 +85,52 @@ fn limits_and_variables(rt: HostRuntime) -> Result<(), Fail> {
         let found = read(rt.alloc(), text.as_bytes());
         assert_eq!(rt; found.as_deref(), Some(expected), "at {text}");
     }
+    Ok(())
+}
+
+// How many variables a text names by numbers, and the free names of the others.
+fn names(alloc: Global, text: &[u8]) -> Option<String> {
+    let problem = read_opb(alloc, text).ok()?;
+    let mut shown = format!(in alloc; "{}", problem.numbered).ok()?;
+    for name in problem.names.as_slice() {
+        shown.push_str(" ").ok()?;
+        shown.push_str(str::from_utf8(name.as_slice()).ok()?).ok()?;
+    }
+    Some(shown)
+}
+
+#[test]
+fn free_names(rt: HostRuntime) -> Result<(), Fail> {
+    let cases = [
+        ("+1 x2 +1 ~x1 >= 1 ;", "2"),
+        ("+1 rain +1 x2 +1 ~sun >= 2 ;", "2 rain sun"),
+        ("min: +1 ~sun ;\n+1 rain +1 x2 +1 sun >= 2 ;", "2 sun rain"),
+        (
+            "* #variable= 7\n+1 x +1 X1 +1 _[2]{^}-x >= 1 ;",
+            "7 x X1 _[2]{^}-x",
+        ),
+        ("+1 x1a +1 xx1 +1 x1 >= 1 ;", "1 x1a xx1"),
+    ];
+    for (text, expected) in cases {
+        let found = names(rt.alloc(), text.as_bytes());
+        assert_eq!(rt; found.as_deref(), Some(expected), "at {text}");
+    }
+    Ok(())
+}
+
+#[test]
+fn long_names(rt: HostRuntime) -> Result<(), Fail> {
+    let mut text = Vec::new(rt.alloc());
+    text.extend_from_slice(b"+1 ~")?;
+    for _ in 0..255 {
+        text.push(b'a')?;
+    }
+    text.extend_from_slice(b" >= 1 ;\n+1 a")?;
+    for _ in 0..255 {
+        text.push(b'a')?;
+    }
+    let found = read(rt.alloc(), text.as_slice());
+    assert_eq!(rt; found.as_deref(), Some("2:4: limit name"));
     Ok(())
 }
 

@@ -1,21 +1,22 @@
 -- What was read of a text so far, as its tokens.
-use Rattle.std.specs.Prelude.{◌≡◌, ℕ, max, ◌+◌, ◌<◌, ◌≤◌, ◌^◌, length, unsigned_abs, List, [], ◌∷◌, ◌++◌, Option, Some, None, ℤ, pos, true}
+use Rattle.std.specs.Prelude.{◌≡◌, ℕ, ◌+◌, ◌<◌, ◌≤◌, ◌^◌, length, unsigned_abs, List, [], ◌∷◌, ◌++◌, Option, Some, None, ℤ, pos, true}
 use Rattle.std.specs.List.{flat_map, AllByRecursion}
-use Rattle.pb_base.specs.declared.literal.Term.{Term}
+use Rattle.pb_named.specs.declared.named.NamedTerm.{NamedTerm}
 use Rattle.pb_base.specs.declared.problem.Relation.{Relation}
 use Rattle.pb_base.specs.declared.problem.Relation.TheVariants.{AtLeast}
-use Rattle.pb_base.specs.declared.problem.Raw.{Raw}
+use Rattle.pb_named.specs.declared.named.NamedStatement.{NamedStatement}
+use Rattle.pb_named.specs.declared.named.NamedProblem.{NamedProblem}
 use Rattle.pb_opb.specs.declared.stage.Part.{Part}
 use Rattle.pb_opb.specs.declared.stage.Part.TheVariants.{Objective, Statement}
 use Rattle.pb_opb.specs.declared.stage.Stage.{Stage}
 use Rattle.pb_opb.specs.declared.stage.Stage.TheVariants.{Start, Next, Sum, Coefficient, Related, Right}
 use Rattle.pb_base.specs.declared.limit.LimitKind.{LimitKind}
-use Rattle.pb_base.specs.Problems.{magnitude}
 use Rattle.pb_opb.specs.declared.reader.Reader.{Reader}
-use Rattle.pb_opb.specs.Limits.{Keeps}
+use Rattle.pb_opb.specs.Limits.{name_len, named_magnitude, Keeps}
 use Rattle.pb_opb.specs.Grammar.{Kind, sum_kinds, objective_kinds, statement_kinds}
-use Rattle.pb_opb.specs.Written.{Written}
-use Rattle.pb_opb.specs.Grammar.Kind.{minimise, integer, literal, relation}
+use Rattle.pb_named.specs.NamedProblems.{index_in}
+use Rattle.pb_named.specs.Names.Name.{index}
+use Rattle.pb_opb.specs.Grammar.Kind.{minimise, integer, relation}
 use Rattle.pb_opb.specs.reader.Automaton.{ReaderState, run}
 use Rattle.pb_opb.specs.reader.Automaton.ReaderState.{start, next, in_sum, coefficient, related, right}
 
@@ -23,7 +24,7 @@ abbrev pub part_kinds : Part → List Kind
 part_kinds Objective = minimise ∷ []
 part_kinds Statement = []
 
-abbrev pub stage_kinds : Stage → List Term → List Kind
+abbrev pub stage_kinds : Stage → List NamedTerm → List Kind
 stage_kinds Start ts = []
 stage_kinds Next ts = []
 stage_kinds (Sum part) ts = part_kinds part ++ sum_kinds ts
@@ -31,20 +32,20 @@ stage_kinds (Coefficient part c) ts = part_kinds part ++ sum_kinds ts ++ integer
 stage_kinds (Related r) ts = sum_kinds ts ++ relation r ∷ []
 stage_kinds (Right r n) ts = sum_kinds ts ++ relation r ∷ integer n ∷ []
 
-abbrev pub front_kinds : Option (List Term) → List Raw → Stage → List Term → List Kind
+abbrev pub front_kinds : Option (List NamedTerm) → List NamedStatement → Stage → List NamedTerm → List Kind
 front_kinds o ss stage ts = objective_kinds o ++ flat_map statement_kinds ss ++ stage_kinds stage ts
 
-abbrev pub written_of : Option (List Term) → List Raw → Written
+abbrev pub written_of : Option (List NamedTerm) → List NamedStatement → NamedProblem
 written_of o ss = record { objective = o; statements = ss }
 
-abbrev pub raw : List Term → Relation → ℤ → Raw
+abbrev pub raw : List NamedTerm → Relation → ℤ → NamedStatement
 raw ts r n = record { terms = ts; relation = r; right = n }
 
-abbrev pub first : ℤ → Term
-first c = record { coef = c; lit = record { var = 1; positive = true } }
+abbrev pub first : ℤ → NamedTerm
+first c = record { coef = c; lit = record { name = index 1; positive = true } }
 
 -- the shortest end of what was read
-abbrev pub complete : Option (List Term) → List Raw → Stage → List Term → Written
+abbrev pub complete : Option (List NamedTerm) → List NamedStatement → Stage → List NamedTerm → NamedProblem
 complete o ss Start ts = written_of o ss
 complete o ss Next ts = written_of o ss
 complete o ss (Sum Objective) ts = written_of (Some ts) ss
@@ -63,22 +64,22 @@ state_of (Related r) = related
 state_of (Right r n) = right
 
 -- nothing stands before the objective, and between statements no sum is open
-abbrev pub IsPlaced : Option (List Term) → List Raw → Stage → List Term → Type 0
+abbrev pub IsPlaced : Option (List NamedTerm) → List NamedStatement → Stage → List NamedTerm → Type 0
 IsPlaced o ss Start ts = (o ≡ None) × (ss ≡ []) × (ts ≡ [])
 IsPlaced o ss Next ts = ts ≡ []
 IsPlaced o ss (Sum Objective) ts = (o ≡ None) × (ss ≡ [])
 IsPlaced o ss (Coefficient Objective c) ts = (o ≡ None) × (ss ≡ [])
 IsPlaced o ss _ ts = Unit {0}
 
-pub record IsFront (o : Option (List Term)) (ss : List Raw) (stage : Stage) (ts : List Term) : Type 0 where
+pub record IsFront (o : Option (List NamedTerm)) (ss : List NamedStatement) (stage : Stage) (ts : List NamedTerm) : Type 0 where
   pub placed : IsPlaced o ss stage ts
   pub runs : run start (front_kinds o ss stage ts) ≡ Some (state_of stage)
 
 -- what was read of the open sum, with what the stage keeps of it
-abbrev pub open_weight : Stage → List Term → ℕ
-open_weight (Coefficient part c) ts = magnitude ts + unsigned_abs c
-open_weight (Right r n) ts = magnitude ts + unsigned_abs n
-open_weight _ ts = magnitude ts
+abbrev pub open_weight : Stage → List NamedTerm → ℕ
+open_weight (Coefficient part c) ts = named_magnitude ts + unsigned_abs c
+open_weight (Right r n) ts = named_magnitude ts + unsigned_abs n
+open_weight _ ts = named_magnitude ts
 
 -- how many statements and terms a stage has begun
 abbrev pub begun_statements : Stage → ℕ
@@ -92,15 +93,6 @@ abbrev pub begun_terms : Stage → ℕ
 begun_terms (Coefficient part c) = 1
 begun_terms _ = 0
 
--- the greatest index, or 0
-abbrev pub index_of : Kind → ℕ
-index_of (literal l) = l.var
-index_of _ = 0
-
-abbrev pub greatest : List Kind → ℕ
-greatest [] = 0
-greatest (k ∷ ks) = max (index_of k) (greatest ks)
-
 -- the tokens that a reader took
 abbrev pub read_kinds : Reader → List Kind
 read_kinds r = front_kinds r.objective r.statements r.stage r.terms
@@ -109,9 +101,9 @@ read_kinds r = front_kinds r.objective r.statements r.stage r.terms
 pub record IsRead (r : Reader) : Type 0 where
   pub front : IsFront r.objective r.statements r.stage r.terms
   pub closed : (which : LimitKind) → Keeps which (written_of r.objective r.statements)
-  pub near : AllByRecursion (λ t. t.lit.var < 2 ^ 31) r.terms
+  pub near : AllByRecursion (λ t. index_in t.lit.name < 2 ^ 31) r.terms
+  pub modest : AllByRecursion (λ t. name_len t.lit.name ≤ 255) r.terms
   pub few : length r.statements + begun_statements r.stage ≤ 2 ^ 24
   pub short : length r.terms + begun_terms r.stage ≤ 2 ^ 20
   pub weighed : r.weight ≡ open_weight r.stage r.terms
   pub light : r.weight < 2 ^ 100
-  pub reached : r.greatest ≡ greatest (read_kinds r)

@@ -1,19 +1,21 @@
 -- What a token calls for, from each stage of reading.
 use Rattle.std.specs.Prelude.{◌≡◌, ℕ, ◌+◌, ◌<◌, ◌≤◌, ◌^◌, ℤ, unsigned_abs, List, [], ◌∷◌, ◌++◌, Option, Bool, true, false}
-use Rattle.pb_base.specs.declared.literal.Lit.{Lit}
-use Rattle.pb_base.specs.declared.literal.Term.{Term}
-use Rattle.pb_base.specs.declared.problem.Raw.{Raw}
+use Rattle.pb_named.specs.declared.named.NamedLit.{NamedLit}
+use Rattle.pb_named.specs.declared.named.NamedTerm.{NamedTerm}
+use Rattle.pb_named.specs.declared.named.NamedStatement.{NamedStatement}
 use Rattle.pb_opb.specs.declared.stage.Part.{Part}
 use Rattle.pb_opb.specs.declared.stage.Part.TheVariants.{Objective, Statement}
 use Rattle.pb_opb.specs.declared.stage.Stage.{Stage}
 use Rattle.pb_opb.specs.declared.stage.Stage.TheVariants.{Sum, Coefficient, Right}
 use Rattle.pb_opb.specs.declared.stage.Step.{Step}
-use Rattle.pb_opb.specs.declared.stage.Step.TheVariants.{To, Wide, EndTerm, EndStatement, EndObjective, Wrong, Far}
+use Rattle.pb_opb.specs.declared.stage.Step.TheVariants.{To, Wide, EndTerm, EndStatement, EndObjective, Wrong, Far, Long}
 use Rattle.pb_opb.specs.Grammar.{Kind}
+use Rattle.pb_named.specs.NamedProblems.{index_in}
 use Rattle.pb_opb.specs.Grammar.Kind.{literal, semicolon}
 use Rattle.pb_opb.specs.Faults.{allows}
 use Rattle.pb_opb.specs.reader.Automaton.{expected, move}
-use Rattle.pb_opb.specs.reader.Front.{index_of, state_of, front_kinds, open_weight, begun_statements, begun_terms, IsPlaced}
+use Rattle.pb_opb.specs.reader.Front.{state_of, front_kinds, open_weight, begun_statements, begun_terms, IsPlaced}
+use Rattle.pb_opb.specs.Limits.{name_len}
 
 -- how much a stage adds to the sum's weight
 abbrev pub stage_weight : Stage → ℕ
@@ -27,12 +29,11 @@ is_open_sum _ = false
 
 -- the token alone leads from one stage to another
 pub record Leads (from : Stage) (k : Kind) (to : Stage) : Type 0 where
-  pub kinds : (o : Option (List Term)) (ss : List Raw) (ts : List Term) → IsPlaced o ss from ts → front_kinds o ss to ts ≡ front_kinds o ss from ts ++ k ∷ []
-  pub placed : (o : Option (List Term)) (ss : List Raw) (ts : List Term) → IsPlaced o ss from ts → IsPlaced o ss to ts
+  pub kinds : (o : Option (List NamedTerm)) (ss : List NamedStatement) (ts : List NamedTerm) → IsPlaced o ss from ts → front_kinds o ss to ts ≡ front_kinds o ss from ts ++ k ∷ []
+  pub placed : (o : Option (List NamedTerm)) (ss : List NamedStatement) (ts : List NamedTerm) → IsPlaced o ss from ts → IsPlaced o ss to ts
   pub allowed : allows (expected (state_of from)) k ≡ true
   pub moves : move (state_of from) k ≡ state_of to
-  pub weighs : (ts : List Term) → open_weight to ts ≡ open_weight from ts + stage_weight to
-  pub unnamed : index_of k ≡ 0
+  pub weighs : (ts : List NamedTerm) → open_weight to ts ≡ open_weight from ts + stage_weight to
   pub shown : is_open_sum to ≡ false
 
 -- an integer too wide, which would lead to a stage as this one is, but for its number
@@ -45,9 +46,10 @@ pub record LeadsAs (from : Stage) (k : Kind) (to : Stage) : Type 0 where
 
 abbrev pub CallsFor : Stage → Kind → Step → Type 0
 CallsFor stage k (To next) = Leads stage k next
-CallsFor stage k (EndTerm part t) = (stage ≡ Coefficient part t.coef) × (k ≡ literal t.lit) × (t.lit.var < 2 ^ 31)
+CallsFor stage k (EndTerm part t) = (stage ≡ Coefficient part t.coef) × (k ≡ literal t.lit) × (index_in t.lit.name < 2 ^ 31) × (name_len t.lit.name ≤ 255)
 CallsFor stage k (EndStatement r n) = (stage ≡ Right r n) × (k ≡ semicolon)
 CallsFor stage k EndObjective = (stage ≡ Sum Objective) × (k ≡ semicolon)
 CallsFor stage k Wrong = allows (expected (state_of stage)) k ≡ false
 CallsFor stage k (Wide next) = LeadsAs stage k next
-CallsFor stage k Far = (l : Lit) × (part : Part) × (c : ℤ) × (stage ≡ Coefficient part c) × (k ≡ literal l) × (2 ^ 31 ≤ l.var)
+CallsFor stage k Far = (l : NamedLit) × (part : Part) × (c : ℤ) × (stage ≡ Coefficient part c) × (k ≡ literal l) × (2 ^ 31 ≤ index_in l.name)
+CallsFor stage k Long = (l : NamedLit) × (part : Part) × (c : ℤ) × (stage ≡ Coefficient part c) × (k ≡ literal l) × (255 < name_len l.name)

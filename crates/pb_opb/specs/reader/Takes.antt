@@ -1,7 +1,6 @@
 -- What a reader answers to a token.
 use Rattle.std.specs.Prelude.{◌≡◌, ℕ, ◌+◌, ◌<◌, ◌≤◌, ◌^◌, List, [], ◌∷◌, ◌++◌, length, Option, Some, None}
 use Rattle.pb_base.specs.declared.place.Place.{Place}
-use Rattle.pb_base.specs.declared.problem.Problem.{Problem}
 use Rattle.pb_base.specs.declared.limit.LimitKind.{LimitKind}
 use Rattle.pb_base.specs.declared.limit.LimitKind.TheVariants.{Statements, Terms, Weight}
 use Rattle.pb_opb.specs.declared.fault.Refusal.{Refusal}
@@ -12,7 +11,7 @@ use Rattle.pb_opb.specs.declared.reader.Reader.{Reader}
 use Rattle.pb_opb.specs.declared.stage.Stage.{Stage}
 use Rattle.pb_opb.specs.Grammar.{Kind, text_kinds}
 use Rattle.pb_opb.specs.Grammar.Kind.{end}
-use Rattle.pb_opb.specs.Written.{Written, problem_of}
+use Rattle.pb_named.specs.declared.named.NamedProblem.{NamedProblem}
 use Rattle.pb_opb.specs.Limits.{Keeps, BeginsWithin, IsWithinEach, rank}
 use Rattle.pb_opb.specs.Faults.{Begins, Expects, IsWrong, IsTooGreat}
 use Rattle.pb_opb.specs.reader.Front.{IsRead, read_kinds, begun_statements, begun_terms}
@@ -40,12 +39,10 @@ pub record Took (old new : Reader) (k : Kind) : Type 0 where
   pub read : IsRead new
   pub kinds : read_kinds new ≡ read_kinds old ++ k ∷ []
 
--- the tokens and the end spell the problem
-pub record Finishes (before : List Kind) (told : ℕ) (p : Problem) : Type 0 where
-  pub written : Written
-  pub kinds : text_kinds written ≡ before ++ end ∷ []
-  pub keeps : (which : LimitKind) → Keeps which written
-  pub means : p ≡ problem_of told written
+-- the tokens and the end spell what is written
+pub record Finishes (before : List Kind) (w : NamedProblem) : Type 0 where
+  pub kinds : text_kinds w ≡ before ++ end ∷ []
+  pub keeps : (which : LimitKind) → Keeps which w
 
 abbrev pub fault_at : Place → Refusal → OpbFault
 fault_at p (Unexpected e) = Token p e

@@ -3,7 +3,7 @@ use Rattle.pb_base.specs.Tokens.{Piece}
 use Rattle.pb_opb.specs.Grammar.{Kind, kind_of}
 use Rattle.pb_opb.specs.Grammar.Kind.{end}
 use Rattle.pb_opb.specs.reader.Takes.{Refuses, Finishes, IsTokenFault, fault_at}
-use Rattle.pb_opb.proofs.Reading.{piece_kinds, fault-at_token, fault-at_end, says, read-more}
+use Rattle.pb_opb.proofs.Reading.{fault-at_token, fault-at_end, spells, read-more}
 use Rattle.pb_opb.proofs.read.read_tokens.Goals as goal
 
 pub loop-token-preserved : goal.loop-token-preserved
@@ -21,21 +21,21 @@ pub returns-in-Err-clause-fault : goal.returns-in-Err-clause-fault
 returns-in-Err-clause-fault c =
     let (before, cut, read, kept) = c.loop-token.invariant in
     subst (IsTokenFault c.args.text.now) (sym c.at.ensures)
-    (fault-at_token c.args.text.now before c.next.new.self _ c.in-Err.refusal c.requires.admitted
+    (fault-at_token c.args.text.now before c.next.new.self _ c.in-Err.refusal c.requires
     (cut ∙ ap (λ (ts : List Piece). before ++ ts) c.in-Some.ensures.steps)
     (subst (λ (ks : List Kind). Refuses ks (kind_of c.in-Some.token.text.now) c.in-Err.refusal) read c.in-Err.ensures.err))
 
-pub returns-in-Ok-finish-clause-reads : goal.returns-in-Ok-finish-clause-reads
-returns-in-Ok-finish-clause-reads c =
+pub returns-in-Ok-finish-clause-spells : goal.returns-in-Ok-finish-clause-spells
+returns-in-Ok-finish-clause-spells c =
     let (before, cut, read, kept) = c.loop-token.invariant in
-    says c.args.text.now before c.in-Ok-finish.problem c.requires.admitted
+    spells c.args.text.now before c.in-Ok-finish.problem
     (cut ∙ ap (λ (ts : List Piece). before ++ ts) c.in-None.ensures.steps.0 ∙ append-nil before)
-    (subst (λ n. Finishes (piece_kinds before) n c.in-Ok-finish.problem) c.requires.told (subst (λ (ks : List Kind). Finishes ks c.args.told c.in-Ok-finish.problem) read c.in-Ok-finish.ensures.ok))
+    (subst (λ (ks : List Kind). Finishes ks c.in-Ok-finish.problem) read c.in-Ok-finish.ensures.ok)
 
 pub returns-in-Err-finish-clause-fault : goal.returns-in-Err-finish-clause-fault
 returns-in-Err-finish-clause-fault c =
     let (before, cut, read, kept) = c.loop-token.invariant in
     subst (IsTokenFault c.args.text.now) (sym (c.at-in-Err-finish.ensures ∙ ap (λ p. fault_at p c.in-Err-finish.refusal) c.end_of.ensures))
-    (fault-at_end c.args.text.now before c.in-Err-finish.refusal c.requires.admitted
+    (fault-at_end c.args.text.now before c.in-Err-finish.refusal c.requires
     (cut ∙ ap (λ (ts : List Piece). before ++ ts) c.in-None.ensures.steps.0 ∙ append-nil before)
     (subst (λ (ks : List Kind). Refuses ks end c.in-Err-finish.refusal) read c.in-Err-finish.ensures.err))

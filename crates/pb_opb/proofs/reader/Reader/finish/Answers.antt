@@ -8,10 +8,10 @@ use Rattle.pb_opb.proofs.Kept.{finishes, unended}
 use Rattle.pb_opb.proofs.reader.Reader.finish.Goals as goal
 
 pub returns-in-Start-clause-ok : goal.returns-in-Start-clause-ok
-returns-in-Start-clause-ok c = finishes c.args.self c.args.told c.max.result c.requires.read c.in-Start.is c.max.ensures
+returns-in-Start-clause-ok c = finishes c.args.self c.requires c.in-Start.is
 
-pub returns-in_default : goal.returns-in_default
-returns-in_default c = record {
+pub returns : goal.returns
+returns c = record {
   ok = tt;
-  err = subst (λ (e : Expected). Refuses (read_kinds c.args.self) end (Unexpected e)) (sym c.expected.ensures) (unended c.args.self c.requires.read c.in_default.not-Start c.in_default.not-Next);
+  err = subst (λ (e : Expected). Refuses (read_kinds c.args.self) end (Unexpected e)) (sym c.expected.ensures) (unended c.args.self c.requires c.in_default.not-Start c.in_default.not-Next);
 }

@@ -9,7 +9,7 @@ use Rattle.pb_base.specs.declared.expected.Expected.{Expected}
 use Rattle.pb_opb.specs.Grammar.{kind_of}
 use Rattle.pb_opb.specs.reader.Front.{read_kinds}
 use Rattle.pb_opb.specs.reader.Takes.{Refuses, Took}
-use Rattle.pb_opb.proofs.Kept.{went, stopped-at, wide-stopped, took-literal, took-semicolon, took-end, too-far, unexpected}
+use Rattle.pb_opb.proofs.Kept.{went, stopped-at, wide-stopped, took-literal, took-semicolon, took-end, too-far, too-long-name, unexpected}
 use Rattle.pb_opb.proofs.reader.Reader.take.Goals as goal
 
 pub returns-in-To-clause-ok : goal.returns-in-To-clause-ok
@@ -46,3 +46,8 @@ pub returns-in-Far-clause-err : goal.returns-in-Far-clause-err
 returns-in-Far-clause-err c = let k = kind_of c.args.word.now in
     let (l, part, coef, at, says, far) = c.in-Far.ensures k c.symbol_of.ensures in
     too-far c.args.self.now c.requires k l part coef at says far
+
+pub returns-in-Long-clause-err : goal.returns-in-Long-clause-err
+returns-in-Long-clause-err c = let k = kind_of c.args.word.now in
+    let (l, part, coef, at, says, long) = c.in-Long.ensures k c.symbol_of.ensures in
+    too-long-name c.args.self.now c.requires k l part coef at says long

@@ -1,0 +1,3 @@
+pub mod NamedProblems
+pub mod Names
+pub mod laws

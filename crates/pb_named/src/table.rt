@@ -1,0 +1,133 @@
+//! The names of a text's variables.
+ghost use Rattle.std.specs.Prelude.{◌≡◌, ◌+◌, ◌<◌, ◌^◌, OnOk, IfOk, map, length};
+ghost use Rattle.std.specs.List.{position_or_len};
+ghost use Rattle.std.specs.Str.{bytes_eq};
+ghost use Rattle.pb_base.specs.Firsts.{with_item};
+ghost use Rattle.pb_named.specs.laws.Numbering.{noted, place_in, IsKnown, size};
+
+use crate::named::{Name, NamedTerm, Parts};
+use indexmap::IndexSet;
+use pb_base::{Bytes, Lit, Names, NoMemory, Term, Var};
+use std::alloc::Global;
+use std::marker::Model;
+
+/// How many variables are named by numbers, and the free names of the others, in first-seen order.
+#[derive(Drop)]
+pub struct Table<'a> {
+    numbered: u32,
+    names: IndexSet<&'a [u8]>,
+}
+
+impl<'a> Model for Table<'a> {
+    ghost use Rattle.std.specs.Prelude.{◌<◌, ◌^◌, map};
+    ghost use Rattle.pb_named.specs.NamedProblems.{Table as TableOf};
+
+    ghost Value = { TableOf };
+
+    ghost view = { λ t. record { numbered = t.numbered; names = map (λ n. n.now) t.names.keys } };
+
+    ghost invariant = { λ t. t.numbered < 2 ^ 31 };
+}
+
+// One free name more, and its place.
+fn note_free<'a>(names: &mut IndexSet<&'a [u8]>, text: &'a [u8]) -> Result<usize, NoMemory>
+    ensures noted { OnOk result (map (λ n. n.now) names.new.keys ≡ with_item bytes_eq (map (λ n. n.now) names.old.keys) text.now) }
+    ensures place { IfOk result (λ p. p ≡ position_or_len (bytes_eq text.now) (with_item bytes_eq (map (λ n. n.now) names.old.keys) text.now)) }
+{
+    match names.insert_full(text) {
+        Ok((place, _)) => Ok(place),
+        Err(_) => Err(NoMemory),
+    }
+}
+
+// The free names, as lists of bytes.
+fn names_in(alloc: Global, names: &[&[u8]]) -> Result<Names, NoMemory>
+    ensures { IfOk result (λ ns. ns ≡ map (λ n. n.now) names.now) }
+{
+    let mut list = Names::new(alloc);
+    for name in names {
+        list.push(Bytes::from_vec(name.to_vec(alloc)?))?;
+    }
+    Ok(list)
+}
+
+impl<'a> Table<'a> {
+    ghost use Rattle.std.specs.Prelude.{[]};
+    ghost use Rattle.pb_named.specs.NamedProblems.{var_of, term_of};
+
+    /// No name, where a number of variables is told.
+    pub fn new(alloc: Global, told: u32) -> Self
+        requires { told < 2 ^ 31 }
+        ensures { result ≡ record { numbered = told; names = [] } }
+    {
+        Table {
+            numbered: told,
+            names: IndexSet::new(alloc),
+        }
+    }
+
+    /// One name more, and its place among the free ones.
+    pub fn note(&mut self, name: &Name<'a>) -> Result<usize, NoMemory>
+        ensures noted { OnOk result (self.new ≡ noted self.old name.now) }
+        ensures place { IfOk result (λ p. p ≡ place_in (noted self.old name.now) name.now) }
+    {
+        match name.parts() {
+            Parts::Index(number) => {
+                self.numbered = self.numbered.max(number);
+                Ok(0)
+            }
+            Parts::Free(text) => note_free(&mut self.names, text),
+        }
+    }
+
+    /// How many variables are named by numbers.
+    pub fn numbered(&self) -> u32
+        ensures value { result ≡ self.now.numbered }
+        ensures bound { result < 2 ^ 31 }
+    {
+        self.numbered
+    }
+
+    /// How many variables have free names.
+    pub fn free(&self) -> usize
+        ensures { result ≡ length self.now.names }
+    {
+        self.names.len()
+    }
+
+    /// The free names.
+    pub fn names(&self, alloc: Global) -> Result<Names, NoMemory>
+        ensures { IfOk result (λ ns. ns ≡ self.now.names) }
+    {
+        names_in(alloc, self.names.as_slice())
+    }
+
+    /// The variable of a name, whose place is told.
+    pub fn var_of(&self, name: &Name<'_>, place: usize) -> Var
+        requires place { place ≡ place_in self.now name.now }
+        requires known { IsKnown self.now name.now }
+        requires few { size self.now < 2 ^ 31 }
+        ensures { result ≡ var_of self.now name.now }
+    {
+        match name.parts() {
+            Parts::Index(number) => Var::new(number),
+            Parts::Free(_) => Var::new(self.numbered + 1 + place as u32),
+        }
+    }
+
+    /// The term in numbers, where the place of its name is told.
+    pub fn term_of(&self, term: &NamedTerm<'_>, place: usize) -> Term
+        requires place { place ≡ place_in self.now term.now.lit.name }
+        requires known { IsKnown self.now term.now.lit.name }
+        requires few { size self.now < 2 ^ 31 }
+        ensures { result ≡ term_of self.now term.now }
+    {
+        Term {
+            coef: term.coef,
+            lit: Lit {
+                var: self.var_of(&term.lit.name, place),
+                positive: term.lit.positive,
+            },
+        }
+    }
+}
