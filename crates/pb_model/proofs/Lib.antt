@@ -4,4 +4,5 @@ pub mod Cutting
 pub mod Sums
 pub mod Told
 pub mod ValueWords
+pub mod MapLines
 pub mod FirstFaults

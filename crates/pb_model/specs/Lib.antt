@@ -2,6 +2,8 @@ pub mod ModelLines
 pub mod ModelReading
 pub mod Examples
 pub mod Decoding
+pub mod VariableNames
+pub mod MapText
 pub mod SolutionText
 pub mod SolutionExamples
 pub mod laws

@@ -1,11 +1,12 @@
--- Worked examples of solutions and of their texts.
+-- Worked examples of the texts of solutions and of free names.
 use Rattle.std.specs.Prelude.{◌≡◌, ℕ, Bool, true, false, [], ◌∷◌, Some, None, refl, codes, pos, negsuc, ℤ}
 use Rattle.std.specs.Fmt.{digits}
 use Rattle.pb_base.specs.declared.literal.Term.{Term}
 use Rattle.pb_base.specs.declared.problem.Problem.{Problem}
 use Rattle.pb_base.specs.declared.problem.Raw.{Raw}
-use Rattle.pb_base.specs.declared.problem.Relation.TheVariants.{Equal}
+use Rattle.pb_base.specs.declared.problem.Relation.TheVariants.{AtLeast, Equal}
 use Rattle.pb_model.specs.SolutionText.{solution_text}
+use Rattle.pb_model.specs.MapText.{map_text}
 
 abbrev weighing : ℤ → ℕ → Bool → Term
 weighing coef v positive = record { coef = coef; lit = record { var = v; positive = positive } }
@@ -15,11 +16,11 @@ abbrev one_of_two : Raw
 one_of_two = record { terms = weighing (pos 1) 1 true ∷ weighing (pos 1) 2 true ∷ []; relation = Equal; right = pos 1 }
 
 abbrev plain : Problem
-plain = record { vars = 2; objective = None; statements = one_of_two ∷ [] }
+plain = record { vars = 2; numbered = 2; names = []; objective = None; statements = one_of_two ∷ [] }
 
 -- with 3 for the first, less 1 where the second is false
 abbrev valued : Problem
-valued = record { vars = 2; objective = Some (weighing (pos 3) 1 true ∷ weighing (negsuc 0) 2 false ∷ []); statements = one_of_two ∷ [] }
+valued = record { vars = 2; numbered = 2; names = []; objective = Some (weighing (pos 3) 1 true ∷ weighing (negsuc 0) 2 false ∷ []); statements = one_of_two ∷ [] }
 
 pub without_an_objective : solution_text plain (true ∷ false ∷ []) ≡ codes "s SATISFIABLE\nv x1 -x2\n"
 unfolding digits
@@ -29,6 +30,24 @@ pub with_an_objective : solution_text valued (true ∷ false ∷ []) ≡ codes "
 unfolding digits
 with_an_objective = refl
 
-pub of_no_variables : solution_text (record { vars = 0; objective = Some []; statements = [] }) [] ≡ codes "o 0\ns SATISFIABLE\nv\n"
+pub of_no_variables : solution_text (record { vars = 0; numbered = 0; names = []; objective = Some []; statements = [] }) [] ≡ codes "o 0\ns SATISFIABLE\nv\n"
 unfolding digits
 of_no_variables = refl
+
+-- two of `rain`, `x2` and `~sun`
+abbrev two_of_three : Raw
+two_of_three = record { terms = weighing (pos 1) 3 true ∷ weighing (pos 1) 2 true ∷ weighing (pos 1) 4 false ∷ []; relation = AtLeast; right = pos 2 }
+
+abbrev weather : Problem
+weather = record { vars = 4; numbered = 2; names = codes "rain" ∷ codes "sun" ∷ []; objective = None; statements = two_of_three ∷ [] }
+
+pub by_names : solution_text weather (false ∷ true ∷ true ∷ false ∷ []) ≡ codes "s SATISFIABLE\nv -x1 x2 rain -sun\n"
+unfolding digits
+by_names = refl
+
+pub free_names : map_text weather ≡ codes "3 rain\n4 sun\n"
+unfolding digits
+free_names = refl
+
+pub no_free_names : map_text plain ≡ []
+no_free_names = refl

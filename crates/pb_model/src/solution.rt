@@ -1,11 +1,12 @@
 //! The text of a solution.
-ghost use Rattle.std.specs.Prelude.{◌≡◌, ◌<◌, ◌^◌, ◌++◌, OnOk, OnErr, length, take, Some};
+ghost use Rattle.std.specs.Prelude.{◌≡◌, ◌+◌, ◌<◌, ◌≤◌, ◌^◌, ◌++◌, OnOk, OnErr, length, take, Some};
 ghost use Rattle.pb_base.specs.Literals.{assigned_by};
 ghost use Rattle.pb_base.specs.Problems.{magnitude, IsWithinLimits};
 ghost use Rattle.pb_model.specs.Decoding.{AreVarsWithin};
 ghost use Rattle.pb_model.specs.SolutionText.{objective_line, value_word, value_words, values_line, solution_text};
 
 use crate::decoding::sum_of;
+use crate::naming::push_name;
 use itoa::Buffer;
 use pb_base::{Bits, NoMemory, Problem, Term};
 use std::alloc::{AllocError, Global};
@@ -23,21 +24,29 @@ fn push_sum(out: &mut Vec<u8>, terms: &[Term], values: &[bool]) -> Result<(), Al
 }
 
 // Appends a variable and its value.
-fn push_value(out: &mut Vec<u8>, variable: u64, value: bool) -> Result<(), AllocError>
-    ensures ok { OnOk result (out.new.items ≡ out.old.items ++ value_word variable value) }
+fn push_value(
+    out: &mut Vec<u8>,
+    problem: &Problem,
+    variable: u64,
+    value: bool,
+) -> Result<(), AllocError>
+    requires { variable ≤ problem.now.numbered + length problem.now.names }
+    ensures ok { OnOk result (out.new.items ≡ out.old.items ++ value_word problem.now variable value) }
     ensures before { take (length out.old.items) out.new.items ≡ out.old.items }
 {
-    out.extend_from_slice(if value { b" x" } else { b" -x" })?;
-    out.extend_from_slice(Buffer::new().format(variable).as_bytes())
+    out.extend_from_slice(if value { b" " } else { b" -" })?;
+    push_name(out, problem, variable)
 }
 
 // Appends the values of all variables.
-fn push_values(out: &mut Vec<u8>, values: &[bool]) -> Result<(), AllocError>
-    ensures ok { OnOk result (out.new.items ≡ out.old.items ++ value_words 1 values.now) }
+fn push_values(out: &mut Vec<u8>, problem: &Problem, values: &[bool]) -> Result<(), AllocError>
+    requires within { IsWithinLimits problem.now }
+    requires covers { length values.now ≡ problem.now.vars }
+    ensures ok { OnOk result (out.new.items ≡ out.old.items ++ value_words problem.now 1 values.now) }
     ensures before { take (length out.old.items) out.new.items ≡ out.old.items }
 {
     for (place, value) in values.iter().enumerate() {
-        push_value(out, place as u64 + 1, *value)?;
+        push_value(out, problem, place as u64 + 1, *value)?;
     }
     Ok(())
 }
@@ -56,12 +65,14 @@ fn push_objective(out: &mut Vec<u8>, problem: &Problem, values: &[bool]) -> Resu
 }
 
 // Appends the line of the values.
-fn push_values_line(out: &mut Vec<u8>, values: &[bool]) -> Result<(), AllocError>
-    ensures ok { OnOk result (out.new.items ≡ out.old.items ++ values_line values.now) }
+fn push_values_line(out: &mut Vec<u8>, problem: &Problem, values: &[bool]) -> Result<(), AllocError>
+    requires within { IsWithinLimits problem.now }
+    requires covers { length values.now ≡ problem.now.vars }
+    ensures ok { OnOk result (out.new.items ≡ out.old.items ++ values_line problem.now values.now) }
     ensures before { take (length out.old.items) out.new.items ≡ out.old.items }
 {
     out.extend_from_slice(b"v")?;
-    push_values(out, values)?;
+    push_values(out, problem, values)?;
     out.extend_from_slice(b"\n")
 }
 
@@ -74,11 +85,11 @@ fn push_solution(out: &mut Vec<u8>, problem: &Problem, values: &[bool]) -> Resul
 {
     push_objective(out, problem, values)?;
     out.extend_from_slice(b"s SATISFIABLE\n")?;
-    push_values_line(out, values)
+    push_values_line(out, problem, values)
 }
 
 /// Appends the text of a solution: the value of the objective, if there is one, that there is a solution, and the value of each
-/// variable. Where memory is wanting, the bytes stay as they were.
+/// variable, by its name. Where memory is wanting, the bytes stay as they were.
 pub fn write_solution(
     _alloc: Global,
     problem: &Problem,

@@ -3,12 +3,14 @@ ghost use Rattle.std.specs.Prelude.{◌≡◌, length};
 ghost use Rattle.pb_base.specs.Problems.{IsWithinLimits};
 
 use pb_base::Problem;
-use pb_model::{Decoded, Model, ModelFault, decode, read_model, write_solution};
+use pb_model::{Decoded, Model, ModelFault, decode, read_model, write_map, write_solution};
 use pb_opb::read_opb;
 use std::alloc::Global;
 use std::test::Fail;
 
 const ONE_OF_TWO: &str = "+1 x1 +1 x2 = 1 ;";
+
+const WEATHER: &str = "+1 rain +1 x2 +1 ~sun >= 2 ;";
 
 fn fault_text(alloc: Global, fault: ModelFault) -> Option<String> {
     match fault {
@@ -46,6 +48,24 @@ fn answer(alloc: Global, opb: &str, text: &str) -> Option<String> {
     }
 }
 
+// The numbers of the free names of an OPB text.
+fn map_of(alloc: Global, opb: &str) -> Option<String> {
+    let problem = read_opb(alloc, opb.as_bytes()).ok()?;
+    let mut out = Vec::new(alloc);
+    write_map(alloc, &problem, &mut out).ok()?;
+    str::from_utf8(out.as_slice()).ok()?.to_string(alloc).ok()
+}
+
+#[test]
+fn maps(rt: HostRuntime) -> Result<(), Fail> {
+    let cases = [(WEATHER, "3 rain\n4 sun\n"), (ONE_OF_TWO, ""), ("", "")];
+    for (opb, expected) in cases {
+        let found = map_of(rt.alloc(), opb);
+        assert_eq!(rt; found.as_deref(), Some(expected), "at {opb}");
+    }
+    Ok(())
+}
+
 #[test]
 fn solutions(rt: HostRuntime) -> Result<(), Fail> {
     let cases = [
@@ -70,6 +90,11 @@ fn solutions(rt: HostRuntime) -> Result<(), Fail> {
             "o -7\ns SATISFIABLE\nv x1\n",
         ),
         ("", "s SATISFIABLE", "s SATISFIABLE\nv\n"),
+        (
+            WEATHER,
+            "s SATISFIABLE\nv 2 3 0\n",
+            "s SATISFIABLE\nv -x1 x2 rain -sun\n",
+        ),
     ];
     for (opb, text, expected) in cases {
         let found = answer(rt.alloc(), opb, text);

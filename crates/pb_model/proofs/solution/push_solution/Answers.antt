@@ -14,7 +14,7 @@ returns-clause-ok c =
     let start : List ℕ = c.args.out.now.items in
     let objective = objective_line (assigned_by c.args.values.now) c.args.problem.now.objective in
     let status = codes "s SATISFIABLE\n" in
-    let values = values_line c.args.values.now in
+    let values = values_line c.args.problem.now c.args.values.now in
     let before : c.extend_from_slice.new.self.items ≡ start ++ (objective ++ status) =
     c.in_ok-extend_from_slice.ensures.items ∙ ap (λ (xs : List ℕ). xs ++ status) c.in_ok-push_objective.ensures.ok ∙ append_assoc start objective status in
     after_ok c.push_values_line.result

@@ -5,15 +5,15 @@ use Rattle.pb_model.proofs.solution.push_values.Goals as goal
 
 pub returns-in_err-push_value-clause-before : goal.returns-in_err-push_value-clause-before
 returns-in_err-push_value-clause-before c =
-    kept_before c.args.out.now.items (value_words 1 (take c.loop-place.place c.args.values.now)) c.loop-place.out.items c.push_value.new.out.items c.loop-place.invariant c.push_value.ensures.before
+    kept_before c.args.out.now.items (value_words c.args.problem.now 1 (take c.loop-place.place c.args.values.now)) c.loop-place.out.items c.push_value.new.out.items c.loop-place.invariant c.push_value.ensures.before
 
 pub loop-place-preserved : goal.loop-place-preserved
 loop-place-preserved c =
     let start : List ℕ = c.args.out.now.items in
     let place = c.loop-place.place in
-    let so_far = value_words 1 (take place c.args.values.now) in
-    let word = value_word (place + 1) (get_or c.args.values.now place false) in
+    let so_far = value_words c.args.problem.now 1 (take place c.args.values.now) in
+    let word = value_word c.args.problem.now (place + 1) (get_or c.args.values.now place false) in
     c.in_ok-push_value.ensures.ok
     ∙ ap (λ (xs : List ℕ). xs ++ word) c.loop-place.invariant
     ∙ append_assoc start so_far word
-    ∙ ap (λ (xs : List ℕ). start ++ xs) (sym (value_words_more c.args.values.now place false c.loop-place-test.true))
+    ∙ ap (λ (xs : List ℕ). start ++ xs) (sym (value_words_more c.args.problem.now c.args.values.now place false c.loop-place-test.true))
