@@ -20,8 +20,9 @@ use Rattle.pb_rules.specs.Naming.{is_of, names_var}
 use Rattle.pb_rules.specs.declared.slots.Slot.{Slot}
 use Rattle.pb_rules.specs.laws.Slots.{hole, whole, placed_from, slot_at, slot_of, slots_without, marked_slots, entries_from}
 use Rattle.pb_rules.specs.laws.Indexed.{ids_at, IsIndexed, KeepsIds, LosesId, HasNamed, HasNaming}
-use Rattle.pb_unit.proofs.Standing.{read_as, contains_head, contains_tail, contains_cases}
+use Rattle.pb_unit.proofs.Standing.{read_as}
 use Rattle.pb_unit.proofs.Sweeping.{contains_filter}
+use Rattle.pb_unit.proofs.Unlisting.{contains_remove}
 use Rattle.pb_rules.proofs.SlotLemmas.{constraint_at-slot, placed_more, length-placed_from}
 use Rattle.pb_rules.proofs.Withins.{All-unmap}
 use Rattle.pb_rules.proofs.Mirroring.{slot_at-push, slot_at-push_other, slot_at-set, slot_at-set_other, marked-constraint}
@@ -134,17 +135,6 @@ loses-none id lists = record { size = refl; others = λ v k ne h. h }
 
 pub loses-again : (id : ℕ) (first mid last : List (List ℕ)) → LosesId id first mid → LosesId id mid last → LosesId id first last
 loses-again id first mid last h k = record { size = k.size ∙ h.size; others = λ v j ne m. k.others v j ne (h.others v j ne m) }
-
-contains_remove : (xs : List ℕ) (i x y : ℕ) → i < length xs → get_or xs i x ≡ x → (y ≡ x → ⊥) → Contains xs y → Contains (remove xs i) y
-contains_remove [] i x y below at ne h = absurd (omega (arith, below))
-contains_remove (z ∷ xs) zero x y below at ne h = elim (contains_cases z xs y h) [
-  | inl e ↦ absurd (ne (sym e ∙ at))
-  | inr more ↦ more
-]
-contains_remove (z ∷ xs) (suc i) x y below at ne h = elim (contains_cases z xs y h) [
-  | inl e ↦ subst (Contains (z ∷ remove xs i)) e (contains_head z (remove xs i))
-  | inr more ↦ contains_tail z (remove xs i) y (contains_remove xs i x y (omega (arith, below)) at ne more)
-]
 
 -- an id is taken out of a list
 pub less_one : (id i : ℕ) (ids after : List ℕ) → i < length ids → ((d : ℕ) → get_or ids i d ≡ id) → after ≡ remove ids i → (k : ℕ) → (k ≡ id → ⊥) → Contains ids k → Contains after k

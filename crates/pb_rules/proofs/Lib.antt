@@ -7,4 +7,5 @@ pub mod Mirroring
 pub mod Refuting
 pub mod Gone
 pub mod Indexing
+pub mod Fronts
 pub mod Least

@@ -256,6 +256,28 @@ mirrored-pushed vars ss s p c free m = record {
   own = pushed-own vars ss s p c free m;
 }
 
+-- one slot more with no constraint
+pub mirrored-none : (vars : ℕ) (ss : List Slot) (t : Slot) (s : EngineState) → t.constraint ≡ None → IsMirrored vars ss s → IsMirrored vars (ss ++ t ∷ []) s
+mirrored-none vars ss t s none m = record {
+  vars_are = m.vars_are;
+  here = λ k c e. let old = before k c e in ap (λ (u : Slot). at_place s.places u.place) old ∙ m.here k c (found k c e);
+  only = λ p c e.
+      let r = m.only p c e in
+      let below : r.0 < length ss = slot-below ss r.0 c r.1 in
+      let old = slot_at-push_other ss t r.0 (λ h. omega (arith, below, h)) in
+      (r.0, ap (λ (u : Slot). u.constraint) old ∙ r.1, ap (λ (u : Slot). u.place) old ∙ r.2);
+  own = λ j k c d e f g. m.own j k c d (found j c e) (found k d f) (ap (λ (u : Slot). u.place) (sym (before j c e)) ∙ (g ∙ ap (λ (u : Slot). u.place) (before k d f)));
+}
+  where
+    before : (k : ℕ) (c : Constraint) → (slot_at (ss ++ t ∷ []) k).constraint ≡ Some c → slot_at (ss ++ t ∷ []) k ≡ slot_at ss k
+    before k c e = elim (slot-cases ss t k) [
+      | inl last ↦ absurd (some-none c (sym e ∙ (ap (λ (u : Slot). u.constraint) last.1 ∙ none)))
+      | inr old ↦ old.1
+    ]
+
+    found : (k : ℕ) (c : Constraint) → (slot_at (ss ++ t ∷ []) k).constraint ≡ Some c → (slot_at ss k).constraint ≡ Some c
+    found k c e = ap (λ (u : Slot). u.constraint) (sym (before k c e)) ∙ e
+
 -- one less
 cleared-case : (ss : List Slot) (k j : ℕ) (d : Constraint) → (slot_at (set ss k hole) j).constraint ≡ Some d → (j ≡ k → ⊥) × ((slot_at ss j).constraint ≡ Some d) × ((slot_at (set ss k hole) j).place ≡ (slot_at ss j).place)
 cleared-case ss k j d e =

@@ -10,6 +10,7 @@ ghost use Rattle.pb_rules.specs.laws.Sound.{IsDatabase};
 ghost use Rattle.pb_rules.specs.laws.Indexed.{IsIndexed, HasNaming};
 ghost use Rattle.pb_rules.specs.laws.Mirrors.{TellsConflict};
 
+use crate::entering::{enter_rest, leave};
 use crate::index::{self, Named};
 use crate::listed::is_refuted_by;
 use crate::refutation::{is_refuted_with, is_refuted_with_both};
@@ -26,7 +27,8 @@ pub struct Database {
     original: u32,
     vars: u32,
     slots: Vec<Slot>,
-    // All that stands.
+    // The constraints of so many of the first slots stand in the engine. The others join them before all that stands is propagated over.
+    entered: usize,
     engine: Engine,
     // Nothing stands in it between calls.
     idle: Engine,
@@ -47,7 +49,7 @@ impl Model for Database {
 
     ghost view = { λ d. database_of d.original d.vars d.slots.items };
 
-    ghost invariant = { λ d. IsKept d.original d.vars d.slots.items d.engine d.idle d.named.items };
+    ghost invariant = { λ d. IsKept d.original d.vars d.slots.items d.entered d.engine d.idle d.named.items };
 }
 
 // The slots of constraints that are loaded.
@@ -103,6 +105,7 @@ impl Database {
             original,
             vars,
             slots: loaded_slots(alloc, loaded)?,
+            entered: loaded.len(),
             engine: Engine::new(alloc, vars, copies(alloc, loaded)?)?,
             idle: Engine::new(alloc, vars, Vec::new(alloc))?,
             named: loaded_index(alloc, vars, loaded)?,
@@ -163,6 +166,9 @@ impl Database {
         ensures same { self.new ≡ self.old }
         ensures answer { IfOk result (TellsConflict (more.now ∷ live_constraints self.old.live)) }
     {
+        if !enter_rest(&mut self.engine, &mut self.slots, &mut self.entered) {
+            return Err(NoMemory);
+        }
         is_refuted_with(&mut self.engine, more)
     }
 
@@ -173,6 +179,9 @@ impl Database {
         ensures same { self.new ≡ self.old }
         ensures answer { IfOk result (TellsConflict (first.now ∷ second.now ∷ live_constraints self.old.live)) }
     {
+        if !enter_rest(&mut self.engine, &mut self.slots, &mut self.entered) {
+            return Err(NoMemory);
+        }
         is_refuted_with_both(&mut self.engine, first, second)
     }
 
@@ -204,14 +213,8 @@ impl Database {
         if !index::enter(&mut self.named, constraint.terms(), id) {
             return Err(NoMemory);
         }
-        let place = self.engine.add(&constraint)?;
-        match slots::push(&mut self.slots, self.alloc, constraint, place) {
-            Ok(()) => Ok(id),
-            Err(_) => {
-                self.engine.remove(place);
-                Err(NoMemory)
-            }
-        }
+        slots::push(&mut self.slots, self.alloc, constraint, 0)?;
+        Ok(id)
     }
 
     // Takes the constraint with an id away. Its room is free again.
@@ -222,7 +225,7 @@ impl Database {
         let place = gone.place;
         match gone.constraint {
             Some(alone) => {
-                self.engine.remove(place);
+                leave(&mut self.engine, self.entered, id, place);
                 let left = index::leave(&mut self.named, alone.get().terms(), id);
                 self.left = self.left.saturating_add(left);
             }

@@ -4,6 +4,7 @@
 mod apply;
 mod database;
 mod del;
+mod entering;
 mod fault;
 mod index;
 mod listed;

@@ -1,7 +1,7 @@
 //! Constraints by their ids.
-ghost use Rattle.std.specs.Prelude.{◌≡◌, ◌++◌, ◌∷◌, [], IfOk, OnOk, OnErr, is_some};
+ghost use Rattle.std.specs.Prelude.{◌≡◌, ◌<◌, ◌++◌, ◌∷◌, [], IfOk, OnOk, OnErr, is_some, length};
 ghost use Rattle.std.specs.Option.{option_copied};
-ghost use Rattle.pb_rules.specs.laws.Slots.{whole, slot_of, slot_is_out, slots_without, marked_slots};
+ghost use Rattle.pb_rules.specs.laws.Slots.{whole, slot_of, slot_is_out, slots_without, slots_placed, marked_slots};
 
 use pb_base::NoMemory;
 use pb_norm::Linear;
@@ -117,6 +117,14 @@ pub(crate) fn take(slots: &mut Vec<Slot>, id: u64) -> Slot
         return hole;
     }
     mem::replace(&mut slots[(id - 1) as usize], hole)
+}
+
+/// Notes the place of a slot's constraint.
+pub(crate) fn set_place(slots: &mut Vec<Slot>, index: usize, place: u64)
+    requires { index < length slots.old.items }
+    ensures { slots.new.items ≡ slots_placed slots.old.items index place }
+{
+    slots[index].place = place;
 }
 
 /// Marks the constraint with an id.

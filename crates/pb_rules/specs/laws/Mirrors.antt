@@ -1,5 +1,5 @@
 -- Constraints that stand by their ids, and the same in an engine.
-use Rattle.std.specs.Prelude.{◌≡◌, ◌⊎◌, ℕ, Bool, List, [], Some, None, Contains}
+use Rattle.std.specs.Prelude.{◌≡◌, ◌≤◌, ◌⊎◌, ℕ, Bool, List, [], Some, None, Contains, length, take}
 use Rattle.std.specs.Bool.{MatchBool}
 use Rattle.pb_norm.specs.Constraints.{Constraint, HasVarsWithin}
 use Rattle.pb_norm.specs.Propagation.{Conflict}
@@ -41,13 +41,18 @@ pub record HasJust (cs : List Constraint) (s : EngineState) : Type 0 where
 abbrev pub AreWithin : ℕ → List Slot → Type 0
 AreWithin vars ss = (k : ℕ) (c : Constraint) → (slot_at ss k).constraint ≡ Some c → HasVarsWithin vars c.terms
 
+-- slots that are the same database, whatever the places of their constraints
+abbrev pub AreSame : List Slot → List Slot → Type 0
+AreSame before after = (original vars : ℕ) → database_of original vars after ≡ database_of original vars before
+
 -- whether propagation over constraints reaches a conflict
 abbrev pub TellsConflict : List Constraint → Bool → Type 0
 TellsConflict cs found = MatchBool found (Conflict cs []) (¬ Conflict cs [])
 
--- what stands by ids is sound, stands in one engine and is listed by its variables, and in the other engine nothing stands
-pub record IsKept (original vars : ℕ) (ss : List Slot) (engine idle : EngineState) (named : List (List ℕ)) : Type 0 where
+-- what stands by ids is sound and listed by its variables; of the first slots, `entered` many, it stands in one engine; in the other engine nothing stands
+pub record IsKept (original vars : ℕ) (ss : List Slot) (entered : ℕ) (engine idle : EngineState) (named : List (List ℕ)) : Type 0 where
   pub sound : IsDatabase (database_of original vars ss)
-  pub mirrored : IsMirrored vars ss engine
+  pub few : entered ≤ length ss
+  pub mirrored : IsMirrored vars (take entered ss) engine
   pub is_idle : IsIdle vars idle
   pub indexed : IsIndexed vars ss named

@@ -52,6 +52,10 @@ abbrev pub marked_slots : List Slot → ℕ → List Slot
 marked_slots ss zero = ss
 marked_slots ss (suc k) = slice_set ss k (record (slice_index_or ss k hole) { out = true })
 
+-- the constraint of a slot is at a place
+abbrev pub slots_placed : List Slot → ℕ → ℕ → List Slot
+slots_placed ss k place = slice_set ss k (record (slice_index_or ss k hole) { place = place })
+
 -- the database that the slots are
 abbrev pub database_of : ℕ → ℕ → List Slot → Database
 database_of original vars ss = record { original = original; vars = vars; live = entries_from 1 ss; next = length ss + 1 }

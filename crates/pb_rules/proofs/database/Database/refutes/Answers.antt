@@ -1,6 +1,38 @@
-use Rattle.std.proofs.Common.{◌∷◌, []}
+use Rattle.std.proofs.Common.{◌∙◌, ◌∷◌, [], ℕ, sym, subst}
+use Rattle.std.proofs.lemmas.Bool.{OnTrue_at}
+use Rattle.pb_rules.specs.laws.Mirrors.{AreWithin}
+use Rattle.pb_rules.proofs.Mirroring.{slots-within}
 use Rattle.pb_rules.proofs.Refuting.{tells_live}
+use Rattle.pb_rules.proofs.Fronts.{kept-same, kept-again, kept-whole}
 use Rattle.pb_rules.proofs.database.Database.refutes.Goals as goal
 
+pub enter_rest-requires-clause-within : goal.enter_rest-requires-clause-within
+enter_rest-requires-clause-within c =
+    subst (λ (vars : ℕ). AreWithin vars c.self.inside.slots.items) (sym c.self.invariant.mirrored.vars_are) (slots-within c.self.inside.vars c.self.inside.slots.items c.self.invariant.sound)
+
+pub invariant_of-self : goal.invariant_of-self
+invariant_of-self c =
+    kept-same c.self.inside.original c.self.inside.vars c.self.inside.entered c.enter_rest.new.entered c.self.inside.slots.items c.enter_rest.new.slots.items c.self.inside.engine c.enter_rest.new.engine c.self.inside.idle c.self.inside.named.items
+    c.self.invariant c.enter_rest.ensures.same c.enter_rest.ensures.few c.enter_rest.ensures.mirrored
+
+pub returns-then-not-enter_rest-clause-same : goal.returns-then-not-enter_rest-clause-same
+returns-then-not-enter_rest-clause-same c = c.enter_rest.ensures.same c.self.inside.original c.self.inside.vars ∙ c.self.view_is
+
+pub invariant_of-self-2 : goal.invariant_of-self-2
+invariant_of-self-2 c =
+    let entered =
+    kept-same c.self.inside.original c.self.inside.vars c.self.inside.entered c.enter_rest.new.entered c.self.inside.slots.items c.enter_rest.new.slots.items c.self.inside.engine c.enter_rest.new.engine c.self.inside.idle c.self.inside.named.items
+    c.self.invariant c.enter_rest.ensures.same c.enter_rest.ensures.few c.enter_rest.ensures.mirrored in
+    kept-again c.self.inside.original c.self.inside.vars c.enter_rest.new.entered c.enter_rest.new.slots.items c.enter_rest.new.engine c.is_refuted_with.new.engine c.self.inside.idle c.self.inside.named.items entered c.is_refuted_with.ensures.kept
+
+pub returns-clause-same : goal.returns-clause-same
+returns-clause-same c = c.enter_rest.ensures.same c.self.inside.original c.self.inside.vars ∙ c.self.view_is
+
 pub returns-clause-answer : goal.returns-clause-answer
-returns-clause-answer c = tells_live c.self.inside.original c.self.inside.vars c.self.inside.slots.items c.self.inside.engine c.args.self.now (c.args.more.now ∷ []) c.is_refuted_with.result c.self.invariant.mirrored c.self.view_is c.is_refuted_with.ensures.answer
+returns-clause-answer c =
+    let entered =
+    kept-same c.self.inside.original c.self.inside.vars c.self.inside.entered c.enter_rest.new.entered c.self.inside.slots.items c.enter_rest.new.slots.items c.self.inside.engine c.enter_rest.new.engine c.self.inside.idle c.self.inside.named.items
+    c.self.invariant c.enter_rest.ensures.same c.enter_rest.ensures.few c.enter_rest.ensures.mirrored in
+    let whole = kept-whole c.self.inside.original c.self.inside.vars c.enter_rest.new.entered c.enter_rest.new.slots.items c.enter_rest.new.engine c.self.inside.idle c.self.inside.named.items entered (OnTrue_at c.if-not-enter_rest.false c.enter_rest.ensures.all) in
+    tells_live c.self.inside.original c.self.inside.vars c.enter_rest.new.slots.items c.enter_rest.new.engine c.args.self.now (c.args.more.now ∷ []) c.is_refuted_with.result
+    whole (c.enter_rest.ensures.same c.self.inside.original c.self.inside.vars ∙ c.self.view_is) c.is_refuted_with.ensures.answer

@@ -1,12 +1,10 @@
-use Rattle.std.proofs.Common.{◌≡◌, ◌∙◌, ap, sym, subst, length, ◌∷◌, [], Some, None, ℕ}
+use Rattle.std.proofs.Common.{◌≡◌, ◌∙◌, ap, sym, length, ◌∷◌, [], Some, None, ℕ, arith}
 use Rattle.std.specs.Option.{option_map}
 use Rattle.pb_norm.specs.Constraints.{Constraint}
 use Rattle.pb_steps.specs.Database.{Database, reduced, without}
 use Rattle.pb_rules.specs.laws.Slots.{entries_from, place_of, slot_of}
-use Rattle.pb_rules.specs.laws.Mirrors.{IsMirrored}
 use Rattle.pb_rules.proofs.SlotLemmas.{sound-without, slots_without-entries, length-slots_without, same_database}
-use Rattle.pb_rules.proofs.Mirroring.{mirrored-without, mirrored-without_none}
-use Rattle.pb_rules.proofs.Refuting.{gone_from}
+use Rattle.pb_rules.proofs.Fronts.{front-without_none}
 use Rattle.pb_rules.proofs.Indexing.{indexed-without, indexed-lost}
 use Rattle.pb_rules.proofs.database.Database.remove_one.Goals as goal
 
@@ -17,11 +15,10 @@ invariant_of-self c =
     let place : ℕ = c.take-gone.result.place in
     let at : Some place ≡ place_of (slot_of old c.args.id) = sym (ap (option_map (λ (d : Constraint). place)) c.in-Some.is) ∙ ap place_of c.take-gone.ensures.gone in
     let live : entries_from 1 new ≡ without (c.args.id ∷ []) (entries_from 1 old) = ap (entries_from 1) c.take-gone.ensures.after ∙ slots_without-entries c.args.id old in
-    let less = mirrored-without c.self.inside.vars c.args.id place old new c.self.inside.engine c.take-gone.ensures.after at c.self.invariant.mirrored in
-    let gone = gone_from c.remove.result place c.self.inside.engine c.remove.new.self c.remove.ensures.answer c.remove.ensures.after less.0 in
     record {
       sound = sound-without c.self.inside.vars (c.args.id ∷ []) (entries_from 1 old) (entries_from 1 new) live c.self.invariant.sound;
-      mirrored = subst (IsMirrored c.self.inside.vars new) (sym gone) less.1;
+      few = omega (arith, c.self.invariant.few, ap length c.take-gone.ensures.after, length-slots_without old c.args.id);
+      mirrored = c.leave.ensures c.self.inside.vars old new c.take-gone.ensures.after at c.self.invariant.mirrored;
       is_idle = c.self.invariant.is_idle;
       indexed = indexed-lost c.self.inside.vars c.args.id old new c.self.inside.named.items c.leave-left.new.lists.items c.take-gone.ensures.after c.leave-left.ensures c.self.invariant.indexed;
     }
@@ -34,7 +31,8 @@ invariant_of-self-in-None c =
     let live : entries_from 1 new ≡ without (c.args.id ∷ []) (entries_from 1 old) = ap (entries_from 1) c.take-gone.ensures.after ∙ slots_without-entries c.args.id old in
     record {
       sound = sound-without c.self.inside.vars (c.args.id ∷ []) (entries_from 1 old) (entries_from 1 new) live c.self.invariant.sound;
-      mirrored = mirrored-without_none c.self.inside.vars c.args.id old new c.self.inside.engine c.take-gone.ensures.after at c.self.invariant.mirrored;
+      few = omega (arith, c.self.invariant.few, ap length c.take-gone.ensures.after, length-slots_without old c.args.id);
+      mirrored = front-without_none c.self.inside.vars c.self.inside.entered c.args.id old new c.self.inside.engine c.take-gone.ensures.after at c.self.invariant.mirrored;
       is_idle = c.self.invariant.is_idle;
       indexed = indexed-without c.self.inside.vars c.args.id old new c.self.inside.named.items c.take-gone.ensures.after c.self.invariant.indexed;
     }
