@@ -3,6 +3,7 @@ mod checks;
 mod decodes;
 mod derivations;
 mod encodes;
+mod maps;
 mod probes;
 mod refuses;
 mod refutes;

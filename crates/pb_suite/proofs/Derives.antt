@@ -2,8 +2,6 @@
 use Rattle.std.proofs.Common.{◌≡◌, ◌∙◌, ◌++◌, ◌∷◌, [], ℕ, List, Option, Some, None, ap, arith, refl, subst}
 use Rattle.std.specs.Prelude.{IfSome, IsSomeAnd}
 use Rattle.pb_base.specs.declared.problem.Problem.{Problem}
-use Rattle.pb_base.specs.Problems.{originals}
-use Rattle.pb_norm.specs.Halves.{loaded_of}
 use Rattle.pb_desk.specs.View.{Told}
 use Rattle.pb_desk.specs.Desk.{DeskState, IfTold, IsTold}
 use Rattle.pb_opb.specs.Faults.{Reads}

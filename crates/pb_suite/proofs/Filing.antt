@@ -1,13 +1,13 @@
 -- What making the files of a problem adds to a desk.
-use Rattle.std.proofs.Common.{◌≡◌, ◌∙◌, ℕ, Bool, true, false, List, [], ◌∷◌, ◌++◌, Option, Some, None, inl, inr, refl, sym, ap, subst}
+use Rattle.std.proofs.Common.{◌≡◌, ◌∙◌, ℕ, Bool, true, false, List, [], ◌∷◌, ◌++◌, Option, Some, None, inl, inr, refl, sym, ap}
 use Rattle.std.specs.Prelude.{◌==◌, ◌⊎◌}
 use Rattle.std.proofs.lemmas.List.{append-nil}
 use Rattle.std.proofs.lemmas.Bool.{eqb-true}
 use Rattle.pb_base.specs.declared.problem.Problem.{Problem}
 use Rattle.pb_choice.specs.declared.options.Options.{Options}
 use Rattle.pb_desk.specs.View.{View}
-use Rattle.pb_desk.specs.Desk.{DeskState, HasSlot}
-use Rattle.pb_encode.specs.Encodings.{begun, derivation_text, made, made_files, problem_text, with_proof, FileNames}
+use Rattle.pb_desk.specs.Desk.{DeskState}
+use Rattle.pb_encode.specs.Encodings.{begun, derivation_text, made, made_files, problem_text, FileNames}
 use Rattle.pb_suite.specs.Obeying.{KeepsSlots}
 use Rattle.pb_suite.specs.Outputs.{Output}
 use Rattle.pb_suite.specs.OwedEncode.{file_of, files_of, proof_files}

@@ -1,15 +1,15 @@
 -- How storing an encoding ends a command that owes it.
-use Rattle.std.proofs.Common.{◌≡◌, ◌∙◌, ℕ, List, [], ◌∷◌, ◌++◌, Option, Some, None, take, length, inl, inr, refl, ap, sym, subst, false}
+use Rattle.std.proofs.Common.{◌≡◌, ℕ, List, [], ◌∷◌, ◌++◌, Option, Some, None, take, length, inl, inr, refl, ap, sym, subst, false}
 use Rattle.std.proofs.Math.Seq.{take-length}
 use Rattle.std.specs.Prelude.{Contains, IsSome}
 use Rattle.pb_base.specs.declared.limit.LimitKind.{LimitKind}
 use Rattle.pb_base.specs.declared.problem.Problem.{Problem}
 use Rattle.pb_base.proofs.Members.{Contains-here, Contains-there}
-use Rattle.pb_desk.specs.View.{Made, View}
-use Rattle.pb_desk.specs.Desk.{DeskState, FailsToWrite, IfTold, IsSteady, Reaches, same}
+use Rattle.pb_desk.specs.View.{View}
+use Rattle.pb_desk.specs.Desk.{DeskState, IfTold, IsSteady, Reaches, same}
 use Rattle.pb_desk.proofs.Steps.{then, then_fails_to_write}
 use Rattle.pb_choice.specs.declared.options.Options.{Options}
-use Rattle.pb_encode.specs.Encodings.{begun, derivation_text, made, made_files, problem_text, AfterCnf, FileNames, Lacks, LacksToMake, LeavesPart, StopsEncoding, StopsMaking, WantsMemory}
+use Rattle.pb_encode.specs.Encodings.{begun, derivation_text, made, made_files, problem_text, FileNames, LacksToMake, LeavesPart, StopsMaking}
 use Rattle.pb_encode.specs.Encodings.Lacks.{equal_names, for_cnf, for_proof}
 use Rattle.pb_encode.specs.Encodings.LacksToMake.{is_taken as making_taken, no_room as making_room}
 use Rattle.pb_encode.specs.Encodings.StopsEncoding.{in_cnf as stops_in_cnf, in_proof as stops_in_proof}

@@ -4,12 +4,13 @@ use Rattle.std.specs.Option.{ForSome}
 use Rattle.pb_desk.specs.View.{Told}
 use Rattle.pb_desk.specs.Desk.{DeskState, IsFresh, IsSteady}
 use Rattle.pb_words.specs.Taken.{Wanted, taken_of}
-use Rattle.pb_words.specs.Taken.Wanted.{Encode, Check, Decode, Probe, Bench, Refute}
+use Rattle.pb_words.specs.Taken.Wanted.{Encode, Check, Decode, Probe, Bench, Refute, Map}
 use Rattle.pb_suite.specs.Owed.{Owed, Shelf, Suffices}
 use Rattle.pb_suite.specs.OwedBench.{owed_bench}
 use Rattle.pb_suite.specs.OwedCheck.{owed_check}
 use Rattle.pb_suite.specs.OwedDecode.{owed_decode}
 use Rattle.pb_suite.specs.OwedEncode.{owed_encode}
+use Rattle.pb_suite.specs.OwedMap.{owed_map}
 use Rattle.pb_suite.specs.OwedProbe.{owed_probe}
 use Rattle.pb_suite.specs.OwedRefute.{owed_refute}
 
@@ -20,6 +21,7 @@ owed (Decode w) = owed_decode w
 owed (Probe w) = owed_probe w
 owed (Bench w) = owed_bench w
 owed (Refute w) = owed_refute w
+owed (Map w) = owed_map w
 
 -- what the words call for is there
 abbrev pub SufficesFor : List (List ℕ) → Shelf → Option ℕ → Type 0

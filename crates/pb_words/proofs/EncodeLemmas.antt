@@ -1,5 +1,5 @@
 -- What the words of `encode` keep.
-use Rattle.std.proofs.Common.{◌≡◌, ◌≢◌, ◌≤◌, ◌||◌, ◌&&◌, not, ℕ, Bool, true, false, List, [], ◌∷◌, Option, Some, None, cond, codes, option_and_then, refl, subst, arith}
+use Rattle.std.proofs.Common.{◌≡◌, ◌≢◌, ◌≤◌, ◌||◌, ◌&&◌, not, ℕ, Bool, true, false, List, ◌∷◌, Option, Some, None, cond, codes, option_and_then, refl, subst, arith}
 use Rattle.std.specs.Option.{option_to_list, ForSome}
 use Rattle.std.specs.Bool.{Decides}
 use Rattle.std.specs.Str.{bytes_eq}

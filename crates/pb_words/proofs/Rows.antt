@@ -10,7 +10,7 @@ use Rattle.pb_choice.specs.declared.options.Options.{Options}
 use Rattle.pb_choice.specs.Defaults.{default_options}
 use Rattle.pb_base.specs.declared.literal.Lit.{Lit}
 use Rattle.pb_words.specs.Taken.{Wanted, taken_of}
-use Rattle.pb_words.specs.Taken.Wanted.{Encode, Check, Decode, Probe, Bench, Refute}
+use Rattle.pb_words.specs.Taken.Wanted.{Encode, Check, Decode, Probe, Bench, Refute, Map}
 
 -- what a line asks for whose words stand between blanks
 abbrev said : Text → Option Wanted
@@ -142,6 +142,22 @@ a_derivation_as_its_refutation = refl
 three_of_four_texts : said (codes "pbcnf refute a b c") ≡ None
 unfolding taken_of clap_on_literals
 three_of_four_texts = refl
+
+one_text : said (codes "pbcnf map a") ≡ Some (Map (record { opb = codes "a" }))
+unfolding taken_of clap_on_literals
+one_text = refl
+
+no_text : said (codes "pbcnf map") ≡ None
+unfolding taken_of clap_on_literals
+no_text = refl
+
+two_texts_to_map : said (codes "pbcnf map a b") ≡ None
+unfolding taken_of clap_on_literals
+two_texts_to_map = refl
+
+option_of_encode_behind_map : said (codes "pbcnf map a --budget 9") ≡ None
+unfolding taken_of clap_on_literals
+option_of_encode_behind_map = refl
 
 texts_behind_dashes : said (codes "pbcnf check a -- --b -") ≡ check (codes "a") (codes "--b") (codes "-")
 unfolding taken_of clap_on_literals

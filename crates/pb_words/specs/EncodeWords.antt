@@ -1,5 +1,5 @@
 -- The words of `encode`. Our own.
-use Rattle.std.specs.Prelude.{List, [], ◌∷◌, Option, Some, None, if◌then◌else◌, codes, option_copied}
+use Rattle.std.specs.Prelude.{List, ◌∷◌, Option, Some, None, if◌then◌else◌, codes, option_copied}
 use Rattle.std.specs.Option.{option_to_list}
 use Rattle.clap.specs.Words.{App, Row, Text, first_of}
 use Rattle.pb_choice.specs.declared.options.Options.{Options}

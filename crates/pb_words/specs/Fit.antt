@@ -4,7 +4,7 @@ use Rattle.std.specs.Option.{ForSome}
 use Rattle.pb_words.specs.BenchWords.{BenchWords}
 use Rattle.pb_words.specs.EncodeWords.{EncodeWords}
 use Rattle.pb_words.specs.Taken.{Wanted}
-use Rattle.pb_words.specs.Taken.Wanted.{Encode, Check, Decode, Probe, Bench, Refute}
+use Rattle.pb_words.specs.Taken.Wanted.{Encode, Check, Decode, Probe, Bench, Refute, Map}
 
 -- different names, and a budget within its range
 pub record IsFitEncode (w : EncodeWords) : Type 0 where
@@ -25,3 +25,4 @@ IsFit (Decode w) = Unit {0}
 IsFit (Probe w) = Unit {0}
 IsFit (Bench w) = IsFitBench w
 IsFit (Refute w) = Unit {0}
+IsFit (Map w) = Unit {0}

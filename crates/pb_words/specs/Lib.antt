@@ -9,5 +9,6 @@ pub mod DecodeWords
 pub mod LitWords
 pub mod ProbeWords
 pub mod RefuteWords
+pub mod MapWords
 pub mod Taken
 pub mod Fit

@@ -10,13 +10,14 @@ use Rattle.pb_words.specs.EncodeWords.{as_encode_words, encode_app, encode_in, E
 use Rattle.pb_words.specs.BenchWords.{as_bench_words, bench_app, bench_in, BenchWords}
 use Rattle.pb_words.specs.CheckWords.{as_check_words, check_app, check_in, CheckWords}
 use Rattle.pb_words.specs.DecodeWords.{as_decode_words, decode_app, decode_in, DecodeWords}
+use Rattle.pb_words.specs.MapWords.{as_map_words, map_app, map_in, MapWords}
 use Rattle.pb_words.specs.ProbeWords.{as_probe_words, probe_app, probe_in, ProbeWords}
 use Rattle.pb_words.specs.RefuteWords.{as_refute_words, refute_app, refute_in, RefuteWords}
 use Rattle.pb_words.specs.Rules.{program_of}
 
 -- the commands
 abbrev pub program_app : App
-program_app = program_of (codes "pbcnf") (encode_app ∷ check_app ∷ decode_app ∷ probe_app ∷ bench_app ∷ refute_app ∷ [])
+program_app = program_of (codes "pbcnf") (encode_app ∷ check_app ∷ decode_app ∷ probe_app ∷ bench_app ∷ refute_app ∷ map_app ∷ [])
 
 -- what is asked for
 pub data Wanted : Type 0 where
@@ -26,6 +27,7 @@ pub data Wanted : Type 0 where
   Probe : ProbeWords → Wanted
   Bench : BenchWords → Wanted
   Refute : RefuteWords → Wanted
+  Map : MapWords → Wanted
 
 -- what the command of this name is asked for, to which these arguments were given
 abbrev pub wanted_in : Text → List Row → Option Wanted
@@ -35,7 +37,8 @@ wanted_in name given =
     else (if bytes_eq name (codes "decode") then option_map Decode (decode_in given)
     else (if bytes_eq name (codes "probe") then option_map Probe (probe_in given)
     else (if bytes_eq name (codes "bench") then option_map Bench (bench_in given)
-    else (if bytes_eq name (codes "refute") then option_map Refute (refute_in given) else None)))))
+    else (if bytes_eq name (codes "refute") then option_map Refute (refute_in given)
+    else (if bytes_eq name (codes "map") then option_map Map (map_in given) else None))))))
 
 -- the same, of the command that was given
 abbrev pub wanted_by : Option (Text × List Row) → Option Wanted
@@ -59,6 +62,7 @@ wanted_as (request.Decode d) = Decode (as_decode_words d)
 wanted_as (request.Probe p) = Probe (as_probe_words p)
 wanted_as (request.Bench b) = Bench (as_bench_words b)
 wanted_as (request.Refute r) = Refute (as_refute_words r)
+wanted_as (request.Map m) = Map (as_map_words m)
 
 -- an answer gives what is asked for, and says `Usage` only where nothing is
 abbrev pub Tells : Option Wanted → Result Request WordsFault → Type 0

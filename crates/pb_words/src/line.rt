@@ -5,16 +5,18 @@ ghost use Rattle.pb_words.specs.BenchWords.{bench_in};
 ghost use Rattle.pb_words.specs.CheckWords.{check_in};
 ghost use Rattle.pb_words.specs.DecodeWords.{decode_in};
 ghost use Rattle.pb_words.specs.EncodeWords.{encode_in};
+ghost use Rattle.pb_words.specs.MapWords.{map_in};
 ghost use Rattle.pb_words.specs.ProbeWords.{probe_in};
 ghost use Rattle.pb_words.specs.RefuteWords.{refute_in};
 ghost use Rattle.pb_words.specs.Taken.{taken_of, wanted_as, wanted_by, wanted_in, Tells};
-ghost use Rattle.pb_words.specs.Taken.Wanted.{Encode, Check, Decode, Probe, Bench, Refute};
+ghost use Rattle.pb_words.specs.Taken.Wanted.{Encode, Check, Decode, Probe, Bench, Refute, Map};
 
 use crate::bench::benching_in;
 use crate::check::checking_in;
 use crate::decode::decoding_in;
 use crate::encode::encoding_in;
 use crate::fault::WordsFault;
+use crate::map::mapping_in;
 use crate::probe::probing_in;
 use crate::program::program;
 use crate::refute::refuting_in;
@@ -83,6 +85,16 @@ fn refute_request<'a>(given: &ArgMatches<'a>) -> Result<Request<'a>, WordsFault>
     }
 }
 
+// What `map` was asked for.
+fn map_request<'a>(given: &ArgMatches<'a>) -> Result<Request<'a>, WordsFault>
+    ensures { Tells (option_map Map (map_in (rows_of (found_of given.now)))) result }
+{
+    match mapping_in(given) {
+        Some(mapping) => Ok(Request::Map(mapping)),
+        None => Err(WordsFault::Usage),
+    }
+}
+
 // What a command of this name was asked for.
 fn request_in<'a>(
     alloc: Global,
@@ -98,6 +110,7 @@ fn request_in<'a>(
         "probe" => probe_request(alloc, given),
         "bench" => bench_request(given),
         "refute" => refute_request(given),
+        "map" => map_request(given),
         _ => Err(WordsFault::Usage),
     }
 }

@@ -3,7 +3,7 @@ ghost use Rattle.std.specs.Prelude.{◌≡◌, IfOk, codes};
 ghost use Rattle.pb_words.specs.Rules.{bare_program, IsCommand};
 ghost use Rattle.pb_words.specs.Taken.{program_app};
 
-use crate::{bench, check, decode, encode, probe, refute};
+use crate::{bench, check, decode, encode, map, probe, refute};
 use clap::Command;
 use std::alloc::{AllocError, Global};
 
@@ -28,5 +28,6 @@ pub fn program<'a>(alloc: Global) -> Result<Command<'a>, AllocError>
         .subcommand(decode::command(alloc)?)?
         .subcommand(probe::command(alloc)?)?
         .subcommand(bench::command(alloc)?)?
-        .subcommand(refute::command(alloc)?)
+        .subcommand(refute::command(alloc)?)?
+        .subcommand(map::command(alloc)?)
 }

@@ -3,6 +3,7 @@ use crate::bench::Benching;
 use crate::check::Checking;
 use crate::decode::Decoding;
 use crate::encode::Encoding;
+use crate::map::Mapping;
 use crate::probe::Probing;
 use crate::refute::Refuting;
 
@@ -21,4 +22,6 @@ pub enum Request<'a> {
     Bench(Benching<'a>),
     /// Check a derivation and a refutation.
     Refute(Refuting<'a>),
+    /// List the free names of a problem.
+    Map(Mapping<'a>),
 }

@@ -6,17 +6,18 @@ use pb_runs::{is_silent, refusal_of};
 use std::alloc::Global;
 use std::test::Fail;
 
-// The status of a run over these texts. A run that is done says something, and any other makes and says nothing: where this
-// is not so, the mark is no digit.
+// The status of a run over these texts, or `-` where it is done and makes and says nothing. A run that is not done makes and
+// says nothing: where this is not so, the mark is another.
 fn mark(alloc: Global, words: &str, texts: [&[u8]; 3]) -> char {
     let Some(run) = run_on(alloc, words, texts, 0, 4096, 4096) else {
         return '!';
     };
-    let is_done = run.outcome.status() == 0;
-    if is_done == is_silent(&run) {
-        return '?';
+    match (run.outcome.status(), is_silent(&run)) {
+        (0, true) => '-',
+        (0, false) => '0',
+        (_, false) => '?',
+        (status, true) => char::from_digit(status as u32, 10).unwrap_or('!'),
     }
-    char::from_digit(run.outcome.status() as u32, 10).unwrap_or('!')
 }
 
 // The mark of a run over these texts, of which one is replaced.
@@ -79,10 +80,10 @@ fn broken(alloc: Global, words: &str, texts: [&[u8]; 3], at: usize) -> Option<St
 // The marks that are due were not taken from runs: another program gave them, written from the description of the formats.
 const ENCODED: &str = "\
 0000000000000000000000000000000111111111110011111111111111111100\n\
-100000000000000000000000000000111100101101001011001001100101010\n\
+100000000000000000000000000000111100101001001010001001000101010\n\
 100000000000000000000000000000111111111110111111111111111111101\n\
 100000000000000000000000000000111110011001100110100111001100011\n\
-100000000000000000000000000000111111110111111101111110111111111\n\
+100000000000000000000000000000111111110001111100111100001111111\n\
 100000000000000000000000000000111111111111111111111111111111111";
 
 #[test]
@@ -90,6 +91,22 @@ fn encoding(rt: HostRuntime) -> Result<(), Fail> {
     let opb: &[u8] = b"* #variable= 2 #constraint= 1\nmin: +1 x2 ;\n+1 x1 +2 ~x2 >= 2 ;\n";
     let found = broken(rt.alloc(), "pbcnf encode a d", [opb, b"", b""], 0);
     assert_eq!(rt; found.as_deref(), Some(ENCODED));
+    Ok(())
+}
+
+const MAPPED: &str = "\
+-11111111111100111111111111111111100\n\
+11110010010010010100010011000101010\n\
+11111111111101111111111111111111101\n\
+11111001100011001101001110001100011\n\
+11111111000011111001111000001111111\n\
+11111111111111111111111111111111111";
+
+#[test]
+fn mapping(rt: HostRuntime) -> Result<(), Fail> {
+    let opb: &[u8] = b"min: +1 sun ;\n+1 x1 +2 ~sun >= 2 ;\n";
+    let found = broken(rt.alloc(), "pbcnf map a", [opb, b"", b""], 0);
+    assert_eq!(rt; found.as_deref(), Some(MAPPED));
     Ok(())
 }
 
@@ -111,10 +128,10 @@ fn probing(rt: HostRuntime) -> Result<(), Fail> {
 
 const DECODED_PROBLEMS: &str = "\
 0111111111111111100\n\
-010110010110101010\n\
+010180010100101010\n\
 111111111111111101\n\
 881181001100188811\n\
-111011111011111111\n\
+111081111000111111\n\
 111111111111111111";
 
 const DECODED_MODELS: &str = "\
@@ -139,10 +156,10 @@ fn decoding(rt: HostRuntime) -> Result<(), Fail> {
 
 const CHECKED_PROBLEMS: &str = "\
 11111111111111111111111100\n\
-0101100101100101101101010\n\
+0101700101700101001101010\n\
 1111111111111111111111101\n\
 7711117711117711111107011\n\
-1110111110111110111111111\n\
+1110711110711110001111111\n\
 1111111111111111111111111";
 
 const CHECKED_CNFS: &str = "\

@@ -160,6 +160,9 @@ fn all_fill(alloc: Global, words: &str, texts: [&[u8]; 3]) -> bool {
 // Exactly one of two variables.
 const ONE: &[u8] = b"+1 x1 +1 x2 = 1 ;\n";
 
+// Two free names beside a number.
+const NAMES: &[u8] = b"+1 rain +1 x2 +1 ~sun >= 2 ;\n";
+
 // Three weights, of which a diagram is made.
 const WEIGHTS: &[u8] = b"+4 ~x1 +3 ~x2 +2 ~x3 >= 4 ;\n";
 
@@ -189,6 +192,7 @@ fn each_command(rt: HostRuntime) -> Result<(), Fail> {
         ("pbcnf encode a d", [ONE, b"", b""], 1),
         ("pbcnf encode a d", [WEIGHTS, b"", b""], 1),
         ("pbcnf decode a b", [ONE, PRINTED, b""], 2),
+        ("pbcnf map a", [NAMES, b"", b""], 1),
         ("pbcnf probe a x1 x2", [COUNTER, b"", b""], 1),
         ("pbcnf bench 1 0", [b"", b"", b""], 0),
         ("pbcnf bench 1 0 d", [b"", b"", b""], 0),

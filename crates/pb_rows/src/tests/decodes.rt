@@ -46,6 +46,12 @@ fn values_that_are_a_solution(rt: HostRuntime) -> Result<(), Fail> {
             "o 2\ns SATISFIABLE\nv x1 -x2\n",
         ),
         ("", "s SATISFIABLE\n", "s SATISFIABLE\nv\n"),
+        // Variables with free names stand behind those with numbers.
+        (
+            "+1 rain +1 x2 +1 ~sun >= 2 ;\n",
+            "s SATISFIABLE\nv 2 3 0\n",
+            "s SATISFIABLE\nv -x1 x2 rain -sun\n",
+        ),
     ];
     for &(opb, printed, line) in &cases {
         let found = decoded(rt.alloc(), opb, printed);

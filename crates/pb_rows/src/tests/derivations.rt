@@ -73,6 +73,8 @@ fn what_is_made_is_accepted(rt: HostRuntime) -> Result<(), Fail> {
         (" --budget 2", weights),
         (" --budget 3", weights),
         ("", "+5 ~x1 +4 ~x2 +3 ~x3 +3 ~x4 >= 7 ;\n"),
+        // Free names; in derivations all variables go by numbers.
+        ("", "+4 rain +3 ~x1 +2 sun >= 4 ;\n"),
         // Several constraints, of which each is derived under its own id.
         (
             " --card totalizer --general tree",

@@ -140,6 +140,18 @@ nothing 0 empty 0 clause 0 pairwise 0 ladder 1 product 0 counter 0 totalizer 0 d
     Ok(())
 }
 
+// Free names are numbered behind the others, in the order in which they come first.
+#[test]
+fn free_names(rt: HostRuntime) -> Result<(), Fail> {
+    let text = "+1 rain +1 x2 +1 ~sun >= 2 ;\n";
+    let cnf = "p cnf 4 3\n2 3 0\n2 -4 0\n3 -4 0\n";
+    let said = "variables 4 original 4 fresh 0 clauses 3\n\
+nothing 0 empty 0 clause 0 pairwise 1 ladder 0 product 0 counter 0 totalizer 0 diagram 0 tree 0 adder 0\n";
+    let is_encoded = is_encoded_by(rt.alloc(), "pbcnf encode a c", text, cnf, said);
+    assert!(rt; is_encoded);
+    Ok(())
+}
+
 // Two fresh variables are the last that there may be.
 #[test]
 fn the_greatest_variable(rt: HostRuntime) -> Result<(), Fail> {

@@ -21,6 +21,8 @@ fn texts_out_of_the_grammar(rt: HostRuntime) -> Result<(), Fail> {
             "1 pbcnf: OPB 1:12: expected a coefficient or ;",
         ),
         ("+1 ~ x1 >= 1 ;\n", literal),
+        ("+1 2a >= 1 ;\n", literal),
+        ("+1 ~~a >= 1 ;\n", literal),
         ("+ 1 x1 >= 1 ;\n", start),
         ("+1 x1 >= 1 2 ;\n", "1 pbcnf: OPB 1:12: expected ;"),
     ];

@@ -23,6 +23,8 @@ fn words_that_ask_for_nothing(rt: HostRuntime) -> Result<(), Fail> {
         "pbcnf decode a",
         "pbcnf decode a m q",
         "pbcnf decode a a",
+        "pbcnf map",
+        "pbcnf map a c",
         // No names of files.
         "pbcnf encode -a c",
         "pbcnf encode a --card",

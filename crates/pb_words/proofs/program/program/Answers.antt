@@ -5,6 +5,7 @@ use Rattle.pb_words.specs.BenchWords.{bench_app}
 use Rattle.pb_words.specs.CheckWords.{check_app}
 use Rattle.pb_words.specs.DecodeWords.{decode_app}
 use Rattle.pb_words.specs.EncodeWords.{encode_app}
+use Rattle.pb_words.specs.MapWords.{map_app}
 use Rattle.pb_words.specs.ProbeWords.{probe_app}
 use Rattle.pb_words.specs.RefuteWords.{refute_app}
 use Rattle.pb_words.specs.Rules.{bare_program}
@@ -23,4 +24,6 @@ returns c =
     let probe = adds_command with_decode probe_app _ _ _ c.in_ok-subcommand-4.ensures decode c.in_ok-command-4.ensures in
     let with_probe : App = with_subcommand with_decode probe_app.top in
     let bench = adds_command with_probe bench_app _ _ _ c.in_ok-subcommand-5.ensures probe c.in_ok-command-5.ensures in
-    IfOk-weaker c.subcommand-6.result _ _ (λ new adds. adds_command (with_subcommand with_probe bench_app.top) refute_app _ _ _ adds bench c.in_ok-command-6.ensures) c.subcommand-6.ensures
+    let with_bench : App = with_subcommand with_probe bench_app.top in
+    let refute = adds_command with_bench refute_app _ _ _ c.in_ok-subcommand-6.ensures bench c.in_ok-command-6.ensures in
+    IfOk-weaker c.subcommand-7.result _ _ (λ new adds. adds_command (with_subcommand with_bench refute_app.top) map_app _ _ _ adds refute c.in_ok-command-7.ensures) c.subcommand-7.ensures

@@ -1,0 +1,48 @@
+//! Listing the free names of the problem of a file.
+ghost use Rattle.pb_base.specs.Problems.{IsWithinLimits};
+ghost use Rattle.pb_desk.specs.Desk.{IfTold, IsClosed};
+ghost use Rattle.pb_words.specs.MapWords.{as_map_words};
+ghost use Rattle.pb_suite.specs.Obeying.{Obeys};
+ghost use Rattle.pb_suite.specs.OwedMap.{owed_map};
+ghost use Rattle.pb_suite.specs.Posed.{IsPosed};
+
+use crate::outcome::Outcome;
+use crate::reading::read_problem;
+use pb_base::{Failed, NoMemory, Problem};
+use pb_desk::{Desk, say_all};
+use pb_model::write_map;
+use pb_words::Mapping;
+use std::alloc::Global;
+
+// Says the free names of a problem that was read.
+fn say_names<D: Desk>(
+    alloc: Global,
+    problem: &Problem,
+    asked: &Mapping<'_>,
+    desk: &mut D,
+) -> Outcome
+    requires within { IsWithinLimits problem.now }
+    requires posed { IfTold (D.state desk.old) (λ t. IsPosed t.shelf (as_map_words asked.now).opb problem.now) }
+    ensures { Obeys (owed_map (as_map_words asked.now)) (D.state desk.old) (D.state desk.new) result }
+{
+    let mut text = Vec::new(alloc);
+    match write_map(alloc, problem, &mut text) {
+        Ok(()) => {}
+        Err(NoMemory) => return Outcome::NoMemory,
+    }
+    match say_all(desk, &text) {
+        Ok(()) => Outcome::Done,
+        Err(Failed) => Outcome::WriteFault,
+    }
+}
+
+/// Says which variables of a problem have free names, and which names.
+pub fn map_file<D: Desk>(alloc: Global, asked: &Mapping<'_>, desk: &mut D) -> Outcome
+    requires closed { IsClosed (D.state desk.old) }
+    ensures { Obeys (owed_map (as_map_words asked.now)) (D.state desk.old) (D.state desk.new) result }
+{
+    match read_problem(alloc, asked.opb, desk) {
+        Ok(problem) => say_names(alloc, &problem, asked, desk),
+        Err(outcome) => outcome,
+    }
+}
