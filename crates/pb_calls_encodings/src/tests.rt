@@ -1,0 +1,2 @@
+mod short_sink;
+mod streams;

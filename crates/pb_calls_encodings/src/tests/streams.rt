@@ -1,0 +1,42 @@
+ghost use Rattle.pb_base.specs.Problems.{IsWithinLimits};
+
+use super::short_sink::ShortSink;
+use pb_base::Problem;
+use pb_choice::Options;
+use pb_encode::{measure, stream_clauses};
+use pb_opb::read_opb;
+use std::alloc::Global;
+use std::test::Fail;
+
+// How many variables and clauses a problem has, how handing over its clauses to a sink that takes
+// so many ends, and what the sink holds then.
+fn streamed(alloc: Global, problem: &Problem, left: u32) -> Option<String>
+    requires { IsWithinLimits problem.now }
+{
+    let options = Options::default();
+    let summary = measure(alloc, problem, &options).ok()?;
+    let mut sink = ShortSink::new(alloc, left);
+    let done = stream_clauses(alloc, problem, &options, &mut sink);
+    let lines = str::from_utf8(sink.text()).ok()?;
+    format!(in alloc; "{} {} {done:?}\n{lines}", summary.vars, summary.clauses).ok()
+}
+
+// The same of the problem of a text.
+fn streamed_text(alloc: Global, text: &str, left: u32) -> Option<String> {
+    let problem = read_opb(alloc, text.as_bytes()).ok()?;
+    streamed(alloc, &problem, left)
+}
+
+#[test]
+fn sinks_that_fail(rt: HostRuntime) -> Result<(), Fail> {
+    let cases = [
+        (0, "2 2 Err(Failed)\n"),
+        (1, "2 2 Err(Failed)\n1 2 0\n"),
+        (2, "2 2 Ok(())\n1 2 0\n-1 -2 0\n"),
+    ];
+    for (left, expected) in cases {
+        let found = streamed_text(rt.alloc(), "+1 x1 +1 x2 = 1 ;", left);
+        assert_eq!(rt; found.as_deref(), Some(expected));
+    }
+    Ok(())
+}
