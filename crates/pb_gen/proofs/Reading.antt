@@ -10,16 +10,17 @@ use Rattle.pb_base.specs.declared.problem.Raw.{Raw}
 use Rattle.pb_base.specs.Firsts.{firsts}
 use Rattle.pb_base.specs.Places.{start}
 use Rattle.pb_base.specs.Tokens.{tokens_of, uncommented, Piece}
-use Rattle.pb_named.specs.NamedProblems.{all_names, free_names, greatest, index_in, names_of, problem_of, table_of}
+use Rattle.pb_named.specs.NamedProblems.{all_names, free_names, greatest, names_of, problem_of, products_of, table_of}
+use Rattle.pb_named.specs.Products.{same_product}
 use Rattle.pb_named.specs.declared.named.NamedProblem.{NamedProblem}
 use Rattle.pb_opb.specs.Faults.{kinds, symbol, Reads, Spells, Symbol}
 use Rattle.pb_opb.specs.FirstLine.{told_vars}
 use Rattle.pb_opb.specs.Grammar.{kind_of, Kind}
 use Rattle.pb_opb.specs.Grammar.Kind.{end}
-use Rattle.pb_opb.specs.Limits.{name_len, CountKeeps, Keeps, SumKeeps}
+use Rattle.pb_opb.specs.Limits.{AllLits, CountKeeps, IsModest, IsNear, Keeps, SumKeeps}
 use Rattle.pb_gen.specs.Generated.{drawn_statements, generated, generated_problem, statement_text}
 use Rattle.pb_gen.proofs.Headers.{header_is, header_rest, header_told, rest_is_line}
-use Rattle.pb_gen.proofs.Indexed.{greatest_append, indexed_statement, indexed_term, same_magnitude, statements_as_many, statements_back, statements_unfree, terms_as_many}
+use Rattle.pb_gen.proofs.Indexed.{greatest_append, indexed_statement, indexed_term, literals_as_many, same_magnitude, statements_as_many, statements_back, statements_unfree, statements_unmultiplied}
 use Rattle.pb_gen.proofs.KindLemmas.{statements_spelled, CanBePrinted, IsPrintable}
 use Rattle.pb_gen.proofs.Lengths.{text_short}
 use Rattle.pb_gen.proofs.Small.{magnitude_small, statements_count, statements_small, IsSmall, IsSmallTerm}
@@ -79,21 +80,23 @@ means n seed few =
     let numbered : n + 10 ≡ max (told_vars (generated n seed)) (greatest ns) = omega (arith, told n seed few, within) in
     let names : [] ≡ free_names ns = ap (firsts bytes_eq) (sym (statements_unfree ss)) in
     let vars : n + 10 ≡ max (told_vars (generated n seed)) (greatest ns) + length (free_names ns) = omega (arith, numbered, ap length names) in
-    let statements = sym (statements_back (table_of (told_vars (generated n seed)) ns) ss) in
-    λ i. record { vars = vars i; numbered = numbered i; names = names i; objective = None; statements = statements i }
+    let t = table_of (told_vars (generated n seed)) ns in
+    let products : [] ≡ products_of t (written n seed) = ap (firsts same_product) (sym (statements_unmultiplied t ss)) in
+    let statements = sym (statements_back t (products_of t (written n seed)) ss) in
+    λ i. record { vars = vars i; numbered = numbered i; names = names i; products = products i; objective = None; statements = statements i }
 
 -- ---- the limits
 
-terms_low : (vars : ℕ) (ts : List Term) → AllByRecursion (IsSmallTerm vars) ts → AllByRecursion (λ t. index_in t.lit.name < 2 ^ 31) (map indexed_term ts)
+terms_low : (vars : ℕ) (ts : List Term) → AllByRecursion (IsSmallTerm vars) ts → AllLits IsNear (map indexed_term ts)
 terms_low vars [] are = tt
-terms_low vars (t ∷ ts) are = (omega (arith, are.0.near), terms_low vars ts are.1)
+terms_low vars (t ∷ ts) are = ((omega (arith, are.0.near), tt), terms_low vars ts are.1)
 
-terms_unnamed : (ts : List Term) → AllByRecursion (λ t. name_len t.lit.name ≤ 255) (map indexed_term ts)
+terms_unnamed : (ts : List Term) → AllLits IsModest (map indexed_term ts)
 terms_unnamed [] = tt
-terms_unnamed (t ∷ ts) = (omega arith, terms_unnamed ts)
+terms_unnamed (t ∷ ts) = ((omega arith, tt), terms_unnamed ts)
 
 sum_kept : (which : LimitKind) (vars : ℕ) (s : Raw) → IsSmall vars s → SumKeeps which (map indexed_term s.terms) (unsigned_abs s.right)
-sum_kept Terms vars s is = omega (arith, is.count, terms_as_many s.terms)
+sum_kept Terms vars s is = omega (arith, is.count, literals_as_many s.terms)
 sum_kept Weight vars s is =
     let right : unsigned_abs s.right ≡ is.right = ap unsigned_abs is.is in
     omega (arith, right, is.most, is.count, magnitude_small vars s.terms is.terms, same_magnitude s.terms)

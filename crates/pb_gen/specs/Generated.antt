@@ -18,7 +18,7 @@ drawn_statements vars zero seed = []
 drawn_statements vars (suc n) seed = drawn_statement vars seed ∷ drawn_statements vars n (state_after (statement_draws seed) seed)
 
 abbrev pub generated_problem : ℕ → ℕ → Problem
-generated_problem n seed = record { vars = n + 10; numbered = n + 10; names = []; objective = None; statements = drawn_statements (n + 10) n seed }
+generated_problem n seed = record { vars = n + 10; numbered = n + 10; names = []; products = []; objective = None; statements = drawn_statements (n + 10) n seed }
 
 -- ---- its text
 

@@ -1,6 +1,8 @@
 -- Worked examples of names, which the check computes.
-use Rattle.std.specs.Prelude.{◌≡◌, [], ◌∷◌, pos, Some, None, true, false, refl, codes}
+use Rattle.std.specs.Prelude.{◌≡◌, ℕ, [], ◌∷◌, pos, Some, None, true, false, refl, codes}
+use Rattle.pb_base.specs.declared.literal.Lit.{Lit}
 use Rattle.pb_base.specs.declared.problem.Relation.TheVariants.{AtLeast}
+use Rattle.pb_named.specs.declared.named.NamedLit.{NamedLit}
 use Rattle.pb_named.specs.Names.{name_of}
 use Rattle.pb_named.specs.Names.Name.{index, free}
 use Rattle.pb_named.specs.NamedProblems.{problem_of}
@@ -25,7 +27,7 @@ a_digit_first = refl
 pub rain_and_sun : problem_of 0 (record {
   objective = None;
   statements = record {
-    terms = record { coef = pos 1; lit = record { name = free (codes "rain"); positive = true } } ∷ record { coef = pos 1; lit = record { name = index 2; positive = true } } ∷ record { coef = pos 1; lit = record { name = free (codes "sun"); positive = false } } ∷ [];
+    terms = record { coef = pos 1; lit = record { name = free (codes "rain"); positive = true }; more = [] } ∷ record { coef = pos 1; lit = record { name = index 2; positive = true }; more = [] } ∷ record { coef = pos 1; lit = record { name = free (codes "sun"); positive = false }; more = [] } ∷ [];
     relation = AtLeast;
     right = pos 2;
   } ∷ [];
@@ -33,6 +35,7 @@ pub rain_and_sun : problem_of 0 (record {
   vars = 4;
   numbered = 2;
   names = codes "rain" ∷ codes "sun" ∷ [];
+  products = [];
   objective = None;
   statements = record {
     terms = record { coef = pos 1; lit = record { var = 3; positive = true } } ∷ record { coef = pos 1; lit = record { var = 2; positive = true } } ∷ record { coef = pos 1; lit = record { var = 4; positive = false } } ∷ [];
@@ -41,3 +44,47 @@ pub rain_and_sun : problem_of 0 (record {
   } ∷ [];
 }
 rain_and_sun = refl
+
+abbrev x : ℕ → NamedLit
+x n = record { name = index n; positive = true }
+
+abbrev no : ℕ → NamedLit
+no n = record { name = index n; positive = false }
+
+abbrev plus : ℕ → Lit
+plus n = record { var = n; positive = true }
+
+abbrev minus : ℕ → Lit
+minus n = record { var = n; positive = false }
+
+-- a product, one that is 0, and one that is a single literal
+pub three_kinds : problem_of 0 (record {
+  objective = None;
+  statements = record {
+    terms = record { coef = pos 2; lit = x 1; more = no 2 ∷ [] } ∷ record { coef = pos 1; lit = x 2; more = no 2 ∷ [] } ∷ record { coef = pos 1; lit = x 1; more = x 1 ∷ [] } ∷ [];
+    relation = AtLeast;
+    right = pos 3;
+  } ∷ [];
+}) ≡ record {
+  vars = 2;
+  numbered = 2;
+  names = [];
+  products = (plus 1 ∷ minus 2 ∷ []) ∷ [];
+  objective = None;
+  statements = record { terms = record { coef = pos 2; lit = plus 3 } ∷ record { coef = pos 1; lit = plus 1 } ∷ []; relation = AtLeast; right = pos 3 } ∷ [];
+}
+three_kinds = refl
+
+-- the same literals in another order are the same product, and the objective's products come first
+pub shared : problem_of 0 (record {
+  objective = Some (record { coef = pos 1; lit = record { name = free (codes "b"); positive = true }; more = x 1 ∷ [] } ∷ []);
+  statements = record { terms = record { coef = pos 1; lit = x 1; more = record { name = free (codes "b"); positive = true } ∷ x 1 ∷ [] } ∷ []; relation = AtLeast; right = pos 1 } ∷ [];
+}) ≡ record {
+  vars = 2;
+  numbered = 1;
+  names = codes "b" ∷ [];
+  products = (plus 1 ∷ plus 2 ∷ []) ∷ [];
+  objective = Some (record { coef = pos 1; lit = plus 3 } ∷ []);
+  statements = record { terms = record { coef = pos 1; lit = plus 3 } ∷ []; relation = AtLeast; right = pos 1 } ∷ [];
+}
+shared = refl

@@ -1,5 +1,5 @@
--- The problem of names: each free name, in the order in which they first stand in a text, is a variable behind those of indices (our own).
-use Rattle.std.specs.Prelude.{ℕ, ◌+◌, max, List, [], ◌∷◌, ◌++◌, map, length, Option, Some, None}
+-- The problem of names: each free name, in the order in which they first stand in a text, is a variable behind those of indices, and each product of literals one behind them (our own).
+use Rattle.std.specs.Prelude.{ℕ, ◌+◌, max, List, [], ◌∷◌, ◌++◌, map, length, Option, Some, None, ℤ, true}
 use Rattle.std.specs.List.{flat_map, position_or_len}
 use Rattle.std.specs.Option.{option_map}
 use Rattle.std.specs.Str.{bytes_eq}
@@ -11,14 +11,20 @@ use Rattle.pb_base.specs.declared.problem.Problem.{Problem}
 use Rattle.pb_named.specs.Names.{Name}
 use Rattle.pb_named.specs.Names.Name.{index, free}
 use Rattle.pb_named.specs.declared.named.NamedLit.{NamedLit}
-use Rattle.pb_named.specs.declared.named.NamedTerm.{NamedTerm}
+use Rattle.pb_named.specs.declared.products.Factor.{Factor}
+use Rattle.pb_named.specs.declared.products.Factor.TheVariants.{Nought, Single, Product}
+use Rattle.pb_named.specs.NamedTerms.{NamedTerm, lits_of}
+use Rattle.pb_named.specs.Products.{factor_of, product_in, same_product}
 use Rattle.pb_named.specs.declared.named.NamedStatement.{NamedStatement}
 use Rattle.pb_named.specs.declared.named.NamedProblem.{NamedProblem}
 
 -- ---- the names of a problem, in the order of its text
 
+abbrev pub term_names : NamedTerm → List Name
+term_names t = map (λ l. l.name) (lits_of t)
+
 abbrev pub names_of : List NamedTerm → List Name
-names_of ts = map (λ t. t.lit.name) ts
+names_of ts = flat_map term_names ts
 
 abbrev pub terms_or_none : Option (List NamedTerm) → List NamedTerm
 terms_or_none None = []
@@ -61,23 +67,57 @@ var_of t (free text) = t.numbered + 1 + position_or_len (bytes_eq text) t.names
 abbrev pub lit_of : Table → NamedLit → Lit
 lit_of t l = record { var = var_of t l.name; positive = l.positive }
 
-abbrev pub term_of : Table → NamedTerm → Term
-term_of t n = record { coef = n.coef; lit = lit_of t n.lit }
+-- ---- products, and their variables behind these
 
-abbrev pub terms_of : Table → List NamedTerm → List Term
-terms_of t ns = map (term_of t) ns
+-- how many variables have a name
+abbrev pub size : Table → ℕ
+size t = t.numbered + length t.names
 
-abbrev pub statement_of : Table → NamedStatement → Raw
-statement_of t s = record { terms = terms_of t s.terms; relation = s.relation; right = s.right }
+-- what the literals of a term come to
+abbrev pub factor : Table → NamedTerm → Factor
+factor t n = factor_of (map (lit_of t) (lits_of n))
 
-abbrev pub by_table : Table → NamedProblem → Problem
-by_table t p = record {
-  vars = t.numbered + length t.names;
+abbrev pub products_in : Table → List NamedTerm → List (List Lit)
+products_in t ns = flat_map (λ n. product_in (factor t n)) ns
+
+-- in the order of the text, the objective's first
+abbrev pub all_terms : NamedProblem → List NamedTerm
+all_terms p = terms_or_none p.objective ++ flat_map (λ s. s.terms) p.statements
+
+-- the products, each once, in the order in which they first stand there
+abbrev pub products_of : Table → NamedProblem → List (List Lit)
+products_of t p = firsts same_product (products_in t (all_terms p))
+
+-- ---- in numbers
+
+-- the literal of a product's variable
+abbrev pub product_lit : Table → List (List Lit) → List Lit → Lit
+product_lit t products ls = record { var = size t + 1 + position_or_len (same_product ls) products; positive = true }
+
+-- a term whose literals come to 0 is dropped
+abbrev pub terms_by : Table → List (List Lit) → ℤ → Factor → List Term
+terms_by t products coef Nought = []
+terms_by t products coef (Single l) = record { coef = coef; lit = l } ∷ []
+terms_by t products coef (Product ls) = record { coef = coef; lit = product_lit t products ls } ∷ []
+
+abbrev pub terms_of : Table → List (List Lit) → List NamedTerm → List Term
+terms_of t products ns = flat_map (λ n. terms_by t products n.coef (factor t n)) ns
+
+abbrev pub statement_of : Table → List (List Lit) → NamedStatement → Raw
+statement_of t products s = record { terms = terms_of t products s.terms; relation = s.relation; right = s.right }
+
+abbrev pub by_tables : Table → List (List Lit) → NamedProblem → Problem
+by_tables t products p = record {
+  vars = size t;
   numbered = t.numbered;
   names = t.names;
-  objective = option_map (terms_of t) p.objective;
-  statements = map (statement_of t) p.statements;
+  products = products;
+  objective = option_map (terms_of t products) p.objective;
+  statements = map (statement_of t products) p.statements;
 }
+
+abbrev pub by_table : Table → NamedProblem → Problem
+by_table t p = by_tables t (products_of t p) p
 
 -- the problem, where the first line tells a number of variables
 abbrev pub problem_of : ℕ → NamedProblem → Problem

@@ -1,8 +1,9 @@
 //! Problems whose variables are named as in their text.
-ghost use Rattle.std.specs.Prelude.{◌≡◌, length, ◌≤◌, ◌<◌, ◌^◌, zero, Some, None};
+ghost use Rattle.std.specs.Prelude.{◌≡◌, length, ◌≤◌, ◌<◌, ◌^◌};
 ghost use Rattle.pb_named.specs.Names.Name.{index, free};
 
 use pb_base::{Relation, Seq};
+use std::alloc::{AllocError, Global};
 use std::marker::Model;
 
 /// What a word names: a variable by its number behind `x`, or by a free name.
@@ -77,11 +78,93 @@ pub struct NamedLit<'a> {
     pub positive: bool,
 }
 
-/// A coefficient times a literal.
+// Literals in memory of their own, so that a term of one literal takes little.
+#[derive(Debug, Drop)]
+struct Further<'a> {
+    lits: Box<Seq<NamedLit<'a>>>,
+}
+
+impl<'a> Model for Further<'a> {
+    ghost use Rattle.std.specs.Prelude.{List};
+    ghost use Rattle.pb_named.specs.declared.named.NamedLit.{NamedLit};
+
+    ghost Value = { List NamedLit };
+
+    ghost view = { λ f. f.lits.value };
+}
+
+/// A coefficient and one or more literals: the coefficient counts where all of them are true.
 #[derive(Debug, Drop)]
 pub struct NamedTerm<'a> {
-    pub coef: i128,
-    pub lit: NamedLit<'a>,
+    coef: i128,
+    lit: NamedLit<'a>,
+    more: Option<Further<'a>>,
+}
+
+impl<'a> Model for NamedTerm<'a> {
+    ghost use Rattle.std.specs.Prelude.{[], unwrap_or};
+    ghost use Rattle.pb_named.specs.NamedTerms.{NamedTerm as TermOf};
+
+    ghost Value = { TermOf };
+
+    ghost view = { λ t. record { coef = t.coef; lit = t.lit; more = unwrap_or t.more [] } };
+}
+
+impl<'a> NamedTerm<'a> {
+    ghost use Rattle.std.specs.Prelude.{[], OnOk};
+    ghost use Rattle.pb_named.specs.NamedTerms.{with_literal};
+
+    /// A coefficient and one literal.
+    pub fn new(coef: i128, lit: NamedLit<'a>) -> Self
+        ensures { result ≡ record { coef = coef; lit = lit.entry; more = [] } }
+    {
+        NamedTerm {
+            coef,
+            lit,
+            more: None,
+        }
+    }
+
+    /// The coefficient.
+    pub fn coef(&self) -> i128
+        ensures { result ≡ self.now.coef }
+    {
+        self.coef
+    }
+
+    /// The first literal.
+    pub fn lit(&self) -> &NamedLit<'a>
+        ensures { result.now ≡ self.now.lit }
+    {
+        &self.lit
+    }
+
+    /// The literals behind the first one.
+    pub fn more(&self) -> &[NamedLit<'a>]
+        ensures { result.now ≡ self.now.more }
+    {
+        match &self.more {
+            Some(further) => further.lits.as_slice(),
+            None => &[],
+        }
+    }
+
+    /// One literal more.
+    pub fn push(&mut self, alloc: Global, lit: NamedLit<'a>) -> Result<(), AllocError>
+        ensures { OnOk result (self.new ≡ with_literal self.old lit.entry) }
+    {
+        match &mut self.more {
+            Some(further) => further.lits.push(lit),
+            None => {
+                let mut lits = Seq::new(alloc);
+                lits.push(lit)?;
+                self.more = Some(Further {
+                    lits: Box::new(alloc, lits)?,
+                });
+                Ok(())
+            }
+        }
+    }
 }
 
 pub type NamedTerms<'a> = Seq<NamedTerm<'a>>;

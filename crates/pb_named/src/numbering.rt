@@ -1,16 +1,23 @@
 //! The numbers of named variables.
-ghost use Rattle.std.specs.Prelude.{◌≡◌, ◌∷◌, ◌++◌, ◌+◌, ◌<◌, ◌≤◌, ◌^◌, IfOk, OnOk, IsErrOf, map, All};
+ghost use Rattle.std.specs.Prelude.{◌≡◌, ◌++◌, ◌+◌, ◌<◌, ◌≤◌, ◌^◌, IfOk, OnOk, IsErrOf, map, All};
 ghost use Rattle.std.specs.Option.{option_map};
 ghost use Rattle.std.specs.List.{flat_map};
+ghost use Rattle.pb_base.specs.Firsts.{with_item, firsts_behind};
 ghost use Rattle.pb_base.specs.Problems.{originals};
-ghost use Rattle.pb_named.specs.declared.numbering.NumberFault.TheVariants.{NoMemory as WantsMemory};
-ghost use Rattle.pb_named.specs.NamedProblems.{names_of, terms_or_none, all_names, table_of, terms_of, statement_of, by_table, problem_of};
-ghost use Rattle.pb_named.specs.laws.Numbering.{noted_all, place_in, places_from, AreKnown, size};
+ghost use Rattle.pb_named.specs.declared.numbering.NumberFault.TheVariants.{NoMemory as WantsMemory, Variables as HasTooMany};
+ghost use Rattle.pb_named.specs.NamedProblems.{term_names, names_of, terms_or_none, all_names, table_of, size, lit_of, factor, products_in, product_lit, terms_by, terms_of, statement_of, by_table, problem_of};
+ghost use Rattle.pb_named.specs.NamedTerms.{lits_of};
+ghost use Rattle.pb_named.specs.Products.{product_in, same_product};
+ghost use Rattle.pb_named.specs.laws.Numbering.{place_in, noted_all, places_from, StartsWith, Gives, IsKnown, IsTermKnown, AreKnown, IsOver, IsFew, listed};
 
-use crate::named::{NamedProblem, NamedStatement, NamedTerm, NamedTerms};
+use crate::named::{NamedLit, NamedProblem, NamedStatement, NamedTerm, NamedTerms};
+use crate::places::Places;
+use crate::products::{Factor, ProductTable, factor_of};
 use crate::table::Table;
-use pb_base::{MAX_VARIABLES, NoMemory, Problem, Raw, Seq, Statements, Terms};
-use std::alloc::Global;
+use pb_base::{
+    Lit, Lits, MAX_VARIABLES, NoMemory, Problem, Raw, Seq, Statements, Term, Terms, Var,
+};
+use std::alloc::{AllocError, Global};
 
 /// Why a problem's variables were not numbered.
 #[derive(Clone, Copy, Debug, PartialEq, Eq)]
@@ -29,21 +36,56 @@ impl From<NoMemory> for NumberFault {
     }
 }
 
-// The place of each name of a problem among its free ones, in the order of the text.
-type Places = Seq<usize>;
+impl From<AllocError> for NumberFault {
+    ghost from_gives = { λ _ e. e ≡ WantsMemory };
+
+    fn from(_e: AllocError) -> NumberFault {
+        NumberFault::NoMemory
+    }
+}
+
+// Notes the names of literals, and their places.
+fn note_lits<'a>(
+    table: &mut Table<'a>,
+    places: &mut Seq<usize>,
+    lits: &[NamedLit<'a>],
+) -> Result<(), NoMemory>
+    ensures noted { OnOk result (table.new ≡ noted_all table.old (map (λ l. l.name) lits.now)) }
+    ensures places { OnOk result (places.new ≡ places.old ++ places_from table.old (map (λ l. l.name) lits.now)) }
+{
+    for lit in lits {
+        let place = table.note(&lit.name)?;
+        places.push(place)?;
+    }
+    Ok(())
+}
+
+// Notes the names of a term, and their places.
+fn note_term<'a>(
+    table: &mut Table<'a>,
+    places: &mut Seq<usize>,
+    term: &NamedTerm<'a>,
+) -> Result<(), NoMemory>
+    ensures noted { OnOk result (table.new ≡ noted_all table.old (term_names term.now)) }
+    ensures places { OnOk result (places.new ≡ places.old ++ places_from table.old (term_names term.now)) }
+{
+    let place = table.note(&term.lit().name)?;
+    places.push(place)?;
+    note_lits(table, places, term.more())?;
+    Ok(())
+}
 
 // Notes the names of a sum, and their places.
 fn note_terms<'a>(
     table: &mut Table<'a>,
-    places: &mut Places,
+    places: &mut Seq<usize>,
     terms: &[NamedTerm<'a>],
 ) -> Result<(), NoMemory>
     ensures noted { OnOk result (table.new ≡ noted_all table.old (names_of terms.now)) }
     ensures places { OnOk result (places.new ≡ places.old ++ places_from table.old (names_of terms.now)) }
 {
     for term in terms {
-        let place = table.note(&term.lit.name)?;
-        places.push(place)?;
+        note_term(table, places, term)?;
     }
     Ok(())
 }
@@ -51,7 +93,7 @@ fn note_terms<'a>(
 // Notes the names of statements, and their places.
 fn note_statements<'a>(
     table: &mut Table<'a>,
-    places: &mut Places,
+    places: &mut Seq<usize>,
     statements: &[NamedStatement<'a>],
 ) -> Result<(), NoMemory>
     ensures noted { OnOk result (table.new ≡ noted_all table.old (flat_map (λ s. names_of s.terms) statements.now)) }
@@ -78,33 +120,176 @@ fn table_of<'a>(
     alloc: Global,
     told: u32,
     problem: &NamedProblem<'a>,
-) -> Result<(Table<'a>, Places), NoMemory>
+) -> Result<(Table<'a>, Seq<usize>), NoMemory>
     requires { told < 2 ^ 31 }
     ensures table { IfOk result (λ r. r.0 ≡ table_of told (all_names problem.now)) }
     ensures places { IfOk result (λ r. r.1 ≡ map (place_in (table_of told (all_names problem.now))) (all_names problem.now)) }
 {
     let mut table = Table::new(alloc, told);
-    let mut places = Places::new(alloc);
+    let mut places = Seq::new(alloc);
     note_terms(&mut table, &mut places, terms_in(&problem.objective))?;
     note_statements(&mut table, &mut places, problem.statements.as_slice())?;
     Ok((table, places))
+}
+
+// Puts literals in numbers at the end.
+fn push_lits(
+    table: &Table<'_>,
+    places: &mut Places<'_>,
+    list: &mut Lits,
+    lits: &[NamedLit<'_>],
+) -> Result<(), NoMemory>
+    requires places { StartsWith (place_in table.now) places.old (map (λ l. l.name) lits.now) }
+    requires known { All (λ l. IsKnown table.now l.name) lits.now }
+    requires few { size table.now < 2 ^ 31 }
+    ensures places { OnOk result (Gives (place_in table.now) places.old (map (λ l. l.name) lits.now) places.new) }
+    ensures lits { OnOk result (list.new ≡ list.old ++ map (lit_of table.now) lits.now) }
+{
+    for lit in lits {
+        list.push(table.lit_of(lit, places.next()))?;
+    }
+    Ok(())
+}
+
+// The literals of a term in numbers.
+fn lits_of(
+    alloc: Global,
+    table: &Table<'_>,
+    places: &mut Places<'_>,
+    term: &NamedTerm<'_>,
+) -> Result<Lits, NoMemory>
+    requires places { StartsWith (place_in table.now) places.old (term_names term.now) }
+    requires known { IsTermKnown table.now term.now }
+    requires few { size table.now < 2 ^ 31 }
+    ensures places { OnOk result (Gives (place_in table.now) places.old (term_names term.now) places.new) }
+    ensures lits { IfOk result (λ ls. ls ≡ map (lit_of table.now) (lits_of term.now)) }
+{
+    let mut lits = Lits::new(alloc);
+    lits.push(table.lit_of(term.lit(), places.next()))?;
+    push_lits(table, places, &mut lits, term.more())?;
+    Ok(lits)
+}
+
+// The literal of a product's variable.
+fn product_lit(
+    table: &Table<'_>,
+    products: &mut ProductTable,
+    set: Lits,
+) -> Result<Lit, NumberFault>
+    requires few { IsFew table.now products.old }
+    ensures few { OnOk result (IsFew table.now products.new) }
+    ensures noted { OnOk result (products.new ≡ with_item same_product products.old set) }
+    ensures lit { IfOk result (λ l. l ≡ product_lit table.now (with_item same_product products.old set) set) }
+    ensures many { IsErrOf result HasTooMany → IsOver table.now (with_item same_product products.old set) }
+{
+    let place = products.note(set)?;
+    if products.len() > (MAX_VARIABLES - table.size()) as usize {
+        return Err(NumberFault::Variables);
+    }
+    Ok(Lit {
+        var: Var::new(table.size() + 1 + place as u32),
+        positive: true,
+    })
+}
+
+// A term by what its literals come to.
+fn by_factor(
+    table: &Table<'_>,
+    products: &mut ProductTable,
+    coef: i128,
+    factor: Factor,
+) -> Result<Option<Term>, NumberFault>
+    requires few { IsFew table.now products.old }
+    ensures few { OnOk result (IsFew table.now products.new) }
+    ensures noted { OnOk result (products.new ≡ firsts_behind same_product products.old (product_in factor)) }
+    ensures term { IfOk result (λ o. listed o ≡ terms_by table.now (firsts_behind same_product products.old (product_in factor)) coef factor) }
+    ensures many { IsErrOf result HasTooMany → IsOver table.now (firsts_behind same_product products.old (product_in factor)) }
+{
+    match factor {
+        Factor::Nought => Ok(None),
+        Factor::Single(lit) => Ok(Some(Term { coef, lit })),
+        Factor::Product(set) => {
+            let lit = product_lit(table, products, set)?;
+            Ok(Some(Term { coef, lit }))
+        }
+    }
+}
+
+// What the literals of a term come to.
+fn factor_in(
+    alloc: Global,
+    table: &Table<'_>,
+    places: &mut Places<'_>,
+    term: &NamedTerm<'_>,
+) -> Result<Factor, NoMemory>
+    requires places { StartsWith (place_in table.now) places.old (term_names term.now) }
+    requires known { IsTermKnown table.now term.now }
+    requires few { size table.now < 2 ^ 31 }
+    ensures places { OnOk result (Gives (place_in table.now) places.old (term_names term.now) places.new) }
+    ensures factor { IfOk result (λ f. f ≡ factor table.now term.now) }
+{
+    if term.more().is_empty() {
+        let lit = table.lit_of(term.lit(), places.next());
+        return Ok(Factor::Single(lit));
+    }
+    let lits = lits_of(alloc, table, places, term)?;
+    Ok(factor_of(lits))
+}
+
+// A term in numbers, unless it is dropped.
+fn term_of(
+    alloc: Global,
+    table: &Table<'_>,
+    products: &mut ProductTable,
+    places: &mut Places<'_>,
+    term: &NamedTerm<'_>,
+) -> Result<Option<Term>, NumberFault>
+    requires places { StartsWith (place_in table.now) places.old (term_names term.now) }
+    requires known { IsTermKnown table.now term.now }
+    requires few { IsFew table.now products.old }
+    ensures few { OnOk result (IsFew table.now products.new) }
+    ensures places { OnOk result (Gives (place_in table.now) places.old (term_names term.now) places.new) }
+    ensures noted { OnOk result (products.new ≡ firsts_behind same_product products.old (product_in (factor table.now term.now))) }
+    ensures term { IfOk result (λ o. listed o ≡ terms_by table.now (firsts_behind same_product products.old (product_in (factor table.now term.now))) term.now.coef (factor table.now term.now)) }
+    ensures many { IsErrOf result HasTooMany → IsOver table.now (firsts_behind same_product products.old (product_in (factor table.now term.now))) }
+{
+    let factor = factor_in(alloc, table, places, term)?;
+    by_factor(table, products, term.coef(), factor)
+}
+
+// Puts a term at the end, if there is one.
+fn push_some(list: &mut Terms, term: Option<Term>) -> Result<(), NoMemory>
+    ensures { OnOk result (list.new ≡ list.old ++ listed term) }
+{
+    match term {
+        Some(term) => {
+            list.push(term)?;
+            Ok(())
+        }
+        None => Ok(()),
+    }
 }
 
 // A sum in numbers.
 fn terms_of(
     alloc: Global,
     table: &Table<'_>,
-    places: &[usize],
+    products: &mut ProductTable,
+    places: &mut Places<'_>,
     terms: &[NamedTerm<'_>],
-) -> Result<Terms, NoMemory>
-    requires places { places.now ≡ map (place_in table.now) (names_of terms.now) }
+) -> Result<Terms, NumberFault>
+    requires places { StartsWith (place_in table.now) places.old (names_of terms.now) }
     requires known { AreKnown table.now terms.now }
-    requires few { size table.now < 2 ^ 31 }
-    ensures { IfOk result (λ ts. ts ≡ terms_of table.now terms.now) }
+    requires few { IsFew table.now products.old }
+    ensures few { OnOk result (IsFew table.now products.new) }
+    ensures places { OnOk result (Gives (place_in table.now) places.old (names_of terms.now) places.new) }
+    ensures noted { OnOk result (products.new ≡ firsts_behind same_product products.old (products_in table.now terms.now)) }
+    ensures terms { IfOk result (λ ts. ts ≡ terms_of table.now (firsts_behind same_product products.old (products_in table.now terms.now)) terms.now) }
+    ensures many { IsErrOf result HasTooMany → IsOver table.now (firsts_behind same_product products.old (products_in table.now terms.now)) }
 {
     let mut list = Terms::new(alloc);
-    for (i, term) in terms.iter().enumerate() {
-        list.push(table.term_of(term, places[i]))?;
+    for term in terms {
+        push_some(&mut list, term_of(alloc, table, products, places, term)?)?;
     }
     Ok(list)
 }
@@ -113,25 +298,26 @@ fn terms_of(
 fn statements_of(
     alloc: Global,
     table: &Table<'_>,
-    places: &[usize],
+    products: &mut ProductTable,
+    places: &mut Places<'_>,
     statements: Seq<NamedStatement<'_>>,
-) -> Result<Statements, NoMemory>
-    requires places { places.now ≡ map (place_in table.now) (flat_map (λ s. names_of s.terms) statements) }
+) -> Result<Statements, NumberFault>
+    requires places { StartsWith (place_in table.now) places.old (flat_map (λ s. names_of s.terms) statements) }
     requires known { All (λ s. AreKnown table.now s.terms) statements }
-    requires few { size table.now < 2 ^ 31 }
-    ensures { IfOk result (λ ss. ss ≡ map (statement_of table.now) statements.entry) }
+    requires few { IsFew table.now products.old }
+    ensures few { OnOk result (IsFew table.now products.new) }
+    ensures noted { OnOk result (products.new ≡ firsts_behind same_product products.old (products_in table.now (flat_map (λ s. s.terms) statements.entry))) }
+    ensures statements { IfOk result (λ ss. ss ≡ map (statement_of table.now (firsts_behind same_product products.old (products_in table.now (flat_map (λ s. s.terms) statements.entry)))) statements.entry) }
+    ensures many { IsErrOf result HasTooMany → IsOver table.now (firsts_behind same_product products.old (products_in table.now (flat_map (λ s. s.terms) statements.entry))) }
 {
     let mut list = Statements::new(alloc);
-    let mut rest = places;
     for statement in statements.into_vec() {
-        let (own, behind) = rest.split_at(statement.terms.len());
-        let terms = terms_of(alloc, table, own, statement.terms.as_slice())?;
+        let terms = terms_of(alloc, table, products, places, statement.terms.as_slice())?;
         list.push(Raw {
             terms,
             relation: statement.relation,
             right: statement.right,
         })?;
-        rest = behind;
     }
     Ok(list)
 }
@@ -140,17 +326,22 @@ fn statements_of(
 fn objective_of(
     alloc: Global,
     table: &Table<'_>,
-    places: &[usize],
+    products: &mut ProductTable,
+    places: &mut Places<'_>,
     objective: &Option<NamedTerms<'_>>,
-) -> Result<Option<Terms>, NoMemory>
-    requires places { places.now ≡ map (place_in table.now) (names_of (terms_or_none objective.now)) }
+) -> Result<Option<Terms>, NumberFault>
+    requires places { StartsWith (place_in table.now) places.old (names_of (terms_or_none objective.now)) }
     requires known { AreKnown table.now (terms_or_none objective.now) }
-    requires few { size table.now < 2 ^ 31 }
-    ensures { IfOk result (λ o. o ≡ option_map (terms_of table.now) objective.now) }
+    requires few { IsFew table.now products.old }
+    ensures few { OnOk result (IsFew table.now products.new) }
+    ensures places { OnOk result (Gives (place_in table.now) places.old (names_of (terms_or_none objective.now)) places.new) }
+    ensures noted { OnOk result (products.new ≡ firsts_behind same_product products.old (products_in table.now (terms_or_none objective.now))) }
+    ensures objective { IfOk result (λ o. o ≡ option_map (terms_of table.now (firsts_behind same_product products.old (products_in table.now (terms_or_none objective.now)))) objective.now) }
+    ensures many { IsErrOf result HasTooMany → IsOver table.now (firsts_behind same_product products.old (products_in table.now (terms_or_none objective.now))) }
 {
     match objective {
         None => Ok(None),
-        Some(terms) => Ok(Some(terms_of(alloc, table, places, terms.as_slice())?)),
+        Some(terms) => Ok(Some(terms_of(alloc, table, products, places, terms.as_slice())?)),
     }
 }
 
@@ -160,21 +351,24 @@ fn by_table(
     table: &Table<'_>,
     places: &[usize],
     problem: NamedProblem<'_>,
-) -> Result<Problem, NoMemory>
+) -> Result<Problem, NumberFault>
     requires places { places.now ≡ map (place_in table.now) (all_names problem) }
     requires objective { AreKnown table.now (terms_or_none problem.objective) }
     requires statements { All (λ s. AreKnown table.now s.terms) problem.statements }
     requires few { size table.now < 2 ^ 31 }
-    ensures { IfOk result (λ p. p ≡ by_table table.now problem.entry) }
+    ensures ok { IfOk result (λ p. p ≡ by_table table.now problem.entry) }
+    ensures few { IfOk result (λ p. originals p < 2 ^ 31) }
+    ensures many { IsErrOf result HasTooMany → 2 ^ 31 ≤ originals (by_table table.now problem.entry) }
 {
-    let names = table.names(alloc)?;
-    let (first, behind) = places.split_at(terms_in(&problem.objective).len());
-    let objective = objective_of(alloc, table, first, &problem.objective)?;
-    let statements = statements_of(alloc, table, behind, problem.statements)?;
+    let mut places = Places::of(places);
+    let mut products = ProductTable::new(alloc);
+    let objective = objective_of(alloc, table, &mut products, &mut places, &problem.objective)?;
+    let statements = statements_of(alloc, table, &mut products, &mut places, problem.statements)?;
     Ok(Problem {
-        vars: table.numbered() + table.free() as u32,
+        vars: table.size(),
         numbered: table.numbered(),
-        names,
+        names: table.names(alloc)?,
+        products: products.products(alloc)?,
         objective,
         statements,
     })
@@ -183,7 +377,7 @@ fn by_table(
 /// The problem in numbers, where the first line of its text tells a number of variables.
 ///
 /// Free names are numbered behind the told number and all indices, in the order in which the
-/// problem first has them.
+/// problem first has them, and products of two or more literals behind these.
 pub fn number(alloc: Global, told: u32, problem: NamedProblem<'_>) -> Result<Problem, NumberFault>
     requires { told < 2 ^ 31 }
     ensures ok { IfOk result (λ p. p ≡ problem_of told problem.entry) }
@@ -194,5 +388,5 @@ pub fn number(alloc: Global, told: u32, problem: NamedProblem<'_>) -> Result<Pro
     if table.free() > (MAX_VARIABLES - table.numbered()) as usize {
         return Err(NumberFault::Variables);
     }
-    Ok(by_table(alloc, &table, places.as_slice(), problem)?)
+    by_table(alloc, &table, places.as_slice(), problem)
 }

@@ -1,13 +1,14 @@
 //! The names of a text's variables.
-ghost use Rattle.std.specs.Prelude.{◌≡◌, ◌+◌, ◌<◌, ◌^◌, OnOk, IfOk, map, length};
+ghost use Rattle.std.specs.Prelude.{◌≡◌, ◌<◌, ◌^◌, OnOk, IfOk, map, length};
 ghost use Rattle.std.specs.List.{position_or_len};
 ghost use Rattle.std.specs.Str.{bytes_eq};
 ghost use Rattle.pb_base.specs.Firsts.{with_item};
-ghost use Rattle.pb_named.specs.laws.Numbering.{noted, place_in, IsKnown, size};
+ghost use Rattle.pb_named.specs.NamedProblems.{size};
+ghost use Rattle.pb_named.specs.laws.Numbering.{noted, place_in, IsKnown};
 
-use crate::named::{Name, NamedTerm, Parts};
+use crate::named::{Name, NamedLit, Parts};
 use indexmap::IndexSet;
-use pb_base::{Bytes, Lit, Names, NoMemory, Term, Var};
+use pb_base::{Bytes, Lit, Names, NoMemory, Var};
 use std::alloc::Global;
 use std::marker::Model;
 
@@ -53,7 +54,7 @@ fn names_in(alloc: Global, names: &[&[u8]]) -> Result<Names, NoMemory>
 
 impl<'a> Table<'a> {
     ghost use Rattle.std.specs.Prelude.{[]};
-    ghost use Rattle.pb_named.specs.NamedProblems.{var_of, term_of};
+    ghost use Rattle.pb_named.specs.NamedProblems.{var_of, lit_of};
 
     /// No name, where a number of variables is told.
     pub fn new(alloc: Global, told: u32) -> Self
@@ -95,6 +96,14 @@ impl<'a> Table<'a> {
         self.names.len()
     }
 
+    /// How many variables have a name.
+    pub fn size(&self) -> u32
+        requires { size self.now < 2 ^ 31 }
+        ensures { result ≡ size self.now }
+    {
+        self.numbered + self.names.len() as u32
+    }
+
     /// The free names.
     pub fn names(&self, alloc: Global) -> Result<Names, NoMemory>
         ensures { IfOk result (λ ns. ns ≡ self.now.names) }
@@ -115,19 +124,16 @@ impl<'a> Table<'a> {
         }
     }
 
-    /// The term in numbers, where the place of its name is told.
-    pub fn term_of(&self, term: &NamedTerm<'_>, place: usize) -> Term
-        requires place { place ≡ place_in self.now term.now.lit.name }
-        requires known { IsKnown self.now term.now.lit.name }
+    /// The literal in numbers, where the place of its name is told.
+    pub fn lit_of(&self, lit: &NamedLit<'_>, place: usize) -> Lit
+        requires place { place ≡ place_in self.now lit.now.name }
+        requires known { IsKnown self.now lit.now.name }
         requires few { size self.now < 2 ^ 31 }
-        ensures { result ≡ term_of self.now term.now }
+        ensures { result ≡ lit_of self.now lit.now }
     {
-        Term {
-            coef: term.coef,
-            lit: Lit {
-                var: self.var_of(&term.lit.name, place),
-                positive: term.lit.positive,
-            },
+        Lit {
+            var: self.var_of(&lit.name, place),
+            positive: lit.positive,
         }
     }
 }

@@ -1,19 +1,62 @@
 -- Tokens say what they say in one way only.
-use Rattle.std.proofs.Common.{◌≡◌, List, [], ◌∷◌, ◌++◌, Option, Some, None, Bool, true, false, ℤ, sym, refl, ap, ◌∙◌, append_assoc, append-nil}
+use Rattle.std.proofs.Common.{◌≡◌, List, [], ◌∷◌, ◌++◌, map, Option, Some, None, Bool, true, false, ℤ, sym, refl, ap, ◌∙◌, append_assoc, append-nil}
 use Rattle.std.specs.List.{flat_map}
-use Rattle.pb_named.specs.declared.named.NamedTerm.{NamedTerm}
+use Rattle.pb_named.specs.declared.named.NamedLit.{NamedLit}
+use Rattle.pb_named.specs.NamedTerms.{NamedTerm}
 use Rattle.pb_base.specs.declared.problem.Relation.{Relation}
 use Rattle.pb_named.specs.declared.named.NamedStatement.{NamedStatement}
-use Rattle.pb_opb.specs.Grammar.{Kind, sum_kinds, objective_kinds, statement_kinds, text_kinds}
+use Rattle.pb_opb.specs.Grammar.{Kind, term_kinds, sum_kinds, objective_kinds, statement_kinds, text_kinds}
 use Rattle.pb_named.specs.declared.named.NamedProblem.{NamedProblem}
-use Rattle.pb_opb.specs.Grammar.Kind.{minimise, integer, relation, semicolon, end}
+use Rattle.pb_opb.specs.Grammar.Kind.{minimise, integer, literal, relation, semicolon, end}
 
-abbrev is_integer : Kind → Bool
-is_integer (integer _) = true
-is_integer _ = false
+-- a token that may stand inside a sum
+abbrev pub in_sum : Kind → Bool
+in_sum (integer _) = true
+in_sum (literal _) = true
+in_sum _ = false
 
-same_term : (u t : NamedTerm) → u.coef ≡ t.coef → u.lit ≡ t.lit → u ≡ t
-same_term u t coef lit = λ i. record { coef = coef i; lit = lit i }
+abbrev pub begins_literal : List Kind → Bool
+begins_literal (literal _ ∷ _) = true
+begins_literal _ = false
+
+pub plain-kind : (k : Kind) (x : List Kind) → in_sum k ≡ false → begins_literal (k ∷ x) ≡ false
+plain-kind (literal l) x plain = cc
+plain-kind _ x plain = refl
+
+pub plain-sum : (ts : List NamedTerm) (x : List Kind) → begins_literal x ≡ false → begins_literal (sum_kinds ts ++ x) ≡ false
+plain-sum [] x plain = plain
+plain-sum (t ∷ ts) x plain = refl
+
+-- literals and what stands behind them
+lits-whole : (ms ns : List NamedLit) (x y : List Kind) → begins_literal x ≡ false → begins_literal y ≡ false → map literal ms ++ x ≡ map literal ns ++ y → (ms ≡ ns) × (x ≡ y)
+lits-whole [] [] x y plain_x plain_y same = (refl, same)
+lits-whole [] (n ∷ ns) x y plain_x plain_y same = let bad = sym plain_x ∙ ap begins_literal same in cc
+lits-whole (m ∷ ms) [] x y plain_x plain_y same = let bad = sym plain_y ∙ ap begins_literal (sym same) in cc
+lits-whole (m ∷ ms) (n ∷ ns) x y plain_x plain_y same =
+    let heads : m ≡ n = cc in
+    let tails : map literal ms ++ x ≡ map literal ns ++ y = cc in
+    let next = lits-whole ms ns x y plain_x plain_y tails in
+    (λ i. heads i ∷ next.0 i, next.1)
+
+-- literals of which one more is written
+pub lits-longer : (ms ns : List NamedLit) (l : NamedLit) (x y : List Kind) → begins_literal x ≡ false → map literal ms ++ x ≡ map literal ns ++ literal l ∷ y → (more : List NamedLit) × (ms ≡ ns ++ l ∷ more)
+lits-longer [] [] l x y plain same = let bad = sym plain ∙ ap begins_literal same in cc
+lits-longer [] (n ∷ ns) l x y plain same = let bad = sym plain ∙ ap begins_literal same in cc
+lits-longer (m ∷ ms) [] l x y plain same = let head : m ≡ l = cc in (ms, λ i. head i ∷ ms)
+lits-longer (m ∷ ms) (n ∷ ns) l x y plain same =
+    let heads : m ≡ n = cc in
+    let tails : map literal ms ++ x ≡ map literal ns ++ literal l ∷ y = cc in
+    let next = lits-longer ms ns l x y plain tails in
+    (next.0, λ i. heads i ∷ next.1 i)
+
+-- a term and what stands behind it
+term-whole : (u t : NamedTerm) (x y : List Kind) → begins_literal x ≡ false → begins_literal y ≡ false → term_kinds u ++ x ≡ term_kinds t ++ y → (u ≡ t) × (x ≡ y)
+term-whole u t x y plain_x plain_y same =
+    let coefs : u.coef ≡ t.coef = cc in
+    let lits : u.lit ≡ t.lit = cc in
+    let tails : map literal u.more ++ x ≡ map literal t.more ++ y = cc in
+    let rest = lits-whole u.more t.more x y plain_x plain_y tails in
+    (λ i. record { coef = coefs i; lit = lits i; more = rest.0 i }, rest.1)
 
 -- us go on from ts, and this is written behind them
 pub record GoesOn (ts us : List NamedTerm) (rest : List Kind) (behind : List Kind) : Type 0 where
@@ -21,27 +64,25 @@ pub record GoesOn (ts us : List NamedTerm) (rest : List Kind) (behind : List Kin
   pub terms : us ≡ ts ++ more
   pub written : sum_kinds more ++ behind ≡ rest
 
-pub sum-front : (ts us : List NamedTerm) (k : Kind) (x rest : List Kind) → is_integer k ≡ false → sum_kinds us ++ k ∷ x ≡ sum_kinds ts ++ rest → GoesOn ts us rest (k ∷ x)
-sum-front [] us k x rest plain same = record { more = us; terms = refl; written = same }
-sum-front (t ∷ ts) [] k x rest plain same = let k_is : k ≡ integer t.coef = cc in let bad = sym plain ∙ ap is_integer k_is in cc
-sum-front (t ∷ ts) (u ∷ us) k x rest plain same =
-    let tails : sum_kinds us ++ k ∷ x ≡ sum_kinds ts ++ rest = cc in
-    let coefs : u.coef ≡ t.coef = cc in
-    let lits : u.lit ≡ t.lit = cc in
-    let next = sum-front ts us k x rest plain tails in
-    record { more = next.more; terms = (λ i. same_term u t coefs lits i ∷ next.terms i); written = next.written }
+pub sum-front : (ts us : List NamedTerm) (k : Kind) (x rest : List Kind) → in_sum k ≡ false → begins_literal rest ≡ false → sum_kinds us ++ k ∷ x ≡ sum_kinds ts ++ rest → GoesOn ts us rest (k ∷ x)
+sum-front [] us k x rest plain bare same = record { more = us; terms = refl; written = same }
+sum-front (t ∷ ts) [] k x rest plain bare same = let k_is : k ≡ integer t.coef = cc in let bad = sym plain ∙ ap in_sum k_is in cc
+sum-front (t ∷ ts) (u ∷ us) k x rest plain bare same =
+    let first = term-whole u t (sum_kinds us ++ k ∷ x) (sum_kinds ts ++ rest) (plain-sum us (k ∷ x) (plain-kind k x plain)) (plain-sum ts rest bare)
+    (sym (append_assoc (term_kinds u) (sum_kinds us) (k ∷ x)) ∙ same ∙ append_assoc (term_kinds t) (sum_kinds ts) rest) in
+    let next = sum-front ts us k x rest plain bare first.1 in
+    record { more = next.more; terms = (λ i. first.0 i ∷ next.terms i); written = next.written }
+
+no-more : (more : List NamedTerm) (j k : Kind) (x y : List Kind) → in_sum j ≡ false → sum_kinds more ++ k ∷ x ≡ j ∷ y → (more ≡ []) × (k ∷ x ≡ j ∷ y)
+no-more [] j k x y plain same = (refl, same)
+no-more (m ∷ more) j k x y plain same = let j_is : j ≡ integer m.coef = cc in let bad = sym plain ∙ ap in_sum j_is in cc
 
 -- a whole sum
-pub sum-whole : (ts us : List NamedTerm) (j k : Kind) (x y : List Kind) → is_integer j ≡ false → is_integer k ≡ false → sum_kinds us ++ k ∷ x ≡ sum_kinds ts ++ j ∷ y → (us ≡ ts) × (k ∷ x ≡ j ∷ y)
-sum-whole [] [] j k x y plain_j plain_k same = (refl, same)
-sum-whole [] (u ∷ us) j k x y plain_j plain_k same = let j_is : j ≡ integer u.coef = cc in let bad = sym plain_j ∙ ap is_integer j_is in cc
-sum-whole (t ∷ ts) [] j k x y plain_j plain_k same = let k_is : k ≡ integer t.coef = cc in let bad = sym plain_k ∙ ap is_integer k_is in cc
-sum-whole (t ∷ ts) (u ∷ us) j k x y plain_j plain_k same =
-    let tails : sum_kinds us ++ k ∷ x ≡ sum_kinds ts ++ j ∷ y = cc in
-    let coefs : u.coef ≡ t.coef = cc in
-    let lits : u.lit ≡ t.lit = cc in
-    let next = sum-whole ts us j k x y plain_j plain_k tails in
-    (λ i. same_term u t coefs lits i ∷ next.0 i, next.1)
+pub sum-whole : (ts us : List NamedTerm) (j k : Kind) (x y : List Kind) → in_sum j ≡ false → in_sum k ≡ false → sum_kinds us ++ k ∷ x ≡ sum_kinds ts ++ j ∷ y → (us ≡ ts) × (k ∷ x ≡ j ∷ y)
+sum-whole ts us j k x y plain_j plain_k same =
+    let front = sum-front ts us k x (j ∷ y) plain_k (plain-kind j y plain_j) same in
+    let none = no-more front.more j k x y plain_j front.written in
+    (front.terms ∙ ap (λ (ms : List NamedTerm). ts ++ ms) none.0 ∙ append-nil ts, none.1)
 
 abbrev right_side : Relation → ℤ → List Kind → List Kind
 right_side r n x = relation r ∷ integer n ∷ semicolon ∷ x

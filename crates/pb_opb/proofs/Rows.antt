@@ -1,7 +1,8 @@
 -- Worked examples, which the check computes.
-use Rattle.std.specs.Prelude.{◌≡◌, [], ◌∷◌, ℕ, List, pos, Some, None, true, false, refl, codes}
+use Rattle.std.specs.Prelude.{◌≡◌, [], ◌∷◌, ℕ, List, pos, negsuc, Some, None, true, false, refl, codes}
 use Rattle.pb_base.specs.declared.problem.Relation.TheVariants.{AtLeast}
 use Rattle.pb_base.specs.Problems.{originals}
+use Rattle.pb_named.specs.declared.named.NamedLit.{NamedLit}
 use Rattle.pb_named.specs.Names.Name.{index, free}
 use Rattle.pb_named.specs.NamedProblems.{problem_of}
 use Rattle.pb_named.specs.declared.named.NamedProblem.{NamedProblem}
@@ -15,9 +16,9 @@ small = codes "* #variable= 3 #constraint= 1 #equal= 0\nmin:+1 x1;\n* note\n2 x1
 
 abbrev meant : NamedProblem
 meant = record {
-  objective = Some (record { coef = pos 1; lit = record { name = index 1; positive = true } } ∷ []);
+  objective = Some (record { coef = pos 1; lit = record { name = index 1; positive = true }; more = [] } ∷ []);
   statements = record {
-    terms = record { coef = pos 2; lit = record { name = index 1; positive = true } } ∷ record { coef = pos 3; lit = record { name = index 2; positive = false } } ∷ [];
+    terms = record { coef = pos 2; lit = record { name = index 1; positive = true }; more = [] } ∷ record { coef = pos 3; lit = record { name = index 2; positive = false }; more = [] } ∷ [];
     relation = AtLeast;
     right = pos 2;
   } ∷ [];
@@ -38,6 +39,7 @@ pub free_names : Says (codes "min: +1 ~sun; +1 rain +1 x2 +1 ~sun >= 2 ;") (reco
   vars = 4;
   numbered = 2;
   names = codes "sun" ∷ codes "rain" ∷ [];
+  products = [];
   objective = Some (record { coef = pos 1; lit = record { var = 3; positive = false } } ∷ []);
   statements = record {
     terms = record { coef = pos 1; lit = record { var = 4; positive = true } } ∷ record { coef = pos 1; lit = record { var = 2; positive = true } } ∷ record { coef = pos 1; lit = record { var = 3; positive = false } } ∷ [];
@@ -47,9 +49,9 @@ pub free_names : Says (codes "min: +1 ~sun; +1 rain +1 x2 +1 ~sun >= 2 ;") (reco
 })
 free_names = record {
   written = record {
-    objective = Some (record { coef = pos 1; lit = record { name = free (codes "sun"); positive = false } } ∷ []);
+    objective = Some (record { coef = pos 1; lit = record { name = free (codes "sun"); positive = false }; more = [] } ∷ []);
     statements = record {
-      terms = record { coef = pos 1; lit = record { name = free (codes "rain"); positive = true } } ∷ record { coef = pos 1; lit = record { name = index 2; positive = true } } ∷ record { coef = pos 1; lit = record { name = free (codes "sun"); positive = false } } ∷ [];
+      terms = record { coef = pos 1; lit = record { name = free (codes "rain"); positive = true }; more = [] } ∷ record { coef = pos 1; lit = record { name = index 2; positive = true }; more = [] } ∷ record { coef = pos 1; lit = record { name = free (codes "sun"); positive = false }; more = [] } ∷ [];
       relation = AtLeast;
       right = pos 2;
     } ∷ [];
@@ -76,3 +78,39 @@ a_first_line = refl
 -- any other first line tells nothing
 pub no_first_line : told (codes "* #variable=7\n") ≡ None
 no_first_line = refl
+
+abbrev x : ℕ → NamedLit
+x n = record { name = index n; positive = true }
+
+-- a product
+pub two_literals : Says (codes "+1 x1 x2 >= 1 ;") (record {
+  vars = 2;
+  numbered = 2;
+  names = [];
+  products = (record { var = 1; positive = true } ∷ record { var = 2; positive = true } ∷ []) ∷ [];
+  objective = None;
+  statements = record { terms = record { coef = pos 1; lit = record { var = 3; positive = true } } ∷ []; relation = AtLeast; right = pos 1 } ∷ [];
+})
+two_literals = record {
+  written = record { objective = None; statements = record { terms = record { coef = pos 1; lit = x 1; more = x 2 ∷ [] } ∷ []; relation = AtLeast; right = pos 1 } ∷ [] };
+  spells = refl;
+  means = refl;
+}
+
+-- the first line's number counts before the products' variables
+pub told_first : Says (codes "* #variable= 7\nmin: -1 a b;") (record {
+  vars = 9;
+  numbered = 7;
+  names = codes "a" ∷ codes "b" ∷ [];
+  products = (record { var = 8; positive = true } ∷ record { var = 9; positive = true } ∷ []) ∷ [];
+  objective = Some (record { coef = negsuc 0; lit = record { var = 10; positive = true } } ∷ []);
+  statements = [];
+})
+told_first = record {
+  written = record {
+    objective = Some (record { coef = negsuc 0; lit = record { name = free (codes "a"); positive = true }; more = record { name = free (codes "b"); positive = true } ∷ [] } ∷ []);
+    statements = [];
+  };
+  spells = refl;
+  means = refl;
+}

@@ -1,18 +1,19 @@
 -- Every text of the grammar runs through the automaton, so a front that doesn't begins no text.
-use Rattle.std.proofs.Common.{◌≡◌, List, [], ◌∷◌, ◌++◌, Option, Some, None, Bool, true, false, ◌||◌, is_some, ℤ, sym, refl, ap, ◌∙◌, append_assoc}
+use Rattle.std.proofs.Common.{◌≡◌, List, [], ◌∷◌, ◌++◌, map, Option, Some, None, Bool, true, false, ◌||◌, is_some, ℤ, sym, refl, ap, ◌∙◌, append_assoc}
 use Rattle.std.specs.Option.{option_and_then}
 use Rattle.std.specs.List.{flat_map}
-use Rattle.pb_named.specs.declared.named.NamedTerm.{NamedTerm}
+use Rattle.pb_named.specs.declared.named.NamedLit.{NamedLit}
+use Rattle.pb_named.specs.NamedTerms.{NamedTerm}
 use Rattle.pb_base.specs.declared.problem.Relation.{Relation}
 use Rattle.pb_named.specs.declared.named.NamedStatement.{NamedStatement}
 use Rattle.pb_opb.specs.declared.stage.Part.{Part}
 use Rattle.pb_opb.specs.declared.stage.Part.TheVariants.{Objective, Statement}
 use Rattle.pb_opb.specs.Grammar.{Kind, term_kinds, sum_kinds, objective_kinds, statement_kinds, text_kinds}
 use Rattle.pb_named.specs.declared.named.NamedProblem.{NamedProblem}
-use Rattle.pb_opb.specs.Grammar.Kind.{integer, relation, semicolon, end}
+use Rattle.pb_opb.specs.Grammar.Kind.{integer, literal, relation, semicolon, end}
 use Rattle.pb_opb.specs.Faults.{Begins}
 use Rattle.pb_opb.specs.reader.Automaton.{ReaderState, step, run}
-use Rattle.pb_opb.specs.reader.Automaton.ReaderState.{start, next, in_sum}
+use Rattle.pb_opb.specs.reader.Automaton.ReaderState.{start, next, minimised, literals}
 
 pub run-append : (xs ys : List Kind) (s : ReaderState) → run s (xs ++ ys) ≡ option_and_then (λ t. run t ys) (run s xs)
 run-append [] ys s = refl
@@ -22,11 +23,16 @@ run-append (x ∷ xs) ys s =
       | Some t ↦ run-append xs ys t
     ]
 
--- a sum leads back to where it stands
-run-sum : (ts : List NamedTerm) (part : Part) (rest : List Kind) → run (in_sum part) (sum_kinds ts ++ rest) ≡ run (in_sum part) rest
+-- further literals lead back to where they stand, and so do terms
+run-lits : (ls : List NamedLit) (part : Part) (rest : List Kind) → run (literals part) (map literal ls ++ rest) ≡ run (literals part) rest
+run-lits [] part rest = refl
+run-lits (l ∷ ls) Objective rest = run-lits ls Objective rest
+run-lits (l ∷ ls) Statement rest = run-lits ls Statement rest
+
+run-sum : (ts : List NamedTerm) (part : Part) (rest : List Kind) → run (literals part) (sum_kinds ts ++ rest) ≡ run (literals part) rest
 run-sum [] part rest = refl
-run-sum (t ∷ ts) Objective rest = ap (run (in_sum Objective)) (append_assoc (term_kinds t) (sum_kinds ts) rest) ∙ run-sum ts Objective rest
-run-sum (t ∷ ts) Statement rest = ap (run (in_sum Statement)) (append_assoc (term_kinds t) (sum_kinds ts) rest) ∙ run-sum ts Statement rest
+run-sum (t ∷ ts) Objective rest = ap (run (literals Objective)) (append_assoc (term_kinds t) (sum_kinds ts) rest) ∙ run-lits t.more Objective (sum_kinds ts ++ rest) ∙ run-sum ts Objective rest
+run-sum (t ∷ ts) Statement rest = ap (run (literals Statement)) (append_assoc (term_kinds t) (sum_kinds ts) rest) ∙ run-lits t.more Statement (sum_kinds ts ++ rest) ∙ run-sum ts Statement rest
 
 -- where a statement may begin: before anything was read, and after something
 abbrev pub between : Bool → ReaderState
@@ -41,8 +47,8 @@ run-statement true [] r n rest = refl
 run-statement b (t ∷ ts) r n rest =
     let end = relation r ∷ integer n ∷ semicolon ∷ [] in
     ap (run (between b)) (append_assoc (term_kinds t ++ sum_kinds ts) end rest ∙ append_assoc (term_kinds t) (sum_kinds ts) (end ++ rest))
-    ∙ elim b as (λ c. run (between c) (term_kinds t ++ (sum_kinds ts ++ (end ++ rest))) ≡ run (in_sum Statement) (sum_kinds ts ++ (end ++ rest))) [ false ↦ refl | true ↦ refl ]
-    ∙ run-sum ts Statement (end ++ rest)
+    ∙ elim b as (λ c. run (between c) (term_kinds t ++ (sum_kinds ts ++ (end ++ rest))) ≡ run (literals Statement) (map literal t.more ++ (sum_kinds ts ++ (end ++ rest)))) [ false ↦ refl | true ↦ refl ]
+    ∙ run-lits t.more Statement (sum_kinds ts ++ (end ++ rest)) ∙ run-sum ts Statement (end ++ rest)
 
 abbrev pub any_of : {A : Type 0} → List A → Bool
 any_of [] = false
@@ -57,10 +63,15 @@ run-statements (s ∷ ss) b rest =
     ∙ run-statements ss true rest
     ∙ elim b as (λ c. run next rest ≡ run (between (c || true)) rest) [ false ↦ refl | true ↦ refl ]
 
+run-minimised : (ts : List NamedTerm) (rest : List Kind) → run minimised (sum_kinds ts ++ semicolon ∷ rest) ≡ run next rest
+run-minimised [] rest = refl
+run-minimised (t ∷ ts) rest =
+    ap (run minimised) (append_assoc (term_kinds t) (sum_kinds ts) (semicolon ∷ rest)) ∙ run-lits t.more Objective (sum_kinds ts ++ semicolon ∷ rest) ∙ run-sum ts Objective (semicolon ∷ rest)
+
 pub run-objective : (o : Option (List NamedTerm)) (rest : List Kind) → run start (objective_kinds o ++ rest) ≡ run (between (is_some o)) rest
 run-objective None rest = refl
 run-objective (Some ts) rest =
-    ap (run (in_sum Objective)) (append_assoc (sum_kinds ts) (semicolon ∷ []) rest) ∙ run-sum ts Objective (semicolon ∷ rest)
+    ap (run minimised) (append_assoc (sum_kinds ts) (semicolon ∷ []) rest) ∙ run-minimised ts rest
 
 -- what stands behind an objective and statements
 pub run-front : (o : Option (List NamedTerm)) (ss : List NamedStatement) (rest : List Kind) → run start (objective_kinds o ++ flat_map statement_kinds ss ++ rest) ≡ run (between (is_some o || any_of ss)) rest

@@ -5,7 +5,7 @@ use Rattle.std.specs.List.{AllByRecursion, flat_map}
 use Rattle.std.proofs.lemmas.List.{map-append}
 use Rattle.pb_base.specs.declared.place.Place.{Place}
 use Rattle.pb_named.specs.declared.named.NamedLit.{NamedLit}
-use Rattle.pb_named.specs.declared.named.NamedTerm.{NamedTerm}
+use Rattle.pb_named.specs.NamedTerms.{NamedTerm}
 use Rattle.pb_named.specs.declared.named.NamedStatement.{NamedStatement}
 use Rattle.pb_base.specs.declared.problem.Relation.TheVariants.{AtLeast}
 use Rattle.pb_base.specs.Places.{end_of}
@@ -15,16 +15,15 @@ use Rattle.pb_base.specs.declared.expected.Expected.{Expected}
 use Rattle.pb_base.specs.declared.expected.Expected.TheVariants.{Start, Next, TermOrRelation, TermOrSemicolon, Literal, Integer, Semicolon}
 use Rattle.pb_base.specs.declared.limit.LimitKind.{LimitKind}
 use Rattle.pb_base.specs.declared.limit.LimitKind.TheVariants.{Statements, Terms, Weight, Variables, Name}
-use Rattle.pb_named.specs.Names.Name.{index}
 use Rattle.pb_opb.specs.declared.fault.OpbFault.{OpbFault}
 use Rattle.pb_opb.specs.declared.fault.OpbFault.TheVariants.{Token, NoMemory, Limit}
-use Rattle.pb_opb.specs.FirstLine.{Count, told}
+use Rattle.pb_opb.specs.FirstLine.{Count, told as told_count}
 use Rattle.pb_opb.specs.Grammar.{Kind, kind_of, named_literal, spelled, text_kinds, objective_kinds, statement_kinds}
 use Rattle.pb_named.specs.declared.named.NamedProblem.{NamedProblem}
 use Rattle.pb_opb.specs.Grammar.Kind.{minimise, integer, literal, relation, semicolon, end}
 use Rattle.pb_opb.specs.Limits.{BeginsWithin, IsWithinEach, rank}
-use Rattle.pb_opb.specs.Faults.{Symbol, symbol, kinds, Begins, allows, Expects, IsManyAt, TellsTooMany, HasTooMany, IsAt, so_far, IsWrong, IsTooGreat, IsFirstFault}
-use Rattle.pb_opb.proofs.Within.{all-behind}
+use Rattle.pb_opb.specs.Faults.{Symbol, symbol, kinds, Begins, allows, tells, Expects, IsManyAt, TellsTooMany, HasTooMany, IsAt, so_far, IsWrong, IsTooGreat, IsFirstFault}
+use Rattle.pb_named.proofs.Appends.{all-behind}
 use Rattle.pb_opb.proofs.Reading.{too_many, spells-no_fault}
 use Rattle.pb_opb.proofs.Bounds.{of-kind, is_fixed}
 
@@ -135,23 +134,20 @@ goes-by before p [] going same =
     let bad = (all-behind (λ k. is_end k ≡ false) (objective_kinds p.objective ++ flat_map statement_kinds p.statements) (end ∷ []) whole).0 in
     cc
 
--- what is expected is told by what it allows
-abbrev named : (minimises integers literals relations semicolons ends : Bool) → Expected
-named true _ _ _ _ _ = Start
-named false true _ true _ true = Next
-named false true _ true _ false = TermOrRelation
-named false true _ false true _ = TermOrSemicolon
-named false true _ false false _ = Integer
-named false false true _ _ _ = Literal
-named false false false _ _ _ = Semicolon
-
-abbrev one_literal : NamedLit
-one_literal = record { name = index 1; positive = true }
+-- what is expected is told by what it allows, beside literals
+abbrev named : (minimises integers relations semicolons ends : Bool) → Expected
+named true _ _ _ _ = Start
+named false true true _ true = Next
+named false true true _ false = TermOrRelation
+named false true false true _ = TermOrSemicolon
+named false true false false _ = Integer
+named false false _ true _ = Semicolon
+named false false _ false _ = Literal
 
 abbrev by_allowed : Expected → Expected
-by_allowed e = named (allows e minimise) (allows e (integer (pos 0))) (allows e (literal one_literal)) (allows e (relation AtLeast)) (allows e semicolon) (allows e end)
+by_allowed e = named (allows e minimise) (allows e (integer (pos 0))) (allows e (relation AtLeast)) (allows e semicolon) (allows e end)
 
-known : (e : Expected) (k : Kind) → allows e k ≡ true → by_allowed e ≡ e
+known : (e : Expected) (k : Kind) → (IsTrue (tells e k) → allows e k ≡ true) → by_allowed e ≡ e
 known Start k h = refl
 known Next k h = refl
 known TermOrRelation k h = refl
@@ -159,19 +155,31 @@ known TermOrSemicolon k h = refl
 known Literal k h = refl
 known Integer k h = refl
 known Semicolon k h = refl
-known _ k h = cc
+known _ k h = let bad = h refl in cc
 
 same-bool : (b c : Bool) → (IsTrue b → IsTrue c) → (IsTrue c → IsTrue b) → b ≡ c
 same-bool true c f g = sym (f refl)
 same-bool false true f g = g refl
 same-bool false false f g = refl
 
+abbrev is_literal : Kind → Bool
+is_literal (literal _) = true
+is_literal _ = false
+
+-- all but literals are told
+told : (e : Expected) (k : Kind) → is_literal k ≡ false → IsTrue (tells e k)
+told e (literal l) h = cc
+told TermOrRelation _ h = refl
+told TermOrSemicolon _ h = refl
+told _ _ h = refl
+
 same-expected : (before : List Kind) (d e : Expected) → GoesBy before → Expects d before → Expects e before → d ≡ e
 same-expected before d e goes ds es =
-    let same = λ (k : Kind). same-bool (allows d k) (allows e k) (λ h. (es k).0 ((ds k).1 h)) (λ h. (ds k).0 ((es k).1 h)) in
-    sym (known d goes.kind ((ds goes.kind).0 goes.begins))
-    ∙ (λ i. named (same minimise i) (same (integer (pos 0)) i) (same (literal one_literal) i) (same (relation AtLeast) i) (same semicolon i) (same end i))
-    ∙ known e goes.kind ((es goes.kind).0 goes.begins)
+    let same = λ (k : Kind) (dk : IsTrue (tells d k)) (ek : IsTrue (tells e k)). same-bool (allows d k) (allows e k) (λ h. (es k ek).0 ((ds k dk).1 h)) (λ h. (ds k dk).0 ((es k ek).1 h)) in
+    let plain = λ (k : Kind) (h : is_literal k ≡ false). same k (told d k h) (told e k h) in
+    sym (known d goes.kind (λ t. (ds goes.kind t).0 goes.begins))
+    ∙ (λ i. named (plain minimise refl i) (plain (integer (pos 0)) refl i) (plain (relation AtLeast) refl i) (plain semicolon refl i) (plain end refl i))
+    ∙ known e goes.kind (λ t. (es goes.kind t).0 goes.begins)
 
 -- limits told at one token are told apart by their order
 abbrev by_rank : ℕ → LimitKind
@@ -260,7 +268,7 @@ limits-at : {p q : Place} {v w : LimitKind} → p ≡ q → v ≡ w → Limit (S
 limits-at place limit = λ i. Limit (Some (place i)) (limit i)
 
 two-at : (text : List ℕ) (p q : Place) (v w : LimitKind) → AtPlace text p v → AtPlace text q w → Limit (Some p) v ≡ Limit (Some q) w
-two-at text p q v w (inl (is, inl a)) (inl (so, inl b)) = limits-at (many-place (told text) p q a.many b.many) (is ∙ sym so)
+two-at text p q v w (inl (is, inl a)) (inl (so, inl b)) = limits-at (many-place (told_count text) p q a.many b.many) (is ∙ sym so)
 two-at text p q v w (inl (is, inl a)) (inl (so, inr b)) = absurd (too_many text p a b.admitted)
 two-at text p q v w (inl (is, inr a)) (inl (so, inl b)) = absurd (too_many text q b a.admitted)
 two-at text p q v w (inl (is, inr a)) (inl (so, inr b)) = limits-at (a.last ∙ sym b.last) (is ∙ sym so)

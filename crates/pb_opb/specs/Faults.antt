@@ -96,8 +96,14 @@ allows Integer (integer _) = true
 allows Semicolon semicolon = true
 allows _ _ = false
 
+-- These words tell nothing of a further literal, which may stand behind a term.
+abbrev pub tells : Expected → Kind → Bool
+tells TermOrRelation (literal _) = false
+tells TermOrSemicolon (literal _) = false
+tells _ _ = true
+
 abbrev pub Expects : Expected → List Kind → Type 0
-Expects e before = (k : Kind) → (Begins (before ++ k ∷ []) ↔ IsTrue (allows e k))
+Expects e before = (k : Kind) → IsTrue (tells e k) → (Begins (before ++ k ∷ []) ↔ IsTrue (allows e k))
 
 -- a token of the text, with those before it
 pub record IsAt (text : List ℕ) (place : Place) : Type 0 where

@@ -1,10 +1,10 @@
--- OPB text, by what its tokens stand for: the linear part of the format of the Pseudo-Boolean Competitions (Roussel and Manquinho).
-use Rattle.std.specs.Prelude.{ℕ, List, [], ◌∷◌, ◌++◌, ℤ, Option, Some, None, Bool, true, false, codes, ◌==◌, if◌then◌else◌}
+-- OPB text, by what its tokens stand for: the format of the Pseudo-Boolean Competitions (Roussel and Manquinho), with products of literals.
+use Rattle.std.specs.Prelude.{ℕ, List, [], ◌∷◌, ◌++◌, map, ℤ, Option, Some, None, Bool, true, false, codes, ◌==◌, if◌then◌else◌}
 use Rattle.std.specs.Option.{option_map}
 use Rattle.std.specs.List.{flat_map}
 use Rattle.std.specs.Str.{bytes_eq}
 use Rattle.pb_named.specs.declared.named.NamedLit.{NamedLit}
-use Rattle.pb_named.specs.declared.named.NamedTerm.{NamedTerm}
+use Rattle.pb_named.specs.NamedTerms.{NamedTerm, lits_of}
 use Rattle.pb_base.specs.declared.problem.Relation.{Relation}
 use Rattle.pb_base.specs.declared.problem.Relation.TheVariants.{AtLeast, AtMost, Equal}
 use Rattle.pb_named.specs.declared.named.NamedStatement.{NamedStatement}
@@ -46,7 +46,7 @@ kind_of word =
 
 -- How a problem is written: an optional objective, and any number of statements.
 abbrev pub term_kinds : NamedTerm → List Kind
-term_kinds t = integer t.coef ∷ literal t.lit ∷ []
+term_kinds t = integer t.coef ∷ map literal (lits_of t)
 
 abbrev pub sum_kinds : List NamedTerm → List Kind
 sum_kinds ts = flat_map term_kinds ts

@@ -15,7 +15,7 @@ use std::alloc::Global;
 
 /// Reads an OPB text, or tells its first fault.
 ///
-/// The text is within the limits: at most 2^32 bytes, 2^24 statements, 2^20 terms in one sum and
+/// The text is within the limits: at most 2^32 bytes, 2^24 statements, 2^20 literals in one sum and
 /// variables up to 2^31 - 1, and the absolute values of a statement's numbers, or of the
 /// objective's, add up to less than 2^100. As many variables are named by numbers as the first
 /// line tells, or as many as the greatest index where that is more; behind them stand those of

@@ -1,19 +1,36 @@
 //! What was read of a text so far.
-ghost use Rattle.std.specs.Prelude.{◌≡◌, ◌+◌, ◌∷◌, ◌<◌, ◌≤◌, ◌^◌, [], Some, None, OnOk, OnErr, IfOk, IfErr, MatchResult, length, max};
-ghost use Rattle.pb_opb.specs.declared.stage.Stage.TheVariants.{Start, Next};
+ghost use Rattle.std.specs.Prelude.{◌≡◌, ◌<◌, ◌≤◌, ◌^◌, [], None, OnOk, IfOk, IfErr, length};
 ghost use Rattle.pb_opb.specs.Grammar.{kind_of};
 ghost use Rattle.pb_opb.specs.Grammar.Kind.{end};
-ghost use Rattle.pb_opb.specs.reader.Front.{IsRead, read_kinds};
+ghost use Rattle.pb_opb.specs.reader.Front.{Ends, IsRead, read_kinds};
 ghost use Rattle.pb_opb.specs.reader.Takes.{Refuses, Took, Finishes, PassesAt};
-ghost use Rattle.pb_opb.specs.reader.Moves.{IsStopped, moved, with_term, with_statement, with_objective};
+ghost use Rattle.pb_opb.specs.reader.Moves.{IsStopped, IsFull, IsLonger, HasFurther, first_passed, moved, with_term, with_statement, with_objective};
 
 use crate::fault::Refusal;
 use crate::stage::{Part, Stage, Step, WEIGHT};
 use crate::symbol::symbol_of;
-use pb_base::{LimitKind, Relation, Seq};
-use pb_named::{NamedProblem, NamedStatement, NamedTerm, NamedTerms};
+use pb_base::{LimitKind, MAX_TERMS, Relation, Seq};
+use pb_named::{NamedLit, NamedProblem, NamedStatement, NamedTerm, NamedTerms};
 use std::alloc::{AllocError, Global};
 use std::mem;
+
+// The terms, of which the last has one literal more.
+fn with_further<'a>(
+    alloc: Global,
+    terms: NamedTerms<'a>,
+    lit: NamedLit<'a>,
+) -> Result<NamedTerms<'a>, AllocError>
+    requires { Ends terms }
+    ensures { IfOk result (IsLonger terms.entry lit.entry) }
+{
+    let mut items = terms.into_vec();
+    let Some(mut last) = items.pop() else {
+        return Ok(NamedTerms::from_vec(items));
+    };
+    last.push(alloc, lit)?;
+    items.push(last)?;
+    Ok(NamedTerms::from_vec(items))
+}
 
 /// What was read of a text so far.
 #[derive(Drop)]
@@ -23,6 +40,8 @@ pub struct Reader<'a> {
     pub stage: Stage,
     /// The terms of the open sum.
     pub terms: NamedTerms<'a>,
+    /// How many literals they have.
+    pub literals: usize,
     /// The absolute values of the open sum's numbers.
     pub weight: u128,
 }
@@ -37,6 +56,7 @@ impl<'a> Reader<'a> {
             statements: Seq::new(alloc),
             stage: Stage::Start,
             terms: NamedTerms::new(alloc),
+            literals: 0,
             weight: 0,
         }
     }
@@ -50,10 +70,11 @@ impl<'a> Reader<'a> {
         match self.stage.step(symbol_of(word)) {
             Step::To(next) => self.go_on(next, self.weight + next.stage_weight()),
             Step::Wide(next) => self.go_on(next, WEIGHT),
-            Step::EndTerm(part, term) => {
-                self.end_term(part, term)?;
+            Step::Term(part, coef, lit) => {
+                self.add_term(part, NamedTerm::new(coef, lit))?;
                 Ok(())
             }
+            Step::Further(part, lit) => self.add_further(alloc, part, lit),
             Step::EndStatement(relation, right) => {
                 self.end_statement(alloc, relation, right)?;
                 Ok(())
@@ -63,20 +84,20 @@ impl<'a> Reader<'a> {
                 Ok(())
             }
             Step::Wrong => Err(Refusal::Unexpected(self.stage.expected())),
-            Step::Far => Err(Refusal::Limit(LimitKind::Variables)),
-            Step::Long => Err(Refusal::Limit(LimitKind::Name)),
+            Step::Far => Err(Refusal::Limit(self.first_passed(LimitKind::Variables))),
+            Step::Long => Err(Refusal::Limit(self.first_passed(LimitKind::Name))),
         }
     }
 
     // Goes on to a stage, with a new weight, if that passes no limit.
     fn go_on(&mut self, next: Stage, weight: u128) -> Result<(), Refusal>
         requires statements { length self.old.statements ≤ 2 ^ 24 }
-        requires terms { length self.old.terms ≤ 2 ^ 20 }
+        requires literals { self.old.literals ≤ 2 ^ 20 }
         ensures ok { OnOk result (PassesAt None self.old next weight) }
         ensures moved { OnOk result (self.new ≡ moved self.old next weight) }
         ensures err { IfErr result (IsStopped self.old next weight) }
     {
-        match next.passed(self.statements.len(), self.terms.len(), weight) {
+        match next.passed(self.statements.len(), self.literals, weight) {
             Some(which) => Err(Refusal::Limit(which)),
             None => {
                 self.weight = weight;
@@ -86,13 +107,43 @@ impl<'a> Reader<'a> {
         }
     }
 
-    // Puts a term behind the open sum.
-    fn end_term(&mut self, part: Part, term: NamedTerm<'a>) -> Result<(), AllocError>
+    // Puts a term of one literal behind the open sum.
+    fn add_term(&mut self, part: Part, term: NamedTerm<'a>) -> Result<(), AllocError>
+        requires { self.old.literals < 2 ^ 20 }
         ensures { OnOk result (self.new ≡ with_term self.old part term.entry) }
     {
         self.terms.push(term)?;
-        self.stage = Stage::Sum(part);
+        self.literals += 1;
+        self.stage = Stage::Literals(part);
         Ok(())
+    }
+
+    // Puts a literal behind those of the last term, if that passes no limit.
+    fn add_further(&mut self, alloc: Global, part: Part, lit: NamedLit<'a>) -> Result<(), Refusal>
+        requires { Ends self.old.terms }
+        ensures ok { OnOk result (HasFurther self.old self.new part lit.entry) }
+        ensures err { IfErr result (IsFull self.old) }
+    {
+        if self.literals >= MAX_TERMS {
+            return Err(Refusal::Limit(LimitKind::Terms));
+        }
+        let terms = mem::replace(&mut self.terms, NamedTerms::new(alloc));
+        let longer = with_further(alloc, terms, lit)?;
+        mem::replace(&mut self.terms, longer);
+        self.literals += 1;
+        self.stage = Stage::Literals(part);
+        Ok(())
+    }
+
+    // The limit that a literal passes first which passes another than that of their number.
+    fn first_passed(&self, which: LimitKind) -> LimitKind
+        ensures { result ≡ first_passed self.now.literals which }
+    {
+        if self.literals < MAX_TERMS {
+            which
+        } else {
+            LimitKind::Terms
+        }
     }
 
     // Puts the open statement behind the others.
@@ -110,6 +161,7 @@ impl<'a> Reader<'a> {
             relation,
             right,
         })?;
+        self.literals = 0;
         self.weight = 0;
         self.stage = Stage::Next;
         Ok(())
@@ -120,6 +172,7 @@ impl<'a> Reader<'a> {
         ensures { self.new ≡ with_objective self.old }
     {
         self.objective = Some(mem::replace(&mut self.terms, NamedTerms::new(alloc)));
+        self.literals = 0;
         self.weight = 0;
         self.stage = Stage::Next;
     }

@@ -3,7 +3,7 @@ ghost use Rattle.std.specs.Prelude.{◌≡◌};
 
 use crate::symbol::Symbol;
 use pb_base::{Expected, LimitKind, MAX_STATEMENTS, MAX_TERMS, Relation, WEIGHT_BITS};
-use pb_named::{NamedLit, NamedTerm};
+use pb_named::NamedLit;
 
 /// What a sum belongs to.
 #[derive(Clone, Copy, Debug, PartialEq, Eq)]
@@ -17,8 +17,11 @@ pub enum Part {
 pub enum Stage {
     Start,
     Next,
-    Sum(Part),
+    /// Behind the word that begins an objective.
+    Minimised,
     Coefficient(Part, i128),
+    /// Behind a literal, where a further one of the same term may stand.
+    Literals(Part),
     Related(Relation),
     Right(Relation, i128),
 }
@@ -27,7 +30,10 @@ pub enum Stage {
 #[derive(Debug, Drop)]
 pub enum Step<'a> {
     To(Stage),
-    EndTerm(Part, NamedTerm<'a>),
+    /// A term begins with its first literal.
+    Term(Part, i128, NamedLit<'a>),
+    /// The last term has one literal more.
+    Further(Part, NamedLit<'a>),
     EndStatement(Relation, i128),
     EndObjective,
     Wrong,
@@ -50,7 +56,7 @@ impl Stage {
     ghost use Rattle.pb_opb.specs.Grammar.{Kind};
     ghost use Rattle.pb_opb.specs.Grammar.Kind.{minimise, integer, literal, relation, semicolon};
     ghost use Rattle.pb_opb.specs.reader.Automaton.{expected};
-    ghost use Rattle.pb_opb.specs.reader.Front.{state_of, begun_statements, begun_terms};
+    ghost use Rattle.pb_opb.specs.reader.Front.{state_of, begun_statements, begun_literals};
     ghost use Rattle.pb_opb.specs.reader.Symbols.{Shows};
     ghost use Rattle.pb_opb.specs.reader.Steps.{CallsFor, stage_weight};
     ghost use Rattle.pb_opb.specs.reader.Takes.{Passes};
@@ -62,9 +68,10 @@ impl Stage {
         match self {
             Stage::Start => Expected::Start,
             Stage::Next => Expected::Next,
-            Stage::Sum(Part::Objective) => Expected::TermOrSemicolon,
-            Stage::Sum(Part::Statement) => Expected::TermOrRelation,
+            Stage::Minimised => Expected::TermOrSemicolon,
             Stage::Coefficient(_, _) => Expected::Literal,
+            Stage::Literals(Part::Objective) => Expected::TermOrSemicolon,
+            Stage::Literals(Part::Statement) => Expected::TermOrRelation,
             Stage::Related(_) => Expected::Integer,
             Stage::Right(_, _) => Expected::Semicolon,
         }
@@ -88,19 +95,19 @@ impl Stage {
         ensures bound { result ≤ 1 }
     {
         match self {
-            Stage::Start | Stage::Next => 0,
-            Stage::Sum(Part::Objective) => 0,
+            Stage::Start | Stage::Next | Stage::Minimised => 0,
             Stage::Coefficient(Part::Objective, _) => 0,
-            Stage::Sum(Part::Statement) => 1,
+            Stage::Literals(Part::Objective) => 0,
             Stage::Coefficient(Part::Statement, _) => 1,
+            Stage::Literals(Part::Statement) => 1,
             Stage::Related(_) => 1,
             Stage::Right(_, _) => 1,
         }
     }
 
-    /// How many terms the stage has begun.
-    pub fn begun_terms(self) -> usize
-        ensures value { result ≡ begun_terms self }
+    /// How many literals the stage has begun.
+    pub fn begun_literals(self) -> usize
+        ensures value { result ≡ begun_literals self }
         ensures bound { result ≤ 1 }
     {
         match self {
@@ -109,16 +116,16 @@ impl Stage {
         }
     }
 
-    /// The first limit that is passed at the stage, with these statements and terms behind it and
-    /// a weight so far.
-    pub fn passed(self, statements: usize, terms: usize, weight: u128) -> Option<LimitKind>
+    /// The first limit that is passed at the stage, with these statements and literals behind it
+    /// and a weight so far.
+    pub fn passed(self, statements: usize, literals: usize, weight: u128) -> Option<LimitKind>
         requires statements { statements ≤ 2 ^ 24 }
-        requires terms { terms ≤ 2 ^ 20 }
-        ensures { Passes result (statements + begun_statements self) (terms + begun_terms self) weight }
+        requires literals { literals ≤ 2 ^ 20 }
+        ensures { Passes result (statements + begun_statements self) (literals + begun_literals self) weight }
     {
         if statements + self.begun_statements() > MAX_STATEMENTS {
             Some(LimitKind::Statements)
-        } else if terms + self.begun_terms() > MAX_TERMS {
+        } else if literals + self.begun_literals() > MAX_TERMS {
             Some(LimitKind::Terms)
         } else if weight >= WEIGHT {
             Some(LimitKind::Weight)
@@ -148,7 +155,7 @@ impl Stage {
         ensures { CallsFor self minimise result }
     {
         match self {
-            Stage::Start => Step::To(Stage::Sum(Part::Objective)),
+            Stage::Start => Step::To(Stage::Minimised),
             _ => Step::Wrong,
         }
     }
@@ -157,10 +164,9 @@ impl Stage {
         ensures { CallsFor self (integer n) result }
     {
         match self {
-            Stage::Start | Stage::Next | Stage::Sum(Part::Statement) => {
-                Step::To(Stage::Coefficient(Part::Statement, n))
-            }
-            Stage::Sum(Part::Objective) => Step::To(Stage::Coefficient(Part::Objective, n)),
+            Stage::Start | Stage::Next => Step::To(Stage::Coefficient(Part::Statement, n)),
+            Stage::Minimised => Step::To(Stage::Coefficient(Part::Objective, n)),
+            Stage::Literals(part) => Step::To(Stage::Coefficient(part, n)),
             Stage::Related(relation) => Step::To(Stage::Right(relation, n)),
             Stage::Coefficient(_, _) | Stage::Right(_, _) => Step::Wrong,
         }
@@ -173,7 +179,8 @@ impl Stage {
             Stage::Coefficient(_, _) | Stage::Right(_, _) => Step::Wrong,
             Stage::Start => Step::Wide(Stage::Coefficient(Part::Statement, 0)),
             Stage::Next => Step::Wide(Stage::Coefficient(Part::Statement, 0)),
-            Stage::Sum(part) => Step::Wide(Stage::Coefficient(part, 0)),
+            Stage::Minimised => Step::Wide(Stage::Coefficient(Part::Objective, 0)),
+            Stage::Literals(part) => Step::Wide(Stage::Coefficient(part, 0)),
             Stage::Related(relation) => Step::Wide(Stage::Right(relation, 0)),
         }
     }
@@ -184,7 +191,8 @@ impl Stage {
         ensures { CallsFor self (literal lit.entry) result }
     {
         match self {
-            Stage::Coefficient(part, coef) => Step::EndTerm(part, NamedTerm { coef, lit }),
+            Stage::Coefficient(part, coef) => Step::Term(part, coef, lit),
+            Stage::Literals(part) => Step::Further(part, lit),
             _ => Step::Wrong,
         }
     }
@@ -193,7 +201,7 @@ impl Stage {
         ensures { (l : NamedLit) → 2 ^ 31 ≤ index_in l.name → CallsFor self (literal l) result }
     {
         match self {
-            Stage::Coefficient(_, _) => Step::Far,
+            Stage::Coefficient(_, _) | Stage::Literals(_) => Step::Far,
             _ => Step::Wrong,
         }
     }
@@ -202,7 +210,7 @@ impl Stage {
         ensures { (l : NamedLit) → 255 < name_len l.name → CallsFor self (literal l) result }
     {
         match self {
-            Stage::Coefficient(_, _) => Step::Long,
+            Stage::Coefficient(_, _) | Stage::Literals(_) => Step::Long,
             _ => Step::Wrong,
         }
     }
@@ -211,7 +219,7 @@ impl Stage {
         ensures { CallsFor self (relation sign) result }
     {
         match self {
-            Stage::Start | Stage::Next | Stage::Sum(Part::Statement) => {
+            Stage::Start | Stage::Next | Stage::Literals(Part::Statement) => {
                 Step::To(Stage::Related(sign))
             }
             _ => Step::Wrong,
@@ -222,7 +230,7 @@ impl Stage {
         ensures { CallsFor self semicolon result }
     {
         match self {
-            Stage::Sum(Part::Objective) => Step::EndObjective,
+            Stage::Minimised | Stage::Literals(Part::Objective) => Step::EndObjective,
             Stage::Right(relation, right) => Step::EndStatement(relation, right),
             _ => Step::Wrong,
         }

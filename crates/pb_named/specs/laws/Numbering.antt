@@ -1,5 +1,5 @@
 -- How names get their numbers, one after another.
-use Rattle.std.specs.Prelude.{ℕ, ◌+◌, ◌<◌, ◌≤◌, ◌^◌, max, List, [], ◌∷◌, length, All}
+use Rattle.std.specs.Prelude.{ℕ, ◌+◌, ◌<◌, ◌≤◌, ◌^◌, max, List, [], ◌∷◌, ◌++◌, map, length, All, Option, Some, None, ◌≡◌}
 use Rattle.std.specs.List.{position_or_len}
 use Rattle.std.specs.Str.{bytes_eq}
 use Rattle.pb_base.specs.Firsts.{with_item}
@@ -7,8 +7,9 @@ use Rattle.pb_named.specs.Names.{Name}
 use Rattle.pb_named.specs.Names.Name.{index, free}
 use Rattle.pb_named.specs.declared.named.Parts.{Parts}
 use Rattle.pb_named.specs.declared.named.Parts.TheVariants.{Index, Free}
-use Rattle.pb_named.specs.declared.named.NamedTerm.{NamedTerm}
-use Rattle.pb_named.specs.NamedProblems.{Table}
+use Rattle.pb_base.specs.declared.literal.Lit.{Lit}
+use Rattle.pb_named.specs.NamedTerms.{NamedTerm}
+use Rattle.pb_named.specs.NamedProblems.{Table, size}
 
 abbrev pub of_parts : Parts → Name
 of_parts (Index n) = index n
@@ -42,8 +43,31 @@ abbrev pub IsKnown : Table → Name → Type 0
 IsKnown t (index n) = n ≤ t.numbered
 IsKnown t (free text) = position_or_len (bytes_eq text) t.names < length t.names
 
-abbrev pub AreKnown : Table → List NamedTerm → Type 0
-AreKnown t ns = All (λ n. IsKnown t n.lit.name) ns
+abbrev pub IsTermKnown : Table → NamedTerm → Type 0
+IsTermKnown t n = IsKnown t n.lit.name × All (λ l. IsKnown t l.name) n.more
 
-abbrev pub size : Table → ℕ
-size t = t.numbered + length t.names
+abbrev pub AreKnown : Table → List NamedTerm → Type 0
+AreKnown t ns = All (IsTermKnown t) ns
+
+-- ---- the places of names, taken one after another
+
+-- the numbers begin with those of the names
+abbrev pub StartsWith : (Name → ℕ) → List ℕ → List Name → Type 0
+StartsWith f ks ns = (rest : List ℕ) × (ks ≡ map f ns ++ rest)
+
+-- those of the names were taken, and these are left
+abbrev pub Gives : (Name → ℕ) → List ℕ → List Name → List ℕ → Type 0
+Gives f ks ns rest = ks ≡ map f ns ++ rest
+
+-- ---- products
+
+-- with these products there are 2^31 variables or more
+abbrev pub IsOver : Table → List (List Lit) → Type 0
+IsOver t products = 2 ^ 31 ≤ size t + length products
+
+abbrev pub IsFew : Table → List (List Lit) → Type 0
+IsFew t products = size t + length products < 2 ^ 31
+
+abbrev pub listed : {X : Type 0} → Option X → List X
+listed None = []
+listed (Some x) = x ∷ []

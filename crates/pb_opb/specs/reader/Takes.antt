@@ -14,19 +14,19 @@ use Rattle.pb_opb.specs.Grammar.Kind.{end}
 use Rattle.pb_named.specs.declared.named.NamedProblem.{NamedProblem}
 use Rattle.pb_opb.specs.Limits.{Keeps, BeginsWithin, IsWithinEach, rank}
 use Rattle.pb_opb.specs.Faults.{Begins, Expects, IsWrong, IsTooGreat}
-use Rattle.pb_opb.specs.reader.Front.{IsRead, read_kinds, begun_statements, begun_terms}
+use Rattle.pb_opb.specs.reader.Front.{IsRead, read_kinds, begun_statements, begun_literals}
 
--- The first limit that numbers of statements and terms and a weight pass.
+-- The first limit that numbers of statements and literals and a weight pass.
 abbrev pub Passes : Option LimitKind → ℕ → ℕ → ℕ → Type 0
-Passes None statements terms weight = (statements ≤ 2 ^ 24) × (terms ≤ 2 ^ 20) × (weight < 2 ^ 100)
-Passes (Some Statements) statements terms weight = 2 ^ 24 < statements
-Passes (Some Terms) statements terms weight = (statements ≤ 2 ^ 24) × (2 ^ 20 < terms)
-Passes (Some Weight) statements terms weight = (statements ≤ 2 ^ 24) × (terms ≤ 2 ^ 20) × (2 ^ 100 ≤ weight)
-Passes (Some _) statements terms weight = ⊥
+Passes None statements literals weight = (statements ≤ 2 ^ 24) × (literals ≤ 2 ^ 20) × (weight < 2 ^ 100)
+Passes (Some Statements) statements literals weight = 2 ^ 24 < statements
+Passes (Some Terms) statements literals weight = (statements ≤ 2 ^ 24) × (2 ^ 20 < literals)
+Passes (Some Weight) statements literals weight = (statements ≤ 2 ^ 24) × (literals ≤ 2 ^ 20) × (2 ^ 100 ≤ weight)
+Passes (Some _) statements literals weight = ⊥
 
 -- what the reader has passed at a stage
 abbrev pub PassesAt : Option LimitKind → Reader → Stage → ℕ → Type 0
-PassesAt o r next weight = Passes o (length r.statements + begun_statements next) (length r.terms + begun_terms next) weight
+PassesAt o r next weight = Passes o (length r.statements + begun_statements next) (r.literals + begun_literals next) weight
 
 -- No text begins so, and this is what could stand there; or it passes a limit.
 abbrev pub Refuses : List Kind → Kind → Refusal → Type 0
