@@ -1,0 +1,12 @@
+use Rattle.std.proofs.Common.{ap, ◌∙◌, ◌++◌}
+use Rattle.std.specs.Option.{option_to_list}
+use Rattle.pb_norm.specs.Halves.{turned_term}
+use Rattle.pb_norm.specs.NormalForms.{signed_coef}
+use Rattle.pb_norm.specs.laws.Nets.{net_term}
+use Rattle.pb_norm.proofs.OrderedTerms.{filter_map_item}
+use Rattle.pb_norm.proofs.nets.lone_terms.Goals as goal
+
+pub loop-term-preserved : goal.loop-term-preserved
+loop-term-preserved c =
+    filter_map_item (λ t. net_term t.lit.var (signed_coef (turned_term c.args.half t))) c.args.terms.now c.loop-term.term-index c.term-item.result c.loop-term.list.items _ c.loop-term-test.true c.term-item.is c.loop-term.invariant
+    (c.in_ok-push_some.ensures ∙ ap (λ o. c.loop-term.list.items ++ option_to_list o) c.lone_term.ensures)
