@@ -4,7 +4,7 @@ use Rattle.std.specs.Prelude.{Option, Result, Ok, Err}
 use Rattle.std.proofs.lemmas.Bool.{le-leb, eq-eqb}
 use Rattle.pb_base.specs.declared.literal.Lit.{Lit}
 use Rattle.pb_base.specs.Problems.{originals}
-use Rattle.pb_norm.specs.Halves.{loaded_of}
+use Rattle.pb_norm.specs.Products.{loaded_of}
 use Rattle.pb_dimacs.specs.declared.head.CnfHead.{CnfHead}
 use Rattle.std.specs.List.{AllZip}
 use Rattle.pb_base.specs.declared.limit.LimitKind.{LimitKind}

@@ -6,7 +6,7 @@ use Rattle.pb_base.specs.declared.problem.Problem.{Problem}
 use Rattle.pb_base.specs.declared.file.File.TheVariants.{Cnf}
 use Rattle.pb_base.specs.Problems.{originals}
 use Rattle.pb_norm.specs.Constraints.{Constraint}
-use Rattle.pb_norm.specs.Halves.{loaded_of}
+use Rattle.pb_norm.specs.Products.{loaded_of}
 use Rattle.pb_desk.specs.Desk.{DeskState}
 use Rattle.pb_desk.specs.LineReaders.{Reader}
 use Rattle.pb_desk.specs.TwoSlots.{ReadsBoth, TakesBoth, FailsBoth}

@@ -6,7 +6,7 @@ use Rattle.std.proofs.lemmas.List.Elements.{All-head, All-tail, All-weaker}
 use Rattle.pb_desk.specs.Lines.{IsUnbroken, lines_of}
 use Rattle.pb_desk.proofs.LineLemmas.{lines_break}
 use Rattle.pb_steps.specs.declared.step.Step.{Step}
-use Rattle.pb_norm.specs.Halves.{loaded_of}
+use Rattle.pb_norm.specs.Products.{loaded_of}
 use Rattle.pb_steps.specs.LineSteps.{step_of}
 use Rattle.pb_steps.specs.Sayable.{IsSayable}
 use Rattle.pb_steps.specs.StepText.{step_line}

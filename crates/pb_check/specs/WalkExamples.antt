@@ -34,7 +34,11 @@ term n v = record { coef = pos n; lit = x v }
 
 -- x1 + x2 = 1
 abbrev equation : Problem
-equation = record { vars = 2; numbered = 2; names = []; objective = None; statements = record { terms = term 1 1 ∷ term 1 2 ∷ []; relation = Equal; right = pos 1 } ∷ [] }
+equation = record { vars = 2; numbered = 2; names = []; products = []; objective = None; statements = record { terms = term 1 1 ∷ term 1 2 ∷ []; relation = Equal; right = pos 1 } ∷ [] }
+
+-- x1 x2 >= 1
+abbrev product : Problem
+product = record { vars = 2; numbered = 2; names = []; products = (x 1 ∷ x 2 ∷ []) ∷ []; objective = None; statements = record { terms = term 1 3 ∷ []; relation = AtLeast; right = pos 1 } ∷ [] }
 
 abbrev two_clauses : List ℕ
 two_clauses = codes "p cnf 2 2\n1 2 0\n-1 -2 0\n"
@@ -88,6 +92,13 @@ nothing_to_show = refl
 sets_an_original : Walk equation two_clauses (codes "pseudo-Boolean derivation profile 1\nf 2\nred +1 x1 >= 1 ; x1 -> 1\n") (Ok (Rejected 3 (SetsOriginal 1)))
 sets_an_original = inr (SetsOriginal 1, inl refl, refl)
 
+-- the variable of a product is an original one too, and its constraints are loaded
+sets_a_product : Walk product (codes "p cnf 3 0\n") (codes "pseudo-Boolean derivation profile 1\nf 4\nred +1 x1 >= 1 ; x3 -> 1\n") (Ok (Rejected 3 (SetsOriginal 3)))
+sets_a_product = inr (SetsOriginal 3, inl refl, refl)
+
+no_variable_for_a_product : Walk product (codes "p cnf 2 0\n") (codes "") (Err (Refused Cnf (record { line = 1; column = 7 }) expected.VarCount))
+no_variable_for_a_product = refl
+
 not_implied : Walk equation two_clauses (codes "pseudo-Boolean derivation profile 1\nf 2\nout 2\n") (Ok (Rejected 3 (NotImplied 2)))
 not_implied = inr (NotImplied 2, inl refl, refl)
 
@@ -140,7 +151,7 @@ no_third_clause =
 
 -- 5 x1 + 3 x2 + 2 x3 >= 6 forces x1
 abbrev heavy_one : Problem
-heavy_one = record { vars = 3; numbered = 3; names = []; objective = None; statements = record { terms = term 5 1 ∷ term 3 2 ∷ term 2 3 ∷ []; relation = AtLeast; right = pos 6 } ∷ [] }
+heavy_one = record { vars = 3; numbered = 3; names = []; products = []; objective = None; statements = record { terms = term 5 1 ∷ term 3 2 ∷ term 2 3 ∷ []; relation = AtLeast; right = pos 6 } ∷ [] }
 
 abbrev unit_and_clause : List ℕ
 unit_and_clause = codes "p cnf 3 2\n1 0\n2 3 0\n"

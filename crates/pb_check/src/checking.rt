@@ -3,7 +3,7 @@ ghost use Rattle.std.specs.Prelude.{◌≡◌, ◌≢◌, ◌<◌, ◌^◌, [], 
 ghost use Rattle.pb_base.specs.Problems.{IsWithinLimits};
 ghost use Rattle.pb_desk.specs.Desk.{IfTold, IsSteady};
 ghost use Rattle.pb_desk.specs.TwoSlots.{TakesBoth};
-ghost use Rattle.pb_norm.specs.Halves.{loaded_of};
+ghost use Rattle.pb_norm.specs.Products.{loaded_of};
 ghost use Rattle.pb_dimacs.specs.CnfRows.{cnf_limits};
 ghost use Rattle.pb_check.specs.Outcomes.{StopsCheck, NamesText};
 ghost use Rattle.pb_check.specs.Walk.{Walk};

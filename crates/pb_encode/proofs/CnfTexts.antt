@@ -1,12 +1,12 @@
 -- The CNF text of a problem is within the limits, and so it tells a reader the problem's clauses.
-use Rattle.std.proofs.Common.{◌≡◌, ◌≤◌, ◌<◌, ◌+◌, ◌^◌, ◌++◌, ℕ, List, [], ◌∷◌, length, arith}
+use Rattle.std.proofs.Common.{◌≤◌, ◌+◌, ◌^◌, ℕ, List, [], ◌∷◌, length, arith}
 use Rattle.std.specs.Prelude.{All}
 use Rattle.std.proofs.lemmas.List.Elements.{All-nil, All-head, All-tail, All-append, All-weaker}
 use Rattle.pb_base.specs.declared.literal.Lit.{Lit}
 use Rattle.pb_base.specs.declared.problem.Problem.{Problem}
 use Rattle.pb_base.specs.Problems.{originals, IsWithinLimits}
 use Rattle.pb_norm.specs.Constraints.{Constraint}
-use Rattle.pb_norm.specs.Halves.{loaded_of}
+use Rattle.pb_norm.specs.Products.{loaded_of}
 use Rattle.pb_dimacs.specs.laws.CnfWholeLaws.{IsCnfWithin, Tells}
 use Rattle.pb_dimacs.proofs.Whole.{written_is_told}
 use Rattle.pb_dimacs.proofs.WrittenSizes.{written_within}

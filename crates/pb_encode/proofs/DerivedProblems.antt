@@ -1,8 +1,8 @@
 -- What the steps of a problem show.
 use Rattle.std.proofs.Common.{◌≡◌, ◌≤◌, ◌<◌, ◌+◌, ◌*◌, ◌^◌, ◌++◌, ℕ, List, [], ◌∷◌, length, map, arith, length-append}
 use Rattle.std.specs.Prelude.{All, sum_by}
-use Rattle.std.proofs.lemmas.List.Elements.{All-nil, All-cons, All-head, All-tail, All-append}
-use Rattle.std.proofs.lemmas.List.Sums.{sum_by-append}
+use Rattle.std.proofs.lemmas.List.Elements.{All-nil, All-cons, All-head, All-tail, All-append, All-weaker}
+use Rattle.std.proofs.lemmas.List.Sums.{sum_by-append, sum_by-cons}
 use Rattle.pb_base.specs.declared.problem.Problem.{Problem}
 use Rattle.pb_base.specs.declared.problem.Raw.{Raw}
 use Rattle.pb_base.specs.declared.problem.Relation.{Relation}
@@ -11,14 +11,19 @@ use Rattle.pb_base.specs.Problems.{IsSumWithin, IsWithinLimits, StaysBelow, orig
 use Rattle.pb_norm.specs.declared.halves.Half.{Half}
 use Rattle.pb_norm.specs.declared.halves.Half.TheVariants.{Lower, Upper}
 use Rattle.pb_norm.specs.Constraints.{Constraint, weight}
-use Rattle.pb_norm.specs.Halves.{constraints_of, half_of, halves_of, loaded, loaded_of}
+use Rattle.pb_norm.specs.Halves.{constraints_of, half_of, halves_of, loaded}
+use Rattle.pb_norm.specs.Products.{defining, loaded_of}
+use Rattle.pb_norm.proofs.ClauseTerms.{length-weight}
+use Rattle.pb_norm.proofs.ProductForms.{IsFormOver}
 use Rattle.pb_steps.specs.declared.step.Step.{Step}
 use Rattle.pb_steps.specs.declared.step.Step.TheVariants.{Head, Loaded, End}
+use Rattle.pb_steps.specs.Database.{loaded_database}
 use Rattle.pb_steps.specs.Sayable.{IsSayable}
 use Rattle.pb_steps.specs.StepSizes.{step_size}
 use Rattle.pb_derive.specs.Short.{line_size}
 use Rattle.pb_derive.proofs.Short.{line_sized, lines_sized}
 use Rattle.pb_choice.specs.declared.options.Options.{Options}
+use Rattle.pb_choice.specs.Clauses.{constraint_count}
 use Rattle.pb_encode.specs.Clauses.{clause_total, fresh_total, problem_vars}
 use Rattle.pb_encode.specs.Derived.{IsDerived}
 use Rattle.pb_encode.specs.Steps.{loaded_steps, problem_steps, steps_from}
@@ -28,9 +33,10 @@ use Rattle.pb_encode.proofs.ChoiceLaws.{IsLight}
 use Rattle.pb_encode.proofs.HalfTerms.{half_short}
 use Rattle.pb_encode.proofs.HalfWeights.{half_light}
 use Rattle.pb_encode.proofs.LoadedDatabases.{loaded_numbered, loaded_stand, loaded_unnamed}
-use Rattle.pb_encode.proofs.LoadedRuns.{all-few, all-run, all-said}
-use Rattle.pb_choice.proofs.Composition.{IsReady}
-use Rattle.pb_encode.proofs.Solutions.{loaded_ready}
+use Rattle.pb_encode.proofs.LoadedRuns.{all-few, all-run, all-said, term_total}
+use Rattle.pb_choice.proofs.Composition.{IsOneBelow, IsReady}
+use Rattle.pb_encode.proofs.ProductSizes.{forms_clauses, terms-defining}
+use Rattle.pb_encode.proofs.Solutions.{forms_over, loaded_ready}
 use Rattle.pb_encode.proofs.StepTexts.{text_within}
 use Rattle.pb_encode.proofs.StepTurns.{ids-most}
 use Rattle.pb_encode.proofs.TallyLemmas.{length-loaded}
@@ -40,7 +46,7 @@ use Rattle.pb_encode.proofs.TallyLemmas.{length-loaded}
 -- few terms, and small numbers
 record IsSmall (c : Constraint) : Type 0 where
   pub weight : weight c.terms < 2 ^ 100
-  pub few : length c.terms ≤ 2 ^ 20
+  pub few : length c.terms ≤ 2 ^ 20 + 1
 
 half_small : (s : Raw) (half : Half) → StaysBelow (2 ^ 100) s → length s.terms ≤ 2 ^ 20 → IsSmall (half_of half s)
 half_small s half small few = record { weight = half_light half s (2 ^ 100) small; few = omega (arith, half_short half s, few) }
@@ -56,6 +62,10 @@ loaded_small vars (s ∷ ss) small within =
     All-append IsSmall (constraints_of s) (loaded ss)
     (halves_small s s.relation (All-head (StaysBelow (2 ^ 100)) s ss small) (All-head (λ (t : Raw). IsSumWithin vars t.terms) s ss within).count)
     (loaded_small vars ss (All-tail (StaysBelow (2 ^ 100)) s ss small) (All-tail (λ (t : Raw). IsSumWithin vars t.terms) s ss within))
+
+terms-small : (cs : List Constraint) → All IsSmall cs → term_total cs ≤ (2 ^ 20 + 1) * length cs
+terms-small [] small = omega arith
+terms-small (c ∷ cs) small = omega (arith, sum_by-cons (λ (d : Constraint). length d.terms) c cs, (All-head IsSmall c cs small).few, terms-small cs (All-tail IsSmall c cs small))
 
 light_each : (o : Options) (n : ℕ) (cs : List Constraint) → All (IsReady o n) cs → All IsSmall cs → All (IsLight o n) cs
 light_each o n [] ready small = All-nil (IsLight o n)
@@ -74,17 +84,45 @@ module _ (o : Options) (p : Problem) (within : IsWithinLimits p) (encodable : Is
   abbrev first : ℕ
   first = originals p + 1
 
+  abbrev products : List Constraint
+  products = defining (p.vars + 1) p.products
+
   abbrev between : List Step
   between = loaded_steps o p
 
   ready : All (IsReady o first) cs
   ready = loaded_ready o p within
 
-  pub loaded_light : All (IsLight o first) cs
-  loaded_light = light_each o first cs ready (loaded_small p.vars p.statements within.numbers within.sums)
+  small : All IsSmall cs
+  small =
+      All-append IsSmall products (loaded p.statements)
+      (All-weaker (IsFormOver (IsOneBelow first)) IsSmall (λ c form. record { weight = omega (arith, form.weight); few = omega (arith, form.weight, length-weight c.terms form.linear.positive) }) products (forms_over p within))
+      (loaded_small (originals p) p.statements within.numbers within.sums)
 
-  pub loaded_count : n ≤ 2 ^ 25 + 2
-  loaded_count = omega (arith, length-loaded p.statements, within.count)
+  pub loaded_light : All (IsLight o first) cs
+  loaded_light = light_each o first cs ready small
+
+  parts : n ≡ length products + length (loaded p.statements)
+  parts = length-append products (loaded p.statements)
+
+  counts : clause_total o cs ≡ clause_total o products + clause_total o (loaded p.statements)
+  counts = sum_by-append (constraint_count o) products (loaded p.statements)
+
+  pub loaded_count : n ≤ 2 ^ 36 + 2 ^ 25 + 2
+  loaded_count = omega (arith, parts, counts, forms_clauses o (IsOneBelow first) products (forms_over p within), encodable.clauses, length-loaded p.statements, within.count)
+
+  loaded_terms : term_total cs ≤ 2 ^ 47
+  loaded_terms =
+      omega (
+        arith,
+        sum_by-append (λ (c : Constraint). length c.terms) products (loaded p.statements),
+        terms-defining (p.vars + 1) p.products,
+        terms-small (loaded p.statements) (loaded_small (originals p) p.statements within.numbers within.sums),
+        parts,
+        loaded_count,
+        length-loaded p.statements,
+        within.count,
+      )
 
   few_fresh : fresh_total o cs < 2 ^ 31
   few_fresh = omega (arith, encodable.vars)
@@ -122,7 +160,7 @@ module _ (o : Options) (p : Problem) (within : IsWithinLimits p) (encodable : Is
 
   pub problem_derived : IsDerived o p
   problem_derived =
-      let run = all-run o first first 1 cs (record { original = originals p; vars = problem_vars o p; live = _; next = n + 1 }) (omega arith) loaded_light (record {
+      let run = all-run o first first 1 cs (loaded_database (originals p) (problem_vars o p) cs) (omega arith) loaded_light (record {
         original = omega arith;
         vars = omega arith;
         numbered = loaded_numbered (originals p) (problem_vars o p) cs;
@@ -146,5 +184,5 @@ module _ (o : Options) (p : Problem) (within : IsWithinLimits p) (encodable : Is
         sayable = sayable;
         within = text_within (problem_steps o p) sayable each
             (omega (arith, few_between, count, few_fresh, loaded_count, encodable.clauses))
-            (omega (arith, size, size2, begin, stop, said.all, few_fresh, loaded_count, encodable.clauses));
+            (omega (arith, size, size2, begin, stop, said.all, few_fresh, loaded_count, loaded_terms, encodable.clauses));
       }

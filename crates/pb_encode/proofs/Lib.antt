@@ -8,7 +8,11 @@ pub mod HalfWeights
 pub mod Headers
 pub mod LoadedDatabases
 pub mod LoadedRuns
+pub mod LoadedTurns
 pub mod ProblemSteps
+pub mod ProblemStreams
+pub mod ProductFits
+pub mod ProductSizes
 pub mod Residuals
 pub mod Solutions
 pub mod StepTexts

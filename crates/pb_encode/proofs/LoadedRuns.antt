@@ -79,11 +79,18 @@ all-few o n first id (c ∷ cs) next light =
       count-cons o c cs,
     )
 
+-- how many terms there are
+abbrev pub term_total : List Constraint → ℕ
+term_total cs = sum_by (λ (c : Constraint). length c.terms) cs
+
+terms-cons : (c : Constraint) (cs : List Constraint) → term_total (c ∷ cs) ≡ length c.terms + term_total cs
+terms-cons c cs = sum_by-cons (λ (d : Constraint). length d.terms) c cs
+
 -- the lines of all
 pub record AreSaid (o : Options) (cs : List Constraint) (steps : List Step) : Type 0 where
   pub sayable : All IsSayable steps
   pub each : All (λ s. line_size s ≤ 2 ^ 28) steps
-  pub all : sum_by line_size steps ≤ 2 ^ 30 * fresh_total o cs + 2 ^ 21 * clause_total o cs + 2 ^ 34 * length cs
+  pub all : sum_by line_size steps ≤ 2 ^ 30 * fresh_total o cs + 2 ^ 21 * clause_total o cs + 512 * term_total cs + 2 ^ 23 * length cs
 
 pub all-said : (o : Options) (n first id : ℕ) (cs : List Constraint) (next : ℕ) → All (IsLight o n) cs → n ≤ first → 1 ≤ first → first + fresh_total o cs ≤ 2 ^ 31 → clause_total o cs ≤ 2 ^ 56 → 1 ≤ id → id + length cs ≤ next → LeavesIds (steps_from o first id cs) next
     → AreSaid o cs (steps_from o first id cs next)
@@ -99,5 +106,5 @@ all-said o n first id (c ∷ cs) next light le low fits counted given known few 
     record {
       sayable = All-append IsSayable steps more one.sayable rest.sayable;
       each = All-append (λ (s : Step). line_size s ≤ 2 ^ 28) steps more one.each rest.each;
-      all = omega (arith, sum_by-append line_size steps more, one.all, rest.all, fresh-cons o c cs, count-cons o c cs);
+      all = omega (arith, sum_by-append line_size steps more, one.all, rest.all, fresh-cons o c cs, count-cons o c cs, terms-cons c cs);
     }

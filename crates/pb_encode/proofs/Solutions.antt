@@ -15,15 +15,17 @@ use Rattle.pb_base.specs.Literals.{Assignment, AgreeBelow, assigned_by}
 use Rattle.pb_base.specs.Problems.{IsSolution, IsSumWithin, IsWithinLimits, StaysBelow, originals}
 use Rattle.pb_norm.specs.declared.halves.Half.TheVariants.{Lower, Upper}
 use Rattle.pb_norm.specs.Constraints.{Constraint, IsLinear, Holds, Solves}
-use Rattle.pb_norm.specs.Halves.{loaded, loaded_of, half_of, halves_of, constraints_of}
+use Rattle.pb_norm.specs.Halves.{loaded, half_of, halves_of, constraints_of}
+use Rattle.pb_norm.specs.Products.{defining, loaded_of}
 use Rattle.pb_norm.specs.ClausePropagation.{ClausesPropagate}
 use Rattle.pb_norm.specs.ClauseForm.{clause_form}
 use Rattle.pb_norm.specs.Propagation.{Propagates}
 use Rattle.pb_norm.specs.laws.PropagationLaws.{AreAmong}
 use Rattle.pb_norm.proofs.Agreement.{IsModel-agree, cut-agrees}
 use Rattle.pb_norm.proofs.ClauseLift.{propagates_lifts}
-use Rattle.pb_norm.proofs.Loaded.{are_fronts}
+use Rattle.pb_norm.proofs.Solutions.{are_fronts}
 use Rattle.pb_norm.proofs.NetBounds.{made-linear}
+use Rattle.pb_norm.proofs.ProductForms.{IsFormOver, defining_over}
 use Rattle.pb_norm.proofs.PropagationMore.{ClausesPropagate-more}
 use Rattle.pb_norm.proofs.Variables.{OfLit, OfTerm, OfWritten, IsOver, loaded-vars}
 use Rattle.pb_choice.specs.declared.options.Options.{Options}
@@ -59,10 +61,18 @@ ready_each o n (c ∷ cs) linear over =
     (record { linear = All-head IsLinear c cs linear; within = All-head (IsOver (IsOneBelow n)) c cs over })
     (ready_each o n cs (All-tail IsLinear c cs linear) (All-tail (IsOver (IsOneBelow n)) c cs over))
 
+forms_ready : (o : Options) (n : ℕ) (cs : List Constraint) → All (IsFormOver (IsOneBelow n)) cs → All (IsReady o n) cs
+forms_ready o n cs forms = All-weaker (IsFormOver (IsOneBelow n)) (IsReady o n) (λ c form. record { linear = form.linear; within = form.over }) cs forms
+
+-- the constraints of products are over those variables too
+pub forms_over : (p : Problem) → IsWithinLimits p → All (IsFormOver (IsOneBelow (originals p + 1))) (defining (p.vars + 1) p.products)
+forms_over p within = defining_over (IsOneBelow (originals p + 1)) p.vars (p.vars + 1) p.products (omega arith) (λ n low less. (low, omega (arith, less))) within.products
+
 pub loaded_ready : (o : Options) (p : Problem) → IsWithinLimits p → All (IsReady o (originals p + 1)) (loaded_of p)
 loaded_ready o p within =
-    ready_each o (originals p + 1) (loaded_of p) (loaded_linear p.statements (wider p.statements within.numbers))
-    (loaded-vars (IsOneBelow (originals p + 1)) p.statements (written-below (originals p) p.statements within.sums))
+    let n = originals p + 1 in
+    All-append (IsReady o n) (defining (p.vars + 1) p.products) (loaded p.statements) (forms_ready o n (defining (p.vars + 1) p.products) (forms_over p within))
+    (ready_each o n (loaded p.statements) (loaded_linear p.statements (wider p.statements within.numbers)) (loaded-vars (IsOneBelow n) p.statements (written-below (originals p) p.statements within.sums)))
 
 -- ---- all clauses
 
@@ -145,7 +155,7 @@ cut_twice p model = take-take p.vars (originals p) model (omega arith)
 
 pub have_solutions : (o : Options) (p : Problem) → IsWithinLimits p → HasSolutionsOf p (problem_vars o p) (problem_clauses o p)
 have_solutions o p within values covers =
-    let fronts = are_fronts p values in
+    let fronts = are_fronts p within.products values in
     let ready = loaded_ready o p within in (
       (λ (h : IsSolution p values).
           let front = fronts.0 h in

@@ -9,13 +9,16 @@ use Rattle.pb_base.specs.declared.literal.Term.{Term}
 use Rattle.pb_base.specs.declared.problem.Raw.{Raw}
 use Rattle.pb_norm.specs.declared.halves.Half.{Half}
 use Rattle.pb_norm.specs.Constraints.{Constraint}
+use Rattle.pb_norm.specs.ClauseForm.{clause_form}
 use Rattle.pb_norm.specs.Halves.{half_of, constraints_of, loaded}
+use Rattle.pb_norm.specs.Products.{plain, defining, product_clauses, product_constraints}
+use Rattle.pb_norm.proofs.ProductLemmas.{length-product, product-at}
 use Rattle.pb_family.specs.ClauseText.{clauses_text}
 use Rattle.pb_family.specs.Handing.{HandsIfMemory, Stops}
 use Rattle.pb_family.specs.Sinks.{SinkState, Takes}
 use Rattle.pb_family.specs.declared.sink.SinkFault.{SinkFault}
 use Rattle.pb_family.proofs.Emission.{Emitting, emitting_ends, emitting_starts, emitting_step}
-use Rattle.pb_family.proofs.Stopping.{stops_fault}
+use Rattle.pb_family.proofs.Stopping.{stops_fault, stops_last}
 use Rattle.pb_choice.specs.declared.options.Options.{Options}
 use Rattle.pb_choice.specs.Clauses.{constraint_clauses, constraint_fresh}
 use Rattle.pb_encode.specs.Clauses.{clauses_from, fresh_total}
@@ -79,6 +82,10 @@ streams_fit o first next all ds rest left a b parts so_far fits = omega (arith, 
 pub streams_below : {R : Type 0} (o : Options) (first next : ℕ) (all left : List Constraint) (a b : SinkState R) (s : Raw) → Streams o first all left next a b → IsOverBelow first s → IsOverBelow next s
 streams_below o first next all left a b s so_far below = All-weaker (λ (t : Term). t.lit.var < first) (λ (t : Term). t.lit.var < next) (λ t h. omega (arith, h, so_far.later)) s.terms below
 
+-- those that are left are handed over last
+pub streams_last : {R T : Type 0} (o : Options) (first next : ℕ) (all left : List Constraint) (a b c : SinkState R) (r : Result T SinkFault) → Streams o first all left next a b → HandsIfMemory (clauses_from o next left) r b c → HandsIfMemory (clauses_from o first all) r a c
+streams_last o first next all left a b c r so_far hands = stops_last r (clauses_from o next left) c so_far.handed hands
+
 -- the clauses of one constraint
 pub one_clauses : (o : Options) (first : ℕ) (c : Constraint) → constraint_clauses o c first ≡ clauses_from o first (c ∷ [])
 one_clauses o first c = sym (append-nil (constraint_clauses o c first))
@@ -109,3 +116,27 @@ loaded_rest ss i s lt is = ap loaded (drop_rest ss i s lt is)
 
 pub loaded_done : (ss : List Raw) (i : ℕ) → length ss ≤ i → loaded (drop i ss) ≡ []
 loaded_done ss i le = ap loaded (drop_all i ss le)
+
+-- of the constraints of a product the next one, and the others
+pub product_rest : (z : Lit) (ls : List Lit) (i : ℕ) (c : Constraint) → i ≤ length ls → c ≡ clause_form (get_or (product_clauses z ls) i []) → drop i (product_constraints z ls) ≡ (c ∷ []) ++ drop (i + 1) (product_constraints z ls)
+product_rest z ls i c le is = drop_rest (product_constraints z ls) i c (omega (arith, le, length-product z ls)) (product-at z ls i c le is)
+
+pub product_done : (z : Lit) (ls : List Lit) (i : ℕ) → length ls + 1 ≤ i → drop i (product_constraints z ls) ≡ []
+product_done z ls i le = drop_all i (product_constraints z ls) (omega (arith, le, length-product z ls))
+
+-- of products those of the next one, and of the others
+pub defining_rest : (v i : ℕ) (z : Lit) (products : List (List Lit)) (ls : List Lit) → i < length products → z ≡ plain (v + i) → ls ≡ get_or products i ls
+    → defining (v + i) (drop i products) ≡ product_constraints z ls ++ defining (v + (i + 1)) (drop (i + 1) products)
+defining_rest v i z products ls lt named is =
+    let rest = drop (i + 1) products in
+    let next : v + i + 1 ≡ v + (i + 1) = omega arith in
+    ap (defining (v + i)) (drop_rest products i ls lt is)
+    ∙ ap (λ (y : Lit). product_constraints y ls ++ defining (v + i + 1) rest) (sym named)
+    ∙ ap (λ (n : ℕ). product_constraints z ls ++ defining n rest) next
+
+pub defining_done : (v i : ℕ) (products : List (List Lit)) → length products ≤ i → defining (v + i) (drop i products) ≡ []
+defining_done v i products le = ap (defining (v + i)) (drop_all i products le)
+
+-- all of them
+pub defining_begin : (v : ℕ) (products : List (List Lit)) → defining v products ≡ defining (v + 0) (drop 0 products)
+defining_begin v products = let same : v ≡ v + 0 = omega arith in ap (λ (n : ℕ). defining n products) same

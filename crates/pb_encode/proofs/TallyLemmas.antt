@@ -8,10 +8,12 @@ use Rattle.pb_base.specs.declared.problem.Relation.{Relation}
 use Rattle.pb_base.specs.declared.problem.Relation.TheVariants.{AtLeast, AtMost, Equal}
 use Rattle.pb_base.specs.declared.problem.Raw.{Raw}
 use Rattle.pb_base.specs.declared.problem.Problem.{Problem}
-use Rattle.pb_base.specs.Problems.{originals}
+use Rattle.pb_base.specs.Problems.{originals, IsWithinLimits}
 use Rattle.pb_norm.specs.Constraints.{Constraint}
-use Rattle.pb_norm.specs.Halves.{half_of, halves_of, constraints_of, loaded, loaded_of}
+use Rattle.pb_norm.specs.Halves.{half_of, halves_of, constraints_of, loaded}
+use Rattle.pb_norm.specs.Products.{defining, loaded_of}
 use Rattle.pb_norm.specs.Reduction.{rest_of}
+use Rattle.pb_norm.proofs.ProductForms.{length-defining}
 use Rattle.pb_choice.specs.declared.options.Options.{Options}
 use Rattle.pb_choice.specs.Choice.{treatment_of}
 use Rattle.pb_choice.specs.Clauses.{constraint_count, constraint_fresh}
@@ -71,8 +73,10 @@ length-loaded (s ∷ ss) = omega (arith, length-loaded ss, length-append (constr
     of_relation AtMost = omega arith
     of_relation Equal = omega arith
 
-pub few_loaded : (p : Problem) → length p.statements ≤ 2 ^ 24 + 1 → length (loaded p.statements) < 2 ^ 64
-few_loaded p few = omega (arith, length-loaded p.statements)
+pub few_loaded : (p : Problem) → IsWithinLimits p → length (loaded_of p) < 2 ^ 53
+few_loaded p within =
+    let products = defining (p.vars + 1) p.products in
+    omega (arith, length-append products (loaded p.statements), length-defining p.vars (p.vars + 1) p.products within.products, within.vars, length-loaded p.statements, within.count)
 
 one_if-le : (b : Bool) → one_if b ≤ 1
 unfolding one_if
@@ -90,9 +94,9 @@ treated-le o place (c ∷ cs) =
 pub exact : (o : Options) (cs : List Constraint) (t : Tally) (place n : ℕ) → length cs < 2 ^ 64 → IsTally o cs t → place < 11 → n ≡ slice_index_or t.treated place 0 → n ≡ treated o place cs
 exact o cs t place n few h within is = omega (arith, is, h.treated place within, treated-le o place cs, few)
 
-pub summary_is : (o : Options) (p : Problem) (t : Tally) (v n : ℕ) (ts : Treatments) → IsTally o (loaded_of p) t → n ≡ originals p → v ≡ capped (n + t.fresh) → v < 2 ^ 31 → t.clauses ≤ 2 ^ 36 → ts ≡ treatments_of o (loaded_of p)
-    → ◌≡◌ {A = Summary} (record { vars = v; original = n; clauses = t.clauses; treatments = ts }) (summary_of o p)
-summary_is o p t v n ts h is vars small le same = λ i. record { vars = all i; original = is i; clauses = total i; treatments = same i }
+pub summary_is : (o : Options) (p : Problem) (t : Tally) (v n q : ℕ) (ts : Treatments) → IsTally o (loaded_of p) t → n ≡ originals p → q ≡ length p.products → v ≡ capped (n + t.fresh) → v < 2 ^ 31 → t.clauses ≤ 2 ^ 36 → ts ≡ treatments_of o (loaded_of p)
+    → ◌≡◌ {A = Summary} (record { vars = v; original = p.vars; products = q; clauses = t.clauses; treatments = ts }) (summary_of o p)
+summary_is o p t v n q ts h is products vars small le same = λ i. record { vars = all i; original = p.vars; products = products i; clauses = total i; treatments = same i }
   where
     all : v ≡ problem_vars o p
     all = omega (arith, vars, is, small, h.fresh)

@@ -2,7 +2,7 @@
 use Rattle.std.specs.Prelude.{◌+◌, ◌*◌, ◌≤◌, All, length}
 use Rattle.pb_base.specs.declared.problem.Problem.{Problem}
 use Rattle.pb_base.specs.Problems.{originals}
-use Rattle.pb_norm.specs.Halves.{loaded_of}
+use Rattle.pb_norm.specs.Products.{loaded_of}
 use Rattle.pb_steps.specs.Database.{Database, loaded_database}
 use Rattle.pb_steps.specs.Runs.{Runs}
 use Rattle.pb_steps.specs.Sayable.{IsSayable}

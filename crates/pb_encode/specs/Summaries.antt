@@ -1,11 +1,10 @@
 -- What is said of an encoded problem, and which problems are encoded. Our own.
-use Rattle.std.specs.Prelude.{ℕ, ◌-◌, ◌≤◌, ◌<◌, ◌^◌, Bool, ◌==◌, List, ◌++◌, count_by, codes, decimal}
+use Rattle.std.specs.Prelude.{ℕ, ◌+◌, ◌-◌, ◌≤◌, ◌<◌, ◌^◌, Bool, ◌==◌, List, [], ◌++◌, length, count_by, codes, decimal, if◌then◌else◌}
 use Rattle.pb_base.specs.declared.limit.LimitKind.{LimitKind}
 use Rattle.pb_base.specs.declared.limit.LimitKind.TheVariants as limit
 use Rattle.pb_base.specs.declared.problem.Problem.{Problem}
-use Rattle.pb_base.specs.Problems.{originals}
 use Rattle.pb_norm.specs.Constraints.{Constraint}
-use Rattle.pb_norm.specs.Halves.{loaded_of}
+use Rattle.pb_norm.specs.Products.{loaded_of}
 use Rattle.pb_norm.specs.Reduction.{rest_of}
 use Rattle.pb_choice.specs.declared.options.Options.{Options}
 use Rattle.pb_choice.specs.declared.treatment.Treatment.{Treatment}
@@ -57,7 +56,8 @@ treatments_of o cs = record {
 abbrev pub summary_of : Options → Problem → Summary
 summary_of o p = record {
   vars = problem_vars o p;
-  original = originals p;
+  original = p.vars;
+  products = length p.products;
   clauses = clause_total o (loaded_of p);
   treatments = treatments_of o (loaded_of p);
 }
@@ -77,8 +77,19 @@ IsOver which o p = ⊥
 
 -- ---- the words
 
+-- the variables that are neither the problem's nor its products'
+abbrev pub fresh_in : Summary → ℕ
+fresh_in s = s.vars - (s.original + s.products)
+
+-- nothing is said where there is no product
+abbrev pub products_count : ℕ → List ℕ
+products_count n = if n == 0 then [] else codes " products " ++ decimal n
+
+abbrev pub variables_count : Summary → List ℕ
+variables_count s = codes "variables " ++ decimal s.vars ++ codes " original " ++ decimal s.original ++ codes " fresh " ++ decimal (fresh_in s)
+
 abbrev pub counts_line : Summary → List ℕ
-counts_line s = codes "variables " ++ decimal s.vars ++ codes " original " ++ decimal s.original ++ codes " fresh " ++ decimal (s.vars - s.original) ++ codes " clauses " ++ decimal s.clauses ++ codes "\n"
+counts_line s = variables_count s ++ codes " clauses " ++ decimal s.clauses ++ products_count s.products ++ codes "\n"
 
 -- without a family
 abbrev pub plain_counts : Treatments → List ℕ

@@ -1,10 +1,11 @@
 //! The file of a problem's derivation.
-ghost use Rattle.std.specs.Prelude.{◌≡◌, ◌≤◌, ◌^◌, ◌+◌, false, Err, OnOk, IfErr, IsTrue, length};
+ghost use Rattle.std.specs.Prelude.{◌≡◌, ◌≤◌, ◌<◌, ◌^◌, ◌+◌, false, All, Err, OnOk, IfErr, IsTrue, length};
 ghost use Rattle.pb_base.specs.declared.limit.LimitKind.{LimitKind};
 ghost use Rattle.pb_base.specs.Problems.{IsWithinLimits};
 ghost use Rattle.pb_desk.specs.View.{wrote};
 ghost use Rattle.pb_desk.specs.Desk.{IsSteady, Reaches};
 ghost use Rattle.pb_norm.specs.Halves.{constraints_of, loaded};
+ghost use Rattle.pb_norm.specs.Products.{defining, loaded_of};
 ghost use Rattle.pb_encode.specs.Encodings.{derivation_text, made};
 ghost use Rattle.pb_encode.specs.laws.Files.{LacksForProof, LeavesProof, StopsProof};
 ghost use Rattle.pb_encode.specs.laws.Sending.{LacksFor, Stops};
@@ -12,10 +13,11 @@ ghost use Rattle.pb_encode.specs.Summaries.{IsEncodable};
 
 use crate::derivation::stream_steps;
 use crate::fault::EncodeFault;
-use pb_base::{Problem, Raw, Relation};
+use pb_base::{Lits, Problem, Raw};
 use pb_choice::Options;
 use pb_desk::Desk;
 use pb_dimacs::{Outbox, StepWriter};
+use pb_norm::halves_of;
 use std::alloc::Global;
 
 // How many constraints a statement has.
@@ -23,22 +25,44 @@ fn count_of(statement: &Raw) -> u64
     ensures count { result ≡ length (constraints_of statement.now) }
     ensures few { result ≤ 2 }
 {
-    match statement.relation {
-        Relation::AtLeast | Relation::AtMost => 1,
-        Relation::Equal => 2,
-    }
+    halves_of(statement.relation).len() as u64
 }
 
 // How many statements have.
-fn count_loaded(statements: &[Raw]) -> u64
+fn count_statements(statements: &[Raw]) -> u64
     requires few { length statements.now ≤ 2 ^ 24 + 1 }
-    ensures { result ≡ length (loaded statements.now) }
+    ensures count { result ≡ length (loaded statements.now) }
+    ensures few { result ≤ 2 ^ 25 + 2 }
 {
     let mut count = 0_u64;
     for statement in statements {
         count += count_of(statement);
     }
     count
+}
+
+// How many products have: one for each literal, and one more.
+fn count_products(vars: u32, products: &[Lits]) -> u64
+    requires vars { vars + length products.now < 2 ^ 31 }
+    requires few { All (λ ls. length ls ≤ 2 ^ 20) products.now }
+    ensures count { result ≡ length (defining (vars + 1) products.now) }
+    ensures few { result ≤ 2 ^ 52 }
+{
+    let mut count = 0_u64;
+    for literals in products {
+        count += literals.len() as u64 + 1;
+    }
+    count
+}
+
+// How many constraints a problem has.
+fn count_loaded(problem: &Problem) -> u64
+    requires within { IsWithinLimits problem.now }
+    ensures count { result ≡ length (loaded_of problem.now) }
+    ensures few { result ≤ 2 ^ 53 }
+{
+    count_products(problem.vars, problem.products.as_slice())
+        + count_statements(problem.statements.as_slice())
 }
 
 // Writes the text of a problem's derivation to slot 1.
@@ -56,7 +80,7 @@ fn write_steps<D: Desk>(
     ensures stopped { IfErr result (Stops 1 (derivation_text options.now problem.now) (D.state desk.old) (D.state desk.new)) }
     ensures steady { IsSteady (D.state desk.old) → result ≡ Err EncodeFault.WriteFault → LacksFor 1 (derivation_text options.now problem.now) (D.state desk.old) }
 {
-    let next = count_loaded(problem.statements.as_slice()) + 1;
+    let next = count_loaded(problem) + 1;
     let mut outbox = Outbox::new(alloc)?;
     let mut line = Vec::new(alloc);
     let mut writer = StepWriter::new(alloc, desk, 1, &mut outbox, &mut line, next);

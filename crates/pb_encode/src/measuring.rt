@@ -1,18 +1,75 @@
 //! The size of an encoding, before anything is written.
-ghost use Rattle.std.specs.Prelude.{◌≡◌, ◌≤◌, [], ◌∷◌, ◌^◌, All, IfOk, OnOk, Err};
+ghost use Rattle.std.specs.Prelude.{◌≡◌, ◌≤◌, ◌<◌, ◌+◌, [], ◌∷◌, ◌^◌, All, IfOk, OnOk, Err, length};
 ghost use Rattle.pb_base.specs.Problems.{IsWithinLimits, StaysBelow};
 ghost use Rattle.pb_base.specs.declared.limit.LimitKind.{LimitKind};
+ghost use Rattle.pb_norm.specs.Constraints.{weight};
 ghost use Rattle.pb_norm.specs.Halves.{half_of, constraints_of, loaded};
+ghost use Rattle.pb_norm.specs.Products.{defining, loaded_of, product_constraints};
 ghost use Rattle.pb_encode.specs.Summaries.{summary_of, IsEncodable, IsOver};
 ghost use Rattle.pb_encode.specs.laws.Tallies.{Counts, IsTally};
 
 use crate::fault::MeasureFault;
 use crate::summary::Summary;
 use crate::tally::Tally;
-use pb_base::{LimitKind, MAX_CLAUSES, MAX_VARIABLES, NoMemory, Problem, Raw};
+use pb_base::{LimitKind, Lit, Lits, MAX_CLAUSES, MAX_VARIABLES, NoMemory, Problem, Raw};
 use pb_choice::{Options, plan};
-use pb_norm::{Half, halves_of, normalize};
+use pb_norm::{Half, Linear, halves_of, normalize, product_constraint, product_variable};
 use std::alloc::Global;
+
+// Counts a constraint.
+fn count_constraint(
+    alloc: Global,
+    constraint: &Linear,
+    options: &Options,
+    tally: &mut Tally,
+) -> Result<(), NoMemory>
+    requires light { weight constraint.now.terms < 2 ^ 100 }
+    requires modest { options.now.budget ≤ 10000000 }
+    ensures { OnOk result (Counts options.now tally.old tally.new (constraint.now ∷ [])) }
+{
+    let plan = plan(alloc, constraint, options)?;
+    tally.add(&plan);
+    Ok(())
+}
+
+// Counts the constraints of a product.
+fn count_product(
+    alloc: Global,
+    product: &Lit,
+    literals: &[Lit],
+    options: &Options,
+    tally: &mut Tally,
+) -> Result<(), NoMemory>
+    requires few { length literals.now ≤ 2 ^ 20 }
+    requires modest { options.now.budget ≤ 10000000 }
+    ensures { OnOk result (Counts options.now tally.old tally.new (product_constraints product.now literals.now)) }
+{
+    for place in 0..literals.len() + 1 {
+        let constraint = product_constraint(alloc, product, literals, place)?;
+        count_constraint(alloc, &constraint, options, tally)?;
+    }
+    Ok(())
+}
+
+// Counts the constraints of all products.
+fn count_products(
+    alloc: Global,
+    vars: u32,
+    products: &[Lits],
+    options: &Options,
+    tally: &mut Tally,
+) -> Result<(), NoMemory>
+    requires vars { vars + length products.now < 2 ^ 31 }
+    requires few { All (λ ls. length ls ≤ 2 ^ 20) products.now }
+    requires modest { options.now.budget ≤ 10000000 }
+    ensures { OnOk result (Counts options.now tally.old tally.new (defining (vars + 1) products.now)) }
+{
+    for (place, literals) in products.iter().enumerate() {
+        let product = product_variable(vars, place);
+        count_product(alloc, &product, literals.as_slice(), options, tally)?;
+    }
+    Ok(())
+}
 
 // Counts the constraint of a half.
 fn count_half(
@@ -27,9 +84,7 @@ fn count_half(
     ensures { OnOk result (Counts options.now tally.old tally.new (half_of half statement.now ∷ [])) }
 {
     let constraint = normalize(alloc, statement, half)?;
-    let plan = plan(alloc, &constraint, options)?;
-    tally.add(&plan);
-    Ok(())
+    count_constraint(alloc, &constraint, options, tally)
 }
 
 // Counts the constraints of a statement.
@@ -50,15 +105,33 @@ fn count_statement(
 }
 
 // Counts the constraints of all statements.
-fn count_statements(alloc: Global, statements: &[Raw], options: &Options) -> Result<Tally, NoMemory>
+fn count_statements(
+    alloc: Global,
+    statements: &[Raw],
+    options: &Options,
+    tally: &mut Tally,
+) -> Result<(), NoMemory>
     requires numbers { All (StaysBelow (2 ^ 100)) statements.now }
     requires modest { options.now.budget ≤ 10000000 }
-    ensures { IfOk result (IsTally options.now (loaded statements.now)) }
+    ensures { OnOk result (Counts options.now tally.old tally.new (loaded statements.now)) }
 {
-    let mut tally = Tally::new();
     for statement in statements {
-        count_statement(alloc, statement, options, &mut tally)?;
+        count_statement(alloc, statement, options, tally)?;
     }
+    Ok(())
+}
+
+// Counts all constraints of a problem.
+fn tally_of(alloc: Global, problem: &Problem, options: &Options) -> Result<Tally, NoMemory>
+    requires within { IsWithinLimits problem.now }
+    requires modest { options.now.budget ≤ 10000000 }
+    ensures { IfOk result (IsTally options.now (loaded_of problem.now)) }
+{
+    let products = problem.products.as_slice();
+    let statements = problem.statements.as_slice();
+    let mut tally = Tally::new();
+    count_products(alloc, problem.vars, products, options, &mut tally)?;
+    count_statements(alloc, statements, options, &mut tally)?;
     Ok(tally)
 }
 
@@ -70,9 +143,8 @@ pub fn measure(alloc: Global, problem: &Problem, options: &Options) -> Result<Su
     ensures encodable { OnOk result (IsEncodable options.now problem.now) }
     ensures limit { (which : LimitKind) → result ≡ Err (MeasureFault.Limit which) → IsOver which options.now problem.now }
 {
-    let tally = count_statements(alloc, problem.statements.as_slice(), options)?;
-    let original = problem.originals();
-    let vars = (original as u64).saturating_add(tally.fresh);
+    let tally = tally_of(alloc, problem, options)?;
+    let vars = (problem.originals() as u64).saturating_add(tally.fresh);
     if vars > MAX_VARIABLES as u64 {
         return Err(MeasureFault::Limit {
             which: LimitKind::Variables,
@@ -85,7 +157,8 @@ pub fn measure(alloc: Global, problem: &Problem, options: &Options) -> Result<Su
     }
     Ok(Summary {
         vars: vars as u32,
-        original,
+        original: problem.vars,
+        products: problem.products.len() as u32,
         clauses: tally.clauses,
         treatments: tally.treatments(),
     })

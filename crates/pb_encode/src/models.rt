@@ -1,7 +1,7 @@
 //! What the clauses of a problem say.
 ghost use Rattle.pb_base.specs.declared.problem.Problem.{Problem};
 ghost use Rattle.pb_base.specs.Problems.{IsWithinLimits};
-ghost use Rattle.pb_norm.specs.Halves.{loaded_of};
+ghost use Rattle.pb_norm.specs.Products.{loaded_of};
 ghost use Rattle.pb_choice.specs.declared.options.Options.{Options};
 ghost use Rattle.pb_encode.specs.Clauses.{problem_clauses, problem_vars};
 ghost use Rattle.pb_encode.specs.Models.{ForceEach, HasSolutionsOf};

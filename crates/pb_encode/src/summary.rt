@@ -1,6 +1,6 @@
 //! What is said of an encoded problem.
-ghost use Rattle.std.specs.Prelude.{◌≡◌, ◌≤◌, ◌++◌, IfOk, OnOk, decimal};
-ghost use Rattle.pb_encode.specs.Summaries.{at_most_one_counts, cardinality_counts, counts_line, plain_counts, summary_text, treatments_line, weight_counts};
+ghost use Rattle.std.specs.Prelude.{◌≡◌, ◌≤◌, ◌+◌, ◌++◌, IfOk, OnOk, decimal};
+ghost use Rattle.pb_encode.specs.Summaries.{at_most_one_counts, cardinality_counts, counts_line, plain_counts, products_count, summary_text, treatments_line, variables_count, weight_counts};
 
 use itoa::Buffer;
 use std::alloc::{AllocError, Global};
@@ -28,6 +28,8 @@ pub struct Summary {
     pub vars: u32,
     /// The variables of the problem.
     pub original: u32,
+    /// Those of its products.
+    pub products: u32,
     pub clauses: u64,
     pub treatments: Treatments,
 }
@@ -41,15 +43,35 @@ fn push_count(out: &mut Vec<u8>, name: &[u8], count: u64) -> Result<(), AllocErr
     Ok(())
 }
 
-// Appends the line of the sizes.
-fn push_sizes(out: &mut Vec<u8>, summary: &Summary) -> Result<(), AllocError>
-    requires { summary.now.original ≤ summary.now.vars }
-    ensures { OnOk result (out.new.items ≡ out.old.items ++ counts_line summary.now) }
+// Appends how many variables there are.
+fn push_variables(out: &mut Vec<u8>, summary: &Summary) -> Result<(), AllocError>
+    requires { summary.now.original + summary.now.products ≤ summary.now.vars }
+    ensures { OnOk result (out.new.items ≡ out.old.items ++ variables_count summary.now) }
 {
+    let fresh = summary.vars - (summary.original + summary.products);
     push_count(out, b"variables ", u64::from(summary.vars))?;
     push_count(out, b" original ", u64::from(summary.original))?;
-    push_count(out, b" fresh ", u64::from(summary.vars - summary.original))?;
+    push_count(out, b" fresh ", u64::from(fresh))
+}
+
+// Appends how many products there are, if any.
+fn push_products(out: &mut Vec<u8>, products: u32) -> Result<(), AllocError>
+    ensures { OnOk result (out.new.items ≡ out.old.items ++ products_count products) }
+{
+    if products == 0 {
+        return Ok(());
+    }
+    push_count(out, b" products ", u64::from(products))
+}
+
+// Appends the line of the sizes.
+fn push_sizes(out: &mut Vec<u8>, summary: &Summary) -> Result<(), AllocError>
+    requires { summary.now.original + summary.now.products ≤ summary.now.vars }
+    ensures { OnOk result (out.new.items ≡ out.old.items ++ counts_line summary.now) }
+{
+    push_variables(out, summary)?;
     push_count(out, b" clauses ", summary.clauses)?;
+    push_products(out, summary.products)?;
     out.push(b'\n')?;
     Ok(())
 }
@@ -103,7 +125,7 @@ fn push_treatments(out: &mut Vec<u8>, treatments: &Treatments) -> Result<(), All
 
 /// The two lines that are said of an encoding.
 pub fn summary_text(alloc: Global, summary: &Summary) -> Result<Vec<u8>, AllocError>
-    requires { summary.now.original ≤ summary.now.vars }
+    requires { summary.now.original + summary.now.products ≤ summary.now.vars }
     ensures { IfOk result (λ text. text.items ≡ summary_text summary.now) }
 {
     let mut text = Vec::new(alloc);

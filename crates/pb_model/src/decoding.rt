@@ -1,11 +1,12 @@
 //! Whether the values of a model are a solution.
 ghost use Rattle.std.specs.Prelude.{◌≡◌, ◌<◌, ◌≤◌, ◌^◌, ◌↔◌, IsTrue, All, length};
-ghost use Rattle.pb_base.specs.Literals.{assigned_by, lit_value};
+ghost use Rattle.pb_base.specs.Literals.{assigned_by};
 ghost use Rattle.pb_base.specs.Problems.{magnitude, written_value, sum_value, Satisfies, StaysBelow, IsWithinLimits};
 ghost use Rattle.pb_model.specs.Decoding.{FindsViolated, IsDecoded, AreVarsWithin};
 
 use crate::model::{Model, Says};
-use pb_base::{Lit, Problem, Raw, Relation, Term};
+use crate::widened::Widened;
+use pb_base::{Problem, Raw, Relation, Term};
 
 /// What a model comes to beside a problem.
 #[derive(Clone, Copy, Debug, PartialEq, Eq)]
@@ -18,21 +19,12 @@ pub enum Decoded {
     Solution,
 }
 
-// Whether a literal is true under the values.
-fn is_true(values: &[bool], lit: Lit) -> bool
-    requires { lit.var ≤ length values.now }
-    ensures { result ≡ lit_value (assigned_by values.now) lit }
-{
-    let value = values[lit.index() as usize - 1];
-    if lit.positive { value } else { !value }
-}
-
 // What a term adds.
-fn term_value(values: &[bool], term: &Term) -> i128
+fn term_value(values: &Widened, term: &Term) -> i128
     requires { term.now.lit.var ≤ length values.now }
     ensures { result ≡ written_value (assigned_by values.now) term.now }
 {
-    if is_true(values, term.lit) {
+    if values.is_true(term.lit) {
         term.coef
     } else {
         0
@@ -40,7 +32,7 @@ fn term_value(values: &[bool], term: &Term) -> i128
 }
 
 /// The sum of the coefficients of the true terms.
-pub(crate) fn sum_of(values: &[bool], terms: &[Term]) -> i128
+pub(crate) fn sum_of(values: &Widened, terms: &[Term]) -> i128
     requires vars { AreVarsWithin (length values.now) terms.now }
     requires numbers { magnitude terms.now < 2 ^ 100 }
     ensures { result ≡ sum_value (assigned_by values.now) terms.now }
@@ -53,7 +45,7 @@ pub(crate) fn sum_of(values: &[bool], terms: &[Term]) -> i128
 }
 
 // Whether a statement holds under the values.
-fn satisfies(values: &[bool], statement: &Raw) -> bool
+fn satisfies(values: &Widened, statement: &Raw) -> bool
     requires vars { AreVarsWithin (length values.now) statement.now.terms }
     requires numbers { magnitude statement.now.terms < 2 ^ 100 }
     ensures { IsTrue result ↔ Satisfies (assigned_by values.now) statement.now }
@@ -67,7 +59,7 @@ fn satisfies(values: &[bool], statement: &Raw) -> bool
 }
 
 // The place of the first statement that does not hold, counted from 0.
-fn first_violated(values: &[bool], statements: &[Raw]) -> Option<usize>
+fn first_violated(values: &Widened, statements: &[Raw]) -> Option<usize>
     requires vars { All (λ s. AreVarsWithin (length values.now) s.terms) statements.now }
     requires numbers { All (StaysBelow (2 ^ 100)) statements.now }
     ensures { FindsViolated (assigned_by values.now) statements.now result }
@@ -80,8 +72,8 @@ fn first_violated(values: &[bool], statements: &[Raw]) -> Option<usize>
     None
 }
 
-/// Whether the values of a model, one for each variable of the problem, are a solution of it; else the first statement that they
-/// violate. A model that says nothing of that kind is none.
+/// Whether the values of a model, one for each variable of the problem, are a solution of it, where its products have the values that
+/// follow; else the first statement that they violate. A model that says nothing of that kind is none.
 pub fn decode(problem: &Problem, model: &Model) -> Decoded
     requires within { IsWithinLimits problem.now }
     requires covers { length model.now.values ≡ problem.now.vars }
@@ -90,7 +82,8 @@ pub fn decode(problem: &Problem, model: &Model) -> Decoded
     let Says::Satisfiable = model.says else {
         return Decoded::NoModel;
     };
-    match first_violated(model.values.as_slice(), problem.statements.as_slice()) {
+    let values = Widened::new(problem, model.values.as_slice());
+    match first_violated(&values, problem.statements.as_slice()) {
         None => Decoded::Solution,
         Some(place) => Decoded::Violates {
             statement: place as u64 + 1,

@@ -1,6 +1,7 @@
 //! The models that solvers print, and the solutions that they give.
 #![tactic(auto)]
 
+mod appending;
 mod decoding;
 mod fault;
 mod laws;
@@ -12,6 +13,7 @@ mod naming;
 mod read;
 mod reader;
 mod solution;
+mod widened;
 
 pub use decoding::{Decoded, decode};
 pub use fault::ModelFault;

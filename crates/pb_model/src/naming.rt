@@ -4,6 +4,7 @@ ghost use Rattle.pb_base.specs.Problems.{IsWithinLimits};
 ghost use Rattle.pb_model.specs.VariableNames.{name_at};
 ghost use Rattle.pb_model.specs.MapText.{map_line, map_text};
 
+use crate::appending::whole_or_none;
 use itoa::Buffer;
 use pb_base::{NoMemory, Problem};
 use std::alloc::{AllocError, Global};
@@ -61,11 +62,6 @@ pub fn write_map(_alloc: Global, problem: &Problem, out: &mut Vec<u8>) -> Result
     ensures err { OnErr result (out.new.items ≡ out.old.items) }
 {
     let before = out.len();
-    match push_lines(out, problem) {
-        Ok(()) => Ok(()),
-        Err(_) => {
-            out.truncate(before);
-            Err(NoMemory)
-        }
-    }
+    let appended = push_lines(out, problem);
+    whole_or_none(out, before, appended)
 }

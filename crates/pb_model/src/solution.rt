@@ -1,18 +1,20 @@
 //! The text of a solution.
 ghost use Rattle.std.specs.Prelude.{◌≡◌, ◌+◌, ◌<◌, ◌≤◌, ◌^◌, ◌++◌, OnOk, OnErr, length, take, Some};
 ghost use Rattle.pb_base.specs.Literals.{assigned_by};
-ghost use Rattle.pb_base.specs.Problems.{magnitude, IsWithinLimits};
+ghost use Rattle.pb_base.specs.Problems.{magnitude, widened, IsWithinLimits};
 ghost use Rattle.pb_model.specs.Decoding.{AreVarsWithin};
 ghost use Rattle.pb_model.specs.SolutionText.{objective_line, value_word, value_words, values_line, solution_text};
 
+use crate::appending::whole_or_none;
 use crate::decoding::sum_of;
 use crate::naming::push_name;
+use crate::widened::Widened;
 use itoa::Buffer;
 use pb_base::{Bits, NoMemory, Problem, Term};
 use std::alloc::{AllocError, Global};
 
 // Appends the value of a sum.
-fn push_sum(out: &mut Vec<u8>, terms: &[Term], values: &[bool]) -> Result<(), AllocError>
+fn push_sum(out: &mut Vec<u8>, terms: &[Term], values: &Widened) -> Result<(), AllocError>
     requires vars { AreVarsWithin (length values.now) terms.now }
     requires numbers { magnitude terms.now < 2 ^ 100 }
     ensures ok { OnOk result (out.new.items ≡ out.old.items ++ objective_line (assigned_by values.now) (Some terms.now)) }
@@ -55,12 +57,12 @@ fn push_values(out: &mut Vec<u8>, problem: &Problem, values: &[bool]) -> Result<
 fn push_objective(out: &mut Vec<u8>, problem: &Problem, values: &[bool]) -> Result<(), AllocError>
     requires within { IsWithinLimits problem.now }
     requires covers { length values.now ≡ problem.now.vars }
-    ensures ok { OnOk result (out.new.items ≡ out.old.items ++ objective_line (assigned_by values.now) problem.now.objective) }
+    ensures ok { OnOk result (out.new.items ≡ out.old.items ++ objective_line (assigned_by (widened problem.now values.now)) problem.now.objective) }
     ensures before { take (length out.old.items) out.new.items ≡ out.old.items }
 {
     match &problem.objective {
         None => Ok(()),
-        Some(terms) => push_sum(out, terms.as_slice(), values),
+        Some(terms) => push_sum(out, terms.as_slice(), &Widened::new(problem, values)),
     }
 }
 
@@ -102,11 +104,6 @@ pub fn write_solution(
     ensures err { OnErr result (out.new.items ≡ out.old.items) }
 {
     let before = out.len();
-    match push_solution(out, problem, values.as_slice()) {
-        Ok(()) => Ok(()),
-        Err(_) => {
-            out.truncate(before);
-            Err(NoMemory)
-        }
-    }
+    let appended = push_solution(out, problem, values.as_slice());
+    whole_or_none(out, before, appended)
 }

@@ -3,6 +3,7 @@ use Rattle.std.proofs.Common.{◌≡◌, Ok, subst}
 use Rattle.pb_desk.specs.Desk.{DeskState, IfTold}
 use Rattle.pb_check.specs.declared.verdict.Verdict.TheVariants.{Accepted}
 use Rattle.pb_check.proofs.Extending.{accepted_cnf_extends}
+use Rattle.pb_opb.proofs.Bounds.{reads-within}
 use Rattle.pb_words.specs.CheckWords.{CheckWords}
 use Rattle.pb_suite.specs.declared.outcome.Outcome.{Outcome}
 use Rattle.pb_suite.specs.declared.outcome.Outcome.TheVariants as outcome
@@ -21,7 +22,7 @@ extended w shelf judged = record {
   on_shelf = judged.posed.on_shelf;
   reads = judged.posed.reads;
   has_cnf = judged.has_cnf;
-  extends = accepted_cnf_extends judged.problem judged.cnf judged.proof judged.judged;
+  extends = accepted_cnf_extends judged.problem judged.cnf judged.proof (reads-within judged.posed.text judged.problem judged.posed.reads).products judged.judged;
 }
 
 pub obeyed_extends : (w : CheckWords) (a b : DeskState) (answer : Outcome) → answer ≡ outcome.Done → Obeys (owed_check w) a b answer → IfTold a (λ t. IsExtended w t.shelf)

@@ -8,6 +8,7 @@ use Rattle.pb_dimacs.proofs.Whole.{told_is_said}
 use Rattle.pb_check.proofs.Extending.{accepted_cnf_extends}
 use Rattle.pb_lrat.proofs.Meaning.{refuted_have_no_model}
 use Rattle.pb_lrat.specs.LratWalk.{LratEnding as ending}
+use Rattle.pb_opb.proofs.Bounds.{reads-within}
 use Rattle.pb_words.specs.RefuteWords.{RefuteWords}
 use Rattle.pb_suite.specs.declared.outcome.Outcome.{Outcome}
 use Rattle.pb_suite.specs.declared.outcome.Outcome.TheVariants as outcome
@@ -23,7 +24,7 @@ unsolved : (w : RefuteWords) (shelf : Shelf) (f : IsFollowed shelf w ending.refu
 unsolved w shelf f values solution =
     let judged = f.accepted.judged in
     let says = f.accepted.says_all in
-    let extends = accepted_cnf_extends judged.problem judged.cnf judged.proof judged.judged in
+    let extends = accepted_cnf_extends judged.problem judged.cnf judged.proof (reads-within judged.posed.text judged.problem judged.posed.reads).products judged.judged in
     let model = extends.extends values solution in
     let same = says_one_thing judged.cnf extends.vars says.head.vars extends.clauses f.clauses extends.reads (told_is_said judged.cnf says.head f.clauses says.says_all).0 in
     refuted_have_no_model f.vars f.clauses f.lrat f.ends (assigned_by model.0) (subst (IsModel (assigned_by model.0)) same.1 model.1.satisfies)

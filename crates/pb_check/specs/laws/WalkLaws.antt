@@ -5,7 +5,8 @@ use Rattle.pb_base.specs.declared.problem.Problem.{Problem}
 use Rattle.pb_base.specs.Problems.{originals}
 use Rattle.std.specs.List.{AllZip, flat_map}
 use Rattle.pb_desk.specs.Lines.{lines_of}
-use Rattle.pb_norm.specs.Halves.{loaded_of}
+use Rattle.pb_norm.specs.Products.{loaded_of}
+use Rattle.pb_norm.specs.Solutions.{HasProducts}
 use Rattle.pb_dimacs.specs.declared.head.CnfHead.{CnfHead}
 use Rattle.pb_dimacs.specs.CnfWhole.{told_of, IsTextWithin}
 use Rattle.pb_dimacs.specs.CnfWhole.CnfTold.{says}
@@ -20,9 +21,9 @@ use Rattle.pb_check.specs.Turns.{Answer}
 use Rattle.pb_check.specs.Walk.{Walk, Accepts}
 use Rattle.pb_check.specs.Models.{ExtendsSolutions}
 
--- an accepted derivation gives that the solutions extend to models of the clauses, whatever the texts
+-- an accepted derivation gives that the solutions extend to models of the clauses, whatever the texts, where the products are over the problem's variables
 abbrev pub AcceptedCnfExtends : Type 0
-AcceptedCnfExtends = (p : Problem) (cnf proof : List ℕ) → Accepts p cnf proof → ExtendsSolutions p cnf
+AcceptedCnfExtends = (p : Problem) (cnf proof : List ℕ) → HasProducts p → Accepts p cnf proof → ExtendsSolutions p cnf
 
 -- there is an answer for any texts, and no other
 pub record WalkHasOneAnswer : Type 0 where

@@ -1,6 +1,6 @@
 use Rattle.std.proofs.Common.{◌≡◌, ◌+◌, ◌-◌, [], ◌∷◌, arith, length}
 use Rattle.pb_base.specs.Problems.{originals}
-use Rattle.pb_norm.specs.Halves.{loaded_of}
+use Rattle.pb_norm.specs.Products.{loaded_of}
 use Rattle.pb_steps.specs.declared.step.Step.TheVariants.{Head}
 use Rattle.pb_family.proofs.Deriving.{deriving_starts, steps_fault}
 use Rattle.pb_encode.specs.Steps.{problem_steps}
@@ -33,8 +33,8 @@ returns-in_err-step-2 g c =
     count_stops c.args.options.now p c.requires.within c.requires.encodable a b d d c.requires.next c.in_ok-step.ensures.hands (c.next_id-count.result - 1) count_is
     c.from_residual-in_err-step-2.result c.in_err-step-2.field-0.0 c.from_residual-in_err-step-2.ensures.1 c.in_err-step-2.ensures.hands
 
-pub derive_statements-requires-clause-few : goal.derive_statements-requires-clause-few
-derive_statements-requires-clause-few g c =
+pub derive_loaded-requires-clause-few : goal.derive_loaded-requires-clause-few
+derive_loaded-requires-clause-few g c =
     let p = c.args.problem.now in
     let a = g.T.StepSink.state c.args.sink.now in
     let b = g.T.StepSink.state c.step.new.self in
@@ -42,20 +42,20 @@ derive_statements-requires-clause-few g c =
     let count_is : c.next_id-count.result - 1 ≡ length (loaded_of p) = omega (arith, c.next_id-count.ensures, c.requires.next) in
     let first_is : c.originals.result + 1 ≡ originals p + 1 = omega (arith, c.originals.ensures) in
     steps_leave c.args.options.now p c.requires.within c.requires.encodable a b d d c.requires.next c.in_ok-step.ensures.hands (c.next_id-count.result - 1) count_is c.in_ok-step-2.ensures.hands
-    (c.originals.result + 1) c.as_slice.result.now first_is c.as_slice.ensures
+    (c.originals.result + 1) first_is
 
-pub returns-in_err-derive_statements : goal.returns-in_err-derive_statements
-returns-in_err-derive_statements g c =
+pub returns-in_err-derive_loaded : goal.returns-in_err-derive_loaded
+returns-in_err-derive_loaded g c =
     let p = c.args.problem.now in
     let a = g.T.StepSink.state c.args.sink.now in
     let b = g.T.StepSink.state c.step.new.self in
     let d = g.T.StepSink.state c.step-2.new.self in
-    let e = g.T.StepSink.state c.derive_statements.new.sink in
+    let e = g.T.StepSink.state c.derive_loaded.new.sink in
     let count_is : c.next_id-count.result - 1 ≡ length (loaded_of p) = omega (arith, c.next_id-count.ensures, c.requires.next) in
     let first_is : c.originals.result + 1 ≡ originals p + 1 = omega (arith, c.originals.ensures) in
     steps_stop c.args.options.now p c.requires.within c.requires.encodable a b d e c.requires.next c.in_ok-step.ensures.hands (c.next_id-count.result - 1) count_is c.in_ok-step-2.ensures.hands
-    (c.originals.result + 1) c.as_slice.result.now first_is c.as_slice.ensures
-    c.from_residual-in_err-derive_statements.result c.in_err-derive_statements.field-0.0 c.from_residual-in_err-derive_statements.ensures.1 c.in_err-derive_statements.ensures
+    (c.originals.result + 1) first_is
+    c.from_residual-in_err-derive_loaded.result c.in_err-derive_loaded.field-0.0 c.from_residual-in_err-derive_loaded.ensures.1 c.in_err-derive_loaded.ensures
 
 pub step-requires-3 : goal.step-requires-3
 step-requires-3 g c =
@@ -63,12 +63,12 @@ step-requires-3 g c =
     let a = g.T.StepSink.state c.args.sink.now in
     let b = g.T.StepSink.state c.step.new.self in
     let d = g.T.StepSink.state c.step-2.new.self in
-    let e = g.T.StepSink.state c.derive_statements.new.sink in
+    let e = g.T.StepSink.state c.derive_loaded.new.sink in
     let count_is : c.next_id-count.result - 1 ≡ length (loaded_of p) = omega (arith, c.next_id-count.ensures, c.requires.next) in
     let first_is : c.originals.result + 1 ≡ originals p + 1 = omega (arith, c.originals.ensures) in
     record {
       few = end_small c.args.options.now p c.requires.within c.requires.encodable a b d e c.requires.next c.in_ok-step.ensures.hands (c.next_id-count.result - 1) count_is c.in_ok-step-2.ensures.hands
-          (c.originals.result + 1) c.as_slice.result.now first_is c.as_slice.ensures c.in_ok-derive_statements.ensures;
+          (c.originals.result + 1) first_is c.in_ok-derive_loaded.ensures;
     }
 
 pub returns : goal.returns
@@ -77,8 +77,8 @@ returns g c =
     let a = g.T.StepSink.state c.args.sink.now in
     let b = g.T.StepSink.state c.step.new.self in
     let d = g.T.StepSink.state c.step-2.new.self in
-    let e = g.T.StepSink.state c.derive_statements.new.sink in
+    let e = g.T.StepSink.state c.derive_loaded.new.sink in
     let count_is : c.next_id-count.result - 1 ≡ length (loaded_of p) = omega (arith, c.next_id-count.ensures, c.requires.next) in
     let first_is : c.originals.result + 1 ≡ originals p + 1 = omega (arith, c.originals.ensures) in
     end_last c.args.options.now p c.requires.within c.requires.encodable a b d e c.requires.next c.in_ok-step.ensures.hands (c.next_id-count.result - 1) count_is c.in_ok-step-2.ensures.hands
-    (c.originals.result + 1) c.as_slice.result.now first_is c.as_slice.ensures c.in_ok-derive_statements.ensures c.step-3.result (g.T.StepSink.state c.step-3.new.self) c.step-3.ensures.hands
+    (c.originals.result + 1) first_is c.in_ok-derive_loaded.ensures c.step-3.result (g.T.StepSink.state c.step-3.new.self) c.step-3.ensures.hands

@@ -1,8 +1,6 @@
-use Rattle.std.proofs.Common.{◌≡◌, ◌++◌, ℕ, List, [], length, arith, sym, ap, subst, append-nil}
+use Rattle.std.proofs.Common.{◌≡◌, ◌++◌, [], arith, sym, ap, subst, append-nil}
 use Rattle.pb_desk.specs.View.{wrote}
 use Rattle.pb_desk.specs.Desk.{DeskState, Reaches}
-use Rattle.pb_base.specs.declared.problem.Raw.{Raw}
-use Rattle.pb_norm.specs.Halves.{loaded}
 use Rattle.pb_family.proofs.Deriving.{steps_text_stops}
 use Rattle.pb_family.proofs.Taking.{fails_same, takes_same, then_fails, then_takes}
 use Rattle.pb_dimacs.specs.Outboxes.{held_in}
@@ -12,12 +10,11 @@ use Rattle.pb_encode.specs.Faults.{of_sink}
 use Rattle.pb_encode.specs.Steps.{problem_steps}
 use Rattle.pb_encode.specs.laws.Sending.{Stops}
 use Rattle.pb_encode.proofs.Residuals.{on_fault}
-use Rattle.pb_encode.proofs.TallyLemmas.{length-loaded}
 use Rattle.pb_encode.proofs.WholeTexts.{lacks_stopped, lacks_whole, name_stays, rest_stays, sends_none, sent_whole, stopped_whole, stops_whole}
 use Rattle.pb_encode.proofs.derivation_file.write_steps.Goals as goal
 
 pub overflow_add-next : goal.overflow_add-next
-overflow_add-next g c = omega (arith, c.count_loaded-next.ensures, length-loaded c.as_slice.result.now, ap (λ (ss : List Raw). length ss) c.as_slice.ensures, c.requires.within.count)
+overflow_add-next g c = omega (arith, c.count_loaded-next.ensures.few)
 
 pub returns-in_err-outbox-clause-stopped : goal.returns-in_err-outbox-clause-stopped
 returns-in_err-outbox-clause-stopped g c =

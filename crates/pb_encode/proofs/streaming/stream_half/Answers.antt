@@ -1,14 +1,13 @@
-use Rattle.std.proofs.Common.{◌<◌, ◌^◌, ap, sym, subst, ◌∙◌}
+use Rattle.std.proofs.Common.{◌≡◌, ◌<◌, ◌+◌, ◌^◌, ℕ, ap, sym, subst, arith}
+use Rattle.std.specs.Prelude.{IfOk}
 use Rattle.pb_norm.specs.Constraints.{Constraint, weight}
 use Rattle.pb_norm.specs.Halves.{half_of}
 use Rattle.pb_norm.proofs.Variables.{half_of-vars}
 use Rattle.pb_family.specs.Families.{VarsBelow}
-use Rattle.pb_family.specs.ClauseText.{clauses_text}
+use Rattle.pb_family.specs.Handing.{HandsIfMemory}
 use Rattle.pb_family.proofs.Emission.{emitting_starts}
 use Rattle.pb_family.proofs.Stopping.{stops_between}
-use Rattle.pb_family.proofs.Taking.{takes_same}
-use Rattle.pb_choice.specs.declared.options.Options.{Options}
-use Rattle.pb_choice.specs.Clauses.{constraint_clauses}
+use Rattle.pb_choice.specs.Clauses.{constraint_clauses, constraint_fresh}
 use Rattle.pb_encode.proofs.HalfWeights.{half_light}
 use Rattle.pb_encode.proofs.streaming.stream_half.Goals as goal
 
@@ -16,21 +15,23 @@ pub returns-in_err-constraint-clause-hands : goal.returns-in_err-constraint-clau
 returns-in_err-constraint-clause-hands g c =
     stops_between c.from_residual.result c.from_residual.ensures.1 (emitting_starts (constraint_clauses c.args.options.now (half_of c.args.half c.args.statement.now) c.args.first) _)
 
-pub plan-requires-clause-light : goal.plan-requires-clause-light
-plan-requires-clause-light g c = subst (λ (d : Constraint). weight d.terms < 2 ^ 100) (sym c.in_ok-constraint.ensures.form) (half_light c.args.half c.args.statement.now (2 ^ 100) c.requires.numbers)
+pub stream_constraint-requires-clause-light : goal.stream_constraint-requires-clause-light
+stream_constraint-requires-clause-light g c =
+    subst (λ (d : Constraint). weight d.terms < 2 ^ 100) (sym c.in_ok-constraint.ensures.form) (half_light c.args.half c.args.statement.now (2 ^ 100) c.requires.numbers)
 
-pub returns-in_err-plan-clause-hands : goal.returns-in_err-plan-clause-hands
-returns-in_err-plan-clause-hands g c =
-    stops_between c.from_residual-in_err-plan.result c.from_residual-in_err-plan.ensures.1 (emitting_starts (constraint_clauses c.args.options.now (half_of c.args.half c.args.statement.now) c.args.first) _)
-
-pub emit-requires-clause-original : goal.emit-requires-clause-original
-emit-requires-clause-original g c =
+pub stream_constraint-requires-clause-vars : goal.stream_constraint-requires-clause-vars
+stream_constraint-requires-clause-vars g c =
     let over = half_of-vars (λ v. v < c.args.first) c.args.half c.args.statement.now c.requires.vars in
-    subst (λ (d : Constraint). VarsBelow c.args.first d.terms) (sym (c.in_ok-plan.ensures.constraint ∙ c.in_ok-constraint.ensures.form)) over
+    subst (λ (d : Constraint). VarsBelow c.args.first d.terms) (sym c.in_ok-constraint.ensures.form) over
+
+pub stream_constraint-requires-clause-fits : goal.stream_constraint-requires-clause-fits
+stream_constraint-requires-clause-fits g c = omega (arith, c.requires.fits, ap (λ (d : Constraint). constraint_fresh c.args.options.now d) c.in_ok-constraint.ensures.form)
+
+pub returns-clause-next : goal.returns-clause-next
+returns-clause-next g c =
+    subst (λ (d : Constraint). IfOk c.stream_constraint.result (λ (next : ℕ). next ≡ c.args.first + constraint_fresh c.args.options.now d)) c.in_ok-constraint.ensures.form c.stream_constraint.ensures.next
 
 pub returns-clause-hands : goal.returns-clause-hands
 returns-clause-hands g c =
-    let plan = c.in_ok-plan.plan in
-    let half = half_of c.args.half c.args.statement.now in
-    let same = ap (λ (d : Constraint). constraint_clauses plan.options d c.args.first) (c.in_ok-plan.ensures.constraint ∙ c.in_ok-constraint.ensures.form) ∙ ap (λ (o : Options). constraint_clauses o half c.args.first) c.in_ok-plan.ensures.options in
-    takes_same _ _ (g.S.ClauseSink.state c.args.sink.now) (g.S.ClauseSink.state c.emit.new.sink) (ap clauses_text same) c.in_ok-emit.ensures
+    subst (λ (d : Constraint). HandsIfMemory (constraint_clauses c.args.options.now d c.args.first) c.stream_constraint.result (g.S.ClauseSink.state c.args.sink.now) (g.S.ClauseSink.state c.stream_constraint.new.sink))
+    c.in_ok-constraint.ensures.form c.stream_constraint.ensures.hands

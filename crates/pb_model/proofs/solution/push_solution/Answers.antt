@@ -1,6 +1,7 @@
 use Rattle.std.proofs.Common.{◌≡◌, ◌++◌, ℕ, List, ap, ◌∙◌, append_assoc}
 use Rattle.std.specs.Prelude.{codes, OnOk, Result, Ok, Err}
 use Rattle.pb_base.specs.Literals.{assigned_by}
+use Rattle.pb_base.specs.Problems.{widened}
 use Rattle.pb_model.specs.SolutionText.{objective_line, values_line}
 use Rattle.pb_model.proofs.ValueWords.{kept_before}
 use Rattle.pb_model.proofs.solution.push_solution.Goals as goal
@@ -12,7 +13,7 @@ after_ok (Err e) f p = p
 pub returns-clause-ok : goal.returns-clause-ok
 returns-clause-ok c =
     let start : List ℕ = c.args.out.now.items in
-    let objective = objective_line (assigned_by c.args.values.now) c.args.problem.now.objective in
+    let objective = objective_line (assigned_by (widened c.args.problem.now c.args.values.now)) c.args.problem.now.objective in
     let status = codes "s SATISFIABLE\n" in
     let values = values_line c.args.problem.now c.args.values.now in
     let before : c.extend_from_slice.new.self.items ≡ start ++ (objective ++ status) =
@@ -25,7 +26,7 @@ returns-clause-ok c =
 pub returns-clause-before : goal.returns-clause-before
 returns-clause-before c =
     let start : List ℕ = c.args.out.now.items in
-    let objective = objective_line (assigned_by c.args.values.now) c.args.problem.now.objective in
+    let objective = objective_line (assigned_by (widened c.args.problem.now c.args.values.now)) c.args.problem.now.objective in
     let status = codes "s SATISFIABLE\n" in
     let before : c.extend_from_slice.new.self.items ≡ start ++ (objective ++ status) =
     c.in_ok-extend_from_slice.ensures.items ∙ ap (λ (xs : List ℕ). xs ++ status) c.in_ok-push_objective.ensures.ok ∙ append_assoc start objective status in

@@ -1,0 +1,65 @@
+-- The clauses of a problem: those of its products, and then those of its statements.
+use Rattle.std.proofs.Common.{◌≡◌, ◌≤◌, ◌<◌, ◌+◌, ◌++◌, ℕ, List, All, refl, ap, sym, subst, arith}
+use Rattle.std.specs.Prelude.{Result, IsErrAnd}
+use Rattle.std.proofs.lemmas.List.Elements.{All-weaker}
+use Rattle.pb_base.specs.declared.literal.Lit.{Lit}
+use Rattle.pb_base.specs.declared.literal.Term.{Term}
+use Rattle.pb_base.specs.declared.problem.Problem.{Problem}
+use Rattle.pb_base.specs.declared.problem.Raw.{Raw}
+use Rattle.pb_base.specs.Problems.{IsSumWithin, IsWithinLimits, originals}
+use Rattle.pb_norm.specs.Constraints.{Constraint}
+use Rattle.pb_norm.specs.Halves.{loaded}
+use Rattle.pb_norm.specs.Products.{defining, loaded_of}
+use Rattle.pb_family.specs.ClauseText.{clauses_text}
+use Rattle.pb_family.specs.Handing.{HandsIfMemory, Stops}
+use Rattle.pb_family.specs.Sinks.{SinkState, Takes}
+use Rattle.pb_family.specs.declared.sink.SinkFault.{SinkFault}
+use Rattle.pb_choice.specs.declared.options.Options.{Options}
+use Rattle.pb_encode.specs.Clauses.{clauses_from, fresh_total, problem_clauses}
+use Rattle.pb_encode.specs.Summaries.{IsEncodable}
+use Rattle.pb_encode.specs.laws.Streams.{IsOverBelow}
+use Rattle.pb_encode.proofs.StreamSteps.{Streams, fresh-append, streams_last, streams_more, streams_none, streams_stop}
+
+-- statements of a problem are over variables below the numbers of fresh ones
+pub sums_below : (most first : ℕ) (ss : List Raw) → most < first → All (λ s. IsSumWithin most s.terms) ss → All (IsOverBelow first) ss
+sums_below most first ss later within =
+    All-weaker (λ (s : Raw). IsSumWithin most s.terms) (IsOverBelow first) (λ s is. All-weaker (λ (t : Term). t.lit.var ≤ most) (λ (t : Term). t.lit.var < first) (λ t h. omega (arith, h, later)) s.terms is.vars_within) ss within
+
+-- the products and the statements, as they are given
+module _ {R : Type 0} (o : Options) (p : Problem) (first : ℕ) (products : List (List Lit)) (statements : List Raw) (first_is : first ≡ originals p + 1) (products_are : products ≡ p.products) (statements_are : statements ≡ p.statements) (a : SinkState R) where
+  abbrev before : List Constraint
+  before = defining (p.vars + 1) products
+
+  abbrev all : List Constraint
+  all = before ++ loaded statements
+
+  all_are : all ≡ loaded_of p
+  all_are = λ i. defining (p.vars + 1) (products_are i) ++ loaded (statements_are i)
+
+  same : clauses_from o first all ≡ problem_clauses o p
+  same = λ i. clauses_from o (first_is i) (all_are i)
+
+  begins : Streams o first all all first a a
+  begins = streams_none o first all a
+
+  total : fresh_total o (loaded_of p) ≡ fresh_total o before + fresh_total o (loaded statements)
+  total = omega (arith, ap (fresh_total o) all_are, fresh-append o before (loaded statements))
+
+  pub products_fit : IsEncodable o p → first + fresh_total o before ≤ 2147483648
+  products_fit encodable = omega (arith, first_is, total, encodable.vars)
+
+  pub products_stop : {T : Type 0} (r : Result T SinkFault) (f : SinkFault) (b : SinkState R) → IsErrAnd r (λ g. g ≡ f) → Stops (clauses_text (clauses_from o first before)) a b f → HandsIfMemory (problem_clauses o p) r a b
+  products_stop r f b is stops = subst (λ (cs : List (List Lit)). HandsIfMemory cs r a b) same (streams_stop o first first all before (loaded statements) all a a b r f refl is begins stops)
+
+  -- once the clauses of the products are handed over
+  module _ (next : ℕ) (b : SinkState R) (next_is : next ≡ first + fresh_total o before) (taken : Takes (clauses_text (clauses_from o first before)) a b) where
+    pub statements_fit : IsEncodable o p → next + fresh_total o (loaded statements) ≤ 2147483648
+    statements_fit encodable = omega (arith, next_is, first_is, total, encodable.vars)
+
+    pub statements_below : IsWithinLimits p → All (IsOverBelow next) statements
+    statements_below within = sums_below (originals p) next statements (omega (arith, next_is, first_is)) (subst (All (λ s. IsSumWithin (originals p) s.terms)) (sym statements_are) within.sums)
+
+    pub statements_last : {T : Type 0} (r : Result T SinkFault) (c : SinkState R) → HandsIfMemory (clauses_from o next (loaded statements)) r b c → HandsIfMemory (problem_clauses o p) r a c
+    statements_last r c hands =
+        let so_far : Streams o first all (loaded statements) next a b = streams_more o first first next all before (loaded statements) all a a b refl next_is begins taken in
+        subst (λ (cs : List (List Lit)). HandsIfMemory cs r a c) same (streams_last o first next all (loaded statements) a b c r so_far hands)
