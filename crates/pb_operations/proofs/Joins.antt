@@ -3,8 +3,6 @@ use Rattle.std.proofs.Common.{append-nil, take_all, append_assoc, length, get_or
 use Rattle.std.specs.Prelude.{All, pos, ◌≤ℤ◌}
 use Rattle.std.proofs.lemmas.Bool.{ltb-true, lt-ltb, le-ltb, ne_eqb}
 use Rattle.std.proofs.lemmas.List.Elements.{All-nil, All-cons, All-head, All-tail, All-append, All-weaker}
-use Rattle.std.proofs.lemmas.List.Sums.{sum_by-cons}
-use Rattle.pb_base.specs.declared.literal.Lit.{Lit}
 use Rattle.pb_base.specs.Literals.{negated, is_same}
 use Rattle.pb_base.specs.declared.literal.Term.{Term}
 use Rattle.pb_norm.specs.Constraints.{Weighted, IsAscending, AreUnsigned, weight, weights, weighted, terms_of}

@@ -1,12 +1,10 @@
 -- The parts that the code puts together are those of the constraint that is meant.
-use Rattle.std.proofs.Common.{◌≡◌, ◌≤◌, ◌<◌, ◌+◌, ◌-◌, ◌*◌, ◌^◌, ℕ, zero, suc, Bool, true, false, cond, List, [], ◌∷◌, arith, refl, ap, sym, ◌∙◌, ltb, eqb, subst, inl, inr, ◌||◌}
+use Rattle.std.proofs.Common.{◌≡◌, ◌≤◌, ◌<◌, ◌+◌, ◌-◌, ◌*◌, ◌^◌, ℕ, zero, suc, Bool, true, false, cond, List, [], ◌∷◌, arith, refl, ap, sym, ◌∙◌, ltb, eqb, subst, ◌||◌}
 use Rattle.std.specs.Prelude.{All, sum_by, map, filter, pos, ◌≤ℤ◌}
 use Rattle.std.proofs.lemmas.Bool.{ltb-true, lt-ltb, and_parts, and_from}
 use Rattle.std.proofs.lemmas.List.Elements.{All-map, All-weaker, All-filter, filter_passes}
 use Rattle.std.proofs.lemmas.List.Sums.{get_or-le-sum_by, sum_by-le-sum_by}
-use Rattle.std.proofs.Math.Nat.{mul-le-mul_left, div-add-mod}
-use Rattle.std.proofs.lemmas.Nat.{mod_below}
-use Rattle.std.proofs.lemmas.Bool.{cases_lt}
+use Rattle.std.proofs.Math.Nat.{mul-le-mul_left}
 use Rattle.pb_base.specs.declared.literal.Term.{Term}
 use Rattle.pb_base.proofs.Sums.{sum_by-map, sum_by-filter, sum_by-le-multiple, multiple-le-sum_by}
 use Rattle.pb_norm.specs.Constraints.{Weighted, Constraint, weighted, weights, constraint_of, weight, AreUnsigned, AllPositive, IsAscending, IsLinear}
@@ -68,7 +66,7 @@ weight_scaled n ts =
     let down = multiple-le-sum_by {X = Weighted} n (λ t. t.coef) (λ t. n * t.coef) ts (λ t. omega arith) in
     omega arith
 
-weight-filter : (p : Weighted → Bool) (ts : List Weighted) → weight (filter p ts) ≤ weight ts
+pub weight-filter : (p : Weighted → Bool) (ts : List Weighted) → weight (filter p ts) ≤ weight ts
 weight-filter p ts = omega (arith, sum_by-filter {X = Weighted} (λ t. t.coef) p ts, sum_by-le-sum_by {X = Weighted} (λ t. cond (p t) t.coef 0) (λ t. t.coef) ts (λ t. kept (p t) t.coef)) where
   kept : (b : Bool) (k : ℕ) → cond b k 0 ≤ k
   kept true k = omega arith

@@ -100,14 +100,14 @@ pub fn saturation(alloc: Global, constraint: &Linear) -> Result<Linear, NoMemory
     Ok(Linear::from_parts(terms, constraint.degree()))
 }
 
-/// The constraint without a variable: the degree loses its coefficient.
-pub fn weakening(alloc: Global, constraint: &Linear, var: Var) -> Result<Linear, NoMemory>
-    ensures { IfOk result (λ made. made ≡ weakening var constraint.now) }
+/// The constraint without a variable: the degree loses its coefficient. It takes no memory.
+pub fn weakening(constraint: Linear, var: Var) -> Linear
+    ensures { result ≡ weakening var constraint }
 {
-    let terms = terms::others(alloc, constraint.terms(), var)?;
-    let lost = terms::coef_of_var(constraint.terms(), var);
-    let degree = constraint.degree().saturating_sub(lost);
-    Ok(Linear::from_parts(terms, degree))
+    let degree = constraint.degree();
+    let mut terms = constraint.into_terms();
+    let lost = terms::take_var(&mut terms, var);
+    Linear::from_parts(terms, degree.saturating_sub(lost))
 }
 
 /// The constraint that holds exactly where this one does not. Its degree may be 2^126.

@@ -53,11 +53,9 @@ pub fn names_set(sets: &[Set], constraint: &Linear) -> bool
 fn unset_terms(alloc: Global, sets: &[Set], terms: &[Term]) -> Result<Vec<Term>, AllocError>
     ensures { IfOk result (λ v. v.items ≡ filter (on_weight (is_unset sets.now)) terms.now) }
 {
-    terms
-        .iter()
-        .copied()
-        .filter(|term| is_unset(sets, term.lit.var))
-        .collect(alloc)
+    let mut kept = Vec::from_slice(alloc, terms)?;
+    kept.retain(|term| is_unset(sets, term.lit.var));
+    Ok(kept)
 }
 
 // The coefficients of the literals that become true.

@@ -1,6 +1,7 @@
 //! What is done to each term.
-ghost use Rattle.std.specs.Prelude.{◌≡◌, ◌<◌, ◌≤◌, ◌^◌, ◌*◌, All, map, filter, sum_by, IfOk};
-ghost use Rattle.pb_norm.specs.Constraints.{weighted};
+ghost use Rattle.std.specs.Prelude.{◌≡◌, ◌≢◌, ◌<◌, ◌≤◌, ◌^◌, ◌*◌, All, map, filter, sum_by, length, slice_index_or, IfOk, IfSome, IsNone};
+ghost use Rattle.pb_base.specs.declared.literal.Term.{Term};
+ghost use Rattle.pb_norm.specs.Constraints.{weighted, weights, IsAscending};
 ghost use Rattle.pb_norm.specs.Halves.{is_positive};
 ghost use Rattle.pb_norm.specs.laws.Kept.{on_term, on_weight};
 ghost use Rattle.pb_norm.specs.Reduction.{cut_to, opposite, quotient_up};
@@ -43,6 +44,24 @@ pub(crate) fn shrunk(alloc: Global, terms: &[Term], divisor: u128) -> Result<Vec
         .collect(alloc)
 }
 
+// Each coefficient at most the degree.
+fn cut(alloc: Global, terms: &[Term], degree: u128) -> Result<Vec<Term>, AllocError>
+    requires { degree < 2 ^ 127 }
+    ensures { IfOk result (λ v. v.items ≡ map (on_term (cut_to degree)) terms.now) }
+{
+    terms
+        .iter()
+        .map(|term| Term::weighing(term.weight().min(degree), term.lit))
+        .collect(alloc)
+}
+
+// Drops the coefficients of 0.
+fn keep_positive(terms: &mut Vec<Term>)
+    ensures { terms.new.items ≡ filter (on_weight is_positive) terms.old.items }
+{
+    terms.retain(|term| term.weight() > 0);
+}
+
 /// Each coefficient at most the degree, without those of 0.
 pub(crate) fn saturated(
     alloc: Global,
@@ -52,37 +71,35 @@ pub(crate) fn saturated(
     requires { degree < 2 ^ 127 }
     ensures { IfOk result (λ v. v.items ≡ filter (on_weight is_positive) (map (on_term (cut_to degree)) terms.now)) }
 {
-    terms
-        .iter()
-        .map(|term| Term::weighing(term.weight().min(degree), term.lit))
-        .filter(|term| term.weight() > 0)
-        .collect(alloc)
+    let mut kept = cut(alloc, terms, degree)?;
+    keep_positive(&mut kept);
+    Ok(kept)
 }
 
-/// The terms of the other variables.
-pub(crate) fn others(alloc: Global, terms: &[Term], var: Var) -> Result<Vec<Term>, AllocError>
-    ensures { IfOk result (λ v. v.items ≡ filter (on_weight (is_other var)) terms.now) }
+// Where the term of a variable is, if there is one.
+fn place_of(terms: &[Term], var: Var) -> Option<usize>
+    ensures below { IfSome result (λ i. i < length terms.now) }
+    ensures at { IfSome result (λ i. (d : Term) → (slice_index_or terms.now i d).lit.var ≡ var) }
+    ensures none { IsNone result → All (λ t. t.lit.var ≢ var) terms.now }
 {
-    terms
-        .iter()
-        .copied()
-        .filter(|term| term.lit.var != var)
-        .collect(alloc)
+    for place in 0..terms.len() {
+        if terms[place].lit.var == var {
+            return Some(place);
+        }
+    }
+    None
 }
 
-/// The coefficient of a variable, 0 where it has none.
-pub(crate) fn coef_of_var(terms: &[Term], var: Var) -> u128
-    requires { sum_by (on_weight (coef_at var)) terms.now < 2 ^ 128 }
-    ensures { result ≡ sum_by (on_weight (coef_at var)) terms.now }
+/// Takes the term of a variable out, if there is one. Its coefficient, and 0 where there is none.
+pub(crate) fn take_var(terms: &mut Vec<Term>, var: Var) -> u128
+    requires { IsAscending (weights terms.old.items) }
+    ensures others { terms.new.items ≡ filter (on_weight (is_other var)) terms.old.items }
+    ensures lost { result ≡ sum_by (on_weight (coef_at var)) terms.old.items }
 {
-    terms
-        .iter()
-        .map(|term| if term.lit.var == var {
-            term.weight()
-        } else {
-            0
-        })
-        .sum()
+    match place_of(terms, var) {
+        Some(place) => terms.remove(place).weight(),
+        None => 0,
+    }
 }
 
 /// The terms of the negated literals.

@@ -12,6 +12,7 @@ use Rattle.pb_norm.specs.Addition.{sum_of}
 use Rattle.pb_norm.specs.Halves.{is_positive}
 use Rattle.pb_norm.specs.Reduction.{cut_to}
 use Rattle.pb_norm.proofs.Variables.{joined-vars}
+use Rattle.pb_operations.proofs.Parts.{weight-filter, weight-narrow, degree-narrow, narrow-from}
 use Rattle.pb_norm.specs.Constraints.{HasVarsWithin}
 use Rattle.pb_steps.specs.declared.denied.Denied.{Denied}
 use Rattle.pb_steps.specs.declared.denied.Denied.TheVariants.{Width, Stack, UnknownVar}
@@ -28,7 +29,7 @@ use Rattle.pb_steps.specs.Denials as denials
 use Rattle.pb_steps.proofs.Searching.{none-some, from_unless-none, from_find-none, from_map-none}
 use Rattle.pb_steps.proofs.Heights.{one_left}
 use Rattle.pb_rules.specs.laws.Sound.{IsSound}
-use Rattle.pb_rules.specs.laws.Tops.{done_op, IsSoundConstraint, AreSoundConstraints, IsOutcome}
+use Rattle.pb_rules.specs.laws.Tops.{done_op, topped, IsSoundConstraint, AreSoundConstraints, IsOutcome, IsOpOutcome}
 use Rattle.pb_rules.specs.laws.Early.{early}
 use Rattle.pb_rules.proofs.Withins.{at-sound}
 use Rattle.pb_rules.proofs.Seen.{by_elimination}
@@ -97,6 +98,27 @@ only_top {X} old new x y e f =
     let both : x ∷ reverse new ≡ y ∷ [] = sym (reverse_top old new x e) ∙ f in
     let same : y ≡ x = cc in
     f ∙ ap (λ (z : X). z ∷ []) same
+
+-- ---- what keeps its room
+
+with_room-narrow : (c : Constraint) (stack : List Constraint) → IsNarrow c → with_room (c ∷ stack) ≡ Some (c ∷ stack)
+with_room-narrow c stack h = ap (λ (b : Bool). cond {A = Option (List Constraint)} b (Some (c ∷ stack)) None) h
+
+weakening-narrow : (v : ℕ) (c : Constraint) → IsNarrow c → IsNarrow (weakening v c)
+weakening-narrow v c h = narrow-from (weakening v c) (omega (arith, weight-filter (is_other v) c.terms, weight-narrow c h)) (omega (arith, degree-narrow c h))
+
+pub weakened-top : (v : ℕ) (old new after : List Constraint) (c made : Constraint) (done : Bool) → old ≡ new ++ c ∷ [] → All IsNarrow (reverse old) → made ≡ weakening v c → IsOutcome done (topped (Some made) (reverse new)) (reverse after) → IsOpOutcome [] (Weaken v) old after done
+weakened-top v old new after c made done e narrow is outcome =
+    let same : done_op [] (Weaken v) (reverse old) ≡ topped (Some made) (reverse new) =
+    ap (done_op [] (Weaken v)) (reverse_top old new c e) ∙ (with_room-narrow (weakening v c) (reverse new) (weakening-narrow v c (top_has IsNarrow old new c e narrow)) ∙ ap (λ (d : Constraint). topped (Some d) (reverse new)) (sym is)) in
+    subst (λ (o : Option (List Constraint)). IsOutcome done o (reverse after)) (sym same) outcome
+
+pub pushed-top : (live : List Entry) (vars id : ℕ) (old after : List Constraint) (c : Constraint) (done : Bool) → All (IsSound vars) live → constraint_at live id ≡ Some c → IsOutcome done (topped (Some c) (reverse old)) (reverse after) → IsOpOutcome live (Push id) old after done
+pushed-top live vars id old after c done sound found outcome =
+    let narrow : IsNarrow c = (at-sound vars live id c sound found).0 in
+    let same : done_op live (Push id) (reverse old) ≡ topped (Some c) (reverse old) =
+    ap (λ (o : Option Constraint). option_and_then with_room (option_map (λ (d : Constraint). d ∷ reverse old) o)) found ∙ with_room-narrow c (reverse old) narrow in
+    subst (λ (o : Option (List Constraint)). IsOutcome done o (reverse after)) (sym same) outcome
 
 -- ---- the causes of a denial in their order
 

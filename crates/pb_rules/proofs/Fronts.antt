@@ -5,6 +5,7 @@ use Rattle.std.proofs.Math.Seq.{take-set-lt}
 use Rattle.pb_norm.specs.Constraints.{Constraint}
 use Rattle.pb_steps.specs.Database.{Database, constraint_at}
 use Rattle.std.specs.Prelude.{is_some}
+use Rattle.pb_unit.specs.Trails.{Held}
 use Rattle.pb_unit.specs.States.{EngineState, added, removed, at_place, IsFree}
 use Rattle.pb_rules.specs.declared.slots.Slot.{Slot}
 use Rattle.pb_rules.specs.laws.Slots.{hole, whole, slot_at, slot_of, place_of, slots_without, slots_placed, marked_slots, with_entry, entries_from}
@@ -41,32 +42,34 @@ within-same vars ss ts h w = λ k c e. w k c (sym (same-constraint ss ts h k) �
 -- ---- what is kept
 
 -- over the same database, with another front in another engine
-pub kept-same : (original vars n m : ℕ) (ss ts : List Slot) (s t idle : EngineState) (named : List (List ℕ)) → IsKept original vars ss n s idle named → AreSame ss ts → m ≤ length ts → IsMirrored s.vars (take m ts) t → IsKept original vars ts m t idle named
-kept-same original vars n m ss ts s t idle named kept same few mirrored = record {
+pub kept-same : (original vars n m : ℕ) (ss ts : List Slot) (s t idle : EngineState) (rounds : Held) (named : List (List ℕ)) → IsKept original vars ss n s idle rounds named → AreSame ss ts → m ≤ length ts → IsMirrored s.vars (take m ts) t → IsKept original vars ts m t idle rounds named
+kept-same original vars n m ss ts s t idle rounds named kept same few mirrored = record {
   sound = subst IsDatabase (sym (same original vars)) kept.sound;
   few = few;
   mirrored = subst (λ (w : ℕ). IsMirrored w (take m ts) t) kept.mirrored.vars_are mirrored;
   is_idle = kept.is_idle;
+  beside = kept.beside;
   indexed = indexed-same vars ss ts named (same-constraint ss ts same) kept.indexed;
 }
 
 -- with the same at the same places
-pub kept-again : (original vars n : ℕ) (ss : List Slot) (s t idle : EngineState) (named : List (List ℕ)) → IsKept original vars ss n s idle named → KeepsEngine s t → IsKept original vars ss n t idle named
-kept-again original vars n ss s t idle named kept again = record {
+pub kept-again : (original vars n : ℕ) (ss : List Slot) (s t idle : EngineState) (rounds : Held) (named : List (List ℕ)) → IsKept original vars ss n s idle rounds named → KeepsEngine s t → IsKept original vars ss n t idle rounds named
+kept-again original vars n ss s t idle rounds named kept again = record {
   sound = kept.sound;
   few = kept.few;
   mirrored = mirrored-kept vars (take n ss) s t kept.mirrored again;
   is_idle = kept.is_idle;
+  beside = kept.beside;
   indexed = kept.indexed;
 }
 
 -- with other lists of ids
-pub kept-listed : (original vars n : ℕ) (ss : List Slot) (s idle : EngineState) (named listed : List (List ℕ)) → IsKept original vars ss n s idle named → IsIndexed vars ss listed → IsKept original vars ss n s idle listed
-kept-listed original vars n ss s idle named listed kept indexed = record { sound = kept.sound; few = kept.few; mirrored = kept.mirrored; is_idle = kept.is_idle; indexed = indexed }
+pub kept-listed : (original vars n : ℕ) (ss : List Slot) (s idle : EngineState) (rounds : Held) (named listed : List (List ℕ)) → IsKept original vars ss n s idle rounds named → IsIndexed vars ss listed → IsKept original vars ss n s idle rounds listed
+kept-listed original vars n ss s idle rounds named listed kept indexed = record { sound = kept.sound; few = kept.few; mirrored = kept.mirrored; is_idle = kept.is_idle; beside = kept.beside; indexed = indexed }
 
 -- all that stands is in the engine
-pub kept-whole : (original vars n : ℕ) (ss : List Slot) (s idle : EngineState) (named : List (List ℕ)) → IsKept original vars ss n s idle named → length ss ≤ n → IsMirrored vars ss s
-kept-whole original vars n ss s idle named kept all = subst (λ (ts : List Slot). IsMirrored vars ts s) (take_all n ss all) kept.mirrored
+pub kept-whole : (original vars n : ℕ) (ss : List Slot) (s idle : EngineState) (rounds : Held) (named : List (List ℕ)) → IsKept original vars ss n s idle rounds named → length ss ≤ n → IsMirrored vars ss s
+kept-whole original vars n ss s idle rounds named kept all = subst (λ (ts : List Slot). IsMirrored vars ts s) (take_all n ss all) kept.mirrored
 
 -- ---- the next slot
 

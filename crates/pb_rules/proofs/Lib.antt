@@ -8,4 +8,5 @@ pub mod Refuting
 pub mod Gone
 pub mod Indexing
 pub mod Fronts
+pub mod Showings
 pub mod Least

@@ -2,6 +2,7 @@ pub mod Slots
 pub mod Conflicts
 pub mod Indexed
 pub mod Mirrors
+pub mod Showing
 pub mod Sound
 pub mod Tops
 pub mod Early

@@ -14,10 +14,11 @@ use crate::entering::{enter_rest, leave};
 use crate::index::{self, Named};
 use crate::listed::is_refuted_by;
 use crate::refutation::{is_refuted_with, is_refuted_with_both};
+use crate::rounds::is_refuted_by_few;
 use crate::slots::{self, Slot};
 use pb_base::{NoMemory, Var};
 use pb_norm::Linear;
-use pb_unit::Engine;
+use pb_unit::{Engine, Rounds};
 use std::alloc::Global;
 use std::marker::Model;
 
@@ -32,6 +33,8 @@ pub struct Database {
     engine: Engine,
     // Nothing stands in it between calls.
     idle: Engine,
+    // For few constraints no engine is worth its while.
+    rounds: Rounds,
     // By variables, ids of constraints that have them.
     named: Vec<Named>,
     // So many ids of constraints that do not stand are listed there; past so many a sweep pays for itself. Nothing is true by these counts.
@@ -49,7 +52,7 @@ impl Model for Database {
 
     ghost view = { λ d. database_of d.original d.vars d.slots.items };
 
-    ghost invariant = { λ d. IsKept d.original d.vars d.slots.items d.entered d.engine d.idle d.named.items };
+    ghost invariant = { λ d. IsKept d.original d.vars d.slots.items d.entered d.engine d.idle d.rounds d.named.items };
 }
 
 // The slots of constraints that are loaded.
@@ -108,6 +111,7 @@ impl Database {
             entered: loaded.len(),
             engine: Engine::new(alloc, vars, copies(alloc, loaded)?)?,
             idle: Engine::new(alloc, vars, Vec::new(alloc))?,
+            rounds: Rounds::new(alloc, vars)?,
             named: loaded_index(alloc, vars, loaded)?,
             left: 0,
             limit: vars as usize,
@@ -191,6 +195,9 @@ impl Database {
         ensures same { self.new ≡ self.old }
         ensures answer { IfOk result (TellsConflict (more.now ∷ filter_map (constraint_at self.old.live) ids.now)) }
     {
+        if let Some(found) = is_refuted_by_few(&mut self.rounds, &self.slots, more, ids) {
+            return Ok(found);
+        }
         is_refuted_by(self.alloc, &mut self.idle, &self.slots, more, ids)
     }
 

@@ -7,6 +7,7 @@ ghost use Rattle.pb_rules.specs.laws.Indexed.{ids_at, KeepsIds, LosesId, IsIndex
 
 use crate::slots::{self, Slot};
 use pb_base::{NoMemory, Term, Var};
+use pb_unit::newest_that;
 use std::alloc::Global;
 use std::marker::Model;
 
@@ -24,21 +25,12 @@ impl Model for Named {
     ghost view = { λ n. n.items.items };
 }
 
-// So many of the newest ids of a variable are looked at where a constraint goes: one that came late is found, and none costs more.
-const NEWEST: usize = 8;
-
 // Where an id is among the newest, if it is.
 fn newest_at(items: &[u64], id: u64) -> Option<usize>
     ensures below { IfSome result (λ i. i < length items.now) }
     ensures at { IfSome result (λ i. (d : ℕ) → slice_index_or items.now i d ≡ id) }
 {
-    for back in 0..items.len().min(NEWEST) {
-        let index = items.len() - 1 - back;
-        if items[index] == id {
-            return Some(index);
-        }
-    }
-    None
+    newest_that(items, |item| *item == id)
 }
 
 impl Named {

@@ -13,6 +13,7 @@ mod out;
 mod pol;
 mod red;
 mod refutation;
+mod rounds;
 mod rows;
 mod rup;
 mod slots;

@@ -187,26 +187,26 @@ fn saturate_top(alloc: Global, stack: &mut Vec<Linear>) -> Result<bool, NoMemory
     Ok(push_onto(stack, made)?)
 }
 
-// Weakens the topmost constraint.
-fn weaken_top(alloc: Global, var: Var, stack: &mut Vec<Linear>) -> Result<bool, NoMemory>
+// Weakens the topmost constraint, which keeps its room.
+fn weaken_top(var: Var, stack: &mut Vec<Linear>) -> Result<bool, AllocError>
+    requires { All IsNarrow (reverse stack.old.items) }
     ensures { IfOk result (IsOpOutcome [] (Weaken var) stack.old.items stack.new.items) }
 {
     let Some(c) = stack.pop() else {
         return Ok(false)
     };
-    let made = fitting(weakening(alloc, &c, var)?);
-    Ok(push_onto(stack, made)?)
+    push_onto(stack, Some(weakening(c, var)))
 }
 
-// Pushes the constraint with an id.
+// Pushes the constraint with an id, which has room.
 fn push_at(db: &Database, id: u64, stack: &mut Vec<Linear>) -> Result<bool, NoMemory>
     ensures { IfOk result (IsOpOutcome db.now.live (Push id) stack.old.items stack.new.items) }
 {
     let Some(found) = db.constraint_at(id) else {
         return Ok(false)
     };
-    let made = fitting(found.copy(db.alloc())?);
-    Ok(push_onto(stack, made)?)
+    let copy = found.copy(db.alloc())?;
+    Ok(push_onto(stack, Some(copy))?)
 }
 
 // Does an operation, or says that it cannot be done.
@@ -226,7 +226,7 @@ fn apply_op(db: &Database, op: &PolOp, stack: &mut Vec<Linear>) -> Result<bool, 
         PolOp::Mul(factor) => multiply_top(alloc, factor.unsigned_abs(), stack),
         PolOp::Div(divisor) => divide_top(alloc, divisor.unsigned_abs(), stack),
         PolOp::Saturate => saturate_top(alloc, stack),
-        PolOp::Weaken(var) => weaken_top(alloc, *var, stack),
+        PolOp::Weaken(var) => Ok(weaken_top(*var, stack)?),
     }
 }
 

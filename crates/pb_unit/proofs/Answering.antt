@@ -24,23 +24,23 @@ use Rattle.pb_unit.specs.Outcomes.{AnswersOf}
 
 -- ---- a fixed list
 
-fixed_from : (ps : List (Option Constraint)) (given ls : List Lit) → IsConsistent ls → ((p : ℕ) (c : Constraint) → Stands ps p c → IsCalm (room ls c.terms) ls c) → ((l : Lit) → is_among given l ≡ true → is_among ls l ≡ true) → IsFixed (standing ps) given ls
-fixed_from ps given ls consistent calm has = record {
+pub fixed_over : (cs : List Constraint) (given ls : List Lit) → IsConsistent ls → ((c : Constraint) → Contains cs c → IsCalm (room ls c.terms) ls c) → ((l : Lit) → is_among given l ≡ true → is_among ls l ≡ true) → IsFixed cs given ls
+fixed_over cs given ls consistent calm has = record {
   has_given = λ l h. has l (among_from given l h);
   consistent = λ l h. not_among_from ls (negated l) (consistent l (from_among ls l h));
   closed = λ l n.
-      let at = contains_stands ps n.by n.known in
-      let quiet : IsCalm (room ls n.by.terms) ls n.by = calm at.0 n.by at.1 in
+      let quiet : IsCalm (room ls n.by.terms) ls n.by = calm n.by n.known in
       let t : Weighted = record { coef = n.coef; lit = l } in
       let decided : IsDecided ls l = All-contains (IsAtRest ls (room ls n.by.terms - n.by.degree)) n.by.terms t quiet.closed n.term (omega (arith, n.short, quiet.enough)) in
       elim decided [
         | inl there ↦ both_ways (is_among ls l) n.absent there
         | inr opposite ↦ both_ways (is_among ls (negated l)) n.undecided opposite
       ];
-  enough = λ k d below.
-      let at = contains_stands ps (get_or (standing ps) k d) (k, below, get_or_default (standing ps) k (get_or (standing ps) k d) d below) in
-      (calm at.0 (get_or (standing ps) k d) at.1).enough;
+  enough = λ k d below. (calm (get_or cs k d) (k, below, get_or_default cs k (get_or cs k d) d below)).enough;
 }
+
+fixed_from : (ps : List (Option Constraint)) (given ls : List Lit) → IsConsistent ls → ((p : ℕ) (c : Constraint) → Stands ps p c → IsCalm (room ls c.terms) ls c) → ((l : Lit) → is_among given l ≡ true → is_among ls l ≡ true) → IsFixed (standing ps) given ls
+fixed_from ps given ls consistent calm has = fixed_over (standing ps) given ls consistent (λ c known. let at = contains_stands ps c known in calm at.0 c at.1) has
 
 -- the answer, from how propagation ends
 pub answers_from : (s : EngineState) (o : Outcome) → IsReached s → Ends s.places s.held o → AnswersOf s o

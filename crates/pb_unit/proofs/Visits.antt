@@ -119,27 +119,33 @@ all_at_rest slack (t ∷ ts) ls =
 
 -- ---- a visit, by its answer
 
+pub shown_advanced : (b : Bool) (cs : List Constraint) (given : List Lit) (r : ℕ) (c : Constraint) (before after : Held) → Contains cs c → room before.lits c.terms ≤ r → VisitShort b r c before after → VisitJoined b r c before.lits after.lits → Advances cs given before.lits after.lits
+shown_advanced true cs given r c before after known bound short joined =
+    subst (Advances cs given before.lits) (sym joined.1) (needed_advances cs given c (r - c.degree) c.terms before.lits known (All-contains_itself c.terms) (omega (arith, bound, joined.0)))
+shown_advanced false cs given r c before after known bound short joined = subst (Advances cs given before.lits) (ap (λ (h : Held). h.lits) (sym short.0)) (stays cs given before.lits)
+
 pub visit_advanced : (b : Bool) (ps : List (Option Constraint)) (given : List Lit) (p : ℕ) (r : ℕ) (c : Constraint) (before after : Held) → Stands ps p c → room before.lits c.terms ≤ r → VisitShort b r c before after → VisitJoined b r c before.lits after.lits → Advances (standing ps) given before.lits after.lits
-visit_advanced true ps given p r c before after at bound short joined =
-    subst (Advances (standing ps) given before.lits) (sym joined.1)
-    (needed_advances (standing ps) given c (r - c.degree) c.terms before.lits (stands_contains ps p c at) (All-contains_itself c.terms) (omega (arith, bound, joined.0)))
-visit_advanced false ps given p r c before after at bound short joined =
-    subst (Advances (standing ps) given before.lits) (ap (λ (h : Held). h.lits) (sym short.0)) (stays (standing ps) given before.lits)
+visit_advanced b ps given p r c before after at = shown_advanced b (standing ps) given r c before after (stands_contains ps p c at)
+
+pub shown_calm : (b : Bool) (r : ℕ) (c : Constraint) (before after : List Lit) → VisitJoined b r c before after → OnTrue b (IsCalm r after c)
+shown_calm true r c before after joined = record {
+  enough = joined.0;
+  closed = subst (λ (ls : List Lit). All (IsAtRest ls (r - c.degree)) c.terms) (sym joined.1) (all_at_rest (r - c.degree) c.terms before);
+}
+shown_calm false r c before after joined = tt
 
 pub visit_calm : (b : Bool) (ps : List (Option Constraint)) (p r : ℕ) (c : Constraint) (before after : List Lit) → Stands ps p c → VisitJoined b r c before after → OnTrue b ((d : Constraint) → Stands ps p d → IsCalm r after d)
-visit_calm true ps p r c before after at joined = λ d at_d.
-    let same : c ≡ d = cc (at, at_d) in
-    let calm : IsCalm r after c = record {
-      enough = joined.0;
-      closed = subst (λ (ls : List Lit). All (IsAtRest ls (r - c.degree)) c.terms) (sym joined.1) (all_at_rest (r - c.degree) c.terms before);
-    } in
-    subst (IsCalm r after) same calm
+visit_calm true ps p r c before after at joined = λ d at_d. let same : c ≡ d = cc (at, at_d) in subst (IsCalm r after) same (shown_calm true r c before after joined)
 visit_calm false ps p r c before after at joined = tt
+
+pub shown_short : (b : Bool) (r : ℕ) (c : Constraint) (before after : Held) → room before.lits c.terms ≤ r → VisitShort b r c before after → OnFalse b (room after.lits c.terms < c.degree)
+shown_short true r c before after bound short = tt
+shown_short false r c before after bound short = subst (λ (h : Held). room h.lits c.terms < c.degree) (sym short.0) (omega (arith, bound, short.1))
 
 pub visit_short : (b : Bool) (ps : List (Option Constraint)) (p r : ℕ) (c : Constraint) (before after : Held) → Stands ps p c → room before.lits c.terms ≤ r → VisitShort b r c before after → OnFalse b (HasTooLittle ps after.lits p)
 visit_short true ps p r c before after at bound short = tt
 visit_short false ps p r c before after at bound short =
-    subst (λ (h : Held). HasTooLittle ps h.lits p) (sym short.0) (record { constraint = c; at = at; short = omega (arith, bound, short.1) })
+    record { constraint = c; at = at; short = shown_short false r c before after bound short }
 
 -- ---- calm constraints
 

@@ -4,6 +4,7 @@ ghost use Rattle.std.specs.Bool.{OnTrue, OnFalse};
 ghost use Rattle.pb_unit.specs.Index.{code, section, size_of, units_at, others_at, that_stand, IsAscending, IsSectioned, IsPushed, AreSame, HasOneMore};
 ghost use Rattle.pb_unit.specs.States.{at_place};
 
+use crate::newest::newest_that;
 use crate::places::Places;
 use pb_base::{Lit, NoMemory};
 use std::alloc::Global;
@@ -31,21 +32,12 @@ impl Model for Occurrences {
     ghost view = { λ o. o.items.items };
 }
 
-// So many of the newest occurrences of a literal are looked at where a constraint goes: one that came late is found, and none costs more.
-pub(crate) const NEWEST: usize = 8;
-
 // Where one of the newest occurrences at a place is, if one is there.
 fn newest_at(items: &[Occurrence], place: usize) -> Option<usize>
     ensures below { IfSome result (λ i. i < length items.now) }
     ensures at { IfSome result (λ i. (o : Occurrence) → (slice_index_or items.now i o).place ≡ place) }
 {
-    for back in 0..items.len().min(NEWEST) {
-        let index = items.len() - 1 - back;
-        if items[index].place == place {
-            return Some(index);
-        }
-    }
-    None
+    newest_that(items, |occurrence| occurrence.place == place)
 }
 
 impl Occurrences {

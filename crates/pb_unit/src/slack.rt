@@ -29,17 +29,24 @@ fn room(terms: &[Term], held: &Trail) -> u128
     terms.iter().map(|term| open_weight(term, held)).sum()
 }
 
+// What the terms of a constraint can still add.
+pub(crate) fn room_under(constraint: &Linear, held: &Trail) -> u128
+    ensures { result ≡ room held.now.lits constraint.now.terms }
+{
+    room(constraint.terms(), held)
+}
+
 // The room that is kept, if all literals that hold were told, else anew.
 fn room_now(constraint: &Linear, kept: u128, told: bool, held: &Trail) -> u128
     requires { IsTrue told → kept ≡ room held.now.lits constraint.now.terms }
     ensures value { result ≡ room held.now.lits constraint.now.terms }
     ensures fits { room held.now.lits constraint.now.terms ≤ 2 ^ 126 }
 {
-    let terms = constraint.terms();
+    let _ = constraint.degree();
     if told {
         return kept;
     }
-    room(terms, held)
+    room_under(constraint, held)
 }
 
 // By how much a room is above a degree.

@@ -8,8 +8,9 @@ ghost use Rattle.pb_unit.specs.Filling.{AreLaid};
 ghost use Rattle.pb_base.specs.declared.literal.Lit.{Lit};
 ghost use Rattle.pb_unit.specs.Index.{Enters, list_at, size_of, room_at, alert_at, AreListed, IsCounted, IsEntered, IsStore};
 
-use crate::index::{Index, NEWEST, Occurrence, code};
+use crate::index::{Index, Occurrence, code};
 use crate::kept::{Kept, alert_of, lower, raise, room_of};
+use crate::newest::newest_that;
 use crate::places::{Places, Slot};
 use pb_base::{Lit, NoMemory, Term};
 use pb_norm::Linear;
@@ -449,13 +450,7 @@ fn newest_listed(tight: &[usize], place: usize) -> Option<usize>
     ensures below { IfSome result (λ i. i < length tight.now) }
     ensures at { IfSome result (λ i. (d : ℕ) → slice_index_or tight.now i d ≡ place) }
 {
-    for back in 0..tight.len().min(NEWEST) {
-        let index = tight.len() - 1 - back;
-        if tight[index] == place {
-            return Some(index);
-        }
-    }
-    None
+    newest_that(tight, |listed| *listed == place)
 }
 
 // Takes a place where nothing stands out of the list, where it is among the newest there. Whether it may still be listed.

@@ -78,7 +78,7 @@ fn quotients_are_rounded_up_and_coefficients_cut(rt: HostRuntime) -> Result<(), 
 fn weakened(alloc: Global, text: &str, names: &str) -> Option<String> {
     let mut constraint = linear(alloc, text)?;
     for lit in lits(alloc, names)? {
-        constraint = weakening(alloc, &constraint, lit.var).ok()?;
+        constraint = weakening(constraint, lit.var);
     }
     linear_text(alloc, &constraint)
 }

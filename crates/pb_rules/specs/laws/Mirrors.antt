@@ -4,6 +4,7 @@ use Rattle.std.specs.Bool.{MatchBool}
 use Rattle.pb_norm.specs.Constraints.{Constraint, HasVarsWithin}
 use Rattle.pb_norm.specs.Propagation.{Conflict}
 use Rattle.pb_norm.specs.laws.PropagationLaws.{AreAmong}
+use Rattle.pb_unit.specs.Trails.{Held}
 use Rattle.pb_unit.specs.States.{EngineState, Stands, standing, at_place}
 use Rattle.pb_rules.specs.declared.slots.Slot.{Slot}
 use Rattle.pb_rules.specs.laws.Slots.{slot_at, database_of}
@@ -49,10 +50,11 @@ AreSame before after = (original vars : ℕ) → database_of original vars after
 abbrev pub TellsConflict : List Constraint → Bool → Type 0
 TellsConflict cs found = MatchBool found (Conflict cs []) (¬ Conflict cs [])
 
--- what stands by ids is sound and listed by its variables; of the first slots, `entered` many, it stands in one engine; in the other engine nothing stands
-pub record IsKept (original vars : ℕ) (ss : List Slot) (entered : ℕ) (engine idle : EngineState) (named : List (List ℕ)) : Type 0 where
+-- what stands by ids is sound and listed by its variables; of the first slots, `entered` many, it stands in one engine; in the other engine nothing stands, and rounds are over the same variables
+pub record IsKept (original vars : ℕ) (ss : List Slot) (entered : ℕ) (engine idle : EngineState) (rounds : Held) (named : List (List ℕ)) : Type 0 where
   pub sound : IsDatabase (database_of original vars ss)
   pub few : entered ≤ length ss
   pub mirrored : IsMirrored vars (take entered ss) engine
   pub is_idle : IsIdle vars idle
+  pub beside : rounds.vars ≡ vars
   pub indexed : IsIndexed vars ss named

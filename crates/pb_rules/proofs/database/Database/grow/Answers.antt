@@ -21,8 +21,8 @@ pub invariant_of-self-in_err-push : goal.invariant_of-self-in_err-push
 invariant_of-self-in_err-push c =
     let old = c.self.inside.slots.items in
     let listed = indexed-kept c.self.inside.vars old c.self.inside.named.items c.enter.new.lists.items c.enter.ensures.kept c.self.invariant.indexed in
-    subst (λ (ss : List Slot). IsKept c.self.inside.original c.self.inside.vars ss c.self.inside.entered c.self.inside.engine c.self.inside.idle c.enter.new.lists.items) (sym c.in_err-push.ensures.err)
-    (kept-listed c.self.inside.original c.self.inside.vars c.self.inside.entered old c.self.inside.engine c.self.inside.idle c.self.inside.named.items c.enter.new.lists.items c.self.invariant listed)
+    subst (λ (ss : List Slot). IsKept c.self.inside.original c.self.inside.vars ss c.self.inside.entered c.self.inside.engine c.self.inside.idle c.self.inside.rounds c.enter.new.lists.items) (sym c.in_err-push.ensures.err)
+    (kept-listed c.self.inside.original c.self.inside.vars c.self.inside.entered old c.self.inside.engine c.self.inside.idle c.self.inside.rounds c.self.inside.named.items c.enter.new.lists.items c.self.invariant listed)
 
 pub invariant_of-self-2 : goal.invariant_of-self-2
 invariant_of-self-2 c =
@@ -37,6 +37,7 @@ invariant_of-self-2 c =
       few = omega (arith, c.self.invariant.few, longer);
       mirrored = front-pushed vars c.self.inside.entered old new (whole c.args.constraint 0 ∷ []) c.self.inside.engine c.self.invariant.few put c.self.invariant.mirrored;
       is_idle = c.self.invariant.is_idle;
+      beside = c.self.invariant.beside;
       indexed =
           let kept = indexed-kept vars old c.self.inside.named.items c.enter.new.lists.items c.enter.ensures.kept c.self.invariant.indexed in
           let added = subst (λ (ts : List Weighted). All (λ (t : Weighted). Contains (ids_at c.enter.new.lists.items t.lit.var) (c.len.result + 1)) ts) c.terms.ensures.weights (OnTrue_at c.if-not-enter.false c.enter.ensures.added) in

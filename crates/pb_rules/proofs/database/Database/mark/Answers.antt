@@ -12,6 +12,7 @@ invariant_of-self c = record {
   few = omega (arith, c.self.invariant.few, ap length c.mark.ensures, length-marked c.self.inside.slots.items c.args.id);
   mirrored = front-marked c.self.inside.vars c.self.inside.entered c.args.id c.self.inside.slots.items c.mark.new.slots.items c.self.inside.engine c.mark.ensures c.self.invariant.mirrored;
   is_idle = c.self.invariant.is_idle;
+  beside = c.self.invariant.beside;
   indexed = indexed-marked c.self.inside.vars c.args.id c.self.inside.slots.items c.mark.new.slots.items c.self.inside.named.items c.mark.ensures c.self.invariant.indexed;
 }
 

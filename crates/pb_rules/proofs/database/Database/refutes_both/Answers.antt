@@ -12,7 +12,7 @@ enter_rest-requires-clause-within c =
 
 pub invariant_of-self : goal.invariant_of-self
 invariant_of-self c =
-    kept-same c.self.inside.original c.self.inside.vars c.self.inside.entered c.enter_rest.new.entered c.self.inside.slots.items c.enter_rest.new.slots.items c.self.inside.engine c.enter_rest.new.engine c.self.inside.idle c.self.inside.named.items
+    kept-same c.self.inside.original c.self.inside.vars c.self.inside.entered c.enter_rest.new.entered c.self.inside.slots.items c.enter_rest.new.slots.items c.self.inside.engine c.enter_rest.new.engine c.self.inside.idle c.self.inside.rounds c.self.inside.named.items
     c.self.invariant c.enter_rest.ensures.same c.enter_rest.ensures.few c.enter_rest.ensures.mirrored
 
 pub returns-then-not-enter_rest-clause-same : goal.returns-then-not-enter_rest-clause-same
@@ -21,9 +21,9 @@ returns-then-not-enter_rest-clause-same c = c.enter_rest.ensures.same c.self.ins
 pub invariant_of-self-2 : goal.invariant_of-self-2
 invariant_of-self-2 c =
     let entered =
-    kept-same c.self.inside.original c.self.inside.vars c.self.inside.entered c.enter_rest.new.entered c.self.inside.slots.items c.enter_rest.new.slots.items c.self.inside.engine c.enter_rest.new.engine c.self.inside.idle c.self.inside.named.items
+    kept-same c.self.inside.original c.self.inside.vars c.self.inside.entered c.enter_rest.new.entered c.self.inside.slots.items c.enter_rest.new.slots.items c.self.inside.engine c.enter_rest.new.engine c.self.inside.idle c.self.inside.rounds c.self.inside.named.items
     c.self.invariant c.enter_rest.ensures.same c.enter_rest.ensures.few c.enter_rest.ensures.mirrored in
-    kept-again c.self.inside.original c.self.inside.vars c.enter_rest.new.entered c.enter_rest.new.slots.items c.enter_rest.new.engine c.is_refuted_with_both.new.engine c.self.inside.idle c.self.inside.named.items entered c.is_refuted_with_both.ensures.kept
+    kept-again c.self.inside.original c.self.inside.vars c.enter_rest.new.entered c.enter_rest.new.slots.items c.enter_rest.new.engine c.is_refuted_with_both.new.engine c.self.inside.idle c.self.inside.rounds c.self.inside.named.items entered c.is_refuted_with_both.ensures.kept
 
 pub returns-clause-same : goal.returns-clause-same
 returns-clause-same c = c.enter_rest.ensures.same c.self.inside.original c.self.inside.vars ∙ c.self.view_is
@@ -31,8 +31,8 @@ returns-clause-same c = c.enter_rest.ensures.same c.self.inside.original c.self.
 pub returns-clause-answer : goal.returns-clause-answer
 returns-clause-answer c =
     let entered =
-    kept-same c.self.inside.original c.self.inside.vars c.self.inside.entered c.enter_rest.new.entered c.self.inside.slots.items c.enter_rest.new.slots.items c.self.inside.engine c.enter_rest.new.engine c.self.inside.idle c.self.inside.named.items
+    kept-same c.self.inside.original c.self.inside.vars c.self.inside.entered c.enter_rest.new.entered c.self.inside.slots.items c.enter_rest.new.slots.items c.self.inside.engine c.enter_rest.new.engine c.self.inside.idle c.self.inside.rounds c.self.inside.named.items
     c.self.invariant c.enter_rest.ensures.same c.enter_rest.ensures.few c.enter_rest.ensures.mirrored in
-    let whole = kept-whole c.self.inside.original c.self.inside.vars c.enter_rest.new.entered c.enter_rest.new.slots.items c.enter_rest.new.engine c.self.inside.idle c.self.inside.named.items entered (OnTrue_at c.if-not-enter_rest.false c.enter_rest.ensures.all) in
+    let whole = kept-whole c.self.inside.original c.self.inside.vars c.enter_rest.new.entered c.enter_rest.new.slots.items c.enter_rest.new.engine c.self.inside.idle c.self.inside.rounds c.self.inside.named.items entered (OnTrue_at c.if-not-enter_rest.false c.enter_rest.ensures.all) in
     tells_live c.self.inside.original c.self.inside.vars c.enter_rest.new.slots.items c.enter_rest.new.engine c.args.self.now (c.args.first.now ∷ c.args.second.now ∷ []) c.is_refuted_with_both.result
     whole (c.enter_rest.ensures.same c.self.inside.original c.self.inside.vars ∙ c.self.view_is) c.is_refuted_with_both.ensures.answer

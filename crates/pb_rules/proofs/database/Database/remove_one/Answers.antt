@@ -20,6 +20,7 @@ invariant_of-self c =
       few = omega (arith, c.self.invariant.few, ap length c.take-gone.ensures.after, length-slots_without old c.args.id);
       mirrored = c.leave.ensures c.self.inside.vars old new c.take-gone.ensures.after at c.self.invariant.mirrored;
       is_idle = c.self.invariant.is_idle;
+      beside = c.self.invariant.beside;
       indexed = indexed-lost c.self.inside.vars c.args.id old new c.self.inside.named.items c.leave-left.new.lists.items c.take-gone.ensures.after c.leave-left.ensures c.self.invariant.indexed;
     }
 
@@ -34,6 +35,7 @@ invariant_of-self-in-None c =
       few = omega (arith, c.self.invariant.few, ap length c.take-gone.ensures.after, length-slots_without old c.args.id);
       mirrored = front-without_none c.self.inside.vars c.self.inside.entered c.args.id old new c.self.inside.engine c.take-gone.ensures.after at c.self.invariant.mirrored;
       is_idle = c.self.invariant.is_idle;
+      beside = c.self.invariant.beside;
       indexed = indexed-without c.self.inside.vars c.args.id old new c.self.inside.named.items c.take-gone.ensures.after c.self.invariant.indexed;
     }
 
