@@ -1,8 +1,9 @@
 // Derivations that are checked beside a CNF, over a desk in memory.
 ghost use Rattle.std.specs.Prelude.{IfSome};
+ghost use Rattle.pb_base.specs.Problems.{IsWithinLimits};
 ghost use Rattle.pb_desk.specs.Desk.{IsClosed};
 
-use pb_base::{Bytes, Ids, Seq, Text};
+use pb_base::{Bytes, Ids, Problem, Seq, Text};
 use pb_check::{CheckFault, Verdict, check};
 use pb_desk::{Desk, MemoryDesk, Named};
 use pb_opb::read_opb;
@@ -45,18 +46,26 @@ fn fault_text(alloc: Global, fault: CheckFault) -> Option<String> {
     }
 }
 
-// What is answered of the two files beside a problem.
+// What is answered of the two files beside a problem that was read.
+fn judged<D: Desk>(alloc: Global, problem: &Problem, desk: &mut D) -> Option<String>
+    requires closed { IsClosed (D.state desk.old) }
+    requires within { IsWithinLimits problem.now }
+{
+    if desk.open(0, "cnf").is_err() || desk.open(1, "proof").is_err() {
+        return fault_text(alloc, CheckFault::ReadFault);
+    }
+    match check(alloc, problem, desk, 0, 1) {
+        Ok(verdict) => verdict_text(alloc, verdict),
+        Err(fault) => fault_text(alloc, fault),
+    }
+}
+
+// What is answered of the two files beside the problem of a text.
 fn answer<D: Desk>(alloc: Global, opb: &str, desk: &mut D) -> Option<String>
     requires { IsClosed (D.state desk.old) }
 {
     let problem = read_opb(alloc, opb.as_bytes()).ok()?;
-    if desk.open(0, "cnf").is_err() || desk.open(1, "proof").is_err() {
-        return fault_text(alloc, CheckFault::ReadFault);
-    }
-    match check(alloc, &problem, desk, 0, 1) {
-        Ok(verdict) => verdict_text(alloc, verdict),
-        Err(fault) => fault_text(alloc, fault),
-    }
+    judged(alloc, &problem, desk)
 }
 
 fn checked(alloc: Global, opb: &str, cnf: &str, proof: &str) -> Option<String> {

@@ -1,7 +1,7 @@
 // Steps that are applied one by one, by hand from the rules.
 ghost use Rattle.std.specs.Prelude.{◌≡◌};
 ghost use Rattle.pb_base.specs.Problems.{IsWithinLimits};
-ghost use Rattle.pb_norm.specs.Halves.{loaded_of};
+ghost use Rattle.pb_norm.specs.Products.{loaded_of};
 ghost use Rattle.pb_steps.specs.Steps.{IsRule, IsSpelled};
 
 use pb_base::{Clause, Problem};

@@ -104,6 +104,47 @@ fn solutions(rt: HostRuntime) -> Result<(), Fail> {
 }
 
 #[test]
+fn products(rt: HostRuntime) -> Result<(), Fail> {
+    let cases = [
+        (
+            "+1 x1 x2 >= 1 ;",
+            "s SATISFIABLE\nv 1 2 0\n",
+            "s SATISFIABLE\nv x1 x2\n",
+        ),
+        (
+            "+1 x1 x2 >= 1 ;",
+            "s SATISFIABLE\nv 1 2 -3 0\n",
+            "s SATISFIABLE\nv x1 x2\n",
+        ),
+        (
+            "+1 x1 x2 >= 1 ;",
+            "s SATISFIABLE\nv 1 -2 3 0\n",
+            "violates 1",
+        ),
+        (
+            "min: +5 x1 ~b ; +1 x1 >= 1 ; +2 b x1 -1 x1 ~b <= 1 ;",
+            "s SATISFIABLE\nv 1 0\n",
+            "o 5\ns SATISFIABLE\nv x1 -b\n",
+        ),
+        (
+            "min: +5 x1 ~b ; +1 x1 >= 1 ; +2 b x1 -1 x1 ~b <= 1 ;",
+            "s SATISFIABLE\nv 1 2 0\n",
+            "violates 2",
+        ),
+        (
+            "+1 x1 ~x1 >= 0 ; -1 x1 x1 x2 x1 >= 0 ;",
+            "s SATISFIABLE\nv 1 2 0\n",
+            "violates 2",
+        ),
+    ];
+    for (opb, text, expected) in cases {
+        let found = answer(rt.alloc(), opb, text);
+        assert_eq!(rt; found.as_deref(), Some(expected), "at {text}");
+    }
+    Ok(())
+}
+
+#[test]
 fn no_solutions(rt: HostRuntime) -> Result<(), Fail> {
     let cases = [
         (ONE_OF_TWO, "s SATISFIABLE\nv 1 2 0\n", "violates 1"),

@@ -23,7 +23,8 @@ fn first_faults(rt: HostRuntime) -> Result<(), Fail> {
         ("+1 x1 >= 1", "1:11: ;"),
         ("max: +1 x1 ;", "1:1: min:, a statement or the end"),
         ("x1 >= 1 ;", "1:1: min:, a statement or the end"),
-        ("+1 x1 x2 >= 1 ;", "1:7: a coefficient or a relation"),
+        ("+1 x1 x0 >= 1 ;", "1:7: a coefficient or a relation"),
+        ("min: x1 ;", "1:6: a coefficient or ;"),
         ("+1 x0 >= 1 ;", "1:4: a literal"),
         ("+1 x1 > 1 ;", "1:7: a coefficient or a relation"),
         ("+1 x1 >= 1 ; min: ;", "1:14: a statement or the end"),
@@ -118,6 +119,49 @@ fn free_names(rt: HostRuntime) -> Result<(), Fail> {
     Ok(())
 }
 
+// The literals of each product, and those of the terms.
+fn products(alloc: Global, text: &[u8]) -> Option<String> {
+    let problem = read_opb(alloc, text).ok()?;
+    let mut shown = String::new(alloc);
+    for product in problem.products.as_slice() {
+        for lit in product.as_slice() {
+            let sign = if lit.positive { "" } else { "-" };
+            shown
+                .push_str(&format!(in alloc; "{sign}{} ", lit.index()).ok()?)
+                .ok()?;
+        }
+        shown.push_str("; ").ok()?;
+    }
+    for statement in problem.statements.as_slice() {
+        for term in statement.terms.as_slice() {
+            let sign = if term.lit.positive { "" } else { "-" };
+            shown
+                .push_str(&format!(in alloc; "{sign}{}:{} ", term.lit.index(), term.coef).ok()?)
+                .ok()?;
+        }
+    }
+    Some(shown)
+}
+
+#[test]
+fn product_terms(rt: HostRuntime) -> Result<(), Fail> {
+    let cases = [
+        ("+1 x1 x2 >= 1 ;", "1 2 ; 3:1 "),
+        ("+2 x1 ~x2 +1 x2 ~x2 +1 x1 x1 >= 3 ;", "1 -2 ; 3:2 1:1 "),
+        ("+1 x2 x1 +1 x1 x02 x1 >= 1 ;", "1 2 ; 3:1 3:1 "),
+        (
+            "min: +1 x2 x3 ;\n+1 x1 x2 +1 x3 x2 >= 1 ;",
+            "2 3 ; 1 2 ; 5:1 4:1 ",
+        ),
+        ("* #variable= 7\n+1 b x1 +1 ~b >= 1 ;", "1 8 ; 9:1 -8:1 "),
+    ];
+    for (text, expected) in cases {
+        let found = products(rt.alloc(), text.as_bytes());
+        assert_eq!(rt; found.as_deref(), Some(expected), "at {text}");
+    }
+    Ok(())
+}
+
 #[test]
 fn long_names(rt: HostRuntime) -> Result<(), Fail> {
     let mut text = Vec::new(rt.alloc());
@@ -142,5 +186,17 @@ fn long_sums(rt: HostRuntime) -> Result<(), Fail> {
     }
     let found = read(rt.alloc(), text.as_slice());
     assert_eq!(rt; found.as_deref(), Some("1:5242881: limit terms"));
+    Ok(())
+}
+
+#[test]
+fn long_products(rt: HostRuntime) -> Result<(), Fail> {
+    let mut text = Vec::new(rt.alloc());
+    text.push(b'1')?;
+    for _ in 0..1_048_577 {
+        text.extend_from_slice(b" x1")?;
+    }
+    let found = read(rt.alloc(), text.as_slice());
+    assert_eq!(rt; found.as_deref(), Some("1:3145731: limit terms"));
     Ok(())
 }

@@ -52,6 +52,12 @@ fn values_that_are_a_solution(rt: HostRuntime) -> Result<(), Fail> {
             "s SATISFIABLE\nv 2 3 0\n",
             "s SATISFIABLE\nv -x1 x2 rain -sun\n",
         ),
+        // A product is what its literals make it, whatever the model says of its variable.
+        (
+            "min: +2 x1 x2 +1 x2 x3 ;\n+1 x1 x2 >= 1 ;\n",
+            "s SATISFIABLE\nv 1 2 -3 -4 5 0\n",
+            "o 2\ns SATISFIABLE\nv x1 x2 -x3\n",
+        ),
     ];
     for &(opb, printed, line) in &cases {
         let found = decoded(rt.alloc(), opb, printed);
@@ -79,6 +85,8 @@ fn values_that_are_none(rt: HostRuntime) -> Result<(), Fail> {
             "s SATISFIABLE\nv 1 0\n",
             "8 pbcnf: statement 2 is violated",
         ),
+        // The product is false, though the model lists its variable.
+        ("+1 x1 x2 >= 1 ;\n", "s SATISFIABLE\nv 1 -2 3 0\n", first),
     ];
     for &(opb, printed, line) in &cases {
         let found = decoded(rt.alloc(), opb, printed);

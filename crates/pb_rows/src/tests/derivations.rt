@@ -75,6 +75,10 @@ fn what_is_made_is_accepted(rt: HostRuntime) -> Result<(), Fail> {
         ("", "+5 ~x1 +4 ~x2 +3 ~x3 +3 ~x4 >= 7 ;\n"),
         // Free names; in derivations all variables go by numbers.
         ("", "+4 rain +3 ~x1 +2 sun >= 4 ;\n"),
+        // Products, whose clauses come first.
+        ("", "+1 x1 x2 >= 1 ;\n"),
+        ("", "+2 x1 ~x2 +1 x2 ~x2 +1 x1 x1 >= 3 ;\n"),
+        (" --general adder", "+4 x1 ~x2 +3 x2 x3 x1 +2 x3 >= 4 ;\n"),
         // Several constraints, of which each is derived under its own id.
         (
             " --card totalizer --general tree",

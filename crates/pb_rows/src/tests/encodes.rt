@@ -152,6 +152,39 @@ nothing 0 empty 0 clause 0 pairwise 1 ladder 0 product 0 counter 0 totalizer 0 d
     Ok(())
 }
 
+// A product of literals is a variable behind the others, which its own clauses come first to tie to them.
+#[test]
+fn products(rt: HostRuntime) -> Result<(), Fail> {
+    let three = "nothing 1 empty 0 clause 3";
+    let cases = [
+        (
+            "+1 x1 x2 >= 1 ;\n",
+            "p cnf 3 4\n1 -3 0\n2 -3 0\n-1 -2 3 0\n3 0\n",
+            "variables 3 original 2 fresh 0 clauses 4 products 1",
+            three,
+        ),
+        // Opposite literals make nothing, and one that is repeated counts once.
+        (
+            "+2 x1 ~x2 +1 x2 ~x2 +1 x1 x1 >= 3 ;\n",
+            "p cnf 3 5\n1 -3 0\n-2 -3 0\n-1 2 3 0\n1 0\n3 0\n",
+            "variables 3 original 2 fresh 0 clauses 5 products 1",
+            three,
+        ),
+        // Products are sets, in the order in which the text has them, the objective too.
+        (
+            "min: +1 x3 x2 ;\n+1 x1 x2 +1 x2 x3 x2 >= 1 ;\n",
+            "p cnf 5 7\n2 -4 0\n3 -4 0\n-2 -3 4 0\n1 -5 0\n2 -5 0\n-1 -2 5 0\n4 5 0\n",
+            "variables 5 original 3 fresh 0 clauses 7 products 2",
+            "nothing 0 empty 0 clause 7",
+        ),
+    ];
+    for &(text, cnf, sizes, treatments) in &cases {
+        let is_encoded = is_encoded(rt.alloc(), text, cnf, sizes, treatments);
+        assert!(rt; is_encoded, "at {text}");
+    }
+    Ok(())
+}
+
 // Two fresh variables are the last that there may be.
 #[test]
 fn the_greatest_variable(rt: HostRuntime) -> Result<(), Fail> {

@@ -11,7 +11,7 @@ fn texts_out_of_the_grammar(rt: HostRuntime) -> Result<(), Fail> {
         ("+1 x1 >= 1", "1 pbcnf: OPB 1:11: expected ;"),
         ("max: +1 x1 ;\n", start),
         ("x1 >= 1 ;\n", start),
-        ("+1 x1 x2 >= 1 ;\n", relation),
+        ("+1 x1 2x >= 1 ;\n", relation),
         ("+1 x0 >= 1 ;\n", literal),
         ("+1 x1 > 1 ;\n", relation),
         ("+1 x1 >= 1 ; min: ;\n", next),
