@@ -1,0 +1,75 @@
+//! A bound on the objective of a problem.
+ghost use Rattle.std.specs.Prelude.{◌≡◌, ◌≤◌, ◌<◌, ◌^◌, IfOk, IsErrOf, OnOk, length};
+ghost use Rattle.pb_base.specs.Problems.{magnitude, objective_terms, IsWithinLimits};
+ghost use Rattle.pb_opb.specs.Bounded.{bound_weight, bounded, BoundKeepsSmaller};
+ghost use Rattle.pb_opb.specs.declared.bound.BoundFault.TheVariants as fault;
+
+use crate::stage::WEIGHT;
+use pb_base::{Problem, Raw, Relation, Term, Terms};
+use std::alloc::{AllocError, Global};
+
+/// Why a problem gets no bound on its objective.
+#[derive(Clone, Copy, Debug, PartialEq, Eq)]
+pub enum BoundFault {
+    /// The absolute values of the bound and of the objective's coefficients add up to 2^100 or more.
+    Weight,
+    /// Memory was refused.
+    NoMemory,
+}
+
+impl From<AllocError> for BoundFault {
+    ghost from_gives = { λ _ f. f ≡ fault.NoMemory };
+
+    fn from(_error: AllocError) -> BoundFault {
+        BoundFault::NoMemory
+    }
+}
+
+// The terms of the objective, if there is one.
+fn objective_of(problem: &Problem) -> &[Term]
+    ensures { result.now ≡ objective_terms problem.now }
+{
+    match &problem.objective {
+        Some(terms) => terms.as_slice(),
+        None => &[],
+    }
+}
+
+// The absolute values of the coefficients, added up.
+fn magnitude_of(terms: &[Term]) -> u128
+    requires { magnitude terms.now < 2 ^ 128 }
+    ensures { result ≡ magnitude terms.now }
+{
+    terms.iter().map(|term| term.weight()).sum()
+}
+
+/// The problem with one more statement behind the others: that its objective is at most the bound. A problem without an
+/// objective has the empty sum.
+pub fn bounded(alloc: Global, problem: Problem, bound: i128) -> Result<Problem, BoundFault>
+    requires within { IsWithinLimits problem }
+    requires room { length problem.statements ≤ 2 ^ 24 }
+
+    ensures ok { IfOk result (λ p. p ≡ bounded problem bound) }
+    ensures within { IfOk result IsWithinLimits }
+    // A sum too heavy is told, and no other.
+    ensures light { OnOk result (bound_weight problem bound < 2 ^ 100) }
+    ensures heavy { IsErrOf result fault.Weight → 2 ^ 100 ≤ bound_weight problem bound }
+{
+    let mut problem = problem;
+    let terms = objective_of(&problem);
+    if magnitude_of(terms) + bound.unsigned_abs() >= WEIGHT {
+        return Err(BoundFault::Weight);
+    }
+    let terms = Terms::from_vec(Vec::from_slice(alloc, terms)?);
+    problem.statements.push(Raw {
+        terms,
+        relation: Relation::AtMost,
+        right: bound,
+    })?;
+    Ok(problem)
+}
+
+/// The law that a bound keeps those solutions under which the objective is at most the bound, and no others.
+pub fn bound_keeps_smaller()
+    ensures { BoundKeepsSmaller }
+{}
