@@ -8,9 +8,9 @@ use Rattle.pb_base.proofs.Pairs.{AllPairs-nil, AllPairs-head, AllPairs-tail}
 use Rattle.pb_norm.specs.Constraints.{Weighted, Constraint, AllPositive, weight}
 use Rattle.pb_norm.specs.BoundedSums.{BoundedSum, IsOverDistinct, vars_of}
 use Rattle.pb_steps.specs.Database.{Database}
-use Rattle.pb_derive.specs.Derivations.{as_constraint, IsReadyFor, Derives}
+use Rattle.pb_derive.specs.Derivations.{as_constraint, HasRoom, IsReadyFor, Derives}
 use Rattle.pb_derive.specs.Forms.{AreApartTerms}
-use Rattle.pb_derive.specs.Later.{Knows, IsLater}
+use Rattle.pb_derive.specs.Later.{Knows, IsLater, IsNumbered}
 use Rattle.pb_derive.specs.Meanings.{Meaning, forward_of, reverse_of}
 use Rattle.pb_derive.specs.Phases.{phases}
 use Rattle.pb_derive.specs.Reasons.{Reason, by_reason}
@@ -105,24 +105,39 @@ meant_known db id ms meant reached k m at =
 All-both : {X : Type 0} (P Q R : X → Type 0) (xs : List X) → ((x : X) → P x → Q x → R x) → All P xs → All Q xs → All R xs
 All-both P Q R xs both h k = λ i d within. both (get_or xs i d) (h i d within) (k i d within)
 
+-- what stood under an id still does
+pub stands_later : (P : ℕ → Type 0) (db end : Database) (id : ℕ) (c : Constraint) → IsNumbered db → IsLater P db end → Knows db id c → Knows end id c
+stands_later P db end id c numbered later stands = later_knows P db end id c later (known_below db id c numbered stands) stands
+
+-- from a database with room, meanings in a row and clauses that are justified wherever the meanings stand
+pub room_derives : (first fresh : ℕ) (db : Database) (ms : List Meaning) (rs : List Reason) → HasRoom first fresh db → AreInRow first ms → length ms ≡ fresh → All (IsReached first) ms
+    → All (λ r. All (λ l. l.var < first + fresh) r.clause) rs → All (IsWhole db.vars) rs
+    → ((end : Database) → IsLater (λ v. v < first + fresh) db end → MeaningsKnown (Knows end) db.next ms → All (IsJustified (Knows end)) rs)
+    → Derives db (phases db.next ms (map by_reason rs)) (reason_clauses rs) (first + fresh)
+room_derives first fresh db ms rs room row count fit names whole justified =
+    let P : ℕ → Type 0 = λ v. v < first + fresh in
+    let vars = room.vars in
+    let named_terms : All (λ (x : Meaning). All (λ (t : Weighted). P t.lit.var) x.sum) ms =
+    All-weaker (IsReached first) (λ (x : Meaning). All (λ (t : Weighted). P t.lit.var) x.sum)
+    (λ x h. All-weaker (λ (t : Weighted). t.lit.var < first) (λ (t : Weighted). P t.lit.var) (λ t k. let less : t.lit.var < first + fresh = omega arith in less) x.sum h.below) ms fit in
+    let are = row_meanings P db first ms row (All-weaker (IsReached first) (IsFitMeaning first) (reached_fits first) ms fit) room.original (omega (arith, vars, count))
+    (λ v low high. let less : v < first + fresh = omega (arith, high, count) in (less, room.unnamed v low less)) named_terms in
+    let reasoned : (end : Database) → IsLater P db end → AreMeant end db.next ms → All (IsReason (Knows end) end.vars) rs = λ end later meant.
+    let known = meant_known end db.next ms meant (All-weaker (IsReached first) (λ (x : Meaning). x.least ≤ weight x.sum) (λ x h. h.reached) ms fit) in
+    let still : All (IsWhole end.vars) rs = subst (λ (v : ℕ). All (IsWhole v) rs) (sym later.vars) whole in
+    All-both (IsWhole end.vars) (IsJustified (Knows end)) (IsReason (Knows end) end.vars) rs
+    (λ r w h. record { some = w.some; sources = h.0; found = h.1; follows = h.2; vars_known = w.vars_known }) still (justified end later known) in
+    let ran = reasoned_ran P db ms rs (meanings_ran P db ms room.numbered are) room.numbered names reasoned in
+    swept_derives db (phases db.next ms (map by_reason rs)) (reason_clauses rs) (first + fresh) (2 * length ms + length (map by_reason rs)) room.numbered ran.all
+
+pub room_of : (m : BoundedSum) (first fresh id : ℕ) (db : Database) → IsReadyFor m first fresh id db → HasRoom first fresh db
+room_of m first fresh id db ready = record { original = ready.original; vars = ready.vars; numbered = ready.numbered; unnamed = ready.unnamed }
+
 -- from a ready database, meanings in a row and clauses that they and the sum's constraint justify
 pub justified_derives : (m : BoundedSum) (first fresh id : ℕ) (db : Database) (ms : List Meaning) (rs : List Reason) → IsReadyFor m first fresh id db → AreInRow first ms → length ms ≡ fresh → All (IsReached first) ms
     → All (λ r. All (λ l. l.var < first + fresh) r.clause) rs → All (IsWhole db.vars) rs
     → ((K : ℕ → Constraint → Type 0) → MeaningsKnown K db.next ms → K id (as_constraint m) → All (IsJustified K) rs)
     → Derives db (phases db.next ms (map by_reason rs)) (reason_clauses rs) (first + fresh)
 justified_derives m first fresh id db ms rs ready row count fit names whole justified =
-    let P : ℕ → Type 0 = λ v. v < first + fresh in
-    let vars = ready.vars in
-    let named_terms : All (λ (x : Meaning). All (λ (t : Weighted). P t.lit.var) x.sum) ms =
-    All-weaker (IsReached first) (λ (x : Meaning). All (λ (t : Weighted). P t.lit.var) x.sum)
-    (λ x h. All-weaker (λ (t : Weighted). t.lit.var < first) (λ (t : Weighted). P t.lit.var) (λ t k. let less : t.lit.var < first + fresh = omega arith in less) x.sum h.below) ms fit in
-    let are = row_meanings P db first ms row (All-weaker (IsReached first) (IsFitMeaning first) (reached_fits first) ms fit) ready.original (omega (arith, vars, count))
-    (λ v low high. let less : v < first + fresh = omega (arith, high, count) in (less, ready.unnamed v low less)) named_terms in
-    let reasoned : (end : Database) → IsLater P db end → AreMeant end db.next ms → All (IsReason (Knows end) end.vars) rs = λ end later meant.
-    let known = meant_known end db.next ms meant (All-weaker (IsReached first) (λ (x : Meaning). x.least ≤ weight x.sum) (λ x h. h.reached) ms fit) in
-    let own = later_knows P db end id (as_constraint m) later (known_below db id (as_constraint m) ready.numbered ready.stands) ready.stands in
-    let still : All (IsWhole end.vars) rs = subst (λ (v : ℕ). All (IsWhole v) rs) (sym later.vars) whole in
-    All-both (IsWhole end.vars) (IsJustified (Knows end)) (IsReason (Knows end) end.vars) rs
-    (λ r w h. record { some = w.some; sources = h.0; found = h.1; follows = h.2; vars_known = w.vars_known }) still (justified (Knows end) known own) in
-    let ran = reasoned_ran P db ms rs (meanings_ran P db ms ready.numbered are) ready.numbered names reasoned in
-    swept_derives db (phases db.next ms (map by_reason rs)) (reason_clauses rs) (first + fresh) (2 * length ms + length (map by_reason rs)) ready.numbered ran.all
+    room_derives first fresh db ms rs (room_of m first fresh id db ready) row count fit names whole
+    (λ end later known. justified (Knows end) known (stands_later (λ v. v < first + fresh) db end id (as_constraint m) ready.numbered later ready.stands))

@@ -1,5 +1,5 @@
 -- Terms in normal form are told by their values.
-use Rattle.std.proofs.Common.{◌≡◌, ◌+◌, ◌-◌, ◌==◌, ℕ, Bool, true, false, not, cond, List, [], ◌∷◌, arith, refl, ap, sym, ◌∙◌, pos, ◌+ℤ◌, neg_ℤ, inl, inr, eq-eqb}
+use Rattle.std.proofs.Common.{◌≡◌, ◌+◌, ◌==◌, ℕ, Bool, true, false, not, cond, List, [], ◌∷◌, arith, refl, ap, sym, ◌∙◌, pos, ◌+ℤ◌, neg_ℤ, inl, inr, eq-eqb}
 use Rattle.std.proofs.lemmas.Int.{ints}
 use Rattle.std.proofs.lemmas.Bool.{cases_eq, ne_eqb}
 use Rattle.pb_base.specs.Literals.{Assignment}

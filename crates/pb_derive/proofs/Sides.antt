@@ -133,53 +133,60 @@ side_leaf clause t u le among = record {
     not_false true h = refl
     not_false false h = sym h
 
--- a variable that means it, which is true where the clause, which has its negation, is false
-pub side_fresh : (clause : List Lit) (m : Meaning) → m.least ≤ weight m.sum → is_among clause (negated (positive_of m.var)) ≡ true → Side clause m.sum m.least (forward_of m ∷ []) []
-side_fresh clause m le among =
-    let x = negated (positive_of m.var) in
-    let head : Weighted = record { coef = m.least; lit = x } in
+-- a literal that stands with a number before a sum which is to reach it, where the literal is false
+abbrev pub headed : Lit → ℕ → List Weighted → Constraint
+headed x k ts = record { terms = record { coef = k; lit = x } ∷ ts; degree = k }
+
+-- where its literal, which the clause has, is false, the sum reaches the number
+pub side_headed : (clause : List Lit) (x : Lit) (k : ℕ) (ts : List Weighted) → k ≤ weight ts → is_among clause x ≡ true → Side clause ts k (headed x k ts ∷ []) []
+side_headed clause x k ts le among =
+    let head : Weighted = record { coef = k; lit = x } in
+    let c = headed x k ts in
     record {
-      within = λ l. elim (cases_Bool (is_same x l)) as (λ _. is_among clause l ≡ true ⊎ (Contains [] l.var ⊎ (coef_in (forward_of m ∷ []) l + coef_of m.sum (negated l) ≤ coef_in (forward_of m ∷ []) (negated l) + coef_of m.sum l))) [
-        | inl same ↦ inl (subst (λ (k : Lit). is_among clause k ≡ true) (same_lit x l same) among)
+      within = λ l. elim (cases_Bool (is_same x l)) as (λ _. is_among clause l ≡ true ⊎ (Contains [] l.var ⊎ (coef_in (c ∷ []) l + coef_of ts (negated l) ≤ coef_in (c ∷ []) (negated l) + coef_of ts l))) [
+        | inl same ↦ inl (subst (λ (y : Lit). is_among clause y ≡ true) (same_lit x l same) among)
         | inr other ↦
-            let nothing : cond (is_same x l) m.least 0 ≡ 0 = cond-false (is_same x l) m.least 0 other in
-            inr (inr (omega (arith, coef_in-one l (forward_of m), coef_in-one (negated l) (forward_of m), coef_of-cons l head m.sum, coef_of-cons (negated l) head m.sum)))
+            let nothing : cond (is_same x l) k 0 ≡ 0 = cond-false (is_same x l) k 0 other in
+            inr (inr (omega (arith, coef_in-one l c, coef_in-one (negated l) c, coef_of-cons l head ts, coef_of-cons (negated l) head ts)))
       ];
       apart = none_apart clause;
       short = λ a h.
           let off : lit_value a x ≡ false = is_false a clause h x (from_among clause x among) in
-          let nothing : term_value a head ≡ 0 = cond-false (lit_value a x) m.least 0 off in
-          omega (arith, value_in-one a (forward_of m), degrees-one (forward_of m), value-cons a head m.sum);
+          let nothing : term_value a head ≡ 0 = cond-false (lit_value a x) k 0 off in
+          omega (arith, value_in-one a c, degrees-one c, value-cons a head ts);
       reachable = le;
-      light = omega (arith, weight_in-one (forward_of m), weight-cons head m.sum);
-      low = omega (arith, degrees-one (forward_of m));
+      light = omega (arith, weight_in-one c, weight-cons head ts);
+      low = omega (arith, degrees-one c);
     }
+
+-- a variable that means it, which is true where the clause, which has its negation, is false
+pub side_fresh : (clause : List Lit) (m : Meaning) → m.least ≤ weight m.sum → is_among clause (negated (positive_of m.var)) ≡ true → Side clause m.sum m.least (forward_of m ∷ []) []
+side_fresh clause m le among = side_headed clause (negated (positive_of m.var)) m.least m.sum le among
 
 -- ---- clauses
 
--- what a side leaves of a literal that is not in the clause, with more of both signs
--- two sides reach two numbers, so that a variable is true which means that both sums together reach at most the sum of these
-pub follows_pair : (clause : List Lit) (ts us : List Weighted) (u v : ℕ) (ss rs : List Constraint) (ws xs : List ℕ) (m : Meaning)
-    → Side clause ts u ss ws → Side clause us v rs xs → m.sum ≡ ts ++ us → m.least ≤ u + v → is_among clause (positive_of m.var) ≡ true → weight ts + weight us < 2 ^ 100
-    → (ids : List ℕ) → FollowsFrom (ss ++ (rs ++ reverse_of m ∷ [])) (reason clause ids (ws ++ xs))
-follows_pair clause ts us u v ss rs ws xs m left right sum le among light ids =
-    let o = positive_of m.var in
-    let top : Weighted = record { coef = spare m; lit = o } in
-    let last = reverse_of m in
+-- two sides, and a literal of the clause with a number before the opposite of both sums, which reach more than it leaves
+pub follows_headed : (clause : List Lit) (x : Lit) (k : ℕ) (ts us : List Weighted) (u v : ℕ) (ss rs : List Constraint) (ws xs : List ℕ)
+    → Side clause ts u ss ws → Side clause us v rs xs → weight ts + weight us < u + v + k → k ≤ weight ts + weight us + 1 → is_among clause x ≡ true → weight ts + weight us < 2 ^ 100
+    → (ids : List ℕ) → FollowsFrom (ss ++ (rs ++ headed x k (map opposite (ts ++ us)) ∷ [])) (reason clause ids (ws ++ xs))
+follows_headed clause x k ts us u v ss rs ws xs left right above most among light ids =
+    let head : Weighted = record { coef = k; lit = x } in
+    let both = ts ++ us in
+    let last = headed x k (map opposite both) in
     let all = ss ++ (rs ++ last ∷ []) in
-    let heavy : weight m.sum ≡ weight ts + weight us = ap weight sum ∙ weight-append ts us in
+    let heavy : weight both ≡ weight ts + weight us = weight-append ts us in
     let split : (l : Lit) → coef_in all l ≡ coef_in ss l + (coef_in rs l + coef_of last.terms l) = λ l. omega (arith, coef_in-append l ss (rs ++ last ∷ []), coef_in-append l rs (last ∷ []), coef_in-one l last) in
-    let own : (l : Lit) → coef_of last.terms l ≡ cond (is_same o l) (spare m) 0 + (coef_of ts (negated l) + coef_of us (negated l)) = λ l.
-    omega (arith, coef_of-cons l top (map opposite m.sum), coef_of-opposite m.sum l, ap (λ (ws : List Weighted). coef_of ws (negated l)) sum, coef_of-append ts us (negated l)) in
-    let back : (l : Lit) → coef_of last.terms (negated l) ≡ cond (is_same o (negated l)) (spare m) 0 + (coef_of ts l + coef_of us l) = λ l.
-    own (negated l) ∙ ap (λ (k : Lit). cond (is_same o (negated l)) (spare m) 0 + (coef_of ts k + coef_of us k)) (negated-negated l) in
+    let own : (l : Lit) → coef_of last.terms l ≡ cond (is_same x l) k 0 + (coef_of ts (negated l) + coef_of us (negated l)) = λ l.
+    omega (arith, coef_of-cons l head (map opposite both), coef_of-opposite both l, coef_of-append ts us (negated l)) in
+    let back : (l : Lit) → coef_of last.terms (negated l) ≡ cond (is_same x (negated l)) k 0 + (coef_of ts l + coef_of us l) = λ l.
+    own (negated l) ∙ ap (λ (y : Lit). cond (is_same x (negated l)) k 0 + (coef_of ts y + coef_of us y)) (negated-negated l) in
     record {
       within = λ l.
           let Goal : Type 0 = is_among clause l ≡ true ⊎ (Contains (ws ++ xs) l.var ⊎ (coef_in all l ≤ coef_in all (negated l))) in
-          elim (cases_Bool (is_same o l)) as (λ _. Goal) [
-            | inl same ↦ inl (subst (λ (k : Lit). is_among clause k ≡ true) (same_lit o l same) among)
+          elim (cases_Bool (is_same x l)) as (λ _. Goal) [
+            | inl same ↦ inl (subst (λ (y : Lit). is_among clause y ≡ true) (same_lit x l same) among)
             | inr other ↦
-                let nothing : cond (is_same o l) (spare m) 0 ≡ 0 = cond-false (is_same o l) (spare m) 0 other in
+                let nothing : cond (is_same x l) k 0 ≡ 0 = cond-false (is_same x l) k 0 other in
                 elim (left.within l) as (λ _. Goal) [
                   | inl here ↦ inl here
                   | inr more ↦ elim more as (λ _. Goal) [
@@ -196,26 +203,23 @@ follows_pair clause ts us u v ss rs ws xs m left right sum le among light ids =
           ];
       apart = λ l h gone. elim (Contains-append_cases ws xs l.var gone) [ inl first ↦ left.apart l h first | inr second ↦ right.apart l h second ];
       short = λ a h.
-          let off : lit_value a o ≡ false = is_false a clause h o (from_among clause o among) in
-          let nothing : term_value a top ≡ 0 = cond-false (lit_value a o) (spare m) 0 off in
+          let off : lit_value a x ≡ false = is_false a clause h x (from_among clause x among) in
+          let nothing : term_value a head ≡ 0 = cond-false (lit_value a x) k 0 off in
           let one = left.short a h in
           let two = right.short a h in
-          let values : value a m.sum ≡ value a ts + value a us = ap (value a) sum ∙ value-append a ts us in
           omega (
             arith,
             one,
             two,
             nothing,
-            values,
             heavy,
-            le,
-            left.reachable,
-            right.reachable,
+            above,
+            value-append a ts us,
             value_in-append a ss (rs ++ last ∷ []),
             value_in-append a rs (last ∷ []),
             value_in-one a last,
-            value-cons a top (map opposite m.sum),
-            value-opposite a m.sum,
+            value-cons a head (map opposite both),
+            value-opposite a both,
             degrees-append ss (rs ++ last ∷ []),
             degrees-append rs (last ∷ []),
             degrees-one last,
@@ -226,23 +230,35 @@ follows_pair clause ts us u v ss rs ws xs m left right sum le among light ids =
         right.light,
         heavy,
         light,
+        most,
         weight_in-append ss (rs ++ last ∷ []),
         weight_in-append rs (last ∷ []),
         weight_in-one last,
-        weight-cons top (map opposite m.sum),
-        weight-opposite m.sum,
+        weight-cons head (map opposite both),
+        weight-opposite both,
       );
       degree_fits = omega (
         arith,
         left.low,
         right.low,
-        heavy,
         light,
+        most,
         degrees-append ss (rs ++ last ∷ []),
         degrees-append rs (last ∷ []),
         degrees-one last,
       );
     }
+
+-- two sides reach two numbers, so that a variable is true which means that both sums together reach at most the sum of these
+pub follows_pair : (clause : List Lit) (ts us : List Weighted) (u v : ℕ) (ss rs : List Constraint) (ws xs : List ℕ) (m : Meaning)
+    → Side clause ts u ss ws → Side clause us v rs xs → m.sum ≡ ts ++ us → m.least ≤ u + v → is_among clause (positive_of m.var) ≡ true → weight ts + weight us < 2 ^ 100
+    → (ids : List ℕ) → FollowsFrom (ss ++ (rs ++ reverse_of m ∷ [])) (reason clause ids (ws ++ xs))
+follows_pair clause ts us u v ss rs ws xs m left right sum le among light ids =
+    let heavy : weight m.sum ≡ weight ts + weight us = ap weight sum ∙ weight-append ts us in
+    let some = left.reachable in
+    let more = right.reachable in
+    subst (λ (vs : List Weighted). FollowsFrom (ss ++ (rs ++ headed (positive_of m.var) (spare m) (map opposite vs) ∷ [])) (reason clause ids (ws ++ xs))) (sym sum)
+    (follows_headed clause (positive_of m.var) (spare m) ts us u v ss rs ws xs left right (omega arith) (omega arith) among light ids)
 
 -- a side that reaches more than the bound, so that the sum's own constraint is broken
 pub follows_root : (clause : List Lit) (ts : List Weighted) (bound u : ℕ) (ss : List Constraint) → Side clause ts u ss [] → bound < u → bound ≤ weight ts → weight ts < 2 ^ 100

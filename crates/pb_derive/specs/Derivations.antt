@@ -13,6 +13,19 @@ use Rattle.pb_derive.specs.Later.{IsUnnamed, IsNumbered, Knows, IsLater, IsUnmar
 abbrev pub as_constraint : BoundedSum → Constraint
 as_constraint m = record { terms = map opposite m.terms; degree = weight m.terms - m.bound }
 
+-- a database with room for fresh variables, which nothing names yet
+pub record HasRoom (first fresh : ℕ) (db : Database) : Type 0 where
+  pub original : db.original < first
+  pub vars : first + fresh ≤ db.vars + 1
+  pub numbered : IsNumbered db
+  pub unnamed : (v : ℕ) → first ≤ v → v < first + fresh → IsUnnamed v db
+
+-- one in which two sums stand besides: what is at least reached under the id `lower`, what is at most reached under `upper`
+pub record IsReadyForBoth (most least : BoundedSum) (first fresh lower upper : ℕ) (db : Database) : Type 0 where
+  pub room : HasRoom first fresh db
+  pub least_stands : Knows db lower (as_constraint least)
+  pub most_stands : Knows db upper (as_constraint most)
+
 -- a database in which a sum stands under an id, and fresh variables are new
 pub record IsReadyFor (m : BoundedSum) (first fresh id : ℕ) (db : Database) : Type 0 where
   pub original : db.original < first

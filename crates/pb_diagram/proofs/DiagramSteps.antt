@@ -14,10 +14,9 @@ use Rattle.pb_norm.specs.Constraints.{Weighted, weight, weighted, weights}
 use Rattle.pb_norm.specs.BoundedSums.{BoundedSum, sum_within}
 use Rattle.pb_base.proofs.Members.{Contains-nil}
 use Rattle.pb_norm.proofs.AdditionSizes.{weight-cons}
-use Rattle.pb_family.specs.ClauseText.{clauses_text}
 use Rattle.pb_base.specs.declared.fault.Failed.{Failed}
-use Rattle.pb_family.specs.Handing.{Hands}
-use Rattle.pb_family.specs.Sinks.{SinkState, Takes, FailsToTake}
+use Rattle.pb_family.specs.Handing.{FailsInClauses, Hands, TakesClauses}
+use Rattle.pb_family.specs.Sinks.{SinkState}
 use Rattle.pb_family.proofs.Emission.{Emitting, emitting_step, hands_fault}
 use Rattle.pb_diagram.specs.declared.interval.Interval.{Interval}
 use Rattle.pb_diagram.specs.Clauses.{head_level, level_clauses, node_clauses, node_count, inner_count}
@@ -193,14 +192,14 @@ coef_within terms i t coef left within is coef_is left_is =
 -- the clauses of the level are taken
 pub level_taken : {R : Type 0} {all : List (List Lit)} {old now : SinkState R} (ts : List Weighted) (ls : List (List Interval)) (i : ℕ) (t : Weighted) (whole : ℕ) (nodes next : List Interval) → Read ts ls i t whole nodes next → (start : ℕ) (last : List (List Lit)) (after : SinkState R)
     → Emitting all (node_clauses start (drop i ts) (drop i ls) ++ last) old now
-    → Takes (clauses_text (level_clauses t whole (start + length nodes) next start nodes)) now after
+    → TakesClauses (level_clauses t whole (start + length nodes) next start nodes) now after
     → Emitting all (node_clauses (start + length nodes) (drop (i + 1) ts) (drop (i + 1) ls) ++ last) old after
 level_taken {all = all} {old} {now} ts ls i t whole nodes next read start last after e taken =
     emitting_step (level_clauses t whole (start + length nodes) next start nodes) after (subst (λ (cs : List (List Lit)). Emitting all cs old now) (read_left ts ls i t whole nodes next read start last) e) taken
 
 pub level_fault : {R T : Type 0} {all : List (List Lit)} {old now : SinkState R} (r : Result T Failed) (f : Failed) → IsErrAnd r (λ e. e ≡ f) → (ts : List Weighted) (ls : List (List Interval)) (i : ℕ) (t : Weighted) (whole : ℕ) (nodes next : List Interval) → Read ts ls i t whole nodes next → (start : ℕ) (last : List (List Lit)) (after : SinkState R)
     → Emitting all (node_clauses start (drop i ts) (drop i ls) ++ last) old now
-    → FailsToTake (clauses_text (level_clauses t whole (start + length nodes) next start nodes)) now after
+    → FailsInClauses (level_clauses t whole (start + length nodes) next start nodes) now after
     → Hands all r old after
 level_fault {all = all} {old} {now} r f is ts ls i t whole nodes next read start last after e part =
     hands_fault r f (level_clauses t whole (start + length nodes) next start nodes) (node_clauses (start + length nodes) (drop (i + 1) ts) (drop (i + 1) ls) ++ last) after is

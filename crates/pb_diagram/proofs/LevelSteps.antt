@@ -10,9 +10,8 @@ use Rattle.pb_norm.specs.Constraints.{Weighted}
 use Rattle.pb_base.specs.Literals.{negated}
 use Rattle.pb_family.specs.Fresh.{positive_of}
 use Rattle.pb_family.proofs.Taking.{takes_nothing}
-use Rattle.pb_family.specs.ClauseText.{clauses_text}
-use Rattle.pb_family.specs.Handing.{Hands}
-use Rattle.pb_family.specs.Sinks.{SinkState, Takes, FailsToTake}
+use Rattle.pb_family.specs.Handing.{FailsInClauses, Hands, TakesClauses}
+use Rattle.pb_family.specs.Sinks.{SinkState}
 use Rattle.pb_family.proofs.Emission.{Emitting, emitting_from, emitting_step, emitting_ends, hands_fault}
 use Rattle.pb_diagram.specs.declared.interval.Interval.{Interval}
 use Rattle.pb_diagram.specs.Clauses.{node_at, false_clause, true_clause, level_clauses}
@@ -66,26 +65,26 @@ module _ (t : Weighted) (whole first : ℕ) (next : List Interval) (x : ℕ) (no
   at_node {all = all} {old} {now} p d within e = subst (λ (cs : List (List Lit)). Emitting all cs old now) (left_here p d within) e
 
   pub false_fault : {R T : Type 0} {all : List (List Lit)} {old now : SinkState R} (r : Result T Failed) (f : Failed) → IsErrAnd r (λ e. e ≡ f) → (p : ℕ) (d : Interval) (after : SinkState R) → p < length nodes → Emitting all (left p) old now
-      → FailsToTake (clauses_text (off p (get_or nodes p d))) now after → Hands all r old after
+      → FailsInClauses (off p (get_or nodes p d)) now after → Hands all r old after
   false_fault r f is p d after within e part = hands_fault r f (off p (get_or nodes p d)) (on p (get_or nodes p d) ∷ left (p + 1)) after is (at_node p d within e) part
 
   pub false_taken : {R : Type 0} {all : List (List Lit)} {old now : SinkState R} (p : ℕ) (d : Interval) (after : SinkState R) → p < length nodes → Emitting all (left p) old now
-      → Takes (clauses_text (off p (get_or nodes p d))) now after → Emitting all (on p (get_or nodes p d) ∷ left (p + 1)) old after
+      → TakesClauses (off p (get_or nodes p d)) now after → Emitting all (on p (get_or nodes p d) ∷ left (p + 1)) old after
   false_taken p d after within e taken = emitting_step (off p (get_or nodes p d)) after (at_node p d within e) taken
 
   pub true_fault : {R T : Type 0} {all : List (List Lit)} {old now : SinkState R} (r : Result T Failed) (f : Failed) → IsErrAnd r (λ e. e ≡ f) → (p : ℕ) (d : Interval) (mid after : SinkState R) → p < length nodes → Emitting all (left p) old now
-      → Takes (clauses_text (off p (get_or nodes p d))) now mid → FailsToTake (clauses_text (on p (get_or nodes p d) ∷ [])) mid after → Hands all r old after
+      → TakesClauses (off p (get_or nodes p d)) now mid → FailsInClauses (on p (get_or nodes p d) ∷ []) mid after → Hands all r old after
   true_fault r f is p d mid after within e taken part = hands_fault r f (on p (get_or nodes p d) ∷ []) (left (p + 1)) after is (false_taken p d mid within e taken) part
 
   pub node_taken : {R : Type 0} {all : List (List Lit)} {old now : SinkState R} (p : ℕ) (d : Interval) (mid after : SinkState R) → p < length nodes → Emitting all (left p) old now
-      → Takes (clauses_text (off p (get_or nodes p d))) now mid → Takes (clauses_text (on p (get_or nodes p d) ∷ [])) mid after → Emitting all (left (p + 1)) old after
+      → TakesClauses (off p (get_or nodes p d)) now mid → TakesClauses (on p (get_or nodes p d) ∷ []) mid after → Emitting all (left (p + 1)) old after
   node_taken p d mid after within e taken then = emitting_step (on p (get_or nodes p d) ∷ []) after (false_taken p d mid within e taken) then
 
-  pub level_ends : {R : Type 0} {all : List (List Lit)} {old now : SinkState R} (p : ℕ) → length nodes ≤ p → Emitting all (left p) old now → Takes (clauses_text all) old now
+  pub level_ends : {R : Type 0} {all : List (List Lit)} {old now : SinkState R} (p : ℕ) → length nodes ≤ p → Emitting all (left p) old now → TakesClauses all old now
   level_ends {all = all} {old} {now} p past e = emitting_ends (subst (λ (cs : List (List Lit)). Emitting all cs old now) (left_none p past) e)
 
 -- a node whose false child is the true end has no clause for it
-pub false_none : {R : Type 0} (whole first : ℕ) (next : List Interval) (x : ℕ) (g : Interval) (a : SinkState R) → whole ≤ g.low → Takes (clauses_text (false_clause whole first next x g)) a a
+pub false_none : {R : Type 0} (whole first : ℕ) (next : List Interval) (x : ℕ) (g : Interval) (a : SinkState R) → whole ≤ g.low → TakesClauses (false_clause whole first next x g) a a
 false_none whole first next x g a past =
     let clause : List Lit = negated (positive_of x) ∷ node_at first next g.low ∷ [] in
-    subst (λ (cs : List (List Lit)). Takes (clauses_text cs) a a) (sym (cond-true (leb whole g.low) [] (clause ∷ []) (le-leb whole g.low past))) (takes_nothing a)
+    subst (λ (cs : List (List Lit)). TakesClauses cs a a) (sym (cond-true (leb whole g.low) [] (clause ∷ []) (le-leb whole g.low past))) (takes_nothing a)

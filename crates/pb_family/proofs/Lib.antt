@@ -1,7 +1,6 @@
-pub mod Taking
-pub mod Emission
-pub mod Stopping
+pub mod Deciding
 pub mod Deriving
+pub mod Emission
 pub mod Extended
 pub mod Filters
 pub mod FlatPieces
@@ -16,5 +15,7 @@ pub mod Ranges
 pub mod SameSteps
 pub mod Sequence
 pub mod ShortClauses
+pub mod Stopping
+pub mod Taking
 pub mod TermSlices
 pub mod UnitSums

@@ -25,7 +25,7 @@ use Rattle.pb_totalizer.specs.declared.claims.Source.{Source}
 use Rattle.pb_totalizer.specs.declared.claims.Source.TheVariants.{Fresh}
 use Rattle.pb_totalizer.specs.laws.ByPairs.{partner_bounds}
 use Rattle.pb_totalizer.specs.laws.Sources.{output_meaning, ids_from, some_ids, weakened_at, pair_given, row_given, node_given, root_given, part_reasons, all_reasons}
-use Rattle.pb_totalizer.proofs.Partners.{partners_are}
+use Rattle.pb_totalizer.specs.laws.Partners.{partners_are}
 
 -- ---- meanings
 
@@ -90,7 +90,7 @@ module _ (bound : ℕ) (lefts rights : List Term) (id own : ℕ) (sl sr : Source
       let four = weakened_are rights j in
       λ k. named (one k ++ (two k ++ last k ∷ [])) (three k ++ four k)
 
-  node_are : (a b : ℕ) → a ≡ length (values (totalizer bound) (tree_of (weights lefts))) → b ≡ length (values (totalizer bound) (tree_of (weights rights)))
+  pub node_are : (a b : ℕ) → a ≡ length (values (totalizer bound) (tree_of (weights lefts))) → b ≡ length (values (totalizer bound) (tree_of (weights rights)))
       → node_given (bound + 1) a b sl lefts sr rights own
       ≡ map bare (map (pair_reason (totalizer bound) (tree_of (weights lefts)) (tree_of (weights rights)) 0 id)
       (totalizer_pairs (bound + 1) (values (totalizer bound) (tree_of (weights lefts))) (values (totalizer bound) (tree_of (weights rights)))))

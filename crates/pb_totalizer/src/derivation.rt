@@ -30,7 +30,7 @@ fn root_ids(alloc: Global, root: Source, number: u64, own: u64) -> Result<Vec<u6
 }
 
 /// That not so many leaves are true, by the sum's own constraint.
-fn take_root<T: StepSink>(
+pub fn take_root<T: StepSink>(
     alloc: Global,
     root: Source,
     number: u64,

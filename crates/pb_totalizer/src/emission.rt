@@ -69,7 +69,7 @@ fn emit_row<S: ClauseSink>(
 }
 
 /// Hands over a node's own clauses.
-fn emit_node<S: ClauseSink>(
+pub fn emit_node<S: ClauseSink>(
     left: &Outputs,
     right: &Outputs,
     own: &Outputs,

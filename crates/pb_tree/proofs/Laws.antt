@@ -1,7 +1,7 @@
 -- The laws of the clauses along the tree of a bounded sum.
 use Rattle.std.proofs.Common.{◌≡◌, ◌<◌, ◌≤◌, ◌+◌, ◌⊎◌, ℕ, Bool, true, false, cond, List, [], ◌∷◌, length, min, refl, sym, ap, ◌∙◌, subst, arith, inl, inr, length-append}
 use Rattle.std.specs.Prelude.{Contains, All, sum_by, map}
-use Rattle.std.proofs.lemmas.Bool.{cases_Bool, not_from_false, or_left}
+use Rattle.std.proofs.lemmas.Bool.{lt-leb, not_from_false, or_left}
 use Rattle.std.proofs.lemmas.List.Elements.{All-contains, Contains-append_left, Contains-append_right, Contains-append_cases}
 use Rattle.std.proofs.lemmas.List.Sums.{sum_by-cons}
 use Rattle.pb_base.specs.declared.literal.Lit.{Lit}
@@ -16,11 +16,12 @@ use Rattle.pb_base.proofs.Members.{Contains-nil, Contains-here, Contains-there, 
 use Rattle.pb_base.proofs.LiteralLemmas.{negated-negated, lit_value-negated}
 use Rattle.pb_family.specs.Families.{VarsBelow, NamesOnly}
 use Rattle.pb_family.proofs.Models.{sound_from_sums}
-use Rattle.pb_tree.specs.Tree.{Tree, tree_of, IsLeafOf, leaf_sum}
-use Rattle.pb_tree.specs.Scheme.{Scheme, values, fresh_of, output, clauses_of, clause_count_of, tree_clauses}
+use Rattle.pb_tree.specs.Tree.{Tree, node, tree_of, IsLeafOf, leaf_sum}
+use Rattle.pb_tree.specs.Scheme.{Scheme, values, fresh_of, output, own_of, own_count_of, clauses_of, clause_count_of, tree_clauses}
 use Rattle.pb_tree.proofs.Sums.{IsLawful}
 use Rattle.pb_tree.proofs.Pushing.{any, passing, reach_value, reach_output, push_leaf, reach_all, reach_all_with, reach_whole}
-use Rattle.pb_tree.proofs.Extending.{all_from_each, IsNamed, output_named, clause_named, clauses_counted, extension}
+use Rattle.pb_tree.proofs.ByMeaning.{lawful_by_meaning}
+use Rattle.pb_tree.proofs.Extending.{all_from_each, IsNamed, output_named, along_named, along_counted, extension}
 use Rattle.pb_tree.proofs.Splitting.{split_sum, leaf_listed, listed_leaf}
 
 -- the scheme is cut right above the bound, which the whole sum passes
@@ -31,7 +32,7 @@ pub record Suits (s : Scheme) (c : BoundedSum) : Type 0 where
   pub positive : (t : Weighted) → Contains c.terms t → 0 < t.coef
   pub passes : c.bound < sum_by (λ t. t.coef) c.terms
 
-sum_by-agree : (f g : Weighted → ℕ) (ts : List Weighted) → ((t : Weighted) → Contains ts t → f t ≡ g t) → sum_by f ts ≡ sum_by g ts
+pub sum_by-agree : (f g : Weighted → ℕ) (ts : List Weighted) → ((t : Weighted) → Contains ts t → f t ≡ g t) → sum_by f ts ≡ sum_by g ts
 sum_by-agree f g [] same = refl
 sum_by-agree f g (t ∷ ts) same =
     omega (arith, sum_by-cons f t ts, sum_by-cons g t ts, same t (Contains-here t ts), sum_by-agree f g ts (λ u h. same u (Contains-there t ts u h)))
@@ -121,8 +122,16 @@ tree_sound s W laws c suits first v holds =
 
 -- ---- extends, names and counts
 
-leaf_below : (first : ℕ) (ts : List Weighted) → VarsBelow first ts → (u : Weighted) → IsLeafOf (tree_of ts) u → u.lit.var < first
+pub leaf_below : (first : ℕ) (ts : List Weighted) → VarsBelow first ts → (u : Weighted) → IsLeafOf (tree_of ts) u → u.lit.var < first
 leaf_below first ts below u h = All-contains (λ t. t.lit.var < first) ts u below (leaf_listed ts u h)
+
+-- each adds something
+leaf_positive : (s : Scheme) (c : BoundedSum) → Suits s c → (u : Weighted) → IsLeafOf (tree_of c.terms) u → 1 ≤ s.weight u
+leaf_positive s c suits u h =
+    let inside = leaf_listed c.terms u h in
+    let some = suits.positive u inside in
+    let same = suits.weights u inside in
+    omega arith
 
 pub tree_extends : (s : Scheme) (W : ℕ → Type 0) → IsLawful s W → (c : BoundedSum) → Suits s c → (first : ℕ) → VarsBelow first c.terms → (v : ℕ → Bool) → StaysWithin v c
     → (w : ℕ → Bool) × AgreeBelow first v w × IsModel w (tree_clauses s (tree_of c.terms) first)
@@ -130,15 +139,12 @@ tree_extends s W laws c suits first below v holds =
     let t = tree_of c.terms in
     let cs = tree_clauses s t first in
     let top = output s t first s.cap in
-    let ext = extension s W laws v t first (leaf_below first c.terms below) in
+    let cut = suits.cut in
+    let ext = extension s W laws (omega arith) (own_of s) (lawful_by_meaning s W laws) v t first (leaf_below first c.terms below) (leaf_positive s c suits) in
     let w = ext.now in
     let sum = passing_sum s c suits (lit_value v) in
-    let cut = suits.cut in
-    let unset : lit_value w (negated top) ≡ true =
-    elim (cases_Bool (lit_value w top)) as (λ _. lit_value w (negated top) ≡ true) [
-      | inl on ↦ absurd (let le = ext.means s.cap (cap_value s W laws c suits) on in omega arith)
-      | inr off ↦ rw (lit_value-negated w top) (not_from_false (lit_value w top) off)
-    ] in (
+    let off = ext.means s.cap (cap_value s W laws c suits) ∙ lt-leb s.cap (leaf_sum (passing s (lit_value v)) t) (omega arith) in
+    let unset : lit_value w (negated top) ≡ true = rw (lit_value-negated w top) (not_from_false (lit_value w top) off) in (
       w,
       ext.agrees,
       all_from_each (λ d. clause_value w d ≡ true) cs (λ d h.
@@ -151,7 +157,7 @@ tree_extends s W laws c suits first below v holds =
           ]),
     )
 
-named_of : (s : Scheme) (ts : List Weighted) (first n : ℕ) → IsNamed s (tree_of ts) first n → Contains (map (λ t. t.lit.var) ts) n ⊎ ((first ≤ n) × (n < first + fresh_of s (tree_of ts)))
+pub named_of : (s : Scheme) (ts : List Weighted) (first n : ℕ) → IsNamed s (tree_of ts) first n → Contains (map (λ t. t.lit.var) ts) n ⊎ ((first ≤ n) × (n < first + fresh_of s (tree_of ts)))
 named_of s ts first n named =
     elim named as (λ _. Contains (map (λ t. t.lit.var) ts) n ⊎ ((first ≤ n) × (n < first + fresh_of s (tree_of ts)))) [
       | inl own ↦ inl (subst (λ (m : ℕ). Contains (map (λ (t : Weighted). t.lit.var) ts) m) own.2 (Contains-map (λ (t : Weighted). t.lit.var) ts own.0 (leaf_listed ts own.0 own.1)))
@@ -166,7 +172,7 @@ tree_names s W laws c suits first =
     let Named : Lit → Type 0 = λ l. Contains (map (λ t. t.lit.var) ts) l.var ⊎ ((first ≤ l.var) × (l.var < first + fresh_of s t)) in
     all_from_each (All Named) (tree_clauses s t first) (λ d h. all_from_each Named d (λ k m.
     named_of s ts first k.var (elim (Contains-append_cases (clauses_of s t first) ((negated top ∷ []) ∷ []) d h) as (λ _. IsNamed s t first k.var) [
-      | inl inside ↦ clause_named s W laws t first d inside k m
+      | inl inside ↦ along_named s W laws (own_of s) (lawful_by_meaning s W laws) t first d inside k m
       | inr last ↦ elim (Contains-cons_cases (negated top ∷ []) [] d last) as (λ _. IsNamed s t first k.var) [
         | inl e ↦ elim (Contains-cons_cases (negated top) [] k (subst (λ (d : List Lit). Contains d k) (sym e) m)) as (λ _. IsNamed s t first k.var) [
           | inl same ↦ subst (λ (l : Lit). IsNamed s t first l.var) same (output_named s W laws t first s.cap (cap_value s W laws c suits))
@@ -178,4 +184,4 @@ tree_names s W laws c suits first =
 
 pub tree_counts : (s : Scheme) (W : ℕ → Type 0) → IsLawful s W → (t : Tree) (first : ℕ) → length (tree_clauses s t first) ≡ clause_count_of s t + 1
 tree_counts s W laws t first =
-    omega (arith, clauses_counted s W laws t first, length-append (clauses_of s t first) ((negated (output s t first s.cap) ∷ []) ∷ []))
+    omega (arith, along_counted s (own_of s) (own_count_of s) (λ l r first. laws.counted l r (output s l first) (output s r (first + fresh_of s l)) (output s (node l r) first)) t first, length-append (clauses_of s t first) ((negated (output s t first s.cap) ∷ []) ∷ []))

@@ -1,3 +1,7 @@
+pub mod AlongDerives
+pub mod AlongReasons
+pub mod AlongShort
+pub mod ByMeaning
 pub mod Extending
 pub mod Halves
 pub mod Laws

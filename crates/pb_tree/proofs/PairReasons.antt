@@ -7,8 +7,8 @@ use Rattle.pb_base.specs.Literals.{negated}
 use Rattle.pb_base.proofs.Members.{Contains-nil, Contains-here, Contains-there, Contains-cons_cases, among_from}
 use Rattle.pb_norm.specs.Constraints.{Weighted, Constraint, weight}
 use Rattle.pb_norm.specs.Reduction.{opposite}
-use Rattle.pb_tree.specs.Tree.{Tree, empty, leaf, node, IsLeafOf}
-use Rattle.pb_tree.specs.Scheme.{Scheme, values, fresh_of, output, clauses_of, tree_clauses}
+use Rattle.pb_tree.specs.Tree.{Tree, node, IsLeafOf}
+use Rattle.pb_tree.specs.Scheme.{Scheme, values, fresh_of, output, own_of, clauses_of, tree_clauses}
 use Rattle.pb_tree.proofs.Sums.{IsLawful}
 use Rattle.pb_tree.proofs.Extending.{IsNamed, output_named}
 use Rattle.pb_tree.specs.Pairs.{unless_none}
@@ -17,7 +17,9 @@ use Rattle.pb_derive.specs.Reasons.{Reason}
 use Rattle.pb_derive.specs.laws.Follows.{AllKnown}
 use Rattle.pb_derive.proofs.Justified.{IsJustified, MeaningsKnown}
 use Rattle.pb_tree.specs.Pairs.{Pair, pair_clause}
-use Rattle.pb_tree.specs.TreeSteps.{leaves, meanings, output_ids, part_ids, part_weakened, pair_reason, reasons, root_reason, tree_reasons}
+use Rattle.pb_tree.specs.TreeSteps.{leaves, meanings, output_ids, part_ids, part_weakened, pair_reason, pair_reasons, reasons, root_reason, tree_reasons}
+use Rattle.pb_tree.proofs.AlongReasons.{clause_in, along_clauses, along_justified}
+use Rattle.pb_tree.proofs.PairLists.{map-append}
 use Rattle.pb_tree.proofs.TreeMeanings.{meaning, output_known, known_left, known_right}
 use Rattle.pb_tree.proofs.TreeParts.{IsOver, IsPart, AreFromParts, given_value, given_part, over_left, over_right}
 use Rattle.pb_derive.proofs.Sides.{follows_pair, follows_root, weight-append}
@@ -37,35 +39,18 @@ pub record IsByPairs (s : Scheme) (pairs : List ℕ → List ℕ → List Pair) 
 
 -- ---- the clauses
 
-map-append : {X Y : Type 0} (f : X → Y) (xs ys : List X) → map f (xs ++ ys) ≡ map f xs ++ map f ys
-map-append f [] ys = refl
-map-append f (x ∷ xs) ys = ap (λ (zs : List _). f x ∷ zs) (map-append f xs ys)
-
-clauses_by_pairs : (s : Scheme) (l r : Tree) (first id : ℕ) (ps : List Pair) → map (λ (x : Reason). x.clause) (map (pair_reason s l r first id) ps) ≡ map (pair_clause s.cap (output s l first) (output s r (first + fresh_of s l)) (output s (node l r) first)) ps
+pub clauses_by_pairs : (s : Scheme) (l r : Tree) (first id : ℕ) (ps : List Pair) → map (λ (x : Reason). x.clause) (map (pair_reason s l r first id) ps) ≡ map (pair_clause s.cap (output s l first) (output s r (first + fresh_of s l)) (output s (node l r) first)) ps
 clauses_by_pairs s l r first id [] = refl
 clauses_by_pairs s l r first id (p ∷ ps) =
     ap (λ (cs : List (List Lit)). pair_clause s.cap (output s l first) (output s r (first + fresh_of s l)) (output s (node l r) first) p ∷ cs) (clauses_by_pairs s l r first id ps)
 
-abbrev clause_in : Reason → List Lit
-clause_in x = x.clause
+pub pairs_clauses : (s : Scheme) (pairs : List ℕ → List ℕ → List Pair) → IsByPairs s pairs → (l r : Tree) (first id : ℕ) → IsPositive s (node l r) → map clause_in (pair_reasons s pairs l r first id) ≡ own_of s l r first
+pairs_clauses s pairs by l r first id positive =
+    clauses_by_pairs s l r first id (pairs (values s l) (values s r))
+    ∙ sym (by.merged l r (λ u h. positive u (inl h)) (λ u h. positive u (inr h)) (output s l first) (output s r (first + fresh_of s l)) (output s (node l r) first))
 
-reasons_clauses : (s : Scheme) (pairs : List ℕ → List ℕ → List Pair) → IsByPairs s pairs → (t : Tree) (first id : ℕ) → IsPositive s t → map clause_in (reasons s pairs t first id) ≡ clauses_of s t first
-reasons_clauses s pairs by empty first id positive = refl
-reasons_clauses s pairs by (leaf t) first id positive = refl
-reasons_clauses s pairs by (node l r) first id positive =
-    let positive_left : IsPositive s l = λ u h. positive u (inl h) in
-    let positive_right : IsPositive s r = λ u h. positive u (inr h) in
-    let lefts = reasons s pairs l first id in
-    let rights = reasons s pairs r (first + fresh_of s l) (id + 2 * fresh_of s l) in
-    let ps = pairs (values s l) (values s r) in
-    let owns = map (pair_reason s l r first id) ps in
-    let own = clauses_by_pairs s l r first id ps ∙ sym (by.merged l r positive_left positive_right (output s l first) (output s r (first + fresh_of s l)) (output s (node l r) first)) in
-    map-append clause_in lefts (rights ++ owns)
-    ∙ ap (λ (cs : List (List Lit)). cs ++ map clause_in (rights ++ owns)) (reasons_clauses s pairs by l first id positive_left)
-    ∙ ap (λ (cs : List (List Lit)). clauses_of s l first ++ cs)
-    (map-append clause_in rights owns
-    ∙ ap (λ (cs : List (List Lit)). cs ++ map clause_in owns) (reasons_clauses s pairs by r (first + fresh_of s l) (id + 2 * fresh_of s l) positive_right)
-    ∙ ap (λ (cs : List (List Lit)). clauses_of s r (first + fresh_of s l) ++ cs) own)
+pub reasons_clauses : (s : Scheme) (pairs : List ℕ → List ℕ → List Pair) → IsByPairs s pairs → (t : Tree) (first id : ℕ) → IsPositive s t → map clause_in (reasons s pairs t first id) ≡ clauses_of s t first
+reasons_clauses s pairs by t first id positive = along_clauses s (pair_reasons s pairs) (own_of s) (λ u. 1 ≤ s.weight u) (pairs_clauses s pairs by) t first id positive
 
 -- the reasons are of the clauses, in order
 pub tree_reasons_clauses : (s : Scheme) (pairs : List ℕ → List ℕ → List Pair) → IsByPairs s pairs → (t : Tree) (first id own : ℕ) → IsPositive s t → map clause_in (tree_reasons s pairs t first id own) ≡ tree_clauses s t first
@@ -117,7 +102,7 @@ pair_cases cap f g h p k m =
 
 -- ---- a pair's clause follows
 
-known-append : (K : ℕ → Constraint → Type 0) (is js : List ℕ) (ss us : List Constraint) → AllKnown K is ss → AllKnown K js us → AllKnown K (is ++ js) (ss ++ us)
+pub known-append : (K : ℕ → Constraint → Type 0) (is js : List ℕ) (ss us : List Constraint) → AllKnown K is ss → AllKnown K js us → AllKnown K (is ++ js) (ss ++ us)
 known-append K [] js [] us h k = k
 known-append K [] js (s ∷ ss) us h k = absurd h
 known-append K (i ∷ is) js [] us h k = absurd h
@@ -127,7 +112,7 @@ some_part : (us : List ℕ) (u : ℕ) → u ≢ 0 → IsPart us u → Contains u
 some_part us u some part = elim part as (λ _. Contains us u) [ inl none ↦ absurd (some none) | inr here ↦ here ]
 
 -- a named variable of one part is none of the other's leaves
-named_apart : (s : Scheme) (low first n : ℕ) (t other : Tree) → ((u v : Weighted) → IsLeafOf t u → IsLeafOf other v → u.lit.var ≢ v.lit.var) → ((v : Weighted) → IsLeafOf other v → v.lit.var < low)
+pub named_apart : (s : Scheme) (low first n : ℕ) (t other : Tree) → ((u v : Weighted) → IsLeafOf t u → IsLeafOf other v → u.lit.var ≢ v.lit.var) → ((v : Weighted) → IsLeafOf other v → v.lit.var < low)
     → low ≤ first → IsNamed s t first n → (v : Weighted) → IsLeafOf other v → n ≢ v.lit.var
 named_apart s low first n t other apart below le named v m e =
     elim named [
@@ -183,25 +168,21 @@ pair_justified K s W laws pairs by low l r first id le over light known p listed
 
 -- ---- all of them
 
-all_map : {X Y : Type 0} (P : Y → Type 0) (f : X → Y) (xs : List X) → ((x : X) → Contains xs x → P (f x)) → All P (map f xs)
+pub all_map : {X Y : Type 0} (P : Y → Type 0) (f : X → Y) (xs : List X) → ((x : X) → Contains xs x → P (f x)) → All P (map f xs)
 all_map P f [] each = All-nil P
 all_map P f (x ∷ xs) each = All-cons P (f x) (map f xs) (each x (Contains-here x xs)) (all_map P f xs (λ y h. each y (Contains-there x xs y h)))
+
+pub pairs_justified : (K : ℕ → Constraint → Type 0) (s : Scheme) (W : ℕ → Type 0) → IsLawful s W → (pairs : List ℕ → List ℕ → List Pair) → IsByPairs s pairs
+    → (low : ℕ) (l r : Tree) (first id : ℕ) → low ≤ first → IsOver s low (node l r) → weight (leaves (node l r)) < 2 ^ 100 → MeaningsKnown K id (meanings s (node l r) first)
+    → All (IsJustified K) (pair_reasons s pairs l r first id)
+pairs_justified K s W laws pairs by low l r first id le over light known =
+    all_map (IsJustified K) (pair_reason s l r first id) (pairs (values s l) (values s r)) (pair_justified K s W laws pairs by low l r first id le over light known)
 
 pub reasons_justified : (K : ℕ → Constraint → Type 0) (s : Scheme) (W : ℕ → Type 0) → IsLawful s W → (pairs : List ℕ → List ℕ → List Pair) → IsByPairs s pairs
     → (low : ℕ) (t : Tree) (first id : ℕ) → low ≤ first → IsOver s low t → weight (leaves t) < 2 ^ 100 → MeaningsKnown K id (meanings s t first)
     → All (IsJustified K) (reasons s pairs t first id)
-reasons_justified K s W laws pairs by low empty first id le over light known = All-nil (IsJustified K)
-reasons_justified K s W laws pairs by low (leaf t) first id le over light known = All-nil (IsJustified K)
-reasons_justified K s W laws pairs by low (node l r) first id le over light known =
-    let middle = first + fresh_of s l in
-    let next = id + 2 * fresh_of s l in
-    let sum = weight-append (leaves l) (leaves r) in
-    let ps = pairs (values s l) (values s r) in
-    All-append (IsJustified K) (reasons s pairs l first id) (reasons s pairs r middle next ++ map (pair_reason s l r first id) ps)
-    (reasons_justified K s W laws pairs by low l first id le (over_left s low l r over) (omega (arith, light, sum)) (known_left K s l r first id known))
-    (All-append (IsJustified K) (reasons s pairs r middle next) (map (pair_reason s l r first id) ps)
-    (reasons_justified K s W laws pairs by low r middle next (omega arith) (over_right s low l r over) (omega (arith, light, sum)) (known_right K s l r first id known))
-    (all_map (IsJustified K) (pair_reason s l r first id) ps (pair_justified K s W laws pairs by low l r first id le over light known)))
+reasons_justified K s W laws pairs by low t first id le over light known =
+    along_justified K s (pair_reasons s pairs) low (pairs_justified K s W laws pairs by low) t first id le over light known
 
 -- and the root's, where the sum's own constraint stands under an id
 pub tree_justified : (K : ℕ → Constraint → Type 0) (s : Scheme) (W : ℕ → Type 0) → IsLawful s W → (pairs : List ℕ → List ℕ → List Pair) → IsByPairs s pairs

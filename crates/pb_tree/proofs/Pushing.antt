@@ -9,7 +9,7 @@ use Rattle.pb_norm.specs.Constraints.{Weighted}
 use Rattle.pb_norm.proofs.Derived.{Derived}
 use Rattle.pb_base.proofs.Members.{Contains-here}
 use Rattle.pb_tree.specs.Tree.{Tree, empty, leaf, node, IsLeafOf, leaf_sum}
-use Rattle.pb_tree.specs.Scheme.{Scheme, values, fresh_of, output, clauses_of}
+use Rattle.pb_tree.specs.Scheme.{Scheme, values, fresh_of, output, own_of, clauses_of}
 use Rattle.pb_tree.proofs.Sums.{Reach, ReachWith, IsLawful}
 use Rattle.pb_tree.proofs.Threes.{implied, denied, implied_both, denied_left, denied_right}
 
@@ -39,13 +39,13 @@ reach_value s W laws p (node l r) x reach positive within =
 pub record Listed (s : Scheme) (cs : List (List Lit)) (l r : Tree) (first : ℕ) : Type 0 where
   pub left : (c : List Lit) → Contains (clauses_of s l first) c → Contains cs c
   pub right : (c : List Lit) → Contains (clauses_of s r (first + fresh_of s l)) c → Contains cs c
-  pub own : (c : List Lit) → Contains (s.merged (values s l) (values s r) (output s l first) (output s r (first + fresh_of s l)) (output s (node l r) first)) c → Contains cs c
+  pub own : (c : List Lit) → Contains (own_of s l r first) c → Contains cs c
 
 pub listed_parts : (s : Scheme) (cs : List (List Lit)) (l r : Tree) (first : ℕ) → ((c : List Lit) → Contains (clauses_of s (node l r) first) c → Contains cs c) → Listed s cs l r first
 listed_parts s cs l r first listed =
     let lefts = clauses_of s l first in
     let rights = clauses_of s r (first + fresh_of s l) in
-    let owns = s.merged (values s l) (values s r) (output s l first) (output s r (first + fresh_of s l)) (output s (node l r) first) in
+    let owns = own_of s l r first in
     record {
       left = λ c h. listed c (Contains-append_left lefts (rights ++ owns) c h);
       right = λ c h. listed c (Contains-append_right lefts (rights ++ owns) c (Contains-append_left rights owns c h));
@@ -100,13 +100,14 @@ with_positive s p (node l r) u x positive reach =
 pub any : Lit → Bool
 any l = true
 
-reach_any : (s : Scheme) (p : Lit → Bool) (t : Tree) (x : ℕ) → Reach s p t x → Reach s any t x
+-- what some leaves reach, all do
+pub reach_any : (s : Scheme) (p : Lit → Bool) (t : Tree) (x : ℕ) → Reach s p t x → Reach s any t x
 unfolding any
 reach_any s p empty x reach = reach
 reach_any s p (leaf t) x reach = elim reach as (λ _. (x ≡ 0) ⊎ ((x ≡ s.weight t) × (any t.lit ≡ true))) [ inl none ↦ inl none | inr one ↦ inr (one.0, refl) ]
 reach_any s p (node l r) x reach = (reach.0, reach.1, reach.2, reach_any s p l reach.0 reach.3, reach_any s p r reach.1 reach.4)
 
-with_any : (s : Scheme) (p : Lit → Bool) (t : Tree) (u : Weighted) (x : ℕ) → ReachWith s p t u x → Reach s any t x
+pub with_any : (s : Scheme) (p : Lit → Bool) (t : Tree) (u : Weighted) (x : ℕ) → ReachWith s p t u x → Reach s any t x
 unfolding any
 with_any s p empty u x reach = absurd reach
 with_any s p (leaf v) u x reach = inr (reach.1, refl)

@@ -17,7 +17,7 @@ use Rattle.pb_family.proofs.Sequence.{meanings_ids, meanings_split, reasons_ids,
 use Rattle.pb_tree.specs.Pairs.{Pair}
 use Rattle.pb_tree.specs.Scheme.{Scheme, values, fresh_of}
 use Rattle.pb_tree.specs.Tree.{Tree, empty, leaf, node}
-use Rattle.pb_tree.specs.TreeSteps.{pair_reason, reasons, root_reason, tree_reasons}
+use Rattle.pb_tree.specs.TreeSteps.{pair_reason, pair_reasons, reasons_along, reasons, root_reason, tree_reasons}
 
 pub steps_stopped : {R T : Type 0} (r : Result T SinkFault) (f : SinkFault) (ss : List Step) (a b : StepState R) → IsErrAnd r (λ g. g ≡ f) → StopsInSteps ss a b f → HandsSteps ss r a b
 steps_stopped r f ss a b is part = steps_fault r f ss [] b is (deriving_from a (sym (append-nil ss))) part
@@ -111,18 +111,23 @@ pairs_same s l r f g id ps = record { count = omega (arith, length-map ps (pair_
     each next [] = refl
     each next (p ∷ ps) = ap (λ (ss : List Step). (by_reason (pair_reason s l r f id p)).step ∷ Out next ∷ ss) (each (next + 1) ps)
 
--- the steps do not depend on the numbers of the variables
-pub first_free : (s : Scheme) (pairs : List ℕ → List ℕ → List Pair) (t : Tree) (f g id : ℕ) → HaveSameSteps (reasons s pairs t f id) (reasons s pairs t g id)
-first_free s pairs empty f g id = same_none
-first_free s pairs (leaf t) f g id = same_none
-first_free s pairs (node l r) f g id =
+-- a node's own steps do not depend on the numbers of the variables
+abbrev pub IsFirstFree : (Tree → Tree → ℕ → ℕ → List Reason) → Type 0
+IsFirstFree own = (l r : Tree) (f g id : ℕ) → HaveSameSteps (own l r f id) (own l r g id)
+
+pub along_first_free : (s : Scheme) (own : Tree → Tree → ℕ → ℕ → List Reason) → IsFirstFree own → (t : Tree) (f g id : ℕ) → HaveSameSteps (reasons_along s own t f id) (reasons_along s own t g id)
+along_first_free s own free empty f g id = same_none
+along_first_free s own free (leaf t) f g id = same_none
+along_first_free s own free (node l r) f g id =
     let next = id + 2 * fresh_of s l in
-    let ps = pairs (values s l) (values s r) in
-    same_append (reasons s pairs l f id) (reasons s pairs l g id) (reasons s pairs r (f + fresh_of s l) next ++ map (pair_reason s l r f id) ps) (reasons s pairs r (g + fresh_of s l) next ++ map (pair_reason s l r g id) ps)
-    (first_free s pairs l f g id)
-    (same_append (reasons s pairs r (f + fresh_of s l) next) (reasons s pairs r (g + fresh_of s l) next) (map (pair_reason s l r f id) ps) (map (pair_reason s l r g id) ps)
-    (first_free s pairs r (f + fresh_of s l) (g + fresh_of s l) next) (pairs_same s l r f g id ps))
+    same_append (reasons_along s own l f id) (reasons_along s own l g id) (reasons_along s own r (f + fresh_of s l) next ++ own l r f id) (reasons_along s own r (g + fresh_of s l) next ++ own l r g id)
+    (along_first_free s own free l f g id)
+    (same_append (reasons_along s own r (f + fresh_of s l) next) (reasons_along s own r (g + fresh_of s l) next) (own l r f id) (own l r g id)
+    (along_first_free s own free r (f + fresh_of s l) (g + fresh_of s l) next) (free l r f g id))
+
+pub pairs_first_free : (s : Scheme) (pairs : List ℕ → List ℕ → List Pair) → IsFirstFree (pair_reasons s pairs)
+pairs_first_free s pairs l r f g id = pairs_same s l r f g id (pairs (values s l) (values s r))
 
 pub all_first_free : (s : Scheme) (pairs : List ℕ → List ℕ → List Pair) (t : Tree) (f g id own : ℕ) → HaveSameSteps (tree_reasons s pairs t f id own) (tree_reasons s pairs t g id own)
 all_first_free s pairs t f g id own =
-    same_append (reasons s pairs t f id) (reasons s pairs t g id) (root_reason s t f id own ∷ []) (root_reason s t g id own ∷ []) (first_free s pairs t f g id) (record { count = refl; steps = λ next. refl })
+    same_append (reasons s pairs t f id) (reasons s pairs t g id) (root_reason s t f id own ∷ []) (root_reason s t g id own ∷ []) (along_first_free s (pair_reasons s pairs) (pairs_first_free s pairs) t f g id) (record { count = refl; steps = λ next. refl })

@@ -1,51 +1,30 @@
 -- The lines of a derivation along a tree are within their limits, and short.
 use Rattle.std.proofs.Common.{◌≡◌, ◌≢◌, ◌≤◌, ◌<◌, ◌+◌, ◌*◌, ◌^◌, ℕ, zero, suc, Bool, true, false, cond, List, [], ◌∷◌, ◌++◌, length, min, map, refl, ap, sym, ◌∙◌, subst, arith, inl, inr, length-append}
-use Rattle.std.specs.Prelude.{Contains, All, sum_by, count_by}
+use Rattle.std.specs.Prelude.{Contains, All, count_by}
 use Rattle.std.proofs.Math.Nat.{mul-le-mul_right}
 use Rattle.std.proofs.lemmas.List.{length-map}
-use Rattle.std.proofs.lemmas.List.Elements.{All-nil, All-cons, All-append, All-head, All-tail, All-weaker, All-map}
-use Rattle.std.proofs.lemmas.List.Sums.{sum_by-cons, sum_by-append}
-use Rattle.pb_base.specs.declared.literal.Lit.{Lit}
+use Rattle.std.proofs.lemmas.List.Elements.{All-nil, All-cons, All-append, All-map}
+use Rattle.std.proofs.lemmas.List.Sums.{sum_by-cons}
 use Rattle.pb_base.proofs.Members.{Contains-here, Contains-there, All-append_both}
 use Rattle.pb_norm.specs.Constraints.{Weighted, weight}
 use Rattle.pb_norm.specs.BoundedSums.{BoundedSum, vars_of}
-use Rattle.pb_steps.specs.declared.step.Step.{Step}
-use Rattle.pb_steps.specs.declared.step.Step.TheVariants.{Pol}
 use Rattle.pb_steps.specs.Sayable.{IsId, IsVariable, IsSayable}
-use Rattle.pb_steps.specs.StepSizes.{step_size}
-use Rattle.pb_derive.specs.Claims.{Claim}
-use Rattle.pb_derive.specs.Meanings.{Meaning}
-use Rattle.pb_derive.specs.Reasons.{Reason, by_reason, closing}
+use Rattle.pb_derive.specs.Reasons.{Reason}
 use Rattle.pb_derive.specs.Short.{AreShort}
-use Rattle.pb_derive.proofs.Sayable.{IsSlimTerm, IsSlimMeaning, phases_sayable, closing_sayable}
-use Rattle.pb_derive.proofs.Short.{phases_short}
-use Rattle.pb_derive.proofs.Sizes.{closing-size}
-use Rattle.pb_derive.proofs.SlimRows.{slim_terms, row_slim}
+use Rattle.pb_derive.proofs.ShortReasons.{gone_in}
 use Rattle.pb_family.specs.Derivations.{AreOriginal, MayStart}
-use Rattle.pb_family.specs.Families.{VarsBelow}
 use Rattle.pb_tree.specs.Pairs.{Pair}
 use Rattle.pb_tree.specs.Scheme.{Scheme, values, fresh_of, tree_clauses}
 use Rattle.pb_tree.specs.Tree.{Tree, empty, leaf, node, tree_of}
-use Rattle.pb_tree.specs.TreeSteps.{leaves, meanings, output_ids, part_ids, part_weakened, pair_reason, reasons, root_reason, tree_reasons, tree_steps}
+use Rattle.pb_tree.specs.TreeSteps.{leaves, output_ids, part_ids, part_weakened, pair_reason, pair_reasons, reasons, root_reason, tree_reasons, tree_steps}
+use Rattle.pb_tree.proofs.AlongShort.{IsShort, Starts, gone-append, along_gone, along_short, known_terms, terms_sayable, terms_short}
 use Rattle.pb_tree.proofs.Laws.{Suits, cap_value}
 use Rattle.pb_tree.proofs.PairCounts.{is_none}
-use Rattle.pb_tree.proofs.PairReasons.{IsByPairs, IsPositive}
+use Rattle.pb_tree.proofs.PairReasons.{IsByPairs, IsPositive, tree_reasons_clauses}
 use Rattle.pb_tree.proofs.Sums.{IsLawful}
-use Rattle.pb_tree.proofs.TreeDerives.{clauses_are, leaves_positive, nodes_fit}
-use Rattle.pb_tree.proofs.TreeMeanings.{length-meanings}
+use Rattle.pb_tree.proofs.TreeDerives.{leaves_positive, weighs_of}
 use Rattle.pb_tree.proofs.TreeParts.{IsPart}
-use Rattle.pb_tree.proofs.TreeRows.{leaves_of, tree_row, tree_terms, tree_sums}
-
--- a reason by at most three constraints, with at most n variables beside
-record IsShort (n : ℕ) (r : Reason) : Type 0 where
-  pub some : r.ids ≢ []
-  pub three : length r.ids ≤ 3
-  pub ids : All IsId r.ids
-  pub variables : All IsVariable r.weakened
-  pub few : length r.weakened ≤ n
-
-abbrev gone_in : List Reason → ℕ
-gone_in rs = sum_by (λ r. length r.weakened) rs
+use Rattle.pb_tree.proofs.TreeRows.{leaves_of}
 
 -- ---- how many variables go
 
@@ -56,17 +35,14 @@ pub record IsSparing (s : Scheme) (pairs : List ℕ → List ℕ → List Pair) 
   pub left_grows : (l r : Tree) → length (values s l) ≤ length (values s (node l r))
   pub right_grows : (l r : Tree) → length (values s r) ≤ length (values s (node l r))
 
-length-vars : (ts : List Weighted) → length (vars_of ts) ≡ length ts
+pub length-vars : (ts : List Weighted) → length (vars_of ts) ≡ length ts
 length-vars ts = length-map ts (λ (t : Weighted). t.lit.var)
 
 part_gone : (t : Tree) (u : ℕ) → length (part_weakened t u) ≡ cond (is_none u) (length (leaves t)) 0
 part_gone t zero = length-vars (leaves t)
 part_gone t (suc u) = refl
 
-gone-append : (rs qs : List Reason) → gone_in (rs ++ qs) ≡ gone_in rs + gone_in qs
-gone-append rs qs = sum_by-append (λ (r : Reason). length r.weakened) rs qs
-
-some_or_none : (b : Bool) (n k : ℕ) → cond b n 0 + k * n ≡ (cond b 1 0 + k) * n
+pub some_or_none : (b : Bool) (n k : ℕ) → cond b n 0 + k * n ≡ (cond b 1 0 + k) * n
 some_or_none true n k = omega arith
 some_or_none false n k = omega arith
 
@@ -87,37 +63,23 @@ pairs_gone s l r first id (p ∷ ps) =
     let six : count_by (λ (p : Pair). is_none p.right) (p ∷ ps) * b ≡ cond (is_none p.right) b 0 + j * b = ap (λ (n : ℕ). n * b) four ∙ sym (some_or_none (is_none p.right) b j) in
     omega (arith, one, two, part_gone l p.left, part_gone r p.right, five, six, pairs_gone s l r first id ps)
 
-reasons_gone : (s : Scheme) (pairs : List ℕ → List ℕ → List Pair) → IsSparing s pairs → (t : Tree) (first id : ℕ) → IsPositive s t → gone_in (reasons s pairs t first id) ≤ fresh_of s t * length (leaves t)
-reasons_gone s pairs sparing empty first id positive = let none : gone_in (reasons s pairs empty first id) ≡ 0 = refl in omega (arith, none)
-reasons_gone s pairs sparing (leaf t) first id positive = let none : gone_in (reasons s pairs (leaf t) first id) ≡ 0 = refl in omega (arith, none)
-reasons_gone s pairs sparing (node l r) first id positive =
-    let middle = first + fresh_of s l in
-    let next = id + 2 * fresh_of s l in
+pub pairs_gone_few : (s : Scheme) (pairs : List ℕ → List ℕ → List Pair) → IsSparing s pairs → (l r : Tree) (first id : ℕ) → IsPositive s (node l r)
+    → gone_in (pair_reasons s pairs l r first id) ≤ length (values s (node l r)) * (length (leaves l) + length (leaves r))
+pairs_gone_few s pairs sparing l r first id positive =
     let ps = pairs (values s l) (values s r) in
-    let own = map (pair_reason s l r first id) ps in
     let a = length (leaves l) in
     let b = length (leaves r) in
-    let f = fresh_of s l in
-    let g = fresh_of s r in
     let c = length (values s (node l r)) in
     let i = count_by (λ (p : Pair). is_none p.left) ps in
     let j = count_by (λ (p : Pair). is_none p.right) ps in
     let lows : i * a ≤ c * a = mul-le-mul_right a (omega (arith, sparing.no_left l r (λ u h. positive u (inl h)) (λ u h. positive u (inr h)), sparing.right_grows l r)) in
     let highs : j * b ≤ c * b = mul-le-mul_right b (omega (arith, sparing.no_right l r (λ u h. positive u (inl h)) (λ u h. positive u (inr h)), sparing.left_grows l r)) in
-    let grid : (f + g + c) * (a + b) ≡ f * a + f * b + (g * a + g * b) + (c * a + c * b) = omega arith in
-    let whole : fresh_of s (node l r) * length (leaves (node l r)) ≡ (f + g + c) * (a + b) = ap (λ (n : ℕ). (f + g + c) * n) (length-append (leaves l) (leaves r)) in
-    omega (
-      arith,
-      gone-append (reasons s pairs l first id) (reasons s pairs r middle next ++ own),
-      gone-append (reasons s pairs r middle next) own,
-      pairs_gone s l r first id ps,
-      reasons_gone s pairs sparing l first id (λ u h. positive u (inl h)),
-      reasons_gone s pairs sparing r middle next (λ u h. positive u (inr h)),
-      lows,
-      highs,
-      grid,
-      whole,
-    )
+    let here : c * (a + b) ≡ c * a + c * b = omega arith in
+    omega (arith, pairs_gone s l r first id ps, lows, highs, here)
+
+pub reasons_gone : (s : Scheme) (pairs : List ℕ → List ℕ → List Pair) → IsSparing s pairs → (t : Tree) (first id : ℕ) → IsPositive s t → gone_in (reasons s pairs t first id) ≤ 2 * (fresh_of s t * length (leaves t))
+reasons_gone s pairs sparing t first id positive =
+    along_gone s (pair_reasons s pairs) (λ u. 1 ≤ s.weight u) (λ l r h first id. omega (arith, pairs_gone_few s pairs sparing l r first id h)) t first id positive
 
 -- ---- each reason
 
@@ -125,7 +87,7 @@ reasons_gone s pairs sparing (node l r) first id positive =
 abbrev none_ids : All IsId [] × All IsId [] × (0 ≤ 1)
 none_ids = (All-nil IsId, All-nil IsId, omega arith)
 
-output_ids_are : (s : Scheme) (W : ℕ → Type 0) → IsLawful s W → (t : Tree) (id u : ℕ) → 1 ≤ id → id + 2 * fresh_of s t < 2 ^ 63 → Contains (values s t) u
+pub output_ids_are : (s : Scheme) (W : ℕ → Type 0) → IsLawful s W → (t : Tree) (id u : ℕ) → 1 ≤ id → id + 2 * fresh_of s t < 2 ^ 63 → Contains (values s t) u
     → All IsId (output_ids s t id u) × All IsId (map (λ i. i + 1) (output_ids s t id u)) × (length (output_ids s t id u) ≤ 1)
 output_ids_are s W laws empty id u low high h = none_ids
 output_ids_are s W laws (leaf t) id u low high h = none_ids
@@ -151,10 +113,10 @@ part_few : (t : Tree) (u : ℕ) → length (part_weakened t u) ≤ length (leave
 part_few t zero = omega (arith, length-vars (leaves t))
 part_few t (suc u) = omega arith
 
-not_empty : (is js ks : List ℕ) → 1 ≤ length ks → is ++ (js ++ ks) ≢ []
+pub not_empty : (is js ks : List ℕ) → 1 ≤ length ks → is ++ (js ++ ks) ≢ []
 not_empty is js ks some e = omega (arith, length-append is (js ++ ks), length-append js ks, ap length e, some)
 
-own_some : (s : Scheme) (l r : Tree) (id u : ℕ) → length (map (λ i. i + 1) (output_ids s (node l r) id u)) ≡ 1
+pub own_some : (s : Scheme) (l r : Tree) (id u : ℕ) → length (map (λ i. i + 1) (output_ids s (node l r) id u)) ≡ 1
 own_some s l r id u = refl
 
 module _ (s : Scheme) (W : ℕ → Type 0) (laws : IsLawful s W) (pairs : List ℕ → List ℕ → List Pair) (by : IsByPairs s pairs) where
@@ -186,22 +148,14 @@ module _ (s : Scheme) (W : ℕ → Type 0) (laws : IsLawful s W) (pairs : List �
       All-cons (IsShort n) (pair_reason s l r first id p) (map (pair_reason s l r first id) ps) (pair_short n l r first id low high known few p (h p (Contains-here p ps)))
       (pairs_short n l r first id low high known few ps (λ q m. h q (Contains-there p ps q m)))
 
-  reasons_short : (n : ℕ) (t : Tree) (first id : ℕ) → 1 ≤ id → id + 2 * fresh_of s t < 2 ^ 63 → All (λ w. IsVariable w.lit.var) (leaves t) → length (leaves t) ≤ n → All (IsShort n) (reasons s pairs t first id)
-  reasons_short n empty first id low high known few = All-nil (IsShort n)
-  reasons_short n (leaf t) first id low high known few = All-nil (IsShort n)
-  reasons_short n (node l r) first id low high known few =
-      let middle = first + fresh_of s l in
-      let next = id + 2 * fresh_of s l in
-      let ps = pairs (values s l) (values s r) in
-      let parts = All-append_both (λ (w : Weighted). IsVariable w.lit.var) (leaves l) (leaves r) known in
-      let size = length-append (leaves l) (leaves r) in
-      All-append (IsShort n) (reasons s pairs l first id) (reasons s pairs r middle next ++ map (pair_reason s l r first id) ps)
-      (reasons_short n l first id low (omega arith) parts.0 (omega arith))
-      (All-append (IsShort n) (reasons s pairs r middle next) (map (pair_reason s l r first id) ps)
-      (reasons_short n r middle next (omega arith) (omega arith) parts.1 (omega arith))
-      (pairs_short n l r first id low high known few ps (λ p h. h)))
+  pub own_short : (n : ℕ) (l r : Tree) (first id : ℕ) → 1 ≤ id → id + 2 * fresh_of s (node l r) < 2 ^ 63 → All (λ w. IsVariable w.lit.var) (leaves (node l r)) → length (leaves (node l r)) ≤ n
+      → All (IsShort n) (pair_reasons s pairs l r first id)
+  own_short n l r first id low high known few = pairs_short n l r first id low high known few (pairs (values s l) (values s r)) (λ p h. h)
 
-  root_short : (n : ℕ) (t : Tree) (first id own : ℕ) → 1 ≤ id → id + 2 * fresh_of s t < 2 ^ 63 → IsId own → Contains (values s t) s.cap → IsShort n (root_reason s t first id own)
+  pub reasons_short : (n : ℕ) (t : Tree) (first id : ℕ) → 1 ≤ id → id + 2 * fresh_of s t < 2 ^ 63 → All (λ w. IsVariable w.lit.var) (leaves t) → length (leaves t) ≤ n → All (IsShort n) (reasons s pairs t first id)
+  reasons_short n t first id low high known few = along_short n s (pair_reasons s pairs) (own_short n) t first id low high known few
+
+  pub root_short : (n : ℕ) (t : Tree) (first id own : ℕ) → 1 ≤ id → id + 2 * fresh_of s t < 2 ^ 63 → IsId own → Contains (values s t) s.cap → IsShort n (root_reason s t first id own)
   root_short n t first id own low high given top =
       let are = output_ids_are s W laws t id s.cap low high top in
       record {
@@ -220,22 +174,6 @@ module _ (s : Scheme) (W : ℕ → Type 0) (laws : IsLawful s W) (pairs : List �
 
 -- ---- the whole
 
-short_size : (n : ℕ) (rs : List Reason) → All (IsShort n) rs → sum_by (λ c. step_size c.step) (map by_reason rs) ≤ 111 * length rs + 14 * gone_in rs
-short_size n [] h = let none : sum_by (λ (c : Claim). step_size c.step) (map by_reason []) ≡ 0 = refl in omega (arith, none)
-short_size n (r ∷ rs) h =
-    omega (
-      arith,
-      sum_by-cons (λ (c : Claim). step_size c.step) (by_reason r) (map by_reason rs),
-      sum_by-cons (λ (r : Reason). length r.weakened) r rs,
-      closing-size r,
-      (All-head (IsShort n) r rs h).three,
-      short_size n rs (All-tail (IsShort n) r rs h),
-    )
-
-some_sayable : (clause : List Lit) (ids vs : List ℕ) → ids ≢ [] → All IsId ids → All IsVariable vs → IsSayable (Pol (closing (record { clause = clause; ids = ids; weakened = vs })))
-some_sayable clause [] vs some known gone = absurd (some refl)
-some_sayable clause (id ∷ ids) vs some known gone = closing_sayable clause id ids vs known gone
-
 module _ (s : Scheme) (W : ℕ → Type 0) (laws : IsLawful s W) (pairs : List ℕ → List ℕ → List Pair) (by : IsByPairs s pairs) (m : BoundedSum) (suits : Suits s m) (light : weight m.terms < 2 ^ 100)
     (first id next : ℕ) (original : AreOriginal first m.terms) (start : MayStart first (fresh_of s (tree_of m.terms)) id next) where
   abbrev t : Tree
@@ -244,20 +182,11 @@ module _ (s : Scheme) (W : ℕ → Type 0) (laws : IsLawful s W) (pairs : List �
   abbrev fresh : ℕ
   fresh = fresh_of s (tree_of m.terms)
 
-  abbrev ms : List Meaning
-  ms = meanings s (tree_of m.terms) first
-
   abbrev rs : List Reason
   rs = tree_reasons s pairs (tree_of m.terms) first next id
 
-  known_terms : All (λ w. IsVariable w.lit.var) (leaves t)
-  known_terms =
-      let fits = start.fits in
-      subst (λ (us : List Weighted). All (λ w. IsVariable w.lit.var) us) (sym (leaves_of m.terms))
-      (All-weaker (λ (w : Weighted). (1 ≤ w.lit.var) × (w.lit.var < first)) (λ (w : Weighted). IsVariable w.lit.var) (λ w h. let low = h.0 in let high = h.1 in (low, omega arith)) m.terms original)
-
-  below_terms : VarsBelow first m.terms
-  below_terms = All-weaker (λ (w : Weighted). (1 ≤ w.lit.var) × (w.lit.var < first)) (λ (w : Weighted). w.lit.var < first) (λ w h. h.1) m.terms original
+  starts : Starts first fresh next
+  starts = let given = start.given in let known = start.known in record { low = start.low; fits = start.fits; from = omega arith; few = start.few }
 
   all_short : All (IsShort (length m.terms)) rs
   all_short =
@@ -267,45 +196,23 @@ module _ (s : Scheme) (W : ℕ → Type 0) (laws : IsLawful s W) (pairs : List �
       let few = start.few in
       let own : IsId id = (given, omega arith) in
       let size : length (leaves t) ≡ length m.terms = ap length (leaves_of m.terms) in
-      tree_short s W laws pairs by (length m.terms) t first next id (omega arith) (omega arith) own (cap_value s W laws m suits) known_terms (omega arith)
+      tree_short s W laws pairs by (length m.terms) t first next id (omega arith) (omega arith) own (cap_value s W laws m suits) (known_terms m.terms first fresh start.fits original) (omega arith)
 
-  slim_meanings : All IsSlimMeaning ms
-  slim_meanings =
-      let fits = start.fits in
-      let low = start.low in
-      let total : weight (leaves t) ≡ weight m.terms = ap weight (leaves_of m.terms) in
-      let count = length-meanings s t first in
-      row_slim first ms (tree_row s t first) low (omega arith) (nodes_fit s W laws pairs by m suits first below_terms light) (tree_terms IsSlimTerm s t first (slim_terms (leaves t) (omega arith) known_terms))
+  count_reasons : length rs ≡ length (tree_clauses s t first)
+  count_reasons = sym (length-map rs (λ (r : Reason). r.clause)) ∙ ap length (tree_reasons_clauses s pairs by t first next id (leaves_positive s W laws pairs by m suits))
 
   module _ (few_clauses : length (tree_clauses s (tree_of m.terms) first) < 5 * 2 ^ 60) where
-    count_reasons : length (map by_reason rs) ≡ length (tree_clauses s t first)
-    count_reasons = sym (length-map (map by_reason rs) (λ (c : Claim). c.clause)) ∙ ap length (clauses_are s W laws pairs by m suits first next id)
+    few_reasons : length rs < 5 * 2 ^ 60
+    few_reasons = omega (arith, few_clauses, count_reasons)
 
     pub tree_sayable : All IsSayable (tree_steps s pairs (tree_of m.terms) first id next)
-    tree_sayable =
-        let fits = start.fits in
-        let given = start.given in
-        let known = start.known in
-        let few = start.few in
-        let count = length-meanings s t first in
-        let size = count_reasons in
-        phases_sayable next ms (map by_reason rs) (omega arith) (omega arith) slim_meanings
-        (All-map (λ (c : Claim). IsSayable c.step) by_reason rs (All-weaker (IsShort (length m.terms)) (λ (r : Reason). IsSayable (by_reason r).step) (λ r h. some_sayable r.clause r.ids r.weakened h.some h.ids h.variables) rs all_short))
+    tree_sayable = terms_sayable s pairs by m.terms (weighs_of s m suits) light first next original starts rs few_reasons all_short
 
     pub tree_lines_short : IsSparing s pairs → length m.terms ≤ 2 ^ 21 → AreShort (length m.terms) (fresh_of s (tree_of m.terms)) (length (tree_clauses s (tree_of m.terms) first)) (tree_steps s pairs (tree_of m.terms) first id next)
     tree_lines_short sparing narrow =
         let n = length m.terms in
         let size : length (leaves t) ≡ n = ap length (leaves_of m.terms) in
-        let count = length-meanings s t first in
-        let gone : gone_in (reasons s pairs t first next) ≤ fresh * n = subst (λ (k : ℕ). gone_in (reasons s pairs t first next) ≤ fresh * k) size (reasons_gone s pairs sparing t first next (leaves_positive s W laws pairs by m suits)) in
-        let all_gone : gone_in rs ≤ fresh * n =
-        (let last : gone_in (root_reason s t first next id ∷ []) ≡ 0 = refl in omega (arith, gone, last, gone-append (reasons s pairs t first next) (root_reason s t first next id ∷ []))) in
-        let each : All (λ (c : Claim). step_size c.step ≤ 2 ^ 28) (map by_reason rs) =
-        All-map (λ (c : Claim). step_size c.step ≤ 2 ^ 28) by_reason rs (All-weaker (IsShort n) (λ (r : Reason). step_size (by_reason r).step ≤ 2 ^ 28) (λ r h. let three = h.three in let few = h.few in omega (arith, closing-size r)) rs all_short) in
-        let lines = length-map rs by_reason in
-        let grow : (fresh + 1) * n ≡ fresh * n + n = omega arith in
-        let counted : (length ms + 1) * n ≡ (fresh + 1) * n = ap (λ (k : ℕ). (k + 1) * n) count in
-        let short = phases_short n next ms (map by_reason rs) tree_sayable narrow (tree_sums n s t first (omega arith)) each
-        (omega (arith, short_size n rs all_short, all_gone, lines, grow, counted)) in
-        let steps : List Step = tree_steps s pairs t first id next in
-        subst (λ (k : ℕ). AreShort n fresh k steps) count_reasons (subst (λ (k : ℕ). AreShort n k (length (map by_reason rs)) steps) count short)
+        let gone : gone_in (reasons s pairs t first next) ≤ 2 * (fresh * n) = subst (λ (k : ℕ). gone_in (reasons s pairs t first next) ≤ 2 * (fresh * k)) size (reasons_gone s pairs sparing t first next (leaves_positive s W laws pairs by m suits)) in
+        let last : gone_in (root_reason s t first next id ∷ []) ≡ 0 = refl in
+        subst (λ (k : ℕ). AreShort n fresh k (tree_steps s pairs t first id next)) count_reasons
+        (terms_short s pairs by m.terms (weighs_of s m suits) light first next original starts rs few_reasons all_short narrow (omega (arith, gone, last, gone-append (reasons s pairs t first next) (root_reason s t first next id ∷ []))))

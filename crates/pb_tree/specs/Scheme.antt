@@ -1,5 +1,5 @@
 -- Clauses along a tree, whose nodes have an output for each sum that their leaves can reach, cut at a cap.
-use Rattle.std.specs.Prelude.{◌+◌, ℕ, List, [], ◌∷◌, ◌++◌, length, min}
+use Rattle.std.specs.Prelude.{◌≡◌, ◌⊎◌, ◌+◌, ℕ, List, [], ◌∷◌, ◌++◌, length, min}
 use Rattle.pb_base.specs.declared.literal.Lit.{Lit}
 use Rattle.pb_base.specs.Literals.{negated}
 use Rattle.pb_norm.specs.Constraints.{Weighted}
@@ -37,20 +37,40 @@ output s empty first u = positive_of 0
 output s (leaf t) first u = t.lit
 output s (node l r) first u = positive_of (first + fresh_of s l + fresh_of s r + s.place u (values s (node l r)))
 
--- the clauses of the left part, of the right part, and of the node itself
+-- Clauses along a tree: of the left part, of the right part, and then a node's own, which go by its two parts and the first
+-- fresh variable.
+abbrev pub clauses_along : Scheme → (Tree → Tree → ℕ → List (List Lit)) → Tree → ℕ → List (List Lit)
+clauses_along s own empty first = []
+clauses_along s own (leaf t) first = []
+clauses_along s own (node l r) first =
+    clauses_along s own l first ++ (clauses_along s own r (first + fresh_of s l) ++ own l r first)
+
+-- how many, where it is known how many each node has
+abbrev pub count_along : (Tree → Tree → ℕ) → Tree → ℕ
+count_along own empty = 0
+count_along own (leaf t) = 0
+count_along own (node l r) = count_along own l + count_along own r + own l r
+
+-- those of the scheme itself
+abbrev pub own_of : Scheme → Tree → Tree → ℕ → List (List Lit)
+own_of s l r first = s.merged (values s l) (values s r) (output s l first) (output s r (first + fresh_of s l)) (output s (node l r) first)
+
+abbrev pub own_count_of : Scheme → Tree → Tree → ℕ
+own_count_of s l r = s.merged_count (length (values s l)) (length (values s r))
+
 abbrev pub clauses_of : Scheme → Tree → ℕ → List (List Lit)
-clauses_of s empty first = []
-clauses_of s (leaf t) first = []
-clauses_of s (node l r) first =
-    clauses_of s l first
-    ++ (clauses_of s r (first + fresh_of s l)
-    ++ s.merged (values s l) (values s r) (output s l first) (output s r (first + fresh_of s l)) (output s (node l r) first))
+clauses_of s t first = clauses_along s (own_of s) t first
 
 abbrev pub clause_count_of : Scheme → Tree → ℕ
-clause_count_of s empty = 0
-clause_count_of s (leaf t) = 0
-clause_count_of s (node l r) = clause_count_of s l + clause_count_of s r + s.merged_count (length (values s l)) (length (values s r))
+clause_count_of s t = count_along (own_count_of s) t
 
 -- the clauses of the whole tree, and that its sum does not reach the cap
 abbrev pub tree_clauses : Scheme → Tree → ℕ → List (List Lit)
 tree_clauses s t first = clauses_of s t first ++ (negated (output s t first s.cap) ∷ []) ∷ []
+
+-- a part of a tree, and where its fresh variables begin
+abbrev pub IsPartAt : Scheme → Tree → ℕ → Tree → ℕ → Type 0
+IsPartAt s empty first part at = (empty ≡ part) × (first ≡ at)
+IsPartAt s (leaf t) first part at = (leaf t ≡ part) × (first ≡ at)
+IsPartAt s (node l r) first part at =
+    ((node l r ≡ part) × (first ≡ at)) ⊎ (IsPartAt s l first part at ⊎ IsPartAt s r (first + fresh_of s l) part at)

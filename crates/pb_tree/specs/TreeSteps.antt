@@ -60,14 +60,20 @@ pair_reason s l r first id p = record {
   weakened = part_weakened l p.left ++ part_weakened r p.right;
 }
 
--- by the pairs of values that have a clause
+-- Reasons along a tree: of the left part, of the right part, and then a node's own, which go by its two parts, the first fresh
+-- variable and the id of its first constraint.
+abbrev pub reasons_along : Scheme → (Tree → Tree → ℕ → ℕ → List Reason) → Tree → ℕ → ℕ → List Reason
+reasons_along s own empty first id = []
+reasons_along s own (leaf t) first id = []
+reasons_along s own (node l r) first id =
+    reasons_along s own l first id ++ (reasons_along s own r (first + fresh_of s l) (id + 2 * fresh_of s l) ++ own l r first id)
+
+-- a node's own by the pairs of values that have a clause
+abbrev pub pair_reasons : Scheme → (List ℕ → List ℕ → List Pair) → Tree → Tree → ℕ → ℕ → List Reason
+pair_reasons s pairs l r first id = map (pair_reason s l r first id) (pairs (values s l) (values s r))
+
 abbrev pub reasons : Scheme → (List ℕ → List ℕ → List Pair) → Tree → ℕ → ℕ → List Reason
-reasons s pairs empty first id = []
-reasons s pairs (leaf t) first id = []
-reasons s pairs (node l r) first id =
-    reasons s pairs l first id
-    ++ (reasons s pairs r (first + fresh_of s l) (id + 2 * fresh_of s l)
-    ++ map (pair_reason s l r first id) (pairs (values s l) (values s r)))
+reasons s pairs t first id = reasons_along s (pair_reasons s pairs) t first id
 
 -- of the whole tree, where the sum's own constraint has the id `own`
 abbrev pub root_reason : Scheme → Tree → ℕ → ℕ → ℕ → Reason

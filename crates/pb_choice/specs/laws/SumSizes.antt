@@ -9,8 +9,9 @@ use Rattle.pb_norm.proofs.KeptTerms.{weights-terms_of}
 use Rattle.pb_norm.specs.Classes.{IsCardinality}
 use Rattle.pb_norm.proofs.RestClasses.{units-weight}
 use Rattle.pb_tree.specs.Tree.{tree_of}
-use Rattle.pb_totalizer.specs.Totalizer.{totalizer_size}
-use Rattle.pb_totalizer.proofs.Counting as totalizer
+use Rattle.pb_tree.specs.Scheme.{own_count_of}
+use Rattle.pb_totalizer.specs.Totalizer.{totalizer_size, totalizer as scheme}
+use Rattle.pb_totalizer.specs.laws.Counting as totalizer
 use Rattle.pb_gentot.specs.Generalized.{generalized_fresh, generalized_size}
 use Rattle.pb_gentot.proofs.Bounds.{Bounds, bounds, some_terms}
 
@@ -24,7 +25,7 @@ bound_few m h = omega (arith, h.proper.heavy, units-weight m.terms h.units)
 
 pub totalizer_small : (m : BoundedSum) → IsCardinality m → length m.terms < 2 ^ 31 → totalizer_size m < 5 * 2 ^ 60
 totalizer_small m h few =
-    let all = totalizer.bounds m.bound m.terms (omega (arith, bound_few m h)) in
+    let all = totalizer.bounds m.bound (own_count_of (scheme m.bound)) (totalizer.own_in_grid m.bound) m.terms (omega (arith, bound_few m h)) in
     omega (arith, all.clauses, square_small (length m.terms) few)
 
 tree_bounds : (bound : ℕ) (ts : List Weighted) → 1 ≤ length ts → Bounds bound (tree_of ts) (length ts)

@@ -1,5 +1,5 @@
 -- The clauses of totalizers go by pairs of numbers.
-use Rattle.std.proofs.Common.{◌≡◌, ◌≤◌, ◌+◌, ◌-◌, ℕ, List, [], ◌∷◌, ◌++◌, length, min, refl, ap, sym, ◌∙◌, subst, arith, inl, inr}
+use Rattle.std.proofs.Common.{◌≡◌, ◌≤◌, ◌+◌, ◌-◌, ℕ, List, [], ◌∷◌, ◌++◌, length, min, refl, ap, sym, ◌∙◌, arith, inl, inr}
 use Rattle.std.specs.Prelude.{Contains, map}
 use Rattle.std.specs.List.{range_with_len}
 use Rattle.std.proofs.lemmas.Bool.{and_parts, leb-true, cases_eq}
@@ -15,7 +15,7 @@ use Rattle.pb_tree.proofs.PairReasons.{IsByPairs}
 use Rattle.pb_tree.proofs.TreeParts.{IsPart, AreFromParts}
 use Rattle.pb_totalizer.specs.Totalizer.{sum_clause, is_within, partners, sum_clauses, totalizer}
 use Rattle.pb_totalizer.specs.TotalizerSteps.{totalizer_pairs}
-use Rattle.pb_totalizer.specs.laws.TotalizerLaws.{values_are}
+use Rattle.pb_totalizer.specs.laws.TotalizerLaws.{value_bounds, value_from}
 
 pub partner_bounds : (cap b i j : ℕ) → Contains (partners cap b i) j → (1 ≤ i + j) × (i + j ≤ cap) × (j ≤ b)
 partner_bounds cap b i j h =
@@ -50,20 +50,15 @@ number_part : (bound : ℕ) (t : Tree) (u : ℕ) → u ≤ length (values (total
 number_part bound t u le =
     elim (cases_eq u 0) as (λ _. IsPart (values (totalizer bound) t) u) [
       | inl none ↦ inl none
-      | inr some ↦ inr (subst (λ (us : List ℕ). Contains us u) (sym (values_are bound t)) (Contains-range 1 (length (values (totalizer bound) t)) u (omega arith) (omega arith)))
+      | inr some ↦ inr (value_from bound t u (omega arith) le)
     ]
-
-number_bound : (bound : ℕ) (t : Tree) (u : ℕ) → Contains (values (totalizer bound) t) u → (1 ≤ u) × (u ≤ length (values (totalizer bound) t))
-number_bound bound t u h =
-    let found = Contains-range_cases 1 (length (values (totalizer bound) t)) u (subst (λ (us : List ℕ). Contains us u) (values_are bound t) h) in
-    (found.0, omega arith)
 
 totalizer_from : (bound : ℕ) → AreFromParts (totalizer bound)
 totalizer_from bound l r w h =
     let s = totalizer bound in
     let a = length (values s l) in
     let b = length (values s r) in
-    let bounds = number_bound bound (node l r) w h in
+    let bounds = value_bounds bound (node l r) w h in
     let count = length-range_with_len 1 (min (a + b) (bound + 1)) in
     let u = min w a in
     (u, w - u, number_part bound l u (omega arith), number_part bound r (w - u) (omega arith), omega arith)
@@ -82,5 +77,5 @@ totalizer_by_pairs bound =
           let w = min (p.left + p.right) (bound + 1) in
           Contains-range 1 (min (a + b) (bound + 1)) w (omega (arith, bounds.2)) (omega (arith, bounds.0, bounds.1, bounds.3));
       from = totalizer_from bound;
-      low = λ t positive u h. (number_bound bound t u h).0;
+      low = λ t positive u h. (value_bounds bound t u h).0;
     }

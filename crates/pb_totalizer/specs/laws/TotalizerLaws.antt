@@ -55,16 +55,16 @@ values_count bound (node l r) =
       values_count bound r,
     )
 
-value_bounds : (bound : ℕ) (t : Tree) (u : ℕ) → Contains (values (totalizer bound) t) u → (1 ≤ u) × (u ≤ length (values (totalizer bound) t))
+pub value_bounds : (bound : ℕ) (t : Tree) (u : ℕ) → Contains (values (totalizer bound) t) u → (1 ≤ u) × (u ≤ length (values (totalizer bound) t))
 value_bounds bound t u h =
     let found = Contains-range_cases 1 (length (values (totalizer bound) t)) u (subst (λ (us : List ℕ). Contains us u) (values_are bound t) h) in
     (found.0, omega arith)
 
-value_from : (bound : ℕ) (t : Tree) (u : ℕ) → 1 ≤ u → u ≤ length (values (totalizer bound) t) → Contains (values (totalizer bound) t) u
+pub value_from : (bound : ℕ) (t : Tree) (u : ℕ) → 1 ≤ u → u ≤ length (values (totalizer bound) t) → Contains (values (totalizer bound) t) u
 value_from bound t u low high =
     subst (λ (us : List ℕ). Contains us u) (sym (values_are bound t)) (Contains-range 1 (length (values (totalizer bound) t)) u low (omega arith))
 
-node_length : (bound : ℕ) (l r : Tree) → length (values (totalizer bound) (node l r)) ≡ min (length (values (totalizer bound) l) + length (values (totalizer bound) r)) (bound + 1)
+pub node_length : (bound : ℕ) (l r : Tree) → length (values (totalizer bound) (node l r)) ≡ min (length (values (totalizer bound) l) + length (values (totalizer bound) r)) (bound + 1)
 node_length bound l r = length-range_with_len 1 (min (length (values (totalizer bound) l) + length (values (totalizer bound) r)) (bound + 1))
 
 -- ---- the clauses
@@ -143,7 +143,7 @@ sum_clause_cases bound l r f g h c listed =
 
 -- ---- a smaller number of leaves
 
-fewer : (bound : ℕ) (p : Lit → Bool) (t : Tree) (x m : ℕ) → Reach (totalizer bound) p t x → m ≤ x → Reach (totalizer bound) p t m
+pub fewer : (bound : ℕ) (p : Lit → Bool) (t : Tree) (x m : ℕ) → Reach (totalizer bound) p t x → m ≤ x → Reach (totalizer bound) p t m
 fewer bound p empty x m reach le = omega arith
 fewer bound p (leaf t) x m reach le =
     elim (cases_eq m 0) as (λ _. (m ≡ 0) ⊎ ((m ≡ 1) × (p t.lit ≡ true))) [

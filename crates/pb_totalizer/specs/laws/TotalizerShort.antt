@@ -84,7 +84,7 @@ no_right cap a b =
     omega (arith, one, right_row cap b i)) in
     omega (arith, all, same, first, rest, length-range_with_len 1 a)
 
-totalizer_sparing : (bound : ℕ) → IsSparing (totalizer bound) (totalizer_pairs (bound + 1))
+pub totalizer_sparing : (bound : ℕ) → IsSparing (totalizer bound) (totalizer_pairs (bound + 1))
 totalizer_sparing bound =
     let s = totalizer bound in
     record {

@@ -7,7 +7,7 @@ use Rattle.pb_family.proofs.Looping.{looping_from, looping_next, looping_fault, 
 use Rattle.pb_family.proofs.Sequence.{reasons_ids}
 use Rattle.pb_totalizer.specs.laws.Sources.{pair_given}
 use Rattle.pb_totalizer.proofs.Handed.{pair_piece, row_pieces}
-use Rattle.pb_totalizer.proofs.Partners.{partners_are}
+use Rattle.pb_totalizer.specs.laws.Partners.{partners_are}
 use Rattle.pb_totalizer.proofs.claims.take_row.Goals as goal
 
 pub loop-place-init : goal.loop-place-init

@@ -14,7 +14,7 @@ use Rattle.pb_totalizer.specs.Totalizer.{totalizer}
 use Rattle.pb_totalizer.specs.TotalizerSteps.{totalizer_pairs}
 use Rattle.pb_totalizer.specs.laws.Sources.{all_reasons}
 use Rattle.pb_totalizer.proofs.Handed.{all_same}
-use Rattle.pb_totalizer.proofs.Shares.{few_reasons}
+use Rattle.pb_totalizer.specs.laws.Shares.{few_reasons}
 use Rattle.pb_totalizer.proofs.derivation.derive_totalizer.Goals as goal
 
 pub returns-in_err-meant : goal.returns-in_err-meant

@@ -14,6 +14,6 @@ returns-in_err-write_step-clause-hands c =
 pub returns-clause-hands : goal.returns-clause-hands
 returns-clause-hands c =
     takes_step c.args.step.now (steps_in_memory c.args.self.now.text.items c.args.self.now.next) (steps_in_memory c.write_step.new.out.items c.next_after-self.result) (record {
-      grows = record { lines = ap Some (c.in_ok-write_step.ensures.ok ∙ append_assoc c.args.self.now.text.items (step_line c.args.step.now) (10 ∷ [])); faults = omega arith; sent = omega arith; others = refl; room = refl; rest = refl };
+      grows = record { lines = ap Some (c.in_ok-write_step.ensures.ok ∙ append_assoc c.args.self.now.text.items (step_line c.args.step.now) (10 ∷ [])); faults = omega arith; sent = omega arith; others = refl; room = refl; lead = refl; rest = refl };
       quiet = refl;
     }) c.next_after-self.ensures

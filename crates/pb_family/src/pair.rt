@@ -1,0 +1,107 @@
+//! Pairs: clauses that stand for two bounded sums at once.
+ghost use Rattle.std.specs.Prelude.{◌≡◌, ◌≤◌, ◌<◌, ◌+◌, ◌*◌, ◌^◌, ℕ, List, All, length};
+ghost use Rattle.pb_base.specs.declared.literal.Lit.{Lit};
+ghost use Rattle.pb_base.specs.Literals.{Assignment, AgreeBelow, IsModel};
+ghost use Rattle.pb_norm.specs.BoundedSums.{BoundedSum, StaysWithin};
+ghost use Rattle.pb_norm.specs.ClausePropagation.{ClausesPropagate};
+ghost use Rattle.pb_steps.specs.declared.step.Step.{Step};
+ghost use Rattle.pb_steps.specs.Database.{Database};
+ghost use Rattle.pb_steps.specs.Sayable.{IsSayable};
+ghost use Rattle.pb_derive.specs.Derivations.{IsReadyForBoth, Derives};
+ghost use Rattle.pb_derive.specs.Short.{AreShort};
+ghost use Rattle.pb_family.specs.Derivations.{AreOriginal, MayStart};
+ghost use Rattle.pb_family.specs.Families.{NamesOnly, VarsBelow};
+ghost use Rattle.pb_family.specs.Handing.{HandsIfMemory};
+ghost use Rattle.pb_family.specs.Pairs.{StayWithinBoth};
+ghost use Rattle.pb_family.specs.StepSinks.{HandsSteps};
+
+use crate::sink::{ClauseSink, SinkFault};
+use crate::step_sink::StepSink;
+use std::alloc::Global;
+
+/// Clauses over the variables of two bounded sums and fresh ones, which say that both sums stay within their bounds.
+pub trait Pair {
+    /// The two sums, over the same variables: so many of some literals at most, and so many at least.
+    ghost most: { Self → BoundedSum };
+
+    ghost least: { Self → BoundedSum };
+
+    /// How many fresh variables it has.
+    ghost fresh_count: { Self → ℕ };
+
+    /// How many clauses it has.
+    ghost clause_count: { Self → ℕ };
+
+    /// Its clauses, where the fresh variables are numbered from a number on.
+    ghost clause_list: { Self → ℕ → List (List Lit) };
+
+    /// The steps of their derivation, where the fresh variables are numbered from the first number on, the second is the id of
+    /// the constraint from below, the third of the one from above, and the fourth is the next id.
+    ghost step_list: { Self → ℕ → ℕ → ℕ → ℕ → List Step };
+
+    /// How many fresh variables it has.
+    fn fresh(&self) -> u64
+        ensures { result ≡ fresh_count self.now };
+
+    /// How many clauses it has.
+    fn clauses(&self) -> u64
+        ensures { result ≡ clause_count self.now };
+
+    /// Hands over the clauses, in order. The fresh variables are numbered from `first` on.
+    fn emit<S: ClauseSink>(&self, alloc: Global, first: u32, sink: &mut S) -> Result<(), SinkFault>
+        requires original { VarsBelow first (most self.now).terms }
+        requires low { 1 ≤ first }
+        requires fits { first + fresh_count self.now ≤ 2 ^ 31 }
+        ensures { HandsIfMemory (clause_list self.now first) result (S.state sink.old) (S.state sink.new) };
+
+    /// Hands over the steps, in order. The fresh variables are numbered from `first` on, `lower` is the id of the constraint
+    /// from below, and `upper` of the one from above.
+    fn derive<T: StepSink>(
+        &self,
+        alloc: Global,
+        first: u32,
+        lower: u64,
+        upper: u64,
+        sink: &mut T,
+    ) -> Result<(), SinkFault>
+        requires original { VarsBelow first (most self.now).terms }
+        requires low { 1 ≤ first }
+        requires fits { first + fresh_count self.now ≤ 2 ^ 31 }
+        requires lower_given { 1 ≤ lower }
+        requires lower_known { lower < (T.state sink.old).next }
+        requires upper_given { 1 ≤ upper }
+        requires upper_known { upper < (T.state sink.old).next }
+        requires few { (T.state sink.old).next ≤ 2 ^ 61 }
+        ensures { HandsSteps (step_list self.now first lower upper (T.state sink.old).next) result (T.state sink.old) (T.state sink.new) };
+
+    /// Under a model of the clauses both sums stay within their bounds.
+    ghost sound: { (f : Self) (first : ℕ) → VarsBelow first (most f).terms → (a : Assignment) → IsModel a (clause_list f first) → StayWithinBoth (most f) (least f) a };
+
+    /// An assignment under which both do extends over the fresh variables to a model.
+    ghost extends: { (f : Self) (first : ℕ) → VarsBelow first (most f).terms → (a : Assignment) → StayWithinBoth (most f) (least f) a → (b : Assignment) × AgreeBelow first a b × IsModel b (clause_list f first) };
+
+    /// The clauses are as many as it says.
+    ghost counts: { (f : Self) (first : ℕ) → length (clause_list f first) ≡ clause_count f };
+
+    /// Each literal is of a variable of the sums or of a fresh one.
+    ghost names: { (f : Self) (first : ℕ) → NamesOnly (most f).terms first (fresh_count f) (clause_list f first) };
+
+    /// Unit propagation reaches all that one of the bounds forces, and all that both force together.
+    ghost propagates_most: { (f : Self) (first : ℕ) → VarsBelow first (most f).terms → ClausesPropagate (clause_list f first) (λ a. StaysWithin a (most f)) };
+
+    ghost propagates_least: { (f : Self) (first : ℕ) → VarsBelow first (most f).terms → ClausesPropagate (clause_list f first) (λ a. StaysWithin a (least f)) };
+
+    ghost propagates: { (f : Self) (first : ℕ) → VarsBelow first (most f).terms → ClausesPropagate (clause_list f first) (StayWithinBoth (most f) (least f)) };
+
+    /// From a database in which both constraints have the ids, the steps are allowed one after the other and put out the clauses.
+    ghost derives: { (f : Self) (first lower upper : ℕ) (db : Database) → VarsBelow first (most f).terms → IsReadyForBoth (most f) (least f) first (fresh_count f) lower upper db → Derives db (step_list f first lower upper db.next) (clause_list f first) (first + fresh_count f) };
+
+    /// The steps are few.
+    ghost few_steps: { (f : Self) (first lower upper next : ℕ) → length (step_list f first lower upper next) ≤ 8 * (fresh_count f + clause_count f) };
+
+    /// Lines can say them: all numbers are within their limits.
+    ghost sayable: { (f : Self) (first lower upper next : ℕ) → AreOriginal first (most f).terms → MayStart first (fresh_count f) lower next → MayStart first (fresh_count f) upper next → All IsSayable (step_list f first lower upper next) };
+
+    /// These lines are short.
+    ghost short: { (f : Self) (first lower upper next : ℕ) → AreOriginal first (most f).terms → MayStart first (fresh_count f) lower next → MayStart first (fresh_count f) upper next → length (most f).terms ≤ 2 ^ 21 → AreShort (length (most f).terms) (fresh_count f) (clause_count f) (step_list f first lower upper next) };
+}

@@ -1,0 +1,222 @@
+-- The steps of an exact sum's derivation as the code has their parts.
+use Rattle.std.proofs.Common.{◌≡◌, ◌<◌, ◌≤◌, ◌+◌, ◌-◌, ◌*◌, ◌^◌, ◌++◌, ℕ, Bool, true, false, cond, List, [], ◌∷◌, length, map, min, refl, sym, ap, ◌∙◌, subst, arith, length-append}
+use Rattle.std.specs.Prelude.{nat_lt}
+use Rattle.std.specs.List.{range_with_len}
+use Rattle.std.proofs.lemmas.Bool.{cond-true, cond-false, lt-ltb, le-ltb}
+use Rattle.std.proofs.lemmas.List.{length-map}
+use Rattle.pb_base.specs.declared.literal.Term.{Term}
+use Rattle.pb_norm.specs.BoundedSums.{vars_of, sum_within}
+use Rattle.pb_norm.specs.Constraints.{weights}
+use Rattle.pb_steps.specs.declared.step.Step.{Step}
+use Rattle.pb_steps.specs.declared.step.Step.TheVariants.{Out}
+use Rattle.pb_derive.specs.Claims.{claim_steps}
+use Rattle.pb_derive.specs.Reasons.{Reason, by_reason}
+use Rattle.pb_family.specs.Derivations.{pieces}
+use Rattle.pb_family.proofs.SameSteps.{HaveSameSteps, same_append}
+use Rattle.pb_family.proofs.Sequence.{reason_pieces}
+use Rattle.pb_tree.specs.Pairs.{Pair, pair_of}
+use Rattle.pb_tree.specs.Scheme.{fresh_of}
+use Rattle.pb_tree.specs.Tree.{Tree, node, tree_of}
+use Rattle.pb_tree.specs.TreeSteps.{leaves, output_ids, pair_reasons, reasons_along, root_reason}
+use Rattle.pb_tree.proofs.AlongReasons.{clause_in}
+use Rattle.pb_tree.proofs.Extending.{along_counted}
+use Rattle.pb_tree.proofs.PairLists.{map_same, map-map, rows_same}
+use Rattle.pb_tree.proofs.TreeHalves.{along_given, along_same, along_length}
+use Rattle.pb_tree.proofs.TreeHanded.{IsFirstFree, along_first_free, pairs_first_free, bare, bare_same}
+use Rattle.pb_tree.proofs.TreeRows.{leaves_of}
+use Rattle.pb_totalizer.specs.Exact.{outputs_of, limits, exact_own, limit_count_of}
+use Rattle.pb_totalizer.specs.ExactSteps.{after_ids, after_weakened, limit_reason, limit_pairs, limit_reasons, own_reasons, least_reason, exact_reasons}
+use Rattle.pb_totalizer.specs.Totalizer.{totalizer}
+use Rattle.pb_totalizer.specs.TotalizerSteps.{totalizer_pairs}
+use Rattle.pb_totalizer.specs.declared.claims.Source.{Source}
+use Rattle.pb_totalizer.specs.laws.Counting.{own_in_grid}
+use Rattle.pb_totalizer.specs.laws.ExactMeanings.{own_counted}
+use Rattle.pb_totalizer.specs.laws.ExactReasons.{exact_along_clauses}
+use Rattle.pb_totalizer.specs.laws.LimitCounts.{limits_in_grid, split_count}
+use Rattle.pb_totalizer.specs.laws.LimitSources.{seconds_from, ids_after, weakened_after, limit_given, limit_row_given, limits_given, both_given, least_given, exact_part_reasons, exact_all_reasons}
+use Rattle.pb_totalizer.specs.laws.Limits.{limits_are}
+use Rattle.pb_totalizer.specs.laws.Shares.{few_shared}
+use Rattle.pb_totalizer.specs.laws.Sources.{ids_from, node_given, root_given}
+use Rattle.pb_totalizer.proofs.Handed.{node_are, root_is}
+
+-- ---- an output after an index, or none
+
+pub ids_after_some : (source : Source) (count i : ℕ) → i < count → ids_after source count i ≡ seconds_from source (i + 1)
+ids_after_some source count i below = cond-true (nat_lt i count) (seconds_from source (i + 1)) [] (lt-ltb i count below)
+
+pub ids_after_none : (source : Source) (count i : ℕ) → count ≤ i → ids_after source count i ≡ []
+ids_after_none source count i above = cond-false (nat_lt i count) (seconds_from source (i + 1)) [] (le-ltb i count above)
+
+pub weakened_after_some : (ts : List Term) (count i : ℕ) → i < count → weakened_after ts count i ≡ []
+weakened_after_some ts count i below = cond-true (nat_lt i count) [] ts (lt-ltb i count below)
+
+pub weakened_after_none : (ts : List Term) (count i : ℕ) → count ≤ i → weakened_after ts count i ≡ ts
+weakened_after_none ts count i above = cond-false (nat_lt i count) [] ts (le-ltb i count above)
+
+-- ---- rows
+
+abbrev pub limit_piece : (ℕ → Reason) → ℕ → ℕ → List Step
+limit_piece f id k = claim_steps id (by_reason (f k) ∷ [])
+
+pub limit_row_pieces : (f : ℕ → Reason) (count b i high next : ℕ) → high ≡ min (b + 1) (count - i) → claim_steps next (map by_reason (map f (limits count b i))) ≡ pieces (limit_piece f) 1 next 0 high
+limit_row_pieces f count b i high next is =
+    ap (λ (js : List ℕ). claim_steps next (map by_reason (map f js))) (limits_are count b i high is ∙ ap (range_with_len 0) (let e : high - 0 ≡ high = omega arith in e))
+    ∙ reason_pieces f next 0 high
+
+-- ---- the clauses of a node
+
+seconds_are : (source : Source) (bound : ℕ) (t : Tree) (id u : ℕ) → ids_from source ≡ output_ids (totalizer bound) t id → seconds_from source u ≡ map (λ k. k + 1) (output_ids (totalizer bound) t id u)
+seconds_are source bound t id u same = ap (λ (f : ℕ → List ℕ). map (λ k. k + 1) (f u)) same
+
+after_are : (source : Source) (bound : ℕ) (t : Tree) (id i : ℕ) → ids_from source ≡ output_ids (totalizer bound) t id → ids_after source (outputs_of bound t) i ≡ after_ids bound t id i
+after_are source bound t id i same = ap (λ (f : ℕ → List ℕ). cond {A = List ℕ} (nat_lt i (outputs_of bound t)) (map (λ k. k + 1) (f (i + 1))) []) same
+
+weakened_are : (bound : ℕ) (ts : List Term) (i : ℕ) → vars_of (weights (weakened_after ts (outputs_of bound (tree_of (weights ts))) i)) ≡ after_weakened bound (tree_of (weights ts)) i
+weakened_are bound ts i = by_test (nat_lt i (outputs_of bound (tree_of (weights ts))))
+  where
+    by_test : (b : Bool) → vars_of (weights (cond {A = List Term} b [] ts)) ≡ cond {A = List ℕ} b [] (vars_of (leaves (tree_of (weights ts))))
+    by_test true = refl
+    by_test false = ap vars_of (sym (leaves_of (weights ts)))
+
+abbrev named : List ℕ → List ℕ → Reason
+named ids weakened = record { clause = []; ids = ids; weakened = weakened }
+
+module _ (bound : ℕ) (lefts rights : List Term) (id own : ℕ) (sl sr : Source)
+    (left : ids_from sl ≡ output_ids (totalizer bound) (tree_of (weights lefts)) id)
+    (right : ids_from sr ≡ output_ids (totalizer bound) (tree_of (weights rights)) (id + 2 * fresh_of (totalizer bound) (tree_of (weights lefts))))
+    (at : own ≡ id + 2 * fresh_of (totalizer bound) (tree_of (weights lefts)) + 2 * fresh_of (totalizer bound) (tree_of (weights rights))) where
+  abbrev l : Tree
+  l = tree_of (weights lefts)
+
+  abbrev r : Tree
+  r = tree_of (weights rights)
+
+  limit_is : (i j : ℕ) → limit_given (outputs_of bound l) (outputs_of bound r) sl lefts sr rights own i j ≡ bare (limit_reason bound l r 0 id (pair_of i j))
+  limit_is i j =
+      let s = totalizer bound in
+      let one = after_are sl bound l id i left in
+      let two = after_are sr bound r (id + 2 * fresh_of s l) j right in
+      let last : own + 2 * (i + j) ≡ id + 2 * (fresh_of s l + fresh_of s r + (i + j + 1 - 1)) = omega (arith, at) in
+      let three = weakened_are bound lefts i in
+      let four = weakened_are bound rights j in
+      λ k. named (one k ++ (two k ++ last k ∷ [])) (three k ++ four k)
+
+  limits_are_given : (count a b : ℕ) → count ≡ outputs_of bound (node l r) → a ≡ outputs_of bound l → b ≡ outputs_of bound r → limits_given count a b sl lefts sr rights own ≡ map bare (limit_reasons bound l r 0 id)
+  limits_are_given count a b ec ea eb =
+      let n = outputs_of bound l in
+      let m = outputs_of bound r in
+      let c = outputs_of bound (node l r) in
+      let claim = λ (p : Pair). bare (limit_reason bound l r 0 id p) in
+      (λ k. limits_given (ec k) (ea k) (eb k) sl lefts sr rights own)
+      ∙ rows_same claim (λ i. map (pair_of i) (limits c m i)) (limit_row_given c n m sl lefts sr rights own) (range_with_len 0 (n + 1))
+      (λ i here.
+      map_same (limit_given n m sl lefts sr rights own i) (λ j. claim (pair_of i j)) (limits c m i) (λ j k. limit_is i j)
+      ∙ sym (map-map claim (pair_of i) (limits c m i)))
+      ∙ sym (map-map bare (limit_reason bound l r 0 id) (limit_pairs c n m))
+
+  both_same : (count a b : ℕ) → count ≡ outputs_of bound (node l r) → a ≡ outputs_of bound l → b ≡ outputs_of bound r → HaveSameSteps (both_given (bound + 1) count a b sl lefts sr rights own) (own_reasons bound l r 0 id)
+  both_same count a b ec ea eb =
+      let ps = pair_reasons (totalizer bound) (totalizer_pairs (bound + 1)) l r 0 id in
+      let qs = limit_reasons bound l r 0 id in
+      same_append (node_given (bound + 1) a b sl lefts sr rights own) ps (limits_given count a b sl lefts sr rights own) qs
+      (subst (λ (rs : List Reason). HaveSameSteps rs ps) (sym (node_are bound lefts rights id own sl sr left right at a b ea eb)) (bare_same ps))
+      (subst (λ (rs : List Reason). HaveSameSteps rs qs) (sym (limits_are_given count a b ec ea eb)) (bare_same qs))
+
+-- ---- over two halves
+
+limits_same : (bound : ℕ) (l r : Tree) (f g id : ℕ) (ps : List Pair) → HaveSameSteps (map (limit_reason bound l r f id) ps) (map (limit_reason bound l r g id) ps)
+limits_same bound l r f g id ps = record { count = omega (arith, length-map ps (limit_reason bound l r f id), length-map ps (limit_reason bound l r g id)); steps = λ next. each next ps }
+  where
+    each : (next : ℕ) (ps : List Pair) → claim_steps next (map by_reason (map (limit_reason bound l r f id) ps)) ≡ claim_steps next (map by_reason (map (limit_reason bound l r g id) ps))
+    each next [] = refl
+    each next (p ∷ ps) = ap (λ (ss : List Step). (by_reason (limit_reason bound l r f id p)).step ∷ Out next ∷ ss) (each (next + 1) ps)
+
+-- the steps do not depend on the numbers of the variables
+pub own_first_free : (bound : ℕ) → IsFirstFree (own_reasons bound)
+own_first_free bound l r f g id =
+    let s = totalizer bound in
+    let pairs = totalizer_pairs (bound + 1) in
+    same_append (pair_reasons s pairs l r f id) (pair_reasons s pairs l r g id) (limit_reasons bound l r f id) (limit_reasons bound l r g id) (pairs_first_free s pairs l r f g id)
+    (limits_same bound l r f g id (limit_pairs (outputs_of bound (node l r)) (outputs_of bound l) (outputs_of bound r)))
+
+-- a node's own, as code has them
+abbrev pub exact_own_reasons : ℕ → List Term → List Term → ℕ → List Reason
+exact_own_reasons bound lefts rights id = own_reasons bound (tree_of (weights lefts)) (tree_of (weights rights)) 0 id
+
+-- the clauses of a part are those of its halves, and its own
+pub exact_parts_given : (bound : ℕ) (ts lefts rights : List Term) (id own count a b middle : ℕ) (sl sr : Source) → tree_of (weights ts) ≡ node (tree_of (weights lefts)) (tree_of (weights rights))
+    → ids_from sl ≡ output_ids (totalizer bound) (tree_of (weights lefts)) id
+    → middle ≡ id + 2 * fresh_of (totalizer bound) (tree_of (weights lefts))
+    → ids_from sr ≡ output_ids (totalizer bound) (tree_of (weights rights)) middle
+    → own ≡ middle + 2 * fresh_of (totalizer bound) (tree_of (weights rights))
+    → count ≡ outputs_of bound (node (tree_of (weights lefts)) (tree_of (weights rights)))
+    → a ≡ outputs_of bound (tree_of (weights lefts)) → b ≡ outputs_of bound (tree_of (weights rights))
+    → HaveSameSteps (exact_part_reasons bound lefts id ++ (exact_part_reasons bound rights middle ++ both_given (bound + 1) count a b sl lefts sr rights own)) (exact_part_reasons bound ts id)
+exact_parts_given bound ts lefts rights id own count a b middle sl sr tree left is right at ec ea eb =
+    let s = totalizer bound in
+    let l = tree_of (weights lefts) in
+    let r = tree_of (weights rights) in
+    let right_at : ids_from sr ≡ output_ids s r (id + 2 * fresh_of s l) = right ∙ ap (λ (n : ℕ). output_ids s r n) is in
+    along_given s (own_reasons bound) (own_first_free bound) (tree_of (weights ts)) l r id tree middle (both_given (bound + 1) count a b sl lefts sr rights own) is
+    (both_same bound lefts rights id own sl sr left right_at (omega (arith, at, is)) count a b ec ea eb)
+
+pub exact_parts_same : (bound : ℕ) (ts lefts rights : List Term) (id middle : ℕ) → tree_of (weights ts) ≡ node (tree_of (weights lefts)) (tree_of (weights rights))
+    → middle ≡ id + 2 * fresh_of (totalizer bound) (tree_of (weights lefts))
+    → HaveSameSteps (exact_part_reasons bound lefts id ++ (exact_part_reasons bound rights middle ++ exact_own_reasons bound lefts rights id)) (exact_part_reasons bound ts id)
+exact_parts_same bound ts lefts rights id middle tree is = along_same (totalizer bound) (own_reasons bound) (own_first_free bound) (tree_of (weights ts)) (tree_of (weights lefts)) (tree_of (weights rights)) id tree middle is
+
+-- how many they are
+pub exact_parts_length : (bound : ℕ) (ts lefts rights : List Term) (id : ℕ) → tree_of (weights ts) ≡ node (tree_of (weights lefts)) (tree_of (weights rights))
+    → length (exact_part_reasons bound lefts id) + length (exact_part_reasons bound rights (id + 2 * fresh_of (totalizer bound) (tree_of (weights lefts)))) ≤ length (exact_part_reasons bound ts id)
+exact_parts_length bound ts lefts rights id tree = along_length (totalizer bound) (own_reasons bound) (own_first_free bound) (tree_of (weights ts)) (tree_of (weights lefts)) (tree_of (weights rights)) id tree
+
+-- ---- the root
+
+least_is : (bound : ℕ) (ts : List Term) (id lower : ℕ) (root : Source) → ids_from root ≡ output_ids (totalizer bound) (tree_of (weights ts)) id
+    → least_given root bound lower ≡ bare (least_reason bound (tree_of (weights ts)) 0 id lower)
+least_is bound ts id lower root same = ap (λ (is : List ℕ). named (is ++ lower ∷ []) []) (seconds_are root bound (tree_of (weights ts)) id bound same)
+
+-- all clauses are those of the nodes and those of the root
+pub exact_ends_last : (bound : ℕ) (ts : List Term) (id lower upper : ℕ) (root : Source) → ids_from root ≡ output_ids (totalizer bound) (tree_of (weights ts)) id
+    → HaveSameSteps (exact_part_reasons bound ts id ++ (least_given root bound lower ∷ root_given root (bound + 1) upper ∷ [])) (exact_all_reasons bound ts id lower upper)
+exact_ends_last bound ts id lower upper root same =
+    let t = tree_of (weights ts) in
+    let ends = least_reason bound t 0 id lower ∷ root_reason (totalizer bound) t 0 id upper ∷ [] in
+    let one = least_is bound ts id lower root same in
+    let two = root_is bound ts id upper root same in
+    let are : (least_given root bound lower ∷ root_given root (bound + 1) upper ∷ []) ≡ map bare ends = λ i. one i ∷ two i ∷ [] in
+    same_append (exact_part_reasons bound ts id) (exact_part_reasons bound ts id) (least_given root bound lower ∷ root_given root (bound + 1) upper ∷ []) ends (record { count = refl; steps = λ next. refl })
+    (subst (λ (rs : List Reason). HaveSameSteps rs ends) (sym are) (bare_same ends))
+
+-- from the sink's next id on
+pub exact_all_same : (bound : ℕ) (ts : List Term) (first lower upper base next : ℕ) → base ≡ next → HaveSameSteps (exact_all_reasons bound ts base lower upper) (exact_reasons (sum_within ts bound) first next lower upper)
+exact_all_same bound ts first lower upper base next is =
+    let s = totalizer bound in
+    let t = tree_of (weights ts) in
+    let ends = λ (f : ℕ). least_reason bound t f base lower ∷ root_reason s t f base upper ∷ [] in
+    subst (λ (b : ℕ). HaveSameSteps (exact_all_reasons bound ts base lower upper) (exact_reasons (sum_within ts bound) first b lower upper)) is
+    (same_append (reasons_along s (own_reasons bound) t 0 base) (reasons_along s (own_reasons bound) t first base) (ends 0) (ends first) (along_first_free s (own_reasons bound) (own_first_free bound) t 0 first base)
+    (record { count = refl; steps = λ next. refl }))
+
+-- ---- how many
+
+pub exact_all_counted : (bound : ℕ) (ts : List Term) (id lower upper : ℕ) → length (exact_all_reasons bound ts id lower upper) ≡ length (exact_part_reasons bound ts id) + 2
+exact_all_counted bound ts id lower upper =
+    let t = tree_of (weights ts) in
+    omega (arith, length-append (exact_part_reasons bound ts id) (least_reason bound t 0 id lower ∷ root_reason (totalizer bound) t 0 id upper ∷ []))
+
+-- as many clauses as the ids have room for
+pub few_exact : (bound : ℕ) (ts : List Term) (id : ℕ) → 1 ≤ bound → fresh_of (totalizer bound) (tree_of (weights ts)) ≤ 2 ^ 31 → length (exact_part_reasons bound ts id) ≤ 3 * 2 ^ 59
+few_exact bound ts id some few =
+    let s = totalizer bound in
+    let t = tree_of (weights ts) in
+    let rs = exact_part_reasons bound ts id in
+    omega (
+      arith,
+      length-map rs clause_in,
+      ap length (exact_along_clauses bound t 0 id),
+      along_counted s (exact_own bound) _ (own_counted bound) t 0,
+      split_count bound t,
+      few_shared bound _ (own_in_grid bound) t some few,
+      few_shared bound (limit_count_of bound) (limits_in_grid bound) t some few,
+    )

@@ -1,0 +1,67 @@
+use Rattle.std.proofs.Common.{◌≡◌, List, length, map, ap, ◌∙◌, arith}
+use Rattle.std.proofs.lemmas.List.{length-map}
+use Rattle.pb_base.specs.declared.literal.Term.{Term}
+use Rattle.pb_norm.specs.BoundedSums.{BoundedSum, sum_within}
+use Rattle.pb_totalizer.specs.Exact.{at_least, exact_clauses, exact_fresh, exact_size, literals_within}
+use Rattle.pb_totalizer.specs.laws.ExactLaws.{exact_outputs}
+use Rattle.pb_totalizer.specs.laws.UnitTerms.{unit_term, sum_is, sum_proper, units_weigh}
+use Rattle.pb_totalizer.proofs.exact.Exact.build.Goals as goal
+
+pub returns-then-size-budget-clause-over : goal.returns-then-size-budget-clause-over
+returns-then-size-budget-clause-over c =
+    let ts = c.in_ok-terms.terms.items in
+    let same : ts ≡ map unit_term c.args.lits.now = c.in_ok-terms.ensures ∙ ap (map unit_term) c.as_slice.ensures in
+    let sum = sum_is ts c.args.lits.now c.args.number same in
+    let here = ap (λ (us : List Term). exact_fresh (sum_within us c.args.number)) c.as_slice-2.ensures.value in
+    omega (arith, c.measure_exact-size.ensures.fresh, here, ap exact_fresh sum, c.if-size-budget.true)
+
+pub invariant_of-result : goal.invariant_of-result
+invariant_of-result c =
+    let ts = c.in_ok-terms.terms.items in
+    let ls = c.args.lits.now in
+    let same : ts ≡ map unit_term ls = c.in_ok-terms.ensures ∙ ap (map unit_term) c.as_slice.ensures in
+    let fresh = ap (λ (us : List Term). exact_fresh (sum_within us c.args.number)) c.as_slice-2.ensures.value in
+    let size = ap (λ (us : List Term). exact_size (sum_within us c.args.number)) c.as_slice-2.ensures.value in
+    record {
+      units = units_weigh ts ls same;
+      proper = sum_proper ts ls c.args.number same c.requires.distinct c.requires.some c.requires.not_all c.requires.few;
+      few = omega (arith, ap length same, length-map ls unit_term, c.requires.few);
+      fresh_is = c.measure_exact-size.ensures.fresh ∙ fresh;
+      clauses_is = c.measure_exact-size.ensures.clauses ∙ size;
+    }
+
+pub returns-clause-over : goal.returns-clause-over
+returns-clause-over c =
+    let ts = c.in_ok-terms.terms.items in
+    let same : ts ≡ map unit_term c.args.lits.now = c.in_ok-terms.ensures ∙ ap (map unit_term) c.as_slice.ensures in
+    let sum = sum_is ts c.args.lits.now c.args.number same in
+    let here = ap (λ (us : List Term). exact_fresh (sum_within us c.args.number)) c.as_slice-2.ensures.value in
+    omega (arith, c.measure_exact-size.ensures.fresh, here, ap exact_fresh sum, c.if-size-budget.false)
+
+pub returns-clause-most : goal.returns-clause-most
+returns-clause-most c =
+    let same : c.in_ok-terms.terms.items ≡ map unit_term c.args.lits.now = c.in_ok-terms.ensures ∙ ap (map unit_term) c.as_slice.ensures in
+    sum_is c.in_ok-terms.terms.items c.args.lits.now c.args.number same
+
+pub returns-clause-least : goal.returns-clause-least
+returns-clause-least c =
+    let same : c.in_ok-terms.terms.items ≡ map unit_term c.args.lits.now = c.in_ok-terms.ensures ∙ ap (map unit_term) c.as_slice.ensures in
+    ap at_least (sum_is c.in_ok-terms.terms.items c.args.lits.now c.args.number same)
+
+pub returns-clause-fresh : goal.returns-clause-fresh
+returns-clause-fresh c =
+    let same : c.in_ok-terms.terms.items ≡ map unit_term c.args.lits.now = c.in_ok-terms.ensures ∙ ap (map unit_term) c.as_slice.ensures in
+    ap exact_fresh (sum_is c.in_ok-terms.terms.items c.args.lits.now c.args.number same)
+
+pub returns-clause-clauses : goal.returns-clause-clauses
+returns-clause-clauses c =
+    let same : c.in_ok-terms.terms.items ≡ map unit_term c.args.lits.now = c.in_ok-terms.ensures ∙ ap (map unit_term) c.as_slice.ensures in
+    ap exact_size (sum_is c.in_ok-terms.terms.items c.args.lits.now c.args.number same)
+
+pub returns-clause-list : goal.returns-clause-list
+returns-clause-list c first =
+    let same : c.in_ok-terms.terms.items ≡ map unit_term c.args.lits.now = c.in_ok-terms.ensures ∙ ap (map unit_term) c.as_slice.ensures in
+    ap (λ (m : BoundedSum). exact_clauses m first) (sum_is c.in_ok-terms.terms.items c.args.lits.now c.args.number same)
+
+pub returns-clause-outputs : goal.returns-clause-outputs
+returns-clause-outputs c first = exact_outputs (literals_within c.args.lits.now c.args.number) first

@@ -1,0 +1,177 @@
+-- Unit propagation from outputs to leaves: where few leaves are not false, outputs are false, and an output that is true makes them true.
+use Rattle.std.proofs.Common.{◌≡◌, ◌<◌, ◌≤◌, ◌+◌, ◌-◌, ◌++◌, ℕ, Bool, true, false, cond, List, min, refl, sym, subst, arith, inl, inr}
+use Rattle.std.specs.Prelude.{Contains}
+use Rattle.std.proofs.lemmas.Bool.{cases_Bool, true≢false}
+use Rattle.std.proofs.lemmas.List.Elements.{Contains-append_left, Contains-append_right, Contains-append_cases}
+use Rattle.pb_base.specs.declared.literal.Lit.{Lit}
+use Rattle.pb_base.specs.Literals.{negated}
+use Rattle.pb_norm.specs.Constraints.{Weighted}
+use Rattle.pb_norm.proofs.Derived.{Derived}
+use Rattle.pb_tree.specs.Tree.{Tree, empty, leaf, node, IsLeafOf, leaf_sum}
+use Rattle.pb_tree.specs.Scheme.{fresh_of, output, own_of, clauses_of, IsPartAt}
+use Rattle.pb_totalizer.specs.Totalizer.{totalizer}
+use Rattle.pb_totalizer.specs.laws.TotalizerLaws.{values_count, leaf_count, node_length}
+use Rattle.pb_totalizer.specs.Exact.{limits_of, outputs_of, exact_along}
+use Rattle.pb_totalizer.specs.laws.Limits.{limit_listed, limit_denies, limit_raises_left, limit_raises_right}
+
+-- ---- what a list of clauses along a tree has
+
+-- the clauses of a node's parts, and those to its outputs and from them
+pub record Listed (bound : ℕ) (cs : List (List Lit)) (l r : Tree) (first : ℕ) : Type 0 where
+  pub left : (c : List Lit) → Contains (exact_along bound l first) c → Contains cs c
+  pub right : (c : List Lit) → Contains (exact_along bound r (first + fresh_of (totalizer bound) l)) c → Contains cs c
+  pub sums : (c : List Lit) → Contains (own_of (totalizer bound) l r first) c → Contains cs c
+  pub limits : (c : List Lit) → Contains (limits_of bound l r first) c → Contains cs c
+
+pub listed_parts : (bound : ℕ) (cs : List (List Lit)) (l r : Tree) (first : ℕ) → ((c : List Lit) → Contains (exact_along bound (node l r) first) c → Contains cs c) → Listed bound cs l r first
+listed_parts bound cs l r first listed =
+    let s = totalizer bound in
+    let lefts = exact_along bound l first in
+    let rights = exact_along bound r (first + fresh_of s l) in
+    let sums = own_of s l r first in
+    let limits = limits_of bound l r first in
+    record {
+      left = λ c m. listed c (Contains-append_left lefts (rights ++ (sums ++ limits)) c m);
+      right = λ c m. listed c (Contains-append_right lefts (rights ++ (sums ++ limits)) c (Contains-append_left rights (sums ++ limits) c m));
+      sums = λ c m. listed c (Contains-append_right lefts (rights ++ (sums ++ limits)) c (Contains-append_right rights (sums ++ limits) c (Contains-append_left sums limits c m)));
+      limits = λ c m. listed c (Contains-append_right lefts (rights ++ (sums ++ limits)) c (Contains-append_right rights (sums ++ limits) c (Contains-append_right sums limits c m)));
+    }
+
+-- all that a totalizer has
+pub totalizer_listed : (bound : ℕ) (cs : List (List Lit)) (t : Tree) (first : ℕ) → ((c : List Lit) → Contains (exact_along bound t first) c → Contains cs c)
+    → (c : List Lit) → Contains (clauses_of (totalizer bound) t first) c → Contains cs c
+totalizer_listed bound cs empty first listed c h = listed c h
+totalizer_listed bound cs (leaf t) first listed c h = listed c h
+totalizer_listed bound cs (node l r) first listed c h =
+    let s = totalizer bound in
+    let middle = first + fresh_of s l in
+    let lists = listed_parts bound cs l r first listed in
+    let sums = own_of s l r first in
+    elim (Contains-append_cases (clauses_of s l first) (clauses_of s r middle ++ sums) c h) as (λ _. Contains cs c) [
+      | inl left ↦ totalizer_listed bound cs l first lists.left c left
+      | inr rest ↦ elim (Contains-append_cases (clauses_of s r middle) sums c rest) as (λ _. Contains cs c) [
+        | inl right ↦ totalizer_listed bound cs r middle lists.right c right
+        | inr own ↦ lists.sums c own
+      ]
+    ]
+
+-- and all of a part
+pub part_listed : (bound : ℕ) (cs : List (List Lit)) (t : Tree) (first : ℕ) (part : Tree) (at : ℕ) → ((c : List Lit) → Contains (exact_along bound t first) c → Contains cs c)
+    → IsPartAt (totalizer bound) t first part at → (c : List Lit) → Contains (exact_along bound part at) c → Contains cs c
+part_listed bound cs empty first part at listed is c h = listed c (subst (λ (n : ℕ). Contains (exact_along bound empty n) c) (sym is.1) (subst (λ (t : Tree). Contains (exact_along bound t at) c) (sym is.0) h))
+part_listed bound cs (leaf t) first part at listed is c h = listed c (subst (λ (n : ℕ). Contains (exact_along bound (leaf t) n) c) (sym is.1) (subst (λ (t : Tree). Contains (exact_along bound t at) c) (sym is.0) h))
+part_listed bound cs (node l r) first part at listed is c h =
+    let lists = listed_parts bound cs l r first listed in
+    elim is as (λ _. Contains cs c) [
+      | inl whole ↦ listed c (subst (λ (n : ℕ). Contains (exact_along bound (node l r) n) c) (sym whole.1) (subst (λ (t : Tree). Contains (exact_along bound t at) c) (sym whole.0) h))
+      | inr inside ↦ elim inside as (λ _. Contains cs c) [
+        | inl left ↦ part_listed bound cs l first part at lists.left left c h
+        | inr right ↦ part_listed bound cs r (first + fresh_of (totalizer bound) l) part at lists.right right c h
+      ]
+    ]
+
+-- ---- how many outputs there are
+
+-- the leaves that are not false, where p says which are
+abbrev pub open_under : (Lit → Bool) → Tree → ℕ
+open_under p t = leaf_sum (λ u. cond (p u.lit) 0 1) t
+
+one_open : (b : Bool) → cond b 0 1 ≤ 1
+one_open true = omega arith
+one_open false = omega arith
+
+pub open_within : (p : Lit → Bool) (t : Tree) → open_under p t ≤ leaf_count t
+open_within p empty = omega arith
+open_within p (leaf t) = one_open (p t.lit)
+open_within p (node l r) = omega (arith, open_within p l, open_within p r)
+
+fails_open : (b : Bool) → b ≡ false → (let n : ℕ = cond b 0 1 in n ≡ 1)
+fails_open true fails = absurd (true≢false fails)
+fails_open false fails = refl
+
+some_open : (p : Lit → Bool) (t : Tree) (u : Weighted) → IsLeafOf t u → p u.lit ≡ false → 1 ≤ open_under p t
+some_open p empty u h fails = absurd h
+some_open p (leaf t) u h fails =
+    omega (arith, fails_open (p t.lit) (subst (λ (w : Weighted). p w.lit ≡ false) (sym h) fails))
+some_open p (node l r) u h fails =
+    elim h as (λ _. 1 ≤ open_under p (node l r)) [
+      | inl left ↦ omega (arith, some_open p l u left fails)
+      | inr right ↦ omega (arith, some_open p r u right fails)
+    ]
+
+-- ---- from few open leaves
+
+pub deny_output : (bound : ℕ) (p : Lit → Bool) (cs : List (List Lit)) (given : List Lit) → ((l : Lit) → p l ≡ true → Derived cs given (negated l))
+    → (t : Tree) (first j : ℕ) → ((c : List Lit) → Contains (exact_along bound t first) c → Contains cs c)
+    → open_under p t < j → j ≤ outputs_of bound t → Derived cs given (negated (output (totalizer bound) t first j))
+deny_output bound p cs given passes empty first j listed few within = absurd (omega arith)
+deny_output bound p cs given passes (leaf t) first j listed few within =
+    elim (cases_Bool (p t.lit)) as (λ _. Derived cs given (negated t.lit)) [
+      | inl holds ↦ passes t.lit holds
+      | inr fails ↦ absurd (omega (arith, fails_open (p t.lit) fails))
+    ]
+deny_output bound p cs given passes (node l r) first j listed few within =
+    let s = totalizer bound in
+    let a = outputs_of bound l in
+    let b = outputs_of bound r in
+    let m = open_under p l in
+    let n = open_under p r in
+    let f = output s l first in
+    let g = output s r (first + fresh_of s l) in
+    let h = output s (node l r) first in
+    let lists = listed_parts bound cs l r first listed in
+    let count = node_length bound l r in
+    let am = values_count bound l in
+    let bn = values_count bound r in
+    let mw = open_within p l in
+    let nw = open_within p r in
+    let i = min a (j - 1 - n) in
+    let k = j - 1 - i in
+    let whole : i + k + 1 ≡ j = omega arith in
+    subst (λ (x : ℕ). Derived cs given (negated (h x))) whole
+    (limit_denies cs given a b f g h i k (lists.limits _ (limit_listed (outputs_of bound (node l r)) a b f g h i k (omega arith) (omega arith) (omega arith)))
+    (λ below. deny_output bound p cs given passes l first (i + 1) lists.left (omega arith) (omega arith))
+    (λ below. deny_output bound p cs given passes r (first + fresh_of s l) (k + 1) lists.right (omega arith) (omega arith)))
+
+-- ---- from a true output
+
+pub raise_leaf : (bound : ℕ) (p : Lit → Bool) (cs : List (List Lit)) (given : List Lit) → ((l : Lit) → p l ≡ true → Derived cs given (negated l))
+    → (t : Tree) (u : Weighted) (first j : ℕ) → ((c : List Lit) → Contains (exact_along bound t first) c → Contains cs c)
+    → IsLeafOf t u → p u.lit ≡ false → open_under p t ≤ j → j ≤ outputs_of bound t → Derived cs given (output (totalizer bound) t first j) → Derived cs given u.lit
+raise_leaf bound p cs given passes empty u first j listed among fails few within top = absurd among
+raise_leaf bound p cs given passes (leaf t) u first j listed among fails few within top = subst (λ (w : Weighted). Derived cs given w.lit) among top
+raise_leaf bound p cs given passes (node l r) u first j listed among fails few within top =
+    let s = totalizer bound in
+    let a = outputs_of bound l in
+    let b = outputs_of bound r in
+    let m = open_under p l in
+    let n = open_under p r in
+    let f = output s l first in
+    let g = output s r (first + fresh_of s l) in
+    let h = output s (node l r) first in
+    let lists = listed_parts bound cs l r first listed in
+    let count = node_length bound l r in
+    let am = values_count bound l in
+    let bn = values_count bound r in
+    let mw = open_within p l in
+    let nw = open_within p r in
+    elim among as (λ _. Derived cs given u.lit) [
+      | inl left ↦
+          let some = some_open p l u left fails in
+          let i = min a (j - n) - 1 in
+          let k = j - 1 - i in
+          let whole : j ≡ i + k + 1 = omega arith in
+          raise_leaf bound p cs given passes l u first (i + 1) lists.left left fails (omega arith) (omega arith)
+          (limit_raises_left cs given a b f g h i k (lists.limits _ (limit_listed (outputs_of bound (node l r)) a b f g h i k (omega arith) (omega arith) (omega arith))) (omega arith)
+          (λ below. deny_output bound p cs given passes r (first + fresh_of s l) (k + 1) lists.right (omega arith) (omega arith))
+          (subst (λ (x : ℕ). Derived cs given (h x)) whole top))
+      | inr right ↦
+          let some = some_open p r u right fails in
+          let k = min b (j - m) - 1 in
+          let i = j - 1 - k in
+          let whole : j ≡ i + k + 1 = omega arith in
+          raise_leaf bound p cs given passes r u (first + fresh_of s l) (k + 1) lists.right right fails (omega arith) (omega arith)
+          (limit_raises_right cs given a b f g h i k (lists.limits _ (limit_listed (outputs_of bound (node l r)) a b f g h i k (omega arith) (omega arith) (omega arith))) (omega arith)
+          (λ below. deny_output bound p cs given passes l first (i + 1) lists.left (omega arith) (omega arith))
+          (subst (λ (x : ℕ). Derived cs given (h x)) whole top))
+    ]

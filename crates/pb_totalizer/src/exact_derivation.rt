@@ -1,0 +1,99 @@
+//! The derivation of an exact sum's clauses.
+ghost use Rattle.std.specs.Prelude.{◌≡◌, ◌≤◌, ◌<◌, ◌+◌, ◌*◌, ◌^◌, ◌++◌, ◌∷◌, [], length, IfOk};
+ghost use Rattle.pb_norm.specs.BoundedSums.{sum_within};
+ghost use Rattle.pb_norm.specs.Constraints.{weight, weights};
+ghost use Rattle.pb_family.specs.StepSinks.{HandsSteps};
+ghost use Rattle.pb_family.specs.laws.HandedReasons.{HandsReasons};
+ghost use Rattle.pb_tree.specs.Tree.{tree_of};
+ghost use Rattle.pb_tree.specs.Scheme.{fresh_of};
+ghost use Rattle.pb_totalizer.specs.ExactSteps.{exact_steps};
+ghost use Rattle.pb_totalizer.specs.Totalizer.{totalizer};
+ghost use Rattle.pb_totalizer.specs.laws.LimitSources.{seconds_from, least_given, exact_part_reasons, exact_all_reasons};
+ghost use Rattle.pb_totalizer.specs.laws.Sources.{HasIds};
+
+use crate::claims::Source;
+use crate::derivation::take_root;
+use crate::exact_claims::push_second;
+use crate::exact_handing::take_exact_part;
+use crate::meanings::take_meanings;
+use pb_base::Term;
+use pb_family::{SinkFault, StepSink, take_claim, take_deletions};
+use std::alloc::{AllocError, Global};
+
+/// The ids of the constraints that the clause of the bound's output follows from.
+fn least_ids(alloc: Global, root: Source, number: u64, lower: u64) -> Result<Vec<u64>, AllocError>
+    requires room { HasIds root }
+    requires some { 1 ≤ number }
+    requires small { number < 2 ^ 33 }
+    ensures { IfOk result (λ ids. ids.items ≡ seconds_from root number ++ lower ∷ []) }
+{
+    let mut ids = Vec::new(alloc);
+    push_second(&mut ids, root, number)?;
+    ids.push(lower)?;
+    Ok(ids)
+}
+
+/// That so many leaves are true, by the sum's constraint from below.
+fn take_least<T: StepSink>(
+    alloc: Global,
+    root: Source,
+    number: u64,
+    lower: u64,
+    sink: &mut T,
+) -> Result<(), SinkFault>
+    requires room { HasIds root }
+    requires some { 1 ≤ number }
+    requires small { number < 2 ^ 33 }
+    requires few { (T.state sink.old).next + 1 < 2 ^ 62 }
+    ensures { HandsReasons (least_given root number lower ∷ []) result (T.state sink.old) (T.state sink.new) }
+{
+    let ids = least_ids(alloc, root, number, lower)?;
+    take_claim(alloc, ids.as_slice(), &[], sink)
+}
+
+/// The clauses of the exact sum of some terms, with those of the root.
+fn take_exact_clauses<T: StepSink>(
+    alloc: Global,
+    terms: &[Term],
+    bound: u64,
+    id: u64,
+    lower: u64,
+    upper: u64,
+    sink: &mut T,
+) -> Result<(), SinkFault>
+    requires some { 1 ≤ length terms.now }
+    requires from { 1 ≤ bound }
+    requires small { bound < 2 ^ 31 }
+    requires ids { id + 2 * fresh_of (totalizer bound) (tree_of (weights terms.now)) < 2 ^ 62 }
+    requires room { (T.state sink.old).next + length (exact_part_reasons bound terms.now id) + 2 < 2 ^ 62 }
+    ensures { HandsReasons (exact_all_reasons bound terms.now id lower upper) result (T.state sink.old) (T.state sink.new) }
+{
+    let root = take_exact_part(alloc, terms, bound, id, sink)?;
+    take_least(alloc, root.source, bound, lower, sink)?;
+    take_root(alloc, root.source, bound + 1, upper, sink)
+}
+
+/// Hands over the whole derivation, where `lower` is the id of the constraint from below, and `upper` of the one from above.
+pub fn derive_exact<T: StepSink>(
+    alloc: Global,
+    terms: &[Term],
+    bound: u64,
+    first: u32,
+    lower: u64,
+    upper: u64,
+    sink: &mut T,
+) -> Result<(), SinkFault>
+    requires from { 1 ≤ bound }
+    requires more { bound < length terms.now }
+    requires short { length terms.now < 2 ^ 31 }
+    requires low { 1 ≤ first }
+    requires fits { first + fresh_of (totalizer bound) (tree_of (weights terms.now)) ≤ 2 ^ 31 }
+    requires light { weight (weights terms.now) < 2 ^ 100 }
+    requires few { (T.state sink.old).next ≤ 2 ^ 61 }
+    ensures { HandsSteps (exact_steps (sum_within terms.now bound) first lower upper (T.state sink.old).next) result (T.state sink.old) (T.state sink.new) }
+{
+    let base = sink.next_id();
+    let meant = take_meanings(alloc, terms, bound, first, sink)?;
+    take_exact_clauses(alloc, terms, bound, base, lower, upper, sink)?;
+    take_deletions(alloc, base, 2, (meant.next - first) as u64, sink)
+}
