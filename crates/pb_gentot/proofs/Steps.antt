@@ -6,9 +6,8 @@ use Rattle.std.proofs.Math.Seq.{drop-cons}
 use Rattle.std.proofs.lemmas.List.{drop_all}
 use Rattle.pb_base.specs.declared.literal.Lit.{Lit}
 use Rattle.pb_base.specs.declared.fault.Failed.{Failed}
-use Rattle.pb_family.specs.ClauseText.{clauses_text}
-use Rattle.pb_family.specs.Sinks.{SinkState, Takes, FailsToTake}
-use Rattle.pb_family.specs.Handing.{Hands}
+use Rattle.pb_family.specs.Sinks.{SinkState}
+use Rattle.pb_family.specs.Handing.{FailsInClauses, Hands, TakesClauses}
 use Rattle.pb_family.proofs.Emission.{Emitting, emitting_step, emitting_ends, hands_fault}
 
 values_rest : {X : Type 0} (c : ℕ → X) (us : List ℕ) (i : ℕ) → i < length us → map c (drop i us) ≡ c (get_or us i 0) ∷ map c (drop (i + 1) us)
@@ -25,21 +24,21 @@ module _ {R : Type 0} {all : List (List Lit)} {old now : SinkState R} where
   value_next c us i within e = subst (λ (xs : List (List Lit)). Emitting all xs old now) (values_rest c us i within) e
 
   pub value_step : (c : ℕ → List Lit) (us : List ℕ) (i : ℕ) (x : List Lit) (after : SinkState R) → i < length us → x ≡ c (get_or us i 0)
-      → Emitting all (map c (drop i us)) old now → Takes (clauses_text (x ∷ [])) now after → Emitting all (map c (drop (i + 1) us)) old after
+      → Emitting all (map c (drop i us)) old now → TakesClauses (x ∷ []) now after → Emitting all (map c (drop (i + 1) us)) old after
   value_step c us i x after within same e taken =
-      emitting_step (c (get_or us i 0) ∷ []) after (value_next c us i within e) (subst (λ (d : List Lit). Takes (clauses_text (d ∷ [])) now after) same taken)
+      emitting_step (c (get_or us i 0) ∷ []) after (value_next c us i within e) (subst (λ (d : List Lit). TakesClauses (d ∷ []) now after) same taken)
 
   pub value_fault : {T : Type 0} (r : Result T Failed) (g : Failed) (c : ℕ → List Lit) (us : List ℕ) (i : ℕ) (x : List Lit) (after : SinkState R) → IsErrAnd r (λ f. f ≡ g) → i < length us → x ≡ c (get_or us i 0)
-      → Emitting all (map c (drop i us)) old now → FailsToTake (clauses_text (x ∷ [])) now after → Hands all r old after
+      → Emitting all (map c (drop i us)) old now → FailsInClauses (x ∷ []) now after → Hands all r old after
   value_fault r g c us i x after is within same e part =
-      hands_fault r g (c (get_or us i 0) ∷ []) _ after is (value_next c us i within e) (subst (λ (d : List Lit). FailsToTake (clauses_text (d ∷ [])) now after) same part)
+      hands_fault r g (c (get_or us i 0) ∷ []) _ after is (value_next c us i within e) (subst (λ (d : List Lit). FailsInClauses (d ∷ []) now after) same part)
 
   -- what is left of a list of rows begins with the next one
   pub row_next : (row : ℕ → List (List Lit)) (us : List ℕ) (i : ℕ) → i < length us → Emitting all (flat_map row (drop i us)) old now → Emitting all (row (get_or us i 0) ++ flat_map row (drop (i + 1) us)) old now
   row_next row us i within e = subst (λ (xs : List (List Lit)). Emitting all xs old now) (rows_rest row us i within) e
 
-  pub values_taken : (c : ℕ → List Lit) (us : List ℕ) (i : ℕ) → length us ≤ i → Emitting all (map c (drop i us)) old now → Takes (clauses_text all) old now
+  pub values_taken : (c : ℕ → List Lit) (us : List ℕ) (i : ℕ) → length us ≤ i → Emitting all (map c (drop i us)) old now → TakesClauses all old now
   values_taken c us i passed e = emitting_ends (subst (λ (xs : List ℕ). Emitting all (map c xs) old now) (drop_all i us passed) e)
 
-  pub rows_taken : (row : ℕ → List (List Lit)) (us : List ℕ) (i : ℕ) → length us ≤ i → Emitting all (flat_map row (drop i us)) old now → Takes (clauses_text all) old now
+  pub rows_taken : (row : ℕ → List (List Lit)) (us : List ℕ) (i : ℕ) → length us ≤ i → Emitting all (flat_map row (drop i us)) old now → TakesClauses all old now
   rows_taken row us i passed e = emitting_ends (subst (λ (xs : List ℕ). Emitting all (flat_map row xs) old now) (drop_all i us passed) e)

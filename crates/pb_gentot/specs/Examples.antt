@@ -9,14 +9,14 @@ use Rattle.pb_tree.specs.Tree.{split_within}
 use Rattle.pb_gentot.specs.Generalized.{generalized_clauses, generalized_fresh, generalized_size}
 
 -- the literal x of a number, and its negation
-abbrev x : ℕ → Lit
+abbrev pub x : ℕ → Lit
 x n = positive_of n
 
-abbrev not_x : ℕ → Lit
+abbrev pub not_x : ℕ → Lit
 not_x n = negated (positive_of n)
 
 -- coefficients for the variables from a number on
-abbrev weighing : ℕ → List ℕ → List Weighted
+abbrev pub weighing : ℕ → List ℕ → List Weighted
 weighing v [] = []
 weighing v (a ∷ coefs) = record { coef = a; lit = positive_of v } ∷ weighing (v + 1) coefs
 

@@ -1,3 +1,7 @@
+pub mod BoundTable
+pub mod BoundTableExamples
+pub mod BoundTableLaws
+pub mod BoundTableSteps
 pub mod Examples
 pub mod Generalized
 pub mod GeneralizedSteps

@@ -2,6 +2,7 @@ pub mod ByPairs
 pub mod GeneralizedDerives
 pub mod GeneralizedLaws
 pub mod GeneralizedShort
+pub mod KeptTables
 pub mod Marks
 pub mod Measured
 pub mod Members

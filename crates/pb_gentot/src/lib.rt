@@ -1,10 +1,12 @@
-//! Generalized totalizers (Joshi, Martins and Manquinho 2015): a bounded sum with any coefficients.
+//! Generalized totalizers (Joshi, Martins and Manquinho 2015): a bounded sum with any coefficients, and tables of bounds.
 #![tactic(auto)]
 
+mod bound_table;
 mod claims;
 mod derivation;
 mod emission;
 mod handing;
+mod laws;
 mod meanings;
 mod measure;
 mod node;
@@ -12,8 +14,15 @@ mod outputs;
 mod ranks;
 mod seen;
 mod sets;
+mod table_clauses;
+mod table_steps;
 mod tables;
 mod tree;
 mod weighted;
 
+pub use bound_table::BoundTable;
+pub use laws::{
+    rows_are_sound, rows_are_sums, rows_propagate, table_steps_are_few, table_steps_are_sayable,
+    table_steps_are_short, tables_are_derived, tables_count, tables_extend, tables_name_only,
+};
 pub use weighted::Weighted;

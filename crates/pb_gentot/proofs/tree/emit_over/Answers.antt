@@ -1,8 +1,7 @@
 use Rattle.std.proofs.Common.{◌≤◌, ◌∙◌, ℕ, List, length, ap, sym, refl, subst, arith, append-nil}
 use Rattle.std.specs.Prelude.{All}
 use Rattle.pb_base.specs.declared.literal.Lit.{Lit}
-use Rattle.pb_family.specs.ClauseText.{clauses_text}
-use Rattle.pb_family.specs.Sinks.{Takes, FailsToTake}
+use Rattle.pb_family.specs.Handing.{FailsInClauses, TakesClauses}
 use Rattle.pb_family.specs.declared.sink.SinkFault.TheVariants as fault
 use Rattle.pb_family.proofs.Emission.{emitting_from}
 use Rattle.pb_family.proofs.Stopping.{stops_fault}
@@ -56,7 +55,7 @@ returns-in_err-emit_node-clause-hands g c =
     let own : Node = record { values = c.unwrap-values.result; first = c.args.right.now.next; ranks = c.in_ok-ranks.ranks } in
     let all = clauses_over_parts c.args.cap c.args.left.now c.args.right.now in
     let same = clauses_made c.args.cap c.args.left.now c.args.right.now _ _ _ c.as_slice-lefts.ensures.value c.as_slice-rights.ensures.value (rw c.unwrap-values.ensures at c.in_ok-found.ensures.made) own refl refl in
-    let part = subst (λ (cs : List (List Lit)). FailsToTake (clauses_text cs) (sink.state c.args.sink.now) (sink.state c.emit_node.new.sink)) same c.in_err-emit_node.ensures in
+    let part = subst (λ (cs : List (List Lit)). FailsInClauses cs (sink.state c.args.sink.now) (sink.state c.emit_node.new.sink)) same c.in_err-emit_node.ensures in
     stops_fault {all = all} c.from_residual-in_err-emit_node.result fault.Failed all _ _ c.from_residual-in_err-emit_node.ensures.1 (emitting_from _ (sym (append-nil all))) part
 
 pub returns-clause-hands : goal.returns-clause-hands
@@ -64,7 +63,7 @@ returns-clause-hands g c =
     let sink = g.S.ClauseSink in
     let own : Node = record { values = c.unwrap-values.result; first = c.args.right.now.next; ranks = c.in_ok-ranks.ranks } in
     let same = clauses_made c.args.cap c.args.left.now c.args.right.now _ _ _ c.as_slice-lefts.ensures.value c.as_slice-rights.ensures.value (rw c.unwrap-values.ensures at c.in_ok-found.ensures.made) own refl refl in
-    subst (λ (cs : List (List Lit)). Takes (clauses_text cs) (sink.state c.args.sink.now) (sink.state c.emit_node.new.sink)) same c.in_ok-emit_node.ensures
+    subst (λ (cs : List (List Lit)). TakesClauses cs (sink.state c.args.sink.now) (sink.state c.emit_node.new.sink)) same c.in_ok-emit_node.ensures
 
 pub returns-clause-values : goal.returns-clause-values
 returns-clause-values g c =

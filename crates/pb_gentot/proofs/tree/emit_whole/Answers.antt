@@ -3,8 +3,7 @@ use Rattle.std.specs.Prelude.{Contains}
 use Rattle.pb_base.specs.declared.literal.Lit.{Lit}
 use Rattle.pb_base.specs.Literals.{negated}
 use Rattle.pb_norm.specs.Constraints.{weights}
-use Rattle.pb_family.specs.ClauseText.{clauses_text}
-use Rattle.pb_family.specs.Sinks.{Takes, FailsToTake}
+use Rattle.pb_family.specs.Handing.{FailsInClauses, TakesClauses}
 use Rattle.pb_family.specs.declared.sink.SinkFault.TheVariants as fault
 use Rattle.pb_family.proofs.Emission.{emitting_starts, emitting_step, emitting_ends}
 use Rattle.pb_family.proofs.Stopping.{stops_fault}
@@ -37,7 +36,7 @@ returns g c =
     let top : Lit = negated (output s t c.args.first s.cap) in
     let outs = ap (output_in c.in_ok-root.root.outputs) c.as_slice.ensures.value ∙ c.in_ok-root.ensures.outputs in
     let same : c.not.result ≡ top = c.not.ensures ∙ ap negated (c.of.ensures ∙ ap (λ (f : ℕ → Lit). f (c.args.bound + 1)) outs) in
-    let handed = subst (λ (l : Lit). Takes (clauses_text ((l ∷ []) ∷ [])) (sink.state c.emit_part.new.sink) (sink.state c.clause.new.self)) same c.in_ok-clause.ensures in
+    let handed = subst (λ (l : Lit). TakesClauses ((l ∷ []) ∷ []) (sink.state c.emit_part.new.sink) (sink.state c.clause.new.self)) same c.in_ok-clause.ensures in
     emitting_ends {all = tree_clauses s t c.args.first} (emitting_step ((top ∷ []) ∷ []) _ (emitting_step (clauses_of s t c.args.first) _ (emitting_starts _ _) c.in_ok-root.ensures.hands) handed)
 
 pub returns-in_err-clause : goal.returns-in_err-clause
@@ -48,6 +47,6 @@ returns-in_err-clause g c =
     let top : Lit = negated (output s t c.args.first s.cap) in
     let outs = ap (output_in c.in_ok-root.root.outputs) c.as_slice.ensures.value ∙ c.in_ok-root.ensures.outputs in
     let same : c.not.result ≡ top = c.not.ensures ∙ ap negated (c.of.ensures ∙ ap (λ (f : ℕ → Lit). f (c.args.bound + 1)) outs) in
-    let part = subst (λ (l : Lit). FailsToTake (clauses_text ((l ∷ []) ∷ [])) (sink.state c.emit_part.new.sink) (sink.state c.clause.new.self)) same c.in_err-clause.ensures in
+    let part = subst (λ (l : Lit). FailsInClauses ((l ∷ []) ∷ []) (sink.state c.emit_part.new.sink) (sink.state c.clause.new.self)) same c.in_err-clause.ensures in
     stops_fault {all = tree_clauses s t c.args.first} c.from_residual-in_err-clause.result fault.Failed ((top ∷ []) ∷ []) [] _ c.from_residual-in_err-clause.ensures.1
     (emitting_step (clauses_of s t c.args.first) _ (emitting_starts _ _) c.in_ok-root.ensures.hands) part

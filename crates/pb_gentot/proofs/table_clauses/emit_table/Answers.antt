@@ -1,0 +1,63 @@
+use Rattle.std.proofs.Common.{◌≡◌, ◌++◌, List, [], length, ap, sym, ◌∙◌, append-nil, arith, eqb-true, false-eqb}
+use Rattle.pb_base.specs.declared.literal.Lit.{Lit}
+use Rattle.pb_norm.specs.Constraints.{weights}
+use Rattle.pb_family.specs.declared.sink.SinkFault.TheVariants as fault
+use Rattle.pb_family.proofs.Emission.{emitting_starts, emitting_from, emitting_step, emitting_ends, fails_as, takes_as}
+use Rattle.pb_family.proofs.Stopping.{stops_fault}
+use Rattle.pb_family.proofs.Taking.{takes_nothing}
+use Rattle.pb_tree.specs.Tree.{tree_of}
+use Rattle.pb_tree.specs.Scheme.{values, output, clauses_of}
+use Rattle.pb_gentot.specs.laws.KeptTables.{clauses_by}
+use Rattle.pb_gentot.specs.laws.Outputs.{output_in}
+use Rattle.pb_gentot.specs.Generalized.{generalized}
+use Rattle.pb_gentot.proofs.Emitting.{rising_values}
+use Rattle.pb_gentot.proofs.KeptTables.{no_clauses}
+use Rattle.pb_gentot.proofs.Neighbours.{clauses_between}
+use Rattle.pb_gentot.proofs.table_clauses.emit_table.Goals as goal
+
+pub returns-then-is_empty : goal.returns-then-is_empty
+returns-then-is_empty g c =
+    let none : length c.args.terms.now ≡ 0 = eqb-true _ 0 (sym c.is_empty.ensures ∙ c.if-is_empty.true) in
+    rw (no_clauses c.args.bound c.args.terms.now c.args.first none) (takes_nothing (g.S.ClauseSink.state c.args.sink.now))
+
+pub emit_part-requires-clause-some : goal.emit_part-requires-clause-some
+emit_part-requires-clause-some g c =
+    let some = false-eqb (length c.args.terms.now) 0 (sym c.if-is_empty.false ∙ c.is_empty.ensures) in
+    omega (arith, some)
+
+pub returns-in_err-root : goal.returns-in_err-root
+returns-in_err-root g c =
+    let s = generalized c.args.bound in
+    let t = tree_of (weights c.args.terms.now) in
+    stops_fault {all = clauses_by c.args.bound c.args.terms.now c.args.first} c.from_residual.result _ (clauses_of s t c.args.first) _ _ c.from_residual.ensures.1 (emitting_starts _ _) c.in_err-root.ensures.hands
+
+pub emit_neighbours-requires-clause-rising : goal.emit_neighbours-requires-clause-rising
+emit_neighbours-requires-clause-rising g c =
+    rising_values c.args.bound (tree_of (weights c.args.terms.now)) c.as_slice.result.now (c.as_slice.ensures.value ∙ c.in_ok-root.ensures.values)
+
+pub returns-in_err-emit_neighbours : goal.returns-in_err-emit_neighbours
+returns-in_err-emit_neighbours g c =
+    let s = generalized c.args.bound in
+    let t = tree_of (weights c.args.terms.now) in
+    let sink = g.S.ClauseSink in
+    let outs = ap (output_in c.in_ok-root.root.outputs) c.as_slice.ensures.value ∙ c.in_ok-root.ensures.outputs in
+    let vals = c.as_slice.ensures.value ∙ c.in_ok-root.ensures.values in
+    let between = clauses_between (output s t c.args.first) (values s t) in
+    let same : clauses_between (output_in c.in_ok-root.root.outputs c.as_slice.result.now) c.as_slice.result.now ≡ between = (λ i. clauses_between (outs i) (vals i)) in
+    let whole = ap (λ (cs : List (List Lit)). clauses_of s t c.args.first ++ cs) (sym (append-nil between)) in
+    let part = fails_as _ _ (sink.state c.emit_part.new.sink) (sink.state c.emit_neighbours.new.sink) same c.in_err-emit_neighbours.ensures in
+    stops_fault {all = clauses_by c.args.bound c.args.terms.now c.args.first} c.from_residual-in_err-emit_neighbours.result fault.Failed between [] _ c.from_residual-in_err-emit_neighbours.ensures.1
+    (emitting_step (clauses_of s t c.args.first) _ (emitting_from _ whole) c.in_ok-root.ensures.hands) part
+
+pub returns : goal.returns
+returns g c =
+    let s = generalized c.args.bound in
+    let t = tree_of (weights c.args.terms.now) in
+    let sink = g.S.ClauseSink in
+    let outs = ap (output_in c.in_ok-root.root.outputs) c.as_slice.ensures.value ∙ c.in_ok-root.ensures.outputs in
+    let vals = c.as_slice.ensures.value ∙ c.in_ok-root.ensures.values in
+    let between = clauses_between (output s t c.args.first) (values s t) in
+    let same : clauses_between (output_in c.in_ok-root.root.outputs c.as_slice.result.now) c.as_slice.result.now ≡ between = (λ i. clauses_between (outs i) (vals i)) in
+    let whole = ap (λ (cs : List (List Lit)). clauses_of s t c.args.first ++ cs) (sym (append-nil between)) in
+    let handed = takes_as _ _ (sink.state c.emit_part.new.sink) (sink.state c.emit_neighbours.new.sink) same c.in_ok-emit_neighbours.ensures in
+    emitting_ends {all = clauses_by c.args.bound c.args.terms.now c.args.first} (emitting_step {left = []} between _ (emitting_step (clauses_of s t c.args.first) _ (emitting_from _ whole) c.in_ok-root.ensures.hands) handed)

@@ -1,0 +1,55 @@
+//! The clauses of a table of bounds.
+ghost use Rattle.std.specs.Prelude.{◌≤◌, ◌<◌, ◌+◌, ◌^◌, length, map};
+ghost use Rattle.pb_norm.specs.Constraints.{weights};
+ghost use Rattle.pb_family.specs.Handing.{Hands, HandsIfMemory};
+ghost use Rattle.pb_tree.specs.Tree.{tree_of};
+ghost use Rattle.pb_tree.specs.Scheme.{fresh_of};
+ghost use Rattle.pb_gentot.specs.BoundTable.{neighbours, neighbour_clause};
+ghost use Rattle.pb_gentot.specs.Generalized.{generalized};
+ghost use Rattle.pb_gentot.specs.laws.KeptTables.{clauses_by};
+ghost use Rattle.pb_gentot.specs.laws.Outputs.{output_in, HasRoom};
+ghost use Rattle.pb_gentot.specs.laws.Rising.{Rising};
+
+use crate::outputs::Outputs;
+use crate::tree::emit_part;
+use pb_base::{Failed, Term};
+use pb_family::{ClauseSink, SinkFault};
+use std::alloc::Global;
+
+/// Hands over that what reaches a value reaches the one before.
+fn emit_neighbours<S: ClauseSink>(
+    values: &[u128],
+    outputs: &Outputs,
+    sink: &mut S,
+) -> Result<(), Failed>
+    requires rising { Rising values.now }
+    requires room { HasRoom outputs.now (length values.now) }
+    ensures { Hands (map (neighbour_clause (output_in outputs.now values.now)) (neighbours values.now)) result (S.state sink.old) (S.state sink.new) }
+{
+    for place in 0..values.len().saturating_sub(1) {
+        let later = outputs.at(values, place + 1);
+        sink.clause(&[later.not(), outputs.at(values, place)])?;
+    }
+    Ok(())
+}
+
+/// Hands over the clauses of some terms, with those between neighbours.
+pub fn emit_table<S: ClauseSink>(
+    alloc: Global,
+    terms: &[Term],
+    bound: u128,
+    first: u32,
+    sink: &mut S,
+) -> Result<(), SinkFault>
+    requires small { bound < 2 ^ 100 }
+    requires low { 1 ≤ first }
+    requires fits { first + fresh_of (generalized bound) (tree_of (weights terms.now)) ≤ 2 ^ 31 }
+    ensures { HandsIfMemory (clauses_by bound terms.now first) result (S.state sink.old) (S.state sink.new) }
+{
+    if terms.is_empty() {
+        return Ok(());
+    }
+    let root = emit_part(alloc, terms, bound, first, sink)?;
+    emit_neighbours(root.values.as_slice(), &root.outputs, sink)?;
+    Ok(())
+}
