@@ -1,3 +1,4 @@
 pub mod CnfLaws
 pub mod CnfWholeLaws
 pub mod OutboxSinks
+pub mod WcnfLaws

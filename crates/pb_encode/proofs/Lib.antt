@@ -1,14 +1,18 @@
 pub mod ChoiceLaws
 pub mod CnfTexts
+pub mod CostLemmas
+pub mod CostTexts
 pub mod CountingLoops
 pub mod DerivedProblems
 pub mod EncodedFiles
 pub mod HalfTerms
 pub mod HalfWeights
+pub mod HardTexts
 pub mod Headers
 pub mod LoadedDatabases
 pub mod LoadedRuns
 pub mod LoadedTurns
+pub mod ModelCosts
 pub mod ProblemSteps
 pub mod ProblemStreams
 pub mod ProductFits
@@ -19,4 +23,6 @@ pub mod StepTexts
 pub mod StepTurns
 pub mod StreamSteps
 pub mod TallyLemmas
+pub mod ThreeTexts
+pub mod WeightedTexts
 pub mod WholeTexts

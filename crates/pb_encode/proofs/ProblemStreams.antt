@@ -10,9 +10,8 @@ use Rattle.pb_base.specs.Problems.{IsSumWithin, IsWithinLimits, originals}
 use Rattle.pb_norm.specs.Constraints.{Constraint}
 use Rattle.pb_norm.specs.Halves.{loaded}
 use Rattle.pb_norm.specs.Products.{defining, loaded_of}
-use Rattle.pb_family.specs.ClauseText.{clauses_text}
-use Rattle.pb_family.specs.Handing.{HandsIfMemory, Stops}
-use Rattle.pb_family.specs.Sinks.{SinkState, Takes}
+use Rattle.pb_family.specs.Handing.{HandsIfMemory, StopsInClauses, TakesClauses}
+use Rattle.pb_family.specs.Sinks.{SinkState}
 use Rattle.pb_family.specs.declared.sink.SinkFault.{SinkFault}
 use Rattle.pb_choice.specs.declared.options.Options.{Options}
 use Rattle.pb_encode.specs.Clauses.{clauses_from, fresh_total, problem_clauses}
@@ -48,11 +47,11 @@ module _ {R : Type 0} (o : Options) (p : Problem) (first : ℕ) (products : List
   pub products_fit : IsEncodable o p → first + fresh_total o before ≤ 2147483648
   products_fit encodable = omega (arith, first_is, total, encodable.vars)
 
-  pub products_stop : {T : Type 0} (r : Result T SinkFault) (f : SinkFault) (b : SinkState R) → IsErrAnd r (λ g. g ≡ f) → Stops (clauses_text (clauses_from o first before)) a b f → HandsIfMemory (problem_clauses o p) r a b
+  pub products_stop : {T : Type 0} (r : Result T SinkFault) (f : SinkFault) (b : SinkState R) → IsErrAnd r (λ g. g ≡ f) → StopsInClauses (clauses_from o first before) a b f → HandsIfMemory (problem_clauses o p) r a b
   products_stop r f b is stops = subst (λ (cs : List (List Lit)). HandsIfMemory cs r a b) same (streams_stop o first first all before (loaded statements) all a a b r f refl is begins stops)
 
   -- once the clauses of the products are handed over
-  module _ (next : ℕ) (b : SinkState R) (next_is : next ≡ first + fresh_total o before) (taken : Takes (clauses_text (clauses_from o first before)) a b) where
+  module _ (next : ℕ) (b : SinkState R) (next_is : next ≡ first + fresh_total o before) (taken : TakesClauses (clauses_from o first before) a b) where
     pub statements_fit : IsEncodable o p → next + fresh_total o (loaded statements) ≤ 2147483648
     statements_fit encodable = omega (arith, next_is, first_is, total, encodable.vars)
 

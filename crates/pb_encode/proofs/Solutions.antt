@@ -143,14 +143,14 @@ model_from o p ready all covers solves =
     )
 
 -- under the first values of a model they hold
-solves_from : (o : Options) (p : Problem) → All (IsReady o (originals p + 1)) (loaded_of p) → (model : List Bool) → IsModelOver (problem_vars o p) (problem_clauses o p) model → Solves (assigned_by (take (originals p) model)) (loaded_of p)
+pub solves_from : (o : Options) (p : Problem) → All (IsReady o (originals p + 1)) (loaded_of p) → (model : List Bool) → IsModelOver (problem_vars o p) (problem_clauses o p) model → Solves (assigned_by (take (originals p) model)) (loaded_of p)
 solves_from o p ready model is =
     let first = originals p + 1 in
     let solves = all-sound o (all_from o) (λ n. refl) (λ c cs n. refl) first (loaded_of p) first (omega arith) ready (assigned_by model) is.satisfies in
     solves-agree first (assigned_by model) (assigned_by (take (originals p) model)) (cut-agrees model (originals p)) (loaded_of p) (over_ready o first (loaded_of p) ready) solves
 
 -- the problem's variables are among those of the constraints
-cut_twice : (p : Problem) (model : List Bool) → take p.vars (take (originals p) model) ≡ take p.vars model
+pub cut_twice : (p : Problem) (model : List Bool) → take p.vars (take (originals p) model) ≡ take p.vars model
 cut_twice p model = take-take p.vars (originals p) model (omega arith)
 
 pub have_solutions : (o : Options) (p : Problem) → IsWithinLimits p → HasSolutionsOf p (problem_vars o p) (problem_clauses o p)

@@ -13,9 +13,8 @@ use Rattle.pb_norm.specs.ClauseForm.{clause_form}
 use Rattle.pb_norm.specs.Halves.{half_of, constraints_of, loaded}
 use Rattle.pb_norm.specs.Products.{plain, defining, product_clauses, product_constraints}
 use Rattle.pb_norm.proofs.ProductLemmas.{length-product, product-at}
-use Rattle.pb_family.specs.ClauseText.{clauses_text}
-use Rattle.pb_family.specs.Handing.{HandsIfMemory, Stops}
-use Rattle.pb_family.specs.Sinks.{SinkState, Takes}
+use Rattle.pb_family.specs.Handing.{HandsIfMemory, StopsInClauses, TakesClauses}
+use Rattle.pb_family.specs.Sinks.{SinkState}
 use Rattle.pb_family.specs.declared.sink.SinkFault.{SinkFault}
 use Rattle.pb_family.proofs.Emission.{Emitting, emitting_ends, emitting_starts, emitting_step}
 use Rattle.pb_family.proofs.Stopping.{stops_fault, stops_last}
@@ -55,7 +54,7 @@ next_piece o first next all ds rest left a b parts so_far =
     subst (λ (cs : List (List Lit)). Emitting (clauses_from o first all) cs a b) (ap (clauses_from o next) parts ∙ clauses_from-append o next ds rest) so_far.handed
 
 pub streams_more : {R : Type 0} (o : Options) (first next last : ℕ) (all ds rest left : List Constraint) (a b c : SinkState R) → left ≡ ds ++ rest → last ≡ next + fresh_total o ds
-    → Streams o first all left next a b → Takes (clauses_text (clauses_from o next ds)) b c → Streams o first all rest last a c
+    → Streams o first all left next a b → TakesClauses (clauses_from o next ds) b c → Streams o first all rest last a c
 streams_more o first next last all ds rest left a b c parts is so_far taken = record {
   next_is = omega (arith, is, so_far.next_is, ap (fresh_total o) parts, fresh-append o ds rest);
   later = omega (arith, is, so_far.later);
@@ -63,12 +62,12 @@ streams_more o first next last all ds rest left a b c parts is so_far taken = re
 }
 
 pub streams_stop : {R T : Type 0} (o : Options) (first next : ℕ) (all ds rest left : List Constraint) (a b c : SinkState R) (r : Result T SinkFault) (f : SinkFault) → left ≡ ds ++ rest → IsErrAnd r (λ g. g ≡ f)
-    → Streams o first all left next a b → Stops (clauses_text (clauses_from o next ds)) b c f → HandsIfMemory (clauses_from o first all) r a c
+    → Streams o first all left next a b → StopsInClauses (clauses_from o next ds) b c f → HandsIfMemory (clauses_from o first all) r a c
 streams_stop o first next all ds rest left a b c r f parts is so_far stops =
     stops_fault r f (clauses_from o next ds) (clauses_from o (next + fresh_total o ds) rest) c is (next_piece o first next all ds rest left a b parts so_far) stops
 
 -- none are left
-pub streams_all : {R : Type 0} (o : Options) (first next : ℕ) (all left : List Constraint) (a b : SinkState R) → left ≡ [] → Streams o first all left next a b → Takes (clauses_text (clauses_from o first all)) a b
+pub streams_all : {R : Type 0} (o : Options) (first next : ℕ) (all left : List Constraint) (a b : SinkState R) → left ≡ [] → Streams o first all left next a b → TakesClauses (clauses_from o first all) a b
 streams_all o first next all left a b none so_far = emitting_ends (subst (λ (cs : List Constraint). Emitting (clauses_from o first all) (clauses_from o next cs) a b) none so_far.handed)
 
 pub streams_next : {R : Type 0} (o : Options) (first next : ℕ) (all left : List Constraint) (a b : SinkState R) → left ≡ [] → Streams o first all left next a b → next ≡ first + fresh_total o all

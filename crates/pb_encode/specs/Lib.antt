@@ -1,8 +1,11 @@
 pub mod Clauses
+pub mod CostExamples
+pub mod Costs
 pub mod Derived
 pub mod Encodings
 pub mod Faults
 pub mod Models
 pub mod Steps
 pub mod Summaries
+pub mod Weighted
 pub mod laws

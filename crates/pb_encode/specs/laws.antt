@@ -1,4 +1,5 @@
 pub mod Files
 pub mod Sending
+pub mod SendingTexts
 pub mod Streams
 pub mod Tallies

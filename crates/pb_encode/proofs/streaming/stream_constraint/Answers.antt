@@ -1,10 +1,8 @@
 use Rattle.std.proofs.Common.{ap, sym, subst, ◌∙◌}
 use Rattle.pb_norm.specs.Constraints.{Constraint}
 use Rattle.pb_family.specs.Families.{VarsBelow}
-use Rattle.pb_family.specs.ClauseText.{clauses_text}
-use Rattle.pb_family.proofs.Emission.{emitting_starts}
+use Rattle.pb_family.proofs.Emission.{emitting_starts, takes_as}
 use Rattle.pb_family.proofs.Stopping.{stops_between}
-use Rattle.pb_family.proofs.Taking.{takes_same}
 use Rattle.pb_choice.specs.declared.options.Options.{Options}
 use Rattle.pb_choice.specs.Clauses.{constraint_clauses}
 use Rattle.pb_encode.proofs.streaming.stream_constraint.Goals as goal
@@ -20,4 +18,4 @@ pub returns-clause-hands : goal.returns-clause-hands
 returns-clause-hands g c =
     let plan = c.in_ok-plan.plan in
     let same = ap (λ (d : Constraint). constraint_clauses plan.options d c.args.first) c.in_ok-plan.ensures.constraint ∙ ap (λ (o : Options). constraint_clauses o c.args.constraint.now c.args.first) c.in_ok-plan.ensures.options in
-    takes_same _ _ (g.S.ClauseSink.state c.args.sink.now) (g.S.ClauseSink.state c.emit.new.sink) (ap clauses_text same) c.in_ok-emit.ensures
+    takes_as _ _ (g.S.ClauseSink.state c.args.sink.now) (g.S.ClauseSink.state c.emit.new.sink) same c.in_ok-emit.ensures

@@ -1,9 +1,7 @@
 use Rattle.std.proofs.Common.{◌+◌, ℕ, List, [], ◌∷◌, drop, sym, ap, subst, ◌∙◌, arith}
 use Rattle.pb_base.specs.declared.literal.Lit.{Lit}
 use Rattle.pb_norm.specs.Products.{product_constraints}
-use Rattle.pb_family.specs.ClauseText.{clauses_text}
-use Rattle.pb_family.specs.Handing.{Stops}
-use Rattle.pb_family.specs.Sinks.{Takes}
+use Rattle.pb_family.specs.Handing.{StopsInClauses, TakesClauses}
 use Rattle.pb_family.proofs.Stopping.{stops_between}
 use Rattle.pb_encode.proofs.ProductFits.{below_later, clause_light, product_vars}
 use Rattle.pb_encode.proofs.StreamSteps.{one_clauses, one_fresh, product_done, product_rest, streams_all, streams_fit, streams_more, streams_next, streams_none, streams_stop}
@@ -45,7 +43,7 @@ returns-in_err-next-clause-hands g c =
     let b = g.S.ClauseSink.state c.loop-place.sink in
     let d = g.S.ClauseSink.state c.stream_constraint.new.sink in
     let f = c.in_err-next.field-0.0 in
-    let stops = subst (λ (cs : List (List Lit)). Stops (clauses_text cs) b d f) (one_clauses o c.loop-place.next one) c.in_err-next.ensures.hands in
+    let stops = subst (λ (cs : List (List Lit)). StopsInClauses cs b d f) (one_clauses o c.loop-place.next one) c.in_err-next.ensures.hands in
     streams_stop o c.args.first c.loop-place.next (product_constraints z ls) (one ∷ []) (drop (i + 1) (product_constraints z ls)) _ a b d c.from_residual-in_err-next.result f
     (product_rest z ls i one (omega (arith, c.loop-place-test.true)) c.in_ok-constraint.ensures) c.from_residual-in_err-next.ensures.1 c.loop-place.invariant stops
 
@@ -60,7 +58,7 @@ loop-place-preserved g c =
     let b = g.S.ClauseSink.state c.loop-place.sink in
     let d = g.S.ClauseSink.state c.stream_constraint.new.sink in
     let next = c.in_ok-next.ensures.next ∙ ap (λ (n : ℕ). c.loop-place.next + n) (sym (one_fresh o one)) in
-    let taken = subst (λ (cs : List (List Lit)). Takes (clauses_text cs) b d) (one_clauses o c.loop-place.next one) c.in_ok-next.ensures.hands in
+    let taken = subst (λ (cs : List (List Lit)). TakesClauses cs b d) (one_clauses o c.loop-place.next one) c.in_ok-next.ensures.hands in
     streams_more o c.args.first c.loop-place.next c.in_ok-next.next (product_constraints z ls) (one ∷ []) (drop (i + 1) (product_constraints z ls)) _ a b d
     (product_rest z ls i one (omega (arith, c.loop-place-test.true)) c.in_ok-constraint.ensures) next c.loop-place.invariant taken
 

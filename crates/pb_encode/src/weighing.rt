@@ -1,0 +1,159 @@
+//! A problem's weighted CNF: its clauses, which are hard, and its objective as soft literals.
+ghost use Rattle.std.specs.Prelude.{◌≡◌, ◌≤◌, ◌-ℤ◌, ◌^◌, false, map, pos, Err, IsTrue, IfOk, IfErr, OnOk};
+ghost use Rattle.pb_base.specs.declared.limit.LimitKind.{LimitKind};
+ghost use Rattle.pb_base.specs.declared.problem.Problem.{Problem};
+ghost use Rattle.pb_base.specs.Problems.{IsWithinLimits, objective_terms};
+ghost use Rattle.pb_norm.specs.Reduction.{opposite};
+ghost use Rattle.pb_family.specs.Handing.{HandsText};
+ghost use Rattle.pb_choice.specs.declared.options.Options.{Options};
+ghost use Rattle.pb_desk.specs.View.{wrote};
+ghost use Rattle.pb_desk.specs.Desk.{IsSteady, Reaches};
+ghost use Rattle.pb_dimacs.specs.WcnfReading.{hard_and_soft, WcnfReads};
+ghost use Rattle.pb_dimacs.specs.WcnfText.{softs_text};
+ghost use Rattle.pb_encode.specs.Clauses.{problem_clauses};
+ghost use Rattle.pb_encode.specs.Costs.{objective_form, softs_of, CostsAddUp};
+ghost use Rattle.pb_encode.specs.Encodings.{made, Refuses};
+ghost use Rattle.pb_encode.specs.laws.Sending.{LacksFor, Stops};
+ghost use Rattle.pb_encode.specs.laws.SendingTexts.{text_by, HandsTextIfMemory};
+ghost use Rattle.pb_encode.specs.Summaries.{summary_of, IsEncodable};
+ghost use Rattle.pb_encode.specs.Weighted.{weighted_text, HasCostsOf, IsWeightedCutOff, LacksForWeighted, WantsForWeighted};
+
+use crate::fault::EncodeFault;
+use crate::measuring::measure;
+use crate::streaming::stream_clauses;
+use crate::summary::Summary;
+use pb_base::{Failed, NoMemory, Problem, Term, WEIGHT_BITS};
+use pb_choice::Options;
+use pb_desk::Desk;
+use pb_dimacs::{HardWriter, Outbox};
+use pb_family::{ClauseSink, SinkFault};
+use pb_norm::{Linear, written};
+use std::alloc::Global;
+
+// What the objective is asked to reach, and never does.
+const FAR: i128 = 1 << WEIGHT_BITS;
+
+// The terms of the objective, if there is one.
+fn objective_of(problem: &Problem) -> &[Term]
+    ensures { result.now ≡ objective_terms problem.now }
+{
+    match &problem.objective {
+        Some(terms) => terms.as_slice(),
+        None => &[],
+    }
+}
+
+// The objective in normal form.
+fn objective_form(alloc: Global, problem: &Problem) -> Result<Linear, NoMemory>
+    requires { IsWithinLimits problem.now }
+    ensures { IfOk result (λ form. form ≡ objective_form problem.now) }
+{
+    written(alloc, objective_of(problem), FAR)
+}
+
+// What the costs are added to.
+fn offset_by(objective: &Linear) -> i128
+    ensures { result ≡ pos (2 ^ 100) -ℤ pos objective.now.degree }
+{
+    FAR - objective.degree() as i128
+}
+
+// Hands over the soft lines: for each term of the objective that its literal is to be false.
+fn send_softs<'a, D: Desk>(objective: &Linear, writer: &mut HardWriter<'a, D>) -> Result<(), Failed>
+    ensures { let seen = ⟦<HardWriter<'a, D> as ClauseSink>⟧.state in HandsText (softs_text (map opposite objective.now.terms)) result (seen writer.old) (seen writer.new) }
+{
+    let terms = objective.terms();
+    for term in terms {
+        writer.soft(term.coef, term.lit.not())?;
+    }
+    Ok(())
+}
+
+// Hands over all lines, given the objective in normal form.
+fn send_weighted<'a, D: Desk>(
+    alloc: Global,
+    problem: &Problem,
+    options: &Options,
+    objective: &Linear,
+    writer: &mut HardWriter<'a, D>,
+) -> Result<(), SinkFault>
+    requires within { IsWithinLimits problem.now }
+    requires encodable { IsEncodable options.now problem.now }
+    requires modest { options.now.budget ≤ 10000000 }
+    ensures { let seen = ⟦<HardWriter<'a, D> as ClauseSink>⟧.state in HandsTextIfMemory (text_by (problem_clauses options.now problem.now) objective.now) result (seen writer.old) (seen writer.new) }
+{
+    writer.offset(offset_by(objective))?;
+    stream_clauses(alloc, problem, options, writer)?;
+    send_softs(objective, writer)?;
+    Ok(())
+}
+
+// Writes the weighted CNF text of a problem to slot 0, given its objective in normal form.
+fn write_weighted<D: Desk>(
+    alloc: Global,
+    problem: &Problem,
+    options: &Options,
+    objective: &Linear,
+    desk: &mut D,
+) -> Result<(), EncodeFault>
+    requires within { IsWithinLimits problem.now }
+    requires encodable { IsEncodable options.now problem.now }
+    requires modest { options.now.budget ≤ 10000000 }
+    requires objective { objective.now ≡ objective_form problem.now }
+    requires open { IsTrue ((D.state desk.old).view.writing 0) }
+    ensures written { OnOk result (Reaches (wrote 0 (weighted_text options.now problem.now)) (D.state desk.old) (D.state desk.new)) }
+    ensures stopped { IfErr result (Stops 0 (weighted_text options.now problem.now) (D.state desk.old) (D.state desk.new)) }
+    ensures steady { IsSteady (D.state desk.old) → result ≡ Err EncodeFault.WriteFault → LacksFor 0 (weighted_text options.now problem.now) (D.state desk.old) }
+{
+    let mut outbox = Outbox::new(alloc)?;
+    let mut writer = HardWriter::new(desk, 0, &mut outbox);
+    send_weighted(alloc, problem, options, objective, &mut writer)?;
+    writer.flush()?;
+    Ok(())
+}
+
+/// Writes the weighted CNF of a problem to a new file in slot 0: the offset of its objective, its clauses as hard ones, and a soft line
+/// for each literal that costs. The size is taken before the file is made, so that a problem which is not encoded makes none. The
+/// summary counts hard clauses alone.
+pub fn weighted<D: Desk>(
+    alloc: Global,
+    problem: &Problem,
+    options: &Options,
+    name: &str,
+    desk: &mut D,
+) -> Result<Summary, EncodeFault>
+    requires within { IsWithinLimits problem.now }
+    requires modest { options.now.budget ≤ 10000000 }
+    requires free { (D.state desk.old).view.writing 0 ≡ false }
+
+    ensures summary { IfOk result (λ summary. summary ≡ summary_of options.now problem.now) }
+    ensures encodable { OnOk result (IsEncodable options.now problem.now) }
+    ensures made { OnOk result (Reaches (made 0 name.now (weighted_text options.now problem.now)) (D.state desk.old) (D.state desk.new)) }
+
+    ensures limit { (k : LimitKind) → result ≡ Err (EncodeFault.Limit k) → Refuses k options.now problem.now (D.state desk.old) (D.state desk.new) }
+    ensures write_fault { result ≡ Err EncodeFault.WriteFault → IsWeightedCutOff options.now problem.now name.now (D.state desk.old) (D.state desk.new) }
+    ensures no_memory { result ≡ Err EncodeFault.NoMemory → WantsForWeighted options.now problem.now name.now (D.state desk.old) (D.state desk.new) }
+    ensures steady { IsSteady (D.state desk.old) → result ≡ Err EncodeFault.WriteFault → LacksForWeighted options.now problem.now name.now (D.state desk.old) }
+{
+    let summary = measure(alloc, problem, options)?;
+    let objective = objective_form(alloc, problem)?;
+    desk.create(0, name)?;
+    write_weighted(alloc, problem, options, &objective, desk)?;
+    desk.close(0)?;
+    Ok(summary)
+}
+
+/// The law that the value of a problem's objective is its offset and what the false soft literals cost.
+pub fn costs_add_up()
+    ensures { CostsAddUp }
+{}
+
+/// The law that the models of the hard clauses are the solutions of a problem, and have its objective's values as their costs.
+pub fn hard_clauses_have_the_costs()
+    ensures { (o : Options) (p : Problem) → IsWithinLimits p → HasCostsOf o p }
+{}
+
+/// The law that the weighted CNF text of a problem says its clauses, as hard ones, and a soft literal for each that costs, and nothing else.
+pub fn weighted_text_says_the_clauses()
+    ensures { (o : Options) (p : Problem) → IsWithinLimits p → IsEncodable o p → WcnfReads (weighted_text o p) (hard_and_soft (problem_clauses o p) (softs_of p)) }
+{}
