@@ -1,5 +1,5 @@
 -- A command that owes decoding a model of the clauses says its solution.
-use Rattle.std.proofs.Common.{◌≡◌, ◌∙◌, ◌∷◌, ◌++◌, ℕ, Bool, true, false, cond, List, Option, Some, None, Result, Ok, Err, length, refl, subst, sym}
+use Rattle.std.proofs.Common.{◌≡◌, ◌∙◌, ◌∷◌, ◌++◌, ℕ, ℤ, Bool, true, false, cond, List, Option, Some, None, Result, Ok, Err, length, refl, subst, sym}
 use Rattle.std.specs.Prelude.{All, IfSome, nat_lt, ◌^◌}
 use Rattle.std.proofs.lemmas.List.Elements.{All-contains, Contains-append_right}
 use Rattle.pb_base.specs.declared.limit.LimitKind.TheVariants.{Text}
@@ -22,10 +22,6 @@ use Rattle.pb_model.specs.ModelLines.{symbols_of}
 use Rattle.pb_model.specs.ModelReading.{told, told_in}
 use Rattle.pb_model.specs.SolutionText.{solution_text}
 use Rattle.pb_model.proofs.Told.{ok_covers}
-use Rattle.pb_opb.specs.declared.fault.OpbFault.TheVariants as opb
-use Rattle.pb_opb.specs.Faults.{Reads}
-use Rattle.pb_opb.proofs.Bounds.{reads-within}
-use Rattle.pb_opb.proofs.Reading.{reads-no_fault, says_one}
 use Rattle.pb_words.specs.DecodeWords.{DecodeWords}
 use Rattle.pb_suite.specs.declared.outcome.Outcome.{Outcome}
 use Rattle.pb_suite.specs.Obeying.{Answers, Obeys}
@@ -34,12 +30,12 @@ use Rattle.pb_suite.specs.Outputs.{only_words, Adds, Output}
 use Rattle.pb_suite.specs.Owed.{Shelf}
 use Rattle.pb_suite.specs.OwedDecode.{owed_decode, IsAnswered, StopsDecode}
 use Rattle.pb_suite.specs.OwedDecode.StopsDecode.{no_problem, bad_problem, lacking, bad_model, no_model, violated}
-use Rattle.pb_suite.specs.Posed.{IsPosed}
+use Rattle.pb_suite.specs.Posed.{IsPosed, Poses}
 use Rattle.pb_suite.specs.Refusals.{RefusesModel, RefusesOpb}
 use Rattle.pb_suite.specs.Refusals.RefusesModel.{token as model_token, limit as model_limit}
-use Rattle.pb_suite.specs.Refusals.RefusesOpb.{token, limit}
 use Rattle.pb_suite.specs.SaidSolutions.{IsDue, IsFrontOfModel, SaidOf, SaysOnly}
 use Rattle.pb_suite.specs.SaidSolutions.SaysOnly.{done, read_fault, write_fault, no_memory}
+use Rattle.pb_suite.proofs.PosedProblems.{poses_one, poses_unrefused, poses_within}
 
 -- ---- what texts say is one thing
 
@@ -55,19 +51,15 @@ same_ok r x y first second = let same : Ok x ≡ Ok y = sym first ∙ second in 
 not_err : {X Y : Type 0} (r : Result X Y) (x : X) (y : Y) → r ≡ Ok x → r ≡ Err y → ⊥
 not_err r x y first second = let no : Ok x ≡ Err y = sym first ∙ second in cc
 
-same_posed : (shelf : Shelf) (name : List ℕ) (p q : Problem) → IsPosed shelf name p → IsPosed shelf name q → p ≡ q
-same_posed shelf name p q posed other =
+same_posed : (shelf : Shelf) (name : List ℕ) (bound : Option ℤ) (p q : Problem) → IsPosed shelf name bound p → IsPosed shelf name bound q → p ≡ q
+same_posed shelf name bound p q posed other =
     let text : other.text ≡ posed.text = same_some (shelf name) other.text posed.text other.on_shelf posed.on_shelf in
-    says_one posed.text p q posed.reads.says (subst (λ (xs : List ℕ). Reads xs q) text other.reads).says
+    poses_one bound posed.text p q posed.poses (subst (λ (xs : List ℕ). Poses bound xs q) text other.poses)
 
 same_told : (shelf : Shelf) (w : DecodeWords) (p : Problem) (m n : Model) → IsAnswered shelf w p m → IsAnswered shelf w p n → m ≡ n
 same_told shelf w p m n answered other =
     let text : other.text ≡ answered.text = same_some (shelf w.model) other.text answered.text other.on_shelf answered.on_shelf in
     same_ok (told p.vars answered.text) m n answered.says (subst (λ (xs : List ℕ). told p.vars xs ≡ Ok n) text other.says)
-
-refuses_none : (text : List ℕ) (p : Problem) (answer : Outcome) → Reads text p → RefusesOpb text answer → ⊥
-refuses_none text p _ reads (token place e first) = let no : opb.Token place e ≡ opb.NoMemory = reads-no_fault text p (opb.Token place e) reads first in cc
-refuses_none text p _ reads (limit place which first) = let no : opb.Limit place which ≡ opb.NoMemory = reads-no_fault text p (opb.Limit place which) reads first in cc
 
 model_refuses_none : (vars : ℕ) (text : List ℕ) (m : Model) (answer : Outcome) → told vars text ≡ Ok m → RefusesModel vars text answer → ⊥
 model_refuses_none vars text m _ says (model_token place e first) = not_err (told vars text) m _ says first
@@ -93,7 +85,7 @@ module _ (w : DecodeWords) (shelf : Shelf) (p : Problem) (m : Model) (answered :
   -- what holds of the problem and the model that the texts say
   of_same : (q : Problem) (n : Model) (P : Problem → Model → Type 0) → IsAnswered shelf w q n → P q n → P p m
   of_same q n P other holds =
-      let problems : q ≡ p = same_posed shelf w.opb q p other.posed answered.posed in
+      let problems : q ≡ p = same_posed shelf w.opb w.bound q p other.posed answered.posed in
       let models : n ≡ m = sym (same_told shelf w p m n answered (subst (λ (r : Problem). IsAnswered shelf w r n) problems other)) in
       subst (P p) models (subst (λ (r : Problem). P r n) problems holds)
 
@@ -104,11 +96,11 @@ module _ (w : DecodeWords) (shelf : Shelf) (p : Problem) (m : Model) (answered :
   never_stops _ (no_problem lacks) = not_none (shelf w.opb) answered.posed.text answered.posed.on_shelf lacks
   never_stops answer (bad_problem text _ on_shelf refuses) =
       let same = same_some (shelf w.opb) text answered.posed.text on_shelf answered.posed.on_shelf in
-      refuses_none answered.posed.text p answer answered.posed.reads (subst (λ (xs : List ℕ). RefusesOpb xs answer) same refuses)
+      poses_unrefused w.bound answered.posed.text p answer answered.posed.poses (subst (λ (xs : List ℕ). RefusesOpb w.bound xs answer) same refuses)
   never_stops _ (lacking q posed lacks) = not_none (shelf w.model) answered.text answered.on_shelf lacks
   never_stops answer (bad_model q text _ posed on_shelf refuses) =
       let same = same_some (shelf w.model) text answered.text on_shelf answered.on_shelf in
-      let problems = same_posed shelf w.opb q p posed answered.posed in
+      let problems = same_posed shelf w.opb w.bound q p posed answered.posed in
       model_refuses_none p.vars answered.text m answer answered.says
       (subst (λ (r : Problem). RefusesModel r.vars answered.text answer) problems (subst (λ (xs : List ℕ). RefusesModel q.vars xs answer) same refuses))
   never_stops _ (no_model q n comes) = of_same q n (λ r k. IsDecoded r k decoded.NoModel) comes.answered comes.decoded solution.0
@@ -125,7 +117,7 @@ module _ (w : DecodeWords) (shelf : Shelf) (p : Problem) (m : Model) (answered :
 -- the front of a model of the clauses is a solution
 front_solves : (o : Options) (w : DecodeWords) (shelf : Shelf) (p : Problem) (m : Model) → IsAnswered shelf w p m → IsFrontOfModel o p m → IsDecoded p m decoded.Solution
 front_solves o w shelf p m answered front =
-    let within = reads-within answered.posed.text p answered.posed.reads in
+    let within = poses_within w.bound answered.posed.text p answered.posed.poses in
     (front.says, (have_solutions o p within m.values (values_cover p.vars answered.text m answered.says)).1 (front.model, front.is_model, front.front))
 
 -- ---- how a run ends

@@ -1,11 +1,9 @@
 -- A command that encoded with a derivation made one that is accepted.
-use Rattle.std.proofs.Common.{◌≡◌, ◌∙◌, ◌++◌, ◌∷◌, [], ℕ, List, Option, Some, None, ap, arith, refl, subst}
+use Rattle.std.proofs.Common.{◌≡◌, ◌∙◌, ◌++◌, ◌∷◌, [], ℕ, ℤ, List, Option, Some, None, ap, arith, refl, subst}
 use Rattle.std.specs.Prelude.{IfSome, IsSomeAnd}
 use Rattle.pb_base.specs.declared.problem.Problem.{Problem}
 use Rattle.pb_desk.specs.View.{Told}
 use Rattle.pb_desk.specs.Desk.{DeskState, IfTold, IsTold}
-use Rattle.pb_opb.specs.Faults.{Reads}
-use Rattle.pb_opb.proofs.Bounds.{reads-within}
 use Rattle.pb_family.specs.StepSinks.{steps_text}
 use Rattle.pb_check.specs.Walk.{Accepts}
 use Rattle.pb_check.proofs.Writing.{written_runs_are_accepted}
@@ -24,11 +22,13 @@ use Rattle.pb_suite.specs.Obeying.{Answers, IsRefusal, Obeys}
 use Rattle.pb_suite.specs.Obeying.Answers.{done, refused, read_fault, write_fault, no_memory}
 use Rattle.pb_suite.specs.Outputs.{IsMore, Output}
 use Rattle.pb_suite.specs.OwedEncode.{file_of, owed_encode, proof_files}
+use Rattle.pb_suite.specs.Posed.{Poses}
+use Rattle.pb_suite.proofs.PosedProblems.{poses_within}
 
-texts_accepted : (o : Options) (text : List ℕ) (p : Problem) → Reads text p → IsEncodable o p → Accepts p (problem_text o p) (derivation_text o p)
+texts_accepted : (o : Options) (bound : Option ℤ) (text : List ℕ) (p : Problem) → Poses bound text p → IsEncodable o p → Accepts p (problem_text o p) (derivation_text o p)
 unfolding steps_text
-texts_accepted o text p reads encodable =
-    let within = reads-within text p reads in
+texts_accepted o bound text p poses encodable =
+    let within = poses_within bound text p poses in
     let told = problem_told o p within encodable in
     let derived = problem_derived o p within encodable in
     written_runs_are_accepted p (problem_text o p) (derivation_text o p) _ (problem_clauses o p) (loaded_steps o p) derived.end
@@ -48,9 +48,9 @@ obeyed_derives w a b answer is obeys name named = by_answers answer is obeys.ans
           cnf = cnf;
           proof = proof;
           on_shelf = found.on_shelf;
-          reads = found.reads;
+          poses = found.poses;
           made_is = more.made ∙ ap (λ (o : Output). o.made ++ t.made) due.2 ∙ ap (λ (x : Option (List ℕ)). proof_files x proof ++ file_of 0 w.cnf cnf ∷ [] ++ t.made) named;
-          accepted = texts_accepted w.options found.text due.0 found.reads found.encodable;
+          accepted = texts_accepted w.options w.bound found.text due.0 found.poses found.encodable;
         }
 
     by_told : (x y : Option Told) (out : Output) → IfSome x (λ t. (owed_encode w).done t.shelf out) → IfSome x (λ t. IsSomeAnd y (IsMore out t)) → IfSome x (λ t. IsSomeAnd y (MakesDerivation w name t))

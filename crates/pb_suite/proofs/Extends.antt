@@ -3,7 +3,6 @@ use Rattle.std.proofs.Common.{◌≡◌, Ok, subst}
 use Rattle.pb_desk.specs.Desk.{DeskState, IfTold}
 use Rattle.pb_check.specs.declared.verdict.Verdict.TheVariants.{Accepted}
 use Rattle.pb_check.proofs.Extending.{accepted_cnf_extends}
-use Rattle.pb_opb.proofs.Bounds.{reads-within}
 use Rattle.pb_words.specs.CheckWords.{CheckWords}
 use Rattle.pb_suite.specs.declared.outcome.Outcome.{Outcome}
 use Rattle.pb_suite.specs.declared.outcome.Outcome.TheVariants as outcome
@@ -12,6 +11,7 @@ use Rattle.pb_suite.specs.Obeying.{Answers, IsRefusal, Obeys}
 use Rattle.pb_suite.specs.Obeying.Answers.{done, refused, read_fault, write_fault, no_memory}
 use Rattle.pb_suite.specs.Owed.{Shelf}
 use Rattle.pb_suite.specs.OwedCheck.{owed_check, IsJudged}
+use Rattle.pb_suite.proofs.PosedProblems.{poses_within}
 use Rattle.pb_suite.proofs.Texts.{told_more}
 
 extended : (w : CheckWords) (shelf : Shelf) → IsJudged shelf w (Ok Accepted) → IsExtended w shelf
@@ -20,9 +20,9 @@ extended w shelf judged = record {
   text = judged.posed.text;
   cnf = judged.cnf;
   on_shelf = judged.posed.on_shelf;
-  reads = judged.posed.reads;
+  poses = judged.posed.poses;
   has_cnf = judged.has_cnf;
-  extends = accepted_cnf_extends judged.problem judged.cnf judged.proof (reads-within judged.posed.text judged.problem judged.posed.reads).products judged.judged;
+  extends = accepted_cnf_extends judged.problem judged.cnf judged.proof (poses_within w.bound judged.posed.text judged.problem judged.posed.poses).products judged.judged;
 }
 
 pub obeyed_extends : (w : CheckWords) (a b : DeskState) (answer : Outcome) → answer ≡ outcome.Done → Obeys (owed_check w) a b answer → IfTold a (λ t. IsExtended w t.shelf)

@@ -5,7 +5,7 @@ use Rattle.std.proofs.lemmas.List.{append-nil}
 use Rattle.std.proofs.lemmas.Bool.{eqb-true}
 use Rattle.pb_base.specs.declared.problem.Problem.{Problem}
 use Rattle.pb_choice.specs.declared.options.Options.{Options}
-use Rattle.pb_desk.specs.View.{View}
+use Rattle.pb_desk.specs.View.{View, spoke}
 use Rattle.pb_desk.specs.Desk.{DeskState}
 use Rattle.pb_encode.specs.Encodings.{begun, derivation_text, made, made_files, problem_text, FileNames}
 use Rattle.pb_suite.specs.Obeying.{KeepsSlots}
@@ -53,6 +53,23 @@ by_made name bytes = record {
   steady = λ v. refl;
 }
 
+-- the file, and words
+pub by_spoken : (name bytes said : List ℕ) → AddsBy (record { made = file_of 0 name bytes ∷ []; said = said }) (λ v. spoke said (made 0 name bytes v))
+by_spoken name bytes said = record {
+  told = λ v t. record { shelf = refl; made = refl; said = refl };
+  slots = λ v slot. first_or slot (λ other. simp other);
+  room = λ v. refl;
+  steady = λ v. refl;
+}
+
+-- a file that was made and ended leaves its slot as it was
+pub spoken_keeps : (name bytes said : List ℕ) (a b : DeskState) → b.view ≡ spoke said (made 0 name bytes a.view) → ((slot : ℕ) → a.view.writing slot ≡ false) → KeepsSlots a b
+spoken_keeps name bytes said a b is free slot = ap (λ (v : View). v.writing slot) is ∙ by_test (slot == 0) refl
+  where
+    by_test : (found : Bool) → (slot == 0) ≡ found → (spoke said (made 0 name bytes a.view)).writing slot ≡ a.view.writing slot
+    by_test true at = simp at (sym (free slot))
+    by_test false at = simp at
+
 -- ---- the derivation behind it
 
 pub by_begun_proof : (name text proof bytes : List ℕ) → AddsBy (only_files name text (Some proof) bytes) (λ v. begun 1 proof bytes (made 0 name text v))
@@ -70,12 +87,7 @@ module _ (o : Options) (p : Problem) where
   with_words names said = record { made = files_of names o p; said = said }
 
   by_stored_cnf : (name said : List ℕ) → AddsBy (with_words (record { cnf = name; proof = None }) said) (stored o p (record { cnf = name; proof = None }) said)
-  by_stored_cnf name said = record {
-    told = λ v t. record { shelf = refl; made = refl; said = refl };
-    slots = λ v slot. first_or slot (λ other. simp other);
-    room = λ v. refl;
-    steady = λ v. refl;
-  }
+  by_stored_cnf name said = by_spoken name (problem_text o p) said
 
   by_stored_both : (name proof said : List ℕ) → AddsBy (with_words (record { cnf = name; proof = Some proof }) said) (stored o p (record { cnf = name; proof = Some proof }) said)
   by_stored_both name proof said = record {

@@ -90,14 +90,14 @@ have_both w a b d first second found_cnf found_proof =
     by_cases None cnf proof = tt
     by_cases (Some t) cnf proof = record { cnf = some_is (t.shelf w.cnf) cnf; proof = some_is (t.shelf w.proof) proof }
 
-module _ (w : CheckWords) (p : Problem) (d e : DeskState) (posed : IfTold d (λ t. IsPosed t.shelf w.opb p)) (both : IfTold d (HasBoth w)) where
+module _ (w : CheckWords) (p : Problem) (d e : DeskState) (posed : IfTold d (λ t. IsPosed t.shelf w.opb w.bound p)) (both : IfTold d (HasBoth w)) where
   abbrev pub JudgedSo : Answer → Type 0
   JudgedSo answer = IfTold d (λ t. IsJudged t.shelf w answer)
 
   pub judged_so : (answer : Answer) → TakesBoth 1 2 (λ c q. Walk p c q answer) d e → JudgedSo answer
   judged_so answer takes = by_cases d.view.told posed both takes.texts
     where
-      by_cases : (told : Option Told) → IfSome told (λ t. IsPosed t.shelf w.opb p) → IfSome told (HasBoth w) → IfSome told (λ t. Walk p (t.left 1) (t.left 2) answer) → IfSome told (λ t. IsJudged t.shelf w answer)
+      by_cases : (told : Option Told) → IfSome told (λ t. IsPosed t.shelf w.opb w.bound p) → IfSome told (HasBoth w) → IfSome told (λ t. Walk p (t.left 1) (t.left 2) answer) → IfSome told (λ t. IsJudged t.shelf w answer)
       by_cases None posed both walk = tt
       by_cases (Some t) posed both walk = record {
         problem = p;
@@ -142,7 +142,7 @@ module _ (w : CheckWords) (p : Problem) (d e : DeskState) (posed : IfTold d (λ 
 
 -- ---- from before the two files were opened
 
-module _ (w : CheckWords) (p : Problem) (a b d e : DeskState) (posed : IfTold a (λ t. IsPosed t.shelf w.opb p)) (first : Reaches (opened 1 w.cnf) a b) (second : Reaches (opened 2 w.proof) b d)
+module _ (w : CheckWords) (p : Problem) (a b d e : DeskState) (posed : IfTold a (λ t. IsPosed t.shelf w.opb w.bound p)) (first : Reaches (opened 1 w.cnf) a b) (second : Reaches (opened 2 w.proof) b d)
     (found_cnf : IfTold a (λ t. IsSome (t.shelf w.cnf))) (found_proof : IfTold b (λ t. IsSome (t.shelf w.proof))) where
   first_goes : Goes nothing a b
   first_goes = goes_by nothing (opened 1 w.cnf) a b (by_opened 1 w.cnf) first
@@ -150,8 +150,8 @@ module _ (w : CheckWords) (p : Problem) (a b d e : DeskState) (posed : IfTold a 
   second_goes : Goes nothing b d
   second_goes = goes_by nothing (opened 2 w.proof) b d (by_opened 2 w.proof) second
 
-  pub still_posed : IfTold d (λ t. IsPosed t.shelf w.opb p)
-  still_posed = shelf_is_if b d second_goes (λ shelf. IsPosed shelf w.opb p) (shelf_is_if a b first_goes (λ shelf. IsPosed shelf w.opb p) posed)
+  pub still_posed : IfTold d (λ t. IsPosed t.shelf w.opb w.bound p)
+  still_posed = shelf_is_if b d second_goes (λ shelf. IsPosed shelf w.opb w.bound p) (shelf_is_if a b first_goes (λ shelf. IsPosed shelf w.opb w.bound p) posed)
 
   pub both : IfTold d (HasBoth w)
   both = have_both w a b d first.view second.view found_cnf found_proof

@@ -52,9 +52,9 @@ module _ (w : DecodeWords) (p : Problem) where
   has_model_text = Contains-there first_text (model_text ∷ []) model_text (Contains-here model_text [])
 
   -- the texts of a problem and of its model
-  pub answered_by : (m : Model) (b : DeskState) → IfTold b (λ t. IsPosed t.shelf w.opb p) → HasText w.model (λ text. told p.vars text ≡ Ok m) b → IfTold b (λ t. IsAnswered t.shelf w p m)
+  pub answered_by : (m : Model) (b : DeskState) → IfTold b (λ t. IsPosed t.shelf w.opb w.bound p) → HasText w.model (λ text. told p.vars text ≡ Ok m) b → IfTold b (λ t. IsAnswered t.shelf w p m)
   answered_by m b posed says =
-      both_told b (λ t. IsPosed t.shelf w.opb p) (λ t. (text : List ℕ) × (t.shelf w.model ≡ Some text) × (told p.vars text ≡ Ok m)) (λ t. IsAnswered t.shelf w p m)
+      both_told b (λ t. IsPosed t.shelf w.opb w.bound p) (λ t. (text : List ℕ) × (t.shelf w.model ≡ Some text) × (told p.vars text ≡ Ok m)) (λ t. IsAnswered t.shelf w p m)
       (λ t is found. record { posed = is; text = found.0; on_shelf = found.1; says = found.2 }) posed says
 
   comes_to : (m : Model) (d : Decoded) (b : DeskState) → IfTold b (λ t. IsAnswered t.shelf w p m) → IsDecoded p m d → IfTold b (λ t. ComesTo t.shelf w p m d)
@@ -80,11 +80,11 @@ module _ (w : DecodeWords) (p : Problem) where
   answered_later m b d goes answered = shelf_is_if b d goes (λ shelf. IsAnswered shelf w p m) answered
 
   -- a solver's text that is not read, or is refused
-  pub no_answer_obeys : (b d : DeskState) → IfTold b (λ t. IsPosed t.shelf w.opb p) → (answer : Outcome) → StopsReading ModelText 1 w.model (RefusesModel p.vars) b d answer
+  pub no_answer_obeys : (b d : DeskState) → IfTold b (λ t. IsPosed t.shelf w.opb w.bound p) → (answer : Outcome) → StopsReading ModelText 1 w.model (RefusesModel p.vars) b d answer
       → (IsSteady b → answer ≡ outcome.ReadFault → IsTold b (λ t. IsNone (t.shelf w.model))) → Obeys (owed_decode w) b d answer
   no_answer_obeys b d posed answer stops lacks =
       reading_ends (owed_decode w) 1 model_text has_model_text (inr (inl refl)) (RefusesModel p.vars) b d
-      (λ answer found. both_told b (λ t. IsPosed t.shelf w.opb p) (λ t. (text : List ℕ) × (t.shelf w.model ≡ Some text) × RefusesModel p.vars text answer) (λ t. StopsDecode t.shelf w answer)
+      (λ answer found. both_told b (λ t. IsPosed t.shelf w.opb w.bound p) (λ t. (text : List ℕ) × (t.shelf w.model ≡ Some text) × RefusesModel p.vars text answer) (λ t. StopsDecode t.shelf w answer)
       (λ t is refused. bad_model p refused.0 answer is refused.1 refused.2) posed found)
       answer stops lacks
 

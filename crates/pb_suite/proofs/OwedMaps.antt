@@ -1,5 +1,5 @@
 -- What is due of the free names of a problem that was read.
-use Rattle.std.proofs.Common.{refl}
+use Rattle.std.proofs.Common.{None, refl}
 use Rattle.pb_base.specs.declared.problem.Problem.{Problem}
 use Rattle.pb_desk.specs.Desk.{DeskState, IfTold}
 use Rattle.pb_model.specs.MapText.{map_text}
@@ -9,5 +9,5 @@ use Rattle.pb_suite.specs.OwedMap.{owed_map}
 use Rattle.pb_suite.specs.Posed.{IsPosed}
 use Rattle.pb_suite.proofs.Texts.{told_more}
 
-pub map_due : (w : MapWords) (p : Problem) (b : DeskState) → IfTold b (λ t. IsPosed t.shelf w.opb p) → IfTold b (λ t. (owed_map w).done t.shelf (only_words (map_text p)))
-map_due w p b posed = told_more b (λ t. IsPosed t.shelf w.opb p) (λ t. (owed_map w).done t.shelf (only_words (map_text p))) (λ t found. (p, found, refl)) posed
+pub map_due : (w : MapWords) (p : Problem) (b : DeskState) → IfTold b (λ t. IsPosed t.shelf w.opb None p) → IfTold b (λ t. (owed_map w).done t.shelf (only_words (map_text p)))
+map_due w p b posed = told_more b (λ t. IsPosed t.shelf w.opb None p) (λ t. (owed_map w).done t.shelf (only_words (map_text p))) (λ t found. (p, found, refl)) posed

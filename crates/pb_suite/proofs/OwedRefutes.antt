@@ -62,11 +62,11 @@ module _ (w : RefuteWords) where
   no_lrat a b fails lacks = is_unread (owed_refute w) a b same by_same fails (λ steady. (lrat_text, has_lrat_text, lacks steady))
 
 -- what was kept of the CNF are the clauses of the texts that were judged
-pub accepted_so : (w : RefuteWords) (p : Problem) (vars : ℕ) (clauses : List (List Lit)) (d e : DeskState) → IfTold d (λ t. IsPosed t.shelf w.opb p) → IfTold d (HasBoth (checked_words w)) → TakesBoth 1 2 (λ c q. Walk p c q (Ok Accepted)) d e
+pub accepted_so : (w : RefuteWords) (p : Problem) (vars : ℕ) (clauses : List (List Lit)) (d e : DeskState) → IfTold d (λ t. IsPosed t.shelf w.opb w.bound p) → IfTold d (HasBoth (checked_words w)) → TakesBoth 1 2 (λ c q. Walk p c q (Ok Accepted)) d e
     → IfTold d (λ t. SaysClauses (t.left 1) vars clauses) → IfTold d (λ t. IsAccepted t.shelf w vars clauses)
 accepted_so w p vars clauses d e posed both takes says = by_cases d.view.told posed both takes.texts says
   where
-    by_cases : (told : Option Told) → IfSome told (λ t. IsPosed t.shelf w.opb p) → IfSome told (HasBoth (checked_words w)) → IfSome told (λ t. Walk p (t.left 1) (t.left 2) (Ok Accepted)) → IfSome told (λ t. SaysClauses (t.left 1) vars clauses)
+    by_cases : (told : Option Told) → IfSome told (λ t. IsPosed t.shelf w.opb w.bound p) → IfSome told (HasBoth (checked_words w)) → IfSome told (λ t. Walk p (t.left 1) (t.left 2) (Ok Accepted)) → IfSome told (λ t. SaysClauses (t.left 1) vars clauses)
         → IfSome told (λ t. IsAccepted t.shelf w vars clauses)
     by_cases None posed both walk says = tt
     by_cases (Some t) posed both walk says = record {

@@ -1,16 +1,72 @@
--- That a text that was read says its problem.
-use Rattle.std.proofs.Common.{◌≡◌, List, ℕ, Some}
+-- What is so of a text that poses a problem.
+use Rattle.std.proofs.Common.{◌≡◌, ◌≤◌, ◌<◌, ◌^◌, ◌∙◌, List, ℕ, ℤ, Option, Some, None, ap, arith, subst, sym}
+use Rattle.std.specs.Prelude.{◌⊎◌, IfSome}
+use Rattle.pb_base.specs.declared.file.File.TheVariants.{Opb}
+use Rattle.pb_base.specs.declared.limit.LimitKind.TheVariants.{Weight}
 use Rattle.pb_base.specs.declared.problem.Problem.{Problem}
+use Rattle.pb_base.specs.Problems.{IsWithinLimits}
 use Rattle.pb_desk.specs.Desk.{DeskState, IfTold}
-use Rattle.pb_opb.specs.Faults.{Reads}
+use Rattle.pb_opb.specs.Bounded.{bound_weight}
+use Rattle.pb_opb.specs.declared.fault.OpbFault.TheVariants as opb
+use Rattle.pb_opb.proofs.BoundedLemmas.{bounded_within, reads_few}
+use Rattle.pb_opb.proofs.Bounds.{reads-within}
+use Rattle.pb_opb.proofs.Reading.{reads-no_fault, says_one}
+use Rattle.pb_suite.specs.declared.outcome.Outcome.{Outcome}
+use Rattle.pb_suite.specs.declared.outcome.Outcome.TheVariants as outcome
 use Rattle.pb_suite.specs.Outputs.{nothing}
-use Rattle.pb_suite.specs.Posed.{IsPosed}
-use Rattle.pb_suite.specs.laws.Runs.{HasText}
+use Rattle.pb_suite.specs.Posed.{with_bound, IsPosed, Poses}
+use Rattle.pb_suite.specs.Refusals.{RefusesOpb}
+use Rattle.pb_suite.specs.Refusals.RefusesOpb.{token, limit, heavy}
+use Rattle.pb_suite.specs.laws.Runs.{HasText, RefusesFile}
+use Rattle.pb_suite.specs.laws.Runs.RefusesFile.{token as at_token, limit as at_limit}
 use Rattle.pb_suite.proofs.Going.{shelf_is_if, Goes}
 use Rattle.pb_suite.proofs.Texts.{told_more}
 
+-- the problem keeps the limits
+pub poses_within : (bound : Option ℤ) (text : List ℕ) (p : Problem) → Poses bound text p → IsWithinLimits p
+poses_within bound text p poses = subst IsWithinLimits (sym poses.is) (by_bound bound poses.light)
+  where
+    within : IsWithinLimits poses.plain
+    within = reads-within text poses.plain poses.reads
+
+    by_bound : (o : Option ℤ) → IfSome o (λ b. bound_weight poses.plain b < 2 ^ 100) → IsWithinLimits (with_bound o poses.plain)
+    by_bound None light = within
+    by_bound (Some b) light = bounded_within poses.plain b within (reads_few text poses.plain poses.reads) light
+
+-- it is the only one
+pub poses_one : (bound : Option ℤ) (text : List ℕ) (p q : Problem) → Poses bound text p → Poses bound text q → p ≡ q
+poses_one bound text p q poses other = poses.is ∙ ap (with_bound bound) (says_one text poses.plain other.plain poses.reads.says other.reads.says) ∙ sym other.is
+
+-- and the text is not refused
+pub poses_unrefused : (bound : Option ℤ) (text : List ℕ) (p : Problem) (answer : Outcome) → Poses bound text p → RefusesOpb bound text answer → ⊥
+poses_unrefused bound text p _ poses (token place e first) = let no : opb.Token place e ≡ opb.NoMemory = reads-no_fault text poses.plain (opb.Token place e) poses.reads first in cc
+poses_unrefused bound text p _ poses (limit place which first) = let no : opb.Limit place which ≡ opb.NoMemory = reads-no_fault text poses.plain (opb.Limit place which) poses.reads first in cc
+poses_unrefused bound text p _ poses (heavy q b given reads weight) =
+    let same : q ≡ poses.plain = says_one text q poses.plain reads.says poses.reads.says in
+    let light : bound_weight poses.plain b < 2 ^ 100 = subst (λ (o : Option ℤ). IfSome o (λ c. bound_weight poses.plain c < 2 ^ 100)) given poses.light in
+    let much : 2 ^ 100 ≤ bound_weight poses.plain b = subst (λ (r : Problem). 2 ^ 100 ≤ bound_weight r b) same weight in
+    omega (arith, light, much)
+
+-- ---- a refusal
+
+-- why a text is given up: memory was wanting, or it is refused
+abbrev pub GivenUp : Option ℤ → List ℕ → Outcome → Type 0
+GivenUp bound text answer = (answer ≡ outcome.NoMemory) ⊎ RefusesOpb bound text answer
+
+pub opb_refused : (bound : Option ℤ) (text : List ℕ) (answer : Outcome) → RefusesOpb bound text answer → RefusesFile Opb answer
+opb_refused bound text _ (token place e first) = at_token place e
+opb_refused bound text _ (limit place which first) = at_limit place which
+opb_refused bound text _ (heavy q b given reads weight) = at_limit None Weight
+
+pub opb_no_read_fault : (bound : Option ℤ) (text : List ℕ) (answer : Outcome) → RefusesOpb bound text answer → answer ≡ outcome.ReadFault → ⊥
+opb_no_read_fault bound text _ (token place e first) is = cc
+opb_no_read_fault bound text _ (limit place which first) is = cc
+opb_no_read_fault bound text _ (heavy q b given reads weight) is = cc
+
+-- ---- on a desk
+
 -- a problem that was read
-pub posed_by : (name : List ℕ) (p : Problem) (a b : DeskState) → Goes nothing a b → HasText name (λ text. Reads text p) a → IfTold b (λ t. IsPosed t.shelf name p)
-posed_by name p a b goes says =
-    shelf_is_if a b goes (λ shelf. IsPosed shelf name p)
-    (told_more a (λ t. (text : List ℕ) × (t.shelf name ≡ Some text) × Reads text p) (λ t. IsPosed t.shelf name p) (λ t found. record { text = found.0; on_shelf = found.1; reads = found.2 }) says)
+pub posed_by : (name : List ℕ) (bound : Option ℤ) (p : Problem) (a b : DeskState) → Goes nothing a b → HasText name (λ text. Poses bound text p) a → IfTold b (λ t. IsPosed t.shelf name bound p)
+posed_by name bound p a b goes poses =
+    shelf_is_if a b goes (λ shelf. IsPosed shelf name bound p)
+    (told_more a (λ t. (text : List ℕ) × (t.shelf name ≡ Some text) × Poses bound text p) (λ t. IsPosed t.shelf name bound p) (λ t found. record { text = found.0; on_shelf = found.1; poses = found.2 }) poses)

@@ -8,7 +8,6 @@ use Rattle.pb_dimacs.proofs.Whole.{told_is_said}
 use Rattle.pb_check.proofs.Extending.{accepted_cnf_extends}
 use Rattle.pb_lrat.proofs.Meaning.{refuted_have_no_model}
 use Rattle.pb_lrat.specs.LratWalk.{LratEnding as ending}
-use Rattle.pb_opb.proofs.Bounds.{reads-within}
 use Rattle.pb_words.specs.RefuteWords.{RefuteWords}
 use Rattle.pb_suite.specs.declared.outcome.Outcome.{Outcome}
 use Rattle.pb_suite.specs.declared.outcome.Outcome.TheVariants as outcome
@@ -17,6 +16,7 @@ use Rattle.pb_suite.specs.Obeying.{Answers, IsRefusal, Obeys}
 use Rattle.pb_suite.specs.Obeying.Answers.{done, refused, read_fault, write_fault, no_memory}
 use Rattle.pb_suite.specs.Owed.{Shelf}
 use Rattle.pb_suite.specs.OwedRefute.{owed_refute, IsFollowed}
+use Rattle.pb_suite.proofs.PosedProblems.{poses_within}
 use Rattle.pb_suite.proofs.Texts.{told_more}
 
 -- a solution would extend to a model of the clauses, which have none
@@ -24,7 +24,7 @@ unsolved : (w : RefuteWords) (shelf : Shelf) (f : IsFollowed shelf w ending.refu
 unsolved w shelf f values solution =
     let judged = f.accepted.judged in
     let says = f.accepted.says_all in
-    let extends = accepted_cnf_extends judged.problem judged.cnf judged.proof (reads-within judged.posed.text judged.problem judged.posed.reads).products judged.judged in
+    let extends = accepted_cnf_extends judged.problem judged.cnf judged.proof (poses_within w.bound judged.posed.text judged.problem judged.posed.poses).products judged.judged in
     let model = extends.extends values solution in
     let same = says_one_thing judged.cnf extends.vars says.head.vars extends.clauses f.clauses extends.reads (told_is_said judged.cnf says.head f.clauses says.says_all).0 in
     refuted_have_no_model f.vars f.clauses f.lrat f.ends (assigned_by model.0) (subst (IsModel (assigned_by model.0)) same.1 model.1.satisfies)
@@ -34,7 +34,7 @@ no_solution w shelf f = record {
   problem = f.accepted.judged.problem;
   text = f.accepted.judged.posed.text;
   on_shelf = f.accepted.judged.posed.on_shelf;
-  reads = f.accepted.judged.posed.reads;
+  poses = f.accepted.judged.posed.poses;
   none = unsolved w shelf f;
 }
 

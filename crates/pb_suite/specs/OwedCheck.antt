@@ -24,16 +24,16 @@ pub record IsJudged (shelf : Shelf) (w : CheckWords) (answer : Answer) : Type 0 
   pub problem : Problem
   pub cnf : List ℕ
   pub proof : List ℕ
-  pub posed : IsPosed shelf w.opb problem
+  pub posed : IsPosed shelf w.opb w.bound problem
   pub has_cnf : shelf w.cnf ≡ Some cnf
   pub has_proof : shelf w.proof ≡ Some proof
   pub judged : Walk problem cnf proof answer
 
--- in the order of a run: the OPB text; whether both others are there; their first fault, or the first step that is not allowed
+-- in the order of a run: the OPB text, and the bound if one is given; whether both others are there; their first fault, or the first step that is not allowed
 pub data StopsCheck (shelf : Shelf) (w : CheckWords) : Outcome → Type 0 where
   no_problem : shelf w.opb ≡ None → StopsCheck shelf w outcome.ReadFault
-  bad_problem : (text : List ℕ) (answer : Outcome) → shelf w.opb ≡ Some text → RefusesOpb text answer → StopsCheck shelf w answer
-  lacking : (p : Problem) → IsPosed shelf w.opb p → (shelf w.cnf ≡ None) ⊎ (shelf w.proof ≡ None) → StopsCheck shelf w outcome.ReadFault
+  bad_problem : (text : List ℕ) (answer : Outcome) → shelf w.opb ≡ Some text → RefusesOpb w.bound text answer → StopsCheck shelf w answer
+  lacking : (p : Problem) → IsPosed shelf w.opb w.bound p → (shelf w.cnf ≡ None) ⊎ (shelf w.proof ≡ None) → StopsCheck shelf w outcome.ReadFault
   token : (file : File) (place : Place) (expected : Expected) → IsJudged shelf w (Err (fault.Refused file place expected)) → StopsCheck shelf w (outcome.Refused file place expected)
   limit : (file : File) (place : Option Place) (which : LimitKind) → IsJudged shelf w (Err (fault.Limit file place which)) → StopsCheck shelf w (outcome.Limit (Some file) which place)
   denial : (line : ℕ) (denied : Denied) → IsJudged shelf w (Ok (Rejected line denied)) → StopsCheck shelf w (outcome.Rejected line denied)

@@ -18,7 +18,7 @@ use Rattle.pb_suite.specs.Refusals.{RefusesModel, RefusesOpb}
 
 -- the shelf has both texts: a problem's, and what a solver said of its variables
 pub record IsAnswered (shelf : Shelf) (w : DecodeWords) (p : Problem) (m : Model) : Type 0 where
-  pub posed : IsPosed shelf w.opb p
+  pub posed : IsPosed shelf w.opb w.bound p
   pub text : List ℕ
   pub on_shelf : shelf w.model ≡ Some text
   pub says : told p.vars text ≡ Ok m
@@ -28,12 +28,12 @@ pub record ComesTo (shelf : Shelf) (w : DecodeWords) (p : Problem) (m : Model) (
   pub answered : IsAnswered shelf w p m
   pub decoded : IsDecoded p m d
 
--- in the order of a run: the problem's text; the solver's; whether that says that there is a model; the first statement that the values violate
+-- in the order of a run: the problem's text, and the bound if one is given; the solver's text; whether that says that there is a model; the first statement that the values violate
 pub data StopsDecode (shelf : Shelf) (w : DecodeWords) : Outcome → Type 0 where
   no_problem : shelf w.opb ≡ None → StopsDecode shelf w outcome.ReadFault
-  bad_problem : (text : List ℕ) (answer : Outcome) → shelf w.opb ≡ Some text → RefusesOpb text answer → StopsDecode shelf w answer
-  lacking : (p : Problem) → IsPosed shelf w.opb p → shelf w.model ≡ None → StopsDecode shelf w outcome.ReadFault
-  bad_model : (p : Problem) (text : List ℕ) (answer : Outcome) → IsPosed shelf w.opb p → shelf w.model ≡ Some text → RefusesModel p.vars text answer → StopsDecode shelf w answer
+  bad_problem : (text : List ℕ) (answer : Outcome) → shelf w.opb ≡ Some text → RefusesOpb w.bound text answer → StopsDecode shelf w answer
+  lacking : (p : Problem) → IsPosed shelf w.opb w.bound p → shelf w.model ≡ None → StopsDecode shelf w outcome.ReadFault
+  bad_model : (p : Problem) (text : List ℕ) (answer : Outcome) → IsPosed shelf w.opb w.bound p → shelf w.model ≡ Some text → RefusesModel p.vars text answer → StopsDecode shelf w answer
   no_model : (p : Problem) (m : Model) → ComesTo shelf w p m decoded.NoModel → StopsDecode shelf w outcome.NoModel
   violated : (p : Problem) (m : Model) (statement : ℕ) → ComesTo shelf w p m (decoded.Violates statement) → StopsDecode shelf w (outcome.NotASolution statement)
 

@@ -4,7 +4,6 @@ use Rattle.pb_base.specs.declared.file.File.TheVariants.{Opb}
 use Rattle.pb_base.specs.declared.limit.LimitKind.{LimitKind}
 use Rattle.pb_base.specs.declared.problem.Problem.{Problem}
 use Rattle.pb_desk.specs.View.{Made}
-use Rattle.pb_opb.specs.Faults.{Reads}
 use Rattle.pb_choice.specs.declared.options.Options.{Options}
 use Rattle.pb_encode.specs.Encodings.{derivation_text, problem_text, FileNames}
 use Rattle.pb_encode.specs.Summaries.{summary_of, summary_text, IsEncodable, IsOver}
@@ -13,6 +12,7 @@ use Rattle.pb_suite.specs.declared.outcome.Outcome.{Outcome}
 use Rattle.pb_suite.specs.declared.outcome.Outcome.TheVariants as outcome
 use Rattle.pb_suite.specs.Outputs.{Output}
 use Rattle.pb_suite.specs.Owed.{Owed, Shelf}
+use Rattle.pb_suite.specs.Posed.{Poses}
 use Rattle.pb_suite.specs.Refusals.{RefusesOpb}
 
 -- a file that was made
@@ -38,18 +38,18 @@ encoded_output names o p = record { made = files_of names o p; said = due_words 
 abbrev pub names_in : EncodeWords → FileNames
 names_in w = record { cnf = w.cnf; proof = w.proof }
 
--- the shelf has a text that says this problem, which is encoded
+-- the shelf has a text that poses this problem, which is encoded
 pub record IsEncoded (shelf : Shelf) (w : EncodeWords) (p : Problem) : Type 0 where
   pub text : List ℕ
   pub on_shelf : shelf w.opb ≡ Some text
-  pub reads : Reads text p
+  pub poses : Poses w.bound text p
   pub encodable : IsEncodable w.options p
 
--- in the order of a run: the text, and then its numbers of variables and of clauses
+-- in the order of a run: the text, and the bound if one is given; and then the numbers of variables and of clauses
 pub data StopsEncode (shelf : Shelf) (w : EncodeWords) : Outcome → Type 0 where
   lacking : shelf w.opb ≡ None → StopsEncode shelf w outcome.ReadFault
-  refused : (text : List ℕ) (answer : Outcome) → shelf w.opb ≡ Some text → RefusesOpb text answer → StopsEncode shelf w answer
-  over : (text : List ℕ) (p : Problem) (which : LimitKind) → shelf w.opb ≡ Some text → Reads text p → IsOver which w.options p → StopsEncode shelf w (outcome.Limit None which None)
+  refused : (text : List ℕ) (answer : Outcome) → shelf w.opb ≡ Some text → RefusesOpb w.bound text answer → StopsEncode shelf w answer
+  over : (text : List ℕ) (p : Problem) (which : LimitKind) → shelf w.opb ≡ Some text → Poses w.bound text p → IsOver which w.options p → StopsEncode shelf w (outcome.Limit None which None)
 
 abbrev pub owed_encode : EncodeWords → Owed
 owed_encode w = record {

@@ -14,12 +14,12 @@ use Rattle.pb_suite.specs.Refusals.{RefusesOpb}
 -- the text is not there, or is refused
 pub data StopsMap (shelf : Shelf) (w : MapWords) : Outcome → Type 0 where
   lacking : shelf w.opb ≡ None → StopsMap shelf w outcome.ReadFault
-  refused : (text : List ℕ) (answer : Outcome) → shelf w.opb ≡ Some text → RefusesOpb text answer → StopsMap shelf w answer
+  refused : (text : List ℕ) (answer : Outcome) → shelf w.opb ≡ Some text → RefusesOpb None text answer → StopsMap shelf w answer
 
 -- a line is said for each free name
 abbrev pub owed_map : MapWords → Owed
 owed_map w = record {
   texts = record { kind = Opb; name = w.opb } ∷ [];
   stops = λ shelf answer. StopsMap shelf w answer;
-  done = λ shelf out. (p : Problem) × IsPosed shelf w.opb p × (out ≡ only_words (map_text p));
+  done = λ shelf out. (p : Problem) × IsPosed shelf w.opb None p × (out ≡ only_words (map_text p));
 }

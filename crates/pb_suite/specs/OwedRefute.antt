@@ -20,7 +20,7 @@ use Rattle.pb_suite.specs.OwedCheck.{IsJudged, StopsCheck}
 
 -- what is checked first
 abbrev pub checked_words : RefuteWords → CheckWords
-checked_words w = record { opb = w.opb; cnf = w.cnf; proof = w.proof }
+checked_words w = record { opb = w.opb; cnf = w.cnf; proof = w.proof; bound = w.bound }
 
 -- the derivation is accepted, and the CNF says these clauses over so many variables
 pub record IsAccepted (shelf : Shelf) (w : RefuteWords) (vars : ℕ) (clauses : List (List Lit)) : Type 0 where

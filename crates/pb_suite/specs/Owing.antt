@@ -4,7 +4,7 @@ use Rattle.std.specs.Option.{ForSome}
 use Rattle.pb_desk.specs.View.{Told}
 use Rattle.pb_desk.specs.Desk.{DeskState, IsFresh, IsSteady}
 use Rattle.pb_words.specs.Taken.{Wanted, taken_of}
-use Rattle.pb_words.specs.Taken.Wanted.{Encode, Check, Decode, Probe, Bench, Refute, Map}
+use Rattle.pb_words.specs.Taken.Wanted.{Encode, Check, Decode, Probe, Bench, Refute, Map, Wcnf}
 use Rattle.pb_suite.specs.Owed.{Owed, Shelf, Suffices}
 use Rattle.pb_suite.specs.OwedBench.{owed_bench}
 use Rattle.pb_suite.specs.OwedCheck.{owed_check}
@@ -13,6 +13,7 @@ use Rattle.pb_suite.specs.OwedEncode.{owed_encode}
 use Rattle.pb_suite.specs.OwedMap.{owed_map}
 use Rattle.pb_suite.specs.OwedProbe.{owed_probe}
 use Rattle.pb_suite.specs.OwedRefute.{owed_refute}
+use Rattle.pb_suite.specs.OwedWcnf.{owed_wcnf}
 
 abbrev pub owed : Wanted → Owed
 owed (Encode w) = owed_encode w
@@ -22,6 +23,7 @@ owed (Probe w) = owed_probe w
 owed (Bench w) = owed_bench w
 owed (Refute w) = owed_refute w
 owed (Map w) = owed_map w
+owed (Wcnf w) = owed_wcnf w
 
 -- what the words call for is there
 abbrev pub SufficesFor : List (List ℕ) → Shelf → Option ℕ → Type 0

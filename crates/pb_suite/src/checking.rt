@@ -45,7 +45,7 @@ fn judge<D: Desk>(alloc: Global, problem: &Problem, asked: &Checking<'_>, desk: 
     requires within { IsWithinLimits problem.now }
     requires cnf_free { (D.state desk.old).view.reading 1 ≡ false }
     requires proof_free { (D.state desk.old).view.reading 2 ≡ false }
-    requires posed { IfTold (D.state desk.old) (λ t. IsPosed t.shelf (as_check_words asked.now).opb problem.now) }
+    requires posed { IfTold (D.state desk.old) (λ t. IsPosed t.shelf (as_check_words asked.now).opb (as_check_words asked.now).bound problem.now) }
     ensures { Obeys (owed_check (as_check_words asked.now)) (D.state desk.old) (D.state desk.new) result }
 {
     match desk.open(1, asked.cnf) {
@@ -72,7 +72,7 @@ pub fn check_file<D: Desk>(alloc: Global, asked: &Checking<'_>, desk: &mut D) ->
     requires closed { IsClosed (D.state desk.old) }
     ensures { Obeys (owed_check (as_check_words asked.now)) (D.state desk.old) (D.state desk.new) result }
 {
-    match read_problem(alloc, asked.opb, desk) {
+    match read_problem(alloc, asked.opb, asked.bound, desk) {
         Ok(problem) => judge(alloc, &problem, asked, desk),
         Err(outcome) => outcome,
     }

@@ -119,7 +119,7 @@ pub fn decode_file<D: Desk>(alloc: Global, asked: &Decoding<'_>, desk: &mut D) -
     requires closed { IsClosed (D.state desk.old) }
     ensures { Obeys (owed_decode (as_decode_words asked.now)) (D.state desk.old) (D.state desk.new) result }
 {
-    let problem = match read_problem(alloc, asked.opb, desk) {
+    let problem = match read_problem(alloc, asked.opb, asked.bound, desk) {
         Ok(problem) => problem,
         Err(outcome) => return outcome,
     };

@@ -1,4 +1,5 @@
 //! Listing the free names of the problem of a file.
+ghost use Rattle.std.specs.Prelude.{None};
 ghost use Rattle.pb_base.specs.Problems.{IsWithinLimits};
 ghost use Rattle.pb_desk.specs.Desk.{IfTold, IsClosed};
 ghost use Rattle.pb_words.specs.MapWords.{as_map_words};
@@ -22,7 +23,7 @@ fn say_names<D: Desk>(
     desk: &mut D,
 ) -> Outcome
     requires within { IsWithinLimits problem.now }
-    requires posed { IfTold (D.state desk.old) (λ t. IsPosed t.shelf (as_map_words asked.now).opb problem.now) }
+    requires posed { IfTold (D.state desk.old) (λ t. IsPosed t.shelf (as_map_words asked.now).opb None problem.now) }
     ensures { Obeys (owed_map (as_map_words asked.now)) (D.state desk.old) (D.state desk.new) result }
 {
     let mut text = Vec::new(alloc);
@@ -41,7 +42,7 @@ pub fn map_file<D: Desk>(alloc: Global, asked: &Mapping<'_>, desk: &mut D) -> Ou
     requires closed { IsClosed (D.state desk.old) }
     ensures { Obeys (owed_map (as_map_words asked.now)) (D.state desk.old) (D.state desk.new) result }
 {
-    match read_problem(alloc, asked.opb, desk) {
+    match read_problem(alloc, asked.opb, None, desk) {
         Ok(problem) => say_names(alloc, &problem, asked, desk),
         Err(outcome) => outcome,
     }

@@ -1,5 +1,5 @@
 -- What the words of `encode` keep.
-use Rattle.std.proofs.Common.{◌≡◌, ◌≢◌, ◌≤◌, ◌||◌, ◌&&◌, not, ℕ, Bool, true, false, List, ◌∷◌, Option, Some, None, cond, codes, option_and_then, refl, subst, arith}
+use Rattle.std.proofs.Common.{◌≡◌, ◌≢◌, ◌≤◌, ◌||◌, ◌&&◌, not, ℕ, ℤ, Bool, true, false, List, ◌∷◌, Option, Some, None, cond, codes, option_and_then, refl, subst, arith}
 use Rattle.std.specs.Option.{option_to_list, ForSome}
 use Rattle.std.specs.Bool.{Decides}
 use Rattle.std.specs.Str.{bytes_eq}
@@ -11,6 +11,7 @@ use Rattle.pb_choice.specs.declared.options.Amo.{Amo}
 use Rattle.pb_choice.specs.declared.options.Card.{Card}
 use Rattle.pb_choice.specs.declared.options.General.{General}
 use Rattle.pb_choice.specs.declared.options.Options.{Options}
+use Rattle.pb_words.specs.BoundWords.{bound_in}
 use Rattle.pb_words.specs.Digits.{within}
 use Rattle.pb_words.specs.EncodeWords.{EncodeWords, encode_from, encode_in}
 use Rattle.pb_words.specs.Fit.{IsFitEncode}
@@ -47,7 +48,7 @@ options_range given options e =
     chosen_range (first_of (codes "budget") given) options.budget budget
 
 -- two names are different where the test says so
-differ : (t : Bool) (a b : Text) → Decides t (a ≡ b) → t ≡ false → a ≢ b
+pub differ : (t : Bool) (a b : Text) → Decides t (a ≡ b) → t ≡ false → a ≢ b
 differ true a b same e equal = cc
 differ false a b other e equal = let bad : false ≡ true = other.1 equal in cc
 
@@ -58,7 +59,7 @@ three_differ false false true e = cc
 three_differ false true z e = cc
 three_differ true y z e = cc
 
-two_differ : (x : Bool) → (not (x || false) && (not false && true)) ≡ true → x ≡ false
+pub two_differ : (x : Bool) → (not (x || false) && (not false && true)) ≡ true → x ≡ false
 two_differ false e = refl
 two_differ true e = cc
 
@@ -76,21 +77,22 @@ all_differ opb cnf (Some proof) e =
           subst (λ (x : Text). (opb ≢ x) × (cnf ≢ x)) same (differ (bytes_eq opb proof) opb proof (bytes_eq-Decides opb proof) apart.1, differ (bytes_eq cnf proof) cnf proof (bytes_eq-Decides cnf proof) apart.2),
     )
 
-fit_if : (opb cnf : Text) (proof : Option Text) (options : Options) (b : Bool) (w : EncodeWords) → are_different (opb ∷ cnf ∷ option_to_list proof) ≡ b → IsBudget options.budget
-    → cond b (Some (record { opb = opb; cnf = cnf; proof = proof; options = options })) None ≡ Some w → IsFitEncode w
+fit_if : (opb cnf : Text) (proof : Option Text) (options : Options) (bound : Option ℤ) (b : Bool) (w : EncodeWords) → are_different (opb ∷ cnf ∷ option_to_list proof) ≡ b → IsBudget options.budget
+    → cond b (Some (record { opb = opb; cnf = cnf; proof = proof; options = options; bound = bound })) None ≡ Some w → IsFitEncode w
 unfolding AreOthers
-fit_if opb cnf proof options true w test budget e =
-    let same : w ≡ record { opb = opb; cnf = cnf; proof = proof; options = options } = cc in
+fit_if opb cnf proof options bound true w test budget e =
+    let same : w ≡ record { opb = opb; cnf = cnf; proof = proof; options = options; bound = bound } = cc in
     let others = all_differ opb cnf proof test in
     rw same (record { different = others.0; other = others.1; low = budget.0; high = budget.1 })
-fit_if opb cnf proof options false w test budget e = cc
+fit_if opb cnf proof options bound false w test budget e = cc
 
-fit_from : (opb cnf proof : Option Text) (o : Option Options) (w : EncodeWords) → ((options : Options) → o ≡ Some options → IsBudget options.budget)
-    → encode_from opb cnf proof o ≡ Some w → IsFitEncode w
-fit_from (Some opb) (Some cnf) proof (Some options) w budget e = fit_if opb cnf proof options (are_different (opb ∷ cnf ∷ option_to_list proof)) w refl (budget options refl) e
-fit_from None cnf proof o w budget e = cc
-fit_from (Some opb) None proof o w budget e = cc
-fit_from (Some opb) (Some cnf) proof None w budget e = cc
+fit_from : (opb cnf proof : Option Text) (o : Option Options) (bound : Option (Option ℤ)) (w : EncodeWords) → ((options : Options) → o ≡ Some options → IsBudget options.budget)
+    → encode_from opb cnf proof o bound ≡ Some w → IsFitEncode w
+fit_from (Some opb) (Some cnf) proof (Some options) (Some bound) w budget e = fit_if opb cnf proof options bound (are_different (opb ∷ cnf ∷ option_to_list proof)) w refl (budget options refl) e
+fit_from None cnf proof o bound w budget e = cc
+fit_from (Some opb) None proof o bound w budget e = cc
+fit_from (Some opb) (Some cnf) proof None bound w budget e = cc
+fit_from (Some opb) (Some cnf) proof (Some options) None w budget e = cc
 
 pub encode_fit : (given : List Row) (w : EncodeWords) → encode_in given ≡ Some w → IsFitEncode w
-encode_fit given w = fit_from _ _ (first_of (codes "proof") given) (options_in given) w (options_range given)
+encode_fit given w = fit_from _ _ (first_of (codes "proof") given) (options_in given) (bound_in given) w (options_range given)

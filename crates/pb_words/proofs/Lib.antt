@@ -1,6 +1,9 @@
 pub mod BenchLemmas
+pub mod BoundRows
 pub mod CommandLemmas
 pub mod EncodeLemmas
+pub mod Lines
 pub mod Rows
 pub mod TakenLemmas
 pub mod WantedLemmas
+pub mod WcnfLemmas

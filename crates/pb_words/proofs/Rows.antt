@@ -1,8 +1,7 @@
 -- Worked examples of command lines, which the check computes.
-use Rattle.std.specs.Prelude.{◌≡◌, ℕ, List, [], ◌∷◌, true, false, map, Option, Some, None, codes, refl}
+use Rattle.std.specs.Prelude.{◌≡◌, ℕ, List, [], ◌∷◌, true, false, Option, Some, None, codes, refl}
 use Rattle.clap.specs.Words.{Text}
 use Rattle.clap.proofs.OnLiterals.{clap_on_literals}
-use Rattle.pb_base.specs.Words.{words_of}
 use Rattle.pb_choice.specs.declared.options.Amo.TheVariants as amo
 use Rattle.pb_choice.specs.declared.options.Card.TheVariants as card
 use Rattle.pb_choice.specs.declared.options.General.TheVariants as general
@@ -11,22 +10,19 @@ use Rattle.pb_choice.specs.Defaults.{default_options}
 use Rattle.pb_base.specs.declared.literal.Lit.{Lit}
 use Rattle.pb_words.specs.Taken.{Wanted, taken_of}
 use Rattle.pb_words.specs.Taken.Wanted.{Encode, Check, Decode, Probe, Bench, Refute, Map}
-
--- what a line asks for whose words stand between blanks
-abbrev said : Text → Option Wanted
-said line = taken_of (map (λ word. word.text) (words_of line))
+use Rattle.pb_words.proofs.Lines.{said}
 
 abbrev encode : Text → Text → Options → Option Wanted
-encode opb cnf options = Some (Encode (record { opb = opb; cnf = cnf; proof = None; options = options }))
+encode opb cnf options = Some (Encode (record { opb = opb; cnf = cnf; proof = None; options = options; bound = None }))
 
 abbrev encode_a_b : Options → Option Wanted
 encode_a_b = encode (codes "a") (codes "b")
 
 abbrev encode_a_b_c : Options → Option Wanted
-encode_a_b_c options = Some (Encode (record { opb = codes "a"; cnf = codes "b"; proof = Some (codes "c"); options = options }))
+encode_a_b_c options = Some (Encode (record { opb = codes "a"; cnf = codes "b"; proof = Some (codes "c"); options = options; bound = None }))
 
 abbrev check : Text → Text → Text → Option Wanted
-check opb cnf proof = Some (Check (record { opb = opb; cnf = cnf; proof = proof }))
+check opb cnf proof = Some (Check (record { opb = opb; cnf = cnf; proof = proof; bound = None }))
 
 abbrev probe : Text → List Lit → Option Wanted
 probe cnf lits = Some (Probe (record { cnf = cnf; lits = lits }))
@@ -114,7 +110,7 @@ unfolding taken_of clap_on_literals
 another_program_name = refl
 
 abbrev decode : Text → Text → Option Wanted
-decode opb model = Some (Decode (record { opb = opb; model = model }))
+decode opb model = Some (Decode (record { opb = opb; model = model; bound = None }))
 
 a_text_and_a_model : said (codes "pbcnf decode a b") ≡ decode (codes "a") (codes "b")
 unfolding taken_of clap_on_literals
@@ -129,7 +125,7 @@ unfolding taken_of clap_on_literals
 three_texts = refl
 
 abbrev refute : Text → Text → Text → Text → Option Wanted
-refute opb cnf proof lrat = Some (Refute (record { opb = opb; cnf = cnf; proof = proof; lrat = lrat }))
+refute opb cnf proof lrat = Some (Refute (record { opb = opb; cnf = cnf; proof = proof; lrat = lrat; bound = None }))
 
 four_texts : said (codes "pbcnf refute a b c d") ≡ refute (codes "a") (codes "b") (codes "c") (codes "d")
 unfolding taken_of clap_on_literals

@@ -1,33 +1,35 @@
 -- The words of `encode`. Our own.
-use Rattle.std.specs.Prelude.{List, ◌∷◌, Option, Some, None, if◌then◌else◌, codes, option_copied}
+use Rattle.std.specs.Prelude.{ℤ, List, ◌∷◌, ◌++◌, Option, Some, None, if◌then◌else◌, codes, option_copied}
 use Rattle.std.specs.Option.{option_to_list}
 use Rattle.clap.specs.Words.{App, Row, Text, first_of}
 use Rattle.pb_choice.specs.declared.options.Options.{Options}
 use Rattle.pb_words.specs.declared.encode.Encoding.{Encoding}
+use Rattle.pb_words.specs.BoundWords.{bound_in, bound_rules}
 use Rattle.pb_words.specs.Names.{are_different}
 use Rattle.pb_words.specs.OptionWords.{option_rules, options_in}
 use Rattle.pb_words.specs.Rules.{command_of, name_rule, optional_rule}
 
--- `encode OPB CNF [PROOF]` and the options
+-- `encode OPB CNF [PROOF]`, the options and a bound
 abbrev pub encode_app : App
-encode_app = command_of (codes "encode") (name_rule (codes "opb") ∷ name_rule (codes "cnf") ∷ optional_rule (codes "proof") ∷ option_rules)
+encode_app = command_of (codes "encode") (name_rule (codes "opb") ∷ name_rule (codes "cnf") ∷ optional_rule (codes "proof") ∷ (option_rules ++ bound_rules))
 
 pub record EncodeWords : Type 0 where
   pub opb : Text
   pub cnf : Text
   pub proof : Option Text
   pub options : Options
+  pub bound : Option ℤ
 
--- two names, a third if it was given, of which no two are equal, and the options
-abbrev pub encode_from : Option Text → Option Text → Option Text → Option Options → Option EncodeWords
-encode_from (Some opb) (Some cnf) proof (Some options) =
-    if are_different (opb ∷ cnf ∷ option_to_list proof) then Some (record { opb = opb; cnf = cnf; proof = proof; options = options }) else None
-encode_from _ _ _ _ = None
+-- two names, a third if it was given, of which no two are equal, the options, and a bound if one was given
+abbrev pub encode_from : Option Text → Option Text → Option Text → Option Options → Option (Option ℤ) → Option EncodeWords
+encode_from (Some opb) (Some cnf) proof (Some options) (Some bound) =
+    if are_different (opb ∷ cnf ∷ option_to_list proof) then Some (record { opb = opb; cnf = cnf; proof = proof; options = options; bound = bound }) else None
+encode_from _ _ _ _ _ = None
 
 -- what `encode` is asked for, to which these arguments were given
 abbrev pub encode_in : List Row → Option EncodeWords
-encode_in given = encode_from (first_of (codes "opb") given) (first_of (codes "cnf") given) (first_of (codes "proof") given) (options_in given)
+encode_in given = encode_from (first_of (codes "opb") given) (first_of (codes "cnf") given) (first_of (codes "proof") given) (options_in given) (bound_in given)
 
 -- what an `Encoding` says
 abbrev pub as_encode_words : Encoding → EncodeWords
-as_encode_words e = record { opb = e.opb.now; cnf = e.cnf.now; proof = option_copied e.proof; options = e.options }
+as_encode_words e = record { opb = e.opb.now; cnf = e.cnf.now; proof = option_copied e.proof; options = e.options; bound = e.bound }

@@ -4,12 +4,19 @@ use Rattle.std.specs.Option.{ForSome}
 use Rattle.pb_words.specs.BenchWords.{BenchWords}
 use Rattle.pb_words.specs.EncodeWords.{EncodeWords}
 use Rattle.pb_words.specs.Taken.{Wanted}
-use Rattle.pb_words.specs.Taken.Wanted.{Encode, Check, Decode, Probe, Bench, Refute, Map}
+use Rattle.pb_words.specs.Taken.Wanted.{Encode, Check, Decode, Probe, Bench, Refute, Map, Wcnf}
+use Rattle.pb_words.specs.WcnfWords.{WcnfWords}
 
 -- different names, and a budget within its range
 pub record IsFitEncode (w : EncodeWords) : Type 0 where
   pub different : w.opb ≢ w.cnf
   pub other : ForSome w.proof (λ proof. (w.opb ≢ proof) × (w.cnf ≢ proof))
+  pub low : 1 ≤ w.options.budget
+  pub high : w.options.budget ≤ 10000000
+
+-- the same of a weighted CNF
+pub record IsFitWcnf (w : WcnfWords) : Type 0 where
+  pub different : w.opb ≢ w.wcnf
   pub low : 1 ≤ w.options.budget
   pub high : w.options.budget ≤ 10000000
 
@@ -26,3 +33,4 @@ IsFit (Probe w) = Unit {0}
 IsFit (Bench w) = IsFitBench w
 IsFit (Refute w) = Unit {0}
 IsFit (Map w) = Unit {0}
+IsFit (Wcnf w) = IsFitWcnf w

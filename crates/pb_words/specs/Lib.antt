@@ -2,6 +2,7 @@ pub mod Rules
 pub mod Digits
 pub mod Names
 pub mod OptionWords
+pub mod BoundWords
 pub mod EncodeWords
 pub mod BenchWords
 pub mod CheckWords
@@ -10,5 +11,6 @@ pub mod LitWords
 pub mod ProbeWords
 pub mod RefuteWords
 pub mod MapWords
+pub mod WcnfWords
 pub mod Taken
 pub mod Fit

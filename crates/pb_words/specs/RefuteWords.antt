@@ -1,30 +1,32 @@
 -- The words of `refute`. Our own.
-use Rattle.std.specs.Prelude.{List, [], ◌∷◌, Option, Some, None, if◌then◌else◌, codes}
+use Rattle.std.specs.Prelude.{ℤ, List, ◌∷◌, [], Option, Some, None, if◌then◌else◌, codes}
 use Rattle.clap.specs.Words.{App, Row, Text, first_of}
 use Rattle.pb_words.specs.declared.refute.Refuting.{Refuting}
+use Rattle.pb_words.specs.BoundWords.{bound_in, bound_rules}
 use Rattle.pb_words.specs.Names.{are_different}
 use Rattle.pb_words.specs.Rules.{command_of, name_rule}
 
--- `refute OPB CNF PROOF LRAT`
+-- `refute OPB CNF PROOF LRAT` and a bound
 abbrev pub refute_app : App
-refute_app = command_of (codes "refute") (name_rule (codes "opb") ∷ name_rule (codes "cnf") ∷ name_rule (codes "proof") ∷ name_rule (codes "lrat") ∷ [])
+refute_app = command_of (codes "refute") (name_rule (codes "opb") ∷ name_rule (codes "cnf") ∷ name_rule (codes "proof") ∷ name_rule (codes "lrat") ∷ bound_rules)
 
 pub record RefuteWords : Type 0 where
   pub opb : Text
   pub cnf : Text
   pub proof : Text
   pub lrat : Text
+  pub bound : Option ℤ
 
--- the four names, of which no two are equal
-abbrev pub refute_from : Option Text → Option Text → Option Text → Option Text → Option RefuteWords
-refute_from (Some opb) (Some cnf) (Some proof) (Some lrat) =
-    if are_different (opb ∷ cnf ∷ proof ∷ lrat ∷ []) then Some (record { opb = opb; cnf = cnf; proof = proof; lrat = lrat }) else None
-refute_from _ _ _ _ = None
+-- the four names, of which no two are equal, and a bound if one was given
+abbrev pub refute_from : Option Text → Option Text → Option Text → Option Text → Option (Option ℤ) → Option RefuteWords
+refute_from (Some opb) (Some cnf) (Some proof) (Some lrat) (Some bound) =
+    if are_different (opb ∷ cnf ∷ proof ∷ lrat ∷ []) then Some (record { opb = opb; cnf = cnf; proof = proof; lrat = lrat; bound = bound }) else None
+refute_from _ _ _ _ _ = None
 
 -- what `refute` is asked for, to which these arguments were given
 abbrev pub refute_in : List Row → Option RefuteWords
-refute_in given = refute_from (first_of (codes "opb") given) (first_of (codes "cnf") given) (first_of (codes "proof") given) (first_of (codes "lrat") given)
+refute_in given = refute_from (first_of (codes "opb") given) (first_of (codes "cnf") given) (first_of (codes "proof") given) (first_of (codes "lrat") given) (bound_in given)
 
 -- what a `Refuting` says
 abbrev pub as_refute_words : Refuting → RefuteWords
-as_refute_words c = record { opb = c.opb.now; cnf = c.cnf.now; proof = c.proof.now; lrat = c.lrat.now }
+as_refute_words c = record { opb = c.opb.now; cnf = c.cnf.now; proof = c.proof.now; lrat = c.lrat.now; bound = c.bound }

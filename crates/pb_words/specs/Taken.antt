@@ -14,10 +14,11 @@ use Rattle.pb_words.specs.MapWords.{as_map_words, map_app, map_in, MapWords}
 use Rattle.pb_words.specs.ProbeWords.{as_probe_words, probe_app, probe_in, ProbeWords}
 use Rattle.pb_words.specs.RefuteWords.{as_refute_words, refute_app, refute_in, RefuteWords}
 use Rattle.pb_words.specs.Rules.{program_of}
+use Rattle.pb_words.specs.WcnfWords.{as_wcnf_words, wcnf_app, wcnf_in, WcnfWords}
 
 -- the commands
 abbrev pub program_app : App
-program_app = program_of (codes "pbcnf") (encode_app ∷ check_app ∷ decode_app ∷ probe_app ∷ bench_app ∷ refute_app ∷ map_app ∷ [])
+program_app = program_of (codes "pbcnf") (encode_app ∷ check_app ∷ decode_app ∷ probe_app ∷ bench_app ∷ refute_app ∷ map_app ∷ wcnf_app ∷ [])
 
 -- what is asked for
 pub data Wanted : Type 0 where
@@ -28,6 +29,7 @@ pub data Wanted : Type 0 where
   Bench : BenchWords → Wanted
   Refute : RefuteWords → Wanted
   Map : MapWords → Wanted
+  Wcnf : WcnfWords → Wanted
 
 -- what the command of this name is asked for, to which these arguments were given
 abbrev pub wanted_in : Text → List Row → Option Wanted
@@ -38,7 +40,8 @@ wanted_in name given =
     else (if bytes_eq name (codes "probe") then option_map Probe (probe_in given)
     else (if bytes_eq name (codes "bench") then option_map Bench (bench_in given)
     else (if bytes_eq name (codes "refute") then option_map Refute (refute_in given)
-    else (if bytes_eq name (codes "map") then option_map Map (map_in given) else None))))))
+    else (if bytes_eq name (codes "map") then option_map Map (map_in given)
+    else (if bytes_eq name (codes "wcnf") then option_map Wcnf (wcnf_in given) else None)))))))
 
 -- the same, of the command that was given
 abbrev pub wanted_by : Option (Text × List Row) → Option Wanted
@@ -63,6 +66,7 @@ wanted_as (request.Probe p) = Probe (as_probe_words p)
 wanted_as (request.Bench b) = Bench (as_bench_words b)
 wanted_as (request.Refute r) = Refute (as_refute_words r)
 wanted_as (request.Map m) = Map (as_map_words m)
+wanted_as (request.Wcnf w) = Wcnf (as_wcnf_words w)
 
 -- an answer gives what is asked for, and says `Usage` only where nothing is
 abbrev pub Tells : Option Wanted → Result Request WordsFault → Type 0

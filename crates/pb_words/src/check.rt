@@ -1,11 +1,11 @@
 //! The words of `check`.
-ghost use Rattle.std.specs.Prelude.{◌≡◌, IfOk, option_map, [], ◌∷◌};
+ghost use Rattle.std.specs.Prelude.{◌≡◌, IfOk, option_map};
 ghost use Rattle.clap.specs.Words.{found_of, rows_of};
-ghost use Rattle.pb_words.specs.Names.{are_different};
 ghost use Rattle.pb_words.specs.Rules.{IsCommand};
 ghost use Rattle.pb_words.specs.CheckWords.{as_check_words, check_app, check_in};
 
 use crate::argument::{name, word_of};
+use crate::bound::{bound_in, with_bound};
 use clap::{ArgMatches, Command};
 use std::alloc::{AllocError, Global};
 
@@ -18,16 +18,19 @@ pub struct Checking<'a> {
     pub cnf: &'a str,
     /// The name of the derivation, which is a third.
     pub proof: &'a str,
+    /// What the objective is at most, if that is asked for.
+    pub bound: Option<i128>,
 }
 
-/// `check OPB CNF PROOF`
+/// `check OPB CNF PROOF` and a bound.
 pub fn command<'a>(alloc: Global) -> Result<Command<'a>, AllocError>
     ensures { IfOk result (IsCommand check_app) }
 {
-    Command::new(alloc, "check")
+    let named = Command::new(alloc, "check")
         .arg(name(alloc, "opb"))?
         .arg(name(alloc, "cnf"))?
-        .arg(name(alloc, "proof"))
+        .arg(name(alloc, "proof"))?;
+    with_bound(alloc, named)
 }
 
 /// What `check` was asked for.
@@ -37,8 +40,14 @@ pub fn checking_in<'a>(given: &ArgMatches<'a>) -> Option<Checking<'a>>
     let opb = word_of(given, "opb")?;
     let cnf = word_of(given, "cnf")?;
     let proof = word_of(given, "proof")?;
+    let bound = bound_in(given)?;
     if opb == cnf || opb == proof || cnf == proof {
         return None;
     }
-    Some(Checking { opb, cnf, proof })
+    Some(Checking {
+        opb,
+        cnf,
+        proof,
+        bound,
+    })
 }

@@ -1,11 +1,11 @@
 //! The words of `decode`.
-ghost use Rattle.std.specs.Prelude.{◌≡◌, IfOk, option_map, [], ◌∷◌};
+ghost use Rattle.std.specs.Prelude.{◌≡◌, IfOk, option_map};
 ghost use Rattle.clap.specs.Words.{found_of, rows_of};
-ghost use Rattle.pb_words.specs.Names.{are_different};
 ghost use Rattle.pb_words.specs.Rules.{IsCommand};
 ghost use Rattle.pb_words.specs.DecodeWords.{as_decode_words, decode_app, decode_in};
 
 use crate::argument::{name, word_of};
+use crate::bound::{bound_in, with_bound};
 use clap::{ArgMatches, Command};
 use std::alloc::{AllocError, Global};
 
@@ -16,15 +16,18 @@ pub struct Decoding<'a> {
     pub opb: &'a str,
     /// The name of the file that a solver printed, which is another.
     pub model: &'a str,
+    /// What the objective is at most, if that is asked for.
+    pub bound: Option<i128>,
 }
 
-/// `decode OPB MODEL`
+/// `decode OPB MODEL` and a bound.
 pub fn command<'a>(alloc: Global) -> Result<Command<'a>, AllocError>
     ensures { IfOk result (IsCommand decode_app) }
 {
-    Command::new(alloc, "decode")
+    let named = Command::new(alloc, "decode")
         .arg(name(alloc, "opb"))?
-        .arg(name(alloc, "model"))
+        .arg(name(alloc, "model"))?;
+    with_bound(alloc, named)
 }
 
 /// What `decode` was asked for.
@@ -33,8 +36,9 @@ pub fn decoding_in<'a>(given: &ArgMatches<'a>) -> Option<Decoding<'a>>
 {
     let opb = word_of(given, "opb")?;
     let model = word_of(given, "model")?;
+    let bound = bound_in(given)?;
     if opb == model {
         return None;
     }
-    Some(Decoding { opb, model })
+    Some(Decoding { opb, model, bound })
 }

@@ -1,5 +1,5 @@
 //! The words of `encode`.
-ghost use Rattle.std.specs.Prelude.{◌≡◌, IfOk, option_copied, option_map, not, [], ◌∷◌};
+ghost use Rattle.std.specs.Prelude.{◌≡◌, IfOk, option_copied, option_map, not, ◌∷◌};
 ghost use Rattle.std.specs.Option.{option_to_list};
 ghost use Rattle.clap.specs.Words.{found_of, rows_of};
 ghost use Rattle.pb_words.specs.Names.{are_different};
@@ -7,6 +7,7 @@ ghost use Rattle.pb_words.specs.Rules.{IsCommand};
 ghost use Rattle.pb_words.specs.EncodeWords.{as_encode_words, encode_app, encode_in};
 
 use crate::argument::{name, optional_name, word_of};
+use crate::bound::{bound_in, with_bound};
 use crate::options::{options_in, with_options};
 use clap::{ArgMatches, Command};
 use pb_choice::Options;
@@ -23,9 +24,11 @@ pub struct Encoding<'a> {
     pub proof: Option<&'a str>,
     /// How constraints are encoded.
     pub options: Options,
+    /// What the objective is at most, if that is asked for.
+    pub bound: Option<i128>,
 }
 
-/// `encode OPB CNF [PROOF]` and the options.
+/// `encode OPB CNF [PROOF]`, the options and a bound.
 pub fn command<'a>(alloc: Global) -> Result<Command<'a>, AllocError>
     ensures { IfOk result (IsCommand encode_app) }
 {
@@ -33,7 +36,7 @@ pub fn command<'a>(alloc: Global) -> Result<Command<'a>, AllocError>
         .arg(name(alloc, "opb"))?
         .arg(name(alloc, "cnf"))?
         .arg(optional_name(alloc, "proof"))?;
-    with_options(alloc, named)
+    with_bound(alloc, with_options(alloc, named)?)
 }
 
 // Two of the names are equal.
@@ -54,6 +57,7 @@ pub fn encoding_in<'a>(given: &ArgMatches<'a>) -> Option<Encoding<'a>>
     let cnf = word_of(given, "cnf")?;
     let proof = word_of(given, "proof");
     let options = options_in(given)?;
+    let bound = bound_in(given)?;
     if are_equal(opb, cnf, proof) {
         return None;
     }
@@ -62,5 +66,6 @@ pub fn encoding_in<'a>(given: &ArgMatches<'a>) -> Option<Encoding<'a>>
         cnf,
         proof,
         options,
+        bound,
     })
 }

@@ -3,6 +3,7 @@
 
 mod argument;
 mod bench;
+mod bound;
 mod check;
 mod decode;
 mod digits;
@@ -16,6 +17,7 @@ mod probe;
 mod program;
 mod refute;
 mod request;
+mod wcnf;
 
 pub use bench::Benching;
 pub use check::Checking;
@@ -27,3 +29,4 @@ pub use map::Mapping;
 pub use probe::Probing;
 pub use refute::Refuting;
 pub use request::Request;
+pub use wcnf::Weighing;

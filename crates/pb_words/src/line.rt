@@ -9,7 +9,8 @@ ghost use Rattle.pb_words.specs.MapWords.{map_in};
 ghost use Rattle.pb_words.specs.ProbeWords.{probe_in};
 ghost use Rattle.pb_words.specs.RefuteWords.{refute_in};
 ghost use Rattle.pb_words.specs.Taken.{taken_of, wanted_as, wanted_by, wanted_in, Tells};
-ghost use Rattle.pb_words.specs.Taken.Wanted.{Encode, Check, Decode, Probe, Bench, Refute, Map};
+ghost use Rattle.pb_words.specs.Taken.Wanted.{Encode, Check, Decode, Probe, Bench, Refute, Map, Wcnf};
+ghost use Rattle.pb_words.specs.WcnfWords.{wcnf_in};
 
 use crate::bench::benching_in;
 use crate::check::checking_in;
@@ -21,6 +22,7 @@ use crate::probe::probing_in;
 use crate::program::program;
 use crate::refute::refuting_in;
 use crate::request::Request;
+use crate::wcnf::weighing_in;
 use clap::ArgMatches;
 use clap::error::ErrorKind;
 use std::alloc::Global;
@@ -95,6 +97,16 @@ fn map_request<'a>(given: &ArgMatches<'a>) -> Result<Request<'a>, WordsFault>
     }
 }
 
+// What `wcnf` was asked for.
+fn wcnf_request<'a>(given: &ArgMatches<'a>) -> Result<Request<'a>, WordsFault>
+    ensures { Tells (option_map Wcnf (wcnf_in (rows_of (found_of given.now)))) result }
+{
+    match weighing_in(given) {
+        Some(weighing) => Ok(Request::Wcnf(weighing)),
+        None => Err(WordsFault::Usage),
+    }
+}
+
 // What a command of this name was asked for.
 fn request_in<'a>(
     alloc: Global,
@@ -111,6 +123,7 @@ fn request_in<'a>(
         "bench" => bench_request(given),
         "refute" => refute_request(given),
         "map" => map_request(given),
+        "wcnf" => wcnf_request(given),
         _ => Err(WordsFault::Usage),
     }
 }

@@ -1,9 +1,9 @@
 // The commands of the program.
-ghost use Rattle.std.specs.Prelude.{◌≡◌, IfOk, codes};
+ghost use Rattle.std.specs.Prelude.{IfOk, codes};
 ghost use Rattle.pb_words.specs.Rules.{bare_program, IsCommand};
 ghost use Rattle.pb_words.specs.Taken.{program_app};
 
-use crate::{bench, check, decode, encode, map, probe, refute};
+use crate::{bench, check, decode, encode, map, probe, refute, wcnf};
 use clap::Command;
 use std::alloc::{AllocError, Global};
 
@@ -29,5 +29,6 @@ pub fn program<'a>(alloc: Global) -> Result<Command<'a>, AllocError>
         .subcommand(probe::command(alloc)?)?
         .subcommand(bench::command(alloc)?)?
         .subcommand(refute::command(alloc)?)?
-        .subcommand(map::command(alloc)?)
+        .subcommand(map::command(alloc)?)?
+        .subcommand(wcnf::command(alloc)?)
 }

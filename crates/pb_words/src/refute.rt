@@ -1,11 +1,11 @@
 //! The words of `refute`.
-ghost use Rattle.std.specs.Prelude.{◌≡◌, IfOk, option_map, [], ◌∷◌};
+ghost use Rattle.std.specs.Prelude.{◌≡◌, IfOk, option_map};
 ghost use Rattle.clap.specs.Words.{found_of, rows_of};
-ghost use Rattle.pb_words.specs.Names.{are_different};
 ghost use Rattle.pb_words.specs.Rules.{IsCommand};
 ghost use Rattle.pb_words.specs.RefuteWords.{as_refute_words, refute_app, refute_in};
 
 use crate::argument::{name, word_of};
+use crate::bound::{bound_in, with_bound};
 use clap::{ArgMatches, Command};
 use std::alloc::{AllocError, Global};
 
@@ -20,17 +20,20 @@ pub struct Refuting<'a> {
     pub proof: &'a str,
     /// The name of the refutation, which is a fourth.
     pub lrat: &'a str,
+    /// What the objective is at most, if that is asked for.
+    pub bound: Option<i128>,
 }
 
-/// `refute OPB CNF PROOF LRAT`
+/// `refute OPB CNF PROOF LRAT` and a bound.
 pub fn command<'a>(alloc: Global) -> Result<Command<'a>, AllocError>
     ensures { IfOk result (IsCommand refute_app) }
 {
-    Command::new(alloc, "refute")
+    let named = Command::new(alloc, "refute")
         .arg(name(alloc, "opb"))?
         .arg(name(alloc, "cnf"))?
         .arg(name(alloc, "proof"))?
-        .arg(name(alloc, "lrat"))
+        .arg(name(alloc, "lrat"))?;
+    with_bound(alloc, named)
 }
 
 /// What `refute` was asked for.
@@ -41,6 +44,7 @@ pub fn refuting_in<'a>(given: &ArgMatches<'a>) -> Option<Refuting<'a>>
     let cnf = word_of(given, "cnf")?;
     let proof = word_of(given, "proof")?;
     let lrat = word_of(given, "lrat")?;
+    let bound = bound_in(given)?;
     if opb == cnf || opb == proof || opb == lrat || cnf == proof || cnf == lrat || proof == lrat {
         return None;
     }
@@ -49,5 +53,6 @@ pub fn refuting_in<'a>(given: &ArgMatches<'a>) -> Option<Refuting<'a>>
         cnf,
         proof,
         lrat,
+        bound,
     })
 }

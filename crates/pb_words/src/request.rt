@@ -6,6 +6,7 @@ use crate::encode::Encoding;
 use crate::map::Mapping;
 use crate::probe::Probing;
 use crate::refute::Refuting;
+use crate::wcnf::Weighing;
 
 /// What the words ask for: one of the program's commands.
 #[derive(Debug, Drop)]
@@ -24,4 +25,6 @@ pub enum Request<'a> {
     Refute(Refuting<'a>),
     /// List the free names of a problem.
     Map(Mapping<'a>),
+    /// Encode a problem and its objective.
+    Wcnf(Weighing<'a>),
 }

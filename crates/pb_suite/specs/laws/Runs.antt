@@ -4,10 +4,13 @@ use Rattle.pb_base.specs.declared.expected.Expected.{Expected}
 use Rattle.pb_base.specs.declared.file.File.{File}
 use Rattle.pb_base.specs.declared.file.File.TheVariants.{Opb, Cnf, Model, Lrat}
 use Rattle.pb_base.specs.declared.limit.LimitKind.{LimitKind}
+use Rattle.pb_base.specs.declared.limit.LimitKind.TheVariants.{Weight}
 use Rattle.pb_base.specs.declared.place.Place.{Place}
 use Rattle.pb_base.specs.declared.problem.Problem.{Problem}
 use Rattle.pb_desk.specs.View.{View, opened, taken, spoke}
 use Rattle.pb_desk.specs.Desk.{DeskState, Reaches, FailsToRead, FailsToWrite, IfTold, LacksRoom, words, same}
+use Rattle.pb_opb.specs.declared.bound.BoundFault.{BoundFault}
+use Rattle.pb_opb.specs.declared.bound.BoundFault.TheVariants as bound
 use Rattle.pb_opb.specs.declared.fault.OpbFault.{OpbFault}
 use Rattle.pb_opb.specs.declared.fault.OpbFault.TheVariants as opb
 use Rattle.pb_dimacs.specs.declared.fault.CnfFault.{CnfFault}
@@ -36,6 +39,11 @@ abbrev pub opb_refusal : OpbFault → Outcome
 opb_refusal (opb.Token place e) = outcome.Refused Opb place e
 opb_refusal (opb.Limit place which) = outcome.Limit (Some Opb) which place
 opb_refusal opb.NoMemory = outcome.NoMemory
+
+-- the outcome of the fault of a bound on the objective of an OPB text
+abbrev pub bound_refusal : BoundFault → Outcome
+bound_refusal bound.Weight = outcome.Limit (Some Opb) Weight None
+bound_refusal bound.NoMemory = outcome.NoMemory
 
 -- the outcome of a CNF text's fault
 abbrev pub cnf_refusal : CnfFault → Outcome

@@ -22,7 +22,7 @@ returns-in-Err g c =
     let w = as_decode_words c.args.asked.now in
     let text : Text = record { kind = Opb; name = w.opb } in
     let others = record { kind = Model; name = w.model } ∷ [] in
-    reading_obeys (owed_decode w) 0 text (Contains-here text others) (inl refl) RefusesOpb (λ shelf bytes answer. bad_problem bytes answer) (g.D.Desk.state c.args.desk.now) (g.D.Desk.state c.read_problem.new.desk)
+    reading_obeys (owed_decode w) 0 text (Contains-here text others) (inl refl) (RefusesOpb w.bound) (λ shelf bytes answer. bad_problem bytes answer) (g.D.Desk.state c.args.desk.now) (g.D.Desk.state c.read_problem.new.desk)
     c.in-Err.outcome c.in-Err.ensures.stopped (λ steady is. c.in-Err.ensures.steady steady (ap Err is))
 
 pub read_answer-requires-clause-free : goal.read_answer-requires-clause-free
@@ -39,7 +39,7 @@ returns-in-Err-read_answer g c =
     let read = c.in-Ok.ensures.read in
     let goes = goes_by nothing (fetched 0 w.opb read.0) a b (by_reading 0 w.opb read.0) read.1 in
     obeys_after (owed_decode w) a b d goes _
-    (no_answer_obeys w p b d (posed_by w.opb p a b goes c.in-Ok.ensures.says) c.in-Err-read_answer.outcome c.in-Err-read_answer.ensures.stopped (λ steady is. c.in-Err-read_answer.ensures.steady steady (ap Err is)))
+    (no_answer_obeys w p b d (posed_by w.opb w.bound p a b goes c.in-Ok.ensures.poses) c.in-Err-read_answer.outcome c.in-Err-read_answer.ensures.stopped (λ steady is. c.in-Err-read_answer.ensures.steady steady (ap Err is)))
 
 pub conclude-requires-clause-answered : goal.conclude-requires-clause-answered
 conclude-requires-clause-answered g c =
@@ -53,7 +53,7 @@ conclude-requires-clause-answered g c =
     let goes = goes_by nothing (fetched 0 w.opb read.0) a b (by_reading 0 w.opb read.0) read.1 in
     let goes_on = goes_by nothing (fetched 1 w.model more.0) b d (by_reading 1 w.model more.0) more.1 in
     answered_later w p c.in-Ok-read_answer.model b d goes_on
-    (answered_by w p c.in-Ok-read_answer.model b (posed_by w.opb p a b goes c.in-Ok.ensures.says) c.in-Ok-read_answer.ensures.says)
+    (answered_by w p c.in-Ok-read_answer.model b (posed_by w.opb w.bound p a b goes c.in-Ok.ensures.poses) c.in-Ok-read_answer.ensures.says)
 
 pub returns : goal.returns
 returns g c =

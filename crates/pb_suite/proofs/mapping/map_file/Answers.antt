@@ -1,4 +1,4 @@
-use Rattle.std.proofs.Common.{Err, [], ap, inl, refl}
+use Rattle.std.proofs.Common.{None, Err, [], ap, inl, refl}
 use Rattle.pb_base.specs.declared.file.File.TheVariants.{Opb}
 use Rattle.pb_base.proofs.Members.{Contains-here}
 use Rattle.pb_words.specs.MapWords.{as_map_words}
@@ -18,7 +18,7 @@ pub returns-in-Err : goal.returns-in-Err
 returns-in-Err g c =
     let w = as_map_words c.args.asked.now in
     let text : Text = record { kind = Opb; name = w.opb } in
-    reading_obeys (owed_map w) 0 text (Contains-here text []) (inl refl) RefusesOpb (λ shelf bytes answer. refused bytes answer) (g.D.Desk.state c.args.desk.now) (g.D.Desk.state c.read_problem.new.desk)
+    reading_obeys (owed_map w) 0 text (Contains-here text []) (inl refl) (RefusesOpb None) (λ shelf bytes answer. refused bytes answer) (g.D.Desk.state c.args.desk.now) (g.D.Desk.state c.read_problem.new.desk)
     c.in-Err.outcome c.in-Err.ensures.stopped (λ steady is. c.in-Err.ensures.steady steady (ap Err is))
 
 pub say_names-requires-clause-posed : goal.say_names-requires-clause-posed
@@ -27,7 +27,7 @@ say_names-requires-clause-posed g c =
     let a = g.D.Desk.state c.args.desk.now in
     let b = g.D.Desk.state c.read_problem.new.desk in
     let read = c.in-Ok.ensures.read in
-    posed_by w.opb c.in-Ok.problem a b (goes_by nothing (fetched 0 w.opb read.0) a b (by_reading 0 w.opb read.0) read.1) c.in-Ok.ensures.says
+    posed_by w.opb None c.in-Ok.problem a b (goes_by nothing (fetched 0 w.opb read.0) a b (by_reading 0 w.opb read.0) read.1) c.in-Ok.ensures.poses
 
 pub returns-in-Ok : goal.returns-in-Ok
 returns-in-Ok g c =

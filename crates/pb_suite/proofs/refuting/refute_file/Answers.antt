@@ -21,7 +21,7 @@ returns-in-Err g c =
     let w = as_refute_words c.args.asked.now in
     let text : Text = record { kind = Opb; name = w.opb } in
     let others = record { kind = Cnf; name = w.cnf } ∷ record { kind = Proof; name = w.proof } ∷ record { kind = Lrat; name = w.lrat } ∷ [] in
-    reading_obeys (owed_refute w) 0 text (Contains-here text others) (inl refl) RefusesOpb (λ shelf bytes answer has refuses. unchecked answer (bad_problem bytes answer has refuses)) (g.D.Desk.state c.args.desk.now) (g.D.Desk.state c.read_problem.new.desk)
+    reading_obeys (owed_refute w) 0 text (Contains-here text others) (inl refl) (RefusesOpb w.bound) (λ shelf bytes answer has refuses. unchecked answer (bad_problem bytes answer has refuses)) (g.D.Desk.state c.args.desk.now) (g.D.Desk.state c.read_problem.new.desk)
     c.in-Err.outcome c.in-Err.ensures.stopped (λ steady is. c.in-Err.ensures.steady steady (ap Err is))
 
 pub judge-requires-clause-posed : goal.judge-requires-clause-posed
@@ -30,7 +30,7 @@ judge-requires-clause-posed g c =
     let a = g.D.Desk.state c.args.desk.now in
     let b = g.D.Desk.state c.read_problem.new.desk in
     let read = c.in-Ok.ensures.read in
-    posed_by w.opb c.in-Ok.problem a b (goes_by nothing (fetched 0 w.opb read.0) a b (by_reading 0 w.opb read.0) read.1) c.in-Ok.ensures.says
+    posed_by w.opb w.bound c.in-Ok.problem a b (goes_by nothing (fetched 0 w.opb read.0) a b (by_reading 0 w.opb read.0) read.1) c.in-Ok.ensures.poses
 
 pub judge-requires-clause-cnf_free : goal.judge-requires-clause-cnf_free
 judge-requires-clause-cnf_free g c = ap (λ (v : View). v.reading 1) c.in-Ok.ensures.read.1.view ∙ c.requires.closed.reading 1

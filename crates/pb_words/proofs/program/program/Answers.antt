@@ -9,6 +9,7 @@ use Rattle.pb_words.specs.MapWords.{map_app}
 use Rattle.pb_words.specs.ProbeWords.{probe_app}
 use Rattle.pb_words.specs.RefuteWords.{refute_app}
 use Rattle.pb_words.specs.Rules.{bare_program}
+use Rattle.pb_words.specs.WcnfWords.{wcnf_app}
 use Rattle.pb_words.proofs.CommandLemmas.{adds_command}
 use Rattle.pb_words.proofs.program.program.Goals as goal
 
@@ -26,4 +27,6 @@ returns c =
     let bench = adds_command with_probe bench_app _ _ _ c.in_ok-subcommand-5.ensures probe c.in_ok-command-5.ensures in
     let with_bench : App = with_subcommand with_probe bench_app.top in
     let refute = adds_command with_bench refute_app _ _ _ c.in_ok-subcommand-6.ensures bench c.in_ok-command-6.ensures in
-    IfOk-weaker c.subcommand-7.result _ _ (λ new adds. adds_command (with_subcommand with_bench refute_app.top) map_app _ _ _ adds refute c.in_ok-command-7.ensures) c.subcommand-7.ensures
+    let with_refute : App = with_subcommand with_bench refute_app.top in
+    let map = adds_command with_refute map_app _ _ _ c.in_ok-subcommand-7.ensures refute c.in_ok-command-7.ensures in
+    IfOk-weaker c.subcommand-8.result _ _ (λ new adds. adds_command (with_subcommand with_refute map_app.top) wcnf_app _ _ _ adds map c.in_ok-command-8.ensures) c.subcommand-8.ensures

@@ -1,0 +1,74 @@
+-- How making a weighted CNF ends a command that owes it.
+use Rattle.std.proofs.Common.{◌≡◌, ◌∙◌, ℕ, List, None, ap, length, refl, take, false}
+use Rattle.std.specs.Prelude.{IsSome}
+use Rattle.pb_base.specs.declared.limit.LimitKind.{LimitKind}
+use Rattle.pb_base.specs.declared.problem.Problem.{Problem}
+use Rattle.pb_desk.specs.View.{View, spoke}
+use Rattle.pb_desk.specs.Desk.{DeskState, IfTold, IsSteady, LacksRoom, Reaches, StopsIn, same, words}
+use Rattle.pb_desk.proofs.Steps.{then, then_fails_to_write}
+use Rattle.pb_encode.specs.declared.fault.EncodeFault.{EncodeFault}
+use Rattle.pb_encode.specs.declared.fault.EncodeFault.TheVariants as fault
+use Rattle.pb_encode.specs.Encodings.{made, Refuses}
+use Rattle.pb_encode.specs.Summaries.{IsEncodable, IsOver}
+use Rattle.pb_encode.specs.Weighted.{weighted_text, IsWeightedCutOff, LacksForWeighted, WantsForWeighted}
+use Rattle.pb_encode.specs.Weighted.WantsForWeighted.{not_made, in_text}
+use Rattle.pb_words.specs.WcnfWords.{WcnfWords}
+use Rattle.pb_suite.specs.declared.outcome.Outcome.TheVariants as outcome
+use Rattle.pb_suite.specs.Obeying.{Obeys}
+use Rattle.pb_suite.specs.Outputs.{nothing}
+use Rattle.pb_suite.specs.OwedEncode.{due_words}
+use Rattle.pb_suite.specs.OwedWcnf.{owed_wcnf, weighted_output, StopsWcnf}
+use Rattle.pb_suite.specs.OwedWcnf.StopsWcnf.{over}
+use Rattle.pb_suite.specs.Posed.{IsPosed}
+use Rattle.pb_suite.specs.laws.Runs.{outcome_of}
+use Rattle.pb_suite.proofs.Endings.{bare_memory, is_refused}
+use Rattle.pb_suite.proofs.Going.{by_same, goes_by}
+use Rattle.pb_suite.proofs.OneFile.{all_said, file_stops, file_wants, words_stop, words_want}
+use Rattle.pb_suite.proofs.Rooms.{made_lacks_words}
+use Rattle.pb_suite.proofs.Texts.{told_more}
+
+module _ (w : WcnfWords) (p : Problem) (b : DeskState) (posed : IfTold b (λ t. IsPosed t.shelf w.opb w.bound p)) where
+  pub weighed_due : IsEncodable w.options p → IfTold b (λ t. (owed_wcnf w).done t.shelf (weighted_output w.wcnf w.options p))
+  weighed_due is = told_more b (λ t. IsPosed t.shelf w.opb w.bound p) (λ t. (owed_wcnf w).done t.shelf (weighted_output w.wcnf w.options p)) (λ t found. (p, record { posed = found; encodable = is }, refl)) posed
+
+  over_due : (which : LimitKind) → IsOver which w.options p → IfTold b (λ t. StopsWcnf t.shelf w (outcome.Limit None which None))
+  over_due which is = told_more b (λ t. IsPosed t.shelf w.opb w.bound p) (λ t. StopsWcnf t.shelf w (outcome.Limit None which None)) (λ t found. over p which found is) posed
+
+  module _ (tells : IsSteady b → IsSome b.view.told) where
+    abbrev pub text : List ℕ
+    text = weighted_text w.options p
+
+    abbrev pub summary : List ℕ
+    summary = due_words w.options p
+
+    abbrev pub Fine : Type 0
+    Fine = IsEncodable w.options p
+
+    wants : (d : DeskState) → WantsForWeighted w.options p w.wcnf b d → Obeys (owed_wcnf w) b d outcome.NoMemory
+    wants d (not_made far) = bare_memory (owed_wcnf w) b d (goes_by nothing same b d by_same far)
+    wants d (in_text is part) = file_wants (owed_wcnf w) w.wcnf text summary Fine b d tells weighed_due is part
+
+    -- the file was not made
+    pub unmade_obeys : (d : DeskState) (f : EncodeFault) → ((k : LimitKind) → f ≡ fault.Limit k → Refuses k w.options p b d) → (f ≡ fault.WriteFault → IsWeightedCutOff w.options p w.wcnf b d) → (f ≡ fault.NoMemory → WantsForWeighted w.options p w.wcnf b d)
+        → (IsSteady b → f ≡ fault.WriteFault → LacksForWeighted w.options p w.wcnf b) → Obeys (owed_wcnf w) b d (outcome_of f)
+    unmade_obeys d (fault.Limit k) limit write memory lacks = let found = limit k refl in is_refused (owed_wcnf w) b d (outcome.Limit None k None) (goes_by nothing same b d by_same found.1) tt (over_due k found.0)
+    unmade_obeys d fault.WriteFault limit write memory lacks = let cut = write refl in file_stops (owed_wcnf w) w.wcnf text summary Fine b d tells weighed_due cut.encodable (λ steady. lacks steady refl) cut.stops
+    unmade_obeys d fault.NoMemory limit write memory lacks = wants d (memory refl)
+
+    -- ---- once it was made
+
+    module _ (e : DeskState) (is : Fine) (far : Reaches (made 0 w.wcnf text) b e) where
+      pub unsaid_obeys : Obeys (owed_wcnf w) b e outcome.NoMemory
+      unsaid_obeys = words_want (owed_wcnf w) w.wcnf text summary Fine b e tells weighed_due is far
+
+      pub said_all_obeys : (d : DeskState) → Reaches (spoke summary) e d → ((slot : ℕ) → b.view.writing slot ≡ false) → Obeys (owed_wcnf w) b d outcome.Done
+      said_all_obeys d said free =
+          let spoken : View → View = λ v. spoke summary (made 0 w.wcnf text v) in
+          all_said (owed_wcnf w) w.wcnf text summary Fine b d tells weighed_due is (then (made 0 w.wcnf text) (spoke summary) spoken b e d (λ v. refl) far said) free
+
+      pub said_some_obeys : (d : DeskState) → StopsIn summary spoke e d → (IsSteady e → LacksRoom words (length summary) e) → Obeys (owed_wcnf w) b d outcome.WriteFault
+      said_some_obeys d stop lacks =
+          let spoken : View → View = λ v. spoke (take stop.count summary) (made 0 w.wcnf text v) in
+          let still : IsSteady b → IsSteady e = λ steady. ap (λ (v : View). v.steady) far.view ∙ steady in
+          words_stop (owed_wcnf w) w.wcnf text summary Fine b d tells weighed_due is stop.count (then_fails_to_write (made 0 w.wcnf text) (spoke (take stop.count summary)) spoken b e d (λ v. refl) far stop.fails)
+          (λ steady. made_lacks_words w.wcnf text (length summary) b e far.view (lacks (still steady)))

@@ -1,0 +1,54 @@
+//! The words of `wcnf`.
+ghost use Rattle.std.specs.Prelude.{◌≡◌, IfOk, option_map};
+ghost use Rattle.clap.specs.Words.{found_of, rows_of};
+ghost use Rattle.pb_words.specs.Rules.{IsCommand};
+ghost use Rattle.pb_words.specs.WcnfWords.{as_wcnf_words, wcnf_app, wcnf_in};
+
+use crate::argument::{name, word_of};
+use crate::bound::{bound_in, with_bound};
+use crate::options::{options_in, with_options};
+use clap::{ArgMatches, Command};
+use pb_choice::Options;
+use std::alloc::{AllocError, Global};
+
+/// Encode a problem and its objective: the file that is read, the file that is made, and how.
+#[derive(Clone, Copy, PartialEq, Eq, Debug)]
+pub struct Weighing<'a> {
+    /// The name of the OPB file.
+    pub opb: &'a str,
+    /// The name of the weighted CNF file, which is another.
+    pub wcnf: &'a str,
+    /// How constraints are encoded.
+    pub options: Options,
+    /// What the objective is at most, if that is asked for.
+    pub bound: Option<i128>,
+}
+
+/// `wcnf OPB WCNF`, the options and a bound.
+pub fn command<'a>(alloc: Global) -> Result<Command<'a>, AllocError>
+    ensures { IfOk result (IsCommand wcnf_app) }
+{
+    let named = Command::new(alloc, "wcnf")
+        .arg(name(alloc, "opb"))?
+        .arg(name(alloc, "wcnf"))?;
+    with_bound(alloc, with_options(alloc, named)?)
+}
+
+/// What `wcnf` was asked for.
+pub fn weighing_in<'a>(given: &ArgMatches<'a>) -> Option<Weighing<'a>>
+    ensures { option_map as_wcnf_words result ≡ wcnf_in (rows_of (found_of given.now)) }
+{
+    let opb = word_of(given, "opb")?;
+    let wcnf = word_of(given, "wcnf")?;
+    let options = options_in(given)?;
+    let bound = bound_in(given)?;
+    if opb == wcnf {
+        return None;
+    }
+    Some(Weighing {
+        opb,
+        wcnf,
+        options,
+        bound,
+    })
+}
