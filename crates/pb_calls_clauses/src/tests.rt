@@ -1,3 +1,4 @@
 mod clause_reader;
 mod clause_writer;
 mod propagation;
+mod weighted_writer;

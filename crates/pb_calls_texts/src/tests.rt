@@ -1,3 +1,4 @@
+mod bounds;
 mod command_lines;
 mod desks;
 mod line_reader;

@@ -1,4 +1,5 @@
 mod benches;
+mod bounds;
 mod checks;
 mod decodes;
 mod derivations;
@@ -7,6 +8,7 @@ mod maps;
 mod probes;
 mod refuses;
 mod refutes;
+mod wcnfs;
 mod words;
 
 use pb_base::{Ids, NoMemory, Seq};

@@ -89,8 +89,28 @@ const ENCODED: &str = "\
 #[test]
 fn encoding(rt: HostRuntime) -> Result<(), Fail> {
     let opb: &[u8] = b"* #variable= 2 #constraint= 1\nmin: +1 x2 ;\n+1 x1 +2 ~x2 >= 2 ;\n";
-    let found = broken(rt.alloc(), "pbcnf encode a d", [opb, b"", b""], 0);
-    assert_eq!(rt; found.as_deref(), Some(ENCODED));
+    for words in ["pbcnf encode a d", "pbcnf wcnf a d"] {
+        let found = broken(rt.alloc(), words, [opb, b"", b""], 0);
+        assert_eq!(rt; found.as_deref(), Some(ENCODED), "at {words}");
+    }
+    Ok(())
+}
+
+const BOUNDED: &str = "\
+0111111111110011111111111111111100\n\
+111100101001001010001001000101010\n\
+111111111110111111111111111111101\n\
+111113311001100110100111001100011\n\
+111111110001111100101100000111111\n\
+111111111111111111111111111111111";
+
+// The bound is 2^100 - 2, so that a coefficient of 1 is the most that the objective may have.
+#[test]
+fn a_heavy_bound(rt: HostRuntime) -> Result<(), Fail> {
+    let opb: &[u8] = b"min: +1 x2 ;\n+1 x1 +2 ~x2 >= 2 ;\n";
+    let words = "pbcnf encode a d --at-most=1267650600228229401496703205374";
+    let found = broken(rt.alloc(), words, [opb, b"", b""], 0);
+    assert_eq!(rt; found.as_deref(), Some(BOUNDED));
     Ok(())
 }
 
@@ -149,6 +169,35 @@ fn decoding(rt: HostRuntime) -> Result<(), Fail> {
     let texts = [opb, model, b""];
     for (at, expected) in [(0, DECODED_PROBLEMS), (1, DECODED_MODELS)] {
         let found = broken(rt.alloc(), "pbcnf decode a b", texts, at);
+        assert_eq!(rt; found.as_deref(), Some(expected), "text {at}");
+    }
+    Ok(())
+}
+
+const BOUNDED_PROBLEMS: &str = "\
+0111111111111111111001111111111111111100\n\
+111100101000100100100101000101800101010\n\
+111111111111111111011111111111111111101\n\
+111110011000011100110011010011881188811\n\
+111111110000110000111110018110888111111\n\
+111111111111111111111111111111111111111";
+
+const BOUNDED_MODELS: &str = "\
+999999999999988111111100\n\
+10999999999999108108010\n\
+11999999999999111111111\n\
+11999999999999110088111\n\
+11999999999999111111111\n\
+11999999999999111111111";
+
+// Where the second variable is false, or the first is true, a statement or the bound is violated.
+#[test]
+fn decoding_beside_a_bound(rt: HostRuntime) -> Result<(), Fail> {
+    let opb: &[u8] = b"min: +2 x1 -1 ~x2 ;\n+1 x1 +1 x2 >= 1 ;\n";
+    let model: &[u8] = b"s SATISFIABLE\nv -1 2 0\n";
+    let texts = [opb, model, b""];
+    for (at, expected) in [(0, BOUNDED_PROBLEMS), (1, BOUNDED_MODELS)] {
+        let found = broken(rt.alloc(), "pbcnf decode a b --at-most=0", texts, at);
         assert_eq!(rt; found.as_deref(), Some(expected), "text {at}");
     }
     Ok(())

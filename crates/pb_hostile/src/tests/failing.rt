@@ -160,6 +160,9 @@ fn all_fill(alloc: Global, words: &str, texts: [&[u8]; 3]) -> bool {
 // Exactly one of two variables.
 const ONE: &[u8] = b"+1 x1 +1 x2 = 1 ;\n";
 
+// One of two variables, where the first costs 3 and the second 1, and 1 less in any case.
+const COSTS: &[u8] = b"min: +3 x1 -1 ~x2 ;\n+1 x1 +1 x2 >= 1 ;\n";
+
 // Two free names beside a number.
 const NAMES: &[u8] = b"+1 rain +1 x2 +1 ~sun >= 2 ;\n";
 
@@ -191,6 +194,8 @@ fn each_command(rt: HostRuntime) -> Result<(), Fail> {
     let cases = [
         ("pbcnf encode a d", [ONE, b"", b""], 1),
         ("pbcnf encode a d", [WEIGHTS, b"", b""], 1),
+        ("pbcnf encode a d --at-most=2", [COSTS, b"", b""], 1),
+        ("pbcnf wcnf a d", [COSTS, b"", b""], 1),
         ("pbcnf decode a b", [ONE, PRINTED, b""], 2),
         ("pbcnf map a", [NAMES, b"", b""], 1),
         ("pbcnf probe a x1 x2", [COUNTER, b"", b""], 1),

@@ -25,6 +25,9 @@ fn words_that_ask_for_nothing(rt: HostRuntime) -> Result<(), Fail> {
         "pbcnf decode a a",
         "pbcnf map",
         "pbcnf map a c",
+        "pbcnf wcnf a",
+        "pbcnf wcnf a w q",
+        "pbcnf wcnf a a",
         // No names of files.
         "pbcnf encode -a c",
         "pbcnf encode a --card",
@@ -34,6 +37,16 @@ fn words_that_ask_for_nothing(rt: HostRuntime) -> Result<(), Fail> {
         "pbcnf bench 1000001 0",
         "pbcnf bench 1 4294967296",
         "pbcnf bench +1 0",
+        // A bound is digits alone, below 2^100, and stands once.
+        "pbcnf encode a c --at-most=-1",
+        "pbcnf check a c p --at-most=1267650600228229401496703205376",
+        "pbcnf decode a m --at-most=1 --at-most-minus=1",
+        "pbcnf map a --at-most=1",
+        "pbcnf bench 1 0 --at-most=1",
+        "pbcnf probe c --at-most=1",
+        "pbcnf wcnf a w --at-most=+1",
+        "pbcnf wcnf a w --at-most-minus=",
+        "pbcnf refute a c p l --at-most-minus=1 --at-most-minus=1",
         // No command.
         "pbcnf decide a c",
         "pbcnf  a c",

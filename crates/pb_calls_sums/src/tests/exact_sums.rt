@@ -1,0 +1,66 @@
+ghost use Rattle.std.specs.Prelude.{◌≡◌, ◌<◌, ◌≤◌, ◌^◌, ◌∷◌, [], true};
+ghost use Rattle.std.specs.Option.{IfSome};
+ghost use Rattle.pb_family.specs.Families.{VarsBelow};
+
+use pb_base::{Lit, Lits, Var};
+use pb_family::{Built, Pair, TextSink};
+use pb_totalizer::Exact;
+use std::alloc::Global;
+use std::test::Fail;
+
+// The numbers and the clauses of a pair.
+fn pair_text<P: Pair>(alloc: Global, pair: &P, first: u32) -> Option<String>
+    requires { VarsBelow first (P.most pair.now).terms }
+{
+    let fresh = pair.fresh();
+    if first < 1 || first > 1000 || fresh > 1000 {
+        return None;
+    }
+    let mut sink = TextSink::new(alloc);
+    pair.emit(alloc, first, &mut sink).ok()?;
+    let lines = str::from_utf8(sink.text()).ok()?;
+    format!(in alloc; "{} {}\n{}", fresh, pair.clauses(), lines).ok()
+}
+
+fn variable(index: u32) -> Lit
+    requires low { 1 ≤ index }
+    requires high { index < 2 ^ 31 }
+    ensures { result ≡ record { var = index; positive = true } }
+{
+    Lit {
+        var: Var::new(index),
+        positive: true,
+    }
+}
+
+fn three(alloc: Global) -> Option<Lits>
+    ensures { IfSome result (λ ls. ls ≡ record { var = 1; positive = true } ∷ record { var = 2; positive = true } ∷ record { var = 3; positive = true } ∷ []) }
+{
+    let lits = vec![in alloc; variable(1), variable(2), variable(3)].ok()?;
+    Some(Lits::from_vec(lits))
+}
+
+// The totalizer of exactly one of three literals, within a budget.
+fn one_of_three(alloc: Global, budget: u64) -> Option<String> {
+    let lits = three(alloc)?;
+    match Exact::build(alloc, &lits, 1, budget).ok()? {
+        Built::Fits(exact) => pair_text(alloc, &exact, 4),
+        Built::Over => "over".to_string(alloc).ok(),
+    }
+}
+
+#[test]
+fn clauses_lead_both_ways(rt: HostRuntime) -> Result<(), Fail> {
+    let found = one_of_three(rt.alloc(), 4);
+    let expected = "4 15\n-3 4 0\n-2 4 0\n-2 -3 5 0\n2 3 -4 0\n2 -5 0\n3 -5 0\n-4 6 0\n-5 7 0\n\
+-1 6 0\n-1 -4 7 0\n1 4 -6 0\n1 5 -7 0\n4 -7 0\n6 0\n-7 0\n";
+    assert_eq!(rt; found.as_deref(), Some(expected));
+    Ok(())
+}
+
+#[test]
+fn three_are_too_few(rt: HostRuntime) -> Result<(), Fail> {
+    let found = one_of_three(rt.alloc(), 3);
+    assert_eq!(rt; found.as_deref(), Some("over"));
+    Ok(())
+}
