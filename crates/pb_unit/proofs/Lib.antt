@@ -4,6 +4,7 @@ pub mod Fillings
 pub mod Lawful
 pub mod Laying
 pub mod Listing
+pub mod Passing
 pub mod Placing
 pub mod Pushing
 pub mod Queueing

@@ -23,6 +23,10 @@ stands_contains (None ∷ ps) (suc p) c e = stands_contains ps p c e
 stands_contains (Some d ∷ ps) zero c e = let same : d ≡ c = cc in subst (Contains (d ∷ standing ps)) same (contains_head d (standing ps))
 stands_contains (Some d ∷ ps) (suc p) c e = contains_tail d (standing ps) c (stands_contains ps p c e)
 
+-- no two constraints stand at a place
+pub stands_one : (ps : List (Option Constraint)) (p : ℕ) (c d : Constraint) → Stands ps p c → Stands ps p d → c ≡ d
+stands_one ps p c d at at_d = cc (at, at_d)
+
 pub contains_stands : (ps : List (Option Constraint)) (c : Constraint) → Contains (standing ps) c → (p : ℕ) × Stands ps p c
 contains_stands [] c h = absurd (omega (arith, h.1))
 contains_stands (None ∷ ps) c h = let r = contains_stands ps c h in (suc r.0, r.1)

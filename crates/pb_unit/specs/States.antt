@@ -6,6 +6,7 @@ use Rattle.pb_base.specs.Literals.{is_among}
 use Rattle.pb_norm.specs.Constraints.{Constraint, HasVarsWithin}
 use Rattle.pb_norm.specs.Forced.{IsConsistent}
 use Rattle.pb_norm.specs.Propagation.{room, Reached}
+use Rattle.pb_unit.specs.Trails.{Held}
 
 -- constraints by their places, the assumed literals, and the literals that hold, the newest first
 pub record EngineState : Type 0 where
@@ -47,6 +48,10 @@ pub record IsEngine (s : EngineState) : Type 0 where
 -- nothing is assumed yet, and the constraints have the first places
 abbrev pub started : ℕ → List Constraint → EngineState
 started vars cs = record { vars = vars; places = map Some cs; given = []; held = [] }
+
+-- literals are given beside constraints, and some hold
+abbrev pub given_over : List Constraint → List Lit → Held → EngineState
+given_over cs given h = record { vars = h.vars; places = map Some cs; given = given; held = h.lits }
 
 -- the list with the literal, once
 abbrev pub with_lit : Lit → List Lit → List Lit

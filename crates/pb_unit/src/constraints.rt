@@ -1,5 +1,6 @@
 //! Lists of constraints.
-ghost use Rattle.std.specs.Prelude.{◌≡◌, ◌<◌, ◌++◌, ◌∷◌, [], Some, IfOk, IsErr, OnOk, length, map};
+ghost use Rattle.std.specs.Prelude.{◌≡◌, ◌<◌, ◌++◌, ◌∷◌, [], Some, IfOk, IsErr, OnOk, All, length, map};
+ghost use Rattle.pb_norm.specs.Constraints.{IsLinear};
 ghost use Rattle.pb_unit.specs.Reads.{IsRead};
 
 use crate::places::Places;
@@ -81,6 +82,14 @@ impl Constraints {
     {
         let degree = self.places.read(place, terms)?;
         Ok(degree)
+    }
+
+    // The constraints by their places, as they are kept.
+    pub(crate) fn places(&self) -> &Places
+        ensures places { result.now ≡ map Some self.now }
+        ensures linear { All IsLinear self.now }
+    {
+        &self.places
     }
 
     // The constraints by their places.

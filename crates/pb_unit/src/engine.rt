@@ -13,6 +13,7 @@ use crate::constraints::Constraints;
 use crate::filling;
 use crate::kept::room_of;
 use crate::queue::{Phase, Queue};
+use crate::rounds::Rounds;
 use crate::store::{self, Wear};
 use crate::trail::Trail;
 use pb_base::{Lit, NoMemory};
@@ -195,5 +196,12 @@ impl Engine {
         let told = self.queue.counted == self.queue.held.len();
         let left = room_of(&self.queue.kept, place);
         self.queue.places.slack(place, left, told, &self.queue.held)
+    }
+
+    /// The literals that hold. The constraints are let go.
+    pub fn into_held(self) -> Rounds
+        ensures { result ≡ record { vars = self.vars; lits = self.held } }
+    {
+        Rounds::of(self.queue.held)
     }
 }

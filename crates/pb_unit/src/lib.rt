@@ -8,6 +8,7 @@ mod index;
 mod kept;
 mod laws;
 mod newest;
+mod passes;
 mod places;
 mod queue;
 mod rounds;

@@ -15,7 +15,7 @@ ghost use Rattle.pb_unit.specs.Reads.{ReadsAt};
 use crate::filling::{count_lits, count_terms, fill_range};
 use crate::index::Index;
 use crate::kept::{Kept, NOTHING, kept_of};
-use crate::slack::{slack_of, slack_of_clause};
+use crate::slack::{open_units, room_under, slack_of, slack_of_clause};
 use crate::trail::Trail;
 use crate::visit::{visit, visit_clause};
 use pb_base::{Lit, NoMemory, Term};
@@ -180,6 +180,22 @@ fn look_at(slots: &[Slot], lits: &[Lit], place: usize, left: u128, held: &mut Tr
             None => true,
         },
         _ => true,
+    }
+}
+
+// What the terms at the place can still add.
+fn room_in(slots: &[Slot], lits: &[Lit], place: usize, held: &Trail) -> u128
+    requires slots { AreSlots (length lits.now) slots.now }
+    requires narrow { (c : Constraint) → Stands (map (slot_at lits.now) slots.now) place c → weight c.terms ≤ 2 ^ 126 }
+    ensures { (c : Constraint) → Stands (map (slot_at lits.now) slots.now) place c → result ≡ room held.now.lits c.terms }
+{
+    match slots.get(place) {
+        Some(Slot::Clause { start, len }) => open_units(part(lits, *start, *len), held),
+        Some(Slot::General(alone)) => match alone.first() {
+            Some(constraint) => room_under(constraint, held),
+            None => 0,
+        },
+        _ => 0,
     }
 }
 
@@ -372,6 +388,14 @@ impl Places {
         ensures { self.new ≡ slice_set self.old place None }
     {
         mem::replace(&mut self.slots[place], Slot::Empty)
+    }
+
+    // What the terms at the place can still add.
+    pub(crate) fn room(&self, place: usize, held: &Trail) -> u128
+        requires { (c : Constraint) → Stands self.now place c → weight c.terms ≤ 2 ^ 126 }
+        ensures { (c : Constraint) → Stands self.now place c → result ≡ room held.now.lits c.terms }
+    {
+        room_in(&self.slots, &self.lits, place, held)
     }
 
     // Has all hold that the constraint at the place needs with so much room left, or says that this is too little.

@@ -1,15 +1,22 @@
 //! Propagation over few constraints, which are shown one after the other.
-ghost use Rattle.std.specs.Prelude.{◌≡◌, ◌<◌, [], List, Contains, length, IfOk};
+ghost use Rattle.std.specs.Prelude.{◌≡◌, ◌≤◌, ◌<◌, [], List, All, Contains, length, IsNone, IfSome, IfOk};
 ghost use Rattle.std.specs.Bool.{OnTrue, OnFalse};
+ghost use Rattle.pb_base.specs.Literals.{is_among};
 ghost use Rattle.pb_base.specs.declared.literal.Lit.{Lit};
-ghost use Rattle.pb_norm.specs.Constraints.{Constraint, HasVarsWithin};
+ghost use Rattle.pb_norm.specs.Constraints.{Constraint, AreVarsWithin, HasVarsWithin};
+ghost use Rattle.pb_norm.specs.Forced.{IsConsistent};
 ghost use Rattle.pb_norm.specs.Propagation.{room};
+ghost use Rattle.pb_unit.specs.Outcomes.{AnswersOf};
+ghost use Rattle.pb_unit.specs.States.{given_over, IsReached};
 ghost use Rattle.pb_unit.specs.Steps.{Advances, IsCalm};
 
+use crate::constraints::Constraints;
+use crate::engine::Outcome;
+use crate::passes;
 use crate::slack::room_under;
 use crate::trail::Trail;
 use crate::visit::visit;
-use pb_base::NoMemory;
+use pb_base::{Lit, NoMemory};
 use pb_norm::Linear;
 use std::alloc::Global;
 use std::marker::Model;
@@ -38,6 +45,20 @@ impl Rounds {
         Ok(Rounds { held })
     }
 
+    // The literals that hold.
+    pub(crate) fn of(held: Trail) -> Rounds
+        ensures { result ≡ held }
+    {
+        Rounds { held }
+    }
+
+    /// Whether a literal holds.
+    pub fn holds(&self, lit: Lit) -> bool
+        ensures { result ≡ is_among self.now.lits lit }
+    {
+        self.held.holds(&lit)
+    }
+
     /// How many literals hold.
     pub fn len(&self) -> usize
         ensures { result ≡ length self.now.lits }
@@ -62,5 +83,21 @@ impl Rounds {
     {
         let left = room_under(constraint, &self.held);
         visit(constraint, left, &mut self.held)
+    }
+
+    /// Has the literals hold that given ones reach over constraints, as far as a few passes over these go. How that ended, if it
+    /// did; else more may be reached than holds.
+    pub fn settle(&mut self, constraints: &Constraints, given: &[Lit]) -> Option<Outcome>
+        requires within { AreVarsWithin self.old.vars constraints.now }
+        requires given { All (λ l. l.var ≤ self.old.vars) given.now }
+        requires consistent { IsConsistent given.now }
+        ensures vars { self.new.vars ≡ self.old.vars }
+        ensures answer { IfSome result (AnswersOf (given_over constraints.now given.now self.new)) }
+        ensures reached { IsReached (given_over constraints.now given.now self.new) }
+        ensures more { IsNone result → 8 ≤ length self.new.lits }
+    {
+        self.held.clear();
+        passes::hold_all(given, &mut self.held);
+        passes::settle(constraints.places(), &mut self.held)
     }
 }

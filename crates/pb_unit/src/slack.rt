@@ -75,7 +75,7 @@ fn open_unit(lit: &Lit, held: &Trail) -> u128
 }
 
 // The sum of what the literals of a clause can still add.
-fn open_units(lits: &[Lit], held: &Trail) -> u128
+pub(crate) fn open_units(lits: &[Lit], held: &Trail) -> u128
     requires { room held.now.lits (map unit lits.now) < 2 ^ 128 }
     ensures { result ≡ room held.now.lits (map unit lits.now) }
 {

@@ -16,7 +16,7 @@ const COUNTER: &str = "1 ~x1 1 x5 >= 1 ; 1 ~x6 >= 1 ; 1 ~x2 1 x7 >= 1 ; 1 ~x5 1 
 
 const WEIGHTED: &str = "3 x1 2 x2 1 x3 >= 3 ;";
 
-fn lit_at(index: u32, positive: bool) -> Lit
+pub(crate) fn lit_at(index: u32, positive: bool) -> Lit
     requires low { 1 ≤ index }
     requires high { index < 2 ^ 31 }
     ensures { result.var ≡ index }
@@ -36,7 +36,7 @@ fn is_within(terms: &[Term], vars: u32) -> bool
     true
 }
 
-fn are_within(constraints: &[Linear], vars: u32) -> bool
+pub(crate) fn are_within(constraints: &[Linear], vars: u32) -> bool
     ensures { IsTrue result → AreVarsWithin vars constraints.now }
 {
     for constraint in constraints {
@@ -48,7 +48,7 @@ fn are_within(constraints: &[Linear], vars: u32) -> bool
 }
 
 // An engine over constraints of so many variables.
-fn engine_over(alloc: Global, vars: u32, constraints: Vec<Linear>) -> Option<Engine>
+pub(crate) fn engine_over(alloc: Global, vars: u32, constraints: Vec<Linear>) -> Option<Engine>
     ensures { IfSome result (λ engine. engine.vars ≡ vars) }
 {
     if !are_within(&constraints, vars) {
