@@ -80,3 +80,8 @@ table_names ts first =
             | inr e ↦ subst (λ (l : Lit). IsNamed s t first l.var) e (output_named s Always laws t first found.0 found.2)
           ]
     ])))
+
+-- a row's literal is of such a variable too
+pub row_named : (ts : List Weighted) (first u : ℕ) → Contains (table_values ts) u
+    → Contains (vars_of ts) (table_output ts first u).var ⊎ ((first ≤ (table_output ts first u).var) × ((table_output ts first u).var < first + table_fresh ts))
+row_named ts first u here = named_of (uncut ts) ts first (table_output ts first u).var (output_named (uncut ts) Always (generalized_lawful (weight ts)) (tree_of ts) first u here)

@@ -61,7 +61,7 @@ impl Exact {
         ensures fresh { IfOk result (λ built. IfFits (λ t. ⟦<Exact as Pair>⟧.fresh_count t ≡ exact_fresh (literals_within lits.now number)) built) }
         ensures clauses { IfOk result (λ built. IfFits (λ t. ⟦<Exact as Pair>⟧.clause_count t ≡ exact_size (literals_within lits.now number)) built) }
         ensures list { IfOk result (λ built. IfFits (λ t. (first : ℕ) → ⟦<Exact as Pair>⟧.clause_list t first ≡ exact_clauses (literals_within lits.now number) first) built) }
-        ensures outputs { IfOk result (λ built. IfFits (λ t. (first : ℕ) → ReachesOutputs (literals_within lits.now number) first) built) }
+        ensures outputs { IfOk result (λ built. IfFits (λ t. (first : ℕ) → ReachesOutputs (exact_clauses (literals_within lits.now number) first) (literals_within lits.now number) first) built) }
     {
         let terms = unit_terms(alloc, lits.as_slice())?;
         let bound = number as u64;
@@ -81,28 +81,29 @@ impl Exact {
 impl Pair for Exact {
     ghost use Rattle.std.specs.Prelude.{◌≡◌, ◌≢◌, ◌≤◌, ◌<◌, ◌+◌, ◌^◌, ℕ, List, length, Err};
     ghost use Rattle.pb_base.specs.declared.literal.Lit.{Lit};
-    ghost use Rattle.pb_norm.specs.BoundedSums.{BoundedSum, sum_within};
+    ghost use Rattle.pb_norm.specs.BoundedSums.{BoundedSum};
     ghost use Rattle.pb_steps.specs.declared.step.Step.{Step};
     ghost use Rattle.pb_family.specs.Families.{VarsBelow};
     ghost use Rattle.pb_family.specs.Handing.{HandsIfMemory};
     ghost use Rattle.pb_totalizer.specs.Exact.{exact_clauses, exact_fresh, exact_size, at_least};
+    ghost use Rattle.pb_totalizer.specs.ExactSum.{exact_sum};
     ghost use Rattle.pb_totalizer.specs.ExactSteps.{exact_steps};
     ghost use Rattle.pb_totalizer.specs.laws.ExactDerives.{exact_derives, exact_lines};
-    ghost use Rattle.pb_totalizer.specs.laws.ExactLaws.{pair_sound, pair_extends, exact_counts, exact_names, exact_propagates_most, exact_propagates_least, pair_propagates};
+    ghost use Rattle.pb_totalizer.specs.laws.ExactLaws.{pair_sound, pair_extends, exact_counts, exact_names, exact_propagates_most, exact_propagates_least, exact_propagates};
     ghost use Rattle.pb_totalizer.specs.laws.ExactShort.{exact_sayable, exact_short};
     ghost use Rattle.pb_totalizer.specs.laws.TotalizerShort.{few_terms};
 
-    ghost most = { λ f. sum_within f.terms.items f.bound };
+    ghost most = { λ f. exact_sum f };
 
-    ghost least = { λ f. at_least (sum_within f.terms.items f.bound) };
+    ghost least = { λ f. at_least (exact_sum f) };
 
-    ghost fresh_count = { λ f. exact_fresh (sum_within f.terms.items f.bound) };
+    ghost fresh_count = { λ f. exact_fresh (exact_sum f) };
 
-    ghost clause_count = { λ f. exact_size (sum_within f.terms.items f.bound) };
+    ghost clause_count = { λ f. exact_size (exact_sum f) };
 
-    ghost clause_list = { λ f first. exact_clauses (sum_within f.terms.items f.bound) first };
+    ghost clause_list = { λ f first. exact_clauses (exact_sum f) first };
 
-    ghost step_list = { λ f. exact_steps (sum_within f.terms.items f.bound) };
+    ghost step_list = { λ f. exact_steps (exact_sum f) };
 
     fn fresh(&self) -> u64 {
         self.fresh
@@ -143,25 +144,25 @@ impl Pair for Exact {
         )
     }
 
-    ghost sound = { λ f first below a model. pair_sound (sum_within f.terms.items f.bound) f.units f.proper first a model };
+    ghost sound = { λ f first below a model. pair_sound (exact_sum f) f.units f.proper first a model };
 
-    ghost extends = { λ f first below a holds. pair_extends (sum_within f.terms.items f.bound) f.units f.proper first below a holds };
+    ghost extends = { λ f first below a holds. pair_extends (exact_sum f) f.units f.proper first below a holds };
 
-    ghost counts = { λ f first. exact_counts (sum_within f.terms.items f.bound) first };
+    ghost counts = { λ f first. exact_counts (exact_sum f) first };
 
-    ghost names = { λ f first. exact_names (sum_within f.terms.items f.bound) f.units f.proper first };
+    ghost names = { λ f first. exact_names (exact_sum f) f.units f.proper first };
 
-    ghost propagates_most = { λ f first below. exact_propagates_most (sum_within f.terms.items f.bound) f.units f.proper first };
+    ghost propagates_most = { λ f first below. exact_propagates_most (exact_sum f) f.units f.proper first };
 
-    ghost propagates_least = { λ f first below. exact_propagates_least (sum_within f.terms.items f.bound) f.units f.proper first };
+    ghost propagates_least = { λ f first below. exact_propagates_least (exact_sum f) f.units f.proper first };
 
-    ghost propagates = { λ f first below. pair_propagates (sum_within f.terms.items f.bound) f.units f.proper first };
+    ghost propagates = { λ f first below. exact_propagates (exact_sum f) f.units f.proper first };
 
-    ghost derives = { λ f first lower upper db below ready. exact_derives (sum_within f.terms.items f.bound) f.units f.proper (few_terms f.terms.items f.few) first lower upper db below ready };
+    ghost derives = { λ f first lower upper db below ready. exact_derives (exact_sum f) f.units f.proper (few_terms f.terms.items f.few) first lower upper db below ready };
 
-    ghost few_steps = { λ f first lower upper next. exact_lines (sum_within f.terms.items f.bound) first lower upper next };
+    ghost few_steps = { λ f first lower upper next. exact_lines (exact_sum f) first lower upper next };
 
-    ghost sayable = { λ f first lower upper next original low high. exact_sayable (sum_within f.terms.items f.bound) f.units f.proper (few_terms f.terms.items f.few) first lower upper next original low high };
+    ghost sayable = { λ f first lower upper next original low high. exact_sayable (exact_sum f) f.units f.proper (few_terms f.terms.items f.few) first lower upper next original low high };
 
-    ghost short = { λ f first lower upper next original low high. exact_short (sum_within f.terms.items f.bound) f.units f.proper (few_terms f.terms.items f.few) first lower upper next original low high };
+    ghost short = { λ f first lower upper next original low high. exact_short (exact_sum f) f.units f.proper (few_terms f.terms.items f.few) first lower upper next original low high };
 }

@@ -20,7 +20,7 @@ use Rattle.pb_norm.proofs.PropagationMore.{ClausesPropagate-more}
 use Rattle.pb_norm.proofs.Proper.{apart}
 use Rattle.pb_family.specs.Families.{VarsBelow, NamesOnly}
 use Rattle.pb_family.specs.Pairs.{StayWithinBoth}
-use Rattle.pb_family.proofs.Deciding.{Both, both_propagate, halves_decided}
+use Rattle.pb_family.proofs.Deciding.{both_propagate, halves_decided}
 use Rattle.pb_family.proofs.Models.{sound_from_sums}
 use Rattle.pb_family.proofs.UnitSums.{unit_coefficient, more_than_bound}
 use Rattle.pb_tree.specs.Tree.{tree_of, leaf_sum}
@@ -138,7 +138,7 @@ exact_propagates_least m units proper first =
     propagates_from_sums (exact_clauses m first) (at_least m) (least_distinct m proper.distinct) (least_refutes m units proper first) (least_pushes m units proper first)
 
 -- and both together
-pub exact_propagates : (m : BoundedSum) → all_weigh 1 m.terms ≡ true → IsProper m → (first : ℕ) → ClausesPropagate (exact_clauses m first) (Both (λ a. StaysWithin a m) (λ a. StaysWithin a (at_least m)))
+pub exact_propagates : (m : BoundedSum) → all_weigh 1 m.terms ≡ true → IsProper m → (first : ℕ) → ClausesPropagate (exact_clauses m first) (StayWithinBoth m (at_least m))
 exact_propagates m units proper first =
     let heavy = proper.heavy in
     both_propagate (exact_clauses m first) (λ a. StaysWithin a m) (λ a. StaysWithin a (at_least m))
@@ -247,12 +247,9 @@ pair_extends m units proper first below a both =
     let high : StaysWithin a m = both.0 in
     exact_extends m units proper first below a (omega arith)
 
-pub pair_propagates : (m : BoundedSum) → all_weigh 1 m.terms ≡ true → IsProper m → (first : ℕ) → ClausesPropagate (exact_clauses m first) (StayWithinBoth m (at_least m))
-pair_propagates m units proper first = exact_propagates m units proper first
-
 -- ---- the outputs
 
-pub exact_outputs : (m : BoundedSum) (first : ℕ) → ReachesOutputs m first
+pub exact_outputs : (m : BoundedSum) (first : ℕ) → ReachesOutputs (exact_clauses m first) m first
 exact_outputs m first =
     let cs = exact_clauses m first in
     let s = totalizer m.bound in

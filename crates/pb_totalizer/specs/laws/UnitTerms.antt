@@ -33,7 +33,7 @@ each_unit Q each [] = All-nil Q
 each_unit Q each (l ∷ ls) = All-cons Q (unit_of l) (ones ls) (each l) (each_unit Q each ls)
 
 -- of different variables, no literal passes the number by itself, and all together do
-pub literals_proper : (ls : List Lit) (d : ℕ) → AllPairs (λ k l. k.var ≢ l.var) ls → 1 ≤ d → d < length ls → length ls < 2 ^ 31 → IsProper (literals_within ls d)
+pub literals_proper : (ls : List Lit) (d : ℕ) → AllPairs (λ k l. k.var ≢ l.var) ls → 1 ≤ d → d < length ls → length ls ≤ 2 ^ 126 → IsProper (literals_within ls d)
 literals_proper ls d apart some not_all few = record {
   positive = each_unit (λ t. 0 < t.coef) (λ l. omega arith) ls;
   within = each_unit (λ t. t.coef ≤ d) (λ l. some) ls;
@@ -45,4 +45,4 @@ literals_proper ls d apart some not_all few = record {
 }
 
 pub sum_proper : (ts : List Term) (ls : List Lit) (d : ℕ) → ts ≡ map unit_term ls → AllPairs (λ k l. k.var ≢ l.var) ls → 1 ≤ d → d < length ls → length ls < 2 ^ 31 → IsProper (sum_within ts d)
-sum_proper ts ls d same apart some not_all few = subst IsProper (sym (sum_is ts ls d same)) (literals_proper ls d apart some not_all few)
+sum_proper ts ls d same apart some not_all few = subst IsProper (sym (sum_is ts ls d same)) (literals_proper ls d apart some not_all (let small : length ls ≤ 2 ^ 126 = omega (arith, few) in small))
