@@ -1,1 +1,2 @@
+mod equalities;
 mod plans;

@@ -81,7 +81,7 @@ constraints_few o c first id next modest =
 
 -- ---- the divisor
 
-first_light : (ts : List Weighted) → first_coef ts ≤ weight ts + 1
+pub first_light : (ts : List Weighted) → first_coef ts ≤ weight ts + 1
 first_light [] = omega arith
 first_light (t ∷ ts) = omega (arith, weight-cons t ts)
 
@@ -102,7 +102,7 @@ room_of t m h = tt
 
 -- ---- the parts
 
-some_ids : (id : ℕ) (ids : List ℕ) → id ∷ ids ≡ [] → ⊥
+pub some_ids : (id : ℕ) (ids : List ℕ) → id ∷ ids ≡ [] → ⊥
 some_ids id ids e = cc
 
 -- lines can say the steps, none is longer than the longest, and all together have so many bytes

@@ -25,6 +25,7 @@ use Rattle.pb_tree.specs.Scheme.{Scheme, values, fresh_of, output, clauses_of, t
 use Rattle.pb_tree.specs.Tree.{Tree, tree_of}
 use Rattle.pb_tree.specs.Tree.Tree.{empty, leaf, node}
 use Rattle.pb_totalizer.specs.Totalizer.{sum_clause, partners, totalizer, totalizer_clauses}
+use Rattle.pb_gentot.specs.BoundTable.{neighbour_clause, neighbours, table_clauses, table_output, table_values, uncut}
 use Rattle.pb_gentot.specs.Generalized.{one_clause, both_clause, generalized, generalized_clauses}
 use Rattle.pb_diagram.specs.declared.interval.Interval.{Interval}
 use Rattle.pb_diagram.specs.Clauses.{node_at, false_clause, true_clause, level_clauses, head_level, node_clauses, diagram_clauses}
@@ -54,13 +55,13 @@ each : {X : Type 0} (P : X → Type 0) → ((x : X) → P x) → (xs : List X) �
 each P h [] = All-nil P
 each P h (x ∷ xs) = All-cons P x xs (h x) (each P h xs)
 
-mapped : {X : Type 0} (n : ℕ) (f : X → List Lit) → ((x : X) → length (f x) ≤ n) → (xs : List X) → HaveFewLiterals n (map f xs)
+pub mapped : {X : Type 0} (n : ℕ) (f : X → List Lit) → ((x : X) → length (f x) ≤ n) → (xs : List X) → HaveFewLiterals n (map f xs)
 mapped n f h xs = All-map (λ (ls : List Lit). length ls ≤ n) f xs (each (λ x. length (f x) ≤ n) h xs)
 
-joined : (n : ℕ) (xs ys : List (List Lit)) → HaveFewLiterals n xs → HaveFewLiterals n ys → HaveFewLiterals n (xs ++ ys)
+pub joined : (n : ℕ) (xs ys : List (List Lit)) → HaveFewLiterals n xs → HaveFewLiterals n ys → HaveFewLiterals n (xs ++ ys)
 joined n xs ys = All-append (λ (ls : List Lit). length ls ≤ n) xs ys
 
-flattened : {X : Type 0} (n : ℕ) (f : X → List (List Lit)) → ((x : X) → HaveFewLiterals n (f x)) → (xs : List X) → HaveFewLiterals n (flat_map f xs)
+pub flattened : {X : Type 0} (n : ℕ) (f : X → List (List Lit)) → ((x : X) → HaveFewLiterals n (f x)) → (xs : List X) → HaveFewLiterals n (flat_map f xs)
 flattened n f h [] = All-nil (λ (ls : List Lit). length ls ≤ n)
 flattened n f h (x ∷ xs) = joined n (f x) (flat_map f xs) (h x) (flattened n f h xs)
 
@@ -70,10 +71,10 @@ from_test n clauses h =
     let Passes : List Lit → Type 0 = λ ls. nat_le (length ls) n ≡ true in
     All-weaker Passes (λ (ls : List Lit). length ls ≤ n) (λ ls e. leb-true (length ls) n e) clauses (AllPass-from_list_all (λ (ls : List Lit). nat_le (length ls) n) clauses h)
 
-longer : (m n : ℕ) → m ≤ n → (clauses : List (List Lit)) → HaveFewLiterals m clauses → HaveFewLiterals n clauses
+pub longer : (m n : ℕ) → m ≤ n → (clauses : List (List Lit)) → HaveFewLiterals m clauses → HaveFewLiterals n clauses
 longer m n le clauses h = All-weaker (λ (ls : List Lit). length ls ≤ m) (λ (ls : List Lit). length ls ≤ n) (λ ls short. omega arith) clauses h
 
-none : (n : ℕ) → HaveFewLiterals n []
+pub none : (n : ℕ) → HaveFewLiterals n []
 none n = All-nil (λ (ls : List Lit). length ls ≤ n)
 
 first_is : (n : ℕ) (ls : List Lit) (rest : List (List Lit)) → length ls ≤ n → HaveFewLiterals n rest → HaveFewLiterals n (ls ∷ rest)
@@ -82,7 +83,7 @@ first_is n ls rest h more = All-cons (λ (ls : List Lit). length ls ≤ n) ls re
 one : (n : ℕ) (ls : List Lit) → length ls ≤ n → HaveFewLiterals n (ls ∷ [])
 one n ls h = first_is n ls [] h (none n)
 
-two : (n : ℕ) (ks ls : List Lit) → length ks ≤ n → length ls ≤ n → HaveFewLiterals n (ks ∷ ls ∷ [])
+pub two : (n : ℕ) (ks ls : List Lit) → length ks ≤ n → length ls ≤ n → HaveFewLiterals n (ks ∷ ls ∷ [])
 two n ks ls h k = first_is n ks (ls ∷ []) h (one n ls k)
 
 -- ---- at most one
@@ -149,7 +150,7 @@ unless_short : (f : ℕ → Lit) (i : ℕ) → length (unless_none f i) ≤ 1
 unless_short f zero = omega arith
 unless_short f (suc i) = omega arith
 
-sum_short : (f g h : ℕ → Lit) (i j : ℕ) → length (sum_clause f g h i j) ≤ 4
+pub sum_short : (f g h : ℕ → Lit) (i j : ℕ) → length (sum_clause f g h i j) ≤ 4
 sum_short f g h i j =
     omega (arith, length-append (unless_none f i) (unless_none g j ++ h (i + j) ∷ []), length-append (unless_none g j) (h (i + j) ∷ []), unless_short f i, unless_short g j)
 
@@ -159,16 +160,22 @@ totalizer_short m first =
     (λ us vs f g h. flattened 4 (λ i. map (sum_clause f g h i) (partners (m.bound + 1) (length vs) i)) (λ i. mapped 4 (sum_clause f g h i) (sum_short f g h i) (partners (m.bound + 1) (length vs) i)) (range_with_len 0 (length us + 1)))
     (tree_of m.terms) first
 
-generalized_short : (m : BoundedSum) (first : ℕ) → HaveFewLiterals 4 (generalized_clauses m first)
-generalized_short m first =
-    let cap = m.bound + 1 in
-    tree_short (generalized m.bound)
-    (λ us vs f g h.
+generalized_own : (bound : ℕ) (us vs : List ℕ) (f g h : ℕ → Lit) → HaveFewLiterals 4 ((generalized bound).merged us vs f g h)
+generalized_own bound us vs f g h =
+    let cap = bound + 1 in
     let pairs = flat_map (λ u. map (both_clause cap f g h u) vs) us in
     joined 4 (map (one_clause f h) us) (map (one_clause g h) vs ++ pairs) (mapped 4 (one_clause f h) (λ u. omega arith) us)
     (joined 4 (map (one_clause g h) vs) pairs (mapped 4 (one_clause g h) (λ v. omega arith) vs)
-    (flattened 4 (λ u. map (both_clause cap f g h u) vs) (λ u. mapped 4 (both_clause cap f g h u) (λ v. omega arith) vs) us)))
-    (tree_of m.terms) first
+    (flattened 4 (λ u. map (both_clause cap f g h u) vs) (λ u. mapped 4 (both_clause cap f g h u) (λ v. omega arith) vs) us))
+
+generalized_short : (m : BoundedSum) (first : ℕ) → HaveFewLiterals 4 (generalized_clauses m first)
+generalized_short m first = tree_short (generalized m.bound) (generalized_own m.bound) (tree_of m.terms) first
+
+-- the clauses of a table of bounds
+pub table_few_literals : (ts : List Weighted) (first : ℕ) → HaveFewLiterals 4 (table_clauses ts first)
+table_few_literals ts first =
+    joined 4 (clauses_of (uncut ts) (tree_of ts) first) (map (neighbour_clause (table_output ts first)) (neighbours (table_values ts))) (merged_short (uncut ts) (generalized_own (weight ts)) (tree_of ts) first)
+    (mapped 4 (neighbour_clause (table_output ts first)) (λ p. omega arith) (neighbours (table_values ts)))
 
 -- ---- diagrams
 

@@ -1,3 +1,4 @@
+pub mod NumbersAsked
 pub mod ClaimedClauses
 pub mod Composition
 pub mod ConstraintDerived
@@ -6,12 +7,22 @@ pub mod CoreForms
 pub mod CoreWeights
 pub mod Derived
 pub mod Encoded
+pub mod EqualHalves
+pub mod EqualIds
+pub mod EqualSelection
+pub mod EqualityDerived
+pub mod EqualityEncoded
+pub mod EqualitySizes
 pub mod FamilyCounts
+pub mod FewInEqualities
 pub mod FewLiterals
 pub mod Forced
+pub mod JointSums
+pub mod JointTests
 pub mod Plain
 pub mod PlanClauses
 pub mod PlanSteps
+pub mod Quotients
 pub mod Reduced
 pub mod ReducedSteps
 pub mod RestLaws

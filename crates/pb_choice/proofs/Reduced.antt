@@ -73,7 +73,7 @@ shrunk_by_one [] = refl
 shrunk_by_one (t ∷ ts) =
     ap (λ (k : ℕ). record { coef = k; lit = t.lit } ∷ map (shrunk 1) ts) (quotient_by_one t.coef) ∙ ap (λ (us : List Weighted). t ∷ us) (shrunk_by_one ts)
 
-division_is : (c : Constraint) → AllPositive c.terms → division (common_coef c.terms) c ≡ divided c
+pub division_is : (c : Constraint) → AllPositive c.terms → division (common_coef c.terms) c ≡ divided c
 division_is c positive = by_test (all_weigh (first_coef c.terms) c.terms) refl
   where
     n : ℕ

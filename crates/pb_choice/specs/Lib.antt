@@ -2,6 +2,9 @@ pub mod Choice
 pub mod Clauses
 pub mod ConstraintSteps
 pub mod Defaults
+pub mod EqualExamples
+pub mod EqualitySteps
+pub mod Equals
 pub mod Examples
 pub mod Readiness
 pub mod Reducing

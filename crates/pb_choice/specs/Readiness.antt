@@ -1,8 +1,9 @@
 -- When the clauses of a constraint may be derived from a database, and how long the lines of the steps are. Our own.
-use Rattle.std.specs.Prelude.{◌≡◌, ◌≤◌, ◌<◌, ◌+◌, ◌*◌, ◌^◌, ℕ, List, All, Some, length, sum_by}
+use Rattle.std.specs.Prelude.{◌≡◌, ◌≤◌, ◌<◌, ◌+◌, ◌*◌, ◌^◌, ℕ, List, All, Some, count_by, length, sum_by}
 use Rattle.pb_norm.specs.Constraints.{Constraint, IsLinear, weight}
 use Rattle.pb_steps.specs.Database.{Database, constraint_at}
 use Rattle.pb_steps.specs.declared.step.Step.{Step}
+use Rattle.pb_steps.specs.Steps.{takes_id}
 use Rattle.pb_derive.specs.Later.{IsNumbered, IsUnnamed}
 use Rattle.pb_derive.specs.Short.{line_size}
 
@@ -24,3 +25,12 @@ pub record IsReadyWith (c : Constraint) (first fresh id : ℕ) (db : Database) :
 pub record AreBrief (n fresh clauses : ℕ) (steps : List Step) : Type 0 where
   pub each : All (λ s. line_size s ≤ 2 ^ 28) steps
   pub all : sum_by line_size steps ≤ 512 * (fresh + 1) * n + 2 ^ 20 * (fresh + clauses + 5)
+
+-- of the clauses of an equality, whose halves have n terms each
+pub record AreBothBrief (n fresh clauses : ℕ) (steps : List Step) : Type 0 where
+  pub each : All (λ s. line_size s ≤ 2 ^ 28) steps
+  pub all : sum_by line_size steps ≤ 512 * (fresh + 2) * n + 2 ^ 20 * (fresh + clauses + 10)
+
+-- the ids of steps from the next one on are within a bound
+abbrev pub LeavesIds : (ℕ → List Step) → ℕ → Type 0
+LeavesIds steps next = next + count_by takes_id (steps next) ≤ 2 ^ 60

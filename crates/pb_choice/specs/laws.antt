@@ -1,5 +1,8 @@
 pub mod Chosen
 pub mod DeriveLaws
+pub mod EqualPlans
+pub mod EqualityLaws
+pub mod HalfPlans
 pub mod Laws
 pub mod Left
 pub mod Suits

@@ -38,6 +38,7 @@ fn one_of(amo: Amo, sum: AtMost) -> Chosen
 fn card_of(alloc: Global, options: &Options, sum: AtMost) -> Result<Chosen, NoMemory>
     requires class { IsCardinality sum }
     requires light { weight sum.terms < 2 ^ 100 }
+    requires modest { options.now.budget ≤ 10000000 }
     ensures { IfOk result (IsChosen (within_budget options.now.budget sum (card_treatment options.now.card sum.bound)) sum) }
 {
     let bound = sum.bound();

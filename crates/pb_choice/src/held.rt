@@ -3,8 +3,10 @@ ghost use Rattle.std.specs.Prelude.{◌≡◌, ◌≤◌, ◌<◌, ◌^◌, leng
 ghost use Rattle.pb_norm.specs.Constraints.{weight};
 ghost use Rattle.pb_norm.specs.BoundedSums.{IsProper};
 ghost use Rattle.pb_norm.specs.Classes.{IsAtMostOne, IsCardinality};
+ghost use Rattle.pb_counter.specs.Counter.{counter_fresh};
 ghost use Rattle.pb_diagram.specs.Clauses.{diagram_fresh};
 ghost use Rattle.pb_gentot.specs.Generalized.{generalized_fresh};
+ghost use Rattle.pb_totalizer.specs.Totalizer.{totalizer_fresh};
 
 use pb_adder::Adder;
 use pb_diagram::Diagram;
@@ -22,13 +24,14 @@ pub struct AtMostOne {
     pub ghost light: { weight sum.terms < 2 ^ 100 },
 }
 
-/// At most so many of more literals.
+/// At most so many of more literals, for a counter.
 #[derive(Drop)]
 pub struct Cardinality {
     pub sum: AtMost,
     pub ghost class: { IsCardinality sum },
     pub ghost few: { length sum.terms < 2 ^ 31 },
     pub ghost light: { weight sum.terms < 2 ^ 100 },
+    pub ghost modest: { counter_fresh (length sum.terms) sum.bound ≤ 10000000 },
 }
 
 /// A totalizer and its sum.
@@ -39,6 +42,7 @@ pub struct TotalizerOf {
     pub ghost class: { IsCardinality sum },
     pub ghost few: { length sum.terms < 2 ^ 31 },
     pub ghost light: { weight sum.terms < 2 ^ 100 },
+    pub ghost modest: { totalizer_fresh sum ≤ 10000000 },
     pub ghost over: { ⟦<Totalizer as Family>⟧.constraint family ≡ sum },
 }
 

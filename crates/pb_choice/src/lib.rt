@@ -1,10 +1,16 @@
 //! How constraints are encoded: what may be chosen, which family is, its clauses, and their derivation.
 #![tactic(auto)]
 
+mod asking;
 mod choosing;
 mod chosen;
 mod derivation;
 mod emission;
+mod equal;
+mod equal_derivation;
+mod equal_halves;
+mod equal_laws;
+mod equal_planning;
 mod held;
 mod laws;
 mod left;
@@ -15,8 +21,13 @@ mod reducing;
 mod treatment;
 mod within;
 
+pub use equal::EqualPlan;
+pub use equal_laws::{
+    equalities_derive, equalities_encode, equalities_force, statements_have_halves,
+};
+pub use equal_planning::plan_equal;
 pub use laws::{clauses_encode, clauses_force, constraints_derive};
-pub use options::{Amo, Card, DEFAULT_BUDGET, General, MAX_BUDGET, Options};
+pub use options::{Amo, Card, DEFAULT_BUDGET, EqualMode, General, MAX_BUDGET, Options};
 pub use planning::plan;
 pub use plans::{Counts, Plan};
 pub use treatment::Treatment;

@@ -37,6 +37,15 @@ pub enum General {
     Adder,
 }
 
+/// How the two halves of an equality are encoded.
+#[derive(Clone, Copy, PartialEq, Eq, Debug)]
+pub enum EqualMode {
+    /// One by one.
+    Split,
+    /// As one, by a totalizer in both directions (Bailleux and Boufkhad 2003), where a number of the literals is asked for.
+    Joint,
+}
+
 /// What may be chosen of an encoding.
 #[derive(Clone, Copy, PartialEq, Eq, Debug)]
 pub struct Options {
@@ -46,9 +55,14 @@ pub struct Options {
     pub card: Card,
     /// The family of constraints with different coefficients.
     pub general: General,
+    /// How equalities are encoded.
+    pub equal: EqualMode,
     /// The most fresh variables of one cardinality or general constraint, from 1 to `MAX_BUDGET`:
-    /// one that needs more goes to the adder.
+    /// one that needs more goes to the adder. An equality that needs more as one is encoded half by half.
     pub budget: u64,
+    /// Whether a table of bounds on the objective stands behind all constraints. It has no more fresh variables than the
+    /// budget.
+    pub table: bool,
 }
 
 /// The budget where none is chosen.
@@ -66,7 +80,9 @@ impl Default for Options {
             amo: Amo::Auto,
             card: Card::Auto,
             general: General::Diagram,
+            equal: EqualMode::Split,
             budget: DEFAULT_BUDGET,
+            table: false,
         }
     }
 }

@@ -42,6 +42,8 @@ impl Plan<'_> {
     pub fn counts(&self) -> Counts
         ensures fresh { result.fresh ≡ constraint_fresh self.now.options self.now.constraint.now }
         ensures clauses { result.clauses ≡ constraint_count self.now.options self.now.constraint.now }
+        ensures few_fresh { result.fresh < 2 ^ 63 }
+        ensures few_clauses { result.clauses < 2 ^ 63 }
     {
         let _ = self.constraint.len();
         let units = self.units.len() as u64;

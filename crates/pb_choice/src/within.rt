@@ -34,6 +34,7 @@ pub fn adder_of(alloc: Global, sum: AtMost) -> Result<Chosen, NoMemory>
 pub fn counter_within(alloc: Global, sum: AtMost, budget: u64) -> Result<Chosen, NoMemory>
     requires class { IsCardinality sum }
     requires light { weight sum.terms < 2 ^ 100 }
+    requires modest { budget ≤ 10000000 }
     ensures { IfOk result (IsChosen (within_budget budget sum Treatment.Counter) sum) }
 {
     // Brings in that its terms are few.
@@ -48,6 +49,7 @@ pub fn counter_within(alloc: Global, sum: AtMost, budget: u64) -> Result<Chosen,
 pub fn totalizer_within(alloc: Global, sum: AtMost, budget: u64) -> Result<Chosen, NoMemory>
     requires class { IsCardinality sum }
     requires light { weight sum.terms < 2 ^ 100 }
+    requires modest { budget ≤ 10000000 }
     ensures { IfOk result (IsChosen (within_budget budget sum Treatment.Totalizer) sum) }
 {
     // Brings in that its terms are few.

@@ -1,7 +1,7 @@
 ghost use Rattle.std.specs.Prelude.{◌≤◌};
 ghost use Rattle.pb_family.specs.Families.{VarsBelow};
 
-use pb_choice::{Amo, Card, General, MAX_BUDGET, Options, Plan, Treatment, plan};
+use pb_choice::{Amo, Card, EqualMode, General, MAX_BUDGET, Options, Plan, Treatment, plan};
 use pb_family::{TextSink, are_below};
 use pb_samples::linear;
 use std::alloc::Global;
@@ -162,7 +162,9 @@ fn defaults(rt: HostRuntime) -> Result<(), Fail> {
         amo: Amo::Auto,
         card: Card::Auto,
         general: General::Diagram,
+        equal: EqualMode::Split,
         budget: 50_000,
+        table: false,
     };
     assert_eq!(rt; Options::default(), wanted);
     assert_eq!(rt; MAX_BUDGET, 10_000_000);

@@ -1,0 +1,61 @@
+//! The steps of an equality that is encoded as one.
+ghost use Rattle.std.specs.Prelude.{◌≡◌, ◌≤◌, ◌<◌, ◌+◌, ◌^◌, [], ◌∷◌, IfOk};
+ghost use Rattle.pb_family.specs.Families.{VarsBelow};
+ghost use Rattle.pb_family.specs.StepSinks.{HandsFrom, HandsSteps};
+ghost use Rattle.pb_totalizer.specs.Exact.{exact_fresh};
+ghost use Rattle.pb_totalizer.specs.ExactSum.{exact_sum};
+ghost use Rattle.pb_choice.specs.EqualitySteps.{joint_steps, quotient_step};
+ghost use Rattle.pb_choice.specs.Readiness.{LeavesIds};
+
+use pb_family::{Pair, SinkFault, StepSink, take_deletion};
+use pb_steps::{PolOp, PolOps, Step};
+use pb_totalizer::Exact;
+use std::alloc::{AllocError, Global};
+
+// All numbers of the constraint with the id, divided.
+fn quotient_step(alloc: Global, id: u64, coef: &i128) -> Result<Step, AllocError>
+    ensures { IfOk result (λ step. step ≡ quotient_step id coef.now) }
+{
+    let mut ops = Vec::new(alloc);
+    ops.push(PolOp::Push(id))?;
+    ops.push(PolOp::Div(*coef))?;
+    Ok(Step::Pol(PolOps::from_vec(ops)))
+}
+
+// Hands over that all numbers of the constraint with an id are divided.
+fn take_quotient<T: StepSink>(
+    alloc: Global,
+    id: u64,
+    coef: &i128,
+    sink: &mut T,
+) -> Result<(), SinkFault>
+    requires few { (T.state sink.old).next < 2 ^ 62 }
+    ensures { HandsSteps (quotient_step id coef.now ∷ []) result (T.state sink.old) (T.state sink.new) }
+{
+    let step = quotient_step(alloc, id, coef)?;
+    sink.step(&step)
+}
+
+/// Hands over that both halves are divided by their coefficient, the steps of the clauses, and that the quotients go.
+pub fn derive_joint<T: StepSink>(
+    alloc: Global,
+    exact: &Exact,
+    coef: &i128,
+    first: u32,
+    low: u64,
+    high: u64,
+    sink: &mut T,
+) -> Result<(), SinkFault>
+    requires original { VarsBelow first (exact_sum exact.now).terms }
+    requires from { 1 ≤ first }
+    requires fits { first + exact_fresh (exact_sum exact.now) ≤ 2 ^ 31 }
+    requires given { 1 ≤ (T.state sink.old).next }
+    requires few { LeavesIds (joint_steps (exact_sum exact.now) coef.now first low high) (T.state sink.old).next }
+    ensures { HandsFrom (joint_steps (exact_sum exact.now) coef.now first low high) result (T.state sink.old) (T.state sink.new) }
+{
+    let own = sink.next_id();
+    take_quotient(alloc, low, coef, sink)?;
+    take_quotient(alloc, high, coef, sink)?;
+    exact.derive(alloc, first, own, own + 1, sink)?;
+    take_deletion(alloc, own, 2, sink)
+}

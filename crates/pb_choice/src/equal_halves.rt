@@ -1,0 +1,70 @@
+//! The halves of an equality, encoded one by one.
+ghost use Rattle.std.specs.Prelude.{◌≡◌, ◌≤◌, ◌<◌, ◌+◌, ◌^◌};
+ghost use Rattle.pb_family.specs.Families.{VarsBelow};
+ghost use Rattle.pb_family.specs.Handing.{HandsIfMemory};
+ghost use Rattle.pb_family.specs.StepSinks.{HandsFrom};
+ghost use Rattle.pb_choice.specs.Readiness.{LeavesIds};
+ghost use Rattle.pb_choice.specs.laws.HalfPlans.{halves_clauses, halves_steps, plan_count, plan_fresh};
+
+use crate::plans::{Counts, Plan};
+use pb_family::{ClauseSink, SinkFault, StepSink};
+use std::alloc::Global;
+
+/// How many fresh variables and clauses both have.
+pub fn count_halves(lower: &Plan<'_>, upper: &Plan<'_>) -> Counts
+    ensures fresh { result.fresh ≡ plan_fresh lower.now + plan_fresh upper.now }
+    ensures clauses { result.clauses ≡ plan_count lower.now + plan_count upper.now }
+{
+    let one = lower.counts();
+    let other = upper.counts();
+    Counts {
+        fresh: one.fresh + other.fresh,
+        clauses: one.clauses + other.clauses,
+    }
+}
+
+/// Hands over the clauses of the lower half and then those of the upper one, whose fresh variables come after.
+pub fn emit_halves<S: ClauseSink>(
+    alloc: Global,
+    lower: &Plan<'_>,
+    upper: &Plan<'_>,
+    first: u32,
+    sink: &mut S,
+) -> Result<(), SinkFault>
+    requires lower_original { VarsBelow first lower.now.constraint.now.terms }
+    requires upper_original { VarsBelow first upper.now.constraint.now.terms }
+    requires from { 1 ≤ first }
+    requires fits { first + (plan_fresh lower.now + plan_fresh upper.now) ≤ 2 ^ 31 }
+    ensures { HandsIfMemory (halves_clauses lower.now upper.now first) result (S.state sink.old) (S.state sink.new) }
+{
+    lower.emit(alloc, first, sink)?;
+    let next = first + lower.counts().fresh as u32;
+    upper.emit(alloc, next, sink)
+}
+
+/// Hands over the steps of the lower half, which has the id `low`, and then those of the upper one, which has the id `high`.
+pub fn derive_halves<T: StepSink>(
+    alloc: Global,
+    lower: &Plan<'_>,
+    upper: &Plan<'_>,
+    first: u32,
+    low: u64,
+    high: u64,
+    sink: &mut T,
+) -> Result<(), SinkFault>
+    requires lower_original { VarsBelow first lower.now.constraint.now.terms }
+    requires upper_original { VarsBelow first upper.now.constraint.now.terms }
+    requires from { 1 ≤ first }
+    requires fits { first + (plan_fresh lower.now + plan_fresh upper.now) ≤ 2 ^ 31 }
+    requires clauses { plan_count lower.now + plan_count upper.now ≤ 2 ^ 56 }
+    requires low_given { 1 ≤ low }
+    requires low_known { low < (T.state sink.old).next }
+    requires high_given { 1 ≤ high }
+    requires high_known { high < (T.state sink.old).next }
+    requires few { LeavesIds (halves_steps lower.now upper.now first low high) (T.state sink.old).next }
+    ensures { HandsFrom (halves_steps lower.now upper.now first low high) result (T.state sink.old) (T.state sink.new) }
+{
+    lower.derive(alloc, first, low, sink)?;
+    let next = first + lower.counts().fresh as u32;
+    upper.derive(alloc, next, high, sink)
+}

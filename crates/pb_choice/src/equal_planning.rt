@@ -1,0 +1,89 @@
+//! Planning the encoding of an equality.
+ghost use Rattle.std.specs.Prelude.{◌≡◌, ◌≤◌, ◌<◌, ◌^◌, true, false, length, map, IfOk};
+ghost use Rattle.std.specs.Option.{MatchOption};
+ghost use Rattle.pb_norm.specs.Constraints.{IsLinear, weight};
+ghost use Rattle.pb_norm.specs.Reduction.{lits_of};
+ghost use Rattle.pb_totalizer.specs.ExactSum.{exact_sum};
+ghost use Rattle.pb_choice.specs.Equals.{is_joining, is_joint, literals_asked};
+ghost use Rattle.pb_choice.specs.laws.EqualPlans.{HasPartsOf, IsEqualPlan};
+
+use crate::asking::{asks_for_number, first_coef, number_asked};
+use crate::equal::EqualPlan;
+use crate::options::{EqualMode, Options};
+use crate::planning::plan;
+use pb_base::{Lit, Lits, NoMemory, Term};
+use pb_family::Built;
+use pb_norm::Linear;
+use pb_totalizer::Exact;
+use std::alloc::{AllocError, Global};
+
+// Whether equalities may be encoded as one.
+fn is_joining(mode: EqualMode) -> bool
+    ensures { result ≡ is_joining mode }
+{
+    match mode {
+        EqualMode::Split => false,
+        EqualMode::Joint => true,
+    }
+}
+
+// The literals of terms.
+fn lits_of(alloc: Global, terms: &[Term]) -> Result<Vec<Lit>, AllocError>
+    ensures { IfOk result (λ v. v.items ≡ map (λ t. t.lit) terms.now) }
+{
+    terms.iter().map(|term| term.lit).collect(alloc)
+}
+
+// The literals of a constraint.
+fn lits_under(alloc: Global, lower: &Linear) -> Result<Lits, AllocError>
+    ensures linear { IsLinear lower.now }
+    ensures few { length lower.now.terms < 2 ^ 31 }
+    ensures lits { IfOk result (λ lits. lits ≡ lits_of lower.now.terms) }
+{
+    let lits = lits_of(alloc, lower.terms())?;
+    Ok(Lits::from_vec(lits))
+}
+
+// The totalizer of an equality with this lower half, where it is encoded as one.
+fn exact_of(alloc: Global, lower: &Linear, options: &Options) -> Result<Option<Exact>, NoMemory>
+    ensures { IfOk result (λ found. MatchOption found (is_joint options.now lower.now ≡ false) (λ exact. (is_joint options.now lower.now ≡ true) × (exact_sum exact ≡ literals_asked lower.now))) }
+{
+    if !is_joining(options.equal) {
+        return Ok(None);
+    }
+    if !asks_for_number(lower) {
+        return Ok(None);
+    }
+    let lits = lits_under(alloc, lower)?;
+    let number = number_asked(lower) as u32;
+    match Exact::build(alloc, &lits, number, options.budget)? {
+        Built::Fits(exact) => Ok(Some(exact)),
+        Built::Over => Ok(None),
+    }
+}
+
+/// Plans the encoding of an equality, given its two halves: as one, or half by half. What the families need is built here, once.
+pub fn plan_equal<'a>(
+    alloc: Global,
+    lower: &'a Linear,
+    upper: &'a Linear,
+    options: &Options,
+) -> Result<EqualPlan<'a>, NoMemory>
+    requires lower_light { weight lower.now.terms < 2 ^ 100 }
+    requires upper_light { weight upper.now.terms < 2 ^ 100 }
+    requires modest { options.now.budget ≤ 10000000 }
+    ensures choice { IfOk result (IsEqualPlan options.now lower.now upper.now) }
+    ensures parts { IfOk result (HasPartsOf options.now lower.now upper.now) }
+{
+    match exact_of(alloc, lower, options)? {
+        Some(exact) => {
+            let a = first_coef(lower.terms()) as i128;
+            Ok(EqualPlan::Joint { exact, a })
+        }
+        None => {
+            let one = plan(alloc, lower, options)?;
+            let other = plan(alloc, upper, options)?;
+            Ok(EqualPlan::Split(one, other))
+        }
+    }
+}
