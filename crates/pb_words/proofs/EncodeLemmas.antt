@@ -1,5 +1,5 @@
 -- What the words of `encode` keep.
-use Rattle.std.proofs.Common.{◌≡◌, ◌≢◌, ◌≤◌, ◌||◌, ◌&&◌, not, ℕ, ℤ, Bool, true, false, List, ◌∷◌, Option, Some, None, cond, codes, option_and_then, refl, subst, arith}
+use Rattle.std.proofs.Common.{◌≡◌, ◌≢◌, ◌≤◌, ◌||◌, ◌&&◌, not, ℕ, ℤ, Bool, true, false, List, ◌∷◌, Option, Some, None, cond, codes, option_and_then, option_map, refl, subst, arith}
 use Rattle.std.specs.Option.{option_to_list, ForSome}
 use Rattle.std.specs.Bool.{Decides}
 use Rattle.std.specs.Str.{bytes_eq}
@@ -9,6 +9,7 @@ use Rattle.clap.specs.Words.{Row, Text, first_of}
 use Rattle.pb_base.specs.Numbers.{natural_of}
 use Rattle.pb_choice.specs.declared.options.Amo.{Amo}
 use Rattle.pb_choice.specs.declared.options.Card.{Card}
+use Rattle.pb_choice.specs.declared.options.EqualMode.{EqualMode}
 use Rattle.pb_choice.specs.declared.options.General.{General}
 use Rattle.pb_choice.specs.declared.options.Options.{Options}
 use Rattle.pb_words.specs.BoundWords.{bound_in}
@@ -16,7 +17,8 @@ use Rattle.pb_words.specs.Digits.{within}
 use Rattle.pb_words.specs.EncodeWords.{EncodeWords, encode_from, encode_in}
 use Rattle.pb_words.specs.Fit.{IsFitEncode}
 use Rattle.pb_words.specs.Names.{are_different}
-use Rattle.pb_words.specs.OptionWords.{amo_in, budget_in, budget_of, card_in, chosen, general_in, options_from, options_in}
+use Rattle.pb_words.specs.TableWords.{table_in, tabled_in}
+use Rattle.pb_words.specs.OptionWords.{amo_in, budget_in, budget_of, card_in, chosen, equal_in, general_in, options_from, options_in}
 
 -- a budget that may be asked for
 abbrev pub IsBudget : ℕ → Type 0
@@ -34,18 +36,29 @@ chosen_range None m e = grind (arith, e)
 chosen_range (Some word) m e = read_range (natural_of word) m e
 
 -- the budget of options is the one that was read
-from_budget : (a : Option Amo) (c : Option Card) (g : Option General) (b : Option ℕ) (options : Options) → options_from a c g b ≡ Some options
+from_budget : (a : Option Amo) (c : Option Card) (g : Option General) (q : Option EqualMode) (b : Option ℕ) (options : Options) → options_from a c g q b ≡ Some options
     → b ≡ Some options.budget
-from_budget (Some a) (Some c) (Some g) (Some b) options e = cc
-from_budget None c g b options e = cc
-from_budget (Some a) None g b options e = cc
-from_budget (Some a) (Some c) None b options e = cc
-from_budget (Some a) (Some c) (Some g) None options e = cc
+from_budget (Some a) (Some c) (Some g) (Some q) (Some b) options e = cc
+from_budget None c g q b options e = cc
+from_budget (Some a) None g q b options e = cc
+from_budget (Some a) (Some c) None q b options e = cc
+from_budget (Some a) (Some c) (Some g) None b options e = cc
+from_budget (Some a) (Some c) (Some g) (Some q) None options e = cc
 
 pub options_range : (given : List Row) (options : Options) → options_in given ≡ Some options → IsBudget options.budget
 options_range given options e =
-    let budget : budget_in given ≡ Some options.budget = from_budget (amo_in given) (card_in given) (general_in given) (budget_in given) options e in
+    let budget : budget_in given ≡ Some options.budget = from_budget (amo_in given) (card_in given) (general_in given) (equal_in given) (budget_in given) options e in
     chosen_range (first_of (codes "budget") given) options.budget budget
+
+-- a table changes no budget
+tabled_from : (t : Bool) (o : Option Options) (options : Options) → ((os : Options) → o ≡ Some os → IsBudget os.budget) → option_map (λ (os : Options). record os { table = t }) o ≡ Some options → IsBudget options.budget
+tabled_from t None options budget e = cc
+tabled_from t (Some os) options budget e =
+    let same : record os { table = t } ≡ options = cc in
+    subst (λ (x : Options). IsBudget x.budget) same (budget os refl)
+
+pub tabled_range : (given : List Row) (options : Options) → tabled_in given ≡ Some options → IsBudget options.budget
+tabled_range given options e = tabled_from (table_in given) (options_in given) options (options_range given) e
 
 -- two names are different where the test says so
 pub differ : (t : Bool) (a b : Text) → Decides t (a ≡ b) → t ≡ false → a ≢ b
@@ -95,4 +108,4 @@ fit_from (Some opb) (Some cnf) proof None bound w budget e = cc
 fit_from (Some opb) (Some cnf) proof (Some options) None w budget e = cc
 
 pub encode_fit : (given : List Row) (w : EncodeWords) → encode_in given ≡ Some w → IsFitEncode w
-encode_fit given w = fit_from _ _ (first_of (codes "proof") given) (options_in given) (bound_in given) w (options_range given)
+encode_fit given w = fit_from _ _ (first_of (codes "proof") given) (tabled_in given) (bound_in given) w (tabled_range given)

@@ -4,6 +4,7 @@ pub mod CommandLemmas
 pub mod EncodeLemmas
 pub mod Lines
 pub mod Rows
+pub mod TableRows
 pub mod TakenLemmas
 pub mod WantedLemmas
 pub mod WcnfLemmas

@@ -4,6 +4,7 @@ use Rattle.clap.specs.Words.{Text}
 use Rattle.clap.proofs.OnLiterals.{clap_on_literals}
 use Rattle.pb_choice.specs.declared.options.Amo.TheVariants as amo
 use Rattle.pb_choice.specs.declared.options.Card.TheVariants as card
+use Rattle.pb_choice.specs.declared.options.EqualMode.TheVariants as equal
 use Rattle.pb_choice.specs.declared.options.General.TheVariants as general
 use Rattle.pb_choice.specs.declared.options.Options.{Options}
 use Rattle.pb_choice.specs.Defaults.{default_options}
@@ -39,7 +40,7 @@ negative n = record { var = n; positive = false }
 -- ---- words that are taken
 
 two_names : said (codes "pbcnf encode a b")
-    ≡ encode_a_b (record { amo = amo.Auto; card = card.Auto; general = general.Diagram; budget = 50000 })
+    ≡ encode_a_b (record { amo = amo.Auto; card = card.Auto; general = general.Diagram; equal = equal.Split; budget = 50000; table = false })
 unfolding taken_of clap_on_literals
 two_names = refl
 
@@ -58,12 +59,12 @@ options_between_the_names : said (codes "pbcnf encode a --amo=product --card tot
 unfolding taken_of clap_on_literals
 options_between_the_names = refl
 
-all_four_options : said (codes "pbcnf encode --amo ladder a --card=totalizer b --budget=7 --general adder")
-    ≡ encode_a_b (record { amo = amo.Ladder; card = card.Totalizer; general = general.Adder; budget = 7 })
+all_options : said (codes "pbcnf encode --amo ladder a --card=totalizer b --budget=7 --equal joint --general adder")
+    ≡ encode_a_b (record { amo = amo.Ladder; card = card.Totalizer; general = general.Adder; equal = equal.Joint; budget = 7; table = false })
 unfolding taken_of clap_on_literals
-all_four_options = refl
+all_options = refl
 
-the_defaults_named : said (codes "pbcnf encode a b --amo=auto --card=auto --general=diagram --budget=50000")
+the_defaults_named : said (codes "pbcnf encode a b --amo=auto --card=auto --general=diagram --equal=split --budget=50000")
     ≡ encode_a_b default_options
 unfolding taken_of clap_on_literals
 the_defaults_named = refl
@@ -323,6 +324,14 @@ general_as_card : said (codes "pbcnf encode a b --card=tree") ≡ None
 unfolding taken_of clap_on_literals
 general_as_card = refl
 
+card_as_equal : said (codes "pbcnf encode a b --equal auto") ≡ None
+unfolding taken_of clap_on_literals
+card_as_equal = refl
+
+equal_twice : said (codes "pbcnf encode a b --equal split --equal joint") ≡ None
+unfolding taken_of clap_on_literals
+equal_twice = refl
+
 amo_as_general : said (codes "pbcnf encode a b --general auto") ≡ None
 unfolding taken_of clap_on_literals
 amo_as_general = refl
@@ -398,3 +407,11 @@ two_files = refl
 option_of_encode_behind_bench : said (codes "pbcnf bench 1 0 --budget 9") ≡ None
 unfolding taken_of clap_on_literals
 option_of_encode_behind_bench = refl
+
+equal_behind_bench : said (codes "pbcnf bench 1 0 --equal joint") ≡ None
+unfolding taken_of clap_on_literals
+equal_behind_bench = refl
+
+equal_behind_check : said (codes "pbcnf check a b c --equal joint") ≡ None
+unfolding taken_of clap_on_literals
+equal_behind_check = refl

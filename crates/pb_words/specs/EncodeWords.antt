@@ -6,12 +6,13 @@ use Rattle.pb_choice.specs.declared.options.Options.{Options}
 use Rattle.pb_words.specs.declared.encode.Encoding.{Encoding}
 use Rattle.pb_words.specs.BoundWords.{bound_in, bound_rules}
 use Rattle.pb_words.specs.Names.{are_different}
-use Rattle.pb_words.specs.OptionWords.{option_rules, options_in}
+use Rattle.pb_words.specs.OptionWords.{option_rules}
 use Rattle.pb_words.specs.Rules.{command_of, name_rule, optional_rule}
+use Rattle.pb_words.specs.TableWords.{table_rules, tabled_in}
 
--- `encode OPB CNF [PROOF]`, the options and a bound
+-- `encode OPB CNF [PROOF]`, the options, a bound and a table of bounds
 abbrev pub encode_app : App
-encode_app = command_of (codes "encode") (name_rule (codes "opb") ∷ name_rule (codes "cnf") ∷ optional_rule (codes "proof") ∷ (option_rules ++ bound_rules))
+encode_app = command_of (codes "encode") (name_rule (codes "opb") ∷ name_rule (codes "cnf") ∷ optional_rule (codes "proof") ∷ (option_rules ++ bound_rules ++ table_rules))
 
 pub record EncodeWords : Type 0 where
   pub opb : Text
@@ -28,7 +29,7 @@ encode_from _ _ _ _ _ = None
 
 -- what `encode` is asked for, to which these arguments were given
 abbrev pub encode_in : List Row → Option EncodeWords
-encode_in given = encode_from (first_of (codes "opb") given) (first_of (codes "cnf") given) (first_of (codes "proof") given) (options_in given) (bound_in given)
+encode_in given = encode_from (first_of (codes "opb") given) (first_of (codes "cnf") given) (first_of (codes "proof") given) (tabled_in given) (bound_in given)
 
 -- what an `Encoding` says
 abbrev pub as_encode_words : Encoding → EncodeWords

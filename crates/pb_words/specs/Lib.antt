@@ -3,6 +3,7 @@ pub mod Digits
 pub mod Names
 pub mod OptionWords
 pub mod BoundWords
+pub mod TableWords
 pub mod EncodeWords
 pub mod BenchWords
 pub mod CheckWords

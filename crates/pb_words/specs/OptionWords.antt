@@ -1,11 +1,13 @@
 -- The options of an encoding, in words. Our own.
-use Rattle.std.specs.Prelude.{ℕ, List, [], ◌∷◌, Option, Some, None, if◌then◌else◌, codes}
+use Rattle.std.specs.Prelude.{ℕ, false, List, [], ◌∷◌, Option, Some, None, if◌then◌else◌, codes}
 use Rattle.std.specs.Str.{bytes_eq}
 use Rattle.clap.specs.Words.{Row, Rule, Text, first_of}
 use Rattle.pb_choice.specs.declared.options.Amo.{Amo}
 use Rattle.pb_choice.specs.declared.options.Amo.TheVariants as amo
 use Rattle.pb_choice.specs.declared.options.Card.{Card}
 use Rattle.pb_choice.specs.declared.options.Card.TheVariants as card
+use Rattle.pb_choice.specs.declared.options.EqualMode.{EqualMode}
+use Rattle.pb_choice.specs.declared.options.EqualMode.TheVariants as equal
 use Rattle.pb_choice.specs.declared.options.General.{General}
 use Rattle.pb_choice.specs.declared.options.General.TheVariants as general
 use Rattle.pb_choice.specs.declared.options.Options.{Options}
@@ -15,7 +17,7 @@ use Rattle.pb_words.specs.Rules.{option_rule}
 
 abbrev pub option_rules : List Rule
 option_rules = option_rule (codes "amo") ∷ option_rule (codes "card") ∷ option_rule (codes "general")
-    ∷ option_rule (codes "budget") ∷ []
+    ∷ option_rule (codes "equal") ∷ option_rule (codes "budget") ∷ []
 
 abbrev pub amo_of : Text → Option Amo
 amo_of word = if bytes_eq word (codes "auto") then Some amo.Auto
@@ -32,6 +34,10 @@ abbrev pub general_of : Text → Option General
 general_of word = if bytes_eq word (codes "diagram") then Some general.Diagram
     else (if bytes_eq word (codes "tree") then Some general.Tree
     else (if bytes_eq word (codes "adder") then Some general.Adder else None))
+
+abbrev pub equal_of : Text → Option EqualMode
+equal_of word = if bytes_eq word (codes "split") then Some equal.Split
+    else (if bytes_eq word (codes "joint") then Some equal.Joint else None)
 
 -- digits alone, from 1 to 10,000,000
 abbrev pub budget_of : Text → Option ℕ
@@ -51,14 +57,17 @@ card_in given = chosen card_of default_options.card (first_of (codes "card") giv
 abbrev pub general_in : List Row → Option General
 general_in given = chosen general_of default_options.general (first_of (codes "general") given)
 
+abbrev pub equal_in : List Row → Option EqualMode
+equal_in given = chosen equal_of default_options.equal (first_of (codes "equal") given)
+
 abbrev pub budget_in : List Row → Option ℕ
 budget_in given = chosen budget_of default_options.budget (first_of (codes "budget") given)
 
-abbrev pub options_from : Option Amo → Option Card → Option General → Option ℕ → Option Options
-options_from (Some amo) (Some card) (Some general) (Some budget) =
-    Some (record { amo = amo; card = card; general = general; budget = budget })
-options_from _ _ _ _ = None
+abbrev pub options_from : Option Amo → Option Card → Option General → Option EqualMode → Option ℕ → Option Options
+options_from (Some amo) (Some card) (Some general) (Some equal) (Some budget) =
+    Some (record { amo = amo; card = card; general = general; equal = equal; budget = budget; table = false })
+options_from _ _ _ _ _ = None
 
 -- the options of a command to which these arguments were given
 abbrev pub options_in : List Row → Option Options
-options_in given = options_from (amo_in given) (card_in given) (general_in given) (budget_in given)
+options_in given = options_from (amo_in given) (card_in given) (general_in given) (equal_in given) (budget_in given)

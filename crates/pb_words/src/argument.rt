@@ -1,7 +1,7 @@
 // Arguments of commands, and the words that they were given.
 ghost use Rattle.std.specs.Prelude.{◌≡◌, false, map, option_map};
 ghost use Rattle.clap.specs.Words.{all_of, first_of, found_of, rows_of, rule_of};
-ghost use Rattle.pb_words.specs.Rules.{name_rule, option_rule, optional_rule, words_rule};
+ghost use Rattle.pb_words.specs.Rules.{flag_rule, name_rule, option_rule, optional_rule, words_rule};
 
 use clap::{Arg, ArgAction, ArgMatches};
 use std::alloc::Global;
@@ -36,6 +36,14 @@ pub fn option<'a>(alloc: Global, id: &'a str) -> Arg<'a>
     ensures local { result.global ≡ false }
 {
     Arg::new(alloc, id).long(id)
+}
+
+/// An option that is written `--id` alone.
+pub fn flag<'a>(alloc: Global, id: &'a str) -> Arg<'a>
+    ensures rule { rule_of result ≡ flag_rule id.entry.now }
+    ensures local { result.global ≡ false }
+{
+    Arg::new(alloc, id).action(ArgAction::SetTrue).long(id)
 }
 
 /// The word that an argument was given.

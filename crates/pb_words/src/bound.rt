@@ -1,10 +1,12 @@
 // A bound on the objective, in words.
-ghost use Rattle.std.specs.Prelude.{◌≡◌, ◌≤ℤ◌, IfOk, IfSome, neg_ℤ, option_map, pos};
+ghost use Rattle.std.specs.Prelude.{◌≡◌, ◌++◌, ◌≤ℤ◌, IfOk, IfSome, neg_ℤ, option_map, pos};
 ghost use Rattle.clap.specs.Words.{found_of, rows_of};
 ghost use Rattle.pb_words.specs.BoundWords.{bound_in, bound_rules, magnitude_of};
+ghost use Rattle.pb_words.specs.OptionWords.{option_rules};
 ghost use Rattle.pb_words.specs.Rules.{AddsRules};
 
 use crate::argument::{option, word_of};
+use crate::options::with_options;
 use clap::{ArgMatches, Command};
 use pb_base::{Number, WEIGHT_BITS, read_digits};
 use std::alloc::{AllocError, Global};
@@ -19,6 +21,16 @@ pub fn with_bound<'a>(alloc: Global, command: Command<'a>) -> Result<Command<'a>
     command
         .arg(option(alloc, "at-most"))?
         .arg(option(alloc, "at-most-minus"))
+}
+
+/// A command that takes the options of an encoding and a bound besides.
+pub fn with_bounded_options<'a>(
+    alloc: Global,
+    command: Command<'a>,
+) -> Result<Command<'a>, AllocError>
+    ensures { IfOk result (AddsRules (option_rules ++ bound_rules) command.entry) }
+{
+    with_bound(alloc, with_options(alloc, command)?)
 }
 
 // The number that a word of digits spells, below 2^100.

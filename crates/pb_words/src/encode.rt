@@ -7,8 +7,8 @@ ghost use Rattle.pb_words.specs.Rules.{IsCommand};
 ghost use Rattle.pb_words.specs.EncodeWords.{as_encode_words, encode_app, encode_in};
 
 use crate::argument::{name, optional_name, word_of};
-use crate::bound::{bound_in, with_bound};
-use crate::options::{options_in, with_options};
+use crate::bound::{bound_in, with_bounded_options};
+use crate::table::{tabled_in, with_table};
 use clap::{ArgMatches, Command};
 use pb_choice::Options;
 use std::alloc::{AllocError, Global};
@@ -28,7 +28,7 @@ pub struct Encoding<'a> {
     pub bound: Option<i128>,
 }
 
-/// `encode OPB CNF [PROOF]`, the options and a bound.
+/// `encode OPB CNF [PROOF]`, the options, a bound and a table of bounds.
 pub fn command<'a>(alloc: Global) -> Result<Command<'a>, AllocError>
     ensures { IfOk result (IsCommand encode_app) }
 {
@@ -36,7 +36,7 @@ pub fn command<'a>(alloc: Global) -> Result<Command<'a>, AllocError>
         .arg(name(alloc, "opb"))?
         .arg(name(alloc, "cnf"))?
         .arg(optional_name(alloc, "proof"))?;
-    with_bound(alloc, with_options(alloc, named)?)
+    with_table(alloc, with_bounded_options(alloc, named)?)
 }
 
 // Two of the names are equal.
@@ -56,7 +56,7 @@ pub fn encoding_in<'a>(given: &ArgMatches<'a>) -> Option<Encoding<'a>>
     let opb = word_of(given, "opb")?;
     let cnf = word_of(given, "cnf")?;
     let proof = word_of(given, "proof");
-    let options = options_in(given)?;
+    let options = tabled_in(given)?;
     let bound = bound_in(given)?;
     if are_equal(opb, cnf, proof) {
         return None;

@@ -17,6 +17,7 @@ mod probe;
 mod program;
 mod refute;
 mod request;
+mod table;
 mod wcnf;
 
 pub use bench::Benching;

@@ -2,12 +2,12 @@
 ghost use Rattle.std.specs.Prelude.{◌≡◌, IfOk};
 ghost use Rattle.clap.specs.Words.{found_of, rows_of};
 ghost use Rattle.pb_words.specs.Rules.{AddsRules};
-ghost use Rattle.pb_words.specs.OptionWords.{amo_in, amo_of, budget_in, card_in, card_of, general_in, general_of, option_rules, options_in};
+ghost use Rattle.pb_words.specs.OptionWords.{amo_in, amo_of, budget_in, card_in, card_of, equal_in, equal_of, general_in, general_of, option_rules, options_in};
 
 use crate::argument::{option, word_of};
 use crate::digits::number_within;
 use clap::{ArgMatches, Command};
-use pb_choice::{Amo, Card, General, MAX_BUDGET, Options};
+use pb_choice::{Amo, Card, EqualMode, General, MAX_BUDGET, Options};
 use std::alloc::{AllocError, Global};
 
 /// A command that takes the options besides.
@@ -18,6 +18,7 @@ pub fn with_options<'a>(alloc: Global, command: Command<'a>) -> Result<Command<'
         .arg(option(alloc, "amo"))?
         .arg(option(alloc, "card"))?
         .arg(option(alloc, "general"))?
+        .arg(option(alloc, "equal"))?
         .arg(option(alloc, "budget"))
 }
 
@@ -55,6 +56,16 @@ fn general_of(word: &str) -> Option<General>
     }
 }
 
+fn equal_of(word: &str) -> Option<EqualMode>
+    ensures { result ≡ equal_of word.now }
+{
+    match word {
+        "split" => Some(EqualMode::Split),
+        "joint" => Some(EqualMode::Joint),
+        _ => None,
+    }
+}
+
 fn amo_in(given: &ArgMatches<'_>) -> Option<Amo>
     ensures { result ≡ amo_in (rows_of (found_of given.now)) }
 {
@@ -82,6 +93,15 @@ fn general_in(given: &ArgMatches<'_>) -> Option<General>
     }
 }
 
+fn equal_in(given: &ArgMatches<'_>) -> Option<EqualMode>
+    ensures { result ≡ equal_in (rows_of (found_of given.now)) }
+{
+    match word_of(given, "equal") {
+        Some(word) => equal_of(word),
+        None => Some(Options::default().equal),
+    }
+}
+
 fn budget_in(given: &ArgMatches<'_>) -> Option<u64>
     ensures { result ≡ budget_in (rows_of (found_of given.now)) }
 {
@@ -99,6 +119,8 @@ pub fn options_in(given: &ArgMatches<'_>) -> Option<Options>
         amo: amo_in(given)?,
         card: card_in(given)?,
         general: general_in(given)?,
+        equal: equal_in(given)?,
         budget: budget_in(given)?,
+        table: false,
     })
 }

@@ -5,8 +5,8 @@ ghost use Rattle.pb_words.specs.Rules.{IsCommand};
 ghost use Rattle.pb_words.specs.WcnfWords.{as_wcnf_words, wcnf_app, wcnf_in};
 
 use crate::argument::{name, word_of};
-use crate::bound::{bound_in, with_bound};
-use crate::options::{options_in, with_options};
+use crate::bound::{bound_in, with_bounded_options};
+use crate::options::options_in;
 use clap::{ArgMatches, Command};
 use pb_choice::Options;
 use std::alloc::{AllocError, Global};
@@ -31,7 +31,7 @@ pub fn command<'a>(alloc: Global) -> Result<Command<'a>, AllocError>
     let named = Command::new(alloc, "wcnf")
         .arg(name(alloc, "opb"))?
         .arg(name(alloc, "wcnf"))?;
-    with_bound(alloc, with_options(alloc, named)?)
+    with_bounded_options(alloc, named)
 }
 
 /// What `wcnf` was asked for.

@@ -12,4 +12,5 @@ returns c =
     let amo = adds_rule _ _ (option_rule (codes "amo")) _ _ _ c.in_ok-arg.ensures start (search rules) (search rules) in
     let card = adds_rule _ _ (option_rule (codes "card")) _ _ _ c.in_ok-arg-2.ensures amo (search rules) (search rules) in
     let general = adds_rule _ _ (option_rule (codes "general")) _ _ _ c.in_ok-arg-3.ensures card (search rules) (search rules) in
-    IfOk-weaker c.arg-4.result _ _ (λ new adds. adds_rule _ _ (option_rule (codes "budget")) _ _ _ adds general (search rules) (search rules)) c.arg-4.ensures
+    let equal = adds_rule _ _ (option_rule (codes "equal")) _ _ _ c.in_ok-arg-4.ensures general (search rules) (search rules) in
+    IfOk-weaker c.arg-5.result _ _ (λ new adds. adds_rule _ _ (option_rule (codes "budget")) _ _ _ adds equal (search rules) (search rules)) c.arg-5.ensures
