@@ -1,4 +1,4 @@
--- What the derivation of one loaded constraint shows, as the derivation of all of them asks it.
+-- What the derivation of one loaded constraint shows, as the derivation of its group asks it.
 use Rattle.std.proofs.Common.{◌≡◌, ◌≤◌, ◌<◌, ◌+◌, ◌*◌, ◌^◌, ℕ, List, length, ap, ◌∙◌, arith}
 use Rattle.std.proofs.Math.Nat.{add-mul, mul-le-mul_left}
 use Rattle.std.specs.Prelude.{All, sum_by}
@@ -25,13 +25,13 @@ pub record IsLight (o : Options) (n : ℕ) (c : Constraint) : Type 0 where
   pub weight : weight c.terms < 2 ^ 100
   pub few : length c.terms ≤ 2 ^ 20 + 1
 
--- the lines of the steps of a constraint of n terms
-pub record IsSaid (n fresh clauses : ℕ) (steps : List Step) : Type 0 where
+-- the lines of the steps of so many constraints with n terms
+pub record IsSaid (n count fresh clauses : ℕ) (steps : List Step) : Type 0 where
   pub sayable : All IsSayable steps
   pub each : All (λ s. line_size s ≤ 2 ^ 28) steps
-  pub all : sum_by line_size steps ≤ 2 ^ 30 * fresh + 2 ^ 21 * clauses + 512 * n + 2 ^ 23
+  pub all : sum_by line_size steps ≤ 2 ^ 30 * fresh + 2 ^ 21 * clauses + 512 * n + 2 ^ 23 * count
 
-modest : (o : Options) (n : ℕ) (c : Constraint) → IsLight o n c → IsModest c
+pub modest : (o : Options) (n : ℕ) (c : Constraint) → IsLight o n c → IsModest c
 modest o n c light = record { linear = light.ready.linear; light = light.weight; few = omega (arith, light.few) }
 
 pub constraint-derives : (o : Options) (n first id : ℕ) (c : Constraint) (db : Database) → IsLight o n c → n ≤ first → IsReadyWith c first (constraint_fresh o c) id db
@@ -43,14 +43,14 @@ pub constraint-few : (o : Options) (n : ℕ) (c : Constraint) (first id next : �
 constraint-few o n c first id next light = constraints_few o c first id next (modest o n c light)
 
 -- the bytes of all lines, where the terms are few
-bytes_small : (n fresh clauses bytes : ℕ) → n ≤ 2 ^ 20 + 1 → bytes ≤ 512 * (fresh + 1) * n + 2 ^ 20 * (fresh + clauses + 5) → bytes ≤ 2 ^ 30 * fresh + 2 ^ 21 * clauses + 512 * n + 2 ^ 23
+pub bytes_small : (n fresh clauses bytes : ℕ) → n ≤ 2 ^ 20 + 1 → bytes ≤ 512 * (fresh + 1) * n + 2 ^ 20 * (fresh + clauses + 5) → bytes ≤ 2 ^ 30 * fresh + 2 ^ 21 * clauses + 512 * n + 2 ^ 23 * 1
 bytes_small n fresh clauses bytes few h =
     let more : 512 * (fresh + 1) ≡ 512 * fresh + 512 = omega arith in
     let parts : 512 * (fresh + 1) * n ≡ 512 * fresh * n + 512 * n = ap (λ (k : ℕ). k * n) more ∙ add-mul (512 * fresh) 512 n in
     omega (arith, h, parts, mul-le-mul_left (512 * fresh) few)
 
 pub constraint-said : (o : Options) (n first id next : ℕ) (c : Constraint) → IsLight o n c → n ≤ first → 1 ≤ first → first + constraint_fresh o c ≤ 2 ^ 31 → constraint_count o c ≤ 2 ^ 56 → 1 ≤ id → id < next → next ≤ 2 ^ 60
-    → IsSaid (length c.terms) (constraint_fresh o c) (constraint_count o c) (constraint_steps o c first id next)
+    → IsSaid (length c.terms) 1 (constraint_fresh o c) (constraint_count o c) (constraint_steps o c first id next)
 constraint-said o n first id next c light le low fits counted given known few =
     let original = All-weaker (OfTerm (IsOneBelow n)) (λ t. (1 ≤ t.lit.var) × (t.lit.var < first)) (λ t h. (h.0, omega (arith, le, h.1))) c.terms light.ready.within in
     let start : MayStart first (constraint_fresh o c) id next = record { low = low; fits = fits; given = given; known = known; few = omega (arith, few) } in

@@ -45,7 +45,7 @@ adds_up s right m k v d both degree = omega (arith, ints, both, degree)
 enough : (s : ℤ) (m k v : ℕ) → s +ℤ pos m ≡ pos (v + k) → s ≤ℤ pos (2 ^ 100) → pos 0 ≤ℤ (pos (2 ^ 100) +ℤ pos m -ℤ pos k)
 enough s m k v both small = omega (arith, ints, both, small)
 
-costs_of_sum : (a : Assignment) (ts : List Term) → magnitude ts < 2 ^ 100 → sum_value a ts ≡ (pos (2 ^ 100) -ℤ pos (normal_degree ts (pos (2 ^ 100)))) +ℤ pos (value a (normal_terms ts))
+pub costs_of_sum : (a : Assignment) (ts : List Term) → magnitude ts < 2 ^ 100 → sum_value a ts ≡ (pos (2 ^ 100) -ℤ pos (normal_degree ts (pos (2 ^ 100)))) +ℤ pos (value a (normal_terms ts))
 costs_of_sum a ts light =
     let m = moved ts in
     let k = cancelled (map unsigned ts) [] in

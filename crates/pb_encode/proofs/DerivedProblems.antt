@@ -1,5 +1,5 @@
 -- What the steps of a problem show.
-use Rattle.std.proofs.Common.{◌≡◌, ◌≤◌, ◌<◌, ◌+◌, ◌*◌, ◌^◌, ◌++◌, ℕ, List, [], ◌∷◌, length, map, arith, length-append}
+use Rattle.std.proofs.Common.{◌≡◌, ◌≤◌, ◌<◌, ◌+◌, ◌*◌, ◌^◌, ◌++◌, ℕ, List, [], ◌∷◌, length, map, ap, sym, subst, arith, length-append}
 use Rattle.std.specs.Prelude.{All, sum_by}
 use Rattle.std.proofs.lemmas.List.Elements.{All-nil, All-cons, All-head, All-tail, All-append, All-weaker}
 use Rattle.std.proofs.lemmas.List.Sums.{sum_by-append, sum_by-cons}
@@ -10,35 +10,49 @@ use Rattle.pb_base.specs.declared.problem.Relation.TheVariants.{AtLeast, AtMost,
 use Rattle.pb_base.specs.Problems.{IsSumWithin, IsWithinLimits, StaysBelow, originals}
 use Rattle.pb_norm.specs.declared.halves.Half.{Half}
 use Rattle.pb_norm.specs.declared.halves.Half.TheVariants.{Lower, Upper}
-use Rattle.pb_norm.specs.Constraints.{Constraint, weight}
+use Rattle.pb_norm.specs.Constraints.{Constraint, Weighted, weight}
 use Rattle.pb_norm.specs.Halves.{constraints_of, half_of, halves_of, loaded}
 use Rattle.pb_norm.specs.Products.{defining, loaded_of}
 use Rattle.pb_norm.proofs.ClauseTerms.{length-weight}
 use Rattle.pb_norm.proofs.ProductForms.{IsFormOver}
+use Rattle.pb_norm.proofs.Variables.{OfTerm}
 use Rattle.pb_steps.specs.declared.step.Step.{Step}
 use Rattle.pb_steps.specs.declared.step.Step.TheVariants.{Head, Loaded, End}
-use Rattle.pb_steps.specs.Database.{loaded_database}
+use Rattle.pb_steps.specs.Database.{Database, loaded_database}
+use Rattle.pb_steps.specs.Runs.{Runs}
 use Rattle.pb_steps.specs.Sayable.{IsSayable}
 use Rattle.pb_steps.specs.StepSizes.{step_size}
-use Rattle.pb_derive.specs.Short.{line_size}
+use Rattle.pb_derive.specs.Short.{AreShort, line_size}
+use Rattle.pb_derive.proofs.FollowedBy.{runs_next}
+use Rattle.pb_derive.proofs.Running.{runs_append}
 use Rattle.pb_derive.proofs.Short.{line_sized, lines_sized}
 use Rattle.pb_choice.specs.declared.options.Options.{Options}
-use Rattle.pb_choice.specs.Clauses.{constraint_count}
-use Rattle.pb_encode.specs.Clauses.{clause_total, fresh_total, problem_vars}
+use Rattle.pb_choice.specs.Readiness.{LeavesIds}
+use Rattle.pb_gentot.specs.BoundTable.{table_clauses, table_fresh, table_size}
+use Rattle.pb_gentot.specs.BoundTableLaws.{IsSmallTable}
+use Rattle.pb_gentot.specs.BoundTableSteps.{table_steps}
+use Rattle.pb_gentot.proofs.TableDerives.{table_derives, table_few}
+use Rattle.pb_gentot.proofs.TableShort.{table_lines_short, table_sayable}
+use Rattle.pb_encode.specs.Clauses.{clause_total, fresh_total, loaded_clauses, problem_clauses, problem_count, problem_fresh, problem_vars, table_first}
 use Rattle.pb_encode.specs.Derived.{IsDerived}
+use Rattle.pb_encode.specs.Groups.{Group, all_members, group_count, groups_of, singles, size_total, statement_groups}
 use Rattle.pb_encode.specs.Steps.{loaded_steps, problem_steps, steps_from}
 use Rattle.pb_encode.specs.Summaries.{IsEncodable}
-use Rattle.pb_encode.specs.laws.Streams.{LeavesIds}
-use Rattle.pb_encode.proofs.ChoiceLaws.{IsLight}
+use Rattle.pb_encode.specs.Tables.{table_terms}
+use Rattle.pb_encode.specs.laws.Streams.{steps_at_next}
+use Rattle.pb_encode.proofs.ChoiceLaws.{IsLight, bytes_small}
 use Rattle.pb_encode.proofs.HalfTerms.{half_short}
 use Rattle.pb_encode.proofs.HalfWeights.{half_light}
-use Rattle.pb_encode.proofs.LoadedDatabases.{loaded_numbered, loaded_stand, loaded_unnamed}
-use Rattle.pb_encode.proofs.LoadedRuns.{all-few, all-run, all-said, term_total}
+use Rattle.pb_encode.proofs.GroupDerivations.{IsGroupLight, term_total}
+use Rattle.pb_encode.proofs.GroupLists.{groups_by, groups_matched, members_loaded, size_loaded}
+use Rattle.pb_encode.proofs.LoadedDatabases.{Stand, loaded_numbered, loaded_stand, loaded_unnamed}
+use Rattle.pb_encode.proofs.LoadedRuns.{IsEndOfAll, all-few, all-run, all-said}
 use Rattle.pb_choice.proofs.Composition.{IsOneBelow, IsReady}
 use Rattle.pb_encode.proofs.ProductSizes.{forms_clauses, terms-defining}
 use Rattle.pb_encode.proofs.Solutions.{forms_over, loaded_ready}
 use Rattle.pb_encode.proofs.StepTexts.{text_within}
-use Rattle.pb_encode.proofs.StepTurns.{ids-most}
+use Rattle.pb_encode.proofs.StepTurns.{ids-most, ids_in}
+use Rattle.pb_encode.proofs.TableTerms.{AreFit, table_fits}
 use Rattle.pb_encode.proofs.TallyLemmas.{length-loaded}
 
 -- ---- the loaded constraints
@@ -78,6 +92,9 @@ module _ (o : Options) (p : Problem) (within : IsWithinLimits p) (encodable : Is
   abbrev cs : List Constraint
   cs = loaded_of p
 
+  abbrev gs : List Group
+  gs = groups_of p
+
   abbrev n : ℕ
   n = length cs
 
@@ -87,8 +104,27 @@ module _ (o : Options) (p : Problem) (within : IsWithinLimits p) (encodable : Is
   abbrev products : List Constraint
   products = defining (p.vars + 1) p.products
 
+  -- the steps of the constraints, and then those of the table
+  abbrev constraints : List Step
+  constraints = steps_from o first 1 gs (n + 1)
+
+  abbrev behind : ℕ
+  behind = n + 1 + ids_in constraints
+
+  abbrev terms : List Weighted
+  terms = table_terms o p
+
+  abbrev last : ℕ
+  last = table_first o p
+
+  abbrev table : List Step
+  table = table_steps terms last behind
+
   abbrev between : List Step
   between = loaded_steps o p
+
+  fit : AreFit first terms
+  fit = table_fits p within o
 
   ready : All (IsReady o first) cs
   ready = loaded_ready o p within
@@ -99,14 +135,20 @@ module _ (o : Options) (p : Problem) (within : IsWithinLimits p) (encodable : Is
       (All-weaker (IsFormOver (IsOneBelow first)) IsSmall (λ c form. record { weight = omega (arith, form.weight); few = omega (arith, form.weight, length-weight c.terms form.linear.positive) }) products (forms_over p within))
       (loaded_small (originals p) p.statements within.numbers within.sums)
 
-  pub loaded_light : All (IsLight o first) cs
-  loaded_light = light_each o first cs ready small
+  pub groups_light : All (IsGroupLight o first) gs
+  groups_light = groups_by (IsLight o first) gs (groups_matched p) (subst (All (IsLight o first)) (sym (members_loaded p)) (light_each o first cs ready small))
+
+  sizes : size_total gs ≡ n
+  sizes = size_loaded p
+
+  terms_are : term_total (all_members gs) ≡ term_total cs
+  terms_are = ap term_total (members_loaded p)
 
   parts : n ≡ length products + length (loaded p.statements)
   parts = length-append products (loaded p.statements)
 
-  counts : clause_total o cs ≡ clause_total o products + clause_total o (loaded p.statements)
-  counts = sum_by-append (constraint_count o) products (loaded p.statements)
+  counts : clause_total o gs ≡ clause_total o (singles products) + clause_total o (statement_groups p.statements)
+  counts = sum_by-append (group_count o) (singles products) (statement_groups p.statements)
 
   pub loaded_count : n ≤ 2 ^ 36 + 2 ^ 25 + 2
   loaded_count = omega (arith, parts, counts, forms_clauses o (IsOneBelow first) products (forms_over p within), encodable.clauses, length-loaded p.statements, within.count)
@@ -124,15 +166,40 @@ module _ (o : Options) (p : Problem) (within : IsWithinLimits p) (encodable : Is
         within.count,
       )
 
-  few_fresh : fresh_total o cs < 2 ^ 31
+  few_fresh : fresh_total o gs < 2 ^ 31
   few_fresh = omega (arith, encodable.vars)
 
-  few_between : length between ≤ 8 * (fresh_total o cs + clause_total o cs) + 4 * n
-  few_between = all-few o first first 1 cs (n + 1) loaded_light
+  few_constraints : length constraints ≤ 8 * (fresh_total o gs + clause_total o gs) + 4 * n
+  few_constraints = omega (arith, all-few o first first 1 gs (n + 1) groups_light, sizes)
+
+  few_between : length between ≤ 8 * (problem_fresh o p + problem_count o p) + 4 * n
+  few_between = omega (arith, length-append constraints table, few_constraints, table_few terms fit.table last behind)
 
   -- there are ids for all steps
-  pub loaded_leave : LeavesIds (steps_from o first 1 cs) (n + 1)
-  loaded_leave = omega (arith, few_between, few_fresh, loaded_count, encodable.clauses, ids-most between)
+  pub loaded_leave : LeavesIds (steps_from o first 1 gs) (n + 1)
+  loaded_leave = omega (arith, few_constraints, few_fresh, loaded_count, encodable.clauses, ids-most constraints)
+
+  pub whole_leave : LeavesIds (steps_at_next o p) (n + 1)
+  whole_leave = omega (arith, few_between, encodable.vars, loaded_count, encodable.clauses, ids-most between)
+
+  -- the table's steps can be said
+  small_table : IsSmallTable terms last behind
+  small_table = record {
+    table = fit.table;
+    light = fit.light;
+    modest = omega (arith, encodable.clauses);
+    original = All-weaker (OfTerm (IsOneBelow first)) (λ (t : Weighted). (1 ≤ t.lit.var) × (t.lit.var < last)) (λ t h. (h.0, omega (arith, h.1))) terms fit.over;
+    begins = record { low = omega arith; fits = omega (arith, encodable.vars); some = omega arith; few = omega (arith, loaded_leave) };
+  }
+
+  table_said : All IsSayable table
+  table_said = table_sayable terms last behind small_table
+
+  table_short : AreShort (length terms) (table_fresh terms) (table_size terms) table
+  table_short = table_lines_short terms last behind small_table (omega (arith, fit.few))
+
+  table_bytes : sum_by line_size table ≤ 2 ^ 30 * table_fresh terms + 2 ^ 21 * table_size terms + 512 * length terms + 2 ^ 23
+  table_bytes = omega (arith, bytes_small (length terms) (table_fresh terms) (table_size terms) (sum_by line_size table) (omega (arith, fit.few)) (omega (arith, table_short.all)))
 
   before : List Step
   before = Head ∷ Loaded n ∷ []
@@ -158,31 +225,56 @@ module _ (o : Options) (p : Problem) (within : IsWithinLimits p) (encodable : Is
   after_short : All Fits (End ∷ [])
   after_short = line_sized (2 ^ 28) (End ∷ []) after_sayable (All-cons Short End [] (omega arith) (All-nil Short))
 
+  abbrev start : Database
+  start = loaded_database (originals p) (problem_vars o p) cs
+
+  loaded_run : (end : Database) × Runs start constraints (loaded_clauses o p) end × IsEndOfAll o first gs start end
+  loaded_run = all-run o first first 1 gs start (omega arith) groups_light (record {
+    original = omega arith;
+    vars = omega arith;
+    numbered = loaded_numbered (originals p) (problem_vars o p) cs;
+    stands = subst (Stand start.live 1) (sym (members_loaded p)) (loaded_stand (originals p) (problem_vars o p) cs);
+    known = omega (arith, sizes);
+    unnamed = λ v low. loaded_unnamed (originals p) (problem_vars o p) cs o first v low ready;
+  })
+
+  -- the table's steps run where those of the constraints ended
+  whole_run : (end : Database) × Runs start between (problem_clauses o p) end
+  whole_run =
+      let mid : Database = loaded_run.0 in
+      let ended = loaded_run.2 in
+      let below = All-weaker (OfTerm (IsOneBelow first)) (λ (t : Weighted). t.lit.var < last) (λ t h. omega (arith, h.1)) terms fit.over in
+      let derived = table_derives terms fit.table fit.light last mid below (record {
+        original = omega (arith, ended.original);
+        vars = omega (arith, ended.vars);
+        numbered = ended.numbered;
+        unnamed = λ v low high. ended.unnamed v (omega (arith, low));
+      }) in (
+        derived.end,
+        subst (λ (m : ℕ). Runs start (constraints ++ table_steps terms last m) (problem_clauses o p) derived.end) (runs_next start constraints (loaded_clauses o p) mid loaded_run.1)
+            (runs_append start mid derived.end constraints (table_steps terms last mid.next) (loaded_clauses o p) (table_clauses terms last) loaded_run.1 derived.runs),
+      )
+
   pub problem_derived : IsDerived o p
   problem_derived =
-      let run = all-run o first first 1 cs (loaded_database (originals p) (problem_vars o p) cs) (omega arith) loaded_light (record {
-        original = omega arith;
-        vars = omega arith;
-        numbered = loaded_numbered (originals p) (problem_vars o p) cs;
-        stands = loaded_stand (originals p) (problem_vars o p) cs;
-        known = omega arith;
-        unnamed = λ v low. loaded_unnamed (originals p) (problem_vars o p) cs o first v low ready;
-      }) in
-      let said = all-said o first first 1 cs (n + 1) loaded_light (omega arith) (omega arith) (omega (arith, encodable.vars)) (omega (arith, encodable.clauses)) (omega arith) (omega arith) loaded_leave in
+      let said = all-said o first first 1 gs (n + 1) groups_light (omega arith) (omega arith) (omega (arith, encodable.vars)) (omega (arith, encodable.clauses)) (omega arith) (omega (arith, sizes)) loaded_leave in
       let rest : List Step = between ++ End ∷ [] in
-      let sayable : All IsSayable (problem_steps o p) = All-append IsSayable (Head ∷ Loaded n ∷ []) rest before_sayable (All-append IsSayable between (End ∷ []) said.sayable after_sayable) in
-      let each : All Fits (problem_steps o p) = All-append Fits (Head ∷ Loaded n ∷ []) rest before_short (All-append Fits between (End ∷ []) said.each after_short) in
+      let between_sayable : All IsSayable between = All-append IsSayable constraints table said.sayable table_said in
+      let between_short : All Fits between = All-append Fits constraints table said.each table_short.each in
+      let sayable : All IsSayable (problem_steps o p) = All-append IsSayable (Head ∷ Loaded n ∷ []) rest before_sayable (All-append IsSayable between (End ∷ []) between_sayable after_sayable) in
+      let each : All Fits (problem_steps o p) = All-append Fits (Head ∷ Loaded n ∷ []) rest before_short (All-append Fits between (End ∷ []) between_short after_short) in
       let count : length (problem_steps o p) ≡ length between + 3 = omega (arith, length-append between (End ∷ [])) in
       let size = sum_by-append line_size (Head ∷ Loaded n ∷ []) rest in
       let size2 = sum_by-append line_size between (End ∷ []) in
+      let size3 = sum_by-append line_size constraints table in
       let begin : sum_by line_size (Head ∷ Loaded n ∷ []) ≤ 58 = omega (arith, lines_sized (Head ∷ Loaded n ∷ []) before_sayable) in
       let stop : sum_by line_size (End ∷ []) ≤ 4 = omega (arith, lines_sized (End ∷ []) after_sayable) in
       record {
-        end = run.0;
-        runs = run.1;
+        end = whole_run.0;
+        runs = whole_run.1;
         few = omega (arith, few_between, count);
         sayable = sayable;
         within = text_within (problem_steps o p) sayable each
-            (omega (arith, few_between, count, few_fresh, loaded_count, encodable.clauses))
-            (omega (arith, size, size2, begin, stop, said.all, few_fresh, loaded_count, loaded_terms, encodable.clauses));
+            (omega (arith, few_between, count, encodable.vars, loaded_count, encodable.clauses))
+            (omega (arith, size, size2, size3, begin, stop, said.all, table_bytes, fit.few, encodable.vars, loaded_count, loaded_terms, terms_are, sizes, encodable.clauses));
       }

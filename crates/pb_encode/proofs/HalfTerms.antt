@@ -2,12 +2,13 @@
 use Rattle.std.proofs.Common.{◌≤◌, ◌+◌, ◌-◌, ◌++◌, Bool, true, false, cond, List, [], ◌∷◌, length, map, arith, ltb, length-append}
 use Rattle.std.specs.Prelude.{filter}
 use Rattle.std.proofs.lemmas.List.{length-map}
+use Rattle.pb_base.specs.declared.literal.Term.{Term}
 use Rattle.pb_base.specs.declared.problem.Raw.{Raw}
 use Rattle.pb_base.specs.Literals.{is_same}
 use Rattle.pb_norm.specs.declared.halves.Half.{Half}
 use Rattle.pb_norm.specs.Addition.{combined, joined, with_term}
 use Rattle.pb_norm.specs.Constraints.{Weighted}
-use Rattle.pb_norm.specs.Halves.{half_of, half_terms, is_positive, turned_term, unsigned}
+use Rattle.pb_norm.specs.Halves.{half_of, half_terms, is_positive, normal_terms, turned_term, unsigned}
 
 length-combined : (t u : Weighted) → length (combined t u) ≤ 1
 length-combined t u = by_tests (is_same t.lit u.lit) (ltb t.coef u.coef) (ltb u.coef t.coef)
@@ -42,6 +43,10 @@ length-positive (t ∷ ts) = by_test (is_positive t) (length-positive ts)
     by_test : (b : Bool) → length (filter is_positive ts) ≤ length ts → length (cond {A = List Weighted} b (t ∷ filter is_positive ts) (filter is_positive ts)) ≤ length (t ∷ ts)
     by_test true h = omega (arith, h)
     by_test false h = omega (arith, h)
+
+-- a normal form has no more terms than what is written
+pub normal_short : (ts : List Term) → length (normal_terms ts) ≤ length ts
+normal_short ts = omega (arith, length-positive (joined (map unsigned ts) []), length-joined (map unsigned ts) [], length-map ts unsigned)
 
 -- a half has no more terms than the statement
 pub half_short : (half : Half) (s : Raw) → length (half_of half s).terms ≤ length s.terms

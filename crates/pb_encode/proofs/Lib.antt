@@ -1,3 +1,6 @@
+pub mod ApartGroups
+pub mod BoundRows
+pub mod BoundTexts
 pub mod ChoiceLaws
 pub mod CnfTexts
 pub mod CostLemmas
@@ -5,6 +8,11 @@ pub mod CostTexts
 pub mod CountingLoops
 pub mod DerivedProblems
 pub mod EncodedFiles
+pub mod ForcedGroups
+pub mod GroupClauses
+pub mod GroupComposition
+pub mod GroupDerivations
+pub mod GroupLists
 pub mod HalfTerms
 pub mod HalfWeights
 pub mod HardTexts
@@ -22,6 +30,8 @@ pub mod Solutions
 pub mod StepTexts
 pub mod StepTurns
 pub mod StreamSteps
+pub mod TableStreams
+pub mod TableTerms
 pub mod TallyLemmas
 pub mod ThreeTexts
 pub mod WeightedTexts

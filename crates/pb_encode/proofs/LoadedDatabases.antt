@@ -1,5 +1,5 @@
 -- The database of loaded constraints, and those that steps make of it.
-use Rattle.std.proofs.Common.{◌≡◌, ◌≤◌, ◌<◌, ◌+◌, ℕ, Bool, cond, List, [], ◌∷◌, length, refl, ap, ◌∙◌, arith}
+use Rattle.std.proofs.Common.{◌≡◌, ◌≤◌, ◌<◌, ◌+◌, ◌++◌, ℕ, Bool, cond, List, [], ◌∷◌, length, refl, ap, subst, ◌∙◌, arith}
 use Rattle.std.specs.Prelude.{All, Option, Some}
 use Rattle.std.proofs.lemmas.Bool.{ne_eqb, eq-eqb}
 use Rattle.std.proofs.lemmas.List.Elements.{All-nil, All-cons, All-head, All-tail, All-weaker}
@@ -52,3 +52,15 @@ module _ (original vars : ℕ) (cs : List Constraint) where
 pub stand_later : (P : ℕ → Type 0) (db end : Database) (id : ℕ) (cs : List Constraint) → IsLater P db end → id + length cs ≤ db.next → Stand db.live id cs → Stand end.live id cs
 stand_later P db end id [] later le h = tt
 stand_later P db end id (c ∷ cs) later le h = (later.stands id (omega (arith, le)) ∙ h.0, stand_later P db end (id + 1) cs later (omega (arith, le)) h.1)
+
+-- ---- of two parts
+
+pub stand_first : (live : List Entry) (id : ℕ) (cs ds : List Constraint) → Stand live id (cs ++ ds) → Stand live id cs
+stand_first live id [] ds h = tt
+stand_first live id (c ∷ cs) ds h = (h.0, stand_first live (id + 1) cs ds h.1)
+
+pub stand_rest : (live : List Entry) (id : ℕ) (cs ds : List Constraint) → Stand live id (cs ++ ds) → Stand live (id + length cs) ds
+stand_rest live id [] ds h = let same : id ≡ id + 0 = omega arith in subst (λ (i : ℕ). Stand live i ds) same h
+stand_rest live id (c ∷ cs) ds h =
+    let same : id + 1 + length cs ≡ id + length (c ∷ cs) = omega arith in
+    subst (λ (i : ℕ). Stand live i ds) same (stand_rest live (id + 1) cs ds h.1)

@@ -33,7 +33,7 @@ terms_below vars None h = All-nil (λ (t : Term). t.lit.var < vars + 1)
 terms_below vars (Some ts) h = All-weaker (λ (t : Term). t.lit.var ≤ vars) (λ (t : Term). t.lit.var < vars + 1) (λ t k. omega (arith, k)) ts h.0.vars_within
 
 -- the first values of a model are those of its cut, and of the products
-front_is_widened : (o : Options) (p : Problem) → IsWithinLimits p → (model : List Bool) → IsModelOver (problem_vars o p) (problem_clauses o p) model → take (originals p) model ≡ widened p (take p.vars model)
+pub front_is_widened : (o : Options) (p : Problem) → IsWithinLimits p → (model : List Bool) → IsModelOver (problem_vars o p) (problem_clauses o p) model → take (originals p) model ≡ widened p (take p.vars model)
 front_is_widened o p within model is =
     let all = take (originals p) model in
     let long : length model ≡ problem_vars o p = is.covers in
@@ -41,12 +41,16 @@ front_is_widened o p within model is =
     let products = (All-append_both (Holds (assigned_by all)) (defining (p.vars + 1) p.products) (loaded p.statements) solves).0 in
     all_widened p within.products all (omega (arith, length-take (originals p) model, long)) products ∙ ap (widened p) (cut_twice p model)
 
+-- the objective's value under a model is that of its cut
+pub objective_agrees : (o : Options) (p : Problem) → IsWithinLimits p → (model : List Bool) → IsModelOver (problem_vars o p) (problem_clauses o p) model
+    → sum_value (assigned_by (widened p (take p.vars model))) (objective_terms p) ≡ sum_value (assigned_by model) (objective_terms p)
+objective_agrees o p within model is =
+    let n = originals p in
+    ap (λ (values : List Bool). sum_value (assigned_by values) (objective_terms p)) (sym (front_is_widened o p within model is))
+    ∙ sym (sum_agree (n + 1) (assigned_by model) (assigned_by (take n model)) (cut-agrees model n) (objective_terms p) (terms_below n p.objective within.objective))
+
 pub models_have_costs : (o : Options) (p : Problem) → IsWithinLimits p → HasCostsOf o p
 models_have_costs o p within = record {
   solutions = have_solutions o p within;
-  costs = λ model is.
-      let n = originals p in
-      ap (λ (values : List Bool). sum_value (assigned_by values) (objective_terms p)) (sym (front_is_widened o p within model is))
-      ∙ sym (sum_agree (n + 1) (assigned_by model) (assigned_by (take n model)) (cut-agrees model n) (objective_terms p) (terms_below n p.objective within.objective))
-      ∙ costs_add_up p (assigned_by model) within;
+  costs = λ model is. objective_agrees o p within model is ∙ costs_add_up p (assigned_by model) within;
 }

@@ -2,7 +2,7 @@
 use Rattle.std.proofs.Common.{◌≡◌, ◌<◌, ◌+◌, ◌^◌, ◌++◌, ℕ, List, [], ◌∷◌, length, ap, arith}
 use Rattle.std.specs.Prelude.{Result, IsErrAnd}
 use Rattle.pb_base.specs.declared.problem.Problem.{Problem}
-use Rattle.pb_base.specs.Problems.{IsWithinLimits, originals}
+use Rattle.pb_base.specs.Problems.{IsWithinLimits}
 use Rattle.pb_norm.specs.Products.{loaded_of}
 use Rattle.pb_steps.specs.declared.step.Step.{Step}
 use Rattle.pb_steps.specs.declared.step.Step.TheVariants.{Head, Loaded, End}
@@ -10,15 +10,11 @@ use Rattle.pb_family.specs.StepSinks.{StepState, TakesSteps, StopsInSteps, Hands
 use Rattle.pb_family.specs.declared.sink.SinkFault.{SinkFault}
 use Rattle.pb_family.proofs.Deriving.{Deriving, deriving_starts, deriving_step, steps_fault, steps_last}
 use Rattle.pb_choice.specs.declared.options.Options.{Options}
-use Rattle.pb_encode.specs.Steps.{loaded_steps, problem_steps, steps_from}
+use Rattle.pb_encode.specs.Steps.{loaded_steps, problem_steps}
 use Rattle.pb_encode.specs.Summaries.{IsEncodable}
-use Rattle.pb_encode.specs.laws.Streams.{LeavesIds}
-use Rattle.pb_encode.proofs.DerivedProblems.{loaded_count, loaded_leave}
+use Rattle.pb_encode.specs.laws.Streams.{steps_at_next}
+use Rattle.pb_encode.proofs.DerivedProblems.{loaded_count, whole_leave}
 use Rattle.pb_encode.proofs.StepTurns.{ids_in, stops_same_steps, takes_same_steps}
-
--- the first number, as it is given
-pub given_steps : (o : Options) (p : Problem) (first next : ℕ) → first ≡ originals p + 1 → next ≡ length (loaded_of p) + 1 → steps_from o first 1 (loaded_of p) next ≡ loaded_steps o p
-given_steps o p first next first_is next_is = λ i. steps_from o (first_is i) 1 (loaded_of p) (next_is i)
 
 module _ {R : Type 0} (o : Options) (p : Problem) (within : IsWithinLimits p) (encodable : IsEncodable o p) (a b c d : StepState R) (starts : a.next ≡ length (loaded_of p) + 1) where
   abbrev all : List Step
@@ -59,20 +55,19 @@ module _ {R : Type 0} (o : Options) (p : Problem) (within : IsWithinLimits p) (e
         count_next : c.next ≡ length (loaded_of p) + 1
         count_next = omega (arith, told.ids, head_next, starts)
 
-        module _ (first : ℕ) (first_is : first ≡ originals p + 1) where
-          same : steps_from o first 1 (loaded_of p) c.next ≡ loaded_steps o p
-          same = given_steps o p first c.next first_is count_next
+        same : steps_at_next o p c.next ≡ loaded_steps o p
+        same = ap (steps_at_next o p) count_next
 
-          pub steps_leave : LeavesIds (steps_from o first 1 (loaded_of p)) c.next
-          steps_leave = omega (arith, loaded_leave o p within encodable, ap ids_in same, count_next)
+        pub whole_next : c.next ≡ length (loaded_of p) + 1
+        whole_next = count_next
 
-          pub steps_stop : {T : Type 0} (r : Result T SinkFault) (f : SinkFault) → IsErrAnd r (λ g. g ≡ f) → StopsInSteps (steps_from o first 1 (loaded_of p) c.next) c d f → HandsSteps all r a d
-          steps_stop r f is stops = steps_fault r f (loaded_steps o p) (End ∷ []) d is count_taken (stops_same_steps _ _ c d f same stops)
+        pub steps_stop : {T : Type 0} (r : Result T SinkFault) (f : SinkFault) → IsErrAnd r (λ g. g ≡ f) → StopsInSteps (steps_at_next o p c.next) c d f → HandsSteps all r a d
+        steps_stop r f is stops = steps_fault r f (loaded_steps o p) (End ∷ []) d is count_taken (stops_same_steps _ _ c d f same stops)
 
-          -- so were the steps
-          module _ (taken : TakesSteps (steps_from o first 1 (loaded_of p) c.next) c d) where
-            pub end_small : d.next < 2 ^ 62
-            end_small = omega (arith, taken.ids, steps_leave)
+        -- so were the steps
+        module _ (taken : TakesSteps (steps_at_next o p c.next) c d) where
+          pub end_small : d.next < 2 ^ 62
+          end_small = omega (arith, taken.ids, whole_leave o p within encodable, ap ids_in same, count_next)
 
-            pub end_last : {T : Type 0} (r : Result T SinkFault) (e : StepState R) → HandsSteps (End ∷ []) r d e → HandsSteps all r a e
-            end_last r e h = steps_last r (End ∷ []) e (deriving_step (loaded_steps o p) d count_taken (takes_same_steps _ _ c d same taken)) h
+          pub end_last : {T : Type 0} (r : Result T SinkFault) (e : StepState R) → HandsSteps (End ∷ []) r d e → HandsSteps all r a e
+          end_last r e h = steps_last r (End ∷ []) e (deriving_step (loaded_steps o p) d count_taken (takes_same_steps _ _ c d same taken)) h

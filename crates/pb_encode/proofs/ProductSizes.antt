@@ -17,7 +17,9 @@ use Rattle.pb_choice.specs.Clauses.{constraint_clauses, constraint_count}
 use Rattle.pb_choice.proofs.Encoded.{clauses-count, clauses-sound}
 use Rattle.pb_choice.proofs.RestLaws.{IsTrueClause}
 use Rattle.pb_encode.specs.Clauses.{clause_total}
-use Rattle.pb_encode.proofs.LoadedRuns.{term_total}
+use Rattle.pb_encode.specs.Groups.{group_count, singles}
+use Rattle.pb_encode.specs.Groups.Group.{alone}
+use Rattle.pb_encode.proofs.GroupDerivations.{term_total}
 
 -- ---- terms
 
@@ -77,7 +79,7 @@ form_clauses o Q c form = by_clauses (constraint_clauses o c 1) refl
     by_clauses (ls ∷ clauses) some = omega (arith, clauses-count o c 1 form.linear, ap (λ (xs : List (List Lit)). length xs) some)
 
 -- so these have no fewer clauses than they are
-pub forms_clauses : (o : Options) (Q : ℕ → Type 0) (cs : List Constraint) → All (IsFormOver Q) cs → length cs ≤ clause_total o cs
+pub forms_clauses : (o : Options) (Q : ℕ → Type 0) (cs : List Constraint) → All (IsFormOver Q) cs → length cs ≤ clause_total o (singles cs)
 forms_clauses o Q [] forms = omega arith
 forms_clauses o Q (c ∷ cs) forms =
-    omega (arith, sum_by-cons (constraint_count o) c cs, form_clauses o Q c (All-head (IsFormOver Q) c cs forms), forms_clauses o Q cs (All-tail (IsFormOver Q) c cs forms))
+    omega (arith, sum_by-cons (group_count o) (alone c) (singles cs), form_clauses o Q c (All-head (IsFormOver Q) c cs forms), forms_clauses o Q cs (All-tail (IsFormOver Q) c cs forms))

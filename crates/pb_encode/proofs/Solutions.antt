@@ -1,41 +1,41 @@
--- The clauses of a problem have its solutions, its counts and its variables, and force what its constraints do.
-use Rattle.std.proofs.Common.{◌≡◌, ◌≤◌, ◌<◌, ◌+◌, ◌^◌, ◌++◌, ℕ, zero, suc, List, [], ◌∷◌, Bool, false, All, map, take, length, refl, ap, sym, subst, ◌∙◌, arith, inl, inr}
-use Rattle.std.specs.Prelude.{Contains}
-use Rattle.pb_base.proofs.Members.{Contains-nil, Contains-here, Contains-there, Contains-cons_cases}
+-- The clauses of a problem have its solutions, its counts and its variables.
+use Rattle.std.proofs.Common.{◌≡◌, ◌≤◌, ◌<◌, ◌+◌, ◌^◌, ℕ, zero, suc, List, [], ◌∷◌, Bool, false, true, All, map, take, length, length-append, refl, ap, sym, subst, ◌∙◌, arith, inl, inr}
+use Rattle.std.specs.Prelude.{◌⊎◌, Contains, leb}
+use Rattle.pb_base.proofs.Members.{All-append_both}
 use Rattle.std.specs.List.{range_with_len}
 use Rattle.std.proofs.lemmas.List.{ext_get_or, length-map, length-take, take-take}
 use Rattle.std.proofs.lemmas.List.FromFn.{get_or-map-range_with_len, take-map-range_with_len, length-range_with_len}
-use Rattle.std.proofs.lemmas.List.Elements.{All-nil, All-cons, All-head, All-tail, All-append, All-weaker}
+use Rattle.std.proofs.lemmas.List.Elements.{All-nil, All-cons, All-contains, All-head, All-map, All-tail, All-append, All-weaker}
 use Rattle.pb_base.specs.declared.literal.Lit.{Lit}
 use Rattle.pb_base.specs.declared.problem.Relation.{Relation}
 use Rattle.pb_base.specs.declared.problem.Relation.TheVariants.{AtLeast, AtMost, Equal}
 use Rattle.pb_base.specs.declared.problem.Raw.{Raw}
 use Rattle.pb_base.specs.declared.problem.Problem.{Problem}
-use Rattle.pb_base.specs.Literals.{Assignment, AgreeBelow, assigned_by}
+use Rattle.pb_base.specs.Literals.{Assignment, AgreeBelow, IsModel, assigned_by, clause_value, lit_value}
 use Rattle.pb_base.specs.Problems.{IsSolution, IsSumWithin, IsWithinLimits, StaysBelow, originals}
 use Rattle.pb_norm.specs.declared.halves.Half.TheVariants.{Lower, Upper}
-use Rattle.pb_norm.specs.Constraints.{Constraint, IsLinear, Holds, Solves}
+use Rattle.pb_norm.specs.BoundedSums.{vars_of}
+use Rattle.pb_norm.specs.Constraints.{Constraint, IsLinear, Holds, Solves, Weighted, value}
 use Rattle.pb_norm.specs.Halves.{loaded, half_of, halves_of, constraints_of}
 use Rattle.pb_norm.specs.Products.{defining, loaded_of}
-use Rattle.pb_norm.specs.ClausePropagation.{ClausesPropagate}
-use Rattle.pb_norm.specs.ClauseForm.{clause_form}
-use Rattle.pb_norm.specs.Propagation.{Propagates}
-use Rattle.pb_norm.specs.laws.PropagationLaws.{AreAmong}
-use Rattle.pb_norm.proofs.Agreement.{IsModel-agree, cut-agrees}
-use Rattle.pb_norm.proofs.ClauseLift.{propagates_lifts}
+use Rattle.pb_norm.proofs.Agreement.{IsModel-agree, cut-agrees, lit_value-agree, value-agree}
 use Rattle.pb_norm.proofs.Solutions.{are_fronts}
 use Rattle.pb_norm.proofs.NetBounds.{made-linear}
 use Rattle.pb_norm.proofs.ProductForms.{IsFormOver, defining_over}
-use Rattle.pb_norm.proofs.PropagationMore.{ClausesPropagate-more}
 use Rattle.pb_norm.proofs.Variables.{OfLit, OfTerm, OfWritten, IsOver, loaded-vars}
 use Rattle.pb_choice.specs.declared.options.Options.{Options}
-use Rattle.pb_choice.specs.Choice.{IsSentToAdder}
-use Rattle.pb_choice.specs.Clauses.{constraint_clauses, constraint_fresh}
-use Rattle.pb_choice.proofs.Composition.{IsOneBelow, IsReady, holds-agree, all-sound, all-extend, all-within, all-count}
-use Rattle.pb_choice.proofs.Forced.{clauses-propagate}
+use Rattle.pb_choice.proofs.Composition.{IsOneBelow, IsReady, holds-agree}
 use Rattle.pb_dimacs.specs.CnfReading.{IsLitWithin}
-use Rattle.pb_encode.specs.Clauses.{clauses_from, clause_total, problem_clauses, problem_vars}
+use Rattle.pb_gentot.specs.BoundTable.{table_clauses, table_fresh, table_output, table_values}
+use Rattle.pb_gentot.proofs.TableModels.{row_named, table_counts, table_extends, table_names}
+use Rattle.pb_encode.specs.Clauses.{loaded_clauses, loaded_vars, problem_clauses, problem_count, problem_vars, table_first}
+use Rattle.pb_encode.specs.Groups.{all_members, groups_of}
+use Rattle.pb_encode.specs.Tables.{table_terms}
 use Rattle.pb_encode.specs.Models.{IsModelOver, HasSolutionsOf}
+use Rattle.pb_encode.proofs.GroupClauses.{IsGroupReady}
+use Rattle.pb_encode.proofs.GroupComposition.{all-count, all-extend, all-sound, all-within}
+use Rattle.pb_encode.proofs.GroupLists.{groups_by, groups_matched, members_loaded}
+use Rattle.pb_encode.proofs.TableTerms.{table_below, table_fits}
 
 -- ---- the loaded constraints are in normal form, over the problem's variables
 
@@ -76,21 +76,69 @@ loaded_ready o p within =
 
 -- ---- all clauses
 
-abbrev all_from : Options → List Constraint → ℕ → List (List Lit)
-all_from o cs first = clauses_from o first cs
+-- so are the groups
+pub ready_groups : (o : Options) (p : Problem) → All (IsReady o (originals p + 1)) (loaded_of p) → All (IsGroupReady o (originals p + 1)) (groups_of p)
+ready_groups o p ready =
+    let Ready = IsReady o (originals p + 1) in
+    groups_by Ready (groups_of p) (groups_matched p) (subst (All Ready) (sym (members_loaded p)) ready)
 
-below_all : (o : Options) (p : Problem) → All (IsReady o (originals p + 1)) (loaded_of p) → All (All (OfLit (IsOneBelow (problem_vars o p + 1)))) (problem_clauses o p)
-below_all o p ready = all-within o (all_from o) (λ first. refl) (λ c cs first. refl) (originals p + 1) (loaded_of p) (originals p + 1) (problem_vars o p + 1) (omega arith) (omega arith) (omega arith) ready
+loaded_below : (o : Options) (p : Problem) → All (IsReady o (originals p + 1)) (loaded_of p) → All (All (OfLit (IsOneBelow (loaded_vars o p + 1)))) (loaded_clauses o p)
+loaded_below o p ready = all-within o (originals p + 1) (groups_of p) (originals p + 1) (loaded_vars o p + 1) (omega arith) (omega arith) (omega arith) (ready_groups o p ready)
+
+-- the variables of a table's literals
+abbrev IsNamedBy : List Weighted → ℕ → ℕ → Type 0
+IsNamedBy ts first v = Contains (vars_of ts) v ⊎ ((first ≤ v) × (v < first + table_fresh ts))
+
+pub named_below : (o : Options) (p : Problem) → IsWithinLimits p → (v : ℕ) → IsNamedBy (table_terms o p) (table_first o p) v → IsOneBelow (problem_vars o p + 1) v
+named_below o p within v named =
+    let n = originals p + 1 in
+    let ts = table_terms o p in
+    elim named as (λ _. IsOneBelow (problem_vars o p + 1) v) [
+      | inl own ↦
+          let of = All-contains (IsOneBelow n) (vars_of ts) v (All-map (IsOneBelow n) (λ (t : Weighted). t.lit.var) ts (table_fits p within o).over) own in
+          (of.0, omega (arith, of.1))
+      | inr fresh ↦ (omega (arith, fresh.0), omega (arith, fresh.1))
+    ]
+
+wider_clauses : (m n : ℕ) → m ≤ n → (cs : List (List Lit)) → All (All (OfLit (IsOneBelow m))) cs → All (All (OfLit (IsOneBelow n))) cs
+wider_clauses m n le cs h =
+    All-weaker (All (OfLit (IsOneBelow m))) (All (OfLit (IsOneBelow n))) (λ ls k. All-weaker (OfLit (IsOneBelow m)) (OfLit (IsOneBelow n)) (λ l j. (j.0, omega (arith, j.1, le))) ls k) cs h
+
+table_clauses_below : (o : Options) (p : Problem) → IsWithinLimits p → All (All (OfLit (IsOneBelow (problem_vars o p + 1)))) (table_clauses (table_terms o p) (table_first o p))
+table_clauses_below o p within =
+    let ts = table_terms o p in
+    let first = table_first o p in
+    All-weaker (All (λ (l : Lit). IsNamedBy ts first l.var)) (All (OfLit (IsOneBelow (problem_vars o p + 1))))
+    (λ ls h. All-weaker (λ (l : Lit). IsNamedBy ts first l.var) (OfLit (IsOneBelow (problem_vars o p + 1))) (λ l k. named_below o p within l.var k) ls h)
+    (table_clauses ts first) (table_names ts first)
+
+below_all : (o : Options) (p : Problem) → IsWithinLimits p → All (All (OfLit (IsOneBelow (problem_vars o p + 1)))) (problem_clauses o p)
+below_all o p within =
+    All-append (All (OfLit (IsOneBelow (problem_vars o p + 1)))) (loaded_clauses o p) (table_clauses (table_terms o p) (table_first o p))
+    (wider_clauses (loaded_vars o p + 1) (problem_vars o p + 1) (omega arith) (loaded_clauses o p) (loaded_below o p (loaded_ready o p within)))
+    (table_clauses_below o p within)
 
 pub problem-within : (o : Options) (p : Problem) → IsWithinLimits p → All (All (IsLitWithin (problem_vars o p))) (problem_clauses o p)
 problem-within o p within =
     let vars = problem_vars o p in
     All-weaker (All (OfLit (IsOneBelow (vars + 1)))) (All (IsLitWithin vars))
     (λ ls h. All-weaker (OfLit (IsOneBelow (vars + 1))) (IsLitWithin vars) (λ l k. record { low = k.0; high = omega (arith, k.1) }) ls h)
-    (problem_clauses o p) (below_all o p (loaded_ready o p within))
+    (problem_clauses o p) (below_all o p within)
 
-pub clauses-count : (o : Options) (p : Problem) → IsWithinLimits p → length (problem_clauses o p) ≡ clause_total o (loaded_of p)
-clauses-count o p within = all-count o (all_from o) (λ first. refl) (λ c cs first. refl) (originals p + 1) (loaded_of p) (originals p + 1) (loaded_ready o p within)
+pub clauses-count : (o : Options) (p : Problem) → IsWithinLimits p → length (problem_clauses o p) ≡ problem_count o p
+clauses-count o p within =
+    let ts = table_terms o p in
+    let first = table_first o p in
+    omega (
+      arith,
+      length-append (loaded_clauses o p) (table_clauses ts first),
+      all-count o (originals p + 1) (groups_of p) (originals p + 1) (omega arith) (ready_groups o p (loaded_ready o p within)),
+      table_counts ts first,
+    )
+
+-- literals of variables below a number
+strictly : (n : ℕ) (cs : List (List Lit)) → All (All (OfLit (IsOneBelow n))) cs → All (All (λ l. l.var < n)) cs
+strictly n cs h = All-weaker (All (OfLit (IsOneBelow n))) (All (λ l. l.var < n)) (λ ls k. All-weaker (OfLit (IsOneBelow n)) (λ l. l.var < n) (λ l j. j.1) ls k) cs h
 
 -- ---- lists of values
 
@@ -127,26 +175,58 @@ solves-agree n a b agree (c ∷ cs) over holds =
 over_ready : (o : Options) (n : ℕ) (cs : List Constraint) → All (IsReady o n) cs → All (IsOver (IsOneBelow n)) cs
 over_ready o n cs ready = All-weaker (IsReady o n) (IsOver (IsOneBelow n)) (λ c h. h.within) cs ready
 
--- where the loaded constraints hold, there is a model
-model_from : (o : Options) (p : Problem) → All (IsReady o (originals p + 1)) (loaded_of p) → (all : List Bool) → length all ≡ originals p → Solves (assigned_by all) (loaded_of p)
-    → (model : List Bool) × IsModelOver (problem_vars o p) (problem_clauses o p) model × (take (originals p) model ≡ all)
-model_from o p ready all covers solves =
+-- a model in which each row's literal says whether the table's sum reaches its value
+pub record RowModel (o : Options) (p : Problem) (all : List Bool) : Type 0 where
+  pub model : List Bool
+  pub is : IsModelOver (problem_vars o p) (problem_clauses o p) model
+  pub front : take (originals p) model ≡ all
+  pub rows : (u : ℕ) → Contains (table_values (table_terms o p)) u → lit_value (assigned_by model) (table_output (table_terms o p) (table_first o p) u) ≡ leb u (value (assigned_by all) (table_terms o p))
+
+-- where the loaded constraints hold, there is one
+pub model_from : (o : Options) (p : Problem) → IsWithinLimits p → (all : List Bool) → length all ≡ originals p → Solves (assigned_by all) (loaded_of p) → RowModel o p all
+model_from o p within all covers solves =
     let first = originals p + 1 in
     let vars = problem_vars o p in
-    let found = all-extend o (all_from o) (λ n. refl) (λ c cs n. refl) first (loaded_of p) first (omega arith) (omega arith) ready (assigned_by all) solves in
-    let b = found.0 in
-    let none : b 0 ≡ false = sym (found.1 0 (omega arith)) in
-    let below = All-weaker (All (OfLit (IsOneBelow (vars + 1)))) (All (λ l. l.var < vars + 1)) (λ ls h. All-weaker (OfLit (IsOneBelow (vars + 1))) (λ l. l.var < vars + 1) (λ l k. k.1) ls h) (problem_clauses o p) (below_all o p ready) in (
-      listed b vars,
-      record { covers = listed_covers b vars; satisfies = IsModel-agree (vars + 1) b (assigned_by (listed b vars)) (listed-agrees b vars none) (problem_clauses o p) below found.2 },
-      listed_front b vars (originals p) (omega arith) ∙ listed_is b all (originals p) covers found.1,
-    )
+    let ts = table_terms o p in
+    let last = table_first o p in
+    let fit = table_fits p within o in
+    let ready = loaded_ready o p within in
+    let hold : Solves (assigned_by all) (all_members (groups_of p)) = subst (Solves (assigned_by all)) (sym (members_loaded p)) solves in
+    let found = all-extend o first (groups_of p) first (omega arith) (omega arith) (ready_groups o p ready) (assigned_by all) hold in
+    let before = found.0 in
+    let table = table_extends ts fit.table last (table_below p within o last (omega arith)) before in
+    let b = table.now in
+    let agrees : AgreeBelow first (assigned_by all) b = λ v below. found.1 v below ∙ table.agrees v (omega (arith, below)) in
+    let none : b 0 ≡ false = sym (agrees 0 (omega arith)) in
+    let below = strictly (vars + 1) (problem_clauses o p) (below_all o p within) in
+    let fronts = IsModel-agree last before b table.agrees (loaded_clauses o p) (strictly last (loaded_clauses o p) (loaded_below o p ready)) found.2 in
+    let whole = All-append (λ (c : List Lit). clause_value b c ≡ true) (loaded_clauses o p) (table_clauses ts last) fronts table.model in
+    record {
+      model = listed b vars;
+      is = record { covers = listed_covers b vars; satisfies = IsModel-agree (vars + 1) b (assigned_by (listed b vars)) (listed-agrees b vars none) (problem_clauses o p) below whole };
+      front = listed_front b vars (originals p) (omega arith) ∙ listed_is b all (originals p) covers agrees;
+      rows = λ u here.
+          let l = table_output ts last u in
+          let within_vars = named_below o p within l.var (row_named ts last u here) in
+          lit_value-agree (assigned_by (listed b vars)) b l (sym (listed-agrees b vars none l.var within_vars.1))
+          ∙ table.rows u here
+          ∙ ap (leb u) (sym (value-agree first (assigned_by all) before found.1 ts (table_below p within o first (omega arith))));
+    }
+
+-- the clauses of the constraints are true in a model of all
+pub loaded_model : (o : Options) (p : Problem) (a : Assignment) → IsModel a (problem_clauses o p) → IsModel a (loaded_clauses o p)
+loaded_model o p a model = (All-append_both (λ (c : List Lit). clause_value a c ≡ true) (loaded_clauses o p) (table_clauses (table_terms o p) (table_first o p)) model).0
+
+-- and those of the table
+pub table_model : (o : Options) (p : Problem) (a : Assignment) → IsModel a (problem_clauses o p) → IsModel a (table_clauses (table_terms o p) (table_first o p))
+table_model o p a model = (All-append_both (λ (c : List Lit). clause_value a c ≡ true) (loaded_clauses o p) (table_clauses (table_terms o p) (table_first o p)) model).1
 
 -- under the first values of a model they hold
 pub solves_from : (o : Options) (p : Problem) → All (IsReady o (originals p + 1)) (loaded_of p) → (model : List Bool) → IsModelOver (problem_vars o p) (problem_clauses o p) model → Solves (assigned_by (take (originals p) model)) (loaded_of p)
 solves_from o p ready model is =
     let first = originals p + 1 in
-    let solves = all-sound o (all_from o) (λ n. refl) (λ c cs n. refl) first (loaded_of p) first (omega arith) ready (assigned_by model) is.satisfies in
+    let hold = all-sound o first (groups_of p) first (omega arith) (ready_groups o p ready) (assigned_by model) (loaded_model o p (assigned_by model) is.satisfies) in
+    let solves : Solves (assigned_by model) (loaded_of p) = subst (Solves (assigned_by model)) (members_loaded p) hold in
     solves-agree first (assigned_by model) (assigned_by (take (originals p) model)) (cut-agrees model (originals p)) (loaded_of p) (over_ready o first (loaded_of p) ready) solves
 
 -- the problem's variables are among those of the constraints
@@ -159,8 +239,8 @@ have_solutions o p within values covers =
     let ready = loaded_ready o p within in (
       (λ (h : IsSolution p values).
           let front = fronts.0 h in
-          let found = model_from o p ready front.0 front.1.covers front.1.solves in
-          (found.0, found.1, sym (cut_twice p found.0) ∙ ap (take p.vars) found.2 ∙ front.1.front)),
+          let found = model_from o p within front.0 front.1.covers front.1.solves in
+          (found.model, found.is, sym (cut_twice p found.model) ∙ ap (take p.vars) found.front ∙ front.1.front)),
       (λ (found : (model : List Bool) × IsModelOver (problem_vars o p) (problem_clauses o p) model × (take p.vars model ≡ values)).
           let model = found.0 in
           let long : length model ≡ problem_vars o p = found.1.covers in
@@ -173,43 +253,3 @@ have_solutions o p within values covers =
             },
           )),
     )
-
--- ---- what is forced
-
-contains_front : {X : Type 0} (xs ys : List X) (x : X) → Contains xs x → Contains (xs ++ ys) x
-contains_front [] ys x h = absurd (Contains-nil x h)
-contains_front {X} (y ∷ xs) ys x h =
-    elim (Contains-cons_cases y xs x h) as (λ _. Contains (y ∷ (xs ++ ys)) x) [
-      | inl same ↦ subst (λ (z : X). Contains (y ∷ (xs ++ ys)) z) same (Contains-here y (xs ++ ys))
-      | inr among ↦ Contains-there y (xs ++ ys) x (contains_front xs ys x among)
-    ]
-
-contains_back : {X : Type 0} (xs ys : List X) (x : X) → Contains ys x → Contains (xs ++ ys) x
-contains_back [] ys x h = h
-contains_back (y ∷ xs) ys x h = Contains-there y (xs ++ ys) x (contains_back xs ys x h)
-
-front_among : (xs ys : List (List Lit)) → AreAmong xs (xs ++ ys)
-front_among xs ys = λ c h. contains_front xs ys c h
-
-back_among : (xs ys : List (List Lit)) → AreAmong ys (xs ++ ys)
-back_among xs ys = λ c h. contains_back xs ys c h
-
--- what is said of a constraint that is not sent to the adder
-abbrev Forces : Options → List (List Lit) → Constraint → Type 0
-Forces o clauses c = ¬ IsSentToAdder o c → ClausesPropagate clauses (λ a. Holds a c)
-
-force_each : (o : Options) (n first : ℕ) (cs : List Constraint) → All (IsReady o n) cs → All (Forces o (clauses_from o first cs)) cs
-force_each o n first [] ready = All-nil (Forces o (clauses_from o first []))
-force_each o n first (c ∷ cs) ready =
-    let next = first + constraint_fresh o c in
-    let whole = clauses_from o first (c ∷ cs) in
-    let here = All-head (IsReady o n) c cs ready in
-    All-cons (Forces o whole) c cs
-    (λ other. ClausesPropagate-more (constraint_clauses o c first) whole (front_among (constraint_clauses o c first) (clauses_from o next cs)) (λ a. Holds a c) (clauses-propagate o c first here.linear other))
-    (All-weaker (Forces o (clauses_from o next cs)) (Forces o whole)
-    (λ d h other. ClausesPropagate-more (clauses_from o next cs) whole (back_among (constraint_clauses o c first) (clauses_from o next cs)) (λ a. Holds a d) (h other)) cs (force_each o n next cs (All-tail (IsReady o n) c cs ready)))
-
-pub problem_forces : (o : Options) (p : Problem) → IsWithinLimits p → All (λ c. ¬ IsSentToAdder o c → Propagates (map clause_form (problem_clauses o p)) (λ a. Holds a c)) (loaded_of p)
-problem_forces o p within =
-    All-weaker (Forces o (problem_clauses o p)) (λ c. ¬ IsSentToAdder o c → Propagates (map clause_form (problem_clauses o p)) (λ a. Holds a c))
-    (λ c h other. propagates_lifts (problem_clauses o p) (λ a. Holds a c) (h other)) (loaded_of p) (force_each o (originals p + 1) (originals p + 1) (loaded_of p) (loaded_ready o p within))

@@ -1,16 +1,14 @@
--- The clauses of constraints that are handed over one after another.
-use Rattle.std.proofs.Common.{◌≡◌, ◌≤◌, ◌<◌, ◌+◌, ◌++◌, ℕ, suc, List, [], ◌∷◌, length, drop, drop-cons, map, get_or, refl, sym, ap, subst, ◌∙◌, arith, append_assoc}
+-- The clauses of groups of constraints that are handed over one after another.
+use Rattle.std.proofs.Common.{◌≡◌, ◌≤◌, ◌<◌, ◌+◌, ◌++◌, ℕ, suc, List, [], ◌∷◌, length, drop, drop-cons, get_or, refl, sym, ap, subst, ◌∙◌, arith, append_assoc}
 use Rattle.std.specs.Prelude.{Result, IsErrAnd}
-use Rattle.std.proofs.lemmas.List.{append-nil, drop_all, get_or_default}
+use Rattle.std.proofs.lemmas.List.{append-nil, drop_all, map-append}
 use Rattle.std.proofs.lemmas.List.Elements.{All-weaker}
 use Rattle.std.proofs.lemmas.List.Sums.{sum_by-append}
 use Rattle.pb_base.specs.declared.literal.Lit.{Lit}
 use Rattle.pb_base.specs.declared.literal.Term.{Term}
 use Rattle.pb_base.specs.declared.problem.Raw.{Raw}
-use Rattle.pb_norm.specs.declared.halves.Half.{Half}
 use Rattle.pb_norm.specs.Constraints.{Constraint}
 use Rattle.pb_norm.specs.ClauseForm.{clause_form}
-use Rattle.pb_norm.specs.Halves.{half_of, constraints_of, loaded}
 use Rattle.pb_norm.specs.Products.{plain, defining, product_clauses, product_constraints}
 use Rattle.pb_norm.proofs.ProductLemmas.{length-product, product-at}
 use Rattle.pb_family.specs.Handing.{HandsIfMemory, StopsInClauses, TakesClauses}
@@ -19,41 +17,42 @@ use Rattle.pb_family.specs.declared.sink.SinkFault.{SinkFault}
 use Rattle.pb_family.proofs.Emission.{Emitting, emitting_ends, emitting_starts, emitting_step}
 use Rattle.pb_family.proofs.Stopping.{stops_fault, stops_last}
 use Rattle.pb_choice.specs.declared.options.Options.{Options}
-use Rattle.pb_choice.specs.Clauses.{constraint_clauses, constraint_fresh}
 use Rattle.pb_encode.specs.Clauses.{clauses_from, fresh_total}
+use Rattle.pb_encode.specs.Groups.{Group, group_clauses, group_fresh, group_of, singles, statement_groups}
+use Rattle.pb_encode.specs.Groups.Group.{alone}
 use Rattle.pb_encode.specs.laws.Streams.{IsOverBelow}
 
--- ---- the clauses of more constraints
+-- ---- the clauses of more groups
 
-pub fresh-append : (o : Options) (cs ds : List Constraint) → fresh_total o (cs ++ ds) ≡ fresh_total o cs + fresh_total o ds
-fresh-append o cs ds = sum_by-append (constraint_fresh o) cs ds
+pub fresh-append : (o : Options) (cs ds : List Group) → fresh_total o (cs ++ ds) ≡ fresh_total o cs + fresh_total o ds
+fresh-append o cs ds = sum_by-append (group_fresh o) cs ds
 
-clauses_from-append : (o : Options) (first : ℕ) (cs ds : List Constraint) → clauses_from o first (cs ++ ds) ≡ clauses_from o first cs ++ clauses_from o (first + fresh_total o cs) ds
+clauses_from-append : (o : Options) (first : ℕ) (cs ds : List Group) → clauses_from o first (cs ++ ds) ≡ clauses_from o first cs ++ clauses_from o (first + fresh_total o cs) ds
 clauses_from-append o first [] ds = let e : first ≡ first + 0 = omega arith in ap (λ (n : ℕ). clauses_from o n ds) e
-clauses_from-append o first (c ∷ cs) ds =
-    let next = first + constraint_fresh o c in
-    let e : next + fresh_total o cs ≡ first + fresh_total o (c ∷ cs) = omega (arith, fresh-append o (c ∷ []) cs) in
-    ap (λ (xs : List (List Lit)). constraint_clauses o c first ++ xs) (clauses_from-append o next cs ds)
-    ∙ sym (append_assoc (constraint_clauses o c first) (clauses_from o next cs) (clauses_from o (next + fresh_total o cs) ds))
-    ∙ ap (λ (n : ℕ). (constraint_clauses o c first ++ clauses_from o next cs) ++ clauses_from o n ds) e
+clauses_from-append o first (g ∷ gs) ds =
+    let next = first + group_fresh o g in
+    let e : next + fresh_total o gs ≡ first + fresh_total o (g ∷ gs) = omega (arith, fresh-append o (g ∷ []) gs) in
+    ap (λ (xs : List (List Lit)). group_clauses o g first ++ xs) (clauses_from-append o next gs ds)
+    ∙ sym (append_assoc (group_clauses o g first) (clauses_from o next gs) (clauses_from o (next + fresh_total o gs) ds))
+    ∙ ap (λ (n : ℕ). (group_clauses o g first ++ clauses_from o next gs) ++ clauses_from o n ds) e
 
 -- ---- handing over
 
--- of the clauses of all these constraints those of some are left, whose fresh variables begin with a number
-pub record Streams {R : Type 0} (o : Options) (first : ℕ) (all left : List Constraint) (next : ℕ) (old now : SinkState R) : Type 0 where
+-- of the clauses of all these groups those of some are left, whose fresh variables begin with a number
+pub record Streams {R : Type 0} (o : Options) (first : ℕ) (all left : List Group) (next : ℕ) (old now : SinkState R) : Type 0 where
   pub next_is : next + fresh_total o left ≡ first + fresh_total o all
   pub later : first ≤ next
   pub handed : Emitting (clauses_from o first all) (clauses_from o next left) old now
 
-pub streams_none : {R : Type 0} (o : Options) (first : ℕ) (all : List Constraint) (a : SinkState R) → Streams o first all all first a a
+pub streams_none : {R : Type 0} (o : Options) (first : ℕ) (all : List Group) (a : SinkState R) → Streams o first all all first a a
 streams_none o first all a = record { next_is = refl; later = omega arith; handed = emitting_starts (clauses_from o first all) a }
 
 -- the clauses of some that are left come next
-next_piece : {R : Type 0} (o : Options) (first next : ℕ) (all ds rest left : List Constraint) (a b : SinkState R) → left ≡ ds ++ rest → Streams o first all left next a b → Emitting (clauses_from o first all) (clauses_from o next ds ++ clauses_from o (next + fresh_total o ds) rest) a b
+next_piece : {R : Type 0} (o : Options) (first next : ℕ) (all ds rest left : List Group) (a b : SinkState R) → left ≡ ds ++ rest → Streams o first all left next a b → Emitting (clauses_from o first all) (clauses_from o next ds ++ clauses_from o (next + fresh_total o ds) rest) a b
 next_piece o first next all ds rest left a b parts so_far =
     subst (λ (cs : List (List Lit)). Emitting (clauses_from o first all) cs a b) (ap (clauses_from o next) parts ∙ clauses_from-append o next ds rest) so_far.handed
 
-pub streams_more : {R : Type 0} (o : Options) (first next last : ℕ) (all ds rest left : List Constraint) (a b c : SinkState R) → left ≡ ds ++ rest → last ≡ next + fresh_total o ds
+pub streams_more : {R : Type 0} (o : Options) (first next last : ℕ) (all ds rest left : List Group) (a b c : SinkState R) → left ≡ ds ++ rest → last ≡ next + fresh_total o ds
     → Streams o first all left next a b → TakesClauses (clauses_from o next ds) b c → Streams o first all rest last a c
 streams_more o first next last all ds rest left a b c parts is so_far taken = record {
   next_is = omega (arith, is, so_far.next_is, ap (fresh_total o) parts, fresh-append o ds rest);
@@ -61,36 +60,36 @@ streams_more o first next last all ds rest left a b c parts is so_far taken = re
   handed = subst (λ (n : ℕ). Emitting (clauses_from o first all) (clauses_from o n rest) a c) (sym is) (emitting_step (clauses_from o next ds) c (next_piece o first next all ds rest left a b parts so_far) taken);
 }
 
-pub streams_stop : {R T : Type 0} (o : Options) (first next : ℕ) (all ds rest left : List Constraint) (a b c : SinkState R) (r : Result T SinkFault) (f : SinkFault) → left ≡ ds ++ rest → IsErrAnd r (λ g. g ≡ f)
+pub streams_stop : {R T : Type 0} (o : Options) (first next : ℕ) (all ds rest left : List Group) (a b c : SinkState R) (r : Result T SinkFault) (f : SinkFault) → left ≡ ds ++ rest → IsErrAnd r (λ g. g ≡ f)
     → Streams o first all left next a b → StopsInClauses (clauses_from o next ds) b c f → HandsIfMemory (clauses_from o first all) r a c
 streams_stop o first next all ds rest left a b c r f parts is so_far stops =
     stops_fault r f (clauses_from o next ds) (clauses_from o (next + fresh_total o ds) rest) c is (next_piece o first next all ds rest left a b parts so_far) stops
 
 -- none are left
-pub streams_all : {R : Type 0} (o : Options) (first next : ℕ) (all left : List Constraint) (a b : SinkState R) → left ≡ [] → Streams o first all left next a b → TakesClauses (clauses_from o first all) a b
-streams_all o first next all left a b none so_far = emitting_ends (subst (λ (cs : List Constraint). Emitting (clauses_from o first all) (clauses_from o next cs) a b) none so_far.handed)
+pub streams_all : {R : Type 0} (o : Options) (first next : ℕ) (all left : List Group) (a b : SinkState R) → left ≡ [] → Streams o first all left next a b → TakesClauses (clauses_from o first all) a b
+streams_all o first next all left a b none so_far = emitting_ends (subst (λ (cs : List Group). Emitting (clauses_from o first all) (clauses_from o next cs) a b) none so_far.handed)
 
-pub streams_next : {R : Type 0} (o : Options) (first next : ℕ) (all left : List Constraint) (a b : SinkState R) → left ≡ [] → Streams o first all left next a b → next ≡ first + fresh_total o all
+pub streams_next : {R : Type 0} (o : Options) (first next : ℕ) (all left : List Group) (a b : SinkState R) → left ≡ [] → Streams o first all left next a b → next ≡ first + fresh_total o all
 streams_next o first next all left a b none so_far = omega (arith, so_far.next_is, ap (fresh_total o) none)
 
 -- there are numbers left for the fresh variables of those that come next
-pub streams_fit : {R : Type 0} (o : Options) (first next : ℕ) (all ds rest left : List Constraint) (a b : SinkState R) → left ≡ ds ++ rest → Streams o first all left next a b → first + fresh_total o all ≤ 2147483648 → next + fresh_total o ds ≤ 2147483648
+pub streams_fit : {R : Type 0} (o : Options) (first next : ℕ) (all ds rest left : List Group) (a b : SinkState R) → left ≡ ds ++ rest → Streams o first all left next a b → first + fresh_total o all ≤ 2147483648 → next + fresh_total o ds ≤ 2147483648
 streams_fit o first next all ds rest left a b parts so_far fits = omega (arith, so_far.next_is, fits, ap (fresh_total o) parts, fresh-append o ds rest)
 
 -- variables below the first fresh one are below the next
-pub streams_below : {R : Type 0} (o : Options) (first next : ℕ) (all left : List Constraint) (a b : SinkState R) (s : Raw) → Streams o first all left next a b → IsOverBelow first s → IsOverBelow next s
+pub streams_below : {R : Type 0} (o : Options) (first next : ℕ) (all left : List Group) (a b : SinkState R) (s : Raw) → Streams o first all left next a b → IsOverBelow first s → IsOverBelow next s
 streams_below o first next all left a b s so_far below = All-weaker (λ (t : Term). t.lit.var < first) (λ (t : Term). t.lit.var < next) (λ t h. omega (arith, h, so_far.later)) s.terms below
 
 -- those that are left are handed over last
-pub streams_last : {R T : Type 0} (o : Options) (first next : ℕ) (all left : List Constraint) (a b c : SinkState R) (r : Result T SinkFault) → Streams o first all left next a b → HandsIfMemory (clauses_from o next left) r b c → HandsIfMemory (clauses_from o first all) r a c
+pub streams_last : {R T : Type 0} (o : Options) (first next : ℕ) (all left : List Group) (a b c : SinkState R) (r : Result T SinkFault) → Streams o first all left next a b → HandsIfMemory (clauses_from o next left) r b c → HandsIfMemory (clauses_from o first all) r a c
 streams_last o first next all left a b c r so_far hands = stops_last r (clauses_from o next left) c so_far.handed hands
 
--- the clauses of one constraint
-pub one_clauses : (o : Options) (first : ℕ) (c : Constraint) → constraint_clauses o c first ≡ clauses_from o first (c ∷ [])
-one_clauses o first c = sym (append-nil (constraint_clauses o c first))
+-- the clauses of one group
+pub one_clauses : (o : Options) (first : ℕ) (g : Group) → group_clauses o g first ≡ clauses_from o first (g ∷ [])
+one_clauses o first g = sym (append-nil (group_clauses o g first))
 
-pub one_fresh : (o : Options) (c : Constraint) → fresh_total o (c ∷ []) ≡ constraint_fresh o c
-one_fresh o c = omega arith
+pub one_fresh : (o : Options) (g : Group) → fresh_total o (g ∷ []) ≡ group_fresh o g
+one_fresh o g = omega arith
 
 -- ---- what is left of a list
 
@@ -99,43 +98,35 @@ drop_rest {X} xs i x lt is =
     let next : suc i ≡ i + 1 = omega arith in
     drop-cons xs i x lt ∙ ap (λ (y : X). y ∷ drop (suc i) xs) (sym is) ∙ ap (λ (n : ℕ). x ∷ drop n xs) next
 
-abbrev pub halves_made : Raw → List Half → List Constraint
-halves_made s halves = map (λ half. half_of half s) halves
+-- of statements the next one's group, and the others
+pub statements_rest : (ss : List Raw) (i : ℕ) (s : Raw) → i < length ss → s ≡ get_or ss i s → statement_groups (drop i ss) ≡ (group_of s ∷ []) ++ statement_groups (drop (i + 1) ss)
+statements_rest ss i s lt is = ap statement_groups (drop_rest ss i s lt is)
 
--- of the halves of a statement the next one, and the others
-pub halves_rest : (s : Raw) (halves : List Half) (i : ℕ) (d : Half) → i < length halves → halves_made s (drop i halves) ≡ (half_of (get_or halves i d) s ∷ []) ++ halves_made s (drop (i + 1) halves)
-halves_rest s halves i d lt = ap (halves_made s) (drop_rest halves i (get_or halves i d) lt (get_or_default halves i d (get_or halves i d) lt))
-
-pub halves_done : (s : Raw) (halves : List Half) (i : ℕ) → length halves ≤ i → halves_made s (drop i halves) ≡ []
-halves_done s halves i le = ap (halves_made s) (drop_all i halves le)
-
--- of statements those of the next one, and of the others
-pub loaded_rest : (ss : List Raw) (i : ℕ) (s : Raw) → i < length ss → s ≡ get_or ss i s → loaded (drop i ss) ≡ constraints_of s ++ loaded (drop (i + 1) ss)
-loaded_rest ss i s lt is = ap loaded (drop_rest ss i s lt is)
-
-pub loaded_done : (ss : List Raw) (i : ℕ) → length ss ≤ i → loaded (drop i ss) ≡ []
-loaded_done ss i le = ap loaded (drop_all i ss le)
+pub statements_done : (ss : List Raw) (i : ℕ) → length ss ≤ i → statement_groups (drop i ss) ≡ []
+statements_done ss i le = ap statement_groups (drop_all i ss le)
 
 -- of the constraints of a product the next one, and the others
-pub product_rest : (z : Lit) (ls : List Lit) (i : ℕ) (c : Constraint) → i ≤ length ls → c ≡ clause_form (get_or (product_clauses z ls) i []) → drop i (product_constraints z ls) ≡ (c ∷ []) ++ drop (i + 1) (product_constraints z ls)
-product_rest z ls i c le is = drop_rest (product_constraints z ls) i c (omega (arith, le, length-product z ls)) (product-at z ls i c le is)
+pub product_rest : (z : Lit) (ls : List Lit) (i : ℕ) (c : Constraint) → i ≤ length ls → c ≡ clause_form (get_or (product_clauses z ls) i []) → singles (drop i (product_constraints z ls)) ≡ (alone c ∷ []) ++ singles (drop (i + 1) (product_constraints z ls))
+product_rest z ls i c le is = ap singles (drop_rest (product_constraints z ls) i c (omega (arith, le, length-product z ls)) (product-at z ls i c le is))
 
-pub product_done : (z : Lit) (ls : List Lit) (i : ℕ) → length ls + 1 ≤ i → drop i (product_constraints z ls) ≡ []
-product_done z ls i le = drop_all i (product_constraints z ls) (omega (arith, le, length-product z ls))
+pub product_done : (z : Lit) (ls : List Lit) (i : ℕ) → length ls + 1 ≤ i → singles (drop i (product_constraints z ls)) ≡ []
+product_done z ls i le = ap singles (drop_all i (product_constraints z ls) (omega (arith, le, length-product z ls)))
 
 -- of products those of the next one, and of the others
 pub defining_rest : (v i : ℕ) (z : Lit) (products : List (List Lit)) (ls : List Lit) → i < length products → z ≡ plain (v + i) → ls ≡ get_or products i ls
-    → defining (v + i) (drop i products) ≡ product_constraints z ls ++ defining (v + (i + 1)) (drop (i + 1) products)
+    → singles (defining (v + i) (drop i products)) ≡ singles (product_constraints z ls) ++ singles (defining (v + (i + 1)) (drop (i + 1) products))
 defining_rest v i z products ls lt named is =
     let rest = drop (i + 1) products in
     let next : v + i + 1 ≡ v + (i + 1) = omega arith in
+    let parts : defining (v + i) (drop i products) ≡ product_constraints z ls ++ defining (v + (i + 1)) rest =
     ap (defining (v + i)) (drop_rest products i ls lt is)
     ∙ ap (λ (y : Lit). product_constraints y ls ++ defining (v + i + 1) rest) (sym named)
-    ∙ ap (λ (n : ℕ). product_constraints z ls ++ defining n rest) next
+    ∙ ap (λ (n : ℕ). product_constraints z ls ++ defining n rest) next in
+    ap singles parts ∙ map-append alone (product_constraints z ls) (defining (v + (i + 1)) rest)
 
-pub defining_done : (v i : ℕ) (products : List (List Lit)) → length products ≤ i → defining (v + i) (drop i products) ≡ []
-defining_done v i products le = ap (defining (v + i)) (drop_all i products le)
+pub defining_done : (v i : ℕ) (products : List (List Lit)) → length products ≤ i → singles (defining (v + i) (drop i products)) ≡ []
+defining_done v i products le = ap (λ (ps : List (List Lit)). singles (defining (v + i) ps)) (drop_all i products le)
 
 -- all of them
-pub defining_begin : (v : ℕ) (products : List (List Lit)) → defining v products ≡ defining (v + 0) (drop 0 products)
-defining_begin v products = let same : v ≡ v + 0 = omega arith in ap (λ (n : ℕ). defining n products) same
+pub defining_begin : (v : ℕ) (products : List (List Lit)) → singles (defining v products) ≡ singles (defining (v + 0) (drop 0 products))
+defining_begin v products = let same : v ≡ v + 0 = omega arith in ap (λ (n : ℕ). singles (defining n products)) same

@@ -56,7 +56,7 @@ module _ (o : Options) (p : Problem) (within : IsWithinLimits p) where
   light : magnitude (objective_terms p) < 2 ^ 100
   light = light_terms (originals p) p.objective within.objective
 
-  offset_small : unsigned_abs (offset_of p) < 2 ^ 126
+  pub offset_small : unsigned_abs (offset_of p) < 2 ^ 126
   offset_small =
       let ts = objective_terms p in
       small (normal_degree ts (pos (2 ^ 100))) (omega (arith, normal_degree-le ts (pos (2 ^ 100)), light))

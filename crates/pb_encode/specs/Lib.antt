@@ -1,11 +1,17 @@
+pub mod BoundExamples
+pub mod BoundLines
+pub mod Bounds
 pub mod Clauses
 pub mod CostExamples
 pub mod Costs
 pub mod Derived
 pub mod Encodings
 pub mod Faults
+pub mod GroupExamples
+pub mod Groups
 pub mod Models
 pub mod Steps
 pub mod Summaries
+pub mod Tables
 pub mod Weighted
 pub mod laws

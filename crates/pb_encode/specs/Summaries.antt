@@ -1,18 +1,22 @@
 -- What is said of an encoded problem, and which problems are encoded. Our own.
-use Rattle.std.specs.Prelude.{ℕ, ◌+◌, ◌-◌, ◌≤◌, ◌<◌, ◌^◌, Bool, ◌==◌, List, [], ◌++◌, length, count_by, codes, decimal, if◌then◌else◌}
+use Rattle.std.specs.Prelude.{ℕ, ◌+◌, ◌-◌, ◌≤◌, ◌<◌, ◌^◌, Bool, ◌==◌, List, [], ◌++◌, length, sum_by, codes, decimal, if◌then◌else◌, Some, None}
 use Rattle.pb_base.specs.declared.limit.LimitKind.{LimitKind}
 use Rattle.pb_base.specs.declared.limit.LimitKind.TheVariants as limit
 use Rattle.pb_base.specs.declared.problem.Problem.{Problem}
 use Rattle.pb_norm.specs.Constraints.{Constraint}
-use Rattle.pb_norm.specs.Products.{loaded_of}
 use Rattle.pb_norm.specs.Reduction.{rest_of}
 use Rattle.pb_choice.specs.declared.options.Options.{Options}
 use Rattle.pb_choice.specs.declared.treatment.Treatment.{Treatment}
 use Rattle.pb_choice.specs.declared.treatment.Treatment.TheVariants as treatment
 use Rattle.pb_choice.specs.Choice.{treatment_of}
+use Rattle.pb_choice.specs.Equals.{is_joint}
 use Rattle.pb_encode.specs.declared.summary.Treatments.{Treatments}
 use Rattle.pb_encode.specs.declared.summary.Summary.{Summary}
-use Rattle.pb_encode.specs.Clauses.{clause_total, problem_vars}
+use Rattle.pb_gentot.specs.BoundTable.{table_fresh}
+use Rattle.pb_encode.specs.Clauses.{problem_count, problem_vars, table_first}
+use Rattle.pb_encode.specs.Groups.{Group, groups_of}
+use Rattle.pb_encode.specs.Groups.Group.{alone, paired}
+use Rattle.pb_encode.specs.Tables.{table_terms}
 
 -- ---- counts
 
@@ -34,23 +38,35 @@ place_of treatment.Adder = 10
 abbrev pub is_at : Options → ℕ → Constraint → Bool
 is_at o place c = place_of (treatment_of o (rest_of c)) == place
 
--- how many of the constraints are treated so
-abbrev pub treated : Options → ℕ → List Constraint → ℕ
-treated o place cs = count_by (is_at o place) cs
+abbrev pub counted_at : Options → ℕ → Constraint → ℕ
+counted_at o place c = if is_at o place c then 1 else 0
 
-abbrev pub treatments_of : Options → List Constraint → Treatments
-treatments_of o cs = record {
-  nothing = treated o 0 cs;
-  empty = treated o 1 cs;
-  clause = treated o 2 cs;
-  pairwise = treated o 3 cs;
-  ladder = treated o 4 cs;
-  product = treated o 5 cs;
-  counter = treated o 6 cs;
-  totalizer = treated o 7 cs;
-  diagram = treated o 8 cs;
-  tree = treated o 9 cs;
-  adder = treated o 10 cs;
+-- the place behind the treatments has both halves of an equality that is encoded as one
+abbrev pub joint_at : ℕ → ℕ
+joint_at place = if 11 == place then 2 else 0
+
+-- how many constraints of a group are treated so
+abbrev pub treated_in : Options → ℕ → Group → ℕ
+treated_in o place (alone c) = counted_at o place c
+treated_in o place (paired c d) = if is_joint o c then joint_at place else counted_at o place c + counted_at o place d
+
+abbrev pub treated : Options → ℕ → List Group → ℕ
+treated o place gs = sum_by (treated_in o place) gs
+
+abbrev pub treatments_of : Options → List Group → Treatments
+treatments_of o gs = record {
+  nothing = treated o 0 gs;
+  empty = treated o 1 gs;
+  clause = treated o 2 gs;
+  pairwise = treated o 3 gs;
+  ladder = treated o 4 gs;
+  product = treated o 5 gs;
+  counter = treated o 6 gs;
+  totalizer = treated o 7 gs;
+  diagram = treated o 8 gs;
+  tree = treated o 9 gs;
+  adder = treated o 10 gs;
+  joint = treated o 11 gs;
 }
 
 abbrev pub summary_of : Options → Problem → Summary
@@ -58,21 +74,24 @@ summary_of o p = record {
   vars = problem_vars o p;
   original = p.vars;
   products = length p.products;
-  clauses = clause_total o (loaded_of p);
-  treatments = treatments_of o (loaded_of p);
+  clauses = problem_count o p;
+  treatments = treatments_of o (groups_of p);
+  table = if o.table then Some (table_first o p) else None;
 }
 
 -- ---- which problems are encoded
 
--- there are not too many variables or clauses
+-- its table has no more fresh variables than the budget, and there are not too many variables or clauses
 pub record IsEncodable (o : Options) (p : Problem) : Type 0 where
+  pub bounds : table_fresh (table_terms o p) ≤ o.budget
   pub vars : problem_vars o p < 2 ^ 31
-  pub clauses : clause_total o (loaded_of p) ≤ 2 ^ 36
+  pub clauses : problem_count o p ≤ 2 ^ 36
 
--- what a problem passes that is not encoded: the variables before the clauses
+-- what a problem passes that is not encoded: the budget of its table before the variables, and these before the clauses
 abbrev pub IsOver : LimitKind → Options → Problem → Type 0
-IsOver limit.Variables o p = 2 ^ 31 ≤ problem_vars o p
-IsOver limit.Clauses o p = (problem_vars o p < 2 ^ 31) × (2 ^ 36 < clause_total o (loaded_of p))
+IsOver limit.Bounds o p = o.budget < table_fresh (table_terms o p)
+IsOver limit.Variables o p = (table_fresh (table_terms o p) ≤ o.budget) × (2 ^ 31 ≤ problem_vars o p)
+IsOver limit.Clauses o p = (table_fresh (table_terms o p) ≤ o.budget) × (problem_vars o p < 2 ^ 31) × (2 ^ 36 < problem_count o p)
 IsOver which o p = ⊥
 
 -- ---- the words
@@ -107,8 +126,12 @@ cardinality_counts t = codes " counter " ++ decimal t.counter ++ codes " totaliz
 abbrev pub weight_counts : Treatments → List ℕ
 weight_counts t = codes " diagram " ++ decimal t.diagram ++ codes " tree " ++ decimal t.tree ++ codes " adder " ++ decimal t.adder
 
+-- nothing is said where no equality is encoded as one
+abbrev pub joint_count : ℕ → List ℕ
+joint_count n = if n == 0 then [] else codes " joint " ++ decimal n
+
 abbrev pub treatments_line : Treatments → List ℕ
-treatments_line t = plain_counts t ++ at_most_one_counts t ++ cardinality_counts t ++ weight_counts t ++ codes "\n"
+treatments_line t = plain_counts t ++ at_most_one_counts t ++ cardinality_counts t ++ weight_counts t ++ joint_count t.joint ++ codes "\n"
 
 abbrev pub summary_text : Summary → List ℕ
 summary_text s = counts_line s ++ treatments_line s.treatments

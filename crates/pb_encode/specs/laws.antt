@@ -1,3 +1,4 @@
+pub mod Apart
 pub mod Files
 pub mod Sending
 pub mod SendingTexts

@@ -11,8 +11,8 @@ ghost use Rattle.pb_encode.specs.laws.Files.{LacksForProof, LeavesProof, StopsPr
 ghost use Rattle.pb_encode.specs.laws.Sending.{LacksFor, Stops};
 ghost use Rattle.pb_encode.specs.Summaries.{IsEncodable};
 
-use crate::derivation::stream_steps;
 use crate::fault::EncodeFault;
+use crate::whole::stream_steps;
 use pb_base::{Lits, Problem, Raw};
 use pb_choice::Options;
 use pb_desk::Desk;

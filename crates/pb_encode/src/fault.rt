@@ -11,7 +11,7 @@ use std::alloc::AllocError;
 /// Why a problem is not measured.
 #[derive(Clone, Copy, PartialEq, Eq, Debug)]
 pub enum MeasureFault {
-    /// There would be too many variables or clauses.
+    /// The table of bounds would have more fresh variables than the budget, or there would be too many variables or clauses.
     Limit { which: LimitKind },
     NoMemory,
 }
@@ -27,7 +27,8 @@ impl From<NoMemory> for MeasureFault {
 /// Why a problem is not encoded.
 #[derive(Clone, Copy, PartialEq, Eq, Debug)]
 pub enum EncodeFault {
-    /// There would be too many variables or clauses. Then no file is made.
+    /// The table of bounds would have more fresh variables than the budget, or there would be too many variables or clauses.
+    /// Then no file is made.
     Limit { which: LimitKind },
     /// A write failed, and the desk counted it.
     WriteFault,

@@ -1,26 +1,35 @@
 //! Encodes problems as clauses.
 #![tactic(auto)]
 
+mod bounds;
 mod derivation;
 mod derivation_file;
 mod derived;
 mod encoding;
+mod equality;
 mod fault;
 mod measuring;
 mod models;
+mod objective;
 mod streaming;
 mod summary;
+mod table;
 mod tally;
 mod weighing;
+mod whole;
 
-pub use derivation::stream_steps;
+pub use bounds::words_of;
 pub use derived::{cnf_tells_the_clauses, steps_derive_the_clauses};
 pub use encoding::{Names, encode};
 pub use fault::{EncodeFault, MeasureFault};
 pub use measuring::measure;
-pub use models::{clauses_force_what_constraints_do, clauses_have_the_solutions};
-pub use streaming::stream_clauses;
+pub use models::{
+    clauses_force_what_constraints_do, clauses_have_the_solutions, equalities_stand_apart,
+    rows_bound_the_objective,
+};
 pub use summary::{Summary, Treatments, summary_text};
+pub use table::table_of;
 pub use weighing::{
     costs_add_up, hard_clauses_have_the_costs, weighted, weighted_text_says_the_clauses,
 };
+pub use whole::{stream_clauses, stream_steps};

@@ -1,10 +1,15 @@
 //! What the clauses of a problem say.
+ghost use Rattle.std.specs.Prelude.{◌≡◌, ◌+◌, true};
 ghost use Rattle.pb_base.specs.declared.problem.Problem.{Problem};
-ghost use Rattle.pb_base.specs.Problems.{IsWithinLimits};
-ghost use Rattle.pb_norm.specs.Products.{loaded_of};
+ghost use Rattle.pb_base.specs.Problems.{IsWithinLimits, originals};
 ghost use Rattle.pb_choice.specs.declared.options.Options.{Options};
+ghost use Rattle.pb_encode.specs.Bounds.{bound_rows, TellBounds};
 ghost use Rattle.pb_encode.specs.Clauses.{problem_clauses, problem_vars};
+ghost use Rattle.pb_encode.specs.Groups.{groups_of};
 ghost use Rattle.pb_encode.specs.Models.{ForceEach, HasSolutionsOf};
+ghost use Rattle.pb_encode.specs.laws.Apart.{AreApart};
+
+use pb_choice::EqualMode;
 
 /// The law that the clauses of a problem have its solutions, under any options.
 pub fn clauses_have_the_solutions()
@@ -12,7 +17,20 @@ pub fn clauses_have_the_solutions()
 {}
 
 /// The law that unit propagation over all of them reaches what each loaded constraint forces, or a conflict, but for the
-/// constraints that are sent to the adder.
+/// constraints that are sent to the adder; and of an equality that is encoded as one what both halves force together, and each output
+/// of its totalizer that the leaves decide.
 pub fn clauses_force_what_constraints_do()
-    ensures { (o : Options) (p : Problem) → IsWithinLimits p → ForceEach o (problem_clauses o p) (loaded_of p) }
+    ensures { (o : Options) (p : Problem) → IsWithinLimits p → ForceEach o (problem_clauses o p) (originals p + 1) (groups_of p) }
+{}
+
+/// The law that where equalities are encoded half by half, the clauses and counts before those of a table are those of all loaded
+/// constraints, one after another.
+pub fn equalities_stand_apart()
+    ensures { (o : Options) (p : Problem) → o.equal ≡ EqualMode.Split → AreApart o p }
+{}
+
+/// The law that the rows of a problem's table of bounds have exactly the values that the offset and one or more costs add up to, and
+/// that in models a row's literal is false exactly where the objective is less than its value.
+pub fn rows_bound_the_objective()
+    ensures { (o : Options) (p : Problem) → IsWithinLimits p → o.table ≡ true → TellBounds p (problem_vars o p) (problem_clauses o p) (bound_rows o p) }
 {}

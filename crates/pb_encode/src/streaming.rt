@@ -2,19 +2,21 @@
 ghost use Rattle.std.specs.Prelude.{◌≡◌, ◌≤◌, ◌<◌, ◌+◌, ◌^◌, All, IfOk, length};
 ghost use Rattle.pb_base.specs.Problems.{IsProductWithin, IsWithinLimits, StaysBelow};
 ghost use Rattle.pb_norm.specs.Constraints.{weight};
-ghost use Rattle.pb_norm.specs.Halves.{half_of, constraints_of, loaded};
+ghost use Rattle.pb_norm.specs.Halves.{half_of};
 ghost use Rattle.pb_norm.specs.Products.{defining, product_constraints};
 ghost use Rattle.pb_family.specs.Families.{VarsBelow};
 ghost use Rattle.pb_family.specs.Handing.{HandsIfMemory};
 ghost use Rattle.pb_choice.specs.Clauses.{constraint_clauses, constraint_fresh};
-ghost use Rattle.pb_encode.specs.Clauses.{clauses_from, fresh_total, problem_clauses};
-ghost use Rattle.pb_encode.specs.Summaries.{IsEncodable};
+ghost use Rattle.pb_choice.specs.Equals.{equality_clauses, equality_fresh};
+ghost use Rattle.pb_encode.specs.Clauses.{clauses_from, fresh_total, loaded_clauses, loaded_vars, table_first};
+ghost use Rattle.pb_encode.specs.Groups.{group_clauses, group_fresh, group_of, singles, statement_groups};
 ghost use Rattle.pb_encode.specs.laws.Streams.{IsOverBelow, IsProductBelow};
 
-use pb_base::{Lit, Lits, Problem, Raw};
-use pb_choice::{Options, plan};
+use crate::equality::both_halves;
+use pb_base::{Lit, Lits, Problem, Raw, Relation};
+use pb_choice::{Options, plan, plan_equal};
 use pb_family::{ClauseSink, SinkFault};
-use pb_norm::{Half, Linear, halves_of, normalize, product_constraint, product_variable};
+use pb_norm::{Half, Linear, normalize, product_constraint, product_variable};
 use std::alloc::Global;
 
 // Hands over the clauses of a constraint, and gives the first number after its fresh variables.
@@ -50,9 +52,9 @@ fn stream_product<S: ClauseSink>(
     requires below { IsProductBelow first product.now literals.now }
     requires low { 1 ≤ first }
     requires modest { options.now.budget ≤ 10000000 }
-    requires fits { first + fresh_total options.now (product_constraints product.now literals.now) ≤ 2 ^ 31 }
-    ensures next { IfOk result (λ next. next ≡ first + fresh_total options.now (product_constraints product.now literals.now)) }
-    ensures hands { HandsIfMemory (clauses_from options.now first (product_constraints product.now literals.now)) result (S.state sink.old) (S.state sink.new) }
+    requires fits { first + fresh_total options.now (singles (product_constraints product.now literals.now)) ≤ 2 ^ 31 }
+    ensures next { IfOk result (λ next. next ≡ first + fresh_total options.now (singles (product_constraints product.now literals.now))) }
+    ensures hands { HandsIfMemory (clauses_from options.now first (singles (product_constraints product.now literals.now))) result (S.state sink.old) (S.state sink.new) }
 {
     let mut next = first;
     for place in 0..literals.len() + 1 {
@@ -74,9 +76,9 @@ fn stream_products<S: ClauseSink>(
     requires within { All (IsProductWithin vars) products.now }
     requires vars { vars + length products.now < first }
     requires modest { options.now.budget ≤ 10000000 }
-    requires fits { first + fresh_total options.now (defining (vars + 1) products.now) ≤ 2 ^ 31 }
-    ensures next { IfOk result (λ next. next ≡ first + fresh_total options.now (defining (vars + 1) products.now)) }
-    ensures hands { HandsIfMemory (clauses_from options.now first (defining (vars + 1) products.now)) result (S.state sink.old) (S.state sink.new) }
+    requires fits { first + fresh_total options.now (singles (defining (vars + 1) products.now)) ≤ 2 ^ 31 }
+    ensures next { IfOk result (λ next. next ≡ first + fresh_total options.now (singles (defining (vars + 1) products.now))) }
+    ensures hands { HandsIfMemory (clauses_from options.now first (singles (defining (vars + 1) products.now))) result (S.state sink.old) (S.state sink.new) }
 {
     let mut next = first;
     for (place, literals) in products.iter().enumerate() {
@@ -107,7 +109,52 @@ fn stream_half<S: ClauseSink>(
     stream_constraint(alloc, &constraint, options, first, sink)
 }
 
-// Hands over the clauses of a statement, those of its lower half first.
+// Hands over the clauses of an equality, given its halves, and gives the first number after its fresh variables.
+fn stream_pair<S: ClauseSink>(
+    alloc: Global,
+    lower: &Linear,
+    upper: &Linear,
+    options: &Options,
+    first: u32,
+    sink: &mut S,
+) -> Result<u32, SinkFault>
+    requires lower_light { weight lower.now.terms < 2 ^ 100 }
+    requires upper_light { weight upper.now.terms < 2 ^ 100 }
+    requires lower_vars { VarsBelow first lower.now.terms }
+    requires upper_vars { VarsBelow first upper.now.terms }
+    requires low { 1 ≤ first }
+    requires modest { options.now.budget ≤ 10000000 }
+    requires fits { first + equality_fresh options.now lower.now upper.now ≤ 2 ^ 31 }
+    ensures next { IfOk result (λ next. next ≡ first + equality_fresh options.now lower.now upper.now) }
+    ensures hands { HandsIfMemory (equality_clauses options.now lower.now upper.now first) result (S.state sink.old) (S.state sink.new) }
+{
+    let plan = plan_equal(alloc, lower, upper, options)?;
+    plan.emit(alloc, first, sink)?;
+    let next = first + plan.counts().fresh as u32;
+    Ok(next)
+}
+
+// Hands over the clauses of an equality, and gives the first number after its fresh variables.
+fn stream_equality<S: ClauseSink>(
+    alloc: Global,
+    statement: &Raw,
+    options: &Options,
+    first: u32,
+    sink: &mut S,
+) -> Result<u32, SinkFault>
+    requires numbers { StaysBelow (2 ^ 100) statement.now }
+    requires vars { IsOverBelow first statement.now }
+    requires low { 1 ≤ first }
+    requires modest { options.now.budget ≤ 10000000 }
+    requires fits { first + equality_fresh options.now (half_of Half.Lower statement.now) (half_of Half.Upper statement.now) ≤ 2 ^ 31 }
+    ensures next { IfOk result (λ next. next ≡ first + equality_fresh options.now (half_of Half.Lower statement.now) (half_of Half.Upper statement.now)) }
+    ensures hands { HandsIfMemory (equality_clauses options.now (half_of Half.Lower statement.now) (half_of Half.Upper statement.now) first) result (S.state sink.old) (S.state sink.new) }
+{
+    let both = both_halves(alloc, statement)?;
+    stream_pair(alloc, &both.lower, &both.upper, options, first, sink)
+}
+
+// Hands over the clauses of a statement, and gives the first number after its fresh variables.
 fn stream_statement<S: ClauseSink>(
     alloc: Global,
     statement: &Raw,
@@ -119,50 +166,53 @@ fn stream_statement<S: ClauseSink>(
     requires vars { IsOverBelow first statement.now }
     requires low { 1 ≤ first }
     requires modest { options.now.budget ≤ 10000000 }
-    requires fits { first + fresh_total options.now (constraints_of statement.now) ≤ 2 ^ 31 }
-    ensures next { IfOk result (λ next. next ≡ first + fresh_total options.now (constraints_of statement.now)) }
-    ensures hands { HandsIfMemory (clauses_from options.now first (constraints_of statement.now)) result (S.state sink.old) (S.state sink.new) }
+    requires fits { first + group_fresh options.now (group_of statement.now) ≤ 2 ^ 31 }
+    ensures next { IfOk result (λ next. next ≡ first + group_fresh options.now (group_of statement.now)) }
+    ensures hands { HandsIfMemory (group_clauses options.now (group_of statement.now) first) result (S.state sink.old) (S.state sink.new) }
 {
-    let mut next = first;
-    for half in halves_of(statement.relation) {
-        next = stream_half(alloc, statement, *half, options, next, sink)?;
+    match statement.relation {
+        Relation::AtLeast => stream_half(alloc, statement, Half::Lower, options, first, sink),
+        Relation::AtMost => stream_half(alloc, statement, Half::Upper, options, first, sink),
+        Relation::Equal => stream_equality(alloc, statement, options, first, sink),
     }
-    Ok(next)
 }
 
-// Hands over the clauses of all statements.
+// Hands over the clauses of all statements, and gives the first number after their fresh variables.
 fn stream_statements<S: ClauseSink>(
     alloc: Global,
     statements: &[Raw],
     options: &Options,
     first: u32,
     sink: &mut S,
-) -> Result<(), SinkFault>
+) -> Result<u32, SinkFault>
     requires numbers { All (StaysBelow (2 ^ 100)) statements.now }
     requires vars { All (IsOverBelow first) statements.now }
     requires low { 1 ≤ first }
     requires modest { options.now.budget ≤ 10000000 }
-    requires fits { first + fresh_total options.now (loaded statements.now) ≤ 2 ^ 31 }
-    ensures { HandsIfMemory (clauses_from options.now first (loaded statements.now)) result (S.state sink.old) (S.state sink.new) }
+    requires fits { first + fresh_total options.now (statement_groups statements.now) ≤ 2 ^ 31 }
+    ensures next { IfOk result (λ next. next ≡ first + fresh_total options.now (statement_groups statements.now)) }
+    ensures hands { HandsIfMemory (clauses_from options.now first (statement_groups statements.now)) result (S.state sink.old) (S.state sink.new) }
 {
     let mut next = first;
     for statement in statements {
         next = stream_statement(alloc, statement, options, next, sink)?;
     }
-    Ok(())
+    Ok(next)
 }
 
-/// Hands over the clauses of a problem, of which nothing is kept but what one constraint needs.
-pub fn stream_clauses<S: ClauseSink>(
+/// Hands over the clauses of all constraints of a problem, of which nothing is kept but what one statement needs, and gives the
+/// first number after their fresh variables.
+pub fn stream_loaded<S: ClauseSink>(
     alloc: Global,
     problem: &Problem,
     options: &Options,
     sink: &mut S,
-) -> Result<(), SinkFault>
+) -> Result<u32, SinkFault>
     requires within { IsWithinLimits problem.now }
-    requires encodable { IsEncodable options.now problem.now }
+    requires fits { loaded_vars options.now problem.now < 2 ^ 31 }
     requires modest { options.now.budget ≤ 10000000 }
-    ensures { HandsIfMemory (problem_clauses options.now problem.now) result (S.state sink.old) (S.state sink.new) }
+    ensures next { IfOk result (λ next. next ≡ table_first options.now problem.now) }
+    ensures hands { HandsIfMemory (loaded_clauses options.now problem.now) result (S.state sink.old) (S.state sink.new) }
 {
     let products = problem.products.as_slice();
     let statements = problem.statements.as_slice();

@@ -1,6 +1,6 @@
 //! What is said of an encoded problem.
 ghost use Rattle.std.specs.Prelude.{◌≡◌, ◌≤◌, ◌+◌, ◌++◌, IfOk, OnOk, decimal};
-ghost use Rattle.pb_encode.specs.Summaries.{at_most_one_counts, cardinality_counts, counts_line, plain_counts, products_count, summary_text, treatments_line, variables_count, weight_counts};
+ghost use Rattle.pb_encode.specs.Summaries.{at_most_one_counts, cardinality_counts, counts_line, joint_count, plain_counts, products_count, summary_text, treatments_line, variables_count, weight_counts};
 
 use itoa::Buffer;
 use std::alloc::{AllocError, Global};
@@ -19,6 +19,8 @@ pub struct Treatments {
     pub diagram: u64,
     pub tree: u64,
     pub adder: u64,
+    /// Two for each equality whose halves are encoded as one.
+    pub joint: u64,
 }
 
 /// The size of an encoding.
@@ -32,10 +34,12 @@ pub struct Summary {
     pub products: u32,
     pub clauses: u64,
     pub treatments: Treatments,
+    /// The number from which the table of bounds numbers its fresh variables, where a table is asked for; it may have none.
+    pub table: Option<u32>,
 }
 
-// Appends a name and a count.
-fn push_count(out: &mut Vec<u8>, name: &[u8], count: u64) -> Result<(), AllocError>
+/// Appends a name and a count.
+pub fn push_count(out: &mut Vec<u8>, name: &[u8], count: u64) -> Result<(), AllocError>
     ensures { OnOk result (out.new.items ≡ out.old.items ++ name.now ++ decimal count) }
 {
     out.extend_from_slice(name)?;
@@ -111,6 +115,16 @@ fn push_weights(out: &mut Vec<u8>, treatments: &Treatments) -> Result<(), AllocE
     push_count(out, b" adder ", treatments.adder)
 }
 
+// Appends how many are encoded together with the other half of an equality, if any.
+fn push_joint(out: &mut Vec<u8>, joint: u64) -> Result<(), AllocError>
+    ensures { OnOk result (out.new.items ≡ out.old.items ++ joint_count joint) }
+{
+    if joint == 0 {
+        return Ok(());
+    }
+    push_count(out, b" joint ", joint)
+}
+
 // Appends the line of the treatments.
 fn push_treatments(out: &mut Vec<u8>, treatments: &Treatments) -> Result<(), AllocError>
     ensures { OnOk result (out.new.items ≡ out.old.items ++ treatments_line treatments.now) }
@@ -119,6 +133,7 @@ fn push_treatments(out: &mut Vec<u8>, treatments: &Treatments) -> Result<(), All
     push_at_most_one(out, treatments)?;
     push_cardinalities(out, treatments)?;
     push_weights(out, treatments)?;
+    push_joint(out, treatments.joint)?;
     out.push(b'\n')?;
     Ok(())
 }

@@ -1,25 +1,28 @@
 //! Counts of what is encoded.
-ghost use Rattle.std.specs.Prelude.{◌≡◌, ◌<◌, ◌^◌, [], ◌∷◌, List, length};
+ghost use Rattle.std.specs.Prelude.{◌≡◌, ◌<◌, ◌^◌, [], ◌∷◌, List};
 ghost use Rattle.pb_norm.specs.Constraints.{Constraint};
 ghost use Rattle.pb_choice.specs.declared.options.Options.{Options};
+ghost use Rattle.pb_choice.specs.laws.EqualPlans.{HasPartsOf, IsEqualPlan};
+ghost use Rattle.pb_encode.specs.Groups.{Group, size_total};
+ghost use Rattle.pb_encode.specs.Groups.Group.{alone, paired};
 ghost use Rattle.pb_encode.specs.Summaries.{place_of, treated, treatments_of};
 
 use crate::summary::Treatments;
-use pb_choice::{Plan, Treatment};
+use pb_choice::{EqualPlan, Plan, Treatment};
 
 /// How many fresh variables and clauses there are, and how many constraints of each treatment, in the order of the
-/// summary. A count stands still at the end of its type.
+/// summary, with those of equalities that are encoded as one behind them. A count stands still at the end of its type.
 #[derive(Drop)]
 pub struct Tally {
     pub fresh: u64,
     pub clauses: u64,
-    pub treated: [u64; 11],
+    pub treated: [u64; 12],
 }
 
 // The place of a treatment in the summary.
 fn place_of(treatment: Treatment) -> usize
     ensures place { result ≡ place_of treatment }
-    ensures within { result < 11 }
+    ensures within { result < 12 }
 {
     match treatment {
         Treatment::Nothing => 0,
@@ -37,7 +40,7 @@ fn place_of(treatment: Treatment) -> usize
 }
 
 impl Tally {
-    ghost use Rattle.pb_encode.specs.laws.Tallies.{Counts, IsTally};
+    ghost use Rattle.pb_encode.specs.laws.Tallies.{AddsJoint, Counts, IsTally};
 
     /// Of no constraint.
     pub fn new() -> Self
@@ -46,13 +49,13 @@ impl Tally {
         Tally {
             fresh: 0,
             clauses: 0,
-            treated: [0; 11],
+            treated: [0; 12],
         }
     }
 
     /// Counts one more constraint.
     pub fn add(&mut self, plan: &Plan)
-        ensures { Counts plan.now.options self.old self.new (plan.now.constraint.now ∷ []) }
+        ensures { Counts plan.now.options self.old self.new (alone plan.now.constraint.now ∷ []) }
     {
         let counts = plan.counts();
         self.fresh = self.fresh.saturating_add(counts.fresh);
@@ -61,17 +64,42 @@ impl Tally {
         self.treated[place] = self.treated[place].saturating_add(1);
     }
 
+    // Counts the two halves of an equality that is encoded as one.
+    fn add_joint(&mut self, fresh: u64, clauses: u64)
+        ensures { AddsJoint fresh clauses self.old self.new }
+    {
+        self.fresh = self.fresh.saturating_add(fresh);
+        self.clauses = self.clauses.saturating_add(clauses);
+        self.treated[11] = self.treated[11].saturating_add(2);
+    }
+
+    /// Counts the two halves of one more equality.
+    pub fn add_equal(&mut self, plan: &EqualPlan<'_>)
+        ensures { (o : Options) (c d : Constraint) → IsEqualPlan o c d plan.now → HasPartsOf o c d plan.now → Counts o self.old self.new (paired c d ∷ []) }
+    {
+        match plan {
+            EqualPlan::Joint { exact: _, a: _ } => {
+                let counts = plan.counts();
+                self.add_joint(counts.fresh, counts.clauses);
+            }
+            EqualPlan::Split(lower, upper) => {
+                self.add(lower);
+                self.add(upper);
+            }
+        }
+    }
+
     // How many constraints have the treatment of a place.
     fn treated_at(&self, place: usize) -> u64
-        requires { place < 11 }
-        ensures { (o : Options) (cs : List Constraint) → length cs < 2 ^ 64 → IsTally o cs self.now → result ≡ treated o place cs }
+        requires { place < 12 }
+        ensures { (o : Options) (gs : List Group) → size_total gs < 2 ^ 64 → IsTally o gs self.now → result ≡ treated o place gs }
     {
         self.treated[place]
     }
 
     /// The counts of the treatments, as they are said.
     pub fn treatments(&self) -> Treatments
-        ensures { (o : Options) (cs : List Constraint) → length cs < 2 ^ 64 → IsTally o cs self.now → result ≡ treatments_of o cs }
+        ensures { (o : Options) (gs : List Group) → size_total gs < 2 ^ 64 → IsTally o gs self.now → result ≡ treatments_of o gs }
     {
         Treatments {
             nothing: self.treated_at(0),
@@ -85,6 +113,7 @@ impl Tally {
             diagram: self.treated_at(8),
             tree: self.treated_at(9),
             adder: self.treated_at(10),
+            joint: self.treated_at(11),
         }
     }
 }

@@ -1,8 +1,8 @@
 //! A problem's weighted CNF: its clauses, which are hard, and its objective as soft literals.
-ghost use Rattle.std.specs.Prelude.{◌≡◌, ◌≤◌, ◌-ℤ◌, ◌^◌, false, map, pos, Err, IsTrue, IfOk, IfErr, OnOk};
+ghost use Rattle.std.specs.Prelude.{◌≡◌, ◌≤◌, false, map, Err, IsTrue, IfOk, IfErr, OnOk};
 ghost use Rattle.pb_base.specs.declared.limit.LimitKind.{LimitKind};
 ghost use Rattle.pb_base.specs.declared.problem.Problem.{Problem};
-ghost use Rattle.pb_base.specs.Problems.{IsWithinLimits, objective_terms};
+ghost use Rattle.pb_base.specs.Problems.{IsWithinLimits};
 ghost use Rattle.pb_norm.specs.Reduction.{opposite};
 ghost use Rattle.pb_family.specs.Handing.{HandsText};
 ghost use Rattle.pb_choice.specs.declared.options.Options.{Options};
@@ -20,43 +20,16 @@ ghost use Rattle.pb_encode.specs.Weighted.{weighted_text, HasCostsOf, IsWeighted
 
 use crate::fault::EncodeFault;
 use crate::measuring::measure;
-use crate::streaming::stream_clauses;
+use crate::objective::{objective_form, offset_by};
 use crate::summary::Summary;
-use pb_base::{Failed, NoMemory, Problem, Term, WEIGHT_BITS};
+use crate::whole::stream_clauses;
+use pb_base::{Failed, Problem};
 use pb_choice::Options;
 use pb_desk::Desk;
 use pb_dimacs::{HardWriter, Outbox};
 use pb_family::{ClauseSink, SinkFault};
-use pb_norm::{Linear, written};
+use pb_norm::Linear;
 use std::alloc::Global;
-
-// What the objective is asked to reach, and never does.
-const FAR: i128 = 1 << WEIGHT_BITS;
-
-// The terms of the objective, if there is one.
-fn objective_of(problem: &Problem) -> &[Term]
-    ensures { result.now ≡ objective_terms problem.now }
-{
-    match &problem.objective {
-        Some(terms) => terms.as_slice(),
-        None => &[],
-    }
-}
-
-// The objective in normal form.
-fn objective_form(alloc: Global, problem: &Problem) -> Result<Linear, NoMemory>
-    requires { IsWithinLimits problem.now }
-    ensures { IfOk result (λ form. form ≡ objective_form problem.now) }
-{
-    written(alloc, objective_of(problem), FAR)
-}
-
-// What the costs are added to.
-fn offset_by(objective: &Linear) -> i128
-    ensures { result ≡ pos (2 ^ 100) -ℤ pos objective.now.degree }
-{
-    FAR - objective.degree() as i128
-}
 
 // Hands over the soft lines: for each term of the objective that its literal is to be false.
 fn send_softs<'a, D: Desk>(objective: &Linear, writer: &mut HardWriter<'a, D>) -> Result<(), Failed>

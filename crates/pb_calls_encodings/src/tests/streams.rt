@@ -27,6 +27,28 @@ fn streamed_text(alloc: Global, text: &str, left: u32) -> Option<String> {
     streamed(alloc, &problem, left)
 }
 
+// The size of a problem's encoding with a table of bounds, and its clauses.
+fn tabled(alloc: Global, problem: &Problem) -> Option<String>
+    requires { IsWithinLimits problem.now }
+{
+    let mut options = Options::default();
+    options.table = true;
+    let summary = measure(alloc, problem, &options).ok()?;
+    let mut sink = ShortSink::new(alloc, 9);
+    stream_clauses(alloc, problem, &options, &mut sink).ok()?;
+    let lines = str::from_utf8(sink.text()).ok()?;
+    format!(in alloc;
+        "{} {} {:?}\n{lines}",
+        summary.vars, summary.clauses, summary.table
+    )
+    .ok()
+}
+
+fn tabled_text(alloc: Global, text: &str) -> Option<String> {
+    let problem = read_opb(alloc, text.as_bytes()).ok()?;
+    tabled(alloc, &problem)
+}
+
 #[test]
 fn sinks_that_fail(rt: HostRuntime) -> Result<(), Fail> {
     let cases = [
@@ -38,5 +60,13 @@ fn sinks_that_fail(rt: HostRuntime) -> Result<(), Fail> {
         let found = streamed_text(rt.alloc(), "+1 x1 +1 x2 = 1 ;", left);
         assert_eq!(rt; found.as_deref(), Some(expected));
     }
+    Ok(())
+}
+
+#[test]
+fn tables_come_last(rt: HostRuntime) -> Result<(), Fail> {
+    let found = tabled_text(rt.alloc(), "min: +3 x1 -1 ~x2 ;\n+1 x1 +1 x2 >= 1 ;\n");
+    let lines = "5 6 Some(3)\n1 2 0\n-1 4 0\n-2 3 0\n-1 -2 5 0\n-4 3 0\n-5 4 0\n";
+    assert_eq!(rt; found.as_deref(), Some(lines));
     Ok(())
 }

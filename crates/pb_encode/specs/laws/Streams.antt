@@ -1,9 +1,17 @@
--- Products and statements whose variables are below a number, and steps for which there are ids.
-use Rattle.std.specs.Prelude.{ℕ, ◌+◌, ◌≤◌, ◌<◌, ◌^◌, List, All, count_by, length}
+-- Products and statements whose variables are below a number.
+use Rattle.std.specs.Prelude.{ℕ, ◌+◌, ◌≤◌, ◌<◌, ◌^◌, List, All, length}
 use Rattle.pb_base.specs.declared.literal.Lit.{Lit}
+use Rattle.pb_base.specs.declared.problem.Problem.{Problem}
 use Rattle.pb_base.specs.declared.problem.Raw.{Raw}
+use Rattle.pb_base.specs.Problems.{originals}
 use Rattle.pb_steps.specs.declared.step.Step.{Step}
-use Rattle.pb_steps.specs.Steps.{takes_id}
+use Rattle.pb_derive.specs.FollowedBy.{followed_by}
+use Rattle.pb_choice.specs.declared.options.Options.{Options}
+use Rattle.pb_gentot.specs.BoundTableSteps.{table_steps}
+use Rattle.pb_encode.specs.Clauses.{table_first}
+use Rattle.pb_encode.specs.Groups.{groups_of}
+use Rattle.pb_encode.specs.Steps.{steps_from}
+use Rattle.pb_encode.specs.Tables.{table_terms}
 
 -- a product and its literals are of variables below a number, and the literals are no more than the terms of a sum
 pub record IsProductBelow (first : ℕ) (z : Lit) (ls : List Lit) : Type 0 where
@@ -14,6 +22,6 @@ pub record IsProductBelow (first : ℕ) (z : Lit) (ls : List Lit) : Type 0 where
 abbrev pub IsOverBelow : ℕ → Raw → Type 0
 IsOverBelow first s = All (λ t. t.lit.var < first) s.terms
 
--- the ids of steps from the next one on are within a bound
-abbrev pub LeavesIds : (ℕ → List Step) → ℕ → Type 0
-LeavesIds steps next = next + count_by takes_id (steps next) ≤ 2 ^ 60
+-- the derivations of all constraints and that of the table, where the constraints stand under the ids from 1 on
+abbrev pub steps_at_next : Options → Problem → ℕ → List Step
+steps_at_next o p next = followed_by (steps_from o (originals p + 1) 1 (groups_of p)) (table_steps (table_terms o p) (table_first o p)) next

@@ -1,5 +1,6 @@
-use Rattle.std.proofs.Common.{arith}
+use Rattle.std.proofs.Common.{ap, arith}
 use Rattle.pb_norm.proofs.ProductLemmas.{product_all}
+use Rattle.pb_encode.specs.Groups.{singles}
 use Rattle.pb_encode.proofs.CountingLoops.{counts_clause, counts_none, counts_same}
 use Rattle.pb_encode.proofs.ProductFits.{clause_light}
 use Rattle.pb_encode.proofs.measuring.count_product.Goals as goal
@@ -18,4 +19,4 @@ loop-place-preserved c =
 
 pub returns : goal.returns
 returns c =
-    counts_same c.args.options.now _ c.loop-place.tally _ _ (product_all c.args.product.now c.args.literals.now c.loop-place.place (omega (arith, c.loop-place-test.false))) c.loop-place.invariant
+    counts_same c.args.options.now _ c.loop-place.tally _ _ (ap singles (product_all c.args.product.now c.args.literals.now c.loop-place.place (omega (arith, c.loop-place-test.false)))) c.loop-place.invariant

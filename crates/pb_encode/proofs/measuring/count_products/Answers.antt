@@ -1,5 +1,7 @@
-use Rattle.std.proofs.Common.{◌+◌, ap, take_all, rules}
+use Rattle.std.proofs.Common.{◌+◌, List, ap, take_all, rules}
+use Rattle.pb_base.specs.declared.literal.Lit.{Lit}
 use Rattle.pb_norm.specs.Products.{defining}
+use Rattle.pb_encode.specs.Groups.{singles}
 use Rattle.pb_encode.proofs.CountingLoops.{counts_none, counts_product, counts_same}
 use Rattle.pb_encode.proofs.measuring.count_products.Goals as goal
 
@@ -13,4 +15,4 @@ loop-place-preserved c =
 
 pub returns : goal.returns
 returns c =
-    counts_same c.args.options.now _ c.loop-place.tally _ _ (ap (defining (c.args.vars + 1)) (take_all c.loop-place.place c.args.products.now c.loop-place-test.false)) c.loop-place.invariant
+    counts_same c.args.options.now _ c.loop-place.tally _ _ (ap (λ (ps : List (List Lit)). singles (defining (c.args.vars + 1) ps)) (take_all c.loop-place.place c.args.products.now c.loop-place-test.false)) c.loop-place.invariant

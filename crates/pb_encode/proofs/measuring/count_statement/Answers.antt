@@ -1,12 +1,19 @@
-use Rattle.pb_norm.specs.declared.halves.Half.TheVariants.{Lower}
-use Rattle.pb_encode.proofs.CountingLoops.{counts_half, counts_all, counts_none}
+use Rattle.std.proofs.Common.{[], ◌∷◌, sym, subst}
+use Rattle.std.specs.Prelude.{OnOk}
+use Rattle.pb_base.specs.declared.problem.Relation.{Relation}
+use Rattle.pb_encode.specs.Groups.{grouped}
+use Rattle.pb_encode.specs.laws.Tallies.{Counts}
 use Rattle.pb_encode.proofs.measuring.count_statement.Goals as goal
 
-pub loop-half-init : goal.loop-half-init
-loop-half-init c = counts_none c.args.options.now c.args.tally.now
+pub returns-in-AtLeast : goal.returns-in-AtLeast
+returns-in-AtLeast c =
+    subst (λ (r : Relation). OnOk c.count_half.result (Counts c.args.options.now c.args.tally.now c.count_half.new.tally (grouped r c.args.statement.now ∷ []))) (sym c.in-AtLeast.is) c.count_half.ensures
 
-pub loop-half-preserved : goal.loop-half-preserved
-loop-half-preserved c = counts_half c.args.options.now c.args.statement.now c.halves_of-half-items.result.now c.loop-half.half-index Lower _ c.loop-half.tally c.count_half.new.tally c.loop-half-test.true c.loop-half.invariant c.in_ok-count_half.ensures
+pub returns-in-AtMost : goal.returns-in-AtMost
+returns-in-AtMost c =
+    subst (λ (r : Relation). OnOk c.count_half-in-AtMost.result (Counts c.args.options.now c.args.tally.now c.count_half-in-AtMost.new.tally (grouped r c.args.statement.now ∷ []))) (sym c.in-AtMost.is)
+    c.count_half-in-AtMost.ensures
 
-pub returns : goal.returns
-returns c = counts_all c.args.options.now c.args.statement.now c.halves_of-half-items.result.now c.loop-half.half-index _ c.loop-half.tally c.halves_of-half-items.ensures c.loop-half-test.false c.loop-half.invariant
+pub returns-in-Equal : goal.returns-in-Equal
+returns-in-Equal c =
+    subst (λ (r : Relation). OnOk c.count_equality.result (Counts c.args.options.now c.args.tally.now c.count_equality.new.tally (grouped r c.args.statement.now ∷ []))) (sym c.in-Equal.is) c.count_equality.ensures

@@ -1,5 +1,5 @@
 use Rattle.std.proofs.Common.{ap, take_all}
-use Rattle.pb_norm.specs.Halves.{loaded}
+use Rattle.pb_encode.specs.Groups.{statement_groups}
 use Rattle.pb_encode.proofs.CountingLoops.{counts_none, counts_same, counts_statement}
 use Rattle.pb_encode.proofs.measuring.count_statements.Goals as goal
 
@@ -13,4 +13,4 @@ loop-statement-preserved c =
 
 pub returns : goal.returns
 returns c =
-    counts_same c.args.options.now _ c.loop-statement.tally _ _ (ap loaded (take_all c.loop-statement.statement-index c.args.statements.now c.loop-statement-test.false)) c.loop-statement.invariant
+    counts_same c.args.options.now _ c.loop-statement.tally _ _ (ap statement_groups (take_all c.loop-statement.statement-index c.args.statements.now c.loop-statement-test.false)) c.loop-statement.invariant

@@ -2,8 +2,8 @@ use Rattle.std.proofs.Common.{◌≤◌, ◌+◌, ◌^◌, ◌++◌, [], List, A
 use Rattle.pb_base.specs.declared.literal.Lit.{Lit}
 use Rattle.pb_base.specs.declared.problem.Raw.{Raw}
 use Rattle.pb_base.specs.Problems.{StaysBelow}
-use Rattle.pb_norm.specs.Halves.{loaded}
 use Rattle.pb_norm.specs.Products.{defining}
+use Rattle.pb_encode.specs.Groups.{singles, statement_groups}
 use Rattle.pb_encode.specs.laws.Tallies.{IsTally}
 use Rattle.pb_encode.proofs.ProductFits.{all_short}
 use Rattle.pb_encode.proofs.measuring.tally_of.Goals as goal
@@ -23,7 +23,7 @@ returns c =
     let o = c.args.options.now in
     let p = c.args.problem.now in
     let tally = c.count_statements.new.tally in
-    let products : IsTally o (defining (p.vars + 1) c.as_slice-products.result.now) c.count_products.new.tally = c.in_ok-count_products.ensures [] (c.new-tally.ensures o) in
-    let both = c.in_ok-count_statements.ensures (defining (p.vars + 1) c.as_slice-products.result.now) products in
-    subst (λ (ss : List Raw). IsTally o (defining (p.vars + 1) p.products ++ loaded ss) tally) c.as_slice-statements.ensures
-    (subst (λ (ps : List (List Lit)). IsTally o (defining (p.vars + 1) ps ++ loaded c.as_slice-statements.result.now) tally) c.as_slice-products.ensures both)
+    let products : IsTally o (singles (defining (p.vars + 1) c.as_slice-products.result.now)) c.count_products.new.tally = c.in_ok-count_products.ensures [] (c.new-tally.ensures o) in
+    let both = c.in_ok-count_statements.ensures (singles (defining (p.vars + 1) c.as_slice-products.result.now)) products in
+    subst (λ (ss : List Raw). IsTally o (singles (defining (p.vars + 1) p.products) ++ statement_groups ss) tally) c.as_slice-statements.ensures
+    (subst (λ (ps : List (List Lit)). IsTally o (singles (defining (p.vars + 1) ps) ++ statement_groups c.as_slice-statements.result.now) tally) c.as_slice-products.ensures both)

@@ -1,4 +1,4 @@
-use Rattle.pb_encode.proofs.Solutions.{problem_forces}
+use Rattle.pb_encode.proofs.ForcedGroups.{problem_forces}
 use Rattle.pb_encode.proofs.models.clauses_force_what_constraints_do.Goals as goal
 
 pub returns : goal.returns

@@ -1,8 +1,8 @@
 use Rattle.std.proofs.Common.{◌≡◌, ◌+◌, List, drop, ap, subst, rules, arith}
 use Rattle.pb_base.specs.declared.literal.Lit.{Lit}
 use Rattle.pb_base.specs.Problems.{IsProductWithin}
-use Rattle.pb_norm.specs.Constraints.{Constraint}
 use Rattle.pb_norm.specs.Products.{defining, product_constraints}
+use Rattle.pb_encode.specs.Groups.{Group, singles}
 use Rattle.pb_encode.proofs.ProductFits.{within_below}
 use Rattle.pb_encode.proofs.StreamSteps.{Streams, defining_begin, defining_done, defining_rest, streams_all, streams_fit, streams_more, streams_next, streams_none, streams_stop}
 use Rattle.pb_encode.proofs.streaming.stream_products.Goals as goal
@@ -12,7 +12,7 @@ loop-place-init g c =
     let v = c.args.vars + 1 in
     let products = c.args.products.now in
     let a = g.S.ClauseSink.state c.args.sink.now in
-    subst (λ (left : List Constraint). Streams c.args.options.now c.args.first (defining v products) left c.args.first a a) (defining_begin v products) (streams_none c.args.options.now c.args.first (defining v products) a)
+    subst (λ (left : List Group). Streams c.args.options.now c.args.first (singles (defining v products)) left c.args.first a a) (defining_begin v products) (streams_none c.args.options.now c.args.first (singles (defining v products)) a)
 
 pub stream_product-requires-clause-below : goal.stream_product-requires-clause-below
 stream_product-requires-clause-below g c =
@@ -32,7 +32,7 @@ stream_product-requires-clause-fits g c =
     let i = c.loop-place.place in
     let z : Lit = c.product_variable-product.result in
     let ls : List Lit = c.as_slice.result.now in
-    streams_fit c.args.options.now c.args.first c.loop-place.next (defining v products) (product_constraints z ls) _ _ _ _
+    streams_fit c.args.options.now c.args.first c.loop-place.next (singles (defining v products)) (singles (product_constraints z ls)) _ _ _ _
     (defining_rest v i z products ls c.loop-place-test.true c.product_variable-product.ensures (search rules)) c.loop-place.invariant c.requires.fits
 
 pub returns-in_err-next-clause-hands : goal.returns-in_err-next-clause-hands
@@ -42,7 +42,7 @@ returns-in_err-next-clause-hands g c =
     let i = c.loop-place.place in
     let z : Lit = c.product_variable-product.result in
     let ls : List Lit = c.as_slice.result.now in
-    streams_stop c.args.options.now c.args.first c.loop-place.next (defining v products) (product_constraints z ls) (defining (v + (i + 1)) (drop (i + 1) products)) _ _ _ _ c.from_residual.result c.in_err-next.field-0.0
+    streams_stop c.args.options.now c.args.first c.loop-place.next (singles (defining v products)) (singles (product_constraints z ls)) (singles (defining (v + (i + 1)) (drop (i + 1) products))) _ _ _ _ c.from_residual.result c.in_err-next.field-0.0
     (defining_rest v i z products ls c.loop-place-test.true c.product_variable-product.ensures (search rules)) c.from_residual.ensures.1 c.loop-place.invariant c.in_err-next.ensures.hands
 
 pub loop-place-preserved : goal.loop-place-preserved
@@ -52,17 +52,17 @@ loop-place-preserved g c =
     let i = c.loop-place.place in
     let z : Lit = c.product_variable-product.result in
     let ls : List Lit = c.as_slice.result.now in
-    streams_more c.args.options.now c.args.first c.loop-place.next c.in_ok-next.next (defining v products) (product_constraints z ls) (defining (v + (i + 1)) (drop (i + 1) products)) _ _ _ _
+    streams_more c.args.options.now c.args.first c.loop-place.next c.in_ok-next.next (singles (defining v products)) (singles (product_constraints z ls)) (singles (defining (v + (i + 1)) (drop (i + 1) products))) _ _ _ _
     (defining_rest v i z products ls c.loop-place-test.true c.product_variable-product.ensures (search rules)) c.in_ok-next.ensures.next c.loop-place.invariant c.in_ok-next.ensures.hands
 
 pub returns-clause-next : goal.returns-clause-next
 returns-clause-next g c =
     let v = c.args.vars + 1 in
     let products = c.args.products.now in
-    streams_next c.args.options.now c.args.first c.loop-place.next (defining v products) _ _ _ (defining_done v c.loop-place.place products c.loop-place-test.false) c.loop-place.invariant
+    streams_next c.args.options.now c.args.first c.loop-place.next (singles (defining v products)) _ _ _ (defining_done v c.loop-place.place products c.loop-place-test.false) c.loop-place.invariant
 
 pub returns-clause-hands : goal.returns-clause-hands
 returns-clause-hands g c =
     let v = c.args.vars + 1 in
     let products = c.args.products.now in
-    streams_all c.args.options.now c.args.first c.loop-place.next (defining v products) _ _ _ (defining_done v c.loop-place.place products c.loop-place-test.false) c.loop-place.invariant
+    streams_all c.args.options.now c.args.first c.loop-place.next (singles (defining v products)) _ _ _ (defining_done v c.loop-place.place products c.loop-place-test.false) c.loop-place.invariant

@@ -52,3 +52,6 @@ returns-in_err-close-clause-write_fault g c = λ is.
       encodable = c.in_ok-summary.ensures.encodable;
       stops = in_text (length text) (then_fails_to_write (begun 0 name text) same (begun 0 name (take (length text) text)) a d e (λ v. ap (λ (xs : List ℕ). begun 0 name xs v) (sym (take-length text))) begun_is c.in_err-close.ensures.failed);
     }
+
+pub returns-clause-summary : goal.returns-clause-summary
+returns-clause-summary g c = c.in_ok-summary.ensures.summary

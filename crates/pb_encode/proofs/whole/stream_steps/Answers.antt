@@ -1,11 +1,10 @@
-use Rattle.std.proofs.Common.{◌≡◌, ◌+◌, ◌-◌, [], ◌∷◌, arith, length}
-use Rattle.pb_base.specs.Problems.{originals}
+use Rattle.std.proofs.Common.{◌≡◌, ◌-◌, [], ◌∷◌, arith, length}
 use Rattle.pb_norm.specs.Products.{loaded_of}
 use Rattle.pb_steps.specs.declared.step.Step.TheVariants.{Head}
 use Rattle.pb_family.proofs.Deriving.{deriving_starts, steps_fault}
 use Rattle.pb_encode.specs.Steps.{problem_steps}
-use Rattle.pb_encode.proofs.ProblemSteps.{count_stops, end_last, end_small, head_small, start_small, steps_leave, steps_stop}
-use Rattle.pb_encode.proofs.derivation.stream_steps.Goals as goal
+use Rattle.pb_encode.proofs.ProblemSteps.{count_stops, end_last, end_small, head_small, start_small, steps_stop, whole_next}
+use Rattle.pb_encode.proofs.whole.stream_steps.Goals as goal
 
 pub step-requires : goal.step-requires
 step-requires g c =
@@ -33,29 +32,25 @@ returns-in_err-step-2 g c =
     count_stops c.args.options.now p c.requires.within c.requires.encodable a b d d c.requires.next c.in_ok-step.ensures.hands (c.next_id-count.result - 1) count_is
     c.from_residual-in_err-step-2.result c.in_err-step-2.field-0.0 c.from_residual-in_err-step-2.ensures.1 c.in_err-step-2.ensures.hands
 
-pub derive_loaded-requires-clause-few : goal.derive_loaded-requires-clause-few
-derive_loaded-requires-clause-few g c =
+pub derive_clauses-requires-clause-next : goal.derive_clauses-requires-clause-next
+derive_clauses-requires-clause-next g c =
     let p = c.args.problem.now in
     let a = g.T.StepSink.state c.args.sink.now in
     let b = g.T.StepSink.state c.step.new.self in
     let d = g.T.StepSink.state c.step-2.new.self in
     let count_is : c.next_id-count.result - 1 ≡ length (loaded_of p) = omega (arith, c.next_id-count.ensures, c.requires.next) in
-    let first_is : c.originals.result + 1 ≡ originals p + 1 = omega (arith, c.originals.ensures) in
-    steps_leave c.args.options.now p c.requires.within c.requires.encodable a b d d c.requires.next c.in_ok-step.ensures.hands (c.next_id-count.result - 1) count_is c.in_ok-step-2.ensures.hands
-    (c.originals.result + 1) first_is
+    whole_next c.args.options.now p c.requires.within c.requires.encodable a b d d c.requires.next c.in_ok-step.ensures.hands (c.next_id-count.result - 1) count_is c.in_ok-step-2.ensures.hands
 
-pub returns-in_err-derive_loaded : goal.returns-in_err-derive_loaded
-returns-in_err-derive_loaded g c =
+pub returns-in_err-derive_clauses : goal.returns-in_err-derive_clauses
+returns-in_err-derive_clauses g c =
     let p = c.args.problem.now in
     let a = g.T.StepSink.state c.args.sink.now in
     let b = g.T.StepSink.state c.step.new.self in
     let d = g.T.StepSink.state c.step-2.new.self in
-    let e = g.T.StepSink.state c.derive_loaded.new.sink in
+    let e = g.T.StepSink.state c.derive_clauses.new.sink in
     let count_is : c.next_id-count.result - 1 ≡ length (loaded_of p) = omega (arith, c.next_id-count.ensures, c.requires.next) in
-    let first_is : c.originals.result + 1 ≡ originals p + 1 = omega (arith, c.originals.ensures) in
     steps_stop c.args.options.now p c.requires.within c.requires.encodable a b d e c.requires.next c.in_ok-step.ensures.hands (c.next_id-count.result - 1) count_is c.in_ok-step-2.ensures.hands
-    (c.originals.result + 1) first_is
-    c.from_residual-in_err-derive_loaded.result c.in_err-derive_loaded.field-0.0 c.from_residual-in_err-derive_loaded.ensures.1 c.in_err-derive_loaded.ensures
+    c.from_residual-in_err-derive_clauses.result c.in_err-derive_clauses.field-0.0 c.from_residual-in_err-derive_clauses.ensures.1 c.in_err-derive_clauses.ensures
 
 pub step-requires-3 : goal.step-requires-3
 step-requires-3 g c =
@@ -63,12 +58,10 @@ step-requires-3 g c =
     let a = g.T.StepSink.state c.args.sink.now in
     let b = g.T.StepSink.state c.step.new.self in
     let d = g.T.StepSink.state c.step-2.new.self in
-    let e = g.T.StepSink.state c.derive_loaded.new.sink in
+    let e = g.T.StepSink.state c.derive_clauses.new.sink in
     let count_is : c.next_id-count.result - 1 ≡ length (loaded_of p) = omega (arith, c.next_id-count.ensures, c.requires.next) in
-    let first_is : c.originals.result + 1 ≡ originals p + 1 = omega (arith, c.originals.ensures) in
     record {
-      few = end_small c.args.options.now p c.requires.within c.requires.encodable a b d e c.requires.next c.in_ok-step.ensures.hands (c.next_id-count.result - 1) count_is c.in_ok-step-2.ensures.hands
-          (c.originals.result + 1) first_is c.in_ok-derive_loaded.ensures;
+      few = end_small c.args.options.now p c.requires.within c.requires.encodable a b d e c.requires.next c.in_ok-step.ensures.hands (c.next_id-count.result - 1) count_is c.in_ok-step-2.ensures.hands c.in_ok-derive_clauses.ensures;
     }
 
 pub returns : goal.returns
@@ -77,8 +70,7 @@ returns g c =
     let a = g.T.StepSink.state c.args.sink.now in
     let b = g.T.StepSink.state c.step.new.self in
     let d = g.T.StepSink.state c.step-2.new.self in
-    let e = g.T.StepSink.state c.derive_loaded.new.sink in
+    let e = g.T.StepSink.state c.derive_clauses.new.sink in
     let count_is : c.next_id-count.result - 1 ≡ length (loaded_of p) = omega (arith, c.next_id-count.ensures, c.requires.next) in
-    let first_is : c.originals.result + 1 ≡ originals p + 1 = omega (arith, c.originals.ensures) in
     end_last c.args.options.now p c.requires.within c.requires.encodable a b d e c.requires.next c.in_ok-step.ensures.hands (c.next_id-count.result - 1) count_is c.in_ok-step-2.ensures.hands
-    (c.originals.result + 1) first_is c.in_ok-derive_loaded.ensures c.step-3.result (g.T.StepSink.state c.step-3.new.self) c.step-3.ensures.hands
+    c.in_ok-derive_clauses.ensures c.step-3.result (g.T.StepSink.state c.step-3.new.self) c.step-3.ensures.hands

@@ -1,8 +1,10 @@
-use Rattle.std.proofs.Common.{◌+◌, ◌^◌, List, All, length, ap, sym, subst, arith}
+use Rattle.std.proofs.Common.{◌≡◌, ℕ, ◌+◌, ◌^◌, List, All, length, ap, sym, subst, arith}
+use Rattle.std.proofs.lemmas.Result.{IfOk-weaker}
 use Rattle.pb_base.specs.declared.literal.Lit.{Lit}
 use Rattle.pb_base.specs.Problems.{IsProductWithin, StaysBelow}
-use Rattle.pb_encode.proofs.ProblemStreams.{products_fit, products_stop, statements_below, statements_fit, statements_last}
-use Rattle.pb_encode.proofs.streaming.stream_clauses.Goals as goal
+use Rattle.pb_encode.specs.Clauses.{table_first}
+use Rattle.pb_encode.proofs.ProblemStreams.{products_fit, products_stop, statements_below, statements_fit, statements_last, statements_next}
+use Rattle.pb_encode.proofs.streaming.stream_loaded.Goals as goal
 
 pub stream_products-requires-clause-within : goal.stream_products-requires-clause-within
 stream_products-requires-clause-within g c = subst (All (IsProductWithin c.args.problem.now.vars)) (sym c.as_slice-products.ensures) c.requires.within.products
@@ -15,10 +17,10 @@ stream_products-requires-clause-fits g c =
     let p = c.args.problem.now in
     let first = c.originals-first.result + 1 in
     let a = g.S.ClauseSink.state c.args.sink.now in
-    products_fit c.args.options.now p first c.as_slice-products.result.now c.as_slice-statements.result.now (omega (arith, c.originals-first.ensures)) c.as_slice-products.ensures c.as_slice-statements.ensures a c.requires.encodable
+    products_fit c.args.options.now p first c.as_slice-products.result.now c.as_slice-statements.result.now (omega (arith, c.originals-first.ensures)) c.as_slice-products.ensures c.as_slice-statements.ensures a c.requires.fits
 
-pub returns-in_err-next : goal.returns-in_err-next
-returns-in_err-next g c =
+pub returns-in_err-next-clause-hands : goal.returns-in_err-next-clause-hands
+returns-in_err-next-clause-hands g c =
     let p = c.args.problem.now in
     let first = c.originals-first.result + 1 in
     let a = g.S.ClauseSink.state c.args.sink.now in
@@ -45,14 +47,25 @@ stream_statements-requires-clause-fits g c =
     let a = g.S.ClauseSink.state c.args.sink.now in
     let b = g.S.ClauseSink.state c.stream_products.new.sink in
     statements_fit c.args.options.now p first c.as_slice-products.result.now c.as_slice-statements.result.now (omega (arith, c.originals-first.ensures)) c.as_slice-products.ensures c.as_slice-statements.ensures a
-    c.in_ok-next.next b c.in_ok-next.ensures.next c.in_ok-next.ensures.hands c.requires.encodable
+    c.in_ok-next.next b c.in_ok-next.ensures.next c.in_ok-next.ensures.hands c.requires.fits
 
-pub returns : goal.returns
-returns g c =
+pub returns-clause-next : goal.returns-clause-next
+returns-clause-next g c =
+    let p = c.args.problem.now in
+    let o = c.args.options.now in
+    let first = c.originals-first.result + 1 in
+    let a = g.S.ClauseSink.state c.args.sink.now in
+    let b = g.S.ClauseSink.state c.stream_products.new.sink in
+    IfOk-weaker c.stream_statements.result _ (λ (next : ℕ). next ≡ table_first o p)
+    (λ next is. statements_next o p first c.as_slice-products.result.now c.as_slice-statements.result.now (omega (arith, c.originals-first.ensures)) c.as_slice-products.ensures c.as_slice-statements.ensures a
+    c.in_ok-next.next b c.in_ok-next.ensures.next c.in_ok-next.ensures.hands next is) c.stream_statements.ensures.next
+
+pub returns-clause-hands : goal.returns-clause-hands
+returns-clause-hands g c =
     let p = c.args.problem.now in
     let first = c.originals-first.result + 1 in
     let a = g.S.ClauseSink.state c.args.sink.now in
     let b = g.S.ClauseSink.state c.stream_products.new.sink in
     let d = g.S.ClauseSink.state c.stream_statements.new.sink in
     statements_last c.args.options.now p first c.as_slice-products.result.now c.as_slice-statements.result.now (omega (arith, c.originals-first.ensures)) c.as_slice-products.ensures c.as_slice-statements.ensures a
-    c.in_ok-next.next b c.in_ok-next.ensures.next c.in_ok-next.ensures.hands c.stream_statements.result d c.stream_statements.ensures
+    c.in_ok-next.next b c.in_ok-next.ensures.next c.in_ok-next.ensures.hands c.stream_statements.result d c.stream_statements.ensures.hands

@@ -1,0 +1,102 @@
+-- What the derivation of one group shows, as the derivation of all of them asks it.
+use Rattle.std.proofs.Common.{◌≡◌, ◌≤◌, ◌<◌, ◌+◌, ◌*◌, ◌^◌, ℕ, List, length, ap, ◌∙◌, arith}
+use Rattle.std.proofs.Math.Nat.{add-mul, mul-le-mul_left}
+use Rattle.std.specs.Prelude.{sum_by}
+use Rattle.std.proofs.lemmas.List.{length-map}
+use Rattle.std.proofs.lemmas.List.Elements.{All-weaker}
+use Rattle.pb_norm.specs.Constraints.{Weighted, Constraint}
+use Rattle.pb_norm.specs.Reduction.{opposite}
+use Rattle.pb_norm.proofs.Variables.{OfTerm}
+use Rattle.pb_steps.specs.Database.{Database}
+use Rattle.pb_derive.specs.Derivations.{Derives}
+use Rattle.pb_derive.specs.Later.{IsNumbered, IsUnnamed}
+use Rattle.pb_derive.specs.Short.{line_size}
+use Rattle.pb_family.specs.Derivations.{AreOriginal, MayStart}
+use Rattle.pb_family.specs.Families.{VarsBelow}
+use Rattle.pb_choice.specs.declared.options.Options.{Options}
+use Rattle.pb_choice.specs.Equals.{equality_count, equality_fresh}
+use Rattle.pb_choice.specs.EqualitySteps.{equality_steps}
+use Rattle.pb_choice.specs.Readiness.{LeavesIds}
+use Rattle.pb_choice.specs.laws.EqualityLaws.{IsModestEquality}
+use Rattle.pb_choice.proofs.Composition.{IsOneBelow}
+use Rattle.pb_choice.proofs.EqualityDerived.{equalities_derive}
+use Rattle.pb_choice.proofs.EqualitySizes.{equalities_brief, equalities_few, equalities_sayable}
+use Rattle.pb_encode.specs.Groups.{Group, group_clauses, group_count, group_fresh, group_size, group_steps, members}
+use Rattle.pb_encode.specs.Groups.Group.{alone, paired}
+use Rattle.pb_encode.proofs.ChoiceLaws.{IsLight, IsSaid, constraint-derives, constraint-few, constraint-said, modest}
+use Rattle.pb_encode.proofs.GroupLists.{AreBoth, OfGroup}
+use Rattle.pb_encode.proofs.LoadedDatabases.{Stand}
+use Rattle.pb_encode.proofs.StepTurns.{leaves_next}
+
+abbrev pub IsGroupLight : Options → ℕ → Group → Type 0
+IsGroupLight o n g = OfGroup (IsLight o n) g
+
+-- the constraints stand under neighbouring ids, and the fresh variables are new
+pub record IsGroupStart (o : Options) (first id : ℕ) (g : Group) (db : Database) : Type 0 where
+  pub original : db.original < first
+  pub vars : first + group_fresh o g ≤ db.vars + 1
+  pub numbered : IsNumbered db
+  pub stands : Stand db.live id (members g)
+  pub unnamed : (v : ℕ) → first ≤ v → v < first + group_fresh o g → IsUnnamed v db
+
+both_modest : (o : Options) (n : ℕ) (c d : Constraint) → AreBoth (IsLight o n) c d → IsModestEquality c d
+both_modest o n c d light = record { lower_modest = modest o n c light.lower; upper_modest = modest o n d light.upper; halves = light.halves }
+
+light_below : (o : Options) (n first : ℕ) (c : Constraint) → n ≤ first → IsLight o n c → VarsBelow first c.terms
+light_below o n first c le light = All-weaker (OfTerm (IsOneBelow n)) (λ t. t.lit.var < first) (λ t h. omega (arith, le, h.1)) c.terms light.ready.within
+
+light_original : (o : Options) (n first : ℕ) (c : Constraint) → n ≤ first → IsLight o n c → AreOriginal first c.terms
+light_original o n first c le light = All-weaker (OfTerm (IsOneBelow n)) (λ t. (1 ≤ t.lit.var) × (t.lit.var < first)) (λ t h. (h.0, omega (arith, le, h.1))) c.terms light.ready.within
+
+pub group-derives : (o : Options) (n first id : ℕ) (g : Group) (db : Database) → IsGroupLight o n g → n ≤ first → IsGroupStart o first id g db
+    → Derives db (group_steps o g first id db.next) (group_clauses o g first) (first + group_fresh o g)
+group-derives o n first id (alone c) db light le start = constraint-derives o n first id c db light le (record {
+  original = start.original;
+  vars = start.vars;
+  numbered = start.numbered;
+  stands = start.stands.0;
+  unnamed = start.unnamed;
+})
+group-derives o n first id (paired c d) db light le start =
+    equalities_derive o c d first id (id + 1) db (both_modest o n c d light) (light_below o n first c le light.lower)
+    (record { original = start.original; vars = start.vars; numbered = start.numbered; stands = start.stands.0; unnamed = start.unnamed })
+    (record { original = start.original; vars = start.vars; numbered = start.numbered; stands = start.stands.1.0; unnamed = start.unnamed })
+
+pub group-few : (o : Options) (n : ℕ) (g : Group) (first id next : ℕ) → IsGroupLight o n g → length (group_steps o g first id next) ≤ 8 * (group_fresh o g + group_count o g) + 4 * group_size g
+group-few o n (alone c) first id next light = omega (arith, constraint-few o n c first id next light)
+group-few o n (paired c d) first id next light = omega (arith, equalities_few o c d first id (id + 1) next (both_modest o n c d light))
+
+-- how many terms there are
+abbrev pub term_total : List Constraint → ℕ
+term_total cs = sum_by (λ (c : Constraint). length c.terms) cs
+
+-- the bytes of all lines of an equality, where the terms are few
+both_bytes_small : (n fresh clauses bytes : ℕ) → n ≤ 2 ^ 20 + 1 → bytes ≤ 512 * (fresh + 2) * n + 2 ^ 20 * (fresh + clauses + 10) → bytes ≤ 2 ^ 30 * fresh + 2 ^ 21 * clauses + 512 * (n + n) + 2 ^ 23 * 2
+both_bytes_small n fresh clauses bytes few h =
+    let more : 512 * (fresh + 2) ≡ 512 * fresh + 1024 = omega arith in
+    let parts : 512 * (fresh + 2) * n ≡ 512 * fresh * n + 1024 * n = ap (λ (k : ℕ). k * n) more ∙ add-mul (512 * fresh) 1024 n in
+    omega (arith, h, parts, mul-le-mul_left (512 * fresh) few)
+
+-- the second half has as many terms as the first
+as_long : (o : Options) (n : ℕ) (c d : Constraint) → AreBoth (IsLight o n) c d → length d.terms ≡ length c.terms
+as_long o n c d light = ap (λ (ts : List Weighted). length ts) light.halves.turned ∙ length-map c.terms opposite
+
+pub group-said : (o : Options) (n first id next : ℕ) (g : Group) → IsGroupLight o n g → n ≤ first → 1 ≤ first → first + group_fresh o g ≤ 2 ^ 31 → group_count o g ≤ 2 ^ 56 → 1 ≤ id → id + group_size g ≤ next → LeavesIds (group_steps o g first id) next
+    → IsSaid (term_total (members g)) (group_size g) (group_fresh o g) (group_count o g) (group_steps o g first id next)
+group-said o n first id next (alone c) light le low fits counted given known few =
+    let said = constraint-said o n first id next c light le low fits counted given (omega (arith, known)) (leaves_next (group_steps o (alone c) first id) next few) in
+    let all = said.all in
+    record { sayable = said.sayable; each = said.each; all = omega (arith, all) }
+group-said o n first id next (paired c d) light le low fits counted given known few =
+    let both = both_modest o n c d light in
+    let original = light_original o n first c le light.lower in
+    let soon = leaves_next (equality_steps o c d first id (id + 1)) next few in
+    let lower_start : MayStart first (equality_fresh o c d) id next = record { low = low; fits = fits; given = given; known = omega (arith, known); few = omega (arith, soon) } in
+    let upper_start : MayStart first (equality_fresh o c d) (id + 1) next = record { low = low; fits = fits; given = omega arith; known = omega (arith, known); few = omega (arith, soon) } in
+    let brief = equalities_brief o c d first id (id + 1) next both counted original lower_start upper_start few (omega (arith, light.lower.few)) in
+    let bytes = both_bytes_small (length c.terms) (equality_fresh o c d) (equality_count o c d) (sum_by line_size (equality_steps o c d first id (id + 1) next)) light.lower.few brief.all in
+    record {
+      sayable = equalities_sayable o c d first id (id + 1) next both counted original lower_start upper_start few;
+      each = brief.each;
+      all = omega (arith, bytes, as_long o n c d light);
+    }

@@ -1,0 +1,51 @@
+use Rattle.std.proofs.Common.{◌≡◌, ◌<◌, ◌+◌, ℕ, sym, subst, arith}
+use Rattle.std.specs.Prelude.{IfOk}
+use Rattle.pb_norm.specs.declared.halves.Half.TheVariants.{Lower, Upper}
+use Rattle.pb_norm.specs.Constraints.{Constraint}
+use Rattle.pb_norm.specs.Halves.{half_of}
+use Rattle.pb_norm.proofs.Variables.{half_of-vars}
+use Rattle.pb_family.specs.Families.{VarsBelow}
+use Rattle.pb_family.specs.Handing.{HandsIfMemory}
+use Rattle.pb_family.proofs.Emission.{emitting_starts}
+use Rattle.pb_family.proofs.Stopping.{stops_between}
+use Rattle.pb_choice.specs.Equals.{equality_clauses, equality_fresh}
+use Rattle.pb_encode.proofs.streaming.stream_equality.Goals as goal
+
+pub returns-in_err-both-clause-hands : goal.returns-in_err-both-clause-hands
+returns-in_err-both-clause-hands g c =
+    let s = c.args.statement.now in
+    stops_between c.from_residual.result c.from_residual.ensures.1 (emitting_starts (equality_clauses c.args.options.now (half_of Lower s) (half_of Upper s) c.args.first) _)
+
+pub stream_pair-requires-clause-lower_vars : goal.stream_pair-requires-clause-lower_vars
+stream_pair-requires-clause-lower_vars g c =
+    subst (λ (d : Constraint). VarsBelow c.args.first d.terms) (sym c.in_ok-both.ensures.lower) (half_of-vars (λ v. v < c.args.first) Lower c.args.statement.now c.requires.vars)
+
+pub stream_pair-requires-clause-upper_vars : goal.stream_pair-requires-clause-upper_vars
+stream_pair-requires-clause-upper_vars g c =
+    subst (λ (d : Constraint). VarsBelow c.args.first d.terms) (sym c.in_ok-both.ensures.upper) (half_of-vars (λ v. v < c.args.first) Upper c.args.statement.now c.requires.vars)
+
+pub stream_pair-requires-clause-fits : goal.stream_pair-requires-clause-fits
+stream_pair-requires-clause-fits g c =
+    let o = c.args.options.now in
+    let s = c.args.statement.now in
+    let both = c.in_ok-both.both in
+    let same : equality_fresh o both.lower both.upper ≡ equality_fresh o (half_of Lower s) (half_of Upper s) = λ i. equality_fresh o (c.in_ok-both.ensures.lower i) (c.in_ok-both.ensures.upper i) in
+    omega (arith, c.requires.fits, same)
+
+pub returns-clause-next : goal.returns-clause-next
+returns-clause-next g c =
+    let o = c.args.options.now in
+    let s = c.args.statement.now in
+    let both = c.in_ok-both.both in
+    subst (λ (u : Constraint). IfOk c.stream_pair.result (λ (next : ℕ). next ≡ c.args.first + equality_fresh o (half_of Lower s) u)) c.in_ok-both.ensures.upper
+    (subst (λ (l : Constraint). IfOk c.stream_pair.result (λ (next : ℕ). next ≡ c.args.first + equality_fresh o l both.upper)) c.in_ok-both.ensures.lower c.stream_pair.ensures.next)
+
+pub returns-clause-hands : goal.returns-clause-hands
+returns-clause-hands g c =
+    let o = c.args.options.now in
+    let s = c.args.statement.now in
+    let both = c.in_ok-both.both in
+    let a = g.S.ClauseSink.state c.args.sink.now in
+    let b = g.S.ClauseSink.state c.stream_pair.new.sink in
+    subst (λ (u : Constraint). HandsIfMemory (equality_clauses o (half_of Lower s) u c.args.first) c.stream_pair.result a b) c.in_ok-both.ensures.upper
+    (subst (λ (l : Constraint). HandsIfMemory (equality_clauses o l both.upper c.args.first) c.stream_pair.result a b) c.in_ok-both.ensures.lower c.stream_pair.ensures.hands)

@@ -1,0 +1,102 @@
+//! The table of bounds on a problem's objective, where one is asked for.
+ghost use Rattle.std.specs.Prelude.{◌≡◌, ◌≤◌, ◌+◌, ◌^◌, IfOk};
+ghost use Rattle.pb_base.specs.Problems.{IsWithinLimits, originals};
+ghost use Rattle.pb_norm.specs.Constraints.{weights};
+ghost use Rattle.pb_norm.specs.Reduction.{by_weight};
+ghost use Rattle.pb_family.specs.Budgets.{IsOverExactly, IfFits};
+ghost use Rattle.pb_family.specs.Handing.{HandsIfMemory};
+ghost use Rattle.pb_family.specs.StepSinks.{HandsFrom};
+ghost use Rattle.pb_gentot.specs.BoundTable.{table_clauses, table_fresh};
+ghost use Rattle.pb_gentot.specs.BoundTableSteps.{table_steps};
+ghost use Rattle.pb_encode.specs.Costs.{objective_form};
+ghost use Rattle.pb_encode.specs.Tables.{table_terms};
+
+use crate::objective::objective_form;
+use pb_base::{NoMemory, Problem, Terms};
+use pb_choice::Options;
+use pb_family::{Built, ClauseSink, SinkFault, StepSink};
+use pb_gentot::BoundTable;
+use pb_norm::by_weight;
+use std::alloc::Global;
+
+// What the objective costs, the greatest first.
+fn costs_of(alloc: Global, problem: &Problem) -> Result<Terms, NoMemory>
+    requires { IsWithinLimits problem.now }
+    ensures { IfOk result (λ terms. weights terms ≡ by_weight (objective_form problem.now).terms) }
+{
+    let form = objective_form(alloc, problem)?;
+    Ok(by_weight(form))
+}
+
+// The terms of the table: none where none is asked for.
+fn table_terms(alloc: Global, problem: &Problem, options: &Options) -> Result<Terms, NoMemory>
+    requires { IsWithinLimits problem.now }
+    ensures { IfOk result (λ terms. weights terms ≡ table_terms options.now problem.now) }
+{
+    if options.table {
+        costs_of(alloc, problem)
+    } else {
+        Ok(Terms::new(alloc))
+    }
+}
+
+/// The table of bounds on a problem's objective, if it has no more fresh variables than the budget; one without rows where no table
+/// is asked for. `NoMemory` is the only fault.
+pub fn table_of(
+    alloc: Global,
+    problem: &Problem,
+    options: &Options,
+) -> Result<Built<BoundTable>, NoMemory>
+    requires within { IsWithinLimits problem.now }
+    requires modest { options.now.budget ≤ 10000000 }
+    ensures over { IfOk result (λ built. IsOverExactly (table_fresh (table_terms options.now problem.now)) options.now.budget built) }
+    ensures terms { IfOk result (λ built. IfFits (λ t. t ≡ table_terms options.now problem.now) built) }
+{
+    let terms = table_terms(alloc, problem, options)?;
+    BoundTable::build(alloc, &terms, options.budget)
+}
+
+/// Hands over the clauses of the table.
+pub fn stream_table<S: ClauseSink>(
+    alloc: Global,
+    problem: &Problem,
+    options: &Options,
+    first: u32,
+    sink: &mut S,
+) -> Result<(), SinkFault>
+    requires within { IsWithinLimits problem.now }
+    requires modest { options.now.budget ≤ 10000000 }
+    requires bounds { table_fresh (table_terms options.now problem.now) ≤ options.now.budget }
+    requires original { originals problem.now + 1 ≤ first }
+    requires fits { first + table_fresh (table_terms options.now problem.now) ≤ 2 ^ 31 }
+    ensures { HandsIfMemory (table_clauses (table_terms options.now problem.now) first) result (S.state sink.old) (S.state sink.new) }
+{
+    let built = table_of(alloc, problem, options)?;
+    match built {
+        Built::Fits(table) => table.emit(alloc, first, sink),
+        Built::Over => unreachable!(),
+    }
+}
+
+/// Hands over the derivation of the table.
+pub fn derive_table<T: StepSink>(
+    alloc: Global,
+    problem: &Problem,
+    options: &Options,
+    first: u32,
+    sink: &mut T,
+) -> Result<(), SinkFault>
+    requires within { IsWithinLimits problem.now }
+    requires modest { options.now.budget ≤ 10000000 }
+    requires bounds { table_fresh (table_terms options.now problem.now) ≤ options.now.budget }
+    requires original { originals problem.now + 1 ≤ first }
+    requires fits { first + table_fresh (table_terms options.now problem.now) ≤ 2 ^ 31 }
+    requires few { (T.state sink.old).next ≤ 2 ^ 61 }
+    ensures { HandsFrom (table_steps (table_terms options.now problem.now) first) result (T.state sink.old) (T.state sink.new) }
+{
+    let built = table_of(alloc, problem, options)?;
+    match built {
+        Built::Fits(table) => table.derive(alloc, first, sink),
+        Built::Over => unreachable!(),
+    }
+}

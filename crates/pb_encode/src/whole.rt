@@ -1,0 +1,77 @@
+//! All clauses of a problem and their derivation, handed to a sink: those of its constraints, and then those of its table.
+ghost use Rattle.std.specs.Prelude.{◌≡◌, ◌≤◌, ◌+◌, length};
+ghost use Rattle.pb_base.specs.Problems.{IsWithinLimits};
+ghost use Rattle.pb_norm.specs.Products.{loaded_of};
+ghost use Rattle.pb_family.specs.Handing.{HandsIfMemory};
+ghost use Rattle.pb_family.specs.StepSinks.{HandsFrom, HandsSteps};
+ghost use Rattle.pb_encode.specs.Clauses.{problem_clauses};
+ghost use Rattle.pb_encode.specs.Steps.{problem_steps};
+ghost use Rattle.pb_encode.specs.Summaries.{IsEncodable};
+ghost use Rattle.pb_encode.specs.laws.Streams.{steps_at_next};
+
+use crate::derivation::{Turn, derive_loaded};
+use crate::streaming::stream_loaded;
+use crate::table::{derive_table, stream_table};
+use pb_base::Problem;
+use pb_choice::Options;
+use pb_family::{ClauseSink, SinkFault, StepSink};
+use pb_steps::Step;
+use std::alloc::Global;
+
+/// Hands over the clauses of a problem: those of its constraints, of which nothing is kept but what one statement needs, and then
+/// those of its table.
+pub fn stream_clauses<S: ClauseSink>(
+    alloc: Global,
+    problem: &Problem,
+    options: &Options,
+    sink: &mut S,
+) -> Result<(), SinkFault>
+    requires within { IsWithinLimits problem.now }
+    requires encodable { IsEncodable options.now problem.now }
+    requires modest { options.now.budget ≤ 10000000 }
+    ensures { HandsIfMemory (problem_clauses options.now problem.now) result (S.state sink.old) (S.state sink.new) }
+{
+    let first = stream_loaded(alloc, problem, options, sink)?;
+    stream_table(alloc, problem, options, first, sink)
+}
+
+// Hands over the derivations of all constraints, and then that of the table.
+fn derive_clauses<T: StepSink>(
+    alloc: Global,
+    problem: &Problem,
+    options: &Options,
+    sink: &mut T,
+) -> Result<(), SinkFault>
+    requires within { IsWithinLimits problem.now }
+    requires encodable { IsEncodable options.now problem.now }
+    requires modest { options.now.budget ≤ 10000000 }
+    requires next { (T.state sink.old).next ≡ length (loaded_of problem.now) + 1 }
+    ensures { HandsFrom (steps_at_next options.now problem.now) result (T.state sink.old) (T.state sink.new) }
+{
+    let turn = Turn {
+        first: problem.originals() + 1,
+        id: 1,
+    };
+    let next = derive_loaded(alloc, problem, options, turn, sink)?;
+    derive_table(alloc, problem, options, next.first, sink)
+}
+
+/// Hands over the derivation of a problem's clauses, whole.
+pub fn stream_steps<T: StepSink>(
+    alloc: Global,
+    problem: &Problem,
+    options: &Options,
+    sink: &mut T,
+) -> Result<(), SinkFault>
+    requires within { IsWithinLimits problem.now }
+    requires encodable { IsEncodable options.now problem.now }
+    requires modest { options.now.budget ≤ 10000000 }
+    requires next { (T.state sink.old).next ≡ length (loaded_of problem.now) + 1 }
+    ensures { HandsSteps (problem_steps options.now problem.now) result (T.state sink.old) (T.state sink.new) }
+{
+    let count = sink.next_id() - 1;
+    sink.step(&Step::Head)?;
+    sink.step(&Step::Loaded { count })?;
+    derive_clauses(alloc, problem, options, sink)?;
+    sink.step(&Step::End)
+}
