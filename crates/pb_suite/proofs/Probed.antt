@@ -1,5 +1,5 @@
 -- What an engine answers that has assumed given literals.
-use Rattle.std.proofs.Common.{◌≡◌, ◌≤◌, ◌↔◌, ℕ, List, map, sym, subst, inl, inr}
+use Rattle.std.proofs.Common.{◌≡◌, ◌≤◌, ◌↔◌, ℕ, List, map, refl, sym, subst, inl, inr}
 use Rattle.std.specs.Prelude.{Contains, All, IfOk, Option, Some, None, Result, Ok, Err}
 use Rattle.std.specs.Option.{MatchOption}
 use Rattle.std.proofs.lemmas.List.Elements.{All-contains, All-weaker}
@@ -11,6 +11,8 @@ use Rattle.pb_norm.specs.Propagation.{Conflict, IsReachable}
 use Rattle.pb_norm.proofs.ClauseDescent.{conflict_descends, reach_descends}
 use Rattle.pb_norm.proofs.ClauseLift.{conflict_lifts, reach_lifts}
 use Rattle.pb_norm.proofs.PropagationMore.{Conflict-given, Reached-given}
+use Rattle.pb_unit.specs.declared.engine.Outcome.{Outcome}
+use Rattle.pb_unit.specs.declared.engine.Outcome.TheVariants as outcome
 use Rattle.pb_unit.specs.declared.engine.Outcome.TheVariants.{Conflict as conflict, Fixed as fixed}
 use Rattle.pb_unit.specs.Outcomes.{AnswersOf}
 use Rattle.pb_unit.specs.States.{EngineState, IsReached, standing}
@@ -27,6 +29,11 @@ within_most vars cs within = All-weaker (OfConstraint (IsUpTo vars)) (OfConstrai
 module _ (vars : ℕ) (cs : List Constraint) (given : List Lit) (within : All (OfConstraint (IsUpTo vars)) cs) (near : All (OfLit (IsUpTo vars)) given) (s : EngineState) (over : standing s.places ≡ cs) (same : (l : Lit) → Contains s.given l ↔ Contains given l) where
   pub conflict_held : (place : ℕ) → AnswersOf s (conflict place) → Conflict cs given
   conflict_held place answered = Conflict-given cs s.given given (λ l h. (same l).0 h) (subst (λ (ds : List Constraint). Conflict ds s.given) over answered.0)
+
+  -- the same, of any outcome but the other one
+  pub conflict_else : (o : Outcome) → ¬ (o ≡ fixed) → AnswersOf s o → Conflict cs given
+  conflict_else (outcome.Conflict place) other answered = conflict_held place answered
+  conflict_else outcome.Fixed other answered = absurd (other refl)
 
   pub reached_held : AnswersOf s fixed → IsReached s → AreReachedOver cs given (held_to s.held vars)
   reached_held answered reached = record {

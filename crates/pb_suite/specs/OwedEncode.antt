@@ -6,7 +6,8 @@ use Rattle.pb_base.specs.declared.problem.Problem.{Problem}
 use Rattle.pb_desk.specs.View.{Made}
 use Rattle.pb_choice.specs.declared.options.Options.{Options}
 use Rattle.pb_encode.specs.Encodings.{derivation_text, problem_text, FileNames}
-use Rattle.pb_encode.specs.Summaries.{summary_of, summary_text, IsEncodable, IsOver}
+use Rattle.pb_encode.specs.BoundLines.{words_of}
+use Rattle.pb_encode.specs.Summaries.{IsEncodable, IsOver}
 use Rattle.pb_words.specs.EncodeWords.{EncodeWords}
 use Rattle.pb_suite.specs.declared.outcome.Outcome.{Outcome}
 use Rattle.pb_suite.specs.declared.outcome.Outcome.TheVariants as outcome
@@ -28,10 +29,11 @@ proof_files (Some name) bytes = file_of 1 name bytes ∷ []
 abbrev pub files_of : FileNames → Options → Problem → List Made
 files_of names o p = proof_files names.proof (derivation_text o p) ++ file_of 0 names.cnf (problem_text o p) ∷ []
 
+-- its size, and the rows of its table of bounds, if there is one
 abbrev pub due_words : Options → Problem → List ℕ
-due_words o p = summary_text (summary_of o p)
+due_words o p = words_of o p
 
--- the files of a problem, and its size in words
+-- the files of a problem, and its words
 abbrev pub encoded_output : FileNames → Options → Problem → Output
 encoded_output names o p = record { made = files_of names o p; said = due_words o p }
 
@@ -45,7 +47,7 @@ pub record IsEncoded (shelf : Shelf) (w : EncodeWords) (p : Problem) : Type 0 wh
   pub poses : Poses w.bound text p
   pub encodable : IsEncodable w.options p
 
--- in the order of a run: the text, and the bound if one is given; and then the numbers of variables and of clauses
+-- in the order of a run: the text, and the bound if one is given; and then the budget of its table, and the numbers of variables and of clauses
 pub data StopsEncode (shelf : Shelf) (w : EncodeWords) : Outcome → Type 0 where
   lacking : shelf w.opb ≡ None → StopsEncode shelf w outcome.ReadFault
   refused : (text : List ℕ) (answer : Outcome) → shelf w.opb ≡ Some text → RefusesOpb w.bound text answer → StopsEncode shelf w answer

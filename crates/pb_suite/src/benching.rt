@@ -17,7 +17,7 @@ use crate::storing::store;
 use pb_base::{Failed, NoMemory, Problem};
 use pb_choice::Options;
 use pb_desk::{Desk, say_all};
-use pb_encode::{MeasureFault, Names, measure, summary_text};
+use pb_encode::{MeasureFault, Names, measure, words_of};
 use pb_gen::generate;
 use pb_opb::{OpbFault, read_opb};
 use pb_words::Benching;
@@ -75,7 +75,8 @@ fn say_size<D: Desk>(
     requires unnamed { (as_bench_words asked.now).cnf ≡ None }
     ensures { Obeys (owed_bench (as_bench_words asked.now)) (D.state desk.old) (D.state desk.new) result }
 {
-    let summary = match measure(alloc, problem, &Options::default()) {
+    let options = Options::default();
+    let summary = match measure(alloc, problem, &options) {
         Ok(summary) => summary,
         Err(MeasureFault::NoMemory) => return Outcome::NoMemory,
         Err(MeasureFault::Limit { which }) => {
@@ -86,7 +87,7 @@ fn say_size<D: Desk>(
             };
         }
     };
-    let Ok(words) = summary_text(alloc, &summary) else {
+    let Ok(words) = words_of(alloc, problem, &options, &summary) else {
         return Outcome::NoMemory;
     };
     match say_all(desk, &words) {

@@ -12,8 +12,9 @@ use crate::numbering::{
 };
 use pb_base::{Lit, Lits, NoMemory, Term};
 use pb_norm::clause_form;
-use pb_unit::{Constraints, Engine, Outcome};
+use pb_unit::{Constraints, Engine, Outcome, Rounds};
 use std::alloc::{AllocError, Global};
+use std::mem;
 
 // The literals of terms.
 fn lits_of(alloc: Global, terms: &[Term]) -> Result<Vec<Lit>, AllocError>
@@ -46,40 +47,83 @@ fn assume_all(engine: &mut Engine, lits: &[Lit])
     }
 }
 
+// What an engine reaches over constraints of the variables up to `vars`: the literals that hold, or none where that is a conflict.
+fn held_by_engine(
+    alloc: Global,
+    vars: u32,
+    forms: Constraints,
+    given: &[Lit],
+) -> Result<Option<Rounds>, NoMemory>
+    requires within { All (OfConstraint (IsUpTo vars)) forms }
+    requires given { All (OfLit (IsUpTo vars)) given.now }
+    requires ascending { AreAscending given.now }
+    ensures { IfOk result (λ found. MatchOption found (Conflict forms given.now) (λ held. AreReachedOver forms given.now (held_to held.lits vars))) }
+{
+    let mut engine = Engine::over(alloc, vars, forms)?;
+    assume_all(&mut engine, given);
+    match engine.propagate() {
+        Outcome::Conflict { .. } => Ok(None),
+        Outcome::Fixed => Ok(Some(engine.into_held())),
+    }
+}
+
+// The same, without an engine where a few passes over the constraints do: to make its index takes longer than that.
+fn held_over(
+    alloc: Global,
+    vars: u32,
+    forms: Constraints,
+    given: &[Lit],
+) -> Result<Option<Rounds>, NoMemory>
+    requires within { All (OfConstraint (IsUpTo vars)) forms }
+    requires given { All (OfLit (IsUpTo vars)) given.now }
+    requires ascending { AreAscending given.now }
+    ensures { IfOk result (λ found. MatchOption found (Conflict forms given.now) (λ held. AreReachedOver forms given.now (held_to held.lits vars))) }
+{
+    let mut rounds = Rounds::new(alloc, vars)?;
+    match rounds.settle(&forms, given) {
+        Some(Outcome::Conflict { .. }) => Ok(None),
+        Some(Outcome::Fixed) => Ok(Some(rounds)),
+        None => {
+            mem::drop(rounds);
+            held_by_engine(alloc, vars, forms, given)
+        }
+    }
+}
+
 // Adds the literal of a variable that holds, if one does.
-fn push_value(engine: &Engine, index: u32, out: &mut Vec<Lit>) -> Result<(), AllocError>
+fn push_value(held: &Rounds, index: u32, out: &mut Vec<Lit>) -> Result<(), AllocError>
     requires low { 1 ≤ index }
     requires high { index < 2 ^ 31 }
-    ensures { OnOk result (out.new.items ≡ out.old.items ++ value_at engine.now.held index) }
+    ensures { OnOk result (out.new.items ≡ out.old.items ++ value_at held.now.lits index) }
 {
-    if engine.holds(lit_at(index, true)) {
+    if held.holds(lit_at(index, true)) {
         out.push(lit_at(index, true))?;
         return Ok(());
     }
-    if engine.holds(lit_at(index, false)) {
+    if held.holds(lit_at(index, false)) {
         out.push(lit_at(index, false))?;
     }
     Ok(())
 }
 
 // Adds the literals that hold, by variable.
-fn push_held(engine: &Engine, vars: u32, out: &mut Vec<Lit>) -> Result<(), AllocError>
+fn push_held(held: &Rounds, vars: u32, out: &mut Vec<Lit>) -> Result<(), AllocError>
     requires { vars < 2 ^ 31 }
-    ensures { OnOk result (out.new.items ≡ out.old.items ++ held_to engine.now.held vars) }
+    ensures { OnOk result (out.new.items ≡ out.old.items ++ held_to held.now.lits vars) }
 {
     for index in 1..vars + 1 {
-        push_value(engine, index, out)?;
+        push_value(held, index, out)?;
     }
     Ok(())
 }
 
 // The literals that hold, by variable.
-fn all_held(alloc: Global, engine: &Engine, vars: u32) -> Result<Vec<Lit>, AllocError>
+fn all_held(alloc: Global, held: &Rounds, vars: u32) -> Result<Vec<Lit>, AllocError>
     requires { vars < 2 ^ 31 }
-    ensures { IfOk result (λ v. v.items ≡ held_to engine.now.held vars) }
+    ensures { IfOk result (λ v. v.items ≡ held_to held.now.lits vars) }
 {
     let mut out = Vec::new(alloc);
-    push_held(engine, vars, &mut out)?;
+    push_held(held, vars, &mut out)?;
     Ok(out)
 }
 
@@ -97,11 +141,9 @@ fn reached_within(
     requires ascending { AreAscending given.now }
     ensures { IfOk result (λ found. MatchOption found (Conflict forms given.now) (λ v. AreReachedOver forms given.now v.items)) }
 {
-    let mut engine = Engine::over(alloc, vars, forms)?;
-    assume_all(&mut engine, given);
-    match engine.propagate() {
-        Outcome::Conflict { .. } => Ok(None),
-        Outcome::Fixed => Ok(Some(all_held(alloc, &engine, vars)?)),
+    match held_over(alloc, vars, forms, given)? {
+        None => Ok(None),
+        Some(held) => Ok(Some(all_held(alloc, &held, vars)?)),
     }
 }
 

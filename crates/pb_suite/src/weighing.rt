@@ -13,7 +13,7 @@ use crate::reading::read_problem;
 use crate::storing::outcome_of;
 use pb_base::{Failed, Problem};
 use pb_desk::{Desk, say_all};
-use pb_encode::{summary_text, weighted};
+use pb_encode::{weighted, words_of};
 use pb_words::Weighing;
 use std::alloc::Global;
 
@@ -34,7 +34,7 @@ fn store_weighted<D: Desk>(
         Ok(summary) => summary,
         Err(fault) => return outcome_of(fault),
     };
-    let Ok(words) = summary_text(alloc, &summary) else {
+    let Ok(words) = words_of(alloc, problem, &asked.options, &summary) else {
         return Outcome::NoMemory;
     };
     match say_all(desk, &words) {

@@ -4,7 +4,7 @@ use Rattle.pb_choice.specs.declared.options.Options.{Options}
 use Rattle.pb_choice.specs.Defaults.{default_options}
 use Rattle.pb_desk.specs.View.{spoke}
 use Rattle.pb_desk.specs.Desk.{LacksRoom, Reaches, StopsIn, words}
-use Rattle.pb_encode.specs.Summaries.{summary_of, summary_text, IsOver}
+use Rattle.pb_encode.specs.Summaries.{IsOver}
 use Rattle.pb_words.specs.BenchWords.{as_bench_words}
 use Rattle.pb_suite.specs.declared.outcome.Outcome.TheVariants as outcome
 use Rattle.pb_suite.specs.Obeying.{Obeys}
@@ -26,12 +26,18 @@ returns-in-Err-Limit g c =
     let p = c.args.problem.now in
     let a = g.D.Desk.state c.args.desk.now in
     let which = c.in-Err-Limit.which in
-    let over = subst (λ (o : Options). IsOver which o p) c.default.ensures (c.in-Err-Limit.ensures.limit which (ap Err c.in-Err-Limit.field-0-is)) in
+    let over = subst (λ (o : Options). IsOver which o p) c.default-options.ensures (c.in-Err-Limit.ensures.limit which (ap Err c.in-Err-Limit.field-0-is)) in
     subst (λ (k : LimitKind). Obeys (owed_bench w) a a (outcome.Limit None k None)) (sym c.in-Err-Limit.which-is)
     (is_refused (owed_bench w) a a (outcome.Limit None which None) (stays a) tt (bench_over w p a c.requires.reads which over))
 
 pub returns-in_default : goal.returns-in_default
 returns-in_default g c = bare_memory (owed_bench (as_bench_words c.args.asked.now)) (g.D.Desk.state c.args.desk.now) (g.D.Desk.state c.args.desk.now) (stays (g.D.Desk.state c.args.desk.now))
+
+pub words_of-requires-clause-encodable : goal.words_of-requires-clause-encodable
+words_of-requires-clause-encodable g c = c.in-Ok.ensures.encodable
+
+pub words_of-requires-clause-summary : goal.words_of-requires-clause-summary
+words_of-requires-clause-summary g c = c.in-Ok.ensures.summary
 
 pub returns-in-Ok-say_all : goal.returns-in-Ok-say_all
 returns-in-Ok-say_all g c =
@@ -40,8 +46,8 @@ returns-in-Ok-say_all g c =
     let a = g.D.Desk.state c.args.desk.now in
     let d = g.D.Desk.state c.say_all.new.desk in
     let line = due_words default_options p in
-    let is_said : c.deref.result.now ≡ line = c.deref.ensures.value ∙ c.in-Ok-summary_text.ensures ∙ ap summary_text (c.in-Ok.ensures.summary ∙ ap (λ (o : Options). summary_of o p) c.default.ensures) in
-    let due = bench_due w p a c.requires.reads (only_words line) (ap (λ (n : Option (List ℕ)). bench_output n p) (sym c.requires.unnamed)) (rw (sym c.default.ensures) c.in-Ok.ensures.encodable) in
+    let is_said : c.deref.result.now ≡ line = c.deref.ensures.value ∙ c.in-Ok-words_of.ensures ∙ ap (λ (o : Options). due_words o p) c.default-options.ensures in
+    let due = bench_due w p a c.requires.reads (only_words line) (ap (λ (n : Option (List ℕ)). bench_output n p) (sym c.requires.unnamed)) (rw (sym c.default-options.ensures) c.in-Ok.ensures.encodable) in
     said_obeys (owed_bench w) line a d (g.met.D.Desk.steady_tells c.args.desk.now) due (subst (λ (xs : List ℕ). Reaches (spoke xs) a d) is_said c.in-Ok-say_all.ensures.ok)
 
 pub returns : goal.returns
@@ -51,8 +57,8 @@ returns g c =
     let a = g.D.Desk.state c.args.desk.now in
     let d = g.D.Desk.state c.say_all.new.desk in
     let line = due_words default_options p in
-    let is_said : c.deref.result.now ≡ line = c.deref.ensures.value ∙ c.in-Ok-summary_text.ensures ∙ ap summary_text (c.in-Ok.ensures.summary ∙ ap (λ (o : Options). summary_of o p) c.default.ensures) in
-    let due = bench_due w p a c.requires.reads (only_words line) (ap (λ (n : Option (List ℕ)). bench_output n p) (sym c.requires.unnamed)) (rw (sym c.default.ensures) c.in-Ok.ensures.encodable) in
+    let is_said : c.deref.result.now ≡ line = c.deref.ensures.value ∙ c.in-Ok-words_of.ensures ∙ ap (λ (o : Options). due_words o p) c.default-options.ensures in
+    let due = bench_due w p a c.requires.reads (only_words line) (ap (λ (n : Option (List ℕ)). bench_output n p) (sym c.requires.unnamed)) (rw (sym c.default-options.ensures) c.in-Ok.ensures.encodable) in
     saying_obeys (owed_bench w) line a d (g.met.D.Desk.steady_tells c.args.desk.now) due
     (subst (λ (xs : List ℕ). StopsIn xs spoke a d) is_said c.in-Err.ensures.failed)
     (λ steady. subst (λ (xs : List ℕ). LacksRoom words (length xs) a) is_said (c.in-Err.ensures.steady steady))
