@@ -4,10 +4,12 @@ mod checks;
 mod decodes;
 mod derivations;
 mod encodes;
+mod equalities;
 mod maps;
 mod probes;
 mod refuses;
 mod refutes;
+mod tables;
 mod wcnfs;
 mod words;
 

@@ -194,7 +194,7 @@ fn each_command(rt: HostRuntime) -> Result<(), Fail> {
     let cases = [
         ("pbcnf encode a d", [ONE, b"", b""], 1),
         ("pbcnf encode a d", [WEIGHTS, b"", b""], 1),
-        ("pbcnf encode a d --at-most=2", [COSTS, b"", b""], 1),
+        ("pbcnf encode a d --at-most=2 --table", [COSTS, b"", b""], 1),
         ("pbcnf wcnf a d", [COSTS, b"", b""], 1),
         ("pbcnf decode a b", [ONE, PRINTED, b""], 2),
         ("pbcnf map a", [NAMES, b"", b""], 1),

@@ -79,6 +79,14 @@ fn what_is_made_is_accepted(rt: HostRuntime) -> Result<(), Fail> {
         ("", "+1 x1 x2 >= 1 ;\n"),
         ("", "+2 x1 ~x2 +1 x2 ~x2 +1 x1 x1 >= 3 ;\n"),
         (" --general adder", "+4 x1 ~x2 +3 x2 x3 x1 +2 x3 >= 4 ;\n"),
+        // Equalities as one, whose halves are divided by their coefficient; and where the budget is too small.
+        (" --equal joint", "+1 x1 +1 x2 +1 x3 = 1 ;\n"),
+        (" --equal joint", "+2 x1 -2 x2 +2 ~x3 +2 x4 = 2 ;\n"),
+        (" --equal joint --budget 3", "+1 x1 +1 x2 +1 x3 = 1 ;\n"),
+        (
+            " --equal joint",
+            "+1 x1 x2 >= 1 ;\n+3 x1 +3 x2 +3 x3 +3 x4 = 6 ;\n+1 x1 +1 x3 = 1 ;\n+1 x2 +1 x3 +1 x4 +1 x5 = 3 ;\n+1 x5 >= 1 ;\n",
+        ),
         // Several constraints, of which each is derived under its own id.
         (
             " --card totalizer --general tree",

@@ -10,6 +10,10 @@ const COUNTER: &str = "p cnf 10 13\n-1 5 0\n-6 0\n-2 7 0\n-5 7 0\n-2 -5 8 0\n-6 
 // Exactly one of two variables.
 const ONE: &str = "p cnf 2 2\n1 2 0\n-1 -2 0\n";
 
+// Eleven implications, each before the one that it follows from.
+const BACKWARDS: &str = "p cnf 12 11\n-11 12 0\n-10 11 0\n-9 10 0\n-8 9 0\n-7 8 0\n-6 7 0\n\
+-5 6 0\n-4 5 0\n-3 4 0\n-2 3 0\n-1 2 0\n";
+
 // What probing the CNF with these words says, where it is done and makes no file.
 fn said(alloc: Global, words: &str, cnf: &str) -> Option<String> {
     let run = run_freely(alloc, words, cnf.as_bytes()).ok()?;
@@ -51,6 +55,14 @@ fn what_is_reached(rt: HostRuntime) -> Result<(), Fail> {
         let found = said(rt.alloc(), words, cnf);
         assert_eq!(rt; found.as_deref(), Some(line), "at {words}");
     }
+    Ok(())
+}
+
+#[test]
+fn implications_in_the_worst_order(rt: HostRuntime) -> Result<(), Fail> {
+    let found = said(rt.alloc(), "pbcnf probe a x1", BACKWARDS);
+    let expected = "fixed 1 2 3 4 5 6 7 8 9 10 11 12 0\n";
+    assert_eq!(rt; found.as_deref(), Some(expected));
     Ok(())
 }
 

@@ -47,6 +47,12 @@ fn words_that_ask_for_nothing(rt: HostRuntime) -> Result<(), Fail> {
         "pbcnf wcnf a w --at-most=+1",
         "pbcnf wcnf a w --at-most-minus=",
         "pbcnf refute a c p l --at-most-minus=1 --at-most-minus=1",
+        // A table has no value, stands once, and behind `encode` alone.
+        "pbcnf encode a c --table=1",
+        "pbcnf encode a c --table --table",
+        "pbcnf wcnf a w --table",
+        "pbcnf check a c p --table",
+        "pbcnf bench 1 0 --table",
         // No command.
         "pbcnf decide a c",
         "pbcnf  a c",

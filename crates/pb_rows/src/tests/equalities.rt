@@ -1,0 +1,149 @@
+use pb_runs::run_freely;
+use std::alloc::Global;
+use std::test::Fail;
+
+// Exactly one of three variables.
+const ONE: &str = "+1 x1 +1 x2 +1 x3 = 1 ;\n";
+
+// It as one, by a totalizer in both directions.
+const JOINT: &str = "p cnf 7 15\n-3 4 0\n-2 4 0\n-2 -3 5 0\n2 3 -4 0\n2 -5 0\n3 -5 0\n\
+-4 6 0\n-5 7 0\n-1 6 0\n-1 -4 7 0\n1 4 -6 0\n1 5 -7 0\n4 -7 0\n6 0\n-7 0\n";
+
+// It half by half: a clause, and a clause for each two.
+const SPLIT: &str = "p cnf 3 4\n1 2 3 0\n-1 -2 0\n-1 -3 0\n-2 -3 0\n";
+
+// What is said of it, as one and half by half.
+const SAID_JOINT: &str = "variables 7 original 3 fresh 4 clauses 15\n\
+nothing 0 empty 0 clause 0 pairwise 0 ladder 0 product 0 counter 0 totalizer 0 diagram 0 tree 0 adder 0 joint 2\n";
+
+const SAID_SPLIT: &str = "variables 3 original 3 fresh 0 clauses 4\n\
+nothing 0 empty 0 clause 1 pairwise 1 ladder 0 product 0 counter 0 totalizer 0 diagram 0 tree 0 adder 0\n";
+
+// What is made, where that is one file and the run is done.
+fn made(alloc: Global, words: &str, text: &str) -> Option<String> {
+    let run = run_freely(alloc, words, text.as_bytes()).ok()?;
+    if run.outcome.status() != 0 || run.desk.made(1).is_some() {
+        return None;
+    }
+    str::from_utf8(run.desk.made(0)?)
+        .ok()?
+        .to_string(alloc)
+        .ok()
+}
+
+// What is said, where the run is done.
+fn said(alloc: Global, words: &str, text: &str) -> Option<String> {
+    let run = run_freely(alloc, words, text.as_bytes()).ok()?;
+    if run.outcome.status() != 0 {
+        return None;
+    }
+    str::from_utf8(run.desk.said()).ok()?.to_string(alloc).ok()
+}
+
+#[test]
+fn both_halves_as_one(rt: HostRuntime) -> Result<(), Fail> {
+    let cases = [
+        ("pbcnf encode a c", SPLIT, SAID_SPLIT),
+        ("pbcnf encode a c --equal split", SPLIT, SAID_SPLIT),
+        ("pbcnf encode a c --equal joint", JOINT, SAID_JOINT),
+        // Just within the budget, and past it.
+        (
+            "pbcnf encode a c --equal joint --budget 4",
+            JOINT,
+            SAID_JOINT,
+        ),
+        (
+            "pbcnf encode a c --equal joint --budget 3",
+            SPLIT,
+            SAID_SPLIT,
+        ),
+    ];
+    for &(words, cnf, line) in &cases {
+        let cnf_made = made(rt.alloc(), words, ONE);
+        let told = said(rt.alloc(), words, ONE);
+        assert_eq!(rt; cnf_made.as_deref(), Some(cnf), "at {words}");
+        assert_eq!(rt; told.as_deref(), Some(line), "at {words}");
+    }
+    Ok(())
+}
+
+#[test]
+fn which_are_one(rt: HostRuntime) -> Result<(), Fail> {
+    let cases = [
+        // A coefficient that all have, and literals of either sign.
+        (
+            "+2 x1 +2 x2 +2 x3 = 4 ;\n",
+            "p cnf 8 18\n-3 4 0\n-2 4 0\n-2 -3 5 0\n2 3 -4 0\n2 -5 0\n3 -5 0\n\
+-4 6 0\n-5 7 0\n-1 6 0\n-1 -4 7 0\n-1 -5 8 0\n1 4 -6 0\n1 5 -7 0\n1 -8 0\n4 -7 0\n5 -8 0\n7 0\n-8 0\n",
+        ),
+        (
+            "+2 x1 -2 x2 +2 ~x3 +2 x4 = 2 ;\n",
+            "p cnf 11 27\n2 5 0\n-1 5 0\n-1 2 6 0\n1 -2 -5 0\n1 -6 0\n-2 -6 0\n\
+-4 7 0\n3 7 0\n3 -4 8 0\n-3 4 -7 0\n-3 -8 0\n4 -8 0\n\
+-7 9 0\n-8 10 0\n-5 9 0\n-5 -7 10 0\n-5 -8 11 0\n-6 10 0\n-6 -7 11 0\n\
+5 7 -9 0\n5 8 -10 0\n5 -11 0\n6 7 -10 0\n6 8 -11 0\n7 -11 0\n10 0\n-11 0\n",
+        ),
+        // Two literals; none of three, and all; no whole number of them; two coefficients; at least, not exactly.
+        ("+1 x1 +1 x2 = 1 ;\n", "p cnf 2 2\n1 2 0\n-1 -2 0\n"),
+        ("+1 x1 +1 x2 +1 x3 = 0 ;\n", "p cnf 3 3\n-1 0\n-2 0\n-3 0\n"),
+        ("+1 x1 +1 x2 +1 x3 = 3 ;\n", "p cnf 3 3\n1 0\n2 0\n3 0\n"),
+        (
+            "+2 x1 +2 x2 +2 x3 = 3 ;\n",
+            "p cnf 3 6\n1 2 0\n1 3 0\n2 3 0\n-1 -2 0\n-1 -3 0\n-2 -3 0\n",
+        ),
+        ("+2 x1 +1 x2 +1 x3 = 4 ;\n", "p cnf 3 3\n1 0\n2 0\n3 0\n"),
+        ("+1 x1 +1 x2 +1 x3 >= 1 ;\n", "p cnf 3 1\n1 2 3 0\n"),
+        // The fresh variables of the second come after those of the first.
+        (
+            "+1 x1 +1 x2 >= 1 ;\n+1 x1 +1 x2 +1 x3 = 1 ;\n+1 ~x3 >= 1 ;\n",
+            "p cnf 7 17\n1 2 0\n-3 4 0\n-2 4 0\n-2 -3 5 0\n2 3 -4 0\n2 -5 0\n3 -5 0\n\
+-4 6 0\n-5 7 0\n-1 6 0\n-1 -4 7 0\n1 4 -6 0\n1 5 -7 0\n4 -7 0\n6 0\n-7 0\n-3 0\n",
+        ),
+    ];
+    for &(text, cnf) in &cases {
+        let found = made(rt.alloc(), "pbcnf encode a c --equal joint", text);
+        assert_eq!(rt; found.as_deref(), Some(cnf), "at {text}");
+    }
+    Ok(())
+}
+
+// Two equalities are four constraints.
+#[test]
+fn two_for_each(rt: HostRuntime) -> Result<(), Fail> {
+    let text = "+1 x1 +1 x2 +1 x3 = 1 ;\n+1 x2 +1 x3 +1 x4 = 2 ;\n";
+    let lines = "variables 13 original 4 fresh 9 clauses 33\n\
+nothing 0 empty 0 clause 0 pairwise 0 ladder 0 product 0 counter 0 totalizer 0 diagram 0 tree 0 adder 0 joint 4\n";
+    let told = said(rt.alloc(), "pbcnf encode a c --equal joint", text);
+    assert_eq!(rt; told.as_deref(), Some(lines));
+    Ok(())
+}
+
+// What unit propagation reaches over both halves as one: each half by itself does not reach so much.
+#[test]
+fn what_both_reach(rt: HostRuntime) -> Result<(), Fail> {
+    let cases = [
+        ("pbcnf probe a ~x1 ~x2", "fixed -1 -2 3 4 -5 6 -7 0\n"),
+        ("pbcnf probe a x1", "fixed 1 -2 -3 -4 -5 6 -7 0\n"),
+        ("pbcnf probe a x1 x2", "conflict\n"),
+        ("pbcnf probe a ~x1 ~x2 ~x3", "conflict\n"),
+    ];
+    for &(words, line) in &cases {
+        let is_due = match run_freely(rt.alloc(), words, JOINT.as_bytes()) {
+            Ok(run) => run.outcome.status() == 0 && run.desk.said() == line.as_bytes(),
+            Err(_) => false,
+        };
+        assert!(rt; is_due, "at {words}");
+    }
+    Ok(())
+}
+
+// Weighted CNFs too.
+#[test]
+fn hard_lines_as_one(rt: HostRuntime) -> Result<(), Fail> {
+    let text = "min: +2 x1 ;\n+1 x1 +1 x2 +1 x3 = 1 ;\n";
+    let wcnf = "c offset 0\nh -3 4 0\nh -2 4 0\nh -2 -3 5 0\nh 2 3 -4 0\nh 2 -5 0\nh 3 -5 0\n\
+h -4 6 0\nh -5 7 0\nh -1 6 0\nh -1 -4 7 0\nh 1 4 -6 0\nh 1 5 -7 0\nh 4 -7 0\nh 6 0\nh -7 0\n2 -1 0\n";
+    let found = made(rt.alloc(), "pbcnf wcnf a w --equal joint", text);
+    assert_eq!(rt; found.as_deref(), Some(wcnf));
+    Ok(())
+}
