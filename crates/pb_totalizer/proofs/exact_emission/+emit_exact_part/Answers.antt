@@ -1,5 +1,4 @@
-use Rattle.std.proofs.Common.{rules, arith, ◌≡◌, ◌≤◌, ◌<◌, ◌+◌, ◌^◌, List, length, ap, sym, ◌∙◌, refl}
-use Rattle.pb_base.specs.declared.literal.Lit.{Lit}
+use Rattle.std.proofs.Common.{rules, arith, ◌≡◌, ◌≤◌, ◌<◌, ◌+◌, ◌^◌, length, ap, sym, ◌∙◌, refl}
 use Rattle.pb_norm.specs.Constraints.{weights}
 use Rattle.pb_family.proofs.Taking.{takes_nothing}
 use Rattle.pb_family.proofs.Emission.{fails_as, hands_fault, takes_as}
