@@ -1,37 +1,8 @@
 //! What an equality asks of its literals, by its lower half.
 ghost use Rattle.std.specs.Prelude.{◌≡◌};
-ghost use Rattle.std.specs.List.{list_all};
-ghost use Rattle.pb_norm.specs.Constraints.{weights};
-ghost use Rattle.pb_norm.specs.laws.Kept.{on_weight};
-ghost use Rattle.pb_norm.specs.Reduction.{all_weigh, first_coef, has_coef};
 ghost use Rattle.pb_choice.specs.Equals.{asks_for_number, asks_for_some, is_counting, number_asked};
 
-use pb_base::Term;
-use pb_norm::Linear;
-
-/// The coefficient of the first term, and 1 if there is none.
-pub fn first_coef(terms: &[Term]) -> u128
-    ensures { result ≡ first_coef (weights terms.now) }
-{
-    match terms {
-        [first, ..] => first.weight(),
-        [] => 1,
-    }
-}
-
-// Whether the coefficient of each term is this number.
-fn each_weighs(terms: &[Term], coef: u128) -> bool
-    ensures { result ≡ list_all (on_weight (has_coef coef)) terms.now }
-{
-    terms.iter().all(|term| term.weight() == coef)
-}
-
-// Whether all coefficients are this number.
-fn all_weigh(terms: &[Term], coef: u128) -> bool
-    ensures { result ≡ all_weigh coef (weights terms.now) }
-{
-    each_weighs(terms, coef)
-}
+use pb_norm::{Linear, all_weigh, first_coef};
 
 /// How many times the degree has the first coefficient.
 pub fn number_asked(lower: &Linear) -> u128

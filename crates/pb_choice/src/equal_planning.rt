@@ -1,5 +1,5 @@
 //! Planning the encoding of an equality.
-ghost use Rattle.std.specs.Prelude.{◌≡◌, ◌≤◌, ◌<◌, ◌^◌, true, false, length, map, IfOk};
+ghost use Rattle.std.specs.Prelude.{◌≡◌, ◌≤◌, ◌<◌, ◌^◌, true, false, length, IfOk};
 ghost use Rattle.std.specs.Option.{MatchOption};
 ghost use Rattle.pb_norm.specs.Constraints.{IsLinear, weight};
 ghost use Rattle.pb_norm.specs.Reduction.{lits_of};
@@ -7,13 +7,13 @@ ghost use Rattle.pb_totalizer.specs.ExactSum.{exact_sum};
 ghost use Rattle.pb_choice.specs.Equals.{is_joining, is_joint, literals_asked};
 ghost use Rattle.pb_choice.specs.laws.EqualPlans.{HasPartsOf, IsEqualPlan};
 
-use crate::asking::{asks_for_number, first_coef, number_asked};
+use crate::asking::{asks_for_number, number_asked};
 use crate::equal::EqualPlan;
 use crate::options::{EqualMode, Options};
 use crate::planning::plan;
-use pb_base::{Lit, Lits, NoMemory, Term};
+use pb_base::{Lits, NoMemory};
 use pb_family::Built;
-use pb_norm::Linear;
+use pb_norm::{Linear, first_coef, lits_of};
 use pb_totalizer::Exact;
 use std::alloc::{AllocError, Global};
 
@@ -25,13 +25,6 @@ fn is_joining(mode: EqualMode) -> bool
         EqualMode::Split => false,
         EqualMode::Joint => true,
     }
-}
-
-// The literals of terms.
-fn lits_of(alloc: Global, terms: &[Term]) -> Result<Vec<Lit>, AllocError>
-    ensures { IfOk result (λ v. v.items ≡ map (λ t. t.lit) terms.now) }
-{
-    terms.iter().map(|term| term.lit).collect(alloc)
 }
 
 // The literals of a constraint.

@@ -1,5 +1,5 @@
 //! What given literals reach over clauses.
-ghost use Rattle.std.specs.Prelude.{◌≡◌, ◌≤◌, ◌<◌, ◌^◌, ◌++◌, [], All, IfOk, OnOk, map};
+ghost use Rattle.std.specs.Prelude.{◌≡◌, ◌≤◌, ◌<◌, ◌^◌, ◌++◌, [], All, IfOk, OnOk};
 ghost use Rattle.std.specs.Option.{MatchOption};
 ghost use Rattle.pb_norm.specs.ClausePropagation.{ClauseConflict};
 ghost use Rattle.pb_norm.specs.Propagation.{Conflict};
@@ -10,18 +10,11 @@ ghost use Rattle.pb_suite.specs.laws.Renaming.{AreNamed, AreNames};
 use crate::numbering::{
     greatest, greatest_of, lit_at, named_lits, names_of, numbered_forms, numbered_lits, vars_of,
 };
-use pb_base::{Lit, Lits, NoMemory, Term};
-use pb_norm::clause_form;
+use pb_base::{Lit, Lits, NoMemory};
+use pb_norm::{clause_form, lits_of};
 use pb_unit::{Constraints, Engine, Outcome, Rounds};
 use std::alloc::{AllocError, Global};
 use std::mem;
-
-// The literals of terms.
-fn lits_of(alloc: Global, terms: &[Term]) -> Result<Vec<Lit>, AllocError>
-    ensures { IfOk result (λ v. v.items ≡ map (λ t. t.lit) terms.now) }
-{
-    terms.iter().map(|term| term.lit).collect(alloc)
-}
 
 // The literals, each once, variables ascending, as the form of a clause has them; none where two are opposite.
 fn sorted(alloc: Global, lits: &Lits) -> Result<Option<Vec<Lit>>, NoMemory>
