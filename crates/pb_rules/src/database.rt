@@ -4,6 +4,7 @@ ghost use Rattle.std.specs.Option.{option_copied};
 ghost use Rattle.pb_norm.specs.Constraints.{HasVarsWithin, AreVarsWithin};
 ghost use Rattle.pb_steps.specs.Operations.{IsNarrow};
 ghost use Rattle.pb_steps.specs.Database.{live_constraints, constraint_at, is_live, is_out, grown, reduced, marked, loaded_database};
+ghost use Rattle.pb_unit.specs.States.{started};
 ghost use Rattle.pb_rules.specs.laws.Slots.{placed_from};
 ghost use Rattle.pb_rules.specs.laws.Ordered.{IsOrdered};
 ghost use Rattle.pb_rules.specs.laws.Sound.{IsDatabase};
@@ -92,6 +93,21 @@ fn copies(alloc: Global, loaded: &[Linear]) -> Result<Vec<Linear>, NoMemory>
     Ok(list)
 }
 
+// An engine over constraints that are loaded.
+fn loaded_engine(alloc: Global, vars: u32, loaded: &[Linear]) -> Result<Engine, NoMemory>
+    requires { AreVarsWithin vars loaded.now }
+    ensures { IfOk result (λ engine. engine ≡ started vars loaded.now) }
+{
+    Engine::new(alloc, vars, copies(alloc, loaded)?)
+}
+
+// An engine in which nothing stands.
+fn idle_engine(alloc: Global, vars: u32) -> Result<Engine, NoMemory>
+    ensures { IfOk result (λ engine. engine ≡ started vars []) }
+{
+    Engine::new(alloc, vars, Vec::new(alloc))
+}
+
 impl Database {
     /// The database of loaded constraints, whose ids are 1, 2, .., over `original` variables of a problem and fresh ones up to `vars`.
     pub fn new(
@@ -104,15 +120,20 @@ impl Database {
         requires narrow { All IsNarrow loaded.now }
         ensures { IfOk result (λ db. db ≡ loaded_database original vars loaded.now) }
     {
+        let slots = loaded_slots(alloc, loaded)?;
+        let named = loaded_index(alloc, vars, loaded)?;
+        let engine = loaded_engine(alloc, vars, loaded)?;
+        let idle = idle_engine(alloc, vars)?;
+        let rounds = Rounds::new(alloc, vars)?;
         Ok(Database {
             original,
             vars,
-            slots: loaded_slots(alloc, loaded)?,
+            slots,
             entered: loaded.len(),
-            engine: Engine::new(alloc, vars, copies(alloc, loaded)?)?,
-            idle: Engine::new(alloc, vars, Vec::new(alloc))?,
-            rounds: Rounds::new(alloc, vars)?,
-            named: loaded_index(alloc, vars, loaded)?,
+            engine,
+            idle,
+            rounds,
+            named,
             left: 0,
             limit: vars as usize,
             alloc,

@@ -1,4 +1,4 @@
-use Rattle.std.proofs.Common.{◌≡◌, ◌∙◌, List, length, ap, sym, subst, arith}
+use Rattle.std.proofs.Common.{◌≡◌, ◌∙◌, [], List, length, ap, refl, sym, subst, arith}
 use Rattle.pb_unit.specs.Trails.{Held}
 use Rattle.pb_rules.specs.declared.slots.Slot.{Slot}
 use Rattle.pb_rules.specs.laws.Indexed.{IsIndexed}
@@ -10,16 +10,16 @@ use Rattle.pb_rules.proofs.database.Database.new.Goals as goal
 
 pub invariant_of-result : goal.invariant_of-result
 invariant_of-result c =
-    let slots = c.in_ok-loaded_slots.field-0.items in
-    let count : length slots ≡ length c.args.loaded.now = ap length c.in_ok-loaded_slots.ensures ∙ length-placed_from 0 c.args.loaded.now in
+    let slots = c.in_ok-slots.slots.items in
+    let count : length slots ≡ length c.args.loaded.now = ap length c.in_ok-slots.ensures ∙ length-placed_from 0 c.args.loaded.now in
     record {
-      sound = sound-loaded_database c.args.vars c.in_ok-loaded_slots.field-0.items c.args.loaded.now c.in_ok-loaded_slots.ensures c.requires.within c.requires.narrow;
+      sound = sound-loaded_database c.args.vars c.in_ok-slots.slots.items c.args.loaded.now c.in_ok-slots.ensures c.requires.within c.requires.narrow;
       few = omega (arith, count);
-      mirrored = entered-whole c.args.vars (length c.args.loaded.now) slots c.in_ok-new.field-0 (omega (arith, count)) (mirrored-new c.args.vars slots c.args.loaded.now c.in_ok-copies.field-0.items c.in_ok-new.field-0 c.in_ok-loaded_slots.ensures c.in_ok-new.ensures.start c.in_ok-copies.ensures);
-      is_idle = idle-new c.args.vars c.new-2.result.items c.in_ok-new-2.field-0 c.in_ok-new-2.ensures.start c.new-2.ensures.items;
-      beside = ap (λ (h : Held). h.vars) c.in_ok-new-3.ensures;
-      indexed = subst (λ (ss : List Slot). IsIndexed c.args.vars ss c.in_ok-loaded_index.field-0.items) (sym c.in_ok-loaded_slots.ensures) c.in_ok-loaded_index.ensures;
+      mirrored = entered-whole c.args.vars (length c.args.loaded.now) slots c.in_ok-engine.engine (omega (arith, count)) (mirrored-new c.args.vars slots c.args.loaded.now c.args.loaded.now c.in_ok-engine.engine c.in_ok-slots.ensures c.in_ok-engine.ensures refl);
+      is_idle = idle-new c.args.vars [] c.in_ok-idle.idle c.in_ok-idle.ensures refl;
+      beside = ap (λ (h : Held). h.vars) c.in_ok-rounds.ensures;
+      indexed = subst (λ (ss : List Slot). IsIndexed c.args.vars ss c.in_ok-named.named.items) (sym c.in_ok-slots.ensures) c.in_ok-named.ensures;
     }
 
 pub returns : goal.returns
-returns c = loaded_database-slots c.args.original c.args.vars c.in_ok-loaded_slots.field-0.items c.args.loaded.now c.in_ok-loaded_slots.ensures
+returns c = loaded_database-slots c.args.original c.args.vars c.in_ok-slots.slots.items c.args.loaded.now c.in_ok-slots.ensures
