@@ -11,6 +11,7 @@ ghost use Rattle.pb_choice.specs.ConstraintSteps.{constraint_steps};
 ghost use Rattle.pb_choice.specs.Equals.{equality_count, equality_fresh};
 ghost use Rattle.pb_choice.specs.EqualitySteps.{equality_steps};
 ghost use Rattle.pb_choice.specs.Readiness.{LeavesIds};
+ghost use Rattle.pb_choice.specs.laws.EqualPlans.{planned_count, planned_fresh, planned_steps, IsPlannedBelow};
 ghost use Rattle.pb_encode.specs.Clauses.{clause_total, fresh_total};
 ghost use Rattle.pb_encode.specs.Groups.{group_count, group_fresh, group_of, group_size, group_steps, groups_of, singles, size_total, statement_groups};
 ghost use Rattle.pb_encode.specs.Steps.{steps_from};
@@ -18,7 +19,7 @@ ghost use Rattle.pb_encode.specs.laws.Streams.{IsOverBelow, IsProductBelow};
 
 use crate::equality::both_halves;
 use pb_base::{Lit, Lits, Problem, Raw, Relation};
-use pb_choice::{Options, plan, plan_equal};
+use pb_choice::{EqualPlan, Options, Plan, plan, plan_equal};
 use pb_family::{SinkFault, StepSink};
 use pb_norm::{Half, Linear, normalize, product_constraint, product_variable};
 use std::alloc::Global;
@@ -28,6 +29,32 @@ use std::alloc::Global;
 pub struct Turn {
     pub first: u32,
     pub id: u64,
+}
+
+// Hands over the derivation of a constraint by its plan, and gives where the next one stands. It only looks at the plan: each
+// way out of a function that owns one makes the proof of that function much longer.
+fn derive_plan<T: StepSink>(
+    alloc: Global,
+    plan: &Plan<'_>,
+    turn: Turn,
+    sink: &mut T,
+) -> Result<Turn, SinkFault>
+    requires vars { VarsBelow turn.first plan.now.constraint.now.terms }
+    requires low { 1 ≤ turn.first }
+    requires fits { turn.first + constraint_fresh plan.now.options plan.now.constraint.now ≤ 2 ^ 31 }
+    requires counted { constraint_count plan.now.options plan.now.constraint.now ≤ 2 ^ 56 }
+    requires given { 1 ≤ turn.id }
+    requires known { turn.id < (T.state sink.old).next }
+    requires few { (T.state sink.old).next ≤ 2 ^ 60 }
+    ensures first { IfOk result (λ next. next.first ≡ turn.first + constraint_fresh plan.now.options plan.now.constraint.now) }
+    ensures id { IfOk result (λ next. next.id ≡ turn.id + 1) }
+    ensures hands { HandsFrom (constraint_steps plan.now.options plan.now.constraint.now turn.first turn.id) result (T.state sink.old) (T.state sink.new) }
+{
+    plan.derive(alloc, turn.first, turn.id, sink)?;
+    Ok(Turn {
+        first: turn.first + plan.counts().fresh as u32,
+        id: turn.id + 1,
+    })
 }
 
 // Hands over the derivation of a constraint, and gives where the next one stands.
@@ -52,11 +79,7 @@ fn derive_constraint<T: StepSink>(
     ensures hands { HandsFrom (constraint_steps options.now constraint.now turn.first turn.id) result (T.state sink.old) (T.state sink.new) }
 {
     let plan = plan(alloc, constraint, options)?;
-    plan.derive(alloc, turn.first, turn.id, sink)?;
-    Ok(Turn {
-        first: turn.first + plan.counts().fresh as u32,
-        id: turn.id + 1,
-    })
+    derive_plan(alloc, &plan, turn, sink)
 }
 
 // Hands over the derivations of a product's constraints.
@@ -143,6 +166,33 @@ fn derive_half<T: StepSink>(
     derive_constraint(alloc, &constraint, options, turn, sink)
 }
 
+// Hands over the derivation of an equality by its plan, and gives where the next one stands.
+fn derive_equal_plan<T: StepSink>(
+    alloc: Global,
+    plan: &EqualPlan<'_>,
+    turn: Turn,
+    sink: &mut T,
+) -> Result<Turn, SinkFault>
+    requires vars { IsPlannedBelow turn.first plan.now }
+    requires low { 1 ≤ turn.first }
+    requires fits { turn.first + planned_fresh plan.now ≤ 2 ^ 31 }
+    requires counted { planned_count plan.now ≤ 2 ^ 56 }
+    requires given { 1 ≤ turn.id }
+    requires known { turn.id + 2 ≤ (T.state sink.old).next }
+    requires few { LeavesIds (planned_steps plan.now turn.first turn.id (turn.id + 1)) (T.state sink.old).next }
+    ensures first { IfOk result (λ next. next.first ≡ turn.first + planned_fresh plan.now) }
+    ensures id { IfOk result (λ next. next.id ≡ turn.id + 2) }
+    ensures hands { HandsFrom (planned_steps plan.now turn.first turn.id (turn.id + 1)) result (T.state sink.old) (T.state sink.new) }
+{
+    let high = turn.id + 1;
+    plan.derive(alloc, turn.first, turn.id, high, sink)?;
+    let first = turn.first + plan.counts().fresh as u32;
+    Ok(Turn {
+        first,
+        id: high + 1,
+    })
+}
+
 // Hands over the derivation of an equality, given its halves, and gives where the next one stands.
 fn derive_pair<T: StepSink>(
     alloc: Global,
@@ -168,13 +218,7 @@ fn derive_pair<T: StepSink>(
     ensures hands { HandsFrom (equality_steps options.now lower.now upper.now turn.first turn.id (turn.id + 1)) result (T.state sink.old) (T.state sink.new) }
 {
     let plan = plan_equal(alloc, lower, upper, options)?;
-    let high = turn.id + 1;
-    plan.derive(alloc, turn.first, turn.id, high, sink)?;
-    let first = turn.first + plan.counts().fresh as u32;
-    Ok(Turn {
-        first,
-        id: high + 1,
-    })
+    derive_equal_plan(alloc, &plan, turn, sink)
 }
 
 // Hands over the derivation of an equality, and gives where the next one stands.

@@ -8,16 +8,35 @@ ghost use Rattle.pb_family.specs.Families.{VarsBelow};
 ghost use Rattle.pb_family.specs.Handing.{HandsIfMemory};
 ghost use Rattle.pb_choice.specs.Clauses.{constraint_clauses, constraint_fresh};
 ghost use Rattle.pb_choice.specs.Equals.{equality_clauses, equality_fresh};
+ghost use Rattle.pb_choice.specs.laws.EqualPlans.{planned_clauses, planned_fresh, IsPlannedBelow};
 ghost use Rattle.pb_encode.specs.Clauses.{clauses_from, fresh_total, loaded_clauses, loaded_vars, table_first};
 ghost use Rattle.pb_encode.specs.Groups.{group_clauses, group_fresh, group_of, singles, statement_groups};
 ghost use Rattle.pb_encode.specs.laws.Streams.{IsOverBelow, IsProductBelow};
 
 use crate::equality::both_halves;
 use pb_base::{Lit, Lits, Problem, Raw, Relation};
-use pb_choice::{Options, plan, plan_equal};
+use pb_choice::{EqualPlan, Options, Plan, plan, plan_equal};
 use pb_family::{ClauseSink, SinkFault};
 use pb_norm::{Half, Linear, normalize, product_constraint, product_variable};
 use std::alloc::Global;
+
+// Hands over the clauses of a constraint by its plan, and gives the first number after its fresh variables. It only looks at the
+// plan: each way out of a function that owns one makes the proof of that function much longer.
+fn stream_plan<S: ClauseSink>(
+    alloc: Global,
+    plan: &Plan<'_>,
+    first: u32,
+    sink: &mut S,
+) -> Result<u32, SinkFault>
+    requires vars { VarsBelow first plan.now.constraint.now.terms }
+    requires low { 1 ≤ first }
+    requires fits { first + constraint_fresh plan.now.options plan.now.constraint.now ≤ 2 ^ 31 }
+    ensures next { IfOk result (λ next. next ≡ first + constraint_fresh plan.now.options plan.now.constraint.now) }
+    ensures hands { HandsIfMemory (constraint_clauses plan.now.options plan.now.constraint.now first) result (S.state sink.old) (S.state sink.new) }
+{
+    plan.emit(alloc, first, sink)?;
+    Ok(first + plan.counts().fresh as u32)
+}
 
 // Hands over the clauses of a constraint, and gives the first number after its fresh variables.
 fn stream_constraint<S: ClauseSink>(
@@ -36,8 +55,7 @@ fn stream_constraint<S: ClauseSink>(
     ensures hands { HandsIfMemory (constraint_clauses options.now constraint.now first) result (S.state sink.old) (S.state sink.new) }
 {
     let plan = plan(alloc, constraint, options)?;
-    plan.emit(alloc, first, sink)?;
-    Ok(first + plan.counts().fresh as u32)
+    stream_plan(alloc, &plan, first, sink)
 }
 
 // Hands over the clauses of a product: for each literal that the product implies it, and then that all imply the product.
@@ -109,6 +127,24 @@ fn stream_half<S: ClauseSink>(
     stream_constraint(alloc, &constraint, options, first, sink)
 }
 
+// Hands over the clauses of an equality by its plan, and gives the first number after its fresh variables.
+fn stream_equal_plan<S: ClauseSink>(
+    alloc: Global,
+    plan: &EqualPlan<'_>,
+    first: u32,
+    sink: &mut S,
+) -> Result<u32, SinkFault>
+    requires vars { IsPlannedBelow first plan.now }
+    requires low { 1 ≤ first }
+    requires fits { first + planned_fresh plan.now ≤ 2 ^ 31 }
+    ensures next { IfOk result (λ next. next ≡ first + planned_fresh plan.now) }
+    ensures hands { HandsIfMemory (planned_clauses plan.now first) result (S.state sink.old) (S.state sink.new) }
+{
+    plan.emit(alloc, first, sink)?;
+    let next = first + plan.counts().fresh as u32;
+    Ok(next)
+}
+
 // Hands over the clauses of an equality, given its halves, and gives the first number after its fresh variables.
 fn stream_pair<S: ClauseSink>(
     alloc: Global,
@@ -129,9 +165,7 @@ fn stream_pair<S: ClauseSink>(
     ensures hands { HandsIfMemory (equality_clauses options.now lower.now upper.now first) result (S.state sink.old) (S.state sink.new) }
 {
     let plan = plan_equal(alloc, lower, upper, options)?;
-    plan.emit(alloc, first, sink)?;
-    let next = first + plan.counts().fresh as u32;
-    Ok(next)
+    stream_equal_plan(alloc, &plan, first, sink)
 }
 
 // Hands over the clauses of an equality, and gives the first number after its fresh variables.
