@@ -1,18 +1,13 @@
 -- A command that gains an argument, as clap's definitions see it.
-use Rattle.std.proofs.Common.{◌≡◌, ◌∙◌, ap₂, refl, true, false, ◌||◌, Bool}
-use Rattle.clap.specs.Words.{AddsArg, AddsSubcommand, App, Rule, app_of, rule_of, with_rule, with_subcommand}
+use Rattle.std.proofs.Common.{◌≡◌, ◌∙◌, ap, ap₂, refl, true, false, ◌||◌, Bool, List}
+use Rattle.clap.specs.Words.{AddsArg, AddsSubcommand, App, Rule, rule_of, with_rule, with_subcommand}
 use Rattle.clap.specs.declared.builder.arg.Arg.{Arg}
 use Rattle.clap.specs.declared.builder.command.Command.{Command}
-use Rattle.clap.specs.declared.builder.command.Command.TheViews.{out-Command}
-use Rattle.pb_words.specs.Rules.{IsCommand}
+use Rattle.pb_words.specs.Rules.{AddsRules, IsCommand, IsLike, with_rules}
 
 or_false : (b : Bool) → (b || false) ≡ b
 or_false true = refl
 or_false false = refl
-
--- what a command is, and whether an argument of its holds for others too
-abbrev pub IsLike : App → Bool → Command → Type 0
-IsLike app has_globals command = (app_of command ≡ app) × ((out-Command command).has_globals ≡ has_globals)
 
 -- one argument more
 pub adds_rule : (app : App) (has_globals : Bool) (rule : Rule) (old new : Command) (a : Arg) → AddsArg old a new
@@ -20,6 +15,14 @@ pub adds_rule : (app : App) (has_globals : Bool) (rule : Rule) (old new : Comman
 adds_rule app has_globals rule old new a adds old_is rule_is local = (
   adds.shape local ∙ ap₂ with_rule old_is.0 rule_is,
   adds.globals ∙ ap₂ (λ x y. x || y) old_is.1 local ∙ or_false has_globals,
+)
+
+-- more arguments
+pub adds_rules : (app : App) (has_globals : Bool) (rules : List Rule) (old new : Command) → AddsRules rules old new
+    → IsLike app has_globals old → IsLike (with_rules app rules) has_globals new
+adds_rules app has_globals rules old new adds old_is = (
+  adds.0 ∙ ap (λ a. with_rules a rules) old_is.0,
+  adds.1 ∙ old_is.1,
 )
 
 -- one command more

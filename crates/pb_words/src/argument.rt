@@ -1,49 +1,58 @@
-// Arguments of commands, and the words that they were given.
-ghost use Rattle.std.specs.Prelude.{◌≡◌, false, map, option_map};
-ghost use Rattle.clap.specs.Words.{all_of, first_of, found_of, rows_of, rule_of};
-ghost use Rattle.pb_words.specs.Rules.{flag_rule, name_rule, option_rule, optional_rule, words_rule};
+// Arguments of commands, and the words that they were given. An argument joins what the call before it answered: a caller
+// has one way out for all of them where there is no memory, and its proof has one case for that.
+ghost use Rattle.std.specs.Prelude.{◌≡◌, map, option_map};
+ghost use Rattle.clap.specs.Words.{all_of, first_of, found_of, rows_of};
+ghost use Rattle.pb_words.specs.Rules.{JoinsRule, name_rule, option_rule, optional_rule, words_rule};
 
-use clap::{Arg, ArgAction, ArgMatches};
-use std::alloc::Global;
+use clap::{Arg, ArgAction, ArgMatches, Command};
+use std::alloc::{AllocError, Global};
 
-/// A name that has to be given.
-pub fn name<'a>(alloc: Global, id: &'a str) -> Arg<'a>
-    ensures rule { rule_of result ≡ name_rule id.entry.now }
-    ensures local { result.global ≡ false }
+/// A command that takes a name besides, which has to be given.
+pub fn with_name<'a>(
+    alloc: Global,
+    command: Result<Command<'a>, AllocError>,
+    id: &'a str,
+) -> Result<Command<'a>, AllocError>
+    ensures { JoinsRule (name_rule id.entry.now) command.entry result }
 {
-    Arg::new(alloc, id).required(true)
+    let command = command?;
+    command.arg(Arg::new(alloc, id).required(true))
 }
 
-/// A name that may be given.
-pub fn optional_name<'a>(alloc: Global, id: &'a str) -> Arg<'a>
-    ensures rule { rule_of result ≡ optional_rule id.entry.now }
-    ensures local { result.global ≡ false }
+/// A command that takes a name besides, which may be given.
+pub fn with_optional_name<'a>(
+    alloc: Global,
+    command: Result<Command<'a>, AllocError>,
+    id: &'a str,
+) -> Result<Command<'a>, AllocError>
+    ensures { JoinsRule (optional_rule id.entry.now) command.entry result }
 {
-    Arg::new(alloc, id)
+    let command = command?;
+    command.arg(Arg::new(alloc, id))
 }
 
-/// Any number of words, none included.
-pub fn words<'a>(alloc: Global, id: &'a str) -> Arg<'a>
-    ensures rule { rule_of result ≡ words_rule id.entry.now }
-    ensures local { result.global ≡ false }
+/// A command that takes any number of words besides, none included.
+pub fn with_words<'a>(
+    alloc: Global,
+    command: Result<Command<'a>, AllocError>,
+    id: &'a str,
+) -> Result<Command<'a>, AllocError>
+    ensures { JoinsRule (words_rule id.entry.now) command.entry result }
 {
-    Arg::new(alloc, id).action(ArgAction::Append)
+    let command = command?;
+    command.arg(Arg::new(alloc, id).action(ArgAction::Append))
 }
 
-/// An option that is written `--id value` or `--id=value`.
-pub fn option<'a>(alloc: Global, id: &'a str) -> Arg<'a>
-    ensures rule { rule_of result ≡ option_rule id.entry.now }
-    ensures local { result.global ≡ false }
+/// A command that takes an option besides, which is written `--id value` or `--id=value`.
+pub fn with_option<'a>(
+    alloc: Global,
+    command: Result<Command<'a>, AllocError>,
+    id: &'a str,
+) -> Result<Command<'a>, AllocError>
+    ensures { JoinsRule (option_rule id.entry.now) command.entry result }
 {
-    Arg::new(alloc, id).long(id)
-}
-
-/// An option that is written `--id` alone.
-pub fn flag<'a>(alloc: Global, id: &'a str) -> Arg<'a>
-    ensures rule { rule_of result ≡ flag_rule id.entry.now }
-    ensures local { result.global ≡ false }
-{
-    Arg::new(alloc, id).action(ArgAction::SetTrue).long(id)
+    let command = command?;
+    command.arg(Arg::new(alloc, id).long(id))
 }
 
 /// The word that an argument was given.

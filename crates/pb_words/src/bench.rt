@@ -4,7 +4,7 @@ ghost use Rattle.clap.specs.Words.{found_of, rows_of};
 ghost use Rattle.pb_words.specs.Rules.{IsCommand};
 ghost use Rattle.pb_words.specs.BenchWords.{as_bench_words, bench_app, bench_in, number_in};
 
-use crate::argument::{name, optional_name, word_of};
+use crate::argument::{with_name, with_optional_name, word_of};
 use crate::digits::short_within;
 use clap::{ArgMatches, Command};
 use std::alloc::{AllocError, Global};
@@ -27,10 +27,9 @@ pub struct Benching<'a> {
 pub fn command<'a>(alloc: Global) -> Result<Command<'a>, AllocError>
     ensures { IfOk result (IsCommand bench_app) }
 {
-    Command::new(alloc, "bench")
-        .arg(name(alloc, "n"))?
-        .arg(name(alloc, "seed"))?
-        .arg(optional_name(alloc, "cnf"))
+    let command = with_name(alloc, Ok(Command::new(alloc, "bench")), "n");
+    let command = with_name(alloc, command, "seed");
+    with_optional_name(alloc, command, "cnf")
 }
 
 // A number up to this one, in digits alone.

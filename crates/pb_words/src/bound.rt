@@ -5,7 +5,7 @@ ghost use Rattle.pb_words.specs.BoundWords.{bound_in, bound_rules, magnitude_of}
 ghost use Rattle.pb_words.specs.OptionWords.{option_rules};
 ghost use Rattle.pb_words.specs.Rules.{AddsRules};
 
-use crate::argument::{option, word_of};
+use crate::argument::{with_option, word_of};
 use crate::options::with_options;
 use clap::{ArgMatches, Command};
 use pb_base::{Number, WEIGHT_BITS, read_digits};
@@ -18,9 +18,8 @@ const MAX_BOUND: i128 = (1 << WEIGHT_BITS) - 1;
 pub fn with_bound<'a>(alloc: Global, command: Command<'a>) -> Result<Command<'a>, AllocError>
     ensures { IfOk result (AddsRules bound_rules command.entry) }
 {
-    command
-        .arg(option(alloc, "at-most"))?
-        .arg(option(alloc, "at-most-minus"))
+    let command = with_option(alloc, Ok(command), "at-most");
+    with_option(alloc, command, "at-most-minus")
 }
 
 /// A command that takes the options of an encoding and a bound besides.
@@ -30,7 +29,8 @@ pub fn with_bounded_options<'a>(
 ) -> Result<Command<'a>, AllocError>
     ensures { IfOk result (AddsRules (option_rules ++ bound_rules) command.entry) }
 {
-    with_bound(alloc, with_options(alloc, command)?)
+    let command = with_options(alloc, command)?;
+    with_bound(alloc, command)
 }
 
 // The number that a word of digits spells, below 2^100.

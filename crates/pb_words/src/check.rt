@@ -4,7 +4,7 @@ ghost use Rattle.clap.specs.Words.{found_of, rows_of};
 ghost use Rattle.pb_words.specs.Rules.{IsCommand};
 ghost use Rattle.pb_words.specs.CheckWords.{as_check_words, check_app, check_in};
 
-use crate::argument::{name, word_of};
+use crate::argument::{with_name, word_of};
 use crate::bound::{bound_in, with_bound};
 use clap::{ArgMatches, Command};
 use std::alloc::{AllocError, Global};
@@ -26,11 +26,10 @@ pub struct Checking<'a> {
 pub fn command<'a>(alloc: Global) -> Result<Command<'a>, AllocError>
     ensures { IfOk result (IsCommand check_app) }
 {
-    let named = Command::new(alloc, "check")
-        .arg(name(alloc, "opb"))?
-        .arg(name(alloc, "cnf"))?
-        .arg(name(alloc, "proof"))?;
-    with_bound(alloc, named)
+    let command = with_name(alloc, Ok(Command::new(alloc, "check")), "opb");
+    let command = with_name(alloc, command, "cnf");
+    let command = with_name(alloc, command, "proof")?;
+    with_bound(alloc, command)
 }
 
 /// What `check` was asked for.

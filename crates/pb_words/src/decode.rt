@@ -4,7 +4,7 @@ ghost use Rattle.clap.specs.Words.{found_of, rows_of};
 ghost use Rattle.pb_words.specs.Rules.{IsCommand};
 ghost use Rattle.pb_words.specs.DecodeWords.{as_decode_words, decode_app, decode_in};
 
-use crate::argument::{name, word_of};
+use crate::argument::{with_name, word_of};
 use crate::bound::{bound_in, with_bound};
 use clap::{ArgMatches, Command};
 use std::alloc::{AllocError, Global};
@@ -24,10 +24,9 @@ pub struct Decoding<'a> {
 pub fn command<'a>(alloc: Global) -> Result<Command<'a>, AllocError>
     ensures { IfOk result (IsCommand decode_app) }
 {
-    let named = Command::new(alloc, "decode")
-        .arg(name(alloc, "opb"))?
-        .arg(name(alloc, "model"))?;
-    with_bound(alloc, named)
+    let command = with_name(alloc, Ok(Command::new(alloc, "decode")), "opb");
+    let command = with_name(alloc, command, "model")?;
+    with_bound(alloc, command)
 }
 
 /// What `decode` was asked for.

@@ -6,7 +6,7 @@ ghost use Rattle.pb_words.specs.Names.{are_different};
 ghost use Rattle.pb_words.specs.Rules.{IsCommand};
 ghost use Rattle.pb_words.specs.EncodeWords.{as_encode_words, encode_app, encode_in};
 
-use crate::argument::{name, optional_name, word_of};
+use crate::argument::{with_name, with_optional_name, word_of};
 use crate::bound::{bound_in, with_bounded_options};
 use crate::table::{tabled_in, with_table};
 use clap::{ArgMatches, Command};
@@ -32,11 +32,11 @@ pub struct Encoding<'a> {
 pub fn command<'a>(alloc: Global) -> Result<Command<'a>, AllocError>
     ensures { IfOk result (IsCommand encode_app) }
 {
-    let named = Command::new(alloc, "encode")
-        .arg(name(alloc, "opb"))?
-        .arg(name(alloc, "cnf"))?
-        .arg(optional_name(alloc, "proof"))?;
-    with_table(alloc, with_bounded_options(alloc, named)?)
+    let command = with_name(alloc, Ok(Command::new(alloc, "encode")), "opb");
+    let command = with_name(alloc, command, "cnf");
+    let command = with_optional_name(alloc, command, "proof")?;
+    let command = with_bounded_options(alloc, command)?;
+    with_table(alloc, command)
 }
 
 // Two of the names are equal.

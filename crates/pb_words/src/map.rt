@@ -4,7 +4,7 @@ ghost use Rattle.clap.specs.Words.{found_of, rows_of};
 ghost use Rattle.pb_words.specs.MapWords.{as_map_words, map_app, map_in};
 ghost use Rattle.pb_words.specs.Rules.{IsCommand};
 
-use crate::argument::{name, word_of};
+use crate::argument::{with_name, word_of};
 use clap::{ArgMatches, Command};
 use std::alloc::{AllocError, Global};
 
@@ -19,7 +19,7 @@ pub struct Mapping<'a> {
 pub fn command<'a>(alloc: Global) -> Result<Command<'a>, AllocError>
     ensures { IfOk result (IsCommand map_app) }
 {
-    Command::new(alloc, "map").arg(name(alloc, "opb"))
+    with_name(alloc, Ok(Command::new(alloc, "map")), "opb")
 }
 
 /// What `map` was asked for.

@@ -4,7 +4,7 @@ ghost use Rattle.clap.specs.Words.{found_of, rows_of};
 ghost use Rattle.pb_words.specs.Rules.{AddsRules};
 ghost use Rattle.pb_words.specs.OptionWords.{amo_in, amo_of, budget_in, card_in, card_of, equal_in, equal_of, general_in, general_of, option_rules, options_in};
 
-use crate::argument::{option, word_of};
+use crate::argument::{with_option, word_of};
 use crate::digits::number_within;
 use clap::{ArgMatches, Command};
 use pb_choice::{Amo, Card, EqualMode, General, MAX_BUDGET, Options};
@@ -14,12 +14,11 @@ use std::alloc::{AllocError, Global};
 pub fn with_options<'a>(alloc: Global, command: Command<'a>) -> Result<Command<'a>, AllocError>
     ensures { IfOk result (AddsRules option_rules command.entry) }
 {
-    command
-        .arg(option(alloc, "amo"))?
-        .arg(option(alloc, "card"))?
-        .arg(option(alloc, "general"))?
-        .arg(option(alloc, "equal"))?
-        .arg(option(alloc, "budget"))
+    let command = with_option(alloc, Ok(command), "amo");
+    let command = with_option(alloc, command, "card");
+    let command = with_option(alloc, command, "general");
+    let command = with_option(alloc, command, "equal");
+    with_option(alloc, command, "budget")
 }
 
 fn amo_of(word: &str) -> Option<Amo>

@@ -5,7 +5,7 @@ ghost use Rattle.pb_words.specs.LitWords.{lits_in};
 ghost use Rattle.pb_words.specs.Rules.{IsCommand};
 ghost use Rattle.pb_words.specs.ProbeWords.{as_probe_words, probe_app, probe_in};
 
-use crate::argument::{name, word_of, words, words_of};
+use crate::argument::{with_name, with_words, word_of, words_of};
 use crate::fault::WordsFault;
 use crate::literal::lits_in;
 use clap::{ArgMatches, Command};
@@ -25,9 +25,8 @@ pub struct Probing<'a> {
 pub fn command<'a>(alloc: Global) -> Result<Command<'a>, AllocError>
     ensures { IfOk result (IsCommand probe_app) }
 {
-    Command::new(alloc, "probe")
-        .arg(name(alloc, "cnf"))?
-        .arg(words(alloc, "lits"))
+    let command = with_name(alloc, Ok(Command::new(alloc, "probe")), "cnf");
+    with_words(alloc, command, "lits")
 }
 
 // The literals that were given; `Usage` where one of the words is none.

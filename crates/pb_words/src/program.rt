@@ -1,5 +1,6 @@
 // The commands of the program.
 ghost use Rattle.std.specs.Prelude.{IfOk, codes};
+ghost use Rattle.clap.specs.Words.{App, with_subcommand};
 ghost use Rattle.pb_words.specs.Rules.{bare_program, IsCommand};
 ghost use Rattle.pb_words.specs.Taken.{program_app};
 
@@ -18,17 +19,27 @@ fn bare<'a>(alloc: Global) -> Command<'a>
         .subcommand_required(true)
 }
 
+// The program with one more command, where there was memory for that.
+fn with_command<'a>(
+    program: Command<'a>,
+    command: Result<Command<'a>, AllocError>,
+) -> Result<Command<'a>, AllocError>
+    ensures { (app sub : App) → IsCommand app program.entry → IfOk command.entry (IsCommand sub) → IfOk result (IsCommand (with_subcommand app sub.top)) }
+{
+    let command = command?;
+    program.subcommand(command)
+}
+
 /// The program with its commands.
 pub fn program<'a>(alloc: Global) -> Result<Command<'a>, AllocError>
     ensures { IfOk result (IsCommand program_app) }
 {
-    bare(alloc)
-        .subcommand(encode::command(alloc)?)?
-        .subcommand(check::command(alloc)?)?
-        .subcommand(decode::command(alloc)?)?
-        .subcommand(probe::command(alloc)?)?
-        .subcommand(bench::command(alloc)?)?
-        .subcommand(refute::command(alloc)?)?
-        .subcommand(map::command(alloc)?)?
-        .subcommand(wcnf::command(alloc)?)
+    let program = with_command(bare(alloc), encode::command(alloc))?;
+    let program = with_command(program, check::command(alloc))?;
+    let program = with_command(program, decode::command(alloc))?;
+    let program = with_command(program, probe::command(alloc))?;
+    let program = with_command(program, bench::command(alloc))?;
+    let program = with_command(program, refute::command(alloc))?;
+    let program = with_command(program, map::command(alloc))?;
+    with_command(program, wcnf::command(alloc))
 }

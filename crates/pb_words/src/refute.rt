@@ -4,7 +4,7 @@ ghost use Rattle.clap.specs.Words.{found_of, rows_of};
 ghost use Rattle.pb_words.specs.Rules.{IsCommand};
 ghost use Rattle.pb_words.specs.RefuteWords.{as_refute_words, refute_app, refute_in};
 
-use crate::argument::{name, word_of};
+use crate::argument::{with_name, word_of};
 use crate::bound::{bound_in, with_bound};
 use clap::{ArgMatches, Command};
 use std::alloc::{AllocError, Global};
@@ -28,12 +28,11 @@ pub struct Refuting<'a> {
 pub fn command<'a>(alloc: Global) -> Result<Command<'a>, AllocError>
     ensures { IfOk result (IsCommand refute_app) }
 {
-    let named = Command::new(alloc, "refute")
-        .arg(name(alloc, "opb"))?
-        .arg(name(alloc, "cnf"))?
-        .arg(name(alloc, "proof"))?
-        .arg(name(alloc, "lrat"))?;
-    with_bound(alloc, named)
+    let command = with_name(alloc, Ok(Command::new(alloc, "refute")), "opb");
+    let command = with_name(alloc, command, "cnf");
+    let command = with_name(alloc, command, "proof");
+    let command = with_name(alloc, command, "lrat")?;
+    with_bound(alloc, command)
 }
 
 /// What `refute` was asked for.

@@ -4,9 +4,9 @@ ghost use Rattle.clap.specs.Words.{found_of, rows_of};
 ghost use Rattle.pb_words.specs.Rules.{AddsRules};
 ghost use Rattle.pb_words.specs.TableWords.{table_in, table_rules, tabled_in};
 
-use crate::argument::{flag, word_of};
+use crate::argument::word_of;
 use crate::options::options_in;
-use clap::{ArgMatches, Command};
+use clap::{Arg, ArgAction, ArgMatches, Command};
 use pb_choice::Options;
 use std::alloc::{AllocError, Global};
 
@@ -14,7 +14,10 @@ use std::alloc::{AllocError, Global};
 pub fn with_table<'a>(alloc: Global, command: Command<'a>) -> Result<Command<'a>, AllocError>
     ensures { IfOk result (AddsRules table_rules command.entry) }
 {
-    command.arg(flag(alloc, "table"))
+    let table = Arg::new(alloc, "table")
+        .action(ArgAction::SetTrue)
+        .long("table");
+    command.arg(table)
 }
 
 // Whether a command was given `--table`.

@@ -4,7 +4,7 @@ ghost use Rattle.clap.specs.Words.{found_of, rows_of};
 ghost use Rattle.pb_words.specs.Rules.{IsCommand};
 ghost use Rattle.pb_words.specs.WcnfWords.{as_wcnf_words, wcnf_app, wcnf_in};
 
-use crate::argument::{name, word_of};
+use crate::argument::{with_name, word_of};
 use crate::bound::{bound_in, with_bounded_options};
 use crate::options::options_in;
 use clap::{ArgMatches, Command};
@@ -28,10 +28,9 @@ pub struct Weighing<'a> {
 pub fn command<'a>(alloc: Global) -> Result<Command<'a>, AllocError>
     ensures { IfOk result (IsCommand wcnf_app) }
 {
-    let named = Command::new(alloc, "wcnf")
-        .arg(name(alloc, "opb"))?
-        .arg(name(alloc, "wcnf"))?;
-    with_bounded_options(alloc, named)
+    let command = with_name(alloc, Ok(Command::new(alloc, "wcnf")), "opb");
+    let command = with_name(alloc, command, "wcnf")?;
+    with_bounded_options(alloc, command)
 }
 
 /// What `wcnf` was asked for.
