@@ -3,6 +3,7 @@ use super::changed_lines::report;
 use super::checking::is_accepted;
 use super::files::{Kind, Sum, made};
 use std::alloc::Global;
+use std::process::Abort;
 use std::test::Fail;
 
 const THREE: &str = "-1 x1 -1 x2 -1 x3 >= -1 ;";
@@ -63,6 +64,14 @@ fn report_of(alloc: Global, kind: Kind, opb: &str, first: u32) -> Option<String>
     report(alloc, kind, sum)
 }
 
+// Of each family's derivation for a text, with fresh variables from a number on, this is told.
+fn each_reported(rt: &impl Abort, alloc: Global, cases: &[(Kind, &str, u32, &str)]) {
+    for &(kind, opb, first, expected) in cases {
+        let found = report_of(alloc, kind, opb, first);
+        assert_eq!(rt; found.as_deref(), Some(expected), "{kind:?} at {opb}");
+    }
+}
+
 // The number of lines, and then how many of them may be left out (those that delete), be empty (these, and constraints of which no
 // clause has need), give way to the sum (at most one implies each clause of two of its literals), or to what was put out before
 // (a unit implies a clause with its literal).
@@ -75,10 +84,7 @@ fn at_most_one_is_derived(rt: HostRuntime) -> Result<(), Fail> {
         (Kind::Ladder, SIX, 7, "46: 5 5 0 0"),
         (Kind::Grid, SIX, 7, "54: 7 6 0 0"),
     ];
-    for (kind, opb, first, expected) in cases {
-        let found = report_of(rt.alloc(), kind, opb, first);
-        assert_eq!(rt; found.as_deref(), Some(expected), "{kind:?} at {opb}");
-    }
+    each_reported(&rt, rt.alloc(), &cases);
     Ok(())
 }
 
@@ -89,26 +95,20 @@ fn counts_are_derived(rt: HostRuntime) -> Result<(), Fail> {
         (Kind::Totalizer, FOUR, 5, "52: 7 9 0 0"),
         (Kind::Totalizer, FIVE, 6, "80: 11 14 0 0"),
     ];
-    for (kind, opb, first, expected) in cases {
-        let found = report_of(rt.alloc(), kind, opb, first);
-        assert_eq!(rt; found.as_deref(), Some(expected), "{kind:?} at {opb}");
-    }
+    each_reported(&rt, rt.alloc(), &cases);
     Ok(())
 }
 
 #[test]
 fn diagrams_are_derived(rt: HostRuntime) -> Result<(), Fail> {
     let cases = [
-        (FALLING, 4, "22: 3 3 0 0"),
-        (MEETING, 5, "34: 5 5 0 0"),
-        (MIXED, 5, "39: 6 6 0 0"),
-        (GREAT, 4, "22: 3 3 0 0"),
-        (NEAR, 4, "22: 3 3 0 0"),
+        (Kind::Diagram, FALLING, 4, "22: 3 3 0 0"),
+        (Kind::Diagram, MEETING, 5, "34: 5 5 0 0"),
+        (Kind::Diagram, MIXED, 5, "39: 6 6 0 0"),
+        (Kind::Diagram, GREAT, 4, "22: 3 3 0 0"),
+        (Kind::Diagram, NEAR, 4, "22: 3 3 0 0"),
     ];
-    for (opb, first, expected) in cases {
-        let found = report_of(rt.alloc(), Kind::Diagram, opb, first);
-        assert_eq!(rt; found.as_deref(), Some(expected), "{opb}");
-    }
+    each_reported(&rt, rt.alloc(), &cases);
     Ok(())
 }
 
@@ -116,14 +116,11 @@ fn diagrams_are_derived(rt: HostRuntime) -> Result<(), Fail> {
 #[test]
 fn trees_are_derived(rt: HostRuntime) -> Result<(), Fail> {
     let cases = [
-        (FALLING, 4, "49: 8 12 0 0"),
-        (GREAT, 4, "49: 8 12 0 0"),
-        (NEAR, 4, "36: 5 7 0 0"),
+        (Kind::Tree, FALLING, 4, "49: 8 12 0 0"),
+        (Kind::Tree, GREAT, 4, "49: 8 12 0 0"),
+        (Kind::Tree, NEAR, 4, "36: 5 7 0 0"),
     ];
-    for (opb, first, expected) in cases {
-        let found = report_of(rt.alloc(), Kind::Tree, opb, first);
-        assert_eq!(rt; found.as_deref(), Some(expected), "{opb}");
-    }
+    each_reported(&rt, rt.alloc(), &cases);
     Ok(())
 }
 
@@ -131,11 +128,11 @@ fn trees_are_derived(rt: HostRuntime) -> Result<(), Fail> {
 // literals and others.
 #[test]
 fn adders_are_derived(rt: HostRuntime) -> Result<(), Fail> {
-    let cases = [(FALLING, 4, "49: 5 5 0 0"), (THREE, 4, "41: 3 3 7 0")];
-    for (opb, first, expected) in cases {
-        let found = report_of(rt.alloc(), Kind::Adder, opb, first);
-        assert_eq!(rt; found.as_deref(), Some(expected), "{opb}");
-    }
+    let cases = [
+        (Kind::Adder, FALLING, 4, "49: 5 5 0 0"),
+        (Kind::Adder, THREE, 4, "41: 3 3 7 0"),
+    ];
+    each_reported(&rt, rt.alloc(), &cases);
     Ok(())
 }
 

@@ -112,12 +112,22 @@ fn first_ids(alloc: Global, db: &Database, names: &str, from: u64) -> Option<Str
     Some(text)
 }
 
+// The same, once the first constraint is taken away.
+fn ids_without_the_first(
+    alloc: Global,
+    db: &mut Database,
+    names: &str,
+    from: u64,
+) -> Option<String> {
+    answers(alloc, db, &[("del 1", "")])?;
+    first_ids(alloc, db, names, from)
+}
+
 // The same of three constraints, of which the first is taken away.
 fn first_ids_of(alloc: Global, names: &str, from: u64) -> Option<String> {
     let opb = "+1 x1 +1 x2 >= 1 ; +2 ~x2 +1 x3 >= 2 ; +1 ~x3 +1 x2 >= 1 ;";
     let mut db = database_of(alloc, opb, 4)?;
-    answers(alloc, &mut db, &[("del 1", "")])?;
-    first_ids(alloc, &db, names, from)
+    ids_without_the_first(alloc, &mut db, names, from)
 }
 
 #[test]

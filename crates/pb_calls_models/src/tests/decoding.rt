@@ -6,6 +6,7 @@ use pb_base::Problem;
 use pb_model::{Decoded, Model, ModelFault, decode, read_model, write_map, write_solution};
 use pb_opb::read_opb;
 use std::alloc::Global;
+use std::process::Abort;
 use std::test::Fail;
 
 const ONE_OF_TWO: &str = "+1 x1 +1 x2 = 1 ;";
@@ -48,12 +49,27 @@ fn answer(alloc: Global, opb: &str, text: &str) -> Option<String> {
     }
 }
 
-// The numbers of the free names of an OPB text.
+// The numbers of the free names of a problem.
+fn map_text(alloc: Global, problem: &Problem) -> Option<String>
+    requires { IsWithinLimits problem.now }
+{
+    let mut out = Vec::new(alloc);
+    write_map(alloc, problem, &mut out).ok()?;
+    str::from_utf8(out.as_slice()).ok()?.to_string(alloc).ok()
+}
+
+// The same of the problem of an OPB text.
 fn map_of(alloc: Global, opb: &str) -> Option<String> {
     let problem = read_opb(alloc, opb.as_bytes()).ok()?;
-    let mut out = Vec::new(alloc);
-    write_map(alloc, &problem, &mut out).ok()?;
-    str::from_utf8(out.as_slice()).ok()?.to_string(alloc).ok()
+    map_text(alloc, &problem)
+}
+
+// Each text comes to its answer beside the problem of its OPB text.
+fn each_answers(rt: &impl Abort, alloc: Global, cases: &[(&str, &str, &str)]) {
+    for &(opb, text, expected) in cases {
+        let found = answer(alloc, opb, text);
+        assert_eq!(rt; found.as_deref(), Some(expected), "at {text}");
+    }
 }
 
 #[test]
@@ -96,10 +112,7 @@ fn solutions(rt: HostRuntime) -> Result<(), Fail> {
             "s SATISFIABLE\nv -x1 x2 rain -sun\n",
         ),
     ];
-    for (opb, text, expected) in cases {
-        let found = answer(rt.alloc(), opb, text);
-        assert_eq!(rt; found.as_deref(), Some(expected), "at {text}");
-    }
+    each_answers(&rt, rt.alloc(), &cases);
     Ok(())
 }
 
@@ -137,10 +150,7 @@ fn products(rt: HostRuntime) -> Result<(), Fail> {
             "violates 2",
         ),
     ];
-    for (opb, text, expected) in cases {
-        let found = answer(rt.alloc(), opb, text);
-        assert_eq!(rt; found.as_deref(), Some(expected), "at {text}");
-    }
+    each_answers(&rt, rt.alloc(), &cases);
     Ok(())
 }
 
@@ -158,28 +168,26 @@ fn no_solutions(rt: HostRuntime) -> Result<(), Fail> {
         (ONE_OF_TWO, "s SATISFIABLE now\nv 1 0\n", "no model"),
         (ONE_OF_TWO, "", "no model"),
     ];
-    for (opb, text, expected) in cases {
-        let found = answer(rt.alloc(), opb, text);
-        assert_eq!(rt; found.as_deref(), Some(expected), "at {text}");
-    }
+    each_answers(&rt, rt.alloc(), &cases);
     Ok(())
 }
 
 #[test]
 fn faults(rt: HostRuntime) -> Result<(), Fail> {
     let cases = [
-        ("s SATISFIABLE\nv 1 -1 0\n", "2:5 opposite"),
-        ("s SATISFIABLE\nv 1 2\n", "3:1 model zero"),
-        ("s SATISFIABLE\ns SATISFIABLE\n", "2:1 model line"),
-        ("v 0\nv 1 0\n", "2:1 model line"),
-        ("v x1 0\n", "1:3 model literal"),
-        ("v 1 0 0\n", "1:7 model literal"),
-        ("v 2147483648 0\n", "1:3 limit variables"),
-        ("sat\n", "1:1 model line"),
+        (ONE_OF_TWO, "s SATISFIABLE\nv 1 -1 0\n", "2:5 opposite"),
+        (ONE_OF_TWO, "s SATISFIABLE\nv 1 2\n", "3:1 model zero"),
+        (
+            ONE_OF_TWO,
+            "s SATISFIABLE\ns SATISFIABLE\n",
+            "2:1 model line",
+        ),
+        (ONE_OF_TWO, "v 0\nv 1 0\n", "2:1 model line"),
+        (ONE_OF_TWO, "v x1 0\n", "1:3 model literal"),
+        (ONE_OF_TWO, "v 1 0 0\n", "1:7 model literal"),
+        (ONE_OF_TWO, "v 2147483648 0\n", "1:3 limit variables"),
+        (ONE_OF_TWO, "sat\n", "1:1 model line"),
     ];
-    for (text, expected) in cases {
-        let found = answer(rt.alloc(), ONE_OF_TWO, text);
-        assert_eq!(rt; found.as_deref(), Some(expected), "at {text}");
-    }
+    each_answers(&rt, rt.alloc(), &cases);
     Ok(())
 }

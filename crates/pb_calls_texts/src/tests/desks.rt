@@ -47,17 +47,24 @@ fn copy<D: Desk>(
 }
 
 // How a copy of a text ended, what was made in slot 1 and what was said.
-fn copied(alloc: Global, fails: Ids, piece: usize, room: usize, limit: u64) -> Option<String>
-    requires { 1 ≤ piece }
+fn copied_on(alloc: Global, desk: &mut MemoryDesk, limit: u64) -> Option<String>
+    requires { IsClosed (⟦<MemoryDesk as Desk>⟧.state desk.old) }
 {
-    let mut desk = desk_with(alloc, TEXT, fails, piece, room).ok()?;
-    let end = match copy(alloc, &mut desk, "in", "out", limit) {
+    let end = match copy(alloc, desk, "in", "out", limit) {
         Ok(text) => text.as_slice() == TEXT,
         Err(_) => false,
     };
     let made = str::from_utf8(desk.made(1).unwrap_or(b"nothing")).ok()?;
     let said = str::from_utf8(desk.said()).ok()?;
     format!(in alloc; "{end} {made:?} {said:?}").ok()
+}
+
+// The same on a desk of its own.
+fn copied(alloc: Global, fails: Ids, piece: usize, room: usize, limit: u64) -> Option<String>
+    requires { 1 ≤ piece }
+{
+    let mut desk = desk_with(alloc, TEXT, fails, piece, room).ok()?;
+    copied_on(alloc, &mut desk, limit)
 }
 
 #[test]

@@ -30,6 +30,17 @@ fn next_text<D: Desk>(alloc: Global, reader: &mut LineReader, desk: &mut D) -> O
 }
 
 // What a reader answers to four calls.
+fn four<D: Desk>(alloc: Global, reader: &mut LineReader, desk: &mut D) -> Option<String>
+    requires { IsTrue ((D.state desk.old).view.reading reader.old.slot) }
+{
+    let first = next_text(alloc, reader, desk)?;
+    let second = next_text(alloc, reader, desk)?;
+    let third = next_text(alloc, reader, desk)?;
+    let fourth = next_text(alloc, reader, desk)?;
+    format!(in alloc; "{first}|{second}|{third}|{fourth}").ok()
+}
+
+// The same of a new reader.
 fn answers<D: Desk>(alloc: Global, desk: &mut D, limits: LineLimits) -> Option<String>
     requires { IsClosed (D.state desk.old) }
 {
@@ -38,11 +49,7 @@ fn answers<D: Desk>(alloc: Global, desk: &mut D, limits: LineLimits) -> Option<S
     }
     let mut reader = LineReader::new(alloc, 0, limits).ok()?;
     desk.open(0, "in").ok()?;
-    let first = next_text(alloc, &mut reader, desk)?;
-    let second = next_text(alloc, &mut reader, desk)?;
-    let third = next_text(alloc, &mut reader, desk)?;
-    let fourth = next_text(alloc, &mut reader, desk)?;
-    format!(in alloc; "{first}|{second}|{third}|{fourth}").ok()
+    four(alloc, &mut reader, desk)
 }
 
 // The same over a text that comes so many bytes at a time.

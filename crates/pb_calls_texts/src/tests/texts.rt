@@ -1,5 +1,7 @@
+use pb_base::Problem;
 use pb_opb::{OpbFault, read_opb};
 use std::alloc::Global;
+use std::process::Abort;
 use std::test::Fail;
 
 // How many variables a text has, or its first fault.
@@ -14,6 +16,14 @@ fn read(alloc: Global, text: &[u8]) -> Option<String> {
             },
         ) => format!(in alloc; "{place}: limit {which}").ok(),
         Err(_) => None,
+    }
+}
+
+// Each text has so many variables, or this first fault.
+fn each_read(rt: &impl Abort, alloc: Global, cases: &[(&str, &str)]) {
+    for &(text, expected) in cases {
+        let found = read(alloc, text.as_bytes());
+        assert_eq!(rt; found.as_deref(), Some(expected), "at {text}");
     }
 }
 
@@ -39,10 +49,7 @@ fn first_faults(rt: HostRuntime) -> Result<(), Fail> {
         ("+1 ~x00 >= 1 ;", "1:4: a literal"),
         ("+1 x1 * c\n>= 1 * ;", "2:9: ;"),
     ];
-    for (text, expected) in cases {
-        let found = read(rt.alloc(), text.as_bytes());
-        assert_eq!(rt; found.as_deref(), Some(expected), "at {text}");
-    }
+    each_read(&rt, rt.alloc(), &cases);
     Ok(())
 }
 
@@ -82,22 +89,24 @@ fn limits_and_variables(rt: HostRuntime) -> Result<(), Fail> {
             "1:14: limit variables",
         ),
     ];
-    for (text, expected) in cases {
-        let found = read(rt.alloc(), text.as_bytes());
-        assert_eq!(rt; found.as_deref(), Some(expected), "at {text}");
-    }
+    each_read(&rt, rt.alloc(), &cases);
     Ok(())
 }
 
-// How many variables a text names by numbers, and the free names of the others.
-fn names(alloc: Global, text: &[u8]) -> Option<String> {
-    let problem = read_opb(alloc, text).ok()?;
+// How many variables a problem has with numbers, and the free names of the others.
+fn names_of(alloc: Global, problem: &Problem) -> Option<String> {
     let mut shown = format!(in alloc; "{}", problem.numbered).ok()?;
     for name in problem.names.as_slice() {
         shown.push_str(" ").ok()?;
         shown.push_str(str::from_utf8(name.as_slice()).ok()?).ok()?;
     }
     Some(shown)
+}
+
+// The same of the problem of a text.
+fn names(alloc: Global, text: &[u8]) -> Option<String> {
+    let problem = read_opb(alloc, text).ok()?;
+    names_of(alloc, &problem)
 }
 
 #[test]
@@ -120,8 +129,7 @@ fn free_names(rt: HostRuntime) -> Result<(), Fail> {
 }
 
 // The literals of each product, and those of the terms.
-fn products(alloc: Global, text: &[u8]) -> Option<String> {
-    let problem = read_opb(alloc, text).ok()?;
+fn products_of(alloc: Global, problem: &Problem) -> Option<String> {
     let mut shown = String::new(alloc);
     for product in problem.products.as_slice() {
         for lit in product.as_slice() {
@@ -141,6 +149,12 @@ fn products(alloc: Global, text: &[u8]) -> Option<String> {
         }
     }
     Some(shown)
+}
+
+// The same of the problem of a text.
+fn products(alloc: Global, text: &[u8]) -> Option<String> {
+    let problem = read_opb(alloc, text).ok()?;
+    products_of(alloc, &problem)
 }
 
 #[test]

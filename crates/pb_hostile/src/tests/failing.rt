@@ -99,27 +99,58 @@ fn status_at(call: u64, reads: u64, writes: u64) -> u8 {
     }
 }
 
-// Where each call fails in turn, the runs end as they should. The counts are exact, so that a fault that is passed over shows.
-fn all_end(alloc: Global, words: &str, texts: [&[u8]; 3], count: usize, piece: usize) -> bool
+// A run of which the call of this number fails ends with this status, and what it left fits.
+fn ends(
+    alloc: Global,
+    words: &str,
+    texts: [&[u8]; 3],
+    call: u64,
+    piece: usize,
+    status: u8,
+    whole: &Run,
+) -> bool
     requires { 1 ≤ piece }
 {
-    let Some(whole) = run_on(alloc, words, texts, 0, 4096, 4096) else {
-        return false;
-    };
+    match run_on(alloc, words, texts, call, piece, 4096) {
+        Some(run) => run.outcome.status() == status && fits(&run, whole),
+        None => false,
+    }
+}
+
+// Where each call fails in turn, the runs end as they should beside a whole one. The counts are exact, so that a fault that is
+// passed over shows.
+fn all_end_beside(
+    alloc: Global,
+    words: &str,
+    texts: [&[u8]; 3],
+    count: usize,
+    piece: usize,
+    whole: &Run,
+) -> bool
+    requires { 1 ≤ piece }
+{
     let reads = reads_of(texts, count, piece);
-    let writes = writes_of(&whole, piece);
+    let writes = writes_of(whole, piece);
     if whole.outcome.status() != 0 || reads > 10_000 || writes > 10_000 {
         return false;
     }
     for call in 1..=reads + writes + 1 {
-        let Some(run) = run_on(alloc, words, texts, call, piece, 4096) else {
-            return false;
-        };
-        if run.outcome.status() != status_at(call, reads, writes) || !fits(&run, &whole) {
+        let status = status_at(call, reads, writes);
+        if !ends(alloc, words, texts, call, piece, status, whole) {
             return false;
         }
     }
     true
+}
+
+// The same beside the run on a desk that does not hinder it.
+fn all_end(alloc: Global, words: &str, texts: [&[u8]; 3], count: usize, piece: usize) -> bool
+    requires { 1 ≤ piece }
+{
+    match run_on(alloc, words, texts, 0, 4096, 4096) {
+        Some(whole) => all_end_beside(alloc, words, texts, count, piece, &whole),
+        None => false,
+    }
 }
 
 // In this room the run makes and says as much as fits: the derivation only beside a whole CNF, and words only beside both.
@@ -140,21 +171,31 @@ fn fills(run: &Run, whole: &Run, room: usize) -> bool {
         && run.desk.made(1).is_some() == is_proof_due
 }
 
+// A run in this room fills it.
+fn fills_room(alloc: Global, words: &str, texts: [&[u8]; 3], room: usize, whole: &Run) -> bool {
+    match run_on(alloc, words, texts, 0, 4096, room) {
+        Some(run) => fills(&run, whole, room),
+        None => false,
+    }
+}
+
 // Each room up to the one that suffices is tried.
-fn all_fill(alloc: Global, words: &str, texts: [&[u8]; 3]) -> bool {
-    let Some(whole) = run_on(alloc, words, texts, 0, 4096, 4096) else {
-        return false;
-    };
-    let files = file_of(&whole, 0).len().max(file_of(&whole, 1).len());
+fn all_fill_beside(alloc: Global, words: &str, texts: [&[u8]; 3], whole: &Run) -> bool {
+    let files = file_of(whole, 0).len().max(file_of(whole, 1).len());
     for room in 0..=files.max(whole.desk.said().len()) {
-        let Some(run) = run_on(alloc, words, texts, 0, 4096, room) else {
-            return false;
-        };
-        if !fills(&run, &whole, room) {
+        if !fills_room(alloc, words, texts, room, whole) {
             return false;
         }
     }
     true
+}
+
+// The same beside the run on a desk that does not hinder it.
+fn all_fill(alloc: Global, words: &str, texts: [&[u8]; 3]) -> bool {
+    match run_on(alloc, words, texts, 0, 4096, 4096) {
+        Some(whole) => all_fill_beside(alloc, words, texts, &whole),
+        None => false,
+    }
 }
 
 // Exactly one of two variables.

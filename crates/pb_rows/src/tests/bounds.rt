@@ -1,8 +1,9 @@
-use super::{files_of, refusal, told};
+use super::{each_refused, files_of, judged_by, made, told};
 use pb_base::{NoMemory, Seq};
 use pb_desk::Shelf;
 use pb_runs::{named, run_freely};
 use std::alloc::Global;
+use std::process::Abort;
 use std::test::Fail;
 
 // One of two variables, where the first costs 3 and the second 1, and 1 less in any case.
@@ -11,14 +12,7 @@ const COSTS: &str = "min: +3 x1 -1 ~x2 ; +1 x1 +1 x2 >= 1 ;\n";
 // The CNF that a text is encoded as beside a bound.
 fn encoded(alloc: Global, bound: &str, text: &str) -> Option<String> {
     let words = format!(in alloc; "pbcnf encode a c {bound}").ok()?;
-    let run = run_freely(alloc, words.as_str(), text.as_bytes()).ok()?;
-    if run.outcome.status() != 0 {
-        return None;
-    }
-    str::from_utf8(run.desk.made(0)?)
-        .ok()?
-        .to_string(alloc)
-        .ok()
+    made(alloc, words.as_str(), text)
 }
 
 #[test]
@@ -110,10 +104,7 @@ fn bounds_that_are_refused(rt: HostRuntime) -> Result<(), Fail> {
             "2 pbcnf: usage: encode, check, decode, probe or bench",
         ),
     ];
-    for &(words, text, line) in &cases {
-        let found = refusal(rt.alloc(), words, text.as_bytes());
-        assert_eq!(rt; found.as_deref(), Some(line), "at {words}");
-    }
+    each_refused(&rt, rt.alloc(), &cases);
     Ok(())
 }
 
@@ -190,13 +181,10 @@ rup +1 ~x1 +1 ~x2 >= 1 ; 2\nout 4\nend\n";
 
 // What is told of the CNF and the derivation that are made beside a bound, where they are checked beside it.
 fn judged(alloc: Global, bound: &str, text: &str) -> Option<String> {
-    let words = format!(in alloc; "pbcnf encode a c p {bound}").ok()?;
-    let run = run_freely(alloc, words.as_str(), text.as_bytes()).ok()?;
-    let cnf = str::from_utf8(run.desk.made(0)?).ok()?;
-    let proof = str::from_utf8(run.desk.made(1)?).ok()?;
-    let files = files_of(alloc, text, cnf, proof).ok()?;
-    let words = format!(in alloc; "pbcnf check a c p {bound}").ok()?;
-    told(alloc, words.as_str(), files)
+    let encode = format!(in alloc; "pbcnf encode a c p {bound}").ok()?;
+    let check = format!(in alloc; "pbcnf check a c p {bound}").ok()?;
+    let run = run_freely(alloc, encode.as_str(), text.as_bytes()).ok()?;
+    judged_by(alloc, &run, check.as_str(), text)
 }
 
 #[test]
@@ -232,6 +220,15 @@ fn refuted(
     told(alloc, words.as_str(), files)
 }
 
+// Beside each bound, this is told of the refutation.
+fn each_refuted(rt: &impl Abort, alloc: Global, texts: [&str; 4], cases: &[(&str, &str)]) {
+    let [opb, cnf, proof, lrat] = texts;
+    for &(bound, line) in cases {
+        let found = refuted(alloc, bound, opb, cnf, proof, lrat);
+        assert_eq!(rt; found.as_deref(), Some(line), "at {bound}");
+    }
+}
+
 // Nothing that costs less than 1 is a solution, which the refutation shows. Of more it shows nothing.
 #[test]
 fn the_least_cost_is_shown(rt: HostRuntime) -> Result<(), Fail> {
@@ -244,10 +241,8 @@ rup +1 ~x2 >= 1 ; 2\nout 4\nend\n";
         ("--at-most-minus=0", "refuted\n"),
         ("--at-most=1", "7 pbcnf: PROOF line 4: not propagated"),
     ];
-    for &(bound, line) in &cases {
-        let found = refuted(rt.alloc(), bound, opb, cnf, proof, "4 0 2 3 1 0\n");
-        assert_eq!(rt; found.as_deref(), Some(line), "at {bound}");
-    }
+    let texts = [opb, cnf, proof, "4 0 2 3 1 0\n"];
+    each_refuted(&rt, rt.alloc(), texts, &cases);
     Ok(())
 }
 
@@ -263,9 +258,7 @@ fn a_bound_out_of_reach(rt: HostRuntime) -> Result<(), Fail> {
             "7 pbcnf: PROOF line 3: not implied by 1",
         ),
     ];
-    for &(bound, line) in &cases {
-        let found = refuted(rt.alloc(), bound, opb, "p cnf 1 1\n0\n", proof, "");
-        assert_eq!(rt; found.as_deref(), Some(line), "at {bound}");
-    }
+    let texts = [opb, "p cnf 1 1\n0\n", proof, ""];
+    each_refuted(&rt, rt.alloc(), texts, &cases);
     Ok(())
 }

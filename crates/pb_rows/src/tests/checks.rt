@@ -3,6 +3,7 @@ use pb_base::{Ids, NoMemory};
 use pb_desk::Shelf;
 use pb_runs::run_over;
 use std::alloc::Global;
+use std::process::Abort;
 use std::test::Fail;
 
 // A problem and a CNF.
@@ -38,21 +39,27 @@ fn judged(alloc: Global, pair: &Pair, lines: &str) -> Option<String> {
     told(alloc, "pbcnf check a c p", files)
 }
 
+// Of each derivation with these lines behind its first, beside the pair, this is told.
+fn each_judged(rt: &impl Abort, alloc: Global, pair: &Pair, cases: &[(&str, &str)]) {
+    for &(lines, line) in cases {
+        let found = judged(alloc, pair, lines);
+        assert_eq!(rt; found.as_deref(), Some(line), "at {lines}");
+    }
+}
+
 #[test]
 fn derivations_that_are_accepted(rt: HostRuntime) -> Result<(), Fail> {
-    let cases = [
-        (ONE, "f 2\nout 1\nout 2\nend\n"),
+    let halves = [
+        ("f 2\nout 1\nout 2\nend\n", ACCEPTED),
         // Blank lines and comments may stand anywhere.
-        (ONE, "\nf 2\n* both halves\nout 1\n \nout 2\nend\n*"),
-        (
-            WEIGHTS,
-            "f 1\nrup +1 x1 >= 1 ; 1\nout 2\npol 1 x1 w s\nout 3\nend\n",
-        ),
+        ("\nf 2\n* both halves\nout 1\n \nout 2\nend\n*", ACCEPTED),
     ];
-    for (pair, lines) in &cases {
-        let found = judged(rt.alloc(), pair, lines);
-        assert_eq!(rt; found.as_deref(), Some(ACCEPTED), "at {lines}");
-    }
+    each_judged(&rt, rt.alloc(), &ONE, &halves);
+    let weights = [(
+        "f 1\nrup +1 x1 >= 1 ; 1\nout 2\npol 1 x1 w s\nout 3\nend\n",
+        ACCEPTED,
+    )];
+    each_judged(&rt, rt.alloc(), &WEIGHTS, &weights);
     Ok(())
 }
 
@@ -82,10 +89,7 @@ fn steps_that_are_not_allowed(rt: HostRuntime) -> Result<(), Fail> {
             "7 pbcnf: PROOF line 3: width",
         ),
     ];
-    for &(lines, line) in &cases {
-        let found = judged(rt.alloc(), &ONE, lines);
-        assert_eq!(rt; found.as_deref(), Some(line), "at {lines}");
-    }
+    each_judged(&rt, rt.alloc(), &ONE, &cases);
     Ok(())
 }
 
@@ -111,10 +115,7 @@ fn a_step_at_its_first_fault(rt: HostRuntime) -> Result<(), Fail> {
         ),
         ("f 2\ndel 1 1\n", "7 pbcnf: PROOF line 3: unknown id 1"),
     ];
-    for &(lines, line) in &cases {
-        let found = judged(rt.alloc(), &ONE, lines);
-        assert_eq!(rt; found.as_deref(), Some(line), "at {lines}");
-    }
+    each_judged(&rt, rt.alloc(), &ONE, &cases);
     Ok(())
 }
 
@@ -138,10 +139,7 @@ fn steps_that_lack_what_they_need(rt: HostRuntime) -> Result<(), Fail> {
             "1 pbcnf: PROOF 7:1: expected step word",
         ),
     ];
-    for &(lines, line) in &cases {
-        let found = judged(rt.alloc(), &WEIGHTS, lines);
-        assert_eq!(rt; found.as_deref(), Some(line), "at {lines}");
-    }
+    each_judged(&rt, rt.alloc(), &WEIGHTS, &cases);
     Ok(())
 }
 
@@ -156,20 +154,18 @@ fn texts_out_of_the_grammar(rt: HostRuntime) -> Result<(), Fail> {
         cnf: "p dnf\n",
     };
     let cases = [
-        (ONE, "f 3\n", "1 pbcnf: PROOF 2:3: expected loaded count"),
+        ("f 3\n", "1 pbcnf: PROOF 2:3: expected loaded count"),
         (
-            ONE,
             "f 2\nout 1\nout 2\nend\nout 1\n",
             "1 pbcnf: PROOF 6:1: expected derivation end",
         ),
-        // The texts are judged in their order.
-        (fewer, "f 3\n", "1 pbcnf: CNF 1:7: expected var count"),
-        (broken, "f 3\n", "1 pbcnf: OPB 1:11: expected ;"),
     ];
-    for (pair, lines, line) in &cases {
-        let found = judged(rt.alloc(), pair, lines);
-        assert_eq!(rt; found.as_deref(), Some(*line), "at {lines}");
-    }
+    each_judged(&rt, rt.alloc(), &ONE, &cases);
+    // The texts are judged in their order.
+    let count = [("f 3\n", "1 pbcnf: CNF 1:7: expected var count")];
+    each_judged(&rt, rt.alloc(), &fewer, &count);
+    let statement = [("f 3\n", "1 pbcnf: OPB 1:11: expected ;")];
+    each_judged(&rt, rt.alloc(), &broken, &statement);
     Ok(())
 }
 

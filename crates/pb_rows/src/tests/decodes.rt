@@ -3,6 +3,7 @@ use pb_base::{NoMemory, Seq};
 use pb_desk::Shelf;
 use pb_runs::named;
 use std::alloc::Global;
+use std::process::Abort;
 use std::test::Fail;
 
 // Exactly one of two variables.
@@ -25,6 +26,14 @@ fn files_of(alloc: Global, opb: &str, printed: &str) -> Result<Shelf, NoMemory> 
 fn decoded(alloc: Global, opb: &str, printed: &str) -> Option<String> {
     let files = files_of(alloc, opb, printed).ok()?;
     told(alloc, "pbcnf decode a m", files)
+}
+
+// Of each problem and what a solver printed of it, this is told.
+fn each_decoded(rt: &impl Abort, alloc: Global, cases: &[(&str, &str, &str)]) {
+    for &(opb, printed, line) in cases {
+        let found = decoded(alloc, opb, printed);
+        assert_eq!(rt; found.as_deref(), Some(line), "at {printed}");
+    }
 }
 
 #[test]
@@ -59,10 +68,7 @@ fn values_that_are_a_solution(rt: HostRuntime) -> Result<(), Fail> {
             "o 2\ns SATISFIABLE\nv x1 x2 -x3\n",
         ),
     ];
-    for &(opb, printed, line) in &cases {
-        let found = decoded(rt.alloc(), opb, printed);
-        assert_eq!(rt; found.as_deref(), Some(line), "at {printed}");
-    }
+    each_decoded(&rt, rt.alloc(), &cases);
     Ok(())
 }
 
@@ -88,27 +94,22 @@ fn values_that_are_none(rt: HostRuntime) -> Result<(), Fail> {
         // The product is false, though the model lists its variable.
         ("+1 x1 x2 >= 1 ;\n", "s SATISFIABLE\nv 1 -2 3 0\n", first),
     ];
-    for &(opb, printed, line) in &cases {
-        let found = decoded(rt.alloc(), opb, printed);
-        assert_eq!(rt; found.as_deref(), Some(line), "at {printed}");
-    }
+    each_decoded(&rt, rt.alloc(), &cases);
     Ok(())
 }
 
 #[test]
 fn no_model_is_said(rt: HostRuntime) -> Result<(), Fail> {
+    let none = "9 pbcnf: no model";
     let cases = [
-        "s UNSATISFIABLE\n",
-        "",
+        (ONE, "s UNSATISFIABLE\n", none),
+        (ONE, "", none),
         // The values do not count then.
-        "v 1 -2 0\n",
-        "s UNKNOWN\nv 1 2 0\n",
-        "s SATISFIABLE at last\nv 1 -2 0\n",
+        (ONE, "v 1 -2 0\n", none),
+        (ONE, "s UNKNOWN\nv 1 2 0\n", none),
+        (ONE, "s SATISFIABLE at last\nv 1 -2 0\n", none),
     ];
-    for &printed in &cases {
-        let found = decoded(rt.alloc(), ONE, printed);
-        assert_eq!(rt; found.as_deref(), Some("9 pbcnf: no model"), "at {printed}");
-    }
+    each_decoded(&rt, rt.alloc(), &cases);
     Ok(())
 }
 
@@ -116,28 +117,39 @@ fn no_model_is_said(rt: HostRuntime) -> Result<(), Fail> {
 fn printed_texts_out_of_the_grammar(rt: HostRuntime) -> Result<(), Fail> {
     let cases = [
         (
+            ONE,
             "s SATISFIABLE\nv 1 -1 0\n",
             "1 pbcnf: MODEL 2:5: expected opposite",
         ),
         (
+            ONE,
             "s SATISFIABLE\nv 1 2",
             "1 pbcnf: MODEL 3:1: expected model zero",
         ),
         (
+            ONE,
             "s SATISFIABLE\ns SATISFIABLE\n",
             "1 pbcnf: MODEL 2:1: expected model line",
         ),
-        ("v 0\nv 1 0\n", "1 pbcnf: MODEL 2:1: expected model line"),
-        ("v x1 0\n", "1 pbcnf: MODEL 1:3: expected model literal"),
-        ("v 2147483648 0\n", "3 pbcnf: MODEL 1:3: limit variables"),
+        (
+            ONE,
+            "v 0\nv 1 0\n",
+            "1 pbcnf: MODEL 2:1: expected model line",
+        ),
+        (
+            ONE,
+            "v x1 0\n",
+            "1 pbcnf: MODEL 1:3: expected model literal",
+        ),
+        (
+            ONE,
+            "v 2147483648 0\n",
+            "3 pbcnf: MODEL 1:3: limit variables",
+        ),
+        // The problem's text is judged first.
+        ("+1 x1 >= 1", "v x1\n", "1 pbcnf: OPB 1:11: expected ;"),
     ];
-    for &(printed, line) in &cases {
-        let found = decoded(rt.alloc(), ONE, printed);
-        assert_eq!(rt; found.as_deref(), Some(line), "at {printed}");
-    }
-    // The problem's text is judged first.
-    let found = decoded(rt.alloc(), "+1 x1 >= 1", "v x1\n");
-    assert_eq!(rt; found.as_deref(), Some("1 pbcnf: OPB 1:11: expected ;"));
+    each_decoded(&rt, rt.alloc(), &cases);
     Ok(())
 }
 

@@ -1,15 +1,15 @@
-use super::{files_of, told};
+use super::judged_by;
 use pb_base::Ids;
 use pb_runs::{Run, run_with};
 use std::alloc::Global;
+use std::process::Abort;
 use std::test::Fail;
 
-// A text is encoded, with these options; a derivation is named.
-fn run_named(alloc: Global, options: &str, text: &str) -> Option<Run> {
-    let words = format!(in alloc; "pbcnf encode a c p{options}").ok()?;
+// A run with room for long texts.
+fn run_widely(alloc: Global, words: &str, text: &str) -> Option<Run> {
     run_with(
         alloc,
-        words.as_str(),
+        words,
         text.as_bytes(),
         Ids::new(alloc),
         4096,
@@ -18,31 +18,40 @@ fn run_named(alloc: Global, options: &str, text: &str) -> Option<Run> {
     .ok()
 }
 
+// A text is encoded, with these options; a derivation is named.
+fn run_named(alloc: Global, options: &str, text: &str) -> Option<Run> {
+    let words = format!(in alloc; "pbcnf encode a c p{options}").ok()?;
+    run_widely(alloc, words.as_str(), text)
+}
+
 // No derivation is named.
 fn run_bare(alloc: Global, options: &str, text: &str) -> Option<Run> {
     let words = format!(in alloc; "pbcnf encode a c{options}").ok()?;
-    run_with(
-        alloc,
-        words.as_str(),
-        text.as_bytes(),
-        Ids::new(alloc),
-        4096,
-        1 << 20,
-    )
-    .ok()
+    run_widely(alloc, words.as_str(), text)
+}
+
+// Both runs made the same CNF and said the same, and the first made no more.
+fn are_same(bare: &Run, run: &Run) -> bool {
+    run.outcome.status() == 0
+        && bare.desk.made(1).is_none()
+        && bare.desk.made(0) == run.desk.made(0)
+        && bare.desk.said() == run.desk.said()
 }
 
 // With a derivation, the same CNF is made and the same said as without; the derivation is accepted beside it.
 fn is_derived(alloc: Global, options: &str, text: &str) -> Option<bool> {
     let bare = run_bare(alloc, options, text)?;
     let run = run_named(alloc, options, text)?;
-    let cnf = str::from_utf8(run.desk.made(0)?).ok()?;
-    let proof = str::from_utf8(run.desk.made(1)?).ok()?;
-    let files = files_of(alloc, text, cnf, proof).ok()?;
-    let judged = told(alloc, "pbcnf check a c p", files);
-    let is_same = bare.desk.made(0) == run.desk.made(0) && bare.desk.said() == run.desk.said();
-    let is_accepted = judged.as_deref() == Some("accepted\n");
-    Some(run.outcome.status() == 0 && bare.desk.made(1).is_none() && is_same && is_accepted)
+    let judged = judged_by(alloc, &run, "pbcnf check a c p", text);
+    Some(are_same(&bare, &run) && judged.as_deref() == Some("accepted\n"))
+}
+
+// Each text is derived so with these options behind the names.
+pub fn each_derived(rt: &impl Abort, alloc: Global, cases: &[(&str, &str)]) {
+    for &(options, text) in cases {
+        let found = is_derived(alloc, options, text);
+        assert!(rt; found == Some(true), "encode{options} of {text}");
+    }
 }
 
 #[test]
@@ -93,10 +102,7 @@ fn what_is_made_is_accepted(rt: HostRuntime) -> Result<(), Fail> {
             "min: +1 x1 ;\n+1 x1 +1 x2 = 1 ;\n+4 ~x1 +3 ~x2 +2 ~x3 >= 4 ;\n+1 x1 +1 x2 +1 x3 +1 x4 = 2 ;\n",
         ),
     ];
-    for &(options, text) in &cases {
-        let found = is_derived(rt.alloc(), options, text);
-        assert!(rt; found == Some(true), "encode{options} of {text}");
-    }
+    each_derived(&rt, rt.alloc(), &cases);
     Ok(())
 }
 

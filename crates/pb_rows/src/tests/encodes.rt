@@ -1,5 +1,6 @@
 use pb_runs::{Run, run_freely};
 use std::alloc::Global;
+use std::process::Abort;
 use std::test::Fail;
 
 // What is said of the treatments that no clause comes to.
@@ -26,6 +27,22 @@ fn is_encoded(alloc: Global, text: &str, cnf: &str, sizes: &str, treatments: &st
     match format!(in alloc; "{sizes}\n{treatments} {OTHERS}\n") {
         Ok(said) => is_encoded_by(alloc, "pbcnf encode a c", text, cnf, said.as_str()),
         Err(_) => false,
+    }
+}
+
+// Each text is encoded as this CNF, and these two lines are said.
+fn each_encoded(rt: &impl Abort, alloc: Global, cases: &[(&str, &str, &str, &str)]) {
+    for &(text, cnf, sizes, treatments) in cases {
+        let is_encoded = is_encoded(alloc, text, cnf, sizes, treatments);
+        assert!(rt; is_encoded, "at {text}");
+    }
+}
+
+// With each of these words, the text is encoded as this CNF, and this is said.
+fn each_encoded_by(rt: &impl Abort, alloc: Global, text: &str, cases: &[(&str, &str, &str)]) {
+    for &(words, cnf, said) in cases {
+        let is_encoded = is_encoded_by(alloc, words, text, cnf, said);
+        assert!(rt; is_encoded, "{words} at {text}");
     }
 }
 
@@ -61,10 +78,7 @@ fn sums_that_are_clauses(rt: HostRuntime) -> Result<(), Fail> {
             "nothing 0 empty 1 clause 0",
         ),
     ];
-    for &(text, cnf, sizes, treatments) in &cases {
-        let is_encoded = is_encoded(rt.alloc(), text, cnf, sizes, treatments);
-        assert!(rt; is_encoded, "at {text}");
-    }
+    each_encoded(&rt, rt.alloc(), &cases);
     Ok(())
 }
 
@@ -107,10 +121,7 @@ fn sums_that_are_reduced(rt: HostRuntime) -> Result<(), Fail> {
             "nothing 0 empty 0 clause 1",
         ),
     ];
-    for &(text, cnf, sizes, treatments) in &cases {
-        let is_encoded = is_encoded(rt.alloc(), text, cnf, sizes, treatments);
-        assert!(rt; is_encoded, "at {text}");
-    }
+    each_encoded(&rt, rt.alloc(), &cases);
     Ok(())
 }
 
@@ -133,10 +144,7 @@ nothing 0 empty 0 clause 0 pairwise 1 ladder 0 product 0 counter 0 totalizer 0 d
 nothing 0 empty 0 clause 0 pairwise 0 ladder 1 product 0 counter 0 totalizer 0 diagram 0 tree 0 adder 0\n",
         ),
     ];
-    for &(words, cnf, said) in &cases {
-        let is_encoded = is_encoded_by(rt.alloc(), words, ONE, cnf, said);
-        assert!(rt; is_encoded, "at {words}");
-    }
+    each_encoded_by(&rt, rt.alloc(), ONE, &cases);
     Ok(())
 }
 
@@ -147,8 +155,7 @@ fn free_names(rt: HostRuntime) -> Result<(), Fail> {
     let cnf = "p cnf 4 3\n2 3 0\n2 -4 0\n3 -4 0\n";
     let said = "variables 4 original 4 fresh 0 clauses 3\n\
 nothing 0 empty 0 clause 0 pairwise 1 ladder 0 product 0 counter 0 totalizer 0 diagram 0 tree 0 adder 0\n";
-    let is_encoded = is_encoded_by(rt.alloc(), "pbcnf encode a c", text, cnf, said);
-    assert!(rt; is_encoded);
+    each_encoded_by(&rt, rt.alloc(), text, &[("pbcnf encode a c", cnf, said)]);
     Ok(())
 }
 
@@ -178,10 +185,7 @@ fn products(rt: HostRuntime) -> Result<(), Fail> {
             "nothing 0 empty 0 clause 7",
         ),
     ];
-    for &(text, cnf, sizes, treatments) in &cases {
-        let is_encoded = is_encoded(rt.alloc(), text, cnf, sizes, treatments);
-        assert!(rt; is_encoded, "at {text}");
-    }
+    each_encoded(&rt, rt.alloc(), &cases);
     Ok(())
 }
 
@@ -194,8 +198,7 @@ fn the_greatest_variable(rt: HostRuntime) -> Result<(), Fail> {
     let said = "variables 2147483647 original 2147483645 fresh 2 clauses 5\n\
 nothing 0 empty 0 clause 0 pairwise 0 ladder 1 product 0 counter 0 totalizer 0 diagram 0 tree 0 adder 0\n";
     let words = "pbcnf encode --amo ladder a c";
-    let is_encoded = is_encoded_by(rt.alloc(), words, text, cnf, said);
-    assert!(rt; is_encoded);
+    each_encoded_by(&rt, rt.alloc(), text, &[(words, cnf, said)]);
     Ok(())
 }
 
@@ -222,10 +225,7 @@ nothing 0 empty 0 clause 0 pairwise 0 ladder 0 product 0 counter 1 totalizer 0 d
 nothing 0 empty 0 clause 0 pairwise 0 ladder 0 product 0 counter 0 totalizer 1 diagram 0 tree 0 adder 0\n",
         ),
     ];
-    for &(words, cnf, said) in &cases {
-        let is_encoded = is_encoded_by(rt.alloc(), words, TWO, cnf, said);
-        assert!(rt; is_encoded, "at {words}");
-    }
+    each_encoded_by(&rt, rt.alloc(), TWO, &cases);
     Ok(())
 }
 
@@ -267,10 +267,7 @@ nothing 0 empty 0 clause 0 pairwise 0 ladder 0 product 0 counter 0 totalizer 0 d
 nothing 0 empty 0 clause 0 pairwise 0 ladder 0 product 0 counter 0 totalizer 0 diagram 1 tree 0 adder 0\n",
         ),
     ];
-    for &(words, cnf, said) in &cases {
-        let is_encoded = is_encoded_by(rt.alloc(), words, WEIGHTS, cnf, said);
-        assert!(rt; is_encoded, "at {words}");
-    }
+    each_encoded_by(&rt, rt.alloc(), WEIGHTS, &cases);
     Ok(())
 }
 
@@ -282,7 +279,6 @@ fn residues_that_meet(rt: HostRuntime) -> Result<(), Fail> {
 -5 7 0\n-5 -1 6 0\n-6 8 0\n-6 -2 0\n-7 -2 8 0\n-8 -3 9 0\n-9 -4 0\n5 0\n";
     let said = "variables 9 original 4 fresh 5 clauses 8\n\
 nothing 0 empty 0 clause 0 pairwise 0 ladder 0 product 0 counter 0 totalizer 0 diagram 1 tree 0 adder 0\n";
-    let is_encoded = is_encoded_by(rt.alloc(), "pbcnf encode a c", text, cnf, said);
-    assert!(rt; is_encoded);
+    each_encoded_by(&rt, rt.alloc(), text, &[("pbcnf encode a c", cnf, said)]);
     Ok(())
 }

@@ -1,5 +1,6 @@
-use pb_runs::run_freely;
+use super::{made, said};
 use std::alloc::Global;
+use std::process::Abort;
 use std::test::Fail;
 
 // Exactly one of three variables.
@@ -19,51 +20,51 @@ nothing 0 empty 0 clause 0 pairwise 0 ladder 0 product 0 counter 0 totalizer 0 d
 const SAID_SPLIT: &str = "variables 3 original 3 fresh 0 clauses 4\n\
 nothing 0 empty 0 clause 1 pairwise 1 ladder 0 product 0 counter 0 totalizer 0 diagram 0 tree 0 adder 0\n";
 
-// What is made, where that is one file and the run is done.
-fn made(alloc: Global, words: &str, text: &str) -> Option<String> {
-    let run = run_freely(alloc, words, text.as_bytes()).ok()?;
-    if run.outcome.status() != 0 || run.desk.made(1).is_some() {
-        return None;
+// With these words, each text is encoded as this CNF, in one file.
+fn each_made(rt: &impl Abort, alloc: Global, words: &str, cases: &[(&str, &str)]) {
+    for &(text, cnf) in cases {
+        let found = made(alloc, words, text);
+        assert_eq!(rt; found.as_deref(), Some(cnf), "{words} at {text}");
     }
-    str::from_utf8(run.desk.made(0)?)
-        .ok()?
-        .to_string(alloc)
-        .ok()
 }
 
-// What is said, where the run is done.
-fn said(alloc: Global, words: &str, text: &str) -> Option<String> {
-    let run = run_freely(alloc, words, text.as_bytes()).ok()?;
-    if run.outcome.status() != 0 {
-        return None;
+// With each of these words, this is said of the text.
+fn each_said(rt: &impl Abort, alloc: Global, text: &str, cases: &[(&str, &str)]) {
+    for &(words, line) in cases {
+        let found = said(alloc, words, text);
+        assert_eq!(rt; found.as_deref(), Some(line), "{words} at {text}");
     }
-    str::from_utf8(run.desk.said()).ok()?.to_string(alloc).ok()
 }
 
 #[test]
 fn both_halves_as_one(rt: HostRuntime) -> Result<(), Fail> {
+    let alloc = rt.alloc();
+    let split = [(ONE, SPLIT)];
+    let joint = [(ONE, JOINT)];
+    each_made(&rt, alloc, "pbcnf encode a c", &split);
+    each_made(&rt, alloc, "pbcnf encode a c --equal split", &split);
+    each_made(&rt, alloc, "pbcnf encode a c --equal joint", &joint);
+    // Just within the budget, and past it.
+    each_made(
+        &rt,
+        alloc,
+        "pbcnf encode a c --equal joint --budget 4",
+        &joint,
+    );
+    each_made(
+        &rt,
+        alloc,
+        "pbcnf encode a c --equal joint --budget 3",
+        &split,
+    );
     let cases = [
-        ("pbcnf encode a c", SPLIT, SAID_SPLIT),
-        ("pbcnf encode a c --equal split", SPLIT, SAID_SPLIT),
-        ("pbcnf encode a c --equal joint", JOINT, SAID_JOINT),
-        // Just within the budget, and past it.
-        (
-            "pbcnf encode a c --equal joint --budget 4",
-            JOINT,
-            SAID_JOINT,
-        ),
-        (
-            "pbcnf encode a c --equal joint --budget 3",
-            SPLIT,
-            SAID_SPLIT,
-        ),
+        ("pbcnf encode a c", SAID_SPLIT),
+        ("pbcnf encode a c --equal split", SAID_SPLIT),
+        ("pbcnf encode a c --equal joint", SAID_JOINT),
+        ("pbcnf encode a c --equal joint --budget 4", SAID_JOINT),
+        ("pbcnf encode a c --equal joint --budget 3", SAID_SPLIT),
     ];
-    for &(words, cnf, line) in &cases {
-        let cnf_made = made(rt.alloc(), words, ONE);
-        let told = said(rt.alloc(), words, ONE);
-        assert_eq!(rt; cnf_made.as_deref(), Some(cnf), "at {words}");
-        assert_eq!(rt; told.as_deref(), Some(line), "at {words}");
-    }
+    each_said(&rt, alloc, ONE, &cases);
     Ok(())
 }
 
@@ -100,10 +101,7 @@ fn which_are_one(rt: HostRuntime) -> Result<(), Fail> {
 -4 6 0\n-5 7 0\n-1 6 0\n-1 -4 7 0\n1 4 -6 0\n1 5 -7 0\n4 -7 0\n6 0\n-7 0\n-3 0\n",
         ),
     ];
-    for &(text, cnf) in &cases {
-        let found = made(rt.alloc(), "pbcnf encode a c --equal joint", text);
-        assert_eq!(rt; found.as_deref(), Some(cnf), "at {text}");
-    }
+    each_made(&rt, rt.alloc(), "pbcnf encode a c --equal joint", &cases);
     Ok(())
 }
 
@@ -113,8 +111,8 @@ fn two_for_each(rt: HostRuntime) -> Result<(), Fail> {
     let text = "+1 x1 +1 x2 +1 x3 = 1 ;\n+1 x2 +1 x3 +1 x4 = 2 ;\n";
     let lines = "variables 13 original 4 fresh 9 clauses 33\n\
 nothing 0 empty 0 clause 0 pairwise 0 ladder 0 product 0 counter 0 totalizer 0 diagram 0 tree 0 adder 0 joint 4\n";
-    let told = said(rt.alloc(), "pbcnf encode a c --equal joint", text);
-    assert_eq!(rt; told.as_deref(), Some(lines));
+    let cases = [("pbcnf encode a c --equal joint", lines)];
+    each_said(&rt, rt.alloc(), text, &cases);
     Ok(())
 }
 
@@ -127,13 +125,7 @@ fn what_both_reach(rt: HostRuntime) -> Result<(), Fail> {
         ("pbcnf probe a x1 x2", "conflict\n"),
         ("pbcnf probe a ~x1 ~x2 ~x3", "conflict\n"),
     ];
-    for &(words, line) in &cases {
-        let is_due = match run_freely(rt.alloc(), words, JOINT.as_bytes()) {
-            Ok(run) => run.outcome.status() == 0 && run.desk.said() == line.as_bytes(),
-            Err(_) => false,
-        };
-        assert!(rt; is_due, "at {words}");
-    }
+    each_said(&rt, rt.alloc(), JOINT, &cases);
     Ok(())
 }
 
@@ -143,7 +135,7 @@ fn hard_lines_as_one(rt: HostRuntime) -> Result<(), Fail> {
     let text = "min: +2 x1 ;\n+1 x1 +1 x2 +1 x3 = 1 ;\n";
     let wcnf = "c offset 0\nh -3 4 0\nh -2 4 0\nh -2 -3 5 0\nh 2 3 -4 0\nh 2 -5 0\nh 3 -5 0\n\
 h -4 6 0\nh -5 7 0\nh -1 6 0\nh -1 -4 7 0\nh 1 4 -6 0\nh 1 5 -7 0\nh 4 -7 0\nh 6 0\nh -7 0\n2 -1 0\n";
-    let found = made(rt.alloc(), "pbcnf wcnf a w --equal joint", text);
-    assert_eq!(rt; found.as_deref(), Some(wcnf));
+    let cases = [(text, wcnf)];
+    each_made(&rt, rt.alloc(), "pbcnf wcnf a w --equal joint", &cases);
     Ok(())
 }

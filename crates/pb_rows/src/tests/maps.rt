@@ -1,7 +1,8 @@
-use super::{refusal, told};
+use super::{each_refused, told};
 use pb_base::Seq;
 use pb_runs::named;
 use std::alloc::Global;
+use std::process::Abort;
 use std::test::Fail;
 
 // What is told of the free names of a problem.
@@ -9,6 +10,14 @@ fn mapped(alloc: Global, text: &str) -> Option<String> {
     let mut files = Seq::new(alloc);
     files.push(named(alloc, "a", text.as_bytes()).ok()?).ok()?;
     told(alloc, "pbcnf map a", files)
+}
+
+// Of each text's free names, this is told.
+fn each_mapped(rt: &impl Abort, alloc: Global, cases: &[(&str, &str)]) {
+    for &(text, line) in cases {
+        let found = mapped(alloc, text);
+        assert_eq!(rt; found.as_deref(), Some(line), "at {text}");
+    }
 }
 
 #[test]
@@ -34,10 +43,7 @@ fn free_names(rt: HostRuntime) -> Result<(), Fail> {
             "1 x\n2 x1y\n3 _x1\n4 X1\n5 a[1]{2}^-3_\n",
         ),
     ];
-    for &(text, line) in &cases {
-        let found = mapped(rt.alloc(), text);
-        assert_eq!(rt; found.as_deref(), Some(line), "at {text}");
-    }
+    each_mapped(&rt, rt.alloc(), &cases);
     Ok(())
 }
 
@@ -52,12 +58,9 @@ fn texts_without_a_problem(rt: HostRuntime) -> Result<(), Fail> {
             "3 pbcnf: OPB 3:1: limit variables",
         ),
     ];
-    for &(text, line) in &cases {
-        let found = mapped(rt.alloc(), text);
-        assert_eq!(rt; found.as_deref(), Some(line), "at {text}");
-    }
-    let found = refusal(rt.alloc(), "pbcnf map b", b"");
-    assert_eq!(rt; found.as_deref(), Some("4 pbcnf: read fault"));
+    each_mapped(&rt, rt.alloc(), &cases);
+    let missing = [("pbcnf map b", "", "4 pbcnf: read fault")];
+    each_refused(&rt, rt.alloc(), &missing);
     Ok(())
 }
 

@@ -1,6 +1,6 @@
-use super::refusal;
-use pb_runs::run_freely;
+use super::{each_refused, told_of_text};
 use std::alloc::Global;
+use std::process::Abort;
 use std::test::Fail;
 
 // At most two of the first four variables, by a sequential counter.
@@ -14,13 +14,12 @@ const ONE: &str = "p cnf 2 2\n1 2 0\n-1 -2 0\n";
 const BACKWARDS: &str = "p cnf 12 11\n-11 12 0\n-10 11 0\n-9 10 0\n-8 9 0\n-7 8 0\n-6 7 0\n\
 -5 6 0\n-4 5 0\n-3 4 0\n-2 3 0\n-1 2 0\n";
 
-// What probing the CNF with these words says, where it is done and makes no file.
-fn said(alloc: Global, words: &str, cnf: &str) -> Option<String> {
-    let run = run_freely(alloc, words, cnf.as_bytes()).ok()?;
-    if run.outcome.status() != 0 || run.desk.made(0).is_some() || run.desk.made(1).is_some() {
-        return None;
+// With each of these words, this is said of the CNF, and no file is made.
+fn each_said(rt: &impl Abort, alloc: Global, cases: &[(&str, &str, &str)]) {
+    for &(words, cnf, line) in cases {
+        let found = told_of_text(alloc, words, cnf);
+        assert_eq!(rt; found.as_deref(), Some(line), "at {words}");
     }
-    str::from_utf8(run.desk.said()).ok()?.to_string(alloc).ok()
 }
 
 #[test]
@@ -51,51 +50,63 @@ fn what_is_reached(rt: HostRuntime) -> Result<(), Fail> {
             "fixed 1 -2 -3 2147483647 0\n",
         ),
     ];
-    for &(words, cnf, line) in &cases {
-        let found = said(rt.alloc(), words, cnf);
-        assert_eq!(rt; found.as_deref(), Some(line), "at {words}");
-    }
+    each_said(&rt, rt.alloc(), &cases);
     Ok(())
 }
 
 #[test]
 fn implications_in_the_worst_order(rt: HostRuntime) -> Result<(), Fail> {
-    let found = said(rt.alloc(), "pbcnf probe a x1", BACKWARDS);
-    let expected = "fixed 1 2 3 4 5 6 7 8 9 10 11 12 0\n";
-    assert_eq!(rt; found.as_deref(), Some(expected));
+    let line = "fixed 1 2 3 4 5 6 7 8 9 10 11 12 0\n";
+    each_said(&rt, rt.alloc(), &[("pbcnf probe a x1", BACKWARDS, line)]);
     Ok(())
 }
 
 #[test]
 fn conflicts(rt: HostRuntime) -> Result<(), Fail> {
+    let line = "conflict\n";
     let cases = [
-        ("pbcnf probe a x1 x2 x3", COUNTER),
-        ("pbcnf probe a x1 ~x1", COUNTER),
-        ("pbcnf probe a x9 ~x9", ONE),
-        ("pbcnf probe a x1 x2", ONE),
+        ("pbcnf probe a x1 x2 x3", COUNTER, line),
+        ("pbcnf probe a x1 ~x1", COUNTER, line),
+        ("pbcnf probe a x9 ~x9", ONE, line),
+        ("pbcnf probe a x1 x2", ONE, line),
     ];
-    for &(words, cnf) in &cases {
-        let found = said(rt.alloc(), words, cnf);
-        assert_eq!(rt; found.as_deref(), Some("conflict\n"), "at {words}");
-    }
+    each_said(&rt, rt.alloc(), &cases);
     Ok(())
 }
 
 #[test]
 fn texts_out_of_the_grammar(rt: HostRuntime) -> Result<(), Fail> {
+    let words = "pbcnf probe a x1";
     let cases = [
-        ("p cnf 1 2\n1 0\n", "1 pbcnf: CNF 3:1: expected clause word"),
-        ("p cnf 1 1\n2 0\n", "1 pbcnf: CNF 2:1: expected clause word"),
-        ("", "1 pbcnf: CNF 1:1: expected p line"),
-        ("p dnf 1 1\n", "1 pbcnf: CNF 1:3: expected cnf word"),
-        ("p cnf 1\n", "1 pbcnf: CNF 1:8: expected clause count"),
-        ("p cnf 1 1\n1\n", "1 pbcnf: CNF 3:1: expected clause word"),
-        ("p cnf 2147483648 0\n", "3 pbcnf: CNF 1:7: limit variables"),
+        (
+            words,
+            "p cnf 1 2\n1 0\n",
+            "1 pbcnf: CNF 3:1: expected clause word",
+        ),
+        (
+            words,
+            "p cnf 1 1\n2 0\n",
+            "1 pbcnf: CNF 2:1: expected clause word",
+        ),
+        (words, "", "1 pbcnf: CNF 1:1: expected p line"),
+        (words, "p dnf 1 1\n", "1 pbcnf: CNF 1:3: expected cnf word"),
+        (
+            words,
+            "p cnf 1\n",
+            "1 pbcnf: CNF 1:8: expected clause count",
+        ),
+        (
+            words,
+            "p cnf 1 1\n1\n",
+            "1 pbcnf: CNF 3:1: expected clause word",
+        ),
+        (
+            words,
+            "p cnf 2147483648 0\n",
+            "3 pbcnf: CNF 1:7: limit variables",
+        ),
     ];
-    for &(text, line) in &cases {
-        let found = refusal(rt.alloc(), "pbcnf probe a x1", text.as_bytes());
-        assert_eq!(rt; found.as_deref(), Some(line), "at {text}");
-    }
+    each_refused(&rt, rt.alloc(), &cases);
     Ok(())
 }
 
@@ -103,14 +114,11 @@ fn texts_out_of_the_grammar(rt: HostRuntime) -> Result<(), Fail> {
 fn words_and_names(rt: HostRuntime) -> Result<(), Fail> {
     let usage = "2 pbcnf: usage: encode, check, decode, probe or bench";
     let cases = [
-        ("pbcnf probe", usage),
-        ("pbcnf probe a x0", usage),
-        ("pbcnf probe a x1 y", usage),
-        ("pbcnf probe b x1", "4 pbcnf: read fault"),
+        ("pbcnf probe", ONE, usage),
+        ("pbcnf probe a x0", ONE, usage),
+        ("pbcnf probe a x1 y", ONE, usage),
+        ("pbcnf probe b x1", ONE, "4 pbcnf: read fault"),
     ];
-    for &(words, line) in &cases {
-        let found = refusal(rt.alloc(), words, ONE.as_bytes());
-        assert_eq!(rt; found.as_deref(), Some(line), "at {words}");
-    }
+    each_refused(&rt, rt.alloc(), &cases);
     Ok(())
 }

@@ -1,4 +1,4 @@
-use super::refusal;
+use super::{each_refused, refusal};
 use std::test::Fail;
 
 #[test]
@@ -7,31 +7,34 @@ fn texts_out_of_the_grammar(rt: HostRuntime) -> Result<(), Fail> {
     let relation = "1 pbcnf: OPB 1:7: expected a coefficient or a relation";
     let literal = "1 pbcnf: OPB 1:4: expected a literal";
     let next = "1 pbcnf: OPB 1:14: expected a statement or the end";
+    let words = "pbcnf encode a c";
     let cases = [
-        ("+1 x1 >= 1", "1 pbcnf: OPB 1:11: expected ;"),
-        ("max: +1 x1 ;\n", start),
-        ("x1 >= 1 ;\n", start),
-        ("+1 x1 2x >= 1 ;\n", relation),
-        ("+1 x0 >= 1 ;\n", literal),
-        ("+1 x1 > 1 ;\n", relation),
-        ("+1 x1 >= 1 ; min: ;\n", next),
-        ("+1 x1 >= ;\n", "1 pbcnf: OPB 1:10: expected an integer"),
+        (words, "+1 x1 >= 1", "1 pbcnf: OPB 1:11: expected ;"),
+        (words, "max: +1 x1 ;\n", start),
+        (words, "x1 >= 1 ;\n", start),
+        (words, "+1 x1 2x >= 1 ;\n", relation),
+        (words, "+1 x0 >= 1 ;\n", literal),
+        (words, "+1 x1 > 1 ;\n", relation),
+        (words, "+1 x1 >= 1 ; min: ;\n", next),
         (
+            words,
+            "+1 x1 >= ;\n",
+            "1 pbcnf: OPB 1:10: expected an integer",
+        ),
+        (
+            words,
             "min: +1 x1 >= 1 ;\n",
             "1 pbcnf: OPB 1:12: expected a coefficient or ;",
         ),
-        ("+1 ~ x1 >= 1 ;\n", literal),
-        ("+1 2a >= 1 ;\n", literal),
-        ("+1 ~~a >= 1 ;\n", literal),
-        ("+ 1 x1 >= 1 ;\n", start),
-        ("+1 x1 >= 1 2 ;\n", "1 pbcnf: OPB 1:12: expected ;"),
+        (words, "+1 ~ x1 >= 1 ;\n", literal),
+        (words, "+1 2a >= 1 ;\n", literal),
+        (words, "+1 ~~a >= 1 ;\n", literal),
+        (words, "+ 1 x1 >= 1 ;\n", start),
+        (words, "+1 x1 >= 1 2 ;\n", "1 pbcnf: OPB 1:12: expected ;"),
     ];
-    for &(text, line) in &cases {
-        let found = refusal(rt.alloc(), "pbcnf encode a c", text.as_bytes());
-        assert_eq!(rt; found.as_deref(), Some(line), "at {text}");
-    }
+    each_refused(&rt, rt.alloc(), &cases);
     // A byte that is in no text.
-    let found = refusal(rt.alloc(), "pbcnf encode a c", b"\xff");
+    let found = refusal(rt.alloc(), words, b"\xff");
     assert_eq!(rt; found.as_deref(), Some(start));
     Ok(())
 }
@@ -56,9 +59,6 @@ fn texts_past_a_limit(rt: HostRuntime) -> Result<(), Fail> {
             "3 pbcnf: totals: limit variables",
         ),
     ];
-    for &(words, text, line) in &cases {
-        let found = refusal(rt.alloc(), words, text.as_bytes());
-        assert_eq!(rt; found.as_deref(), Some(line), "at {text}");
-    }
+    each_refused(&rt, rt.alloc(), &cases);
     Ok(())
 }

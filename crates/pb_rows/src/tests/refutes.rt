@@ -1,7 +1,7 @@
 use super::{files_of, told};
 use pb_base::{Ids, NoMemory};
 use pb_desk::Shelf;
-use pb_runs::{named, run_with};
+use pb_runs::{Run, named, run_with};
 use std::alloc::Global;
 use std::test::Fail;
 
@@ -124,7 +124,14 @@ fn what_comes_before_the_refutation(rt: HostRuntime) -> Result<(), Fail> {
     Ok(())
 }
 
-// What is told of a refutation of what is encoded of a text, beside the derivation that is made of it.
+// What is told of a refutation of what a run made of a text, beside the derivation that it made.
+fn refuted_by(alloc: Global, run: &Run, opb: &str, lrat: &str) -> Option<String> {
+    let cnf = str::from_utf8(run.desk.made(0)?).ok()?;
+    let proof = str::from_utf8(run.desk.made(1)?).ok()?;
+    judged(alloc, opb, cnf, proof, Some(lrat))
+}
+
+// The same of what is encoded of the text.
 fn refuted(alloc: Global, opb: &str, lrat: &str) -> Option<String> {
     let run = run_with(
         alloc,
@@ -135,9 +142,7 @@ fn refuted(alloc: Global, opb: &str, lrat: &str) -> Option<String> {
         1 << 16,
     )
     .ok()?;
-    let cnf = str::from_utf8(run.desk.made(0)?).ok()?;
-    let proof = str::from_utf8(run.desk.made(1)?).ok()?;
-    judged(alloc, opb, cnf, proof, Some(lrat))
+    refuted_by(alloc, &run, opb, lrat)
 }
 
 #[test]

@@ -1,6 +1,5 @@
-use super::{files_of, refusal, told};
-use pb_base::Ids;
-use pb_runs::{run_freely, run_with};
+use super::derivations::each_derived;
+use super::{each_refused, made, said};
 use std::alloc::Global;
 use std::test::Fail;
 
@@ -10,22 +9,22 @@ const COSTS: &str = "min: +3 x1 -1 ~x2 ;\n+1 x1 +1 x2 >= 1 ;\n";
 // Its clauses, with those of its table.
 const TABLED: &str = "p cnf 5 6\n1 2 0\n-1 4 0\n-2 3 0\n-1 -2 5 0\n-4 3 0\n-5 4 0\n";
 
+// What is said behind the size.
+fn rows_of(alloc: Global, said: &str) -> Option<String> {
+    let mut rows = String::new(alloc);
+    for line in said.lines().skip(2) {
+        rows.push_str(line).ok()?;
+        rows.push_str("\n").ok()?;
+    }
+    Some(rows)
+}
+
 // The CNF that is made of a text with a table, and what is said behind the size.
-fn tabled(alloc: Global, options: &str, text: &str) -> Option<String> {
+fn tabled(alloc: Global, options: &str, text: &str) -> Option<(String, String)> {
     let words = format!(in alloc; "pbcnf encode a c --table{options}").ok()?;
-    let run = run_freely(alloc, words.as_str(), text.as_bytes()).ok()?;
-    if run.outcome.status() != 0 || run.desk.made(1).is_some() {
-        return None;
-    }
-    let cnf = str::from_utf8(run.desk.made(0)?).ok()?;
-    let said = str::from_utf8(run.desk.said()).ok()?;
-    let mut found = cnf.to_string(alloc).ok()?;
-    for (place, line) in said.lines().enumerate() {
-        if place >= 2 {
-            found = format!(in alloc; "{found}{line}\n").ok()?;
-        }
-    }
-    Some(found)
+    let cnf = made(alloc, words.as_str(), text)?;
+    let told = said(alloc, words.as_str(), text)?;
+    Some((cnf, rows_of(alloc, told.as_str())?))
 }
 
 #[test]
@@ -76,13 +75,9 @@ fn objectives_have_rows(rt: HostRuntime) -> Result<(), Fail> {
         ),
     ];
     for &(options, text, rows, cnf) in &cases {
-        let found = tabled(rt.alloc(), options, text);
-        let wanted = format!(in rt.alloc(); "{cnf}{rows}").expect(&rt, "text");
-        assert_eq!(rt;
-            found.as_deref(),
-            Some(wanted.as_str()),
-            "{options} at {text}"
-        );
+        let (made, told) = tabled(rt.alloc(), options, text).expect(&rt, "run");
+        assert_eq!(rt; made.as_str(), cnf, "{options} at {text}");
+        assert_eq!(rt; told.as_str(), rows, "{options} at {text}");
     }
     Ok(())
 }
@@ -105,64 +100,30 @@ pairwise 0 ladder 0 product 0 counter 0 totalizer 0 diagram 0 tree 0 adder 0 joi
 bound 0 8\nbound 2 9\nbound 3 10\n",
         ),
     ];
-    for &(words, text, said) in &cases {
-        let run = run_freely(rt.alloc(), words, text.as_bytes()).expect(&rt, "run");
-        assert_eq!(rt; run.desk.said(), said.as_bytes(), "at {words}");
+    for &(words, text, lines) in &cases {
+        let found = said(rt.alloc(), words, text);
+        assert_eq!(rt; found.as_deref(), Some(lines), "at {words}");
     }
     Ok(())
-}
-
-// With a derivation, the same CNF is made and the same said; the derivation is accepted beside it.
-fn is_derived(alloc: Global, options: &str, text: &str) -> Option<bool> {
-    let short = format!(in alloc; "pbcnf encode a c --table{options}").ok()?;
-    let long = format!(in alloc; "pbcnf encode a c p --table{options}").ok()?;
-    let bare = run_freely(alloc, short.as_str(), text.as_bytes()).ok()?;
-    let run = run_with(
-        alloc,
-        long.as_str(),
-        text.as_bytes(),
-        Ids::new(alloc),
-        4096,
-        1 << 20,
-    )
-    .ok()?;
-    let cnf = str::from_utf8(run.desk.made(0)?).ok()?;
-    let proof = str::from_utf8(run.desk.made(1)?).ok()?;
-    let files = files_of(alloc, text, cnf, proof).ok()?;
-    let judged = told(alloc, "pbcnf check a c p", files);
-    let is_same = bare.desk.made(0) == run.desk.made(0) && bare.desk.said() == run.desk.said();
-    Some(run.outcome.status() == 0 && is_same && judged.as_deref() == Some("accepted\n"))
 }
 
 #[test]
 fn derivations_of_tables_are_accepted(rt: HostRuntime) -> Result<(), Fail> {
     let cases = [
-        ("", COSTS),
-        ("", "+1 x1 >= 1 ;\n"),
-        ("", "min: +5 x1 ;\n+1 x1 >= 1 ;\n"),
+        (" --table", COSTS),
+        (" --table", "+1 x1 >= 1 ;\n"),
+        (" --table", "min: +5 x1 ;\n+1 x1 >= 1 ;\n"),
         (
-            "",
+            " --table",
             "min: +3 x1 +5 x2 -4 x3 x4 +2 ~x5 +2 x6 ;\n+4 ~x1 +3 ~x2 +2 ~x3 >= 4 ;\n",
         ),
         (
-            " --equal joint",
+            " --table --equal joint",
             "min: +3 x1 -1 ~x2 ;\n+1 x1 +1 x2 +1 x3 = 1 ;\n+1 x2 +1 x3 >= 1 ;\n",
         ),
     ];
-    for &(options, text) in &cases {
-        assert_eq!(rt;
-            is_derived(rt.alloc(), options, text),
-            Some(true),
-            "{options} at {text}"
-        );
-    }
+    each_derived(&rt, rt.alloc(), &cases);
     Ok(())
-}
-
-// What probing the CNF with these words says.
-fn probed(alloc: Global, words: &str, cnf: &str) -> Option<String> {
-    let run = run_freely(alloc, words, cnf.as_bytes()).ok()?;
-    str::from_utf8(run.desk.said()).ok()?.to_string(alloc).ok()
 }
 
 #[test]
@@ -174,7 +135,7 @@ fn rows_propagate(rt: HostRuntime) -> Result<(), Fail> {
         ("pbcnf probe a ~x5 x1", "fixed 1 -2 3 4 -5 0\n"),
     ];
     for &(words, line) in &cases {
-        let found = probed(rt.alloc(), words, TABLED);
+        let found = said(rt.alloc(), words, TABLED);
         assert_eq!(rt; found.as_deref(), Some(line), "at {words}");
     }
     Ok(())
@@ -211,9 +172,6 @@ fn tables_that_are_not_made(rt: HostRuntime) -> Result<(), Fail> {
             "2 pbcnf: usage: encode, check, decode, probe or bench",
         ),
     ];
-    for &(words, text, line) in &cases {
-        let found = refusal(rt.alloc(), words, text.as_bytes());
-        assert_eq!(rt; found.as_deref(), Some(line), "at {words}");
-    }
+    each_refused(&rt, rt.alloc(), &cases);
     Ok(())
 }

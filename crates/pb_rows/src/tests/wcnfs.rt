@@ -1,22 +1,23 @@
-use super::refusal;
-use pb_runs::run_freely;
+use super::{each_refused, made, said};
 use std::alloc::Global;
+use std::process::Abort;
 use std::test::Fail;
 
 // One of two variables, where the first costs 3 and the second 1, and 1 less in any case.
 const COSTS: &str = "min: +3 x1 -1 ~x2 ; +1 x1 +1 x2 >= 1 ;\n";
 
-// The weighted CNF of a text, where these options stand behind the names, if it is the one file that is made.
+// The weighted CNF of a text, where these options stand behind the names.
 fn weighed(alloc: Global, options: &str, text: &str) -> Option<String> {
     let words = format!(in alloc; "pbcnf wcnf a w{options}").ok()?;
-    let run = run_freely(alloc, words.as_str(), text.as_bytes()).ok()?;
-    if run.outcome.status() != 0 || run.desk.made(1).is_some() {
-        return None;
+    made(alloc, words.as_str(), text)
+}
+
+// With each of these options, the text has this weighted CNF.
+fn each_weighed(rt: &impl Abort, alloc: Global, cases: &[(&str, &str, &str)]) {
+    for &(options, text, wcnf) in cases {
+        let found = weighed(alloc, options, text);
+        assert_eq!(rt; found.as_deref(), Some(wcnf), "{options} at {text}");
     }
-    str::from_utf8(run.desk.made(0)?)
-        .ok()?
-        .to_string(alloc)
-        .ok()
 }
 
 #[test]
@@ -60,10 +61,7 @@ fn objectives_are_soft(rt: HostRuntime) -> Result<(), Fail> {
             "c offset -5\nh -5 4 0\nh -1 -4 0\nh -2 -5 0\nh -2 4 0\nh -3 5 0\n2 -1 0\n5 3 0\n",
         ),
     ];
-    for &(options, text, wcnf) in &cases {
-        let found = weighed(rt.alloc(), options, text);
-        assert_eq!(rt; found.as_deref(), Some(wcnf), "at {text}");
-    }
+    each_weighed(&rt, rt.alloc(), &cases);
     Ok(())
 }
 
@@ -85,10 +83,7 @@ fn products_cost(rt: HostRuntime) -> Result<(), Fail> {
         ),
         ("", "min: +1 x1 ~x1 -4 x2 x2 ;\n", "c offset -4\n4 2 0\n"),
     ];
-    for &(options, text, wcnf) in &cases {
-        let found = weighed(rt.alloc(), options, text);
-        assert_eq!(rt; found.as_deref(), Some(wcnf), "{options} at {text}");
-    }
+    each_weighed(&rt, rt.alloc(), &cases);
     Ok(())
 }
 
@@ -117,9 +112,9 @@ fn hard_clauses_are_counted(rt: HostRuntime) -> Result<(), Fail> {
         ),
     ];
     for &(words, text, sizes) in &cases {
-        let run = run_freely(rt.alloc(), words, text.as_bytes()).expect(&rt, "run");
-        let said = format!(in rt.alloc(); "{sizes} {OTHERS}").expect(&rt, "text");
-        assert_eq!(rt; run.desk.said(), said.as_bytes(), "{words} at {text}");
+        let found = said(rt.alloc(), words, text);
+        let line = format!(in rt.alloc(); "{sizes} {OTHERS}").expect(&rt, "text");
+        assert_eq!(rt; found.as_deref(), Some(line.as_str()), "{words} at {text}");
     }
     Ok(())
 }
@@ -149,9 +144,6 @@ fn weighted_cnfs_that_are_not_made(rt: HostRuntime) -> Result<(), Fail> {
             "2 pbcnf: usage: encode, check, decode, probe or bench",
         ),
     ];
-    for &(words, text, line) in &cases {
-        let found = refusal(rt.alloc(), words, text.as_bytes());
-        assert_eq!(rt; found.as_deref(), Some(line), "at {words}");
-    }
+    each_refused(&rt, rt.alloc(), &cases);
     Ok(())
 }

@@ -1,7 +1,7 @@
-use super::refusal;
+use super::{each_refused, refusal};
 use std::test::Fail;
 
-const TEXT: &[u8] = b"+1 x1 +1 x2 >= 1 ;\n";
+const TEXT: &str = "+1 x1 +1 x2 >= 1 ;\n";
 
 #[test]
 fn words_that_ask_for_nothing(rt: HostRuntime) -> Result<(), Fail> {
@@ -59,7 +59,7 @@ fn words_that_ask_for_nothing(rt: HostRuntime) -> Result<(), Fail> {
     ];
     let line = "2 pbcnf: usage: encode, check, decode, probe or bench";
     for &words in &cases {
-        let found = refusal(rt.alloc(), words, TEXT);
+        let found = refusal(rt.alloc(), words, TEXT.as_bytes());
         assert_eq!(rt; found.as_deref(), Some(line), "at {words}");
     }
     Ok(())
@@ -67,7 +67,7 @@ fn words_that_ask_for_nothing(rt: HostRuntime) -> Result<(), Fail> {
 
 #[test]
 fn a_file_that_is_not_there(rt: HostRuntime) -> Result<(), Fail> {
-    let found = refusal(rt.alloc(), "pbcnf encode b c", TEXT);
-    assert_eq!(rt; found.as_deref(), Some("4 pbcnf: read fault"));
+    let cases = [("pbcnf encode b c", TEXT, "4 pbcnf: read fault")];
+    each_refused(&rt, rt.alloc(), &cases);
     Ok(())
 }
