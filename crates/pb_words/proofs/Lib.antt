@@ -3,6 +3,7 @@ pub mod BoundRows
 pub mod CommandLemmas
 pub mod EncodeLemmas
 pub mod Lines
+pub mod RefuteLemmas
 pub mod Rows
 pub mod TableRows
 pub mod TakenLemmas

@@ -1,4 +1,5 @@
 pub mod Rules
+pub mod Commands
 pub mod Digits
 pub mod Names
 pub mod OptionWords

@@ -1,8 +1,10 @@
 -- The words of `refute`. Our own.
-use Rattle.std.specs.Prelude.{ℤ, List, ◌∷◌, [], Option, Some, None, if◌then◌else◌, codes}
+use Rattle.std.specs.Prelude.{◌||◌, ℤ, List, ◌∷◌, [], Option, Some, None, if◌then◌else◌, codes}
+use Rattle.std.specs.Str.{bytes_eq}
 use Rattle.clap.specs.Words.{App, Row, Text, first_of}
 use Rattle.pb_words.specs.declared.refute.Refuting.{Refuting}
 use Rattle.pb_words.specs.BoundWords.{bound_in, bound_rules}
+use Rattle.pb_words.specs.CheckWords.{CheckWords}
 use Rattle.pb_words.specs.Names.{are_different}
 use Rattle.pb_words.specs.Rules.{command_of, name_rule}
 
@@ -26,6 +28,13 @@ refute_from _ _ _ _ _ = None
 -- what `refute` is asked for, to which these arguments were given
 abbrev pub refute_in : List Row → Option RefuteWords
 refute_in given = refute_from (first_of (codes "opb") given) (first_of (codes "cnf") given) (first_of (codes "proof") given) (first_of (codes "lrat") given) (bound_in given)
+
+-- the same, of what `check` is asked for and one more name
+abbrev pub refute_after : Option CheckWords → Option Text → Option RefuteWords
+refute_after (Some c) (Some lrat) =
+    if bytes_eq c.opb lrat || (bytes_eq c.cnf lrat || bytes_eq c.proof lrat) then None
+    else Some (record { opb = c.opb; cnf = c.cnf; proof = c.proof; lrat = lrat; bound = c.bound })
+refute_after _ _ = None
 
 -- what a `Refuting` says
 abbrev pub as_refute_words : Refuting → RefuteWords

@@ -1,5 +1,5 @@
 -- Commands and their arguments, as clap's definitions see them.
-use Rattle.std.specs.Prelude.{◌≡◌, Bool, false, true, List, fold, IfOk, Result, Some}
+use Rattle.std.specs.Prelude.{◌≡◌, false, true, List, fold, Some}
 use Rattle.clap.specs.Words.{App, Rule, Text, app_of, new_app, new_rule, with_rule, with_subcommand}
 use Rattle.clap.specs.Simple.{on_top}
 use Rattle.clap.specs.declared.builder.action.ArgAction.TheVariants.{Append, SetTrue}
@@ -47,18 +47,6 @@ bare_program name = on_top (λ top. record top {
 abbrev pub program_of : Text → List App → App
 program_of name = fold (λ program command. with_subcommand program command.top) (bare_program name)
 
--- clap sees the command as this one, and whether an argument of it is global
-abbrev pub IsLike : App → Bool → Command → Type 0
-IsLike app has_globals command = (app_of command ≡ app) × ((out-Command command).has_globals ≡ has_globals)
-
--- the new command, where there is one, is the old one with this besides, and there is none where there was none
-abbrev pub JoinsRule : {E : Type 0} → Rule → Result Command E → Result Command E → Type 0
-JoinsRule rule old new = (app : App) (has_globals : Bool) → IfOk old (IsLike app has_globals) → IfOk new (IsLike (with_rule app rule) has_globals)
-
 -- clap sees the command as this one, and no argument of it is global
 abbrev pub IsCommand : App → Command → Type 0
-IsCommand app = IsLike app false
-
--- clap sees the new command as the old one with these besides, none of them global
-abbrev pub AddsRules : List Rule → Command → Command → Type 0
-AddsRules rules old = IsLike (with_rules (app_of old) rules) (out-Command old).has_globals
+IsCommand app command = (app_of command ≡ app) × ((out-Command command).has_globals ≡ false)

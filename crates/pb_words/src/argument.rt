@@ -1,58 +1,37 @@
-// Arguments of commands, and the words that they were given. An argument joins what the call before it answered: a caller
-// has one way out for all of them where there is no memory, and its proof has one case for that.
-ghost use Rattle.std.specs.Prelude.{◌≡◌, map, option_map};
-ghost use Rattle.clap.specs.Words.{all_of, first_of, found_of, rows_of};
-ghost use Rattle.pb_words.specs.Rules.{JoinsRule, name_rule, option_rule, optional_rule, words_rule};
+// Arguments of commands, and the words that they were given.
+ghost use Rattle.std.specs.Prelude.{◌≡◌, false, map, option_map};
+ghost use Rattle.clap.specs.Words.{all_of, first_of, found_of, rows_of, rule_of};
+ghost use Rattle.pb_words.specs.Commands.{rule_for};
 
-use clap::{Arg, ArgAction, ArgMatches, Command};
-use std::alloc::{AllocError, Global};
+use clap::{Arg, ArgAction, ArgMatches};
+use std::alloc::Global;
 
-/// A command that takes a name besides, which has to be given.
-pub fn with_name<'a>(
-    alloc: Global,
-    command: Result<Command<'a>, AllocError>,
-    id: &'a str,
-) -> Result<Command<'a>, AllocError>
-    ensures { JoinsRule (name_rule id.entry.now) command.entry result }
-{
-    let command = command?;
-    command.arg(Arg::new(alloc, id).required(true))
+/// What a command takes, by the id under which it is read back.
+pub enum Argument<'a> {
+    /// A name, which has to be given.
+    Name(&'a str),
+    /// A name, which may be given.
+    OptionalName(&'a str),
+    /// Any number of words, none included.
+    Words(&'a str),
+    /// An option, which is written `--id value` or `--id=value` and may be given once.
+    Valued(&'a str),
+    /// An option without a value, which is written `--id` and may be given once.
+    Flag(&'a str),
 }
 
-/// A command that takes a name besides, which may be given.
-pub fn with_optional_name<'a>(
-    alloc: Global,
-    command: Result<Command<'a>, AllocError>,
-    id: &'a str,
-) -> Result<Command<'a>, AllocError>
-    ensures { JoinsRule (optional_rule id.entry.now) command.entry result }
+/// The same in clap's own form.
+pub fn arg_for<'a>(alloc: Global, argument: &Argument<'a>) -> Arg<'a>
+    ensures rule { rule_of result ≡ rule_for argument.now }
+    ensures local { result.global ≡ false }
 {
-    let command = command?;
-    command.arg(Arg::new(alloc, id))
-}
-
-/// A command that takes any number of words besides, none included.
-pub fn with_words<'a>(
-    alloc: Global,
-    command: Result<Command<'a>, AllocError>,
-    id: &'a str,
-) -> Result<Command<'a>, AllocError>
-    ensures { JoinsRule (words_rule id.entry.now) command.entry result }
-{
-    let command = command?;
-    command.arg(Arg::new(alloc, id).action(ArgAction::Append))
-}
-
-/// A command that takes an option besides, which is written `--id value` or `--id=value`.
-pub fn with_option<'a>(
-    alloc: Global,
-    command: Result<Command<'a>, AllocError>,
-    id: &'a str,
-) -> Result<Command<'a>, AllocError>
-    ensures { JoinsRule (option_rule id.entry.now) command.entry result }
-{
-    let command = command?;
-    command.arg(Arg::new(alloc, id).long(id))
+    match *argument {
+        Argument::Name(id) => Arg::new(alloc, id).required(true),
+        Argument::OptionalName(id) => Arg::new(alloc, id),
+        Argument::Words(id) => Arg::new(alloc, id).action(ArgAction::Append),
+        Argument::Valued(id) => Arg::new(alloc, id).long(id),
+        Argument::Flag(id) => Arg::new(alloc, id).action(ArgAction::SetTrue).long(id),
+    }
 }
 
 /// The word that an argument was given.

@@ -1,13 +1,12 @@
 //! The words of `bench`.
-ghost use Rattle.std.specs.Prelude.{◌≡◌, IfOk, option_map};
+ghost use Rattle.std.specs.Prelude.{◌≡◌, option_map};
 ghost use Rattle.clap.specs.Words.{found_of, rows_of};
-ghost use Rattle.pb_words.specs.Rules.{IsCommand};
-ghost use Rattle.pb_words.specs.BenchWords.{as_bench_words, bench_app, bench_in, number_in};
+ghost use Rattle.pb_words.specs.BenchWords.{as_bench_words, bench_in, number_in};
 
-use crate::argument::{with_name, with_optional_name, word_of};
+use crate::argument::{Argument, word_of};
+use crate::command::Syntax;
 use crate::digits::short_within;
-use clap::{ArgMatches, Command};
-use std::alloc::{AllocError, Global};
+use clap::ArgMatches;
 
 // The most statements of a problem that is generated.
 const MAX_COUNT: u32 = 1_000_000;
@@ -24,13 +23,14 @@ pub struct Benching<'a> {
 }
 
 /// `bench N SEED [CNF]`
-pub fn command<'a>(alloc: Global) -> Result<Command<'a>, AllocError>
-    ensures { IfOk result (IsCommand bench_app) }
-{
-    let command = with_name(alloc, Ok(Command::new(alloc, "bench")), "n");
-    let command = with_name(alloc, command, "seed");
-    with_optional_name(alloc, command, "cnf")
-}
+pub const COMMAND: Syntax<'static> = Syntax {
+    name: "bench",
+    groups: &[&[
+        Argument::Name("n"),
+        Argument::Name("seed"),
+        Argument::OptionalName("cnf"),
+    ]],
+};
 
 // A number up to this one, in digits alone.
 fn number_in(given: &ArgMatches<'_>, id: &str, most: u32) -> Option<u32>

@@ -1,13 +1,12 @@
 //! The words of `check`.
-ghost use Rattle.std.specs.Prelude.{◌≡◌, IfOk, option_map};
+ghost use Rattle.std.specs.Prelude.{◌≡◌, option_map};
 ghost use Rattle.clap.specs.Words.{found_of, rows_of};
-ghost use Rattle.pb_words.specs.Rules.{IsCommand};
-ghost use Rattle.pb_words.specs.CheckWords.{as_check_words, check_app, check_in};
+ghost use Rattle.pb_words.specs.CheckWords.{as_check_words, check_in};
 
-use crate::argument::{with_name, word_of};
-use crate::bound::{bound_in, with_bound};
-use clap::{ArgMatches, Command};
-use std::alloc::{AllocError, Global};
+use crate::argument::{Argument, word_of};
+use crate::bound::{BOUND, bound_in};
+use crate::command::Syntax;
+use clap::ArgMatches;
 
 /// Check a derivation: the three files that are read.
 #[derive(Clone, Copy, PartialEq, Eq, Debug)]
@@ -23,14 +22,17 @@ pub struct Checking<'a> {
 }
 
 /// `check OPB CNF PROOF` and a bound.
-pub fn command<'a>(alloc: Global) -> Result<Command<'a>, AllocError>
-    ensures { IfOk result (IsCommand check_app) }
-{
-    let command = with_name(alloc, Ok(Command::new(alloc, "check")), "opb");
-    let command = with_name(alloc, command, "cnf");
-    let command = with_name(alloc, command, "proof")?;
-    with_bound(alloc, command)
-}
+pub const COMMAND: Syntax<'static> = Syntax {
+    name: "check",
+    groups: &[
+        &[
+            Argument::Name("opb"),
+            Argument::Name("cnf"),
+            Argument::Name("proof"),
+        ],
+        &BOUND,
+    ],
+};
 
 /// What `check` was asked for.
 pub fn checking_in<'a>(given: &ArgMatches<'a>) -> Option<Checking<'a>>

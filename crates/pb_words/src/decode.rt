@@ -1,13 +1,12 @@
 //! The words of `decode`.
-ghost use Rattle.std.specs.Prelude.{◌≡◌, IfOk, option_map};
+ghost use Rattle.std.specs.Prelude.{◌≡◌, option_map};
 ghost use Rattle.clap.specs.Words.{found_of, rows_of};
-ghost use Rattle.pb_words.specs.Rules.{IsCommand};
-ghost use Rattle.pb_words.specs.DecodeWords.{as_decode_words, decode_app, decode_in};
+ghost use Rattle.pb_words.specs.DecodeWords.{as_decode_words, decode_in};
 
-use crate::argument::{with_name, word_of};
-use crate::bound::{bound_in, with_bound};
-use clap::{ArgMatches, Command};
-use std::alloc::{AllocError, Global};
+use crate::argument::{Argument, word_of};
+use crate::bound::{BOUND, bound_in};
+use crate::command::Syntax;
+use clap::ArgMatches;
 
 /// Decode a model: the two files that are read.
 #[derive(Clone, Copy, PartialEq, Eq, Debug)]
@@ -21,13 +20,10 @@ pub struct Decoding<'a> {
 }
 
 /// `decode OPB MODEL` and a bound.
-pub fn command<'a>(alloc: Global) -> Result<Command<'a>, AllocError>
-    ensures { IfOk result (IsCommand decode_app) }
-{
-    let command = with_name(alloc, Ok(Command::new(alloc, "decode")), "opb");
-    let command = with_name(alloc, command, "model")?;
-    with_bound(alloc, command)
-}
+pub const COMMAND: Syntax<'static> = Syntax {
+    name: "decode",
+    groups: &[&[Argument::Name("opb"), Argument::Name("model")], &BOUND],
+};
 
 /// What `decode` was asked for.
 pub fn decoding_in<'a>(given: &ArgMatches<'a>) -> Option<Decoding<'a>>

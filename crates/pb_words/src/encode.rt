@@ -1,17 +1,17 @@
 //! The words of `encode`.
-ghost use Rattle.std.specs.Prelude.{◌≡◌, IfOk, option_copied, option_map, not, ◌∷◌};
+ghost use Rattle.std.specs.Prelude.{◌≡◌, option_copied, option_map, not, ◌∷◌};
 ghost use Rattle.std.specs.Option.{option_to_list};
 ghost use Rattle.clap.specs.Words.{found_of, rows_of};
 ghost use Rattle.pb_words.specs.Names.{are_different};
-ghost use Rattle.pb_words.specs.Rules.{IsCommand};
-ghost use Rattle.pb_words.specs.EncodeWords.{as_encode_words, encode_app, encode_in};
+ghost use Rattle.pb_words.specs.EncodeWords.{as_encode_words, encode_in};
 
-use crate::argument::{with_name, with_optional_name, word_of};
-use crate::bound::{bound_in, with_bounded_options};
-use crate::table::{tabled_in, with_table};
-use clap::{ArgMatches, Command};
+use crate::argument::{Argument, word_of};
+use crate::bound::{BOUND, bound_in};
+use crate::command::Syntax;
+use crate::options::OPTIONS;
+use crate::table::{TABLE, tabled_in};
+use clap::ArgMatches;
 use pb_choice::Options;
-use std::alloc::{AllocError, Global};
 
 /// Encode a problem: the file that is read, the files that are made, and how.
 #[derive(Clone, Copy, PartialEq, Eq, Debug)]
@@ -29,15 +29,19 @@ pub struct Encoding<'a> {
 }
 
 /// `encode OPB CNF [PROOF]`, the options, a bound and a table of bounds.
-pub fn command<'a>(alloc: Global) -> Result<Command<'a>, AllocError>
-    ensures { IfOk result (IsCommand encode_app) }
-{
-    let command = with_name(alloc, Ok(Command::new(alloc, "encode")), "opb");
-    let command = with_name(alloc, command, "cnf");
-    let command = with_optional_name(alloc, command, "proof")?;
-    let command = with_bounded_options(alloc, command)?;
-    with_table(alloc, command)
-}
+pub const COMMAND: Syntax<'static> = Syntax {
+    name: "encode",
+    groups: &[
+        &[
+            Argument::Name("opb"),
+            Argument::Name("cnf"),
+            Argument::OptionalName("proof"),
+        ],
+        &OPTIONS,
+        &BOUND,
+        &TABLE,
+    ],
+};
 
 // Two of the names are equal.
 fn are_equal(opb: &str, cnf: &str, proof: Option<&str>) -> bool

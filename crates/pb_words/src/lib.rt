@@ -5,6 +5,7 @@ mod argument;
 mod bench;
 mod bound;
 mod check;
+mod command;
 mod decode;
 mod digits;
 mod encode;

@@ -1,12 +1,11 @@
 //! The words of `map`.
-ghost use Rattle.std.specs.Prelude.{◌≡◌, IfOk, option_map};
+ghost use Rattle.std.specs.Prelude.{◌≡◌, option_map};
 ghost use Rattle.clap.specs.Words.{found_of, rows_of};
-ghost use Rattle.pb_words.specs.MapWords.{as_map_words, map_app, map_in};
-ghost use Rattle.pb_words.specs.Rules.{IsCommand};
+ghost use Rattle.pb_words.specs.MapWords.{as_map_words, map_in};
 
-use crate::argument::{with_name, word_of};
-use clap::{ArgMatches, Command};
-use std::alloc::{AllocError, Global};
+use crate::argument::{Argument, word_of};
+use crate::command::Syntax;
+use clap::ArgMatches;
 
 /// List the free names of a problem: the file that is read.
 #[derive(Clone, Copy, PartialEq, Eq, Debug)]
@@ -16,11 +15,10 @@ pub struct Mapping<'a> {
 }
 
 /// `map OPB`
-pub fn command<'a>(alloc: Global) -> Result<Command<'a>, AllocError>
-    ensures { IfOk result (IsCommand map_app) }
-{
-    with_name(alloc, Ok(Command::new(alloc, "map")), "opb")
-}
+pub const COMMAND: Syntax<'static> = Syntax {
+    name: "map",
+    groups: &[&[Argument::Name("opb")]],
+};
 
 /// What `map` was asked for.
 pub fn mapping_in<'a>(given: &ArgMatches<'a>) -> Option<Mapping<'a>>

@@ -1,25 +1,21 @@
 // The options of an encoding, in words.
-ghost use Rattle.std.specs.Prelude.{◌≡◌, IfOk};
+ghost use Rattle.std.specs.Prelude.{◌≡◌};
 ghost use Rattle.clap.specs.Words.{found_of, rows_of};
-ghost use Rattle.pb_words.specs.Rules.{AddsRules};
-ghost use Rattle.pb_words.specs.OptionWords.{amo_in, amo_of, budget_in, card_in, card_of, equal_in, equal_of, general_in, general_of, option_rules, options_in};
+ghost use Rattle.pb_words.specs.OptionWords.{amo_in, amo_of, budget_in, card_in, card_of, equal_in, equal_of, general_in, general_of, options_in};
 
-use crate::argument::{with_option, word_of};
+use crate::argument::{Argument, word_of};
 use crate::digits::number_within;
-use clap::{ArgMatches, Command};
+use clap::ArgMatches;
 use pb_choice::{Amo, Card, EqualMode, General, MAX_BUDGET, Options};
-use std::alloc::{AllocError, Global};
 
-/// A command that takes the options besides.
-pub fn with_options<'a>(alloc: Global, command: Command<'a>) -> Result<Command<'a>, AllocError>
-    ensures { IfOk result (AddsRules option_rules command.entry) }
-{
-    let command = with_option(alloc, Ok(command), "amo");
-    let command = with_option(alloc, command, "card");
-    let command = with_option(alloc, command, "general");
-    let command = with_option(alloc, command, "equal");
-    with_option(alloc, command, "budget")
-}
+/// The options of an encoding.
+pub const OPTIONS: [Argument<'static>; 5] = [
+    Argument::Valued("amo"),
+    Argument::Valued("card"),
+    Argument::Valued("general"),
+    Argument::Valued("equal"),
+    Argument::Valued("budget"),
+];
 
 fn amo_of(word: &str) -> Option<Amo>
     ensures { result ≡ amo_of word.now }

@@ -2,15 +2,15 @@
 ghost use Rattle.std.specs.Prelude.{◌≡◌, [], IfOk, IsErrOf, None, Some, codes, unwrap_or};
 ghost use Rattle.clap.specs.Words.{all_of, found_of, rows_of};
 ghost use Rattle.pb_words.specs.LitWords.{lits_in};
-ghost use Rattle.pb_words.specs.Rules.{IsCommand};
-ghost use Rattle.pb_words.specs.ProbeWords.{as_probe_words, probe_app, probe_in};
+ghost use Rattle.pb_words.specs.ProbeWords.{as_probe_words, probe_in};
 
-use crate::argument::{with_name, with_words, word_of, words_of};
+use crate::argument::{Argument, word_of, words_of};
+use crate::command::Syntax;
 use crate::fault::WordsFault;
 use crate::literal::lits_in;
-use clap::{ArgMatches, Command};
+use clap::ArgMatches;
 use pb_base::Lits;
-use std::alloc::{AllocError, Global};
+use std::alloc::Global;
 
 /// Propagate some literals over a CNF: the file that is read, and the literals.
 #[derive(Debug, Drop)]
@@ -22,12 +22,10 @@ pub struct Probing<'a> {
 }
 
 /// `probe CNF LIT ..`
-pub fn command<'a>(alloc: Global) -> Result<Command<'a>, AllocError>
-    ensures { IfOk result (IsCommand probe_app) }
-{
-    let command = with_name(alloc, Ok(Command::new(alloc, "probe")), "cnf");
-    with_words(alloc, command, "lits")
-}
+pub const COMMAND: Syntax<'static> = Syntax {
+    name: "probe",
+    groups: &[&[Argument::Name("cnf"), Argument::Words("lits")]],
+};
 
 // The literals that were given; `Usage` where one of the words is none.
 fn given_lits(alloc: Global, given: &ArgMatches<'_>) -> Result<Lits, WordsFault>

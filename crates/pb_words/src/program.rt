@@ -1,12 +1,25 @@
 // The commands of the program.
 ghost use Rattle.std.specs.Prelude.{IfOk, codes};
 ghost use Rattle.clap.specs.Words.{App, with_subcommand};
+ghost use Rattle.pb_words.specs.Commands.{with_commands};
 ghost use Rattle.pb_words.specs.Rules.{bare_program, IsCommand};
 ghost use Rattle.pb_words.specs.Taken.{program_app};
 
+use crate::command::{Syntax, command_of};
 use crate::{bench, check, decode, encode, map, probe, refute, wcnf};
 use clap::Command;
 use std::alloc::{AllocError, Global};
+
+const COMMANDS: [Syntax<'static>; 8] = [
+    encode::COMMAND,
+    check::COMMAND,
+    decode::COMMAND,
+    probe::COMMAND,
+    bench::COMMAND,
+    refute::COMMAND,
+    map::COMMAND,
+    wcnf::COMMAND,
+];
 
 // The program without its commands: one has to be given, and there is no help or version.
 fn bare<'a>(alloc: Global) -> Command<'a>
@@ -30,16 +43,23 @@ fn with_command<'a>(
     program.subcommand(command)
 }
 
+// The program with these commands besides, in this order.
+fn with_commands<'a>(
+    alloc: Global,
+    mut program: Command<'a>,
+    commands: &[Syntax<'a>],
+) -> Result<Command<'a>, AllocError>
+    ensures { (app : App) → IsCommand app program.entry → IfOk result (IsCommand (with_commands app commands.now)) }
+{
+    for syntax in commands {
+        program = with_command(program, command_of(alloc, syntax))?;
+    }
+    Ok(program)
+}
+
 /// The program with its commands.
 pub fn program<'a>(alloc: Global) -> Result<Command<'a>, AllocError>
     ensures { IfOk result (IsCommand program_app) }
 {
-    let program = with_command(bare(alloc), encode::command(alloc))?;
-    let program = with_command(program, check::command(alloc))?;
-    let program = with_command(program, decode::command(alloc))?;
-    let program = with_command(program, probe::command(alloc))?;
-    let program = with_command(program, bench::command(alloc))?;
-    let program = with_command(program, refute::command(alloc))?;
-    let program = with_command(program, map::command(alloc))?;
-    with_command(program, wcnf::command(alloc))
+    with_commands(alloc, bare(alloc), &COMMANDS)
 }

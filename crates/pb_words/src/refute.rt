@@ -1,13 +1,14 @@
 //! The words of `refute`.
-ghost use Rattle.std.specs.Prelude.{◌≡◌, IfOk, option_map};
-ghost use Rattle.clap.specs.Words.{found_of, rows_of};
-ghost use Rattle.pb_words.specs.Rules.{IsCommand};
-ghost use Rattle.pb_words.specs.RefuteWords.{as_refute_words, refute_app, refute_in};
+ghost use Rattle.std.specs.Prelude.{◌≡◌, codes, option_map};
+ghost use Rattle.clap.specs.Words.{first_of, found_of, rows_of};
+ghost use Rattle.pb_words.specs.CheckWords.{check_in};
+ghost use Rattle.pb_words.specs.RefuteWords.{as_refute_words, refute_after};
 
-use crate::argument::{with_name, word_of};
-use crate::bound::{bound_in, with_bound};
-use clap::{ArgMatches, Command};
-use std::alloc::{AllocError, Global};
+use crate::argument::{Argument, word_of};
+use crate::bound::BOUND;
+use crate::check::checking_in;
+use crate::command::Syntax;
+use clap::ArgMatches;
 
 /// Check a derivation and a refutation of the CNF: the four files that are read.
 #[derive(Clone, Copy, PartialEq, Eq, Debug)]
@@ -25,33 +26,33 @@ pub struct Refuting<'a> {
 }
 
 /// `refute OPB CNF PROOF LRAT` and a bound.
-pub fn command<'a>(alloc: Global) -> Result<Command<'a>, AllocError>
-    ensures { IfOk result (IsCommand refute_app) }
-{
-    let command = with_name(alloc, Ok(Command::new(alloc, "refute")), "opb");
-    let command = with_name(alloc, command, "cnf");
-    let command = with_name(alloc, command, "proof");
-    let command = with_name(alloc, command, "lrat")?;
-    with_bound(alloc, command)
-}
+pub const COMMAND: Syntax<'static> = Syntax {
+    name: "refute",
+    groups: &[
+        &[
+            Argument::Name("opb"),
+            Argument::Name("cnf"),
+            Argument::Name("proof"),
+            Argument::Name("lrat"),
+        ],
+        &BOUND,
+    ],
+};
 
-/// What `refute` was asked for.
+/// What `refute` was asked for: what `check` is asked for, and a refutation.
 pub fn refuting_in<'a>(given: &ArgMatches<'a>) -> Option<Refuting<'a>>
-    ensures { option_map as_refute_words result ≡ refute_in (rows_of (found_of given.now)) }
+    ensures { let rows = rows_of (found_of given.now) in option_map as_refute_words result ≡ refute_after (check_in rows) (first_of (codes "lrat") rows) }
 {
-    let opb = word_of(given, "opb")?;
-    let cnf = word_of(given, "cnf")?;
-    let proof = word_of(given, "proof")?;
+    let checking = checking_in(given)?;
     let lrat = word_of(given, "lrat")?;
-    let bound = bound_in(given)?;
-    if opb == cnf || opb == proof || opb == lrat || cnf == proof || cnf == lrat || proof == lrat {
+    if checking.opb == lrat || checking.cnf == lrat || checking.proof == lrat {
         return None;
     }
     Some(Refuting {
-        opb,
-        cnf,
-        proof,
+        opb: checking.opb,
+        cnf: checking.cnf,
+        proof: checking.proof,
         lrat,
-        bound,
+        bound: checking.bound,
     })
 }

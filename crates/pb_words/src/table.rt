@@ -1,24 +1,15 @@
 // A table of bounds on the objective, in words.
-ghost use Rattle.std.specs.Prelude.{◌≡◌, IfOk};
+ghost use Rattle.std.specs.Prelude.{◌≡◌};
 ghost use Rattle.clap.specs.Words.{found_of, rows_of};
-ghost use Rattle.pb_words.specs.Rules.{AddsRules};
-ghost use Rattle.pb_words.specs.TableWords.{table_in, table_rules, tabled_in};
+ghost use Rattle.pb_words.specs.TableWords.{table_in, tabled_in};
 
-use crate::argument::word_of;
+use crate::argument::{Argument, word_of};
 use crate::options::options_in;
-use clap::{Arg, ArgAction, ArgMatches, Command};
+use clap::ArgMatches;
 use pb_choice::Options;
-use std::alloc::{AllocError, Global};
 
-/// A command that takes `--table` besides.
-pub fn with_table<'a>(alloc: Global, command: Command<'a>) -> Result<Command<'a>, AllocError>
-    ensures { IfOk result (AddsRules table_rules command.entry) }
-{
-    let table = Arg::new(alloc, "table")
-        .action(ArgAction::SetTrue)
-        .long("table");
-    command.arg(table)
-}
+/// The option by which a command takes a table of bounds.
+pub const TABLE: [Argument<'static>; 1] = [Argument::Flag("table")];
 
 // Whether a command was given `--table`.
 fn table_in(given: &ArgMatches<'_>) -> bool

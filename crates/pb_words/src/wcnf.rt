@@ -1,15 +1,14 @@
 //! The words of `wcnf`.
-ghost use Rattle.std.specs.Prelude.{◌≡◌, IfOk, option_map};
+ghost use Rattle.std.specs.Prelude.{◌≡◌, option_map};
 ghost use Rattle.clap.specs.Words.{found_of, rows_of};
-ghost use Rattle.pb_words.specs.Rules.{IsCommand};
-ghost use Rattle.pb_words.specs.WcnfWords.{as_wcnf_words, wcnf_app, wcnf_in};
+ghost use Rattle.pb_words.specs.WcnfWords.{as_wcnf_words, wcnf_in};
 
-use crate::argument::{with_name, word_of};
-use crate::bound::{bound_in, with_bounded_options};
-use crate::options::options_in;
-use clap::{ArgMatches, Command};
+use crate::argument::{Argument, word_of};
+use crate::bound::{BOUND, bound_in};
+use crate::command::Syntax;
+use crate::options::{OPTIONS, options_in};
+use clap::ArgMatches;
 use pb_choice::Options;
-use std::alloc::{AllocError, Global};
 
 /// Encode a problem and its objective: the file that is read, the file that is made, and how.
 #[derive(Clone, Copy, PartialEq, Eq, Debug)]
@@ -25,13 +24,14 @@ pub struct Weighing<'a> {
 }
 
 /// `wcnf OPB WCNF`, the options and a bound.
-pub fn command<'a>(alloc: Global) -> Result<Command<'a>, AllocError>
-    ensures { IfOk result (IsCommand wcnf_app) }
-{
-    let command = with_name(alloc, Ok(Command::new(alloc, "wcnf")), "opb");
-    let command = with_name(alloc, command, "wcnf")?;
-    with_bounded_options(alloc, command)
-}
+pub const COMMAND: Syntax<'static> = Syntax {
+    name: "wcnf",
+    groups: &[
+        &[Argument::Name("opb"), Argument::Name("wcnf")],
+        &OPTIONS,
+        &BOUND,
+    ],
+};
 
 /// What `wcnf` was asked for.
 pub fn weighing_in<'a>(given: &ArgMatches<'a>) -> Option<Weighing<'a>>
