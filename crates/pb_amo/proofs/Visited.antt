@@ -136,11 +136,3 @@ row_beside q e size some = beside_visits (row_of q) e size (e / q * q) 1 q (row_
 
 pub column_beside : (q r e size : ℕ) → 0 < q → size ≤ r * q → Visits (is_beside (column_of q) e) size (e % q) q r e
 column_beside q r e size some covered = beside_visits (column_of q) e size (e % q) q r (column_lies q r (e % q) size some (mod_below e q some) covered)
-
-pub passing-fewer : {X : Type 0} (p : ℕ → Bool) (e : ℕ) (xs : List X) → length (passing p e xs) ≤ length xs
-passing-fewer p e [] = omega arith
-passing-fewer {X} p e (x ∷ xs) = by_test (p e) (passing-fewer p (e + 1) xs)
-  where
-    by_test : (b : Bool) → length (passing p (e + 1) xs) ≤ length xs → length (cond {A = List X} b (x ∷ passing p (e + 1) xs) (passing p (e + 1) xs)) ≤ length (x ∷ xs)
-    by_test true h = omega (arith, h)
-    by_test false h = omega (arith, h)

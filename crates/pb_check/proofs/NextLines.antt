@@ -37,10 +37,6 @@ stops_weaker (Refused file place e) old new a b T U h stops =
 stops_weaker (Limit file place which) old new a b T U h stops =
     reads_weaker old.slot old.ahead new.ahead a b (λ text rest. T text (Limit file place which)) (λ text rest. U text (Limit file place which)) (λ text rest t. h text (Limit file place which) t) stops
 
--- a fault of the text, told by what was read
-pub stops_told : (fault : CheckFault) (file : File) (place : Place) (e : Expected) (old new : Reader) (a b : DeskState) (T : List ℕ → CheckFault → Type 0) → fault ≡ Refused file place e → TakesAhead old.slot old.ahead new.ahead a b (λ text rest. T text (Refused file place e)) → StopsOne fault old new a b T
-stops_told fault file place e old new a b T is reads = subst (λ (f : CheckFault). StopsOne f old new a b T) (sym is) reads
-
 abbrev pub SaysSame : Reader → Reader → List ℕ → List ℕ → Type 0
 SaysSame old new text rest = behind_blank (rows_left old text) ≡ behind_blank (rows_left new rest)
 

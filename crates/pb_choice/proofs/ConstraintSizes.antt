@@ -111,13 +111,6 @@ record AreFine (most : ℕ) (steps : List Step) : Type 0 where
   each : All (λ s. line_size s ≤ 2 ^ 28) steps
   all : sum_by line_size steps ≤ most
 
-fine_append : (m n : ℕ) (xs ys : List Step) → AreFine m xs → AreFine n ys → AreFine (m + n) (xs ++ ys)
-fine_append m n xs ys h k = record {
-  sayable = All-append IsSayable xs ys h.sayable k.sayable;
-  each = All-append (λ s. line_size s ≤ 2 ^ 28) xs ys h.each k.each;
-  all = omega (arith, sum_by-append line_size xs ys, h.all, k.all);
-}
-
 fine_lines : (most : ℕ) (steps : List Step) → All IsSayable steps → All (λ s. step_size s ≤ most) steps → most ≤ 2 ^ 28 → AreFine (most * length steps) steps
 fine_lines most steps sayable sizes fits = record {
   sayable = sayable;

@@ -34,11 +34,6 @@ joint_asks o c is =
     let parts = and_parts (is_joining o.equal) (asks_for_number c && nat_le (exact_fresh (literals_asked c)) o.budget) is in
     (and_parts (asks_for_number c) (nat_le (exact_fresh (literals_asked c)) o.budget) parts.1).0
 
-pub joint_fits : (o : Options) (c : Constraint) → is_joint o c ≡ true → exact_fresh (literals_asked c) ≤ o.budget
-joint_fits o c is =
-    let parts = and_parts (is_joining o.equal) (asks_for_number c && nat_le (exact_fresh (literals_asked c)) o.budget) is in
-    leb-true (exact_fresh (literals_asked c)) o.budget (and_parts (asks_for_number c) (nat_le (exact_fresh (literals_asked c)) o.budget) parts.1).1
-
 -- ---- variables
 
 pub vars_same : (ts : List Weighted) → vars_of (ones (lits_of ts)) ≡ vars_of ts

@@ -15,28 +15,6 @@ use Rattle.pb_choice.specs.laws.Left.{IsLeft}
 use Rattle.pb_choice.specs.ConstraintSteps.{reduced_steps}
 use Rattle.pb_choice.specs.Sums.{sum_clauses, sum_count, sum_fresh}
 
--- ---- the budget
-
-chosen_as : (t u : Treatment) (m : BoundedSum) (f : Chosen) → t ≡ u → IsChosen t m f → IsChosen u m f
-chosen_as t u m f same h = record { treatment_is = h.treatment_is ∙ same; sum_is = h.sum_is }
-
--- where it is passed, the adder stands in the family's place
-pub chosen_over : (budget : ℕ) (m : BoundedSum) (t : Treatment) (f : Chosen) → budget < sum_fresh t m → IsChosen treatment.Adder m f → IsChosen (within_budget budget m t) m f
-chosen_over budget m t f over h =
-    chosen_as treatment.Adder (within_budget budget m t) m f (sym (cond-true (nat_lt budget (sum_fresh t m)) treatment.Adder t (lt-ltb budget (sum_fresh t m) over))) h
-
-pub chosen_within : (budget : ℕ) (m : BoundedSum) (t : Treatment) (f : Chosen) → sum_fresh t m ≤ budget → IsChosen t m f → IsChosen (within_budget budget m t) m f
-chosen_within budget m t f fits h =
-    chosen_as t (within_budget budget m t) m f (sym (cond-false (nat_lt budget (sum_fresh t m)) treatment.Adder t (le-ltb budget (sum_fresh t m) fits))) h
-
--- the adder is the adder, whatever the budget
-pub chosen_adder : (budget : ℕ) (m : BoundedSum) (f : Chosen) → IsChosen treatment.Adder m f → IsChosen (within_budget budget m treatment.Adder) m f
-chosen_adder budget m f h = chosen_as treatment.Adder (within_budget budget m treatment.Adder) m f (either (nat_lt budget (sum_fresh treatment.Adder m))) h
-  where
-    either : (over : Bool) → treatment.Adder ≡ cond over treatment.Adder treatment.Adder
-    either true = refl
-    either false = refl
-
 -- ---- what is left
 
 module _ (t : Treatment) (m : BoundedSum) (f : Chosen) (h : IsChosen t m f) where
@@ -46,30 +24,6 @@ module _ (t : Treatment) (m : BoundedSum) (f : Chosen) (h : IsChosen t m f) wher
 pub left_one : (o : Options) (m : BoundedSum) (f : Chosen) → IsChosen (treatment_of o (rest.One m)) m f → IsLeft o (rest.One m) (Sum f)
 left_one o m f h =
     let t = treatment_of o (rest.One m) in
-    record {
-      treatment_is = h.treatment_is;
-      terms_are = ap (λ (n : BoundedSum). n.terms) h.sum_is;
-      clauses_are = λ first. same t m f h (λ u n. sum_clauses u n first);
-      fresh_is = same t m f h sum_fresh;
-      count_is = same t m f h sum_count;
-      steps_are = λ reduces first id next. same t m f h (λ u n. reduced_steps reduces u n first next);
-    }
-
-pub left_card : (o : Options) (m : BoundedSum) (f : Chosen) → IsChosen (treatment_of o (rest.Card m)) m f → IsLeft o (rest.Card m) (Sum f)
-left_card o m f h =
-    let t = treatment_of o (rest.Card m) in
-    record {
-      treatment_is = h.treatment_is;
-      terms_are = ap (λ (n : BoundedSum). n.terms) h.sum_is;
-      clauses_are = λ first. same t m f h (λ u n. sum_clauses u n first);
-      fresh_is = same t m f h sum_fresh;
-      count_is = same t m f h sum_count;
-      steps_are = λ reduces first id next. same t m f h (λ u n. reduced_steps reduces u n first next);
-    }
-
-pub left_general : (o : Options) (m : BoundedSum) (f : Chosen) → IsChosen (treatment_of o (rest.General m)) m f → IsLeft o (rest.General m) (Sum f)
-left_general o m f h =
-    let t = treatment_of o (rest.General m) in
     record {
       treatment_is = h.treatment_is;
       terms_are = ap (λ (n : BoundedSum). n.terms) h.sum_is;

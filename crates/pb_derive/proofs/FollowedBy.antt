@@ -50,10 +50,6 @@ module _ (P : ℕ → Type 0) where
         unmarked = whole.unmarked;
       }
 
--- as many ids as the steps take
-pub ran_counted : (P : ℕ → Type 0) (db : Database) (ss : List Step) (cs : List (List Lit)) (i : ℕ) → Ran P db ss cs i → Ran P db ss cs (count_by takes_id ss)
-ran_counted P db ss cs i h = record { end = h.end; runs = h.runs; later = h.later; next = runs_next db ss cs h.end h.runs }
-
 pub swept_counted : (P : ℕ → Type 0) (db : Database) (ss : List Step) (cs : List (List Lit)) (i : ℕ) → RanSwept P db ss cs i → RanSwept P db ss cs (count_by takes_id ss)
 swept_counted P db ss cs i h = record {
   ran = record { end = h.ran.end; runs = h.ran.runs; later = h.ran.later; next = runs_next db ss cs h.ran.end h.ran.runs };

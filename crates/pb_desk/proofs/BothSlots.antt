@@ -191,12 +191,6 @@ fails_of_two one two a b h = record {
   fails = then_same (taken two h.count) (both_taken one two 0 h.count) a b (λ v. ap (taken two h.count) (taken-none one v)) h.fails;
 }
 
-pub both_steady : (one two one' two' : Reader) (a b : DeskState) (P : List ℕ → List ℕ → List ℕ → List ℕ → Type 0) → ReadsBoth one two one' two' a b P → IsSteady a → IsSteady b
-both_steady one two one' two' a b P first steady = ap (λ (v : View). v.steady) first.reached.view ∙ steady
-
-pub both_open : (one two one' two' : Reader) (a b : DeskState) (P : List ℕ → List ℕ → List ℕ → List ℕ → Type 0) (slot : ℕ) → ReadsBoth one two one' two' a b P → IsTrue (a.view.reading slot) → IsTrue (b.view.reading slot)
-both_open one two one' two' a b P slot first is_open = ap (λ (v : View). v.reading slot) first.reached.view ∙ is_open
-
 -- from the first byte of both texts on
 pub takes_both : (one two one' two' : Reader) (x y : ℕ) (a b : DeskState) (P : List ℕ → List ℕ → List ℕ → List ℕ → Type 0) (Q : List ℕ → List ℕ → Type 0) → one.slot ≡ x → two.slot ≡ y → one.ahead ≡ [] → two.ahead ≡ []
     → ((c p c' p' : List ℕ) → P c p c' p' → Q c p) → ReadsBoth one two one' two' a b P → TakesBoth x y Q a b

@@ -73,28 +73,6 @@ reads_ahead slot x y z a b P Q h first = record {
   told = weaker_told a (λ t. P (x ++ t.left slot) (y ++ drop first.count (t.left slot))) (λ t. Q (x ++ t.left slot) (z ++ drop first.count (t.left slot))) (λ t p. h (x ++ t.left slot) (drop first.count (t.left slot)) p) first.told;
 }
 
--- what a read gave to the empty room
-pub reads_filled : (slot : ℕ) (given : List ℕ) (a b : DeskState) → Advances slot (length given) a b → IfTold a (λ t. t.left slot ≡ given ++ drop (length given) (t.left slot)) → (given ≡ [] → IfTold a (λ t. t.left slot ≡ [])) → TakesAhead slot [] given a b (λ text rest. (text ≡ rest) × (given ≡ [] → rest ≡ []))
-reads_filled slot given a b takes bytes end = record {
-  count = length given;
-  takes = takes;
-  told = by_cases a.view.told bytes end;
-}
-  where
-    by_cases : (told : Option Told) → IfSome told (λ t. t.left slot ≡ given ++ drop (length given) (t.left slot)) → (given ≡ [] → IfSome told (λ t. t.left slot ≡ [])) → IfSome told (λ t. ([] ++ t.left slot ≡ given ++ drop (length given) (t.left slot)) × (given ≡ [] → given ++ drop (length given) (t.left slot) ≡ []))
-    by_cases None bytes end = tt
-    by_cases (Some t) bytes end = (bytes, λ none. sym bytes ∙ end none)
-
--- the read after which nothing more could be had
-pub fails_then : (slot : ℕ) (x y : List ℕ) (a b c : DeskState) (P : List ℕ → List ℕ → Type 0) → TakesAhead slot x y a b P → FailsToRead same b c → FailsInLine slot a c
-fails_then slot x y a b c P first fails = record {
-  count = first.count;
-  fails = then_fails_to_read (taken slot first.count) same (taken slot first.count) a b c (λ v. refl) first.takes.reached fails;
-}
-
-pub still_steady : (slot : ℕ) (x y : List ℕ) (a b : DeskState) (P : List ℕ → List ℕ → Type 0) → TakesAhead slot x y a b P → IsSteady a → IsSteady b
-still_steady slot x y a b P first steady = ap (λ (v : View). v.steady) first.takes.reached.view ∙ steady
-
 pub still_open : (slot : ℕ) (x y : List ℕ) (a b : DeskState) (P : List ℕ → List ℕ → Type 0) → TakesAhead slot x y a b P → IsTrue (a.view.reading slot) → IsTrue (b.view.reading slot)
 still_open slot x y a b P first is_open = ap (λ (v : View). v.reading slot) first.takes.reached.view ∙ is_open
 

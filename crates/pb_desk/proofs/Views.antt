@@ -34,12 +34,6 @@ wrote-wrote slot xs ys view = elim view.told as (λ (o : Option Told). wrote slo
   | Some t ↦ ap (λ (files : List Made). record view { told = Some (record t { made = files }) }) (appended-append slot xs ys t.made)
 ]
 
-pub spoke-nil : (view : View) → spoke [] view ≡ view
-spoke-nil view = elim view.told as (λ (o : Option Told). spoke [] (record view { told = o }) ≡ record view { told = o }) [
-  | None ↦ refl
-  | Some t ↦ ap (λ (said : List ℕ). record view { told = Some (record t { said = said }) }) (append-nil t.said)
-]
-
 pub spoke-spoke : (xs ys : List ℕ) (view : View) → spoke ys (spoke xs view) ≡ spoke (xs ++ ys) view
 spoke-spoke xs ys view = elim view.told as (λ (o : Option Told). spoke ys (spoke xs (record view { told = o })) ≡ spoke (xs ++ ys) (record view { told = o })) [
   | None ↦ refl

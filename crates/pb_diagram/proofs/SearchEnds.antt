@@ -134,9 +134,3 @@ search_count bound coefs known wanted search =
     (rises_of bound before rest (nodes_at known k) part.is_node)
     (rises_of bound before rest (level bound before rest) (node_of bound before rest))
     (λ g among. listed_node bound before rest g (part.is_node g among))))
-
--- one more node is counted
-pub count_set : (known : List (List Interval)) (i : ℕ) (g : Interval) (more : List Interval) → i < length known → IsGrown (nodes_at known i) g more → node_count (set known i more) ≡ node_count known + 1
-count_set known i g more within grown =
-    let longer = grown.longer in
-    omega (arith, sum_by-set (length {A = Interval}) known i more [] within)

@@ -158,15 +158,9 @@ popped wanted less n place residue result items value count depth residue_is =
     let same : result ≡ Some residue = value ∙ ap (λ (k : ℕ). Some (get_or wanted k 0)) last ∙ ap Some (sym residue_is) in
     items ∙ ap (λ (o : Option ℕ). less ++ option_to_list o) same
 
-pub replicate_push : {X : Type 0} (n : ℕ) (x : X) → replicate n x ++ x ∷ [] ≡ replicate (n + 1) x
-replicate_push n x = replicate-append-replicate n 1 x
-
 sum_none : (n : ℕ) → node_count (replicate n []) ≡ 0
 sum_none zero = refl
 sum_none (suc n) = sum_by-cons (length {A = Interval}) [] (replicate n []) ∙ (let e : 0 + node_count (replicate n []) ≡ 0 = omega (arith, sum_none n) in e)
-
-pub none_counted : (known : List (List Interval)) (n : ℕ) → known ≡ replicate n [] → node_count known ≡ 0
-none_counted known n same = ap node_count same ∙ sum_none n
 
 pub starts : (c : BoundedSum) (known : List (List Interval)) (left : ℕ) (terms : List Term) (t : Term) → weights terms ≡ c.terms → t ≡ get_or terms 0 t → c.bound < weight c.terms → known ≡ replicate (length c.terms) [] → left ≡ weight c.terms - unsigned_abs t.coef
     → IsSearching c known (c.bound ∷ []) left
@@ -182,18 +176,6 @@ starts c known left terms t same is above none left_is =
       state = subst (λ (l : List (List Interval)). IsSearch c.bound coefs l (c.bound ∷ [])) (ap (λ (n : ℕ). replicate n []) count ∙ sym none) (search_starts c.bound coefs over);
       left_is = omega arith;
     }
-
-pub term_there : (c : BoundedSum) → c.bound < weight c.terms → 0 < length c.terms
-term_there c above =
-    let coefs = coefs_of c.terms in
-    let terms : length coefs ≡ length c.terms = length-map c.terms (λ t. t.coef) in
-    let whole : sum coefs ≡ weight c.terms = sum-map (λ (t : Weighted). t.coef) c.terms in
-    let over : c.bound < sum coefs = omega arith in
-    let some = some_left coefs 0 c.bound (subst (λ (l : List ℕ). c.bound < sum l) (sym (drop_first coefs)) over) in
-    omega arith
-
-pub depth_of : (c : BoundedSum) (known : List (List Interval)) (wanted : List ℕ) (left : ℕ) → IsSearching c known wanted left → length wanted ≤ length c.terms
-depth_of c known wanted left searching = omega (arith, search_depth c.bound (coefs_of c.terms) known wanted searching.state, length-map c.terms (λ t. t.coef))
 
 -- the search has come to its end
 pub ended : (c : BoundedSum) (known : List (List Interval)) (wanted : List ℕ) (left : ℕ) → IsSearching c known wanted left → length wanted ≡ 0 → known ≡ levels_of c

@@ -76,10 +76,6 @@ streams_next o first next all left a b none so_far = omega (arith, so_far.next_i
 pub streams_fit : {R : Type 0} (o : Options) (first next : ℕ) (all ds rest left : List Group) (a b : SinkState R) → left ≡ ds ++ rest → Streams o first all left next a b → first + fresh_total o all ≤ 2147483648 → next + fresh_total o ds ≤ 2147483648
 streams_fit o first next all ds rest left a b parts so_far fits = omega (arith, so_far.next_is, fits, ap (fresh_total o) parts, fresh-append o ds rest)
 
--- variables below the first fresh one are below the next
-pub streams_below : {R : Type 0} (o : Options) (first next : ℕ) (all left : List Group) (a b : SinkState R) (s : Raw) → Streams o first all left next a b → IsOverBelow first s → IsOverBelow next s
-streams_below o first next all left a b s so_far below = All-weaker (λ (t : Term). t.lit.var < first) (λ (t : Term). t.lit.var < next) (λ t h. omega (arith, h, so_far.later)) s.terms below
-
 -- those that are left are handed over last
 pub streams_last : {R T : Type 0} (o : Options) (first next : ℕ) (all left : List Group) (a b c : SinkState R) (r : Result T SinkFault) → Streams o first all left next a b → HandsIfMemory (clauses_from o next left) r b c → HandsIfMemory (clauses_from o first all) r a c
 streams_last o first next all left a b c r so_far hands = stops_last r (clauses_from o next left) c so_far.handed hands

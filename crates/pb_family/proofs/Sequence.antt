@@ -101,10 +101,6 @@ pub meaning_pieces : (f : ℕ → Meaning) (next a n : ℕ) → meaning_steps ne
 meaning_pieces f next a zero = refl
 meaning_pieces f next a (suc n) = ap (λ (ss : List Step). meaning_steps next (f a ∷ []) ++ ss) (meaning_pieces f (next + 2) (a + 1) n)
 
-pub claim_pieces : (f : ℕ → Claim) (next a n : ℕ) → claim_steps next (map f (range_with_len a n)) ≡ pieces (λ id k. claim_steps id (f k ∷ [])) 1 next a n
-claim_pieces f next a zero = refl
-claim_pieces f next a (suc n) = ap (λ (ss : List Step). claim_steps next (f a ∷ []) ++ ss) (claim_pieces f (next + 1) (a + 1) n)
-
 pub reason_pieces : (f : ℕ → Reason) (next a n : ℕ) → claim_steps next (map by_reason (map f (range_with_len a n))) ≡ pieces (λ id k. claim_steps id (by_reason (f k) ∷ [])) 1 next a n
 reason_pieces f next a zero = refl
 reason_pieces f next a (suc n) = ap (λ (ss : List Step). claim_steps next (by_reason (f a) ∷ []) ++ ss) (reason_pieces f (next + 1) (a + 1) n)
@@ -135,11 +131,3 @@ pub after_pieces : {R : Type 0} {all : List Step} (old now : StepState R) (piece
 after_pieces old now piece width n each rest after e h =
     deriving_as (ap rest (let same : now.next + width * n ≡ after.next = omega (arith, h.ids, pieces_ids piece width each now.next 0 n) in same))
     (deriving_step {left = rest (now.next + width * n)} (pieces piece width now.next 0 n) after e h)
-
--- ---- steps do not depend on the clauses
-
--- reasons by places give the same steps where each does
-pub same_ranges : (f g : ℕ → Reason) → ((id k : ℕ) → claim_steps id (by_reason (f k) ∷ []) ≡ claim_steps id (by_reason (g k) ∷ [])) → (a n next : ℕ) (xs ys : List Reason) → ((m : ℕ) → claim_steps m (map by_reason xs) ≡ claim_steps m (map by_reason ys)) →
-    claim_steps next (map by_reason (map f (range_with_len a n) ++ xs)) ≡ claim_steps next (map by_reason (map g (range_with_len a n) ++ ys))
-same_ranges f g each a zero next xs ys rest = rest next
-same_ranges f g each a (suc n) next xs ys rest = λ i. each next a i ++ same_ranges f g each (a + 1) n (next + 1) xs ys rest i

@@ -17,9 +17,6 @@ use Rattle.pb_gentot.specs.laws.Members.{SameMembers}
 use Rattle.pb_gentot.specs.laws.Rising.{Rising}
 use Rattle.pb_gentot.proofs.RisingLists.{rising_same, rising_ascending, sums_within}
 
-pub same_itself : (xs : List ℕ) → SameMembers xs xs
-same_itself xs = record { to = λ n h. h; from = λ n h. h }
-
 pub same_then : (xs ys zs : List ℕ) → SameMembers xs ys → SameMembers ys zs → SameMembers xs zs
 same_then xs ys zs one two = record { to = λ n h. two.to n (one.to n h); from = λ n h. one.from n (two.from n h) }
 
@@ -97,10 +94,6 @@ gathered_next cap us vs made after i within same row =
     ∙ ap (λ (xs : List ℕ). vs ++ flat_map f xs) (sym (take_more us i 0 within)) in
     same_then after (made ++ f (get_or us i 0)) (gathered cap us vs (i + 1)) (same_turned (made ++ f (get_or us i 0)) after row)
     (subst (λ (xs : List ℕ). SameMembers (made ++ f (get_or us i 0)) xs) more (same_joined made (gathered cap us vs i) (f (get_or us i 0)) same))
-
--- before the first row
-pub gathered_none : (cap : ℕ) (us vs made : List ℕ) → made ≡ vs → SameMembers made (gathered cap us vs 0)
-gathered_none cap us vs made is = subst (λ (xs : List ℕ). SameMembers made xs) (is ∙ sym (append-nil vs)) (same_itself made)
 
 -- after the last
 pub gathered_last : (cap : ℕ) (us vs made tidied : List ℕ) (i : ℕ) → length us ≤ i → SameMembers made (gathered cap us vs i) → SameMembers made tidied → SameMembers tidied (sums cap us vs)

@@ -26,15 +26,6 @@ same_again xs n there = record {
   from = λ m h. Contains-append_left xs (n ∷ []) m h;
 }
 
--- one number is marked, and stands there
-pub marks_more : (seen after : Seen) (xs ys : List ℕ) (n : ℕ) → MarksOnly seen xs → ((m : ℕ) → HasMark after m → (m ≡ n) ⊎ HasMark seen m) → SameMembers (xs ++ n ∷ []) ys → MarksOnly after ys
-marks_more seen after xs ys n only marks same = record {
-  stands = λ m h. same.to m (elim (marks m h) as (λ _. Contains (xs ++ n ∷ []) m) [
-    | inl is ↦ subst (λ (k : ℕ). Contains (xs ++ n ∷ []) k) (sym is) (Contains-append_right xs (n ∷ []) n (Contains-here n []))
-    | inr had ↦ Contains-append_left xs (n ∷ []) m (only.stands m had)
-  ]);
-}
-
 -- a row, one number longer
 pub row_more : (old others made after : List ℕ) (f : ℕ → ℕ) (value i : ℕ) → i < length others
     → SameMembers (old ++ value ∷ map f (take i others)) made → SameMembers (made ++ f (get_or others i 0) ∷ []) after

@@ -12,9 +12,6 @@ use Rattle.pb_gentot.proofs.RisingLists.{place_at, found_is}
 pub record PlacesOf (us : List ℕ) (places : List ℕ) (i : ℕ) : Type 0 where
   pub each : (k : ℕ) → k < i → get_or us k 0 < length places → get_or places (get_or us k 0) 0 ≡ k
 
-pub places_none : (us places : List ℕ) → PlacesOf us places 0
-places_none us places = record { each = λ k less. absurd (omega arith) }
-
 -- values at two places differ
 rising_differ : (us : List ℕ) (k i : ℕ) → Rising us → k < i → i < length us → get_or us k 0 ≡ get_or us i 0 → ⊥
 rising_differ us k i rising less within same =

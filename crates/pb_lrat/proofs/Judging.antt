@@ -152,27 +152,6 @@ pub nothing_no : (k : Lit) → Nothing ≡ Single k → ⊥
 unfolding is_single
 nothing_no k e = let no : false ≡ true = ap is_single e in false≢true no
 
-single_with : (left : Left) (l k : Lit) → left_with left l ≡ Single k → (left ≡ Single k) ⊎ (l ≡ k)
-single_with Nothing l k e = inr (singles l k e)
-single_with (Single m) l k e =
-    elim (cases_Bool (is_same m l)) as (λ _. (Single m ≡ Single k) ⊎ (l ≡ k)) [
-      | inl same ↦ inl (sym (ap (λ (b : Bool). if b then Single m else More) same) ∙ e)
-      | inr other ↦ let no : More ≡ Single k = sym (ap (λ (b : Bool). if b then Single m else More) other) ∙ e in absurd (more_no k no)
-    ]
-single_with More l k e = absurd (more_no k e)
-
--- the literal that is left alone is not false
-pub still_undecided : (held : List Lit) (left : Left) (l : Lit) → ((k : Lit) → left ≡ Single k → is_among held (negated k) ≡ false) → (k : Lit) → (if is_among held (negated l) then left else left_with left l) ≡ Single k → is_among held (negated k) ≡ false
-still_undecided held left l before k e =
-    elim (cases_Bool (is_among held (negated l))) as (λ _. is_among held (negated k) ≡ false) [
-      | inl there ↦ before k (sym (ap (λ (b : Bool). if b then left else left_with left l) there) ∙ e)
-      | inr absent ↦
-          elim (single_with left l k (sym (ap (λ (b : Bool). if b then left else left_with left l) absent) ∙ e)) as (λ _. is_among held (negated k) ≡ false) [
-            | inl was ↦ before k was
-            | inr new ↦ ap (λ (m : Lit). is_among held (negated m)) (sym new) ∙ absent
-          ]
-    ]
-
 -- once more is left, it stays
 pub settled : (held clause : List Lit) (i : ℕ) (l : Lit) (left next : Left) → i < length clause → l ≡ get_or clause i l → kind_of (left_of held clause) ≡ left_after left (left_of held (drop i clause)) → next ≡ (if is_among held (negated l) then left else left_with left l) → next ≡ More → next ≡ kind_of (left_of held clause)
 settled held clause i l left next below is so_far step more =

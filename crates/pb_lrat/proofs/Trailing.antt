@@ -16,6 +16,3 @@ same_values values more ls h same = record { told = λ m. h.told m ∙ ap (λ (o
 
 pub popped : (values less : ℕ → Option Bool) (ls : List Lit) (l : Lit) → IsTrail values (l ∷ ls) → less l.var ≡ None → ((v : ℕ) → v ≢ l.var → less v ≡ values v) → IsTrail less ls
 popped values less ls l h none old = record { told = told_less values less ls l none old h.told h.different.0; different = h.different.1 }
-
-pub pushed_order : (old : List Lit) (l : Lit) → reverse (old ++ l ∷ []) ≡ l ∷ reverse old
-pushed_order old l = reverse-append old (l ∷ [])

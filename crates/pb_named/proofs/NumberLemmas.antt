@@ -73,10 +73,6 @@ lits-more t front list more xs i x l inside item before is pushed =
     pushed ∙ (λ j. before j ++ is j ∷ []) ∙ append_assoc front (map (lit_of t) (take i xs)) (lit_of t x ∷ [])
     ∙ ap (λ (ls : List Lit). front ++ ls) (sym (map-append (lit_of t) (take i xs) (x ∷ [])) ∙ ap (map (lit_of t)) (sym taken))
 
--- a term of one literal comes to it
-pub linear-factor : (t : Table) (n : NamedTerm) → n.more ≡ [] → factor t n ≡ Single (lit_of t n.lit)
-linear-factor t n none = ap (λ (ls : List NamedLit). factor_of (lit_of t n.lit ∷ map (lit_of t) ls)) none
-
 pub when-ok : {X E : Type 0} {P : Type 0} (r : Result X E) → P → OnOk r P
 when-ok (Ok x) p = p
 when-ok (Err e) p = tt

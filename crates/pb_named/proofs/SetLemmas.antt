@@ -273,10 +273,6 @@ factor-more ls zs b set more opposed = ap (λ (c : Bool). cond c Nought (Product
 
 -- ---- what a product is
 
--- literals behind one of another variable
-pub opposed-next : (l : Lit) (ls : List Lit) → begins_with ls l.var ≡ false → is_opposed (l ∷ ls) ≡ is_opposed ls
-opposed-next l ls apart = ap (λ (b : Bool). b || is_opposed ls) apart
-
 -- in a set without opposite literals the variables ascend
 rising-by : (v w : ℕ) (p q : Bool) → v + v + one_if p < w + w + one_if q → (w == v) ≡ false → v < w
 rising-by v w true true h e = grind (arith, nat_tests)

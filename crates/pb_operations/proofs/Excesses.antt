@@ -52,11 +52,6 @@ starts_at ts i v t ascending h le =
     (All-cons {X = Weighted} (λ u. v ≤ u.lit.var) (weighted t) (drop (i + 1) (weights ts)) le
     (All-weaker {X = Weighted} (λ u. t.lit.var < u.lit.var) (λ u. v ≤ u.lit.var) (λ u less. omega arith) (drop (i + 1) (weights ts)) (later ts i t ascending h)))
 
-pub starts_past : (ts : List Term) (i v : ℕ) → length ts ≤ i → StartsFrom v (drop i (weights ts))
-starts_past ts i v past =
-    let same : length (weights ts) ≡ length ts = simp length-map in
-    subst (StartsFrom v) (sym (drop_all i (weights ts) (omega arith))) (All-nil {X = Weighted} (λ u. v ≤ u.lit.var))
-
 -- only the first term may have the literal
 coef_of-at : (ts : List Term) (i : ℕ) (l : Lit) (t : Term) → IsAscending (weights ts) → IsTermAt ts i t → l.var ≤ t.lit.var →
     coef_of (drop i (weights ts)) l ≡ cond (is_same t.lit l) (weighted t).coef 0
@@ -64,11 +59,6 @@ coef_of-at ts i l t ascending h le =
     let none = coef_of-none l (drop (i + 1) (weights ts)) (All-weaker {X = Weighted} (λ u. t.lit.var < u.lit.var) (λ u. l.var < u.lit.var) (λ u less. omega arith) (drop (i + 1) (weights ts)) (later ts i t ascending h)) in
     let first = ap (λ (us : List Weighted). coef_of us l) (at-drop ts i t h) ∙ coef_of-cons l (weighted t) (drop (i + 1) (weights ts)) in
     omega arith
-
-pub coef_of-past : (ts : List Term) (i : ℕ) (l : Lit) → length ts ≤ i → coef_of (drop i (weights ts)) l ≡ 0
-coef_of-past ts i l past =
-    let same : length (weights ts) ≡ length ts = simp length-map in
-    ap (λ (us : List Weighted). coef_of us l) (drop_all i (weights ts) (omega arith))
 
 starts-le : (ts : List Term) (i v : ℕ) (t : Term) → IsTermAt ts i t → StartsFrom v (drop i (weights ts)) → v ≤ t.lit.var
 starts-le ts i v t h starts = All-head {X = Weighted} (λ u. v ≤ u.lit.var) (weighted t) (drop (i + 1) (weights ts)) (subst (StartsFrom v) (at-drop ts i t h) starts)

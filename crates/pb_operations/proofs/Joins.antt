@@ -133,16 +133,6 @@ joins-both left right done k taken t ts u us e f j =
       us_room = omega (arith, j.us_room, weight-cons u us);
     }
 
-pub joins-start : (left right : List Weighted) → IsAscending left → IsAscending right → weight left < 2 ^ 126 → weight right < 2 ^ 126 → Joins left right [] 0 left right
-joins-start left right h k m n = record {
-  terms = refl;
-  cancelled_so_far = omega arith;
-  ts_ascending = h;
-  us_ascending = k;
-  ts_room = omega arith;
-  us_room = n;
-}
-
 -- ---- the same over the terms of the code
 
 -- a list that has a first element is that element and the others

@@ -147,10 +147,6 @@ at_most false k = omega arith
 coef_at-sum : (v : ℕ) (c : Constraint) (ts : List Term) → weights ts ≡ c.terms → sum_by (on_weight (coef_at v)) ts ≡ sum_by (coef_at v) c.terms
 coef_at-sum v c ts e = sym (sum_by-map (coef_at v) weighted ts) ∙ ap (sum_by (coef_at v)) e
 
-pub coef_at-room : (v : ℕ) (c : Constraint) (ts : List Term) → weights ts ≡ c.terms → IsLinear c → sum_by (on_weight (coef_at v)) ts < 2 ^ 128
-coef_at-room v c ts e h =
-    omega (arith, coef_at-sum v c ts e, sum_by-le-sum_by {X = Weighted} (coef_at v) (λ t. t.coef) c.terms (λ t. at_most (eqb t.lit.var v) t.coef), h.weight_fits)
-
 pub weakening-made : (v : ℕ) (c : Constraint) (ts us vs : List Term) (lost degree : ℕ) → IsLinear c → weights ts ≡ c.terms → us ≡ filter (on_weight (is_other v)) ts →
     weights vs ≡ c.terms → lost ≡ sum_by (on_weight (coef_at v)) vs → degree ≡ c.degree - lost → AreUnsigned ts → IsMade (weakening v c) us degree
 weakening-made v c ts us vs lost degree h e f g k m unsigned = record {

@@ -138,9 +138,6 @@ seen_denial-pol db ops clause = ordered (unknown_var db (Pol ops)) (unknown_id d
 pub seen_denial-early : (db : Database) (ops : List PolOp) (clause : Option (List Lit)) (d : Denied) → Some d ≡ early db ops → seen_denial db (Pol ops) clause ≡ Some d
 seen_denial-early db ops clause d e = seen_denial-pol db ops clause ∙ rw (← e) refl
 
-pub seen_denial-width : (db : Database) (ops : List PolOp) (clause : Option (List Lit)) → None ≡ early db ops → after_ops db.live ops [] ≡ None → seen_denial db (Pol ops) clause ≡ Some Width
-seen_denial-width db ops clause e f = seen_denial-pol db ops clause ∙ rw (← e, f) refl
-
 pub seen_denial-no_width : (db : Database) (ops : List PolOp) (clause : Option (List Lit)) (stack : List Constraint) → None ≡ early db ops → after_ops db.live ops [] ≡ Some stack → seen_denial db (Pol ops) clause ≡ None
 seen_denial-no_width db ops clause stack e f = seen_denial-pol db ops clause ∙ rw (← e, f) refl
 
@@ -195,10 +192,6 @@ no_one_left db ops old e f g =
 pub outcome_true : (done : Bool) (after : Option (List Constraint)) (stack : List Constraint) → done ≡ true → IsOutcome done after stack → after ≡ Some stack
 outcome_true true after stack e h = h
 outcome_true false after stack e h = absurd (false≢true e)
-
-pub outcome_false : (done : Bool) (after : Option (List Constraint)) (stack : List Constraint) → done ≡ false → IsOutcome done after stack → after ≡ None
-outcome_false false after stack e h = h
-outcome_false true after stack e h = absurd (true≢false e)
 
 pub ops_more : (live : List Entry) (ops : List PolOp) (i : ℕ) (op : PolOp) (before after : List Constraint) → i < length ops → op ≡ get_or ops i op → done_op live op before ≡ Some after →
     after_ops live (drop i ops) before ≡ after_ops live (drop (i + 1) ops) after

@@ -67,9 +67,6 @@ keeps_put before mid late after p c free put kept gone = record {
       | inr ne ↦ at-removed_other late.places p q ne ∙ (was q ∙ at_placed_other before.places p q c free.near ne)
     ]
 
-pub keeps_again : (before mid after : EngineState) → KeepsEngine before mid → KeepsEngine mid after → KeepsEngine before after
-keeps_again before mid after h k = record { vars_are = k.vars_are ∙ h.vars_are; same = λ p. k.same p ∙ h.same p }
-
 pub keeps_same : (before after : EngineState) → after ≡ before → KeepsEngine before after
 keeps_same before after e = record { vars_are = ap (λ (s : EngineState). s.vars) e; same = λ p. ap (λ (s : EngineState). at_place s.places p) e }
 

@@ -261,15 +261,6 @@ goal-some db claim sets id goal found e tells = look (constraint_at db.live id) 
       by_found true shown = λ d at is_named. let same : c ≡ d = cc in subst (λ (x : Constraint). IsShown db.live claim (restriction sets x)) same shown
       by_found false fails = record { constraint = c; found = f; named = h; fails = fails }
 
-pub goal-none : (db : Database) (claim : Constraint) (sets : List Set) (id : ℕ) → None ≡ goal_of sets (constraint_at db.live id) → SlotIsMet db claim sets id
-goal-none db claim sets id e c at is_named =
-    let is_goal : goal_of sets (constraint_at db.live id) ≡ Some (restriction sets c) = ap (goal_of sets) at ∙ named (names_set sets c) is_named in
-    absurd (none-some (restriction sets c) (e ∙ is_goal))
-  where
-    named : (b : Bool) → b ≡ true → cond b (Some (restriction sets c)) None ≡ Some (restriction sets c)
-    named true f = refl
-    named false f = absurd (cc)
-
 -- ---- ids that are gone through in order
 
 rising : (ids : List ℕ) → IsStrictlyIncreasing ids → (i j d : ℕ) → i < j → j < length ids → get_or ids i d < get_or ids j d

@@ -104,16 +104,6 @@ covered-again vars listed s p c free h = record {
   ];
 }
 
-pub covered-held : (vars : ℕ) (listed : List ℕ) (s s' : EngineState) → s' ≡ record s { held = s'.held } → IsCovered vars listed s → IsCovered vars listed s'
-covered-held vars listed s s' e h = record {
-  vars_are = ap (λ (t : EngineState). t.vars) e ∙ h.vars_are;
-  given = ap (λ (t : EngineState). t.given) e ∙ h.given;
-  covered = λ q. elim (h.covered q) [
-    | inl none ↦ inl (ap (λ (t : EngineState). at_place t.places q) e ∙ none)
-    | inr known ↦ inr known
-  ];
-}
-
 pub nothing_taken : (n : ℕ) (xs : List ℕ) → n ≡ 0 → take n xs ≡ []
 nothing_taken n xs e = ap (λ (k : ℕ). take k xs) e ∙ zero_of xs
   where

@@ -141,10 +141,6 @@ shows_all ss ids i a b past f = subst (λ (js : List ℕ). Shows true (listed_sl
 
 -- ---- what that tells
 
--- nothing was shown yet
-pub none_shown : (cs : List Constraint) (ls : List Lit) → ls ≡ [] → Advances cs [] [] ls
-none_shown cs ls e = subst (Advances cs [] []) (sym e) (stays cs [] [])
-
 -- a round goes on
 pub round_on : (enough : Bool) (cs : List Constraint) (before after : List Lit) → Advances cs [] [] before → Shows enough cs before after → Advances cs [] [] after
 round_on enough cs before after a f = then cs [] [] before after a (f.advances cs [] (among_itself cs))

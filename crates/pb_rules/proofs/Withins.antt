@@ -48,23 +48,6 @@ at-sound vars (x ∷ es) id c h e = test (eqb x.id id) (All-head (IsSound vars) 
       (subst IsNarrow same sound.narrow, subst (WithinC vars) same sound.within)
   test false sound f rest = rest f
 
-pub live-within : (vars : ℕ) (es : List Entry) → All (IsSound vars) es → AreVarsWithin vars (live_constraints es)
-live-within vars es h = All-map (WithinC vars) (λ (e : Entry). e.constraint) es (All-weaker (IsSound vars) (λ e. WithinC vars e.constraint) (λ e sound. sound.within) es h)
-
-listed-within : (vars : ℕ) (es : List Entry) (ids : List ℕ) → All (IsSound vars) es → AreVarsWithin vars (filter_map (constraint_at es) ids)
-listed-within vars es [] h = All-nil (WithinC vars)
-listed-within vars es (id ∷ ids) h = step (constraint_at es id) refl (listed-within vars es ids h) where
-  step : (o : Option Constraint) → constraint_at es id ≡ o → AreVarsWithin vars (filter_map (constraint_at es) ids) → AreVarsWithin vars (cons_option o (filter_map (constraint_at es) ids))
-  step None e rest = rest
-  step (Some c) e rest = All-cons (WithinC vars) c (filter_map (constraint_at es) ids) (at-sound vars es id c h e).1 rest
-
-hinted-within : (vars : ℕ) (es : List Entry) (ids : List ℕ) → All (IsSound vars) es → AreVarsWithin vars (hinted es ids)
-hinted-within vars es [] h = live-within vars es h
-hinted-within vars es (id ∷ ids) h = listed-within vars es (id ∷ ids) h
-
-pub propagated-within : (vars : ℕ) (es : List Entry) (claim : Constraint) (ids : List ℕ) → All (IsSound vars) es → HasVarsWithin vars claim.terms → AreVarsWithin vars (propagated es claim ids)
-propagated-within vars es claim ids h k = All-cons (WithinC vars) (negation claim) (hinted es ids) (negation-within vars claim k) (hinted-within vars es ids h)
-
 -- ---- restriction
 
 weight-kept : (p : Weighted → Bool) (ts : List Weighted) → weight (filter p ts) ≤ weight ts
@@ -78,12 +61,3 @@ restriction-narrow sets c h = narrow-from (restriction sets c) (omega (arith, we
 
 pub restriction-within : (vars : ℕ) (sets : List Set) (c : Constraint) → HasVarsWithin vars c.terms → HasVarsWithin vars (restriction sets c).terms
 restriction-within vars sets c h = All-filter (is_unset sets) (λ t. t.lit.var ≤ vars) c.terms h
-
-pub to_refute-within : (vars : ℕ) (es : List Entry) (claim goal : Constraint) → All (IsSound vars) es → HasVarsWithin vars claim.terms → HasVarsWithin vars goal.terms → AreVarsWithin vars (to_refute es claim goal)
-to_refute-within vars es claim goal h k m =
-    All-cons (WithinC vars) (negation claim) (negation goal ∷ live_constraints es) (negation-within vars claim k)
-    (All-cons (WithinC vars) (negation goal) (live_constraints es) (negation-within vars goal m) (live-within vars es h))
-
--- what is looked up is sound
-pub at-option : (vars : ℕ) (es : List Entry) (id : ℕ) (o : Option Constraint) (c : Constraint) → All (IsSound vars) es → o ≡ constraint_at es id → o ≡ Some c → IsNarrow c × HasVarsWithin vars c.terms
-at-option vars es id o c h e f = at-sound vars es id c h (sym e ∙ f)

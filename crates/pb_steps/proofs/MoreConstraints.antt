@@ -27,16 +27,3 @@ reached-more cs ds among given (l ∷ ls) (inr needed, before) = (inr (needs-mor
 pub conflict-more : (cs ds : List Constraint) → AreAmong cs ds → (given : List Lit) → Conflict cs given → Conflict ds given
 conflict-more cs ds among given (inl both) = inl both
 conflict-more cs ds among given (inr (ls, c, reached, known, short)) = inr (ls, c, reached-more cs ds among given ls reached, among c known, short)
-
-all-among : {X : Type 0} (P : X → Type 0) (xs ys : List X) → AreAmong xs ys → All P ys → All P xs
-all-among P [] ys among h = All-nil P
-all-among P (x ∷ xs) ys among h = All-cons P x xs (All-contains P ys x h (among x (Contains-here x xs))) (all-among P xs ys (λ z m. among z (Contains-there x xs z m)) h)
-
--- with fewer of them a fixed list stays one
-pub fixed-fewer : (cs ds : List Constraint) → AreAmong cs ds → (given ls : List Lit) → IsFixed ds given ls → IsFixed cs given ls
-fixed-fewer cs ds among given ls fixed = record {
-  has_given = fixed.has_given;
-  consistent = fixed.consistent;
-  closed = λ l n. fixed.closed l (needs-more cs ds among ls l n);
-  enough = all-among {X = Constraint} (λ c. c.degree ≤ room ls c.terms) cs ds among fixed.enough;
-}

@@ -19,18 +19,7 @@ pub with_more : {A : Type 0} (xs : List A) (x : A) (r : Result (List A) StepFaul
 with_more {A} xs x (Ok ys) = ap (λ (zs : List A). Ok zs) (sym (append_assoc xs (x ∷ []) ys))
 with_more xs x (Err fault) = refl
 
-pub with_all : {A : Type 0} (xs : List A) → with_items xs (Ok []) ≡ Ok xs
-with_all {A} xs = ap (λ (zs : List A). Ok zs) (append-nil xs)
-
 -- with terms that were read before the others
 abbrev pub with_terms : List Term → Result (List Term × List Chunk) StepFault → Result (List Term × List Chunk) StepFault
 with_terms ts (Ok p) = Ok (ts ++ p.0, p.1)
 with_terms ts (Err fault) = Err fault
-
-pub with_no_terms : (r : Result (List Term × List Chunk) StepFault) → with_terms [] r ≡ r
-with_no_terms (Ok p) = refl
-with_no_terms (Err fault) = refl
-
-pub with_more_terms : (ts : List Term) (t : Term) (r : Result (List Term × List Chunk) StepFault) → with_terms ts (with_first_term t r) ≡ with_terms (ts ++ t ∷ []) r
-with_more_terms ts t (Ok p) = ap (λ (us : List Term). Ok (us, p.1)) (sym (append_assoc ts (t ∷ []) p.0))
-with_more_terms ts t (Err fault) = refl

@@ -36,9 +36,6 @@ value-restricted sets a ts =
 pub holds-from_restricted : (sets : List Set) (a : Assignment) (c : Constraint) → Holds a (restriction sets c) → Holds (overwritten sets a) c
 holds-from_restricted sets a c h = omega (arith, value-restricted sets a c.terms, h)
 
-pub holds-restricted : (sets : List Set) (a : Assignment) (c : Constraint) → Holds (overwritten sets a) c → Holds a (restriction sets c)
-holds-restricted sets a c h = omega (arith, value-restricted sets a c.terms, h)
-
 -- a constraint that names no set variable keeps its value
 pub unnamed-value : (a : Assignment) (sets : List Set) (ts : List Weighted) → list_any {X = Weighted} (λ t. not (is_unset sets t)) ts ≡ false → value (overwritten sets a) ts ≡ value a ts
 unnamed-value a sets [] h = refl

@@ -39,20 +39,6 @@ use Rattle.pb_totalizer.specs.laws.Shares.{few_shared}
 use Rattle.pb_totalizer.specs.laws.Sources.{ids_from, node_given, root_given}
 use Rattle.pb_totalizer.proofs.Handed.{node_are, root_is}
 
--- ---- an output after an index, or none
-
-pub ids_after_some : (source : Source) (count i : ℕ) → i < count → ids_after source count i ≡ seconds_from source (i + 1)
-ids_after_some source count i below = cond-true (nat_lt i count) (seconds_from source (i + 1)) [] (lt-ltb i count below)
-
-pub ids_after_none : (source : Source) (count i : ℕ) → count ≤ i → ids_after source count i ≡ []
-ids_after_none source count i above = cond-false (nat_lt i count) (seconds_from source (i + 1)) [] (le-ltb i count above)
-
-pub weakened_after_some : (ts : List Term) (count i : ℕ) → i < count → weakened_after ts count i ≡ []
-weakened_after_some ts count i below = cond-true (nat_lt i count) [] ts (lt-ltb i count below)
-
-pub weakened_after_none : (ts : List Term) (count i : ℕ) → count ≤ i → weakened_after ts count i ≡ ts
-weakened_after_none ts count i above = cond-false (nat_lt i count) [] ts (le-ltb i count above)
-
 -- ---- rows
 
 abbrev pub limit_piece : (ℕ → Reason) → ℕ → ℕ → List Step

@@ -23,13 +23,6 @@ at_push_other [] o (suc p) ne = refl
 at_push_other (x ∷ ps) o zero ne = refl
 at_push_other (x ∷ ps) o (suc p) ne = at_push_other ps o p (λ e. ne (ap suc e))
 
-pub placed_end : (ps : List (Option Constraint)) (place : ℕ) (c : Constraint) → place ≡ length ps → placed place c ps ≡ ps ++ Some c ∷ []
-placed_end ps place c last = by_test (nat_lt place (length ps)) refl
-  where
-    by_test : (b : Bool) → nat_lt place (length ps) ≡ b → cond b (set ps place (Some c)) (ps ++ Some c ∷ []) ≡ ps ++ Some c ∷ []
-    by_test true e = absurd (omega (arith, ltb-true place (length ps) e, last))
-    by_test false e = refl
-
 pub at_placed : (ps : List (Option Constraint)) (place : ℕ) (c : Constraint) → place ≤ length ps → at_place (placed place c ps) place ≡ Some c
 at_placed ps place c near = by_test (nat_lt place (length ps)) refl
   where

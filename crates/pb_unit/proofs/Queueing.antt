@@ -99,20 +99,6 @@ queue_assumed vars ps lists kept tight held counted phase l q = by_cases (is_amo
 pub written : {X : Type 0} (n : ℕ) (new old : List X) → length new ≡ n → take n (new ++ drop (length new) old) ≡ new
 written {X} n new old same = ap (λ (k : ℕ). take k (new ++ drop (length new) old)) (sym same) ∙ take-append_seam new (drop (length new) old)
 
--- a queue over the same parts
-pub queue_read : (vars : ℕ) {ps ps' : List (Option Constraint)} {lists lists' : Lists} {kept kept' : List Kept} {tight tight' : List ℕ} → ps ≡ ps' → lists ≡ lists' → kept ≡ kept' → tight ≡ tight' → (held : List Lit) (counted : ℕ) (phase : Phase) → IsQueue vars ps lists kept tight held counted phase → IsQueue vars ps' lists' kept' tight' held counted phase
-queue_read vars {ps} {ps'} {lists} {lists'} {kept} {kept'} {tight} {tight'} a b c d held counted phase q =
-    subst (λ (x : List (Option Constraint)). IsQueue vars x lists' kept' tight' held counted phase) a
-    (subst (λ (x : Lists). IsQueue vars ps x kept' tight' held counted phase) b
-    (subst (λ (x : List Kept). IsQueue vars ps lists x tight' held counted phase) c
-    (subst (λ (x : List ℕ). IsQueue vars ps lists kept x held counted phase) d q)))
-
-pub counted_read : (vars : ℕ) {ps ps' : List (Option Constraint)} {lists lists' : Lists} {kept kept' : List Kept} → ps ≡ ps' → lists ≡ lists' → kept ≡ kept' → (counted : List Lit) → IsCounted vars ps lists kept counted → IsCounted vars ps' lists' kept' counted
-counted_read vars {ps} {ps'} {lists} {lists'} {kept} {kept'} a b c counted h =
-    subst (λ (x : List (Option Constraint)). IsCounted vars x lists' kept' counted) a
-    (subst (λ (x : Lists). IsCounted vars ps x kept' counted) b
-    (subst (λ (x : List Kept). IsCounted vars ps lists x counted) c h))
-
 -- a store whose constraints wait to be looked at
 pub queue_fresh : (vars : ℕ) (ps : List (Option Constraint)) (lists : Lists) (kept : List Kept) (tight : List ℕ) (held : List Lit) → IsStore vars ps lists kept tight → IsQueue vars ps lists kept tight held 0 phases.Fresh
 queue_fresh vars ps lists kept tight held s = record {
@@ -123,9 +109,6 @@ queue_fresh vars ps lists kept tight held s = record {
   fresh = λ _. refl;
   at = tt;
 }
-
-pub listed_same : (ps : List (Option Constraint)) (kept kept' : List Kept) (tight : List ℕ) → ((p : ℕ) → alert_at kept' p ≡ alert_at kept p) → AreListed ps kept tight → AreListed ps kept' tight
-listed_same ps kept kept' tight same h p c at = elim (h p c at) [ inl enough ↦ inl (omega (arith, enough, same p)) | inr there ↦ inr there ]
 
 pub kept_fresh : (given_vars vars : ℕ) (ps : List (Option Constraint)) (lists : Lists) (kept : List Kept) (tight : List ℕ) → given_vars ≡ vars → StandWithin vars ps → IsStore vars ps lists kept tight → IsKept given_vars lists kept tight 0 phases.Fresh (record { vars = vars; places = ps; given = []; held = [] })
 kept_fresh given_vars vars ps lists kept tight same within store =
@@ -152,46 +135,12 @@ store_read vars vars' {ps} {ps'} {lists} {lists'} {kept} {kept'} {tight} {tight'
     (subst (λ (x : List Kept). IsStore vars ps lists x tight') c
     (subst (λ (x : List ℕ). IsStore vars ps lists kept x) d q))))
 
--- nothing yet
-pub store_empty : (vars : ℕ) (lists : Lists) → size_of lists ≡ 2 * vars + 2 → ((l : Lit) → list_at lists l ≡ []) → IsStore vars [] lists [] []
-store_empty vars lists size empty = record {
-  counts = record {
-    inner = [];
-    size = refl;
-    longer = omega arith;
-    same = λ p c at. let no : ⊥ = cc (nothing_at p, at) in absurd no;
-    narrow = λ p. omega (arith, ap weight (no_terms p));
-    width = size;
-    sums = λ l p. ap (sum_at p) (empty l) ∙ sym (ap (λ (ts : List Weighted). coef_of ts l) (no_terms p));
-    known = λ l. subst (All (λ (o : Occurrence). o.place < 0)) (sym (empty l)) (All-nil (λ (o : Occurrence). o.place < 0));
-    rooms = λ p. no_room p ∙ sym (ap (room []) (no_terms p));
-    alerts = λ p c at. let no : ⊥ = cc (nothing_at p, at) in absurd no;
-  };
-  listed = λ p c at. let no : ⊥ = cc (nothing_at p, at) in absurd no;
-  even = refl;
-}
-  where
-    nothing_at : (p : ℕ) → at_place [] p ≡ None
-    nothing_at zero = refl
-    nothing_at (suc p) = refl
-
-    no_terms : (p : ℕ) → terms_at [] p ≡ []
-    no_terms zero = refl
-    no_terms (suc p) = refl
-
-    no_room : (p : ℕ) → room_at [] p ≡ 0
-    no_room zero = refl
-    no_room (suc p) = refl
-
 pub within_all : (vars : ℕ) (cs : List Constraint) → AreVarsWithin vars cs → StandWithin vars (map Some cs)
 within_all vars cs all p c at =
     All-contains (λ (c : Constraint). HasVarsWithin vars c.terms) cs c all (subst (λ (ds : List Constraint). Contains ds c) (standing_all cs) (stands_contains (map Some cs) p c at))
 
 pub within_read : {vars vars' : ℕ} {ps ps' : List (Option Constraint)} → vars ≡ vars' → ps ≡ ps' → StandWithin vars ps → StandWithin vars' ps'
 within_read {vars} {vars'} {ps} {ps'} a b h = subst (λ (n : ℕ). StandWithin n ps') a (subst (StandWithin vars) b h)
-
-pub at_none : (ps : List (Option Constraint)) (n : ℕ) → length ps ≤ n → at_place ps n ≡ None
-at_none ps n past = get_or_past ps n None past
 
 -- once all is told, the kept room is the room
 pub room_told : (vars : ℕ) (ps : List (Option Constraint)) (lists : Lists) (kept : List Kept) (tight : List ℕ) (held : List Lit) (counted : ℕ) (phase : Phase) → IsQueue vars ps lists kept tight held counted phase → counted ≡ length held → (p : ℕ) (c : Constraint) → Stands ps p c → room_at kept p ≡ room held c.terms

@@ -28,26 +28,7 @@ part_pushed xs e v a from below =
     (ap (λ (n : ℕ). take n (set (drop a xs) (e - a) v)) count ∙
     take_more_set (drop a xs) (e - a) v (omega (arith, length-drop a xs, from, below))))
 
-pub part_none : (xs : List ℕ) (a b : ℕ) → b ≤ a → slice_range xs a b ≡ []
-part_none xs a b none = ap (λ (n : ℕ). take n (drop a xs)) (let nothing : b - a ≡ 0 = omega (arith, none) in nothing)
-
 -- ---- sections
-
--- the end of one section moves within its room
-ends_moved : (starts ends units units' : List ℕ) (n e : ℕ) → IsSectioned starts ends units → n < length ends → slice_index starts n ≤ e → e ≤ slice_index starts (n + 1) → length units' ≡ length units → IsSectioned starts (set ends n e) units'
-ends_moved starts ends units units' n e h below low high same = record {
-  size = omega (arith, h.size, length-set ends n e);
-  ascending = h.ascending;
-  begins = λ k known. elim (cases_eq k n) [
-    | inl is ↦ omega (arith, low, ap (slice_index starts) is, ap (slice_index (set ends n e)) is, get_or-set_same ends n e 0 below)
-    | inr ne ↦ omega (arith, h.begins k (omega (arith, known, length-set ends n e)), get_or-set_other ends n k e 0 ne)
-  ];
-  limits = λ k known. elim (cases_eq k n) [
-    | inl is ↦ omega (arith, high, ap (λ (i : ℕ). slice_index starts (i + 1)) is, ap (slice_index (set ends n e)) is, get_or-set_same ends n e 0 below)
-    | inr ne ↦ omega (arith, h.limits k (omega (arith, known, length-set ends n e)), get_or-set_other ends n k e 0 ne)
-  ];
-  within = omega (arith, h.within, ap (slice_index starts) (length-set ends n e), same);
-}
 
 -- another section lies before or behind
 before_or_behind : (starts ends units : List ℕ) (n k : ℕ) → IsSectioned starts ends units → n < length ends → (k ≡ n → ⊥) → (slice_index ends k ≤ slice_index starts n) ⊎ (slice_index starts (n + 1) ≤ slice_index starts k)
@@ -58,10 +39,6 @@ before_or_behind starts ends units n k h below ne = elim (cases_lt k n) [
     | inr past ↦ inl (omega (arith, get_or_past ends k 0 past))
   ]
 ]
-
--- what `put_unit` makes of the sections
-pub unit_sections : (starts ends units : List ℕ) (n v : ℕ) → IsSectioned starts ends units → n < length ends → slice_index ends n < slice_index starts (n + 1) → IsSectioned starts (set ends n (slice_index ends n + 1)) (set units (slice_index ends n) v)
-unit_sections starts ends units n v h below room = ends_moved starts ends units (set units (slice_index ends n) v) n (slice_index ends n + 1) h below (omega (arith, h.begins n below)) (omega (arith, room)) (length-set units (slice_index ends n) v)
 
 pub end_within : (starts ends units : List ℕ) (n : ℕ) → IsSectioned starts ends units → n < length ends → slice_index starts (n + 1) ≤ length units
 end_within starts ends units n h below = omega (arith, h.within, h.ascending (n + 1) (length ends) (omega (arith, below)) (omega (arith, h.size)))
@@ -82,24 +59,11 @@ unit_elsewhere starts ends units n v h below room k ne =
 
 -- ---- sections that are swept: the part of one is written, and its end moves back
 
-pub swept_sections : (starts ends units ys : List ℕ) (n count : ℕ) → IsSectioned starts ends units → n < length ends → count ≤ length ys → length ys ≡ slice_index ends n - slice_index starts n → (units' : List ℕ) → length units' ≡ length units → IsSectioned starts (set ends n (slice_index starts n + count)) units'
-swept_sections starts ends units ys n count h below most same units' long =
-    ends_moved starts ends units units' n (slice_index starts n + count) h below (omega arith) (omega (arith, most, same, h.begins n below, h.limits n below)) long
-
 start_within : (starts ends units : List ℕ) (n : ℕ) → IsSectioned starts ends units → n < length ends → slice_index starts n ≤ length units
 start_within starts ends units n h below = omega (arith, end_within starts ends units n h below, h.begins n below, h.limits n below)
 
 pub length_part : (starts ends units : List ℕ) (n : ℕ) → IsSectioned starts ends units → n < length ends → length (take (slice_index ends n - slice_index starts n) (drop (slice_index starts n) units)) ≡ slice_index ends n - slice_index starts n
 length_part starts ends units n h below = length-take-le (slice_index ends n - slice_index starts n) (drop (slice_index starts n) units) (omega (arith, length-drop (slice_index starts n) units, h.begins n below, h.limits n below, end_within starts ends units n h below))
-
-pub swept_here : (starts ends units ys : List ℕ) (n count : ℕ) → IsSectioned starts ends units → n < length ends → count ≤ length ys → section starts (set ends n (slice_index starts n + count)) (put_mid (slice_index starts n) (slice_index ends n - slice_index starts n) units ys) n ≡ take count ys
-swept_here starts ends units ys n count h below most =
-    let s : ℕ = slice_index starts n in
-    let k : ℕ = slice_index ends n - s in
-    let e : slice_index (set ends n (s + count)) n - s ≡ count = omega (arith, get_or-set_same ends n (s + count) 0 below) in
-    ap (λ (m : ℕ). take m (drop s (put_mid s k units ys))) e ∙
-    (ap (take count) (drop_at (take s units) (ys ++ post_of s k units) s (length-take-le s units (start_within starts ends units n h below))) ∙
-    take-append-le count ys (post_of s k units) most)
 
 pub swept_elsewhere : (starts ends units ys : List ℕ) (n count : ℕ) → IsSectioned starts ends units → n < length ends → length ys ≡ slice_index ends n - slice_index starts n → (k : ℕ) → (k ≡ n → ⊥) → section starts (set ends n (slice_index starts n + count)) (put_mid (slice_index starts n) (slice_index ends n - slice_index starts n) units ys) k ≡ section starts ends units k
 swept_elsewhere starts ends units ys n count h below same k ne =
@@ -140,28 +104,3 @@ ascending_push ns n x size last h j k up known = elim (cases_lt k (length ns)) [
   where
     get_or_0 : List ℕ → ℕ → ℕ
     get_or_0 xs i = get_or xs i 0
-
-pub ascending_one : (x : ℕ) → IsAscending (x ∷ [])
-ascending_one x j k up known = let first : k ≡ 0 = omega (arith, known) in let same : j ≡ k = omega (arith, up, first) in omega (arith, ap (slice_index (x ∷ [])) same)
-
--- empty sections
-pub empty_sections : (starts units : List ℕ) (n : ℕ) → length starts ≡ n + 1 → IsAscending starts → slice_index starts n ≤ length units → IsSectioned starts (take n starts) units
-empty_sections starts units n size up within = record {
-  size = omega (arith, size, width);
-  ascending = up;
-  begins = λ k known. omega (arith, same k (omega (arith, known, width)));
-  limits = λ k known. omega (arith, same k (omega (arith, known, width)), up k (k + 1) (omega arith) (omega (arith, known, width, size)));
-  within = omega (arith, within, ap (slice_index starts) width);
-}
-  where
-    width : length (take n starts) ≡ n
-    width = length-take-le n starts (omega (arith, size))
-
-    same : (k : ℕ) → k < n → slice_index (take n starts) k ≡ slice_index starts k
-    same k below = get_or-take n starts k 0 below
-
-pub empty_section : (starts units : List ℕ) (n k : ℕ) → length starts ≡ n + 1 → section starts (take n starts) units k ≡ []
-empty_section starts units n k size = part_none units (slice_index starts k) (slice_index (take n starts) k) (elim (cases_lt k n) [
-  | inl below ↦ omega (arith, get_or-take n starts k 0 below)
-  | inr past ↦ omega (arith, get_or_past (take n starts) k 0 (omega (arith, past, length-take-le n starts (omega (arith, size)))))
-])

@@ -50,27 +50,6 @@ parts_all P (x ∷ xs) ys h =
 abbrev none : Kept
 none = record { room = 0; alert = 0 }
 
-pub lowered_one : (kept : List Kept) (o : Occurrence) (k : Kept) → o.place < length kept → k.room + o.coef ≡ room_at kept o.place → k.alert ≡ alert_at kept o.place → AreLowered (o ∷ []) kept (set kept o.place k)
-lowered_one kept o k below lower same = record {
-  size = length-set kept o.place k;
-  rooms = λ p. elim (cases_eq o.place p) [ inl e ↦ here p e | inr ne ↦ elsewhere p ne ];
-  alerts = λ p. elim (cases_eq o.place p) [
-    | inl e ↦ ap (λ (i : ℕ). (get_or (set kept o.place k) i none).alert) (sym e) ∙ (ap (λ (x : Kept). x.alert) (get_or-set_same kept o.place k none below) ∙ (same ∙ ap (alert_at kept) e))
-    | inr ne ↦ ap (λ (x : Kept). x.alert) (get_or-set_other kept o.place p k none (λ e. ne (sym e)))
-  ];
-}
-  where
-    here : (p : ℕ) → o.place ≡ p → room_at (set kept o.place k) p + sum_at p (o ∷ []) ≡ room_at kept p
-    here p e =
-        let new : room_at (set kept o.place k) o.place ≡ k.room = ap (λ (x : Kept). x.room) (get_or-set_same kept o.place k none below) in
-        let all : room_at (set kept o.place k) o.place + sum_at o.place (o ∷ []) ≡ room_at kept o.place = omega (arith, new, sum_at-here o, lower) in
-        subst (λ (i : ℕ). room_at (set kept o.place k) i + sum_at i (o ∷ []) ≡ room_at kept i) e all
-
-    elsewhere : (p : ℕ) → (o.place ≡ p → ⊥) → room_at (set kept o.place k) p + sum_at p (o ∷ []) ≡ room_at kept p
-    elsewhere p ne =
-        let new : room_at (set kept o.place k) p ≡ room_at kept p = ap (λ (x : Kept). x.room) (get_or-set_other kept o.place p k none (λ e. ne (sym e))) in
-        omega (arith, new, sum_at-elsewhere p o ne)
-
 pub lowered_none : (kept : List Kept) → AreLowered [] kept kept
 lowered_none kept = record { size = refl; rooms = λ p. omega arith; alerts = λ p. refl }
 
@@ -266,10 +245,6 @@ pub unit_enough : (ps : List (Option Constraint)) (us : List ℕ) (kept kept' : 
 unit_enough ps us kept kept' held held' s i told below enough =
     let p : ℕ = get_or us i 0 in
     omega (arith, enough p, told.lowered.rooms p, units_front p us i below, sum_at-here (unit_at p))
-
--- after the first part was told, what the second one asks for
-pub rest_enough : (ps : List (Option Constraint)) (xs ys : List Occurrence) (kept kept' : List Kept) (held held' : List Lit) (s : Option ℕ) → IsTold ps xs kept kept' held held' s → ((p : ℕ) → sum_at p (xs ++ ys) ≤ room_at kept p) → (p : ℕ) → sum_at p ys ≤ room_at kept' p
-rest_enough ps xs ys kept kept' held held' s told enough p = omega (arith, enough p, sum_at-append p xs ys, told.lowered.rooms p)
 
 pub rest_bound : (ps : List (Option Constraint)) (xs ys : List Occurrence) (kept kept' : List Kept) (held held' : List Lit) (s : Option ℕ) → IsTold ps xs kept kept' held held' s → ((p : ℕ) (c : Constraint) → Stands ps p c → room held c.terms + sum_at p (xs ++ ys) ≤ room_at kept p) → (p : ℕ) (c : Constraint) → Stands ps p c → room held' c.terms + sum_at p ys ≤ room_at kept' p
 rest_bound ps xs ys kept kept' held held' s told bound p c at = omega (arith, bound p c at, sum_at-append p xs ys, told.lowered.rooms p, room-le held held' (told.advances []).kept c.terms)
