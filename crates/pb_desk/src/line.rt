@@ -11,7 +11,7 @@ use crate::piece::{Stop, take_piece};
 use pb_base::Failed;
 
 /// What stands at the start of a line: nothing, a last line without LF, or one that ends with LF.
-#[derive(Clone, Copy, Debug, PartialEq, Eq)]
+#[derive(Clone, Copy)]
 pub enum Found {
     Nothing,
     Last,

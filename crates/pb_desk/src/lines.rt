@@ -28,7 +28,6 @@ pub enum LineFault {
 }
 
 /// Reads a text line by line, within limits. After a fault it answers the same again.
-#[derive(Drop)]
 pub struct LineReader {
     slot: u8,
     limits: LineLimits,
@@ -37,6 +36,21 @@ pub struct LineReader {
     number: u64,
     line: Vec<u8>,
     fault: Option<LineFault>,
+}
+
+// Written out: one call in the proof of a function that owns it.
+impl Drop for LineReader {
+    fn drop(self) {
+        let LineReader {
+            slot: _,
+            limits: _,
+            ahead: _,
+            at: _,
+            number: _,
+            line: _,
+            fault: _,
+        } = self;
+    }
 }
 
 impl Model for LineReader {

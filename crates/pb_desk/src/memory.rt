@@ -11,7 +11,6 @@ use std::alloc::Global;
 
 /// A desk in memory. It tells everything, and is steady where no call is to fail. Its two files to write and what it
 /// says have the same room; no call takes memory.
-#[derive(Drop)]
 pub struct MemoryDesk {
     shelf: Shelf,
     reading: [Option<Reading>; 4],
@@ -27,6 +26,25 @@ pub struct MemoryDesk {
     ghost some_piece: { 1 ≤ piece },
     ghost rooms: { (zero.bytes.room ≡ room) × (one.bytes.room ≡ room) × (said.room ≡ room) },
     ghost names: { (zero.name.room ≡ 255) × (one.name.room ≡ 255) },
+}
+
+// Written out: one call in the proof of a function that owns it.
+impl Drop for MemoryDesk {
+    fn drop(self) {
+        let MemoryDesk {
+            shelf: _,
+            reading: _,
+            zero: _,
+            one: _,
+            one_is_newest: _,
+            said: _,
+            script: _,
+            piece: _,
+            room: _,
+            read_faults: _,
+            write_faults: _,
+        } = self;
+    }
 }
 
 #[tactic(auto, unfolding(crate::specs::MemoryState::state_of, crate::specs::MemoryState::plan_of))]

@@ -10,7 +10,7 @@ use pb_base::LimitKind;
 use std::alloc::AllocError;
 
 /// Why a line was not read.
-#[derive(Clone, Copy, Debug, PartialEq, Eq)]
+#[derive(Clone, Copy)]
 pub enum Stop {
     Failed,
     Limit(LimitKind),

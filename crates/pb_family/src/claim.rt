@@ -5,7 +5,7 @@ ghost use Rattle.pb_norm.specs.BoundedSums.{vars_of};
 ghost use Rattle.pb_norm.specs.ClauseForm.{one_of, distinct};
 ghost use Rattle.pb_norm.specs.Constraints.{weights};
 ghost use Rattle.pb_steps.specs.declared.op.PolOp.TheVariants.{Div, Push, Weaken};
-ghost use Rattle.pb_steps.specs.declared.step.Step.TheVariants.{Pol};
+ghost use Rattle.pb_steps.specs.declared.step.Step.TheVariants.{Out, Pol};
 ghost use Rattle.pb_derive.specs.Reasons.{adding, push_and_add, widest};
 ghost use Rattle.pb_derive.specs.Rups.{by_rup};
 ghost use Rattle.pb_family.specs.Derivations.{closed, claimed, propagated};
@@ -117,6 +117,15 @@ pub fn take_sum<T: StepSink>(alloc: Global, ids: &[u64], sink: &mut T) -> Result
     sink.step(&step)
 }
 
+// Hands over a clause's step, and puts the clause out.
+fn take_and_put_out<T: StepSink>(step: &Step, sink: &mut T) -> Result<(), SinkFault>
+    requires few { (T.state sink.old).next + 1 < 2 ^ 62 }
+    ensures { HandsSteps (step.now ∷ Out (T.state sink.old).next ∷ []) result (T.state sink.old) (T.state sink.new) }
+{
+    let id = sink.next_id();
+    take_steps(step, &Step::Out { id }, sink)
+}
+
 /// Hands over that a clause follows from the constraints with some ids, without the variables of some terms, and puts it out.
 pub fn take_claim<T: StepSink>(
     alloc: Global,
@@ -128,9 +137,8 @@ pub fn take_claim<T: StepSink>(
     requires few { (T.state sink.old).next + 1 < 2 ^ 62 }
     ensures { HandsSteps (claimed (T.state sink.old).next ids.now (vars_of (weights weakened.now))) result (T.state sink.old) (T.state sink.new) }
 {
-    let id = sink.next_id();
     let step = closing_step(alloc, ids, weakened)?;
-    take_steps(&step, &Step::Out { id }, sink)
+    take_and_put_out(&step, sink)
 }
 
 /// Hands over that a short clause follows by propagation from the constraints with some ids, and puts it out.
@@ -143,7 +151,6 @@ pub fn take_propagated<T: StepSink>(
     requires few { (T.state sink.old).next + 1 < 2 ^ 62 }
     ensures { HandsSteps (propagated (T.state sink.old).next ids.now clause.now) result (T.state sink.old) (T.state sink.new) }
 {
-    let id = sink.next_id();
     let shown = propagated_step(alloc, ids, clause)?;
-    take_steps(&shown, &Step::Out { id }, sink)
+    take_and_put_out(&shown, sink)
 }

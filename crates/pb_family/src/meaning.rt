@@ -107,6 +107,24 @@ fn reverse_step(
     redundant_step(alloc, all, spare, var, true)
 }
 
+// Hands over a meaning's second line behind the first.
+fn take_both<T: StepSink>(
+    alloc: Global,
+    forward: &Step,
+    var: Var,
+    terms: &[Term],
+    least: u128,
+    sink: &mut T,
+) -> Result<(), SinkFault>
+    requires light { weight (weights terms.now) + least < 2 ^ 124 }
+    requires few { (T.state sink.old).next + 1 < 2 ^ 62 }
+    ensures { HandsSteps (forward.now ∷ second_line (T.state sink.old).next (meaning_of var (weights terms.now) least) ∷ []) result (T.state sink.old) (T.state sink.new) }
+{
+    let id = sink.next_id();
+    let reverse = reverse_step(alloc, var, terms, least, id)?;
+    take_steps(forward, &reverse, sink)
+}
+
 /// Hands over that a variable is true exactly where terms reach a number.
 pub fn take_meaning<T: StepSink>(
     alloc: Global,
@@ -119,8 +137,6 @@ pub fn take_meaning<T: StepSink>(
     requires few { (T.state sink.old).next + 1 < 2 ^ 62 }
     ensures { HandsSteps (meant (T.state sink.old).next var (weights terms.now) least) result (T.state sink.old) (T.state sink.new) }
 {
-    let id = sink.next_id();
     let forward = forward_step(alloc, var, terms, least)?;
-    let reverse = reverse_step(alloc, var, terms, least, id)?;
-    take_steps(&forward, &reverse, sink)
+    take_both(alloc, &forward, var, terms, least, sink)
 }

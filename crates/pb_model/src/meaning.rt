@@ -5,7 +5,7 @@ ghost use Rattle.pb_model.specs.ModelLines.{meaning_of, meant, IsWithin};
 use pb_base::{Lit, MAX_VARIABLES, Number, Var};
 
 /// What a word means among the values.
-#[derive(Clone, Copy, Debug, PartialEq, Eq)]
+#[derive(Clone, Copy)]
 pub enum Meaning {
     /// The end of the values.
     End,

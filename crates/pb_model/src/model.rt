@@ -13,8 +13,15 @@ pub enum Says {
 }
 
 /// What a solver says, and a value for each variable, the first one for variable 1.
-#[derive(Debug, Drop)]
+#[derive(Debug)]
 pub struct Model {
     pub says: Says,
     pub values: Bits,
+}
+
+// Written out: one call in the proof of a function that owns it.
+impl Drop for Model {
+    fn drop(self) {
+        let Model { says: _, values: _ } = self;
+    }
 }

@@ -118,18 +118,20 @@ statement_names s = names_of s.terms
 abbrev empty : ℕ → Table
 empty told = record { numbered = told; names = [] }
 
-pub table-made : (told : ℕ) (p : NamedProblem) (s t u : Table) (js ks ls : List ℕ) (os : List NamedTerm) (ss : List NamedStatement) → s ≡ empty told → js ≡ [] → os ≡ terms_or_none p.objective → ss ≡ p.statements → Notes s js (names_of os) t ks → Notes t ks (flat_map (λ s. names_of s.terms) ss) u ls → (u ≡ table_of told (all_names p)) × (ls ≡ map (place_in (table_of told (all_names p))) (all_names p))
-table-made told p s t u js ks ls os ss starts none objective statements first rest =
+-- those of the objective, and then those of the statements
+pub notes-problem : (p : NamedProblem) (s t u : Table) (js ks ls : List ℕ) (os : List NamedTerm) (ss : List NamedStatement) → os ≡ terms_or_none p.objective → ss ≡ p.statements → Notes s js (names_of os) t ks → Notes t ks (flat_map (λ s. names_of s.terms) ss) u ls → Notes s js (all_names p) u ls
+notes-problem p s t u js ks ls os ss objective statements first rest =
     let names : names_of os ++ flat_map statement_names ss ≡ all_names p
     = ap (λ (ws : List NamedTerm). names_of ws ++ flat_map statement_names ss) objective ∙ ap (λ (ws : List NamedStatement). names_of (terms_or_none p.objective) ++ flat_map statement_names ws) statements in
-    let (noted, placed) : Notes (empty told) [] (all_names p) u ls
-    = subst (λ (w : Table). Notes w [] (all_names p) u ls) starts
-    (subst (λ (ws : List ℕ). Notes s ws (all_names p) u ls) none
-    (subst (λ (ns : List Name). Notes s js ns u ls) names
-    (notes-more s t u js ks ls (names_of os) (flat_map statement_names ss) first rest))) in
-    let is = noted_all-is (empty told) (all_names p) in (
-      noted ∙ is,
-      placed ∙ places-stay (empty told) (all_names p) ∙ ap (λ (w : Table). map (place_in w) (all_names p)) is,
+    subst (λ (ns : List Name). Notes s js ns u ls) names (notes-more s t u js ks ls (names_of os) (flat_map statement_names ss) first rest)
+
+-- what is noted from nothing on is the table of the names, and their places in it
+pub table-made : (told : ℕ) (ns : List Name) (s u : Table) (js ls : List ℕ) → s ≡ empty told → js ≡ [] → Notes s js ns u ls → (u ≡ table_of told ns) × (ls ≡ map (place_in u) ns)
+table-made told ns s u js ls starts none notes =
+    let (noted, placed) : Notes (empty told) [] ns u ls
+    = subst (λ (w : Table). Notes w [] ns u ls) starts (subst (λ (ws : List ℕ). Notes s ws ns u ls) none notes) in (
+      noted ∙ noted_all-is (empty told) ns,
+      placed ∙ places-stay (empty told) ns ∙ ap (λ (w : Table). map (place_in w) ns) (sym noted),
     )
 
 known-lits : (t : Table) (ls : List NamedLit) → AllByRecursion (IsKnown t) (map (λ l. l.name) ls) → All (λ l. IsKnown t l.name) ls

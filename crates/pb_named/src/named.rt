@@ -94,11 +94,22 @@ impl<'a> Model for Further<'a> {
 }
 
 /// A coefficient and one or more literals: the coefficient counts where all of them are true.
-#[derive(Debug, Drop)]
+#[derive(Debug)]
 pub struct NamedTerm<'a> {
     coef: i128,
     lit: NamedLit<'a>,
     more: Option<Further<'a>>,
+}
+
+// Written out: one call in the proof of a function that owns it.
+impl Drop for NamedTerm<'_> {
+    fn drop(self) {
+        let NamedTerm {
+            coef: _,
+            lit: _,
+            more: _,
+        } = self;
+    }
 }
 
 impl<'a> Model for NamedTerm<'a> {
@@ -170,11 +181,22 @@ impl<'a> NamedTerm<'a> {
 pub type NamedTerms<'a> = Seq<NamedTerm<'a>>;
 
 /// A statement as it is written.
-#[derive(Debug, Drop)]
+#[derive(Debug)]
 pub struct NamedStatement<'a> {
     pub terms: NamedTerms<'a>,
     pub relation: Relation,
     pub right: i128,
+}
+
+// Written out: one call in the proof of a function that owns it.
+impl Drop for NamedStatement<'_> {
+    fn drop(self) {
+        let NamedStatement {
+            terms: _,
+            relation: _,
+            right: _,
+        } = self;
+    }
 }
 
 /// What a text says, in its own names.

@@ -1,5 +1,5 @@
 //! The numbers of named variables.
-ghost use Rattle.std.specs.Prelude.{◌≡◌, ◌++◌, ◌+◌, ◌<◌, ◌≤◌, ◌^◌, IfOk, OnOk, IsErrOf, map, All};
+ghost use Rattle.std.specs.Prelude.{[], ◌≡◌, ◌++◌, ◌+◌, ◌<◌, ◌≤◌, ◌^◌, IfOk, OnOk, IsErrOf, map, All};
 ghost use Rattle.std.specs.Option.{option_map};
 ghost use Rattle.std.specs.List.{flat_map};
 ghost use Rattle.pb_base.specs.Firsts.{with_item, firsts_behind};
@@ -115,21 +115,18 @@ fn terms_in<'a, 'b>(objective: &'b Option<NamedTerms<'a>>) -> &'b [NamedTerm<'a>
     }
 }
 
-// The names of a problem, and their places.
-fn table_of<'a>(
-    alloc: Global,
-    told: u32,
+// Notes the names of a problem, and their places.
+fn note_problem<'a>(
+    table: &mut Table<'a>,
+    places: &mut Seq<usize>,
     problem: &NamedProblem<'a>,
-) -> Result<(Table<'a>, Seq<usize>), NoMemory>
-    requires { told < 2 ^ 31 }
-    ensures table { IfOk result (λ r. r.0 ≡ table_of told (all_names problem.now)) }
-    ensures places { IfOk result (λ r. r.1 ≡ map (place_in (table_of told (all_names problem.now))) (all_names problem.now)) }
+) -> Result<(), NoMemory>
+    ensures noted { OnOk result (table.new ≡ noted_all table.old (all_names problem.now)) }
+    ensures places { OnOk result (places.new ≡ places.old ++ places_from table.old (all_names problem.now)) }
 {
-    let mut table = Table::new(alloc, told);
-    let mut places = Seq::new(alloc);
-    note_terms(&mut table, &mut places, terms_in(&problem.objective))?;
-    note_statements(&mut table, &mut places, problem.statements.as_slice())?;
-    Ok((table, places))
+    note_terms(table, places, terms_in(&problem.objective))?;
+    note_statements(table, places, problem.statements.as_slice())?;
+    Ok(())
 }
 
 // Puts literals in numbers at the end.
@@ -345,6 +342,50 @@ fn objective_of(
     }
 }
 
+// A problem of its sums in numbers, with the lists of its free names and its products.
+fn with_lists(
+    alloc: Global,
+    table: &Table<'_>,
+    products: &ProductTable,
+    objective: Option<Terms>,
+    statements: Statements,
+) -> Result<Problem, NoMemory>
+    requires few { size table.now < 2 ^ 31 }
+    ensures { IfOk result (λ p. p ≡ record { vars = size table.now; numbered = table.now.numbered; names = table.now.names; products = products.now; objective = objective; statements = statements }) }
+{
+    let names = table.names(alloc)?;
+    Ok(Problem {
+        vars: table.size(),
+        numbered: table.numbered(),
+        names,
+        products: products.products(alloc)?,
+        objective,
+        statements,
+    })
+}
+
+// A problem in numbers, where no product was noted yet.
+fn in_numbers(
+    alloc: Global,
+    table: &Table<'_>,
+    products: &mut ProductTable,
+    places: &mut Places<'_>,
+    problem: NamedProblem<'_>,
+) -> Result<Problem, NumberFault>
+    requires fresh { products.old ≡ [] }
+    requires places { places.old ≡ map (place_in table.now) (all_names problem) }
+    requires objective { AreKnown table.now (terms_or_none problem.objective) }
+    requires statements { All (λ s. AreKnown table.now s.terms) problem.statements }
+    requires few { size table.now < 2 ^ 31 }
+    ensures ok { IfOk result (λ p. p ≡ by_table table.now problem.entry) }
+    ensures few { IfOk result (λ p. originals p < 2 ^ 31) }
+    ensures many { IsErrOf result HasTooMany → 2 ^ 31 ≤ originals (by_table table.now problem.entry) }
+{
+    let objective = objective_of(alloc, table, products, places, &problem.objective)?;
+    let statements = statements_of(alloc, table, products, places, problem.statements)?;
+    Ok(with_lists(alloc, table, products, objective, statements)?)
+}
+
 // A problem in numbers, where the places of its names are told.
 fn by_table(
     alloc: Global,
@@ -355,23 +396,37 @@ fn by_table(
     requires places { places.now ≡ map (place_in table.now) (all_names problem) }
     requires objective { AreKnown table.now (terms_or_none problem.objective) }
     requires statements { All (λ s. AreKnown table.now s.terms) problem.statements }
-    requires few { size table.now < 2 ^ 31 }
     ensures ok { IfOk result (λ p. p ≡ by_table table.now problem.entry) }
     ensures few { IfOk result (λ p. originals p < 2 ^ 31) }
     ensures many { IsErrOf result HasTooMany → 2 ^ 31 ≤ originals (by_table table.now problem.entry) }
 {
-    let mut places = Places::of(places);
+    if table.free() > (MAX_VARIABLES - table.numbered()) as usize {
+        return Err(NumberFault::Variables);
+    }
     let mut products = ProductTable::new(alloc);
-    let objective = objective_of(alloc, table, &mut products, &mut places, &problem.objective)?;
-    let statements = statements_of(alloc, table, &mut products, &mut places, problem.statements)?;
-    Ok(Problem {
-        vars: table.size(),
-        numbered: table.numbered(),
-        names: table.names(alloc)?,
-        products: products.products(alloc)?,
-        objective,
-        statements,
-    })
+    in_numbers(
+        alloc,
+        table,
+        &mut products,
+        &mut Places::of(places),
+        problem,
+    )
+}
+
+// A problem in numbers by a table that has no name yet.
+fn by_names<'a>(
+    alloc: Global,
+    table: &mut Table<'a>,
+    problem: NamedProblem<'a>,
+) -> Result<Problem, NumberFault>
+    requires { table.old.names ≡ [] }
+    ensures ok { IfOk result (λ p. p ≡ problem_of table.old.numbered problem.entry) }
+    ensures few { IfOk result (λ p. originals p < 2 ^ 31) }
+    ensures many { IsErrOf result HasTooMany → 2 ^ 31 ≤ originals (problem_of table.old.numbered problem.entry) }
+{
+    let mut places = Seq::new(alloc);
+    note_problem(table, &mut places, &problem)?;
+    by_table(alloc, table, places.as_slice(), problem)
 }
 
 /// The problem in numbers, where the first line of its text tells a number of variables.
@@ -384,9 +439,6 @@ pub fn number(alloc: Global, told: u32, problem: NamedProblem<'_>) -> Result<Pro
     ensures few { IfOk result (λ p. originals p < 2 ^ 31) }
     ensures many { IsErrOf result NumberFault.Variables → 2 ^ 31 ≤ originals (problem_of told problem.entry) }
 {
-    let (table, places) = table_of(alloc, told, &problem)?;
-    if table.free() > (MAX_VARIABLES - table.numbered()) as usize {
-        return Err(NumberFault::Variables);
-    }
-    by_table(alloc, &table, places.as_slice(), problem)
+    let mut table = Table::new(alloc, told);
+    by_names(alloc, &mut table, problem)
 }

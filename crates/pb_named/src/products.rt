@@ -10,7 +10,7 @@ use std::alloc::Global;
 use std::marker::Model;
 
 /// What the product of some literals comes to.
-#[derive(Debug, Drop)]
+#[derive(Drop)]
 pub enum Factor {
     /// 0, since two of them are opposite.
     Nought,
@@ -62,9 +62,15 @@ pub fn factor_of(lits: Lits) -> Factor
 }
 
 /// Products, each once, in first-seen order.
-#[derive(Drop)]
 pub struct ProductTable {
     sets: IndexSet<Vec<Lit>>,
+}
+
+// Written out: one call in the proof of a function that owns it.
+impl Drop for ProductTable {
+    fn drop(self) {
+        let ProductTable { sets: _ } = self;
+    }
 }
 
 impl Model for ProductTable {

@@ -13,10 +13,19 @@ use std::alloc::Global;
 use std::marker::Model;
 
 /// How many variables are named by numbers, and the free names of the others, in first-seen order.
-#[derive(Drop)]
 pub struct Table<'a> {
     numbered: u32,
     names: IndexSet<&'a [u8]>,
+}
+
+// Written out: one call in the proof of a function that owns it.
+impl Drop for Table<'_> {
+    fn drop(self) {
+        let Table {
+            numbered: _,
+            names: _,
+        } = self;
+    }
 }
 
 impl<'a> Model for Table<'a> {

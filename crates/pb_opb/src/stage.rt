@@ -6,14 +6,14 @@ use pb_base::{Expected, LimitKind, MAX_STATEMENTS, MAX_TERMS, Relation, WEIGHT_B
 use pb_named::NamedLit;
 
 /// What a sum belongs to.
-#[derive(Clone, Copy, Debug, PartialEq, Eq)]
+#[derive(Clone, Copy)]
 pub enum Part {
     Objective,
     Statement,
 }
 
 /// Where a reader stands, with what it has of the token before.
-#[derive(Clone, Copy, Debug, PartialEq, Eq)]
+#[derive(Clone, Copy)]
 pub enum Stage {
     Start,
     Next,
@@ -27,7 +27,7 @@ pub enum Stage {
 }
 
 /// What a token calls for.
-#[derive(Debug, Drop)]
+#[derive(Drop)]
 pub enum Step<'a> {
     To(Stage),
     /// A term begins with its first literal.

@@ -24,7 +24,6 @@ use std::alloc::Global;
 use std::marker::Model;
 
 /// The constraints that stand while a derivation is checked, by their ids. The sum of the coefficients and the degree of each are below 2^126.
-#[derive(Drop)]
 pub struct Database {
     original: u32,
     vars: u32,
@@ -42,6 +41,25 @@ pub struct Database {
     left: usize,
     limit: usize,
     alloc: Global,
+}
+
+// Written out: one call in the proof of a function that owns it.
+impl Drop for Database {
+    fn drop(self) {
+        let Database {
+            original: _,
+            vars: _,
+            slots: _,
+            entered: _,
+            engine: _,
+            idle: _,
+            rounds: _,
+            named: _,
+            left: _,
+            limit: _,
+            alloc: _,
+        } = self;
+    }
 }
 
 impl Model for Database {

@@ -10,10 +10,19 @@ use std::alloc::Global;
 use std::marker::Model;
 
 /// Constraints in order. The literals of all clauses stand in one list, so that a clause takes little.
-#[derive(Drop)]
 pub struct Constraints {
     alloc: Global,
     places: Places,
+}
+
+// Written out: one call in the proof of a function that owns it.
+impl Drop for Constraints {
+    fn drop(self) {
+        let Constraints {
+            alloc: _,
+            places: _,
+        } = self;
+    }
 }
 
 impl Model for Constraints {
@@ -96,6 +105,7 @@ impl Constraints {
     pub(crate) fn into_places(self) -> Places
         ensures { result ≡ map Some self }
     {
-        self.places
+        let Constraints { alloc: _, places } = self;
+        places
     }
 }

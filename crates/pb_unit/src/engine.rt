@@ -10,9 +10,8 @@ ghost use Rattle.pb_unit.specs.Ends.{Ends};
 ghost use Rattle.pb_base.specs.declared.literal.Lit.{Lit};
 
 use crate::constraints::Constraints;
-use crate::filling;
 use crate::kept::room_of;
-use crate::queue::{Phase, Queue};
+use crate::queue::Queue;
 use crate::rounds::Rounds;
 use crate::store::{self, Wear};
 use crate::trail::Trail;
@@ -31,12 +30,23 @@ pub enum Outcome {
 }
 
 /// Constraints, literals assumed beside them, and the literals that unit propagation has reached.
-#[derive(Drop)]
 pub struct Engine {
     alloc: Global,
     queue: Queue,
     assumed: Trail,
     wear: Wear,
+}
+
+// Written out: one call in the proof of a function that owns it.
+impl Drop for Engine {
+    fn drop(self) {
+        let Engine {
+            alloc: _,
+            queue: _,
+            assumed: _,
+            wear: _,
+        } = self;
+    }
 }
 
 impl Model for Engine {
@@ -66,27 +76,12 @@ impl Engine {
     {
         let places = constraints.into_places();
         let count = places.len();
-        let mut lists = filling::empty_index(alloc, vars, &places)?;
-        let mut kept = Vec::with_capacity(alloc, count)?;
-        let mut tight = Vec::new(alloc);
-        if !store::lay_all(&places, &mut kept, &mut tight) {
-            return Err(NoMemory);
-        }
-        if !filling::fill(alloc, &places, &mut lists, vars) {
-            return Err(NoMemory);
-        }
+        let assumed = Trail::new(alloc, vars)?;
+        let queue = Queue::over(alloc, vars, places)?;
         Ok(Engine {
             alloc,
-            queue: Queue {
-                places,
-                kept,
-                lists,
-                tight,
-                held: Trail::new(alloc, vars)?,
-                counted: 0,
-                phase: Phase::Fresh,
-            },
-            assumed: Trail::new(alloc, vars)?,
+            queue,
+            assumed,
             wear: Wear::new(alloc, count),
         })
     }
@@ -202,6 +197,12 @@ impl Engine {
     pub fn into_held(self) -> Rounds
         ensures { result ≡ record { vars = self.vars; lits = self.held } }
     {
-        Rounds::of(self.queue.held)
+        let Engine {
+            alloc: _,
+            queue,
+            assumed: _,
+            wear: _,
+        } = self;
+        Rounds::of(queue.into_held())
     }
 }

@@ -28,7 +28,7 @@ fn counts_of(alloc: Global, vars: u32, places: &Places) -> Result<Vec<u32>, NoMe
 }
 
 // No occurrences yet, with room for those of what stands.
-pub(crate) fn empty_index(alloc: Global, vars: u32, places: &Places) -> Result<Index, NoMemory>
+fn empty_index(alloc: Global, vars: u32, places: &Places) -> Result<Index, NoMemory>
     ensures size { IfOk result (λ lists. size_of lists ≡ 2 * vars + 2) }
     ensures empty { IfOk result (λ lists. (l : Lit) → list_at lists l ≡ []) }
 {
@@ -172,7 +172,7 @@ pub(crate) fn fill_range(
 }
 
 // All that stands, if there is memory.
-pub(crate) fn fill(alloc: Global, places: &Places, lists: &mut Index, vars: u32) -> bool
+fn fill(alloc: Global, places: &Places, lists: &mut Index, vars: u32) -> bool
     requires within { StandWithin vars places.now }
     requires width { size_of lists.old ≡ 2 * vars + 2 }
     requires empty { (l : Lit) → list_at lists.old l ≡ [] }
@@ -189,4 +189,17 @@ pub(crate) fn fill(alloc: Global, places: &Places, lists: &mut Index, vars: u32)
         low = high;
     }
     true
+}
+
+// The index of all that stands.
+pub(crate) fn index_of(alloc: Global, vars: u32, places: &Places) -> Result<Index, NoMemory>
+    requires { StandWithin vars places.now }
+    ensures { IfOk result (λ lists. IsFilled vars places.now lists) }
+{
+    let mut lists = empty_index(alloc, vars, places)?;
+    if fill(alloc, places, &mut lists, vars) {
+        Ok(lists)
+    } else {
+        Err(NoMemory)
+    }
 }

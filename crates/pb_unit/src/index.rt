@@ -11,7 +11,7 @@ use std::alloc::Global;
 use std::marker::Model;
 
 /// A constraint in which a literal stands, and its coefficient there.
-#[derive(Clone, Copy, Debug, PartialEq, Eq)]
+#[derive(Clone, Copy)]
 pub(crate) struct Occurrence {
     pub(crate) place: usize,
     pub(crate) coef: u128,

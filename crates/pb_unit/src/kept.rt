@@ -9,7 +9,7 @@ use crate::index::Occurrence;
 use pb_norm::Linear;
 
 /// What the terms of a constraint can still add, and with how much of that it needs no literal, whatever holds.
-#[derive(Clone, Copy, Debug, PartialEq, Eq)]
+#[derive(Clone, Copy)]
 pub(crate) struct Kept {
     pub(crate) room: u128,
     pub(crate) alert: u128,

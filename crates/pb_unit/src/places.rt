@@ -34,10 +34,16 @@ pub(crate) enum Slot {
 }
 
 /// Constraints by their places.
-#[derive(Drop)]
 pub(crate) struct Places {
     slots: Vec<Slot>,
     lits: Vec<Lit>,
+}
+
+// Written out: one call in the proof of a function that owns it.
+impl Drop for Places {
+    fn drop(self) {
+        let Places { slots: _, lits: _ } = self;
+    }
 }
 
 impl Model for Places {

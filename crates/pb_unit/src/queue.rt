@@ -1,5 +1,5 @@
 //! Propagation with kept rooms, occurrences of literals and a queue.
-ghost use Rattle.std.specs.Prelude.{◌≡◌, ◌≤◌, ◌<◌, ◌+◌, ◌^◌, ◌∷◌, [], ℕ, List, length, map, All, IfSome, IsNone};
+ghost use Rattle.std.specs.Prelude.{◌≡◌, ◌≤◌, ◌<◌, ◌+◌, ◌^◌, ◌∷◌, [], ℕ, List, length, map, All, IfOk, IfSome, IsNone};
 ghost use Rattle.std.specs.Bool.{OnTrue, OnFalse};
 ghost use Rattle.pb_base.specs.declared.literal.Lit.{Lit};
 ghost use Rattle.pb_norm.specs.Constraints.{Constraint, weight};
@@ -10,16 +10,20 @@ ghost use Rattle.pb_unit.specs.Trails.{oldest};
 ghost use Rattle.pb_unit.specs.Index.{code, size_of, unit_at, list_at, IsStore, AreListed, AreAlerts, sum_at, room_at, alert_at, HasRoom, IsCalmAt, AreCalm, AreLowered, IsTold, IsCounted};
 ghost use Rattle.pb_unit.specs.Kept.{IsQueue, IsInQueue, IsAtNow};
 ghost use Rattle.pb_unit.specs.Ends.{Ends};
+ghost use Rattle.pb_unit.specs.declared.queue.Phase.TheVariants.{Fresh};
 
 use crate::engine::Outcome;
+use crate::filling::index_of;
 use crate::index::{Index, Occurrence};
 use crate::kept::{Kept, lower, raise_all, raise_units, room_of};
 use crate::places::Places;
+use crate::store;
 use crate::trail::Trail;
-use pb_base::Lit;
+use pb_base::{Lit, NoMemory};
+use std::alloc::Global;
 
 /// How far propagation has come.
-#[derive(Clone, Copy, Debug, PartialEq, Eq)]
+#[derive(Clone, Copy)]
 pub(crate) enum Phase {
     /// No literal was told, and no constraint was looked at.
     Fresh,
@@ -30,7 +34,6 @@ pub(crate) enum Phase {
 }
 
 /// Constraints with their index and rooms, the literals that hold, and how many of those, the oldest, the rooms count.
-#[derive(Drop)]
 pub(crate) struct Queue {
     pub(crate) places: Places,
     pub(crate) kept: Vec<Kept>,
@@ -39,6 +42,21 @@ pub(crate) struct Queue {
     pub(crate) held: Trail,
     pub(crate) counted: usize,
     pub(crate) phase: Phase,
+}
+
+// Written out: one call in the proof of a function that owns it.
+impl Drop for Queue {
+    fn drop(self) {
+        let Queue {
+            places: _,
+            kept: _,
+            lists: _,
+            tight: _,
+            held: _,
+            counted: _,
+            phase: _,
+        } = self;
+    }
 }
 
 // Tells a literal to a constraint in which its negation stands. Whether the constraint has room enough.
@@ -310,6 +328,45 @@ pub(crate) fn uncount(
 }
 
 impl Queue {
+    // Over what stands. No literal holds, and nothing was looked at.
+    pub(crate) fn over(alloc: Global, vars: u32, places: Places) -> Result<Queue, NoMemory>
+        requires within { StandWithin vars places }
+        ensures places { IfOk result (λ q. q.places ≡ places) }
+        ensures held { IfOk result (λ q. q.held ≡ record { vars = vars; lits = [] }) }
+        ensures store { IfOk result (λ q. IsStore vars places q.lists q.kept.items q.tight.items) }
+        ensures counted { IfOk result (λ q. q.counted ≡ 0) }
+        ensures phase { IfOk result (λ q. q.phase ≡ Fresh) }
+    {
+        let held = Trail::new(alloc, vars)?;
+        let (kept, tight) = store::laid(alloc, &places)?;
+        let lists = index_of(alloc, vars, &places)?;
+        Ok(Queue {
+            places,
+            kept,
+            lists,
+            tight,
+            held,
+            counted: 0,
+            phase: Phase::Fresh,
+        })
+    }
+
+    // The literals that hold. The constraints are let go.
+    pub(crate) fn into_held(self) -> Trail
+        ensures { result ≡ self.held }
+    {
+        let Queue {
+            places: _,
+            kept: _,
+            lists: _,
+            tight: _,
+            held,
+            counted: _,
+            phase: _,
+        } = self;
+        held
+    }
+
     // Has all literals hold that are reached, or finds a constraint with too little room.
     pub(crate) fn propagate(&mut self) -> Outcome
         requires within { StandWithin self.old.held.vars self.old.places }

@@ -23,9 +23,15 @@ use std::marker::Model;
 
 /// Literals that hold, and what constraints make of them that are shown one by one. No constraint is kept: where few are to be
 /// shown, and that few times, this costs less than an engine.
-#[derive(Drop)]
 pub struct Rounds {
     held: Trail,
+}
+
+// Written out: one call in the proof of a function that owns it.
+impl Drop for Rounds {
+    fn drop(self) {
+        let Rounds { held: _ } = self;
+    }
 }
 
 impl Model for Rounds {

@@ -363,7 +363,7 @@ fn lay(kept: &mut Vec<Kept>, tight: &mut Vec<usize>, place: usize, at: Kept) -> 
 }
 
 // What is kept of all places, if there is memory.
-pub(crate) fn lay_all(places: &Places, kept: &mut Vec<Kept>, tight: &mut Vec<usize>) -> bool
+fn lay_all(places: &Places, kept: &mut Vec<Kept>, tight: &mut Vec<usize>) -> bool
     requires { kept.old.items ≡ [] }
     ensures { OnTrue result (AreLaid places.now kept.new.items tight.new.items) }
 {
@@ -373,6 +373,19 @@ pub(crate) fn lay_all(places: &Places, kept: &mut Vec<Kept>, tight: &mut Vec<usi
         }
     }
     true
+}
+
+// What is kept of all places, and which are tight.
+pub(crate) fn laid(alloc: Global, places: &Places) -> Result<(Vec<Kept>, Vec<usize>), NoMemory>
+    ensures { IfOk result (λ r. AreLaid places.now r.0.items r.1.items) }
+{
+    let mut kept = Vec::with_capacity(alloc, places.len())?;
+    let mut tight = Vec::new(alloc);
+    if lay_all(places, &mut kept, &mut tight) {
+        Ok((kept, tight))
+    } else {
+        Err(NoMemory)
+    }
 }
 
 // Takes an occurrence of a literal at a place where nothing stands out of the index, and its part out of the room there. Whether one was found.
