@@ -29,10 +29,13 @@ use Rattle.pb_check.specs.Turns.{Answer}
 use Rattle.pb_check.specs.Turns.Stage.{head_wanted}
 use Rattle.pb_check.specs.Walk.{Walks, WalksFrom, WalksBy, Walk, task_of}
 use Rattle.pb_check.specs.Outcomes.{StopsCheck}
-use Rattle.pb_check.specs.laws.Phases.{StopsOne, StopsBoth, LinesAnswer, HeadAnswer}
+use Rattle.pb_check.specs.laws.Phases.{StopsOne, StopsBoth, LinesAnswer}
 use Rattle.pb_check.proofs.BothStops.{stops_of_cnf, stops_both_weaker, both_stops}
 
 -- ---- behind the p line
+
+abbrev HeadAnswer : Problem → CnfHead → CnfReader → Reader → List ℕ → List ℕ → Answer → Type 0
+HeadAnswer problem head cnf proof c p answer = WalksFrom problem (rows_left proof p) head (symbols_left cnf c) (leb (originals problem) head.vars) answer
 
 lt-leb-false : (m n : ℕ) → m < n → leb n m ≡ false
 lt-leb-false m n less = by_test (leb n m) refl
@@ -53,40 +56,38 @@ too_few f p head cnf proof a is apart less =
 pub none_read : (cnf proof : Reader) (a : DeskState) → cnf.slot ≢ proof.slot → ReadsBoth cnf proof cnf proof a a (λ c d c' d'. Unit {0})
 none_read cnf proof a apart = both_begin cnf proof a (λ c d c' d'. Unit {0}) apart (λ c d. tt)
 
--- the database is that of the loaded constraints
-pub record IsLoaded (p : Problem) (head : CnfHead) (cnf : CnfReader) (db : Database) (count : ℕ) : Type 0 where
+-- the lines are checked over the loaded constraints of the problem
+pub record IsLoaded (p : Problem) (head : CnfHead) (cnf : CnfReader) (original : ℕ) (loaded : List Constraint) : Type 0 where
   pub vars : cnf.vars ≡ head.vars
   pub left : cnf.left ≡ head.clauses
   pub enough : originals p ≤ head.vars
-  pub counted : count ≡ length (loaded_of p)
-  pub database : db ≡ loaded_database (originals p) head.vars (loaded_of p)
+  pub original_is : original ≡ originals p
+  pub loaded_is : loaded ≡ loaded_of p
 
-pub database_is : (p : Problem) (head : CnfHead) (loaded : List Constraint) (db : Database) (given : List Constraint) (original : ℕ) → loaded ≡ loaded_of p → given ≡ loaded → original ≡ originals p → db ≡ loaded_database original head.vars given
-    → db ≡ loaded_database (originals p) head.vars (loaded_of p)
-database_is p head loaded db given original is same first made =
-    made ∙ ap (λ (n : ℕ). loaded_database n head.vars given) first ∙ ap (loaded_database (originals p) head.vars) (same ∙ is)
-
-pub loaded_is : (p : Problem) (head : CnfHead) (cnf : CnfReader) (db : Database) (loaded : List Constraint) (count : ℕ) → cnf.vars ≡ head.vars → cnf.left ≡ head.clauses → originals p ≤ head.vars → loaded ≡ loaded_of p → count ≡ length loaded
-    → db ≡ loaded_database (originals p) head.vars (loaded_of p) → IsLoaded p head cnf db count
-loaded_is p head cnf db loaded count vars left enough is counts made = record { vars = vars; left = left; enough = enough; counted = counts ∙ ap (λ (cs : List Constraint). length cs) is; database = made }
-
-lines_answer : (p : Problem) (head : CnfHead) (cnf : CnfReader) (proof : Reader) (db : Database) (count : ℕ) → IsLoaded p head cnf db count → (c d : List ℕ) (a : Answer) → LinesAnswer cnf db count proof c d a → HeadAnswer p head cnf proof c d a
-lines_answer p head cnf proof db count is c d a w =
+lines_answer : (p : Problem) (head : CnfHead) (cnf : CnfReader) (proof : Reader) (original : ℕ) (loaded : List Constraint) → IsLoaded p head cnf original loaded → (c d : List ℕ) (a : Answer)
+    → LinesAnswer cnf (loaded_database original head.vars loaded) (length loaded) proof c d a → HeadAnswer p head cnf proof c d a
+lines_answer p head cnf proof original loaded is c d a w =
     subst (λ (b : Bool). WalksFrom p (rows_left proof d) head (symbols_left cnf c) b a) (sym (le-leb (originals p) head.vars is.enough))
     (subst (λ (n : ℕ). Walks (task_of p head) head_wanted (record { left = n; symbols = symbols_left cnf c }) (rows_left proof d) a) is.left
-    (w (task_of p head) (record { same_vars = sym is.vars; same_count = sym is.counted; database = is.database })))
+    (w (task_of p head) (record {
+      same_vars = sym is.vars;
+      same_count = sym (ap (λ (cs : List Constraint). length cs) is.loaded_is);
+      database = ap (λ (n : ℕ). loaded_database n head.vars loaded) is.original_is ∙ ap (loaded_database (originals p) head.vars) is.loaded_is;
+    })))
 
-pub lines_given : (p : Problem) (head : CnfHead) (cnf cnf' : CnfReader) (proof proof' : Reader) (db : Database) (count : ℕ) (a b : DeskState) (answer : Answer) → IsLoaded p head cnf db count
-    → ReadsBoth cnf.lines proof cnf'.lines proof' a b (λ c d c' d'. LinesAnswer cnf db count proof c d answer) → ReadsBoth cnf.lines proof cnf'.lines proof' a b (λ c d c' d'. HeadAnswer p head cnf proof c d answer)
-lines_given p head cnf cnf' proof proof' db count a b answer is reads =
-    both_weaker cnf.lines proof cnf'.lines proof' a b (λ c d c' d'. LinesAnswer cnf db count proof c d answer) (λ c d c' d'. HeadAnswer p head cnf proof c d answer)
-    (λ c d c' d' w. lines_answer p head cnf proof db count is c d answer w) reads
+pub lines_given : (p : Problem) (head : CnfHead) (cnf cnf' : CnfReader) (proof proof' : Reader) (original : ℕ) (loaded : List Constraint) (a b : DeskState) (answer : Answer) → IsLoaded p head cnf original loaded
+    → ReadsBoth cnf.lines proof cnf'.lines proof' a b (λ c d c' d'. LinesAnswer cnf (loaded_database original head.vars loaded) (length loaded) proof c d answer)
+    → ReadsBoth cnf.lines proof cnf'.lines proof' a b (λ c d c' d'. HeadAnswer p head cnf proof c d answer)
+lines_given p head cnf cnf' proof proof' original loaded a b answer is reads =
+    both_weaker cnf.lines proof cnf'.lines proof' a b (λ c d c' d'. LinesAnswer cnf (loaded_database original head.vars loaded) (length loaded) proof c d answer) (λ c d c' d'. HeadAnswer p head cnf proof c d answer)
+    (λ c d c' d' w. lines_answer p head cnf proof original loaded is c d answer w) reads
 
-pub lines_stopped : (f : CheckFault) (p : Problem) (head : CnfHead) (cnf cnf' : CnfReader) (proof proof' : Reader) (db : Database) (count : ℕ) (a b : DeskState) → IsLoaded p head cnf db count
-    → StopsBoth f cnf.lines proof cnf'.lines proof' a b (λ c d f. LinesAnswer cnf db count proof c d (Err f)) → StopsBoth f cnf.lines proof cnf'.lines proof' a b (λ c d f. HeadAnswer p head cnf proof c d (Err f))
-lines_stopped f p head cnf cnf' proof proof' db count a b is stops =
-    stops_both_weaker f cnf.lines proof cnf'.lines proof' a b (λ c d f. LinesAnswer cnf db count proof c d (Err f)) (λ c d f. HeadAnswer p head cnf proof c d (Err f))
-    (λ c d f w. lines_answer p head cnf proof db count is c d (Err f) w) stops
+pub lines_stopped : (f : CheckFault) (p : Problem) (head : CnfHead) (cnf cnf' : CnfReader) (proof proof' : Reader) (original : ℕ) (loaded : List Constraint) (a b : DeskState) → IsLoaded p head cnf original loaded
+    → StopsBoth f cnf.lines proof cnf'.lines proof' a b (λ c d f. LinesAnswer cnf (loaded_database original head.vars loaded) (length loaded) proof c d (Err f))
+    → StopsBoth f cnf.lines proof cnf'.lines proof' a b (λ c d f. HeadAnswer p head cnf proof c d (Err f))
+lines_stopped f p head cnf cnf' proof proof' original loaded a b is stops =
+    stops_both_weaker f cnf.lines proof cnf'.lines proof' a b (λ c d f. LinesAnswer cnf (loaded_database original head.vars loaded) (length loaded) proof c d (Err f)) (λ c d f. HeadAnswer p head cnf proof c d (Err f))
+    (λ c d f w. lines_answer p head cnf proof original loaded is c d (Err f) w) stops
 
 -- ---- from the first byte of both texts on
 
@@ -97,6 +98,13 @@ WholeAnswer p cnf proof c d answer = WalksBy p (rows_left proof d) (start_of (ro
 pub record AreNew (x y : ℕ) (cnf : CnfReader) (proof : Reader) : Type 0 where
   pub cnf_new : cnf ≡ new_reader x
   pub proof_new : proof ≡ (new_reader y).lines
+
+-- a new reader is one of its slot
+pub cnf_of_slot : (x : ℕ) (cnf : CnfReader) → cnf ≡ new_reader x → cnf ≡ new_reader cnf.lines.slot
+cnf_of_slot x cnf is = subst (λ (r : CnfReader). r ≡ new_reader r.lines.slot) (sym is) refl
+
+pub lines_of_slot : (y : ℕ) (proof : Reader) → proof ≡ (new_reader y).lines → proof ≡ (new_reader proof.slot).lines
+lines_of_slot y proof is = subst (λ (r : Reader). r ≡ (new_reader r.slot).lines) (sym is) refl
 
 pub apart_new : (x y : ℕ) (cnf : CnfReader) (proof : Reader) → AreNew x y cnf proof → x ≢ y → cnf.lines.slot ≢ proof.slot
 apart_new x y cnf proof new apart e = apart (sym (ap (λ (r : CnfReader). r.lines.slot) new.cnf_new) ∙ e ∙ ap (λ (r : Reader). r.slot) new.proof_new)

@@ -1,13 +1,17 @@
 //! Checking a derivation.
-ghost use Rattle.std.specs.Prelude.{◌≡◌, ◌≢◌, ◌<◌, ◌^◌, [], true, IsTrue, Ok, Err, None, IfOk, IfErr};
+ghost use Rattle.std.specs.Prelude.{◌≡◌, ◌≢◌, ◌<◌, ◌^◌, [], length, true, IsTrue, Ok, Err, None, IfOk, IfErr, All};
 ghost use Rattle.pb_base.specs.Problems.{IsWithinLimits};
 ghost use Rattle.pb_desk.specs.Desk.{IfTold, IsSteady};
 ghost use Rattle.pb_desk.specs.TwoSlots.{TakesBoth};
+ghost use Rattle.pb_norm.specs.Constraints.{AreVarsWithin};
 ghost use Rattle.pb_norm.specs.Products.{loaded_of};
+ghost use Rattle.pb_dimacs.specs.CnfReaders.{new_reader};
 ghost use Rattle.pb_dimacs.specs.CnfRows.{cnf_limits};
+ghost use Rattle.pb_steps.specs.Database.{loaded_database};
+ghost use Rattle.pb_steps.specs.Operations.{IsNarrow};
 ghost use Rattle.pb_check.specs.Outcomes.{StopsCheck, NamesText};
 ghost use Rattle.pb_check.specs.Walk.{Walk};
-ghost use Rattle.pb_check.specs.laws.Calls.{AnswersLines, StopsLines, AnswersBehind, StopsBehind};
+ghost use Rattle.pb_check.specs.laws.Calls.{AnswersLines, StopsLines};
 ghost use Rattle.pb_check.specs.KeptClauses.{HasVars, IsKept, SaysClauses};
 ghost use Rattle.pb_check.specs.laws.Keeping.{KeepsLines};
 
@@ -17,8 +21,8 @@ use crate::stages::{run_steps, take_count, take_head, take_rest};
 use crate::verdict::{CheckFault, Verdict};
 use pb_base::{Clauses, MAX_FILE, MAX_LINE, MAX_LINES, Problem};
 use pb_desk::{Desk, LineLimits, LineReader};
-use pb_dimacs::{ClauseReader, CnfHead};
-use pb_norm::{Linears, load};
+use pb_dimacs::ClauseReader;
+use pb_norm::{Linear, Linears, load};
 use pb_rules::Database;
 use std::alloc::Global;
 
@@ -71,41 +75,86 @@ fn check_lines<D: Desk>(
     }
 }
 
-// Checks behind the p line.
-fn check_behind<D: Desk>(
+// Checks the lines over constraints, whose variables are among the CNF's.
+fn check_over<D: Desk>(
     alloc: Global,
-    problem: &Problem,
-    loaded: &Linears,
-    head: &CnfHead,
+    original: u32,
+    vars: u32,
+    loaded: &[Linear],
     desk: &mut D,
     cnf: &mut ClauseReader,
     kept: &mut Kept,
     lines: &mut LineReader,
 ) -> Result<Verdict, CheckFault>
-    requires within { IsWithinLimits problem.now }
-    requires loaded { loaded.now ≡ loaded_of problem.now }
-    requires vars { cnf.old.vars ≡ head.now.vars }
-    requires left { cnf.old.left ≡ head.now.clauses }
+    requires within { AreVarsWithin vars loaded.now }
+    requires narrow { All IsNarrow loaded.now }
     requires apart { cnf.old.lines.slot ≢ lines.old.slot }
     requires open { IsTrue ((D.state desk.old).view.reading lines.old.slot) }
     requires fine { lines.old.fault ≡ None }
     requires limits { lines.old.limits ≡ cnf_limits }
     requires cnf_open { IsTrue ((D.state desk.old).view.reading cnf.old.lines.slot) }
     requires cnf_fine { cnf.old.fault ≡ None }
-    ensures verdict { IfOk result (λ v. AnswersBehind v problem.now head.now cnf.old lines.old cnf.new lines.new (D.state desk.old) (D.state desk.new)) }
+    ensures verdict { IfOk result (λ v. AnswersLines v (length loaded.now) cnf.old (loaded_database original vars loaded.now) lines.old cnf.new lines.new (D.state desk.old) (D.state desk.new)) }
     ensures keeps { IfOk result (λ v. KeepsLines v kept.old cnf.old lines.old kept.new cnf.new lines.new (D.state desk.old) (D.state desk.new)) }
-    ensures stopped { IfErr result (λ fault. StopsBehind fault problem.now head.now cnf.old lines.old cnf.new lines.new (D.state desk.old) (D.state desk.new)) }
+    ensures stopped { IfErr result (λ fault. StopsLines fault (length loaded.now) cnf.old (loaded_database original vars loaded.now) lines.old cnf.new lines.new (D.state desk.old) (D.state desk.new)) }
     ensures named { IfErr result NamesText }
     ensures steady { IsSteady (D.state desk.old) → result ≢ Err CheckFault.ReadFault }
 {
-    if head.vars < problem.originals() {
-        return Err(too_few_vars(head));
-    }
-    let mut db = match Database::new(alloc, problem.originals(), head.vars, loaded.as_slice()) {
-        Ok(db) => db,
-        Err(_) => return Err(CheckFault::NoMemory),
+    let Ok(mut db) = Database::new(alloc, original, vars, loaded) else {
+        return Err(CheckFault::NoMemory);
     };
-    check_lines(alloc, desk, cnf, kept, lines, &mut db, loaded.len() as u64)
+    let answer = check_lines(alloc, desk, cnf, kept, lines, &mut db, loaded.len() as u64);
+    // Its many parts go in a call of their own, where the proof has nothing else to carry along.
+    drop(db);
+    answer
+}
+
+// Checks both texts, of which nothing was read yet. Beside the verdict stands how many variables the CNF has.
+fn check_texts<D: Desk>(
+    alloc: Global,
+    problem: &Problem,
+    loaded: &Linears,
+    desk: &mut D,
+    cnf: &mut ClauseReader,
+    kept: &mut Kept,
+    lines: &mut LineReader,
+) -> Result<(Verdict, u32), CheckFault>
+    requires within { IsWithinLimits problem.now }
+    requires loaded { loaded.now ≡ loaded_of problem.now }
+    requires cnf_new { cnf.old ≡ new_reader cnf.old.lines.slot }
+    requires lines_new { lines.old ≡ (new_reader lines.old.slot).lines }
+    requires apart { cnf.old.lines.slot ≢ lines.old.slot }
+    requires cnf_open { IsTrue ((D.state desk.old).view.reading cnf.old.lines.slot) }
+    requires open { IsTrue ((D.state desk.old).view.reading lines.old.slot) }
+    requires nothing { kept.old.clauses ≡ [] }
+    ensures verdict { IfOk result (λ r. TakesBoth cnf.old.lines.slot lines.old.slot (λ c d. Walk problem.now c d (Ok r.0)) (D.state desk.old) (D.state desk.new)) }
+    ensures few_vars { IfOk result (λ r. r.1 < 2 ^ 31) }
+    ensures vars { IfOk result (λ r. IfTold (D.state desk.old) (λ t. HasVars (t.left cnf.old.lines.slot) r.1)) }
+    ensures clauses { kept.old.wanted ≡ true → IfOk result (λ r. r.0 ≡ Verdict.Accepted → IfTold (D.state desk.old) (λ t. SaysClauses (t.left cnf.old.lines.slot) r.1 kept.new.clauses)) }
+    ensures stopped { IfErr result (StopsCheck problem.now cnf.old.lines.slot lines.old.slot (D.state desk.old) (D.state desk.new)) }
+    ensures named { IfErr result NamesText }
+    ensures steady { IsSteady (D.state desk.old) → result ≢ Err CheckFault.ReadFault }
+{
+    let head = match cnf.head(desk) {
+        Ok(head) => head,
+        Err(fault) => return Err(of_cnf(fault)),
+    };
+    if head.vars < problem.originals() {
+        return Err(too_few_vars(&head));
+    }
+    match check_over(
+        alloc,
+        problem.originals(),
+        head.vars,
+        loaded.as_slice(),
+        desk,
+        cnf,
+        kept,
+        lines,
+    ) {
+        Ok(verdict) => Ok((verdict, head.vars)),
+        Err(fault) => Err(fault),
+    }
 }
 
 // Checks a derivation, and keeps the clauses of the CNF if they are wanted. Beside the verdict stands how many variables the CNF has.
@@ -132,35 +181,24 @@ fn check_by<D: Desk>(
     ensures named { IfErr result NamesText }
     ensures steady { IsSteady (D.state desk.old) → result ≢ Err CheckFault.ReadFault }
 {
-    let loaded = match load(alloc, problem) {
-        Ok(loaded) => loaded,
-        Err(_) => return Err(CheckFault::NoMemory),
+    let Ok(loaded) = load(alloc, problem) else {
+        return Err(CheckFault::NoMemory);
     };
-    let mut clauses = match ClauseReader::new(alloc, cnf) {
-        Ok(clauses) => clauses,
-        Err(_) => return Err(CheckFault::NoMemory),
+    let Ok(mut clauses) = ClauseReader::new(alloc, cnf) else {
+        return Err(CheckFault::NoMemory);
     };
-    let mut lines = match LineReader::new(alloc, proof, LIMITS) {
-        Ok(lines) => lines,
-        Err(_) => return Err(CheckFault::NoMemory),
+    let Ok(mut lines) = LineReader::new(alloc, proof, LIMITS) else {
+        return Err(CheckFault::NoMemory);
     };
-    let head = match clauses.head(desk) {
-        Ok(head) => head,
-        Err(fault) => return Err(of_cnf(fault)),
-    };
-    match check_behind(
+    check_texts(
         alloc,
         problem,
         &loaded,
-        &head,
         desk,
         &mut clauses,
         kept,
         &mut lines,
-    ) {
-        Ok(verdict) => Ok((verdict, head.vars)),
-        Err(fault) => Err(fault),
-    }
+    )
 }
 
 /// Checks a derivation for a problem and a CNF, which two open slots have, each from its first byte on. Of both texts nothing is kept but a line, a clause and

@@ -18,7 +18,7 @@ use pb_rules::{Database, RuleFault};
 use pb_steps::{Denied, Step};
 
 /// What a line among the steps gives.
-#[derive(Clone, Copy, PartialEq, Eq, Debug)]
+#[derive(Clone, Copy)]
 pub enum Taken {
     /// The steps go on.
     On,
@@ -36,8 +36,10 @@ fn judge(db: &mut Database, step: &Step, next: Option<&Clause>) -> Result<Taken,
 {
     match db.apply(step, next) {
         Ok(_) => Ok(Taken::On),
-        Err(RuleFault::Denied(denied)) => Ok(Taken::Denied(denied)),
-        Err(RuleFault::NoMemory) => Err(NoMemory),
+        Err(fault) => match fault {
+            RuleFault::Denied(denied) => Ok(Taken::Denied(denied)),
+            RuleFault::NoMemory => Err(NoMemory),
+        },
     }
 }
 

@@ -1,6 +1,6 @@
 -- Line after line of a refutation, over lines that come as they are needed.
 use Rattle.std.proofs.Common.{◌≡◌, ◌+◌, ℕ, true, false, List, [], ◌∷◌, Option, Ok, Err, sym, ap, ◌∙◌, subst}
-use Rattle.std.specs.Prelude.{Result, IfErr}
+use Rattle.std.specs.Prelude.{Result, IfErr, OnOk}
 use Rattle.pb_base.specs.declared.place.Place.{Place}
 use Rattle.pb_base.specs.declared.expected.Expected.{Expected}
 use Rattle.pb_base.specs.declared.limit.LimitKind.{LimitKind}
@@ -24,8 +24,8 @@ use Rattle.pb_lrat.specs.declared.refute_fault.RefuteFault.{RefuteFault}
 use Rattle.pb_lrat.specs.declared.refute_fault.RefuteFault.TheVariants.{Token, Limit, NotRefuted, Failed, NoMemory}
 use Rattle.pb_lrat.specs.LratStates.{LratState, started, after_line, IsDueFault}
 use Rattle.pb_lrat.specs.LratWalk.{LratEnding, ending_of, walk_by, walk_from, lrat_walk}
-use Rattle.pb_lrat.specs.LratWalk.LratEnding.{not_refuted, refused, limited}
-use Rattle.pb_lrat.specs.Refuting.{of_lrat, of_line, Ends, StopsLines, StopsRefuting}
+use Rattle.pb_lrat.specs.LratWalk.LratEnding.{refuted, not_refuted, refused, limited}
+use Rattle.pb_lrat.specs.Refuting.{of_lrat, of_line, Ends, Refutes, RefutesLines, StopsLines, StopsRefuting}
 
 -- what is left ends the same
 abbrev pub EndsSame : LratState → Reader → LratState → Reader → List ℕ → List ℕ → Type 0
@@ -108,3 +108,9 @@ pub stops_text : {A : Type 0} (r : Result A RefuteFault) (slot vars : ℕ) (clau
 stops_text (Ok x) slot vars clauses s old new a b at is stops = tt
 stops_text (Err f) slot vars clauses s old new a b at is stops =
     stops_at_start f slot vars clauses new a b (subst (λ (r : Reader). StopsLines f (started vars clauses) r new a b) at (subst (λ (t : LratState). StopsLines f t old new a b) is stops))
+
+pub refutes_text : {A : Type 0} (r : Result A RefuteFault) (slot vars : ℕ) (clauses : List (List Lit)) (s : LratState) (old new : Reader) (a b : DeskState) → old ≡ (new_reader slot).lines → s ≡ started vars clauses → OnOk r (RefutesLines s old new a b)
+    → OnOk r (Refutes vars clauses slot a b)
+refutes_text (Ok x) slot vars clauses s old new a b at is reads =
+    from_start slot vars clauses new.ahead a b refuted (subst (λ (r : Reader). RefutesLines (started vars clauses) r new a b) at (subst (λ (t : LratState). RefutesLines t old new a b) is reads))
+refutes_text (Err f) slot vars clauses s old new a b at is reads = tt

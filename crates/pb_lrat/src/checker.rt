@@ -16,13 +16,25 @@ use std::alloc::Global;
 use std::marker::Model;
 
 /// A checker of an LRAT refutation, line by line.
-#[derive(Drop)]
 pub struct LratChecker {
     alloc: Global,
     vars: u32,
     store: Store,
     trail: Trail,
     refuted: bool,
+}
+
+// Written out: one call in the proof of a function that owns it.
+impl Drop for LratChecker {
+    fn drop(self) {
+        let LratChecker {
+            alloc: _,
+            vars: _,
+            store: _,
+            trail: _,
+            refuted: _,
+        } = self;
+    }
 }
 
 impl Model for LratChecker {

@@ -1,11 +1,9 @@
 -- What each part of checking says of the desk, of its readers and of the answer.
 use Rattle.std.specs.Prelude.{◌≡◌, ℕ, List, length, Option, Ok, Err}
-use Rattle.pb_base.specs.declared.problem.Problem.{Problem}
 use Rattle.pb_desk.specs.Desk.{DeskState}
 use Rattle.pb_desk.specs.LineReading.{TakesAhead}
 use Rattle.pb_desk.specs.LineReaders.{Reader}
 use Rattle.pb_desk.specs.TwoSlots.{ReadsBoth}
-use Rattle.pb_dimacs.specs.declared.head.CnfHead.{CnfHead}
 use Rattle.pb_dimacs.specs.CnfReaders.{CnfReader}
 use Rattle.pb_dimacs.specs.Cursors.{rows_left}
 use Rattle.pb_steps.specs.declared.step.Step.{Step}
@@ -17,7 +15,7 @@ use Rattle.pb_check.specs.declared.taking.Taken.{Taken}
 use Rattle.pb_check.specs.Turns.{Answer, Task, Stage, Clauses, at_out, at_end, step_turn, next_in}
 use Rattle.pb_check.specs.Turns.Stage.{head_wanted, count_wanted, at_steps, ended}
 use Rattle.pb_check.specs.Walk.{Walks}
-use Rattle.pb_check.specs.laws.Phases.{StopsOne, StopsBoth, NextSays, NextStops, Leads, clauses_of, TurnGives, TurnStops, LineGives, StepsGive, StepsStop, LinesAnswer, HeadAnswer}
+use Rattle.pb_check.specs.laws.Phases.{StopsOne, StopsBoth, NextSays, NextStops, Leads, clauses_of, TurnGives, TurnStops, LineGives, StepsGive, StepsStop, LinesAnswer}
 
 -- ---- the next line that says something
 
@@ -94,16 +92,10 @@ TakesSteps verdict cnf db proof cnf' proof' a b = ReadsBoth cnf.lines proof cnf'
 abbrev pub StopsSteps : CheckFault → CnfReader → Database → Reader → CnfReader → Reader → DeskState → DeskState → Type 0
 StopsSteps fault cnf db proof cnf' proof' a b = StopsBoth fault cnf.lines proof cnf'.lines proof' a b (λ c p fault. StepsStop cnf db proof c p fault)
 
--- ---- all lines, and all behind the p line
+-- ---- all lines
 
 abbrev pub AnswersLines : Verdict → ℕ → CnfReader → Database → Reader → CnfReader → Reader → DeskState → DeskState → Type 0
 AnswersLines v loaded cnf db proof cnf' proof' a b = ReadsBoth cnf.lines proof cnf'.lines proof' a b (λ c p c' p'. LinesAnswer cnf db loaded proof c p (Ok v))
 
 abbrev pub StopsLines : CheckFault → ℕ → CnfReader → Database → Reader → CnfReader → Reader → DeskState → DeskState → Type 0
 StopsLines fault loaded cnf db proof cnf' proof' a b = StopsBoth fault cnf.lines proof cnf'.lines proof' a b (λ c p fault. LinesAnswer cnf db loaded proof c p (Err fault))
-
-abbrev pub AnswersBehind : Verdict → Problem → CnfHead → CnfReader → Reader → CnfReader → Reader → DeskState → DeskState → Type 0
-AnswersBehind v problem head cnf proof cnf' proof' a b = ReadsBoth cnf.lines proof cnf'.lines proof' a b (λ c p c' p'. HeadAnswer problem head cnf proof c p (Ok v))
-
-abbrev pub StopsBehind : CheckFault → Problem → CnfHead → CnfReader → Reader → CnfReader → Reader → DeskState → DeskState → Type 0
-StopsBehind fault problem head cnf proof cnf' proof' a b = StopsBoth fault cnf.lines proof cnf'.lines proof' a b (λ c p fault. HeadAnswer problem head cnf proof c p (Err fault))

@@ -1,11 +1,8 @@
 -- What is left of both texts while a derivation is checked, and what its lines give (our own).
-use Rattle.std.specs.Prelude.{◌≡◌, ℕ, ◌+◌, List, [], ◌∷◌, length, Option, Some, None, Result, Ok, Err, Bool, true, false, if◌then◌else◌, nat_le}
-use Rattle.pb_base.specs.declared.problem.Problem.{Problem}
-use Rattle.pb_base.specs.Problems.{originals}
+use Rattle.std.specs.Prelude.{◌≡◌, ℕ, ◌+◌, List, [], ◌∷◌, length, Option, Some, None, Result, Ok, Err, Bool, true, false, if◌then◌else◌}
 use Rattle.pb_desk.specs.Desk.{DeskState}
 use Rattle.pb_desk.specs.LineReading.{TakesAhead, FailsInLine}
 use Rattle.pb_desk.specs.LineReaders.{Reader}
-use Rattle.pb_dimacs.specs.declared.head.CnfHead.{CnfHead}
 use Rattle.pb_dimacs.specs.CnfReaders.{CnfReader, symbols_left}
 use Rattle.pb_dimacs.specs.CnfRows.{CnfRow}
 use Rattle.pb_dimacs.specs.CnfRows.CnfRow.{plain, too_long, last}
@@ -23,7 +20,7 @@ use Rattle.pb_check.specs.declared.taking.Taken.{Taken}
 use Rattle.pb_check.specs.declared.taking.Taken.TheVariants as taken
 use Rattle.pb_check.specs.Turns.{Answer, Task, Stage, Clauses, Turn}
 use Rattle.pb_check.specs.Turns.Stage.{head_wanted, at_steps, ended}
-use Rattle.pb_check.specs.Walk.{Follows, Walks, WalksFrom}
+use Rattle.pb_check.specs.Walk.{Follows, Walks}
 use Rattle.pb_desk.specs.TwoSlots.{FailsBoth, ReadsBoth}
 
 -- ---- stops
@@ -118,7 +115,3 @@ pub record IsTask (task : Task) (vars count : ℕ) (db : Database) : Type 0 wher
 
 abbrev pub LinesAnswer : CnfReader → Database → ℕ → Reader → List ℕ → List ℕ → Answer → Type 0
 LinesAnswer cnf db count proof c p answer = (task : Task) → IsTask task cnf.vars count db → Walks task head_wanted (clauses_of cnf c) (rows_left proof p) answer
-
--- the answer behind the p line, from the first line on
-abbrev pub HeadAnswer : Problem → CnfHead → CnfReader → Reader → List ℕ → List ℕ → Answer → Type 0
-HeadAnswer problem head cnf proof c p answer = WalksFrom problem (rows_left proof p) head (symbols_left cnf c) (nat_le (originals problem) head.vars) answer

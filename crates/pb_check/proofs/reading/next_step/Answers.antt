@@ -5,7 +5,7 @@ use Rattle.pb_dimacs.proofs.RowLemmas.{row_given, row_stopped}
 use Rattle.pb_check.specs.declared.verdict.CheckFault.{CheckFault}
 use Rattle.pb_check.specs.laws.Phases.{NextStops, StopsOne}
 use Rattle.pb_desk.specs.LineReaders.{GivesLine}
-use Rattle.pb_check.proofs.NextLines.{SaysSame, row_stops, row_unsaid, row_said, row_faulty}
+use Rattle.pb_check.proofs.NextLines.{SaysSame, row_stops, row_unsaid, row_said, row_last, row_faulty}
 use Rattle.pb_check.proofs.reading.next_step.Goals as goal
 
 pub rows-init : goal.rows-init
@@ -32,6 +32,14 @@ returns-in-Err-read_step-clause-stopped g c =
     let more = subst (λ (m : Bool). GivesRow m c.rows.lines c.next_line.new.self b d) c.if-not-more.false (row_given c.in-Ok.more c.rows.lines c.next_line.new.self b d (c.in-Ok.ensures.line c.rows.invariant.goes_on.fine)) in
     subst (λ (f : CheckFault). StopsOne f c.args.lines.now c.next_line.new.self a d (λ text f. NextStops (rows_left c.args.lines.now text) f)) (sym c.of_step.ensures.value)
     (row_faulty c.in-Err-read_step.fault c.args.lines.now c.rows.lines c.next_line.new.self a b d c.line.result.now c.number.result c.rows.invariant.goes_on.slot c.line.ensures c.number.ensures c.in-Err-read_step.ensures.fault c.rows.invariant.reads more)
+
+pub returns-then-not-more-clause-next : goal.returns-then-not-more-clause-next
+returns-then-not-more-clause-next g c =
+    let a = g.D.Desk.state c.args.desk.now in
+    let b = g.D.Desk.state c.rows.desk in
+    let d = g.D.Desk.state c.next_line.new.desk in
+    let none = subst (λ (m : Bool). GivesRow m c.rows.lines c.next_line.new.self b d) c.if-not-more.true (row_given c.in-Ok.more c.rows.lines c.next_line.new.self b d (c.in-Ok.ensures.line c.rows.invariant.goes_on.fine)) in
+    row_last c.args.lines.now c.rows.lines c.next_line.new.self a b d c.rows.invariant.goes_on.slot c.rows.invariant.reads none
 
 pub returns-then-not-says_nothing-clause-next : goal.returns-then-not-says_nothing-clause-next
 returns-then-not-says_nothing-clause-next g c =

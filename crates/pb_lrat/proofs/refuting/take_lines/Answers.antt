@@ -1,10 +1,13 @@
-use Rattle.std.proofs.Common.{Bool, sym, ◌∙◌, subst}
+use Rattle.std.proofs.Common.{Bool, ℕ, ◌+◌, sym, ap, ◌∙◌, subst}
+use Rattle.std.specs.Prelude.{if◌then◌else◌}
 use Rattle.pb_desk.specs.LineReaders.{GivesLine}
 use Rattle.pb_dimacs.specs.Cursors.{GivesRow}
 use Rattle.pb_dimacs.proofs.RowLemmas.{row_given, row_stopped}
 use Rattle.pb_lrat.specs.declared.refute_fault.RefuteFault.{RefuteFault}
+use Rattle.pb_lrat.specs.declared.denied.LratDenied.TheVariants.{NoEmptyClause}
+use Rattle.pb_lrat.specs.LratWalk.LratEnding.{refuted, not_refuted}
 use Rattle.pb_lrat.specs.Refuting.{StopsLines}
-use Rattle.pb_lrat.proofs.Walking.{line_taken, line_stopped, row_missed}
+use Rattle.pb_lrat.proofs.Walking.{line_taken, line_stopped, row_missed, text_ended}
 use Rattle.pb_lrat.proofs.refuting.take_lines.Goals as goal
 
 pub returns-in-Err-clause-stopped : goal.returns-in-Err-clause-stopped
@@ -15,6 +18,26 @@ returns-in-Err-clause-stopped g c =
     subst (λ (f : RefuteFault). StopsLines f c.args.checker.now c.args.lines.now c.next_line.new.self a d) (sym c.of_line.ensures)
     (row_missed c.in-Err.fault c.args.checker.now c.rows.checker c.args.lines.now c.rows.lines c.next_line.new.self a b d c.rows.invariant.goes_on.slot c.rows.invariant.reads
     (row_stopped c.in-Err.fault c.rows.lines c.next_line.new.self b d (c.in-Err.ensures.stopped c.rows.invariant.goes_on.fine).cause))
+
+pub returns-then-finish-clause-refuted : goal.returns-then-finish-clause-refuted
+returns-then-finish-clause-refuted g c =
+    let a = g.D.Desk.state c.args.desk.now in
+    let b = g.D.Desk.state c.rows.desk in
+    let d = g.D.Desk.state c.next_line.new.desk in
+    let n = c.next_line.new.self.number + 1 in
+    let none = subst (λ (m : Bool). GivesRow m c.rows.lines c.next_line.new.self b d) c.if-not-more.true (row_given c.in-Ok.more c.rows.lines c.next_line.new.self b d (c.in-Ok.ensures.line c.rows.invariant.goes_on.fine)) in
+    text_ended c.args.checker.now c.rows.checker c.args.lines.now c.rows.lines c.next_line.new.self a b d refuted c.rows.invariant.goes_on.slot c.rows.invariant.reads none
+    (ap (λ (r : Bool). if r then refuted else not_refuted n NoEmptyClause) (sym c.finish.ensures ∙ c.if-finish.true))
+
+pub returns-then-not-more-clause-stopped : goal.returns-then-not-more-clause-stopped
+returns-then-not-more-clause-stopped g c =
+    let a = g.D.Desk.state c.args.desk.now in
+    let b = g.D.Desk.state c.rows.desk in
+    let d = g.D.Desk.state c.next_line.new.desk in
+    let n = c.next_line.new.self.number + 1 in
+    let none = subst (λ (m : Bool). GivesRow m c.rows.lines c.next_line.new.self b d) c.if-not-more.true (row_given c.in-Ok.more c.rows.lines c.next_line.new.self b d (c.in-Ok.ensures.line c.rows.invariant.goes_on.fine)) in
+    text_ended c.args.checker.now c.rows.checker c.args.lines.now c.rows.lines c.next_line.new.self a b d (not_refuted (c.number.result + 1) NoEmptyClause) c.rows.invariant.goes_on.slot c.rows.invariant.reads none
+    (ap (λ (r : Bool). if r then refuted else not_refuted n NoEmptyClause) (sym c.finish.ensures ∙ c.if-finish.false) ∙ ap (λ (m : ℕ). not_refuted (m + 1) NoEmptyClause) (sym c.number.ensures))
 
 pub returns-in-Err-line-clause-stopped : goal.returns-in-Err-line-clause-stopped
 returns-in-Err-line-clause-stopped g c =
