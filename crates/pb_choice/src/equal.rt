@@ -8,12 +8,21 @@ use pb_totalizer::Exact;
 use std::alloc::Global;
 
 /// The encoding of the two halves of an equality.
-#[derive(Drop)]
 pub enum EqualPlan<'a> {
     /// Both as one: exactly so many of the literals are true. In the halves each has the coefficient `a`.
     Joint { exact: Exact, a: i128 },
     /// One by one, the lower half first.
     Split(Plan<'a>, Plan<'a>),
+}
+
+// Written out, as that of a plan is.
+impl Drop for EqualPlan<'_> {
+    fn drop(self) {
+        match self {
+            EqualPlan::Joint { exact: _, a: _ } => {}
+            EqualPlan::Split(_, _) => {}
+        }
+    }
 }
 
 impl EqualPlan<'_> {

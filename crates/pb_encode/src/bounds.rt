@@ -10,7 +10,7 @@ ghost use Rattle.pb_encode.specs.BoundLines.{bound_line, bounds_text, words_of};
 ghost use Rattle.pb_encode.specs.Bounds.{bound_rows};
 ghost use Rattle.pb_encode.specs.Summaries.{summary_of, IsEncodable};
 
-use crate::objective::{objective_form, offset_by};
+use crate::objective::offset_of;
 use crate::summary::{Summary, push_count, summary_text};
 use crate::table::table_of;
 use itoa::Buffer;
@@ -57,7 +57,7 @@ fn push_rows(
     table: &BoundTable,
     first: u32,
     offset: &i128,
-) -> Result<(), AllocError>
+) -> Result<(), NoMemory>
     requires light { weight table.now < 2 ^ 100 }
     requires original { VarsBelow first table.now }
     requires low { 1 ≤ first }
@@ -91,14 +91,12 @@ fn push_bounds(
     let Some(first) = summary.table else {
         return Ok(());
     };
-    let objective = objective_form(alloc, problem)?;
+    let offset = offset_of(alloc, problem)?;
     let built = table_of(alloc, problem, options)?;
-    let table = match built {
-        Built::Fits(table) => table,
+    match built {
+        Built::Fits(table) => push_rows(out, &table, first, &offset),
         Built::Over => unreachable!(),
-    };
-    push_rows(out, &table, first, &offset_by(&objective))?;
-    Ok(())
+    }
 }
 
 /// The two lines of a summary and, where there is a table of bounds, a line `bound W L` for each row, W ascending: W is a value that

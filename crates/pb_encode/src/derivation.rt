@@ -25,7 +25,7 @@ use pb_norm::{Half, Linear, normalize, product_constraint, product_variable};
 use std::alloc::Global;
 
 /// Where the derivation of a constraint stands: its first fresh variable, and the constraint's id.
-#[derive(Clone, Copy)]
+#[derive(Drop)]
 pub struct Turn {
     pub first: u32,
     pub id: u64,

@@ -9,10 +9,16 @@ use pb_norm::{Half, Linear, normalize};
 use std::alloc::Global;
 
 /// Both constraints of an equality.
-#[derive(Drop)]
 pub struct Halves {
     pub lower: Linear,
     pub upper: Linear,
+}
+
+// Written out, so that it is one call in the proofs of the functions that own both.
+impl Drop for Halves {
+    fn drop(self) {
+        let Halves { lower: _, upper: _ } = self;
+    }
 }
 
 /// The halves of a statement in normal form.

@@ -5,9 +5,11 @@ ghost use Rattle.pb_base.specs.declared.limit.LimitKind.{LimitKind};
 ghost use Rattle.pb_norm.specs.Constraints.{weight};
 ghost use Rattle.pb_norm.specs.Halves.{half_of};
 ghost use Rattle.pb_norm.specs.Products.{defining, product_constraints};
+ghost use Rattle.pb_gentot.specs.BoundTable.{table_fresh};
 ghost use Rattle.pb_encode.specs.Groups.{group_of, groups_of, singles, statement_groups};
 ghost use Rattle.pb_encode.specs.Groups.Group.{alone, paired};
 ghost use Rattle.pb_encode.specs.Summaries.{summary_of, IsEncodable, IsOver};
+ghost use Rattle.pb_encode.specs.Tables.{table_terms};
 ghost use Rattle.pb_encode.specs.laws.Tallies.{Counts, IsTally};
 
 use crate::equality::both_halves;
@@ -18,6 +20,7 @@ use crate::tally::Tally;
 use pb_base::{LimitKind, Lit, Lits, MAX_CLAUSES, MAX_VARIABLES, NoMemory, Problem, Raw, Relation};
 use pb_choice::{Options, plan, plan_equal};
 use pb_family::Built;
+use pb_gentot::BoundTable;
 use pb_norm::{Half, Linear, normalize, product_constraint, product_variable};
 use std::alloc::Global;
 
@@ -181,22 +184,22 @@ fn table_at(options: &Options, first: u32) -> Option<u32>
     if options.table { Some(first) } else { None }
 }
 
-/// The size of a problem's encoding.
-pub fn measure(alloc: Global, problem: &Problem, options: &Options) -> Result<Summary, MeasureFault>
+// The size of a problem's encoding, given its table. It only looks at the table: each way out of a function that owns one makes the
+// proof of that function longer.
+fn measure_with(
+    alloc: Global,
+    problem: &Problem,
+    options: &Options,
+    table: &BoundTable,
+) -> Result<Summary, MeasureFault>
     requires within { IsWithinLimits problem.now }
     requires modest { options.now.budget ≤ 10000000 }
+    requires terms { table.now ≡ table_terms options.now problem.now }
+    requires bounds { table_fresh (table_terms options.now problem.now) ≤ options.now.budget }
     ensures summary { IfOk result (λ summary. summary ≡ summary_of options.now problem.now) }
     ensures encodable { OnOk result (IsEncodable options.now problem.now) }
     ensures limit { (which : LimitKind) → result ≡ Err (MeasureFault.Limit which) → IsOver which options.now problem.now }
 {
-    let table = match table_of(alloc, problem, options)? {
-        Built::Fits(table) => table,
-        Built::Over => {
-            return Err(MeasureFault::Limit {
-                which: LimitKind::Bounds,
-            });
-        }
-    };
     let tally = tally_of(alloc, problem, options)?;
     let loaded = (problem.originals() as u64).saturating_add(tally.fresh);
     let vars = loaded.saturating_add(table.fresh());
@@ -219,4 +222,22 @@ pub fn measure(alloc: Global, problem: &Problem, options: &Options) -> Result<Su
         treatments: tally.treatments(),
         table: table_at(options, loaded as u32 + 1),
     })
+}
+
+/// The size of a problem's encoding.
+pub fn measure(alloc: Global, problem: &Problem, options: &Options) -> Result<Summary, MeasureFault>
+    requires within { IsWithinLimits problem.now }
+    requires modest { options.now.budget ≤ 10000000 }
+    ensures summary { IfOk result (λ summary. summary ≡ summary_of options.now problem.now) }
+    ensures encodable { OnOk result (IsEncodable options.now problem.now) }
+    ensures limit { (which : LimitKind) → result ≡ Err (MeasureFault.Limit which) → IsOver which options.now problem.now }
+{
+    let built = table_of(alloc, problem, options)?;
+    match built {
+        Built::Fits(table) => measure_with(alloc, problem, options, &table),
+        Built::Over => {
+            let which = LimitKind::Bounds;
+            Err(MeasureFault::Limit { which })
+        }
+    }
 }

@@ -1,7 +1,7 @@
 //! The objective of a problem as an offset and costs of literals.
 ghost use Rattle.std.specs.Prelude.{◌≡◌, ◌-ℤ◌, ◌^◌, pos, IfOk};
 ghost use Rattle.pb_base.specs.Problems.{IsWithinLimits, objective_terms};
-ghost use Rattle.pb_encode.specs.Costs.{objective_form};
+ghost use Rattle.pb_encode.specs.Costs.{objective_form, offset_of};
 
 use pb_base::{NoMemory, Problem, Term, WEIGHT_BITS};
 use pb_norm::{Linear, written};
@@ -33,4 +33,13 @@ pub fn offset_by(objective: &Linear) -> i128
     ensures { result ≡ pos (2 ^ 100) -ℤ pos objective.now.degree }
 {
     FAR - objective.degree() as i128
+}
+
+/// The same, of a problem.
+pub fn offset_of(alloc: Global, problem: &Problem) -> Result<i128, NoMemory>
+    requires { IsWithinLimits problem.now }
+    ensures { IfOk result (λ offset. offset ≡ offset_of problem.now) }
+{
+    let objective = objective_form(alloc, problem)?;
+    Ok(offset_by(&objective))
 }

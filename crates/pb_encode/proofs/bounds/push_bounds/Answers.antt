@@ -1,14 +1,14 @@
-use Rattle.std.proofs.Common.{rules, FitsSigned, to_z, of_z, ◌≡◌, ◌<◌, ◌∙◌, ◌++◌, ◌^◌, ◌-ℤ◌, ℤ, pos, List, ap, sym, subst, arith}
+use Rattle.std.proofs.Common.{rules, FitsSigned, to_z, of_z, ◌≡◌, ◌<◌, ◌∙◌, ◌++◌, ◌^◌, ℕ, ℤ, List, ap, sym, subst, arith}
 use mir.Syntax.{w128}
+use Rattle.std.specs.Prelude.{OnOk}
 use Rattle.std.specs.Int.RustNames.{unsigned_abs}
 use Rattle.std.proofs.lemmas.Int.{to_z-of_z}
 use Rattle.std.proofs.lemmas.List.{append-nil}
 use Rattle.pb_base.specs.declared.literal.Lit.{Lit}
-use Rattle.pb_norm.specs.Constraints.{Constraint, Weighted, weight}
+use Rattle.pb_norm.specs.Constraints.{Weighted, weight}
 use Rattle.pb_family.specs.Families.{VarsBelow}
 use Rattle.pb_gentot.specs.BoundTable.{table_fresh}
 use Rattle.pb_encode.specs.BoundLines.{bounds_text}
-use Rattle.pb_encode.specs.Costs.{offset_of}
 use Rattle.pb_encode.specs.Tables.{table_terms}
 use Rattle.pb_encode.proofs.BoundTexts.{first_is, no_rows, rows_are}
 use Rattle.pb_encode.proofs.TableTerms.{table_below, table_fits}
@@ -48,18 +48,17 @@ push_rows-requires-clause-fits c =
 -- the offset is the problem's
 pub push_rows-requires-clause-offset : goal.push_rows-requires-clause-offset
 push_rows-requires-clause-offset c =
-    let fits : FitsSigned w128 c.offset_by.result = search rules in
-    let kept : to_z w128 (of_z w128 c.offset_by.result) ≡ c.offset_by.result = to_z-of_z w128 c.offset_by.result fits in
-    let offset_is : to_z w128 (of_z w128 c.offset_by.result) ≡ offset_of c.args.problem.now = kept ∙ c.offset_by.ensures ∙ ap (λ (form : Constraint). pos (2 ^ 100) -ℤ pos form.degree) c.in_ok-objective.ensures in
-    subst (λ (z : ℤ). unsigned_abs z < 2 ^ 126) (sym offset_is) (offset_small c.args.options.now c.args.problem.now c.requires.within)
+    let fits : FitsSigned w128 c.in_ok-offset.offset = search rules in
+    let kept = to_z-of_z w128 c.in_ok-offset.offset fits in
+    subst (λ (z : ℤ). unsigned_abs z < 2 ^ 126) (sym (kept ∙ c.in_ok-offset.ensures)) (offset_small c.args.options.now c.args.problem.now c.requires.within)
 
 pub returns : goal.returns
 returns c =
     let o = c.args.options.now in
     let p = c.args.problem.now in
     let terms_are : c.in-Fits.table ≡ table_terms o p = rw c.in-Fits.is at c.in_ok-built.ensures.terms in
-    let fits : FitsSigned w128 c.offset_by.result = search rules in
-    let kept : to_z w128 (of_z w128 c.offset_by.result) ≡ c.offset_by.result = to_z-of_z w128 c.offset_by.result fits in
-    let offset_is : to_z w128 (of_z w128 c.offset_by.result) ≡ offset_of p = kept ∙ c.offset_by.ensures ∙ ap (λ (form : Constraint). pos (2 ^ 100) -ℤ pos form.degree) c.in_ok-objective.ensures in
+    let fits : FitsSigned w128 c.in_ok-offset.offset = search rules in
+    let kept = to_z-of_z w128 c.in_ok-offset.offset fits in
     let at = first_is o p c.args.summary.now c.in-Some.first c.requires.summary c.in-Some.is in
-    c.in_ok-push_rows.ensures ∙ ap (λ text. c.args.out.now.items ++ text) (rows_are o p (to_z w128 (of_z w128 c.offset_by.result)) c.in-Fits.table c.in-Some.first offset_is terms_are at)
+    let rows = rows_are o p (to_z w128 (of_z w128 c.in_ok-offset.offset)) c.in-Fits.table c.in-Some.first (kept ∙ c.in_ok-offset.ensures) terms_are at in
+    subst (λ (text : List ℕ). OnOk c.push_rows.result (c.push_rows.new.out.items ≡ c.args.out.now.items ++ text)) rows c.push_rows.ensures

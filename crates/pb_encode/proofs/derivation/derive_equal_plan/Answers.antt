@@ -1,4 +1,4 @@
-use Rattle.std.proofs.Common.{◌≡◌, ◌+◌, arith}
+use Rattle.std.proofs.Common.{arith}
 use Rattle.pb_encode.proofs.derivation.derive_equal_plan.Goals as goal
 
 pub derive-requires : goal.derive-requires

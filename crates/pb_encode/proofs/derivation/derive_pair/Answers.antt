@@ -1,4 +1,4 @@
-use Rattle.std.proofs.Common.{◌≡◌, ◌+◌, ℕ, List, ap, sym, subst, arith}
+use Rattle.std.proofs.Common.{◌≡◌, ◌+◌, ℕ, List, ap, subst, arith}
 use Rattle.std.specs.Prelude.{IfOk}
 use Rattle.pb_steps.specs.declared.step.Step.{Step}
 use Rattle.pb_family.specs.StepSinks.{HandsSteps}

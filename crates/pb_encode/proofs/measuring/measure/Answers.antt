@@ -1,62 +1,25 @@
-use Rattle.std.proofs.Common.{◌≡◌, ◌≤◌, ◌<◌, arith, ap, subst, ◌∙◌}
+use Rattle.std.proofs.Common.{◌≡◌, ◌≤◌, ◌<◌, subst}
 use Rattle.pb_base.specs.declared.limit.LimitKind.{LimitKind}
 use Rattle.pb_base.specs.declared.limit.LimitKind.TheVariants as limit
-use Rattle.pb_gentot.specs.BoundTable.{table_fresh, table_size}
-use Rattle.pb_encode.specs.Groups.{groups_of}
+use Rattle.pb_gentot.specs.BoundTable.{table_fresh}
 use Rattle.pb_encode.specs.Summaries.{IsOver}
 use Rattle.pb_encode.specs.Tables.{table_terms}
-use Rattle.pb_encode.proofs.TallyLemmas.{encodable_is, few_groups, over_clauses, over_variables, summary_is, within_variables}
 use Rattle.pb_encode.proofs.measuring.measure.Goals as goal
 
-pub returns-clause-summary : goal.returns-clause-summary
-returns-clause-summary c =
-    let o = c.args.options.now in
-    let p = c.args.problem.now in
-    let tally = c.in_ok-tally.tally in
-    let counted = c.in_ok-tally.ensures in
-    let few = few_groups p c.requires.within in
-    let terms_are : c.in-Fits.table ≡ table_terms o p = rw c.in-Fits.is at c.in_ok-table.ensures.terms in
-    summary_is o p tally c.originals.result c.saturating_add-loaded.result c.saturating_add-vars.result c.saturating_add-clauses.result c.fresh.result c.clauses.result c.len.result c.treatments.result c.table_at.result
-    counted c.originals.ensures c.len.ensures (c.fresh.ensures ∙ ap table_fresh terms_are) (c.clauses.ensures ∙ ap table_size terms_are) c.saturating_add-loaded.ensures c.saturating_add-vars.ensures (omega (arith, c.if-vars.false))
-    c.saturating_add-clauses.ensures c.if-clauses-gt-MAX_CLAUSES.false (c.treatments.ensures o (groups_of p) (omega (arith, few)) counted) c.table_at.ensures
+pub measure_with-requires-clause-terms : goal.measure_with-requires-clause-terms
+measure_with-requires-clause-terms c = rw c.in-Fits.is at c.in_ok-built.ensures.terms
 
-pub returns-clause-encodable : goal.returns-clause-encodable
-returns-clause-encodable c =
-    let o = c.args.options.now in
-    let p = c.args.problem.now in
-    let terms_are : c.in-Fits.table ≡ table_terms o p = rw c.in-Fits.is at c.in_ok-table.ensures.terms in
-    let bounds : table_fresh (table_terms o p) ≤ o.budget = rw c.in-Fits.is at c.in_ok-table.ensures.over in
-    encodable_is o p c.in_ok-tally.tally c.originals.result c.saturating_add-loaded.result c.saturating_add-vars.result c.saturating_add-clauses.result c.fresh.result c.clauses.result
-    c.in_ok-tally.ensures c.originals.ensures (c.fresh.ensures ∙ ap table_fresh terms_are) (c.clauses.ensures ∙ ap table_size terms_are) c.saturating_add-loaded.ensures c.saturating_add-vars.ensures (omega (arith, c.if-vars.false))
-    c.saturating_add-clauses.ensures c.if-clauses-gt-MAX_CLAUSES.false bounds
+pub measure_with-requires-clause-bounds : goal.measure_with-requires-clause-bounds
+measure_with-requires-clause-bounds c =
+    let bounds : table_fresh (table_terms c.args.options.now c.args.problem.now) ≤ c.args.options.now.budget = rw c.in-Fits.is at c.in_ok-built.ensures.over in
+    bounds
 
--- ---- what is passed
+-- what is passed
 
 pub returns-in-Over-clause-limit : goal.returns-in-Over-clause-limit
 returns-in-Over-clause-limit c = λ which is.
     let o = c.args.options.now in
     let p = c.args.problem.now in
     let same : limit.Bounds ≡ which = cc in
-    let over : o.budget < table_fresh (table_terms o p) = rw c.in-Over.is at c.in_ok-table.ensures.over in
+    let over : o.budget < table_fresh (table_terms o p) = rw c.in-Over.is at c.in_ok-built.ensures.over in
     subst (λ (k : LimitKind). IsOver k o p) same over
-
-pub returns-then-vars-clause-limit : goal.returns-then-vars-clause-limit
-returns-then-vars-clause-limit c = λ which is.
-    let o = c.args.options.now in
-    let p = c.args.problem.now in
-    let same : limit.Variables ≡ which = cc in
-    let terms_are : c.in-Fits.table ≡ table_terms o p = rw c.in-Fits.is at c.in_ok-table.ensures.terms in
-    let bounds : table_fresh (table_terms o p) ≤ o.budget = rw c.in-Fits.is at c.in_ok-table.ensures.over in
-    let over = over_variables o p c.in_ok-tally.tally c.originals.result c.saturating_add-loaded.result c.saturating_add-vars.result c.fresh.result c.in_ok-tally.ensures c.originals.ensures (c.fresh.ensures ∙ ap table_fresh terms_are) c.saturating_add-loaded.ensures c.saturating_add-vars.ensures (omega (arith, c.if-vars.true)) in
-    subst (λ (k : LimitKind). IsOver k o p) same (bounds, over)
-
-pub returns-then-clauses-gt-MAX_CLAUSES-clause-limit : goal.returns-then-clauses-gt-MAX_CLAUSES-clause-limit
-returns-then-clauses-gt-MAX_CLAUSES-clause-limit c = λ which is.
-    let o = c.args.options.now in
-    let p = c.args.problem.now in
-    let same : limit.Clauses ≡ which = cc in
-    let terms_are : c.in-Fits.table ≡ table_terms o p = rw c.in-Fits.is at c.in_ok-table.ensures.terms in
-    let bounds : table_fresh (table_terms o p) ≤ o.budget = rw c.in-Fits.is at c.in_ok-table.ensures.over in
-    let vars = within_variables o p c.in_ok-tally.tally c.originals.result c.saturating_add-loaded.result c.saturating_add-vars.result c.fresh.result c.in_ok-tally.ensures c.originals.ensures (c.fresh.ensures ∙ ap table_fresh terms_are) c.saturating_add-loaded.ensures c.saturating_add-vars.ensures (omega (arith, c.if-vars.false)) in
-    let over = over_clauses o p c.in_ok-tally.tally c.saturating_add-clauses.result c.clauses.result c.in_ok-tally.ensures (c.clauses.ensures ∙ ap table_size terms_are) c.saturating_add-clauses.ensures c.if-clauses-gt-MAX_CLAUSES.true in
-    subst (λ (k : LimitKind). IsOver k o p) same (bounds, vars, over)

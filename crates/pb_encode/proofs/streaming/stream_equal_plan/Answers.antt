@@ -1,4 +1,4 @@
-use Rattle.std.proofs.Common.{◌≡◌, ◌+◌, arith}
+use Rattle.std.proofs.Common.{arith}
 use Rattle.pb_encode.proofs.streaming.stream_equal_plan.Goals as goal
 
 pub overflow_cast-next : goal.overflow_cast-next
