@@ -19,7 +19,7 @@ module _ (a b : DeskState) (goes : Goes nothing a b) where
   of_shelf : (P : Shelf → Type 0) (t u : Told) → IsMore nothing t u → P u.shelf → P t.shelf
   of_shelf P t u more holds = subst P more.shelf holds
 
-  shelf_was : (P : Shelf → Type 0) → IsTold b (λ t. P t.shelf) → IsTold a (λ t. P t.shelf)
+  pub shelf_was : (P : Shelf → Type 0) → IsTold b (λ t. P t.shelf) → IsTold a (λ t. P t.shelf)
   shelf_was P holds = was_told (λ t. P t.shelf) (λ t. P t.shelf) a b goes (of_shelf P) holds
 
   pub shelf_was_if : (P : Shelf → Type 0) → IfTold b (λ t. P t.shelf) → IfTold a (λ t. P t.shelf)

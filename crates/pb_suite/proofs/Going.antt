@@ -10,6 +10,7 @@ use Rattle.pb_desk.specs.TwoSlots.{both_taken}
 use Rattle.pb_suite.specs.Obeying.{KeepsSlots}
 use Rattle.pb_suite.specs.Outputs.{nothing, Adds, IsMore, Output}
 use Rattle.pb_suite.specs.Owed.{Shelf}
+use Rattle.pb_suite.specs.laws.Opening.{opened_both}
 use Rattle.pb_suite.specs.laws.Runs.{fetched}
 
 -- ---- what a change of the view adds
@@ -43,6 +44,9 @@ by_reading slot name count = record { told = λ v t. more_of t _ refl refl refl;
 
 pub by_opened : (slot : ℕ) (name : List ℕ) → AddsBy nothing (opened slot name)
 by_opened slot name = record { told = λ v t. more_of t _ refl refl refl; slots = λ v slot. inr refl; room = λ v. refl; steady = λ v. refl }
+
+pub by_both_opened : (cnf proof : List ℕ) → AddsBy nothing (opened_both cnf proof)
+by_both_opened cnf proof = record { told = λ v t. more_of t _ refl refl refl; slots = λ v slot. inr refl; room = λ v. refl; steady = λ v. refl }
 
 pub by_taken : (slot count : ℕ) → AddsBy nothing (taken slot count)
 by_taken slot count = record { told = λ v t. more_of t _ refl refl refl; slots = λ v slot. inr refl; room = λ v. refl; steady = λ v. refl }

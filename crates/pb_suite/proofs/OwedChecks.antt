@@ -1,13 +1,12 @@
 -- How going through a CNF and a derivation side by side ends a command that owes it.
-use Rattle.std.proofs.Common.{◌≡◌, ◌≢◌, ◌∙◌, ℕ, List, [], ◌∷◌, Option, Some, None, Ok, Err, ap, inl, inr, length, refl, sym, subst}
-use Rattle.std.specs.Prelude.{◌⊎◌, Contains, IfSome, IsNone, IsSome}
-use Rattle.std.specs.Option.{unwrap_or}
+use Rattle.std.proofs.Common.{◌≡◌, ◌≢◌, List, [], ◌∷◌, ℕ, Option, Some, None, Ok, Err, inl, inr, refl, sym, subst}
+use Rattle.std.specs.Prelude.{◌⊎◌, Contains, IfSome, IsSome}
 use Rattle.pb_base.specs.declared.file.File.{File}
 use Rattle.pb_base.specs.declared.file.File.TheVariants.{Opb, Cnf, Proof}
 use Rattle.pb_base.specs.declared.problem.Problem.{Problem}
 use Rattle.pb_base.proofs.Members.{Contains-here, Contains-there}
-use Rattle.pb_desk.specs.View.{Told, View, opened, spoke}
-use Rattle.pb_desk.specs.Desk.{DeskState, FailsToRead, IfTold, IsSteady, IsTold, LacksRoom, Reaches, StopsIn, same, words}
+use Rattle.pb_desk.specs.View.{Told, opened}
+use Rattle.pb_desk.specs.Desk.{DeskState, IfTold, IsSteady, Reaches, same}
 use Rattle.pb_steps.specs.declared.denied.Denied.{Denied}
 use Rattle.pb_check.specs.declared.verdict.CheckFault.{CheckFault}
 use Rattle.pb_check.specs.declared.verdict.CheckFault.TheVariants as fault
@@ -25,11 +24,14 @@ use Rattle.pb_suite.specs.Owed.{HasKind, Owed, Shelf, Text}
 use Rattle.pb_suite.specs.OwedCheck.{accepted_line, owed_check, IsJudged, StopsCheck}
 use Rattle.pb_suite.specs.OwedCheck.StopsCheck.{token, limit, denial}
 use Rattle.pb_suite.specs.Posed.{IsPosed}
+use Rattle.pb_suite.specs.laws.Opening.{opened_both, HasBoth, StopsOpening}
+use Rattle.pb_suite.specs.laws.Opening.StopsOpening.{no_cnf, no_proof}
 use Rattle.pb_suite.specs.laws.Runs.{check_refusal}
+use Rattle.pb_suite.specs.laws.Saying.{EndsSaying}
 use Rattle.pb_suite.proofs.Afterwards.{obeys_after}
 use Rattle.pb_suite.proofs.Endings.{bare_memory, is_refused, is_unread}
-use Rattle.pb_suite.proofs.Going.{by_both_taken, by_opened, by_same, goes_by, shelf_is_if, Goes}
-use Rattle.pb_suite.proofs.Says.{said_obeys, saying_obeys}
+use Rattle.pb_suite.proofs.Going.{by_both_opened, by_both_taken, by_opened, by_same, goes_by, shelf_is_if, Goes}
+use Rattle.pb_suite.proofs.Says.{saying_obeys}
 use Rattle.pb_suite.proofs.Texts.{told_more}
 
 module _ (w : CheckWords) where
@@ -59,53 +61,27 @@ module _ (w : CheckWords) where
   pub check_checks : Checks (owed_check w)
   check_checks = record { has_cnf = has_cnf_text; has_proof = has_proof_text; cnf_kind = inr (inl refl); proof_kind = inr (inr (inl refl)); stops = λ shelf answer stops. stops }
 
-  -- a file that was not opened
-  pub no_cnf : (o : Owed) → Checks o → (a b : DeskState) → FailsToRead same a b → (IsSteady a → IsTold a (λ t. IsNone (t.shelf w.cnf))) → Obeys o a b outcome.ReadFault
-  no_cnf o checks a b fails lacks = is_unread o a b same by_same fails (λ steady. (cnf_text, checks.has_cnf, lacks steady))
+  -- one of both files was not opened
+  pub unopened_obeys : (o : Owed) → Checks o → (a b : DeskState) → StopsOpening w.cnf w.proof a b → Obeys o a b outcome.ReadFault
+  unopened_obeys o checks a b (no_cnf fails lacks) = is_unread o a b same by_same fails (λ steady. (cnf_text, checks.has_cnf, lacks steady))
+  unopened_obeys o checks a b (no_proof fails lacks) = is_unread o a b (opened 1 w.cnf) (by_opened 1 w.cnf) fails (λ steady. (proof_text, checks.has_proof, lacks steady))
 
-  pub no_proof : (o : Owed) → Checks o → (a b : DeskState) → FailsToRead same a b → (IsSteady a → IsTold a (λ t. IsNone (t.shelf w.proof))) → Obeys o a b outcome.ReadFault
-  no_proof o checks a b fails lacks = is_unread o a b same by_same fails (λ steady. (proof_text, checks.has_proof, lacks steady))
-
--- both texts stand in their slots from their first bytes on
-pub record HasBoth (w : CheckWords) (t : Told) : Type 0 where
-  pub cnf : t.shelf w.cnf ≡ Some (t.left 1)
-  pub proof : t.shelf w.proof ≡ Some (t.left 2)
-
-pub some_is : (o : Option (List ℕ)) → IsSome o → o ≡ Some (unwrap_or o [])
-some_is None some = cc
-some_is (Some text) some = refl
-
-abbrev opened_both : CheckWords → View → View
-opened_both w view = opened 2 w.proof (opened 1 w.cnf view)
-
--- once both files were opened that the shelf has
-pub have_both : (w : CheckWords) (a b d : DeskState) → b.view ≡ opened 1 w.cnf a.view → d.view ≡ opened 2 w.proof b.view
-    → IfTold a (λ t. IsSome (t.shelf w.cnf)) → IfTold b (λ t. IsSome (t.shelf w.proof)) → IfTold d (HasBoth w)
-have_both w a b d first second found_cnf found_proof =
-    let is : d.view ≡ opened_both w a.view = second ∙ ap (opened 2 w.proof) first in
-    subst (λ (v : View). IfSome v.told (HasBoth w)) (sym is) (by_cases a.view.told found_cnf (subst (λ (v : View). IfSome v.told (λ t. IsSome (t.shelf w.proof))) first found_proof))
-  where
-    by_cases : (told : Option Told) → IfSome told (λ t. IsSome (t.shelf w.cnf)) → IfSome (opened 1 w.cnf (record a.view { told = told })).told (λ t. IsSome (t.shelf w.proof))
-        → IfSome (opened_both w (record a.view { told = told })).told (HasBoth w)
-    by_cases None cnf proof = tt
-    by_cases (Some t) cnf proof = record { cnf = some_is (t.shelf w.cnf) cnf; proof = some_is (t.shelf w.proof) proof }
-
-module _ (w : CheckWords) (p : Problem) (d e : DeskState) (posed : IfTold d (λ t. IsPosed t.shelf w.opb w.bound p)) (both : IfTold d (HasBoth w)) where
+module _ (w : CheckWords) (p : Problem) (d e : DeskState) (posed : IfTold d (λ t. IsPosed t.shelf w.opb w.bound p)) (both : IfTold d (HasBoth w.cnf w.proof)) where
   abbrev pub JudgedSo : Answer → Type 0
   JudgedSo answer = IfTold d (λ t. IsJudged t.shelf w answer)
 
   pub judged_so : (answer : Answer) → TakesBoth 1 2 (λ c q. Walk p c q answer) d e → JudgedSo answer
   judged_so answer takes = by_cases d.view.told posed both takes.texts
     where
-      by_cases : (told : Option Told) → IfSome told (λ t. IsPosed t.shelf w.opb w.bound p) → IfSome told (HasBoth w) → IfSome told (λ t. Walk p (t.left 1) (t.left 2) answer) → IfSome told (λ t. IsJudged t.shelf w answer)
+      by_cases : (told : Option Told) → IfSome told (λ t. IsPosed t.shelf w.opb w.bound p) → IfSome told (HasBoth w.cnf w.proof) → IfSome told (λ t. Walk p (t.left 1) (t.left 2) answer) → IfSome told (λ t. IsJudged t.shelf w answer)
       by_cases None posed both walk = tt
       by_cases (Some t) posed both walk = record {
         problem = p;
         cnf = t.left 1;
         proof = t.left 2;
         posed = posed;
-        has_cnf = both.cnf;
-        has_proof = both.proof;
+        has_cnf = both.has_cnf;
+        has_proof = both.has_proof;
         judged = walk;
       }
 
@@ -117,7 +93,7 @@ module _ (w : CheckWords) (p : Problem) (d e : DeskState) (posed : IfTold d (λ 
   has_kind o checks file (inr proof) = subst (λ (f : File). HasKind f o.texts) (sym proof) checks.proof_kind
 
   -- a text's fault, a read that failed, or want of memory
-  stopped_obeys : (o : Owed) → Checks w o → (f : CheckFault) → StopsChecking p 1 2 d e f → NamesText f → (IsSteady d → f ≢ fault.ReadFault) → Obeys o d e (check_refusal f)
+  pub stopped_obeys : (o : Owed) → Checks w o → (f : CheckFault) → StopsChecking p 1 2 d e f → NamesText f → (IsSteady d → f ≢ fault.ReadFault) → Obeys o d e (check_refusal f)
   stopped_obeys o checks (fault.Refused file place expected) stops names steady =
       is_refused o d e _ (goes_both _ stops) (has_kind o checks file names)
       (told_more d _ _ (λ t judged. checks.stops t.shelf _ (token file place expected judged)) (judged_so (Err (fault.Refused file place expected)) stops))
@@ -129,49 +105,28 @@ module _ (w : CheckWords) (p : Problem) (d e : DeskState) (posed : IfTold d (λ 
   stopped_obeys o checks fault.NoMemory stops names steady = bare_memory o d e (goes_both _ stops)
 
   -- a step that is not allowed
-  rejected_obeys : (o : Owed) → Checks w o → (line : ℕ) (denied : Denied) → TakesBoth 1 2 (λ c q. Walk p c q (Ok (Rejected line denied))) d e → Obeys o d e (outcome.Rejected line denied)
+  pub rejected_obeys : (o : Owed) → Checks w o → (line : ℕ) (denied : Denied) → TakesBoth 1 2 (λ c q. Walk p c q (Ok (Rejected line denied))) d e → Obeys o d e (outcome.Rejected line denied)
   rejected_obeys o checks line denied takes =
       is_refused o d e _ (goes_both _ takes) checks.proof_kind
       (told_more d _ _ (λ t judged. checks.stops t.shelf _ (denial line denied judged)) (judged_so (Ok (Rejected line denied)) takes))
 
   -- all is allowed
-  accepted_due : TakesBoth 1 2 (λ c q. Walk p c q (Ok Accepted)) d e → Goes nothing d e × IfTold e (λ t. (owed_check w).done t.shelf (only_words accepted_line))
-  accepted_due takes =
+  accepted_due : Goes nothing d e → TakesBoth 1 2 (λ c q. Walk p c q (Ok Accepted)) d e → IfTold e (λ t. (owed_check w).done t.shelf (only_words accepted_line))
+  accepted_due goes takes = shelf_is_if d e goes (λ shelf. (owed_check w).done shelf (only_words accepted_line)) (told_more d _ _ (λ t judged. (judged, refl)) (judged_so (Ok Accepted) takes))
+
+  pub accepted_obeys : (f : DeskState) → (IsSteady e → IsSome e.view.told) → TakesBoth 1 2 (λ c q. Walk p c q (Ok Accepted)) d e → (answer : Outcome) → EndsSaying accepted_line e f answer → Obeys (owed_check w) d f answer
+  accepted_obeys f tells takes answer ends =
       let goes = goes_both _ takes in
-      (goes, shelf_is_if d e goes (λ shelf. (owed_check w).done shelf (only_words accepted_line)) (told_more d _ _ (λ t judged. (judged, refl)) (judged_so (Ok Accepted) takes)))
+      obeys_after (owed_check w) d e f goes answer (saying_obeys (owed_check w) accepted_line e f tells (accepted_due goes takes) answer ends)
 
 -- ---- from before the two files were opened
 
-module _ (w : CheckWords) (p : Problem) (a b d e : DeskState) (posed : IfTold a (λ t. IsPosed t.shelf w.opb w.bound p)) (first : Reaches (opened 1 w.cnf) a b) (second : Reaches (opened 2 w.proof) b d)
-    (found_cnf : IfTold a (λ t. IsSome (t.shelf w.cnf))) (found_proof : IfTold b (λ t. IsSome (t.shelf w.proof))) where
-  first_goes : Goes nothing a b
-  first_goes = goes_by nothing (opened 1 w.cnf) a b (by_opened 1 w.cnf) first
+module _ (w : CheckWords) (a d : DeskState) (reached : Reaches (opened_both w.cnf w.proof) a d) where
+  opened_goes : Goes nothing a d
+  opened_goes = goes_by nothing (opened_both w.cnf w.proof) a d (by_both_opened w.cnf w.proof) reached
 
-  second_goes : Goes nothing b d
-  second_goes = goes_by nothing (opened 2 w.proof) b d (by_opened 2 w.proof) second
-
-  pub still_posed : IfTold d (λ t. IsPosed t.shelf w.opb w.bound p)
-  still_posed = shelf_is_if b d second_goes (λ shelf. IsPosed shelf w.opb w.bound p) (shelf_is_if a b first_goes (λ shelf. IsPosed shelf w.opb w.bound p) posed)
-
-  pub both : IfTold d (HasBoth w)
-  both = have_both w a b d first.view second.view found_cnf found_proof
+  pub still_posed : (p : Problem) → IfTold a (λ t. IsPosed t.shelf w.opb w.bound p) → IfTold d (λ t. IsPosed t.shelf w.opb w.bound p)
+  still_posed p posed = shelf_is_if a d opened_goes (λ shelf. IsPosed shelf w.opb w.bound p) posed
 
   pub opened_obeys : (o : Owed) → (f : DeskState) (answer : Outcome) → Obeys o d f answer → Obeys o a f answer
-  opened_obeys o f answer obeys = obeys_after o a b f first_goes answer (obeys_after o b d f second_goes answer obeys)
-
-  pub after_stop : (o : Owed) → Checks w o → (f : CheckFault) → StopsChecking p 1 2 d e f → NamesText f → (IsSteady d → f ≢ fault.ReadFault) → Obeys o a e (check_refusal f)
-  after_stop o checks f stops names steady = opened_obeys o e _ (stopped_obeys w p d e still_posed both o checks f stops names steady)
-
-  pub after_denial : (o : Owed) → Checks w o → (line : ℕ) (denied : Denied) → TakesBoth 1 2 (λ c q. Walk p c q (Ok (Rejected line denied))) d e → Obeys o a e (outcome.Rejected line denied)
-  after_denial o checks line denied takes = opened_obeys o e _ (rejected_obeys w p d e still_posed both o checks line denied takes)
-
-  pub after_saying_all : (f : DeskState) → (IsSteady e → IsSome e.view.told) → TakesBoth 1 2 (λ c q. Walk p c q (Ok Accepted)) d e → Reaches (spoke accepted_line) e f → Obeys (owed_check w) a f outcome.Done
-  after_saying_all f tells takes said =
-      let due = accepted_due w p d e still_posed both takes in
-      opened_obeys (owed_check w) f _ (obeys_after (owed_check w) d e f due.0 _ (said_obeys (owed_check w) accepted_line e f tells due.1 said))
-
-  pub after_saying_some : (f : DeskState) → (IsSteady e → IsSome e.view.told) → TakesBoth 1 2 (λ c q. Walk p c q (Ok Accepted)) d e → StopsIn accepted_line spoke e f → (IsSteady e → LacksRoom words (length accepted_line) e)
-      → Obeys (owed_check w) a f outcome.WriteFault
-  after_saying_some f tells takes stop lacks =
-      let due = accepted_due w p d e still_posed both takes in
-      opened_obeys (owed_check w) f _ (obeys_after (owed_check w) d e f due.0 _ (saying_obeys (owed_check w) accepted_line e f tells due.1 stop lacks))
+  opened_obeys o f answer obeys = obeys_after o a d f opened_goes answer obeys

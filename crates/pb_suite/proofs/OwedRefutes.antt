@@ -1,12 +1,12 @@
 -- How going through a refutation ends a command that owes it, once the derivation was accepted.
-use Rattle.std.proofs.Common.{◌≡◌, ◌≢◌, ℕ, List, [], ◌∷◌, Option, Some, None, Ok, inl, inr, length, refl, sym, subst}
+use Rattle.std.proofs.Common.{◌≡◌, ◌≢◌, ℕ, List, [], ◌∷◌, Option, Some, None, Ok, inl, inr, refl, sym, subst}
 use Rattle.std.specs.Prelude.{Contains, IfSome, IsNone, IsSome}
 use Rattle.pb_base.specs.declared.file.File.TheVariants.{Opb, Lrat}
 use Rattle.pb_base.specs.declared.literal.Lit.{Lit}
 use Rattle.pb_base.specs.declared.problem.Problem.{Problem}
 use Rattle.pb_base.proofs.Members.{Contains-here, Contains-there}
-use Rattle.pb_desk.specs.View.{Told, View, opened, spoke, taken}
-use Rattle.pb_desk.specs.Desk.{DeskState, FailsToRead, IfTold, IsSteady, IsTold, LacksRoom, Reaches, StopsIn, same, words}
+use Rattle.pb_desk.specs.View.{Told, View, opened, taken}
+use Rattle.pb_desk.specs.Desk.{DeskState, FailsToRead, IfTold, IsSteady, IsTold, Reaches, same}
 use Rattle.pb_desk.specs.TwoSlots.{TakesBoth}
 use Rattle.pb_dimacs.specs.CnfForms.{TakesText}
 use Rattle.pb_check.specs.declared.verdict.Verdict.TheVariants.{Accepted}
@@ -26,12 +26,15 @@ use Rattle.pb_suite.specs.Owed.{Text}
 use Rattle.pb_suite.specs.OwedRefute.{checked_words, owed_refute, refuted_line, IsAccepted, IsFollowed}
 use Rattle.pb_suite.specs.OwedRefute.StopsRefute.{unchecked, token, limit, no_refutation}
 use Rattle.pb_suite.specs.Posed.{IsPosed}
+use Rattle.pb_suite.specs.laws.Opening.{HasBoth}
 use Rattle.pb_suite.specs.laws.Runs.{lrat_refusal}
+use Rattle.pb_suite.specs.laws.Saying.{EndsSaying}
 use Rattle.pb_suite.proofs.Afterwards.{obeys_after}
 use Rattle.pb_suite.proofs.Endings.{bare_memory, is_refused, is_unread}
 use Rattle.pb_suite.proofs.Going.{by_opened, by_same, by_taken, goes_by, shelf_is_if, Goes}
-use Rattle.pb_suite.proofs.OwedChecks.{cnf_text, proof_text, some_is, Checks, HasBoth}
-use Rattle.pb_suite.proofs.Says.{said_obeys, saying_obeys}
+use Rattle.pb_suite.proofs.Opened.{some_is}
+use Rattle.pb_suite.proofs.OwedChecks.{cnf_text, proof_text, Checks}
+use Rattle.pb_suite.proofs.Says.{saying_obeys}
 use Rattle.pb_suite.proofs.Texts.{told_more}
 
 module _ (w : RefuteWords) where
@@ -62,15 +65,15 @@ module _ (w : RefuteWords) where
   no_lrat a b fails lacks = is_unread (owed_refute w) a b same by_same fails (λ steady. (lrat_text, has_lrat_text, lacks steady))
 
 -- what was kept of the CNF are the clauses of the texts that were judged
-pub accepted_so : (w : RefuteWords) (p : Problem) (vars : ℕ) (clauses : List (List Lit)) (d e : DeskState) → IfTold d (λ t. IsPosed t.shelf w.opb w.bound p) → IfTold d (HasBoth (checked_words w)) → TakesBoth 1 2 (λ c q. Walk p c q (Ok Accepted)) d e
+pub accepted_so : (w : RefuteWords) (p : Problem) (vars : ℕ) (clauses : List (List Lit)) (d e : DeskState) → IfTold d (λ t. IsPosed t.shelf w.opb w.bound p) → IfTold d (HasBoth w.cnf w.proof) → TakesBoth 1 2 (λ c q. Walk p c q (Ok Accepted)) d e
     → IfTold d (λ t. SaysClauses (t.left 1) vars clauses) → IfTold d (λ t. IsAccepted t.shelf w vars clauses)
 accepted_so w p vars clauses d e posed both takes says = by_cases d.view.told posed both takes.texts says
   where
-    by_cases : (told : Option Told) → IfSome told (λ t. IsPosed t.shelf w.opb w.bound p) → IfSome told (HasBoth (checked_words w)) → IfSome told (λ t. Walk p (t.left 1) (t.left 2) (Ok Accepted)) → IfSome told (λ t. SaysClauses (t.left 1) vars clauses)
+    by_cases : (told : Option Told) → IfSome told (λ t. IsPosed t.shelf w.opb w.bound p) → IfSome told (HasBoth w.cnf w.proof) → IfSome told (λ t. Walk p (t.left 1) (t.left 2) (Ok Accepted)) → IfSome told (λ t. SaysClauses (t.left 1) vars clauses)
         → IfSome told (λ t. IsAccepted t.shelf w vars clauses)
     by_cases None posed both walk says = tt
     by_cases (Some t) posed both walk says = record {
-      judged = record { problem = p; cnf = t.left 1; proof = t.left 2; posed = posed; has_cnf = both.cnf; has_proof = both.proof; judged = walk };
+      judged = record { problem = p; cnf = t.left 1; proof = t.left 2; posed = posed; has_cnf = both.has_cnf; has_proof = both.has_proof; judged = walk };
       says_all = says;
     }
 
@@ -118,8 +121,5 @@ module _ (w : RefuteWords) (vars : ℕ) (clauses : List (List Lit)) (a b d : Des
   refuted_due takes =
       shelf_is_if b d (text_goes _ takes) (λ shelf. (owed_refute w).done shelf (only_words refuted_line)) (told_more b _ _ (λ t ends. (ends, refl)) (followed ending.refuted takes))
 
-  pub after_saying_all : (e : DeskState) → (IsSteady d → IsSome d.view.told) → Refutes vars clauses 3 b d → Reaches (spoke refuted_line) d e → Obeys (owed_refute w) a e outcome.Done
-  after_saying_all e tells takes said = opened_obeys e _ (obeys_after (owed_refute w) b d e (text_goes _ takes) _ (said_obeys (owed_refute w) refuted_line d e tells (refuted_due takes) said))
-
-  pub after_saying_some : (e : DeskState) → (IsSteady d → IsSome d.view.told) → Refutes vars clauses 3 b d → StopsIn refuted_line spoke d e → (IsSteady d → LacksRoom words (length refuted_line) d) → Obeys (owed_refute w) a e outcome.WriteFault
-  after_saying_some e tells takes stop lacks = opened_obeys e _ (obeys_after (owed_refute w) b d e (text_goes _ takes) _ (saying_obeys (owed_refute w) refuted_line d e tells (refuted_due takes) stop lacks))
+  pub after_saying : (e : DeskState) → (IsSteady d → IsSome d.view.told) → Refutes vars clauses 3 b d → (answer : Outcome) → EndsSaying refuted_line d e answer → Obeys (owed_refute w) a e answer
+  after_saying e tells takes answer ends = opened_obeys e _ (obeys_after (owed_refute w) b d e (text_goes _ takes) answer (saying_obeys (owed_refute w) refuted_line d e tells (refuted_due takes) answer ends))

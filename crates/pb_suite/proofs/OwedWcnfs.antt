@@ -13,6 +13,7 @@ use Rattle.pb_encode.specs.Summaries.{IsEncodable, IsOver}
 use Rattle.pb_encode.specs.Weighted.{weighted_text, IsWeightedCutOff, LacksForWeighted, WantsForWeighted}
 use Rattle.pb_encode.specs.Weighted.WantsForWeighted.{not_made, in_text}
 use Rattle.pb_words.specs.WcnfWords.{WcnfWords}
+use Rattle.pb_suite.specs.declared.outcome.Outcome.{Outcome}
 use Rattle.pb_suite.specs.declared.outcome.Outcome.TheVariants as outcome
 use Rattle.pb_suite.specs.Obeying.{Obeys}
 use Rattle.pb_suite.specs.Outputs.{nothing}
@@ -21,6 +22,9 @@ use Rattle.pb_suite.specs.OwedWcnf.{owed_wcnf, weighted_output, StopsWcnf}
 use Rattle.pb_suite.specs.OwedWcnf.StopsWcnf.{over}
 use Rattle.pb_suite.specs.Posed.{IsPosed}
 use Rattle.pb_suite.specs.laws.Runs.{outcome_of}
+use Rattle.pb_suite.specs.laws.Saying.{EndsSaying, EndsTelling}
+use Rattle.pb_suite.specs.laws.Saying.EndsSaying.{whole, cut_off}
+use Rattle.pb_suite.specs.laws.Saying.EndsTelling.{says, no_memory}
 use Rattle.pb_suite.proofs.Endings.{bare_memory, is_refused}
 use Rattle.pb_suite.proofs.Going.{by_same, goes_by}
 use Rattle.pb_suite.proofs.OneFile.{all_said, file_stops, file_wants, words_stop, words_want}
@@ -57,18 +61,23 @@ module _ (w : WcnfWords) (p : Problem) (b : DeskState) (posed : IfTold b (λ t. 
 
     -- ---- once it was made
 
-    module _ (e : DeskState) (is : Fine) (far : Reaches (made 0 w.wcnf text) b e) where
-      pub unsaid_obeys : Obeys (owed_wcnf w) b e outcome.NoMemory
-      unsaid_obeys = words_want (owed_wcnf w) w.wcnf text summary Fine b e tells weighed_due is far
-
-      pub said_all_obeys : (d : DeskState) → Reaches (spoke summary) e d → ((slot : ℕ) → b.view.writing slot ≡ false) → Obeys (owed_wcnf w) b d outcome.Done
-      said_all_obeys d said free =
+    module _ (e d : DeskState) (is : Fine) (far : Reaches (made 0 w.wcnf text) b e) where
+      says_all : Reaches (spoke summary) e d → ((slot : ℕ) → b.view.writing slot ≡ false) → Obeys (owed_wcnf w) b d outcome.Done
+      says_all said free =
           let spoken : View → View = λ v. spoke summary (made 0 w.wcnf text v) in
           all_said (owed_wcnf w) w.wcnf text summary Fine b d tells weighed_due is (then (made 0 w.wcnf text) (spoke summary) spoken b e d (λ v. refl) far said) free
 
-      pub said_some_obeys : (d : DeskState) → StopsIn summary spoke e d → (IsSteady e → LacksRoom words (length summary) e) → Obeys (owed_wcnf w) b d outcome.WriteFault
-      said_some_obeys d stop lacks =
+      says_some : StopsIn summary spoke e d → (IsSteady e → LacksRoom words (length summary) e) → Obeys (owed_wcnf w) b d outcome.WriteFault
+      says_some stop lacks =
           let spoken : View → View = λ v. spoke (take stop.count summary) (made 0 w.wcnf text v) in
           let still : IsSteady b → IsSteady e = λ steady. ap (λ (v : View). v.steady) far.view ∙ steady in
           words_stop (owed_wcnf w) w.wcnf text summary Fine b d tells weighed_due is stop.count (then_fails_to_write (made 0 w.wcnf text) (spoke (take stop.count summary)) spoken b e d (λ v. refl) far stop.fails)
           (λ steady. made_lacks_words w.wcnf text (length summary) b e far.view (lacks (still steady)))
+
+      saying : ((slot : ℕ) → b.view.writing slot ≡ false) → (answer : Outcome) → EndsSaying summary e d answer → Obeys (owed_wcnf w) b d answer
+      saying free _ (whole said) = says_all said free
+      saying free _ (cut_off stop lacks) = says_some stop lacks
+
+      pub summary_obeys : ((slot : ℕ) → b.view.writing slot ≡ false) → (answer : Outcome) → EndsTelling summary e d answer → Obeys (owed_wcnf w) b d answer
+      summary_obeys free _ (says answer ends) = saying free answer ends
+      summary_obeys free _ (no_memory none) = words_want (owed_wcnf w) w.wcnf text summary Fine b d tells weighed_due is (then (made 0 w.wcnf text) same (made 0 w.wcnf text) b e d (λ v. refl) far none)

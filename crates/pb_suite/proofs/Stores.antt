@@ -24,7 +24,8 @@ use Rattle.pb_suite.specs.Outputs.IsPartOf.{of_file, of_words}
 use Rattle.pb_suite.specs.Outputs.LacksFor.{is_taken, no_room, no_words as no_word_room}
 use Rattle.pb_suite.specs.Owed.{LacksSpace, MayStand, Owed}
 use Rattle.pb_suite.specs.OwedEncode.{due_words, encoded_output, file_of, proof_files}
-use Rattle.pb_suite.specs.laws.Runs.{stored, stored_whole, LacksToStore, StopsStoring}
+use Rattle.pb_suite.specs.laws.Runs.{stored, stored_whole, EndsStoring, LacksToStore, StopsStoring}
+use Rattle.pb_suite.specs.laws.Runs.EndsStoring.{whole as all_stored, stopped}
 use Rattle.pb_suite.specs.laws.Runs.LacksToStore.{to_make, to_say}
 use Rattle.pb_suite.specs.laws.Runs.StopsStoring.{over as storing_over, not_made, in_words, no_memory, no_words}
 use Rattle.pb_suite.proofs.Endings.{all_done, bare_memory, is_refused, is_unwritten, wants_memory, always}
@@ -96,7 +97,7 @@ module _ (o : Owed) (options : Options) (p : Problem) (names : FileNames) (b d :
 
   -- ---- how it ends
 
-  pub stored_obeys : IsEncodable options p → Reaches (stored_whole options p names) b d → ((slot : ℕ) → b.view.writing slot ≡ false) → Obeys o b d outcome.Done
+  stored_obeys : IsEncodable options p → Reaches (stored_whole options p names) b d → ((slot : ℕ) → b.view.writing slot ≡ false) → Obeys o b d outcome.Done
   stored_obeys is far free = all_done o b d whole (goes_by whole (stored_whole options p names) b d (by_stored options p names summary) far) (stored_keeps options p names summary b d far.view free) (due is)
 
   cnf_stops : IsEncodable options p → (IsSteady b → LacksToStore options p names b) → StopsMaking 0 name cnf b d → Obeys o b d outcome.WriteFault
@@ -116,12 +117,16 @@ module _ (o : Owed) (options : Options) (p : Problem) (names : FileNames) (b d :
       let both : View → View = λ v. begun 1 proof text (made 0 name cnf v) in
       wants_memory o b d _ (goes_by _ both b d (by_begun_proof name cnf proof text) (then (made 0 name cnf) (begun 1 proof text) both b between d (λ v. refl) made_is part.reached)) (proof_part proof part.count named is)
 
-  pub storing_obeys : (answer : Outcome) → StopsStoring options p names b d answer → (IsSteady b → answer ≡ outcome.WriteFault → LacksToStore options p names b) → Obeys o b d answer
-  storing_obeys _ (storing_over which is far) why = is_refused o b d (outcome.Limit None which None) (goes_by nothing same b d by_same far) tt (stops which is)
-  storing_obeys _ (not_made is (stops_in_cnf ends)) why = cnf_stops is (λ steady. why steady refl) ends
-  storing_obeys _ (not_made is (stops_in_proof later)) why = proof_stops is (λ steady. why steady refl) later.proof later.between later.named later.whole later.ends
-  storing_obeys _ (in_words is n fails) why = is_unwritten o b d _ (stored options p names (take n summary)) (by_stored options p names (take n summary)) fails (words_part n is) (lacks is (λ steady. why steady refl))
-  storing_obeys _ (no_memory (wanting_not far)) why = bare_memory o b d (goes_by nothing same b d by_same far)
-  storing_obeys _ (no_memory (wants_in_cnf is part)) why = wants_memory o b d _ (goes_by _ (begun 0 name (take part.count cnf)) b d (by_begun name (take part.count cnf)) part.reached) (cnf_part part.count is)
-  storing_obeys _ (no_memory (wants_in_proof is later)) why = proof_wants is later.proof later.between later.named later.whole later.ends
-  storing_obeys _ (no_words is far) why = wants_memory o b d _ (goes_by _ (made_files options p names) b d (by_files options p names) far) (words_part 0 is)
+  stopped_obeys : (answer : Outcome) → StopsStoring options p names b d answer → (IsSteady b → answer ≡ outcome.WriteFault → LacksToStore options p names b) → Obeys o b d answer
+  stopped_obeys _ (storing_over which is far) why = is_refused o b d (outcome.Limit None which None) (goes_by nothing same b d by_same far) tt (stops which is)
+  stopped_obeys _ (not_made is (stops_in_cnf ends)) why = cnf_stops is (λ steady. why steady refl) ends
+  stopped_obeys _ (not_made is (stops_in_proof later)) why = proof_stops is (λ steady. why steady refl) later.proof later.between later.named later.whole later.ends
+  stopped_obeys _ (in_words is n fails) why = is_unwritten o b d _ (stored options p names (take n summary)) (by_stored options p names (take n summary)) fails (words_part n is) (lacks is (λ steady. why steady refl))
+  stopped_obeys _ (no_memory (wanting_not far)) why = bare_memory o b d (goes_by nothing same b d by_same far)
+  stopped_obeys _ (no_memory (wants_in_cnf is part)) why = wants_memory o b d _ (goes_by _ (begun 0 name (take part.count cnf)) b d (by_begun name (take part.count cnf)) part.reached) (cnf_part part.count is)
+  stopped_obeys _ (no_memory (wants_in_proof is later)) why = proof_wants is later.proof later.between later.named later.whole later.ends
+  stopped_obeys _ (no_words is far) why = wants_memory o b d _ (goes_by _ (made_files options p names) b d (by_files options p names) far) (words_part 0 is)
+
+  pub storing_obeys : ((slot : ℕ) → b.view.writing slot ≡ false) → (answer : Outcome) → EndsStoring options p names b d answer → Obeys o b d answer
+  storing_obeys free _ (all_stored is far) = stored_obeys is far free
+  storing_obeys free _ (stopped answer stops why) = stopped_obeys answer stops why

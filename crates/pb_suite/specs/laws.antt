@@ -1,3 +1,5 @@
 pub mod Runs
 pub mod Reaching
 pub mod Renaming
+pub mod Opening
+pub mod Saying

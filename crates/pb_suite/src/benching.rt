@@ -13,11 +13,11 @@ ghost use Rattle.pb_suite.specs.Obeying.{Obeys};
 ghost use Rattle.pb_suite.specs.OwedBench.{owed_bench};
 
 use crate::outcome::Outcome;
-use crate::storing::store;
-use pb_base::{Failed, NoMemory, Problem};
+use crate::storing::{say_summary, store};
+use pb_base::{NoMemory, Problem};
 use pb_choice::Options;
-use pb_desk::{Desk, say_all};
-use pb_encode::{MeasureFault, Names, measure, words_of};
+use pb_desk::Desk;
+use pb_encode::{MeasureFault, Names, measure};
 use pb_gen::generate;
 use pb_opb::{OpbFault, read_opb};
 use pb_words::Benching;
@@ -57,10 +57,7 @@ fn store_generated<D: Desk>(
         cnf: name,
         proof: None,
     };
-    match store(alloc, problem, &Options::default(), &names, desk) {
-        Ok(()) => Outcome::Done,
-        Err(outcome) => outcome,
-    }
+    store(alloc, problem, &Options::default(), &names, desk)
 }
 
 // Says the size of a generated problem's encoding, of which no file is made.
@@ -76,23 +73,14 @@ fn say_size<D: Desk>(
     ensures { Obeys (owed_bench (as_bench_words asked.now)) (D.state desk.old) (D.state desk.new) result }
 {
     let options = Options::default();
-    let summary = match measure(alloc, problem, &options) {
-        Ok(summary) => summary,
-        Err(MeasureFault::NoMemory) => return Outcome::NoMemory,
-        Err(MeasureFault::Limit { which }) => {
-            return Outcome::Limit {
-                file: None,
-                which,
-                place: None,
-            };
-        }
-    };
-    let Ok(words) = words_of(alloc, problem, &options, &summary) else {
-        return Outcome::NoMemory;
-    };
-    match say_all(desk, &words) {
-        Ok(()) => Outcome::Done,
-        Err(Failed) => Outcome::WriteFault,
+    match measure(alloc, problem, &options) {
+        Ok(summary) => say_summary(alloc, problem, &options, &summary, desk),
+        Err(MeasureFault::NoMemory) => Outcome::NoMemory,
+        Err(MeasureFault::Limit { which }) => Outcome::Limit {
+            file: None,
+            which,
+            place: None,
+        },
     }
 }
 

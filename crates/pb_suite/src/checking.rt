@@ -1,18 +1,21 @@
 //! Checking the derivation of a file.
-ghost use Rattle.std.specs.Prelude.{◌≡◌, false};
+ghost use Rattle.std.specs.Prelude.{◌≡◌, false, IsTrue};
 ghost use Rattle.pb_base.specs.Problems.{IsWithinLimits};
 ghost use Rattle.pb_desk.specs.Desk.{IfTold, IsClosed};
 ghost use Rattle.pb_words.specs.CheckWords.{as_check_words};
 ghost use Rattle.pb_suite.specs.Obeying.{Obeys};
 ghost use Rattle.pb_suite.specs.OwedCheck.{owed_check};
 ghost use Rattle.pb_suite.specs.Posed.{IsPosed};
+ghost use Rattle.pb_suite.specs.laws.Opening.{HasBoth};
 ghost use Rattle.pb_suite.specs.laws.Runs.{check_refusal};
 
+use crate::opening::open_both;
 use crate::outcome::Outcome;
 use crate::reading::read_problem;
+use crate::saying::say;
 use pb_base::{Failed, Problem};
 use pb_check::{CheckFault, Verdict, check};
-use pb_desk::{Desk, say_all};
+use pb_desk::Desk;
 use pb_words::Checking;
 use std::alloc::Global;
 
@@ -40,7 +43,23 @@ pub fn check_refusal(fault: CheckFault) -> Outcome
     }
 }
 
-// Opens the CNF and the derivation of a problem that was read, goes through both side by side, and says where all is allowed.
+// Goes through a CNF and its derivation side by side, and says where all is allowed.
+fn compare<D: Desk>(alloc: Global, problem: &Problem, asked: &Checking<'_>, desk: &mut D) -> Outcome
+    requires within { IsWithinLimits problem.now }
+    requires cnf_open { IsTrue ((D.state desk.old).view.reading 1) }
+    requires proof_open { IsTrue ((D.state desk.old).view.reading 2) }
+    requires posed { IfTold (D.state desk.old) (λ t. IsPosed t.shelf (as_check_words asked.now).opb (as_check_words asked.now).bound problem.now) }
+    requires both { IfTold (D.state desk.old) (HasBoth (as_check_words asked.now).cnf (as_check_words asked.now).proof) }
+    ensures { Obeys (owed_check (as_check_words asked.now)) (D.state desk.old) (D.state desk.new) result }
+{
+    match check(alloc, problem, desk, 1, 2) {
+        Ok(Verdict::Accepted) => say(desk, b"accepted\n"),
+        Ok(Verdict::Rejected { line, denied }) => Outcome::Rejected { line, denied },
+        Err(fault) => check_refusal(fault),
+    }
+}
+
+// Opens the CNF and the derivation of a problem that was read, and judges them.
 fn judge<D: Desk>(alloc: Global, problem: &Problem, asked: &Checking<'_>, desk: &mut D) -> Outcome
     requires within { IsWithinLimits problem.now }
     requires cnf_free { (D.state desk.old).view.reading 1 ≡ false }
@@ -48,21 +67,9 @@ fn judge<D: Desk>(alloc: Global, problem: &Problem, asked: &Checking<'_>, desk: 
     requires posed { IfTold (D.state desk.old) (λ t. IsPosed t.shelf (as_check_words asked.now).opb (as_check_words asked.now).bound problem.now) }
     ensures { Obeys (owed_check (as_check_words asked.now)) (D.state desk.old) (D.state desk.new) result }
 {
-    match desk.open(1, asked.cnf) {
-        Ok(()) => {}
-        Err(Failed) => return Outcome::ReadFault,
-    }
-    match desk.open(2, asked.proof) {
-        Ok(()) => {}
-        Err(Failed) => return Outcome::ReadFault,
-    }
-    match check(alloc, problem, desk, 1, 2) {
-        Ok(Verdict::Accepted) => match say_all(desk, b"accepted\n") {
-            Ok(()) => Outcome::Done,
-            Err(Failed) => Outcome::WriteFault,
-        },
-        Ok(Verdict::Rejected { line, denied }) => Outcome::Rejected { line, denied },
-        Err(fault) => check_refusal(fault),
+    match open_both(asked.cnf, asked.proof, desk) {
+        Ok(()) => compare(alloc, problem, asked, desk),
+        Err(Failed) => Outcome::ReadFault,
     }
 }
 

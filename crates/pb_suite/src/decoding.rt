@@ -12,8 +12,9 @@ ghost use Rattle.pb_suite.specs.laws.Runs.{fetched, model_refusal, HasText, Stop
 
 use crate::outcome::Outcome;
 use crate::reading::{fetch, read_problem};
-use pb_base::{Failed, File, LimitKind, MAX_TEXT, NoMemory, Problem};
-use pb_desk::{Desk, TextFault, say_all};
+use crate::saying::say;
+use pb_base::{File, LimitKind, MAX_TEXT, NoMemory, Problem};
+use pb_desk::{Desk, TextFault};
 use pb_model::{Decoded, Model, ModelFault, decode, read_model, write_solution};
 use pb_words::Decoding;
 use std::alloc::Global;
@@ -85,12 +86,8 @@ fn say_solution<D: Desk>(
 {
     let mut text = Vec::new(alloc);
     match write_solution(alloc, problem, &model.values, &mut text) {
-        Ok(()) => {}
-        Err(NoMemory) => return Outcome::NoMemory,
-    }
-    match say_all(desk, &text) {
-        Ok(()) => Outcome::Done,
-        Err(Failed) => Outcome::WriteFault,
+        Ok(()) => say(desk, &text),
+        Err(NoMemory) => Outcome::NoMemory,
     }
 }
 

@@ -9,8 +9,9 @@ ghost use Rattle.pb_suite.specs.Posed.{IsPosed};
 
 use crate::outcome::Outcome;
 use crate::reading::read_problem;
-use pb_base::{Failed, NoMemory, Problem};
-use pb_desk::{Desk, say_all};
+use crate::saying::say;
+use pb_base::{NoMemory, Problem};
+use pb_desk::Desk;
 use pb_model::write_map;
 use pb_words::Mapping;
 use std::alloc::Global;
@@ -28,12 +29,8 @@ fn say_names<D: Desk>(
 {
     let mut text = Vec::new(alloc);
     match write_map(alloc, problem, &mut text) {
-        Ok(()) => {}
-        Err(NoMemory) => return Outcome::NoMemory,
-    }
-    match say_all(desk, &text) {
-        Ok(()) => Outcome::Done,
-        Err(Failed) => Outcome::WriteFault,
+        Ok(()) => say(desk, &text),
+        Err(NoMemory) => Outcome::NoMemory,
     }
 }
 

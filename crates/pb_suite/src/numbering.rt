@@ -169,6 +169,26 @@ fn numbered_form(
     Ok(Linear::from_parts(terms, degree))
 }
 
+// Adds constraints over the places of their variables.
+fn push_numbered(
+    alloc: Global,
+    names: &[u32],
+    forms: &Constraints,
+    made: &mut Constraints,
+) -> Result<(), NoMemory>
+    requires names { AreNames names.now }
+    requires known { All (OfConstraint (Contains names.now)) forms.now }
+    ensures { OnOk result (made.new ≡ made.old ++ map (renamed (number_in names.now)) forms.now) }
+{
+    let mut terms = Vec::new(alloc);
+    for place in 0..forms.len() {
+        let degree = forms.read(place, &mut terms)?;
+        let form = numbered_form(alloc, names, &terms, degree)?;
+        made.push(&form)?;
+    }
+    Ok(())
+}
+
 /// Constraints over the places of their variables.
 pub fn numbered_forms(
     alloc: Global,
@@ -180,12 +200,7 @@ pub fn numbered_forms(
     ensures { IfOk result (λ made. made ≡ map (renamed (number_in names.now)) forms.now) }
 {
     let mut made = Constraints::new(alloc);
-    let mut terms = Vec::new(alloc);
-    for place in 0..forms.len() {
-        let degree = forms.read(place, &mut terms)?;
-        let form = numbered_form(alloc, names, &terms, degree)?;
-        made.push(&form)?;
-    }
+    push_numbered(alloc, names, forms, &mut made)?;
     Ok(made)
 }
 

@@ -1,10 +1,10 @@
 //! What given literals reach over clauses.
-ghost use Rattle.std.specs.Prelude.{◌≡◌, ◌≤◌, ◌<◌, ◌^◌, ◌++◌, [], All, IfOk, OnOk};
+ghost use Rattle.std.specs.Prelude.{◌≡◌, ◌≤◌, ◌<◌, ◌^◌, ◌++◌, [], All, IfOk, IfSome, OnOk};
 ghost use Rattle.std.specs.Option.{MatchOption};
 ghost use Rattle.pb_norm.specs.ClausePropagation.{ClauseConflict};
 ghost use Rattle.pb_norm.specs.Propagation.{Conflict};
 ghost use Rattle.pb_suite.specs.OwedProbe.{AreReached};
-ghost use Rattle.pb_suite.specs.laws.Reaching.{held_to, value_at, AreAscending, AreAssumed, AreReachedOver, AreSorted, HaveOpposites, IsUpTo, OfClauses, OfConstraint, OfLit};
+ghost use Rattle.pb_suite.specs.laws.Reaching.{held_to, value_at, AreAscending, AreAssumed, AreReachedOver, AreSorted, AreUpTo, HaveOpposites, IsUpTo, OfClauses, OfConstraint, OfLit};
 ghost use Rattle.pb_suite.specs.laws.Renaming.{AreNamed, AreNames};
 
 use crate::numbering::{
@@ -140,7 +140,7 @@ fn reached_within(
     }
 }
 
-// The same over the places of the variables among those that occur.
+// The same over the places of the variables among these, which have all that occur.
 fn reached_by_names(
     alloc: Global,
     names: &[u32],
@@ -152,12 +152,41 @@ fn reached_by_names(
     requires ascending { AreAscending given.now }
     ensures { IfOk result (λ found. MatchOption found (Conflict forms.now given.now) (λ v. AreReachedOver forms.now given.now v.items)) }
 {
-    let numbered = numbered_forms(alloc, names, forms)?;
     let lits = numbered_lits(alloc, names, given)?;
+    let numbered = numbered_forms(alloc, names, forms)?;
     match reached_within(alloc, names.len() as u32, numbered, &lits)? {
         None => Ok(None),
         Some(found) => Ok(Some(named_lits(alloc, names, &found)?)),
     }
+}
+
+// The same over the places of the variables among those that occur.
+fn reached_by_places(
+    alloc: Global,
+    forms: &Constraints,
+    given: &[Lit],
+) -> Result<Option<Vec<Lit>>, NoMemory>
+    requires ascending { AreAscending given.now }
+    ensures { IfOk result (λ found. MatchOption found (Conflict forms.now given.now) (λ v. AreReachedOver forms.now given.now v.items)) }
+{
+    let names = names_of(vars_of(alloc, forms, given)?);
+    reached_by_names(alloc, &names, forms, given)
+}
+
+// The greatest variable, where tables up to it take no more room than the literals do.
+fn modest_greatest(
+    alloc: Global,
+    forms: &Constraints,
+    given: &[Lit],
+) -> Result<Option<u32>, NoMemory>
+    ensures few { IfOk result (λ found. IfSome found (λ most. most < 2 ^ 31)) }
+    ensures up_to { IfOk result (λ found. IfSome found (AreUpTo forms.now given.now)) }
+{
+    let most = greatest_of(alloc, forms, greatest(given))?;
+    if most as usize > forms.clause_lits().saturating_add(given.len()) {
+        return Ok(None);
+    }
+    Ok(Some(most))
 }
 
 // The same over the variables as they are, or by their places where that takes less room.
@@ -169,12 +198,10 @@ fn reached_over(
     requires ascending { AreAscending given.now }
     ensures { IfOk result (λ found. MatchOption found (Conflict forms given.now) (λ v. AreReachedOver forms given.now v.items)) }
 {
-    let most = greatest_of(alloc, &forms, greatest(given))?;
-    if most as usize <= forms.clause_lits().saturating_add(given.len()) {
-        return reached_within(alloc, most, forms, given);
+    match modest_greatest(alloc, &forms, given)? {
+        Some(most) => reached_within(alloc, most, forms, given),
+        None => reached_by_places(alloc, &forms, given),
     }
-    let names = names_of(vars_of(alloc, &forms, given)?);
-    reached_by_names(alloc, &names, &forms, given)
 }
 
 /// The literals that unit propagation over clauses reaches from given ones, variables ascending, the given ones included; none

@@ -1,19 +1,22 @@
 //! Refuting the problem of a file.
-ghost use Rattle.std.specs.Prelude.{◌≡◌, ◌<◌, ◌^◌, false};
+ghost use Rattle.std.specs.Prelude.{◌≡◌, ◌<◌, ◌^◌, false, IsTrue};
 ghost use Rattle.pb_base.specs.Problems.{IsWithinLimits};
 ghost use Rattle.pb_desk.specs.Desk.{IfTold, IsClosed};
 ghost use Rattle.pb_words.specs.RefuteWords.{as_refute_words};
 ghost use Rattle.pb_suite.specs.Obeying.{Obeys};
 ghost use Rattle.pb_suite.specs.OwedRefute.{owed_refute, IsAccepted};
 ghost use Rattle.pb_suite.specs.Posed.{IsPosed};
+ghost use Rattle.pb_suite.specs.laws.Opening.{HasBoth};
 ghost use Rattle.pb_suite.specs.laws.Runs.{lrat_refusal};
 
 use crate::checking::check_refusal;
+use crate::opening::open_both;
 use crate::outcome::Outcome;
 use crate::reading::read_problem;
+use crate::saying::say;
 use pb_base::{Clauses, Failed, File, Problem};
 use pb_check::{Verdict, check_kept};
-use pb_desk::{Desk, say_all};
+use pb_desk::Desk;
 use pb_lrat::{RefuteFault, refute};
 use pb_words::Refuting;
 use std::alloc::Global;
@@ -57,15 +60,32 @@ fn follow<D: Desk>(
         Err(Failed) => return Outcome::ReadFault,
     }
     match refute(alloc, desk, 3, vars, clauses) {
-        Ok(()) => match say_all(desk, b"refuted\n") {
-            Ok(()) => Outcome::Done,
-            Err(Failed) => Outcome::WriteFault,
-        },
+        Ok(()) => say(desk, b"refuted\n"),
         Err(fault) => lrat_refusal(fault),
     }
 }
 
-// Opens the CNF and the derivation of a problem that was read, goes through both side by side, and then through the refutation.
+// Goes through a CNF and its derivation side by side, and where all is allowed through the refutation.
+fn compare<D: Desk>(alloc: Global, problem: &Problem, asked: &Refuting<'_>, desk: &mut D) -> Outcome
+    requires within { IsWithinLimits problem.now }
+    requires cnf_open { IsTrue ((D.state desk.old).view.reading 1) }
+    requires proof_open { IsTrue ((D.state desk.old).view.reading 2) }
+    requires lrat_free { (D.state desk.old).view.reading 3 ≡ false }
+    requires posed { IfTold (D.state desk.old) (λ t. IsPosed t.shelf (as_refute_words asked.now).opb (as_refute_words asked.now).bound problem.now) }
+    requires both { IfTold (D.state desk.old) (HasBoth (as_refute_words asked.now).cnf (as_refute_words asked.now).proof) }
+    ensures { Obeys (owed_refute (as_refute_words asked.now)) (D.state desk.old) (D.state desk.new) result }
+{
+    let (verdict, vars, clauses) = match check_kept(alloc, problem, desk, 1, 2) {
+        Ok(found) => found,
+        Err(fault) => return check_refusal(fault),
+    };
+    match verdict {
+        Verdict::Accepted => follow(alloc, vars, clauses, asked, desk),
+        Verdict::Rejected { line, denied } => Outcome::Rejected { line, denied },
+    }
+}
+
+// Opens the CNF and the derivation of a problem that was read, and judges them.
 fn judge<D: Desk>(alloc: Global, problem: &Problem, asked: &Refuting<'_>, desk: &mut D) -> Outcome
     requires within { IsWithinLimits problem.now }
     requires cnf_free { (D.state desk.old).view.reading 1 ≡ false }
@@ -74,21 +94,9 @@ fn judge<D: Desk>(alloc: Global, problem: &Problem, asked: &Refuting<'_>, desk: 
     requires posed { IfTold (D.state desk.old) (λ t. IsPosed t.shelf (as_refute_words asked.now).opb (as_refute_words asked.now).bound problem.now) }
     ensures { Obeys (owed_refute (as_refute_words asked.now)) (D.state desk.old) (D.state desk.new) result }
 {
-    match desk.open(1, asked.cnf) {
-        Ok(()) => {}
-        Err(Failed) => return Outcome::ReadFault,
-    }
-    match desk.open(2, asked.proof) {
-        Ok(()) => {}
-        Err(Failed) => return Outcome::ReadFault,
-    }
-    let (verdict, vars, clauses) = match check_kept(alloc, problem, desk, 1, 2) {
-        Ok(found) => found,
-        Err(fault) => return check_refusal(fault),
-    };
-    match verdict {
-        Verdict::Accepted => follow(alloc, vars, clauses, asked, desk),
-        Verdict::Rejected { line, denied } => Outcome::Rejected { line, denied },
+    match open_both(asked.cnf, asked.proof, desk) {
+        Ok(()) => compare(alloc, problem, asked, desk),
+        Err(Failed) => Outcome::ReadFault,
     }
 }
 

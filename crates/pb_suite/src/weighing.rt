@@ -10,10 +10,10 @@ ghost use Rattle.pb_suite.specs.Posed.{IsPosed};
 
 use crate::outcome::Outcome;
 use crate::reading::read_problem;
-use crate::storing::outcome_of;
-use pb_base::{Failed, Problem};
-use pb_desk::{Desk, say_all};
-use pb_encode::{weighted, words_of};
+use crate::storing::{outcome_of, say_summary};
+use pb_base::Problem;
+use pb_desk::Desk;
+use pb_encode::weighted;
 use pb_words::Weighing;
 use std::alloc::Global;
 
@@ -30,16 +30,9 @@ fn store_weighted<D: Desk>(
     requires posed { IfTold (D.state desk.old) (λ t. IsPosed t.shelf (as_wcnf_words asked.now).opb (as_wcnf_words asked.now).bound problem.now) }
     ensures { Obeys (owed_wcnf (as_wcnf_words asked.now)) (D.state desk.old) (D.state desk.new) result }
 {
-    let summary = match weighted(alloc, problem, &asked.options, asked.wcnf, desk) {
-        Ok(summary) => summary,
-        Err(fault) => return outcome_of(fault),
-    };
-    let Ok(words) = words_of(alloc, problem, &asked.options, &summary) else {
-        return Outcome::NoMemory;
-    };
-    match say_all(desk, &words) {
-        Ok(()) => Outcome::Done,
-        Err(Failed) => Outcome::WriteFault,
+    match weighted(alloc, problem, &asked.options, asked.wcnf, desk) {
+        Ok(summary) => say_summary(alloc, problem, &asked.options, &summary, desk),
+        Err(fault) => outcome_of(fault),
     }
 }
 

@@ -62,3 +62,8 @@ OfConstraint K c = All (OfTerm K) c.terms
 pub record IsUpTo (most v : ℕ) : Type 0 where
   pub low : 1 ≤ v
   pub high : v ≤ most
+
+-- each variable of the constraints and of the literals is
+pub record AreUpTo (cs : List Constraint) (ls : List Lit) (most : ℕ) : Type 0 where
+  pub constraints : All (OfConstraint (IsUpTo most)) cs
+  pub lits : All (OfLit (IsUpTo most)) ls

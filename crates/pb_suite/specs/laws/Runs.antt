@@ -8,7 +8,7 @@ use Rattle.pb_base.specs.declared.limit.LimitKind.TheVariants.{Weight}
 use Rattle.pb_base.specs.declared.place.Place.{Place}
 use Rattle.pb_base.specs.declared.problem.Problem.{Problem}
 use Rattle.pb_desk.specs.View.{View, opened, taken, spoke}
-use Rattle.pb_desk.specs.Desk.{DeskState, Reaches, FailsToRead, FailsToWrite, IfTold, LacksRoom, words, same}
+use Rattle.pb_desk.specs.Desk.{DeskState, Reaches, FailsToRead, FailsToWrite, IfTold, IsSteady, LacksRoom, words, same}
 use Rattle.pb_opb.specs.declared.bound.BoundFault.{BoundFault}
 use Rattle.pb_opb.specs.declared.bound.BoundFault.TheVariants as bound
 use Rattle.pb_opb.specs.declared.fault.OpbFault.{OpbFault}
@@ -128,3 +128,8 @@ FetchesMore slot name most old new = (count : ℕ) × (most < count) × FetchesP
 -- all was made and said
 abbrev pub stored_whole : Options → Problem → FileNames → View → View
 stored_whole o p names = stored o p names (due_words o p)
+
+-- how storing an encoding ended: with all made and said, or without it
+pub data EndsStoring (o : Options) (p : Problem) (names : FileNames) (old new : DeskState) : Outcome → Type 0 where
+  whole : IsEncodable o p → Reaches (stored_whole o p names) old new → EndsStoring o p names old new outcome.Done
+  stopped : (answer : Outcome) → StopsStoring o p names old new answer → (IsSteady old → answer ≡ outcome.WriteFault → LacksToStore o p names old) → EndsStoring o p names old new answer

@@ -1,35 +1,22 @@
-use Rattle.std.proofs.Common.{ℕ, List, Option, Err, ap, subst, sym}
-use Rattle.pb_desk.specs.Desk.{Reaches}
+use Rattle.std.proofs.Common.{ℕ, List, Option, ap, subst, sym}
 use Rattle.pb_choice.specs.Defaults.{default_options}
 use Rattle.pb_choice.specs.declared.options.Options.{Options}
 use Rattle.pb_words.specs.BenchWords.{as_bench_words}
 use Rattle.pb_suite.specs.OwedBench.{bench_output, only_cnf, owed_bench}
 use Rattle.pb_suite.specs.OwedEncode.{encoded_output}
-use Rattle.pb_suite.specs.laws.Runs.{stored_whole}
+use Rattle.pb_suite.specs.laws.Runs.{EndsStoring}
 use Rattle.pb_suite.proofs.OwedBenches.{bench_due, bench_over}
-use Rattle.pb_suite.proofs.Stores.{stored_obeys, storing_obeys}
+use Rattle.pb_suite.proofs.Stores.{storing_obeys}
 use Rattle.pb_suite.proofs.benching.store_generated.Goals as goal
 
-pub returns-in-Ok : goal.returns-in-Ok
-returns-in-Ok g c =
+pub returns : goal.returns
+returns g c =
     let w = as_bench_words c.args.asked.now in
     let p = c.args.problem.now in
     let name = c.args.name.now in
     let a = g.D.Desk.state c.args.desk.now in
     let b = g.D.Desk.state c.store.new.desk in
-    let stored = subst (λ (o : Options). Reaches (stored_whole o p (only_cnf name)) a b) c.default.ensures c.in-Ok.ensures.stored in
-    stored_obeys (owed_bench w) default_options p (only_cnf name) a b (g.met.D.Desk.steady_tells c.args.desk.now) (λ e. cc)
+    storing_obeys (owed_bench w) default_options p (only_cnf name) a b (g.met.D.Desk.steady_tells c.args.desk.now) (λ e. cc)
     (bench_due w p a c.requires.reads (encoded_output (only_cnf name) default_options p) (ap (λ (n : Option (List ℕ)). bench_output n p) (sym c.requires.named)))
     (bench_over w p a c.requires.reads)
-    (rw (sym c.default.ensures) c.in-Ok.ensures.encodable) stored c.requires.closed.writing
-
-pub returns-in-Err : goal.returns-in-Err
-returns-in-Err g c =
-    let w = as_bench_words c.args.asked.now in
-    let p = c.args.problem.now in
-    let name = c.args.name.now in
-    let a = g.D.Desk.state c.args.desk.now in
-    storing_obeys (owed_bench w) default_options p (only_cnf name) a (g.D.Desk.state c.store.new.desk) (g.met.D.Desk.steady_tells c.args.desk.now) (λ e. cc)
-    (bench_due w p a c.requires.reads (encoded_output (only_cnf name) default_options p) (ap (λ (n : Option (List ℕ)). bench_output n p) (sym c.requires.named)))
-    (bench_over w p a c.requires.reads)
-    c.in-Err.outcome (rw (sym c.default.ensures) c.in-Err.ensures.stopped) (λ steady is. rw (sym c.default.ensures) (c.in-Err.ensures.steady steady (ap Err is)))
+    c.requires.closed.writing c.store.result (subst (λ (o : Options). EndsStoring o p (only_cnf name) a b c.store.result) c.default.ensures c.store.ensures)

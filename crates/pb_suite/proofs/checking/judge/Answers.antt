@@ -1,71 +1,29 @@
-use Rattle.std.proofs.Common.{Err, Ok, ap, sym, subst}
-use Rattle.pb_desk.specs.View.{opened}
-use Rattle.pb_check.specs.declared.verdict.Verdict.{Verdict}
-use Rattle.pb_desk.specs.TwoSlots.{TakesBoth}
-use Rattle.pb_check.specs.Walk.{Walk}
+use Rattle.std.proofs.Common.{refl, sym, subst}
+use Rattle.std.specs.Prelude.{IsTrue}
+use Rattle.pb_desk.specs.View.{View}
 use Rattle.pb_words.specs.CheckWords.{as_check_words}
-use Rattle.pb_suite.specs.Obeying.{Obeys}
-use Rattle.pb_suite.specs.Outputs.{nothing}
 use Rattle.pb_suite.specs.OwedCheck.{owed_check}
-use Rattle.pb_suite.proofs.Afterwards.{obeys_after}
-use Rattle.pb_suite.proofs.Going.{by_opened, goes_by}
-use Rattle.pb_suite.proofs.OwedChecks.{after_denial, after_saying_all, after_saying_some, after_stop, check_checks, no_cnf, no_proof}
+use Rattle.pb_suite.proofs.OwedChecks.{check_checks, opened_obeys, still_posed, unopened_obeys}
 use Rattle.pb_suite.proofs.checking.judge.Goals as goal
 
 pub returns-in-Err : goal.returns-in-Err
 returns-in-Err g c =
-    no_cnf (as_check_words c.args.asked.now) (owed_check (as_check_words c.args.asked.now)) (check_checks (as_check_words c.args.asked.now)) (g.D.Desk.state c.args.desk.now) (g.D.Desk.state c.«open».new.self) c.in-Err.ensures.failed c.in-Err.ensures.steady
-
-pub returns-in-Err-open : goal.returns-in-Err-open
-returns-in-Err-open g c =
     let w = as_check_words c.args.asked.now in
-    let a = g.D.Desk.state c.args.desk.now in
-    let b = g.D.Desk.state c.«open».new.self in
-    let d = g.D.Desk.state c.open-2.new.self in
-    obeys_after (owed_check w) a b d (goes_by nothing (opened 1 w.cnf) a b (by_opened 1 w.cnf) c.in-Ok.ensures.ok) _
-    (no_proof w (owed_check w) (check_checks w) b d c.in-Err-open.ensures.failed c.in-Err-open.ensures.steady)
+    unopened_obeys w (owed_check w) (check_checks w) (g.D.Desk.state c.args.desk.now) (g.D.Desk.state c.open_both.new.desk) c.in-Err.ensures.failed
 
-pub returns-in-Err-check : goal.returns-in-Err-check
-returns-in-Err-check g c =
-    let w = as_check_words c.args.asked.now in
-    let p = c.args.problem.now in
-    let a = g.D.Desk.state c.args.desk.now in
-    let b = g.D.Desk.state c.«open».new.self in
-    let d = g.D.Desk.state c.open-2.new.self in
-    let e = g.D.Desk.state c.check.new.desk in
-    subst (Obeys (owed_check w) a e) (sym c.check_refusal.ensures)
-    (after_stop w p a b d e c.requires.posed c.in-Ok.ensures.ok c.in-Ok-open.ensures.ok c.in-Ok.ensures.found c.in-Ok-open.ensures.found
-    (owed_check w) (check_checks w) c.in-Err-check.fault c.in-Err-check.ensures.stopped c.in-Err-check.ensures.named (λ steady is. c.in-Err-check.ensures.steady steady (ap Err is)))
+pub compare-requires-clause-cnf_open : goal.compare-requires-clause-cnf_open
+compare-requires-clause-cnf_open g c = subst (λ (v : View). IsTrue (v.reading 1)) (sym c.in-Ok.ensures.opened.view) refl
 
-pub returns-in-Ok-Rejected : goal.returns-in-Ok-Rejected
-returns-in-Ok-Rejected g c =
-    let w = as_check_words c.args.asked.now in
-    let p = c.args.problem.now in
-    let a = g.D.Desk.state c.args.desk.now in
-    let b = g.D.Desk.state c.«open».new.self in
-    let d = g.D.Desk.state c.open-2.new.self in
-    let e = g.D.Desk.state c.check.new.desk in
-    after_denial w p a b d e c.requires.posed c.in-Ok.ensures.ok c.in-Ok-open.ensures.ok c.in-Ok.ensures.found c.in-Ok-open.ensures.found
-    (owed_check w) (check_checks w) c.in-Ok-Rejected.line c.in-Ok-Rejected.denied (subst (λ (v : Verdict). TakesBoth 1 2 (λ x y. Walk p x y (Ok v)) d e) c.in-Ok-Rejected.field-0-is c.in-Ok-Rejected.ensures.verdict)
+pub compare-requires-clause-proof_open : goal.compare-requires-clause-proof_open
+compare-requires-clause-proof_open g c = subst (λ (v : View). IsTrue (v.reading 2)) (sym c.in-Ok.ensures.opened.view) refl
 
-pub returns-in-Ok-say_all : goal.returns-in-Ok-say_all
-returns-in-Ok-say_all g c =
-    let w = as_check_words c.args.asked.now in
-    let p = c.args.problem.now in
-    let a = g.D.Desk.state c.args.desk.now in
-    let b = g.D.Desk.state c.«open».new.self in
-    let d = g.D.Desk.state c.open-2.new.self in
-    let e = g.D.Desk.state c.check.new.desk in
-    after_saying_all w p a b d e c.requires.posed c.in-Ok.ensures.ok c.in-Ok-open.ensures.ok c.in-Ok.ensures.found c.in-Ok-open.ensures.found
-    (g.D.Desk.state c.say_all.new.desk) (g.met.D.Desk.steady_tells c.check.new.desk) (subst (λ (v : Verdict). TakesBoth 1 2 (λ x y. Walk p x y (Ok v)) d e) c.in-Ok-Accepted.field-0-is c.in-Ok-Accepted.ensures.verdict) c.in-Ok-say_all.ensures.ok
+pub compare-requires-clause-posed : goal.compare-requires-clause-posed
+compare-requires-clause-posed g c = still_posed (as_check_words c.args.asked.now) (g.D.Desk.state c.args.desk.now) (g.D.Desk.state c.open_both.new.desk) c.in-Ok.ensures.opened c.args.problem.now c.requires.posed
 
-pub returns-in-Err-say_all : goal.returns-in-Err-say_all
-returns-in-Err-say_all g c =
+pub compare-requires-clause-both : goal.compare-requires-clause-both
+compare-requires-clause-both g c = c.in-Ok.ensures.found
+
+pub returns-in-Ok : goal.returns-in-Ok
+returns-in-Ok g c =
     let w = as_check_words c.args.asked.now in
-    let p = c.args.problem.now in
-    let a = g.D.Desk.state c.args.desk.now in
-    let b = g.D.Desk.state c.«open».new.self in
-    let d = g.D.Desk.state c.open-2.new.self in
-    let e = g.D.Desk.state c.check.new.desk in
-    after_saying_some w p a b d e c.requires.posed c.in-Ok.ensures.ok c.in-Ok-open.ensures.ok c.in-Ok.ensures.found c.in-Ok-open.ensures.found
-    (g.D.Desk.state c.say_all.new.desk) (g.met.D.Desk.steady_tells c.check.new.desk) (subst (λ (v : Verdict). TakesBoth 1 2 (λ x y. Walk p x y (Ok v)) d e) c.in-Ok-Accepted.field-0-is c.in-Ok-Accepted.ensures.verdict) c.in-Err-say_all.ensures.failed c.in-Err-say_all.ensures.steady
+    opened_obeys w (g.D.Desk.state c.args.desk.now) (g.D.Desk.state c.open_both.new.desk) c.in-Ok.ensures.opened (owed_check w) (g.D.Desk.state c.compare.new.desk) c.compare.result c.compare.ensures

@@ -1,38 +1,24 @@
-use Rattle.std.proofs.Common.{◌≡◌, ◌∙◌, ◌++◌, ℕ, List, ap, length, subst}
-use Rattle.pb_desk.specs.View.{spoke}
-use Rattle.pb_desk.specs.Desk.{LacksRoom, Reaches, StopsIn, words}
+use Rattle.std.proofs.Common.{◌≡◌, ◌∙◌, ◌++◌, ℕ, List, ap, subst}
 use Rattle.pb_model.specs.SolutionText.{solution_text}
 use Rattle.pb_words.specs.DecodeWords.{as_decode_words}
 use Rattle.pb_suite.specs.OwedDecode.{owed_decode}
+use Rattle.pb_suite.specs.laws.Saying.{EndsSaying}
 use Rattle.pb_suite.proofs.Endings.{bare_memory}
 use Rattle.pb_suite.proofs.Going.{stays}
 use Rattle.pb_suite.proofs.OwedDecodes.{solution_due}
-use Rattle.pb_suite.proofs.Says.{said_obeys, saying_obeys}
+use Rattle.pb_suite.proofs.Says.{saying_obeys}
 use Rattle.pb_suite.proofs.decoding.say_solution.Goals as goal
 
-pub returns-in-Err : goal.returns-in-Err
-returns-in-Err g c = let a = g.D.Desk.state c.args.desk.now in bare_memory (owed_decode (as_decode_words c.args.asked.now)) a a (stays a)
-
-pub returns-in-Ok-say_all : goal.returns-in-Ok-say_all
-returns-in-Ok-say_all g c =
-    let w = as_decode_words c.args.asked.now in
-    let p = c.args.problem.now in
-    let m = c.args.model.now in
-    let a = g.D.Desk.state c.args.desk.now in
-    let d = g.D.Desk.state c.say_all.new.desk in
-    let line = solution_text p m.values in
-    let is_said : c.deref.result.now ≡ line = c.deref.ensures.value ∙ c.in-Ok.ensures.ok ∙ ap (λ (xs : List ℕ). xs ++ line) c.new-text.ensures.items in
-    said_obeys (owed_decode w) line a d (g.met.D.Desk.steady_tells c.args.desk.now) (solution_due w p m a c.requires.answered c.requires.solution) (subst (λ (xs : List ℕ). Reaches (spoke xs) a d) is_said c.in-Ok-say_all.ensures.ok)
-
 pub returns : goal.returns
-returns g c =
+returns g c = let a = g.D.Desk.state c.args.desk.now in bare_memory (owed_decode (as_decode_words c.args.asked.now)) a a (stays a)
+
+pub returns-in-Ok : goal.returns-in-Ok
+returns-in-Ok g c =
     let w = as_decode_words c.args.asked.now in
     let p = c.args.problem.now in
     let m = c.args.model.now in
     let a = g.D.Desk.state c.args.desk.now in
-    let d = g.D.Desk.state c.say_all.new.desk in
+    let d = g.D.Desk.state c.say.new.desk in
     let line = solution_text p m.values in
     let is_said : c.deref.result.now ≡ line = c.deref.ensures.value ∙ c.in-Ok.ensures.ok ∙ ap (λ (xs : List ℕ). xs ++ line) c.new-text.ensures.items in
-    saying_obeys (owed_decode w) line a d (g.met.D.Desk.steady_tells c.args.desk.now) (solution_due w p m a c.requires.answered c.requires.solution)
-    (subst (λ (xs : List ℕ). StopsIn xs spoke a d) is_said c.in-Err-say_all.ensures.failed)
-    (λ steady. subst (λ (xs : List ℕ). LacksRoom words (length xs) a) is_said (c.in-Err-say_all.ensures.steady steady))
+    saying_obeys (owed_decode w) line a d (g.met.D.Desk.steady_tells c.args.desk.now) (solution_due w p m a c.requires.answered c.requires.solution) c.say.result (subst (λ (xs : List ℕ). EndsSaying xs a d c.say.result) is_said c.say.ensures)

@@ -2,7 +2,7 @@ use Rattle.std.proofs.Common.{Err, ap, sym, subst}
 use Rattle.pb_words.specs.RefuteWords.{as_refute_words}
 use Rattle.pb_suite.specs.Obeying.{Obeys}
 use Rattle.pb_suite.specs.OwedRefute.{owed_refute}
-use Rattle.pb_suite.proofs.OwedRefutes.{after_ending, after_saying_all, after_saying_some, no_lrat}
+use Rattle.pb_suite.proofs.OwedRefutes.{after_ending, after_saying, no_lrat}
 use Rattle.pb_suite.proofs.refuting.follow.Goals as goal
 
 pub returns-in-Err : goal.returns-in-Err
@@ -19,20 +19,11 @@ returns-in-Err-refute g c =
     (after_ending w c.args.vars c.args.clauses a b d c.requires.accepted c.in-Ok.ensures.ok c.in-Ok.ensures.found
     c.in-Err-refute.fault c.in-Err-refute.ensures.stopped (λ steady is. c.in-Err-refute.ensures.steady steady (ap Err is)))
 
-pub returns-in-Ok-say_all : goal.returns-in-Ok-say_all
-returns-in-Ok-say_all g c =
+pub returns-in-Ok-refute : goal.returns-in-Ok-refute
+returns-in-Ok-refute g c =
     let w = as_refute_words c.args.asked.now in
     let a = g.D.Desk.state c.args.desk.now in
     let b = g.D.Desk.state c.«open».new.self in
     let d = g.D.Desk.state c.refute.new.desk in
-    after_saying_all w c.args.vars c.args.clauses a b d c.requires.accepted c.in-Ok.ensures.ok c.in-Ok.ensures.found
-    (g.D.Desk.state c.say_all.new.desk) (g.met.D.Desk.steady_tells c.refute.new.desk) c.in-Ok-refute.ensures.refuted c.in-Ok-say_all.ensures.ok
-
-pub returns-in-Err-say_all : goal.returns-in-Err-say_all
-returns-in-Err-say_all g c =
-    let w = as_refute_words c.args.asked.now in
-    let a = g.D.Desk.state c.args.desk.now in
-    let b = g.D.Desk.state c.«open».new.self in
-    let d = g.D.Desk.state c.refute.new.desk in
-    after_saying_some w c.args.vars c.args.clauses a b d c.requires.accepted c.in-Ok.ensures.ok c.in-Ok.ensures.found
-    (g.D.Desk.state c.say_all.new.desk) (g.met.D.Desk.steady_tells c.refute.new.desk) c.in-Ok-refute.ensures.refuted c.in-Err-say_all.ensures.failed c.in-Err-say_all.ensures.steady
+    after_saying w c.args.vars c.args.clauses a b d c.requires.accepted c.in-Ok.ensures.ok c.in-Ok.ensures.found
+    (g.D.Desk.state c.say.new.desk) (g.met.D.Desk.steady_tells c.refute.new.desk) c.in-Ok-refute.ensures.refuted c.say.result c.say.ensures

@@ -1,0 +1,35 @@
+use Rattle.std.proofs.Common.{Err, Ok, ap, sym, subst}
+use Rattle.pb_desk.specs.TwoSlots.{TakesBoth}
+use Rattle.pb_check.specs.declared.verdict.Verdict.{Verdict}
+use Rattle.pb_check.specs.Walk.{Walk}
+use Rattle.pb_words.specs.CheckWords.{as_check_words}
+use Rattle.pb_suite.specs.Obeying.{Obeys}
+use Rattle.pb_suite.specs.OwedCheck.{owed_check}
+use Rattle.pb_suite.proofs.OwedChecks.{accepted_obeys, check_checks, rejected_obeys, stopped_obeys}
+use Rattle.pb_suite.proofs.checking.compare.Goals as goal
+
+pub returns-in-Err : goal.returns-in-Err
+returns-in-Err g c =
+    let w = as_check_words c.args.asked.now in
+    let d = g.D.Desk.state c.args.desk.now in
+    let e = g.D.Desk.state c.check.new.desk in
+    subst (Obeys (owed_check w) d e) (sym c.check_refusal.ensures)
+    (stopped_obeys w c.args.problem.now d e c.requires.posed c.requires.both (owed_check w) (check_checks w) c.in-Err.fault c.in-Err.ensures.stopped c.in-Err.ensures.named (λ steady is. c.in-Err.ensures.steady steady (ap Err is)))
+
+pub returns-in-Ok-Rejected : goal.returns-in-Ok-Rejected
+returns-in-Ok-Rejected g c =
+    let w = as_check_words c.args.asked.now in
+    let p = c.args.problem.now in
+    let d = g.D.Desk.state c.args.desk.now in
+    let e = g.D.Desk.state c.check.new.desk in
+    rejected_obeys w p d e c.requires.posed c.requires.both (owed_check w) (check_checks w) c.in-Ok-Rejected.line c.in-Ok-Rejected.denied
+    (subst (λ (v : Verdict). TakesBoth 1 2 (λ x y. Walk p x y (Ok v)) d e) c.in-Ok-Rejected.field-0-is c.in-Ok-Rejected.ensures.verdict)
+
+pub returns-in-Ok-Accepted : goal.returns-in-Ok-Accepted
+returns-in-Ok-Accepted g c =
+    let w = as_check_words c.args.asked.now in
+    let p = c.args.problem.now in
+    let d = g.D.Desk.state c.args.desk.now in
+    let e = g.D.Desk.state c.check.new.desk in
+    accepted_obeys w p d e c.requires.posed c.requires.both (g.D.Desk.state c.say.new.desk) (g.met.D.Desk.steady_tells c.check.new.desk)
+    (subst (λ (v : Verdict). TakesBoth 1 2 (λ x y. Walk p x y (Ok v)) d e) c.in-Ok-Accepted.field-0-is c.in-Ok-Accepted.ensures.verdict) c.say.result c.say.ensures
