@@ -1,5 +1,12 @@
+use std::process::Abort;
+
 mod clause_reader;
-mod clause_writer;
+mod desks;
 mod propagation;
 mod settling;
-mod weighted_writer;
+mod writers;
+
+// That this text was found.
+fn assert_found(rt: &impl Abort, found: Option<String>, expected: &str) {
+    assert_eq!(rt; found.as_deref(), Some(expected));
+}

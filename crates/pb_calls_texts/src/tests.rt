@@ -1,3 +1,5 @@
+use std::process::Abort;
+
 mod bounds;
 mod command_lines;
 mod desks;
@@ -5,3 +7,13 @@ mod line_reader;
 mod steps;
 mod texts;
 mod words_and_numbers;
+
+// That this text was found of another.
+fn assert_found(rt: &impl Abort, found: Option<String>, expected: &str, of: &str) {
+    assert_eq!(rt; found.as_deref(), Some(expected), "of {of}");
+}
+
+// The text of a case, and what is expected of it.
+fn parts(case: &str) -> (&str, &str) {
+    case.split_once(" => ").unwrap_or((case, ""))
+}

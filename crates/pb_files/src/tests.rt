@@ -1,4 +1,4 @@
-ghost use Rattle.std.specs.Prelude.{None};
+ghost use Rattle.std.specs.Prelude.{◌≤◌, IfOk};
 ghost use Rattle.pb_desk.specs.Desk.{IsClosed};
 
 use crate::{FileId, Handle, Host, RealDesk, System};
@@ -28,9 +28,12 @@ impl<'a> Scripted<'a> {
         Ok(Handle { number, id })
     }
 
-    fn next_none(&mut self) -> Result<(), Failed> {
+    // At most so many bytes.
+    fn next_count(&mut self, most: usize) -> Result<usize, Failed>
+        ensures { IfOk result (λ count. count ≤ most) }
+    {
         match self.next() {
-            Ok(_) => Ok(()),
+            Ok(count) => Ok(count.min(most)),
             Err(Failed) => Err(Failed),
         }
     }
@@ -50,182 +53,166 @@ impl<'a> System for Scripted<'a> {
     }
 
     fn truncate(&mut self, _file: u64) -> Result<(), Failed> {
-        self.next_none()
+        self.next().and(Ok(()))
     }
 
     fn read(&mut self, _file: u64, room: &mut [u8]) -> Result<usize, Failed> {
-        match self.next() {
-            Ok(count) => Ok(count.min(room.len())),
-            Err(Failed) => Err(Failed),
-        }
+        self.next_count(room.len())
     }
 
     fn write(&mut self, _file: u64, piece: &[u8]) -> Result<usize, Failed> {
-        match self.next() {
-            Ok(count) => Ok(count.min(piece.len())),
-            Err(Failed) => Err(Failed),
-        }
+        self.next_count(piece.len())
     }
 
     fn sync(&mut self, _file: u64) -> Result<(), Failed> {
-        self.next_none()
+        self.next().and(Ok(()))
     }
 
     fn say(&mut self, piece: &[u8]) -> Result<usize, Failed> {
-        match self.next() {
-            Ok(count) => Ok(count.min(piece.len())),
-            Err(Failed) => Err(Failed),
-        }
+        self.next_count(piece.len())
     }
 }
 
-// What three reads of a file answer.
-fn three_reads<D: Desk>(desk: &mut D, name: &str) -> Result<[Option<usize>; 3], Failed>
+// What four calls of a desk answer: a count of bytes, 0 where there are none to count, or that they fail.
+type Answers = [Option<usize>; 4];
+
+// Reads a file three times, and makes one.
+fn reads<D: Desk>(desk: &mut D, from: &str, to: &str) -> Result<Answers, Failed>
     requires { IsClosed (D.state desk.old) }
 {
     let mut room = [0u8; 16];
-    desk.open(0, name)?;
+    desk.open(0, from)?;
     let first = desk.read(0, &mut room).ok();
     let second = desk.read(0, &mut room).ok();
     let third = desk.read(0, &mut room).ok();
-    Ok([first, second, third])
+    let made = desk.create(0, to).ok().and(Some(0));
+    Ok([first, second, third, made])
 }
 
-#[test]
-fn a_read_answers_as_the_system_does(rt: HostRuntime) -> Result<(), Fail> {
-    let answers = [Some(7), Some(3), None, Some(0)];
-    let system = Scripted {
-        answers: &answers,
-        at: 0,
-    };
-    let read = three_reads(&mut RealDesk::new(system), "in")?;
-    assert_eq!(rt; read, [Some(3), None, Some(0)]);
-    Ok(())
-}
-
-// What three writes of five bytes to a file answer.
-fn three_writes<D: Desk>(desk: &mut D, name: &str) -> Result<[Option<usize>; 3], Failed>
+// Makes a file, writes five bytes to it three times, and closes it.
+fn writes<D: Desk>(desk: &mut D, to: &str) -> Result<Answers, Failed>
     requires { IsClosed (D.state desk.old) }
 {
-    desk.create(1, name)?;
+    desk.create(1, to)?;
     let first = desk.write(1, b"+1 x1").ok();
     let second = desk.write(1, b"+1 x1").ok();
     let third = desk.write(1, b"+1 x1").ok();
-    Ok([first, second, third])
+    let closed = desk.close(1).ok().and(Some(0));
+    Ok([first, second, third, closed])
 }
 
-#[test]
-fn a_write_answers_as_the_system_does(rt: HostRuntime) -> Result<(), Fail> {
-    // Made and emptied; then a part is written, none, and a write fails.
-    let answers = [Some(7), Some(0), Some(2), Some(0), None];
+// Says five bytes four times.
+fn says<D: Desk>(desk: &mut D) -> Answers {
+    let first = desk.say(b"+1 x1").ok();
+    let second = desk.say(b"+1 x1").ok();
+    let third = desk.say(b"+1 x1").ok();
+    let fourth = desk.say(b"+1 x1").ok();
+    [first, second, third, fourth]
+}
+
+// What a desk is asked.
+#[derive(Drop)]
+enum Asked {
+    Reads,
+    Writes,
+    Says,
+}
+
+fn answers<D: Desk>(desk: &mut D, asked: &Asked, from: &str, to: &str) -> Result<Answers, Failed>
+    requires { IsClosed (D.state desk.old) }
+{
+    match asked {
+        Asked::Reads => reads(desk, from, to),
+        Asked::Writes => writes(desk, to),
+        Asked::Says => Ok(says(desk)),
+    }
+}
+
+// What the desk of a system answers that does so by this list.
+fn by_list(list: &[Option<usize>], asked: &Asked) -> Result<Answers, Failed> {
     let system = Scripted {
-        answers: &answers,
+        answers: list,
         at: 0,
     };
-    let written = three_writes(&mut RealDesk::new(system), "out")?;
-    assert_eq!(rt; written, [Some(2), None, None]);
-    Ok(())
-}
-
-// Whether a file is closed at once.
-fn closes<D: Desk>(desk: &mut D, name: &str) -> Result<bool, Failed>
-    requires { IsClosed (D.state desk.old) }
-{
-    desk.create(0, name)?;
-    Ok(desk.close(0).is_ok())
+    answers(&mut RealDesk::new(system), asked, "in", "out")
 }
 
 #[test]
-fn a_close_answers_as_the_system_does(rt: HostRuntime) -> Result<(), Fail> {
-    for (sync, expected) in [(Some(0), true), (None, false)] {
-        let answers = [Some(7), Some(0), sync];
-        let system = Scripted {
-            answers: &answers,
-            at: 0,
-        };
-        let closed = closes(&mut RealDesk::new(system), "out")?;
-        assert_eq!(rt; closed, expected);
+fn each_answer_is_the_systems(rt: HostRuntime) {
+    let cases: [(Asked, &[Option<usize>], Answers); 5] = [
+        // The file that was opened is not made; another one is, and emptied.
+        (
+            Asked::Reads,
+            &[Some(7), Some(3), None, Some(0), Some(7), Some(0)],
+            [Some(3), None, Some(0), None],
+        ),
+        (
+            Asked::Reads,
+            &[Some(7), Some(3), None, Some(0), Some(8), Some(0)],
+            [Some(3), None, Some(0), Some(0)],
+        ),
+        // Made and emptied; then a part is written, none, and a write fails.
+        (
+            Asked::Writes,
+            &[Some(7), Some(0), Some(2), Some(0), None, Some(0)],
+            [Some(2), None, None, Some(0)],
+        ),
+        (
+            Asked::Writes,
+            &[Some(7), Some(0), Some(2), Some(0), None, None],
+            [Some(2), None, None, None],
+        ),
+        (
+            Asked::Says,
+            &[Some(2), Some(0), None],
+            [Some(2), None, None, None],
+        ),
+    ];
+    for (asked, list, expected) in &cases {
+        let found = by_list(list, asked);
+        assert_eq!(rt; found, Ok(*expected));
     }
-    Ok(())
 }
 
-#[test]
-fn words_are_said_as_the_system_says_them(rt: HostRuntime) -> Result<(), Fail> {
-    let answers = [Some(2), Some(0), None];
-    let mut desk = RealDesk::new(Scripted {
-        answers: &answers,
-        at: 0,
-    });
-    assert_eq!(rt; desk.say(b"+1 x1"), Ok(2));
-    assert_eq!(rt; desk.say(b"+1 x1"), Err(Failed));
-    assert_eq!(rt; desk.say(b"+1 x1"), Err(Failed));
-    Ok(())
+// What the desk of the system that the test runs on answers.
+fn by_system(rt: &HostRuntime, asked: &Asked, from: &str, to: &str) -> Result<Answers, Failed> {
+    let system = Host::new(rt.alloc(), rt);
+    answers(&mut RealDesk::new(system), asked, from, to)
 }
 
-// Whether a file is made by one name once it is opened by another.
-fn makes_over<D: Desk>(desk: &mut D, from: &str, to: &str) -> Result<bool, Failed>
-    requires { IsClosed (D.state desk.old) }
-{
-    desk.open(0, from)?;
-    Ok(desk.create(0, to).is_ok())
-}
-
-#[test]
-fn a_file_that_was_opened_is_not_made(rt: HostRuntime) -> Result<(), Fail> {
-    for (made, expected) in [(7, false), (8, true)] {
-        let answers = [Some(7), Some(made), Some(0)];
-        let system = Scripted {
-            answers: &answers,
-            at: 0,
-        };
-        let is_made = makes_over(&mut RealDesk::new(system), "a", "b")?;
-        assert_eq!(rt; is_made, expected);
+// Whether a file holds this text.
+fn holds(rt: &HostRuntime, name: &str, text: &str) -> bool {
+    match fs::read_to_string(rt, name) {
+        Ok(kept) => kept.as_str() == text,
+        Err(_) => false,
     }
-    Ok(())
-}
-
-#[test]
-fn a_file_by_another_name_keeps_its_bytes(rt: HostRuntime) -> Result<(), Fail> {
-    let (from, dotted, linked) = ("pb_files_in.tmp", "./pb_files_in.tmp", "pb_files_link.tmp");
-    fs::write(&rt, from, "* kept\n")?;
-    fs::hard_link(&rt, from, linked)?;
-    let over_dotted = makes_over(&mut RealDesk::new(Host::new(rt.alloc(), &rt)), from, dotted);
-    let over_linked = makes_over(&mut RealDesk::new(Host::new(rt.alloc(), &rt)), from, linked);
-    let kept = fs::read_to_string(&rt, from);
-    fs::remove_file(&rt, from)?;
-    fs::remove_file(&rt, linked)?;
-    assert_eq!(rt; over_dotted, Ok(false));
-    assert_eq!(rt; over_linked, Ok(false));
-    assert_eq!(rt; kept?.as_str(), "* kept\n");
-    Ok(())
-}
-
-// Makes a file and writes to it.
-fn writes_once<D: Desk>(desk: &mut D, name: &str, text: &[u8]) -> Result<usize, Failed>
-    requires { IsClosed (D.state desk.old) }
-{
-    desk.create(1, name)?;
-    let count = desk.write(1, text)?;
-    desk.close(1)?;
-    Ok(count)
 }
 
 #[test]
 fn the_system_keeps_a_file(rt: HostRuntime) -> Result<(), Fail> {
-    let name = "pb_files_out.tmp";
-    fs::write(&rt, name, "* what was there before\n")?;
-    let count = writes_once(
-        &mut RealDesk::new(Host::new(rt.alloc(), &rt)),
-        name,
-        b"* kept\n",
+    let (name, dotted, linked) = (
+        "pb_files_out.tmp",
+        "./pb_files_out.tmp",
+        "pb_files_link.tmp",
     );
-    let kept = fs::read_to_string(&rt, name);
-    let read = three_reads(&mut RealDesk::new(Host::new(rt.alloc(), &rt)), name);
+    fs::write(&rt, name, "* what was there before\n")?;
+    fs::hard_link(&rt, name, linked)?;
+    let written = by_system(&rt, &Asked::Writes, name, name);
+    // By another name it keeps its bytes.
+    let over_dotted = by_system(&rt, &Asked::Reads, name, dotted);
+    let over_linked = by_system(&rt, &Asked::Reads, name, linked);
+    let kept = holds(&rt, name, "+1 x1+1 x1+1 x1");
     fs::remove_file(&rt, name)?;
-    assert_eq!(rt; count, Ok(7));
-    assert_eq!(rt; kept?.as_str(), "* kept\n");
-    assert_eq!(rt; read, Ok([Some(7), Some(0), Some(0)]));
-    let absent = RealDesk::new(Host::new(rt.alloc(), &rt)).open(0, name);
-    assert_eq!(rt; absent, Err(Failed));
+    fs::remove_file(&rt, linked)?;
+    let absent = by_system(&rt, &Asked::Reads, name, name);
+    assert!(rt; kept);
+    let found = [written, over_dotted, over_linked, absent];
+    let expected = [
+        Ok([Some(5), Some(5), Some(5), Some(0)]),
+        Ok([Some(15), Some(0), Some(0), None]),
+        Ok([Some(15), Some(0), Some(0), None]),
+        Err(Failed),
+    ];
+    assert_eq!(rt; found, expected);
     Ok(())
 }

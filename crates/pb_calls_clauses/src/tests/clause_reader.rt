@@ -1,20 +1,14 @@
 // The reader of clauses over a desk in memory.
-ghost use Rattle.std.specs.Prelude.{IfSome};
+ghost use Rattle.std.specs.Prelude.{◌≡◌, ◌<◌, length, None, IsTrue, IfSome};
 ghost use Rattle.pb_desk.specs.Desk.{IsClosed};
+ghost use Rattle.pb_dimacs.specs.CnfReaders.{new_reader};
 
-use super::clause_writer::desk_with;
-use pb_base::{Clause, Ids};
-use pb_desk::{Desk, MemoryDesk};
+use super::assert_found;
+use super::desks::desk_with;
+use pb_desk::Desk;
 use pb_dimacs::{ClauseReader, CnfFault, CnfForms, CnfHead, read_forms};
 use pb_samples::{constraint_text, lits_text};
 use std::alloc::Global;
-use std::test::Fail;
-
-fn desk_of(alloc: Global, text: &str) -> Option<MemoryDesk>
-    ensures { IfSome result (λ desk. IsClosed (⟦<MemoryDesk as Desk>⟧.state desk)) }
-{
-    desk_with(alloc, text.as_bytes(), Ids::new(alloc), 3).ok()
-}
 
 // A fault: its place and what was expected there, or no more than its kind.
 fn fault_text(alloc: Global, fault: CnfFault) -> Option<String> {
@@ -24,78 +18,113 @@ fn fault_text(alloc: Global, fault: CnfFault) -> Option<String> {
     }
 }
 
-// The numbers of a p line and the column of the first.
-fn head_text(alloc: Global, head: CnfHead) -> Option<String> {
-    format!(in alloc; "{} {} {}", head.vars, head.clauses, head.place.column).ok()
-}
-
-// The literals of a clause.
-fn clause_text(alloc: Global, next: Option<Clause>) -> Option<String> {
-    match next {
-        Some(clause) => lits_text(alloc, clause.as_slice()),
-        None => "none".to_string(alloc).ok(),
-    }
-}
-
-// The p line, or why there is none.
-fn head_of<D: Desk>(alloc: Global, desk: &mut D) -> Option<String>
-    requires { IsClosed (D.state desk.old) }
+// Adds the literals of the next clause, and says that there is one; or adds that there is none, or why.
+fn push_next<D: Desk>(
+    alloc: Global,
+    reader: &mut ClauseReader,
+    desk: &mut D,
+    text: &mut String,
+) -> Option<bool>
+    requires open { IsTrue ((D.state desk.old).view.reading reader.old.lines.slot) }
+    requires fine { reader.old.fault ≡ None }
+    ensures open { IfSome result (λ more. IsTrue more → IsTrue ((D.state desk.new).view.reading reader.new.lines.slot)) }
+    ensures fine { IfSome result (λ more. IsTrue more → reader.new.fault ≡ None) }
 {
-    let mut reader = ClauseReader::new(alloc, 0).ok()?;
+    let (line, more) = match reader.next_clause(desk) {
+        Ok(Some(clause)) => (lits_text(alloc, clause.as_slice()), true),
+        Ok(None) => ("none".to_string(alloc).ok(), false),
+        Err(fault) => (fault_text(alloc, fault), false),
+    };
+    text.push(';').ok()?;
+    text.push_str(line?.as_str()).ok()?;
+    Some(more)
+}
+
+// The numbers of a p line and the column of the first, and up to three clauses behind it.
+fn clauses_text<D: Desk>(
+    alloc: Global,
+    reader: &mut ClauseReader,
+    desk: &mut D,
+    head: CnfHead,
+) -> Option<String>
+    requires open { IsTrue ((D.state desk.old).view.reading reader.old.lines.slot) }
+    requires fine { reader.old.fault ≡ None }
+{
+    let mut text = format!(in alloc; "{} {} {}", head.vars, head.clauses, head.place.column).ok()?;
+    let _ = push_next(alloc, reader, desk, &mut text)?
+        && push_next(alloc, reader, desk, &mut text)?
+        && push_next(alloc, reader, desk, &mut text)?;
+    Some(text)
+}
+
+// What a reader tells of a file.
+fn told_by<D: Desk>(alloc: Global, reader: &mut ClauseReader, desk: &mut D) -> Option<String>
+    requires closed { IsClosed (D.state desk.old) }
+    requires new { reader.old ≡ new_reader 0 }
+{
     desk.open(0, "in").ok()?;
     match reader.head(desk) {
-        Ok(head) => head_text(alloc, head),
+        Ok(head) => clauses_text(alloc, reader, desk, head),
         Err(fault) => fault_text(alloc, fault),
     }
 }
 
-// The first clause behind a p line, or why there is none.
-fn first_clause<D: Desk>(alloc: Global, desk: &mut D) -> Option<String>
+fn told<D: Desk>(alloc: Global, desk: &mut D) -> Option<String>
     requires { IsClosed (D.state desk.old) }
 {
     let mut reader = ClauseReader::new(alloc, 0).ok()?;
-    desk.open(0, "in").ok()?;
-    reader.head(desk).ok()?;
-    match reader.next_clause(desk) {
-        Ok(next) => clause_text(alloc, next),
-        Err(fault) => fault_text(alloc, fault),
+    told_by(alloc, &mut reader, desk)
+}
+
+fn told_of(alloc: Global, text: &str) -> Option<String> {
+    let mut desk = desk_with(alloc, text.as_bytes(), 0, 3).ok()?;
+    told(alloc, &mut desk)
+}
+
+#[test]
+fn clauses_come_in_turn(rt: HostRuntime) {
+    let cases = [
+        ("p cnf 2 3\n", "2 3 7;2:1: clause word"),
+        ("", "1:1: p line"),
+        ("p dnf 1 1", "1:3: cnf word"),
+        ("p cnf 1", "1:8: clause count"),
+        ("c\np cnf 1 1 1", "2:11: line end"),
+        (
+            "p cnf 2 2\n1 -1 0\nc note\n1\n2 0",
+            "2 2 7; x1 ~x1; x1 x2;none",
+        ),
+        ("p cnf 1 0", "1 0 7;none"),
+        ("p cnf 1 1\n2 0", "1 1 7;2:1: clause word"),
+        ("p cnf 1 1\n1", "1 1 7;3:1: clause word"),
+        ("p cnf 1 0\n\n 1", "1 0 7;3:2: cnf end"),
+    ];
+    for (text, expected) in cases {
+        let found = told_of(rt.alloc(), text);
+        assert_found(&rt, found, expected);
     }
 }
 
-// The second of two clauses behind a p line.
-fn second_clause<D: Desk>(alloc: Global, desk: &mut D) -> Option<String>
-    requires { IsClosed (D.state desk.old) }
+// Adds a constraint, in a line.
+fn push_form(alloc: Global, read: &CnfForms, place: usize, text: &mut String) -> Option<()>
+    requires { place < length read.now.forms }
 {
-    let mut reader = ClauseReader::new(alloc, 0).ok()?;
-    desk.open(0, "in").ok()?;
-    let Ok(_) = reader.head(desk) else {
-        return None;
-    };
-    let Ok(Some(_)) = reader.next_clause(desk) else {
-        return None;
-    };
-    let Ok(Some(second)) = reader.next_clause(desk) else {
-        return None;
-    };
-    let Ok(None) = reader.next_clause(desk) else {
-        return None;
-    };
-    lits_text(alloc, second.as_slice())
+    let mut terms = Vec::new(alloc);
+    let degree = read.forms.read(place, &mut terms).ok()?;
+    let line = constraint_text(alloc, &terms, degree)?;
+    text.push('\n').ok()?;
+    text.push_str(line.as_str()).ok()
 }
 
-// The constraints of a whole text, each in a line, behind the numbers of its p line; or its first fault.
+// The constraints of a whole text, each in a line, behind the numbers of its p line.
 fn forms_text(alloc: Global, read: &CnfForms) -> Option<String> {
     let mut text = format!(in alloc; "{} {}", read.head.vars, read.head.clauses).ok()?;
-    let mut terms = Vec::new(alloc);
     for place in 0..read.forms.len() {
-        let degree = read.forms.read(place, &mut terms).ok()?;
-        let line = constraint_text(alloc, &terms, degree)?;
-        text.push('\n').ok()?;
-        text.push_str(line.as_str()).ok()?;
+        push_form(alloc, read, place, &mut text)?;
     }
     Some(text)
 }
 
+// The same of a file, or its first fault.
 fn whole<D: Desk>(alloc: Global, desk: &mut D) -> Option<String>
     requires { IsClosed (D.state desk.old) }
 {
@@ -108,67 +137,14 @@ fn whole<D: Desk>(alloc: Global, desk: &mut D) -> Option<String>
     }
 }
 
-fn p_line(alloc: Global, text: &str) -> Option<String> {
-    let mut desk = desk_of(alloc, text)?;
-    head_of(alloc, &mut desk)
-}
-
-#[test]
-fn a_p_line_or_its_fault(rt: HostRuntime) -> Result<(), Fail> {
-    let cases = [
-        ("p cnf 2 3\n", "2 3 7"),
-        ("", "1:1: p line"),
-        ("p dnf 1 1", "1:3: cnf word"),
-        ("p cnf 1", "1:8: clause count"),
-        ("c\np cnf 1 1 1", "2:11: line end"),
-    ];
-    for (text, expected) in cases {
-        let found = p_line(rt.alloc(), text);
-        assert_eq!(rt; found.as_deref(), Some(expected));
-    }
-    Ok(())
-}
-
-fn first_of(alloc: Global, text: &str) -> Option<String> {
-    let mut desk = desk_of(alloc, text)?;
-    first_clause(alloc, &mut desk)
-}
-
-#[test]
-fn a_clause_or_its_fault(rt: HostRuntime) -> Result<(), Fail> {
-    let cases = [
-        ("p cnf 2 2\n1 -1 0\nc note\n1\n2 0", " x1 ~x1"),
-        ("p cnf 1 0", "none"),
-        ("p cnf 1 1\n2 0", "2:1: clause word"),
-        ("p cnf 1 1\n1", "3:1: clause word"),
-        ("p cnf 1 0\n\n 1", "3:2: cnf end"),
-    ];
-    for (text, expected) in cases {
-        let found = first_of(rt.alloc(), text);
-        assert_eq!(rt; found.as_deref(), Some(expected));
-    }
-    Ok(())
-}
-
-fn second_of(alloc: Global, text: &str) -> Option<String> {
-    let mut desk = desk_of(alloc, text)?;
-    second_clause(alloc, &mut desk)
-}
-
-#[test]
-fn clauses_come_in_turn(rt: HostRuntime) -> Result<(), Fail> {
-    let found = second_of(rt.alloc(), "p cnf 2 2\n1 -1 0\nc note\n1\n2 0");
-    assert_eq!(rt; found.as_deref(), Some(" x1 x2"));
-    Ok(())
-}
-
-fn whole_of(alloc: Global, text: &str) -> Option<String> {
-    let mut desk = desk_of(alloc, text)?;
+// The same of a text, where the call of this number fails.
+fn whole_of(alloc: Global, text: &str, fails: u64) -> Option<String> {
+    let mut desk = desk_with(alloc, text.as_bytes(), fails, 3).ok()?;
     whole(alloc, &mut desk)
 }
 
 #[test]
-fn a_whole_text_or_its_first_fault(rt: HostRuntime) -> Result<(), Fail> {
+fn a_whole_text_or_its_first_fault(rt: HostRuntime) {
     let cases = [
         (
             "p cnf 2 3\n1 -1 0\nc note\n2 1\n2 0\n0",
@@ -179,27 +155,17 @@ fn a_whole_text_or_its_first_fault(rt: HostRuntime) -> Result<(), Fail> {
         ("", "1:1: p line"),
     ];
     for (text, expected) in cases {
-        let found = whole_of(rt.alloc(), text);
-        assert_eq!(rt; found.as_deref(), Some(expected));
+        let found = whole_of(rt.alloc(), text, 0);
+        assert_found(&rt, found, expected);
     }
-    Ok(())
-}
-
-// The same where the call of this number fails.
-fn whole_where(alloc: Global, call: u64) -> Option<String> {
-    let fails = Ids::from_vec(vec![in alloc; call].ok()?);
-    let mut desk = desk_with(alloc, b"p cnf 1 1\n1 0\n", fails, 3).ok()?;
-    whole(alloc, &mut desk)
 }
 
 #[test]
-fn a_failed_read_is_no_end(rt: HostRuntime) -> Result<(), Fail> {
+fn a_failed_read_is_no_end(rt: HostRuntime) {
     // Opened, and read to the end in six calls.
-    for call in 1..8 {
-        let found = whole_where(rt.alloc(), call);
-        assert_eq!(rt; found.as_deref(), Some("Failed"), "call {call}");
+    for call in 1..9 {
+        let found = whole_of(rt.alloc(), "p cnf 1 1\n1 0\n", call);
+        let expected = if call < 8 { "Failed" } else { "1 1\n1 x1 >= 1" };
+        assert_found(&rt, found, expected);
     }
-    let found = whole_where(rt.alloc(), 8);
-    assert_eq!(rt; found.as_deref(), Some("1 1\n1 x1 >= 1"));
-    Ok(())
 }

@@ -1,12 +1,12 @@
 ghost use Rattle.std.specs.Prelude.{◌≡◌, ◌≤◌, ◌<◌, ◌^◌, IsTrue, IfSome, All};
 ghost use Rattle.pb_norm.specs.Constraints.{AreVarsWithin, HasVarsWithin, weights};
 
+use super::assert_found;
 use pb_base::{Lit, Term, Var};
 use pb_norm::Linear;
 use pb_samples::{linear, lits, lits_text, loaded};
 use pb_unit::{Engine, Outcome};
 use std::alloc::Global;
-use std::test::Fail;
 
 // At most two of the variables 1 to 4, by a sequential counter with the variables 5 to 10.
 const COUNTER: &str = "1 ~x1 1 x5 >= 1 ; 1 ~x6 >= 1 ; 1 ~x2 1 x7 >= 1 ; 1 ~x5 1 x7 >= 1 ;\n\
@@ -47,14 +47,23 @@ pub(crate) fn are_within(constraints: &[Linear], vars: u32) -> bool
     true
 }
 
-// An engine over constraints of so many variables.
-pub(crate) fn engine_over(alloc: Global, vars: u32, constraints: Vec<Linear>) -> Option<Engine>
+// The constraints of a text, if all their variables are among so many.
+pub(crate) fn constraints_of(alloc: Global, vars: u32, text: &str) -> Option<Vec<Linear>>
+    ensures { IfSome result (λ constraints. AreVarsWithin vars constraints.items) }
+{
+    let constraints = loaded(alloc, text)?.into_vec();
+    if are_within(&constraints, vars) {
+        Some(constraints)
+    } else {
+        None
+    }
+}
+
+// An engine over the constraints of a text, of so many variables.
+pub(crate) fn engine_of(alloc: Global, vars: u32, text: &str) -> Option<Engine>
     ensures { IfSome result (λ engine. engine.vars ≡ vars) }
 {
-    if !are_within(&constraints, vars) {
-        return None;
-    }
-    Engine::new(alloc, vars, constraints).ok()
+    Engine::new(alloc, vars, constraints_of(alloc, vars, text)?).ok()
 }
 
 // Assumes literals, as long as that can be.
@@ -70,18 +79,36 @@ fn assume_all(engine: &mut Engine, vars: u32, lits: &[Lit]) -> bool
     true
 }
 
+// What says of each literal whether it holds.
+pub(crate) trait Holds {
+    fn has(&self, lit: Lit) -> bool;
+}
+
+impl Holds for Engine {
+    fn has(&self, lit: Lit) -> bool {
+        self.holds(lit)
+    }
+}
+
+// Adds a variable's literal of a sign, if it holds.
+fn push_held<H: Holds>(holds: &H, index: u32, positive: bool, held: &mut Vec<Lit>) -> Option<()>
+    requires low { 1 ≤ index }
+    requires high { index < 2 ^ 31 }
+{
+    if holds.has(lit_at(index, positive)) {
+        held.push(lit_at(index, positive)).ok()?;
+    }
+    Some(())
+}
+
 // The literals that hold, by variable.
-fn told(alloc: Global, engine: &Engine, vars: u32) -> Option<String>
+pub(crate) fn told<H: Holds>(alloc: Global, holds: &H, vars: u32) -> Option<String>
     requires { vars < 2 ^ 31 }
 {
     let mut held = Vec::new(alloc);
     for index in 1..=vars {
-        if engine.holds(lit_at(index, true)) {
-            held.push(lit_at(index, true)).ok()?;
-        }
-        if engine.holds(lit_at(index, false)) {
-            held.push(lit_at(index, false)).ok()?;
-        }
+        push_held(holds, index, true, &mut held)?;
+        push_held(holds, index, false, &mut held)?;
     }
     lits_text(alloc, &held)
 }
@@ -98,39 +125,39 @@ fn propagated(alloc: Global, engine: &mut Engine, vars: u32) -> Option<String>
     }
 }
 
-// What is reached from literals.
+// What an engine reaches from literals.
+fn reached_by(alloc: Global, engine: &mut Engine, vars: u32, given: &str) -> Option<String>
+    requires small { vars < 2 ^ 31 }
+    requires vars { engine.old.vars ≡ vars }
+{
+    let given = lits(alloc, given)?;
+    if !assume_all(engine, vars, &given) {
+        return "refused".to_string(alloc).ok();
+    }
+    propagated(alloc, engine, vars)
+}
+
 fn reached(alloc: Global, vars: u32, text: &str, given: &str) -> Option<String>
     requires { vars < 2 ^ 31 }
 {
-    let constraints = loaded(alloc, text)?.into_vec();
-    let given = lits(alloc, given)?;
-    let mut engine = engine_over(alloc, vars, constraints)?;
-    if !assume_all(&mut engine, vars, &given) {
-        return "refused".to_string(alloc).ok();
-    }
-    propagated(alloc, &mut engine, vars)
+    let mut engine = engine_of(alloc, vars, text)?;
+    reached_by(alloc, &mut engine, vars, given)
 }
 
 #[test]
-fn a_counter_is_propagated(rt: HostRuntime) -> Result<(), Fail> {
+fn literals_are_propagated(rt: HostRuntime) {
     let cases = [
-        ("x1 x2", " x1 x2 ~x3 ~x4 x5 ~x6 x7 x8 x9 x10"),
-        ("x4", " x4 ~x6 ~x8 ~x10"),
-        ("x1 x2 x3", "conflict"),
-        ("x1 ~x1", "refused"),
+        (10, COUNTER, "x1 x2", " x1 x2 ~x3 ~x4 x5 ~x6 x7 x8 x9 x10"),
+        (10, COUNTER, "x4", " x4 ~x6 ~x8 ~x10"),
+        (10, COUNTER, "x1 x2 x3", "conflict"),
+        (10, COUNTER, "x1 ~x1", "refused"),
+        // A false literal takes its weight.
+        (3, WEIGHTED, "~x1", " ~x1 x2 x3"),
     ];
-    for (given, expected) in cases {
-        let found = reached(rt.alloc(), 10, COUNTER, given);
-        assert_eq!(rt; found.as_deref(), Some(expected));
+    for (vars, text, given, expected) in cases {
+        let found = reached(rt.alloc(), vars, text, given);
+        assert_found(&rt, found, expected);
     }
-    Ok(())
-}
-
-#[test]
-fn a_false_literal_takes_its_weight(rt: HostRuntime) -> Result<(), Fail> {
-    let found = reached(rt.alloc(), 3, WEIGHTED, "~x1");
-    assert_eq!(rt; found.as_deref(), Some(" ~x1 x2 x3"));
-    Ok(())
 }
 
 // Adds a constraint of three variables.
@@ -145,42 +172,62 @@ fn add(alloc: Global, engine: &mut Engine, text: &str) -> Option<u64>
     engine.add(&constraint).ok()
 }
 
-// 3 x1 + 2 x2 + x3 >= 3, propagated; then with ~x1 and ~x2 beside it; then without the first.
-fn come_and_go(alloc: Global, engine: &mut Engine) -> Option<String>
+// What 3 x1 + 2 x2 + x3 >= 3 reaches alone, and its slack.
+fn alone(alloc: Global, engine: &mut Engine) -> Option<String>
     requires { engine.old.vars ≡ 3 }
+    ensures { engine.new.vars ≡ 3 }
 {
-    let alone = propagated(alloc, engine, 3)?;
-    let slack = engine.slack(0);
+    let reached = propagated(alloc, engine, 3)?;
+    format!(in alloc; "{reached}; {:?}", engine.slack(0)).ok()
+}
+
+// The same with ~x1 and ~x2 beside it: their places, and what holds before and after.
+fn beside(alloc: Global, engine: &mut Engine) -> Option<String>
+    requires { engine.old.vars ≡ 3 }
+    ensures { engine.new.vars ≡ 3 }
+{
     let places = (
         add(alloc, engine, "1 ~x1 >= 1 ;")?,
         add(alloc, engine, "1 ~x2 >= 1 ;")?,
     );
     let before = told(alloc, engine, 3)?;
-    let beside = propagated(alloc, engine, 3)?;
+    let reached = propagated(alloc, engine, 3)?;
+    format!(in alloc; "{places:?}; {before}; {reached}").ok()
+}
+
+// What is left without the first.
+fn without(alloc: Global, engine: &mut Engine) -> Option<String>
+    requires { engine.old.vars ≡ 3 }
+{
     let removed = (
         engine.remove(0),
         engine.remove(0),
         engine.remove(7),
         engine.slack(0),
     );
-    let left = propagated(alloc, engine, 3)?;
-    format!(in alloc;
-        "{alone}; {slack:?}; {places:?}; {before}; {beside}; {removed:?}; {left}"
-    ).ok()
+    let reached = propagated(alloc, engine, 3)?;
+    format!(in alloc; "{removed:?}; {reached}").ok()
+}
+
+fn come_and_go(alloc: Global, engine: &mut Engine) -> Option<String>
+    requires { engine.old.vars ≡ 3 }
+{
+    let alone = alone(alloc, engine)?;
+    let beside = beside(alloc, engine)?;
+    let without = without(alloc, engine)?;
+    format!(in alloc; "{alone}; {beside}; {without}").ok()
 }
 
 fn all_come_and_go(alloc: Global) -> Option<String> {
-    let constraints = loaded(alloc, WEIGHTED)?.into_vec();
-    let mut engine = engine_over(alloc, 3, constraints)?;
+    let mut engine = engine_of(alloc, 3, WEIGHTED)?;
     come_and_go(alloc, &mut engine)
 }
 
 #[test]
-fn constraints_come_and_go(rt: HostRuntime) -> Result<(), Fail> {
+fn constraints_come_and_go(rt: HostRuntime) {
     let found = all_come_and_go(rt.alloc());
     let expected = "; Some(3); (1, 2); ; conflict; (true, false, false, None);  ~x1 ~x2";
-    assert_eq!(rt; found.as_deref(), Some(expected));
-    Ok(())
+    assert_found(&rt, found, expected);
 }
 
 // ---- rounds over all constraints, with each slack computed anew, are the definition's program
@@ -237,28 +284,28 @@ fn visit_all(constraints: &[Linear], values: &mut [Option<bool>], rounds: u32) -
     true
 }
 
-// The literals that hold, by variable.
-fn held(alloc: Global, values: &[Option<bool>]) -> Option<String> {
-    let mut held = Vec::new(alloc);
-    for index in 1..=6 {
-        if let Some(positive) = value(values, lit_at(index, true)) {
-            held.push(lit_at(index, positive)).ok()?;
-        }
+impl Holds for [Option<bool>; 7] {
+    fn has(&self, lit: Lit) -> bool {
+        value(self, lit) == Some(true)
     }
-    lits_text(alloc, &held)
 }
 
-// What is reached in rounds, one more than there are variables, from a literal of six variables.
-fn rounds(alloc: Global, text: &str, given: &str) -> Option<String> {
-    let constraints = loaded(alloc, text)?;
-    let mut values = vec![in alloc; None; 7].ok()?;
-    for lit in lits(alloc, given)? {
-        join(&mut values, lit);
+// What is reached in rounds, one more than there are variables, from literals of six variables.
+fn rounds_over(alloc: Global, constraints: &[Linear], given: &[Lit]) -> Option<String> {
+    let mut values = [None; 7];
+    for lit in given {
+        join(&mut values, *lit);
     }
-    if !visit_all(constraints.as_slice(), &mut values, 7) {
+    if !visit_all(constraints, &mut values, 7) {
         return "conflict".to_string(alloc).ok();
     }
-    held(alloc, &values)
+    told(alloc, &values, 6)
+}
+
+fn rounds(alloc: Global, text: &str, given: &str) -> Option<String> {
+    let given = lits(alloc, given)?;
+    let constraints = loaded(alloc, text)?;
+    rounds_over(alloc, constraints.as_slice(), &given)
 }
 
 // The next number of a linear congruential sequence.
@@ -267,41 +314,52 @@ fn draw(state: &mut u32) -> u32 {
     *state / 65536
 }
 
-// A literal of one of six variables.
-fn draw_lit(alloc: Global, state: &mut u32) -> Option<String> {
+// Adds a literal of one of six variables.
+fn draw_lit(alloc: Global, state: &mut u32, text: &mut String) -> Option<()> {
     let index = 1 + draw(state) % 6;
     let sign = if draw(state) % 2 == 0 { "" } else { "~" };
-    format!(in alloc; "{sign}x{index}").ok()
+    let lit = format!(in alloc; "{sign}x{index} ").ok()?;
+    text.push_str(lit.as_str()).ok()
 }
 
-// Three such literals as a clause, or weighted.
-fn draw_statement(alloc: Global, state: &mut u32, weighted: bool) -> Option<String> {
-    let a = draw_lit(alloc, state)?;
-    let b = draw_lit(alloc, state)?;
-    let c = draw_lit(alloc, state)?;
-    if weighted {
-        return format!(in alloc; "3 {a} 2 {b} 1 {c} >= 3 ;\n").ok();
+// Adds three such literals behind these coefficients, and the end of a statement.
+fn draw_statement(
+    alloc: Global,
+    state: &mut u32,
+    coefs: [&str; 3],
+    end: &str,
+    text: &mut String,
+) -> Option<()> {
+    for coef in coefs {
+        text.push_str(coef).ok()?;
+        draw_lit(alloc, state, text)?;
     }
-    format!(in alloc; "1 {a} 1 {b} 1 {c} >= 1 ;\n").ok()
+    text.push_str(end).ok()
 }
 
 // A few clauses and weighted constraints.
 fn draw_system(alloc: Global, state: &mut u32) -> Option<String> {
     let mut text = String::new(alloc);
-    for number in 0..6 {
-        let statement = draw_statement(alloc, state, number % 2 == 1)?;
-        text.push_str(statement.as_str()).ok()?;
+    for _ in 0..3 {
+        draw_statement(alloc, state, ["1 ", "1 ", "1 "], ">= 1 ;\n", &mut text)?;
+        draw_statement(alloc, state, ["3 ", "2 ", "1 "], ">= 3 ;\n", &mut text)?;
     }
     Some(text)
 }
 
-// Whether the engine and the rounds find the same of the next system.
+// Whether the engine and the rounds find the same of a system.
+fn agree_on(alloc: Global, text: &str, given: &str) -> Option<bool> {
+    let found = reached(alloc, 6, text, given)?;
+    let wanted = rounds(alloc, text, given)?;
+    Some(found.as_str() == wanted.as_str())
+}
+
+// Whether they do so of the next system.
 fn agree_on_next(alloc: Global, state: &mut u32) -> Option<bool> {
     let text = draw_system(alloc, state)?;
-    let given = draw_lit(alloc, state)?;
-    let found = reached(alloc, 6, text.as_str(), given.as_str())?;
-    let wanted = rounds(alloc, text.as_str(), given.as_str())?;
-    Some(found.as_str() == wanted.as_str())
+    let mut given = String::new(alloc);
+    draw_lit(alloc, state, &mut given)?;
+    agree_on(alloc, text.as_str(), given.as_str())
 }
 
 // Whether they do so for so many systems.
@@ -316,8 +374,7 @@ fn agree(alloc: Global, count: u32) -> bool {
 }
 
 #[test]
-fn rounds_find_the_same(rt: HostRuntime) -> Result<(), Fail> {
+fn rounds_find_the_same(rt: HostRuntime) {
     let agree = agree(rt.alloc(), 200);
     assert!(rt; agree);
-    Ok(())
 }

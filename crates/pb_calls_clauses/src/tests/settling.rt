@@ -1,11 +1,11 @@
 ghost use Rattle.std.specs.Prelude.{◌<◌, ◌^◌};
+ghost use Rattle.pb_norm.specs.Constraints.{AreVarsWithin};
 
-use crate::tests::propagation::{are_within, engine_over, lit_at};
+use super::assert_found;
+use super::propagation::{Holds, constraints_of, engine_of, told};
 use pb_base::Lit;
-use pb_samples::{lits_text, loaded};
 use pb_unit::{Constraints, Outcome, Rounds};
 use std::alloc::Global;
-use std::test::Fail;
 
 // x1, and each variable up to 6 from the one before it, in this order and backwards.
 const FORWARDS: &str = "1 x1 >= 1 ; 1 ~x1 1 x2 >= 1 ; 1 ~x2 1 x3 >= 1 ; 1 ~x3 1 x4 >= 1 ;\n\
@@ -22,53 +22,52 @@ const WEIGHTED: &str = "1 ~x1 >= 1 ; 3 x1 2 x2 1 x3 >= 3 ;";
 
 const TOO_LITTLE: &str = "1 ~x1 >= 1 ; 3 x1 2 x2 1 x3 >= 3 ; 1 ~x2 >= 1 ;";
 
-// The literals that hold, by variable.
-fn told(alloc: Global, rounds: &Rounds, vars: u32) -> Option<String>
-    requires { vars < 2 ^ 31 }
-{
-    let mut held: Vec<Lit> = Vec::new(alloc);
-    for index in 1..=vars {
-        if rounds.holds(lit_at(index, true)) {
-            held.push(lit_at(index, true)).ok()?;
-        }
-        if rounds.holds(lit_at(index, false)) {
-            held.push(lit_at(index, false)).ok()?;
-        }
+impl Holds for Rounds {
+    fn has(&self, lit: Lit) -> bool {
+        self.holds(lit)
     }
-    lits_text(alloc, &held)
 }
 
-// What a few passes reach, or at which place there is a conflict, or that there is more.
-fn settled(alloc: Global, vars: u32, text: &str) -> Option<String>
+// What holds at the end, or at which place there is a conflict, or that there is more.
+fn end_text(alloc: Global, rounds: &Rounds, vars: u32, end: Option<Outcome>) -> Option<String>
     requires { vars < 2 ^ 31 }
 {
-    let constraints = loaded(alloc, text)?.into_vec();
-    if !are_within(&constraints, vars) {
-        return None;
-    }
-    let list = Constraints::from_vec(alloc, constraints).ok()?;
-    let mut rounds = Rounds::new(alloc, vars).ok()?;
-    match rounds.settle(&list, &[]) {
-        Some(Outcome::Fixed) => told(alloc, &rounds, vars),
+    match end {
+        Some(Outcome::Fixed) => told(alloc, rounds, vars),
         Some(Outcome::Conflict { place }) => format!(in alloc; "conflict at {place}").ok(),
         None => format!(in alloc; "{} and more", rounds.len()).ok(),
     }
+}
+
+// What a few passes over constraints reach.
+fn settled_by(alloc: Global, vars: u32, constraints: &Constraints) -> Option<String>
+    requires small { vars < 2 ^ 31 }
+    requires within { AreVarsWithin vars constraints.now }
+{
+    let mut rounds = Rounds::new(alloc, vars).ok()?;
+    let end = rounds.settle(constraints, &[]);
+    end_text(alloc, &rounds, vars, end)
+}
+
+fn settled(alloc: Global, vars: u32, text: &str) -> Option<String>
+    requires { vars < 2 ^ 31 }
+{
+    let constraints = constraints_of(alloc, vars, text)?;
+    let constraints = Constraints::from_vec(alloc, constraints).ok()?;
+    settled_by(alloc, vars, &constraints)
 }
 
 // What an engine reaches, as it is given over.
 fn given_over(alloc: Global, vars: u32, text: &str) -> Option<String>
     requires { vars < 2 ^ 31 }
 {
-    let constraints = loaded(alloc, text)?.into_vec();
-    let mut engine = engine_over(alloc, vars, constraints)?;
+    let mut engine = engine_of(alloc, vars, text)?;
     let outcome = engine.propagate();
-    let held = engine.into_held();
-    let told = told(alloc, &held, vars)?;
-    format!(in alloc; "{outcome:?}:{told}").ok()
+    end_text(alloc, &engine.into_held(), vars, Some(outcome))
 }
 
 #[test]
-fn passes_come_to_an_end(rt: HostRuntime) -> Result<(), Fail> {
+fn passes_come_to_an_end(rt: HostRuntime) {
     let cases = [
         (6, FORWARDS, " x1 x2 x3 x4 x5 x6"),
         (6, BACKWARDS, " x1 x2 x3 x4 x5 x6"),
@@ -79,14 +78,12 @@ fn passes_come_to_an_end(rt: HostRuntime) -> Result<(), Fail> {
     ];
     for (vars, text, expected) in cases {
         let found = settled(rt.alloc(), vars, text);
-        assert_eq!(rt; found.as_deref(), Some(expected));
+        assert_found(&rt, found, expected);
     }
-    Ok(())
 }
 
 #[test]
-fn an_engine_gives_what_holds(rt: HostRuntime) -> Result<(), Fail> {
+fn an_engine_gives_what_holds(rt: HostRuntime) {
     let found = given_over(rt.alloc(), 3, WEIGHTED);
-    assert_eq!(rt; found.as_deref(), Some("Fixed: ~x1 x2 x3"));
-    Ok(())
+    assert_found(&rt, found, " ~x1 x2 x3");
 }

@@ -48,7 +48,7 @@ fn line_answer(alloc: Global, db: &mut Database, line: &str, clause: &str) -> Op
     let step = read_step(alloc, line.as_bytes()).ok()?;
     let next = Clause::from_vec(lits(alloc, clause)?);
     let next = if next.len() > 0 { Some(&next) } else { None };
-    match step {
+    match &step {
         Step::Blank | Step::Head | Step::Loaded { .. } | Step::End => None,
         _ => answer(alloc, db, &step, next),
     }

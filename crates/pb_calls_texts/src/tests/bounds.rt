@@ -1,27 +1,41 @@
-use pb_base::MAX_STATEMENTS;
+ghost use Rattle.std.specs.Prelude.{◌≤◌, ◌^◌, length};
+ghost use Rattle.pb_base.specs.Problems.{IsWithinLimits};
+
+use super::assert_found;
+use pb_base::{MAX_STATEMENTS, Problem};
 use pb_opb::{BoundFault, bounded, read_opb};
 use std::alloc::Global;
-use std::test::Fail;
 
-// The statement that a bound adds to a text, or why none is added.
-fn added(alloc: Global, text: &str, bound: i128) -> Option<String> {
-    let problem = read_opb(alloc, text.as_bytes()).ok()?;
+// The statement at a place.
+fn statement_text(alloc: Global, problem: &Problem, place: usize) -> Option<String> {
+    let statement = problem.statements.as_slice().get(place)?;
+    format!(in alloc; "{} terms, {}", statement.terms.len(), statement.right).ok()
+}
+
+// The statement that a bound adds to a problem, or why none is added.
+fn added_to(alloc: Global, problem: Problem, bound: i128) -> Option<String>
+    requires within { IsWithinLimits problem }
+    requires room { length problem.statements ≤ 2 ^ 24 }
+{
     let count = problem.statements.len();
-    if count > MAX_STATEMENTS {
-        return None;
-    }
     match bounded(alloc, problem, bound) {
-        Ok(problem) => {
-            let last = problem.statements.as_slice().get(count)?;
-            format!(in alloc; "{} terms, {}", last.terms.len(), last.right).ok()
-        }
+        Ok(problem) => statement_text(alloc, &problem, count),
         Err(BoundFault::Weight) => "weight".to_string(alloc).ok(),
         Err(BoundFault::NoMemory) => None,
     }
 }
 
+// The same of the problem of a text.
+fn added(alloc: Global, text: &str, bound: i128) -> Option<String> {
+    let problem = read_opb(alloc, text.as_bytes()).ok()?;
+    if problem.statements.len() > MAX_STATEMENTS {
+        return None;
+    }
+    added_to(alloc, problem, bound)
+}
+
 #[test]
-fn bounds_on_objectives(rt: HostRuntime) -> Result<(), Fail> {
+fn bounds_on_objectives(rt: HostRuntime) {
     let text = "min: +3 x1 -1 ~x2 ; +1 x1 +1 x2 >= 1 ;";
     let cases = [
         (text, 2, "2 terms, 2"),
@@ -39,7 +53,6 @@ fn bounds_on_objectives(rt: HostRuntime) -> Result<(), Fail> {
     ];
     for (text, bound, expected) in cases {
         let found = added(rt.alloc(), text, bound);
-        assert_eq!(rt; found.as_deref(), Some(expected), "at {bound}: {text}");
+        assert_found(&rt, found, expected, text);
     }
-    Ok(())
 }

@@ -1,7 +1,7 @@
+use super::{assert_found, parts};
 use pb_samples::lits_text;
 use pb_words::{Encoding, Probing, Request, Weighing, WordsFault, taken};
 use std::alloc::Global;
-use std::test::Fail;
 
 // The words of a line that is parted at blanks.
 fn words_of(alloc: Global, line: &str) -> Option<Vec<String>> {
@@ -14,15 +14,15 @@ fn words_of(alloc: Global, line: &str) -> Option<Vec<String>> {
 
 fn encoding_text(alloc: Global, asked: &Encoding<'_>) -> Option<String> {
     let options = &asked.options;
-    let families = format!(in alloc;
-        "{:?} {:?} {:?}",
-        options.amo, options.card, options.general
-    )
-    .ok()?;
-    let proof = asked.proof.unwrap_or("none");
     format!(in alloc;
-        "{} {} {proof} {families} {}",
-        asked.opb, asked.cnf, options.budget
+        "{} {} {} {:?} {:?} {:?} {}",
+        asked.opb,
+        asked.cnf,
+        asked.proof.unwrap_or("none"),
+        options.amo,
+        options.card,
+        options.general,
+        options.budget
     )
     .ok()
 }
@@ -37,79 +37,75 @@ fn weighing_text(alloc: Global, asked: &Weighing<'_>) -> Option<String> {
     format!(in alloc; "{} {} {budget} {:?}", asked.opb, asked.wcnf, asked.bound).ok()
 }
 
-// What a line asks for.
-fn asked(alloc: Global, line: &str) -> Option<String> {
-    let words = words_of(alloc, line)?;
-    match taken(alloc, &words) {
-        Ok(Request::Encode(encoding)) => encoding_text(alloc, &encoding),
-        Ok(Request::Probe(probing)) => probing_text(alloc, &probing),
-        Ok(Request::Wcnf(weighing)) => weighing_text(alloc, &weighing),
-        Err(WordsFault::Usage) => "usage".to_string(alloc).ok(),
+fn request_text(alloc: Global, request: &Request<'_>) -> Option<String> {
+    match request {
+        Request::Encode(encoding) => encoding_text(alloc, encoding),
+        Request::Probe(probing) => probing_text(alloc, probing),
+        Request::Wcnf(weighing) => weighing_text(alloc, weighing),
         _ => None,
     }
 }
 
-#[test]
-fn what_is_asked_for(rt: HostRuntime) -> Result<(), Fail> {
-    let cases = [
-        ("pbcnf probe c", "c"),
-        ("pbcnf probe c x1 ~x02 x2147483647", "c x1 ~x2 x2147483647"),
-        ("pbcnf encode a b", "a b none Auto Auto Diagram 50000"),
-        ("pbcnf encode a b c --budget 9", "a b c Auto Auto Diagram 9"),
-        (
-            "pbcnf encode --amo ladder x.opb --card=totalizer x.cnf --budget=007 --general adder",
-            "x.opb x.cnf none Ladder Totalizer Adder 7",
-        ),
-        ("pbcnf wcnf a b", "a b 50000 None"),
-        ("pbcnf wcnf a b --budget 9 --at-most=007", "a b 9 Some(7)"),
-        ("pbcnf wcnf --at-most-minus 2 a b", "a b 50000 Some(-2)"),
-        ("pbcnf wcnf a b --at-most-minus=0", "a b 50000 Some(0)"),
-        (
-            "pbcnf wcnf a b --at-most-minus=1267650600228229401496703205375",
-            "a b 50000 Some(-1267650600228229401496703205375)",
-        ),
-    ];
-    for (line, expected) in cases {
-        let found = asked(rt.alloc(), line);
-        assert_eq!(rt; found.as_deref(), Some(expected), "at {line}");
+// What words ask for.
+fn asked_by(alloc: Global, words: &[String]) -> Option<String> {
+    match taken(alloc, words) {
+        Ok(request) => request_text(alloc, &request),
+        Err(WordsFault::Usage) => "usage".to_string(alloc).ok(),
+        Err(_) => None,
     }
-    Ok(())
 }
 
+// The same of the words of a line.
+fn asked(alloc: Global, line: &str) -> Option<String> {
+    let words = words_of(alloc, line)?;
+    asked_by(alloc, &words)
+}
+
+// Each line asks for what stands behind `=>`.
+const LINES: &str = "\
+pbcnf probe c => c
+pbcnf probe c x1 ~x02 x2147483647 => c x1 ~x2 x2147483647
+pbcnf encode a b => a b none Auto Auto Diagram 50000
+pbcnf encode a b c --budget 9 => a b c Auto Auto Diagram 9
+pbcnf encode --amo ladder x.opb --card=totalizer x.cnf --budget=007 --general adder => x.opb x.cnf none Ladder Totalizer Adder 7
+pbcnf wcnf a b => a b 50000 None
+pbcnf wcnf a b --budget 9 --at-most=007 => a b 9 Some(7)
+pbcnf wcnf --at-most-minus 2 a b => a b 50000 Some(-2)
+pbcnf wcnf a b --at-most-minus=0 => a b 50000 Some(0)
+pbcnf wcnf a b --at-most-minus=1267650600228229401496703205375 => a b 50000 Some(-1267650600228229401496703205375)
+pbcnf => usage
+pbcnf encode a => usage
+pbcnf encode a a => usage
+pbcnf encode a b c d => usage
+pbcnf encode a b b => usage
+pbcnf encode a b --budget=9 --budget=9 => usage
+pbcnf encode a b --budget 0 => usage
+pbcnf encode a b --budget +5 => usage
+pbcnf encode a b --amo counter => usage
+pbcnf encode a b --at-most => usage
+pbcnf encode a b --at-most= => usage
+pbcnf encode a b --at-most=+1 => usage
+pbcnf encode a b --at-most -1 => usage
+pbcnf encode a b --at-most=1 --at-most=1 => usage
+pbcnf encode -h a b => usage
+pbcnf help => usage
+pbcnf --version => usage
+pbcnf probe => usage
+pbcnf probe c --at-most=1 => usage
+pbcnf probe c x0 => usage
+pbcnf probe c y1 => usage
+pbcnf probe c x2147483648 => usage
+pbcnf wcnf a => usage
+pbcnf wcnf a a => usage
+pbcnf wcnf a b c => usage
+pbcnf wcnf a b --at-most=1 --at-most-minus=1 => usage
+pbcnf wcnf a b --at-most-minus=1267650600228229401496703205376 => usage";
+
 #[test]
-fn usage(rt: HostRuntime) -> Result<(), Fail> {
-    let lines = [
-        "pbcnf",
-        "pbcnf encode a",
-        "pbcnf encode a a",
-        "pbcnf encode a b c d",
-        "pbcnf encode a b b",
-        "pbcnf encode a b --budget=9 --budget=9",
-        "pbcnf encode a b --budget 0",
-        "pbcnf encode a b --budget +5",
-        "pbcnf encode a b --amo counter",
-        "pbcnf encode a b --at-most",
-        "pbcnf encode a b --at-most=",
-        "pbcnf encode a b --at-most=+1",
-        "pbcnf encode a b --at-most -1",
-        "pbcnf encode a b --at-most=1 --at-most=1",
-        "pbcnf encode -h a b",
-        "pbcnf help",
-        "pbcnf --version",
-        "pbcnf probe",
-        "pbcnf probe c --at-most=1",
-        "pbcnf probe c x0",
-        "pbcnf probe c y1",
-        "pbcnf probe c x2147483648",
-        "pbcnf wcnf a",
-        "pbcnf wcnf a a",
-        "pbcnf wcnf a b c",
-        "pbcnf wcnf a b --at-most=1 --at-most-minus=1",
-        "pbcnf wcnf a b --at-most-minus=1267650600228229401496703205376",
-    ];
-    for line in lines {
+fn what_is_asked_for(rt: HostRuntime) {
+    for case in LINES.lines() {
+        let (line, expected) = parts(case);
         let found = asked(rt.alloc(), line);
-        assert_eq!(rt; found.as_deref(), Some("usage"), "at {line}");
+        assert_found(&rt, found, expected, line);
     }
-    Ok(())
 }

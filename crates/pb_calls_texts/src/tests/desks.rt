@@ -1,31 +1,44 @@
-ghost use Rattle.std.specs.Prelude.{◌≤◌, IfOk};
+ghost use Rattle.std.specs.Prelude.{◌≡◌, ◌≤◌, false, IfOk};
 ghost use Rattle.pb_desk.specs.Desk.{IsClosed};
 
+use super::assert_found;
 use pb_base::{Bytes, Failed, Ids, NoMemory, Seq, Text};
 use pb_desk::{Desk, MemoryDesk, Named, TextFault, read_whole, say_all, write_all};
 use std::alloc::{Alloc, Global};
 use std::test::Fail;
 
-/// A desk with the file `in` of these bytes, whose calls of these numbers fail.
+// The file `in` of these bytes.
+fn file_in(alloc: Global, bytes: &[u8]) -> Result<Named, NoMemory> {
+    let name = Text::from_string("in".to_string(alloc)?);
+    let bytes = Bytes::from_vec(bytes.to_vec(alloc)?);
+    Ok(Named { name, bytes })
+}
+
+/// A desk with the file `in` of these bytes, whose call of this number fails; of number 0 there is none.
 pub fn desk_with(
     alloc: Global,
     bytes: &[u8],
-    fails: Ids,
+    fails: u64,
     piece: usize,
     room: usize,
 ) -> Result<MemoryDesk, NoMemory>
     requires { 1 ≤ piece }
     ensures { IfOk result (λ desk. IsClosed (⟦<MemoryDesk as Desk>⟧.state desk)) }
 {
-    let mut files = Seq::new(alloc);
-    files.push(Named {
-        name: Text::from_string("in".to_string(alloc)?),
-        bytes: Bytes::from_vec(bytes.to_vec(alloc)?),
-    })?;
+    let fails = Ids::from_vec(vec![in alloc; fails]?);
+    let files = Seq::from_vec(vec![in alloc; file_in(alloc, bytes)?]?);
     MemoryDesk::new(alloc, files, fails, piece, room)
 }
 
-const TEXT: &[u8] = b"+1 x1;\n";
+// Writes a text, and says it.
+fn put<D: Desk>(desk: &mut D, to: &str, text: &[u8]) -> Result<(), Failed>
+    requires { (D.state desk.old).view.writing 1 ≡ false }
+{
+    desk.create(1, to)?;
+    write_all(desk, 1, text)?;
+    desk.close(1)?;
+    say_all(desk, text)
+}
 
 // Reads `from`, writes it to `to`, and says it.
 fn copy<D: Desk>(
@@ -39,19 +52,18 @@ fn copy<D: Desk>(
 {
     desk.open(0, from)?;
     let text = read_whole(alloc, desk, 0, limit)?;
-    desk.create(1, to)?;
-    write_all(desk, 1, text.as_slice())?;
-    desk.close(1)?;
-    say_all(desk, text.as_slice())?;
+    put(desk, to, text.as_slice())?;
     Ok(text)
 }
 
-// How a copy of a text ended, what was made in slot 1 and what was said.
+const TEXT: &str = "+1 x1;\n";
+
+// Whether a copy of the text ended well, what was made in slot 1 and what was said.
 fn copied_on(alloc: Global, desk: &mut MemoryDesk, limit: u64) -> Option<String>
     requires { IsClosed (⟦<MemoryDesk as Desk>⟧.state desk.old) }
 {
     let end = match copy(alloc, desk, "in", "out", limit) {
-        Ok(text) => text.as_slice() == TEXT,
+        Ok(text) => text.as_slice() == TEXT.as_bytes(),
         Err(_) => false,
     };
     let made = str::from_utf8(desk.made(1).unwrap_or(b"nothing")).ok()?;
@@ -59,16 +71,16 @@ fn copied_on(alloc: Global, desk: &mut MemoryDesk, limit: u64) -> Option<String>
     format!(in alloc; "{end} {made:?} {said:?}").ok()
 }
 
-// The same on a desk of its own.
-fn copied(alloc: Global, fails: Ids, piece: usize, room: usize, limit: u64) -> Option<String>
+// The same on a desk of its own, whose call of this number fails.
+fn copied(alloc: Global, fails: u64, piece: usize, room: usize, limit: u64) -> Option<String>
     requires { 1 ≤ piece }
 {
-    let mut desk = desk_with(alloc, TEXT, fails, piece, room).ok()?;
+    let mut desk = desk_with(alloc, TEXT.as_bytes(), fails, piece, room).ok()?;
     copied_on(alloc, &mut desk, limit)
 }
 
 #[test]
-fn a_text_is_read_written_and_said(rt: HostRuntime) -> Result<(), Fail> {
+fn a_text_is_read_written_and_said(rt: HostRuntime) {
     // Whole; too long by a byte; with too little room for the file.
     let cases = [
         (2, 16, 7, "true \"+1 x1;\\n\" \"+1 x1;\\n\""),
@@ -76,28 +88,29 @@ fn a_text_is_read_written_and_said(rt: HostRuntime) -> Result<(), Fail> {
         (4096, 4, 7, "false \"+1 x\" \"\""),
     ];
     for (piece, room, limit, expected) in cases {
-        let found = copied(rt.alloc(), Ids::new(rt.alloc()), piece, room, limit);
-        assert_eq!(rt; found.as_deref(), Some(expected));
+        let found = copied(rt.alloc(), 0, piece, room, limit);
+        assert_found(&rt, found, expected, TEXT);
     }
-    Ok(())
 }
 
-// Whether the copy succeeded and whether a file was made, where the call of this number fails.
-fn ends_at(alloc: Global, call: u64) -> Option<(bool, bool)> {
-    let fails = Ids::from_vec(vec![in alloc; call].ok()?);
-    let mut desk = desk_with(alloc, TEXT, fails, 100, 16).ok()?;
-    let is_copied = copy(alloc, &mut desk, "in", "out", 7).is_ok();
-    Some((is_copied, desk.made(1).is_some()))
-}
+// Where no call fails, and where each fails in turn: opened, read to the end in two calls, created, written, closed, said, and one
+// more.
+const ENDS: &str = r#"true "+1 x1;\n" "+1 x1;\n"
+false "nothing" ""
+false "nothing" ""
+false "nothing" ""
+false "nothing" ""
+false "" ""
+false "+1 x1;\n" ""
+false "+1 x1;\n" ""
+true "+1 x1;\n" "+1 x1;\n""#;
 
 #[test]
-fn each_call_fails_in_turn(rt: HostRuntime) -> Result<(), Fail> {
-    for call in 1..9 {
-        // Opened, read to the end in two calls, created, written, closed, said.
-        let expected = Some((call == 8, call > 4));
-        assert_eq!(rt; ends_at(rt.alloc(), call), expected, "call {call}");
+fn each_call_fails_in_turn(rt: HostRuntime) {
+    for (call, expected) in ENDS.lines().enumerate() {
+        let found = copied(rt.alloc(), call as u64, 100, 16, 7);
+        assert_found(&rt, found, expected, TEXT);
     }
-    Ok(())
 }
 
 // Whether a name is made once, and opened where it is there alone.
@@ -117,7 +130,7 @@ fn uses_names_once<D: Desk>(desk: &mut D) -> bool
 }
 
 fn uses_names_once_in_memory(alloc: Global) -> Result<bool, NoMemory> {
-    let mut desk = desk_with(alloc, TEXT, Ids::new(alloc), 1, 1)?;
+    let mut desk = desk_with(alloc, TEXT.as_bytes(), 0, 1, 1)?;
     Ok(uses_names_once(&mut desk))
 }
 

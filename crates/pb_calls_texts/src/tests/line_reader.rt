@@ -2,11 +2,10 @@
 ghost use Rattle.std.specs.Prelude.{◌≤◌, IsTrue, IfOk};
 ghost use Rattle.pb_desk.specs.Desk.{IsClosed};
 
+use super::assert_found;
 use super::desks::desk_with;
-use pb_base::Ids;
 use pb_desk::{Desk, LineLimits, LineReader};
 use std::alloc::Global;
-use std::test::Fail;
 
 const AMPLE: LineLimits = LineLimits {
     text: 100,
@@ -29,15 +28,31 @@ fn next_text<D: Desk>(alloc: Global, reader: &mut LineReader, desk: &mut D) -> O
     }
 }
 
-// What a reader answers to four calls.
+// Adds what a reader answers to one call.
+fn push_next<D: Desk>(
+    alloc: Global,
+    reader: &mut LineReader,
+    desk: &mut D,
+    text: &mut String,
+) -> Option<()>
+    requires { IsTrue ((D.state desk.old).view.reading reader.old.slot) }
+    ensures { IsTrue ((D.state desk.new).view.reading reader.new.slot) }
+{
+    let next = next_text(alloc, reader, desk)?;
+    text.push_str(next.as_str()).ok()?;
+    text.push('|').ok()
+}
+
+// What it answers to four calls.
 fn four<D: Desk>(alloc: Global, reader: &mut LineReader, desk: &mut D) -> Option<String>
     requires { IsTrue ((D.state desk.old).view.reading reader.old.slot) }
 {
-    let first = next_text(alloc, reader, desk)?;
-    let second = next_text(alloc, reader, desk)?;
-    let third = next_text(alloc, reader, desk)?;
-    let fourth = next_text(alloc, reader, desk)?;
-    format!(in alloc; "{first}|{second}|{third}|{fourth}").ok()
+    let mut text = String::new(alloc);
+    push_next(alloc, reader, desk, &mut text)?;
+    push_next(alloc, reader, desk, &mut text)?;
+    push_next(alloc, reader, desk, &mut text)?;
+    push_next(alloc, reader, desk, &mut text)?;
+    Some(text)
 }
 
 // The same of a new reader.
@@ -47,78 +62,74 @@ fn answers<D: Desk>(alloc: Global, desk: &mut D, limits: LineLimits) -> Option<S
     if limits.lines > 100 {
         return None;
     }
-    let mut reader = LineReader::new(alloc, 0, limits).ok()?;
     desk.open(0, "in").ok()?;
+    let mut reader = LineReader::new(alloc, 0, limits).ok()?;
     four(alloc, &mut reader, desk)
 }
 
-// The same over a text that comes so many bytes at a time.
-fn read(alloc: Global, text: &str, piece: usize, limits: LineLimits) -> Option<String>
+// The same over a text that comes so many bytes at a time, where the call of this number fails.
+fn read(alloc: Global, text: &str, fails: u64, piece: usize, limits: LineLimits) -> Option<String>
     requires { 1 ≤ piece }
 {
-    let mut desk = desk_with(alloc, text.as_bytes(), Ids::new(alloc), piece, 16).ok()?;
+    let mut desk = desk_with(alloc, text.as_bytes(), fails, piece, 16).ok()?;
     answers(alloc, &mut desk, limits)
 }
 
 #[test]
-fn lines_come_in_turn(rt: HostRuntime) -> Result<(), Fail> {
-    for piece in [1, 3, 4096] {
-        let found = read(rt.alloc(), "ab\n\nc", piece, AMPLE);
-        assert_eq!(rt; found.as_deref(), Some("1 ab|2 |3 c|end"));
-    }
-    Ok(())
-}
-
-#[test]
-fn a_line_that_ends_the_text_is_the_last(rt: HostRuntime) -> Result<(), Fail> {
-    let exact = LineLimits {
-        text: 3,
-        line: 2,
-        lines: 1,
-    };
-    let found = read(rt.alloc(), "ab\n", 1, exact);
-    assert_eq!(rt; found.as_deref(), Some("1 ab|end|end|end"));
-    Ok(())
-}
-
-#[test]
-fn a_limit_is_answered_again(rt: HostRuntime) -> Result<(), Fail> {
+fn lines_come_in_turn(rt: HostRuntime) {
     let cases = [
+        ("ab\n\nc", 0, 1, AMPLE, "1 ab|2 |3 c|end|"),
+        ("ab\n\nc", 0, 3, AMPLE, "1 ab|2 |3 c|end|"),
+        ("ab\n\nc", 0, 4096, AMPLE, "1 ab|2 |3 c|end|"),
+        // A line that ends the text is the last.
         (
+            "ab\n",
+            0,
+            1,
+            LineLimits {
+                text: 3,
+                line: 2,
+                lines: 1,
+            },
+            "1 ab|end|end|end|",
+        ),
+        // A limit is answered again.
+        (
+            "ab\nc\n",
+            0,
+            4096,
             LineLimits { text: 4, ..AMPLE },
-            "1 ab|line 2: limit text|line 2: limit text|line 2: limit text",
+            "1 ab|line 2: limit text|line 2: limit text|line 2: limit text|",
         ),
         (
+            "ab\nc\n",
+            0,
+            4096,
             LineLimits { line: 1, ..AMPLE },
-            "line 1: limit line|line 1: limit line|line 1: limit line|line 1: limit line",
+            "line 1: limit line|line 1: limit line|line 1: limit line|line 1: limit line|",
         ),
         (
+            "ab\nc\n",
+            0,
+            4096,
             LineLimits {
                 line: 2,
                 lines: 1,
                 ..AMPLE
             },
-            "1 ab|line 2: limit lines|line 2: limit lines|line 2: limit lines",
+            "1 ab|line 2: limit lines|line 2: limit lines|line 2: limit lines|",
+        ),
+        // So is a failed read, here the second.
+        (
+            "ab\nc\n",
+            3,
+            3,
+            AMPLE,
+            "1 ab|a read failed|a read failed|a read failed|",
         ),
     ];
-    for (limits, expected) in cases {
-        let found = read(rt.alloc(), "ab\nc\n", 4096, limits);
-        assert_eq!(rt; found.as_deref(), Some(expected));
+    for (text, fails, piece, limits, expected) in cases {
+        let found = read(rt.alloc(), text, fails, piece, limits);
+        assert_found(&rt, found, expected, text);
     }
-    Ok(())
-}
-
-// The second read fails.
-fn read_with_a_fault(alloc: Global) -> Option<String> {
-    let fails = Ids::from_vec(vec![in alloc; 3].ok()?);
-    let mut desk = desk_with(alloc, b"ab\nc\n", fails, 3, 16).ok()?;
-    answers(alloc, &mut desk, AMPLE)
-}
-
-#[test]
-fn a_failed_read_is_answered_again(rt: HostRuntime) -> Result<(), Fail> {
-    let found = read_with_a_fault(rt.alloc());
-    let expected = "1 ab|a read failed|a read failed|a read failed";
-    assert_eq!(rt; found.as_deref(), Some(expected));
-    Ok(())
 }

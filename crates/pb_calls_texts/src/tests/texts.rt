@@ -1,96 +1,103 @@
-use pb_base::Problem;
+use super::{assert_found, parts};
+use pb_base::{Lit, Problem, Term};
 use pb_opb::{OpbFault, read_opb};
 use std::alloc::Global;
-use std::process::Abort;
-use std::test::Fail;
+
+fn fault_text(alloc: Global, fault: OpbFault) -> Option<String> {
+    match fault {
+        OpbFault::Token { place, expected } => format!(in alloc; "{place}: {expected}").ok(),
+        OpbFault::Limit { place, which } => format!(in alloc; "{}: limit {which}", place?).ok(),
+        OpbFault::NoMemory => None,
+    }
+}
 
 // How many variables a text has, or its first fault.
 fn read(alloc: Global, text: &[u8]) -> Option<String> {
     match read_opb(alloc, text) {
         Ok(problem) => format!(in alloc; "{} variables", problem.vars).ok(),
-        Err(OpbFault::Token { place, expected }) => format!(in alloc; "{place}: {expected}").ok(),
-        Err(
-            OpbFault::Limit {
-                place: Some(place),
-                which,
-            },
-        ) => format!(in alloc; "{place}: limit {which}").ok(),
-        Err(_) => None,
+        Err(fault) => fault_text(alloc, fault),
     }
 }
 
-// Each text has so many variables, or this first fault.
-fn each_read(rt: &impl Abort, alloc: Global, cases: &[(&str, &str)]) {
-    for &(text, expected) in cases {
-        let found = read(alloc, text.as_bytes());
-        assert_eq!(rt; found.as_deref(), Some(expected), "at {text}");
+// Texts with their variables or first faults, which stand behind `=>`.
+const CASES: &str = "\
++1 x1 >= 1 => 1:11: ;
+
+max: +1 x1 ; => 1:1: min:, a statement or the end
+
+x1 >= 1 ; => 1:1: min:, a statement or the end
+
++1 x1 x0 >= 1 ; => 1:7: a coefficient or a relation
+
+min: x1 ; => 1:6: a coefficient or ;
+
++1 x0 >= 1 ; => 1:4: a literal
+
++1 x1 > 1 ; => 1:7: a coefficient or a relation
+
++1 x1 >= 1 ; min: ; => 1:14: a statement or the end
+
++1 x1 >= ; => 1:10: an integer
+
+min: +1 x1 >= 1 ; => 1:12: a coefficient or ;
+
++1 ~ x1 >= 1 ; => 1:4: a literal
+
++ 1 x1 >= 1 ; => 1:1: min:, a statement or the end
+
++1 x1 >= 1 2 ; => 1:12: ;
+
++1 x1
+\t+1 2y >= 1 ; => 2:5: a literal
+
++1 ~~a >= 1 ; => 1:4: a literal
+
++1 a.b >= 1 ; => 1:4: a literal
+
++1 ~x00 >= 1 ; => 1:4: a literal
+
++1 x1 * c
+>= 1 * ; => 2:9: ;
+
+ => 0 variables
+
+min:+1 x1;
+2 x1 03 ~x02>=+2; => 2 variables
+
+* #variable= 3 #constraint= 1
+min:+1 x1;
+* note
+2 x1 03 ~x02>=+2; => 3 variables
+
+ * #variable= 2147483646 #constraint= 1
++1 x1 +1 x7 >= 1 ; => 2147483646 variables
+
+* #variable= 3 #constraint= 1
+min:+1 x1;
+* note
+2 x1 03 ~x12>=+2; => 12 variables
+
++633825300114114700748351602688 x1 >= 633825300114114700748351602687 ; => 1 variables
+
++633825300114114700748351602688 x1 >= 633825300114114700748351602688 ; => 1:39: limit weight
+
++1 x2147483648 >= 1 ; => 1:4: limit variables
+
++1 x2147483647 >= 1 ; => 2147483647 variables
+
++1 a >= 1 ;
++1 x2147483647 >= 1 ; => 2:22: limit variables
+
+* #variable= 340282366920938463463374607431768211456
+( => 1:14: limit variables";
+
+#[test]
+fn variables_or_first_faults(rt: HostRuntime) {
+    for case in CASES.split("\n\n") {
+        let (text, expected) = parts(case);
+        let found = read(rt.alloc(), text.as_bytes());
+        assert_found(&rt, found, expected, text);
     }
-}
-
-#[test]
-fn first_faults(rt: HostRuntime) -> Result<(), Fail> {
-    let cases = [
-        ("+1 x1 >= 1", "1:11: ;"),
-        ("max: +1 x1 ;", "1:1: min:, a statement or the end"),
-        ("x1 >= 1 ;", "1:1: min:, a statement or the end"),
-        ("+1 x1 x0 >= 1 ;", "1:7: a coefficient or a relation"),
-        ("min: x1 ;", "1:6: a coefficient or ;"),
-        ("+1 x0 >= 1 ;", "1:4: a literal"),
-        ("+1 x1 > 1 ;", "1:7: a coefficient or a relation"),
-        ("+1 x1 >= 1 ; min: ;", "1:14: a statement or the end"),
-        ("+1 x1 >= ;", "1:10: an integer"),
-        ("min: +1 x1 >= 1 ;", "1:12: a coefficient or ;"),
-        ("+1 ~ x1 >= 1 ;", "1:4: a literal"),
-        ("+ 1 x1 >= 1 ;", "1:1: min:, a statement or the end"),
-        ("+1 x1 >= 1 2 ;", "1:12: ;"),
-        ("+1 x1\n\t+1 2y >= 1 ;", "2:5: a literal"),
-        ("+1 ~~a >= 1 ;", "1:4: a literal"),
-        ("+1 a.b >= 1 ;", "1:4: a literal"),
-        ("+1 ~x00 >= 1 ;", "1:4: a literal"),
-        ("+1 x1 * c\n>= 1 * ;", "2:9: ;"),
-    ];
-    each_read(&rt, rt.alloc(), &cases);
-    Ok(())
-}
-
-#[test]
-fn limits_and_variables(rt: HostRuntime) -> Result<(), Fail> {
-    let cases = [
-        ("", "0 variables"),
-        ("min:+1 x1;\n2 x1 03 ~x02>=+2;", "2 variables"),
-        (
-            "* #variable= 3 #constraint= 1\nmin:+1 x1;\n* note\n2 x1 03 ~x02>=+2;",
-            "3 variables",
-        ),
-        (
-            " * #variable= 2147483646 #constraint= 1\n+1 x1 +1 x7 >= 1 ;",
-            "2147483646 variables",
-        ),
-        (
-            "* #variable= 3 #constraint= 1\nmin:+1 x1;\n* note\n2 x1 03 ~x12>=+2;",
-            "12 variables",
-        ),
-        (
-            "+633825300114114700748351602688 x1 >= 633825300114114700748351602687 ;",
-            "1 variables",
-        ),
-        (
-            "+633825300114114700748351602688 x1 >= 633825300114114700748351602688 ;",
-            "1:39: limit weight",
-        ),
-        ("+1 x2147483648 >= 1 ;", "1:4: limit variables"),
-        ("+1 x2147483647 >= 1 ;", "2147483647 variables"),
-        (
-            "+1 a >= 1 ;\n+1 x2147483647 >= 1 ;",
-            "2:22: limit variables",
-        ),
-        (
-            "* #variable= 340282366920938463463374607431768211456\n(",
-            "1:14: limit variables",
-        ),
-    ];
-    each_read(&rt, rt.alloc(), &cases);
-    Ok(())
 }
 
 // How many variables a problem has with numbers, and the free names of the others.
@@ -109,44 +116,62 @@ fn names(alloc: Global, text: &[u8]) -> Option<String> {
     names_of(alloc, &problem)
 }
 
+// Texts with the number and the names, which stand behind `=>`.
+const NAMED: &str = "\
++1 x2 +1 ~x1 >= 1 ; => 2
+
++1 rain +1 x2 +1 ~sun >= 2 ; => 2 rain sun
+
+min: +1 ~sun ;
++1 rain +1 x2 +1 sun >= 2 ; => 2 sun rain
+
+* #variable= 7
++1 x +1 X1 +1 _[2]{^}-x >= 1 ; => 7 x X1 _[2]{^}-x
+
++1 x1a +1 xx1 +1 x1 >= 1 ; => 1 x1a xx1";
+
 #[test]
-fn free_names(rt: HostRuntime) -> Result<(), Fail> {
-    let cases = [
-        ("+1 x2 +1 ~x1 >= 1 ;", "2"),
-        ("+1 rain +1 x2 +1 ~sun >= 2 ;", "2 rain sun"),
-        ("min: +1 ~sun ;\n+1 rain +1 x2 +1 sun >= 2 ;", "2 sun rain"),
-        (
-            "* #variable= 7\n+1 x +1 X1 +1 _[2]{^}-x >= 1 ;",
-            "7 x X1 _[2]{^}-x",
-        ),
-        ("+1 x1a +1 xx1 +1 x1 >= 1 ;", "1 x1a xx1"),
-    ];
-    for (text, expected) in cases {
+fn free_names(rt: HostRuntime) {
+    for case in NAMED.split("\n\n") {
+        let (text, expected) = parts(case);
         let found = names(rt.alloc(), text.as_bytes());
-        assert_eq!(rt; found.as_deref(), Some(expected), "at {text}");
+        assert_found(&rt, found, expected, text);
     }
-    Ok(())
+}
+
+fn push_lit(alloc: Global, lit: Lit, shown: &mut String) -> Option<()> {
+    let sign = if lit.positive { "" } else { "-" };
+    let lit = format!(in alloc; "{sign}{}", lit.index()).ok()?;
+    shown.push_str(lit.as_str()).ok()
+}
+
+// Adds the literals of a product.
+fn push_product(alloc: Global, product: &[Lit], shown: &mut String) -> Option<()> {
+    for lit in product {
+        push_lit(alloc, *lit, shown)?;
+        shown.push(' ').ok()?;
+    }
+    shown.push_str("; ").ok()
+}
+
+// Adds the terms of a statement.
+fn push_terms(alloc: Global, terms: &[Term], shown: &mut String) -> Option<()> {
+    for term in terms {
+        push_lit(alloc, term.lit, shown)?;
+        let coef = format!(in alloc; ":{} ", term.coef).ok()?;
+        shown.push_str(coef.as_str()).ok()?;
+    }
+    Some(())
 }
 
 // The literals of each product, and those of the terms.
 fn products_of(alloc: Global, problem: &Problem) -> Option<String> {
     let mut shown = String::new(alloc);
     for product in problem.products.as_slice() {
-        for lit in product.as_slice() {
-            let sign = if lit.positive { "" } else { "-" };
-            shown
-                .push_str(&format!(in alloc; "{sign}{} ", lit.index()).ok()?)
-                .ok()?;
-        }
-        shown.push_str("; ").ok()?;
+        push_product(alloc, product.as_slice(), &mut shown)?;
     }
     for statement in problem.statements.as_slice() {
-        for term in statement.terms.as_slice() {
-            let sign = if term.lit.positive { "" } else { "-" };
-            shown
-                .push_str(&format!(in alloc; "{sign}{}:{} ", term.lit.index(), term.coef).ok()?)
-                .ok()?;
-        }
+        push_terms(alloc, statement.terms.as_slice(), &mut shown)?;
     }
     Some(shown)
 }
@@ -158,7 +183,7 @@ fn products(alloc: Global, text: &[u8]) -> Option<String> {
 }
 
 #[test]
-fn product_terms(rt: HostRuntime) -> Result<(), Fail> {
+fn product_terms(rt: HostRuntime) {
     let cases = [
         ("+1 x1 x2 >= 1 ;", "1 2 ; 3:1 "),
         ("+2 x1 ~x2 +1 x2 ~x2 +1 x1 x1 >= 3 ;", "1 -2 ; 3:2 1:1 "),
@@ -171,46 +196,38 @@ fn product_terms(rt: HostRuntime) -> Result<(), Fail> {
     ];
     for (text, expected) in cases {
         let found = products(rt.alloc(), text.as_bytes());
-        assert_eq!(rt; found.as_deref(), Some(expected), "at {text}");
+        assert_found(&rt, found, expected, text);
     }
-    Ok(())
+}
+
+fn push_times(text: &mut Vec<u8>, piece: &str, times: u32) -> Option<()> {
+    for _ in 0..times {
+        text.extend_from_slice(piece.as_bytes()).ok()?;
+    }
+    Some(())
+}
+
+// What is told of a text of pieces, each so many times.
+fn read_repeated(alloc: Global, pieces: &[(&str, u32)]) -> Option<String> {
+    let mut text = Vec::new(alloc);
+    for (piece, times) in pieces {
+        push_times(&mut text, piece, *times)?;
+    }
+    read(alloc, &text)
 }
 
 #[test]
-fn long_names(rt: HostRuntime) -> Result<(), Fail> {
-    let mut text = Vec::new(rt.alloc());
-    text.extend_from_slice(b"+1 ~")?;
-    for _ in 0..255 {
-        text.push(b'a')?;
+fn names_sums_and_products_too_long(rt: HostRuntime) {
+    let cases: [(&[(&str, u32)], &str); 3] = [
+        (
+            &[("+1 ~", 1), ("a", 255), (" >= 1 ;\n+1 a", 1), ("a", 255)],
+            "2:4: limit name",
+        ),
+        (&[("1 x1 ", 1_048_577)], "1:5242881: limit terms"),
+        (&[("1", 1), (" x1", 1_048_577)], "1:3145731: limit terms"),
+    ];
+    for (pieces, expected) in cases {
+        let found = read_repeated(rt.alloc(), pieces);
+        assert_found(&rt, found, expected, "a long text");
     }
-    text.extend_from_slice(b" >= 1 ;\n+1 a")?;
-    for _ in 0..255 {
-        text.push(b'a')?;
-    }
-    let found = read(rt.alloc(), text.as_slice());
-    assert_eq!(rt; found.as_deref(), Some("2:4: limit name"));
-    Ok(())
-}
-
-#[test]
-fn long_sums(rt: HostRuntime) -> Result<(), Fail> {
-    let mut text = Vec::new(rt.alloc());
-    for _ in 0..1_048_577 {
-        text.extend_from_slice(b"1 x1 ")?;
-    }
-    let found = read(rt.alloc(), text.as_slice());
-    assert_eq!(rt; found.as_deref(), Some("1:5242881: limit terms"));
-    Ok(())
-}
-
-#[test]
-fn long_products(rt: HostRuntime) -> Result<(), Fail> {
-    let mut text = Vec::new(rt.alloc());
-    text.push(b'1')?;
-    for _ in 0..1_048_577 {
-        text.extend_from_slice(b" x1")?;
-    }
-    let found = read(rt.alloc(), text.as_slice());
-    assert_eq!(rt; found.as_deref(), Some("1:3145731: limit terms"));
-    Ok(())
 }

@@ -1,29 +1,21 @@
+use super::assert_found;
 use pb_base::{Number, end_of, read_number, tokens, words};
 use std::alloc::Global;
-use std::test::Fail;
 
 // Where each token stands, and how long it is.
-fn tokens_text(alloc: Global, text: &[u8]) -> Option<String> {
+fn tokens_text(alloc: Global, text: &str) -> Option<String> {
     let mut found = String::new(alloc);
-    for token in tokens(text) {
+    for token in tokens(text.as_bytes()) {
         let piece = format!(in alloc; "{}+{} ", token.place, token.text.len()).ok()?;
         found.push_str(piece.as_str()).ok()?;
     }
     Some(found)
 }
 
-#[test]
-fn tokens_of_a_text(rt: HostRuntime) -> Result<(), Fail> {
-    let found = tokens_text(rt.alloc(), b"min:+1 x1;* all >= here\n>= >==a<b* c");
-    let expected = "1:1+4 1:5+2 1:8+2 1:10+1 2:1+2 2:4+2 2:6+1 2:7+1 2:8+1 2:9+2 2:12+1 ";
-    assert_eq!(rt; found.as_deref(), Some(expected));
-    Ok(())
-}
-
 // Where each word of a line stands, and how long it is.
-fn words_text(alloc: Global, text: &[u8]) -> Option<String> {
+fn words_text(alloc: Global, text: &str) -> Option<String> {
     let mut found = String::new(alloc);
-    for word in words(text) {
+    for word in words(text.as_bytes()) {
         let piece = format!(in alloc; "{}+{} ", word.column, word.text.len()).ok()?;
         found.push_str(piece.as_str()).ok()?;
     }
@@ -31,14 +23,20 @@ fn words_text(alloc: Global, text: &[u8]) -> Option<String> {
 }
 
 #[test]
-fn words_of_a_line(rt: HostRuntime) -> Result<(), Fail> {
-    let found = words_text(rt.alloc(), b"\t p cnf  3*;\r");
-    assert_eq!(rt; found.as_deref(), Some("3+1 5+3 10+3 "));
-    Ok(())
+fn tokens_words_and_the_end(rt: HostRuntime) {
+    let text = "min:+1 x1;* all >= here\n>= >==a<b* c";
+    let found = tokens_text(rt.alloc(), text);
+    let expected = "1:1+4 1:5+2 1:8+2 1:10+1 2:1+2 2:4+2 2:6+1 2:7+1 2:8+1 2:9+2 2:12+1 ";
+    assert_found(&rt, found, expected, text);
+    let line = "\t p cnf  3*;\r";
+    let found = words_text(rt.alloc(), line);
+    assert_found(&rt, found, "3+1 5+3 10+3 ", line);
+    let end = end_of(b"+1 x1\n>= 1");
+    assert_eq!(rt; (end.line, end.column), (2, 5));
 }
 
 #[test]
-fn numbers(rt: HostRuntime) -> Result<(), Fail> {
+fn numbers(rt: HostRuntime) {
     let cases = [
         ("-007", Number::Value(-7)),
         ("+", Number::NotANumber),
@@ -51,12 +49,4 @@ fn numbers(rt: HostRuntime) -> Result<(), Fail> {
     for (text, number) in cases {
         assert_eq!(rt; read_number(text.as_bytes()), number, "at {text}");
     }
-    Ok(())
-}
-
-#[test]
-fn the_end_of_a_text(rt: HostRuntime) -> Result<(), Fail> {
-    let end = end_of(b"+1 x1\n>= 1");
-    assert_eq!(rt; (end.line, end.column), (2, 5));
-    Ok(())
 }
