@@ -7,14 +7,31 @@ use pb_base::{Ids, NoMemory, Seq};
 use pb_desk::Shelf;
 use pb_runs::{Run, named, run_over};
 use std::alloc::Global;
+use std::process::Abort;
 
-// The files `a`, `b` and `c` of these texts. A run that reads fewer does not open the others.
-fn files_of(alloc: Global, texts: [&[u8]; 3]) -> Result<Shelf, NoMemory> {
+// This is what was found of runs with these words, of which one text is broken.
+fn assert_found(rt: &impl Abort, found: Option<String>, due: &str, words: &str, at: usize) {
+    assert_eq!(rt; found.as_deref(), Some(due), "{words}, text {at}");
+}
+
+// A file comes behind the others.
+fn put_file(alloc: Global, files: &mut Shelf, name: &str, text: &[u8]) -> Result<(), NoMemory> {
+    files.push(named(alloc, name, text)?)?;
+    Ok(())
+}
+
+// The files `a`, `b` and `c` of these texts.
+fn put_files(alloc: Global, files: &mut Shelf, texts: [&[u8]; 3]) -> Result<(), NoMemory> {
     let [first, second, third] = texts;
+    put_file(alloc, files, "a", first)?;
+    put_file(alloc, files, "b", second)?;
+    put_file(alloc, files, "c", third)
+}
+
+// The same. A run that reads fewer does not open the others.
+fn files_of(alloc: Global, texts: [&[u8]; 3]) -> Result<Shelf, NoMemory> {
     let mut files = Seq::new(alloc);
-    files.push(named(alloc, "a", first)?)?;
-    files.push(named(alloc, "b", second)?)?;
-    files.push(named(alloc, "c", third)?)?;
+    put_files(alloc, &mut files, texts)?;
     Ok(files)
 }
 

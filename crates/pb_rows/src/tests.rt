@@ -15,23 +15,34 @@ mod words;
 
 use pb_base::{Ids, NoMemory, Seq};
 use pb_desk::Shelf;
-use pb_runs::{Run, named, refusal_of, run_freely, run_over};
+use pb_runs::{Run, named, refusal_of, run_freely, run_over, run_with};
 use std::alloc::Global;
 use std::process::Abort;
 
-// How a run that makes and says nothing ends: its status and its fault line.
-fn refusal(alloc: Global, words: &str, text: &[u8]) -> Option<String> {
-    let run = run_freely(alloc, words, text).ok()?;
-    refusal_of(alloc, &run)
+// This is what was found of a text with these words. The assertions and the loop over each kind of case are proved once here,
+// since that takes much longer than a call. A table of cases stands in its call for the same reason: there it is a constant.
+fn assert_found(rt: &impl Abort, found: Option<String>, due: &str, words: &str, text: &str) {
+    assert_eq!(rt; found.as_deref(), Some(due), "{words} at {text}");
 }
 
-// Each run with these words over this text makes and says nothing, and ends with this status and fault line. A loop and its
-// assertion are proved once here, since that takes much longer than a table of cases.
-fn each_refused(rt: &impl Abort, alloc: Global, cases: &[(&str, &str, &str)]) {
-    for &(words, text, line) in cases {
-        let found = refusal(alloc, words, text.as_bytes());
-        assert_eq!(rt; found.as_deref(), Some(line), "{words} at {text}");
+// What is due of a text with these words was found.
+fn assert_due(rt: &impl Abort, is_due: bool, words: &str, text: &str) {
+    assert!(rt; is_due, "{words} at {text}");
+}
+
+// These files come behind the others.
+fn put_files(alloc: Global, files: &mut Shelf, texts: &[(&str, &[u8])]) -> Result<(), NoMemory> {
+    for &(name, text) in texts {
+        files.push(named(alloc, name, text)?)?;
     }
+    Ok(())
+}
+
+// The files of these names.
+fn files_of(alloc: Global, texts: &[(&str, &[u8])]) -> Result<Shelf, NoMemory> {
+    let mut files = Seq::new(alloc);
+    put_files(alloc, &mut files, texts)?;
+    Ok(files)
 }
 
 // What the run says, where it is done, or its status and its fault line, where it says nothing. It makes no file.
@@ -46,15 +57,18 @@ fn told_of(alloc: Global, run: &Run) -> Option<String> {
 }
 
 // What is told of a run with these words on a desk with these files, which does not hinder it.
-fn told(alloc: Global, words: &str, files: Shelf) -> Option<String> {
+fn told(alloc: Global, words: &str, texts: &[(&str, &[u8])]) -> Option<String> {
+    let files = files_of(alloc, texts).ok()?;
     let run = run_over(alloc, words, files, Ids::new(alloc), 4096, 4096).ok()?;
     told_of(alloc, &run)
 }
 
-// What is told of a run with these words over this text, in the same way.
-fn told_of_text(alloc: Global, words: &str, text: &str) -> Option<String> {
-    let run = run_freely(alloc, words, text.as_bytes()).ok()?;
-    told_of(alloc, &run)
+// With each of these words, this is told of the text, and no file is made.
+fn each_told(rt: &impl Abort, alloc: Global, cases: &[(&str, &str, &str)]) {
+    for &(words, text, line) in cases {
+        let found = told(alloc, words, &[("a", text.as_bytes())]);
+        assert_found(rt, found, line, words, text);
+    }
 }
 
 // The one file that a run made, where it is done.
@@ -74,33 +88,64 @@ fn made(alloc: Global, words: &str, text: &str) -> Option<String> {
     made_by(alloc, &run)
 }
 
-// What a run said that is done.
-fn said_by(alloc: Global, run: &Run) -> Option<String> {
-    if run.outcome.status() != 0 {
-        return None;
+// With each of these words, this one file is made of the text.
+fn each_made(rt: &impl Abort, alloc: Global, cases: &[(&str, &str, &str)]) {
+    for &(words, text, file) in cases {
+        let found = made(alloc, words, text);
+        assert_found(rt, found, file, words, text);
     }
-    str::from_utf8(run.desk.said()).ok()?.to_string(alloc).ok()
 }
 
-// What is said of a text with these words.
-fn said(alloc: Global, words: &str, text: &str) -> Option<String> {
-    let run = run_freely(alloc, words, text.as_bytes()).ok()?;
-    said_by(alloc, &run)
+// The run is done, made this one file, and said this.
+fn is_done(run: &Run, file: &str, said: &str) -> bool {
+    run.outcome.status() == 0
+        && run.desk.made(0) == Some(file.as_bytes())
+        && run.desk.made(1).is_none()
+        && run.desk.said() == said.as_bytes()
 }
 
-// The files `a`, `c` and `p` of a problem, a CNF and a derivation.
-fn files_of(alloc: Global, opb: &str, cnf: &str, proof: &str) -> Result<Shelf, NoMemory> {
-    let mut files = Seq::new(alloc);
-    files.push(named(alloc, "a", opb.as_bytes())?)?;
-    files.push(named(alloc, "c", cnf.as_bytes())?)?;
-    files.push(named(alloc, "p", proof.as_bytes())?)?;
-    Ok(files)
+// With these words, this one file is made of the text, and this is said.
+fn is_encoded(alloc: Global, words: &str, text: &str, file: &str, said: &str) -> bool {
+    match run_freely(alloc, words, text.as_bytes()) {
+        Ok(run) => is_done(&run, file, said),
+        Err(_) => false,
+    }
 }
 
-// What is told of the CNF and the derivation that a run made of a text, where they stand beside it.
-fn judged_by(alloc: Global, run: &Run, words: &str, text: &str) -> Option<String> {
-    let cnf = str::from_utf8(run.desk.made(0)?).ok()?;
-    let proof = str::from_utf8(run.desk.made(1)?).ok()?;
-    let files = files_of(alloc, text, cnf, proof).ok()?;
-    told(alloc, words, files)
+// With each of these words, this one file is made of the text, and this is said.
+fn each_encoded(rt: &impl Abort, alloc: Global, cases: &[(&str, &str, &str, &str)]) {
+    for &(words, text, file, said) in cases {
+        let is_due = is_encoded(alloc, words, text, file, said);
+        assert_due(rt, is_due, words, text);
+    }
+}
+
+// A run with room for long texts.
+fn run_widely(alloc: Global, words: &str, text: &[u8]) -> Option<Run> {
+    run_with(alloc, words, text, Ids::new(alloc), 4096, 1 << 23).ok()
+}
+
+// What is told of the problem `a`, the CNF `c`, the derivation `p` and the refutation `l`, which `check` does not open.
+fn judged(
+    alloc: Global,
+    words: &str,
+    opb: &str,
+    cnf: &[u8],
+    proof: &[u8],
+    lrat: &str,
+) -> Option<String> {
+    let texts = [
+        ("a", opb.as_bytes()),
+        ("c", cnf),
+        ("p", proof),
+        ("l", lrat.as_bytes()),
+    ];
+    told(alloc, words, &texts)
+}
+
+// The same of the CNF and the derivation that a run made of the problem.
+fn judged_by(alloc: Global, run: &Run, words: &str, opb: &str, lrat: &str) -> Option<String> {
+    let cnf = run.desk.made(0)?;
+    let proof = run.desk.made(1)?;
+    judged(alloc, words, opb, cnf, proof, lrat)
 }

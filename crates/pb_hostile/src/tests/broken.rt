@@ -1,22 +1,27 @@
 // Texts that are cut off, or have one byte replaced by another.
 ghost use Rattle.std.specs.Prelude.{◌<◌};
 
-use super::run_on;
-use pb_runs::{is_silent, refusal_of};
+use super::{assert_found, run_on};
+use pb_runs::{Run, is_silent, refusal_of};
 use std::alloc::Global;
-use std::test::Fail;
+use std::process::Abort;
 
-// The status of a run over these texts, or `-` where it is done and makes and says nothing. A run that is not done makes and
-// says nothing: where this is not so, the mark is another.
-fn mark(alloc: Global, words: &str, texts: [&[u8]; 3]) -> char {
-    let Some(run) = run_on(alloc, words, texts, 0, 4096, 4096) else {
-        return '!';
-    };
-    match (run.outcome.status(), is_silent(&run)) {
+// The status of a run, or `-` where it is done and makes and says nothing. A run that is not done makes and says nothing:
+// where this is not so, the mark is another.
+fn mark_of(run: &Run) -> char {
+    match (run.outcome.status(), is_silent(run)) {
         (0, true) => '-',
         (0, false) => '0',
         (_, false) => '?',
         (status, true) => char::from_digit(status as u32, 10).unwrap_or('!'),
+    }
+}
+
+// The mark of a run over these texts.
+fn mark(alloc: Global, words: &str, texts: [&[u8]; 3]) -> char {
+    match run_on(alloc, words, texts, 0, 4096, 4096) {
+        Some(run) => mark_of(&run),
+        None => '!',
     }
 }
 
@@ -31,50 +36,94 @@ fn mark_with(alloc: Global, words: &str, texts: [&[u8]; 3], at: usize, text: &[u
 }
 
 // Runs over the texts of which one is cut before each of its bytes, and then stands whole, by their marks.
-fn cut(alloc: Global, words: &str, texts: [&[u8]; 3], at: usize) -> Option<String>
+fn put_cuts(
+    alloc: Global,
+    marks: &mut String,
+    words: &str,
+    texts: [&[u8]; 3],
+    at: usize,
+) -> Option<()>
     requires { at < 3 }
 {
     let text = texts[at];
-    let mut marks = String::new(alloc);
     for count in 0..text.len() {
-        marks
-            .push(mark_with(alloc, words, texts, at, &text[..count]))
-            .ok()?;
+        let mark = mark_with(alloc, words, texts, at, &text[..count]);
+        marks.push(mark).ok()?;
     }
-    marks.push(mark(alloc, words, texts)).ok()?;
-    Some(marks)
+    marks.push(mark(alloc, words, texts)).ok()
+}
+
+// The mark of a run over the texts of which one byte of one is replaced.
+fn mark_at(
+    alloc: Global,
+    words: &str,
+    texts: [&[u8]; 3],
+    at: usize,
+    place: usize,
+    byte: u8,
+) -> Option<char>
+    requires { at < 3 }
+{
+    let mut bytes = texts[at].to_vec(alloc).ok()?;
+    if let Some(found) = bytes.get_mut(place) {
+        *found = byte;
+    }
+    Some(mark_with(alloc, words, texts, at, bytes.as_slice()))
 }
 
 // Runs over the texts of which each byte of one is replaced, by their marks.
-fn replaced(alloc: Global, words: &str, texts: [&[u8]; 3], at: usize, byte: u8) -> Option<String>
+fn put_replaced(
+    alloc: Global,
+    marks: &mut String,
+    words: &str,
+    texts: [&[u8]; 3],
+    at: usize,
+    byte: u8,
+) -> Option<()>
     requires { at < 3 }
 {
-    let text = texts[at];
-    let mut marks = String::new(alloc);
-    for place in 0..text.len() {
-        let mut bytes = text.to_vec(alloc).ok()?;
-        if let Some(found) = bytes.get_mut(place) {
-            *found = byte;
-        }
-        marks
-            .push(mark_with(alloc, words, texts, at, bytes.as_slice()))
-            .ok()?;
+    for place in 0..texts[at].len() {
+        let mark = mark_at(alloc, words, texts, at, place, byte)?;
+        marks.push(mark).ok()?;
     }
-    Some(marks)
+    Some(())
 }
 
 // The marks of the cuts, and those with each byte replaced by a blank, `;`, a digit, a letter and a byte of no text.
+fn put_broken(
+    alloc: Global,
+    marks: &mut String,
+    words: &str,
+    texts: [&[u8]; 3],
+    at: usize,
+) -> Option<()>
+    requires { at < 3 }
+{
+    put_cuts(alloc, marks, words, texts, at)?;
+    for &byte in b" ;7x\xff" {
+        marks.push('\n').ok()?;
+        put_replaced(alloc, marks, words, texts, at, byte)?;
+    }
+    Some(())
+}
+
+// The same, where there is such a text.
 fn broken(alloc: Global, words: &str, texts: [&[u8]; 3], at: usize) -> Option<String> {
     if at >= 3 {
         return None;
     }
-    let mut lines = cut(alloc, words, texts, at)?;
-    for byte in [b' ', b';', b'7', b'x', 255] {
-        let marks = replaced(alloc, words, texts, at, byte)?;
-        lines.push('\n').ok()?;
-        lines.push_str(marks.as_str()).ok()?;
+    let mut marks = String::new(alloc);
+    put_broken(alloc, &mut marks, words, texts, at)?;
+    Some(marks)
+}
+
+// With each of these words, the runs over these texts of which one is broken have these marks. A table stands in its call,
+// where it is a constant: one that is made when it runs takes much longer to prove.
+fn each_broken(rt: &impl Abort, alloc: Global, texts: [&[u8]; 3], cases: &[(&str, usize, &str)]) {
+    for &(words, at, marks) in cases {
+        let found = broken(alloc, words, texts, at);
+        assert_found(rt, found, marks, words, at);
     }
-    Some(lines)
 }
 
 // The marks that are due were not taken from runs: another program gave them, written from the description of the formats.
@@ -87,13 +136,17 @@ const ENCODED: &str = "\
 100000000000000000000000000000111111111111111111111111111111111";
 
 #[test]
-fn encoding(rt: HostRuntime) -> Result<(), Fail> {
+fn encoding(rt: HostRuntime) {
     let opb: &[u8] = b"* #variable= 2 #constraint= 1\nmin: +1 x2 ;\n+1 x1 +2 ~x2 >= 2 ;\n";
-    for words in ["pbcnf encode a d", "pbcnf wcnf a d"] {
-        let found = broken(rt.alloc(), words, [opb, b"", b""], 0);
-        assert_eq!(rt; found.as_deref(), Some(ENCODED), "at {words}");
-    }
-    Ok(())
+    each_broken(
+        &rt,
+        rt.alloc(),
+        [opb, b"", b""],
+        &[
+            ("pbcnf encode a d", 0, ENCODED),
+            ("pbcnf wcnf a d", 0, ENCODED),
+        ],
+    );
 }
 
 const BOUNDED: &str = "\
@@ -106,12 +159,18 @@ const BOUNDED: &str = "\
 
 // The bound is 2^100 - 2, so that a coefficient of 1 is the most that the objective may have.
 #[test]
-fn a_heavy_bound(rt: HostRuntime) -> Result<(), Fail> {
+fn a_heavy_bound(rt: HostRuntime) {
     let opb: &[u8] = b"min: +1 x2 ;\n+1 x1 +2 ~x2 >= 2 ;\n";
-    let words = "pbcnf encode a d --at-most=1267650600228229401496703205374";
-    let found = broken(rt.alloc(), words, [opb, b"", b""], 0);
-    assert_eq!(rt; found.as_deref(), Some(BOUNDED));
-    Ok(())
+    each_broken(
+        &rt,
+        rt.alloc(),
+        [opb, b"", b""],
+        &[(
+            "pbcnf encode a d --at-most=1267650600228229401496703205374",
+            0,
+            BOUNDED,
+        )],
+    );
 }
 
 const MAPPED: &str = "\
@@ -123,11 +182,14 @@ const MAPPED: &str = "\
 11111111111111111111111111111111111";
 
 #[test]
-fn mapping(rt: HostRuntime) -> Result<(), Fail> {
+fn mapping(rt: HostRuntime) {
     let opb: &[u8] = b"min: +1 sun ;\n+1 x1 +2 ~sun >= 2 ;\n";
-    let found = broken(rt.alloc(), "pbcnf map a", [opb, b"", b""], 0);
-    assert_eq!(rt; found.as_deref(), Some(MAPPED));
-    Ok(())
+    each_broken(
+        &rt,
+        rt.alloc(),
+        [opb, b"", b""],
+        &[("pbcnf map a", 0, MAPPED)],
+    );
 }
 
 const PROBED: &str = "\
@@ -139,11 +201,14 @@ const PROBED: &str = "\
 10000011111111111111111111111111111";
 
 #[test]
-fn probing(rt: HostRuntime) -> Result<(), Fail> {
+fn probing(rt: HostRuntime) {
     let cnf: &[u8] = b"c note\np cnf 3 3\n1 -2 0\n2\n3 0\n-1 0\n";
-    let found = broken(rt.alloc(), "pbcnf probe a x1", [cnf, b"", b""], 0);
-    assert_eq!(rt; found.as_deref(), Some(PROBED));
-    Ok(())
+    each_broken(
+        &rt,
+        rt.alloc(),
+        [cnf, b"", b""],
+        &[("pbcnf probe a x1", 0, PROBED)],
+    );
 }
 
 const DECODED_PROBLEMS: &str = "\
@@ -163,15 +228,18 @@ const DECODED_MODELS: &str = "\
 100000911999999999999111111111";
 
 #[test]
-fn decoding(rt: HostRuntime) -> Result<(), Fail> {
+fn decoding(rt: HostRuntime) {
     let opb: &[u8] = b"+1 x1 +1 x2 = 1 ;\n";
     let model: &[u8] = b"c note\ns SATISFIABLE\nv 1 -2 0\n";
-    let texts = [opb, model, b""];
-    for (at, expected) in [(0, DECODED_PROBLEMS), (1, DECODED_MODELS)] {
-        let found = broken(rt.alloc(), "pbcnf decode a b", texts, at);
-        assert_eq!(rt; found.as_deref(), Some(expected), "text {at}");
-    }
-    Ok(())
+    each_broken(
+        &rt,
+        rt.alloc(),
+        [opb, model, b""],
+        &[
+            ("pbcnf decode a b", 0, DECODED_PROBLEMS),
+            ("pbcnf decode a b", 1, DECODED_MODELS),
+        ],
+    );
 }
 
 const BOUNDED_PROBLEMS: &str = "\
@@ -192,15 +260,18 @@ const BOUNDED_MODELS: &str = "\
 
 // Where the second variable is false, or the first is true, a statement or the bound is violated.
 #[test]
-fn decoding_beside_a_bound(rt: HostRuntime) -> Result<(), Fail> {
+fn decoding_beside_a_bound(rt: HostRuntime) {
     let opb: &[u8] = b"min: +2 x1 -1 ~x2 ;\n+1 x1 +1 x2 >= 1 ;\n";
     let model: &[u8] = b"s SATISFIABLE\nv -1 2 0\n";
-    let texts = [opb, model, b""];
-    for (at, expected) in [(0, BOUNDED_PROBLEMS), (1, BOUNDED_MODELS)] {
-        let found = broken(rt.alloc(), "pbcnf decode a b --at-most=0", texts, at);
-        assert_eq!(rt; found.as_deref(), Some(expected), "text {at}");
-    }
-    Ok(())
+    each_broken(
+        &rt,
+        rt.alloc(),
+        [opb, model, b""],
+        &[
+            ("pbcnf decode a b --at-most=0", 0, BOUNDED_PROBLEMS),
+            ("pbcnf decode a b --at-most=0", 1, BOUNDED_MODELS),
+        ],
+    );
 }
 
 const CHECKED_PROBLEMS: &str = "\
@@ -228,37 +299,34 @@ const CHECKED_DERIVATIONS: &str = "\
 1111111111111111111111111111111111111111111111111111111111111111111111111111111111111111111111111111111111111111111111111";
 
 #[test]
-fn checking(rt: HostRuntime) -> Result<(), Fail> {
+fn checking(rt: HostRuntime) {
     let opb: &[u8] = b"+5 x1 +3 x2 +2 x3 >= 6 ;\n";
     let cnf: &[u8] = b"p cnf 4 2\n1 0\n2 3 0\n";
     let proof: &[u8] = b"pseudo-Boolean derivation profile 1\nf 1\nrup +1 x1 >= 1 ; 1\nout 2\n\
 pol 1 x1 w s\nout 3\nred +1 x4 >= 1 ; x4 -> 1\ndel 1 4\nend\n";
-    let texts = [opb, cnf, proof];
-    let cases = [
-        (0, CHECKED_PROBLEMS),
-        (1, CHECKED_CNFS),
-        (2, CHECKED_DERIVATIONS),
-    ];
-    for (at, expected) in cases {
-        let found = broken(rt.alloc(), "pbcnf check a b c", texts, at);
-        assert_eq!(rt; found.as_deref(), Some(expected), "text {at}");
-    }
-    Ok(())
+    each_broken(
+        &rt,
+        rt.alloc(),
+        [opb, cnf, proof],
+        &[
+            ("pbcnf check a b c", 0, CHECKED_PROBLEMS),
+            ("pbcnf check a b c", 1, CHECKED_CNFS),
+            ("pbcnf check a b c", 2, CHECKED_DERIVATIONS),
+        ],
+    );
 }
 
-// A statement of one term too many, which nothing ends.
+// What is told of a statement of one term too many, which nothing ends.
+fn told_of_many(alloc: Global) -> Option<String> {
+    let text = "1 x1 ".repeat(alloc, 1_048_577).ok()?;
+    let texts = [text.as_bytes(), b"", b""];
+    let run = run_on(alloc, "pbcnf encode a d", texts, 0, 65_536, 4096)?;
+    refusal_of(alloc, &run)
+}
+
 #[test]
-fn a_huge_text(rt: HostRuntime) -> Result<(), Fail> {
-    let mut text = Vec::new(rt.alloc());
-    for _ in 0..1_048_577 {
-        text.extend_from_slice(b"1 x1 ")?;
-    }
-    let texts = [text.as_slice(), b"", b""];
-    let run = run_on(rt.alloc(), "pbcnf encode a d", texts, 0, 65_536, 4096).expect(&rt, "run");
-    let found = refusal_of(rt.alloc(), &run);
-    assert_eq!(rt;
-        found.as_deref(),
-        Some("3 pbcnf: OPB 1:5242881: limit terms")
-    );
-    Ok(())
+fn a_huge_text(rt: HostRuntime) {
+    let found = told_of_many(rt.alloc());
+    let line = "3 pbcnf: OPB 1:5242881: limit terms";
+    assert_found(&rt, found, line, "pbcnf encode a d", 0);
 }

@@ -4,7 +4,7 @@ ghost use Rattle.std.specs.Prelude.{◌≤◌, ◌<◌};
 use super::run_on;
 use pb_runs::{Run, is_silent};
 use std::alloc::Global;
-use std::test::Fail;
+use std::process::Abort;
 
 // The file that a run made in a slot, or nothing.
 fn file_of(run: &Run, slot: u8) -> &[u8]
@@ -119,7 +119,7 @@ fn ends(
 
 // Where each call fails in turn, the runs end as they should beside a whole one. The counts are exact, so that a fault that is
 // passed over shows.
-fn all_end_beside(
+fn all_end(
     alloc: Global,
     words: &str,
     texts: [&[u8]; 3],
@@ -141,16 +141,6 @@ fn all_end_beside(
         }
     }
     true
-}
-
-// The same beside the run on a desk that does not hinder it.
-fn all_end(alloc: Global, words: &str, texts: [&[u8]; 3], count: usize, piece: usize) -> bool
-    requires { 1 ≤ piece }
-{
-    match run_on(alloc, words, texts, 0, 4096, 4096) {
-        Some(whole) => all_end_beside(alloc, words, texts, count, piece, &whole),
-        None => false,
-    }
 }
 
 // In this room the run makes and says as much as fits: the derivation only beside a whole CNF, and words only beside both.
@@ -180,7 +170,7 @@ fn fills_room(alloc: Global, words: &str, texts: [&[u8]; 3], room: usize, whole:
 }
 
 // Each room up to the one that suffices is tried.
-fn all_fill_beside(alloc: Global, words: &str, texts: [&[u8]; 3], whole: &Run) -> bool {
+fn all_fill(alloc: Global, words: &str, texts: [&[u8]; 3], whole: &Run) -> bool {
     let files = file_of(whole, 0).len().max(file_of(whole, 1).len());
     for room in 0..=files.max(whole.desk.said().len()) {
         if !fills_room(alloc, words, texts, room, whole) {
@@ -190,89 +180,115 @@ fn all_fill_beside(alloc: Global, words: &str, texts: [&[u8]; 3], whole: &Run) -
     true
 }
 
+// By pieces of a byte each byte is a call, else each text is read and each file written in one piece. Each call fails in
+// turn, and each room is too small in turn.
+fn is_tried_beside(
+    alloc: Global,
+    words: &str,
+    texts: [&[u8]; 3],
+    count: usize,
+    whole: &Run,
+) -> bool {
+    all_end(alloc, words, texts, count, 1, whole)
+        && all_end(alloc, words, texts, count, 4096, whole)
+        && all_fill(alloc, words, texts, whole)
+}
+
 // The same beside the run on a desk that does not hinder it.
-fn all_fill(alloc: Global, words: &str, texts: [&[u8]; 3]) -> bool {
+fn is_tried(alloc: Global, words: &str, texts: [&[u8]; 3], count: usize) -> bool {
     match run_on(alloc, words, texts, 0, 4096, 4096) {
-        Some(whole) => all_fill_beside(alloc, words, texts, &whole),
+        Some(whole) => is_tried_beside(alloc, words, texts, count, &whole),
         None => false,
     }
 }
 
+// With each of these words a run is tried so, which reads the first `count` of these texts. A table stands in its call, where
+// it is a constant: one that is made when it runs takes much longer to prove.
+fn each_tried(rt: &impl Abort, alloc: Global, cases: &[(&str, &str, &str, usize)]) {
+    for &(words, first, second, count) in cases {
+        let texts = [first.as_bytes(), second.as_bytes(), b""];
+        let is_tried = is_tried(alloc, words, texts, count);
+        assert!(rt; is_tried, "at {words}");
+    }
+}
+
 // Exactly one of two variables.
-const ONE: &[u8] = b"+1 x1 +1 x2 = 1 ;\n";
+const ONE: &str = "+1 x1 +1 x2 = 1 ;\n";
+
+// What a solver prints of it.
+const PRINTED: &str = "s SATISFIABLE\nv 1 -2 0\n";
 
 // One of two variables, where the first costs 3 and the second 1, and 1 less in any case.
-const COSTS: &[u8] = b"min: +3 x1 -1 ~x2 ;\n+1 x1 +1 x2 >= 1 ;\n";
+const COSTS: &str = "min: +3 x1 -1 ~x2 ;\n+1 x1 +1 x2 >= 1 ;\n";
 
 // Two free names beside a number.
-const NAMES: &[u8] = b"+1 rain +1 x2 +1 ~sun >= 2 ;\n";
+const NAMES: &str = "+1 rain +1 x2 +1 ~sun >= 2 ;\n";
 
 // Three weights, of which a diagram is made.
-const WEIGHTS: &[u8] = b"+4 ~x1 +3 ~x2 +2 ~x3 >= 4 ;\n";
+const WEIGHTS: &str = "+4 ~x1 +3 ~x2 +2 ~x3 >= 4 ;\n";
 
 // Its CNF.
 const DIAGRAM: &[u8] = b"p cnf 6 5\n-4 -1 5 0\n-5 6 0\n-5 -2 0\n-6 -3 0\n4 0\n";
 
 // At most two of the first four variables, by a sequential counter.
-const COUNTER: &[u8] = b"p cnf 10 13\n-1 5 0\n-6 0\n-2 7 0\n-5 7 0\n-2 -5 8 0\n-6 8 0\n-2 -6 0\n\
+const COUNTER: &str = "p cnf 10 13\n-1 5 0\n-6 0\n-2 7 0\n-5 7 0\n-2 -5 8 0\n-6 8 0\n-2 -6 0\n\
 -3 9 0\n-7 9 0\n-3 -7 10 0\n-8 10 0\n-3 -8 0\n-4 -10 0\n";
 
-// Its CNF and the derivation are made.
+// The CNF and the derivation are made.
 const DERIVE: &str = "pbcnf encode a d e";
 
-const PRINTED: &[u8] = b"s SATISFIABLE\nv 1 -2 0\n";
-
-// By pieces of a byte each byte is a call, else each text is read and each file written in one piece. Each call fails in
-// turn, and each room is too small in turn.
-fn is_tried(alloc: Global, words: &str, texts: [&[u8]; 3], count: usize) -> bool {
-    all_end(alloc, words, texts, count, 1)
-        && all_end(alloc, words, texts, count, 4096)
-        && all_fill(alloc, words, texts)
+#[test]
+fn each_command(rt: HostRuntime) {
+    each_tried(
+        &rt,
+        rt.alloc(),
+        &[
+            ("pbcnf encode a d", ONE, "", 1),
+            ("pbcnf encode a d", WEIGHTS, "", 1),
+            ("pbcnf encode a d --at-most=2 --table", COSTS, "", 1),
+            ("pbcnf wcnf a d", COSTS, "", 1),
+            ("pbcnf decode a b", ONE, PRINTED, 2),
+            ("pbcnf map a", NAMES, "", 1),
+            ("pbcnf probe a x1 x2", COUNTER, "", 1),
+            ("pbcnf bench 1 0", "", "", 0),
+            ("pbcnf bench 1 0 d", "", "", 0),
+        ],
+    );
 }
 
 #[test]
-fn each_command(rt: HostRuntime) -> Result<(), Fail> {
-    let cases = [
-        ("pbcnf encode a d", [ONE, b"", b""], 1),
-        ("pbcnf encode a d", [WEIGHTS, b"", b""], 1),
-        ("pbcnf encode a d --at-most=2 --table", [COSTS, b"", b""], 1),
-        ("pbcnf wcnf a d", [COSTS, b"", b""], 1),
-        ("pbcnf decode a b", [ONE, PRINTED, b""], 2),
-        ("pbcnf map a", [NAMES, b"", b""], 1),
-        ("pbcnf probe a x1 x2", [COUNTER, b"", b""], 1),
-        ("pbcnf bench 1 0", [b"", b"", b""], 0),
-        ("pbcnf bench 1 0 d", [b"", b"", b""], 0),
-    ];
-    for (words, texts, count) in cases {
-        let is_tried = is_tried(rt.alloc(), words, texts, count);
-        assert!(rt; is_tried, "at {words}");
-    }
-    Ok(())
+fn a_derivation_is_made(rt: HostRuntime) {
+    each_tried(&rt, rt.alloc(), &[(DERIVE, WEIGHTS, "", 1)]);
+}
+
+// The check of the CNF and the derivation that the run made of the weights is tried.
+fn is_check_tried(alloc: Global, made: &Run) -> bool {
+    let texts = [WEIGHTS.as_bytes(), file_of(made, 0), file_of(made, 1)];
+    is_tried(alloc, "pbcnf check a b c", texts, 3)
 }
 
 #[test]
-fn a_derivation_is_made(rt: HostRuntime) -> Result<(), Fail> {
-    let is_tried = is_tried(rt.alloc(), DERIVE, [WEIGHTS, b"", b""], 1);
+fn a_derivation_is_checked(rt: HostRuntime) {
+    let texts = [WEIGHTS.as_bytes(), b"", b""];
+    let made = run_on(rt.alloc(), DERIVE, texts, 0, 4096, 4096).expect(&rt, "run");
+    let is_tried = is_check_tried(rt.alloc(), &made);
     assert!(rt; is_tried);
-    Ok(())
 }
 
-#[test]
-fn a_derivation_is_checked(rt: HostRuntime) -> Result<(), Fail> {
-    let made = run_on(rt.alloc(), DERIVE, [WEIGHTS, b"", b""], 0, 4096, 4096).expect(&rt, "run");
-    let texts = [WEIGHTS, file_of(&made, 0), file_of(&made, 1)];
-    let is_tried = is_tried(rt.alloc(), "pbcnf check a b c", texts, 3);
-    assert!(rt; is_tried);
-    Ok(())
+// The writing failed where the CNF is whole, no derivation is made, and nothing said.
+fn is_not_ended(run: &Run) -> bool {
+    run.outcome.status() == 5
+        && run.desk.made(0) == Some(DIAGRAM)
+        && run.desk.made(1).is_none()
+        && run.desk.said().is_empty()
 }
 
 // The CNF is whole where it can't be ended, and no derivation is made: the text is opened and read to its end in two calls,
 // the file is created, written, and then closed.
 #[test]
-fn the_cnf_is_not_ended(rt: HostRuntime) -> Result<(), Fail> {
-    let run = run_on(rt.alloc(), DERIVE, [WEIGHTS, b"", b""], 6, 4096, 4096).expect(&rt, "run");
-    assert_eq!(rt; run.outcome.status(), 5);
-    assert_eq!(rt; run.desk.made(0), Some(DIAGRAM));
-    assert!(rt; run.desk.made(1).is_none() && run.desk.said().is_empty());
-    Ok(())
+fn the_cnf_is_not_ended(rt: HostRuntime) {
+    let texts = [WEIGHTS.as_bytes(), b"", b""];
+    let run = run_on(rt.alloc(), DERIVE, texts, 6, 4096, 4096).expect(&rt, "run");
+    let is_not_ended = is_not_ended(&run);
+    assert!(rt; is_not_ended);
 }

@@ -1,55 +1,55 @@
-use pb_base::{Ids, NoMemory};
+use super::{each_encoded, each_told, run_widely};
 use pb_gen::generate;
-use pb_runs::{Run, run_with};
+use pb_runs::Run;
 use std::alloc::Global;
-use std::test::Fail;
 
-// A run on a desk with much room.
-fn run_widely(alloc: Global, words: &str, text: &[u8]) -> Result<Run, NoMemory> {
-    run_with(alloc, words, text, Ids::new(alloc), 65_536, 1 << 23)
-}
+// What is said of the one statement of the seed 0.
+const SAID: &str = "variables 11 original 11 fresh 0 clauses 1\n\
+nothing 0 empty 0 clause 1 pairwise 0 ladder 0 product 0 counter 0 totalizer 0 diagram 0 tree 0 adder 0\n";
 
-// The CNF file that a run made, or nothing.
-fn file_of(run: &Run) -> &[u8] {
-    run.desk.made(0).unwrap_or(b"")
-}
+const ONE: &str = "p cnf 11 1\n3 -7 0\n";
 
 #[test]
-fn one_statement(rt: HostRuntime) -> Result<(), Fail> {
-    let said = "variables 11 original 11 fresh 0 clauses 1\n\
-         nothing 0 empty 0 clause 1 pairwise 0 ladder 0 product 0 counter 0 totalizer 0 diagram 0 tree 0 adder 0\n";
-    let cases = [
-        ("pbcnf bench 1 0", None),
-        ("pbcnf bench 1 0 c", Some("p cnf 11 1\n3 -7 0\n")),
-        ("pbcnf bench 001 00 c", Some("p cnf 11 1\n3 -7 0\n")),
-    ];
-    for (words, made) in cases {
-        let run = run_widely(rt.alloc(), words, b"").expect(&rt, "run");
-        assert_eq!(rt; run.outcome.status(), 0);
-        assert_eq!(rt; run.desk.said(), said.as_bytes(), "at {words}");
-        assert_eq!(rt;
-            run.desk.made(0),
-            made.map(|text| text.as_bytes()),
-            "at {words}"
-        );
+fn one_statement(rt: HostRuntime) {
+    each_told(&rt, rt.alloc(), &[("pbcnf bench 1 0", "", SAID)]);
+    each_encoded(
+        &rt,
+        rt.alloc(),
+        &[
+            ("pbcnf bench 1 0 c", "", ONE, SAID),
+            ("pbcnf bench 001 00 c", "", ONE, SAID),
+        ],
+    );
+}
+
+// The run is done, made this file first, or none, and said what the other run said.
+fn says_so(run: &Run, file: Option<&[u8]>, encoded: &Run) -> bool {
+    run.outcome.status() == 0 && run.desk.made(0) == file && run.desk.said() == encoded.desk.said()
+}
+
+// A benchmark with these words makes this file, or none, and says what the other run said.
+fn is_benched(alloc: Global, words: &str, file: Option<&[u8]>, encoded: &Run) -> bool {
+    match run_widely(alloc, words, b"") {
+        Some(run) => says_so(&run, file, encoded),
+        None => false,
     }
-    Ok(())
 }
 
+// The run made a CNF, and a benchmark makes and says the same, and says the same without a file.
+fn agree(alloc: Global, encoded: &Run) -> bool {
+    let cnf = encoded.desk.made(0);
+    cnf.unwrap_or(b"").starts_with(b"p cnf ")
+        && is_benched(alloc, "pbcnf bench 1000 7 c", cnf, encoded)
+        && is_benched(alloc, "pbcnf bench 1000 7", None, encoded)
+}
+
+// What is generated, encoded as any other problem, is what a benchmark encodes.
 #[test]
-fn a_thousand_statements(rt: HostRuntime) -> Result<(), Fail> {
+fn a_thousand_statements(rt: HostRuntime) {
     let text = generate(rt.alloc(), 1000, 7).expect(&rt, "generated");
-    let sized = run_widely(rt.alloc(), "pbcnf bench 1000 7", b"").expect(&rt, "sized");
-    let benched = run_widely(rt.alloc(), "pbcnf bench 1000 7 c", b"").expect(&rt, "benched");
     let encoded = run_widely(rt.alloc(), "pbcnf encode a c", text.as_slice()).expect(
         &rt, "encoded",
     );
-    assert!(rt; file_of(&encoded).starts_with(b"p cnf "));
-    assert_eq!(rt; benched.outcome.status(), 0);
-    assert_eq!(rt; benched.desk.said(), encoded.desk.said(), "with a file");
-    assert_eq!(rt; file_of(&benched), file_of(&encoded), "with a file");
-    assert_eq!(rt; sized.outcome.status(), 0);
-    assert_eq!(rt; sized.desk.said(), encoded.desk.said(), "without one");
-    assert!(rt; sized.desk.made(0).is_none(), "without one");
-    Ok(())
+    let agree = agree(rt.alloc(), &encoded);
+    assert!(rt; agree);
 }

@@ -1,9 +1,8 @@
-use super::{files_of, told};
-use pb_base::{Ids, NoMemory};
-use pb_desk::Shelf;
-use pb_runs::{Run, named, run_with};
+use super::{assert_found, judged, judged_by, run_widely};
 use std::alloc::Global;
-use std::test::Fail;
+use std::process::Abort;
+
+const REFUTE: &str = "pbcnf refute a c p l";
 
 // Two variables, one of which is true and both false.
 const OPB: &str = "+1 x1 +1 x2 >= 1 ;\n+1 ~x1 >= 1 ;\n+1 ~x2 >= 1 ;\n";
@@ -11,6 +10,9 @@ const OPB: &str = "+1 x1 +1 x2 >= 1 ;\n+1 ~x1 >= 1 ;\n+1 ~x2 >= 1 ;\n";
 const CNF: &str = "p cnf 2 3\n1 2 0\n-1 0\n-2 0\n";
 
 const PROOF: &str = "pseudo-Boolean derivation profile 1\nf 3\nout 1\nout 2\nout 3\nend\n";
+
+// It without its last clause.
+const EARLY: &str = "pseudo-Boolean derivation profile 1\nf 3\nout 1\nout 2\nend\n";
 
 // Five pigeons in four holes.
 const PIGEONS: &str = "* #variable= 20\n\
@@ -68,86 +70,68 @@ const NO_PIGEONS: &str = "46 -1 -14 -20 0 6 7 21 23 42 44 2 3 30 0\n\
 85 0 83 84 10 0\n\
 ";
 
-// The files `a`, `c` and `p`, and the refutation `l`, where there is one.
-fn with_refutation(
+// With each of these words, this is told of the refutation beside the problem, the CNF and the derivation.
+pub fn each_refuted(
+    rt: &impl Abort,
     alloc: Global,
-    opb: &str,
-    cnf: &str,
-    proof: &str,
-    lrat: Option<&str>,
-) -> Result<Shelf, NoMemory> {
-    let mut files = files_of(alloc, opb, cnf, proof)?;
-    if let Some(lrat) = lrat {
-        files.push(named(alloc, "l", lrat.as_bytes())?)?;
+    texts: [&str; 3],
+    cases: &[(&str, &str, &str)],
+) {
+    let [opb, cnf, proof] = texts;
+    for &(words, lrat, line) in cases {
+        let found = judged(alloc, words, opb, cnf.as_bytes(), proof.as_bytes(), lrat);
+        assert_found(rt, found, line, words, lrat);
     }
-    Ok(files)
-}
-
-// What is told of these texts.
-fn judged(alloc: Global, opb: &str, cnf: &str, proof: &str, lrat: Option<&str>) -> Option<String> {
-    let files = with_refutation(alloc, opb, cnf, proof, lrat).ok()?;
-    told(alloc, "pbcnf refute a c p l", files)
 }
 
 #[test]
-fn refutations(rt: HostRuntime) -> Result<(), Fail> {
-    let cases = [
-        ("4 0 2 3 1 0\n", "refuted\n"),
-        ("4 0 2 3 0\n", "10 pbcnf: LRAT line 1: no conflict"),
-        ("", "10 pbcnf: LRAT line 1: no empty clause"),
-        ("3 0 2 0\n", "10 pbcnf: LRAT line 1: old id 3"),
-        ("4 0 9 0\n", "10 pbcnf: LRAT line 1: unknown hint 9"),
-        ("4 0 2 -3 1 0\n", "1 pbcnf: LRAT 1:7: expected lrat hint"),
-        // All lines are read.
-        (
-            "4 0 2 3 1 0\nc\n5 d 1\n",
-            "1 pbcnf: LRAT 3:6: expected lrat hint",
-        ),
-    ];
-    for (lrat, wanted) in &cases {
-        let found = judged(rt.alloc(), OPB, CNF, PROOF, Some(lrat));
-        assert_eq!(rt; found.as_deref(), Some(*wanted), "at {lrat}");
-    }
-    Ok(())
-}
-
-#[test]
-fn what_comes_before_the_refutation(rt: HostRuntime) -> Result<(), Fail> {
-    let early = "pseudo-Boolean derivation profile 1\nf 3\nout 1\nout 2\nend\n";
-    let rejected = judged(rt.alloc(), OPB, CNF, early, None);
-    assert_eq!(rt;
-        rejected.as_deref(),
-        Some("7 pbcnf: PROOF line 5: clauses left")
+fn refutations(rt: HostRuntime) {
+    each_refuted(
+        &rt,
+        rt.alloc(),
+        [OPB, CNF, PROOF],
+        &[
+            (REFUTE, "4 0 2 3 1 0\n", "refuted\n"),
+            (REFUTE, "4 0 2 3 0\n", "10 pbcnf: LRAT line 1: no conflict"),
+            (REFUTE, "", "10 pbcnf: LRAT line 1: no empty clause"),
+            (REFUTE, "3 0 2 0\n", "10 pbcnf: LRAT line 1: old id 3"),
+            (REFUTE, "4 0 9 0\n", "10 pbcnf: LRAT line 1: unknown hint 9"),
+            (
+                REFUTE,
+                "4 0 2 -3 1 0\n",
+                "1 pbcnf: LRAT 1:7: expected lrat hint",
+            ),
+            // All lines are read.
+            (
+                REFUTE,
+                "4 0 2 3 1 0\nc\n5 d 1\n",
+                "1 pbcnf: LRAT 3:6: expected lrat hint",
+            ),
+            // A refutation that is not there.
+            ("pbcnf refute a c p b", "", "4 pbcnf: read fault"),
+        ],
     );
-    let lacking = judged(rt.alloc(), OPB, CNF, PROOF, None);
-    assert_eq!(rt; lacking.as_deref(), Some("4 pbcnf: read fault"));
-    Ok(())
+    // The derivation comes before the refutation, which is not there.
+    each_refuted(
+        &rt,
+        rt.alloc(),
+        [OPB, CNF, EARLY],
+        &[(
+            "pbcnf refute a c p b",
+            "",
+            "7 pbcnf: PROOF line 5: clauses left",
+        )],
+    );
 }
 
-// What is told of a refutation of what a run made of a text, beside the derivation that it made.
-fn refuted_by(alloc: Global, run: &Run, opb: &str, lrat: &str) -> Option<String> {
-    let cnf = str::from_utf8(run.desk.made(0)?).ok()?;
-    let proof = str::from_utf8(run.desk.made(1)?).ok()?;
-    judged(alloc, opb, cnf, proof, Some(lrat))
-}
-
-// The same of what is encoded of the text.
+// What is told of a refutation of what is encoded of the problem, beside the derivation that is made with it.
 fn refuted(alloc: Global, opb: &str, lrat: &str) -> Option<String> {
-    let run = run_with(
-        alloc,
-        "pbcnf encode a c p",
-        opb.as_bytes(),
-        Ids::new(alloc),
-        4096,
-        1 << 16,
-    )
-    .ok()?;
-    refuted_by(alloc, &run, opb, lrat)
+    let run = run_widely(alloc, "pbcnf encode a c p", opb.as_bytes())?;
+    judged_by(alloc, &run, REFUTE, opb, lrat)
 }
 
 #[test]
-fn what_is_encoded_is_refuted(rt: HostRuntime) -> Result<(), Fail> {
+fn what_is_encoded_is_refuted(rt: HostRuntime) {
     let found = refuted(rt.alloc(), PIGEONS, NO_PIGEONS);
-    assert_eq!(rt; found.as_deref(), Some("refuted\n"));
-    Ok(())
+    assert_found(&rt, found, "refuted\n", REFUTE, "five pigeons");
 }
