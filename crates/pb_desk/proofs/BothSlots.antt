@@ -2,12 +2,12 @@
 use Rattle.std.proofs.Common.{◌≡◌, ◌+◌, ℕ, Bool, true, false, List, [], ◌++◌, drop, refl, sym, ap, ◌∙◌, subst, T}
 use Rattle.std.proofs.lemmas.List.{drop-drop}
 use mathlib.Core.Path.{fun_ext}
-use Rattle.std.specs.Prelude.{◌≢◌, ◌==◌, IfSome, IsTrue}
+use Rattle.std.specs.Prelude.{◌≢◌, ◌==◌, IfSome}
 use Rattle.std.specs.Option.{option_map}
 use Rattle.std.specs.declared.option.Option.{Option}
 use Rattle.std.specs.declared.option.Option.TheVariants.{Some, None}
 use Rattle.pb_desk.specs.View.{Told, View, put, taken}
-use Rattle.pb_desk.specs.Desk.{DeskState, Reaches, FailsToRead, IfTold, IsSteady, same}
+use Rattle.pb_desk.specs.Desk.{DeskState, Reaches, FailsToRead, IfTold, same}
 use Rattle.pb_desk.specs.LineReading.{TakesAhead, FailsInLine}
 use Rattle.pb_desk.specs.LineReaders.{Reader}
 use Rattle.pb_desk.proofs.Steps.{begin, then, then_fails_to_read}

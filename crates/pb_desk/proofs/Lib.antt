@@ -10,3 +10,5 @@ pub mod LimitLemmas
 pub mod PieceLemmas
 pub mod ReadLemmas
 pub mod BothSlots
+pub mod Nexts
+pub mod Fills

@@ -6,8 +6,8 @@ use Rattle.std.specs.declared.option.Option.{Option}
 use Rattle.std.specs.declared.option.Option.TheVariants.{Some, None}
 use Rattle.std.proofs.lemmas.List.{drop-drop, append-nil, length-drop}
 use Rattle.pb_desk.specs.View.{Told, View, taken}
-use Rattle.pb_desk.specs.Desk.{DeskState, FailsToRead, Advances, IfTold, IsSteady, same}
-use Rattle.pb_desk.proofs.Steps.{begin, then, then_fails_to_read}
+use Rattle.pb_desk.specs.Desk.{DeskState, Advances, IfTold}
+use Rattle.pb_desk.proofs.Steps.{begin, then}
 use Rattle.pb_desk.proofs.Readings.{taken-taken, told_after, both_told}
 use Rattle.pb_desk.proofs.Slots.{put_there}
 use Rattle.pb_desk.specs.declared.limits.Left.{Left}
@@ -15,7 +15,7 @@ use Rattle.pb_desk.specs.declared.piece.Stop.{Stop}
 use Rattle.pb_desk.specs.declared.piece.Stop.TheVariants as stop
 use Rattle.pb_desk.specs.declared.line.Found.TheVariants.{Ended}
 use Rattle.pb_desk.proofs.LineLemmas.{begins_break, begins_last}
-use Rattle.pb_desk.specs.LineReading.{limit_in, TakesAhead, FailsInLine}
+use Rattle.pb_desk.specs.LineReading.{limit_in, TakesAhead}
 use Rattle.pb_desk.specs.laws.PieceReading.{InLine, TakesPiece, StopsPiece, Finds, Fits, StopsLine, found_at_end, Refills}
 
 pub taken-none : (slot : ℕ) (view : View) → taken slot 0 view ≡ view
