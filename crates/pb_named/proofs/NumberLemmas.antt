@@ -14,7 +14,7 @@ use Rattle.pb_named.specs.declared.named.NamedProblem.{NamedProblem}
 use Rattle.pb_named.specs.declared.products.Factor.{Factor}
 use Rattle.pb_named.specs.declared.products.Factor.TheVariants.{Nought, Single, Product}
 use Rattle.pb_named.specs.NamedTerms.{NamedTerm}
-use Rattle.pb_named.specs.Products.{factor_of, product_in, same_product}
+use Rattle.pb_named.specs.Products.{product_in, same_product}
 use Rattle.pb_named.specs.NamedProblems.{Table, size, lit_of, factor, products_in, products_of, terms_by, terms_of, terms_or_none, statement_of, names_of}
 use Rattle.pb_named.specs.laws.Numbering.{place_in, Gives, IsFew, IsOver}
 use Rattle.pb_named.proofs.Appends.{all-front, all-behind}

@@ -23,7 +23,7 @@ use Rattle.pb_base.specs.Literals.{is_same}
 use Rattle.pb_base.specs.Problems.{IsProductWithin}
 use Rattle.pb_named.specs.declared.products.Factor.{Factor}
 use Rattle.pb_named.specs.declared.products.Factor.TheVariants.{Nought, Single, Product}
-use Rattle.pb_named.specs.Products.{is_before, placed, as_set, begins_with, is_opposed, factor_of_set, factor_of}
+use Rattle.pb_named.specs.Products.{is_before, placed, as_set, is_opposed, factor_of_set, factor_of}
 
 abbrev one_if : Bool → ℕ
 one_if true = 1
