@@ -6,3 +6,4 @@ pub mod Told
 pub mod ValueWords
 pub mod MapLines
 pub mod FirstFaults
+pub mod Endings
