@@ -1,4 +1,5 @@
-use Rattle.std.proofs.Common.{◌≡◌, Bool, true, false, not, None, refl, ap, sym, ◌∙◌, subst, ◌++◌, ◌∷◌, []}
+use Rattle.std.proofs.Common.{arith, ◌≡◌, Bool, true, false, not, None, refl, ap, sym, ◌∙◌, subst, ◌++◌, ◌∷◌, []}
+use Rattle.std.proofs.lemmas.Grind.{common_steps}
 use Rattle.pb_base.specs.Literals.{negated}
 use Rattle.pb_model.specs.declared.meaning.Meaning.{Meaning}
 use Rattle.pb_model.specs.ModelLines.Symbol.{word}
@@ -25,6 +26,9 @@ returns-else-not-take c = λ vars ss k.
       subst (λ (m : Meaning). Knows vars (ss ++ word c.args.place m ∷ []) (record c.args.self.now { listing = c.take.new.self })) (sym c.in-Literal.is)
           (takes_literal vars ss c.args.place c.in-Literal.lit c.args.self.now c.take.new.self k c.take.ensures.vars (c.take.ensures.lists c.if-not-take.false ss c.args.place k.listed)),
     )
+
+pub returns-then-not-take : goal.returns-then-not-take
+returns-then-not-take c = grind (arith, common_steps)
 
 pub returns-in-Beyond : goal.returns-in-Beyond
 returns-in-Beyond c = λ vars ss k. (
