@@ -1,4 +1,5 @@
-use Rattle.std.proofs.Common.{◌+◌, ◌++◌, ℕ, List, ap, ◌∙◌}
+use Rattle.std.proofs.lemmas.Grind.{common_steps}
+use Rattle.std.proofs.Common.{arith, ◌+◌, ◌++◌, ℕ, List, ap, ◌∙◌}
 use Rattle.std.specs.List.{flat_map, range_with_len}
 use Rattle.pb_model.specs.MapText.{map_line}
 use Rattle.pb_model.proofs.MapLines.{line_more}
@@ -17,3 +18,12 @@ loop-place-preserved c =
     c.in_ok-push_line.ensures.ok
     ∙ ap (λ (xs : List ℕ). xs ++ map_line p (p.numbered + 1 + place)) c.loop-place.invariant
     ∙ line_more (map_line p) c.args.out.now.items (p.numbered + 1) place
+
+pub returns-clause-ok : goal.returns-clause-ok
+returns-clause-ok c = grind (arith, common_steps)
+
+pub returns-clause-before : goal.returns-clause-before
+returns-clause-before c = grind (arith, common_steps)
+
+pub push_line-requires : goal.push_line-requires
+push_line-requires c = grind (arith, common_steps)

@@ -1,4 +1,5 @@
-use Rattle.std.proofs.Common.{◌+◌, ◌++◌, ℕ, List, false, take, ap, sym, ◌∙◌, append_assoc, get_or}
+use Rattle.std.proofs.lemmas.Grind.{common_steps}
+use Rattle.std.proofs.Common.{arith, ◌+◌, ◌++◌, ℕ, List, false, take, ap, sym, ◌∙◌, append_assoc, get_or}
 use Rattle.pb_model.specs.SolutionText.{value_word, value_words}
 use Rattle.pb_model.proofs.ValueWords.{value_words_more, kept_before}
 use Rattle.pb_model.proofs.solution.push_values.Goals as goal
@@ -17,3 +18,12 @@ loop-place-preserved c =
     ∙ ap (λ (xs : List ℕ). xs ++ word) c.loop-place.invariant
     ∙ append_assoc start so_far word
     ∙ ap (λ (xs : List ℕ). start ++ xs) (sym (value_words_more c.args.problem.now c.args.values.now place false c.loop-place-test.true))
+
+pub returns-clause-ok : goal.returns-clause-ok
+returns-clause-ok c = grind (arith, common_steps)
+
+pub returns-clause-before : goal.returns-clause-before
+returns-clause-before c = grind (arith, common_steps)
+
+pub push_value-requires : goal.push_value-requires
+push_value-requires c = grind (arith, common_steps)
