@@ -12,6 +12,7 @@ pub mod Numbers
 pub mod Denying
 pub mod NumberWords
 pub mod ReadLemmas
+pub mod Aheads
 pub mod MoreConstraints
 pub mod SpelledWords
 pub mod SpelledLines

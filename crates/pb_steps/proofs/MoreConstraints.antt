@@ -1,12 +1,9 @@
 -- With more constraints, in any order, propagation finds no fewer conflicts.
-use Rattle.std.proofs.Common.{◌≤◌, inl, inr, List, [], ◌∷◌}
+use Rattle.std.proofs.Common.{inl, inr, List, [], ◌∷◌}
 use Rattle.pb_base.specs.declared.literal.Lit.{Lit}
 use Rattle.pb_norm.specs.Constraints.{Constraint}
-use Rattle.pb_norm.specs.Propagation.{room, Needs, Reached, Conflict, IsFixed}
+use Rattle.pb_norm.specs.Propagation.{Needs, Reached, Conflict}
 use Rattle.pb_norm.specs.laws.PropagationLaws.{AreAmong}
-use Rattle.std.specs.Prelude.{All}
-use Rattle.std.proofs.lemmas.List.Elements.{All-nil, All-cons, All-contains}
-use Rattle.pb_base.proofs.Members.{Contains-here, Contains-there}
 
 needs-more : (cs ds : List Constraint) → AreAmong cs ds → (ls : List Lit) (l : Lit) → Needs cs ls l → Needs ds ls l
 needs-more cs ds among ls l n = record {

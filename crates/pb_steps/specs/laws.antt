@@ -1,4 +1,5 @@
 pub mod Ahead
+pub mod Reading
 pub mod Appending
 pub mod StepLines
 pub mod DenialLaws

@@ -1,14 +1,46 @@
 //! The parts of a `rup` or `red` line.
 ghost use Rattle.std.specs.Prelude.{◌≡◌, ◌<◌, ℕ, ℤ, length, Ok, Err, IfOk, IfErr};
-ghost use Rattle.pb_steps.specs.LineSteps.{IsFaultOf, terms_in, right_in, ids_in, sets_in, arrow_in, with_item};
+ghost use Rattle.pb_base.specs.declared.expected.Expected.TheVariants as expected;
+ghost use Rattle.pb_base.specs.Pieces.{chunk};
+ghost use Rattle.pb_steps.specs.LineWords.{and_then, integer_in};
+ghost use Rattle.pb_steps.specs.LineSteps.{IsFaultOf, term_in, terms_in, right_in, ids_in, sets_in, arrow_in, with_item, with_first_term};
+ghost use Rattle.pb_steps.specs.laws.Reading.{with_items, with_terms};
 
 use crate::fault::StepFault;
 use crate::op::Set;
 use crate::past::take;
 use crate::step::Sets;
 use crate::word::{bit_in, id_in, integer_in, literal_in, token_fault, variable_in};
-use pb_base::{Expected, Ids, Term, Terms, Words};
+use pb_base::{Expected, Ids, Term, Terms, Word, Words};
 use std::alloc::Global;
+
+// A term, by its coefficient and the word behind that.
+fn read_term(word: &Word<'_>, words: &mut Words<'_>, end: u64) -> Result<Term, StepFault>
+    ensures ok { IfOk result (λ t. and_then (λ coef. term_in end coef words.old) (integer_in expected.Term (chunk word.now)) ≡ with_first_term t (terms_in end words.new)) }
+    ensures err { IfErr result (λ fault. and_then (λ coef. term_in end coef words.old) (integer_in expected.Term (chunk word.now)) ≡ Err fault) }
+    ensures fewer { IfOk result (λ _. length words.new < length words.old) }
+{
+    let coef = integer_in(word, Expected::Term)?;
+    let Some(name) = words.next() else {
+        return Err(token_fault(end, Expected::Literal));
+    };
+    let lit = literal_in(&name, Expected::Literal)?;
+    Ok(Term { coef, lit })
+}
+
+// Adds the terms before a `>=`, and takes that.
+fn add_terms(terms: &mut Terms, words: &mut Words<'_>, end: u64) -> Result<(), StepFault>
+    ensures ok { IfOk result (λ _. with_terms terms.old (terms_in end words.old) ≡ Ok (terms.new, words.new)) }
+    ensures err { IfErr result (IsFaultOf (terms_in end words.old)) }
+{
+    'terms: while let Some(word) = words.next() {
+        if word.text == b">=".as_slice() {
+            return Ok(());
+        }
+        terms.push(read_term(&word, words, end)?)?;
+    }
+    Err(token_fault(end, Expected::Term))
+}
 
 /// The terms before a `>=`, and takes that.
 pub fn read_terms(alloc: Global, words: &mut Words<'_>, end: u64) -> Result<Terms, StepFault>
@@ -16,18 +48,8 @@ pub fn read_terms(alloc: Global, words: &mut Words<'_>, end: u64) -> Result<Term
     ensures err { IfErr result (IsFaultOf (terms_in end words.old)) }
 {
     let mut terms = Terms::new(alloc);
-    'terms: while let Some(word) = words.next() {
-        if word.text == b">=".as_slice() {
-            return Ok(terms);
-        }
-        let coef = integer_in(&word, Expected::Term)?;
-        let Some(name) = words.next() else {
-            return Err(token_fault(end, Expected::Literal));
-        };
-        let lit = literal_in(&name, Expected::Literal)?;
-        terms.push(Term { coef, lit })?;
-    }
-    Err(token_fault(end, Expected::Term))
+    add_terms(&mut terms, words, end)?;
+    Ok(terms)
 }
 
 /// The right side and its `;`.
@@ -43,15 +65,23 @@ pub fn read_right(words: &mut Words<'_>, end: u64) -> Result<i128, StepFault>
     Ok(right)
 }
 
+fn add_ids(ids: &mut Ids, words: Words<'_>) -> Result<(), StepFault>
+    ensures ok { IfOk result (λ _. with_items ids.old (ids_in words.entry) ≡ Ok ids.new) }
+    ensures err { IfErr result (IsFaultOf (ids_in words.entry)) }
+{
+    for word in words {
+        ids.push(id_in(&word, Expected::Id)?)?;
+    }
+    Ok(())
+}
+
 /// The ids that words are.
 pub fn read_ids(alloc: Global, words: Words<'_>) -> Result<Ids, StepFault>
     ensures ok { IfOk result (λ ids. ids_in words.entry ≡ Ok ids) }
     ensures err { IfErr result (IsFaultOf (ids_in words.entry)) }
 {
     let mut ids = Ids::new(alloc);
-    for word in words {
-        ids.push(id_in(&word, Expected::Id)?)?;
-    }
+    add_ids(&mut ids, words)?;
     Ok(ids)
 }
 
@@ -73,13 +103,11 @@ fn read_value(words: &mut Words<'_>, end: u64) -> Result<bool, StepFault>
     bit_in(&value)
 }
 
-/// The variables that words set, and their values.
-pub fn read_sets(alloc: Global, words: Words<'_>, end: u64) -> Result<Sets, StepFault>
-    ensures ok { IfOk result (λ sets. sets_in end 0 words.entry ≡ Ok sets) }
+fn add_sets(sets: &mut Sets, words: Words<'_>, end: u64) -> Result<(), StepFault>
+    ensures ok { IfOk result (λ _. with_items sets.old (sets_in end 0 words.entry) ≡ Ok sets.new) }
     ensures err { IfErr result (IsFaultOf (sets_in end 0 words.entry)) }
 {
     let mut words = words;
-    let mut sets = Sets::new(alloc);
     let mut above = 0;
     'sets: while let Some(word) = words.next() {
         let var = variable_in(&word, above)?;
@@ -87,5 +115,15 @@ pub fn read_sets(alloc: Global, words: Words<'_>, end: u64) -> Result<Sets, Step
         sets.push(Set { var, value })?;
         above = var.index();
     }
+    Ok(())
+}
+
+/// The variables that words set, and their values.
+pub fn read_sets(alloc: Global, words: Words<'_>, end: u64) -> Result<Sets, StepFault>
+    ensures ok { IfOk result (λ sets. sets_in end 0 words.entry ≡ Ok sets) }
+    ensures err { IfErr result (IsFaultOf (sets_in end 0 words.entry)) }
+{
+    let mut sets = Sets::new(alloc);
+    add_sets(&mut sets, words, end)?;
     Ok(sets)
 }

@@ -1,5 +1,6 @@
 //! The line of a step, as it is written.
 ghost use Rattle.std.specs.Prelude.{◌≡◌, ◌++◌, ◌∷◌, [], OnOk, OnErr, codes, decimal, map};
+ghost use Rattle.std.specs.Fmt.{signed_decimal};
 ghost use Rattle.std.specs.List.{flat_map};
 ghost use Rattle.pb_steps.specs.StepText.{with_blanks, step_line};
 ghost use Rattle.pb_steps.specs.StepGrammar.{op_symbols, term_symbols, constraint_symbols, set_symbols};
@@ -11,8 +12,25 @@ use crate::step::Step;
 use crate::write_word::{
     push_coefficient, push_integer, push_literal, push_number, push_text, push_variable,
 };
-use pb_base::{NoMemory, Term};
+use pb_base::{NoMemory, Term, Var};
 use std::alloc::{AllocError, Global};
+
+// A number, and the mark that tells what it is.
+fn push_factor(out: &mut Vec<u8>, n: i128, mark: &[u8]) -> Result<(), AllocError>
+    ensures ok { OnOk result (out.new.items ≡ out.old.items ++ 32 ∷ signed_decimal n ++ mark.now) }
+    ensures kept { OnErr result (KeepsFront out.old.items out.new.items) }
+{
+    push_integer(out, n)?;
+    push_text(out, mark)
+}
+
+fn push_weaken(out: &mut Vec<u8>, var: Var) -> Result<(), AllocError>
+    ensures ok { OnOk result (out.new.items ≡ out.old.items ++ with_blanks (op_symbols (PolOp.Weaken var))) }
+    ensures kept { OnErr result (KeepsFront out.old.items out.new.items) }
+{
+    push_variable(out, var)?;
+    push_text(out, b" w")
+}
 
 fn push_op(out: &mut Vec<u8>, op: &PolOp) -> Result<(), AllocError>
     ensures ok { OnOk result (out.new.items ≡ out.old.items ++ with_blanks (op_symbols op.now)) }
@@ -22,19 +40,10 @@ fn push_op(out: &mut Vec<u8>, op: &PolOp) -> Result<(), AllocError>
         PolOp::Push(id) => push_number(out, *id),
         PolOp::Axiom(lit) => push_literal(out, *lit),
         PolOp::Add => push_text(out, b" +"),
-        PolOp::Mul(n) => {
-            push_integer(out, *n)?;
-            push_text(out, b" *")
-        }
-        PolOp::Div(n) => {
-            push_integer(out, *n)?;
-            push_text(out, b" d")
-        }
+        PolOp::Mul(n) => push_factor(out, *n, b" *"),
+        PolOp::Div(n) => push_factor(out, *n, b" d"),
         PolOp::Saturate => push_text(out, b" s"),
-        PolOp::Weaken(var) => {
-            push_variable(out, *var)?;
-            push_text(out, b" w")
-        }
+        PolOp::Weaken(var) => push_weaken(out, *var),
     }
 }
 
