@@ -1,8 +1,8 @@
 -- Two lists of terms in order are gone through side by side.
 use Rattle.std.proofs.Common.{◌≡◌, ◌≢◌, ◌≤◌, ◌<◌, ◌+◌, ◌-◌, ℕ, suc, Bool, true, false, cond, List, ◌∷◌, arith, ap, sym, ◌∙◌, length, get_or, take, drop, drop-cons, length-drop, subst}
 use Rattle.std.specs.Prelude.{All, sum_by}
-use Rattle.std.proofs.lemmas.List.{get_or-map, get_or-drop, length-map, drop_all}
-use Rattle.std.proofs.lemmas.List.Elements.{All-nil, All-cons, All-head, All-weaker}
+use Rattle.std.proofs.lemmas.List.{get_or-map, get_or-drop, length-map}
+use Rattle.std.proofs.lemmas.List.Elements.{All-cons, All-head, All-weaker}
 use Rattle.std.proofs.lemmas.List.Sums.{sum_by_more, sum_by-take-le, sum_by-le-sum_by}
 use Rattle.pb_base.specs.declared.literal.Lit.{Lit}
 use Rattle.pb_base.specs.declared.literal.Term.{Term}

@@ -267,6 +267,31 @@ joining_equal left right done made k taken t ts u us h i same e g j =
 pub joining_done : (left right : List Weighted) (done first all : List Term) (k : ℕ) (ts us : List Term) → first ≡ done ++ ts → all ≡ first ++ us → IsJoining left right done k ts us → AreUnsigned all
 joining_done left right done first all k ts us e f j = unsigned-added first us all f (unsigned-added done ts first e j.done_unsigned j.ts_unsigned) j.us_unsigned
 
+-- nothing is joined yet
+pub joining_begun : (left right done : List Term) → done ≡ [] → IsAscending (weights left) → IsAscending (weights right) → weight (weights left) < 2 ^ 126 → weight (weights right) < 2 ^ 126 → AreUnsigned left → AreUnsigned right →
+    IsJoining (weights left) (weights right) done 0 left right
+joining_begun left right done none left_ascending right_ascending left_room right_room left_unsigned right_unsigned =
+    subst (λ (ds : List Term). IsJoining (weights left) (weights right) ds 0 left right) (sym none) (record {
+      joins = record { terms = refl; cancelled_so_far = omega arith; ts_ascending = left_ascending; us_ascending = right_ascending; ts_room = omega arith; us_room = right_room };
+      done_unsigned = All-nil IsUnsigned;
+      ts_unsigned = left_unsigned;
+      us_unsigned = right_unsigned;
+    })
+
+-- the first terms have room
+left_room : (left right : List Weighted) (done : List Term) (k : ℕ) (t : Term) (ts us : List Term) → IsFirst t ts → IsJoining left right done k ts us → k + (weighted t).coef < 2 ^ 126
+left_room left right done k t ts us first j = omega (arith, j.joins.ts_room, ap weight (weights-first t ts first), weight-cons (weighted t) (weights (later ts)))
+
+pub left_small : (left right : List Weighted) (done : List Term) (k : ℕ) (t : Term) (ts us : List Term) → IsFirst t ts → IsJoining left right done k ts us → (weighted t).coef < 2 ^ 126
+left_small left right done k t ts us first j = omega (arith, left_room left right done k t ts us first j)
+
+-- what is taken of it has room, too
+pub taken_fits : (left right : List Weighted) (done : List Term) (k taken other : ℕ) (t : Term) (ts us : List Term) → taken ≡ min (weighted t).coef other → IsFirst t ts → IsJoining left right done k ts us → k + taken < 2 ^ 128
+taken_fits left right done k taken other t ts us is first j = omega (arith, is, left_room left right done k t ts us first j)
+
+pub right_small : (left right : List Weighted) (done : List Term) (k : ℕ) (ts : List Term) (u : Term) (us : List Term) → IsFirst u us → IsJoining left right done k ts us → (weighted u).coef < 2 ^ 126
+right_small left right done k ts u us first j = omega (arith, j.joins.us_room, ap weight (weights-first u us first), weight-cons (weighted u) (weights (later us)))
+
 -- ---- coefficients stay above 0
 
 abbrev Positive : Weighted → Type 0

@@ -1,5 +1,5 @@
 -- The parts that the code puts together are those of the constraint that is meant.
-use Rattle.std.proofs.Common.{◌≡◌, ◌≤◌, ◌<◌, ◌+◌, ◌-◌, ◌*◌, ◌^◌, ℕ, zero, suc, Bool, true, false, cond, List, [], ◌∷◌, arith, refl, ap, sym, ◌∙◌, ltb, eqb, subst, ◌||◌}
+use Rattle.std.proofs.Common.{◌≡◌, ◌≤◌, ◌<◌, ◌+◌, ◌-◌, ◌*◌, ◌^◌, ℕ, zero, suc, Bool, true, false, cond, List, [], ◌∷◌, arith, refl, ap, sym, ◌∙◌, ltb, subst, ◌||◌}
 use Rattle.std.specs.Prelude.{All, sum_by, map, filter, pos, ◌≤ℤ◌}
 use Rattle.std.proofs.lemmas.Bool.{ltb-true, lt-ltb, and_parts, and_from}
 use Rattle.std.proofs.lemmas.List.Elements.{All-map, All-weaker, All-filter, filter_passes}
