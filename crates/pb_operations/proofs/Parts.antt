@@ -13,7 +13,7 @@ use Rattle.pb_norm.specs.laws.Kept.{on_term, on_weight}
 use Rattle.pb_norm.specs.Reduction.{quotient_up, cut_to, opposite}
 use Rattle.pb_norm.proofs.Opened.{quotient_up-enough, quotient_up-least}
 use Rattle.pb_norm.proofs.AdditionOrder.{map-ascending, filter-ascending, joined-ascending}
-use Rattle.pb_norm.specs.Addition.{sum_of}
+use Rattle.pb_norm.specs.Addition.{sum_of, joined, cancelled}
 use Rattle.pb_norm.proofs.AdditionSizes.{weight-joined}
 use Rattle.pb_norm.proofs.KeptTerms.{weights-map, weights-filter, map-unsigned}
 use Rattle.pb_operations.proofs.Joins.{joined-positive}
@@ -213,6 +213,17 @@ pub record IsSum (c d : Constraint) (ts : List Term) (degree : ℕ) : Type 0 whe
   pub degree_is : degree ≡ (sum_of c d).degree
   pub left : IsLinear c
   pub right : IsLinear d
+
+pub sum-made : (c d : Constraint) (ts us sum : List Term) (cd dd lost degree : ℕ) →
+    weights ts ≡ c.terms → weights us ≡ d.terms → AreUnsigned sum → weights sum ≡ joined (weights ts) (weights us) → lost ≡ cancelled (weights ts) (weights us) → cd ≡ c.degree → dd ≡ d.degree → degree ≡ cd + dd - lost → IsLinear c → IsLinear d →
+    IsSum c d sum degree
+sum-made c d ts us sum cd dd lost degree left_is right_is unsigned terms taken left_degree right_degree is left right = record {
+  unsigned = unsigned;
+  terms = terms ∙ ap (λ (ws : List Weighted). joined ws (weights us)) left_is ∙ ap (joined c.terms) right_is;
+  degree_is = is ∙ ap (λ (n : ℕ). n + dd - lost) left_degree ∙ ap (λ (n : ℕ). c.degree + n - lost) right_degree ∙ ap (λ (n : ℕ). c.degree + d.degree - n) (taken ∙ ap (λ (ws : List Weighted). cancelled ws (weights us)) left_is ∙ ap (cancelled c.terms) right_is);
+  left = left;
+  right = right;
+}
 
 pub sum-positive : (c d : Constraint) (ts : List Term) (degree : ℕ) → IsSum c d ts degree → AllPositive (weights ts)
 sum-positive c d ts degree h = subst AllPositive (sym h.terms) (joined-positive c.terms d.terms h.left.positive h.right.positive)
