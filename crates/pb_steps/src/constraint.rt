@@ -103,11 +103,13 @@ fn read_value(words: &mut Words<'_>, end: u64) -> Result<bool, StepFault>
     bit_in(&value)
 }
 
-fn add_sets(sets: &mut Sets, words: Words<'_>, end: u64) -> Result<(), StepFault>
-    ensures ok { IfOk result (λ _. with_items sets.old (sets_in end 0 words.entry) ≡ Ok sets.new) }
+/// The variables that words set, and their values.
+pub fn read_sets(alloc: Global, words: Words<'_>, end: u64) -> Result<Sets, StepFault>
+    ensures ok { IfOk result (λ sets. sets_in end 0 words.entry ≡ Ok sets) }
     ensures err { IfErr result (IsFaultOf (sets_in end 0 words.entry)) }
 {
     let mut words = words;
+    let mut sets = Sets::new(alloc);
     let mut above = 0;
     'sets: while let Some(word) = words.next() {
         let var = variable_in(&word, above)?;
@@ -115,15 +117,5 @@ fn add_sets(sets: &mut Sets, words: Words<'_>, end: u64) -> Result<(), StepFault
         sets.push(Set { var, value })?;
         above = var.index();
     }
-    Ok(())
-}
-
-/// The variables that words set, and their values.
-pub fn read_sets(alloc: Global, words: Words<'_>, end: u64) -> Result<Sets, StepFault>
-    ensures ok { IfOk result (λ sets. sets_in end 0 words.entry ≡ Ok sets) }
-    ensures err { IfErr result (IsFaultOf (sets_in end 0 words.entry)) }
-{
-    let mut sets = Sets::new(alloc);
-    add_sets(&mut sets, words, end)?;
     Ok(sets)
 }
