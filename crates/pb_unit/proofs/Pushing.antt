@@ -3,11 +3,15 @@ use Rattle.std.proofs.Common.{◌≡◌, ℕ, List, [], ◌∷◌, ◌++◌, map
 use Rattle.std.proofs.lemmas.List.{map_push}
 use Rattle.pb_base.specs.declared.literal.Lit.{Lit}
 use Rattle.pb_unit.specs.declared.index.Occurrence.{Occurrence}
-use Rattle.pb_unit.specs.Index.{Lists, code, section, size_of, units_at, others_at, unit_at, list_at, IsPushed, AreSame}
+use Rattle.pb_unit.specs.Index.{Lists, code, section, size_of, units_at, others_at, unit_at, list_at, IsPushed, IsSectioned, AreSame}
 
 -- the same section of the same lists
 pub section_as : {s s' e e' u u' : List ℕ} → s ≡ s' → e ≡ e' → u ≡ u' → (k : ℕ) → section s e u k ≡ section s' e' u' k
 section_as {s} {s'} {e} {e'} {u} {u'} a b c k = ap (λ (x : List ℕ). section x e u k) a ∙ (ap (λ (x : List ℕ). section s' x u k) b ∙ ap (λ (x : List ℕ). section s' e' x k) c)
+
+pub sectioned_as : {s s' e e' u u' : List ℕ} → s ≡ s' → e ≡ e' → u ≡ u' → IsSectioned s' e' u' → IsSectioned s e u
+sectioned_as {s} {s'} {e} {e'} {u} {u'} a b c h =
+    subst (λ (x : List ℕ). IsSectioned x e u) (sym a) (subst (λ (x : List ℕ). IsSectioned s' x u) (sym b) (subst (λ (x : List ℕ). IsSectioned s' e' x) (sym c) h))
 
 occurrence : ℕ → ℕ → Occurrence
 occurrence place coef = record { place = place; coef = coef }

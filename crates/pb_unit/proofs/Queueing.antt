@@ -1,27 +1,26 @@
 -- How propagation begins and ends.
-use Rattle.std.proofs.Common.{◌≡◌, ◌≤◌, ◌<◌, ◌+◌, ◌-◌, inl, inr, ℕ, zero, suc, Bool, true, false, cond, List, [], ◌∷◌, ◌++◌, Option, Some, None, arith, length, drop, take, map, ◌*◌, refl, ap, sym, ◌∙◌, subst, length-append}
+use Rattle.std.proofs.Common.{◌≡◌, ◌≤◌, ◌+◌, ◌-◌, inl, inr, ℕ, Bool, true, false, cond, List, [], ◌∷◌, ◌++◌, Option, Some, arith, length, drop, take, map, refl, ap, sym, ◌∙◌, subst, length-append}
 use Rattle.std.proofs.Math.Seq.{take-append_seam}
 use Rattle.std.specs.Prelude.{All, Contains}
-use Rattle.std.proofs.lemmas.List.Elements.{All-contains, All-nil}
-use Rattle.std.proofs.lemmas.List.{drop_all, get_or_past}
+use Rattle.std.proofs.lemmas.List.Elements.{All-contains}
+use Rattle.std.proofs.lemmas.List.{drop_all}
 use Rattle.std.proofs.lemmas.List.Sums.{sum_by-cons}
 use Rattle.pb_base.specs.Literals.{negated, is_among, is_same}
 use Rattle.pb_base.specs.declared.literal.Lit.{Lit}
 use Rattle.pb_norm.specs.Constraints.{Weighted, Constraint, weight, HasVarsWithin, AreVarsWithin}
 use Rattle.pb_norm.specs.Propagation.{room}
 use Rattle.pb_norm.proofs.Rooms.{IsPart}
-use Rattle.pb_unit.specs.declared.index.Occurrence.{Occurrence}
 use Rattle.pb_unit.specs.declared.kept.Kept.{Kept}
 use Rattle.pb_unit.specs.declared.queue.Phase.{Phase}
 use Rattle.pb_unit.specs.declared.queue.Phase.TheVariants as phases
-use Rattle.pb_unit.specs.States.{EngineState, IsEngine, Stands, StandWithin, standing, with_lit, at_place}
+use Rattle.pb_unit.specs.States.{EngineState, IsEngine, Stands, StandWithin, standing, with_lit}
 use Rattle.pb_unit.proofs.Standing.{standing_all, stands_contains}
 use Rattle.pb_unit.specs.Kept.{IsQueue, IsAtNow, IsKept}
 use Rattle.pb_unit.proofs.Answering.{started_reached}
 use Rattle.std.proofs.lemmas.Bool.{or_right}
 use Rattle.pb_unit.specs.Trails.{oldest}
 use Rattle.pb_unit.specs.Steps.{IsCalm, Advances}
-use Rattle.pb_unit.specs.Index.{Lists, size_of, list_at, sum_at, coef_of, terms_at, room_at, alert_at, AreCalm, AreAlerts, AreListed, IsCounted, IsStore}
+use Rattle.pb_unit.specs.Index.{Lists, terms_at, room_at, alert_at, AreCalm, AreAlerts, AreListed, IsCounted, IsStore}
 use Rattle.pb_unit.proofs.Visits.{calm_alert, calm_more}
 use Rattle.pb_unit.proofs.Telling.{oldest-more, short_more}
 

@@ -1,10 +1,10 @@
 -- Sections of one list.
-use Rattle.std.proofs.Common.{◌≡◌, ◌≤◌, ◌<◌, ◌+◌, ◌-◌, ◌⊎◌, inl, inr, ℕ, List, [], ◌∷◌, ◌++◌, arith, length, get_or, set, take, drop, ap, sym, ◌∙◌, length-append}
+use Rattle.std.proofs.Common.{◌≡◌, ◌≤◌, ◌<◌, ◌+◌, ◌-◌, ◌⊎◌, inl, inr, ℕ, List, [], ◌∷◌, ◌++◌, arith, length, get_or, set, take, drop, ap, sym, ◌∙◌, length-append, subst}
 use Rattle.std.specs.Prelude.{slice_range, slice_index}
-use Rattle.std.proofs.lemmas.Bool.{cases_lt, cases_eq}
-use Rattle.std.proofs.lemmas.List.{get_or-set_same, get_or-set_other, length-set, drop-set-lt, drop-set-add, take-set-le, take_more_set, length-drop, get_or_append_left, get_or_push, get_or_past, get_or-take, length-take-le, take-append-le, drop_at}
+use Rattle.std.proofs.lemmas.Bool.{cases_lt}
+use Rattle.std.proofs.lemmas.List.{get_or-set_same, get_or-set_other, drop-set-lt, drop-set-add, take-set-le, take_more_set, length-drop, get_or_append_left, get_or_push, get_or_past, get_or-take, length-take, length-take-le}
 use Rattle.std.proofs.lemmas.Slice.{between_is, take-put_mid_below, drop-put_mid}
-use borrow.Rule.Slice.PartMut.{put_mid, post_of}
+use borrow.Rule.Slice.PartMut.{put_mid}
 use Rattle.pb_unit.specs.Index.{section, IsAscending, IsSectioned}
 
 -- ---- parts of a list
@@ -104,3 +104,28 @@ ascending_push ns n x size last h j k up known = elim (cases_lt k (length ns)) [
   where
     get_or_0 : List ℕ → ℕ → ℕ
     get_or_0 xs i = get_or xs i 0
+
+-- ---- sections with nothing in them
+
+-- at each number the section ends where it begins, or there is none
+ends_early : (starts : List ℕ) (n k : ℕ) → slice_index (take n starts) k ≤ slice_index starts k
+ends_early starts n k = elim (cases_lt k n) [
+  | inl less ↦ omega (arith, get_or-take n starts k 0 less)
+  | inr past ↦ omega (arith, get_or_past (take n starts) k 0 (omega (arith, past, length-take n starts)))
+]
+
+pub sectioned_none : (starts units : List ℕ) (n : ℕ) → length starts ≡ n + 1 → IsAscending starts → slice_index starts n ≤ length units → IsSectioned starts (take n starts) units
+sectioned_none starts units n size ascending room =
+    let count : length (take n starts) ≡ n = length-take-le n starts (omega (arith, size)) in
+    record {
+      size = omega (arith, size, count);
+      ascending = ascending;
+      begins = λ k below. omega (arith, get_or-take n starts k 0 (omega (arith, below, count)));
+      limits = λ k below. omega (arith, get_or-take n starts k 0 (omega (arith, below, count)), ascending k (k + 1) (omega arith) (omega (arith, below, count, size)));
+      within = subst (λ (m : ℕ). slice_index starts m ≤ length units) (sym count) room;
+    }
+
+pub section_none : (starts units : List ℕ) (n k : ℕ) → section starts (take n starts) units k ≡ []
+section_none starts units n k =
+    let none : slice_index (take n starts) k - slice_index starts k ≡ 0 = omega (arith, ends_early starts n k) in
+    ap (λ (m : ℕ). take m (drop (slice_index starts k) units)) none

@@ -1,13 +1,13 @@
 -- Constraints in their slots.
-use Rattle.std.proofs.Common.{◌≡◌, ◌≤◌, ◌<◌, ◌+◌, ◌-◌, ℕ, Bool, true, false, cond, List, [], ◌∷◌, ◌++◌, Option, Some, None, map, arith, length, get_or, set, take, drop, refl, ap, sym, ◌∙◌, subst}
+use Rattle.std.proofs.Common.{◌≡◌, ◌≤◌, ◌<◌, ◌+◌, ◌-◌, ℕ, Bool, true, false, cond, List, [], ◌∷◌, ◌++◌, Option, Some, None, map, arith, length, get_or, set, take, drop, refl, ap, sym, ◌∙◌, subst, append_assoc}
 use Rattle.std.specs.Prelude.{All, nat_lt}
 use Rattle.std.specs.List.{slice_get}
 use Rattle.std.specs.Bool.{OnTrue, OnFalse}
-use Rattle.std.proofs.lemmas.List.{length-map, length-take, take-take, drop-take, map-set, map_push, get_or-map, take_all}
+use Rattle.std.proofs.lemmas.List.{length-map, length-take, take-take, drop-take, map-set, map_push, get_or-map, take_all, take_more}
 use Rattle.std.proofs.lemmas.List.Elements.{All-nil, All-cons, All-head, All-tail, All-weaker, All-set, All-push}
 use Rattle.pb_base.specs.declared.literal.Lit.{Lit}
 use Rattle.pb_base.specs.declared.literal.Term.{Term}
-use Rattle.pb_norm.specs.Constraints.{Weighted, Constraint, weights, HasVarsWithin}
+use Rattle.pb_norm.specs.Constraints.{Weighted, Constraint, term_of, terms_of, weights, HasVarsWithin}
 use Rattle.pb_unit.specs.declared.places.Slot.{Slot}
 use Rattle.pb_unit.specs.declared.places.Slot.TheVariants.{Empty, Clause, General}
 use Rattle.pb_unit.specs.Slots.{unit, part, clause_of, alone_in, slot_at, with_slot, IsSlot, AreSlots}
@@ -131,3 +131,20 @@ push_slots false lits lits' slots slots' slot longer h is e = subst (AreSlots (l
 
 pub at_read : {lits lits' : List Lit} {slots slots' : List Slot} {ps : List (Option Constraint)} → lits ≡ lits' → slots ≡ slots' → map (slot_at lits') slots' ≡ ps → (place : ℕ) → at_place (map (slot_at lits) slots) place ≡ at_place ps place
 at_read a b is place = ap (λ (qs : List (Option Constraint)). at_place qs place) (slots_read a b ∙ is)
+
+-- ---- lists that are copied item by item
+
+-- one more item at the end of what was copied
+pub copied_more : {X Y : Type 0} (f : X → Y) (old : List Y) (xs : List X) (i : ℕ) (x : X) → i < length xs → x ≡ get_or xs i x → (old ++ map f (take i xs)) ++ f x ∷ [] ≡ old ++ map f (take (i + 1) xs)
+copied_more {X} {Y} f old xs i x below is =
+    append_assoc old (map f (take i xs)) (f x ∷ []) ∙
+    sym (ap (λ (ys : List X). old ++ map f ys) (take_more xs i x below ∙ ap (λ (y : X). take i xs ++ y ∷ []) (sym is)) ∙
+    ap (λ (ys : List Y). old ++ ys) (map_push f (take i xs) x))
+
+-- one more literal, as a term with the coefficient 1
+pub copied_unit : (old : List Term) (xs : List Lit) (i : ℕ) (x : Lit) → i < length xs → x ≡ get_or xs i x → (old ++ terms_of (map unit (take i xs))) ++ term_of (unit x) ∷ [] ≡ old ++ terms_of (map unit (take (i + 1) xs))
+copied_unit old xs i x below is =
+    append_assoc old (terms_of (map unit (take i xs))) (term_of (unit x) ∷ []) ∙
+    sym (ap (λ (ls : List Lit). old ++ terms_of (map unit ls)) (take_more xs i x below ∙ ap (λ (l : Lit). take i xs ++ l ∷ []) (sym is)) ∙
+    (ap (λ (ws : List Weighted). old ++ terms_of ws) (map_push unit (take i xs) x) ∙
+    ap (λ (ts : List Term). old ++ ts) (map_push term_of (map unit (take i xs)) (unit x))))

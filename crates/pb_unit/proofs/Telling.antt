@@ -1,8 +1,8 @@
 -- Kept rooms, and literals that are told.
-use Rattle.std.proofs.Common.{◌≡◌, ◌≤◌, ◌<◌, ◌+◌, ◌-◌, ◌^◌, inl, inr, ℕ, zero, suc, Bool, true, false, not, cond, List, [], ◌∷◌, ◌++◌, Option, None, arith, length, get_or, set, take, drop, map, ◌&&◌, ◌||◌, refl, ap, sym, ◌∙◌, subst, length-append}
+use Rattle.std.proofs.Common.{◌≡◌, ◌≤◌, ◌<◌, ◌+◌, ◌-◌, ◌^◌, inl, inr, ℕ, zero, suc, Bool, true, false, not, cond, List, [], ◌∷◌, ◌++◌, Option, None, arith, length, get_or, take, drop, map, ◌&&◌, ◌||◌, refl, ap, sym, ◌∙◌, subst, length-append}
 use Rattle.std.specs.Prelude.{All, sum_by, ◌==◌, IsNone}
 use Rattle.std.proofs.lemmas.Bool.{cases_eq, or_right, eq-eqb, ne_eqb}
-use Rattle.std.proofs.lemmas.List.{get_or-set_same, get_or-set_other, length-set, length-map, take-map, get_or-map}
+use Rattle.std.proofs.lemmas.List.{length-map, take-map, get_or-map}
 use Rattle.std.proofs.lemmas.List.Elements.{All-nil, All-cons, All-head, All-tail}
 use Rattle.std.proofs.lemmas.List.Sums.{sum_by-cons, sum_by-append, sum_by-take-drop, sum_by-drop_more}
 use Rattle.std.proofs.Math.Seq.{drop-append-add}
@@ -17,7 +17,7 @@ use Rattle.pb_unit.specs.declared.kept.Kept.{Kept}
 use Rattle.pb_unit.specs.States.{Stands, standing}
 use Rattle.pb_unit.specs.Trails.{oldest}
 use Rattle.pb_unit.specs.Steps.{IsCalm, IsAlert, HasTooLittle}
-use Rattle.pb_unit.specs.Index.{Lists, unit_at, coef_of, sum_at, list_at, terms_at, room_at, alert_at, AreCalm, IsCounted, AreLowered, IsTold}
+use Rattle.pb_unit.specs.Index.{Lists, unit_at, coef_of, sum_at, list_at, terms_at, room_at, AreCalm, IsCounted, AreLowered, IsTold}
 use Rattle.pb_unit.proofs.Visits.{then, calm_more}
 use mathlib.Core.Bool.{beq}
 

@@ -165,3 +165,10 @@ calm_more r c before after part h = record {
     decided : (t : Weighted) → IsDecided before t.lit → IsDecided after t.lit
     decided t (inl there) = inl (part t.lit there)
     decided t (inr opposite) = inr (part (negated t.lit) opposite)
+
+-- a literal that is needed joins
+pub needed_joins : (slack : ℕ) (t : Weighted) (ls : List Lit) → slack < t.coef → is_among ls t.lit ≡ false → is_among ls (negated t.lit) ≡ false → with_needed slack t ls ≡ t.lit ∷ ls
+needed_joins slack t ls more absent undecided =
+    ap (λ (x : Bool). cond (x && not (is_among ls t.lit) && not (is_among ls (negated t.lit))) (t.lit ∷ ls) ls) (lt-ltb slack t.coef more) ∙
+    (ap (λ (x : Bool). cond (true && not x && not (is_among ls (negated t.lit))) (t.lit ∷ ls) ls) absent ∙
+    ap (λ (x : Bool). cond (true && true && not x) (t.lit ∷ ls) ls) undecided)

@@ -241,16 +241,6 @@ fn push_units(terms: &mut Vec<Term>, lits: &[Lit]) -> Result<(), NoMemory>
     Ok(())
 }
 
-// Adds terms.
-fn push_terms(terms: &mut Vec<Term>, more: &[Term]) -> Result<(), NoMemory>
-    ensures { OnOk result (terms.new.items ≡ terms.old.items ++ more.now) }
-{
-    for term in more {
-        terms.push(*term)?;
-    }
-    Ok(())
-}
-
 // The terms and the degree of what stands at the place.
 fn read_in(
     slots: &[Slot],
@@ -269,7 +259,7 @@ fn read_in(
         }
         Some(Slot::General(alone)) => match alone.first() {
             Some(constraint) => {
-                push_terms(terms, constraint.terms())?;
+                terms.extend_from_slice(constraint.terms())?;
                 Ok(constraint.degree())
             }
             None => Ok(0),

@@ -1,9 +1,9 @@
-use Rattle.std.proofs.Common.{◌≡◌, ◌≤◌, ◌<◌, ◌+◌, ◌++◌, ℕ, List, map, subst, sym, length}
+use Rattle.std.proofs.Common.{◌≡◌, ◌≤◌, ◌<◌, ◌+◌, ◌++◌, ℕ, List, map, arith, subst, sym, ap, length}
 use Rattle.std.specs.Prelude.{All}
 use Rattle.pb_norm.specs.Propagation.{room}
 use Rattle.pb_unit.specs.declared.index.Occurrence.{Occurrence}
-use Rattle.pb_unit.specs.Index.{unit_at, list_at, sum_at, room_at, IsTold}
-use Rattle.pb_unit.proofs.Telling.{told_then, parts_all, rest_bound}
+use Rattle.pb_unit.specs.Index.{code, unit_at, others_at, list_at, sum_at, room_at, IsTold}
+use Rattle.pb_unit.proofs.Telling.{told_then, parts_all, rest_bound, sum_at-append}
 use Rattle.pb_unit.proofs.Pushing.{list_parts}
 use Rattle.pb_unit.proofs.queue.tell_both.Goals as goal
 
@@ -25,3 +25,23 @@ returns-clause-told c =
     let parts : list_at c.args.lists.now c.args.falsified.now ≡ map unit_at c.units.result.now ++ c.others.result.now = list_parts c.args.lists.now c.args.falsified.now c.units.result.now c.others.result.now c.units.ensures c.others.ensures in
     subst (λ (os : List Occurrence). IsTold c.args.places.now os c.args.kept.now c.tell_all.new.kept c.args.held.now.lits c.tell_all.new.held.lits c.tell_all.result) (sym parts)
     (told_then c.args.places.now (map unit_at c.units.result.now) c.others.result.now c.args.kept.now c.tell_units-short.new.kept c.tell_all.new.kept c.args.held.now.lits c.tell_units-short.new.held.lits c.tell_all.new.held.lits c.tell_units-short.result c.tell_all.result c.tell_units-short.ensures.told c.tell_all.ensures.told c.tell_all.ensures.still)
+
+pub tell_units-short-requires-clause-known : goal.tell_units-short-requires-clause-known
+tell_units-short-requires-clause-known c =
+    (parts_all (λ (o : Occurrence). o.place < length c.args.kept.now) (map unit_at c.units.result.now) (others_at c.args.lists.now (code c.args.falsified.now))
+    (subst (λ (us : List ℕ). All (λ (o : Occurrence). o.place < length c.args.kept.now) (map unit_at us ++ others_at c.args.lists.now (code c.args.falsified.now))) (sym c.units.ensures) c.requires.known)).0
+
+-- the occurrences in the section are a part of all
+units_part : (c : goal.After-tell_units-arg-2-1) (p : ℕ) → sum_at p (map unit_at c.units.result.now) ≤ sum_at p (list_at c.args.lists.now c.args.falsified.now)
+units_part c p = omega (arith, sum_at-append p (map unit_at c.units.result.now) (others_at c.args.lists.now (code c.args.falsified.now)), ap (λ (us : List ℕ). sum_at p (map unit_at us ++ others_at c.args.lists.now (code c.args.falsified.now))) c.units.ensures)
+
+pub tell_units-short-requires-clause-enough : goal.tell_units-short-requires-clause-enough
+tell_units-short-requires-clause-enough c = λ p. omega (arith, units_part c p, c.requires.enough p)
+
+pub tell_units-short-requires-clause-bound : goal.tell_units-short-requires-clause-bound
+tell_units-short-requires-clause-bound c = λ p d at. omega (arith, units_part c p, c.requires.bound p d at)
+
+pub tell_all-requires-clause-enough : goal.tell_all-requires-clause-enough
+tell_all-requires-clause-enough c = λ p.
+    let parts : list_at c.args.lists.now c.args.falsified.now ≡ map unit_at c.units.result.now ++ c.others.result.now = list_parts c.args.lists.now c.args.falsified.now c.units.result.now c.others.result.now c.units.ensures c.others.ensures in
+    omega (arith, sum_at-append p (map unit_at c.units.result.now) c.others.result.now, ap (sum_at p) parts, c.tell_units-short.ensures.told.lowered.rooms p, c.requires.enough p)

@@ -1,4 +1,4 @@
-use Rattle.std.proofs.Common.{◌≤◌, ◌∙◌, [], List, length, length-append, refl, arith, ap}
+use Rattle.std.proofs.Common.{◌≤◌, ◌∙◌, [], List, length, length-append, refl, arith, ap, ℕ, subst}
 use Rattle.pb_base.specs.declared.literal.Lit.{Lit}
 use Rattle.pb_norm.specs.Constraints.{Constraint}
 use Rattle.pb_unit.specs.States.{standing}
@@ -25,3 +25,6 @@ queue-preserved c = record {
   alerts = λ p. c.tell.ensures.alerts p ∙ c.queue.invariant.alerts p;
   calm = c.in_default.ensures.calm refl;
 }
+
+pub returns-clause-calm : goal.returns-clause-calm
+returns-clause-calm c = λ e. (subst (λ (n : ℕ). n ≤ c.queue.counted) c.len.ensures.count c.queue-test.false, c.queue.invariant.calm)

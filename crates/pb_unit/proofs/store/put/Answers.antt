@@ -1,4 +1,4 @@
-use Rattle.std.proofs.Common.{◌≡◌, ◌≤◌, ◌⊎◌, ◌∙◌, ◌++◌, ℕ, take, drop, List, Option, sym, subst, ap, length}
+use Rattle.std.proofs.Common.{◌≡◌, ◌≤◌, ◌<◌, ◌⊎◌, ◌∙◌, ◌++◌, ℕ, take, drop, List, Option, sym, subst, ap, length}
 use Rattle.std.specs.Prelude.{Contains}
 use Rattle.pb_norm.specs.Constraints.{Constraint}
 use Rattle.pb_unit.specs.declared.kept.Kept.{Kept}
@@ -35,3 +35,12 @@ returns-clause-store c =
     (λ p ne. c.settle.ensures.others p ne ∙ ap (λ (ks : List Kept). alert_at ks p) c.deref_mut.ensures.value)
     here
     (λ p h. c.settle.ensures.more p (subst (λ (ts : List ℕ). Contains ts p) (sym c.reserve.ensures.items) h))))
+
+pub returns-then-is_err-clause-store : goal.returns-then-is_err-clause-store
+returns-then-is_err-clause-store c = subst (λ (ts : List ℕ). IsStore c.args.vars c.args.places.now c.args.lists.now c.args.kept.now.items ts) (sym c.reserve.ensures.items) c.requires.store
+
+pub enter_and_put-requires-clause-near_kept : goal.enter_and_put-requires-clause-near_kept
+enter_and_put-requires-clause-near_kept c = subst (λ (n : ℕ). c.args.place ≤ n) (sym c.requires.store.even) c.requires.near
+
+pub settle-requires-clause-known : goal.settle-requires-clause-known
+settle-requires-clause-known c = subst (λ (ks : List Kept). c.args.place < length ks) (sym c.deref_mut.ensures.value) c.if-not-enter_and_put.ensures.known

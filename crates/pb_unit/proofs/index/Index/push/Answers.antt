@@ -1,9 +1,9 @@
-use Rattle.std.proofs.Common.{◌≡◌, ◌∙◌, ◌++◌, ◌∷◌, [], ℕ, List, length, ap, sym, subst, refl}
+use Rattle.std.proofs.Common.{◌≡◌, ◌<◌, ◌∙◌, ◌++◌, ◌∷◌, [], ℕ, List, length, ap, sym, subst, refl}
 use Rattle.std.specs.Vec.{with_items}
 use Rattle.std.proofs.lemmas.Bool.{OnTrue_at, OnTrue_from, OnFalse_at, OnFalse_from}
 use Rattle.std.proofs.lemmas.List.{with_items_is}
-use Rattle.pb_unit.specs.Index.{Lists, section, IsPushed, AreSame}
-use Rattle.pb_unit.proofs.Pushing.{section_as, pushed_unit, pushed_other, same_index}
+use Rattle.pb_unit.specs.Index.{Lists, size_of, section, IsPushed, AreSame}
+use Rattle.pb_unit.proofs.Pushing.{section_as, sectioned_as, pushed_unit, pushed_other, same_index}
 use Rattle.pb_unit.proofs.index.Index.push.Goals as goal
 
 pub returns-then-put_unit-clause-pushed : goal.returns-then-put_unit-clause-pushed
@@ -42,3 +42,21 @@ pub returns-clause-refused : goal.returns-clause-refused
 returns-clause-refused c = OnFalse_from c.put_other.result _ (λ no.
     subst (λ (z : Lists). AreSame z (y c)) c.self.view_is
     (same_index (x c) (y c) (ap (λ (xs : List ℕ). length xs) (ends_same c)) (units_same c) (OnFalse_at no c.put_other.ensures.refused)))
+
+pub put_unit-requires-clause-sections : goal.put_unit-requires-clause-sections
+put_unit-requires-clause-sections c = sectioned_as c.deref.ensures.value c.deref_mut.ensures.value c.deref_mut-2.ensures.value c.self.invariant
+
+pub put_unit-requires-clause-known : goal.put_unit-requires-clause-known
+put_unit-requires-clause-known c =
+    subst (λ (m : ℕ). c.code-number.result < m) (sym (ap (λ (xs : List ℕ). length xs) c.deref_mut.ensures.value ∙ ap size_of c.self.view_is))
+    (subst (λ (k : ℕ). k < size_of c.args.self.now) (sym c.code-number.ensures) c.requires)
+
+pub invariant_of-self : goal.invariant_of-self
+invariant_of-self c = sectioned_as (sym c.deref.ensures.value)
+    (with_items_is c.self.inside.ends c.put_unit.new.ends (c.put_unit.auto.ends ∙ c.deref_mut.ensures.len))
+    (with_items_is c.self.inside.units c.put_unit.new.units (c.put_unit.auto.units ∙ c.deref_mut-2.ensures.len)) c.put_unit.ensures.sections
+
+pub invariant_of-self-2 : goal.invariant_of-self-2
+invariant_of-self-2 c = sectioned_as (sym c.deref.ensures.value)
+    (with_items_is c.self.inside.ends c.put_unit.new.ends (c.put_unit.auto.ends ∙ c.deref_mut.ensures.len))
+    (with_items_is c.self.inside.units c.put_unit.new.units (c.put_unit.auto.units ∙ c.deref_mut-2.ensures.len)) c.put_unit.ensures.sections
