@@ -1,3 +1,4 @@
+pub mod Finding
 pub mod SlotLemmas
 pub mod Seen
 pub mod Withins
