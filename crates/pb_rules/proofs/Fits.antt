@@ -22,7 +22,8 @@ use Rattle.pb_steps.specs.declared.step.Step.TheVariants.{Pol}
 use Rattle.pb_steps.specs.Steps.{vars_of_op, IsSpelled}
 use Rattle.pb_steps.specs.Operations.{is_narrow, IsNarrow, axiom_of, multiple, scaled, division, shrunk, saturation, weakening, is_other}
 use Rattle.pb_steps.specs.Database.{Entry, Database, constraint_at, grown}
-use Rattle.pb_steps.specs.Stacks.{after_ops, with_room, is_stacked}
+use Rattle.pb_steps.specs.Stacks.{after_op, after_ops, with_room, is_stacked}
+use Rattle.pb_operations.specs.Room.{fitting}
 use Rattle.pb_steps.specs.Allowed.{Allowed}
 use Rattle.pb_steps.specs.Denials.{seen_denial, width, unknown_var, unknown_id}
 use Rattle.pb_steps.specs.Denials as denials
@@ -118,6 +119,23 @@ pushed-top live vars id old after c done sound found outcome =
     let narrow : IsNarrow c = (at-sound vars live id c sound found).0 in
     let same : done_op live (Push id) (reverse old) ≡ topped (Some c) (reverse old) =
     ap (λ (o : Option Constraint). option_and_then with_room (option_map (λ (d : Constraint). d ∷ reverse old) o)) found ∙ with_room-narrow c (reverse old) narrow in
+    subst (λ (o : Option (List Constraint)). IsOutcome done o (reverse after)) (sym same) outcome
+
+-- the top with room, or nothing
+room_or_none : (made : Constraint) (stack : List Constraint) → with_room (made ∷ stack) ≡ topped (fitting made) stack
+room_or_none made stack = by_test (is_narrow made)
+  where
+    by_test : (b : Bool) → cond b (Some (made ∷ stack)) None ≡ topped (cond b (Some made) None) stack
+    by_test true = refl
+    by_test false = refl
+
+-- an operation on the topmost constraint
+pub fitted-top : (op : PolOp) (old new after : List Constraint) (c made : Constraint) (found : Option Constraint) (done : Bool) → old ≡ new ++ c ∷ [] → after_op [] op (c ∷ reverse new) ≡ Some (made ∷ reverse new) → found ≡ fitting made → IsOutcome done (topped found (reverse new)) (reverse after) → IsOpOutcome [] op old after done
+fitted-top op old new after c made found done e step is outcome =
+    let same : done_op [] op (reverse old) ≡ topped found (reverse new) =
+    ap (done_op [] op) (reverse_top old new c e) ∙
+    (ap (λ (o : Option (List Constraint)). option_and_then with_room o) step ∙
+    (room_or_none made (reverse new) ∙ ap (λ (o : Option Constraint). topped o (reverse new)) (sym is))) in
     subst (λ (o : Option (List Constraint)). IsOutcome done o (reverse after)) (sym same) outcome
 
 -- ---- the causes of a denial in their order

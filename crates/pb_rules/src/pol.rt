@@ -20,7 +20,7 @@ use pb_base::{NoMemory, Var};
 use pb_norm::Linear;
 use pb_operations::{axiom, division, multiple, plus, saturation, weakening};
 use pb_steps::{Denied, PolOp};
-use std::alloc::{AllocError, Global};
+use std::alloc::Global;
 
 // ---- what the operations name
 
@@ -124,7 +124,7 @@ fn fitting(made: Linear) -> Option<Linear>
 }
 
 // Pushes a constraint, if there is one.
-fn push_onto(stack: &mut Vec<Linear>, made: Option<Linear>) -> Result<bool, AllocError>
+fn push_onto(stack: &mut Vec<Linear>, made: Option<Linear>) -> Result<bool, NoMemory>
     ensures { IfOk result (λ done. IsOutcome done (topped made (reverse stack.old.items)) (reverse stack.new.items)) }
 {
     match made {
@@ -148,7 +148,7 @@ fn add_top(alloc: Global, stack: &mut Vec<Linear>) -> Result<bool, NoMemory>
         return Ok(false)
     };
     let sum = plus(alloc, &c, &d)?;
-    Ok(push_onto(stack, sum)?)
+    push_onto(stack, sum)
 }
 
 // Multiplies the topmost constraint.
@@ -160,7 +160,7 @@ fn multiply_top(alloc: Global, factor: u128, stack: &mut Vec<Linear>) -> Result<
         return Ok(false)
     };
     let made = multiple(alloc, &c, factor)?;
-    Ok(push_onto(stack, made)?)
+    push_onto(stack, made)
 }
 
 // Divides the topmost constraint.
@@ -173,7 +173,7 @@ fn divide_top(alloc: Global, divisor: u128, stack: &mut Vec<Linear>) -> Result<b
         return Ok(false)
     };
     let made = fitting(division(alloc, &c, divisor)?);
-    Ok(push_onto(stack, made)?)
+    push_onto(stack, made)
 }
 
 // Saturates the topmost constraint.
@@ -184,11 +184,11 @@ fn saturate_top(alloc: Global, stack: &mut Vec<Linear>) -> Result<bool, NoMemory
         return Ok(false)
     };
     let made = fitting(saturation(alloc, &c)?);
-    Ok(push_onto(stack, made)?)
+    push_onto(stack, made)
 }
 
 // Weakens the topmost constraint, which keeps its room.
-fn weaken_top(var: Var, stack: &mut Vec<Linear>) -> Result<bool, AllocError>
+fn weaken_top(var: Var, stack: &mut Vec<Linear>) -> Result<bool, NoMemory>
     requires { All IsNarrow (reverse stack.old.items) }
     ensures { IfOk result (IsOpOutcome [] (Weaken var) stack.old.items stack.new.items) }
 {
@@ -206,7 +206,7 @@ fn push_at(db: &Database, id: u64, stack: &mut Vec<Linear>) -> Result<bool, NoMe
         return Ok(false)
     };
     let copy = found.copy(db.alloc())?;
-    Ok(push_onto(stack, Some(copy))?)
+    push_onto(stack, Some(copy))
 }
 
 // Does an operation, or says that it cannot be done.
@@ -220,13 +220,13 @@ fn apply_op(db: &Database, op: &PolOp, stack: &mut Vec<Linear>) -> Result<bool, 
         PolOp::Push(id) => push_at(db, *id, stack),
         PolOp::Axiom(lit) => {
             let made = fitting(axiom(alloc, *lit)?);
-            Ok(push_onto(stack, made)?)
+            push_onto(stack, made)
         }
         PolOp::Add => add_top(alloc, stack),
         PolOp::Mul(factor) => multiply_top(alloc, factor.unsigned_abs(), stack),
         PolOp::Div(divisor) => divide_top(alloc, divisor.unsigned_abs(), stack),
         PolOp::Saturate => saturate_top(alloc, stack),
-        PolOp::Weaken(var) => Ok(weaken_top(*var, stack)?),
+        PolOp::Weaken(var) => weaken_top(*var, stack),
     }
 }
 
