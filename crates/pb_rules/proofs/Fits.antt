@@ -138,6 +138,14 @@ fitted-top op old new after c made found done e step is outcome =
     (room_or_none made (reverse new) ∙ ap (λ (o : Option Constraint). topped o (reverse new)) (sym is))) in
     subst (λ (o : Option (List Constraint)). IsOutcome done o (reverse after)) (sym same) outcome
 
+-- the two topmost constraints, added
+pub summed-top : (old mid new after : List Constraint) (c d : Constraint) (found : Option Constraint) (done : Bool) → old ≡ mid ++ d ∷ [] → mid ≡ new ++ c ∷ [] → found ≡ fitting (sum_of c d) → IsOutcome done (topped found (reverse new)) (reverse after) → IsOpOutcome [] Add old after done
+summed-top old mid new after c d found done e f is outcome =
+    let stack : reverse old ≡ d ∷ c ∷ reverse new = reverse_top old mid d e ∙ ap (λ (xs : List Constraint). d ∷ xs) (reverse_top mid new c f) in
+    let same : done_op [] Add (reverse old) ≡ topped found (reverse new) =
+    ap (done_op [] Add) stack ∙ (room_or_none (sum_of c d) (reverse new) ∙ ap (λ (o : Option Constraint). topped o (reverse new)) (sym is)) in
+    subst (λ (o : Option (List Constraint)). IsOutcome done o (reverse after)) (sym same) outcome
+
 -- ---- the causes of a denial in their order
 
 abbrev in_order : Option Denied → Option Denied → Option Denied → Option Denied → Option Denied
