@@ -2,7 +2,7 @@
 use Rattle.std.proofs.Common.{◌≡◌, ◌≤◌, ◌<◌, ◌+◌, ℕ, zero, suc, ltb, length, get_or, drop, drop-cons, List, [], ◌∷◌, ◌++◌, Bool, true, false, cond, arith, refl, ap, sym, ◌∙◌, subst, Option, Some, None, reverse}
 use Rattle.std.specs.Prelude.{All, map, flat_map, unsigned_abs, option_and_then, option_map}
 use Rattle.std.specs.Option.{option_or}
-use Rattle.std.proofs.lemmas.Bool.{ltb-false, false≢true, true≢false}
+use Rattle.std.proofs.lemmas.Bool.{ltb-false, false≢true}
 use Rattle.std.proofs.lemmas.List.{reverse-append}
 use Rattle.std.proofs.lemmas.List.Elements.{All-nil, All-cons, All-head, All-tail, All-map, All-filter, All-weaker}
 use Rattle.pb_base.specs.declared.literal.Lit.{Lit}
@@ -15,7 +15,7 @@ use Rattle.pb_norm.proofs.Variables.{joined-vars}
 use Rattle.pb_operations.proofs.Parts.{weight-filter, weight-narrow, degree-narrow, narrow-from}
 use Rattle.pb_norm.specs.Constraints.{HasVarsWithin}
 use Rattle.pb_steps.specs.declared.denied.Denied.{Denied}
-use Rattle.pb_steps.specs.declared.denied.Denied.TheVariants.{Width, Stack, UnknownVar}
+use Rattle.pb_steps.specs.declared.denied.Denied.TheVariants.{Stack, UnknownVar}
 use Rattle.pb_steps.specs.declared.op.PolOp.{PolOp}
 use Rattle.pb_steps.specs.declared.op.PolOp.TheVariants.{Push, Axiom, Add, Mul, Div, Saturate, Weaken}
 use Rattle.pb_steps.specs.declared.step.Step.TheVariants.{Pol}

@@ -1,8 +1,7 @@
 -- The variables of what is made are within those that there are.
-use Rattle.std.proofs.Common.{◌≡◌, ◌≤◌, ℕ, ℤ, List, [], ◌∷◌, Bool, true, false, cond, arith, refl, sym, ◌∙◌, eqb, subst, Option, Some, None}
-use Rattle.std.specs.Prelude.{All, map, filter, filter_map}
-use Rattle.std.specs.List.{cons_option}
-use Rattle.std.proofs.lemmas.List.Elements.{All-nil, All-cons, All-head, All-tail, All-map, All-weaker, All-filter}
+use Rattle.std.proofs.Common.{◌≡◌, ◌≤◌, ℕ, ℤ, List, [], ◌∷◌, Bool, true, false, cond, arith, eqb, subst, Some}
+use Rattle.std.specs.Prelude.{All, map, filter}
+use Rattle.std.proofs.lemmas.List.Elements.{All-nil, All-cons, All-head, All-tail, All-map, All-filter}
 use Rattle.pb_base.specs.declared.literal.Term.{Term}
 use Rattle.pb_norm.specs.Constraints.{Weighted, Constraint, weight}
 use Rattle.pb_norm.specs.Halves.{written}
@@ -10,11 +9,11 @@ use Rattle.pb_norm.specs.Reduction.{opposite}
 use Rattle.pb_norm.proofs.Variables.{normal_terms-vars}
 use Rattle.pb_norm.proofs.WrittenForm.{normal_terms-weight, normal_degree-le}
 use Rattle.pb_operations.proofs.Parts.{narrow-from, weight-narrow, degree-narrow}
-use Rattle.pb_norm.specs.Constraints.{HasVarsWithin, AreVarsWithin}
+use Rattle.pb_norm.specs.Constraints.{HasVarsWithin}
 use Rattle.pb_steps.specs.Steps.{vars_of_terms}
 use Rattle.pb_steps.specs.Operations.{IsNarrow, negation}
-use Rattle.pb_steps.specs.Database.{Entry, constraint_at, live_constraints}
-use Rattle.pb_steps.specs.Allowed.{IsSlim, hinted, propagated, to_refute}
+use Rattle.pb_steps.specs.Database.{Entry, constraint_at}
+use Rattle.pb_steps.specs.Allowed.{IsSlim}
 use Rattle.std.proofs.lemmas.List.Sums.{sum_by-le-sum_by}
 use Rattle.pb_base.proofs.Sums.{sum_by-filter}
 use Rattle.pb_steps.specs.declared.op.Set.{Set}

@@ -1,4 +1,4 @@
-use Rattle.std.proofs.Common.{ℕ, ◌≡◌, ◌∙◌, ◌∷◌, List, Some, reverse, ap}
+use Rattle.std.proofs.Common.{ℕ, ◌∙◌, ◌∷◌, Some, reverse, ap}
 use Rattle.std.proofs.lemmas.Result.{IfOk-weaker}
 use Rattle.pb_operations.specs.Room.{fitting}
 use Rattle.pb_steps.specs.Operations.{division}
