@@ -6,6 +6,7 @@ pub mod Filters
 pub mod FlatPieces
 pub mod FlatRanges
 pub mod Fronts
+pub mod Gathered
 pub mod HandedPhases
 pub mod Looping
 pub mod Models

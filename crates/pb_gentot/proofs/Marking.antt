@@ -2,7 +2,7 @@
 use Rattle.std.proofs.Common.{◌≡◌, ◌<◌, ◌≤◌, ◌+◌, ◌++◌, ◌⊎◌, ℕ, List, [], ◌∷◌, length, get_or, take, sym, ap, ◌∙◌, subst, inl, inr, append_assoc}
 use Rattle.std.specs.Prelude.{Contains, map}
 use Rattle.std.proofs.lemmas.List.{take_more, take_all, map-append}
-use Rattle.std.proofs.lemmas.List.Elements.{Contains-append_left, Contains-append_right, Contains-append_cases}
+use Rattle.std.proofs.lemmas.List.Elements.{Contains-get_or, Contains-append_left, Contains-append_right, Contains-append_cases}
 use Rattle.pb_base.proofs.Members.{Contains-nil, Contains-here, Contains-cons_cases}
 use Rattle.pb_gentot.specs.declared.seen.Seen.{Seen}
 use Rattle.pb_gentot.specs.laws.Marks.{HasMark, MarksOnly}
@@ -12,6 +12,15 @@ use Rattle.pb_gentot.proofs.Joining.{same_then, same_joined}
 -- lists with the same members suit the same marks
 pub marks_kept : (seen : Seen) (xs ys : List ℕ) → MarksOnly seen xs → SameMembers xs ys → MarksOnly seen ys
 marks_kept seen xs ys only same = record { stands = λ n h. same.to n (only.stands n h) }
+
+-- one more number of the list may be marked
+pub marks_one : (old new : Seen) (xs : List ℕ) (i : ℕ) → i < length xs → MarksOnly old xs → ((n : ℕ) → HasMark new n → (n ≡ get_or xs i 0) ⊎ HasMark old n) → MarksOnly new xs
+marks_one old new xs i within only marked = record {
+  stands = λ n h. elim (marked n h) as (λ _. Contains xs n) [
+    | inl same ↦ subst (λ (k : ℕ). Contains xs k) (sym same) (Contains-get_or xs i 0 within)
+    | inr before ↦ only.stands n before
+  ];
+}
 
 -- a number that stands there already adds nothing
 pub same_again : (xs : List ℕ) (n : ℕ) → Contains xs n → SameMembers (xs ++ n ∷ []) xs

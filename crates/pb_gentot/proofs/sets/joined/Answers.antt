@@ -53,3 +53,9 @@ returns-clause-made c =
     let vs = c.args.right.now in
     let last = gathered_last c.args.cap us vs c.loop-value.made.items c.tidy-2.new.values.items c.loop-value.value-index (omega arith) c.loop-value.invariant.same c.tidy-2.ensures.same in
     values_of c.args.cap us vs c.tidy-2.new.values.items c.requires.left_small c.requires.right_small c.tidy-2.ensures.rising last
+
+pub push_sums-requires-clause-small : goal.push_sums-requires-clause-small
+push_sums-requires-clause-small c = c.requires.left_small c.loop-value.value-index 0 (omega arith)
+
+pub push_sums-requires-clause-marked : goal.push_sums-requires-clause-marked
+push_sums-requires-clause-marked c = c.loop-value.invariant.marked

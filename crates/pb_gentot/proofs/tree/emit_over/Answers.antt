@@ -7,7 +7,8 @@ use Rattle.pb_family.proofs.Emission.{emitting_from}
 use Rattle.pb_family.proofs.Stopping.{stops_fault}
 use Rattle.pb_gentot.specs.declared.node.Node.{Node}
 use Rattle.pb_gentot.specs.declared.outputs.Outputs.TheVariants.{Fresh}
-use Rattle.pb_gentot.specs.laws.Outputs.{output_in}
+use Rattle.pb_gentot.specs.laws.Outputs.{output_in, HasRoom}
+use Rattle.pb_gentot.specs.laws.Rising.{Rising}
 use Rattle.pb_gentot.specs.laws.Nodes.{AreRanks}
 use Rattle.pb_gentot.specs.laws.Parts.{clauses_over_parts}
 use Rattle.pb_gentot.proofs.Over.{made_rising, has_left, has_right, has_both, made_over, clauses_made}
@@ -79,3 +80,50 @@ returns-clause-next g c =
     let same = ap length (made_over c.args.cap c.args.left.now c.args.right.now _ _ _ c.as_slice-lefts.ensures.value c.as_slice-rights.ensures.value (rw c.unwrap-values.ensures at c.in_ok-found.ensures.made)) in
     let count = ap length c.as_slice-2.ensures.value in
     omega arith
+
+pub joined-requires-clause-left_small : goal.joined-requires-clause-left_small
+joined-requires-clause-left_small g c = subst (All (λ u. u ≤ c.args.cap)) (sym c.as_slice-lefts.ensures.value) c.requires.left.small
+
+pub emit_node-requires-clause-left_rising : goal.emit_node-requires-clause-left_rising
+emit_node-requires-clause-left_rising g c = subst Rising (sym c.as_slice-lefts.ensures.value) c.requires.left.rising
+
+pub emit_node-requires-clause-left_room : goal.emit_node-requires-clause-left_room
+emit_node-requires-clause-left_room g c = subst (λ (us : List ℕ). HasRoom c.args.left.now.outputs (length us)) (sym c.as_slice-lefts.ensures.value) c.requires.left.room
+
+pub emit_node-requires-clause-left_small : goal.emit_node-requires-clause-left_small
+emit_node-requires-clause-left_small g c = subst (All (λ u. u ≤ c.args.cap)) (sym c.as_slice-lefts.ensures.value) c.requires.left.small
+
+pub joined-requires-clause-right_small : goal.joined-requires-clause-right_small
+joined-requires-clause-right_small g c = subst (All (λ u. u ≤ c.args.cap)) (sym c.as_slice-rights.ensures.value) c.requires.right.small
+
+pub emit_node-requires-clause-right_rising : goal.emit_node-requires-clause-right_rising
+emit_node-requires-clause-right_rising g c = subst Rising (sym c.as_slice-rights.ensures.value) c.requires.right.rising
+
+pub emit_node-requires-clause-right_room : goal.emit_node-requires-clause-right_room
+emit_node-requires-clause-right_room g c = subst (λ (us : List ℕ). HasRoom c.args.right.now.outputs (length us)) (sym c.as_slice-rights.ensures.value) c.requires.right.room
+
+pub emit_node-requires-clause-right_small : goal.emit_node-requires-clause-right_small
+emit_node-requires-clause-right_small g c = subst (All (λ u. u ≤ c.args.cap)) (sym c.as_slice-rights.ensures.value) c.requires.right.small
+
+pub of-requires-clause-few : goal.of-requires-clause-few
+of-requires-clause-few g c =
+    let within = rw c.unwrap-values.ensures at c.in_ok-found.ensures.within in
+    let count = ap length c.as_slice.ensures.value in
+    omega arith
+
+pub overflow_cast-next : goal.overflow_cast-next
+overflow_cast-next g c =
+    let within = rw c.unwrap-values.ensures at c.in_ok-found.ensures.within in
+    let count = ap length c.as_slice-2.ensures.value in
+    omega arith
+
+pub overflow_add-next : goal.overflow_add-next
+overflow_add-next g c =
+    let same = ap length (made_over c.args.cap c.args.left.now c.args.right.now _ _ _ c.as_slice-lefts.ensures.value c.as_slice-rights.ensures.value (rw c.unwrap-values.ensures at c.in_ok-found.ensures.made)) in
+    let count = ap length c.as_slice-2.ensures.value in
+    omega (arith, c.requires.fits)
+
+pub returns-clause-room : goal.returns-clause-room
+returns-clause-room g c =
+    let same = ap length (made_over c.args.cap c.args.left.now c.args.right.now _ _ _ c.as_slice-lefts.ensures.value c.as_slice-rights.ensures.value (rw c.unwrap-values.ensures at c.in_ok-found.ensures.made)) in
+    (c.requires.low, omega (arith, c.requires.fits))
