@@ -1,6 +1,9 @@
 use Rattle.std.proofs.Common.{◌≡◌, length, ap, sym, ◌∙◌, arith}
+use Rattle.std.proofs.lemmas.List.{length-map}
 use Rattle.std.proofs.lemmas.Bool.{eqb-true}
 use Rattle.pb_diagram.specs.Clauses.{node_count}
+use Rattle.pb_diagram.specs.Levels.{coefs_of}
+use Rattle.pb_diagram.proofs.SearchSteps.{search_depth}
 use Rattle.pb_diagram.proofs.SearchReads.{ended, counted}
 use Rattle.pb_diagram.proofs.search.known_levels.Goals as goal
 
@@ -18,3 +21,29 @@ returns c =
     let same = ended c.args.of.now now.levels.items now.wanted.items now.left c.loop-search.invariant.searching none in
     let count = ap node_count same in
     (same, omega arith)
+
+pub loop-search-preserved-else-count-budget : goal.loop-search-preserved-else-count-budget
+loop-search-preserved-else-count-budget c =
+    let more = c.in_ok-advance.ensures.advanced.found c.if-branch.true in
+    let known = more.0 in
+    let wanted = more.1 in
+    record {
+      searching = c.in_ok-advance.ensures.searching;
+      counted = omega arith;
+      within = omega arith;
+      depth = omega arith;
+    }
+
+pub loop-search-preserved : goal.loop-search-preserved
+loop-search-preserved c =
+    let of = c.args.of.now in
+    let now = c.advance.new.self in
+    let known = (c.in_ok-advance.ensures.advanced.wants c.if-branch.false).0 in
+    let deep = search_depth of.bound (coefs_of of.terms) now.levels.items now.wanted.items c.in_ok-advance.ensures.searching.state in
+    let size = length-map of.terms (λ t. t.coef) in
+    record {
+      searching = c.in_ok-advance.ensures.searching;
+      counted = omega arith;
+      within = c.loop-search.invariant.within;
+      depth = omega arith;
+    }
