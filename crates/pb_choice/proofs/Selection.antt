@@ -1,15 +1,12 @@
 -- What was chosen, within the budget or in its place, and what is left of a constraint then.
-use Rattle.std.proofs.Common.{◌≡◌, ◌<◌, ◌≤◌, ◌∙◌, ℕ, Bool, true, false, cond, refl, sym, ap}
-use Rattle.std.specs.Prelude.{nat_lt}
-use Rattle.std.proofs.lemmas.Bool.{cond-true, cond-false, lt-ltb, le-ltb}
+use Rattle.std.proofs.Common.{◌≡◌, ◌∙◌, ap}
 use Rattle.pb_norm.specs.declared.reduction.Rest.TheVariants as rest
 use Rattle.pb_norm.specs.BoundedSums.{BoundedSum}
 use Rattle.pb_choice.specs.declared.chosen.Chosen.{Chosen}
 use Rattle.pb_choice.specs.declared.left.Left.TheVariants.{Sum}
 use Rattle.pb_choice.specs.declared.options.Options.{Options}
 use Rattle.pb_choice.specs.declared.treatment.Treatment.{Treatment}
-use Rattle.pb_choice.specs.declared.treatment.Treatment.TheVariants as treatment
-use Rattle.pb_choice.specs.Choice.{treatment_of, within_budget}
+use Rattle.pb_choice.specs.Choice.{treatment_of}
 use Rattle.pb_choice.specs.laws.Chosen.{sum_at, treatment_at, IsChosen}
 use Rattle.pb_choice.specs.laws.Left.{IsLeft}
 use Rattle.pb_choice.specs.ConstraintSteps.{reduced_steps}

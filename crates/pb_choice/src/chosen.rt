@@ -8,7 +8,6 @@ use pb_family::{ClauseSink, Derive, Family, SinkFault, StepSink};
 use std::alloc::Global;
 
 /// A sum and the family that stands for it. What takes time to build is built once.
-#[derive(Drop)]
 pub enum Chosen {
     Pairwise(AtMostOne),
     Ladder(AtMostOne),
@@ -18,6 +17,20 @@ pub enum Chosen {
     Diagram(DiagramOf),
     Tree(TreeOf),
     Adder(AdderOf),
+}
+
+// Written out, so that it is one call in the proofs of the functions that own one.
+impl Drop for Chosen {
+    fn drop(self) {
+        match self {
+            Chosen::Pairwise(_) | Chosen::Ladder(_) | Chosen::Product(_) => {}
+            Chosen::Counter(_) => {}
+            Chosen::Totalizer(_) => {}
+            Chosen::Diagram(_) => {}
+            Chosen::Tree(_) => {}
+            Chosen::Adder(_) => {}
+        }
+    }
 }
 
 impl Chosen {

@@ -1,8 +1,8 @@
 //! Planning the encoding of an equality.
-ghost use Rattle.std.specs.Prelude.{◌≡◌, ◌≤◌, ◌<◌, ◌^◌, true, false, length, IfOk};
+ghost use Rattle.std.specs.Prelude.{◌≡◌, ◌≤◌, ◌<◌, ◌^◌, true, false, pos, length, IfOk};
 ghost use Rattle.std.specs.Option.{MatchOption};
 ghost use Rattle.pb_norm.specs.Constraints.{IsLinear, weight};
-ghost use Rattle.pb_norm.specs.Reduction.{lits_of};
+ghost use Rattle.pb_norm.specs.Reduction.{first_coef, lits_of};
 ghost use Rattle.pb_totalizer.specs.ExactSum.{exact_sum};
 ghost use Rattle.pb_choice.specs.Equals.{is_joining, is_joint, literals_asked};
 ghost use Rattle.pb_choice.specs.laws.EqualPlans.{HasPartsOf, IsEqualPlan};
@@ -55,6 +55,33 @@ fn exact_of(alloc: Global, lower: &Linear, options: &Options) -> Result<Option<E
     }
 }
 
+// The coefficient of the first literal.
+fn coef_of(lower: &Linear) -> i128
+    requires light { weight lower.now.terms < 2 ^ 100 }
+    ensures { result ≡ pos (first_coef lower.now.terms) }
+{
+    first_coef(lower.terms()) as i128
+}
+
+// Plans the encoding of an equality half by half.
+fn plan_halves<'a>(
+    alloc: Global,
+    lower: &'a Linear,
+    upper: &'a Linear,
+    options: &Options,
+) -> Result<EqualPlan<'a>, NoMemory>
+    requires lower_light { weight lower.now.terms < 2 ^ 100 }
+    requires upper_light { weight upper.now.terms < 2 ^ 100 }
+    requires modest { options.now.budget ≤ 10000000 }
+    requires split { is_joint options.now lower.now ≡ false }
+    ensures choice { IfOk result (IsEqualPlan options.now lower.now upper.now) }
+    ensures parts { IfOk result (HasPartsOf options.now lower.now upper.now) }
+{
+    let one = plan(alloc, lower, options)?;
+    let other = plan(alloc, upper, options)?;
+    Ok(EqualPlan::Split(one, other))
+}
+
 /// Plans the encoding of an equality, given its two halves: as one, or half by half. What the families need is built here, once.
 pub fn plan_equal<'a>(
     alloc: Global,
@@ -70,13 +97,9 @@ pub fn plan_equal<'a>(
 {
     match exact_of(alloc, lower, options)? {
         Some(exact) => {
-            let a = first_coef(lower.terms()) as i128;
+            let a = coef_of(lower);
             Ok(EqualPlan::Joint { exact, a })
         }
-        None => {
-            let one = plan(alloc, lower, options)?;
-            let other = plan(alloc, upper, options)?;
-            Ok(EqualPlan::Split(one, other))
-        }
+        None => plan_halves(alloc, lower, upper, options),
     }
 }

@@ -11,7 +11,6 @@ use pb_norm::Linear;
 use std::alloc::Global;
 
 /// What is left of a constraint, with the family that was chosen for it.
-#[derive(Drop)]
 pub enum Left {
     /// Nothing.
     Nothing,
@@ -21,6 +20,17 @@ pub enum Left {
     Clause(Lits),
     /// A sum that is to stay within its bound.
     Sum(Chosen),
+}
+
+// Written out, as that of a family is.
+impl Drop for Left {
+    fn drop(self) {
+        match self {
+            Left::Nothing | Left::Empty => {}
+            Left::Clause(_) => {}
+            Left::Sum(_) => {}
+        }
+    }
 }
 
 impl Left {

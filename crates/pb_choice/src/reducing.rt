@@ -2,7 +2,7 @@
 ghost use Rattle.std.specs.Prelude.{◌≡◌, ◌<◌, ◌≤◌, ◌-◌, ◌^◌, ◌++◌, pos, IfOk, filter, map};
 ghost use Rattle.pb_norm.specs.Constraints.{weight, weights};
 ghost use Rattle.pb_norm.specs.Reduction.{all_weigh, first_coef, is_above};
-ghost use Rattle.pb_choice.specs.Reducing.{cut_terms, divisor, reduction, weaken_unit};
+ghost use Rattle.pb_choice.specs.Reducing.{cut_terms, divisor, reducing, reduction, weaken_unit};
 
 use pb_base::{Lit, Lits, Term};
 use pb_norm::Linear;
@@ -73,6 +73,22 @@ fn push_units(ops: &mut Vec<PolOp>, units: &[Lit]) -> Result<(), AllocError>
     Ok(())
 }
 
+// Adds all operations.
+fn push_reducing(
+    ops: &mut Vec<PolOp>,
+    constraint: &Linear,
+    units: &[Lit],
+    id: u64,
+) -> Result<(), AllocError>
+    ensures { IfOk result (λ _. ops.new.items ≡ ops.old.items ++ reducing id units.now (divisor constraint.now)) }
+{
+    ops.push(PolOp::Push(id))?;
+    push_units(ops, units)?;
+    ops.push(PolOp::Saturate)?;
+    ops.push(PolOp::Div(divisor(constraint)))?;
+    Ok(())
+}
+
 /// The constraint with an id, without its units, saturated and divided.
 pub fn reducing_step(
     alloc: Global,
@@ -83,9 +99,6 @@ pub fn reducing_step(
     ensures { IfOk result (λ step. step ≡ reduction id units.now constraint.now) }
 {
     let mut ops = Vec::new(alloc);
-    ops.push(PolOp::Push(id))?;
-    push_units(&mut ops, units.as_slice())?;
-    ops.push(PolOp::Saturate)?;
-    ops.push(PolOp::Div(divisor(constraint)))?;
+    push_reducing(&mut ops, constraint, units.as_slice(), id)?;
     Ok(Step::Pol(PolOps::from_vec(ops)))
 }
