@@ -19,3 +19,6 @@ overflow_cast-first g c = omega (arith, c.requires.fits, c.counts.ensures.fresh)
 
 pub overflow_add-first : goal.overflow_add-first
 overflow_add-first g c = omega (arith, c.requires.fits, c.counts.ensures.fresh)
+
+pub returns-clause-id : goal.returns-clause-id
+returns-clause-id g c = omega arith

@@ -9,3 +9,6 @@ returns-clause-lower_light c = subst (λ (d : Constraint). weight d.terms < 2 ^ 
 
 pub returns-clause-upper_light : goal.returns-clause-upper_light
 returns-clause-upper_light c = subst (λ (d : Constraint). weight d.terms < 2 ^ 100) (sym c.in_ok-upper.ensures.form) (half_light Upper c.args.statement.now (2 ^ 100) c.requires)
+
+pub returns-clause-upper : goal.returns-clause-upper
+returns-clause-upper c = c.in_ok-upper.ensures.form
