@@ -3,6 +3,7 @@ use std::process::Abort;
 mod clause_reader;
 mod desks;
 mod propagation;
+mod refutations;
 mod settling;
 mod writers;
 

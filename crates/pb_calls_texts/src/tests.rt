@@ -2,8 +2,11 @@ use std::process::Abort;
 
 mod bounds;
 mod command_lines;
+mod decoding;
 mod desks;
+mod generated;
 mod line_reader;
+mod real_desks;
 mod steps;
 mod texts;
 mod words_and_numbers;

@@ -11,6 +11,3 @@ pub use handle::{FileId, Handle};
 pub use host::Host;
 pub use real::{Asks, RealDesk};
 pub use system::System;
-
-#[cfg(test)]
-mod tests;

@@ -16,12 +16,16 @@ pub enum Instead {
     Before,
 }
 
+fn push_line(made: &mut String, line: &str) -> Option<()> {
+    made.push_str(line).ok()?;
+    made.push('\n').ok()
+}
+
 // A text with another line at a place.
 fn with_line(alloc: Global, text: &str, place: usize, other: &str) -> Option<String> {
     let mut made = String::new(alloc);
     for (at, line) in text.lines().enumerate() {
-        made.push_str(if at == place { other } else { line }).ok()?;
-        made.push('\n').ok()?;
+        push_line(&mut made, if at == place { other } else { line })?;
     }
     Some(made)
 }
@@ -67,17 +71,22 @@ fn count_accepted(alloc: Global, opb: &str, files: &Files, instead: Instead) -> 
     Some(count)
 }
 
-/// How many lines a derivation has that is accepted; and with how many of them that is so without the line, with an empty one, where
-/// the sum is put out, and where what was put out before is.
-pub fn report(alloc: Global, kind: Kind, sum: Sum) -> Option<String> {
-    let files = made(alloc, kind, sum)?;
-    if !is_accepted(alloc, sum.opb, files.cnf.as_str(), files.proof.as_str())? {
+// How many lines a derivation has that is accepted; and with how many of them that is so without the line, with an empty one, where
+// the sum is put out, and where what was put out before is.
+fn report_on(alloc: Global, opb: &str, files: &Files) -> Option<String> {
+    if !is_accepted(alloc, opb, files.cnf.as_str(), files.proof.as_str())? {
         return "not accepted".to_string(alloc).ok();
     }
     let lines = files.proof.lines().count();
-    let gap = count_accepted(alloc, sum.opb, &files, Instead::Gap)?;
-    let empty = count_accepted(alloc, sum.opb, &files, Instead::Empty)?;
-    let whole = count_accepted(alloc, sum.opb, &files, Instead::Whole)?;
-    let before = count_accepted(alloc, sum.opb, &files, Instead::Before)?;
+    let gap = count_accepted(alloc, opb, files, Instead::Gap)?;
+    let empty = count_accepted(alloc, opb, files, Instead::Empty)?;
+    let whole = count_accepted(alloc, opb, files, Instead::Whole)?;
+    let before = count_accepted(alloc, opb, files, Instead::Before)?;
     format!(in alloc; "{lines}: {gap} {empty} {whole} {before}").ok()
+}
+
+/// The same of a sum's derivation by a family.
+pub fn report(alloc: Global, kind: Kind, sum: Sum) -> Option<String> {
+    let files = made(alloc, kind, sum)?;
+    report_on(alloc, sum.opb, &files)
 }

@@ -3,12 +3,13 @@ ghost use Rattle.std.specs.Prelude.{IfSome};
 ghost use Rattle.pb_base.specs.Problems.{IsWithinLimits};
 ghost use Rattle.pb_desk.specs.Desk.{IsClosed};
 
+use super::assert_found;
 use pb_base::{Bytes, Ids, Problem, Seq, Text};
 use pb_check::{CheckFault, Verdict, check};
 use pb_desk::{Desk, MemoryDesk, Named};
 use pb_opb::read_opb;
 use std::alloc::Global;
-use std::test::Fail;
+use std::process::Abort;
 
 fn named(alloc: Global, name: &str, text: &str) -> Option<Named> {
     Some(Named {
@@ -17,13 +18,22 @@ fn named(alloc: Global, name: &str, text: &str) -> Option<Named> {
     })
 }
 
+fn push_file(alloc: Global, files: &mut Seq<Named>, name: &str, text: &str) -> Option<()> {
+    files.push(named(alloc, name, text)?).ok()
+}
+
+fn files_of(alloc: Global, cnf: &str, proof: &str) -> Option<Seq<Named>> {
+    let mut files = Seq::new(alloc);
+    push_file(alloc, &mut files, "cnf", cnf)?;
+    push_file(alloc, &mut files, "proof", proof)?;
+    Some(files)
+}
+
 /// A desk with the files `cnf` and `proof`, whose calls of these numbers fail.
 pub fn desk_with(alloc: Global, cnf: &str, proof: &str, fails: Ids) -> Option<MemoryDesk>
     ensures { IfSome result (λ desk. IsClosed (⟦<MemoryDesk as Desk>⟧.state desk)) }
 {
-    let mut files = Seq::new(alloc);
-    files.push(named(alloc, "cnf", cnf)?).ok()?;
-    files.push(named(alloc, "proof", proof)?).ok()?;
+    let files = files_of(alloc, cnf, proof)?;
     MemoryDesk::new(alloc, files, fails, 7, 256).ok()
 }
 
@@ -79,115 +89,136 @@ pub fn is_accepted(alloc: Global, opb: &str, cnf: &str, proof: &str) -> Option<b
     Some(found.as_str() == "accepted")
 }
 
+// The same behind the first two lines of a derivation over so many constraints.
+fn told(alloc: Global, opb: &str, cnf: &str, loaded: u32, steps: &str) -> Option<String> {
+    let proof = format!(in alloc; "pseudo-Boolean derivation profile 1\nf {loaded}\n{steps}").ok()?;
+    checked(alloc, opb, cnf, proof.as_str())
+}
+
+// Beside a problem and a CNF, this is told of the steps.
+fn each_told(
+    rt: &impl Abort,
+    alloc: Global,
+    opb: &str,
+    cnf: &str,
+    loaded: u32,
+    cases: &[(&str, &str)],
+) {
+    for &(steps, expected) in cases {
+        let found = told(alloc, opb, cnf, loaded, steps);
+        assert_found(rt, found, expected);
+    }
+}
+
 const EQUATION: &str = "+1 x1 +1 x2 = 1 ;\n";
 
 const TWO_CLAUSES: &str = "p cnf 2 2\n1 2 0\n-1 -2 0\n";
 
-// The same behind the first two lines of a derivation.
-fn equation(alloc: Global, steps: &str) -> Option<String> {
-    let proof = format!(in alloc; "pseudo-Boolean derivation profile 1\nf 2\n{steps}").ok()?;
-    checked(alloc, EQUATION, TWO_CLAUSES, proof.as_str())
+#[test]
+fn steps_beside_two_clauses(rt: HostRuntime) {
+    each_told(
+        &rt,
+        rt.alloc(),
+        EQUATION,
+        TWO_CLAUSES,
+        2,
+        &[
+            ("out 1\nout 2\nend\n", "accepted"),
+            (
+                "rup +1 x1 +1 x2 >= 1 ; 1\nout 3\nrup +1 ~x1 +1 ~x2 >= 1 ; 2\nout 4\nend\n",
+                "accepted",
+            ),
+            ("out 2\n", "3: NotImplied { id: 2 }"),
+            ("out 1\nout 2\nout 1\n", "5: NoClause"),
+            (
+                "red +1 x1 >= 1 ; x1 -> 1\n",
+                "3: SetsOriginal { var: Var { index: 1 } }",
+            ),
+            ("rup +1 x1 >= 1 ;\n", "3: NotPropagated"),
+            (
+                "rup +1 x3 >= 1 ;\n",
+                "3: UnknownVar { var: Var { index: 3 } }",
+            ),
+            ("pol 1 +\n", "3: Stack"),
+            ("pol 1 2 + 3\n", "3: UnknownId { id: 3 }"),
+            (
+                "pol 1 42535295865117307932921825928971026432 *\n",
+                "3: Width",
+            ),
+            (
+                "pol 1 42535295865117307932921825928971026431 *\n",
+                "PROOF 4:1: step word",
+            ),
+            ("del 1 1\n", "3: UnknownId { id: 1 }"),
+            ("pol 1 0 d\n", "PROOF 3:7: factor"),
+        ],
+    );
 }
+
+// A unit and a clause of three weights.
+const WEIGHTS: &str = "+5 x1 +3 x2 +2 x3 >= 6 ;\n";
+
+const UNIT_AND_CLAUSE: &str = "p cnf 3 2\n1 0\n2 3 0\n";
 
 #[test]
-fn steps_beside_two_clauses(rt: HostRuntime) -> Result<(), Fail> {
-    let cases = [
-        ("out 1\nout 2\nend\n", "accepted"),
-        (
-            "rup +1 x1 +1 x2 >= 1 ; 1\nout 3\nrup +1 ~x1 +1 ~x2 >= 1 ; 2\nout 4\nend\n",
-            "accepted",
-        ),
-        ("out 2\n", "3: NotImplied { id: 2 }"),
-        ("out 1\nout 2\nout 1\n", "5: NoClause"),
-        (
-            "red +1 x1 >= 1 ; x1 -> 1\n",
-            "3: SetsOriginal { var: Var { index: 1 } }",
-        ),
-        ("rup +1 x1 >= 1 ;\n", "3: NotPropagated"),
-        (
-            "rup +1 x3 >= 1 ;\n",
-            "3: UnknownVar { var: Var { index: 3 } }",
-        ),
-        ("pol 1 +\n", "3: Stack"),
-        ("pol 1 2 + 3\n", "3: UnknownId { id: 3 }"),
-        (
-            "pol 1 42535295865117307932921825928971026432 *\n",
-            "3: Width",
-        ),
-        (
-            "pol 1 42535295865117307932921825928971026431 *\n",
-            "PROOF 4:1: step word",
-        ),
-        ("del 1 1\n", "3: UnknownId { id: 1 }"),
-        ("pol 1 0 d\n", "PROOF 3:7: factor"),
-    ];
-    for (steps, expected) in cases {
-        let found = equation(rt.alloc(), steps);
-        assert_eq!(rt; found.as_deref(), Some(expected), "at {steps}");
-    }
-    Ok(())
+fn steps_beside_a_unit_and_a_clause(rt: HostRuntime) {
+    each_told(
+        &rt,
+        rt.alloc(),
+        WEIGHTS,
+        UNIT_AND_CLAUSE,
+        1,
+        &[
+            (
+                "rup +1 x1 >= 1 ; 1\nout 2\npol 1 x1 w s\nout 3\nend\n",
+                "accepted",
+            ),
+            (
+                "rup +1 x1 >= 1 ; 1\nout 2\npol 1 x1 w s\nend\n",
+                "6: ClausesLeft",
+            ),
+            (
+                "rup +1 x1 >= 1 ; 1\nout 2\ndel 1\npol 1 x1 w s\nout 3\nend\n",
+                "6: UnknownId { id: 1 }",
+            ),
+            (
+                "rup +1 x1 >= 1 ; 1\nout 2\npol 1 x1 w s\nout 3\ndel 2\nend\n",
+                "7: OutDeleted { id: 2 }",
+            ),
+            (
+                "rup +1 x1 >= 1 ; 1\nout 2\npol 1 x1 w s\nout 3\n",
+                "PROOF 7:1: step word",
+            ),
+        ],
+    );
 }
 
-// A unit and a clause of three weights, behind the same lines.
-fn weighted(alloc: Global, steps: &str) -> Option<String> {
-    let proof = format!(in alloc; "pseudo-Boolean derivation profile 1\nf 1\n{steps}").ok()?;
-    let cnf = "p cnf 3 2\n1 0\n2 3 0\n";
-    checked(alloc, "+5 x1 +3 x2 +2 x3 >= 6 ;\n", cnf, proof.as_str())
+// A denied step before many lines that say nothing.
+fn long_proof(alloc: Global) -> Option<String> {
+    let comments = "*\n".repeat(alloc, 1000).ok()?;
+    let steps = "f 2\nred +1 x1 >= 1 ; x1 -> 1\n";
+    format!(in alloc; "pseudo-Boolean derivation profile 1\n{steps}{comments}").ok()
 }
 
-#[test]
-fn steps_beside_a_unit_and_a_clause(rt: HostRuntime) -> Result<(), Fail> {
-    let cases = [
-        (
-            "rup +1 x1 >= 1 ; 1\nout 2\npol 1 x1 w s\nout 3\nend\n",
-            "accepted",
-        ),
-        (
-            "rup +1 x1 >= 1 ; 1\nout 2\npol 1 x1 w s\nend\n",
-            "6: ClausesLeft",
-        ),
-        (
-            "rup +1 x1 >= 1 ; 1\nout 2\ndel 1\npol 1 x1 w s\nout 3\nend\n",
-            "6: UnknownId { id: 1 }",
-        ),
-        (
-            "rup +1 x1 >= 1 ; 1\nout 2\npol 1 x1 w s\nout 3\ndel 2\nend\n",
-            "7: OutDeleted { id: 2 }",
-        ),
-        (
-            "rup +1 x1 >= 1 ; 1\nout 2\npol 1 x1 w s\nout 3\n",
-            "PROOF 7:1: step word",
-        ),
-    ];
-    for (steps, expected) in cases {
-        let found = weighted(rt.alloc(), steps);
-        assert_eq!(rt; found.as_deref(), Some(expected), "at {steps}");
-    }
-    Ok(())
-}
-
-// A denied step before many lines that say nothing, over a desk whose call of this number fails.
-fn denied_where(alloc: Global, call: u64) -> Option<String> {
-    let mut proof = String::new(alloc);
-    proof
-        .push_str("pseudo-Boolean derivation profile 1\nf 2\nred +1 x1 >= 1 ; x1 -> 1\n")
-        .ok()?;
-    for _ in 0..1000 {
-        proof.push_str("*\n").ok()?;
-    }
+// What is told of a derivation over a desk whose call of this number fails.
+fn told_where(alloc: Global, proof: &str, call: u64) -> Option<String> {
     let fails = Ids::from_vec(vec![in alloc; call].ok()?);
-    let mut desk = desk_with(alloc, TWO_CLAUSES, proof.as_str(), fails)?;
+    let mut desk = desk_with(alloc, TWO_CLAUSES, proof, fails)?;
     answer(alloc, EQUATION, &mut desk)
 }
 
+fn denied_where(alloc: Global, call: u64) -> Option<String> {
+    let proof = long_proof(alloc)?;
+    told_where(alloc, proof.as_str(), call)
+}
+
 #[test]
-fn nothing_is_read_behind_a_denied_step(rt: HostRuntime) -> Result<(), Fail> {
+fn nothing_is_read_behind_a_denied_step(rt: HostRuntime) {
     let found = denied_where(rt.alloc(), 100);
     let expected = "3: SetsOriginal { var: Var { index: 1 } }";
-    assert_eq!(rt; found.as_deref(), Some(expected));
+    assert_found(&rt, found, expected);
     for call in 1..10 {
         let found = denied_where(rt.alloc(), call);
-        assert_eq!(rt; found.as_deref(), Some("ReadFault"), "call {call}");
+        assert_found(&rt, found, "ReadFault");
     }
-    Ok(())
 }

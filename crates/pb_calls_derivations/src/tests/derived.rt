@@ -1,10 +1,10 @@
 // Derivations that families make, checked beside their clauses.
+use super::assert_found;
 use super::changed_lines::report;
 use super::checking::is_accepted;
 use super::files::{Kind, Sum, made};
 use std::alloc::Global;
 use std::process::Abort;
-use std::test::Fail;
 
 const THREE: &str = "-1 x1 -1 x2 -1 x3 >= -1 ;";
 
@@ -41,7 +41,7 @@ fn proof_of(alloc: Global, kind: Kind, sum: Sum) -> Option<String> {
 }
 
 #[test]
-fn three_in_pairs_are_derived(rt: HostRuntime) -> Result<(), Fail> {
+fn three_in_pairs_are_derived(rt: HostRuntime) {
     let sum = Sum {
         opb: THREE,
         first: 4,
@@ -50,8 +50,7 @@ fn three_in_pairs_are_derived(rt: HostRuntime) -> Result<(), Fail> {
     let found = proof_of(rt.alloc(), Kind::Pairs, sum);
     let expected = "pseudo-Boolean derivation profile 1\nf 1\nrup +1 ~x1 +1 ~x2 >= 1 ; 1\nout 2\n\
 rup +1 ~x1 +1 ~x3 >= 1 ; 1\nout 3\nrup +1 ~x2 +1 ~x3 >= 1 ; 1\nout 4\nend\n";
-    assert_eq!(rt; found.as_deref(), Some(expected));
-    Ok(())
+    assert_found(&rt, found, expected);
 }
 
 // What is told of a derivation without other statements.
@@ -68,7 +67,7 @@ fn report_of(alloc: Global, kind: Kind, opb: &str, first: u32) -> Option<String>
 fn each_reported(rt: &impl Abort, alloc: Global, cases: &[(Kind, &str, u32, &str)]) {
     for &(kind, opb, first, expected) in cases {
         let found = report_of(alloc, kind, opb, first);
-        assert_eq!(rt; found.as_deref(), Some(expected), "{kind:?} at {opb}");
+        assert_found(rt, found, expected);
     }
 }
 
@@ -76,64 +75,74 @@ fn each_reported(rt: &impl Abort, alloc: Global, cases: &[(Kind, &str, u32, &str
 // clause has need), give way to the sum (at most one implies each clause of two of its literals), or to what was put out before
 // (a unit implies a clause with its literal).
 #[test]
-fn at_most_one_is_derived(rt: HostRuntime) -> Result<(), Fail> {
-    let cases = [
-        (Kind::Pairs, THREE, 4, "9: 0 0 3 0"),
-        (Kind::Ladder, THREE, 4, "19: 2 2 0 0"),
-        (Kind::Pairs, SIX, 7, "33: 0 0 15 0"),
-        (Kind::Ladder, SIX, 7, "46: 5 5 0 0"),
-        (Kind::Grid, SIX, 7, "54: 7 6 0 0"),
-    ];
-    each_reported(&rt, rt.alloc(), &cases);
-    Ok(())
+fn at_most_one_is_derived(rt: HostRuntime) {
+    each_reported(
+        &rt,
+        rt.alloc(),
+        &[
+            (Kind::Pairs, THREE, 4, "9: 0 0 3 0"),
+            (Kind::Ladder, THREE, 4, "19: 2 2 0 0"),
+            (Kind::Pairs, SIX, 7, "33: 0 0 15 0"),
+            (Kind::Ladder, SIX, 7, "46: 5 5 0 0"),
+            (Kind::Grid, SIX, 7, "54: 7 6 0 0"),
+        ],
+    );
 }
 
 #[test]
-fn counts_are_derived(rt: HostRuntime) -> Result<(), Fail> {
-    let cases = [
-        (Kind::Counter, FOUR, 5, "47: 6 8 0 1"),
-        (Kind::Totalizer, FOUR, 5, "52: 7 9 0 0"),
-        (Kind::Totalizer, FIVE, 6, "80: 11 14 0 0"),
-    ];
-    each_reported(&rt, rt.alloc(), &cases);
-    Ok(())
+fn counts_are_derived(rt: HostRuntime) {
+    each_reported(
+        &rt,
+        rt.alloc(),
+        &[
+            (Kind::Counter, FOUR, 5, "47: 6 8 0 1"),
+            (Kind::Totalizer, FOUR, 5, "52: 7 9 0 0"),
+            (Kind::Totalizer, FIVE, 6, "80: 11 14 0 0"),
+        ],
+    );
 }
 
 #[test]
-fn diagrams_are_derived(rt: HostRuntime) -> Result<(), Fail> {
-    let cases = [
-        (Kind::Diagram, FALLING, 4, "22: 3 3 0 0"),
-        (Kind::Diagram, MEETING, 5, "34: 5 5 0 0"),
-        (Kind::Diagram, MIXED, 5, "39: 6 6 0 0"),
-        (Kind::Diagram, GREAT, 4, "22: 3 3 0 0"),
-        (Kind::Diagram, NEAR, 4, "22: 3 3 0 0"),
-    ];
-    each_reported(&rt, rt.alloc(), &cases);
-    Ok(())
+fn diagrams_are_derived(rt: HostRuntime) {
+    each_reported(
+        &rt,
+        rt.alloc(),
+        &[
+            (Kind::Diagram, FALLING, 4, "22: 3 3 0 0"),
+            (Kind::Diagram, MEETING, 5, "34: 5 5 0 0"),
+            (Kind::Diagram, MIXED, 5, "39: 6 6 0 0"),
+            (Kind::Diagram, GREAT, 4, "22: 3 3 0 0"),
+            (Kind::Diagram, NEAR, 4, "22: 3 3 0 0"),
+        ],
+    );
 }
 
 // No clause has need of what an output of the root below the last one means where it is true.
 #[test]
-fn trees_are_derived(rt: HostRuntime) -> Result<(), Fail> {
-    let cases = [
-        (Kind::Tree, FALLING, 4, "49: 8 12 0 0"),
-        (Kind::Tree, GREAT, 4, "49: 8 12 0 0"),
-        (Kind::Tree, NEAR, 4, "36: 5 7 0 0"),
-    ];
-    each_reported(&rt, rt.alloc(), &cases);
-    Ok(())
+fn trees_are_derived(rt: HostRuntime) {
+    each_reported(
+        &rt,
+        rt.alloc(),
+        &[
+            (Kind::Tree, FALLING, 4, "49: 8 12 0 0"),
+            (Kind::Tree, GREAT, 4, "49: 8 12 0 0"),
+            (Kind::Tree, NEAR, 4, "36: 5 7 0 0"),
+        ],
+    );
 }
 
 // All adders stand in one block, so there is one running sum, which goes last. At most one implies each clause of two of its
 // literals and others.
 #[test]
-fn adders_are_derived(rt: HostRuntime) -> Result<(), Fail> {
-    let cases = [
-        (Kind::Adder, FALLING, 4, "49: 5 5 0 0"),
-        (Kind::Adder, THREE, 4, "41: 3 3 7 0"),
-    ];
-    each_reported(&rt, rt.alloc(), &cases);
-    Ok(())
+fn adders_are_derived(rt: HostRuntime) {
+    each_reported(
+        &rt,
+        rt.alloc(),
+        &[
+            (Kind::Adder, FALLING, 4, "49: 5 5 0 0"),
+            (Kind::Adder, THREE, 4, "41: 3 3 7 0"),
+        ],
+    );
 }
 
 // Whether a family derives what the second of two statements leaves, with fresh variables from 20 on.
@@ -153,22 +162,31 @@ fn is_second_derived(alloc: Global, kind: Kind, opb: &str) -> Option<bool> {
     )
 }
 
-#[test]
-fn a_second_statement_is_derived(rt: HostRuntime) -> Result<(), Fail> {
-    let cases = [
-        (Kind::Pairs, NINE),
-        (Kind::Ladder, NINE),
-        (Kind::Grid, NINE),
-        (Kind::Counter, FIVE),
-        (Kind::Totalizer, FIVE),
-        (Kind::Tree, MIXED),
-        (Kind::Diagram, MIXED),
-        (Kind::Adder, MIXED),
-        (Kind::Adder, EIGHTS),
-    ];
-    for (kind, opb) in cases {
-        let found = is_second_derived(rt.alloc(), kind, opb);
-        assert!(rt; found == Some(true), "{kind:?} at {opb}");
+// Whether each of these is derived so.
+fn are_second_derived(alloc: Global, cases: &[(Kind, &str)]) -> bool {
+    for &(kind, opb) in cases {
+        if is_second_derived(alloc, kind, opb) != Some(true) {
+            return false;
+        }
     }
-    Ok(())
+    true
+}
+
+#[test]
+fn a_second_statement_is_derived(rt: HostRuntime) {
+    let are_derived = are_second_derived(
+        rt.alloc(),
+        &[
+            (Kind::Pairs, NINE),
+            (Kind::Ladder, NINE),
+            (Kind::Grid, NINE),
+            (Kind::Counter, FIVE),
+            (Kind::Totalizer, FIVE),
+            (Kind::Tree, MIXED),
+            (Kind::Diagram, MIXED),
+            (Kind::Adder, MIXED),
+            (Kind::Adder, EIGHTS),
+        ],
+    );
+    assert!(rt; are_derived);
 }

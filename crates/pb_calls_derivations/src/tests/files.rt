@@ -1,9 +1,11 @@
 // The texts that families make of what a statement leaves: a CNF, and its derivation.
 ghost use Rattle.std.specs.Prelude.{◌≤◌, ◌<◌, ◌^◌};
+ghost use Rattle.pb_family.specs.Budgets.{IfFits};
 ghost use Rattle.pb_family.specs.Families.{VarsBelow};
 
 use pb_adder::Adder;
 use pb_amo::{Ladder, Pairwise, ProductGrid};
+use pb_base::NoMemory;
 use pb_counter::Counter;
 use pb_diagram::Diagram;
 use pb_family::{Built, Derive, Family, StepTextSink, TextSink, are_below, are_ones, is_light};
@@ -64,8 +66,18 @@ fn files_of<F: Derive>(alloc: Global, family: &F, first: u32, loaded: u64) -> Op
     Some(Files { cnf, proof })
 }
 
+// The same of a family that fits its budget.
+fn built_files<F: Derive>(alloc: Global, built: &Built<F>, first: u32, loaded: u64) -> Option<Files>
+    requires { IfFits (λ family. VarsBelow first (F.Family.constraint family).terms) built.now }
+{
+    match built {
+        Built::Fits(family) => files_of(alloc, family, first, loaded),
+        Built::Over => None,
+    }
+}
+
 /// A family.
-#[derive(Clone, Copy, Debug)]
+#[derive(Clone, Copy)]
 pub enum Kind {
     Pairs,
     Ladder,
@@ -112,9 +124,9 @@ fn totalizer(alloc: Global, of: &AtMost, first: u32, loaded: u64) -> Option<File
     if !are_ones(of.terms()) || !are_below(of.terms(), first) {
         return None;
     }
-    match Totalizer::build(alloc, of, 1000).ok()? {
-        Built::Fits(totalizer) => files_of(alloc, &totalizer, first, loaded),
-        Built::Over => None,
+    match Totalizer::build(alloc, of, 1000) {
+        Ok(built) => built_files(alloc, &built, first, loaded),
+        Err(NoMemory) => None,
     }
 }
 
@@ -122,9 +134,9 @@ fn tree(alloc: Global, of: &AtMost, first: u32, loaded: u64) -> Option<Files> {
     if !is_light(of) || !are_below(of.terms(), first) {
         return None;
     }
-    match Weighted::build(alloc, of, 1000).ok()? {
-        Built::Fits(tree) => files_of(alloc, &tree, first, loaded),
-        Built::Over => None,
+    match Weighted::build(alloc, of, 1000) {
+        Ok(built) => built_files(alloc, &built, first, loaded),
+        Err(NoMemory) => None,
     }
 }
 
@@ -132,9 +144,9 @@ fn diagram(alloc: Global, of: &AtMost, first: u32, loaded: u64) -> Option<Files>
     if !is_light(of) || !are_below(of.terms(), first) {
         return None;
     }
-    match Diagram::build(alloc, of, 1000).ok()? {
-        Built::Fits(diagram) => files_of(alloc, &diagram, first, loaded),
-        Built::Over => None,
+    match Diagram::build(alloc, of, 1000) {
+        Ok(built) => built_files(alloc, &built, first, loaded),
+        Err(NoMemory) => None,
     }
 }
 

@@ -4,6 +4,7 @@ ghost use Rattle.pb_base.specs.Problems.{IsWithinLimits};
 ghost use Rattle.pb_norm.specs.Products.{loaded_of};
 ghost use Rattle.pb_steps.specs.Steps.{IsRule, IsSpelled};
 
+use super::assert_found;
 use pb_base::{Clause, Problem};
 use pb_norm::{Linears, load};
 use pb_opb::read_opb;
@@ -11,7 +12,6 @@ use pb_rules::{Database, RuleFault};
 use pb_samples::lits;
 use pb_steps::{Step, read_step};
 use std::alloc::Global;
-use std::test::Fail;
 
 // Loaded constraints, beside fresh variables up to a number.
 fn database_with(alloc: Global, problem: &Problem, loaded: &Linears, vars: u32) -> Option<Database>
@@ -54,13 +54,18 @@ fn line_answer(alloc: Global, db: &mut Database, line: &str, clause: &str) -> Op
     }
 }
 
+// Adds a line.
+fn push_line(text: &mut String, line: Option<String>) -> Option<()> {
+    text.push_str(line?.as_str()).ok()?;
+    text.push('\n').ok()
+}
+
 // The answers to lines, one after another.
 fn answers(alloc: Global, db: &mut Database, lines: &[(&str, &str)]) -> Option<String> {
     let mut text = String::new(alloc);
     for (line, clause) in lines {
-        let found = line_answer(alloc, db, line, clause)?;
-        text.push_str(found.as_str()).ok()?;
-        text.push('\n').ok()?;
+        let found = line_answer(alloc, db, line, clause);
+        push_line(&mut text, found)?;
     }
     Some(text)
 }
@@ -72,42 +77,48 @@ fn answers_of(alloc: Global, lines: &[(&str, &str)]) -> Option<String> {
 }
 
 #[test]
-fn steps_are_allowed_or_denied(rt: HostRuntime) -> Result<(), Fail> {
-    let lines = [
-        ("rup +1 x1 >= 1 ; 1", ""),
-        ("rup +1 x2 >= 1 ; 1", ""),
-        ("pol 1 x1 w s", ""),
-        ("pol 1 +", ""),
-        ("pol 1 7 +", ""),
-        ("red +1 ~x4 +1 x2 >= 1 ; x4 -> 0", ""),
-        ("red +1 x4 +1 ~x2 >= 1 ; x4 -> 1", ""),
-        ("red +1 x4 >= 1 ; x4 -> 1", ""),
-        ("red +1 x1 >= 1 ; x1 -> 1", ""),
-        ("out 2", "x1"),
-        ("out 3", "x1"),
-        ("out 3", "x2 x3"),
-        ("out 3", ""),
-        ("del 1 1", ""),
-        ("del 1 2", ""),
-        ("del 1 4", ""),
-        ("rup >= 0 ; 1", ""),
-        ("rup +1 x5 >= 0 ;", ""),
-    ];
-    let found = answers_of(rt.alloc(), &lines);
+fn steps_are_allowed_or_denied(rt: HostRuntime) {
+    let found = answers_of(
+        rt.alloc(),
+        &[
+            ("rup +1 x1 >= 1 ; 1", ""),
+            ("rup +1 x2 >= 1 ; 1", ""),
+            ("pol 1 x1 w s", ""),
+            ("pol 1 +", ""),
+            ("pol 1 7 +", ""),
+            ("red +1 ~x4 +1 x2 >= 1 ; x4 -> 0", ""),
+            ("red +1 x4 +1 ~x2 >= 1 ; x4 -> 1", ""),
+            ("red +1 x4 >= 1 ; x4 -> 1", ""),
+            ("red +1 x1 >= 1 ; x1 -> 1", ""),
+            ("out 2", "x1"),
+            ("out 3", "x1"),
+            ("out 3", "x2 x3"),
+            ("out 3", ""),
+            ("del 1 1", ""),
+            ("del 1 2", ""),
+            ("del 1 4", ""),
+            ("rup >= 0 ; 1", ""),
+            ("rup +1 x5 >= 0 ;", ""),
+        ],
+    );
     let expected = "Id(2)\nNotPropagated\nId(3)\nStack\nUnknownId { id: 7 }\nId(4)\nId(5)\n\
 Obligation { id: 4 }\nSetsOriginal { var: Var { index: 1 } }\nDone\nNotImplied { id: 3 }\nDone\n\
 NoClause\nUnknownId { id: 1 }\nOutDeleted { id: 2 }\nDone\nUnknownId { id: 1 }\n\
 UnknownVar { var: Var { index: 5 } }\n";
-    assert_eq!(rt; found.as_deref(), Some(expected));
-    Ok(())
+    assert_found(&rt, found, expected);
+}
+
+fn push_id(alloc: Global, id: Option<u64>, text: &mut String) -> Option<()> {
+    let found = format!(in alloc; "{id:?} ").ok()?;
+    text.push_str(found.as_str()).ok()
 }
 
 // For each literal the least id, from a number on, of a constraint that has its variable.
 fn first_ids(alloc: Global, db: &Database, names: &str, from: u64) -> Option<String> {
+    let lits = lits(alloc, names)?;
     let mut text = String::new(alloc);
-    for lit in lits(alloc, names)? {
-        let found = format!(in alloc; "{:?} ", db.naming(lit.var, from)).ok()?;
-        text.push_str(found.as_str()).ok()?;
+    for lit in &lits {
+        push_id(alloc, db.naming(lit.var, from), &mut text)?;
     }
     Some(text)
 }
@@ -131,10 +142,9 @@ fn first_ids_of(alloc: Global, names: &str, from: u64) -> Option<String> {
 }
 
 #[test]
-fn constraints_are_found_by_variables(rt: HostRuntime) -> Result<(), Fail> {
+fn constraints_are_found_by_variables(rt: HostRuntime) {
     let all = first_ids_of(rt.alloc(), "x1 x2 x3 x4", 1);
-    assert_eq!(rt; all.as_deref(), Some("None Some(2) Some(2) None "));
+    assert_found(&rt, all, "None Some(2) Some(2) None ");
     let later = first_ids_of(rt.alloc(), "x2 x3", 3);
-    assert_eq!(rt; later.as_deref(), Some("Some(3) Some(3) "));
-    Ok(())
+    assert_found(&rt, later, "Some(3) Some(3) ");
 }

@@ -1,12 +1,13 @@
 ghost use Rattle.std.specs.Prelude.{◌≡◌, ◌<◌, ◌≤◌, ◌^◌, ◌∷◌, [], true};
 ghost use Rattle.std.specs.Option.{IfSome};
+ghost use Rattle.pb_family.specs.Budgets.{IfFits};
 ghost use Rattle.pb_family.specs.Families.{VarsBelow};
 
-use pb_base::{Lit, Lits, Var};
+use super::assert_found;
+use pb_base::{Lit, Lits, NoMemory, Var};
 use pb_family::{Built, Pair, TextSink};
 use pb_totalizer::Exact;
 use std::alloc::Global;
-use std::test::Fail;
 
 // The numbers and the clauses of a pair.
 fn pair_text<P: Pair>(alloc: Global, pair: &P, first: u32) -> Option<String>
@@ -40,27 +41,32 @@ fn three(alloc: Global) -> Option<Lits>
     Some(Lits::from_vec(lits))
 }
 
-// The totalizer of exactly one of three literals, within a budget.
-fn one_of_three(alloc: Global, budget: u64) -> Option<String> {
-    let lits = three(alloc)?;
-    match Exact::build(alloc, &lits, 1, budget).ok()? {
-        Built::Fits(exact) => pair_text(alloc, &exact, 4),
+// The same of one that fits its budget.
+fn built_text(alloc: Global, built: &Built<Exact>) -> Option<String>
+    requires { IfFits (λ exact. VarsBelow 4 (⟦<Exact as Pair>⟧.most exact).terms) built.now }
+{
+    match built {
+        Built::Fits(exact) => pair_text(alloc, exact, 4),
         Built::Over => "over".to_string(alloc).ok(),
     }
 }
 
-#[test]
-fn clauses_lead_both_ways(rt: HostRuntime) -> Result<(), Fail> {
-    let found = one_of_three(rt.alloc(), 4);
-    let expected = "4 15\n-3 4 0\n-2 4 0\n-2 -3 5 0\n2 3 -4 0\n2 -5 0\n3 -5 0\n-4 6 0\n-5 7 0\n\
--1 6 0\n-1 -4 7 0\n1 4 -6 0\n1 5 -7 0\n4 -7 0\n6 0\n-7 0\n";
-    assert_eq!(rt; found.as_deref(), Some(expected));
-    Ok(())
+// The totalizer of exactly one of three literals, within a budget.
+fn one_of_three(alloc: Global, budget: u64) -> Option<String> {
+    let lits = three(alloc)?;
+    match Exact::build(alloc, &lits, 1, budget) {
+        Ok(built) => built_text(alloc, &built),
+        Err(NoMemory) => None,
+    }
 }
 
 #[test]
-fn three_are_too_few(rt: HostRuntime) -> Result<(), Fail> {
+fn clauses_lead_both_ways_within_the_budget(rt: HostRuntime) {
+    let found = one_of_three(rt.alloc(), 4);
+    let expected = "4 15\n-3 4 0\n-2 4 0\n-2 -3 5 0\n2 3 -4 0\n2 -5 0\n3 -5 0\n-4 6 0\n-5 7 0\n\
+-1 6 0\n-1 -4 7 0\n1 4 -6 0\n1 5 -7 0\n4 -7 0\n6 0\n-7 0\n";
+    assert_found(&rt, found, expected);
+    // Three are too few.
     let found = one_of_three(rt.alloc(), 3);
-    assert_eq!(rt; found.as_deref(), Some("over"));
-    Ok(())
+    assert_found(&rt, found, "over");
 }

@@ -1,23 +1,32 @@
 ghost use Rattle.std.specs.Prelude.{◌≤◌};
 
-use pb_family::{Built, are_below, is_light};
+use super::{assert_found, built_text};
+use pb_base::NoMemory;
+use pb_family::{are_below, is_light};
 use pb_gentot::Weighted;
-use pb_samples::{at_most, family_text};
+use pb_norm::AtMost;
+use pb_samples::at_most;
 use std::alloc::Global;
-use std::test::Fail;
 
-// The numbers and the clauses of the generalized totalizer of what a statement leaves, within a budget.
+// The numbers and the clauses of the generalized totalizer of a sum, within a budget.
+fn weighted_of(alloc: Global, of: &AtMost, budget: u64, first: u32) -> Option<String>
+    requires { budget ≤ 10000000 }
+{
+    if !is_light(of) || !are_below(of.terms(), first) {
+        return None;
+    }
+    match Weighted::build(alloc, of, budget) {
+        Ok(built) => built_text(alloc, &built, first),
+        Err(NoMemory) => None,
+    }
+}
+
+// The same of what a statement leaves.
 fn weighted(alloc: Global, text: &str, budget: u64, first: u32) -> Option<String>
     requires { budget ≤ 10000000 }
 {
     let of = at_most(alloc, text)?;
-    if !is_light(&of) || !are_below(of.terms(), first) {
-        return None;
-    }
-    match Weighted::build(alloc, &of, budget).ok()? {
-        Built::Fits(weighted) => family_text(alloc, &weighted, first),
-        Built::Over => "over".to_string(alloc).ok(),
-    }
+    weighted_of(alloc, &of, budget, first)
 }
 
 // At most 5 of 4, 3 and 2: sums that a table holds.
@@ -30,19 +39,16 @@ const EXPECTED: &str = "8 11\n-2 5 0\n-3 4 0\n-2 -3 6 0\n-1 9 0\n-4 7 0\n-5 8 0\
 -1 -4 11 0\n-1 -5 11 0\n-1 -6 11 0\n-11 0\n";
 
 #[test]
-fn three_terms(rt: HostRuntime) -> Result<(), Fail> {
-    for text in [SMALL, LARGE] {
-        let found = weighted(rt.alloc(), text, 8, 4);
-        assert_eq!(rt; found.as_deref(), Some(EXPECTED), "at {text}");
+fn three_terms_by_budget(rt: HostRuntime) {
+    // Seven are too few.
+    let cases = [
+        (SMALL, 8, EXPECTED),
+        (LARGE, 8, EXPECTED),
+        (SMALL, 7, "over"),
+        (LARGE, 7, "over"),
+    ];
+    for (text, budget, expected) in cases {
+        let found = weighted(rt.alloc(), text, budget, 4);
+        assert_found(&rt, found, expected);
     }
-    Ok(())
-}
-
-#[test]
-fn seven_are_too_few(rt: HostRuntime) -> Result<(), Fail> {
-    for text in [SMALL, LARGE] {
-        let found = weighted(rt.alloc(), text, 7, 4);
-        assert_eq!(rt; found.as_deref(), Some("over"), "at {text}");
-    }
-    Ok(())
 }

@@ -58,14 +58,21 @@ fn copy<D: Desk>(
 
 const TEXT: &str = "+1 x1;\n";
 
-// Whether a copy of the text ended well, what was made in slot 1 and what was said.
+// Whether a copy of the text ended well.
+fn is_copied<D: Desk>(alloc: Global, desk: &mut D, limit: u64) -> bool
+    requires { IsClosed (D.state desk.old) }
+{
+    match copy(alloc, desk, "in", "out", limit) {
+        Ok(text) => text.as_slice() == TEXT.as_bytes(),
+        Err(_) => false,
+    }
+}
+
+// The same, what was made in slot 1 and what was said.
 fn copied_on(alloc: Global, desk: &mut MemoryDesk, limit: u64) -> Option<String>
     requires { IsClosed (⟦<MemoryDesk as Desk>⟧.state desk.old) }
 {
-    let end = match copy(alloc, desk, "in", "out", limit) {
-        Ok(text) => text.as_slice() == TEXT.as_bytes(),
-        Err(_) => false,
-    };
+    let end = is_copied(alloc, desk, limit);
     let made = str::from_utf8(desk.made(1).unwrap_or(b"nothing")).ok()?;
     let said = str::from_utf8(desk.said()).ok()?;
     format!(in alloc; "{end} {made:?} {said:?}").ok()

@@ -3,12 +3,17 @@ use super::{assert_found, parts};
 use pb_steps::{Step, StepFault, read_step, write_step};
 use std::alloc::Global;
 
+// A line without its end.
+fn line_text(alloc: Global, line: &[u8]) -> Option<String> {
+    let line = str::from_utf8(line).ok()?.strip_suffix("\n")?;
+    line.to_string(alloc).ok()
+}
+
 // The line of a step without its end, behind what stands before it.
 fn step_text(alloc: Global, step: &Step) -> Option<String> {
     let mut out = Vec::from_slice(alloc, b"<").ok()?;
     write_step(alloc, step, &mut out).ok()?;
-    let line = str::from_utf8(&out).ok()?.strip_suffix("\n")?;
-    line.to_string(alloc).ok()
+    line_text(alloc, &out)
 }
 
 fn fault_text(alloc: Global, fault: StepFault) -> Option<String> {

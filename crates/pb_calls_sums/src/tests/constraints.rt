@@ -1,9 +1,9 @@
-use pb_base::Clause;
+use super::assert_found;
+use pb_base::{Clause, NoMemory};
 use pb_family::are_below;
-use pb_norm::{Linear, Rest, clause_form, reduce, value};
+use pb_norm::{Linear, Reduced, Rest, clause_form, reduce, value};
 use pb_samples::{linear, linear_text, lits, lits_text, loaded};
 use std::alloc::Global;
-use std::test::Fail;
 
 // A constraint's normal form.
 fn normal(alloc: Global, text: &str) -> Option<String> {
@@ -12,13 +12,12 @@ fn normal(alloc: Global, text: &str) -> Option<String> {
 }
 
 #[test]
-fn terms_in_any_order_have_one_form(rt: HostRuntime) -> Result<(), Fail> {
-    let form = Some("3 x1 2 ~x2 4 ~x4 >= 3");
+fn terms_in_any_order_have_one_form(rt: HostRuntime) {
+    let form = "3 x1 2 ~x2 4 ~x4 >= 3";
     let ordered = normal(rt.alloc(), "3 x1 -2 x2 0 x3 4 ~x4 >= 1 ;");
-    assert_eq!(rt; ordered.as_deref(), form);
+    assert_found(&rt, ordered, form);
     let unordered = normal(rt.alloc(), "4 ~x4 1 x1 -2 x2 2 x1 >= 1 ;");
-    assert_eq!(rt; unordered.as_deref(), form);
-    Ok(())
+    assert_found(&rt, unordered, form);
 }
 
 // Whether a constraint over three variables holds under values of these.
@@ -36,18 +35,15 @@ fn holds_of(alloc: Global, text: &str, model: &[bool; 3]) -> Option<bool> {
 }
 
 #[test]
-fn a_constraint_holds_by_its_weights(rt: HostRuntime) -> Result<(), Fail> {
+fn a_constraint_holds_by_its_weights(rt: HostRuntime) {
     let text = "5 x1 3 x2 2 x3 >= 6 ;";
     let both = holds_of(rt.alloc(), text, &[true, false, true]);
-    assert!(rt; both == Some(true));
     let light = holds_of(rt.alloc(), text, &[false, true, true]);
-    assert!(rt; light == Some(false));
-    Ok(())
+    assert!(rt; both == Some(true) && light == Some(false));
 }
 
 // The units of a constraint, and the clause that is left.
-fn units_and_clause(alloc: Global, text: &str) -> Option<String> {
-    let reduced = reduce(alloc, &linear(alloc, text)?).ok()?;
+fn reduced_text(alloc: Global, reduced: &Reduced) -> Option<String> {
     let units = lits_text(alloc, reduced.units.as_slice())?;
     let Rest::Clause(lits) = &reduced.rest else {
         return None;
@@ -56,11 +52,19 @@ fn units_and_clause(alloc: Global, text: &str) -> Option<String> {
     format!(in alloc; "{};{}", units.as_str(), clause.as_str()).ok()
 }
 
+// The same of a text.
+fn units_and_clause(alloc: Global, text: &str) -> Option<String> {
+    let constraint = linear(alloc, text)?;
+    match reduce(alloc, &constraint) {
+        Ok(reduced) => reduced_text(alloc, &reduced),
+        Err(NoMemory) => None,
+    }
+}
+
 #[test]
-fn forces_one_literal(rt: HostRuntime) -> Result<(), Fail> {
+fn forces_one_literal(rt: HostRuntime) {
     let found = units_and_clause(rt.alloc(), "5 x1 3 x2 2 x3 >= 6 ;");
-    assert_eq!(rt; found.as_deref(), Some(" x1; x2 x3"));
-    Ok(())
+    assert_found(&rt, found, " x1; x2 x3");
 }
 
 // The constraints of a text, each in a line.
@@ -76,11 +80,10 @@ fn loaded_text(alloc: Global, text: &str) -> Option<String> {
 }
 
 #[test]
-fn loads_both_halves(rt: HostRuntime) -> Result<(), Fail> {
+fn loads_both_halves(rt: HostRuntime) {
     let found = loaded_text(rt.alloc(), "-4 x3 3 ~x2 1 x1 = -2 ;");
     let expected = "1 x1 3 ~x2 4 ~x3 >= 2\n1 ~x1 3 x2 4 x3 >= 6\n";
-    assert_eq!(rt; found.as_deref(), Some(expected));
-    Ok(())
+    assert_found(&rt, found, expected);
 }
 
 // The constraint of a clause.
@@ -91,8 +94,7 @@ fn clause_text(alloc: Global, text: &str) -> Option<String> {
 }
 
 #[test]
-fn a_clause_names_each_literal_once(rt: HostRuntime) -> Result<(), Fail> {
+fn a_clause_names_each_literal_once(rt: HostRuntime) {
     let found = clause_text(rt.alloc(), "x5 ~x4 x5");
-    assert_eq!(rt; found.as_deref(), Some("1 ~x4 1 x5 >= 1"));
-    Ok(())
+    assert_found(&rt, found, "1 ~x4 1 x5 >= 1");
 }

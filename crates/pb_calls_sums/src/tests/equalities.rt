@@ -1,10 +1,11 @@
 ghost use Rattle.pb_choice.specs.laws.EqualPlans.{IsPlannedBelow};
 
+use super::assert_found;
 use pb_choice::{EqualMode, EqualPlan, MAX_BUDGET, Options, plan_equal};
 use pb_family::{TextSink, are_below};
+use pb_norm::Linear;
 use pb_samples::loaded;
 use std::alloc::Global;
-use std::test::Fail;
 
 // The numbers of fresh variables and clauses of a plan, and the clauses.
 fn plan_text(alloc: Global, plan: &EqualPlan<'_>) -> Option<String>
@@ -20,10 +21,9 @@ fn plan_text(alloc: Global, plan: &EqualPlan<'_>) -> Option<String>
     format!(in alloc; "{} {}\n{lines}", counts.fresh, counts.clauses).ok()
 }
 
-// The same of an equality of the variables from 1 to 3.
-fn planned(alloc: Global, text: &str, equal: EqualMode, budget: u64) -> Option<String> {
-    let halves = loaded(alloc, text)?;
-    let [lower, upper] = halves.as_slice() else {
+// The same of the halves of an equality of the variables from 1 to 3.
+fn plan_of(alloc: Global, halves: &[Linear], equal: EqualMode, budget: u64) -> Option<String> {
+    let [lower, upper] = halves else {
         return None;
     };
     if lower.weight() >= 1 << 100 || upper.weight() >= 1 << 100 || budget > MAX_BUDGET {
@@ -41,6 +41,12 @@ fn planned(alloc: Global, text: &str, equal: EqualMode, budget: u64) -> Option<S
     plan_text(alloc, &plan)
 }
 
+// The same of an equality.
+fn planned(alloc: Global, text: &str, equal: EqualMode, budget: u64) -> Option<String> {
+    let halves = loaded(alloc, text)?;
+    plan_of(alloc, halves.as_slice(), equal, budget)
+}
+
 const ONE_OF_THREE: &str = "+1 x1 +1 x2 +1 x3 = 1 ;";
 
 const BOTH_WAYS: &str =
@@ -50,7 +56,7 @@ const BOTH_WAYS: &str =
 const HALF_BY_HALF: &str = "0 4\n1 2 3 0\n-1 -2 0\n-1 -3 0\n-2 -3 0\n";
 
 #[test]
-fn three_literals(rt: HostRuntime) -> Result<(), Fail> {
+fn three_literals(rt: HostRuntime) {
     let cases = [
         (EqualMode::Joint, 4, BOTH_WAYS),
         (EqualMode::Joint, 3, HALF_BY_HALF),
@@ -58,14 +64,13 @@ fn three_literals(rt: HostRuntime) -> Result<(), Fail> {
     ];
     for (equal, budget, expected) in cases {
         let found = planned(rt.alloc(), ONE_OF_THREE, equal, budget);
-        assert_eq!(rt; found.as_deref(), Some(expected));
+        assert_found(&rt, found, expected);
     }
-    Ok(())
 }
 
 // Two literals are too few, none of three and all of three are no number, nor is half of one.
 #[test]
-fn other_equalities(rt: HostRuntime) -> Result<(), Fail> {
+fn other_equalities(rt: HostRuntime) {
     let cases = [
         ("+1 x1 +1 x2 = 1 ;", "0 2\n1 2 0\n-1 -2 0\n"),
         ("+1 x1 +1 x2 +1 x3 = 0 ;", "0 3\n-1 0\n-2 0\n-3 0\n"),
@@ -77,7 +82,6 @@ fn other_equalities(rt: HostRuntime) -> Result<(), Fail> {
     ];
     for (text, expected) in cases {
         let found = planned(rt.alloc(), text, EqualMode::Joint, 4);
-        assert_eq!(rt; found.as_deref(), Some(expected));
+        assert_found(&rt, found, expected);
     }
-    Ok(())
 }

@@ -1,11 +1,11 @@
+// The desk of the system, over one that answers by a list, and over real files.
 ghost use Rattle.std.specs.Prelude.{◌≤◌, IfOk};
 ghost use Rattle.pb_desk.specs.Desk.{IsClosed};
 
-use crate::{FileId, Handle, Host, RealDesk, System};
 use pb_base::Failed;
 use pb_desk::Desk;
+use pb_files::{FileId, Handle, Host, RealDesk, System};
 use std::fs;
-use std::test::Fail;
 
 // A system that answers by a list: a number, or that it fails. It fails where the list has ended.
 #[derive(Drop)]
@@ -188,24 +188,33 @@ fn holds(rt: &HostRuntime, name: &str, text: &str) -> bool {
     }
 }
 
+// Whether a file is made that has two names.
+fn is_laid(rt: &HostRuntime, name: &str, linked: &str) -> bool {
+    fs::write(rt, name, "* what was there before\n").is_ok()
+        && fs::hard_link(rt, name, linked).is_ok()
+}
+
+// Whether both names are taken away.
+fn is_cleared(rt: &HostRuntime, name: &str, linked: &str) -> bool {
+    fs::remove_file(rt, name).is_ok() && fs::remove_file(rt, linked).is_ok()
+}
+
 #[test]
-fn the_system_keeps_a_file(rt: HostRuntime) -> Result<(), Fail> {
+fn the_system_keeps_a_file(rt: HostRuntime) {
     let (name, dotted, linked) = (
         "pb_files_out.tmp",
         "./pb_files_out.tmp",
         "pb_files_link.tmp",
     );
-    fs::write(&rt, name, "* what was there before\n")?;
-    fs::hard_link(&rt, name, linked)?;
+    let laid = is_laid(&rt, name, linked);
     let written = by_system(&rt, &Asked::Writes, name, name);
     // By another name it keeps its bytes.
     let over_dotted = by_system(&rt, &Asked::Reads, name, dotted);
     let over_linked = by_system(&rt, &Asked::Reads, name, linked);
     let kept = holds(&rt, name, "+1 x1+1 x1+1 x1");
-    fs::remove_file(&rt, name)?;
-    fs::remove_file(&rt, linked)?;
+    let cleared = is_cleared(&rt, name, linked);
     let absent = by_system(&rt, &Asked::Reads, name, name);
-    assert!(rt; kept);
+    assert!(rt; laid && kept && cleared);
     let found = [written, over_dotted, over_linked, absent];
     let expected = [
         Ok([Some(5), Some(5), Some(5), Some(0)]),
@@ -214,5 +223,4 @@ fn the_system_keeps_a_file(rt: HostRuntime) -> Result<(), Fail> {
         Err(Failed),
     ];
     assert_eq!(rt; found, expected);
-    Ok(())
 }

@@ -1,6 +1,8 @@
 // Operations on constraints, by hand from the rules of cutting planes.
 ghost use Rattle.std.specs.Prelude.{◌<◌};
 
+use super::assert_found;
+use pb_base::Lit;
 use pb_norm::Linear;
 use pb_operations::{
     axiom, division, implies, multiple, names_set, negation, plus, restriction, saturation,
@@ -9,7 +11,6 @@ use pb_operations::{
 use pb_samples::{linear, linear_text, lits};
 use pb_steps::Set;
 use std::alloc::Global;
-use std::test::Fail;
 
 // A constraint that may have no room.
 fn made_text(alloc: Global, made: Option<Linear>) -> Option<String> {
@@ -20,25 +21,28 @@ fn made_text(alloc: Global, made: Option<Linear>) -> Option<String> {
 }
 
 // The sum of constraints whose numbers have room.
-fn sum(alloc: Global, left: &str, right: &str) -> Option<String> {
-    let left = linear(alloc, left)?;
-    let right = linear(alloc, right)?;
+fn sum_of(alloc: Global, left: &Linear, right: &Linear) -> Option<String> {
     if left.weight() >= 1 << 126 || left.degree() >= 1 << 126 {
         return None;
     }
     if right.weight() >= 1 << 126 || right.degree() >= 1 << 126 {
         return None;
     }
-    made_text(alloc, plus(alloc, &left, &right).ok()?)
+    made_text(alloc, plus(alloc, left, right).ok()?)
+}
+
+fn sum(alloc: Global, left: &str, right: &str) -> Option<String> {
+    let left = linear(alloc, left)?;
+    let right = linear(alloc, right)?;
+    sum_of(alloc, &left, &right)
 }
 
 #[test]
-fn sums_cancel(rt: HostRuntime) -> Result<(), Fail> {
+fn sums_cancel(rt: HostRuntime) {
     let part = sum(rt.alloc(), "3 x1 2 x2 >= 3 ;", "1 ~x1 1 x3 >= 1 ;");
-    assert_eq!(rt; part.as_deref(), Some("2 x1 2 x2 1 x3 >= 3"));
+    assert_found(&rt, part, "2 x1 2 x2 1 x3 >= 3");
     let whole = sum(rt.alloc(), "1 x1 1 x2 >= 1 ;", "1 ~x1 1 x2 >= 1 ;");
-    assert_eq!(rt; whole.as_deref(), Some("2 x2 >= 1"));
-    Ok(())
+    assert_found(&rt, whole, "2 x2 >= 1");
 }
 
 // A multiple by a factor from 1 on.
@@ -49,12 +53,11 @@ fn scaled(alloc: Global, text: &str, factor: u128) -> Option<String>
 }
 
 #[test]
-fn multiples_have_room_or_none(rt: HostRuntime) -> Result<(), Fail> {
+fn multiples_have_room_or_none(rt: HostRuntime) {
     let made = scaled(rt.alloc(), "2 x1 1 ~x2 >= 2 ;", 3);
-    assert_eq!(rt; made.as_deref(), Some("6 x1 3 ~x2 >= 6"));
+    assert_found(&rt, made, "6 x1 3 ~x2 >= 6");
     let none = scaled(rt.alloc(), "1 x1 >= 1 ;", 1 << 126);
-    assert_eq!(rt; none.as_deref(), Some("no room"));
-    Ok(())
+    assert_found(&rt, none, "no room");
 }
 
 fn halved(alloc: Global, text: &str) -> Option<String> {
@@ -66,12 +69,11 @@ fn saturated(alloc: Global, text: &str) -> Option<String> {
 }
 
 #[test]
-fn quotients_are_rounded_up_and_coefficients_cut(rt: HostRuntime) -> Result<(), Fail> {
+fn quotients_are_rounded_up_and_coefficients_cut(rt: HostRuntime) {
     let half = halved(rt.alloc(), "3 x1 2 x2 1 x3 >= 3 ;");
-    assert_eq!(rt; half.as_deref(), Some("2 x1 1 x2 1 x3 >= 2"));
+    assert_found(&rt, half, "2 x1 1 x2 1 x3 >= 2");
     let cut = saturated(rt.alloc(), "5 x1 3 x2 1 x3 >= 3 ;");
-    assert_eq!(rt; cut.as_deref(), Some("3 x1 3 x2 1 x3 >= 3"));
-    Ok(())
+    assert_found(&rt, cut, "3 x1 3 x2 1 x3 >= 3");
 }
 
 // Without the variables of the literals.
@@ -92,30 +94,35 @@ fn negated(alloc: Global, text: &str) -> Option<String> {
 }
 
 #[test]
-fn variables_go_and_constraints_turn(rt: HostRuntime) -> Result<(), Fail> {
+fn variables_go_and_constraints_turn(rt: HostRuntime) {
     let weak = weakened(rt.alloc(), "5 x1 3 x2 1 x3 >= 4 ;", "x2");
-    assert_eq!(rt; weak.as_deref(), Some("5 x1 1 x3 >= 1"));
+    assert_found(&rt, weak, "5 x1 1 x3 >= 1");
     let turned = negated(rt.alloc(), "3 x1 2 ~x2 >= 2 ;");
-    assert_eq!(rt; turned.as_deref(), Some("3 ~x1 2 x2 >= 4"));
-    Ok(())
+    assert_found(&rt, turned, "3 ~x1 2 x2 >= 4");
+}
+
+// Adds the axiom of a literal, a line.
+fn push_axiom(alloc: Global, lit: Lit, text: &mut String) -> Option<()> {
+    let made = axiom(alloc, lit).ok()?;
+    let line = linear_text(alloc, &made)?;
+    text.push_str(line.as_str()).ok()?;
+    text.push('\n').ok()
 }
 
 // The axioms of literals, each in a line.
 fn axioms(alloc: Global, names: &str) -> Option<String> {
+    let lits = lits(alloc, names)?;
     let mut text = String::new(alloc);
-    for lit in lits(alloc, names)? {
-        let line = linear_text(alloc, &axiom(alloc, lit).ok()?)?;
-        text.push_str(line.as_str()).ok()?;
-        text.push('\n').ok()?;
+    for lit in &lits {
+        push_axiom(alloc, *lit, &mut text)?;
     }
     Some(text)
 }
 
 #[test]
-fn literals_are_at_least_0(rt: HostRuntime) -> Result<(), Fail> {
+fn literals_are_at_least_0(rt: HostRuntime) {
     let found = axioms(rt.alloc(), "x1 ~x3");
-    assert_eq!(rt; found.as_deref(), Some("1 x1 >= 0\n1 ~x3 >= 0\n"));
-    Ok(())
+    assert_found(&rt, found, "1 x1 >= 0\n1 ~x3 >= 0\n");
 }
 
 // The substitution that makes literals true.
@@ -132,16 +139,21 @@ fn sets_of(alloc: Global, names: &str) -> Option<Vec<Set>> {
 }
 
 // Whether a constraint has a variable that is set, and what is left of it.
+fn restricted_by(alloc: Global, constraint: &Linear, sets: &[Set]) -> Option<String> {
+    let left = restriction(alloc, sets, constraint).ok()?;
+    let line = linear_text(alloc, &left)?;
+    format!(in alloc; "{} {line}", names_set(sets, constraint)).ok()
+}
+
+// The same of a text, where literals are made true.
 fn restricted(alloc: Global, text: &str, names: &str) -> Option<String> {
     let constraint = linear(alloc, text)?;
     let sets = sets_of(alloc, names)?;
-    let left = restriction(alloc, &sets, &constraint).ok()?;
-    let line = linear_text(alloc, &left)?;
-    format!(in alloc; "{} {line}", names_set(&sets, &constraint)).ok()
+    restricted_by(alloc, &constraint, &sets)
 }
 
 #[test]
-fn what_substitutions_leave(rt: HostRuntime) -> Result<(), Fail> {
+fn what_substitutions_leave(rt: HostRuntime) {
     let cases = [
         ("x1", "true 2 x2 1 x3 >= 1"),
         ("~x1", "true 2 x2 1 x3 >= 4"),
@@ -149,21 +161,19 @@ fn what_substitutions_leave(rt: HostRuntime) -> Result<(), Fail> {
     ];
     for (names, expected) in cases {
         let found = restricted(rt.alloc(), "3 x1 2 x2 1 x3 >= 4 ;", names);
-        assert_eq!(rt; found.as_deref(), Some(expected));
+        assert_found(&rt, found, expected);
     }
-    Ok(())
 }
 
 // Whether each of two constraints implies the other.
-fn implied(alloc: Global, one: &str, other: &str) -> Option<(bool, bool)> {
+fn implied(alloc: Global, one: &str, other: &str) -> Option<String> {
     let one = linear(alloc, one)?;
     let other = linear(alloc, other)?;
-    Some((implies(&one, &other), implies(&other, &one)))
+    format!(in alloc; "{} {}", implies(&one, &other), implies(&other, &one)).ok()
 }
 
 #[test]
-fn implication_is_term_by_term(rt: HostRuntime) -> Result<(), Fail> {
+fn implication_is_term_by_term(rt: HostRuntime) {
     let found = implied(rt.alloc(), "2 x1 1 x2 >= 2 ;", "1 x1 1 x2 >= 1 ;");
-    assert_eq!(rt; found, Some((true, false)));
-    Ok(())
+    assert_found(&rt, found, "true false");
 }

@@ -1,8 +1,8 @@
 // The generator of problems, against a program of another language.
+use super::assert_found;
 use pb_gen::generate;
 use pb_opb::read_opb;
 use std::alloc::Global;
-use std::test::Fail;
 
 fn text_of(alloc: Global, n: u32, seed: u32) -> Option<String> {
     let text = generate(alloc, n, seed).ok()?;
@@ -10,7 +10,7 @@ fn text_of(alloc: Global, n: u32, seed: u32) -> Option<String> {
 }
 
 #[test]
-fn small_problems(rt: HostRuntime) -> Result<(), Fail> {
+fn small_problems(rt: HostRuntime) {
     let cases = [
         (0, 5, "* #variable= 10 #constraint= 0\n"),
         (
@@ -34,19 +34,33 @@ fn small_problems(rt: HostRuntime) -> Result<(), Fail> {
     ];
     for (n, seed, expected) in cases {
         let found = text_of(rt.alloc(), n, seed);
-        assert_eq!(rt; found.as_deref(), Some(expected), "at {n} {seed}");
+        assert_found(&rt, found, expected, expected);
     }
-    Ok(())
+}
+
+// How long a text is, how many variables and statements are read of it, and whether it ends with this line.
+fn told(alloc: Global, text: &[u8], last: &str) -> Option<String> {
+    let problem = read_opb(alloc, text).ok()?;
+    let (vars, statements) = (problem.vars, problem.statements.len());
+    let ends = text.ends_with(last.as_bytes());
+    format!(in alloc;
+        "{} bytes, {vars} variables, {statements} statements, {ends}",
+        text.len()
+    )
+    .ok()
+}
+
+// The same of a generated text.
+fn told_of(alloc: Global, n: u32, seed: u32, last: &str) -> Option<String> {
+    let text = generate(alloc, n, seed).ok()?;
+    told(alloc, text.as_slice(), last)
 }
 
 #[test]
-fn a_thousand_statements(rt: HostRuntime) -> Result<(), Fail> {
-    let text = generate(rt.alloc(), 1000, 7).expect(&rt, "generated");
+fn a_thousand_statements(rt: HostRuntime) {
     let last =
         "+9 ~x812 +5 ~x313 +10 x35 +13 ~x577 +17 ~x400 +18 ~x576 +12 ~x639 +9 x683 +9 x613 >= 34 ;\n";
-    assert_eq!(rt; text.len(), 63_646);
-    assert!(rt; text.as_slice().ends_with(last.as_bytes()), "the last line");
-    let problem = read_opb(rt.alloc(), text.as_slice()).expect(&rt, "read");
-    assert_eq!(rt; (problem.vars, problem.statements.len()), (1010, 1000));
-    Ok(())
+    let found = told_of(rt.alloc(), 1000, 7, last);
+    let expected = "63646 bytes, 1010 variables, 1000 statements, true";
+    assert_found(&rt, found, expected, last);
 }

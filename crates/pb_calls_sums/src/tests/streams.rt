@@ -1,12 +1,12 @@
 ghost use Rattle.pb_base.specs.Problems.{IsWithinLimits};
 
+use super::assert_found;
 use super::short_sink::ShortSink;
 use pb_base::Problem;
 use pb_choice::Options;
 use pb_encode::{measure, stream_clauses};
 use pb_opb::read_opb;
 use std::alloc::Global;
-use std::test::Fail;
 
 // How many variables and clauses a problem has, how handing over its clauses to a sink that takes
 // so many ends, and what the sink holds then.
@@ -50,7 +50,7 @@ fn tabled_text(alloc: Global, text: &str) -> Option<String> {
 }
 
 #[test]
-fn sinks_that_fail(rt: HostRuntime) -> Result<(), Fail> {
+fn sinks_that_fail(rt: HostRuntime) {
     let cases = [
         (0, "2 2 Err(Failed)\n"),
         (1, "2 2 Err(Failed)\n1 2 0\n"),
@@ -58,15 +58,13 @@ fn sinks_that_fail(rt: HostRuntime) -> Result<(), Fail> {
     ];
     for (left, expected) in cases {
         let found = streamed_text(rt.alloc(), "+1 x1 +1 x2 = 1 ;", left);
-        assert_eq!(rt; found.as_deref(), Some(expected));
+        assert_found(&rt, found, expected);
     }
-    Ok(())
 }
 
 #[test]
-fn tables_come_last(rt: HostRuntime) -> Result<(), Fail> {
+fn tables_come_last(rt: HostRuntime) {
     let found = tabled_text(rt.alloc(), "min: +3 x1 -1 ~x2 ;\n+1 x1 +1 x2 >= 1 ;\n");
     let lines = "5 6 Some(3)\n1 2 0\n-1 4 0\n-2 3 0\n-1 -2 5 0\n-4 3 0\n-5 4 0\n";
-    assert_eq!(rt; found.as_deref(), Some(lines));
-    Ok(())
+    assert_found(&rt, found, lines);
 }

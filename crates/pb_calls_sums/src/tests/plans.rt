@@ -1,11 +1,12 @@
 ghost use Rattle.std.specs.Prelude.{◌≤◌};
 ghost use Rattle.pb_family.specs.Families.{VarsBelow};
 
-use pb_choice::{Amo, Card, EqualMode, General, MAX_BUDGET, Options, Plan, Treatment, plan};
+use super::assert_found;
+use pb_choice::{Amo, Card, EqualMode, General, MAX_BUDGET, Options, Plan, plan};
 use pb_family::{TextSink, are_below};
+use pb_norm::Linear;
 use pb_samples::linear;
 use std::alloc::Global;
-use std::test::Fail;
 
 // How a plan treats its constraint, its numbers of fresh variables and clauses, and the clauses.
 fn plan_text(alloc: Global, plan: &Plan<'_>, first: u32) -> Option<String>
@@ -26,27 +27,37 @@ fn plan_text(alloc: Global, plan: &Plan<'_>, first: u32) -> Option<String>
     .ok()
 }
 
-// The same of a statement's plan.
-fn planned(alloc: Global, text: &str, options: &Options, first: u32) -> Option<String> {
-    let constraint = linear(alloc, text)?;
+// The same of a constraint's plan.
+fn plan_of(alloc: Global, constraint: &Linear, options: &Options, first: u32) -> Option<String> {
     if constraint.weight() >= 1 << 100 || options.budget > MAX_BUDGET {
         return None;
     }
     if !are_below(constraint.terms(), first) {
         return None;
     }
-    let plan = plan(alloc, &constraint, options).ok()?;
+    let plan = plan(alloc, constraint, options).ok()?;
     plan_text(alloc, &plan, first)
 }
 
-// How a statement is treated.
-fn treatment(alloc: Global, text: &str, options: &Options) -> Option<Treatment> {
+// The same of a statement's plan.
+fn planned(alloc: Global, text: &str, options: &Options, first: u32) -> Option<String> {
     let constraint = linear(alloc, text)?;
+    plan_of(alloc, &constraint, options, first)
+}
+
+// How a constraint is treated.
+fn treatment_of(alloc: Global, constraint: &Linear, options: &Options) -> Option<String> {
     if constraint.weight() >= 1 << 100 || options.budget > MAX_BUDGET {
         return None;
     }
-    let plan = plan(alloc, &constraint, options).ok()?;
-    Some(plan.treatment())
+    let plan = plan(alloc, constraint, options).ok()?;
+    format!(in alloc; "{:?}", plan.treatment()).ok()
+}
+
+// How a statement is treated.
+fn treatment(alloc: Global, text: &str, options: &Options) -> Option<String> {
+    let constraint = linear(alloc, text)?;
+    treatment_of(alloc, &constraint, options)
 }
 
 // Options that differ from those where nothing is chosen by one family and the budget.
@@ -86,7 +97,7 @@ const MERGED: &str = "Tree 8 11\n-2 5 0\n-3 4 0\n-2 -3 6 0\n-1 9 0\n-4 7 0\n-5 8
 -1 -4 11 0\n-1 -5 11 0\n-1 -6 11 0\n-11 0\n";
 
 #[test]
-fn weights(rt: HostRuntime) -> Result<(), Fail> {
+fn weights(rt: HostRuntime) {
     let cases = [
         (General::Diagram, 3, NODES),
         (General::Diagram, 2, ADDED),
@@ -96,9 +107,8 @@ fn weights(rt: HostRuntime) -> Result<(), Fail> {
     ];
     for (general, budget, expected) in cases {
         let found = planned(rt.alloc(), WEIGHTS, &with_general(general, budget), 4);
-        assert_eq!(rt; found.as_deref(), Some(expected));
+        assert_found(&rt, found, expected);
     }
-    Ok(())
 }
 
 // Two of four negated variables are to be true.
@@ -113,25 +123,23 @@ const HALVES: &str =
 -8 10 0\n-5 9 0\n-5 -7 10 0\n-5 -8 11 0\n-6 10 0\n-6 -7 11 0\n-11 0\n";
 
 #[test]
-fn cardinalities(rt: HostRuntime) -> Result<(), Fail> {
+fn cardinalities(rt: HostRuntime) {
     for (card, budget, expected) in [(Card::Counter, 6, ROWS), (Card::Totalizer, 7, HALVES)] {
         let found = planned(rt.alloc(), TWO, &with_card(card, budget), 5);
-        assert_eq!(rt; found.as_deref(), Some(expected));
+        assert_found(&rt, found, expected);
     }
-    Ok(())
 }
 
 #[test]
-fn past_the_budget(rt: HostRuntime) -> Result<(), Fail> {
+fn past_the_budget(rt: HostRuntime) {
     for (card, budget) in [(Card::Counter, 5), (Card::Totalizer, 6)] {
         let found = treatment(rt.alloc(), TWO, &with_card(card, budget));
-        assert_eq!(rt; found, Some(Treatment::Adder));
+        assert_found(&rt, found, "Adder");
     }
-    Ok(())
 }
 
 #[test]
-fn at_most_one(rt: HostRuntime) -> Result<(), Fail> {
+fn at_most_one(rt: HostRuntime) {
     let cases = [
         (Amo::Auto, "Pairwise 0 3\n-1 -2 0\n-1 -3 0\n-2 -3 0\n"),
         (Amo::Product, "Product 0 3\n-1 -2 0\n-1 -3 0\n-2 -3 0\n"),
@@ -142,31 +150,22 @@ fn at_most_one(rt: HostRuntime) -> Result<(), Fail> {
     ];
     for (amo, expected) in cases {
         let found = planned(rt.alloc(), "1 ~x1 1 ~x2 1 ~x3 >= 2 ;", &with_amo(amo, 1), 4);
-        assert_eq!(rt; found.as_deref(), Some(expected));
+        assert_found(&rt, found, expected);
     }
-    Ok(())
 }
 
 // One weight forces its literal, and one of the others is to be true.
 #[test]
-fn units_come_first(rt: HostRuntime) -> Result<(), Fail> {
+fn units_come_first(rt: HostRuntime) {
     let text = "5 ~x1 3 ~x2 2 ~x3 >= 6 ;";
     let found = planned(rt.alloc(), text, &Options::default(), 4);
-    assert_eq!(rt; found.as_deref(), Some("Clause 0 2\n-1 0\n-2 -3 0\n"));
-    Ok(())
+    assert_found(&rt, found, "Clause 0 2\n-1 0\n-2 -3 0\n");
 }
 
 #[test]
-fn defaults(rt: HostRuntime) -> Result<(), Fail> {
-    let wanted = Options {
-        amo: Amo::Auto,
-        card: Card::Auto,
-        general: General::Diagram,
-        equal: EqualMode::Split,
-        budget: 50_000,
-        table: false,
-    };
-    assert_eq!(rt; Options::default(), wanted);
-    assert_eq!(rt; MAX_BUDGET, 10_000_000);
-    Ok(())
+fn defaults(rt: HostRuntime) {
+    let found = format!(in rt.alloc(); "{:?} {MAX_BUDGET}", Options::default()).ok();
+    let expected =
+        "Options { amo: Auto, card: Auto, general: Diagram, equal: Split, budget: 50000, table: false } 10000000";
+    assert_found(&rt, found, expected);
 }

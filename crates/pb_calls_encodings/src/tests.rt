@@ -1,2 +1,0 @@
-mod short_sink;
-mod streams;

@@ -1,3 +1,0 @@
-mod adders;
-mod at_most_one;
-mod constraints;

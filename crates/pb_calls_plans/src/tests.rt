@@ -1,2 +1,0 @@
-mod equalities;
-mod plans;

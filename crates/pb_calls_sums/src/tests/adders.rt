@@ -1,0 +1,46 @@
+use super::assert_found;
+use pb_adder::{Adder, adder_has_all_levels};
+use pb_family::{are_below, is_light};
+use pb_norm::AtMost;
+use pb_samples::{at_most, family_text};
+use std::alloc::Global;
+
+// The numbers and the clauses of the adder of a sum.
+fn adder_of(alloc: Global, of: &AtMost, first: u32) -> Option<String> {
+    if !is_light(of) || !are_below(of.terms(), first) {
+        return None;
+    }
+    let adder = Adder::build(alloc, of).ok()?;
+    adder.settles();
+    family_text(alloc, &adder, first)
+}
+
+// The same of what a statement leaves.
+fn adder(alloc: Global, text: &str, first: u32) -> Option<String> {
+    let of = at_most(alloc, text)?;
+    adder_of(alloc, &of, first)
+}
+
+#[test]
+fn three_terms_and_a_literal_twice(rt: HostRuntime) {
+    let cases = [
+        (
+            "-4 x1 -3 x2 -2 x3 >= -5 ;",
+            4,
+            "4 16\n2 3 -4 0\n2 -3 4 0\n-2 3 4 0\n-2 -3 -4 0\n-2 -3 5 0\n2 -5 0\n3 -5 0\n\
+1 5 -6 0\n1 -5 6 0\n-1 5 6 0\n-1 -5 -6 0\n-1 -5 7 0\n1 -7 0\n5 -7 0\n-4 -6 0\n-7 0\n",
+        ),
+        (
+            "-8 x1 -8 x2 -8 x3 -5 x4 >= -12 ;",
+            5,
+            "2 16\n1 2 3 -5 0\n1 2 -3 5 0\n1 -2 3 5 0\n1 -2 -3 -5 0\n-1 2 3 5 0\n\
+-1 2 -3 -5 0\n-1 -2 3 -5 0\n-1 -2 -3 5 0\n-1 -2 6 0\n-1 -3 6 0\n-2 -3 6 0\n\
+1 2 -6 0\n1 3 -6 0\n2 3 -6 0\n-4 -4 -5 0\n-6 0\n",
+        ),
+    ];
+    for (text, first, expected) in cases {
+        let found = adder(rt.alloc(), text, first);
+        assert_found(&rt, found, expected);
+    }
+    adder_has_all_levels();
+}
