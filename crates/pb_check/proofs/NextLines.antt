@@ -3,7 +3,6 @@ use Rattle.std.proofs.Common.{◌≡◌, ◌+◌, ℕ, true, false, List, [], �
 use Rattle.std.specs.Prelude.{◌≢◌}
 use Rattle.pb_base.specs.declared.place.Place.{Place}
 use Rattle.pb_base.specs.declared.expected.Expected.{Expected}
-use Rattle.pb_base.specs.declared.file.File.{File}
 use Rattle.pb_base.specs.declared.file.File.TheVariants.{Proof}
 use Rattle.pb_base.specs.declared.limit.LimitKind.{LimitKind}
 use Rattle.pb_desk.specs.Desk.{DeskState}

@@ -21,7 +21,7 @@ use Rattle.pb_dimacs.specs.CnfSymbols.Start.{told, wrong}
 use Rattle.pb_dimacs.specs.Cursors.{rows_left}
 use Rattle.pb_dimacs.proofs.FormLemmas.{start_rows}
 use Rattle.pb_dimacs.proofs.RowLemmas.{reads_weaker}
-use Rattle.pb_steps.specs.Database.{Database, loaded_database}
+use Rattle.pb_steps.specs.Database.{loaded_database}
 use Rattle.pb_check.specs.declared.verdict.CheckFault.{CheckFault}
 use Rattle.pb_check.specs.declared.verdict.CheckFault.TheVariants.{Refused, Limit, ReadFault, NoMemory}
 use Rattle.pb_check.specs.Faults.{of_cnf, too_few_vars}

@@ -1,15 +1,15 @@
 -- Where a search for the nodes of a diagram ends, and how many it knows.
-use Rattle.std.proofs.Common.{◌≡◌, ◌<◌, ◌≤◌, ◌+◌, ℕ, List, [], ◌∷◌, length, get_or, drop, set, sym, ◌∙◌, subst, arith, inl, inr, zero, suc}
+use Rattle.std.proofs.Common.{◌≡◌, ◌<◌, ◌≤◌, ◌+◌, ℕ, List, [], ◌∷◌, length, get_or, drop, sym, ◌∙◌, subst, arith, inl, inr, zero, suc}
 use Rattle.std.specs.Prelude.{Contains}
 use Rattle.std.proofs.lemmas.Bool.{cases_lt}
 use Rattle.std.proofs.lemmas.List.{same_lists, get_or_default}
-use Rattle.std.proofs.lemmas.List.Sums.{sum_by-cons, sum_by-set}
+use Rattle.std.proofs.lemmas.List.Sums.{sum_by-cons}
 use Rattle.pb_diagram.specs.declared.interval.Interval.{Interval}
 use Rattle.pb_diagram.specs.Clauses.{node_count}
 use Rattle.pb_diagram.specs.Levels.{level, levels_from}
 use Rattle.pb_diagram.specs.laws.Nodes.{LiesIn, IsInterval, IsResidue, IsNode}
 use Rattle.pb_diagram.specs.laws.LevelFacts.{first_residue, node_of, listed_node, level_apart, node_around, same_interval}
-use Rattle.pb_diagram.specs.laws.Search.{nodes_at, before_at, IsPartSearched, IsIntervalClosed, IsSearch, IsGrown}
+use Rattle.pb_diagram.specs.laws.Search.{nodes_at, before_at, IsPartSearched, IsIntervalClosed, IsSearch}
 use Rattle.pb_diagram.specs.Sums.{sums}
 use Rattle.pb_diagram.specs.laws.SumFacts.{sums_without, sums_with, sums_cases, sums_none, sums-le, sum-cons}
 use Rattle.pb_diagram.proofs.SameNodes.{same_nodes, length_within}

@@ -2,7 +2,7 @@
 use Rattle.std.proofs.Common.{◌≡◌, ◌<◌, ◌≤◌, ◌+◌, ◌-◌, ◌++◌, ◌⊎◌, ℕ, List, [], ◌∷◌, length, get_or, drop, set, replicate, refl, sym, ap, ◌∙◌, subst, arith, inl, inr, zero, suc, length-append}
 use Rattle.std.specs.Prelude.{Contains, sum, Option, Some}
 use Rattle.std.specs.Option.{option_to_list}
-use Rattle.std.proofs.lemmas.List.{replicate-append-replicate, get_or-map, length-map, get_or_default}
+use Rattle.std.proofs.lemmas.List.{get_or-map, length-map, get_or_default}
 use Rattle.std.proofs.lemmas.List.Sums.{sum-map, sum_by-cons, sum_by-take-drop}
 use Rattle.pb_norm.specs.BoundedSums.{BoundedSum}
 use Rattle.std.specs.Int.RustNames.{unsigned_abs}
@@ -14,7 +14,7 @@ use Rattle.pb_diagram.specs.Clauses.{node_count}
 use Rattle.pb_diagram.specs.Levels.{coefs_of, levels_of}
 use Rattle.pb_diagram.specs.laws.Search.{nodes_at, before_at, IsPartSearched, IsSearch, IsJoined, IsMissing, IsGrown, IsTop, IsSearching}
 use Rattle.pb_diagram.specs.laws.SumFacts.{sums-le, sum-cons}
-use Rattle.pb_diagram.proofs.SearchSteps.{drop_here, some_left, drop_first, search_starts, search_pushes, search_depth, next_part, search_inserts, joined_apart}
+use Rattle.pb_diagram.proofs.SearchSteps.{drop_here, some_left, drop_first, search_starts, search_pushes, next_part, search_inserts, joined_apart}
 use Rattle.pb_diagram.proofs.SearchEnds.{rises_of, search_ends, search_count}
 
 next_within : (bound : ℕ) (before rest : List ℕ) (nodes : List Interval) → IsPartSearched bound before rest nodes → (h : Interval) → Contains nodes h → (h.low ≤ sum rest) × (h.top ≤ sum rest)

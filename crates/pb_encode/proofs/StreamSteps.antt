@@ -2,10 +2,8 @@
 use Rattle.std.proofs.Common.{◌≡◌, ◌≤◌, ◌<◌, ◌+◌, ◌++◌, ℕ, suc, List, [], ◌∷◌, length, drop, drop-cons, get_or, refl, sym, ap, subst, ◌∙◌, arith, append_assoc}
 use Rattle.std.specs.Prelude.{Result, IsErrAnd}
 use Rattle.std.proofs.lemmas.List.{append-nil, drop_all, map-append}
-use Rattle.std.proofs.lemmas.List.Elements.{All-weaker}
 use Rattle.std.proofs.lemmas.List.Sums.{sum_by-append}
 use Rattle.pb_base.specs.declared.literal.Lit.{Lit}
-use Rattle.pb_base.specs.declared.literal.Term.{Term}
 use Rattle.pb_base.specs.declared.problem.Raw.{Raw}
 use Rattle.pb_norm.specs.Constraints.{Constraint}
 use Rattle.pb_norm.specs.ClauseForm.{clause_form}
@@ -20,7 +18,6 @@ use Rattle.pb_choice.specs.declared.options.Options.{Options}
 use Rattle.pb_encode.specs.Clauses.{clauses_from, fresh_total}
 use Rattle.pb_encode.specs.Groups.{Group, group_clauses, group_fresh, group_of, singles, statement_groups}
 use Rattle.pb_encode.specs.Groups.Group.{alone}
-use Rattle.pb_encode.specs.laws.Streams.{IsOverBelow}
 
 -- ---- the clauses of more groups
 

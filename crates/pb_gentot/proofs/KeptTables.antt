@@ -1,26 +1,19 @@
 -- A table as the code keeps it.
-use Rattle.std.proofs.Common.{◌≡◌, ◌<◌, ◌≤◌, ◌+◌, ◌-◌, ◌^◌, ℕ, zero, suc, ℤ, pos, List, [], ◌∷◌, length, get_or, map, refl, sym, ap, ◌∙◌, arith, Some, None}
+use Rattle.std.proofs.Common.{◌≡◌, ◌<◌, ◌≤◌, ◌+◌, ◌-◌, ◌^◌, ℕ, zero, suc, ℤ, pos, List, [], ◌∷◌, length, get_or, map, refl, sym, ap, ◌∙◌, arith, Some}
 use Rattle.std.specs.List.{slice_get}
-use Rattle.std.proofs.lemmas.List.{length-map}
 use Rattle.std.proofs.lemmas.List.Elements.{Contains-get_or}
 use Rattle.std.proofs.lemmas.Nat.{mul-le}
-use Rattle.std.proofs.lemmas.Option.{slice_get_past}
 use Rattle.pb_base.specs.declared.literal.Lit.{Lit}
 use Rattle.pb_base.specs.declared.literal.Term.{Term}
 use Rattle.pb_norm.specs.Constraints.{Weighted, weight, weights}
-use Rattle.pb_tree.specs.Scheme.{values, fresh_of, output, clause_count_of}
+use Rattle.pb_tree.specs.Scheme.{values, fresh_of, clause_count_of}
 use Rattle.pb_tree.specs.Tree.{split_within, tree_of}
-use Rattle.pb_tree.proofs.Halves.{leaf_of}
-use Rattle.pb_tree.proofs.Splitting.{split-node}
-use Rattle.pb_gentot.specs.BoundTable.{IsTable, uncut, table_values, table_output, table_fresh, table_rows}
+use Rattle.pb_gentot.specs.BoundTable.{IsTable, table_values, table_output, table_rows}
 use Rattle.pb_gentot.specs.Generalized.{generalized}
 use Rattle.pb_gentot.specs.declared.measure.Part.{Part}
-use Rattle.pb_gentot.specs.declared.outputs.Outputs.TheVariants.{Single, Fresh}
 use Rattle.pb_gentot.specs.laws.KeptTables.{IsKeptTable, clauses_by, steps_by}
 use Rattle.pb_gentot.specs.laws.Measured.{IsPartMeasured}
-use Rattle.pb_gentot.specs.laws.Outputs.{output_in}
 use Rattle.pb_gentot.proofs.Bounds.{bounds}
-use Rattle.pb_gentot.proofs.Emitting.{node_output}
 use Rattle.pb_gentot.proofs.TableValues.{table_value_within}
 
 -- ---- no term
@@ -86,32 +79,6 @@ kept_of ts bound budget part between table light whole modest measured count =
       modest = omega (arith, all, size);
     }
 
--- ---- the literals of its rows
-
-pub single_output : (ts : List Term) (d : Term) (first : ℕ) (us : List ℕ) → length ts ≡ 1 → output_in (Single (get_or ts 0 d).lit) us ≡ table_output (weights ts) first
-single_output ts d first us one = ap (λ t. output (uncut (weights ts)) t first) (sym (leaf_of ts d one))
-
-two_or_more : (ts : List Term) → 1 ≤ length (table_values (weights ts)) → (length ts ≡ 1 → ⊥) → 2 ≤ length (weights ts)
-two_or_more [] some other = absurd (omega (arith, some, ap length (no_values (weight []))))
-two_or_more (t ∷ []) some other = absurd (other refl)
-two_or_more (t ∷ u ∷ us) some other = omega arith
-
--- with two terms or more, the last fresh variables
-pub root_fresh : (ts : List Term) → 1 ≤ length (table_values (weights ts)) → (length ts ≡ 1 → ⊥) → length (table_values (weights ts)) ≤ table_fresh (weights ts)
-root_fresh ts some other =
-    let s = uncut (weights ts) in
-    let tree = split-node (weights ts) (two_or_more ts some other) in
-    omega (arith, ap (λ t. length (values s t)) tree, ap (fresh_of s) tree)
-
-pub fresh_output : (ts : List Term) (first base : ℕ) (us : List ℕ) → 1 ≤ length (table_values (weights ts)) → (length ts ≡ 1 → ⊥) → us ≡ table_values (weights ts)
-    → base ≡ first + (table_fresh (weights ts) - length (table_values (weights ts))) → output_in (Fresh base) us ≡ table_output (weights ts) first
-fresh_output ts first base us some other own is =
-    let s = uncut (weights ts) in
-    let tree = split-node (weights ts) (two_or_more ts some other) in
-    let whole = ap (λ t. length (values s t)) tree in
-    let fresh = ap (fresh_of s) tree in
-    node_output (weight (weights ts)) _ _ first base us (omega (arith, is, whole, fresh)) (own ∙ ap (values s) tree) ∙ ap (λ t. output s t first) (sym tree)
-
 -- ---- its rows
 
 abbrev as_row : ℤ → Lit → ℤ × Lit
@@ -126,10 +93,6 @@ row_is ts first i z lit within is named =
     at_place g [] i within = absurd (omega (arith, within))
     at_place g (u ∷ us) zero within = refl
     at_place g (u ∷ us) (suc i) within = at_place g us i (omega (arith, within))
-
-pub row_past : (ts : List Weighted) (first i : ℕ) → length (table_values ts) ≤ i → None ≡ slice_get (table_rows ts first) i
-row_past ts first i past =
-    sym (slice_get_past (table_rows ts first) i (omega (arith, past, length-map (table_values ts) (λ (u : ℕ). as_row (pos u) (table_output ts first u)))))
 
 pub row_small : (ts : List Weighted) (i : ℕ) → weight ts < 2 ^ 100 → i < length (table_values ts) → get_or (table_values ts) i 0 < 2 ^ 100
 row_small ts i light within = omega (arith, table_value_within ts (get_or (table_values ts) i 0) (Contains-get_or (table_values ts) i 0 within), light)

@@ -2,8 +2,8 @@
 use Rattle.std.proofs.Common.{◌≡◌, ◌<◌, ◌≤◌, ◌+◌, ◌++◌, ◌⊎◌, ℕ, List, [], ◌∷◌, length, get_or, take, sym, ap, ◌∙◌, subst, inl, inr, append_assoc}
 use Rattle.std.specs.Prelude.{Contains, map}
 use Rattle.std.proofs.lemmas.List.{take_more, take_all, map-append}
-use Rattle.std.proofs.lemmas.List.Elements.{Contains-get_or, Contains-append_left, Contains-append_right, Contains-append_cases}
-use Rattle.pb_base.proofs.Members.{Contains-nil, Contains-here, Contains-cons_cases}
+use Rattle.std.proofs.lemmas.List.Elements.{Contains-get_or, Contains-append_left, Contains-append_cases}
+use Rattle.pb_base.proofs.Members.{Contains-nil, Contains-cons_cases}
 use Rattle.pb_gentot.specs.declared.seen.Seen.{Seen}
 use Rattle.pb_gentot.specs.laws.Marks.{HasMark, MarksOnly}
 use Rattle.pb_gentot.specs.laws.Members.{SameMembers}

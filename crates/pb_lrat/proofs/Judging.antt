@@ -144,10 +144,6 @@ singles : (l k : Lit) → Single l ≡ Single k → l ≡ k
 unfolding literal_or
 singles l k e = ap (literal_or l) e
 
-more_no : (k : Lit) → More ≡ Single k → ⊥
-unfolding is_single
-more_no k e = let no : false ≡ true = ap is_single e in false≢true no
-
 pub nothing_no : (k : Lit) → Nothing ≡ Single k → ⊥
 unfolding is_single
 nothing_no k e = let no : false ≡ true = ap is_single e in false≢true no

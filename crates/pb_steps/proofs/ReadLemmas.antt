@@ -24,16 +24,9 @@ with_more xs x (Err fault) = refl
 pub read_whole : {A : Type 0} (start : List A) (r : Result (List A) StepFault) (xs : List A) → start ≡ [] → with_items start r ≡ Ok xs → r ≡ Ok xs
 read_whole {A} start r xs none is = sym (with_none r) ∙ ap (λ (ys : List A). with_items ys r) (sym none) ∙ is
 
-with_no_terms : (r : Result (List Term × List Chunk) StepFault) → with_terms [] r ≡ r
-with_no_terms (Ok p) = refl
-with_no_terms (Err fault) = refl
-
 pub with_more_terms : (ts : List Term) (t : Term) (r : Result (List Term × List Chunk) StepFault) → with_terms ts (with_first_term t r) ≡ with_terms (ts ++ t ∷ []) r
 with_more_terms ts t (Ok p) = ap (λ (us : List Term). Ok (us, p.1)) (sym (append_assoc ts (t ∷ []) p.0))
 with_more_terms ts t (Err fault) = refl
-
-pub terms_whole : (start : List Term) (r : Result (List Term × List Chunk) StepFault) (x : List Term × List Chunk) → start ≡ [] → with_terms start r ≡ Ok x → r ≡ Ok x
-terms_whole start r x none is = sym (with_no_terms r) ∙ ap (λ (ts : List Term). with_terms ts r) (sym none) ∙ is
 
 -- an id more
 pub id_more : (start : Result (List ℕ) StepFault) (ids more : List ℕ) (ws vs : List Chunk) (w : Chunk) (r : Result ℕ StepFault) (id : ℕ) →

@@ -97,10 +97,6 @@ split-node (t ∷ u ∷ us) two =
     ap (λ (l : Tree). node l (split_within more (drop n ts))) (same_levels more (length (take n ts)) (take n ts) short.0 (omega arith))
     ∙ ap (node (tree_of (take n ts))) (same_levels more (length (drop n ts)) (drop n ts) short.1 (omega arith))
 
-pub split-leaf : (t : Weighted) → tree_of (t ∷ []) ≡ leaf t
-unfolding split_within
-split-leaf t = refl
-
 pub split-one : (ts : List Weighted) (d : Weighted) → length ts ≡ 1 → tree_of ts ≡ leaf (get_or ts 0 d)
 unfolding split_within
 split-one [] d one = absurd (omega arith)
@@ -110,9 +106,3 @@ split-one (t ∷ u ∷ us) d one = absurd (omega arith)
 pub split-two : (ts front back : List Weighted) → 2 ≤ length ts → front ≡ take (length ts / 2) ts → back ≡ drop (length ts / 2) ts → tree_of ts ≡ node (tree_of front) (tree_of back)
 split-two ts front back two e f =
     split-node ts two ∙ ap (λ (us : List Weighted). node (tree_of us) (tree_of (drop (length ts / 2) ts))) (sym e) ∙ ap (λ (us : List Weighted). node (tree_of front) (tree_of us)) (sym f)
-
-pub split-single : (ts : List Weighted) → length ts ≡ 1 → (t : Weighted) × (tree_of ts ≡ leaf t)
-unfolding split_within
-split-single [] one = absurd (omega arith)
-split-single (t ∷ []) one = (t, refl)
-split-single (t ∷ u ∷ us) one = absurd (omega arith)

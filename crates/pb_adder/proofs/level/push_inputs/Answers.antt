@@ -1,4 +1,4 @@
-use Rattle.std.proofs.Common.{◌++◌, arith}
+use Rattle.std.proofs.Common.{arith}
 use Rattle.pb_adder.proofs.Inputs.{inputs_next, inputs_last}
 use Rattle.pb_adder.proofs.level.push_inputs.Goals as goal
 

@@ -2,8 +2,6 @@ use Rattle.std.proofs.Common.{◌≡◌, ◌++◌, take}
 use Rattle.std.specs.Prelude.{map}
 use Rattle.pb_base.specs.declared.literal.Term.{Term}
 use Rattle.pb_steps.specs.declared.op.PolOp.TheVariants.{Weaken}
-use Rattle.pb_norm.specs.Constraints.{weights}
-use Rattle.pb_norm.specs.BoundedSums.{vars_of}
 use Rattle.pb_family.proofs.claim.push_weakened.Given as goal
 
 abbrev pub invariant-loop-term : goal.invariant-loop-term
