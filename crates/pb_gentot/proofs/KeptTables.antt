@@ -6,14 +6,19 @@ use Rattle.std.proofs.lemmas.Nat.{mul-le}
 use Rattle.pb_base.specs.declared.literal.Lit.{Lit}
 use Rattle.pb_base.specs.declared.literal.Term.{Term}
 use Rattle.pb_norm.specs.Constraints.{Weighted, weight, weights}
-use Rattle.pb_tree.specs.Scheme.{values, fresh_of, clause_count_of}
+use Rattle.pb_tree.specs.Scheme.{values, fresh_of, output, clause_count_of}
 use Rattle.pb_tree.specs.Tree.{split_within, tree_of}
-use Rattle.pb_gentot.specs.BoundTable.{IsTable, table_values, table_output, table_rows}
+use Rattle.pb_tree.proofs.Halves.{leaf_of}
+use Rattle.pb_tree.proofs.Splitting.{split-node}
+use Rattle.pb_gentot.specs.BoundTable.{IsTable, uncut, table_values, table_output, table_fresh, table_rows}
 use Rattle.pb_gentot.specs.Generalized.{generalized}
 use Rattle.pb_gentot.specs.declared.measure.Part.{Part}
+use Rattle.pb_gentot.specs.declared.outputs.Outputs.TheVariants.{Single, Fresh}
 use Rattle.pb_gentot.specs.laws.KeptTables.{IsKeptTable, clauses_by, steps_by}
 use Rattle.pb_gentot.specs.laws.Measured.{IsPartMeasured}
+use Rattle.pb_gentot.specs.laws.Outputs.{output_in}
 use Rattle.pb_gentot.proofs.Bounds.{bounds}
+use Rattle.pb_gentot.proofs.Emitting.{node_output}
 use Rattle.pb_gentot.proofs.TableValues.{table_value_within}
 
 -- ---- no term
@@ -78,6 +83,32 @@ kept_of ts bound budget part between table light whole modest measured count =
       clauses_is = size ∙ ap same whole;
       modest = omega (arith, all, size);
     }
+
+-- ---- the literals of its rows
+
+pub single_output : (ts : List Term) (d : Term) (first : ℕ) (us : List ℕ) → length ts ≡ 1 → output_in (Single (get_or ts 0 d).lit) us ≡ table_output (weights ts) first
+single_output ts d first us one = ap (λ t. output (uncut (weights ts)) t first) (sym (leaf_of ts d one))
+
+two_or_more : (ts : List Term) → 1 ≤ length (table_values (weights ts)) → (length ts ≡ 1 → ⊥) → 2 ≤ length (weights ts)
+two_or_more [] some other = absurd (omega (arith, some, ap length (no_values (weight []))))
+two_or_more (t ∷ []) some other = absurd (other refl)
+two_or_more (t ∷ u ∷ us) some other = omega arith
+
+-- with two terms or more, the last fresh variables
+pub root_fresh : (ts : List Term) → 1 ≤ length (table_values (weights ts)) → (length ts ≡ 1 → ⊥) → length (table_values (weights ts)) ≤ table_fresh (weights ts)
+root_fresh ts some other =
+    let s = uncut (weights ts) in
+    let tree = split-node (weights ts) (two_or_more ts some other) in
+    omega (arith, ap (λ t. length (values s t)) tree, ap (fresh_of s) tree)
+
+pub fresh_output : (ts : List Term) (first base : ℕ) (us : List ℕ) → 1 ≤ length (table_values (weights ts)) → (length ts ≡ 1 → ⊥) → us ≡ table_values (weights ts)
+    → base ≡ first + (table_fresh (weights ts) - length (table_values (weights ts))) → output_in (Fresh base) us ≡ table_output (weights ts) first
+fresh_output ts first base us some other own is =
+    let s = uncut (weights ts) in
+    let tree = split-node (weights ts) (two_or_more ts some other) in
+    let whole = ap (λ t. length (values s t)) tree in
+    let fresh = ap (fresh_of s) tree in
+    node_output (weight (weights ts)) _ _ first base us (omega (arith, is, whole, fresh)) (own ∙ ap (values s) tree) ∙ ap (λ t. output s t first) (sym tree)
 
 -- ---- its rows
 

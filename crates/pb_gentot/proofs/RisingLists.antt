@@ -5,7 +5,8 @@ use Rattle.std.specs.List.{filter, flat_map, range_with_len, list_any, AllPairs,
 use Rattle.std.specs.List.Sorted.{IsSorted}
 use Rattle.std.specs.Ordering.{nat_cmp}
 use Rattle.std.proofs.Math.Dec.{eqb}
-use Rattle.std.proofs.lemmas.Bool.{cases_Bool, cond-true, cond-false}
+use Rattle.std.proofs.lemmas.Bool.{cases_Bool, cases_lt, cond-true, cond-false}
+use Rattle.std.proofs.lemmas.List.{get_or_default}
 use Rattle.std.proofs.lemmas.List.Elements.{Contains-get_or, All-contains, Contains-append_cases}
 use Rattle.std.proofs.lemmas.List.Kept.{AllPairs-from_increasing}
 use Rattle.std.proofs.lemmas.Map.Keys.{IsStrictlyIncreasing-dedup}
@@ -87,6 +88,15 @@ rising_monotone (u ∷ us) rising (suc i) (suc j) le within = rising_monotone us
 
 pub found_is : (us : List ℕ) (x i : ℕ) → Rising us → i < length us → get_or us i 0 ≡ x → i ≡ place_of x us
 found_is us x i rising within is = sym (place_at us i 0 rising within) ∙ ap (λ (k : ℕ). place_of k us) is
+
+pub never_missing : (us : List ℕ) (x i : ℕ) → Contains us x → ((k : ℕ) → k < i → get_or us k 0 < x) → ((k : ℕ) → i ≤ k → k < length us → x < get_or us k 0) → ⊥
+never_missing us x i h low high =
+    let k = h.0 in
+    let is : get_or us k 0 ≡ x = get_or_default us k 0 x h.1 ∙ h.2 in
+    elim (cases_lt k i) as (λ _. ⊥) [
+      | inl below ↦ let less = low k below in omega arith
+      | inr above ↦ let more = high k above h.1 in omega arith
+    ]
 
 -- the sums are cut
 pub sums_within : (cap : ℕ) (us vs : List ℕ) → All (λ u. u ≤ cap) us → All (λ v. v ≤ cap) vs → (n : ℕ) → Contains (sums cap us vs) n → n ≤ cap
