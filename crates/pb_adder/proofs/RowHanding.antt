@@ -4,19 +4,16 @@ use Rattle.std.specs.Prelude.{map, Option, Some, None, Result, IsErrAnd}
 use Rattle.std.proofs.lemmas.Bool.{cond_both}
 use Rattle.std.proofs.lemmas.List.{length-map, map-append}
 use Rattle.pb_base.specs.declared.literal.Lit.{Lit}
-use Rattle.pb_base.specs.Literals.{negated}
 use Rattle.pb_steps.specs.declared.step.Step.{Step}
 use Rattle.pb_derive.specs.Claims.{claim_steps}
 use Rattle.pb_derive.specs.Rups.{by_rup}
-use Rattle.pb_family.specs.Derivations.{propagated}
 use Rattle.pb_family.specs.StepSinks.{StepState, TakesSteps, StopsInSteps, HandsSteps}
 use Rattle.pb_family.specs.declared.sink.SinkFault.{SinkFault}
 use Rattle.pb_family.proofs.Deriving.{Deriving, deriving_as, deriving_step, steps_fault, takes_no_steps}
 use Rattle.pb_adder.specs.AdderSteps.{row_claims}
 use Rattle.pb_adder.specs.Comparator.{is_odd, covering, row_of, row_at, row_clause, comparator}
-use Rattle.pb_adder.specs.Gates.{wire_lit}
 use Rattle.pb_adder.specs.declared.gate.Wire.{Wire}
-use Rattle.pb_adder.proofs.RowSteps.{clauses_with, last_row, level_rows, row_clauses}
+use Rattle.pb_adder.proofs.RowSteps.{level_rows}
 use Rattle.pb_adder.proofs.Walks.{claims-append, claims_ids}
 
 -- the steps of clauses, by one id
@@ -25,14 +22,6 @@ by_last id next cs = claim_steps next (row_claims id cs)
 
 pub no_rows : {R : Type 0} (id : ℕ) (cs : List (List Lit)) (a : StepState R) → cs ≡ [] → TakesSteps (by_last id a.next cs) a a
 no_rows id cs a none = subst (λ (ds : List (List Lit)). TakesSteps (by_last id a.next ds) a a) (sym none) (takes_no_steps a)
-
--- the row that the code's loop ends with
-pub row_last : (first bound whole id next : ℕ) (front : List Lit) (w : Wire) (rest above : List (Option Wire)) → bound ≡ 0 → length rest ≡ 0
-    → clauses_with first front (covering bound rest) ≡ clauses_with first (negated (wire_lit first w) ∷ []) (covering whole above)
-    → propagated next (id ∷ []) front ≡ by_last id next (map (row_clause first) (row_of w (covering whole above)))
-row_last first bound whole id next front w [] above none done left =
-    ap (by_last id next) (sym (row_clauses first w (covering whole above) ∙ sym left ∙ last_row first bound front none))
-row_last first bound whole id next front w (e ∷ es) above none done left = absurd (omega (arith, done))
 
 -- a level has one row at most
 pub row_at_few : (bound : ℕ) (e : Option Wire) (above : List (Option Wire)) → length (row_at bound e above) ≤ 1

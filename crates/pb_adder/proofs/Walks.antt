@@ -14,10 +14,8 @@ use Rattle.pb_derive.specs.Meanings.{meaning_steps}
 use Rattle.pb_derive.specs.Rups.{by_rup}
 use Rattle.pb_family.specs.Derivations.{propagated}
 use Rattle.pb_adder.specs.AdderSteps.{blocks_within, blocks, sum_ops, later_sums, sum_steps, last_sum, last_deletion, gate_ids, gate_claims}
-use Rattle.pb_adder.specs.GateMeanings.{adder_meanings, gate_meanings}
-use Rattle.pb_adder.specs.Gates.{wire_lit, full_clauses, gate_clauses}
-use Rattle.pb_adder.specs.declared.gate.Wire.{Wire}
-use Rattle.pb_adder.specs.declared.gate.Wire.TheVariants.{Made}
+use Rattle.pb_adder.specs.GateMeanings.{gate_meanings}
+use Rattle.pb_adder.specs.Gates.{gate_clauses}
 use Rattle.pb_adder.specs.declared.gate.Gate.{Gate}
 use Rattle.pb_adder.specs.declared.gate.Gate.TheVariants.{Full, Half}
 use Rattle.pb_family.specs.StepSinks.{StepState, TakesSteps, StopsInSteps, HandsSteps}
@@ -195,22 +193,3 @@ last_below m running next (block ∷ parts) h k = last_below m next (next + 1) p
 pub no_last : (last : ℕ) (levels : List ℕ) → length levels ≡ 0 → last_deletion last levels ≡ []
 no_last last [] none = refl
 no_last last (level ∷ levels) none = absurd (omega (arith, none))
-
--- ---- an adder, as the code reads it
-
-pub full_claims_same : (ids : List ℕ) (first next : ℕ) (g : Gate) (x y z : Wire) (made : ℕ) (a b c s d : Lit) → g ≡ Full x y z made → a ≡ wire_lit first x → b ≡ wire_lit first y → c ≡ wire_lit first z
-    → s ≡ wire_lit first (Made made) → d ≡ wire_lit first (Made (made + 1))
-    → claim_steps next (map (by_rup ids) (full_clauses a b c s d)) ≡ claim_steps next (map (by_rup ids) (gate_clauses first g))
-full_claims_same ids first next g x y z made a b c s d is ha hb hc hs hd =
-    (λ i. claim_steps next (map (by_rup ids) (full_clauses (ha i) (hb i) (hc i) (hs i) (hd i)))) ∙ ap (λ (h : Gate). claim_steps next (map (by_rup ids) (gate_clauses first h))) (sym is)
-
-pub full_meanings_same : (first next : ℕ) (g : Gate) (x y z : Wire) (made : ℕ) (a b c : Lit) (s d : ℕ) → g ≡ Full x y z made → a ≡ wire_lit first x → b ≡ wire_lit first y → c ≡ wire_lit first z
-    → s ≡ first + made → d ≡ first + (made + 1)
-    → meaning_steps next (adder_meanings (a ∷ b ∷ c ∷ []) s d) ≡ meaning_steps next (gate_meanings first g)
-full_meanings_same first next g x y z made a b c s d is ha hb hc hs hd =
-    (λ i. meaning_steps next (adder_meanings (ha i ∷ hb i ∷ hc i ∷ []) (hs i) (hd i))) ∙ ap (λ (h : Gate). meaning_steps next (gate_meanings first h)) (sym is)
-
-pub half_meanings_same : (first next : ℕ) (g : Gate) (x y : Wire) (made : ℕ) (a b : Lit) (s d : ℕ) → g ≡ Half x y made → a ≡ wire_lit first x → b ≡ wire_lit first y → s ≡ first + made → d ≡ first + (made + 1)
-    → meaning_steps next (adder_meanings (a ∷ b ∷ []) s d) ≡ meaning_steps next (gate_meanings first g)
-half_meanings_same first next g x y made a b s d is ha hb hs hd =
-    (λ i. meaning_steps next (adder_meanings (ha i ∷ hb i ∷ []) (hs i) (hd i))) ∙ ap (λ (h : Gate). meaning_steps next (gate_meanings first h)) (sym is)

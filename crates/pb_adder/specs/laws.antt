@@ -10,6 +10,7 @@ pub mod Distances
 pub mod Extends
 pub mod GateClaims
 pub mod GateLaws
+pub mod GateLits
 pub mod GateRups
 pub mod Leveling
 pub mod LineOps
@@ -18,6 +19,7 @@ pub mod Names
 pub mod NetworkLaws
 pub mod RowLengths
 pub mod RowRups
+pub mod Rows
 pub mod RunningSteps
 pub mod RunningSums
 pub mod StepCounts

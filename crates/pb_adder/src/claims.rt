@@ -2,13 +2,13 @@
 ghost use Rattle.std.specs.Prelude.{◌≡◌, ◌≤◌, ◌<◌, ◌+◌, ◌*◌, ◌^◌, ◌∷◌, [], All, map, length};
 ghost use Rattle.pb_derive.specs.Rups.{by_rup};
 ghost use Rattle.pb_adder.specs.AdderSteps.{gate_claims, gate_ids, row_claims};
-ghost use Rattle.pb_adder.specs.Comparator.{comparator, end_needs, row_at, row_clause, row_of, covering};
-ghost use Rattle.pb_adder.specs.Gates.{full_clauses, gate_clauses, gate_needs, half_clauses, wire_needs};
+ghost use Rattle.pb_adder.specs.Comparator.{comparator, end_needs, row_at, row_clause};
+ghost use Rattle.pb_adder.specs.Gates.{full_clauses, gate_clauses, gate_needs, half_clauses};
 ghost use Rattle.pb_family.specs.laws.HandedReasons.{HandsClaims};
 
-use crate::comparator::LEVELS;
+use crate::comparator::row_at;
 use crate::emit::{full_carries, full_sums, half_threes, half_twos};
-use crate::gate::{Gate, Wire};
+use crate::gate::{Bits, Gate, GateLits, Wire};
 use pb_base::Lit;
 use pb_family::{SinkFault, StepSink, take_propagated};
 use std::alloc::Global;
@@ -79,19 +79,10 @@ fn take_gate<T: StepSink>(
     ensures { HandsClaims (map (by_rup (gate_ids id)) (gate_clauses first gate.now)) result (T.state sink.old) (T.state sink.new) }
 {
     let ids = [id, id + 1, id + 2, id + 3];
-    match gate {
-        Gate::Full(a, b, c, made) => {
-            let (a, b, c) = (a.lit(first), b.lit(first), c.lit(first));
-            let sum = Wire::Made(*made).lit(first);
-            let carry = Wire::Made(*made + 1).lit(first);
-            claim_full(alloc, &ids, &a, &b, &c, &sum, &carry, sink)
-        },
-        Gate::Half(a, b, made) => {
-            let (a, b) = (a.lit(first), b.lit(first));
-            let sum = Wire::Made(*made).lit(first);
-            let carry = Wire::Made(*made + 1).lit(first);
-            claim_half(alloc, &ids, &a, &b, &sum, &carry, sink)
-        },
+    let GateLits { bits, sum, carry } = gate.lits(first);
+    match bits {
+        Bits::Three(a, b, c) => claim_full(alloc, &ids, &a, &b, &c, &sum, &carry, sink),
+        Bits::Two(a, b) => claim_half(alloc, &ids, &a, &b, &sum, &carry, sink),
     }
 }
 
@@ -117,47 +108,8 @@ pub fn take_gates<T: StepSink>(
     Ok(())
 }
 
-/// Hands over that not all are true of the wire and the ends where the bound has a bit, unless some such end is missing.
+/// Hands over the clause of a level, if it has one.
 fn take_row<T: StepSink>(
-    alloc: Global,
-    wire: &Wire,
-    bound: u128,
-    above: &[Option<Wire>],
-    first: u32,
-    id: u64,
-    sink: &mut T,
-) -> Result<(), SinkFault>
-    requires low { 1 ≤ first }
-    requires few { length above.now < 128 }
-    requires wire_fits { first + wire_needs wire.now ≤ 2 ^ 31 }
-    requires fits { All (λ e. first + end_needs e ≤ 2 ^ 31) above.now }
-    requires room { (T.state sink.old).next + 1 < 2 ^ 62 }
-    ensures { HandsClaims (row_claims id (map (row_clause first) (row_of wire.now (covering bound above.now)))) result (T.state sink.old) (T.state sink.new) }
-{
-    let mut row = [wire.lit(first).not(); LEVELS];
-    let mut len = 1;
-    let mut bound = bound;
-    let mut rest = above;
-    while let Some((end, others)) = rest.split_first() {
-        if bound % 2 == 1 {
-            match end {
-                Some(other) => {
-                    row[len] = other.lit(first).not();
-                    len += 1;
-                },
-                None => return Ok(()),
-            }
-        }
-        bound /= 2;
-        rest = others;
-    }
-    if bound > 0 {
-        return Ok(());
-    }
-    take_propagated(alloc, &[id], &row[..len], sink)
-}
-
-fn take_row_at<T: StepSink>(
     alloc: Global,
     bound: u128,
     end: &Option<Wire>,
@@ -173,14 +125,8 @@ fn take_row_at<T: StepSink>(
     requires room { (T.state sink.old).next + 1 < 2 ^ 62 }
     ensures { HandsClaims (row_claims id (map (row_clause first) (row_at bound end.now above.now))) result (T.state sink.old) (T.state sink.new) }
 {
-    match end {
-        Some(wire) => {
-            if bound % 2 == 0 {
-                take_row(alloc, wire, bound / 2, above, first, id, sink)
-            } else {
-                Ok(())
-            }
-        },
+    match row_at(bound, end, above, first) {
+        Some(row) => take_propagated(alloc, &[id], row.as_slice(), sink),
         None => Ok(()),
     }
 }
@@ -203,7 +149,7 @@ pub fn take_rows<T: StepSink>(
     let mut bound = bound;
     let mut rest = ends;
     while let Some((end, above)) = rest.split_first() {
-        take_row_at(alloc, bound, end, above, first, id, sink)?;
+        take_row(alloc, bound, end, above, first, id, sink)?;
         bound /= 2;
         rest = above;
     }

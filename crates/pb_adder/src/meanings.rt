@@ -6,7 +6,7 @@ ghost use Rattle.pb_family.specs.laws.HandedReasons.{HandsMeanings};
 ghost use Rattle.pb_adder.specs.GateMeanings.{adder_meanings, gate_meanings, twice_off};
 ghost use Rattle.pb_adder.specs.Gates.{gate_needs};
 
-use crate::gate::{Gate, Wire};
+use crate::gate::{Bits, Gate, GateLits};
 use pb_base::{Lit, Term, Var};
 use pb_family::{SinkFault, StepSink, take_meaning};
 use std::alloc::Global;
@@ -84,19 +84,10 @@ fn take_gate_meanings<T: StepSink>(
     requires few { (T.state sink.old).next + 3 < 2 ^ 62 }
     ensures { HandsMeanings (gate_meanings first gate.now) result (T.state sink.old) (T.state sink.new) }
 {
-    match gate {
-        Gate::Full(a, b, c, made) => {
-            let (a, b, c) = (a.lit(first), b.lit(first), c.lit(first));
-            let sum = Wire::Made(*made).lit(first).var;
-            let carry = Wire::Made(*made + 1).lit(first).var;
-            take_full(alloc, &a, &b, &c, sum, carry, sink)
-        },
-        Gate::Half(a, b, made) => {
-            let (a, b) = (a.lit(first), b.lit(first));
-            let sum = Wire::Made(*made).lit(first).var;
-            let carry = Wire::Made(*made + 1).lit(first).var;
-            take_half(alloc, &a, &b, sum, carry, sink)
-        },
+    let GateLits { bits, sum, carry } = gate.lits(first);
+    match bits {
+        Bits::Three(a, b, c) => take_full(alloc, &a, &b, &c, sum.var, carry.var, sink),
+        Bits::Two(a, b) => take_half(alloc, &a, &b, sum.var, carry.var, sink),
     }
 }
 

@@ -1,50 +1,14 @@
-use Rattle.std.proofs.Common.{◌≤◌, ◌+◌, ◌^◌, ◌∙◌, ◌∷◌, [], ap, length, arith, take}
-use Rattle.std.proofs.lemmas.List.{length-set}
-use Rattle.pb_base.specs.Literals.{negated}
-use Rattle.pb_adder.specs.Comparator.{covering, end_needs}
-use Rattle.pb_adder.specs.Gates.{wire_lit}
+use Rattle.std.proofs.Common.{◌∙◌, ap, sym}
 use Rattle.pb_family.proofs.Deriving.{steps_same}
-use Rattle.pb_adder.proofs.RowHanding.{no_rows, row_last}
-use Rattle.pb_adder.proofs.RowSteps.{clauses_with, rest_all, row_above, row_even, row_missing, row_odd}
+use Rattle.pb_adder.proofs.RowHanding.{by_last, no_rows}
+use Rattle.pb_adder.proofs.RowSteps.{row_given, row_lacks}
 use Rattle.pb_adder.proofs.claims.take_row.Goals as goal
-use Rattle.pb_adder.proofs.claims.take_row.Goals.{then-bound-eq1+in-Some-end, else-bound-eq1}
 
-pub loop-end-preserved : goal.loop-end-preserved
-loop-end-preserved g c =
-    let split = c.in-Some.ensures.cases.0 in
-    let shorter = c.in-Some.ensures.cases.1 in
-    let room = c.loop-end.invariant.room in
-    let whole = c.loop-end.invariant.whole in
-    let all = clauses_with c.args.first (negated (wire_lit c.args.first c.args.wire.now) ∷ []) (covering c.args.bound c.args.above.now) in
-    let fits = rest_all (λ e. c.args.first + end_needs e ≤ 2 ^ 31) c.in-Some.end.now c.loop-end.rest.now c.in-Some.others.now split c.loop-end.invariant.fits in
-    elim c.if-bound-eq1.branch [
-      | then-bound-eq1+in-Some-end w ↦ record {
-        clauses = row_odd c.args.first c.loop-end.bound c.loop-end.len c.if-bound-eq1.len c.loop-end.row c.if-bound-eq1.row w.not.result w.in-Some-end.other c.in-Some.end.now c.loop-end.rest.now c.in-Some.others.now all (omega arith) w.if-bound-eq1.true w.in-Some-end.is split (w.not.ensures ∙ ap negated w.lit-in-Some-end.ensures) w.row-is w.len-is c.loop-end.invariant.clauses;
-        room = omega (arith, w.len-is);
-        whole = ap length w.row-is ∙ length-set c.loop-end.row c.loop-end.len w.not.result ∙ whole;
-        fits = fits;
-      }
-      | else-bound-eq1 w ↦ record {
-        clauses = row_even c.args.first c.loop-end.bound c.loop-end.len c.if-bound-eq1.len c.loop-end.row c.if-bound-eq1.row c.in-Some.end.now c.loop-end.rest.now c.in-Some.others.now all w.if-bound-eq1.false split w.row-is w.len-is c.loop-end.invariant.clauses;
-        room = omega (arith, w.len-is);
-        whole = ap length w.row-is ∙ whole;
-        fits = fits;
-      }
-    ]
-
-pub returns-in-None : goal.returns-in-None
-returns-in-None g c =
-    no_rows c.args.id _ (g.T.StepSink.state c.args.sink.now)
-    (row_missing c.args.first c.loop-end.bound c.args.bound (take c.loop-end.len c.loop-end.row) c.args.wire.now c.in-Some.end.now c.loop-end.rest.now c.in-Some.others.now c.args.above.now c.if-bound-eq1.true c.in-None.is c.in-Some.ensures.cases.0 c.loop-end.invariant.clauses)
-
-pub returns-then-bound-gt0 : goal.returns-then-bound-gt0
-returns-then-bound-gt0 g c =
-    no_rows c.args.id _ (g.T.StepSink.state c.args.sink.now)
-    (row_above c.args.first c.loop-end.bound c.args.bound (take c.loop-end.len c.loop-end.row) c.args.wire.now c.loop-end.rest.now c.args.above.now c.if-bound-gt0.true c.in_default.ensures.cases c.loop-end.invariant.clauses)
-
-pub returns : goal.returns
-returns g c =
+pub returns-in-Some : goal.returns-in-Some
+returns-in-Some g c =
     let old = g.T.StepSink.state c.args.sink.now in
     steps_same c.take_propagated.result _ _ old (g.T.StepSink.state c.take_propagated.new.sink)
-    (row_last c.args.first c.loop-end.bound c.args.bound c.args.id old.next (take c.loop-end.len c.loop-end.row) c.args.wire.now c.loop-end.rest.now c.args.above.now (omega arith) c.in_default.ensures.cases c.loop-end.invariant.clauses)
-    c.take_propagated.ensures
+    (ap (by_last c.args.id old.next) (row_given c.row_at.result c.in-Some.row _ c.in-Some.is c.as_slice.ensures ∙ c.row_at.ensures)) c.take_propagated.ensures
+
+pub returns-in-None : goal.returns-in-None
+returns-in-None g c = no_rows c.args.id _ (g.T.StepSink.state c.args.sink.now) (sym c.row_at.ensures ∙ row_lacks c.row_at.result c.in-None.is)

@@ -13,17 +13,17 @@ loop-end-init g c = record {
   fits = c.requires.fits;
 }
 
-pub returns-in_err-take_row_at : goal.returns-in_err-take_row_at
-returns-in_err-take_row_at g c =
+pub returns-in_err-take_row : goal.returns-in_err-take_row
+returns-in_err-take_row g c =
     rows_stopped c.args.first c.loop-end.bound c.args.id c.in-Some.end.now c.loop-end.rest.now c.in-Some.above.now c.in-Some.ensures.cases.0 c.loop-end.invariant.steps
-    c.from_residual.result _ (g.T.StepSink.state c.take_row_at.new.sink) c.from_residual.ensures.1 c.in_err-take_row_at.ensures
+    c.from_residual.result _ (g.T.StepSink.state c.take_row.new.sink) c.from_residual.ensures.1 c.in_err-take_row.ensures
 
 pub loop-end-preserved : goal.loop-end-preserved
 loop-end-preserved g c =
-    let after = g.T.StepSink.state c.take_row_at.new.sink in
+    let after = g.T.StepSink.state c.take_row.new.sink in
     let split = c.in-Some.ensures.cases.0 in
     let shorter = c.in-Some.ensures.cases.1 in
-    let handed = c.in_ok-take_row_at.ensures in
+    let handed = c.in_ok-take_row.ensures in
     let count = rows_counted c.args.first c.loop-end.bound c.args.id c.in-Some.end.now c.loop-end.rest.now c.in-Some.above.now split c.loop-end.invariant.steps after handed in
     record {
       steps = rows_taken c.args.first c.loop-end.bound c.args.id c.in-Some.end.now c.loop-end.rest.now c.in-Some.above.now split c.loop-end.invariant.steps after handed;
@@ -32,9 +32,9 @@ loop-end-preserved g c =
       fits = rest_all (λ e. c.args.first + end_needs e ≤ 2 ^ 31) c.in-Some.end.now c.loop-end.rest.now c.in-Some.above.now split c.loop-end.invariant.fits;
     }
 
-pub take_row_at-requires-clause-fits : goal.take_row_at-requires-clause-fits
-take_row_at-requires-clause-fits g c =
+pub take_row-requires-clause-fits : goal.take_row-requires-clause-fits
+take_row-requires-clause-fits g c =
     rest_all (λ e. c.args.first + end_needs e ≤ 2 ^ 31) c.in-Some.end.now c.loop-end.rest.now c.in-Some.above.now c.in-Some.ensures.cases.0 c.loop-end.invariant.fits
 
-pub take_row_at-requires-clause-room : goal.take_row_at-requires-clause-room
-take_row_at-requires-clause-room g c = omega (arith, c.loop-end.invariant.next, c.in-Some.ensures.cases.1, c.requires.room)
+pub take_row-requires-clause-room : goal.take_row-requires-clause-room
+take_row-requires-clause-room g c = omega (arith, c.loop-end.invariant.next, c.in-Some.ensures.cases.1, c.requires.room)

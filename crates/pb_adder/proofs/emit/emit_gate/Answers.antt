@@ -1,45 +1,9 @@
-use Rattle.std.proofs.Common.{◌^◌}
 use Rattle.pb_family.proofs.Emission.{hands_same}
-use Rattle.pb_adder.proofs.Adders.{full_clauses_same, half_clauses_same, full_fits, half_fits, made_fits}
+use Rattle.pb_adder.proofs.Adders.{full_same, half_same}
 use Rattle.pb_adder.proofs.emit.emit_gate.Goals as goal
 
-pub lit-a-requires-clause-fits : goal.lit-a-requires-clause-fits
-lit-a-requires-clause-fits g c = (full_fits c.args.first (2 ^ 31) c.args.gate.now _ _ _ _ c.in-Full.is c.requires.fits).one
+pub returns-in-Three : goal.returns-in-Three
+returns-in-Three g c = hands_same c.emit_full.result _ _ _ _ (full_same c.args.first c.args.gate.now c.lits-bits.result c.lits-bits.ensures _ _ _ c.in-Three.is) c.emit_full.ensures
 
-pub lit-b-requires-clause-fits : goal.lit-b-requires-clause-fits
-lit-b-requires-clause-fits g c = (full_fits c.args.first (2 ^ 31) c.args.gate.now _ _ _ _ c.in-Full.is c.requires.fits).two
-
-pub lit-c-requires-clause-fits : goal.lit-c-requires-clause-fits
-lit-c-requires-clause-fits g c = (full_fits c.args.first (2 ^ 31) c.args.gate.now _ _ _ _ c.in-Full.is c.requires.fits).three
-
-pub lit-sum-requires-clause-fits : goal.lit-sum-requires-clause-fits
-lit-sum-requires-clause-fits g c = (full_fits c.args.first (2 ^ 31) c.args.gate.now _ _ _ _ c.in-Full.is c.requires.fits).sum
-
-pub lit-carry-requires-clause-fits : goal.lit-carry-requires-clause-fits
-lit-carry-requires-clause-fits g c = (full_fits c.args.first (2 ^ 31) c.args.gate.now _ _ _ _ c.in-Full.is c.requires.fits).carry
-
-pub overflow_add-made : goal.overflow_add-made
-overflow_add-made g c = made_fits c.args.first _ (full_fits c.args.first (2 ^ 31) c.args.gate.now _ _ _ _ c.in-Full.is c.requires.fits).carry
-
-pub lit-a-requires-in-Half-clause-fits : goal.lit-a-requires-in-Half-clause-fits
-lit-a-requires-in-Half-clause-fits g c = (half_fits c.args.first (2 ^ 31) c.args.gate.now _ _ _ c.in-Half.is c.requires.fits).one
-
-pub lit-b-requires-in-Half-clause-fits : goal.lit-b-requires-in-Half-clause-fits
-lit-b-requires-in-Half-clause-fits g c = (half_fits c.args.first (2 ^ 31) c.args.gate.now _ _ _ c.in-Half.is c.requires.fits).two
-
-pub lit-sum-requires-in-Half-clause-fits : goal.lit-sum-requires-in-Half-clause-fits
-lit-sum-requires-in-Half-clause-fits g c = (half_fits c.args.first (2 ^ 31) c.args.gate.now _ _ _ c.in-Half.is c.requires.fits).sum
-
-pub lit-carry-requires-in-Half-clause-fits : goal.lit-carry-requires-in-Half-clause-fits
-lit-carry-requires-in-Half-clause-fits g c = (half_fits c.args.first (2 ^ 31) c.args.gate.now _ _ _ c.in-Half.is c.requires.fits).carry
-
-pub overflow_add-made-in-Half : goal.overflow_add-made-in-Half
-overflow_add-made-in-Half g c = made_fits c.args.first _ (half_fits c.args.first (2 ^ 31) c.args.gate.now _ _ _ c.in-Half.is c.requires.fits).carry
-
-pub returns-in-Full : goal.returns-in-Full
-returns-in-Full g c =
-    hands_same c.emit_full.result _ _ _ _ (full_clauses_same c.args.first c.args.gate.now _ _ _ _ _ _ _ _ _ c.in-Full.is c.lit-a.ensures c.lit-b.ensures c.lit-c.ensures c.lit-sum.ensures c.lit-carry.ensures) c.emit_full.ensures
-
-pub returns-in-Half : goal.returns-in-Half
-returns-in-Half g c =
-    hands_same c.emit_half.result _ _ _ _ (half_clauses_same c.args.first c.args.gate.now _ _ _ _ _ _ _ c.in-Half.is c.lit-a-in-Half.ensures c.lit-b-in-Half.ensures c.lit-sum-in-Half.ensures c.lit-carry-in-Half.ensures) c.emit_half.ensures
+pub returns-in-Two : goal.returns-in-Two
+returns-in-Two g c = hands_same c.emit_half.result _ _ _ _ (half_same c.args.first c.args.gate.now c.lits-bits.result c.lits-bits.ensures _ _ c.in-Two.is) c.emit_half.ensures
