@@ -1,5 +1,5 @@
 -- The steps of an exact sum's derivation as the code has their parts.
-use Rattle.std.proofs.Common.{◌≡◌, ◌≤◌, ◌+◌, ◌-◌, ◌*◌, ◌^◌, ◌++◌, ℕ, Bool, true, false, cond, List, [], ◌∷◌, length, map, min, refl, sym, ap, ◌∙◌, subst, arith, length-append}
+use Rattle.std.proofs.Common.{◌≡◌, ◌+◌, ◌-◌, ◌*◌, ◌++◌, ℕ, Bool, true, false, cond, List, [], ◌∷◌, length, map, min, refl, sym, ap, ◌∙◌, subst, arith, length-append}
 use Rattle.std.specs.Prelude.{nat_lt}
 use Rattle.std.specs.List.{range_with_len}
 use Rattle.std.proofs.lemmas.List.{length-map}
@@ -17,26 +17,20 @@ use Rattle.pb_tree.specs.Pairs.{Pair, pair_of}
 use Rattle.pb_tree.specs.Scheme.{fresh_of}
 use Rattle.pb_tree.specs.Tree.{Tree, node, tree_of}
 use Rattle.pb_tree.specs.TreeSteps.{leaves, output_ids, pair_reasons, reasons_along, root_reason}
-use Rattle.pb_tree.proofs.AlongReasons.{clause_in}
-use Rattle.pb_tree.proofs.Extending.{along_counted}
 use Rattle.pb_tree.proofs.PairLists.{map_same, map-map, rows_same}
-use Rattle.pb_tree.proofs.TreeHalves.{along_given, along_same, along_length}
 use Rattle.pb_tree.proofs.TreeHanded.{IsFirstFree, along_first_free, pairs_first_free, bare, bare_same}
 use Rattle.pb_tree.proofs.TreeRows.{leaves_of}
-use Rattle.pb_totalizer.specs.Exact.{outputs_of, limits, exact_own, limit_count_of}
+use Rattle.pb_totalizer.specs.Exact.{outputs_of, limits}
 use Rattle.pb_totalizer.specs.ExactSteps.{after_ids, after_weakened, limit_reason, limit_pairs, limit_reasons, own_reasons, least_reason, exact_reasons}
 use Rattle.pb_totalizer.specs.Totalizer.{totalizer}
 use Rattle.pb_totalizer.specs.TotalizerSteps.{totalizer_pairs}
 use Rattle.pb_totalizer.specs.declared.claims.Source.{Source}
-use Rattle.pb_totalizer.specs.laws.Counting.{own_in_grid}
-use Rattle.pb_totalizer.specs.laws.ExactMeanings.{own_counted}
-use Rattle.pb_totalizer.specs.laws.ExactReasons.{exact_along_clauses}
-use Rattle.pb_totalizer.specs.laws.LimitCounts.{limits_in_grid, split_count}
-use Rattle.pb_totalizer.specs.laws.LimitSources.{seconds_from, ids_after, weakened_after, limit_given, limit_row_given, limits_given, both_given, least_given, exact_part_reasons, exact_all_reasons}
+use Rattle.pb_totalizer.specs.declared.ways.Ways.TheVariants.{Both}
+use Rattle.pb_totalizer.specs.laws.LimitSources.{seconds_from, ids_after, weakened_after, limit_given, limit_row_given, limits_given, least_given}
 use Rattle.pb_totalizer.specs.laws.Limits.{limits_are}
-use Rattle.pb_totalizer.specs.laws.Shares.{few_shared}
-use Rattle.pb_totalizer.specs.laws.Sources.{ids_from, node_given, root_given}
-use Rattle.pb_totalizer.proofs.Handed.{node_are, root_is}
+use Rattle.pb_totalizer.specs.laws.Sources.{ids_from, root_given}
+use Rattle.pb_totalizer.specs.laws.Ways.{reasons_by, exact_all_reasons}
+use Rattle.pb_totalizer.proofs.Handed.{root_is}
 
 -- ---- rows
 
@@ -48,7 +42,7 @@ limit_row_pieces f count b i high next is =
     ap (λ (js : List ℕ). claim_steps next (map by_reason (map f js))) (limits_are count b i high is ∙ ap (range_with_len 0) (let e : high - 0 ≡ high = omega arith in e))
     ∙ reason_pieces f next 0 high
 
--- ---- the clauses of a node
+-- ---- the clauses of a node, from its outputs to its parts
 
 seconds_are : (source : Source) (bound : ℕ) (t : Tree) (id u : ℕ) → ids_from source ≡ output_ids (totalizer bound) t id → seconds_from source u ≡ map (λ k. k + 1) (output_ids (totalizer bound) t id u)
 seconds_are source bound t id u same = ap (λ (f : ℕ → List ℕ). map (λ k. k + 1) (f u)) same
@@ -99,18 +93,16 @@ module _ (bound : ℕ) (lefts rights : List Term) (id own : ℕ) (sl sr : Source
       ∙ sym (map-map claim (pair_of i) (limits c m i)))
       ∙ sym (map-map bare (limit_reason bound l r 0 id) (limit_pairs c n m))
 
-  both_same : (count a b : ℕ) → count ≡ outputs_of bound (node l r) → a ≡ outputs_of bound l → b ≡ outputs_of bound r → HaveSameSteps (both_given (bound + 1) count a b sl lefts sr rights own) (own_reasons bound l r 0 id)
-  both_same count a b ec ea eb =
-      let ps = pair_reasons (totalizer bound) (totalizer_pairs (bound + 1)) l r 0 id in
+  -- with the steps of its clauses
+  pub limits_same : (count a b : ℕ) → count ≡ outputs_of bound (node l r) → a ≡ outputs_of bound l → b ≡ outputs_of bound r → HaveSameSteps (limits_given count a b sl lefts sr rights own) (limit_reasons bound l r 0 id)
+  limits_same count a b ec ea eb =
       let qs = limit_reasons bound l r 0 id in
-      same_append (node_given (bound + 1) a b sl lefts sr rights own) ps (limits_given count a b sl lefts sr rights own) qs
-      (subst (λ (rs : List Reason). HaveSameSteps rs ps) (sym (node_are bound lefts rights id own sl sr left right at a b ea eb)) (bare_same ps))
-      (subst (λ (rs : List Reason). HaveSameSteps rs qs) (sym (limits_are_given count a b ec ea eb)) (bare_same qs))
+      subst (λ (rs : List Reason). HaveSameSteps rs qs) (sym (limits_are_given count a b ec ea eb)) (bare_same qs)
 
--- ---- over two halves
+-- ---- numbers of variables
 
-limits_same : (bound : ℕ) (l r : Tree) (f g id : ℕ) (ps : List Pair) → HaveSameSteps (map (limit_reason bound l r f id) ps) (map (limit_reason bound l r g id) ps)
-limits_same bound l r f g id ps = record { count = omega (arith, length-map ps (limit_reason bound l r f id), length-map ps (limit_reason bound l r g id)); steps = λ next. each next ps }
+limits_free : (bound : ℕ) (l r : Tree) (f g id : ℕ) (ps : List Pair) → HaveSameSteps (map (limit_reason bound l r f id) ps) (map (limit_reason bound l r g id) ps)
+limits_free bound l r f g id ps = record { count = omega (arith, length-map ps (limit_reason bound l r f id), length-map ps (limit_reason bound l r g id)); steps = λ next. each next ps }
   where
     each : (next : ℕ) (ps : List Pair) → claim_steps next (map by_reason (map (limit_reason bound l r f id) ps)) ≡ claim_steps next (map by_reason (map (limit_reason bound l r g id) ps))
     each next [] = refl
@@ -122,38 +114,7 @@ own_first_free bound l r f g id =
     let s = totalizer bound in
     let pairs = totalizer_pairs (bound + 1) in
     same_append (pair_reasons s pairs l r f id) (pair_reasons s pairs l r g id) (limit_reasons bound l r f id) (limit_reasons bound l r g id) (pairs_first_free s pairs l r f g id)
-    (limits_same bound l r f g id (limit_pairs (outputs_of bound (node l r)) (outputs_of bound l) (outputs_of bound r)))
-
--- a node's own, as code has them
-abbrev pub exact_own_reasons : ℕ → List Term → List Term → ℕ → List Reason
-exact_own_reasons bound lefts rights id = own_reasons bound (tree_of (weights lefts)) (tree_of (weights rights)) 0 id
-
--- the clauses of a part are those of its halves, and its own
-pub exact_parts_given : (bound : ℕ) (ts lefts rights : List Term) (id own count a b middle : ℕ) (sl sr : Source) → tree_of (weights ts) ≡ node (tree_of (weights lefts)) (tree_of (weights rights))
-    → ids_from sl ≡ output_ids (totalizer bound) (tree_of (weights lefts)) id
-    → middle ≡ id + 2 * fresh_of (totalizer bound) (tree_of (weights lefts))
-    → ids_from sr ≡ output_ids (totalizer bound) (tree_of (weights rights)) middle
-    → own ≡ middle + 2 * fresh_of (totalizer bound) (tree_of (weights rights))
-    → count ≡ outputs_of bound (node (tree_of (weights lefts)) (tree_of (weights rights)))
-    → a ≡ outputs_of bound (tree_of (weights lefts)) → b ≡ outputs_of bound (tree_of (weights rights))
-    → HaveSameSteps (exact_part_reasons bound lefts id ++ (exact_part_reasons bound rights middle ++ both_given (bound + 1) count a b sl lefts sr rights own)) (exact_part_reasons bound ts id)
-exact_parts_given bound ts lefts rights id own count a b middle sl sr tree left is right at ec ea eb =
-    let s = totalizer bound in
-    let l = tree_of (weights lefts) in
-    let r = tree_of (weights rights) in
-    let right_at : ids_from sr ≡ output_ids s r (id + 2 * fresh_of s l) = right ∙ ap (λ (n : ℕ). output_ids s r n) is in
-    along_given s (own_reasons bound) (own_first_free bound) (tree_of (weights ts)) l r id tree middle (both_given (bound + 1) count a b sl lefts sr rights own) is
-    (both_same bound lefts rights id own sl sr left right_at (omega (arith, at, is)) count a b ec ea eb)
-
-pub exact_parts_same : (bound : ℕ) (ts lefts rights : List Term) (id middle : ℕ) → tree_of (weights ts) ≡ node (tree_of (weights lefts)) (tree_of (weights rights))
-    → middle ≡ id + 2 * fresh_of (totalizer bound) (tree_of (weights lefts))
-    → HaveSameSteps (exact_part_reasons bound lefts id ++ (exact_part_reasons bound rights middle ++ exact_own_reasons bound lefts rights id)) (exact_part_reasons bound ts id)
-exact_parts_same bound ts lefts rights id middle tree is = along_same (totalizer bound) (own_reasons bound) (own_first_free bound) (tree_of (weights ts)) (tree_of (weights lefts)) (tree_of (weights rights)) id tree middle is
-
--- how many they are
-pub exact_parts_length : (bound : ℕ) (ts lefts rights : List Term) (id : ℕ) → tree_of (weights ts) ≡ node (tree_of (weights lefts)) (tree_of (weights rights))
-    → length (exact_part_reasons bound lefts id) + length (exact_part_reasons bound rights (id + 2 * fresh_of (totalizer bound) (tree_of (weights lefts)))) ≤ length (exact_part_reasons bound ts id)
-exact_parts_length bound ts lefts rights id tree = along_length (totalizer bound) (own_reasons bound) (own_first_free bound) (tree_of (weights ts)) (tree_of (weights lefts)) (tree_of (weights rights)) id tree
+    (limits_free bound l r f g id (limit_pairs (outputs_of bound (node l r)) (outputs_of bound l) (outputs_of bound r)))
 
 -- ---- the root
 
@@ -163,14 +124,14 @@ least_is bound ts id lower root same = ap (λ (is : List ℕ). named (is ++ lowe
 
 -- all clauses are those of the nodes and those of the root
 pub exact_ends_last : (bound : ℕ) (ts : List Term) (id lower upper : ℕ) (root : Source) → ids_from root ≡ output_ids (totalizer bound) (tree_of (weights ts)) id
-    → HaveSameSteps (exact_part_reasons bound ts id ++ (least_given root bound lower ∷ root_given root (bound + 1) upper ∷ [])) (exact_all_reasons bound ts id lower upper)
+    → HaveSameSteps (reasons_by Both bound ts id ++ (least_given root bound lower ∷ root_given root (bound + 1) upper ∷ [])) (exact_all_reasons bound ts id lower upper)
 exact_ends_last bound ts id lower upper root same =
     let t = tree_of (weights ts) in
     let ends = least_reason bound t 0 id lower ∷ root_reason (totalizer bound) t 0 id upper ∷ [] in
     let one = least_is bound ts id lower root same in
     let two = root_is bound ts id upper root same in
     let are : (least_given root bound lower ∷ root_given root (bound + 1) upper ∷ []) ≡ map bare ends = λ i. one i ∷ two i ∷ [] in
-    same_append (exact_part_reasons bound ts id) (exact_part_reasons bound ts id) (least_given root bound lower ∷ root_given root (bound + 1) upper ∷ []) ends (record { count = refl; steps = λ next. refl })
+    same_append (reasons_by Both bound ts id) (reasons_by Both bound ts id) (least_given root bound lower ∷ root_given root (bound + 1) upper ∷ []) ends (record { count = refl; steps = λ next. refl })
     (subst (λ (rs : List Reason). HaveSameSteps rs ends) (sym are) (bare_same ends))
 
 -- from the sink's next id on
@@ -185,23 +146,7 @@ exact_all_same bound ts first lower upper base next is =
 
 -- ---- how many
 
-pub exact_all_counted : (bound : ℕ) (ts : List Term) (id lower upper : ℕ) → length (exact_all_reasons bound ts id lower upper) ≡ length (exact_part_reasons bound ts id) + 2
+pub exact_all_counted : (bound : ℕ) (ts : List Term) (id lower upper : ℕ) → length (exact_all_reasons bound ts id lower upper) ≡ length (reasons_by Both bound ts id) + 2
 exact_all_counted bound ts id lower upper =
     let t = tree_of (weights ts) in
-    omega (arith, length-append (exact_part_reasons bound ts id) (least_reason bound t 0 id lower ∷ root_reason (totalizer bound) t 0 id upper ∷ []))
-
--- as many clauses as the ids have room for
-pub few_exact : (bound : ℕ) (ts : List Term) (id : ℕ) → 1 ≤ bound → fresh_of (totalizer bound) (tree_of (weights ts)) ≤ 2 ^ 31 → length (exact_part_reasons bound ts id) ≤ 3 * 2 ^ 59
-few_exact bound ts id some few =
-    let s = totalizer bound in
-    let t = tree_of (weights ts) in
-    let rs = exact_part_reasons bound ts id in
-    omega (
-      arith,
-      length-map rs clause_in,
-      ap length (exact_along_clauses bound t 0 id),
-      along_counted s (exact_own bound) _ (own_counted bound) t 0,
-      split_count bound t,
-      few_shared bound _ (own_in_grid bound) t some few,
-      few_shared bound (limit_count_of bound) (limits_in_grid bound) t some few,
-    )
+    omega (arith, length-append (reasons_by Both bound ts id) (least_reason bound t 0 id lower ∷ root_reason (totalizer bound) t 0 id upper ∷ []))

@@ -1,5 +1,5 @@
 -- The steps of a totalizer's derivation as the code has their parts.
-use Rattle.std.proofs.Common.{◌≡◌, ◌≤◌, ◌+◌, ◌-◌, ◌*◌, ◌++◌, ℕ, zero, suc, List, [], ◌∷◌, length, map, min, refl, sym, ap, ◌∙◌, subst, arith}
+use Rattle.std.proofs.Common.{◌≡◌, ◌≤◌, ◌+◌, ◌-◌, ◌*◌, ◌++◌, ℕ, zero, suc, List, [], ◌∷◌, length, map, min, refl, sym, ap, ◌∙◌, subst, arith, length-append}
 use Rattle.std.specs.List.{range_with_len}
 use Rattle.pb_base.specs.declared.literal.Term.{Term}
 use Rattle.pb_norm.specs.BoundedSums.{vars_of}
@@ -14,18 +14,20 @@ use Rattle.pb_family.proofs.Sequence.{meaning_pieces, reason_pieces}
 use Rattle.pb_tree.specs.Pairs.{Pair, pair_of}
 use Rattle.pb_tree.specs.Scheme.{values, fresh_of}
 use Rattle.pb_tree.specs.Tree.{Tree, node, tree_of}
-use Rattle.pb_tree.specs.TreeSteps.{meanings_from, meanings, output_ids, part_ids, part_weakened, pair_reason, root_reason, tree_reasons}
+use Rattle.pb_tree.specs.TreeSteps.{meanings_from, meanings, output_ids, part_ids, part_weakened, pair_reason, pair_reasons, root_reason, tree_reasons}
 use Rattle.pb_tree.proofs.PairLists.{map_same, map-map, rows_same}
-use Rattle.pb_tree.proofs.TreeHalves.{halves_meant, node_reasons, halves_given, halves_same, halves_length}
+use Rattle.pb_tree.proofs.TreeHalves.{halves_meant}
 use Rattle.pb_tree.proofs.TreeHanded.{range_shift, bare, bare_same, all_first_free}
 use Rattle.pb_tree.proofs.TreeRows.{leaves_of}
+use Rattle.pb_totalizer.specs.Exact.{outputs_of}
 use Rattle.pb_totalizer.specs.Totalizer.{partners, totalizer}
 use Rattle.pb_totalizer.specs.TotalizerSteps.{totalizer_pairs}
 use Rattle.pb_totalizer.specs.declared.claims.Source.{Source}
-use Rattle.pb_totalizer.specs.declared.claims.Source.TheVariants.{Fresh}
+use Rattle.pb_totalizer.specs.declared.ways.Ways.TheVariants.{Up}
 use Rattle.pb_totalizer.specs.laws.ByPairs.{partner_bounds}
-use Rattle.pb_totalizer.specs.laws.Sources.{output_meaning, ids_from, some_ids, weakened_at, pair_given, row_given, node_given, root_given, part_reasons, all_reasons}
+use Rattle.pb_totalizer.specs.laws.Sources.{output_meaning, ids_from, some_ids, weakened_at, pair_given, row_given, node_given, root_given}
 use Rattle.pb_totalizer.specs.laws.Partners.{partners_are}
+use Rattle.pb_totalizer.specs.laws.Ways.{reasons_by, all_reasons}
 
 -- ---- meanings
 
@@ -90,7 +92,7 @@ module _ (bound : ℕ) (lefts rights : List Term) (id own : ℕ) (sl sr : Source
       let four = weakened_are rights j in
       λ k. named (one k ++ (two k ++ last k ∷ [])) (three k ++ four k)
 
-  pub node_are : (a b : ℕ) → a ≡ length (values (totalizer bound) (tree_of (weights lefts))) → b ≡ length (values (totalizer bound) (tree_of (weights rights)))
+  node_are : (a b : ℕ) → a ≡ length (values (totalizer bound) (tree_of (weights lefts))) → b ≡ length (values (totalizer bound) (tree_of (weights rights)))
       → node_given (bound + 1) a b sl lefts sr rights own
       ≡ map bare (map (pair_reason (totalizer bound) (tree_of (weights lefts)) (tree_of (weights rights)) 0 id)
       (totalizer_pairs (bound + 1) (values (totalizer bound) (tree_of (weights lefts))) (values (totalizer bound) (tree_of (weights rights)))))
@@ -108,45 +110,12 @@ module _ (bound : ℕ) (lefts rights : List Term) (id own : ℕ) (sl sr : Source
       ∙ sym (map-map claim (pair_of i) (partners (bound + 1) m i)))
       ∙ sym (map-map bare (pair_reason s l r 0 id) (totalizer_pairs (bound + 1) (values s l) (values s r)))
 
--- the clauses of a part are those of its halves, and its own
-pub parts_given : (bound : ℕ) (ts lefts rights : List Term) (id own a b middle : ℕ) (sl sr : Source) → tree_of (weights ts) ≡ node (tree_of (weights lefts)) (tree_of (weights rights))
-    → ids_from sl ≡ output_ids (totalizer bound) (tree_of (weights lefts)) id
-    → middle ≡ id + 2 * fresh_of (totalizer bound) (tree_of (weights lefts))
-    → ids_from sr ≡ output_ids (totalizer bound) (tree_of (weights rights)) middle
-    → own ≡ middle + 2 * fresh_of (totalizer bound) (tree_of (weights rights))
-    → a ≡ length (values (totalizer bound) (tree_of (weights lefts))) → b ≡ length (values (totalizer bound) (tree_of (weights rights)))
-    → HaveSameSteps (part_reasons bound lefts id ++ (part_reasons bound rights middle ++ node_given (bound + 1) a b sl lefts sr rights own)) (part_reasons bound ts id)
-parts_given bound ts lefts rights id own a b middle sl sr tree left is right at ea eb =
-    let s = totalizer bound in
-    let l = tree_of (weights lefts) in
-    let r = tree_of (weights rights) in
-    let own_reasons = node_reasons s (totalizer_pairs (bound + 1)) l r id in
-    let right_at : ids_from sr ≡ output_ids s r (id + 2 * fresh_of s l) = right ∙ ap (λ (n : ℕ). output_ids s r n) is in
-    halves_given s (totalizer_pairs (bound + 1)) (tree_of (weights ts)) l r id tree middle (node_given (bound + 1) a b sl lefts sr rights own) is
-    (subst (λ (rs : List Reason). HaveSameSteps rs own_reasons) (sym (node_are bound lefts rights id own sl sr left right_at (omega (arith, at, is)) a b ea eb)) (bare_same own_reasons))
-
--- how many they are
-pub parts_length : (bound : ℕ) (ts lefts rights : List Term) (id : ℕ) → tree_of (weights ts) ≡ node (tree_of (weights lefts)) (tree_of (weights rights))
-    → length (part_reasons bound lefts id) + length (part_reasons bound rights (id + 2 * fresh_of (totalizer bound) (tree_of (weights lefts)))) ≤ length (part_reasons bound ts id)
-parts_length bound ts lefts rights id tree = halves_length (totalizer bound) (totalizer_pairs (bound + 1)) (tree_of (weights ts)) (tree_of (weights lefts)) (tree_of (weights rights)) id tree
-
--- a node's own, in the order of its pairs
-abbrev pub own_reasons : ℕ → List Term → List Term → ℕ → List Reason
-own_reasons bound lefts rights id = node_reasons (totalizer bound) (totalizer_pairs (bound + 1)) (tree_of (weights lefts)) (tree_of (weights rights)) id
-
-pub parts_same : (bound : ℕ) (ts lefts rights : List Term) (id middle : ℕ) → tree_of (weights ts) ≡ node (tree_of (weights lefts)) (tree_of (weights rights))
-    → middle ≡ id + 2 * fresh_of (totalizer bound) (tree_of (weights lefts))
-    → HaveSameSteps (part_reasons bound lefts id ++ (part_reasons bound rights middle ++ own_reasons bound lefts rights id)) (part_reasons bound ts id)
-parts_same bound ts lefts rights id middle tree is = halves_same (totalizer bound) (totalizer_pairs (bound + 1)) (tree_of (weights ts)) (tree_of (weights lefts)) (tree_of (weights rights)) id tree middle is
-
-pub source_is : (bound : ℕ) (ts lefts rights : List Term) (id own : ℕ) → tree_of (weights ts) ≡ node (tree_of (weights lefts)) (tree_of (weights rights))
-    → own ≡ id + 2 * fresh_of (totalizer bound) (tree_of (weights lefts)) + 2 * fresh_of (totalizer bound) (tree_of (weights rights))
-    → ids_from (Fresh own) ≡ output_ids (totalizer bound) (tree_of (weights ts)) id
-source_is bound ts lefts rights id own tree is =
-    let f = fresh_of (totalizer bound) (tree_of (weights lefts)) in
-    let g = fresh_of (totalizer bound) (tree_of (weights rights)) in
-    let e : (u : ℕ) → own + 2 * (u - 1) ≡ id + 2 * (f + g + (u - 1)) = λ u. omega (arith, is) in
-    (λ i u. (e u i) ∷ []) ∙ ap (λ (t : Tree). output_ids (totalizer bound) t id) (sym tree)
+  -- with the steps of its clauses
+  pub sums_same : (a b : ℕ) → a ≡ outputs_of bound (tree_of (weights lefts)) → b ≡ outputs_of bound (tree_of (weights rights))
+      → HaveSameSteps (node_given (bound + 1) a b sl lefts sr rights own) (pair_reasons (totalizer bound) (totalizer_pairs (bound + 1)) (tree_of (weights lefts)) (tree_of (weights rights)) 0 id)
+  sums_same a b ea eb =
+      let ps = pair_reasons (totalizer bound) (totalizer_pairs (bound + 1)) (tree_of (weights lefts)) (tree_of (weights rights)) 0 id in
+      subst (λ (rs : List Reason). HaveSameSteps rs ps) (sym (node_are a b ea eb)) (bare_same ps)
 
 -- ---- the root
 
@@ -162,10 +131,10 @@ root_is bound ts id own root same =
 
 -- all clauses are those of the nodes and that of the root
 pub root_given_last : (bound : ℕ) (ts : List Term) (id own : ℕ) (root : Source) → ids_from root ≡ output_ids (totalizer bound) (tree_of (weights ts)) id
-    → HaveSameSteps (part_reasons bound ts id ++ root_given root (bound + 1) own ∷ []) (all_reasons bound ts id own)
+    → HaveSameSteps (reasons_by Up bound ts id ++ root_given root (bound + 1) own ∷ []) (all_reasons bound ts id own)
 root_given_last bound ts id own root same =
     let last = root_reason (totalizer bound) (tree_of (weights ts)) 0 id own in
-    same_append (part_reasons bound ts id) (part_reasons bound ts id) (root_given root (bound + 1) own ∷ []) (last ∷ []) (record { count = refl; steps = λ next. refl })
+    same_append (reasons_by Up bound ts id) (reasons_by Up bound ts id) (root_given root (bound + 1) own ∷ []) (last ∷ []) (record { count = refl; steps = λ next. refl })
     (subst (λ (r : Reason). HaveSameSteps (r ∷ []) (last ∷ [])) (sym (root_is bound ts id own root same)) (bare_same (last ∷ [])))
 
 -- from the sink's next id on
@@ -176,3 +145,7 @@ all_same bound ts first own base next is =
     let t = tree_of (weights ts) in
     let pairs = totalizer_pairs (bound + 1) in
     subst (λ (b : ℕ). HaveSameSteps (all_reasons bound ts base own) (tree_reasons s pairs t first b own)) is (all_first_free s pairs t 0 first base own)
+
+-- one more than of the nodes
+pub all_counted : (bound : ℕ) (ts : List Term) (id own : ℕ) → length (all_reasons bound ts id own) ≡ length (reasons_by Up bound ts id) + 1
+all_counted bound ts id own = omega (arith, length-append (reasons_by Up bound ts id) (root_reason (totalizer bound) (tree_of (weights ts)) 0 id own ∷ []))

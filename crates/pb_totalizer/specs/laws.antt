@@ -18,3 +18,4 @@ pub mod TotalizerDerives
 pub mod TotalizerLaws
 pub mod TotalizerShort
 pub mod UnitTerms
+pub mod Ways

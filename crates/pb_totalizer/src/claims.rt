@@ -1,4 +1,4 @@
-//! The clauses of a totalizer, by the constraints that they follow from.
+//! The clauses from a node's parts to its outputs, by the constraints that they follow from.
 ghost use Rattle.std.specs.Prelude.{◌≡◌, ◌≤◌, ◌<◌, ◌+◌, ◌-◌, ◌*◌, ◌^◌, ◌++◌, ◌∷◌, [], length, IfOk};
 ghost use Rattle.pb_norm.specs.BoundedSums.{vars_of};
 ghost use Rattle.pb_norm.specs.Constraints.{weights};
@@ -133,7 +133,7 @@ fn take_row<T: StepSink>(
     Ok(())
 }
 
-/// A node's own clauses.
+/// A node's clauses from its parts to its outputs.
 pub fn take_node<T: StepSink>(
     alloc: Global,
     left: Side,

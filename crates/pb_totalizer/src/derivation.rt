@@ -8,11 +8,13 @@ ghost use Rattle.pb_tree.specs.Tree.{tree_of};
 ghost use Rattle.pb_tree.specs.Scheme.{fresh_of};
 ghost use Rattle.pb_totalizer.specs.Totalizer.{totalizer};
 ghost use Rattle.pb_totalizer.specs.TotalizerSteps.{totalizer_steps};
-ghost use Rattle.pb_totalizer.specs.laws.Sources.{HasIds, some_ids, root_given, part_reasons, all_reasons};
+ghost use Rattle.pb_totalizer.specs.laws.Sources.{HasIds, some_ids, root_given};
+ghost use Rattle.pb_totalizer.specs.laws.Ways.{reasons_by, all_reasons};
 
 use crate::claims::{Source, push_part};
 use crate::handing::take_part;
 use crate::meanings::take_meanings;
+use crate::ways::Ways;
 use pb_base::Term;
 use pb_family::{SinkFault, StepSink, take_claim, take_deletions};
 use std::alloc::{AllocError, Global};
@@ -58,10 +60,10 @@ fn take_clauses<T: StepSink>(
     requires some { 1 ≤ length terms.now }
     requires small { bound < 2 ^ 31 }
     requires ids { id + 2 * fresh_of (totalizer bound) (tree_of (weights terms.now)) < 2 ^ 62 }
-    requires room { (T.state sink.old).next + length (part_reasons bound terms.now id) + 1 < 2 ^ 62 }
+    requires room { (T.state sink.old).next + length (reasons_by Ways.Up bound terms.now id) + 1 < 2 ^ 62 }
     ensures { HandsReasons (all_reasons bound terms.now id own) result (T.state sink.old) (T.state sink.new) }
 {
-    let root = take_part(alloc, terms, bound, id, sink)?;
+    let root = take_part(alloc, Ways::Up, terms, bound, id, sink)?;
     take_root(alloc, root.source, bound + 1, own, sink)
 }
 

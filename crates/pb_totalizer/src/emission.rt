@@ -1,15 +1,20 @@
 //! The clauses of a totalizer, one after another.
 ghost use Rattle.std.specs.Prelude.{◌≡◌, ◌≤◌, ◌<◌, ◌+◌, ◌-◌, ◌^◌, ◌∷◌, [], min, length, IfOk};
+ghost use Rattle.pb_norm.specs.BoundedSums.{sum_within};
 ghost use Rattle.pb_norm.specs.Constraints.{weights};
 ghost use Rattle.pb_family.specs.Handing.{Hands};
 ghost use Rattle.pb_tree.specs.Tree.{tree_of};
-ghost use Rattle.pb_tree.specs.Scheme.{values, fresh_of, output, clauses_of, tree_clauses};
-ghost use Rattle.pb_totalizer.specs.laws.Outputs.{output_count, output_at, clause_over, row_over, clauses_over};
+ghost use Rattle.pb_tree.specs.Scheme.{fresh_of, output, tree_clauses};
+ghost use Rattle.pb_totalizer.specs.Exact.{outputs_of, exact_clauses};
 ghost use Rattle.pb_totalizer.specs.Totalizer.{totalizer};
+ghost use Rattle.pb_totalizer.specs.laws.Outputs.{output_count, output_at, clause_over, row_over, clauses_over};
+ghost use Rattle.pb_totalizer.specs.laws.Ways.{clauses_by, own_over};
 
+use crate::limits::emit_limits;
 use crate::outputs::{Outputs, Run};
+use crate::ways::Ways;
 use pb_base::{Failed, Term};
-use pb_family::ClauseSink;
+use pb_family::{ClauseSink, take_pair};
 
 /// Hands over that where i of the left and j of the right are true, i + j are.
 fn hand_over<S: ClauseSink>(
@@ -68,8 +73,8 @@ fn emit_row<S: ClauseSink>(
     Ok(())
 }
 
-/// Hands over a node's own clauses.
-pub fn emit_node<S: ClauseSink>(
+/// Hands over a node's clauses from its parts to its outputs.
+fn emit_node<S: ClauseSink>(
     left: &Outputs,
     right: &Outputs,
     own: &Outputs,
@@ -88,6 +93,28 @@ pub fn emit_node<S: ClauseSink>(
     Ok(())
 }
 
+/// Hands over a node's own clauses.
+fn emit_own<S: ClauseSink>(
+    ways: Ways,
+    left: &Outputs,
+    right: &Outputs,
+    own: &Outputs,
+    cap: u64,
+    sink: &mut S,
+) -> Result<(), Failed>
+    requires left_within { output_count left.now ≤ cap }
+    requires own_count { output_count own.now ≡ min (output_count left.now + output_count right.now) cap }
+    requires few { cap < 2 ^ 32 }
+    requires few_right { output_count right.now < 2 ^ 32 }
+    ensures { Hands (own_over ways cap left.now right.now own.now) result (S.state sink.old) (S.state sink.new) }
+{
+    emit_node(left, right, own, cap, sink)?;
+    match ways {
+        Ways::Up => Ok(()),
+        Ways::Both => emit_limits(left, right, own, sink),
+    }
+}
+
 /// What a part of a totalizer leaves to what stands over it.
 #[derive(Drop)]
 pub struct Part {
@@ -95,8 +122,9 @@ pub struct Part {
     pub next: u32,
 }
 
-/// Hands over the clauses of the totalizer of some terms, whose fresh variables begin at a number.
-pub fn emit_part<S: ClauseSink>(
+/// Hands over the clauses of a part, whose fresh variables begin at a number.
+fn emit_part<S: ClauseSink>(
+    ways: Ways,
     terms: &[Term],
     bound: u64,
     first: u32,
@@ -106,9 +134,9 @@ pub fn emit_part<S: ClauseSink>(
     requires small { bound < 2 ^ 31 }
     requires low { 1 ≤ first }
     requires fits { first + fresh_of (totalizer bound) (tree_of (weights terms.now)) ≤ 2 ^ 31 }
-    ensures hands { Hands (clauses_of (totalizer bound) (tree_of (weights terms.now)) first) result (S.state sink.old) (S.state sink.new) }
+    ensures hands { Hands (clauses_by ways bound (tree_of (weights terms.now)) first) result (S.state sink.old) (S.state sink.new) }
     ensures outputs { IfOk result (λ part. output_at part.outputs ≡ output (totalizer bound) (tree_of (weights terms.now)) first) }
-    ensures count { IfOk result (λ part. output_count part.outputs ≡ length (values (totalizer bound) (tree_of (weights terms.now)))) }
+    ensures count { IfOk result (λ part. output_count part.outputs ≡ outputs_of bound (tree_of (weights terms.now))) }
     ensures next { IfOk result (λ part. part.next ≡ first + fresh_of (totalizer bound) (tree_of (weights terms.now))) }
 {
     if terms.len() == 1 {
@@ -118,22 +146,22 @@ pub fn emit_part<S: ClauseSink>(
         });
     }
     let (lefts, rights) = terms.split_at(terms.len() / 2);
-    let left = emit_part(lefts, bound, first, sink)?;
-    let right = emit_part(rights, bound, left.next, sink)?;
+    let left = emit_part(ways, lefts, bound, first, sink)?;
+    let right = emit_part(ways, rights, bound, left.next, sink)?;
     let cap = bound + 1;
     let count = (left.outputs.count() + right.outputs.count()).min(cap);
     let outputs = Outputs::Fresh(Run {
         first: right.next,
         count,
     });
-    emit_node(&left.outputs, &right.outputs, &outputs, cap, sink)?;
+    emit_own(ways, &left.outputs, &right.outputs, &outputs, cap, sink)?;
     Ok(Part {
         outputs,
         next: right.next + count as u32,
     })
 }
 
-/// Hands over the clauses of the totalizer of some terms, with that of the root.
+/// Hands over the clauses of a totalizer, with that of the root.
 pub fn emit_whole<S: ClauseSink>(
     terms: &[Term],
     bound: u64,
@@ -147,6 +175,26 @@ pub fn emit_whole<S: ClauseSink>(
     requires fits { first + fresh_of (totalizer bound) (tree_of (weights terms.now)) ≤ 2 ^ 31 }
     ensures { Hands (tree_clauses (totalizer bound) (tree_of (weights terms.now)) first) result (S.state sink.old) (S.state sink.new) }
 {
-    let root = emit_part(terms, bound, first, sink)?;
+    let root = emit_part(Ways::Up, terms, bound, first, sink)?;
     sink.clause(&[root.outputs.at(bound + 1).not()])
+}
+
+/// Hands over the clauses of an exact sum, with those of the root.
+pub fn emit_exact<S: ClauseSink>(
+    terms: &[Term],
+    bound: u64,
+    first: u32,
+    sink: &mut S,
+) -> Result<(), Failed>
+    requires from { 1 ≤ bound }
+    requires more { bound < length terms.now }
+    requires few { length terms.now < 2 ^ 31 }
+    requires low { 1 ≤ first }
+    requires fits { first + fresh_of (totalizer bound) (tree_of (weights terms.now)) ≤ 2 ^ 31 }
+    ensures { Hands (exact_clauses (sum_within terms.now bound) first) result (S.state sink.old) (S.state sink.new) }
+{
+    let root = emit_part(Ways::Both, terms, bound, first, sink)?;
+    let least = [root.outputs.at(bound)];
+    let most = [root.outputs.at(bound + 1).not()];
+    take_pair(&least, &most, sink)
 }

@@ -6,9 +6,10 @@ ghost use Rattle.pb_norm.specs.Reduction.{all_weigh};
 ghost use Rattle.pb_totalizer.specs.Exact.{exact_fresh, exact_size};
 ghost use Rattle.pb_totalizer.specs.laws.UnitTerms.{unit_term};
 
+use crate::emission::emit_exact;
 use crate::exact_derivation::derive_exact;
-use crate::exact_emission::emit_exact;
-use crate::exact_size::measure_exact;
+use crate::size::size_of;
+use crate::ways::Ways;
 use pb_base::{Lit, Lits, NoMemory, Term};
 use pb_family::{Built, ClauseSink, Pair, SinkFault, StepSink};
 use std::alloc::{AllocError, Global};
@@ -65,7 +66,7 @@ impl Exact {
     {
         let terms = unit_terms(alloc, lits.as_slice())?;
         let bound = number as u64;
-        let size = measure_exact(terms.as_slice(), bound);
+        let size = size_of(Ways::Both, terms.as_slice(), bound);
         if size.fresh > budget {
             return Ok(Built::Over);
         }
@@ -73,7 +74,7 @@ impl Exact {
             terms,
             bound,
             fresh: size.fresh,
-            clauses: size.clauses,
+            clauses: size.clauses + 2,
         }))
     }
 }

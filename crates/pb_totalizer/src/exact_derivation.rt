@@ -8,14 +8,16 @@ ghost use Rattle.pb_tree.specs.Tree.{tree_of};
 ghost use Rattle.pb_tree.specs.Scheme.{fresh_of};
 ghost use Rattle.pb_totalizer.specs.ExactSteps.{exact_steps};
 ghost use Rattle.pb_totalizer.specs.Totalizer.{totalizer};
-ghost use Rattle.pb_totalizer.specs.laws.LimitSources.{seconds_from, least_given, exact_part_reasons, exact_all_reasons};
+ghost use Rattle.pb_totalizer.specs.laws.LimitSources.{seconds_from, least_given};
 ghost use Rattle.pb_totalizer.specs.laws.Sources.{HasIds};
+ghost use Rattle.pb_totalizer.specs.laws.Ways.{reasons_by, exact_all_reasons};
 
 use crate::claims::Source;
 use crate::derivation::take_root;
-use crate::exact_claims::push_second;
-use crate::exact_handing::take_exact_part;
+use crate::handing::take_part;
+use crate::limit_claims::push_second;
 use crate::meanings::take_meanings;
+use crate::ways::Ways;
 use pb_base::Term;
 use pb_family::{SinkFault, StepSink, take_claim, take_deletions};
 use std::alloc::{AllocError, Global};
@@ -65,10 +67,10 @@ fn take_exact_clauses<T: StepSink>(
     requires from { 1 ≤ bound }
     requires small { bound < 2 ^ 31 }
     requires ids { id + 2 * fresh_of (totalizer bound) (tree_of (weights terms.now)) < 2 ^ 62 }
-    requires room { (T.state sink.old).next + length (exact_part_reasons bound terms.now id) + 2 < 2 ^ 62 }
+    requires room { (T.state sink.old).next + length (reasons_by Ways.Both bound terms.now id) + 2 < 2 ^ 62 }
     ensures { HandsReasons (exact_all_reasons bound terms.now id lower upper) result (T.state sink.old) (T.state sink.new) }
 {
-    let root = take_exact_part(alloc, terms, bound, id, sink)?;
+    let root = take_part(alloc, Ways::Both, terms, bound, id, sink)?;
     take_least(alloc, root.source, bound, lower, sink)?;
     take_root(alloc, root.source, bound + 1, upper, sink)
 }

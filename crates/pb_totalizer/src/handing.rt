@@ -1,17 +1,49 @@
 //! The clauses of a totalizer's derivation, part by part.
-ghost use Rattle.std.specs.Prelude.{◌≡◌, ◌≤◌, ◌<◌, ◌+◌, ◌*◌, ◌^◌, length, IfOk};
+ghost use Rattle.std.specs.Prelude.{◌≡◌, ◌≤◌, ◌<◌, ◌+◌, ◌*◌, ◌^◌, min, length, IfOk};
 ghost use Rattle.pb_norm.specs.Constraints.{weights};
 ghost use Rattle.pb_family.specs.laws.HandedReasons.{HandsReasons};
 ghost use Rattle.pb_tree.specs.Tree.{tree_of};
-ghost use Rattle.pb_tree.specs.Scheme.{values, fresh_of};
+ghost use Rattle.pb_tree.specs.Scheme.{fresh_of};
 ghost use Rattle.pb_tree.specs.TreeSteps.{output_ids};
+ghost use Rattle.pb_totalizer.specs.Exact.{outputs_of};
 ghost use Rattle.pb_totalizer.specs.Totalizer.{totalizer};
-ghost use Rattle.pb_totalizer.specs.laws.Sources.{HasIds, ids_from, part_reasons};
+ghost use Rattle.pb_totalizer.specs.laws.Sources.{HasIds, ids_from};
+ghost use Rattle.pb_totalizer.specs.laws.Ways.{own_beside, reasons_by};
 
 use crate::claims::{Side, Source, take_node};
+use crate::limit_claims::take_limits;
+use crate::ways::Ways;
 use pb_base::Term;
 use pb_family::{SinkFault, StepSink};
 use std::alloc::Global;
+
+/// A node's own clauses.
+fn take_own<T: StepSink>(
+    alloc: Global,
+    ways: Ways,
+    left: Side,
+    right: Side,
+    own: u64,
+    cap: u64,
+    count: u64,
+    sink: &mut T,
+) -> Result<(), SinkFault>
+    requires left_room { HasIds left.source }
+    requires right_room { HasIds right.source }
+    requires own_room { own < 2 ^ 62 }
+    requires within { left.count ≤ cap }
+    requires own_count { count ≡ min (left.count + right.count) cap }
+    requires few { cap < 2 ^ 32 }
+    requires few_right { right.count < 2 ^ 32 }
+    requires room { (T.state sink.old).next + length (own_beside ways cap count left right own) < 2 ^ 62 }
+    ensures { HandsReasons (own_beside ways cap count left.entry right.entry own) result (T.state sink.old) (T.state sink.new) }
+{
+    take_node(alloc, left, right, own, cap, sink)?;
+    match ways {
+        Ways::Up => Ok(()),
+        Ways::Both => take_limits(alloc, left, right, own, count, sink),
+    }
+}
 
 /// What a part leaves to what stands over it: where its outputs have their constraints, how many there are, and the id after
 /// its variables' constraints.
@@ -22,9 +54,10 @@ pub struct Handed {
     pub id: u64,
 }
 
-/// The clauses of the totalizer of some terms, whose variables' constraints have the ids from `id` on.
+/// The clauses of a part, whose variables' constraints have the ids from `id` on.
 pub fn take_part<T: StepSink>(
     alloc: Global,
+    ways: Ways,
     terms: &[Term],
     bound: u64,
     id: u64,
@@ -33,11 +66,11 @@ pub fn take_part<T: StepSink>(
     requires some { 1 ≤ length terms.now }
     requires small { bound < 2 ^ 31 }
     requires ids { id + 2 * fresh_of (totalizer bound) (tree_of (weights terms.now)) < 2 ^ 62 }
-    requires room { (T.state sink.old).next + length (part_reasons bound terms.now id) < 2 ^ 62 }
-    ensures hands { HandsReasons (part_reasons bound terms.now id) result (T.state sink.old) (T.state sink.new) }
+    requires room { (T.state sink.old).next + length (reasons_by ways bound terms.now id) < 2 ^ 62 }
+    ensures hands { HandsReasons (reasons_by ways bound terms.now id) result (T.state sink.old) (T.state sink.new) }
     ensures source { IfOk result (λ part. ids_from part.source ≡ output_ids (totalizer bound) (tree_of (weights terms.now)) id) }
     ensures has { IfOk result (λ part. HasIds part.source) }
-    ensures count { IfOk result (λ part. part.count ≡ length (values (totalizer bound) (tree_of (weights terms.now)))) }
+    ensures count { IfOk result (λ part. part.count ≡ outputs_of bound (tree_of (weights terms.now))) }
     ensures id { IfOk result (λ part. part.id ≡ id + 2 * fresh_of (totalizer bound) (tree_of (weights terms.now))) }
 {
     if terms.len() == 1 {
@@ -48,9 +81,10 @@ pub fn take_part<T: StepSink>(
         });
     }
     let (lefts, rights) = terms.split_at(terms.len() / 2);
-    let left = take_part(alloc, lefts, bound, id, sink)?;
-    let right = take_part(alloc, rights, bound, left.id, sink)?;
+    let left = take_part(alloc, ways, lefts, bound, id, sink)?;
+    let right = take_part(alloc, ways, rights, bound, left.id, sink)?;
     let cap = bound + 1;
+    let count = (left.count + right.count).min(cap);
     let front = Side {
         terms: lefts,
         source: left.source,
@@ -61,8 +95,7 @@ pub fn take_part<T: StepSink>(
         source: right.source,
         count: right.count,
     };
-    take_node(alloc, front, back, right.id, cap, sink)?;
-    let count = (left.count + right.count).min(cap);
+    take_own(alloc, ways, front, back, right.id, cap, count, sink)?;
     Ok(Handed {
         source: Source::Fresh(right.id),
         count,

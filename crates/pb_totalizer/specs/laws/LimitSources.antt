@@ -5,14 +5,10 @@ use Rattle.pb_base.specs.declared.literal.Term.{Term}
 use Rattle.pb_norm.specs.BoundedSums.{vars_of}
 use Rattle.pb_norm.specs.Constraints.{weights}
 use Rattle.pb_derive.specs.Reasons.{Reason}
-use Rattle.pb_tree.specs.Tree.{tree_of}
-use Rattle.pb_tree.specs.TreeSteps.{reasons_along, root_reason}
 use Rattle.pb_totalizer.specs.Exact.{limits}
-use Rattle.pb_totalizer.specs.ExactSteps.{own_reasons, least_reason}
-use Rattle.pb_totalizer.specs.Totalizer.{totalizer}
 use Rattle.pb_totalizer.specs.declared.claims.Side.{Side}
 use Rattle.pb_totalizer.specs.declared.claims.Source.{Source}
-use Rattle.pb_totalizer.specs.laws.Sources.{ids_from, node_given}
+use Rattle.pb_totalizer.specs.laws.Sources.{ids_from}
 
 -- the ids of an output's second constraint
 abbrev pub seconds_from : Source → ℕ → List ℕ
@@ -41,10 +37,6 @@ limit_row_given count a b left lefts right rights own i = map (limit_given a b l
 abbrev pub limits_given : ℕ → ℕ → ℕ → Source → List Term → Source → List Term → ℕ → List Reason
 limits_given count a b left lefts right rights own = flat_map (limit_row_given count a b left lefts right rights own) (range_with_len 0 (a + 1))
 
--- both ways
-abbrev pub both_given : ℕ → ℕ → ℕ → ℕ → Source → List Term → Source → List Term → ℕ → List Reason
-both_given cap count a b left lefts right rights own = node_given cap a b left lefts right rights own ++ limits_given count a b left lefts right rights own
-
 -- ---- over two parts, as the code has them
 
 abbrev pub limit_beside : Side → Side → ℕ → ℕ → ℕ → Reason
@@ -56,19 +48,6 @@ limit_row_beside count left right own i = limit_row_given count left.count right
 abbrev pub limits_beside : ℕ → Side → Side → ℕ → List Reason
 limits_beside count left right own = limits_given count left.count right.count left.source left.terms.now right.source right.terms.now own
 
-abbrev pub both_beside : ℕ → ℕ → Side → Side → ℕ → List Reason
-both_beside cap count left right own = both_given cap count left.count right.count left.source left.terms.now right.source right.terms.now own
-
 -- of the root's output, whose sum's constraint from below has the id `lower`
 abbrev pub least_given : Source → ℕ → ℕ → Reason
 least_given root number lower = record { clause = []; ids = seconds_from root number ++ lower ∷ []; weakened = [] }
-
--- ---- of all nodes, where the first fresh variable's constraints have the ids from `id` on
-
-abbrev pub exact_part_reasons : ℕ → List Term → ℕ → List Reason
-exact_part_reasons bound ts id = reasons_along (totalizer bound) (own_reasons bound) (tree_of (weights ts)) 0 id
-
--- and of the root
-abbrev pub exact_all_reasons : ℕ → List Term → ℕ → ℕ → ℕ → List Reason
-exact_all_reasons bound ts id lower upper =
-    exact_part_reasons bound ts id ++ least_reason bound (tree_of (weights ts)) 0 id lower ∷ root_reason (totalizer bound) (tree_of (weights ts)) 0 id upper ∷ []

@@ -1,5 +1,5 @@
 -- The literals that stand for the numbers of true leaves, and a node's clauses over those of its parts.
-use Rattle.std.specs.Prelude.{ℕ, ◌-◌, ◌++◌, List, map}
+use Rattle.std.specs.Prelude.{ℕ, ◌-◌, List, map}
 use Rattle.pb_base.specs.declared.literal.Lit.{Lit}
 use Rattle.pb_family.specs.Fresh.{fresh_at}
 use Rattle.pb_totalizer.specs.Exact.{limit_clause, limits, limit_clauses}
@@ -41,7 +41,3 @@ limit_row_over left right own i = map (limit_over left right own i) (limits (out
 -- for each i
 abbrev pub limits_over : Outputs → Outputs → Outputs → List (List Lit)
 limits_over left right own = limit_clauses (output_count own) (output_count left) (output_count right) (output_at left) (output_at right) (output_at own)
-
--- both ways
-abbrev pub both_over : ℕ → Outputs → Outputs → Outputs → List (List Lit)
-both_over cap left right own = clauses_over cap left right own ++ limits_over left right own

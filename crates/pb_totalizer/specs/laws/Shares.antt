@@ -1,19 +1,13 @@
 -- The clauses of a totalizer, in either direction, are at most about a sixth of the square of its fresh variables.
-use Rattle.std.proofs.Common.{◌≡◌, ◌≤◌, ◌+◌, ◌*◌, ◌^◌, ◌⊎◌, ℕ, List, length, min, refl, arith, inl, inr}
+use Rattle.std.proofs.Common.{◌≡◌, ◌≤◌, ◌+◌, ◌*◌, ◌^◌, ◌⊎◌, ℕ, length, min, refl, arith, inl, inr}
 use Rattle.std.proofs.lemmas.Bool.{cases_lt}
 use Rattle.std.proofs.lemmas.List.FromFn.{length-range_with_len}
 use Rattle.std.proofs.lemmas.Nat.{mul-le}
-use Rattle.pb_base.specs.declared.literal.Term.{Term}
-use Rattle.pb_norm.specs.Constraints.{weights}
-use Rattle.pb_tree.specs.Tree.{Tree, empty, leaf, node, tree_of}
-use Rattle.pb_tree.specs.Scheme.{values, fresh_of, count_along, own_count_of}
-use Rattle.pb_tree.proofs.TreeCounts.{reasons_counted}
+use Rattle.pb_tree.specs.Tree.{Tree, empty, leaf, node}
+use Rattle.pb_tree.specs.Scheme.{values, fresh_of, count_along}
 use Rattle.pb_totalizer.specs.Totalizer.{totalizer}
-use Rattle.pb_totalizer.specs.TotalizerSteps.{totalizer_pairs}
-use Rattle.pb_totalizer.specs.laws.ByPairs.{totalizer_by_pairs}
-use Rattle.pb_totalizer.specs.laws.Sources.{part_reasons}
-use Rattle.pb_totalizer.specs.laws.TotalizerLaws.{IsCapped, totalizer_lawful, values_length}
-use Rattle.pb_totalizer.specs.laws.Counting.{IsInGrid, own_in_grid}
+use Rattle.pb_totalizer.specs.laws.TotalizerLaws.{values_length}
+use Rattle.pb_totalizer.specs.laws.Counting.{IsInGrid}
 
 -- a part has no more outputs than fresh variables, or is a leaf
 abbrev IsCovered : ℕ → ℕ → Type 0
@@ -89,10 +83,3 @@ pub few_shared : (bound : ℕ) (count : Tree → Tree → ℕ) → IsInGrid boun
 few_shared bound count inside t some few =
     let square = mul-le (fresh_of (totalizer bound) t) (fresh_of (totalizer bound) t) (2 ^ 31) (2 ^ 31) few few in
     omega (arith, (share bound count inside t some).clauses, square)
-
-pub few_reasons : (bound : ℕ) (ts : List Term) (id : ℕ) → 1 ≤ bound → fresh_of (totalizer bound) (tree_of (weights ts)) ≤ 2 ^ 31 → length (part_reasons bound ts id) ≤ 2 ^ 60 + 2 ^ 31
-few_reasons bound ts id some few =
-    let s = totalizer bound in
-    let t = tree_of (weights ts) in
-    let count = reasons_counted s (IsCapped bound) (totalizer_lawful bound) (totalizer_pairs (bound + 1)) (totalizer_by_pairs bound) t 0 id (λ u h. let one : 1 ≤ 1 = omega arith in one) in
-    omega (arith, count, few_shared bound (own_count_of s) (own_in_grid bound) t some few)

@@ -6,10 +6,7 @@ use Rattle.pb_norm.specs.BoundedSums.{vars_of}
 use Rattle.pb_norm.specs.Constraints.{Weighted, weights}
 use Rattle.pb_derive.specs.Meanings.{Meaning}
 use Rattle.pb_derive.specs.Reasons.{Reason}
-use Rattle.pb_tree.specs.Tree.{tree_of}
-use Rattle.pb_tree.specs.TreeSteps.{reasons, tree_reasons}
-use Rattle.pb_totalizer.specs.Totalizer.{partners, totalizer}
-use Rattle.pb_totalizer.specs.TotalizerSteps.{totalizer_pairs}
+use Rattle.pb_totalizer.specs.Totalizer.{partners}
 use Rattle.pb_totalizer.specs.declared.claims.Side.{Side}
 use Rattle.pb_totalizer.specs.declared.claims.Source.{Source}
 use Rattle.pb_totalizer.specs.declared.claims.Source.TheVariants.{Leaf, Fresh}
@@ -66,12 +63,3 @@ node_beside cap left right own = node_given cap left.count right.count left.sour
 -- of the root, whose sum's own constraint has the id `own`
 abbrev pub root_given : Source → ℕ → ℕ → Reason
 root_given root number own = record { clause = []; ids = some_ids root number ++ own ∷ []; weakened = [] }
-
--- ---- of all nodes, where the first fresh variable's constraints have the ids from `id` on
-
-abbrev pub part_reasons : ℕ → List Term → ℕ → List Reason
-part_reasons bound ts id = reasons (totalizer bound) (totalizer_pairs (bound + 1)) (tree_of (weights ts)) 0 id
-
--- and of the root
-abbrev pub all_reasons : ℕ → List Term → ℕ → ℕ → List Reason
-all_reasons bound ts id own = tree_reasons (totalizer bound) (totalizer_pairs (bound + 1)) (tree_of (weights ts)) 0 id own

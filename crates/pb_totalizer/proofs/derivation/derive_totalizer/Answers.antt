@@ -7,14 +7,14 @@ use Rattle.pb_family.proofs.HandedPhases.{stopped_in_meanings, stopped_in_claims
 use Rattle.pb_tree.specs.Tree.{tree_of}
 use Rattle.pb_tree.specs.Scheme.{fresh_of}
 use Rattle.pb_tree.specs.TreeSteps.{meanings, tree_reasons}
-use Rattle.pb_tree.proofs.TreeCounts.{all_counted}
 use Rattle.pb_tree.proofs.TreeHanded.{meanings_next}
 use Rattle.pb_tree.proofs.TreeMeanings.{length-meanings}
 use Rattle.pb_totalizer.specs.Totalizer.{totalizer}
 use Rattle.pb_totalizer.specs.TotalizerSteps.{totalizer_pairs}
-use Rattle.pb_totalizer.specs.laws.Sources.{all_reasons}
-use Rattle.pb_totalizer.proofs.Handed.{all_same}
-use Rattle.pb_totalizer.specs.laws.Shares.{few_reasons}
+use Rattle.pb_totalizer.specs.declared.ways.Ways.TheVariants.{Up}
+use Rattle.pb_totalizer.specs.laws.Ways.{all_reasons}
+use Rattle.pb_totalizer.proofs.Handed.{all_counted, all_same}
+use Rattle.pb_totalizer.proofs.PartsCounted.{few_reasons}
 use Rattle.pb_totalizer.proofs.derivation.derive_totalizer.Goals as goal
 
 pub returns-in_err-meant : goal.returns-in_err-meant
@@ -34,7 +34,7 @@ take_clauses-requires-clause-room g c =
     let t = tree_of (weights ts) in
     let next = meanings_next (meanings s t c.args.first) (g.T.StepSink.state c.args.sink.now) (g.T.StepSink.state c.take_meanings.new.sink) c.in_ok-meant.ensures.hands in
     let fresh : fresh_of s t ≤ 2 ^ 31 = omega (arith, c.requires.fits) in
-    omega (arith, next, length-meanings s t c.args.first, few_reasons c.args.bound ts c.next_id-base.result c.requires.from fresh, c.requires.few, c.requires.fits)
+    omega (arith, next, length-meanings s t c.args.first, few_reasons Up c.args.bound ts c.next_id-base.result c.requires.from fresh, c.requires.few, c.requires.fits)
 
 pub returns-in_err-take_clauses : goal.returns-in_err-take_clauses
 returns-in_err-take_clauses g c =
@@ -61,8 +61,8 @@ take_deletions-requires-clause-few g c =
       next,
       last,
       length-meanings s t c.args.first,
-      all_counted s (totalizer_pairs (c.args.bound + 1)) t 0 base c.args.id,
-      few_reasons c.args.bound ts base c.requires.from fresh,
+      all_counted c.args.bound ts base c.args.id,
+      few_reasons Up c.args.bound ts base c.requires.from fresh,
       c.requires.few,
       c.requires.fits,
     )

@@ -12,8 +12,10 @@ use Rattle.pb_tree.proofs.TreeHanded.{meanings_next}
 use Rattle.pb_tree.proofs.TreeMeanings.{length-meanings}
 use Rattle.pb_totalizer.specs.ExactSteps.{exact_reasons}
 use Rattle.pb_totalizer.specs.Totalizer.{totalizer}
-use Rattle.pb_totalizer.specs.laws.LimitSources.{exact_all_reasons}
-use Rattle.pb_totalizer.proofs.ExactHanded.{exact_all_same, exact_all_counted, few_exact}
+use Rattle.pb_totalizer.specs.declared.ways.Ways.TheVariants.{Both}
+use Rattle.pb_totalizer.specs.laws.Ways.{exact_all_reasons}
+use Rattle.pb_totalizer.proofs.ExactHanded.{exact_all_same, exact_all_counted}
+use Rattle.pb_totalizer.proofs.PartsCounted.{few_reasons}
 use Rattle.pb_totalizer.proofs.exact_derivation.derive_exact.Goals as goal
 
 pub returns-in_err-meant : goal.returns-in_err-meant
@@ -33,7 +35,7 @@ take_exact_clauses-requires-clause-room g c =
     let t = tree_of (weights ts) in
     let next = meanings_next (meanings s t c.args.first) (g.T.StepSink.state c.args.sink.now) (g.T.StepSink.state c.take_meanings.new.sink) c.in_ok-meant.ensures.hands in
     let fresh : fresh_of s t ≤ 2 ^ 31 = omega (arith, c.requires.fits) in
-    omega (arith, next, length-meanings s t c.args.first, few_exact c.args.bound ts c.next_id-base.result c.requires.from fresh, c.requires.few, c.requires.fits)
+    omega (arith, next, length-meanings s t c.args.first, few_reasons Both c.args.bound ts c.next_id-base.result c.requires.from fresh, c.requires.few, c.requires.fits)
 
 pub returns-in_err-take_exact_clauses : goal.returns-in_err-take_exact_clauses
 returns-in_err-take_exact_clauses g c =
@@ -61,7 +63,7 @@ take_deletions-requires-clause-few g c =
       last,
       length-meanings s t c.args.first,
       exact_all_counted c.args.bound ts base c.args.lower c.args.upper,
-      few_exact c.args.bound ts base c.requires.from fresh,
+      few_reasons Both c.args.bound ts base c.requires.from fresh,
       c.requires.few,
       c.requires.fits,
     )

@@ -9,14 +9,14 @@ use Rattle.pb_family.proofs.Deriving.{takes_no_steps}
 use Rattle.pb_tree.specs.Tree.{tree_of}
 use Rattle.pb_tree.specs.Scheme.{fresh_of, values}
 use Rattle.pb_tree.specs.TreeSteps.{meanings, meanings_from}
-use Rattle.pb_tree.proofs.Halves.{halves_of, leaf_of, fresh_parts, some_term}
+use Rattle.pb_tree.proofs.Halves.{leaf_of, some_term}
 use Rattle.pb_tree.proofs.TreeHanded.{steps_stopped, meanings_then, meanings_stopped, meanings_next}
 use Rattle.pb_tree.proofs.TreeMeanings.{length-meanings}
 use Rattle.pb_totalizer.specs.Totalizer.{totalizer}
 use Rattle.pb_totalizer.specs.laws.TotalizerLaws.{values_length}
 use Rattle.pb_tree.proofs.TreeHalves.{halves_weight}
+use Rattle.pb_totalizer.proofs.Halved.{halved}
 use Rattle.pb_totalizer.proofs.Handed.{parts_meant}
-use Rattle.pb_totalizer.proofs.Parts.{numbers_of}
 use Rattle.pb_totalizer.proofs.meanings.+take_meanings.Goals as goal
 
 pub returns-then-terms-eq1-clause-hands : goal.returns-then-terms-eq1-clause-hands
@@ -33,14 +33,13 @@ take_meanings-requires g t c κs within =
     let ts = c.args.terms.now in
     let lefts = c.split_at.result.0.now in
     let rights = c.split_at.result.1.now in
-    let halves = halves_of ts lefts rights c.requires.some c.if-terms-eq1.false c.split_at.ensures.front c.split_at.ensures.back in
-    let fresh = fresh_parts (totalizer c.args.bound) ts lefts rights halves.tree in
-    let sum = halves_weight ts lefts rights halves.tree in
-    let some : 1 ≤ length lefts = halves.front_some in
+    let half = halved c.args.bound ts lefts rights c.requires.some c.if-terms-eq1.false c.split_at.ensures.front c.split_at.ensures.back in
+    let sum = halves_weight ts lefts rights half.tree in
+    let some : 1 ≤ length lefts = half.left_some in
     let light : weight (weights lefts) < 2 ^ 100 = omega (arith, sum, c.requires.light) in
-    let fits : c.args.first + fresh_of (totalizer c.args.bound) (tree_of (weights lefts)) ≤ 2 ^ 31 = omega (arith, c.requires.fits) in
-    let few : (g.T.StepSink.state c.args.sink.now).next + 2 * fresh_of (totalizer c.args.bound) (tree_of (weights lefts)) ≤ 2 ^ 61 + 2 ^ 33 = omega (arith, c.requires.few) in
-    let shorter : length lefts < length ts = omega (arith, halves.whole, halves.back_some) in
+    let fits : c.args.first + fresh_of (totalizer c.args.bound) (tree_of (weights lefts)) ≤ 2 ^ 31 = omega (arith, half.fresh, c.requires.fits) in
+    let few : (g.T.StepSink.state c.args.sink.now).next + 2 * fresh_of (totalizer c.args.bound) (tree_of (weights lefts)) ≤ 2 ^ 61 + 2 ^ 33 = omega (arith, half.fresh, c.requires.few) in
+    let shorter : length lefts < length ts = half.left_shorter in
     search rules
 
 pub take_meanings-requires-2 : goal.take_meanings-requires-2
@@ -48,19 +47,18 @@ take_meanings-requires-2 g t c κs within =
     let ts = c.args.terms.now in
     let lefts = c.split_at.result.0.now in
     let rights = c.split_at.result.1.now in
-    let halves = halves_of ts lefts rights c.requires.some c.if-terms-eq1.false c.split_at.ensures.front c.split_at.ensures.back in
-    let fresh = fresh_parts (totalizer c.args.bound) ts lefts rights halves.tree in
-    let sum = halves_weight ts lefts rights halves.tree in
+    let half = halved c.args.bound ts lefts rights c.requires.some c.if-terms-eq1.false c.split_at.ensures.front c.split_at.ensures.back in
+    let sum = halves_weight ts lefts rights half.tree in
     let old = g.T.StepSink.state c.args.sink.now in
     let mid = g.T.StepSink.state c.take_meanings.new.sink in
     let taken = meanings_next (meanings (totalizer c.args.bound) (tree_of (weights lefts)) c.args.first) old mid c.in_ok-left.ensures.hands in
     let count = length-meanings (totalizer c.args.bound) (tree_of (weights lefts)) c.args.first in
-    let some : 1 ≤ length rights = halves.back_some in
+    let some : 1 ≤ length rights = half.right_some in
     let light : weight (weights rights) < 2 ^ 100 = omega (arith, sum, c.requires.light) in
-    let fits : c.in_ok-left.left.next + fresh_of (totalizer c.args.bound) (tree_of (weights rights)) ≤ 2 ^ 31 = omega (arith, c.requires.fits, c.in_ok-left.ensures.next) in
+    let fits : c.in_ok-left.left.next + fresh_of (totalizer c.args.bound) (tree_of (weights rights)) ≤ 2 ^ 31 = omega (arith, half.fresh, c.requires.fits, c.in_ok-left.ensures.next) in
     let low : 1 ≤ c.in_ok-left.left.next = omega (arith, c.in_ok-left.ensures.next) in
-    let few : mid.next + 2 * fresh_of (totalizer c.args.bound) (tree_of (weights rights)) ≤ 2 ^ 61 + 2 ^ 33 = omega (arith, c.requires.few, taken, count) in
-    let shorter : length rights < length ts = omega (arith, halves.whole, halves.front_some) in
+    let few : mid.next + 2 * fresh_of (totalizer c.args.bound) (tree_of (weights rights)) ≤ 2 ^ 61 + 2 ^ 33 = omega (arith, half.fresh, c.requires.few, taken, count) in
+    let shorter : length rights < length ts = half.right_shorter in
     search rules
 
 pub overflow_add-left : goal.overflow_add-left
@@ -71,37 +69,34 @@ take_outputs-requires-clause-high g t c =
     let ts = c.args.terms.now in
     let lefts = c.split_at.result.0.now in
     let rights = c.split_at.result.1.now in
-    let halves = halves_of ts lefts rights c.requires.some c.if-terms-eq1.false c.split_at.ensures.front c.split_at.ensures.back in
-    let number = numbers_of c.args.bound ts lefts rights c.min-count.result halves.tree (omega (arith, c.min-count.ensures, c.in_ok-left.ensures.count, c.in_ok-right.ensures.count)) in
-    omega (arith, number.fresh, c.requires.fits, c.in_ok-left.ensures.next, c.in_ok-right.ensures.next)
+    let half = halved c.args.bound ts lefts rights c.requires.some c.if-terms-eq1.false c.split_at.ensures.front c.split_at.ensures.back in
+    omega (arith, half.fresh, half.outputs, c.min-count.ensures, c.in_ok-left.ensures.count, c.in_ok-right.ensures.count, c.requires.fits, c.in_ok-left.ensures.next, c.in_ok-right.ensures.next)
 
 pub take_outputs-requires-clause-few : goal.take_outputs-requires-clause-few
 take_outputs-requires-clause-few g t c =
     let ts = c.args.terms.now in
     let lefts = c.split_at.result.0.now in
     let rights = c.split_at.result.1.now in
-    let halves = halves_of ts lefts rights c.requires.some c.if-terms-eq1.false c.split_at.ensures.front c.split_at.ensures.back in
-    let number = numbers_of c.args.bound ts lefts rights c.min-count.result halves.tree (omega (arith, c.min-count.ensures, c.in_ok-left.ensures.count, c.in_ok-right.ensures.count)) in
+    let half = halved c.args.bound ts lefts rights c.requires.some c.if-terms-eq1.false c.split_at.ensures.front c.split_at.ensures.back in
     let s = totalizer c.args.bound in
     let one = meanings_next (meanings s (tree_of (weights lefts)) c.args.first) (g.T.StepSink.state c.args.sink.now) (g.T.StepSink.state c.take_meanings.new.sink) c.in_ok-left.ensures.hands in
     let two = meanings_next (meanings s (tree_of (weights rights)) c.in_ok-left.left.next) (g.T.StepSink.state c.take_meanings.new.sink) (g.T.StepSink.state c.take_meanings-2.new.sink) c.in_ok-right.ensures.hands in
-    omega (arith, one, two, length-meanings s (tree_of (weights lefts)) c.args.first, length-meanings s (tree_of (weights rights)) c.in_ok-left.left.next, number.fresh, c.requires.few)
+    omega (arith, one, two, length-meanings s (tree_of (weights lefts)) c.args.first, length-meanings s (tree_of (weights rights)) c.in_ok-left.left.next, half.fresh, half.outputs, c.min-count.ensures, c.in_ok-left.ensures.count, c.in_ok-right.ensures.count, c.requires.few)
 
 pub overflow_add-result : goal.overflow_add-result
 overflow_add-result g t c =
     let ts = c.args.terms.now in
     let lefts = c.split_at.result.0.now in
     let rights = c.split_at.result.1.now in
-    let halves = halves_of ts lefts rights c.requires.some c.if-terms-eq1.false c.split_at.ensures.front c.split_at.ensures.back in
-    let number = numbers_of c.args.bound ts lefts rights c.min-count.result halves.tree (omega (arith, c.min-count.ensures, c.in_ok-left.ensures.count, c.in_ok-right.ensures.count)) in
-    omega (arith, number.fresh, c.requires.fits, c.in_ok-left.ensures.next, c.in_ok-right.ensures.next)
+    let half = halved c.args.bound ts lefts rights c.requires.some c.if-terms-eq1.false c.split_at.ensures.front c.split_at.ensures.back in
+    omega (arith, half.fresh, half.outputs, c.min-count.ensures, c.in_ok-left.ensures.count, c.in_ok-right.ensures.count, c.requires.fits, c.in_ok-left.ensures.next, c.in_ok-right.ensures.next)
 
 pub returns-in_err-left-clause-hands : goal.returns-in_err-left-clause-hands
 returns-in_err-left-clause-hands g t c =
     let ts = c.args.terms.now in
     let lefts = c.split_at.result.0.now in
     let rights = c.split_at.result.1.now in
-    let halves = halves_of ts lefts rights c.requires.some c.if-terms-eq1.false c.split_at.ensures.front c.split_at.ensures.back in
+    let half = halved c.args.bound ts lefts rights c.requires.some c.if-terms-eq1.false c.split_at.ensures.front c.split_at.ensures.back in
     let s = totalizer c.args.bound in
     let l = tree_of (weights lefts) in
     let r = tree_of (weights rights) in
@@ -109,7 +104,7 @@ returns-in_err-left-clause-hands g t c =
     let count = min (length (values s l) + length (values s r)) (c.args.bound + 1) in
     let old = g.T.StepSink.state c.args.sink.now in
     let after = g.T.StepSink.state c.take_meanings.new.sink in
-    let all = parts_meant c.args.bound ts lefts rights c.args.first middle (middle + fresh_of s r) count halves.tree refl refl refl in
+    let all = parts_meant c.args.bound ts lefts rights c.args.first middle (middle + fresh_of s r) count half.tree refl refl refl in
     subst (λ (ms : List Meaning). HandsSteps (meaning_steps old.next ms) c.from_residual.result old after) all
     (meanings_stopped c.from_residual.result _ (meanings s l c.args.first) (meanings s r middle ++ meanings_from (middle + fresh_of s r) (weights ts) (range_with_len 1 count)) old after c.from_residual.ensures.1 c.in_err-left.ensures.hands)
 
@@ -118,7 +113,7 @@ returns-in_err-right-clause-hands g t c =
     let ts = c.args.terms.now in
     let lefts = c.split_at.result.0.now in
     let rights = c.split_at.result.1.now in
-    let halves = halves_of ts lefts rights c.requires.some c.if-terms-eq1.false c.split_at.ensures.front c.split_at.ensures.back in
+    let half = halved c.args.bound ts lefts rights c.requires.some c.if-terms-eq1.false c.split_at.ensures.front c.split_at.ensures.back in
     let s = totalizer c.args.bound in
     let l = tree_of (weights lefts) in
     let r = tree_of (weights rights) in
@@ -127,7 +122,7 @@ returns-in_err-right-clause-hands g t c =
     let old = g.T.StepSink.state c.args.sink.now in
     let mid = g.T.StepSink.state c.take_meanings.new.sink in
     let after = g.T.StepSink.state c.take_meanings-2.new.sink in
-    let all = parts_meant c.args.bound ts lefts rights c.args.first middle (middle + fresh_of s r) count halves.tree c.in_ok-left.ensures.next refl refl in
+    let all = parts_meant c.args.bound ts lefts rights c.args.first middle (middle + fresh_of s r) count half.tree c.in_ok-left.ensures.next refl refl in
     let result = c.from_residual-in_err-right.result in
     let owns = meanings_from (middle + fresh_of s r) (weights ts) (range_with_len 1 count) in
     subst (λ (ms : List Meaning). HandsSteps (meaning_steps old.next ms) result old after) all
@@ -139,7 +134,7 @@ returns-in_err-take_outputs-clause-hands g t c =
     let ts = c.args.terms.now in
     let lefts = c.split_at.result.0.now in
     let rights = c.split_at.result.1.now in
-    let halves = halves_of ts lefts rights c.requires.some c.if-terms-eq1.false c.split_at.ensures.front c.split_at.ensures.back in
+    let half = halved c.args.bound ts lefts rights c.requires.some c.if-terms-eq1.false c.split_at.ensures.front c.split_at.ensures.back in
     let s = totalizer c.args.bound in
     let l = tree_of (weights lefts) in
     let r = tree_of (weights rights) in
@@ -150,7 +145,7 @@ returns-in_err-take_outputs-clause-hands g t c =
     let mid = g.T.StepSink.state c.take_meanings.new.sink in
     let two = g.T.StepSink.state c.take_meanings-2.new.sink in
     let after = g.T.StepSink.state c.take_outputs.new.sink in
-    let all = parts_meant c.args.bound ts lefts rights c.args.first middle start count halves.tree c.in_ok-left.ensures.next c.in_ok-right.ensures.next (omega (arith, c.min-count.ensures, c.in_ok-left.ensures.count, c.in_ok-right.ensures.count)) in
+    let all = parts_meant c.args.bound ts lefts rights c.args.first middle start count half.tree c.in_ok-left.ensures.next c.in_ok-right.ensures.next (omega (arith, c.min-count.ensures, c.in_ok-left.ensures.count, c.in_ok-right.ensures.count)) in
     let result = c.from_residual-in_err-take_outputs.result in
     let owns = meanings_from start (weights ts) (range_with_len 1 count) in
     subst (λ (ms : List Meaning). HandsSteps (meaning_steps old.next ms) result old after) all
@@ -163,7 +158,7 @@ returns-clause-hands g t c =
     let ts = c.args.terms.now in
     let lefts = c.split_at.result.0.now in
     let rights = c.split_at.result.1.now in
-    let halves = halves_of ts lefts rights c.requires.some c.if-terms-eq1.false c.split_at.ensures.front c.split_at.ensures.back in
+    let half = halved c.args.bound ts lefts rights c.requires.some c.if-terms-eq1.false c.split_at.ensures.front c.split_at.ensures.back in
     let s = totalizer c.args.bound in
     let l = tree_of (weights lefts) in
     let r = tree_of (weights rights) in
@@ -174,7 +169,7 @@ returns-clause-hands g t c =
     let mid = g.T.StepSink.state c.take_meanings.new.sink in
     let two = g.T.StepSink.state c.take_meanings-2.new.sink in
     let after = g.T.StepSink.state c.take_outputs.new.sink in
-    let all = parts_meant c.args.bound ts lefts rights c.args.first middle start count halves.tree c.in_ok-left.ensures.next c.in_ok-right.ensures.next (omega (arith, c.min-count.ensures, c.in_ok-left.ensures.count, c.in_ok-right.ensures.count)) in
+    let all = parts_meant c.args.bound ts lefts rights c.args.first middle start count half.tree c.in_ok-left.ensures.next c.in_ok-right.ensures.next (omega (arith, c.min-count.ensures, c.in_ok-left.ensures.count, c.in_ok-right.ensures.count)) in
     let owns = meanings_from start (weights ts) (range_with_len 1 count) in
     let done : Result (Unit {0}) SinkFault = Ok tt in
     subst (λ (ms : List Meaning). TakesSteps (meaning_steps old.next ms) old after) all
@@ -186,15 +181,13 @@ returns-clause-count g t c =
     let ts = c.args.terms.now in
     let lefts = c.split_at.result.0.now in
     let rights = c.split_at.result.1.now in
-    let halves = halves_of ts lefts rights c.requires.some c.if-terms-eq1.false c.split_at.ensures.front c.split_at.ensures.back in
-    let number = numbers_of c.args.bound ts lefts rights c.min-count.result halves.tree (omega (arith, c.min-count.ensures, c.in_ok-left.ensures.count, c.in_ok-right.ensures.count)) in
-    number.values_length
+    let half = halved c.args.bound ts lefts rights c.requires.some c.if-terms-eq1.false c.split_at.ensures.front c.split_at.ensures.back in
+    omega (arith, half.outputs, c.min-count.ensures, c.in_ok-left.ensures.count, c.in_ok-right.ensures.count)
 
 pub returns-clause-next : goal.returns-clause-next
 returns-clause-next g t c =
     let ts = c.args.terms.now in
     let lefts = c.split_at.result.0.now in
     let rights = c.split_at.result.1.now in
-    let halves = halves_of ts lefts rights c.requires.some c.if-terms-eq1.false c.split_at.ensures.front c.split_at.ensures.back in
-    let number = numbers_of c.args.bound ts lefts rights c.min-count.result halves.tree (omega (arith, c.min-count.ensures, c.in_ok-left.ensures.count, c.in_ok-right.ensures.count)) in
-    omega (arith, number.fresh, c.in_ok-left.ensures.next, c.in_ok-right.ensures.next)
+    let half = halved c.args.bound ts lefts rights c.requires.some c.if-terms-eq1.false c.split_at.ensures.front c.split_at.ensures.back in
+    omega (arith, half.fresh, half.outputs, c.min-count.ensures, c.in_ok-left.ensures.count, c.in_ok-right.ensures.count, c.in_ok-left.ensures.next, c.in_ok-right.ensures.next)

@@ -1,10 +1,12 @@
-use Rattle.std.proofs.Common.{◌≡◌, List, length, map, ap, ◌∙◌, arith}
+use Rattle.std.proofs.Common.{◌≡◌, ◌+◌, ℕ, List, length, map, ap, ◌∙◌, arith}
 use Rattle.std.proofs.lemmas.List.{length-map}
 use Rattle.pb_base.specs.declared.literal.Term.{Term}
 use Rattle.pb_norm.specs.BoundedSums.{BoundedSum, sum_within}
 use Rattle.pb_totalizer.specs.Exact.{at_least, exact_clauses, exact_fresh, exact_size, literals_within}
 use Rattle.pb_totalizer.specs.laws.ExactLaws.{exact_outputs}
 use Rattle.pb_totalizer.specs.laws.UnitTerms.{unit_term, sum_is, sum_proper, units_weigh}
+use Rattle.pb_totalizer.specs.declared.ways.Ways.TheVariants.{Both}
+use Rattle.pb_totalizer.proofs.PartsCounted.{few_clauses}
 use Rattle.pb_totalizer.proofs.exact.Exact.build.Goals as goal
 
 pub returns-then-size-budget-clause-over : goal.returns-then-size-budget-clause-over
@@ -13,7 +15,14 @@ returns-then-size-budget-clause-over c =
     let same : ts ≡ map unit_term c.args.lits.now = c.in_ok-terms.ensures ∙ ap (map unit_term) c.as_slice.ensures in
     let sum = sum_is ts c.args.lits.now c.args.number same in
     let here = ap (λ (us : List Term). exact_fresh (sum_within us c.args.number)) c.as_slice-2.ensures.value in
-    omega (arith, c.measure_exact-size.ensures.fresh, here, ap exact_fresh sum, c.if-size-budget.true)
+    omega (arith, c.size_of-size.ensures.fresh, here, ap exact_fresh sum, c.if-size-budget.true)
+
+pub overflow_add-result : goal.overflow_add-result
+overflow_add-result c =
+    let ts = c.as_slice-2.result.now in
+    let same : c.in_ok-terms.terms.items ≡ map unit_term c.args.lits.now = c.in_ok-terms.ensures ∙ ap (map unit_term) c.as_slice.ensures in
+    let long : length ts ≡ length c.args.lits.now = ap length c.as_slice-2.ensures.value ∙ ap length same ∙ length-map c.args.lits.now unit_term in
+    omega (arith, few_clauses Both c.args.number ts (omega (arith, long, c.requires.not_all)) (omega (arith, long, c.requires.few)), c.size_of-size.ensures.clauses)
 
 pub invariant_of-result : goal.invariant_of-result
 invariant_of-result c =
@@ -26,8 +35,8 @@ invariant_of-result c =
       units = units_weigh ts ls same;
       proper = sum_proper ts ls c.args.number same c.requires.distinct c.requires.some c.requires.not_all c.requires.few;
       few = omega (arith, ap length same, length-map ls unit_term, c.requires.few);
-      fresh_is = c.measure_exact-size.ensures.fresh ∙ fresh;
-      clauses_is = c.measure_exact-size.ensures.clauses ∙ size;
+      fresh_is = c.size_of-size.ensures.fresh ∙ fresh;
+      clauses_is = ap (λ (n : ℕ). n + 2) c.size_of-size.ensures.clauses ∙ size;
     }
 
 pub returns-clause-over : goal.returns-clause-over
@@ -36,7 +45,7 @@ returns-clause-over c =
     let same : ts ≡ map unit_term c.args.lits.now = c.in_ok-terms.ensures ∙ ap (map unit_term) c.as_slice.ensures in
     let sum = sum_is ts c.args.lits.now c.args.number same in
     let here = ap (λ (us : List Term). exact_fresh (sum_within us c.args.number)) c.as_slice-2.ensures.value in
-    omega (arith, c.measure_exact-size.ensures.fresh, here, ap exact_fresh sum, c.if-size-budget.false)
+    omega (arith, c.size_of-size.ensures.fresh, here, ap exact_fresh sum, c.if-size-budget.false)
 
 pub returns-clause-most : goal.returns-clause-most
 returns-clause-most c =

@@ -1,0 +1,41 @@
+-- A part of a totalizer, over its two halves.
+use Rattle.std.proofs.Common.{◌≡◌, ◌≤◌, ◌<◌, ◌+◌, ◌/◌, ℕ, List, length, take, drop, min, ap, ◌∙◌, arith}
+use Rattle.pb_base.specs.declared.literal.Term.{Term}
+use Rattle.pb_norm.specs.Constraints.{weights}
+use Rattle.pb_tree.specs.Scheme.{fresh_of}
+use Rattle.pb_tree.specs.Tree.{node, tree_of}
+use Rattle.pb_tree.proofs.Halves.{halves_of}
+use Rattle.pb_totalizer.specs.Exact.{outputs_of}
+use Rattle.pb_totalizer.specs.Totalizer.{totalizer}
+use Rattle.pb_totalizer.specs.laws.TotalizerLaws.{node_length, values_length}
+
+-- the halves that the code takes, and the numbers of the part by theirs
+pub record Halved (bound : ℕ) (ts lefts rights : List Term) : Type 0 where
+  pub tree : tree_of (weights ts) ≡ node (tree_of (weights lefts)) (tree_of (weights rights))
+  pub left_some : 1 ≤ length lefts
+  pub right_some : 1 ≤ length rights
+  pub left_shorter : length lefts < length ts
+  pub right_shorter : length rights < length ts
+  pub left_within : outputs_of bound (tree_of (weights lefts)) ≤ bound + 1
+  pub right_within : outputs_of bound (tree_of (weights rights)) ≤ bound + 1
+  pub outputs : outputs_of bound (tree_of (weights ts)) ≡ min (outputs_of bound (tree_of (weights lefts)) + outputs_of bound (tree_of (weights rights))) (bound + 1)
+  pub fresh : fresh_of (totalizer bound) (tree_of (weights ts)) ≡ fresh_of (totalizer bound) (tree_of (weights lefts)) + fresh_of (totalizer bound) (tree_of (weights rights)) + outputs_of bound (tree_of (weights ts))
+
+pub halved : (bound : ℕ) (ts lefts rights : List Term) → 1 ≤ length ts → (length ts ≡ 1 → ⊥) → lefts ≡ take (length ts / 2) ts → rights ≡ drop (length ts / 2) ts → Halved bound ts lefts rights
+halved bound ts lefts rights some other front back =
+    let halves = halves_of ts lefts rights some other front back in
+    let l = tree_of (weights lefts) in
+    let r = tree_of (weights rights) in
+    let long : outputs_of bound (tree_of (weights ts)) ≡ outputs_of bound (node l r) = ap (outputs_of bound) halves.tree in
+    let whole : fresh_of (totalizer bound) (tree_of (weights ts)) ≡ fresh_of (totalizer bound) l + fresh_of (totalizer bound) r + outputs_of bound (node l r) = ap (fresh_of (totalizer bound)) halves.tree in
+    record {
+      tree = halves.tree;
+      left_some = halves.front_some;
+      right_some = halves.back_some;
+      left_shorter = omega (arith, halves.whole, halves.back_some);
+      right_shorter = omega (arith, halves.whole, halves.front_some);
+      left_within = values_length bound l;
+      right_within = values_length bound r;
+      outputs = long ∙ node_length bound l r;
+      fresh = omega (arith, whole, long);
+    }

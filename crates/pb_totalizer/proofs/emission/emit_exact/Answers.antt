@@ -1,0 +1,35 @@
+use Rattle.std.proofs.Common.{◌≡◌, ◌+◌, ℕ, List, [], ◌∷◌, arith, ap, ◌∙◌}
+use Rattle.pb_base.specs.declared.literal.Lit.{Lit}
+use Rattle.pb_base.specs.Literals.{negated}
+use Rattle.pb_norm.specs.BoundedSums.{sum_within}
+use Rattle.pb_norm.specs.Constraints.{weights}
+use Rattle.pb_family.proofs.Emission.{emitting_starts, emitting_step, hands_fault, hands_last, hands_same}
+use Rattle.pb_tree.specs.Tree.{tree_of}
+use Rattle.pb_tree.specs.Scheme.{output}
+use Rattle.pb_totalizer.specs.Exact.{exact_along, exact_clauses}
+use Rattle.pb_totalizer.specs.Totalizer.{totalizer}
+use Rattle.pb_totalizer.specs.laws.Counting.{root_count}
+use Rattle.pb_totalizer.proofs.emission.emit_exact.Goals as goal
+
+pub returns-in_err-root : goal.returns-in_err-root
+returns-in_err-root g c =
+    let t = tree_of (weights c.args.terms.now) in
+    hands_fault {all = exact_clauses (sum_within c.args.terms.now c.args.bound) c.args.first} c.from_residual.result _ (exact_along c.args.bound t c.args.first) _ _ c.from_residual.ensures.1 (emitting_starts _ _) c.in_err-root.ensures.hands
+
+pub at-requires-clause-within : goal.at-requires-clause-within
+at-requires-clause-within g c =
+    omega (arith, root_count c.args.bound c.args.terms.now c.requires.more, c.in_ok-root.ensures.count)
+
+pub at-requires-2-clause-within : goal.at-requires-2-clause-within
+at-requires-2-clause-within g c =
+    omega (arith, root_count c.args.bound c.args.terms.now c.requires.more, c.in_ok-root.ensures.count)
+
+pub returns : goal.returns
+returns g c =
+    let t = tree_of (weights c.args.terms.now) in
+    let o = output (totalizer c.args.bound) t c.args.first in
+    let last : List (List Lit) = (o c.args.bound ∷ []) ∷ (negated (o (c.args.bound + 1)) ∷ []) ∷ [] in
+    let one : c.at.result ≡ o c.args.bound = c.at.ensures ∙ ap (λ (f : ℕ → Lit). f c.args.bound) c.in_ok-root.ensures.outputs in
+    let two : c.not.result ≡ negated (o (c.args.bound + 1)) = c.not.ensures ∙ ap negated (c.at-2.ensures ∙ ap (λ (f : ℕ → Lit). f (c.args.bound + 1)) c.in_ok-root.ensures.outputs) in
+    let handed = hands_same c.take_pair.result _ last _ _ (λ i. (one i ∷ []) ∷ (two i ∷ []) ∷ []) c.take_pair.ensures in
+    hands_last {all = exact_clauses (sum_within c.args.terms.now c.args.bound) c.args.first} c.take_pair.result last _ (emitting_step (exact_along c.args.bound t c.args.first) _ (emitting_starts _ _) c.in_ok-root.ensures.hands) handed
