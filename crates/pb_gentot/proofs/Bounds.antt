@@ -1,5 +1,5 @@
 -- Bounds on the numbers of a generalized totalizer.
-use Rattle.std.proofs.Common.{◌≡◌, ◌<◌, ◌≤◌, ◌+◌, ◌*◌, ◌/◌, ◌^◌, ℕ, List, [], ◌∷◌, length, take, drop, subst, arith, zero, suc, length-drop}
+use Rattle.std.proofs.Common.{◌≡◌, ◌<◌, ◌≤◌, ◌+◌, ◌-◌, ◌*◌, ◌/◌, ◌^◌, ℕ, List, [], ◌∷◌, length, take, drop, ap, subst, arith, zero, suc, length-drop}
 use Rattle.std.proofs.lemmas.List.{length-take, length-map}
 use Rattle.std.proofs.lemmas.Nat.{mul-le}
 use Rattle.pb_base.specs.declared.literal.Term.{Term}
@@ -7,7 +7,6 @@ use Rattle.pb_norm.specs.Constraints.{Weighted, weighted, weights, weight}
 use Rattle.pb_tree.specs.Tree.{Tree, node, split_within, tree_of}
 use Rattle.pb_tree.specs.Scheme.{values, fresh_of, clause_count_of}
 use Rattle.pb_tree.proofs.Splitting.{halves}
-use Rattle.pb_tree.proofs.Halves.{Halves}
 use Rattle.pb_tree.proofs.Numbers.{bounds_step, sums_fit}
 use Rattle.pb_tree.proofs.TreeCounts.{reasons_counted}
 use Rattle.pb_gentot.specs.Generalized.{generalized}
@@ -15,6 +14,8 @@ use Rattle.pb_gentot.specs.GeneralizedSteps.{generalized_pairs}
 use Rattle.pb_gentot.specs.laws.ByPairs.{generalized_by_pairs}
 use Rattle.pb_gentot.specs.laws.GeneralizedLaws.{Always, generalized_lawful}
 use Rattle.pb_gentot.specs.laws.GeneralizedShort.{generalized_sparing}
+use Rattle.pb_gentot.specs.declared.measure.Part.{Part}
+use Rattle.pb_gentot.specs.laws.Measured.{IsPartMeasured}
 use Rattle.pb_gentot.specs.laws.Sources.{AreLeavesPositive, part_reasons}
 
 pub record Bounds (bound : ℕ) (t : Tree) (n : ℕ) : Type 0 where
@@ -67,31 +68,37 @@ bounds bound ts some =
     subst (λ (n : ℕ). Bounds bound (tree_of (weights ts)) n) long (bounds_within bound (length (weights ts)) (weights ts) (omega arith) (omega arith))
 
 -- the numbers of two halves fit, and those of a node over them
-pub record Sizes (bound : ℕ) (l r : Tree) : Type 0 where
-  pub left_small : length (values (generalized bound) l) < 2 ^ 32
-  pub right_small : length (values (generalized bound) r) < 2 ^ 32
-  pub parts_fit : clause_count_of (generalized bound) l + clause_count_of (generalized bound) r < 2 ^ 64
-  pub all_fit : clause_count_of (generalized bound) l + clause_count_of (generalized bound) r
-      + (length (values (generalized bound) l) * length (values (generalized bound) r) + length (values (generalized bound) l) + length (values (generalized bound) r)) < 2 ^ 64
+pub record Sizes (left right : Part) : Type 0 where
+  pub left_small : length left.values.items < 2 ^ 32
+  pub right_small : length right.values.items < 2 ^ 32
+  pub parts_fit : left.clauses + right.clauses < 2 ^ 64
+  pub all_fit : left.clauses + right.clauses + (length left.values.items * length right.values.items + length left.values.items + length right.values.items) < 2 ^ 64
 
-pub sizes_of : (bound budget : ℕ) (ts fronts backs : List Term) → Halves ts fronts backs → length ts < 2 ^ 31 → budget < 2 ^ 24
-    → fresh_of (generalized bound) (tree_of (weights fronts)) + fresh_of (generalized bound) (tree_of (weights backs)) ≤ budget
-    → Sizes bound (tree_of (weights fronts)) (tree_of (weights backs))
-sizes_of bound budget ts fronts backs halves few modest fits =
+pub sizes_of : (bound budget : ℕ) (fronts backs : List Term) (left right : Part) → 1 ≤ length fronts → 1 ≤ length backs → length fronts + length backs < 2 ^ 31 → budget < 2 ^ 24
+    → IsPartMeasured bound budget (tree_of (weights fronts)) left → IsPartMeasured bound (budget - left.fresh) (tree_of (weights backs)) right → Sizes left right
+sizes_of bound budget fronts backs left right front_some back_some few modest one two =
     let s = generalized bound in
     let l = tree_of (weights fronts) in
     let r = tree_of (weights backs) in
     let a = length (values s l) in
     let b = length (values s r) in
-    let one = bounds bound fronts halves.front_some in
-    let two = bounds bound backs halves.back_some in
+    let front = bounds bound fronts front_some in
+    let back = bounds bound backs back_some in
     let m = fresh_of s l + length fronts in
     let n = fresh_of s r + length backs in
-    let some : 1 ≤ m = omega (arith, halves.front_some) in
-    let also : 1 ≤ n = omega (arith, halves.back_some) in
-    let small : m + n < 2 ^ 32 = omega (arith, halves.whole) in
-    let fit = sums_fit m n (clause_count_of s l) (clause_count_of s r) (a * b + a + b) some also small one.clauses two.clauses (grid a b m n one.count two.count) in
-    record { left_small = omega (arith, one.count); right_small = omega (arith, two.count); parts_fit = fit.0; all_fit = fit.1 }
+    let some : 1 ≤ m = omega (arith, front_some) in
+    let also : 1 ≤ n = omega (arith, back_some) in
+    let small : m + n < 2 ^ 32 = omega (arith, few, modest, one.fits, one.fresh_is, two.fits) in
+    let fit = sums_fit m n (clause_count_of s l) (clause_count_of s r) (a * b + a + b) some also small front.clauses back.clauses (grid a b m n front.count back.count) in
+    let lefts : length left.values.items ≡ a = ap length one.values_are in
+    let rights : length right.values.items ≡ b = ap length two.values_are in
+    let own : length left.values.items * length right.values.items + length left.values.items + length right.values.items ≡ a * b + a + b = λ i. lefts i * rights i + lefts i + rights i in
+    record {
+      left_small = omega (arith, front.count, lefts, small);
+      right_small = omega (arith, back.count, rights, small);
+      parts_fit = omega (arith, fit.0, one.clauses_are, two.clauses_are);
+      all_fit = omega (arith, fit.1, one.clauses_are, two.clauses_are, own);
+    }
 
 pub some_terms : (bound : ℕ) (ts : List Weighted) → bound < weight ts → 1 ≤ length ts
 some_terms bound [] passes = absurd (omega arith)

@@ -22,7 +22,7 @@ use Rattle.pb_tree.specs.Tree.{Tree, node, tree_of}
 use Rattle.pb_tree.specs.TreeSteps.{leaves, meanings_from, output_ids, pair_reason, root_reason, tree_reasons}
 use Rattle.pb_tree.proofs.Lists.{Contains-range_cases}
 use Rattle.pb_tree.proofs.PairLists.{map_same, map-append, map-map, rows_same}
-use Rattle.pb_tree.proofs.TreeHalves.{node_reasons, halves_given}
+use Rattle.pb_tree.proofs.TreeHalves.{node_reasons}
 use Rattle.pb_tree.proofs.TreeHanded.{bare, bare_same, all_first_free}
 use Rattle.pb_tree.proofs.TreeRows.{leaves_of}
 use Rattle.pb_gentot.specs.Generalized.{generalized}
@@ -239,13 +239,11 @@ module _ (bound : ℕ) (lefts rights : List Term) (id : ℕ) (left right : Hande
       ∙ sym (map-append claim ones (others ++ twos))
       ∙ sym (map-map bare (pair_reason (generalized bound) l r 0 id) (generalized_pairs us vs))
 
-  -- the clauses of a part are those of its halves, and its own
-  pub parts_given : (ts : List Term) (middle : ℕ) → tree_of (weights ts) ≡ node (tree_of (weights lefts)) (tree_of (weights rights)) → middle ≡ id + 2 * fresh_of (generalized bound) (tree_of (weights lefts))
-      → HaveSameSteps (part_reasons bound lefts id ++ (part_reasons bound rights middle ++ node_given (bound + 1) left lefts right rights own)) (part_reasons bound ts id)
-  parts_given ts middle tree is =
+  -- they have the steps of those by its pairs
+  pub node_same : HaveSameSteps (node_given (bound + 1) left lefts right rights own) (node_reasons (generalized bound) generalized_pairs (tree_of (weights lefts)) (tree_of (weights rights)) id)
+  node_same =
       let owns = node_reasons (generalized bound) generalized_pairs l r id in
-      halves_given (generalized bound) generalized_pairs (tree_of (weights ts)) l r id tree middle (node_given (bound + 1) left lefts right rights own) is
-      (subst (λ (rs : List Reason). HaveSameSteps rs owns) (sym node_are) (bare_same owns))
+      subst (λ (rs : List Reason). HaveSameSteps rs owns) (sym node_are) (bare_same owns)
 
 pub source_is : (bound : ℕ) (ts : List Term) (l r : Tree) (id base : ℕ) (us : List ℕ) → tree_of (weights ts) ≡ node l r → us ≡ values (generalized bound) (node l r)
     → base ≡ id + 2 * fresh_of (generalized bound) l + 2 * fresh_of (generalized bound) r

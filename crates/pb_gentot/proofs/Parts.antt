@@ -23,6 +23,7 @@ values_are_over bound l r us vs left right =
 
 -- the numbers of the node
 pub record Numbers (bound : ℕ) (ts : List Term) (l r : Tree) (made : List ℕ) : Type 0 where
+  pub over : made ≡ values (generalized bound) (node l r)
   pub values_are : made ≡ values (generalized bound) (tree_of (weights ts))
   pub fresh : fresh_of (generalized bound) (tree_of (weights ts)) ≡ fresh_of (generalized bound) l + fresh_of (generalized bound) r + length made
   pub clauses : clause_count_of (generalized bound) (tree_of (weights ts)) ≡ clause_count_of (generalized bound) l + clause_count_of (generalized bound) r
@@ -35,6 +36,7 @@ numbers_of bound ts l r us vs made tree left right is =
     let long = ap length same in
     let fresh = ap (fresh_of (generalized bound)) tree in
     record {
+      over = same;
       values_are = same ∙ ap (values (generalized bound)) (sym tree);
       fresh = omega arith;
       clauses = ap (clause_count_of (generalized bound)) tree;

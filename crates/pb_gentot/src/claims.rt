@@ -1,6 +1,7 @@
 //! The clauses of a node, by the constraints that they follow from.
 ghost use Rattle.std.specs.Prelude.{◌≡◌, ◌<◌, ◌+◌, ◌^◌, ◌++◌, ◌∷◌, [], min, All, Contains, length, slice_index, IfOk};
 ghost use Rattle.pb_family.specs.laws.HandedReasons.{HandsReasons};
+ghost use Rattle.pb_gentot.specs.laws.Nodes.{HasSums};
 ghost use Rattle.pb_gentot.specs.laws.Sources.{HasIds, ids_at, IsHandedWithin, IsOwned, second_of, sum_at};
 ghost use Rattle.pb_gentot.specs.laws.Sources.{one_at, ones_given, both_at, row_given, pairs_given, node_given};
 
@@ -243,9 +244,7 @@ pub fn take_node<T: StepSink>(
     requires right { IsHandedWithin cap right.now }
     requires owned { IsOwned own.now }
     requires small { cap < 2 ^ 101 }
-    requires has_left { All (Contains own.now.values.items) left.now.values.items }
-    requires has_right { All (Contains own.now.values.items) right.now.values.items }
-    requires has { All (λ u. All (λ v. Contains own.now.values.items (min (u + v) cap)) right.now.values.items) left.now.values.items }
+    requires has { HasSums cap left.now.values.items right.now.values.items own.now.values.items }
     requires few { (T.state sink.old).next + length (node_given cap left.now lefts.now right.now rights.now own.now) < 2 ^ 62 }
     ensures { HandsReasons (node_given cap left.now lefts.now right.now rights.now own.now) result (T.state sink.old) (T.state sink.new) }
 {

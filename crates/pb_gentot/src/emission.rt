@@ -1,7 +1,7 @@
 //! The clauses of a node, one after another.
-ghost use Rattle.std.specs.Prelude.{◌≤◌, ◌<◌, ◌+◌, ◌^◌, All, min, length, slice_index, Contains};
+ghost use Rattle.std.specs.Prelude.{◌<◌, ◌+◌, ◌^◌, All, min, length, slice_index, Contains};
 ghost use Rattle.pb_family.specs.Handing.{Hands};
-ghost use Rattle.pb_gentot.specs.laws.Nodes.{IsReady, ones_over, row_over, pairs_over, clauses_over};
+ghost use Rattle.pb_gentot.specs.laws.Nodes.{IsReady, HasLiterals, HasSums, ones_over, row_over, pairs_over, clauses_over};
 ghost use Rattle.pb_gentot.specs.laws.Outputs.{HasRoom};
 ghost use Rattle.pb_gentot.specs.laws.Rising.{Rising};
 
@@ -40,14 +40,10 @@ fn emit_row<S: ClauseSink>(
     cap: u128,
     sink: &mut S,
 ) -> Result<(), Failed>
-    requires left_rising { Rising lefts.now }
-    requires left_room { HasRoom left.now (length lefts.now) }
+    requires left { HasLiterals cap left.now lefts.now }
     requires within { i < length lefts.now }
-    requires right_rising { Rising rights.now }
-    requires right_room { HasRoom right.now (length rights.now) }
+    requires right { HasLiterals cap right.now rights.now }
     requires ready { IsReady own.now }
-    requires small { slice_index lefts.now i ≤ cap }
-    requires right_small { All (λ v. v ≤ cap) rights.now }
     requires few { cap < 2 ^ 101 }
     requires has { All (λ v. Contains own.now.values.items (min (slice_index lefts.now i + v) cap)) rights.now }
     ensures { Hands (row_over cap left.now lefts.now right.now rights.now own.now (slice_index lefts.now i)) result (S.state sink.old) (S.state sink.new) }
@@ -71,13 +67,9 @@ fn emit_pairs<S: ClauseSink>(
     cap: u128,
     sink: &mut S,
 ) -> Result<(), Failed>
-    requires left_rising { Rising lefts.now }
-    requires left_room { HasRoom left.now (length lefts.now) }
-    requires right_rising { Rising rights.now }
-    requires right_room { HasRoom right.now (length rights.now) }
+    requires left { HasLiterals cap left.now lefts.now }
+    requires right { HasLiterals cap right.now rights.now }
     requires ready { IsReady own.now }
-    requires left_small { All (λ u. u ≤ cap) lefts.now }
-    requires right_small { All (λ v. v ≤ cap) rights.now }
     requires few { cap < 2 ^ 101 }
     requires has { All (λ u. All (λ v. Contains own.now.values.items (min (u + v) cap)) rights.now) lefts.now }
     ensures { Hands (pairs_over cap left.now lefts.now right.now rights.now own.now) result (S.state sink.old) (S.state sink.new) }
@@ -98,17 +90,11 @@ pub fn emit_node<S: ClauseSink>(
     cap: u128,
     sink: &mut S,
 ) -> Result<(), Failed>
-    requires left_rising { Rising lefts.now }
-    requires left_room { HasRoom left.now (length lefts.now) }
-    requires right_rising { Rising rights.now }
-    requires right_room { HasRoom right.now (length rights.now) }
+    requires left { HasLiterals cap left.now lefts.now }
+    requires right { HasLiterals cap right.now rights.now }
     requires ready { IsReady own.now }
-    requires left_small { All (λ u. u ≤ cap) lefts.now }
-    requires right_small { All (λ v. v ≤ cap) rights.now }
     requires few { cap < 2 ^ 101 }
-    requires has_lefts { All (Contains own.now.values.items) lefts.now }
-    requires has_rights { All (Contains own.now.values.items) rights.now }
-    requires has { All (λ u. All (λ v. Contains own.now.values.items (min (u + v) cap)) rights.now) lefts.now }
+    requires has { HasSums cap lefts.now rights.now own.now.values.items }
     ensures { Hands (clauses_over cap left.now lefts.now right.now rights.now own.now) result (S.state sink.old) (S.state sink.new) }
 {
     emit_ones(lefts, left, own, sink)?;

@@ -1,42 +1,45 @@
 //! The clauses of a generalized totalizer's derivation, part by part.
-ghost use Rattle.std.specs.Prelude.{◌≡◌, ◌≤◌, ◌<◌, ◌+◌, ◌*◌, ◌^◌, All, length, IfOk};
+ghost use Rattle.std.specs.Prelude.{◌≡◌, ◌≤◌, ◌<◌, ◌+◌, ◌*◌, ◌^◌, length, IfOk};
 ghost use Rattle.pb_norm.specs.Constraints.{weights};
 ghost use Rattle.pb_family.specs.laws.HandedReasons.{HandsReasons};
 ghost use Rattle.pb_tree.specs.Tree.{tree_of};
 ghost use Rattle.pb_tree.specs.Scheme.{values, fresh_of};
 ghost use Rattle.pb_tree.specs.TreeSteps.{output_ids};
 ghost use Rattle.pb_gentot.specs.Generalized.{generalized, ascending, sums};
-ghost use Rattle.pb_gentot.specs.laws.Sources.{AreLeavesPositive, HasIds, IsOwned, ids_of, part_reasons};
+ghost use Rattle.pb_gentot.specs.laws.Nodes.{HasSums};
+ghost use Rattle.pb_gentot.specs.laws.Sources.{AreLeavesPositive, IsHandedWithin, IsOwned, ids_of, part_reasons};
 
 use crate::claims::{Handed, Owned, Source, take_node};
+use crate::halving::{halves, leaf_values};
 use crate::ranks::Ranks;
-use crate::sets::{single, values_over};
+use crate::sets::values_over;
 use crate::tables::table_size;
 use pb_base::Term;
 use pb_family::{SinkFault, StepSink};
 use std::alloc::{AllocError, Global};
 
 /// What a node has over two parts.
-fn owned(
-    alloc: Global,
-    left: &[u128],
-    right: &[u128],
-    id: u64,
-    cap: u128,
-) -> Result<Owned, AllocError>
-    requires left_small { All (λ v. v ≤ cap) left.now }
-    requires right_small { All (λ v. v ≤ cap) right.now }
+fn owned(alloc: Global, left: &Handed, right: &Handed, cap: u128) -> Result<Owned, AllocError>
+    requires left { IsHandedWithin cap left.now }
+    requires right { IsHandedWithin cap right.now }
     requires few { cap < 2 ^ 101 }
-    requires fits { length (ascending cap (sums cap left.now right.now)) ≤ 2 ^ 31 }
-    requires room { id + 2 * length (ascending cap (sums cap left.now right.now)) < 2 ^ 62 }
-    ensures values { IfOk result (λ own. own.values.items ≡ ascending cap (sums cap left.now right.now)) }
-    ensures id { IfOk result (λ own. own.id ≡ id) }
+    requires fits { length (ascending cap (sums cap left.now.values.items right.now.values.items)) ≤ 2 ^ 31 }
+    requires room { right.now.next + 2 * length (ascending cap (sums cap left.now.values.items right.now.values.items)) < 2 ^ 62 }
+    ensures values { IfOk result (λ own. own.values.items ≡ ascending cap (sums cap left.now.values.items right.now.values.items)) }
+    ensures id { IfOk result (λ own. own.id ≡ right.now.next) }
     ensures owned { IfOk result (λ own. IsOwned own) }
+    ensures has { IfOk result (λ own. HasSums cap left.now.values.items right.now.values.items own.values.items) }
 {
-    let values = values_over(alloc, left, right, cap)?;
-    let size = table_size(cap, left.len(), right.len());
+    let lefts = left.values.as_slice();
+    let rights = right.values.as_slice();
+    let values = values_over(alloc, lefts, rights, cap)?;
+    let size = table_size(cap, lefts.len(), rights.len());
     let ranks = Ranks::of(alloc, values.as_slice(), size)?;
-    Ok(Owned { values, id, ranks })
+    Ok(Owned {
+        values,
+        id: right.next,
+        ranks,
+    })
 }
 
 /// The clauses of the generalized totalizer of some terms, whose variables' constraints have the ids from `id` on.
@@ -56,30 +59,24 @@ pub fn take_part<T: StepSink>(
     ensures hands { HandsReasons (part_reasons bound terms.now id) result (T.state sink.old) (T.state sink.new) }
     ensures values { IfOk result (λ part. part.values.items ≡ values (generalized bound) (tree_of (weights terms.now))) }
     ensures ids { IfOk result (λ part. ids_of part ≡ output_ids (generalized bound) (tree_of (weights terms.now)) id) }
-    ensures has { IfOk result (λ part. HasIds part.source (length part.values.items)) }
+    ensures within { IfOk result (λ part. IsHandedWithin (bound + 1) part) }
     ensures next { IfOk result (λ part. part.next ≡ id + 2 * fresh_of (generalized bound) (tree_of (weights terms.now))) }
 {
-    let cap = bound + 1;
     if terms.len() == 1 {
-        let values = single(alloc, terms[0].weight().min(cap))?;
+        let values = leaf_values(alloc, terms, bound)?;
         return Ok(Handed {
             values,
             source: Source::Leaf,
             next: id,
         });
     }
-    let (lefts, rights) = terms.split_at(terms.len() / 2);
+    let cap = bound + 1;
+    let (lefts, rights) = halves(terms);
     let left = take_part(alloc, lefts, bound, id, sink)?;
     let right = take_part(alloc, rights, bound, left.next, sink)?;
-    let own = owned(
-        alloc,
-        left.values.as_slice(),
-        right.values.as_slice(),
-        right.next,
-        cap,
-    )?;
+    let own = owned(alloc, &left, &right, cap)?;
     take_node(alloc, &left, lefts, &right, rights, &own, cap, sink)?;
-    let next = right.next + 2 * own.values.as_slice().len() as u64;
+    let next = right.next + 2 * own.values.len() as u64;
     Ok(Handed {
         values: own.values,
         source: Source::Fresh(right.next),

@@ -5,6 +5,7 @@ mod bound_table;
 mod claims;
 mod derivation;
 mod emission;
+mod halving;
 mod handing;
 mod laws;
 mod meanings;

@@ -8,7 +8,8 @@ ghost use Rattle.pb_tree.specs.TreeSteps.{meanings_from, meanings};
 ghost use Rattle.pb_gentot.specs.Generalized.{generalized};
 ghost use Rattle.pb_gentot.specs.laws.Sources.{output_meaning};
 
-use crate::sets::{single, values_over};
+use crate::halving::{halves, leaf_values};
+use crate::sets::values_over;
 use pb_base::Term;
 use pb_family::{SinkFault, StepSink, fresh_at, take_meaning};
 use std::alloc::Global;
@@ -80,19 +81,19 @@ pub fn take_meanings<T: StepSink>(
     ensures values { IfOk result (λ part. part.values.items ≡ values (generalized bound) (tree_of (weights terms.now))) }
     ensures next { IfOk result (λ part. part.next ≡ first + fresh_of (generalized bound) (tree_of (weights terms.now))) }
 {
-    let cap = bound + 1;
     if terms.len() == 1 {
-        let values = single(alloc, terms[0].weight().min(cap))?;
+        let values = leaf_values(alloc, terms, bound)?;
         return Ok(Meant {
             values,
             next: first,
         });
     }
-    let (lefts, rights) = terms.split_at(terms.len() / 2);
+    let cap = bound + 1;
+    let (lefts, rights) = halves(terms);
     let left = take_meanings(alloc, lefts, bound, first, sink)?;
     let right = take_meanings(alloc, rights, bound, left.next, sink)?;
     let made = values_over(alloc, left.values.as_slice(), right.values.as_slice(), cap)?;
     take_outputs(alloc, terms, right.next, made.as_slice(), sink)?;
-    let next = right.next + made.as_slice().len() as u32;
+    let next = right.next + made.len() as u32;
     Ok(Meant { values: made, next })
 }

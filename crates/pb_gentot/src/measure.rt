@@ -4,7 +4,8 @@ ghost use Rattle.pb_norm.specs.Constraints.{weights};
 ghost use Rattle.pb_tree.specs.Tree.{tree_of};
 ghost use Rattle.pb_gentot.specs.laws.Measured.{IsMeasured};
 
-use crate::sets::{joined, single};
+use crate::halving::{halves, leaf_values};
+use crate::sets::joined;
 use pb_base::Term;
 use std::alloc::{AllocError, Global};
 
@@ -38,16 +39,15 @@ pub fn measure(
     requires modest { budget < 2 ^ 24 }
     ensures { IfOk result (λ made. IsMeasured bound budget (tree_of (weights terms.now)) made) }
 {
-    let cap = bound + 1;
     if terms.len() == 1 {
-        let values = single(alloc, terms[0].weight().min(cap))?;
+        let values = leaf_values(alloc, terms, bound)?;
         return Ok(Some(Part {
             values,
             fresh: 0,
             clauses: 0,
         }));
     }
-    let (lefts, rights) = terms.split_at(terms.len() / 2);
+    let (lefts, rights) = halves(terms);
     let left = match measure(alloc, lefts, bound, budget)? {
         Some(part) => part,
         None => return Ok(None),
@@ -61,19 +61,18 @@ pub fn measure(
         alloc,
         left.values.as_slice(),
         right.values.as_slice(),
-        cap,
+        bound + 1,
         room as usize,
     )?;
     let values = match found {
         Some(values) => values,
         None => return Ok(None),
     };
-    let count = values.as_slice().len() as u64;
-    let lefts = left.values.as_slice().len() as u64;
-    let rights = right.values.as_slice().len() as u64;
+    let count = values.len() as u64;
+    let own = node_clauses(left.values.len() as u64, right.values.len() as u64);
     Ok(Some(Part {
         values,
         fresh: left.fresh + right.fresh + count,
-        clauses: left.clauses + right.clauses + node_clauses(lefts, rights),
+        clauses: left.clauses + right.clauses + own,
     }))
 }

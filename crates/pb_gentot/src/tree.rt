@@ -4,15 +4,17 @@ ghost use Rattle.pb_norm.specs.Constraints.{weights};
 ghost use Rattle.pb_family.specs.Handing.{HandsIfMemory};
 ghost use Rattle.pb_tree.specs.Tree.{tree_of};
 ghost use Rattle.pb_tree.specs.Scheme.{values, fresh_of, output, clauses_of, tree_clauses};
-ghost use Rattle.pb_gentot.specs.laws.Outputs.{output_in, HasRoom};
-ghost use Rattle.pb_gentot.specs.laws.Parts.{IsPartWithin, values_over, output_over, clauses_over_parts};
+ghost use Rattle.pb_gentot.specs.laws.Nodes.{HasLiterals};
+ghost use Rattle.pb_gentot.specs.laws.Outputs.{output_in};
+ghost use Rattle.pb_gentot.specs.laws.Parts.{node_values, output_over, clauses_over_parts};
 ghost use Rattle.pb_gentot.specs.Generalized.{generalized};
 
 use crate::emission::emit_node;
+use crate::halving::{halves, leaf_values};
 use crate::node::Node;
 use crate::outputs::Outputs;
 use crate::ranks::Ranks;
-use crate::sets::{joined, single};
+use crate::sets::values_over;
 use crate::tables::table_size;
 use pb_base::Term;
 use pb_family::{ClauseSink, SinkFault};
@@ -34,21 +36,20 @@ fn emit_over<S: ClauseSink>(
     cap: u128,
     sink: &mut S,
 ) -> Result<Emitted, SinkFault>
-    requires left { IsPartWithin cap left.now }
-    requires right { IsPartWithin cap right.now }
+    requires left { HasLiterals cap left.now.outputs left.now.values.items }
+    requires right { HasLiterals cap right.now.outputs right.now.values.items }
     requires few { cap < 2 ^ 101 }
     requires low { 1 ≤ right.now.next }
-    requires fits { right.now.next + length (values_over cap left.now right.now) ≤ 2 ^ 31 }
+    requires fits { right.now.next + length (node_values cap left.now right.now) ≤ 2 ^ 31 }
     ensures hands { HandsIfMemory (clauses_over_parts cap left.now right.now) result (S.state sink.old) (S.state sink.new) }
-    ensures values { IfOk result (λ part. part.values.items ≡ values_over cap left.now right.now) }
+    ensures values { IfOk result (λ part. part.values.items ≡ node_values cap left.now right.now) }
     ensures outputs { IfOk result (λ part. output_in part.outputs part.values.items ≡ output_over cap left.now right.now) }
-    ensures room { IfOk result (λ part. HasRoom part.outputs (length part.values.items)) }
-    ensures next { IfOk result (λ part. part.next ≡ right.now.next + length (values_over cap left.now right.now)) }
+    ensures within { IfOk result (λ part. HasLiterals cap part.outputs part.values.items) }
+    ensures next { IfOk result (λ part. part.next ≡ right.now.next + length (node_values cap left.now right.now)) }
 {
     let lefts = left.values.as_slice();
     let rights = right.values.as_slice();
-    let found = joined(alloc, lefts, rights, cap, 1 << 31)?;
-    let values = found.unwrap();
+    let values = values_over(alloc, lefts, rights, cap)?;
     let size = table_size(cap, lefts.len(), rights.len());
     let ranks = Ranks::of(alloc, values.as_slice(), size)?;
     let own = Node {
@@ -65,7 +66,7 @@ fn emit_over<S: ClauseSink>(
         cap,
         sink,
     )?;
-    let next = right.next + own.values.as_slice().len() as u32;
+    let next = right.next + own.values.len() as u32;
     Ok(Emitted {
         values: own.values,
         outputs: Outputs::Fresh(right.next),
@@ -88,22 +89,21 @@ pub fn emit_part<S: ClauseSink>(
     ensures hands { HandsIfMemory (clauses_of (generalized bound) (tree_of (weights terms.now)) first) result (S.state sink.old) (S.state sink.new) }
     ensures values { IfOk result (λ part. part.values.items ≡ values (generalized bound) (tree_of (weights terms.now))) }
     ensures outputs { IfOk result (λ part. output_in part.outputs part.values.items ≡ output (generalized bound) (tree_of (weights terms.now)) first) }
-    ensures room { IfOk result (λ part. HasRoom part.outputs (length part.values.items)) }
+    ensures within { IfOk result (λ part. HasLiterals (bound + 1) part.outputs part.values.items) }
     ensures next { IfOk result (λ part. part.next ≡ first + fresh_of (generalized bound) (tree_of (weights terms.now))) }
 {
-    let cap = bound + 1;
     if terms.len() == 1 {
-        let values = single(alloc, terms[0].weight().min(cap))?;
+        let values = leaf_values(alloc, terms, bound)?;
         return Ok(Emitted {
             values,
             outputs: Outputs::Single(terms[0].lit),
             next: first,
         });
     }
-    let (fronts, backs) = terms.split_at(terms.len() / 2);
-    let left = emit_part(alloc, fronts, bound, first, sink)?;
-    let right = emit_part(alloc, backs, bound, left.next, sink)?;
-    emit_over(alloc, &left, &right, cap, sink)
+    let (lefts, rights) = halves(terms);
+    let left = emit_part(alloc, lefts, bound, first, sink)?;
+    let right = emit_part(alloc, rights, bound, left.next, sink)?;
+    emit_over(alloc, &left, &right, bound + 1, sink)
 }
 
 /// Hands over the clauses of some terms, with that of the root.

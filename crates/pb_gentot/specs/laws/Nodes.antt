@@ -1,5 +1,5 @@
 -- The values of a node, with their places and literals, and its clauses over those of its parts.
-use Rattle.std.specs.Prelude.{◌≡◌, ◌<◌, ℕ, List, Contains, length, map, slice_index}
+use Rattle.std.specs.Prelude.{◌≡◌, ◌<◌, ◌≤◌, ◌+◌, ℕ, List, All, Contains, length, map, min, slice_index}
 use Rattle.std.specs.List.{flat_map}
 use Rattle.pb_base.specs.declared.literal.Lit.{Lit}
 use Rattle.pb_tree.specs.Places.{place_of}
@@ -20,6 +20,18 @@ pub record IsReady (own : Node) : Type 0 where
   pub rising : Rising own.values.items
   pub room : HasRoom (Fresh own.first) (length own.values.items)
   pub ranked : AreRanks own.ranks own.values.items
+
+-- a part's values ascend up to the cap, and each has its literal
+pub record HasLiterals (cap : ℕ) (outputs : Outputs) (us : List ℕ) : Type 0 where
+  pub rising : Rising us
+  pub small : All (λ u. u ≤ cap) us
+  pub room : HasRoom outputs (length us)
+
+-- each value of the parts is one of the node, and so is each sum of two, cut
+pub record HasSums (cap : ℕ) (us vs ws : List ℕ) : Type 0 where
+  pub lefts : All (Contains ws) us
+  pub rights : All (Contains ws) vs
+  pub both : All (λ u. All (λ v. Contains ws (min (u + v) cap)) vs) us
 
 -- the node's literal of a value
 abbrev pub own_output : Node → ℕ → Lit

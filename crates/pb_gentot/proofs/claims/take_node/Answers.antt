@@ -63,3 +63,12 @@ take_ones-requires-clause-room g c = c.requires.left.ids
 
 pub take_ones-requires-2-clause-room : goal.take_ones-requires-2-clause-room
 take_ones-requires-2-clause-room g c = c.requires.right.ids
+
+pub take_ones-requires-clause-has : goal.take_ones-requires-clause-has
+take_ones-requires-clause-has g c = c.requires.has.lefts
+
+pub take_ones-requires-2-clause-has : goal.take_ones-requires-2-clause-has
+take_ones-requires-2-clause-has g c = c.requires.has.rights
+
+pub take_pairs-requires-clause-has : goal.take_pairs-requires-clause-has
+take_pairs-requires-clause-has g c = c.requires.has.both

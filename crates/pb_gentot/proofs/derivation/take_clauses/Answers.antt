@@ -7,12 +7,14 @@ use Rattle.pb_tree.specs.Tree.{tree_of}
 use Rattle.pb_tree.specs.TreeSteps.{root_reason}
 use Rattle.pb_gentot.specs.Generalized.{generalized}
 use Rattle.pb_gentot.specs.laws.Sources.{root_given, part_reasons}
-use Rattle.pb_gentot.proofs.Emitting.{rising_values}
 use Rattle.pb_gentot.proofs.Handed.{root_given_last}
 use Rattle.pb_gentot.proofs.derivation.take_clauses.Goals as goal
 
 pub take_root-requires-clause-rising : goal.take_root-requires-clause-rising
-take_root-requires-clause-rising g c = rising_values c.args.bound (tree_of (weights c.args.terms.now)) c.in_ok-root.root.values.items c.in_ok-root.ensures.values
+take_root-requires-clause-rising g c = c.in_ok-root.ensures.within.rising
+
+pub take_root-requires-clause-room : goal.take_root-requires-clause-room
+take_root-requires-clause-room g c = c.in_ok-root.ensures.within.ids
 
 pub take_root-requires-clause-has : goal.take_root-requires-clause-has
 take_root-requires-clause-has g c = subst (λ (us : List ℕ). Contains us (c.args.bound + 1)) (sym c.in_ok-root.ensures.values) c.requires.root

@@ -22,3 +22,18 @@ returns g c =
     let two = ones_over c.args.right.now c.args.rights.now c.args.own.now in
     let three = pairs_over c.args.cap c.args.left.now c.args.lefts.now c.args.right.now c.args.rights.now c.args.own.now in
     hands_last {all = all} c.emit_pairs.result three _ (emitting_step two _ (emitting_step one _ (emitting_starts all _) c.in_ok-emit_ones.ensures) c.in_ok-emit_ones-2.ensures) c.emit_pairs.ensures
+
+pub emit_ones-requires-clause-room : goal.emit_ones-requires-clause-room
+emit_ones-requires-clause-room g c = c.requires.left.room
+
+pub emit_ones-requires-clause-has : goal.emit_ones-requires-clause-has
+emit_ones-requires-clause-has g c = c.requires.has.lefts
+
+pub emit_ones-requires-2-clause-room : goal.emit_ones-requires-2-clause-room
+emit_ones-requires-2-clause-room g c = c.requires.right.room
+
+pub emit_ones-requires-2-clause-has : goal.emit_ones-requires-2-clause-has
+emit_ones-requires-2-clause-has g c = c.requires.has.rights
+
+pub emit_pairs-requires-clause-has : goal.emit_pairs-requires-clause-has
+emit_pairs-requires-clause-has g c = c.requires.has.both

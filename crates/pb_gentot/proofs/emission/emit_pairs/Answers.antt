@@ -8,6 +8,9 @@ use Rattle.pb_gentot.proofs.emission.emit_pairs.Goals as goal
 pub loop-i-init : goal.loop-i-init
 loop-i-init g c = emitting_starts _ _
 
+pub emit_row-requires-clause-has : goal.emit_row-requires-clause-has
+emit_row-requires-clause-has g c = c.requires.has c.loop-i.i 0 (omega arith)
+
 pub returns-in_err-emit_row : goal.returns-in_err-emit_row
 returns-in_err-emit_row g c =
     let row = row_over c.args.cap c.args.left.now c.args.lefts.now c.args.right.now c.args.rights.now c.args.own.now in

@@ -1,4 +1,4 @@
-use Rattle.std.proofs.Common.{◌≡◌, ◌++◌, List, [], length, ap, sym, ◌∙◌, append-nil, arith, eqb-true, false-eqb}
+use Rattle.std.proofs.Common.{◌≡◌, ◌++◌, ℕ, List, [], length, ap, sym, subst, ◌∙◌, append-nil, arith, eqb-true, false-eqb}
 use Rattle.pb_base.specs.declared.literal.Lit.{Lit}
 use Rattle.pb_norm.specs.Constraints.{weights}
 use Rattle.pb_family.specs.declared.sink.SinkFault.TheVariants as fault
@@ -8,9 +8,9 @@ use Rattle.pb_family.proofs.Taking.{takes_nothing}
 use Rattle.pb_tree.specs.Tree.{tree_of}
 use Rattle.pb_tree.specs.Scheme.{values, output, clauses_of}
 use Rattle.pb_gentot.specs.laws.KeptTables.{clauses_by}
-use Rattle.pb_gentot.specs.laws.Outputs.{output_in}
+use Rattle.pb_gentot.specs.laws.Outputs.{output_in, HasRoom}
+use Rattle.pb_gentot.specs.laws.Rising.{Rising}
 use Rattle.pb_gentot.specs.Generalized.{generalized}
-use Rattle.pb_gentot.proofs.Emitting.{rising_values}
 use Rattle.pb_gentot.proofs.KeptTables.{no_clauses}
 use Rattle.pb_gentot.proofs.Neighbours.{clauses_between}
 use Rattle.pb_gentot.proofs.table_clauses.emit_table.Goals as goal
@@ -33,7 +33,10 @@ returns-in_err-root g c =
 
 pub emit_neighbours-requires-clause-rising : goal.emit_neighbours-requires-clause-rising
 emit_neighbours-requires-clause-rising g c =
-    rising_values c.args.bound (tree_of (weights c.args.terms.now)) c.as_slice.result.now (c.as_slice.ensures.value ∙ c.in_ok-root.ensures.values)
+    subst Rising (sym c.as_slice.ensures.value) c.in_ok-root.ensures.within.rising
+
+pub emit_neighbours-requires-clause-room : goal.emit_neighbours-requires-clause-room
+emit_neighbours-requires-clause-room g c = subst (λ (us : List ℕ). HasRoom c.in_ok-root.root.outputs (length us)) (sym c.as_slice.ensures.value) c.in_ok-root.ensures.within.room
 
 pub returns-in_err-emit_neighbours : goal.returns-in_err-emit_neighbours
 returns-in_err-emit_neighbours g c =

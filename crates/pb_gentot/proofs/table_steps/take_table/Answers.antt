@@ -8,6 +8,9 @@ use Rattle.pb_gentot.specs.laws.Sources.{part_reasons}
 use Rattle.pb_gentot.proofs.RisingSteps.{rises_last}
 use Rattle.pb_gentot.proofs.table_steps.take_table.Goals as goal
 
+pub take_neighbours-requires-clause-room : goal.take_neighbours-requires-clause-room
+take_neighbours-requires-clause-room g c = c.in_ok-root.ensures.within.ids
+
 pub take_neighbours-requires-clause-few : goal.take_neighbours-requires-clause-few
 take_neighbours-requires-clause-few g c =
     let next = reasons_next (part_reasons c.args.bound c.args.terms.now c.args.id) (g.T.StepSink.state c.args.sink.now) (g.T.StepSink.state c.take_part.new.sink) c.in_ok-root.ensures.hands in

@@ -1,4 +1,4 @@
-use Rattle.std.proofs.Common.{◌≡◌, ◌+◌, ℕ, List, [], ◌∷◌, ap, sym, ◌∙◌, subst}
+use Rattle.std.proofs.Common.{◌≡◌, ◌+◌, ℕ, List, [], ◌∷◌, length, ap, sym, ◌∙◌, subst}
 use Rattle.std.specs.Prelude.{Contains}
 use Rattle.pb_base.specs.declared.literal.Lit.{Lit}
 use Rattle.pb_base.specs.Literals.{negated}
@@ -9,9 +9,9 @@ use Rattle.pb_family.proofs.Emission.{emitting_starts, emitting_step, emitting_e
 use Rattle.pb_family.proofs.Stopping.{stops_fault}
 use Rattle.pb_tree.specs.Tree.{tree_of}
 use Rattle.pb_tree.specs.Scheme.{output, clauses_of, tree_clauses}
-use Rattle.pb_gentot.specs.laws.Outputs.{output_in}
+use Rattle.pb_gentot.specs.laws.Outputs.{output_in, HasRoom}
+use Rattle.pb_gentot.specs.laws.Rising.{Rising}
 use Rattle.pb_gentot.specs.Generalized.{generalized}
-use Rattle.pb_gentot.proofs.Emitting.{rising_values}
 use Rattle.pb_gentot.proofs.tree.emit_whole.Goals as goal
 
 pub returns-in_err-root : goal.returns-in_err-root
@@ -22,7 +22,10 @@ returns-in_err-root g c =
 
 pub of-requires-clause-rising : goal.of-requires-clause-rising
 of-requires-clause-rising g c =
-    rising_values c.args.bound (tree_of (weights c.args.terms.now)) c.as_slice.result.now (c.as_slice.ensures.value ∙ c.in_ok-root.ensures.values)
+    subst Rising (sym c.as_slice.ensures.value) c.in_ok-root.ensures.within.rising
+
+pub of-requires-clause-room : goal.of-requires-clause-room
+of-requires-clause-room g c = subst (λ (us : List ℕ). HasRoom c.in_ok-root.root.outputs (length us)) (sym c.as_slice.ensures.value) c.in_ok-root.ensures.within.room
 
 pub of-requires-clause-has : goal.of-requires-clause-has
 of-requires-clause-has g c =
