@@ -1,4 +1,5 @@
 pub mod Bounds
+pub mod DerivedPhases
 pub mod Emitting
 pub mod Handed
 pub mod HandedParts

@@ -1,6 +1,5 @@
 use Rattle.std.proofs.Common.{arith, ◌∙◌, ap}
 use Rattle.pb_base.specs.Literals.{negated}
-use Rattle.std.specs.Prelude.{slice_index}
 use Rattle.pb_family.proofs.Emission.{emitting_starts, two_literals}
 use Rattle.pb_gentot.specs.laws.Nodes.{own_output}
 use Rattle.pb_gentot.specs.laws.Outputs.{output_in}
@@ -14,20 +13,14 @@ loop-i-init g c =
 
 pub returns-in_err-clause : goal.returns-in_err-clause
 returns-in_err-clause g c =
-    let f = output_in c.args.outputs.now c.args.values.now in
-    let o = own_output c.args.own.now in
-    let u = slice_index c.args.values.now c.loop-i.i in
-    let clause = one_clause f o in
-    let same = two_literals _ _ (negated (f u)) (o u) (c.not.ensures ∙ ap negated c.at.ensures) c.of.ensures in
+    let clause = one_clause (output_in c.args.outputs.now c.args.values.now) (own_output c.args.own.now) in
+    let same = two_literals _ _ _ _ (c.not.ensures ∙ ap negated c.at.ensures) c.of.ensures in
     value_fault c.from_residual.result _ clause c.args.values.now c.loop-i.i _ _ c.from_residual.ensures.1 (omega arith) same c.loop-i.invariant c.in_err-clause.ensures
 
 pub loop-i-preserved : goal.loop-i-preserved
 loop-i-preserved g c =
-    let f = output_in c.args.outputs.now c.args.values.now in
-    let o = own_output c.args.own.now in
-    let u = slice_index c.args.values.now c.loop-i.i in
-    let clause = one_clause f o in
-    let same = two_literals _ _ (negated (f u)) (o u) (c.not.ensures ∙ ap negated c.at.ensures) c.of.ensures in
+    let clause = one_clause (output_in c.args.outputs.now c.args.values.now) (own_output c.args.own.now) in
+    let same = two_literals _ _ _ _ (c.not.ensures ∙ ap negated c.at.ensures) c.of.ensures in
     value_step clause c.args.values.now c.loop-i.i _ _ (omega arith) same c.loop-i.invariant c.in_ok-clause.ensures
 
 pub returns : goal.returns

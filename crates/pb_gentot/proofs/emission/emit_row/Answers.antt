@@ -1,4 +1,4 @@
-use Rattle.std.proofs.Common.{arith, ℕ, ◌+◌, ◌∙◌, min, ap, sym, subst}
+use Rattle.std.proofs.Common.{arith, ℕ, ◌∙◌, ap, sym, subst}
 use Rattle.pb_base.specs.Literals.{negated}
 use Rattle.std.specs.Prelude.{Contains, slice_index}
 use Rattle.pb_family.proofs.Emission.{emitting_starts, three_literals}
@@ -18,24 +18,14 @@ of-requires-clause-has g c =
 
 pub returns-in_err-clause : goal.returns-in_err-clause
 returns-in_err-clause g c =
-    let f = output_in c.args.left.now c.args.lefts.now in
-    let h = output_in c.args.right.now c.args.rights.now in
-    let o = own_output c.args.own.now in
-    let u = slice_index c.args.lefts.now c.args.i in
-    let v = slice_index c.args.rights.now c.loop-j.j in
-    let clause = both_clause c.args.cap f h o u in
-    let same = three_literals _ _ _ (negated (f u)) (negated (h v)) (o (min (u + v) c.args.cap)) (c.not.ensures ∙ ap negated c.at-literal.ensures) (c.not-in-loop-j.ensures ∙ ap negated c.at.ensures) (c.of.ensures ∙ ap o c.min-sum.ensures) in
+    let clause = both_clause c.args.cap (output_in c.args.left.now c.args.lefts.now) (output_in c.args.right.now c.args.rights.now) (own_output c.args.own.now) (slice_index c.args.lefts.now c.args.i) in
+    let same = three_literals _ _ _ _ _ _ (c.not.ensures ∙ ap negated c.at-literal.ensures) (c.not-in-loop-j.ensures ∙ ap negated c.at.ensures) (c.of.ensures ∙ ap (own_output c.args.own.now) c.min-sum.ensures) in
     value_fault c.from_residual.result _ clause c.args.rights.now c.loop-j.j _ _ c.from_residual.ensures.1 (omega arith) same c.loop-j.invariant c.in_err-clause.ensures
 
 pub loop-j-preserved : goal.loop-j-preserved
 loop-j-preserved g c =
-    let f = output_in c.args.left.now c.args.lefts.now in
-    let h = output_in c.args.right.now c.args.rights.now in
-    let o = own_output c.args.own.now in
-    let u = slice_index c.args.lefts.now c.args.i in
-    let v = slice_index c.args.rights.now c.loop-j.j in
-    let clause = both_clause c.args.cap f h o u in
-    let same = three_literals _ _ _ (negated (f u)) (negated (h v)) (o (min (u + v) c.args.cap)) (c.not.ensures ∙ ap negated c.at-literal.ensures) (c.not-in-loop-j.ensures ∙ ap negated c.at.ensures) (c.of.ensures ∙ ap o c.min-sum.ensures) in
+    let clause = both_clause c.args.cap (output_in c.args.left.now c.args.lefts.now) (output_in c.args.right.now c.args.rights.now) (own_output c.args.own.now) (slice_index c.args.lefts.now c.args.i) in
+    let same = three_literals _ _ _ _ _ _ (c.not.ensures ∙ ap negated c.at-literal.ensures) (c.not-in-loop-j.ensures ∙ ap negated c.at.ensures) (c.of.ensures ∙ ap (own_output c.args.own.now) c.min-sum.ensures) in
     value_step clause c.args.rights.now c.loop-j.j _ _ (omega arith) same c.loop-j.invariant c.in_ok-clause.ensures
 
 pub returns : goal.returns
