@@ -152,11 +152,6 @@ exact_sound_most m units proper first a model =
 pub exact_sound_least : (m : BoundedSum) → all_weigh 1 m.terms ≡ true → IsProper m → (first : ℕ) (a : Assignment) → IsModel a (exact_clauses m first) → StaysWithin a (at_least m)
 exact_sound_least m units proper first a model = sound_from_sums (exact_clauses m first) (at_least m) (least_refutes m units proper first) a model
 
-pub exact_sound : (m : BoundedSum) → all_weigh 1 m.terms ≡ true → IsProper m → (first : ℕ) (a : Assignment) → IsModel a (exact_clauses m first) → IsExactly a m
-exact_sound m units proper first a model =
-    let heavy = proper.heavy in
-    omega (arith, exact_sound_most m units proper first a model, least_from m (omega arith) a (exact_sound_least m units proper first a model))
-
 pub exact_counts : (m : BoundedSum) (first : ℕ) → length (exact_clauses m first) ≡ exact_size m
 exact_counts m first =
     let s = totalizer m.bound in
