@@ -15,12 +15,13 @@ pub mod GroupDerivations
 pub mod GroupLists
 pub mod HalfTerms
 pub mod HalfWeights
-pub mod HardTexts
 pub mod Headers
 pub mod LoadedDatabases
 pub mod LoadedRuns
 pub mod LoadedTurns
+pub mod MadeFiles
 pub mod ModelCosts
+pub mod Pieces
 pub mod ProblemSteps
 pub mod ProblemStreams
 pub mod ProductFits
@@ -33,6 +34,5 @@ pub mod StreamSteps
 pub mod TableStreams
 pub mod TableTerms
 pub mod TallyLemmas
-pub mod ThreeTexts
 pub mod WeightedTexts
 pub mod WholeTexts

@@ -1,67 +1,68 @@
--- What a sink over a slot that held nothing has written of a text.
-use Rattle.std.proofs.Common.{◌≡◌, ◌∙◌, ◌++◌, ℕ, List, [], ap, subst}
-use Rattle.std.specs.Prelude.{IsSome}
+-- What a sink over a slot that held nothing has written of a text, whatever it puts before the lines of clauses.
+use Rattle.std.proofs.Common.{◌≡◌, ◌∙◌, ℕ, List, [], Err, ap, sym, subst, take}
+use Rattle.std.specs.Prelude.{Result, IfErr, IsErrAnd, IsSome}
 use Rattle.pb_desk.specs.View.{wrote}
 use Rattle.pb_desk.specs.Desk.{DeskState, Reaches, IsSteady}
 use Rattle.pb_desk.proofs.Steps.{begin}
 use Rattle.pb_desk.proofs.Views.{wrote-nil}
-use Rattle.pb_family.specs.Sinks.{SinkState, Takes, TakesPart, FailsToTake}
+use Rattle.pb_family.specs.Sinks.{SinkState, Takes, FailsToTake}
 use Rattle.pb_family.specs.Handing.{Stops as StopsTaking}
 use Rattle.pb_family.specs.declared.sink.SinkFault.{SinkFault}
 use Rattle.pb_family.specs.declared.sink.SinkFault.TheVariants as sink
-use Rattle.pb_family.proofs.Taking.{then_fails, then_part}
 use Rattle.pb_dimacs.specs.Outboxes.{IsAllSent, SlotRest, slot_sink}
 use Rattle.pb_dimacs.proofs.Holding.{reaches_whole, reaches_part, fails_part, lacks_of, all_held}
+use Rattle.pb_dimacs.proofs.Leads.{fails_led, led, takes_led}
+use Rattle.pb_encode.specs.declared.fault.EncodeFault.{EncodeFault}
 use Rattle.pb_encode.specs.declared.fault.EncodeFault.TheVariants as fault
 use Rattle.pb_encode.specs.Faults.{of_sink}
-use Rattle.pb_encode.specs.laws.Sending.{LacksFor, Stops, StopsSending, SendsPart}
+use Rattle.pb_encode.specs.laws.Sending.{LacksFor, Stops, SendsPart}
+use Rattle.pb_encode.proofs.Residuals.{on_fault, was_handed}
 
--- the sink is at the start of a slot of a desk
-abbrev pub Starts : {N : Type 0} → N → ℕ → DeskState → List ℕ → SinkState (SlotRest N) → Type 0
-Starts n slot desk held s = s ≡ slot_sink n slot held desk
-
-module _ {N : Type 0} (n m : N) (slot k : ℕ) (a b : DeskState) (held left text : List ℕ) (s : SinkState (SlotRest N)) (starts : Starts n slot a held s) (none : held ≡ []) where
-  start : s ≡ slot_sink n slot [] a
-  start = starts ∙ ap (λ (xs : List ℕ). slot_sink n slot xs a) none
-
-  pub sent_whole : IsAllSent (slot_sink m k left b) → Takes text s (slot_sink m k left b) → Reaches (wrote slot text) a b
-  sent_whole all h =
-      let from = subst (λ (x : SinkState (SlotRest N)). Takes text x (slot_sink m k left b)) start h in
-      let to = subst (λ (x : SinkState (SlotRest N)). Takes text (slot_sink n slot [] a) x) (all_held m k left b all) from in
-      reaches_whole n m slot k a b text to
-
-  pub stops_whole : FailsToTake text s (slot_sink m k left b) → StopsSending slot text a b
-  stops_whole h =
-      let found = fails_part n m slot k a b text left (subst (λ (x : SinkState (SlotRest N)). FailsToTake text x (slot_sink m k left b)) start h) in
-      record { count = found.0; fails = found.1 }
-
-  pub stopped_whole : (f : SinkFault) → StopsTaking text s (slot_sink m k left b) f → Stops slot text a b (of_sink f)
-  stopped_whole sink.Failed h = stops_whole h
-  stopped_whole sink.NoMemory h =
-      let part = subst (λ (x : SinkState (SlotRest N)). TakesPart text x (slot_sink m k left b)) start h in
-      let found = reaches_part n m slot k a b text part.count left part.taken in
-      record { count = found.0; reached = found.1 }
-
-  pub lacks_whole : FailsToTake text s (slot_sink m k left b) → IsSteady a → IsSome a.view.room → LacksFor slot text a
-  lacks_whole h steady some = lacks_of n m slot k a b text left (subst (λ (x : SinkState (SlotRest N)). FailsToTake text x (slot_sink m k left b)) start h) steady some
-
-  pub lacks_stopped : (f : SinkFault) → of_sink f ≡ fault.WriteFault → StopsTaking text s (slot_sink m k left b) f → IsSteady a → IsSome a.view.room → LacksFor slot text a
-  lacks_stopped sink.Failed is h steady some = lacks_whole h steady some
-  lacks_stopped sink.NoMemory is h steady some = cc
-
--- a text that was taken before one that was stopped
-pub then_stops : {R : Type 0} (xs ys : List ℕ) (a b c : SinkState R) (f : SinkFault) → Takes xs a b → StopsTaking ys b c f → StopsTaking (xs ++ ys) a c f
-then_stops xs ys a b c sink.Failed first second = then_fails xs ys a b c first second
-then_stops xs ys a b c sink.NoMemory first second = then_part xs ys a b c first second
-
--- the name under which the sink stands
-pub name_stays : {N : Type 0} (n m : N) (slot k : ℕ) (a b : DeskState) (held left : List ℕ) (s : SinkState (SlotRest N)) → Starts n slot a held s → (slot_sink m k left b).rest ≡ s.rest → m ≡ n
-name_stays n m slot k a b held left s starts stays = ap (λ (r : SlotRest _). r.name) stays ∙ ap (λ (x : SinkState (SlotRest _)). x.rest.name) starts
-
--- it stays in whichever way it was stopped
-pub rest_stays : {R : Type 0} (text : List ℕ) (s t : SinkState R) (f : SinkFault) → StopsTaking text s t f → t.rest ≡ s.rest
+-- what the sink stands over stays in whichever way it was stopped
+rest_stays : {R : Type 0} (text : List ℕ) (s t : SinkState R) (f : SinkFault) → StopsTaking text s t f → t.rest ≡ s.rest
 rest_stays text s t sink.Failed h = h.grows.rest
 rest_stays text s t sink.NoMemory h = h.taken.grows.rest
+
+-- the sink began at a slot of a desk, and ended at another state of it
+module _ {N : Type 0} (lead : List ℕ) (n m : N) (slot k : ℕ) (a b : DeskState) (held left text : List ℕ) (s : SinkState (SlotRest N)) (none : held ≡ []) (starts : s ≡ led lead (slot_sink n slot held a)) where
+  start : led [] s ≡ slot_sink n slot [] a
+  start = ap (led []) starts ∙ ap (λ (xs : List ℕ). slot_sink n slot xs a) none
+
+  plain_takes : (part : List ℕ) → Takes part s (led lead (slot_sink m k left b)) → Takes part (slot_sink n slot [] a) (slot_sink m k left b)
+  plain_takes part h = subst (λ (x : SinkState (SlotRest N)). Takes part x (slot_sink m k left b)) start (takes_led [] part s (led lead (slot_sink m k left b)) h)
+
+  plain_fails : FailsToTake text s (led lead (slot_sink m k left b)) → FailsToTake text (slot_sink n slot [] a) (slot_sink m k left b)
+  plain_fails h = subst (λ (x : SinkState (SlotRest N)). FailsToTake text x (slot_sink m k left b)) start (fails_led [] text s (led lead (slot_sink m k left b)) h)
+
+  stops_at : (f : SinkFault) → StopsTaking text s (led lead (slot_sink m k left b)) f → Stops slot text a b (of_sink f)
+  stops_at sink.Failed h =
+      let found = fails_part n m slot k a b text left (plain_fails h) in
+      record { count = found.0; fails = found.1 }
+  stops_at sink.NoMemory h =
+      let found = reaches_part n m slot k a b text h.count left (plain_takes (take h.count text) h.taken) in
+      record { count = found.0; reached = found.1 }
+
+  lacks_at : (f : SinkFault) → fault.WriteFault ≡ of_sink f → StopsTaking text s (led lead (slot_sink m k left b)) f → IsSteady a → IsSome a.view.room → LacksFor slot text a
+  lacks_at sink.Failed is h steady some = lacks_of n m slot k a b text left (plain_fails h) steady some
+  lacks_at sink.NoMemory is h steady some = cc
+
+  pub text_lacks : {T : Type 0} (r : Result T EncodeFault) (f : SinkFault) → IsErrAnd r (λ g. g ≡ of_sink f) → StopsTaking text s (led lead (slot_sink m k left b)) f → IsSteady a → IsSome a.view.room → r ≡ Err fault.WriteFault → LacksFor slot text a
+  text_lacks r f given h steady some is = lacks_at f (was_handed r fault.WriteFault (of_sink f) given is) h steady some
+
+  -- the desk that comes back is that one, if the sink kept its name
+  module _ (d : DeskState) (back : n ≡ m → d ≡ b) where
+    comes_back : (slot_sink m k left b).rest ≡ s.rest → b ≡ d
+    comes_back stays = sym (back (sym (ap (λ (r : SlotRest N). r.name) stays ∙ ap (λ (x : SinkState (SlotRest N)). x.rest.name) starts)))
+
+    pub text_stopped : {T : Type 0} (r : Result T EncodeFault) (f : SinkFault) → IsErrAnd r (λ g. g ≡ of_sink f) → StopsTaking text s (led lead (slot_sink m k left b)) f → IfErr r (Stops slot text a d)
+    text_stopped r f given h =
+        on_fault (Stops slot text a d) r (of_sink f) given
+        (subst (λ (x : DeskState). Stops slot text a x (of_sink f)) (comes_back (rest_stays text s (led lead (slot_sink m k left b)) f h)) (stops_at f h))
+
+    pub text_written : Takes text s (led lead (slot_sink m k left b)) → IsAllSent (slot_sink m k left b) → Reaches (wrote slot text) a d
+    text_written h all =
+        let to = subst (λ (x : SinkState (SlotRest N)). Takes text (slot_sink n slot [] a) x) (all_held m k left b all) (plain_takes text h) in
+        subst (λ (x : DeskState). Reaches (wrote slot text) a x) (comes_back h.grows.rest) (reaches_whole n m slot k a b text to)
 
 -- nothing was sent
 pub sends_none : (slot : ℕ) (text : List ℕ) (a : DeskState) → SendsPart slot text a a

@@ -4,11 +4,13 @@ ghost use Rattle.pb_base.specs.declared.limit.LimitKind.{LimitKind};
 ghost use Rattle.pb_base.specs.Problems.{IsWithinLimits};
 ghost use Rattle.pb_desk.specs.View.{wrote};
 ghost use Rattle.pb_desk.specs.Desk.{IsSteady, Reaches};
+ghost use Rattle.pb_dimacs.specs.Outboxes.{IsAllSent};
 ghost use Rattle.pb_norm.specs.Halves.{constraints_of, loaded};
 ghost use Rattle.pb_norm.specs.Products.{defining, loaded_of};
 ghost use Rattle.pb_encode.specs.Encodings.{derivation_text, made};
 ghost use Rattle.pb_encode.specs.laws.Files.{LacksForProof, LeavesProof, StopsProof};
 ghost use Rattle.pb_encode.specs.laws.Sending.{LacksFor, Stops};
+ghost use Rattle.pb_encode.specs.laws.SendingTexts.{HandsTextIfMemory};
 ghost use Rattle.pb_encode.specs.Summaries.{IsEncodable};
 
 use crate::fault::EncodeFault;
@@ -17,6 +19,7 @@ use pb_base::{Lits, Problem, Raw};
 use pb_choice::Options;
 use pb_desk::Desk;
 use pb_dimacs::{Outbox, StepWriter};
+use pb_family::{SinkFault, StepSink};
 use pb_norm::halves_of;
 use std::alloc::Global;
 
@@ -65,6 +68,25 @@ fn count_loaded(problem: &Problem) -> u64
         + count_statements(problem.statements.as_slice())
 }
 
+// Hands over all lines, and writes what is held.
+fn send_steps<'a, D: Desk>(
+    alloc: Global,
+    problem: &Problem,
+    options: &Options,
+    writer: &mut StepWriter<'a, D>,
+) -> Result<(), SinkFault>
+    requires within { IsWithinLimits problem.now }
+    requires encodable { IsEncodable options.now problem.now }
+    requires modest { options.now.budget ≤ 10000000 }
+    requires next { (⟦<StepWriter<'a, D> as StepSink>⟧.state writer.old).next ≡ length (loaded_of problem.now) + 1 }
+    ensures hands { let seen = ⟦<StepWriter<'a, D> as StepSink>⟧.state in HandsTextIfMemory (derivation_text options.now problem.now) result (seen writer.old).sink (seen writer.new).sink }
+    ensures all_sent { OnOk result (IsAllSent ((⟦<StepWriter<'a, D> as StepSink>⟧.state writer.new).sink)) }
+{
+    stream_steps(alloc, problem, options, writer)?;
+    writer.flush()?;
+    Ok(())
+}
+
 // Writes the text of a problem's derivation to slot 1.
 fn write_steps<D: Desk>(
     alloc: Global,
@@ -84,8 +106,7 @@ fn write_steps<D: Desk>(
     let mut outbox = Outbox::new(alloc)?;
     let mut line = Vec::new(alloc);
     let mut writer = StepWriter::new(alloc, desk, 1, &mut outbox, &mut line, next);
-    stream_steps(alloc, problem, options, &mut writer)?;
-    writer.flush()?;
+    send_steps(alloc, problem, options, &mut writer)?;
     Ok(())
 }
 

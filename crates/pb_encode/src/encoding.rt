@@ -4,9 +4,11 @@ ghost use Rattle.pb_base.specs.declared.limit.LimitKind.{LimitKind};
 ghost use Rattle.pb_base.specs.Problems.{IsWithinLimits};
 ghost use Rattle.pb_desk.specs.View.{wrote};
 ghost use Rattle.pb_desk.specs.Desk.{IsSteady, Reaches, written};
+ghost use Rattle.pb_dimacs.specs.Outboxes.{IsAllSent};
 ghost use Rattle.pb_encode.specs.Encodings.{made, made_files, names_of, problem_text, IsCutOff, Lacks, Refuses, WantsMemory};
 ghost use Rattle.pb_encode.specs.laws.Files.{IsCnfCutOff, LacksForCnf, WantsForCnf};
 ghost use Rattle.pb_encode.specs.laws.Sending.{LacksFor, Stops};
+ghost use Rattle.pb_encode.specs.laws.SendingTexts.{HandsTextIfMemory};
 ghost use Rattle.pb_encode.specs.Summaries.{summary_of, IsEncodable};
 
 use crate::derivation_file::encode_steps;
@@ -18,7 +20,29 @@ use pb_base::Problem;
 use pb_choice::Options;
 use pb_desk::Desk;
 use pb_dimacs::{ClauseWriter, Outbox};
+use pb_family::{ClauseSink, SinkFault};
 use std::alloc::Global;
+
+// Hands over all lines, given the problem's summary, and writes what is held.
+fn send_cnf<'a, D: Desk>(
+    alloc: Global,
+    problem: &Problem,
+    options: &Options,
+    summary: &Summary,
+    writer: &mut ClauseWriter<'a, D>,
+) -> Result<(), SinkFault>
+    requires within { IsWithinLimits problem.now }
+    requires encodable { IsEncodable options.now problem.now }
+    requires modest { options.now.budget ≤ 10000000 }
+    requires summary { summary.now ≡ summary_of options.now problem.now }
+    ensures hands { let seen = ⟦<ClauseWriter<'a, D> as ClauseSink>⟧.state in HandsTextIfMemory (problem_text options.now problem.now) result (seen writer.old) (seen writer.new) }
+    ensures all_sent { OnOk result (IsAllSent (⟦<ClauseWriter<'a, D> as ClauseSink>⟧.state writer.new)) }
+{
+    writer.header(summary.vars, summary.clauses)?;
+    stream_clauses(alloc, problem, options, writer)?;
+    writer.flush()?;
+    Ok(())
+}
 
 // Writes the CNF text of a problem to slot 0, given its summary.
 fn write_cnf<D: Desk>(
@@ -39,9 +63,7 @@ fn write_cnf<D: Desk>(
 {
     let mut outbox = Outbox::new(alloc)?;
     let mut writer = ClauseWriter::new(desk, 0, &mut outbox);
-    writer.header(summary.vars, summary.clauses)?;
-    stream_clauses(alloc, problem, options, &mut writer)?;
-    writer.flush()?;
+    send_cnf(alloc, problem, options, summary, &mut writer)?;
     Ok(())
 }
 

@@ -1,5 +1,5 @@
 //! A problem's weighted CNF: its clauses, which are hard, and its objective as soft literals.
-ghost use Rattle.std.specs.Prelude.{◌≡◌, ◌≤◌, false, map, Err, IsTrue, IfOk, IfErr, OnOk};
+ghost use Rattle.std.specs.Prelude.{◌≡◌, ◌≤◌, ◌^◌, ◌-ℤ◌, pos, false, map, Err, IsTrue, IfOk, IfErr, OnOk};
 ghost use Rattle.pb_base.specs.declared.limit.LimitKind.{LimitKind};
 ghost use Rattle.pb_base.specs.declared.problem.Problem.{Problem};
 ghost use Rattle.pb_base.specs.Problems.{IsWithinLimits};
@@ -8,13 +8,14 @@ ghost use Rattle.pb_family.specs.Handing.{HandsText};
 ghost use Rattle.pb_choice.specs.declared.options.Options.{Options};
 ghost use Rattle.pb_desk.specs.View.{wrote};
 ghost use Rattle.pb_desk.specs.Desk.{IsSteady, Reaches};
+ghost use Rattle.pb_dimacs.specs.Outboxes.{IsAllSent};
 ghost use Rattle.pb_dimacs.specs.WcnfReading.{hard_and_soft, WcnfReads};
-ghost use Rattle.pb_dimacs.specs.WcnfText.{softs_text};
+ghost use Rattle.pb_dimacs.specs.WcnfText.{offset_text, softs_text};
 ghost use Rattle.pb_encode.specs.Clauses.{problem_clauses};
 ghost use Rattle.pb_encode.specs.Costs.{objective_form, softs_of, CostsAddUp};
 ghost use Rattle.pb_encode.specs.Encodings.{made, Refuses};
 ghost use Rattle.pb_encode.specs.laws.Sending.{LacksFor, Stops};
-ghost use Rattle.pb_encode.specs.laws.SendingTexts.{text_by, HandsTextIfMemory};
+ghost use Rattle.pb_encode.specs.laws.SendingTexts.{HandsTextIfMemory};
 ghost use Rattle.pb_encode.specs.Summaries.{summary_of, IsEncodable};
 ghost use Rattle.pb_encode.specs.Weighted.{weighted_text, HasCostsOf, IsWeightedCutOff, LacksForWeighted, WantsForWeighted};
 
@@ -31,6 +32,16 @@ use pb_family::{ClauseSink, SinkFault};
 use pb_norm::Linear;
 use std::alloc::Global;
 
+// Hands over the line of the offset.
+fn send_offset<'a, D: Desk>(
+    objective: &Linear,
+    writer: &mut HardWriter<'a, D>,
+) -> Result<(), Failed>
+    ensures { let seen = ⟦<HardWriter<'a, D> as ClauseSink>⟧.state in HandsText (offset_text (pos (2 ^ 100) -ℤ pos objective.now.degree)) result (seen writer.old) (seen writer.new) }
+{
+    writer.offset(offset_by(objective))
+}
+
 // Hands over the soft lines: for each term of the objective that its literal is to be false.
 fn send_softs<'a, D: Desk>(objective: &Linear, writer: &mut HardWriter<'a, D>) -> Result<(), Failed>
     ensures { let seen = ⟦<HardWriter<'a, D> as ClauseSink>⟧.state in HandsText (softs_text (map opposite objective.now.terms)) result (seen writer.old) (seen writer.new) }
@@ -42,7 +53,7 @@ fn send_softs<'a, D: Desk>(objective: &Linear, writer: &mut HardWriter<'a, D>) -
     Ok(())
 }
 
-// Hands over all lines, given the objective in normal form.
+// Hands over all lines, given the objective in normal form, and writes what is held.
 fn send_weighted<'a, D: Desk>(
     alloc: Global,
     problem: &Problem,
@@ -53,11 +64,14 @@ fn send_weighted<'a, D: Desk>(
     requires within { IsWithinLimits problem.now }
     requires encodable { IsEncodable options.now problem.now }
     requires modest { options.now.budget ≤ 10000000 }
-    ensures { let seen = ⟦<HardWriter<'a, D> as ClauseSink>⟧.state in HandsTextIfMemory (text_by (problem_clauses options.now problem.now) objective.now) result (seen writer.old) (seen writer.new) }
+    requires objective { objective.now ≡ objective_form problem.now }
+    ensures hands { let seen = ⟦<HardWriter<'a, D> as ClauseSink>⟧.state in HandsTextIfMemory (weighted_text options.now problem.now) result (seen writer.old) (seen writer.new) }
+    ensures all_sent { OnOk result (IsAllSent (⟦<HardWriter<'a, D> as ClauseSink>⟧.state writer.new)) }
 {
-    writer.offset(offset_by(objective))?;
+    send_offset(objective, writer)?;
     stream_clauses(alloc, problem, options, writer)?;
     send_softs(objective, writer)?;
+    writer.flush()?;
     Ok(())
 }
 
@@ -81,7 +95,6 @@ fn write_weighted<D: Desk>(
     let mut outbox = Outbox::new(alloc)?;
     let mut writer = HardWriter::new(desk, 0, &mut outbox);
     send_weighted(alloc, problem, options, objective, &mut writer)?;
-    writer.flush()?;
     Ok(())
 }
 

@@ -1,45 +1,62 @@
-use Rattle.std.proofs.Common.{◌≡◌, FitsSigned, ap, of_z, rules, to_z, ◌∙◌}
-use mir.Syntax.{w128}
+use Rattle.std.proofs.Common.{◌≡◌, ◌++◌, ◌^◌, ◌-ℤ◌, ℕ, List, [], pos, refl, sym, ap}
 use Rattle.std.specs.Prelude.{map}
-use Rattle.std.proofs.lemmas.Int.{to_z-of_z}
+use Rattle.pb_base.specs.declared.problem.Problem.{Problem}
+use Rattle.pb_norm.specs.Constraints.{Constraint}
 use Rattle.pb_norm.specs.Reduction.{opposite}
+use Rattle.pb_family.specs.Sinks.{SinkState, Takes}
 use Rattle.pb_family.specs.declared.sink.SinkFault.TheVariants as fault
-use Rattle.pb_dimacs.specs.WcnfText.{hard_text, offset_text, softs_text}
-use Rattle.pb_family.proofs.Taking.{fails_same, takes_same}
+use Rattle.pb_choice.specs.declared.options.Options.{Options}
+use Rattle.pb_dimacs.specs.WcnfText.{hard_text, offset_text, softs_text, wcnf_text}
 use Rattle.pb_encode.specs.Clauses.{problem_clauses}
-use Rattle.pb_encode.proofs.ThreeTexts.{first_of_three, second_of_three, third_of_three, three_taken}
+use Rattle.pb_encode.specs.Costs.{objective_form}
+use Rattle.pb_encode.specs.Weighted.{weighted_text}
+use Rattle.pb_encode.proofs.Pieces.{Sending, sending_ends, sending_from, sending_last, sending_step, sending_stops, sending_stops_last}
 use Rattle.pb_encode.proofs.weighing.send_weighted.Goals as goal
 
-pub returns-in_err-offset : goal.returns-in_err-offset
-returns-in_err-offset g c =
-    let fits : FitsSigned w128 c.offset_by.result = search rules in
-    let same : to_z w128 (of_z w128 c.offset_by.result) ≡ c.offset_by.result = to_z-of_z w128 c.offset_by.result fits in
-    let hard = hard_text (problem_clauses c.args.options.now c.args.problem.now) in
-    let softs = softs_text (map opposite c.args.objective.now.terms) in
-    first_of_three c.from_residual.result fault.Failed _ hard softs _ _ c.from_residual.ensures.1 (fails_same _ _ _ _ (ap offset_text (same ∙ c.offset_by.ensures)) c.in_err-offset.ensures)
+-- the lines by the normal form of what reaches 2 ^ 100
+abbrev head_of : Constraint → List ℕ
+head_of form = offset_text (pos (2 ^ 100) -ℤ pos form.degree)
 
-pub returns-in_err-stream_clauses : goal.returns-in_err-stream_clauses
-returns-in_err-stream_clauses g c =
-    let fits : FitsSigned w128 c.offset_by.result = search rules in
-    let same : to_z w128 (of_z w128 c.offset_by.result) ≡ c.offset_by.result = to_z-of_z w128 c.offset_by.result fits in
-    let softs = softs_text (map opposite c.args.objective.now.terms) in
-    let f = c.in_err-stream_clauses.field-0.0 in
-    second_of_three c.from_residual-in_err-stream_clauses.result f _ (hard_text (problem_clauses c.args.options.now c.args.problem.now)) softs _ _ _ c.from_residual-in_err-stream_clauses.ensures.1
-    (takes_same _ _ _ _ (ap offset_text (same ∙ c.offset_by.ensures)) c.in_ok-offset.ensures) c.in_err-stream_clauses.ensures
+abbrev tail_of : Constraint → List ℕ
+tail_of form = softs_text (map opposite form.terms)
 
-pub returns-in_err-send_softs : goal.returns-in_err-send_softs
-returns-in_err-send_softs g c =
-    let fits : FitsSigned w128 c.offset_by.result = search rules in
-    let same : to_z w128 (of_z w128 c.offset_by.result) ≡ c.offset_by.result = to_z-of_z w128 c.offset_by.result fits in
-    let hard = hard_text (problem_clauses c.args.options.now c.args.problem.now) in
-    let softs = softs_text (map opposite c.args.objective.now.terms) in
-    third_of_three c.from_residual-in_err-send_softs.result fault.Failed _ hard softs _ _ _ _ c.from_residual-in_err-send_softs.ensures.1
-    (takes_same _ _ _ _ (ap offset_text (same ∙ c.offset_by.ensures)) c.in_ok-offset.ensures) c.in_ok-stream_clauses.ensures c.in_err-send_softs.ensures
+-- they are handed over one kind after another
+module _ {R : Type 0} (o : Options) (p : Problem) (form : Constraint) (is : form ≡ objective_form p) (a : SinkState R) where
+  starts : Sending (weighted_text o p) (head_of form ++ (hard_text (problem_clauses o p) ++ tail_of form)) a a
+  starts = sending_from a (ap (λ (c : Constraint). wcnf_text (pos (2 ^ 100) -ℤ pos c.degree) (problem_clauses o p) (map opposite c.terms)) (sym is))
 
-pub returns : goal.returns
-returns g c =
-    let fits : FitsSigned w128 c.offset_by.result = search rules in
-    let same : to_z w128 (of_z w128 c.offset_by.result) ≡ c.offset_by.result = to_z-of_z w128 c.offset_by.result fits in
-    let hard = hard_text (problem_clauses c.args.options.now c.args.problem.now) in
-    let softs = softs_text (map opposite c.args.objective.now.terms) in
-    three_taken _ hard softs _ _ _ _ (takes_same _ _ _ _ (ap offset_text (same ∙ c.offset_by.ensures)) c.in_ok-offset.ensures) c.in_ok-stream_clauses.ensures c.in_ok-send_softs.ensures
+  begun : (b : SinkState R) → Takes (head_of form) a b → Sending (weighted_text o p) (hard_text (problem_clauses o p) ++ tail_of form) a b
+  begun b taken = sending_step (head_of form) (hard_text (problem_clauses o p) ++ tail_of form) b refl starts taken
+
+  hards : (b c : SinkState R) → Takes (head_of form) a b → Takes (hard_text (problem_clauses o p)) b c → Sending (weighted_text o p) (tail_of form) a c
+  hards b c taken more = sending_step (hard_text (problem_clauses o p)) (tail_of form) c refl (begun b taken) more
+
+  whole : (b c d : SinkState R) → Takes (head_of form) a b → Takes (hard_text (problem_clauses o p)) b c → Takes (tail_of form) c d → Sending (weighted_text o p) [] a d
+  whole b c d taken more last = sending_last (tail_of form) d (hards b c taken more) last
+
+pub returns-in_err-send_offset-clause-hands : goal.returns-in_err-send_offset-clause-hands
+returns-in_err-send_offset-clause-hands g c =
+    let form = c.args.objective.now in
+    sending_stops c.from_residual.result fault.Failed (head_of form) (hard_text (problem_clauses c.args.options.now c.args.problem.now) ++ tail_of form) _ refl c.from_residual.ensures.1
+    (starts c.args.options.now c.args.problem.now form c.requires.objective _) c.in_err-send_offset.ensures
+
+pub returns-in_err-stream_clauses-clause-hands : goal.returns-in_err-stream_clauses-clause-hands
+returns-in_err-stream_clauses-clause-hands g c =
+    let form = c.args.objective.now in
+    sending_stops c.from_residual-in_err-stream_clauses.result c.in_err-stream_clauses.field-0.0 (hard_text (problem_clauses c.args.options.now c.args.problem.now)) (tail_of form) _ refl c.from_residual-in_err-stream_clauses.ensures.1
+    (begun c.args.options.now c.args.problem.now form c.requires.objective _ _ c.in_ok-send_offset.ensures) c.in_err-stream_clauses.ensures
+
+pub returns-in_err-send_softs-clause-hands : goal.returns-in_err-send_softs-clause-hands
+returns-in_err-send_softs-clause-hands g c =
+    sending_stops_last c.from_residual-in_err-send_softs.result fault.Failed _ c.from_residual-in_err-send_softs.ensures.1
+    (hards c.args.options.now c.args.problem.now c.args.objective.now c.requires.objective _ _ _ c.in_ok-send_offset.ensures c.in_ok-stream_clauses.ensures) c.in_err-send_softs.ensures
+
+pub returns-in_err-flush-clause-hands : goal.returns-in_err-flush-clause-hands
+returns-in_err-flush-clause-hands g c =
+    sending_stops_last c.from_residual-in_err-flush.result fault.Failed _ c.from_residual-in_err-flush.ensures.1
+    (whole c.args.options.now c.args.problem.now c.args.objective.now c.requires.objective _ _ _ _ c.in_ok-send_offset.ensures c.in_ok-stream_clauses.ensures c.in_ok-send_softs.ensures) c.in_err-flush.ensures.taken
+
+pub returns-clause-hands : goal.returns-clause-hands
+returns-clause-hands g c =
+    sending_ends
+    (sending_last [] _ (whole c.args.options.now c.args.problem.now c.args.objective.now c.requires.objective _ _ _ _ c.in_ok-send_offset.ensures c.in_ok-stream_clauses.ensures c.in_ok-send_softs.ensures) c.in_ok-flush.ensures.taken)
