@@ -12,11 +12,10 @@ ghost use Rattle.pb_encode.specs.Summaries.{summary_of, IsEncodable};
 
 use crate::objective::offset_of;
 use crate::summary::{Summary, push_count, summary_text};
-use crate::table::table_of;
+use crate::table::table_within;
 use itoa::Buffer;
 use pb_base::{Lit, NoMemory, Problem};
 use pb_choice::Options;
-use pb_family::Built;
 use pb_gentot::BoundTable;
 use std::alloc::{AllocError, Global};
 
@@ -92,11 +91,8 @@ fn push_bounds(
         return Ok(());
     };
     let offset = offset_of(alloc, problem)?;
-    let built = table_of(alloc, problem, options)?;
-    match built {
-        Built::Fits(table) => push_rows(out, &table, first, &offset),
-        Built::Over => unreachable!(),
-    }
+    let table = table_within(alloc, problem, options)?;
+    push_rows(out, &table, first, &offset)
 }
 
 /// The two lines of a summary and, where there is a table of bounds, a line `bound W L` for each row, W ascending: W is a value that

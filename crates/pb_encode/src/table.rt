@@ -56,6 +56,24 @@ pub fn table_of(
     BoundTable::build(alloc, &terms, options.budget)
 }
 
+/// The table, where it has no more fresh variables than the budget.
+pub fn table_within(
+    alloc: Global,
+    problem: &Problem,
+    options: &Options,
+) -> Result<BoundTable, NoMemory>
+    requires within { IsWithinLimits problem.now }
+    requires modest { options.now.budget ≤ 10000000 }
+    requires bounds { table_fresh (table_terms options.now problem.now) ≤ options.now.budget }
+    ensures { IfOk result (λ table. table ≡ table_terms options.now problem.now) }
+{
+    let built = table_of(alloc, problem, options)?;
+    match built {
+        Built::Fits(table) => Ok(table),
+        Built::Over => unreachable!(),
+    }
+}
+
 /// Hands over the clauses of the table.
 pub fn stream_table<S: ClauseSink>(
     alloc: Global,
@@ -71,11 +89,8 @@ pub fn stream_table<S: ClauseSink>(
     requires fits { first + table_fresh (table_terms options.now problem.now) ≤ 2 ^ 31 }
     ensures { HandsIfMemory (table_clauses (table_terms options.now problem.now) first) result (S.state sink.old) (S.state sink.new) }
 {
-    let built = table_of(alloc, problem, options)?;
-    match built {
-        Built::Fits(table) => table.emit(alloc, first, sink),
-        Built::Over => unreachable!(),
-    }
+    let table = table_within(alloc, problem, options)?;
+    table.emit(alloc, first, sink)
 }
 
 /// Hands over the derivation of the table.
@@ -94,9 +109,6 @@ pub fn derive_table<T: StepSink>(
     requires few { (T.state sink.old).next ≤ 2 ^ 61 }
     ensures { HandsFrom (table_steps (table_terms options.now problem.now) first) result (T.state sink.old) (T.state sink.new) }
 {
-    let built = table_of(alloc, problem, options)?;
-    match built {
-        Built::Fits(table) => table.derive(alloc, first, sink),
-        Built::Over => unreachable!(),
-    }
+    let table = table_within(alloc, problem, options)?;
+    table.derive(alloc, first, sink)
 }
