@@ -11,11 +11,12 @@ use Rattle.pb_norm.specs.Products.{defining}
 use Rattle.pb_family.specs.Handing.{HandsIfMemory, StopsInClauses, TakesClauses}
 use Rattle.pb_family.specs.Sinks.{SinkState}
 use Rattle.pb_family.specs.declared.sink.SinkFault.{SinkFault}
+use Rattle.pb_family.proofs.Stopping.{stops_last}
 use Rattle.pb_choice.specs.declared.options.Options.{Options}
 use Rattle.pb_encode.specs.Clauses.{clauses_from, fresh_total, loaded_clauses, loaded_vars, table_first}
 use Rattle.pb_encode.specs.Groups.{Group, groups_of, singles, statement_groups}
 use Rattle.pb_encode.specs.laws.Streams.{IsOverBelow}
-use Rattle.pb_encode.proofs.StreamSteps.{Streams, fresh-append, streams_last, streams_more, streams_none, streams_stop}
+use Rattle.pb_encode.proofs.StreamSteps.{Streams, fresh-append, streams_more, streams_none, streams_stop}
 
 -- statements of a problem are over variables below the numbers of fresh ones
 pub sums_below : (most first : ℕ) (ss : List Raw) → most < first → All (λ s. IsSumWithin most s.terms) ss → All (IsOverBelow first) ss
@@ -46,7 +47,7 @@ module _ {R : Type 0} (o : Options) (p : Problem) (first : ℕ) (products : List
   products_fit fits = omega (arith, first_is, total, fits)
 
   pub products_stop : {T : Type 0} (r : Result T SinkFault) (f : SinkFault) (b : SinkState R) → IsErrAnd r (λ g. g ≡ f) → StopsInClauses (clauses_from o first before) a b f → HandsIfMemory (loaded_clauses o p) r a b
-  products_stop r f b is stops = subst (λ (cs : List (List Lit)). HandsIfMemory cs r a b) same (streams_stop o first first all before (statement_groups statements) all a a b r f refl is begins stops)
+  products_stop r f b is stops = subst (λ (cs : List (List Lit)). HandsIfMemory cs r a b) same (streams_stop before (statement_groups statements) refl begins b r f is stops)
 
   -- once the clauses of the products are handed over
   module _ (next : ℕ) (b : SinkState R) (next_is : next ≡ first + fresh_total o before) (taken : TakesClauses (clauses_from o first before) a b) where
@@ -61,5 +62,5 @@ module _ {R : Type 0} (o : Options) (p : Problem) (first : ℕ) (products : List
 
     pub statements_last : {T : Type 0} (r : Result T SinkFault) (c : SinkState R) → HandsIfMemory (clauses_from o next (statement_groups statements)) r b c → HandsIfMemory (loaded_clauses o p) r a c
     statements_last r c hands =
-        let so_far : Streams o first all (statement_groups statements) next a b = streams_more o first first next all before (statement_groups statements) all a a b refl next_is begins taken in
-        subst (λ (cs : List (List Lit)). HandsIfMemory cs r a c) same (streams_last o first next all (statement_groups statements) a b c r so_far hands)
+        let so_far = streams_more before (statement_groups statements) refl begins next b next_is taken in
+        subst (λ (cs : List (List Lit)). HandsIfMemory cs r a c) same (stops_last r (clauses_from o next (statement_groups statements)) c so_far.handed hands)

@@ -1,11 +1,8 @@
 -- The derivations of groups of constraints that are handed over one after another.
-use Rattle.std.proofs.Common.{◌≡◌, ◌≤◌, ◌<◌, ◌+◌, ◌^◌, ◌++◌, ℕ, Bool, true, false, cond, List, [], ◌∷◌, length, refl, sym, ap, subst, ◌∙◌, arith, append_assoc}
+use Rattle.std.proofs.Common.{◌≡◌, ◌≤◌, ◌+◌, ◌^◌, ◌++◌, ℕ, Bool, true, false, cond, List, [], ◌∷◌, length, refl, sym, ap, subst, ◌∙◌, arith, append_assoc}
 use Rattle.std.specs.Prelude.{count_by, Result, IsErrAnd}
 use Rattle.std.proofs.lemmas.List.{append-nil}
-use Rattle.std.proofs.lemmas.List.Elements.{All-weaker}
 use Rattle.std.proofs.lemmas.List.Sums.{sum_by-append, sum_by-cons}
-use Rattle.pb_base.specs.declared.literal.Term.{Term}
-use Rattle.pb_base.specs.declared.problem.Raw.{Raw}
 use Rattle.pb_steps.specs.declared.step.Step.{Step}
 use Rattle.pb_steps.specs.Steps.{takes_id}
 use Rattle.pb_family.specs.StepSinks.{StepState, TakesSteps, StopsInSteps, HandsSteps}
@@ -16,8 +13,7 @@ use Rattle.pb_choice.specs.Readiness.{LeavesIds}
 use Rattle.pb_encode.specs.Clauses.{clause_total, fresh_total}
 use Rattle.pb_encode.specs.Groups.{Group, group_count, group_fresh, group_size, group_steps, size_total}
 use Rattle.pb_encode.specs.Steps.{steps_from}
-use Rattle.pb_encode.specs.laws.Streams.{IsOverBelow}
-use Rattle.pb_encode.proofs.StreamSteps.{fresh-append}
+use Rattle.pb_encode.proofs.StreamSteps.{fresh-append, one_fresh}
 
 abbrev pub ids_in : List Step → ℕ
 ids_in steps = count_by takes_id steps
@@ -67,20 +63,23 @@ pub record Turns {R : Type 0} (o : Options) (first id : ℕ) (all left : List Gr
 pub turns_none : {R : Type 0} (o : Options) (first id : ℕ) (all : List Group) (a : StepState R) → Turns o first id all all first id a a
 turns_none o first id all a = record { variable_is = refl; place_is = refl; fewer = omega arith; later = omega arith; known = omega arith; handed = deriving_starts (steps_from o first id all a.next) a }
 
-module _ {R : Type 0} (o : Options) (first id variable place : ℕ) (all ds rest left : List Group) (a b : StepState R) (parts : left ≡ ds ++ rest) (so_far : Turns o first id all left variable place a b) where
+-- what is asked so that the derivations of groups may be handed over, which begin with a fresh variable and an id
+pub record Ready (o : Options) (variable place next : ℕ) (gs : List Group) : Type 0 where
+  pub fits : variable + fresh_total o gs ≤ 2147483648
+  pub counted : clause_total o gs ≤ 2 ^ 56
+  pub known : place + size_total gs ≤ next
+  pub few : LeavesIds (steps_from o variable place gs) next
+
+-- the derivations of some that are left come next
+module _ {R : Type 0} {o : Options} {first id variable place : ℕ} {all left : List Group} {a b : StepState R} (ds rest : List Group) (parts : left ≡ ds ++ rest) (so_far : Turns o first id all left variable place a b) where
   abbrev here : List Step
   here = steps_from o variable place ds b.next
 
-  -- the derivations of some that are left come next
   next_piece : Deriving (steps_from o first id all a.next) (here ++ steps_behind o variable place ds rest b.next) a b
   next_piece = deriving_as (ap (λ (cs : List Group). steps_from o variable place cs b.next) parts ∙ steps_from-append o variable place ds rest b.next) so_far.handed
 
   clauses_parts : clause_total o left ≡ clause_total o ds + clause_total o rest
   clauses_parts = ap (clause_total o) parts ∙ sum_by-append (group_count o) ds rest
-
-  -- they have no more clauses than all
-  pub turns_count : (most : ℕ) → clause_total o all ≤ most → clause_total o ds ≤ most
-  turns_count most few = omega (arith, so_far.fewer, clauses_parts, few)
 
   pub turns_more : (variable2 place2 : ℕ) (d : StepState R) → variable2 ≡ variable + fresh_total o ds → place2 ≡ place + size_total ds → TakesSteps here b d → Turns o first id all rest variable2 place2 a d
   turns_more variable2 place2 d variable_to place_to taken = record {
@@ -96,10 +95,6 @@ module _ {R : Type 0} (o : Options) (first id variable place : ℕ) (all ds rest
   pub turns_stop : {T : Type 0} (d : StepState R) (r : Result T SinkFault) (f : SinkFault) → IsErrAnd r (λ g. g ≡ f) → StopsInSteps here b d f → HandsSteps (steps_from o first id all a.next) r a d
   turns_stop d r f is stops = steps_fault r f here (steps_behind o variable place ds rest b.next) d is next_piece stops
 
-  -- there are numbers left for the fresh variables of those that come next
-  pub turns_fit : first + fresh_total o all ≤ 2147483648 → variable + fresh_total o ds ≤ 2147483648
-  turns_fit fits = omega (arith, so_far.variable_is, fits, ap (fresh_total o) parts, fresh-append o ds rest)
-
   -- how many ids were given
   ids_so_far : a.next + ids_in (steps_from o first id all a.next) ≡ b.next + ids_in here + ids_in (steps_behind o variable place ds rest b.next)
   ids_so_far =
@@ -112,42 +107,25 @@ module _ {R : Type 0} (o : Options) (first id variable place : ℕ) (all ds rest
         ids-append here (steps_behind o variable place ds rest b.next),
       )
 
-  -- there are ids left for them
-  pub turns_leave : LeavesIds (steps_from o first id all) a.next → LeavesIds (steps_from o variable place ds) b.next
-  turns_leave few = omega (arith, ids_so_far, few)
-
-  -- the ids of those that come next are known
-  pub turns_known : id + size_total all ≤ a.next → place + size_total ds ≤ b.next
-  turns_known known = omega (arith, so_far.place_is, known, next_piece.handed.ids, ap size_total parts, size-append ds rest)
+  -- what was asked for all suffices for those that come next
+  pub turns_ready : Ready o first id a.next all → Ready o variable place b.next ds
+  turns_ready ready = record {
+    fits = omega (arith, so_far.variable_is, ready.fits, ap (fresh_total o) parts, fresh-append o ds rest);
+    counted = omega (arith, so_far.fewer, clauses_parts, ready.counted);
+    known = omega (arith, so_far.place_is, ready.known, next_piece.handed.ids, ap size_total parts, size-append ds rest);
+    few = omega (arith, ids_so_far, ready.few);
+  }
 
 -- none are left
-module _ {R : Type 0} (o : Options) (first id variable place : ℕ) (all left : List Group) (a b : StepState R) (so_far : Turns o first id all left variable place a b) where
-  pub turns_all : left ≡ [] → TakesSteps (steps_from o first id all a.next) a b
-  turns_all none = deriving_ends (deriving_as (ap (λ (cs : List Group). steps_from o variable place cs b.next) none) so_far.handed)
+module _ {R : Type 0} {o : Options} {first id variable place : ℕ} {all left : List Group} {a b : StepState R} (none : left ≡ []) (so_far : Turns o first id all left variable place a b) where
+  pub turns_all : TakesSteps (steps_from o first id all a.next) a b
+  turns_all = deriving_ends (deriving_as (ap (λ (cs : List Group). steps_from o variable place cs b.next) none) so_far.handed)
 
-  pub turns_variable : left ≡ [] → variable ≡ first + fresh_total o all
-  turns_variable none = omega (arith, so_far.variable_is, ap (fresh_total o) none)
+  pub turns_variable : variable ≡ first + fresh_total o all
+  turns_variable = omega (arith, so_far.variable_is, ap (fresh_total o) none)
 
-  pub turns_place : left ≡ [] → place ≡ id + size_total all
-  turns_place none = omega (arith, so_far.place_is, ap size_total none)
-
-  -- variables below the first fresh one are below the next
-  pub turns_below : (s : Raw) → IsOverBelow first s → IsOverBelow variable s
-  turns_below s below = All-weaker (λ (t : Term). t.lit.var < first) (λ (t : Term). t.lit.var < variable) (λ t h. omega (arith, h, so_far.later)) s.terms below
-
--- the steps of one group
-pub one_steps : (o : Options) (first id next : ℕ) (g : Group) → group_steps o g first id next ≡ steps_from o first id (g ∷ []) next
-one_steps o first id next g = sym (append-nil (group_steps o g first id next))
-
-pub one_leaves : (o : Options) (first id next : ℕ) (g : Group) → LeavesIds (steps_from o first id (g ∷ [])) next → LeavesIds (group_steps o g first id) next
-one_leaves o first id next g few = omega (arith, few, ap ids_in (one_steps o first id next g))
-
--- so the next id is within the bound
-pub leaves_next : (steps : ℕ → List Step) (next : ℕ) → LeavesIds steps next → next ≤ 2 ^ 60
-leaves_next steps next few = omega (arith, few)
-
-pub one_size : (g : Group) → size_total (g ∷ []) ≡ group_size g
-one_size g = omega arith
+  pub turns_place : place ≡ id + size_total all
+  turns_place = omega (arith, so_far.place_is, ap size_total none)
 
 -- the same steps, written another way
 pub takes_same_steps : {R : Type 0} (ss ts : List Step) (a b : StepState R) → ss ≡ ts → TakesSteps ss a b → TakesSteps ts a b
@@ -165,5 +143,43 @@ ids-most (s ∷ steps) = omega (arith, sum_by-cons (λ (t : Step). cond (takes_i
     bit true = omega arith
     bit false = omega arith
 
-pub one_count : (o : Options) (g : Group) → clause_total o (g ∷ []) ≡ group_count o g
+-- ---- one group
+
+one_steps : (o : Options) (first id next : ℕ) (g : Group) → group_steps o g first id next ≡ steps_from o first id (g ∷ []) next
+one_steps o first id next g = sym (append-nil (group_steps o g first id next))
+
+one_size : (g : Group) → size_total (g ∷ []) ≡ group_size g
+one_size g = omega arith
+
+one_count : (o : Options) (g : Group) → clause_total o (g ∷ []) ≡ group_count o g
 one_count o g = omega arith
+
+-- the next id is within the bound
+pub leaves_next : (steps : ℕ → List Step) (next : ℕ) → LeavesIds steps next → next ≤ 2 ^ 60
+leaves_next steps next few = omega (arith, few)
+
+pub record ReadyOne (o : Options) (variable place next : ℕ) (g : Group) : Type 0 where
+  pub fits : variable + group_fresh o g ≤ 2147483648
+  pub counted : group_count o g ≤ 2 ^ 56
+  pub known : place + group_size g ≤ next
+  pub few : LeavesIds (group_steps o g variable place) next
+
+-- the derivation of one that is left comes next
+module _ {R : Type 0} {o : Options} {first id variable place : ℕ} {all left : List Group} {a b : StepState R} (one : Group) (rest : List Group) (parts : left ≡ (one ∷ []) ++ rest) (so_far : Turns o first id all left variable place a b) where
+  pub one_ready : Ready o first id a.next all → ReadyOne o variable place b.next one
+  one_ready asked =
+      let ready = turns_ready (one ∷ []) rest parts so_far asked in
+      record {
+        fits = omega (arith, ready.fits, one_fresh o one);
+        counted = omega (arith, ready.counted, one_count o one);
+        known = omega (arith, ready.known, one_size one);
+        few = omega (arith, ready.few, ap ids_in (one_steps o variable place b.next one));
+      }
+
+  pub one_more : (variable2 place2 : ℕ) (d : StepState R) → variable2 ≡ variable + group_fresh o one → place2 ≡ place + group_size one → TakesSteps (group_steps o one variable place b.next) b d → Turns o first id all rest variable2 place2 a d
+  one_more variable2 place2 d variable_to place_to taken =
+      turns_more (one ∷ []) rest parts so_far variable2 place2 d (variable_to ∙ ap (λ (n : ℕ). variable + n) (sym (one_fresh o one))) (place_to ∙ ap (λ (n : ℕ). place + n) (sym (one_size one)))
+      (takes_same_steps _ _ b d (one_steps o variable place b.next one) taken)
+
+  pub one_stop : {T : Type 0} (d : StepState R) (r : Result T SinkFault) (f : SinkFault) → IsErrAnd r (λ g. g ≡ f) → StopsInSteps (group_steps o one variable place b.next) b d f → HandsSteps (steps_from o first id all a.next) r a d
+  one_stop d r f is stops = turns_stop (one ∷ []) rest parts so_far d r f is (stops_same_steps _ _ b d f (one_steps o variable place b.next one) stops)

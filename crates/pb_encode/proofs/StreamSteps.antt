@@ -1,10 +1,13 @@
 -- The clauses of groups of constraints that are handed over one after another.
-use Rattle.std.proofs.Common.{◌≡◌, ◌≤◌, ◌<◌, ◌+◌, ◌++◌, ℕ, suc, List, [], ◌∷◌, length, drop, drop-cons, get_or, refl, sym, ap, subst, ◌∙◌, arith, append_assoc}
+use Rattle.std.proofs.Common.{◌≡◌, ◌≤◌, ◌<◌, ◌+◌, ◌^◌, ◌++◌, ℕ, suc, List, All, [], ◌∷◌, length, drop, drop-cons, get_or, refl, sym, ap, subst, ◌∙◌, arith, append_assoc}
 use Rattle.std.specs.Prelude.{Result, IsErrAnd}
 use Rattle.std.proofs.lemmas.List.{append-nil, drop_all, map-append}
+use Rattle.std.proofs.lemmas.List.Elements.{All-weaker}
 use Rattle.std.proofs.lemmas.List.Sums.{sum_by-append}
 use Rattle.pb_base.specs.declared.literal.Lit.{Lit}
+use Rattle.pb_base.specs.declared.literal.Term.{Term}
 use Rattle.pb_base.specs.declared.problem.Raw.{Raw}
+use Rattle.pb_base.specs.Problems.{StaysBelow}
 use Rattle.pb_norm.specs.Constraints.{Constraint}
 use Rattle.pb_norm.specs.ClauseForm.{clause_form}
 use Rattle.pb_norm.specs.Products.{plain, defining, product_clauses, product_constraints}
@@ -13,11 +16,12 @@ use Rattle.pb_family.specs.Handing.{HandsIfMemory, StopsInClauses, TakesClauses}
 use Rattle.pb_family.specs.Sinks.{SinkState}
 use Rattle.pb_family.specs.declared.sink.SinkFault.{SinkFault}
 use Rattle.pb_family.proofs.Emission.{Emitting, emitting_ends, emitting_starts, emitting_step}
-use Rattle.pb_family.proofs.Stopping.{stops_fault, stops_last}
+use Rattle.pb_family.proofs.Stopping.{stops_fault}
 use Rattle.pb_choice.specs.declared.options.Options.{Options}
 use Rattle.pb_encode.specs.Clauses.{clauses_from, fresh_total}
 use Rattle.pb_encode.specs.Groups.{Group, group_clauses, group_fresh, group_of, singles, statement_groups}
 use Rattle.pb_encode.specs.Groups.Group.{alone}
+use Rattle.pb_encode.specs.laws.Streams.{IsOverBelow}
 
 -- ---- the clauses of more groups
 
@@ -45,44 +49,50 @@ pub streams_none : {R : Type 0} (o : Options) (first : ℕ) (all : List Group) (
 streams_none o first all a = record { next_is = refl; later = omega arith; handed = emitting_starts (clauses_from o first all) a }
 
 -- the clauses of some that are left come next
-next_piece : {R : Type 0} (o : Options) (first next : ℕ) (all ds rest left : List Group) (a b : SinkState R) → left ≡ ds ++ rest → Streams o first all left next a b → Emitting (clauses_from o first all) (clauses_from o next ds ++ clauses_from o (next + fresh_total o ds) rest) a b
-next_piece o first next all ds rest left a b parts so_far =
-    subst (λ (cs : List (List Lit)). Emitting (clauses_from o first all) cs a b) (ap (clauses_from o next) parts ∙ clauses_from-append o next ds rest) so_far.handed
+module _ {R : Type 0} {o : Options} {first next : ℕ} {all left : List Group} {a b : SinkState R} (ds rest : List Group) (parts : left ≡ ds ++ rest) (so_far : Streams o first all left next a b) where
+  next_piece : Emitting (clauses_from o first all) (clauses_from o next ds ++ clauses_from o (next + fresh_total o ds) rest) a b
+  next_piece = subst (λ (cs : List (List Lit)). Emitting (clauses_from o first all) cs a b) (ap (clauses_from o next) parts ∙ clauses_from-append o next ds rest) so_far.handed
 
-pub streams_more : {R : Type 0} (o : Options) (first next last : ℕ) (all ds rest left : List Group) (a b c : SinkState R) → left ≡ ds ++ rest → last ≡ next + fresh_total o ds
-    → Streams o first all left next a b → TakesClauses (clauses_from o next ds) b c → Streams o first all rest last a c
-streams_more o first next last all ds rest left a b c parts is so_far taken = record {
-  next_is = omega (arith, is, so_far.next_is, ap (fresh_total o) parts, fresh-append o ds rest);
-  later = omega (arith, is, so_far.later);
-  handed = subst (λ (n : ℕ). Emitting (clauses_from o first all) (clauses_from o n rest) a c) (sym is) (emitting_step (clauses_from o next ds) c (next_piece o first next all ds rest left a b parts so_far) taken);
-}
+  pub streams_more : (last : ℕ) (c : SinkState R) → last ≡ next + fresh_total o ds → TakesClauses (clauses_from o next ds) b c → Streams o first all rest last a c
+  streams_more last c is taken = record {
+    next_is = omega (arith, is, so_far.next_is, ap (fresh_total o) parts, fresh-append o ds rest);
+    later = omega (arith, is, so_far.later);
+    handed = subst (λ (n : ℕ). Emitting (clauses_from o first all) (clauses_from o n rest) a c) (sym is) (emitting_step (clauses_from o next ds) c next_piece taken);
+  }
 
-pub streams_stop : {R T : Type 0} (o : Options) (first next : ℕ) (all ds rest left : List Group) (a b c : SinkState R) (r : Result T SinkFault) (f : SinkFault) → left ≡ ds ++ rest → IsErrAnd r (λ g. g ≡ f)
-    → Streams o first all left next a b → StopsInClauses (clauses_from o next ds) b c f → HandsIfMemory (clauses_from o first all) r a c
-streams_stop o first next all ds rest left a b c r f parts is so_far stops =
-    stops_fault r f (clauses_from o next ds) (clauses_from o (next + fresh_total o ds) rest) c is (next_piece o first next all ds rest left a b parts so_far) stops
+  pub streams_stop : {T : Type 0} (c : SinkState R) (r : Result T SinkFault) (f : SinkFault) → IsErrAnd r (λ g. g ≡ f) → StopsInClauses (clauses_from o next ds) b c f → HandsIfMemory (clauses_from o first all) r a c
+  streams_stop c r f is stops = stops_fault r f (clauses_from o next ds) (clauses_from o (next + fresh_total o ds) rest) c is next_piece stops
 
--- none are left
-pub streams_all : {R : Type 0} (o : Options) (first next : ℕ) (all left : List Group) (a b : SinkState R) → left ≡ [] → Streams o first all left next a b → TakesClauses (clauses_from o first all) a b
-streams_all o first next all left a b none so_far = emitting_ends (subst (λ (cs : List Group). Emitting (clauses_from o first all) (clauses_from o next cs) a b) none so_far.handed)
-
-pub streams_next : {R : Type 0} (o : Options) (first next : ℕ) (all left : List Group) (a b : SinkState R) → left ≡ [] → Streams o first all left next a b → next ≡ first + fresh_total o all
-streams_next o first next all left a b none so_far = omega (arith, so_far.next_is, ap (fresh_total o) none)
-
--- there are numbers left for the fresh variables of those that come next
-pub streams_fit : {R : Type 0} (o : Options) (first next : ℕ) (all ds rest left : List Group) (a b : SinkState R) → left ≡ ds ++ rest → Streams o first all left next a b → first + fresh_total o all ≤ 2147483648 → next + fresh_total o ds ≤ 2147483648
-streams_fit o first next all ds rest left a b parts so_far fits = omega (arith, so_far.next_is, fits, ap (fresh_total o) parts, fresh-append o ds rest)
-
--- those that are left are handed over last
-pub streams_last : {R T : Type 0} (o : Options) (first next : ℕ) (all left : List Group) (a b c : SinkState R) (r : Result T SinkFault) → Streams o first all left next a b → HandsIfMemory (clauses_from o next left) r b c → HandsIfMemory (clauses_from o first all) r a c
-streams_last o first next all left a b c r so_far hands = stops_last r (clauses_from o next left) c so_far.handed hands
+  -- there are numbers left for their fresh variables
+  pub streams_fit : first + fresh_total o all ≤ 2147483648 → next + fresh_total o ds ≤ 2147483648
+  streams_fit fits = omega (arith, so_far.next_is, fits, ap (fresh_total o) parts, fresh-append o ds rest)
 
 -- the clauses of one group
-pub one_clauses : (o : Options) (first : ℕ) (g : Group) → group_clauses o g first ≡ clauses_from o first (g ∷ [])
+one_clauses : (o : Options) (first : ℕ) (g : Group) → group_clauses o g first ≡ clauses_from o first (g ∷ [])
 one_clauses o first g = sym (append-nil (group_clauses o g first))
 
 pub one_fresh : (o : Options) (g : Group) → fresh_total o (g ∷ []) ≡ group_fresh o g
 one_fresh o g = omega arith
+
+-- those of one group come next
+module _ {R : Type 0} {o : Options} {first next : ℕ} {all left : List Group} {a b : SinkState R} (one : Group) (rest : List Group) (parts : left ≡ (one ∷ []) ++ rest) (so_far : Streams o first all left next a b) where
+  pub one_more : (last : ℕ) (c : SinkState R) → last ≡ next + group_fresh o one → TakesClauses (group_clauses o one next) b c → Streams o first all rest last a c
+  one_more last c is taken =
+      streams_more (one ∷ []) rest parts so_far last c (is ∙ ap (λ (n : ℕ). next + n) (sym (one_fresh o one))) (subst (λ (cs : List (List Lit)). TakesClauses cs b c) (one_clauses o next one) taken)
+
+  pub one_stop : {T : Type 0} (c : SinkState R) (r : Result T SinkFault) (f : SinkFault) → IsErrAnd r (λ g. g ≡ f) → StopsInClauses (group_clauses o one next) b c f → HandsIfMemory (clauses_from o first all) r a c
+  one_stop c r f is stops = streams_stop (one ∷ []) rest parts so_far c r f is (subst (λ (cs : List (List Lit)). StopsInClauses cs b c f) (one_clauses o next one) stops)
+
+  pub one_fits : first + fresh_total o all ≤ 2147483648 → next + group_fresh o one ≤ 2147483648
+  one_fits fits = omega (arith, streams_fit (one ∷ []) rest parts so_far fits, one_fresh o one)
+
+-- none are left
+module _ {R : Type 0} {o : Options} {first next : ℕ} {all left : List Group} {a b : SinkState R} (none : left ≡ []) (so_far : Streams o first all left next a b) where
+  pub streams_all : TakesClauses (clauses_from o first all) a b
+  streams_all = emitting_ends (subst (λ (cs : List Group). Emitting (clauses_from o first all) (clauses_from o next cs) a b) none so_far.handed)
+
+  pub streams_next : next ≡ first + fresh_total o all
+  streams_next = omega (arith, so_far.next_is, ap (fresh_total o) none)
 
 -- ---- what is left of a list
 
@@ -94,6 +104,14 @@ drop_rest {X} xs i x lt is =
 -- of statements the next one's group, and the others
 pub statements_rest : (ss : List Raw) (i : ℕ) (s : Raw) → i < length ss → s ≡ get_or ss i s → statement_groups (drop i ss) ≡ (group_of s ∷ []) ++ statement_groups (drop (i + 1) ss)
 statements_rest ss i s lt is = ap statement_groups (drop_rest ss i s lt is)
+
+-- it is as all are, and over variables below later numbers too
+pub statement_stays : (ss : List Raw) (i : ℕ) (s : Raw) → i < length ss → s ≡ get_or ss i s → All (StaysBelow (2 ^ 100)) ss → StaysBelow (2 ^ 100) s
+statement_stays ss i s lt is all = subst (StaysBelow (2 ^ 100)) (sym is) (all i s lt)
+
+pub statement_below : (first next : ℕ) (ss : List Raw) (i : ℕ) (s : Raw) → i < length ss → s ≡ get_or ss i s → first ≤ next → All (IsOverBelow first) ss → IsOverBelow next s
+statement_below first next ss i s lt is later all =
+    All-weaker (λ (t : Term). t.lit.var < first) (λ (t : Term). t.lit.var < next) (λ t h. omega (arith, h, later)) s.terms (subst (IsOverBelow first) (sym is) (all i s lt))
 
 pub statements_done : (ss : List Raw) (i : ℕ) → length ss ≤ i → statement_groups (drop i ss) ≡ []
 statements_done ss i le = ap statement_groups (drop_all i ss le)

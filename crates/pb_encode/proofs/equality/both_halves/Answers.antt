@@ -1,14 +1,11 @@
-use Rattle.std.proofs.Common.{◌<◌, ◌^◌, sym, subst}
 use Rattle.pb_norm.specs.declared.halves.Half.TheVariants.{Lower, Upper}
-use Rattle.pb_norm.specs.Constraints.{Constraint, weight}
-use Rattle.pb_encode.proofs.HalfWeights.{half_light}
+use Rattle.pb_encode.proofs.HalfWeights.{weighs_little}
 use Rattle.pb_encode.proofs.equality.both_halves.Goals as goal
 
-pub returns-clause-lower_light : goal.returns-clause-lower_light
-returns-clause-lower_light c = subst (λ (d : Constraint). weight d.terms < 2 ^ 100) (sym c.in_ok-lower.ensures.form) (half_light Lower c.args.statement.now (2 ^ 100) c.requires)
-
-pub returns-clause-upper_light : goal.returns-clause-upper_light
-returns-clause-upper_light c = subst (λ (d : Constraint). weight d.terms < 2 ^ 100) (sym c.in_ok-upper.ensures.form) (half_light Upper c.args.statement.now (2 ^ 100) c.requires)
-
-pub returns-clause-upper : goal.returns-clause-upper
-returns-clause-upper c = c.in_ok-upper.ensures.form
+pub returns : goal.returns
+returns c = record {
+  lower = c.in_ok-lower.ensures.form;
+  upper = c.in_ok-upper.ensures.form;
+  lower_light = weighs_little Lower c.args.statement.now c.in_ok-lower.lower c.in_ok-lower.ensures.form c.requires;
+  upper_light = weighs_little Upper c.args.statement.now c.in_ok-upper.upper c.in_ok-upper.ensures.form c.requires;
+}

@@ -14,26 +14,20 @@ loop-place-init g c =
     let a = g.S.ClauseSink.state c.args.sink.now in
     subst (λ (left : List Group). Streams c.args.options.now c.args.first (singles (defining v products)) left c.args.first a a) (defining_begin v products) (streams_none c.args.options.now c.args.first (singles (defining v products)) a)
 
-pub stream_product-requires-clause-below : goal.stream_product-requires-clause-below
-stream_product-requires-clause-below g c =
-    let products = c.args.products.now in
-    let i = c.loop-place.place in
-    let ls : List Lit = c.as_slice.result.now in
-    let is : ls ≡ c.index-products-place.result = c.as_slice.ensures in
-    let one : IsProductWithin c.args.vars ls = subst (IsProductWithin c.args.vars) (search rules) (c.requires.within i ls c.loop-place-test.true) in
-    within_below c.args.vars c.loop-place.next c.product_variable-product.result ls
-    (omega (arith, ap (λ (l : Lit). l.var) c.product_variable-product.ensures, c.requires.vars, c.loop-place.invariant.later, c.loop-place-test.true))
-    (omega (arith, c.requires.vars, c.loop-place.invariant.later)) one
-
-pub stream_product-requires-clause-fits : goal.stream_product-requires-clause-fits
-stream_product-requires-clause-fits g c =
-    let v = c.args.vars + 1 in
-    let products = c.args.products.now in
-    let i = c.loop-place.place in
+pub stream_product-requires : goal.stream_product-requires
+stream_product-requires g c =
+    let l = c.loop-place in
     let z : Lit = c.product_variable-product.result in
     let ls : List Lit = c.as_slice.result.now in
-    streams_fit c.args.options.now c.args.first c.loop-place.next (singles (defining v products)) (singles (product_constraints z ls)) _ _ _ _
-    (defining_rest v i z products ls c.loop-place-test.true c.product_variable-product.ensures (search rules)) c.loop-place.invariant c.requires.fits
+    let is : ls ≡ c.index-products-place.result = c.as_slice.ensures in
+    let one : IsProductWithin c.args.vars ls = subst (IsProductWithin c.args.vars) (search rules) (c.requires.within l.place ls c.loop-place-test.true) in
+    record {
+      below = within_below c.args.vars l.next z ls (omega (arith, ap (λ (k : Lit). k.var) c.product_variable-product.ensures, c.requires.vars, l.invariant.later, c.loop-place-test.true))
+          (omega (arith, c.requires.vars, l.invariant.later)) one;
+      low = omega (arith, c.requires.vars, l.invariant.later);
+      modest = c.requires.modest;
+      fits = streams_fit (singles (product_constraints z ls)) _ (defining_rest (c.args.vars + 1) l.place z c.args.products.now ls c.loop-place-test.true c.product_variable-product.ensures (search rules)) l.invariant c.requires.fits;
+    }
 
 pub returns-in_err-next-clause-hands : goal.returns-in_err-next-clause-hands
 returns-in_err-next-clause-hands g c =
@@ -42,8 +36,8 @@ returns-in_err-next-clause-hands g c =
     let i = c.loop-place.place in
     let z : Lit = c.product_variable-product.result in
     let ls : List Lit = c.as_slice.result.now in
-    streams_stop c.args.options.now c.args.first c.loop-place.next (singles (defining v products)) (singles (product_constraints z ls)) (singles (defining (v + (i + 1)) (drop (i + 1) products))) _ _ _ _ c.from_residual.result c.in_err-next.field-0.0
-    (defining_rest v i z products ls c.loop-place-test.true c.product_variable-product.ensures (search rules)) c.from_residual.ensures.1 c.loop-place.invariant c.in_err-next.ensures.hands
+    streams_stop (singles (product_constraints z ls)) (singles (defining (v + (i + 1)) (drop (i + 1) products))) (defining_rest v i z products ls c.loop-place-test.true c.product_variable-product.ensures (search rules)) c.loop-place.invariant
+    _ c.from_residual.result c.in_err-next.field-0.0 c.from_residual.ensures.1 c.in_err-next.ensures.hands
 
 pub loop-place-preserved : goal.loop-place-preserved
 loop-place-preserved g c =
@@ -52,17 +46,10 @@ loop-place-preserved g c =
     let i = c.loop-place.place in
     let z : Lit = c.product_variable-product.result in
     let ls : List Lit = c.as_slice.result.now in
-    streams_more c.args.options.now c.args.first c.loop-place.next c.in_ok-next.next (singles (defining v products)) (singles (product_constraints z ls)) (singles (defining (v + (i + 1)) (drop (i + 1) products))) _ _ _ _
-    (defining_rest v i z products ls c.loop-place-test.true c.product_variable-product.ensures (search rules)) c.in_ok-next.ensures.next c.loop-place.invariant c.in_ok-next.ensures.hands
+    streams_more (singles (product_constraints z ls)) (singles (defining (v + (i + 1)) (drop (i + 1) products))) (defining_rest v i z products ls c.loop-place-test.true c.product_variable-product.ensures (search rules)) c.loop-place.invariant
+    c.in_ok-next.next _ c.in_ok-next.ensures.next c.in_ok-next.ensures.hands
 
-pub returns-clause-next : goal.returns-clause-next
-returns-clause-next g c =
-    let v = c.args.vars + 1 in
-    let products = c.args.products.now in
-    streams_next c.args.options.now c.args.first c.loop-place.next (singles (defining v products)) _ _ _ (defining_done v c.loop-place.place products c.loop-place-test.false) c.loop-place.invariant
-
-pub returns-clause-hands : goal.returns-clause-hands
-returns-clause-hands g c =
-    let v = c.args.vars + 1 in
-    let products = c.args.products.now in
-    streams_all c.args.options.now c.args.first c.loop-place.next (singles (defining v products)) _ _ _ (defining_done v c.loop-place.place products c.loop-place-test.false) c.loop-place.invariant
+pub returns : goal.returns
+returns g c =
+    let done = defining_done (c.args.vars + 1) c.loop-place.place c.args.products.now c.loop-place-test.false in
+    record { next = streams_next done c.loop-place.invariant; hands = streams_all done c.loop-place.invariant }
