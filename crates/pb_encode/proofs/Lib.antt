@@ -5,6 +5,7 @@ pub mod ChoiceLaws
 pub mod CnfTexts
 pub mod CostLemmas
 pub mod CostTexts
+pub mod Counted
 pub mod CountingLoops
 pub mod DerivedProblems
 pub mod EncodedFiles

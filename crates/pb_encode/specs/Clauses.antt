@@ -4,6 +4,7 @@ use Rattle.pb_base.specs.declared.literal.Lit.{Lit}
 use Rattle.pb_base.specs.declared.problem.Problem.{Problem}
 use Rattle.pb_base.specs.Problems.{originals}
 use Rattle.pb_choice.specs.declared.options.Options.{Options}
+use Rattle.pb_choice.specs.declared.plans.Counts.{Counts}
 use Rattle.pb_gentot.specs.BoundTable.{table_clauses, table_fresh, table_size}
 use Rattle.pb_encode.specs.Groups.{Group, group_clauses, group_count, group_fresh, groups_of}
 use Rattle.pb_encode.specs.Tables.{table_terms}
@@ -46,3 +47,6 @@ problem_vars o p = originals p + problem_fresh o p
 -- how many clauses there are
 abbrev pub problem_count : Options → Problem → ℕ
 problem_count o p = clause_total o (groups_of p) + table_size (table_terms o p)
+
+abbrev pub problem_counts : Options → Problem → Counts
+problem_counts o p = record { fresh = problem_fresh o p; clauses = problem_count o p }

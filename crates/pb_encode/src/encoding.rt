@@ -15,7 +15,7 @@ use crate::derivation_file::encode_steps;
 use crate::fault::EncodeFault;
 use crate::measuring::measure;
 use crate::summary::Summary;
-use crate::whole::stream_clauses;
+use crate::whole::hand_clauses;
 use pb_base::Problem;
 use pb_choice::Options;
 use pb_desk::Desk;
@@ -39,7 +39,7 @@ fn send_cnf<'a, D: Desk>(
     ensures all_sent { OnOk result (IsAllSent (⟦<ClauseWriter<'a, D> as ClauseSink>⟧.state writer.new)) }
 {
     writer.header(summary.vars, summary.clauses)?;
-    stream_clauses(alloc, problem, options, writer)?;
+    hand_clauses(alloc, problem, options, writer)?;
     writer.flush()?;
     Ok(())
 }

@@ -23,7 +23,7 @@ use crate::fault::EncodeFault;
 use crate::measuring::measure;
 use crate::objective::{objective_form, offset_by};
 use crate::summary::Summary;
-use crate::whole::stream_clauses;
+use crate::whole::hand_clauses;
 use pb_base::{Failed, Problem};
 use pb_choice::Options;
 use pb_desk::Desk;
@@ -69,7 +69,7 @@ fn send_weighted<'a, D: Desk>(
     ensures all_sent { OnOk result (IsAllSent (⟦<HardWriter<'a, D> as ClauseSink>⟧.state writer.new)) }
 {
     send_offset(objective, writer)?;
-    stream_clauses(alloc, problem, options, writer)?;
+    hand_clauses(alloc, problem, options, writer)?;
     send_softs(objective, writer)?;
     writer.flush()?;
     Ok(())

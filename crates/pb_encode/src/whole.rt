@@ -1,26 +1,28 @@
 //! All clauses of a problem and their derivation, handed to a sink: those of its constraints, and then those of its table.
-ghost use Rattle.std.specs.Prelude.{◌≡◌, ◌≤◌, ◌+◌, length};
+ghost use Rattle.std.specs.Prelude.{◌≡◌, ◌≤◌, ◌+◌, IfOk, length};
 ghost use Rattle.pb_base.specs.Problems.{IsWithinLimits};
 ghost use Rattle.pb_norm.specs.Products.{loaded_of};
 ghost use Rattle.pb_family.specs.Handing.{HandsIfMemory};
 ghost use Rattle.pb_family.specs.StepSinks.{HandsFrom, HandsSteps};
-ghost use Rattle.pb_encode.specs.Clauses.{problem_clauses};
+ghost use Rattle.pb_encode.specs.Clauses.{problem_clauses, problem_counts};
 ghost use Rattle.pb_encode.specs.Steps.{problem_steps};
 ghost use Rattle.pb_encode.specs.Summaries.{IsEncodable};
 ghost use Rattle.pb_encode.specs.laws.Streams.{steps_at_next};
 
 use crate::derivation::{Turn, derive_loaded};
+use crate::fault::MeasureFault;
+use crate::measuring::measure;
 use crate::streaming::stream_loaded;
 use crate::table::{derive_table, stream_table};
-use pb_base::Problem;
-use pb_choice::Options;
+use pb_base::{NoMemory, Problem};
+use pb_choice::{Counts, Options};
 use pb_family::{ClauseSink, SinkFault, StepSink};
 use pb_steps::Step;
 use std::alloc::Global;
 
 /// Hands over the clauses of a problem: those of its constraints, of which nothing is kept but what one statement needs, and then
 /// those of its table.
-pub fn stream_clauses<S: ClauseSink>(
+pub fn hand_clauses<S: ClauseSink>(
     alloc: Global,
     problem: &Problem,
     options: &Options,
@@ -33,6 +35,42 @@ pub fn stream_clauses<S: ClauseSink>(
 {
     let first = stream_loaded(alloc, problem, options, sink)?;
     stream_table(alloc, problem, options, first, sink)
+}
+
+// How many fresh variables and clauses the encoding of a problem has that passes no limit.
+fn counts_of(alloc: Global, problem: &Problem, options: &Options) -> Result<Counts, NoMemory>
+    requires within { IsWithinLimits problem.now }
+    requires encodable { IsEncodable options.now problem.now }
+    requires modest { options.now.budget ≤ 10000000 }
+    ensures { IfOk result (λ counts. counts ≡ problem_counts options.now problem.now) }
+{
+    match measure(alloc, problem, options) {
+        Ok(summary) => Ok(Counts {
+            fresh: (summary.vars - problem.originals()) as u64,
+            clauses: summary.clauses,
+        }),
+        Err(MeasureFault::NoMemory) => Err(NoMemory),
+        Err(MeasureFault::Limit { which: _ }) => unreachable!(),
+    }
+}
+
+/// Hands over the clauses of a problem, as `encode` writes them, and gives how many fresh variables and clauses there are, which
+/// are counted first.
+pub fn stream_clauses<S: ClauseSink>(
+    alloc: Global,
+    problem: &Problem,
+    options: &Options,
+    sink: &mut S,
+) -> Result<Counts, SinkFault>
+    requires within { IsWithinLimits problem.now }
+    requires encodable { IsEncodable options.now problem.now }
+    requires modest { options.now.budget ≤ 10000000 }
+    ensures counts { IfOk result (λ counts. counts ≡ problem_counts options.now problem.now) }
+    ensures hands { HandsIfMemory (problem_clauses options.now problem.now) result (S.state sink.old) (S.state sink.new) }
+{
+    let counts = counts_of(alloc, problem, options)?;
+    hand_clauses(alloc, problem, options, sink)?;
+    Ok(counts)
 }
 
 // Hands over the derivations of all constraints, and then that of the table.

@@ -27,7 +27,7 @@ fn streamed_text(alloc: Global, text: &str, left: u32) -> Option<String> {
     streamed(alloc, &problem, left)
 }
 
-// The size of a problem's encoding with a table of bounds, and its clauses.
+// The size of a problem's encoding with a table of bounds, what is counted as it is handed over, and its clauses.
 fn tabled(alloc: Global, problem: &Problem) -> Option<String>
     requires { IsWithinLimits problem.now }
 {
@@ -35,10 +35,10 @@ fn tabled(alloc: Global, problem: &Problem) -> Option<String>
     options.table = true;
     let summary = measure(alloc, problem, &options).ok()?;
     let mut sink = ShortSink::new(alloc, 9);
-    stream_clauses(alloc, problem, &options, &mut sink).ok()?;
+    let counts = stream_clauses(alloc, problem, &options, &mut sink).ok()?;
     let lines = str::from_utf8(sink.text()).ok()?;
     format!(in alloc;
-        "{} {} {:?}\n{lines}",
+        "{} {} {:?} {counts:?}\n{lines}",
         summary.vars, summary.clauses, summary.table
     )
     .ok()
@@ -54,7 +54,10 @@ fn sinks_that_fail(rt: HostRuntime) {
     let cases = [
         (0, "2 2 Err(Failed)\n"),
         (1, "2 2 Err(Failed)\n1 2 0\n"),
-        (2, "2 2 Ok(())\n1 2 0\n-1 -2 0\n"),
+        (
+            2,
+            "2 2 Ok(Counts { fresh: 0, clauses: 2 })\n1 2 0\n-1 -2 0\n",
+        ),
     ];
     for (left, expected) in cases {
         let found = streamed_text(rt.alloc(), "+1 x1 +1 x2 = 1 ;", left);
@@ -65,6 +68,7 @@ fn sinks_that_fail(rt: HostRuntime) {
 #[test]
 fn tables_come_last(rt: HostRuntime) {
     let found = tabled_text(rt.alloc(), "min: +3 x1 -1 ~x2 ;\n+1 x1 +1 x2 >= 1 ;\n");
-    let lines = "5 6 Some(3)\n1 2 0\n-1 4 0\n-2 3 0\n-1 -2 5 0\n-4 3 0\n-5 4 0\n";
+    let lines =
+        "5 6 Some(3) Counts { fresh: 3, clauses: 6 }\n1 2 0\n-1 4 0\n-2 3 0\n-1 -2 5 0\n-4 3 0\n-5 4 0\n";
     assert_found(&rt, found, lines);
 }

@@ -31,16 +31,16 @@ returns-in_err-header-clause-hands g c =
     sending_stops c.from_residual.result fault.Failed (header_text s.vars s.clauses) (clauses_text (problem_clauses c.args.options.now c.args.problem.now)) _ refl c.from_residual.ensures.1
     (starts c.args.options.now c.args.problem.now s c.requires.within c.requires.encodable c.requires.summary _) c.in_err-header.ensures
 
-pub returns-in_err-stream_clauses-clause-hands : goal.returns-in_err-stream_clauses-clause-hands
-returns-in_err-stream_clauses-clause-hands g c =
-    sending_stops_last c.from_residual-in_err-stream_clauses.result c.in_err-stream_clauses.field-0.0 _ c.from_residual-in_err-stream_clauses.ensures.1
-    (begun c.args.options.now c.args.problem.now c.args.summary.now c.requires.within c.requires.encodable c.requires.summary _ _ c.in_ok-header.ensures) c.in_err-stream_clauses.ensures
+pub returns-in_err-hand_clauses-clause-hands : goal.returns-in_err-hand_clauses-clause-hands
+returns-in_err-hand_clauses-clause-hands g c =
+    sending_stops_last c.from_residual-in_err-hand_clauses.result c.in_err-hand_clauses.field-0.0 _ c.from_residual-in_err-hand_clauses.ensures.1
+    (begun c.args.options.now c.args.problem.now c.args.summary.now c.requires.within c.requires.encodable c.requires.summary _ _ c.in_ok-header.ensures) c.in_err-hand_clauses.ensures
 
 pub returns-in_err-flush-clause-hands : goal.returns-in_err-flush-clause-hands
 returns-in_err-flush-clause-hands g c =
     sending_stops_last c.from_residual-in_err-flush.result fault.Failed _ c.from_residual-in_err-flush.ensures.1
-    (whole c.args.options.now c.args.problem.now c.args.summary.now c.requires.within c.requires.encodable c.requires.summary _ _ _ c.in_ok-header.ensures c.in_ok-stream_clauses.ensures) c.in_err-flush.ensures.taken
+    (whole c.args.options.now c.args.problem.now c.args.summary.now c.requires.within c.requires.encodable c.requires.summary _ _ _ c.in_ok-header.ensures c.in_ok-hand_clauses.ensures) c.in_err-flush.ensures.taken
 
 pub returns-clause-hands : goal.returns-clause-hands
 returns-clause-hands g c =
-    sending_ends (sending_last [] _ (whole c.args.options.now c.args.problem.now c.args.summary.now c.requires.within c.requires.encodable c.requires.summary _ _ _ c.in_ok-header.ensures c.in_ok-stream_clauses.ensures) c.in_ok-flush.ensures.taken)
+    sending_ends (sending_last [] _ (whole c.args.options.now c.args.problem.now c.args.summary.now c.requires.within c.requires.encodable c.requires.summary _ _ _ c.in_ok-header.ensures c.in_ok-hand_clauses.ensures) c.in_ok-flush.ensures.taken)

@@ -40,23 +40,23 @@ returns-in_err-send_offset-clause-hands g c =
     sending_stops c.from_residual.result fault.Failed (head_of form) (hard_text (problem_clauses c.args.options.now c.args.problem.now) ++ tail_of form) _ refl c.from_residual.ensures.1
     (starts c.args.options.now c.args.problem.now form c.requires.objective _) c.in_err-send_offset.ensures
 
-pub returns-in_err-stream_clauses-clause-hands : goal.returns-in_err-stream_clauses-clause-hands
-returns-in_err-stream_clauses-clause-hands g c =
+pub returns-in_err-hand_clauses-clause-hands : goal.returns-in_err-hand_clauses-clause-hands
+returns-in_err-hand_clauses-clause-hands g c =
     let form = c.args.objective.now in
-    sending_stops c.from_residual-in_err-stream_clauses.result c.in_err-stream_clauses.field-0.0 (hard_text (problem_clauses c.args.options.now c.args.problem.now)) (tail_of form) _ refl c.from_residual-in_err-stream_clauses.ensures.1
-    (begun c.args.options.now c.args.problem.now form c.requires.objective _ _ c.in_ok-send_offset.ensures) c.in_err-stream_clauses.ensures
+    sending_stops c.from_residual-in_err-hand_clauses.result c.in_err-hand_clauses.field-0.0 (hard_text (problem_clauses c.args.options.now c.args.problem.now)) (tail_of form) _ refl c.from_residual-in_err-hand_clauses.ensures.1
+    (begun c.args.options.now c.args.problem.now form c.requires.objective _ _ c.in_ok-send_offset.ensures) c.in_err-hand_clauses.ensures
 
 pub returns-in_err-send_softs-clause-hands : goal.returns-in_err-send_softs-clause-hands
 returns-in_err-send_softs-clause-hands g c =
     sending_stops_last c.from_residual-in_err-send_softs.result fault.Failed _ c.from_residual-in_err-send_softs.ensures.1
-    (hards c.args.options.now c.args.problem.now c.args.objective.now c.requires.objective _ _ _ c.in_ok-send_offset.ensures c.in_ok-stream_clauses.ensures) c.in_err-send_softs.ensures
+    (hards c.args.options.now c.args.problem.now c.args.objective.now c.requires.objective _ _ _ c.in_ok-send_offset.ensures c.in_ok-hand_clauses.ensures) c.in_err-send_softs.ensures
 
 pub returns-in_err-flush-clause-hands : goal.returns-in_err-flush-clause-hands
 returns-in_err-flush-clause-hands g c =
     sending_stops_last c.from_residual-in_err-flush.result fault.Failed _ c.from_residual-in_err-flush.ensures.1
-    (whole c.args.options.now c.args.problem.now c.args.objective.now c.requires.objective _ _ _ _ c.in_ok-send_offset.ensures c.in_ok-stream_clauses.ensures c.in_ok-send_softs.ensures) c.in_err-flush.ensures.taken
+    (whole c.args.options.now c.args.problem.now c.args.objective.now c.requires.objective _ _ _ _ c.in_ok-send_offset.ensures c.in_ok-hand_clauses.ensures c.in_ok-send_softs.ensures) c.in_err-flush.ensures.taken
 
 pub returns-clause-hands : goal.returns-clause-hands
 returns-clause-hands g c =
     sending_ends
-    (sending_last [] _ (whole c.args.options.now c.args.problem.now c.args.objective.now c.requires.objective _ _ _ _ c.in_ok-send_offset.ensures c.in_ok-stream_clauses.ensures c.in_ok-send_softs.ensures) c.in_ok-flush.ensures.taken)
+    (sending_last [] _ (whole c.args.options.now c.args.problem.now c.args.objective.now c.requires.objective _ _ _ _ c.in_ok-send_offset.ensures c.in_ok-hand_clauses.ensures c.in_ok-send_softs.ensures) c.in_ok-flush.ensures.taken)
