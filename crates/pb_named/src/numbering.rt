@@ -18,13 +18,16 @@ use pb_base::{
     Lit, Lits, MAX_VARIABLES, NoMemory, Problem, Raw, Seq, Statements, Term, Terms, Var,
 };
 use std::alloc::{AllocError, Global};
+use thiserror::Error;
 
 /// Why a problem's variables were not numbered.
-#[derive(Clone, Copy, Debug, PartialEq, Eq)]
+#[derive(Clone, Copy, Debug, PartialEq, Eq, Error)]
 pub enum NumberFault {
     /// There are 2^31 or more.
+    #[error("there are too many variables")]
     Variables,
     /// Memory was refused.
+    #[error("out of memory")]
     NoMemory,
 }
 
@@ -284,7 +287,7 @@ fn terms_of(
     ensures terms { IfOk result (λ ts. ts ≡ terms_of table.now (firsts_behind same_product products.old (products_in table.now terms.now)) terms.now) }
     ensures many { IsErrOf result HasTooMany → IsOver table.now (firsts_behind same_product products.old (products_in table.now terms.now)) }
 {
-    let mut list = Terms::new(alloc);
+    let mut list = Terms::from_vec(Vec::with_capacity(alloc, terms.len())?);
     for term in terms {
         push_some(&mut list, term_of(alloc, table, products, places, term)?)?;
     }

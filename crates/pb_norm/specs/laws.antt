@@ -3,3 +3,4 @@ pub mod Nets
 pub mod Open
 pub mod PropagationLaws
 pub mod Signs
+pub mod Tight

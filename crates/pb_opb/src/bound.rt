@@ -7,13 +7,16 @@ ghost use Rattle.pb_opb.specs.declared.bound.BoundFault.TheVariants as fault;
 use crate::stage::WEIGHT;
 use pb_base::{Problem, Raw, Relation, Term, Terms};
 use std::alloc::{AllocError, Global};
+use thiserror::Error;
 
 /// Why a problem gets no bound on its objective.
-#[derive(Clone, Copy, Debug, PartialEq, Eq)]
+#[derive(Clone, Copy, Debug, PartialEq, Eq, Error)]
 pub enum BoundFault {
     /// The absolute values of the bound and of the objective's coefficients add up to 2^100 or more.
+    #[error("the bound and the coefficients add up to too much")]
     Weight,
     /// Memory was refused.
+    #[error("out of memory")]
     NoMemory,
 }
 

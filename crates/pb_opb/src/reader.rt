@@ -32,6 +32,16 @@ fn with_further<'a>(
     Ok(NamedTerms::from_vec(items))
 }
 
+// Terms that are moved out of their vector, in no more room than they need, since they stay until the problem is numbered.
+fn moved_out<'a>(alloc: Global, read: &mut Vec<NamedTerm<'a>>) -> Result<NamedTerms<'a>, AllocError>
+    ensures terms { IfOk result (λ terms. terms ≡ read.old.items) }
+    ensures rest { OnOk result (read.new.items ≡ []) }
+{
+    let mut terms = Vec::with_capacity(alloc, read.len())?;
+    terms.append(read)?;
+    Ok(NamedTerms::from_vec(terms))
+}
+
 /// What was read of a text so far.
 #[derive(Drop)]
 pub struct Reader<'a> {
@@ -155,7 +165,10 @@ impl<'a> Reader<'a> {
     ) -> Result<(), AllocError>
         ensures { OnOk result (self.new ≡ with_statement self.old relation right) }
     {
-        let terms = mem::replace(&mut self.terms, NamedTerms::new(alloc));
+        // The room in which they were read is kept for the next sum.
+        let mut read = mem::replace(&mut self.terms, NamedTerms::new(alloc)).into_vec();
+        let terms = moved_out(alloc, &mut read)?;
+        mem::replace(&mut self.terms, NamedTerms::from_vec(read));
         self.statements.push(NamedStatement {
             terms,
             relation,
