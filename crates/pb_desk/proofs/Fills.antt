@@ -2,14 +2,14 @@
 use Rattle.std.proofs.Common.{◌≡◌, ◌≤◌, ◌<◌, ◌++◌, ℕ, List, [], length, take, drop, sym, ap, ◌∙◌, subst}
 use Rattle.std.proofs.lemmas.List.{length-take-le, take-append-drop}
 use Rattle.pb_desk.specs.View.{taken}
-use Rattle.pb_desk.specs.Desk.{DeskState, Reaches, Advances, Gives, IfTold}
+use Rattle.pb_desk.specs.Desk.{DeskState, Reads, Advances, Gives, IfTold}
 use Rattle.pb_desk.proofs.ReadLemmas.{weaker_told}
 
 -- they are so many
 took-length : (n count : ℕ) (items room : List ℕ) → n ≡ count → items ≡ room → count ≤ length room → length (take n items) ≡ count
 took-length n count items room exact is le = ap (λ (k : ℕ). length (take k items)) exact ∙ ap (λ (xs : List ℕ). length (take count xs)) is ∙ length-take-le count room le
 
-pub filled-taken : (slot n count : ℕ) (items room : List ℕ) (a b : DeskState) → n ≡ count → items ≡ room → count ≤ length room → Reaches (taken slot count) a b → IfTold a (λ t. Gives (t.left slot) count room) → Advances slot (length (take n items)) a b
+pub filled-taken : (slot n count : ℕ) (items room : List ℕ) (a b : DeskState) → n ≡ count → items ≡ room → count ≤ length room → Reads (taken slot count) a b → IfTold a (λ t. Gives (t.left slot) count room) → Advances slot (length (take n items)) a b
 filled-taken slot n count items room a b exact is le reached gives =
     subst (λ (k : ℕ). Advances slot k a b) (sym (took-length n count items room exact is le))
     (record { reached = reached; were_left = weaker_told a (λ t. Gives (t.left slot) count room) (λ t. count ≤ length (t.left slot)) (λ t g. g.enough) gives })

@@ -12,3 +12,4 @@ pub mod ReadLemmas
 pub mod BothSlots
 pub mod Nexts
 pub mod Fills
+pub mod EndedLines

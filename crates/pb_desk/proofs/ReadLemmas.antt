@@ -1,13 +1,15 @@
 -- Bytes that go from a slot to a line.
-use Rattle.std.proofs.Common.{◌≡◌, ◌≤◌, ◌<◌, ◌+◌, ℕ, Bool, true, false, List, [], ◌∷◌, ◌++◌, arith, length, drop, refl, ap, sym, ◌∙◌, subst, append_assoc}
-use Rattle.std.specs.Prelude.{IfSome, IsTrue, ◌==◌}
-use Rattle.std.proofs.lemmas.Bool.{true≢false}
+use Rattle.std.proofs.Common.{◌≡◌, ◌≤◌, ◌<◌, ◌+◌, ℕ, Bool, true, false, List, [], ◌∷◌, ◌++◌, arith, length, take, drop, refl, ap, sym, ◌∙◌, subst, append_assoc}
+use Rattle.std.specs.Prelude.{IfErr, IfSome, IsTrue, Result, ◌==◌, if◌then◌else◌}
+use Rattle.std.specs.Result.{IsErrAnd}
+use Rattle.std.specs.declared.result.Result.TheVariants.{Ok, Err}
+use Rattle.std.proofs.lemmas.Bool.{eqb-true, true≢false}
 use Rattle.std.specs.declared.option.Option.{Option}
 use Rattle.std.specs.declared.option.Option.TheVariants.{Some, None}
-use Rattle.std.proofs.lemmas.List.{drop-drop, append-nil, length-drop}
+use Rattle.std.proofs.lemmas.List.{drop-drop, append-nil, append_cancel_right, length-drop, take-append-drop}
 use Rattle.pb_desk.specs.View.{Told, View, taken}
-use Rattle.pb_desk.specs.Desk.{DeskState, Advances, IfTold}
-use Rattle.pb_desk.proofs.Steps.{begin, then}
+use Rattle.pb_desk.specs.Desk.{DeskState, Advances, FailsToRead, IfTold, same}
+use Rattle.pb_desk.proofs.Steps.{as_reads, begin, reads_by_then, then_fails_to_read}
 use Rattle.pb_desk.proofs.Readings.{taken-taken, told_after, both_told}
 use Rattle.pb_desk.proofs.Slots.{put_there}
 use Rattle.pb_desk.specs.declared.limits.Left.{Left}
@@ -15,7 +17,7 @@ use Rattle.pb_desk.specs.declared.piece.Stop.{Stop}
 use Rattle.pb_desk.specs.declared.piece.Stop.TheVariants as stop
 use Rattle.pb_desk.specs.declared.line.Found.TheVariants.{Ended}
 use Rattle.pb_desk.proofs.LineLemmas.{begins_break, begins_last}
-use Rattle.pb_desk.specs.LineReading.{limit_in, TakesAhead}
+use Rattle.pb_desk.specs.LineReading.{Held, before_end, beyond, limit_in, may_end, TakesAhead, FailsInLine, FailsAhead, IsPart}
 use Rattle.pb_desk.specs.laws.PieceReading.{InLine, TakesPiece, StopsPiece, Finds, Fits, StopsLine, found_at_end, Refills}
 
 pub taken-none : (slot : ℕ) (view : View) → taken slot 0 view ≡ view
@@ -34,65 +36,91 @@ weaker_told a P Q h p = by_cases a.view.told p
     by_cases None p = tt
     by_cases (Some t) p = h t p
 
--- nothing was read yet
-pub reads_begin : (slot : ℕ) (ahead : List ℕ) (a : DeskState) (P : List ℕ → List ℕ → Type 0) → ((text : List ℕ) → P text text) → TakesAhead slot ahead ahead a a P
-reads_begin slot ahead a P h = record {
+-- nothing is read
+reads_nothing : (slot : ℕ) (ahead : Held) (a : DeskState) (P : List ℕ → List ℕ → Type 0) → ((left : List ℕ) → P (before_end ahead left) (before_end ahead left)) → TakesAhead slot ahead ahead a a P
+reads_nothing slot ahead a P h = record {
   count = 0;
-  takes = record { reached = begin (taken slot 0) a (taken-none slot); were_left = always_told a (λ t. 0 ≤ length (t.left slot)) (λ t. omega arith) };
-  told = always_told a (λ t. P (ahead ++ t.left slot) (ahead ++ drop 0 (t.left slot))) (λ t. h (ahead ++ t.left slot));
+  takes = record { reached = as_reads (taken slot 0) a a (begin (taken slot 0) a (taken-none slot)); were_left = always_told a (λ t. 0 ≤ length (t.left slot)) (λ t. omega arith) };
+  over = λ e. e;
+  ends = omega arith;
+  told = always_told a (λ t. P (before_end ahead (t.left slot)) (before_end ahead (drop 0 (t.left slot)))) (λ t. h (t.left slot));
 }
+
+-- nothing was read yet
+pub reads_begin : (slot : ℕ) (ahead : Held) (a : DeskState) (P : List ℕ → List ℕ → Type 0) → ((text : List ℕ) → P text text) → TakesAhead slot ahead ahead a a P
+reads_begin slot ahead a P h = reads_nothing slot ahead a P (λ left. h (before_end ahead left))
 
 takes_takes : (slot n m : ℕ) (a b c : DeskState) → Advances slot n a b → Advances slot m b c → Advances slot (n + m) a c
 takes_takes slot n m a b c first second = record {
-  reached = then (taken slot n) (taken slot m) (taken slot (n + m)) a b c (taken-taken slot n m) first.reached second.reached;
+  reached = reads_by_then (taken slot n) (taken slot m) (taken slot (n + m)) a b c (taken-taken slot n m) first.reached second.reached;
   were_left = both_told (λ t. n ≤ length (t.left slot)) (λ t. m ≤ length (drop n (t.left slot))) (λ t. n + m ≤ length (t.left slot)) a
       (λ t le more. omega (arith, le, more, length-drop n (t.left slot))) first.were_left (told_after slot n (λ left. m ≤ length left) a b first.reached.view second.were_left);
 }
 
 -- one read after another
-pub reads_then : (slot : ℕ) (x y z : List ℕ) (a b c : DeskState) (P Q R : List ℕ → List ℕ → Type 0) → ((text middle rest : List ℕ) → P text middle → Q middle rest → R text rest) → TakesAhead slot x y a b P → TakesAhead slot y z b c Q → TakesAhead slot x z a c R
+pub reads_then : (slot : ℕ) (x y z : Held) (a b c : DeskState) (P Q R : List ℕ → List ℕ → Type 0) → ((text middle rest : List ℕ) → P text middle → Q middle rest → R text rest) → TakesAhead slot x y a b P → TakesAhead slot y z b c Q → TakesAhead slot x z a c R
 reads_then slot x y z a b c P Q R joins first second =
-    let later : IfTold a (λ t. Q (y ++ drop first.count (t.left slot)) (z ++ drop second.count (drop first.count (t.left slot)))) =
-    told_after slot first.count (λ left. Q (y ++ left) (z ++ drop second.count left)) a b first.takes.reached.view second.told in
+    let later : IfTold a (λ t. Q (before_end y (drop first.count (t.left slot))) (before_end z (drop second.count (drop first.count (t.left slot))))) =
+    told_after slot first.count (λ left. Q (before_end y left) (before_end z (drop second.count left))) a b first.takes.reached.view second.told in
     record {
       count = first.count + second.count;
       takes = takes_takes slot first.count second.count a b c first.takes second.takes;
-      told = both_told (λ t. P (x ++ t.left slot) (y ++ drop first.count (t.left slot))) (λ t. Q (y ++ drop first.count (t.left slot)) (z ++ drop second.count (drop first.count (t.left slot)))) (λ t. R (x ++ t.left slot) (z ++ drop (first.count + second.count) (t.left slot))) a
-          (λ t p q. joins (x ++ t.left slot) (y ++ drop first.count (t.left slot)) (z ++ drop (first.count + second.count) (t.left slot)) p
-          (subst (λ (left : List ℕ). Q (y ++ drop first.count (t.left slot)) (z ++ left)) (drop-drop' first.count second.count (t.left slot)) q)) first.told later;
+      over = λ e. second.over (first.over e);
+      ends = omega (arith, first.ends, second.ends);
+      told = both_told (λ t. P (before_end x (t.left slot)) (before_end y (drop first.count (t.left slot)))) (λ t. Q (before_end y (drop first.count (t.left slot))) (before_end z (drop second.count (drop first.count (t.left slot)))))
+          (λ t. R (before_end x (t.left slot)) (before_end z (drop (first.count + second.count) (t.left slot)))) a
+          (λ t p q. joins (before_end x (t.left slot)) (before_end y (drop first.count (t.left slot))) (before_end z (drop (first.count + second.count) (t.left slot))) p
+          (subst (λ (left : List ℕ). Q (before_end y (drop first.count (t.left slot))) (before_end z left)) (drop-drop second.count first.count (t.left slot)) q)) first.told later;
     }
-  where
-    drop-drop' : (n m : ℕ) (xs : List ℕ) → drop m (drop n xs) ≡ drop (n + m) xs
-    drop-drop' n m xs = drop-drop m n xs
 
 -- bytes that were ahead are used
-pub reads_ahead : (slot : ℕ) (x y z : List ℕ) (a b : DeskState) (P Q : List ℕ → List ℕ → Type 0) → ((text left : List ℕ) → P text (y ++ left) → Q text (z ++ left)) → TakesAhead slot x y a b P → TakesAhead slot x z a b Q
-reads_ahead slot x y z a b P Q h first = record {
+pub reads_ahead : (slot : ℕ) (x y z : Held) (a b : DeskState) (P Q : List ℕ → List ℕ → Type 0) → z.over ≡ y.over → ((text left : List ℕ) → P text (y.bytes ++ left) → Q text (z.bytes ++ left)) → TakesAhead slot x y a b P → TakesAhead slot x z a b Q
+reads_ahead slot x y z a b P Q same_end h first = record {
   count = first.count;
   takes = first.takes;
-  told = weaker_told a (λ t. P (x ++ t.left slot) (y ++ drop first.count (t.left slot))) (λ t. Q (x ++ t.left slot) (z ++ drop first.count (t.left slot))) (λ t p. h (x ++ t.left slot) (drop first.count (t.left slot)) p) first.told;
+  over = λ e. same_end ∙ first.over e;
+  ends = subst (λ (over : Bool). b.ends + (if over then 0 else 1) ≤ a.ends + may_end x) (sym same_end) first.ends;
+  told = weaker_told a (λ t. P (before_end x (t.left slot)) (before_end y (drop first.count (t.left slot)))) (λ t. Q (before_end x (t.left slot)) (before_end z (drop first.count (t.left slot))))
+      (λ t p. subst (λ (over : Bool). Q (before_end x (t.left slot)) (z.bytes ++ beyond over (drop first.count (t.left slot)))) (sym same_end) (h (before_end x (t.left slot)) (beyond y.over (drop first.count (t.left slot))) p)) first.told;
 }
 
-pub still_open : (slot : ℕ) (x y : List ℕ) (a b : DeskState) (P : List ℕ → List ℕ → Type 0) → TakesAhead slot x y a b P → IsTrue (a.view.reading slot) → IsTrue (b.view.reading slot)
+-- the same read, of which less is said
+pub reads_weaker : (slot : ℕ) (x y : Held) (a b : DeskState) (P Q : List ℕ → List ℕ → Type 0) → ((text rest : List ℕ) → P text rest → Q text rest) → TakesAhead slot x y a b P → TakesAhead slot x y a b Q
+reads_weaker slot x y a b P Q h first = reads_ahead slot x y y a b P Q refl (λ text left p. h text (y.bytes ++ left) p) first
+
+pub still_open : (slot : ℕ) (x y : Held) (a b : DeskState) (P : List ℕ → List ℕ → Type 0) → TakesAhead slot x y a b P → IsTrue (a.view.reading slot) → IsTrue (b.view.reading slot)
 still_open slot x y a b P first is_open = ap (λ (v : View). v.reading slot) first.takes.reached.view ∙ is_open
 
+some_bytes : (xs : List ℕ) → (length xs == 0) ≡ false → 0 < length xs
+some_bytes [] e = absurd (true≢false e)
+some_bytes (x ∷ xs) e = omega arith
+
+no_bytes : (xs : List ℕ) → (length xs == 0) ≡ true → xs ≡ []
+no_bytes [] e = refl
+no_bytes (x ∷ xs) e = absurd (omega (arith, eqb-true (length (x ∷ xs)) 0 e))
+
 -- something is ahead already
-pub refilled_before : (slot : ℕ) (ahead bytes : List ℕ) (a : DeskState) → bytes ≡ ahead → (length bytes == 0) ≡ false → Refills slot true ahead ahead a a
+pub refilled_before : (slot : ℕ) (ahead : Held) (bytes : List ℕ) (a : DeskState) → bytes ≡ ahead.bytes → (length bytes == 0) ≡ false → Refills slot true ahead ahead a a
 refilled_before slot ahead bytes a same' some = record {
   reads = reads_begin slot ahead a (λ text rest. (text ≡ rest) × (true ≡ false → rest ≡ [])) (λ text. (refl, λ e. absurd (true≢false e)));
-  some_ahead = λ _. length_some ahead (ap (λ (xs : List ℕ). length xs == 0) (sym same') ∙ some);
+  some_ahead = λ _. some_bytes ahead.bytes (ap (λ (xs : List ℕ). length xs == 0) (sym same') ∙ some);
 }
-  where
-    length_some : (xs : List ℕ) → (length xs == 0) ≡ false → 0 < length xs
-    length_some [] e = absurd (true≢false e)
-    length_some (x ∷ xs) e = omega arith
+
+-- the end was met before
+pub refilled_over : (slot : ℕ) (ahead : Held) (bytes : List ℕ) (a : DeskState) → bytes ≡ ahead.bytes → (length bytes == 0) ≡ true → ahead.over ≡ true → Refills slot false ahead ahead a a
+refilled_over slot ahead bytes a same' none is_over =
+    let empty : (left : List ℕ) → before_end ahead left ≡ [] = λ left. ap (λ (over : Bool). ahead.bytes ++ beyond over left) is_over ∙ (append-nil ahead.bytes ∙ (sym same' ∙ no_bytes bytes none)) in
+    record {
+      reads = reads_nothing slot ahead a (λ text rest. (text ≡ rest) × (false ≡ false → rest ≡ [])) (λ left. (refl, λ e. empty left));
+      some_ahead = λ e. absurd (true≢false (sym e));
+    }
 
 -- ---- a line
 
 abbrev pub Behind : List ℕ → List ℕ → List ℕ → Type 0
 Behind line text rest = text ≡ line ++ rest
 
-pub refilled_line : (slot : ℕ) (some : Bool) (line x y z : List ℕ) (a b c : DeskState) → TakesAhead slot x y a b (Behind line) → Refills slot some y z b c → TakesAhead slot x z a c (Behind line)
+pub refilled_line : (slot : ℕ) (some : Bool) (line : List ℕ) (x y z : Held) (a b c : DeskState) → TakesAhead slot x y a b (Behind line) → Refills slot some y z b c → TakesAhead slot x z a c (Behind line)
 refilled_line slot some line x y z a b c first more =
     reads_then slot x y z a b c (Behind line) (λ text rest. (text ≡ rest) × (some ≡ false → rest ≡ [])) (Behind line) (λ text middle rest p q. p ∙ ap (λ (xs : List ℕ). line ++ xs) q.0) first more.reads
 
@@ -103,7 +131,7 @@ end_finds left (b ∷ bytes) text middle rest h p q r =
     (whole, r, begins_last b bytes text rest h.unbroken whole r, ap (limit_in left) (p ∙ ap (λ (xs : List ℕ). b ∷ bytes ++ xs) (q ∙ r)) ∙ h.limit [])
 
 -- the text ends
-pub end_found : (left : Left) (slot : ℕ) (some : Bool) (line x y z : List ℕ) (a b c : DeskState) → some ≡ false → InLine left line → TakesAhead slot x y a b (Behind line) → Refills slot some y z b c → TakesAhead slot x z a c (Finds left (found_at_end line) line)
+pub end_found : (left : Left) (slot : ℕ) (some : Bool) (line : List ℕ) (x y z : Held) (a b c : DeskState) → some ≡ false → InLine left line → TakesAhead slot x y a b (Behind line) → Refills slot some y z b c → TakesAhead slot x z a c (Finds left (found_at_end line) line)
 end_found left slot some line x y z a b c none h first more =
     reads_then slot x y z a b c (Behind line) (λ text rest. (text ≡ rest) × (some ≡ false → rest ≡ [])) (Finds left (found_at_end line) line) (λ text middle rest p q. end_finds left line text middle rest h p q.0 (q.1 none)) first more.reads
 
@@ -112,26 +140,89 @@ end_fits left [] h = refl
 end_fits left (b ∷ bytes) h = (h.in_text, h.is_line (omega arith))
 
 -- the line ends
-pub line_found : (left : Left) (slot : ℕ) (line grown x z w : List ℕ) (a c : DeskState) → TakesPiece left true z w line grown → TakesAhead slot x z a c (Behind line) → TakesAhead slot x w a c (Finds left Ended grown)
-line_found left slot line grown x z w a c takes first =
-    reads_ahead slot x z w a c (Behind line) (Finds left Ended grown)
+pub line_found : (left : Left) (slot : ℕ) (line grown : List ℕ) (x z w : Held) (a c : DeskState) → w.over ≡ z.over → TakesPiece left true z.bytes w.bytes line grown → TakesAhead slot x z a c (Behind line) → TakesAhead slot x w a c (Finds left Ended grown)
+line_found left slot line grown x z w a c same_end takes first =
+    reads_ahead slot x z w a c (Behind line) (Finds left Ended grown) same_end
     (λ text more p.
-    let whole : text ≡ grown ++ 10 ∷ (w ++ more) = p ∙ (sym (append_assoc line z more) ∙ (ap (λ (xs : List ℕ). xs ++ more) takes.1 ∙ append_assoc grown (10 ∷ w) more)) in
-    (whole, begins_break grown text (w ++ more) takes.0.unbroken whole, ap (limit_in left) whole ∙ takes.0.limit (w ++ more)))
+    let whole : text ≡ grown ++ 10 ∷ (w.bytes ++ more) = p ∙ (sym (append_assoc line z.bytes more) ∙ (ap (λ (xs : List ℕ). xs ++ more) takes.1 ∙ append_assoc grown (10 ∷ w.bytes) more)) in
+    (whole, begins_break grown text (w.bytes ++ more) takes.0.unbroken whole, ap (limit_in left) whole ∙ takes.0.limit (w.bytes ++ more)))
     first
 
 -- the line goes on
-pub line_grows : (left : Left) (slot : ℕ) (line grown x z w : List ℕ) (a c : DeskState) → TakesPiece left false z w line grown → TakesAhead slot x z a c (Behind line) → TakesAhead slot x w a c (Behind grown)
-line_grows left slot line grown x z w a c takes first =
-    reads_ahead slot x z w a c (Behind line) (Behind grown)
+pub line_grows : (left : Left) (slot : ℕ) (line grown : List ℕ) (x z w : Held) (a c : DeskState) → w.over ≡ z.over → TakesPiece left false z.bytes w.bytes line grown → TakesAhead slot x z a c (Behind line) → TakesAhead slot x w a c (Behind grown)
+line_grows left slot line grown x z w a c same_end takes first =
+    reads_ahead slot x z w a c (Behind line) (Behind grown) same_end
     (λ text more p.
-    p ∙ (sym (append_assoc line z more) ∙ (ap (λ (xs : List ℕ). xs ++ more) (sym takes.1) ∙ ap (λ (xs : List ℕ). grown ++ (xs ++ more)) (sym takes.2))))
+    p ∙ (sym (append_assoc line z.bytes more) ∙ (ap (λ (xs : List ℕ). xs ++ more) (sym takes.1) ∙ ap (λ (xs : List ℕ). grown ++ (xs ++ more)) (sym takes.2))))
     first
 
-pub line_stops : (left : Left) (slot : ℕ) (s : Stop) (line x z w : List ℕ) (a c : DeskState) → StopsPiece left z line s → TakesAhead slot x z a c (Behind line) → StopsLine left slot x w a c s
-line_stops left slot stop.Failed line x z w a c stops first = absurd stops
-line_stops left slot (stop.Limit which) line x z w a c stops first =
-    reads_ahead slot x z w a c (Behind line) (λ text rest. limit_in left text ≡ Some which)
-    (λ text more p. ap (limit_in left) (p ∙ sym (append_assoc line z more)) ∙ stops more) first
-line_stops left slot stop.NoMemory line x z w a c stops first =
-    reads_ahead slot x z w a c (Behind line) (λ text rest. Unit {0}) (λ text more p. tt) first
+pub line_stops : (left : Left) (slot : ℕ) (s : Stop) (line : List ℕ) (x z w : Held) (a c : DeskState) → w.over ≡ z.over → StopsPiece left z.bytes line s → TakesAhead slot x z a c (Behind line) → StopsLine left slot x w a c s
+line_stops left slot stop.Failed line x z w a c same_end stops first = absurd stops
+line_stops left slot (stop.Limit which) line x z w a c same_end stops first =
+    reads_ahead slot x z w a c (Behind line) (λ text rest. limit_in left text ≡ Some which) same_end
+    (λ text more p. ap (limit_in left) (p ∙ sym (append_assoc line z.bytes more)) ∙ stops more) first
+line_stops left slot stop.NoMemory line x z w a c same_end stops first =
+    reads_ahead slot x z w a c (Behind line) (λ text rest. Unit {0}) same_end (λ text more p. tt) first
+
+-- ---- a read that fails
+
+-- the first read fails
+pub fails_at_once : (slot : ℕ) (ahead : Held) (a b : DeskState) (P : List ℕ → Type 0) → P ahead.bytes → ahead.over ≡ false → b.ends ≡ a.ends → FailsToRead same a b → FailsAhead slot ahead a b P
+fails_at_once slot ahead a b P h not_over stays fails = record {
+  count = 0;
+  fails = record { view = fails.view ∙ sym (taken-none slot a.view); tells = fails.tells; reads = fails.reads; writes = fails.writes };
+  not_over = not_over;
+  ends = omega (arith, stays);
+  told = always_told a (λ t. (0 ≤ length (t.left slot)) × P (ahead.bytes ++ take 0 (t.left slot))) (λ t. (omega arith, subst P (sym (append-nil ahead.bytes)) h));
+}
+
+-- a read fails later
+pub fails_then : (slot : ℕ) (x y : Held) (a b c : DeskState) (P : List ℕ → List ℕ → Type 0) (Q R : List ℕ → Type 0) → ((bytes part behind : List ℕ) → P (bytes ++ behind) (part ++ behind) → Q part → R bytes)
+    → TakesAhead slot x y a b P → FailsAhead slot y b c Q → FailsAhead slot x a c R
+fails_then slot x y a b c P Q R joins first second =
+    let later : IfTold a (λ t. (second.count ≤ length (drop first.count (t.left slot))) × Q (y.bytes ++ take second.count (drop first.count (t.left slot)))) =
+    told_after slot first.count (λ left. (second.count ≤ length left) × Q (y.bytes ++ take second.count left)) a b first.takes.reached.view second.told in
+    let both : IfTold a (λ t. (first.count ≤ length (t.left slot)) × P (before_end x (t.left slot)) (before_end y (drop first.count (t.left slot)))) =
+    both_told (λ t. first.count ≤ length (t.left slot)) (λ t. P (before_end x (t.left slot)) (before_end y (drop first.count (t.left slot)))) (λ t. (first.count ≤ length (t.left slot)) × P (before_end x (t.left slot)) (before_end y (drop first.count (t.left slot)))) a
+    (λ t le p. (le, p)) first.takes.were_left first.told in
+    record {
+      count = first.count + second.count;
+      fails = then_fails_to_read (taken slot first.count) (taken slot second.count) (taken slot (first.count + second.count)) a b c (taken-taken slot first.count second.count) first.takes.reached second.fails;
+      not_over = open_before x.over refl;
+      ends = omega (arith, first.ends, second.ends);
+      told = both_told (λ t. (first.count ≤ length (t.left slot)) × P (before_end x (t.left slot)) (before_end y (drop first.count (t.left slot))))
+          (λ t. (second.count ≤ length (drop first.count (t.left slot))) × Q (y.bytes ++ take second.count (drop first.count (t.left slot))))
+          (λ t. (first.count + second.count ≤ length (t.left slot)) × R (x.bytes ++ take (first.count + second.count) (t.left slot))) a
+          (λ t p q. (omega (arith, p.0, q.0, length-drop first.count (t.left slot)), join first.count second.count (t.left slot) (opened first.count (t.left slot) p.1) q.1)) both later;
+    }
+  where
+    open_before : (over : Bool) → x.over ≡ over → x.over ≡ false
+    open_before true e = absurd (true≢false (sym (first.over e) ∙ second.not_over))
+    open_before false e = e
+
+    opened : (n : ℕ) (left : List ℕ) → P (before_end x left) (before_end y (drop n left)) → P (x.bytes ++ left) (y.bytes ++ drop n left)
+    opened n left p = subst (λ (o : Bool). P (x.bytes ++ left) (y.bytes ++ beyond o (drop n left))) second.not_over (subst (λ (o : Bool). P (x.bytes ++ beyond o left) (before_end y (drop n left))) (open_before x.over refl) p)
+
+    join : (n m : ℕ) (left : List ℕ) → P (x.bytes ++ left) (y.bytes ++ drop n left) → Q (y.bytes ++ take m (drop n left)) → R (x.bytes ++ take (n + m) left)
+    join n m left p q =
+        let text : x.bytes ++ left ≡ (x.bytes ++ take (n + m) left) ++ drop (n + m) left = sym (append_assoc x.bytes (take (n + m) left) (drop (n + m) left) ∙ ap (λ (xs : List ℕ). x.bytes ++ xs) (take-append-drop (n + m) left)) in
+        let rest : y.bytes ++ drop n left ≡ (y.bytes ++ take m (drop n left)) ++ drop (n + m) left = sym (append_assoc y.bytes (take m (drop n left)) (drop (n + m) left) ∙ ap (λ (xs : List ℕ). y.bytes ++ xs) (ap (λ (xs : List ℕ). take m (drop n left) ++ xs) (sym (drop-drop m n left)) ∙ take-append-drop m (drop n left))) in
+        joins (x.bytes ++ take (n + m) left) (y.bytes ++ take m (drop n left)) (drop (n + m) left) (subst (λ (xs : List ℕ). P ((x.bytes ++ take (n + m) left) ++ drop (n + m) left) xs) rest (subst (λ (xs : List ℕ). P xs (y.bytes ++ drop n left)) text p)) q
+
+-- what was taken before it is not asked
+pub fails_in_line : (slot : ℕ) (ahead : Held) (a b : DeskState) (P : List ℕ → Type 0) → FailsAhead slot ahead a b P → FailsInLine slot (may_end ahead) a b
+fails_in_line slot ahead a b P h = record { count = h.count; fails = h.fails; ends = h.ends }
+
+-- a line's end is not there yet
+pub line_fails : (left : Left) (slot : ℕ) (line : List ℕ) (x y : Held) (a b c : DeskState) → InLine left line → y.bytes ≡ [] → y.over ≡ false → c.ends ≡ b.ends → TakesAhead slot x y a b (Behind line) → FailsToRead same b c → FailsAhead slot x a c (IsPart left)
+line_fails left slot line x y a b c h none not_over stays first fails =
+    fails_then slot x y a b c (Behind line) (λ part. part ≡ []) (IsPart left)
+    (λ bytes part behind p q.
+    let whole : bytes ≡ line = append_cancel_right bytes line behind (p ∙ ap (λ (xs : List ℕ). line ++ (xs ++ behind)) q) in
+    subst (IsPart left) (sym whole) (h.unbroken, ap (limit_in left) (sym (append-nil line)) ∙ h.limit [])) first
+    (fails_at_once slot y b c (λ part. part ≡ []) none not_over stays fails)
+
+-- what is so of a failed read is so of that answer
+pub of_failed : {A : Type 0} (r : Result A Stop) (P : Stop → Type 0) → IsErrAnd r (λ why. why ≡ stop.Failed) → P stop.Failed → IfErr r P
+of_failed (Ok x) P is h = tt
+of_failed (Err why) P is h = subst P (sym is) h

@@ -6,14 +6,27 @@ use Rattle.std.specs.Prelude.{Result, OnErr}
 use Rattle.std.specs.declared.result.Result.TheVariants.{Ok, Err}
 use Rattle.pb_desk.specs.Causes.{Rose}
 use Rattle.pb_desk.specs.View.{View}
-use Rattle.pb_desk.specs.Desk.{DeskState, Reaches, FailsToWrite, FailsToRead}
+use Rattle.pb_desk.specs.Desk.{DeskState, Reads, Reaches, FailsToWrite, FailsToRead}
 
 pub begin : (f : View → View) (a : DeskState) → ((v : View) → f v ≡ v) → Reaches f a a
-begin f a stays = record { view = sym (stays a.view); tells = refl; reads = refl; writes = refl }
+begin f a stays = record { view = sym (stays a.view); tells = refl; reads = refl; writes = refl; ends = refl }
 
 -- a call that goes on from what was reached
 pub then : (f g h : View → View) (a b c : DeskState) → ((v : View) → g (f v) ≡ h v) → Reaches f a b → Reaches g b c → Reaches h a c
 then f g h a b c joins first second = record {
+  view = second.view ∙ ap g first.view ∙ joins a.view;
+  tells = second.tells ∙ first.tells;
+  reads = second.reads ∙ first.reads;
+  writes = second.writes ∙ first.writes;
+  ends = second.ends ∙ first.ends;
+}
+
+-- where all counts stay, those of faults do
+pub as_reads : (f : View → View) (a b : DeskState) → Reaches f a b → Reads f a b
+as_reads f a b h = record { view = h.view; tells = h.tells; reads = h.reads; writes = h.writes }
+
+pub reads_by_then : (f g h : View → View) (a b c : DeskState) → ((v : View) → g (f v) ≡ h v) → Reads f a b → Reads g b c → Reads h a c
+reads_by_then f g h a b c joins first second = record {
   view = second.view ∙ ap g first.view ∙ joins a.view;
   tells = second.tells ∙ first.tells;
   reads = second.reads ∙ first.reads;
@@ -35,9 +48,10 @@ then_fails_to_write f g h a b c joins first second = record {
   tells = second.tells ∙ first.tells;
   reads = second.reads ∙ first.reads;
   writes = rose_later _ _ _ first.writes second.writes;
+  ends = second.ends ∙ first.ends;
 }
 
-pub then_fails_to_read : (f g h : View → View) (a b c : DeskState) → ((v : View) → g (f v) ≡ h v) → Reaches f a b → FailsToRead g b c → FailsToRead h a c
+pub then_fails_to_read : (f g h : View → View) (a b c : DeskState) → ((v : View) → g (f v) ≡ h v) → Reads f a b → FailsToRead g b c → FailsToRead h a c
 then_fails_to_read f g h a b c joins first second = record {
   view = second.view ∙ ap g first.view ∙ joins a.view;
   tells = second.tells ∙ first.tells;

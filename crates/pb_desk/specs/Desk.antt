@@ -5,18 +5,27 @@ use Rattle.std.specs.declared.option.Option.TheVariants.{Some}
 use Rattle.pb_desk.specs.Causes.{Rose}
 use Rattle.pb_desk.specs.View.{Made, Told, View, bytes_in, taken}
 
--- a desk, as contracts see it: what it shows, and how many reads and writes have failed
+-- a desk, as contracts see it: what it shows, how many reads and writes have failed, and how many reads gave no byte
 pub record DeskState : Type 0 where
   pub view : View
   pub read_faults : ℕ
   pub write_faults : ℕ
+  pub ends : ℕ
 
--- Nothing failed: the view changed so, and the counts stay.
+-- Nothing failed: the view changed so, and the counts of faults stay.
+pub record Reads (change : View → View) (old new : DeskState) : Type 0 where
+  pub view : new.view ≡ change old.view
+  pub tells : is_some new.view.told ≡ is_some old.view.told
+  pub reads : new.read_faults ≡ old.read_faults
+  pub writes : new.write_faults ≡ old.write_faults
+
+-- The same, and no read gave no byte: all counts stay.
 pub record Reaches (change : View → View) (old new : DeskState) : Type 0 where
   pub view : new.view ≡ change old.view
   pub tells : is_some new.view.told ≡ is_some old.view.told
   pub reads : new.read_faults ≡ old.read_faults
   pub writes : new.write_faults ≡ old.write_faults
+  pub ends : new.ends ≡ old.ends
 
 -- A read failed after the view changed so. The count of reads rose by one, and that of writes stays.
 pub record FailsToRead (change : View → View) (old new : DeskState) : Type 0 where
@@ -25,12 +34,13 @@ pub record FailsToRead (change : View → View) (old new : DeskState) : Type 0 w
   pub reads : Rose old.read_faults new.read_faults
   pub writes : new.write_faults ≡ old.write_faults
 
--- A write failed after the view changed so. The count of writes rose by one, and that of reads stays.
+-- A write failed after the view changed so. The count of writes rose by one, and those of reads stay.
 pub record FailsToWrite (change : View → View) (old new : DeskState) : Type 0 where
   pub view : new.view ≡ change old.view
   pub tells : is_some new.view.told ≡ is_some old.view.told
   pub reads : new.read_faults ≡ old.read_faults
   pub writes : Rose old.write_faults new.write_faults
+  pub ends : new.ends ≡ old.ends
 
 -- the view stays
 abbrev pub same : View → View
@@ -50,7 +60,7 @@ IsTold desk P = IsSomeAnd desk.view.told P
 
 -- so many bytes of a slot were taken, of those that were left
 pub record Advances (slot count : ℕ) (old new : DeskState) : Type 0 where
-  pub reached : Reaches (taken slot count) old new
+  pub reached : Reads (taken slot count) old new
   pub were_left : IfTold old (λ t. count ≤ length (t.left slot))
 
 -- count bytes that were left are now in the room: none only at the end or for want of room

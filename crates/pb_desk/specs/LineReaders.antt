@@ -8,14 +8,13 @@ use Rattle.pb_desk.specs.declared.piece.Stop.TheVariants as stop
 use Rattle.pb_desk.specs.declared.lines.LineFault.{LineFault}
 use Rattle.pb_desk.specs.declared.lines.LineFault.TheVariants.{Failed, Limit, NoMemory}
 use Rattle.pb_desk.specs.Lines.{BeginsWith}
-use Rattle.pb_desk.specs.LineReading.{TakesAhead, FailsInLine, limit_in}
+use Rattle.pb_desk.specs.LineReading.{Held, TakesAhead, FailsAhead, IsPart, limit_in}
 
--- A reader, as contracts see it: its slot and limits; the bytes taken from the slot that stand in no line yet, and how many bytes
--- stand before them; how many lines were read, and the last of them; and the fault that ended it.
+-- A reader, as contracts see it: its slot and limits; what it holds of the slot, and how many bytes stand before that; how many lines were read, and the last of them; and the fault that ended it.
 pub record Reader : Type 0 where
   pub slot : ℕ
   pub limits : LineLimits
-  pub ahead : List ℕ
+  pub ahead : Held
   pub at : ℕ
   pub number : ℕ
   pub line : List ℕ
@@ -50,9 +49,9 @@ GivesLine true old new before after = Follows old new × (new.number ≡ old.num
 GivesLine false old new before after =
     Follows old new × (new.number ≡ old.number) × (new.at ≡ old.at) × (new.line ≡ []) × TakesAhead old.slot old.ahead new.ahead before after (λ text rest. (text ≡ []) × (rest ≡ []))
 
--- why a line was not read: a read failed, or the line is the first that passes a limit
+-- why a line was not read: a read failed before the line's end was there, or the line is the first that passes a limit
 abbrev pub StopsReader : LineFault → Reader → Reader → DeskState → DeskState → Type 0
-StopsReader Failed old new before after = FailsInLine old.slot before after
+StopsReader Failed old new before after = FailsAhead old.slot old.ahead before after (IsPart (left_for old))
 StopsReader (Limit which line) old new before after = (line ≡ old.number + 1) × TakesAhead old.slot old.ahead new.ahead before after (λ text rest. limit_in (left_for old) text ≡ Some which)
 StopsReader NoMemory old new before after = TakesAhead old.slot old.ahead new.ahead before after (λ text rest. Unit {0})
 

@@ -1,22 +1,59 @@
 -- What is taken where a line is read.
-use Rattle.std.specs.Prelude.{◌++◌, ℕ, List, drop, Option}
+use Rattle.std.specs.Prelude.{◌≡◌, ◌≤◌, ◌+◌, ◌++◌, ℕ, Bool, true, false, if◌then◌else◌, List, [], length, take, drop, Option, None}
 use Rattle.pb_base.specs.declared.limit.LimitKind.{LimitKind}
 use Rattle.pb_desk.specs.declared.limits.Left.{Left}
 use Rattle.pb_desk.specs.View.{taken}
 use Rattle.pb_desk.specs.Desk.{DeskState, Advances, FailsToRead, IfTold}
 use Rattle.pb_desk.specs.Limits.{limit_of}
+use Rattle.pb_desk.specs.Lines.{IsUnbroken}
 
 -- the first limit that a line passes, from its start on
 abbrev pub limit_in : Left → List ℕ → Option LimitKind
 limit_in left bytes = limit_of left.text left.is_last left.line bytes
 
--- So many bytes of the slot were taken. What stood before the end of the text, ahead or in the slot, and what stands there now
-pub record TakesAhead (slot : ℕ) (ahead ahead' : List ℕ) (before after : DeskState) (P : List ℕ → List ℕ → Type 0) : Type 0 where
+-- What a reader holds of its slot: the bytes that were taken and stand in no line yet, and whether the slot's end was met.
+pub record Held : Type 0 where
+  pub bytes : List ℕ
+  pub over : Bool
+
+-- nothing was read yet
+abbrev pub nothing_held : Held
+nothing_held = record { bytes = []; over = false }
+
+-- what the slot has yet for its reader: nothing, once its end was met
+abbrev pub beyond : Bool → List ℕ → List ℕ
+beyond over left = if over then [] else left
+
+-- what stands before the end of the text, ahead or in the slot
+abbrev pub before_end : Held → List ℕ → List ℕ
+before_end held left = held.bytes ++ beyond held.over left
+
+-- how many reads may give no byte yet
+abbrev pub may_end : Held → ℕ
+may_end held = if held.over then 0 else 1
+
+-- So many bytes of the slot were taken, and its end was met once at most. What stood before the end of the text, and what stands there now
+pub record TakesAhead (slot : ℕ) (ahead ahead' : Held) (before after : DeskState) (P : List ℕ → List ℕ → Type 0) : Type 0 where
   pub count : ℕ
   pub takes : Advances slot count before after
-  pub told : IfTold before (λ t. P (ahead ++ t.left slot) (ahead' ++ drop count (t.left slot)))
+  pub over : ahead.over ≡ true → ahead'.over ≡ true
+  pub ends : after.ends + may_end ahead' ≤ before.ends + may_end ahead
+  pub told : IfTold before (λ t. P (before_end ahead (t.left slot)) (before_end ahead' (drop count (t.left slot))))
 
--- a read failed, after so many bytes of the slot
-pub record FailsInLine (slot : ℕ) (before after : DeskState) : Type 0 where
+-- a read failed, after so many bytes of the slot, and after so many reads at most that gave none
+pub record FailsInLine (slot most : ℕ) (before after : DeskState) : Type 0 where
   pub count : ℕ
   pub fails : FailsToRead (taken slot count) before after
+  pub ends : after.ends ≤ before.ends + most
+
+-- The same of a slot whose end was not met, and of the bytes that stood ahead or were taken before it this is so.
+pub record FailsAhead (slot : ℕ) (ahead : Held) (before after : DeskState) (P : List ℕ → Type 0) : Type 0 where
+  pub count : ℕ
+  pub fails : FailsToRead (taken slot count) before after
+  pub not_over : ahead.over ≡ false
+  pub ends : after.ends ≤ before.ends + may_end ahead
+  pub told : IfTold before (λ t. (count ≤ length (t.left slot)) × P (ahead.bytes ++ take count (t.left slot)))
+
+-- the bytes are a part of a line: they hold no LF, and pass no limit
+abbrev pub IsPart : Left → List ℕ → Type 0
+IsPart left bytes = IsUnbroken bytes × (limit_in left bytes ≡ None)

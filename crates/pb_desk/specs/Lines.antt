@@ -27,3 +27,13 @@ pub record BeginsWith (line text rest : List ℕ) : Type 0 where
   pub first : line ≡ first_line text
   pub behind : rest ≡ behind_first text
   pub lines : lines_of text ≡ line ∷ lines_of rest
+
+-- with a byte more at the start of the first, if there is one
+abbrev pub onto_first : ℕ → List (List ℕ) → List (List ℕ)
+onto_first b [] = []
+onto_first b (line ∷ lines) = (b ∷ line) ∷ lines
+
+-- the lines that LF ends
+abbrev pub ended_lines : List ℕ → List (List ℕ)
+ended_lines [] = []
+ended_lines (b ∷ bytes) = if b == 10 then [] ∷ ended_lines bytes else onto_first b (ended_lines bytes)

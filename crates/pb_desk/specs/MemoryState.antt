@@ -44,6 +44,7 @@ state_of desk = record {
   };
   read_faults = desk.read_faults;
   write_faults = desk.write_faults;
+  ends = desk.ends;
 }
 
 -- what it goes by

@@ -1,25 +1,32 @@
 -- How two texts of one desk are read side by side (our own).
-use Rattle.std.specs.Prelude.{◌≡◌, ◌≢◌, ℕ, List, ◌++◌, drop}
+use Rattle.std.specs.Prelude.{◌≡◌, ◌≢◌, ◌≤◌, ◌+◌, ℕ, List, drop}
 use Rattle.pb_desk.specs.View.{View, taken}
-use Rattle.pb_desk.specs.Desk.{DeskState, Reaches, FailsToRead, IfTold}
+use Rattle.pb_desk.specs.Desk.{DeskState, Reads, FailsToRead, IfTold}
+use Rattle.pb_desk.specs.LineReading.{before_end, may_end}
 use Rattle.pb_desk.specs.LineReaders.{Reader}
 
 -- so many bytes of each of two slots were taken
 abbrev pub both_taken : ℕ → ℕ → ℕ → ℕ → View → View
 both_taken one two n m view = taken two m (taken one n view)
 
--- Bytes of the two slots were taken, and nothing else moved. Where the desk tells what they had left, those texts are so.
+-- Bytes of the two slots were taken, each slot's end was met once at most, and nothing else moved. Where the desk tells what they had left, those texts are so.
 pub record TakesBoth (one two : ℕ) (P : List ℕ → List ℕ → Type 0) (old new : DeskState) : Type 0 where
   pub of_one : ℕ
   pub of_two : ℕ
-  pub reached : Reaches (both_taken one two of_one of_two) old new
+  pub reached : Reads (both_taken one two of_one of_two) old new
+  pub ends : new.ends ≤ old.ends + 2
   pub texts : IfTold old (λ t. P (t.left one) (t.left two))
 
--- a read failed after so many bytes of the two slots
-pub record FailsBoth (one two : ℕ) (old new : DeskState) : Type 0 where
+-- a read failed after so many bytes of the two slots, and after so many reads at most that gave none
+pub record FailsBoth (one two most : ℕ) (old new : DeskState) : Type 0 where
   pub of_one : ℕ
   pub of_two : ℕ
   pub fails : FailsToRead (both_taken one two of_one of_two) old new
+  pub ends : new.ends ≤ old.ends + most
+
+-- how many reads may give no byte yet
+abbrev pub both_may_end : Reader → Reader → ℕ
+both_may_end one two = may_end one.ahead + may_end two.ahead
 
 -- Two readers of two slots went on. What stood before the ends of both texts, ahead or in the slots, and what stands there now.
 pub record ReadsBoth (one two one' two' : Reader) (before after : DeskState) (P : List ℕ → List ℕ → List ℕ → List ℕ → Type 0) : Type 0 where
@@ -28,5 +35,6 @@ pub record ReadsBoth (one two one' two' : Reader) (before after : DeskState) (P 
   pub two_slot : two'.slot ≡ two.slot
   pub of_one : ℕ
   pub of_two : ℕ
-  pub reached : Reaches (both_taken one.slot two.slot of_one of_two) before after
-  pub told : IfTold before (λ t. P (one.ahead ++ t.left one.slot) (two.ahead ++ t.left two.slot) (one'.ahead ++ drop of_one (t.left one.slot)) (two'.ahead ++ drop of_two (t.left two.slot)))
+  pub reached : Reads (both_taken one.slot two.slot of_one of_two) before after
+  pub ends : after.ends + both_may_end one' two' ≤ before.ends + both_may_end one two
+  pub told : IfTold before (λ t. P (before_end one.ahead (t.left one.slot)) (before_end two.ahead (t.left two.slot)) (before_end one'.ahead (drop of_one (t.left one.slot))) (before_end two'.ahead (drop of_two (t.left two.slot))))

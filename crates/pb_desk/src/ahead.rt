@@ -1,6 +1,7 @@
 // Bytes that were taken from a slot before they are needed.
-ghost use Rattle.std.specs.Prelude.{◌≡◌, ◌≤◌, ◌<◌, ◌++◌, [], ℕ, List, length, drop, IfOk, OnOk, OnErr, IsTrue};
+ghost use Rattle.std.specs.Prelude.{◌≡◌, ◌≤◌, ◌<◌, ◌+◌, ◌++◌, ◌==◌, [], ℕ, List, false, if◌then◌else◌, length, drop, IfOk, OnOk, OnErr, IsTrue};
 ghost use Rattle.pb_desk.specs.Desk.{Advances, FailsToRead, IfTold, IsSteady, same};
+ghost use Rattle.pb_desk.specs.LineReading.{nothing_held};
 
 use crate::Desk;
 use crate::whole::make_room;
@@ -8,20 +9,22 @@ use pb_base::Failed;
 use std::alloc::{AllocError, Global};
 use std::marker::Model;
 
-/// Bytes that were taken from a slot, in room of 64 KiB.
+/// Bytes that were taken from a slot, in room of 64 KiB, and whether its end was met.
 #[derive(Drop)]
 pub struct Ahead {
     room: Vec<u8>,
     start: usize,
     end: usize,
+    is_over: bool,
 }
 
 impl Model for Ahead {
-    ghost use Rattle.std.specs.Prelude.{ℕ, List, take, drop, ◌-◌, ◌≤◌, ◌<◌, length};
+    ghost use Rattle.std.specs.Prelude.{take, drop, ◌-◌, ◌≤◌, ◌<◌, length};
+    ghost use Rattle.pb_desk.specs.LineReading.{Held};
 
-    ghost Value = { List ℕ };
+    ghost Value = { Held };
 
-    ghost view = { λ a. take (a.end - a.start) (drop a.start a.room.items) };
+    ghost view = { λ a. record { bytes = take (a.end - a.start) (drop a.start a.room.items); over = a.is_over } };
 
     ghost invariant = { λ a. (a.start ≤ a.end) × (a.end ≤ length a.room.items) × (0 < length a.room.items) };
 }
@@ -29,44 +32,57 @@ impl Model for Ahead {
 impl Ahead {
     /// Nothing was taken yet.
     pub fn new(alloc: Global) -> Result<Self, AllocError>
-        ensures { IfOk result (λ ahead. ahead ≡ []) }
+        ensures { IfOk result (λ ahead. ahead ≡ nothing_held) }
     {
         Ok(Ahead {
             room: make_room(alloc)?,
             start: 0,
             end: 0,
+            is_over: false,
         })
     }
 
     /// What was taken and not let go.
     pub fn bytes(&self) -> &[u8]
-        ensures { result.now ≡ self.now }
+        ensures { result.now ≡ self.now.bytes }
     {
         &self.room[self.start..self.end]
     }
 
+    /// Whether the end of the slot's text was met.
+    pub fn is_over(&self) -> bool
+        ensures { result ≡ self.now.over }
+    {
+        self.is_over
+    }
+
     /// Lets go of the first bytes.
     pub fn skip(&mut self, count: usize)
-        requires { count ≤ length self.old }
-        ensures { self.new ≡ drop count self.old }
+        requires { count ≤ length self.old.bytes }
+        ensures { self.new ≡ record { bytes = drop count self.old.bytes; over = self.old.over } }
     {
         self.start += count;
     }
 
-    /// Takes the next bytes. None are the end.
+    /// Takes the next bytes. None are the end, and then there is nothing more to ask for.
     pub fn fill<D: Desk>(&mut self, desk: &mut D, slot: u8) -> Result<(), Failed>
-        requires empty { self.old ≡ [] }
+        requires empty { self.old.bytes ≡ [] }
+        requires not_over { self.old.over ≡ false }
         requires kind { slot < 4 }
         requires open { IsTrue ((D.state desk.old).view.reading slot) }
-        ensures taken { OnOk result (Advances slot (length self.new) (D.state desk.old) (D.state desk.new)) }
-        ensures bytes { OnOk result (IfTold (D.state desk.old) (λ t. t.left slot ≡ self.new ++ drop (length self.new) (t.left slot))) }
-        ensures end { OnOk result (self.new ≡ [] → IfTold (D.state desk.old) (λ t. t.left slot ≡ [])) }
+        ensures taken { OnOk result (Advances slot (length self.new.bytes) (D.state desk.old) (D.state desk.new)) }
+        ensures bytes { OnOk result (IfTold (D.state desk.old) (λ t. t.left slot ≡ self.new.bytes ++ drop (length self.new.bytes) (t.left slot))) }
+        ensures end { OnOk result (self.new.bytes ≡ [] → IfTold (D.state desk.old) (λ t. t.left slot ≡ [])) }
+        ensures over { OnOk result (self.new.over ≡ (length self.new.bytes == 0)) }
+        ensures ends { OnOk result ((D.state desk.new).ends ≤ (D.state desk.old).ends + (if self.new.over then 1 else 0)) }
         ensures failed { OnErr result (FailsToRead same (D.state desk.old) (D.state desk.new)) }
+        ensures no_end { OnErr result ((D.state desk.new).ends ≡ (D.state desk.old).ends) }
         ensures steady { IsSteady (D.state desk.old) → OnErr result ⊥ }
     {
         let count = desk.read(slot, self.room.as_mut_slice())?;
         self.start = 0;
         self.end = count;
+        self.is_over = count == 0;
         Ok(())
     }
 }

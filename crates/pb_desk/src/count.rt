@@ -1,5 +1,5 @@
 // How often something has failed.
-ghost use Rattle.std.specs.Prelude.{◌≡◌};
+ghost use Rattle.std.specs.Prelude.{◌≡◌, true, false};
 ghost use Rattle.pb_desk.specs.Causes.{Rose};
 
 use pb_base::Failed;
@@ -35,5 +35,15 @@ impl FaultCount {
     {
         self.count = self.count.saturating_add(1);
         Failed
+    }
+
+    /// One more, where that is so.
+    pub fn rise_if(&mut self, is_so: bool)
+        ensures so { is_so ≡ true → Rose self.old self.new }
+        ensures not_so { is_so ≡ false → self.new ≡ self.old }
+    {
+        if is_so {
+            let _ = self.rise();
+        }
     }
 }

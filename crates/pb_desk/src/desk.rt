@@ -1,13 +1,14 @@
 // The trait, and what each call promises.
 ghost use Rattle.std.specs.Prelude.{◌≡◌, ◌≤◌, ◌<◌, ℕ, length, take, true, false, IsTrue, IsSome, IsNone, IfSome, IfOk, OnOk, OnErr};
+ghost use Rattle.pb_desk.specs.Causes.{Rose};
 ghost use Rattle.pb_desk.specs.View.{opened, taken, created, wrote, closed, spoke};
-ghost use Rattle.pb_desk.specs.Desk.{DeskState, Reaches, FailsToRead, FailsToWrite, same, IsSteady, IfTold, IsTold, Gives, TakesSome, HasName, HasSlot, IsTaken, LacksRoom, FitsRoom, written, words};
+ghost use Rattle.pb_desk.specs.Desk.{DeskState, Reads, Reaches, FailsToRead, FailsToWrite, same, IsSteady, IfTold, IsTold, Gives, TakesSome, HasName, HasSlot, IsTaken, LacksRoom, FitsRoom, written, words};
 
 use pb_base::Failed;
 
 /// Files to read in slots 0 to 3, files to write in slots 0 and 1, and a place to speak.
 pub trait Desk {
-    /// What the desk shows, and how often reading and writing have failed.
+    /// What the desk shows, how often reading and writing have failed, and how many reads gave no byte.
     ghost state: { Self → DeskState };
 
     /// Opens a file to read.
@@ -17,17 +18,21 @@ pub trait Desk {
         ensures ok { OnOk result (Reaches (opened slot name.now) (state self.old) (state self.new)) }
         ensures failed { OnErr result (FailsToRead same (state self.old) (state self.new)) }
         ensures found { OnOk result (IfTold (state self.old) (λ t. IsSome (t.shelf name.now))) }
-        ensures steady { IsSteady (state self.old) → OnErr result (IsTold (state self.old) (λ t. IsNone (t.shelf name.now))) };
+        ensures steady { IsSteady (state self.old) → OnErr result (IsTold (state self.old) (λ t. IsNone (t.shelf name.now))) }
+        ensures no_end { OnErr result ((state self.new).ends ≡ (state self.old).ends) };
 
     /// Reads the next bytes into the room. None into some room is the end.
     fn read(&mut self, slot: u8, room: &mut [u8]) -> Result<usize, Failed>
         requires kind { slot < 4 }
         requires open { IsTrue ((state self.old).view.reading slot) }
-        ensures ok { IfOk result (λ count. Reaches (taken slot count) (state self.old) (state self.new)) }
+        ensures ok { IfOk result (λ count. Reads (taken slot count) (state self.old) (state self.new)) }
         ensures failed { OnErr result (FailsToRead same (state self.old) (state self.new)) }
         ensures count { IfOk result (λ count. count ≤ length room.new) }
         ensures bytes { IfOk result (λ count. IfTold (state self.old) (λ t. Gives (t.left slot) count room.new)) }
-        ensures steady { IsSteady (state self.old) → OnErr result ⊥ };
+        ensures steady { IsSteady (state self.old) → OnErr result ⊥ }
+        ensures at_end { IfOk result (λ count. count ≡ 0 → Rose (state self.old).ends (state self.new).ends) }
+        ensures not_at_end { IfOk result (λ count. 0 < count → (state self.new).ends ≡ (state self.old).ends) }
+        ensures no_end { OnErr result ((state self.new).ends ≡ (state self.old).ends) };
 
     /// Makes an empty file to write.
     fn create(&mut self, slot: u8, name: &str) -> Result<(), Failed>

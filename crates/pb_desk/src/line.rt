@@ -1,5 +1,5 @@
 // One line, from a desk in pieces.
-ghost use Rattle.std.specs.Prelude.{◌≡◌, ◌≢◌, ◌<◌, [], ℕ, List, true, IsTrue, IfOk, IfErr, OnErr, Err};
+ghost use Rattle.std.specs.Prelude.{◌≡◌, ◌≢◌, ◌<◌, [], ℕ, List, true, false, IsTrue, IfOk, IfErr, OnErr, Err};
 ghost use Rattle.pb_desk.specs.Desk.{IsSteady, FailsToRead, same};
 ghost use Rattle.pb_desk.specs.LineReading.{TakesAhead};
 ghost use Rattle.pb_desk.specs.laws.PieceReading.{Finds, Fits, StopsLine, Refills, found_at_end};
@@ -29,16 +29,22 @@ impl From<Failed> for Stop {
     }
 }
 
-// Takes more from the slot, if nothing is ahead. False at the end of the text.
+// Takes more from the slot, if nothing is ahead. False at the end of the text, which is met once.
 fn refill<D: Desk>(desk: &mut D, slot: u8, ahead: &mut Ahead) -> Result<bool, Failed>
     requires kind { slot < 4 }
     requires open { IsTrue ((D.state desk.old).view.reading slot) }
     ensures filled { IfOk result (λ some. Refills slot some ahead.old ahead.new (D.state desk.old) (D.state desk.new)) }
     ensures failed { OnErr result (FailsToRead same (D.state desk.old) (D.state desk.new)) }
+    ensures none { OnErr result (ahead.old.bytes ≡ []) }
+    ensures not_over { OnErr result (ahead.old.over ≡ false) }
+    ensures no_end { OnErr result ((D.state desk.new).ends ≡ (D.state desk.old).ends) }
     ensures steady { IsSteady (D.state desk.old) → OnErr result ⊥ }
 {
     if !ahead.bytes().is_empty() {
         return Ok(true);
+    }
+    if ahead.is_over() {
+        return Ok(false);
     }
     ahead.fill(desk, slot)?;
     Ok(!ahead.bytes().is_empty())

@@ -2,6 +2,7 @@
 ghost use Rattle.std.specs.Prelude.{◌≡◌, ◌≢◌, ◌≤◌, ◌<◌, ◌^◌, [], ℕ, Bool, List, IsTrue, Some, None, Ok, Err, IfOk, IfErr, OnOk};
 ghost use Rattle.pb_desk.specs.Desk.{IsSteady};
 ghost use Rattle.pb_desk.specs.LineReaders.{Reader, GivesLine, StopsAt, fault_at};
+ghost use Rattle.pb_desk.specs.LineReading.{nothing_held};
 
 use crate::Desk;
 use crate::ahead::Ahead;
@@ -80,7 +81,7 @@ impl LineReader {
     pub fn new(alloc: Global, slot: u8, limits: LineLimits) -> Result<LineReader, NoMemory>
         requires slot { slot < 4 }
         requires lines { limits.lines < 2 ^ 63 }
-        ensures { IfOk result (λ reader. reader ≡ record { slot = slot; limits = limits; ahead = []; at = 0; number = 0; line = []; fault = None }) }
+        ensures { IfOk result (λ reader. reader ≡ record { slot = slot; limits = limits; ahead = nothing_held; at = 0; number = 0; line = []; fault = None }) }
     {
         Ok(LineReader {
             slot,

@@ -23,6 +23,7 @@ pub struct MemoryDesk {
     room: usize,
     read_faults: FaultCount,
     write_faults: FaultCount,
+    ends: FaultCount,
     ghost some_piece: { 1 ≤ piece },
     ghost rooms: { (zero.bytes.room ≡ room) × (one.bytes.room ≡ room) × (said.room ≡ room) },
     ghost names: { (zero.name.room ≡ 255) × (one.name.room ≡ 255) },
@@ -43,6 +44,7 @@ impl Drop for MemoryDesk {
             room: _,
             read_faults: _,
             write_faults: _,
+            ends: _,
         } = self;
     }
 }
@@ -84,6 +86,7 @@ impl MemoryDesk {
             room,
             read_faults: FaultCount::new(),
             write_faults: FaultCount::new(),
+            ends: FaultCount::new(),
         })
     }
 
@@ -124,8 +127,9 @@ impl MemoryDesk {
 #[tactic(auto, unfolding(crate::specs::MemoryState::state_of, crate::specs::MemoryState::plan_of))]
 impl Desk for MemoryDesk {
     ghost use Rattle.std.specs.Prelude.{◌≡◌, ◌≤◌, ◌<◌, ◌↔◌, ◌⊎◌, refl, length, take, drop, false, IsTrue, IsSome, IsNone, IsErr, IfOk, OnOk, OnErr};
+    ghost use Rattle.pb_desk.specs.Causes.{Rose};
     ghost use Rattle.pb_desk.specs.View.{opened, taken, created, wrote, closed, spoke};
-    ghost use Rattle.pb_desk.specs.Desk.{Reaches, FailsToRead, FailsToWrite, same, IsSteady, IfTold, IsTold, Gives, TakesSome, HasName, IsTaken, LacksRoom, written, words};
+    ghost use Rattle.pb_desk.specs.Desk.{Reads, Reaches, FailsToRead, FailsToWrite, same, IsSteady, IfTold, IsTold, Gives, TakesSome, HasName, IsTaken, LacksRoom, written, words};
     ghost use Rattle.pb_desk.specs.Memory.{counted, is_failing};
     ghost use Rattle.pb_desk.specs.MemoryState.{state_of, plan_of};
     ghost use Rattle.pb_desk.specs.laws.MemoryLaws.{memory_has_file, memory_tells, memory_has_room, memory_fits};
@@ -139,6 +143,7 @@ impl Desk for MemoryDesk {
         ensures failed { OnErr result (FailsToRead same (state_of self.old) (state_of self.new)) }
         ensures found { OnOk result (IfTold (state_of self.old) (λ t. IsSome (t.shelf name.now))) }
         ensures steady { IsSteady (state_of self.old) → OnErr result (IsTold (state_of self.old) (λ t. IsNone (t.shelf name.now))) }
+        ensures no_end { OnErr result ((state_of self.new).ends ≡ (state_of self.old).ends) }
         ensures counted { plan_of self.new ≡ counted (plan_of self.old) }
         ensures fails { IsErr result ↔ (IsTrue (is_failing (plan_of self.old)) ⊎ IsTold (state_of self.old) (λ t. IsNone (t.shelf name.now))) }
     {
@@ -154,11 +159,14 @@ impl Desk for MemoryDesk {
     fn read(&mut self, slot: u8, room: &mut [u8]) -> Result<usize, Failed>
         requires kind { slot < 4 }
         requires open { IsTrue ((state_of self.old).view.reading slot) }
-        ensures ok { IfOk result (λ count. Reaches (taken slot count) (state_of self.old) (state_of self.new)) }
+        ensures ok { IfOk result (λ count. Reads (taken slot count) (state_of self.old) (state_of self.new)) }
         ensures failed { OnErr result (FailsToRead same (state_of self.old) (state_of self.new)) }
         ensures count { IfOk result (λ count. count ≤ length room.new) }
         ensures bytes { IfOk result (λ count. IfTold (state_of self.old) (λ t. Gives (t.left slot) count room.new)) }
         ensures steady { IsSteady (state_of self.old) → OnErr result ⊥ }
+        ensures at_end { IfOk result (λ count. count ≡ 0 → Rose (state_of self.old).ends (state_of self.new).ends) }
+        ensures not_at_end { IfOk result (λ count. 0 < count → (state_of self.new).ends ≡ (state_of self.old).ends) }
+        ensures no_end { OnErr result ((state_of self.new).ends ≡ (state_of self.old).ends) }
         ensures counted { plan_of self.new ≡ counted (plan_of self.old) }
         ensures fails { IsErr result ↔ IsTrue (is_failing (plan_of self.old)) }
         ensures moved { IfOk result (λ count. count ≤ (plan_of self.old).piece) }
@@ -178,6 +186,7 @@ impl Desk for MemoryDesk {
             file: reading.file,
             place: reading.place + count,
         });
+        self.ends.rise_if(count == 0);
         Ok(count)
     }
 

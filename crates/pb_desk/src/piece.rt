@@ -54,8 +54,8 @@ fn limit_of_more(left: &Left, line: &[u8], count: usize, is_ended: bool) -> Opti
 
 // Lets go of a piece, and of the LF that may follow it.
 fn skip_piece(ahead: &mut Ahead, count: usize, is_ended: bool)
-    requires { (if is_ended then count + 1 else count) ≤ length ahead.old }
-    ensures { ahead.new ≡ drop (if is_ended then count + 1 else count) ahead.old }
+    requires { (if is_ended then count + 1 else count) ≤ length ahead.old.bytes }
+    ensures { ahead.new ≡ record { bytes = drop (if is_ended then count + 1 else count) ahead.old.bytes; over = ahead.old.over } }
 {
     ahead.skip(count);
     if is_ended {
@@ -66,8 +66,9 @@ fn skip_piece(ahead: &mut Ahead, count: usize, is_ended: bool)
 /// Moves the bytes that are ahead to the line, up to its end, and says whether its end was there.
 pub fn take_piece(ahead: &mut Ahead, line: &mut Vec<u8>, left: &Left) -> Result<bool, Stop>
     requires { InLine left.now line.old.items }
-    ensures taken { IfOk result (λ is_ended. TakesPiece left.now is_ended ahead.old ahead.new line.old.items line.new.items) }
-    ensures stopped { IfErr result (StopsPiece left.now ahead.old line.old.items) }
+    ensures taken { IfOk result (λ is_ended. TakesPiece left.now is_ended ahead.old.bytes ahead.new.bytes line.old.items line.new.items) }
+    ensures stopped { IfErr result (StopsPiece left.now ahead.old.bytes line.old.items) }
+    ensures over { ahead.new.over ≡ ahead.old.over }
 {
     let piece = first_piece(ahead.bytes());
     let count = piece.bytes.len();

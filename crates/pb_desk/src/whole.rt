@@ -1,5 +1,6 @@
 // Calls over a desk that go on until all is done.
 ghost use Rattle.std.specs.Prelude.{◌≡◌, ◌≤◌, ◌<◌, ◌≢◌, ℕ, length, take, true, false, IsTrue, IfOk, OnOk, OnErr};
+ghost use Rattle.pb_desk.specs.Causes.{Rose};
 ghost use Rattle.pb_desk.specs.View.{wrote, spoke, taken};
 ghost use Rattle.pb_desk.specs.Desk.{Reaches, IsSteady, IfTold, LacksRoom, written, words, StopsIn, Advances, FailsToRead};
 
@@ -70,6 +71,8 @@ fn read_pieces<D: Desk>(
     ensures failed { result ≡ Err TextFault.Failed → (count : ℕ) × (count ≤ limit) × FailsToRead (taken slot count) (D.state desk.old) (D.state desk.new) }
     ensures no_memory { result ≡ Err TextFault.NoMemory → (count : ℕ) × (count ≤ limit) × Advances slot count (D.state desk.old) (D.state desk.new) }
     ensures steady { IsSteady (D.state desk.old) → result ≢ Err TextFault.Failed }
+    ensures once { OnOk result (Rose (D.state desk.old).ends (D.state desk.new).ends) }
+    ensures before_end { OnErr result ((D.state desk.new).ends ≡ (D.state desk.old).ends) }
 {
     let mut text = Vec::new(alloc);
     loop {
@@ -84,7 +87,8 @@ fn read_pieces<D: Desk>(
     }
 }
 
-/// Reads all that a slot has left, of at most `limit` bytes. It asks for nothing more once more than those were taken.
+/// Reads all that a slot has left, of at most `limit` bytes. It asks for nothing more once more than those were taken, nor
+/// once its end was met.
 pub fn read_whole<D: Desk>(
     alloc: Global,
     desk: &mut D,
@@ -100,6 +104,8 @@ pub fn read_whole<D: Desk>(
     ensures failed { result ≡ Err TextFault.Failed → (count : ℕ) × (count ≤ limit) × FailsToRead (taken slot count) (D.state desk.old) (D.state desk.new) }
     ensures no_memory { result ≡ Err TextFault.NoMemory → (count : ℕ) × (count ≤ limit) × Advances slot count (D.state desk.old) (D.state desk.new) }
     ensures steady { IsSteady (D.state desk.old) → result ≢ Err TextFault.Failed }
+    ensures once { OnOk result (Rose (D.state desk.old).ends (D.state desk.new).ends) }
+    ensures before_end { OnErr result ((D.state desk.new).ends ≡ (D.state desk.old).ends) }
 {
     let mut room = make_room(alloc)?;
     read_pieces(alloc, desk, slot, limit, &mut room)

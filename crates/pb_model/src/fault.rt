@@ -1,22 +1,26 @@
 //! Why a model text was not read.
 use pb_base::{Expected, LimitKind, NoMemory, Place};
 use std::alloc::AllocError;
+use thiserror::Error;
 
 /// The first fault of a model text, with the place of its word (none where the whole text is too
 /// long), or want of memory.
-#[derive(Clone, Copy, Debug, PartialEq, Eq)]
+#[derive(Clone, Copy, Debug, PartialEq, Eq, Error)]
 pub enum ModelFault {
     /// No model text goes on so; this could have stood there.
+    #[error("{place}: expected {expected}")]
     Token {
         place: Place,
         expected: Expected,
     },
     /// A limit is passed there.
+    #[error("limit {which}")]
     Limit {
         place: Option<Place>,
         which: LimitKind,
     },
     /// An allocation was refused.
+    #[error("out of memory")]
     NoMemory,
 }
 

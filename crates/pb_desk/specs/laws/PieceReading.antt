@@ -10,7 +10,7 @@ use Rattle.pb_desk.specs.declared.line.Found.{Found}
 use Rattle.pb_desk.specs.declared.line.Found.TheVariants.{Nothing, Last, Ended}
 use Rattle.pb_desk.specs.Lines.{BeginsWith, IsUnbroken}
 use Rattle.pb_desk.specs.Limits.{limit_of}
-use Rattle.pb_desk.specs.LineReading.{limit_in, TakesAhead, FailsInLine}
+use Rattle.pb_desk.specs.LineReading.{limit_in, Held, TakesAhead, FailsAhead, IsPart}
 
 -- the same where the line has so many bytes already
 abbrev pub limit_after : Left → ℕ → List ℕ → Option LimitKind
@@ -60,15 +60,15 @@ Fits left Nothing line = line ≡ []
 Fits left Last line = (length line ≤ left.text) × (left.is_last ≡ false)
 Fits left Ended line = (length line < left.text) × (left.is_last ≡ false)
 
-abbrev pub StopsLine : Left → ℕ → List ℕ → List ℕ → DeskState → DeskState → Stop → Type 0
-StopsLine left slot ahead ahead' before after Failed = FailsInLine slot before after
+abbrev pub StopsLine : Left → ℕ → Held → Held → DeskState → DeskState → Stop → Type 0
+StopsLine left slot ahead ahead' before after Failed = FailsAhead slot ahead before after (IsPart left)
 StopsLine left slot ahead ahead' before after (Limit which) = TakesAhead slot ahead ahead' before after (λ text rest. limit_in left text ≡ Some which)
 StopsLine left slot ahead ahead' before after NoMemory = TakesAhead slot ahead ahead' before after (λ text rest. Unit {0})
 
 -- more was taken from the slot where nothing was ahead: none at the end of the text
-pub record Refills (slot : ℕ) (some : Bool) (ahead ahead' : List ℕ) (before after : DeskState) : Type 0 where
+pub record Refills (slot : ℕ) (some : Bool) (ahead ahead' : Held) (before after : DeskState) : Type 0 where
   pub reads : TakesAhead slot ahead ahead' before after (λ text rest. (text ≡ rest) × (some ≡ false → rest ≡ []))
-  pub some_ahead : some ≡ true → 0 < length ahead'
+  pub some_ahead : some ≡ true → 0 < length ahead'.bytes
 
 -- what stands at the end of the text
 abbrev pub found_at_end : List ℕ → Found

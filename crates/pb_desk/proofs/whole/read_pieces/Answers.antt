@@ -1,4 +1,4 @@
-use Rattle.std.proofs.Common.{◌≡◌, ℕ, List, subst, sym, arith, length, ◌+◌, ap, refl, take, length-append}
+use Rattle.std.proofs.Common.{◌≡◌, ℕ, List, subst, sym, ◌∙◌, arith, length, ◌+◌, ap, refl, take, length-append}
 use Rattle.std.proofs.lemmas.List.{length-take}
 use Rattle.pb_desk.specs.Desk.{IfTold}
 use Rattle.pb_desk.proofs.Readings.{takes_more, whole_at_end, grows}
@@ -20,7 +20,7 @@ loop-text-preserved g c =
     let items = c.in_ok-extend_from_slice.ensures.items in
     let more = grows c.args.slot (length c.loop-text.text.items) c.in_ok-count.count c.loop-text.text.items c.read.new.room c.extend_from_slice.new.self.items (g.D.Desk.state c.args.desk.now) (g.D.Desk.state c.loop-text.desk) (g.D.Desk.state c.read.new.self)
     refl items c.in_ok-count.ensures.count c.loop-text.invariant.taken c.in_ok-count.ensures.ok c.loop-text.invariant.so_far c.in_ok-count.ensures.bytes in
-    record { in_limit = omega (arith, ap length items, length-append c.loop-text.text.items (take c.in_ok-count.count c.read.new.room), length-take c.in_ok-count.count c.read.new.room); taken = more.0; so_far = more.1 }
+    record { no_end = c.in_ok-count.ensures.not_at_end (omega (arith, c.if-count-eq0.false)) ∙ c.loop-text.invariant.no_end; in_limit = omega (arith, ap length items, length-append c.loop-text.text.items (take c.in_ok-count.count c.read.new.room), length-take c.in_ok-count.count c.read.new.room); taken = more.0; so_far = more.1 }
 
 pub returns-in_err-extend_from_slice-clause-no_memory : goal.returns-in_err-extend_from_slice-clause-no_memory
 returns-in_err-extend_from_slice-clause-no_memory g c = λ _.
