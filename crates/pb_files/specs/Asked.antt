@@ -1,5 +1,5 @@
 -- What the desk of a system holds, and what it has asked (our own).
-use Rattle.std.specs.Prelude.{◌≡◌, ℕ, ◌+◌, Bool, true, false, ◌==◌, if◌then◌else◌, List, set, is_some, slice_index_or}
+use Rattle.std.specs.Prelude.{◌≡◌, ℕ, ◌+◌, Bool, true, false, ◌==◌, if◌then◌else◌, List, [], ◌∷◌, set, is_some, slice_index_or}
 use Rattle.std.specs.List.{list_any}
 use Rattle.std.specs.Option.{option_map_or}
 use Rattle.std.specs.declared.option.Option.{Option}
@@ -16,20 +16,22 @@ abbrev pub by_slot : {F X : Type 0} → (Option F → X) → List (Option F) →
 by_slot f slots n = f (slice_index_or slots n None)
 
 -- what the desk shows: which slots are open, and its counts
-abbrev pub untold : {F G : Type 0} → List (Option F) → List (Option G) → ℕ → ℕ → DeskState
-untold reading writing read_faults write_faults = record {
+abbrev pub untold : {F G : Type 0} → List (Option F) → List (Option G) → ℕ → ℕ → ℕ → DeskState
+untold reading writing read_faults write_faults ends = record {
   view = record { reading = by_slot is_some reading; writing = by_slot is_some writing; told = None; room = None; steady = false };
   read_faults = read_faults;
   write_faults = write_faults;
+  ends = ends;
 }
 
--- What it has asked, where calls are kept; the file in each slot; and which files it has opened and made, one for each of
--- its four slots to read, and then one for each of its two to write.
+-- What it has asked, where calls are kept; the file in each slot; which files it has opened and made, the last of each of
+-- its four slots to read, and then of each of its two to write; and which file standard output is.
 pub record Asked : Type 0 where
   pub calls : Option (List Call)
   pub reading : ℕ → Option Handle
   pub writing : ℕ → Option Handle
   pub known : List (Option FileId)
+  pub output : Option FileId
 
 -- the number of the file in a slot
 abbrev pub number_in : (ℕ → Option Handle) → ℕ → ℕ
@@ -54,14 +56,18 @@ pub record Opens (slot : ℕ) (name : List ℕ) (old new : Asked) : Type 0 where
   pub file : Handle
   pub is : new ≡ record (after (open_file name (Some file)) old) { reading = put old.reading slot (Some file); known = set old.known slot file.id }
 
--- The system gave the file of the name, none of those that the desk knows, and emptied it; the slot has it.
+-- The system gave the file of the name, which is neither standard output nor one of those that the desk knows, and emptied
+-- it; the slot has it.
 pub record Makes (slot : ℕ) (name : List ℕ) (old new : Asked) : Type 0 where
   pub file : Handle
+  pub unsaid : is_known (old.output ∷ []) file.id ≡ false
   pub unknown : is_known old.known file.id ≡ false
   pub is : new ≡ record (after (truncate file.number (Some tt)) (after (create name (Some file)) old)) { writing = put old.writing slot (Some file); known = set old.known (4 + slot) file.id }
 
--- Why no file is made: the system gives none; it gives one that the desk knows, which is left as it is; or it does not empty it.
+-- Why no file is made: the system gives none; it gives what standard output is, or one that the desk knows, which is left
+-- as it is; or it does not empty it.
 pub data Refuses (name : List ℕ) (old new : Asked) : Type 0 where
   none : new ≡ after (create name None) old → Refuses name old new
+  is_output : (file : Handle) → is_known (old.output ∷ []) file.id ≡ true → new ≡ after (create name (Some file)) old → Refuses name old new
   is_ours : (file : Handle) → is_known old.known file.id ≡ true → new ≡ after (create name (Some file)) old → Refuses name old new
-  stays : (file : Handle) → is_known old.known file.id ≡ false → new ≡ after (truncate file.number None) (after (create name (Some file)) old) → Refuses name old new
+  stays : (file : Handle) → is_known (old.output ∷ []) file.id ≡ false → is_known old.known file.id ≡ false → new ≡ after (truncate file.number None) (after (create name (Some file)) old) → Refuses name old new

@@ -1,55 +1,97 @@
 // The system that the program runs on. That std asks it and answers as it did, by these lines, is trusted.
+use crate::opened::{Opened, id_of};
 use crate::{FileId, Handle, System};
 use pb_base::Failed;
-use std::alloc::Global;
 use std::fs::{self, File, OpenOptions};
 use std::io::{self, ErrorKind, Print, Read, Write};
-use std::os::unix::fs::MetadataExt;
+use std::os::fd::AsRawFd;
 use std::rt::Files;
 
-/// The system's files and standard output. It keeps its files open, and no record of its calls.
+/// The system's files and standard output. It keeps at most eight files open, all to its end, which is more than a run
+/// opens, and no record of its calls.
 #[derive(Drop)]
 pub struct Host<'a, R: Files<File = File> + Print> {
     system: &'a R,
-    files: Vec<File>,
+    closed: [Option<File>; 3],
+    output: Option<FileId>,
+    files: [Option<Opened>; 8],
 }
 
 impl<'a, R: Files<File = File> + Print> Host<'a, R> {
-    /// The system that the program runs on.
-    pub fn new(alloc: Global, system: &'a R) -> Self {
+    /// The system that the program runs on. It is to be made before a file is opened.
+    pub fn new(system: &'a R) -> Self {
+        let closed = take_closed(system);
         Host {
             system,
-            files: Vec::new(alloc),
+            closed,
+            output: output_of(system),
+            files: [None, None, None, None, None, None, None, None],
         }
     }
 
+    // A place that holds no file.
+    fn place(&self) -> Result<usize, Failed> {
+        self.files
+            .iter()
+            .position(|file| file.is_none())
+            .ok_or(Failed)
+    }
+
     // Keeps a file that was opened, by its place.
-    fn keep(&mut self, file: File) -> Result<Handle, Failed> {
-        let id = id_of(&file);
-        let number = self.files.len() as u64;
-        match self.files.push(file) {
-            Ok(()) => Ok(Handle { number, id }),
-            Err(_) => Err(Failed),
+    fn keep(&mut self, place: usize, file: File) -> Result<Handle, Failed> {
+        let id = id_of(file.metadata())?;
+        let opened = Opened::new(file)?;
+        let Some(kept) = self.files.get_mut(place) else {
+            return Err(Failed);
+        };
+        *kept = Some(opened);
+        Ok(Handle {
+            number: place as u64,
+            id,
+        })
+    }
+
+    // The file at a place.
+    fn file(&self, place: u64) -> Result<&File, Failed> {
+        match self.files.get(place as usize) {
+            Some(Some(opened)) => Ok(opened.file()),
+            _ => Err(Failed),
         }
     }
 }
 
-// Which file it is. A terminal or a pipe may be read and written at once, so it is none.
-fn id_of(file: &File) -> Option<FileId> {
+// Takes the number of each standard stream that is closed, so that no file gets it. The system gives the lowest free
+// number first. What is read from the root folder, or written there, fails.
+fn take_closed<R: Files<File = File>>(system: &R) -> [Option<File>; 3] {
+    let mut closed = [None, None, None];
+    for place in &mut closed {
+        match fs::open(system, "/") {
+            Ok(file) if file.as_raw_fd() <= 2 => *place = Some(file),
+            _ => break,
+        }
+    }
+    closed
+}
+
+// Which file standard output is. It is asked by the name that Linux has for it, since std has no other way; where the
+// system has no such names, it is none.
+fn output_of<R: Files<File = File>>(system: &R) -> Option<FileId> {
+    id_of(fs::metadata(system, "/proc/self/fd/1")).unwrap_or(None)
+}
+
+// Whether the system tells that it is a pipe or a device.
+fn is_device(file: &File) -> bool {
     match file.metadata() {
-        Ok(data) if data.is_file() => Some(FileId {
-            device: data.dev(),
-            number: data.ino(),
-        }),
-        _ => None,
+        Ok(data) => !data.is_file(),
+        Err(_) => false,
     }
 }
 
 // A pipe or a device has no bytes to take away, and nothing to wait for.
-fn unless_device(answer: io::Result<()>) -> Result<(), Failed> {
+fn unless_device(file: &File, answer: io::Result<()>) -> Result<(), Failed> {
     match answer {
         Ok(()) => Ok(()),
-        Err(error) if error.kind() == ErrorKind::InvalidInput => Ok(()),
+        Err(error) if error.kind() == ErrorKind::InvalidInput && is_device(file) => Ok(()),
         Err(_) => Err(Failed),
     }
 }
@@ -59,34 +101,37 @@ impl<'a, R: Files<File = File> + Print> System for Host<'a, R> {
 
     ghost calls = { λ host. None };
 
+    ghost output = { λ host. host.output };
+
+    fn output(&self) -> Option<FileId> {
+        self.output
+    }
+
     fn open(&mut self, name: &str) -> Result<Handle, Failed> {
+        let place = self.place()?;
         match fs::open(self.system, name) {
-            Ok(file) => self.keep(file),
+            Ok(file) => self.keep(place, file),
             Err(_) => Err(Failed),
         }
     }
 
     fn create(&mut self, name: &str) -> Result<Handle, Failed> {
+        let place = self.place()?;
         let mut options = OpenOptions::new();
         options.write(true).create(true);
         match options.open(self.system, name) {
-            Ok(file) => self.keep(file),
+            Ok(file) => self.keep(place, file),
             Err(_) => Err(Failed),
         }
     }
 
     fn truncate(&mut self, file: u64) -> Result<(), Failed> {
-        match self.files.get(file as usize) {
-            Some(file) => unless_device(file.set_len(0)),
-            None => Err(Failed),
-        }
+        let file = self.file(file)?;
+        unless_device(file, file.set_len(0))
     }
 
     fn read(&mut self, file: u64, room: &mut [u8]) -> Result<usize, Failed> {
-        let Some(file) = self.files.get(file as usize) else {
-            return Err(Failed);
-        };
-        let mut file = file;
+        let mut file = self.file(file)?;
         for _ in 0..u64::MAX {
             match file.read(room) {
                 Ok(count) => return Ok(count),
@@ -98,10 +143,7 @@ impl<'a, R: Files<File = File> + Print> System for Host<'a, R> {
     }
 
     fn write(&mut self, file: u64, piece: &[u8]) -> Result<usize, Failed> {
-        let Some(file) = self.files.get(file as usize) else {
-            return Err(Failed);
-        };
-        let mut file = file;
+        let mut file = self.file(file)?;
         for _ in 0..u64::MAX {
             match file.write(piece) {
                 Ok(count) => return Ok(count),
@@ -113,10 +155,8 @@ impl<'a, R: Files<File = File> + Print> System for Host<'a, R> {
     }
 
     fn sync(&mut self, file: u64) -> Result<(), Failed> {
-        match self.files.get(file as usize) {
-            Some(file) => unless_device(file.sync_all()),
-            None => Err(Failed),
-        }
+        let file = self.file(file)?;
+        unless_device(file, file.sync_all())
     }
 
     fn say(&mut self, piece: &[u8]) -> Result<usize, Failed> {

@@ -4,6 +4,7 @@
 mod handle;
 mod host;
 mod known;
+mod opened;
 mod real;
 mod system;
 

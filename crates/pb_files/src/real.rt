@@ -1,5 +1,5 @@
 // The desk of a system.
-ghost use Rattle.std.specs.Prelude.{◌≡◌, None};
+ghost use Rattle.std.specs.Prelude.{◌≡◌, replicate, None};
 ghost use Rattle.pb_desk.specs.Desk.{DeskState, IsClosed};
 ghost use Rattle.pb_files.specs.Asked.{Asked};
 
@@ -16,41 +16,49 @@ pub trait Asks {
 }
 
 /// The files and words of a system. As a desk it tells which slots are open and its counts, and nothing of what they
-/// hold; but each of its answers is the system's. A file that it opened or made is never made again by another name.
+/// hold; but each of its answers is the system's. It never makes, and so never empties, what standard output is, nor a
+/// file that a slot has, or had last: in a run, which uses each slot at most once, no file that it opened or made.
 #[derive(Drop)]
 pub struct RealDesk<S: System + Drop> {
     system: S,
     reading: [Option<Handle>; 4],
     writing: [Option<Handle>; 2],
     known: [Option<FileId>; 6],
+    output: Option<FileId>,
     read_faults: FaultCount,
     write_faults: FaultCount,
+    ends: FaultCount,
 }
 
 impl<S: System + Drop> Asks for RealDesk<S> {
     ghost use Rattle.pb_files.specs.Asked.{by_slot, untold};
 
-    ghost shown = { λ desk. untold desk.reading desk.writing desk.read_faults desk.write_faults };
+    ghost shown = { λ desk. untold desk.reading desk.writing desk.read_faults desk.write_faults desk.ends };
 
-    ghost asked = { λ desk. record { calls = S.calls desk.system; reading = by_slot (λ h. h) desk.reading; writing = by_slot (λ h. h) desk.writing; known = desk.known } };
+    ghost asked = { λ desk. record { calls = S.calls desk.system; reading = by_slot (λ h. h) desk.reading; writing = by_slot (λ h. h) desk.writing; known = desk.known; output = desk.output } };
 }
 
 impl<S: System + Drop> RealDesk<S> {
-    /// The desk of a system, with nothing open and no fault counted.
+    /// The desk of a system, with nothing open and no fault counted. Of files it knows standard output alone.
     pub fn new(system: S) -> Self
         ensures closed { IsClosed (⟦<RealDesk<S> as Desk>⟧.state result) }
         ensures untelling { (⟦<RealDesk<S> as Desk>⟧.state result).view.told ≡ None }
         ensures no_reads { (⟦<RealDesk<S> as Desk>⟧.state result).read_faults ≡ 0 }
         ensures no_writes { (⟦<RealDesk<S> as Desk>⟧.state result).write_faults ≡ 0 }
         ensures asks { (⟦<RealDesk<S> as Asks>⟧.asked result).calls ≡ S.calls system }
+        ensures output { (⟦<RealDesk<S> as Asks>⟧.asked result).output ≡ S.output system }
+        ensures knows_none { (⟦<RealDesk<S> as Asks>⟧.asked result).known ≡ replicate 6 None }
     {
+        let output = system.output();
         RealDesk {
             system,
             reading: [None; 4],
             writing: [None; 2],
             known: [None; 6],
+            output,
             read_faults: FaultCount::new(),
             write_faults: FaultCount::new(),
+            ends: FaultCount::new(),
         }
     }
 }
@@ -59,8 +67,9 @@ impl<S: System + Drop> RealDesk<S> {
 // is the system's.
 impl<S: System + Drop> Desk for RealDesk<S> {
     ghost use Rattle.std.specs.Prelude.{◌≡◌, ◌≤◌, ◌<◌, ◌⊎◌, ℕ, length, take, true, false, IsTrue, IsSome, IsNone, IfOk, OnOk, OnErr, Some, None};
+    ghost use Rattle.pb_desk.specs.Causes.{Rose};
     ghost use Rattle.pb_desk.specs.View.{put, opened, taken, created, wrote, closed, spoke};
-    ghost use Rattle.pb_desk.specs.Desk.{Reaches, FailsToRead, FailsToWrite, same, IsSteady, IfTold, IsTold, Gives, TakesSome, HasName, IsTaken, LacksRoom, written, words};
+    ghost use Rattle.pb_desk.specs.Desk.{Reads, Reaches, FailsToRead, FailsToWrite, same, IsSteady, IfTold, IsTold, Gives, TakesSome, HasName, IsTaken, LacksRoom, written, words};
     ghost use Rattle.pb_files.specs.Calls.Call.{open_file as opens, read as reads, write as writes, sync as syncs, say as says};
     ghost use Rattle.pb_files.specs.Asked.{after, number_in, Opens, Makes, Refuses};
 
@@ -73,6 +82,7 @@ impl<S: System + Drop> Desk for RealDesk<S> {
         ensures failed { OnErr result (FailsToRead same (⟦<RealDesk<S> as Asks>⟧.shown self.old) (⟦<RealDesk<S> as Asks>⟧.shown self.new)) }
         ensures found { OnOk result (IfTold (⟦<RealDesk<S> as Asks>⟧.shown self.old) (λ t. IsSome (t.shelf name.now))) }
         ensures steady { IsSteady (⟦<RealDesk<S> as Asks>⟧.shown self.old) → OnErr result (IsTold (⟦<RealDesk<S> as Asks>⟧.shown self.old) (λ t. IsNone (t.shelf name.now))) }
+        ensures no_end { OnErr result ((⟦<RealDesk<S> as Asks>⟧.shown self.new).ends ≡ (⟦<RealDesk<S> as Asks>⟧.shown self.old).ends) }
         ensures opens { let asked = ⟦<RealDesk<S> as Asks>⟧.asked in OnOk result (Opens slot name.now (asked self.old) (asked self.new)) }
         ensures refused { let asked = ⟦<RealDesk<S> as Asks>⟧.asked in OnErr result (asked self.new ≡ after (opens name.now None) (asked self.old)) }
     {
@@ -89,11 +99,14 @@ impl<S: System + Drop> Desk for RealDesk<S> {
     fn read(&mut self, slot: u8, room: &mut [u8]) -> Result<usize, Failed>
         requires kind { slot < 4 }
         requires open { IsTrue ((⟦<RealDesk<S> as Asks>⟧.shown self.old).view.reading slot) }
-        ensures ok { IfOk result (λ count. Reaches (taken slot count) (⟦<RealDesk<S> as Asks>⟧.shown self.old) (⟦<RealDesk<S> as Asks>⟧.shown self.new)) }
+        ensures ok { IfOk result (λ count. Reads (taken slot count) (⟦<RealDesk<S> as Asks>⟧.shown self.old) (⟦<RealDesk<S> as Asks>⟧.shown self.new)) }
         ensures failed { OnErr result (FailsToRead same (⟦<RealDesk<S> as Asks>⟧.shown self.old) (⟦<RealDesk<S> as Asks>⟧.shown self.new)) }
         ensures count { IfOk result (λ count. count ≤ length room.new) }
         ensures bytes { IfOk result (λ count. IfTold (⟦<RealDesk<S> as Asks>⟧.shown self.old) (λ t. Gives (t.left slot) count room.new)) }
         ensures steady { IsSteady (⟦<RealDesk<S> as Asks>⟧.shown self.old) → OnErr result ⊥ }
+        ensures at_end { IfOk result (λ count. count ≡ 0 → Rose (⟦<RealDesk<S> as Asks>⟧.shown self.old).ends (⟦<RealDesk<S> as Asks>⟧.shown self.new).ends) }
+        ensures not_at_end { IfOk result (λ count. 0 < count → (⟦<RealDesk<S> as Asks>⟧.shown self.new).ends ≡ (⟦<RealDesk<S> as Asks>⟧.shown self.old).ends) }
+        ensures no_end { OnErr result ((⟦<RealDesk<S> as Asks>⟧.shown self.new).ends ≡ (⟦<RealDesk<S> as Asks>⟧.shown self.old).ends) }
         ensures given { let asked = ⟦<RealDesk<S> as Asks>⟧.asked in IfOk result (λ count. asked self.new ≡ after (reads (number_in (asked self.old).reading slot) (length room.old) (Some (take count room.new))) (asked self.old)) }
         ensures refused { let asked = ⟦<RealDesk<S> as Asks>⟧.asked in OnErr result (asked self.new ≡ after (reads (number_in (asked self.old).reading slot) (length room.old) None) (asked self.old)) }
     {
@@ -101,7 +114,10 @@ impl<S: System + Drop> Desk for RealDesk<S> {
             unreachable!();
         };
         match self.system.read(file.number, room) {
-            Ok(count) => Ok(count),
+            Ok(count) => {
+                self.ends.rise_if(count == 0);
+                Ok(count)
+            }
             Err(Failed) => Err(self.read_faults.rise()),
         }
     }
@@ -119,6 +135,9 @@ impl<S: System + Drop> Desk for RealDesk<S> {
         let Ok(file) = self.system.create(name) else {
             return Err(self.write_faults.rise());
         };
+        if is_known(&[self.output], file.id) {
+            return Err(self.write_faults.rise());
+        }
         if is_known(&self.known, file.id) {
             return Err(self.write_faults.rise());
         }

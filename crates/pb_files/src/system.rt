@@ -1,16 +1,24 @@
 // What the desk asks of the system.
 ghost use Rattle.std.specs.Prelude.{◌≡◌, ◌≤◌, ℕ, List, length, take, IfOk};
 ghost use Rattle.std.specs.declared.option.Option.{Option};
+ghost use Rattle.pb_files.specs.declared.handle.FileId.{FileId};
 ghost use Rattle.pb_files.specs.Calls.{Call, answered, with_call};
 ghost use Rattle.pb_files.specs.Calls.Call.{open_file as opens, create as creates, truncate as truncates, read as reads, write as writes, sync as syncs, say as says};
 
-use crate::Handle;
+use crate::{FileId, Handle};
 use pb_base::Failed;
 
 /// A system of files and words. Each call keeps what was asked and what was answered, where calls are kept.
 pub trait System {
     /// The calls so far, the newest first, where they are kept.
     ghost calls: { Self → Option (List Call) };
+
+    /// Which file standard output is, if it is one.
+    ghost output: { Self → Option FileId };
+
+    /// Which file standard output is: none where it is closed, a terminal or another device.
+    fn output(&self) -> Option<FileId>
+        ensures told { result ≡ output self.now };
 
     /// Opens a file to read.
     fn open(&mut self, name: &str) -> Result<Handle, Failed>
@@ -34,7 +42,7 @@ pub trait System {
         ensures asked { calls self.new ≡ with_call (writes file piece.now (answered (λ count. count) result)) (calls self.old) }
         ensures count { IfOk result (λ count. count ≤ length piece.now) };
 
-    /// Waits until the disk has the file.
+    /// Waits until the disk has the file's bytes. Of the name of a new file, which stands in its folder, nothing is said.
     fn sync(&mut self, file: u64) -> Result<(), Failed>
         ensures asked { calls self.new ≡ with_call (syncs file (answered (λ u. tt) result)) (calls self.old) };
 

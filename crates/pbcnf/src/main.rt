@@ -16,6 +16,8 @@ fn main(rt: HostRuntime) -> ExitCode {
 }
 
 fn outcome_of(rt: &HostRuntime) -> Outcome {
+    // Before all else, since it takes the numbers of standard streams that are closed.
+    let mut desk = RealDesk::new(Host::new(rt));
     let alloc = rt.alloc();
     let args = match env::args(rt) {
         Ok(args) => args,
@@ -26,6 +28,5 @@ fn outcome_of(rt: &HostRuntime) -> Outcome {
     let Ok(words) = args.collect::<Vec<String>>(alloc) else {
         return Outcome::NoMemory;
     };
-    let mut desk = RealDesk::new(Host::new(alloc, rt));
     run(alloc, &words, &mut desk)
 }
