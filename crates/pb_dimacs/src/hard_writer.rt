@@ -8,7 +8,7 @@ use crate::writing::{flush, put_clause, put_text};
 use itoa::Buffer;
 use pb_base::{Failed, Lit};
 use pb_desk::Desk;
-use pb_family::ClauseSink;
+use pb_family::{ClauseSink, SinkFault};
 
 /// Writes the lines of a weighted CNF to a slot, by pieces of up to 64 KiB: clauses as hard ones, behind `h`, and soft lines where
 /// they are asked for. What was taken is written once `flush` was called.
@@ -38,7 +38,7 @@ impl<'a, D: Desk> ClauseSink for HardWriter<'a, D> {
 impl<'a, D: Desk> HardWriter<'a, D> {
     ghost use Rattle.pb_family.specs.ClauseText.{clause_text};
     ghost use Rattle.pb_dimacs.specs.WcnfText.{offset_text, soft_text};
-    ghost use Rattle.pb_dimacs.specs.Outboxes.{IsAllSent, held_in, hard_sink};
+    ghost use Rattle.pb_dimacs.specs.Outboxes.{IsAllSent, Settles, held_in, hard_sink};
 
     /// Takes lines for an open slot, behind what the outbox holds.
     pub fn new(desk: &'a mut D, slot: u8, outbox: &'a mut Outbox) -> HardWriter<'a, D>
@@ -94,5 +94,19 @@ impl<'a, D: Desk> HardWriter<'a, D> {
         ensures all_sent { OnOk result (IsAllSent (⟦<HardWriter<'a, D> as ClauseSink>⟧.state self.new)) }
     {
         flush(self.desk, self.slot, self.outbox)
+    }
+
+    /// What is still to be done after a fault of handing over: where memory was wanting all that is held is written, whatever comes
+    /// of that. Where the desk has failed nothing is tried again.
+    pub fn settle(&mut self, fault: SinkFault)
+        ensures { let seen = ⟦<HardWriter<'a, D> as ClauseSink>⟧.state in Settles fault (seen self.old) (seen self.new) }
+    {
+        match fault {
+            SinkFault::Failed => (),
+            SinkFault::NoMemory => match self.flush() {
+                Ok(()) => (),
+                Err(Failed) => (),
+            },
+        }
     }
 }

@@ -55,7 +55,7 @@ impl<'a, D: Desk> StepSink for StepWriter<'a, D> {
 }
 
 impl<'a, D: Desk> StepWriter<'a, D> {
-    ghost use Rattle.pb_dimacs.specs.Outboxes.{IsAllSent, held_in, slot_sink};
+    ghost use Rattle.pb_dimacs.specs.Outboxes.{IsAllSent, Settles, held_in, slot_sink};
 
     /// Takes steps for an open slot, behind what the outbox holds. Each line is put together in the vector that is lent. The first
     /// step that takes an id gets this one.
@@ -89,5 +89,19 @@ impl<'a, D: Desk> StepWriter<'a, D> {
         ensures next { let seen = ⟦<StepWriter<'a, D> as StepSink>⟧.state in (seen self.new).next ≡ (seen self.old).next }
     {
         flush(self.desk, self.slot, self.outbox)
+    }
+
+    /// What is still to be done after a fault of handing over: where memory was wanting all that is held is written, whatever comes
+    /// of that. Where the desk has failed nothing is tried again.
+    pub fn settle(&mut self, fault: SinkFault)
+        ensures { let seen = ⟦<StepWriter<'a, D> as StepSink>⟧.state in Settles fault (seen self.old).sink (seen self.new).sink }
+    {
+        match fault {
+            SinkFault::Failed => (),
+            SinkFault::NoMemory => match self.flush() {
+                Ok(()) => (),
+                Err(Failed) => (),
+            },
+        }
     }
 }
