@@ -19,7 +19,9 @@ use Rattle.pb_amo.specs.Pairwise.{pairwise_clauses}
 use Rattle.pb_amo.specs.Ladder.{link, links, none_after, nones_after, some_after, somes_after, ladder_clauses}
 use Rattle.pb_amo.specs.Product.{rows, columns, line, cell, cells, fresh_within, clauses_within, product_clauses}
 use Rattle.pb_amo.specs.laws.GridClauses.{clauses_last, clauses_few, clauses_many}
-use Rattle.pb_counter.specs.Counter.{starts, starts_below, stops, row_start, row_pair, counter_row, counter_start, counter_clauses}
+use Rattle.pb_counter.specs.declared.place.Place.{Place}
+use Rattle.pb_counter.specs.declared.place.Place.TheVariants.{Start, Below, One, Keep, More, Stop}
+use Rattle.pb_counter.specs.Counter.{clause_at, places, counter_clauses}
 use Rattle.pb_tree.specs.Pairs.{unless_none}
 use Rattle.pb_tree.specs.Scheme.{Scheme, values, fresh_of, output, clauses_of, tree_clauses}
 use Rattle.pb_tree.specs.Tree.{Tree, tree_of}
@@ -118,17 +120,16 @@ grid_short (suc more) ms first =
 
 -- ---- the counter
 
+place_short : (ms : List Lit) (width first : ℕ) (p : Place) → length (clause_at ms width first p) ≤ 4
+place_short ms width first Start = omega arith
+place_short ms width first (Below j) = omega arith
+place_short ms width first (One i) = omega arith
+place_short ms width first (Keep i j) = omega arith
+place_short ms width first (More i j) = omega arith
+place_short ms width first (Stop i) = omega arith
+
 counted_short : (ms : List Lit) (width first : ℕ) → HaveFewLiterals 4 (counter_clauses ms width first)
-counted_short ms width first =
-    let row = λ (i : ℕ). joined 4 (row_start ms width first i) (flat_map (row_pair ms width first i) (range_with_len 0 (width - 1)) ++ stops ms width first i ∷ [])
-    (two 4 _ _ (omega arith) (omega arith))
-    (joined 4 (flat_map (row_pair ms width first i) (range_with_len 0 (width - 1))) (stops ms width first i ∷ [])
-    (flattened 4 (row_pair ms width first i) (λ j. two 4 _ _ (omega arith) (omega arith)) (range_with_len 0 (width - 1)))
-    (one 4 (stops ms width first i) (omega arith))) in
-    let later = flat_map (counter_row ms width first) (range_with_len 0 (length ms - 2)) in
-    joined 4 (counter_start ms width first) (later ++ stops ms width first (length ms - 2) ∷ [])
-    (first_is 4 (starts ms width first) (map (starts_below width first) (range_with_len 1 (width - 1))) (omega arith) (mapped 4 (starts_below width first) (λ j. omega arith) (range_with_len 1 (width - 1))))
-    (joined 4 later (stops ms width first (length ms - 2) ∷ []) (flattened 4 (counter_row ms width first) row (range_with_len 0 (length ms - 2))) (one 4 (stops ms width first (length ms - 2)) (omega arith)))
+counted_short ms width first = mapped 4 (clause_at ms width first) (place_short ms width first) (places (length ms) width)
 
 -- ---- trees
 

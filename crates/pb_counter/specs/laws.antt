@@ -2,7 +2,9 @@ pub mod CounterDerives
 pub mod CounterFollows
 pub mod CounterLaws
 pub mod CounterModels
+pub mod CounterOrder
 pub mod CounterPlaces
 pub mod CounterPropagation
+pub mod CounterReasons
 pub mod CounterShort
 pub mod SeenLiterals

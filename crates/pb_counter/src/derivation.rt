@@ -1,249 +1,157 @@
-//! The steps that derive the clauses of a counter. The meanings' constraints have the ids from `base` on.
-ghost use Rattle.std.specs.Prelude.{◌≡◌, ◌≤◌, ◌<◌, ◌+◌, ◌-◌, ◌*◌, ◌^◌, ◌∷◌, [], ◌++◌, length, map};
-ghost use Rattle.std.specs.List.{range_with_len, flat_map};
+//! The steps that derive the clauses of a counter.
+ghost use Rattle.std.specs.Prelude.{◌≤◌, ◌<◌, ◌^◌};
 ghost use Rattle.pb_norm.specs.Constraints.{weight, weights};
-ghost use Rattle.pb_derive.specs.Meanings.{meaning_steps};
-ghost use Rattle.pb_family.specs.StepSinks.{HandsSteps};
-ghost use Rattle.pb_family.specs.laws.HandedReasons.{HandsReasons};
-ghost use Rattle.pb_counter.specs.CounterSteps.{counts, start_reasons, below_reason, row_start_reasons, pair_reasons, row_rest_reasons, row_reasons, later_reasons, counter_reasons, counter_steps};
 
-use crate::claims::{
-    take_below, take_bit, take_first, take_keep, take_one, take_row_pair, take_stop,
-};
+use crate::grid::Grid;
+use crate::place::Place;
 use pb_base::Term;
-use pb_family::{SinkFault, StepSink, take_deletions};
+use pb_family::{SinkFault, StepSink, fresh_at, take_claim, take_deletions, take_meaning};
 use std::alloc::Global;
 
-/// What the fresh variables mean.
-fn take_bits<T: StepSink>(
-    alloc: Global,
-    terms: &[Term],
-    width: usize,
-    first: u32,
-    sink: &mut T,
-) -> Result<(), SinkFault>
-    requires some { 1 ≤ width }
-    requires more { 1 ≤ length terms.now }
-    requires low { 1 ≤ first }
-    requires high { first + (length terms.now - 1) * width ≤ 2 ^ 31 }
-    requires light { weight (weights terms.now) < 2 ^ 100 }
-    requires few { (T.state sink.old).next ≤ 2 ^ 61 }
-    ensures { HandsSteps (meaning_steps (T.state sink.old).next (counts (weights terms.now) width first)) result (T.state sink.old) (T.state sink.new) }
-{
-    let count = (terms.len() - 1) * width;
-    for place in 0..count {
-        take_bit(alloc, terms, width, first, place, sink)?;
+/// The ids of the constraints that give a clause.
+#[derive(Clone, Copy)]
+pub enum Sources {
+    Single(u64),
+    Both(u64, u64),
+}
+
+/// A counter whose sum's constraint has the id `id`, and whose meanings' constraints have the ids from `base` on.
+#[derive(Clone, Copy)]
+pub struct Derivation<'a> {
+    pub grid: Grid<'a>,
+    pub id: u64,
+    pub base: u64,
+    ghost light: { weight (weights grid.terms.now) < 2 ^ 100 },
+    ghost modest: { base ≤ 2 ^ 61 },
+}
+
+impl<'a> Derivation<'a> {
+    ghost use Rattle.std.specs.Prelude.{◌≡◌, ◌≤◌, ◌<◌, ◌+◌, ◌^◌, ◌∷◌, [], length};
+    ghost use Rattle.pb_norm.specs.Constraints.{weights};
+    ghost use Rattle.pb_derive.specs.Meanings.{meaning_steps};
+    ghost use Rattle.pb_family.specs.StepSinks.{HandsSteps};
+    ghost use Rattle.pb_family.specs.laws.HandedReasons.{HandsReasons};
+    ghost use Rattle.pb_counter.specs.Counter.{counter_fresh, counter_size};
+    ghost use Rattle.pb_counter.specs.CounterSteps.{counted_at, counts, reached_id, missed_id, ids_of, sources_at, beside_at, reason_at, counter_reasons, counter_steps};
+    ghost use Rattle.pb_counter.specs.Order.{IsPlace};
+
+    /// The id of the constraint that holds where a fresh variable is true.
+    fn reached(&self, row: usize, place: usize) -> u64
+        requires row { row + 1 < length self.now.grid.terms.now }
+        requires place { place < self.now.grid.width }
+        ensures { result ≡ reached_id self.now.grid.width self.now.base row place }
+    {
+        self.base + 2 * (row * self.grid.width + place) as u64
     }
-    Ok(())
-}
 
-/// The later clauses of the first row.
-fn take_belows<T: StepSink>(
-    alloc: Global,
-    terms: &[Term],
-    width: usize,
-    base: u64,
-    sink: &mut T,
-) -> Result<(), SinkFault>
-    requires some { 1 ≤ width }
-    requires more { 1 ≤ length terms.now }
-    requires low { base ≤ 2 ^ 61 }
-    requires high { width < 2 ^ 31 }
-    requires few { (T.state sink.old).next + width < 2 ^ 62 }
-    ensures { HandsReasons (map (below_reason (weights terms.now) width 0 base) (range_with_len 1 (width - 1))) result (T.state sink.old) (T.state sink.new) }
-{
-    for place in 0..width - 1 {
-        take_below(alloc, terms, width, base, place + 1, sink)?;
+    /// The id of the constraint that holds where it is false.
+    fn missed(&self, row: usize, place: usize) -> u64
+        requires row { row + 1 < length self.now.grid.terms.now }
+        requires place { place < self.now.grid.width }
+        ensures { result ≡ missed_id self.now.grid.width self.now.base row place }
+    {
+        self.base + 2 * (row * self.grid.width + place) as u64 + 1
     }
-    Ok(())
-}
 
-/// The clauses of the first row.
-fn take_start<T: StepSink>(
-    alloc: Global,
-    terms: &[Term],
-    width: usize,
-    base: u64,
-    sink: &mut T,
-) -> Result<(), SinkFault>
-    requires some { 1 ≤ width }
-    requires more { 1 ≤ length terms.now }
-    requires low { base ≤ 2 ^ 61 }
-    requires high { width < 2 ^ 31 }
-    requires few { (T.state sink.old).next + 1 + width < 2 ^ 62 }
-    ensures { HandsReasons (start_reasons (weights terms.now) width 0 base) result (T.state sink.old) (T.state sink.new) }
-{
-    take_first(alloc, terms, width, base, sink)?;
-    take_belows(alloc, terms, width, base, sink)
-}
-
-/// How a later row begins.
-fn take_row_start<T: StepSink>(
-    alloc: Global,
-    terms: &[Term],
-    width: usize,
-    base: u64,
-    row: usize,
-    sink: &mut T,
-) -> Result<(), SinkFault>
-    requires more { row + 1 < length terms.now }
-    requires low { base ≤ 2 ^ 61 }
-    requires high { (row + 1) * width < 2 ^ 31 }
-    requires few { (T.state sink.old).next + 2 < 2 ^ 62 }
-    ensures { HandsReasons (row_start_reasons (weights terms.now) width 0 base row) result (T.state sink.old) (T.state sink.new) }
-{
-    take_one(alloc, terms, width, base, row, sink)?;
-    take_keep(alloc, terms, width, base, row, 0, sink)
-}
-
-/// How it goes on.
-fn take_row_pairs<T: StepSink>(
-    alloc: Global,
-    terms: &[Term],
-    width: usize,
-    base: u64,
-    row: usize,
-    sink: &mut T,
-) -> Result<(), SinkFault>
-    requires some { 1 ≤ width }
-    requires more { row + 1 < length terms.now }
-    requires low { base ≤ 2 ^ 61 }
-    requires high { (row + 2) * width < 2 ^ 31 }
-    requires few { (T.state sink.old).next + 2 * width < 2 ^ 62 }
-    ensures { HandsReasons (flat_map (pair_reasons (weights terms.now) width 0 base row) (range_with_len 0 (width - 1))) result (T.state sink.old) (T.state sink.new) }
-{
-    for place in 0..width - 1 {
-        take_row_pair(alloc, terms, width, base, row, place, sink)?;
+    /// The constraints that give the clause at a place.
+    fn sources(&self, place: Place) -> Sources
+        requires { IsPlace (length self.now.grid.terms.now) self.now.grid.width place }
+        ensures { ids_of result ≡ sources_at self.now.grid.width self.now.id self.now.base place }
+    {
+        match place {
+            Place::Start => Sources::Single(self.missed(0, 0)),
+            Place::Below(j) => Sources::Single(self.reached(0, j)),
+            Place::One(i) => Sources::Single(self.missed(i + 1, 0)),
+            Place::Keep(i, j) if j <= i => Sources::Both(self.reached(i, j), self.missed(i + 1, j)),
+            Place::More(i, j) if j <= i => {
+                Sources::Both(self.reached(i, j), self.missed(i + 1, j + 1))
+            }
+            Place::Keep(i, j) | Place::More(i, j) => Sources::Single(self.reached(i, j)),
+            Place::Stop(i) => Sources::Both(self.reached(i, self.grid.width - 1), self.id),
+        }
     }
-    Ok(())
-}
 
-/// How it goes on and ends, where `id` is the constraint's.
-fn take_row_rest<T: StepSink>(
-    alloc: Global,
-    terms: &[Term],
-    width: usize,
-    id: u64,
-    base: u64,
-    row: usize,
-    sink: &mut T,
-) -> Result<(), SinkFault>
-    requires some { 1 ≤ width }
-    requires more { row + 1 < length terms.now }
-    requires low { base ≤ 2 ^ 61 }
-    requires high { (row + 2) * width < 2 ^ 31 }
-    requires few { (T.state sink.old).next + 2 * width < 2 ^ 62 }
-    ensures { HandsReasons (row_rest_reasons (weights terms.now) width 0 id base row) result (T.state sink.old) (T.state sink.new) }
-{
-    take_row_pairs(alloc, terms, width, base, row, sink)?;
-    take_stop(alloc, terms, width, id, base, row, sink)
-}
-
-/// The clauses of a later row.
-fn take_row<T: StepSink>(
-    alloc: Global,
-    terms: &[Term],
-    width: usize,
-    id: u64,
-    base: u64,
-    row: usize,
-    sink: &mut T,
-) -> Result<(), SinkFault>
-    requires some { 1 ≤ width }
-    requires more { row + 1 < length terms.now }
-    requires low { base ≤ 2 ^ 61 }
-    requires high { (row + 2) * width < 2 ^ 31 }
-    requires few { (T.state sink.old).next + 2 * width + 2 < 2 ^ 62 }
-    ensures { HandsReasons (row_reasons (weights terms.now) width 0 id base row) result (T.state sink.old) (T.state sink.new) }
-{
-    take_row_start(alloc, terms, width, base, row, sink)?;
-    take_row_rest(alloc, terms, width, id, base, row, sink)
-}
-
-/// The clauses of all later rows but the last one.
-fn take_rows<T: StepSink>(
-    alloc: Global,
-    terms: &[Term],
-    width: usize,
-    id: u64,
-    base: u64,
-    sink: &mut T,
-) -> Result<(), SinkFault>
-    requires some { 1 ≤ width }
-    requires two { 2 ≤ length terms.now }
-    requires low { base ≤ 2 ^ 61 }
-    requires high { (length terms.now - 1) * width < 2 ^ 31 }
-    requires few { (T.state sink.old).next + (2 * width + 1) * length terms.now < 2 ^ 62 }
-    ensures { HandsReasons (flat_map (row_reasons (weights terms.now) width 0 id base) (range_with_len 0 (length terms.now - 2))) result (T.state sink.old) (T.state sink.new) }
-{
-    let later = terms.len() - 2;
-    for row in 0..later {
-        take_row(alloc, terms, width, id, base, row, sink)?;
+    /// The terms that they have beside.
+    fn beside(&self, place: Place) -> &'a [Term]
+        requires { IsPlace (length self.now.grid.terms.now) self.now.grid.width place }
+        ensures { weights result.now ≡ beside_at (weights self.now.grid.terms.now) place }
+    {
+        let terms = self.grid.terms;
+        match place {
+            Place::Start => &terms[..0],
+            Place::Below(_) => &terms[..1],
+            Place::One(i) => &terms[..i + 1],
+            Place::Keep(i, j) => {
+                if j <= i {
+                    &terms[i + 1..i + 2]
+                } else {
+                    &terms[..i + 1]
+                }
+            }
+            Place::More(i, j) => { if j <= i { &terms[..0] } else { &terms[..i + 1] } }
+            Place::Stop(i) => &terms[i + 2..],
+        }
     }
-    Ok(())
-}
 
-/// The clauses of all later rows.
-fn take_later<T: StepSink>(
-    alloc: Global,
-    terms: &[Term],
-    width: usize,
-    id: u64,
-    base: u64,
-    sink: &mut T,
-) -> Result<(), SinkFault>
-    requires some { 1 ≤ width }
-    requires two { 2 ≤ length terms.now }
-    requires low { base ≤ 2 ^ 61 }
-    requires high { (length terms.now - 1) * width < 2 ^ 31 }
-    requires few { (T.state sink.old).next + (2 * width + 1) * length terms.now < 2 ^ 62 }
-    ensures { HandsReasons (later_reasons (weights terms.now) width 0 id base) result (T.state sink.old) (T.state sink.new) }
-{
-    take_rows(alloc, terms, width, id, base, sink)?;
-    take_stop(alloc, terms, width, id, base, terms.len() - 2, sink)
-}
+    /// Derives the clause at a place.
+    fn claim<T: StepSink>(&self, alloc: Global, place: Place, sink: &mut T) -> Result<(), SinkFault>
+        requires place { IsPlace (length self.now.grid.terms.now) self.now.grid.width place }
+        requires few { (T.state sink.old).next + 1 < 2 ^ 62 }
+        ensures { HandsReasons (reason_at (weights self.now.grid.terms.now) self.now.grid.width self.now.grid.first self.now.id self.now.base place ∷ []) result (T.state sink.old) (T.state sink.new) }
+    {
+        let beside = self.beside(place);
+        match self.sources(place) {
+            Sources::Single(one) => take_claim(alloc, &[one], beside, sink),
+            Sources::Both(one, other) => take_claim(alloc, &[one, other], beside, sink),
+        }
+    }
 
-/// All the clauses.
-fn take_clauses<T: StepSink>(
-    alloc: Global,
-    terms: &[Term],
-    width: usize,
-    id: u64,
-    base: u64,
-    sink: &mut T,
-) -> Result<(), SinkFault>
-    requires some { 1 ≤ width }
-    requires two { 2 ≤ length terms.now }
-    requires low { base ≤ 2 ^ 61 }
-    requires high { (length terms.now - 1) * width < 2 ^ 31 }
-    requires few { (T.state sink.old).next + 1 + width + (2 * width + 1) * length terms.now < 2 ^ 62 }
-    ensures { HandsReasons (counter_reasons (weights terms.now) width 0 id base) result (T.state sink.old) (T.state sink.new) }
-{
-    take_start(alloc, terms, width, base, sink)?;
-    take_later(alloc, terms, width, id, base, sink)
-}
+    /// Derives all the clauses.
+    fn claims<T: StepSink>(&self, alloc: Global, sink: &mut T) -> Result<(), SinkFault>
+        requires few { (T.state sink.old).next + counter_size (length self.now.grid.terms.now) self.now.grid.width < 2 ^ 62 }
+        ensures { HandsReasons (counter_reasons (weights self.now.grid.terms.now) self.now.grid.width self.now.grid.first self.now.id self.now.base) result (T.state sink.old) (T.state sink.new) }
+    {
+        for number in 0..self.grid.size() {
+            self.claim(alloc, self.grid.place(number), sink)?;
+        }
+        Ok(())
+    }
 
-/// Hands over the whole derivation, where `id` is the constraint's.
-pub fn derive_counter<T: StepSink>(
-    alloc: Global,
-    terms: &[Term],
-    width: usize,
-    first: u32,
-    id: u64,
-    sink: &mut T,
-) -> Result<(), SinkFault>
-    requires some { 1 ≤ width }
-    requires two { 2 ≤ length terms.now }
-    requires low { 1 ≤ first }
-    requires high { first + (length terms.now - 1) * width ≤ 2 ^ 31 }
-    requires light { weight (weights terms.now) < 2 ^ 100 }
-    requires short { length terms.now < 2 ^ 31 }
-    requires few { (T.state sink.old).next ≤ 2 ^ 61 }
-    ensures { HandsSteps (counter_steps (weights terms.now) width first id (T.state sink.old).next) result (T.state sink.old) (T.state sink.new) }
-{
-    let base = sink.next_id();
-    let count = ((terms.len() - 1) * width) as u64;
-    take_bits(alloc, terms, width, first, sink)?;
-    take_clauses(alloc, terms, width, id, base, sink)?;
-    take_deletions(alloc, base, 2, count, sink)
+    /// Says what the fresh variable with a number means.
+    fn meaning<T: StepSink>(
+        &self,
+        alloc: Global,
+        number: usize,
+        sink: &mut T,
+    ) -> Result<(), SinkFault>
+        requires within { number < counter_fresh (length self.now.grid.terms.now) self.now.grid.width }
+        requires few { (T.state sink.old).next + 1 < 2 ^ 62 }
+        ensures { HandsSteps (meaning_steps (T.state sink.old).next (counted_at (weights self.now.grid.terms.now) self.now.grid.width self.now.grid.first number ∷ [])) result (T.state sink.old) (T.state sink.new) }
+    {
+        let var = fresh_at(self.grid.first, number).var;
+        let seen = number / self.grid.width + 1;
+        let least = number % self.grid.width + 1;
+        take_meaning(alloc, var, &self.grid.terms[..seen], least as u128, sink)
+    }
+
+    /// Says what all of them mean.
+    fn meanings<T: StepSink>(&self, alloc: Global, sink: &mut T) -> Result<(), SinkFault>
+        requires few { (T.state sink.old).next ≤ 2 ^ 61 }
+        ensures { HandsSteps (meaning_steps (T.state sink.old).next (counts (weights self.now.grid.terms.now) self.now.grid.width self.now.grid.first)) result (T.state sink.old) (T.state sink.new) }
+    {
+        for number in 0..self.grid.fresh() {
+            self.meaning(alloc, number, sink)?;
+        }
+        Ok(())
+    }
+
+    /// The whole derivation.
+    pub fn derive<T: StepSink>(&self, alloc: Global, sink: &mut T) -> Result<(), SinkFault>
+        requires { self.now.base ≡ (T.state sink.old).next }
+        ensures { HandsSteps (counter_steps (weights self.now.grid.terms.now) self.now.grid.width self.now.grid.first self.now.id (T.state sink.old).next) result (T.state sink.old) (T.state sink.new) }
+    {
+        self.meanings(alloc, sink)?;
+        self.claims(alloc, sink)?;
+        take_deletions(alloc, self.base, 2, self.grid.fresh() as u64, sink)
+    }
 }

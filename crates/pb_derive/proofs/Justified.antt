@@ -94,13 +94,19 @@ apart_from_vars (t ∷ ts) h =
 
 -- ---- the whole
 
+-- the first constraint of a variable is known, and the second where its sum can reach the number
+pub record MeansAt (K : ℕ → Constraint → Type 0) (id : ℕ) (m : Meaning) : Type 0 where
+  pub first : K id (forward_of m)
+  pub second : m.least ≤ weight m.sum → K (id + 1) (reverse_of m)
+
+abbrev pub AllMeant : (ℕ → Constraint → Type 0) → ℕ → List Meaning → Type 0
+AllMeant K id ms = (k : ℕ) (m : Meaning) → IsMeaningAt ms k m → MeansAt K (id + 2 * k) m
+
 -- the meanings stand under their ids
-meant_known : (db : Database) (id : ℕ) (ms : List Meaning) → AreMeant db id ms → All (λ m. m.least ≤ weight m.sum) ms → MeaningsKnown (Knows db) id ms
-meant_known db id ms meant reached k m at =
-    let within = at.within in
-    let here = meant_at db id ms k m within meant in
-    let both : Knows db (id + 2 * k) (forward_of (get_or ms k m)) × Knows db (id + 2 * k + 1) (reverse_of (get_or ms k m)) = (here.first, here.second (reached k m within)) in
-    subst (λ (n : Meaning). Knows db (id + 2 * k) (forward_of n) × Knows db (id + 2 * k + 1) (reverse_of n)) at.here both
+all_meant : (db : Database) (id : ℕ) (ms : List Meaning) → AreMeant db id ms → AllMeant (Knows db) id ms
+all_meant db id ms meant k m at =
+    let here = meant_at db id ms k m at.within meant in
+    subst (MeansAt (Knows db) (id + 2 * k)) at.here (record { first = here.first; second = here.second })
 
 All-both : {X : Type 0} (P Q R : X → Type 0) (xs : List X) → ((x : X) → P x → Q x → R x) → All P xs → All Q xs → All R xs
 All-both P Q R xs both h k = λ i d within. both (get_or xs i d) (h i d within) (k i d within)
@@ -110,25 +116,33 @@ pub stands_later : (P : ℕ → Type 0) (db end : Database) (id : ℕ) (c : Cons
 stands_later P db end id c numbered later stands = later_knows P db end id c later (known_below db id c numbered stands) stands
 
 -- from a database with room, meanings in a row and clauses that are justified wherever the meanings stand
+pub fit_derives : (first fresh : ℕ) (db : Database) (ms : List Meaning) (rs : List Reason) → HasRoom first fresh db → AreInRow first ms → length ms ≡ fresh → All (IsFitMeaning first) ms
+    → All (λ r. All (λ l. l.var < first + fresh) r.clause) rs → All (IsWhole db.vars) rs
+    → ((end : Database) → IsLater (λ v. v < first + fresh) db end → AllMeant (Knows end) db.next ms → All (IsJustified (Knows end)) rs)
+    → Derives db (phases db.next ms (map by_reason rs)) (reason_clauses rs) (first + fresh)
+fit_derives first fresh db ms rs room row count fit names whole justified =
+    let P : ℕ → Type 0 = λ v. v < first + fresh in
+    let vars = room.vars in
+    let named_terms : All (λ (x : Meaning). All (λ (t : Weighted). P t.lit.var) x.sum) ms =
+    All-weaker (IsFitMeaning first) (λ (x : Meaning). All (λ (t : Weighted). P t.lit.var) x.sum)
+    (λ x h. All-weaker (λ (t : Weighted). t.lit.var < first) (λ (t : Weighted). P t.lit.var) (λ t k. let less : t.lit.var < first + fresh = omega arith in less) x.sum h.below) ms fit in
+    let are = row_meanings P db first ms row fit room.original (omega (arith, vars, count))
+    (λ v low high. let less : v < first + fresh = omega (arith, high, count) in (less, room.unnamed v low less)) named_terms in
+    let reasoned : (end : Database) → IsLater P db end → AreMeant end db.next ms → All (IsReason (Knows end) end.vars) rs = λ end later meant.
+    let still : All (IsWhole end.vars) rs = subst (λ (v : ℕ). All (IsWhole v) rs) (sym later.vars) whole in
+    All-both (IsWhole end.vars) (IsJustified (Knows end)) (IsReason (Knows end) end.vars) rs
+    (λ r w h. record { some = w.some; sources = h.0; found = h.1; follows = h.2; vars_known = w.vars_known }) still (justified end later (all_meant end db.next ms meant)) in
+    let ran = reasoned_ran P db ms rs (meanings_ran P db ms room.numbered are) room.numbered names reasoned in
+    swept_derives db (phases db.next ms (map by_reason rs)) (reason_clauses rs) (first + fresh) (2 * length ms + length (map by_reason rs)) room.numbered ran.all
+
+-- the same where each sum can reach its number
 pub room_derives : (first fresh : ℕ) (db : Database) (ms : List Meaning) (rs : List Reason) → HasRoom first fresh db → AreInRow first ms → length ms ≡ fresh → All (IsReached first) ms
     → All (λ r. All (λ l. l.var < first + fresh) r.clause) rs → All (IsWhole db.vars) rs
     → ((end : Database) → IsLater (λ v. v < first + fresh) db end → MeaningsKnown (Knows end) db.next ms → All (IsJustified (Knows end)) rs)
     → Derives db (phases db.next ms (map by_reason rs)) (reason_clauses rs) (first + fresh)
 room_derives first fresh db ms rs room row count fit names whole justified =
-    let P : ℕ → Type 0 = λ v. v < first + fresh in
-    let vars = room.vars in
-    let named_terms : All (λ (x : Meaning). All (λ (t : Weighted). P t.lit.var) x.sum) ms =
-    All-weaker (IsReached first) (λ (x : Meaning). All (λ (t : Weighted). P t.lit.var) x.sum)
-    (λ x h. All-weaker (λ (t : Weighted). t.lit.var < first) (λ (t : Weighted). P t.lit.var) (λ t k. let less : t.lit.var < first + fresh = omega arith in less) x.sum h.below) ms fit in
-    let are = row_meanings P db first ms row (All-weaker (IsReached first) (IsFitMeaning first) (reached_fits first) ms fit) room.original (omega (arith, vars, count))
-    (λ v low high. let less : v < first + fresh = omega (arith, high, count) in (less, room.unnamed v low less)) named_terms in
-    let reasoned : (end : Database) → IsLater P db end → AreMeant end db.next ms → All (IsReason (Knows end) end.vars) rs = λ end later meant.
-    let known = meant_known end db.next ms meant (All-weaker (IsReached first) (λ (x : Meaning). x.least ≤ weight x.sum) (λ x h. h.reached) ms fit) in
-    let still : All (IsWhole end.vars) rs = subst (λ (v : ℕ). All (IsWhole v) rs) (sym later.vars) whole in
-    All-both (IsWhole end.vars) (IsJustified (Knows end)) (IsReason (Knows end) end.vars) rs
-    (λ r w h. record { some = w.some; sources = h.0; found = h.1; follows = h.2; vars_known = w.vars_known }) still (justified end later known) in
-    let ran = reasoned_ran P db ms rs (meanings_ran P db ms room.numbered are) room.numbered names reasoned in
-    swept_derives db (phases db.next ms (map by_reason rs)) (reason_clauses rs) (first + fresh) (2 * length ms + length (map by_reason rs)) room.numbered ran.all
+    fit_derives first fresh db ms rs room row count (All-weaker (IsReached first) (IsFitMeaning first) (reached_fits first) ms fit) names whole
+    (λ end later given. justified end later (λ k x at. let here = given k x at in (here.first, here.second (subst (λ (y : Meaning). y.least ≤ weight y.sum) at.here (fit k x at.within).reached))))
 
 pub room_of : (m : BoundedSum) (first fresh id : ℕ) (db : Database) → IsReadyFor m first fresh id db → HasRoom first fresh db
 room_of m first fresh id db ready = record { original = ready.original; vars = ready.vars; numbered = ready.numbered; unnamed = ready.unnamed }
@@ -141,3 +155,12 @@ pub justified_derives : (m : BoundedSum) (first fresh id : ℕ) (db : Database) 
 justified_derives m first fresh id db ms rs ready row count fit names whole justified =
     room_derives first fresh db ms rs (room_of m first fresh id db ready) row count fit names whole
     (λ end later known. justified (Knows end) known (stands_later (λ v. v < first + fresh) db end id (as_constraint m) ready.numbered later ready.stands))
+
+-- the same where the sums may not reach their numbers
+pub meant_derives : (m : BoundedSum) (first fresh id : ℕ) (db : Database) (ms : List Meaning) (rs : List Reason) → IsReadyFor m first fresh id db → AreInRow first ms → length ms ≡ fresh → All (IsFitMeaning first) ms
+    → All (λ r. All (λ l. l.var < first + fresh) r.clause) rs → All (IsWhole db.vars) rs
+    → ((K : ℕ → Constraint → Type 0) → AllMeant K db.next ms → K id (as_constraint m) → All (IsJustified K) rs)
+    → Derives db (phases db.next ms (map by_reason rs)) (reason_clauses rs) (first + fresh)
+meant_derives m first fresh id db ms rs ready row count fit names whole justified =
+    fit_derives first fresh db ms rs (room_of m first fresh id db ready) row count fit names whole
+    (λ end later given. justified (Knows end) given (stands_later (λ v. v < first + fresh) db end id (as_constraint m) ready.numbered later ready.stands))

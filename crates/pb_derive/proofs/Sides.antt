@@ -10,12 +10,13 @@ use Rattle.pb_base.proofs.LiteralLemmas.{lit_value-negated, negated-negated, sam
 use Rattle.pb_base.proofs.Members.{Contains-nil, Contains-here, Contains-there, Contains-cons_cases, from_among}
 use Rattle.pb_norm.specs.Constraints.{Weighted, Constraint, weight, value, term_value}
 use Rattle.pb_norm.specs.Addition.{coef_of}
+use Rattle.pb_norm.specs.BoundedSums.{vars_of}
 use Rattle.pb_norm.specs.Reduction.{opposite}
 use Rattle.pb_norm.proofs.AdditionValues.{value-cons, coef_of-cons}
 use Rattle.pb_norm.proofs.AdditionSizes.{weight-cons}
 use Rattle.pb_norm.proofs.Extremes.{value-le-weight}
-use Rattle.pb_derive.proofs.Closing.{coef_in-cons}
-use Rattle.pb_derive.proofs.Opposites.{weight-opposite, value-opposite, coef_of-opposite}
+use Rattle.pb_derive.proofs.Closing.{degrees-cons, weight_in-cons, value_in-cons, coef_in-cons}
+use Rattle.pb_derive.proofs.Opposites.{weight-opposite, value-opposite, coef_of-opposite, coef_of-absent, coef_of-head, value-head, cases_listed}
 use Rattle.pb_derive.specs.Meanings.{Meaning, forward_of, reverse_of, spare}
 use Rattle.pb_derive.specs.Reasons.{Reason}
 use Rattle.pb_derive.specs.laws.Follows.{coef_in, value_in, degrees, weight_in, AllFalse, FollowsFrom}
@@ -66,6 +67,13 @@ is_false a clause h l m = All-contains (λ (l : Lit). lit_value a l ≡ false) c
 
 abbrev pub reason : List Lit → List ℕ → List ℕ → Reason
 reason clause ids weakened = record { clause = clause; ids = ids; weakened = weakened }
+
+-- ---- a sum that is known to reach a number where the clause is false
+
+pub record Known (clause : List Lit) (ts : List Weighted) (u : ℕ) (sources : List Constraint) (weakened : List ℕ) : Type 0 where
+  pub within : (l : Lit) → is_among clause l ≡ true ⊎ (Contains weakened l.var ⊎ (coef_in sources l + coef_of ts (negated l) ≤ coef_in sources (negated l) + coef_of ts l))
+  pub apart : (l : Lit) → Contains clause l → ¬ Contains weakened l.var
+  pub short : (a : Assignment) → AllFalse a clause → value_in a sources + u ≤ degrees sources + value a ts
 
 -- ---- a side: a sum that is known to reach a number where the clause is false
 
@@ -138,8 +146,8 @@ abbrev pub headed : Lit → ℕ → List Weighted → Constraint
 headed x k ts = record { terms = record { coef = k; lit = x } ∷ ts; degree = k }
 
 -- where its literal, which the clause has, is false, the sum reaches the number
-pub side_headed : (clause : List Lit) (x : Lit) (k : ℕ) (ts : List Weighted) → k ≤ weight ts → is_among clause x ≡ true → Side clause ts k (headed x k ts ∷ []) []
-side_headed clause x k ts le among =
+pub known_headed : (clause : List Lit) (x : Lit) (k : ℕ) (ts : List Weighted) → is_among clause x ≡ true → Known clause ts k (headed x k ts ∷ []) []
+known_headed clause x k ts among =
     let head : Weighted = record { coef = k; lit = x } in
     let c = headed x k ts in
     record {
@@ -154,10 +162,13 @@ side_headed clause x k ts le among =
           let off : lit_value a x ≡ false = is_false a clause h x (from_among clause x among) in
           let nothing : term_value a head ≡ 0 = cond-false (lit_value a x) k 0 off in
           omega (arith, value_in-one a c, degrees-one c, value-cons a head ts);
-      reachable = le;
-      light = omega (arith, weight_in-one c, weight-cons head ts);
-      low = omega (arith, degrees-one c);
     }
+
+pub side_headed : (clause : List Lit) (x : Lit) (k : ℕ) (ts : List Weighted) → k ≤ weight ts → is_among clause x ≡ true → Side clause ts k (headed x k ts ∷ []) []
+side_headed clause x k ts le among =
+    let c = headed x k ts in
+    let known = known_headed clause x k ts among in
+    record { within = known.within; apart = known.apart; short = known.short; reachable = le; light = omega (arith, weight_in-one c, weight-cons (record { coef = k; lit = x }) ts); low = omega (arith, degrees-one c) }
 
 -- a variable that means it, which is true where the clause, which has its negation, is false
 pub side_fresh : (clause : List Lit) (m : Meaning) → m.least ≤ weight m.sum → is_among clause (negated (positive_of m.var)) ≡ true → Side clause m.sum m.least (forward_of m ∷ []) []
@@ -260,38 +271,96 @@ follows_pair clause ts us u v ss rs ws xs m left right sum le among light ids =
     subst (λ (vs : List Weighted). FollowsFrom (ss ++ (rs ++ headed (positive_of m.var) (spare m) (map opposite vs) ∷ [])) (reason clause ids (ws ++ xs))) (sym sum)
     (follows_headed clause (positive_of m.var) (spare m) ts us u v ss rs ws xs left right (omega arith) (omega arith) among light ids)
 
--- a side that reaches more than the bound, so that the sum's own constraint is broken
-pub follows_root : (clause : List Lit) (ts : List Weighted) (bound u : ℕ) (ss : List Constraint) → Side clause ts u ss [] → bound < u → bound ≤ weight ts → weight ts < 2 ^ 100
-    → (ids : List ℕ) → FollowsFrom (ss ++ record { terms = map opposite ts; degree = weight ts - bound } ∷ []) (reason clause ids [])
-follows_root clause ts bound u ss side above within light ids =
-    let last : Constraint = record { terms = map opposite ts; degree = weight ts - bound } in
-    let all = ss ++ last ∷ [] in
-    let back : (l : Lit) → coef_of last.terms (negated l) ≡ coef_of ts l = λ l. coef_of-opposite ts (negated l) ∙ ap (coef_of ts) (negated-negated l) in
+pub known_of : {clause : List Lit} {ts : List Weighted} {u : ℕ} {ss : List Constraint} {ws : List ℕ} → Side clause ts u ss ws → Known clause ts u ss ws
+known_of side = record { within = side.within; apart = side.apart; short = side.short }
+
+-- two are one
+pub known_both : (clause : List Lit) (ts us : List Weighted) (u v : ℕ) (ss rs : List Constraint) (ws xs : List ℕ) → Known clause ts u ss ws → Known clause us v rs xs → Known clause (ts ++ us) (u + v) (ss ++ rs) (ws ++ xs)
+known_both clause ts us u v ss rs ws xs left right =
+    let coefs : (l : Lit) → coef_of (ts ++ us) l ≡ coef_of ts l + coef_of us l = λ l. sum_by-append {X = Weighted} (λ t. cond (is_same t.lit l) t.coef 0) ts us in
+    let sources : (l : Lit) → coef_in (ss ++ rs) l ≡ coef_in ss l + coef_in rs l = λ l. sum_by-append {X = Constraint} (λ s. coef_of s.terms l) ss rs in
     record {
       within = λ l.
-          let Goal : Type 0 = is_among clause l ≡ true ⊎ (Contains [] l.var ⊎ (coef_in all l ≤ coef_in all (negated l))) in
+          let Goal : Type 0 = is_among clause l ≡ true ⊎ (Contains (ws ++ xs) l.var ⊎ (coef_in (ss ++ rs) l + coef_of (ts ++ us) (negated l) ≤ coef_in (ss ++ rs) (negated l) + coef_of (ts ++ us) l)) in
+          elim (left.within l) as (λ _. Goal) [
+            | inl here ↦ inl here
+            | inr more ↦ elim more as (λ _. Goal) [
+              | inl gone ↦ inr (inl (Contains-append_left ws xs l.var gone))
+              | inr one ↦ elim (right.within l) as (λ _. Goal) [
+                | inl here ↦ inl here
+                | inr rest ↦ elim rest as (λ _. Goal) [
+                  | inl gone ↦ inr (inl (Contains-append_right ws xs l.var gone))
+                  | inr two ↦ inr (inr (omega (arith, one, two, sources l, sources (negated l), coefs l, coefs (negated l))))
+                ]
+              ]
+            ]
+          ];
+      apart = λ l h gone. elim (Contains-append_cases ws xs l.var gone) [ inl first ↦ left.apart l h first | inr second ↦ right.apart l h second ];
+      short = λ a h. omega (arith, left.short a h, right.short a h, value-append a ts us, sum_by-append {X = Constraint} (λ s. value a s.terms) ss rs, sum_by-append {X = Constraint} (λ s. s.degree) ss rs);
+    }
+
+-- one that reaches more than the bound, so that the sum's own constraint is broken
+pub follows_bound : (clause : List Lit) (ts : List Weighted) (bound u : ℕ) (ss : List Constraint) (ws : List ℕ) → Known clause ts u ss ws → bound < u → bound ≤ weight ts → weight ts < 2 ^ 100
+    → weight_in ss ≤ 2 * weight ts → degrees ss ≤ weight ts → (ids : List ℕ) → FollowsFrom (ss ++ record { terms = map opposite ts; degree = weight ts - bound } ∷ []) (reason clause ids ws)
+follows_bound clause ts bound u ss ws side above within light heavy low ids =
+    let last : Constraint = record { terms = map opposite ts; degree = weight ts - bound } in
+    let all = ss ++ last ∷ [] in
+    let own : (l : Lit) → coef_in all l ≡ coef_in ss l + coef_of ts (negated l) = λ l. omega (arith, sum_by-append {X = Constraint} (λ s. coef_of s.terms l) ss (last ∷ []), coef_in-cons l last [], coef_of-opposite ts l) in
+    let back : (l : Lit) → coef_in all (negated l) ≡ coef_in ss (negated l) + coef_of ts l = λ l. own (negated l) ∙ ap (λ (k : Lit). coef_in ss (negated l) + coef_of ts k) (negated-negated l) in
+    record {
+      within = λ l.
+          let Goal : Type 0 = is_among clause l ≡ true ⊎ (Contains ws l.var ⊎ (coef_in all l ≤ coef_in all (negated l))) in
           elim (side.within l) as (λ _. Goal) [
             | inl here ↦ inl here
             | inr more ↦ elim more as (λ _. Goal) [
               | inl gone ↦ inr (inl gone)
-              | inr one ↦ inr (inr (omega (
-                arith,
-                one,
-                coef_in-append l ss (last ∷ []),
-                coef_in-append (negated l) ss (last ∷ []),
-                coef_in-one l last,
-                coef_in-one (negated l) last,
-                coef_of-opposite ts l,
-                back l,
-              )))
+              | inr one ↦ inr (inr (omega (arith, one, own l, back l)))
             ]
           ];
       apart = side.apart;
-      short = λ a h.
-          let one = side.short a h in
-          omega (arith, one, above, within, value_in-append a ss (last ∷ []), value_in-one a last, value-opposite a ts, degrees-append ss (last ∷ []), degrees-one last);
-      weight_fits = omega (arith, side.light, light, weight_in-append ss (last ∷ []), weight_in-one last, weight-opposite ts);
-      degree_fits = omega (arith, side.low, light, degrees-append ss (last ∷ []), degrees-one last);
+      short = λ a h. omega (
+        arith,
+        side.short a h,
+        above,
+        within,
+        sum_by-append {X = Constraint} (λ s. value a s.terms) ss (last ∷ []),
+        value_in-cons a last [],
+        value-opposite a ts,
+        sum_by-append {X = Constraint} (λ s. s.degree) ss (last ∷ []),
+        degrees-cons last [],
+      );
+      weight_fits = omega (arith, heavy, light, sum_by-append {X = Constraint} (λ s. weight s.terms) ss (last ∷ []), weight_in-cons last [], weight-opposite ts);
+      degree_fits = omega (arith, low, light, sum_by-append {X = Constraint} (λ s. s.degree) ss (last ∷ []), degrees-cons last []);
+    }
+
+-- a side that reaches more than the bound
+pub follows_root : (clause : List Lit) (ts : List Weighted) (bound u : ℕ) (ss : List Constraint) → Side clause ts u ss [] → bound < u → bound ≤ weight ts → weight ts < 2 ^ 100
+    → (ids : List ℕ) → FollowsFrom (ss ++ record { terms = map opposite ts; degree = weight ts - bound } ∷ []) (reason clause ids [])
+follows_root clause ts bound u ss side above within light ids = follows_bound clause ts bound u ss [] (known_of side) above within light side.light side.low ids
+
+-- a sum that cannot reach its number: the first constraint alone
+pub follows_unreached : (clause : List Lit) (m : Meaning) → weight m.sum < m.least → m.least + weight m.sum < 2 ^ 100 → is_among clause (negated (record { var = m.var; positive = true })) ≡ true
+    → ((l : Lit) → Contains clause l → ¬ Contains (vars_of m.sum) l.var) → (ids : List ℕ) → FollowsFrom (forward_of m ∷ []) (reason clause ids (vars_of m.sum))
+follows_unreached clause m above light among apart ids =
+    let x : Lit = record { var = m.var; positive = false } in
+    let z : Weighted = record { coef = m.least; lit = x } in
+    let s : Constraint = forward_of m in
+    record {
+      within = λ l.
+          let Goal : Type 0 = (is_among clause l ≡ true) ⊎ Contains (vars_of m.sum) l.var ⊎ (coef_in (s ∷ []) l ≤ coef_in (s ∷ []) (negated l)) in
+          elim (cases_Bool (is_same x l)) as (λ _. Goal) [
+            | inl same ↦ inl (subst (λ (k : Lit). is_among clause k ≡ true) (same_lit x l same) among)
+            | inr other ↦ elim (cases_listed (vars_of m.sum) l.var) as (λ _. Goal) [
+              | inl goes ↦ inr (inl goes)
+              | inr stays ↦ inr (inr (omega (arith, coef_in-cons l s [], coef_of-head z m.sum l other, coef_of-absent m.sum l stays)))
+            ]
+          ];
+      apart = apart;
+      short = λ a falses.
+          let off : lit_value a x ≡ false = All-contains (λ (l : Lit). lit_value a l ≡ false) clause x falses (from_among clause x among) in
+          omega (arith, value_in-cons a s [], degrees-cons s [], value-head a z m.sum off, value-le-weight a m.sum, above);
+      weight_fits = omega (arith, weight_in-cons s [], weight-cons z m.sum, light);
+      degree_fits = omega (arith, degrees-cons s [], light);
     }
 
 -- ---- a sum with something before

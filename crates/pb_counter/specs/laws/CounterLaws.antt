@@ -1,10 +1,8 @@
 -- The laws of a sequential counter.
-use Rattle.std.proofs.Common.{◌≡◌, ◌<◌, ◌≤◌, ◌+◌, ◌*◌, ◌-◌, ◌++◌, ℕ, true, false, List, [], ◌∷◌, length, refl, ap, ◌∙◌, subst, arith, inl, inr, length-append}
-use Rattle.std.specs.Prelude.{Contains, map, All}
-use Rattle.std.specs.List.{range_with_len, flat_map}
+use Rattle.std.proofs.Common.{◌≡◌, ◌<◌, ◌≤◌, ◌+◌, ◌*◌, ◌-◌, ℕ, true, false, List, [], ◌∷◌, length, ap, sym, ◌∙◌, subst, arith, inl, inr}
+use Rattle.std.specs.Prelude.{Contains, All}
 use Rattle.std.proofs.lemmas.List.{length-map, get_or_default}
 use Rattle.std.proofs.Math.Nat.{mul-le-mul_right}
-use Rattle.std.proofs.lemmas.List.FromFn.{length-map-range_with_len}
 use Rattle.std.proofs.lemmas.List.Elements.{All-map, All-from_recursion, Contains-get_or}
 use Rattle.pb_base.specs.declared.literal.Lit.{Lit}
 use Rattle.pb_base.specs.Literals.{Assignment, negated, lit_value, IsModel, AgreeBelow, is_among}
@@ -18,11 +16,14 @@ use Rattle.pb_base.proofs.Members.{Contains-map, Contains-nil, Contains-here, Co
 use Rattle.pb_family.specs.Fresh.{positive_of, literal_at}
 use Rattle.pb_family.specs.Families.{VarsBelow, IsNamed, NamesOnly}
 use Rattle.pb_family.proofs.UnitSums.{unit_sum, unit_coefficient, more_than_bound}
-use Rattle.pb_family.proofs.FlatRanges.{length-flat_range}
 use Rattle.pb_family.proofs.Models.{sound_from_sums}
 use Rattle.pb_family.proofs.Extended.{extended, extended_below}
-use Rattle.pb_counter.specs.Counter.{count_bit, starts, starts_below, counts_one, keeps, counts_more, stops, row_pair, counter_row, counter_clauses, counter_fresh, counter_size}
-use Rattle.pb_counter.specs.laws.CounterPlaces.{from_counter_parts}
+use Rattle.pb_counter.specs.declared.place.Place.{Place}
+use Rattle.pb_counter.specs.declared.place.Place.TheVariants.{Start, Below, One, Keep, More, Stop}
+use Rattle.pb_counter.specs.Counter.{count_bit, clause_at, places, counter_clauses, counter_fresh, counter_size}
+use Rattle.pb_counter.specs.Order.{IsPlace}
+use Rattle.pb_counter.specs.laws.CounterPlaces.{each_place}
+use Rattle.pb_counter.specs.laws.CounterOrder.{count_places}
 use Rattle.pb_counter.specs.laws.CounterPropagation.{refuted, pushed}
 use Rattle.pb_counter.specs.laws.CounterModels.{counting, satisfied}
 
@@ -85,23 +86,32 @@ var_of_term (t ∷ ts) k h =
       | inr rest ↦ Contains-there t.lit.var (vars_of ts) k.var (var_of_term ts k rest)
     ]
 
-names_at : (ts : List Weighted) (width first : ℕ) → 1 ≤ width → 2 ≤ length ts → NamesOnly ts first (counter_fresh (length ts) width) (counter_clauses (lits_of ts) width first)
-names_at ts width first some two =
-    let ms = lits_of ts in
-    let Named : Lit → Type 0 = IsNamed ts first (counter_fresh (length ts) width) in
-    let size : length ms ≡ length ts = length-map ts (λ t. t.lit) in
-    let own = λ (k : ℕ) (h : k < length ms). let named : Named (negated (literal_at ms k)) = inl (var_of_term ts (literal_at ms k) (Contains-get_or ms k (positive_of 0) h)) in named in
-    let bit = λ (i j : ℕ) (h : i + 1 < length ms) (low : j < width). let named : Named (count_bit first width i j) = inr (omega arith, bit_within (length ts) width first i j (omega arith) low) in named in
-    from_counter_parts (All Named) ms width first some (omega arith) (record {
-      start = All-from_recursion Named (starts ms width first) (own 0 (omega arith), (bit 0 0 (omega arith) (omega arith), tt));
-      below = λ j low h. All-from_recursion Named (starts_below width first j) (bit 0 j (omega arith) h, tt);
-      row = λ i h. record {
-        one = All-from_recursion Named (counts_one ms width first i) (own (i + 1) (omega arith), (bit (i + 1) 0 (omega arith) (omega arith), tt));
-        keep = λ j low. All-from_recursion Named (keeps width first i j) (bit i j (omega arith) low, (bit (i + 1) j (omega arith) low, tt));
-        more = λ j low. All-from_recursion Named (counts_more ms width first i j) (own (i + 1) (omega arith), (bit i j (omega arith) (omega arith), (bit (i + 1) (j + 1) (omega arith) low, tt)));
-      };
-      stop = λ i h. All-from_recursion Named (stops ms width first i) (own (i + 1) (omega arith), (bit i (width - 1) (omega arith) (omega arith), tt));
-    })
+module _ (ts : List Weighted) (width first : ℕ) (some : 1 ≤ width) (two : 2 ≤ length ts) where
+  abbrev ms : List Lit
+  ms = lits_of ts
+
+  abbrev Named : Lit → Type 0
+  Named = IsNamed ts first (counter_fresh (length ts) width)
+
+  size : length ms ≡ length ts
+  size = length-map ts (λ t. t.lit)
+
+  own : (k : ℕ) → k < length ms → Named (negated (literal_at ms k))
+  own k h = inl (var_of_term ts (literal_at ms k) (Contains-get_or ms k (positive_of 0) h))
+
+  bit : (i j : ℕ) → i + 1 < length ms → j < width → Named (count_bit first width i j)
+  bit i j h low = inr (omega arith, bit_within (length ts) width first i j (omega (arith, size, h)) low)
+
+  pub named : (p : Place) → IsPlace (length ts) width p → All Named (clause_at ms width first p)
+  named Start h = All-from_recursion Named (clause_at ms width first Start) (own 0 (omega (arith, size, two)), (bit 0 0 (omega (arith, size, two)) some, tt))
+  named (Below j) h = All-from_recursion Named (clause_at ms width first (Below j)) (bit 0 j (omega (arith, size, two)) h.1, tt)
+  named (One i) h = All-from_recursion Named (clause_at ms width first (One i)) (own (i + 1) (omega (arith, size, h)), (bit (i + 1) 0 (omega (arith, size, h)) some, tt))
+  named (Keep i j) h = All-from_recursion Named (clause_at ms width first (Keep i j)) (bit i j (omega (arith, size, h.0)) h.1, (bit (i + 1) j (omega (arith, size, h.0)) h.1, tt))
+  named (More i j) h = All-from_recursion Named (clause_at ms width first (More i j)) (own (i + 1) (omega (arith, size, h.0)), (bit i j (omega (arith, size, h.0)) (omega (arith, h.1)), (bit (i + 1) (j + 1) (omega (arith, size, h.0)) h.1, tt)))
+  named (Stop i) h = All-from_recursion Named (clause_at ms width first (Stop i)) (own (i + 1) (omega (arith, size, h)), (bit i (width - 1) (omega (arith, size, h)) (omega (arith, some)), tt))
+
+  names_at : NamesOnly ts first (counter_fresh (length ts) width) (counter_clauses ms width first)
+  names_at = All-map (All Named) (clause_at ms width first) (places (length ms) width) (subst (λ (k : ℕ). All (λ p. All Named (clause_at ms width first p)) (places k width)) (sym size) (each_place (λ p. All Named (clause_at ms width first p)) (length ts) width some two named))
 
 pub counter_names : (c : BoundedSum) → all_weigh 1 c.terms ≡ true → IsProper c → (first : ℕ) → NamesOnly c.terms first (counter_fresh (length c.terms) c.bound) (counter_clauses (lits_of c.terms) c.bound first)
 counter_names c units proper first =
@@ -109,30 +119,10 @@ counter_names c units proper first =
     let from = proper.bound_from in
     names_at c.terms c.bound first from (omega arith)
 
-length-counter_row : (ms : List Lit) (width first i : ℕ) → 1 ≤ width → length (counter_row ms width first i) ≡ 2 * width + 1
-length-counter_row ms width first i some =
-    omega (
-      arith,
-      length-append (flat_map (row_pair ms width first i) (range_with_len 0 (width - 1))) (stops ms width first i ∷ []),
-      length-flat_range (row_pair ms width first i) 2 0 (width - 1) (λ j. refl),
-    )
-
-sizes : (n m k rows count : ℕ) → n ≡ m + 2 → 1 ≤ k → rows ≡ m * (2 * k + 1) → count ≡ 1 + ((k - 1) + (rows + 1)) → count ≡ counter_size n k
-sizes n m k rows count more some filled h = rw more (omega arith)
-
-size_at : (ms : List Lit) (width first : ℕ) → 1 ≤ width → 2 ≤ length ms → length (counter_clauses ms width first) ≡ counter_size (length ms) width
-size_at ms width first some two =
-    let lows = map (starts_below width first) (range_with_len 1 (width - 1)) in
-    let rows = flat_map (counter_row ms width first) (range_with_len 0 (length ms - 2)) in
-    let last = stops ms width first (length ms - 2) ∷ [] in
-    let low : length lows ≡ width - 1 = length-map-range_with_len (starts_below width first) 1 (width - 1) in
-    let row : length rows ≡ (length ms - 2) * (2 * width + 1) = length-flat_range (counter_row ms width first) (2 * width + 1) 0 (length ms - 2) (λ i. length-counter_row ms width first i some) in
-    let whole : length (lows ++ (rows ++ last)) ≡ length lows + (length rows + 1) = omega (arith, length-append lows (rows ++ last), length-append rows last) in
-    sizes (length ms) (length ms - 2) width (length rows) (length (counter_clauses ms width first)) (omega arith) some row (omega arith)
-
 pub counter_counts : (c : BoundedSum) → all_weigh 1 c.terms ≡ true → IsProper c → (first : ℕ) → length (counter_clauses (lits_of c.terms) c.bound first) ≡ counter_size (length c.terms) c.bound
 counter_counts c units proper first =
     let size : length (lits_of c.terms) ≡ length c.terms = length-map c.terms (λ t. t.lit) in
     let more = more_than_bound c units proper in
     let from = proper.bound_from in
-    size_at (lits_of c.terms) c.bound first from (omega arith) ∙ ap (λ (n : ℕ). counter_size n c.bound) size
+    length-map (places (length (lits_of c.terms)) c.bound) (clause_at (lits_of c.terms) c.bound first)
+    ∙ count_places (length (lits_of c.terms)) c.bound (omega arith) from ∙ ap (λ (n : ℕ). counter_size n c.bound) size

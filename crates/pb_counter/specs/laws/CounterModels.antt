@@ -2,6 +2,7 @@
 use Rattle.std.proofs.Common.{◌≡◌, ◌<◌, ◌≤◌, ◌+◌, ◌*◌, ◌-◌, ◌/◌, ◌%◌, ℕ, Bool, true, false, not, ltb, List, length, sym, ap, ◌∙◌, arith, inl, inr}
 use Rattle.std.specs.Prelude.{All, count_by}
 use Rattle.std.proofs.lemmas.Bool.{cases_Bool, lt-ltb, le-ltb, ltb-true}
+use Rattle.std.proofs.lemmas.List.Elements.{All-map}
 use Rattle.std.proofs.lemmas.Nat.{div-mul-add, mod-mul-add}
 use Rattle.pb_base.specs.declared.literal.Lit.{Lit}
 use Rattle.pb_base.specs.Literals.{negated, lit_value, clause_value, IsModel}
@@ -9,8 +10,11 @@ use Rattle.pb_base.proofs.LiteralLemmas.{lit_value-negated}
 use Rattle.pb_family.specs.Fresh.{positive_of, literal_at}
 use Rattle.pb_family.proofs.ShortClauses.{unless_one, when_one, when_two}
 use Rattle.pb_family.proofs.Extended.{extended, extended_fresh, extended_literal}
-use Rattle.pb_counter.specs.Counter.{count_bit, counter_clauses}
-use Rattle.pb_counter.specs.laws.CounterPlaces.{from_counter_parts}
+use Rattle.pb_counter.specs.declared.place.Place.{Place}
+use Rattle.pb_counter.specs.declared.place.Place.TheVariants.{Start, Below, One, Keep, More, Stop}
+use Rattle.pb_counter.specs.Counter.{count_bit, clause_at, places, counter_clauses}
+use Rattle.pb_counter.specs.Order.{IsPlace}
+use Rattle.pb_counter.specs.laws.CounterPlaces.{each_place}
 use Rattle.pb_counter.specs.laws.SeenLiterals.{seen, seen_none, seen_yes, seen_no, seen_within}
 
 -- the variable at (i, j) is true where more than j literals are true up to place i
@@ -58,22 +62,21 @@ module _ (v : ℕ → Bool) (ms : List Lit) (width first : ℕ) (below : All (λ
   pub satisfied : 1 ≤ width → 2 ≤ length ms → count_by (lit_value v) ms ≤ width → IsModel w (counter_clauses ms width first)
   satisfied some two few =
       let none = seen_none (lit_value v) ms in
-      from_counter_parts (λ c. clause_value w c ≡ true) ms width first some two (record {
-        start = when_one w (literal_at ms 0) (count_bit first width 0 0) (λ here. let one = counts 0 (omega arith) here in bit_on 0 0 (omega arith) (omega arith));
-        below = λ j low h. let one = grows 0 (omega arith) in unless_one w (count_bit first width 0 j) (bit_off 0 j (omega arith) (omega arith));
-        row = λ i h. record {
-          one = when_one w (literal_at ms (i + 1)) (count_bit first width (i + 1) 0) (λ here. let one = counts (i + 1) (omega arith) here in bit_on (i + 1) 0 (omega arith) (omega arith));
-          keep = λ j low. when_one w (count_bit first width i j) (count_bit first width (i + 1) j) (λ counted.
-              let before = bit_says i j low counted in
-              let more = grows (i + 1) (omega arith) in
-              bit_on (i + 1) j low (omega arith));
-          more = λ j low. when_two w (literal_at ms (i + 1)) (count_bit first width i j) (count_bit first width (i + 1) (j + 1)) (λ here counted.
-              let one = counts (i + 1) (omega arith) here in
-              let before = bit_says i j (omega arith) counted in
-              bit_on (i + 1) (j + 1) low (omega arith));
-        };
-        stop = λ i h. when_one w (literal_at ms (i + 1)) (negated (count_bit first width i (width - 1))) (λ here.
-            let one = counts (i + 1) (omega arith) here in
-            let within = seen_within (lit_value v) ms ((i + 1) + 1) in
-            lit_value-negated w (count_bit first width i (width - 1)) ∙ ap not (bit_off i (width - 1) (omega arith) (omega arith)));
-      })
+      All-map (λ (c : List Lit). clause_value w c ≡ true) (clause_at ms width first) (places (length ms) width) (each_place (λ p. clause_value w (clause_at ms width first p) ≡ true) (length ms) width some two (holds none))
+    where
+      holds : seen (lit_value v) ms 0 ≡ 0 → (p : Place) → IsPlace (length ms) width p → clause_value w (clause_at ms width first p) ≡ true
+      holds none Start h = when_one w (literal_at ms 0) (count_bit first width 0 0) (λ here. let one = counts 0 (omega arith) here in bit_on 0 0 (omega arith) (omega arith))
+      holds none (Below j) h = let one = grows 0 (omega arith) in unless_one w (count_bit first width 0 j) (bit_off 0 j (omega (arith, h.1)) (omega (arith, h.0)))
+      holds none (One i) h = when_one w (literal_at ms (i + 1)) (count_bit first width (i + 1) 0) (λ here. let one = counts (i + 1) (omega arith) here in bit_on (i + 1) 0 (omega arith) (omega arith))
+      holds none (Keep i j) h = when_one w (count_bit first width i j) (count_bit first width (i + 1) j) (λ counted.
+          let before = bit_says i j h.1 counted in
+          let more = grows (i + 1) (omega (arith, h.0)) in
+          bit_on (i + 1) j h.1 (omega arith))
+      holds none (More i j) h = when_two w (literal_at ms (i + 1)) (count_bit first width i j) (count_bit first width (i + 1) (j + 1)) (λ here counted.
+          let one = counts (i + 1) (omega (arith, h.0)) here in
+          let before = bit_says i j (omega (arith, h.1)) counted in
+          bit_on (i + 1) (j + 1) h.1 (omega arith))
+      holds none (Stop i) h = when_one w (literal_at ms (i + 1)) (negated (count_bit first width i (width - 1))) (λ here.
+          let one = counts (i + 1) (omega arith) here in
+          let within = seen_within (lit_value v) ms ((i + 1) + 1) in
+          lit_value-negated w (count_bit first width i (width - 1)) ∙ ap not (bit_off i (width - 1) (omega arith) (omega arith)))

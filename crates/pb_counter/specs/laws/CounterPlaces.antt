@@ -1,88 +1,78 @@
--- The clauses of a sequential counter, by their places.
-use Rattle.std.proofs.Common.{◌≡◌, ◌<◌, ◌≤◌, ◌+◌, ◌-◌, ◌++◌, ℕ, List, [], ◌∷◌, length, sym, subst, arith, inl, inr}
+-- The places of a counter's clauses.
+use Rattle.std.proofs.Common.{◌≡◌, ◌<◌, ◌≤◌, ◌+◌, ◌-◌, ◌++◌, ℕ, zero, suc, List, [], ◌∷◌, subst, arith, inl, inr}
 use Rattle.std.specs.Prelude.{map, All}
 use Rattle.std.specs.List.{range_with_len, flat_map}
-use Rattle.std.proofs.lemmas.Bool.{cases_lt, cases_eq}
+use Rattle.std.proofs.lemmas.Bool.{cases_lt}
 use Rattle.std.proofs.lemmas.List.Elements.{All-cons, All-nil, All-head, All-tail, All-append}
-use Rattle.pb_base.specs.declared.literal.Lit.{Lit}
 use Rattle.pb_base.proofs.Members.{All-append_both}
 use Rattle.pb_family.proofs.Ranges.{range_each, at_range}
 use Rattle.pb_family.proofs.FlatRanges.{flat_each, at_flat}
-use Rattle.pb_counter.specs.Counter.{starts, starts_below, counts_one, keeps, counts_more, stops, row_pair, counter_row, counter_clauses}
+use Rattle.pb_counter.specs.declared.place.Place.{Place}
+use Rattle.pb_counter.specs.declared.place.Place.TheVariants.{Start, Below, One, Keep, More, Stop}
+use Rattle.pb_counter.specs.Counter.{row_places, places}
+use Rattle.pb_counter.specs.Order.{IsPlace}
 
-pub record RowModel (P : List Lit → Type 0) (ms : List Lit) (width first i : ℕ) : Type 0 where
-  pub one : P (counts_one ms width first i)
-  pub keep : (j : ℕ) → j < width → P (keeps width first i j)
-  pub more : (j : ℕ) → j + 1 < width → P (counts_more ms width first i j)
+-- two clauses for one more place of a row
+abbrev pair_places : ℕ → ℕ → List Place
+pair_places i j = More i j ∷ Keep i (j + 1) ∷ []
 
-pub record CounterParts (P : List Lit → Type 0) (ms : List Lit) (width first : ℕ) : Type 0 where
-  pub start : P (starts ms width first)
-  pub below : (j : ℕ) → 1 ≤ j → j < width → P (starts_below width first j)
-  pub row : (i : ℕ) → i + 2 < length ms → RowModel P ms width first i
-  pub stop : (i : ℕ) → i + 1 < length ms → P (stops ms width first i)
+abbrev pairs : ℕ → ℕ → List Place
+pairs width i = flat_map (pair_places i) (range_with_len 0 (width - 1))
 
--- the clauses of a row, and the last one of it
-row_model : (P : List Lit → Type 0) (ms : List Lit) (width first i : ℕ) → All P (counter_row ms width first i) → RowModel P ms width first i × P (stops ms width first i)
-row_model P ms width first i all =
-    let pairs = flat_map (row_pair ms width first i) (range_with_len 0 (width - 1)) in
-    let last = stops ms width first i ∷ [] in
-    let rest = All-tail P (counts_one ms width first i) (keeps width first i 0 ∷ (pairs ++ last)) all in
-    let keep_0 = All-head P (keeps width first i 0) (pairs ++ last) rest in
-    let both = All-append_both P pairs last (All-tail P (keeps width first i 0) (pairs ++ last) rest) in
-    let pair = λ (j : ℕ) (h : j + 1 < width). at_flat P (row_pair ms width first i) 0 (width - 1) both.0 j (omega arith) (omega arith) in (
-      record {
-        one = All-head P (counts_one ms width first i) (keeps width first i 0 ∷ (pairs ++ last)) all;
-        keep = λ j h.
-            elim (cases_eq j 0) as (λ _. P (keeps width first i j)) [
-              | inl none ↦ subst (λ (k : ℕ). P (keeps width first i k)) (sym none) keep_0
-              | inr some ↦
-                  let place : (j - 1) + 1 ≡ j = omega arith in
-                  subst (λ (k : ℕ). P (keeps width first i k)) place
-                  (All-head P (keeps width first i ((j - 1) + 1)) [] (All-tail P (counts_more ms width first i (j - 1)) (keeps width first i ((j - 1) + 1) ∷ []) (pair (j - 1) (omega arith))))
-            ];
-        more = λ j h. All-head P (counts_more ms width first i j) (keeps width first i (j + 1) ∷ []) (pair j h);
-      },
-      All-head P (stops ms width first i) [] both.1,
-    )
+abbrev belows : ℕ → List Place
+belows width = map Below (range_with_len 1 (width - 1))
 
-pub counter_parts : (P : List Lit → Type 0) (ms : List Lit) (width first : ℕ) → All P (counter_clauses ms width first) → CounterParts P ms width first
-counter_parts P ms width first all =
-    let lows = map (starts_below width first) (range_with_len 1 (width - 1)) in
-    let rows = flat_map (counter_row ms width first) (range_with_len 0 (length ms - 2)) in
-    let last = stops ms width first (length ms - 2) ∷ [] in
-    let front = All-append_both P lows (rows ++ last) (All-tail P (starts ms width first) (lows ++ (rows ++ last)) all) in
-    let back = All-append_both P rows last front.1 in
-    let row_at = λ (i : ℕ) (h : i + 2 < length ms). row_model P ms width first i (at_flat P (counter_row ms width first) 0 (length ms - 2) back.0 i (omega arith) (omega arith)) in
-    record {
-      start = All-head P (starts ms width first) (lows ++ (rows ++ last)) all;
-      below = λ j low h. at_range P (starts_below width first) 1 (width - 1) front.0 j low (omega arith);
-      row = λ i h. (row_at i h).0;
-      stop = λ i h.
-          elim (cases_lt (i + 2) (length ms)) as (λ _. P (stops ms width first i)) [
-            | inl inside ↦ (row_at i inside).1
-            | inr end ↦ subst (λ (k : ℕ). P (stops ms width first k)) (let e : length ms - 2 ≡ i = omega arith in e) (All-head P (stops ms width first (length ms - 2)) [] back.1)
-          ];
-    }
+abbrev rows : ℕ → ℕ → List Place
+rows n width = flat_map (row_places width) (range_with_len 0 (n - 2))
 
-from_row_model : (P : List Lit → Type 0) (ms : List Lit) (width first i : ℕ) → 1 ≤ width → RowModel P ms width first i → P (stops ms width first i) → All P (counter_row ms width first i)
-from_row_model P ms width first i some row stop =
-    let pairs = flat_map (row_pair ms width first i) (range_with_len 0 (width - 1)) in
-    let last = stops ms width first i ∷ [] in
-    All-cons P (counts_one ms width first i) (keeps width first i 0 ∷ (pairs ++ last)) row.one
-    (All-cons P (keeps width first i 0) (pairs ++ last) (row.keep 0 (omega arith))
-    (All-append P pairs last
-    (flat_each P (row_pair ms width first i) 0 (width - 1) (λ j low high.
-    All-cons P (counts_more ms width first i j) (keeps width first i (j + 1) ∷ []) (row.more j (omega arith)) (All-cons P (keeps width first i (j + 1)) [] (row.keep (j + 1) (omega arith)) (All-nil P))))
-    (All-cons P (stops ms width first i) [] stop (All-nil P))))
+-- what holds of all proper places holds of those of a counter
+pub each_place : (P : Place → Type 0) (n width : ℕ) → 1 ≤ width → 2 ≤ n → ((p : Place) → IsPlace n width p → P p) → All P (places n width)
+each_place P n width some two each =
+    All-cons P Start (belows width ++ (rows n width ++ Stop (n - 2) ∷ [])) (each Start tt)
+    (All-append P (belows width) (rows n width ++ Stop (n - 2) ∷ [])
+    (range_each P Below 1 (width - 1) (λ j low high. each (Below j) (omega arith, omega arith)))
+    (All-append P (rows n width) (Stop (n - 2) ∷ [])
+    (flat_each P (row_places width) 0 (n - 2) (λ i low high. row i (omega arith)))
+    (All-cons P (Stop (n - 2)) [] (each (Stop (n - 2)) (omega arith)) (All-nil P))))
+  where
+    row : (i : ℕ) → i + 2 < n → All P (row_places width i)
+    row i within =
+        All-cons P (One i) (Keep i 0 ∷ (pairs width i ++ Stop i ∷ [])) (each (One i) (omega arith))
+        (All-cons P (Keep i 0) (pairs width i ++ Stop i ∷ []) (each (Keep i 0) (omega arith, omega arith))
+        (All-append P (pairs width i) (Stop i ∷ [])
+        (flat_each P (pair_places i) 0 (width - 1) (λ j low high.
+        All-cons P (More i j) (Keep i (j + 1) ∷ []) (each (More i j) (omega arith, omega arith)) (All-cons P (Keep i (j + 1)) [] (each (Keep i (j + 1)) (omega arith, omega arith)) (All-nil P))))
+        (All-cons P (Stop i) [] (each (Stop i) (omega arith)) (All-nil P))))
 
-pub from_counter_parts : (P : List Lit → Type 0) (ms : List Lit) (width first : ℕ) → 1 ≤ width → 2 ≤ length ms → CounterParts P ms width first → All P (counter_clauses ms width first)
-from_counter_parts P ms width first some two parts =
-    let lows = map (starts_below width first) (range_with_len 1 (width - 1)) in
-    let rows = flat_map (counter_row ms width first) (range_with_len 0 (length ms - 2)) in
-    let last = stops ms width first (length ms - 2) ∷ [] in
-    All-cons P (starts ms width first) (lows ++ (rows ++ last)) parts.start
-    (All-append P lows (rows ++ last)
-    (range_each P (starts_below width first) 1 (width - 1) (λ j low high. parts.below j low (omega arith)))
-    (All-append P rows last
-    (flat_each P (counter_row ms width first) 0 (length ms - 2) (λ i low high. from_row_model P ms width first i some (parts.row i (omega arith)) (parts.stop i (omega arith))))
-    (All-cons P (stops ms width first (length ms - 2)) [] (parts.stop (length ms - 2) (omega arith)) (All-nil P))))
+-- and the other way round
+module _ (P : Place → Type 0) (n width : ℕ) (all : All P (places n width)) where
+  front : All P (belows width) × All P (rows n width ++ Stop (n - 2) ∷ [])
+  front = All-append_both P (belows width) (rows n width ++ Stop (n - 2) ∷ []) (All-tail P Start (belows width ++ (rows n width ++ Stop (n - 2) ∷ [])) all)
+
+  back : All P (rows n width) × All P (Stop (n - 2) ∷ [])
+  back = All-append_both P (rows n width) (Stop (n - 2) ∷ []) front.1
+
+  row_all : (i : ℕ) → i + 2 < n → All P (row_places width i)
+  row_all i within = at_flat P (row_places width) 0 (n - 2) back.0 i (omega arith) (omega arith)
+
+  later : (i : ℕ) → i + 2 < n → All P (Keep i 0 ∷ (pairs width i ++ Stop i ∷ []))
+  later i within = All-tail P (One i) (Keep i 0 ∷ (pairs width i ++ Stop i ∷ [])) (row_all i within)
+
+  rest : (i : ℕ) → i + 2 < n → All P (pairs width i) × All P (Stop i ∷ [])
+  rest i within = All-append_both P (pairs width i) (Stop i ∷ []) (All-tail P (Keep i 0) (pairs width i ++ Stop i ∷ []) (later i within))
+
+  pair_at : (i j : ℕ) → i + 2 < n → j + 1 < width → All P (pair_places i j)
+  pair_at i j within inside = at_flat P (pair_places i) 0 (width - 1) (rest i within).0 j (omega arith) (omega arith)
+
+  pub at_place : (p : Place) → IsPlace n width p → P p
+  at_place Start h = All-head P Start (belows width ++ (rows n width ++ Stop (n - 2) ∷ [])) all
+  at_place (Below j) h = at_range P Below 1 (width - 1) front.0 j h.0 (omega (arith, h.0, h.1))
+  at_place (One i) h = All-head P (One i) (Keep i 0 ∷ (pairs width i ++ Stop i ∷ [])) (row_all i h)
+  at_place (Keep i zero) h = All-head P (Keep i 0) (pairs width i ++ Stop i ∷ []) (later i h.0)
+  at_place (Keep i (suc j)) h = All-head P (Keep i (suc j)) [] (All-tail P (More i j) (Keep i (suc j) ∷ []) (subst (λ (k : ℕ). All P (More i j ∷ Keep i k ∷ [])) (let e : j + 1 ≡ suc j = omega arith in e) (pair_at i j h.0 (omega (arith, h.1)))))
+  at_place (More i j) h = All-head P (More i j) (Keep i (j + 1) ∷ []) (pair_at i j h.0 h.1)
+  at_place (Stop i) h =
+      elim (cases_lt (i + 2) n) as (λ _. P (Stop i)) [
+        | inl inside ↦ All-head P (Stop i) [] (rest i inside).1
+        | inr end ↦ subst (λ (k : ℕ). P (Stop k)) (let e : n - 2 ≡ i = omega (arith, h, end) in e) (All-head P (Stop (n - 2)) [] back.1)
+      ]

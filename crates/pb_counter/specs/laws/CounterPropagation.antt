@@ -1,17 +1,21 @@
 -- What unit propagation derives over the clauses of a sequential counter.
-use Rattle.std.proofs.Common.{◌≡◌, ◌<◌, ◌≤◌, ◌+◌, ◌-◌, ℕ, true, false, List, length, refl, sym, ap, subst, arith, inl, inr}
+use Rattle.std.proofs.Common.{◌≡◌, ◌<◌, ◌≤◌, ◌+◌, ◌-◌, ℕ, true, false, List, length, get_or, refl, sym, ap, subst, arith, inl, inr}
 use Rattle.std.specs.Prelude.{Contains, count_by}
 use Rattle.std.proofs.lemmas.Bool.{cases_Bool, cases_lt, cases_eq}
 use Rattle.pb_base.specs.declared.literal.Lit.{Lit}
 use Rattle.pb_base.specs.Literals.{negated, is_among}
 use Rattle.pb_norm.proofs.Derived.{Derived, Refuted, second_of, first_of_two, refuted_pair}
 use Rattle.pb_norm.proofs.Derived.Derived.{by_given}
-use Rattle.pb_base.proofs.Members.{from_among}
+use Rattle.std.proofs.lemmas.List.Elements.{Contains-get_or}
+use Rattle.pb_base.proofs.Members.{from_among, Contains-map}
 use Rattle.pb_family.specs.Fresh.{literal_at}
-use Rattle.pb_family.proofs.FlatRanges.{All-itself, counting_up, counting_down}
+use Rattle.pb_family.proofs.FlatRanges.{counting_up, counting_down}
 use Rattle.pb_family.proofs.ShortClauses.{left_over, derived_left, twice}
-use Rattle.pb_counter.specs.Counter.{count_bit, counts_more, counter_clauses}
-use Rattle.pb_counter.specs.laws.CounterPlaces.{CounterParts, counter_parts}
+use Rattle.pb_counter.specs.declared.place.Place.{Place}
+use Rattle.pb_counter.specs.declared.place.Place.TheVariants.{Start, One, Keep, More, Stop}
+use Rattle.pb_counter.specs.Counter.{count_bit, clause_at, places, counter_clauses}
+use Rattle.pb_counter.specs.Order.{IsPlace}
+use Rattle.pb_counter.specs.laws.CounterPlaces.{at_place}
 use Rattle.pb_counter.specs.laws.SeenLiterals.{seen, seen_none, seen_yes, seen_no, seen_all}
 
 module _ (ms : List Lit) (width first : ℕ) (given : List Lit) where
@@ -30,8 +34,8 @@ module _ (ms : List Lit) (width first : ℕ) (given : List Lit) where
   abbrev total : ℕ
   total = count_by (is_among given) ms
 
-  listed : CounterParts (Contains cs) ms width first
-  listed = counter_parts (Contains cs) ms width first (All-itself cs)
+  listed : (p : Place) → IsPlace (length ms) width p → Contains cs (clause_at ms width first p)
+  listed = at_place (λ (p : Place). Contains cs (clause_at ms width first p)) (length ms) width (λ i d within. Contains-map (clause_at ms width first) (places (length ms) width) (get_or (places (length ms) width) i d) (Contains-get_or (places (length ms) width) i d within))
 
   held : (k : ℕ) → is_among given (at k) ≡ true → Derived cs given (negated (negated (at k)))
   held k h = twice cs given (at k) (by_given (from_among given (at k) h))
@@ -45,25 +49,24 @@ module _ (ms : List Lit) (width first : ℕ) (given : List Lit) where
         | inl here ↦
             let one = seen_yes (is_among given) ms 0 (omega arith) here in
             subst (λ (k : ℕ). Derived cs given (bit 0 k)) (let e : 0 ≡ j = omega arith in e)
-            (second_of cs given (negated (at 0)) (bit 0 0) listed.start (held 0 here))
+            (second_of cs given (negated (at 0)) (bit 0 0) (listed Start tt) (held 0 here))
         | inr fails ↦ let same = seen_no (is_among given) ms 0 (omega arith) fails in absurd (omega arith)
       ])
       (λ i before j within low counted.
-      let row = listed.row i (omega arith) in
       elim (cases_Bool (is_among given (at (i + 1)))) as (λ _. Derived cs given (bit (i + 1) j)) [
         | inl here ↦
             let one = seen_yes (is_among given) ms (i + 1) (omega arith) here in
             elim (cases_eq j 0) as (λ _. Derived cs given (bit (i + 1) j)) [
-              | inl none ↦ subst (λ (k : ℕ). Derived cs given (bit (i + 1) k)) (sym none) (second_of cs given (negated (at (i + 1))) (bit (i + 1) 0) row.one (held (i + 1) here))
+              | inl none ↦ subst (λ (k : ℕ). Derived cs given (bit (i + 1) k)) (sym none) (second_of cs given (negated (at (i + 1))) (bit (i + 1) 0) (listed (One i) (omega arith)) (held (i + 1) here))
               | inr some ↦
                   subst (λ (k : ℕ). Derived cs given (bit (i + 1) k)) (let e : (j - 1) + 1 ≡ j = omega arith in e)
-                  (derived_left cs given _ (left_over cs given (counts_more ms width first i (j - 1)) (bit (i + 1) ((j - 1) + 1)) (row.more (j - 1) (omega arith))
+                  (derived_left cs given _ (left_over cs given (clause_at ms width first (More i (j - 1))) (bit (i + 1) ((j - 1) + 1)) (listed (More i (j - 1)) (omega arith, omega arith))
                   (2, omega arith, refl)
                   (inr (held (i + 1) here), (inr (twice cs given (bit i (j - 1)) (before (j - 1) (omega arith) (omega arith) (omega arith))), (inl refl, tt)))))
             ]
         | inr fails ↦
             let same = seen_no (is_among given) ms (i + 1) (omega arith) fails in
-            second_of cs given (negated (bit i j)) (bit (i + 1) j) (row.keep j low) (twice cs given (bit i j) (before j (omega arith) low (omega arith)))
+            second_of cs given (negated (bit i j)) (bit (i + 1) j) (listed (Keep i j) (omega arith, low)) (twice cs given (bit i j) (before j (omega arith) low (omega arith)))
       ])
 
   pub refuted : width < total → 1 ≤ width → Refuted cs given
@@ -82,7 +85,7 @@ module _ (ms : List Lit) (width first : ℕ) (given : List Lit) where
               | inr some_k ↦
                   let place : k ≡ (k - 1) + 1 = omega arith in
                   let same = ap so_far place in
-                  refuted_pair cs given (negated (at ((k - 1) + 1))) (negated (bit (k - 1) (width - 1))) (listed.stop (k - 1) (omega arith))
+                  refuted_pair cs given (negated (at ((k - 1) + 1))) (negated (bit (k - 1) (width - 1))) (listed (Stop (k - 1)) (omega arith))
                   (held ((k - 1) + 1) (subst (λ (n : ℕ). is_among given (at n) ≡ true) place here))
                   (twice cs given (bit (k - 1) (width - 1)) (up (k - 1) (width - 1) (omega arith) (omega arith) (omega arith)))
             ]
@@ -101,11 +104,11 @@ module _ (ms : List Lit) (width first : ℕ) (given : List Lit) where
             elim (cases_lt (j + 1) width) as (λ _. Derived cs given (negated (bit i j))) [
               | inr end ↦
                   subst (λ (k : ℕ). Derived cs given (negated (bit i k))) (let e : width - 1 ≡ j = omega arith in e)
-                  (second_of cs given (negated (at (i + 1))) (negated (bit i (width - 1))) (listed.stop i (omega arith)) (held (i + 1) here))
+                  (second_of cs given (negated (at (i + 1))) (negated (bit i (width - 1))) (listed (Stop i) (omega arith)) (held (i + 1) here))
               | inl inside ↦ elim (cases_lt (i + 2) (length ms)) as (λ _. Derived cs given (negated (bit i j))) [
                 | inr end ↦ let last = ap so_far (let e : (i + 1) + 1 ≡ length ms = omega arith in e) in absurd (omega arith)
                 | inl more ↦
-                    derived_left cs given _ (left_over cs given (counts_more ms width first i j) (negated (bit i j)) ((listed.row i more).more j inside)
+                    derived_left cs given _ (left_over cs given (clause_at ms width first (More i j)) (negated (bit i j)) (listed (More i j) (more, inside))
                     (1, omega arith, refl)
                     (inr (held (i + 1) here), (inl refl, (inr (after (omega arith) (j + 1) inside (omega arith)), tt))))
               ]
@@ -114,7 +117,7 @@ module _ (ms : List Lit) (width first : ℕ) (given : List Lit) where
             let same = seen_no (is_among given) ms (i + 1) (omega arith) fails in
             elim (cases_lt (i + 2) (length ms)) as (λ _. Derived cs given (negated (bit i j))) [
               | inr end ↦ let last = ap so_far (let e : (i + 1) + 1 ≡ length ms = omega arith in e) in absurd (omega arith)
-              | inl more ↦ first_of_two cs given (negated (bit i j)) (bit (i + 1) j) ((listed.row i more).keep j low) (after (omega arith) j low (omega arith))
+              | inl more ↦ first_of_two cs given (negated (bit i j)) (bit (i + 1) j) (listed (Keep i j) (more, low)) (after (omega arith) j low (omega arith))
             ]
       ])
       i (omega arith)
@@ -129,7 +132,7 @@ module _ (ms : List Lit) (width first : ℕ) (given : List Lit) where
             let new_0 = subst (λ (n : ℕ). is_among given (at n) ≡ false) start new in
             let same = seen_no (is_among given) ms 0 (omega arith) new_0 in
             subst (λ (n : ℕ). Derived cs given (negated (at n))) (sym start)
-            (first_of_two cs given (negated (at 0)) (bit 0 0) listed.start (down 0 (omega arith) 0 (omega arith) (omega arith)))
+            (first_of_two cs given (negated (at 0)) (bit 0 0) (listed Start tt) (down 0 (omega arith) 0 (omega arith) (omega arith)))
         | inr later ↦
             let i = p - 1 in
             let place : i + 1 ≡ p = omega arith in
@@ -138,19 +141,18 @@ module _ (ms : List Lit) (width first : ℕ) (given : List Lit) where
             subst (λ (n : ℕ). Derived cs given (negated (at n))) place
             (elim (cases_lt (so_far (i + 1)) width) as (λ _. Derived cs given (negated (at (i + 1)))) [
               | inr full ↦
-                  first_of_two cs given (negated (at (i + 1))) (negated (bit i (width - 1))) (listed.stop i (omega arith))
+                  first_of_two cs given (negated (at (i + 1))) (negated (bit i (width - 1))) (listed (Stop i) (omega arith))
                   (twice cs given (bit i (width - 1)) (up i (width - 1) (omega arith) (omega arith) (omega arith)))
               | inl room ↦ elim (cases_lt (i + 2) (length ms)) as (λ _. Derived cs given (negated (at (i + 1)))) [
                 | inr end ↦ let last = ap so_far (let e : (i + 1) + 1 ≡ length ms = omega arith in e) in absurd (omega arith)
                 | inl more ↦
-                    let row = listed.row i more in
                     let off = down (i + 1) (omega arith) (so_far (i + 1)) room (omega arith) in
                     elim (cases_eq (so_far (i + 1)) 0) as (λ _. Derived cs given (negated (at (i + 1)))) [
-                      | inl empty ↦ first_of_two cs given (negated (at (i + 1))) (bit (i + 1) 0) row.one (subst (λ (n : ℕ). Derived cs given (negated (bit (i + 1) n))) empty off)
+                      | inl empty ↦ first_of_two cs given (negated (at (i + 1))) (bit (i + 1) 0) (listed (One i) more) (subst (λ (n : ℕ). Derived cs given (negated (bit (i + 1) n))) empty off)
                       | inr counted ↦
                           let j = so_far (i + 1) - 1 in
                           let next : so_far (i + 1) ≡ j + 1 = omega arith in
-                          derived_left cs given _ (left_over cs given (counts_more ms width first i j) (negated (at (i + 1))) (row.more j (omega arith)) (0, omega arith, refl)
+                          derived_left cs given _ (left_over cs given (clause_at ms width first (More i j)) (negated (at (i + 1))) (listed (More i j) (more, omega arith)) (0, omega arith, refl)
                           (inl refl, (inr (twice cs given (bit i j) (up i j (omega arith) (omega arith) (omega arith))), (inr (subst (λ (n : ℕ). Derived cs given (negated (bit (i + 1) n))) next off), tt))))
                     ]
               ]

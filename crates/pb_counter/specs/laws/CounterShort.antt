@@ -1,18 +1,17 @@
 -- The lines of a counter's derivation are within their limits, and short.
-use Rattle.std.proofs.Common.{◌≡◌, ◌<◌, ◌≤◌, ◌+◌, ◌*◌, ◌-◌, ◌/◌, ◌%◌, ◌^◌, ℕ, Bool, true, false, cond, List, [], ◌∷◌, ◌++◌, length, take, drop, ap, sym, subst, refl, arith, leb, get_or, length-take, length-drop}
+use Rattle.std.proofs.Common.{◌≡◌, ◌<◌, ◌≤◌, ◌+◌, ◌*◌, ◌-◌, ◌/◌, ◌%◌, ◌^◌, ℕ, true, List, [], ◌∷◌, length, take, ap, subst, arith, leb, get_or, length-take}
 use Rattle.std.specs.Prelude.{map, All}
-use Rattle.std.specs.List.{range_with_len, flat_map}
 use Rattle.std.proofs.lemmas.Nat.{div_below, mod_below}
-use Rattle.std.proofs.Math.Nat.{mul-le-mul_left}
-use Rattle.std.proofs.lemmas.List.{length-map, get_or-map}
+use Rattle.std.proofs.Math.Nat.{mul-le-mul_left, mul-le-mul_right}
+use Rattle.std.proofs.lemmas.List.{length-map}
 use Rattle.std.proofs.lemmas.List.FromFn.{length-map-range_with_len}
-use Rattle.std.proofs.lemmas.List.Elements.{All-cons, All-nil, All-append, All-weaker, All-map, All-drop, All-take, All-contains_itself}
+use Rattle.std.proofs.lemmas.List.Elements.{All-cons, All-nil, All-weaker, All-map, All-take, All-contains_itself}
 use Rattle.pb_base.specs.declared.literal.Lit.{Lit}
 use Rattle.pb_base.specs.declared.literal.Term.{Term}
 use Rattle.pb_norm.specs.Constraints.{Weighted, weighted, weights}
 use Rattle.pb_family.specs.Derivations.{AreOriginal, MayStart}
-use Rattle.pb_norm.specs.BoundedSums.{BoundedSum, IsProper, vars_of}
-use Rattle.pb_norm.specs.Reduction.{lits_of, all_weigh}
+use Rattle.pb_norm.specs.BoundedSums.{BoundedSum, IsProper}
+use Rattle.pb_norm.specs.Reduction.{all_weigh}
 use Rattle.pb_steps.specs.declared.step.Step.{Step}
 use Rattle.pb_steps.specs.Sayable.{IsId, IsVariable, IsSayable}
 use Rattle.pb_derive.specs.Meanings.{Meaning}
@@ -21,18 +20,26 @@ use Rattle.pb_derive.specs.Short.{AreShort}
 use Rattle.pb_derive.proofs.Sayable.{IsSlimMeaning, phases_sayable}
 use Rattle.pb_derive.proofs.ShortReasons.{IsSlimReason, reasons_sayable, reasons_short, gone_few}
 use Rattle.pb_derive.proofs.UnitTerms.{weight-ones}
-use Rattle.pb_family.specs.Fresh.{positive_of, literal_at}
-use Rattle.pb_family.proofs.FlatRanges.{flat_each}
 use Rattle.pb_family.proofs.Ranges.{range_each}
 use Rattle.pb_family.proofs.UnitSums.{unit_coefficient, more_than_bound}
-use Rattle.pb_counter.specs.Counter.{counter_fresh, counter_size}
-use Rattle.pb_counter.specs.CounterSteps.{counted_at, counts, reached_id, missed_id, start_reason, below_reason, one_reason, keep_reason, more_reason, stop_reason, pair_reasons, row_reasons, counter_reasons, counter_steps}
-use Rattle.pb_counter.specs.laws.CounterDerives.{counter_reason_clauses, place_below}
+use Rattle.pb_counter.specs.declared.place.Place.{Place}
+use Rattle.pb_counter.specs.declared.place.Place.TheVariants.{Start, Below, One, Keep, More, Stop}
+use Rattle.pb_counter.specs.Counter.{places, counter_fresh, counter_size}
+use Rattle.pb_counter.specs.CounterSteps.{counted_at, counts, reached_id, missed_id, sources_at, beside_at, reason_at, counter_reasons, counter_steps}
+use Rattle.pb_counter.specs.Order.{IsPlace}
 use Rattle.pb_counter.specs.laws.CounterLaws.{counter_counts}
+use Rattle.pb_counter.specs.laws.CounterPlaces.{each_place}
+use Rattle.pb_counter.specs.laws.CounterReasons.{counter_reason_clauses, pick, beside_all, beside_few, sources_some, sources_two}
+
+-- a place in the grid is below its size
+place_below : (i j width rows : ℕ) → i < rows → j < width → i * width + j < rows * width
+place_below i j width rows h k = let up : (i + 1) * width ≤ rows * width = mul-le-mul_right width (omega arith) in omega arith
 
 -- there are at most three clauses for each variable
-size_small : (p k f : ℕ) → f ≡ p * k → 1 ≤ k → counter_size (p + 1) k ≤ 3 * f
-size_small p k f is some = let each : p * 1 ≤ p * k = mul-le-mul_left p some in omega (arith, is, each)
+pub size_small : (n k : ℕ) → 2 ≤ n → 1 ≤ k → counter_size n k ≤ 3 * counter_fresh n k
+size_small n k two some =
+    let e : n - 1 + 1 ≡ n = omega (arith, two) in
+    subst (λ (m : ℕ). counter_size m k ≤ 3 * counter_fresh n k) e (let each : (n - 1) * 1 ≤ (n - 1) * k = mul-le-mul_left (n - 1) some in omega (arith, each))
 
 pub few_terms : (ts : List Term) → length ts < 2 ^ 31 → length (weights ts) < 2 ^ 31
 few_terms ts few = omega (arith, length-map ts weighted, few)
@@ -78,9 +85,6 @@ module _ (m : BoundedSum) (units : all_weigh 1 m.terms ≡ true) (proper : IsPro
   variables : All (λ t. IsVariable t.lit.var) ts
   variables = All-weaker (λ (t : Weighted). (1 ≤ t.lit.var) × (t.lit.var < first)) (λ (t : Weighted). IsVariable t.lit.var) (λ t h. (h.0, (let b : t.lit.var < 2 ^ 31 = omega (arith, h.1, room) in b))) ts original
 
-  vars_variables : (us : List Weighted) → All (λ t. IsVariable t.lit.var) us → All IsVariable (vars_of us)
-  vars_variables us h = All-map IsVariable (λ (t : Weighted). t.lit.var) us h
-
   -- ---- the meanings
 
   meanings_slim : All IsSlimMeaning (counts ts width first)
@@ -101,9 +105,6 @@ module _ (m : BoundedSum) (units : all_weigh 1 m.terms ≡ true) (proper : IsPro
 
   -- ---- the reasons
 
-  Slim : Reason → Type 0
-  Slim r = IsSlimReason n r
-
   one_id : (i : ℕ) → IsId i → All IsId (i ∷ [])
   one_id i h = All-cons IsId i [] h (All-nil IsId)
 
@@ -119,93 +120,29 @@ module _ (m : BoundedSum) (units : all_weigh 1 m.terms ≡ true) (proper : IsPro
   missed_is : (i j : ℕ) → i < n - 1 → j < width → IsId (missed_id width next i j)
   missed_is i j row place = let inside = place_below i j width (n - 1) row place in ((let from : 1 ≤ missed_id width next i j = omega arith in from), (let below : missed_id width next i j < 2 ^ 63 = omega (arith, inside, room, few) in below))
 
-  -- by one constraint, without the variables of the first terms
-  alone_slim : (clause : List Lit) (i k : ℕ) → IsId i → Slim (record { clause = clause; ids = i ∷ []; weakened = vars_of (take k ts) })
-  unfolding Slim
-  alone_slim clause i k is = record {
-    some = λ e. cc;
-    two = omega arith;
-    ids = one_id i is;
-    variables = vars_variables (take k ts) (All-take (λ (t : Weighted). IsVariable t.lit.var) k ts variables);
-    few = omega (arith, length-map (take k ts) (λ (t : Weighted). t.lit.var), length-take k ts);
-  }
-
-  at_variable : (k : ℕ) → k < n → IsVariable (literal_at (lits_of ts) k).var
-  at_variable k within =
-      let d : Weighted = record { coef = 1; lit = positive_of 0 } in
-      subst (λ (l : Lit). IsVariable l.var) (sym (get_or-map (λ (t : Weighted). t.lit) ts k d (positive_of 0) within)) (variables k d within)
-
-  keep_slim : (i j : ℕ) → i + 1 < n - 1 → j < width → Slim (keep_reason ts width first next i j)
-  unfolding Slim
-  keep_slim i j row place = by_test (leb j i)
-    where
-      by_test : (b : Bool) → Slim (record {
-        clause = (keep_reason ts width first next i j).clause;
-        ids = cond {A = List ℕ} b (reached_id width next i j ∷ missed_id width next (i + 1) j ∷ []) (reached_id width next i j ∷ []);
-        weakened = cond {A = List ℕ} b ((literal_at (lits_of ts) (i + 1)).var ∷ []) (vars_of (take (i + 1) ts));
-      })
-      by_test true = record {
-        some = λ e. cc;
-        two = omega arith;
-        ids = two_ids (reached_id width next i j) (missed_id width next (i + 1) j) (reached_is i j (omega arith) place) (missed_is (i + 1) j row place);
-        variables = All-cons IsVariable (literal_at (lits_of ts) (i + 1)).var [] (at_variable (i + 1) (omega arith)) (All-nil IsVariable);
-        few = omega arith;
-      }
-      by_test false = alone_slim (keep_reason ts width first next i j).clause (reached_id width next i j) (i + 1) (reached_is i j (omega arith) place)
-
-  more_slim : (i j : ℕ) → i + 1 < n - 1 → j + 1 < width → Slim (more_reason ts width first next i j)
-  unfolding Slim
-  more_slim i j row place = by_test (leb j i)
-    where
-      by_test : (b : Bool) → Slim (record {
-        clause = (more_reason ts width first next i j).clause;
-        ids = cond {A = List ℕ} b (reached_id width next i j ∷ missed_id width next (i + 1) (j + 1) ∷ []) (reached_id width next i j ∷ []);
-        weakened = cond {A = List ℕ} b [] (vars_of (take (i + 1) ts));
-      })
-      by_test true = record {
-        some = λ e. cc;
-        two = omega arith;
-        ids = two_ids (reached_id width next i j) (missed_id width next (i + 1) (j + 1)) (reached_is i j (omega arith) (omega arith)) (missed_is (i + 1) (j + 1) row place);
-        variables = All-nil IsVariable;
-        few = omega arith;
-      }
-      by_test false = alone_slim (more_reason ts width first next i j).clause (reached_id width next i j) (i + 1) (reached_is i j (omega arith) (omega arith))
-
-  stop_slim : (i : ℕ) → i < n - 1 → Slim (stop_reason ts width first id next i)
-  unfolding Slim
-  stop_slim i row = record {
-    some = λ e. cc;
-    two = omega arith;
-    ids = two_ids (reached_id width next i (width - 1)) id (reached_is i (width - 1) row (omega (arith, some))) own_id;
-    variables = vars_variables (drop (i + 1 + 1) ts) (All-drop (λ (t : Weighted). IsVariable t.lit.var) (i + 1 + 1) ts variables);
-    few = omega (arith, length-map (drop (i + 1 + 1) ts) (λ (t : Weighted). t.lit.var), length-drop (i + 1 + 1) ts);
-  }
-
-  row_slim : (i : ℕ) → i + 1 < n - 1 → All Slim (row_reasons ts width first id next i)
-  row_slim i row =
-      All-append Slim (one_reason ts width first next i ∷ keep_reason ts width first next i 0 ∷ []) (flat_map (pair_reasons ts width first next i) (range_with_len 0 (width - 1)) ++ stop_reason ts width first id next i ∷ [])
-      (All-cons Slim (one_reason ts width first next i) (keep_reason ts width first next i 0 ∷ []) (alone_slim (one_reason ts width first next i).clause (missed_id width next (i + 1) 0) (i + 1) (missed_is (i + 1) 0 row (omega (arith, some))))
-      (All-cons Slim (keep_reason ts width first next i 0) [] (keep_slim i 0 row (omega (arith, some))) (All-nil Slim)))
-      (All-append Slim (flat_map (pair_reasons ts width first next i) (range_with_len 0 (width - 1))) (stop_reason ts width first id next i ∷ [])
-      (flat_each Slim (pair_reasons ts width first next i) 0 (width - 1) (λ j from to.
-      All-cons Slim (more_reason ts width first next i j) (keep_reason ts width first next i (j + 1) ∷ []) (more_slim i j row (omega (arith, to))) (All-cons Slim (keep_reason ts width first next i (j + 1)) [] (keep_slim i (j + 1) row (omega (arith, to))) (All-nil Slim))))
-      (All-cons Slim (stop_reason ts width first id next i) [] (stop_slim i (omega (arith, row))) (All-nil Slim)))
-
-  reasons_slim : All Slim (counter_reasons ts width first id next)
-  reasons_slim =
-      let belows : List Reason = map (below_reason ts width first next) (range_with_len 1 (width - 1)) in
-      let rows : List Reason = flat_map (row_reasons ts width first id next) (range_with_len 0 (n - 2)) in
-      let last : Reason = stop_reason ts width first id next (n - 2) in
-      All-append Slim (start_reason ts width first next ∷ belows) (rows ++ last ∷ [])
-      (All-cons Slim (start_reason ts width first next) belows (alone_slim (start_reason ts width first next).clause (missed_id width next 0 0) 0 (missed_is 0 0 (omega (arith, some, fits)) (omega (arith, some))))
-      (range_each Slim (below_reason ts width first next) 1 (width - 1) (λ j from to. alone_slim (below_reason ts width first next j).clause (reached_id width next 0 j) 1 (reached_is 0 j (omega (arith, some, fits)) (omega (arith, from, to))))))
-      (All-append Slim rows (last ∷ [])
-      (flat_each Slim (row_reasons ts width first id next) 0 (n - 2) (λ i from to. row_slim i (omega (arith, to))))
-      (All-cons Slim last [] (stop_slim (n - 2) (omega (arith, some, fits))) (All-nil Slim)))
+  ids_at : (p : Place) → IsPlace n width p → All IsId (sources_at width id next p)
+  ids_at Start h = one_id (missed_id width next 0 0) (missed_is 0 0 (omega (arith, some, fits)) some)
+  ids_at (Below j) h = one_id (reached_id width next 0 j) (reached_is 0 j (omega (arith, some, fits)) h.1)
+  ids_at (One i) h = one_id (missed_id width next (i + 1) 0) (missed_is (i + 1) 0 (omega (arith, h)) some)
+  ids_at (Keep i j) h =
+      let one = reached_is i j (omega (arith, h.0)) h.1 in
+      pick (All IsId) (leb j i) (reached_id width next i j ∷ missed_id width next (i + 1) j ∷ []) (reached_id width next i j ∷ [])
+      (two_ids (reached_id width next i j) (missed_id width next (i + 1) j) one (missed_is (i + 1) j (omega (arith, h.0)) h.1)) (one_id (reached_id width next i j) one)
+  ids_at (More i j) h =
+      let one = reached_is i j (omega (arith, h.0)) (omega (arith, h.1)) in
+      pick (All IsId) (leb j i) (reached_id width next i j ∷ missed_id width next (i + 1) (j + 1) ∷ []) (reached_id width next i j ∷ [])
+      (two_ids (reached_id width next i j) (missed_id width next (i + 1) (j + 1)) one (missed_is (i + 1) (j + 1) (omega (arith, h.0)) h.1)) (one_id (reached_id width next i j) one)
+  ids_at (Stop i) h = two_ids (reached_id width next i (width - 1)) id (reached_is i (width - 1) (omega (arith, h)) (omega (arith, some))) own_id
 
   all_slim : All (IsSlimReason n) (counter_reasons ts width first id next)
-  unfolding Slim
-  all_slim = reasons_slim
+  all_slim =
+      All-map (IsSlimReason n) (reason_at ts width first id next) (places n width) (each_place (λ p. IsSlimReason n (reason_at ts width first id next p)) n width some (omega (arith, some, fits)) (λ p h. record {
+        some = sources_some width id next p;
+        two = sources_two width id next p;
+        ids = ids_at p h;
+        variables = All-map IsVariable (λ (t : Weighted). t.lit.var) (beside_at ts p) (beside_all ts (λ t. IsVariable t.lit.var) variables p);
+        few = omega (arith, length-map (beside_at ts p) (λ (t : Weighted). t.lit.var), beside_few ts p);
+      }))
 
   -- ---- how many there are
 
@@ -219,7 +156,7 @@ module _ (m : BoundedSum) (units : all_weigh 1 m.terms ≡ true) (proper : IsPro
   count_claims = omega (arith, length-map (counter_reasons ts width first id next) by_reason, count_reasons)
 
   few_reasons : counter_size n width ≤ 3 * fresh
-  few_reasons = subst (λ (k : ℕ). counter_size k width ≤ 3 * fresh) (let e : n - 1 + 1 ≡ n = omega (arith, fits) in e) (size_small (n - 1) width fresh refl some)
+  few_reasons = size_small n width (omega (arith, some, fits)) some
 
   pub counter_sayable : All IsSayable (counter_steps ts width first id next)
   counter_sayable =
