@@ -42,34 +42,34 @@ within-same vars ss ts h w = λ k c e. w k c (sym (same-constraint ss ts h k) �
 -- ---- what is kept
 
 -- over the same database, with another front in another engine
-pub kept-same : (original vars n m : ℕ) (ss ts : List Slot) (s t idle : EngineState) (rounds : Held) (named : List (List ℕ)) → IsKept original vars ss n s idle rounds named → AreSame ss ts → m ≤ length ts → IsMirrored s.vars (take m ts) t → IsKept original vars ts m t idle rounds named
-kept-same original vars n m ss ts s t idle rounds named kept same few mirrored = record {
+pub kept-same : (original vars most n m : ℕ) (ss ts : List Slot) (s t idle : EngineState) (rounds : Held) (named : List (List ℕ)) → IsKept original vars most ss n s idle rounds named → AreSame ss ts → m ≤ length ts → IsMirrored s.vars (take m ts) t → IsKept original vars most ts m t idle rounds named
+kept-same original vars most n m ss ts s t idle rounds named kept same few mirrored = record {
   sound = subst IsDatabase (sym (same original vars)) kept.sound;
   few = few;
   mirrored = subst (λ (w : ℕ). IsMirrored w (take m ts) t) kept.mirrored.vars_are mirrored;
   is_idle = kept.is_idle;
   beside = kept.beside;
-  indexed = indexed-same vars ss ts named (same-constraint ss ts same) kept.indexed;
+  indexed = indexed-same ss ts named (same-constraint ss ts same) kept.indexed;
 }
 
 -- with the same at the same places
-pub kept-again : (original vars n : ℕ) (ss : List Slot) (s t idle : EngineState) (rounds : Held) (named : List (List ℕ)) → IsKept original vars ss n s idle rounds named → KeepsEngine s t → IsKept original vars ss n t idle rounds named
-kept-again original vars n ss s t idle rounds named kept again = record {
+pub kept-again : (original vars most n : ℕ) (ss : List Slot) (s t idle : EngineState) (rounds : Held) (named : List (List ℕ)) → IsKept original vars most ss n s idle rounds named → KeepsEngine s t → IsKept original vars most ss n t idle rounds named
+kept-again original vars most n ss s t idle rounds named kept again = record {
   sound = kept.sound;
   few = kept.few;
-  mirrored = mirrored-kept vars (take n ss) s t kept.mirrored again;
+  mirrored = mirrored-kept most (take n ss) s t kept.mirrored again;
   is_idle = kept.is_idle;
   beside = kept.beside;
   indexed = kept.indexed;
 }
 
 -- with other lists of ids
-pub kept-listed : (original vars n : ℕ) (ss : List Slot) (s idle : EngineState) (rounds : Held) (named listed : List (List ℕ)) → IsKept original vars ss n s idle rounds named → IsIndexed vars ss listed → IsKept original vars ss n s idle rounds listed
-kept-listed original vars n ss s idle rounds named listed kept indexed = record { sound = kept.sound; few = kept.few; mirrored = kept.mirrored; is_idle = kept.is_idle; beside = kept.beside; indexed = indexed }
+pub kept-listed : (original vars most n : ℕ) (ss : List Slot) (s idle : EngineState) (rounds : Held) (named listed : List (List ℕ)) → IsKept original vars most ss n s idle rounds named → IsIndexed ss listed → IsKept original vars most ss n s idle rounds listed
+kept-listed original vars most n ss s idle rounds named listed kept indexed = record { sound = kept.sound; few = kept.few; mirrored = kept.mirrored; is_idle = kept.is_idle; beside = kept.beside; indexed = indexed }
 
 -- all that stands is in the engine
-pub kept-whole : (original vars n : ℕ) (ss : List Slot) (s idle : EngineState) (rounds : Held) (named : List (List ℕ)) → IsKept original vars ss n s idle rounds named → length ss ≤ n → IsMirrored vars ss s
-kept-whole original vars n ss s idle rounds named kept all = subst (λ (ts : List Slot). IsMirrored vars ts s) (take_all n ss all) kept.mirrored
+pub kept-whole : (original vars most n : ℕ) (ss : List Slot) (s idle : EngineState) (rounds : Held) (named : List (List ℕ)) → IsKept original vars most ss n s idle rounds named → length ss ≤ n → IsMirrored most ss s
+kept-whole original vars most n ss s idle rounds named kept all = subst (λ (ts : List Slot). IsMirrored most ts s) (take_all n ss all) kept.mirrored
 
 -- ---- the next slot
 
@@ -95,9 +95,6 @@ entered-some vars n p ss ts s t c below stands put free more m =
     let same = mirrored-same vars (take n ss ++ whole c p ∷ []) (take n ss ++ last ∷ []) (added p c s)
     (push-as (λ (u : Slot). u.constraint) (take n ss) last (whole c p) stands) (push-as (λ (u : Slot). u.place) (take n ss) last (whole c p) refl) pushed in
     subst (λ (us : List Slot). IsMirrored vars us t) (sym front) (subst (IsMirrored vars (take n ss ++ last ∷ [])) (sym more) same)
-
-pub entered-whole : (vars n : ℕ) (ss : List Slot) (s : EngineState) → length ss ≤ n → IsMirrored vars ss s → IsMirrored vars (take n ss) s
-entered-whole vars n ss s all m = subst (λ (ts : List Slot). IsMirrored vars ts s) (sym (take_all n ss all)) m
 
 -- ---- what comes and goes behind the front, and in it
 

@@ -1,5 +1,5 @@
 -- The lists of ids by variables.
-use Rattle.std.proofs.Common.{◌≡◌, ◌≤◌, ◌<◌, ◌+◌, ◌⊎◌, inl, inr, ℕ, zero, suc, Bool, true, false, List, [], ◌∷◌, ◌++◌, Option, Some, None, arith, length, get_or, set, take, refl, ap, sym, ◌∙◌, subst, eqb, cond}
+use Rattle.std.proofs.Common.{◌≡◌, ◌≤◌, ◌<◌, ◌+◌, ◌%◌, ◌⊎◌, inl, inr, ℕ, zero, suc, Bool, true, false, List, [], ◌∷◌, ◌++◌, Option, Some, None, arith, length, get_or, set, take, refl, ap, sym, ◌∙◌, subst, eqb, cond}
 use Rattle.std.specs.Prelude.{All, Contains, IsTrue, not, is_none, is_some, filter, ◌||◌}
 use Rattle.std.specs.List.{list_any, dedup, remove}
 use Rattle.std.specs.List.Sorted.{IsPermutation}
@@ -11,7 +11,7 @@ use Rattle.std.proofs.lemmas.List.Folds.{Any-from_list_any}
 use Rattle.std.proofs.lemmas.List.Elements.{All-contains, Contains-append_left, Contains-append_right, All-map}
 use Rattle.pb_base.proofs.Members.{Contains-here, Contains-there, Contains-nil}
 use Rattle.pb_base.specs.declared.literal.Term.{Term}
-use Rattle.pb_norm.specs.Constraints.{Weighted, Constraint, weighted, weights, HasVarsWithin, AreVarsWithin}
+use Rattle.pb_norm.specs.Constraints.{Weighted, Constraint, weighted, weights}
 use Rattle.pb_steps.specs.declared.op.Set.{Set}
 use Rattle.pb_steps.specs.Steps.{vars_of_sets}
 use Rattle.pb_steps.specs.Database.{Entry}
@@ -19,13 +19,18 @@ use Rattle.pb_steps.specs.Substitutions.{names_set, set_value, is_unset}
 use Rattle.pb_rules.specs.Naming.{is_of, names_var}
 use Rattle.pb_rules.specs.declared.slots.Slot.{Slot}
 use Rattle.pb_rules.specs.laws.Slots.{hole, whole, placed_from, slot_at, slot_of, slots_without, marked_slots, entries_from}
-use Rattle.pb_rules.specs.laws.Indexed.{ids_at, IsIndexed, KeepsIds, LosesId, HasNamed, HasNaming}
+use Rattle.pb_rules.specs.laws.Indexed.{ids_at, ids_of, IsIndexed, KeepsIds, LosesId, HasNamed, HasNaming}
 use Rattle.pb_unit.proofs.Standing.{read_as}
 use Rattle.pb_unit.proofs.Sweeping.{contains_filter}
 use Rattle.pb_unit.proofs.Unlisting.{contains_remove}
 use Rattle.pb_rules.proofs.SlotLemmas.{constraint_at-slot, placed_more, length-placed_from}
-use Rattle.pb_rules.proofs.Withins.{All-unmap}
 use Rattle.pb_rules.proofs.Mirroring.{slot_at-push, slot_at-push_other, slot_at-set, slot_at-set_other, marked-constraint}
+
+-- ---- lists of variables
+
+-- a variable's list has the same number among as many lists
+at_number : (lists after : List (List ℕ)) (v id : ℕ) → length after ≡ length lists → Contains (ids_at after (v % length lists)) id → Contains (ids_of after v) id
+at_number lists after v id size h = subst (λ (n : ℕ). Contains (ids_at after (v % n)) id) (sym size) h
 
 -- ---- one more id
 
@@ -68,47 +73,45 @@ keeps_ids_again first mid last h k = record { size = k.size ∙ h.size; more = �
 
 -- ---- the variables of terms
 
-pub term-below : (ts : List Term) (n k : ℕ) (t : Term) → All (λ t. t.lit.var < n) (weights ts) → k < length ts → t ≡ get_or ts k t → t.lit.var < n
-term-below ts n k t h below at =
-    let all = All-unmap {X = Term} {Y = Weighted} (λ t. t.lit.var < n) weighted ts h in
-    subst (λ (x : Term). x.lit.var < n) (sym at) (all k t below)
-
 abbrev AddedTo : List (List ℕ) → List Term → ℕ → ℕ → Type 0
-AddedTo lists ts id i = (k : ℕ) (d : Term) → k < i → Contains (ids_at lists (get_or ts k d).lit.var) id
+AddedTo lists ts id i = (k : ℕ) (d : Term) → k < i → Contains (ids_of lists (get_or ts k d).lit.var) id
 
-pub added_more : (ts : List Term) (id i : ℕ) (t : Term) (var : ℕ) (lists after : List (List ℕ)) → i < length ts → t ≡ get_or ts i t → var ≡ t.lit.var → KeepsIds lists after → Contains (ids_at after var) id → AddedTo lists ts id i → AddedTo after ts id (i + 1)
+pub added_more : (ts : List Term) (id i : ℕ) (t : Term) (var : ℕ) (lists after : List (List ℕ)) → i < length ts → t ≡ get_or ts i t → var ≡ t.lit.var → KeepsIds lists after → Contains (ids_of after var) id → AddedTo lists ts id i → AddedTo after ts id (i + 1)
 added_more ts id i t var lists after below at same kept here h k d low = elim (cases_eq k i) [
   | inl e ↦
       let own : get_or ts i d ≡ t = read_as ts i t d below at in
       let found : var ≡ (get_or ts k d).lit.var = same ∙ ap (λ (x : Term). x.lit.var) (sym own) ∙ ap (λ (j : ℕ). (get_or ts j d).lit.var) (sym e) in
-      subst (λ (v : ℕ). Contains (ids_at after v) id) found here
-  | inr ne ↦ kept.more (get_or ts k d).lit.var id (h k d (omega (arith, ne, low)))
+      subst (λ (v : ℕ). Contains (ids_of after v) id) found here
+  | inr ne ↦ at_number lists after (get_or ts k d).lit.var id kept.size (kept.more ((get_or ts k d).lit.var % length lists) id (h k d (omega (arith, ne, low))))
 ]
 
-pub all_added : (ts : List Term) (id i : ℕ) (lists : List (List ℕ)) → length ts ≤ i → AddedTo lists ts id i → All (λ t. Contains (ids_at lists t.lit.var) id) (weights ts)
-all_added ts id i lists past h = All-map {X = Weighted} (λ t. Contains (ids_at lists t.lit.var) id) weighted ts (λ k d below. h k d (omega (arith, below, past)))
+pub all_added : (ts : List Term) (id i : ℕ) (lists : List (List ℕ)) → length ts ≤ i → AddedTo lists ts id i → All (λ t. Contains (ids_of lists t.lit.var) id) (weights ts)
+all_added ts id i lists past h = All-map {X = Weighted} (λ t. Contains (ids_of lists t.lit.var) id) weighted ts (λ k d below. h k d (omega (arith, below, past)))
 
 -- ---- what is indexed
 
-pub indexed-kept : (vars : ℕ) (ss : List Slot) (lists after : List (List ℕ)) → KeepsIds lists after → IsIndexed vars ss lists → IsIndexed vars ss after
-indexed-kept vars ss lists after k h = record { size = k.size ∙ h.size; complete = λ id v named. k.more v id (h.complete id v named) }
+pub indexed-kept : (ss : List Slot) (lists after : List (List ℕ)) → KeepsIds lists after → IsIndexed ss lists → IsIndexed ss after
+indexed-kept ss lists after k h = record {
+  enough = subst (λ (n : ℕ). 0 < n) (sym k.size) h.enough;
+  complete = λ id v named. at_number lists after v id k.size (k.more (v % length lists) id (h.complete id v named));
+}
 
 -- the same constraints
-pub indexed-same : (vars : ℕ) (ss ss' : List Slot) (lists : List (List ℕ)) → ((k : ℕ) → (slot_at ss' k).constraint ≡ (slot_at ss k).constraint) → IsIndexed vars ss lists → IsIndexed vars ss' lists
-indexed-same vars ss ss' lists same h = record { size = h.size; complete = complete }
+pub indexed-same : (ss ss' : List Slot) (lists : List (List ℕ)) → ((k : ℕ) → (slot_at ss' k).constraint ≡ (slot_at ss k).constraint) → IsIndexed ss lists → IsIndexed ss' lists
+indexed-same ss ss' lists same h = record { enough = h.enough; complete = complete }
   where
-    complete : (id v : ℕ) → names_var v (slot_of ss' id).constraint ≡ true → Contains (ids_at lists v) id
+    complete : (id v : ℕ) → names_var v (slot_of ss' id).constraint ≡ true → Contains (ids_of lists v) id
     complete zero v named = absurd (false≢true named)
     complete (suc k) v named = h.complete (suc k) v (ap (names_var v) (sym (same k)) ∙ named)
 
-pub indexed-marked : (vars id : ℕ) (ss ss' : List Slot) (lists : List (List ℕ)) → ss' ≡ marked_slots ss id → IsIndexed vars ss lists → IsIndexed vars ss' lists
-indexed-marked vars id ss ss' lists e h = subst (λ (ts : List Slot). IsIndexed vars ts lists) (sym e) (indexed-same vars ss (marked_slots ss id) lists (marked-constraint ss id) h)
+pub indexed-marked : (id : ℕ) (ss ss' : List Slot) (lists : List (List ℕ)) → ss' ≡ marked_slots ss id → IsIndexed ss lists → IsIndexed ss' lists
+indexed-marked id ss ss' lists e h = subst (λ (ts : List Slot). IsIndexed ts lists) (sym e) (indexed-same ss (marked_slots ss id) lists (marked-constraint ss id) h)
 
-pub indexed-without : (vars id : ℕ) (ss ss' : List Slot) (lists : List (List ℕ)) → ss' ≡ slots_without ss id → IsIndexed vars ss lists → IsIndexed vars ss' lists
-indexed-without vars zero ss ss' lists e h = subst (λ (ts : List Slot). IsIndexed vars ts lists) (sym e) h
-indexed-without vars (suc k) ss ss' lists e h = subst (λ (ts : List Slot). IsIndexed vars ts lists) (sym e) (record { size = h.size; complete = complete })
+pub indexed-without : (id : ℕ) (ss ss' : List Slot) (lists : List (List ℕ)) → ss' ≡ slots_without ss id → IsIndexed ss lists → IsIndexed ss' lists
+indexed-without zero ss ss' lists e h = subst (λ (ts : List Slot). IsIndexed ts lists) (sym e) h
+indexed-without (suc k) ss ss' lists e h = subst (λ (ts : List Slot). IsIndexed ts lists) (sym e) (record { enough = h.enough; complete = complete })
   where
-    complete : (id v : ℕ) → names_var v (slot_of (set ss k hole) id).constraint ≡ true → Contains (ids_at lists v) id
+    complete : (id v : ℕ) → names_var v (slot_of (set ss k hole) id).constraint ≡ true → Contains (ids_of lists v) id
     complete zero v named = absurd (false≢true named)
     complete (suc j) v named = elim (cases_eq j k) [
       | inl same ↦ absurd (false≢true (sym (ap (λ (s : Slot). names_var v s.constraint) (ap (slot_at (set ss k hole)) same ∙ slot_at-set ss k)) ∙ named))
@@ -120,10 +123,13 @@ gone-slot ss zero = refl
 gone-slot ss (suc k) = ap (λ (s : Slot). s.constraint) (slot_at-set ss k)
 
 -- the constraint of an id goes, and the id from lists
-pub indexed-lost : (vars id : ℕ) (ss ss' : List Slot) (lists after : List (List ℕ)) → ss' ≡ slots_without ss id → LosesId id lists after → IsIndexed vars ss lists → IsIndexed vars ss' after
-indexed-lost vars id ss ss' lists after e loses h =
-    let kept = indexed-without vars id ss ss' lists e h in
-    record { size = loses.size ∙ kept.size; complete = λ i v named. loses.others v i (other i v named) (kept.complete i v named) }
+pub indexed-lost : (id : ℕ) (ss ss' : List Slot) (lists after : List (List ℕ)) → ss' ≡ slots_without ss id → LosesId id lists after → IsIndexed ss lists → IsIndexed ss' after
+indexed-lost id ss ss' lists after e loses h =
+    let kept = indexed-without id ss ss' lists e h in
+    record {
+      enough = subst (λ (n : ℕ). 0 < n) (sym loses.size) kept.enough;
+      complete = λ i v named. at_number lists after v i loses.size (loses.others (v % length lists) i (other i v named) (kept.complete i v named));
+    }
   where
     other : (i v : ℕ) → names_var v (slot_of ss' i).constraint ≡ true → i ≡ id → ⊥
     other i v named same =
@@ -151,11 +157,11 @@ loses-at id var lists ids below h = record {
 }
 
 -- the ids of what stands are left
-pub indexed-swept : (vars : ℕ) (ss : List Slot) (lists after : List (List ℕ)) → length after ≡ length lists → ((v : ℕ) → ids_at after v ≡ filter (λ (id : ℕ). is_some (slot_of ss id).constraint) (ids_at lists v)) → IsIndexed vars ss lists → IsIndexed vars ss after
-indexed-swept vars ss lists after size swept h = record {
-  size = size ∙ h.size;
-  complete = λ id v named. subst (λ (ks : List ℕ). Contains ks id) (sym (swept v))
-      (contains_filter (λ (id : ℕ). is_some (slot_of ss id).constraint) (ids_at lists v) id (stands v (slot_of ss id).constraint named) (h.complete id v named));
+pub indexed-swept : (ss : List Slot) (lists after : List (List ℕ)) → length after ≡ length lists → ((v : ℕ) → ids_at after v ≡ filter (λ (id : ℕ). is_some (slot_of ss id).constraint) (ids_at lists v)) → IsIndexed ss lists → IsIndexed ss after
+indexed-swept ss lists after size swept h = record {
+  enough = subst (λ (n : ℕ). 0 < n) (sym size) h.enough;
+  complete = λ id v named. at_number lists after v id size (subst (λ (ks : List ℕ). Contains ks id) (sym (swept (v % length lists)))
+      (contains_filter (λ (id : ℕ). is_some (slot_of ss id).constraint) (ids_of lists v) id (stands v (slot_of ss id).constraint named) (h.complete id v named)));
 }
   where
     stands : (v : ℕ) (o : Option Constraint) → names_var v o ≡ true → is_some o ≡ true
@@ -163,42 +169,38 @@ indexed-swept vars ss lists after size swept h = record {
     stands v (Some c) e = refl
 
 -- a term of the variable
-pub named-contains : (lists : List (List ℕ)) (v id : ℕ) (ts : List Weighted) → list_any (is_of v) ts ≡ true → All (λ t. Contains (ids_at lists t.lit.var) id) ts → Contains (ids_at lists v) id
+pub named-contains : (lists : List (List ℕ)) (v id : ℕ) (ts : List Weighted) → list_any (is_of v) ts ≡ true → All (λ t. Contains (ids_of lists t.lit.var) id) ts → Contains (ids_of lists v) id
 named-contains lists v id ts named all =
     let found = Any-from_list_any (is_of v) ts named in
-    let here : Contains (ids_at lists (get_or ts found.0 found.1).lit.var) id = all found.0 found.1 found.2 in
+    let here : Contains (ids_of lists (get_or ts found.0 found.1).lit.var) id = all found.0 found.1 found.2 in
     let var : (get_or ts found.0 found.1).lit.var ≡ v = ap (λ (t : Weighted). t.lit.var) found.3 ∙ eqb-true found.1.lit.var v found.4 in
-    subst (λ (w : ℕ). Contains (ids_at lists w) id) var here
+    subst (λ (w : ℕ). Contains (ids_of lists w) id) var here
 
-pub indexed-pushed : (vars : ℕ) (ss ss' : List Slot) (lists : List (List ℕ)) (c : Constraint) (p id : ℕ) → ss' ≡ ss ++ whole c p ∷ [] → id ≡ length ss + 1 → All (λ t. Contains (ids_at lists t.lit.var) id) c.terms → IsIndexed vars ss lists → IsIndexed vars ss' lists
-indexed-pushed vars ss ss' lists c p id e is_next all h = subst (λ (ts : List Slot). IsIndexed vars ts lists) (sym e) (record { size = h.size; complete = complete })
+pub indexed-pushed : (ss ss' : List Slot) (lists : List (List ℕ)) (c : Constraint) (p id : ℕ) → ss' ≡ ss ++ whole c p ∷ [] → id ≡ length ss + 1 → All (λ t. Contains (ids_of lists t.lit.var) id) c.terms → IsIndexed ss lists → IsIndexed ss' lists
+indexed-pushed ss ss' lists c p id e is_next all h = subst (λ (ts : List Slot). IsIndexed ts lists) (sym e) (record { enough = h.enough; complete = complete })
   where
-    complete : (i v : ℕ) → names_var v (slot_of (ss ++ whole c p ∷ []) i).constraint ≡ true → Contains (ids_at lists v) i
+    complete : (i v : ℕ) → names_var v (slot_of (ss ++ whole c p ∷ []) i).constraint ≡ true → Contains (ids_of lists v) i
     complete zero v named = absurd (false≢true named)
     complete (suc k) v named = elim (cases_eq k (length ss)) [
       | inl last ↦
           let own : list_any (is_of v) c.terms ≡ true = ap (λ (s : Slot). names_var v s.constraint) (sym (ap (slot_at (ss ++ whole c p ∷ [])) last ∙ slot_at-push ss (whole c p))) ∙ named in
           let same : id ≡ suc k = omega (arith, is_next, last) in
-          subst (Contains (ids_at lists v)) same (named-contains lists v id c.terms own all)
+          subst (Contains (ids_of lists v)) same (named-contains lists v id c.terms own all)
       | inr ne ↦ h.complete (suc k) v (ap (λ (s : Slot). names_var v s.constraint) (sym (slot_at-push_other ss (whole c p) k ne)) ∙ named)
     ]
 
-pub indexed-empty : (vars : ℕ) (lists : List (List ℕ)) → length lists ≡ vars + 1 → IsIndexed vars [] lists
-indexed-empty vars lists e = record { size = e; complete = complete }
+pub indexed-empty : (vars : ℕ) (lists : List (List ℕ)) → length lists ≡ vars + 1 → IsIndexed [] lists
+indexed-empty vars lists e = record { enough = omega (arith, e); complete = complete }
   where
-    complete : (id v : ℕ) → names_var v (slot_of [] id).constraint ≡ true → Contains (ids_at lists v) id
+    complete : (id v : ℕ) → names_var v (slot_of [] id).constraint ≡ true → Contains (ids_of lists v) id
     complete zero v named = absurd (false≢true named)
     complete (suc zero) v named = absurd (false≢true named)
     complete (suc (suc k)) v named = absurd (false≢true named)
 
--- variables that there are have lists
-pub vars-below : (vars : ℕ) (n : ℕ) (ts : List Weighted) → n ≡ vars + 1 → All (λ t. t.lit.var ≤ vars) ts → All (λ t. t.lit.var < n) ts
-vars-below vars n ts e h = λ k d below. omega (arith, h k d below, e)
-
 -- ---- of a variable
 
-pub has_naming : (vars : ℕ) (ss : List Slot) (lists : List (List ℕ)) (v : ℕ) → IsIndexed vars ss lists → HasNaming (entries_from 1 ss) v (ids_at lists v)
-has_naming vars ss lists v h id named = h.complete id v (ap (names_var v) (sym (constraint_at-slot id ss)) ∙ named)
+pub has_naming : (ss : List Slot) (lists : List (List ℕ)) (v : ℕ) → IsIndexed ss lists → HasNaming (entries_from 1 ss) v (ids_of lists v)
+has_naming ss lists v h id named = h.complete id v (ap (names_var v) (sym (constraint_at-slot id ss)) ∙ named)
 
 -- ---- of the variables of a substitution
 
@@ -233,16 +235,13 @@ has_named live sets ids h id c at is_named =
 
 -- ---- constraints that are loaded
 
-pub loaded-at : (vars : ℕ) (loaded : List Constraint) (i : ℕ) (c : Constraint) → AreVarsWithin vars loaded → i < length loaded → c ≡ get_or loaded i c → HasVarsWithin vars c.terms
-loaded-at vars loaded i c h below at = subst (λ (x : Constraint). HasVarsWithin vars x.terms) (sym at) (h i c below)
-
-pub loaded_more : (vars : ℕ) (loaded : List Constraint) (i id : ℕ) (c : Constraint) (ts : List Weighted) (lists after : List (List ℕ)) → i < length loaded → c ≡ get_or loaded i c → id ≡ i + 1 → ts ≡ c.terms →
-    KeepsIds lists after → All (λ t. Contains (ids_at after t.lit.var) id) ts → IsIndexed vars (placed_from 0 (take i loaded)) lists → IsIndexed vars (placed_from 0 (take (i + 1) loaded)) after
-loaded_more vars loaded i id c ts lists after below at next terms kept added h =
+pub loaded_more : (loaded : List Constraint) (i id : ℕ) (c : Constraint) (ts : List Weighted) (lists after : List (List ℕ)) → i < length loaded → c ≡ get_or loaded i c → id ≡ i + 1 → ts ≡ c.terms →
+    KeepsIds lists after → All (λ t. Contains (ids_of after t.lit.var) id) ts → IsIndexed (placed_from 0 (take i loaded)) lists → IsIndexed (placed_from 0 (take (i + 1) loaded)) after
+loaded_more loaded i id c ts lists after below at next terms kept added h =
     let front = placed_from 0 (take i loaded) in
     let count : id ≡ length front + 1 = omega (arith, next, length-placed_from 0 (take i loaded), length-take-le i loaded (omega (arith, below))) in
-    indexed-pushed vars front (placed_from 0 (take (i + 1) loaded)) after c i id (sym (placed_more loaded i c c front (front ++ whole c i ∷ []) below at refl refl refl)) count
-    (subst (λ (us : List Weighted). All (λ (t : Weighted). Contains (ids_at after t.lit.var) id) us) terms added) (indexed-kept vars front lists after kept h)
+    indexed-pushed front (placed_from 0 (take (i + 1) loaded)) after c i id (sym (placed_more loaded i c c front (front ++ whole c i ∷ []) below at refl refl refl)) count
+    (subst (λ (us : List Weighted). All (λ (t : Weighted). Contains (ids_of after t.lit.var) id) us) terms added) (indexed-kept front lists after kept h)
 
 -- ---- ids of all set variables
 

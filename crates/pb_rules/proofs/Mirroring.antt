@@ -1,10 +1,10 @@
 -- The engine mirrors what stands by ids.
-use Rattle.std.proofs.Common.{◌≡◌, ◌≤◌, ◌<◌, ◌+◌, ◌⊎◌, inl, inr, ℕ, zero, suc, true, List, [], ◌∷◌, ◌++◌, Option, Some, None, arith, length, set, refl, ap, sym, ◌∙◌, subst, map}
+use Rattle.std.proofs.Common.{◌≡◌, ◌≤◌, ◌<◌, ◌+◌, ◌⊎◌, inl, inr, ℕ, zero, suc, true, List, [], ◌∷◌, ◌++◌, Option, Some, None, arith, length, set, refl, ap, sym, ◌∙◌, subst, map, take}
 use Rattle.std.specs.Prelude.{All, Contains, filter_map, is_some, option_map}
 use Rattle.std.specs.List.{cons_option}
 use Rattle.std.proofs.lemmas.Bool.{cases_eq}
-use Rattle.std.proofs.lemmas.List.{get_or-set_same, get_or-set_other}
-use Rattle.pb_norm.specs.Constraints.{Constraint}
+use Rattle.std.proofs.lemmas.List.{get_or-set_same, get_or-set_other, take_all}
+use Rattle.pb_norm.specs.Constraints.{Constraint, Weighted, HasVarsWithin}
 use Rattle.pb_norm.specs.laws.PropagationLaws.{AreAmong}
 use Rattle.pb_steps.specs.Database.{live_constraints}
 use Rattle.pb_unit.specs.States.{EngineState, at_place, placed, added, removed, started, Stands, standing, IsFree}
@@ -14,7 +14,7 @@ use Rattle.pb_rules.specs.declared.slots.Slot.{Slot}
 use Rattle.pb_rules.specs.laws.Slots.{hole, whole, placed_from, slot_at, slot_of, slots_without, marked_slots, place_of, entries_from}
 use Rattle.pb_rules.specs.laws.Sound.{IsSound}
 use Rattle.pb_rules.specs.laws.Mirrors.{IsMirrored, KeepsEngine, AreWithin}
-use Rattle.pb_rules.proofs.SlotLemmas.{live_constraints-slots, constraint_at-slot}
+use Rattle.pb_rules.proofs.SlotLemmas.{live_constraints-slots, constraint_at-slot, length-placed_from}
 use Rattle.pb_rules.proofs.Withins.{at-sound}
 
 pub some-none : {X : Type 0} (x : X) → Some x ≡ None → ⊥
@@ -374,3 +374,26 @@ mirrored-new vars ss cs ds s e f g =
 
 pub slots-within : (vars : ℕ) (ss : List Slot) → All (IsSound vars) (entries_from 1 ss) → AreWithin vars ss
 slots-within vars ss h k c e = (at-sound vars (entries_from 1 ss) (suc k) c h (constraint_at-slot (suc k) ss ∙ e)).1
+
+-- the same where there are more variables
+pub within-more : (vars most n : ℕ) (ts : List Weighted) → vars ≤ most → n ≡ most → HasVarsWithin vars ts → HasVarsWithin n ts
+within-more vars most n ts le same h = λ k d below. omega (arith, h k d below, le, same)
+
+pub slots-more : (vars most n : ℕ) (ss : List Slot) → vars ≤ most → n ≡ most → AreWithin vars ss → AreWithin n ss
+slots-more vars most n ss le same h = λ k c e. within-more vars most n c.terms le same (h k c e)
+
+-- ---- an engine at the start
+
+none-taken : (ss : List Slot) → take 0 ss ≡ []
+none-taken [] = refl
+none-taken (s ∷ ss) = refl
+
+-- of no slot
+pub mirrored-nothing : (vars : ℕ) (ss : List Slot) (s : EngineState) → s ≡ started vars [] → IsMirrored vars (take 0 ss) s
+mirrored-nothing vars ss s e = subst (λ (ts : List Slot). IsMirrored vars ts s) (sym (none-taken ss)) (mirrored-new vars [] [] [] s refl e refl)
+
+-- of all loaded constraints
+pub mirrored-loaded : (vars : ℕ) (cs : List Constraint) (s : EngineState) → s ≡ started vars cs → IsMirrored vars (take (length cs) (placed_from 0 cs)) s
+mirrored-loaded vars cs s e =
+    let all : length (placed_from 0 cs) ≤ length cs = omega (arith, length-placed_from 0 cs) in
+    subst (λ (ts : List Slot). IsMirrored vars ts s) (sym (take_all (length cs) (placed_from 0 cs) all)) (mirrored-new vars (placed_from 0 cs) cs cs s refl e refl)

@@ -220,10 +220,10 @@ among_front front cs ds h d k = elim (Contains-append_cases front cs d k) [
   | inr new ↦ Contains-append_right front ds d (h d new)
 ]
 
-pub tells_live : (original vars : ℕ) (ss : List Slot) (s : EngineState) (db : Database) (front : List Constraint) (result : Result Bool NoMemory) → IsMirrored vars ss s → database_of original vars ss ≡ db →
+pub tells_live : (original vars most : ℕ) (ss : List Slot) (s : EngineState) (db : Database) (front : List Constraint) (result : Result Bool NoMemory) → IsMirrored most ss s → database_of original vars ss ≡ db →
     IfOk result (TellsConflict (front ++ standing s.places)) → IfOk result (TellsConflict (front ++ live_constraints db.live))
-tells_live original vars ss s db front result m view h =
+tells_live original vars most ss s db front result m view h =
     let live = live_constraints (entries_from 1 ss) in
     let own = IfOk-weaker result (TellsConflict (front ++ standing s.places)) (TellsConflict (front ++ live))
-    (λ found t. tells_same found (front ++ standing s.places) (front ++ live) (among_front front (standing s.places) live (standing-live vars ss s m)) (among_front front live (standing s.places) (live-standing vars ss s m)) t) h in
+    (λ found t. tells_same found (front ++ standing s.places) (front ++ live) (among_front front (standing s.places) live (standing-live most ss s m)) (among_front front live (standing s.places) (live-standing most ss s m)) t) h in
     subst (λ (d : Database). IfOk result (TellsConflict (front ++ live_constraints d.live))) view own

@@ -1,5 +1,5 @@
 //! The constraints that stand.
-ghost use Rattle.std.specs.Prelude.{◌≡◌, ◌∷◌, [], IfOk, OnOk, OnErr, All, filter_map};
+ghost use Rattle.std.specs.Prelude.{◌≡◌, ◌≤◌, ◌∷◌, ◌++◌, [], IfOk, OnOk, OnErr, All, filter_map, length, take};
 ghost use Rattle.std.specs.Option.{option_copied};
 ghost use Rattle.pb_norm.specs.Constraints.{HasVarsWithin, AreVarsWithin};
 ghost use Rattle.pb_steps.specs.Operations.{IsNarrow};
@@ -9,8 +9,9 @@ ghost use Rattle.pb_rules.specs.laws.Slots.{placed_from};
 ghost use Rattle.pb_rules.specs.laws.Ordered.{IsOrdered};
 ghost use Rattle.pb_rules.specs.laws.Sound.{IsDatabase};
 ghost use Rattle.pb_rules.specs.laws.Indexed.{IsIndexed, HasNaming};
-ghost use Rattle.pb_rules.specs.laws.Mirrors.{TellsConflict};
+ghost use Rattle.pb_rules.specs.laws.Mirrors.{TellsConflict, IsMirrored};
 
+use crate::apart::{self, is_refuted_with_all, is_refuted_with_listed};
 use crate::entering::{enter_rest, leave};
 use crate::index::{self, Named};
 use crate::listed::is_refuted_by;
@@ -19,7 +20,7 @@ use crate::rounds::is_refuted_by_few;
 use crate::slots::{self, Slot};
 use pb_base::{NoMemory, Var};
 use pb_norm::Linear;
-use pb_unit::{Engine, Rounds};
+use pb_unit::{Constraints, Engine, Rounds};
 use std::alloc::Global;
 use std::marker::Model;
 
@@ -27,6 +28,8 @@ use std::marker::Model;
 pub struct Database {
     original: u32,
     vars: u32,
+    // Engines and rounds are over so many variables. Where there are more, propagation goes over those that occur, apart.
+    most: u32,
     slots: Vec<Slot>,
     // The constraints of so many of the first slots stand in the engine. The others join them before all that stands is propagated over.
     entered: usize,
@@ -49,6 +52,7 @@ impl Drop for Database {
         let Database {
             original: _,
             vars: _,
+            most: _,
             slots: _,
             entered: _,
             engine: _,
@@ -71,7 +75,7 @@ impl Model for Database {
 
     ghost view = { λ d. database_of d.original d.vars d.slots.items };
 
-    ghost invariant = { λ d. IsKept d.original d.vars d.slots.items d.entered d.engine d.idle d.rounds d.named.items };
+    ghost invariant = { λ d. IsKept d.original d.vars d.most d.slots.items d.entered d.engine d.idle d.rounds d.named.items };
 }
 
 // The slots of constraints that are loaded.
@@ -86,12 +90,11 @@ fn loaded_slots(alloc: Global, loaded: &[Linear]) -> Result<Vec<Slot>, NoMemory>
     Ok(slots)
 }
 
-// The index of constraints that are loaded.
-fn loaded_index(alloc: Global, vars: u32, loaded: &[Linear]) -> Result<Vec<Named>, NoMemory>
-    requires { AreVarsWithin vars loaded.now }
-    ensures { IfOk result (λ lists. IsIndexed vars (placed_from 0 loaded.now) lists.items) }
+// The index of constraints that are loaded, with lists for so many variables.
+fn loaded_index(alloc: Global, size: u32, loaded: &[Linear]) -> Result<Vec<Named>, NoMemory>
+    ensures { IfOk result (λ lists. IsIndexed (placed_from 0 loaded.now) lists.items) }
 {
-    let mut lists = index::empty(alloc, vars)?;
+    let mut lists = index::empty(alloc, size)?;
     for (place, constraint) in loaded.iter().enumerate() {
         if !index::enter(&mut lists, constraint.terms(), place as u64 + 1) {
             return Err(NoMemory);
@@ -126,6 +129,43 @@ fn idle_engine(alloc: Global, vars: u32) -> Result<Engine, NoMemory>
     Engine::new(alloc, vars, Vec::new(alloc))
 }
 
+// Up to so many variables have tables, however few occur, and so many more for each term that is loaded.
+const FEW_VARS: usize = 1 << 22;
+
+const VARS_A_TERM: usize = 256;
+
+// So many lists have the ids where variables share them.
+const SHARED_LISTS: u32 = 1 << 18;
+
+// How many variables engines are over: all, where that is not far more than may occur, else none.
+fn most_of(vars: u32, loaded: &[Linear]) -> u32 {
+    let mut terms: usize = 0;
+    for constraint in loaded {
+        terms = terms.saturating_add(constraint.len());
+    }
+    let limit = terms.saturating_mul(VARS_A_TERM).saturating_add(FEW_VARS);
+    if vars as usize <= limit { vars } else { 0 }
+}
+
+// An engine over loaded constraints, and how many of these stand there: all, or none where there are variables beyond its own.
+fn first_engine(
+    alloc: Global,
+    vars: u32,
+    most: u32,
+    loaded: &[Linear],
+) -> Result<(Engine, usize), NoMemory>
+    requires { AreVarsWithin vars loaded.now }
+    ensures few { IfOk result (λ r. r.1 ≤ length loaded.now) }
+    ensures mirrored { IfOk result (λ r. IsMirrored most (take r.1 (placed_from 0 loaded.now)) r.0) }
+{
+    if most < vars {
+        let engine = idle_engine(alloc, most)?;
+        return Ok((engine, 0));
+    }
+    let engine = loaded_engine(alloc, most, loaded)?;
+    Ok((engine, loaded.len()))
+}
+
 impl Database {
     /// The database of loaded constraints, whose ids are 1, 2, .., over `original` variables of a problem and fresh ones up to `vars`.
     pub fn new(
@@ -139,21 +179,24 @@ impl Database {
         ensures { IfOk result (λ db. db ≡ loaded_database original vars loaded.now) }
     {
         let slots = loaded_slots(alloc, loaded)?;
-        let named = loaded_index(alloc, vars, loaded)?;
-        let engine = loaded_engine(alloc, vars, loaded)?;
-        let idle = idle_engine(alloc, vars)?;
-        let rounds = Rounds::new(alloc, vars)?;
+        let most = most_of(vars, loaded);
+        let lists = if most < vars { SHARED_LISTS } else { vars };
+        let named = loaded_index(alloc, lists, loaded)?;
+        let (engine, entered) = first_engine(alloc, vars, most, loaded)?;
+        let idle = idle_engine(alloc, most)?;
+        let rounds = Rounds::new(alloc, most)?;
         Ok(Database {
             original,
             vars,
+            most,
             slots,
-            entered: loaded.len(),
+            entered,
             engine,
             idle,
             rounds,
             named,
             left: 0,
-            limit: vars as usize,
+            limit: lists as usize,
             alloc,
         })
     }
@@ -203,12 +246,25 @@ impl Database {
         self.original
     }
 
+    // Whether propagation over constraints and all that stands reaches a conflict.
+    fn refutes_apart(&self, front: Constraints) -> Result<bool, NoMemory>
+        ensures { IfOk result (TellsConflict (front ++ live_constraints self.now.live)) }
+    {
+        let found = is_refuted_with_all(self.alloc, front, &self.slots)?;
+        Ok(found)
+    }
+
     /// Whether propagation over a constraint and all that stands reaches a conflict.
     pub(crate) fn refutes(&mut self, more: &Linear) -> Result<bool, NoMemory>
         requires { HasVarsWithin self.old.vars more.now.terms }
         ensures same { self.new ≡ self.old }
         ensures answer { IfOk result (TellsConflict (more.now ∷ live_constraints self.old.live)) }
     {
+        if self.most < self.vars {
+            let front = apart::one(self.alloc, more)?;
+            let found = self.refutes_apart(front)?;
+            return Ok(found);
+        }
         if !enter_rest(&mut self.engine, &mut self.slots, &mut self.entered) {
             return Err(NoMemory);
         }
@@ -222,6 +278,11 @@ impl Database {
         ensures same { self.new ≡ self.old }
         ensures answer { IfOk result (TellsConflict (first.now ∷ second.now ∷ live_constraints self.old.live)) }
     {
+        if self.most < self.vars {
+            let front = apart::two(self.alloc, first, second)?;
+            let found = self.refutes_apart(front)?;
+            return Ok(found);
+        }
         if !enter_rest(&mut self.engine, &mut self.slots, &mut self.entered) {
             return Err(NoMemory);
         }
@@ -234,6 +295,11 @@ impl Database {
         ensures same { self.new ≡ self.old }
         ensures answer { IfOk result (TellsConflict (more.now ∷ filter_map (constraint_at self.old.live) ids.now)) }
     {
+        if self.most < self.vars {
+            let front = apart::one(self.alloc, more)?;
+            let found = is_refuted_with_listed(self.alloc, front, &self.slots, ids)?;
+            return Ok(found);
+        }
         if let Some(found) = is_refuted_by_few(&mut self.rounds, &self.slots, more, ids) {
             return Ok(found);
         }
@@ -284,7 +350,7 @@ impl Database {
         ensures { self.new ≡ self.old }
     {
         let due = self.left > self.limit;
-        index::sweep_if(due, &mut self.named, self.vars, &self.slots);
+        index::sweep_if(due, &mut self.named, &self.slots);
         if due {
             self.left = 0;
             self.limit = index::len(&self.named);

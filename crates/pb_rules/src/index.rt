@@ -1,9 +1,9 @@
-//! For each variable, ids whose constraints have it, and perhaps others.
-ghost use Rattle.std.specs.Prelude.{◌≡◌, ◌<◌, ◌+◌, ◌++◌, ◌∷◌, [], ℕ, All, Contains, IfOk, IfSome, OnOk, OnErr, length, filter, is_some, slice_index_or};
+//! For each variable, ids whose constraints have it, and perhaps others. There may be fewer lists than variables: then some share one.
+ghost use Rattle.std.specs.Prelude.{◌≡◌, ◌<◌, ◌+◌, ◌%◌, ◌++◌, ◌∷◌, [], ℕ, All, Contains, IfOk, IfSome, OnOk, OnErr, length, filter, is_some, slice_index_or};
 ghost use Rattle.std.specs.Bool.{OnTrue};
 ghost use Rattle.pb_norm.specs.Constraints.{weights};
 ghost use Rattle.pb_rules.specs.laws.Slots.{slot_of};
-ghost use Rattle.pb_rules.specs.laws.Indexed.{ids_at, KeepsIds, LosesId, IsIndexed};
+ghost use Rattle.pb_rules.specs.laws.Indexed.{ids_at, ids_of, KeepsIds, LosesId, IsIndexed};
 
 use crate::slots::{self, Slot};
 use pb_base::{NoMemory, Term, Var};
@@ -70,7 +70,7 @@ impl Named {
     }
 }
 
-/// Empty lists for the variables up to a number.
+/// Empty lists, one for each of so many variables.
 pub(crate) fn empty(alloc: Global, vars: u32) -> Result<Vec<Named>, NoMemory>
     ensures size { IfOk result (λ v. length v.items ≡ vars + 1) }
 {
@@ -84,13 +84,23 @@ pub(crate) fn empty(alloc: Global, vars: u32) -> Result<Vec<Named>, NoMemory>
     Ok(lists)
 }
 
-// One more id for a variable, if there is memory.
-fn append(lists: &mut Vec<Named>, var: usize, id: u64) -> bool
-    requires { var < length lists.old.items }
-    ensures kept { KeepsIds lists.old.items lists.new.items }
-    ensures added { OnTrue result (Contains (ids_at lists.new.items var) id) }
+// The number of the list for a variable, where there are so many lists.
+fn number_in(count: usize, var: u32) -> usize
+    requires { 0 < count }
+    ensures value { result ≡ var % count }
+    ensures below { result < count }
 {
-    match lists[var].push(id) {
+    let var = var as usize;
+    if var < count { var } else { var % count }
+}
+
+// One more id in the list of a number, if there is memory.
+fn append(lists: &mut Vec<Named>, number: usize, id: u64) -> bool
+    requires { number < length lists.old.items }
+    ensures kept { KeepsIds lists.old.items lists.new.items }
+    ensures added { OnTrue result (Contains (ids_at lists.new.items number) id) }
+{
+    match lists[number].push(id) {
         Ok(()) => true,
         Err(_) => false,
     }
@@ -98,35 +108,38 @@ fn append(lists: &mut Vec<Named>, var: usize, id: u64) -> bool
 
 /// One more id for the variables of terms, if there is memory.
 pub(crate) fn enter(lists: &mut Vec<Named>, terms: &[Term], id: u64) -> bool
-    requires { All (λ t. t.lit.var < length lists.old.items) (weights terms.now) }
+    requires { 0 < length lists.old.items }
     ensures kept { KeepsIds lists.old.items lists.new.items }
-    ensures added { OnTrue result (All (λ t. Contains (ids_at lists.new.items t.lit.var) id) (weights terms.now)) }
+    ensures added { OnTrue result (All (λ t. Contains (ids_of lists.new.items t.lit.var) id) (weights terms.now)) }
 {
+    let count = lists.len();
     for term in terms {
-        if !append(lists, term.lit.index() as usize, id) {
+        if !append(lists, number_in(count, term.lit.index()), id) {
             return false;
         }
     }
     true
 }
 
-// Takes an id out of the list of a variable, where it is among the newest there. Whether it was.
-fn take_one(lists: &mut Vec<Named>, var: usize, id: u64) -> bool
+// Takes an id out of the list of a number, where it is among the newest there. Whether it was.
+fn take_one(lists: &mut Vec<Named>, number: usize, id: u64) -> bool
     ensures { LosesId id lists.old.items lists.new.items }
 {
-    if var >= lists.len() {
+    if number >= lists.len() {
         return false;
     }
-    lists[var].take(id)
+    lists[number].take(id)
 }
 
 /// Takes an id out of the lists of the variables of terms, where it is among the newest there. In how many it is left.
 pub(crate) fn leave(lists: &mut Vec<Named>, terms: &[Term], id: u64) -> usize
+    requires { 0 < length lists.old.items }
     ensures { LosesId id lists.old.items lists.new.items }
 {
+    let count = lists.len();
     let mut left: usize = 0;
     for term in terms {
-        if !take_one(lists, term.lit.index() as usize, id) {
+        if !take_one(lists, number_in(count, term.lit.index()), id) {
             left = left.saturating_add(1);
         }
     }
@@ -142,7 +155,7 @@ fn sweep(lists: &mut [Named], slots: &[Slot])
     }
 }
 
-/// How many variables and ids are listed.
+/// How many lists there are, and ids in them.
 pub(crate) fn len(lists: &[Named]) -> usize {
     let mut count = lists.len();
     for ids in lists {
@@ -152,9 +165,9 @@ pub(crate) fn len(lists: &[Named]) -> usize {
 }
 
 /// Lists only ids whose constraints stand, where that is due.
-pub(crate) fn sweep_if(due: bool, lists: &mut Vec<Named>, vars: u32, slots: &[Slot])
-    requires { IsIndexed vars slots.now lists.old.items }
-    ensures { IsIndexed vars slots.now lists.new.items }
+pub(crate) fn sweep_if(due: bool, lists: &mut Vec<Named>, slots: &[Slot])
+    requires { IsIndexed slots.now lists.old.items }
+    ensures { IsIndexed slots.now lists.new.items }
 {
     if due {
         sweep(lists, slots);
@@ -163,9 +176,10 @@ pub(crate) fn sweep_if(due: bool, lists: &mut Vec<Named>, vars: u32, slots: &[Sl
 
 /// The ids that are listed for a variable.
 pub(crate) fn ids_of(lists: &[Named], var: Var) -> &[u64]
-    ensures { result.now ≡ ids_at lists.now var }
+    requires { 0 < length lists.now }
+    ensures { result.now ≡ ids_of lists.now var }
 {
-    match lists.get(var.index() as usize) {
+    match lists.get(number_in(lists.len(), var.index())) {
         Some(ids) => ids.as_slice(),
         None => &[],
     }

@@ -1,6 +1,7 @@
 //! The constraints that stand while a derivation is checked, and the rules by which steps change them.
 #![tactic(auto)]
 
+mod apart;
 mod apply;
 mod database;
 mod del;

@@ -1,13 +1,19 @@
 pub mod Answering
+pub mod ByNames
 pub mod Entering
 pub mod Fillings
 pub mod Lawful
 pub mod Laying
 pub mod Listing
+pub mod Numbered
+pub mod Numbers
 pub mod Passing
 pub mod Placing
+pub mod Pushed
 pub mod Pushing
 pub mod Queueing
+pub mod ReadForms
+pub mod Renaming
 pub mod Rows
 pub mod Sections
 pub mod Slotting
@@ -17,4 +23,5 @@ pub mod Telling
 pub mod TrailValues
 pub mod Trailing
 pub mod Unlisting
+pub mod UpTo
 pub mod Visits

@@ -4,6 +4,8 @@ pub mod Index
 pub mod Kept
 pub mod Laws
 pub mod Outcomes
+pub mod Reaching
+pub mod Renaming
 pub mod Reads
 pub mod Slots
 pub mod States

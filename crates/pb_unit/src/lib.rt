@@ -1,6 +1,7 @@
 //! Lists of constraints, and unit propagation over them.
 #![tactic(auto)]
 
+mod apart;
 mod constraints;
 mod engine;
 mod filling;
@@ -8,6 +9,7 @@ mod index;
 mod kept;
 mod laws;
 mod newest;
+mod numbering;
 mod passes;
 mod places;
 mod queue;
@@ -17,8 +19,12 @@ mod store;
 mod trail;
 mod visit;
 
+pub use apart::is_conflicting;
 pub use constraints::Constraints;
 pub use engine::{Engine, Outcome};
 pub use laws::{a_conflict_stays, a_refused_literal_conflicts, answers_over_clauses};
 pub use newest::newest_that;
+pub use numbering::{
+    greatest, greatest_of, lit_at, named_lits, names_of, numbered_forms, numbered_lits, vars_of,
+};
 pub use rounds::Rounds;

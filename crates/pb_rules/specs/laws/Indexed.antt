@@ -1,5 +1,5 @@
 -- Ids by the variables that constraints have.
-use Rattle.std.specs.Prelude.{◌≡◌, ◌≤◌, ◌+◌, ℕ, true, List, [], Option, Some, None, All, Contains, IsTrue, length, slice_index_or, nat_le, if◌then◌else◌}
+use Rattle.std.specs.Prelude.{◌≡◌, ◌≤◌, ◌<◌, ◌%◌, ℕ, true, List, [], Option, Some, None, All, Contains, IsTrue, length, slice_index_or, nat_le, if◌then◌else◌}
 use Rattle.pb_norm.specs.Constraints.{Constraint}
 use Rattle.pb_steps.specs.declared.op.Set.{Set}
 use Rattle.pb_steps.specs.Database.{Entry, constraint_at}
@@ -8,24 +8,28 @@ use Rattle.pb_rules.specs.Naming.{names_var, names_at}
 use Rattle.pb_rules.specs.declared.slots.Slot.{Slot}
 use Rattle.pb_rules.specs.laws.Slots.{slot_of}
 
--- the ids that are listed for a variable
+-- the ids in the list of a number
 abbrev pub ids_at : List (List ℕ) → ℕ → List ℕ
-ids_at lists v = slice_index_or lists v []
+ids_at lists n = slice_index_or lists n []
+
+-- the ids that are listed for a variable; variables share a list where there are more of them than lists
+abbrev pub ids_of : List (List ℕ) → ℕ → List ℕ
+ids_of lists v = ids_at lists (v % length lists)
 
 -- each constraint that stands is listed for each of its variables
-pub record IsIndexed (vars : ℕ) (ss : List Slot) (lists : List (List ℕ)) : Type 0 where
-  pub size : length lists ≡ vars + 1
-  pub complete : (id v : ℕ) → names_var v (slot_of ss id).constraint ≡ true → Contains (ids_at lists v) id
+pub record IsIndexed (ss : List Slot) (lists : List (List ℕ)) : Type 0 where
+  pub enough : 0 < length lists
+  pub complete : (id v : ℕ) → names_var v (slot_of ss id).constraint ≡ true → Contains (ids_of lists v) id
 
 -- the lists have the same ids, and perhaps more
 pub record KeepsIds (before after : List (List ℕ)) : Type 0 where
   pub size : length after ≡ length before
-  pub more : (v id : ℕ) → Contains (ids_at before v) id → Contains (ids_at after v) id
+  pub more : (n id : ℕ) → Contains (ids_at before n) id → Contains (ids_at after n) id
 
 -- the lists have the same ids but for one, and perhaps more
 pub record LosesId (id : ℕ) (before after : List (List ℕ)) : Type 0 where
   pub size : length after ≡ length before
-  pub others : (v k : ℕ) → (k ≡ id → ⊥) → Contains (ids_at before v) k → Contains (ids_at after v) k
+  pub others : (n k : ℕ) → (k ≡ id → ⊥) → Contains (ids_at before n) k → Contains (ids_at after n) k
 
 -- each constraint that has a set variable is among the ids
 abbrev pub HasNamed : List Entry → List Set → List ℕ → Type 0

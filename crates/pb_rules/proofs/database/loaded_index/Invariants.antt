@@ -4,4 +4,4 @@ use Rattle.pb_rules.specs.laws.Indexed.{IsIndexed}
 use Rattle.pb_rules.proofs.database.loaded_index.Given as goal
 
 abbrev pub invariant-loop-place : goal.invariant-loop-place
-invariant-loop-place l = IsIndexed l.vars (placed_from 0 (take l.place l.loaded)) l.lists.items
+invariant-loop-place l = IsIndexed (placed_from 0 (take l.place l.loaded)) l.lists.items

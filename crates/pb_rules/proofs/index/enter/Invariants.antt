@@ -1,11 +1,11 @@
 use Rattle.std.proofs.Common.{ℕ, ◌<◌}
 use Rattle.std.specs.Prelude.{Contains, slice_index_or}
 use Rattle.pb_base.specs.declared.literal.Term.{Term}
-use Rattle.pb_rules.specs.laws.Indexed.{ids_at, KeepsIds}
+use Rattle.pb_rules.specs.laws.Indexed.{ids_of, KeepsIds}
 use Rattle.pb_rules.proofs.index.enter.Given as goal
 
 abbrev pub invariant-loop-term : goal.invariant-loop-term
 invariant-loop-term l = record {
   kept : KeepsIds l.initial.lists.items l.lists.items;
-  added : (k : ℕ) (d : Term) → k < l.term-index → Contains (ids_at l.lists.items (slice_index_or l.terms k d).lit.var) l.id;
+  added : (k : ℕ) (d : Term) → k < l.term-index → Contains (ids_of l.lists.items (slice_index_or l.terms k d).lit.var) l.id;
 }

@@ -1,4 +1,4 @@
-use Rattle.std.proofs.Common.{◌≡◌, ◌≤◌, ◌∙◌, ◌+◌, ap, sym, ℕ, subst, List, ◌∷◌, [], arith, length, length-append}
+use Rattle.std.proofs.Common.{◌≡◌, ◌∙◌, ◌+◌, ap, sym, ℕ, subst, List, ◌∷◌, [], arith, length, length-append}
 use Rattle.std.specs.Prelude.{All, Contains}
 use Rattle.std.proofs.lemmas.Bool.{OnTrue_at}
 use Rattle.pb_norm.specs.Constraints.{Weighted, HasVarsWithin}
@@ -8,21 +8,16 @@ use Rattle.pb_rules.specs.laws.Slots.{database_of, whole}
 use Rattle.pb_rules.specs.laws.Mirrors.{IsKept}
 use Rattle.pb_rules.proofs.SlotLemmas.{sound-push, grown-slots}
 use Rattle.pb_rules.proofs.Fronts.{front-pushed, kept-listed}
-use Rattle.pb_rules.specs.laws.Indexed.{ids_at}
-use Rattle.pb_rules.proofs.Indexing.{indexed-kept, indexed-pushed, vars-below}
+use Rattle.pb_rules.specs.laws.Indexed.{ids_of}
+use Rattle.pb_rules.proofs.Indexing.{indexed-kept, indexed-pushed}
 use Rattle.pb_rules.proofs.database.Database.grow.Goals as goal
-
-pub enter-requires : goal.enter-requires
-enter-requires c =
-    let within : HasVarsWithin c.self.inside.vars c.args.constraint.terms = subst (λ (n : ℕ). HasVarsWithin n c.args.constraint.terms) (λ i. (sym c.self.view_is i).vars) c.requires.within in
-    vars-below c.self.inside.vars (length c.self.inside.named.items) _ c.self.invariant.indexed.size (subst (λ (ts : List Weighted). All (λ (t : Weighted). t.lit.var ≤ c.self.inside.vars) ts) (sym c.terms.ensures.weights) within)
 
 pub invariant_of-self-in_err-push : goal.invariant_of-self-in_err-push
 invariant_of-self-in_err-push c =
     let old = c.self.inside.slots.items in
-    let listed = indexed-kept c.self.inside.vars old c.self.inside.named.items c.enter.new.lists.items c.enter.ensures.kept c.self.invariant.indexed in
-    subst (λ (ss : List Slot). IsKept c.self.inside.original c.self.inside.vars ss c.self.inside.entered c.self.inside.engine c.self.inside.idle c.self.inside.rounds c.enter.new.lists.items) (sym c.in_err-push.ensures.err)
-    (kept-listed c.self.inside.original c.self.inside.vars c.self.inside.entered old c.self.inside.engine c.self.inside.idle c.self.inside.rounds c.self.inside.named.items c.enter.new.lists.items c.self.invariant listed)
+    let listed = indexed-kept old c.self.inside.named.items c.enter.new.lists.items c.enter.ensures.kept c.self.invariant.indexed in
+    subst (λ (ss : List Slot). IsKept c.self.inside.original c.self.inside.vars c.self.inside.most ss c.self.inside.entered c.self.inside.engine c.self.inside.idle c.self.inside.rounds c.enter.new.lists.items) (sym c.in_err-push.ensures.err)
+    (kept-listed c.self.inside.original c.self.inside.vars c.self.inside.most c.self.inside.entered old c.self.inside.engine c.self.inside.idle c.self.inside.rounds c.self.inside.named.items c.enter.new.lists.items c.self.invariant listed)
 
 pub invariant_of-self-2 : goal.invariant_of-self-2
 invariant_of-self-2 c =
@@ -35,13 +30,13 @@ invariant_of-self-2 c =
     record {
       sound = sound-push vars old new c.args.constraint 0 put c.self.invariant.sound c.requires.narrow within;
       few = omega (arith, c.self.invariant.few, longer);
-      mirrored = front-pushed vars c.self.inside.entered old new (whole c.args.constraint 0 ∷ []) c.self.inside.engine c.self.invariant.few put c.self.invariant.mirrored;
+      mirrored = front-pushed c.self.inside.most c.self.inside.entered old new (whole c.args.constraint 0 ∷ []) c.self.inside.engine c.self.invariant.few put c.self.invariant.mirrored;
       is_idle = c.self.invariant.is_idle;
       beside = c.self.invariant.beside;
       indexed =
-          let kept = indexed-kept vars old c.self.inside.named.items c.enter.new.lists.items c.enter.ensures.kept c.self.invariant.indexed in
-          let added = subst (λ (ts : List Weighted). All (λ (t : Weighted). Contains (ids_at c.enter.new.lists.items t.lit.var) (c.len.result + 1)) ts) c.terms.ensures.weights (OnTrue_at c.if-not-enter.false c.enter.ensures.added) in
-          indexed-pushed vars old new c.enter.new.lists.items c.args.constraint 0 (c.len.result + 1) put (omega (arith, c.len.ensures)) added kept;
+          let kept = indexed-kept old c.self.inside.named.items c.enter.new.lists.items c.enter.ensures.kept c.self.invariant.indexed in
+          let added = subst (λ (ts : List Weighted). All (λ (t : Weighted). Contains (ids_of c.enter.new.lists.items t.lit.var) (c.len.result + 1)) ts) c.terms.ensures.weights (OnTrue_at c.if-not-enter.false c.enter.ensures.added) in
+          indexed-pushed old new c.enter.new.lists.items c.args.constraint 0 (c.len.result + 1) put (omega (arith, c.len.ensures)) added kept;
     }
 
 pub returns-clause-ok : goal.returns-clause-ok

@@ -1,24 +1,24 @@
-use Rattle.std.proofs.Common.{◌≡◌, ◌∙◌, [], List, length, ap, refl, sym, subst, arith}
+use Rattle.std.proofs.Common.{◌≡◌, ◌∙◌, [], List, length, take, ap, refl, sym, subst, arith}
 use Rattle.pb_unit.specs.Trails.{Held}
 use Rattle.pb_rules.specs.declared.slots.Slot.{Slot}
 use Rattle.pb_rules.specs.laws.Indexed.{IsIndexed}
+use Rattle.pb_rules.specs.laws.Mirrors.{IsMirrored}
 use Rattle.pb_rules.proofs.SlotLemmas.{sound-loaded_database, loaded_database-slots, length-placed_from}
-use Rattle.pb_rules.proofs.Mirroring.{mirrored-new}
-use Rattle.pb_rules.proofs.Fronts.{entered-whole}
 use Rattle.pb_rules.proofs.Refuting.{idle-new}
 use Rattle.pb_rules.proofs.database.Database.new.Goals as goal
 
 pub invariant_of-result : goal.invariant_of-result
 invariant_of-result c =
     let slots = c.in_ok-slots.slots.items in
+    let most = c.most_of-most.result in
     let count : length slots ≡ length c.args.loaded.now = ap length c.in_ok-slots.ensures ∙ length-placed_from 0 c.args.loaded.now in
     record {
       sound = sound-loaded_database c.args.vars c.in_ok-slots.slots.items c.args.loaded.now c.in_ok-slots.ensures c.requires.within c.requires.narrow;
-      few = omega (arith, count);
-      mirrored = entered-whole c.args.vars (length c.args.loaded.now) slots c.in_ok-engine.engine (omega (arith, count)) (mirrored-new c.args.vars slots c.args.loaded.now c.args.loaded.now c.in_ok-engine.engine c.in_ok-slots.ensures c.in_ok-engine.ensures refl);
-      is_idle = idle-new c.args.vars [] c.in_ok-idle.idle c.in_ok-idle.ensures refl;
+      few = omega (arith, count, c.in_ok-engine.ensures.few);
+      mirrored = subst (λ (ss : List Slot). IsMirrored most (take c.in_ok-engine.entered ss) c.in_ok-engine.engine) (sym c.in_ok-slots.ensures) c.in_ok-engine.ensures.mirrored;
+      is_idle = idle-new most [] c.in_ok-idle.idle c.in_ok-idle.ensures refl;
       beside = ap (λ (h : Held). h.vars) c.in_ok-rounds.ensures;
-      indexed = subst (λ (ss : List Slot). IsIndexed c.args.vars ss c.in_ok-named.named.items) (sym c.in_ok-slots.ensures) c.in_ok-named.ensures;
+      indexed = subst (λ (ss : List Slot). IsIndexed ss c.in_ok-named.named.items) (sym c.in_ok-slots.ensures) c.in_ok-named.ensures;
     }
 
 pub returns : goal.returns

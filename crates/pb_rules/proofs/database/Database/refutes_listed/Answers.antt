@@ -1,23 +1,33 @@
-use Rattle.std.proofs.Common.{◌≡◌, ◌∙◌, ◌∷◌, ap, sym, subst, List, ℕ}
+use Rattle.std.proofs.Common.{◌≡◌, ◌∙◌, ◌∷◌, ◌++◌, ap, arith, sym, subst, List, ℕ}
 use Rattle.std.specs.Prelude.{IfOk, filter_map}
-use Rattle.pb_norm.specs.Constraints.{Constraint}
+use Rattle.pb_norm.specs.Constraints.{Constraint, HasVarsWithin}
 use Rattle.pb_steps.specs.Database.{Database, constraint_at}
 use Rattle.pb_rules.specs.declared.slots.Slot.{Slot}
 use Rattle.pb_rules.specs.laws.Slots.{listed_slots, database_of}
 use Rattle.pb_rules.specs.laws.Mirrors.{AreWithin, TellsConflict}
 use Rattle.pb_rules.proofs.SlotLemmas.{listed-slots}
-use Rattle.pb_rules.proofs.Mirroring.{slots-within}
+use Rattle.pb_rules.proofs.Mirroring.{slots-within, slots-more, within-more}
 use Rattle.pb_rules.proofs.database.Database.refutes_listed.Goals as goal
+
+pub is_refuted_by_few-requires-clause-more : goal.is_refuted_by_few-requires-clause-more
+is_refuted_by_few-requires-clause-more c =
+    let within = subst (λ (n : ℕ). HasVarsWithin n c.args.more.now.terms) (λ i. (sym c.self.view_is i).vars) c.requires in
+    within-more c.self.inside.vars c.self.inside.most c.self.inside.rounds.vars c.args.more.now.terms (omega (arith, c.if-self.false)) c.self.invariant.beside within
 
 pub is_refuted_by_few-requires-clause-within : goal.is_refuted_by_few-requires-clause-within
 is_refuted_by_few-requires-clause-within c =
-    subst (λ (ss : List Slot). AreWithin c.self.inside.rounds.vars ss) (sym c.deref.ensures.value)
-    (subst (λ (vars : ℕ). AreWithin vars c.self.inside.slots.items) (sym c.self.invariant.beside) (slots-within c.self.inside.vars c.self.inside.slots.items c.self.invariant.sound))
+    subst (λ (ss : List Slot). AreWithin c.self.inside.rounds.vars ss) (sym c.deref-2.ensures.value)
+    (slots-more c.self.inside.vars c.self.inside.most c.self.inside.rounds.vars c.self.inside.slots.items (omega (arith, c.if-self.false)) c.self.invariant.beside (slots-within c.self.inside.vars c.self.inside.slots.items c.self.invariant.sound))
+
+pub is_refuted_by-requires-clause-more : goal.is_refuted_by-requires-clause-more
+is_refuted_by-requires-clause-more c =
+    let within = subst (λ (n : ℕ). HasVarsWithin n c.args.more.now.terms) (λ i. (sym c.self.view_is i).vars) c.requires in
+    within-more c.self.inside.vars c.self.inside.most c.self.inside.idle.vars c.args.more.now.terms (omega (arith, c.if-self.false)) c.self.invariant.is_idle.vars_are within
 
 pub is_refuted_by-requires-clause-within : goal.is_refuted_by-requires-clause-within
 is_refuted_by-requires-clause-within c =
-    subst (λ (ss : List Slot). AreWithin c.self.inside.idle.vars ss) (sym c.deref-2.ensures.value)
-    (subst (λ (vars : ℕ). AreWithin vars c.self.inside.slots.items) (sym c.self.invariant.is_idle.vars_are) (slots-within c.self.inside.vars c.self.inside.slots.items c.self.invariant.sound))
+    subst (λ (ss : List Slot). AreWithin c.self.inside.idle.vars ss) (sym c.deref-3.ensures.value)
+    (slots-more c.self.inside.vars c.self.inside.most c.self.inside.idle.vars c.self.inside.slots.items (omega (arith, c.if-self.false)) c.self.invariant.is_idle.vars_are (slots-within c.self.inside.vars c.self.inside.slots.items c.self.invariant.sound))
 
 listed_live : (original vars : ℕ) (ss ts : List Slot) (db : Database) (ids : List ℕ) → ts ≡ ss → database_of original vars ss ≡ db → listed_slots ts ids ≡ filter_map (constraint_at db.live) ids
 listed_live original vars ss ts db ids e view =
@@ -26,9 +36,16 @@ listed_live original vars ss ts db ids e view =
 pub returns-in-Some-clause-answer : goal.returns-in-Some-clause-answer
 returns-in-Some-clause-answer c =
     subst (λ (cs : List Constraint). TellsConflict (c.args.more.now ∷ cs) c.in-Some.found)
-    (listed_live c.self.inside.original c.self.inside.vars c.self.inside.slots.items c.deref.result.now c.args.self.now c.args.ids.now c.deref.ensures.value c.self.view_is) c.in-Some.ensures.answer
+    (listed_live c.self.inside.original c.self.inside.vars c.self.inside.slots.items c.deref-2.result.now c.args.self.now c.args.ids.now c.deref-2.ensures.value c.self.view_is) c.in-Some.ensures.answer
 
 pub returns-clause-answer : goal.returns-clause-answer
 returns-clause-answer c =
     subst (λ (cs : List Constraint). IfOk c.is_refuted_by.result (TellsConflict (c.args.more.now ∷ cs)))
-    (listed_live c.self.inside.original c.self.inside.vars c.self.inside.slots.items c.deref-2.result.now c.args.self.now c.args.ids.now c.deref-2.ensures.value c.self.view_is) c.is_refuted_by.ensures.answer
+    (listed_live c.self.inside.original c.self.inside.vars c.self.inside.slots.items c.deref-3.result.now c.args.self.now c.args.ids.now c.deref-3.ensures.value c.self.view_is) c.is_refuted_by.ensures.answer
+
+pub returns-then-self-clause-answer : goal.returns-then-self-clause-answer
+returns-then-self-clause-answer c =
+    let front = c.in_ok-front.front in
+    subst (λ (cs : List Constraint). TellsConflict (cs ++ filter_map (constraint_at c.args.self.now.live) c.args.ids.now) c.in_ok-found.found) c.in_ok-front.ensures
+    (subst (λ (cs : List Constraint). TellsConflict (front ++ cs) c.in_ok-found.found)
+    (listed_live c.self.inside.original c.self.inside.vars c.self.inside.slots.items c.deref.result.now c.args.self.now c.args.ids.now c.deref.ensures.value c.self.view_is) c.in_ok-found.ensures)

@@ -18,10 +18,10 @@ invariant_of-self c =
     record {
       sound = sound-without c.self.inside.vars (c.args.id ∷ []) (entries_from 1 old) (entries_from 1 new) live c.self.invariant.sound;
       few = omega (arith, c.self.invariant.few, ap length c.take-gone.ensures.after, length-slots_without old c.args.id);
-      mirrored = c.leave.ensures c.self.inside.vars old new c.take-gone.ensures.after at c.self.invariant.mirrored;
+      mirrored = c.leave.ensures c.self.inside.most old new c.take-gone.ensures.after at c.self.invariant.mirrored;
       is_idle = c.self.invariant.is_idle;
       beside = c.self.invariant.beside;
-      indexed = indexed-lost c.self.inside.vars c.args.id old new c.self.inside.named.items c.leave-left.new.lists.items c.take-gone.ensures.after c.leave-left.ensures c.self.invariant.indexed;
+      indexed = indexed-lost c.args.id old new c.self.inside.named.items c.leave-left.new.lists.items c.take-gone.ensures.after c.leave-left.ensures c.self.invariant.indexed;
     }
 
 pub invariant_of-self-in-None : goal.invariant_of-self-in-None
@@ -33,10 +33,10 @@ invariant_of-self-in-None c =
     record {
       sound = sound-without c.self.inside.vars (c.args.id ∷ []) (entries_from 1 old) (entries_from 1 new) live c.self.invariant.sound;
       few = omega (arith, c.self.invariant.few, ap length c.take-gone.ensures.after, length-slots_without old c.args.id);
-      mirrored = front-without_none c.self.inside.vars c.self.inside.entered c.args.id old new c.self.inside.engine c.take-gone.ensures.after at c.self.invariant.mirrored;
+      mirrored = front-without_none c.self.inside.most c.self.inside.entered c.args.id old new c.self.inside.engine c.take-gone.ensures.after at c.self.invariant.mirrored;
       is_idle = c.self.invariant.is_idle;
       beside = c.self.invariant.beside;
-      indexed = indexed-without c.self.inside.vars c.args.id old new c.self.inside.named.items c.take-gone.ensures.after c.self.invariant.indexed;
+      indexed = indexed-without c.args.id old new c.self.inside.named.items c.take-gone.ensures.after c.self.invariant.indexed;
     }
 
 pub returns-in-Some : goal.returns-in-Some

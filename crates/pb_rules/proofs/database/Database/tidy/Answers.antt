@@ -4,4 +4,4 @@ use Rattle.pb_rules.specs.laws.Indexed.{IsIndexed}
 use Rattle.pb_rules.proofs.database.Database.tidy.Goals as goal
 
 pub sweep_if-requires : goal.sweep_if-requires
-sweep_if-requires c = subst (λ (ss : List Slot). IsIndexed c.self.inside.vars ss c.self.inside.named.items) (sym c.deref.ensures.value) c.self.invariant.indexed
+sweep_if-requires c = subst (λ (ss : List Slot). IsIndexed ss c.self.inside.named.items) (sym c.deref.ensures.value) c.self.invariant.indexed

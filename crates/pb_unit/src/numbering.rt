@@ -1,0 +1,240 @@
+//! Variables by their places among those that occur, so that tables over them are no longer than the text.
+ghost use Rattle.std.specs.Prelude.{◌≡◌, ◌≤◌, ◌<◌, ◌^◌, ◌++◌, ℕ, length, map, All, Contains, IfOk, OnOk};
+ghost use Rattle.pb_norm.specs.Constraints.{constraint_of, weights, AreUnsigned, IsLinear};
+ghost use Rattle.pb_unit.specs.Reaching.{IsUpTo, OfConstraint, OfLit, OfTerm};
+ghost use Rattle.pb_unit.specs.Renaming.{all_vars, form_vars, lit_vars, name_at, number_in, renamed, renamed_lit, term_vars, AreNames, IsName};
+
+use crate::constraints::Constraints;
+use pb_base::{Lit, NoMemory, Term, Var};
+use pb_norm::Linear;
+use std::alloc::{AllocError, Global};
+
+// Adds the variables of terms.
+fn push_term_vars(terms: &[Term], out: &mut Vec<u32>) -> Result<(), AllocError>
+    requires { All IsName out.old.items }
+    ensures vars { OnOk result (out.new.items ≡ out.old.items ++ term_vars (weights terms.now)) }
+    ensures names { OnOk result (All IsName out.new.items) }
+{
+    for term in terms {
+        out.push(term.lit.index())?;
+    }
+    Ok(())
+}
+
+// Adds the variables of constraints.
+fn push_form_vars(alloc: Global, forms: &Constraints, out: &mut Vec<u32>) -> Result<(), NoMemory>
+    requires { All IsName out.old.items }
+    ensures vars { OnOk result (out.new.items ≡ out.old.items ++ form_vars forms.now) }
+    ensures names { OnOk result (All IsName out.new.items) }
+{
+    let mut terms = Vec::new(alloc);
+    for place in 0..forms.len() {
+        let _ = forms.read(place, &mut terms)?;
+        push_term_vars(&terms, out)?;
+    }
+    Ok(())
+}
+
+// Adds the variables of literals.
+fn push_lit_vars(lits: &[Lit], out: &mut Vec<u32>) -> Result<(), AllocError>
+    requires { All IsName out.old.items }
+    ensures vars { OnOk result (out.new.items ≡ out.old.items ++ lit_vars lits.now) }
+    ensures names { OnOk result (All IsName out.new.items) }
+{
+    for lit in lits {
+        out.push(lit.index())?;
+    }
+    Ok(())
+}
+
+/// The variable of each literal of constraints, and of other literals.
+pub fn vars_of(alloc: Global, forms: &Constraints, lits: &[Lit]) -> Result<Vec<u32>, NoMemory>
+    ensures vars { IfOk result (λ v. v.items ≡ all_vars forms.now lits.now) }
+    ensures names { IfOk result (λ v. All IsName v.items) }
+{
+    let mut vars = Vec::new(alloc);
+    push_form_vars(alloc, forms, &mut vars)?;
+    push_lit_vars(lits, &mut vars)?;
+    Ok(vars)
+}
+
+// The greatest variable of terms, or a number that is no less.
+fn greatest_in(terms: &[Term], least: u32) -> u32
+    requires { least < 2 ^ 31 }
+    ensures within { All (λ t. IsUpTo result t.lit.var) terms.now }
+    ensures no_less { least ≤ result }
+    ensures few { result < 2 ^ 31 }
+{
+    let mut most = least;
+    for term in terms {
+        most = most.max(term.lit.index());
+    }
+    most
+}
+
+/// The greatest variable of constraints, or a number that is no less.
+pub fn greatest_of(alloc: Global, forms: &Constraints, least: u32) -> Result<u32, NoMemory>
+    requires { least < 2 ^ 31 }
+    ensures within { IfOk result (λ most. All (OfConstraint (IsUpTo most)) forms.now) }
+    ensures no_less { IfOk result (λ most. least ≤ most) }
+    ensures few { IfOk result (λ most. most < 2 ^ 31) }
+{
+    let mut terms = Vec::new(alloc);
+    let mut most = least;
+    for place in 0..forms.len() {
+        let _ = forms.read(place, &mut terms)?;
+        most = greatest_in(&terms, most);
+    }
+    Ok(most)
+}
+
+/// The greatest variable of literals, or 0.
+pub fn greatest(lits: &[Lit]) -> u32
+    ensures within { All (OfLit (IsUpTo result)) lits.now }
+    ensures few { result < 2 ^ 31 }
+{
+    let mut most: u32 = 0;
+    for lit in lits {
+        most = most.max(lit.index());
+    }
+    most
+}
+
+/// The variables, each once, ascending.
+pub fn names_of(vars: Vec<u32>) -> Vec<u32>
+    requires { All IsName vars.items }
+    ensures names { AreNames result.items }
+    ensures same { (v : ℕ) → Contains vars.items v → Contains result.items v }
+{
+    let mut names = vars;
+    names.sort_unstable();
+    names.dedup();
+    names
+}
+
+/// The literal of a variable.
+pub fn lit_at(index: u32, positive: bool) -> Lit
+    requires low { 1 ≤ index }
+    requires high { index < 2 ^ 31 }
+    ensures { result ≡ record { var = index; positive = positive } }
+{
+    Lit {
+        var: Var::new(index),
+        positive,
+    }
+}
+
+// The literal over the place of its variable among the names, from 1 on.
+fn numbered(names: &[u32], lit: Lit) -> Lit
+    requires names { AreNames names.now }
+    requires known { Contains names.now lit.var }
+    ensures { result ≡ renamed_lit (number_in names.now) lit }
+{
+    let Ok(place) = names.binary_search(&lit.index()) else {
+        unreachable!();
+    };
+    lit_at(place as u32 + 1, lit.positive)
+}
+
+// Terms over the places of their variables.
+fn numbered_terms(alloc: Global, names: &[u32], terms: &[Term]) -> Result<Vec<Term>, AllocError>
+    requires names { AreNames names.now }
+    requires known { All (λ t. Contains names.now t.lit.var) terms.now }
+    ensures { IfOk result (λ v. v.items ≡ map (λ t. record { coef = t.coef; lit = renamed_lit (number_in names.now) t.lit }) terms.now) }
+{
+    let mut made = Vec::new(alloc);
+    for term in terms {
+        made.push(Term {
+            coef: term.coef,
+            lit: numbered(names, term.lit),
+        })?;
+    }
+    Ok(made)
+}
+
+// A constraint over the places of its variables.
+fn numbered_form(
+    alloc: Global,
+    names: &[u32],
+    terms: &[Term],
+    degree: u128,
+) -> Result<Linear, NoMemory>
+    requires names { AreNames names.now }
+    requires unsigned { AreUnsigned terms.now }
+    requires linear { IsLinear (constraint_of terms.now degree) }
+    requires known { OfConstraint (Contains names.now) (constraint_of terms.now degree) }
+    ensures { IfOk result (λ c. c ≡ renamed (number_in names.now) (constraint_of terms.now degree)) }
+{
+    let terms = numbered_terms(alloc, names, terms)?;
+    Ok(Linear::from_parts(terms, degree))
+}
+
+// Adds constraints over the places of their variables.
+fn push_numbered(
+    alloc: Global,
+    names: &[u32],
+    forms: &Constraints,
+    made: &mut Constraints,
+) -> Result<(), NoMemory>
+    requires names { AreNames names.now }
+    requires known { All (OfConstraint (Contains names.now)) forms.now }
+    ensures { OnOk result (made.new ≡ made.old ++ map (renamed (number_in names.now)) forms.now) }
+{
+    let mut terms = Vec::new(alloc);
+    for place in 0..forms.len() {
+        let degree = forms.read(place, &mut terms)?;
+        let form = numbered_form(alloc, names, &terms, degree)?;
+        made.push(&form)?;
+    }
+    Ok(())
+}
+
+/// Constraints over the places of their variables.
+pub fn numbered_forms(
+    alloc: Global,
+    names: &[u32],
+    forms: &Constraints,
+) -> Result<Constraints, NoMemory>
+    requires names { AreNames names.now }
+    requires known { All (OfConstraint (Contains names.now)) forms.now }
+    ensures { IfOk result (λ made. made ≡ map (renamed (number_in names.now)) forms.now) }
+{
+    let mut made = Constraints::new(alloc);
+    push_numbered(alloc, names, forms, &mut made)?;
+    Ok(made)
+}
+
+/// Literals over the places of their variables.
+pub fn numbered_lits(alloc: Global, names: &[u32], lits: &[Lit]) -> Result<Vec<Lit>, AllocError>
+    requires names { AreNames names.now }
+    requires known { All (OfLit (Contains names.now)) lits.now }
+    ensures { IfOk result (λ v. v.items ≡ map (renamed_lit (number_in names.now)) lits.now) }
+{
+    let mut made = Vec::new(alloc);
+    for lit in lits {
+        made.push(numbered(names, *lit))?;
+    }
+    Ok(made)
+}
+
+// The literal of the variable at a place.
+fn named(names: &[u32], lit: Lit) -> Lit
+    requires names { AreNames names.now }
+    requires place { IsUpTo (length names.now) lit.var }
+    ensures { result ≡ renamed_lit (name_at names.now) lit }
+{
+    lit_at(names[lit.index() as usize - 1], lit.positive)
+}
+
+/// The literals of the variables at their places.
+pub fn named_lits(alloc: Global, names: &[u32], lits: &[Lit]) -> Result<Vec<Lit>, AllocError>
+    requires names { AreNames names.now }
+    requires places { All (OfLit (IsUpTo (length names.now))) lits.now }
+    ensures { IfOk result (λ v. v.items ≡ map (renamed_lit (name_at names.now)) lits.now) }
+{
+    let mut made = Vec::new(alloc);
+    for lit in lits {
+        made.push(named(names, *lit))?;
+    }
+    Ok(made)
+}
