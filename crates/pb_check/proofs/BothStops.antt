@@ -3,6 +3,7 @@ use Rattle.std.proofs.Common.{◌≡◌, ℕ, List}
 use Rattle.std.specs.Prelude.{◌≢◌}
 use Rattle.pb_desk.specs.Desk.{DeskState}
 use Rattle.pb_desk.specs.LineReaders.{Reader}
+use Rattle.pb_desk.specs.LineReading.{may_end}
 use Rattle.pb_check.specs.declared.verdict.CheckFault.{CheckFault}
 use Rattle.pb_check.specs.declared.verdict.CheckFault.TheVariants.{Refused, Limit, ReadFault, NoMemory}
 use Rattle.pb_desk.specs.TwoSlots.{ReadsBoth}
@@ -11,7 +12,7 @@ use Rattle.pb_desk.proofs.BothSlots.{both_of_one, both_of_two, both_then, both_w
 
 pub stops_of_cnf : (f : CheckFault) (cnf cnf' proof : Reader) (a b : DeskState) (T : List ℕ → CheckFault → Type 0) (U : List ℕ → List ℕ → CheckFault → Type 0) → cnf.slot ≢ proof.slot → cnf'.slot ≡ cnf.slot
     → ((c p : List ℕ) (f : CheckFault) → T c f → U c p f) → StopsOne f cnf cnf' a b T → StopsBoth f cnf proof cnf' proof a b U
-stops_of_cnf ReadFault cnf cnf' proof a b T U apart slot h stops = fails_of_one cnf.slot proof.slot a b stops
+stops_of_cnf ReadFault cnf cnf' proof a b T U apart slot h stops = fails_of_one cnf.slot proof.slot (may_end cnf.ahead) (may_end proof.ahead) a b stops
 stops_of_cnf NoMemory cnf cnf' proof a b T U apart slot h stops = both_of_one cnf cnf' proof a b (λ text rest. Unit {0}) (λ c p c' p'. Unit {0}) apart slot (λ c p c' t. tt) stops
 stops_of_cnf (Refused file place e) cnf cnf' proof a b T U apart slot h stops =
     both_of_one cnf cnf' proof a b (λ text rest. T text (Refused file place e)) (λ c p c' p'. U c p (Refused file place e)) apart slot (λ c p c' t. h c p (Refused file place e) t) stops
@@ -20,7 +21,7 @@ stops_of_cnf (Limit file place which) cnf cnf' proof a b T U apart slot h stops 
 
 pub stops_of_proof : (f : CheckFault) (cnf proof proof' : Reader) (a b : DeskState) (T : List ℕ → CheckFault → Type 0) (U : List ℕ → List ℕ → CheckFault → Type 0) → cnf.slot ≢ proof.slot → proof'.slot ≡ proof.slot
     → ((c p : List ℕ) (f : CheckFault) → T p f → U c p f) → StopsOne f proof proof' a b T → StopsBoth f cnf proof cnf proof' a b U
-stops_of_proof ReadFault cnf proof proof' a b T U apart slot h stops = fails_of_two cnf.slot proof.slot a b stops
+stops_of_proof ReadFault cnf proof proof' a b T U apart slot h stops = fails_of_two cnf.slot proof.slot (may_end cnf.ahead) (may_end proof.ahead) a b stops
 stops_of_proof NoMemory cnf proof proof' a b T U apart slot h stops = both_of_two cnf proof proof' a b (λ text rest. Unit {0}) (λ c p c' p'. Unit {0}) apart slot (λ c p p' t. tt) stops
 stops_of_proof (Refused file place e) cnf proof proof' a b T U apart slot h stops =
     both_of_two cnf proof proof' a b (λ text rest. T text (Refused file place e)) (λ c p c' p'. U c p (Refused file place e)) apart slot (λ c p p' t. h c p (Refused file place e) t) stops

@@ -11,8 +11,7 @@ use Rattle.pb_dimacs.specs.CnfSymbols.Next.{clause, nothing}
 use Rattle.pb_dimacs.specs.Cursors.{GivesNext}
 use Rattle.pb_dimacs.specs.CnfWhole.{told_from, with_clause}
 use Rattle.pb_dimacs.proofs.FormLemmas.{told_clause, told_nothing}
-use Rattle.pb_dimacs.proofs.RowLemmas.{reads_weaker}
-use Rattle.pb_desk.proofs.ReadLemmas.{reads_begin}
+use Rattle.pb_desk.proofs.ReadLemmas.{reads_begin, reads_weaker}
 use Rattle.pb_steps.specs.declared.denied.Denied.{Denied}
 use Rattle.pb_check.specs.declared.kept.Kept.{Kept}
 use Rattle.pb_check.specs.declared.taking.Taken.{Taken}

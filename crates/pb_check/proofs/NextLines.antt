@@ -6,14 +6,14 @@ use Rattle.pb_base.specs.declared.expected.Expected.{Expected}
 use Rattle.pb_base.specs.declared.file.File.TheVariants.{Proof}
 use Rattle.pb_base.specs.declared.limit.LimitKind.{LimitKind}
 use Rattle.pb_desk.specs.Desk.{DeskState}
-use Rattle.pb_desk.specs.LineReading.{TakesAhead, FailsInLine}
-use Rattle.pb_desk.specs.LineReaders.{Reader}
+use Rattle.pb_desk.specs.LineReading.{TakesAhead, FailsInLine, IsPart, may_end}
+use Rattle.pb_desk.specs.LineReaders.{Reader, left_for}
+use Rattle.pb_desk.proofs.ReadLemmas.{fails_in_line, reads_weaker}
 use Rattle.pb_desk.specs.declared.lines.LineFault.{LineFault}
 use Rattle.pb_desk.specs.declared.lines.LineFault.TheVariants as line_fault
 use Rattle.pb_dimacs.specs.CnfRows.{CnfRow, line_start, limit_place, fault_of_line}
 use Rattle.pb_dimacs.specs.CnfRows.CnfRow.{plain, too_long, last}
 use Rattle.pb_dimacs.specs.Cursors.{rows_left, GivesRow, StopsRow}
-use Rattle.pb_dimacs.proofs.RowLemmas.{reads_weaker}
 use Rattle.pb_dimacs.proofs.CursorLemmas.{fails_later, reads_on}
 use Rattle.pb_steps.specs.declared.fault.StepFault.{StepFault}
 use Rattle.pb_steps.specs.declared.fault.StepFault.TheVariants as step_fault
@@ -42,7 +42,7 @@ SaysSame old new text rest = behind_blank (rows_left old text) ≡ behind_blank 
 -- a line that was not read
 pub row_stops : (fault : LineFault) (old mid new : Reader) (a b c : DeskState) → mid.slot ≡ old.slot → TakesAhead old.slot old.ahead mid.ahead a b (SaysSame old mid) → StopsRow (fault_of_line fault) mid new b c
     → StopsOne (of_line fault) old new a c (λ text f. NextStops (rows_left old text) f)
-row_stops line_fault.Failed old mid new a b c slot first stops = fails_later old.slot old.ahead mid.ahead a b c (SaysSame old mid) first (subst (λ (s : ℕ). FailsInLine s b c) slot stops)
+row_stops line_fault.Failed old mid new a b c slot first stops = fails_later old.slot old.ahead mid.ahead a b c (SaysSame old mid) first (subst (λ (s : ℕ). FailsInLine s (may_end mid.ahead) b c) slot (fails_in_line mid.slot mid.ahead b c (IsPart (left_for mid)) stops))
 row_stops line_fault.NoMemory old mid new a b c slot first stops =
     reads_on old mid new a b c (SaysSame old mid) (λ text rest. Unit {0}) (λ text rest. Unit {0}) slot (λ text middle rest p q. tt) first stops
 row_stops (line_fault.Limit which number) old mid new a b c slot first stops =

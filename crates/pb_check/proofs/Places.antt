@@ -2,12 +2,12 @@
 use Rattle.std.proofs.Common.{◌≡◌, ◌+◌, ℕ, Bool, false, cond, List, length, Some, None, Ok, Err, refl, sym, ap, ◌∙◌, subst, eq-eqb}
 use Rattle.std.specs.Prelude.{◌≢◌, ◌==◌}
 use Rattle.std.proofs.lemmas.Bool.{true≢false}
+use Rattle.pb_desk.proofs.ReadLemmas.{reads_weaker}
 use Rattle.pb_base.specs.declared.expected.Expected.TheVariants as expected
 use Rattle.pb_desk.specs.Desk.{DeskState}
 use Rattle.pb_desk.specs.LineReading.{TakesAhead}
 use Rattle.pb_desk.specs.LineReaders.{Reader}
 use Rattle.pb_dimacs.specs.Cursors.{rows_left}
-use Rattle.pb_dimacs.proofs.RowLemmas.{reads_weaker}
 use Rattle.pb_steps.specs.declared.step.Step.{Step}
 use Rattle.pb_steps.specs.declared.step.Step.TheVariants.{Blank, Head, Loaded, Pol, Rup, Red, Del, Out, End}
 use Rattle.pb_steps.specs.Database.{loaded_database}

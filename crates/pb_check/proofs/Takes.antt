@@ -1,6 +1,7 @@
 -- Steps, with the clauses that come as they are needed.
 use Rattle.std.proofs.Common.{◌≡◌, ◌+◌, ℕ, List, Option, Some, None, refl, sym, subst}
 use Rattle.std.specs.Prelude.{◌≢◌, IfSome, Result, Ok, Err, IfErr, IfOk}
+use Rattle.pb_desk.proofs.ReadLemmas.{reads_weaker}
 use Rattle.pb_base.specs.declared.expected.Expected.{Expected}
 use Rattle.pb_desk.specs.LineReaders.{Reader}
 use Rattle.pb_check.specs.declared.verdict.CheckFault.{CheckFault}
@@ -11,7 +12,6 @@ use Rattle.pb_dimacs.specs.CnfReaders.{CnfReader, symbols_left}
 use Rattle.pb_dimacs.specs.CnfSymbols.{next_of}
 use Rattle.pb_dimacs.specs.CnfSymbols.Next.{clause, nothing}
 use Rattle.pb_dimacs.specs.Cursors.{GivesNext}
-use Rattle.pb_dimacs.proofs.RowLemmas.{reads_weaker}
 use Rattle.pb_steps.specs.declared.step.Step.{Step}
 use Rattle.pb_steps.specs.declared.step.Step.TheVariants.{Blank, Head, Loaded, Pol, Rup, Red, Del, Out, End}
 use Rattle.pb_steps.specs.Database.{Database}

@@ -1,7 +1,8 @@
 -- All of both texts, from the p line on.
-use Rattle.std.proofs.Common.{◌≡◌, ◌≤◌, ◌<◌, ℕ, Bool, true, false, List, length, Err, refl, sym, ap, ◌∙◌, subst, arith, leb}
+use Rattle.std.proofs.Common.{◌≡◌, ◌+◌, ◌≤◌, ◌<◌, ℕ, Bool, true, false, List, length, Err, refl, sym, ap, ◌∙◌, subst, arith, leb}
 use Rattle.std.specs.Prelude.{◌≢◌}
 use Rattle.std.proofs.lemmas.Bool.{leb-true, le-leb}
+use Rattle.pb_desk.proofs.ReadLemmas.{reads_weaker}
 use Rattle.pb_base.specs.declared.problem.Problem.{Problem}
 use Rattle.pb_base.specs.declared.file.File.TheVariants.{Cnf}
 use Rattle.pb_base.specs.Problems.{originals}
@@ -9,7 +10,8 @@ use Rattle.pb_norm.specs.Constraints.{Constraint}
 use Rattle.pb_norm.specs.Products.{loaded_of}
 use Rattle.pb_desk.specs.Desk.{DeskState}
 use Rattle.pb_desk.specs.LineReaders.{Reader}
-use Rattle.pb_desk.specs.TwoSlots.{ReadsBoth, TakesBoth, FailsBoth}
+use Rattle.pb_desk.specs.TwoSlots.{ReadsBoth, TakesBoth, FailsBoth, both_may_end}
+use Rattle.pb_desk.specs.LineReading.{may_end}
 use Rattle.pb_desk.proofs.BothSlots.{both_begin, both_of_one, both_then, both_weaker, takes_both}
 use Rattle.pb_dimacs.specs.declared.fault.CnfFault.{CnfFault}
 use Rattle.pb_dimacs.specs.declared.fault.CnfFault.TheVariants as cnf_fault
@@ -20,7 +22,6 @@ use Rattle.pb_dimacs.specs.CnfSymbols.{Start, start_of}
 use Rattle.pb_dimacs.specs.CnfSymbols.Start.{told, wrong}
 use Rattle.pb_dimacs.specs.Cursors.{rows_left}
 use Rattle.pb_dimacs.proofs.FormLemmas.{start_rows}
-use Rattle.pb_dimacs.proofs.RowLemmas.{reads_weaker}
 use Rattle.pb_steps.specs.Database.{loaded_database}
 use Rattle.pb_check.specs.declared.verdict.CheckFault.{CheckFault}
 use Rattle.pb_check.specs.declared.verdict.CheckFault.TheVariants.{Refused, Limit, ReadFault, NoMemory}
@@ -129,7 +130,8 @@ takes_walk p x y cnf cnf' proof proof' a b answer new reads =
 stops_walk : (f : CheckFault) (p : Problem) (x y : ℕ) (cnf cnf' : CnfReader) (proof proof' : Reader) (a b : DeskState) → AreNew x y cnf proof
     → StopsBoth f cnf.lines proof cnf'.lines proof' a b (λ c d f. WholeAnswer p cnf proof c d (Err f)) → StopsCheck p x y a b f
 stops_walk ReadFault p x y cnf cnf' proof proof' a b new stops =
-    subst (λ (s : ℕ). FailsBoth s y a b) (ap (λ (r : CnfReader). r.lines.slot) new.cnf_new) (subst (λ (s : ℕ). FailsBoth cnf.lines.slot s a b) (ap (λ (r : Reader). r.slot) new.proof_new) stops)
+    let most : both_may_end cnf.lines proof ≡ 2 = ap (λ (r : CnfReader). both_may_end r.lines proof) new.cnf_new ∙ ap (λ (r : Reader). 1 + may_end r.ahead) new.proof_new in
+    subst (λ (s : ℕ). FailsBoth s y 2 a b) (ap (λ (r : CnfReader). r.lines.slot) new.cnf_new) (subst (λ (s : ℕ). FailsBoth cnf.lines.slot s 2 a b) (ap (λ (r : Reader). r.slot) new.proof_new) (subst (λ (n : ℕ). FailsBoth cnf.lines.slot proof.slot n a b) most stops))
 stops_walk NoMemory p x y cnf cnf' proof proof' a b new stops =
     takes_new p x y cnf cnf' proof proof' a b (λ c d c' d'. Unit {0}) (λ c d. Unit {0}) new (λ c d c' d' t. tt) stops
 stops_walk (Refused file place e) p x y cnf cnf' proof proof' a b new stops = takes_walk p x y cnf cnf' proof proof' a b (Err (Refused file place e)) new stops

@@ -10,7 +10,7 @@ use Rattle.pb_check.specs.Walk.{Walk}
 
 -- why there is no verdict: a read failed, memory was wanting, or this fault is the answer for the texts
 abbrev pub StopsCheck : Problem → ℕ → ℕ → DeskState → DeskState → CheckFault → Type 0
-StopsCheck p cnf proof old new ReadFault = FailsBoth cnf proof old new
+StopsCheck p cnf proof old new ReadFault = FailsBoth cnf proof 2 old new
 StopsCheck p cnf proof old new NoMemory = TakesBoth cnf proof (λ c d. Unit {0}) old new
 StopsCheck p cnf proof old new (Refused file place e) = TakesBoth cnf proof (λ c d. Walk p c d (Err (Refused file place e))) old new
 StopsCheck p cnf proof old new (Limit file place which) = TakesBoth cnf proof (λ c d. Walk p c d (Err (Limit file place which))) old new

@@ -1,12 +1,16 @@
 -- Line after line of a refutation, over lines that come as they are needed.
-use Rattle.std.proofs.Common.{◌≡◌, ◌+◌, ℕ, true, false, List, [], ◌∷◌, Option, Ok, Err, sym, ap, ◌∙◌, subst}
-use Rattle.std.specs.Prelude.{Result, IfErr, OnOk}
+use Rattle.std.proofs.Common.{◌≡◌, ◌+◌, ℕ, true, false, List, [], ◌∷◌, Option, Ok, Err, refl, sym, ap, ◌∙◌, subst}
+use Rattle.std.specs.Prelude.{Result, IfErr, IsOk, OnOk}
+use Rattle.std.specs.Result.{IsErrAnd}
+use Rattle.pb_steps.specs.LineWords.{and_then}
 use Rattle.pb_base.specs.declared.place.Place.{Place}
 use Rattle.pb_base.specs.declared.expected.Expected.{Expected}
 use Rattle.pb_base.specs.declared.limit.LimitKind.{LimitKind}
 use Rattle.pb_desk.specs.Desk.{DeskState}
-use Rattle.pb_desk.specs.LineReading.{TakesAhead, FailsInLine}
-use Rattle.pb_desk.specs.LineReaders.{Reader}
+use Rattle.pb_desk.specs.LineReading.{Held, TakesAhead, FailsAhead, IsPart, nothing_held}
+use Rattle.pb_desk.specs.LineReaders.{Reader, GivesLine, IsNextLine, left_for}
+use Rattle.pb_desk.proofs.ReadLemmas.{fails_then, reads_begin}
+use Rattle.pb_desk.proofs.EndedLines.{Passes, passes_line, passes_part}
 use Rattle.pb_desk.specs.declared.lines.LineFault.{LineFault}
 use Rattle.pb_desk.specs.declared.lines.LineFault.TheVariants as line_fault
 use Rattle.pb_dimacs.specs.CnfRows.{line_start, limit_place, fault_of_line}
@@ -16,16 +20,16 @@ use Rattle.pb_base.specs.declared.literal.Lit.{Lit}
 use Rattle.pb_dimacs.specs.CnfForms.{TakesText}
 use Rattle.pb_dimacs.specs.CnfReaders.{new_reader}
 use Rattle.pb_dimacs.proofs.FormLemmas.{takes_text, start_rows}
-use Rattle.pb_dimacs.proofs.CursorLemmas.{fails_later, reads_on}
+use Rattle.pb_dimacs.proofs.CursorLemmas.{reads_on}
 use Rattle.pb_lrat.specs.declared.denied.LratDenied.{LratDenied}
 use Rattle.pb_lrat.specs.declared.fault.LratFault.{LratFault}
 use Rattle.pb_lrat.specs.declared.fault.LratFault.TheVariants as fault
 use Rattle.pb_lrat.specs.declared.refute_fault.RefuteFault.{RefuteFault}
 use Rattle.pb_lrat.specs.declared.refute_fault.RefuteFault.TheVariants.{Token, Limit, NotRefuted, Failed, NoMemory}
-use Rattle.pb_lrat.specs.LratStates.{LratState, started, after_line, IsDueFault}
+use Rattle.pb_lrat.specs.LratStates.{LratState, started, after_line, after_lines, IsDueFault}
 use Rattle.pb_lrat.specs.LratWalk.{LratEnding, ending_of, walk_by, walk_from, lrat_walk}
 use Rattle.pb_lrat.specs.LratWalk.LratEnding.{refuted, not_refuted, refused, limited}
-use Rattle.pb_lrat.specs.Refuting.{of_lrat, of_line, Ends, Refutes, RefutesLines, StopsLines, StopsRefuting}
+use Rattle.pb_lrat.specs.Refuting.{of_lrat, of_line, Ends, TakesEnded, Refutes, RefutesLines, StopsLines, StopsRefuting}
 
 -- what is left ends the same
 abbrev pub EndsSame : LratState → Reader → LratState → Reader → List ℕ → List ℕ → Type 0
@@ -33,6 +37,18 @@ EndsSame s old t new text rest = walk_from s (rows_left old text) ≡ walk_from 
 
 abbrev NextRow : Reader → Reader → List ℕ → List ℕ → Type 0
 NextRow old new text rest = rows_left old text ≡ plain new.number new.line ∷ rows_left new rest
+
+-- the lines are all taken
+abbrev pub AllTaken : LratState → List (List ℕ) → Type 0
+AllTaken s lines = IsOk (after_lines s lines)
+
+-- one line more is taken
+pub passes_on : (s t u : LratState) (old mid new : Reader) (a b c : DeskState) (line : List ℕ) → mid.slot ≡ old.slot → line ≡ new.line → after_line t line ≡ Ok u → TakesAhead old.slot old.ahead mid.ahead a b (Passes (AllTaken s) (AllTaken t)) → GivesLine true mid new b c
+    → TakesAhead old.slot old.ahead new.ahead a c (Passes (AllTaken s) (AllTaken u))
+passes_on s t u old mid new a b c line slot is takes first more =
+    reads_on old mid new a b c (Passes (AllTaken s) (AllTaken t)) (IsNextLine mid new) (Passes (AllTaken s) (AllTaken u)) slot
+    (λ text middle rest p q. passes_line (AllTaken s) (AllTaken t) (AllTaken u) new.line text middle rest q.begins
+    (λ lines h. subst (λ (r : Result LratState LratFault). IsOk (and_then (λ v. after_lines v lines) r)) (sym (ap (after_line t) (sym is) ∙ takes)) h) refl p) first more.3
 
 -- a line that is taken
 pub line_taken : (s t u : LratState) (old mid new : Reader) (a b c : DeskState) (line : List ℕ) → mid.slot ≡ old.slot → line ≡ new.line → after_line t line ≡ Ok u → TakesAhead old.slot old.ahead mid.ahead a b (EndsSame s old t mid) → GivesRow true mid new b c
@@ -69,12 +85,14 @@ line_stopped f s t old mid new a b c line number slot is at due first more = by_
         reads_on old mid new a b c (EndsSame s old t mid) (NextRow mid new) (λ text rest. Unit {0}) slot (λ text middle rest p q. tt) first more
 
 -- a line that was not read
-pub row_missed : (fault : LineFault) (s t : LratState) (old mid new : Reader) (a b c : DeskState) → mid.slot ≡ old.slot → TakesAhead old.slot old.ahead mid.ahead a b (EndsSame s old t mid) → StopsRow (fault_of_line fault) mid new b c
+pub row_missed : (fault : LineFault) (s t : LratState) (old mid new : Reader) (a b c : DeskState) → mid.slot ≡ old.slot → TakesAhead old.slot old.ahead mid.ahead a b (EndsSame s old t mid) → TakesAhead old.slot old.ahead mid.ahead a b (Passes (AllTaken s) (AllTaken t)) → StopsRow (fault_of_line fault) mid new b c
     → StopsLines (of_line fault) s old new a c
-row_missed line_fault.Failed s t old mid new a b c slot first stops = fails_later old.slot old.ahead mid.ahead a b c (EndsSame s old t mid) first (subst (λ (n : ℕ). FailsInLine n b c) slot stops)
-row_missed line_fault.NoMemory s t old mid new a b c slot first stops =
+row_missed line_fault.Failed s t old mid new a b c slot first passes stops =
+    fails_then old.slot old.ahead mid.ahead a b c (Passes (AllTaken s) (AllTaken t)) (IsPart (left_for mid)) (TakesEnded s) (λ bytes part behind p q. passes_part (AllTaken s) (AllTaken t) bytes part behind q.0 refl p) passes
+    (subst (λ (n : ℕ). FailsAhead n mid.ahead b c (IsPart (left_for mid))) slot stops)
+row_missed line_fault.NoMemory s t old mid new a b c slot first passes stops =
     reads_on old mid new a b c (EndsSame s old t mid) (λ text rest. Unit {0}) (λ text rest. Unit {0}) slot (λ text middle rest p q. tt) first stops
-row_missed (line_fault.Limit which number) s t old mid new a b c slot first stops =
+row_missed (line_fault.Limit which number) s t old mid new a b c slot first passes stops =
     reads_on old mid new a b c (EndsSame s old t mid) (λ text rest. rows_left mid text ≡ too_long (mid.number + 1) which ∷ []) (Ends s old (limited (limit_place which (line_start number)) which)) slot
     (λ text middle rest p q. p ∙ ap (walk_from t) q ∙ ap (λ (o : Option Place). limited o which) (sym stops.0))
     first stops.1
@@ -90,7 +108,7 @@ text_ended s t old mid new a b c ending slot first more is =
 
 -- ---- from the start of a text
 
-from_start : (slot vars : ℕ) (clauses : List (List Lit)) (ahead : List ℕ) (a b : DeskState) (ending : LratEnding) → TakesAhead slot [] ahead a b (Ends (started vars clauses) (new_reader slot).lines ending)
+from_start : (slot vars : ℕ) (clauses : List (List Lit)) (ahead : Held) (a b : DeskState) (ending : LratEnding) → TakesAhead slot nothing_held ahead a b (Ends (started vars clauses) (new_reader slot).lines ending)
     → TakesText slot (λ text. lrat_walk vars clauses text ≡ ending) a b
 from_start slot vars clauses ahead a b ending reads =
     takes_text slot ahead a b (Ends (started vars clauses) (new_reader slot).lines ending) (λ text. lrat_walk vars clauses text ≡ ending)
@@ -114,3 +132,10 @@ pub refutes_text : {A : Type 0} (r : Result A RefuteFault) (slot vars : ℕ) (cl
 refutes_text (Ok x) slot vars clauses s old new a b at is reads =
     from_start slot vars clauses new.ahead a b refuted (subst (λ (r : Reader). RefutesLines (started vars clauses) r new a b) at (subst (λ (t : LratState). RefutesLines t old new a b) is reads))
 refutes_text (Err f) slot vars clauses s old new a b at is reads = tt
+
+-- memory was wanting before a byte was read
+pub wants_at_start : {A : Type 0} (r : Result A RefuteFault) (slot vars : ℕ) (clauses : List (List Lit)) (a : DeskState) → IsErrAnd r (λ f. f ≡ NoMemory) → IfErr r (StopsRefuting vars clauses slot a a)
+wants_at_start (Ok x) slot vars clauses a is = tt
+wants_at_start (Err f) slot vars clauses a is =
+    subst (StopsRefuting vars clauses slot a a) (sym is)
+    (takes_text slot nothing_held a a (λ text rest. Unit {0}) (λ text. Unit {0}) (λ text rest p. p) (reads_begin slot nothing_held a (λ text rest. Unit {0}) (λ text. tt)))

@@ -1,8 +1,9 @@
 -- How going through the text of a slot as a refutation may end (our own).
-use Rattle.std.specs.Prelude.{◌≡◌, ℕ, List, Some}
+use Rattle.std.specs.Prelude.{◌≡◌, ℕ, List, [], Some, IsOk}
 use Rattle.pb_base.specs.declared.literal.Lit.{Lit}
 use Rattle.pb_desk.specs.Desk.{DeskState}
-use Rattle.pb_desk.specs.LineReading.{TakesAhead, FailsInLine}
+use Rattle.pb_desk.specs.LineReading.{TakesAhead, FailsAhead, nothing_held}
+use Rattle.pb_desk.specs.Lines.{ended_lines}
 use Rattle.pb_desk.specs.LineReaders.{Reader}
 use Rattle.pb_desk.specs.declared.lines.LineFault.{LineFault}
 use Rattle.pb_desk.specs.declared.lines.LineFault.TheVariants as line_fault
@@ -13,7 +14,7 @@ use Rattle.pb_lrat.specs.declared.fault.LratFault.{LratFault}
 use Rattle.pb_lrat.specs.declared.fault.LratFault.TheVariants as fault
 use Rattle.pb_lrat.specs.declared.refute_fault.RefuteFault.{RefuteFault}
 use Rattle.pb_lrat.specs.declared.refute_fault.RefuteFault.TheVariants.{Token, Limit, NotRefuted, Failed, NoMemory}
-use Rattle.pb_lrat.specs.LratStates.{LratState}
+use Rattle.pb_lrat.specs.LratStates.{LratState, started, after_lines}
 use Rattle.pb_lrat.specs.LratWalk.{LratEnding, place_at, walk_from, lrat_walk}
 use Rattle.pb_lrat.specs.LratWalk.LratEnding.{refuted, not_refuted, refused, limited}
 
@@ -34,9 +35,13 @@ of_line line_fault.NoMemory = NoMemory
 abbrev pub Refutes : ℕ → List (List Lit) → ℕ → DeskState → DeskState → Type 0
 Refutes vars clauses slot old new = TakesText slot (λ text. lrat_walk vars clauses text ≡ refuted) old new
 
--- why it is none: a read failed, memory was wanting, or the text ends so
+-- the lines that LF ends in these bytes are all taken
+abbrev pub TakesEnded : LratState → List ℕ → Type 0
+TakesEnded s bytes = IsOk (after_lines s (ended_lines bytes))
+
+-- why it is none: a read failed, before which no line was there that is not taken; memory was wanting; or the text ends so
 abbrev pub StopsRefuting : ℕ → List (List Lit) → ℕ → DeskState → DeskState → RefuteFault → Type 0
-StopsRefuting vars clauses slot old new Failed = FailsInLine slot old new
+StopsRefuting vars clauses slot old new Failed = FailsAhead slot nothing_held old new (TakesEnded (started vars clauses))
 StopsRefuting vars clauses slot old new NoMemory = TakesText slot (λ text. Unit {0}) old new
 StopsRefuting vars clauses slot old new (Token place e) = TakesText slot (λ text. lrat_walk vars clauses text ≡ refused place e) old new
 StopsRefuting vars clauses slot old new (Limit place which) = TakesText slot (λ text. lrat_walk vars clauses text ≡ limited place which) old new
@@ -51,7 +56,7 @@ abbrev pub RefutesLines : LratState → Reader → Reader → DeskState → Desk
 RefutesLines s old new a b = TakesAhead old.slot old.ahead new.ahead a b (Ends s old refuted)
 
 abbrev pub StopsLines : RefuteFault → LratState → Reader → Reader → DeskState → DeskState → Type 0
-StopsLines Failed s old new a b = FailsInLine old.slot a b
+StopsLines Failed s old new a b = FailsAhead old.slot old.ahead a b (TakesEnded s)
 StopsLines NoMemory s old new a b = TakesAhead old.slot old.ahead new.ahead a b (λ text rest. Unit {0})
 StopsLines (Token place e) s old new a b = TakesAhead old.slot old.ahead new.ahead a b (Ends s old (refused place e))
 StopsLines (Limit place which) s old new a b = TakesAhead old.slot old.ahead new.ahead a b (Ends s old (limited place which))

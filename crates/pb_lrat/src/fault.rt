@@ -2,17 +2,22 @@
 use crate::denied::LratDenied;
 use pb_base::{Expected, LimitKind, NoMemory};
 use pb_steps::StepFault;
+use thiserror::Error;
 
 /// The first fault of a line, with the column of its word; why its clause may not be added; or want of memory.
-#[derive(Clone, Copy, Debug, PartialEq, Eq)]
+#[derive(Clone, Copy, Debug, PartialEq, Eq, Error)]
 pub enum LratFault {
     /// No line goes on so; this could have stood there.
+    #[error("column {column}: expected {expected}")]
     Token { column: u64, expected: Expected },
     /// A limit is passed there.
+    #[error("column {column}: limit {which}")]
     Limit { column: u64, which: LimitKind },
     /// The clause may not be added.
+    #[error("{0}")]
     Denied(LratDenied),
     /// An allocation was refused.
+    #[error("out of memory")]
     NoMemory,
 }
 

@@ -1,5 +1,5 @@
 //! A value for some variables, by pages, so that a great variable takes little memory.
-ghost use Rattle.std.specs.Prelude.{◌≡◌, ◌≢◌, ◌≤◌, ◌<◌, ℕ, [], length, slice_index_or, OnOk, OnErr, Some, None};
+ghost use Rattle.std.specs.Prelude.{◌≡◌, ◌≢◌, ◌≤◌, ◌<◌, ℕ, [], length, slice_index_or, max, OnOk, OnErr, Some, None};
 ghost use Rattle.pb_lrat.specs.laws.Marks.{value_at};
 
 use pb_base::NoMemory;
@@ -27,6 +27,7 @@ impl Model for Page {
 fn fill(values: &mut Vec<Option<bool>>, size: usize) -> Result<(), NoMemory>
     ensures same { (w : ℕ) → slice_index_or values.new.items w None ≡ slice_index_or values.old.items w None }
     ensures filled { OnOk result (size ≤ length values.new.items) }
+    ensures few { OnOk result (length values.new.items ≤ max (length values.old.items) size) }
 {
     if size <= values.len() {
         return Ok(());
@@ -57,6 +58,7 @@ impl Page {
         requires { at < length self.old }
         ensures here { slice_index_or self.new at None ≡ Some value }
         ensures others { (w : ℕ) → w ≢ at → slice_index_or self.new w None ≡ slice_index_or self.old w None }
+        ensures size { length self.new ≡ length self.old }
     {
         self.values[at] = Some(value);
     }
@@ -65,6 +67,7 @@ impl Page {
     fn put(&mut self, at: usize, value: bool) -> Result<(), NoMemory>
         requires { at < 65536 }
         ensures here { OnOk result (slice_index_or self.new at None ≡ Some value) }
+        ensures few { OnOk result (length self.new ≤ max (length self.old) 65536) }
         ensures others { (w : ℕ) → w ≢ at → slice_index_or self.new w None ≡ slice_index_or self.old w None }
         ensures same { OnErr result ((w : ℕ) → slice_index_or self.new w None ≡ slice_index_or self.old w None) }
     {

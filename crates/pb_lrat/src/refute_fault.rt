@@ -7,28 +7,34 @@ use crate::fault::LratFault;
 use pb_base::{Expected, LimitKind, NoMemory, Place};
 use pb_desk::LineFault;
 use pb_dimacs::limit_place;
+use thiserror::Error;
 
 /// The first fault of a text, with its place; the line at which it is no refutation; or what kept it from being read.
-#[derive(Clone, Copy, PartialEq, Eq, Debug)]
+#[derive(Clone, Copy, PartialEq, Eq, Debug, Error)]
 pub enum RefuteFault {
     /// No line goes on so; this could have stood there.
+    #[error("{place}: expected {expected}")]
     Token {
         place: Place,
         expected: Expected,
     },
     /// A limit is passed there, or by the length of the whole text.
+    #[error("limit {which}")]
     Limit {
         place: Option<Place>,
         which: LimitKind,
     },
     /// The clause of a line may not be added, or the text ends before that line without an empty clause.
+    #[error("line {line}: {why}")]
     NotRefuted {
         line: u64,
         why: LratDenied,
     },
     /// A read failed, and the desk counted that.
+    #[error("a read failed")]
     Failed,
     /// An allocation was refused.
+    #[error("out of memory")]
     NoMemory,
 }
 

@@ -1,7 +1,7 @@
 -- What is left of both texts while a derivation is checked, and what its lines give (our own).
 use Rattle.std.specs.Prelude.{◌≡◌, ℕ, ◌+◌, List, [], ◌∷◌, length, Option, Some, None, Result, Ok, Err, Bool, true, false, if◌then◌else◌}
 use Rattle.pb_desk.specs.Desk.{DeskState}
-use Rattle.pb_desk.specs.LineReading.{TakesAhead, FailsInLine}
+use Rattle.pb_desk.specs.LineReading.{TakesAhead, FailsInLine, may_end}
 use Rattle.pb_desk.specs.LineReaders.{Reader}
 use Rattle.pb_dimacs.specs.CnfReaders.{CnfReader, symbols_left}
 use Rattle.pb_dimacs.specs.CnfRows.{CnfRow}
@@ -21,20 +21,20 @@ use Rattle.pb_check.specs.declared.taking.Taken.TheVariants as taken
 use Rattle.pb_check.specs.Turns.{Answer, Task, Stage, Clauses, Turn}
 use Rattle.pb_check.specs.Turns.Stage.{head_wanted, at_steps, ended}
 use Rattle.pb_check.specs.Walk.{Follows, Walks}
-use Rattle.pb_desk.specs.TwoSlots.{FailsBoth, ReadsBoth}
+use Rattle.pb_desk.specs.TwoSlots.{FailsBoth, ReadsBoth, both_may_end}
 
 -- ---- stops
 
 -- why a reader of a slot stopped: a read failed, memory was wanting, or what is left of the text tells this fault
 abbrev pub StopsOne : CheckFault → Reader → Reader → DeskState → DeskState → (List ℕ → CheckFault → Type 0) → Type 0
-StopsOne ReadFault old new a b Tells = FailsInLine old.slot a b
+StopsOne ReadFault old new a b Tells = FailsInLine old.slot (may_end old.ahead) a b
 StopsOne NoMemory old new a b Tells = TakesAhead old.slot old.ahead new.ahead a b (λ text rest. Unit {0})
 StopsOne (Refused file place e) old new a b Tells = TakesAhead old.slot old.ahead new.ahead a b (λ text rest. Tells text (Refused file place e))
 StopsOne (Limit file place which) old new a b Tells = TakesAhead old.slot old.ahead new.ahead a b (λ text rest. Tells text (Limit file place which))
 
 -- the same of readers of two slots
 abbrev pub StopsBoth : CheckFault → Reader → Reader → Reader → Reader → DeskState → DeskState → (List ℕ → List ℕ → CheckFault → Type 0) → Type 0
-StopsBoth ReadFault cnf proof cnf' proof' a b Tells = FailsBoth cnf.slot proof.slot a b
+StopsBoth ReadFault cnf proof cnf' proof' a b Tells = FailsBoth cnf.slot proof.slot (both_may_end cnf proof) a b
 StopsBoth NoMemory cnf proof cnf' proof' a b Tells = ReadsBoth cnf proof cnf' proof' a b (λ c p c' p'. Unit {0})
 StopsBoth (Refused file place e) cnf proof cnf' proof' a b Tells = ReadsBoth cnf proof cnf' proof' a b (λ c p c' p'. Tells c p (Refused file place e))
 StopsBoth (Limit file place which) cnf proof cnf' proof' a b Tells = ReadsBoth cnf proof cnf' proof' a b (λ c p c' p'. Tells c p (Limit file place which))

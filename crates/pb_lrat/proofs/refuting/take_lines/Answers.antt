@@ -1,4 +1,4 @@
-use Rattle.std.proofs.Common.{Bool, ℕ, ◌+◌, sym, ap, ◌∙◌, subst}
+use Rattle.std.proofs.Common.{Bool, ℕ, ◌+◌, refl, sym, ap, ◌∙◌, subst}
 use Rattle.std.specs.Prelude.{if◌then◌else◌}
 use Rattle.pb_desk.specs.LineReaders.{GivesLine}
 use Rattle.pb_dimacs.specs.Cursors.{GivesRow}
@@ -7,8 +7,19 @@ use Rattle.pb_lrat.specs.declared.refute_fault.RefuteFault.{RefuteFault}
 use Rattle.pb_lrat.specs.declared.denied.LratDenied.TheVariants.{NoEmptyClause}
 use Rattle.pb_lrat.specs.LratWalk.LratEnding.{refuted, not_refuted}
 use Rattle.pb_lrat.specs.Refuting.{StopsLines}
-use Rattle.pb_lrat.proofs.Walking.{line_taken, line_stopped, row_missed, text_ended}
+use Rattle.pb_desk.proofs.EndedLines.{Passes, passes_begin}
+use Rattle.pb_desk.proofs.ReadLemmas.{reads_begin}
+use Rattle.pb_lrat.proofs.Walking.{AllTaken, EndsSame, line_taken, line_stopped, passes_on, row_missed, text_ended}
 use Rattle.pb_lrat.proofs.refuting.take_lines.Goals as goal
+
+pub rows-init : goal.rows-init
+rows-init g c =
+    let a = g.D.Desk.state c.args.desk.now in
+    record {
+      goes_on = record { slot = refl; limits = refl; fine = c.requires.fine };
+      reads = reads_begin c.args.lines.now.slot c.args.lines.now.ahead a (EndsSame c.args.checker.now c.args.lines.now c.args.checker.now c.args.lines.now) (λ text. refl);
+      passes = reads_begin c.args.lines.now.slot c.args.lines.now.ahead a (Passes (AllTaken c.args.checker.now) (AllTaken c.args.checker.now)) (λ text. passes_begin (AllTaken c.args.checker.now) text);
+    }
 
 pub returns-in-Err-clause-stopped : goal.returns-in-Err-clause-stopped
 returns-in-Err-clause-stopped g c =
@@ -16,7 +27,7 @@ returns-in-Err-clause-stopped g c =
     let b = g.D.Desk.state c.rows.desk in
     let d = g.D.Desk.state c.next_line.new.desk in
     subst (λ (f : RefuteFault). StopsLines f c.args.checker.now c.args.lines.now c.next_line.new.self a d) (sym c.of_line.ensures)
-    (row_missed c.in-Err.fault c.args.checker.now c.rows.checker c.args.lines.now c.rows.lines c.next_line.new.self a b d c.rows.invariant.goes_on.slot c.rows.invariant.reads
+    (row_missed c.in-Err.fault c.args.checker.now c.rows.checker c.args.lines.now c.rows.lines c.next_line.new.self a b d c.rows.invariant.goes_on.slot c.rows.invariant.reads c.rows.invariant.passes
     (row_stopped c.in-Err.fault c.rows.lines c.next_line.new.self b d (c.in-Err.ensures.stopped c.rows.invariant.goes_on.fine).cause))
 
 pub returns-then-finish-clause-refuted : goal.returns-then-finish-clause-refuted
@@ -60,4 +71,5 @@ rows-preserved g c =
     record {
       goes_on = record { slot = line.0.slot ∙ c.rows.invariant.goes_on.slot; limits = line.0.limits ∙ c.rows.invariant.goes_on.limits; fine = line.0.fault ∙ c.rows.invariant.goes_on.fine };
       reads = line_taken c.args.checker.now c.rows.checker c.line-in-rows.new.self c.args.lines.now c.rows.lines c.next_line.new.self a b d c.line.result.now c.rows.invariant.goes_on.slot c.line.ensures c.in-Ok-line.ensures.ok c.rows.invariant.reads more;
+      passes = passes_on c.args.checker.now c.rows.checker c.line-in-rows.new.self c.args.lines.now c.rows.lines c.next_line.new.self a b d c.line.result.now c.rows.invariant.goes_on.slot c.line.ensures c.in-Ok-line.ensures.ok c.rows.invariant.passes line;
     }
