@@ -18,8 +18,9 @@ use Rattle.pb_choice.specs.Clauses.{constraint_clauses, constraint_count, constr
 use Rattle.pb_choice.specs.Equals.{equality_clauses, equality_count, equality_fresh, is_joining, is_joint, literals_asked}
 use Rattle.pb_choice.proofs.JointTests.{not_joining}
 use Rattle.pb_encode.specs.Clauses.{clause_total, clauses_from, fresh_total}
-use Rattle.pb_encode.specs.Groups.{Group, all_members, group_count, group_fresh, groups_of, singles}
-use Rattle.pb_encode.specs.Groups.Group.{alone, paired}
+use Rattle.pb_encode.specs.declared.groups.Group.{Group}
+use Rattle.pb_encode.specs.Groups.{all_members, group_count, group_fresh, groups_of, singles}
+use Rattle.pb_encode.specs.declared.groups.Group.TheVariants.{Alone, Paired}
 use Rattle.pb_encode.specs.Summaries.{counted_at, joint_at, place_of, treated, treated_in}
 use Rattle.pb_encode.specs.laws.Apart.{AreApart}
 use Rattle.pb_encode.proofs.GroupLists.{members_loaded}
@@ -42,18 +43,18 @@ singles_none : (o : Options) (cs : List Constraint) → treated o 11 (singles cs
 singles_none o [] = refl
 singles_none o (c ∷ cs) =
     let here : counted_at o 11 c ≡ 0 = ap (λ (b : Bool). cond {A = ℕ} b 1 0) (none_there (treatment_of o (rest_of c))) in
-    omega (arith, sum_by-cons (treated_in o 11) (alone c) (singles cs), here, singles_none o cs)
+    omega (arith, sum_by-cons (treated_in o 11) (Alone c) (singles cs), here, singles_none o cs)
 
 -- what is added up over groups, where a pair has as much as both of it
-total-apart : (f : Group → ℕ) → ((c d : Constraint) → f (paired c d) ≡ f (alone c) + f (alone d)) → (gs : List Group) → sum_by f gs ≡ sum_by f (singles (all_members gs))
+total-apart : (f : Group → ℕ) → ((c d : Constraint) → f (Paired c d) ≡ f (Alone c) + f (Alone d)) → (gs : List Group) → sum_by f gs ≡ sum_by f (singles (all_members gs))
 total-apart f parts [] = refl
-total-apart f parts (alone c ∷ gs) = omega (arith, sum_by-cons f (alone c) gs, sum_by-cons f (alone c) (singles (all_members gs)), total-apart f parts gs)
-total-apart f parts (paired c d ∷ gs) =
+total-apart f parts (Alone c ∷ gs) = omega (arith, sum_by-cons f (Alone c) gs, sum_by-cons f (Alone c) (singles (all_members gs)), total-apart f parts gs)
+total-apart f parts (Paired c d ∷ gs) =
     omega (
       arith,
-      sum_by-cons f (paired c d) gs,
-      sum_by-cons f (alone c) (alone d ∷ singles (all_members gs)),
-      sum_by-cons f (alone d) (singles (all_members gs)),
+      sum_by-cons f (Paired c d) gs,
+      sum_by-cons f (Alone c) (Alone d ∷ singles (all_members gs)),
+      sum_by-cons f (Alone d) (singles (all_members gs)),
       parts c d,
       total-apart f parts gs,
     )
@@ -68,13 +69,13 @@ module _ (o : Options) (apart : o.equal ≡ mode.Split) where
   count_parts : (c d : Constraint) → equality_count o c d ≡ constraint_count o c + constraint_count o d
   count_parts c d = cond-false (is_joint o c) (exact_size (literals_asked c)) (constraint_count o c + constraint_count o d) (never_joint c)
 
-  treated_parts : (place : ℕ) (c d : Constraint) → treated_in o place (paired c d) ≡ counted_at o place c + counted_at o place d
+  treated_parts : (place : ℕ) (c d : Constraint) → treated_in o place (Paired c d) ≡ counted_at o place c + counted_at o place d
   treated_parts place c d = cond-false (is_joint o c) (joint_at place) (counted_at o place c + counted_at o place d) (never_joint c)
 
   clauses-apart : (gs : List Group) (first : ℕ) → clauses_from o first gs ≡ clauses_from o first (singles (all_members gs))
   clauses-apart [] first = refl
-  clauses-apart (alone c ∷ gs) first = ap (λ (xs : List (List Lit)). constraint_clauses o c first ++ xs) (clauses-apart gs (first + constraint_fresh o c))
-  clauses-apart (paired c d ∷ gs) first =
+  clauses-apart (Alone c ∷ gs) first = ap (λ (xs : List (List Lit)). constraint_clauses o c first ++ xs) (clauses-apart gs (first + constraint_fresh o c))
+  clauses-apart (Paired c d ∷ gs) first =
       let after : ℕ = first + constraint_fresh o c in
       let last : ℕ = after + constraint_fresh o d in
       let front : List (List Lit) = constraint_clauses o c first in

@@ -17,23 +17,24 @@ use Rattle.pb_choice.proofs.FewLiterals.{constraint_few_literals, table_few_lite
 use Rattle.pb_gentot.specs.BoundTable.{table_clauses}
 use Rattle.pb_encode.specs.Clauses.{clauses_from, loaded_clauses, problem_clauses, problem_vars, table_first}
 use Rattle.pb_encode.specs.Encodings.{problem_text}
-use Rattle.pb_encode.specs.Groups.{Group, group_clauses, group_fresh, groups_of}
-use Rattle.pb_encode.specs.Groups.Group.{alone, paired}
+use Rattle.pb_encode.specs.declared.groups.Group.{Group}
+use Rattle.pb_encode.specs.Groups.{group_clauses, group_fresh, groups_of}
+use Rattle.pb_encode.specs.declared.groups.Group.TheVariants.{Alone, Paired}
 use Rattle.pb_encode.specs.Summaries.{IsEncodable}
 use Rattle.pb_encode.specs.Tables.{table_terms}
-use Rattle.pb_encode.proofs.DerivedProblems.{groups_light}
 use Rattle.pb_encode.proofs.GroupDerivations.{IsGroupLight}
 use Rattle.pb_encode.proofs.Solutions.{clauses-count, problem-within}
+use Rattle.pb_encode.proofs.SoundGroups.{groups_light}
 
 -- no clause has more literals than this
 abbrev Brief : List Lit → Type 0
 Brief ls = length ls ≤ 2 ^ 21
 
 group_brief : (o : Options) (n first : ℕ) (g : Group) → IsGroupLight o n g → All Brief (group_clauses o g first)
-group_brief o n first (alone c) light =
+group_brief o n first (Alone c) light =
     All-weaker (λ (ls : List Lit). length ls ≤ length c.terms + 128) Brief (λ ls h. omega (arith, h, light.few)) (constraint_clauses o c first)
     (constraint_few_literals o c first light.ready.linear light.weight)
-group_brief o n first (paired c d) light =
+group_brief o n first (Paired c d) light =
     let equality : IsEquality c d = record { lower_linear = light.lower.ready.linear; upper_linear = light.upper.ready.linear; halves = light.halves } in
     All-weaker (λ (ls : List Lit). length ls ≤ length c.terms + 128) Brief (λ ls h. omega (arith, h, light.lower.few)) (equality_clauses o c d first)
     (equality_few_literals o c d first equality light.lower.weight light.upper.weight)
@@ -50,7 +51,7 @@ module _ (o : Options) (p : Problem) (within : IsWithinLimits p) (encodable : Is
   cnf_within =
       written_within (problem_vars o p) encodable.vars (problem_clauses o p) (omega (arith, clauses-count o p within, encodable.clauses)) (problem-within o p within)
       (All-append Brief (loaded_clauses o p) (table_clauses (table_terms o p) (table_first o p))
-      (clauses_brief o (originals p + 1) (originals p + 1) (groups_of p) (groups_light o p within encodable))
+      (clauses_brief o (originals p + 1) (originals p + 1) (groups_of p) (groups_light o p within))
       (All-weaker (λ (ls : List Lit). length ls ≤ 4) Brief (λ ls h. omega (arith, h)) (table_clauses (table_terms o p) (table_first o p)) (table_few_literals (table_terms o p) (table_first o p))))
 
   pub problem_told : Tells (problem_text o p) (problem_vars o p) (problem_clauses o p)

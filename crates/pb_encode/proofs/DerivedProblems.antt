@@ -1,20 +1,13 @@
 -- What the steps of a problem show.
-use Rattle.std.proofs.Common.{◌≡◌, ◌≤◌, ◌<◌, ◌+◌, ◌*◌, ◌^◌, ◌++◌, ℕ, List, [], ◌∷◌, length, map, ap, sym, subst, arith, length-append}
+use Rattle.std.proofs.Common.{◌≡◌, ◌≤◌, ◌<◌, ◌+◌, ◌*◌, ◌^◌, ◌++◌, ℕ, List, [], ◌∷◌, length, ap, sym, subst, arith, length-append}
 use Rattle.std.specs.Prelude.{All, sum_by}
 use Rattle.std.proofs.lemmas.List.Elements.{All-nil, All-cons, All-head, All-tail, All-append, All-weaker}
 use Rattle.std.proofs.lemmas.List.Sums.{sum_by-append, sum_by-cons}
 use Rattle.pb_base.specs.declared.problem.Problem.{Problem}
-use Rattle.pb_base.specs.declared.problem.Raw.{Raw}
-use Rattle.pb_base.specs.declared.problem.Relation.{Relation}
-use Rattle.pb_base.specs.declared.problem.Relation.TheVariants.{AtLeast, AtMost, Equal}
-use Rattle.pb_base.specs.Problems.{IsSumWithin, IsWithinLimits, StaysBelow, originals}
-use Rattle.pb_norm.specs.declared.halves.Half.{Half}
-use Rattle.pb_norm.specs.declared.halves.Half.TheVariants.{Lower, Upper}
-use Rattle.pb_norm.specs.Constraints.{Constraint, Weighted, weight}
-use Rattle.pb_norm.specs.Halves.{constraints_of, half_of, halves_of, loaded}
+use Rattle.pb_base.specs.Problems.{IsWithinLimits, originals}
+use Rattle.pb_norm.specs.Constraints.{Constraint, Weighted}
+use Rattle.pb_norm.specs.Halves.{loaded}
 use Rattle.pb_norm.specs.Products.{defining, loaded_of}
-use Rattle.pb_norm.proofs.ClauseTerms.{length-weight}
-use Rattle.pb_norm.proofs.ProductForms.{IsFormOver}
 use Rattle.pb_norm.proofs.Variables.{OfTerm}
 use Rattle.pb_steps.specs.declared.step.Step.{Step}
 use Rattle.pb_steps.specs.declared.step.Step.TheVariants.{Head, Loaded, End}
@@ -35,21 +28,21 @@ use Rattle.pb_gentot.proofs.TableDerives.{table_derives, table_few}
 use Rattle.pb_gentot.proofs.TableShort.{table_lines_short, table_sayable}
 use Rattle.pb_encode.specs.Clauses.{clause_total, fresh_total, loaded_clauses, problem_clauses, problem_count, problem_fresh, problem_vars, table_first}
 use Rattle.pb_encode.specs.Derived.{IsDerived}
-use Rattle.pb_encode.specs.Groups.{Group, all_members, group_count, groups_of, singles, size_total, statement_groups}
+use Rattle.pb_encode.specs.declared.groups.Group.{Group}
+use Rattle.pb_encode.specs.Groups.{all_members, group_count, groups_of, singles, size_total, statement_groups}
 use Rattle.pb_encode.specs.Steps.{loaded_steps, problem_steps, steps_from}
 use Rattle.pb_encode.specs.Summaries.{IsEncodable}
 use Rattle.pb_encode.specs.Tables.{table_terms}
 use Rattle.pb_encode.specs.laws.Streams.{steps_at_next}
-use Rattle.pb_encode.proofs.ChoiceLaws.{IsLight, bytes_small}
-use Rattle.pb_encode.proofs.HalfTerms.{half_short}
-use Rattle.pb_encode.proofs.HalfWeights.{half_light}
+use Rattle.pb_encode.proofs.ChoiceLaws.{bytes_small}
 use Rattle.pb_encode.proofs.GroupDerivations.{IsGroupLight, term_total}
-use Rattle.pb_encode.proofs.GroupLists.{groups_by, groups_matched, members_loaded, size_loaded}
+use Rattle.pb_encode.proofs.GroupLists.{members_loaded, size_loaded}
 use Rattle.pb_encode.proofs.LoadedDatabases.{Stand, loaded_numbered, loaded_stand, loaded_unnamed}
 use Rattle.pb_encode.proofs.LoadedRuns.{IsEndOfAll, all-few, all-run, all-said}
 use Rattle.pb_choice.proofs.Composition.{IsOneBelow, IsReady}
 use Rattle.pb_encode.proofs.ProductSizes.{forms_clauses, terms-defining}
 use Rattle.pb_encode.proofs.Solutions.{forms_over, loaded_ready}
+use Rattle.pb_encode.proofs.SoundGroups.{groups_light, loaded_small, IsSmall}
 use Rattle.pb_encode.proofs.StepTexts.{text_within}
 use Rattle.pb_encode.proofs.StepTurns.{ids-most, ids_in}
 use Rattle.pb_encode.proofs.TableTerms.{AreFit, table_fits}
@@ -57,36 +50,9 @@ use Rattle.pb_encode.proofs.TallyLemmas.{length-loaded}
 
 -- ---- the loaded constraints
 
--- few terms, and small numbers
-record IsSmall (c : Constraint) : Type 0 where
-  pub weight : weight c.terms < 2 ^ 100
-  pub few : length c.terms ≤ 2 ^ 20 + 1
-
-half_small : (s : Raw) (half : Half) → StaysBelow (2 ^ 100) s → length s.terms ≤ 2 ^ 20 → IsSmall (half_of half s)
-half_small s half small few = record { weight = half_light half s (2 ^ 100) small; few = omega (arith, half_short half s, few) }
-
-halves_small : (s : Raw) (r : Relation) → StaysBelow (2 ^ 100) s → length s.terms ≤ 2 ^ 20 → All IsSmall (map (λ half. half_of half s) (halves_of r))
-halves_small s AtLeast small few = All-cons IsSmall (half_of Lower s) [] (half_small s Lower small few) (All-nil IsSmall)
-halves_small s AtMost small few = All-cons IsSmall (half_of Upper s) [] (half_small s Upper small few) (All-nil IsSmall)
-halves_small s Equal small few = All-cons IsSmall (half_of Lower s) (half_of Upper s ∷ []) (half_small s Lower small few) (All-cons IsSmall (half_of Upper s) [] (half_small s Upper small few) (All-nil IsSmall))
-
-loaded_small : (vars : ℕ) (ss : List Raw) → All (StaysBelow (2 ^ 100)) ss → All (λ s. IsSumWithin vars s.terms) ss → All IsSmall (loaded ss)
-loaded_small vars [] small within = All-nil IsSmall
-loaded_small vars (s ∷ ss) small within =
-    All-append IsSmall (constraints_of s) (loaded ss)
-    (halves_small s s.relation (All-head (StaysBelow (2 ^ 100)) s ss small) (All-head (λ (t : Raw). IsSumWithin vars t.terms) s ss within).count)
-    (loaded_small vars ss (All-tail (StaysBelow (2 ^ 100)) s ss small) (All-tail (λ (t : Raw). IsSumWithin vars t.terms) s ss within))
-
 terms-small : (cs : List Constraint) → All IsSmall cs → term_total cs ≤ (2 ^ 20 + 1) * length cs
 terms-small [] small = omega arith
 terms-small (c ∷ cs) small = omega (arith, sum_by-cons (λ (d : Constraint). length d.terms) c cs, (All-head IsSmall c cs small).few, terms-small cs (All-tail IsSmall c cs small))
-
-light_each : (o : Options) (n : ℕ) (cs : List Constraint) → All (IsReady o n) cs → All IsSmall cs → All (IsLight o n) cs
-light_each o n [] ready small = All-nil (IsLight o n)
-light_each o n (c ∷ cs) ready small =
-    let here = All-head IsSmall c cs small in
-    All-cons (IsLight o n) c cs (record { ready = All-head (IsReady o n) c cs ready; weight = here.weight; few = here.few })
-    (light_each o n cs (All-tail (IsReady o n) c cs ready) (All-tail IsSmall c cs small))
 
 module _ (o : Options) (p : Problem) (within : IsWithinLimits p) (encodable : IsEncodable o p) where
   abbrev cs : List Constraint
@@ -129,14 +95,8 @@ module _ (o : Options) (p : Problem) (within : IsWithinLimits p) (encodable : Is
   ready : All (IsReady o first) cs
   ready = loaded_ready o p within
 
-  small : All IsSmall cs
-  small =
-      All-append IsSmall products (loaded p.statements)
-      (All-weaker (IsFormOver (IsOneBelow first)) IsSmall (λ c form. record { weight = omega (arith, form.weight); few = omega (arith, form.weight, length-weight c.terms form.linear.positive) }) products (forms_over p within))
-      (loaded_small (originals p) p.statements within.numbers within.sums)
-
-  pub groups_light : All (IsGroupLight o first) gs
-  groups_light = groups_by (IsLight o first) gs (groups_matched p) (subst (All (IsLight o first)) (sym (members_loaded p)) (light_each o first cs ready small))
+  light : All (IsGroupLight o first) gs
+  light = groups_light o p within
 
   sizes : size_total gs ≡ n
   sizes = size_loaded p
@@ -170,7 +130,7 @@ module _ (o : Options) (p : Problem) (within : IsWithinLimits p) (encodable : Is
   few_fresh = omega (arith, encodable.vars)
 
   few_constraints : length constraints ≤ 8 * (fresh_total o gs + clause_total o gs) + 4 * n
-  few_constraints = omega (arith, all-few o first first 1 gs (n + 1) groups_light, sizes)
+  few_constraints = omega (arith, all-few o first first 1 gs (n + 1) light, sizes)
 
   few_between : length between ≤ 8 * (problem_fresh o p + problem_count o p) + 4 * n
   few_between = omega (arith, length-append constraints table, few_constraints, table_few terms fit.table last behind)
@@ -229,7 +189,7 @@ module _ (o : Options) (p : Problem) (within : IsWithinLimits p) (encodable : Is
   start = loaded_database (originals p) (problem_vars o p) cs
 
   loaded_run : (end : Database) × Runs start constraints (loaded_clauses o p) end × IsEndOfAll o first gs start end
-  loaded_run = all-run o first first 1 gs start (omega arith) groups_light (record {
+  loaded_run = all-run o first first 1 gs start (omega arith) light (record {
     original = omega arith;
     vars = omega arith;
     numbered = loaded_numbered (originals p) (problem_vars o p) cs;
@@ -257,7 +217,7 @@ module _ (o : Options) (p : Problem) (within : IsWithinLimits p) (encodable : Is
 
   pub problem_derived : IsDerived o p
   problem_derived =
-      let said = all-said o first first 1 gs (n + 1) groups_light (omega arith) (omega arith) (omega (arith, encodable.vars)) (omega (arith, encodable.clauses)) (omega arith) (omega (arith, sizes)) loaded_leave in
+      let said = all-said o first first 1 gs (n + 1) light (omega arith) (omega arith) (omega (arith, encodable.vars)) (omega (arith, encodable.clauses)) (omega arith) (omega (arith, sizes)) loaded_leave in
       let rest : List Step = between ++ End ∷ [] in
       let between_sayable : All IsSayable between = All-append IsSayable constraints table said.sayable table_said in
       let between_short : All Fits between = All-append Fits constraints table said.each table_short.each in

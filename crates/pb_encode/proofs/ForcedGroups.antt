@@ -21,8 +21,9 @@ use Rattle.pb_choice.proofs.EqualityEncoded.{equalities_force, joint_equalities_
 use Rattle.pb_choice.proofs.Forced.{clauses-propagate}
 use Rattle.pb_gentot.specs.BoundTable.{table_clauses}
 use Rattle.pb_encode.specs.Clauses.{clauses_from, loaded_clauses, problem_clauses, table_first}
-use Rattle.pb_encode.specs.Groups.{Group, group_clauses, group_fresh, groups_of}
-use Rattle.pb_encode.specs.Groups.Group.{alone, paired}
+use Rattle.pb_encode.specs.declared.groups.Group.{Group}
+use Rattle.pb_encode.specs.Groups.{group_clauses, group_fresh, groups_of}
+use Rattle.pb_encode.specs.declared.groups.Group.TheVariants.{Alone, Paired}
 use Rattle.pb_encode.specs.Models.{ForceEach, ForcesGroup}
 use Rattle.pb_encode.specs.Tables.{table_terms}
 use Rattle.pb_encode.proofs.GroupClauses.{IsGroupReady, both_equal, constraint-below}
@@ -50,8 +51,8 @@ propagates_among clauses more among P propagate = propagates_lifts more P (Claus
 -- ---- a group, whose clauses are among more
 
 group_forces : (o : Options) (n first : ℕ) (g : Group) (more : List (List Lit)) → n ≤ first → IsGroupReady o n g → AreAmong (group_clauses o g first) more → ForcesGroup o more first g
-group_forces o n first (alone c) more le ready among = λ other. propagates_among (group_clauses o (alone c) first) more among (λ a. Holds a c) (clauses-propagate o c first ready.linear other)
-group_forces o n first (paired c d) more le ready among =
+group_forces o n first (Alone c) more le ready among = λ other. propagates_among (group_clauses o (Alone c) first) more among (λ a. Holds a c) (clauses-propagate o c first ready.linear other)
+group_forces o n first (Paired c d) more le ready among =
     let own = equality_clauses o c d first in
     let equality = both_equal o n c d ready in
     let halves = equalities_force o c d first equality (constraint-below o n first c le ready.lower) in

@@ -13,8 +13,9 @@ use Rattle.pb_choice.specs.laws.EqualityLaws.{EncodesBoth, IsEquality}
 use Rattle.pb_choice.proofs.Composition.{IsOneBelow, IsReady}
 use Rattle.pb_choice.proofs.Encoded.{clauses-count, clauses-extend, clauses-sound, clauses-within}
 use Rattle.pb_choice.proofs.EqualityEncoded.{equalities_encode}
-use Rattle.pb_encode.specs.Groups.{Group, group_clauses, group_count, group_fresh, members}
-use Rattle.pb_encode.specs.Groups.Group.{alone, paired}
+use Rattle.pb_encode.specs.declared.groups.Group.{Group}
+use Rattle.pb_encode.specs.Groups.{group_clauses, group_count, group_fresh, members}
+use Rattle.pb_encode.specs.declared.groups.Group.TheVariants.{Alone, Paired}
 use Rattle.pb_encode.proofs.GroupLists.{AreBoth, OfGroup}
 
 -- in normal form, over variables from 1 and below a number
@@ -35,15 +36,15 @@ both_encode o n first c d le ready = equalities_encode o c d first (both_equal o
 
 -- a model satisfies the constraints
 pub group-sound : (o : Options) (n first : ℕ) (g : Group) → n ≤ first → IsGroupReady o n g → (a : Assignment) → IsModel a (group_clauses o g first) → Solves a (members g)
-group-sound o n first (alone c) le ready a model = All-cons (Holds a) c [] (clauses-sound o c first ready.linear a model) (All-nil (Holds a))
-group-sound o n first (paired c d) le ready a model =
+group-sound o n first (Alone c) le ready a model = All-cons (Holds a) c [] (clauses-sound o c first ready.linear a model) (All-nil (Holds a))
+group-sound o n first (Paired c d) le ready a model =
     let holds = (both_encode o n first c d le ready).sound a model in
     All-cons (Holds a) c (d ∷ []) holds.0 (All-cons (Holds a) d [] holds.1 (All-nil (Holds a)))
 
 -- where they hold, a model extends the assignment
 pub group-extend : (o : Options) (n first : ℕ) (g : Group) → n ≤ first → IsGroupReady o n g → (a : Assignment) → Solves a (members g) → (b : Assignment) × AgreeBelow first a b × IsModel b (group_clauses o g first)
-group-extend o n first (alone c) le ready a holds = clauses-extend o c first ready.linear (constraint-below o n first c le ready) a (All-head (Holds a) c [] holds)
-group-extend o n first (paired c d) le ready a holds =
+group-extend o n first (Alone c) le ready a holds = clauses-extend o c first ready.linear (constraint-below o n first c le ready) a (All-head (Holds a) c [] holds)
+group-extend o n first (Paired c d) le ready a holds =
     (both_encode o n first c d le ready).extends a (All-head (Holds a) c (d ∷ []) holds, All-head (Holds a) d [] (All-tail (Holds a) c (d ∷ []) holds))
 
 -- literals of a sum's variables or of fresh ones are of variables from 1 on
@@ -61,11 +62,11 @@ named_within ts first fresh clauses from within names =
 
 -- the variables are from 1 and below the first number after the fresh ones
 pub group-within : (o : Options) (n first : ℕ) (g : Group) → 1 ≤ first → n ≤ first → IsGroupReady o n g → All (All (OfLit (IsOneBelow (first + group_fresh o g)))) (group_clauses o g first)
-group-within o n first (alone c) from le ready = clauses-within o c first ready.linear from (constraint-within o n first c le ready)
-group-within o n first (paired c d) from le ready =
+group-within o n first (Alone c) from le ready = clauses-within o c first ready.linear from (constraint-within o n first c le ready)
+group-within o n first (Paired c d) from le ready =
     named_within c.terms first (equality_fresh o c d) (equality_clauses o c d first) from (constraint-within o n first c le ready.lower) (both_encode o n first c d le ready).names
 
 -- so many clauses
 pub group-count : (o : Options) (n first : ℕ) (g : Group) → n ≤ first → IsGroupReady o n g → length (group_clauses o g first) ≡ group_count o g
-group-count o n first (alone c) le ready = clauses-count o c first ready.linear
-group-count o n first (paired c d) le ready = (both_encode o n first c d le ready).counts
+group-count o n first (Alone c) le ready = clauses-count o c first ready.linear
+group-count o n first (Paired c d) le ready = (both_encode o n first c d le ready).counts

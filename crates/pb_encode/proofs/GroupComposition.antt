@@ -13,15 +13,16 @@ use Rattle.pb_choice.specs.declared.options.Options.{Options}
 use Rattle.pb_choice.proofs.Composition.{IsOneBelow, holds-agree}
 use Rattle.pb_choice.proofs.RestLaws.{IsTrueClause}
 use Rattle.pb_encode.specs.Clauses.{clauses_from, clause_total, fresh_total}
-use Rattle.pb_encode.specs.Groups.{Group, all_members, group_clauses, group_count, group_fresh, members}
-use Rattle.pb_encode.specs.Groups.Group.{alone, paired}
+use Rattle.pb_encode.specs.declared.groups.Group.{Group}
+use Rattle.pb_encode.specs.Groups.{all_members, group_clauses, group_count, group_fresh, members}
+use Rattle.pb_encode.specs.declared.groups.Group.TheVariants.{Alone, Paired}
 use Rattle.pb_encode.proofs.GroupClauses.{IsGroupReady, constraint-below, group-count, group-extend, group-sound, group-within}
 
 -- the constraints of a group hold under an assignment with the same values
 group-agree : (o : Options) (n : ℕ) (a b : Assignment) → AgreeBelow n a b → (g : Group) → IsGroupReady o n g → Solves a (members g) → Solves b (members g)
-group-agree o n a b agree (alone c) ready holds =
+group-agree o n a b agree (Alone c) ready holds =
     All-cons (Holds b) c [] (holds-agree n a b agree c (constraint-below o n n c (omega arith) ready) (All-head (Holds a) c [] holds)) (All-nil (Holds b))
-group-agree o n a b agree (paired c d) ready holds =
+group-agree o n a b agree (Paired c d) ready holds =
     All-cons (Holds b) c (d ∷ []) (holds-agree n a b agree c (constraint-below o n n c (omega arith) ready.lower) (All-head (Holds a) c (d ∷ []) holds))
     (All-cons (Holds b) d [] (holds-agree n a b agree d (constraint-below o n n d (omega arith) ready.upper) (All-head (Holds a) d [] (All-tail (Holds a) c (d ∷ []) holds))) (All-nil (Holds b)))
 

@@ -21,8 +21,9 @@ use Rattle.pb_choice.specs.laws.EqualityLaws.{IsModestEquality}
 use Rattle.pb_choice.proofs.Composition.{IsOneBelow}
 use Rattle.pb_choice.proofs.EqualityDerived.{equalities_derive}
 use Rattle.pb_choice.proofs.EqualitySizes.{equalities_brief, equalities_few, equalities_sayable}
-use Rattle.pb_encode.specs.Groups.{Group, group_clauses, group_count, group_fresh, group_size, group_steps, members}
-use Rattle.pb_encode.specs.Groups.Group.{alone, paired}
+use Rattle.pb_encode.specs.declared.groups.Group.{Group}
+use Rattle.pb_encode.specs.Groups.{group_clauses, group_count, group_fresh, group_size, group_steps, members}
+use Rattle.pb_encode.specs.declared.groups.Group.TheVariants.{Alone, Paired}
 use Rattle.pb_encode.proofs.ChoiceLaws.{IsLight, IsSaid, constraint-derives, constraint-few, constraint-said, modest}
 use Rattle.pb_encode.proofs.GroupLists.{AreBoth, OfGroup}
 use Rattle.pb_encode.proofs.LoadedDatabases.{Stand}
@@ -50,21 +51,21 @@ light_original o n first c le light = All-weaker (OfTerm (IsOneBelow n)) (λ t. 
 
 pub group-derives : (o : Options) (n first id : ℕ) (g : Group) (db : Database) → IsGroupLight o n g → n ≤ first → IsGroupStart o first id g db
     → Derives db (group_steps o g first id db.next) (group_clauses o g first) (first + group_fresh o g)
-group-derives o n first id (alone c) db light le start = constraint-derives o n first id c db light le (record {
+group-derives o n first id (Alone c) db light le start = constraint-derives o n first id c db light le (record {
   original = start.original;
   vars = start.vars;
   numbered = start.numbered;
   stands = start.stands.0;
   unnamed = start.unnamed;
 })
-group-derives o n first id (paired c d) db light le start =
+group-derives o n first id (Paired c d) db light le start =
     equalities_derive o c d first id (id + 1) db (both_modest o n c d light) (light_below o n first c le light.lower)
     (record { original = start.original; vars = start.vars; numbered = start.numbered; stands = start.stands.0; unnamed = start.unnamed })
     (record { original = start.original; vars = start.vars; numbered = start.numbered; stands = start.stands.1.0; unnamed = start.unnamed })
 
 pub group-few : (o : Options) (n : ℕ) (g : Group) (first id next : ℕ) → IsGroupLight o n g → length (group_steps o g first id next) ≤ 8 * (group_fresh o g + group_count o g) + 4 * group_size g
-group-few o n (alone c) first id next light = omega (arith, constraint-few o n c first id next light)
-group-few o n (paired c d) first id next light = omega (arith, equalities_few o c d first id (id + 1) next (both_modest o n c d light))
+group-few o n (Alone c) first id next light = omega (arith, constraint-few o n c first id next light)
+group-few o n (Paired c d) first id next light = omega (arith, equalities_few o c d first id (id + 1) next (both_modest o n c d light))
 
 -- how many terms there are
 abbrev pub term_total : List Constraint → ℕ
@@ -83,11 +84,11 @@ as_long o n c d light = ap (λ (ts : List Weighted). length ts) light.halves.tur
 
 pub group-said : (o : Options) (n first id next : ℕ) (g : Group) → IsGroupLight o n g → n ≤ first → 1 ≤ first → first + group_fresh o g ≤ 2 ^ 31 → group_count o g ≤ 2 ^ 56 → 1 ≤ id → id + group_size g ≤ next → LeavesIds (group_steps o g first id) next
     → IsSaid (term_total (members g)) (group_size g) (group_fresh o g) (group_count o g) (group_steps o g first id next)
-group-said o n first id next (alone c) light le low fits counted given known few =
-    let said = constraint-said o n first id next c light le low fits counted given (omega (arith, known)) (leaves_next (group_steps o (alone c) first id) next few) in
+group-said o n first id next (Alone c) light le low fits counted given known few =
+    let said = constraint-said o n first id next c light le low fits counted given (omega (arith, known)) (leaves_next (group_steps o (Alone c) first id) next few) in
     let all = said.all in
     record { sayable = said.sayable; each = said.each; all = omega (arith, all) }
-group-said o n first id next (paired c d) light le low fits counted given known few =
+group-said o n first id next (Paired c d) light le low fits counted given known few =
     let both = both_modest o n c d light in
     let original = light_original o n first c le light.lower in
     let soon = leaves_next (equality_steps o c d first id (id + 1)) next few in

@@ -14,8 +14,9 @@ use Rattle.pb_norm.specs.Halves.{constraints_of, half_of, halves_of, loaded}
 use Rattle.pb_norm.specs.Products.{defining, loaded_of}
 use Rattle.pb_choice.specs.laws.EqualityLaws.{AreHalves}
 use Rattle.pb_choice.proofs.EqualHalves.{statements_have_halves}
-use Rattle.pb_encode.specs.Groups.{Group, all_members, group_of, group_size, grouped, groups_of, members, singles, size_total, statement_groups}
-use Rattle.pb_encode.specs.Groups.Group.{alone, paired}
+use Rattle.pb_encode.specs.declared.groups.Group.{Group}
+use Rattle.pb_encode.specs.Groups.{all_members, group_of, group_size, grouped, groups_of, members, singles, size_total, statement_groups}
+use Rattle.pb_encode.specs.declared.groups.Group.TheVariants.{Alone, Paired}
 
 -- ---- the constraints
 
@@ -57,17 +58,17 @@ pub record AreBoth (P : Constraint → Type 0) (c d : Constraint) : Type 0 where
   pub halves : AreHalves c d
 
 abbrev pub OfGroup : (Constraint → Type 0) → Group → Type 0
-OfGroup P (alone c) = P c
-OfGroup P (paired c d) = AreBoth P c d
+OfGroup P (Alone c) = P c
+OfGroup P (Paired c d) = AreBoth P c d
 
 -- what is paired are the halves of one equality
 abbrev pub IsMatched : Group → Type 0
-IsMatched (alone c) = Unit {0}
-IsMatched (paired c d) = AreHalves c d
+IsMatched (Alone c) = Unit {0}
+IsMatched (Paired c d) = AreHalves c d
 
 singles_matched : (cs : List Constraint) → All IsMatched (singles cs)
 singles_matched [] = All-nil IsMatched
-singles_matched (c ∷ cs) = All-cons IsMatched (alone c) (singles cs) tt (singles_matched cs)
+singles_matched (c ∷ cs) = All-cons IsMatched (Alone c) (singles cs) tt (singles_matched cs)
 
 statement_matched : (s : Raw) (r : Relation) → IsMatched (grouped r s)
 statement_matched s AtLeast = tt
@@ -85,8 +86,8 @@ groups_matched p =
 
 module _ (P : Constraint → Type 0) where
   group_by : (g : Group) → IsMatched g → All P (members g) → OfGroup P g
-  group_by (alone c) matched h = All-head P c [] h
-  group_by (paired c d) matched h = record { lower = All-head P c (d ∷ []) h; upper = All-head P d [] (All-tail P c (d ∷ []) h); halves = matched }
+  group_by (Alone c) matched h = All-head P c [] h
+  group_by (Paired c d) matched h = record { lower = All-head P c (d ∷ []) h; upper = All-head P d [] (All-tail P c (d ∷ []) h); halves = matched }
 
   -- what holds of each constraint holds of each group
   pub groups_by : (gs : List Group) → All IsMatched gs → All P (all_members gs) → All (OfGroup P) gs

@@ -1,5 +1,5 @@
--- What the halves of a statement weigh, and which variables they are over, as they stand in memory.
-use Rattle.std.proofs.Common.{◌≡◌, ◌<◌, ◌^◌, ℕ, List, [], ◌∷◌, map, refl, sym, subst, arith}
+-- What the halves of a statement weigh.
+use Rattle.std.proofs.Common.{◌≡◌, ◌<◌, ℕ, List, [], ◌∷◌, map, refl, arith}
 use Rattle.std.specs.Int.RustNames.{unsigned_abs}
 use Rattle.std.proofs.lemmas.List.Sums.{sum_by-cons}
 use Rattle.pb_base.specs.declared.literal.Term.{Term}
@@ -8,13 +8,10 @@ use Rattle.pb_base.specs.Problems.{magnitude, StaysBelow}
 use Rattle.pb_base.proofs.Sums.{sum_by-parts}
 use Rattle.pb_norm.specs.declared.halves.Half.{Half}
 use Rattle.pb_norm.specs.Addition.{joined}
-use Rattle.pb_norm.specs.Constraints.{Constraint, Weighted, weight}
+use Rattle.pb_norm.specs.Constraints.{Weighted, weight}
 use Rattle.pb_norm.specs.Halves.{half_of, half_terms, is_positive, unsigned}
 use Rattle.pb_norm.proofs.AdditionSizes.{weight-cons, weight-joined}
 use Rattle.pb_norm.proofs.NetBounds.{magnitude-half}
-use Rattle.pb_norm.proofs.Variables.{half_of-vars}
-use Rattle.pb_family.specs.Families.{VarsBelow}
-use Rattle.pb_encode.specs.laws.Streams.{IsOverBelow}
 
 weight-unsigned : (ts : List Term) → weight (map unsigned ts) ≡ magnitude ts
 weight-unsigned [] = refl
@@ -26,11 +23,3 @@ half_light half s most small =
     let ts = half_terms half s.terms in
     let us = joined (map unsigned ts) [] in
     omega (arith, magnitude-half half s.terms, weight-unsigned ts, weight-joined (map unsigned ts) [], sum_by-parts {X = Weighted} (λ t. t.coef) is_positive us, small)
-
--- as it stands in memory
-pub weighs_little : (half : Half) (s : Raw) (c : Constraint) → c ≡ half_of half s → StaysBelow (2 ^ 100) s → weight c.terms < 2 ^ 100
-weighs_little half s c is small = subst (λ (d : Constraint). weight d.terms < 2 ^ 100) (sym is) (half_light half s (2 ^ 100) small)
-
--- and over the variables of the statement
-pub stays_below : (first : ℕ) (half : Half) (s : Raw) (c : Constraint) → c ≡ half_of half s → IsOverBelow first s → VarsBelow first c.terms
-stays_below first half s c is below = subst (λ (d : Constraint). VarsBelow first d.terms) (sym is) (half_of-vars (λ v. v < first) half s below)

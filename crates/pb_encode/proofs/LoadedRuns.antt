@@ -16,7 +16,8 @@ use Rattle.pb_derive.proofs.Running.{runs_append}
 use Rattle.pb_choice.specs.declared.options.Options.{Options}
 use Rattle.pb_choice.specs.Readiness.{LeavesIds}
 use Rattle.pb_encode.specs.Clauses.{clauses_from, clause_total, fresh_total}
-use Rattle.pb_encode.specs.Groups.{Group, all_members, group_clauses, group_count, group_fresh, group_size, group_steps, members, size_total}
+use Rattle.pb_encode.specs.declared.groups.Group.{Group}
+use Rattle.pb_encode.specs.Groups.{all_members, group_clauses, group_count, group_fresh, group_size, group_steps, members, size_total}
 use Rattle.pb_encode.specs.Steps.{steps_from}
 use Rattle.pb_encode.proofs.GroupDerivations.{IsGroupLight, group-derives, group-few, group-said, term_total}
 use Rattle.pb_encode.proofs.GroupLists.{size-members}

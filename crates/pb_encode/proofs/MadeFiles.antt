@@ -1,18 +1,36 @@
 -- How making a file ends, by what making it, writing and ending it did to a desk.
-use Rattle.std.proofs.Common.{◌≡◌, ℕ, List, Err, length, take, refl, ap, sym, subst}
-use Rattle.std.specs.Prelude.{Result, IsErrAnd}
+use Rattle.std.proofs.Common.{◌≡◌, ◌∙◌, ◌<◌, ◌+◌, ℕ, List, [], ◌∷◌, Err, Some, None, length, take, refl, ap, sym, subst, arith, eq-eqb}
+use Rattle.std.specs.Prelude.{Option, Result, IsErrAnd, IsSomeAnd}
 use Rattle.std.proofs.Math.Seq.{take-length}
-use Rattle.pb_desk.specs.View.{created, wrote}
-use Rattle.pb_desk.specs.Desk.{DeskState, FailsToWrite, Reaches, same}
+use Rattle.pb_desk.specs.View.{Told, View, created, wrote}
+use Rattle.pb_desk.specs.Desk.{DeskState, FailsToWrite, LacksRoom, Reaches, same, written}
 use Rattle.pb_desk.proofs.Steps.{then, then_fails_to_write}
 use Rattle.pb_encode.specs.declared.fault.EncodeFault.{EncodeFault}
 use Rattle.pb_encode.specs.declared.fault.EncodeFault.TheVariants as fault
 use Rattle.pb_encode.specs.Encodings.{begun, LeavesPart, StopsMaking}
+use Rattle.pb_encode.specs.Encodings.LacksToMake.{no_room}
+use Rattle.pb_encode.specs.Encodings.LeavesPart.{cut_off as leaves_cut, left}
 use Rattle.pb_encode.specs.Encodings.StopsMaking.{in_text}
-use Rattle.pb_encode.specs.laws.Sending.{SendsPart, Stops, StopsSending}
+use Rattle.pb_encode.specs.laws.Sending.{LacksFor, Stops, StopsSending, WantsSending}
+use Rattle.pb_encode.specs.laws.Sending.WantsSending.{cut_off, sent}
 use Rattle.pb_encode.proofs.Residuals.{was_handed}
 
+-- a file that was just made has no room for what has no room
+new_lacks : (slot : ℕ) (name : List ℕ) (n : ℕ) (a b : DeskState) → b.view ≡ created slot name a.view → LacksRoom (written slot) n b → IsSomeAnd a.view.room (λ most. most < n)
+new_lacks slot name n a b view lacks = by_parts a.view.room a.view.told (subst (λ (v : View). IsSomeAnd v.room (λ most. IsSomeAnd v.told (λ t. most < length (written slot t) + n))) view lacks)
+  where
+    by_parts : (room : Option ℕ) (told : Option Told) → IsSomeAnd room (λ most. IsSomeAnd (created slot name (record a.view { told = told })).told (λ t. most < length (written slot t) + n)) → IsSomeAnd room (λ most. most < n)
+    by_parts None told h = absurd h
+    by_parts (Some most) None h = absurd h
+    by_parts (Some most) (Some t) h = let none : written slot (record t { made = record { slot = slot; name = name; bytes = [] } ∷ t.made }) ≡ [] = simp (eq-eqb slot slot refl) refl in omega (arith, h, ap length none)
+
 module _ (slot : ℕ) (name text : List ℕ) (a b d : DeskState) (opened : Reaches (created slot name) a b) where
+  leaves_part : WantsSending slot text b d → LeavesPart slot name text a d
+  leaves_part (sent part) = left part.count (then (created slot name) (wrote slot (take part.count text)) (begun slot name (take part.count text)) a b d (λ v. refl) opened part.reached)
+  leaves_part (cut_off stop lacks) =
+      leaves_cut stop.count (then_fails_to_write (created slot name) (wrote slot (take stop.count text)) (begun slot name (take stop.count text)) a b d (λ v. refl) opened stop.fails)
+      (λ steady. no_room (new_lacks slot name (length text) a b opened.view (lacks (ap (λ (v : View). v.steady) opened.view ∙ steady))))
+
   -- the text was not written whole
   module _ {T : Type 0} (r : Result T EncodeFault) (f : EncodeFault) (given : IsErrAnd r (λ g. g ≡ f)) (stopped : Stops slot text b d f) where
     pub write_stops : r ≡ Err fault.WriteFault → StopsMaking slot name text a d
@@ -21,9 +39,7 @@ module _ (slot : ℕ) (name text : List ℕ) (a b d : DeskState) (opened : Reach
         in_text stop.count (then_fails_to_write (created slot name) (wrote slot (take stop.count text)) (begun slot name (take stop.count text)) a b d (λ v. refl) opened stop.fails)
 
     pub memory_stops : r ≡ Err fault.NoMemory → LeavesPart slot name text a d
-    memory_stops is =
-        let stop : SendsPart slot text b d = subst (Stops slot text b d) (sym (was_handed r fault.NoMemory f given is)) stopped in
-        record { count = stop.count; reached = then (created slot name) (wrote slot (take stop.count text)) (begun slot name (take stop.count text)) a b d (λ v. refl) opened stop.reached }
+    memory_stops is = leaves_part (subst (Stops slot text b d) (sym (was_handed r fault.NoMemory f given is)) stopped)
 
   -- it was written, but the file was not ended
   pub end_stops : (e : DeskState) → Reaches (wrote slot text) b d → FailsToWrite same d e → StopsMaking slot name text a e

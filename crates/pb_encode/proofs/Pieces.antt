@@ -1,8 +1,9 @@
 -- A text that is handed over piece by piece, where memory may be wanting.
-use Rattle.std.proofs.Common.{◌≡◌, ◌++◌, ℕ, List, [], Ok, Err, ap, subst, sym, ◌∙◌, append-nil, append_assoc}
+use Rattle.std.proofs.Common.{◌≡◌, ◌++◌, ℕ, List, [], Ok, Err, ap, refl, subst, sym, ◌∙◌, append-nil, append_assoc}
 use Rattle.std.specs.Prelude.{Result, IsErrAnd}
 use Rattle.pb_family.specs.Sinks.{SinkState, Takes}
-use Rattle.pb_family.specs.Handing.{Stops}
+use Rattle.pb_base.specs.declared.literal.Lit.{Lit}
+use Rattle.pb_family.specs.Handing.{HandsIfMemory, Stops, lines_for}
 use Rattle.pb_family.specs.declared.sink.SinkFault.{SinkFault}
 use Rattle.pb_family.specs.declared.sink.SinkFault.TheVariants as fault
 use Rattle.pb_family.proofs.Taking.{fails_front, part_front, takes_nothing, takes_same, then_fails, then_part, then_takes}
@@ -50,3 +51,13 @@ sending_stops {all = all} {old = old} {now} (Err g) f piece rest after parts is 
 -- that of the last one
 pub sending_stops_last : {R T : Type 0} {all piece : List ℕ} {old now : SinkState R} (r : Result T SinkFault) (f : SinkFault) (after : SinkState R) → IsErrAnd r (λ g. g ≡ f) → Sending all piece old now → Stops piece now after f → HandsTextIfMemory all r old after
 sending_stops_last {piece = piece} r f after is e part = sending_stops r f piece [] after (sym (append-nil piece)) is e part
+
+-- the lines of clauses are a text
+pub lines_handed : {R T : Type 0} (clauses : List (List Lit)) (r : Result T SinkFault) (a b : SinkState R) → HandsIfMemory clauses r a b → HandsTextIfMemory (lines_for a clauses) r a b
+lines_handed clauses (Ok x) a b h = h
+lines_handed clauses (Err f) a b h = h
+
+-- what the last call hands over
+pub sending_hands : {R T : Type 0} {all piece : List ℕ} {old now : SinkState R} (r : Result T SinkFault) (after : SinkState R) → Sending all piece old now → HandsTextIfMemory piece r now after → HandsTextIfMemory all r old after
+sending_hands {piece = piece} (Ok x) after e h = sending_ends (sending_last piece after e h)
+sending_hands {T = T} (Err f) after e h = sending_stops_last {T = T} (Err f) f after refl e h

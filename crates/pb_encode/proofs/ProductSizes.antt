@@ -18,7 +18,7 @@ use Rattle.pb_choice.proofs.Encoded.{clauses-count, clauses-sound}
 use Rattle.pb_choice.proofs.RestLaws.{IsTrueClause}
 use Rattle.pb_encode.specs.Clauses.{clause_total}
 use Rattle.pb_encode.specs.Groups.{group_count, singles}
-use Rattle.pb_encode.specs.Groups.Group.{alone}
+use Rattle.pb_encode.specs.declared.groups.Group.TheVariants.{Alone}
 use Rattle.pb_encode.proofs.GroupDerivations.{term_total}
 
 -- ---- terms
@@ -82,4 +82,4 @@ form_clauses o Q c form = by_clauses (constraint_clauses o c 1) refl
 pub forms_clauses : (o : Options) (Q : ℕ → Type 0) (cs : List Constraint) → All (IsFormOver Q) cs → length cs ≤ clause_total o (singles cs)
 forms_clauses o Q [] forms = omega arith
 forms_clauses o Q (c ∷ cs) forms =
-    omega (arith, sum_by-cons (group_count o) (alone c) (singles cs), form_clauses o Q c (All-head (IsFormOver Q) c cs forms), forms_clauses o Q cs (All-tail (IsFormOver Q) c cs forms))
+    omega (arith, sum_by-cons (group_count o) (Alone c) (singles cs), form_clauses o Q c (All-head (IsFormOver Q) c cs forms), forms_clauses o Q cs (All-tail (IsFormOver Q) c cs forms))

@@ -24,8 +24,9 @@ use Rattle.pb_encode.specs.declared.summary.Treatments.{Treatments}
 use Rattle.pb_encode.specs.declared.summary.Summary.{Summary}
 use Rattle.pb_gentot.specs.BoundTable.{table_fresh, table_size}
 use Rattle.pb_encode.specs.Clauses.{clause_total, fresh_total, loaded_vars, problem_count, problem_vars, table_first}
-use Rattle.pb_encode.specs.Groups.{Group, group_count, group_fresh, group_size, groups_of, size_total}
-use Rattle.pb_encode.specs.Groups.Group.{alone, paired}
+use Rattle.pb_encode.specs.declared.groups.Group.{Group}
+use Rattle.pb_encode.specs.Groups.{group_count, group_fresh, group_size, groups_of, size_total}
+use Rattle.pb_encode.specs.declared.groups.Group.TheVariants.{Alone, Paired}
 use Rattle.pb_encode.specs.Summaries.{IsEncodable, counted_at, is_at, joint_at, place_of, treated, treated_in, treatments_of, summary_of}
 use Rattle.pb_encode.specs.Tables.{table_terms}
 use Rattle.pb_encode.specs.laws.Tallies.{capped, AddsJoint, IsTally}
@@ -71,18 +72,18 @@ group_more o gs g old new p more fresh count fresh_is count_is fresh_to clauses_
 
 -- one more constraint was counted
 pub tally_more : (o : Options) (gs : List Group) (c : Constraint) (old new : Tally) (p : ℕ) → new.fresh ≡ capped (old.fresh + constraint_fresh o c) → new.clauses ≡ capped (old.clauses + constraint_count o c)
-    → p ≡ place_of (treatment_of o (rest_of c)) → p < 12 → new.treated ≡ slice_set old.treated p (capped (slice_index_or old.treated p 0 + 1)) → IsTally o gs old → IsTally o (gs ++ alone c ∷ []) new
+    → p ≡ place_of (treatment_of o (rest_of c)) → p < 12 → new.treated ≡ slice_set old.treated p (capped (slice_index_or old.treated p 0 + 1)) → IsTally o gs old → IsTally o (gs ++ Alone c ∷ []) new
 tally_more o gs c old new p fresh clauses at lt is h =
-    group_more o gs (alone c) old new p 1 (constraint_fresh o c) (constraint_count o c) refl refl fresh clauses lt is (λ place. ap (λ (n : ℕ). cond {A = ℕ} (n == place) 1 0) (sym at)) h
+    group_more o gs (Alone c) old new p 1 (constraint_fresh o c) (constraint_count o c) refl refl fresh clauses lt is (λ place. ap (λ (n : ℕ). cond {A = ℕ} (n == place) 1 0) (sym at)) h
 
 -- an equality was counted that is encoded as one
-pub tally_joint : (o : Options) (gs : List Group) (c d : Constraint) (old new : Tally) (fresh count : ℕ) → is_joint o c ≡ true → fresh ≡ equality_fresh o c d → count ≡ equality_count o c d → AddsJoint fresh count old new → IsTally o gs old → IsTally o (gs ++ paired c d ∷ []) new
+pub tally_joint : (o : Options) (gs : List Group) (c d : Constraint) (old new : Tally) (fresh count : ℕ) → is_joint o c ≡ true → fresh ≡ equality_fresh o c d → count ≡ equality_count o c d → AddsJoint fresh count old new → IsTally o gs old → IsTally o (gs ++ Paired c d ∷ []) new
 tally_joint o gs c d old new fresh count joint fresh_is count_is adds h =
-    group_more o gs (paired c d) old new 11 2 fresh count fresh_is count_is adds.fresh_is adds.clauses_are (omega arith) adds.treated_are
+    group_more o gs (Paired c d) old new 11 2 fresh count fresh_is count_is adds.fresh_is adds.clauses_are (omega arith) adds.treated_are
     (λ place. cond-true (is_joint o c) (joint_at place) (counted_at o place c + counted_at o place d) joint) h
 
 -- one was counted that is encoded half by half
-pub tally_split : (o : Options) (gs : List Group) (c d : Constraint) (t : Tally) → is_joint o c ≡ false → IsTally o ((gs ++ alone c ∷ []) ++ alone d ∷ []) t → IsTally o (gs ++ paired c d ∷ []) t
+pub tally_split : (o : Options) (gs : List Group) (c d : Constraint) (t : Tally) → is_joint o c ≡ false → IsTally o ((gs ++ Alone c ∷ []) ++ Alone d ∷ []) t → IsTally o (gs ++ Paired c d ∷ []) t
 tally_split o gs c d t split h = record {
   fresh = h.fresh ∙ ap capped (total (group_fresh o) (cond-false (is_joint o c) (exact_fresh (literals_asked c)) (constraint_fresh o c + constraint_fresh o d) split));
   clauses = h.clauses ∙ ap capped (total (group_count o) (cond-false (is_joint o c) (exact_size (literals_asked c)) (constraint_count o c + constraint_count o d) split));
@@ -90,8 +91,8 @@ tally_split o gs c d t split h = record {
   treated = λ place within. h.treated place within ∙ ap capped (total (treated_in o place) (cond-false (is_joint o c) (joint_at place) (counted_at o place c + counted_at o place d) split));
 }
   where
-    total : (f : Group → ℕ) → f (paired c d) ≡ f (alone c) + f (alone d) → sum_by f ((gs ++ alone c ∷ []) ++ alone d ∷ []) ≡ sum_by f (gs ++ paired c d ∷ [])
-    total f parts = omega (arith, sum_by_push f (gs ++ alone c ∷ []) (alone d), sum_by_push f gs (alone c), sum_by_push f gs (paired c d), parts)
+    total : (f : Group → ℕ) → f (Paired c d) ≡ f (Alone c) + f (Alone d) → sum_by f ((gs ++ Alone c ∷ []) ++ Alone d ∷ []) ≡ sum_by f (gs ++ Paired c d ∷ [])
+    total f parts = omega (arith, sum_by_push f (gs ++ Alone c ∷ []) (Alone d), sum_by_push f gs (Alone c), sum_by_push f gs (Paired c d), parts)
 
 -- at most two for each statement
 pub length-loaded : (ss : List Raw) → length (loaded ss) ≤ 2 * length ss
@@ -116,8 +117,8 @@ one_if-le false = omega arith
 -- no more than the group has constraints
 treated_in-le : (o : Options) (place : ℕ) (g : Group) → treated_in o place g ≤ group_size g
 unfolding one_if
-treated_in-le o place (alone c) = one_if-le (is_at o place c)
-treated_in-le o place (paired c d) = by_tests (is_joint o c) (11 == place) (is_at o place c) (is_at o place d)
+treated_in-le o place (Alone c) = one_if-le (is_at o place c)
+treated_in-le o place (Paired c d) = by_tests (is_joint o c) (11 == place) (is_at o place c) (is_at o place d)
   where
     by_tests : (joint here lower upper : Bool) → cond {A = ℕ} joint (cond {A = ℕ} here 2 0) (cond {A = ℕ} lower 1 0 + cond {A = ℕ} upper 1 0) ≤ 2
     by_tests true true lower upper = omega arith

@@ -1,12 +1,11 @@
 -- What a sink over a slot that held nothing has written of a text, whatever it puts before the lines of clauses.
-use Rattle.std.proofs.Common.{◌≡◌, ◌∙◌, ℕ, List, [], Err, ap, sym, subst, take}
+use Rattle.std.proofs.Common.{◌≡◌, ◌∙◌, ℕ, List, [], Err, ap, inl, inr, sym, subst, take}
 use Rattle.std.specs.Prelude.{Result, IfErr, IsErrAnd, IsSome}
 use Rattle.pb_desk.specs.View.{wrote}
 use Rattle.pb_desk.specs.Desk.{DeskState, Reaches, IsSteady}
 use Rattle.pb_desk.proofs.Steps.{begin}
 use Rattle.pb_desk.proofs.Views.{wrote-nil}
 use Rattle.pb_family.specs.Sinks.{SinkState, Takes, FailsToTake}
-use Rattle.pb_family.specs.Handing.{Stops as StopsTaking}
 use Rattle.pb_family.specs.declared.sink.SinkFault.{SinkFault}
 use Rattle.pb_family.specs.declared.sink.SinkFault.TheVariants as sink
 use Rattle.pb_dimacs.specs.Outboxes.{IsAllSent, SlotRest, slot_sink}
@@ -15,13 +14,16 @@ use Rattle.pb_dimacs.proofs.Leads.{fails_led, led, takes_led}
 use Rattle.pb_encode.specs.declared.fault.EncodeFault.{EncodeFault}
 use Rattle.pb_encode.specs.declared.fault.EncodeFault.TheVariants as fault
 use Rattle.pb_encode.specs.Faults.{of_sink}
-use Rattle.pb_encode.specs.laws.Sending.{LacksFor, Stops, SendsPart}
+use Rattle.pb_encode.specs.laws.Sending.{LacksFor, Stops, StopsSending, WantsSending}
+use Rattle.pb_encode.specs.laws.Sending.WantsSending.{cut_off, sent}
+use Rattle.pb_encode.specs.laws.SendingTexts.{BreaksOff}
 use Rattle.pb_encode.proofs.Residuals.{on_fault, was_handed}
 
 -- what the sink stands over stays in whichever way it was stopped
-rest_stays : {R : Type 0} (text : List ℕ) (s t : SinkState R) (f : SinkFault) → StopsTaking text s t f → t.rest ≡ s.rest
+rest_stays : {R : Type 0} (text : List ℕ) (s t : SinkState R) (f : SinkFault) → BreaksOff text s t f → t.rest ≡ s.rest
 rest_stays text s t sink.Failed h = h.grows.rest
-rest_stays text s t sink.NoMemory h = h.taken.grows.rest
+rest_stays text s t sink.NoMemory (inl h) = h.taken.grows.rest
+rest_stays text s t sink.NoMemory (inr h) = h.grows.rest
 
 -- the sink began at a slot of a desk, and ended at another state of it
 module _ {N : Type 0} (lead : List ℕ) (n m : N) (slot k : ℕ) (a b : DeskState) (held left text : List ℕ) (s : SinkState (SlotRest N)) (none : held ≡ []) (starts : s ≡ led lead (slot_sink n slot held a)) where
@@ -34,19 +36,26 @@ module _ {N : Type 0} (lead : List ℕ) (n m : N) (slot k : ℕ) (a b : DeskStat
   plain_fails : FailsToTake text s (led lead (slot_sink m k left b)) → FailsToTake text (slot_sink n slot [] a) (slot_sink m k left b)
   plain_fails h = subst (λ (x : SinkState (SlotRest N)). FailsToTake text x (slot_sink m k left b)) start (fails_led [] text s (led lead (slot_sink m k left b)) h)
 
-  stops_at : (f : SinkFault) → StopsTaking text s (led lead (slot_sink m k left b)) f → Stops slot text a b (of_sink f)
-  stops_at sink.Failed h =
+  failed_at : FailsToTake text s (led lead (slot_sink m k left b)) → StopsSending slot text a b
+  failed_at h =
       let found = fails_part n m slot k a b text left (plain_fails h) in
       record { count = found.0; fails = found.1 }
-  stops_at sink.NoMemory h =
-      let found = reaches_part n m slot k a b text h.count left (plain_takes (take h.count text) h.taken) in
-      record { count = found.0; reached = found.1 }
 
-  lacks_at : (f : SinkFault) → fault.WriteFault ≡ of_sink f → StopsTaking text s (led lead (slot_sink m k left b)) f → IsSteady a → IsSome a.view.room → LacksFor slot text a
-  lacks_at sink.Failed is h steady some = lacks_of n m slot k a b text left (plain_fails h) steady some
+  failed_lacks : FailsToTake text s (led lead (slot_sink m k left b)) → IsSteady a → IsSome a.view.room → LacksFor slot text a
+  failed_lacks h steady some = lacks_of n m slot k a b text left (plain_fails h) steady some
+
+  stops_at : (IsSteady a → IsSome a.view.room) → (f : SinkFault) → BreaksOff text s (led lead (slot_sink m k left b)) f → Stops slot text a b (of_sink f)
+  stops_at has_room sink.Failed h = failed_at h
+  stops_at has_room sink.NoMemory (inl h) =
+      let found = reaches_part n m slot k a b text h.count left (plain_takes (take h.count text) h.taken) in
+      sent (record { count = found.0; reached = found.1 })
+  stops_at has_room sink.NoMemory (inr h) = cut_off (failed_at h) (λ steady. failed_lacks h steady (has_room steady))
+
+  lacks_at : (f : SinkFault) → fault.WriteFault ≡ of_sink f → BreaksOff text s (led lead (slot_sink m k left b)) f → IsSteady a → IsSome a.view.room → LacksFor slot text a
+  lacks_at sink.Failed is h steady some = failed_lacks h steady some
   lacks_at sink.NoMemory is h steady some = cc
 
-  pub text_lacks : {T : Type 0} (r : Result T EncodeFault) (f : SinkFault) → IsErrAnd r (λ g. g ≡ of_sink f) → StopsTaking text s (led lead (slot_sink m k left b)) f → IsSteady a → IsSome a.view.room → r ≡ Err fault.WriteFault → LacksFor slot text a
+  pub text_lacks : {T : Type 0} (r : Result T EncodeFault) (f : SinkFault) → IsErrAnd r (λ g. g ≡ of_sink f) → BreaksOff text s (led lead (slot_sink m k left b)) f → IsSteady a → IsSome a.view.room → r ≡ Err fault.WriteFault → LacksFor slot text a
   text_lacks r f given h steady some is = lacks_at f (was_handed r fault.WriteFault (of_sink f) given is) h steady some
 
   -- the desk that comes back is that one, if the sink kept its name
@@ -54,10 +63,10 @@ module _ {N : Type 0} (lead : List ℕ) (n m : N) (slot k : ℕ) (a b : DeskStat
     comes_back : (slot_sink m k left b).rest ≡ s.rest → b ≡ d
     comes_back stays = sym (back (sym (ap (λ (r : SlotRest N). r.name) stays ∙ ap (λ (x : SinkState (SlotRest N)). x.rest.name) starts)))
 
-    pub text_stopped : {T : Type 0} (r : Result T EncodeFault) (f : SinkFault) → IsErrAnd r (λ g. g ≡ of_sink f) → StopsTaking text s (led lead (slot_sink m k left b)) f → IfErr r (Stops slot text a d)
-    text_stopped r f given h =
+    pub text_stopped : {T : Type 0} → (IsSteady a → IsSome a.view.room) → (r : Result T EncodeFault) (f : SinkFault) → IsErrAnd r (λ g. g ≡ of_sink f) → BreaksOff text s (led lead (slot_sink m k left b)) f → IfErr r (Stops slot text a d)
+    text_stopped has_room r f given h =
         on_fault (Stops slot text a d) r (of_sink f) given
-        (subst (λ (x : DeskState). Stops slot text a x (of_sink f)) (comes_back (rest_stays text s (led lead (slot_sink m k left b)) f h)) (stops_at f h))
+        (subst (λ (x : DeskState). Stops slot text a x (of_sink f)) (comes_back (rest_stays text s (led lead (slot_sink m k left b)) f h)) (stops_at has_room f h))
 
     pub text_written : Takes text s (led lead (slot_sink m k left b)) → IsAllSent (slot_sink m k left b) → Reaches (wrote slot text) a d
     text_written h all =
@@ -65,5 +74,5 @@ module _ {N : Type 0} (lead : List ℕ) (n m : N) (slot k : ℕ) (a b : DeskStat
         subst (λ (x : DeskState). Reaches (wrote slot text) a x) (comes_back h.grows.rest) (reaches_whole n m slot k a b text to)
 
 -- nothing was sent
-pub sends_none : (slot : ℕ) (text : List ℕ) (a : DeskState) → SendsPart slot text a a
-sends_none slot text a = record { count = 0; reached = begin (wrote slot []) a (wrote-nil slot) }
+pub sends_none : (slot : ℕ) (text : List ℕ) (a : DeskState) → WantsSending slot text a a
+sends_none slot text a = sent (record { count = 0; reached = begin (wrote slot []) a (wrote-nil slot) })

@@ -6,7 +6,8 @@ use Rattle.pb_base.specs.Problems.{originals}
 use Rattle.pb_choice.specs.declared.options.Options.{Options}
 use Rattle.pb_choice.specs.declared.plans.Counts.{Counts}
 use Rattle.pb_gentot.specs.BoundTable.{table_clauses, table_fresh, table_size}
-use Rattle.pb_encode.specs.Groups.{Group, group_clauses, group_count, group_fresh, groups_of}
+use Rattle.pb_encode.specs.declared.groups.Group.{Group}
+use Rattle.pb_encode.specs.Groups.{group_clauses, group_count, group_fresh, groups_of}
 use Rattle.pb_encode.specs.Tables.{table_terms}
 
 -- the fresh variables of each group come after those of the groups before it

@@ -3,7 +3,7 @@ use Rattle.std.specs.Prelude.{ℕ, ◌≡◌, ◌<◌, List, take, length, Optio
 use Rattle.pb_base.specs.declared.limit.LimitKind.{LimitKind}
 use Rattle.pb_base.specs.declared.problem.Problem.{Problem}
 use Rattle.pb_desk.specs.View.{View, created, wrote, closed}
-use Rattle.pb_desk.specs.Desk.{DeskState, Reaches, FailsToWrite, IsTaken, IsTold, same}
+use Rattle.pb_desk.specs.Desk.{DeskState, Reaches, FailsToWrite, IsSteady, IsTaken, IsTold, same}
 use Rattle.pb_dimacs.specs.CnfText.{cnf_text}
 use Rattle.pb_family.specs.StepSinks.{steps_text}
 use Rattle.pb_choice.specs.declared.options.Options.{Options}
@@ -35,15 +35,15 @@ pub data StopsMaking (slot : ℕ) (name text : List ℕ) (old new : DeskState) :
   not_made : FailsToWrite same old new → StopsMaking slot name text old new
   in_text : (count : ℕ) → FailsToWrite (begun slot name (take count text)) old new → StopsMaking slot name text old new
 
--- Memory was wanting once the file held a first part of the text.
-pub record LeavesPart (slot : ℕ) (name text : List ℕ) (old new : DeskState) : Type 0 where
-  pub count : ℕ
-  pub reached : Reaches (begun slot name (take count text)) old new
-
 -- Why a steady desk may fail to make a file: the name or the slot is used, or there is no room for the text.
 pub data LacksToMake (slot : ℕ) (name text : List ℕ) (desk : DeskState) : Type 0 where
   is_taken : IsTold desk (λ t. IsTaken slot name t.made) → LacksToMake slot name text desk
   no_room : IsSomeAnd desk.view.room (λ most. most < length text) → LacksToMake slot name text desk
+
+-- Memory was wanting once the file held a first part of the text. What was held is written then; where that failed too, a steady desk lacks something to make the file.
+pub data LeavesPart (slot : ℕ) (name text : List ℕ) (old new : DeskState) : Type 0 where
+  left : (count : ℕ) → Reaches (begun slot name (take count text)) old new → LeavesPart slot name text old new
+  cut_off : (count : ℕ) → FailsToWrite (begun slot name (take count text)) old new → (IsSteady old → LacksToMake slot name text old) → LeavesPart slot name text old new
 
 -- ---- the CNF in slot 0, and then the derivation in slot 1 if it has a name
 

@@ -16,21 +16,19 @@ use Rattle.pb_choice.specs.Clauses.{constraint_clauses, constraint_count, constr
 use Rattle.pb_choice.specs.ConstraintSteps.{constraint_steps}
 use Rattle.pb_choice.specs.Equals.{equality_clauses, equality_count, equality_fresh}
 use Rattle.pb_choice.specs.EqualitySteps.{equality_steps}
-
-pub data Group : Type 0 where
-  alone : Constraint → Group
-  paired : Constraint → Constraint → Group
+use Rattle.pb_encode.specs.declared.groups.Group.{Group}
+use Rattle.pb_encode.specs.declared.groups.Group.TheVariants.{Alone, Paired}
 
 -- ---- those of a problem
 
 abbrev pub singles : List Constraint → List Group
-singles cs = map alone cs
+singles cs = map Alone cs
 
 -- the halves that a relation has, the lower one first
 abbrev pub grouped : Relation → Raw → Group
-grouped AtLeast s = alone (half_of Lower s)
-grouped AtMost s = alone (half_of Upper s)
-grouped Equal s = paired (half_of Lower s) (half_of Upper s)
+grouped AtLeast s = Alone (half_of Lower s)
+grouped AtMost s = Alone (half_of Upper s)
+grouped Equal s = Paired (half_of Lower s) (half_of Upper s)
 
 abbrev pub group_of : Raw → Group
 group_of s = grouped s.relation s
@@ -45,8 +43,8 @@ groups_of p = singles (defining (p.vars + 1) p.products) ++ statement_groups p.s
 -- ---- their constraints
 
 abbrev pub members : Group → List Constraint
-members (alone c) = c ∷ []
-members (paired c d) = c ∷ d ∷ []
+members (Alone c) = c ∷ []
+members (Paired c d) = c ∷ d ∷ []
 
 abbrev pub group_size : Group → ℕ
 group_size g = length (members g)
@@ -60,20 +58,20 @@ size_total gs = sum_by group_size gs
 -- ---- how they are encoded
 
 abbrev pub group_clauses : Options → Group → ℕ → List (List Lit)
-group_clauses o (alone c) first = constraint_clauses o c first
-group_clauses o (paired c d) first = equality_clauses o c d first
+group_clauses o (Alone c) first = constraint_clauses o c first
+group_clauses o (Paired c d) first = equality_clauses o c d first
 
 -- how many fresh variables the clauses have
 abbrev pub group_fresh : Options → Group → ℕ
-group_fresh o (alone c) = constraint_fresh o c
-group_fresh o (paired c d) = equality_fresh o c d
+group_fresh o (Alone c) = constraint_fresh o c
+group_fresh o (Paired c d) = equality_fresh o c d
 
 -- how many there are
 abbrev pub group_count : Options → Group → ℕ
-group_count o (alone c) = constraint_count o c
-group_count o (paired c d) = equality_count o c d
+group_count o (Alone c) = constraint_count o c
+group_count o (Paired c d) = equality_count o c d
 
 -- The fresh variables are numbered from the first number on, the second is the id of the first constraint, behind which the other one stands, and the third is the next id.
 abbrev pub group_steps : Options → Group → ℕ → ℕ → ℕ → List Step
-group_steps o (alone c) first id next = constraint_steps o c first id next
-group_steps o (paired c d) first id next = equality_steps o c d first id (id + 1) next
+group_steps o (Alone c) first id next = constraint_steps o c first id next
+group_steps o (Paired c d) first id next = equality_steps o c d first id (id + 1) next

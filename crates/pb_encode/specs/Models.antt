@@ -12,8 +12,9 @@ use Rattle.pb_choice.specs.Choice.{IsSentToAdder}
 use Rattle.pb_choice.specs.Equals.{is_joint, literals_asked}
 use Rattle.pb_choice.specs.laws.EqualityLaws.{BothHold, IsHalfSentToAdder}
 use Rattle.pb_totalizer.specs.ExactOutputs.{ReachesOutputs}
-use Rattle.pb_encode.specs.Groups.{Group, group_fresh}
-use Rattle.pb_encode.specs.Groups.Group.{alone, paired}
+use Rattle.pb_encode.specs.declared.groups.Group.{Group}
+use Rattle.pb_encode.specs.Groups.{group_fresh}
+use Rattle.pb_encode.specs.declared.groups.Group.TheVariants.{Alone, Paired}
 
 -- a value for each variable, under which each clause has a true literal
 pub record IsModelOver (vars : ℕ) (clauses : List (List Lit)) (values : List Bool) : Type 0 where
@@ -38,8 +39,8 @@ pub record ForcesEquality (o : Options) (lower upper : Constraint) (first : ℕ)
   pub jointly : is_joint o lower ≡ true → ForcesJointly lower upper first clauses
 
 abbrev pub ForcesGroup : Options → List (List Lit) → ℕ → Group → Type 0
-ForcesGroup o clauses first (alone c) = ¬ IsSentToAdder o c → Propagates (map clause_form clauses) (λ a. Holds a c)
-ForcesGroup o clauses first (paired c d) = ForcesEquality o c d first clauses
+ForcesGroup o clauses first (Alone c) = ¬ IsSentToAdder o c → Propagates (map clause_form clauses) (λ a. Holds a c)
+ForcesGroup o clauses first (Paired c d) = ForcesEquality o c d first clauses
 
 -- the fresh variables of each group come after those of the groups before it
 abbrev pub ForceEach : Options → List (List Lit) → ℕ → List Group → Type 0

@@ -9,7 +9,8 @@ use Rattle.pb_derive.specs.FollowedBy.{followed_by}
 use Rattle.pb_choice.specs.declared.options.Options.{Options}
 use Rattle.pb_gentot.specs.BoundTableSteps.{table_steps}
 use Rattle.pb_encode.specs.Clauses.{table_first}
-use Rattle.pb_encode.specs.Groups.{Group, group_fresh, group_size, group_steps, groups_of}
+use Rattle.pb_encode.specs.declared.groups.Group.{Group}
+use Rattle.pb_encode.specs.Groups.{group_fresh, group_size, group_steps, groups_of}
 use Rattle.pb_encode.specs.Tables.{table_terms}
 
 -- The constraints stand under neighbouring ids, from `id` on. The fresh variables of each group come after those of the groups before it, as in its clauses.

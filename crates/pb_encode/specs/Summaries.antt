@@ -14,8 +14,9 @@ use Rattle.pb_encode.specs.declared.summary.Treatments.{Treatments}
 use Rattle.pb_encode.specs.declared.summary.Summary.{Summary}
 use Rattle.pb_gentot.specs.BoundTable.{table_fresh}
 use Rattle.pb_encode.specs.Clauses.{problem_count, problem_vars, table_first}
-use Rattle.pb_encode.specs.Groups.{Group, groups_of}
-use Rattle.pb_encode.specs.Groups.Group.{alone, paired}
+use Rattle.pb_encode.specs.declared.groups.Group.{Group}
+use Rattle.pb_encode.specs.Groups.{groups_of}
+use Rattle.pb_encode.specs.declared.groups.Group.TheVariants.{Alone, Paired}
 use Rattle.pb_encode.specs.Tables.{table_terms}
 
 -- ---- counts
@@ -47,8 +48,8 @@ joint_at place = if 11 == place then 2 else 0
 
 -- how many constraints of a group are treated so
 abbrev pub treated_in : Options → ℕ → Group → ℕ
-treated_in o place (alone c) = counted_at o place c
-treated_in o place (paired c d) = if is_joint o c then joint_at place else counted_at o place c + counted_at o place d
+treated_in o place (Alone c) = counted_at o place c
+treated_in o place (Paired c d) = if is_joint o c then joint_at place else counted_at o place c + counted_at o place d
 
 abbrev pub treated : Options → ℕ → List Group → ℕ
 treated o place gs = sum_by (treated_in o place) gs

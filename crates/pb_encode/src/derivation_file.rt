@@ -10,7 +10,7 @@ ghost use Rattle.pb_norm.specs.Products.{defining, loaded_of};
 ghost use Rattle.pb_encode.specs.Encodings.{derivation_text, made};
 ghost use Rattle.pb_encode.specs.laws.Files.{LacksForProof, LeavesProof, StopsProof};
 ghost use Rattle.pb_encode.specs.laws.Sending.{LacksFor, Stops};
-ghost use Rattle.pb_encode.specs.laws.SendingTexts.{HandsTextIfMemory};
+ghost use Rattle.pb_encode.specs.laws.SendingTexts.{SendsText};
 ghost use Rattle.pb_encode.specs.Summaries.{IsEncodable};
 
 use crate::fault::EncodeFault;
@@ -58,8 +58,8 @@ fn count_products(vars: u32, products: &[Lits]) -> u64
     count
 }
 
-// How many constraints a problem has.
-fn count_loaded(problem: &Problem) -> u64
+/// How many constraints a problem has: those that its derivation begins with.
+pub fn count_loaded(problem: &Problem) -> u64
     requires within { IsWithinLimits problem.now }
     ensures count { result ≡ length (loaded_of problem.now) }
     ensures few { result ≤ 2 ^ 53 }
@@ -68,7 +68,7 @@ fn count_loaded(problem: &Problem) -> u64
         + count_statements(problem.statements.as_slice())
 }
 
-// Hands over all lines, and writes what is held.
+// Hands over all lines, and writes what is held, also where memory is wanting.
 fn send_steps<'a, D: Desk>(
     alloc: Global,
     problem: &Problem,
@@ -79,12 +79,16 @@ fn send_steps<'a, D: Desk>(
     requires encodable { IsEncodable options.now problem.now }
     requires modest { options.now.budget ≤ 10000000 }
     requires next { (⟦<StepWriter<'a, D> as StepSink>⟧.state writer.old).next ≡ length (loaded_of problem.now) + 1 }
-    ensures hands { let seen = ⟦<StepWriter<'a, D> as StepSink>⟧.state in HandsTextIfMemory (derivation_text options.now problem.now) result (seen writer.old).sink (seen writer.new).sink }
+    ensures sends { let seen = ⟦<StepWriter<'a, D> as StepSink>⟧.state in SendsText (derivation_text options.now problem.now) result (seen writer.old).sink (seen writer.new).sink }
     ensures all_sent { OnOk result (IsAllSent ((⟦<StepWriter<'a, D> as StepSink>⟧.state writer.new).sink)) }
 {
-    stream_steps(alloc, problem, options, writer)?;
-    writer.flush()?;
-    Ok(())
+    match stream_steps(alloc, problem, options, writer) {
+        Ok(()) => Ok(writer.flush()?),
+        Err(fault) => {
+            writer.settle(fault);
+            Err(fault)
+        }
+    }
 }
 
 // Writes the text of a problem's derivation to slot 1.

@@ -8,7 +8,7 @@ ghost use Rattle.pb_dimacs.specs.Outboxes.{IsAllSent};
 ghost use Rattle.pb_encode.specs.Encodings.{made, made_files, names_of, problem_text, IsCutOff, Lacks, Refuses, WantsMemory};
 ghost use Rattle.pb_encode.specs.laws.Files.{IsCnfCutOff, LacksForCnf, WantsForCnf};
 ghost use Rattle.pb_encode.specs.laws.Sending.{LacksFor, Stops};
-ghost use Rattle.pb_encode.specs.laws.SendingTexts.{HandsTextIfMemory};
+ghost use Rattle.pb_encode.specs.laws.SendingTexts.{HandsTextIfMemory, SendsText};
 ghost use Rattle.pb_encode.specs.Summaries.{summary_of, IsEncodable};
 
 use crate::derivation_file::encode_steps;
@@ -23,7 +23,25 @@ use pb_dimacs::{ClauseWriter, Outbox};
 use pb_family::{ClauseSink, SinkFault};
 use std::alloc::Global;
 
-// Hands over all lines, given the problem's summary, and writes what is held.
+// Hands over all lines, given the problem's summary.
+fn hand_cnf<'a, D: Desk>(
+    alloc: Global,
+    problem: &Problem,
+    options: &Options,
+    summary: &Summary,
+    writer: &mut ClauseWriter<'a, D>,
+) -> Result<(), SinkFault>
+    requires within { IsWithinLimits problem.now }
+    requires encodable { IsEncodable options.now problem.now }
+    requires modest { options.now.budget ≤ 10000000 }
+    requires summary { summary.now ≡ summary_of options.now problem.now }
+    ensures { let seen = ⟦<ClauseWriter<'a, D> as ClauseSink>⟧.state in HandsTextIfMemory (problem_text options.now problem.now) result (seen writer.old) (seen writer.new) }
+{
+    writer.header(summary.vars, summary.clauses)?;
+    hand_clauses(alloc, problem, options, writer)
+}
+
+// Hands over all lines, and writes what is held, also where memory is wanting.
 fn send_cnf<'a, D: Desk>(
     alloc: Global,
     problem: &Problem,
@@ -35,13 +53,16 @@ fn send_cnf<'a, D: Desk>(
     requires encodable { IsEncodable options.now problem.now }
     requires modest { options.now.budget ≤ 10000000 }
     requires summary { summary.now ≡ summary_of options.now problem.now }
-    ensures hands { let seen = ⟦<ClauseWriter<'a, D> as ClauseSink>⟧.state in HandsTextIfMemory (problem_text options.now problem.now) result (seen writer.old) (seen writer.new) }
+    ensures sends { let seen = ⟦<ClauseWriter<'a, D> as ClauseSink>⟧.state in SendsText (problem_text options.now problem.now) result (seen writer.old) (seen writer.new) }
     ensures all_sent { OnOk result (IsAllSent (⟦<ClauseWriter<'a, D> as ClauseSink>⟧.state writer.new)) }
 {
-    writer.header(summary.vars, summary.clauses)?;
-    hand_clauses(alloc, problem, options, writer)?;
-    writer.flush()?;
-    Ok(())
+    match hand_cnf(alloc, problem, options, summary, writer) {
+        Ok(()) => Ok(writer.flush()?),
+        Err(fault) => {
+            writer.settle(fault);
+            Err(fault)
+        }
+    }
 }
 
 // Writes the CNF text of a problem to slot 0, given its summary.

@@ -7,12 +7,16 @@ ghost use Rattle.pb_encode.specs.Faults.{as_encode_fault, of_sink};
 use pb_base::{Failed, LimitKind, NoMemory};
 use pb_family::SinkFault;
 use std::alloc::AllocError;
+use thiserror::Error;
 
 /// Why a problem is not measured.
-#[derive(Clone, Copy, PartialEq, Eq, Debug)]
+#[derive(Clone, Copy, PartialEq, Eq, Debug, Error)]
 pub enum MeasureFault {
     /// The table of bounds would have more fresh variables than the budget, or there would be too many variables or clauses.
+    #[error("limit {which}")]
     Limit { which: LimitKind },
+    /// An allocation was refused.
+    #[error("out of memory")]
     NoMemory,
 }
 
@@ -25,13 +29,17 @@ impl From<NoMemory> for MeasureFault {
 }
 
 /// Why a problem is not encoded.
-#[derive(Clone, Copy, PartialEq, Eq, Debug)]
+#[derive(Clone, Copy, PartialEq, Eq, Debug, Error)]
 pub enum EncodeFault {
     /// The table of bounds would have more fresh variables than the budget, or there would be too many variables or clauses.
     /// Then no file is made.
+    #[error("limit {which}")]
     Limit { which: LimitKind },
     /// A write failed, and the desk counted it.
+    #[error("a write failed")]
     WriteFault,
+    /// An allocation was refused.
+    #[error("out of memory")]
     NoMemory,
 }
 

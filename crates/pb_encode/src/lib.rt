@@ -6,8 +6,9 @@ mod derivation;
 mod derivation_file;
 mod derived;
 mod encoding;
-mod equality;
 mod fault;
+mod group_plan;
+mod groups;
 mod measuring;
 mod models;
 mod objective;
@@ -19,6 +20,7 @@ mod weighing;
 mod whole;
 
 pub use bounds::words_of;
+pub use derivation_file::count_loaded;
 pub use derived::{cnf_tells_the_clauses, steps_derive_the_clauses};
 pub use encoding::{Names, encode};
 pub use fault::{EncodeFault, MeasureFault};
@@ -32,4 +34,4 @@ pub use table::table_of;
 pub use weighing::{
     costs_add_up, hard_clauses_have_the_costs, weighted, weighted_text_says_the_clauses,
 };
-pub use whole::{stream_clauses, stream_steps};
+pub use whole::{hand_clauses, stream_clauses, stream_steps};

@@ -3,10 +3,13 @@ ghost use Rattle.std.specs.Prelude.{◌≡◌, ◌<◌, ◌^◌, [], ◌∷◌, 
 ghost use Rattle.pb_norm.specs.Constraints.{Constraint};
 ghost use Rattle.pb_choice.specs.declared.options.Options.{Options};
 ghost use Rattle.pb_choice.specs.laws.EqualPlans.{HasPartsOf, IsEqualPlan};
-ghost use Rattle.pb_encode.specs.Groups.{Group, size_total};
-ghost use Rattle.pb_encode.specs.Groups.Group.{alone, paired};
+ghost use Rattle.pb_encode.specs.declared.groups.Group.{Group};
+ghost use Rattle.pb_encode.specs.Groups.{size_total};
+ghost use Rattle.pb_encode.specs.declared.groups.Group.TheVariants.{Alone, Paired};
+ghost use Rattle.pb_encode.specs.laws.GroupPlans.{IsGroupPlan};
 ghost use Rattle.pb_encode.specs.Summaries.{place_of, treated, treatments_of};
 
+use crate::group_plan::GroupPlan;
 use crate::summary::Treatments;
 use pb_choice::{EqualPlan, Plan, Treatment};
 
@@ -53,9 +56,9 @@ impl Tally {
         }
     }
 
-    /// Counts one more constraint.
-    pub fn add(&mut self, plan: &Plan)
-        ensures { Counts plan.now.options self.old self.new (alone plan.now.constraint.now ∷ []) }
+    // Counts one more constraint.
+    fn add(&mut self, plan: &Plan)
+        ensures { Counts plan.now.options self.old self.new (Alone plan.now.constraint.now ∷ []) }
     {
         let counts = plan.counts();
         self.fresh = self.fresh.saturating_add(counts.fresh);
@@ -73,9 +76,9 @@ impl Tally {
         self.treated[11] = self.treated[11].saturating_add(2);
     }
 
-    /// Counts the two halves of one more equality.
-    pub fn add_equal(&mut self, plan: &EqualPlan<'_>)
-        ensures { (o : Options) (c d : Constraint) → IsEqualPlan o c d plan.now → HasPartsOf o c d plan.now → Counts o self.old self.new (paired c d ∷ []) }
+    // Counts the two halves of one more equality.
+    fn add_equal(&mut self, plan: &EqualPlan<'_>)
+        ensures { (o : Options) (c d : Constraint) → IsEqualPlan o c d plan.now → HasPartsOf o c d plan.now → Counts o self.old self.new (Paired c d ∷ []) }
     {
         match plan {
             EqualPlan::Joint { exact: _, a: _ } => {
@@ -86,6 +89,16 @@ impl Tally {
                 self.add(lower);
                 self.add(upper);
             }
+        }
+    }
+
+    /// Counts the constraints of one more group.
+    pub fn add_group(&mut self, plan: &GroupPlan<'_>)
+        ensures { (o : Options) (g : Group) → IsGroupPlan o g plan.now → Counts o self.old self.new (g ∷ []) }
+    {
+        match plan {
+            GroupPlan::Alone(plan) => self.add(plan),
+            GroupPlan::Paired(plan) => self.add_equal(plan),
         }
     }
 

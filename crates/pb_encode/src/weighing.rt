@@ -15,7 +15,7 @@ ghost use Rattle.pb_encode.specs.Clauses.{problem_clauses};
 ghost use Rattle.pb_encode.specs.Costs.{objective_form, softs_of, CostsAddUp};
 ghost use Rattle.pb_encode.specs.Encodings.{made, Refuses};
 ghost use Rattle.pb_encode.specs.laws.Sending.{LacksFor, Stops};
-ghost use Rattle.pb_encode.specs.laws.SendingTexts.{HandsTextIfMemory};
+ghost use Rattle.pb_encode.specs.laws.SendingTexts.{HandsTextIfMemory, SendsText};
 ghost use Rattle.pb_encode.specs.Summaries.{summary_of, IsEncodable};
 ghost use Rattle.pb_encode.specs.Weighted.{weighted_text, HasCostsOf, IsWeightedCutOff, LacksForWeighted, WantsForWeighted};
 
@@ -53,7 +53,27 @@ fn send_softs<'a, D: Desk>(objective: &Linear, writer: &mut HardWriter<'a, D>) -
     Ok(())
 }
 
-// Hands over all lines, given the objective in normal form, and writes what is held.
+// Hands over all lines, given the objective in normal form.
+fn hand_weighted<'a, D: Desk>(
+    alloc: Global,
+    problem: &Problem,
+    options: &Options,
+    objective: &Linear,
+    writer: &mut HardWriter<'a, D>,
+) -> Result<(), SinkFault>
+    requires within { IsWithinLimits problem.now }
+    requires encodable { IsEncodable options.now problem.now }
+    requires modest { options.now.budget ≤ 10000000 }
+    requires objective { objective.now ≡ objective_form problem.now }
+    ensures { let seen = ⟦<HardWriter<'a, D> as ClauseSink>⟧.state in HandsTextIfMemory (weighted_text options.now problem.now) result (seen writer.old) (seen writer.new) }
+{
+    send_offset(objective, writer)?;
+    hand_clauses(alloc, problem, options, writer)?;
+    send_softs(objective, writer)?;
+    Ok(())
+}
+
+// Hands over all lines, and writes what is held, also where memory is wanting.
 fn send_weighted<'a, D: Desk>(
     alloc: Global,
     problem: &Problem,
@@ -65,14 +85,16 @@ fn send_weighted<'a, D: Desk>(
     requires encodable { IsEncodable options.now problem.now }
     requires modest { options.now.budget ≤ 10000000 }
     requires objective { objective.now ≡ objective_form problem.now }
-    ensures hands { let seen = ⟦<HardWriter<'a, D> as ClauseSink>⟧.state in HandsTextIfMemory (weighted_text options.now problem.now) result (seen writer.old) (seen writer.new) }
+    ensures sends { let seen = ⟦<HardWriter<'a, D> as ClauseSink>⟧.state in SendsText (weighted_text options.now problem.now) result (seen writer.old) (seen writer.new) }
     ensures all_sent { OnOk result (IsAllSent (⟦<HardWriter<'a, D> as ClauseSink>⟧.state writer.new)) }
 {
-    send_offset(objective, writer)?;
-    hand_clauses(alloc, problem, options, writer)?;
-    send_softs(objective, writer)?;
-    writer.flush()?;
-    Ok(())
+    match hand_weighted(alloc, problem, options, objective, writer) {
+        Ok(()) => Ok(writer.flush()?),
+        Err(fault) => {
+            writer.settle(fault);
+            Err(fault)
+        }
+    }
 }
 
 // Writes the weighted CNF text of a problem to slot 0, given its objective in normal form.

@@ -1,7 +1,7 @@
 -- How writing a text to a slot may end.
 use Rattle.std.specs.Prelude.{ℕ, List, take, length}
 use Rattle.pb_desk.specs.View.{wrote}
-use Rattle.pb_desk.specs.Desk.{DeskState, Reaches, FailsToWrite, LacksRoom, written}
+use Rattle.pb_desk.specs.Desk.{DeskState, Reaches, FailsToWrite, IsSteady, LacksRoom, written}
 use Rattle.pb_encode.specs.declared.fault.EncodeFault.{EncodeFault}
 use Rattle.pb_encode.specs.declared.fault.EncodeFault.TheVariants as fault
 
@@ -15,12 +15,17 @@ pub record SendsPart (slot : ℕ) (text : List ℕ) (old new : DeskState) : Type
   pub count : ℕ
   pub reached : Reaches (wrote slot (take count text)) old new
 
--- how the desk stands where the text was not sent whole
-abbrev pub Stops : ℕ → List ℕ → DeskState → DeskState → EncodeFault → Type 0
-Stops slot text old new fault.WriteFault = StopsSending slot text old new
-Stops slot text old new fault.NoMemory = SendsPart slot text old new
-Stops slot text old new (fault.Limit which) = ⊥
-
 -- the slot has no room for the text
 abbrev pub LacksFor : ℕ → List ℕ → DeskState → Type 0
 LacksFor slot text desk = LacksRoom (written slot) (length text) desk
+
+-- Memory was wanting once a first part of the text was written; or a write failed in this too, over a steady desk only where there is no room.
+pub data WantsSending (slot : ℕ) (text : List ℕ) (old new : DeskState) : Type 0 where
+  sent : SendsPart slot text old new → WantsSending slot text old new
+  cut_off : StopsSending slot text old new → (IsSteady old → LacksFor slot text old) → WantsSending slot text old new
+
+-- how the desk stands where the text was not sent whole
+abbrev pub Stops : ℕ → List ℕ → DeskState → DeskState → EncodeFault → Type 0
+Stops slot text old new fault.WriteFault = StopsSending slot text old new
+Stops slot text old new fault.NoMemory = WantsSending slot text old new
+Stops slot text old new (fault.Limit which) = ⊥

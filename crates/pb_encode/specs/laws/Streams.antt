@@ -1,8 +1,6 @@
--- Products and statements whose variables are below a number.
-use Rattle.std.specs.Prelude.{ℕ, ◌+◌, ◌≤◌, ◌<◌, ◌^◌, List, All, length}
-use Rattle.pb_base.specs.declared.literal.Lit.{Lit}
+-- The derivations of a problem, from the next id on.
+use Rattle.std.specs.Prelude.{ℕ, ◌+◌, List}
 use Rattle.pb_base.specs.declared.problem.Problem.{Problem}
-use Rattle.pb_base.specs.declared.problem.Raw.{Raw}
 use Rattle.pb_base.specs.Problems.{originals}
 use Rattle.pb_steps.specs.declared.step.Step.{Step}
 use Rattle.pb_derive.specs.FollowedBy.{followed_by}
@@ -12,15 +10,6 @@ use Rattle.pb_encode.specs.Clauses.{table_first}
 use Rattle.pb_encode.specs.Groups.{groups_of}
 use Rattle.pb_encode.specs.Steps.{steps_from}
 use Rattle.pb_encode.specs.Tables.{table_terms}
-
--- a product and its literals are of variables below a number, and the literals are no more than the terms of a sum
-pub record IsProductBelow (first : ℕ) (z : Lit) (ls : List Lit) : Type 0 where
-  pub product : z.var < first
-  pub literals : All (λ l. l.var < first) ls
-  pub few : length ls ≤ 2 ^ 20
-
-abbrev pub IsOverBelow : ℕ → Raw → Type 0
-IsOverBelow first s = All (λ t. t.lit.var < first) s.terms
 
 -- the derivations of all constraints and that of the table, where the constraints stand under the ids from 1 on
 abbrev pub steps_at_next : Options → Problem → ℕ → List Step

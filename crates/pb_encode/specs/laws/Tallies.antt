@@ -3,7 +3,7 @@ use Rattle.std.specs.Prelude.{ℕ, ◌≡◌, ◌+◌, ◌-◌, ◌<◌, ◌^◌
 use Rattle.pb_choice.specs.declared.options.Options.{Options}
 use Rattle.pb_encode.specs.declared.tally.Tally.{Tally}
 use Rattle.pb_encode.specs.Clauses.{clause_total, fresh_total}
-use Rattle.pb_encode.specs.Groups.{Group}
+use Rattle.pb_encode.specs.declared.groups.Group.{Group}
 use Rattle.pb_encode.specs.Summaries.{treated}
 
 abbrev pub capped : ℕ → ℕ

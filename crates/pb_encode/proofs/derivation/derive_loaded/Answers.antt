@@ -1,59 +1,45 @@
-use Rattle.std.proofs.Common.{◌≡◌, ◌+◌, ◌^◌, List, All, length, ap, sym, subst, arith}
-use Rattle.std.proofs.lemmas.Result.{IfOk-weaker}
-use Rattle.pb_base.specs.declared.literal.Lit.{Lit}
-use Rattle.pb_base.specs.Problems.{IsProductWithin, IsSumWithin, StaysBelow, originals}
-use Rattle.pb_encode.specs.declared.derivation.Turn.{Turn}
-use Rattle.pb_encode.specs.Clauses.{fresh_total}
+use Rattle.std.proofs.Common.{◌≡◌, ◌∷◌, arith}
+use Rattle.pb_family.proofs.Deriving.{steps_lack}
 use Rattle.pb_encode.specs.Groups.{groups_of}
-use Rattle.pb_encode.proofs.LoadedTurns.{products_ready, products_stop, statements_last, statements_ready, statements_variable}
-use Rattle.pb_encode.proofs.ProblemStreams.{sums_below}
+use Rattle.pb_encode.proofs.GroupLists.{size_loaded}
+use Rattle.pb_encode.proofs.SoundGroups.{groups_sound}
+use Rattle.pb_encode.proofs.StepTurns.{turns_begin, turns_more, turns_ready, turns_stop}
 use Rattle.pb_encode.proofs.derivation.derive_loaded.Goals as goal
 
-pub derive_products-requires : goal.derive_products-requires
-derive_products-requires g c =
-    let ready = products_ready c.args.options.now c.args.problem.now c.args.turn.first c.args.turn.id c.as_slice-products.result.now c.as_slice-statements.result.now c.as_slice-products.ensures c.as_slice-statements.ensures (g.T.StepSink.state c.args.sink.now)
-    c.requires.fits c.requires.counted c.requires.known c.requires.few in
+pub loop-group-init : goal.loop-group-init
+loop-group-init g c =
+    let o = c.args.options.now in
+    let p = c.args.problem.now in
+    turns_begin o c.args.turn.first c.args.turn.id (groups_of p) c.of-groups.result (g.T.StepSink.state c.args.sink.now) c.of-groups.ensures (groups_sound o p c.args.turn.first c.requires.within c.requires.vars)
+
+pub returns-in_err-group-clause-hands : goal.returns-in_err-group-clause-hands
+returns-in_err-group-clause-hands g c = steps_lack c.from_residual.result c.from_residual.ensures.1 c.loop-group.invariant.handed
+
+pub derive_group-requires : goal.derive_group-requires
+derive_group-requires g c =
+    let l = c.loop-group in
+    let parts : l.groups ≡ c.in-Some.group ∷ c.next.new.self = rw c.in-Some.is at c.in_ok-group.ensures.some in
+    let ready = turns_ready c.in-Some.group c.next.new.self parts l.invariant
+    (record { fits = c.requires.fits; counted = c.requires.counted; known = omega (arith, c.requires.known, size_loaded c.args.problem.now); few = c.requires.few }) in
     record {
-      within = subst (All (IsProductWithin c.args.problem.now.vars)) (sym c.as_slice-products.ensures) c.requires.within.products;
-      vars = omega (arith, c.requires.vars, ap (λ (ps : List (List Lit)). length ps) c.as_slice-products.ensures);
+      sound = ready.sound;
+      low = omega (arith, c.requires.vars, l.invariant.later);
       modest = c.requires.modest;
       fits = ready.fits;
       counted = ready.counted;
-      given = c.requires.given;
+      given = omega (arith, c.requires.given, l.invariant.known);
       known = ready.known;
       few = ready.few;
     }
 
 pub returns-in_err-next-clause-hands : goal.returns-in_err-next-clause-hands
 returns-in_err-next-clause-hands g c =
-    products_stop c.args.options.now c.args.problem.now c.args.turn.first c.args.turn.id c.as_slice-products.result.now c.as_slice-statements.result.now c.as_slice-products.ensures c.as_slice-statements.ensures (g.T.StepSink.state c.args.sink.now)
-    c.from_residual.result c.in_err-next.field-0.0 (g.T.StepSink.state c.derive_products.new.sink) c.from_residual.ensures.1 c.in_err-next.ensures.hands
+    let parts : c.loop-group.groups ≡ c.in-Some.group ∷ c.next.new.self = rw c.in-Some.is at c.in_ok-group.ensures.some in
+    turns_stop c.in-Some.group c.next.new.self parts c.loop-group.invariant (g.T.StepSink.state c.derive_group.new.sink) c.from_residual-in_err-next.result c.in_err-next.field-0.0
+    c.from_residual-in_err-next.ensures.1 c.in_err-next.ensures.hands
 
-pub derive_statements-requires : goal.derive_statements-requires
-derive_statements-requires g c =
-    let most = originals c.args.problem.now in
-    let next = c.in_ok-next.next in
-    let ready = statements_ready c.args.options.now c.args.problem.now c.args.turn.first c.args.turn.id c.as_slice-products.result.now c.as_slice-statements.result.now c.as_slice-products.ensures c.as_slice-statements.ensures (g.T.StepSink.state c.args.sink.now)
-    next.first next.id (g.T.StepSink.state c.derive_products.new.sink) c.in_ok-next.ensures.first c.in_ok-next.ensures.id c.in_ok-next.ensures.hands c.requires.fits c.requires.counted c.requires.known c.requires.few in
-    record {
-      numbers = subst (All (StaysBelow (2 ^ 100))) (sym c.as_slice-statements.ensures) c.requires.within.numbers;
-      vars = sums_below most next.first c.as_slice-statements.result.now (omega (arith, c.requires.vars, c.in_ok-next.ensures.first)) (subst (All (λ s. IsSumWithin most s.terms)) (sym c.as_slice-statements.ensures) c.requires.within.sums);
-      low = omega (arith, c.requires.vars, c.in_ok-next.ensures.first);
-      modest = c.requires.modest;
-      fits = ready.fits;
-      counted = ready.counted;
-      given = omega (arith, c.requires.given, c.in_ok-next.ensures.id);
-      known = ready.known;
-      few = ready.few;
-    }
-
-pub returns-clause-first : goal.returns-clause-first
-returns-clause-first g c =
-    IfOk-weaker c.derive_statements.result _ (λ (next : Turn). next.first ≡ c.args.turn.first + fresh_total c.args.options.now (groups_of c.args.problem.now))
-    (λ next is. statements_variable c.args.options.now c.args.problem.now c.args.turn.first c.args.turn.id c.as_slice-products.result.now c.as_slice-statements.result.now c.as_slice-products.ensures c.as_slice-statements.ensures (g.T.StepSink.state c.args.sink.now)
-    c.in_ok-next.next.first c.in_ok-next.next.id (g.T.StepSink.state c.derive_products.new.sink) c.in_ok-next.ensures.first c.in_ok-next.ensures.id c.in_ok-next.ensures.hands next.first is) c.derive_statements.ensures.first
-
-pub returns-clause-hands : goal.returns-clause-hands
-returns-clause-hands g c =
-    statements_last c.args.options.now c.args.problem.now c.args.turn.first c.args.turn.id c.as_slice-products.result.now c.as_slice-statements.result.now c.as_slice-products.ensures c.as_slice-statements.ensures (g.T.StepSink.state c.args.sink.now)
-    c.in_ok-next.next.first c.in_ok-next.next.id (g.T.StepSink.state c.derive_products.new.sink) c.in_ok-next.ensures.first c.in_ok-next.ensures.id c.in_ok-next.ensures.hands c.derive_statements.result (g.T.StepSink.state c.derive_statements.new.sink) c.derive_statements.ensures.hands
+pub loop-group-preserved : goal.loop-group-preserved
+loop-group-preserved g c =
+    let parts : c.loop-group.groups ≡ c.in-Some.group ∷ c.next.new.self = rw c.in-Some.is at c.in_ok-group.ensures.some in
+    turns_more c.in-Some.group c.next.new.self parts c.loop-group.invariant c.in_ok-next.next.first c.in_ok-next.next.id (g.T.StepSink.state c.derive_group.new.sink)
+    c.in_ok-next.ensures.first c.in_ok-next.ensures.id c.in_ok-next.ensures.hands

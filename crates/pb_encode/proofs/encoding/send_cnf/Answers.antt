@@ -1,46 +1,12 @@
-use Rattle.std.proofs.Common.{◌≡◌, ◌++◌, ℕ, List, [], refl, sym, ap}
-use Rattle.pb_base.specs.declared.problem.Problem.{Problem}
-use Rattle.pb_base.specs.Problems.{IsWithinLimits}
-use Rattle.pb_family.specs.ClauseText.{clauses_text}
-use Rattle.pb_family.specs.Sinks.{SinkState, Takes}
-use Rattle.pb_family.specs.declared.sink.SinkFault.TheVariants as fault
-use Rattle.pb_choice.specs.declared.options.Options.{Options}
-use Rattle.pb_dimacs.specs.CnfText.{header_text}
-use Rattle.pb_encode.specs.declared.summary.Summary.{Summary}
-use Rattle.pb_encode.specs.Clauses.{problem_clauses}
 use Rattle.pb_encode.specs.Encodings.{problem_text}
-use Rattle.pb_encode.specs.Summaries.{summary_of, IsEncodable}
-use Rattle.pb_encode.proofs.Headers.{head_is}
-use Rattle.pb_encode.proofs.Pieces.{Sending, sending_ends, sending_from, sending_last, sending_step, sending_stops, sending_stops_last}
+use Rattle.pb_encode.proofs.Sends.{flush_fails, flush_sends, settle_sends}
 use Rattle.pb_encode.proofs.encoding.send_cnf.Goals as goal
 
--- the p line and the clauses' lines, as they are handed over
-module _ {R : Type 0} (o : Options) (p : Problem) (s : Summary) (within : IsWithinLimits p) (encodable : IsEncodable o p) (is : s ≡ summary_of o p) (a : SinkState R) where
-  starts : Sending (problem_text o p) (header_text s.vars s.clauses ++ clauses_text (problem_clauses o p)) a a
-  starts = sending_from a (ap (λ (head : List ℕ). head ++ clauses_text (problem_clauses o p)) (sym (head_is o p s within encodable is)))
+pub returns-in_err-flush-in-Ok-clause-sends : goal.returns-in_err-flush-in-Ok-clause-sends
+returns-in_err-flush-in-Ok-clause-sends g c = flush_fails (problem_text c.args.options.now c.args.problem.now) _ _ _ c.from_residual.result c.from_residual.ensures.1 c.in-Ok.ensures c.in_err-flush-in-Ok.ensures.taken
 
-  begun : (b : SinkState R) → Takes (header_text s.vars s.clauses) a b → Sending (problem_text o p) (clauses_text (problem_clauses o p)) a b
-  begun b taken = sending_step (header_text s.vars s.clauses) (clauses_text (problem_clauses o p)) b refl starts taken
+pub returns-in_ok-flush-in-Ok-clause-sends : goal.returns-in_ok-flush-in-Ok-clause-sends
+returns-in_ok-flush-in-Ok-clause-sends g c = flush_sends (problem_text c.args.options.now c.args.problem.now) _ _ _ c.in-Ok.ensures c.in_ok-flush-in-Ok.ensures.taken
 
-  whole : (b d : SinkState R) → Takes (header_text s.vars s.clauses) a b → Takes (clauses_text (problem_clauses o p)) b d → Sending (problem_text o p) [] a d
-  whole b d taken more = sending_last (clauses_text (problem_clauses o p)) d (begun b taken) more
-
-pub returns-in_err-header-clause-hands : goal.returns-in_err-header-clause-hands
-returns-in_err-header-clause-hands g c =
-    let s = c.args.summary.now in
-    sending_stops c.from_residual.result fault.Failed (header_text s.vars s.clauses) (clauses_text (problem_clauses c.args.options.now c.args.problem.now)) _ refl c.from_residual.ensures.1
-    (starts c.args.options.now c.args.problem.now s c.requires.within c.requires.encodable c.requires.summary _) c.in_err-header.ensures
-
-pub returns-in_err-hand_clauses-clause-hands : goal.returns-in_err-hand_clauses-clause-hands
-returns-in_err-hand_clauses-clause-hands g c =
-    sending_stops_last c.from_residual-in_err-hand_clauses.result c.in_err-hand_clauses.field-0.0 _ c.from_residual-in_err-hand_clauses.ensures.1
-    (begun c.args.options.now c.args.problem.now c.args.summary.now c.requires.within c.requires.encodable c.requires.summary _ _ c.in_ok-header.ensures) c.in_err-hand_clauses.ensures
-
-pub returns-in_err-flush-clause-hands : goal.returns-in_err-flush-clause-hands
-returns-in_err-flush-clause-hands g c =
-    sending_stops_last c.from_residual-in_err-flush.result fault.Failed _ c.from_residual-in_err-flush.ensures.1
-    (whole c.args.options.now c.args.problem.now c.args.summary.now c.requires.within c.requires.encodable c.requires.summary _ _ _ c.in_ok-header.ensures c.in_ok-hand_clauses.ensures) c.in_err-flush.ensures.taken
-
-pub returns-clause-hands : goal.returns-clause-hands
-returns-clause-hands g c =
-    sending_ends (sending_last [] _ (whole c.args.options.now c.args.problem.now c.args.summary.now c.requires.within c.requires.encodable c.requires.summary _ _ _ c.in_ok-header.ensures c.in_ok-hand_clauses.ensures) c.in_ok-flush.ensures.taken)
+pub returns-in-Err-clause-sends : goal.returns-in-Err-clause-sends
+returns-in-Err-clause-sends g c = settle_sends (problem_text c.args.options.now c.args.problem.now) _ _ _ c.in-Err.fault c.in-Err.ensures c.settle.ensures

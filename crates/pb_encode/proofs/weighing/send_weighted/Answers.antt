@@ -1,62 +1,12 @@
-use Rattle.std.proofs.Common.{◌≡◌, ◌++◌, ◌^◌, ◌-ℤ◌, ℕ, List, [], pos, refl, sym, ap}
-use Rattle.std.specs.Prelude.{map}
-use Rattle.pb_base.specs.declared.problem.Problem.{Problem}
-use Rattle.pb_norm.specs.Constraints.{Constraint}
-use Rattle.pb_norm.specs.Reduction.{opposite}
-use Rattle.pb_family.specs.Sinks.{SinkState, Takes}
-use Rattle.pb_family.specs.declared.sink.SinkFault.TheVariants as fault
-use Rattle.pb_choice.specs.declared.options.Options.{Options}
-use Rattle.pb_dimacs.specs.WcnfText.{hard_text, offset_text, softs_text, wcnf_text}
-use Rattle.pb_encode.specs.Clauses.{problem_clauses}
-use Rattle.pb_encode.specs.Costs.{objective_form}
 use Rattle.pb_encode.specs.Weighted.{weighted_text}
-use Rattle.pb_encode.proofs.Pieces.{Sending, sending_ends, sending_from, sending_last, sending_step, sending_stops, sending_stops_last}
+use Rattle.pb_encode.proofs.Sends.{flush_fails, flush_sends, settle_sends}
 use Rattle.pb_encode.proofs.weighing.send_weighted.Goals as goal
 
--- the lines by the normal form of what reaches 2 ^ 100
-abbrev head_of : Constraint → List ℕ
-head_of form = offset_text (pos (2 ^ 100) -ℤ pos form.degree)
+pub returns-in_err-flush-in-Ok-clause-sends : goal.returns-in_err-flush-in-Ok-clause-sends
+returns-in_err-flush-in-Ok-clause-sends g c = flush_fails (weighted_text c.args.options.now c.args.problem.now) _ _ _ c.from_residual.result c.from_residual.ensures.1 c.in-Ok.ensures c.in_err-flush-in-Ok.ensures.taken
 
-abbrev tail_of : Constraint → List ℕ
-tail_of form = softs_text (map opposite form.terms)
+pub returns-in_ok-flush-in-Ok-clause-sends : goal.returns-in_ok-flush-in-Ok-clause-sends
+returns-in_ok-flush-in-Ok-clause-sends g c = flush_sends (weighted_text c.args.options.now c.args.problem.now) _ _ _ c.in-Ok.ensures c.in_ok-flush-in-Ok.ensures.taken
 
--- they are handed over one kind after another
-module _ {R : Type 0} (o : Options) (p : Problem) (form : Constraint) (is : form ≡ objective_form p) (a : SinkState R) where
-  starts : Sending (weighted_text o p) (head_of form ++ (hard_text (problem_clauses o p) ++ tail_of form)) a a
-  starts = sending_from a (ap (λ (c : Constraint). wcnf_text (pos (2 ^ 100) -ℤ pos c.degree) (problem_clauses o p) (map opposite c.terms)) (sym is))
-
-  begun : (b : SinkState R) → Takes (head_of form) a b → Sending (weighted_text o p) (hard_text (problem_clauses o p) ++ tail_of form) a b
-  begun b taken = sending_step (head_of form) (hard_text (problem_clauses o p) ++ tail_of form) b refl starts taken
-
-  hards : (b c : SinkState R) → Takes (head_of form) a b → Takes (hard_text (problem_clauses o p)) b c → Sending (weighted_text o p) (tail_of form) a c
-  hards b c taken more = sending_step (hard_text (problem_clauses o p)) (tail_of form) c refl (begun b taken) more
-
-  whole : (b c d : SinkState R) → Takes (head_of form) a b → Takes (hard_text (problem_clauses o p)) b c → Takes (tail_of form) c d → Sending (weighted_text o p) [] a d
-  whole b c d taken more last = sending_last (tail_of form) d (hards b c taken more) last
-
-pub returns-in_err-send_offset-clause-hands : goal.returns-in_err-send_offset-clause-hands
-returns-in_err-send_offset-clause-hands g c =
-    let form = c.args.objective.now in
-    sending_stops c.from_residual.result fault.Failed (head_of form) (hard_text (problem_clauses c.args.options.now c.args.problem.now) ++ tail_of form) _ refl c.from_residual.ensures.1
-    (starts c.args.options.now c.args.problem.now form c.requires.objective _) c.in_err-send_offset.ensures
-
-pub returns-in_err-hand_clauses-clause-hands : goal.returns-in_err-hand_clauses-clause-hands
-returns-in_err-hand_clauses-clause-hands g c =
-    let form = c.args.objective.now in
-    sending_stops c.from_residual-in_err-hand_clauses.result c.in_err-hand_clauses.field-0.0 (hard_text (problem_clauses c.args.options.now c.args.problem.now)) (tail_of form) _ refl c.from_residual-in_err-hand_clauses.ensures.1
-    (begun c.args.options.now c.args.problem.now form c.requires.objective _ _ c.in_ok-send_offset.ensures) c.in_err-hand_clauses.ensures
-
-pub returns-in_err-send_softs-clause-hands : goal.returns-in_err-send_softs-clause-hands
-returns-in_err-send_softs-clause-hands g c =
-    sending_stops_last c.from_residual-in_err-send_softs.result fault.Failed _ c.from_residual-in_err-send_softs.ensures.1
-    (hards c.args.options.now c.args.problem.now c.args.objective.now c.requires.objective _ _ _ c.in_ok-send_offset.ensures c.in_ok-hand_clauses.ensures) c.in_err-send_softs.ensures
-
-pub returns-in_err-flush-clause-hands : goal.returns-in_err-flush-clause-hands
-returns-in_err-flush-clause-hands g c =
-    sending_stops_last c.from_residual-in_err-flush.result fault.Failed _ c.from_residual-in_err-flush.ensures.1
-    (whole c.args.options.now c.args.problem.now c.args.objective.now c.requires.objective _ _ _ _ c.in_ok-send_offset.ensures c.in_ok-hand_clauses.ensures c.in_ok-send_softs.ensures) c.in_err-flush.ensures.taken
-
-pub returns-clause-hands : goal.returns-clause-hands
-returns-clause-hands g c =
-    sending_ends
-    (sending_last [] _ (whole c.args.options.now c.args.problem.now c.args.objective.now c.requires.objective _ _ _ _ c.in_ok-send_offset.ensures c.in_ok-hand_clauses.ensures c.in_ok-send_softs.ensures) c.in_ok-flush.ensures.taken)
+pub returns-in-Err-clause-sends : goal.returns-in-Err-clause-sends
+returns-in-Err-clause-sends g c = settle_sends (weighted_text c.args.options.now c.args.problem.now) _ _ _ c.in-Err.fault c.in-Err.ensures c.settle.ensures

@@ -2,7 +2,7 @@ use Rattle.std.proofs.Common.{◌++◌, [], ◌∷◌, ◌∙◌, subst}
 use Rattle.pb_norm.specs.Constraints.{Constraint}
 use Rattle.pb_choice.specs.declared.options.Options.{Options}
 use Rattle.pb_choice.specs.laws.EqualPlans.{IsEqualPlan}
-use Rattle.pb_encode.specs.Groups.Group.{alone}
+use Rattle.pb_encode.specs.declared.groups.Group.TheVariants.{Alone}
 use Rattle.pb_encode.specs.laws.Tallies.{Counts}
 use Rattle.pb_encode.proofs.TallyLemmas.{tally_joint, tally_split}
 use Rattle.pb_encode.proofs.tally.Tally.add_equal.Goals as goal
@@ -19,8 +19,8 @@ returns-in-Split c = λ o lower upper is parts before h.
     let old = c.args.self.now in
     let mid = c.add.new.self in
     let new = c.add-in-Split.new.self in
-    let first : Counts o old mid (alone lower ∷ []) = subst (λ (q : Options). Counts q old mid (alone lower ∷ [])) choice.1.options_are
-    (subst (λ (d : Constraint). Counts c.in-Split.lower.options old mid (alone d ∷ [])) choice.1.constraint_is c.add.ensures) in
-    let second : Counts o mid new (alone upper ∷ []) = subst (λ (q : Options). Counts q mid new (alone upper ∷ [])) choice.2.options_are
-    (subst (λ (d : Constraint). Counts c.in-Split.upper.options mid new (alone d ∷ [])) choice.2.constraint_is c.add-in-Split.ensures) in
-    tally_split o before lower upper new choice.0 (second (before ++ alone lower ∷ []) (first before h))
+    let first : Counts o old mid (Alone lower ∷ []) = subst (λ (q : Options). Counts q old mid (Alone lower ∷ [])) choice.1.options_are
+    (subst (λ (d : Constraint). Counts c.in-Split.lower.options old mid (Alone d ∷ [])) choice.1.constraint_is c.add.ensures) in
+    let second : Counts o mid new (Alone upper ∷ []) = subst (λ (q : Options). Counts q mid new (Alone upper ∷ [])) choice.2.options_are
+    (subst (λ (d : Constraint). Counts c.in-Split.upper.options mid new (Alone d ∷ [])) choice.2.constraint_is c.add-in-Split.ensures) in
+    tally_split o before lower upper new choice.0 (second (before ++ Alone lower ∷ []) (first before h))

@@ -1,0 +1,82 @@
+-- The groups of a problem are light, and over its variables.
+use Rattle.std.proofs.Common.{◌≤◌, ◌<◌, ◌+◌, ◌^◌, ℕ, List, [], ◌∷◌, length, map, sym, subst, arith}
+use Rattle.std.specs.Prelude.{All}
+use Rattle.std.proofs.lemmas.List.Elements.{All-nil, All-cons, All-head, All-tail, All-append, All-weaker}
+use Rattle.pb_base.specs.declared.problem.Problem.{Problem}
+use Rattle.pb_base.specs.declared.problem.Raw.{Raw}
+use Rattle.pb_base.specs.declared.problem.Relation.{Relation}
+use Rattle.pb_base.specs.declared.problem.Relation.TheVariants.{AtLeast, AtMost, Equal}
+use Rattle.pb_base.specs.Problems.{IsSumWithin, IsWithinLimits, StaysBelow, originals}
+use Rattle.pb_norm.specs.declared.halves.Half.{Half}
+use Rattle.pb_norm.specs.declared.halves.Half.TheVariants.{Lower, Upper}
+use Rattle.pb_norm.specs.Constraints.{Constraint, weight}
+use Rattle.pb_norm.specs.Halves.{constraints_of, half_of, halves_of, loaded}
+use Rattle.pb_norm.specs.Products.{defining, loaded_of}
+use Rattle.pb_norm.proofs.ClauseTerms.{length-weight}
+use Rattle.pb_norm.proofs.ProductForms.{IsFormOver}
+use Rattle.pb_norm.proofs.Variables.{OfTerm}
+use Rattle.pb_family.specs.Families.{VarsBelow}
+use Rattle.pb_choice.specs.declared.options.Options.{Options}
+use Rattle.pb_choice.proofs.Composition.{IsOneBelow, IsReady}
+use Rattle.pb_encode.specs.declared.groups.Group.{Group}
+use Rattle.pb_encode.specs.declared.groups.Group.TheVariants.{Alone, Paired}
+use Rattle.pb_encode.specs.Groups.{groups_of}
+use Rattle.pb_encode.specs.laws.GroupPlans.{IsSound}
+use Rattle.pb_encode.proofs.ChoiceLaws.{IsLight}
+use Rattle.pb_encode.proofs.GroupDerivations.{IsGroupLight}
+use Rattle.pb_encode.proofs.GroupLists.{groups_by, groups_matched, members_loaded}
+use Rattle.pb_encode.proofs.HalfTerms.{half_short}
+use Rattle.pb_encode.proofs.HalfWeights.{half_light}
+use Rattle.pb_encode.proofs.Solutions.{forms_over, loaded_ready}
+
+-- few terms, and small numbers
+pub record IsSmall (c : Constraint) : Type 0 where
+  pub weight : weight c.terms < 2 ^ 100
+  pub few : length c.terms ≤ 2 ^ 20 + 1
+
+half_small : (s : Raw) (half : Half) → StaysBelow (2 ^ 100) s → length s.terms ≤ 2 ^ 20 → IsSmall (half_of half s)
+half_small s half small few = record { weight = half_light half s (2 ^ 100) small; few = omega (arith, half_short half s, few) }
+
+halves_small : (s : Raw) (r : Relation) → StaysBelow (2 ^ 100) s → length s.terms ≤ 2 ^ 20 → All IsSmall (map (λ half. half_of half s) (halves_of r))
+halves_small s AtLeast small few = All-cons IsSmall (half_of Lower s) [] (half_small s Lower small few) (All-nil IsSmall)
+halves_small s AtMost small few = All-cons IsSmall (half_of Upper s) [] (half_small s Upper small few) (All-nil IsSmall)
+halves_small s Equal small few = All-cons IsSmall (half_of Lower s) (half_of Upper s ∷ []) (half_small s Lower small few) (All-cons IsSmall (half_of Upper s) [] (half_small s Upper small few) (All-nil IsSmall))
+
+pub loaded_small : (vars : ℕ) (ss : List Raw) → All (StaysBelow (2 ^ 100)) ss → All (λ s. IsSumWithin vars s.terms) ss → All IsSmall (loaded ss)
+loaded_small vars [] small within = All-nil IsSmall
+loaded_small vars (s ∷ ss) small within =
+    All-append IsSmall (constraints_of s) (loaded ss)
+    (halves_small s s.relation (All-head (StaysBelow (2 ^ 100)) s ss small) (All-head (λ (t : Raw). IsSumWithin vars t.terms) s ss within).count)
+    (loaded_small vars ss (All-tail (StaysBelow (2 ^ 100)) s ss small) (All-tail (λ (t : Raw). IsSumWithin vars t.terms) s ss within))
+
+light_each : (o : Options) (n : ℕ) (cs : List Constraint) → All (IsReady o n) cs → All IsSmall cs → All (IsLight o n) cs
+light_each o n [] ready small = All-nil (IsLight o n)
+light_each o n (c ∷ cs) ready small =
+    let here = All-head IsSmall c cs small in
+    All-cons (IsLight o n) c cs (record { ready = All-head (IsReady o n) c cs ready; weight = here.weight; few = here.few })
+    (light_each o n cs (All-tail (IsReady o n) c cs ready) (All-tail IsSmall c cs small))
+
+module _ (o : Options) (p : Problem) (within : IsWithinLimits p) where
+  small : All IsSmall (loaded_of p)
+  small =
+      All-append IsSmall (defining (p.vars + 1) p.products) (loaded p.statements)
+      (All-weaker (IsFormOver (IsOneBelow (originals p + 1))) IsSmall (λ c form. record { weight = omega (arith, form.weight); few = omega (arith, form.weight, length-weight c.terms form.linear.positive) }) (defining (p.vars + 1) p.products) (forms_over p within))
+      (loaded_small (originals p) p.statements within.numbers within.sums)
+
+  pub groups_light : All (IsGroupLight o (originals p + 1)) (groups_of p)
+  groups_light =
+      let Light = IsLight o (originals p + 1) in
+      groups_by Light (groups_of p) (groups_matched p) (subst (All Light) (sym (members_loaded p)) (light_each o (originals p + 1) (loaded_of p) (loaded_ready o p within) small))
+
+-- ---- below any greater number
+
+light_below : (o : Options) (n first : ℕ) (c : Constraint) → n ≤ first → IsLight o n c → VarsBelow first c.terms
+light_below o n first c le light = All-weaker (OfTerm (IsOneBelow n)) (λ t. t.lit.var < first) (λ t h. omega (arith, le, h.1)) c.terms light.ready.within
+
+light_sound : (o : Options) (n first : ℕ) (g : Group) → n ≤ first → IsGroupLight o n g → IsSound first g
+light_sound o n first (Alone c) le light = record { light = light.weight; below = light_below o n first c le light }
+light_sound o n first (Paired c d) le both = record { light = (both.lower.weight, both.upper.weight); below = (light_below o n first c le both.lower, light_below o n first d le both.upper) }
+
+pub groups_sound : (o : Options) (p : Problem) (first : ℕ) → IsWithinLimits p → originals p < first → All (IsSound first) (groups_of p)
+groups_sound o p first within later =
+    All-weaker (IsGroupLight o (originals p + 1)) (IsSound first) (λ g light. light_sound o (originals p + 1) first g (omega (arith, later)) light) (groups_of p) (groups_light o p within)

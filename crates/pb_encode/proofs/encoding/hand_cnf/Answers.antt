@@ -1,0 +1,34 @@
+use Rattle.std.proofs.Common.{◌≡◌, ◌++◌, ℕ, List, refl, sym, ap}
+use Rattle.pb_base.specs.declared.problem.Problem.{Problem}
+use Rattle.pb_base.specs.Problems.{IsWithinLimits}
+use Rattle.pb_family.specs.ClauseText.{clauses_text}
+use Rattle.pb_family.specs.Sinks.{SinkState, Takes}
+use Rattle.pb_family.specs.declared.sink.SinkFault.TheVariants as fault
+use Rattle.pb_choice.specs.declared.options.Options.{Options}
+use Rattle.pb_dimacs.specs.CnfText.{header_text}
+use Rattle.pb_encode.specs.declared.summary.Summary.{Summary}
+use Rattle.pb_encode.specs.Clauses.{problem_clauses}
+use Rattle.pb_encode.specs.Encodings.{problem_text}
+use Rattle.pb_encode.specs.Summaries.{summary_of, IsEncodable}
+use Rattle.pb_encode.proofs.Headers.{head_is}
+use Rattle.pb_encode.proofs.Pieces.{Sending, lines_handed, sending_from, sending_hands, sending_step, sending_stops}
+use Rattle.pb_encode.proofs.encoding.hand_cnf.Goals as goal
+
+-- the p line and the clauses' lines, as they are handed over
+module _ {R : Type 0} (o : Options) (p : Problem) (s : Summary) (within : IsWithinLimits p) (encodable : IsEncodable o p) (is : s ≡ summary_of o p) (a : SinkState R) where
+  starts : Sending (problem_text o p) (header_text s.vars s.clauses ++ clauses_text (problem_clauses o p)) a a
+  starts = sending_from a (ap (λ (head : List ℕ). head ++ clauses_text (problem_clauses o p)) (sym (head_is o p s within encodable is)))
+
+  begun : (b : SinkState R) → Takes (header_text s.vars s.clauses) a b → Sending (problem_text o p) (clauses_text (problem_clauses o p)) a b
+  begun b taken = sending_step (header_text s.vars s.clauses) (clauses_text (problem_clauses o p)) b refl starts taken
+
+pub returns-in_err-header : goal.returns-in_err-header
+returns-in_err-header g c =
+    let s = c.args.summary.now in
+    sending_stops c.from_residual.result fault.Failed (header_text s.vars s.clauses) (clauses_text (problem_clauses c.args.options.now c.args.problem.now)) _ refl c.from_residual.ensures.1
+    (starts c.args.options.now c.args.problem.now s c.requires.within c.requires.encodable c.requires.summary _) c.in_err-header.ensures
+
+pub returns : goal.returns
+returns g c =
+    sending_hands c.hand_clauses.result _ (begun c.args.options.now c.args.problem.now c.args.summary.now c.requires.within c.requires.encodable c.requires.summary _ _ c.in_ok-header.ensures)
+    (lines_handed (problem_clauses c.args.options.now c.args.problem.now) c.hand_clauses.result _ _ c.hand_clauses.ensures)

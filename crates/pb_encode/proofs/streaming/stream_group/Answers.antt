@@ -1,0 +1,18 @@
+use Rattle.std.proofs.Common.{◌≡◌, ◌+◌, ℕ, List, subst}
+use Rattle.std.specs.Prelude.{IfOk}
+use Rattle.pb_base.specs.declared.literal.Lit.{Lit}
+use Rattle.pb_family.specs.Handing.{HandsIfMemory}
+use Rattle.pb_encode.proofs.GroupParts.{parts_of}
+use Rattle.pb_encode.proofs.streaming.stream_group.Goals as goal
+
+pub stream_plan-requires-clause-below : goal.stream_plan-requires-clause-below
+stream_plan-requires-clause-below g c = (parts_of c.args.options.now c.args.group.now c.in_ok-plan.plan c.in_ok-plan.ensures).below c.args.first c.requires.sound.below
+
+pub returns-clause-next : goal.returns-clause-next
+returns-clause-next g c =
+    subst (λ (n : ℕ). IfOk c.stream_plan.result (λ next. next ≡ c.args.first + n)) (parts_of c.args.options.now c.args.group.now c.in_ok-plan.plan c.in_ok-plan.ensures).fresh_is c.stream_plan.ensures.next
+
+pub returns-clause-hands : goal.returns-clause-hands
+returns-clause-hands g c =
+    subst (λ (ls : List (List Lit)). HandsIfMemory ls c.stream_plan.result (g.S.ClauseSink.state c.args.sink.now) (g.S.ClauseSink.state c.stream_plan.new.sink))
+    ((parts_of c.args.options.now c.args.group.now c.in_ok-plan.plan c.in_ok-plan.ensures).clauses_are c.args.first) c.stream_plan.ensures.hands

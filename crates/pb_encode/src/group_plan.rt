@@ -1,0 +1,111 @@
+//! How a group of constraints is encoded.
+ghost use Rattle.std.specs.Prelude.{◌≡◌, ◌≤◌, ◌+◌, ◌^◌, IfOk};
+ghost use Rattle.pb_family.specs.Handing.{HandsIfMemory};
+ghost use Rattle.pb_family.specs.StepSinks.{HandsFrom};
+ghost use Rattle.pb_choice.specs.Readiness.{LeavesIds};
+ghost use Rattle.pb_encode.specs.laws.GroupPlans.{plan_clauses, plan_count, plan_fresh, plan_size, plan_steps, IsGroupPlan, IsLightGroup, IsPlanBelow};
+
+use crate::groups::Group;
+use pb_base::NoMemory;
+use pb_choice::{Counts, EqualPlan, Options, Plan, plan, plan_equal};
+use pb_family::{ClauseSink, SinkFault, StepSink};
+use std::alloc::Global;
+
+/// The encoding of a group under some options.
+pub enum GroupPlan<'a> {
+    Alone(Plan<'a>),
+    Paired(EqualPlan<'a>),
+}
+
+// Written out, so that it is one call in the proofs of the functions that own a plan.
+impl Drop for GroupPlan<'_> {
+    fn drop(self) {
+        match self {
+            GroupPlan::Alone(_) => {}
+            GroupPlan::Paired(_) => {}
+        }
+    }
+}
+
+/// How a group is encoded under some options.
+pub fn plan_group<'a>(
+    alloc: Global,
+    group: &'a Group,
+    options: &Options,
+) -> Result<GroupPlan<'a>, NoMemory>
+    requires light { IsLightGroup group.now }
+    requires modest { options.now.budget ≤ 10000000 }
+    ensures { IfOk result (IsGroupPlan options.now group.now) }
+{
+    match group {
+        Group::Alone(constraint) => Ok(GroupPlan::Alone(plan(alloc, constraint, options)?)),
+        Group::Paired(lower, upper) => {
+            Ok(GroupPlan::Paired(plan_equal(alloc, lower, upper, options)?))
+        }
+    }
+}
+
+impl GroupPlan<'_> {
+    /// How many fresh variables and clauses the encoding has.
+    pub fn counts(&self) -> Counts
+        ensures fresh { result.fresh ≡ plan_fresh self.now }
+        ensures clauses { result.clauses ≡ plan_count self.now }
+    {
+        match self {
+            GroupPlan::Alone(plan) => plan.counts(),
+            GroupPlan::Paired(plan) => plan.counts(),
+        }
+    }
+
+    /// How many constraints it encodes.
+    pub fn size(&self) -> u64
+        ensures size { result ≡ plan_size self.now }
+        ensures few { result ≤ 2 }
+    {
+        match self {
+            GroupPlan::Alone(_) => 1,
+            GroupPlan::Paired(_) => 2,
+        }
+    }
+
+    /// Hands over the clauses, with the fresh variables from `first` on.
+    pub fn emit<S: ClauseSink>(
+        &self,
+        alloc: Global,
+        first: u32,
+        sink: &mut S,
+    ) -> Result<(), SinkFault>
+        requires original { IsPlanBelow first self.now }
+        requires low { 1 ≤ first }
+        requires fits { first + plan_fresh self.now ≤ 2 ^ 31 }
+        ensures { HandsIfMemory (plan_clauses self.now first) result (S.state sink.old) (S.state sink.new) }
+    {
+        match self {
+            GroupPlan::Alone(plan) => plan.emit(alloc, first, sink),
+            GroupPlan::Paired(plan) => plan.emit(alloc, first, sink),
+        }
+    }
+
+    /// Hands over the steps that derive these clauses from the constraints, which have the ids from `id` on.
+    pub fn derive<T: StepSink>(
+        &self,
+        alloc: Global,
+        first: u32,
+        id: u64,
+        sink: &mut T,
+    ) -> Result<(), SinkFault>
+        requires original { IsPlanBelow first self.now }
+        requires low { 1 ≤ first }
+        requires fits { first + plan_fresh self.now ≤ 2 ^ 31 }
+        requires counted { plan_count self.now ≤ 2 ^ 56 }
+        requires given { 1 ≤ id }
+        requires known { id + plan_size self.now ≤ (T.state sink.old).next }
+        requires few { LeavesIds (plan_steps self.now first id) (T.state sink.old).next }
+        ensures { HandsFrom (plan_steps self.now first id) result (T.state sink.old) (T.state sink.new) }
+    {
+        match self {
+            GroupPlan::Alone(plan) => plan.derive(alloc, first, id, sink),
+            GroupPlan::Paired(plan) => plan.derive(alloc, first, id, id + 1, sink),
+        }
+    }
+}
