@@ -1,5 +1,5 @@
 -- What is obeyed after a step that adds nothing is obeyed from before it.
-use Rattle.std.proofs.Common.{◌∙◌, ◌<◌, ◌+◌, ℕ, List, Option, Some, None, length, subst}
+use Rattle.std.proofs.Common.{arith, ◌∙◌, ◌<◌, ◌+◌, ℕ, List, Option, Some, None, inl, inr, length, subst}
 use Rattle.std.specs.Prelude.{IsNone, IsSomeAnd}
 use Rattle.std.proofs.lemmas.List.{append-nil}
 use Rattle.pb_desk.specs.View.{Told}
@@ -7,14 +7,15 @@ use Rattle.pb_desk.specs.Desk.{DeskState, IfTold, IsTaken, IsTold}
 use Rattle.pb_desk.proofs.Steps.{rose_later}
 use Rattle.pb_suite.specs.declared.outcome.Outcome.{Outcome}
 use Rattle.pb_suite.specs.declared.outcome.Outcome.TheVariants as outcome
-use Rattle.pb_suite.specs.Obeying.{Answers, Counts, IsQuiet, Obeys}
+use Rattle.pb_suite.specs.Obeying.{Answers, Counts, IsQuiet, ObeysWithin, WritesHeld}
 use Rattle.pb_suite.specs.Obeying.Answers.{done, refused, read_fault, write_fault, no_memory}
+use Rattle.pb_suite.specs.Obeying.WritesHeld.{cut_off, well}
 use Rattle.pb_suite.specs.Outputs.{nothing, IsMore, LacksFor, Output}
 use Rattle.pb_suite.specs.Outputs.LacksFor.{is_taken, no_room, no_words}
 use Rattle.pb_suite.specs.Owed.{LacksSpace, LacksText, MayStand, Owed, Shelf}
 use Rattle.pb_suite.proofs.Going.{adds_after, keeps, Goes, was_told, was_if_told}
 
-module _ (a b : DeskState) (goes : Goes nothing a b) where
+module _ {few most : ℕ} (a b : DeskState) (goes : Goes few most nothing a b) where
   -- what holds of a shelf
   of_shelf : (P : Shelf → Type 0) (t u : Told) → IsMore nothing t u → P u.shelf → P t.shelf
   of_shelf P t u more holds = subst P more.shelf holds
@@ -42,13 +43,23 @@ module _ (a b : DeskState) (goes : Goes nothing a b) where
       words_were : (most : ℕ) (t u : Told) → IsMore nothing t u → most < length u.said + length out.said → most < length t.said + length out.said
       words_were most t u more full = subst (λ (xs : List ℕ). most < length xs + length out.said) (more.said ∙ append-nil t.said) full
 
-module _ (o : Owed) (a b d : DeskState) (goes : Goes nothing a b) where
+module _ (o : Owed) {most : ℕ} (a b d : DeskState) (goes : Goes (length o.texts) most nothing a b) where
+  lacks_text_was : LacksText o b → LacksText o a
+  lacks_text_was lacks = (lacks.0, lacks.1, shelf_was a b goes (λ shelf. IsNone (shelf lacks.0.name)) lacks.2, shelf_was a b goes (λ shelf. o.stops shelf outcome.ReadFault) lacks.3)
+
+  lacks_space_was : LacksSpace o b → LacksSpace o a
+  lacks_space_was lacks = (lacks.0, shelf_was a b goes (λ shelf. o.done shelf lacks.0) lacks.1, lacks_for_was a b goes lacks.0 lacks.2)
+
+  held_after : (out : Output) → WritesHeld o out b d → WritesHeld o out a d
+  held_after out (well same) = well (same ∙ goes.writes)
+  held_after out (cut_off some lacks) = cut_off some (λ steady. lacks_space_was (lacks (goes.adds.steady ∙ steady)))
+
   answers_after : (answer : Outcome) → Answers o b d answer → Answers o a d answer
   answers_after _ (done out due adds stays) = done out (shelf_was_if a b goes (λ shelf. o.done shelf out) due) (adds_after out a b d goes adds) (λ slot. stays slot ∙ keeps a b goes slot)
   answers_after _ (refused answer is due adds) = refused answer is (shelf_was_if a b goes (λ shelf. o.stops shelf answer) due) (adds_after nothing a b d goes adds)
   answers_after _ (read_fault adds) = read_fault (adds_after nothing a b d goes adds)
   answers_after _ (write_fault out part adds) = write_fault out (shelf_was_if a b goes (λ shelf. MayStand o shelf out) part) (adds_after out a b d goes adds)
-  answers_after _ (no_memory out part adds) = no_memory out (shelf_was_if a b goes (λ shelf. MayStand o shelf out) part) (adds_after out a b d goes adds)
+  answers_after _ (no_memory out part adds held) = no_memory out (shelf_was_if a b goes (λ shelf. MayStand o shelf out) part) (adds_after out a b d goes adds) (held_after out held)
 
   quiet_after : IsQuiet b d → IsQuiet a d
   quiet_after quiet = record { reads = quiet.reads ∙ goes.reads; writes = quiet.writes ∙ goes.writes }
@@ -60,21 +71,18 @@ module _ (o : Owed) (a b d : DeskState) (goes : Goes nothing a b) where
   counts_after (outcome.Limit file which place) counts = quiet_after counts
   counts_after outcome.ReadFault counts = (rose_later a.read_faults b.read_faults d.read_faults goes.reads counts.0, counts.1 ∙ goes.writes)
   counts_after outcome.WriteFault counts = (counts.0 ∙ goes.reads, rose_later a.write_faults b.write_faults d.write_faults goes.writes counts.1)
-  counts_after outcome.NoMemory counts = quiet_after counts
+  counts_after outcome.NoMemory (reads, inl same) = (reads ∙ goes.reads, inl (same ∙ goes.writes))
+  counts_after outcome.NoMemory (reads, inr rose) = (reads ∙ goes.reads, inr (rose_later a.write_faults b.write_faults d.write_faults goes.writes rose))
   counts_after (outcome.Rejected line denied) counts = quiet_after counts
   counts_after (outcome.NotASolution statement) counts = quiet_after counts
   counts_after outcome.NoModel counts = quiet_after counts
   counts_after (outcome.NotRefuted line why) counts = quiet_after counts
 
-  lacks_text_was : LacksText o b → LacksText o a
-  lacks_text_was lacks = (lacks.0, lacks.1, shelf_was a b goes (λ shelf. IsNone (shelf lacks.0.name)) lacks.2)
-
-  lacks_space_was : LacksSpace o b → LacksSpace o a
-  lacks_space_was lacks = (lacks.0, shelf_was a b goes (λ shelf. o.done shelf lacks.0) lacks.1, lacks_for_was a b goes lacks.0 lacks.2)
-
-  pub obeys_after : (answer : Outcome) → Obeys o b d answer → Obeys o a d answer
+  pub obeys_after : {more : ℕ} (answer : Outcome) → ObeysWithin o more b d answer → ObeysWithin o (most + more) a d answer
   obeys_after answer obeys = record {
     answers = answers_after answer obeys.answers;
+    opens = λ slot le. obeys.opens slot le ∙ goes.reading slot le;
+    ends = omega (arith, obeys.ends, goes.ends);
     counts = counts_after answer obeys.counts;
     causes = λ steady.
         let causes = obeys.causes (goes.adds.steady ∙ steady) in

@@ -39,29 +39,29 @@ use Rattle.pb_suite.proofs.PosedProblems.{poses_one, poses_unrefused, poses_with
 
 -- ---- what texts say is one thing
 
-same_some : {X : Type 0} (o : Option X) (x y : X) → o ≡ Some x → o ≡ Some y → x ≡ y
+pub same_some : {X : Type 0} (o : Option X) (x y : X) → o ≡ Some x → o ≡ Some y → x ≡ y
 same_some o x y first second = let same : Some x ≡ Some y = sym first ∙ second in cc
 
-not_none : {X : Type 0} (o : Option X) (x : X) → o ≡ Some x → o ≡ None → ⊥
+pub not_none : {X : Type 0} (o : Option X) (x : X) → o ≡ Some x → o ≡ None → ⊥
 not_none o x some none = let no : Some x ≡ None = sym some ∙ none in cc
 
-same_ok : {X Y : Type 0} (r : Result X Y) (x y : X) → r ≡ Ok x → r ≡ Ok y → x ≡ y
+pub same_ok : {X Y : Type 0} (r : Result X Y) (x y : X) → r ≡ Ok x → r ≡ Ok y → x ≡ y
 same_ok r x y first second = let same : Ok x ≡ Ok y = sym first ∙ second in cc
 
-not_err : {X Y : Type 0} (r : Result X Y) (x : X) (y : Y) → r ≡ Ok x → r ≡ Err y → ⊥
+pub not_err : {X Y : Type 0} (r : Result X Y) (x : X) (y : Y) → r ≡ Ok x → r ≡ Err y → ⊥
 not_err r x y first second = let no : Ok x ≡ Err y = sym first ∙ second in cc
 
-same_posed : (shelf : Shelf) (name : List ℕ) (bound : Option ℤ) (p q : Problem) → IsPosed shelf name bound p → IsPosed shelf name bound q → p ≡ q
+pub same_posed : (shelf : Shelf) (name : List ℕ) (bound : Option ℤ) (p q : Problem) → IsPosed shelf name bound p → IsPosed shelf name bound q → p ≡ q
 same_posed shelf name bound p q posed other =
     let text : other.text ≡ posed.text = same_some (shelf name) other.text posed.text other.on_shelf posed.on_shelf in
     poses_one bound posed.text p q posed.poses (subst (λ (xs : List ℕ). Poses bound xs q) text other.poses)
 
-same_told : (shelf : Shelf) (w : DecodeWords) (p : Problem) (m n : Model) → IsAnswered shelf w p m → IsAnswered shelf w p n → m ≡ n
+pub same_told : (shelf : Shelf) (w : DecodeWords) (p : Problem) (m n : Model) → IsAnswered shelf w p m → IsAnswered shelf w p n → m ≡ n
 same_told shelf w p m n answered other =
     let text : other.text ≡ answered.text = same_some (shelf w.model) other.text answered.text other.on_shelf answered.on_shelf in
     same_ok (told p.vars answered.text) m n answered.says (subst (λ (xs : List ℕ). told p.vars xs ≡ Ok n) text other.says)
 
-model_refuses_none : (vars : ℕ) (text : List ℕ) (m : Model) (answer : Outcome) → told vars text ≡ Ok m → RefusesModel vars text answer → ⊥
+pub model_refuses_none : (vars : ℕ) (text : List ℕ) (m : Model) (answer : Outcome) → told vars text ≡ Ok m → RefusesModel vars text answer → ⊥
 model_refuses_none vars text m _ says (model_token place e first) = not_err (told vars text) m _ says first
 model_refuses_none vars text m _ says (model_limit place which first) = not_err (told vars text) m _ says first
 
@@ -74,7 +74,7 @@ values_cover vars text m says = by_length (nat_lt (2 ^ 32) (length text)) says
     by_length false e = ok_covers vars (symbols_of vars text) (Ok m) (sym e)
 
 -- values that are a solution violate nothing
-none_violated : (a : Assignment) (statements : List Raw) (number : ℕ) → All (Satisfies a) statements → IsFirstViolated a statements number → ⊥
+pub none_violated : (a : Assignment) (statements : List Raw) (number : ℕ) → All (Satisfies a) statements → IsFirstViolated a statements number → ⊥
 none_violated a statements number all first =
     first.violated (All-contains (Satisfies a) (first.before ++ first.statement ∷ first.after) first.statement (subst (λ (xs : List Raw). All (Satisfies a) xs) first.cut all)
     (Contains-append_right first.before (first.statement ∷ first.after) first.statement (Contains-here first.statement first.after)))
@@ -130,7 +130,7 @@ obeyed_says w a b answer obeys = by_told a.view.told refl
     ends t line is due answer (refused _ refusal stops adds) = absurd (due.goes_on answer (in_told a t (λ u. (owed_decode w).stops u.shelf answer) is stops))
     ends t line is due _ (unread adds) = read_fault adds
     ends t line is due _ (unwritten out part adds) = write_fault
-    ends t line is due _ (wanting out part adds) = no_memory
+    ends t line is due _ (wanting out part adds held) = no_memory
 
     by_told : (told : Option Told) → a.view.told ≡ told → IfSome told (SaidOf w a b answer)
     by_told None is = tt

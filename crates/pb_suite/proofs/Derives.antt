@@ -25,7 +25,8 @@ use Rattle.pb_suite.specs.OwedEncode.{file_of, owed_encode, proof_files}
 use Rattle.pb_suite.specs.Posed.{Poses}
 use Rattle.pb_suite.proofs.PosedProblems.{poses_within}
 
-texts_accepted : (o : Options) (bound : Option ℤ) (text : List ℕ) (p : Problem) → Poses bound text p → IsEncodable o p → Accepts p (problem_text o p) (derivation_text o p)
+-- the two texts of a problem that a text poses are accepted beside it
+pub texts_accepted : (o : Options) (bound : Option ℤ) (text : List ℕ) (p : Problem) → Poses bound text p → IsEncodable o p → Accepts p (problem_text o p) (derivation_text o p)
 unfolding steps_text
 texts_accepted o bound text p poses encodable =
     let within = poses_within bound text p poses in
@@ -63,4 +64,4 @@ obeyed_derives w a b answer is obeys name named = by_answers answer is obeys.ans
     by_answers _ is (refused answer refusal due adds) = absurd (subst (IsRefusal (owed_encode w).texts) is refusal)
     by_answers _ is (read_fault adds) = cc
     by_answers _ is (write_fault out part adds) = cc
-    by_answers _ is (no_memory out part adds) = cc
+    by_answers _ is (no_memory out part adds held) = cc

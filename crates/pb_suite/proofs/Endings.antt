@@ -1,12 +1,13 @@
 -- The ways in which a command ends, for whatever it owes.
-use Rattle.std.proofs.Common.{◌≢◌, List, Option, Some, None, inl, refl, subst}
+use Rattle.std.proofs.Common.{◌≡◌, ◌≢◌, ◌≤◌, ◌+◌, arith, List, [], Option, Some, None, inl, inr, refl, subst, ap, ◌∙◌, length, ℕ}
 use Rattle.std.specs.Prelude.{IfSome}
 use Rattle.pb_desk.specs.View.{Told, View}
 use Rattle.pb_desk.specs.Desk.{DeskState, FailsToRead, FailsToWrite, IfTold, IsSteady}
 use Rattle.pb_suite.specs.declared.outcome.Outcome.{Outcome}
 use Rattle.pb_suite.specs.declared.outcome.Outcome.TheVariants as outcome
-use Rattle.pb_suite.specs.Obeying.{Counts, HasCauses, IsQuiet, IsRefusal, KeepsSlots, Obeys}
+use Rattle.pb_suite.specs.Obeying.{Counts, HasCauses, IsQuiet, IsRefusal, KeepsSlots, ObeysWithin}
 use Rattle.pb_suite.specs.Obeying.Answers.{done, refused, read_fault, write_fault, no_memory}
+use Rattle.pb_suite.specs.Obeying.WritesHeld.{cut_off, well}
 use Rattle.pb_suite.specs.Outputs.{nothing, Output}
 use Rattle.pb_suite.specs.Owed.{LacksSpace, LacksText, MayStand, Owed, Text}
 use Rattle.pb_suite.proofs.Going.{adds_by, AddsBy, Goes}
@@ -33,57 +34,75 @@ module _ (a b : DeskState) where
   counts_quiet (outcome.Limit file which place) no_read no_write quiet = quiet
   counts_quiet outcome.ReadFault no_read no_write quiet = absurd (no_read refl)
   counts_quiet outcome.WriteFault no_read no_write quiet = absurd (no_write refl)
-  counts_quiet outcome.NoMemory no_read no_write quiet = quiet
+  counts_quiet outcome.NoMemory no_read no_write quiet = (quiet.reads, inl quiet.writes)
   counts_quiet (outcome.Rejected line denied) no_read no_write quiet = quiet
   counts_quiet (outcome.NotASolution statement) no_read no_write quiet = quiet
   counts_quiet outcome.NoModel no_read no_write quiet = quiet
   counts_quiet (outcome.NotRefuted line why) no_read no_write quiet = quiet
 
-  pub quiet_counts : (answer : Outcome) → answer ≢ outcome.ReadFault → answer ≢ outcome.WriteFault → Counts a b answer → IsQuiet a b
-  quiet_counts outcome.Done no_read no_write counts = counts
-  quiet_counts (outcome.Refused file place expected) no_read no_write counts = counts
-  quiet_counts outcome.Usage no_read no_write counts = counts
-  quiet_counts (outcome.Limit file which place) no_read no_write counts = counts
-  quiet_counts outcome.ReadFault no_read no_write counts = absurd (no_read refl)
-  quiet_counts outcome.WriteFault no_read no_write counts = absurd (no_write refl)
-  quiet_counts outcome.NoMemory no_read no_write counts = counts
-  quiet_counts (outcome.Rejected line denied) no_read no_write counts = counts
-  quiet_counts (outcome.NotASolution statement) no_read no_write counts = counts
-  quiet_counts outcome.NoModel no_read no_write counts = counts
-  quiet_counts (outcome.NotRefuted line why) no_read no_write counts = counts
+  pub quiet_counts : (answer : Outcome) → answer ≢ outcome.ReadFault → answer ≢ outcome.WriteFault → (answer ≡ outcome.NoMemory → b.write_faults ≡ a.write_faults) → Counts a b answer → IsQuiet a b
+  quiet_counts outcome.Done no_read no_write kept counts = counts
+  quiet_counts (outcome.Refused file place expected) no_read no_write kept counts = counts
+  quiet_counts outcome.Usage no_read no_write kept counts = counts
+  quiet_counts (outcome.Limit file which place) no_read no_write kept counts = counts
+  quiet_counts outcome.ReadFault no_read no_write kept counts = absurd (no_read refl)
+  quiet_counts outcome.WriteFault no_read no_write kept counts = absurd (no_write refl)
+  quiet_counts outcome.NoMemory no_read no_write kept counts = record { reads = counts.0; writes = kept refl }
+  quiet_counts (outcome.Rejected line denied) no_read no_write kept counts = counts
+  quiet_counts (outcome.NotASolution statement) no_read no_write kept counts = counts
+  quiet_counts outcome.NoModel no_read no_write kept counts = counts
+  quiet_counts (outcome.NotRefuted line why) no_read no_write kept counts = counts
 
 module _ (o : Owed) (a b : DeskState) where
-  quiet_of : (out : Output) → Goes out a b → IsQuiet a b
+  quiet_of : {few most : ℕ} (out : Output) → Goes few most out a b → IsQuiet a b
   quiet_of out goes = record { reads = goes.reads; writes = goes.writes }
 
   no_causes : (answer : Outcome) → answer ≢ outcome.ReadFault → answer ≢ outcome.WriteFault → HasCauses (LacksText o a) (LacksSpace o a) answer
   no_causes answer no_read no_write = record { reads = λ e. absurd (no_read e); writes = λ e. absurd (no_write e) }
 
-  pub all_done : (out : Output) → Goes out a b → KeepsSlots a b → IfTold a (λ t. o.done t.shelf out) → Obeys o a b outcome.Done
-  all_done out goes keeps due = record { answers = done out due goes.adds keeps; counts = quiet_of out goes; causes = λ steady. no_causes outcome.Done (λ e. cc) (λ e. cc) }
+  pub all_done : {most : ℕ} (out : Output) → Goes (length o.texts) most out a b → KeepsSlots a b → IfTold a (λ t. o.done t.shelf out) → ObeysWithin o most a b outcome.Done
+  all_done out goes keeps due = record { answers = done out due goes.adds keeps; opens = goes.reading; ends = goes.ends; counts = quiet_of out goes; causes = λ steady. no_causes outcome.Done (λ e. cc) (λ e. cc) }
 
-  pub is_refused : (answer : Outcome) → Goes nothing a b → IsRefusal o.texts answer → IfTold a (λ t. o.stops t.shelf answer) → Obeys o a b answer
+  pub is_refused : {most : ℕ} (answer : Outcome) → Goes (length o.texts) most nothing a b → IsRefusal o.texts answer → IfTold a (λ t. o.stops t.shelf answer) → ObeysWithin o most a b answer
   is_refused answer goes is due =
       let no_read = refusal_no_read o.texts answer is in
       let no_write = refusal_no_write o.texts answer is in
-      record { answers = refused answer is due goes.adds; counts = counts_quiet a b answer no_read no_write (quiet_of nothing goes); causes = λ steady. no_causes answer no_read no_write }
+      record { answers = refused answer is due goes.adds; opens = goes.reading; ends = goes.ends; counts = counts_quiet a b answer no_read no_write (quiet_of nothing goes); causes = λ steady. no_causes answer no_read no_write }
 
-  pub wants_memory : (out : Output) → Goes out a b → IfTold a (λ t. MayStand o t.shelf out) → Obeys o a b outcome.NoMemory
-  wants_memory out goes part = record { answers = no_memory out part goes.adds; counts = quiet_of out goes; causes = λ steady. no_causes outcome.NoMemory (λ e. cc) (λ e. cc) }
+  pub wants_memory : {most : ℕ} (out : Output) → Goes (length o.texts) most out a b → IfTold a (λ t. MayStand o t.shelf out) → ObeysWithin o most a b outcome.NoMemory
+  wants_memory out goes part = record { answers = no_memory out part goes.adds (well goes.writes); opens = goes.reading; ends = goes.ends; counts = counts_quiet a b outcome.NoMemory (λ e. cc) (λ e. cc) (quiet_of out goes); causes = λ steady. no_causes outcome.NoMemory (λ e. cc) (λ e. cc) }
 
-  pub bare_memory : Goes nothing a b → Obeys o a b outcome.NoMemory
+  pub bare_memory : {most : ℕ} → Goes (length o.texts) most nothing a b → ObeysWithin o most a b outcome.NoMemory
   bare_memory goes = wants_memory nothing goes (always a (λ t. MayStand o t.shelf nothing) (λ t. inl refl))
 
-  pub is_unread : (f : View → View) → AddsBy nothing f → FailsToRead f a b → (IsSteady a → LacksText o a) → Obeys o a b outcome.ReadFault
-  is_unread f by fails lacks = record {
+  pub is_unread : {most : ℕ} (f : View → View) → AddsBy (length o.texts) nothing f → FailsToRead f a b → b.ends ≤ a.ends + most → (IsSteady a → LacksText o a) → ObeysWithin o most a b outcome.ReadFault
+  is_unread f by fails ends lacks = record {
+    ends = ends;
     answers = read_fault (adds_by nothing f a b by fails.view);
+    opens = λ slot le. ap (λ (v : View). v.reading slot) fails.view ∙ by.reading a.view slot le;
     counts = (fails.reads, fails.writes);
     causes = λ steady. record { reads = λ e. lacks steady; writes = λ e. let no : ⊥ = cc in absurd no };
   }
 
-  pub is_unwritten : (out : Output) (f : View → View) → AddsBy out f → FailsToWrite f a b → IfTold a (λ t. MayStand o t.shelf out) → (IsSteady a → LacksSpace o a) → Obeys o a b outcome.WriteFault
+  pub is_unwritten : (out : Output) (f : View → View) → AddsBy (length o.texts) out f → FailsToWrite f a b → IfTold a (λ t. MayStand o t.shelf out) → (IsSteady a → LacksSpace o a) → ObeysWithin o 0 a b outcome.WriteFault
   is_unwritten out f by fails part lacks = record {
+    ends = omega (arith, fails.ends);
     answers = write_fault out part (adds_by out f a b by fails.view);
+    opens = λ slot le. ap (λ (v : View). v.reading slot) fails.view ∙ by.reading a.view slot le;
     counts = (fails.reads, fails.writes);
     causes = λ steady. record { reads = λ e. let no : ⊥ = cc in absurd no; writes = λ e. lacks steady };
   }
+
+  -- memory was wanting, and what was held could not be written
+  pub is_unheld : (out : Output) (f : View → View) → AddsBy (length o.texts) out f → out.made ≢ [] → FailsToWrite f a b → IfTold a (λ t. MayStand o t.shelf out) → (IsSteady a → LacksSpace o a) → ObeysWithin o 0 a b outcome.NoMemory
+  is_unheld out f by some fails part lacks = record {
+    ends = omega (arith, fails.ends);
+    answers = no_memory out part (adds_by out f a b by fails.view) (cut_off some lacks);
+    opens = λ slot le. ap (λ (v : View). v.reading slot) fails.view ∙ by.reading a.view slot le;
+    counts = (fails.reads, inr fails.writes);
+    causes = λ steady. no_causes outcome.NoMemory (λ e. cc) (λ e. cc);
+  }
+
+  -- what met so few ends met no more
+  pub within_more : (few most : ℕ) (answer : Outcome) → few ≤ most → ObeysWithin o few a b answer → ObeysWithin o most a b answer
+  within_more few most answer le obeys = record { answers = obeys.answers; opens = obeys.opens; ends = omega (arith, le, obeys.ends); counts = obeys.counts; causes = obeys.causes }

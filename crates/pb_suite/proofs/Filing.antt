@@ -37,16 +37,18 @@ second_or {R} slot other = by_tests (slot == 1) (slot == 0) refl refl
 
 -- ---- the CNF
 
-pub by_begun : (name bytes : List ℕ) → AddsBy (only_files name bytes None []) (begun 0 name bytes)
-by_begun name bytes = record {
+pub by_begun : (few : ℕ) (name bytes : List ℕ) → AddsBy few (only_files name bytes None []) (begun 0 name bytes)
+by_begun few name bytes = record {
+  reading = λ v slot le. refl;
   told = λ v t. record { shelf = refl; made = refl; said = sym (append-nil t.said) };
   slots = λ v slot. first_or slot (λ other. simp other);
   room = λ v. refl;
   steady = λ v. refl;
 }
 
-pub by_made : (name bytes : List ℕ) → AddsBy (only_files name bytes None []) (made 0 name bytes)
-by_made name bytes = record {
+pub by_made : (few : ℕ) (name bytes : List ℕ) → AddsBy few (only_files name bytes None []) (made 0 name bytes)
+by_made few name bytes = record {
+  reading = λ v slot le. refl;
   told = λ v t. record { shelf = refl; made = refl; said = sym (append-nil t.said) };
   slots = λ v slot. first_or slot (λ other. simp other);
   room = λ v. refl;
@@ -54,8 +56,9 @@ by_made name bytes = record {
 }
 
 -- the file, and words
-pub by_spoken : (name bytes said : List ℕ) → AddsBy (record { made = file_of 0 name bytes ∷ []; said = said }) (λ v. spoke said (made 0 name bytes v))
-by_spoken name bytes said = record {
+pub by_spoken : (few : ℕ) (name bytes said : List ℕ) → AddsBy few (record { made = file_of 0 name bytes ∷ []; said = said }) (λ v. spoke said (made 0 name bytes v))
+by_spoken few name bytes said = record {
+  reading = λ v slot le. refl;
   told = λ v t. record { shelf = refl; made = refl; said = refl };
   slots = λ v slot. first_or slot (λ other. simp other);
   room = λ v. refl;
@@ -72,8 +75,9 @@ spoken_keeps name bytes said a b is free slot = ap (λ (v : View). v.writing slo
 
 -- ---- the derivation behind it
 
-pub by_begun_proof : (name text proof bytes : List ℕ) → AddsBy (only_files name text (Some proof) bytes) (λ v. begun 1 proof bytes (made 0 name text v))
-by_begun_proof name text proof bytes = record {
+pub by_begun_proof : (few : ℕ) (name text proof bytes : List ℕ) → AddsBy few (only_files name text (Some proof) bytes) (λ v. begun 1 proof bytes (made 0 name text v))
+by_begun_proof few name text proof bytes = record {
+  reading = λ v slot le. refl;
   told = λ v t. record { shelf = refl; made = refl; said = sym (append-nil t.said) };
   slots = λ v slot. second_or slot (λ one none. simp (one, none));
   room = λ v. refl;
@@ -86,35 +90,37 @@ module _ (o : Options) (p : Problem) where
   abbrev with_words : FileNames → List ℕ → Output
   with_words names said = record { made = files_of names o p; said = said }
 
-  by_stored_cnf : (name said : List ℕ) → AddsBy (with_words (record { cnf = name; proof = None }) said) (stored o p (record { cnf = name; proof = None }) said)
-  by_stored_cnf name said = by_spoken name (problem_text o p) said
+  by_stored_cnf : (few : ℕ) (name said : List ℕ) → AddsBy few (with_words (record { cnf = name; proof = None }) said) (stored o p (record { cnf = name; proof = None }) said)
+  by_stored_cnf few name said = by_spoken few name (problem_text o p) said
 
-  by_stored_both : (name proof said : List ℕ) → AddsBy (with_words (record { cnf = name; proof = Some proof }) said) (stored o p (record { cnf = name; proof = Some proof }) said)
-  by_stored_both name proof said = record {
+  by_stored_both : (few : ℕ) (name proof said : List ℕ) → AddsBy few (with_words (record { cnf = name; proof = Some proof }) said) (stored o p (record { cnf = name; proof = Some proof }) said)
+  by_stored_both few name proof said = record {
+    reading = λ v slot le. refl;
     told = λ v t. record { shelf = refl; made = refl; said = refl };
     slots = λ v slot. second_or slot (λ one none. simp (one, none));
     room = λ v. refl;
     steady = λ v. refl;
   }
 
-  by_stored_as : (name : List ℕ) (proof : Option (List ℕ)) (said : List ℕ) → AddsBy (with_words (record { cnf = name; proof = proof }) said) (stored o p (record { cnf = name; proof = proof }) said)
-  by_stored_as name None said = by_stored_cnf name said
-  by_stored_as name (Some proof) said = by_stored_both name proof said
+  by_stored_as : (few : ℕ) (name : List ℕ) (proof : Option (List ℕ)) (said : List ℕ) → AddsBy few (with_words (record { cnf = name; proof = proof }) said) (stored o p (record { cnf = name; proof = proof }) said)
+  by_stored_as few name None said = by_stored_cnf few name said
+  by_stored_as few name (Some proof) said = by_stored_both few name proof said
 
-  pub by_stored : (names : FileNames) (said : List ℕ) → AddsBy (with_words names said) (stored o p names said)
-  by_stored names said = by_stored_as names.cnf names.proof said
+  pub by_stored : (few : ℕ) (names : FileNames) (said : List ℕ) → AddsBy few (with_words names said) (stored o p names said)
+  by_stored few names said = by_stored_as few names.cnf names.proof said
 
-  by_files_as : (name : List ℕ) (proof : Option (List ℕ)) → AddsBy (only_files name (problem_text o p) proof (derivation_text o p)) (made_files o p (record { cnf = name; proof = proof }))
-  by_files_as name None = by_made name (problem_text o p)
-  by_files_as name (Some proof) = record {
+  by_files_as : (few : ℕ) (name : List ℕ) (proof : Option (List ℕ)) → AddsBy few (only_files name (problem_text o p) proof (derivation_text o p)) (made_files o p (record { cnf = name; proof = proof }))
+  by_files_as few name None = by_made few name (problem_text o p)
+  by_files_as few name (Some proof) = record {
+    reading = λ v slot le. refl;
     told = λ v t. record { shelf = refl; made = refl; said = sym (append-nil t.said) };
     slots = λ v slot. second_or slot (λ one none. simp (one, none));
     room = λ v. refl;
     steady = λ v. refl;
   }
 
-  pub by_files : (names : FileNames) → AddsBy (only_files names.cnf (problem_text o p) names.proof (derivation_text o p)) (made_files o p names)
-  by_files names = by_files_as names.cnf names.proof
+  pub by_files : (few : ℕ) (names : FileNames) → AddsBy few (only_files names.cnf (problem_text o p) names.proof (derivation_text o p)) (made_files o p names)
+  by_files few names = by_files_as few names.cnf names.proof
 
   -- files that were made and ended leave their slots as they were
   stored_keeps_as : (name : List ℕ) (proof : Option (List ℕ)) (said : List ℕ) (v : View) → ((slot : ℕ) → v.writing slot ≡ false) → (slot : ℕ) → (stored o p (record { cnf = name; proof = proof }) said v).writing slot ≡ v.writing slot

@@ -1,5 +1,5 @@
 -- How going through a CNF and a derivation side by side ends a command that owes it.
-use Rattle.std.proofs.Common.{◌≡◌, ◌≢◌, List, [], ◌∷◌, ℕ, Option, Some, None, Ok, Err, inl, inr, refl, sym, subst}
+use Rattle.std.proofs.Common.{◌≡◌, ◌≢◌, List, [], ◌∷◌, ℕ, Option, Some, None, Ok, Err, inl, inr, refl, sym, subst, ◌≤◌, ◌<◌, length, arith, ◌+◌}
 use Rattle.std.specs.Prelude.{◌⊎◌, Contains, IfSome, IsSome}
 use Rattle.pb_base.specs.declared.file.File.{File}
 use Rattle.pb_base.specs.declared.file.File.TheVariants.{Opb, Cnf, Proof}
@@ -18,21 +18,21 @@ use Rattle.pb_check.specs.Walk.{Walk}
 use Rattle.pb_words.specs.CheckWords.{CheckWords}
 use Rattle.pb_suite.specs.declared.outcome.Outcome.{Outcome}
 use Rattle.pb_suite.specs.declared.outcome.Outcome.TheVariants as outcome
-use Rattle.pb_suite.specs.Obeying.{Obeys}
+use Rattle.pb_suite.specs.Obeying.{ObeysWithin}
 use Rattle.pb_suite.specs.Outputs.{nothing, only_words}
 use Rattle.pb_suite.specs.Owed.{HasKind, Owed, Shelf, Text}
 use Rattle.pb_suite.specs.OwedCheck.{accepted_line, owed_check, IsJudged, StopsCheck}
-use Rattle.pb_suite.specs.OwedCheck.StopsCheck.{token, limit, denial}
+use Rattle.pb_suite.specs.OwedCheck.StopsCheck.{token, limit, denial, lacking}
 use Rattle.pb_suite.specs.Posed.{IsPosed}
 use Rattle.pb_suite.specs.laws.Opening.{opened_both, HasBoth, StopsOpening}
 use Rattle.pb_suite.specs.laws.Opening.StopsOpening.{no_cnf, no_proof}
 use Rattle.pb_suite.specs.laws.Runs.{check_refusal}
 use Rattle.pb_suite.specs.laws.Saying.{EndsSaying}
 use Rattle.pb_suite.proofs.Afterwards.{obeys_after}
-use Rattle.pb_suite.proofs.Endings.{bare_memory, is_refused, is_unread}
-use Rattle.pb_suite.proofs.Going.{by_both_opened, by_both_taken, by_opened, by_same, goes_by, shelf_is_if, Goes}
+use Rattle.pb_suite.proofs.Endings.{bare_memory, is_refused, is_unread, within_more}
+use Rattle.pb_suite.proofs.Going.{by_both_opened, by_both_taken, by_opened, by_same, goes_by, goes_reading, shelf_is_if, Goes}
 use Rattle.pb_suite.proofs.Says.{saying_obeys}
-use Rattle.pb_suite.proofs.Texts.{told_more}
+use Rattle.pb_suite.proofs.Texts.{told_more, told_none_of}
 
 module _ (w : CheckWords) where
   abbrev first_text : Text
@@ -52,6 +52,7 @@ module _ (w : CheckWords) where
 
   -- what a command owes that checks first: the texts are among those that it reads, and it stops with what stops the check
   pub record Checks (o : Owed) : Type 0 where
+    pub three : 3 ≤ length o.texts
     pub has_cnf : Contains o.texts cnf_text
     pub has_proof : Contains o.texts proof_text
     pub cnf_kind : HasKind Cnf o.texts
@@ -59,12 +60,12 @@ module _ (w : CheckWords) where
     pub stops : (shelf : Shelf) (answer : Outcome) → StopsCheck shelf w answer → o.stops shelf answer
 
   pub check_checks : Checks (owed_check w)
-  check_checks = record { has_cnf = has_cnf_text; has_proof = has_proof_text; cnf_kind = inr (inl refl); proof_kind = inr (inr (inl refl)); stops = λ shelf answer stops. stops }
+  check_checks = record { three = omega arith; has_cnf = has_cnf_text; has_proof = has_proof_text; cnf_kind = inr (inl refl); proof_kind = inr (inr (inl refl)); stops = λ shelf answer stops. stops }
 
   -- one of both files was not opened
-  pub unopened_obeys : (o : Owed) → Checks o → (a b : DeskState) → StopsOpening w.cnf w.proof a b → Obeys o a b outcome.ReadFault
-  unopened_obeys o checks a b (no_cnf fails lacks) = is_unread o a b same by_same fails (λ steady. (cnf_text, checks.has_cnf, lacks steady))
-  unopened_obeys o checks a b (no_proof fails lacks) = is_unread o a b (opened 1 w.cnf) (by_opened 1 w.cnf) fails (λ steady. (proof_text, checks.has_proof, lacks steady))
+  pub unopened_obeys : (o : Owed) → Checks o → (p : Problem) (a b : DeskState) → IfTold a (λ t. IsPosed t.shelf w.opb w.bound p) → StopsOpening w.cnf w.proof a b → ObeysWithin o 0 a b outcome.ReadFault
+  unopened_obeys o checks p a b posed (no_cnf fails ends lacks) = is_unread o a b same (by_same (length o.texts)) fails (omega (arith, ends)) (λ steady. (cnf_text, checks.has_cnf, lacks steady, told_none_of a (λ shelf. shelf w.cnf) (λ shelf. o.stops shelf outcome.ReadFault) (λ shelf. IsPosed shelf w.opb w.bound p) (λ shelf is none. checks.stops shelf _ (lacking p is (inl none))) posed (lacks steady)))
+  unopened_obeys o checks p a b posed (no_proof fails ends lacks) = is_unread o a b (opened 1 w.cnf) (by_opened (length o.texts) 1 w.cnf (omega (arith, checks.three))) fails (omega (arith, ends)) (λ steady. (proof_text, checks.has_proof, lacks steady, told_none_of a (λ shelf. shelf w.proof) (λ shelf. o.stops shelf outcome.ReadFault) (λ shelf. IsPosed shelf w.opb w.bound p) (λ shelf is none. checks.stops shelf _ (lacking p is (inr none))) posed (lacks steady)))
 
 module _ (w : CheckWords) (p : Problem) (d e : DeskState) (posed : IfTold d (λ t. IsPosed t.shelf w.opb w.bound p)) (both : IfTold d (HasBoth w.cnf w.proof)) where
   abbrev pub JudgedSo : Answer → Type 0
@@ -85,48 +86,48 @@ module _ (w : CheckWords) (p : Problem) (d e : DeskState) (posed : IfTold d (λ 
         judged = walk;
       }
 
-  pub goes_both : (P : List ℕ → List ℕ → Type 0) → TakesBoth 1 2 P d e → Goes nothing d e
-  goes_both P takes = goes_by nothing (both_taken 1 2 takes.of_one takes.of_two) d e (by_both_taken 1 2 takes.of_one takes.of_two) takes.reached
+  pub goes_both : (few : ℕ) (P : List ℕ → List ℕ → Type 0) → TakesBoth 1 2 P d e → Goes few 2 nothing d e
+  goes_both few P takes = goes_reading few 2 nothing (both_taken 1 2 takes.of_one takes.of_two) d e (by_both_taken few 1 2 takes.of_one takes.of_two) takes.reached takes.ends
 
   has_kind : (o : Owed) → Checks w o → (file : File) → (file ≡ Cnf) ⊎ (file ≡ Proof) → HasKind file o.texts
   has_kind o checks file (inl cnf) = subst (λ (f : File). HasKind f o.texts) (sym cnf) checks.cnf_kind
   has_kind o checks file (inr proof) = subst (λ (f : File). HasKind f o.texts) (sym proof) checks.proof_kind
 
   -- a text's fault, a read that failed, or want of memory
-  pub stopped_obeys : (o : Owed) → Checks w o → (f : CheckFault) → StopsChecking p 1 2 d e f → NamesText f → (IsSteady d → f ≢ fault.ReadFault) → Obeys o d e (check_refusal f)
+  pub stopped_obeys : (o : Owed) → Checks w o → (f : CheckFault) → StopsChecking p 1 2 d e f → NamesText f → (IsSteady d → f ≢ fault.ReadFault) → ObeysWithin o 2 d e (check_refusal f)
   stopped_obeys o checks (fault.Refused file place expected) stops names steady =
-      is_refused o d e _ (goes_both _ stops) (has_kind o checks file names)
+      is_refused o d e _ (goes_both (length o.texts) _ stops) (has_kind o checks file names)
       (told_more d _ _ (λ t judged. checks.stops t.shelf _ (token file place expected judged)) (judged_so (Err (fault.Refused file place expected)) stops))
   stopped_obeys o checks (fault.Limit file place which) stops names steady =
-      is_refused o d e _ (goes_both _ stops) (has_kind o checks file names)
+      is_refused o d e _ (goes_both (length o.texts) _ stops) (has_kind o checks file names)
       (told_more d _ _ (λ t judged. checks.stops t.shelf _ (limit file place which judged)) (judged_so (Err (fault.Limit file place which)) stops))
   stopped_obeys o checks fault.ReadFault stops names steady =
-      is_unread o d e (both_taken 1 2 stops.of_one stops.of_two) (by_both_taken 1 2 stops.of_one stops.of_two) stops.fails (λ is. absurd (steady is refl))
-  stopped_obeys o checks fault.NoMemory stops names steady = bare_memory o d e (goes_both _ stops)
+      is_unread o d e (both_taken 1 2 stops.of_one stops.of_two) (by_both_taken (length o.texts) 1 2 stops.of_one stops.of_two) stops.fails stops.ends (λ is. absurd (steady is refl))
+  stopped_obeys o checks fault.NoMemory stops names steady = bare_memory o d e (goes_both (length o.texts) _ stops)
 
   -- a step that is not allowed
-  pub rejected_obeys : (o : Owed) → Checks w o → (line : ℕ) (denied : Denied) → TakesBoth 1 2 (λ c q. Walk p c q (Ok (Rejected line denied))) d e → Obeys o d e (outcome.Rejected line denied)
+  pub rejected_obeys : (o : Owed) → Checks w o → (line : ℕ) (denied : Denied) → TakesBoth 1 2 (λ c q. Walk p c q (Ok (Rejected line denied))) d e → ObeysWithin o 2 d e (outcome.Rejected line denied)
   rejected_obeys o checks line denied takes =
-      is_refused o d e _ (goes_both _ takes) checks.proof_kind
+      is_refused o d e _ (goes_both (length o.texts) _ takes) checks.proof_kind
       (told_more d _ _ (λ t judged. checks.stops t.shelf _ (denial line denied judged)) (judged_so (Ok (Rejected line denied)) takes))
 
   -- all is allowed
-  accepted_due : Goes nothing d e → TakesBoth 1 2 (λ c q. Walk p c q (Ok Accepted)) d e → IfTold e (λ t. (owed_check w).done t.shelf (only_words accepted_line))
+  accepted_due : Goes 3 2 nothing d e → TakesBoth 1 2 (λ c q. Walk p c q (Ok Accepted)) d e → IfTold e (λ t. (owed_check w).done t.shelf (only_words accepted_line))
   accepted_due goes takes = shelf_is_if d e goes (λ shelf. (owed_check w).done shelf (only_words accepted_line)) (told_more d _ _ (λ t judged. (judged, refl)) (judged_so (Ok Accepted) takes))
 
-  pub accepted_obeys : (f : DeskState) → (IsSteady e → IsSome e.view.told) → TakesBoth 1 2 (λ c q. Walk p c q (Ok Accepted)) d e → (answer : Outcome) → EndsSaying accepted_line e f answer → Obeys (owed_check w) d f answer
+  pub accepted_obeys : (f : DeskState) → (IsSteady e → IsSome e.view.told) → TakesBoth 1 2 (λ c q. Walk p c q (Ok Accepted)) d e → (answer : Outcome) → EndsSaying accepted_line e f answer → ObeysWithin (owed_check w) 2 d f answer
   accepted_obeys f tells takes answer ends =
-      let goes = goes_both _ takes in
+      let goes = goes_both 3 _ takes in
       obeys_after (owed_check w) d e f goes answer (saying_obeys (owed_check w) accepted_line e f tells (accepted_due goes takes) answer ends)
 
 -- ---- from before the two files were opened
 
 module _ (w : CheckWords) (a d : DeskState) (reached : Reaches (opened_both w.cnf w.proof) a d) where
-  opened_goes : Goes nothing a d
-  opened_goes = goes_by nothing (opened_both w.cnf w.proof) a d (by_both_opened w.cnf w.proof) reached
+  opened_goes : (few : ℕ) → 2 < few → Goes few 0 nothing a d
+  opened_goes few less = goes_by few nothing (opened_both w.cnf w.proof) a d (by_both_opened few w.cnf w.proof less) reached
 
   pub still_posed : (p : Problem) → IfTold a (λ t. IsPosed t.shelf w.opb w.bound p) → IfTold d (λ t. IsPosed t.shelf w.opb w.bound p)
-  still_posed p posed = shelf_is_if a d opened_goes (λ shelf. IsPosed shelf w.opb w.bound p) posed
+  still_posed p posed = shelf_is_if a d (opened_goes 3 (omega arith)) (λ shelf. IsPosed shelf w.opb w.bound p) posed
 
-  pub opened_obeys : (o : Owed) → (f : DeskState) (answer : Outcome) → Obeys o d f answer → Obeys o a f answer
-  opened_obeys o f answer obeys = obeys_after o a d f opened_goes answer obeys
+  pub opened_obeys : (o : Owed) → 2 < length o.texts → (most : ℕ) (f : DeskState) (answer : Outcome) → ObeysWithin o most d f answer → ObeysWithin o most a f answer
+  opened_obeys o less most f answer obeys = within_more o a f (0 + most) most answer (omega arith) (obeys_after o a d f (opened_goes (length o.texts) less) answer obeys)

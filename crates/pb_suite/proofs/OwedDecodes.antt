@@ -20,18 +20,18 @@ use Rattle.pb_model.specs.SolutionText.{solution_text}
 use Rattle.pb_words.specs.DecodeWords.{DecodeWords}
 use Rattle.pb_suite.specs.declared.outcome.Outcome.{Outcome}
 use Rattle.pb_suite.specs.declared.outcome.Outcome.TheVariants as outcome
-use Rattle.pb_suite.specs.Obeying.{Obeys}
+use Rattle.pb_suite.specs.Obeying.{ObeysWithin}
 use Rattle.pb_suite.specs.Outputs.{nothing, only_words}
 use Rattle.pb_suite.specs.Owed.{Text}
 use Rattle.pb_suite.specs.OwedDecode.{owed_decode, ComesTo, IsAnswered, StopsDecode}
-use Rattle.pb_suite.specs.OwedDecode.StopsDecode.{bad_model, no_model, violated}
+use Rattle.pb_suite.specs.OwedDecode.StopsDecode.{bad_model, no_model, violated, lacking}
 use Rattle.pb_suite.specs.Posed.{IsPosed}
 use Rattle.pb_suite.specs.Refusals.{RefusesModel}
 use Rattle.pb_suite.specs.laws.Runs.{HasText, StopsReading}
 use Rattle.pb_suite.proofs.Endings.{is_refused}
 use Rattle.pb_suite.proofs.Going.{shelf_is_if, Goes}
 use Rattle.pb_suite.proofs.Refused.{reading_ends}
-use Rattle.pb_suite.proofs.Texts.{told_more}
+use Rattle.pb_suite.proofs.Texts.{told_more, told_none_of}
 
 -- what follows from two things that are told
 both_told : (a : DeskState) (P Q R : Told → Type 0) → ((t : Told) → P t → Q t → R t) → IfTold a P → IfTold a Q → IfTold a R
@@ -60,13 +60,13 @@ module _ (w : DecodeWords) (p : Problem) where
   comes_to : (m : Model) (d : Decoded) (b : DeskState) → IfTold b (λ t. IsAnswered t.shelf w p m) → IsDecoded p m d → IfTold b (λ t. ComesTo t.shelf w p m d)
   comes_to m d b answered is = told_more b (λ t. IsAnswered t.shelf w p m) (λ t. ComesTo t.shelf w p m d) (λ t found. record { answered = found; decoded = is }) answered
 
-  module _ (m : Model) (b : DeskState) (still : Goes nothing b b) (answered : IfTold b (λ t. IsAnswered t.shelf w p m)) where
-    pub no_model_obeys : IsDecoded p m decoded.NoModel → Obeys (owed_decode w) b b outcome.NoModel
+  module _ (m : Model) (b : DeskState) (still : Goes 2 0 nothing b b) (answered : IfTold b (λ t. IsAnswered t.shelf w p m)) where
+    pub no_model_obeys : IsDecoded p m decoded.NoModel → ObeysWithin (owed_decode w) 0 b b outcome.NoModel
     no_model_obeys is =
         is_refused (owed_decode w) b b outcome.NoModel still (inr (inl refl))
         (told_more b (λ t. ComesTo t.shelf w p m decoded.NoModel) (λ t. StopsDecode t.shelf w outcome.NoModel) (λ t found. no_model p m found) (comes_to m decoded.NoModel b answered is))
 
-    pub violated_obeys : (statement : ℕ) → IsDecoded p m (decoded.Violates statement) → Obeys (owed_decode w) b b (outcome.NotASolution statement)
+    pub violated_obeys : (statement : ℕ) → IsDecoded p m (decoded.Violates statement) → ObeysWithin (owed_decode w) 0 b b (outcome.NotASolution statement)
     violated_obeys statement is =
         is_refused (owed_decode w) b b (outcome.NotASolution statement) still (inr (inl refl))
         (told_more b (λ t. ComesTo t.shelf w p m (decoded.Violates statement)) (λ t. StopsDecode t.shelf w (outcome.NotASolution statement)) (λ t found. violated p m statement found) (comes_to m (decoded.Violates statement) b answered is))
@@ -76,14 +76,14 @@ module _ (w : DecodeWords) (p : Problem) where
       told_more b (λ t. ComesTo t.shelf w p m decoded.Solution) (λ t. (owed_decode w).done t.shelf (only_words (solution_text p m.values))) (λ t found. (p, m, found, refl)) (comes_to m decoded.Solution b answered is)
 
   -- what is told after a step that adds nothing
-  pub answered_later : (m : Model) (b d : DeskState) → Goes nothing b d → IfTold b (λ t. IsAnswered t.shelf w p m) → IfTold d (λ t. IsAnswered t.shelf w p m)
+  pub answered_later : (m : Model) {few most : ℕ} (b d : DeskState) → Goes few most nothing b d → IfTold b (λ t. IsAnswered t.shelf w p m) → IfTold d (λ t. IsAnswered t.shelf w p m)
   answered_later m b d goes answered = shelf_is_if b d goes (λ shelf. IsAnswered shelf w p m) answered
 
   -- a solver's text that is not read, or is refused
   pub no_answer_obeys : (b d : DeskState) → IfTold b (λ t. IsPosed t.shelf w.opb w.bound p) → (answer : Outcome) → StopsReading ModelText 1 w.model (RefusesModel p.vars) b d answer
-      → (IsSteady b → answer ≡ outcome.ReadFault → IsTold b (λ t. IsNone (t.shelf w.model))) → Obeys (owed_decode w) b d answer
+      → (IsSteady b → answer ≡ outcome.ReadFault → IsTold b (λ t. IsNone (t.shelf w.model))) → ObeysWithin (owed_decode w) 1 b d answer
   no_answer_obeys b d posed answer stops lacks =
-      reading_ends (owed_decode w) 1 model_text has_model_text (inr (inl refl)) (RefusesModel p.vars) b d
+      reading_ends (owed_decode w) 1 model_text (omega arith) has_model_text (inr (inl refl)) (RefusesModel p.vars) b d (told_none_of b (λ shelf. shelf w.model) (λ shelf. StopsDecode shelf w outcome.ReadFault) (λ shelf. IsPosed shelf w.opb w.bound p) (λ shelf is none. lacking p is none) posed)
       (λ answer found. both_told b (λ t. IsPosed t.shelf w.opb w.bound p) (λ t. (text : List ℕ) × (t.shelf w.model ≡ Some text) × RefusesModel p.vars text answer) (λ t. StopsDecode t.shelf w answer)
       (λ t is refused. bad_model p refused.0 answer is refused.1 refused.2) posed found)
       answer stops lacks

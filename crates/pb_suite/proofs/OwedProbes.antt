@@ -9,7 +9,7 @@ use Rattle.pb_words.specs.ProbeWords.{ProbeWords}
 use Rattle.pb_suite.specs.Outputs.{only_words}
 use Rattle.pb_suite.specs.Owed.{Shelf}
 use Rattle.pb_suite.specs.OwedProbe.{owed_probe, SaysOfLits}
-use Rattle.pb_suite.specs.laws.Reaching.{OfClauses}
+use Rattle.pb_unit.specs.Reaching.{OfClauses}
 use Rattle.pb_suite.proofs.Texts.{told_more}
 
 -- the shelf has a text that says these forms

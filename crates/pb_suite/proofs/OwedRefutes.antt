@@ -1,5 +1,5 @@
 -- How going through a refutation ends a command that owes it, once the derivation was accepted.
-use Rattle.std.proofs.Common.{◌≡◌, ◌≢◌, ℕ, List, [], ◌∷◌, Option, Some, None, Ok, inl, inr, refl, sym, subst}
+use Rattle.std.proofs.Common.{◌≡◌, ◌≢◌, ℕ, List, [], ◌∷◌, Option, Some, None, Ok, inl, inr, refl, sym, subst, arith}
 use Rattle.std.specs.Prelude.{Contains, IfSome, IsNone, IsSome}
 use Rattle.pb_base.specs.declared.file.File.TheVariants.{Opb, Lrat}
 use Rattle.pb_base.specs.declared.literal.Lit.{Lit}
@@ -20,22 +20,22 @@ use Rattle.pb_lrat.specs.Refuting.{Refutes, StopsRefuting}
 use Rattle.pb_words.specs.RefuteWords.{RefuteWords}
 use Rattle.pb_suite.specs.declared.outcome.Outcome.{Outcome}
 use Rattle.pb_suite.specs.declared.outcome.Outcome.TheVariants as outcome
-use Rattle.pb_suite.specs.Obeying.{Obeys}
+use Rattle.pb_suite.specs.Obeying.{ObeysWithin}
 use Rattle.pb_suite.specs.Outputs.{nothing, only_words}
 use Rattle.pb_suite.specs.Owed.{Text}
 use Rattle.pb_suite.specs.OwedRefute.{checked_words, owed_refute, refuted_line, IsAccepted, IsFollowed}
-use Rattle.pb_suite.specs.OwedRefute.StopsRefute.{unchecked, token, limit, no_refutation}
+use Rattle.pb_suite.specs.OwedRefute.StopsRefute.{unchecked, token, limit, no_refutation, lacking}
 use Rattle.pb_suite.specs.Posed.{IsPosed}
 use Rattle.pb_suite.specs.laws.Opening.{HasBoth}
 use Rattle.pb_suite.specs.laws.Runs.{lrat_refusal}
 use Rattle.pb_suite.specs.laws.Saying.{EndsSaying}
 use Rattle.pb_suite.proofs.Afterwards.{obeys_after}
 use Rattle.pb_suite.proofs.Endings.{bare_memory, is_refused, is_unread}
-use Rattle.pb_suite.proofs.Going.{by_opened, by_same, by_taken, goes_by, shelf_is_if, Goes}
+use Rattle.pb_suite.proofs.Going.{by_opened, by_same, by_taken, goes_by, goes_reading, shelf_is_if, Goes}
 use Rattle.pb_suite.proofs.Opened.{some_is}
 use Rattle.pb_suite.proofs.OwedChecks.{cnf_text, proof_text, Checks}
 use Rattle.pb_suite.proofs.Says.{saying_obeys}
-use Rattle.pb_suite.proofs.Texts.{told_more}
+use Rattle.pb_suite.proofs.Texts.{told_more, told_none_of}
 
 module _ (w : RefuteWords) where
   abbrev opb_text : Text
@@ -49,6 +49,7 @@ module _ (w : RefuteWords) where
     has_cnf = Contains-there opb_text (cnf_text (checked_words w) ∷ proof_text (checked_words w) ∷ lrat_text ∷ []) (cnf_text (checked_words w)) (Contains-here (cnf_text (checked_words w)) (proof_text (checked_words w) ∷ lrat_text ∷ []));
     has_proof = Contains-there opb_text (cnf_text (checked_words w) ∷ proof_text (checked_words w) ∷ lrat_text ∷ []) (proof_text (checked_words w))
         (Contains-there (cnf_text (checked_words w)) (proof_text (checked_words w) ∷ lrat_text ∷ []) (proof_text (checked_words w)) (Contains-here (proof_text (checked_words w)) (lrat_text ∷ [])));
+    three = omega arith;
     cnf_kind = inr (inl refl);
     proof_kind = inr (inr (inl refl));
     stops = λ shelf answer stops. unchecked answer stops;
@@ -61,8 +62,13 @@ module _ (w : RefuteWords) where
       (Contains-there (proof_text (checked_words w)) (lrat_text ∷ []) lrat_text (Contains-here lrat_text [])))
 
   -- the file was not opened
-  pub no_lrat : (a b : DeskState) → FailsToRead same a b → (IsSteady a → IsTold a (λ t. IsNone (t.shelf w.lrat))) → Obeys (owed_refute w) a b outcome.ReadFault
-  no_lrat a b fails lacks = is_unread (owed_refute w) a b same by_same fails (λ steady. (lrat_text, has_lrat_text, lacks steady))
+  pub no_lrat : (vars : ℕ) (clauses : List (List Lit)) (a b : DeskState) → IfTold a (λ t. IsAccepted t.shelf w vars clauses) → FailsToRead same a b → (IsSteady a → IsTold a (λ t. IsNone (t.shelf w.lrat))) → b.ends ≡ a.ends → ObeysWithin (owed_refute w) 1 a b outcome.ReadFault
+  no_lrat vars clauses a b accepted fails lacks ends = is_unread (owed_refute w) a b same (by_same 4) fails (omega (arith, ends)) (λ steady. (
+    lrat_text,
+    has_lrat_text,
+    lacks steady,
+    told_none_of a (λ shelf. shelf w.lrat) (λ shelf. (owed_refute w).stops shelf outcome.ReadFault) (λ shelf. IsAccepted shelf w vars clauses) (λ shelf is none. lacking vars clauses is none) accepted (lacks steady),
+  ))
 
 -- what was kept of the CNF are the clauses of the texts that were judged
 pub accepted_so : (w : RefuteWords) (p : Problem) (vars : ℕ) (clauses : List (List Lit)) (d e : DeskState) → IfTold d (λ t. IsPosed t.shelf w.opb w.bound p) → IfTold d (HasBoth w.cnf w.proof) → TakesBoth 1 2 (λ c q. Walk p c q (Ok Accepted)) d e
@@ -86,11 +92,11 @@ has_text name a b is found = subst (λ (v : View). IfSome v.told (λ t. t.shelf 
     by_cases (Some t) found = some_is (t.shelf name) found
 
 module _ (w : RefuteWords) (vars : ℕ) (clauses : List (List Lit)) (a b d : DeskState) (accepted : IfTold a (λ t. IsAccepted t.shelf w vars clauses)) (reached : Reaches (opened 3 w.lrat) a b) (found : IfTold a (λ t. IsSome (t.shelf w.lrat))) where
-  open_goes : Goes nothing a b
-  open_goes = goes_by nothing (opened 3 w.lrat) a b (by_opened 3 w.lrat) reached
+  open_goes : Goes 4 0 nothing a b
+  open_goes = goes_by 4 nothing (opened 3 w.lrat) a b (by_opened 4 3 w.lrat (omega arith)) reached
 
-  text_goes : (P : List ℕ → Type 0) → TakesText 3 P b d → Goes nothing b d
-  text_goes P takes = goes_by nothing (taken 3 takes.count) b d (by_taken 3 takes.count) takes.takes.reached
+  text_goes : (P : List ℕ → Type 0) → TakesText 3 P b d → Goes 4 1 nothing b d
+  text_goes P takes = goes_reading 4 1 nothing (taken 3 takes.count) b d (by_taken 4 3 takes.count) takes.takes.reached takes.ends
 
   followed : (end : LratEnding) → TakesText 3 (λ text. lrat_walk vars clauses text ≡ end) b d → IfTold b (λ t. IsFollowed t.shelf w end)
   followed end takes = by_cases b.view.told (shelf_is_if a b open_goes (λ shelf. IsAccepted shelf w vars clauses) accepted) (has_text w.lrat a b reached.view found) takes.text
@@ -99,21 +105,21 @@ module _ (w : RefuteWords) (vars : ℕ) (clauses : List (List Lit)) (a b d : Des
       by_cases None accepted has ends = tt
       by_cases (Some t) accepted has ends = record { vars = vars; clauses = clauses; lrat = t.left 3; accepted = accepted; has_lrat = has; ends = ends }
 
-  opened_obeys : (e : DeskState) (answer : Outcome) → Obeys (owed_refute w) b e answer → Obeys (owed_refute w) a e answer
+  opened_obeys : (e : DeskState) (answer : Outcome) → ObeysWithin (owed_refute w) 1 b e answer → ObeysWithin (owed_refute w) 1 a e answer
   opened_obeys e answer obeys = obeys_after (owed_refute w) a b e open_goes answer obeys
 
   -- the text is no refutation, a read failed, or memory was wanting
-  unrefuted : (f : RefuteFault) → StopsRefuting vars clauses 3 b d f → (IsSteady b → f ≢ fault.Failed) → Obeys (owed_refute w) b d (lrat_refusal f)
+  unrefuted : (f : RefuteFault) → StopsRefuting vars clauses 3 b d f → (IsSteady b → f ≢ fault.Failed) → ObeysWithin (owed_refute w) 1 b d (lrat_refusal f)
   unrefuted (fault.Token place e) stops steady =
       is_refused (owed_refute w) b d _ (text_goes _ stops) (inr (inr (inr (inl refl)))) (told_more b _ _ (λ t ends. token place e ends) (followed (ending.refused place e) stops))
   unrefuted (fault.Limit place which) stops steady =
       is_refused (owed_refute w) b d _ (text_goes _ stops) (inr (inr (inr (inl refl)))) (told_more b _ _ (λ t ends. limit place which ends) (followed (ending.limited place which) stops))
   unrefuted (fault.NotRefuted line why) stops steady =
       is_refused (owed_refute w) b d _ (text_goes _ stops) (inr (inr (inr (inl refl)))) (told_more b _ _ (λ t ends. no_refutation line why ends) (followed (ending.not_refuted line why) stops))
-  unrefuted fault.Failed stops steady = is_unread (owed_refute w) b d (taken 3 stops.count) (by_taken 3 stops.count) stops.fails (λ is. absurd (steady is refl))
+  unrefuted fault.Failed stops steady = is_unread (owed_refute w) b d (taken 3 stops.count) (by_taken 4 3 stops.count) stops.fails stops.ends (λ is. absurd (steady is refl))
   unrefuted fault.NoMemory stops steady = bare_memory (owed_refute w) b d (text_goes _ stops)
 
-  pub after_ending : (f : RefuteFault) → StopsRefuting vars clauses 3 b d f → (IsSteady b → f ≢ fault.Failed) → Obeys (owed_refute w) a d (lrat_refusal f)
+  pub after_ending : (f : RefuteFault) → StopsRefuting vars clauses 3 b d f → (IsSteady b → f ≢ fault.Failed) → ObeysWithin (owed_refute w) 1 a d (lrat_refusal f)
   after_ending f stops steady = opened_obeys d _ (unrefuted f stops steady)
 
   -- it is one
@@ -121,5 +127,5 @@ module _ (w : RefuteWords) (vars : ℕ) (clauses : List (List Lit)) (a b d : Des
   refuted_due takes =
       shelf_is_if b d (text_goes _ takes) (λ shelf. (owed_refute w).done shelf (only_words refuted_line)) (told_more b _ _ (λ t ends. (ends, refl)) (followed ending.refuted takes))
 
-  pub after_saying : (e : DeskState) → (IsSteady d → IsSome d.view.told) → Refutes vars clauses 3 b d → (answer : Outcome) → EndsSaying refuted_line d e answer → Obeys (owed_refute w) a e answer
+  pub after_saying : (e : DeskState) → (IsSteady d → IsSome d.view.told) → Refutes vars clauses 3 b d → (answer : Outcome) → EndsSaying refuted_line d e answer → ObeysWithin (owed_refute w) 1 a e answer
   after_saying e tells takes answer ends = opened_obeys e _ (obeys_after (owed_refute w) b d e (text_goes _ takes) answer (saying_obeys (owed_refute w) refuted_line d e tells (refuted_due takes) answer ends))

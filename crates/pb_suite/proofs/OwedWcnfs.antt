@@ -15,7 +15,7 @@ use Rattle.pb_encode.specs.Weighted.WantsForWeighted.{not_made, in_text}
 use Rattle.pb_words.specs.WcnfWords.{WcnfWords}
 use Rattle.pb_suite.specs.declared.outcome.Outcome.{Outcome}
 use Rattle.pb_suite.specs.declared.outcome.Outcome.TheVariants as outcome
-use Rattle.pb_suite.specs.Obeying.{Obeys}
+use Rattle.pb_suite.specs.Obeying.{ObeysWithin}
 use Rattle.pb_suite.specs.Outputs.{nothing}
 use Rattle.pb_suite.specs.OwedEncode.{due_words}
 use Rattle.pb_suite.specs.OwedWcnf.{owed_wcnf, weighted_output, StopsWcnf}
@@ -48,36 +48,36 @@ module _ (w : WcnfWords) (p : Problem) (b : DeskState) (posed : IfTold b (λ t. 
     abbrev pub Fine : Type 0
     Fine = IsEncodable w.options p
 
-    wants : (d : DeskState) → WantsForWeighted w.options p w.wcnf b d → Obeys (owed_wcnf w) b d outcome.NoMemory
-    wants d (not_made far) = bare_memory (owed_wcnf w) b d (goes_by nothing same b d by_same far)
+    wants : (d : DeskState) → WantsForWeighted w.options p w.wcnf b d → ObeysWithin (owed_wcnf w) 0 b d outcome.NoMemory
+    wants d (not_made far) = bare_memory (owed_wcnf w) b d (goes_by 1 nothing same b d (by_same 1) far)
     wants d (in_text is part) = file_wants (owed_wcnf w) w.wcnf text summary Fine b d tells weighed_due is part
 
     -- the file was not made
     pub unmade_obeys : (d : DeskState) (f : EncodeFault) → ((k : LimitKind) → f ≡ fault.Limit k → Refuses k w.options p b d) → (f ≡ fault.WriteFault → IsWeightedCutOff w.options p w.wcnf b d) → (f ≡ fault.NoMemory → WantsForWeighted w.options p w.wcnf b d)
-        → (IsSteady b → f ≡ fault.WriteFault → LacksForWeighted w.options p w.wcnf b) → Obeys (owed_wcnf w) b d (outcome_of f)
-    unmade_obeys d (fault.Limit k) limit write memory lacks = let found = limit k refl in is_refused (owed_wcnf w) b d (outcome.Limit None k None) (goes_by nothing same b d by_same found.1) tt (over_due k found.0)
+        → (IsSteady b → f ≡ fault.WriteFault → LacksForWeighted w.options p w.wcnf b) → ObeysWithin (owed_wcnf w) 0 b d (outcome_of f)
+    unmade_obeys d (fault.Limit k) limit write memory lacks = let found = limit k refl in is_refused (owed_wcnf w) b d (outcome.Limit None k None) (goes_by 1 nothing same b d (by_same 1) found.1) tt (over_due k found.0)
     unmade_obeys d fault.WriteFault limit write memory lacks = let cut = write refl in file_stops (owed_wcnf w) w.wcnf text summary Fine b d tells weighed_due cut.encodable (λ steady. lacks steady refl) cut.stops
     unmade_obeys d fault.NoMemory limit write memory lacks = wants d (memory refl)
 
     -- ---- once it was made
 
     module _ (e d : DeskState) (is : Fine) (far : Reaches (made 0 w.wcnf text) b e) where
-      says_all : Reaches (spoke summary) e d → ((slot : ℕ) → b.view.writing slot ≡ false) → Obeys (owed_wcnf w) b d outcome.Done
+      says_all : Reaches (spoke summary) e d → ((slot : ℕ) → b.view.writing slot ≡ false) → ObeysWithin (owed_wcnf w) 0 b d outcome.Done
       says_all said free =
           let spoken : View → View = λ v. spoke summary (made 0 w.wcnf text v) in
           all_said (owed_wcnf w) w.wcnf text summary Fine b d tells weighed_due is (then (made 0 w.wcnf text) (spoke summary) spoken b e d (λ v. refl) far said) free
 
-      says_some : StopsIn summary spoke e d → (IsSteady e → LacksRoom words (length summary) e) → Obeys (owed_wcnf w) b d outcome.WriteFault
+      says_some : StopsIn summary spoke e d → (IsSteady e → LacksRoom words (length summary) e) → ObeysWithin (owed_wcnf w) 0 b d outcome.WriteFault
       says_some stop lacks =
           let spoken : View → View = λ v. spoke (take stop.count summary) (made 0 w.wcnf text v) in
           let still : IsSteady b → IsSteady e = λ steady. ap (λ (v : View). v.steady) far.view ∙ steady in
           words_stop (owed_wcnf w) w.wcnf text summary Fine b d tells weighed_due is stop.count (then_fails_to_write (made 0 w.wcnf text) (spoke (take stop.count summary)) spoken b e d (λ v. refl) far stop.fails)
           (λ steady. made_lacks_words w.wcnf text (length summary) b e far.view (lacks (still steady)))
 
-      saying : ((slot : ℕ) → b.view.writing slot ≡ false) → (answer : Outcome) → EndsSaying summary e d answer → Obeys (owed_wcnf w) b d answer
+      saying : ((slot : ℕ) → b.view.writing slot ≡ false) → (answer : Outcome) → EndsSaying summary e d answer → ObeysWithin (owed_wcnf w) 0 b d answer
       saying free _ (whole said) = says_all said free
       saying free _ (cut_off stop lacks) = says_some stop lacks
 
-      pub summary_obeys : ((slot : ℕ) → b.view.writing slot ≡ false) → (answer : Outcome) → EndsTelling summary e d answer → Obeys (owed_wcnf w) b d answer
+      pub summary_obeys : ((slot : ℕ) → b.view.writing slot ≡ false) → (answer : Outcome) → EndsTelling summary e d answer → ObeysWithin (owed_wcnf w) 0 b d answer
       summary_obeys free _ (says answer ends) = saying free answer ends
       summary_obeys free _ (no_memory none) = words_want (owed_wcnf w) w.wcnf text summary Fine b d tells weighed_due is (then (made 0 w.wcnf text) same (made 0 w.wcnf text) b e d (λ v. refl) far none)

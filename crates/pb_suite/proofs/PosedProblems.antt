@@ -66,7 +66,7 @@ opb_no_read_fault bound text _ (heavy q b given reads weight) is = cc
 -- ---- on a desk
 
 -- a problem that was read
-pub posed_by : (name : List ℕ) (bound : Option ℤ) (p : Problem) (a b : DeskState) → Goes nothing a b → HasText name (λ text. Poses bound text p) a → IfTold b (λ t. IsPosed t.shelf name bound p)
+pub posed_by : (name : List ℕ) (bound : Option ℤ) (p : Problem) {few most : ℕ} (a b : DeskState) → Goes few most nothing a b → HasText name (λ text. Poses bound text p) a → IfTold b (λ t. IsPosed t.shelf name bound p)
 posed_by name bound p a b goes poses =
     shelf_is_if a b goes (λ shelf. IsPosed shelf name bound p)
     (told_more a (λ t. (text : List ℕ) × (t.shelf name ≡ Some text) × Poses bound text p) (λ t. IsPosed t.shelf name bound p) (λ t found. record { text = found.0; on_shelf = found.1; poses = found.2 }) poses)

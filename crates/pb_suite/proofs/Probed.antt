@@ -17,9 +17,9 @@ use Rattle.pb_unit.specs.declared.engine.Outcome.TheVariants.{Conflict as confli
 use Rattle.pb_unit.specs.Outcomes.{AnswersOf}
 use Rattle.pb_unit.specs.States.{EngineState, IsReached, standing}
 use Rattle.pb_suite.specs.OwedProbe.{AreReached}
-use Rattle.pb_suite.specs.laws.Reaching.{held_to, AreReachedOver, AreSorted, IsUpTo, OfConstraint, OfLit, OfTerm}
+use Rattle.pb_unit.specs.Reaching.{held_to, AreReachedOver, AreSorted, IsUpTo, OfConstraint, OfLit, OfTerm}
 use Rattle.pb_suite.proofs.HeldLists.{held_to-ascending, held_to-from, held_to-has}
-use Rattle.pb_suite.proofs.Renaming.{reached_of}
+use Rattle.pb_unit.proofs.Renaming.{reached_of}
 
 -- ---- over constraints
 

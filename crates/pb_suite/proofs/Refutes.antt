@@ -46,4 +46,4 @@ obeyed_refutes w a b answer is obeys = by_answers answer is obeys.answers
     by_answers _ is (refused answer refusal due adds) = absurd (subst (IsRefusal (owed_refute w).texts) is refusal)
     by_answers _ is (read_fault adds) = cc
     by_answers _ is (write_fault out part adds) = cc
-    by_answers _ is (no_memory out part adds) = cc
+    by_answers _ is (no_memory out part adds held) = cc

@@ -20,7 +20,8 @@ use Rattle.pb_suite.specs.OwedWcnf.{owed_wcnf}
 use Rattle.pb_suite.specs.Posed.{Poses}
 use Rattle.pb_suite.proofs.PosedProblems.{poses_within}
 
-weighing : (o : Options) (bound : Option ℤ) (text : List ℕ) (p : Problem) → Poses bound text p → IsEncodable o p → IsWeighing o bound text (weighted_text o p)
+-- the weighted text of a problem that a text poses has its costs
+pub weighing : (o : Options) (bound : Option ℤ) (text : List ℕ) (p : Problem) → Poses bound text p → IsEncodable o p → IsWeighing o bound text (weighted_text o p)
 weighing o bound text p poses encodable =
     let within = poses_within bound text p poses in
     record { problem = p; poses = poses; written = refl; says = weighted_reads o p within encodable; costs = models_have_costs o p within }
@@ -49,4 +50,4 @@ obeyed_weighs w a b answer is obeys = by_answers answer is obeys.answers
     by_answers _ is (refused answer refusal due adds) = absurd (subst (IsRefusal (owed_wcnf w).texts) is refusal)
     by_answers _ is (read_fault adds) = cc
     by_answers _ is (write_fault out part adds) = cc
-    by_answers _ is (no_memory out part adds) = cc
+    by_answers _ is (no_memory out part adds held) = cc

@@ -17,6 +17,6 @@ pub data Overflows (most : ℕ) (out : Output) : Type 0 where
 pub data AnswersInMemory (o : Owed) (shelf : Shelf) (most : ℕ) : Outcome → Type 0 where
   done : (out : Output) → o.done shelf out → Fits most out → AnswersInMemory o shelf most outcome.Done
   refused : (answer : Outcome) → IsRefusal o.texts answer → o.stops shelf answer → AnswersInMemory o shelf most answer
-  read_fault : (text : Text) → Contains o.texts text → IsNone (shelf text.name) → AnswersInMemory o shelf most outcome.ReadFault
+  read_fault : (text : Text) → Contains o.texts text → IsNone (shelf text.name) → o.stops shelf outcome.ReadFault → AnswersInMemory o shelf most outcome.ReadFault
   write_fault : (out : Output) → o.done shelf out → Overflows most out → AnswersInMemory o shelf most outcome.WriteFault
   no_memory : AnswersInMemory o shelf most outcome.NoMemory

@@ -4,6 +4,7 @@ use Rattle.std.specs.Option.{ForSome}
 use Rattle.pb_base.specs.declared.file.File.{File}
 use Rattle.pb_desk.specs.Desk.{DeskState, IsTold}
 use Rattle.pb_suite.specs.declared.outcome.Outcome.{Outcome}
+use Rattle.pb_suite.specs.declared.outcome.Outcome.TheVariants.{ReadFault}
 use Rattle.pb_suite.specs.Outputs.{nothing, Fits, HasShortNames, IsPartOf, LacksFor, Output}
 
 abbrev pub Shelf : Type 0
@@ -29,9 +30,9 @@ pub record Owed : Type 1 where
 abbrev pub MayStand : Owed → Shelf → Output → Type 0
 MayStand o shelf out = (out ≡ nothing) ⊎ ((whole : Output) × o.done shelf whole × IsPartOf whole out)
 
--- a text is not on the shelf
+-- a text is not on the shelf, and the command stops there
 abbrev pub LacksText : Owed → DeskState → Type 0
-LacksText o desk = (text : Text) × Contains o.texts text × IsTold desk (λ t. IsNone (t.shelf text.name))
+LacksText o desk = (text : Text) × Contains o.texts text × IsTold desk (λ t. IsNone (t.shelf text.name)) × IsTold desk (λ t. o.stops t.shelf ReadFault)
 
 -- something is lacking for what is due
 abbrev pub LacksSpace : Owed → DeskState → Type 0

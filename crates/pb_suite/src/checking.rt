@@ -3,7 +3,7 @@ ghost use Rattle.std.specs.Prelude.{◌≡◌, false, IsTrue};
 ghost use Rattle.pb_base.specs.Problems.{IsWithinLimits};
 ghost use Rattle.pb_desk.specs.Desk.{IfTold, IsClosed};
 ghost use Rattle.pb_words.specs.CheckWords.{as_check_words};
-ghost use Rattle.pb_suite.specs.Obeying.{Obeys};
+ghost use Rattle.pb_suite.specs.Obeying.{Obeys, ObeysWithin};
 ghost use Rattle.pb_suite.specs.OwedCheck.{owed_check};
 ghost use Rattle.pb_suite.specs.Posed.{IsPosed};
 ghost use Rattle.pb_suite.specs.laws.Opening.{HasBoth};
@@ -50,7 +50,7 @@ fn compare<D: Desk>(alloc: Global, problem: &Problem, asked: &Checking<'_>, desk
     requires proof_open { IsTrue ((D.state desk.old).view.reading 2) }
     requires posed { IfTold (D.state desk.old) (λ t. IsPosed t.shelf (as_check_words asked.now).opb (as_check_words asked.now).bound problem.now) }
     requires both { IfTold (D.state desk.old) (HasBoth (as_check_words asked.now).cnf (as_check_words asked.now).proof) }
-    ensures { Obeys (owed_check (as_check_words asked.now)) (D.state desk.old) (D.state desk.new) result }
+    ensures { ObeysWithin (owed_check (as_check_words asked.now)) 2 (D.state desk.old) (D.state desk.new) result }
 {
     match check(alloc, problem, desk, 1, 2) {
         Ok(Verdict::Accepted) => say(desk, b"accepted\n"),
@@ -65,7 +65,7 @@ fn judge<D: Desk>(alloc: Global, problem: &Problem, asked: &Checking<'_>, desk: 
     requires cnf_free { (D.state desk.old).view.reading 1 ≡ false }
     requires proof_free { (D.state desk.old).view.reading 2 ≡ false }
     requires posed { IfTold (D.state desk.old) (λ t. IsPosed t.shelf (as_check_words asked.now).opb (as_check_words asked.now).bound problem.now) }
-    ensures { Obeys (owed_check (as_check_words asked.now)) (D.state desk.old) (D.state desk.new) result }
+    ensures { ObeysWithin (owed_check (as_check_words asked.now)) 2 (D.state desk.old) (D.state desk.new) result }
 {
     match open_both(asked.cnf, asked.proof, desk) {
         Ok(()) => compare(alloc, problem, asked, desk),

@@ -1,14 +1,14 @@
 //! Decoding the model of a file.
 ghost use Rattle.std.specs.Prelude.{◌≡◌, ◌<◌, ◌^◌, ℕ, length, false, Ok, Err, IsNone, IfOk, IfErr};
 ghost use Rattle.pb_base.specs.Problems.{IsWithinLimits};
-ghost use Rattle.pb_desk.specs.Desk.{IfTold, IsClosed, IsSteady, IsTold, Reaches};
+ghost use Rattle.pb_desk.specs.Desk.{IfTold, IsClosed, IsSteady, IsTold};
 ghost use Rattle.pb_model.specs.Decoding.{IsDecoded};
 ghost use Rattle.pb_model.specs.ModelReading.{told};
 ghost use Rattle.pb_words.specs.DecodeWords.{as_decode_words};
-ghost use Rattle.pb_suite.specs.Obeying.{Obeys};
+ghost use Rattle.pb_suite.specs.Obeying.{Obeys, ObeysWithin};
 ghost use Rattle.pb_suite.specs.OwedDecode.{owed_decode, IsAnswered};
 ghost use Rattle.pb_suite.specs.Refusals.{RefusesModel};
-ghost use Rattle.pb_suite.specs.laws.Runs.{fetched, model_refusal, HasText, StopsReading};
+ghost use Rattle.pb_suite.specs.laws.Runs.{model_refusal, Fetches, HasText, StopsReading};
 
 use crate::outcome::Outcome;
 use crate::reading::{fetch, read_problem};
@@ -19,8 +19,8 @@ use pb_model::{Decoded, Model, ModelFault, decode, read_model, write_solution};
 use pb_words::Decoding;
 use std::alloc::Global;
 
-// The outcome of a text's fault.
-fn model_refusal(fault: ModelFault) -> Outcome
+/// The outcome of a text's fault.
+pub fn model_refusal(fault: ModelFault) -> Outcome
     ensures { result ≡ model_refusal fault }
 {
     match fault {
@@ -48,7 +48,7 @@ fn read_answer<D: Desk>(
     requires few { vars < 2 ^ 31 }
     requires free { (D.state desk.old).view.reading 1 ≡ false }
     ensures covers { IfOk result (λ m. length m.values ≡ vars) }
-    ensures read { IfOk result (λ m. (count : ℕ) × Reaches (fetched 1 name.now count) (D.state desk.old) (D.state desk.new)) }
+    ensures read { IfOk result (λ m. (count : ℕ) × Fetches 1 name.now count (D.state desk.old) (D.state desk.new)) }
     ensures says { IfOk result (λ m. HasText name.now (λ text. told vars text ≡ Ok m) (D.state desk.old)) }
     ensures stopped { IfErr result (StopsReading File.Model 1 name.now (RefusesModel vars) (D.state desk.old) (D.state desk.new)) }
     ensures steady { IsSteady (D.state desk.old) → result ≡ Err Outcome.ReadFault → IsTold (D.state desk.old) (λ t. IsNone (t.shelf name.now)) }
@@ -82,7 +82,7 @@ fn say_solution<D: Desk>(
     requires solution { IsDecoded problem.now model.now Decoded.Solution }
     requires covers { length model.now.values ≡ problem.now.vars }
     requires answered { IfTold (D.state desk.old) (λ t. IsAnswered t.shelf (as_decode_words asked.now) problem.now model.now) }
-    ensures { Obeys (owed_decode (as_decode_words asked.now)) (D.state desk.old) (D.state desk.new) result }
+    ensures { ObeysWithin (owed_decode (as_decode_words asked.now)) 0 (D.state desk.old) (D.state desk.new) result }
 {
     let mut text = Vec::new(alloc);
     match write_solution(alloc, problem, &model.values, &mut text) {
@@ -102,7 +102,7 @@ fn conclude<D: Desk>(
     requires within { IsWithinLimits problem.now }
     requires covers { length model.now.values ≡ problem.now.vars }
     requires answered { IfTold (D.state desk.old) (λ t. IsAnswered t.shelf (as_decode_words asked.now) problem.now model.now) }
-    ensures { Obeys (owed_decode (as_decode_words asked.now)) (D.state desk.old) (D.state desk.new) result }
+    ensures { ObeysWithin (owed_decode (as_decode_words asked.now)) 0 (D.state desk.old) (D.state desk.new) result }
 {
     match decode(problem, model) {
         Decoded::NoModel => Outcome::NoModel,

@@ -3,7 +3,7 @@ ghost use Rattle.std.specs.Prelude.{None};
 ghost use Rattle.pb_base.specs.Problems.{IsWithinLimits};
 ghost use Rattle.pb_desk.specs.Desk.{IfTold, IsClosed};
 ghost use Rattle.pb_words.specs.MapWords.{as_map_words};
-ghost use Rattle.pb_suite.specs.Obeying.{Obeys};
+ghost use Rattle.pb_suite.specs.Obeying.{Obeys, ObeysWithin};
 ghost use Rattle.pb_suite.specs.OwedMap.{owed_map};
 ghost use Rattle.pb_suite.specs.Posed.{IsPosed};
 
@@ -25,7 +25,7 @@ fn say_names<D: Desk>(
 ) -> Outcome
     requires within { IsWithinLimits problem.now }
     requires posed { IfTold (D.state desk.old) (λ t. IsPosed t.shelf (as_map_words asked.now).opb None problem.now) }
-    ensures { Obeys (owed_map (as_map_words asked.now)) (D.state desk.old) (D.state desk.new) result }
+    ensures { ObeysWithin (owed_map (as_map_words asked.now)) 0 (D.state desk.old) (D.state desk.new) result }
 {
     let mut text = Vec::new(alloc);
     match write_map(alloc, problem, &mut text) {

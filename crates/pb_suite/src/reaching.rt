@@ -4,15 +4,15 @@ ghost use Rattle.std.specs.Option.{MatchOption};
 ghost use Rattle.pb_norm.specs.ClausePropagation.{ClauseConflict};
 ghost use Rattle.pb_norm.specs.Propagation.{Conflict};
 ghost use Rattle.pb_suite.specs.OwedProbe.{AreReached};
-ghost use Rattle.pb_suite.specs.laws.Reaching.{held_to, value_at, AreAscending, AreAssumed, AreReachedOver, AreSorted, AreUpTo, HaveOpposites, IsUpTo, OfClauses, OfConstraint, OfLit};
-ghost use Rattle.pb_suite.specs.laws.Renaming.{AreNamed, AreNames};
+ghost use Rattle.pb_unit.specs.Reaching.{held_to, value_at, AreAscending, AreAssumed, AreReachedOver, AreSorted, AreUpTo, HaveOpposites, IsUpTo, OfClauses, OfConstraint, OfLit};
+ghost use Rattle.pb_unit.specs.Renaming.{AreNamed, AreNames};
 
-use crate::numbering::{
-    greatest, greatest_of, lit_at, named_lits, names_of, numbered_forms, numbered_lits, vars_of,
-};
 use pb_base::{Lit, Lits, NoMemory};
 use pb_norm::{clause_form, lits_of};
-use pb_unit::{Constraints, Engine, Outcome, Rounds};
+use pb_unit::{
+    Constraints, Engine, Outcome, Rounds, greatest, greatest_of, lit_at, named_lits, names_of,
+    numbered_forms, numbered_lits, vars_of,
+};
 use std::alloc::{AllocError, Global};
 use std::mem;
 

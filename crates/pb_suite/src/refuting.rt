@@ -3,7 +3,7 @@ ghost use Rattle.std.specs.Prelude.{◌≡◌, ◌<◌, ◌^◌, false, IsTrue};
 ghost use Rattle.pb_base.specs.Problems.{IsWithinLimits};
 ghost use Rattle.pb_desk.specs.Desk.{IfTold, IsClosed};
 ghost use Rattle.pb_words.specs.RefuteWords.{as_refute_words};
-ghost use Rattle.pb_suite.specs.Obeying.{Obeys};
+ghost use Rattle.pb_suite.specs.Obeying.{Obeys, ObeysWithin};
 ghost use Rattle.pb_suite.specs.OwedRefute.{owed_refute, IsAccepted};
 ghost use Rattle.pb_suite.specs.Posed.{IsPosed};
 ghost use Rattle.pb_suite.specs.laws.Opening.{HasBoth};
@@ -53,7 +53,7 @@ fn follow<D: Desk>(
     requires few { vars < 2 ^ 31 }
     requires free { (D.state desk.old).view.reading 3 ≡ false }
     requires accepted { IfTold (D.state desk.old) (λ t. IsAccepted t.shelf (as_refute_words asked.now) vars clauses) }
-    ensures { Obeys (owed_refute (as_refute_words asked.now)) (D.state desk.old) (D.state desk.new) result }
+    ensures { ObeysWithin (owed_refute (as_refute_words asked.now)) 1 (D.state desk.old) (D.state desk.new) result }
 {
     match desk.open(3, asked.lrat) {
         Ok(()) => {}
@@ -73,7 +73,7 @@ fn compare<D: Desk>(alloc: Global, problem: &Problem, asked: &Refuting<'_>, desk
     requires lrat_free { (D.state desk.old).view.reading 3 ≡ false }
     requires posed { IfTold (D.state desk.old) (λ t. IsPosed t.shelf (as_refute_words asked.now).opb (as_refute_words asked.now).bound problem.now) }
     requires both { IfTold (D.state desk.old) (HasBoth (as_refute_words asked.now).cnf (as_refute_words asked.now).proof) }
-    ensures { Obeys (owed_refute (as_refute_words asked.now)) (D.state desk.old) (D.state desk.new) result }
+    ensures { ObeysWithin (owed_refute (as_refute_words asked.now)) 3 (D.state desk.old) (D.state desk.new) result }
 {
     let (verdict, vars, clauses) = match check_kept(alloc, problem, desk, 1, 2) {
         Ok(found) => found,
@@ -92,7 +92,7 @@ fn judge<D: Desk>(alloc: Global, problem: &Problem, asked: &Refuting<'_>, desk: 
     requires proof_free { (D.state desk.old).view.reading 2 ≡ false }
     requires lrat_free { (D.state desk.old).view.reading 3 ≡ false }
     requires posed { IfTold (D.state desk.old) (λ t. IsPosed t.shelf (as_refute_words asked.now).opb (as_refute_words asked.now).bound problem.now) }
-    ensures { Obeys (owed_refute (as_refute_words asked.now)) (D.state desk.old) (D.state desk.new) result }
+    ensures { ObeysWithin (owed_refute (as_refute_words asked.now)) 3 (D.state desk.old) (D.state desk.new) result }
 {
     match open_both(asked.cnf, asked.proof, desk) {
         Ok(()) => compare(alloc, problem, asked, desk),

@@ -4,7 +4,7 @@ ghost use Rattle.pb_base.specs.Problems.{IsWithinLimits};
 ghost use Rattle.pb_desk.specs.Desk.{IfTold, IsClosed};
 ghost use Rattle.pb_words.specs.Fit.{IsFitWcnf};
 ghost use Rattle.pb_words.specs.WcnfWords.{as_wcnf_words};
-ghost use Rattle.pb_suite.specs.Obeying.{Obeys};
+ghost use Rattle.pb_suite.specs.Obeying.{Obeys, ObeysWithin};
 ghost use Rattle.pb_suite.specs.OwedWcnf.{owed_wcnf};
 ghost use Rattle.pb_suite.specs.Posed.{IsPosed};
 
@@ -28,7 +28,7 @@ fn store_weighted<D: Desk>(
     requires fit { IsFitWcnf (as_wcnf_words asked.now) }
     requires free { (slot : ℕ) → (D.state desk.old).view.writing slot ≡ false }
     requires posed { IfTold (D.state desk.old) (λ t. IsPosed t.shelf (as_wcnf_words asked.now).opb (as_wcnf_words asked.now).bound problem.now) }
-    ensures { Obeys (owed_wcnf (as_wcnf_words asked.now)) (D.state desk.old) (D.state desk.new) result }
+    ensures { ObeysWithin (owed_wcnf (as_wcnf_words asked.now)) 0 (D.state desk.old) (D.state desk.new) result }
 {
     match weighted(alloc, problem, &asked.options, asked.wcnf, desk) {
         Ok(summary) => say_summary(alloc, problem, &asked.options, &summary, desk),

@@ -13,5 +13,5 @@ pub record HasBoth (cnf proof : List ℕ) (t : Told) : Type 0 where
 
 -- a read failed before the one was open or before the other was, over a steady desk for want of the text
 pub data StopsOpening (cnf proof : List ℕ) (old new : DeskState) : Type 0 where
-  no_cnf : FailsToRead same old new → (IsSteady old → IsTold old (λ t. IsNone (t.shelf cnf))) → StopsOpening cnf proof old new
-  no_proof : FailsToRead (opened 1 cnf) old new → (IsSteady old → IsTold old (λ t. IsNone (t.shelf proof))) → StopsOpening cnf proof old new
+  no_cnf : FailsToRead same old new → new.ends ≡ old.ends → (IsSteady old → IsTold old (λ t. IsNone (t.shelf cnf))) → StopsOpening cnf proof old new
+  no_proof : FailsToRead (opened 1 cnf) old new → new.ends ≡ old.ends → (IsSteady old → IsTold old (λ t. IsNone (t.shelf proof))) → StopsOpening cnf proof old new

@@ -1,5 +1,5 @@
 -- What the steps of a run do to a desk. It serves proofs.
-use Rattle.std.specs.Prelude.{ℕ, ◌≡◌, ◌≤◌, ◌<◌, List, take, length, Option, Some, None}
+use Rattle.std.specs.Prelude.{ℕ, ◌≡◌, ◌≤◌, ◌<◌, ◌+◌, List, take, length, Option, Some, None}
 use Rattle.pb_base.specs.declared.expected.Expected.{Expected}
 use Rattle.pb_base.specs.declared.file.File.{File}
 use Rattle.pb_base.specs.declared.file.File.TheVariants.{Opb, Cnf, Model, Lrat}
@@ -8,7 +8,7 @@ use Rattle.pb_base.specs.declared.limit.LimitKind.TheVariants.{Weight}
 use Rattle.pb_base.specs.declared.place.Place.{Place}
 use Rattle.pb_base.specs.declared.problem.Problem.{Problem}
 use Rattle.pb_desk.specs.View.{View, opened, taken, spoke}
-use Rattle.pb_desk.specs.Desk.{DeskState, Reaches, FailsToRead, FailsToWrite, IfTold, IsSteady, LacksRoom, words, same}
+use Rattle.pb_desk.specs.Desk.{DeskState, Reads, Reaches, FailsToRead, FailsToWrite, IfTold, IsSteady, LacksRoom, words, same}
 use Rattle.pb_opb.specs.declared.bound.BoundFault.{BoundFault}
 use Rattle.pb_opb.specs.declared.bound.BoundFault.TheVariants as bound
 use Rattle.pb_opb.specs.declared.fault.OpbFault.{OpbFault}
@@ -33,6 +33,11 @@ use Rattle.pb_suite.specs.OwedEncode.{due_words}
 -- so many bytes of the file were read, in this slot
 abbrev pub fetched : ℕ → List ℕ → ℕ → View → View
 fetched slot name count view = taken slot count (opened slot name view)
+
+-- the file was opened, so many bytes of it were read, and its end was met once at most
+pub record Fetches (slot : ℕ) (name : List ℕ) (count : ℕ) (old new : DeskState) : Type 0 where
+  pub reached : Reads (fetched slot name count) old new
+  pub ends : new.ends ≤ old.ends + 1
 
 -- the outcome of an OPB text's fault
 abbrev pub opb_refusal : OpbFault → Outcome
@@ -82,16 +87,16 @@ pub data RefusesFile (file : File) : Outcome → Type 0 where
 abbrev pub HasText : List ℕ → (List ℕ → Type 0) → DeskState → Type 0
 HasText name P desk = IfTold desk (λ t. (text : List ℕ) × (t.shelf name ≡ Some text) × P text)
 
--- A read failed: before the file was open, or in its bytes.
+-- A read failed: before the file was open, or in its bytes, whose end was met once at most.
 pub data StopsFetching (slot : ℕ) (name : List ℕ) (old new : DeskState) : Type 0 where
-  not_open : FailsToRead same old new → StopsFetching slot name old new
-  in_text : (count : ℕ) → FailsToRead (fetched slot name count) old new → StopsFetching slot name old new
+  not_open : FailsToRead same old new → new.ends ≤ old.ends + 1 → StopsFetching slot name old new
+  in_text : (count : ℕ) → FailsToRead (fetched slot name count) old new → new.ends ≤ old.ends + 1 → StopsFetching slot name old new
 
 -- How reading a text ended without what it says: a read failed, memory was wanting, or the text is refused.
 pub data StopsReading (file : File) (slot : ℕ) (name : List ℕ) (refuses_text : List ℕ → Outcome → Type 0) (old new : DeskState) : Outcome → Type 0 where
   not_read : StopsFetching slot name old new → StopsReading file slot name refuses_text old new outcome.ReadFault
-  no_memory : (count : ℕ) → Reaches (fetched slot name count) old new → StopsReading file slot name refuses_text old new outcome.NoMemory
-  refused : (count : ℕ) (answer : Outcome) → RefusesFile file answer → Reaches (fetched slot name count) old new → HasText name (λ text. refuses_text text answer) old → StopsReading file slot name refuses_text old new answer
+  no_memory : (count : ℕ) → Fetches slot name count old new → StopsReading file slot name refuses_text old new outcome.NoMemory
+  refused : (count : ℕ) (answer : Outcome) → RefusesFile file answer → Fetches slot name count old new → HasText name (λ text. refuses_text text answer) old → StopsReading file slot name refuses_text old new answer
 
 -- the files of a problem were made and ended, and these words said
 abbrev pub stored : Options → Problem → FileNames → List ℕ → View → View
@@ -118,7 +123,7 @@ pub data LacksToStore (o : Options) (p : Problem) (names : FileNames) (desk : De
 
 -- so many bytes of the file were read, of those that it has
 pub record FetchesPart (slot : ℕ) (name : List ℕ) (count : ℕ) (old new : DeskState) : Type 0 where
-  pub reached : Reaches (fetched slot name count) old new
+  pub reached : Fetches slot name count old new
   pub on_shelf : IfTold old (λ t. (text : List ℕ) × (t.shelf name ≡ Some text) × (count ≤ length text))
 
 -- more bytes than these were read

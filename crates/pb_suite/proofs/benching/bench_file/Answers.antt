@@ -11,4 +11,4 @@ use Rattle.pb_suite.proofs.benching.bench_file.Goals as goal
 pub returns-in_default : goal.returns-in_default
 returns-in_default g c =
     let a = g.D.Desk.state c.args.desk.now in
-    bare_memory (owed_bench (as_bench_words c.args.asked.now)) a a (goes_by nothing same a a by_same (begin same a (λ v. refl)))
+    bare_memory (owed_bench (as_bench_words c.args.asked.now)) a a (goes_by 0 nothing same a a (by_same 0) (begin same a (λ v. refl)))

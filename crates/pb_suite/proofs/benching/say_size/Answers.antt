@@ -17,7 +17,7 @@ use Rattle.pb_suite.proofs.Says.{telling_obeys}
 use Rattle.pb_suite.proofs.benching.say_size.Goals as goal
 
 pub returns-in-Err-NoMemory : goal.returns-in-Err-NoMemory
-returns-in-Err-NoMemory g c = bare_memory (owed_bench (as_bench_words c.args.asked.now)) (g.D.Desk.state c.args.desk.now) (g.D.Desk.state c.args.desk.now) (stays (g.D.Desk.state c.args.desk.now))
+returns-in-Err-NoMemory g c = bare_memory (owed_bench (as_bench_words c.args.asked.now)) (g.D.Desk.state c.args.desk.now) (g.D.Desk.state c.args.desk.now) (stays 0 (g.D.Desk.state c.args.desk.now))
 
 pub returns-in-Err-Limit : goal.returns-in-Err-Limit
 returns-in-Err-Limit g c =
@@ -27,7 +27,7 @@ returns-in-Err-Limit g c =
     let which = c.in-Err-Limit.which in
     let over = subst (λ (o : Options). IsOver which o p) c.default-options.ensures (c.in-Err-Limit.ensures.limit which (ap Err c.in-Err-Limit.field-0-is)) in
     subst (λ (k : LimitKind). Obeys (owed_bench w) a a (outcome.Limit None k None)) (sym c.in-Err-Limit.which-is)
-    (is_refused (owed_bench w) a a (outcome.Limit None which None) (stays a) tt (bench_over w p a c.requires.reads which over))
+    (is_refused (owed_bench w) a a (outcome.Limit None which None) (stays 0 a) tt (bench_over w p a c.requires.reads which over))
 
 pub say_summary-requires-clause-encodable : goal.say_summary-requires-clause-encodable
 say_summary-requires-clause-encodable g c = c.in-Ok.ensures.encodable

@@ -3,7 +3,7 @@ use Rattle.pb_desk.specs.TwoSlots.{TakesBoth}
 use Rattle.pb_check.specs.declared.verdict.Verdict.{Verdict}
 use Rattle.pb_check.specs.Walk.{Walk}
 use Rattle.pb_words.specs.CheckWords.{as_check_words}
-use Rattle.pb_suite.specs.Obeying.{Obeys}
+use Rattle.pb_suite.specs.Obeying.{ObeysWithin}
 use Rattle.pb_suite.specs.OwedCheck.{owed_check}
 use Rattle.pb_suite.proofs.OwedChecks.{accepted_obeys, check_checks, rejected_obeys, stopped_obeys}
 use Rattle.pb_suite.proofs.checking.compare.Goals as goal
@@ -13,7 +13,7 @@ returns-in-Err g c =
     let w = as_check_words c.args.asked.now in
     let d = g.D.Desk.state c.args.desk.now in
     let e = g.D.Desk.state c.check.new.desk in
-    subst (Obeys (owed_check w) d e) (sym c.check_refusal.ensures)
+    subst (ObeysWithin (owed_check w) 2 d e) (sym c.check_refusal.ensures)
     (stopped_obeys w c.args.problem.now d e c.requires.posed c.requires.both (owed_check w) (check_checks w) c.in-Err.fault c.in-Err.ensures.stopped c.in-Err.ensures.named (λ steady is. c.in-Err.ensures.steady steady (ap Err is)))
 
 pub returns-in-Ok-Rejected : goal.returns-in-Ok-Rejected

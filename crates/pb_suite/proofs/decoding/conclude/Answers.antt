@@ -9,11 +9,11 @@ use Rattle.pb_suite.proofs.decoding.conclude.Goals as goal
 pub returns-in-NoModel : goal.returns-in-NoModel
 returns-in-NoModel g c =
     let a = g.D.Desk.state c.args.desk.now in
-    no_model_obeys (as_decode_words c.args.asked.now) c.args.problem.now c.args.model.now a (stays a) c.requires.answered
+    no_model_obeys (as_decode_words c.args.asked.now) c.args.problem.now c.args.model.now a (stays 2 a) c.requires.answered
     (subst (λ (d : Decoded). IsDecoded c.args.problem.now c.args.model.now d) c.in-NoModel.is c.decode.ensures)
 
 pub returns-in-Violates : goal.returns-in-Violates
 returns-in-Violates g c =
     let a = g.D.Desk.state c.args.desk.now in
-    violated_obeys (as_decode_words c.args.asked.now) c.args.problem.now c.args.model.now a (stays a) c.requires.answered c.in-Violates.statement
+    violated_obeys (as_decode_words c.args.asked.now) c.args.problem.now c.args.model.now a (stays 2 a) c.requires.answered c.in-Violates.statement
     (subst (λ (d : Decoded). IsDecoded c.args.problem.now c.args.model.now d) c.in-Violates.is c.decode.ensures)

@@ -1,4 +1,4 @@
-use Rattle.std.proofs.Common.{Err, [], ◌∷◌, ◌∙◌, ap, inl, refl}
+use Rattle.std.proofs.Common.{Err, [], ◌∷◌, ◌∙◌, ap, inl, refl, arith}
 use Rattle.pb_base.specs.declared.file.File.TheVariants.{Opb, Model}
 use Rattle.pb_base.proofs.Members.{Contains-here}
 use Rattle.pb_desk.specs.View.{View}
@@ -6,11 +6,10 @@ use Rattle.pb_words.specs.DecodeWords.{as_decode_words}
 use Rattle.pb_suite.specs.Outputs.{nothing}
 use Rattle.pb_suite.specs.Owed.{Text}
 use Rattle.pb_suite.specs.OwedDecode.{owed_decode}
-use Rattle.pb_suite.specs.OwedDecode.StopsDecode.{bad_problem}
+use Rattle.pb_suite.specs.OwedDecode.StopsDecode.{bad_problem, no_problem}
 use Rattle.pb_suite.specs.Refusals.{RefusesOpb}
-use Rattle.pb_suite.specs.laws.Runs.{fetched}
 use Rattle.pb_suite.proofs.Afterwards.{obeys_after}
-use Rattle.pb_suite.proofs.Going.{by_reading, goes_by}
+use Rattle.pb_suite.proofs.Going.{goes_fetched}
 use Rattle.pb_suite.proofs.OwedDecodes.{answered_by, answered_later, no_answer_obeys}
 use Rattle.pb_suite.proofs.PosedProblems.{posed_by}
 use Rattle.pb_suite.proofs.Refused.{reading_obeys}
@@ -22,11 +21,11 @@ returns-in-Err g c =
     let w = as_decode_words c.args.asked.now in
     let text : Text = record { kind = Opb; name = w.opb } in
     let others = record { kind = Model; name = w.model } ∷ [] in
-    reading_obeys (owed_decode w) 0 text (Contains-here text others) (inl refl) (RefusesOpb w.bound) (λ shelf bytes answer. bad_problem bytes answer) (g.D.Desk.state c.args.desk.now) (g.D.Desk.state c.read_problem.new.desk)
+    reading_obeys (owed_decode w) 0 text (omega arith) (Contains-here text others) (inl refl) (RefusesOpb w.bound) (λ shelf bytes answer. bad_problem bytes answer) (λ shelf none. no_problem none) (g.D.Desk.state c.args.desk.now) (g.D.Desk.state c.read_problem.new.desk)
     c.in-Err.outcome c.in-Err.ensures.stopped (λ steady is. c.in-Err.ensures.steady steady (ap Err is))
 
 pub read_answer-requires-clause-free : goal.read_answer-requires-clause-free
-read_answer-requires-clause-free g c = ap (λ (v : View). v.reading 1) c.in-Ok.ensures.read.1.view ∙ c.requires.closed.reading 1
+read_answer-requires-clause-free g c = ap (λ (v : View). v.reading 1) c.in-Ok.ensures.read.1.reached.view ∙ c.requires.closed.reading 1
 
 -- a solver's text that is not read
 pub returns-in-Err-read_answer : goal.returns-in-Err-read_answer
@@ -37,7 +36,7 @@ returns-in-Err-read_answer g c =
     let b = g.D.Desk.state c.read_problem.new.desk in
     let d = g.D.Desk.state c.read_answer.new.desk in
     let read = c.in-Ok.ensures.read in
-    let goes = goes_by nothing (fetched 0 w.opb read.0) a b (by_reading 0 w.opb read.0) read.1 in
+    let goes = goes_fetched 2 0 w.opb read.0 a b (omega arith) read.1 in
     obeys_after (owed_decode w) a b d goes _
     (no_answer_obeys w p b d (posed_by w.opb w.bound p a b goes c.in-Ok.ensures.poses) c.in-Err-read_answer.outcome c.in-Err-read_answer.ensures.stopped (λ steady is. c.in-Err-read_answer.ensures.steady steady (ap Err is)))
 
@@ -50,8 +49,8 @@ conclude-requires-clause-answered g c =
     let d = g.D.Desk.state c.read_answer.new.desk in
     let read = c.in-Ok.ensures.read in
     let more = c.in-Ok-read_answer.ensures.read in
-    let goes = goes_by nothing (fetched 0 w.opb read.0) a b (by_reading 0 w.opb read.0) read.1 in
-    let goes_on = goes_by nothing (fetched 1 w.model more.0) b d (by_reading 1 w.model more.0) more.1 in
+    let goes = goes_fetched 2 0 w.opb read.0 a b (omega arith) read.1 in
+    let goes_on = goes_fetched 2 1 w.model more.0 b d (omega arith) more.1 in
     answered_later w p c.in-Ok-read_answer.model b d goes_on
     (answered_by w p c.in-Ok-read_answer.model b (posed_by w.opb w.bound p a b goes c.in-Ok.ensures.poses) c.in-Ok-read_answer.ensures.says)
 
@@ -64,5 +63,5 @@ returns g c =
     let e = g.D.Desk.state c.conclude.new.desk in
     let read = c.in-Ok.ensures.read in
     let more = c.in-Ok-read_answer.ensures.read in
-    obeys_after (owed_decode w) a b e (goes_by nothing (fetched 0 w.opb read.0) a b (by_reading 0 w.opb read.0) read.1) _
-    (obeys_after (owed_decode w) b d e (goes_by nothing (fetched 1 w.model more.0) b d (by_reading 1 w.model more.0) more.1) _ c.conclude.ensures)
+    obeys_after (owed_decode w) a b e (goes_fetched 2 0 w.opb read.0 a b (omega arith) read.1) _
+    (obeys_after (owed_decode w) b d e (goes_fetched 2 1 w.model more.0 b d (omega arith) more.1) _ c.conclude.ensures)

@@ -2,12 +2,12 @@ use Rattle.std.proofs.Common.{◌≡◌, ℕ, List, None, length, sym, subst, ar
 use Rattle.std.specs.Prelude.{Some}
 use Rattle.pb_base.specs.declared.file.File.TheVariants.{Model}
 use Rattle.pb_base.specs.declared.limit.LimitKind.TheVariants.{Text}
-use Rattle.pb_desk.specs.Desk.{DeskState, IfTold, Reaches}
+use Rattle.pb_desk.specs.Desk.{DeskState, IfTold}
 use Rattle.pb_model.specs.declared.fault.ModelFault.{ModelFault}
 use Rattle.pb_model.specs.declared.fault.ModelFault.TheVariants as model
 use Rattle.pb_model.specs.ModelReading.{told, IsFaultOf}
 use Rattle.pb_suite.specs.Refusals.{RefusesModel}
-use Rattle.pb_suite.specs.laws.Runs.{fetched, model_refusal, StopsReading}
+use Rattle.pb_suite.specs.laws.Runs.{model_refusal, Fetches, StopsReading}
 use Rattle.pb_suite.specs.laws.Runs.RefusesFile.{token as at_token, limit as at_limit}
 use Rattle.pb_suite.specs.Refusals.RefusesModel.{token, limit}
 use Rattle.pb_suite.specs.laws.Runs.StopsReading.{not_read, no_memory, refused}
@@ -16,7 +16,7 @@ use Rattle.pb_suite.proofs.Texts.{has_text, has_longer}
 use Rattle.pb_suite.proofs.decoding.read_answer.Goals as goal
 
 -- a text that was read whole, and has a fault
-stops_at : (vars : ℕ) (name text : List ℕ) (a b : DeskState) (fault : ModelFault) → Reaches (fetched 1 name (length text)) a b → IfTold a (λ t. t.shelf name ≡ Some text)
+stops_at : (vars : ℕ) (name text : List ℕ) (a b : DeskState) (fault : ModelFault) → Fetches 1 name (length text) a b → IfTold a (λ t. t.shelf name ≡ Some text)
     → IsFaultOf (told vars text) fault → StopsReading Model 1 name (RefusesModel vars) a b (model_refusal fault)
 stops_at vars name text a b (model.Token place e) reached is first =
     refused (length text) _ (at_token place e) reached (has_text a name text (λ xs. RefusesModel vars xs (model_refusal (model.Token place e))) (token place e (first (λ no. cc))) is)

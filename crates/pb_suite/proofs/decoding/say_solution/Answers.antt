@@ -10,7 +10,7 @@ use Rattle.pb_suite.proofs.Says.{saying_obeys}
 use Rattle.pb_suite.proofs.decoding.say_solution.Goals as goal
 
 pub returns : goal.returns
-returns g c = let a = g.D.Desk.state c.args.desk.now in bare_memory (owed_decode (as_decode_words c.args.asked.now)) a a (stays a)
+returns g c = let a = g.D.Desk.state c.args.desk.now in bare_memory (owed_decode (as_decode_words c.args.asked.now)) a a (stays 2 a)
 
 pub returns-in-Ok : goal.returns-in-Ok
 returns-in-Ok g c =

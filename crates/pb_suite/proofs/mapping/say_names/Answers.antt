@@ -10,7 +10,7 @@ use Rattle.pb_suite.proofs.Says.{saying_obeys}
 use Rattle.pb_suite.proofs.mapping.say_names.Goals as goal
 
 pub returns : goal.returns
-returns g c = let a = g.D.Desk.state c.args.desk.now in bare_memory (owed_map (as_map_words c.args.asked.now)) a a (stays a)
+returns g c = let a = g.D.Desk.state c.args.desk.now in bare_memory (owed_map (as_map_words c.args.asked.now)) a a (stays 1 a)
 
 pub returns-in-Ok : goal.returns-in-Ok
 returns-in-Ok g c =

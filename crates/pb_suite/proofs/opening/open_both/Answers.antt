@@ -1,8 +1,8 @@
-use Rattle.std.proofs.Common.{◌∙◌, refl}
+use Rattle.std.proofs.Common.{◌∙◌, refl, arith}
 use Rattle.std.specs.Prelude.{IsNone}
 use Rattle.pb_desk.specs.View.{opened}
 use Rattle.pb_desk.specs.Desk.{same}
-use Rattle.pb_desk.proofs.Steps.{on_err, then, then_fails_to_read}
+use Rattle.pb_desk.proofs.Steps.{as_reads, on_err, then, then_fails_to_read}
 use Rattle.pb_suite.specs.Outputs.{nothing}
 use Rattle.pb_suite.specs.laws.Opening.{opened_both}
 use Rattle.pb_suite.specs.laws.Opening.StopsOpening.{no_cnf, no_proof}
@@ -12,7 +12,7 @@ use Rattle.pb_suite.proofs.Opened.{have_both}
 use Rattle.pb_suite.proofs.opening.open_both.Goals as goal
 
 pub returns-in_err-open-clause-failed : goal.returns-in_err-open-clause-failed
-returns-in_err-open-clause-failed g c = on_err c.from_residual.result (no_cnf c.in_err-open.ensures.failed c.in_err-open.ensures.steady)
+returns-in_err-open-clause-failed g c = on_err c.from_residual.result (no_cnf c.in_err-open.ensures.failed c.in_err-open.ensures.no_end c.in_err-open.ensures.steady)
 
 pub returns-in_err-open-2-clause-failed : goal.returns-in_err-open-2-clause-failed
 returns-in_err-open-2-clause-failed g c =
@@ -22,9 +22,9 @@ returns-in_err-open-2-clause-failed g c =
     let b = g.D.Desk.state c.«open».new.self in
     let d = g.D.Desk.state c.open-2.new.self in
     let first = c.in_ok-open.ensures.ok in
-    let goes = goes_by nothing (opened 1 cnf) a b (by_opened 1 cnf) first in
+    let goes = goes_by 2 nothing (opened 1 cnf) a b (by_opened 2 1 cnf (omega arith)) first in
     on_err c.from_residual-in_err-open-2.result
-    (no_proof (then_fails_to_read (opened 1 cnf) same (opened 1 cnf) a b d (λ v. refl) first c.in_err-open-2.ensures.failed)
+    (no_proof (then_fails_to_read (opened 1 cnf) same (opened 1 cnf) a b d (λ v. refl) (as_reads (opened 1 cnf) a b first) c.in_err-open-2.ensures.failed) (c.in_err-open-2.ensures.no_end ∙ first.ends)
     (λ steady. shelf_was a b goes (λ shelf. IsNone (shelf proof)) (c.in_err-open-2.ensures.steady (goes.adds.steady ∙ steady))))
 
 pub returns-clause-opened : goal.returns-clause-opened

@@ -5,7 +5,7 @@ use Rattle.pb_base.specs.declared.literal.Lit.{Lit}
 use Rattle.pb_unit.specs.States.{EngineState, standing}
 use Rattle.pb_unit.specs.Trails.{Held}
 use Rattle.pb_unit.proofs.Standing.{standing_all}
-use Rattle.pb_suite.specs.laws.Reaching.{held_to, AreReachedOver, IsUpTo, OfLit}
+use Rattle.pb_unit.specs.Reaching.{held_to, AreReachedOver, IsUpTo, OfLit}
 use Rattle.pb_suite.proofs.Probed.{conflict_held, reached_held, within_most}
 use Rattle.pb_suite.proofs.reaching.held_by_engine.Goals as goal
 

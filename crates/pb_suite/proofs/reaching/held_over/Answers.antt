@@ -8,7 +8,7 @@ use Rattle.pb_unit.specs.Outcomes.{AnswersOf}
 use Rattle.pb_unit.specs.States.{given_over}
 use Rattle.pb_unit.specs.Trails.{Held}
 use Rattle.pb_unit.proofs.Standing.{standing_all}
-use Rattle.pb_suite.specs.laws.Reaching.{IsUpTo, OfLit}
+use Rattle.pb_unit.specs.Reaching.{IsUpTo, OfLit}
 use Rattle.pb_suite.proofs.Assuming.{ascending_consistent}
 use Rattle.pb_suite.proofs.Probed.{conflict_else, reached_held, within_most}
 use Rattle.pb_suite.proofs.reaching.held_over.Goals as goal

@@ -1,6 +1,6 @@
 use Rattle.std.proofs.lemmas.List.Elements.{All-weaker}
-use Rattle.pb_suite.specs.laws.Reaching.{IsUpTo, OfLit}
-use Rattle.pb_suite.proofs.Greatest.{up_to}
+use Rattle.pb_unit.specs.Reaching.{IsUpTo, OfLit}
+use Rattle.pb_unit.proofs.UpTo.{up_to}
 use Rattle.pb_suite.proofs.reaching.modest_greatest.Goals as goal
 
 pub returns-clause-up_to : goal.returns-clause-up_to

@@ -1,5 +1,5 @@
 use Rattle.std.proofs.Common.{sym, subst}
-use Rattle.pb_suite.specs.laws.Reaching.{AreSorted}
+use Rattle.pb_unit.specs.Reaching.{AreSorted}
 use Rattle.pb_suite.proofs.Probed.{clauses_answer}
 use Rattle.pb_suite.proofs.reaching.reached.Goals as goal
 

@@ -3,10 +3,10 @@ use Rattle.std.specs.Prelude.{All}
 use Rattle.pb_base.specs.declared.literal.Lit.{Lit}
 use Rattle.pb_norm.specs.Constraints.{Constraint}
 use Rattle.pb_norm.specs.Propagation.{Conflict}
-use Rattle.pb_suite.specs.laws.Reaching.{AreAscending, AreReachedOver, IsUpTo, OfConstraint, OfLit}
-use Rattle.pb_suite.specs.laws.Renaming.{name_at, number_in, renamed, renamed_lit}
-use Rattle.pb_suite.proofs.Numbers.{names_few}
-use Rattle.pb_suite.proofs.Numbered.{conflict_named, found_places, numbered_ascending, numbered_constraints, numbered_lits, reached_named}
+use Rattle.pb_unit.specs.Reaching.{AreAscending, AreReachedOver, IsUpTo, OfConstraint, OfLit}
+use Rattle.pb_unit.specs.Renaming.{name_at, number_in, renamed, renamed_lit}
+use Rattle.pb_unit.proofs.Numbers.{names_few}
+use Rattle.pb_unit.proofs.Numbered.{conflict_named, found_places, numbered_ascending, numbered_constraints, numbered_lits, reached_named}
 use Rattle.pb_suite.proofs.reaching.reached_by_names.Goals as goal
 
 pub overflow_cast-names : goal.overflow_cast-names

@@ -1,7 +1,7 @@
 use Rattle.std.proofs.Common.{ℕ, List, subst, sym}
 use Rattle.std.specs.Prelude.{Contains}
-use Rattle.pb_suite.specs.laws.Renaming.{all_vars, AreNamed}
-use Rattle.pb_suite.proofs.Numbers.{all_named, of_constraints, of_lits}
+use Rattle.pb_unit.specs.Renaming.{all_vars, AreNamed}
+use Rattle.pb_unit.proofs.Numbers.{all_named, of_constraints, of_lits}
 use Rattle.pb_suite.proofs.reaching.reached_by_places.Goals as goal
 
 pub reached_by_names-requires-clause-named : goal.reached_by_names-requires-clause-named

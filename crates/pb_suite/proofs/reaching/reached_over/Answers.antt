@@ -1,4 +1,4 @@
-use Rattle.pb_suite.specs.laws.Reaching.{AreUpTo}
+use Rattle.pb_unit.specs.Reaching.{AreUpTo}
 use Rattle.pb_suite.proofs.reaching.reached_over.Goals as goal
 
 pub reached_within-requires-clause-few : goal.reached_within-requires-clause-few

@@ -1,5 +1,5 @@
 use Rattle.std.proofs.Common.{subst, sym}
-use Rattle.pb_suite.specs.laws.Reaching.{held_to, AreReachedOver}
+use Rattle.pb_unit.specs.Reaching.{held_to, AreReachedOver}
 use Rattle.pb_suite.proofs.reaching.reached_within.Goals as goal
 
 pub returns-in-None : goal.returns-in-None

@@ -1,4 +1,4 @@
-use Rattle.std.proofs.Common.{Err, Ok, ◌∙◌, ap, sym, subst}
+use Rattle.std.proofs.Common.{arith, Err, Ok, ◌∙◌, ap, sym, subst}
 use Rattle.pb_desk.specs.View.{View}
 use Rattle.pb_desk.specs.Desk.{IfTold}
 use Rattle.pb_desk.specs.TwoSlots.{TakesBoth}
@@ -6,9 +6,10 @@ use Rattle.pb_check.specs.declared.verdict.Verdict.{Verdict}
 use Rattle.pb_check.specs.KeptClauses.{IsKept}
 use Rattle.pb_check.specs.Walk.{Walk}
 use Rattle.pb_words.specs.RefuteWords.{as_refute_words}
-use Rattle.pb_suite.specs.Obeying.{Obeys}
+use Rattle.pb_suite.specs.Obeying.{ObeysWithin}
 use Rattle.pb_suite.specs.OwedRefute.{checked_words, owed_refute, IsAccepted}
 use Rattle.pb_suite.proofs.Afterwards.{obeys_after}
+use Rattle.pb_suite.proofs.Endings.{within_more}
 use Rattle.pb_suite.proofs.Going.{shelf_is_if}
 use Rattle.pb_suite.proofs.OwedChecks.{goes_both, rejected_obeys, stopped_obeys}
 use Rattle.pb_suite.proofs.OwedRefutes.{accepted_so, refute_checks}
@@ -19,8 +20,8 @@ returns-in-Err g c =
     let w = as_refute_words c.args.asked.now in
     let d = g.D.Desk.state c.args.desk.now in
     let e = g.D.Desk.state c.check_kept.new.desk in
-    subst (Obeys (owed_refute w) d e) (sym c.check_refusal.ensures)
-    (stopped_obeys (checked_words w) c.args.problem.now d e c.requires.posed c.requires.both (owed_refute w) (refute_checks w) c.in-Err.fault c.in-Err.ensures.stopped c.in-Err.ensures.named (λ steady is. c.in-Err.ensures.steady steady (ap Err is)))
+    subst (ObeysWithin (owed_refute w) 3 d e) (sym c.check_refusal.ensures)
+    (within_more (owed_refute w) d e 2 3 _ (omega arith) (stopped_obeys (checked_words w) c.args.problem.now d e c.requires.posed c.requires.both (owed_refute w) (refute_checks w) c.in-Err.fault c.in-Err.ensures.stopped c.in-Err.ensures.named (λ steady is. c.in-Err.ensures.steady steady (ap Err is))))
 
 pub follow-requires-clause-free : goal.follow-requires-clause-free
 follow-requires-clause-free g c = ap (λ (v : View). v.reading 3) c.in-Ok.ensures.verdict.reached.view ∙ c.requires.lrat_free
@@ -33,7 +34,7 @@ follow-requires-clause-accepted g c =
     let e = g.D.Desk.state c.check_kept.new.desk in
     let found = c.in-Ok.found in
     let walk = subst (λ (v : Verdict). TakesBoth 1 2 (λ x y. Walk p x y (Ok v)) d e) c.in-Accepted.is c.in-Ok.ensures.verdict in
-    shelf_is_if d e (goes_both (checked_words w) p d e c.requires.posed c.requires.both _ walk) (λ shelf. IsAccepted shelf w found.1 found.2)
+    shelf_is_if d e (goes_both (checked_words w) p d e c.requires.posed c.requires.both 4 _ walk) (λ shelf. IsAccepted shelf w found.1 found.2)
     (accepted_so w p found.1 found.2 d e c.requires.posed c.requires.both walk (subst (λ (v : Verdict). IfTold d (λ t. IsKept v (t.left 1) found.1 found.2)) c.in-Accepted.is c.in-Ok.ensures.kept))
 
 pub returns-in-Accepted : goal.returns-in-Accepted
@@ -42,7 +43,7 @@ returns-in-Accepted g c =
     let p = c.args.problem.now in
     let d = g.D.Desk.state c.args.desk.now in
     let e = g.D.Desk.state c.check_kept.new.desk in
-    obeys_after (owed_refute w) d e (g.D.Desk.state c.follow.new.desk) (goes_both (checked_words w) p d e c.requires.posed c.requires.both _ c.in-Ok.ensures.verdict) c.follow.result c.follow.ensures
+    obeys_after (owed_refute w) d e (g.D.Desk.state c.follow.new.desk) (goes_both (checked_words w) p d e c.requires.posed c.requires.both 4 _ c.in-Ok.ensures.verdict) c.follow.result c.follow.ensures
 
 pub returns-in-Rejected : goal.returns-in-Rejected
 returns-in-Rejected g c =
@@ -50,5 +51,5 @@ returns-in-Rejected g c =
     let p = c.args.problem.now in
     let d = g.D.Desk.state c.args.desk.now in
     let e = g.D.Desk.state c.check_kept.new.desk in
-    rejected_obeys (checked_words w) p d e c.requires.posed c.requires.both (owed_refute w) (refute_checks w) c.in-Rejected.line c.in-Rejected.denied
-    (subst (λ (v : Verdict). TakesBoth 1 2 (λ x y. Walk p x y (Ok v)) d e) c.in-Rejected.is c.in-Ok.ensures.verdict)
+    within_more (owed_refute w) d e 2 3 _ (omega arith) (rejected_obeys (checked_words w) p d e c.requires.posed c.requires.both (owed_refute w) (refute_checks w) c.in-Rejected.line c.in-Rejected.denied
+    (subst (λ (v : Verdict). TakesBoth 1 2 (λ x y. Walk p x y (Ok v)) d e) c.in-Rejected.is c.in-Ok.ensures.verdict))

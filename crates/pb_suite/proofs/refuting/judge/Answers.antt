@@ -1,8 +1,9 @@
-use Rattle.std.proofs.Common.{◌∙◌, ap, refl, sym, subst}
+use Rattle.std.proofs.Common.{◌∙◌, ap, refl, sym, subst, arith}
 use Rattle.std.specs.Prelude.{IsTrue}
 use Rattle.pb_desk.specs.View.{View}
 use Rattle.pb_words.specs.RefuteWords.{as_refute_words}
 use Rattle.pb_suite.specs.OwedRefute.{checked_words, owed_refute}
+use Rattle.pb_suite.proofs.Endings.{within_more}
 use Rattle.pb_suite.proofs.OwedChecks.{opened_obeys, still_posed, unopened_obeys}
 use Rattle.pb_suite.proofs.OwedRefutes.{refute_checks}
 use Rattle.pb_suite.proofs.refuting.judge.Goals as goal
@@ -10,7 +11,7 @@ use Rattle.pb_suite.proofs.refuting.judge.Goals as goal
 pub returns-in-Err : goal.returns-in-Err
 returns-in-Err g c =
     let w = as_refute_words c.args.asked.now in
-    unopened_obeys (checked_words w) (owed_refute w) (refute_checks w) (g.D.Desk.state c.args.desk.now) (g.D.Desk.state c.open_both.new.desk) c.in-Err.ensures.failed
+    within_more (owed_refute w) (g.D.Desk.state c.args.desk.now) (g.D.Desk.state c.open_both.new.desk) 0 3 _ (omega arith) (unopened_obeys (checked_words w) (owed_refute w) (refute_checks w) c.args.problem.now (g.D.Desk.state c.args.desk.now) (g.D.Desk.state c.open_both.new.desk) c.requires.posed c.in-Err.ensures.failed)
 
 pub compare-requires-clause-cnf_open : goal.compare-requires-clause-cnf_open
 compare-requires-clause-cnf_open g c = subst (λ (v : View). IsTrue (v.reading 1)) (sym c.in-Ok.ensures.opened.view) refl
@@ -31,4 +32,4 @@ compare-requires-clause-both g c = c.in-Ok.ensures.found
 pub returns-in-Ok : goal.returns-in-Ok
 returns-in-Ok g c =
     let w = as_refute_words c.args.asked.now in
-    opened_obeys (checked_words w) (g.D.Desk.state c.args.desk.now) (g.D.Desk.state c.open_both.new.desk) c.in-Ok.ensures.opened (owed_refute w) (g.D.Desk.state c.compare.new.desk) c.compare.result c.compare.ensures
+    opened_obeys (checked_words w) (g.D.Desk.state c.args.desk.now) (g.D.Desk.state c.open_both.new.desk) c.in-Ok.ensures.opened (owed_refute w) (omega arith) 3 (g.D.Desk.state c.compare.new.desk) c.compare.result c.compare.ensures

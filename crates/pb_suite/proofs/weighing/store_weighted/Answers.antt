@@ -1,6 +1,6 @@
 use Rattle.std.proofs.Common.{Err, ap, subst, sym}
 use Rattle.pb_words.specs.WcnfWords.{as_wcnf_words}
-use Rattle.pb_suite.specs.Obeying.{Obeys}
+use Rattle.pb_suite.specs.Obeying.{ObeysWithin}
 use Rattle.pb_suite.specs.OwedWcnf.{owed_wcnf}
 use Rattle.pb_suite.proofs.OwedWcnfs.{summary_obeys, unmade_obeys}
 use Rattle.pb_suite.proofs.weighing.store_weighted.Goals as goal
@@ -11,7 +11,7 @@ returns-in-Err g c =
     let p = c.args.problem.now in
     let a = g.D.Desk.state c.args.desk.now in
     let b = g.D.Desk.state c.weighted.new.desk in
-    subst (Obeys (owed_wcnf w) a b) (sym c.outcome_of.ensures)
+    subst (ObeysWithin (owed_wcnf w) 0 a b) (sym c.outcome_of.ensures)
     (unmade_obeys w p a c.requires.posed (g.met.D.Desk.steady_tells c.args.desk.now) b c.in-Err.fault (λ k is. c.in-Err.ensures.limit k (ap Err is)) (λ is. c.in-Err.ensures.write_fault (ap Err is))
     (λ is. c.in-Err.ensures.no_memory (ap Err is)) (λ steady is. c.in-Err.ensures.steady steady (ap Err is)))
 

@@ -1,0 +1,5 @@
+use Rattle.pb_suite.proofs.OneDues.{no_two_due}
+use Rattle.pb_suite.proofs.laws.no_two_due.Goals as goal
+
+pub returns : goal.returns
+returns c = no_two_due

@@ -1,9 +1,0 @@
-use Rattle.std.proofs.Common.{arith}
-use Rattle.pb_suite.specs.laws.Renaming.{name_at, renamed_lit}
-use Rattle.pb_suite.proofs.Pushed.{map_next}
-use Rattle.pb_suite.proofs.numbering.named_lits.Goals as goal
-
-pub loop-lit-preserved : goal.loop-lit-preserved
-loop-lit-preserved c =
-    map_next (renamed_lit (name_at c.args.names.now)) c.args.lits.now c.loop-lit.lit-index c.lit-item.result c.loop-lit.made.items c.push.new.self.items c.named.result (omega arith) c.lit-item.is c.loop-lit.invariant c.in_ok-push.ensures.items
-    c.named.ensures
