@@ -20,16 +20,17 @@ fn put_file(alloc: Global, files: &mut Shelf, name: &str, text: &[u8]) -> Result
     Ok(())
 }
 
-// The files `a`, `b` and `c` of these texts.
-fn put_files(alloc: Global, files: &mut Shelf, texts: [&[u8]; 3]) -> Result<(), NoMemory> {
-    let [first, second, third] = texts;
+// The files `a`, `b`, `c` and `l` of these texts.
+fn put_files(alloc: Global, files: &mut Shelf, texts: [&[u8]; 4]) -> Result<(), NoMemory> {
+    let [first, second, third, fourth] = texts;
     put_file(alloc, files, "a", first)?;
     put_file(alloc, files, "b", second)?;
-    put_file(alloc, files, "c", third)
+    put_file(alloc, files, "c", third)?;
+    put_file(alloc, files, "l", fourth)
 }
 
 // The same. A run that reads fewer does not open the others.
-fn files_of(alloc: Global, texts: [&[u8]; 3]) -> Result<Shelf, NoMemory> {
+fn files_of(alloc: Global, texts: [&[u8]; 4]) -> Result<Shelf, NoMemory> {
     let mut files = Seq::new(alloc);
     put_files(alloc, &mut files, texts)?;
     Ok(files)
@@ -40,7 +41,7 @@ fn files_of(alloc: Global, texts: [&[u8]; 3]) -> Result<Shelf, NoMemory> {
 fn run_on(
     alloc: Global,
     words: &str,
-    texts: [&[u8]; 3],
+    texts: [&[u8]; 4],
     call: u64,
     piece: usize,
     room: usize,

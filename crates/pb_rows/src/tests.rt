@@ -9,6 +9,7 @@ mod maps;
 mod probes;
 mod refuses;
 mod refutes;
+mod sizes;
 mod tables;
 mod wcnfs;
 mod words;
@@ -120,9 +121,25 @@ fn each_encoded(rt: &impl Abort, alloc: Global, cases: &[(&str, &str, &str, &str
     }
 }
 
+// With these words, one file is made of the text, and this is said.
+fn is_sized(alloc: Global, words: &str, text: &str, said: &str) -> bool {
+    match run_freely(alloc, words, text.as_bytes()) {
+        Ok(run) => made_by(alloc, &run).is_some() && run.desk.said() == said.as_bytes(),
+        Err(_) => false,
+    }
+}
+
+// With each of these words, one file is made of the text, and this is said.
+fn each_sized(rt: &impl Abort, alloc: Global, cases: &[(&str, &str, &str)]) {
+    for &(words, text, said) in cases {
+        let is_due = is_sized(alloc, words, text, said);
+        assert_due(rt, is_due, words, text);
+    }
+}
+
 // A run with room for long texts.
 fn run_widely(alloc: Global, words: &str, text: &[u8]) -> Option<Run> {
-    run_with(alloc, words, text, Ids::new(alloc), 4096, 1 << 23).ok()
+    run_with(alloc, words, text, Ids::new(alloc), 4096, 1 << 20).ok()
 }
 
 // What is told of the problem `a`, the CNF `c`, the derivation `p` and the refutation `l`, which `check` does not open.

@@ -230,6 +230,29 @@ fn constraints_come_and_go(rt: HostRuntime) {
     assert_found(&rt, found, expected);
 }
 
+// What 2 x1 + x2 >= 2 reaches alone, beside ~x1, and once it is gone.
+fn a_forced_literal_comes_and_goes(alloc: Global, engine: &mut Engine) -> Option<String>
+    requires { engine.old.vars ≡ 3 }
+{
+    let alone = alone(alloc, engine)?;
+    let place = add(alloc, engine, "1 ~x1 >= 1 ;")?;
+    let beside = propagated(alloc, engine, 3)?;
+    let without = without(alloc, engine)?;
+    format!(in alloc; "{alone}; {place}; {beside}; {without}").ok()
+}
+
+fn all_of_a_forced_literal(alloc: Global) -> Option<String> {
+    let mut engine = engine_of(alloc, 3, "2 x1 1 x2 >= 2 ;")?;
+    a_forced_literal_comes_and_goes(alloc, &mut engine)
+}
+
+#[test]
+fn a_literal_is_forced_and_refused(rt: HostRuntime) {
+    let found = all_of_a_forced_literal(rt.alloc());
+    let expected = " x1; Some(1); 1; conflict; (true, false, false, None);  ~x1";
+    assert_found(&rt, found, expected);
+}
+
 // ---- rounds over all constraints, with each slack computed anew, are the definition's program
 
 fn value(values: &[Option<bool>], lit: Lit) -> Option<bool> {

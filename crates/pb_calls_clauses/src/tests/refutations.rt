@@ -61,6 +61,22 @@ const THREE: &str = "x1 x2\n~x1\n~x2";
 
 const GREAT: &str = "x2147483647 x65536\n~x2147483647\n~x65536 x65535\n~x65535";
 
+// What is told of a clause of 70,000 literals, the first variable again and again, and of the line that it leads to.
+fn told_of_a_long_clause(alloc: Global) -> Option<String> {
+    let mut lines = "4".to_string(alloc).ok()?;
+    for _ in 0..70_000 {
+        lines.push_str(" 1").ok()?;
+    }
+    lines.push_str(" 0 3 1 0\n5 0 4 2 0").ok()?;
+    told_of(alloc, 2, THREE, lines.as_str())
+}
+
+#[test]
+fn a_long_clause_is_taken(rt: HostRuntime) {
+    let found = told_of_a_long_clause(rt.alloc());
+    assert_found(&rt, found, "refuted");
+}
+
 #[test]
 fn lines_are_taken_denied_or_refused(rt: HostRuntime) {
     each_told(
@@ -175,4 +191,21 @@ fn refutations_are_read(rt: HostRuntime) {
         let found = read(rt.alloc(), text);
         assert_found(&rt, found, expected);
     }
+}
+
+// The same of a text over a desk that gives ten bytes at once, and whose third call fails.
+fn read_twice(alloc: Global, text: &str) -> Option<String> {
+    let mut desk = desk_with(alloc, text.as_bytes(), 3, 10).ok()?;
+    refuted_on(alloc, &mut desk)
+}
+
+#[test]
+fn nothing_is_read_behind_a_denied_line(rt: HostRuntime) {
+    let found = read_twice(rt.alloc(), "4 0 2 3 0\n4 0 2 3 1 0\n");
+    assert_found(&rt, found, "NotRefuted { line: 1, why: NoConflict }");
+    let found = read_twice(rt.alloc(), "4 0 2 3 9\n4 0 2 3 1 0\n");
+    let expected = "Token { place: Place { line: 1, column: 10 }, expected: LratHint }";
+    assert_found(&rt, found, expected);
+    let found = read_twice(rt.alloc(), "c 0 2 3 9\n4 0 2 3 1 0\n");
+    assert_found(&rt, found, "Failed");
 }

@@ -5,7 +5,7 @@ ghost use Rattle.pb_norm.specs.Products.{loaded_of};
 ghost use Rattle.pb_steps.specs.Steps.{IsRule, IsSpelled};
 
 use super::assert_found;
-use pb_base::{Clause, Problem};
+use pb_base::{Clause, Problem, Var};
 use pb_norm::{Linears, load};
 use pb_opb::read_opb;
 use pb_rules::{Database, RuleFault};
@@ -108,6 +108,25 @@ UnknownVar { var: Var { index: 5 } }\n";
     assert_found(&rt, found, expected);
 }
 
+// More constraints are named than are shown in rounds.
+#[test]
+fn many_constraints_are_named(rt: HostRuntime) {
+    let found = answers_of(
+        rt.alloc(),
+        &[
+            ("rup +1 x1 >= 1 ; 1 1 1 1 1 1 1 1 1", ""),
+            ("rup +1 x2 >= 1 ; 2 1 2 1 2 1 2 1 2", ""),
+            ("rup +3 x2 +2 x3 >= 1 ; 2 2 2 2 2 2 2 2 1", ""),
+            ("rup +1 x1 >= 1 ; 2 2 2 2 2 2 2 2 7", ""),
+        ],
+    );
+    assert_found(
+        &rt,
+        found,
+        "Id(2)\nNotPropagated\nId(3)\nUnknownId { id: 7 }\n",
+    );
+}
+
 fn push_id(alloc: Global, id: Option<u64>, text: &mut String) -> Option<()> {
     let found = format!(in alloc; "{id:?} ").ok()?;
     text.push_str(found.as_str()).ok()
@@ -147,4 +166,30 @@ fn constraints_are_found_by_variables(rt: HostRuntime) {
     assert_found(&rt, all, "None Some(2) Some(2) None ");
     let later = first_ids_of(rt.alloc(), "x2 x3", 3);
     assert_found(&rt, later, "Some(3) Some(3) ");
+}
+
+// The least ids of constraints with x2, from each of three numbers on.
+fn ids_of_the_second(alloc: Global, db: &Database) -> Option<String> {
+    let mut text = String::new(alloc);
+    for from in [1, 2, 4] {
+        push_id(alloc, db.naming(Var::new(2), from), &mut text)?;
+    }
+    Some(text)
+}
+
+// The same of a constraint, behind a literal of it and what is left without that.
+fn ids_of_derived(alloc: Global) -> Option<String> {
+    let mut db = database_of(alloc, "+5 x1 +3 x2 +2 x3 >= 6 ;", 3)?;
+    answers(
+        alloc,
+        &mut db,
+        &[("rup +1 x1 >= 1 ; 1", ""), ("pol 1 x1 w s", "")],
+    )?;
+    ids_of_the_second(alloc, &db)
+}
+
+#[test]
+fn derived_constraints_are_found_by_variables(rt: HostRuntime) {
+    let found = ids_of_derived(rt.alloc());
+    assert_found(&rt, found, "Some(1) Some(3) None ");
 }

@@ -52,3 +52,21 @@ fn three_terms_by_budget(rt: HostRuntime) {
         assert_found(&rt, found, expected);
     }
 }
+
+// At most 600 of the powers of two below 1,024. The greatest counts no more than the 423 that are to be reached.
+const POWERS: &str =
+    "512 ~x1 256 ~x2 128 ~x3 64 ~x4 32 ~x5 16 ~x6 8 ~x7 4 ~x8 2 ~x9 1 ~x10 >= 423 ;";
+
+// The numbers alone.
+fn sizes_of(alloc: Global, text: &str, budget: u64, first: u32) -> Option<String>
+    requires { budget ≤ 10000000 }
+{
+    let built = weighted(alloc, text, budget, first)?;
+    built.lines().next()?.to_string(alloc).ok()
+}
+
+#[test]
+fn each_sum_of_powers_is_a_value(rt: HostRuntime) {
+    let found = sizes_of(rt.alloc(), POWERS, 50000, 11);
+    assert_found(&rt, found, "588 728");
+}

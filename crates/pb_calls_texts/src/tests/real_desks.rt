@@ -12,6 +12,12 @@ use std::fs;
 struct Scripted<'a> {
     answers: &'a [Option<usize>],
     at: usize,
+    output: Option<FileId>,
+}
+
+// The file of this number.
+fn file_of(number: u64) -> Option<FileId> {
+    Some(FileId { device: 1, number })
 }
 
 impl<'a> Scripted<'a> {
@@ -21,10 +27,10 @@ impl<'a> Scripted<'a> {
         answer.ok_or(Failed)
     }
 
-    // The file of this number.
+    // The file of the number that is next.
     fn next_file(&mut self) -> Result<Handle, Failed> {
         let number = self.next()? as u64;
-        let id = Some(FileId { device: 1, number });
+        let id = file_of(number);
         Ok(Handle { number, id })
     }
 
@@ -43,6 +49,12 @@ impl<'a> System for Scripted<'a> {
     ghost use Rattle.std.specs.Prelude.{None};
 
     ghost calls = { λ system. None };
+
+    ghost output = { λ system. system.output };
+
+    fn output(&self) -> Option<FileId> {
+        self.output
+    }
 
     fn open(&mut self, _name: &str) -> Result<Handle, Failed> {
         self.next_file()
@@ -128,22 +140,28 @@ fn answers<D: Desk>(desk: &mut D, asked: &Asked, from: &str, to: &str) -> Result
     }
 }
 
-// What the desk of a system answers that does so by this list.
+// What the desk of a system answers that does so by this list, and whose standard output is its ninth file.
 fn by_list(list: &[Option<usize>], asked: &Asked) -> Result<Answers, Failed> {
     let system = Scripted {
         answers: list,
         at: 0,
+        output: file_of(9),
     };
     answers(&mut RealDesk::new(system), asked, "in", "out")
 }
 
 #[test]
 fn each_answer_is_the_systems(rt: HostRuntime) {
-    let cases: [(Asked, &[Option<usize>], Answers); 5] = [
-        // The file that was opened is not made; another one is, and emptied.
+    let cases: [(Asked, &[Option<usize>], Answers); 6] = [
+        // The file that was opened is not made, nor what standard output is; another one is, and emptied.
         (
             Asked::Reads,
             &[Some(7), Some(3), None, Some(0), Some(7), Some(0)],
+            [Some(3), None, Some(0), None],
+        ),
+        (
+            Asked::Reads,
+            &[Some(7), Some(3), None, Some(0), Some(9), Some(0)],
             [Some(3), None, Some(0), None],
         ),
         (
@@ -176,7 +194,7 @@ fn each_answer_is_the_systems(rt: HostRuntime) {
 
 // What the desk of the system that the test runs on answers.
 fn by_system(rt: &HostRuntime, asked: &Asked, from: &str, to: &str) -> Result<Answers, Failed> {
-    let system = Host::new(rt.alloc(), rt);
+    let system = Host::new(rt);
     answers(&mut RealDesk::new(system), asked, from, to)
 }
 

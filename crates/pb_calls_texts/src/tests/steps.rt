@@ -58,3 +58,24 @@ fn lines_are_written_as_they_are_said(rt: HostRuntime) {
         assert_found(&rt, found, expected, line);
     }
 }
+
+// A line of more than 64 KiB.
+fn long_line(alloc: Global) -> Option<String> {
+    let mut line = "pol 1".to_string(alloc).ok()?;
+    for _ in 0..20_000 {
+        line.push_str(" 1 +").ok()?;
+    }
+    Some(line)
+}
+
+// It is written as it was read.
+fn is_rewritten(alloc: Global) -> Option<bool> {
+    let line = long_line(alloc)?;
+    let found = rewritten(alloc, line.as_str())?;
+    Some(found.as_str().strip_prefix("<") == Some(line.as_str()))
+}
+
+#[test]
+fn a_long_line_is_read(rt: HostRuntime) {
+    assert_eq!(rt; is_rewritten(rt.alloc()), Some(true));
+}

@@ -6,19 +6,19 @@ use pb_runs::{Run, is_silent, refusal_of};
 use std::alloc::Global;
 use std::process::Abort;
 
-// The status of a run, or `-` where it is done and makes and says nothing. A run that is not done makes and says nothing:
+// The status of a run (`a` for 10), or `-` where it is done and makes and says nothing. A run that is not done makes and says nothing:
 // where this is not so, the mark is another.
 fn mark_of(run: &Run) -> char {
     match (run.outcome.status(), is_silent(run)) {
         (0, true) => '-',
         (0, false) => '0',
         (_, false) => '?',
-        (status, true) => char::from_digit(status as u32, 10).unwrap_or('!'),
+        (status, true) => char::from_digit(status as u32, 16).unwrap_or('!'),
     }
 }
 
 // The mark of a run over these texts.
-fn mark(alloc: Global, words: &str, texts: [&[u8]; 3]) -> char {
+fn mark(alloc: Global, words: &str, texts: [&[u8]; 4]) -> char {
     match run_on(alloc, words, texts, 0, 4096, 4096) {
         Some(run) => mark_of(&run),
         None => '!',
@@ -26,12 +26,13 @@ fn mark(alloc: Global, words: &str, texts: [&[u8]; 3]) -> char {
 }
 
 // The mark of a run over these texts, of which one is replaced.
-fn mark_with(alloc: Global, words: &str, texts: [&[u8]; 3], at: usize, text: &[u8]) -> char {
-    let [first, second, third] = texts;
+fn mark_with(alloc: Global, words: &str, texts: [&[u8]; 4], at: usize, text: &[u8]) -> char {
+    let [first, second, third, fourth] = texts;
     match at {
-        0 => mark(alloc, words, [text, second, third]),
-        1 => mark(alloc, words, [first, text, third]),
-        _ => mark(alloc, words, [first, second, text]),
+        0 => mark(alloc, words, [text, second, third, fourth]),
+        1 => mark(alloc, words, [first, text, third, fourth]),
+        2 => mark(alloc, words, [first, second, text, fourth]),
+        _ => mark(alloc, words, [first, second, third, text]),
     }
 }
 
@@ -40,10 +41,10 @@ fn put_cuts(
     alloc: Global,
     marks: &mut String,
     words: &str,
-    texts: [&[u8]; 3],
+    texts: [&[u8]; 4],
     at: usize,
 ) -> Option<()>
-    requires { at < 3 }
+    requires { at < 4 }
 {
     let text = texts[at];
     for count in 0..text.len() {
@@ -57,12 +58,12 @@ fn put_cuts(
 fn mark_at(
     alloc: Global,
     words: &str,
-    texts: [&[u8]; 3],
+    texts: [&[u8]; 4],
     at: usize,
     place: usize,
     byte: u8,
 ) -> Option<char>
-    requires { at < 3 }
+    requires { at < 4 }
 {
     let mut bytes = texts[at].to_vec(alloc).ok()?;
     if let Some(found) = bytes.get_mut(place) {
@@ -76,11 +77,11 @@ fn put_replaced(
     alloc: Global,
     marks: &mut String,
     words: &str,
-    texts: [&[u8]; 3],
+    texts: [&[u8]; 4],
     at: usize,
     byte: u8,
 ) -> Option<()>
-    requires { at < 3 }
+    requires { at < 4 }
 {
     for place in 0..texts[at].len() {
         let mark = mark_at(alloc, words, texts, at, place, byte)?;
@@ -94,10 +95,10 @@ fn put_broken(
     alloc: Global,
     marks: &mut String,
     words: &str,
-    texts: [&[u8]; 3],
+    texts: [&[u8]; 4],
     at: usize,
 ) -> Option<()>
-    requires { at < 3 }
+    requires { at < 4 }
 {
     put_cuts(alloc, marks, words, texts, at)?;
     for &byte in b" ;7x\xff" {
@@ -108,8 +109,8 @@ fn put_broken(
 }
 
 // The same, where there is such a text.
-fn broken(alloc: Global, words: &str, texts: [&[u8]; 3], at: usize) -> Option<String> {
-    if at >= 3 {
+fn broken(alloc: Global, words: &str, texts: [&[u8]; 4], at: usize) -> Option<String> {
+    if at >= 4 {
         return None;
     }
     let mut marks = String::new(alloc);
@@ -119,7 +120,7 @@ fn broken(alloc: Global, words: &str, texts: [&[u8]; 3], at: usize) -> Option<St
 
 // With each of these words, the runs over these texts of which one is broken have these marks. A table stands in its call,
 // where it is a constant: one that is made when it runs takes much longer to prove.
-fn each_broken(rt: &impl Abort, alloc: Global, texts: [&[u8]; 3], cases: &[(&str, usize, &str)]) {
+fn each_broken(rt: &impl Abort, alloc: Global, texts: [&[u8]; 4], cases: &[(&str, usize, &str)]) {
     for &(words, at, marks) in cases {
         let found = broken(alloc, words, texts, at);
         assert_found(rt, found, marks, words, at);
@@ -141,7 +142,7 @@ fn encoding(rt: HostRuntime) {
     each_broken(
         &rt,
         rt.alloc(),
-        [opb, b"", b""],
+        [opb, b"", b"", b""],
         &[
             ("pbcnf encode a d", 0, ENCODED),
             ("pbcnf wcnf a d", 0, ENCODED),
@@ -164,7 +165,7 @@ fn a_heavy_bound(rt: HostRuntime) {
     each_broken(
         &rt,
         rt.alloc(),
-        [opb, b"", b""],
+        [opb, b"", b"", b""],
         &[(
             "pbcnf encode a d --at-most=1267650600228229401496703205374",
             0,
@@ -187,7 +188,7 @@ fn mapping(rt: HostRuntime) {
     each_broken(
         &rt,
         rt.alloc(),
-        [opb, b"", b""],
+        [opb, b"", b"", b""],
         &[("pbcnf map a", 0, MAPPED)],
     );
 }
@@ -206,7 +207,7 @@ fn probing(rt: HostRuntime) {
     each_broken(
         &rt,
         rt.alloc(),
-        [cnf, b"", b""],
+        [cnf, b"", b"", b""],
         &[("pbcnf probe a x1", 0, PROBED)],
     );
 }
@@ -234,7 +235,7 @@ fn decoding(rt: HostRuntime) {
     each_broken(
         &rt,
         rt.alloc(),
-        [opb, model, b""],
+        [opb, model, b"", b""],
         &[
             ("pbcnf decode a b", 0, DECODED_PROBLEMS),
             ("pbcnf decode a b", 1, DECODED_MODELS),
@@ -266,7 +267,7 @@ fn decoding_beside_a_bound(rt: HostRuntime) {
     each_broken(
         &rt,
         rt.alloc(),
-        [opb, model, b""],
+        [opb, model, b"", b""],
         &[
             ("pbcnf decode a b --at-most=0", 0, BOUNDED_PROBLEMS),
             ("pbcnf decode a b --at-most=0", 1, BOUNDED_MODELS),
@@ -307,7 +308,7 @@ pol 1 x1 w s\nout 3\nred +1 x4 >= 1 ; x4 -> 1\ndel 1 4\nend\n";
     each_broken(
         &rt,
         rt.alloc(),
-        [opb, cnf, proof],
+        [opb, cnf, proof, b""],
         &[
             ("pbcnf check a b c", 0, CHECKED_PROBLEMS),
             ("pbcnf check a b c", 1, CHECKED_CNFS),
@@ -316,10 +317,32 @@ pol 1 x1 w s\nout 3\nred +1 x4 >= 1 ; x4 -> 1\ndel 1 4\nend\n";
     );
 }
 
+const REFUTED: &str = "\
+aaaaa1111111111aa11111111aa1111111100\n\
+100aa0a010a0a01110100000111010a0a010\n\
+100a11111111111111111111111111111111\n\
+100aaa1111aaa11101110001110111aaa111\n\
+100a11111111111111111111111111111111\n\
+100a11111111111111111111111111111111";
+
+#[test]
+fn refuting(rt: HostRuntime) {
+    let opb: &[u8] = b"+1 x1 +1 x2 >= 1 ;\n+1 ~x1 >= 1 ;\n+1 ~x2 >= 1 ;\n";
+    let cnf: &[u8] = b"p cnf 2 3\n1 2 0\n-1 0\n-2 0\n";
+    let proof: &[u8] = b"pseudo-Boolean derivation profile 1\nf 3\nout 1\nout 2\nout 3\nend\n";
+    let lrat: &[u8] = b"c a\n4 1 0 3 1 0\n5 d 1 3 0\n6 0 4 2 0\n";
+    each_broken(
+        &rt,
+        rt.alloc(),
+        [opb, cnf, proof, lrat],
+        &[("pbcnf refute a b c l", 3, REFUTED)],
+    );
+}
+
 // What is told of a statement of one term too many, which nothing ends.
 fn told_of_many(alloc: Global) -> Option<String> {
     let text = "1 x1 ".repeat(alloc, 1_048_577).ok()?;
-    let texts = [text.as_bytes(), b"", b""];
+    let texts = [text.as_bytes(), b"", b"", b""];
     let run = run_on(alloc, "pbcnf encode a d", texts, 0, 65_536, 4096)?;
     refusal_of(alloc, &run)
 }

@@ -65,7 +65,7 @@ fn moves(bytes: &[u8], piece: usize) -> u64
 }
 
 // How many calls read the first `count` texts: each is opened, and one more read finds its end.
-fn reads_of(texts: [&[u8]; 3], count: usize, piece: usize) -> u64
+fn reads_of(texts: [&[u8]; 4], count: usize, piece: usize) -> u64
     requires { 1 ≤ piece }
 {
     let mut calls: u64 = 0;
@@ -103,7 +103,7 @@ fn status_at(call: u64, reads: u64, writes: u64) -> u8 {
 fn ends(
     alloc: Global,
     words: &str,
-    texts: [&[u8]; 3],
+    texts: [&[u8]; 4],
     call: u64,
     piece: usize,
     status: u8,
@@ -122,7 +122,7 @@ fn ends(
 fn all_end(
     alloc: Global,
     words: &str,
-    texts: [&[u8]; 3],
+    texts: [&[u8]; 4],
     count: usize,
     piece: usize,
     whole: &Run,
@@ -162,7 +162,7 @@ fn fills(run: &Run, whole: &Run, room: usize) -> bool {
 }
 
 // A run in this room fills it.
-fn fills_room(alloc: Global, words: &str, texts: [&[u8]; 3], room: usize, whole: &Run) -> bool {
+fn fills_room(alloc: Global, words: &str, texts: [&[u8]; 4], room: usize, whole: &Run) -> bool {
     match run_on(alloc, words, texts, 0, 4096, room) {
         Some(run) => fills(&run, whole, room),
         None => false,
@@ -170,7 +170,7 @@ fn fills_room(alloc: Global, words: &str, texts: [&[u8]; 3], room: usize, whole:
 }
 
 // Each room up to the one that suffices is tried.
-fn all_fill(alloc: Global, words: &str, texts: [&[u8]; 3], whole: &Run) -> bool {
+fn all_fill(alloc: Global, words: &str, texts: [&[u8]; 4], whole: &Run) -> bool {
     let files = file_of(whole, 0).len().max(file_of(whole, 1).len());
     for room in 0..=files.max(whole.desk.said().len()) {
         if !fills_room(alloc, words, texts, room, whole) {
@@ -185,7 +185,7 @@ fn all_fill(alloc: Global, words: &str, texts: [&[u8]; 3], whole: &Run) -> bool 
 fn is_tried_beside(
     alloc: Global,
     words: &str,
-    texts: [&[u8]; 3],
+    texts: [&[u8]; 4],
     count: usize,
     whole: &Run,
 ) -> bool {
@@ -195,7 +195,7 @@ fn is_tried_beside(
 }
 
 // The same beside the run on a desk that does not hinder it.
-fn is_tried(alloc: Global, words: &str, texts: [&[u8]; 3], count: usize) -> bool {
+fn is_tried(alloc: Global, words: &str, texts: [&[u8]; 4], count: usize) -> bool {
     match run_on(alloc, words, texts, 0, 4096, 4096) {
         Some(whole) => is_tried_beside(alloc, words, texts, count, &whole),
         None => false,
@@ -206,7 +206,7 @@ fn is_tried(alloc: Global, words: &str, texts: [&[u8]; 3], count: usize) -> bool
 // it is a constant: one that is made when it runs takes much longer to prove.
 fn each_tried(rt: &impl Abort, alloc: Global, cases: &[(&str, &str, &str, usize)]) {
     for &(words, first, second, count) in cases {
-        let texts = [first.as_bytes(), second.as_bytes(), b""];
+        let texts = [first.as_bytes(), second.as_bytes(), b"", b""];
         let is_tried = is_tried(alloc, words, texts, count);
         assert!(rt; is_tried, "at {words}");
     }
@@ -263,15 +263,37 @@ fn a_derivation_is_made(rt: HostRuntime) {
 
 // The check of the CNF and the derivation that the run made of the weights is tried.
 fn is_check_tried(alloc: Global, made: &Run) -> bool {
-    let texts = [WEIGHTS.as_bytes(), file_of(made, 0), file_of(made, 1)];
+    let texts = [WEIGHTS.as_bytes(), file_of(made, 0), file_of(made, 1), b""];
     is_tried(alloc, "pbcnf check a b c", texts, 3)
 }
 
 #[test]
 fn a_derivation_is_checked(rt: HostRuntime) {
-    let texts = [WEIGHTS.as_bytes(), b"", b""];
+    let texts = [WEIGHTS.as_bytes(), b"", b"", b""];
     let made = run_on(rt.alloc(), DERIVE, texts, 0, 4096, 4096).expect(&rt, "run");
     let is_tried = is_check_tried(rt.alloc(), &made);
+    assert!(rt; is_tried);
+}
+
+// One of two variables, and neither.
+const NEITHER: &str = "+1 x1 +1 x2 >= 1 ;\n+1 ~x1 >= 1 ;\n+1 ~x2 >= 1 ;\n";
+
+// The refutation of the CNF that the run made of that is tried.
+fn is_refutation_tried(alloc: Global, made: &Run) -> bool {
+    let texts = [
+        NEITHER.as_bytes(),
+        file_of(made, 0),
+        file_of(made, 1),
+        b"4 0 2 3 1 0\n",
+    ];
+    is_tried(alloc, "pbcnf refute a b c l", texts, 4)
+}
+
+#[test]
+fn a_refutation_is_checked(rt: HostRuntime) {
+    let texts = [NEITHER.as_bytes(), b"", b"", b""];
+    let made = run_on(rt.alloc(), DERIVE, texts, 0, 4096, 4096).expect(&rt, "run");
+    let is_tried = is_refutation_tried(rt.alloc(), &made);
     assert!(rt; is_tried);
 }
 
@@ -287,7 +309,7 @@ fn is_not_ended(run: &Run) -> bool {
 // the file is created, written, and then closed.
 #[test]
 fn the_cnf_is_not_ended(rt: HostRuntime) {
-    let texts = [WEIGHTS.as_bytes(), b"", b""];
+    let texts = [WEIGHTS.as_bytes(), b"", b"", b""];
     let run = run_on(rt.alloc(), DERIVE, texts, 6, 4096, 4096).expect(&rt, "run");
     let is_not_ended = is_not_ended(&run);
     assert!(rt; is_not_ended);

@@ -11,6 +11,9 @@ const ONE: &str = "-1 x1 -1 x2 -1 x3 >= -1 ;\n";
 // At most two of four literals.
 const TWO: &str = "+1 ~x1 +1 ~x2 +1 ~x3 +1 ~x4 >= 2 ;\n";
 
+// At most one of nine literals.
+const NINE: &str = "+1 ~x1 +1 ~x2 +1 ~x3 +1 ~x4 +1 ~x5 +1 ~x6 +1 ~x7 +1 ~x8 +1 ~x9 >= 8 ;\n";
+
 #[test]
 fn sums_without_a_family(rt: HostRuntime) {
     each_encoded(
@@ -155,6 +158,43 @@ nothing 0 empty 0 clause 0 pairwise 0 ladder 1 product 0 counter 0 totalizer 0 d
 -3 -7 10 0\n-8 10 0\n-3 -8 0\n-4 -10 0\n",
                 "variables 10 original 4 fresh 6 clauses 13\n\
 nothing 0 empty 0 clause 0 pairwise 0 ladder 0 product 0 counter 1 totalizer 0 diagram 0 tree 0 adder 0\n",
+            ),
+            // The counter needs six fresh variables.
+            (
+                "pbcnf encode --budget 6 --card counter a c",
+                TWO,
+                "p cnf 10 13\n\
+-1 5 0\n-6 0\n-2 7 0\n-5 7 0\n-2 -5 8 0\n-6 8 0\n-2 -6 0\n-3 9 0\n-7 9 0\n\
+-3 -7 10 0\n-8 10 0\n-3 -8 0\n-4 -10 0\n",
+                "variables 10 original 4 fresh 6 clauses 13\n\
+nothing 0 empty 0 clause 0 pairwise 0 ladder 0 product 0 counter 1 totalizer 0 diagram 0 tree 0 adder 0\n",
+            ),
+            (
+                "pbcnf encode --card totalizer a c",
+                TWO,
+                "p cnf 11 14\n\
+-2 5 0\n-1 5 0\n-1 -2 6 0\n-4 7 0\n-3 7 0\n-3 -4 8 0\n-7 9 0\n-8 10 0\n-5 9 0\n\
+-5 -7 10 0\n-5 -8 11 0\n-6 10 0\n-6 -7 11 0\n-11 0\n",
+                "variables 11 original 4 fresh 7 clauses 14\n\
+nothing 0 empty 0 clause 0 pairwise 0 ladder 0 product 0 counter 0 totalizer 1 diagram 0 tree 0 adder 0\n",
+            ),
+            (
+                "pbcnf encode --general diagram a c",
+                WEIGHTS,
+                "p cnf 6 5\n-4 -1 5 0\n-5 6 0\n-5 -2 0\n-6 -3 0\n4 0\n",
+                "variables 6 original 3 fresh 3 clauses 5\n\
+nothing 0 empty 0 clause 0 pairwise 0 ladder 0 product 0 counter 0 totalizer 0 diagram 1 tree 0 adder 0\n",
+            ),
+            // Nine literals are three rows of three columns.
+            (
+                "pbcnf encode --amo product a c",
+                NINE,
+                "p cnf 15 24\n\
+-1 10 0\n-1 13 0\n-2 10 0\n-2 14 0\n-3 10 0\n-3 15 0\n-4 11 0\n-4 13 0\n\
+-5 11 0\n-5 14 0\n-6 11 0\n-6 15 0\n-7 12 0\n-7 13 0\n-8 12 0\n-8 14 0\n\
+-9 12 0\n-9 15 0\n-10 -11 0\n-10 -12 0\n-11 -12 0\n-13 -14 0\n-13 -15 0\n-14 -15 0\n",
+                "variables 15 original 9 fresh 6 clauses 24\n\
+nothing 0 empty 0 clause 0 pairwise 0 ladder 0 product 1 counter 0 totalizer 0 diagram 0 tree 0 adder 0\n",
             ),
             (
                 "pbcnf encode --card totalizer --budget 7 a c",

@@ -41,6 +41,10 @@ fn problems_that_are_refused(rt: HostRuntime) {
             (ENCODE, "+1 ~~a >= 1 ;\n", LITERAL),
             (ENCODE, "+ 1 x1 >= 1 ;\n", START),
             (ENCODE, "+1 x1 >= 1 2 ;\n", "1 pbcnf: OPB 1:12: expected ;"),
+            // The other texts are not there, and are not asked for.
+            ("pbcnf check a c p", "max: +1 x1 ;\n", START),
+            ("pbcnf refute a c p l", "max: +1 x1 ;\n", START),
+            ("pbcnf decode a m", "max: +1 x1 ;\n", START),
             // Texts past a limit.
             (
                 ENCODE,
