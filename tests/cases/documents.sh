@@ -1,0 +1,82 @@
+# The commands that the documents print, run as they stand there, with the output that is printed behind them.
+. "$top/tests/lib.sh"
+
+solvers='cadical kissat cryptominisat5 clasp picosat glucose minisat'
+
+# The tools that a block of commands names and that are not there.
+missing() {
+    local tool any=
+    for tool in $solvers drat-trim python3 cc; do
+        has $tool && continue
+        grep -Eq "(^|[|=] ?|for )$tool( |\$)" "$1" && printf '%s ' $tool
+    done
+    if grep -q 'examples/cheapest' "$1" && ! has cadical; then printf 'cadical '; fi
+    if grep -q 'examples/solve' "$1"; then
+        for tool in $solvers; do
+            has $tool && any=$tool
+        done
+        [ -n "$any" ] || printf 'solver '
+    fi
+}
+
+# complain BLOCK WHY: unless it lacks what a block that was skipped makes.
+complain() {
+    if [ "$skipped" = yes ] && grep -Eq 'read fault|No such file|cannot open' "$1.got"; then
+        skip "$page: $(head -n 1 "$1.sh"): it needs what a block that was skipped makes"
+    else
+        failed "$page: $(head -n 1 "$1.sh"): $2, got $(bytes_of "$1.got")"
+    fi
+}
+
+# prints_all LINES OUTPUT: each line of the one is a line of the other.
+prints_all() {
+    local line
+    while IFS= read -r line; do
+        grep -Fxq -- "$line" "$2" || return 1
+    done <"$1"
+}
+
+# compare BLOCK: what it printed with what the page prints.
+compare() {
+    if [ -e "$1.out" ]; then
+        awk -f "$top/tests/shows.awk" "$1.out" "$1.got"
+        case $? in
+        0) passed ;;
+        2) skip "$page: $(head -n 1 "$1.sh"): this solver finds another solution" ;;
+        *) complain "$1" "wanted $(bytes_of "$1.out")" ;;
+        esac
+    elif [ -e "$1.says" ]; then
+        if prints_all "$1.says" "$1.got"; then passed; else complain "$1" "wanted $(bytes_of "$1.says")"; fi
+    elif grep -q 'pbcnf: ' "$1.got"; then
+        complain "$1" 'wanted no fault line'
+    else
+        passed
+    fi
+}
+
+# run_page PAGE: its blocks, in their order, in a folder with the program and the examples.
+run_page() {
+    local block=1 lacks
+    page=${1#"$top/"}
+    skipped=no
+    mkdir -p page blocks
+    cp -R "$examples" page/examples
+    ln -s "$pbcnf" page/pbcnf
+    awk -v to=blocks -f "$top/tests/blocks.awk" "$1"
+    while [ -e blocks/$block.sh ]; do
+        lacks=$(missing blocks/$block.sh)
+        if [ -n "$lacks" ]; then
+            skip "$page: $(head -n 1 blocks/$block.sh): there is no ${lacks% }"
+            skipped=yes
+        else
+            (cd page && exec bash ../blocks/$block.sh) >blocks/$block.got 2>&1
+            compare blocks/$block
+        fi
+        block=$((block + 1))
+    done
+    rm -rf page blocks
+}
+
+for page in "$top"/README.md "$top"/docs/*.md; do
+    run_page "$page"
+done

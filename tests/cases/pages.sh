@@ -1,0 +1,131 @@
+# What the pages name is there: files, headings, crates. README is short, and the picture of the layers is that of crates.txt.
+. "$top/tests/lib.sh"
+
+# Each is passed or failed by what it prints.
+finds_none() {
+    local what=$1 found
+    shift
+    found=$("$@") || failed "$what: the search itself failed"
+    if [ -z "$found" ]; then
+        passed
+    else
+        while IFS= read -r line; do failed "$what: $line"; done <<<"$found"
+    fi
+}
+
+pages() {
+    (cd "$top" && printf '%s\n' README.md CONTRIBUTING.md CHANGELOG.md docs/*.md)
+}
+
+# A page without its blocks of commands and output.
+prose() {
+    awk '/^```/ { inside = !inside; next } !inside' "$top/$1"
+}
+
+# Each link of a page to a place in the repository: the page, the file by its path, and the heading, which may be none.
+links() {
+    local page target
+    pages | while IFS= read -r page; do
+        prose "$page" | grep -o '](\([^)]*\))' | sed 's/^](//; s/)$//' | while IFS= read -r target; do
+            case $target in
+            http*) ;;
+            '#'*) printf '%s %s %s\n' "$page" "$page" "${target#\#}" ;;
+            *'#'*) printf '%s %s %s\n' "$page" "$(dirname "$page")/${target%%#*}" "${target#*#}" ;;
+            *) printf '%s %s\n' "$page" "$(dirname "$page")/$target" ;;
+            esac
+        done
+    done
+}
+
+lost_links() {
+    local page file heading
+    links | while read -r page file heading; do
+        if [ ! -e "$top/$file" ]; then
+            printf '%s: %s is not there\n' "$page" "$file"
+        elif [ -n "$heading" ] && ! headings "$file" | grep -qxF -- "$heading"; then
+            printf '%s: %s has no heading %s\n' "$page" "$file" "$heading"
+        fi
+    done
+}
+
+# The headings of a page as links name them.
+headings() {
+    prose "$1" | sed -n 's/^#\{1,6\} //p' | tr '[:upper:]' '[:lower:]' | sed 's/[^a-z0-9 _-]//g; s/ /-/g'
+}
+
+# The words in code type of a page, one a line with the page before it.
+code() {
+    local page
+    pages | while IFS= read -r page; do
+        prose "$page" | grep -o '`[^`]*`' | tr -d '`' | sort -u | sed "s|^|$page |"
+    done
+}
+
+# Files of the repository by their paths, as docs/tools/layers or crates/pb_norm/specs. A name with `..` stands for several.
+lost_files() {
+    code | while read -r page name rest; do
+        case $name in
+        *..* | *'*'*) ;;
+        docs/* | examples/* | tests/* | bench/* | crates/* | .ci/* | ./pbcnf | ./install)
+            [ -e "$top/$name" ] || printf '%s: %s is not there\n' "$page" "$name"
+            ;;
+        esac
+    done
+}
+
+# Crates, and files of crates, as pb_norm/specs/Forced.
+lost_crates() {
+    code | while read -r page name rest; do
+        case $name in
+        *..* | *'*'*) continue ;;
+        pb_*) ;;
+        *) continue ;;
+        esac
+        crate=${name%%/*}
+        grep -q "^${crate}[ :]" "$top/crates.txt" || printf '%s: %s is no crate\n' "$page" "$crate"
+        case $name in
+        */src/* | */specs/* | */proofs/*)
+            compgen -G "$top/crates/$name*" >/dev/null || printf '%s: %s is not there\n' "$page" "$name"
+            ;;
+        esac
+    done
+}
+
+# Crates that no row of the table of layers has.
+unplaced_crates() {
+    sed 's/#.*//; s/:.*//; s/ .*//; /^$/d' "$top/crates.txt" | while IFS= read -r crate; do
+        grep -q "^|[^|]*|[^|]*\`$crate\`" "$top/docs/ARCHITECTURE.md" || printf '%s\n' "$crate"
+    done
+}
+
+long_lines() {
+    awk 'length > 200 { print "line " FNR " has " length " bytes" } END { if (FNR > 70) print FNR " lines" }' "$top/README.md"
+}
+
+# The version that the README names, where another page does not have it.
+other_versions() {
+    local version
+    version=$(sed -n 's/.*[Vv]ersion \([0-9.]*[0-9]\).*/\1/p' "$top/README.md" | head -n 1)
+    [ -n "$version" ] || printf 'README.md names none\n'
+    grep -q "^## $version" "$top/CHANGELOG.md" || printf 'CHANGELOG.md has no %s\n' "$version"
+    grep -q "^\.TH PBCNF .*\"pbcnf $version\"" "$top/docs/pbcnf.1" || printf 'docs/pbcnf.1 is not of %s\n' "$version"
+}
+
+last=pages
+finds_none 'a link' lost_links
+finds_none 'a file' lost_files
+finds_none 'a crate' lost_crates
+finds_none 'a crate that docs/ARCHITECTURE.md does not place' unplaced_crates
+finds_none 'README.md' long_lines
+finds_none 'a version' other_versions
+if has python3; then
+    "$top/docs/tools/layers" --print >layers.svg
+    same "$top/docs/layers.svg" layers.svg
+else
+    skip 'there is no python3, which draws docs/layers.svg'
+fi
+if has rt; then
+    finds_none 'the line of the kit in README.md' sh -c 'grep -qF -- "$(rt version)" "$1" || rt version' sh "$top/README.md"
+else
+    skip 'there is no rt, whose line README.md has'
+fi

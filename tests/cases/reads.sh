@@ -1,0 +1,45 @@
+# Each text is read to its end once: one read of it gives nothing, whether or not its last line has an LF. So at a terminal one
+# end of input is enough, and nothing behind it is lost.
+. "$top/tests/lib.sh"
+
+needs strace
+if ! strace -o trace true 2>"$state/strace"; then
+    skip 'strace may not trace here'
+    exit 0
+fi
+
+# ends COUNT WORD..: the run ends well, and as many reads give nothing as there are texts.
+ends() {
+    local count=$1 ended
+    shift
+    expect 0 strace -qq -e trace=read -o trace "$pbcnf" "$@"
+    ended=$(grep -c ' = 0$' trace)
+    if [ "$ended" -eq "$count" ]; then
+        passed
+    else
+        failed "$last: wanted $count reads that give nothing, got $ended"
+    fi
+}
+
+cp "$examples"/{knapsack,timetable,pigeons}.opb "$examples/pigeons.lrat" .
+fine encode knapsack.opb knapsack.cnf knapsack.proof
+fine encode pigeons.opb pigeons.cnf pigeons.proof
+text knapsack.model 's SATISFIABLE' 'v 1 2 7 8 0'
+for name in *.*; do
+    head -c -1 "$name" >"cut_$name"
+done
+for one in '' cut_; do
+    ends 1 encode ${one}knapsack.opb n.cnf n.proof
+    ends 1 wcnf ${one}knapsack.opb n.wcnf
+    ends 1 map ${one}timetable.opb
+    ends 1 probe ${one}knapsack.cnf x1
+    ends 2 decode ${one}knapsack.opb ${one}knapsack.model
+    ends 3 check ${one}knapsack.opb ${one}knapsack.cnf ${one}knapsack.proof
+    ends 4 refute ${one}pigeons.opb ${one}pigeons.cnf ${one}pigeons.proof ${one}pigeons.lrat
+done
+ends 0 bench 10 7 n.cnf
+
+# An empty text, too.
+: >empty
+ends 1 encode empty n.cnf
+ends 1 map empty

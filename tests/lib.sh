@@ -1,0 +1,176 @@
+# What the cases share. Each begins by sourcing it, in a new folder, with these names from tests/run: $pbcnf the program, $top the
+# top of the repository, $work the folder of the whole run, $subject the case's name.
+#
+# A check is a line of the tally, `passed`, `failed` or `skipped`; the last two have a line in the report too.
+set -u
+
+state=$work/state
+said=$state/said
+told=$state/told
+examples=$top/examples
+last=
+
+passed() {
+    printf 'passed\n' >>"$state/tally"
+}
+
+failed() {
+    printf 'failed\n' >>"$state/tally"
+    printf 'FAILED %s: %s\n' "$subject" "$*" >>"$state/report"
+}
+
+# Says why a check is not made.
+skip() {
+    printf 'skipped\n' >>"$state/tally"
+    printf 'skipped %s: %s\n' "$subject" "$*" >>"$state/report"
+}
+
+# Whether there is this tool.
+has() {
+    command -v "$1" >/dev/null
+}
+
+# Ends the case where a tool is missing.
+needs() {
+    local tool
+    for tool in "$@"; do
+        if ! has "$tool"; then
+            skip "there is no $tool"
+            exit 0
+        fi
+    done
+}
+
+# The program.
+pb() {
+    "$pbcnf" "$@"
+}
+
+# The words of a command, for a report.
+shown() {
+    local word
+    for word in "$@"; do
+        [ ${#word} -le 60 ] || word=${word:0:57}...
+        printf '%q ' "$word"
+    done
+}
+
+# The first bytes of a file, for a report.
+bytes_of() {
+    if [ -e "$1" ]; then
+        printf '"%s"' "$(head -c 300 -- "$1" | tr '\n' '|' | cat -v)"
+    else
+        printf 'no file'
+    fi
+}
+
+# expect STATUS CMD..: runs the command, keeps what it says and tells, and checks its exit status.
+expect() {
+    local wanted=$1 got
+    shift
+    last=$(shown "$@")
+    "$@" >"$said" 2>"$told"
+    got=$?
+    if [ "$got" -eq "$wanted" ]; then
+        passed
+    else
+        failed "$last: wanted the status $wanted, got $got; it told $(bytes_of "$told")"
+    fi
+}
+
+# is FILE WHAT LINE..: the file has just these lines.
+is() {
+    local file=$1 what=$2
+    shift 2
+    text "$state/due" "$@"
+    if cmp -s -- "$state/due" "$file"; then
+        passed
+    else
+        failed "$last: $what: wanted $(bytes_of "$state/due"), got $(bytes_of "$file")"
+    fi
+}
+
+# says LINE..: the last command has said just these lines on standard output.
+says() {
+    is "$said" 'standard output' "$@"
+}
+
+# tells LINE..: and just these on standard error.
+tells() {
+    is "$told" 'standard error' "$@"
+}
+
+# holds FILE LINE..: the file has just these lines.
+holds() {
+    is "$1" "the file $1" "${@:2}"
+}
+
+# same FILE FILE..: all have the bytes of the first.
+same() {
+    local one=$1 other
+    shift
+    for other in "$@"; do
+        if cmp -s -- "$one" "$other"; then
+            passed
+        else
+            failed "$last: the file $other: wanted $(bytes_of "$one"), got $(bytes_of "$other")"
+        fi
+    done
+}
+
+# absent NAME..: nothing is there by these names.
+absent() {
+    local name
+    for name in "$@"; do
+        if [ -e "$name" ] || [ -L "$name" ]; then failed "$last: wanted no file $name, got one"; else passed; fi
+    done
+}
+
+# fault STATUS LINE WORD..: the program ends with this status, says nothing, and tells this line.
+fault() {
+    local status=$1 line=$2
+    shift 2
+    expect "$status" pb "$@"
+    says
+    tells "pbcnf: $line"
+}
+
+# fine WORD..: the program ends well and tells nothing.
+fine() {
+    expect 0 pb "$@"
+    tells
+}
+
+# text FILE LINE..: makes a file of these lines.
+text() {
+    if [ $# -eq 1 ]; then : >"$1"; else printf '%s\n' "${@:2}" >"$1"; fi
+}
+
+# The two lines that are said of V variables and C clauses, where each constraint is a clause.
+clauses_alone() {
+    says "variables $1 original $1 fresh 0 clauses $2" \
+        "nothing 0 empty 0 clause $2 pairwise 0 ladder 0 product 0 counter 0 totalizer 0 diagram 0 tree 0 adder 0"
+}
+
+# Ends the case where this copy of the program, in a folder of ours, cannot be run, as a user if one is given.
+needs_to_run() {
+    if ! "$@" bench 1 0 >"$said" 2>"$told"; then
+        skip "no program can be run among the temporary files: $(bytes_of "$told")"
+        exit 0
+    fi
+}
+
+# Has as_user run a copy of the program as a user who is not root, so that rights count.
+leave_root() {
+    unprivileged=()
+    cp -- "$pbcnf" program && chmod 755 program
+    if [ "$(id -u)" -eq 0 ]; then
+        needs setpriv
+        unprivileged=(setpriv --reuid=65534 --regid=65534 --clear-groups --no-new-privs)
+    fi
+    needs_to_run as_user
+}
+
+as_user() {
+    "${unprivileged[@]}" "$PWD/program" "$@"
+}
