@@ -1,0 +1,39 @@
+# Completion of pbcnf's words in bash.
+
+_pbcnf() {
+    local word=${COMP_WORDS[COMP_CWORD]} before=${COMP_WORDS[COMP_CWORD-1]} command=${COMP_WORDS[1]-}
+    # With `=` among the breaks of words, `--amo=l` comes as three words.
+    [ "$word" = = ] && word=
+    [ "$before" = = ] && before=${COMP_WORDS[COMP_CWORD-2]}
+    COMPREPLY=()
+    if [ "$COMP_CWORD" -eq 1 ]; then
+        mapfile -t COMPREPLY < <(compgen -W 'encode wcnf check refute decode map probe bench' -- "$word")
+        return
+    fi
+    case $before in
+    --amo) mapfile -t COMPREPLY < <(compgen -W 'auto pairwise ladder product' -- "$word"); return ;;
+    --card) mapfile -t COMPREPLY < <(compgen -W 'auto counter totalizer' -- "$word"); return ;;
+    --general) mapfile -t COMPREPLY < <(compgen -W 'diagram tree adder' -- "$word"); return ;;
+    --equal) mapfile -t COMPREPLY < <(compgen -W 'split joint' -- "$word"); return ;;
+    --budget | --at-most | --at-most-minus) return ;;
+    esac
+    if [[ $word == -* ]]; then
+        local options=
+        case $command in
+        encode) options='--amo --card --general --equal --budget --table --at-most= --at-most-minus=' ;;
+        wcnf) options='--amo --card --general --equal --budget --at-most= --at-most-minus=' ;;
+        check | refute | decode) options='--at-most= --at-most-minus=' ;;
+        esac
+        mapfile -t COMPREPLY < <(compgen -W "$options" -- "$word")
+        [[ ${COMPREPLY[0]-} == *= ]] && compopt -o nospace
+        return
+    fi
+    case $command in
+    encode | wcnf | check | refute | decode | map | probe | bench)
+        mapfile -t COMPREPLY < <(compgen -f -- "$word")
+        compopt -o filenames
+        ;;
+    esac
+}
+
+complete -F _pbcnf pbcnf
