@@ -111,6 +111,21 @@ other_versions() {
     grep -q "^\.TH PBCNF .*\"pbcnf $version\"" "$top/docs/pbcnf.1" || printf 'docs/pbcnf.1 is not of %s\n' "$version"
 }
 
+# Names that gave way to the field's word, where docs/GLOSSARY.md has the word that stands for them.
+retired_words() {
+    local words='Owed|owed_[a-z]+|Owing|Obeys|ObeysWithin|Obeying|Poses|IsPosed|PosedProblems|Outbox|Sheet|Wear|Ways|Turns?Of|HandedReasons'
+    words+='|take_(claim|deletions?|meanings?|propagated|steps|clauses|row|rows|output|outputs|node|part)|[a-z]+_reasons?|[A-Z][a-z]+Meanings?'
+    (cd "$top" && grep -rnowE "$words" crates --include='*.rt' --include='*.antt' --include='*.edit' --exclude-dir=out)
+    (cd "$top" && grep -nowE "\`($words)\`" README.md CONTRIBUTING.md docs/*.md)
+    return 0
+}
+
+# The spec files of crates that stand in no folder of the four that docs/ARCHITECTURE.md names.
+misplaced_specs() {
+    (cd "$top/crates" && find . -path '*/specs/*' -name '*.antt' -not -path '*/out/*' | grep -vE '/specs/((inner|laws|examples|reader)/)?[^/]+$')
+    return 0
+}
+
 last=pages
 finds_none 'a link' lost_links
 finds_none 'a file' lost_files
@@ -118,6 +133,8 @@ finds_none 'a crate' lost_crates
 finds_none 'a crate that docs/ARCHITECTURE.md does not place' unplaced_crates
 finds_none 'README.md' long_lines
 finds_none 'a version' other_versions
+finds_none 'a retired word' retired_words
+finds_none 'a definition' misplaced_specs
 if has python3; then
     "$top/docs/tools/layers" --print >layers.svg
     same "$top/docs/layers.svg" layers.svg

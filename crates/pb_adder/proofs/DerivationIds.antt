@@ -7,12 +7,12 @@ use Rattle.pb_norm.specs.Constraints.{Weighted, weight}
 use Rattle.pb_steps.specs.declared.step.Step.{Step}
 use Rattle.pb_steps.specs.Steps.{takes_id}
 use Rattle.pb_derive.specs.Claims.{Claim, claim_steps}
-use Rattle.pb_family.proofs.Sequence.{meanings_ids}
+use Rattle.pb_family.proofs.Sequence.{reifications_ids}
 use Rattle.pb_adder.specs.AdderSteps.{blocks, sum_steps, last_sum, last_deletion, gate_claims, row_claims, levels_of, adder_claims, defining_steps, proving_steps}
 use Rattle.pb_adder.specs.Comparator.{comparator}
-use Rattle.pb_adder.specs.GateMeanings.{gate_meanings}
+use Rattle.pb_adder.specs.GateReifications.{gate_reifications}
 use Rattle.pb_adder.specs.Network.{level_count, network_ends, network_gates}
-use Rattle.pb_adder.specs.laws.AdderDerives.{meanings-length}
+use Rattle.pb_adder.specs.laws.AdderDerives.{reifications-length}
 use Rattle.pb_adder.specs.laws.AdderShort.{gate_claims_few}
 use Rattle.pb_adder.specs.laws.Leveling.{few_levels}
 use Rattle.pb_adder.specs.laws.RowLengths.{comparator_few, ends_length}
@@ -61,4 +61,4 @@ proving_ids ts bound first id base next small =
     )
 
 pub defining_ids : (ts : List Weighted) (first next : ℕ) → count_by takes_id (defining_steps ts first next) ≡ 4 * length (network_gates ts)
-defining_ids ts first next = omega (arith, meanings_ids next (flat_map (gate_meanings first) (network_gates ts)), meanings-length first (network_gates ts))
+defining_ids ts first next = omega (arith, reifications_ids next (flat_map (gate_reifications first) (network_gates ts)), reifications-length first (network_gates ts))

@@ -10,11 +10,11 @@ use Rattle.pb_steps.specs.declared.step.Step.TheVariants.{Pol}
 use Rattle.pb_steps.specs.Steps.{takes_id}
 use Rattle.pb_derive.specs.Claims.{Claim, claim_steps}
 use Rattle.pb_derive.specs.Deletions.{deletion_steps}
-use Rattle.pb_derive.specs.Meanings.{meaning_steps}
+use Rattle.pb_derive.specs.Reifications.{reification_steps}
 use Rattle.pb_derive.specs.Rups.{by_rup}
 use Rattle.pb_family.specs.Derivations.{propagated}
 use Rattle.pb_adder.specs.AdderSteps.{blocks_within, blocks, sum_ops, later_sums, sum_steps, last_sum, last_deletion, gate_ids, gate_claims}
-use Rattle.pb_adder.specs.GateMeanings.{gate_meanings}
+use Rattle.pb_adder.specs.GateReifications.{gate_reifications}
 use Rattle.pb_adder.specs.Gates.{gate_clauses}
 use Rattle.pb_adder.specs.declared.gate.Gate.{Gate}
 use Rattle.pb_adder.specs.declared.gate.Gate.TheVariants.{Full, Half}
@@ -24,19 +24,19 @@ use Rattle.pb_family.proofs.Deriving.{steps_same}
 use Rattle.pb_adder.specs.laws.LineOps.{power_positive}
 use Rattle.pb_adder.proofs.Walking.{walk, part_stopped, parts_handed}
 
--- ---- meanings: what moves is the next id
+-- ---- reifications: what moves is the next id
 
 abbrev pub gate_piece : ℕ → ℕ → Gate → List Step
-gate_piece first next g = meaning_steps next (gate_meanings first g)
+gate_piece first next g = reification_steps next (gate_reifications first g)
 
 abbrev pub four_on : {X : Type 0} → ℕ → X → ℕ
 four_on next x = next + 4
 
-pub meanings_walk : (first next : ℕ) (gs : List Gate) → meaning_steps next (flat_map (gate_meanings first) gs) ≡ walk (gate_piece first) four_on next gs
-meanings_walk first next [] = refl
-meanings_walk first next (g ∷ gs) =
+pub reifications_walk : (first next : ℕ) (gs : List Gate) → reification_steps next (flat_map (gate_reifications first) gs) ≡ walk (gate_piece first) four_on next gs
+reifications_walk first next [] = refl
+reifications_walk first next (g ∷ gs) =
     ap (λ (ss : List Step). gate_piece first next g ++ ss)
-    (ap (λ (n : ℕ). meaning_steps n (flat_map (gate_meanings first) gs)) (let e : next + 2 + 2 ≡ next + 4 = omega arith in e) ∙ meanings_walk first (next + 4) gs)
+    (ap (λ (n : ℕ). reification_steps n (flat_map (gate_reifications first) gs)) (let e : next + 2 + 2 ≡ next + 4 = omega arith in e) ∙ reifications_walk first (next + 4) gs)
 
 -- ---- clauses by the same ids
 

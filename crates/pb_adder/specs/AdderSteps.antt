@@ -8,11 +8,11 @@ use Rattle.pb_steps.specs.declared.step.Step.{Step}
 use Rattle.pb_steps.specs.declared.step.Step.TheVariants.{Pol}
 use Rattle.pb_derive.specs.Claims.{Claim, claim_steps}
 use Rattle.pb_derive.specs.Deletions.{deletion_steps}
-use Rattle.pb_derive.specs.Meanings.{meaning_steps}
+use Rattle.pb_derive.specs.Reifications.{reification_steps}
 use Rattle.pb_derive.specs.Rups.{by_rup}
 use Rattle.pb_adder.specs.declared.gate.Gate.{Gate}
 use Rattle.pb_adder.specs.Comparator.{comparator}
-use Rattle.pb_adder.specs.GateMeanings.{gate_meanings}
+use Rattle.pb_adder.specs.GateReifications.{gate_reifications}
 use Rattle.pb_adder.specs.Gates.{gate_clauses}
 use Rattle.pb_adder.specs.LeveledGates.{Leveled, leveled_gates}
 use Rattle.pb_adder.specs.Network.{network_gates, network_ends}
@@ -89,9 +89,9 @@ levels_of ts = map (λ (x : Leveled). x.level) (leveled_gates ts)
 
 -- what the fresh variables mean
 abbrev pub defining_steps : List Weighted → ℕ → ℕ → List Step
-defining_steps ts first next = meaning_steps next (flat_map (gate_meanings first) (network_gates ts))
+defining_steps ts first next = reification_steps next (flat_map (gate_reifications first) (network_gates ts))
 
--- the clauses, where the meanings have the ids from `base` on and the last sum has the id `last`
+-- the clauses, where the reifications have the ids from `base` on and the last sum has the id `last`
 abbrev pub adder_claims : List Weighted → ℕ → ℕ → ℕ → ℕ → List Claim
 adder_claims ts bound first base last = gate_claims first base (network_gates ts) ++ row_claims last (comparator first bound (network_ends ts))
 
@@ -103,7 +103,7 @@ proving_steps ts bound first id base next =
     let last = last_sum id next parts in
     sum_steps base id next parts ++ (claim_steps (next + length parts) (adder_claims ts bound first base last) ++ last_deletion last levels)
 
--- and then the meanings are deleted
+-- and then the reifications are deleted
 abbrev pub adder_steps : List Weighted → ℕ → ℕ → ℕ → ℕ → List Step
 adder_steps ts bound first id next =
     let count = length (network_gates ts) in

@@ -1,6 +1,6 @@
 pub mod AdderDerives
 pub mod AdderLaws
-pub mod AdderMeanings
+pub mod AdderReifications
 pub mod AdderShort
 pub mod ApartGates
 pub mod Chains
@@ -10,7 +10,6 @@ pub mod Distances
 pub mod Extends
 pub mod GateClaims
 pub mod GateLaws
-pub mod GateLits
 pub mod GateRups
 pub mod Leveling
 pub mod LineOps
@@ -19,9 +18,7 @@ pub mod Names
 pub mod NetworkLaws
 pub mod RowLengths
 pub mod RowRups
-pub mod Rows
 pub mod RunningSteps
-pub mod RunningSums
 pub mod StepCounts
 pub mod TreeOps
 pub mod Wired

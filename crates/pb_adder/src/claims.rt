@@ -4,17 +4,17 @@ ghost use Rattle.pb_derive.specs.Rups.{by_rup};
 ghost use Rattle.pb_adder.specs.AdderSteps.{gate_claims, gate_ids, row_claims};
 ghost use Rattle.pb_adder.specs.Comparator.{comparator, end_needs, row_at, row_clause};
 ghost use Rattle.pb_adder.specs.Gates.{full_clauses, gate_clauses, gate_needs, half_clauses};
-ghost use Rattle.pb_family.specs.laws.HandedReasons.{HandsClaims};
+ghost use Rattle.pb_family.specs.inner.HandedJustifications.{HandsClaims};
 
 use crate::comparator::row_at;
 use crate::emit::{full_carries, full_sums, half_threes, half_twos};
 use crate::gate::{Bits, Gate, GateLits, Wire};
 use pb_base::Lit;
-use pb_family::{SinkFault, StepSink, take_propagated};
+use pb_family::{SinkFault, StepSink, derive_propagated};
 use std::alloc::Global;
 
 /// Hands over that clauses of one length follow from constraints, and the clauses.
-fn take_each<const N: usize, T: StepSink>(
+fn derive_each<const N: usize, T: StepSink>(
     alloc: Global,
     ids: &[u64],
     clauses: &[[Lit; N]],
@@ -24,7 +24,7 @@ fn take_each<const N: usize, T: StepSink>(
     ensures { HandsClaims (map (by_rup ids.now) clauses.now) result (T.state sink.old) (T.state sink.new) }
 {
     for clause in clauses {
-        take_propagated(alloc, ids, clause, sink)?;
+        derive_propagated(alloc, ids, clause, sink)?;
     }
     Ok(())
 }
@@ -43,8 +43,8 @@ fn claim_full<T: StepSink>(
     requires few { (T.state sink.old).next + 14 < 2 ^ 62 }
     ensures { HandsClaims (map (by_rup ids.now) (full_clauses a.now b.now c.now s.now d.now)) result (T.state sink.old) (T.state sink.new) }
 {
-    take_each(alloc, ids, &full_sums(a, b, c, s), sink)?;
-    take_each(alloc, ids, &full_carries(a, b, c, d), sink)
+    derive_each(alloc, ids, &full_sums(a, b, c, s), sink)?;
+    derive_each(alloc, ids, &full_carries(a, b, c, d), sink)
 }
 
 /// Hands over that `s` is the sum of two bits and `d` their carry.
@@ -60,12 +60,12 @@ fn claim_half<T: StepSink>(
     requires few { (T.state sink.old).next + 7 < 2 ^ 62 }
     ensures { HandsClaims (map (by_rup ids.now) (half_clauses a.now b.now s.now d.now)) result (T.state sink.old) (T.state sink.new) }
 {
-    take_each(alloc, ids, &half_threes(a, b, s, d), sink)?;
-    take_each(alloc, ids, &half_twos(a, b, d), sink)
+    derive_each(alloc, ids, &half_threes(a, b, s, d), sink)?;
+    derive_each(alloc, ids, &half_twos(a, b, d), sink)
 }
 
 /// Hands over the clauses of an adder, whose constraints have four ids, from `id` on.
-fn take_gate<T: StepSink>(
+fn derive_gate<T: StepSink>(
     alloc: Global,
     gate: &Gate,
     first: u32,
@@ -87,7 +87,7 @@ fn take_gate<T: StepSink>(
 }
 
 /// Hands over the clauses of adders, whose constraints have four ids each, from `id` on.
-pub fn take_gates<T: StepSink>(
+pub fn derive_gates<T: StepSink>(
     alloc: Global,
     gates: &[Gate],
     first: u32,
@@ -102,14 +102,14 @@ pub fn take_gates<T: StepSink>(
 {
     let mut id = id;
     for gate in gates {
-        take_gate(alloc, gate, first, id, sink)?;
+        derive_gate(alloc, gate, first, id, sink)?;
         id += 4;
     }
     Ok(())
 }
 
 /// Hands over the clause of a level, if it has one.
-fn take_row<T: StepSink>(
+fn derive_row<T: StepSink>(
     alloc: Global,
     bound: u128,
     end: &Option<Wire>,
@@ -126,13 +126,13 @@ fn take_row<T: StepSink>(
     ensures { HandsClaims (row_claims id (map (row_clause first) (row_at bound end.now above.now))) result (T.state sink.old) (T.state sink.new) }
 {
     match row_at(bound, end, above, first) {
-        Some(row) => take_propagated(alloc, &[id], row.as_slice(), sink),
+        Some(row) => derive_propagated(alloc, &[id], row.as_slice(), sink),
         None => Ok(()),
     }
 }
 
 /// Hands over that the number with these bits is at most the bound, from the constraint with an id.
-pub fn take_rows<T: StepSink>(
+pub fn derive_rows<T: StepSink>(
     alloc: Global,
     bound: u128,
     ends: &[Option<Wire>],
@@ -149,7 +149,7 @@ pub fn take_rows<T: StepSink>(
     let mut bound = bound;
     let mut rest = ends;
     while let Some((end, above)) = rest.split_first() {
-        take_row(alloc, bound, end, above, first, id, sink)?;
+        derive_row(alloc, bound, end, above, first, id, sink)?;
         bound /= 2;
         rest = above;
     }

@@ -1,22 +1,22 @@
 //! The steps that derive the clauses of an adder network and its comparator.
 use crate::adder::Adder;
-use crate::claims::{take_gates, take_rows};
-use crate::meanings::take_meanings;
-use crate::sums::{take_last_deletion, take_sums};
-use pb_family::{SinkFault, StepSink, take_deletions};
+use crate::claims::{derive_gates, derive_rows};
+use crate::reifications::derive_reifications;
+use crate::sums::{derive_last_deletion, derive_sums};
+use pb_family::{SinkFault, StepSink, derive_deletions};
 use std::alloc::Global;
 
 impl Adder {
     ghost use Rattle.std.specs.Prelude.{◌≡◌, ◌≤◌, ◌<◌, ◌+◌, ◌*◌, ◌^◌, length};
     ghost use Rattle.pb_norm.specs.Constraints.{weights};
     ghost use Rattle.pb_family.specs.StepSinks.{HandsFrom};
-    ghost use Rattle.pb_family.specs.laws.HandedReasons.{HandsClaims};
+    ghost use Rattle.pb_family.specs.inner.HandedJustifications.{HandsClaims};
     ghost use Rattle.pb_adder.specs.AdderSteps.{adder_claims, adder_steps, proving_steps};
     ghost use Rattle.pb_adder.specs.Counts.{adder_fresh};
     ghost use Rattle.pb_adder.specs.Network.{network_gates};
 
-    /// The clauses, where the meanings' constraints have the ids from `base` on, and the last sum has the id `last`.
-    fn take_clauses<T: StepSink>(
+    /// The clauses, where the reifications' constraints have the ids from `base` on, and the last sum has the id `last`.
+    fn derive_clauses<T: StepSink>(
         &self,
         alloc: Global,
         first: u32,
@@ -30,12 +30,12 @@ impl Adder {
         requires few { (T.state sink.old).next ≤ 2 ^ 61 + 5 * length (network_gates (weights self.now.terms)) }
         ensures { HandsClaims (adder_claims (weights self.now.terms) self.now.bound first base last) result (T.state sink.old) (T.state sink.new) }
     {
-        take_gates(alloc, self.gates.as_slice(), first, base, sink)?;
-        take_rows(alloc, self.bound, self.ends.as_slice(), first, last, sink)
+        derive_gates(alloc, self.gates.as_slice(), first, base, sink)?;
+        derive_rows(alloc, self.bound, self.ends.as_slice(), first, last, sink)
     }
 
     /// The sums and the clauses, where `id` is the constraint's.
-    fn take_proof<T: StepSink>(
+    fn derive_proof<T: StepSink>(
         &self,
         alloc: Global,
         first: u32,
@@ -51,13 +51,13 @@ impl Adder {
         ensures { HandsFrom (proving_steps (weights self.now.terms) self.now.bound first id base) result (T.state sink.old) (T.state sink.new) }
     {
         let heights = self.heights.as_slice();
-        let last = take_sums(alloc, heights, base, id, sink)?;
-        self.take_clauses(alloc, first, base, last, sink)?;
-        take_last_deletion(alloc, heights, last, sink)
+        let last = derive_sums(alloc, heights, base, id, sink)?;
+        self.derive_clauses(alloc, first, base, last, sink)?;
+        derive_last_deletion(alloc, heights, last, sink)
     }
 
     /// Hands over the whole derivation, where `id` is the constraint's.
-    pub(crate) fn take_derivation<T: StepSink>(
+    pub(crate) fn derive_derivation<T: StepSink>(
         &self,
         alloc: Global,
         first: u32,
@@ -73,8 +73,8 @@ impl Adder {
         let base = sink.next_id();
         let gates = self.gates.as_slice();
         let count = 2 * gates.len() as u64;
-        take_meanings(alloc, gates, first, sink)?;
-        self.take_proof(alloc, first, id, base, sink)?;
-        take_deletions(alloc, base, 2, count, sink)
+        derive_reifications(alloc, gates, first, sink)?;
+        self.derive_proof(alloc, first, id, base, sink)?;
+        derive_deletions(alloc, base, 2, count, sink)
     }
 }

@@ -16,7 +16,7 @@ pub struct Row {
 
 impl Row {
     ghost use Rattle.std.specs.Prelude.{◌≡◌};
-    ghost use Rattle.pb_adder.specs.laws.Rows.{row_lits};
+    ghost use Rattle.pb_adder.specs.inner.Rows.{row_lits};
 
     /// Its literals.
     pub fn as_slice(&self) -> &[Lit]

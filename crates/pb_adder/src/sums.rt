@@ -5,7 +5,7 @@ ghost use Rattle.pb_steps.specs.declared.step.Step.TheVariants.{Pol};
 ghost use Rattle.pb_family.specs.StepSinks.{HandsSteps};
 ghost use Rattle.pb_adder.specs.AdderSteps.{blocks, last_deletion, last_sum, later_sums, line_ops, sum_ops, sum_steps, tree_ops};
 
-use pb_family::{SinkFault, StepSink, take_deletion};
+use pb_family::{SinkFault, StepSink, derive_deletion};
 use pb_steps::{PolOp, PolOps, Step};
 use std::alloc::{AllocError, Global};
 
@@ -77,7 +77,7 @@ fn sum_step(alloc: Global, levels: &[u32], id: u64, running: u64) -> Result<Step
 }
 
 /// Hands over the sum of a block.
-fn take_sum<T: StepSink>(
+fn derive_sum<T: StepSink>(
     alloc: Global,
     levels: &[u32],
     id: u64,
@@ -96,7 +96,7 @@ fn take_sum<T: StepSink>(
 }
 
 /// Hands over the sum of a block, and that the one before it goes.
-fn take_later_sum<T: StepSink>(
+fn derive_later_sum<T: StepSink>(
     alloc: Global,
     levels: &[u32],
     id: u64,
@@ -111,12 +111,12 @@ fn take_later_sum<T: StepSink>(
     requires room { (T.state sink.old).next + 1 < 2 ^ 62 }
     ensures { HandsSteps (Pol (sum_ops id levels.now running) ∷ deletion_steps 1 running 1) result (T.state sink.old) (T.state sink.new) }
 {
-    take_sum(alloc, levels, id, running, sink)?;
-    take_deletion(alloc, running, 1, sink)
+    derive_sum(alloc, levels, id, running, sink)?;
+    derive_deletion(alloc, running, 1, sink)
 }
 
 /// Hands over the sums of later blocks, each with that the one before it goes, and gives the id of the last one.
-fn take_later_sums<T: StepSink>(
+fn derive_later_sums<T: StepSink>(
     alloc: Global,
     levels: &[u32],
     id: u64,
@@ -136,7 +136,7 @@ fn take_later_sums<T: StepSink>(
     while rest.len() > 0 {
         let (block, later) = rest.split_at(BLOCK.min(rest.len()));
         let next = sink.next_id();
-        take_later_sum(alloc, block, id, running, sink)?;
+        derive_later_sum(alloc, block, id, running, sink)?;
         running = next;
         id += 4 * block.len() as u64;
         rest = later;
@@ -146,7 +146,7 @@ fn take_later_sums<T: StepSink>(
 
 /// Hands over the sums of adders at levels, block by block, from the constraint with the id `running` on, and gives the id
 /// of the last one. The constraints of each adder have four ids, from `id` on.
-pub fn take_sums<T: StepSink>(
+pub fn derive_sums<T: StepSink>(
     alloc: Global,
     levels: &[u32],
     id: u64,
@@ -164,12 +164,12 @@ pub fn take_sums<T: StepSink>(
     }
     let (block, later) = levels.split_at(BLOCK.min(levels.len()));
     let next = sink.next_id();
-    take_sum(alloc, block, id, running, sink)?;
-    take_later_sums(alloc, later, id + 4 * block.len() as u64, next, sink)
+    derive_sum(alloc, block, id, running, sink)?;
+    derive_later_sums(alloc, later, id + 4 * block.len() as u64, next, sink)
 }
 
 /// Hands over that the last sum goes, where there is an adder.
-pub fn take_last_deletion<T: StepSink>(
+pub fn derive_last_deletion<T: StepSink>(
     alloc: Global,
     levels: &[u32],
     last: u64,
@@ -180,7 +180,7 @@ pub fn take_last_deletion<T: StepSink>(
     ensures { HandsSteps (last_deletion last levels.now) result (T.state sink.old) (T.state sink.new) }
 {
     match levels.split_first() {
-        Some(_) => take_deletion(alloc, last, 1, sink),
+        Some(_) => derive_deletion(alloc, last, 1, sink),
         None => Ok(()),
     }
 }

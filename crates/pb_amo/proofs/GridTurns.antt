@@ -7,45 +7,45 @@ use Rattle.pb_steps.specs.declared.step.Step.{Step}
 use Rattle.pb_steps.specs.Steps.{takes_id}
 use Rattle.pb_derive.specs.Claims.{claim_steps}
 use Rattle.pb_derive.specs.Deletions.{deletion_steps}
-use Rattle.pb_derive.specs.Meanings.{meaning_steps}
-use Rattle.pb_derive.specs.Reasons.{by_reason}
+use Rattle.pb_derive.specs.Reifications.{reification_steps}
+use Rattle.pb_derive.specs.Justifications.{by_justification}
 use Rattle.pb_family.specs.StepSinks.{StepState, TakesSteps}
 use Rattle.pb_family.proofs.Deriving.{Deriving, deriving_starts, deriving_from, deriving_as, deriving_step}
 use Rattle.pb_family.proofs.SameSteps.{HaveSameSteps, same_flat}
-use Rattle.pb_family.proofs.Sequence.{meanings_ids, reasons_ids, deletions_ids}
+use Rattle.pb_family.proofs.Sequence.{reifications_ids, justifications_ids, deletions_ids}
 use Rattle.pb_amo.specs.Product.{rows, columns, line, product_fresh, product_count}
-use Rattle.pb_amo.specs.ProductSteps.{line_sum, side_steps, grid_meanings, cell_reasons, cells_reasons, cells_steps, product_steps}
+use Rattle.pb_amo.specs.ProductSteps.{line_sum, side_steps, grid_reifications, cell_justifications, cells_justifications, cells_steps, product_steps}
 use Rattle.pb_amo.specs.laws.GridCounts.{fresh_step, count_step}
 use Rattle.pb_amo.specs.laws.LineLaws.{length-line}
 use Rattle.pb_amo.specs.laws.ProductLevels.{rows_part, columns_part, product_levels}
-use Rattle.pb_amo.specs.laws.ProductParts.{most_steps, opening_steps, turning_steps, closing_steps}
-use Rattle.pb_amo.specs.laws.ProductShort.{cells_count, meanings_count, lines_within}
+use Rattle.pb_amo.specs.inner.ProductParts.{most_steps, opening_steps, turning_steps, closing_steps}
+use Rattle.pb_amo.specs.laws.ProductShort.{cells_count, reifications_count, lines_within}
 
 -- ---- the opening
 
 -- the steps of the cells do not depend on the numbers of the fresh variables
-cells_same : (ms : List Lit) (first other r q base : ℕ) → HaveSameSteps (cells_reasons ms first r q base) (cells_reasons ms other r q base)
-cells_same ms first other r q base = same_flat (cell_reasons ms first r q base) (cell_reasons ms other r q base) (λ e. record { count = refl; steps = λ n. refl }) 0 (length ms)
+cells_same : (ms : List Lit) (first other r q base : ℕ) → HaveSameSteps (cells_justifications ms first r q base) (cells_justifications ms other r q base)
+cells_same ms first other r q base = same_flat (cell_justifications ms first r q base) (cell_justifications ms other r q base) (λ e. record { count = refl; steps = λ n. refl }) 0 (length ms)
 
 module _ {R : Type 0} (ms : List Lit) (first r q id base : ℕ) (old : StepState R) (starts : base ≡ old.next) where
   abbrev all_opening : List Step
   all_opening = opening_steps ms first r q id old.next
 
   abbrev pub cells_from : ℕ → List Step
-  cells_from next = claim_steps next (map by_reason (cells_reasons ms 0 r q base))
+  cells_from next = claim_steps next (map by_justification (cells_justifications ms 0 r q base))
 
-  pub lines_next : (now : StepState R) → TakesSteps (meaning_steps old.next (grid_meanings ms first r q)) old now → now.next ≡ old.next + 2 * (r + q)
-  lines_next now h = omega (arith, h.ids, meanings_ids old.next (grid_meanings ms first r q), meanings_count ms first r q)
+  pub lines_next : (now : StepState R) → TakesSteps (reification_steps old.next (grid_reifications ms first r q)) old now → now.next ≡ old.next + 2 * (r + q)
+  lines_next now h = omega (arith, h.ids, reifications_ids old.next (grid_reifications ms first r q), reifications_count ms first r q)
 
-  pub after_lines : (now : StepState R) → TakesSteps (meaning_steps old.next (grid_meanings ms first r q)) old now → Deriving all_opening (cells_from now.next ++ line_sum id base r ∷ []) old now
+  pub after_lines : (now : StepState R) → TakesSteps (reification_steps old.next (grid_reifications ms first r q)) old now → Deriving all_opening (cells_from now.next ++ line_sum id base r ∷ []) old now
   after_lines now h =
       let same : (k : ℕ) → cells_steps ms first r q old.next k ++ line_sum id old.next r ∷ [] ≡ cells_from k ++ line_sum id base r ∷ [] = λ k.
       (λ i. cells_steps ms first r q (sym starts i) k ++ line_sum id (sym starts i) r ∷ []) ∙ ap (λ (ss : List Step). ss ++ line_sum id base r ∷ []) ((cells_same ms first 0 r q base).steps k) in
       deriving_as (ap (λ (k : ℕ). cells_steps ms first r q old.next k ++ line_sum id old.next r ∷ []) (sym (lines_next now h)) ∙ same now.next)
-      (deriving_step {left = cells_steps ms first r q old.next (old.next + 2 * (r + q)) ++ line_sum id old.next r ∷ []} (meaning_steps old.next (grid_meanings ms first r q)) now (deriving_starts all_opening old) h)
+      (deriving_step {left = cells_steps ms first r q old.next (old.next + 2 * (r + q)) ++ line_sum id old.next r ∷ []} (reification_steps old.next (grid_reifications ms first r q)) now (deriving_starts all_opening old) h)
 
   pub cells_next : (now after : StepState R) → TakesSteps (cells_from now.next) now after → after.next ≡ now.next + 2 * length ms
-  cells_next now after h = omega (arith, h.ids, reasons_ids now.next (cells_reasons ms 0 r q base), cells_count ms 0 r q base)
+  cells_next now after h = omega (arith, h.ids, justifications_ids now.next (cells_justifications ms 0 r q base), cells_count ms 0 r q base)
 
 -- ---- a grid
 
@@ -93,15 +93,15 @@ product_parts ms first id base many =
     let cells : List Step = cells_steps ms first r q base start in
     let rows_at : ℕ → List Step = rows_part ms first r q id base in
     let columns_at : ℕ → List Step = columns_part ms first r q id base in
-    let at : ℕ → ℕ → List Step = λ k m. meaning_steps base (grid_meanings ms first r q) ++ ((cells ++ (rows_at k ++ columns_at m)) ++ deletion_steps 2 base (r + q)) in
-    let ids : start + count_by takes_id cells ≡ sum = omega (arith, reasons_ids start (cells_reasons ms first r q base), cells_count ms first r q base) in
+    let at : ℕ → ℕ → List Step = λ k m. reification_steps base (grid_reifications ms first r q) ++ ((cells ++ (rows_at k ++ columns_at m)) ++ deletion_steps 2 base (r + q)) in
+    let ids : start + count_by takes_id cells ≡ sum = omega (arith, justifications_ids start (cells_justifications ms first r q base), cells_count ms first r q base) in
     let inner : List Step = product_steps (line first r) (first + r + q) sum (sum + 1) in
     let later : ℕ = sum + 1 + count_by takes_id inner in
     let next : sum + count_by takes_id (rows_at sum) ≡ later = omega (arith, side_ids id base r sum (product_steps (line first r) (first + r + q))) in
     product_levels ms first id base many
     ∙ ap (λ (k : ℕ). at k (k + count_by takes_id (rows_at k))) ids
     ∙ ap (at sum) next
-    ∙ regrouped (meaning_steps base (grid_meanings ms first r q)) cells inner (deletion_steps 1 sum 1) (product_steps (line (first + r) q) (first + r + q + product_fresh r) later (later + 1)) (deletion_steps 1 later 1) (deletion_steps 2 base (r + q)) (line_sum id base r) (line_sum id (base + 2 * r) q)
+    ∙ regrouped (reification_steps base (grid_reifications ms first r q)) cells inner (deletion_steps 1 sum 1) (product_steps (line (first + r) q) (first + r + q + product_fresh r) later (later + 1)) (deletion_steps 1 later 1) (deletion_steps 2 base (r + q)) (line_sum id base r) (line_sum id (base + 2 * r) q)
 
 -- the sides that were computed, and where the ids are
 pub record IsLevel (ms : List Lit) (r q base fresh sum next : ℕ) : Type 0 where
@@ -156,7 +156,7 @@ module _ {R : Type 0} (ms : List Lit) (first id r q base fresh sum : ℕ) (old :
     opened_next =
         let bit : Step → ℕ = λ s. cond (takes_id s) 1 0 in
         let start : ℕ = old.next + 2 * (r + q) in
-        let ms_steps : List Step = meaning_steps old.next (grid_meanings ms first r q) in
+        let ms_steps : List Step = reification_steps old.next (grid_reifications ms first r q) in
         let cs : List Step = cells_steps ms first r q old.next start in
         let one : count_by takes_id (line_sum id old.next r ∷ []) ≡ 1 = refl in
         omega (
@@ -167,9 +167,9 @@ module _ {R : Type 0} (ms : List Lit) (first id r q base fresh sum : ℕ) (old :
           one,
           sum_by-append bit ms_steps (cs ++ line_sum id old.next r ∷ []),
           sum_by-append bit cs (line_sum id old.next r ∷ []),
-          meanings_ids old.next (grid_meanings ms first r q),
-          meanings_count ms first r q,
-          reasons_ids start (cells_reasons ms first r q old.next),
+          reifications_ids old.next (grid_reifications ms first r q),
+          reifications_count ms first r q,
+          justifications_ids start (cells_justifications ms first r q old.next),
           cells_count ms first r q old.next,
         )
 

@@ -12,14 +12,14 @@ use Rattle.pb_norm.specs.Reduction.{all_weigh}
 use Rattle.pb_steps.specs.declared.step.Step.{Step}
 use Rattle.pb_derive.specs.Claims.{claim_steps}
 use Rattle.pb_derive.specs.Deletions.{deletion_steps}
-use Rattle.pb_derive.specs.Reasons.{Reason, by_reason}
+use Rattle.pb_derive.specs.Justifications.{Justification, by_justification}
 use Rattle.pb_derive.proofs.UnitTerms.{weight-ones}
 use Rattle.pb_family.specs.Derivations.{meant, claimed, pieces}
-use Rattle.pb_family.proofs.Sequence.{meaning_pieces, reason_pieces, reasons_split}
+use Rattle.pb_family.proofs.Sequence.{reification_pieces, justification_pieces, justifications_split}
 use Rattle.pb_family.proofs.TermSlices.{weights_from, weights_until, var_of_one}
 use Rattle.pb_family.proofs.UnitSums.{unit_coefficient}
-use Rattle.pb_amo.specs.LadderSteps.{rung, rungs, link_reason, none_reason, some_reason, ladder_steps}
-use Rattle.pb_amo.specs.laws.LadderPieces.{rung_piece, link_piece, none_piece, some_piece}
+use Rattle.pb_amo.specs.LadderSteps.{rung, rungs, link_justification, none_justification, some_justification, ladder_steps}
+use Rattle.pb_amo.specs.inner.LadderPieces.{rung_piece, link_piece, none_piece, some_piece}
 
 -- ---- one step
 
@@ -65,32 +65,32 @@ module _ (us : List Term) (id base : ℕ) where
   abbrev pub from_rungs : ℕ → ℕ → List Step
   from_rungs first next = pieces (rung_piece ts first) 2 next 0 (n - 1) ++ from_links (next + 2 * (n - 1))
 
-  -- reasons by place, with more behind
-  reasons_first : (f : ℕ → Reason) (m next : ℕ) (xs : List Reason) (rest : List Step) →
-      claim_steps next (map by_reason (map f (range_with_len 0 m) ++ xs)) ++ rest ≡ pieces (λ i k. claim_steps i (by_reason (f k) ∷ [])) 1 next 0 m ++ (claim_steps (next + 1 * m) (map by_reason xs) ++ rest)
-  reasons_first f m next xs rest =
-      let some : List Reason = map f (range_with_len 0 m) in
+  -- justifications by place, with more behind
+  justifications_first : (f : ℕ → Justification) (m next : ℕ) (xs : List Justification) (rest : List Step) →
+      claim_steps next (map by_justification (map f (range_with_len 0 m) ++ xs)) ++ rest ≡ pieces (λ i k. claim_steps i (by_justification (f k) ∷ [])) 1 next 0 m ++ (claim_steps (next + 1 * m) (map by_justification xs) ++ rest)
+  justifications_first f m next xs rest =
+      let some : List Justification = map f (range_with_len 0 m) in
       let size : next + length some ≡ next + 1 * m = omega (arith, length-map-range_with_len f 0 m) in
-      ap (λ (ss : List Step). ss ++ rest) (reasons_split next some xs)
-      ∙ append_assoc (claim_steps next (map by_reason some)) (claim_steps (next + length some) (map by_reason xs)) rest
-      ∙ (λ i. reason_pieces f next 0 m i ++ (claim_steps (size i) (map by_reason xs) ++ rest))
+      ap (λ (ss : List Step). ss ++ rest) (justifications_split next some xs)
+      ∙ append_assoc (claim_steps next (map by_justification some)) (claim_steps (next + length some) (map by_justification xs)) rest
+      ∙ (λ i. justification_pieces f next 0 m i ++ (claim_steps (size i) (map by_justification xs) ++ rest))
 
   pub ladder_parts : (first next : ℕ) → base ≡ next → ladder_steps ts first id next ≡ from_rungs first next
   ladder_parts first next is =
       let size : length ts ≡ n = length-map us weighted in
       let m : ℕ = length ts in
-      let links : ℕ → List Reason = λ j. map (link_reason ts first next) (range_with_len 0 (j - 2)) in
-      let nones : ℕ → List Reason = λ j. map (none_reason ts first id next) (range_with_len 0 (j - 1)) in
-      let somes : ℕ → List Reason = λ j. map (some_reason ts first next) (range_with_len 0 (j - 1)) in
+      let links : ℕ → List Justification = λ j. map (link_justification ts first next) (range_with_len 0 (j - 2)) in
+      let nones : ℕ → List Justification = λ j. map (none_justification ts first id next) (range_with_len 0 (j - 1)) in
+      let somes : ℕ → List Justification = λ j. map (some_justification ts first next) (range_with_len 0 (j - 1)) in
       let row : next + 2 * length (rungs ts first) ≡ next + 2 * (n - 1) = omega (arith, size, length-map-range_with_len (rung ts first) 0 (m - 1)) in
       let gone : length (rungs ts first) ≡ n - 1 = omega (arith, size, length-map-range_with_len (rung ts first) 0 (m - 1)) in
       let at : ℕ = next + 2 * (n - 1) in
       let last : ℕ = at + 1 * (n - 2) + 1 * (n - 1) in
       let rest : List Step = deletion_steps 2 next (n - 1) in
-      (λ i. meaning_pieces (rung ts first) next 0 (m - 1) i ++ (claim_steps (row i) (map by_reason (links (size i) ++ (nones (size i) ++ somes (size i)))) ++ deletion_steps 2 next (gone i)))
-      ∙ (λ i. pieces (rung_piece ts first) 2 next 0 (size i - 1) ++ reasons_first (link_reason ts first next) (n - 2) at (nones n ++ somes n) rest i)
-      ∙ (λ i. pieces (rung_piece ts first) 2 next 0 (n - 1) ++ (pieces (link_piece ts next) 1 at 0 (n - 2) ++ reasons_first (none_reason ts first id next) (n - 1) (at + 1 * (n - 2)) (somes n) rest i))
-      ∙ (λ i. pieces (rung_piece ts first) 2 next 0 (n - 1) ++ (pieces (link_piece ts next) 1 at 0 (n - 2) ++ (pieces (none_piece ts id next) 1 (at + 1 * (n - 2)) 0 (n - 1) ++ (reason_pieces (some_reason ts first next) last 0 (n - 1) i ++ rest))))
+      (λ i. reification_pieces (rung ts first) next 0 (m - 1) i ++ (claim_steps (row i) (map by_justification (links (size i) ++ (nones (size i) ++ somes (size i)))) ++ deletion_steps 2 next (gone i)))
+      ∙ (λ i. pieces (rung_piece ts first) 2 next 0 (size i - 1) ++ justifications_first (link_justification ts first next) (n - 2) at (nones n ++ somes n) rest i)
+      ∙ (λ i. pieces (rung_piece ts first) 2 next 0 (n - 1) ++ (pieces (link_piece ts next) 1 at 0 (n - 2) ++ justifications_first (none_justification ts first id next) (n - 1) (at + 1 * (n - 2)) (somes n) rest i))
+      ∙ (λ i. pieces (rung_piece ts first) 2 next 0 (n - 1) ++ (pieces (link_piece ts next) 1 at 0 (n - 2) ++ (pieces (none_piece ts id next) 1 (at + 1 * (n - 2)) 0 (n - 1) ++ (justification_pieces (some_justification ts first next) last 0 (n - 1) i ++ rest))))
       ∙ (λ i. pieces (rung_piece ts first) 2 next 0 (n - 1) ++ (pieces (link_piece ts (sym is i)) 1 at 0 (n - 2) ++ (pieces (none_piece ts id (sym is i)) 1 (at + 1 * (n - 2)) 0 (n - 1) ++ (pieces (some_piece ts (sym is i)) 1 last 0 (n - 1) ++ deletion_steps 2 (sym is i) (n - 1)))))
 
 pub unit_light : (ts : List Weighted) → all_weigh 1 ts ≡ true → length ts < 2 ^ 31 → weight ts < 2 ^ 100

@@ -9,13 +9,13 @@ use Rattle.pb_derive.specs.Ones.{ones}
 use Rattle.pb_amo.specs.Passing.{passing, in_line, is_beside, Visits}
 use Rattle.pb_amo.specs.ProductSteps.{row_of, column_of}
 
-passing-take_none : {X : Type 0} (p : ℕ → Bool) (e k : ℕ) → passing p e (take {A = X} k []) ≡ []
-passing-take_none p e zero = refl
-passing-take_none p e (suc k) = refl
+passing-derive_none : {X : Type 0} (p : ℕ → Bool) (e k : ℕ) → passing p e (take {A = X} k []) ≡ []
+passing-derive_none p e zero = refl
+passing-derive_none p e (suc k) = refl
 
 -- none passes in between
 skip : {X : Type 0} (p : ℕ → Bool) (e j k : ℕ) (xs : List X) → j ≤ k → ((i : ℕ) → e + j ≤ i → i < e + k → p i ≡ false) → passing p e (take k xs) ≡ passing p e (take j xs)
-skip {X} p e j k [] le h = passing-take_none {X = X} p e k ∙ sym (passing-take_none {X = X} p e j)
+skip {X} p e j k [] le h = passing-derive_none {X = X} p e k ∙ sym (passing-derive_none {X = X} p e j)
 skip p e zero zero (x ∷ xs) le h = refl
 skip {X} p e zero (suc k) (x ∷ xs) le h =
     ap (λ (b : Bool). cond {A = List X} b (x ∷ passing p (e + 1) (take k xs)) (passing p (e + 1) (take k xs))) (h e (omega arith) (omega arith))

@@ -8,9 +8,9 @@ use Rattle.pb_steps.specs.declared.step.Step.TheVariants.{Pol}
 use Rattle.pb_derive.specs.Claims.{claim_steps}
 use Rattle.pb_derive.specs.Deletions.{deletion_steps}
 use Rattle.pb_derive.specs.FollowedBy.{followed_by}
-use Rattle.pb_derive.specs.Meanings.{Meaning, meaning_steps}
+use Rattle.pb_derive.specs.Reifications.{Reification, reification_steps}
 use Rattle.pb_derive.specs.Ones.{ones}
-use Rattle.pb_derive.specs.Reasons.{Reason, by_reason, adding}
+use Rattle.pb_derive.specs.Justifications.{Justification, by_justification, adding}
 use Rattle.pb_family.specs.Fresh.{literal_at, fresh_at}
 use Rattle.pb_amo.specs.PairwiseSteps.{pairwise_steps}
 use Rattle.pb_amo.specs.Passing.{passing, in_line, is_beside}
@@ -19,15 +19,15 @@ use Rattle.pb_amo.specs.Product.{rows, columns, line, fresh_within}
 -- ---- the lines of one side, the rows or the columns: each place is in one
 
 -- some literal of line k is true
-abbrev pub line_meaning : (ℕ → ℕ) → List Lit → ℕ → ℕ → Meaning
-line_meaning side ms first k = record { var = first + k; sum = ones (passing (in_line side k) 0 ms); least = 1 }
+abbrev pub line_reification : (ℕ → ℕ) → List Lit → ℕ → ℕ → Reification
+line_reification side ms first k = record { var = first + k; sum = ones (passing (in_line side k) 0 ms); least = 1 }
 
-abbrev pub line_meanings : (ℕ → ℕ) → List Lit → ℕ → ℕ → List Meaning
-line_meanings side ms first count = map (line_meaning side ms first) (range_with_len 0 count)
+abbrev pub line_reifications : (ℕ → ℕ) → List Lit → ℕ → ℕ → List Reification
+line_reifications side ms first count = map (line_reification side ms first) (range_with_len 0 count)
 
 -- a literal that is true makes its line true
-abbrev pub line_reason : (ℕ → ℕ) → List Lit → ℕ → ℕ → ℕ → Reason
-line_reason side ms first id e = record {
+abbrev pub line_justification : (ℕ → ℕ) → List Lit → ℕ → ℕ → ℕ → Justification
+line_justification side ms first id e = record {
   clause = negated (literal_at ms e) ∷ fresh_at first (side e) ∷ [];
   ids = (id + 2 * side e + 1) ∷ [];
   weakened = map (λ l. l.var) (passing (is_beside side e) 0 ms);
@@ -49,18 +49,18 @@ row_of q e = e / q
 abbrev pub column_of : ℕ → ℕ → ℕ
 column_of q e = e % q
 
-abbrev pub grid_meanings : List Lit → ℕ → ℕ → ℕ → List Meaning
-grid_meanings ms first r q = line_meanings (row_of q) ms first r ++ line_meanings (column_of q) ms (first + r) q
+abbrev pub grid_reifications : List Lit → ℕ → ℕ → ℕ → List Reification
+grid_reifications ms first r q = line_reifications (row_of q) ms first r ++ line_reifications (column_of q) ms (first + r) q
 
--- the meanings have the ids from `base` on
-abbrev pub cell_reasons : List Lit → ℕ → ℕ → ℕ → ℕ → ℕ → List Reason
-cell_reasons ms first r q base e = line_reason (row_of q) ms first base e ∷ line_reason (column_of q) ms (first + r) (base + 2 * r) e ∷ []
+-- the reifications have the ids from `base` on
+abbrev pub cell_justifications : List Lit → ℕ → ℕ → ℕ → ℕ → ℕ → List Justification
+cell_justifications ms first r q base e = line_justification (row_of q) ms first base e ∷ line_justification (column_of q) ms (first + r) (base + 2 * r) e ∷ []
 
-abbrev pub cells_reasons : List Lit → ℕ → ℕ → ℕ → ℕ → List Reason
-cells_reasons ms first r q base = flat_map (cell_reasons ms first r q base) (range_with_len 0 (length ms))
+abbrev pub cells_justifications : List Lit → ℕ → ℕ → ℕ → ℕ → List Justification
+cells_justifications ms first r q base = flat_map (cell_justifications ms first r q base) (range_with_len 0 (length ms))
 
 abbrev pub cells_steps : List Lit → ℕ → ℕ → ℕ → ℕ → ℕ → List Step
-cells_steps ms first r q base next = claim_steps next (map by_reason (cells_reasons ms first r q base))
+cells_steps ms first r q base next = claim_steps next (map by_justification (cells_justifications ms first r q base))
 
 -- with so many grids at most, one inside another
 unfoldable pub steps_within : ℕ → List Lit → ℕ → ℕ → ℕ → List Step
@@ -71,7 +71,7 @@ steps_within (suc more) ms first id next =
     elim (nat_le (length ms) 4) as (λ _. List Step) [
       | true ↦ pairwise_steps ms id next
       | false ↦
-          meaning_steps next (grid_meanings ms first r q)
+          reification_steps next (grid_reifications ms first r q)
           ++ (followed_by (cells_steps ms first r q next)
           (followed_by (side_steps (line_sum id next r) (steps_within more (line first r) (first + r + q)))
           (side_steps (line_sum id (next + 2 * r) q) (steps_within more (line (first + r) q) (first + r + q + fresh_within more r)))) (next + 2 * (r + q))

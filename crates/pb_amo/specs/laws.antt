@@ -8,7 +8,6 @@ pub mod GridSides
 pub mod LadderDerives
 pub mod LadderFollows
 pub mod LadderLaws
-pub mod LadderPieces
 pub mod LadderShort
 pub mod LineLaws
 pub mod LineSums
@@ -22,5 +21,4 @@ pub mod ProductDerives
 pub mod ProductLaws
 pub mod ProductLevels
 pub mod ProductLines
-pub mod ProductParts
 pub mod ProductShort

@@ -4,13 +4,13 @@ ghost use Rattle.std.specs.List.{range_with_len};
 ghost use Rattle.pb_norm.specs.Constraints.{weight, weights};
 ghost use Rattle.pb_family.specs.StepSinks.{HandsFrom, HandsSteps};
 ghost use Rattle.pb_amo.specs.ProductSteps.{row_of, column_of, cells_steps, line_sum};
-ghost use Rattle.pb_amo.specs.Source.{source_literals};
-ghost use Rattle.pb_amo.specs.laws.ProductParts.{source_size, IsMet, passed, unit_at, line_steps, beside_steps, side_meaning_steps, grid_meaning_steps, cell_steps};
+ghost use Rattle.pb_amo.specs.inner.Source.{source_literals};
+ghost use Rattle.pb_amo.specs.inner.ProductParts.{source_size, IsMet, passed, unit_at, line_steps, beside_steps, side_reification_steps, grid_reification_steps, cell_steps};
 
 use crate::sides::Sides;
 use crate::source::{Source, Stride};
 use pb_base::{Term, Var};
-use pb_family::{SinkFault, StepSink, fresh_at, take_claim, take_meaning, take_sum};
+use pb_family::{SinkFault, StepSink, derive_claim, derive_reification, derive_sum, fresh_at};
 use std::alloc::{AllocError, Global};
 
 // Adds the literal at a place with the coefficient 1, where there is one, but not at one place.
@@ -57,7 +57,7 @@ fn gather(
 }
 
 /// That a variable is true where some literal at the places is.
-fn take_line<T: StepSink>(
+fn derive_line<T: StepSink>(
     alloc: Global,
     literals: &Source,
     stride: Stride,
@@ -71,11 +71,11 @@ fn take_line<T: StepSink>(
     ensures { (p : ℕ → Bool) → IsMet literals.now stride (source_size literals.now) p → HandsFrom (line_steps literals.now var p) result (T.state sink.old) (T.state sink.new) }
 {
     let terms = gather(alloc, literals, stride, literals.len())?;
-    take_meaning(alloc, var, &terms, 1, sink)
+    derive_reification(alloc, var, &terms, 1, sink)
 }
 
 /// That a clause follows from a constraint without the literals at the places, but for one place.
-fn take_beside<T: StepSink>(
+fn derive_beside<T: StepSink>(
     alloc: Global,
     literals: &Source,
     stride: Stride,
@@ -90,11 +90,11 @@ fn take_beside<T: StepSink>(
     ensures { (p : ℕ → Bool) → IsMet literals.now stride but p → HandsFrom (beside_steps literals.now id p) result (T.state sink.old) (T.state sink.new) }
 {
     let terms = gather(alloc, literals, stride, but)?;
-    take_claim(alloc, &[id], &terms, sink)
+    derive_claim(alloc, &[id], &terms, sink)
 }
 
 /// What the fresh variables of the rows mean.
-fn take_rows<T: StepSink>(
+fn derive_rows<T: StepSink>(
     alloc: Global,
     literals: &Source,
     first: u32,
@@ -108,7 +108,7 @@ fn take_rows<T: StepSink>(
     requires low { 1 ≤ first }
     requires fits { first + sides.rows ≤ 2 ^ 31 }
     requires room { (T.state sink.old).next + 2 * sides.rows < 2 ^ 62 }
-    ensures { HandsFrom (side_meaning_steps (row_of sides.columns) (source_literals literals.now) first sides.rows) result (T.state sink.old) (T.state sink.new) }
+    ensures { HandsFrom (side_reification_steps (row_of sides.columns) (source_literals literals.now) first sides.rows) result (T.state sink.old) (T.state sink.new) }
 {
     for row in 0..sides.rows {
         let stride = Stride {
@@ -116,13 +116,13 @@ fn take_rows<T: StepSink>(
             step: 1,
             count: sides.columns,
         };
-        take_line(alloc, literals, stride, fresh_at(first, row).var, sink)?;
+        derive_line(alloc, literals, stride, fresh_at(first, row).var, sink)?;
     }
     Ok(())
 }
 
 /// What those of the columns mean.
-fn take_columns<T: StepSink>(
+fn derive_columns<T: StepSink>(
     alloc: Global,
     literals: &Source,
     first: u32,
@@ -136,7 +136,7 @@ fn take_columns<T: StepSink>(
     requires low { 1 ≤ first }
     requires fits { first + sides.columns ≤ 2 ^ 31 }
     requires room { (T.state sink.old).next + 2 * sides.columns < 2 ^ 62 }
-    ensures { HandsFrom (side_meaning_steps (column_of sides.columns) (source_literals literals.now) first sides.columns) result (T.state sink.old) (T.state sink.new) }
+    ensures { HandsFrom (side_reification_steps (column_of sides.columns) (source_literals literals.now) first sides.columns) result (T.state sink.old) (T.state sink.new) }
 {
     for column in 0..sides.columns {
         let stride = Stride {
@@ -144,13 +144,13 @@ fn take_columns<T: StepSink>(
             step: sides.columns,
             count: sides.rows,
         };
-        take_line(alloc, literals, stride, fresh_at(first, column).var, sink)?;
+        derive_line(alloc, literals, stride, fresh_at(first, column).var, sink)?;
     }
     Ok(())
 }
 
 /// What all of them mean.
-pub fn take_lines<T: StepSink>(
+pub fn derive_lines<T: StepSink>(
     alloc: Global,
     literals: &Source,
     first: u32,
@@ -164,14 +164,14 @@ pub fn take_lines<T: StepSink>(
     requires low { 1 ≤ first }
     requires fits { first + sides.rows + sides.columns ≤ 2 ^ 31 }
     requires room { (T.state sink.old).next + 2 * (sides.rows + sides.columns) < 2 ^ 62 }
-    ensures { HandsFrom (grid_meaning_steps (source_literals literals.now) first sides.rows sides.columns) result (T.state sink.old) (T.state sink.new) }
+    ensures { HandsFrom (grid_reification_steps (source_literals literals.now) first sides.rows sides.columns) result (T.state sink.old) (T.state sink.new) }
 {
-    take_rows(alloc, literals, first, sides, sink)?;
-    take_columns(alloc, literals, first + sides.rows as u32, sides, sink)
+    derive_rows(alloc, literals, first, sides, sink)?;
+    derive_columns(alloc, literals, first + sides.rows as u32, sides, sink)
 }
 
-/// The two clauses of a literal, where the meanings' constraints have the ids from `base` on.
-fn take_cell<T: StepSink>(
+/// The two clauses of a literal, where the reifications' constraints have the ids from `base` on.
+fn derive_cell<T: StepSink>(
     alloc: Global,
     literals: &Source,
     sides: Sides,
@@ -203,12 +203,12 @@ fn take_cell<T: StepSink>(
     };
     let row_id = base + 2 * row as u64 + 1;
     let column_id = base + 2 * sides.rows as u64 + 2 * column as u64 + 1;
-    take_beside(alloc, literals, across, place, row_id, sink)?;
-    take_beside(alloc, literals, down, place, column_id, sink)
+    derive_beside(alloc, literals, across, place, row_id, sink)?;
+    derive_beside(alloc, literals, down, place, column_id, sink)
 }
 
 /// The clauses of all literals.
-pub fn take_cells<T: StepSink>(
+pub fn derive_cells<T: StepSink>(
     alloc: Global,
     literals: &Source,
     sides: Sides,
@@ -225,7 +225,7 @@ pub fn take_cells<T: StepSink>(
     ensures { HandsFrom (cells_steps (source_literals literals.now) 0 sides.rows sides.columns base) result (T.state sink.old) (T.state sink.new) }
 {
     for place in 0..literals.len() {
-        take_cell(alloc, literals, sides, base, place, sink)?;
+        derive_cell(alloc, literals, sides, base, place, sink)?;
     }
     Ok(())
 }
@@ -244,7 +244,7 @@ fn ids_of(alloc: Global, id: u64, base: u64, count: usize) -> Result<Vec<u64>, A
 }
 
 /// That at most one of the lines has a true literal.
-pub fn take_line_sum<T: StepSink>(
+pub fn derive_line_sum<T: StepSink>(
     alloc: Global,
     id: u64,
     base: u64,
@@ -257,5 +257,5 @@ pub fn take_line_sum<T: StepSink>(
     ensures { HandsSteps (line_sum id base count ∷ []) result (T.state sink.old) (T.state sink.new) }
 {
     let ids = ids_of(alloc, id, base, count)?;
-    take_sum(alloc, &ids, sink)
+    derive_sum(alloc, &ids, sink)
 }

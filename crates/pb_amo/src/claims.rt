@@ -3,10 +3,10 @@ ghost use Rattle.std.specs.Prelude.{◌≡◌, ◌≤◌, ◌<◌, ◌+◌, ◌^
 ghost use Rattle.pb_family.specs.StepSinks.{HandsSteps};
 ghost use Rattle.pb_amo.specs.Pairwise.{pair_count};
 ghost use Rattle.pb_amo.specs.PairwiseSteps.{pairwise_steps};
-ghost use Rattle.pb_amo.specs.Source.{source_literals};
+ghost use Rattle.pb_amo.specs.inner.Source.{source_literals};
 
 use crate::source::Source;
-use pb_family::{SinkFault, StepSink, take_propagated};
+use pb_family::{SinkFault, StepSink, derive_propagated};
 use std::alloc::Global;
 
 /// Hands over that each clause of two of the literals follows from the constraint with an id, and the clauses.
@@ -24,7 +24,7 @@ pub(crate) fn derive_pairs<T: StepSink>(
     for i in 0..count {
         for j in i + 1..count {
             let clause = [literals.at(i).not(), literals.at(j).not()];
-            take_propagated(alloc, &[id], &clause, sink)?;
+            derive_propagated(alloc, &[id], &clause, sink)?;
         }
     }
     Ok(())

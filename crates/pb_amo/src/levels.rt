@@ -3,18 +3,18 @@ ghost use Rattle.std.specs.Prelude.{◌≡◌, ◌≤◌, ◌<◌, ◌+◌, ◌*
 ghost use Rattle.pb_family.specs.StepSinks.{HandsFrom, HandsSteps};
 ghost use Rattle.pb_amo.specs.Product.{product_fresh};
 ghost use Rattle.pb_amo.specs.ProductSteps.{product_steps};
-ghost use Rattle.pb_amo.specs.Source.{source_literals};
-ghost use Rattle.pb_amo.specs.laws.ProductParts.{source_size, most_steps, opening_steps, turning_steps, closing_steps};
+ghost use Rattle.pb_amo.specs.inner.Source.{source_literals};
+ghost use Rattle.pb_amo.specs.inner.ProductParts.{source_size, most_steps, opening_steps, turning_steps, closing_steps};
 
-use crate::cells::{take_cells, take_line_sum, take_lines};
+use crate::cells::{derive_cells, derive_line_sum, derive_lines};
 use crate::claims::derive_pairs;
 use crate::sides::{Sides, fresh_of, sides_of};
 use crate::source::{Line, Source};
-use pb_family::{SinkFault, StepSink, take_deletion, take_deletions};
+use pb_family::{SinkFault, StepSink, derive_deletion, derive_deletions};
 use std::alloc::Global;
 
 /// What the rows and columns mean, the clauses of the cells, and that at most one row has a true literal.
-fn take_opening<T: StepSink>(
+fn derive_opening<T: StepSink>(
     alloc: Global,
     literals: &Source,
     first: u32,
@@ -33,13 +33,13 @@ fn take_opening<T: StepSink>(
     ensures { HandsFrom (opening_steps (source_literals literals.now) first sides.rows sides.columns id) result (T.state sink.old) (T.state sink.new) }
 {
     let base = sink.next_id();
-    take_lines(alloc, literals, first, sides, sink)?;
-    take_cells(alloc, literals, sides, base, sink)?;
-    take_line_sum(alloc, id, base, sides.rows, sink)
+    derive_lines(alloc, literals, first, sides, sink)?;
+    derive_cells(alloc, literals, sides, base, sink)?;
+    derive_line_sum(alloc, id, base, sides.rows, sink)
 }
 
 /// That the sum of the rows goes, and at most one column has a true literal.
-fn take_turn<T: StepSink>(
+fn derive_turn<T: StepSink>(
     alloc: Global,
     row_sum: u64,
     id: u64,
@@ -53,13 +53,13 @@ fn take_turn<T: StepSink>(
     requires room { (T.state sink.old).next < 2 ^ 62 }
     ensures { HandsSteps (turning_steps row_sum id (base + 2 * sides.rows) sides.columns) result (T.state sink.old) (T.state sink.new) }
 {
-    take_deletion(alloc, row_sum, 1, sink)?;
+    derive_deletion(alloc, row_sum, 1, sink)?;
     let column_base = base + 2 * sides.rows as u64;
-    take_line_sum(alloc, id, column_base, sides.columns, sink)
+    derive_line_sum(alloc, id, column_base, sides.columns, sink)
 }
 
 /// That the sum of the columns goes, and what the lines mean.
-fn take_close<T: StepSink>(
+fn derive_close<T: StepSink>(
     alloc: Global,
     column_sum: u64,
     base: u64,
@@ -72,8 +72,8 @@ fn take_close<T: StepSink>(
     requires room { (T.state sink.old).next < 2 ^ 62 }
     ensures { HandsSteps (closing_steps column_sum base lines) result (T.state sink.old) (T.state sink.new) }
 {
-    take_deletion(alloc, column_sum, 1, sink)?;
-    take_deletions(alloc, base, 2, lines, sink)
+    derive_deletion(alloc, column_sum, 1, sink)?;
+    derive_deletions(alloc, base, 2, lines, sink)
 }
 
 /// Hands over the whole derivation, where `id` is the constraint's.
@@ -98,7 +98,7 @@ pub fn derive_grid<T: StepSink>(
     let base = sink.next_id();
     let lines = (sides.rows + sides.columns) as u64;
     let row_sum = base + 2 * lines + 2 * count as u64;
-    take_opening(alloc, literals, first, sides, id, sink)?;
+    derive_opening(alloc, literals, first, sides, id, sink)?;
     let first_column = first + sides.rows as u32;
     let inner = first_column + sides.columns as u32;
     let row_line = Line {
@@ -112,7 +112,7 @@ pub fn derive_grid<T: StepSink>(
         count: sides.columns,
     };
     let column_sum = sink.next_id();
-    take_turn(alloc, row_sum, id, base, sides, sink)?;
+    derive_turn(alloc, row_sum, id, base, sides, sink)?;
     derive_grid(alloc, &Source::Fresh(column_line), last, column_sum, sink)?;
-    take_close(alloc, column_sum, base, lines, sink)
+    derive_close(alloc, column_sum, base, lines, sink)
 }

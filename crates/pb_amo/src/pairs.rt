@@ -4,7 +4,7 @@ ghost use Rattle.pb_family.specs.Handing.{Hands};
 ghost use Rattle.pb_norm.specs.BoundedSums.{IsOverDistinct};
 ghost use Rattle.pb_norm.specs.Reduction.{all_weigh, lits_of};
 ghost use Rattle.pb_amo.specs.Pairwise.{pair_count, pairwise_clauses};
-ghost use Rattle.pb_amo.specs.Source.{source_literals};
+ghost use Rattle.pb_amo.specs.inner.Source.{source_literals};
 
 use crate::claims::derive_pairs;
 use crate::source::Source;

@@ -4,14 +4,16 @@ ghost use Rattle.pb_norm.specs.Constraints.{weight, weights};
 ghost use Rattle.pb_family.specs.Derivations.{pieces};
 ghost use Rattle.pb_family.specs.StepSinks.{HandsSteps};
 ghost use Rattle.pb_amo.specs.LadderSteps.{ladder_steps};
-ghost use Rattle.pb_amo.specs.laws.LadderPieces.{rung_piece, link_piece, none_piece, some_piece};
+ghost use Rattle.pb_amo.specs.inner.LadderPieces.{rung_piece, link_piece, none_piece, some_piece};
 
 use pb_base::Term;
-use pb_family::{SinkFault, StepSink, fresh_at, take_claim, take_deletions, take_meaning};
+use pb_family::{
+    SinkFault, StepSink, derive_claim, derive_deletions, derive_reification, fresh_at,
+};
 use std::alloc::Global;
 
 // What the fresh variable at a place means.
-fn take_rung<T: StepSink>(
+fn derive_rung<T: StepSink>(
     alloc: Global,
     terms: &[Term],
     first: u32,
@@ -26,11 +28,11 @@ fn take_rung<T: StepSink>(
     ensures { HandsSteps (rung_piece (weights terms.now) first (T.state sink.old).next place) result (T.state sink.old) (T.state sink.new) }
 {
     let var = fresh_at(first, place).var;
-    take_meaning(alloc, var, &terms[place + 1..], 1, sink)
+    derive_reification(alloc, var, &terms[place + 1..], 1, sink)
 }
 
 // What all of them mean.
-fn take_rungs<T: StepSink>(
+fn derive_rungs<T: StepSink>(
     alloc: Global,
     terms: &[Term],
     first: u32,
@@ -45,13 +47,13 @@ fn take_rungs<T: StepSink>(
     ensures { HandsSteps (pieces (rung_piece (weights terms.now) first) 2 (T.state sink.old).next 0 (length terms.now - 1)) result (T.state sink.old) (T.state sink.new) }
 {
     for place in 0..terms.len() - 1 {
-        take_rung(alloc, terms, first, place, sink)?;
+        derive_rung(alloc, terms, first, place, sink)?;
     }
     Ok(())
 }
 
-// The clause between two neighbours, where the ids of the meanings begin at `base`.
-fn take_link<T: StepSink>(
+// The clause between two neighbours, where the ids of the reifications begin at `base`.
+fn derive_link<T: StepSink>(
     alloc: Global,
     terms: &[Term],
     base: u64,
@@ -65,11 +67,11 @@ fn take_link<T: StepSink>(
     ensures { HandsSteps (link_piece (weights terms.now) base (T.state sink.old).next place) result (T.state sink.old) (T.state sink.new) }
 {
     let id = base + 2 * place as u64;
-    take_claim(alloc, &[id + 2, id + 1], &terms[place + 1..place + 2], sink)
+    derive_claim(alloc, &[id + 2, id + 1], &terms[place + 1..place + 2], sink)
 }
 
 // The clauses between neighbours.
-fn take_links<T: StepSink>(
+fn derive_links<T: StepSink>(
     alloc: Global,
     terms: &[Term],
     base: u64,
@@ -82,13 +84,13 @@ fn take_links<T: StepSink>(
     ensures { HandsSteps (pieces (link_piece (weights terms.now) base) 1 (T.state sink.old).next 0 (length terms.now - 2)) result (T.state sink.old) (T.state sink.new) }
 {
     for place in 0..terms.len() - 2 {
-        take_link(alloc, terms, base, place, sink)?;
+        derive_link(alloc, terms, base, place, sink)?;
     }
     Ok(())
 }
 
 // The clause that none is true after the literal at a place, where `id` is the constraint's.
-fn take_none<T: StepSink>(
+fn derive_none<T: StepSink>(
     alloc: Global,
     terms: &[Term],
     id: u64,
@@ -102,11 +104,11 @@ fn take_none<T: StepSink>(
     requires room { (T.state sink.old).next + 1 < 2 ^ 62 }
     ensures { HandsSteps (none_piece (weights terms.now) id base (T.state sink.old).next place) result (T.state sink.old) (T.state sink.new) }
 {
-    take_claim(alloc, &[base + 2 * place as u64, id], &terms[..place], sink)
+    derive_claim(alloc, &[base + 2 * place as u64, id], &terms[..place], sink)
 }
 
 // The clauses that none is true after a literal that is.
-fn take_nones<T: StepSink>(
+fn derive_nones<T: StepSink>(
     alloc: Global,
     terms: &[Term],
     id: u64,
@@ -120,13 +122,13 @@ fn take_nones<T: StepSink>(
     ensures { HandsSteps (pieces (none_piece (weights terms.now) id base) 1 (T.state sink.old).next 0 (length terms.now - 1)) result (T.state sink.old) (T.state sink.new) }
 {
     for place in 0..terms.len() - 1 {
-        take_none(alloc, terms, id, base, place, sink)?;
+        derive_none(alloc, terms, id, base, place, sink)?;
     }
     Ok(())
 }
 
 // The clause that some is true before the literal behind a place.
-fn take_some<T: StepSink>(
+fn derive_some<T: StepSink>(
     alloc: Global,
     terms: &[Term],
     base: u64,
@@ -139,7 +141,7 @@ fn take_some<T: StepSink>(
     requires room { (T.state sink.old).next + 1 < 2 ^ 62 }
     ensures { HandsSteps (some_piece (weights terms.now) base (T.state sink.old).next place) result (T.state sink.old) (T.state sink.new) }
 {
-    take_claim(
+    derive_claim(
         alloc,
         &[base + 2 * place as u64 + 1],
         &terms[place + 2..],
@@ -148,7 +150,7 @@ fn take_some<T: StepSink>(
 }
 
 // The clauses that some is true before a literal that is.
-fn take_somes<T: StepSink>(
+fn derive_somes<T: StepSink>(
     alloc: Global,
     terms: &[Term],
     base: u64,
@@ -161,12 +163,12 @@ fn take_somes<T: StepSink>(
     ensures { HandsSteps (pieces (some_piece (weights terms.now) base) 1 (T.state sink.old).next 0 (length terms.now - 1)) result (T.state sink.old) (T.state sink.new) }
 {
     for place in 0..terms.len() - 1 {
-        take_some(alloc, terms, base, place, sink)?;
+        derive_some(alloc, terms, base, place, sink)?;
     }
     Ok(())
 }
 
-/// Hands over what the fresh variables mean, that each clause follows, and that the meanings go.
+/// Hands over what the fresh variables mean, that each clause follows, and that the reifications go.
 pub(crate) fn derive_ladder<T: StepSink>(
     alloc: Global,
     terms: &[Term],
@@ -183,9 +185,9 @@ pub(crate) fn derive_ladder<T: StepSink>(
     ensures { HandsSteps (ladder_steps (weights terms.now) first id (T.state sink.old).next) result (T.state sink.old) (T.state sink.new) }
 {
     let base = sink.next_id();
-    take_rungs(alloc, terms, first, sink)?;
-    take_links(alloc, terms, base, sink)?;
-    take_nones(alloc, terms, id, base, sink)?;
-    take_somes(alloc, terms, base, sink)?;
-    take_deletions(alloc, base, 2, terms.len() as u64 - 1, sink)
+    derive_rungs(alloc, terms, first, sink)?;
+    derive_links(alloc, terms, base, sink)?;
+    derive_nones(alloc, terms, id, base, sink)?;
+    derive_somes(alloc, terms, base, sink)?;
+    derive_deletions(alloc, base, 2, terms.len() as u64 - 1, sink)
 }

@@ -27,7 +27,7 @@ use Rattle.pb_check.specs.Faults.{of_cnf, of_step, miscounted_line}
 use Rattle.pb_check.specs.Turns.Stage.{head_wanted, count_wanted, at_steps, ended}
 use Rattle.pb_check.specs.Turns.Turn.{go, stop, test}
 use Rattle.pb_check.specs.Walk.{number_of, Follows, Walks, task_of, WalksFrom, WalksBy}
-use Rattle.pb_check.specs.laws.WalkLaws.{WalkHasOneAnswer}
+use Rattle.pb_check.specs.WalkLaws.{WalkHasOneAnswer}
 
 -- ---- no other answer
 
@@ -41,7 +41,7 @@ follows-only task rows number (test db step due clauses) a b only (inl t) (inl u
 follows-only task rows number (test db step due clauses) a b only (inl t) (inr r) = absurd (allowed_or_denied.not_both db step due (t.0, t.1) (r.0, r.1))
 follows-only task rows number (test db step due clauses) a b only (inr r) (inl u) = absurd (allowed_or_denied.not_both db step due (u.0, u.1) (r.0, r.1))
 follows-only task rows number (test db step due clauses) a b only (inr r) (inr q) =
-    r.2 ∙ (ap (λ (d : Denied). Ok (Rejected number d)) (allowed_or_denied.one_reason db step due r.0 q.0 r.1 q.1) ∙ sym q.2)
+    r.2 ∙ (ap (λ (d : Denied). Ok (Rejected number d)) (allowed_or_denied.one_cause db step due r.0 q.0 r.1 q.1) ∙ sym q.2)
 
 walks-only : (task : Task) (rows : List CnfRow) (stage : Stage) (clauses : Clauses) (a b : Answer) → Walks task stage clauses rows a → Walks task stage clauses rows b → a ≡ b
 walks-only task [] stage clauses a b v w = absurd v

@@ -7,7 +7,7 @@ use Rattle.pb_desk.specs.LineReading.{may_end}
 use Rattle.pb_check.specs.declared.verdict.CheckFault.{CheckFault}
 use Rattle.pb_check.specs.declared.verdict.CheckFault.TheVariants.{Refused, Limit, ReadFault, NoMemory}
 use Rattle.pb_desk.specs.TwoSlots.{ReadsBoth}
-use Rattle.pb_check.specs.laws.Phases.{StopsOne, StopsBoth}
+use Rattle.pb_check.specs.inner.Phases.{StopsOne, StopsBoth}
 use Rattle.pb_desk.proofs.BothSlots.{both_of_one, both_of_two, both_then, both_weaker, fails_both_later, fails_of_one, fails_of_two}
 
 pub stops_of_cnf : (f : CheckFault) (cnf cnf' proof : Reader) (a b : DeskState) (T : List ℕ → CheckFault → Type 0) (U : List ℕ → List ℕ → CheckFault → Type 0) → cnf.slot ≢ proof.slot → cnf'.slot ≡ cnf.slot

@@ -29,7 +29,7 @@ use Rattle.pb_dimacs.proofs.Whole.{told_is_said}
 use Rattle.pb_steps.proofs.Running.{accepted_extends}
 use Rattle.pb_check.specs.Turns.{Clauses}
 use Rattle.pb_check.specs.Walk.{task_of, WalksFrom, WalksBy}
-use Rattle.pb_check.specs.laws.WalkLaws.{AcceptedCnfExtends}
+use Rattle.pb_check.specs.WalkLaws.{AcceptedCnfExtends}
 use Rattle.pb_check.specs.Models.{IsModelFrom, ExtendsSolutions}
 use Rattle.pb_check.proofs.Accepted.{IsRun, accepted, no-fault, no-cnf, started, head-run}
 use Rattle.pb_check.proofs.Values.{listed, listed-agrees, listed_covers, listed_front}

@@ -21,14 +21,14 @@ use Rattle.pb_dimacs.proofs.FormLemmas.{start_rows}
 use Rattle.pb_steps.specs.declared.step.Step.{Step}
 use Rattle.pb_steps.specs.Database.{Database}
 use Rattle.pb_steps.specs.declared.denied.Denied.{Denied}
-use Rattle.pb_check.specs.declared.kept.Kept.{Kept}
+use Rattle.pb_check.specs.declared.kept.CollectedClauses.{CollectedClauses}
 use Rattle.pb_check.specs.declared.taking.Taken.{Taken}
 use Rattle.pb_check.specs.declared.taking.Taken.TheVariants as taken
 use Rattle.pb_check.specs.declared.verdict.Verdict.{Verdict}
 use Rattle.pb_check.specs.declared.verdict.Verdict.TheVariants.{Accepted, Rejected}
 use Rattle.pb_check.specs.KeptClauses.{HasVars, IsKept, SaysClauses}
-use Rattle.pb_check.specs.laws.Judging.{IsJudged}
-use Rattle.pb_check.specs.laws.Keeping.{Tells, Keeps, KeepsNext, KeepsLine, KeepsLines, KeptAll}
+use Rattle.pb_check.specs.inner.Judging.{IsJudged}
+use Rattle.pb_check.specs.inner.Keeping.{Tells, Keeps, KeepsNext, KeepsLine, KeepsLines, KeptAll}
 use Rattle.pb_check.proofs.WholeRuns.{AreNew, apart_new, takes_new, started_with, Started}
 
 -- a rule is no last line
@@ -57,26 +57,26 @@ before r r' l0 l1 l2 a b d Q first second =
 
 -- ---- lines among the steps
 
-pub line_keeps : (t : Taken) (k k' : Kept) (r r' : CnfReader) (l l' : Reader) (a b d : DeskState) (P : List ℕ → List ℕ → Type 0) → r.lines.slot ≢ l.slot → l'.slot ≡ l.slot → r'.lines.slot ≡ r.lines.slot
+pub line_keeps : (t : Taken) (k k' : CollectedClauses) (r r' : CnfReader) (l l' : Reader) (a b d : DeskState) (P : List ℕ → List ℕ → Type 0) → r.lines.slot ≢ l.slot → l'.slot ≡ l.slot → r'.lines.slot ≡ r.lines.slot
     → TakesAhead l.slot l.ahead l'.ahead a b P → KeepsNext t k r k' r' b d → KeepsLine t k r l k' r' l' a d
 line_keeps t k k' r r' l l' a b d P apart slot slot' line step =
     behind r.lines r'.lines l l' l' a b d (Keeps t k r k' r') (waits r.lines l l' a b P apart slot line)
     (both_of_one r.lines r'.lines l' b d (Keeps t k r k' r') (λ c p c' p'. Keeps t k r k' r' c c') (λ e. apart (e ∙ slot)) slot' (λ c p c' h. h) step)
 
-pub none_kept : (k : Kept) (r : CnfReader) (l : Reader) (a : DeskState) → r.lines.slot ≢ l.slot → KeepsLine taken.On k r l k r l a a
+pub none_kept : (k : CollectedClauses) (r : CnfReader) (l : Reader) (a : DeskState) → r.lines.slot ≢ l.slot → KeepsLine taken.On k r l k r l a a
 none_kept k r l a apart = both_begin r.lines l a (λ c p c' p'. Keeps taken.On k r k r c c') apart (λ t u. (refl, λ all tells. tells))
 
-pub keeps_on : (k k' k'' : Kept) (r r' r'' : CnfReader) (l l' l'' : Reader) (a b d : DeskState) → KeepsLine taken.On k r l k' r' l' a b → KeepsLine taken.On k' r' l' k'' r'' l'' b d → KeepsLine taken.On k r l k'' r'' l'' a d
+pub keeps_on : (k k' k'' : CollectedClauses) (r r' r'' : CnfReader) (l l' l'' : Reader) (a b d : DeskState) → KeepsLine taken.On k r l k' r' l' a b → KeepsLine taken.On k' r' l' k'' r'' l'' b d → KeepsLine taken.On k r l k'' r'' l'' a d
 keeps_on k k' k'' r r' r'' l l' l'' a b d first second =
     both_then r.lines l r'.lines l' r''.lines l'' a b d (λ c p c' p'. Keeps taken.On k r k' r' c c') (λ c p c' p'. Keeps taken.On k' r' k'' r'' c c') (λ c p c' p'. Keeps taken.On k r k'' r'' c c')
     (λ t0 u0 t1 u1 t2 u2 p q. (q.0 ∙ p.0, λ all tells. p.1 all (q.1 all tells))) first second
 
-pub keeps_out : (k k' k'' : Kept) (r r' r'' : CnfReader) (l l' l'' : Reader) (a b d : DeskState) → KeepsLine taken.On k r l k' r' l' a b → KeepsLine taken.Last k' r' l' k'' r'' l'' b d → ReadsBoth r.lines l r''.lines l'' a d (λ c p c' p'. Tells k r c k''.clauses)
+pub keeps_out : (k k' k'' : CollectedClauses) (r r' r'' : CnfReader) (l l' l'' : Reader) (a b d : DeskState) → KeepsLine taken.On k r l k' r' l' a b → KeepsLine taken.Last k' r' l' k'' r'' l'' b d → ReadsBoth r.lines l r''.lines l'' a d (λ c p c' p'. Tells k r c k''.clauses)
 keeps_out k k' k'' r r' r'' l l' l'' a b d first second =
     both_then r.lines l r'.lines l' r''.lines l'' a b d (λ c p c' p'. Keeps taken.On k r k' r' c c') (λ c p c' p'. Keeps taken.Last k' r' k'' r'' c c') (λ c p c' p'. Tells k r c k''.clauses)
     (λ t0 u0 t1 u1 t2 u2 p q. p.1 k''.clauses q) first second
 
-pub keeps_denied : (t : Taken) (k k' k'' : Kept) (r r' r'' : CnfReader) (l l' l'' : Reader) (a b d : DeskState) → KeepsLine taken.On k r l k' r' l' a b → KeepsLine t k' r' l' k'' r'' l'' b d → ReadsBoth r.lines l r''.lines l'' a d (λ c p c' p'. Unit {0})
+pub keeps_denied : (t : Taken) (k k' k'' : CollectedClauses) (r r' r'' : CnfReader) (l l' l'' : Reader) (a b d : DeskState) → KeepsLine taken.On k r l k' r' l' a b → KeepsLine t k' r' l' k'' r'' l'' b d → ReadsBoth r.lines l r''.lines l'' a d (λ c p c' p'. Unit {0})
 keeps_denied t k k' k'' r r' r'' l l' l'' a b d first second =
     both_then r.lines l r'.lines l' r''.lines l'' a b d (λ c p c' p'. Keeps taken.On k r k' r' c c') (λ c p c' p'. Keeps t k' r' k'' r'' c c') (λ c p c' p'. Unit {0})
     (λ t0 u0 t1 u1 t2 u2 p q. tt) first second
@@ -95,7 +95,7 @@ vars_told p x y cnf cnf' proof head a b new apart slot given =
     (started_with head cnf cnf' proof a b (apart_new x y cnf proof new apart) slot given) in
     takes.texts
 
-all_said : (head : CnfHead) (cnf' : CnfReader) (k k' : Kept) (text rest : List ℕ) → cnf'.vars ≡ head.vars → cnf'.left ≡ head.clauses → k.wanted ≡ true → k.clauses ≡ [] → start_of (rows_of text) ≡ told head (symbols_left cnf' rest)
+all_said : (head : CnfHead) (cnf' : CnfReader) (k k' : CollectedClauses) (text rest : List ℕ) → cnf'.vars ≡ head.vars → cnf'.left ≡ head.clauses → k.wanted ≡ true → k.clauses ≡ [] → start_of (rows_of text) ≡ told head (symbols_left cnf' rest)
     → Tells k cnf' rest k'.clauses → SaysClauses text head.vars k'.clauses
 all_said head cnf' k k' text rest vars left wanted none start tells =
     let whole = tells wanted in
@@ -106,7 +106,7 @@ all_said head cnf' k k' text rest vars left wanted none start tells =
       vars_are = refl;
     }
 
-pub clauses_told : (p : Problem) (x y : ℕ) (cnf cnf' cnf'' : CnfReader) (proof proof' : Reader) (head : CnfHead) (k k' : Kept) (a b d : DeskState) → AreNew x y cnf proof → x ≢ y → cnf'.lines.slot ≡ cnf.lines.slot → cnf'.vars ≡ head.vars → cnf'.left ≡ head.clauses
+pub clauses_told : (p : Problem) (x y : ℕ) (cnf cnf' cnf'' : CnfReader) (proof proof' : Reader) (head : CnfHead) (k k' : CollectedClauses) (a b d : DeskState) → AreNew x y cnf proof → x ≢ y → cnf'.lines.slot ≡ cnf.lines.slot → cnf'.vars ≡ head.vars → cnf'.left ≡ head.clauses
     → k.wanted ≡ true → k.clauses ≡ [] → GivesHead head cnf cnf' a b → KeepsLines Accepted k cnf' proof k' cnf'' proof' b d → IfTold a (λ t. SaysClauses (t.left x) head.vars k'.clauses)
 clauses_told p x y cnf cnf' cnf'' proof proof' head k k' a b d new apart slot vars left wanted none given keeps =
     let takes : TakesBoth x y (λ c q. SaysClauses c head.vars k'.clauses) a d =

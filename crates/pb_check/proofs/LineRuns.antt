@@ -14,8 +14,8 @@ use Rattle.pb_check.specs.Turns.{Answer, Task, Clauses}
 use Rattle.pb_check.specs.Turns.Stage.{head_wanted, count_wanted, at_steps, ended}
 use Rattle.pb_check.specs.Walk.{Walks}
 use Rattle.pb_desk.specs.TwoSlots.{ReadsBoth}
-use Rattle.pb_check.specs.laws.Calls.{CountLeads}
-use Rattle.pb_check.specs.laws.Phases.{StopsOne, StopsBoth, Leads, clauses_of, StepsGive, StepsStop, IsTask, LinesAnswer}
+use Rattle.pb_check.specs.inner.Calls.{CountLeads}
+use Rattle.pb_check.specs.inner.Phases.{StopsOne, StopsBoth, Leads, clauses_of, StepsGive, StepsStop, IsTask, LinesAnswer}
 use Rattle.pb_desk.proofs.BothSlots.{both_of_two, both_then}
 use Rattle.pb_check.proofs.BothStops.{stops_of_proof, both_stops}
 

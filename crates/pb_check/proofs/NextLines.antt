@@ -24,7 +24,7 @@ use Rattle.pb_check.specs.declared.verdict.CheckFault.TheVariants.{Refused, Limi
 use Rattle.pb_check.specs.Turns.{Answer}
 use Rattle.pb_check.specs.Walk.{Walks}
 use Rattle.pb_check.specs.Faults.{of_step, of_line}
-use Rattle.pb_check.specs.laws.Phases.{says_nothing, behind_blank, NextSays, NextStops, StopsOne}
+use Rattle.pb_check.specs.inner.Phases.{says_nothing, behind_blank, NextSays, NextStops, StopsOne}
 use Rattle.pb_check.proofs.TurnLemmas.{walks_behind, behind_unsaid, behind_said, behind_fault, fault_walks}
 
 -- what stops a reader is said in other words

@@ -18,7 +18,7 @@ use Rattle.pb_check.specs.Turns.Stage.{head_wanted, count_wanted, at_steps, ende
 use Rattle.pb_check.specs.Turns.Turn.{go, stop}
 use Rattle.pb_check.specs.Walk.{Walks}
 use Rattle.pb_check.specs.Faults.{misplaced_line, miscounted_line, early_end}
-use Rattle.pb_check.specs.laws.Phases.{says_nothing, StopsOne, NextSays, FollowsRows, Leads}
+use Rattle.pb_check.specs.inner.Phases.{says_nothing, StopsOne, NextSays, FollowsRows, Leads}
 use Rattle.pb_desk.proofs.BothSlots.{differs}
 use Rattle.pb_check.proofs.NextLines.{stops_weaker}
 use Rattle.pb_check.proofs.TurnLemmas.{next_walks, end_walks}

@@ -31,7 +31,7 @@ use Rattle.pb_check.specs.Turns.{Task, Stage, Clauses, Turn, at_out, at_end, nex
 use Rattle.pb_check.specs.Turns.Stage.{head_wanted, count_wanted, at_steps, ended}
 use Rattle.pb_check.specs.Turns.Turn.{go, stop}
 use Rattle.pb_check.specs.Walk.{Walks, task_of, WalksFrom, WalksBy}
-use Rattle.pb_check.specs.laws.WalkLaws.{SaySteps, framed, RunsAreAccepted}
+use Rattle.pb_check.specs.WalkLaws.{SaySteps, framed, RunsAreAccepted}
 use Rattle.pb_check.proofs.Accepted.{accepted, Turns, started}
 use Rattle.pb_check.specs.Faults.{miscounted_line}
 use Rattle.pb_check.proofs.Told.{no-refusal, told_head, told_end, told_next}

@@ -18,7 +18,7 @@ use Rattle.pb_check.specs.Turns.Stage.{at_steps}
 use Rattle.pb_check.specs.Walk.{Walks}
 use Rattle.pb_desk.specs.TwoSlots.{ReadsBoth}
 use Rattle.pb_check.specs.Faults.{early_end}
-use Rattle.pb_check.specs.laws.Phases.{StopsOne, StopsBoth, NextSays, NextStops, clauses_of, TurnGives, TurnStops, LineGives, StepsGive, StepsStop}
+use Rattle.pb_check.specs.inner.Phases.{StopsOne, StopsBoth, NextSays, NextStops, clauses_of, TurnGives, TurnStops, LineGives, StepsGive, StepsStop}
 use Rattle.pb_check.proofs.TurnLemmas.{next_walks, end_walks}
 use Rattle.pb_desk.proofs.BothSlots.{both_weaker, both_of_one, both_of_two, both_then}
 use Rattle.pb_check.proofs.BothStops.{stops_of_cnf, stops_of_proof, both_stops}

@@ -17,9 +17,9 @@ use Rattle.pb_steps.specs.declared.step.Step.TheVariants.{Blank, Head, Loaded, P
 use Rattle.pb_steps.specs.Database.{Database}
 use Rattle.pb_check.specs.declared.taking.Taken.{Taken}
 use Rattle.pb_check.specs.Turns.{Task, at_out, next_in, step_turn}
-use Rattle.pb_check.specs.laws.Judging.{IsJudged}
+use Rattle.pb_check.specs.inner.Judging.{IsJudged}
 use Rattle.pb_check.specs.Faults.{misplaced_line}
-use Rattle.pb_check.specs.laws.Phases.{StopsOne, clauses_of, TurnGives}
+use Rattle.pb_check.specs.inner.Phases.{StopsOne, clauses_of, TurnGives}
 use Rattle.pb_check.proofs.TurnLemmas.{judged_gives, clause_given, nothing_given, out_turn}
 
 pub out_given : (next : Option (List Lit)) (t : Taken) (old new : CnfReader) (a b : DeskState) (db db' : Database) (id : ℕ) → GivesNext next old.vars old.left old.lines old.at new.lines new.at a b

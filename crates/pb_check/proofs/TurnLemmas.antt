@@ -18,9 +18,9 @@ use Rattle.pb_check.specs.Turns.{Answer, Task, Stage, Clauses, Turn, turn_by, re
 use Rattle.pb_check.specs.Turns.Stage.{head_wanted, count_wanted, at_steps, ended}
 use Rattle.pb_check.specs.Turns.Turn.{go, stop, test}
 use Rattle.pb_check.specs.Walk.{Follows, Walks}
-use Rattle.pb_check.specs.laws.Judging.{IsJudged}
+use Rattle.pb_check.specs.inner.Judging.{IsJudged}
 use Rattle.pb_check.specs.Faults.{of_step}
-use Rattle.pb_check.specs.laws.Phases.{says_nothing, unless_blank, behind_blank, NextStops, clauses_of, FollowsRows, TurnGives}
+use Rattle.pb_check.specs.inner.Phases.{says_nothing, unless_blank, behind_blank, NextStops, clauses_of, FollowsRows, TurnGives}
 
 -- ---- lines that say nothing
 

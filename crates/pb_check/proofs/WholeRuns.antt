@@ -30,7 +30,7 @@ use Rattle.pb_check.specs.Turns.{Answer}
 use Rattle.pb_check.specs.Turns.Stage.{head_wanted}
 use Rattle.pb_check.specs.Walk.{Walks, WalksFrom, WalksBy, Walk, task_of}
 use Rattle.pb_check.specs.Outcomes.{StopsCheck}
-use Rattle.pb_check.specs.laws.Phases.{StopsOne, StopsBoth, LinesAnswer}
+use Rattle.pb_check.specs.inner.Phases.{StopsOne, StopsBoth, LinesAnswer}
 use Rattle.pb_check.proofs.BothStops.{stops_of_cnf, stops_both_weaker, both_stops}
 
 -- ---- behind the p line

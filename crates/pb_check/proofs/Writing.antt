@@ -12,7 +12,7 @@ use Rattle.pb_steps.specs.Sayable.{IsSayable}
 use Rattle.pb_steps.specs.StepText.{step_line}
 use Rattle.pb_steps.proofs.LineLaws.{written_line_reads}
 use Rattle.pb_steps.proofs.Unbroken.{line_unbroken}
-use Rattle.pb_check.specs.laws.WalkLaws.{SaySteps, framed, WrittenRunsAreAccepted}
+use Rattle.pb_check.specs.WalkLaws.{SaySteps, framed, WrittenRunsAreAccepted}
 use Rattle.pb_check.proofs.Running.{runs_are_accepted}
 
 -- a line that reads as its step

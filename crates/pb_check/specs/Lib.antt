@@ -1,8 +1,9 @@
 pub mod Faults
 pub mod Turns
 pub mod Walk
-pub mod WalkExamples
 pub mod Models
 pub mod Outcomes
 pub mod KeptClauses
-pub mod laws
+pub mod WalkLaws
+pub mod inner
+pub mod examples

@@ -11,12 +11,12 @@ ghost use Rattle.pb_steps.specs.Database.{loaded_database};
 ghost use Rattle.pb_steps.specs.Operations.{IsNarrow};
 ghost use Rattle.pb_check.specs.Outcomes.{StopsCheck, NamesText};
 ghost use Rattle.pb_check.specs.Walk.{Walk};
-ghost use Rattle.pb_check.specs.laws.Calls.{AnswersLines, StopsLines};
+ghost use Rattle.pb_check.specs.inner.Calls.{AnswersLines, StopsLines};
 ghost use Rattle.pb_check.specs.KeptClauses.{HasVars, IsKept, SaysClauses};
-ghost use Rattle.pb_check.specs.laws.Keeping.{KeepsLines};
+ghost use Rattle.pb_check.specs.inner.Keeping.{KeepsLines};
 
 use crate::fault::{of_cnf, too_few_vars};
-use crate::kept::Kept;
+use crate::kept::CollectedClauses;
 use crate::stages::{run_steps, take_count, take_head, take_rest};
 use crate::verdict::{CheckFault, Verdict};
 use pb_base::{Clauses, MAX_FILE, MAX_LINE, MAX_LINES, Problem};
@@ -37,7 +37,7 @@ fn check_lines<D: Desk>(
     alloc: Global,
     desk: &mut D,
     cnf: &mut ClauseReader,
-    kept: &mut Kept,
+    kept: &mut CollectedClauses,
     lines: &mut LineReader,
     db: &mut Database,
     loaded: u64,
@@ -83,7 +83,7 @@ fn check_over<D: Desk>(
     loaded: &[Linear],
     desk: &mut D,
     cnf: &mut ClauseReader,
-    kept: &mut Kept,
+    kept: &mut CollectedClauses,
     lines: &mut LineReader,
 ) -> Result<Verdict, CheckFault>
     requires within { AreVarsWithin vars loaded.now }
@@ -116,7 +116,7 @@ fn check_texts<D: Desk>(
     loaded: &Linears,
     desk: &mut D,
     cnf: &mut ClauseReader,
-    kept: &mut Kept,
+    kept: &mut CollectedClauses,
     lines: &mut LineReader,
 ) -> Result<(Verdict, u32), CheckFault>
     requires within { IsWithinLimits problem.now }
@@ -164,7 +164,7 @@ fn check_by<D: Desk>(
     desk: &mut D,
     cnf: u8,
     proof: u8,
-    kept: &mut Kept,
+    kept: &mut CollectedClauses,
 ) -> Result<(Verdict, u32), CheckFault>
     requires within { IsWithinLimits problem.now }
     requires cnf_kind { cnf < 4 }
@@ -221,7 +221,7 @@ pub fn check<D: Desk>(
     ensures named { IfErr result NamesText }
     ensures steady { IsSteady (D.state desk.old) → result ≢ Err CheckFault.ReadFault }
 {
-    let mut kept = Kept::nothing(alloc);
+    let mut kept = CollectedClauses::nothing(alloc);
     match check_by(alloc, problem, desk, cnf, proof, &mut kept) {
         Ok((verdict, _)) => Ok(verdict),
         Err(fault) => Err(fault),
@@ -249,7 +249,7 @@ pub fn check_kept<D: Desk>(
     ensures named { IfErr result NamesText }
     ensures steady { IsSteady (D.state desk.old) → result ≢ Err CheckFault.ReadFault }
 {
-    let mut kept = Kept::all(alloc);
+    let mut kept = CollectedClauses::all(alloc);
     let (verdict, vars) = match check_by(alloc, problem, desk, cnf, proof, &mut kept) {
         Ok(found) => found,
         Err(fault) => return Err(fault),

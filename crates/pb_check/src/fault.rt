@@ -137,7 +137,7 @@ pub fn miscounted(lines: &LineReader) -> CheckFault
 }
 
 /// The text ends before its last line.
-pub fn ended(lines: &LineReader) -> CheckFault
+pub fn end_fault(lines: &LineReader) -> CheckFault
     requires { lines.now.number < 2 ^ 63 }
     ensures { result ≡ early_end (lines.now.number + 1) }
 {

@@ -1,33 +1,33 @@
 //! The clauses of a CNF that are kept while its derivation is checked.
 ghost use Rattle.std.specs.Prelude.{◌≡◌, [], true, false, OnOk};
-ghost use Rattle.pb_check.specs.laws.Keeping.{with_next};
+ghost use Rattle.pb_check.specs.inner.Keeping.{with_next};
 
 use pb_base::{Clause, Clauses, NoMemory};
 use std::alloc::Global;
 
 /// The clauses that were read, or none where they are not wanted.
 #[derive(Drop)]
-pub struct Kept {
+pub struct CollectedClauses {
     pub wanted: bool,
     pub clauses: Clauses,
 }
 
-impl Kept {
+impl CollectedClauses {
     /// Nothing is to be kept.
-    pub fn nothing(alloc: Global) -> Kept
+    pub fn nothing(alloc: Global) -> CollectedClauses
         ensures { result ≡ record { wanted = false; clauses = [] } }
     {
-        Kept {
+        CollectedClauses {
             wanted: false,
             clauses: Clauses::new(alloc),
         }
     }
 
     /// All is to be kept, and nothing was read yet.
-    pub fn all(alloc: Global) -> Kept
+    pub fn all(alloc: Global) -> CollectedClauses
         ensures { result ≡ record { wanted = true; clauses = [] } }
     {
-        Kept {
+        CollectedClauses {
             wanted: true,
             clauses: Clauses::new(alloc),
         }

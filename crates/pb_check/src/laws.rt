@@ -1,5 +1,5 @@
 //! What an accepted derivation shows, and that checking has one answer.
-ghost use Rattle.pb_check.specs.laws.WalkLaws.{AcceptedCnfExtends, RunsAreAccepted, WalkHasOneAnswer, WrittenRunsAreAccepted};
+ghost use Rattle.pb_check.specs.WalkLaws.{AcceptedCnfExtends, RunsAreAccepted, WalkHasOneAnswer, WrittenRunsAreAccepted};
 
 /// The law that an accepted derivation gives the clauses of the CNF, and every solution of the problem extends to a model of them.
 pub fn accepted_cnf_extends()

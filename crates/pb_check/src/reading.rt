@@ -6,8 +6,8 @@ ghost use Rattle.pb_dimacs.specs.CnfRows.{cnf_limits};
 ghost use Rattle.pb_dimacs.specs.Cursors.{GoesOn};
 ghost use Rattle.pb_steps.specs.Steps.{IsSpelled};
 ghost use Rattle.pb_check.specs.Outcomes.{NamesText};
-ghost use Rattle.pb_check.specs.laws.Phases.{says_nothing};
-ghost use Rattle.pb_check.specs.laws.Calls.{ReadsStep, MissesStep};
+ghost use Rattle.pb_check.specs.inner.Phases.{says_nothing};
+ghost use Rattle.pb_check.specs.inner.Calls.{ReadsStep, MissesStep};
 
 use crate::fault::{of_line, of_step};
 use crate::verdict::CheckFault;

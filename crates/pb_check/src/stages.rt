@@ -6,11 +6,11 @@ ghost use Rattle.pb_dimacs.specs.CnfRows.{cnf_limits};
 ghost use Rattle.pb_dimacs.specs.Cursors.{GoesOn};
 ghost use Rattle.pb_check.specs.Turns.Stage.{head_wanted, ended};
 ghost use Rattle.pb_check.specs.Outcomes.{NamesText};
-ghost use Rattle.pb_check.specs.laws.Calls.{StopsStage, TakesHead, TakesCount, StopsCount, TakesLine, TakesSteps, StopsSteps, TakesRest};
-ghost use Rattle.pb_check.specs.laws.Keeping.{KeepsLine, KeepsSteps};
+ghost use Rattle.pb_check.specs.inner.Calls.{StopsStage, TakesHead, TakesCount, StopsCount, TakesLine, TakesSteps, StopsSteps, TakesRest};
+ghost use Rattle.pb_check.specs.inner.Keeping.{KeepsLine, KeepsSteps};
 
-use crate::fault::{ended, miscounted, misplaced};
-use crate::kept::Kept;
+use crate::fault::{end_fault, miscounted, misplaced};
+use crate::kept::CollectedClauses;
 use crate::reading::next_step;
 use crate::taking::{Taken, take_step};
 use crate::verdict::{CheckFault, Verdict};
@@ -42,7 +42,7 @@ pub fn take_head<D: Desk>(
         Err(fault) => return Err(fault),
     };
     let Some(step) = next else {
-        return Err(ended(lines));
+        return Err(end_fault(lines));
     };
     match &step {
         Step::Head => Ok(()),
@@ -72,7 +72,7 @@ pub fn take_count<D: Desk>(
         Err(fault) => return Err(fault),
     };
     let Some(step) = next else {
-        return Err(ended(lines));
+        return Err(end_fault(lines));
     };
     match &step {
         Step::Loaded { count } => {
@@ -91,7 +91,7 @@ fn take_line<D: Desk>(
     alloc: Global,
     desk: &mut D,
     cnf: &mut ClauseReader,
-    kept: &mut Kept,
+    kept: &mut CollectedClauses,
     lines: &mut LineReader,
     db: &mut Database,
 ) -> Result<Taken, CheckFault>
@@ -117,7 +117,7 @@ fn take_line<D: Desk>(
         Err(fault) => return Err(fault),
     };
     let Some(step) = next else {
-        return Err(ended(lines));
+        return Err(end_fault(lines));
     };
     take_step(desk, cnf, kept, db, lines, &step)
 }
@@ -127,7 +127,7 @@ pub fn run_steps<D: Desk>(
     alloc: Global,
     desk: &mut D,
     cnf: &mut ClauseReader,
-    kept: &mut Kept,
+    kept: &mut CollectedClauses,
     lines: &mut LineReader,
     db: &mut Database,
 ) -> Result<Option<Verdict>, CheckFault>

@@ -4,12 +4,12 @@ ghost use Rattle.std.specs.Option.{option_copied};
 ghost use Rattle.pb_desk.specs.Desk.{IsSteady};
 ghost use Rattle.pb_steps.specs.Steps.{IsRule, IsSpelled};
 ghost use Rattle.pb_check.specs.Outcomes.{NamesText};
-ghost use Rattle.pb_check.specs.laws.Calls.{PutsOut, StopsOut, EndsSteps, StopsEnd, TakesStep, StopsStep};
-ghost use Rattle.pb_check.specs.laws.Judging.{IsJudged};
-ghost use Rattle.pb_check.specs.laws.Keeping.{KeepsNext};
+ghost use Rattle.pb_check.specs.inner.Calls.{PutsOut, StopsOut, EndsSteps, StopsEnd, TakesStep, StopsStep};
+ghost use Rattle.pb_check.specs.inner.Judging.{IsJudged};
+ghost use Rattle.pb_check.specs.inner.Keeping.{KeepsNext};
 
 use crate::fault::{misplaced, of_cnf};
-use crate::kept::Kept;
+use crate::kept::CollectedClauses;
 use crate::verdict::CheckFault;
 use pb_base::{Clause, Expected, NoMemory};
 use pb_desk::{Desk, LineReader};
@@ -47,7 +47,7 @@ fn judge(db: &mut Database, step: &Step, next: Option<&Clause>) -> Result<Taken,
 fn put_out<D: Desk>(
     desk: &mut D,
     cnf: &mut ClauseReader,
-    kept: &mut Kept,
+    kept: &mut CollectedClauses,
     db: &mut Database,
     id: u64,
 ) -> Result<Taken, CheckFault>
@@ -85,7 +85,7 @@ fn end_steps<D: Desk>(desk: &mut D, cnf: &mut ClauseReader) -> Result<Taken, Che
     ensures vars { cnf.new.vars ≡ cnf.old.vars }
     ensures slot { cnf.new.lines.slot ≡ cnf.old.lines.slot }
     ensures gives { IfOk result (λ got. EndsSteps got cnf.old cnf.new (D.state desk.old) (D.state desk.new)) }
-    ensures keeps { IfOk result (λ got. (k : Kept) → KeepsNext got k cnf.old k cnf.new (D.state desk.old) (D.state desk.new)) }
+    ensures keeps { IfOk result (λ got. (k : CollectedClauses) → KeepsNext got k cnf.old k cnf.new (D.state desk.old) (D.state desk.new)) }
     ensures stopped { IfErr result (λ fault. StopsEnd fault cnf.old cnf.new (D.state desk.old) (D.state desk.new)) }
     ensures named { IfErr result NamesText }
     ensures steady { IsSteady (D.state desk.old) → result ≢ Err CheckFault.ReadFault }
@@ -101,7 +101,7 @@ fn end_steps<D: Desk>(desk: &mut D, cnf: &mut ClauseReader) -> Result<Taken, Che
 pub fn take_step<D: Desk>(
     desk: &mut D,
     cnf: &mut ClauseReader,
-    kept: &mut Kept,
+    kept: &mut CollectedClauses,
     db: &mut Database,
     lines: &LineReader,
     step: &Step,

@@ -17,9 +17,9 @@ use Rattle.pb_steps.specs.Database.{Database, constraint_at}
 use Rattle.pb_derive.specs.Forms.{IsFormOf}
 use Rattle.pb_derive.specs.Later.{IsNumbered}
 use Rattle.pb_derive.specs.Rups.{by_rup}
-use Rattle.pb_derive.specs.laws.Follows.{AllFalse}
-use Rattle.pb_derive.specs.laws.Ran.{IsClaim}
-use Rattle.pb_derive.specs.laws.Refuted.{IsClauseIn}
+use Rattle.pb_derive.specs.inner.Follows.{AllFalse}
+use Rattle.pb_derive.specs.inner.Ran.{IsClaim}
+use Rattle.pb_derive.specs.inner.Refuted.{IsClauseIn}
 use Rattle.pb_derive.proofs.ShortRups.{short_claims}
 
 pub form_itself : (c : Constraint) → IsLinear c → IsFormOf c c

@@ -5,7 +5,7 @@ use Rattle.pb_norm.specs.Constraints.{Constraint, IsLinear, Holds}
 use Rattle.pb_norm.proofs.Agreement.{value-agree}
 use Rattle.pb_norm.proofs.Variables.{OfTerm}
 use Rattle.pb_family.specs.Families.{VarsBelow}
-use Rattle.pb_choice.specs.declared.options.Options.{Options}
+use Rattle.pb_base.specs.declared.options.Options.{Options}
 
 -- a variable from 1 and below a number
 abbrev pub IsOneBelow : ℕ → ℕ → Type 0

@@ -18,12 +18,12 @@ use Rattle.pb_steps.specs.Database.{Database, grown}
 use Rattle.pb_derive.specs.Claims.{Claim, claim_steps}
 use Rattle.pb_derive.specs.Derivations.{Derives, IsReadyFor}
 use Rattle.pb_derive.specs.Rups.{by_rup}
-use Rattle.pb_derive.specs.laws.Ran.{IsClaim, RanSwept}
+use Rattle.pb_derive.specs.inner.Ran.{IsClaim, RanSwept}
 use Rattle.pb_derive.proofs.FollowedBy.{later_wider, swept_wider}
 use Rattle.pb_derive.proofs.Laters.{known_below}
 use Rattle.pb_derive.proofs.Running.{claims_ran, swept_none, swept_then}
 use Rattle.pb_family.specs.Families.{VarsBelow}
-use Rattle.pb_choice.specs.declared.options.Options.{Options}
+use Rattle.pb_base.specs.declared.options.Options.{Options}
 use Rattle.pb_choice.specs.declared.treatment.Treatment.{Treatment}
 use Rattle.pb_choice.specs.Choice.{treatment_of}
 use Rattle.pb_choice.specs.Clauses.{constraint_clauses, constraint_fresh, rest_clauses, rest_fresh, unit_clause}
@@ -32,10 +32,10 @@ use Rattle.pb_choice.specs.Readiness.{IsModest, IsReadyWith}
 use Rattle.pb_choice.specs.Reducing.{core_ops}
 use Rattle.pb_choice.specs.SumSteps.{sum_steps}
 use Rattle.pb_choice.specs.Sums.{sum_clauses, sum_fresh}
-use Rattle.pb_choice.specs.laws.DeriveLaws.{ConstraintsDerive}
-use Rattle.pb_choice.specs.laws.Left.{rest_terms}
+use Rattle.pb_choice.specs.DeriveLaws.{ConstraintsDerive}
+use Rattle.pb_choice.specs.inner.Residual.{rest_terms}
 use Rattle.pb_choice.specs.laws.SumDerives.{sum_derives}
-use Rattle.pb_choice.specs.laws.Suits.{IsDerivable, RestSuits}
+use Rattle.pb_choice.specs.inner.Suits.{IsDerivable, RestSuits}
 use Rattle.pb_choice.proofs.ClaimedClauses.{form_itself, empty_claimed, rest_claimed, units_claimed}
 use Rattle.pb_choice.proofs.CoreForms.{IsCoreOf, IsLeftOf, rest_left}
 use Rattle.pb_choice.proofs.Derived.{swept_derives}

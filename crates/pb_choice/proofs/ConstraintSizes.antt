@@ -31,7 +31,7 @@ use Rattle.pb_derive.proofs.Sayable.{claims_sayable, rup_sayable}
 use Rattle.pb_derive.proofs.Short.{lines_sized, line_sized}
 use Rattle.pb_derive.proofs.Sizes.{claims_each, each_all, rup-size}
 use Rattle.pb_family.specs.Derivations.{AreOriginal, MayStart}
-use Rattle.pb_choice.specs.declared.options.Options.{Options}
+use Rattle.pb_base.specs.declared.options.Options.{Options}
 use Rattle.pb_choice.specs.declared.treatment.Treatment.{Treatment}
 use Rattle.pb_choice.specs.declared.treatment.Treatment.TheVariants as treatment
 use Rattle.pb_choice.specs.Choice.{treatment_of}
@@ -41,10 +41,10 @@ use Rattle.pb_choice.specs.Readiness.{AreBrief, IsModest}
 use Rattle.pb_choice.specs.Reducing.{core_ops, divisor, weaken_unit}
 use Rattle.pb_choice.specs.SumSteps.{sum_steps}
 use Rattle.pb_choice.specs.Sums.{sum_count, sum_fresh}
-use Rattle.pb_choice.specs.laws.DeriveLaws.{ConstraintsAreBrief, ConstraintsAreSayable, ConstraintsHaveFewSteps}
-use Rattle.pb_choice.specs.laws.Left.{rest_terms}
+use Rattle.pb_choice.specs.DeriveLaws.{ConstraintsAreBrief, ConstraintsAreSayable, ConstraintsHaveFewSteps}
+use Rattle.pb_choice.specs.inner.Residual.{rest_terms}
 use Rattle.pb_choice.specs.laws.SumDerives.{sum_few, sum_sayable, sum_short}
-use Rattle.pb_choice.specs.laws.Suits.{HasRoom, IsDerivable}
+use Rattle.pb_choice.specs.inner.Suits.{HasRoom, IsDerivable}
 use Rattle.pb_choice.proofs.ConstraintDerived.{IsRestDerivable, rest_derivable}
 use Rattle.pb_choice.proofs.CoreForms.{IsCoreOf, IsLeftOf, rest_left}
 use Rattle.pb_choice.proofs.CoreWeights.{weight-cut}

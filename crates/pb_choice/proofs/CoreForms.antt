@@ -10,7 +10,7 @@ use Rattle.pb_norm.specs.declared.reduction.Rest.TheVariants as rest
 use Rattle.pb_norm.specs.BoundedSums.{BoundedSum}
 use Rattle.pb_norm.specs.ClauseForm.{is_tautology}
 use Rattle.pb_norm.specs.Constraints.{Weighted, Constraint, IsLinear, weight, slack}
-use Rattle.pb_norm.specs.laws.Open.{IsOpen}
+use Rattle.pb_norm.specs.inner.Open.{IsOpen}
 use Rattle.pb_norm.specs.Reduction.{all_weigh, at_most, by_weight, class_of, core, is_too_light, lits_of, opposite, rest_of, sorted, without_units}
 use Rattle.pb_norm.proofs.Lengths.{length-core}
 use Rattle.pb_norm.proofs.ReductionLaws.{core_open}

@@ -2,7 +2,7 @@
 use Rattle.std.proofs.Common.{◌≡◌, ◌<◌, ◌≤◌, ℕ, Bool, true, false, cond, List, [], ◌∷◌, map, min, refl, arith}
 use Rattle.std.proofs.lemmas.List.Elements.{All-head, All-tail}
 use Rattle.pb_norm.specs.Constraints.{Weighted, Constraint, AllPositive, weight}
-use Rattle.pb_norm.specs.laws.Open.{IsOpen}
+use Rattle.pb_norm.specs.inner.Open.{IsOpen}
 use Rattle.pb_norm.specs.Reduction.{all_weigh, core, cut_to, divided, first_coef, opposite, quotient_up, saturated, single, without_units}
 use Rattle.pb_norm.proofs.AdditionSizes.{weight-cons}
 use Rattle.pb_norm.proofs.Opened.{saturated_open}

@@ -13,7 +13,7 @@ use Rattle.pb_steps.specs.Database.{Entry, Database, entry, grown, mark}
 use Rattle.pb_steps.specs.Allowed.{Allowed}
 use Rattle.pb_steps.specs.Runs.{Runs, next_clause, clauses_after}
 use Rattle.pb_derive.specs.Derivations.{Derives}
-use Rattle.pb_derive.specs.laws.Ran.{RanSwept}
+use Rattle.pb_derive.specs.inner.Ran.{RanSwept}
 use Rattle.pb_derive.proofs.Deleted.{reduced_all}
 use Rattle.pb_derive.proofs.FollowedBy.{runs_next}
 

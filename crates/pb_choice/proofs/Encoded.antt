@@ -14,12 +14,12 @@ use Rattle.pb_norm.proofs.ReductionLaws.{split_holds}
 use Rattle.pb_norm.proofs.RestClasses.{rest_is, rest-over}
 use Rattle.pb_norm.proofs.Variables.{OfTerm, OfLit, IsOver, units_of-vars}
 use Rattle.pb_family.specs.Families.{IsNamed, NamesOnly, VarsBelow}
-use Rattle.pb_choice.specs.declared.options.Options.{Options}
+use Rattle.pb_base.specs.declared.options.Options.{Options}
 use Rattle.pb_choice.specs.declared.treatment.Treatment.{Treatment}
 use Rattle.pb_choice.specs.Choice.{treatment_of}
 use Rattle.pb_choice.specs.Clauses.{unit_clause, rest_clauses, constraint_clauses, constraint_count, constraint_fresh}
-use Rattle.pb_choice.specs.laws.Laws.{ClausesEncode}
-use Rattle.pb_choice.specs.laws.Suits.{RestSuits}
+use Rattle.pb_choice.specs.ConstraintLaws.{ClausesEncode}
+use Rattle.pb_choice.specs.inner.Suits.{RestSuits}
 use Rattle.pb_choice.proofs.Suits.{treatment_suits}
 use Rattle.pb_choice.proofs.RestLaws.{IsTrueClause, rest_sound, rest_extends, rest_names, rest_counts}
 use Rattle.pb_choice.proofs.UnitClauses.{units_model, units-all}

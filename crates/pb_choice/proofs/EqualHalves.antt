@@ -16,7 +16,7 @@ use Rattle.pb_norm.proofs.NetBounds.{half_terms-lower}
 use Rattle.pb_norm.proofs.NetForm.{same_nets}
 use Rattle.pb_norm.proofs.WrittenForm.{normal_terms-ascending, normal_terms-net, normal_terms-positive, normal_terms-value, positive_part-is}
 use Rattle.pb_derive.proofs.Opposites.{value-opposite}
-use Rattle.pb_choice.specs.laws.EqualityLaws.{StatementsHaveHalves}
+use Rattle.pb_choice.specs.EqualityLaws.{StatementsHaveHalves}
 
 -- ---- with all signs turned
 

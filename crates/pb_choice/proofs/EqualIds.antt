@@ -9,7 +9,7 @@ use Rattle.pb_steps.specs.Steps.{takes_id}
 use Rattle.pb_totalizer.specs.ExactSteps.{exact_steps}
 use Rattle.pb_choice.specs.declared.plans.Plan.{Plan}
 use Rattle.pb_choice.specs.EqualitySteps.{joint_steps, quotient_step}
-use Rattle.pb_choice.specs.laws.HalfPlans.{halves_steps, plan_fresh, plan_steps}
+use Rattle.pb_choice.specs.HalfPlans.{halves_steps, plan_fresh, plan_steps}
 
 -- one for each half, and those of the clauses
 pub joint_ids : (m : BoundedSum) (a : ℤ) (first low high next : ℕ) → count_by takes_id (joint_steps m a first low high next) ≡ 2 + count_by takes_id (exact_steps m first next (next + 1) (next + 2))

@@ -13,13 +13,13 @@ use Rattle.pb_totalizer.specs.Exact.{exact_clauses, exact_fresh, exact_size}
 use Rattle.pb_totalizer.specs.ExactSum.{exact_sum}
 use Rattle.pb_choice.specs.declared.equal.EqualPlan.{EqualPlan}
 use Rattle.pb_choice.specs.declared.equal.EqualPlan.TheVariants.{Joint, Split}
-use Rattle.pb_choice.specs.declared.options.Options.{Options}
+use Rattle.pb_base.specs.declared.options.Options.{Options}
 use Rattle.pb_choice.specs.declared.plans.Plan.{Plan}
 use Rattle.pb_choice.specs.Clauses.{constraint_clauses, constraint_count, constraint_fresh}
 use Rattle.pb_choice.specs.ConstraintSteps.{constraint_steps}
 use Rattle.pb_choice.specs.Equals.{is_joint, literals_asked}
 use Rattle.pb_choice.specs.EqualitySteps.{joint_steps}
-use Rattle.pb_choice.specs.laws.EqualPlans.{HasPartsOf, IsEqualPlan, IsPlanOf}
+use Rattle.pb_choice.specs.EqualPlans.{HasPartsOf, IsEqualPlan, IsPlanOf}
 use Rattle.pb_choice.proofs.JointSums.{ones_over}
 
 module _ (o : Options) (c d : Constraint) where

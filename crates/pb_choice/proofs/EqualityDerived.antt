@@ -14,7 +14,7 @@ use Rattle.pb_derive.specs.Derivations.{Derives, IsReadyForBoth}
 use Rattle.pb_derive.specs.FollowedBy.{followed_by}
 use Rattle.pb_derive.specs.Later.{IsLater}
 use Rattle.pb_derive.specs.Ones.{unit_of}
-use Rattle.pb_derive.specs.laws.Ran.{Ran, RanSwept}
+use Rattle.pb_derive.specs.inner.Ran.{Ran, RanSwept}
 use Rattle.pb_derive.proofs.FollowedBy.{followed_swept, later_wider, swept_wider}
 use Rattle.pb_derive.proofs.Laters.{at_grown, known_below, later_grown, later_then}
 use Rattle.pb_derive.proofs.Scoped.{Scoped, scoped}
@@ -22,13 +22,13 @@ use Rattle.pb_family.specs.Families.{VarsBelow}
 use Rattle.pb_totalizer.specs.Exact.{at_least, exact_clauses, exact_fresh}
 use Rattle.pb_totalizer.specs.ExactSteps.{exact_steps}
 use Rattle.pb_totalizer.specs.laws.ExactDerives.{exact_derives}
-use Rattle.pb_choice.specs.declared.options.Options.{Options}
+use Rattle.pb_base.specs.declared.options.Options.{Options}
 use Rattle.pb_choice.specs.Clauses.{constraint_clauses, constraint_fresh}
 use Rattle.pb_choice.specs.ConstraintSteps.{constraint_steps}
 use Rattle.pb_choice.specs.Equals.{asks_for_number, is_joint, literals_asked, number_asked}
 use Rattle.pb_choice.specs.EqualitySteps.{joint_steps, quotient_step}
 use Rattle.pb_choice.specs.Readiness.{IsReadyWith}
-use Rattle.pb_choice.specs.laws.EqualityLaws.{EqualitiesDerive, IsEquality, IsModestEquality}
+use Rattle.pb_choice.specs.EqualityLaws.{EqualitiesDerive, IsEquality, IsModestEquality}
 use Rattle.pb_choice.proofs.ClaimedClauses.{form_itself}
 use Rattle.pb_choice.proofs.ConstraintDerived.{constraints_derive}
 use Rattle.pb_choice.proofs.Derived.{derives_swept, swept_derives}

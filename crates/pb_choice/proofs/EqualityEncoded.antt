@@ -18,11 +18,11 @@ use Rattle.pb_family.specs.Families.{IsNamed, NamesOnly, VarsBelow}
 use Rattle.pb_family.specs.Pairs.{StayWithinBoth}
 use Rattle.pb_totalizer.specs.Exact.{at_least, exact_clauses, exact_fresh, exact_size}
 use Rattle.pb_totalizer.specs.laws.ExactLaws.{exact_counts, exact_names, exact_outputs, exact_propagates, exact_propagates_least, exact_propagates_most, pair_extends, pair_sound}
-use Rattle.pb_choice.specs.declared.options.Options.{Options}
+use Rattle.pb_base.specs.declared.options.Options.{Options}
 use Rattle.pb_choice.specs.Choice.{IsSentToAdder}
 use Rattle.pb_choice.specs.Clauses.{constraint_clauses, constraint_count, constraint_fresh}
 use Rattle.pb_choice.specs.Equals.{asks_for_number, equality_clauses, equality_count, equality_fresh, is_joint, literals_asked}
-use Rattle.pb_choice.specs.laws.EqualityLaws.{BothHold, EncodesBoth, EqualitiesEncode, EqualitiesForce, ForcesBoth, ForcesHalves, IsEquality, JointEqualitiesForce}
+use Rattle.pb_choice.specs.EqualityLaws.{BothHold, EncodesBoth, EqualitiesEncode, EqualitiesForce, ForcesBoth, ForcesHalves, IsEquality, JointEqualitiesForce}
 use Rattle.pb_choice.proofs.Composition.{holds-agree}
 use Rattle.pb_choice.proofs.Encoded.{clauses-count, clauses-extend, clauses-name, clauses-sound}
 use Rattle.pb_choice.proofs.Forced.{clauses-propagate}

@@ -23,13 +23,13 @@ use Rattle.pb_totalizer.specs.Exact.{exact_fresh, exact_size}
 use Rattle.pb_totalizer.specs.ExactSteps.{exact_steps}
 use Rattle.pb_totalizer.specs.laws.ExactDerives.{exact_lines}
 use Rattle.pb_totalizer.specs.laws.ExactShort.{exact_sayable, exact_short}
-use Rattle.pb_choice.specs.declared.options.Options.{Options}
+use Rattle.pb_base.specs.declared.options.Options.{Options}
 use Rattle.pb_choice.specs.Clauses.{constraint_count, constraint_fresh}
 use Rattle.pb_choice.specs.ConstraintSteps.{constraint_steps}
 use Rattle.pb_choice.specs.Equals.{asks_for_number, is_joint, literals_asked, number_asked}
 use Rattle.pb_choice.specs.EqualitySteps.{joint_steps, quotient_step}
 use Rattle.pb_choice.specs.Readiness.{AreBothBrief, AreBrief, LeavesIds}
-use Rattle.pb_choice.specs.laws.EqualityLaws.{EqualitiesAreBrief, EqualitiesAreSayable, EqualitiesHaveFewSteps, IsModestEquality}
+use Rattle.pb_choice.specs.EqualityLaws.{EqualitiesAreBrief, EqualitiesAreSayable, EqualitiesHaveFewSteps, IsModestEquality}
 use Rattle.pb_choice.proofs.NumbersAsked.{some_weight}
 use Rattle.pb_choice.proofs.ConstraintSizes.{constraints_brief, constraints_few, constraints_sayable, first_light, some_ids}
 use Rattle.pb_choice.proofs.EqualityDerived.{modest_equality}

@@ -23,10 +23,10 @@ use Rattle.pb_adder.specs.laws.NetworkLaws.{digits_few}
 use Rattle.pb_adder.proofs.Fits.{ends_few}
 use Rattle.pb_choice.specs.declared.chosen.Chosen.{Chosen}
 use Rattle.pb_choice.specs.declared.chosen.Chosen.TheVariants as chosen
-use Rattle.pb_choice.specs.declared.left.Left.{Left}
-use Rattle.pb_choice.specs.declared.left.Left.TheVariants as left
-use Rattle.pb_choice.specs.laws.Chosen.{sum_at, treatment_at}
-use Rattle.pb_choice.specs.laws.Left.{left_count, left_fresh, left_terms}
+use Rattle.pb_choice.specs.declared.residual.Residual.{Residual}
+use Rattle.pb_choice.specs.declared.residual.Residual.TheVariants as left
+use Rattle.pb_choice.specs.inner.Chosen.{sum_at, treatment_at}
+use Rattle.pb_choice.specs.inner.Residual.{left_count, left_fresh, left_terms}
 use Rattle.pb_choice.specs.Sums.{sum_count, sum_fresh}
 use Rattle.pb_choice.specs.laws.SumSizes.{square_small, totalizer_small, tree_small}
 
@@ -111,13 +111,13 @@ chosen_fresh_small (chosen.Diagram held) few = omega (arith, held.modest)
 chosen_fresh_small (chosen.Tree held) few = omega (arith, held.modest)
 chosen_fresh_small (chosen.Adder held) few = omega (arith, adder_fresh_small held.sum.terms few held.light)
 
-pub left_small : (l : Left) → length (left_terms l) < 2 ^ 31 → left_count l < 5 * 2 ^ 60
+pub left_small : (l : Residual) → length (left_terms l) < 2 ^ 31 → left_count l < 5 * 2 ^ 60
 left_small left.Nothing few = omega arith
 left_small left.Empty few = omega arith
 left_small (left.Clause ls) few = omega arith
 left_small (left.Sum f) few = chosen_small f few
 
-pub left_fresh_small : (l : Left) → length (left_terms l) < 2 ^ 31 → left_fresh l < 2 ^ 62
+pub left_fresh_small : (l : Residual) → length (left_terms l) < 2 ^ 31 → left_fresh l < 2 ^ 62
 left_fresh_small left.Nothing few = omega arith
 left_fresh_small left.Empty few = omega arith
 left_fresh_small (left.Clause ls) few = omega arith

@@ -13,10 +13,10 @@ use Rattle.pb_tree.specs.Tree.{Tree, tree_of}
 use Rattle.pb_tree.specs.Tree.Tree.{empty, leaf, node}
 use Rattle.pb_totalizer.specs.Exact.{exact_along, exact_clauses, exact_own, limit_clause, limit_clauses, limits, limits_of, outputs_of, unless_last}
 use Rattle.pb_totalizer.specs.Totalizer.{partners, sum_clause, totalizer}
-use Rattle.pb_choice.specs.declared.options.Options.{Options}
+use Rattle.pb_base.specs.declared.options.Options.{Options}
 use Rattle.pb_choice.specs.Clauses.{constraint_clauses, constraint_fresh}
 use Rattle.pb_choice.specs.Equals.{equality_clauses, is_joint, literals_asked}
-use Rattle.pb_choice.specs.laws.EqualityLaws.{IsEquality}
+use Rattle.pb_choice.specs.EqualityLaws.{IsEquality}
 use Rattle.pb_choice.proofs.FewLiterals.{HaveFewLiterals, constraint_few_literals, flattened, joined, longer, mapped, none, sum_short, two}
 
 -- ---- totalizers in both directions

@@ -42,11 +42,11 @@ use Rattle.pb_adder.specs.laws.NetworkLaws.{digits_few}
 use Rattle.pb_adder.specs.laws.RowLengths.{comparator_short, ends_length}
 use Rattle.pb_choice.specs.declared.treatment.Treatment.{Treatment}
 use Rattle.pb_choice.specs.declared.treatment.Treatment.TheVariants as treatment
-use Rattle.pb_choice.specs.declared.options.Options.{Options}
+use Rattle.pb_base.specs.declared.options.Options.{Options}
 use Rattle.pb_choice.specs.Choice.{treatment_of}
 use Rattle.pb_choice.specs.Clauses.{constraint_clauses, rest_clauses, unit_clause}
 use Rattle.pb_choice.specs.Sums.{sum_clauses as clauses_of_sum}
-use Rattle.pb_choice.specs.laws.Left.{rest_terms}
+use Rattle.pb_choice.specs.inner.Residual.{rest_terms}
 use Rattle.pb_choice.proofs.RestTerms.{rest_light}
 
 -- at most so many literals each

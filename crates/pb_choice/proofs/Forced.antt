@@ -10,13 +10,13 @@ use Rattle.pb_norm.proofs.ClauseForcing.{clause_propagates, empty_propagates, no
 use Rattle.pb_norm.proofs.ReductionLaws.{split_holds}
 use Rattle.pb_norm.proofs.UnitPropagation.{propagates_same, propagates_with_units}
 use Rattle.pb_norm.proofs.UnitsApart.{units-consistent}
-use Rattle.pb_choice.specs.declared.options.Options.{Options}
+use Rattle.pb_base.specs.declared.options.Options.{Options}
 use Rattle.pb_choice.specs.declared.treatment.Treatment.{Treatment}
 use Rattle.pb_choice.specs.declared.treatment.Treatment.TheVariants as treatment
 use Rattle.pb_choice.specs.Choice.{treatment_of, IsSentToAdder}
 use Rattle.pb_choice.specs.Clauses.{rest_clauses, constraint_clauses}
-use Rattle.pb_choice.specs.laws.Laws.{ClausesForce}
-use Rattle.pb_choice.specs.laws.Suits.{RestSuits}
+use Rattle.pb_choice.specs.ConstraintLaws.{ClausesForce}
+use Rattle.pb_choice.specs.inner.Suits.{RestSuits}
 use Rattle.pb_choice.specs.laws.SumLaws.{sum_propagates}
 use Rattle.pb_choice.proofs.Encoded.{chosen_suits}
 
@@ -32,9 +32,9 @@ pub clauses-propagate : (o : Options) (c : Constraint) (first : ℕ) → IsLinea
 clauses-propagate o c first linear other =
     let chosen = treatment_of o (rest_of c) in
     let left = rest_propagates chosen (rest_of c) first (chosen_suits o c linear) other in
-    let Left : Assignment → Type 0 = λ a. RestHolds a (rest_of c) in
-    propagates_same (constraint_clauses o c first) (λ a. AllTrue a (units_of c) × Left a) (λ a. Holds a c) (λ a. split_holds a c linear)
-    (propagates_with_units (units_of c) (rest_clauses chosen (rest_of c) first) Left (units-consistent c linear) left)
+    let Residual : Assignment → Type 0 = λ a. RestHolds a (rest_of c) in
+    propagates_same (constraint_clauses o c first) (λ a. AllTrue a (units_of c) × Residual a) (λ a. Holds a c) (λ a. split_holds a c linear)
+    (propagates_with_units (units_of c) (rest_clauses chosen (rest_of c) first) Residual (units-consistent c linear) left)
 
 pub clauses_force : ClausesForce
 clauses_force o c first linear other below = clauses-propagate o c first linear other

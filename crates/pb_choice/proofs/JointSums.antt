@@ -11,7 +11,7 @@ use Rattle.pb_base.proofs.Pairs.{AllPairs-map}
 use Rattle.pb_norm.specs.BoundedSums.{IsProper, StaysWithin, vars_of}
 use Rattle.pb_norm.specs.Constraints.{Weighted, Constraint, Holds, IsAscending, value, weight}
 use Rattle.pb_norm.specs.Reduction.{all_weigh, divided, first_coef, lits_of, opposite}
-use Rattle.pb_norm.specs.laws.Open.{IsOpen}
+use Rattle.pb_norm.specs.inner.Open.{IsOpen}
 use Rattle.pb_norm.proofs.ClauseTerms.{length-weight}
 use Rattle.pb_derive.specs.Derivations.{as_constraint}
 use Rattle.pb_derive.specs.Forms.{IsFormOf}
@@ -22,9 +22,9 @@ use Rattle.pb_derive.proofs.UnitTerms.{ones-units}
 use Rattle.pb_totalizer.specs.Exact.{at_least, exact_fresh}
 use Rattle.pb_totalizer.specs.laws.AtLeast.{least_from, least_to}
 use Rattle.pb_totalizer.specs.laws.UnitTerms.{literals_proper}
-use Rattle.pb_choice.specs.declared.options.Options.{Options}
+use Rattle.pb_base.specs.declared.options.Options.{Options}
 use Rattle.pb_choice.specs.Equals.{asks_for_number, is_joining, is_joint, literals_asked, number_asked}
-use Rattle.pb_choice.specs.laws.EqualityLaws.{IsEquality}
+use Rattle.pb_choice.specs.EqualityLaws.{IsEquality}
 use Rattle.pb_choice.proofs.NumbersAsked.{Asks, asks, asks_divided, asks_holds, asks_open, asks_opposite, divided_asks, opposite_ones}
 
 -- ---- where the equality is encoded as one

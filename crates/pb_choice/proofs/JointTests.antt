@@ -4,7 +4,7 @@ use Rattle.std.specs.Prelude.{nat_le}
 use Rattle.std.proofs.lemmas.Bool.{and_from, and_left, and_right, le-leb, lt-leb}
 use Rattle.pb_norm.specs.Constraints.{Constraint}
 use Rattle.pb_totalizer.specs.Exact.{exact_fresh}
-use Rattle.pb_choice.specs.declared.options.Options.{Options}
+use Rattle.pb_base.specs.declared.options.Options.{Options}
 use Rattle.pb_choice.specs.Equals.{asks_for_number, is_joining, is_joint, literals_asked}
 
 module _ (o : Options) (c : Constraint) where

@@ -8,7 +8,7 @@ use Rattle.std.proofs.lemmas.List.Elements.{All-nil, All-cons}
 use Rattle.pb_base.specs.Literals.{Assignment}
 use Rattle.pb_norm.specs.Constraints.{Weighted, Constraint, IsLinear, Holds, value, weight}
 use Rattle.pb_norm.specs.Reduction.{all_weigh, divided, first_coef, lits_of, opposite, quotient_up, single}
-use Rattle.pb_norm.specs.laws.Open.{IsOpen}
+use Rattle.pb_norm.specs.inner.Open.{IsOpen}
 use Rattle.pb_norm.proofs.AdditionSizes.{weight-cons}
 use Rattle.pb_norm.proofs.Opened.{divided_holds, divided_open, first_coef-positive, quotient_up-enough, quotient_up-least}
 use Rattle.pb_derive.specs.Ones.{ones}

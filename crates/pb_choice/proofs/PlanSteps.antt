@@ -10,14 +10,14 @@ use Rattle.pb_steps.specs.declared.step.Step.TheVariants.{Pol, Out}
 use Rattle.pb_steps.specs.Steps.{takes_id}
 use Rattle.pb_derive.specs.Claims.{claim_steps}
 use Rattle.pb_derive.specs.Rups.{by_rup}
-use Rattle.pb_choice.specs.declared.left.Left.{Left}
-use Rattle.pb_choice.specs.declared.options.Options.{Options}
+use Rattle.pb_choice.specs.declared.residual.Residual.{Residual}
+use Rattle.pb_base.specs.declared.options.Options.{Options}
 use Rattle.pb_choice.specs.Clauses.{unit_clause}
 use Rattle.pb_choice.specs.ConstraintSteps.{constraint_steps, unit_claims}
 use Rattle.pb_choice.specs.Reducing.{core_ops, divisor, reducing}
-use Rattle.pb_choice.specs.laws.Left.{IsLeft, left_steps}
+use Rattle.pb_choice.specs.inner.Residual.{IsLeft, left_steps}
 
-pub plan_steps : (o : Options) (c : Constraint) (units : List Lit) (left : Left) (first id next : ℕ) → units ≡ units_of c → IsLeft o (rest_of c) left
+pub plan_steps : (o : Options) (c : Constraint) (units : List Lit) (left : Residual) (first id next : ℕ) → units ≡ units_of c → IsLeft o (rest_of c) left
     → constraint_steps o c first id next ≡ claim_steps next (unit_claims id units) ++ left_steps (Pol (reducing id units (divisor c))) left first id (next + length units)
 plan_steps o c units left first id next are h =
     sym (ap (λ (us : List Lit). claim_steps next (unit_claims id us) ++ left_steps (Pol (reducing id us (divisor c))) left first id (next + length us)) are

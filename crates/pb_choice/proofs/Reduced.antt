@@ -7,7 +7,7 @@ use Rattle.pb_base.specs.declared.literal.Lit.{Lit}
 use Rattle.pb_norm.specs.Constraints.{Weighted, Constraint, AllPositive, IsLinear, weight}
 use Rattle.pb_norm.specs.BoundedSums.{vars_of}
 use Rattle.pb_norm.specs.Halves.{is_positive}
-use Rattle.pb_norm.specs.laws.Open.{IsOpen}
+use Rattle.pb_norm.specs.inner.Open.{IsOpen}
 use Rattle.pb_norm.specs.Reduction.{all_weigh, core, cut_to, divided, first_coef, forcing_terms, is_forcing, lits_of, quotient_up, saturated, single, units_of, without_units}
 use Rattle.pb_norm.proofs.Opened.{divided_open, first_coef-positive, quotient_up-enough, quotient_up-least, saturated_open}
 use Rattle.pb_norm.proofs.Units.{without_open, units_when}

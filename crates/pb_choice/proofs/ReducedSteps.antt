@@ -16,7 +16,7 @@ use Rattle.pb_steps.specs.Database.{Database, IsLive, grown}
 use Rattle.pb_steps.specs.Runs.{Runs}
 use Rattle.pb_derive.specs.Derivations.{Derives, IsReadyFor}
 use Rattle.pb_derive.specs.Later.{IsLater}
-use Rattle.pb_derive.specs.laws.Ran.{Ran, RanSwept}
+use Rattle.pb_derive.specs.inner.Ran.{Ran, RanSwept}
 use Rattle.pb_derive.proofs.FollowedBy.{later_wider}
 use Rattle.pb_derive.proofs.Laters.{at_grown, later_grown}
 use Rattle.pb_derive.proofs.Reasoned.{All-flat_map}

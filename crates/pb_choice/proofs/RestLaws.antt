@@ -16,7 +16,7 @@ use Rattle.pb_norm.proofs.Variables.{OfTerm, OfLit}
 use Rattle.pb_family.specs.Families.{IsNamed, NamesOnly}
 use Rattle.pb_choice.specs.declared.treatment.Treatment.{Treatment}
 use Rattle.pb_choice.specs.Clauses.{rest_clauses, rest_fresh, rest_count}
-use Rattle.pb_choice.specs.laws.Suits.{RestSuits}
+use Rattle.pb_choice.specs.inner.Suits.{RestSuits}
 use Rattle.pb_choice.specs.laws.SumLaws.{sum_sound, sum_extends, sum_names, sum_counts}
 
 abbrev pub IsTrueClause : Assignment → List Lit → Type 0

@@ -12,7 +12,7 @@ use Rattle.pb_norm.proofs.Sorting.{by_weight-sum}
 use Rattle.pb_norm.proofs.Units.{without_open}
 use Rattle.pb_family.specs.Families.{VarsBelow}
 use Rattle.std.proofs.lemmas.List.Elements.{All-nil}
-use Rattle.pb_choice.specs.laws.Left.{rest_terms}
+use Rattle.pb_choice.specs.inner.Residual.{rest_terms}
 use Rattle.pb_choice.proofs.CoreWeights.{weight-opposite, weight-core}
 
 -- ---- over variables of the constraint

@@ -3,12 +3,12 @@ use Rattle.std.proofs.Common.{◌≡◌, ◌∙◌, ap}
 use Rattle.pb_norm.specs.declared.reduction.Rest.TheVariants as rest
 use Rattle.pb_norm.specs.BoundedSums.{BoundedSum}
 use Rattle.pb_choice.specs.declared.chosen.Chosen.{Chosen}
-use Rattle.pb_choice.specs.declared.left.Left.TheVariants.{Sum}
-use Rattle.pb_choice.specs.declared.options.Options.{Options}
+use Rattle.pb_choice.specs.declared.residual.Residual.TheVariants.{Sum}
+use Rattle.pb_base.specs.declared.options.Options.{Options}
 use Rattle.pb_choice.specs.declared.treatment.Treatment.{Treatment}
 use Rattle.pb_choice.specs.Choice.{treatment_of}
-use Rattle.pb_choice.specs.laws.Chosen.{sum_at, treatment_at, IsChosen}
-use Rattle.pb_choice.specs.laws.Left.{IsLeft}
+use Rattle.pb_choice.specs.inner.Chosen.{sum_at, treatment_at, IsChosen}
+use Rattle.pb_choice.specs.inner.Residual.{IsLeft}
 use Rattle.pb_choice.specs.ConstraintSteps.{reduced_steps}
 use Rattle.pb_choice.specs.Sums.{sum_clauses, sum_count, sum_fresh}
 

@@ -5,16 +5,16 @@ use Rattle.pb_norm.specs.declared.reduction.Rest.{Rest}
 use Rattle.pb_norm.specs.declared.reduction.Rest.TheVariants as rest
 use Rattle.pb_norm.specs.BoundedSums.{BoundedSum, IsProper}
 use Rattle.pb_norm.specs.Classes.{IsCardinality, IsAtMostOne, RestIs}
-use Rattle.pb_choice.specs.declared.options.Amo.{Amo}
-use Rattle.pb_choice.specs.declared.options.Amo.TheVariants as amo
-use Rattle.pb_choice.specs.declared.options.Card.{Card}
-use Rattle.pb_choice.specs.declared.options.Card.TheVariants as card
-use Rattle.pb_choice.specs.declared.options.General.{General}
-use Rattle.pb_choice.specs.declared.options.General.TheVariants as general
-use Rattle.pb_choice.specs.declared.options.Options.{Options}
+use Rattle.pb_base.specs.declared.options.Amo.{Amo}
+use Rattle.pb_base.specs.declared.options.Amo.TheVariants as amo
+use Rattle.pb_base.specs.declared.options.Card.{Card}
+use Rattle.pb_base.specs.declared.options.Card.TheVariants as card
+use Rattle.pb_base.specs.declared.options.General.{General}
+use Rattle.pb_base.specs.declared.options.General.TheVariants as general
+use Rattle.pb_base.specs.declared.options.Options.{Options}
 use Rattle.pb_choice.specs.declared.treatment.Treatment.{Treatment}
 use Rattle.pb_choice.specs.declared.treatment.Treatment.TheVariants as treatment
-use Rattle.pb_choice.specs.laws.Suits.{Suits, RestSuits}
+use Rattle.pb_choice.specs.inner.Suits.{Suits, RestSuits}
 use Rattle.pb_choice.specs.Sums.{sum_fresh}
 use Rattle.pb_choice.specs.Choice.{amo_treatment, card_treatment, general_treatment, within_budget, treatment_of}
 

@@ -5,7 +5,7 @@ use Rattle.pb_norm.specs.declared.reduction.Rest.{Rest}
 use Rattle.pb_norm.specs.declared.reduction.Rest.TheVariants as rest
 use Rattle.pb_norm.specs.Constraints.{Constraint}
 use Rattle.pb_norm.specs.Reduction.{units_of, rest_of}
-use Rattle.pb_choice.specs.declared.options.Options.{Options}
+use Rattle.pb_base.specs.declared.options.Options.{Options}
 use Rattle.pb_choice.specs.declared.treatment.Treatment.{Treatment}
 use Rattle.pb_choice.specs.Choice.{treatment_of}
 use Rattle.pb_choice.specs.Sums.{sum_clauses, sum_count, sum_fresh}

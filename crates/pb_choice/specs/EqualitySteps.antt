@@ -8,7 +8,7 @@ use Rattle.pb_steps.specs.declared.step.Step.{Step}
 use Rattle.pb_steps.specs.declared.step.Step.TheVariants.{Pol, Del}
 use Rattle.pb_derive.specs.FollowedBy.{followed_by}
 use Rattle.pb_totalizer.specs.ExactSteps.{exact_steps}
-use Rattle.pb_choice.specs.declared.options.Options.{Options}
+use Rattle.pb_base.specs.declared.options.Options.{Options}
 use Rattle.pb_choice.specs.Clauses.{constraint_fresh}
 use Rattle.pb_choice.specs.ConstraintSteps.{constraint_steps}
 use Rattle.pb_choice.specs.Equals.{is_joint, literals_asked}

@@ -5,9 +5,9 @@ use Rattle.pb_norm.specs.BoundedSums.{BoundedSum}
 use Rattle.pb_norm.specs.Constraints.{Constraint}
 use Rattle.pb_norm.specs.Reduction.{all_weigh, first_coef, lits_of}
 use Rattle.pb_totalizer.specs.Exact.{exact_clauses, exact_fresh, exact_size, literals_within}
-use Rattle.pb_choice.specs.declared.options.EqualMode.{EqualMode}
-use Rattle.pb_choice.specs.declared.options.EqualMode.TheVariants as mode
-use Rattle.pb_choice.specs.declared.options.Options.{Options}
+use Rattle.pb_base.specs.declared.options.EqualMode.{EqualMode}
+use Rattle.pb_base.specs.declared.options.EqualMode.TheVariants as mode
+use Rattle.pb_base.specs.declared.options.Options.{Options}
 use Rattle.pb_choice.specs.Clauses.{constraint_clauses, constraint_count, constraint_fresh}
 
 -- ---- which they are, by the lower half

@@ -1,11 +1,3 @@
-pub mod Chosen
-pub mod DeriveLaws
-pub mod EqualPlans
-pub mod EqualityLaws
-pub mod HalfPlans
-pub mod Laws
-pub mod Left
-pub mod Suits
 pub mod SumDerives
 pub mod SumLaws
 pub mod SumSizes

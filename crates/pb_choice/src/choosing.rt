@@ -4,15 +4,14 @@ ghost use Rattle.pb_norm.specs.Constraints.{weight};
 ghost use Rattle.pb_norm.specs.BoundedSums.{IsProper};
 ghost use Rattle.pb_norm.specs.Classes.{IsAtMostOne, IsCardinality, RestIs};
 ghost use Rattle.pb_choice.specs.Choice.{amo_treatment, card_treatment, general_treatment, within_budget};
-ghost use Rattle.pb_choice.specs.laws.Chosen.{IsChosen};
-ghost use Rattle.pb_choice.specs.laws.Left.{rest_terms, IsLeft};
+ghost use Rattle.pb_choice.specs.inner.Chosen.{IsChosen};
+ghost use Rattle.pb_choice.specs.inner.Residual.{rest_terms, IsLeft};
 
 use crate::chosen::Chosen;
 use crate::held::AtMostOne;
-use crate::left::Left;
-use crate::options::{Amo, Card, General, Options};
+use crate::residual::Residual;
 use crate::within::{adder_of, counter_within, diagram_within, totalizer_within, tree_within};
-use pb_base::NoMemory;
+use pb_base::{Amo, Card, General, NoMemory, Options};
 use pb_norm::{AtMost, Rest};
 use std::alloc::Global;
 
@@ -65,18 +64,18 @@ fn general_of(alloc: Global, options: &Options, sum: AtMost) -> Result<Chosen, N
 }
 
 /// What is left of a constraint, with the family that is chosen for it.
-pub fn left_of(alloc: Global, options: &Options, rest: Rest) -> Result<Left, NoMemory>
+pub fn residual_of(alloc: Global, options: &Options, rest: Rest) -> Result<Residual, NoMemory>
     requires class { RestIs rest }
     requires light { weight (rest_terms rest) < 2 ^ 100 }
     requires modest { options.now.budget ≤ 10000000 }
     ensures { IfOk result (IsLeft options.now rest) }
 {
     match rest {
-        Rest::Nothing => Ok(Left::Nothing),
-        Rest::Empty => Ok(Left::Empty),
-        Rest::Clause(lits) => Ok(Left::Clause(lits)),
-        Rest::One(sum) => Ok(Left::Sum(one_of(options.amo, sum))),
-        Rest::Card(sum) => Ok(Left::Sum(card_of(alloc, options, sum)?)),
-        Rest::General(sum) => Ok(Left::Sum(general_of(alloc, options, sum)?)),
+        Rest::Nothing => Ok(Residual::Nothing),
+        Rest::Empty => Ok(Residual::Empty),
+        Rest::Clause(lits) => Ok(Residual::Clause(lits)),
+        Rest::One(sum) => Ok(Residual::Sum(one_of(options.amo, sum))),
+        Rest::Card(sum) => Ok(Residual::Sum(card_of(alloc, options, sum)?)),
+        Rest::General(sum) => Ok(Residual::Sum(general_of(alloc, options, sum)?)),
     }
 }

@@ -3,14 +3,14 @@ ghost use Rattle.std.specs.Prelude.{◌≡◌, ◌≤◌, ◌<◌, ◌+◌, ◌^
 ghost use Rattle.pb_steps.specs.Steps.{takes_id};
 ghost use Rattle.pb_family.specs.Families.{VarsBelow};
 ghost use Rattle.pb_family.specs.StepSinks.{HandsFrom};
-ghost use Rattle.pb_family.specs.laws.HandedReasons.{HandsClaims};
+ghost use Rattle.pb_family.specs.inner.HandedJustifications.{HandsClaims};
 ghost use Rattle.pb_choice.specs.ConstraintSteps.{reduced_steps, unit_claims};
 ghost use Rattle.pb_choice.specs.Sums.{sum_count, sum_fresh};
-ghost use Rattle.pb_choice.specs.laws.Chosen.{sum_at, treatment_at};
+ghost use Rattle.pb_choice.specs.inner.Chosen.{sum_at, treatment_at};
 
 use crate::chosen::Chosen;
 use pb_base::Lits;
-use pb_family::{Derive, SinkFault, StepSink, take_deletion, take_propagated};
+use pb_family::{Derive, SinkFault, StepSink, derive_deletion, derive_propagated};
 use pb_steps::Step;
 use std::alloc::Global;
 
@@ -25,7 +25,7 @@ pub fn derive_units<T: StepSink>(
     ensures { HandsClaims (unit_claims id units.now) result (T.state sink.old) (T.state sink.new) }
 {
     for unit in units.as_slice() {
-        take_propagated(alloc, &[id], &[*unit], sink)?;
+        derive_propagated(alloc, &[id], &[*unit], sink)?;
     }
     Ok(())
 }
@@ -50,5 +50,5 @@ pub fn derive_reduced<T: StepSink>(
     let own = sink.next_id();
     sink.step(reduces)?;
     chosen.derive(alloc, first, own, sink)?;
-    take_deletion(alloc, own, 1, sink)
+    derive_deletion(alloc, own, 1, sink)
 }

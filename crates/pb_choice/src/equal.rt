@@ -30,7 +30,7 @@ impl EqualPlan<'_> {
     ghost use Rattle.pb_family.specs.Handing.{HandsIfMemory};
     ghost use Rattle.pb_family.specs.StepSinks.{HandsFrom};
     ghost use Rattle.pb_choice.specs.Readiness.{LeavesIds};
-    ghost use Rattle.pb_choice.specs.laws.EqualPlans.{IsPlannedBelow, planned_clauses, planned_count, planned_fresh, planned_steps};
+    ghost use Rattle.pb_choice.specs.EqualPlans.{IsPlannedBelow, planned_clauses, planned_count, planned_fresh, planned_steps};
 
     /// How many fresh variables and clauses the encoding has.
     pub fn counts(&self) -> Counts

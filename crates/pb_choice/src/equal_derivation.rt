@@ -7,7 +7,7 @@ ghost use Rattle.pb_totalizer.specs.ExactSum.{exact_sum};
 ghost use Rattle.pb_choice.specs.EqualitySteps.{joint_steps, quotient_step};
 ghost use Rattle.pb_choice.specs.Readiness.{LeavesIds};
 
-use pb_family::{Pair, SinkFault, StepSink, take_deletion};
+use pb_family::{Pair, SinkFault, StepSink, derive_deletion};
 use pb_steps::{PolOp, PolOps, Step};
 use pb_totalizer::Exact;
 use std::alloc::{AllocError, Global};
@@ -23,7 +23,7 @@ fn quotient_step(alloc: Global, id: u64, coef: &i128) -> Result<Step, AllocError
 }
 
 // Hands over that all numbers of the constraint with an id are divided.
-fn take_quotient<T: StepSink>(
+fn derive_quotient<T: StepSink>(
     alloc: Global,
     id: u64,
     coef: &i128,
@@ -54,8 +54,8 @@ pub fn derive_joint<T: StepSink>(
     ensures { HandsFrom (joint_steps (exact_sum exact.now) coef.now first low high) result (T.state sink.old) (T.state sink.new) }
 {
     let own = sink.next_id();
-    take_quotient(alloc, low, coef, sink)?;
-    take_quotient(alloc, high, coef, sink)?;
+    derive_quotient(alloc, low, coef, sink)?;
+    derive_quotient(alloc, high, coef, sink)?;
     exact.derive(alloc, first, own, own + 1, sink)?;
-    take_deletion(alloc, own, 2, sink)
+    derive_deletion(alloc, own, 2, sink)
 }

@@ -4,7 +4,7 @@ ghost use Rattle.pb_family.specs.Families.{VarsBelow};
 ghost use Rattle.pb_family.specs.Handing.{HandsIfMemory};
 ghost use Rattle.pb_family.specs.StepSinks.{HandsFrom};
 ghost use Rattle.pb_choice.specs.Readiness.{LeavesIds};
-ghost use Rattle.pb_choice.specs.laws.HalfPlans.{halves_clauses, halves_steps, plan_count, plan_fresh};
+ghost use Rattle.pb_choice.specs.HalfPlans.{halves_clauses, halves_steps, plan_count, plan_fresh};
 
 use crate::plans::{Counts, Plan};
 use pb_family::{ClauseSink, SinkFault, StepSink};

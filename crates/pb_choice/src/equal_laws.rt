@@ -1,5 +1,5 @@
 //! Laws about equalities.
-ghost use Rattle.pb_choice.specs.laws.EqualityLaws.{EqualitiesAreBrief, EqualitiesAreSayable, EqualitiesDerive, EqualitiesEncode, EqualitiesForce, EqualitiesHaveFewSteps, JointEqualitiesForce, StatementsHaveHalves};
+ghost use Rattle.pb_choice.specs.EqualityLaws.{EqualitiesAreBrief, EqualitiesAreSayable, EqualitiesDerive, EqualitiesEncode, EqualitiesForce, EqualitiesHaveFewSteps, JointEqualitiesForce, StatementsHaveHalves};
 
 /// The law that the two halves of a statement are those of one equality.
 pub fn statements_have_halves()

@@ -5,13 +5,12 @@ ghost use Rattle.pb_norm.specs.Constraints.{IsLinear, weight};
 ghost use Rattle.pb_norm.specs.Reduction.{first_coef, lits_of};
 ghost use Rattle.pb_totalizer.specs.ExactSum.{exact_sum};
 ghost use Rattle.pb_choice.specs.Equals.{is_joining, is_joint, literals_asked};
-ghost use Rattle.pb_choice.specs.laws.EqualPlans.{HasPartsOf, IsEqualPlan};
+ghost use Rattle.pb_choice.specs.EqualPlans.{HasPartsOf, IsEqualPlan};
 
 use crate::asking::{asks_for_number, number_asked};
 use crate::equal::EqualPlan;
-use crate::options::{EqualMode, Options};
 use crate::planning::plan;
-use pb_base::{Lits, NoMemory};
+use pb_base::{EqualMode, Lits, NoMemory, Options};
 use pb_family::Built;
 use pb_norm::{Linear, first_coef, lits_of};
 use pb_totalizer::Exact;

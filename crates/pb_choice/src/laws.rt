@@ -1,6 +1,6 @@
 //! Laws about the definitions.
-ghost use Rattle.pb_choice.specs.laws.DeriveLaws.{ConstraintsAreBrief, ConstraintsAreSayable, ConstraintsDerive, ConstraintsHaveFewSteps};
-ghost use Rattle.pb_choice.specs.laws.Laws.{ClausesEncode, ClausesForce};
+ghost use Rattle.pb_choice.specs.DeriveLaws.{ConstraintsAreBrief, ConstraintsAreSayable, ConstraintsDerive, ConstraintsHaveFewSteps};
+ghost use Rattle.pb_choice.specs.ConstraintLaws.{ClausesEncode, ClausesForce};
 
 /// The law that the clauses of a constraint say what it says, under any options.
 pub fn clauses_encode()

@@ -13,11 +13,10 @@ mod equal_laws;
 mod equal_planning;
 mod held;
 mod laws;
-mod left;
-mod options;
 mod planning;
 mod plans;
 mod reducing;
+mod residual;
 mod treatment;
 mod within;
 
@@ -27,7 +26,6 @@ pub use equal_laws::{
 };
 pub use equal_planning::plan_equal;
 pub use laws::{clauses_encode, clauses_force, constraints_derive};
-pub use options::{Amo, Card, DEFAULT_BUDGET, EqualMode, General, MAX_BUDGET, Options};
 pub use planning::plan;
 pub use plans::{Counts, Plan};
 pub use treatment::Treatment;

@@ -2,10 +2,9 @@
 ghost use Rattle.std.specs.Prelude.{◌≡◌, ◌≤◌, ◌<◌, ◌^◌, IfOk};
 ghost use Rattle.pb_norm.specs.Constraints.{weight};
 
-use crate::choosing::left_of;
-use crate::options::Options;
+use crate::choosing::residual_of;
 use crate::plans::Plan;
-use pb_base::NoMemory;
+use pb_base::{NoMemory, Options};
 use pb_norm::{Linear, Reduced, reduce};
 use std::alloc::Global;
 
@@ -21,7 +20,7 @@ pub fn plan<'a>(
     ensures options { IfOk result (λ plan. plan.options ≡ options.now) }
 {
     let Reduced { units, rest } = reduce(alloc, constraint)?;
-    let left = left_of(alloc, options, rest)?;
+    let left = residual_of(alloc, options, rest)?;
     Ok(Plan {
         constraint,
         options: *options,

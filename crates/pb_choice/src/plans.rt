@@ -7,14 +7,13 @@ ghost use Rattle.pb_family.specs.StepSinks.{HandsFrom};
 ghost use Rattle.pb_choice.specs.Choice.{treatment_of};
 ghost use Rattle.pb_choice.specs.Clauses.{constraint_clauses, constraint_count, constraint_fresh};
 ghost use Rattle.pb_choice.specs.ConstraintSteps.{constraint_steps};
-ghost use Rattle.pb_choice.specs.laws.Left.{IsLeft};
+ghost use Rattle.pb_choice.specs.inner.Residual.{IsLeft};
 
 use crate::derivation::derive_units;
 use crate::emission::emit_units;
-use crate::left::Left;
-use crate::options::Options;
+use crate::residual::Residual;
 use crate::treatment::Treatment;
-use pb_base::Lits;
+use pb_base::{Lits, Options};
 use pb_family::{ClauseSink, SinkFault, StepSink};
 use pb_norm::Linear;
 use std::alloc::Global;
@@ -31,7 +30,7 @@ pub struct Plan<'a> {
     pub constraint: &'a Linear,
     pub options: Options,
     pub(crate) units: Lits,
-    pub(crate) left: Left,
+    pub(crate) left: Residual,
     ghost units_are: { units ≡ units_of constraint.now },
     ghost left_is: { IsLeft options (rest_of constraint.now) left },
 }

@@ -4,7 +4,7 @@ ghost use Rattle.pb_norm.specs.Constraints.{weight};
 ghost use Rattle.pb_norm.specs.BoundedSums.{IsProper};
 ghost use Rattle.pb_norm.specs.Classes.{IsCardinality};
 ghost use Rattle.pb_choice.specs.Choice.{within_budget};
-ghost use Rattle.pb_choice.specs.laws.Chosen.{IsChosen};
+ghost use Rattle.pb_choice.specs.inner.Chosen.{IsChosen};
 
 use crate::chosen::Chosen;
 use crate::held::{AdderOf, Cardinality, DiagramOf, TotalizerOf, TreeOf};

@@ -7,7 +7,7 @@ use Rattle.pb_base.specs.declared.literal.Term.{Term}
 use Rattle.pb_norm.specs.Constraints.{weights}
 use Rattle.pb_norm.specs.Reduction.{lits_of}
 use Rattle.pb_counter.specs.Counter.{clause_at, places, counter_clauses, counter_size}
-use Rattle.pb_counter.specs.Order.{place_at}
+use Rattle.pb_counter.specs.inner.Order.{place_at}
 use Rattle.pb_counter.specs.laws.CounterOrder.{order_map}
 use Rattle.pb_counter.proofs.CounterSizes.{literal_count}
 

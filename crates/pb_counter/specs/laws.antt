@@ -5,6 +5,6 @@ pub mod CounterModels
 pub mod CounterOrder
 pub mod CounterPlaces
 pub mod CounterPropagation
-pub mod CounterReasons
+pub mod CounterJustifications
 pub mod CounterShort
 pub mod SeenLiterals

@@ -5,7 +5,9 @@ ghost use Rattle.pb_norm.specs.Constraints.{weight, weights};
 use crate::grid::Grid;
 use crate::place::Place;
 use pb_base::Term;
-use pb_family::{SinkFault, StepSink, fresh_at, take_claim, take_deletions, take_meaning};
+use pb_family::{
+    SinkFault, StepSink, derive_claim, derive_deletions, derive_reification, fresh_at,
+};
 use std::alloc::Global;
 
 /// The ids of the constraints that give a clause.
@@ -15,7 +17,7 @@ pub enum Sources {
     Both(u64, u64),
 }
 
-/// A counter whose sum's constraint has the id `id`, and whose meanings' constraints have the ids from `base` on.
+/// A counter whose sum's constraint has the id `id`, and whose reifications' constraints have the ids from `base` on.
 #[derive(Clone, Copy)]
 pub struct Derivation<'a> {
     pub grid: Grid<'a>,
@@ -28,15 +30,15 @@ pub struct Derivation<'a> {
 impl<'a> Derivation<'a> {
     ghost use Rattle.std.specs.Prelude.{◌≡◌, ◌≤◌, ◌<◌, ◌+◌, ◌^◌, ◌∷◌, [], length};
     ghost use Rattle.pb_norm.specs.Constraints.{weights};
-    ghost use Rattle.pb_derive.specs.Meanings.{meaning_steps};
+    ghost use Rattle.pb_derive.specs.Reifications.{reification_steps};
     ghost use Rattle.pb_family.specs.StepSinks.{HandsSteps};
-    ghost use Rattle.pb_family.specs.laws.HandedReasons.{HandsReasons};
+    ghost use Rattle.pb_family.specs.inner.HandedJustifications.{HandsJustifications};
     ghost use Rattle.pb_counter.specs.Counter.{counter_fresh, counter_size};
-    ghost use Rattle.pb_counter.specs.CounterSteps.{counted_at, counts, reached_id, missed_id, ids_of, sources_at, beside_at, reason_at, counter_reasons, counter_steps};
-    ghost use Rattle.pb_counter.specs.Order.{IsPlace};
+    ghost use Rattle.pb_counter.specs.CounterSteps.{counted_at, counts, reached_id, missed_id, ids_of, sources_at, beside_at, justification_at, counter_justifications, counter_steps};
+    ghost use Rattle.pb_counter.specs.inner.Order.{IsPlace};
 
     /// The id of the constraint that holds where a fresh variable is true.
-    fn reached(&self, row: usize, place: usize) -> u64
+    fn forward_id(&self, row: usize, place: usize) -> u64
         requires row { row + 1 < length self.now.grid.terms.now }
         requires place { place < self.now.grid.width }
         ensures { result ≡ reached_id self.now.grid.width self.now.base row place }
@@ -45,7 +47,7 @@ impl<'a> Derivation<'a> {
     }
 
     /// The id of the constraint that holds where it is false.
-    fn missed(&self, row: usize, place: usize) -> u64
+    fn reverse_id(&self, row: usize, place: usize) -> u64
         requires row { row + 1 < length self.now.grid.terms.now }
         requires place { place < self.now.grid.width }
         ensures { result ≡ missed_id self.now.grid.width self.now.base row place }
@@ -59,15 +61,18 @@ impl<'a> Derivation<'a> {
         ensures { ids_of result ≡ sources_at self.now.grid.width self.now.id self.now.base place }
     {
         match place {
-            Place::Start => Sources::Single(self.missed(0, 0)),
-            Place::Below(j) => Sources::Single(self.reached(0, j)),
-            Place::One(i) => Sources::Single(self.missed(i + 1, 0)),
-            Place::Keep(i, j) if j <= i => Sources::Both(self.reached(i, j), self.missed(i + 1, j)),
+            Place::Start => Sources::Single(self.reverse_id(0, 0)),
+            Place::Below(j) => Sources::Single(self.forward_id(0, j)),
+            Place::One(i) => Sources::Single(self.reverse_id(i + 1, 0)),
+            Place::Keep(i, j) if j <= i => Sources::Both(
+                self.forward_id(i, j),
+                self.reverse_id(i + 1, j),
+            ),
             Place::More(i, j) if j <= i => {
-                Sources::Both(self.reached(i, j), self.missed(i + 1, j + 1))
+                Sources::Both(self.forward_id(i, j), self.reverse_id(i + 1, j + 1))
             }
-            Place::Keep(i, j) | Place::More(i, j) => Sources::Single(self.reached(i, j)),
-            Place::Stop(i) => Sources::Both(self.reached(i, self.grid.width - 1), self.id),
+            Place::Keep(i, j) | Place::More(i, j) => Sources::Single(self.forward_id(i, j)),
+            Place::Stop(i) => Sources::Both(self.forward_id(i, self.grid.width - 1), self.id),
         }
     }
 
@@ -97,19 +102,19 @@ impl<'a> Derivation<'a> {
     fn claim<T: StepSink>(&self, alloc: Global, place: Place, sink: &mut T) -> Result<(), SinkFault>
         requires place { IsPlace (length self.now.grid.terms.now) self.now.grid.width place }
         requires few { (T.state sink.old).next + 1 < 2 ^ 62 }
-        ensures { HandsReasons (reason_at (weights self.now.grid.terms.now) self.now.grid.width self.now.grid.first self.now.id self.now.base place ∷ []) result (T.state sink.old) (T.state sink.new) }
+        ensures { HandsJustifications (justification_at (weights self.now.grid.terms.now) self.now.grid.width self.now.grid.first self.now.id self.now.base place ∷ []) result (T.state sink.old) (T.state sink.new) }
     {
         let beside = self.beside(place);
         match self.sources(place) {
-            Sources::Single(one) => take_claim(alloc, &[one], beside, sink),
-            Sources::Both(one, other) => take_claim(alloc, &[one, other], beside, sink),
+            Sources::Single(one) => derive_claim(alloc, &[one], beside, sink),
+            Sources::Both(one, other) => derive_claim(alloc, &[one, other], beside, sink),
         }
     }
 
     /// Derives all the clauses.
     fn claims<T: StepSink>(&self, alloc: Global, sink: &mut T) -> Result<(), SinkFault>
         requires few { (T.state sink.old).next + counter_size (length self.now.grid.terms.now) self.now.grid.width < 2 ^ 62 }
-        ensures { HandsReasons (counter_reasons (weights self.now.grid.terms.now) self.now.grid.width self.now.grid.first self.now.id self.now.base) result (T.state sink.old) (T.state sink.new) }
+        ensures { HandsJustifications (counter_justifications (weights self.now.grid.terms.now) self.now.grid.width self.now.grid.first self.now.id self.now.base) result (T.state sink.old) (T.state sink.new) }
     {
         for number in 0..self.grid.size() {
             self.claim(alloc, self.grid.place(number), sink)?;
@@ -118,7 +123,7 @@ impl<'a> Derivation<'a> {
     }
 
     /// Says what the fresh variable with a number means.
-    fn meaning<T: StepSink>(
+    fn reification<T: StepSink>(
         &self,
         alloc: Global,
         number: usize,
@@ -126,21 +131,21 @@ impl<'a> Derivation<'a> {
     ) -> Result<(), SinkFault>
         requires within { number < counter_fresh (length self.now.grid.terms.now) self.now.grid.width }
         requires few { (T.state sink.old).next + 1 < 2 ^ 62 }
-        ensures { HandsSteps (meaning_steps (T.state sink.old).next (counted_at (weights self.now.grid.terms.now) self.now.grid.width self.now.grid.first number ∷ [])) result (T.state sink.old) (T.state sink.new) }
+        ensures { HandsSteps (reification_steps (T.state sink.old).next (counted_at (weights self.now.grid.terms.now) self.now.grid.width self.now.grid.first number ∷ [])) result (T.state sink.old) (T.state sink.new) }
     {
         let var = fresh_at(self.grid.first, number).var;
         let seen = number / self.grid.width + 1;
         let least = number % self.grid.width + 1;
-        take_meaning(alloc, var, &self.grid.terms[..seen], least as u128, sink)
+        derive_reification(alloc, var, &self.grid.terms[..seen], least as u128, sink)
     }
 
     /// Says what all of them mean.
-    fn meanings<T: StepSink>(&self, alloc: Global, sink: &mut T) -> Result<(), SinkFault>
+    fn reifications<T: StepSink>(&self, alloc: Global, sink: &mut T) -> Result<(), SinkFault>
         requires few { (T.state sink.old).next ≤ 2 ^ 61 }
-        ensures { HandsSteps (meaning_steps (T.state sink.old).next (counts (weights self.now.grid.terms.now) self.now.grid.width self.now.grid.first)) result (T.state sink.old) (T.state sink.new) }
+        ensures { HandsSteps (reification_steps (T.state sink.old).next (counts (weights self.now.grid.terms.now) self.now.grid.width self.now.grid.first)) result (T.state sink.old) (T.state sink.new) }
     {
         for number in 0..self.grid.fresh() {
-            self.meaning(alloc, number, sink)?;
+            self.reification(alloc, number, sink)?;
         }
         Ok(())
     }
@@ -150,8 +155,8 @@ impl<'a> Derivation<'a> {
         requires { self.now.base ≡ (T.state sink.old).next }
         ensures { HandsSteps (counter_steps (weights self.now.grid.terms.now) self.now.grid.width self.now.grid.first self.now.id (T.state sink.old).next) result (T.state sink.old) (T.state sink.new) }
     {
-        self.meanings(alloc, sink)?;
+        self.reifications(alloc, sink)?;
         self.claims(alloc, sink)?;
-        take_deletions(alloc, self.base, 2, self.grid.fresh() as u64, sink)
+        derive_deletions(alloc, self.base, 2, self.grid.fresh() as u64, sink)
     }
 }

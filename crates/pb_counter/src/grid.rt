@@ -26,7 +26,7 @@ impl Grid<'_> {
     ghost use Rattle.pb_family.specs.Fresh.{literal_at};
     ghost use Rattle.pb_family.specs.Handing.{Hands};
     ghost use Rattle.pb_counter.specs.Counter.{count_bit, clause_at, counter_clauses, counter_fresh, counter_size};
-    ghost use Rattle.pb_counter.specs.Order.{IsPlace, place_at};
+    ghost use Rattle.pb_counter.specs.inner.Order.{IsPlace, place_at};
 
     /// How many places there are.
     pub fn size(&self) -> usize

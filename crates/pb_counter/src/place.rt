@@ -1,6 +1,6 @@
 //! Where the clauses of a counter stand.
 ghost use Rattle.std.specs.Prelude.{◌≡◌, ◌≤◌, ◌<◌, ◌+◌, ◌*◌, ◌^◌};
-ghost use Rattle.pb_counter.specs.Order.{place_at};
+ghost use Rattle.pb_counter.specs.inner.Order.{place_at};
 
 /// A clause of a counter: what it says, its row, and its place in the row.
 #[derive(Clone, Copy)]

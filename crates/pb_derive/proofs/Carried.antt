@@ -11,7 +11,7 @@ use Rattle.pb_steps.specs.Database.{Entry, Database, constraint_at, IsLive, is_o
 use Rattle.pb_steps.specs.Runs.{Runs}
 use Rattle.pb_derive.specs.Deletions.{deletion_steps}
 use Rattle.pb_derive.specs.Later.{IsNumbered, IsLater, IsUnmarked, IsSwept}
-use Rattle.pb_derive.specs.laws.Ran.{Ran, RanSwept}
+use Rattle.pb_derive.specs.inner.Ran.{Ran, RanSwept}
 use Rattle.pb_derive.proofs.Deleted.{at_reduced, reduced_all, not_out, deletion_allowed, later_reduced}
 use Rattle.pb_derive.proofs.Held.{AreHeld, AreAdding, held_swept, held_added, added_unmarked, added_swept}
 use Rattle.pb_derive.proofs.Laters.{later_then}

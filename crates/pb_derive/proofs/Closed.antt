@@ -20,8 +20,8 @@ use Rattle.pb_norm.proofs.Opened.{quotient_up-enough, quotient_up-least}
 use Rattle.pb_norm.proofs.WrittenForm.{normal_terms-ascending}
 use Rattle.pb_norm.specs.ClauseForm.{one_of, distinct}
 use Rattle.pb_steps.specs.Operations.{division, shrunk, excess, Implies}
-use Rattle.pb_derive.specs.Reasons.{Reason, widest}
-use Rattle.pb_derive.specs.laws.Follows.{FollowsFrom}
+use Rattle.pb_derive.specs.Justifications.{Justification, widest}
+use Rattle.pb_derive.specs.inner.Follows.{FollowsFrom}
 use Rattle.pb_derive.proofs.Closing.{sum_from, AllAscending, sum_from-ascending, sum_from-lacks, sum_from-weight, sum_from-degree, term_left, against, against-false, against-true, weaken_from, weaken_from-all, weaken_from-lacks, weaken_from_lighter, degrees-cons, value_in-cons, weight_in-cons}
 
 -- ---- coefficients stay above 0
@@ -134,7 +134,7 @@ one_way ls none l h =
     false_from_ne_true (is_among ls (negated l)) (λ both.
     both_ways (is_tautology ls) none (list_any_at (λ (k : Lit). is_among ls (negated k)) ls h.0 l h.1 (ap (λ (k : Lit). is_among ls (negated k)) h.2 ∙ both)))
 
-module _ (c : Constraint) (ds : List Constraint) (r : Reason) (follows : FollowsFrom (c ∷ ds) r)
+module _ (c : Constraint) (ds : List Constraint) (r : Justification) (follows : FollowsFrom (c ∷ ds) r)
     (up : IsAscending c.terms) (ups : AllAscending ds) (positive : AllPositive c.terms) (positives : ArePositive ds) where
   abbrev whole : Constraint
   whole = sum_from c ds

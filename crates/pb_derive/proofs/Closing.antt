@@ -20,7 +20,7 @@ use Rattle.pb_norm.proofs.AdditionSizes.{weight-joined, weight-cons}
 use Rattle.pb_norm.proofs.AdditionValues.{value-cons, joined-value, coef_of-cons, coef_of-none}
 use Rattle.pb_norm.proofs.AllBut.{coef_of-at}
 use Rattle.pb_steps.specs.Operations.{weakening, is_other, coef_at}
-use Rattle.pb_derive.specs.laws.Follows.{degrees, weight_in, value_in, coef_in}
+use Rattle.pb_derive.specs.inner.Follows.{degrees, weight_in, value_in, coef_in}
 
 -- ---- sums of constraints
 

@@ -11,9 +11,9 @@ use Rattle.pb_norm.specs.Halves.{written}
 use Rattle.pb_norm.specs.NormalForms.{net}
 use Rattle.pb_norm.proofs.AdditionValues.{joined-value}
 use Rattle.pb_norm.proofs.NetForm.{same_nets}
-use Rattle.pb_derive.specs.laws.Exact.{IsSum}
+use Rattle.pb_derive.specs.inner.Exact.{IsSum}
 use Rattle.pb_derive.specs.Forms.{AreSameTerms, IsFormOf}
-use Rattle.pb_derive.specs.laws.Follows.{degrees, value_in}
+use Rattle.pb_derive.specs.inner.Follows.{degrees, value_in}
 use Rattle.pb_derive.proofs.Closed.{ArePositive, sum_from-positive}
 use Rattle.pb_derive.proofs.Closing.{sum_from, AllAscending, sum_from-ascending, sum_from-coefs, net-coefs, degrees-cons, value_in-cons, coef_in-cons}
 use Rattle.pb_derive.proofs.SameTerms.{written-form, written-all}

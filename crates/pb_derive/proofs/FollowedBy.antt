@@ -9,7 +9,7 @@ use Rattle.pb_steps.specs.Database.{Database}
 use Rattle.pb_steps.specs.Allowed.{Allowed}
 use Rattle.pb_steps.specs.Runs.{Runs, next_clause, clauses_after}
 use Rattle.pb_derive.specs.FollowedBy.{followed_by}
-use Rattle.pb_derive.specs.laws.Ran.{Ran, RanSwept}
+use Rattle.pb_derive.specs.inner.Ran.{Ran, RanSwept}
 use Rattle.pb_steps.specs.Steps.{takes_id}
 use Rattle.pb_derive.specs.Later.{IsLater}
 use Rattle.pb_derive.proofs.Running.{ran_then, swept_then}

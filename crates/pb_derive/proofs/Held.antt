@@ -13,7 +13,7 @@ use Rattle.pb_steps.specs.Database.{Entry, Database, IsLive, entry, grown}
 use Rattle.pb_steps.specs.Allowed.{Allowed}
 use Rattle.pb_steps.specs.Runs.{Runs, next_clause, clauses_after}
 use Rattle.pb_derive.specs.Later.{IsNumbered, IsUnmarked, IsSwept}
-use Rattle.pb_derive.specs.laws.Ran.{RanSwept}
+use Rattle.pb_derive.specs.inner.Ran.{RanSwept}
 use Rattle.pb_derive.proofs.Laters.{at_grown, later_grown}
 
 -- the constraints with the ids from one number to another

@@ -5,7 +5,7 @@ use Rattle.std.specs.List.{range_with_len}
 use Rattle.pb_norm.specs.Constraints.{Constraint}
 use Rattle.pb_steps.specs.Database.{Database}
 use Rattle.pb_derive.specs.Later.{Knows}
-use Rattle.pb_derive.specs.laws.Follows.{AllKnown}
+use Rattle.pb_derive.specs.inner.Follows.{AllKnown}
 
 pub known_range : (db : Database) (id : ℕ → ℕ) (s : ℕ → Constraint) (a n : ℕ) → ((k : ℕ) → a ≤ k → k < a + n → Knows db (id k) (s k)) → AllKnown (Knows db) (map id (range_with_len a n)) (map s (range_with_len a n))
 known_range db id s a zero h = tt

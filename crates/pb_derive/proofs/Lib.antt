@@ -15,7 +15,7 @@ pub mod Opposites
 pub mod Phases
 pub mod PinLemmas
 pub mod PinnedRups
-pub mod ReasonClauses
+pub mod JustificationClauses
 pub mod Reasoned
 pub mod Running
 pub mod Rups
@@ -25,7 +25,7 @@ pub mod Sayable
 pub mod Short
 pub mod Sides
 pub mod Scoped
-pub mod ShortReasons
+pub mod ShortJustifications
 pub mod ShortRups
 pub mod Sizes
 pub mod SlimRows

@@ -1,4 +1,4 @@
--- Fresh variables get their meanings: both constraints are redundant (after Gocht, Martins, Nordström and Oertel 2022).
+-- Fresh variables get their reifications: both constraints are redundant (after Gocht, Martins, Nordström and Oertel 2022).
 use Rattle.std.proofs.Common.{◌≡◌, ◌≢◌, ◌≤◌, ◌<◌, ◌+◌, ◌-◌, ◌*◌, ◌||◌, inl, inr, ℕ, zero, suc, Bool, true, false, not, cond, List, [], ◌∷◌, ◌++◌, refl, ap, sym, ◌∙◌, subst, arith, eqb, leb, ltb, pos, length, get_or}
 use mathlib.Core.Bool.{beq}
 use Rattle.std.specs.Prelude.{All, map, filter, sum_by, Option, Some, None, is_some, is_none, unwrap_or}
@@ -27,11 +27,11 @@ use Rattle.pb_steps.specs.Substitutions.{is_unset, is_made_true, restriction, na
 use Rattle.pb_steps.specs.Database.{Entry, Database, entry, grown, IsLive}
 use Rattle.pb_steps.specs.Allowed.{Allowed, IsMet, IsShown}
 use Rattle.pb_steps.specs.Runs.{Runs}
-use Rattle.pb_derive.specs.laws.Ran.{Ran}
+use Rattle.pb_derive.specs.inner.Ran.{Ran}
 use Rattle.pb_derive.specs.Forms.{AreApartTerms, IsFormOf}
 use Rattle.pb_derive.specs.Later.{IsOther, IsUnnamed, IsNumbered, Knows, IsLater}
-use Rattle.pb_derive.specs.Meanings.{Meaning, spare, forward_of, reverse_of, redundant, meaning_steps}
-use Rattle.pb_derive.specs.laws.Meant.{IsMeaning, NamesNot, AreMeanings, IsMeant, AreMeant}
+use Rattle.pb_derive.specs.Reifications.{Reification, spare, forward_of, reverse_of, redundant, reification_steps}
+use Rattle.pb_derive.specs.inner.Meant.{IsReification, NamesNot, AreReifications, IsMeant, AreMeant}
 use Rattle.pb_derive.proofs.Laters.{at_grown, known_below, later_then, later_grown, later_knows}
 use Rattle.pb_derive.proofs.Opposites.{weight-opposite}
 use Rattle.pb_derive.proofs.Running.{runs_append, ran_none}
@@ -94,7 +94,7 @@ own_shown live v n value ts claim c others form =
 
 -- ---- the two constraints in the order of their variables
 
-module _ (m : Meaning) (apart : AreApartTerms m.sum) (positive : AllPositive m.sum) (others : All (IsOther m.var) m.sum) (some : 1 ≤ m.least) where
+module _ (m : Reification) (apart : AreApartTerms m.sum) (positive : AllPositive m.sum) (others : All (IsOther m.var) m.sum) (some : 1 ≤ m.least) where
   first_apart : AreApartTerms (forward_of m).terms
   first_apart = AllPairs-cons (λ (s t : Weighted). s.lit.var ≢ t.lit.var) (record { coef = m.least; lit = record { var = m.var; positive = false } }) m.sum others apart
 
@@ -122,7 +122,7 @@ module _ (m : Meaning) (apart : AreApartTerms m.sum) (positive : AllPositive m.s
 -- ---- the second implies the first where the variable is true
 
 -- each coefficient of the sum is found in what is left of the first
-left_coef : (m : Meaning) (c : Constraint) → IsFormOf (forward_of m) c → All (IsOther m.var) m.sum → All (λ t. t.coef ≤ coef_of (restriction (setting m.var true) c).terms t.lit) m.sum
+left_coef : (m : Reification) (c : Constraint) → IsFormOf (forward_of m) c → All (IsOther m.var) m.sum → All (λ t. t.coef ≤ coef_of (restriction (setting m.var true) c).terms t.lit) m.sum
 left_coef m c form others = λ k d h.
     let t : Weighted = get_or m.sum k d in
     let g : Weighted → ℕ = λ u. cond (is_unset (setting m.var true) u) (cond (is_same u.lit t.lit) u.coef 0) 0 in
@@ -140,7 +140,7 @@ no_opposite_excess (t ∷ ts) rs h =
     let same : coef_of rs (negated (negated t.lit)) ≡ coef_of rs t.lit = ap (coef_of rs) (negated-negated t.lit) in
     omega (arith, sum_by-cons (λ (t : Weighted). (opposite t).coef - coef_of rs (opposite t).lit) (opposite t) (map opposite ts), less, same, no_opposite_excess ts rs (All-tail (λ (t : Weighted). t.coef ≤ coef_of rs t.lit) t ts h))
 
-first_shown : (live : List Entry) (m : Meaning) (c d : Constraint) → IsFormOf (forward_of m) c → IsFormOf (reverse_of m) d → All (IsOther m.var) m.sum → m.least ≤ weight m.sum →
+first_shown : (live : List Entry) (m : Reification) (c d : Constraint) → IsFormOf (forward_of m) c → IsFormOf (reverse_of m) d → All (IsOther m.var) m.sum → m.least ≤ weight m.sum →
     IsShown live d (restriction (setting m.var true) c)
 first_shown live m c d first second others reach =
     let r : Constraint = restriction (setting m.var true) c in
@@ -153,10 +153,10 @@ first_shown live m c d first second others reach =
     inl (or_right (eqb r.degree 0) (leb (r.degree + excess (negation d) r) (negation d).degree)
     (le-leb (r.degree + excess (negation d) r) (negation d).degree (omega (arith, mapped, second.terms f, parts, rest, weights, second.degree, first.degree))))
 
--- ---- one meaning
+-- ---- one reification
 
--- a database after the two lines of a meaning
-record Defined (db : Database) (steps : List Step) (m : Meaning) : Type 1 where
+-- a database after the two lines of a reification
+record Defined (db : Database) (steps : List Step) (m : Reification) : Type 1 where
   pub end : Database
   pub runs : Runs db steps [] end
   pub later : (Q : ℕ → Type 0) → All (λ t. Q t.lit.var) (forward_of m).terms → IsLater Q db end
@@ -177,7 +177,7 @@ nothing_allowed db id next live = record {
   rule = record { slim = omega arith; conflict = inr ([], negation (written [] (pos 0)), tt, Contains-here (negation (written [] (pos 0))) _, omega arith); after = refl };
 }
 
-module _ (db : Database) (numbered : IsNumbered db) (m : Meaning) (is : IsMeaning db.original db.vars m) (unnamed : IsUnnamed m.var db) where
+module _ (db : Database) (numbered : IsNumbered db) (m : Reification) (is : IsReification db.original db.vars m) (unnamed : IsUnnamed m.var db) where
   abbrev one : Constraint
   one = written (terms_of (forward_of m).terms) (pos m.least)
 
@@ -243,8 +243,8 @@ module _ (db : Database) (numbered : IsNumbered db) (m : Meaning) (is : IsMeanin
   abbrev second_line : Bool → Step
   second_line b = cond {A = Step} b (Rup [] (pos 0) (db.next ∷ [])) (redundant (reverse_of m) m.var true)
 
-  meaning_defined : Defined db (redundant (forward_of m) m.var false ∷ second_line (ltb (weight m.sum) m.least) ∷ []) m
-  meaning_defined = by_test (ltb (weight m.sum) m.least) refl
+  reification_defined : Defined db (redundant (forward_of m) m.var false ∷ second_line (ltb (weight m.sum) m.least) ∷ []) m
+  reification_defined = by_test (ltb (weight m.sum) m.least) refl
     where
       by_test : (b : Bool) → ltb (weight m.sum) m.least ≡ b → Defined db (redundant (forward_of m) m.var false ∷ second_line b ∷ []) m
       by_test true e =
@@ -284,27 +284,27 @@ module _ (db : Database) (numbered : IsNumbered db) (m : Meaning) (is : IsMeanin
 
 -- ---- one after the other
 
-meant_later : (P : ℕ → Type 0) (db end : Database) (id : ℕ) (m : Meaning) → IsLater P db end → IsNumbered db → IsMeant db id m → IsMeant end id m
+meant_later : (P : ℕ → Type 0) (db end : Database) (id : ℕ) (m : Reification) → IsLater P db end → IsNumbered db → IsMeant db id m → IsMeant end id m
 meant_later P db end id m later numbered h = record {
   first = later_knows P db end id (forward_of m) later (known_below db id (forward_of m) numbered h.first) h.first;
   second = λ reach. later_knows P db end (id + 1) (reverse_of m) later (known_below db (id + 1) (reverse_of m) numbered (h.second reach)) (h.second reach);
 }
 
--- what meanings leave
-pub record Meant (P : ℕ → Type 0) (db : Database) (ms : List Meaning) : Type 0 where
-  pub ran : Ran P db (meaning_steps db.next ms) [] (2 * length ms)
+-- what reifications leave
+pub record Meant (P : ℕ → Type 0) (db : Database) (ms : List Reification) : Type 0 where
+  pub ran : Ran P db (reification_steps db.next ms) [] (2 * length ms)
   pub meant : AreMeant ran.end db.next ms
 
 -- the others may still be added
-meanings_left : (P : ℕ → Type 0) (db : Database) (steps : List Step) (m : Meaning) (ms : List Meaning) (first : Defined db steps m) → AreMeanings P db (m ∷ ms) → AreMeanings P first.end ms
-meanings_left P db steps m ms first h =
+reifications_left : (P : ℕ → Type 0) (db : Database) (steps : List Step) (m : Reification) (ms : List Reification) (first : Defined db steps m) → AreReifications P db (m ∷ ms) → AreReifications P first.end ms
+reifications_left P db steps m ms first h =
     let Names : ℕ → Type 0 = λ v. ¬ (All (IsOther v) (forward_of m).terms) in
     let names : All (λ t. Names t.lit.var) (forward_of m).terms = λ k d within all. all k d within refl in
     let later = first.later Names names in
     let apart = AllPairs-head NamesNot m ms h.in_order in
-    let unnamed = All-tail (λ (m : Meaning). IsUnnamed m.var db) m ms h.unnamed in
+    let unnamed = All-tail (λ (m : Reification). IsUnnamed m.var db) m ms h.unnamed in
     record {
-      each = All-weaker (IsMeaning db.original db.vars) (IsMeaning first.end.original first.end.vars)
+      each = All-weaker (IsReification db.original db.vars) (IsReification first.end.original first.end.vars)
           (λ n is. record {
             fresh = omega (arith, is.fresh, later.original);
             known = omega (arith, is.known, later.vars);
@@ -315,30 +315,30 @@ meanings_left P db steps m ms first h =
             some = is.some;
             light = is.light;
           })
-          ms (All-tail (IsMeaning db.original db.vars) m ms h.each);
-      named = All-tail (λ (m : Meaning). All (λ t. P t.lit.var) (forward_of m).terms) m ms h.named;
+          ms (All-tail (IsReification db.original db.vars) m ms h.each);
+      named = All-tail (λ (m : Reification). All (λ t. P t.lit.var) (forward_of m).terms) m ms h.named;
       unnamed = λ k d within. later.unnamed (get_or ms k d).var (λ none. none (apart k d within)) (unnamed k d within);
       in_order = AllPairs-tail NamesNot m ms h.in_order;
     }
 
-pub meant_all : (P : ℕ → Type 0) (db end : Database) (id : ℕ) (ms : List Meaning) → IsLater P db end → IsNumbered db → AreMeant db id ms → AreMeant end id ms
+pub meant_all : (P : ℕ → Type 0) (db end : Database) (id : ℕ) (ms : List Reification) → IsLater P db end → IsNumbered db → AreMeant db id ms → AreMeant end id ms
 meant_all P db end id [] later numbered h = tt
 meant_all P db end id (m ∷ ms) later numbered h = (meant_later P db end id m later numbered h.0, meant_all P db end (id + 2) ms later numbered h.1)
 
-pub meanings_ran : (P : ℕ → Type 0) (db : Database) (ms : List Meaning) → IsNumbered db → AreMeanings P db ms → Meant P db ms
-meanings_ran P db [] numbered h = record { ran = ran_none P db numbered; meant = tt }
-meanings_ran P db (m ∷ ms) numbered h =
-    let is = All-head (IsMeaning db.original db.vars) m ms h.each in
-    let first = meaning_defined db numbered m is (All-head (λ (m : Meaning). IsUnnamed m.var db) m ms h.unnamed) in
-    let named = All-head (λ (m : Meaning). All (λ t. P t.lit.var) (forward_of m).terms) m ms h.named in
+pub reifications_ran : (P : ℕ → Type 0) (db : Database) (ms : List Reification) → IsNumbered db → AreReifications P db ms → Meant P db ms
+reifications_ran P db [] numbered h = record { ran = ran_none P db numbered; meant = tt }
+reifications_ran P db (m ∷ ms) numbered h =
+    let is = All-head (IsReification db.original db.vars) m ms h.each in
+    let first = reification_defined db numbered m is (All-head (λ (m : Reification). IsUnnamed m.var db) m ms h.unnamed) in
+    let named = All-head (λ (m : Reification). All (λ t. P t.lit.var) (forward_of m).terms) m ms h.named in
     let later = first.later P named in
-    let rest = meanings_ran P first.end ms later.numbered (meanings_left P db _ m ms first h) in
+    let rest = reifications_ran P first.end ms later.numbered (reifications_left P db _ m ms first h) in
     let end : Database = rest.ran.end in
     record {
       ran = record {
         end = end;
-        runs = subst (λ (n : ℕ). Runs db (redundant (forward_of m) m.var false ∷ cond {A = Step} (ltb (weight m.sum) m.least) (Rup [] (pos 0) (db.next ∷ [])) (redundant (reverse_of m) m.var true) ∷ meaning_steps n ms) [] end) first.next
-            (runs_append db first.end end (redundant (forward_of m) m.var false ∷ cond {A = Step} (ltb (weight m.sum) m.least) (Rup [] (pos 0) (db.next ∷ [])) (redundant (reverse_of m) m.var true) ∷ []) (meaning_steps first.end.next ms) [] [] first.runs rest.ran.runs);
+        runs = subst (λ (n : ℕ). Runs db (redundant (forward_of m) m.var false ∷ cond {A = Step} (ltb (weight m.sum) m.least) (Rup [] (pos 0) (db.next ∷ [])) (redundant (reverse_of m) m.var true) ∷ reification_steps n ms) [] end) first.next
+            (runs_append db first.end end (redundant (forward_of m) m.var false ∷ cond {A = Step} (ltb (weight m.sum) m.least) (Rup [] (pos 0) (db.next ∷ [])) (redundant (reverse_of m) m.var true) ∷ []) (reification_steps first.end.next ms) [] [] first.runs rest.ran.runs);
         later = later_then P db first.end end later rest.ran.later;
         next = omega (arith, rest.ran.next, first.next);
       };
@@ -348,8 +348,8 @@ meanings_ran P db (m ∷ ms) numbered h =
       );
     }
 
--- the meaning at a place
-pub meant_at : (db : Database) (id : ℕ) (ms : List Meaning) (k : ℕ) (m : Meaning) → k < length ms → AreMeant db id ms → IsMeant db (id + 2 * k) (get_or ms k m)
+-- the reification at a place
+pub meant_at : (db : Database) (id : ℕ) (ms : List Reification) (k : ℕ) (m : Reification) → k < length ms → AreMeant db id ms → IsMeant db (id + 2 * k) (get_or ms k m)
 meant_at db id [] k m within h = absurd (omega arith)
 meant_at db id (n ∷ ms) zero m within h = subst (λ (i : ℕ). IsMeant db i n) (let e : id ≡ id + 2 * 0 = omega arith in e) h.0
 meant_at db id (n ∷ ms) (suc k) m within h =

@@ -1,4 +1,4 @@
--- First all fresh variables get their meanings, then each clause is claimed, and then the meanings are deleted.
+-- First all fresh variables get their reifications, then each clause is claimed, and then the reifications are deleted.
 use Rattle.std.proofs.Common.{◌≡◌, ◌≤◌, ◌<◌, ◌+◌, ◌*◌, inl, ℕ, zero, suc, Bool, true, false, cond, List, [], ◌∷◌, ◌++◌, length, map, subst, refl, arith, length-append, ltb, pos, get_or}
 use Rattle.std.proofs.lemmas.List.{length-map}
 use Rattle.std.proofs.lemmas.List.Elements.{All-nil, All-cons, All-map}
@@ -14,27 +14,27 @@ use Rattle.pb_derive.specs.Claims.{Claim, claim_steps}
 use Rattle.pb_derive.specs.Derivations.{Derives}
 use Rattle.pb_derive.specs.Later.{IsNumbered, Knows, IsLater}
 use Rattle.pb_derive.specs.Deletions.{deletion_steps}
-use Rattle.pb_derive.specs.Meanings.{Meaning, forward_of, reverse_of, redundant, meaning_steps}
+use Rattle.pb_derive.specs.Reifications.{Reification, forward_of, reverse_of, redundant, reification_steps}
 use Rattle.pb_derive.specs.Phases.{phases}
-use Rattle.pb_derive.specs.Reasons.{Reason, by_reason}
-use Rattle.pb_derive.specs.laws.Ran.{IsClaim, RanSwept}
-use Rattle.pb_derive.specs.laws.Meant.{AreMeant}
-use Rattle.pb_derive.specs.laws.Follows.{IsReason}
+use Rattle.pb_derive.specs.Justifications.{Justification, by_justification}
+use Rattle.pb_derive.specs.inner.Ran.{IsClaim, RanSwept}
+use Rattle.pb_derive.specs.inner.Meant.{AreMeant}
+use Rattle.pb_derive.specs.inner.Follows.{IsJustification}
 use Rattle.pb_derive.proofs.Held.{AreAdding}
 use Rattle.pb_derive.proofs.Scoped.{Scoped, scoped}
 use Rattle.pb_derive.proofs.Meant.{Meant}
-use Rattle.pb_derive.proofs.Reasoned.{reason_claims}
+use Rattle.pb_derive.proofs.Reasoned.{justification_claims}
 use Rattle.pb_derive.proofs.Running.{claims_ran}
 
--- ---- each line of a meaning takes an id
+-- ---- each line of a reification takes an id
 
-pub meanings_add : (id : ℕ) (ms : List Meaning) → AreAdding (meaning_steps id ms)
-meanings_add id [] = All-nil (λ (s : Step). takes_id s ≡ true)
-meanings_add id (m ∷ ms) =
+pub reifications_add : (id : ℕ) (ms : List Reification) → AreAdding (reification_steps id ms)
+reifications_add id [] = All-nil (λ (s : Step). takes_id s ≡ true)
+reifications_add id (m ∷ ms) =
     let Takes : Step → Type 0 = λ s. takes_id s ≡ true in
     let second : Step = cond {A = Step} (ltb (weight m.sum) m.least) (Rup [] (pos 0) (id ∷ [])) (redundant (reverse_of m) m.var true) in
-    All-cons Takes (redundant (forward_of m) m.var false) (second ∷ meaning_steps (id + 2) ms) refl
-    (All-cons Takes second (meaning_steps (id + 2) ms) (either (ltb (weight m.sum) m.least)) (meanings_add (id + 2) ms))
+    All-cons Takes (redundant (forward_of m) m.var false) (second ∷ reification_steps (id + 2) ms) refl
+    (All-cons Takes second (reification_steps (id + 2) ms) (either (ltb (weight m.sum) m.least)) (reifications_add (id + 2) ms))
   where
     either : (b : Bool) → takes_id (cond {A = Step} b (Rup [] (pos 0) (id ∷ [])) (redundant (reverse_of m) m.var true)) ≡ true
     either true = refl
@@ -42,11 +42,11 @@ meanings_add id (m ∷ ms) =
 
 -- ---- the three parts
 
--- the clauses are put out in order, and the meanings are gone
-abbrev pub PhasesRan : (ℕ → Type 0) → Database → List Meaning → List Claim → Type 1
+-- the clauses are put out in order, and the reifications are gone
+abbrev pub PhasesRan : (ℕ → Type 0) → Database → List Reification → List Claim → Type 1
 PhasesRan P db ms cs = Scoped P db (phases db.next ms cs) (map (λ c. c.clause) cs) (2 * length ms + length cs) (2 * length ms)
 
-pub phases_ran : (P : ℕ → Type 0) (db : Database) (ms : List Meaning) (cs : List Claim) (h : Meant P db ms) → IsNumbered db → All (IsClaim P h.ran.end) cs → PhasesRan P db ms cs
+pub phases_ran : (P : ℕ → Type 0) (db : Database) (ms : List Reification) (cs : List Claim) (h : Meant P db ms) → IsNumbered db → All (IsClaim P h.ran.end) cs → PhasesRan P db ms cs
 phases_ran P db ms cs h numbered claimed =
     let mid : Database = h.ran.end in
     let clauses : List (List Lit) = map (λ (c : Claim). c.clause) cs in
@@ -61,16 +61,16 @@ phases_ran P db ms cs h numbered claimed =
       swept = second.swept;
       unmarked = second.unmarked;
     } in
-    scoped P db (meaning_steps db.next ms) (claim_steps (db.next + 2 * length ms) cs) clauses (2 * length ms) (length cs) 2 (length ms) h.ran numbered (meanings_add db.next ms) claims refl
+    scoped P db (reification_steps db.next ms) (claim_steps (db.next + 2 * length ms) cs) clauses (2 * length ms) (length cs) 2 (length ms) h.ran numbered (reifications_add db.next ms) claims refl
 
--- the same where each clause has a reason, by the meanings
-pub reasoned_ran : (P : ℕ → Type 0) (db : Database) (ms : List Meaning) (rs : List Reason) (h : Meant P db ms) → IsNumbered db → All (λ r. All (λ l. P l.var) r.clause) rs
-    → ((end : Database) → IsLater P db end → AreMeant end db.next ms → All (IsReason (Knows end) end.vars) rs) → PhasesRan P db ms (map by_reason rs)
-reasoned_ran P db ms rs h numbered named reasons =
+-- the same where each clause has a justification, by the reifications
+pub reasoned_ran : (P : ℕ → Type 0) (db : Database) (ms : List Reification) (rs : List Justification) (h : Meant P db ms) → IsNumbered db → All (λ r. All (λ l. P l.var) r.clause) rs
+    → ((end : Database) → IsLater P db end → AreMeant end db.next ms → All (IsJustification (Knows end) end.vars) rs) → PhasesRan P db ms (map by_justification rs)
+reasoned_ran P db ms rs h numbered named justifications =
     let mid : Database = h.ran.end in
-    let all = reasons mid h.ran.later h.meant in
-    phases_ran P db ms (map by_reason rs) h numbered
-    (All-map (IsClaim P mid) by_reason rs (λ k r w. reason_claims P mid (get_or rs k r) h.ran.later.numbered (named k r w) (all k r w)))
+    let all = justifications mid h.ran.later h.meant in
+    phases_ran P db ms (map by_justification rs) h numbered
+    (All-map (IsClaim P mid) by_justification rs (λ k r w. justification_claims P mid (get_or rs k r) h.ran.later.numbered (named k r w) (all k r w)))
 
 -- steps that leave nothing else derive the clauses
 pub swept_derives : (db : Database) (steps : List Step) (clauses : List (List Lit)) (limit ids : ℕ) → IsNumbered db → RanSwept (λ v. v < limit) db steps clauses ids → Derives db steps clauses limit
@@ -84,9 +84,9 @@ swept_derives db steps clauses limit ids numbered h = record {
 
 -- ---- how many lines
 
-pub length-meanings : (next : ℕ) (ms : List Meaning) → length (meaning_steps next ms) ≡ 2 * length ms
-length-meanings next [] = refl
-length-meanings next (m ∷ ms) = omega (arith, length-meanings (next + 2) ms)
+pub length-reifications : (next : ℕ) (ms : List Reification) → length (reification_steps next ms) ≡ 2 * length ms
+length-reifications next [] = refl
+length-reifications next (m ∷ ms) = omega (arith, length-reifications (next + 2) ms)
 
 pub length-claims : (next : ℕ) (cs : List Claim) → length (claim_steps next cs) ≡ 2 * length cs
 length-claims next [] = refl
@@ -97,16 +97,16 @@ length-deletions width id zero = refl
 length-deletions width id (suc n) = omega (arith, length-deletions width (id + width) n)
 
 -- three for each fresh variable, and two for each clause
-pub phases-lines : (next : ℕ) (ms : List Meaning) (cs : List Claim) → length (phases next ms cs) ≡ 3 * length ms + 2 * length cs
+pub phases-lines : (next : ℕ) (ms : List Reification) (cs : List Claim) → length (phases next ms cs) ≡ 3 * length ms + 2 * length cs
 phases-lines next ms cs =
     omega (
       arith,
-      length-append (meaning_steps next ms) (claim_steps (next + 2 * length ms) cs ++ deletion_steps 2 next (length ms)),
+      length-append (reification_steps next ms) (claim_steps (next + 2 * length ms) cs ++ deletion_steps 2 next (length ms)),
       length-append (claim_steps (next + 2 * length ms) cs) (deletion_steps 2 next (length ms)),
-      length-meanings next ms,
+      length-reifications next ms,
       length-claims (next + 2 * length ms) cs,
       length-deletions 2 next (length ms),
     )
 
-pub phases_few : (next : ℕ) (ms : List Meaning) (cs : List Claim) → length (phases next ms cs) ≤ 8 * (length ms + length (map (λ (c : Claim). c.clause) cs))
+pub phases_few : (next : ℕ) (ms : List Reification) (cs : List Claim) → length (phases next ms cs) ≤ 8 * (length ms + length (map (λ (c : Claim). c.clause) cs))
 phases_few next ms cs = omega (arith, phases-lines next ms cs, length-map cs (λ (c : Claim). c.clause))

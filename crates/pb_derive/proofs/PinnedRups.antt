@@ -18,7 +18,7 @@ use Rattle.pb_steps.specs.Operations.{negation}
 use Rattle.pb_derive.specs.Forms.{IsFormOf}
 use Rattle.pb_derive.specs.Ones.{unit_of, ones}
 use Rattle.pb_derive.specs.laws.Pins.{conflicts, pinned, pinned_term, pinned_constraint, are_below}
-use Rattle.pb_derive.specs.laws.Refuted.{IsRefuting}
+use Rattle.pb_derive.specs.inner.Refuted.{IsRefuting}
 use Rattle.pb_derive.proofs.ClauseClaims.{claim_of, claim-is, negation-form}
 use Rattle.pb_derive.proofs.PinLemmas.{AreApartLits, StandFor, pinned-negated, pinned-among, conflict_pinned}
 

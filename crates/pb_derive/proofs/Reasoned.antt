@@ -1,4 +1,4 @@
--- Reasons run: each clause follows and is put out.
+-- Justifications run: each clause follows and is put out.
 use Rattle.std.proofs.Common.{◌≡◌, ◌≢◌, ◌≤◌, ℕ, cond, List, [], ◌∷◌, ◌++◌, refl, ap, arith, pos}
 use Rattle.std.specs.Prelude.{All, map, flat_map, is_some}
 use Rattle.std.proofs.lemmas.List.Elements.{All-nil, All-cons, All-head, All-tail, All-append, All-weaker, All-map}
@@ -12,11 +12,11 @@ use Rattle.pb_steps.specs.declared.step.Step.TheVariants.{Pol}
 use Rattle.pb_steps.specs.Operations.{division}
 use Rattle.pb_steps.specs.Steps.{HasFactor, vars_of_op, ids_of_op}
 use Rattle.pb_steps.specs.Database.{Entry, Database, IsLive}
-use Rattle.pb_derive.specs.laws.Ran.{StepGives, IsClaim}
+use Rattle.pb_derive.specs.inner.Ran.{StepGives, IsClaim}
 use Rattle.pb_derive.specs.Forms.{IsFormOf}
 use Rattle.pb_derive.specs.Later.{IsNumbered, Knows, IsLater}
-use Rattle.pb_derive.specs.Reasons.{Reason, widest, push_and_add, closing, by_reason}
-use Rattle.pb_derive.specs.laws.Follows.{degrees, weight_in, value_in, coef_in, FollowsFrom, AllKnown, IsReason}
+use Rattle.pb_derive.specs.Justifications.{Justification, widest, push_and_add, closing, by_justification}
+use Rattle.pb_derive.specs.inner.Follows.{degrees, weight_in, value_in, coef_in, FollowsFrom, AllKnown, IsJustification}
 use Rattle.pb_derive.proofs.Closed.{ArePositive, closed_sum, closed-implies, divided-among}
 use Rattle.pb_derive.proofs.Closing.{AllAscending, degrees-cons, weight_in-cons, value_in-cons, coef_in-cons}
 use Rattle.pb_derive.proofs.Laters.{known_below, later_knows}
@@ -67,7 +67,7 @@ forms_of db (id ∷ ids) (s ∷ ss) known =
       positive = All-cons (λ (c : Constraint). AllPositive c.terms) c rest.cs form.positive rest.positive;
     }
 
-follows_form : (live : List Entry) (ids : List ℕ) (ss : List Constraint) (r : Reason) (forms : AreForms live ids ss) → FollowsFrom ss r → FollowsFrom forms.cs r
+follows_form : (live : List Entry) (ids : List ℕ) (ss : List Constraint) (r : Justification) (forms : AreForms live ids ss) → FollowsFrom ss r → FollowsFrom forms.cs r
 follows_form live ids ss r forms h = record {
   within = λ l. rw (forms.coefs_same l, forms.coefs_same (negated l)) (h.within l);
   apart = h.apart;
@@ -82,7 +82,7 @@ pub All-flat_map : {X Y : Type 0} (P : Y → Type 0) (f : X → List Y) (xs : Li
 All-flat_map P f [] h = All-nil P
 All-flat_map P f (x ∷ xs) h = All-append P (f x) (flat_map f xs) (All-head (λ x. All P (f x)) x xs h) (All-flat_map P f xs (All-tail (λ x. All P (f x)) x xs h))
 
--- what holds of each operation of a reason
+-- what holds of each operation of a justification
 pub closing-all : (Q : PolOp → Type 0) (clause : List Lit) (id : ℕ) (ids vs : List ℕ) → All (λ i. Q (Push i)) (id ∷ ids) → Q Add → All (λ v. Q (Weaken v)) vs → Q (Div (pos widest)) →
     All Q (closing (record { clause = clause; ids = id ∷ ids; weakened = vs }))
 closing-all Q clause id ids vs pushed added gone cut =
@@ -101,10 +101,10 @@ found_live live [] (c ∷ cs) found = absurd found
 found_live live (id ∷ ids) [] found = absurd found
 found_live live (id ∷ ids) (c ∷ cs) found = All-cons (IsLive live) id ids (ap is_some found.0) (found_live live ids cs found.1)
 
--- ---- a reason by itself
+-- ---- a justification by itself
 
-pub reason_gives : (db : Database) (r : Reason) → IsReason (Knows db) db.vars r → StepGives db (Pol (closing r)) r.clause
-reason_gives db r h = by_ids r.ids h.some (forms_of db r.ids h.sources h.found) (follows_form db.live r.ids h.sources r (forms_of db r.ids h.sources h.found) h.follows)
+pub justification_gives : (db : Database) (r : Justification) → IsJustification (Knows db) db.vars r → StepGives db (Pol (closing r)) r.clause
+justification_gives db r h = by_ids r.ids h.some (forms_of db r.ids h.sources h.found) (follows_form db.live r.ids h.sources r (forms_of db r.ids h.sources h.found) h.follows)
   where
     by_ids : (ids : List ℕ) → ids ≢ [] → (forms : AreForms db.live ids h.sources) → FollowsFrom forms.cs r → StepGives db (Pol (closing (record { clause = r.clause; ids = ids; weakened = r.weakened }))) r.clause
     by_ids [] some forms follows = absurd (some refl)
@@ -153,8 +153,8 @@ known_later P db end later numbered (id ∷ ids) [] known = absurd known
 known_later P db end later numbered (id ∷ ids) (s ∷ ss) known =
     (later_knows P db end id s later (known_below db id s numbered known.0) known.0, known_later P db end later numbered ids ss known.1)
 
-pub reason_later : (P : ℕ → Type 0) (db end : Database) (r : Reason) → IsLater P db end → IsNumbered db → IsReason (Knows db) db.vars r → IsReason (Knows end) end.vars r
-reason_later P db end r later numbered h = record {
+pub justification_later : (P : ℕ → Type 0) (db end : Database) (r : Justification) → IsLater P db end → IsNumbered db → IsJustification (Knows db) db.vars r → IsJustification (Knows end) end.vars r
+justification_later P db end r later numbered h = record {
   some = h.some;
   sources = h.sources;
   found = known_later P db end later numbered r.ids h.sources h.found;
@@ -162,10 +162,10 @@ reason_later P db end r later numbered h = record {
   vars_known = All-weaker (λ v. v ≤ db.vars) (λ v. v ≤ end.vars) (λ v m. omega (arith, m, later.vars)) r.weakened h.vars_known;
 }
 
--- a clause with a reason may be claimed
-pub reason_claims : (P : ℕ → Type 0) (db : Database) (r : Reason) → IsNumbered db → All (λ l. P l.var) r.clause → IsReason (Knows db) db.vars r → IsClaim P db (by_reason r)
-reason_claims P db r numbered named h = record {
+-- a clause with a justification may be claimed
+pub justification_claims : (P : ℕ → Type 0) (db : Database) (r : Justification) → IsNumbered db → All (λ l. P l.var) r.clause → IsJustification (Knows db) db.vars r → IsClaim P db (by_justification r)
+justification_claims P db r numbered named h = record {
   named = named;
   takes = refl;
-  gives = λ end later. reason_gives end r (reason_later P db end r later numbered h);
+  gives = λ end later. justification_gives end r (justification_later P db end r later numbered h);
 }

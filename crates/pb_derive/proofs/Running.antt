@@ -12,7 +12,7 @@ use Rattle.pb_steps.specs.Database.{Entry, Database, constraint_at, IsLive, entr
 use Rattle.pb_steps.specs.Allowed.{Allowed}
 use Rattle.pb_steps.specs.Runs.{Runs, next_clause, clauses_after}
 use Rattle.pb_derive.specs.Claims.{Claim, claim_steps}
-use Rattle.pb_derive.specs.laws.Ran.{IsClaim, Ran, RanSwept}
+use Rattle.pb_derive.specs.inner.Ran.{IsClaim, Ran, RanSwept}
 use Rattle.pb_derive.specs.Later.{IsNumbered, IsLater, IsUnmarked, IsSwept}
 use Rattle.pb_derive.proofs.Laters.{at_grown, later_same, later_then, later_grown, later_marked}
 

@@ -19,8 +19,8 @@ use Rattle.pb_norm.proofs.ClauseTerms.{form-lit}
 use Rattle.pb_norm.proofs.WrittenForm.{normal_terms-ascending}
 use Rattle.pb_steps.specs.Operations.{negation, excess, Implies}
 use Rattle.pb_steps.specs.Database.{Database, constraint_at, IsLive}
-use Rattle.pb_derive.specs.laws.Ran.{IsClaim}
-use Rattle.pb_derive.specs.laws.Refuted.{AreAt, IsClauseIn, IsRefuting}
+use Rattle.pb_derive.specs.inner.Ran.{IsClaim}
+use Rattle.pb_derive.specs.inner.Refuted.{AreAt, IsClauseIn, IsRefuting}
 use Rattle.pb_derive.specs.Later.{IsLater}
 use Rattle.pb_derive.proofs.Closed.{no_excess}
 use Rattle.pb_derive.proofs.SameTerms.{magnitude-terms}

@@ -13,9 +13,9 @@ use Rattle.pb_steps.specs.declared.step.Step.TheVariants.{Pol, Rup, Del, Out}
 use Rattle.pb_steps.specs.Sayable.{IsId, IsVariable, IsOp, IsTerm, IsSayable}
 use Rattle.pb_derive.specs.Claims.{Claim, claim_steps}
 use Rattle.pb_derive.specs.Deletions.{deletion_steps}
-use Rattle.pb_derive.specs.Meanings.{Meaning, spare, forward_of, reverse_of, redundant, meaning_steps}
+use Rattle.pb_derive.specs.Reifications.{Reification, spare, forward_of, reverse_of, redundant, reification_steps}
 use Rattle.pb_derive.specs.Phases.{phases}
-use Rattle.pb_derive.specs.Reasons.{widest, closing}
+use Rattle.pb_derive.specs.Justifications.{widest, closing}
 use Rattle.pb_derive.specs.Rups.{by_rup}
 use Rattle.pb_derive.proofs.ClauseClaims.{distinct-all}
 use Rattle.pb_derive.proofs.Reasoned.{closing-all}
@@ -33,19 +33,19 @@ redundant_sayable c v value terms degree known =
     let above : 0 < v = omega (arith, least) in
     (terms_sayable c.terms terms, degree, (above, known.1, tt))
 
--- a meaning whose numbers and variables are within their limits
-pub record IsSlimMeaning (m : Meaning) : Type 0 where
+-- a reification whose numbers and variables are within their limits
+pub record IsSlimReification (m : Reification) : Type 0 where
   pub sum : All IsSlimTerm m.sum
   pub var : IsVariable m.var
   pub light : weight m.sum + m.least < 2 ^ 124
 
-forward_sayable : (m : Meaning) → IsSlimMeaning m → IsSayable (redundant (forward_of m) m.var false)
+forward_sayable : (m : Reification) → IsSlimReification m → IsSayable (redundant (forward_of m) m.var false)
 forward_sayable m h =
     let light = h.light in
     let least : m.least < 2 ^ 126 = omega (arith, light) in
     redundant_sayable (forward_of m) m.var false (All-cons IsSlimTerm (record { coef = m.least; lit = record { var = m.var; positive = false } }) m.sum (least, h.var) h.sum) least h.var
 
-reverse_sayable : (m : Meaning) → IsSlimMeaning m → IsSayable (redundant (reverse_of m) m.var true)
+reverse_sayable : (m : Reification) → IsSlimReification m → IsSayable (redundant (reverse_of m) m.var true)
 reverse_sayable m h =
     let light = h.light in
     let least : spare m < 2 ^ 126 = omega (arith, light) in
@@ -54,17 +54,17 @@ reverse_sayable m h =
 nothing_sayable : (id : ℕ) → IsId id → IsSayable (Rup [] (pos 0) (id ∷ []))
 nothing_sayable id h = let small : 0 < 2 ^ 126 = omega arith in (tt, small, (h, tt))
 
-pub meanings_sayable : (next : ℕ) (ms : List Meaning) → 1 ≤ next → next + 2 * length ms < 2 ^ 63 → All IsSlimMeaning ms → All IsSayable (meaning_steps next ms)
-meanings_sayable next [] low high h = All-nil IsSayable
-meanings_sayable next (m ∷ ms) low high h =
-    let own = All-head IsSlimMeaning m ms h in
+pub reifications_sayable : (next : ℕ) (ms : List Reification) → 1 ≤ next → next + 2 * length ms < 2 ^ 63 → All IsSlimReification ms → All IsSayable (reification_steps next ms)
+reifications_sayable next [] low high h = All-nil IsSayable
+reifications_sayable next (m ∷ ms) low high h =
+    let own = All-head IsSlimReification m ms h in
     let second : Step = cond {A = Step} (ltb (weight m.sum) m.least) (Rup [] (pos 0) (next ∷ [])) (redundant (reverse_of m) m.var true) in
     let id : IsId next = (low, (let small : next < 2 ^ 63 = omega (arith, high) in small)) in
-    All-cons IsSayable (redundant (forward_of m) m.var false) (second ∷ meaning_steps (next + 2) ms) (forward_sayable m own)
-    (All-cons IsSayable second (meaning_steps (next + 2) ms) (either (ltb (weight m.sum) m.least) id own)
-    (meanings_sayable (next + 2) ms (omega (arith, low)) (omega (arith, high)) (All-tail IsSlimMeaning m ms h)))
+    All-cons IsSayable (redundant (forward_of m) m.var false) (second ∷ reification_steps (next + 2) ms) (forward_sayable m own)
+    (All-cons IsSayable second (reification_steps (next + 2) ms) (either (ltb (weight m.sum) m.least) id own)
+    (reifications_sayable (next + 2) ms (omega (arith, low)) (omega (arith, high)) (All-tail IsSlimReification m ms h)))
   where
-    either : (b : Bool) → IsId next → IsSlimMeaning m → IsSayable (cond {A = Step} b (Rup [] (pos 0) (next ∷ [])) (redundant (reverse_of m) m.var true))
+    either : (b : Bool) → IsId next → IsSlimReification m → IsSayable (cond {A = Step} b (Rup [] (pos 0) (next ∷ [])) (redundant (reverse_of m) m.var true))
     either true id own = nothing_sayable next id
     either false id own = reverse_sayable m own
 
@@ -87,12 +87,12 @@ deletions_sayable id (suc n) low high =
     All-cons IsSayable (Del (id ∷ (id + 1) ∷ [])) (deletion_steps 2 (id + 2) n) ((one, (two, tt)), some_ids id ((id + 1) ∷ []))
     (deletions_sayable (id + 2) n (omega (arith, low)) (omega (arith, high)))
 
-pub phases_sayable : (next : ℕ) (ms : List Meaning) (cs : List Claim) → 1 ≤ next → next + 2 * length ms + length cs < 2 ^ 63 → All IsSlimMeaning ms → All (λ c. IsSayable c.step) cs → All IsSayable (phases next ms cs)
+pub phases_sayable : (next : ℕ) (ms : List Reification) (cs : List Claim) → 1 ≤ next → next + 2 * length ms + length cs < 2 ^ 63 → All IsSlimReification ms → All (λ c. IsSayable c.step) cs → All IsSayable (phases next ms cs)
 phases_sayable next ms cs low high h k =
-    All-append IsSayable (meaning_steps next ms) (claim_steps (next + 2 * length ms) cs ++ deletion_steps 2 next (length ms)) (meanings_sayable next ms low (omega (arith, high)) h)
+    All-append IsSayable (reification_steps next ms) (claim_steps (next + 2 * length ms) cs ++ deletion_steps 2 next (length ms)) (reifications_sayable next ms low (omega (arith, high)) h)
     (All-append IsSayable (claim_steps (next + 2 * length ms) cs) (deletion_steps 2 next (length ms)) (claims_sayable (next + 2 * length ms) cs (omega (arith, low)) (omega (arith, high)) k) (deletions_sayable next (length ms) low (omega (arith, high))))
 
--- the line of a reason
+-- the line of a justification
 pub closing_sayable : (clause : List Lit) (id : ℕ) (ids vs : List ℕ) → All IsId (id ∷ ids) → All IsVariable vs → IsSayable (Pol (closing (record { clause = clause; ids = id ∷ ids; weakened = vs })))
 closing_sayable clause id ids vs known gone =
     let one : pos 1 ≤ℤ pos widest = omega (arith, ints) in
@@ -111,6 +111,6 @@ rup_sayable ids clause known vars =
     let small : 1 < 2 ^ 126 = omega arith in
     (ones_sayable (distinct clause) (distinct-all (λ l. IsVariable l.var) clause vars), small, recursion_from_All IsId ids known)
 
--- clauses alone are a derivation with no meaning
+-- clauses alone are a derivation with no reification
 pub claims_alone : (next : ℕ) (cs : List Claim) → phases next [] cs ≡ claim_steps next cs
 claims_alone next cs = append-nil (claim_steps (next + 2 * 0) cs) ∙ ap (λ (n : ℕ). claim_steps n cs) (let e : next + 2 * 0 ≡ next = omega arith in e)

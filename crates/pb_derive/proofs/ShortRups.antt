@@ -24,15 +24,15 @@ use Rattle.pb_steps.specs.Operations.{negation}
 use Rattle.pb_steps.specs.Database.{Database}
 use Rattle.pb_derive.specs.Later.{IsNumbered, Knows}
 use Rattle.pb_derive.specs.Rups.{by_rup}
-use Rattle.pb_derive.specs.laws.Follows.{AllFalse}
-use Rattle.pb_derive.specs.laws.Ran.{IsClaim}
+use Rattle.pb_derive.specs.inner.Follows.{AllFalse}
+use Rattle.pb_derive.specs.inner.Ran.{IsClaim}
 use Rattle.pb_derive.specs.Forms.{IsFormOf}
 use Rattle.pb_derive.proofs.Closed.{one_way}
 use Rattle.pb_derive.proofs.Closing.{against, against-false, against-true}
 use Rattle.pb_derive.proofs.Laters.{known_below}
 use Rattle.pb_derive.proofs.Rups.{refuted_claims}
 use Rattle.pb_derive.proofs.ClauseClaims.{claim-form}
-use Rattle.pb_derive.specs.laws.Refuted.{IsRefuting, IsClauseIn}
+use Rattle.pb_derive.specs.inner.Refuted.{IsRefuting, IsClauseIn}
 
 -- ---- all literals of a constraint that needs them all
 

@@ -1,4 +1,4 @@
--- Clauses that follow from the meanings of their literals, over plain lists.
+-- Clauses that follow from the reifications of their literals, over plain lists.
 use Rattle.std.proofs.Common.{◌≡◌, ◌≤◌, ◌<◌, ◌+◌, ◌-◌, ◌*◌, ◌^◌, ◌⊎◌, ℕ, Bool, true, false, not, cond, List, [], ◌∷◌, ◌++◌, map, refl, ap, sym, ◌∙◌, subst, arith, inl, inr}
 use Rattle.std.specs.Prelude.{Contains}
 use Rattle.std.proofs.lemmas.Bool.{cases_Bool, cond-true, cond-false}
@@ -17,9 +17,9 @@ use Rattle.pb_norm.proofs.AdditionSizes.{weight-cons}
 use Rattle.pb_norm.proofs.Extremes.{value-le-weight}
 use Rattle.pb_derive.proofs.Closing.{degrees-cons, weight_in-cons, value_in-cons, coef_in-cons}
 use Rattle.pb_derive.proofs.Opposites.{weight-opposite, value-opposite, coef_of-opposite, coef_of-absent, coef_of-head, value-head, cases_listed}
-use Rattle.pb_derive.specs.Meanings.{Meaning, forward_of, reverse_of, spare}
-use Rattle.pb_derive.specs.Reasons.{Reason}
-use Rattle.pb_derive.specs.laws.Follows.{coef_in, value_in, degrees, weight_in, AllFalse, FollowsFrom}
+use Rattle.pb_derive.specs.Reifications.{Reification, forward_of, reverse_of, spare}
+use Rattle.pb_derive.specs.Justifications.{Justification}
+use Rattle.pb_derive.specs.inner.Follows.{coef_in, value_in, degrees, weight_in, AllFalse, FollowsFrom}
 
 -- the literal that says that a variable is true
 abbrev positive_of : ℕ → Lit
@@ -65,8 +65,8 @@ weight_in-one s = omega (arith, sum_by-cons {X = Constraint} (λ s. weight s.ter
 is_false : (a : Assignment) (clause : List Lit) → AllFalse a clause → (l : Lit) → Contains clause l → lit_value a l ≡ false
 is_false a clause h l m = All-contains (λ (l : Lit). lit_value a l ≡ false) clause l h m
 
-abbrev pub reason : List Lit → List ℕ → List ℕ → Reason
-reason clause ids weakened = record { clause = clause; ids = ids; weakened = weakened }
+abbrev pub justification : List Lit → List ℕ → List ℕ → Justification
+justification clause ids weakened = record { clause = clause; ids = ids; weakened = weakened }
 
 -- ---- a sum that is known to reach a number where the clause is false
 
@@ -171,7 +171,7 @@ side_headed clause x k ts le among =
     record { within = known.within; apart = known.apart; short = known.short; reachable = le; light = omega (arith, weight_in-one c, weight-cons (record { coef = k; lit = x }) ts); low = omega (arith, degrees-one c) }
 
 -- a variable that means it, which is true where the clause, which has its negation, is false
-pub side_fresh : (clause : List Lit) (m : Meaning) → m.least ≤ weight m.sum → is_among clause (negated (positive_of m.var)) ≡ true → Side clause m.sum m.least (forward_of m ∷ []) []
+pub side_fresh : (clause : List Lit) (m : Reification) → m.least ≤ weight m.sum → is_among clause (negated (positive_of m.var)) ≡ true → Side clause m.sum m.least (forward_of m ∷ []) []
 side_fresh clause m le among = side_headed clause (negated (positive_of m.var)) m.least m.sum le among
 
 -- ---- clauses
@@ -179,7 +179,7 @@ side_fresh clause m le among = side_headed clause (negated (positive_of m.var)) 
 -- two sides, and a literal of the clause with a number before the opposite of both sums, which reach more than it leaves
 pub follows_headed : (clause : List Lit) (x : Lit) (k : ℕ) (ts us : List Weighted) (u v : ℕ) (ss rs : List Constraint) (ws xs : List ℕ)
     → Side clause ts u ss ws → Side clause us v rs xs → weight ts + weight us < u + v + k → k ≤ weight ts + weight us + 1 → is_among clause x ≡ true → weight ts + weight us < 2 ^ 100
-    → (ids : List ℕ) → FollowsFrom (ss ++ (rs ++ headed x k (map opposite (ts ++ us)) ∷ [])) (reason clause ids (ws ++ xs))
+    → (ids : List ℕ) → FollowsFrom (ss ++ (rs ++ headed x k (map opposite (ts ++ us)) ∷ [])) (justification clause ids (ws ++ xs))
 follows_headed clause x k ts us u v ss rs ws xs left right above most among light ids =
     let head : Weighted = record { coef = k; lit = x } in
     let both = ts ++ us in
@@ -261,14 +261,14 @@ follows_headed clause x k ts us u v ss rs ws xs left right above most among ligh
     }
 
 -- two sides reach two numbers, so that a variable is true which means that both sums together reach at most the sum of these
-pub follows_pair : (clause : List Lit) (ts us : List Weighted) (u v : ℕ) (ss rs : List Constraint) (ws xs : List ℕ) (m : Meaning)
+pub follows_pair : (clause : List Lit) (ts us : List Weighted) (u v : ℕ) (ss rs : List Constraint) (ws xs : List ℕ) (m : Reification)
     → Side clause ts u ss ws → Side clause us v rs xs → m.sum ≡ ts ++ us → m.least ≤ u + v → is_among clause (positive_of m.var) ≡ true → weight ts + weight us < 2 ^ 100
-    → (ids : List ℕ) → FollowsFrom (ss ++ (rs ++ reverse_of m ∷ [])) (reason clause ids (ws ++ xs))
+    → (ids : List ℕ) → FollowsFrom (ss ++ (rs ++ reverse_of m ∷ [])) (justification clause ids (ws ++ xs))
 follows_pair clause ts us u v ss rs ws xs m left right sum le among light ids =
     let heavy : weight m.sum ≡ weight ts + weight us = ap weight sum ∙ weight-append ts us in
     let some = left.reachable in
     let more = right.reachable in
-    subst (λ (vs : List Weighted). FollowsFrom (ss ++ (rs ++ headed (positive_of m.var) (spare m) (map opposite vs) ∷ [])) (reason clause ids (ws ++ xs))) (sym sum)
+    subst (λ (vs : List Weighted). FollowsFrom (ss ++ (rs ++ headed (positive_of m.var) (spare m) (map opposite vs) ∷ [])) (justification clause ids (ws ++ xs))) (sym sum)
     (follows_headed clause (positive_of m.var) (spare m) ts us u v ss rs ws xs left right (omega arith) (omega arith) among light ids)
 
 pub known_of : {clause : List Lit} {ts : List Weighted} {u : ℕ} {ss : List Constraint} {ws : List ℕ} → Side clause ts u ss ws → Known clause ts u ss ws
@@ -301,7 +301,7 @@ known_both clause ts us u v ss rs ws xs left right =
 
 -- one that reaches more than the bound, so that the sum's own constraint is broken
 pub follows_bound : (clause : List Lit) (ts : List Weighted) (bound u : ℕ) (ss : List Constraint) (ws : List ℕ) → Known clause ts u ss ws → bound < u → bound ≤ weight ts → weight ts < 2 ^ 100
-    → weight_in ss ≤ 2 * weight ts → degrees ss ≤ weight ts → (ids : List ℕ) → FollowsFrom (ss ++ record { terms = map opposite ts; degree = weight ts - bound } ∷ []) (reason clause ids ws)
+    → weight_in ss ≤ 2 * weight ts → degrees ss ≤ weight ts → (ids : List ℕ) → FollowsFrom (ss ++ record { terms = map opposite ts; degree = weight ts - bound } ∷ []) (justification clause ids ws)
 follows_bound clause ts bound u ss ws side above within light heavy low ids =
     let last : Constraint = record { terms = map opposite ts; degree = weight ts - bound } in
     let all = ss ++ last ∷ [] in
@@ -335,12 +335,12 @@ follows_bound clause ts bound u ss ws side above within light heavy low ids =
 
 -- a side that reaches more than the bound
 pub follows_root : (clause : List Lit) (ts : List Weighted) (bound u : ℕ) (ss : List Constraint) → Side clause ts u ss [] → bound < u → bound ≤ weight ts → weight ts < 2 ^ 100
-    → (ids : List ℕ) → FollowsFrom (ss ++ record { terms = map opposite ts; degree = weight ts - bound } ∷ []) (reason clause ids [])
+    → (ids : List ℕ) → FollowsFrom (ss ++ record { terms = map opposite ts; degree = weight ts - bound } ∷ []) (justification clause ids [])
 follows_root clause ts bound u ss side above within light ids = follows_bound clause ts bound u ss [] (known_of side) above within light side.light side.low ids
 
 -- a sum that cannot reach its number: the first constraint alone
-pub follows_unreached : (clause : List Lit) (m : Meaning) → weight m.sum < m.least → m.least + weight m.sum < 2 ^ 100 → is_among clause (negated (record { var = m.var; positive = true })) ≡ true
-    → ((l : Lit) → Contains clause l → ¬ Contains (vars_of m.sum) l.var) → (ids : List ℕ) → FollowsFrom (forward_of m ∷ []) (reason clause ids (vars_of m.sum))
+pub follows_unreached : (clause : List Lit) (m : Reification) → weight m.sum < m.least → m.least + weight m.sum < 2 ^ 100 → is_among clause (negated (record { var = m.var; positive = true })) ≡ true
+    → ((l : Lit) → Contains clause l → ¬ Contains (vars_of m.sum) l.var) → (ids : List ℕ) → FollowsFrom (forward_of m ∷ []) (justification clause ids (vars_of m.sum))
 follows_unreached clause m above light among apart ids =
     let x : Lit = record { var = m.var; positive = false } in
     let z : Weighted = record { coef = m.least; lit = x } in
@@ -405,9 +405,9 @@ front_false clause t among = record {
 }
 
 -- a side over a sum with something before, and a true variable that means that the sum stays below so much less
-pub follows_rest : (clause : List Lit) (ts us : List Weighted) (u most : ℕ) (ss : List Constraint) (ws : List ℕ) (m : Meaning)
+pub follows_rest : (clause : List Lit) (ts us : List Weighted) (u most : ℕ) (ss : List Constraint) (ws : List ℕ) (m : Reification)
     → Side clause (ts ++ us) u ss [] → Front clause ts ws most → m.sum ≡ us → m.least + most ≤ u → m.least ≤ weight us + 1 → is_among clause (positive_of m.var) ≡ true → weight (ts ++ us) < 2 ^ 100
-    → (ids : List ℕ) → FollowsFrom (ss ++ reverse_of m ∷ []) (reason clause ids ws)
+    → (ids : List ℕ) → FollowsFrom (ss ++ reverse_of m ∷ []) (justification clause ids ws)
 follows_rest clause ts us u most ss ws m side front sum le room among light ids =
     let o = positive_of m.var in
     let top : Weighted = record { coef = spare m; lit = o } in
@@ -480,10 +480,10 @@ follows_rest clause ts us u most ss ws m side front sum le room among light ids 
     }
 
 -- a true variable that means that its own sum is large, where the sum's front is false and the rest too light
-pub follows_alone : (clause : List Lit) (t : Weighted) (us : List Weighted) (ws : List ℕ) (m : Meaning)
+pub follows_alone : (clause : List Lit) (t : Weighted) (us : List Weighted) (ws : List ℕ) (m : Reification)
     → m.sum ≡ t ∷ us → is_among clause (negated (positive_of m.var)) ≡ true → is_among clause t.lit ≡ true → weight us < m.least → m.least ≤ weight m.sum → ((u : Weighted) → Contains us u → Contains ws u.lit.var)
     → ((l : Lit) → Contains clause l → ¬ Contains ws l.var) → weight m.sum < 2 ^ 100
-    → (ids : List ℕ) → FollowsFrom (forward_of m ∷ []) (reason clause ids ws)
+    → (ids : List ℕ) → FollowsFrom (forward_of m ∷ []) (justification clause ids ws)
 follows_alone clause t us ws m sum among also short le gone apart light ids =
     let x = negated (positive_of m.var) in
     let head : Weighted = record { coef = m.least; lit = x } in
@@ -515,9 +515,9 @@ follows_alone clause t us ws m sum among also short le gone apart light ids =
     }
 
 -- a false variable that means that its sum is small, which the sum's own constraint denies
-pub follows_top : (clause : List Lit) (m : Meaning) (own : Constraint)
+pub follows_top : (clause : List Lit) (m : Reification) (own : Constraint)
     → is_among clause (positive_of m.var) ≡ true → own.terms ≡ m.sum → weight m.sum < spare m + own.degree → own.degree ≤ weight m.sum → weight m.sum < 2 ^ 100
-    → (ids : List ℕ) → FollowsFrom (reverse_of m ∷ own ∷ []) (reason clause ids [])
+    → (ids : List ℕ) → FollowsFrom (reverse_of m ∷ own ∷ []) (justification clause ids [])
 follows_top clause m own among terms heavy within light ids =
     let o = positive_of m.var in
     let top : Weighted = record { coef = spare m; lit = o } in

@@ -14,9 +14,9 @@ use Rattle.pb_steps.specs.declared.step.Step.TheVariants.{Pol, Rup, Del, Out}
 use Rattle.pb_steps.specs.StepSizes.{op_size, step_size}
 use Rattle.pb_derive.specs.Claims.{Claim, claim_steps}
 use Rattle.pb_derive.specs.Deletions.{deletion_steps}
-use Rattle.pb_derive.specs.Meanings.{Meaning, forward_of, reverse_of, redundant, meaning_steps}
+use Rattle.pb_derive.specs.Reifications.{Reification, forward_of, reverse_of, redundant, reification_steps}
 use Rattle.pb_derive.specs.Phases.{phases}
-use Rattle.pb_derive.specs.Reasons.{Reason, widest, push_and_add, adding, closing}
+use Rattle.pb_derive.specs.Justifications.{Justification, widest, push_and_add, adding, closing}
 use Rattle.pb_derive.specs.Rups.{by_rup}
 use Rattle.pb_derive.proofs.Rups.{distinct-length}
 
@@ -41,8 +41,8 @@ weakens-size (v ∷ vs) =
     let here : op_size (Weaken v) ≡ 14 = refl in
     omega (arith, sum_by-cons op_size (Weaken v) (map Weaken vs), here, weakens-size vs)
 
--- the line of a reason
-pub closing-size : (r : Reason) → step_size (Pol (closing r)) ≤ 45 + 22 * length r.ids + 14 * length r.weakened
+-- the line of a justification
+pub closing-size : (r : Justification) → step_size (Pol (closing r)) ≤ 45 + 22 * length r.ids + 14 * length r.weakened
 closing-size r =
     let last = Div (pos widest) ∷ [] in
     let division : op_size (Div (pos widest)) ≡ 41 = refl in
@@ -60,40 +60,40 @@ closing-size r =
 pub rup-size : (ids : List ℕ) (clause : List Lit) → step_size (by_rup ids clause).step ≤ 49 + 53 * length clause + 20 * length ids
 rup-size ids clause = omega (arith, length-map (distinct clause) one_of, distinct-length clause)
 
--- ---- meanings
+-- ---- reifications
 
 pub redundant-size : (c : Constraint) (v : ℕ) (value : Bool) → step_size (redundant c v value) ≡ 66 + 53 * length c.terms
 redundant-size c v value = omega (arith, length-map c.terms term_of)
 
-forward-size : (m : Meaning) → step_size (redundant (forward_of m) m.var false) ≡ 119 + 53 * length m.sum
+forward-size : (m : Reification) → step_size (redundant (forward_of m) m.var false) ≡ 119 + 53 * length m.sum
 forward-size m = omega (arith, redundant-size (forward_of m) m.var false)
 
-reverse-size : (m : Meaning) → step_size (redundant (reverse_of m) m.var true) ≡ 119 + 53 * length m.sum
+reverse-size : (m : Reification) → step_size (redundant (reverse_of m) m.var true) ≡ 119 + 53 * length m.sum
 reverse-size m = omega (arith, redundant-size (reverse_of m) m.var true, length-map m.sum opposite)
 
 -- the second line, as it is
-abbrev second_line : ℕ → Meaning → Bool → Step
+abbrev second_line : ℕ → Reification → Bool → Step
 second_line id m b = cond {A = Step} b (Rup [] (pos 0) (id ∷ [])) (redundant (reverse_of m) m.var true)
 
-second-size : (id : ℕ) (m : Meaning) (b : Bool) → step_size (second_line id m b) ≤ 119 + 53 * length m.sum
+second-size : (id : ℕ) (m : Reification) (b : Bool) → step_size (second_line id m b) ≤ 119 + 53 * length m.sum
 second-size id m true = omega arith
 second-size id m false = omega (arith, reverse-size m)
 
 -- ---- the three parts
 
-meanings-size : (most next : ℕ) (ms : List Meaning) → All (λ m. 238 + 106 * length m.sum ≤ most) ms → sum_by step_size (meaning_steps next ms) ≤ most * length ms
-meanings-size most next [] h = omega arith
-meanings-size most next (m ∷ ms) h =
+reifications-size : (most next : ℕ) (ms : List Reification) → All (λ m. 238 + 106 * length m.sum ≤ most) ms → sum_by step_size (reification_steps next ms) ≤ most * length ms
+reifications-size most next [] h = omega arith
+reifications-size most next (m ∷ ms) h =
     let first : Step = redundant (forward_of m) m.var false in
     let second : Step = second_line next m (ltb (weight m.sum) m.least) in
     omega (
       arith,
-      sum_by-cons step_size first (second ∷ meaning_steps (next + 2) ms),
-      sum_by-cons step_size second (meaning_steps (next + 2) ms),
+      sum_by-cons step_size first (second ∷ reification_steps (next + 2) ms),
+      sum_by-cons step_size second (reification_steps (next + 2) ms),
       forward-size m,
       second-size next m (ltb (weight m.sum) m.least),
-      All-head (λ (m : Meaning). 238 + 106 * length m.sum ≤ most) m ms h,
-      meanings-size most (next + 2) ms (All-tail (λ (m : Meaning). 238 + 106 * length m.sum ≤ most) m ms h),
+      All-head (λ (m : Reification). 238 + 106 * length m.sum ≤ most) m ms h,
+      reifications-size most (next + 2) ms (All-tail (λ (m : Reification). 238 + 106 * length m.sum ≤ most) m ms h),
     )
 
 claims-size : (next : ℕ) (cs : List Claim) → sum_by step_size (claim_steps next cs) ≡ sum_by (λ c. step_size c.step) cs + 24 * length cs
@@ -115,16 +115,16 @@ deletions-size id (suc n) =
     let here : step_size (Del (id ∷ (id + 1) ∷ [])) ≡ 44 = refl in
     omega (arith, sum_by-cons step_size (Del (id ∷ (id + 1) ∷ [])) (deletion_steps 2 (id + 2) n), here, deletions-size (id + 2) n)
 
-pub phases-size : (most next : ℕ) (ms : List Meaning) (cs : List Claim) → All (λ m. 238 + 106 * length m.sum ≤ most) ms
+pub phases-size : (most next : ℕ) (ms : List Reification) (cs : List Claim) → All (λ m. 238 + 106 * length m.sum ≤ most) ms
     → sum_by step_size (phases next ms cs) ≤ most * length ms + 44 * length ms + (sum_by (λ c. step_size c.step) cs + 24 * length cs)
 phases-size most next ms cs h =
     let claims = claim_steps (next + 2 * length ms) cs in
     let gone = deletion_steps 2 next (length ms) in
     omega (
       arith,
-      sum_by-append step_size (meaning_steps next ms) (claims ++ gone),
+      sum_by-append step_size (reification_steps next ms) (claims ++ gone),
       sum_by-append step_size claims gone,
-      meanings-size most next ms h,
+      reifications-size most next ms h,
       claims-size (next + 2 * length ms) cs,
       deletions-size next (length ms),
     )
@@ -135,14 +135,14 @@ module _ (most : ℕ) (room : 44 ≤ most) where
   abbrev Fits : Step → Type 0
   Fits s = step_size s ≤ most
 
-  pub meanings_each : (next : ℕ) (ms : List Meaning) → All (λ m. 119 + 53 * length m.sum ≤ most) ms → All Fits (meaning_steps next ms)
-  meanings_each next [] h = All-nil Fits
-  meanings_each next (m ∷ ms) h =
-      let own = All-head (λ (m : Meaning). 119 + 53 * length m.sum ≤ most) m ms h in
+  pub reifications_each : (next : ℕ) (ms : List Reification) → All (λ m. 119 + 53 * length m.sum ≤ most) ms → All Fits (reification_steps next ms)
+  reifications_each next [] h = All-nil Fits
+  reifications_each next (m ∷ ms) h =
+      let own = All-head (λ (m : Reification). 119 + 53 * length m.sum ≤ most) m ms h in
       let second : Step = second_line next m (ltb (weight m.sum) m.least) in
-      All-cons Fits (redundant (forward_of m) m.var false) (second ∷ meaning_steps (next + 2) ms) (omega (arith, forward-size m, own))
-      (All-cons Fits second (meaning_steps (next + 2) ms) (omega (arith, second-size next m (ltb (weight m.sum) m.least), own))
-      (meanings_each (next + 2) ms (All-tail (λ (m : Meaning). 119 + 53 * length m.sum ≤ most) m ms h)))
+      All-cons Fits (redundant (forward_of m) m.var false) (second ∷ reification_steps (next + 2) ms) (omega (arith, forward-size m, own))
+      (All-cons Fits second (reification_steps (next + 2) ms) (omega (arith, second-size next m (ltb (weight m.sum) m.least), own))
+      (reifications_each (next + 2) ms (All-tail (λ (m : Reification). 119 + 53 * length m.sum ≤ most) m ms h)))
 
   pub claims_each : (next : ℕ) (cs : List Claim) → All (λ c. step_size c.step ≤ most) cs → All Fits (claim_steps next cs)
   claims_each next [] h = All-nil Fits
@@ -158,9 +158,9 @@ module _ (most : ℕ) (room : 44 ≤ most) where
       let here : step_size (Del (id ∷ (id + 1) ∷ [])) ≡ 44 = refl in
       All-cons Fits (Del (id ∷ (id + 1) ∷ [])) (deletion_steps 2 (id + 2) n) (omega (arith, here, room)) (deletions_each (id + 2) n)
 
-  pub phases_each : (next : ℕ) (ms : List Meaning) (cs : List Claim) → All (λ m. 119 + 53 * length m.sum ≤ most) ms → All (λ c. step_size c.step ≤ most) cs → All Fits (phases next ms cs)
+  pub phases_each : (next : ℕ) (ms : List Reification) (cs : List Claim) → All (λ m. 119 + 53 * length m.sum ≤ most) ms → All (λ c. step_size c.step ≤ most) cs → All Fits (phases next ms cs)
   phases_each next ms cs h k =
-      All-append Fits (meaning_steps next ms) (claim_steps (next + 2 * length ms) cs ++ deletion_steps 2 next (length ms)) (meanings_each next ms h)
+      All-append Fits (reification_steps next ms) (claim_steps (next + 2 * length ms) cs ++ deletion_steps 2 next (length ms)) (reifications_each next ms h)
       (All-append Fits (claim_steps (next + 2 * length ms) cs) (deletion_steps 2 next (length ms)) (claims_each (next + 2 * length ms) cs k) (deletions_each next (length ms)))
 
 pub each_all : (most : ℕ) (steps : List Step) → All (λ s. step_size s ≤ most) steps → sum_by step_size steps ≤ most * length steps

@@ -11,13 +11,13 @@ use Rattle.pb_norm.specs.Addition.{coef_of}
 use Rattle.pb_norm.specs.BoundedSums.{vars_of}
 use Rattle.pb_norm.specs.Reduction.{opposite}
 use Rattle.pb_norm.proofs.AdditionSizes.{weight-cons}
-use Rattle.pb_derive.specs.Meanings.{Meaning, spare, reverse_of}
-use Rattle.pb_derive.specs.laws.Follows.{FollowsFrom, coef_in}
+use Rattle.pb_derive.specs.Reifications.{Reification, spare, reverse_of}
+use Rattle.pb_derive.specs.inner.Follows.{FollowsFrom, coef_in}
 use Rattle.pb_derive.proofs.Closing.{degrees-cons, weight_in-cons, value_in-cons, coef_in-cons}
 use Rattle.pb_derive.proofs.Opposites.{value-opposite, weight-opposite, coef_of-opposite, is_same-opposite, cases_listed, coef_of-absent, coef_of-head, value-head, value_whole}
 use Rattle.pb_derive.proofs.Sources.{cases_two}
 
-pub some_follows : (m : Meaning) (t : Weighted) (others : List Weighted) (ids : List ℕ) → ((f : Weighted → ℕ) → sum_by f m.sum ≡ f t + sum_by f others) →
+pub some_follows : (m : Reification) (t : Weighted) (others : List Weighted) (ids : List ℕ) → ((f : Weighted → ℕ) → sum_by f m.sum ≡ f t + sum_by f others) →
     1 ≤ m.least → m.least ≤ t.coef → weight m.sum < 2 ^ 125 → ¬ Contains (vars_of others) t.lit.var → ¬ Contains (vars_of others) m.var →
     FollowsFrom (reverse_of m ∷ []) (record { clause = negated t.lit ∷ record { var = m.var; positive = true } ∷ []; ids = ids; weakened = vars_of others })
 some_follows m t others ids parts some enough light own fresh =

@@ -7,7 +7,7 @@ use Rattle.pb_base.specs.Literals.{Assignment, is_same, is_among}
 use Rattle.pb_base.proofs.Members.{Contains-nil, Contains-cons_cases}
 use Rattle.pb_norm.specs.Constraints.{Constraint, weight, value}
 use Rattle.pb_norm.specs.Addition.{coef_of}
-use Rattle.pb_derive.specs.laws.Follows.{degrees, weight_in, value_in, coef_in}
+use Rattle.pb_derive.specs.inner.Follows.{degrees, weight_in, value_in, coef_in}
 use Rattle.pb_derive.proofs.Closing.{degrees-cons, weight_in-cons, value_in-cons, coef_in-cons}
 
 pub degrees-two : (s t : Constraint) → degrees (s ∷ t ∷ []) ≡ s.degree + t.degree

@@ -15,8 +15,8 @@ use Rattle.pb_steps.specs.declared.op.PolOp.TheVariants.{Push, Add, Div, Weaken}
 use Rattle.pb_steps.specs.Operations.{weakening, division, shrunk, is_narrow}
 use Rattle.pb_steps.specs.Database.{Entry, constraint_at}
 use Rattle.pb_steps.specs.Stacks.{height_from, is_stacked, leaves_one, after_op, after_ops, with_room}
-use Rattle.pb_derive.specs.Reasons.{widest, push_and_add, closing, adding}
-use Rattle.pb_derive.specs.laws.Follows.{degrees, weight_in}
+use Rattle.pb_derive.specs.Justifications.{widest, push_and_add, closing, adding}
+use Rattle.pb_derive.specs.inner.Follows.{degrees, weight_in}
 use Rattle.pb_derive.proofs.Closing.{sum_from, sum_from-weight, sum_from-degree, weaken_from, weakened_lighter, weaken_from_lighter, degrees-cons, weight_in-cons}
 
 -- ---- the height
@@ -103,7 +103,7 @@ module _ (live : List Entry) where
       after_step (Weaken v) (map Weaken vs ++ ops) (c ∷ []) (weakening v c) [] refl (omega (arith, lighter.0)) (omega (arith, lighter.1))
       ∙ weakened_ops vs ops (weakening v c) (omega (arith, lighter.0)) (omega (arith, lighter.1))
 
-  -- what the operations of a reason leave
+  -- what the operations of a justification leave
   pub closing_ops : (clause : List Lit) (id : ℕ) (ids vs : List ℕ) (c : Constraint) (cs : List Constraint) → constraint_at live id ≡ Some c → Found live ids cs → weight_in (c ∷ cs) < 2 ^ 126 → degrees (c ∷ cs) < 2 ^ 126 →
       after_ops live (closing (record { clause = clause; ids = id ∷ ids; weakened = vs })) [] ≡ Some (division widest (weaken_from (sum_from c cs) vs) ∷ [])
   closing_ops clause id ids vs c cs e found h k =

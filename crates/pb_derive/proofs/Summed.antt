@@ -10,12 +10,12 @@ use Rattle.pb_steps.specs.declared.step.Step.TheVariants.{Pol}
 use Rattle.pb_steps.specs.Steps.{HasFactor, vars_of_op, ids_of_op}
 use Rattle.pb_steps.specs.Stacks.{leaves_one, height_from}
 use Rattle.pb_steps.specs.Database.{Database, IsLive, grown}
-use Rattle.pb_derive.specs.laws.Ran.{Ran}
-use Rattle.pb_derive.specs.laws.Exact.{IsSum}
+use Rattle.pb_derive.specs.inner.Ran.{Ran}
+use Rattle.pb_derive.specs.inner.Exact.{IsSum}
 use Rattle.pb_derive.specs.Forms.{IsFormOf}
 use Rattle.pb_derive.specs.Later.{IsNumbered, Knows}
-use Rattle.pb_derive.specs.Reasons.{push_and_add, adding}
-use Rattle.pb_derive.specs.laws.Follows.{AllKnown}
+use Rattle.pb_derive.specs.Justifications.{push_and_add, adding}
+use Rattle.pb_derive.specs.inner.Follows.{AllKnown}
 use Rattle.pb_derive.proofs.Closed.{ArePositive}
 use Rattle.pb_derive.proofs.Closing.{sum_from, AllAscending}
 use Rattle.pb_derive.proofs.Exact.{exact_form, exact_vars}

@@ -4,7 +4,7 @@ use Rattle.std.specs.declared.option.Option.TheVariants.{Some}
 use Rattle.pb_desk.specs.Desk.{DeskState}
 use Rattle.pb_desk.specs.LineReaders.{Reader, GivesLine, IsNextLine, StopsAt, StopsReader, left_for, fault_at}
 use Rattle.pb_desk.specs.LineReading.{Held, TakesAhead}
-use Rattle.pb_desk.specs.laws.PieceReading.{Finds, Fits, StopsLine}
+use Rattle.pb_desk.specs.inner.PieceReading.{Finds, Fits, StopsLine}
 use Rattle.pb_desk.specs.declared.line.Found.{Found}
 use Rattle.pb_desk.specs.declared.line.Found.TheVariants.{Nothing, Last, Ended}
 use Rattle.pb_desk.specs.declared.lines.LineFault.{LineFault}

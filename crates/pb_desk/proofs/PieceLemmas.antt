@@ -5,11 +5,11 @@ use Rattle.std.proofs.lemmas.List.Elements.{All-append}
 use Rattle.std.proofs.lemmas.Bool.{cases_lt}
 use Rattle.std.proofs.lemmas.Bool.Decides.{nat_tests}
 use Rattle.pb_base.specs.declared.limit.LimitKind.{LimitKind}
-use Rattle.pb_desk.specs.declared.limits.Left.{Left}
+use Rattle.pb_desk.specs.declared.limits.Remaining.{Remaining}
 use Rattle.pb_desk.specs.Lines.{IsUnbroken}
 use Rattle.pb_desk.specs.Limits.{first_of, limit_of, limit_of_piece}
 use Rattle.pb_desk.specs.LineReading.{limit_in}
-use Rattle.pb_desk.specs.laws.PieceReading.{limit_after, InLine, IsEnded, IsPiece, TakesPiece}
+use Rattle.pb_desk.specs.inner.PieceReading.{limit_after, InLine, IsEnded, IsPiece, TakesPiece}
 use Rattle.pb_desk.proofs.LimitLemmas.{limit_of-piece, limit_of-ended}
 
 piece_fits : (text : ℕ) (is_last : Bool) (line n : ℕ) → limit_of_piece text is_last line n false ≡ None → (n ≤ text) × (n ≤ line)
@@ -22,7 +22,7 @@ ended_fits : (text : ℕ) (is_last : Bool) (line n : ℕ) → limit_of_piece tex
 ended_fits text is_last line n e = (grind (arith, nat_tests), grind (arith, nat_tests))
 
 -- the limit of a line, behind a piece of it
-limit_behind : (left : Left) (line piece more : List ℕ) → InLine left line → IsUnbroken piece → limit_in left (line ++ piece ++ more) ≡ first_of (limit_of_piece (left.text - length line) left.is_last (left.line - length line) (length piece) false) (limit_after left (length (line ++ piece)) more)
+limit_behind : (left : Remaining) (line piece more : List ℕ) → InLine left line → IsUnbroken piece → limit_in left (line ++ piece ++ more) ≡ first_of (limit_of_piece (left.text - length line) left.is_last (left.line - length line) (length piece) false) (limit_after left (length (line ++ piece)) more)
 limit_behind left line piece more h unbroken =
     ap (limit_in left) (append_assoc line piece more) ∙
     (h.limit (piece ++ more) ∙
@@ -32,12 +32,12 @@ limit_behind left line piece more h unbroken =
     same : (t l : ℕ) → t ≡ left.text - length (line ++ piece) → l ≡ left.line - length (line ++ piece) → first_of (limit_of_piece (left.text - length line) left.is_last (left.line - length line) (length piece) false) (limit_of t left.is_last l more) ≡ first_of (limit_of_piece (left.text - length line) left.is_last (left.line - length line) (length piece) false) (limit_after left (length (line ++ piece)) more)
     same t l e f = rw (e, f) refl
 
-limit_at_end : (left : Left) (line piece more : List ℕ) → InLine left line → IsUnbroken piece → limit_in left (line ++ piece ++ 10 ∷ more) ≡ limit_of_piece (left.text - length line) left.is_last (left.line - length line) (length piece) true
+limit_at_end : (left : Remaining) (line piece more : List ℕ) → InLine left line → IsUnbroken piece → limit_in left (line ++ piece ++ 10 ∷ more) ≡ limit_of_piece (left.text - length line) left.is_last (left.line - length line) (length piece) true
 limit_at_end left line piece more h unbroken =
     ap (limit_in left) (append_assoc line piece (10 ∷ more)) ∙
     (h.limit (piece ++ 10 ∷ more) ∙ limit_of-ended (left.text - length line) left.is_last (left.line - length line) piece more unbroken)
 
-in_line_more : (left : Left) (line piece : List ℕ) → InLine left line → IsUnbroken piece → limit_of_piece (left.text - length line) left.is_last (left.line - length line) (length piece) false ≡ None → InLine left (line ++ piece)
+in_line_more : (left : Remaining) (line piece : List ℕ) → InLine left line → IsUnbroken piece → limit_of_piece (left.text - length line) left.is_last (left.line - length line) (length piece) false ≡ None → InLine left (line ++ piece)
 in_line_more left line piece h unbroken none =
     let fits = piece_fits (left.text - length line) left.is_last (left.line - length line) (length piece) none in
     record {
@@ -51,7 +51,7 @@ in_line_more left line piece h unbroken none =
       limit = λ more. limit_behind left line piece more h unbroken ∙ ap (λ (o : Option LimitKind). first_of o (limit_after left (length (line ++ piece)) more)) none;
     }
 
-ended_line : (left : Left) (line piece : List ℕ) → InLine left line → IsUnbroken piece → limit_of_piece (left.text - length line) left.is_last (left.line - length line) (length piece) true ≡ None → IsEnded left (line ++ piece)
+ended_line : (left : Remaining) (line piece : List ℕ) → InLine left line → IsUnbroken piece → limit_of_piece (left.text - length line) left.is_last (left.line - length line) (length piece) true ≡ None → IsEnded left (line ++ piece)
 ended_line left line piece h unbroken none =
     let fits = ended_fits (left.text - length line) left.is_last (left.line - length line) (length piece) none in
     record {
@@ -62,7 +62,7 @@ ended_line left line piece h unbroken none =
     }
 
 -- a piece that passes a limit
-pub stopped_by : (left : Left) (is_ended : Bool) (ahead line piece : List ℕ) (which : LimitKind) → InLine left line → IsPiece ahead piece is_ended → limit_of_piece (left.text - length line) left.is_last (left.line - length line) (length piece) is_ended ≡ Some which → (more : List ℕ) → limit_in left (line ++ ahead ++ more) ≡ Some which
+pub stopped_by : (left : Remaining) (is_ended : Bool) (ahead line piece : List ℕ) (which : LimitKind) → InLine left line → IsPiece ahead piece is_ended → limit_of_piece (left.text - length line) left.is_last (left.line - length line) (length piece) is_ended ≡ Some which → (more : List ℕ) → limit_in left (line ++ ahead ++ more) ≡ Some which
 stopped_by left true ahead line piece which h found is more =
     let rest : List ℕ = drop (length piece + 1) ahead in
     let parts : line ++ ahead ++ more ≡ line ++ piece ++ 10 ∷ (rest ++ more) =
@@ -76,7 +76,7 @@ stopped_by left false ahead line piece which h found is more =
     (limit_behind left line piece more h found.unbroken ∙ ap (λ (o : Option LimitKind). first_of o (limit_after left (length (line ++ piece)) more)) is)
 
 -- a piece that passes none
-pub taken_piece : (left : Left) (is_ended : Bool) (ahead after line grown piece : List ℕ) → InLine left line → IsPiece ahead piece is_ended → limit_of_piece (left.text - length line) left.is_last (left.line - length line) (length piece) is_ended ≡ None → grown ≡ line ++ piece → after ≡ drop (cond is_ended (length piece + 1) (length piece)) ahead → TakesPiece left is_ended ahead after line grown
+pub taken_piece : (left : Remaining) (is_ended : Bool) (ahead after line grown piece : List ℕ) → InLine left line → IsPiece ahead piece is_ended → limit_of_piece (left.text - length line) left.is_last (left.line - length line) (length piece) is_ended ≡ None → grown ≡ line ++ piece → after ≡ drop (cond is_ended (length piece + 1) (length piece)) ahead → TakesPiece left is_ended ahead after line grown
 taken_piece left true ahead after line grown piece h found none is_grown is_after = (
   subst (IsEnded left) (sym is_grown) (ended_line left line piece h found.unbroken none),
   ap (λ (xs : List ℕ). line ++ xs) found.ended ∙

@@ -12,13 +12,13 @@ use Rattle.pb_desk.specs.Desk.{DeskState, Advances, FailsToRead, IfTold, same}
 use Rattle.pb_desk.proofs.Steps.{as_reads, begin, reads_by_then, then_fails_to_read}
 use Rattle.pb_desk.proofs.Readings.{taken-taken, told_after, both_told}
 use Rattle.pb_desk.proofs.Slots.{put_there}
-use Rattle.pb_desk.specs.declared.limits.Left.{Left}
+use Rattle.pb_desk.specs.declared.limits.Remaining.{Remaining}
 use Rattle.pb_desk.specs.declared.piece.Stop.{Stop}
 use Rattle.pb_desk.specs.declared.piece.Stop.TheVariants as stop
 use Rattle.pb_desk.specs.declared.line.Found.TheVariants.{Ended}
 use Rattle.pb_desk.proofs.LineLemmas.{begins_break, begins_last}
 use Rattle.pb_desk.specs.LineReading.{Held, before_end, beyond, limit_in, may_end, TakesAhead, FailsInLine, FailsAhead, IsPart}
-use Rattle.pb_desk.specs.laws.PieceReading.{InLine, TakesPiece, StopsPiece, Finds, Fits, StopsLine, found_at_end, Refills}
+use Rattle.pb_desk.specs.inner.PieceReading.{InLine, TakesPiece, StopsPiece, Finds, Fits, StopsLine, found_at_end, Refills}
 
 pub taken-none : (slot : ℕ) (view : View) → taken slot 0 view ≡ view
 taken-none slot view = elim view.told as (λ (o : Option Told). taken slot 0 (record view { told = o }) ≡ record view { told = o }) [
@@ -124,23 +124,23 @@ pub refilled_line : (slot : ℕ) (some : Bool) (line : List ℕ) (x y z : Held) 
 refilled_line slot some line x y z a b c first more =
     reads_then slot x y z a b c (Behind line) (λ text rest. (text ≡ rest) × (some ≡ false → rest ≡ [])) (Behind line) (λ text middle rest p q. p ∙ ap (λ (xs : List ℕ). line ++ xs) q.0) first more.reads
 
-end_finds : (left : Left) (line text middle rest : List ℕ) → InLine left line → text ≡ line ++ middle → middle ≡ rest → rest ≡ [] → Finds left (found_at_end line) line text rest
+end_finds : (left : Remaining) (line text middle rest : List ℕ) → InLine left line → text ≡ line ++ middle → middle ≡ rest → rest ≡ [] → Finds left (found_at_end line) line text rest
 end_finds left [] text middle rest h p q r = (p ∙ (q ∙ r), r)
 end_finds left (b ∷ bytes) text middle rest h p q r =
     let whole : text ≡ b ∷ bytes = p ∙ (ap (λ (xs : List ℕ). b ∷ bytes ++ xs) (q ∙ r) ∙ append-nil (b ∷ bytes)) in
     (whole, r, begins_last b bytes text rest h.unbroken whole r, ap (limit_in left) (p ∙ ap (λ (xs : List ℕ). b ∷ bytes ++ xs) (q ∙ r)) ∙ h.limit [])
 
 -- the text ends
-pub end_found : (left : Left) (slot : ℕ) (some : Bool) (line : List ℕ) (x y z : Held) (a b c : DeskState) → some ≡ false → InLine left line → TakesAhead slot x y a b (Behind line) → Refills slot some y z b c → TakesAhead slot x z a c (Finds left (found_at_end line) line)
+pub end_found : (left : Remaining) (slot : ℕ) (some : Bool) (line : List ℕ) (x y z : Held) (a b c : DeskState) → some ≡ false → InLine left line → TakesAhead slot x y a b (Behind line) → Refills slot some y z b c → TakesAhead slot x z a c (Finds left (found_at_end line) line)
 end_found left slot some line x y z a b c none h first more =
     reads_then slot x y z a b c (Behind line) (λ text rest. (text ≡ rest) × (some ≡ false → rest ≡ [])) (Finds left (found_at_end line) line) (λ text middle rest p q. end_finds left line text middle rest h p q.0 (q.1 none)) first more.reads
 
-pub end_fits : (left : Left) (line : List ℕ) → InLine left line → Fits left (found_at_end line) line
+pub end_fits : (left : Remaining) (line : List ℕ) → InLine left line → Fits left (found_at_end line) line
 end_fits left [] h = refl
 end_fits left (b ∷ bytes) h = (h.in_text, h.is_line (omega arith))
 
 -- the line ends
-pub line_found : (left : Left) (slot : ℕ) (line grown : List ℕ) (x z w : Held) (a c : DeskState) → w.over ≡ z.over → TakesPiece left true z.bytes w.bytes line grown → TakesAhead slot x z a c (Behind line) → TakesAhead slot x w a c (Finds left Ended grown)
+pub line_found : (left : Remaining) (slot : ℕ) (line grown : List ℕ) (x z w : Held) (a c : DeskState) → w.over ≡ z.over → TakesPiece left true z.bytes w.bytes line grown → TakesAhead slot x z a c (Behind line) → TakesAhead slot x w a c (Finds left Ended grown)
 line_found left slot line grown x z w a c same_end takes first =
     reads_ahead slot x z w a c (Behind line) (Finds left Ended grown) same_end
     (λ text more p.
@@ -149,14 +149,14 @@ line_found left slot line grown x z w a c same_end takes first =
     first
 
 -- the line goes on
-pub line_grows : (left : Left) (slot : ℕ) (line grown : List ℕ) (x z w : Held) (a c : DeskState) → w.over ≡ z.over → TakesPiece left false z.bytes w.bytes line grown → TakesAhead slot x z a c (Behind line) → TakesAhead slot x w a c (Behind grown)
+pub line_grows : (left : Remaining) (slot : ℕ) (line grown : List ℕ) (x z w : Held) (a c : DeskState) → w.over ≡ z.over → TakesPiece left false z.bytes w.bytes line grown → TakesAhead slot x z a c (Behind line) → TakesAhead slot x w a c (Behind grown)
 line_grows left slot line grown x z w a c same_end takes first =
     reads_ahead slot x z w a c (Behind line) (Behind grown) same_end
     (λ text more p.
     p ∙ (sym (append_assoc line z.bytes more) ∙ (ap (λ (xs : List ℕ). xs ++ more) (sym takes.1) ∙ ap (λ (xs : List ℕ). grown ++ (xs ++ more)) (sym takes.2))))
     first
 
-pub line_stops : (left : Left) (slot : ℕ) (s : Stop) (line : List ℕ) (x z w : Held) (a c : DeskState) → w.over ≡ z.over → StopsPiece left z.bytes line s → TakesAhead slot x z a c (Behind line) → StopsLine left slot x w a c s
+pub line_stops : (left : Remaining) (slot : ℕ) (s : Stop) (line : List ℕ) (x z w : Held) (a c : DeskState) → w.over ≡ z.over → StopsPiece left z.bytes line s → TakesAhead slot x z a c (Behind line) → StopsLine left slot x w a c s
 line_stops left slot stop.Failed line x z w a c same_end stops first = absurd stops
 line_stops left slot (stop.Limit which) line x z w a c same_end stops first =
     reads_ahead slot x z w a c (Behind line) (λ text rest. limit_in left text ≡ Some which) same_end
@@ -214,7 +214,7 @@ pub fails_in_line : (slot : ℕ) (ahead : Held) (a b : DeskState) (P : List ℕ 
 fails_in_line slot ahead a b P h = record { count = h.count; fails = h.fails; ends = h.ends }
 
 -- a line's end is not there yet
-pub line_fails : (left : Left) (slot : ℕ) (line : List ℕ) (x y : Held) (a b c : DeskState) → InLine left line → y.bytes ≡ [] → y.over ≡ false → c.ends ≡ b.ends → TakesAhead slot x y a b (Behind line) → FailsToRead same b c → FailsAhead slot x a c (IsPart left)
+pub line_fails : (left : Remaining) (slot : ℕ) (line : List ℕ) (x y : Held) (a b c : DeskState) → InLine left line → y.bytes ≡ [] → y.over ≡ false → c.ends ≡ b.ends → TakesAhead slot x y a b (Behind line) → FailsToRead same b c → FailsAhead slot x a c (IsPart left)
 line_fails left slot line x y a b c h none not_over stays first fails =
     fails_then slot x y a b c (Behind line) (λ part. part ≡ []) (IsPart left)
     (λ bytes part behind p q.

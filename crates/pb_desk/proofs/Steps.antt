@@ -4,7 +4,8 @@ use Rattle.std.proofs.Math.Seq.{take-add, take-length}
 use Rattle.std.proofs.lemmas.List.{length-drop}
 use Rattle.std.specs.Prelude.{Result, OnErr}
 use Rattle.std.specs.declared.result.Result.TheVariants.{Ok, Err}
-use Rattle.pb_desk.specs.Causes.{Rose}
+use Rattle.pb_base.specs.FaultCounts.{Rose}
+use Rattle.pb_base.proofs.FaultCounts.{rose_later, rose_from}
 use Rattle.pb_desk.specs.View.{View}
 use Rattle.pb_desk.specs.Desk.{DeskState, Reads, Reaches, FailsToWrite, FailsToRead}
 
@@ -32,15 +33,6 @@ reads_by_then f g h a b c joins first second = record {
   reads = second.reads ∙ first.reads;
   writes = second.writes ∙ first.writes;
 }
-
--- a count that rose from a value it had before
-pub rose_later : (before then now : ℕ) → then ≡ before → Rose then now → Rose before now
-rose_later before then now same rose = subst (λ (n : ℕ). Rose n now) same rose
-
--- a count that rose has not fallen
-pub rose_from : (before now : ℕ) → Rose before now → before ≤ now
-rose_from before now (inl next) = omega (arith, next)
-rose_from before now (inr last) = omega (arith, last.0)
 
 pub then_fails_to_write : (f g h : View → View) (a b c : DeskState) → ((v : View) → g (f v) ≡ h v) → Reaches f a b → FailsToWrite g b c → FailsToWrite h a c
 then_fails_to_write f g h a b c joins first second = record {

@@ -2,7 +2,7 @@
 use Rattle.std.specs.Prelude.{ℕ, ◌+◌, ◌≤◌, ◌<◌, ◌≡◌, ◌⊎◌, false, List, [], ◌∷◌, take, length, is_some, IfSome, IsSomeAnd, IsTrue, All}
 use Rattle.std.specs.declared.option.Option.{Option}
 use Rattle.std.specs.declared.option.Option.TheVariants.{Some}
-use Rattle.pb_desk.specs.Causes.{Rose}
+use Rattle.pb_base.specs.FaultCounts.{Rose}
 use Rattle.pb_desk.specs.View.{Made, Told, View, bytes_in, taken}
 
 -- a desk, as contracts see it: what it shows, how many reads and writes have failed, and how many reads gave no byte

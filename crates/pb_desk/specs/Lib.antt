@@ -1,4 +1,3 @@
-pub mod Causes
 pub mod View
 pub mod Desk
 pub mod Memory
@@ -9,3 +8,4 @@ pub mod LineReading
 pub mod LineReaders
 pub mod TwoSlots
 pub mod laws
+pub mod inner

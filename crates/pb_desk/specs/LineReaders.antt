@@ -2,7 +2,7 @@
 use Rattle.std.specs.Prelude.{◌≡◌, ◌≤◌, ◌<◌, ◌^◌, ℕ, Bool, true, false, ◌+◌, ◌-◌, List, [], length, nat_le, Option, Some, None}
 use Rattle.pb_desk.specs.Desk.{DeskState}
 use Rattle.pb_desk.specs.declared.limits.LineLimits.{LineLimits}
-use Rattle.pb_desk.specs.declared.limits.Left.{Left}
+use Rattle.pb_desk.specs.declared.limits.Remaining.{Remaining}
 use Rattle.pb_desk.specs.declared.piece.Stop.{Stop}
 use Rattle.pb_desk.specs.declared.piece.Stop.TheVariants as stop
 use Rattle.pb_desk.specs.declared.lines.LineFault.{LineFault}
@@ -28,7 +28,7 @@ pub record IsReader (slot : ℕ) (limits : LineLimits) (at number : ℕ) : Type 
   pub few_lines : limits.lines < 2 ^ 63
 
 -- what is left for the next line
-abbrev pub left_for : Reader → Left
+abbrev pub left_for : Reader → Remaining
 left_for r = record { text = r.limits.text - r.at; line = r.limits.line; is_last = nat_le r.limits.lines r.number }
 
 -- the reader after a line, with as many bytes before the rest of the text as it has fewer

@@ -1,14 +1,14 @@
 -- What is taken where a line is read.
 use Rattle.std.specs.Prelude.{◌≡◌, ◌≤◌, ◌+◌, ◌++◌, ℕ, Bool, true, false, if◌then◌else◌, List, [], length, take, drop, Option, None}
 use Rattle.pb_base.specs.declared.limit.LimitKind.{LimitKind}
-use Rattle.pb_desk.specs.declared.limits.Left.{Left}
+use Rattle.pb_desk.specs.declared.limits.Remaining.{Remaining}
 use Rattle.pb_desk.specs.View.{taken}
 use Rattle.pb_desk.specs.Desk.{DeskState, Advances, FailsToRead, IfTold}
 use Rattle.pb_desk.specs.Limits.{limit_of}
 use Rattle.pb_desk.specs.Lines.{IsUnbroken}
 
 -- the first limit that a line passes, from its start on
-abbrev pub limit_in : Left → List ℕ → Option LimitKind
+abbrev pub limit_in : Remaining → List ℕ → Option LimitKind
 limit_in left bytes = limit_of left.text left.is_last left.line bytes
 
 -- What a reader holds of its slot: the bytes that were taken and stand in no line yet, and whether the slot's end was met.
@@ -55,5 +55,5 @@ pub record FailsAhead (slot : ℕ) (ahead : Held) (before after : DeskState) (P 
   pub told : IfTold before (λ t. (count ≤ length (t.left slot)) × P (ahead.bytes ++ take count (t.left slot)))
 
 -- the bytes are a part of a line: they hold no LF, and pass no limit
-abbrev pub IsPart : Left → List ℕ → Type 0
+abbrev pub IsPart : Remaining → List ℕ → Type 0
 IsPart left bytes = IsUnbroken bytes × (limit_in left bytes ≡ None)

@@ -1,17 +1,17 @@
 -- What a desk in memory shows.
 use Rattle.std.specs.Prelude.{ℕ, Bool, true, false, ◌==◌, if◌then◌else◌, List, [], ◌∷◌, ◌++◌, Some, None, is_some, slice_index_or}
-use Rattle.pb_desk.specs.declared.sheet.Sheet.{Sheet}
+use Rattle.pb_desk.specs.declared.memory_file.MemoryFile.{MemoryFile}
 use Rattle.pb_desk.specs.declared.memory.MemoryDesk.{MemoryDesk}
 use Rattle.pb_desk.specs.View.{Made, Told}
 use Rattle.pb_desk.specs.Desk.{DeskState}
 use Rattle.pb_desk.specs.Memory.{Plan, shelf_of, left_of}
 
 -- the file of a slot, if it was made
-abbrev pub file_in : ℕ → Sheet → List Made
-file_in slot sheet = if sheet.is_made then record { slot = slot; name = sheet.name.bytes.items; bytes = sheet.bytes.bytes.items } ∷ [] else []
+abbrev pub file_in : ℕ → MemoryFile → List Made
+file_in slot memory_file = if memory_file.is_made then record { slot = slot; name = memory_file.name.bytes.items; bytes = memory_file.bytes.bytes.items } ∷ [] else []
 
 -- the files, the newest first
-abbrev pub files_of : Bool → Sheet → Sheet → List Made
+abbrev pub files_of : Bool → MemoryFile → MemoryFile → List Made
 files_of one_is_newest zero one = if one_is_newest then file_in 1 one ++ file_in 0 zero else file_in 0 zero ++ file_in 1 one
 
 -- whether the list has nothing
@@ -40,7 +40,7 @@ state_of desk = record {
     writing = at_two desk.zero.is_open desk.one.is_open false;
     told = Some (desk_told desk);
     room = Some desk.room;
-    steady = is_nil desk.script.fails;
+    steady = is_nil desk.fault_plan.fails;
   };
   read_faults = desk.read_faults;
   write_faults = desk.write_faults;
@@ -49,4 +49,4 @@ state_of desk = record {
 
 -- what it goes by
 unfoldable pub plan_of : MemoryDesk → Plan
-plan_of desk = record { fails = desk.script.fails; calls = desk.script.calls; piece = desk.piece }
+plan_of desk = record { fails = desk.fault_plan.fails; calls = desk.fault_plan.calls; piece = desk.piece }

@@ -1,3 +1,1 @@
 pub mod MemoryFiles
-pub mod MemoryLaws
-pub mod PieceReading

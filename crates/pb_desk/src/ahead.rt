@@ -11,14 +11,14 @@ use std::marker::Model;
 
 /// Bytes that were taken from a slot, in room of 64 KiB, and whether its end was met.
 #[derive(Drop)]
-pub struct Ahead {
+pub struct ReadBuffer {
     room: Vec<u8>,
     start: usize,
     end: usize,
     is_over: bool,
 }
 
-impl Model for Ahead {
+impl Model for ReadBuffer {
     ghost use Rattle.std.specs.Prelude.{take, drop, ◌-◌, ◌≤◌, ◌<◌, length};
     ghost use Rattle.pb_desk.specs.LineReading.{Held};
 
@@ -29,12 +29,12 @@ impl Model for Ahead {
     ghost invariant = { λ a. (a.start ≤ a.end) × (a.end ≤ length a.room.items) × (0 < length a.room.items) };
 }
 
-impl Ahead {
+impl ReadBuffer {
     /// Nothing was taken yet.
     pub fn new(alloc: Global) -> Result<Self, AllocError>
         ensures { IfOk result (λ ahead. ahead ≡ nothing_held) }
     {
-        Ok(Ahead {
+        Ok(ReadBuffer {
             room: make_room(alloc)?,
             start: 0,
             end: 0,

@@ -3,19 +3,17 @@
 
 mod ahead;
 mod buffer;
-mod count;
 mod desk;
+mod fault_plan;
 mod limits;
 mod line;
 mod lines;
 mod memory;
+mod memory_file;
 mod piece;
-mod script;
-mod sheet;
 mod shelf;
 mod whole;
 
-pub use count::FaultCount;
 pub use desk::Desk;
 pub use limits::LineLimits;
 pub use lines::{LineFault, LineReader};

@@ -17,14 +17,14 @@ pub struct LineLimits {
 
 /// What is left: bytes of the text, bytes of the line, and whether a line is.
 #[derive(Clone, Copy)]
-pub struct Left {
+pub struct Remaining {
     pub text: u64,
     pub line: u64,
     pub is_last: bool,
 }
 
 /// The first limit that a piece passes, which may be followed by a line end.
-pub fn limit_of_piece(left: &Left, count: u64, is_ended: bool) -> Option<LimitKind>
+pub fn limit_of_piece(left: &Remaining, count: u64, is_ended: bool) -> Option<LimitKind>
     ensures { result ≡ limit_of_piece left.now.text left.now.is_last left.now.line count is_ended }
 {
     if count > 0 || is_ended {

@@ -2,11 +2,11 @@
 ghost use Rattle.std.specs.Prelude.{◌≡◌, ◌≢◌, ◌<◌, [], ℕ, List, true, false, IsTrue, IfOk, IfErr, OnErr, Err};
 ghost use Rattle.pb_desk.specs.Desk.{IsSteady, FailsToRead, same};
 ghost use Rattle.pb_desk.specs.LineReading.{TakesAhead};
-ghost use Rattle.pb_desk.specs.laws.PieceReading.{Finds, Fits, StopsLine, Refills, found_at_end};
+ghost use Rattle.pb_desk.specs.inner.PieceReading.{Finds, Fits, StopsLine, Refills, found_at_end};
 
 use crate::Desk;
-use crate::ahead::Ahead;
-use crate::limits::Left;
+use crate::ahead::ReadBuffer;
+use crate::limits::Remaining;
 use crate::piece::{Stop, take_piece};
 use pb_base::Failed;
 
@@ -30,7 +30,7 @@ impl From<Failed> for Stop {
 }
 
 // Takes more from the slot, if nothing is ahead. False at the end of the text, which is met once.
-fn refill<D: Desk>(desk: &mut D, slot: u8, ahead: &mut Ahead) -> Result<bool, Failed>
+fn refill<D: Desk>(desk: &mut D, slot: u8, ahead: &mut ReadBuffer) -> Result<bool, Failed>
     requires kind { slot < 4 }
     requires open { IsTrue ((D.state desk.old).view.reading slot) }
     ensures filled { IfOk result (λ some. Refills slot some ahead.old ahead.new (D.state desk.old) (D.state desk.new)) }
@@ -65,9 +65,9 @@ fn at_end(line: &[u8]) -> Found
 pub fn read_line<D: Desk>(
     desk: &mut D,
     slot: u8,
-    ahead: &mut Ahead,
+    ahead: &mut ReadBuffer,
     line: &mut Vec<u8>,
-    left: &Left,
+    left: &Remaining,
 ) -> Result<Found, Stop>
     requires kind { slot < 4 }
     requires open { IsTrue ((D.state desk.old).view.reading slot) }

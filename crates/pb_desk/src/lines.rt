@@ -5,8 +5,8 @@ ghost use Rattle.pb_desk.specs.LineReaders.{Reader, GivesLine, StopsAt, fault_at
 ghost use Rattle.pb_desk.specs.LineReading.{nothing_held};
 
 use crate::Desk;
-use crate::ahead::Ahead;
-use crate::limits::{Left, LineLimits};
+use crate::ahead::ReadBuffer;
+use crate::limits::{LineLimits, Remaining};
 use crate::line::{Found, read_line};
 use crate::piece::Stop;
 use pb_base::{LimitKind, NoMemory};
@@ -32,7 +32,7 @@ pub enum LineFault {
 pub struct LineReader {
     slot: u8,
     limits: LineLimits,
-    ahead: Ahead,
+    ahead: ReadBuffer,
     at: u64,
     number: u64,
     line: Vec<u8>,
@@ -86,7 +86,7 @@ impl LineReader {
         Ok(LineReader {
             slot,
             limits,
-            ahead: Ahead::new(alloc)?,
+            ahead: ReadBuffer::new(alloc)?,
             at: 0,
             number: 0,
             line: Vec::new(alloc),
@@ -122,7 +122,7 @@ impl LineReader {
             return Err(fault);
         }
         self.line.clear();
-        let left = Left {
+        let left = Remaining {
             text: self.limits.text - self.at,
             line: self.limits.line,
             is_last: self.limits.lines <= self.number,

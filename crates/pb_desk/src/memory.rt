@@ -1,12 +1,12 @@
 // A desk in memory, whose calls fail where they are told to.
 ghost use Rattle.std.specs.Prelude.{◌≡◌, ◌≤◌};
 
+use crate::Desk;
 use crate::buffer::Buffer;
-use crate::script::Script;
-use crate::sheet::{NAME_ROOM, Sheet};
+use crate::fault_plan::FaultPlan;
+use crate::memory_file::{MemoryFile, NAME_ROOM};
 use crate::shelf::{Reading, Shelf, find, rest_of};
-use crate::{Desk, FaultCount};
-use pb_base::{Failed, Ids, NoMemory};
+use pb_base::{Failed, FaultCount, Ids, NoMemory};
 use std::alloc::Global;
 
 /// A desk in memory. It tells everything, and is steady where no call is to fail. Its two files to write and what it
@@ -14,11 +14,11 @@ use std::alloc::Global;
 pub struct MemoryDesk {
     shelf: Shelf,
     reading: [Option<Reading>; 4],
-    zero: Sheet,
-    one: Sheet,
+    zero: MemoryFile,
+    one: MemoryFile,
     one_is_newest: bool,
     said: Buffer,
-    script: Script,
+    fault_plan: FaultPlan,
     piece: usize,
     room: usize,
     read_faults: FaultCount,
@@ -39,7 +39,7 @@ impl Drop for MemoryDesk {
             one: _,
             one_is_newest: _,
             said: _,
-            script: _,
+            fault_plan: _,
             piece: _,
             room: _,
             read_faults: _,
@@ -77,11 +77,11 @@ impl MemoryDesk {
         Ok(MemoryDesk {
             shelf,
             reading: [None; 4],
-            zero: Sheet::new(alloc, room)?,
-            one: Sheet::new(alloc, room)?,
+            zero: MemoryFile::new(alloc, room)?,
+            one: MemoryFile::new(alloc, room)?,
             one_is_newest: false,
             said: Buffer::new(alloc, room)?,
-            script: Script { fails, calls: 0 },
+            fault_plan: FaultPlan { fails, calls: 0 },
             piece,
             room,
             read_faults: FaultCount::new(),
@@ -97,9 +97,9 @@ impl MemoryDesk {
         ensures some { IsSome result → IsTold (⟦<MemoryDesk as Desk>⟧.state self.now) (λ t. HasSlot slot t.made) }
         ensures none { IsNone result → IsTold (⟦<MemoryDesk as Desk>⟧.state self.now) (λ t. HasSlot slot t.made → ⊥) }
     {
-        let sheet = self.sheet(slot);
-        if sheet.is_made {
-            Some(&sheet.bytes.bytes)
+        let memory_file = self.memory_file(slot);
+        if memory_file.is_made {
+            Some(&memory_file.bytes.bytes)
         } else {
             None
         }
@@ -113,7 +113,7 @@ impl MemoryDesk {
     }
 
     // The file of a slot.
-    fn sheet(&self, slot: u8) -> &Sheet
+    fn memory_file(&self, slot: u8) -> &MemoryFile
         requires { slot < 2 }
         ensures zero { slot ≡ 0 → result.now ≡ self.now.zero }
         ensures one { slot ≡ 1 → result.now ≡ self.now.one }
@@ -127,12 +127,12 @@ impl MemoryDesk {
 #[tactic(auto, unfolding(crate::specs::MemoryState::state_of, crate::specs::MemoryState::plan_of))]
 impl Desk for MemoryDesk {
     ghost use Rattle.std.specs.Prelude.{◌≡◌, ◌≤◌, ◌<◌, ◌↔◌, ◌⊎◌, refl, length, take, drop, false, IsTrue, IsSome, IsNone, IsErr, IfOk, OnOk, OnErr};
-    ghost use Rattle.pb_desk.specs.Causes.{Rose};
+    ghost use Rattle.pb_base.specs.FaultCounts.{Rose};
     ghost use Rattle.pb_desk.specs.View.{opened, taken, created, wrote, closed, spoke};
     ghost use Rattle.pb_desk.specs.Desk.{Reads, Reaches, FailsToRead, FailsToWrite, same, IsSteady, IfTold, IsTold, Gives, TakesSome, HasName, IsTaken, LacksRoom, written, words};
     ghost use Rattle.pb_desk.specs.Memory.{counted, is_failing};
     ghost use Rattle.pb_desk.specs.MemoryState.{state_of, plan_of};
-    ghost use Rattle.pb_desk.specs.laws.MemoryLaws.{memory_has_file, memory_tells, memory_has_room, memory_fits};
+    ghost use Rattle.pb_desk.specs.inner.MemoryLaws.{memory_has_file, memory_tells, memory_has_room, memory_fits};
 
     ghost state = { state_of };
 
@@ -147,7 +147,7 @@ impl Desk for MemoryDesk {
         ensures counted { plan_of self.new ≡ counted (plan_of self.old) }
         ensures fails { IsErr result ↔ (IsTrue (is_failing (plan_of self.old)) ⊎ IsTold (state_of self.old) (λ t. IsNone (t.shelf name.now))) }
     {
-        if !self.script.is_failing()
+        if !self.fault_plan.is_failing()
             && let Some(file) = find(self.shelf.as_slice(), name)
         {
             self.reading[slot as usize] = Some(Reading { file, place: 0 });
@@ -173,7 +173,7 @@ impl Desk for MemoryDesk {
         ensures behind { IfOk result (λ count. drop count room.new ≡ drop count room.old) }
         ensures untouched { OnErr result (room.new ≡ room.old) }
     {
-        if self.script.is_failing() {
+        if self.fault_plan.is_failing() {
             return Err(self.read_faults.rise());
         }
         let Some(reading) = self.reading[slot as usize] else {
@@ -202,8 +202,8 @@ impl Desk for MemoryDesk {
     {
         let is_taken = self.zero.has_name(name)
             || self.one.has_name(name)
-            || self.sheet(slot).is_made;
-        if self.script.is_failing() || is_taken || name.len() > NAME_ROOM {
+            || self.memory_file(slot).is_made;
+        if self.fault_plan.is_failing() || is_taken || name.len() > NAME_ROOM {
             return Err(self.write_faults.rise());
         }
         if slot == 0 {
@@ -227,8 +227,8 @@ impl Desk for MemoryDesk {
         ensures fails { IsErr result ↔ (IsTrue (is_failing (plan_of self.old)) ⊎ LacksRoom (written slot) 1 (state_of self.old)) }
         ensures moved { IfOk result (λ count. count ≤ (plan_of self.old).piece) }
     {
-        let is_full = self.sheet(slot).bytes.is_full();
-        if self.script.is_failing() || is_full {
+        let is_full = self.memory_file(slot).bytes.is_full();
+        if self.fault_plan.is_failing() || is_full {
             return Err(self.write_faults.rise());
         }
         let part = &piece[..piece.len().min(self.piece)];
@@ -248,7 +248,7 @@ impl Desk for MemoryDesk {
         ensures counted { plan_of self.new ≡ counted (plan_of self.old) }
         ensures fails { IsErr result ↔ IsTrue (is_failing (plan_of self.old)) }
     {
-        if self.script.is_failing() {
+        if self.fault_plan.is_failing() {
             return Err(self.write_faults.rise());
         }
         if slot == 0 {
@@ -268,7 +268,7 @@ impl Desk for MemoryDesk {
         ensures fails { IsErr result ↔ (IsTrue (is_failing (plan_of self.old)) ⊎ LacksRoom words 1 (state_of self.old)) }
         ensures moved { IfOk result (λ count. count ≤ (plan_of self.old).piece) }
     {
-        if self.script.is_failing() || self.said.is_full() {
+        if self.fault_plan.is_failing() || self.said.is_full() {
             return Err(self.write_faults.rise());
         }
         Ok(self.said.append(&piece[..piece.len().min(self.piece)]))

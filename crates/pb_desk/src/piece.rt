@@ -1,10 +1,10 @@
 // The bytes of a line that are there, up to its end.
 ghost use Rattle.std.specs.Prelude.{◌≡◌, ◌≤◌, ◌<◌, ◌+◌, ◌-◌, ◌++◌, ◌∷◌, [], ℕ, List, if◌then◌else◌, length, drop, Some, None, IfOk, IfErr};
 ghost use Rattle.pb_desk.specs.Limits.{limit_of_piece};
-ghost use Rattle.pb_desk.specs.laws.PieceReading.{InLine, IsPiece, TakesPiece, StopsPiece};
+ghost use Rattle.pb_desk.specs.inner.PieceReading.{InLine, IsPiece, TakesPiece, StopsPiece};
 
-use crate::ahead::Ahead;
-use crate::limits::{Left, limit_of_piece};
+use crate::ahead::ReadBuffer;
+use crate::limits::{Remaining, limit_of_piece};
 use memchr::memchr;
 use pb_base::LimitKind;
 use std::alloc::AllocError;
@@ -41,10 +41,10 @@ fn first_piece(bytes: &[u8]) -> Piece<'_>
 }
 
 // The limit that a line passes with so many bytes more, which may be followed by its end.
-fn limit_of_more(left: &Left, line: &[u8], count: usize, is_ended: bool) -> Option<LimitKind>
+fn limit_of_more(left: &Remaining, line: &[u8], count: usize, is_ended: bool) -> Option<LimitKind>
     ensures { result ≡ limit_of_piece (left.now.text - length line.now) left.now.is_last (left.now.line - length line.now) count is_ended }
 {
-    let now = Left {
+    let now = Remaining {
         text: left.text.saturating_sub(line.len() as u64),
         line: left.line.saturating_sub(line.len() as u64),
         is_last: left.is_last,
@@ -53,7 +53,7 @@ fn limit_of_more(left: &Left, line: &[u8], count: usize, is_ended: bool) -> Opti
 }
 
 // Lets go of a piece, and of the LF that may follow it.
-fn skip_piece(ahead: &mut Ahead, count: usize, is_ended: bool)
+fn skip_piece(ahead: &mut ReadBuffer, count: usize, is_ended: bool)
     requires { (if is_ended then count + 1 else count) ≤ length ahead.old.bytes }
     ensures { ahead.new ≡ record { bytes = drop (if is_ended then count + 1 else count) ahead.old.bytes; over = ahead.old.over } }
 {
@@ -64,7 +64,11 @@ fn skip_piece(ahead: &mut Ahead, count: usize, is_ended: bool)
 }
 
 /// Moves the bytes that are ahead to the line, up to its end, and says whether its end was there.
-pub fn take_piece(ahead: &mut Ahead, line: &mut Vec<u8>, left: &Left) -> Result<bool, Stop>
+pub fn take_piece(
+    ahead: &mut ReadBuffer,
+    line: &mut Vec<u8>,
+    left: &Remaining,
+) -> Result<bool, Stop>
     requires { InLine left.now line.old.items }
     ensures taken { IfOk result (λ is_ended. TakesPiece left.now is_ended ahead.old.bytes ahead.new.bytes line.old.items line.new.items) }
     ensures stopped { IfErr result (StopsPiece left.now ahead.old.bytes line.old.items) }

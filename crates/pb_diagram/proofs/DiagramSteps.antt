@@ -22,7 +22,7 @@ use Rattle.pb_diagram.specs.declared.interval.Interval.{Interval}
 use Rattle.pb_diagram.specs.Clauses.{head_level, level_clauses, node_clauses, node_count, inner_count}
 use Rattle.pb_diagram.specs.laws.LevelFacts.{levels_linked, levels_root, level_apart, node_of}
 use Rattle.pb_diagram.specs.laws.LinkedNodes.{head_le}
-use Rattle.pb_diagram.specs.laws.Links.{StandApart, Linked, AreLinked}
+use Rattle.pb_diagram.specs.inner.Links.{StandApart, Linked, AreLinked}
 use Rattle.pb_diagram.specs.Levels.{coefs_of, levels_of}
 use Rattle.pb_diagram.specs.laws.Search.{nodes_at, before_at}
 use Rattle.pb_diagram.proofs.SearchSteps.{levels_from_length, levels_from_at}

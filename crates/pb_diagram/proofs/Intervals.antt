@@ -4,7 +4,7 @@ use Rattle.std.specs.Prelude.{Contains}
 use Rattle.std.proofs.lemmas.Bool.{cases_lt}
 use Rattle.pb_base.proofs.Members.{Contains-nil, Contains-here, Contains-cons_cases}
 use Rattle.pb_diagram.specs.Intervals.{part_sum, IsPartSum, IsIntervalOf, NodesAreIntervals}
-use Rattle.pb_diagram.specs.laws.Nodes.{IsNode}
+use Rattle.pb_diagram.specs.inner.Nodes.{IsNode}
 use Rattle.pb_diagram.specs.laws.LevelFacts.{node_of, listed_node, level_apart}
 use Rattle.pb_diagram.specs.Sums.{sums}
 use Rattle.pb_diagram.specs.laws.SumFacts.{sums_without, sums_with, sums_cases, sums_none}

@@ -3,7 +3,7 @@ use Rattle.std.proofs.Common.{◌≡◌, ◌<◌, ◌≤◌, ◌+◌, ◌-◌, �
 use Rattle.std.specs.Prelude.{Contains, sum}
 use Rattle.std.proofs.lemmas.Bool.{cases_lt, cases_order}
 use Rattle.pb_diagram.specs.declared.interval.Interval.{Interval}
-use Rattle.pb_diagram.specs.laws.Nodes.{LiesIn, IsInterval, IsResidue, IsNode}
+use Rattle.pb_diagram.specs.inner.Nodes.{LiesIn, IsInterval, IsResidue, IsNode}
 use Rattle.pb_diagram.specs.laws.Search.{IsPartSearched, IsKnown, IsIntervalClosed, IsJoined}
 use Rattle.pb_diagram.specs.Sums.{sums}
 use Rattle.pb_diagram.specs.laws.SumFacts.{sums_without, sums_with, sums_cases, sums_none, sums_all, sums-le, sum-cons}

@@ -11,9 +11,9 @@ use Rattle.std.specs.Ordering.{match_ordering}
 use Rattle.std.proofs.lemmas.Bool.{cases_lt, both_ways, cond-true, cond-false}
 use Rattle.pb_base.proofs.Members.{Contains-nil, Contains-here, Contains-there, Contains-cons_cases}
 use Rattle.pb_diagram.specs.declared.interval.Interval.{Interval}
-use Rattle.pb_diagram.specs.laws.Known.{interval_of_entry, intervals_of}
+use Rattle.pb_diagram.specs.inner.Known.{interval_of_entry, intervals_of}
 use Rattle.pb_diagram.specs.Levels.{interval_from}
-use Rattle.pb_diagram.specs.laws.Nodes.{LiesIn}
+use Rattle.pb_diagram.specs.inner.Nodes.{LiesIn}
 use Rattle.pb_diagram.specs.Intervals.{AreApart}
 use Rattle.pb_diagram.specs.laws.Search.{IsGrown}
 

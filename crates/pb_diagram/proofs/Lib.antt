@@ -4,7 +4,7 @@ pub mod Intervals
 pub mod Joins
 pub mod KnownFacts
 pub mod LevelSteps
-pub mod MeaningSteps
+pub mod ReificationSteps
 pub mod NodeSteps
 pub mod Places
 pub mod SameNodes

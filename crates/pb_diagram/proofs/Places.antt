@@ -10,7 +10,7 @@ use Rattle.pb_diagram.specs.declared.interval.Interval.{Interval}
 use Rattle.pb_diagram.specs.Levels.{lies_in}
 use Rattle.pb_diagram.specs.laws.LevelFacts.{lies_in_true}
 use Rattle.pb_diagram.specs.Intervals.{AreApart}
-use Rattle.pb_diagram.specs.laws.Links.{StandApart}
+use Rattle.pb_diagram.specs.inner.Links.{StandApart}
 
 -- an earlier node ends before a later one begins
 apart_at : (nodes : List Interval) (i j : ℕ) (d : Interval) → AreApart nodes → i < j → j < length nodes → (get_or nodes i d).top ≤ (get_or nodes j d).low

@@ -7,7 +7,7 @@ use Rattle.std.proofs.lemmas.List.Sums.{sum_by-cons}
 use Rattle.pb_diagram.specs.declared.interval.Interval.{Interval}
 use Rattle.pb_diagram.specs.Clauses.{node_count}
 use Rattle.pb_diagram.specs.Levels.{level, levels_from}
-use Rattle.pb_diagram.specs.laws.Nodes.{LiesIn, IsInterval, IsResidue, IsNode}
+use Rattle.pb_diagram.specs.inner.Nodes.{LiesIn, IsInterval, IsResidue, IsNode}
 use Rattle.pb_diagram.specs.laws.LevelFacts.{first_residue, node_of, listed_node, level_apart, node_around, same_interval}
 use Rattle.pb_diagram.specs.laws.Search.{nodes_at, before_at, IsPartSearched, IsIntervalClosed, IsSearch}
 use Rattle.pb_diagram.specs.Sums.{sums}

@@ -7,7 +7,7 @@ use Rattle.std.proofs.lemmas.List.{length-replicate, get_or_past, get_or-replica
 use Rattle.pb_base.proofs.Members.{Contains-nil, Contains-here}
 use Rattle.pb_diagram.specs.declared.interval.Interval.{Interval}
 use Rattle.pb_diagram.specs.Levels.{level, levels_from}
-use Rattle.pb_diagram.specs.laws.Nodes.{LiesIn, IsResidue, IsNode}
+use Rattle.pb_diagram.specs.inner.Nodes.{LiesIn, IsResidue, IsNode}
 use Rattle.pb_diagram.specs.laws.LevelFacts.{first_residue, residue_off, residue_on}
 use Rattle.pb_diagram.specs.laws.Search.{nodes_at, before_at, IsPartSearched, IsKnown, IsIntervalClosed, IsWanted, IsSearch, IsJoined, IsMissing, IsGrown}
 use Rattle.pb_diagram.specs.Sums.{sums}

@@ -2,14 +2,14 @@
 ghost use Rattle.std.specs.Prelude.{◌≡◌, ◌≤◌, ◌<◌, ◌+◌, ◌-◌, ◌*◌, ◌^◌, All, length};
 ghost use Rattle.pb_norm.specs.Constraints.{weight, weighted, weights};
 ghost use Rattle.pb_diagram.specs.DiagramSteps.{child_id};
-ghost use Rattle.pb_diagram.specs.laws.NodesAt.{below_at, false_at, true_at, level_at};
-ghost use Rattle.pb_family.specs.laws.HandedReasons.{HandsReasons};
-ghost use Rattle.pb_diagram.specs.laws.Links.{HasPlace, Linked, StandApart};
+ghost use Rattle.pb_diagram.specs.inner.NodesAt.{below_at, false_at, true_at, level_at};
+ghost use Rattle.pb_family.specs.inner.HandedJustifications.{HandsJustifications};
+ghost use Rattle.pb_diagram.specs.inner.Links.{HasPlace, Linked, StandApart};
 
 use crate::interval::Interval;
 use crate::level::place;
 use pb_base::Term;
-use pb_family::{SinkFault, StepSink, take_claim};
+use pb_family::{SinkFault, StepSink, derive_claim};
 use std::alloc::Global;
 
 /// The nodes of the next level, and the id of the first one's first constraint.
@@ -31,7 +31,7 @@ fn child(next: Children, residue: u128) -> u64
 }
 
 /// Why a node's false child is true with it.
-fn take_false<T: StepSink>(
+fn derive_false<T: StepSink>(
     alloc: Global,
     term: &Term,
     whole: u128,
@@ -47,18 +47,18 @@ fn take_false<T: StepSink>(
     requires high { length next.nodes.now < 2 ^ 31 }
     requires own { id + 2 * place < 2 ^ 62 }
     requires few { (T.state sink.old).next + 1 < 2 ^ 62 }
-    ensures { HandsReasons (false_at (weighted term.now) whole next.entry.nodes.now next.entry.id id place node) result (T.state sink.old) (T.state sink.new) }
+    ensures { HandsJustifications (false_at (weighted term.now) whole next.entry.nodes.now next.entry.id id place node) result (T.state sink.old) (T.state sink.new) }
 {
     if whole <= node.low {
         return Ok(());
     }
     let own = id + 2 * place as u64;
     let under = child(next, node.low);
-    take_claim(alloc, &[own, under], &[*term], sink)
+    derive_claim(alloc, &[own, under], &[*term], sink)
 }
 
 /// Why a node's true child is true with it and the term's literal; at the false end, why the two are not true together.
-fn take_true<T: StepSink>(
+fn derive_true<T: StepSink>(
     alloc: Global,
     term: &Term,
     rest: &[Term],
@@ -74,19 +74,19 @@ fn take_true<T: StepSink>(
     requires high { length next.nodes.now < 2 ^ 31 }
     requires own { id + 2 * place < 2 ^ 62 }
     requires few { (T.state sink.old).next + 1 < 2 ^ 62 }
-    ensures { HandsReasons (true_at (weighted term.now) (weights rest.now) next.entry.nodes.now next.entry.id id place node) result (T.state sink.old) (T.state sink.new) }
+    ensures { HandsJustifications (true_at (weighted term.now) (weights rest.now) next.entry.nodes.now next.entry.id id place node) result (T.state sink.old) (T.state sink.new) }
 {
     let own = id + 2 * place as u64;
     let coef = term.weight();
     if node.low < coef {
-        return take_claim(alloc, &[own], rest, sink);
+        return derive_claim(alloc, &[own], rest, sink);
     }
     let under = child(next, node.low - coef);
-    take_claim(alloc, &[own, under], &rest[..0], sink)
+    derive_claim(alloc, &[own, under], &rest[..0], sink)
 }
 
 /// Both of each node of a level, where `rest` are the terms after the level's and `whole` is their weight.
-pub fn take_level<T: StepSink>(
+pub fn derive_level<T: StepSink>(
     alloc: Global,
     term: &Term,
     rest: &[Term],
@@ -103,11 +103,11 @@ pub fn take_level<T: StepSink>(
     requires high { length next.nodes.now < 2 ^ 31 }
     requires own { id + 2 * length nodes.now < 2 ^ 62 }
     requires few { (T.state sink.old).next + 2 * length nodes.now < 2 ^ 62 }
-    ensures { HandsReasons (level_at (weighted term.now) (weights rest.now) next.entry.nodes.now next.entry.id id nodes.now) result (T.state sink.old) (T.state sink.new) }
+    ensures { HandsJustifications (level_at (weighted term.now) (weights rest.now) next.entry.nodes.now next.entry.id id nodes.now) result (T.state sink.old) (T.state sink.new) }
 {
     for place in 0..nodes.len() {
-        take_false(alloc, term, whole, next, id, place, nodes[place], sink)?;
-        take_true(alloc, term, rest, next, id, place, nodes[place], sink)?;
+        derive_false(alloc, term, whole, next, id, place, nodes[place], sink)?;
+        derive_true(alloc, term, rest, next, id, place, nodes[place], sink)?;
     }
     Ok(())
 }

@@ -1,21 +1,23 @@
 //! The steps that derive the clauses of a diagram.
 ghost use Rattle.std.specs.Prelude.{◌≡◌, ◌≤◌, ◌<◌, ◌+◌, ◌^◌, ◌*◌, All, IfOk, length, map};
-ghost use Rattle.pb_derive.specs.Meanings.{meaning_steps};
+ghost use Rattle.pb_derive.specs.Reifications.{reification_steps};
 ghost use Rattle.pb_family.specs.StepSinks.{HandsSteps};
 ghost use Rattle.pb_norm.specs.Constraints.{weight, weighted, weights};
 ghost use Rattle.pb_norm.specs.BoundedSums.{sum_within};
 ghost use Rattle.pb_norm.specs.Reduction.{opposite};
-ghost use Rattle.pb_norm.specs.laws.Kept.{on_term};
+ghost use Rattle.pb_norm.specs.inner.Kept.{on_term};
 ghost use Rattle.pb_diagram.specs.Clauses.{diagram_fresh};
-ghost use Rattle.pb_diagram.specs.DiagramSteps.{level_meanings, node_meanings, reasons_over, diagram_steps};
+ghost use Rattle.pb_diagram.specs.DiagramSteps.{level_reifications, node_reifications, justifications_over, diagram_steps};
 ghost use Rattle.pb_diagram.specs.Levels.{levels_of};
-ghost use Rattle.pb_family.specs.laws.HandedReasons.{HandsReasons};
+ghost use Rattle.pb_family.specs.inner.HandedJustifications.{HandsJustifications};
 
-use crate::claims::{Children, take_level};
+use crate::claims::{Children, derive_level};
 use crate::interval::Interval;
 use crate::level::{Level, nodes_after};
 use pb_base::Term;
-use pb_family::{SinkFault, StepSink, fresh_at, take_claim, take_deletions, take_meaning};
+use pb_family::{
+    SinkFault, StepSink, derive_claim, derive_deletions, derive_reification, fresh_at,
+};
 use pb_norm::weight_of;
 use std::alloc::{AllocError, Global};
 
@@ -46,13 +48,13 @@ fn define_level<T: StepSink>(
     requires low { 1 ≤ first }
     requires high { first + length nodes.now ≤ 2 ^ 31 }
     requires few { (T.state sink.old).next + 2 * length nodes.now < 2 ^ 62 }
-    ensures { HandsSteps (meaning_steps (T.state sink.old).next (level_meanings first (weights terms.now) nodes.now)) result (T.state sink.old) (T.state sink.new) }
+    ensures { HandsSteps (reification_steps (T.state sink.old).next (level_reifications first (weights terms.now) nodes.now)) result (T.state sink.old) (T.state sink.new) }
 {
     let whole = weight_of(terms);
     for place in 0..nodes.len() {
         let var = fresh_at(first, place).var;
         let least = whole + 1 - nodes[place].top;
-        take_meaning(alloc, var, negated, least, sink)?;
+        derive_reification(alloc, var, negated, least, sink)?;
     }
     Ok(())
 }
@@ -73,7 +75,7 @@ fn define_nodes<T: StepSink>(
     requires low { 1 ≤ first }
     requires fits { first + diagram_fresh (sum_within terms.now bound) ≤ 2 ^ 31 }
     requires few { (T.state sink.old).next ≤ 2 ^ 61 }
-    ensures { HandsSteps (meaning_steps (T.state sink.old).next (node_meanings first (weights terms.now) levels.now)) result (T.state sink.old) (T.state sink.new) }
+    ensures { HandsSteps (reification_steps (T.state sink.old).next (node_reifications first (weights terms.now) levels.now)) result (T.state sink.old) (T.state sink.new) }
 {
     let mut start = first;
     for i in 0..terms.len() {
@@ -85,7 +87,7 @@ fn define_nodes<T: StepSink>(
 }
 
 /// Why all clauses hold, where the nodes' constraints have the ids from `base` on and the sum's has `own`.
-fn take_clauses<T: StepSink>(
+fn derive_clauses<T: StepSink>(
     alloc: Global,
     terms: &[Term],
     bound: u128,
@@ -99,7 +101,7 @@ fn take_clauses<T: StepSink>(
     requires small { diagram_fresh (sum_within terms.now bound) < 2 ^ 31 }
     requires low { base ≤ 2 ^ 61 }
     requires few { (T.state sink.old).next ≤ 2 ^ 61 + 2 ^ 32 }
-    ensures { HandsReasons (reasons_over (weights terms.now) levels.now 0 base own) result (T.state sink.old) (T.state sink.new) }
+    ensures { HandsJustifications (justifications_over (weights terms.now) levels.now 0 base own) result (T.state sink.old) (T.state sink.new) }
 {
     let mut whole = weight_of(terms);
     let mut id = base;
@@ -111,10 +113,10 @@ fn take_clauses<T: StepSink>(
             nodes: nodes_after(levels, i + 1),
             id: id + 2 * nodes.len() as u64,
         };
-        take_level(alloc, term, &terms[i + 1..], whole, next, id, nodes, sink)?;
+        derive_level(alloc, term, &terms[i + 1..], whole, next, id, nodes, sink)?;
         id = next.id;
     }
-    take_claim(alloc, &[base + 1, own], &terms[..0], sink)
+    derive_claim(alloc, &[base + 1, own], &terms[..0], sink)
 }
 
 /// Hands over the whole derivation of a diagram with so many nodes, where `own` is the constraint's id.
@@ -139,6 +141,6 @@ pub fn derive_whole<T: StepSink>(
     let base = sink.next_id();
     let negated = negated_terms(alloc, terms)?;
     define_nodes(alloc, terms, bound, negated.as_slice(), levels, first, sink)?;
-    take_clauses(alloc, terms, bound, levels, own, base, sink)?;
-    take_deletions(alloc, base, 2, fresh, sink)
+    derive_clauses(alloc, terms, bound, levels, own, base, sink)?;
+    derive_deletions(alloc, base, 2, fresh, sink)
 }

@@ -35,7 +35,7 @@ pub struct Diagram {
 }
 
 /// The levels, with the nodes of each in a list. Each map is given up once its nodes are listed.
-fn listed(alloc: Global, known: Vec<Known>) -> Result<Vec<Level>, AllocError>
+fn list_levels(alloc: Global, known: Vec<Known>) -> Result<Vec<Level>, AllocError>
     ensures { IfOk result (λ ls. ls.items ≡ known.items) }
 {
     let mut levels = Vec::new(alloc);
@@ -66,7 +66,7 @@ impl Diagram {
             Some(known) => known,
             None => return Ok(Built::Over),
         };
-        let levels = listed(alloc, known)?;
+        let levels = list_levels(alloc, known)?;
         let mut terms = Vec::new(alloc);
         terms.extend_from_slice(of.terms())?;
         let fresh = count_nodes(levels.as_slice());

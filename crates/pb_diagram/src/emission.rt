@@ -5,7 +5,7 @@ ghost use Rattle.pb_norm.specs.BoundedSums.{sum_within};
 ghost use Rattle.pb_family.specs.Handing.{Hands};
 ghost use Rattle.pb_diagram.specs.Clauses.{false_clause, true_clause, level_clauses, diagram_clauses, diagram_fresh};
 ghost use Rattle.pb_diagram.specs.Levels.{levels_of};
-ghost use Rattle.pb_diagram.specs.laws.Links.{HasPlace, Linked, StandApart};
+ghost use Rattle.pb_diagram.specs.inner.Links.{HasPlace, Linked, StandApart};
 
 use crate::interval::Interval;
 use crate::level::{Level, node_at, nodes_after};

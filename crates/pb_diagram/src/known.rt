@@ -2,7 +2,7 @@
 ghost use Rattle.std.specs.Prelude.{◌≡◌, ◌≤◌, ◌<◌, ◌⊎◌, [], List, Contains, OnOk, IfOk};
 ghost use Rattle.pb_diagram.specs.declared.interval.Interval.{Interval};
 ghost use Rattle.pb_diagram.specs.Intervals.{AreApart};
-ghost use Rattle.pb_diagram.specs.laws.Known.{intervals_of};
+ghost use Rattle.pb_diagram.specs.inner.Known.{intervals_of};
 ghost use Rattle.pb_diagram.specs.laws.Search.{IsFound, IsGrown};
 
 use crate::interval::Interval;
@@ -20,7 +20,7 @@ pub struct Known {
 impl Model for Known {
     ghost use Rattle.std.specs.Prelude.{List};
     ghost use Rattle.pb_diagram.specs.declared.interval.Interval.{Interval};
-    ghost use Rattle.pb_diagram.specs.laws.Known.{intervals_of};
+    ghost use Rattle.pb_diagram.specs.inner.Known.{intervals_of};
 
     ghost Value = { List Interval };
 

@@ -3,7 +3,7 @@ ghost use Rattle.std.specs.Prelude.{◌≡◌, ◌≤◌, ◌<◌, ◌+◌, ◌^
 ghost use Rattle.std.specs.List.{position_or_len};
 ghost use Rattle.pb_diagram.specs.Clauses.{node_at};
 ghost use Rattle.pb_diagram.specs.Levels.{lies_in};
-ghost use Rattle.pb_diagram.specs.laws.Links.{HasPlace, StandApart};
+ghost use Rattle.pb_diagram.specs.inner.Links.{HasPlace, StandApart};
 ghost use Rattle.pb_diagram.specs.laws.Search.{nodes_at};
 
 use crate::interval::Interval;

@@ -8,7 +8,7 @@ use Rattle.pb_family.specs.Handing.{HandsText, Stops}
 use Rattle.pb_family.specs.declared.sink.SinkFault.{SinkFault}
 use Rattle.pb_family.specs.declared.sink.SinkFault.TheVariants as fault
 use Rattle.pb_dimacs.specs.Outboxes.{hard_sink, slot_sink}
-use Rattle.pb_dimacs.specs.laws.OutboxSinks.{shown}
+use Rattle.pb_dimacs.specs.inner.WriteBufferSinks.{shown}
 use Rattle.pb_dimacs.proofs.Holding.{named_hands}
 
 -- the same sink with another lead

@@ -12,7 +12,7 @@ use Rattle.pb_dimacs.specs.CnfReading.{is_said, line_words, said_lines}
 use Rattle.pb_dimacs.specs.WcnfReading.{LinesSay, LineSays, WcnfReads, WeightedClause, hard_and_soft, soft_literal}
 use Rattle.pb_dimacs.specs.WcnfReading.WeightedClause.{hard}
 use Rattle.pb_dimacs.specs.WcnfText.{hard_text, offset_text, soft_text, softs_text, wcnf_text}
-use Rattle.pb_dimacs.specs.laws.WcnfLaws.{IsSoftWithin}
+use Rattle.pb_dimacs.specs.WcnfLaws.{IsSoftWithin}
 use Rattle.pb_dimacs.proofs.LineLemmas.{Inside, lines_break}
 use Rattle.pb_dimacs.proofs.NumberLemmas.{black_is_unbroken, digits_spell}
 use Rattle.pb_dimacs.proofs.Written.{Fits, clause_is_line, clause_line, clause_line_words, clause_words, clause_words_spell}

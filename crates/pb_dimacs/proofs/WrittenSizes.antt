@@ -9,7 +9,7 @@ use Rattle.pb_desk.specs.Lines.{lines_of}
 use Rattle.pb_family.specs.ClauseText.{literal_text, clauses_text}
 use Rattle.pb_dimacs.specs.CnfText.{cnf_text}
 use Rattle.pb_dimacs.specs.CnfReading.{IsLitWithin}
-use Rattle.pb_dimacs.specs.laws.CnfWholeLaws.{IsCnfWithin}
+use Rattle.pb_dimacs.specs.CnfWholeLaws.{IsCnfWithin}
 use Rattle.pb_dimacs.proofs.LineLemmas.{lines_break}
 use Rattle.pb_dimacs.proofs.Written.{clause_fits, clause_is_line, clause_line, clause_line-cons, header_is_line, header_line}
 

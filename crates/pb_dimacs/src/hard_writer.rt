@@ -3,7 +3,7 @@ ghost use Rattle.std.specs.Prelude.{◌≡◌, ◌<◌, [], IsTrue, OnOk};
 ghost use Rattle.std.specs.Fmt.{signed_decimal};
 ghost use Rattle.pb_family.specs.Handing.{HandsText};
 
-use crate::outbox::Outbox;
+use crate::outbox::WriteBuffer;
 use crate::writing::{flush, put_clause, put_text};
 use itoa::Buffer;
 use pb_base::{Failed, Lit};
@@ -16,7 +16,7 @@ use pb_family::{ClauseSink, SinkFault};
 pub struct HardWriter<'a, D: Desk> {
     desk: &'a mut D,
     slot: u8,
-    outbox: &'a mut Outbox,
+    outbox: &'a mut WriteBuffer,
     ghost is_slot: { slot < 2 },
     ghost is_open: { IsTrue ((D.state desk.now).view.writing slot) },
 }
@@ -41,7 +41,7 @@ impl<'a, D: Desk> HardWriter<'a, D> {
     ghost use Rattle.pb_dimacs.specs.Outboxes.{IsAllSent, Settles, held_in, hard_sink};
 
     /// Takes lines for an open slot, behind what the outbox holds.
-    pub fn new(desk: &'a mut D, slot: u8, outbox: &'a mut Outbox) -> HardWriter<'a, D>
+    pub fn new(desk: &'a mut D, slot: u8, outbox: &'a mut WriteBuffer) -> HardWriter<'a, D>
         requires kind { slot < 2 }
         requires open { IsTrue ((D.state desk.old).view.writing slot) }
         ensures { ⟦<HardWriter<'a, D> as ClauseSink>⟧.state result ≡ hard_sink desk.entry.ghost_name slot (held_in outbox.old) (D.state desk.old) }

@@ -3,7 +3,7 @@ ghost use Rattle.std.specs.Prelude.{◌≡◌, ◌<◌, ◌^◌, ◌∷◌, [], 
 ghost use Rattle.pb_family.specs.Handing.{HandsText};
 ghost use Rattle.pb_family.specs.StepSinks.{StepState, HandsSteps};
 
-use crate::outbox::Outbox;
+use crate::outbox::WriteBuffer;
 use crate::writing::{flush, put_text};
 use pb_base::Failed;
 use pb_desk::Desk;
@@ -16,7 +16,7 @@ use std::alloc::Global;
 pub struct StepWriter<'a, D: Desk> {
     desk: &'a mut D,
     slot: u8,
-    outbox: &'a mut Outbox,
+    outbox: &'a mut WriteBuffer,
     alloc: Global,
     line: &'a mut Vec<u8>,
     next: u64,
@@ -63,7 +63,7 @@ impl<'a, D: Desk> StepWriter<'a, D> {
         alloc: Global,
         desk: &'a mut D,
         slot: u8,
-        outbox: &'a mut Outbox,
+        outbox: &'a mut WriteBuffer,
         line: &'a mut Vec<u8>,
         next: u64,
     ) -> StepWriter<'a, D>

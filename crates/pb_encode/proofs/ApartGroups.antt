@@ -9,8 +9,8 @@ use Rattle.pb_base.specs.Problems.{originals}
 use Rattle.pb_norm.specs.Constraints.{Constraint}
 use Rattle.pb_norm.specs.Reduction.{rest_of}
 use Rattle.pb_totalizer.specs.Exact.{exact_clauses, exact_fresh, exact_size}
-use Rattle.pb_choice.specs.declared.options.EqualMode.TheVariants as mode
-use Rattle.pb_choice.specs.declared.options.Options.{Options}
+use Rattle.pb_base.specs.declared.options.EqualMode.TheVariants as mode
+use Rattle.pb_base.specs.declared.options.Options.{Options}
 use Rattle.pb_choice.specs.declared.treatment.Treatment.{Treatment}
 use Rattle.pb_choice.specs.declared.treatment.Treatment.TheVariants as treatment
 use Rattle.pb_choice.specs.Choice.{treatment_of}
@@ -22,7 +22,7 @@ use Rattle.pb_encode.specs.declared.groups.Group.{Group}
 use Rattle.pb_encode.specs.Groups.{all_members, group_count, group_fresh, groups_of, singles}
 use Rattle.pb_encode.specs.declared.groups.Group.TheVariants.{Alone, Paired}
 use Rattle.pb_encode.specs.Summaries.{counted_at, joint_at, place_of, treated, treated_in}
-use Rattle.pb_encode.specs.laws.Apart.{AreApart}
+use Rattle.pb_encode.specs.Apart.{AreApart}
 use Rattle.pb_encode.proofs.GroupLists.{members_loaded}
 
 -- no treatment has the place behind them

@@ -13,11 +13,11 @@ use Rattle.pb_norm.specs.BoundedSums.{StaysWithin}
 use Rattle.pb_norm.specs.Constraints.{Weighted, value}
 use Rattle.pb_norm.specs.Forced.{Forces}
 use Rattle.pb_norm.specs.Reduction.{by_weight}
-use Rattle.pb_norm.specs.laws.PropagationLaws.{AreAmong}
+use Rattle.pb_norm.specs.PropagationLaws.{AreAmong}
 use Rattle.pb_norm.proofs.PropagationMore.{ClauseConflict-more, ClausesReach-more}
 use Rattle.pb_norm.proofs.Solutions.{are_fronts}
 use Rattle.pb_norm.specs.ClausePropagation.{ClauseConflict, ClausesReach}
-use Rattle.pb_choice.specs.declared.options.Options.{Options}
+use Rattle.pb_base.specs.declared.options.Options.{Options}
 use Rattle.pb_gentot.specs.BoundTable.{IsTable, below, table_clauses, table_output, table_values}
 use Rattle.pb_gentot.specs.BoundTableLaws.{PropagatesUnder}
 use Rattle.pb_gentot.proofs.TableLaws.{table_propagates, table_sound}

@@ -8,7 +8,7 @@ use Rattle.pb_base.specs.declared.problem.Problem.{Problem}
 use Rattle.pb_base.proofs.Members.{Contains-here, Contains-there}
 use Rattle.pb_norm.specs.Constraints.{Weighted, weight}
 use Rattle.pb_norm.specs.Reduction.{by_weight}
-use Rattle.pb_choice.specs.declared.options.Options.{Options}
+use Rattle.pb_base.specs.declared.options.Options.{Options}
 use Rattle.pb_gentot.specs.BoundTable.{table_output, table_rows, table_values}
 use Rattle.pb_gentot.proofs.KeptTables.{no_values}
 use Rattle.pb_gentot.proofs.TableValues.{table_value_within}

@@ -11,7 +11,7 @@ use Rattle.pb_steps.specs.Sayable.{IsSayable}
 use Rattle.pb_derive.specs.Derivations.{Derives}
 use Rattle.pb_derive.specs.Short.{line_size}
 use Rattle.pb_family.specs.Derivations.{MayStart}
-use Rattle.pb_choice.specs.declared.options.Options.{Options}
+use Rattle.pb_base.specs.declared.options.Options.{Options}
 use Rattle.pb_choice.specs.Clauses.{constraint_clauses, constraint_count, constraint_fresh}
 use Rattle.pb_choice.specs.ConstraintSteps.{constraint_steps}
 use Rattle.pb_choice.specs.Readiness.{IsModest, IsReadyWith}

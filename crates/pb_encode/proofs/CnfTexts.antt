@@ -5,13 +5,13 @@ use Rattle.std.proofs.lemmas.List.Elements.{All-nil, All-head, All-tail, All-app
 use Rattle.pb_base.specs.declared.literal.Lit.{Lit}
 use Rattle.pb_base.specs.declared.problem.Problem.{Problem}
 use Rattle.pb_base.specs.Problems.{originals, IsWithinLimits}
-use Rattle.pb_dimacs.specs.laws.CnfWholeLaws.{IsCnfWithin, Tells}
+use Rattle.pb_dimacs.specs.CnfWholeLaws.{IsCnfWithin, Tells}
 use Rattle.pb_dimacs.proofs.Whole.{written_is_told}
 use Rattle.pb_dimacs.proofs.WrittenSizes.{written_within}
-use Rattle.pb_choice.specs.declared.options.Options.{Options}
+use Rattle.pb_base.specs.declared.options.Options.{Options}
 use Rattle.pb_choice.specs.Clauses.{constraint_clauses}
 use Rattle.pb_choice.specs.Equals.{equality_clauses}
-use Rattle.pb_choice.specs.laws.EqualityLaws.{IsEquality}
+use Rattle.pb_choice.specs.EqualityLaws.{IsEquality}
 use Rattle.pb_choice.proofs.FewInEqualities.{equality_few_literals}
 use Rattle.pb_choice.proofs.FewLiterals.{constraint_few_literals, table_few_literals}
 use Rattle.pb_gentot.specs.BoundTable.{table_clauses}

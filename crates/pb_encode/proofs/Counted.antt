@@ -4,7 +4,7 @@ use Rattle.pb_base.specs.declared.limit.LimitKind.{LimitKind}
 use Rattle.pb_base.specs.declared.limit.LimitKind.TheVariants as limit
 use Rattle.pb_base.specs.declared.problem.Problem.{Problem}
 use Rattle.pb_base.specs.Problems.{originals}
-use Rattle.pb_choice.specs.declared.options.Options.{Options}
+use Rattle.pb_base.specs.declared.options.Options.{Options}
 use Rattle.pb_choice.specs.declared.plans.Counts.{Counts}
 use Rattle.pb_encode.specs.Clauses.{problem_counts, problem_fresh}
 use Rattle.pb_encode.specs.Summaries.{summary_of, IsEncodable, IsOver}

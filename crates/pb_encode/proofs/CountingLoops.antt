@@ -1,11 +1,11 @@
 -- Groups of constraints that are counted one after another.
 use Rattle.std.proofs.Common.{◌≡◌, ℕ, List, All, [], ◌∷◌, ◌++◌, ap, sym, ◌∙◌, subst, append_assoc, append-nil}
 use Rattle.std.proofs.lemmas.List.Elements.{All-head, All-tail}
-use Rattle.pb_choice.specs.declared.options.Options.{Options}
+use Rattle.pb_base.specs.declared.options.Options.{Options}
 use Rattle.pb_encode.specs.declared.groups.Group.{Group}
 use Rattle.pb_encode.specs.declared.tally.Tally.{Tally}
-use Rattle.pb_encode.specs.laws.GroupPlans.{IsLightGroup, IsSound}
-use Rattle.pb_encode.specs.laws.Tallies.{Counts, IsTally}
+use Rattle.pb_encode.specs.inner.GroupPlans.{IsLightGroup, IsSound}
+use Rattle.pb_encode.specs.inner.Tallies.{Counts, IsTally}
 
 -- of all these groups a front was counted, and some are left
 pub record Counting (o : Options) (first : ℕ) (all left : List Group) (t : Tally) : Type 0 where

@@ -19,7 +19,7 @@ use Rattle.pb_derive.specs.Short.{AreShort, line_size}
 use Rattle.pb_derive.proofs.FollowedBy.{runs_next}
 use Rattle.pb_derive.proofs.Running.{runs_append}
 use Rattle.pb_derive.proofs.Short.{line_sized, lines_sized}
-use Rattle.pb_choice.specs.declared.options.Options.{Options}
+use Rattle.pb_base.specs.declared.options.Options.{Options}
 use Rattle.pb_choice.specs.Readiness.{LeavesIds}
 use Rattle.pb_gentot.specs.BoundTable.{table_clauses, table_fresh, table_size}
 use Rattle.pb_gentot.specs.BoundTableLaws.{IsSmallTable}
@@ -33,7 +33,7 @@ use Rattle.pb_encode.specs.Groups.{all_members, group_count, groups_of, singles,
 use Rattle.pb_encode.specs.Steps.{loaded_steps, problem_steps, steps_from}
 use Rattle.pb_encode.specs.Summaries.{IsEncodable}
 use Rattle.pb_encode.specs.Tables.{table_terms}
-use Rattle.pb_encode.specs.laws.Streams.{steps_at_next}
+use Rattle.pb_encode.specs.inner.Streams.{steps_at_next}
 use Rattle.pb_encode.proofs.ChoiceLaws.{bytes_small}
 use Rattle.pb_encode.proofs.GroupDerivations.{IsGroupLight, term_total}
 use Rattle.pb_encode.proofs.GroupLists.{members_loaded, size_loaded}
@@ -44,7 +44,7 @@ use Rattle.pb_encode.proofs.ProductSizes.{forms_clauses, terms-defining}
 use Rattle.pb_encode.proofs.Solutions.{forms_over, loaded_ready}
 use Rattle.pb_encode.proofs.SoundGroups.{groups_light, loaded_small, IsSmall}
 use Rattle.pb_encode.proofs.StepTexts.{text_within}
-use Rattle.pb_encode.proofs.StepTurns.{ids-most, ids_in}
+use Rattle.pb_encode.proofs.StepPositions.{ids-most, ids_in}
 use Rattle.pb_encode.proofs.TableTerms.{AreFit, table_fits}
 use Rattle.pb_encode.proofs.TallyLemmas.{length-loaded}
 

@@ -4,15 +4,15 @@ use Rattle.std.specs.Prelude.{◌⊎◌, Option, IsSomeAnd}
 use Rattle.pb_base.specs.declared.problem.Problem.{Problem}
 use Rattle.pb_desk.specs.View.{Made, Told, View}
 use Rattle.pb_desk.specs.Desk.{DeskState, IsTaken, Reaches}
-use Rattle.pb_choice.specs.declared.options.Options.{Options}
+use Rattle.pb_base.specs.declared.options.Options.{Options}
 use Rattle.pb_encode.specs.Encodings.{derivation_text, made, problem_text, AfterCnf, FileNames, IsCutOff, Lacks, WantsMemory}
 use Rattle.pb_encode.specs.Encodings.Lacks.{equal_names, for_proof}
 use Rattle.pb_encode.specs.Encodings.LacksToMake.{is_taken, no_room}
 use Rattle.pb_encode.specs.Encodings.StopsEncoding.{in_cnf as stops_in_cnf, in_proof as stops_in_proof}
 use Rattle.pb_encode.specs.Encodings.WantsMemory.{not_made, in_cnf, in_proof}
 use Rattle.pb_encode.specs.Summaries.{IsEncodable}
-use Rattle.pb_encode.specs.laws.Files.{IsCnfCutOff, LacksForProof, LeavesProof, StopsProof, WantsForCnf}
-use Rattle.pb_encode.specs.laws.Files.WantsForCnf.{not_made as cnf_not_made, in_text}
+use Rattle.pb_encode.specs.inner.Files.{IsCnfCutOff, LacksForProof, LeavesProof, StopsProof, WantsForCnf}
+use Rattle.pb_encode.specs.inner.Files.WantsForCnf.{not_made as cnf_not_made, in_text}
 
 module _ (o : Options) (p : Problem) (names : FileNames) (a : DeskState) where
   -- ---- in the CNF

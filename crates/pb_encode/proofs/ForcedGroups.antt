@@ -10,13 +10,13 @@ use Rattle.pb_norm.specs.ClauseForm.{clause_form}
 use Rattle.pb_norm.specs.ClausePropagation.{ClauseConflict, ClausesPropagate, ClausesReach}
 use Rattle.pb_norm.specs.Constraints.{Holds}
 use Rattle.pb_norm.specs.Propagation.{Propagates}
-use Rattle.pb_norm.specs.laws.PropagationLaws.{AreAmong}
+use Rattle.pb_norm.specs.PropagationLaws.{AreAmong}
 use Rattle.pb_norm.proofs.ClauseLift.{propagates_lifts}
 use Rattle.pb_norm.proofs.PropagationMore.{ClauseConflict-more, ClausesPropagate-more, ClausesReach-more}
 use Rattle.pb_totalizer.specs.ExactOutputs.{ReachesOutputs}
-use Rattle.pb_choice.specs.declared.options.Options.{Options}
+use Rattle.pb_base.specs.declared.options.Options.{Options}
 use Rattle.pb_choice.specs.Equals.{equality_clauses, literals_asked}
-use Rattle.pb_choice.specs.laws.EqualityLaws.{BothHold}
+use Rattle.pb_choice.specs.EqualityLaws.{BothHold}
 use Rattle.pb_choice.proofs.EqualityEncoded.{equalities_force, joint_equalities_force}
 use Rattle.pb_choice.proofs.Forced.{clauses-propagate}
 use Rattle.pb_gentot.specs.BoundTable.{table_clauses}

@@ -7,9 +7,9 @@ use Rattle.pb_norm.specs.BoundedSums.{vars_of}
 use Rattle.pb_norm.specs.Constraints.{Weighted, Constraint, Holds, Solves}
 use Rattle.pb_norm.proofs.Variables.{OfTerm, OfLit}
 use Rattle.pb_family.specs.Families.{IsNamed, NamesOnly, VarsBelow}
-use Rattle.pb_choice.specs.declared.options.Options.{Options}
+use Rattle.pb_base.specs.declared.options.Options.{Options}
 use Rattle.pb_choice.specs.Equals.{equality_clauses, equality_count, equality_fresh}
-use Rattle.pb_choice.specs.laws.EqualityLaws.{EncodesBoth, IsEquality}
+use Rattle.pb_choice.specs.EqualityLaws.{EncodesBoth, IsEquality}
 use Rattle.pb_choice.proofs.Composition.{IsOneBelow, IsReady}
 use Rattle.pb_choice.proofs.Encoded.{clauses-count, clauses-extend, clauses-sound, clauses-within}
 use Rattle.pb_choice.proofs.EqualityEncoded.{equalities_encode}

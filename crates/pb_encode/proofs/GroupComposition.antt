@@ -9,7 +9,7 @@ use Rattle.pb_base.proofs.Members.{All-append_both}
 use Rattle.pb_norm.specs.Constraints.{Holds, Solves}
 use Rattle.pb_norm.proofs.Agreement.{IsModel-agree}
 use Rattle.pb_norm.proofs.Variables.{OfLit}
-use Rattle.pb_choice.specs.declared.options.Options.{Options}
+use Rattle.pb_base.specs.declared.options.Options.{Options}
 use Rattle.pb_choice.proofs.Composition.{IsOneBelow, holds-agree}
 use Rattle.pb_choice.proofs.RestLaws.{IsTrueClause}
 use Rattle.pb_encode.specs.Clauses.{clauses_from, clause_total, fresh_total}

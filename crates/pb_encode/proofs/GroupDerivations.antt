@@ -13,11 +13,11 @@ use Rattle.pb_derive.specs.Later.{IsNumbered, IsUnnamed}
 use Rattle.pb_derive.specs.Short.{line_size}
 use Rattle.pb_family.specs.Derivations.{AreOriginal, MayStart}
 use Rattle.pb_family.specs.Families.{VarsBelow}
-use Rattle.pb_choice.specs.declared.options.Options.{Options}
+use Rattle.pb_base.specs.declared.options.Options.{Options}
 use Rattle.pb_choice.specs.Equals.{equality_count, equality_fresh}
 use Rattle.pb_choice.specs.EqualitySteps.{equality_steps}
 use Rattle.pb_choice.specs.Readiness.{LeavesIds}
-use Rattle.pb_choice.specs.laws.EqualityLaws.{IsModestEquality}
+use Rattle.pb_choice.specs.EqualityLaws.{IsModestEquality}
 use Rattle.pb_choice.proofs.Composition.{IsOneBelow}
 use Rattle.pb_choice.proofs.EqualityDerived.{equalities_derive}
 use Rattle.pb_choice.proofs.EqualitySizes.{equalities_brief, equalities_few, equalities_sayable}
@@ -27,7 +27,7 @@ use Rattle.pb_encode.specs.declared.groups.Group.TheVariants.{Alone, Paired}
 use Rattle.pb_encode.proofs.ChoiceLaws.{IsLight, IsSaid, constraint-derives, constraint-few, constraint-said, modest}
 use Rattle.pb_encode.proofs.GroupLists.{AreBoth, OfGroup}
 use Rattle.pb_encode.proofs.LoadedDatabases.{Stand}
-use Rattle.pb_encode.proofs.StepTurns.{leaves_next}
+use Rattle.pb_encode.proofs.StepPositions.{leaves_next}
 
 abbrev pub IsGroupLight : Options → ℕ → Group → Type 0
 IsGroupLight o n g = OfGroup (IsLight o n) g

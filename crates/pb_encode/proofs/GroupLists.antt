@@ -12,7 +12,7 @@ use Rattle.pb_base.proofs.Members.{All-append_both}
 use Rattle.pb_norm.specs.Constraints.{Constraint}
 use Rattle.pb_norm.specs.Halves.{constraints_of, half_of, halves_of, loaded}
 use Rattle.pb_norm.specs.Products.{defining, loaded_of}
-use Rattle.pb_choice.specs.laws.EqualityLaws.{AreHalves}
+use Rattle.pb_choice.specs.EqualityLaws.{AreHalves}
 use Rattle.pb_choice.proofs.EqualHalves.{statements_have_halves}
 use Rattle.pb_encode.specs.declared.groups.Group.{Group}
 use Rattle.pb_encode.specs.Groups.{all_members, group_of, group_size, grouped, groups_of, members, singles, size_total, statement_groups}

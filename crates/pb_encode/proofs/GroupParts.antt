@@ -3,7 +3,7 @@ use Rattle.std.proofs.Common.{◌≡◌, ◌≤◌, ◌<◌, ◌+◌, ℕ, refl,
 use Rattle.std.proofs.lemmas.List.Elements.{All-weaker}
 use Rattle.pb_norm.specs.Constraints.{Constraint, Weighted}
 use Rattle.pb_family.specs.Families.{VarsBelow}
-use Rattle.pb_choice.specs.declared.options.Options.{Options}
+use Rattle.pb_base.specs.declared.options.Options.{Options}
 use Rattle.pb_choice.specs.Clauses.{constraint_clauses, constraint_count, constraint_fresh}
 use Rattle.pb_choice.specs.ConstraintSteps.{constraint_steps}
 use Rattle.pb_encode.specs.declared.group_plan.GroupPlan.{GroupPlan}
@@ -11,7 +11,7 @@ use Rattle.pb_encode.specs.declared.group_plan.GroupPlan.TheVariants as plan
 use Rattle.pb_encode.specs.declared.groups.Group.{Group}
 use Rattle.pb_encode.specs.declared.groups.Group.TheVariants.{Alone, Paired}
 use Rattle.pb_encode.specs.Groups.{group_clauses, group_count, group_fresh, group_size, group_steps}
-use Rattle.pb_encode.specs.laws.GroupPlans.{plan_clauses, plan_count, plan_fresh, plan_size, plan_steps, IsGroupBelow, IsGroupPlan, IsPlanBelow, IsSound}
+use Rattle.pb_encode.specs.inner.GroupPlans.{plan_clauses, plan_count, plan_fresh, plan_size, plan_steps, IsGroupBelow, IsGroupPlan, IsPlanBelow, IsSound}
 
 pub record HasGroupParts (o : Options) (g : Group) (p : GroupPlan) : Type 0 where
   pub fresh_is : plan_fresh p ≡ group_fresh o g

@@ -2,7 +2,7 @@
 use Rattle.std.proofs.Common.{◌≡◌, ℕ, length, sym, ap, ◌∙◌}
 use Rattle.pb_base.specs.declared.problem.Problem.{Problem}
 use Rattle.pb_base.specs.Problems.{IsWithinLimits}
-use Rattle.pb_choice.specs.declared.options.Options.{Options}
+use Rattle.pb_base.specs.declared.options.Options.{Options}
 use Rattle.pb_dimacs.specs.CnfText.{header_text}
 use Rattle.pb_encode.specs.declared.summary.Summary.{Summary}
 use Rattle.pb_encode.specs.Clauses.{problem_clauses, problem_vars}

@@ -30,7 +30,7 @@ pub mod Residuals
 pub mod Solutions
 pub mod SoundGroups
 pub mod StepTexts
-pub mod StepTurns
+pub mod StepPositions
 pub mod StreamSteps
 pub mod TableStreams
 pub mod TableTerms

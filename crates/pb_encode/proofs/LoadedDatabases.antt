@@ -7,7 +7,7 @@ use Rattle.pb_norm.specs.Constraints.{Weighted, Constraint}
 use Rattle.pb_norm.proofs.Variables.{OfTerm}
 use Rattle.pb_steps.specs.Database.{Entry, Database, constraint_at, entry, loaded_database, numbered_from}
 use Rattle.pb_derive.specs.Later.{IsOther, IsNumbered, IsUnnamed, IsLater}
-use Rattle.pb_choice.specs.declared.options.Options.{Options}
+use Rattle.pb_base.specs.declared.options.Options.{Options}
 use Rattle.pb_choice.proofs.Composition.{IsOneBelow, IsReady}
 
 -- the constraints stand under neighbouring ids

@@ -13,7 +13,7 @@ use Rattle.pb_derive.specs.Later.{IsNumbered, IsUnnamed}
 use Rattle.pb_derive.specs.Short.{line_size}
 use Rattle.pb_derive.proofs.FollowedBy.{runs_next}
 use Rattle.pb_derive.proofs.Running.{runs_append}
-use Rattle.pb_choice.specs.declared.options.Options.{Options}
+use Rattle.pb_base.specs.declared.options.Options.{Options}
 use Rattle.pb_choice.specs.Readiness.{LeavesIds}
 use Rattle.pb_encode.specs.Clauses.{clauses_from, clause_total, fresh_total}
 use Rattle.pb_encode.specs.declared.groups.Group.{Group}
@@ -22,7 +22,7 @@ use Rattle.pb_encode.specs.Steps.{steps_from}
 use Rattle.pb_encode.proofs.GroupDerivations.{IsGroupLight, group-derives, group-few, group-said, term_total}
 use Rattle.pb_encode.proofs.GroupLists.{size-members}
 use Rattle.pb_encode.proofs.LoadedDatabases.{Stand, stand_first, stand_later, stand_rest}
-use Rattle.pb_encode.proofs.StepTurns.{ids_in, ids-append}
+use Rattle.pb_encode.proofs.StepPositions.{ids_in, ids-append}
 
 -- the constraints stand under neighbouring ids, and variables from a number on are new
 pub record IsStartOfAll (o : Options) (first id : ℕ) (gs : List Group) (db : Database) : Type 0 where

@@ -11,8 +11,8 @@ use Rattle.pb_encode.specs.Encodings.{begun, LeavesPart, StopsMaking}
 use Rattle.pb_encode.specs.Encodings.LacksToMake.{no_room}
 use Rattle.pb_encode.specs.Encodings.LeavesPart.{cut_off as leaves_cut, left}
 use Rattle.pb_encode.specs.Encodings.StopsMaking.{in_text}
-use Rattle.pb_encode.specs.laws.Sending.{LacksFor, Stops, StopsSending, WantsSending}
-use Rattle.pb_encode.specs.laws.Sending.WantsSending.{cut_off, sent}
+use Rattle.pb_encode.specs.inner.Sending.{LacksFor, Stops, StopsSending, WantsSending}
+use Rattle.pb_encode.specs.inner.Sending.WantsSending.{cut_off, sent}
 use Rattle.pb_encode.proofs.Residuals.{was_handed}
 
 -- a file that was just made has no room for what has no room

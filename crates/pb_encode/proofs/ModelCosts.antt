@@ -13,7 +13,7 @@ use Rattle.pb_norm.specs.Halves.{loaded}
 use Rattle.pb_norm.specs.Products.{defining}
 use Rattle.pb_norm.proofs.Agreement.{cut-agrees, lit_value-agree}
 use Rattle.pb_norm.proofs.Solutions.{all_widened}
-use Rattle.pb_choice.specs.declared.options.Options.{Options}
+use Rattle.pb_base.specs.declared.options.Options.{Options}
 use Rattle.pb_encode.specs.Clauses.{problem_clauses, problem_vars}
 use Rattle.pb_encode.specs.Models.{IsModelOver}
 use Rattle.pb_encode.specs.Weighted.{HasCostsOf}

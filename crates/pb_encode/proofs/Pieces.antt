@@ -7,7 +7,7 @@ use Rattle.pb_family.specs.Handing.{HandsIfMemory, Stops, lines_for}
 use Rattle.pb_family.specs.declared.sink.SinkFault.{SinkFault}
 use Rattle.pb_family.specs.declared.sink.SinkFault.TheVariants as fault
 use Rattle.pb_family.proofs.Taking.{fails_front, part_front, takes_nothing, takes_same, then_fails, then_part, then_takes}
-use Rattle.pb_encode.specs.laws.SendingTexts.{HandsTextIfMemory}
+use Rattle.pb_encode.specs.inner.SendingTexts.{HandsTextIfMemory}
 
 -- of a text a first part was taken, and a part is left
 pub record Sending {R : Type 0} (all left : List ℕ) (old now : SinkState R) : Type 0 where

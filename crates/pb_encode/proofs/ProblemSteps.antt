@@ -9,12 +9,12 @@ use Rattle.pb_steps.specs.declared.step.Step.TheVariants.{Head, Loaded, End}
 use Rattle.pb_family.specs.StepSinks.{StepState, TakesSteps, StopsInSteps, HandsSteps}
 use Rattle.pb_family.specs.declared.sink.SinkFault.{SinkFault}
 use Rattle.pb_family.proofs.Deriving.{Deriving, deriving_starts, deriving_step, steps_fault, steps_last}
-use Rattle.pb_choice.specs.declared.options.Options.{Options}
+use Rattle.pb_base.specs.declared.options.Options.{Options}
 use Rattle.pb_encode.specs.Steps.{loaded_steps, problem_steps}
 use Rattle.pb_encode.specs.Summaries.{IsEncodable}
-use Rattle.pb_encode.specs.laws.Streams.{steps_at_next}
+use Rattle.pb_encode.specs.inner.Streams.{steps_at_next}
 use Rattle.pb_encode.proofs.DerivedProblems.{loaded_count, whole_leave}
-use Rattle.pb_encode.proofs.StepTurns.{ids_in, stops_same_steps, takes_same_steps}
+use Rattle.pb_encode.proofs.StepPositions.{ids_in, stops_same_steps, takes_same_steps}
 
 module _ {R : Type 0} (o : Options) (p : Problem) (within : IsWithinLimits p) (encodable : IsEncodable o p) (a b c d : StepState R) (starts : a.next ≡ length (loaded_of p) + 1) where
   abbrev all : List Step

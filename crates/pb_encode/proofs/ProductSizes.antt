@@ -12,7 +12,7 @@ use Rattle.pb_norm.specs.Products.{plain, implied, implying, product_clauses, pr
 use Rattle.pb_norm.proofs.ClauseTerms.{form-short}
 use Rattle.pb_norm.proofs.ProductForms.{IsFormOver}
 use Rattle.pb_norm.proofs.ProductLemmas.{defining_more, length-product}
-use Rattle.pb_choice.specs.declared.options.Options.{Options}
+use Rattle.pb_base.specs.declared.options.Options.{Options}
 use Rattle.pb_choice.specs.Clauses.{constraint_clauses, constraint_count}
 use Rattle.pb_choice.proofs.Encoded.{clauses-count, clauses-sound}
 use Rattle.pb_choice.proofs.RestLaws.{IsTrueClause}

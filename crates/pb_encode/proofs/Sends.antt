@@ -8,7 +8,7 @@ use Rattle.pb_family.specs.declared.sink.SinkFault.{SinkFault}
 use Rattle.pb_family.specs.declared.sink.SinkFault.TheVariants as fault
 use Rattle.pb_family.proofs.Taking.{fails_front, fails_same, takes_same, then_fails, then_takes}
 use Rattle.pb_dimacs.specs.Outboxes.{Settles}
-use Rattle.pb_encode.specs.laws.SendingTexts.{BreaksOff, SendsText}
+use Rattle.pb_encode.specs.inner.SendingTexts.{BreaksOff, SendsText}
 
 module _ {R : Type 0} (text : List ℕ) (a b c : SinkState R) where
   -- the sink failed behind a first part of the text

@@ -23,7 +23,7 @@ use Rattle.pb_norm.proofs.Solutions.{are_fronts}
 use Rattle.pb_norm.proofs.NetBounds.{made-linear}
 use Rattle.pb_norm.proofs.ProductForms.{IsFormOver, defining_over}
 use Rattle.pb_norm.proofs.Variables.{OfLit, OfTerm, OfWritten, IsOver, loaded-vars}
-use Rattle.pb_choice.specs.declared.options.Options.{Options}
+use Rattle.pb_base.specs.declared.options.Options.{Options}
 use Rattle.pb_choice.proofs.Composition.{IsOneBelow, IsReady, holds-agree}
 use Rattle.pb_dimacs.specs.CnfReading.{IsLitWithin}
 use Rattle.pb_gentot.specs.BoundTable.{table_clauses, table_fresh, table_output, table_values}

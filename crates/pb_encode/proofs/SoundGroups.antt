@@ -16,12 +16,12 @@ use Rattle.pb_norm.proofs.ClauseTerms.{length-weight}
 use Rattle.pb_norm.proofs.ProductForms.{IsFormOver}
 use Rattle.pb_norm.proofs.Variables.{OfTerm}
 use Rattle.pb_family.specs.Families.{VarsBelow}
-use Rattle.pb_choice.specs.declared.options.Options.{Options}
+use Rattle.pb_base.specs.declared.options.Options.{Options}
 use Rattle.pb_choice.proofs.Composition.{IsOneBelow, IsReady}
 use Rattle.pb_encode.specs.declared.groups.Group.{Group}
 use Rattle.pb_encode.specs.declared.groups.Group.TheVariants.{Alone, Paired}
 use Rattle.pb_encode.specs.Groups.{groups_of}
-use Rattle.pb_encode.specs.laws.GroupPlans.{IsSound}
+use Rattle.pb_encode.specs.inner.GroupPlans.{IsSound}
 use Rattle.pb_encode.proofs.ChoiceLaws.{IsLight}
 use Rattle.pb_encode.proofs.GroupDerivations.{IsGroupLight}
 use Rattle.pb_encode.proofs.GroupLists.{groups_by, groups_matched, members_loaded}

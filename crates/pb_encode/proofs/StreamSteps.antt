@@ -8,11 +8,11 @@ use Rattle.pb_family.specs.Sinks.{SinkState}
 use Rattle.pb_family.specs.declared.sink.SinkFault.{SinkFault}
 use Rattle.pb_family.proofs.Emission.{Emitting, emitting_ends, emitting_from, emitting_step}
 use Rattle.pb_family.proofs.Stopping.{stops_fault}
-use Rattle.pb_choice.specs.declared.options.Options.{Options}
+use Rattle.pb_base.specs.declared.options.Options.{Options}
 use Rattle.pb_encode.specs.declared.groups.Group.{Group}
 use Rattle.pb_encode.specs.Clauses.{clauses_from, fresh_total}
 use Rattle.pb_encode.specs.Groups.{group_clauses, group_fresh}
-use Rattle.pb_encode.specs.laws.GroupPlans.{IsSound}
+use Rattle.pb_encode.specs.inner.GroupPlans.{IsSound}
 use Rattle.pb_encode.proofs.GroupParts.{sound_later}
 
 -- of the clauses of all these groups those of some are left, whose fresh variables begin with a number

@@ -12,7 +12,7 @@ use Rattle.pb_family.specs.declared.sink.SinkFault.{SinkFault}
 use Rattle.pb_family.proofs.Deriving.{deriving_as, deriving_starts, deriving_step, steps_fault, steps_last}
 use Rattle.pb_family.proofs.Emission.{emitting_starts, emitting_step}
 use Rattle.pb_family.proofs.Stopping.{stops_last}
-use Rattle.pb_choice.specs.declared.options.Options.{Options}
+use Rattle.pb_base.specs.declared.options.Options.{Options}
 use Rattle.pb_choice.specs.Readiness.{LeavesIds}
 use Rattle.pb_gentot.specs.BoundTable.{table_clauses}
 use Rattle.pb_gentot.specs.BoundTableSteps.{table_steps}
@@ -21,9 +21,9 @@ use Rattle.pb_encode.specs.Groups.{groups_of}
 use Rattle.pb_encode.specs.Steps.{steps_from}
 use Rattle.pb_encode.specs.Summaries.{IsEncodable}
 use Rattle.pb_encode.specs.Tables.{table_terms}
-use Rattle.pb_encode.specs.laws.Streams.{steps_at_next}
+use Rattle.pb_encode.specs.inner.Streams.{steps_at_next}
 use Rattle.pb_encode.proofs.DerivedProblems.{loaded_leave}
-use Rattle.pb_encode.proofs.StepTurns.{ids_in, stops_same_steps, takes_same_steps}
+use Rattle.pb_encode.proofs.StepPositions.{ids_in, stops_same_steps, takes_same_steps}
 
 -- ---- the clauses
 

@@ -16,7 +16,7 @@ use Rattle.pb_norm.proofs.Sorting.{by_weight-all, by_weight-apart, by_weight-sum
 use Rattle.pb_norm.proofs.Variables.{OfTerm, OfWritten, normal_terms-vars}
 use Rattle.pb_norm.proofs.WrittenForm.{normal_terms-ascending, normal_terms-positive, normal_terms-weight}
 use Rattle.pb_family.specs.Families.{VarsBelow}
-use Rattle.pb_choice.specs.declared.options.Options.{Options}
+use Rattle.pb_base.specs.declared.options.Options.{Options}
 use Rattle.pb_choice.proofs.Composition.{IsOneBelow}
 use Rattle.pb_gentot.specs.BoundTable.{IsTable}
 use Rattle.pb_encode.specs.Tables.{table_terms}

@@ -14,7 +14,7 @@ use Rattle.pb_norm.specs.Halves.{half_of, halves_of, constraints_of, loaded}
 use Rattle.pb_norm.specs.Products.{defining}
 use Rattle.pb_norm.specs.Reduction.{rest_of}
 use Rattle.pb_norm.proofs.ProductForms.{length-defining}
-use Rattle.pb_choice.specs.declared.options.Options.{Options}
+use Rattle.pb_base.specs.declared.options.Options.{Options}
 use Rattle.pb_choice.specs.Choice.{treatment_of}
 use Rattle.pb_choice.specs.Clauses.{constraint_count, constraint_fresh}
 use Rattle.pb_choice.specs.Equals.{equality_count, equality_fresh, is_joint, literals_asked}
@@ -29,7 +29,7 @@ use Rattle.pb_encode.specs.Groups.{group_count, group_fresh, group_size, groups_
 use Rattle.pb_encode.specs.declared.groups.Group.TheVariants.{Alone, Paired}
 use Rattle.pb_encode.specs.Summaries.{IsEncodable, counted_at, is_at, joint_at, place_of, treated, treated_in, treatments_of, summary_of}
 use Rattle.pb_encode.specs.Tables.{table_terms}
-use Rattle.pb_encode.specs.laws.Tallies.{capped, AddsJoint, IsTally}
+use Rattle.pb_encode.specs.inner.Tallies.{capped, AddsJoint, IsTally}
 use Rattle.pb_encode.proofs.GroupLists.{size_loaded}
 
 capped-sum : (a b n : ℕ) → n ≡ a + b → capped n ≡ capped (capped a + b)

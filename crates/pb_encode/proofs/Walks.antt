@@ -9,7 +9,7 @@ use Rattle.pb_norm.specs.Products.{plain, defining, product_clauses, product_con
 use Rattle.pb_norm.proofs.ProductLemmas.{length-product, product-at}
 use Rattle.pb_encode.specs.declared.groups.Group.TheVariants.{Alone}
 use Rattle.pb_encode.specs.Groups.{singles, statement_groups}
-use Rattle.pb_encode.specs.laws.Walks.{groups_left}
+use Rattle.pb_encode.specs.inner.Walks.{groups_left}
 
 -- the next constraint of the first product that is left
 module _ (vars : ℕ) (products rest : List (List Lit)) (ls : List Lit) (parts : products ≡ ls ∷ rest) (place : ℕ) (le : place ≤ length ls) (c : Constraint) (is : c ≡ clause_form (get_or (product_clauses (plain (vars + 1)) ls) place [])) (statements : List Raw) where

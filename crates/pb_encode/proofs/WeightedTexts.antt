@@ -16,9 +16,9 @@ use Rattle.pb_norm.proofs.Variables.{OfTerm, normal_terms-vars}
 use Rattle.pb_norm.proofs.WrittenForm.{normal_degree-le, normal_terms-positive, normal_terms-weight}
 use Rattle.pb_dimacs.specs.CnfReading.{IsLitWithin}
 use Rattle.pb_dimacs.specs.WcnfReading.{WcnfReads, hard_and_soft}
-use Rattle.pb_dimacs.specs.laws.WcnfLaws.{IsSoftWithin}
+use Rattle.pb_dimacs.specs.WcnfLaws.{IsSoftWithin}
 use Rattle.pb_dimacs.proofs.WcnfWritten.{written_wcnf_reads}
-use Rattle.pb_choice.specs.declared.options.Options.{Options}
+use Rattle.pb_base.specs.declared.options.Options.{Options}
 use Rattle.pb_encode.specs.Clauses.{problem_clauses, problem_vars}
 use Rattle.pb_encode.specs.Costs.{offset_of, softs_of}
 use Rattle.pb_encode.specs.Summaries.{IsEncodable}

@@ -13,10 +13,10 @@ use Rattle.pb_dimacs.proofs.Holding.{reaches_whole, reaches_part, fails_part, la
 use Rattle.pb_dimacs.proofs.Leads.{fails_led, led, takes_led}
 use Rattle.pb_encode.specs.declared.fault.EncodeFault.{EncodeFault}
 use Rattle.pb_encode.specs.declared.fault.EncodeFault.TheVariants as fault
-use Rattle.pb_encode.specs.Faults.{of_sink}
-use Rattle.pb_encode.specs.laws.Sending.{LacksFor, Stops, StopsSending, WantsSending}
-use Rattle.pb_encode.specs.laws.Sending.WantsSending.{cut_off, sent}
-use Rattle.pb_encode.specs.laws.SendingTexts.{BreaksOff}
+use Rattle.pb_encode.specs.inner.Faults.{of_sink}
+use Rattle.pb_encode.specs.inner.Sending.{LacksFor, Stops, StopsSending, WantsSending}
+use Rattle.pb_encode.specs.inner.Sending.WantsSending.{cut_off, sent}
+use Rattle.pb_encode.specs.inner.SendingTexts.{BreaksOff}
 use Rattle.pb_encode.proofs.Residuals.{on_fault, was_handed}
 
 -- what the sink stands over stays in whichever way it was stopped

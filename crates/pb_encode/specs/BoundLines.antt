@@ -5,7 +5,7 @@ use Rattle.std.specs.Fmt.{signed_decimal}
 use Rattle.pb_base.specs.declared.literal.Lit.{Lit}
 use Rattle.pb_base.specs.declared.problem.Problem.{Problem}
 use Rattle.pb_family.specs.ClauseText.{literal_text}
-use Rattle.pb_choice.specs.declared.options.Options.{Options}
+use Rattle.pb_base.specs.declared.options.Options.{Options}
 use Rattle.pb_encode.specs.Bounds.{bound_rows}
 use Rattle.pb_encode.specs.Summaries.{summary_of, summary_text}
 

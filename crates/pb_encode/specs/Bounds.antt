@@ -5,10 +5,10 @@ use Rattle.pb_base.specs.declared.problem.Problem.{Problem}
 use Rattle.pb_base.specs.Literals.{Assignment, assigned_by, lit_value, negated}
 use Rattle.pb_base.specs.Problems.{IsSolution, objective_terms, sum_value, widened}
 use Rattle.pb_norm.specs.Constraints.{value}
-use Rattle.pb_choice.specs.declared.options.Options.{Options}
+use Rattle.pb_base.specs.declared.options.Options.{Options}
 use Rattle.pb_gentot.specs.BoundTable.{table_rows}
 use Rattle.pb_gentot.specs.BoundTableLaws.{PropagatesUnder}
-use Rattle.pb_gentot.specs.laws.Rising.{Rising}
+use Rattle.pb_gentot.specs.Rising.{Rising}
 use Rattle.pb_encode.specs.Clauses.{table_first}
 use Rattle.pb_encode.specs.Costs.{objective_form, offset_of}
 use Rattle.pb_encode.specs.Models.{IsModelOver}

@@ -7,7 +7,7 @@ use Rattle.pb_steps.specs.Database.{Database, loaded_database}
 use Rattle.pb_steps.specs.Runs.{Runs}
 use Rattle.pb_steps.specs.Sayable.{IsSayable}
 use Rattle.pb_family.specs.StepSinks.{steps_text}
-use Rattle.pb_choice.specs.declared.options.Options.{Options}
+use Rattle.pb_base.specs.declared.options.Options.{Options}
 use Rattle.pb_dimacs.specs.CnfWhole.{IsTextWithin}
 use Rattle.pb_encode.specs.Clauses.{problem_clauses, problem_count, problem_fresh, problem_vars}
 use Rattle.pb_encode.specs.Steps.{loaded_steps, problem_steps}

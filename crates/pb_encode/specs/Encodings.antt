@@ -6,7 +6,7 @@ use Rattle.pb_desk.specs.View.{View, created, wrote, closed}
 use Rattle.pb_desk.specs.Desk.{DeskState, Reaches, FailsToWrite, IsSteady, IsTaken, IsTold, same}
 use Rattle.pb_dimacs.specs.CnfText.{cnf_text}
 use Rattle.pb_family.specs.StepSinks.{steps_text}
-use Rattle.pb_choice.specs.declared.options.Options.{Options}
+use Rattle.pb_base.specs.declared.options.Options.{Options}
 use Rattle.pb_encode.specs.declared.encoding.Names.{Names}
 use Rattle.pb_encode.specs.Clauses.{problem_clauses, problem_vars}
 use Rattle.pb_encode.specs.Steps.{problem_steps}

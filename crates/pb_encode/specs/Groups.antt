@@ -11,7 +11,7 @@ use Rattle.pb_norm.specs.Constraints.{Constraint}
 use Rattle.pb_norm.specs.Halves.{half_of}
 use Rattle.pb_norm.specs.Products.{defining}
 use Rattle.pb_steps.specs.declared.step.Step.{Step}
-use Rattle.pb_choice.specs.declared.options.Options.{Options}
+use Rattle.pb_base.specs.declared.options.Options.{Options}
 use Rattle.pb_choice.specs.Clauses.{constraint_clauses, constraint_count, constraint_fresh}
 use Rattle.pb_choice.specs.ConstraintSteps.{constraint_steps}
 use Rattle.pb_choice.specs.Equals.{equality_clauses, equality_count, equality_fresh}

@@ -7,10 +7,10 @@ use Rattle.pb_base.specs.Problems.{IsSolution}
 use Rattle.pb_norm.specs.Constraints.{Constraint, Holds}
 use Rattle.pb_norm.specs.ClauseForm.{clause_form}
 use Rattle.pb_norm.specs.Propagation.{Propagates}
-use Rattle.pb_choice.specs.declared.options.Options.{Options}
+use Rattle.pb_base.specs.declared.options.Options.{Options}
 use Rattle.pb_choice.specs.Choice.{IsSentToAdder}
 use Rattle.pb_choice.specs.Equals.{is_joint, literals_asked}
-use Rattle.pb_choice.specs.laws.EqualityLaws.{BothHold, IsHalfSentToAdder}
+use Rattle.pb_choice.specs.EqualityLaws.{BothHold, IsHalfSentToAdder}
 use Rattle.pb_totalizer.specs.ExactOutputs.{ReachesOutputs}
 use Rattle.pb_encode.specs.declared.groups.Group.{Group}
 use Rattle.pb_encode.specs.Groups.{group_fresh}

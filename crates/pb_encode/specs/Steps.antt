@@ -6,7 +6,7 @@ use Rattle.pb_norm.specs.Products.{loaded_of}
 use Rattle.pb_steps.specs.declared.step.Step.{Step}
 use Rattle.pb_steps.specs.declared.step.Step.TheVariants.{Head, Loaded, End}
 use Rattle.pb_derive.specs.FollowedBy.{followed_by}
-use Rattle.pb_choice.specs.declared.options.Options.{Options}
+use Rattle.pb_base.specs.declared.options.Options.{Options}
 use Rattle.pb_gentot.specs.BoundTableSteps.{table_steps}
 use Rattle.pb_encode.specs.Clauses.{table_first}
 use Rattle.pb_encode.specs.declared.groups.Group.{Group}

@@ -5,7 +5,7 @@ use Rattle.pb_base.specs.declared.limit.LimitKind.TheVariants as limit
 use Rattle.pb_base.specs.declared.problem.Problem.{Problem}
 use Rattle.pb_norm.specs.Constraints.{Constraint}
 use Rattle.pb_norm.specs.Reduction.{rest_of}
-use Rattle.pb_choice.specs.declared.options.Options.{Options}
+use Rattle.pb_base.specs.declared.options.Options.{Options}
 use Rattle.pb_choice.specs.declared.treatment.Treatment.{Treatment}
 use Rattle.pb_choice.specs.declared.treatment.Treatment.TheVariants as treatment
 use Rattle.pb_choice.specs.Choice.{treatment_of}

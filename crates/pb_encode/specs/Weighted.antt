@@ -5,7 +5,7 @@ use Rattle.pb_base.specs.Literals.{assigned_by}
 use Rattle.pb_base.specs.Problems.{objective_terms, sum_value, widened}
 use Rattle.pb_desk.specs.Desk.{DeskState, Reaches, same}
 use Rattle.pb_dimacs.specs.WcnfText.{wcnf_text}
-use Rattle.pb_choice.specs.declared.options.Options.{Options}
+use Rattle.pb_base.specs.declared.options.Options.{Options}
 use Rattle.pb_encode.specs.Clauses.{problem_clauses, problem_vars}
 use Rattle.pb_encode.specs.Costs.{cost_under, offset_of, softs_of}
 use Rattle.pb_encode.specs.Encodings.{LacksToMake, LeavesPart, StopsMaking}

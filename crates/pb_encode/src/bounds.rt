@@ -14,8 +14,7 @@ use crate::objective::offset_of;
 use crate::summary::{Summary, push_count, summary_text};
 use crate::table::table_within;
 use itoa::Buffer;
-use pb_base::{Lit, NoMemory, Problem};
-use pb_choice::Options;
+use pb_base::{Lit, NoMemory, Options, Problem};
 use pb_gentot::BoundTable;
 use std::alloc::{AllocError, Global};
 

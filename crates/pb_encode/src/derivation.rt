@@ -7,18 +7,17 @@ ghost use Rattle.pb_choice.specs.Readiness.{LeavesIds};
 ghost use Rattle.pb_encode.specs.Clauses.{clause_total, fresh_total};
 ghost use Rattle.pb_encode.specs.Groups.{group_count, group_fresh, group_size, group_steps, groups_of};
 ghost use Rattle.pb_encode.specs.Steps.{steps_from};
-ghost use Rattle.pb_encode.specs.laws.GroupPlans.{plan_count, plan_fresh, plan_size, plan_steps, IsPlanBelow, IsSound};
+ghost use Rattle.pb_encode.specs.inner.GroupPlans.{plan_count, plan_fresh, plan_size, plan_steps, IsPlanBelow, IsSound};
 
 use crate::group_plan::{GroupPlan, plan_group};
 use crate::groups::{Group, Groups};
-use pb_base::Problem;
-use pb_choice::Options;
+use pb_base::{Options, Problem};
 use pb_family::{SinkFault, StepSink};
 use std::alloc::Global;
 
 /// Where the derivation of a group stands: its first fresh variable, and the id of its first constraint.
 #[derive(Drop)]
-pub struct Turn {
+pub struct Position {
     pub first: u32,
     pub id: u64,
 }
@@ -28,24 +27,24 @@ pub struct Turn {
 fn derive_plan<T: StepSink>(
     alloc: Global,
     plan: &GroupPlan<'_>,
-    turn: Turn,
+    position: Position,
     sink: &mut T,
-) -> Result<Turn, SinkFault>
-    requires below { IsPlanBelow turn.first plan.now }
-    requires low { 1 ≤ turn.first }
-    requires fits { turn.first + plan_fresh plan.now ≤ 2 ^ 31 }
+) -> Result<Position, SinkFault>
+    requires below { IsPlanBelow position.first plan.now }
+    requires low { 1 ≤ position.first }
+    requires fits { position.first + plan_fresh plan.now ≤ 2 ^ 31 }
     requires counted { plan_count plan.now ≤ 2 ^ 56 }
-    requires given { 1 ≤ turn.id }
-    requires known { turn.id + plan_size plan.now ≤ (T.state sink.old).next }
-    requires few { LeavesIds (plan_steps plan.now turn.first turn.id) (T.state sink.old).next }
-    ensures first { IfOk result (λ next. next.first ≡ turn.first + plan_fresh plan.now) }
-    ensures id { IfOk result (λ next. next.id ≡ turn.id + plan_size plan.now) }
-    ensures hands { HandsFrom (plan_steps plan.now turn.first turn.id) result (T.state sink.old) (T.state sink.new) }
+    requires given { 1 ≤ position.id }
+    requires known { position.id + plan_size plan.now ≤ (T.state sink.old).next }
+    requires few { LeavesIds (plan_steps plan.now position.first position.id) (T.state sink.old).next }
+    ensures first { IfOk result (λ next. next.first ≡ position.first + plan_fresh plan.now) }
+    ensures id { IfOk result (λ next. next.id ≡ position.id + plan_size plan.now) }
+    ensures hands { HandsFrom (plan_steps plan.now position.first position.id) result (T.state sink.old) (T.state sink.new) }
 {
-    plan.derive(alloc, turn.first, turn.id, sink)?;
-    Ok(Turn {
-        first: turn.first + plan.counts().fresh as u32,
-        id: turn.id + plan.size(),
+    plan.derive(alloc, position.first, position.id, sink)?;
+    Ok(Position {
+        first: position.first + plan.counts().fresh as u32,
+        id: position.id + plan.size(),
     })
 }
 
@@ -54,23 +53,23 @@ fn derive_group<T: StepSink>(
     alloc: Global,
     group: &Group,
     options: &Options,
-    turn: Turn,
+    position: Position,
     sink: &mut T,
-) -> Result<Turn, SinkFault>
-    requires sound { IsSound turn.first group.now }
-    requires low { 1 ≤ turn.first }
+) -> Result<Position, SinkFault>
+    requires sound { IsSound position.first group.now }
+    requires low { 1 ≤ position.first }
     requires modest { options.now.budget ≤ 10000000 }
-    requires fits { turn.first + group_fresh options.now group.now ≤ 2 ^ 31 }
+    requires fits { position.first + group_fresh options.now group.now ≤ 2 ^ 31 }
     requires counted { group_count options.now group.now ≤ 2 ^ 56 }
-    requires given { 1 ≤ turn.id }
-    requires known { turn.id + group_size group.now ≤ (T.state sink.old).next }
-    requires few { LeavesIds (group_steps options.now group.now turn.first turn.id) (T.state sink.old).next }
-    ensures first { IfOk result (λ next. next.first ≡ turn.first + group_fresh options.now group.now) }
-    ensures id { IfOk result (λ next. next.id ≡ turn.id + group_size group.now) }
-    ensures hands { HandsFrom (group_steps options.now group.now turn.first turn.id) result (T.state sink.old) (T.state sink.new) }
+    requires given { 1 ≤ position.id }
+    requires known { position.id + group_size group.now ≤ (T.state sink.old).next }
+    requires few { LeavesIds (group_steps options.now group.now position.first position.id) (T.state sink.old).next }
+    ensures first { IfOk result (λ next. next.first ≡ position.first + group_fresh options.now group.now) }
+    ensures id { IfOk result (λ next. next.id ≡ position.id + group_size group.now) }
+    ensures hands { HandsFrom (group_steps options.now group.now position.first position.id) result (T.state sink.old) (T.state sink.new) }
 {
     let plan = plan_group(alloc, group, options)?;
-    derive_plan(alloc, &plan, turn, sink)
+    derive_plan(alloc, &plan, position, sink)
 }
 
 /// Hands over the derivations of all constraints of a problem, and gives where the next one stands. Each constraint is planned
@@ -79,21 +78,21 @@ pub fn derive_loaded<T: StepSink>(
     alloc: Global,
     problem: &Problem,
     options: &Options,
-    turn: Turn,
+    position: Position,
     sink: &mut T,
-) -> Result<Turn, SinkFault>
+) -> Result<Position, SinkFault>
     requires within { IsWithinLimits problem.now }
-    requires vars { originals problem.now < turn.first }
+    requires vars { originals problem.now < position.first }
     requires modest { options.now.budget ≤ 10000000 }
-    requires fits { turn.first + fresh_total options.now (groups_of problem.now) ≤ 2 ^ 31 }
+    requires fits { position.first + fresh_total options.now (groups_of problem.now) ≤ 2 ^ 31 }
     requires counted { clause_total options.now (groups_of problem.now) ≤ 2 ^ 56 }
-    requires given { 1 ≤ turn.id }
-    requires known { turn.id + length (loaded_of problem.now) ≤ (T.state sink.old).next }
-    requires few { LeavesIds (steps_from options.now turn.first turn.id (groups_of problem.now)) (T.state sink.old).next }
-    ensures first { IfOk result (λ next. next.first ≡ turn.first + fresh_total options.now (groups_of problem.now)) }
-    ensures hands { HandsFrom (steps_from options.now turn.first turn.id (groups_of problem.now)) result (T.state sink.old) (T.state sink.new) }
+    requires given { 1 ≤ position.id }
+    requires known { position.id + length (loaded_of problem.now) ≤ (T.state sink.old).next }
+    requires few { LeavesIds (steps_from options.now position.first position.id (groups_of problem.now)) (T.state sink.old).next }
+    ensures first { IfOk result (λ next. next.first ≡ position.first + fresh_total options.now (groups_of problem.now)) }
+    ensures hands { HandsFrom (steps_from options.now position.first position.id (groups_of problem.now)) result (T.state sink.old) (T.state sink.new) }
 {
-    let mut next = turn;
+    let mut next = position;
     let mut groups = Groups::of(problem);
     while let Some(group) = groups.next(alloc)? {
         next = derive_group(alloc, &group, options, next, sink)?;

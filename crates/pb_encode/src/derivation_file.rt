@@ -8,17 +8,16 @@ ghost use Rattle.pb_dimacs.specs.Outboxes.{IsAllSent};
 ghost use Rattle.pb_norm.specs.Halves.{constraints_of, loaded};
 ghost use Rattle.pb_norm.specs.Products.{defining, loaded_of};
 ghost use Rattle.pb_encode.specs.Encodings.{derivation_text, made};
-ghost use Rattle.pb_encode.specs.laws.Files.{LacksForProof, LeavesProof, StopsProof};
-ghost use Rattle.pb_encode.specs.laws.Sending.{LacksFor, Stops};
-ghost use Rattle.pb_encode.specs.laws.SendingTexts.{SendsText};
+ghost use Rattle.pb_encode.specs.inner.Files.{LacksForProof, LeavesProof, StopsProof};
+ghost use Rattle.pb_encode.specs.inner.Sending.{LacksFor, Stops};
+ghost use Rattle.pb_encode.specs.inner.SendingTexts.{SendsText};
 ghost use Rattle.pb_encode.specs.Summaries.{IsEncodable};
 
 use crate::fault::EncodeFault;
 use crate::whole::stream_steps;
-use pb_base::{Lits, Problem, Raw};
-use pb_choice::Options;
+use pb_base::{Lits, Options, Problem, Raw};
 use pb_desk::Desk;
-use pb_dimacs::{Outbox, StepWriter};
+use pb_dimacs::{StepWriter, WriteBuffer};
 use pb_family::{SinkFault, StepSink};
 use pb_norm::halves_of;
 use std::alloc::Global;
@@ -107,7 +106,7 @@ fn write_steps<D: Desk>(
     ensures steady { IsSteady (D.state desk.old) → result ≡ Err EncodeFault.WriteFault → LacksFor 1 (derivation_text options.now problem.now) (D.state desk.old) }
 {
     let next = count_loaded(problem) + 1;
-    let mut outbox = Outbox::new(alloc)?;
+    let mut outbox = WriteBuffer::new(alloc)?;
     let mut line = Vec::new(alloc);
     let mut writer = StepWriter::new(alloc, desk, 1, &mut outbox, &mut line, next);
     send_steps(alloc, problem, options, &mut writer)?;

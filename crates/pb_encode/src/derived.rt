@@ -1,8 +1,8 @@
 //! What the files of a problem show to whoever checks them.
 ghost use Rattle.pb_base.specs.declared.problem.Problem.{Problem};
 ghost use Rattle.pb_base.specs.Problems.{IsWithinLimits};
-ghost use Rattle.pb_choice.specs.declared.options.Options.{Options};
-ghost use Rattle.pb_dimacs.specs.laws.CnfWholeLaws.{Tells};
+ghost use Rattle.pb_base.specs.declared.options.Options.{Options};
+ghost use Rattle.pb_dimacs.specs.CnfWholeLaws.{Tells};
 ghost use Rattle.pb_encode.specs.Clauses.{problem_clauses, problem_vars};
 ghost use Rattle.pb_encode.specs.Derived.{IsDerived};
 ghost use Rattle.pb_encode.specs.Encodings.{problem_text};

@@ -6,9 +6,9 @@ ghost use Rattle.pb_desk.specs.View.{wrote};
 ghost use Rattle.pb_desk.specs.Desk.{IsSteady, Reaches, written};
 ghost use Rattle.pb_dimacs.specs.Outboxes.{IsAllSent};
 ghost use Rattle.pb_encode.specs.Encodings.{made, made_files, names_of, problem_text, IsCutOff, Lacks, Refuses, WantsMemory};
-ghost use Rattle.pb_encode.specs.laws.Files.{IsCnfCutOff, LacksForCnf, WantsForCnf};
-ghost use Rattle.pb_encode.specs.laws.Sending.{LacksFor, Stops};
-ghost use Rattle.pb_encode.specs.laws.SendingTexts.{HandsTextIfMemory, SendsText};
+ghost use Rattle.pb_encode.specs.inner.Files.{IsCnfCutOff, LacksForCnf, WantsForCnf};
+ghost use Rattle.pb_encode.specs.inner.Sending.{LacksFor, Stops};
+ghost use Rattle.pb_encode.specs.inner.SendingTexts.{HandsTextIfMemory, SendsText};
 ghost use Rattle.pb_encode.specs.Summaries.{summary_of, IsEncodable};
 
 use crate::derivation_file::encode_steps;
@@ -16,10 +16,9 @@ use crate::fault::EncodeFault;
 use crate::measuring::measure;
 use crate::summary::Summary;
 use crate::whole::hand_clauses;
-use pb_base::Problem;
-use pb_choice::Options;
+use pb_base::{Options, Problem};
 use pb_desk::Desk;
-use pb_dimacs::{ClauseWriter, Outbox};
+use pb_dimacs::{ClauseWriter, WriteBuffer};
 use pb_family::{ClauseSink, SinkFault};
 use std::alloc::Global;
 
@@ -82,7 +81,7 @@ fn write_cnf<D: Desk>(
     ensures stopped { IfErr result (Stops 0 (problem_text options.now problem.now) (D.state desk.old) (D.state desk.new)) }
     ensures steady { IsSteady (D.state desk.old) → result ≡ Err EncodeFault.WriteFault → LacksFor 0 (problem_text options.now problem.now) (D.state desk.old) }
 {
-    let mut outbox = Outbox::new(alloc)?;
+    let mut outbox = WriteBuffer::new(alloc)?;
     let mut writer = ClauseWriter::new(desk, 0, &mut outbox);
     send_cnf(alloc, problem, options, summary, &mut writer)?;
     Ok(())

@@ -2,7 +2,7 @@
 ghost use Rattle.std.specs.Prelude.{◌≡◌};
 ghost use Rattle.pb_encode.specs.declared.fault.MeasureFault.TheVariants as measure;
 ghost use Rattle.pb_encode.specs.declared.fault.EncodeFault.TheVariants as encode;
-ghost use Rattle.pb_encode.specs.Faults.{as_encode_fault, of_sink};
+ghost use Rattle.pb_encode.specs.inner.Faults.{as_encode_fault, of_sink};
 
 use pb_base::{Failed, LimitKind, NoMemory};
 use pb_family::SinkFault;

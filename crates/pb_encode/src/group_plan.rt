@@ -3,11 +3,11 @@ ghost use Rattle.std.specs.Prelude.{◌≡◌, ◌≤◌, ◌+◌, ◌^◌, IfOk
 ghost use Rattle.pb_family.specs.Handing.{HandsIfMemory};
 ghost use Rattle.pb_family.specs.StepSinks.{HandsFrom};
 ghost use Rattle.pb_choice.specs.Readiness.{LeavesIds};
-ghost use Rattle.pb_encode.specs.laws.GroupPlans.{plan_clauses, plan_count, plan_fresh, plan_size, plan_steps, IsGroupPlan, IsLightGroup, IsPlanBelow};
+ghost use Rattle.pb_encode.specs.inner.GroupPlans.{plan_clauses, plan_count, plan_fresh, plan_size, plan_steps, IsGroupPlan, IsLightGroup, IsPlanBelow};
 
 use crate::groups::Group;
-use pb_base::NoMemory;
-use pb_choice::{Counts, EqualPlan, Options, Plan, plan, plan_equal};
+use pb_base::{NoMemory, Options};
+use pb_choice::{Counts, EqualPlan, Plan, plan, plan_equal};
 use pb_family::{ClauseSink, SinkFault, StepSink};
 use std::alloc::Global;
 

@@ -54,7 +54,7 @@ pub struct Groups<'a> {
 impl<'a> Model for Groups<'a> {
     ghost use Rattle.std.specs.Prelude.{List};
     ghost use Rattle.pb_encode.specs.declared.groups.Group.{Group};
-    ghost use Rattle.pb_encode.specs.laws.Walks.{groups_left, MayGoOn};
+    ghost use Rattle.pb_encode.specs.inner.Walks.{groups_left, MayGoOn};
 
     ghost Value = { List Group };
 

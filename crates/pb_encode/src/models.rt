@@ -2,14 +2,14 @@
 ghost use Rattle.std.specs.Prelude.{◌≡◌, ◌+◌, true};
 ghost use Rattle.pb_base.specs.declared.problem.Problem.{Problem};
 ghost use Rattle.pb_base.specs.Problems.{IsWithinLimits, originals};
-ghost use Rattle.pb_choice.specs.declared.options.Options.{Options};
+ghost use Rattle.pb_base.specs.declared.options.Options.{Options};
 ghost use Rattle.pb_encode.specs.Bounds.{bound_rows, TellBounds};
 ghost use Rattle.pb_encode.specs.Clauses.{problem_clauses, problem_vars};
 ghost use Rattle.pb_encode.specs.Groups.{groups_of};
 ghost use Rattle.pb_encode.specs.Models.{ForceEach, HasSolutionsOf};
-ghost use Rattle.pb_encode.specs.laws.Apart.{AreApart};
+ghost use Rattle.pb_encode.specs.Apart.{AreApart};
 
-use pb_choice::EqualMode;
+use pb_base::EqualMode;
 
 /// The law that the clauses of a problem have its solutions, under any options.
 pub fn clauses_have_the_solutions()

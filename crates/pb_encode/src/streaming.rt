@@ -4,12 +4,11 @@ ghost use Rattle.pb_base.specs.Problems.{IsWithinLimits};
 ghost use Rattle.pb_family.specs.Handing.{HandsIfMemory};
 ghost use Rattle.pb_encode.specs.Clauses.{loaded_clauses, loaded_vars, table_first};
 ghost use Rattle.pb_encode.specs.Groups.{group_clauses, group_fresh};
-ghost use Rattle.pb_encode.specs.laws.GroupPlans.{plan_clauses, plan_fresh, IsPlanBelow, IsSound};
+ghost use Rattle.pb_encode.specs.inner.GroupPlans.{plan_clauses, plan_fresh, IsPlanBelow, IsSound};
 
 use crate::group_plan::{GroupPlan, plan_group};
 use crate::groups::{Group, Groups};
-use pb_base::Problem;
-use pb_choice::Options;
+use pb_base::{Options, Problem};
 use pb_family::{ClauseSink, SinkFault};
 use std::alloc::Global;
 

@@ -12,8 +12,7 @@ ghost use Rattle.pb_encode.specs.Costs.{objective_form};
 ghost use Rattle.pb_encode.specs.Tables.{table_terms};
 
 use crate::objective::objective_form;
-use pb_base::{NoMemory, Problem, Terms};
-use pb_choice::Options;
+use pb_base::{NoMemory, Options, Problem, Terms};
 use pb_family::{Built, ClauseSink, SinkFault, StepSink};
 use pb_gentot::BoundTable;
 use pb_norm::by_weight;

@@ -1,12 +1,12 @@
 //! Counts of what is encoded.
 ghost use Rattle.std.specs.Prelude.{◌≡◌, ◌<◌, ◌^◌, [], ◌∷◌, List};
 ghost use Rattle.pb_norm.specs.Constraints.{Constraint};
-ghost use Rattle.pb_choice.specs.declared.options.Options.{Options};
-ghost use Rattle.pb_choice.specs.laws.EqualPlans.{HasPartsOf, IsEqualPlan};
+ghost use Rattle.pb_base.specs.declared.options.Options.{Options};
+ghost use Rattle.pb_choice.specs.EqualPlans.{HasPartsOf, IsEqualPlan};
 ghost use Rattle.pb_encode.specs.declared.groups.Group.{Group};
 ghost use Rattle.pb_encode.specs.Groups.{size_total};
 ghost use Rattle.pb_encode.specs.declared.groups.Group.TheVariants.{Alone, Paired};
-ghost use Rattle.pb_encode.specs.laws.GroupPlans.{IsGroupPlan};
+ghost use Rattle.pb_encode.specs.inner.GroupPlans.{IsGroupPlan};
 ghost use Rattle.pb_encode.specs.Summaries.{place_of, treated, treatments_of};
 
 use crate::group_plan::GroupPlan;
@@ -43,7 +43,7 @@ fn place_of(treatment: Treatment) -> usize
 }
 
 impl Tally {
-    ghost use Rattle.pb_encode.specs.laws.Tallies.{AddsJoint, Counts, IsTally};
+    ghost use Rattle.pb_encode.specs.inner.Tallies.{AddsJoint, Counts, IsTally};
 
     /// Of no constraint.
     pub fn new() -> Self

@@ -5,7 +5,7 @@ ghost use Rattle.pb_base.specs.declared.problem.Problem.{Problem};
 ghost use Rattle.pb_base.specs.Problems.{IsWithinLimits};
 ghost use Rattle.pb_norm.specs.Reduction.{opposite};
 ghost use Rattle.pb_family.specs.Handing.{HandsText};
-ghost use Rattle.pb_choice.specs.declared.options.Options.{Options};
+ghost use Rattle.pb_base.specs.declared.options.Options.{Options};
 ghost use Rattle.pb_desk.specs.View.{wrote};
 ghost use Rattle.pb_desk.specs.Desk.{IsSteady, Reaches};
 ghost use Rattle.pb_dimacs.specs.Outboxes.{IsAllSent};
@@ -14,8 +14,8 @@ ghost use Rattle.pb_dimacs.specs.WcnfText.{offset_text, softs_text};
 ghost use Rattle.pb_encode.specs.Clauses.{problem_clauses};
 ghost use Rattle.pb_encode.specs.Costs.{objective_form, softs_of, CostsAddUp};
 ghost use Rattle.pb_encode.specs.Encodings.{made, Refuses};
-ghost use Rattle.pb_encode.specs.laws.Sending.{LacksFor, Stops};
-ghost use Rattle.pb_encode.specs.laws.SendingTexts.{HandsTextIfMemory, SendsText};
+ghost use Rattle.pb_encode.specs.inner.Sending.{LacksFor, Stops};
+ghost use Rattle.pb_encode.specs.inner.SendingTexts.{HandsTextIfMemory, SendsText};
 ghost use Rattle.pb_encode.specs.Summaries.{summary_of, IsEncodable};
 ghost use Rattle.pb_encode.specs.Weighted.{weighted_text, HasCostsOf, IsWeightedCutOff, LacksForWeighted, WantsForWeighted};
 
@@ -24,10 +24,9 @@ use crate::measuring::measure;
 use crate::objective::{objective_form, offset_by};
 use crate::summary::Summary;
 use crate::whole::hand_clauses;
-use pb_base::{Failed, Problem};
-use pb_choice::Options;
+use pb_base::{Failed, Options, Problem};
 use pb_desk::Desk;
-use pb_dimacs::{HardWriter, Outbox};
+use pb_dimacs::{HardWriter, WriteBuffer};
 use pb_family::{ClauseSink, SinkFault};
 use pb_norm::Linear;
 use std::alloc::Global;
@@ -114,7 +113,7 @@ fn write_weighted<D: Desk>(
     ensures stopped { IfErr result (Stops 0 (weighted_text options.now problem.now) (D.state desk.old) (D.state desk.new)) }
     ensures steady { IsSteady (D.state desk.old) → result ≡ Err EncodeFault.WriteFault → LacksFor 0 (weighted_text options.now problem.now) (D.state desk.old) }
 {
-    let mut outbox = Outbox::new(alloc)?;
+    let mut outbox = WriteBuffer::new(alloc)?;
     let mut writer = HardWriter::new(desk, 0, &mut outbox);
     send_weighted(alloc, problem, options, objective, &mut writer)?;
     Ok(())

@@ -7,15 +7,15 @@ ghost use Rattle.pb_family.specs.StepSinks.{HandsFrom, HandsSteps};
 ghost use Rattle.pb_encode.specs.Clauses.{problem_clauses, problem_counts};
 ghost use Rattle.pb_encode.specs.Steps.{problem_steps};
 ghost use Rattle.pb_encode.specs.Summaries.{IsEncodable};
-ghost use Rattle.pb_encode.specs.laws.Streams.{steps_at_next};
+ghost use Rattle.pb_encode.specs.inner.Streams.{steps_at_next};
 
-use crate::derivation::{Turn, derive_loaded};
+use crate::derivation::{Position, derive_loaded};
 use crate::fault::MeasureFault;
 use crate::measuring::measure;
 use crate::streaming::stream_loaded;
 use crate::table::{derive_table, stream_table};
-use pb_base::{NoMemory, Problem};
-use pb_choice::{Counts, Options};
+use pb_base::{NoMemory, Options, Problem};
+use pb_choice::Counts;
 use pb_family::{ClauseSink, SinkFault, StepSink};
 use pb_steps::Step;
 use std::alloc::Global;
@@ -86,11 +86,11 @@ fn derive_clauses<T: StepSink>(
     requires next { (T.state sink.old).next ≡ length (loaded_of problem.now) + 1 }
     ensures { HandsFrom (steps_at_next options.now problem.now) result (T.state sink.old) (T.state sink.new) }
 {
-    let turn = Turn {
+    let position = Position {
         first: problem.originals() + 1,
         id: 1,
     };
-    let next = derive_loaded(alloc, problem, options, turn, sink)?;
+    let next = derive_loaded(alloc, problem, options, position, sink)?;
     derive_table(alloc, problem, options, next.first, sink)
 }
 

@@ -9,11 +9,11 @@ use Rattle.pb_base.specs.declared.literal.Lit.{Lit}
 use Rattle.pb_base.specs.declared.literal.Term.{Term}
 use Rattle.pb_norm.specs.BoundedSums.{vars_of}
 use Rattle.pb_norm.specs.Constraints.{Weighted, weight, weighted, weights, term_of, terms_of}
-use Rattle.pb_norm.specs.laws.Kept.{on_term}
+use Rattle.pb_norm.specs.inner.Kept.{on_term}
 use Rattle.pb_norm.specs.Reduction.{lits_of, opposite}
 use Rattle.pb_norm.proofs.AdditionSizes.{weight-cons}
 use Rattle.pb_family.specs.Fresh.{positive_of, literal_at}
-use Rattle.pb_family.specs.laws.Parts.{kept}
+use Rattle.pb_family.specs.inner.Parts.{kept}
 
 pub light_terms : (ts : List Term) → weight (weights ts) < 2 ^ 124 → All (λ t. (weighted t).coef < 2 ^ 127) ts
 light_terms [] light = All-nil (λ (t : Term). (weighted t).coef < 2 ^ 127)

@@ -5,17 +5,17 @@ use Rattle.pb_norm.specs.Constraints.{Weighted}
 use Rattle.pb_steps.specs.declared.op.PolOp.{PolOp}
 use Rattle.pb_steps.specs.declared.step.Step.{Step}
 use Rattle.pb_derive.specs.Claims.{claim_steps}
-use Rattle.pb_derive.specs.Meanings.{meaning_steps}
-use Rattle.pb_derive.specs.Reasons.{by_reason, closing}
+use Rattle.pb_derive.specs.Reifications.{reification_steps}
+use Rattle.pb_derive.specs.Justifications.{by_justification, closing}
 use Rattle.pb_derive.specs.Rups.{by_rup}
 
 -- each variable is from 1 on, and below a number
 abbrev pub AreOriginal : ℕ → List Weighted → Type 0
 AreOriginal first ts = All (λ t. (1 ≤ t.lit.var) × (t.lit.var < first)) ts
 
--- the two steps of a meaning, of which the first takes the id `next`
+-- the two steps of a reification, of which the first takes the id `next`
 abbrev pub meant : ℕ → ℕ → List Weighted → ℕ → List Step
-meant next var sum least = meaning_steps next (record { var = var; sum = sum; least = least } ∷ [])
+meant next var sum least = reification_steps next (record { var = var; sum = sum; least = least } ∷ [])
 
 -- what a clause's constraints leave, whatever the clause is
 abbrev pub closed : List ℕ → List ℕ → List PolOp
@@ -23,7 +23,7 @@ closed ids weakened = closing (record { clause = []; ids = ids; weakened = weake
 
 -- the two steps of a clause that follows from constraints without some variables
 abbrev pub claimed : ℕ → List ℕ → List ℕ → List Step
-claimed next ids weakened = claim_steps next (by_reason (record { clause = []; ids = ids; weakened = weakened }) ∷ [])
+claimed next ids weakened = claim_steps next (by_justification (record { clause = []; ids = ids; weakened = weakened }) ∷ [])
 
 -- and of one that propagation shows
 abbrev pub propagated : ℕ → List ℕ → List Lit → List Step

@@ -6,13 +6,13 @@ ghost use Rattle.pb_norm.specs.ClauseForm.{one_of, distinct};
 ghost use Rattle.pb_norm.specs.Constraints.{weights};
 ghost use Rattle.pb_steps.specs.declared.op.PolOp.TheVariants.{Div, Push, Weaken};
 ghost use Rattle.pb_steps.specs.declared.step.Step.TheVariants.{Out, Pol};
-ghost use Rattle.pb_derive.specs.Reasons.{adding, push_and_add, widest};
+ghost use Rattle.pb_derive.specs.Justifications.{adding, push_and_add, widest};
 ghost use Rattle.pb_derive.specs.Rups.{by_rup};
 ghost use Rattle.pb_family.specs.Derivations.{closed, claimed, propagated};
 ghost use Rattle.pb_family.specs.StepSinks.{HandsSteps};
 
 use crate::sink::SinkFault;
-use crate::step_sink::{StepSink, take_steps};
+use crate::step_sink::{StepSink, derive_steps};
 use pb_base::{Ids, Lit, Term, Terms};
 use pb_steps::{PolOp, PolOps, Step};
 use std::alloc::{AllocError, Global};
@@ -108,7 +108,7 @@ fn propagated_step(alloc: Global, ids: &[u64], clause: &[Lit]) -> Result<Step, A
 }
 
 /// Hands over the sum of the constraints with some ids.
-pub fn take_sum<T: StepSink>(alloc: Global, ids: &[u64], sink: &mut T) -> Result<(), SinkFault>
+pub fn derive_sum<T: StepSink>(alloc: Global, ids: &[u64], sink: &mut T) -> Result<(), SinkFault>
     requires some { 1 ≤ length ids.now }
     requires few { (T.state sink.old).next < 2 ^ 62 }
     ensures { HandsSteps (Pol (adding ids.now) ∷ []) result (T.state sink.old) (T.state sink.new) }
@@ -118,16 +118,16 @@ pub fn take_sum<T: StepSink>(alloc: Global, ids: &[u64], sink: &mut T) -> Result
 }
 
 // Hands over a clause's step, and puts the clause out.
-fn take_and_put_out<T: StepSink>(step: &Step, sink: &mut T) -> Result<(), SinkFault>
+fn derive_and_put_out<T: StepSink>(step: &Step, sink: &mut T) -> Result<(), SinkFault>
     requires few { (T.state sink.old).next + 1 < 2 ^ 62 }
     ensures { HandsSteps (step.now ∷ Out (T.state sink.old).next ∷ []) result (T.state sink.old) (T.state sink.new) }
 {
     let id = sink.next_id();
-    take_steps(step, &Step::Out { id }, sink)
+    derive_steps(step, &Step::Out { id }, sink)
 }
 
 /// Hands over that a clause follows from the constraints with some ids, without the variables of some terms, and puts it out.
-pub fn take_claim<T: StepSink>(
+pub fn derive_claim<T: StepSink>(
     alloc: Global,
     ids: &[u64],
     weakened: &[Term],
@@ -138,11 +138,11 @@ pub fn take_claim<T: StepSink>(
     ensures { HandsSteps (claimed (T.state sink.old).next ids.now (vars_of (weights weakened.now))) result (T.state sink.old) (T.state sink.new) }
 {
     let step = closing_step(alloc, ids, weakened)?;
-    take_and_put_out(&step, sink)
+    derive_and_put_out(&step, sink)
 }
 
 /// Hands over that a short clause follows by propagation from the constraints with some ids, and puts it out.
-pub fn take_propagated<T: StepSink>(
+pub fn derive_propagated<T: StepSink>(
     alloc: Global,
     ids: &[u64],
     clause: &[Lit],
@@ -152,5 +152,5 @@ pub fn take_propagated<T: StepSink>(
     ensures { HandsSteps (propagated (T.state sink.old).next ids.now clause.now) result (T.state sink.old) (T.state sink.new) }
 {
     let shown = propagated_step(alloc, ids, clause)?;
-    take_and_put_out(&shown, sink)
+    derive_and_put_out(&shown, sink)
 }

@@ -24,7 +24,7 @@ fn deletion_step(alloc: Global, id: u64, width: u64) -> Result<Step, AllocError>
 }
 
 /// Hands over that so many neighbouring ids go.
-pub fn take_deletion<T: StepSink>(
+pub fn derive_deletion<T: StepSink>(
     alloc: Global,
     id: u64,
     width: u64,
@@ -39,7 +39,7 @@ pub fn take_deletion<T: StepSink>(
 }
 
 /// Hands over that neighbouring ids go, as many in each of `count` steps.
-pub fn take_deletions<T: StepSink>(
+pub fn derive_deletions<T: StepSink>(
     alloc: Global,
     id: u64,
     width: u64,
@@ -51,7 +51,7 @@ pub fn take_deletions<T: StepSink>(
     ensures { HandsSteps (deletion_steps width id count) result (T.state sink.old) (T.state sink.new) }
 {
     for k in 0..count {
-        take_deletion(alloc, id + width * k, width, sink)?;
+        derive_deletion(alloc, id + width * k, width, sink)?;
     }
     Ok(())
 }

@@ -37,7 +37,7 @@ pub fn next_after(step: &Step, next: u64) -> u64
 }
 
 /// Hands over two steps.
-pub fn take_steps<T: StepSink>(one: &Step, other: &Step, sink: &mut T) -> Result<(), SinkFault>
+pub fn derive_steps<T: StepSink>(one: &Step, other: &Step, sink: &mut T) -> Result<(), SinkFault>
     requires few { (T.state sink.old).next + 1 < 2 ^ 62 }
     ensures { HandsSteps (one.now ∷ other.now ∷ []) result (T.state sink.old) (T.state sink.new) }
 {

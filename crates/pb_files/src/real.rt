@@ -5,8 +5,8 @@ ghost use Rattle.pb_files.specs.Asked.{Asked};
 
 use crate::known::is_known;
 use crate::{FileId, Handle, System};
-use pb_base::Failed;
-use pb_desk::{Desk, FaultCount};
+use pb_base::{Failed, FaultCount};
+use pb_desk::Desk;
 
 /// What a desk over a system shows; what it has asked of it, and holds.
 pub trait Asks {
@@ -67,7 +67,7 @@ impl<S: System + Drop> RealDesk<S> {
 // is the system's.
 impl<S: System + Drop> Desk for RealDesk<S> {
     ghost use Rattle.std.specs.Prelude.{◌≡◌, ◌≤◌, ◌<◌, ◌⊎◌, ℕ, length, take, true, false, IsTrue, IsSome, IsNone, IfOk, OnOk, OnErr, Some, None};
-    ghost use Rattle.pb_desk.specs.Causes.{Rose};
+    ghost use Rattle.pb_base.specs.FaultCounts.{Rose};
     ghost use Rattle.pb_desk.specs.View.{put, opened, taken, created, wrote, closed, spoke};
     ghost use Rattle.pb_desk.specs.Desk.{Reads, Reaches, FailsToRead, FailsToWrite, same, IsSteady, IfTold, IsTold, Gives, TakesSome, HasName, IsTaken, LacksRoom, written, words};
     ghost use Rattle.pb_files.specs.Calls.Call.{open_file as opens, read as reads, write as writes, sync as syncs, say as says};

@@ -1,4 +1,4 @@
 pub mod Draws
 pub mod Drawn
 pub mod Generated
-pub mod GeneratedExamples
+pub mod examples

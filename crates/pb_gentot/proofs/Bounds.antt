@@ -8,15 +8,15 @@ use Rattle.pb_tree.specs.Tree.{Tree, node, split_within, tree_of}
 use Rattle.pb_tree.specs.Scheme.{values, fresh_of, clause_count_of}
 use Rattle.pb_tree.proofs.Splitting.{halves}
 use Rattle.pb_tree.proofs.Numbers.{bounds_step, sums_fit}
-use Rattle.pb_tree.proofs.TreeCounts.{reasons_counted}
+use Rattle.pb_tree.proofs.TreeCounts.{justifications_counted}
 use Rattle.pb_gentot.specs.Generalized.{generalized}
 use Rattle.pb_gentot.specs.GeneralizedSteps.{generalized_pairs}
 use Rattle.pb_gentot.specs.laws.ByPairs.{generalized_by_pairs}
 use Rattle.pb_gentot.specs.laws.GeneralizedLaws.{Always, generalized_lawful}
 use Rattle.pb_gentot.specs.laws.GeneralizedShort.{generalized_sparing}
 use Rattle.pb_gentot.specs.declared.measure.Part.{Part}
-use Rattle.pb_gentot.specs.laws.Measured.{IsPartMeasured}
-use Rattle.pb_gentot.specs.laws.Sources.{AreLeavesPositive, part_reasons}
+use Rattle.pb_gentot.specs.inner.Measured.{IsPartMeasured}
+use Rattle.pb_gentot.specs.inner.Sources.{AreLeavesPositive, part_justifications}
 
 pub record Bounds (bound : ℕ) (t : Tree) (n : ℕ) : Type 0 where
   pub count : length (values (generalized bound) t) ≤ fresh_of (generalized bound) t + n
@@ -112,6 +112,6 @@ clauses_modest bound ts some fits =
     let small : m ≤ 20000001 = omega (arith, b.leaves, fits) in
     omega (arith, b.clauses, mul-le m m 20000001 20000001 small small)
 
--- one reason for each clause
-pub reasons_are : (bound : ℕ) (ts : List Term) (id : ℕ) → AreLeavesPositive (tree_of (weights ts)) → length (part_reasons bound ts id) ≡ clause_count_of (generalized bound) (tree_of (weights ts))
-reasons_are bound ts id positive = reasons_counted (generalized bound) Always (generalized_lawful bound) generalized_pairs (generalized_by_pairs bound) (tree_of (weights ts)) 0 id positive
+-- one justification for each clause
+pub justifications_are : (bound : ℕ) (ts : List Term) (id : ℕ) → AreLeavesPositive (tree_of (weights ts)) → length (part_justifications bound ts id) ≡ clause_count_of (generalized bound) (tree_of (weights ts))
+justifications_are bound ts id positive = justifications_counted (generalized bound) Always (generalized_lawful bound) generalized_pairs (generalized_by_pairs bound) (tree_of (weights ts)) 0 id positive

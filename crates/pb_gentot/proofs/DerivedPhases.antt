@@ -5,9 +5,9 @@ use Rattle.pb_base.specs.declared.literal.Term.{Term}
 use Rattle.pb_norm.specs.Constraints.{weights}
 use Rattle.pb_derive.specs.Claims.{claim_steps}
 use Rattle.pb_derive.specs.Deletions.{deletion_steps}
-use Rattle.pb_derive.specs.Meanings.{Meaning, meaning_steps}
+use Rattle.pb_derive.specs.Reifications.{Reification, reification_steps}
 use Rattle.pb_derive.specs.Phases.{phases}
-use Rattle.pb_derive.specs.Reasons.{Reason, by_reason}
+use Rattle.pb_derive.specs.Justifications.{Justification, by_justification}
 use Rattle.pb_family.specs.StepSinks.{StepState, TakesSteps, HandsSteps}
 use Rattle.pb_family.specs.declared.sink.SinkFault.{SinkFault}
 use Rattle.pb_family.proofs.Deriving.{steps_same}
@@ -15,23 +15,23 @@ use Rattle.pb_family.proofs.HandedPhases.{ended_by_deletions}
 use Rattle.pb_family.proofs.SameSteps.{HaveSameSteps}
 use Rattle.pb_tree.specs.Scheme.{fresh_of}
 use Rattle.pb_tree.specs.Tree.{tree_of}
-use Rattle.pb_tree.specs.TreeSteps.{meanings}
-use Rattle.pb_tree.proofs.TreeHanded.{meanings_next}
-use Rattle.pb_tree.proofs.TreeMeanings.{length-meanings}
+use Rattle.pb_tree.specs.TreeSteps.{reifications}
+use Rattle.pb_tree.proofs.TreeHanded.{reifications_next}
+use Rattle.pb_tree.proofs.TreeReifications.{length-reifications}
 use Rattle.pb_gentot.specs.Generalized.{generalized}
 
 -- what the fresh variables of some terms mean
-abbrev pub part_meanings : ℕ → List Term → ℕ → List Meaning
-part_meanings bound ts first = meanings (generalized bound) (tree_of (weights ts)) first
+abbrev pub part_reifications : ℕ → List Term → ℕ → List Reification
+part_reifications bound ts first = reifications (generalized bound) (tree_of (weights ts)) first
 
-module _ {R : Type 0} (bound : ℕ) (ts : List Term) (first : ℕ) (old mid : StepState R) (meant : TakesSteps (meaning_steps old.next (part_meanings bound ts first)) old mid) where
+module _ {R : Type 0} (bound : ℕ) (ts : List Term) (first : ℕ) (old mid : StepState R) (meant : TakesSteps (reification_steps old.next (part_reifications bound ts first)) old mid) where
   pub meant_next : mid.next ≡ old.next + 2 * fresh_of (generalized bound) (tree_of (weights ts))
-  meant_next = omega (arith, meanings_next (part_meanings bound ts first) old mid meant, length-meanings (generalized bound) (tree_of (weights ts)) first)
+  meant_next = omega (arith, reifications_next (part_reifications bound ts first) old mid meant, length-reifications (generalized bound) (tree_of (weights ts)) first)
 
   -- the deletions end it
-  pub derived : {T : Type 0} (result : Result T SinkFault) (rs qs : List Reason) (base next : ℕ) (last new : StepState R) → HaveSameSteps rs qs → base ≡ old.next → next ≡ first + fresh_of (generalized bound) (tree_of (weights ts))
-      → TakesSteps (claim_steps mid.next (map by_reason rs)) mid last → HandsSteps (deletion_steps 2 base (next - first)) result last new → HandsSteps (phases old.next (part_meanings bound ts first) (map by_reason qs)) result old new
+  pub derived : {T : Type 0} (result : Result T SinkFault) (rs qs : List Justification) (base next : ℕ) (last new : StepState R) → HaveSameSteps rs qs → base ≡ old.next → next ≡ first + fresh_of (generalized bound) (tree_of (weights ts))
+      → TakesSteps (claim_steps mid.next (map by_justification rs)) mid last → HandsSteps (deletion_steps 2 base (next - first)) result last new → HandsSteps (phases old.next (part_reifications bound ts first) (map by_justification qs)) result old new
   derived result rs qs base next last new same is ends claimed deleted =
-      let ms = part_meanings bound ts first in
-      let count : next - first ≡ length ms = omega (arith, ends, length-meanings (generalized bound) (tree_of (weights ts)) first) in
+      let ms = part_reifications bound ts first in
+      let count : next - first ≡ length ms = omega (arith, ends, length-reifications (generalized bound) (tree_of (weights ts)) first) in
       ended_by_deletions result ms rs qs same old mid last new meant claimed (steps_same result _ _ last new (λ i. deletion_steps 2 (is i) (count i)) deleted)

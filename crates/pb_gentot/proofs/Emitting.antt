@@ -8,9 +8,9 @@ use Rattle.pb_family.specs.Fresh.{positive_of}
 use Rattle.pb_tree.specs.Tree.{Tree, empty, leaf, node, tree_of}
 use Rattle.pb_tree.specs.Scheme.{values, fresh_of, output, clauses_of}
 use Rattle.pb_tree.specs.Places.{place_of}
-use Rattle.pb_gentot.specs.laws.Outputs.{output_in}
+use Rattle.pb_gentot.specs.inner.Outputs.{output_in}
 use Rattle.pb_gentot.specs.declared.outputs.Outputs.TheVariants.{Fresh}
-use Rattle.pb_gentot.specs.laws.Rising.{Rising}
+use Rattle.pb_gentot.specs.Rising.{Rising}
 use Rattle.pb_gentot.proofs.RisingLists.{rising_ascending}
 use Rattle.pb_gentot.specs.Generalized.{generalized, value_clauses, sums}
 

@@ -10,19 +10,19 @@ use Rattle.pb_norm.specs.BoundedSums.{vars_of}
 use Rattle.pb_norm.specs.Constraints.{Weighted, weights}
 use Rattle.pb_steps.specs.declared.step.Step.{Step}
 use Rattle.pb_derive.specs.Claims.{claim_steps}
-use Rattle.pb_derive.specs.Meanings.{meaning_steps}
-use Rattle.pb_derive.specs.Reasons.{Reason, by_reason}
+use Rattle.pb_derive.specs.Reifications.{reification_steps}
+use Rattle.pb_derive.specs.Justifications.{Justification, by_justification}
 use Rattle.pb_family.specs.Derivations.{pieces}
 use Rattle.pb_family.proofs.SameSteps.{HaveSameSteps, same_append}
-use Rattle.pb_family.proofs.Sequence.{meaning_pieces}
+use Rattle.pb_family.proofs.Sequence.{reification_pieces}
 use Rattle.pb_tree.specs.Pairs.{Pair, pair_of}
 use Rattle.pb_tree.specs.Places.{place_of}
 use Rattle.pb_tree.specs.Scheme.{values, fresh_of}
 use Rattle.pb_tree.specs.Tree.{Tree, node, tree_of}
-use Rattle.pb_tree.specs.TreeSteps.{leaves, meanings_from, output_ids, pair_reason, root_reason, tree_reasons}
+use Rattle.pb_tree.specs.TreeSteps.{leaves, reifications_from, output_ids, pair_justification, root_justification, tree_justifications}
 use Rattle.pb_tree.proofs.Lists.{Contains-range_cases}
 use Rattle.pb_tree.proofs.PairLists.{map_same, map-append, map-map, rows_same}
-use Rattle.pb_tree.proofs.TreeHalves.{node_reasons}
+use Rattle.pb_tree.proofs.TreeHalves.{node_justifications}
 use Rattle.pb_tree.proofs.TreeHanded.{bare, bare_same, all_first_free}
 use Rattle.pb_tree.proofs.TreeRows.{leaves_of}
 use Rattle.pb_gentot.specs.Generalized.{generalized}
@@ -33,7 +33,7 @@ use Rattle.pb_gentot.specs.declared.claims.Source.{Source}
 use Rattle.pb_gentot.specs.declared.claims.Source.TheVariants.{Leaf, Fresh}
 use Rattle.pb_gentot.specs.laws.ByPairs.{value_from}
 use Rattle.pb_gentot.specs.laws.GeneralizedLaws.{values_within}
-use Rattle.pb_gentot.specs.laws.Sources.{output_meaning, ids_at, ids_of, HasIds, second_of, one_at, ones_given, both_at, row_given, pairs_given, node_given, root_given, part_reasons, all_reasons, AreLeavesPositive}
+use Rattle.pb_gentot.specs.inner.Sources.{output_reification, ids_at, ids_of, HasIds, second_of, one_at, ones_given, both_at, row_given, pairs_given, node_given, root_given, part_justifications, all_justifications, AreLeavesPositive}
 use Rattle.pb_gentot.proofs.Emitting.{rising_values}
 use Rattle.pb_gentot.proofs.RisingLists.{place_at}
 
@@ -55,10 +55,10 @@ by_places f us = ap (map f) (values_from us us 0 (from_first us)) ∙ map-map f 
 rows_by_places : {X : Type 0} (f : ℕ → List X) (us : List ℕ) → flat_map f us ≡ flat_map (λ i. f (get_or us i 0)) (range_with_len 0 (length us))
 rows_by_places f us = ap (flat_map f) (values_from us us 0 (from_first us)) ∙ flat_map-map f (λ i. get_or us i 0) (range_with_len 0 (length us))
 
--- ---- meanings
+-- ---- reifications
 
 outputs_from : (first : ℕ) (ts : List Weighted) (us all : List ℕ) (var a : ℕ) → var ≡ first + a → ((k : ℕ) → get_or us k 0 ≡ get_or all (a + k) 0)
-    → meanings_from var ts us ≡ map (output_meaning first ts all) (range_with_len a (length us))
+    → reifications_from var ts us ≡ map (output_reification first ts all) (range_with_len a (length us))
 outputs_from first ts [] all var a is same = refl
 outputs_from first ts (u ∷ us) all var a is same =
     let here : u ≡ get_or all a 0 = same 0 ∙ ap (λ (n : ℕ). get_or all n 0) (let e : a + 0 ≡ a = omega arith in e) in
@@ -67,16 +67,16 @@ outputs_from first ts (u ∷ us) all var a is same =
     λ i. record { var = is i; sum = ts; least = here i } ∷ rest i
 
 abbrev pub output_piece : ℕ → List Weighted → List ℕ → ℕ → ℕ → List Step
-output_piece first ts us id k = meaning_steps id (output_meaning first ts us k ∷ [])
+output_piece first ts us id k = reification_steps id (output_reification first ts us k ∷ [])
 
-pub output_pieces : (first : ℕ) (ts : List Weighted) (us : List ℕ) (next : ℕ) → meaning_steps next (meanings_from first ts us) ≡ pieces (output_piece first ts us) 2 next 0 (length us)
+pub output_pieces : (first : ℕ) (ts : List Weighted) (us : List ℕ) (next : ℕ) → reification_steps next (reifications_from first ts us) ≡ pieces (output_piece first ts us) 2 next 0 (length us)
 output_pieces first ts us next =
-    ap (meaning_steps next) (outputs_from first ts us us first 0 (let e : first ≡ first + 0 = omega arith in e) (from_first us)) ∙ meaning_pieces (output_meaning first ts us) next 0 (length us)
+    ap (reification_steps next) (outputs_from first ts us us first 0 (let e : first ≡ first + 0 = omega arith in e) (from_first us)) ∙ reification_pieces (output_reification first ts us) next 0 (length us)
 
 -- ---- clauses by places
 
-abbrev pub claim_piece : (ℕ → Reason) → ℕ → ℕ → List Step
-claim_piece f id k = claim_steps id (by_reason (f k) ∷ [])
+abbrev pub claim_piece : (ℕ → Justification) → ℕ → ℕ → List Step
+claim_piece f id k = claim_steps id (by_justification (f k) ∷ [])
 
 -- fewer outputs have their ids too
 pub has_fewer : (source : Source) (n k : ℕ) → k ≤ n → HasIds source n → HasIds source k
@@ -102,7 +102,7 @@ node_length cap left lefts right rights own =
 
 -- ---- the clauses of a node
 
-abbrev named : List ℕ → List ℕ → Reason
+abbrev named : List ℕ → List ℕ → Justification
 named ids weakened = record { clause = []; ids = ids; weakened = weakened }
 
 module _ (bound : ℕ) (lefts rights : List Term) (id : ℕ) (left right : Handed) (own : Owned)
@@ -119,8 +119,8 @@ module _ (bound : ℕ) (lefts rights : List Term) (id : ℕ) (left right : Hande
   abbrev r : Tree
   r = tree_of (weights rights)
 
-  abbrev claim : Pair → Reason
-  claim p = bare (pair_reason (generalized bound) (tree_of (weights lefts)) (tree_of (weights rights)) 0 id p)
+  abbrev claim : Pair → Justification
+  claim p = bare (pair_justification (generalized bound) (tree_of (weights lefts)) (tree_of (weights rights)) 0 id p)
 
   second_is : (w x : ℕ) → w ≡ x
       → second_of own w ≡ id + 2 * (fresh_of (generalized bound) l + fresh_of (generalized bound) r + place_of x (values (generalized bound) (node l r))) + 1
@@ -227,7 +227,7 @@ module _ (bound : ℕ) (lefts rights : List Term) (id : ℕ) (left right : Hande
       rows_same claim (λ i. row (get_or us i 0)) (row_given (bound + 1) left right own) (range_with_len 0 (length us)) (λ i h. let within = Contains-range_cases 0 (length us) i h in row_is i (omega arith))
       ∙ ap (map claim) (sym (rows_by_places row us) ∙ ap (flat_map row) lv)
 
-  node_are : node_given (bound + 1) left lefts right rights own ≡ map bare (node_reasons (generalized bound) generalized_pairs l r id)
+  node_are : node_given (bound + 1) left lefts right rights own ≡ map bare (node_justifications (generalized bound) generalized_pairs l r id)
   node_are =
       let us = values (generalized bound) l in
       let vs = values (generalized bound) r in
@@ -235,15 +235,15 @@ module _ (bound : ℕ) (lefts rights : List Term) (id : ℕ) (left right : Hande
       let others = map (pair_of 0) vs in
       let twos = flat_map (λ u. map (pair_of u) vs) us in
       (λ k. left_ones k ++ (right_ones k ++ pairs_are k))
-      ∙ ap (λ (rs : List Reason). map claim ones ++ rs) (sym (map-append claim others twos))
+      ∙ ap (λ (rs : List Justification). map claim ones ++ rs) (sym (map-append claim others twos))
       ∙ sym (map-append claim ones (others ++ twos))
-      ∙ sym (map-map bare (pair_reason (generalized bound) l r 0 id) (generalized_pairs us vs))
+      ∙ sym (map-map bare (pair_justification (generalized bound) l r 0 id) (generalized_pairs us vs))
 
   -- they have the steps of those by its pairs
-  pub node_same : HaveSameSteps (node_given (bound + 1) left lefts right rights own) (node_reasons (generalized bound) generalized_pairs (tree_of (weights lefts)) (tree_of (weights rights)) id)
+  pub node_same : HaveSameSteps (node_given (bound + 1) left lefts right rights own) (node_justifications (generalized bound) generalized_pairs (tree_of (weights lefts)) (tree_of (weights rights)) id)
   node_same =
-      let owns = node_reasons (generalized bound) generalized_pairs l r id in
-      subst (λ (rs : List Reason). HaveSameSteps rs owns) (sym node_are) (bare_same owns)
+      let owns = node_justifications (generalized bound) generalized_pairs l r id in
+      subst (λ (rs : List Justification). HaveSameSteps rs owns) (sym node_are) (bare_same owns)
 
 pub source_is : (bound : ℕ) (ts : List Term) (l r : Tree) (id base : ℕ) (us : List ℕ) → tree_of (weights ts) ≡ node l r → us ≡ values (generalized bound) (node l r)
     → base ≡ id + 2 * fresh_of (generalized bound) l + 2 * fresh_of (generalized bound) r
@@ -257,17 +257,17 @@ source_is bound ts l r id base us tree own is =
 
 -- all clauses are those of the nodes and that of the root
 pub root_given_last : (bound : ℕ) (ts : List Term) (id own : ℕ) (root : Handed) → ids_of root ≡ output_ids (generalized bound) (tree_of (weights ts)) id
-    → HaveSameSteps (part_reasons bound ts id ++ root_given root (bound + 1) own ∷ []) (all_reasons bound ts id own)
+    → HaveSameSteps (part_justifications bound ts id ++ root_given root (bound + 1) own ∷ []) (all_justifications bound ts id own)
 root_given_last bound ts id own root same =
-    let last = root_reason (generalized bound) (tree_of (weights ts)) 0 id own in
+    let last = root_justification (generalized bound) (tree_of (weights ts)) 0 id own in
     let is : root_given root (bound + 1) own ≡ bare last = ap (λ (f : ℕ → List ℕ). named (f (bound + 1) ++ own ∷ []) []) same in
-    same_append (part_reasons bound ts id) (part_reasons bound ts id) (root_given root (bound + 1) own ∷ []) (last ∷ []) (record { count = refl; steps = λ next. refl })
-    (subst (λ (r : Reason). HaveSameSteps (r ∷ []) (last ∷ [])) (sym is) (bare_same (last ∷ [])))
+    same_append (part_justifications bound ts id) (part_justifications bound ts id) (root_given root (bound + 1) own ∷ []) (last ∷ []) (record { count = refl; steps = λ next. refl })
+    (subst (λ (r : Justification). HaveSameSteps (r ∷ []) (last ∷ [])) (sym is) (bare_same (last ∷ [])))
 
 -- from the sink's next id on
 pub all_same : (bound : ℕ) (ts : List Term) (first own base next : ℕ) → base ≡ next
-    → HaveSameSteps (all_reasons bound ts base own) (tree_reasons (generalized bound) generalized_pairs (tree_of (weights ts)) first next own)
+    → HaveSameSteps (all_justifications bound ts base own) (tree_justifications (generalized bound) generalized_pairs (tree_of (weights ts)) first next own)
 all_same bound ts first own base next is =
     let s = generalized bound in
     let t = tree_of (weights ts) in
-    subst (λ (b : ℕ). HaveSameSteps (all_reasons bound ts base own) (tree_reasons s generalized_pairs t first b own)) is (all_first_free s generalized_pairs t 0 first base own)
+    subst (λ (b : ℕ). HaveSameSteps (all_justifications bound ts base own) (tree_justifications s generalized_pairs t first b own)) is (all_first_free s generalized_pairs t 0 first base own)

@@ -13,8 +13,8 @@ use Rattle.pb_base.proofs.Members.{Contains-nil, Contains-here, Contains-there, 
 use Rattle.pb_tree.proofs.Lists.{Contains-flat_map, Contains-flat_map_cases}
 use Rattle.pb_gentot.specs.Generalized.{sums, ascending}
 use Rattle.pb_gentot.specs.laws.GeneralizedLaws.{ascending_has, ascending_cases}
-use Rattle.pb_gentot.specs.laws.Members.{SameMembers}
-use Rattle.pb_gentot.specs.laws.Rising.{Rising}
+use Rattle.pb_gentot.specs.inner.Members.{SameMembers}
+use Rattle.pb_gentot.specs.Rising.{Rising}
 use Rattle.pb_gentot.proofs.RisingLists.{rising_same, rising_ascending, sums_within}
 
 pub same_then : (xs ys zs : List ℕ) → SameMembers xs ys → SameMembers ys zs → SameMembers xs zs

@@ -14,9 +14,9 @@ use Rattle.pb_gentot.specs.BoundTable.{IsTable, uncut, table_values, table_outpu
 use Rattle.pb_gentot.specs.Generalized.{generalized}
 use Rattle.pb_gentot.specs.declared.measure.Part.{Part}
 use Rattle.pb_gentot.specs.declared.outputs.Outputs.TheVariants.{Single, Fresh}
-use Rattle.pb_gentot.specs.laws.KeptTables.{IsKeptTable, clauses_by, steps_by}
-use Rattle.pb_gentot.specs.laws.Measured.{IsPartMeasured}
-use Rattle.pb_gentot.specs.laws.Outputs.{output_in}
+use Rattle.pb_gentot.specs.inner.KeptTables.{IsKeptTable, clauses_by, steps_by}
+use Rattle.pb_gentot.specs.inner.Measured.{IsPartMeasured}
+use Rattle.pb_gentot.specs.inner.Outputs.{output_in}
 use Rattle.pb_gentot.proofs.Bounds.{bounds}
 use Rattle.pb_gentot.proofs.Emitting.{node_output}
 use Rattle.pb_gentot.proofs.TableValues.{table_value_within}

@@ -18,6 +18,6 @@ pub mod Subsums
 pub mod TableDerives
 pub mod TableLaws
 pub mod TableModels
-pub mod TableReasons
+pub mod TableJustifications
 pub mod TableShort
 pub mod TableValues

@@ -5,8 +5,8 @@ use Rattle.std.proofs.lemmas.List.{take_more, take_all, map-append}
 use Rattle.std.proofs.lemmas.List.Elements.{Contains-get_or, Contains-append_left, Contains-append_cases}
 use Rattle.pb_base.proofs.Members.{Contains-nil, Contains-cons_cases}
 use Rattle.pb_gentot.specs.declared.seen.Seen.{Seen}
-use Rattle.pb_gentot.specs.laws.Marks.{HasMark, MarksOnly}
-use Rattle.pb_gentot.specs.laws.Members.{SameMembers}
+use Rattle.pb_gentot.specs.inner.Marks.{HasMark, MarksOnly}
+use Rattle.pb_gentot.specs.inner.Members.{SameMembers}
 use Rattle.pb_gentot.proofs.Joining.{same_then, same_joined}
 
 -- lists with the same members suit the same marks

@@ -12,7 +12,7 @@ use Rattle.pb_tree.proofs.Lists.{Contains-map_cases}
 use Rattle.pb_tree.proofs.PairLists.{map-map}
 use Rattle.pb_tree.proofs.Threes.{implied, denied}
 use Rattle.pb_gentot.specs.BoundTable.{neighbours, neighbour_clause}
-use Rattle.pb_gentot.specs.laws.Rising.{Rising}
+use Rattle.pb_gentot.specs.Rising.{Rising}
 
 pub neighbours_counted : (us : List ℕ) → length (neighbours us) ≡ length us - 1
 neighbours_counted [] = refl

@@ -8,10 +8,10 @@ use Rattle.pb_gentot.specs.declared.outputs.Outputs.TheVariants.{Fresh}
 use Rattle.pb_gentot.specs.declared.tree.Emitted.{Emitted}
 use Rattle.pb_gentot.specs.Generalized.{ascending, sums, value_clauses}
 use Rattle.pb_gentot.specs.laws.GeneralizedLaws.{ascending_has, ascending_cases, sums_left, sums_right, sums_both}
-use Rattle.pb_gentot.specs.laws.Nodes.{HasSums, clauses_over}
-use Rattle.pb_gentot.specs.laws.Outputs.{output_in}
-use Rattle.pb_gentot.specs.laws.Parts.{node_values, clauses_over_parts}
-use Rattle.pb_gentot.specs.laws.Rising.{Rising}
+use Rattle.pb_gentot.specs.inner.Nodes.{HasSums, clauses_over}
+use Rattle.pb_gentot.specs.inner.Outputs.{output_in}
+use Rattle.pb_gentot.specs.inner.Parts.{node_values, clauses_over_parts}
+use Rattle.pb_gentot.specs.Rising.{Rising}
 use Rattle.pb_gentot.proofs.RisingLists.{rising_ascending}
 
 pub made_rising : (cap : ℕ) (us vs ws : List ℕ) → ws ≡ ascending cap (sums cap us vs) → Rising ws

@@ -15,7 +15,7 @@ use Rattle.pb_family.proofs.Filters.{Contains-filter_cases}
 use Rattle.pb_tree.proofs.Lists.{Contains-map_cases, Contains-flat_map_cases, Contains-range_cases}
 use Rattle.pb_tree.proofs.Places.{place-here, place-there}
 use Rattle.pb_tree.specs.Places.{place_of}
-use Rattle.pb_gentot.specs.laws.Rising.{Rising}
+use Rattle.pb_gentot.specs.Rising.{Rising}
 use Rattle.pb_gentot.specs.Generalized.{ascending, sums}
 
 rising_range : (p : ℕ → Bool) (a n : ℕ) → Rising (filter p (range_with_len a n))

@@ -5,22 +5,22 @@ use Rattle.pb_norm.specs.Constraints.{Weighted, weight}
 use Rattle.pb_steps.specs.Database.{Database}
 use Rattle.pb_derive.specs.Derivations.{Derives, HasRoom}
 use Rattle.pb_derive.specs.Later.{Knows}
-use Rattle.pb_derive.specs.Reasons.{by_reason}
+use Rattle.pb_derive.specs.Justifications.{by_justification}
 use Rattle.pb_derive.proofs.Phases.{phases_few}
-use Rattle.pb_derive.proofs.ReasonClauses.{clauses-reasons}
+use Rattle.pb_derive.proofs.JustificationClauses.{clauses-justifications}
 use Rattle.pb_family.specs.Families.{VarsBelow}
 use Rattle.pb_tree.specs.Tree.{tree_of}
-use Rattle.pb_tree.specs.TreeSteps.{meanings}
+use Rattle.pb_tree.specs.TreeSteps.{reifications}
 use Rattle.pb_tree.proofs.AlongDerives.{Weighs, leaves_positive, over_terms, sum_of_leaves, terms_derive}
-use Rattle.pb_tree.proofs.AlongReasons.{clause_in}
-use Rattle.pb_tree.proofs.PairReasons.{IsPositive}
-use Rattle.pb_tree.proofs.TreeMeanings.{length-meanings}
+use Rattle.pb_tree.proofs.AlongJustifications.{clause_in}
+use Rattle.pb_tree.proofs.PairJustifications.{IsPositive}
+use Rattle.pb_tree.proofs.TreeReifications.{length-reifications}
 use Rattle.pb_gentot.specs.BoundTable.{IsTable, uncut, table_clauses, table_fresh, table_size}
-use Rattle.pb_gentot.specs.BoundTableSteps.{table_reasons, table_steps}
+use Rattle.pb_gentot.specs.BoundTableSteps.{table_justifications, table_steps}
 use Rattle.pb_gentot.specs.GeneralizedSteps.{generalized_pairs}
 use Rattle.pb_gentot.specs.laws.ByPairs.{generalized_by_pairs}
 use Rattle.pb_gentot.proofs.TableModels.{table_counts, table_names}
-use Rattle.pb_gentot.proofs.TableReasons.{table_reasons_clauses, table_justified, table_whole}
+use Rattle.pb_gentot.proofs.TableJustifications.{table_justifications_clauses, table_justified, table_whole}
 use Rattle.pb_gentot.proofs.TableValues.{each_positive}
 
 pub table_weighs : (ts : List Weighted) → IsTable ts → Weighs (uncut ts) ts
@@ -36,26 +36,26 @@ table_derives ts table light first db below room =
     let s = uncut ts in
     let by = generalized_by_pairs (weight ts) in
     let weighs = table_weighs ts table in
-    let rs = table_reasons ts first db.next in
+    let rs = table_justifications ts first db.next in
     let sum = sum_of_leaves s generalized_pairs by ts weighs first below light in
-    terms_derive s generalized_pairs by ts weighs light first db below room rs (table_clauses ts first) (table_reasons_clauses ts first db.next (table_positive ts table)) (table_names ts first)
+    terms_derive s generalized_pairs by ts weighs light first db below room rs (table_clauses ts first) (table_justifications_clauses ts first db.next (table_positive ts table)) (table_names ts first)
     (λ vars known. table_whole vars ts first db.next known)
     (λ end later known. table_justified (Knows end) ts first db.next (over_terms s generalized_pairs by ts weighs first below light) sum.light known)
 
--- one reason for each clause
-pub table_reasons_counted : (ts : List Weighted) → IsTable ts → (first id : ℕ) → length (table_reasons ts first id) ≡ table_size ts
-table_reasons_counted ts table first id =
-    let rs = table_reasons ts first id in
-    omega (arith, length-map rs clause_in, ap length (table_reasons_clauses ts first id (table_positive ts table)), table_counts ts first)
+-- one justification for each clause
+pub table_justifications_counted : (ts : List Weighted) → IsTable ts → (first id : ℕ) → length (table_justifications ts first id) ≡ table_size ts
+table_justifications_counted ts table first id =
+    let rs = table_justifications ts first id in
+    omega (arith, length-map rs clause_in, ap length (table_justifications_clauses ts first id (table_positive ts table)), table_counts ts first)
 
 -- three lines for each fresh variable, and two for each clause
 pub table_few : (ts : List Weighted) → IsTable ts → (first next : ℕ) → length (table_steps ts first next) ≤ 8 * (table_fresh ts + table_size ts)
 table_few ts table first next =
-    let rs = table_reasons ts first next in
+    let rs = table_justifications ts first next in
     omega (
       arith,
-      phases_few next (meanings (uncut ts) (tree_of ts) first) (map by_reason rs),
-      length-meanings (uncut ts) (tree_of ts) first,
-      ap length (clauses-reasons rs ∙ table_reasons_clauses ts first next (table_positive ts table)),
+      phases_few next (reifications (uncut ts) (tree_of ts) first) (map by_justification rs),
+      length-reifications (uncut ts) (tree_of ts) first,
+      ap length (clauses-justifications rs ∙ table_justifications_clauses ts first next (table_positive ts table)),
       table_counts ts first,
     )

@@ -11,7 +11,7 @@ use Rattle.pb_family.specs.Families.{VarsBelow, NamesOnly}
 use Rattle.pb_family.proofs.ShortClauses.{when_one}
 use Rattle.pb_tree.specs.Tree.{node, tree_of}
 use Rattle.pb_tree.specs.Scheme.{fresh_of, output, clauses_of, own_of, own_count_of}
-use Rattle.pb_tree.proofs.ByMeaning.{lawful_by_meaning}
+use Rattle.pb_tree.proofs.ByReification.{lawful_by_reification}
 use Rattle.pb_tree.proofs.Extending.{IsNamed, all_from_each, along_counted, along_named, extension, output_named}
 use Rattle.pb_tree.proofs.Laws.{leaf_below, named_of}
 use Rattle.pb_tree.proofs.Splitting.{leaf_listed}
@@ -28,7 +28,7 @@ table_extends ts table first low a =
     let s = uncut ts in
     let t = tree_of ts in
     let laws = generalized_lawful (weight ts) in
-    let ext = extension s Always laws (omega arith) (own_of s) (lawful_by_meaning s Always laws) a t first (leaf_below first ts low) (λ u h. each_positive ts table u (leaf_listed ts u h)) in
+    let ext = extension s Always laws (omega arith) (own_of s) (lawful_by_reification s Always laws) a t first (leaf_below first ts low) (λ u h. each_positive ts table u (leaf_listed ts u h)) in
     let rows : (u : ℕ) → Contains (table_values ts) u → lit_value ext.now (table_output ts first u) ≡ leb u (value a ts) = λ u h. ext.means u h ∙ ap (leb u) (passing_value ts a) in
     let trees = clauses_of s t first in
     let others = clauses_between (table_output ts first) (table_values ts) in
@@ -72,7 +72,7 @@ table_names ts first =
     let Named : Lit → Type 0 = λ l. Contains (vars_of ts) l.var ⊎ ((first ≤ l.var) × (l.var < first + table_fresh ts)) in
     all_from_each (All Named) (table_clauses ts first) (λ c h. all_from_each Named c (λ k among.
     named_of s ts first k.var (elim (Contains-append_cases (clauses_of s t first) (clauses_between o (table_values ts)) c h) as (λ _. IsNamed s t first k.var) [
-      | inl inside ↦ along_named s Always laws (own_of s) (lawful_by_meaning s Always laws) t first c inside k among
+      | inl inside ↦ along_named s Always laws (own_of s) (lawful_by_reification s Always laws) t first c inside k among
       | inr last ↦
           let found = between_cases o (table_values ts) (table_values_rise ts) c last in
           elim (cases_two (negated (o found.1)) (o found.0) k (subst (λ (c : List Lit). Contains c k) (sym found.5) among)) as (λ _. IsNamed s t first k.var) [

@@ -20,7 +20,7 @@ use Rattle.pb_gentot.specs.BoundTable.{IsTable, uncut, table_values}
 use Rattle.pb_gentot.specs.Generalized.{sums, generalized}
 use Rattle.pb_gentot.specs.laws.ByPairs.{value_from}
 use Rattle.pb_gentot.specs.laws.GeneralizedLaws.{Always, generalized_lawful, ascending_cases}
-use Rattle.pb_gentot.specs.laws.Rising.{Rising}
+use Rattle.pb_gentot.specs.Rising.{Rising}
 use Rattle.pb_gentot.proofs.Emitting.{rising_values}
 use Rattle.pb_gentot.proofs.Subsums.{IsSubsum, subsum-append, subsum_assigned}
 

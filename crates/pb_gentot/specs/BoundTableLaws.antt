@@ -14,7 +14,7 @@ use Rattle.pb_family.specs.Derivations.{AreOriginal}
 use Rattle.pb_family.specs.Families.{NamesOnly, VarsBelow}
 use Rattle.pb_gentot.specs.BoundTable.{IsTable, below, table_values, table_output, table_clauses, table_fresh, table_size}
 use Rattle.pb_gentot.specs.BoundTableSteps.{table_steps}
-use Rattle.pb_gentot.specs.laws.Rising.{Rising}
+use Rattle.pb_gentot.specs.Rising.{Rising}
 
 -- the values of the rows ascend, and are what the sum can be, beside 0
 abbrev pub RowsAreSums : Type 0

@@ -1,8 +1,9 @@
 pub mod BoundTable
-pub mod BoundTableExamples
 pub mod BoundTableLaws
 pub mod BoundTableSteps
-pub mod Examples
 pub mod Generalized
 pub mod GeneralizedSteps
 pub mod laws
+pub mod Rising
+pub mod inner
+pub mod examples

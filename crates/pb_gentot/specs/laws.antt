@@ -2,12 +2,3 @@ pub mod ByPairs
 pub mod GeneralizedDerives
 pub mod GeneralizedLaws
 pub mod GeneralizedShort
-pub mod KeptTables
-pub mod Marks
-pub mod Measured
-pub mod Members
-pub mod Nodes
-pub mod Outputs
-pub mod Parts
-pub mod Rising
-pub mod Sources

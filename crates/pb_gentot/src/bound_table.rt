@@ -10,8 +10,8 @@ ghost use Rattle.pb_family.specs.StepSinks.{HandsSteps};
 ghost use Rattle.pb_tree.specs.Tree.{tree_of};
 ghost use Rattle.pb_gentot.specs.BoundTable.{table_values, table_output, table_clauses, table_fresh, table_size, table_rows};
 ghost use Rattle.pb_gentot.specs.BoundTableSteps.{table_steps};
-ghost use Rattle.pb_gentot.specs.laws.Measured.{IsMeasured};
-ghost use Rattle.pb_gentot.specs.laws.Outputs.{output_in, HasRoom};
+ghost use Rattle.pb_gentot.specs.inner.Measured.{IsMeasured};
+ghost use Rattle.pb_gentot.specs.inner.Outputs.{output_in, HasRoom};
 
 use crate::measure::{Part, measure};
 use crate::outputs::Outputs;
@@ -37,7 +37,7 @@ pub struct BoundTable {
 impl Model for BoundTable {
     ghost use Rattle.std.specs.Prelude.{List};
     ghost use Rattle.pb_norm.specs.Constraints.{Weighted, weights};
-    ghost use Rattle.pb_gentot.specs.laws.KeptTables.{IsKeptTable};
+    ghost use Rattle.pb_gentot.specs.inner.KeptTables.{IsKeptTable};
 
     ghost Value = { List Weighted };
 
@@ -56,7 +56,7 @@ fn signed(value: u128) -> i128
 
 /// The values and numbers of a sum, if it has no more fresh variables than the budget. There is one at least for each term
 /// but the first.
-fn measured(
+fn measure_sum(
     alloc: Global,
     terms: &[Term],
     bound: u128,
@@ -91,7 +91,7 @@ impl BoundTable {
     {
         let given = terms.as_slice();
         let weight = weight_of(given);
-        let part = match measured(alloc, given, weight, budget)? {
+        let part = match measure_sum(alloc, given, weight, budget)? {
             Some(part) => part,
             None => return Ok(Built::Over),
         };

@@ -1,13 +1,13 @@
 //! The clauses of a node, by the constraints that they follow from.
 ghost use Rattle.std.specs.Prelude.{◌≡◌, ◌<◌, ◌+◌, ◌^◌, ◌++◌, ◌∷◌, [], min, All, Contains, length, slice_index, IfOk};
-ghost use Rattle.pb_family.specs.laws.HandedReasons.{HandsReasons};
-ghost use Rattle.pb_gentot.specs.laws.Nodes.{HasSums};
-ghost use Rattle.pb_gentot.specs.laws.Sources.{HasIds, ids_at, IsHandedWithin, IsOwned, second_of, sum_at};
-ghost use Rattle.pb_gentot.specs.laws.Sources.{one_at, ones_given, both_at, row_given, pairs_given, node_given};
+ghost use Rattle.pb_family.specs.inner.HandedJustifications.{HandsJustifications};
+ghost use Rattle.pb_gentot.specs.inner.Nodes.{HasSums};
+ghost use Rattle.pb_gentot.specs.inner.Sources.{HasIds, ids_at, IsHandedWithin, IsOwned, second_of, sum_at};
+ghost use Rattle.pb_gentot.specs.inner.Sources.{one_at, ones_given, both_at, row_given, pairs_given, node_given};
 
 use crate::ranks::Ranks;
 use pb_base::Term;
-use pb_family::{SinkFault, StepSink, take_claim};
+use pb_family::{SinkFault, StepSink, derive_claim};
 use std::alloc::{AllocError, Global};
 
 /// Where the outputs of a part have their constraints: a leaf has none, else the first one's have an id and the next.
@@ -35,7 +35,7 @@ pub struct Owned {
 
 impl Owned {
     ghost use Rattle.std.specs.Prelude.{◌≡◌, Contains};
-    ghost use Rattle.pb_gentot.specs.laws.Sources.{IsOwned, second_of};
+    ghost use Rattle.pb_gentot.specs.inner.Sources.{IsOwned, second_of};
 
     /// The id of the second constraint of a value.
     pub fn second(&self, value: u128) -> u64
@@ -78,7 +78,7 @@ fn one_ids(alloc: Global, part: &Handed, place: usize, own: &Owned) -> Result<Ve
 }
 
 /// That a value of a part gives one of the node.
-fn take_one<T: StepSink>(
+fn derive_one<T: StepSink>(
     alloc: Global,
     part: &Handed,
     place: usize,
@@ -91,14 +91,14 @@ fn take_one<T: StepSink>(
     requires owned { IsOwned own.now }
     requires has { Contains own.now.values.items (slice_index part.now.values.items place) }
     requires few { (T.state sink.old).next + 1 < 2 ^ 62 }
-    ensures { HandsReasons (one_at part.now others.now own.now place ∷ []) result (T.state sink.old) (T.state sink.new) }
+    ensures { HandsJustifications (one_at part.now others.now own.now place ∷ []) result (T.state sink.old) (T.state sink.new) }
 {
     let ids = one_ids(alloc, part, place, own)?;
-    take_claim(alloc, ids.as_slice(), others, sink)
+    derive_claim(alloc, ids.as_slice(), others, sink)
 }
 
 /// That each value of a part gives one of the node.
-fn take_ones<T: StepSink>(
+fn derive_ones<T: StepSink>(
     alloc: Global,
     part: &Handed,
     others: &[Term],
@@ -109,10 +109,10 @@ fn take_ones<T: StepSink>(
     requires owned { IsOwned own.now }
     requires has { All (Contains own.now.values.items) part.now.values.items }
     requires few { (T.state sink.old).next + length part.now.values.items < 2 ^ 62 }
-    ensures { HandsReasons (ones_given part.now others.now own.now) result (T.state sink.old) (T.state sink.new) }
+    ensures { HandsJustifications (ones_given part.now others.now own.now) result (T.state sink.old) (T.state sink.new) }
 {
     for place in 0..part.values.len() {
-        take_one(alloc, part, place, others, own, sink)?;
+        derive_one(alloc, part, place, others, own, sink)?;
     }
     Ok(())
 }
@@ -157,7 +157,7 @@ fn both_ids(
 }
 
 /// That two values give their sum.
-fn take_both<T: StepSink>(
+fn derive_both<T: StepSink>(
     alloc: Global,
     left: &Handed,
     i: usize,
@@ -175,14 +175,14 @@ fn take_both<T: StepSink>(
     requires small { cap < 2 ^ 101 }
     requires has { Contains own.now.values.items (sum_at cap left.now right.now i j) }
     requires few { (T.state sink.old).next + 1 < 2 ^ 62 }
-    ensures { HandsReasons (both_at cap left.now right.now own.now i j ∷ []) result (T.state sink.old) (T.state sink.new) }
+    ensures { HandsJustifications (both_at cap left.now right.now own.now i j ∷ []) result (T.state sink.old) (T.state sink.new) }
 {
     let ids = both_ids(alloc, left, i, right, j, own, cap)?;
-    take_claim(alloc, ids.as_slice(), &[], sink)
+    derive_claim(alloc, ids.as_slice(), &[], sink)
 }
 
 /// That a value of the left and each of the right give their sum.
-fn take_row<T: StepSink>(
+fn derive_row<T: StepSink>(
     alloc: Global,
     left: &Handed,
     i: usize,
@@ -198,16 +198,16 @@ fn take_row<T: StepSink>(
     requires small { cap < 2 ^ 101 }
     requires has { All (λ v. Contains own.now.values.items (min (slice_index left.now.values.items i + v) cap)) right.now.values.items }
     requires few { (T.state sink.old).next + length right.now.values.items < 2 ^ 62 }
-    ensures { HandsReasons (row_given cap left.now right.now own.now i) result (T.state sink.old) (T.state sink.new) }
+    ensures { HandsJustifications (row_given cap left.now right.now own.now i) result (T.state sink.old) (T.state sink.new) }
 {
     for j in 0..right.values.len() {
-        take_both(alloc, left, i, right, j, own, cap, sink)?;
+        derive_both(alloc, left, i, right, j, own, cap, sink)?;
     }
     Ok(())
 }
 
 /// That each two values of the parts give their sum.
-fn take_pairs<T: StepSink>(
+fn derive_pairs<T: StepSink>(
     alloc: Global,
     left: &Handed,
     right: &Handed,
@@ -221,16 +221,16 @@ fn take_pairs<T: StepSink>(
     requires small { cap < 2 ^ 101 }
     requires has { All (λ u. All (λ v. Contains own.now.values.items (min (u + v) cap)) right.now.values.items) left.now.values.items }
     requires few { (T.state sink.old).next + length (pairs_given cap left.now right.now own.now) < 2 ^ 62 }
-    ensures { HandsReasons (pairs_given cap left.now right.now own.now) result (T.state sink.old) (T.state sink.new) }
+    ensures { HandsJustifications (pairs_given cap left.now right.now own.now) result (T.state sink.old) (T.state sink.new) }
 {
     for i in 0..left.values.len() {
-        take_row(alloc, left, i, right, own, cap, sink)?;
+        derive_row(alloc, left, i, right, own, cap, sink)?;
     }
     Ok(())
 }
 
 /// A node's own clauses.
-pub fn take_node<T: StepSink>(
+pub fn derive_node<T: StepSink>(
     alloc: Global,
     left: &Handed,
     lefts: &[Term],
@@ -246,9 +246,9 @@ pub fn take_node<T: StepSink>(
     requires small { cap < 2 ^ 101 }
     requires has { HasSums cap left.now.values.items right.now.values.items own.now.values.items }
     requires few { (T.state sink.old).next + length (node_given cap left.now lefts.now right.now rights.now own.now) < 2 ^ 62 }
-    ensures { HandsReasons (node_given cap left.now lefts.now right.now rights.now own.now) result (T.state sink.old) (T.state sink.new) }
+    ensures { HandsJustifications (node_given cap left.now lefts.now right.now rights.now own.now) result (T.state sink.old) (T.state sink.new) }
 {
-    take_ones(alloc, left, rights, own, sink)?;
-    take_ones(alloc, right, lefts, own, sink)?;
-    take_pairs(alloc, left, right, own, cap, sink)
+    derive_ones(alloc, left, rights, own, sink)?;
+    derive_ones(alloc, right, lefts, own, sink)?;
+    derive_pairs(alloc, left, right, own, cap, sink)
 }

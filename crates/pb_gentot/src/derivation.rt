@@ -3,20 +3,20 @@ ghost use Rattle.std.specs.Prelude.{◌≡◌, ◌≤◌, ◌<◌, ◌+◌, ◌*
 ghost use Rattle.pb_norm.specs.BoundedSums.{sum_within};
 ghost use Rattle.pb_norm.specs.Constraints.{weight, weights};
 ghost use Rattle.pb_family.specs.StepSinks.{HandsSteps};
-ghost use Rattle.pb_family.specs.laws.HandedReasons.{HandsReasons};
+ghost use Rattle.pb_family.specs.inner.HandedJustifications.{HandsJustifications};
 ghost use Rattle.pb_tree.specs.Tree.{tree_of};
 ghost use Rattle.pb_tree.specs.Scheme.{values, fresh_of, clause_count_of};
 ghost use Rattle.pb_gentot.specs.Generalized.{generalized};
 ghost use Rattle.pb_gentot.specs.GeneralizedSteps.{generalized_steps};
-ghost use Rattle.pb_gentot.specs.laws.Rising.{Rising};
-ghost use Rattle.pb_gentot.specs.laws.Sources.{AreLeavesPositive, HasIds, ids_of, root_given, part_reasons, all_reasons};
+ghost use Rattle.pb_gentot.specs.Rising.{Rising};
+ghost use Rattle.pb_gentot.specs.inner.Sources.{AreLeavesPositive, HasIds, ids_of, root_given, part_justifications, all_justifications};
 
 use crate::claims::{Handed, push_first};
-use crate::handing::take_part;
-use crate::meanings::take_meanings;
+use crate::handing::derive_part;
 use crate::outputs::place_in;
+use crate::reifications::derive_reifications;
 use pb_base::Term;
-use pb_family::{SinkFault, StepSink, take_claim, take_deletions};
+use pb_family::{SinkFault, StepSink, derive_claim, derive_deletions};
 use std::alloc::{AllocError, Global};
 
 /// The ids of the constraints that the root's clause follows from.
@@ -34,7 +34,7 @@ fn root_ids(alloc: Global, root: &Handed, cap: u128, own: u64) -> Result<Vec<u64
 }
 
 /// That the sum of the true leaves does not reach the cap, by the sum's own constraint.
-fn take_root<T: StepSink>(
+fn derive_root<T: StepSink>(
     alloc: Global,
     root: &Handed,
     cap: u128,
@@ -45,14 +45,14 @@ fn take_root<T: StepSink>(
     requires has { Contains root.now.values.items cap }
     requires room { HasIds root.now.source (length root.now.values.items) }
     requires few { (T.state sink.old).next + 1 < 2 ^ 62 }
-    ensures { HandsReasons (root_given root.now cap own ∷ []) result (T.state sink.old) (T.state sink.new) }
+    ensures { HandsJustifications (root_given root.now cap own ∷ []) result (T.state sink.old) (T.state sink.new) }
 {
     let ids = root_ids(alloc, root, cap, own)?;
-    take_claim(alloc, ids.as_slice(), &[], sink)
+    derive_claim(alloc, ids.as_slice(), &[], sink)
 }
 
 /// The clauses of the generalized totalizer of some terms, with that of the root.
-fn take_clauses<T: StepSink>(
+fn derive_clauses<T: StepSink>(
     alloc: Global,
     terms: &[Term],
     bound: u128,
@@ -66,11 +66,11 @@ fn take_clauses<T: StepSink>(
     requires root { Contains (values (generalized bound) (tree_of (weights terms.now))) (bound + 1) }
     requires few { fresh_of (generalized bound) (tree_of (weights terms.now)) ≤ 2 ^ 31 }
     requires ids { id + 2 * fresh_of (generalized bound) (tree_of (weights terms.now)) < 2 ^ 62 }
-    requires room { (T.state sink.old).next + length (part_reasons bound terms.now id) + 1 < 2 ^ 62 }
-    ensures { HandsReasons (all_reasons bound terms.now id own) result (T.state sink.old) (T.state sink.new) }
+    requires room { (T.state sink.old).next + length (part_justifications bound terms.now id) + 1 < 2 ^ 62 }
+    ensures { HandsJustifications (all_justifications bound terms.now id own) result (T.state sink.old) (T.state sink.new) }
 {
-    let root = take_part(alloc, terms, bound, id, sink)?;
-    take_root(alloc, &root, bound + 1, own, sink)
+    let root = derive_part(alloc, terms, bound, id, sink)?;
+    derive_root(alloc, &root, bound + 1, own, sink)
 }
 
 /// Hands over the whole derivation, where `id` is the constraint's.
@@ -94,7 +94,7 @@ pub fn derive_weighted<T: StepSink>(
     ensures { HandsSteps (generalized_steps (sum_within terms.now bound) first id (T.state sink.old).next) result (T.state sink.old) (T.state sink.new) }
 {
     let base = sink.next_id();
-    let meant = take_meanings(alloc, terms, bound, first, sink)?;
-    take_clauses(alloc, terms, bound, base, id, sink)?;
-    take_deletions(alloc, base, 2, (meant.next - first) as u64, sink)
+    let meant = derive_reifications(alloc, terms, bound, first, sink)?;
+    derive_clauses(alloc, terms, bound, base, id, sink)?;
+    derive_deletions(alloc, base, 2, (meant.next - first) as u64, sink)
 }

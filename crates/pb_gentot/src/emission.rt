@@ -1,9 +1,9 @@
 //! The clauses of a node, one after another.
 ghost use Rattle.std.specs.Prelude.{◌<◌, ◌+◌, ◌^◌, All, min, length, slice_index, Contains};
 ghost use Rattle.pb_family.specs.Handing.{Hands};
-ghost use Rattle.pb_gentot.specs.laws.Nodes.{IsReady, HasLiterals, HasSums, ones_over, row_over, pairs_over, clauses_over};
-ghost use Rattle.pb_gentot.specs.laws.Outputs.{HasRoom};
-ghost use Rattle.pb_gentot.specs.laws.Rising.{Rising};
+ghost use Rattle.pb_gentot.specs.inner.Nodes.{IsReady, HasLiterals, HasSums, ones_over, row_over, pairs_over, clauses_over};
+ghost use Rattle.pb_gentot.specs.inner.Outputs.{HasRoom};
+ghost use Rattle.pb_gentot.specs.Rising.{Rising};
 
 use crate::node::Node;
 use crate::outputs::Outputs;

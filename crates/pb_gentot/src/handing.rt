@@ -1,15 +1,15 @@
 //! The clauses of a generalized totalizer's derivation, part by part.
 ghost use Rattle.std.specs.Prelude.{◌≡◌, ◌≤◌, ◌<◌, ◌+◌, ◌*◌, ◌^◌, length, IfOk};
 ghost use Rattle.pb_norm.specs.Constraints.{weights};
-ghost use Rattle.pb_family.specs.laws.HandedReasons.{HandsReasons};
+ghost use Rattle.pb_family.specs.inner.HandedJustifications.{HandsJustifications};
 ghost use Rattle.pb_tree.specs.Tree.{tree_of};
 ghost use Rattle.pb_tree.specs.Scheme.{values, fresh_of};
 ghost use Rattle.pb_tree.specs.TreeSteps.{output_ids};
 ghost use Rattle.pb_gentot.specs.Generalized.{generalized, ascending, sums};
-ghost use Rattle.pb_gentot.specs.laws.Nodes.{HasSums};
-ghost use Rattle.pb_gentot.specs.laws.Sources.{AreLeavesPositive, IsHandedWithin, IsOwned, ids_of, part_reasons};
+ghost use Rattle.pb_gentot.specs.inner.Nodes.{HasSums};
+ghost use Rattle.pb_gentot.specs.inner.Sources.{AreLeavesPositive, IsHandedWithin, IsOwned, ids_of, part_justifications};
 
-use crate::claims::{Handed, Owned, Source, take_node};
+use crate::claims::{Handed, Owned, Source, derive_node};
 use crate::halving::{halves, leaf_values};
 use crate::ranks::Ranks;
 use crate::sets::values_over;
@@ -19,7 +19,12 @@ use pb_family::{SinkFault, StepSink};
 use std::alloc::{AllocError, Global};
 
 /// What a node has over two parts.
-fn owned(alloc: Global, left: &Handed, right: &Handed, cap: u128) -> Result<Owned, AllocError>
+fn node_of_parts(
+    alloc: Global,
+    left: &Handed,
+    right: &Handed,
+    cap: u128,
+) -> Result<Owned, AllocError>
     requires left { IsHandedWithin cap left.now }
     requires right { IsHandedWithin cap right.now }
     requires few { cap < 2 ^ 101 }
@@ -43,7 +48,7 @@ fn owned(alloc: Global, left: &Handed, right: &Handed, cap: u128) -> Result<Owne
 }
 
 /// The clauses of the generalized totalizer of some terms, whose variables' constraints have the ids from `id` on.
-pub fn take_part<T: StepSink>(
+pub fn derive_part<T: StepSink>(
     alloc: Global,
     terms: &[Term],
     bound: u128,
@@ -55,8 +60,8 @@ pub fn take_part<T: StepSink>(
     requires small { bound < 2 ^ 100 }
     requires few { fresh_of (generalized bound) (tree_of (weights terms.now)) ≤ 2 ^ 31 }
     requires ids { id + 2 * fresh_of (generalized bound) (tree_of (weights terms.now)) < 2 ^ 62 }
-    requires room { (T.state sink.old).next + length (part_reasons bound terms.now id) < 2 ^ 62 }
-    ensures hands { HandsReasons (part_reasons bound terms.now id) result (T.state sink.old) (T.state sink.new) }
+    requires room { (T.state sink.old).next + length (part_justifications bound terms.now id) < 2 ^ 62 }
+    ensures hands { HandsJustifications (part_justifications bound terms.now id) result (T.state sink.old) (T.state sink.new) }
     ensures values { IfOk result (λ part. part.values.items ≡ values (generalized bound) (tree_of (weights terms.now))) }
     ensures ids { IfOk result (λ part. ids_of part ≡ output_ids (generalized bound) (tree_of (weights terms.now)) id) }
     ensures within { IfOk result (λ part. IsHandedWithin (bound + 1) part) }
@@ -72,10 +77,10 @@ pub fn take_part<T: StepSink>(
     }
     let cap = bound + 1;
     let (lefts, rights) = halves(terms);
-    let left = take_part(alloc, lefts, bound, id, sink)?;
-    let right = take_part(alloc, rights, bound, left.next, sink)?;
-    let own = owned(alloc, &left, &right, cap)?;
-    take_node(alloc, &left, lefts, &right, rights, &own, cap, sink)?;
+    let left = derive_part(alloc, lefts, bound, id, sink)?;
+    let right = derive_part(alloc, rights, bound, left.next, sink)?;
+    let own = node_of_parts(alloc, &left, &right, cap)?;
+    derive_node(alloc, &left, lefts, &right, rights, &own, cap, sink)?;
     let next = right.next + 2 * own.values.len() as u64;
     Ok(Handed {
         values: own.values,

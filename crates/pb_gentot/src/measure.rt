@@ -2,10 +2,10 @@
 ghost use Rattle.std.specs.Prelude.{◌≡◌, ◌≤◌, ◌<◌, ◌+◌, ◌*◌, ◌^◌, length, IfOk};
 ghost use Rattle.pb_norm.specs.Constraints.{weights};
 ghost use Rattle.pb_tree.specs.Tree.{tree_of};
-ghost use Rattle.pb_gentot.specs.laws.Measured.{IsMeasured};
+ghost use Rattle.pb_gentot.specs.inner.Measured.{IsMeasured};
 
 use crate::halving::{halves, leaf_values};
-use crate::sets::joined;
+use crate::sets::join_values;
 use pb_base::Term;
 use std::alloc::{AllocError, Global};
 
@@ -57,7 +57,7 @@ pub fn measure(
         None => return Ok(None),
     };
     let room = budget - left.fresh - right.fresh;
-    let found = joined(
+    let found = join_values(
         alloc,
         left.values.as_slice(),
         right.values.as_slice(),

@@ -14,7 +14,7 @@ pub struct Node {
 
 impl Node {
     ghost use Rattle.std.specs.Prelude.{◌≡◌, Contains};
-    ghost use Rattle.pb_gentot.specs.laws.Nodes.{IsReady, own_output};
+    ghost use Rattle.pb_gentot.specs.inner.Nodes.{IsReady, own_output};
 
     /// The literal of a value.
     pub fn of(&self, value: u128) -> Lit

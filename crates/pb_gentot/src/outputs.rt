@@ -1,7 +1,7 @@
 //! The literals that a part gives to what stands over it.
 ghost use Rattle.std.specs.Prelude.{◌≡◌, ◌<◌, length, Contains, slice_index};
 ghost use Rattle.pb_tree.specs.Places.{place_of};
-ghost use Rattle.pb_gentot.specs.laws.Rising.{Rising};
+ghost use Rattle.pb_gentot.specs.Rising.{Rising};
 
 use pb_base::Lit;
 use pb_family::fresh_at;
@@ -27,8 +27,8 @@ pub fn place_in(values: &[u128], value: u128) -> usize
 
 impl Outputs {
     ghost use Rattle.std.specs.Prelude.{◌≡◌, ◌<◌, length, Contains, slice_index};
-    ghost use Rattle.pb_gentot.specs.laws.Rising.{Rising};
-    ghost use Rattle.pb_gentot.specs.laws.Outputs.{output_in, HasRoom};
+    ghost use Rattle.pb_gentot.specs.Rising.{Rising};
+    ghost use Rattle.pb_gentot.specs.inner.Outputs.{output_in, HasRoom};
 
     /// The literal of the value at a place.
     pub fn at(&self, values: &[u128], place: usize) -> Lit

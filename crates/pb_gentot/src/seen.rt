@@ -10,7 +10,7 @@ pub struct Seen {
 
 impl Seen {
     ghost use Rattle.std.specs.Prelude.{◌≡◌, ◌⊎◌, ℕ, IfOk, false};
-    ghost use Rattle.pb_gentot.specs.laws.Marks.{HasMark, MarksOnly};
+    ghost use Rattle.pb_gentot.specs.inner.Marks.{HasMark, MarksOnly};
 
     /// Marks of some values, in a table of a size.
     pub fn of(alloc: Global, values: &[u128], size: usize) -> Result<Seen, AllocError>

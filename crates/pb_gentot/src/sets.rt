@@ -1,8 +1,8 @@
 //! The values of a node.
 ghost use Rattle.std.specs.Prelude.{◌≡◌, ◌≤◌, ◌<◌, ◌+◌, ◌^◌, ◌++◌, ◌∷◌, [], All, map, min, length, IfOk, IfSome, IfNone};
-ghost use Rattle.pb_gentot.specs.laws.Rising.{Rising};
-ghost use Rattle.pb_gentot.specs.laws.Marks.{MarksOnly};
-ghost use Rattle.pb_gentot.specs.laws.Members.{SameMembers};
+ghost use Rattle.pb_gentot.specs.Rising.{Rising};
+ghost use Rattle.pb_gentot.specs.inner.Marks.{MarksOnly};
+ghost use Rattle.pb_gentot.specs.inner.Members.{SameMembers};
 ghost use Rattle.pb_gentot.specs.Generalized.{sums, ascending};
 
 use crate::seen::Seen;
@@ -55,7 +55,7 @@ fn tidy(values: &mut Vec<u128>)
 /// The values of a node over two parts, if they are no more than a limit. Where a table of the numbers up to the cap is
 /// small, no number is appended twice. Elsewhere, whenever the list has doubled, those that stand there twice are left out,
 /// so that no more than three times as many numbers are held at once.
-pub fn joined(
+pub fn join_values(
     alloc: Global,
     left: &[u128],
     right: &[u128],
@@ -112,6 +112,6 @@ pub fn values_over(
     requires fits { length (ascending cap (sums cap left.now right.now)) ≤ 2 ^ 31 }
     ensures { IfOk result (λ made. made.items ≡ ascending cap (sums cap left.now right.now)) }
 {
-    let found = joined(alloc, left, right, cap, 1 << 31)?;
+    let found = join_values(alloc, left, right, cap, 1 << 31)?;
     Ok(found.unwrap())
 }

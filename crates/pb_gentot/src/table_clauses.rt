@@ -6,9 +6,9 @@ ghost use Rattle.pb_tree.specs.Tree.{tree_of};
 ghost use Rattle.pb_tree.specs.Scheme.{fresh_of};
 ghost use Rattle.pb_gentot.specs.BoundTable.{neighbours, neighbour_clause};
 ghost use Rattle.pb_gentot.specs.Generalized.{generalized};
-ghost use Rattle.pb_gentot.specs.laws.KeptTables.{clauses_by};
-ghost use Rattle.pb_gentot.specs.laws.Outputs.{output_in, HasRoom};
-ghost use Rattle.pb_gentot.specs.laws.Rising.{Rising};
+ghost use Rattle.pb_gentot.specs.inner.KeptTables.{clauses_by};
+ghost use Rattle.pb_gentot.specs.inner.Outputs.{output_in, HasRoom};
+ghost use Rattle.pb_gentot.specs.Rising.{Rising};
 
 use crate::outputs::Outputs;
 use crate::tree::emit_part;

@@ -3,22 +3,22 @@ ghost use Rattle.std.specs.Prelude.{◌≡◌, ◌≤◌, ◌<◌, ◌+◌, ◌*
 ghost use Rattle.std.specs.List.{range_with_len};
 ghost use Rattle.pb_norm.specs.Constraints.{weight, weights};
 ghost use Rattle.pb_family.specs.StepSinks.{HandsSteps};
-ghost use Rattle.pb_family.specs.laws.HandedReasons.{HandsReasons};
+ghost use Rattle.pb_family.specs.inner.HandedJustifications.{HandsJustifications};
 ghost use Rattle.pb_tree.specs.Tree.{tree_of};
 ghost use Rattle.pb_tree.specs.Scheme.{values, fresh_of, clause_count_of};
 ghost use Rattle.pb_gentot.specs.Generalized.{generalized};
-ghost use Rattle.pb_gentot.specs.laws.KeptTables.{reasons_by, rise_at, rises_of, steps_by};
-ghost use Rattle.pb_gentot.specs.laws.Sources.{AreLeavesPositive, HasIds, part_reasons};
+ghost use Rattle.pb_gentot.specs.inner.KeptTables.{justifications_by, rise_at, rises_of, steps_by};
+ghost use Rattle.pb_gentot.specs.inner.Sources.{AreLeavesPositive, HasIds, part_justifications};
 
 use crate::claims::{Handed, Source};
-use crate::handing::take_part;
-use crate::meanings::take_meanings;
+use crate::handing::derive_part;
+use crate::reifications::derive_reifications;
 use pb_base::Term;
-use pb_family::{SinkFault, StepSink, take_claim, take_deletions};
+use pb_family::{SinkFault, StepSink, derive_claim, derive_deletions};
 use std::alloc::Global;
 
 /// That what reaches the value behind a place reaches the one there.
-fn take_rise<T: StepSink>(
+fn derive_rise<T: StepSink>(
     alloc: Global,
     id: u64,
     place: usize,
@@ -26,14 +26,14 @@ fn take_rise<T: StepSink>(
 ) -> Result<(), SinkFault>
     requires ids { id + 2 * place + 2 < 2 ^ 62 }
     requires few { (T.state sink.old).next + 1 < 2 ^ 62 }
-    ensures { HandsReasons (rise_at id place ∷ []) result (T.state sink.old) (T.state sink.new) }
+    ensures { HandsJustifications (rise_at id place ∷ []) result (T.state sink.old) (T.state sink.new) }
 {
     let own = id + 2 * place as u64;
-    take_claim(alloc, &[own + 2, own + 1], &[], sink)
+    derive_claim(alloc, &[own + 2, own + 1], &[], sink)
 }
 
 /// That for each of the places.
-fn take_rises<T: StepSink>(
+fn derive_rises<T: StepSink>(
     alloc: Global,
     id: u64,
     count: usize,
@@ -41,31 +41,35 @@ fn take_rises<T: StepSink>(
 ) -> Result<(), SinkFault>
     requires ids { id + 2 * count < 2 ^ 62 }
     requires few { (T.state sink.old).next + count < 2 ^ 62 }
-    ensures { HandsReasons (map (rise_at id) (range_with_len 0 count)) result (T.state sink.old) (T.state sink.new) }
+    ensures { HandsJustifications (map (rise_at id) (range_with_len 0 count)) result (T.state sink.old) (T.state sink.new) }
 {
     for place in 0..count {
-        take_rise(alloc, id, place, sink)?;
+        derive_rise(alloc, id, place, sink)?;
     }
     Ok(())
 }
 
 /// That for all neighbours of a part.
-fn take_neighbours<T: StepSink>(alloc: Global, root: &Handed, sink: &mut T) -> Result<(), SinkFault>
+fn derive_neighbours<T: StepSink>(
+    alloc: Global,
+    root: &Handed,
+    sink: &mut T,
+) -> Result<(), SinkFault>
     requires room { HasIds root.now.source (length root.now.values.items) }
     requires few { (T.state sink.old).next + length root.now.values.items < 2 ^ 62 }
-    ensures { HandsReasons (rises_of root.now.source (length root.now.values.items)) result (T.state sink.old) (T.state sink.new) }
+    ensures { HandsJustifications (rises_of root.now.source (length root.now.values.items)) result (T.state sink.old) (T.state sink.new) }
 {
     match root.source {
         Source::Leaf => Ok(()),
         Source::Fresh(id) => {
             let count = root.values.len().saturating_sub(1);
-            take_rises(alloc, id, count, sink)
+            derive_rises(alloc, id, count, sink)
         }
     }
 }
 
 /// The clauses of some terms, with those between neighbours, where the variables' constraints have the ids from `id` on.
-fn take_table<T: StepSink>(
+fn derive_whole_table<T: StepSink>(
     alloc: Global,
     terms: &[Term],
     bound: u128,
@@ -77,11 +81,11 @@ fn take_table<T: StepSink>(
     requires small { bound < 2 ^ 100 }
     requires few { fresh_of (generalized bound) (tree_of (weights terms.now)) ≤ 2 ^ 31 }
     requires ids { id + 2 * fresh_of (generalized bound) (tree_of (weights terms.now)) < 2 ^ 62 }
-    requires room { (T.state sink.old).next + length (part_reasons bound terms.now id) + length (values (generalized bound) (tree_of (weights terms.now))) < 2 ^ 62 }
-    ensures { HandsReasons (reasons_by bound terms.now 0 id) result (T.state sink.old) (T.state sink.new) }
+    requires room { (T.state sink.old).next + length (part_justifications bound terms.now id) + length (values (generalized bound) (tree_of (weights terms.now))) < 2 ^ 62 }
+    ensures { HandsJustifications (justifications_by bound terms.now 0 id) result (T.state sink.old) (T.state sink.new) }
 {
-    let root = take_part(alloc, terms, bound, id, sink)?;
-    take_neighbours(alloc, &root, sink)
+    let root = derive_part(alloc, terms, bound, id, sink)?;
+    derive_neighbours(alloc, &root, sink)
 }
 
 /// Hands over the whole derivation.
@@ -105,7 +109,7 @@ pub fn derive_table<T: StepSink>(
         return Ok(());
     }
     let base = sink.next_id();
-    let meant = take_meanings(alloc, terms, bound, first, sink)?;
-    take_table(alloc, terms, bound, base, sink)?;
-    take_deletions(alloc, base, 2, (meant.next - first) as u64, sink)
+    let meant = derive_reifications(alloc, terms, bound, first, sink)?;
+    derive_whole_table(alloc, terms, bound, base, sink)?;
+    derive_deletions(alloc, base, 2, (meant.next - first) as u64, sink)
 }

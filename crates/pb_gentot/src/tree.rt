@@ -4,9 +4,9 @@ ghost use Rattle.pb_norm.specs.Constraints.{weights};
 ghost use Rattle.pb_family.specs.Handing.{HandsIfMemory};
 ghost use Rattle.pb_tree.specs.Tree.{tree_of};
 ghost use Rattle.pb_tree.specs.Scheme.{values, fresh_of, output, clauses_of, tree_clauses};
-ghost use Rattle.pb_gentot.specs.laws.Nodes.{HasLiterals};
-ghost use Rattle.pb_gentot.specs.laws.Outputs.{output_in};
-ghost use Rattle.pb_gentot.specs.laws.Parts.{node_values, output_over, clauses_over_parts};
+ghost use Rattle.pb_gentot.specs.inner.Nodes.{HasLiterals};
+ghost use Rattle.pb_gentot.specs.inner.Outputs.{output_in};
+ghost use Rattle.pb_gentot.specs.inner.Parts.{node_values, output_over, clauses_over_parts};
 ghost use Rattle.pb_gentot.specs.Generalized.{generalized};
 
 use crate::emission::emit_node;

@@ -8,11 +8,11 @@ use Rattle.pb_base.specs.declared.literal.Lit.{Lit}
 use Rattle.pb_base.specs.Literals.{negated, is_same, is_among}
 use Rattle.pb_base.proofs.LiteralLemmas.{is_same-negated, same_lit}
 use Rattle.pb_norm.specs.ClauseForm.{is_tautology}
-use Rattle.pb_lrat.specs.declared.judge.Left.{Left}
-use Rattle.pb_lrat.specs.declared.judge.Left.TheVariants.{Nothing, Single, More}
+use Rattle.pb_lrat.specs.declared.judge.ClauseStatus.{ClauseStatus}
+use Rattle.pb_lrat.specs.declared.judge.ClauseStatus.TheVariants.{Nothing, Single, More}
 use Rattle.pb_lrat.specs.Hints.{Kept, is_nothing, with_true, left_of}
 use Rattle.pb_lrat.specs.LratStates.{numbered}
-use Rattle.pb_lrat.specs.laws.Looks.{kind_of, left_with}
+use Rattle.pb_lrat.specs.inner.Looks.{kind_of, left_with}
 
 -- ---- opposite literals
 
@@ -101,7 +101,7 @@ clash_tautology ls = clash_cases [] ls ∙ ap (λ (b : Bool). b || is_tautology 
 -- ---- what is left of a clause
 
 -- what is left with more literals
-abbrev pub left_after : Left → List Lit → Left
+abbrev pub left_after : ClauseStatus → List Lit → ClauseStatus
 left_after left [] = left
 left_after left (l ∷ ls) = left_after (left_with left l) ls
 
@@ -122,7 +122,7 @@ kind_after [] = refl
 kind_after (l ∷ ls) = sym (single_after l ls)
 
 -- one more literal of a clause
-pub left_next : (held : List Lit) (left : Left) (l : Lit) (ls : List Lit) → left_after left (left_of held (l ∷ ls)) ≡ left_after (if is_among held (negated l) then left else left_with left l) (left_of held ls)
+pub left_next : (held : List Lit) (left : ClauseStatus) (l : Lit) (ls : List Lit) → left_after left (left_of held (l ∷ ls)) ≡ left_after (if is_among held (negated l) then left else left_with left l) (left_of held ls)
 left_next held left l ls =
     elim (cases_Bool (is_among held (negated l))) as (λ _. left_after left (left_of held (l ∷ ls)) ≡ left_after (if is_among held (negated l) then left else left_with left l) (left_of held ls)) [
       | inl there ↦ rw there refl
@@ -130,12 +130,12 @@ left_next held left l ls =
     ]
 
 -- a literal by what is left, or another one
-literal_or : Lit → Left → Lit
+literal_or : Lit → ClauseStatus → Lit
 literal_or d Nothing = d
 literal_or d (Single l) = l
 literal_or d More = d
 
-is_single : Left → Bool
+is_single : ClauseStatus → Bool
 is_single Nothing = false
 is_single (Single l) = true
 is_single More = false
@@ -149,13 +149,13 @@ unfolding is_single
 nothing_no k e = let no : false ≡ true = ap is_single e in false≢true no
 
 -- once more is left, it stays
-pub settled : (held clause : List Lit) (i : ℕ) (l : Lit) (left next : Left) → i < length clause → l ≡ get_or clause i l → kind_of (left_of held clause) ≡ left_after left (left_of held (drop i clause)) → next ≡ (if is_among held (negated l) then left else left_with left l) → next ≡ More → next ≡ kind_of (left_of held clause)
+pub settled : (held clause : List Lit) (i : ℕ) (l : Lit) (left next : ClauseStatus) → i < length clause → l ≡ get_or clause i l → kind_of (left_of held clause) ≡ left_after left (left_of held (drop i clause)) → next ≡ (if is_among held (negated l) then left else left_with left l) → next ≡ More → next ≡ kind_of (left_of held clause)
 settled held clause i l left next below is so_far step more =
     let rest : drop i clause ≡ l ∷ drop (suc i) clause = drop-cons clause i l below ∙ ap (λ (k : Lit). k ∷ drop (suc i) clause) (sym is) in
     more ∙ sym (so_far ∙
     (ap (λ (ls : List Lit). left_after left (left_of held ls)) rest ∙
     (left_next held left l (drop (suc i) clause) ∙
-    (ap (λ (k : Left). left_after k (left_of held (drop (suc i) clause))) (sym step ∙ more) ∙ more_stays (left_of held (drop (suc i) clause))))))
+    (ap (λ (k : ClauseStatus). left_after k (left_of held (drop (suc i) clause))) (sym step ∙ more) ∙ more_stays (left_of held (drop (suc i) clause))))))
 
 -- ---- the clauses of a CNF
 

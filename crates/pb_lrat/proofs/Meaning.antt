@@ -23,7 +23,7 @@ use Rattle.pb_dimacs.specs.CnfRows.{CnfRow, rows_of}
 use Rattle.pb_dimacs.specs.CnfRows.CnfRow.{plain, too_long, last}
 use Rattle.pb_lrat.specs.LratWalk.{LratEnding, ending_of, walk_by, walk_from}
 use Rattle.pb_lrat.specs.LratWalk.LratEnding.{refuted, not_refuted, refused, limited}
-use Rattle.pb_lrat.specs.laws.LratLaws.{AddedClausesHold, EmptyClausesRefute, RefutedHaveNoModel}
+use Rattle.pb_lrat.specs.LratLaws.{AddedClausesHold, EmptyClausesRefute, RefutedHaveNoModel}
 use Rattle.pb_lrat.specs.LratLines.{said_of}
 use Rattle.pb_lrat.specs.LratStates.{LratState, numbered, started, denied, denied_by, with_clause, unless_denied, without, after_said, after_read, after_line, after_lines}
 

@@ -13,7 +13,7 @@ use Rattle.std.proofs.Math.Seq.{drop-append_seam, take-length}
 use Rattle.pb_base.specs.declared.literal.Lit.{Lit}
 use Rattle.pb_lrat.specs.declared.store.Span.{Span}
 use Rattle.pb_lrat.specs.Hints.{Kept, clause_at}
-use Rattle.pb_lrat.specs.laws.Stores.{Library, clause_in, kept_by, kept_in, IsSpan, IsStore}
+use Rattle.pb_lrat.specs.inner.Stores.{Library, clause_in, kept_by, kept_in, IsSpan, IsStore}
 
 -- an id that is none of them
 pub kept_none : (lits : List Lit) (ids : List ℕ) (spans : List (Option Span)) (id : ℕ) → ((k : ℕ) → k < length ids → get_or ids k 0 ≢ id) → clause_at (kept_in lits ids spans) id ≡ None

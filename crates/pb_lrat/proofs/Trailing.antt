@@ -4,7 +4,7 @@ use Rattle.pb_base.specs.declared.literal.Lit.{Lit}
 use Rattle.pb_base.specs.Literals.{negated, is_among}
 use Rattle.pb_unit.specs.Trails.{is_value}
 use Rattle.pb_unit.proofs.TrailValues.{told_more, told_less}
-use Rattle.pb_lrat.specs.laws.Trails.{IsTrail}
+use Rattle.pb_lrat.specs.inner.Trails.{IsTrail}
 
 pub pushed : (values more : ℕ → Option Bool) (ls : List Lit) (l : Lit) → IsTrail values ls → more l.var ≡ Some l.positive → ((v : ℕ) → v ≢ l.var → more v ≡ values v) → is_among ls l ≡ false → is_among ls (negated l) ≡ false → IsTrail more (l ∷ ls)
 pushed values more ls l h new old absent undecided = record { told = told_more values more ls l new old h.told absent undecided; different = (absent, h.different) }

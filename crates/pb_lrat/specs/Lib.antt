@@ -4,5 +4,6 @@ pub mod Hints
 pub mod LratStates
 pub mod LratWalk
 pub mod Refuting
-pub mod LratExamples
-pub mod laws
+pub mod LratLaws
+pub mod inner
+pub mod examples

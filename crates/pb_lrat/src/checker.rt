@@ -56,7 +56,7 @@ fn is_nothing(clause: &[Lit]) -> bool
 }
 
 // The clauses of a CNF with their ids, and whether one of them has no literal. Each is given up once it is kept.
-fn numbered(alloc: Global, clauses: Clauses) -> Result<(Store, bool), NoMemory>
+fn store_with_ids(alloc: Global, clauses: Clauses) -> Result<(Store, bool), NoMemory>
     ensures store { IfOk result (λ p. p.0 ≡ record { last = length clauses; live = numbered 1 clauses }) }
     ensures empty { IfOk result (λ p. p.1 ≡ list_any is_nothing clauses) }
 {
@@ -76,7 +76,7 @@ impl LratChecker {
         requires { vars < 2 ^ 31 }
         ensures { IfOk result (λ checker. checker ≡ started vars clauses) }
     {
-        let (store, refuted) = numbered(alloc, clauses)?;
+        let (store, refuted) = store_with_ids(alloc, clauses)?;
         Ok(LratChecker {
             alloc,
             vars,
@@ -87,7 +87,7 @@ impl LratChecker {
     }
 
     // Why a clause may not be added, if so.
-    fn denied(
+    fn denial_of(
         &mut self,
         id: u64,
         clause: &[Lit],
@@ -99,7 +99,7 @@ impl LratChecker {
         if id <= self.store.last() {
             return Ok(Some(LratDenied::OldId { id }));
         }
-        let answer = judge::denied(clause, hints, &self.store, &mut self.trail);
+        let answer = judge::denial_of(clause, hints, &self.store, &mut self.trail);
         self.trail.clear();
         answer
     }
@@ -110,7 +110,7 @@ impl LratChecker {
         ensures fault { IfErr result (IsDueFault (after_said self.old (Said.Adds id clause.now hints.now))) }
         ensures same { OnErr result (self.new ≡ self.old) }
     {
-        if let Some(why) = self.denied(id, clause, hints)? {
+        if let Some(why) = self.denial_of(id, clause, hints)? {
             return Err(LratFault::Denied(why));
         }
         self.store.push(id, clause)?;

@@ -5,7 +5,7 @@ ghost use Rattle.pb_base.specs.Literals.{negated, is_among};
 ghost use Rattle.pb_norm.specs.ClauseForm.{is_tautology};
 ghost use Rattle.pb_lrat.specs.Hints.{clauses_at, falsified, first_missing, follows, is_nothing, left_of, with_single};
 ghost use Rattle.pb_lrat.specs.LratStates.{denied_by};
-ghost use Rattle.pb_lrat.specs.laws.Looks.{kind_of, left_with, hints_deny};
+ghost use Rattle.pb_lrat.specs.inner.Looks.{kind_of, left_with, hints_deny};
 
 use crate::denied::LratDenied;
 use crate::store::Store;
@@ -14,7 +14,7 @@ use pb_base::{Lit, NoMemory};
 
 // What is left of a clause once its false literals are taken out.
 #[derive(Clone, Copy)]
-pub(crate) enum Left {
+pub(crate) enum ClauseStatus {
     Nothing,
     Single(Lit),
     More,
@@ -36,23 +36,23 @@ fn falsify(clause: &[Lit], trail: &mut Trail) -> Result<bool, NoMemory>
 }
 
 // What is left with one more literal.
-fn with_one(left: Left, lit: &Lit) -> Left
+fn with_one(left: ClauseStatus, lit: &Lit) -> ClauseStatus
     ensures { result ≡ left_with left lit.now }
 {
     match left {
-        Left::Nothing => Left::Single(*lit),
-        Left::Single(found) => {
+        ClauseStatus::Nothing => ClauseStatus::Single(*lit),
+        ClauseStatus::Single(found) => {
             if found != *lit {
-                return Left::More;
+                return ClauseStatus::More;
             }
-            Left::Single(found)
+            ClauseStatus::Single(found)
         }
-        Left::More => Left::More,
+        ClauseStatus::More => ClauseStatus::More,
     }
 }
 
 // The same, unless the literal is false.
-fn with_next(left: Left, lit: &Lit, trail: &Trail) -> Left
+fn with_next(left: ClauseStatus, lit: &Lit, trail: &Trail) -> ClauseStatus
     ensures { result ≡ (if is_among trail.now (negated lit.now) then left else left_with left lit.now) }
 {
     if trail.holds(&lit.not()) {
@@ -62,14 +62,14 @@ fn with_next(left: Left, lit: &Lit, trail: &Trail) -> Left
 }
 
 // What is left of a clause.
-fn left_in(clause: &[Lit], trail: &Trail) -> Left
+fn status_in(clause: &[Lit], trail: &Trail) -> ClauseStatus
     ensures kind { result ≡ kind_of (left_of trail.now clause.now) }
-    ensures undecided { (l : Lit) → result ≡ Left.Single l → is_among trail.now (negated l) ≡ false }
+    ensures undecided { (l : Lit) → result ≡ ClauseStatus.Single l → is_among trail.now (negated l) ≡ false }
 {
-    let mut left = Left::Nothing;
+    let mut left = ClauseStatus::Nothing;
     for lit in clause {
         left = with_next(left, lit, trail);
-        if let Left::More = left {
+        if let ClauseStatus::More = left {
             return left;
         }
     }
@@ -77,14 +77,14 @@ fn left_in(clause: &[Lit], trail: &Trail) -> Left
 }
 
 // Has a single literal that is left of a clause be true. Whether none is left.
-fn look(clause: &[Lit], trail: &mut Trail) -> Result<bool, NoMemory>
+fn propagate_hint(clause: &[Lit], trail: &mut Trail) -> Result<bool, NoMemory>
     ensures conflict { IfOk result (λ none. none ≡ is_nothing (left_of trail.old clause.now)) }
     ensures single { OnOk result (trail.new ≡ with_single trail.old (left_of trail.old clause.now)) }
 {
-    match left_in(clause, trail) {
-        Left::Nothing => Ok(true),
-        Left::More => Ok(false),
-        Left::Single(lit) => {
+    match status_in(clause, trail) {
+        ClauseStatus::Nothing => Ok(true),
+        ClauseStatus::More => Ok(false),
+        ClauseStatus::Single(lit) => {
             trail.add(&lit)?;
             Ok(false)
         }
@@ -106,7 +106,7 @@ fn denied_by(
             return Ok(Some(LratDenied::UnknownHint { id: *id }));
         };
         if !allowed {
-            allowed = look(clause, trail)?;
+            allowed = propagate_hint(clause, trail)?;
         }
     }
     if allowed {
@@ -116,7 +116,7 @@ fn denied_by(
 }
 
 /// Why a clause does not follow by hints. What is left in the trail is of no use.
-pub(crate) fn denied(
+pub(crate) fn denial_of(
     clause: &[Lit],
     hints: &[u64],
     store: &Store,

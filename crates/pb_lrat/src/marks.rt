@@ -1,6 +1,6 @@
 //! A value for some variables, by pages, so that a great variable takes little memory.
 ghost use Rattle.std.specs.Prelude.{◌≡◌, ◌≢◌, ◌≤◌, ◌<◌, ℕ, [], length, slice_index_or, max, OnOk, OnErr, Some, None};
-ghost use Rattle.pb_lrat.specs.laws.Marks.{value_at};
+ghost use Rattle.pb_lrat.specs.inner.Marks.{value_at};
 
 use pb_base::NoMemory;
 use std::alloc::Global;

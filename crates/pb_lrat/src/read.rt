@@ -12,7 +12,7 @@ use pb_steps::{StepFault, id_in, token_fault};
 use std::alloc::Global;
 
 // Nothing follows the ids.
-fn ended(words: &mut Words<'_>, ids: Ids) -> Result<Ids, StepFault>
+fn end_ids(words: &mut Words<'_>, ids: Ids) -> Result<Ids, StepFault>
     ensures ok { IfOk result (λ made. (made ≡ ids) × (no_more words.old ≡ Ok [])) }
     ensures err { IfErr result (λ fault. no_more words.old ≡ Err fault) }
 {
@@ -31,7 +31,7 @@ fn read_ids(alloc: Global, words: Words<'_>, end: u64) -> Result<Ids, StepFault>
     let mut ids = Ids::new(alloc);
     'ids: while let Some(word) = words.next() {
         let Some(id) = hint_in(&word)? else {
-            return ended(&mut words, ids);
+            return end_ids(&mut words, ids);
         };
         ids.push(id)?;
     }

@@ -27,7 +27,7 @@ pub(crate) struct Store {
 }
 
 impl Model for Store {
-    ghost use Rattle.pb_lrat.specs.laws.Stores.{Library, IsStore, kept_in};
+    ghost use Rattle.pb_lrat.specs.inner.Stores.{Library, IsStore, kept_in};
 
     ghost Value = { Library };
 
@@ -50,7 +50,7 @@ fn place_of(ids: &[u64], id: u64) -> Option<usize>
 }
 
 // The literals of a place.
-fn part(lits: &[Lit], span: Span) -> &[Lit]
+fn literals_at(lits: &[Lit], span: Span) -> &[Lit]
     requires order { span.start ≤ span.end }
     requires within { span.end ≤ length lits.now }
     ensures { result.now ≡ slice_range lits.now span.start span.end }
@@ -120,7 +120,7 @@ impl Store {
         };
         match self.spans[place] {
             None => None,
-            Some(span) => Some(part(&self.lits, span)),
+            Some(span) => Some(literals_at(&self.lits, span)),
         }
     }
 
@@ -150,13 +150,13 @@ impl Store {
     }
 
     // The same clauses, in lists without what was deleted.
-    fn packed(&self) -> Result<Store, NoMemory>
+    fn packed_copy(&self) -> Result<Store, NoMemory>
         ensures { IfOk result (λ store. store ≡ self.now) }
     {
         let mut store = Store::new(self.alloc);
         for place in 0..self.ids.len() {
             if let Some(span) = self.spans[place] {
-                store.push(self.ids[place], part(&self.lits, span))?;
+                store.push(self.ids[place], literals_at(&self.lits, span))?;
             }
         }
         store.raise(self.last);
@@ -171,7 +171,7 @@ impl Store {
             return;
         }
         self.unused = 0;
-        if let Ok(packed) = self.packed() {
+        if let Ok(packed) = self.packed_copy() {
             *self = packed;
         }
     }

@@ -18,8 +18,8 @@ pub(crate) struct Trail {
 impl Model for Trail {
     ghost use Rattle.std.specs.Prelude.{List, reverse};
     ghost use Rattle.pb_base.specs.declared.literal.Lit.{Lit};
-    ghost use Rattle.pb_lrat.specs.laws.Marks.{value_at};
-    ghost use Rattle.pb_lrat.specs.laws.Trails.{IsTrail};
+    ghost use Rattle.pb_lrat.specs.inner.Marks.{value_at};
+    ghost use Rattle.pb_lrat.specs.inner.Trails.{IsTrail};
 
     ghost Value = { List Lit };
 

@@ -5,7 +5,7 @@ use Rattle.pb_model.specs.declared.fault.ModelFault.{ModelFault}
 use Rattle.pb_model.specs.declared.model.Model.{Model}
 use Rattle.pb_model.specs.ModelLines.{Symbol}
 use Rattle.pb_model.specs.ModelReading.{fault_at, fault_or, first_fault, model_in, told_by}
-use Rattle.pb_model.specs.laws.ModelLaws.{IsFirstFault, ToldExactly}
+use Rattle.pb_model.specs.ModelLaws.{IsFirstFault, ToldExactly}
 use Rattle.pb_model.proofs.Taking.{fine_then}
 
 none_first : (a b : Option ModelFault) → fault_or a b ≡ None → a ≡ None

@@ -8,7 +8,7 @@ use Rattle.pb_model.specs.ModelLines.{Symbol}
 use Rattle.pb_model.specs.ModelLines.Symbol.{end}
 use Rattle.pb_model.specs.declared.model.Model.{Model}
 use Rattle.pb_model.specs.ModelReading.{first_fault, model_in, told_by, told_in}
-use Rattle.pb_model.specs.laws.Reading.{Knows, TakesBy, ConcludesBy}
+use Rattle.pb_model.specs.inner.Reading.{Knows, TakesBy, ConcludesBy}
 use Rattle.pb_model.proofs.Taking.{fine_one, refused_one, fine_then, refused_then}
 
 -- some symbols were taken without a fault behind others, and these are left

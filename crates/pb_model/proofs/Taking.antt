@@ -18,7 +18,7 @@ use Rattle.pb_model.specs.declared.reader.Reader.{Reader}
 use Rattle.pb_model.specs.ModelLines.{Symbol}
 use Rattle.pb_model.specs.ModelLines.Symbol.{status, values, word, other, end}
 use Rattle.pb_model.specs.ModelReading.{is_listed, is_said, lists, says_in, says_or, opens_values, ends_values, fault_at, fault_or, first_fault, word_fault, refused_if, values_in, model_in}
-use Rattle.pb_model.specs.laws.Reading.{Lists, Knows}
+use Rattle.pb_model.specs.inner.Reading.{Lists, Knows}
 
 -- ---- the first fault
 

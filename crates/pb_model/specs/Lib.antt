@@ -1,9 +1,9 @@
 pub mod ModelLines
 pub mod ModelReading
-pub mod Examples
 pub mod Decoding
 pub mod VariableNames
 pub mod MapText
 pub mod SolutionText
-pub mod SolutionExamples
-pub mod laws
+pub mod ModelLaws
+pub mod inner
+pub mod examples

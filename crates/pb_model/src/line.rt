@@ -5,7 +5,7 @@ ghost use Rattle.pb_base.specs.Words.{words_of};
 ghost use Rattle.pb_desk.specs.Lines.{BeginsWith};
 ghost use Rattle.pb_model.specs.ModelLines.{said_by, opens_comment, place_in, word_symbol, line_symbols};
 ghost use Rattle.pb_model.specs.ModelLines.Symbol.{values};
-ghost use Rattle.pb_model.specs.laws.Reading.{Takes};
+ghost use Rattle.pb_model.specs.inner.Reading.{Takes};
 
 use crate::fault::ModelFault;
 use crate::model::Says;

@@ -23,7 +23,7 @@ impl Listing {
     ghost use Rattle.pb_model.specs.ModelLines.{Symbol};
     ghost use Rattle.pb_model.specs.ModelLines.Symbol.{word};
     ghost use Rattle.pb_model.specs.ModelReading.{is_listed};
-    ghost use Rattle.pb_model.specs.laws.Reading.{Lists};
+    ghost use Rattle.pb_model.specs.inner.Reading.{Lists};
 
     /// Nothing is listed.
     pub fn new(alloc: Global, vars: u32) -> Result<Listing, NoMemory>

@@ -20,7 +20,7 @@ pub enum Meaning {
 }
 
 // The same of an integer of this size.
-fn sized(positive: bool, size: u128, vars: u32) -> Meaning
+fn literal_of_size(positive: bool, size: u128, vars: u32) -> Meaning
     requires { vars < 2 ^ 31 }
     ensures value { result ≡ meaning_of vars positive size }
     ensures within { IsWithin vars result }
@@ -47,7 +47,7 @@ pub fn meant(number: Number, vars: u32) -> Meaning
     ensures within { IsWithin vars result }
 {
     match number {
-        Number::Value(n) => sized(n.is_positive(), n.unsigned_abs(), vars),
+        Number::Value(n) => literal_of_size(n.is_positive(), n.unsigned_abs(), vars),
         Number::TooWide => Meaning::TooGreat,
         Number::NotANumber => Meaning::Nothing,
     }

@@ -2,7 +2,7 @@
 ghost use Rattle.std.specs.Prelude.{◌≡◌, ◌≤◌, ◌<◌, ◌^◌, [], length, Ok, IfOk, IfErr};
 ghost use Rattle.pb_model.specs.ModelLines.{symbols_of};
 ghost use Rattle.pb_model.specs.ModelReading.{told, told_in, IsFaultOf};
-ghost use Rattle.pb_model.specs.laws.Reading.{Knows};
+ghost use Rattle.pb_model.specs.inner.Reading.{Knows};
 
 use crate::fault::ModelFault;
 use crate::line::{cut_line, take_line};

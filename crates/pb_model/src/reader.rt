@@ -5,7 +5,7 @@ ghost use Rattle.pb_model.specs.declared.fault.ModelFault.TheVariants.{Token, Li
 ghost use Rattle.pb_model.specs.ModelLines.{Symbol, meant, IsWithin};
 ghost use Rattle.pb_model.specs.ModelLines.Symbol.{status, values, word};
 ghost use Rattle.pb_model.specs.ModelReading.{is_said};
-ghost use Rattle.pb_model.specs.laws.Reading.{Knows, Takes, ConcludesBy};
+ghost use Rattle.pb_model.specs.inner.Reading.{Knows, Takes, ConcludesBy};
 
 use crate::fault::ModelFault;
 use crate::listing::Listing;
@@ -25,7 +25,7 @@ fn is_said(says: Says) -> bool
 }
 
 // Another word could not stand there.
-fn refused(place: Place, expected: Expected) -> ModelFault
+fn refusal_at(place: Place, expected: Expected) -> ModelFault
     ensures { result ≡ Token place expected }
 {
     ModelFault::Token { place, expected }
@@ -69,7 +69,7 @@ impl Reader {
         ensures { Takes (λ _. status place says ∷ []) self.old self.new result }
     {
         if is_said(self.says) {
-            return Err(refused(place, Expected::ModelLine));
+            return Err(refusal_at(place, Expected::ModelLine));
         }
         self.says = says;
         Ok(())
@@ -80,14 +80,14 @@ impl Reader {
         ensures { Takes (λ _. values place ∷ []) self.old self.new result }
     {
         if self.ended {
-            return Err(refused(place, Expected::ModelLine));
+            return Err(refusal_at(place, Expected::ModelLine));
         }
         self.begun = true;
         Ok(())
     }
 
     // Takes what a word means, before the end of the values.
-    fn take_meaning(&mut self, place: Place, meaning: Meaning) -> Result<(), ModelFault>
+    fn note_meaning(&mut self, place: Place, meaning: Meaning) -> Result<(), ModelFault>
         requires going { self.old.ended ≡ false }
         requires within { IsWithin self.old.listing.vars meaning }
         ensures { Takes (λ _. word place meaning ∷ []) self.old self.new result }
@@ -96,12 +96,12 @@ impl Reader {
             Meaning::End => self.ended = true,
             Meaning::Literal(lit) => {
                 if !self.listing.take(lit) {
-                    return Err(refused(place, Expected::Opposite));
+                    return Err(refusal_at(place, Expected::Opposite));
                 }
             }
             Meaning::Beyond => {}
             Meaning::TooGreat => return Err(too_great(place)),
-            Meaning::Nothing => return Err(refused(place, Expected::ModelLiteral)),
+            Meaning::Nothing => return Err(refusal_at(place, Expected::ModelLiteral)),
         }
         Ok(())
     }
@@ -111,10 +111,10 @@ impl Reader {
         ensures { Takes (λ vars. word place (meant vars number) ∷ []) self.old self.new result }
     {
         if self.ended {
-            return Err(refused(place, Expected::ModelLiteral));
+            return Err(refusal_at(place, Expected::ModelLiteral));
         }
         let meaning = meant(number, self.listing.vars);
-        self.take_meaning(place, meaning)
+        self.note_meaning(place, meaning)
     }
 
     /// What was said, at the end of the text.
@@ -122,7 +122,7 @@ impl Reader {
         ensures { (vars : ℕ) (ss : List Symbol) → Knows vars ss self → ConcludesBy vars ss place result }
     {
         if self.begun && !self.ended {
-            return Err(refused(place, Expected::ModelZero));
+            return Err(refusal_at(place, Expected::ModelZero));
         }
         Ok(Model {
             says: self.says,

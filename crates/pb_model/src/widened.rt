@@ -2,7 +2,7 @@
 ghost use Rattle.std.specs.Prelude.{◌≡◌, ◌≤◌, ◌<◌, All, false, length, slice_index_or};
 ghost use Rattle.pb_base.specs.Literals.{assigned_by, lit_value};
 ghost use Rattle.pb_base.specs.Problems.{product_value, widened, IsWithinLimits};
-ghost use Rattle.pb_model.specs.laws.Widened.{AreOver};
+ghost use Rattle.pb_model.specs.inner.Widened.{AreOver};
 
 use pb_base::{Lit, Lits, Problem};
 use std::marker::Model;
@@ -18,7 +18,7 @@ impl<'a> Model for Widened<'a> {
     ghost use Rattle.std.specs.Prelude.{Bool, List, ◌++◌, length, map};
     ghost use Rattle.pb_base.specs.Literals.{assigned_by};
     ghost use Rattle.pb_base.specs.Problems.{product_value};
-    ghost use Rattle.pb_model.specs.laws.Widened.{AreOver};
+    ghost use Rattle.pb_model.specs.inner.Widened.{AreOver};
 
     ghost Value = { List Bool };
 

@@ -16,7 +16,7 @@ use Rattle.pb_named.specs.declared.products.Factor.TheVariants.{Nought, Single, 
 use Rattle.pb_named.specs.NamedTerms.{NamedTerm}
 use Rattle.pb_named.specs.Products.{product_in, same_product}
 use Rattle.pb_named.specs.NamedProblems.{Table, size, lit_of, factor, products_in, products_of, terms_by, terms_of, terms_or_none, statement_of, names_of}
-use Rattle.pb_named.specs.laws.Numbering.{place_in, Gives, IsFew, IsOver}
+use Rattle.pb_named.specs.inner.Numbering.{place_in, Gives, IsFew, IsOver}
 use Rattle.pb_named.proofs.Appends.{all-front, all-behind}
 use Rattle.pb_named.proofs.FirstsLemmas.{firsts-append, firsts-longer, firsts-place, firsts-found}
 use Rattle.pb_named.proofs.Taking.{flat_map-append, cut-at, gives-push}

@@ -14,7 +14,7 @@ use Rattle.pb_named.specs.NamedTerms.{NamedTerm}
 use Rattle.pb_named.specs.declared.named.NamedStatement.{NamedStatement}
 use Rattle.pb_named.specs.declared.named.NamedProblem.{NamedProblem}
 use Rattle.std.proofs.lemmas.List.Elements.{All-nil, All-cons}
-use Rattle.pb_named.specs.laws.Numbering.{noted, noted_all, place_in, places_from, IsKnown, IsTermKnown, AreKnown}
+use Rattle.pb_named.specs.inner.Numbering.{noted, noted_all, place_in, places_from, IsKnown, IsTermKnown, AreKnown}
 use Rattle.pb_named.proofs.Appends.{all-front, all-behind}
 use Rattle.pb_named.proofs.FirstsLemmas.{with-longer, with-place, added-place}
 

@@ -3,7 +3,7 @@ use Rattle.std.proofs.Common.{◌≡◌, ℕ, ◌+◌, ◌<◌, ◌≤◌, List,
 use Rattle.std.specs.List.{flat_map}
 use Rattle.std.proofs.lemmas.List.{map-append, take_more, flat_map_more}
 use Rattle.pb_named.specs.Names.{Name}
-use Rattle.pb_named.specs.laws.Numbering.{StartsWith, Gives}
+use Rattle.pb_named.specs.inner.Numbering.{StartsWith, Gives}
 
 append-cancel : (xs ys zs : List ℕ) → xs ++ ys ≡ xs ++ zs → ys ≡ zs
 append-cancel [] ys zs same = same

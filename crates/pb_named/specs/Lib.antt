@@ -2,4 +2,5 @@ pub mod NamedProblems
 pub mod NamedTerms
 pub mod Names
 pub mod Products
-pub mod laws
+pub mod Kept
+pub mod inner

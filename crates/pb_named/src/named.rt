@@ -17,7 +17,7 @@ pub struct Name<'a> {
 impl<'a> Model for Name<'a> {
     ghost use Rattle.std.specs.Prelude.{◌<◌, ◌≤◌, ◌^◌, length};
     ghost use Rattle.pb_named.specs.Names.{Name as NameOf};
-    ghost use Rattle.pb_named.specs.laws.Kept.{kept_name};
+    ghost use Rattle.pb_named.specs.Kept.{kept_name};
 
     ghost Value = { NameOf };
 
@@ -27,7 +27,7 @@ impl<'a> Model for Name<'a> {
 }
 
 impl<'a> Name<'a> {
-    ghost use Rattle.pb_named.specs.laws.Numbering.{of_parts, IsInReach};
+    ghost use Rattle.pb_named.specs.inner.Numbering.{of_parts, IsInReach};
 
     /// The name `x` and a number from 1 on.
     pub fn of_index(number: u32) -> Self

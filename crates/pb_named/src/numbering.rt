@@ -8,7 +8,7 @@ ghost use Rattle.pb_named.specs.declared.numbering.NumberFault.TheVariants.{NoMe
 ghost use Rattle.pb_named.specs.NamedProblems.{term_names, names_of, terms_or_none, all_names, table_of, size, lit_of, factor, products_in, product_lit, terms_by, terms_of, statement_of, by_table, problem_of};
 ghost use Rattle.pb_named.specs.NamedTerms.{lits_of};
 ghost use Rattle.pb_named.specs.Products.{product_in, same_product};
-ghost use Rattle.pb_named.specs.laws.Numbering.{place_in, noted_all, places_from, StartsWith, Gives, IsKnown, IsTermKnown, AreKnown, IsOver, IsFew, listed};
+ghost use Rattle.pb_named.specs.inner.Numbering.{place_in, noted_all, places_from, StartsWith, Gives, IsKnown, IsTermKnown, AreKnown, IsOver, IsFew, listed};
 
 use crate::named::{NamedLit, NamedProblem, NamedStatement, NamedTerm, NamedTerms};
 use crate::places::Places;
@@ -359,7 +359,7 @@ fn with_lists(
     let names = table.names(alloc)?;
     Ok(Problem {
         vars: table.size(),
-        numbered: table.numbered(),
+        numbered: table.numbered_count(),
         names,
         products: products.products(alloc)?,
         objective,
@@ -403,7 +403,7 @@ fn by_table(
     ensures few { IfOk result (λ p. originals p < 2 ^ 31) }
     ensures many { IsErrOf result HasTooMany → 2 ^ 31 ≤ originals (by_table table.now problem.entry) }
 {
-    if table.free() > (MAX_VARIABLES - table.numbered()) as usize {
+    if table.free() > (MAX_VARIABLES - table.numbered_count()) as usize {
         return Err(NumberFault::Variables);
     }
     let mut products = ProductTable::new(alloc);

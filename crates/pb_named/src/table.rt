@@ -4,7 +4,7 @@ ghost use Rattle.std.specs.List.{position_or_len};
 ghost use Rattle.std.specs.Str.{bytes_eq};
 ghost use Rattle.pb_base.specs.Firsts.{with_item};
 ghost use Rattle.pb_named.specs.NamedProblems.{size};
-ghost use Rattle.pb_named.specs.laws.Numbering.{noted, place_in, IsKnown};
+ghost use Rattle.pb_named.specs.inner.Numbering.{noted, place_in, IsKnown};
 
 use crate::named::{Name, NamedLit, Parts};
 use indexmap::IndexSet;
@@ -91,7 +91,7 @@ impl<'a> Table<'a> {
     }
 
     /// How many variables are named by numbers.
-    pub fn numbered(&self) -> u32
+    pub fn numbered_count(&self) -> u32
         ensures value { result ≡ self.now.numbered }
         ensures bound { result < 2 ^ 31 }
     {

@@ -16,7 +16,7 @@ use Rattle.pb_base.proofs.Members.{Contains-nil, Contains-here, Contains-there, 
 use Rattle.pb_base.proofs.Pairs.{AllPairs-head, AllPairs-tail}
 use Rattle.pb_norm.specs.Constraints.{Weighted, weighted, weights, IsLinear, IsAscending, AreUnsigned, constraint_of}
 use Rattle.pb_norm.specs.ClauseForm.{one_of, clause_form}
-use Rattle.pb_norm.specs.laws.Signs.{sign_term}
+use Rattle.pb_norm.specs.inner.Signs.{sign_term}
 use Rattle.pb_norm.proofs.AdditionOrder.{Before}
 use Rattle.pb_norm.proofs.SignTerms.{HasEntries, clause-unsigned, clause-is, clause-linear}
 

@@ -20,7 +20,7 @@ pub fn product_variable(vars: u32, place: usize) -> Lit
 }
 
 // That a product implies one of its literals.
-fn implied(alloc: Global, product: &Lit, lit: &Lit) -> Result<Clause, NoMemory>
+fn product_implies(alloc: Global, product: &Lit, lit: &Lit) -> Result<Clause, NoMemory>
     ensures { IfOk result (λ clause. clause ≡ implied product.now lit.now) }
 {
     let mut clause = Clause::new(alloc);
@@ -30,7 +30,7 @@ fn implied(alloc: Global, product: &Lit, lit: &Lit) -> Result<Clause, NoMemory>
 }
 
 // That all its literals imply a product.
-fn implying(alloc: Global, product: &Lit, literals: &[Lit]) -> Result<Clause, NoMemory>
+fn literals_imply(alloc: Global, product: &Lit, literals: &[Lit]) -> Result<Clause, NoMemory>
     ensures { IfOk result (λ clause. clause ≡ implying product.now literals.now) }
 {
     let mut clause = Clause::new(alloc);
@@ -52,8 +52,8 @@ fn product_clause(
     ensures { IfOk result (λ clause. clause ≡ slice_index_or (product_clauses product.now literals.now) place []) }
 {
     match literals.get(place) {
-        Some(lit) => implied(alloc, product, lit),
-        None => implying(alloc, product, literals),
+        Some(lit) => product_implies(alloc, product, lit),
+        None => literals_imply(alloc, product, literals),
     }
 }
 

@@ -2,7 +2,7 @@
 ghost use Rattle.std.specs.Prelude.{◌≡◌, ◌<◌, ◌^◌, IfOk, map};
 ghost use Rattle.std.specs.List.{list_all};
 ghost use Rattle.pb_norm.specs.Constraints.{weight, weights};
-ghost use Rattle.pb_norm.specs.laws.Kept.{on_weight};
+ghost use Rattle.pb_norm.specs.inner.Kept.{on_weight};
 ghost use Rattle.pb_norm.specs.Reduction.{all_weigh, first_coef, has_coef};
 
 use pb_base::{Lit, Term};

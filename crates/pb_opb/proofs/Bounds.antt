@@ -24,7 +24,7 @@ use Rattle.pb_named.specs.declared.products.Factor.{Factor}
 use Rattle.pb_named.specs.declared.products.Factor.TheVariants.{Nought, Single, Product}
 use Rattle.pb_named.specs.Products.{product_in, same_product}
 use Rattle.pb_named.specs.NamedProblems.{Table, size, table_of, all_names, all_terms, terms_or_none, var_of, lit_of, factor, products_in, products_of, product_lit, terms_by, terms_of, statement_of, problem_of}
-use Rattle.pb_named.specs.laws.Numbering.{IsKnown, IsTermKnown, AreKnown}
+use Rattle.pb_named.specs.inner.Numbering.{IsKnown, IsTermKnown, AreKnown}
 use Rattle.pb_named.proofs.Appends.{all-front, all-behind}
 use Rattle.pb_named.proofs.FirstsLemmas.{firsts-found}
 use Rattle.pb_named.proofs.NumberLemmas.{same_product-refl, products-append}

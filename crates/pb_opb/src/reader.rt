@@ -33,7 +33,10 @@ fn with_further<'a>(
 }
 
 // Terms that are moved out of their vector, in no more room than they need, since they stay until the problem is numbered.
-fn moved_out<'a>(alloc: Global, read: &mut Vec<NamedTerm<'a>>) -> Result<NamedTerms<'a>, AllocError>
+fn take_terms<'a>(
+    alloc: Global,
+    read: &mut Vec<NamedTerm<'a>>,
+) -> Result<NamedTerms<'a>, AllocError>
     ensures terms { IfOk result (λ terms. terms ≡ read.old.items) }
     ensures rest { OnOk result (read.new.items ≡ []) }
 {
@@ -107,7 +110,7 @@ impl<'a> Reader<'a> {
         ensures moved { OnOk result (self.new ≡ moved self.old next weight) }
         ensures err { IfErr result (IsStopped self.old next weight) }
     {
-        match next.passed(self.statements.len(), self.literals, weight) {
+        match next.passed_limit(self.statements.len(), self.literals, weight) {
             Some(which) => Err(Refusal::Limit(which)),
             None => {
                 self.weight = weight;
@@ -167,7 +170,7 @@ impl<'a> Reader<'a> {
     {
         // The room in which they were read is kept for the next sum.
         let mut read = mem::replace(&mut self.terms, NamedTerms::new(alloc)).into_vec();
-        let terms = moved_out(alloc, &mut read)?;
+        let terms = take_terms(alloc, &mut read)?;
         mem::replace(&mut self.terms, NamedTerms::from_vec(read));
         self.statements.push(NamedStatement {
             terms,

@@ -118,7 +118,7 @@ impl Stage {
 
     /// The first limit that is passed at the stage, with these statements and literals behind it
     /// and a weight so far.
-    pub fn passed(self, statements: usize, literals: usize, weight: u128) -> Option<LimitKind>
+    pub fn passed_limit(self, statements: usize, literals: usize, weight: u128) -> Option<LimitKind>
         requires statements { statements ≤ 2 ^ 24 }
         requires literals { literals ≤ 2 ^ 20 }
         ensures { Passes result (statements + begun_statements self) (literals + begun_literals self) weight }

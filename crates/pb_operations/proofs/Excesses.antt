@@ -11,7 +11,7 @@ use Rattle.pb_base.proofs.LiteralLemmas.{is_same-other_var}
 use Rattle.pb_norm.specs.Constraints.{Weighted, IsAscending, weight, weighted, weights}
 use Rattle.pb_norm.specs.Addition.{coef_of}
 use Rattle.pb_norm.proofs.AdditionValues.{coef_of-cons, coef_of-none}
-use Rattle.pb_operations.specs.laws.Sides.{StartsFrom, SameFrom, exceeding}
+use Rattle.pb_operations.specs.inner.Sides.{StartsFrom, SameFrom, exceeding}
 
 -- a term at its place in the list that the code keeps
 pub record IsTermAt (ts : List Term) (i : ℕ) (t : Term) : Type 0 where

@@ -8,7 +8,7 @@ use Rattle.std.proofs.lemmas.List.Sums.{sum_by-cons}
 use Rattle.pb_base.specs.declared.literal.Term.{Term}
 use Rattle.pb_base.proofs.Pairs.{AllPairs-head, AllPairs-tail}
 use Rattle.pb_norm.specs.Constraints.{Weighted, weighted, weights, IsAscending}
-use Rattle.pb_norm.specs.laws.Kept.{on_weight}
+use Rattle.pb_norm.specs.inner.Kept.{on_weight}
 use Rattle.pb_steps.specs.Operations.{is_other, coef_at}
 
 abbrev IsApart : ℕ → Term → Type 0

@@ -9,7 +9,7 @@ use Rattle.pb_base.specs.declared.literal.Term.{Term}
 use Rattle.pb_base.proofs.Sums.{sum_by-map, sum_by-filter, sum_by-le-multiple, multiple-le-sum_by}
 use Rattle.pb_norm.specs.Constraints.{Weighted, Constraint, weighted, weights, constraint_of, weight, AreUnsigned, AllPositive, IsAscending, IsLinear}
 use Rattle.pb_norm.specs.Halves.{is_positive}
-use Rattle.pb_norm.specs.laws.Kept.{on_term, on_weight}
+use Rattle.pb_norm.specs.inner.Kept.{on_term, on_weight}
 use Rattle.pb_norm.specs.Reduction.{quotient_up, cut_to, opposite}
 use Rattle.pb_norm.proofs.Opened.{quotient_up-enough, quotient_up-least}
 use Rattle.pb_norm.proofs.AdditionOrder.{map-ascending, filter-ascending, joined-ascending}
@@ -19,7 +19,7 @@ use Rattle.pb_norm.proofs.KeptTerms.{weights-map, weights-filter, map-unsigned}
 use Rattle.pb_operations.proofs.Joins.{joined-positive}
 use Rattle.pb_steps.specs.declared.op.Set.{Set}
 use Rattle.pb_steps.specs.Substitutions.{is_unset, is_made_true, restriction}
-use Rattle.pb_operations.specs.laws.Sides.{gained}
+use Rattle.pb_operations.specs.inner.Sides.{gained}
 use Rattle.std.specs.List.{list_any}
 use Rattle.pb_steps.specs.Operations.{IsNarrow, scaled, multiple, shrunk, division, saturation, is_other, coef_at, weakening, negation}
 

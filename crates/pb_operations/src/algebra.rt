@@ -15,7 +15,7 @@ use std::alloc::Global;
 const LIMIT: u128 = 1 << 126;
 
 // The parts as a constraint, where they have room.
-fn narrow(terms: Vec<Term>, degree: u128) -> Option<Linear>
+fn within_width(terms: Vec<Term>, degree: u128) -> Option<Linear>
     requires unsigned { AreUnsigned terms.items }
     requires positive { AllPositive (weights terms.items) }
     requires ascending { IsAscending (weights terms.items) }
@@ -37,7 +37,7 @@ pub fn plus(alloc: Global, left: &Linear, right: &Linear) -> Result<Option<Linea
 {
     let joined = join(alloc, left.terms(), right.terms())?;
     let degree = (left.degree() + right.degree()).saturating_sub(joined.cancelled);
-    Ok(narrow(joined.terms, degree))
+    Ok(within_width(joined.terms, degree))
 }
 
 /// The constraint that a literal is at least 0, which always holds.
@@ -76,7 +76,7 @@ pub fn multiple(
     if !has_room_for_multiple(constraint, factor) {
         return Ok(None);
     }
-    let terms = terms::scaled(alloc, constraint.terms(), factor)?;
+    let terms = terms::scale_terms(alloc, constraint.terms(), factor)?;
     let degree = factor * constraint.degree();
     Ok(Some(Linear::from_parts(terms, degree)))
 }
@@ -96,7 +96,7 @@ pub fn division(alloc: Global, constraint: &Linear, divisor: u128) -> Result<Lin
 pub fn saturation(alloc: Global, constraint: &Linear) -> Result<Linear, NoMemory>
     ensures { IfOk result (λ made. made ≡ saturation constraint.now) }
 {
-    let terms = terms::saturated(alloc, constraint.terms(), constraint.degree())?;
+    let terms = terms::saturate_terms(alloc, constraint.terms(), constraint.degree())?;
     Ok(Linear::from_parts(terms, constraint.degree()))
 }
 

@@ -3,7 +3,7 @@ ghost use Rattle.std.specs.Prelude.{◌≡◌, ◌≤◌, ◌<◌, ◌^◌, drop
 ghost use Rattle.pb_norm.specs.Constraints.{weights, weighted, weight, IsAscending};
 ghost use Rattle.pb_norm.specs.Addition.{coef_of};
 ghost use Rattle.pb_steps.specs.Operations.{implies};
-ghost use Rattle.pb_operations.specs.laws.Sides.{StartsFrom, SameFrom, exceeding};
+ghost use Rattle.pb_operations.specs.inner.Sides.{StartsFrom, SameFrom, exceeding};
 
 use pb_base::{Lit, Term, Var};
 use pb_norm::Linear;

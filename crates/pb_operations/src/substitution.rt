@@ -1,9 +1,9 @@
 //! Constraints under a substitution.
 ghost use Rattle.std.specs.Prelude.{◌≡◌, ◌<◌, ◌^◌, is_none, filter, sum_by, IfOk};
 ghost use Rattle.std.specs.List.{list_any};
-ghost use Rattle.pb_norm.specs.laws.Kept.{on_weight};
+ghost use Rattle.pb_norm.specs.inner.Kept.{on_weight};
 ghost use Rattle.pb_steps.specs.Substitutions.{set_value, is_unset, is_made_true, names_set, restriction};
-ghost use Rattle.pb_operations.specs.laws.Sides.{gained, is_set};
+ghost use Rattle.pb_operations.specs.inner.Sides.{gained, is_set};
 
 use pb_base::{Lit, NoMemory, Term, Var};
 use pb_norm::Linear;

@@ -3,7 +3,7 @@ ghost use Rattle.std.specs.Prelude.{◌≡◌, ◌≢◌, ◌<◌, ◌≤◌, �
 ghost use Rattle.pb_base.specs.declared.literal.Term.{Term};
 ghost use Rattle.pb_norm.specs.Constraints.{weighted, weights, IsAscending};
 ghost use Rattle.pb_norm.specs.Halves.{is_positive};
-ghost use Rattle.pb_norm.specs.laws.Kept.{on_term, on_weight};
+ghost use Rattle.pb_norm.specs.inner.Kept.{on_term, on_weight};
 ghost use Rattle.pb_norm.specs.Reduction.{cut_to, opposite, quotient_up};
 ghost use Rattle.pb_steps.specs.Operations.{scaled, shrunk, is_other, coef_at};
 
@@ -11,7 +11,11 @@ use pb_base::{Term, Var};
 use std::alloc::{AllocError, Global};
 
 /// Each coefficient multiplied.
-pub(crate) fn scaled(alloc: Global, terms: &[Term], factor: u128) -> Result<Vec<Term>, AllocError>
+pub(crate) fn scale_terms(
+    alloc: Global,
+    terms: &[Term],
+    factor: u128,
+) -> Result<Vec<Term>, AllocError>
     requires { All (λ t. factor * (weighted t).coef < 2 ^ 127) terms.now }
     ensures { IfOk result (λ v. v.items ≡ map (on_term (scaled factor)) terms.now) }
 {
@@ -63,7 +67,7 @@ fn keep_positive(terms: &mut Vec<Term>)
 }
 
 /// Each coefficient at most the degree, without those of 0.
-pub(crate) fn saturated(
+pub(crate) fn saturate_terms(
     alloc: Global,
     terms: &[Term],
     degree: u128,

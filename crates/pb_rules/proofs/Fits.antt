@@ -29,9 +29,9 @@ use Rattle.pb_steps.specs.Denials.{seen_denial, width, unknown_var, unknown_id}
 use Rattle.pb_steps.specs.Denials as denials
 use Rattle.pb_steps.proofs.Searching.{none-some, from_unless-none, from_find-none, from_map-none}
 use Rattle.pb_steps.proofs.Heights.{one_left}
-use Rattle.pb_rules.specs.laws.Sound.{IsSound}
-use Rattle.pb_rules.specs.laws.Tops.{done_op, topped, IsSoundConstraint, AreSoundConstraints, IsOutcome, IsOpOutcome}
-use Rattle.pb_rules.specs.laws.Early.{early}
+use Rattle.pb_rules.specs.inner.Sound.{IsSound}
+use Rattle.pb_rules.specs.inner.Tops.{done_op, topped, IsSoundConstraint, AreSoundConstraints, IsOutcome, IsOpOutcome}
+use Rattle.pb_rules.specs.inner.Early.{early}
 use Rattle.pb_rules.proofs.Withins.{at-sound}
 use Rattle.pb_rules.proofs.Seen.{by_elimination}
 

@@ -8,10 +8,10 @@ use Rattle.std.specs.Prelude.{is_some}
 use Rattle.pb_unit.specs.Trails.{Held}
 use Rattle.pb_unit.specs.States.{EngineState, added, removed, at_place, IsFree}
 use Rattle.pb_rules.specs.declared.slots.Slot.{Slot}
-use Rattle.pb_rules.specs.laws.Slots.{hole, whole, slot_at, slot_of, place_of, slots_without, slots_placed, marked_slots, with_entry, entries_from}
-use Rattle.pb_rules.specs.laws.Mirrors.{IsMirrored, IsKept, KeepsEngine, AreSame, AreWithin}
-use Rattle.pb_rules.specs.laws.Indexed.{IsIndexed}
-use Rattle.pb_rules.specs.laws.Sound.{IsDatabase}
+use Rattle.pb_rules.specs.inner.Slots.{hole, whole, slot_at, slot_of, place_of, slots_without, slots_placed, marked_slots, with_entry, entries_from}
+use Rattle.pb_rules.specs.inner.Mirrors.{IsMirrored, IsKept, KeepsEngine, AreSame, AreWithin}
+use Rattle.pb_rules.specs.inner.Indexed.{IsIndexed}
+use Rattle.pb_rules.specs.inner.Sound.{IsDatabase}
 use Rattle.pb_rules.proofs.SlotLemmas.{constraint_at-slot, same_database}
 use Rattle.pb_rules.proofs.Mirroring.{mirrored-pushed, mirrored-none, mirrored-kept, mirrored-same, mirrored-without, mirrored-without_none, mirrored-marked, some-none}
 use Rattle.pb_rules.proofs.Refuting.{gone_from}

@@ -18,8 +18,8 @@ use Rattle.pb_steps.specs.Database.{Entry}
 use Rattle.pb_steps.specs.Substitutions.{names_set, set_value, is_unset}
 use Rattle.pb_rules.specs.Naming.{is_of, names_var}
 use Rattle.pb_rules.specs.declared.slots.Slot.{Slot}
-use Rattle.pb_rules.specs.laws.Slots.{hole, whole, placed_from, slot_at, slot_of, slots_without, marked_slots, entries_from}
-use Rattle.pb_rules.specs.laws.Indexed.{ids_at, ids_of, IsIndexed, KeepsIds, LosesId, HasNamed, HasNaming}
+use Rattle.pb_rules.specs.inner.Slots.{hole, whole, placed_from, slot_at, slot_of, slots_without, marked_slots, entries_from}
+use Rattle.pb_rules.specs.inner.Indexed.{ids_at, ids_of, IsIndexed, KeepsIds, LosesId, HasNamed, HasNaming}
 use Rattle.pb_unit.proofs.Standing.{read_as}
 use Rattle.pb_unit.proofs.Sweeping.{contains_filter}
 use Rattle.pb_unit.proofs.Unlisting.{contains_remove}

@@ -6,7 +6,7 @@ use Rattle.std.proofs.lemmas.List.{take_more, take_all}
 use Rattle.std.proofs.lemmas.List.Elements.{All-nil, All-push, All-weaker, All-contains}
 use Rattle.pb_steps.specs.Database.{Database}
 use Rattle.pb_rules.specs.Naming.{names_at, IsUnnamed, IsFirstNaming}
-use Rattle.pb_rules.specs.laws.Indexed.{HasNaming, IsLeast, IsNaming, lesser}
+use Rattle.pb_rules.specs.inner.Indexed.{HasNaming, IsLeast, IsNaming, lesser}
 
 pub least_skip : (P : ℕ → Type 0) (ids : List ℕ) (id : ℕ) (best : Option ℕ) → ¬ P id → IsLeast P ids best → IsLeast P (ids ++ id ∷ []) best
 least_skip P ids id None other h = All-push (λ x. ¬ P x) ids id h other

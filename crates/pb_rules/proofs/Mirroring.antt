@@ -5,15 +5,15 @@ use Rattle.std.specs.List.{cons_option}
 use Rattle.std.proofs.lemmas.Bool.{cases_eq}
 use Rattle.std.proofs.lemmas.List.{get_or-set_same, get_or-set_other, take_all}
 use Rattle.pb_norm.specs.Constraints.{Constraint, Weighted, HasVarsWithin}
-use Rattle.pb_norm.specs.laws.PropagationLaws.{AreAmong}
+use Rattle.pb_norm.specs.PropagationLaws.{AreAmong}
 use Rattle.pb_steps.specs.Database.{live_constraints}
 use Rattle.pb_unit.specs.States.{EngineState, at_place, placed, added, removed, started, Stands, standing, IsFree}
 use Rattle.pb_unit.proofs.Standing.{contains_head, contains_tail, contains_cases, stands_contains, contains_stands}
 use Rattle.pb_unit.proofs.Placing.{at_placed, at_placed_other}
 use Rattle.pb_rules.specs.declared.slots.Slot.{Slot}
-use Rattle.pb_rules.specs.laws.Slots.{hole, whole, placed_from, slot_at, slot_of, slots_without, marked_slots, place_of, entries_from}
-use Rattle.pb_rules.specs.laws.Sound.{IsSound}
-use Rattle.pb_rules.specs.laws.Mirrors.{IsMirrored, KeepsEngine, AreWithin}
+use Rattle.pb_rules.specs.inner.Slots.{hole, whole, placed_from, slot_at, slot_of, slots_without, marked_slots, place_of, entries_from}
+use Rattle.pb_rules.specs.inner.Sound.{IsSound}
+use Rattle.pb_rules.specs.inner.Mirrors.{IsMirrored, KeepsEngine, AreWithin}
 use Rattle.pb_rules.proofs.SlotLemmas.{live_constraints-slots, constraint_at-slot, length-placed_from}
 use Rattle.pb_rules.proofs.Withins.{at-sound}
 

@@ -29,10 +29,10 @@ use Rattle.pb_steps.specs.Allowed.{Allowed, IsShown, IsMet, IsSlim, obligations,
 use Rattle.pb_steps.specs.Denials.{seen_denial, unless, UnshownBy, FirstUnmet}
 use Rattle.pb_steps.proofs.Searching.{none-some, from_first_some-none, from_unless-none}
 use Rattle.pb_rules.specs.declared.slots.Slot.{Slot}
-use Rattle.pb_rules.specs.laws.Slots.{with_entry, entries_from, database_of}
-use Rattle.pb_rules.specs.laws.Ordered.{IsOrdered}
-use Rattle.pb_rules.specs.laws.Obligations.{SlotIsMet, SlotIsUnmet, TellsShown, goal_of, red_causes}
-use Rattle.pb_rules.specs.laws.Indexed.{HasNamed}
+use Rattle.pb_rules.specs.inner.Slots.{with_entry, entries_from, database_of}
+use Rattle.pb_rules.specs.inner.Ordered.{IsOrdered}
+use Rattle.pb_rules.specs.inner.Obligations.{SlotIsMet, SlotIsUnmet, TellsShown, goal_of, red_causes}
+use Rattle.pb_rules.specs.inner.Indexed.{HasNamed}
 use Rattle.pb_rules.proofs.Seen.{by_elimination, rows, seen_denial-vars}
 
 abbrev Ascends : Entry → Entry → Type 0

@@ -9,7 +9,7 @@ use Rattle.pb_base.specs.declared.literal.Lit.{Lit}
 use Rattle.pb_base.proofs.Members.{Contains-here, Contains-there, Contains-cons_cases, Contains-nil}
 use Rattle.pb_norm.specs.Constraints.{Constraint}
 use Rattle.pb_norm.specs.Propagation as propagation
-use Rattle.pb_norm.specs.laws.PropagationLaws.{AreAmong}
+use Rattle.pb_norm.specs.PropagationLaws.{AreAmong}
 use Rattle.pb_base.specs.declared.fault.NoMemory.{NoMemory}
 use Rattle.pb_steps.specs.Database.{Database, live_constraints}
 use Rattle.pb_steps.proofs.MoreConstraints.{conflict-more}
@@ -21,10 +21,10 @@ use Rattle.pb_unit.proofs.Placing.{at_placed, at_placed_other}
 use Rattle.pb_unit.proofs.Standing.{contains_stands, contains_head, contains_tail, contains_cases}
 use Rattle.std.specs.Option.{option_to_list}
 use Rattle.pb_rules.specs.declared.slots.Slot.{Slot}
-use Rattle.pb_rules.specs.laws.Conflicts.{is_conflict}
-use Rattle.pb_rules.specs.laws.Slots.{slot_of, listed_slots, entries_from, database_of}
+use Rattle.pb_rules.specs.inner.Conflicts.{is_conflict}
+use Rattle.pb_rules.specs.inner.Slots.{slot_of, listed_slots, entries_from, database_of}
 use Rattle.pb_rules.proofs.SlotLemmas.{pushed_more}
-use Rattle.pb_rules.specs.laws.Mirrors.{TellsConflict, IsMirrored, KeepsEngine, IsCovered, IsIdle, HasJust}
+use Rattle.pb_rules.specs.inner.Mirrors.{TellsConflict, IsMirrored, KeepsEngine, IsCovered, IsIdle, HasJust}
 use Rattle.pb_rules.proofs.Mirroring.{standing-live, live-standing, standing-placed, placed-standing, at-removed, at-removed_other, some-none}
 
 -- ---- answers

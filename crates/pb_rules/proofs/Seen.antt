@@ -17,11 +17,11 @@ use Rattle.pb_steps.specs.Steps.{vars_named, IsSpelled, IsRule}
 use Rattle.pb_steps.specs.Database.{Entry, Database, constraint_at, is_live, is_out, is_listed, without, grown, reduced}
 use Rattle.pb_steps.specs.Allowed.{Allowed, IsSlim, propagated}
 use Rattle.pb_steps.specs.Denials.{seen_denial, first_gone, unknown_var, unknown_id, stack, width, sets_original, no_clause, not_implied, out_deleted, UnshownBy}
-use Rattle.pb_steps.specs.laws.DenialLaws.{IsAllowed}
+use Rattle.pb_steps.specs.DenialLaws.{IsAllowed}
 use Rattle.pb_steps.proofs.Searching.{from_find-none, from_map-none, from_first_some-none, from_unless-none, none-some}
 use Rattle.std.proofs.lemmas.List.{take_more}
 use Rattle.pb_steps.proofs.Keeping.{at-filter}
-use Rattle.pb_rules.specs.laws.Mirrors.{TellsConflict}
+use Rattle.pb_rules.specs.inner.Mirrors.{TellsConflict}
 use Rattle.pb_rules.proofs.SlotLemmas.{without-push}
 use Rattle.pb_steps.proofs.Denying.{allowed_or_denied}
 

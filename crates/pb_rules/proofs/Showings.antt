@@ -9,16 +9,16 @@ use Rattle.pb_base.specs.declared.literal.Lit.{Lit}
 use Rattle.pb_base.proofs.Members.{Contains-here, Contains-cons_cases, Contains-nil}
 use Rattle.pb_norm.specs.Constraints.{Constraint}
 use Rattle.pb_norm.specs.Propagation.{room}
-use Rattle.pb_norm.specs.laws.PropagationLaws.{AreAmong}
+use Rattle.pb_norm.specs.PropagationLaws.{AreAmong}
 use Rattle.pb_norm.proofs.Consistent.{consistent-nil}
 use Rattle.pb_norm.proofs.PropagationFixed.{fixed-no_conflict}
 use Rattle.pb_unit.specs.Steps.{Advances, IsCalm}
 use Rattle.pb_unit.proofs.Visits.{stays, then}
 use Rattle.pb_unit.proofs.Answering.{fixed_over}
-use Rattle.pb_rules.specs.laws.Mirrors.{TellsConflict}
+use Rattle.pb_rules.specs.inner.Mirrors.{TellsConflict}
 use Rattle.pb_rules.specs.declared.slots.Slot.{Slot}
-use Rattle.pb_rules.specs.laws.Slots.{slot_of, listed_slots}
-use Rattle.pb_rules.specs.laws.Showing.{Shows}
+use Rattle.pb_rules.specs.inner.Slots.{slot_of, listed_slots}
+use Rattle.pb_rules.specs.inner.Showing.{Shows}
 use Rattle.pb_rules.proofs.SlotLemmas.{pushed_more}
 
 nothing_before : (more before : List Lit) → length (more ++ before) ≡ length before → more ++ before ≡ before

@@ -10,9 +10,9 @@ use Rattle.pb_norm.specs.Constraints.{Constraint}
 use Rattle.pb_steps.specs.Database.{Entry, constraint_at, is_out, without, is_listed, entry, mark, numbered_from, live_constraints, grown, loaded_database, reduced, Database}
 use Rattle.pb_norm.specs.Constraints.{HasVarsWithin, AreVarsWithin}
 use Rattle.pb_steps.specs.Operations.{IsNarrow}
-use Rattle.pb_rules.specs.laws.Sound.{IsSound}
+use Rattle.pb_rules.specs.inner.Sound.{IsSound}
 use Rattle.pb_rules.specs.declared.slots.Slot.{Slot}
-use Rattle.pb_rules.specs.laws.Slots.{with_entry, entries_from, hole, whole, slot_of, slot_is_out, slots_without, marked_slots, database_of, placed_from, listed_slots}
+use Rattle.pb_rules.specs.inner.Slots.{with_entry, entries_from, hole, whole, slot_of, slot_is_out, slots_without, marked_slots, database_of, placed_from, listed_slots}
 
 -- ---- what is found under a number
 

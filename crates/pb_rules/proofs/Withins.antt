@@ -18,7 +18,7 @@ use Rattle.std.proofs.lemmas.List.Sums.{sum_by-le-sum_by}
 use Rattle.pb_base.proofs.Sums.{sum_by-filter}
 use Rattle.pb_steps.specs.declared.op.Set.{Set}
 use Rattle.pb_steps.specs.Substitutions.{restriction, is_unset}
-use Rattle.pb_rules.specs.laws.Sound.{IsSound}
+use Rattle.pb_rules.specs.inner.Sound.{IsSound}
 
 abbrev WithinC : ℕ → Constraint → Type 0
 WithinC vars c = HasVarsWithin vars c.terms

@@ -1,4 +1,4 @@
 pub mod Faults
 pub mod Answers
 pub mod Naming
-pub mod laws
+pub mod inner

@@ -1,8 +1,8 @@
 //! Propagation where there are far more variables than occur, over those that do.
 ghost use Rattle.std.specs.Prelude.{◌≡◌, ◌++◌, ◌∷◌, [], IfOk, OnOk, filter_map};
 ghost use Rattle.std.specs.Option.{option_to_list};
-ghost use Rattle.pb_rules.specs.laws.Slots.{slot_of, listed_slots};
-ghost use Rattle.pb_rules.specs.laws.Mirrors.{TellsConflict};
+ghost use Rattle.pb_rules.specs.inner.Slots.{slot_of, listed_slots};
+ghost use Rattle.pb_rules.specs.inner.Mirrors.{TellsConflict};
 
 use crate::slots::{self, Slot};
 use pb_base::NoMemory;

@@ -5,11 +5,11 @@ ghost use Rattle.pb_norm.specs.Constraints.{HasVarsWithin, AreVarsWithin};
 ghost use Rattle.pb_steps.specs.Operations.{IsNarrow};
 ghost use Rattle.pb_steps.specs.Database.{live_constraints, constraint_at, is_live, is_out, grown, reduced, marked, loaded_database};
 ghost use Rattle.pb_unit.specs.States.{started};
-ghost use Rattle.pb_rules.specs.laws.Slots.{placed_from};
-ghost use Rattle.pb_rules.specs.laws.Ordered.{IsOrdered};
-ghost use Rattle.pb_rules.specs.laws.Sound.{IsDatabase};
-ghost use Rattle.pb_rules.specs.laws.Indexed.{IsIndexed, HasNaming};
-ghost use Rattle.pb_rules.specs.laws.Mirrors.{TellsConflict, IsMirrored};
+ghost use Rattle.pb_rules.specs.inner.Slots.{placed_from};
+ghost use Rattle.pb_rules.specs.inner.Ordered.{IsOrdered};
+ghost use Rattle.pb_rules.specs.inner.Sound.{IsDatabase};
+ghost use Rattle.pb_rules.specs.inner.Indexed.{IsIndexed, HasNaming};
+ghost use Rattle.pb_rules.specs.inner.Mirrors.{TellsConflict, IsMirrored};
 
 use crate::apart::{self, is_refuted_with_all, is_refuted_with_listed};
 use crate::entering::{enter_rest, leave};
@@ -68,8 +68,8 @@ impl Drop for Database {
 
 impl Model for Database {
     ghost use Rattle.pb_steps.specs.Database.{Database};
-    ghost use Rattle.pb_rules.specs.laws.Slots.{database_of};
-    ghost use Rattle.pb_rules.specs.laws.Mirrors.{IsKept};
+    ghost use Rattle.pb_rules.specs.inner.Slots.{database_of};
+    ghost use Rattle.pb_rules.specs.inner.Mirrors.{IsKept};
 
     ghost Value = { Database };
 

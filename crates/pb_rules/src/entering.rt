@@ -2,8 +2,8 @@
 ghost use Rattle.std.specs.Prelude.{◌≡◌, ◌≤◌, ◌<◌, ◌+◌, ℕ, List, Some, length, take};
 ghost use Rattle.std.specs.Bool.{OnTrue, OnFalse};
 ghost use Rattle.pb_rules.specs.declared.slots.Slot.{Slot};
-ghost use Rattle.pb_rules.specs.laws.Slots.{place_of, slot_of, slots_without};
-ghost use Rattle.pb_rules.specs.laws.Mirrors.{AreSame, AreWithin, IsMirrored};
+ghost use Rattle.pb_rules.specs.inner.Slots.{place_of, slot_of, slots_without};
+ghost use Rattle.pb_rules.specs.inner.Mirrors.{AreSame, AreWithin, IsMirrored};
 
 use crate::slots::{self, Slot};
 use pb_unit::Engine;

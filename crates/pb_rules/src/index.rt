@@ -2,8 +2,8 @@
 ghost use Rattle.std.specs.Prelude.{◌≡◌, ◌<◌, ◌+◌, ◌%◌, ◌++◌, ◌∷◌, [], ℕ, All, Contains, IfOk, IfSome, OnOk, OnErr, length, filter, is_some, slice_index_or};
 ghost use Rattle.std.specs.Bool.{OnTrue};
 ghost use Rattle.pb_norm.specs.Constraints.{weights};
-ghost use Rattle.pb_rules.specs.laws.Slots.{slot_of};
-ghost use Rattle.pb_rules.specs.laws.Indexed.{ids_at, ids_of, KeepsIds, LosesId, IsIndexed};
+ghost use Rattle.pb_rules.specs.inner.Slots.{slot_of};
+ghost use Rattle.pb_rules.specs.inner.Indexed.{ids_at, ids_of, KeepsIds, LosesId, IsIndexed};
 
 use crate::slots::{self, Slot};
 use pb_base::{NoMemory, Term, Var};

@@ -3,8 +3,8 @@ ghost use Rattle.std.specs.Prelude.{◌≡◌, ◌∷◌, ◌++◌, [], ℕ, Lis
 ghost use Rattle.std.specs.Bool.{OnTrue};
 ghost use Rattle.std.specs.Option.{option_to_list};
 ghost use Rattle.pb_norm.specs.Constraints.{Constraint, HasVarsWithin};
-ghost use Rattle.pb_rules.specs.laws.Slots.{slot_of, listed_slots};
-ghost use Rattle.pb_rules.specs.laws.Mirrors.{IsCovered, IsIdle, HasJust, TellsConflict, AreWithin};
+ghost use Rattle.pb_rules.specs.inner.Slots.{slot_of, listed_slots};
+ghost use Rattle.pb_rules.specs.inner.Mirrors.{IsCovered, IsIdle, HasJust, TellsConflict, AreWithin};
 
 use crate::refutation::is_conflict;
 use crate::slots::{self, Slot};

@@ -1,9 +1,9 @@
 //! Constraints by the variables that they have.
 ghost use Rattle.std.specs.Prelude.{◌≡◌, ◌∷◌, ◌++◌, [], ℕ, List, MatchOption};
 ghost use Rattle.std.specs.List.{list_any};
-ghost use Rattle.pb_norm.specs.laws.Kept.{on_weight};
+ghost use Rattle.pb_norm.specs.inner.Kept.{on_weight};
 ghost use Rattle.pb_rules.specs.Naming.{is_of, names_at, IsUnnamed, IsFirstNaming};
-ghost use Rattle.pb_rules.specs.laws.Indexed.{IsLeast, IsNaming, lesser};
+ghost use Rattle.pb_rules.specs.inner.Indexed.{IsLeast, IsNaming, lesser};
 
 use crate::database::Database;
 use pb_base::{Term, Var};
@@ -16,7 +16,7 @@ fn has_var(terms: &[Term], var: Var) -> bool
 }
 
 // The id, or what was found before where that is not greater.
-fn lesser(best: Option<u64>, id: u64) -> Option<u64>
+fn lesser_id(best: Option<u64>, id: u64) -> Option<u64>
     ensures { result ≡ lesser best id }
 {
     match best {
@@ -37,7 +37,7 @@ impl Database {
     }
 
     // The least id from a number on whose constraint has the variable, where one more is looked at.
-    fn sooner(&self, best: Option<u64>, id: u64, var: Var, from: u64) -> Option<u64>
+    fn earlier_naming(&self, best: Option<u64>, id: u64, var: Var, from: u64) -> Option<u64>
         ensures { (ids : List ℕ) → IsLeast (IsNaming self.now.live var from) ids best → IsLeast (IsNaming self.now.live var from) (ids ++ id ∷ []) result }
     {
         if id < from {
@@ -46,7 +46,7 @@ impl Database {
         if !self.names(id, var) {
             return best;
         }
-        lesser(best, id)
+        lesser_id(best, id)
     }
 
     /// The least id, from a number on, whose constraint has the variable, or None where none has it.
@@ -55,7 +55,7 @@ impl Database {
     {
         let mut best = None;
         for id in self.ids_of(var) {
-            best = self.sooner(best, *id, var, from);
+            best = self.earlier_naming(best, *id, var, from);
         }
         best
     }

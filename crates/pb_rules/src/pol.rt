@@ -7,12 +7,12 @@ ghost use Rattle.pb_steps.specs.Steps.{HasFactor, IsSpelled, ids_of_op, vars_of_
 ghost use Rattle.pb_steps.specs.Operations.{IsNarrow};
 ghost use Rattle.pb_steps.specs.Database.{is_live};
 ghost use Rattle.pb_steps.specs.Stacks.{after_ops, height_after, is_stacked};
-ghost use Rattle.pb_rules.specs.laws.Early.{early};
+ghost use Rattle.pb_rules.specs.inner.Early.{early};
 ghost use Rattle.pb_operations.specs.Room.{fitting};
 ghost use Rattle.pb_rules.specs.Faults.{IsFault};
-ghost use Rattle.pb_rules.specs.laws.Claims.{AllowsClaim};
-ghost use Rattle.pb_rules.specs.laws.Tops.{topped, IsOutcome, IsOpOutcome, IsSoundConstraint, AreSoundConstraints};
-ghost use Rattle.pb_rules.specs.laws.Sound.{IsDatabase};
+ghost use Rattle.pb_rules.specs.inner.Claims.{AllowsClaim};
+ghost use Rattle.pb_rules.specs.inner.Tops.{topped, IsOutcome, IsOpOutcome, IsSoundConstraint, AreSoundConstraints};
+ghost use Rattle.pb_rules.specs.inner.Sound.{IsDatabase};
 
 use crate::database::Database;
 use crate::fault::RuleFault;
@@ -247,7 +247,7 @@ fn apply_ops(db: &Database, ops: &[PolOp], stack: &mut Vec<Linear>) -> Result<bo
 }
 
 // The cause of a denial that is seen before the operations are done.
-fn early(db: &Database, ops: &[PolOp]) -> Option<Denied>
+fn early_denial(db: &Database, ops: &[PolOp]) -> Option<Denied>
     ensures value { result ≡ early db.now ops.now }
     ensures sound { IsDatabase db.now }
 {
@@ -270,7 +270,7 @@ pub(crate) fn sum_of(db: &Database, ops: &[PolOp]) -> Result<Linear, RuleFault>
     ensures allowed { IfOk result (AllowsClaim db.now (Pol ops.now)) }
     ensures fault { (clause : Option (List Lit)) → IfErr result (IsFault db.now (Pol ops.now) clause) }
 {
-    if let Some(denied) = early(db, ops) {
+    if let Some(denied) = early_denial(db, ops) {
         return Err(RuleFault::Denied(denied));
     }
     let mut stack = Vec::new(db.alloc());

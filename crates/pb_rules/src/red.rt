@@ -11,9 +11,9 @@ ghost use Rattle.pb_steps.specs.Substitutions.{restriction};
 ghost use Rattle.pb_steps.specs.Database.{constraint_at};
 ghost use Rattle.pb_rules.specs.Faults.{IsFault};
 ghost use Rattle.std.specs.List.Sorted.{IsStrictlyIncreasing};
-ghost use Rattle.pb_rules.specs.laws.Claims.{AllowsClaim};
-ghost use Rattle.pb_rules.specs.laws.Indexed.{HasNamed};
-ghost use Rattle.pb_rules.specs.laws.Obligations.{SlotIsMet, SlotIsUnmet, TellsShown, TellsUnmet, goal_of, red_causes};
+ghost use Rattle.pb_rules.specs.inner.Claims.{AllowsClaim};
+ghost use Rattle.pb_rules.specs.inner.Indexed.{HasNamed};
+ghost use Rattle.pb_rules.specs.inner.Obligations.{SlotIsMet, SlotIsUnmet, TellsShown, TellsUnmet, goal_of, red_causes};
 
 use crate::database::Database;
 use crate::fault::RuleFault;
@@ -136,7 +136,7 @@ fn push_ids(ids: &[u64], list: &mut Vec<u64>) -> Result<(), NoMemory>
 }
 
 // Ids, among them those of all constraints that have a set variable.
-fn gathered(db: &Database, sets: &[Set]) -> Result<Vec<u64>, NoMemory>
+fn ids_to_show(db: &Database, sets: &[Set]) -> Result<Vec<u64>, NoMemory>
     ensures { IfOk result (λ ids. HasNamed db.now.live sets.now ids.items) }
 {
     let mut ids = Vec::new(db.alloc());
@@ -151,7 +151,7 @@ fn named_ids(db: &Database, sets: &[Set]) -> Result<Vec<u64>, NoMemory>
     ensures named { IfOk result (λ ids. HasNamed db.now.live sets.now ids.items) }
     ensures rising { IfOk result (λ ids. IsStrictlyIncreasing ids.items) }
 {
-    let mut ids = gathered(db, sets)?;
+    let mut ids = ids_to_show(db, sets)?;
     ids.sort_unstable();
     ids.dedup();
     Ok(ids)

@@ -2,8 +2,8 @@
 ghost use Rattle.std.specs.Prelude.{◌≡◌, ◌∷◌, [], IfOk};
 ghost use Rattle.pb_norm.specs.Constraints.{HasVarsWithin};
 ghost use Rattle.pb_unit.specs.States.{standing};
-ghost use Rattle.pb_rules.specs.laws.Conflicts.{is_conflict};
-ghost use Rattle.pb_rules.specs.laws.Mirrors.{KeepsEngine, TellsConflict};
+ghost use Rattle.pb_rules.specs.inner.Conflicts.{is_conflict};
+ghost use Rattle.pb_rules.specs.inner.Mirrors.{KeepsEngine, TellsConflict};
 
 use pb_base::NoMemory;
 use pb_norm::Linear;

@@ -2,9 +2,9 @@
 ghost use Rattle.std.specs.Prelude.{◌≡◌, ◌∷◌, IfSome};
 ghost use Rattle.std.specs.Option.{option_to_list};
 ghost use Rattle.pb_norm.specs.Constraints.{HasVarsWithin};
-ghost use Rattle.pb_rules.specs.laws.Slots.{slot_of, listed_slots};
-ghost use Rattle.pb_rules.specs.laws.Mirrors.{AreWithin, TellsConflict};
-ghost use Rattle.pb_rules.specs.laws.Showing.{Shows};
+ghost use Rattle.pb_rules.specs.inner.Slots.{slot_of, listed_slots};
+ghost use Rattle.pb_rules.specs.inner.Mirrors.{AreWithin, TellsConflict};
+ghost use Rattle.pb_rules.specs.inner.Showing.{Shows};
 
 use crate::slots::{self, Slot};
 use pb_norm::Linear;

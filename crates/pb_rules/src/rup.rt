@@ -9,8 +9,8 @@ ghost use Rattle.pb_steps.specs.Operations.{IsNarrow};
 ghost use Rattle.pb_steps.specs.Allowed.{propagated};
 ghost use Rattle.pb_steps.specs.Denials.{seen_denial};
 ghost use Rattle.pb_rules.specs.Faults.{IsFault};
-ghost use Rattle.pb_rules.specs.laws.Claims.{AllowsClaim};
-ghost use Rattle.pb_rules.specs.laws.Mirrors.{TellsConflict};
+ghost use Rattle.pb_rules.specs.inner.Claims.{AllowsClaim};
+ghost use Rattle.pb_rules.specs.inner.Mirrors.{TellsConflict};
 
 use crate::database::Database;
 use crate::fault::RuleFault;

@@ -1,7 +1,7 @@
 //! Constraints by their ids.
 ghost use Rattle.std.specs.Prelude.{◌≡◌, ◌<◌, ◌++◌, ◌∷◌, [], IfOk, OnOk, OnErr, is_some, length};
 ghost use Rattle.std.specs.Option.{option_copied};
-ghost use Rattle.pb_rules.specs.laws.Slots.{whole, slot_of, slot_is_out, slots_without, slots_placed, marked_slots};
+ghost use Rattle.pb_rules.specs.inner.Slots.{whole, slot_of, slot_is_out, slots_without, slots_placed, marked_slots};
 
 use pb_base::NoMemory;
 use pb_norm::Linear;

@@ -9,8 +9,8 @@ use Rattle.pb_steps.specs.declared.fault.StepFault.{StepFault}
 use Rattle.pb_steps.specs.declared.op.PolOp.{PolOp}
 use Rattle.pb_steps.specs.LineWords.{and_then}
 use Rattle.pb_steps.specs.LineSteps.{with_item, next_text, op_of, ops_from}
-use Rattle.pb_steps.specs.laws.Ahead.{ahead_text, ahead_of}
-use Rattle.pb_steps.specs.laws.Reading.{with_items}
+use Rattle.pb_steps.specs.inner.Ahead.{ahead_text, ahead_of}
+use Rattle.pb_steps.specs.inner.Reading.{with_items}
 use Rattle.pb_steps.proofs.ReadLemmas.{with_none, with_more}
 
 -- what a call of `next` does to words

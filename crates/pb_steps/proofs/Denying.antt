@@ -23,7 +23,7 @@ use Rattle.pb_steps.specs.Stacks.{is_stacked, after_ops}
 use Rattle.pb_steps.specs.Substitutions.{restriction}
 use Rattle.pb_steps.specs.Allowed.{propagated, obligations, to_refute, IsMet, ByRule, Allowed}
 use Rattle.pb_steps.specs.Denials.{unless, unknown_var, unknown_id, first_gone, stack, width, sets_original, no_clause, implies_clause, not_implied, out_deleted, seen_denial, FirstUnmet, UnshownBy, FirstDenied}
-use Rattle.pb_steps.specs.laws.DenialLaws.{IsAllowed, IsDenied, AllowedOrDenied}
+use Rattle.pb_steps.specs.DenialLaws.{IsAllowed, IsDenied, AllowedOrDenied}
 use Rattle.pb_steps.proofs.Searching.{none-some, find-none, from_find-none, map-none, from_map-none, or-none, from_first_some-none, unless-none, from_unless-none, all_or_first, first_unique}
 use Rattle.pb_steps.proofs.Heights.{one_left}
 use Rattle.pb_steps.proofs.Numbers.{none-gone, from_none-gone}
@@ -166,11 +166,11 @@ one_unshown db (Del ids) d e u v = absurd u
 one_unshown db (Out id) d e u v = absurd u
 one_unshown db End d e u v = absurd u
 
-one_reason : (db : Database) (step : Step) (clause : Option (List Lit)) (d e : Denied) → FirstDenied db step clause d → FirstDenied db step clause e → d ≡ e
-one_reason db step clause d e (inl p) (inl q) = let same : Some d ≡ Some e = sym p ∙ q in cc
-one_reason db step clause d e (inl p) (inr q) = absurd (none-some d (sym q.0 ∙ p))
-one_reason db step clause d e (inr p) (inl q) = absurd (none-some e (sym p.0 ∙ q))
-one_reason db step clause d e (inr p) (inr q) = one_unshown db step d e p.1 q.1
+one_cause : (db : Database) (step : Step) (clause : Option (List Lit)) (d e : Denied) → FirstDenied db step clause d → FirstDenied db step clause e → d ≡ e
+one_cause db step clause d e (inl p) (inl q) = let same : Some d ≡ Some e = sym p ∙ q in cc
+one_cause db step clause d e (inl p) (inr q) = absurd (none-some d (sym q.0 ∙ p))
+one_cause db step clause d e (inr p) (inl q) = absurd (none-some e (sym p.0 ∙ q))
+one_cause db step clause d e (inr p) (inr q) = one_unshown db step d e p.1 q.1
 
 -- ---- one of both
 
@@ -318,5 +318,5 @@ allowed_or_denied = record {
   either = either;
   not_both = not_both;
   one_database = λ db step clause db' other a b. one_rule db step clause db' other a.rule b.rule;
-  one_reason = one_reason;
+  one_cause = one_cause;
 }

@@ -8,7 +8,7 @@ use Rattle.pb_steps.specs.declared.step.Step.TheVariants.{Blank, Head, Loaded, P
 use Rattle.pb_steps.specs.LineSteps.{step_of}
 use Rattle.pb_steps.specs.StepText.{step_line}
 use Rattle.pb_steps.specs.StepGrammar.{texts, WordsSay}
-use Rattle.pb_steps.specs.laws.StepLines.{ReadsWhatIsSaid, WrittenLineReads, LinesDiffer, StepFaultsSayNothing}
+use Rattle.pb_steps.specs.StepLines.{ReadsWhatIsSaid, WrittenLineReads, LinesDiffer, StepFaultsSayNothing}
 use Rattle.pb_steps.specs.Sayable.{IsSayable}
 use Rattle.pb_steps.proofs.SaidSteps.{said_is}
 use Rattle.pb_steps.proofs.ReadSteps.{said_from}

@@ -3,7 +3,7 @@ use Rattle.std.proofs.Common.{inl, inr, List, [], ◌∷◌}
 use Rattle.pb_base.specs.declared.literal.Lit.{Lit}
 use Rattle.pb_norm.specs.Constraints.{Constraint}
 use Rattle.pb_norm.specs.Propagation.{Needs, Reached, Conflict}
-use Rattle.pb_norm.specs.laws.PropagationLaws.{AreAmong}
+use Rattle.pb_norm.specs.PropagationLaws.{AreAmong}
 
 needs-more : (cs ds : List Constraint) → AreAmong cs ds → (ls : List Lit) (l : Lit) → Needs cs ls l → Needs ds ls l
 needs-more cs ds among ls l n = record {

@@ -10,7 +10,7 @@ use Rattle.pb_steps.specs.declared.op.Set.{Set}
 use Rattle.pb_steps.specs.declared.step.Step.{Step}
 use Rattle.pb_steps.specs.LineWords.{and_then, id_in, integer_in, variable_in}
 use Rattle.pb_steps.specs.LineSteps.{IsFaultOf, said_by, place_by, with_item, with_first_term, ids_in, sets_in, arrow_in, term_in, terms_in}
-use Rattle.pb_steps.specs.laws.Reading.{with_items, with_terms}
+use Rattle.pb_steps.specs.inner.Reading.{with_items, with_terms}
 
 pub with_none : {A : Type 0} (r : Result (List A) StepFault) → with_items [] r ≡ r
 with_none (Ok ys) = refl

@@ -12,7 +12,7 @@ use Rattle.pb_steps.specs.declared.step.Step.TheVariants.{Blank, Head, Loaded, P
 use Rattle.pb_steps.specs.Operations.{Implies}
 use Rattle.pb_steps.specs.Database.{Entry, Database, live_constraints, constraint_at, numbered_from, loaded_database}
 use Rattle.pb_steps.specs.Runs.{next_clause, clauses_after, Runs}
-use Rattle.pb_steps.specs.laws.RunLaws.{AcceptedExtends}
+use Rattle.pb_steps.specs.RunLaws.{AcceptedExtends}
 use Rattle.pb_steps.proofs.Implying.{implied_holds}
 use Rattle.pb_steps.proofs.Good.{IsGood, AllGood, OptionGood, at-good}
 use Rattle.pb_steps.proofs.Growing.{Extended, unchanged, step-extended}

@@ -18,7 +18,7 @@ use Rattle.pb_steps.specs.StepGrammar.{StepSymbol, op_symbols, term_symbols, bit
 use Rattle.pb_steps.specs.StepGrammar.StepSymbol.{key, number, factor, integer, coefficient, literal, variable, weakened}
 use Rattle.pb_steps.specs.StepSizes.{op_size}
 use Rattle.pb_steps.specs.StepText.{variable_word, literal_word, coefficient_word, word_of, with_blanks}
-use Rattle.pb_steps.specs.laws.StepLines.{LinesAreBounded}
+use Rattle.pb_steps.specs.StepLines.{LinesAreBounded}
 
 -- the bytes of words, each with a blank
 abbrev bytes_of : List StepSymbol → ℕ

@@ -9,7 +9,7 @@ use Rattle.pb_steps.specs.StepText.{with_blanks, word_of}
 use Rattle.pb_steps.specs.declared.op.Set.{Set}
 use Rattle.pb_steps.specs.StepGrammar.{StepSymbol, term_symbols, set_symbols, constraint_symbols}
 use Rattle.pb_steps.specs.StepGrammar.StepSymbol.{key, number, integer}
-use Rattle.pb_steps.specs.laws.Appending.{KeepsFront}
+use Rattle.pb_steps.specs.inner.Appending.{KeepsFront}
 
 pub on_err : {T E P : Type 0} (r : Result T E) → P → OnErr r P
 on_err (Ok x) p = tt

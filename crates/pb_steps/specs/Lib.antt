@@ -13,7 +13,8 @@ pub mod Allowed
 pub mod Denials
 pub mod Runs
 pub mod Extends
-pub mod Examples
-pub mod LineExamples
-pub mod StepTextExamples
-pub mod laws
+pub mod DenialLaws
+pub mod RunLaws
+pub mod StepLines
+pub mod inner
+pub mod examples

@@ -4,7 +4,7 @@ ghost use Rattle.pb_base.specs.declared.expected.Expected.TheVariants as expecte
 ghost use Rattle.pb_base.specs.Pieces.{chunk};
 ghost use Rattle.pb_steps.specs.LineWords.{and_then, integer_in};
 ghost use Rattle.pb_steps.specs.LineSteps.{IsFaultOf, term_in, terms_in, right_in, ids_in, sets_in, arrow_in, with_item, with_first_term};
-ghost use Rattle.pb_steps.specs.laws.Reading.{with_items, with_terms};
+ghost use Rattle.pb_steps.specs.inner.Reading.{with_items, with_terms};
 
 use crate::fault::StepFault;
 use crate::op::Set;

@@ -1,6 +1,6 @@
 //! What accepted derivations show, and that each step is allowed or denied.
-ghost use Rattle.pb_steps.specs.laws.DenialLaws.{AllowedOrDenied};
-ghost use Rattle.pb_steps.specs.laws.RunLaws.{AcceptedExtends};
+ghost use Rattle.pb_steps.specs.DenialLaws.{AllowedOrDenied};
+ghost use Rattle.pb_steps.specs.RunLaws.{AcceptedExtends};
 
 /// The law that every solution of the loaded constraints extends to a model of the clauses that an accepted run put out.
 pub fn accepted_extends()

@@ -1,5 +1,5 @@
 //! Laws about what lines say.
-ghost use Rattle.pb_steps.specs.laws.StepLines.{ReadsWhatIsSaid, WrittenLineReads, LinesDiffer, StepFaultsSayNothing, LinesAreBounded};
+ghost use Rattle.pb_steps.specs.StepLines.{ReadsWhatIsSaid, WrittenLineReads, LinesDiffer, StepFaultsSayNothing, LinesAreBounded};
 
 /// The law that the definition that computes gives a step exactly where the words of a line stand for those of the step.
 pub fn reads_what_is_said()

@@ -3,7 +3,7 @@ ghost use Rattle.std.specs.Prelude.{◌≡◌, ◌≢◌, ℕ, false, Some, None
 ghost use Rattle.pb_base.specs.Numbers.{limited};
 ghost use Rattle.pb_base.specs.Pieces.{chunk};
 ghost use Rattle.pb_steps.specs.LineSteps.{number_op, literal_op, op_by, op_of, ops_from, IsFaultOf};
-ghost use Rattle.pb_steps.specs.laws.Ahead.{ahead_text};
+ghost use Rattle.pb_steps.specs.inner.Ahead.{ahead_text};
 
 use crate::fault::StepFault;
 use crate::op::PolOp;

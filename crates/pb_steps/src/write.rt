@@ -5,7 +5,7 @@ ghost use Rattle.std.specs.List.{flat_map};
 ghost use Rattle.pb_steps.specs.StepText.{with_blanks, step_line};
 ghost use Rattle.pb_steps.specs.StepGrammar.{op_symbols, term_symbols, constraint_symbols, set_symbols};
 ghost use Rattle.pb_steps.specs.StepGrammar.StepSymbol.{key, number};
-ghost use Rattle.pb_steps.specs.laws.Appending.{KeepsFront};
+ghost use Rattle.pb_steps.specs.inner.Appending.{KeepsFront};
 
 use crate::op::{PolOp, Set};
 use crate::step::Step;

@@ -2,7 +2,7 @@
 ghost use Rattle.std.specs.Prelude.{◌≡◌, ◌≤◌, ◌<◌, ◌^◌, ◌+◌, ◌++◌, ◌∷◌, [], OnOk, OnErr, decimal, drop};
 ghost use Rattle.std.specs.Fmt.{signed_decimal};
 ghost use Rattle.pb_steps.specs.StepText.{variable_word, literal_word, coefficient_word};
-ghost use Rattle.pb_steps.specs.laws.Appending.{KeepsFront};
+ghost use Rattle.pb_steps.specs.inner.Appending.{KeepsFront};
 
 use itoa::{Buffer, write_digits};
 use pb_base::{Lit, Var};

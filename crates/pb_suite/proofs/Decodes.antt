@@ -1,4 +1,4 @@
--- A command that owes decoding a model of the clauses says its solution.
+-- A command that is to decode a model of the clauses says its solution.
 use Rattle.std.proofs.Common.{◌≡◌, ◌∙◌, ◌∷◌, ◌++◌, ℕ, ℤ, Bool, true, false, cond, List, Option, Some, None, Result, Ok, Err, length, refl, subst, sym}
 use Rattle.std.specs.Prelude.{All, IfSome, nat_lt, ◌^◌}
 use Rattle.std.proofs.lemmas.List.Elements.{All-contains, Contains-append_right}
@@ -11,7 +11,7 @@ use Rattle.pb_base.proofs.Members.{Contains-here}
 use Rattle.pb_desk.specs.View.{Told}
 use Rattle.pb_desk.specs.Desk.{DeskState, IfTold}
 use Rattle.pb_desk.proofs.Tells.{in_told}
-use Rattle.pb_choice.specs.declared.options.Options.{Options}
+use Rattle.pb_base.specs.declared.options.Options.{Options}
 use Rattle.pb_encode.proofs.Solutions.{have_solutions}
 use Rattle.pb_model.specs.declared.decoding.Decoded.TheVariants as decoded
 use Rattle.pb_model.specs.declared.fault.ModelFault.{ModelFault}
@@ -24,18 +24,18 @@ use Rattle.pb_model.specs.SolutionText.{solution_text}
 use Rattle.pb_model.proofs.Told.{ok_covers}
 use Rattle.pb_words.specs.DecodeWords.{DecodeWords}
 use Rattle.pb_suite.specs.declared.outcome.Outcome.{Outcome}
-use Rattle.pb_suite.specs.Obeying.{Answers, Obeys}
-use Rattle.pb_suite.specs.Obeying.Answers.{done as all_done, refused, read_fault as unread, write_fault as unwritten, no_memory as wanting}
+use Rattle.pb_suite.specs.Implementing.{Answers, Implements}
+use Rattle.pb_suite.specs.Implementing.Answers.{done as all_done, refused, read_fault as unread, write_fault as unwritten, no_memory as wanting}
 use Rattle.pb_suite.specs.Outputs.{only_words, Adds, Output}
-use Rattle.pb_suite.specs.Owed.{Shelf}
-use Rattle.pb_suite.specs.OwedDecode.{owed_decode, IsAnswered, StopsDecode}
-use Rattle.pb_suite.specs.OwedDecode.StopsDecode.{no_problem, bad_problem, lacking, bad_model, no_model, violated}
-use Rattle.pb_suite.specs.Posed.{IsPosed, Poses}
+use Rattle.pb_suite.specs.CommandSpec.{Shelf}
+use Rattle.pb_suite.specs.DecodeSpec.{decode_spec, IsAnswered, StopsDecode}
+use Rattle.pb_suite.specs.DecodeSpec.StopsDecode.{no_problem, bad_problem, lacking, bad_model, no_model, violated}
+use Rattle.pb_suite.specs.Denoted.{IsDenoted, Denotes}
 use Rattle.pb_suite.specs.Refusals.{RefusesModel, RefusesOpb}
 use Rattle.pb_suite.specs.Refusals.RefusesModel.{token as model_token, limit as model_limit}
 use Rattle.pb_suite.specs.SaidSolutions.{IsDue, IsFrontOfModel, SaidOf, SaysOnly}
 use Rattle.pb_suite.specs.SaidSolutions.SaysOnly.{done, read_fault, write_fault, no_memory}
-use Rattle.pb_suite.proofs.PosedProblems.{poses_one, poses_unrefused, poses_within}
+use Rattle.pb_suite.proofs.DenotedProblems.{denotes_one, denotes_unrefused, denotes_within}
 
 -- ---- what texts say is one thing
 
@@ -51,10 +51,10 @@ same_ok r x y first second = let same : Ok x ≡ Ok y = sym first ∙ second in 
 pub not_err : {X Y : Type 0} (r : Result X Y) (x : X) (y : Y) → r ≡ Ok x → r ≡ Err y → ⊥
 not_err r x y first second = let no : Ok x ≡ Err y = sym first ∙ second in cc
 
-pub same_posed : (shelf : Shelf) (name : List ℕ) (bound : Option ℤ) (p q : Problem) → IsPosed shelf name bound p → IsPosed shelf name bound q → p ≡ q
-same_posed shelf name bound p q posed other =
-    let text : other.text ≡ posed.text = same_some (shelf name) other.text posed.text other.on_shelf posed.on_shelf in
-    poses_one bound posed.text p q posed.poses (subst (λ (xs : List ℕ). Poses bound xs q) text other.poses)
+pub same_posed : (shelf : Shelf) (name : List ℕ) (bound : Option ℤ) (p q : Problem) → IsDenoted shelf name bound p → IsDenoted shelf name bound q → p ≡ q
+same_posed shelf name bound p q denoted other =
+    let text : other.text ≡ denoted.text = same_some (shelf name) other.text denoted.text other.on_shelf denoted.on_shelf in
+    denotes_one bound denoted.text p q denoted.denotes (subst (λ (xs : List ℕ). Denotes bound xs q) text other.denotes)
 
 pub same_told : (shelf : Shelf) (w : DecodeWords) (p : Problem) (m n : Model) → IsAnswered shelf w p m → IsAnswered shelf w p n → m ≡ n
 same_told shelf w p m n answered other =
@@ -85,29 +85,29 @@ module _ (w : DecodeWords) (shelf : Shelf) (p : Problem) (m : Model) (answered :
   -- what holds of the problem and the model that the texts say
   of_same : (q : Problem) (n : Model) (P : Problem → Model → Type 0) → IsAnswered shelf w q n → P q n → P p m
   of_same q n P other holds =
-      let problems : q ≡ p = same_posed shelf w.opb w.bound q p other.posed answered.posed in
+      let problems : q ≡ p = same_posed shelf w.opb w.bound q p other.denoted answered.denoted in
       let models : n ≡ m = sym (same_told shelf w p m n answered (subst (λ (r : Problem). IsAnswered shelf w r n) problems other)) in
       subst (P p) models (subst (λ (r : Problem). P r n) problems holds)
 
-  only_due : (out : Output) → (owed_decode w).done shelf out → out ≡ only_words (solution_text p m.values)
+  only_due : (out : Output) → (decode_spec w).done shelf out → out ≡ only_words (solution_text p m.values)
   only_due out (q, n, comes, is) = of_same q n (λ r k. out ≡ only_words (solution_text r k.values)) comes.answered is
 
   never_stops : (answer : Outcome) → StopsDecode shelf w answer → ⊥
-  never_stops _ (no_problem lacks) = not_none (shelf w.opb) answered.posed.text answered.posed.on_shelf lacks
+  never_stops _ (no_problem lacks) = not_none (shelf w.opb) answered.denoted.text answered.denoted.on_shelf lacks
   never_stops answer (bad_problem text _ on_shelf refuses) =
-      let same = same_some (shelf w.opb) text answered.posed.text on_shelf answered.posed.on_shelf in
-      poses_unrefused w.bound answered.posed.text p answer answered.posed.poses (subst (λ (xs : List ℕ). RefusesOpb w.bound xs answer) same refuses)
-  never_stops _ (lacking q posed lacks) = not_none (shelf w.model) answered.text answered.on_shelf lacks
-  never_stops answer (bad_model q text _ posed on_shelf refuses) =
+      let same = same_some (shelf w.opb) text answered.denoted.text on_shelf answered.denoted.on_shelf in
+      denotes_unrefused w.bound answered.denoted.text p answer answered.denoted.denotes (subst (λ (xs : List ℕ). RefusesOpb w.bound xs answer) same refuses)
+  never_stops _ (lacking q denoted lacks) = not_none (shelf w.model) answered.text answered.on_shelf lacks
+  never_stops answer (bad_model q text _ denoted on_shelf refuses) =
       let same = same_some (shelf w.model) text answered.text on_shelf answered.on_shelf in
-      let problems = same_posed shelf w.opb w.bound q p posed answered.posed in
+      let problems = same_posed shelf w.opb w.bound q p denoted answered.denoted in
       model_refuses_none p.vars answered.text m answer answered.says
       (subst (λ (r : Problem). RefusesModel r.vars answered.text answer) problems (subst (λ (xs : List ℕ). RefusesModel q.vars xs answer) same refuses))
   never_stops _ (no_model q n comes) = of_same q n (λ r k. IsDecoded r k decoded.NoModel) comes.answered comes.decoded solution.0
   never_stops _ (violated q n statement comes) =
       none_violated (assigned_by (widened p m.values)) p.statements statement solution.1.statements (of_same q n (λ r k. IsDecoded r k (decoded.Violates statement)) comes.answered comes.decoded).1
 
-  solution_is_due : IsDue (owed_decode w) shelf (only_words (solution_text p m.values))
+  solution_is_due : IsDue (decode_spec w) shelf (only_words (solution_text p m.values))
   solution_is_due = record {
     done = (p, m, record { answered = answered; decoded = solution }, refl);
     only = only_due;
@@ -117,17 +117,17 @@ module _ (w : DecodeWords) (shelf : Shelf) (p : Problem) (m : Model) (answered :
 -- the front of a model of the clauses is a solution
 front_solves : (o : Options) (w : DecodeWords) (shelf : Shelf) (p : Problem) (m : Model) → IsAnswered shelf w p m → IsFrontOfModel o p m → IsDecoded p m decoded.Solution
 front_solves o w shelf p m answered front =
-    let within = poses_within w.bound answered.posed.text p answered.posed.poses in
+    let within = denotes_within w.bound answered.denoted.text p answered.denoted.denotes in
     (front.says, (have_solutions o p within m.values (values_cover p.vars answered.text m answered.says)).1 (front.model, front.is_model, front.front))
 
 -- ---- how a run ends
 
-pub obeyed_says : (w : DecodeWords) (a b : DeskState) (answer : Outcome) → Obeys (owed_decode w) a b answer → IfTold a (SaidOf w a b answer)
-obeyed_says w a b answer obeys = by_told a.view.told refl
+pub obeyed_says : (w : DecodeWords) (a b : DeskState) (answer : Outcome) → Implements (decode_spec w) a b answer → IfTold a (SaidOf w a b answer)
+obeyed_says w a b answer implements = by_told a.view.told refl
   where
-    ends : (t : Told) (line : List ℕ) → a.view.told ≡ Some t → IsDue (owed_decode w) t.shelf (only_words line) → (answer : Outcome) → Answers (owed_decode w) a b answer → SaysOnly line a b answer
-    ends t line is due _ (all_done out has adds keeps) = done (subst (λ (x : Output). Adds x a b) (due.only out (in_told a t (λ u. (owed_decode w).done u.shelf out) is has)) adds)
-    ends t line is due answer (refused _ refusal stops adds) = absurd (due.goes_on answer (in_told a t (λ u. (owed_decode w).stops u.shelf answer) is stops))
+    ends : (t : Told) (line : List ℕ) → a.view.told ≡ Some t → IsDue (decode_spec w) t.shelf (only_words line) → (answer : Outcome) → Answers (decode_spec w) a b answer → SaysOnly line a b answer
+    ends t line is due _ (all_done out has adds keeps) = done (subst (λ (x : Output). Adds x a b) (due.only out (in_told a t (λ u. (decode_spec w).done u.shelf out) is has)) adds)
+    ends t line is due answer (refused _ refusal stops adds) = absurd (due.goes_on answer (in_told a t (λ u. (decode_spec w).stops u.shelf answer) is stops))
     ends t line is due _ (unread adds) = read_fault adds
     ends t line is due _ (unwritten out part adds) = write_fault
     ends t line is due _ (wanting out part adds held) = no_memory
@@ -136,4 +136,4 @@ obeyed_says w a b answer obeys = by_told a.view.told refl
     by_told None is = tt
     by_told (Some t) is = λ o p m answered front.
         let due = solution_is_due w t.shelf p m answered (front_solves o w t.shelf p m answered front) in
-        record { due = due; ends = ends t (solution_text p m.values) is due answer obeys.answers }
+        record { due = due; ends = ends t (solution_text p m.values) is due answer implements.answers }

@@ -1,15 +1,15 @@
--- The ways in which a command ends, for whatever it owes.
+-- The ways in which a command ends, whatever its specification.
 use Rattle.std.proofs.Common.{◌≡◌, ◌≢◌, ◌≤◌, ◌+◌, arith, List, [], Option, Some, None, inl, inr, refl, subst, ap, ◌∙◌, length, ℕ}
 use Rattle.std.specs.Prelude.{IfSome}
 use Rattle.pb_desk.specs.View.{Told, View}
 use Rattle.pb_desk.specs.Desk.{DeskState, FailsToRead, FailsToWrite, IfTold, IsSteady}
 use Rattle.pb_suite.specs.declared.outcome.Outcome.{Outcome}
 use Rattle.pb_suite.specs.declared.outcome.Outcome.TheVariants as outcome
-use Rattle.pb_suite.specs.Obeying.{Counts, HasCauses, IsQuiet, IsRefusal, KeepsSlots, ObeysWithin}
-use Rattle.pb_suite.specs.Obeying.Answers.{done, refused, read_fault, write_fault, no_memory}
-use Rattle.pb_suite.specs.Obeying.WritesHeld.{cut_off, well}
+use Rattle.pb_suite.specs.Implementing.{Counts, HasCauses, IsQuiet, IsRefusal, KeepsSlots, ImplementsWithin}
+use Rattle.pb_suite.specs.Implementing.Answers.{done, refused, read_fault, write_fault, no_memory}
+use Rattle.pb_suite.specs.Implementing.WritesHeld.{cut_off, well}
 use Rattle.pb_suite.specs.Outputs.{nothing, Output}
-use Rattle.pb_suite.specs.Owed.{LacksSpace, LacksText, MayStand, Owed, Text}
+use Rattle.pb_suite.specs.CommandSpec.{LacksSpace, LacksText, MayStand, CommandSpec, Text}
 use Rattle.pb_suite.proofs.Going.{adds_by, AddsBy, Goes}
 
 pub always : (a : DeskState) (P : Told → Type 0) → ((t : Told) → P t) → IfTold a P
@@ -53,29 +53,29 @@ module _ (a b : DeskState) where
   quiet_counts outcome.NoModel no_read no_write kept counts = counts
   quiet_counts (outcome.NotRefuted line why) no_read no_write kept counts = counts
 
-module _ (o : Owed) (a b : DeskState) where
+module _ (o : CommandSpec) (a b : DeskState) where
   quiet_of : {few most : ℕ} (out : Output) → Goes few most out a b → IsQuiet a b
   quiet_of out goes = record { reads = goes.reads; writes = goes.writes }
 
   no_causes : (answer : Outcome) → answer ≢ outcome.ReadFault → answer ≢ outcome.WriteFault → HasCauses (LacksText o a) (LacksSpace o a) answer
   no_causes answer no_read no_write = record { reads = λ e. absurd (no_read e); writes = λ e. absurd (no_write e) }
 
-  pub all_done : {most : ℕ} (out : Output) → Goes (length o.texts) most out a b → KeepsSlots a b → IfTold a (λ t. o.done t.shelf out) → ObeysWithin o most a b outcome.Done
+  pub all_done : {most : ℕ} (out : Output) → Goes (length o.texts) most out a b → KeepsSlots a b → IfTold a (λ t. o.done t.shelf out) → ImplementsWithin o most a b outcome.Done
   all_done out goes keeps due = record { answers = done out due goes.adds keeps; opens = goes.reading; ends = goes.ends; counts = quiet_of out goes; causes = λ steady. no_causes outcome.Done (λ e. cc) (λ e. cc) }
 
-  pub is_refused : {most : ℕ} (answer : Outcome) → Goes (length o.texts) most nothing a b → IsRefusal o.texts answer → IfTold a (λ t. o.stops t.shelf answer) → ObeysWithin o most a b answer
+  pub is_refused : {most : ℕ} (answer : Outcome) → Goes (length o.texts) most nothing a b → IsRefusal o.texts answer → IfTold a (λ t. o.stops t.shelf answer) → ImplementsWithin o most a b answer
   is_refused answer goes is due =
       let no_read = refusal_no_read o.texts answer is in
       let no_write = refusal_no_write o.texts answer is in
       record { answers = refused answer is due goes.adds; opens = goes.reading; ends = goes.ends; counts = counts_quiet a b answer no_read no_write (quiet_of nothing goes); causes = λ steady. no_causes answer no_read no_write }
 
-  pub wants_memory : {most : ℕ} (out : Output) → Goes (length o.texts) most out a b → IfTold a (λ t. MayStand o t.shelf out) → ObeysWithin o most a b outcome.NoMemory
+  pub wants_memory : {most : ℕ} (out : Output) → Goes (length o.texts) most out a b → IfTold a (λ t. MayStand o t.shelf out) → ImplementsWithin o most a b outcome.NoMemory
   wants_memory out goes part = record { answers = no_memory out part goes.adds (well goes.writes); opens = goes.reading; ends = goes.ends; counts = counts_quiet a b outcome.NoMemory (λ e. cc) (λ e. cc) (quiet_of out goes); causes = λ steady. no_causes outcome.NoMemory (λ e. cc) (λ e. cc) }
 
-  pub bare_memory : {most : ℕ} → Goes (length o.texts) most nothing a b → ObeysWithin o most a b outcome.NoMemory
+  pub bare_memory : {most : ℕ} → Goes (length o.texts) most nothing a b → ImplementsWithin o most a b outcome.NoMemory
   bare_memory goes = wants_memory nothing goes (always a (λ t. MayStand o t.shelf nothing) (λ t. inl refl))
 
-  pub is_unread : {most : ℕ} (f : View → View) → AddsBy (length o.texts) nothing f → FailsToRead f a b → b.ends ≤ a.ends + most → (IsSteady a → LacksText o a) → ObeysWithin o most a b outcome.ReadFault
+  pub is_unread : {most : ℕ} (f : View → View) → AddsBy (length o.texts) nothing f → FailsToRead f a b → b.ends ≤ a.ends + most → (IsSteady a → LacksText o a) → ImplementsWithin o most a b outcome.ReadFault
   is_unread f by fails ends lacks = record {
     ends = ends;
     answers = read_fault (adds_by nothing f a b by fails.view);
@@ -84,7 +84,7 @@ module _ (o : Owed) (a b : DeskState) where
     causes = λ steady. record { reads = λ e. lacks steady; writes = λ e. let no : ⊥ = cc in absurd no };
   }
 
-  pub is_unwritten : (out : Output) (f : View → View) → AddsBy (length o.texts) out f → FailsToWrite f a b → IfTold a (λ t. MayStand o t.shelf out) → (IsSteady a → LacksSpace o a) → ObeysWithin o 0 a b outcome.WriteFault
+  pub is_unwritten : (out : Output) (f : View → View) → AddsBy (length o.texts) out f → FailsToWrite f a b → IfTold a (λ t. MayStand o t.shelf out) → (IsSteady a → LacksSpace o a) → ImplementsWithin o 0 a b outcome.WriteFault
   is_unwritten out f by fails part lacks = record {
     ends = omega (arith, fails.ends);
     answers = write_fault out part (adds_by out f a b by fails.view);
@@ -94,7 +94,7 @@ module _ (o : Owed) (a b : DeskState) where
   }
 
   -- memory was wanting, and what was held could not be written
-  pub is_unheld : (out : Output) (f : View → View) → AddsBy (length o.texts) out f → out.made ≢ [] → FailsToWrite f a b → IfTold a (λ t. MayStand o t.shelf out) → (IsSteady a → LacksSpace o a) → ObeysWithin o 0 a b outcome.NoMemory
+  pub is_unheld : (out : Output) (f : View → View) → AddsBy (length o.texts) out f → out.made ≢ [] → FailsToWrite f a b → IfTold a (λ t. MayStand o t.shelf out) → (IsSteady a → LacksSpace o a) → ImplementsWithin o 0 a b outcome.NoMemory
   is_unheld out f by some fails part lacks = record {
     ends = omega (arith, fails.ends);
     answers = no_memory out part (adds_by out f a b by fails.view) (cut_off some lacks);
@@ -104,5 +104,5 @@ module _ (o : Owed) (a b : DeskState) where
   }
 
   -- what met so few ends met no more
-  pub within_more : (few most : ℕ) (answer : Outcome) → few ≤ most → ObeysWithin o few a b answer → ObeysWithin o most a b answer
-  within_more few most answer le obeys = record { answers = obeys.answers; opens = obeys.opens; ends = omega (arith, le, obeys.ends); counts = obeys.counts; causes = obeys.causes }
+  pub within_more : (few most : ℕ) (answer : Outcome) → few ≤ most → ImplementsWithin o few a b answer → ImplementsWithin o most a b answer
+  within_more few most answer le implements = record { answers = implements.answers; opens = implements.opens; ends = omega (arith, le, implements.ends); counts = implements.counts; causes = implements.causes }

@@ -3,13 +3,13 @@ use Rattle.std.proofs.Common.{◌≡◌, ◌≤◌, ◌+◌, ℕ, List, [], Opti
 use Rattle.std.specs.Prelude.{IfOk, IfSome, IsSome, OnErr, OnOk, Result}
 use Rattle.std.specs.Option.{unwrap_or}
 use Rattle.std.specs.declared.result.Result.TheVariants.{Ok, Err}
-use Rattle.pb_desk.specs.Causes.{Rose}
+use Rattle.pb_base.specs.FaultCounts.{Rose}
 use Rattle.pb_desk.specs.View.{Told, View, opened, taken}
 use Rattle.pb_desk.specs.Desk.{Advances, DeskState, FailsToRead, IfTold, Reaches, Reads}
 use Rattle.pb_desk.proofs.Readings.{put-same}
 use Rattle.pb_desk.proofs.Steps.{as_reads, reads_by_then, then_fails_to_read}
-use Rattle.pb_suite.specs.laws.Runs.{fetched, Fetches, FetchesPart, StopsFetching}
-use Rattle.pb_suite.specs.laws.Runs.StopsFetching.{in_text}
+use Rattle.pb_suite.specs.inner.Runs.{fetched, Fetches, FetchesPart, StopsFetching}
+use Rattle.pb_suite.specs.inner.Runs.StopsFetching.{in_text}
 
 -- a count that rose went up by one at most
 pub rose_by_one : (before now : ℕ) → Rose before now → now ≤ before + 1

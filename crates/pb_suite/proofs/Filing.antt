@@ -4,14 +4,14 @@ use Rattle.std.specs.Prelude.{◌==◌, ◌⊎◌}
 use Rattle.std.proofs.lemmas.List.{append-nil}
 use Rattle.std.proofs.lemmas.Bool.{eqb-true}
 use Rattle.pb_base.specs.declared.problem.Problem.{Problem}
-use Rattle.pb_choice.specs.declared.options.Options.{Options}
+use Rattle.pb_base.specs.declared.options.Options.{Options}
 use Rattle.pb_desk.specs.View.{View, spoke}
 use Rattle.pb_desk.specs.Desk.{DeskState}
 use Rattle.pb_encode.specs.Encodings.{begun, derivation_text, made, made_files, problem_text, FileNames}
-use Rattle.pb_suite.specs.Obeying.{KeepsSlots}
+use Rattle.pb_suite.specs.Implementing.{KeepsSlots}
 use Rattle.pb_suite.specs.Outputs.{Output}
-use Rattle.pb_suite.specs.OwedEncode.{file_of, files_of, proof_files}
-use Rattle.pb_suite.specs.laws.Runs.{stored}
+use Rattle.pb_suite.specs.EncodeSpec.{file_of, files_of, proof_files}
+use Rattle.pb_suite.specs.inner.Runs.{stored}
 use Rattle.pb_suite.proofs.Going.{AddsBy}
 
 -- files, and no words

@@ -8,11 +8,11 @@ use Rattle.pb_desk.specs.Desk.{DeskState, HasSlot, IfTold, IsTold, Reads, Reache
 use Rattle.pb_desk.proofs.Steps.{as_reads, begin}
 use Rattle.pb_desk.proofs.Tells.{told_by}
 use Rattle.pb_desk.specs.TwoSlots.{both_taken}
-use Rattle.pb_suite.specs.Obeying.{KeepsReading, KeepsSlots}
+use Rattle.pb_suite.specs.Implementing.{KeepsReading, KeepsSlots}
 use Rattle.pb_suite.specs.Outputs.{nothing, Adds, IsMore, Output}
-use Rattle.pb_suite.specs.Owed.{Shelf}
-use Rattle.pb_suite.specs.laws.Opening.{opened_both}
-use Rattle.pb_suite.specs.laws.Runs.{fetched, Fetches}
+use Rattle.pb_suite.specs.CommandSpec.{Shelf}
+use Rattle.pb_suite.specs.inner.Opening.{opened_both}
+use Rattle.pb_suite.specs.inner.Runs.{fetched, Fetches}
 
 -- ---- what a change of the view adds
 

@@ -1,4 +1,4 @@
--- No command owes two things.
+-- No command is to do two things.
 use Rattle.std.proofs.Common.{◌≡◌, ◌≢◌, ◌∙◌, ℕ, List, [], Some, None, Ok, Err, ap, inl, inr, refl, subst, sym}
 use Rattle.std.specs.Prelude.{◌⊎◌}
 use Rattle.pb_base.specs.declared.limit.LimitKind.{LimitKind}
@@ -11,7 +11,7 @@ use Rattle.pb_check.specs.Turns.{Answer}
 use Rattle.pb_check.specs.Walk.{Walk}
 use Rattle.pb_check.specs.declared.verdict.CheckFault.TheVariants as fault
 use Rattle.pb_check.specs.declared.verdict.Verdict.TheVariants.{Accepted, Rejected}
-use Rattle.pb_choice.specs.Defaults.{default_options}
+use Rattle.pb_base.specs.Defaults.{default_options}
 use Rattle.pb_dimacs.specs.CnfWhole.{CnfTold, told_of}
 use Rattle.pb_dimacs.specs.CnfWhole.CnfTold.{says}
 use Rattle.pb_dimacs.specs.declared.head.CnfHead.{CnfHead}
@@ -35,33 +35,34 @@ use Rattle.pb_words.specs.EncodeWords.{EncodeWords}
 use Rattle.pb_words.specs.MapWords.{MapWords}
 use Rattle.pb_words.specs.ProbeWords.{ProbeWords}
 use Rattle.pb_words.specs.RefuteWords.{RefuteWords}
-use Rattle.pb_words.specs.Taken.{Wanted}
-use Rattle.pb_words.specs.Taken.Wanted.{Encode, Check, Decode, Probe, Bench, Refute, Map, Wcnf}
+use Rattle.pb_words.specs.Parsed.{Wanted}
+use Rattle.pb_words.specs.Parsed.Wanted.{Encode, Check, Decode, Probe, Bench, Refute, Map, Wcnf}
 use Rattle.pb_words.specs.WcnfWords.{WcnfWords}
 use Rattle.pb_suite.specs.declared.outcome.Outcome.{Outcome}
 use Rattle.pb_suite.specs.declared.outcome.Outcome.TheVariants as outcome
-use Rattle.pb_suite.specs.OneDue.{OwesOne}
+use Rattle.pb_suite.specs.OneDue.{SpecifiesOne}
 use Rattle.pb_suite.specs.Outputs.{only_words, Output}
-use Rattle.pb_suite.specs.Owed.{Shelf}
-use Rattle.pb_suite.specs.OwedBench.{bench_output, owed_bench, IsBenched, StopsBench}
-use Rattle.pb_suite.specs.OwedBench.StopsBench.{over as bench_over}
-use Rattle.pb_suite.specs.OwedCheck.{owed_check, IsJudged, StopsCheck}
-use Rattle.pb_suite.specs.OwedCheck.StopsCheck.{no_problem, bad_problem, lacking, token, limit, denial}
-use Rattle.pb_suite.specs.OwedDecode.{owed_decode, ComesTo, IsAnswered, StopsDecode}
-use Rattle.pb_suite.specs.OwedDecode.StopsDecode.{no_problem as decode_no_problem, bad_problem as decode_bad_problem, lacking as decode_lacking, bad_model, no_model, violated}
-use Rattle.pb_suite.specs.OwedEncode.{encoded_output, names_in, owed_encode, IsEncoded, StopsEncode}
-use Rattle.pb_suite.specs.OwedEncode.StopsEncode.{lacking as encode_lacking, refused as encode_refused, over as encode_over}
-use Rattle.pb_suite.specs.OwedMap.{owed_map, StopsMap}
-use Rattle.pb_suite.specs.OwedMap.StopsMap.{lacking as map_lacking, refused as map_refused}
-use Rattle.pb_suite.specs.OwedProbe.{owed_probe, AreReached, IsProbed, SaysOfLits, StopsProbe, fixed_line}
-use Rattle.pb_suite.specs.OwedProbe.SaysOfLits.{conflict, fixed}
-use Rattle.pb_suite.specs.OwedProbe.StopsProbe.{lacking as probe_lacking, refused as probe_refused}
-use Rattle.pb_suite.specs.OwedRefute.{checked_words, owed_refute, IsAccepted, IsFollowed, StopsRefute}
-use Rattle.pb_suite.specs.OwedRefute.StopsRefute.{unchecked, lacking as refute_lacking, token as refute_token, limit as refute_limit, no_refutation}
-use Rattle.pb_suite.specs.OwedWcnf.{owed_wcnf, weighted_output, IsWeighed, StopsWcnf}
-use Rattle.pb_suite.specs.OwedWcnf.StopsWcnf.{lacking as wcnf_lacking, refused as wcnf_refused, over as wcnf_over}
-use Rattle.pb_suite.specs.Owing.{owed}
-use Rattle.pb_suite.specs.Posed.{IsPosed}
+use Rattle.pb_suite.specs.CommandSpec.{Shelf}
+use Rattle.pb_suite.specs.BenchSpec.{bench_output, bench_spec, IsBenched, StopsBench}
+use Rattle.pb_suite.specs.BenchSpec.StopsBench.{over as bench_over}
+use Rattle.pb_suite.specs.CheckSpec.{check_spec, IsJudged, StopsCheck}
+use Rattle.pb_suite.specs.CheckSpec.StopsCheck.{no_problem, bad_problem, lacking, token, limit, denial}
+use Rattle.pb_suite.specs.DecodeSpec.{decode_spec, ComesTo, IsAnswered, StopsDecode}
+use Rattle.pb_suite.specs.DecodeSpec.StopsDecode.{no_problem as decode_no_problem, bad_problem as decode_bad_problem, lacking as decode_lacking, bad_model, no_model, violated}
+use Rattle.pb_suite.specs.EncodeSpec.{encoded_output, names_in, encode_spec, IsEncoded, StopsEncode}
+use Rattle.pb_suite.specs.EncodeSpec.StopsEncode.{lacking as encode_lacking, refused as encode_refused, over as encode_over}
+use Rattle.pb_suite.specs.MapSpec.{map_spec, StopsMap}
+use Rattle.pb_suite.specs.MapSpec.StopsMap.{lacking as map_lacking, refused as map_refused}
+use Rattle.pb_suite.specs.ProbeSpec.{probe_spec, IsProbed, SaysOfLits, StopsProbe, fixed_line}
+use Rattle.pb_unit.specs.Reached.{AreReached}
+use Rattle.pb_suite.specs.ProbeSpec.SaysOfLits.{conflict, fixed}
+use Rattle.pb_suite.specs.ProbeSpec.StopsProbe.{lacking as probe_lacking, refused as probe_refused}
+use Rattle.pb_suite.specs.RefuteSpec.{checked_words, refute_spec, IsAccepted, IsFollowed, StopsRefute}
+use Rattle.pb_suite.specs.RefuteSpec.StopsRefute.{unchecked, lacking as refute_lacking, token as refute_token, limit as refute_limit, no_refutation}
+use Rattle.pb_suite.specs.WcnfSpec.{wcnf_spec, weighted_output, IsWeighed, StopsWcnf}
+use Rattle.pb_suite.specs.WcnfSpec.StopsWcnf.{lacking as wcnf_lacking, refused as wcnf_refused, over as wcnf_over}
+use Rattle.pb_suite.specs.CommandSpecs.{spec_of}
+use Rattle.pb_suite.specs.Denoted.{IsDenoted}
 use Rattle.pb_suite.specs.Refusals.{RefusesCnf, RefusesModel}
 use Rattle.pb_suite.specs.Refusals.RefusesCnf.{token as cnf_token, limit as cnf_limit}
 use Rattle.pb_suite.proofs.Decodes.{model_refuses_none, none_violated, not_none, same_posed, same_some, same_told}
@@ -73,28 +74,28 @@ use Rattle.pb_suite.proofs.OneTexts.IsUnread.{lacks, refuses}
 module _ (w : EncodeWords) (shelf : Shelf) where
   data EncodeStops : Outcome → Type 0 where
     unread : (answer : Outcome) → IsUnread shelf w.opb w.bound answer → EncodeStops answer
-    past : (p : Problem) (which : LimitKind) → IsPosed shelf w.opb w.bound p → IsOver which w.options p → EncodeStops (outcome.Limit None which None)
+    past : (p : Problem) (which : LimitKind) → IsDenoted shelf w.opb w.bound p → IsOver which w.options p → EncodeStops (outcome.Limit None which None)
 
   encode_way : (answer : Outcome) → StopsEncode shelf w answer → EncodeStops answer
   encode_way _ (encode_lacking none) = unread _ (lacks none)
   encode_way _ (encode_refused text answer on_shelf refused) = unread answer (refuses text answer on_shelf refused)
-  encode_way _ (encode_over text p which on_shelf poses over) = past p which (record { text = text; on_shelf = on_shelf; poses = poses }) over
+  encode_way _ (encode_over text p which on_shelf denotes over) = past p which (record { text = text; on_shelf = on_shelf; denotes = denotes }) over
 
   encode_ways : (a b : Outcome) → EncodeStops a → EncodeStops b → a ≡ b
   encode_ways _ _ (unread a h) (unread b k) = unread_one shelf w.opb w.bound a b h k
-  encode_ways _ _ (unread a h) (past p which posed over) = absurd (unread_posed shelf w.opb w.bound p a h posed)
-  encode_ways _ _ (past p which posed over) (unread a h) = absurd (unread_posed shelf w.opb w.bound p a h posed)
-  encode_ways _ _ (past p which posed over) (past q other posed' over') =
-      ap (λ (k : LimitKind). outcome.Limit None k None) (over_one w.options p which other over (subst (λ (r : Problem). IsOver other w.options r) (same_posed shelf w.opb w.bound q p posed' posed) over'))
+  encode_ways _ _ (unread a h) (past p which denoted over) = absurd (unread_posed shelf w.opb w.bound p a h denoted)
+  encode_ways _ _ (past p which denoted over) (unread a h) = absurd (unread_posed shelf w.opb w.bound p a h denoted)
+  encode_ways _ _ (past p which denoted over) (past q other posed' over') =
+      ap (λ (k : LimitKind). outcome.Limit None k None) (over_one w.options p which other over (subst (λ (r : Problem). IsOver other w.options r) (same_posed shelf w.opb w.bound q p posed' denoted) over'))
 
-  encoded_posed : (p : Problem) → IsEncoded shelf w p → IsPosed shelf w.opb w.bound p
-  encoded_posed p found = record { text = found.text; on_shelf = found.on_shelf; poses = found.poses }
+  encoded_posed : (p : Problem) → IsEncoded shelf w p → IsDenoted shelf w.opb w.bound p
+  encoded_posed p found = record { text = found.text; on_shelf = found.on_shelf; denotes = found.denotes }
 
   encode_both : (p : Problem) (answer : Outcome) → IsEncoded shelf w p → EncodeStops answer → ⊥
   encode_both p _ found (unread answer h) = unread_posed shelf w.opb w.bound p answer h (encoded_posed p found)
-  encode_both p _ found (past q which posed over) = over_no w.options p which found.encodable (subst (λ (r : Problem). IsOver which w.options r) (same_posed shelf w.opb w.bound q p posed (encoded_posed p found)) over)
+  encode_both p _ found (past q which denoted over) = over_no w.options p which found.encodable (subst (λ (r : Problem). IsOver which w.options r) (same_posed shelf w.opb w.bound q p denoted (encoded_posed p found)) over)
 
-  one_encode : OwesOne (owed_encode w) shelf
+  one_encode : SpecifiesOne (encode_spec w) shelf
   one_encode = record {
     one_output = λ out other (p, found, is) (q, found', is').
         is ∙ ap (λ (r : Problem). encoded_output (names_in w) w.options r) (same_posed shelf w.opb w.bound p q (encoded_posed p found) (encoded_posed q found')) ∙ sym is';
@@ -107,27 +108,27 @@ module _ (w : EncodeWords) (shelf : Shelf) where
 module _ (w : WcnfWords) (shelf : Shelf) where
   data WcnfStops : Outcome → Type 0 where
     unread : (answer : Outcome) → IsUnread shelf w.opb w.bound answer → WcnfStops answer
-    past : (p : Problem) (which : LimitKind) → IsPosed shelf w.opb w.bound p → IsOver which w.options p → WcnfStops (outcome.Limit None which None)
+    past : (p : Problem) (which : LimitKind) → IsDenoted shelf w.opb w.bound p → IsOver which w.options p → WcnfStops (outcome.Limit None which None)
 
   wcnf_way : (answer : Outcome) → StopsWcnf shelf w answer → WcnfStops answer
   wcnf_way _ (wcnf_lacking none) = unread _ (lacks none)
   wcnf_way _ (wcnf_refused text answer on_shelf refused) = unread answer (refuses text answer on_shelf refused)
-  wcnf_way _ (wcnf_over p which posed over) = past p which posed over
+  wcnf_way _ (wcnf_over p which denoted over) = past p which denoted over
 
   wcnf_ways : (a b : Outcome) → WcnfStops a → WcnfStops b → a ≡ b
   wcnf_ways _ _ (unread a h) (unread b k) = unread_one shelf w.opb w.bound a b h k
-  wcnf_ways _ _ (unread a h) (past p which posed over) = absurd (unread_posed shelf w.opb w.bound p a h posed)
-  wcnf_ways _ _ (past p which posed over) (unread a h) = absurd (unread_posed shelf w.opb w.bound p a h posed)
-  wcnf_ways _ _ (past p which posed over) (past q other posed' over') =
-      ap (λ (k : LimitKind). outcome.Limit None k None) (over_one w.options p which other over (subst (λ (r : Problem). IsOver other w.options r) (same_posed shelf w.opb w.bound q p posed' posed) over'))
+  wcnf_ways _ _ (unread a h) (past p which denoted over) = absurd (unread_posed shelf w.opb w.bound p a h denoted)
+  wcnf_ways _ _ (past p which denoted over) (unread a h) = absurd (unread_posed shelf w.opb w.bound p a h denoted)
+  wcnf_ways _ _ (past p which denoted over) (past q other posed' over') =
+      ap (λ (k : LimitKind). outcome.Limit None k None) (over_one w.options p which other over (subst (λ (r : Problem). IsOver other w.options r) (same_posed shelf w.opb w.bound q p posed' denoted) over'))
 
   wcnf_both : (p : Problem) (answer : Outcome) → IsWeighed shelf w p → WcnfStops answer → ⊥
-  wcnf_both p _ found (unread answer h) = unread_posed shelf w.opb w.bound p answer h found.posed
-  wcnf_both p _ found (past q which posed over) = over_no w.options p which found.encodable (subst (λ (r : Problem). IsOver which w.options r) (same_posed shelf w.opb w.bound q p posed found.posed) over)
+  wcnf_both p _ found (unread answer h) = unread_posed shelf w.opb w.bound p answer h found.denoted
+  wcnf_both p _ found (past q which denoted over) = over_no w.options p which found.encodable (subst (λ (r : Problem). IsOver which w.options r) (same_posed shelf w.opb w.bound q p denoted found.denoted) over)
 
-  one_wcnf : OwesOne (owed_wcnf w) shelf
+  one_wcnf : SpecifiesOne (wcnf_spec w) shelf
   one_wcnf = record {
-    one_output = λ out other (p, found, is) (q, found', is'). is ∙ ap (λ (r : Problem). weighted_output w.wcnf w.options r) (same_posed shelf w.opb w.bound p q found.posed found'.posed) ∙ sym is';
+    one_output = λ out other (p, found, is) (q, found', is'). is ∙ ap (λ (r : Problem). weighted_output w.wcnf w.options r) (same_posed shelf w.opb w.bound p q found.denoted found'.denoted) ∙ sym is';
     one_stop = λ a b h k. wcnf_ways a b (wcnf_way a h) (wcnf_way b k);
     not_both = λ out answer (p, found, is) h. wcnf_both p answer found (wcnf_way answer h);
   }
@@ -139,11 +140,11 @@ module _ (w : MapWords) (shelf : Shelf) where
   map_way _ (map_lacking none) = lacks none
   map_way _ (map_refused text answer on_shelf refused) = refuses text answer on_shelf refused
 
-  one_map : OwesOne (owed_map w) shelf
+  one_map : SpecifiesOne (map_spec w) shelf
   one_map = record {
-    one_output = λ out other (p, posed, is) (q, posed', is'). is ∙ ap (λ (r : Problem). only_words (map_text r)) (same_posed shelf w.opb None p q posed posed') ∙ sym is';
+    one_output = λ out other (p, denoted, is) (q, posed', is'). is ∙ ap (λ (r : Problem). only_words (map_text r)) (same_posed shelf w.opb None p q denoted posed') ∙ sym is';
     one_stop = λ a b h k. unread_one shelf w.opb None a b (map_way a h) (map_way b k);
-    not_both = λ out answer (p, posed, is) h. unread_posed shelf w.opb None p answer (map_way answer h) posed;
+    not_both = λ out answer (p, denoted, is) h. unread_posed shelf w.opb None p answer (map_way answer h) denoted;
   }
 
 -- ---- bench
@@ -159,7 +160,7 @@ module _ (w : BenchWords) where
   bench_both : (p : Problem) (answer : Outcome) → IsBenched w p → StopsBench w answer → ⊥
   bench_both p _ found (bench_over q which reads over) = over_no default_options p which found.encodable (subst (λ (r : Problem). IsOver which default_options r) (bench_same q p reads found.reads) over)
 
-  one_bench : (shelf : Shelf) → OwesOne (owed_bench w) shelf
+  one_bench : (shelf : Shelf) → SpecifiesOne (bench_spec w) shelf
   one_bench shelf = record {
     one_output = λ out other (p, found, is) (q, found', is'). is ∙ ap (bench_output w.cnf) (bench_same p q found.reads found'.reads) ∙ sym is';
     one_stop = bench_ways;
@@ -206,7 +207,7 @@ module _ (w : ProbeWords) (shelf : Shelf) where
   output_one : (out other : Output) → out.made ≡ [] → other.made ≡ [] → out.said ≡ other.said → out ≡ other
   output_one out other none none' said = ap (λ (files : List Made). output_of files out.said) (none ∙ sym none') ∙ ap (output_of other.made) said
 
-  one_probe : OwesOne (owed_probe w) shelf
+  one_probe : SpecifiesOne (probe_spec w) shelf
   one_probe = record {
     one_output = λ out other h k. output_one out other h.0 k.0 (probed_one out.said other.said h.1 k.1);
     one_stop = probe_ways;
@@ -227,20 +228,20 @@ verdict (Ok (Rejected line denied)) = outcome.Rejected line denied
 module _ (w : CheckWords) (shelf : Shelf) where
   data CheckStops (answer : Outcome) : Type 0 where
     unread : IsUnread shelf w.opb w.bound answer → CheckStops answer
-    lacks_other : (p : Problem) → IsPosed shelf w.opb w.bound p → (shelf w.cnf ≡ None) ⊎ (shelf w.proof ≡ None) → answer ≡ outcome.ReadFault → CheckStops answer
+    lacks_other : (p : Problem) → IsDenoted shelf w.opb w.bound p → (shelf w.cnf ≡ None) ⊎ (shelf w.proof ≡ None) → answer ≡ outcome.ReadFault → CheckStops answer
     judged : (end : Answer) → IsJudged shelf w end → end ≢ Ok Accepted → answer ≡ verdict end → CheckStops answer
 
   check_way : (answer : Outcome) → StopsCheck shelf w answer → CheckStops answer
   check_way _ (no_problem none) = unread (lacks none)
   check_way _ (bad_problem text answer on_shelf refused) = unread (refuses text answer on_shelf refused)
-  check_way _ (lacking p posed none) = lacks_other p posed none refl
+  check_way _ (lacking p denoted none) = lacks_other p denoted none refl
   check_way _ (token file place e found) = judged _ found (λ e. cc) refl
   check_way _ (limit file place which found) = judged _ found (λ e. cc) refl
   check_way _ (denial line denied found) = judged _ found (λ e. cc) refl
 
   judged_same : (a b : Answer) → IsJudged shelf w a → IsJudged shelf w b → a ≡ b
   judged_same a b found other =
-      let p = same_posed shelf w.opb w.bound other.problem found.problem other.posed found.posed in
+      let p = same_posed shelf w.opb w.bound other.problem found.problem other.denoted found.denoted in
       let cnf = same_some (shelf w.cnf) other.cnf found.cnf other.has_cnf found.has_cnf in
       let proof = same_some (shelf w.proof) other.proof found.proof other.has_proof found.has_proof in
       walk_has_one_answer.only found.problem found.cnf found.proof a b found.judged
@@ -252,21 +253,21 @@ module _ (w : CheckWords) (shelf : Shelf) where
 
   check_ways : (a b : Outcome) → CheckStops a → CheckStops b → a ≡ b
   check_ways a b (unread h) (unread k) = unread_one shelf w.opb w.bound a b h k
-  check_ways a b (unread h) (lacks_other p posed none is) = absurd (unread_posed shelf w.opb w.bound p a h posed)
-  check_ways a b (unread h) (judged end found not is) = absurd (unread_posed shelf w.opb w.bound found.problem a h found.posed)
-  check_ways a b (lacks_other p posed none is) (unread h) = absurd (unread_posed shelf w.opb w.bound p b h posed)
-  check_ways a b (lacks_other p posed none is) (lacks_other q posed' none' is') = is ∙ sym is'
-  check_ways a b (lacks_other p posed none is) (judged end found not is') = absurd (judged_there end found none)
-  check_ways a b (judged end found not is) (unread h) = absurd (unread_posed shelf w.opb w.bound found.problem b h found.posed)
-  check_ways a b (judged end found not is) (lacks_other p posed none is') = absurd (judged_there end found none)
+  check_ways a b (unread h) (lacks_other p denoted none is) = absurd (unread_posed shelf w.opb w.bound p a h denoted)
+  check_ways a b (unread h) (judged end found not is) = absurd (unread_posed shelf w.opb w.bound found.problem a h found.denoted)
+  check_ways a b (lacks_other p denoted none is) (unread h) = absurd (unread_posed shelf w.opb w.bound p b h denoted)
+  check_ways a b (lacks_other p denoted none is) (lacks_other q posed' none' is') = is ∙ sym is'
+  check_ways a b (lacks_other p denoted none is) (judged end found not is') = absurd (judged_there end found none)
+  check_ways a b (judged end found not is) (unread h) = absurd (unread_posed shelf w.opb w.bound found.problem b h found.denoted)
+  check_ways a b (judged end found not is) (lacks_other p denoted none is') = absurd (judged_there end found none)
   check_ways a b (judged end found not is) (judged other found' not' is') = is ∙ ap verdict (judged_same end other found found') ∙ sym is'
 
   check_both : (answer : Outcome) → IsJudged shelf w (Ok Accepted) → CheckStops answer → ⊥
-  check_both answer found (unread h) = unread_posed shelf w.opb w.bound found.problem answer h found.posed
-  check_both answer found (lacks_other p posed none is) = judged_there (Ok Accepted) found none
+  check_both answer found (unread h) = unread_posed shelf w.opb w.bound found.problem answer h found.denoted
+  check_both answer found (lacks_other p denoted none is) = judged_there (Ok Accepted) found none
   check_both answer found (judged end found' not is) = not (judged_same end (Ok Accepted) found' found)
 
-  one_check : OwesOne (owed_check w) shelf
+  one_check : SpecifiesOne (check_spec w) shelf
   one_check = record {
     one_output = λ out other (found, is) (found', is'). is ∙ sym is';
     one_stop = λ a b h k. check_ways a b (check_way a h) (check_way b k);
@@ -328,7 +329,7 @@ module _ (w : RefuteWords) (shelf : Shelf) where
   refute_both answer found (lacks_last vars clauses accepted none is) = not_none (shelf w.lrat) found.lrat found.has_lrat none
   refute_both answer found (followed end found' not is) = not (followed_same end ending.refuted found' found)
 
-  one_refute : OwesOne (owed_refute w) shelf
+  one_refute : SpecifiesOne (refute_spec w) shelf
   one_refute = record {
     one_output = λ out other (found, is) (found', is'). is ∙ sym is';
     one_stop = λ a b h k. refute_ways a b (refute_way a h) (refute_way b k);
@@ -357,60 +358,60 @@ decoded_same p m decoded.Solution decoded.Solution h k = refl
 module _ (w : DecodeWords) (shelf : Shelf) where
   data DecodeStops (answer : Outcome) : Type 0 where
     unread : IsUnread shelf w.opb w.bound answer → DecodeStops answer
-    lacks_model : (p : Problem) → IsPosed shelf w.opb w.bound p → shelf w.model ≡ None → answer ≡ outcome.ReadFault → DecodeStops answer
-    refuses_model : (p : Problem) (text : List ℕ) → IsPosed shelf w.opb w.bound p → shelf w.model ≡ Some text → RefusesModel p.vars text answer → DecodeStops answer
+    lacks_model : (p : Problem) → IsDenoted shelf w.opb w.bound p → shelf w.model ≡ None → answer ≡ outcome.ReadFault → DecodeStops answer
+    refuses_model : (p : Problem) (text : List ℕ) → IsDenoted shelf w.opb w.bound p → shelf w.model ≡ Some text → RefusesModel p.vars text answer → DecodeStops answer
     comes : (p : Problem) (m : Model) (d : Decoded) → ComesTo shelf w p m d → d ≢ decoded.Solution → answer ≡ decoded_outcome d → DecodeStops answer
 
   decode_way : (answer : Outcome) → StopsDecode shelf w answer → DecodeStops answer
   decode_way _ (decode_no_problem none) = unread (lacks none)
   decode_way _ (decode_bad_problem text answer on_shelf refused) = unread (refuses text answer on_shelf refused)
-  decode_way _ (decode_lacking p posed none) = lacks_model p posed none refl
-  decode_way _ (bad_model p text answer posed on_shelf refused) = refuses_model p text posed on_shelf refused
+  decode_way _ (decode_lacking p denoted none) = lacks_model p denoted none refl
+  decode_way _ (bad_model p text answer denoted on_shelf refused) = refuses_model p text denoted on_shelf refused
   decode_way _ (no_model p m found) = comes p m decoded.NoModel found (λ e. cc) refl
   decode_way _ (violated p m statement found) = comes p m (decoded.Violates statement) found (λ e. cc) refl
 
-  model_refused : (p q : Problem) (text text' : List ℕ) (answer : Outcome) → IsPosed shelf w.opb w.bound p → IsPosed shelf w.opb w.bound q → shelf w.model ≡ Some text → shelf w.model ≡ Some text' → RefusesModel q.vars text' answer → RefusesModel p.vars text answer
-  model_refused p q text text' answer posed posed' on_shelf on_shelf' refused =
-      subst (λ (r : Problem). RefusesModel r.vars text answer) (same_posed shelf w.opb w.bound q p posed' posed) (subst (λ (xs : List ℕ). RefusesModel q.vars xs answer) (same_some (shelf w.model) text' text on_shelf' on_shelf) refused)
+  model_refused : (p q : Problem) (text text' : List ℕ) (answer : Outcome) → IsDenoted shelf w.opb w.bound p → IsDenoted shelf w.opb w.bound q → shelf w.model ≡ Some text → shelf w.model ≡ Some text' → RefusesModel q.vars text' answer → RefusesModel p.vars text answer
+  model_refused p q text text' answer denoted posed' on_shelf on_shelf' refused =
+      subst (λ (r : Problem). RefusesModel r.vars text answer) (same_posed shelf w.opb w.bound q p posed' denoted) (subst (λ (xs : List ℕ). RefusesModel q.vars xs answer) (same_some (shelf w.model) text' text on_shelf' on_shelf) refused)
 
-  answered_unrefused : (p q : Problem) (m : Model) (text : List ℕ) (answer : Outcome) → IsAnswered shelf w p m → IsPosed shelf w.opb w.bound q → shelf w.model ≡ Some text → RefusesModel q.vars text answer → ⊥
-  answered_unrefused p q m text answer found posed on_shelf refused = model_refuses_none p.vars found.text m answer found.says (model_refused p q found.text text answer found.posed posed found.on_shelf on_shelf refused)
+  answered_unrefused : (p q : Problem) (m : Model) (text : List ℕ) (answer : Outcome) → IsAnswered shelf w p m → IsDenoted shelf w.opb w.bound q → shelf w.model ≡ Some text → RefusesModel q.vars text answer → ⊥
+  answered_unrefused p q m text answer found denoted on_shelf refused = model_refuses_none p.vars found.text m answer found.says (model_refused p q found.text text answer found.denoted denoted found.on_shelf on_shelf refused)
 
   comes_same : (p q : Problem) (m n : Model) (d e : Decoded) → ComesTo shelf w p m d → ComesTo shelf w q n e → (p ≡ q) × (m ≡ n) × (d ≡ e)
   comes_same p q m n d e found other =
-      let problems : q ≡ p = same_posed shelf w.opb w.bound q p other.answered.posed found.answered.posed in
+      let problems : q ≡ p = same_posed shelf w.opb w.bound q p other.answered.denoted found.answered.denoted in
       let models : m ≡ n = same_told shelf w p m n found.answered (subst (λ (r : Problem). IsAnswered shelf w r n) problems other.answered) in
       let decodes : IsDecoded p m e = subst (λ (k : Model). IsDecoded p k e) (sym models) (subst (λ (r : Problem). IsDecoded r n e) problems other.decoded) in
       (sym problems, models, decoded_same p m d e found.decoded decodes)
 
   decode_ways : (a b : Outcome) → DecodeStops a → DecodeStops b → a ≡ b
   decode_ways a b (unread h) (unread k) = unread_one shelf w.opb w.bound a b h k
-  decode_ways a b (unread h) (lacks_model p posed none is) = absurd (unread_posed shelf w.opb w.bound p a h posed)
-  decode_ways a b (unread h) (refuses_model p text posed on_shelf refused) = absurd (unread_posed shelf w.opb w.bound p a h posed)
-  decode_ways a b (unread h) (comes p m d found not is) = absurd (unread_posed shelf w.opb w.bound p a h found.answered.posed)
-  decode_ways a b (lacks_model p posed none is) (unread h) = absurd (unread_posed shelf w.opb w.bound p b h posed)
-  decode_ways a b (lacks_model p posed none is) (lacks_model q posed' none' is') = is ∙ sym is'
-  decode_ways a b (lacks_model p posed none is) (refuses_model q text posed' on_shelf refused) = absurd (not_none (shelf w.model) text on_shelf none)
-  decode_ways a b (lacks_model p posed none is) (comes q m d found not is') = absurd (not_none (shelf w.model) found.answered.text found.answered.on_shelf none)
-  decode_ways a b (refuses_model p text posed on_shelf refused) (unread h) = absurd (unread_posed shelf w.opb w.bound p b h posed)
-  decode_ways a b (refuses_model p text posed on_shelf refused) (lacks_model q posed' none is) = absurd (not_none (shelf w.model) text on_shelf none)
-  decode_ways a b (refuses_model p text posed on_shelf refused) (refuses_model q text' posed' on_shelf' refused') = model_one p.vars text a b refused (model_refused p q text text' b posed posed' on_shelf on_shelf' refused')
-  decode_ways a b (refuses_model p text posed on_shelf refused) (comes q m d found not is) = absurd (answered_unrefused q p m text a found.answered posed on_shelf refused)
-  decode_ways a b (comes p m d found not is) (unread h) = absurd (unread_posed shelf w.opb w.bound p b h found.answered.posed)
-  decode_ways a b (comes p m d found not is) (lacks_model q posed none is') = absurd (not_none (shelf w.model) found.answered.text found.answered.on_shelf none)
-  decode_ways a b (comes p m d found not is) (refuses_model q text posed on_shelf refused) = absurd (answered_unrefused p q m text b found.answered posed on_shelf refused)
+  decode_ways a b (unread h) (lacks_model p denoted none is) = absurd (unread_posed shelf w.opb w.bound p a h denoted)
+  decode_ways a b (unread h) (refuses_model p text denoted on_shelf refused) = absurd (unread_posed shelf w.opb w.bound p a h denoted)
+  decode_ways a b (unread h) (comes p m d found not is) = absurd (unread_posed shelf w.opb w.bound p a h found.answered.denoted)
+  decode_ways a b (lacks_model p denoted none is) (unread h) = absurd (unread_posed shelf w.opb w.bound p b h denoted)
+  decode_ways a b (lacks_model p denoted none is) (lacks_model q posed' none' is') = is ∙ sym is'
+  decode_ways a b (lacks_model p denoted none is) (refuses_model q text posed' on_shelf refused) = absurd (not_none (shelf w.model) text on_shelf none)
+  decode_ways a b (lacks_model p denoted none is) (comes q m d found not is') = absurd (not_none (shelf w.model) found.answered.text found.answered.on_shelf none)
+  decode_ways a b (refuses_model p text denoted on_shelf refused) (unread h) = absurd (unread_posed shelf w.opb w.bound p b h denoted)
+  decode_ways a b (refuses_model p text denoted on_shelf refused) (lacks_model q posed' none is) = absurd (not_none (shelf w.model) text on_shelf none)
+  decode_ways a b (refuses_model p text denoted on_shelf refused) (refuses_model q text' posed' on_shelf' refused') = model_one p.vars text a b refused (model_refused p q text text' b denoted posed' on_shelf on_shelf' refused')
+  decode_ways a b (refuses_model p text denoted on_shelf refused) (comes q m d found not is) = absurd (answered_unrefused q p m text a found.answered denoted on_shelf refused)
+  decode_ways a b (comes p m d found not is) (unread h) = absurd (unread_posed shelf w.opb w.bound p b h found.answered.denoted)
+  decode_ways a b (comes p m d found not is) (lacks_model q denoted none is') = absurd (not_none (shelf w.model) found.answered.text found.answered.on_shelf none)
+  decode_ways a b (comes p m d found not is) (refuses_model q text denoted on_shelf refused) = absurd (answered_unrefused p q m text b found.answered denoted on_shelf refused)
   decode_ways a b (comes p m d found not is) (comes q n e found' not' is') = is ∙ ap decoded_outcome (comes_same p q m n d e found found').2 ∙ sym is'
 
   decode_both : (p : Problem) (m : Model) (answer : Outcome) → ComesTo shelf w p m decoded.Solution → DecodeStops answer → ⊥
-  decode_both p m answer found (unread h) = unread_posed shelf w.opb w.bound p answer h found.answered.posed
-  decode_both p m answer found (lacks_model q posed none is) = not_none (shelf w.model) found.answered.text found.answered.on_shelf none
-  decode_both p m answer found (refuses_model q text posed on_shelf refused) = answered_unrefused p q m text answer found.answered posed on_shelf refused
+  decode_both p m answer found (unread h) = unread_posed shelf w.opb w.bound p answer h found.answered.denoted
+  decode_both p m answer found (lacks_model q denoted none is) = not_none (shelf w.model) found.answered.text found.answered.on_shelf none
+  decode_both p m answer found (refuses_model q text denoted on_shelf refused) = answered_unrefused p q m text answer found.answered denoted on_shelf refused
   decode_both p m answer found (comes q n d found' not is) = not (sym (comes_same p q m n decoded.Solution d found found').2)
 
   solution_same : (p q : Problem) (m n : Model) → p ≡ q → m ≡ n → only_words (solution_text p m.values) ≡ only_words (solution_text q n.values)
   solution_same p q m n problems models = ap (λ (r : Problem). only_words (solution_text r m.values)) problems ∙ ap (λ (k : Model). only_words (solution_text q k.values)) models
 
-  one_decode : OwesOne (owed_decode w) shelf
+  one_decode : SpecifiesOne (decode_spec w) shelf
   one_decode = record {
     one_output = λ out other (p, m, found, is) (q, n, found', is').
         let same = comes_same p q m n decoded.Solution decoded.Solution found found' in
@@ -421,7 +422,7 @@ module _ (w : DecodeWords) (shelf : Shelf) where
 
 -- ---- whatever words ask for
 
-pub no_two_due : (w : Wanted) (shelf : Shelf) → OwesOne (owed w) shelf
+pub no_two_due : (w : Wanted) (shelf : Shelf) → SpecifiesOne (spec_of w) shelf
 no_two_due (Encode w) shelf = one_encode w shelf
 no_two_due (Check w) shelf = one_check w shelf
 no_two_due (Decode w) shelf = one_decode w shelf

@@ -12,7 +12,7 @@ use Rattle.pb_base.specs.declared.problem.Problem.{Problem}
 use Rattle.pb_base.specs.declared.problem.Raw.{Raw}
 use Rattle.pb_base.specs.Literals.{Assignment}
 use Rattle.pb_base.specs.Problems.{Satisfies}
-use Rattle.pb_choice.specs.declared.options.Options.{Options}
+use Rattle.pb_base.specs.declared.options.Options.{Options}
 use Rattle.pb_dimacs.specs.CnfWhole.{CnfTold, told_of}
 use Rattle.pb_dimacs.specs.CnfWhole.CnfTold.{refuses as cnf_refuses}
 use Rattle.pb_dimacs.specs.declared.fault.CnfFault.TheVariants as cnf
@@ -25,14 +25,14 @@ use Rattle.pb_opb.proofs.Uniqueness.{one_fault}
 use Rattle.pb_opb.specs.declared.fault.OpbFault.TheVariants as opb
 use Rattle.pb_suite.specs.declared.outcome.Outcome.{Outcome}
 use Rattle.pb_suite.specs.declared.outcome.Outcome.TheVariants as outcome
-use Rattle.pb_suite.specs.Owed.{Shelf}
-use Rattle.pb_suite.specs.Posed.{IsPosed, Poses}
+use Rattle.pb_suite.specs.CommandSpec.{Shelf}
+use Rattle.pb_suite.specs.Denoted.{IsDenoted, Denotes}
 use Rattle.pb_suite.specs.Refusals.{RefusesCnf, RefusesModel, RefusesOpb}
 use Rattle.pb_suite.specs.Refusals.RefusesCnf.{token as cnf_token, limit as cnf_limit}
 use Rattle.pb_suite.specs.Refusals.RefusesModel.{token as model_token, limit as model_limit}
 use Rattle.pb_suite.specs.Refusals.RefusesOpb.{token, limit, heavy}
 use Rattle.pb_suite.proofs.Decodes.{not_none, same_posed, same_some}
-use Rattle.pb_suite.proofs.PosedProblems.{poses_unrefused}
+use Rattle.pb_suite.proofs.DenotedProblems.{denotes_unrefused}
 
 -- ---- refusals
 
@@ -72,10 +72,10 @@ unread_one shelf name bound _ _ (refuses text a on_shelf refused) (lacks none) =
 unread_one shelf name bound _ _ (refuses text a on_shelf refused) (refuses text' b on_shelf' refused') =
     opb_one bound text a b refused (subst (λ (xs : List ℕ). RefusesOpb bound xs b) (same_some (shelf name) text' text on_shelf' on_shelf) refused')
 
-pub unread_posed : (shelf : Shelf) (name : List ℕ) (bound : Option ℤ) (p : Problem) (answer : Outcome) → IsUnread shelf name bound answer → IsPosed shelf name bound p → ⊥
-unread_posed shelf name bound p _ (lacks none) posed = not_none (shelf name) posed.text posed.on_shelf none
-unread_posed shelf name bound p _ (refuses text answer on_shelf refused) posed =
-    poses_unrefused bound posed.text p answer posed.poses (subst (λ (xs : List ℕ). RefusesOpb bound xs answer) (same_some (shelf name) text posed.text on_shelf posed.on_shelf) refused)
+pub unread_posed : (shelf : Shelf) (name : List ℕ) (bound : Option ℤ) (p : Problem) (answer : Outcome) → IsUnread shelf name bound answer → IsDenoted shelf name bound p → ⊥
+unread_posed shelf name bound p _ (lacks none) denoted = not_none (shelf name) denoted.text denoted.on_shelf none
+unread_posed shelf name bound p _ (refuses text answer on_shelf refused) denoted =
+    denotes_unrefused bound denoted.text p answer denoted.denotes (subst (λ (xs : List ℕ). RefusesOpb bound xs answer) (same_some (shelf name) text denoted.text on_shelf denoted.on_shelf) refused)
 
 -- ---- limits of what is made
 

@@ -4,7 +4,7 @@ use Rattle.std.specs.Prelude.{IfSome, IsSome}
 use Rattle.std.specs.Option.{unwrap_or}
 use Rattle.pb_desk.specs.View.{Told, View, opened}
 use Rattle.pb_desk.specs.Desk.{DeskState, IfTold}
-use Rattle.pb_suite.specs.laws.Opening.{opened_both, HasBoth}
+use Rattle.pb_suite.specs.inner.Opening.{opened_both, HasBoth}
 
 pub some_is : (o : Option (List ℕ)) → IsSome o → o ≡ Some (unwrap_or o [])
 some_is None some = cc

@@ -7,7 +7,7 @@ use Rattle.pb_base.specs.declared.problem.Problem.{Problem}
 use Rattle.pb_desk.specs.View.{Made, Told}
 use Rattle.pb_desk.specs.Desk.{DeskState, IfTold, IsTold}
 use Rattle.pb_family.specs.StepSinks.{steps_text}
-use Rattle.pb_choice.specs.declared.options.Options.{Options}
+use Rattle.pb_base.specs.declared.options.Options.{Options}
 use Rattle.pb_dimacs.proofs.Written.{written_reads}
 use Rattle.pb_encode.specs.Clauses.{problem_clauses, problem_fresh, problem_vars}
 use Rattle.pb_encode.specs.Encodings.{derivation_text, problem_text}
@@ -17,29 +17,29 @@ use Rattle.pb_encode.proofs.DerivedProblems.{problem_derived}
 use Rattle.pb_encode.proofs.Solutions.{clauses-count, problem-within}
 use Rattle.pb_words.specs.EncodeWords.{EncodeWords}
 use Rattle.pb_suite.specs.declared.outcome.Outcome.{Outcome}
-use Rattle.pb_suite.specs.Obeying.{Answers, Obeys}
-use Rattle.pb_suite.specs.Obeying.Answers.{done, refused, read_fault, write_fault, no_memory}
+use Rattle.pb_suite.specs.Implementing.{Answers, Implements}
+use Rattle.pb_suite.specs.Implementing.Answers.{done, refused, read_fault, write_fault, no_memory}
 use Rattle.pb_suite.specs.Outputs.{nothing, IsMore, IsPartOf, Output}
 use Rattle.pb_suite.specs.Outputs.IsPartOf.{none, of_file, of_words}
-use Rattle.pb_suite.specs.Owed.{MayStand}
-use Rattle.pb_suite.specs.OwedEncode.{encoded_output, file_of, names_in, owed_encode, proof_files, IsEncoded}
-use Rattle.pb_suite.specs.Posed.{Poses}
+use Rattle.pb_suite.specs.CommandSpec.{MayStand}
+use Rattle.pb_suite.specs.EncodeSpec.{encoded_output, file_of, names_in, encode_spec, proof_files, IsEncoded}
+use Rattle.pb_suite.specs.Denoted.{Denotes}
 use Rattle.pb_suite.specs.Standing.{AreFirstLines, IsBegun, IsShortDerivation, Stands}
 use Rattle.pb_suite.proofs.Derives.{texts_accepted}
 use Rattle.pb_suite.proofs.Endings.{always}
 use Rattle.pb_suite.proofs.FirstLines.{first_lines}
-use Rattle.pb_suite.proofs.PosedProblems.{poses_within}
+use Rattle.pb_suite.proofs.DenotedProblems.{denotes_within}
 use Rattle.pb_suite.proofs.Texts.{told_more}
 
 -- ---- the derivation of a problem
 
-short : (o : Options) (bound : Option ℤ) (text : List ℕ) (p : Problem) → Poses bound text p → IsEncodable o p → IsShortDerivation p (problem_text o p) (problem_steps o p)
-short o bound text p poses encodable =
-    let within = poses_within bound text p poses in
+short : (o : Options) (bound : Option ℤ) (text : List ℕ) (p : Problem) → Denotes bound text p → IsEncodable o p → IsShortDerivation p (problem_text o p) (problem_steps o p)
+short o bound text p denotes encodable =
+    let within = denotes_within bound text p denotes in
     let count = clauses-count o p within in
     let derived = problem_derived o p within encodable in
     record {
-      accepted = texts_accepted o bound text p poses encodable;
+      accepted = texts_accepted o bound text p denotes encodable;
       sayable = derived.sayable;
       fresh = problem_fresh o p;
       clauses = problem_clauses o p;
@@ -84,10 +84,10 @@ module _ (w : EncodeWords) (t : Told) (p : Problem) (found : IsEncoded t.shelf w
     text = found.text;
     cnf = cnf;
     on_shelf = found.on_shelf;
-    poses = found.poses;
+    denotes = found.denotes;
     behind = behind;
     steps = problem_steps w.options p;
-    derivation = short w.options w.bound found.text p found.poses found.encodable;
+    derivation = short w.options w.bound found.text p found.denotes found.encodable;
     first_lines = lines;
   }
 
@@ -124,33 +124,33 @@ module _ (w : EncodeWords) (t : Told) (p : Problem) (found : IsEncoded t.shelf w
 -- ---- a run
 
 module _ (w : EncodeWords) (a b : DeskState) where
-  stands_of : (t u : Told) (out : Output) → MayStand (owed_encode w) t.shelf out → IsMore out t u → Stands w t u
+  stands_of : (t u : Told) (out : Output) → MayStand (encode_spec w) t.shelf out → IsMore out t u → Stands w t u
   stands_of t u out may more name bytes before is = by_part may
     where
       made_is : out.made ≡ file_of 1 name bytes ∷ before
       made_is = append_cancel_right out.made (file_of 1 name bytes ∷ before) t.made (sym more.made ∙ is)
 
-      by_part : MayStand (owed_encode w) t.shelf out → IsBegun w t name bytes before
+      by_part : MayStand (encode_spec w) t.shelf out → IsBegun w t name bytes before
       by_part (inl bare) = let no : [] ≡ file_of 1 name bytes ∷ before = sym (ap (λ (o : Output). o.made) bare) ∙ made_is in cc
       by_part (inr part) = of_output w t part.1.0 part.1.1 name bytes before part.0 out part.1.2 part.2 made_is
 
-  told_stands : (x y : Option Told) (out : Output) → IfSome x (λ t. MayStand (owed_encode w) t.shelf out) → IfSome x (λ t. IsSomeAnd y (IsMore out t)) → IfSome x (λ t. IsSomeAnd y (Stands w t))
+  told_stands : (x y : Option Told) (out : Output) → IfSome x (λ t. MayStand (encode_spec w) t.shelf out) → IfSome x (λ t. IsSomeAnd y (IsMore out t)) → IfSome x (λ t. IsSomeAnd y (Stands w t))
   told_stands None y out may more = tt
   told_stands (Some t) None out may more = absurd more
   told_stands (Some t) (Some u) out may more = stands_of t u out may more
 
-  whole_may : (out : Output) → IfTold a (λ t. (owed_encode w).done t.shelf out) → IfTold a (λ t. MayStand (owed_encode w) t.shelf out)
-  whole_may out due = told_more a (λ t. (owed_encode w).done t.shelf out) (λ t. MayStand (owed_encode w) t.shelf out) (λ t h. inr (out, h, subst (λ (said : List ℕ). IsPartOf out (record { made = out.made; said = said })) (take-length out.said) (of_words (length out.said)))) due
+  whole_may : (out : Output) → IfTold a (λ t. (encode_spec w).done t.shelf out) → IfTold a (λ t. MayStand (encode_spec w) t.shelf out)
+  whole_may out due = told_more a (λ t. (encode_spec w).done t.shelf out) (λ t. MayStand (encode_spec w) t.shelf out) (λ t h. inr (out, h, subst (λ (said : List ℕ). IsPartOf out (record { made = out.made; said = said })) (take-length out.said) (of_words (length out.said)))) due
 
-  bare_may : IfTold a (λ t. MayStand (owed_encode w) t.shelf nothing)
-  bare_may = always a (λ t. MayStand (owed_encode w) t.shelf nothing) (λ t. inl refl)
+  bare_may : IfTold a (λ t. MayStand (encode_spec w) t.shelf nothing)
+  bare_may = always a (λ t. MayStand (encode_spec w) t.shelf nothing) (λ t. inl refl)
 
-  answers_stand : (answer : Outcome) → Answers (owed_encode w) a b answer → IfTold a (λ t. IsTold b (Stands w t))
+  answers_stand : (answer : Outcome) → Answers (encode_spec w) a b answer → IfTold a (λ t. IsTold b (Stands w t))
   answers_stand _ (done out due adds stays) = told_stands a.view.told b.view.told out (whole_may out due) adds.told
   answers_stand _ (refused answer is due adds) = told_stands a.view.told b.view.told nothing bare_may adds.told
   answers_stand _ (read_fault adds) = told_stands a.view.told b.view.told nothing bare_may adds.told
   answers_stand _ (write_fault out part adds) = told_stands a.view.told b.view.told out part adds.told
   answers_stand _ (no_memory out part adds held) = told_stands a.view.told b.view.told out part adds.told
 
-  pub obeyed_stands : (answer : Outcome) → Obeys (owed_encode w) a b answer → IfTold a (λ t. IsTold b (Stands w t))
-  obeyed_stands answer obeys = answers_stand answer obeys.answers
+  pub obeyed_stands : (answer : Outcome) → Implements (encode_spec w) a b answer → IfTold a (λ t. IsTold b (Stands w t))
+  obeyed_stands answer implements = answers_stand answer implements.answers

@@ -4,7 +4,7 @@ use Rattle.std.specs.Prelude.{IfSome, IsSomeAnd}
 use Rattle.pb_base.specs.declared.problem.Problem.{Problem}
 use Rattle.pb_desk.specs.View.{Told}
 use Rattle.pb_desk.specs.Desk.{DeskState, IfTold, IsTold}
-use Rattle.pb_choice.specs.declared.options.Options.{Options}
+use Rattle.pb_base.specs.declared.options.Options.{Options}
 use Rattle.pb_encode.specs.Summaries.{IsEncodable}
 use Rattle.pb_encode.specs.Weighted.{weighted_text}
 use Rattle.pb_encode.proofs.ModelCosts.{models_have_costs}
@@ -13,41 +13,41 @@ use Rattle.pb_words.specs.WcnfWords.{WcnfWords}
 use Rattle.pb_suite.specs.declared.outcome.Outcome.{Outcome}
 use Rattle.pb_suite.specs.declared.outcome.Outcome.TheVariants as outcome
 use Rattle.pb_suite.specs.Headline.{IsWeighing, MakesWeighing, Weighs}
-use Rattle.pb_suite.specs.Obeying.{Answers, IsRefusal, Obeys}
-use Rattle.pb_suite.specs.Obeying.Answers.{done, refused, read_fault, write_fault, no_memory}
+use Rattle.pb_suite.specs.Implementing.{Answers, IsRefusal, Implements}
+use Rattle.pb_suite.specs.Implementing.Answers.{done, refused, read_fault, write_fault, no_memory}
 use Rattle.pb_suite.specs.Outputs.{IsMore, Output}
-use Rattle.pb_suite.specs.OwedWcnf.{owed_wcnf}
-use Rattle.pb_suite.specs.Posed.{Poses}
-use Rattle.pb_suite.proofs.PosedProblems.{poses_within}
+use Rattle.pb_suite.specs.WcnfSpec.{wcnf_spec}
+use Rattle.pb_suite.specs.Denoted.{Denotes}
+use Rattle.pb_suite.proofs.DenotedProblems.{denotes_within}
 
--- the weighted text of a problem that a text poses has its costs
-pub weighing : (o : Options) (bound : Option ℤ) (text : List ℕ) (p : Problem) → Poses bound text p → IsEncodable o p → IsWeighing o bound text (weighted_text o p)
-weighing o bound text p poses encodable =
-    let within = poses_within bound text p poses in
-    record { problem = p; poses = poses; written = refl; says = weighted_reads o p within encodable; costs = models_have_costs o p within }
+-- the weighted text of a problem that a text denotes has its costs
+pub weighing : (o : Options) (bound : Option ℤ) (text : List ℕ) (p : Problem) → Denotes bound text p → IsEncodable o p → IsWeighing o bound text (weighted_text o p)
+weighing o bound text p denotes encodable =
+    let within = denotes_within bound text p denotes in
+    record { problem = p; denotes = denotes; written = refl; says = weighted_reads o p within encodable; costs = models_have_costs o p within }
 
-pub obeyed_weighs : (w : WcnfWords) (a b : DeskState) (answer : Outcome) → answer ≡ outcome.Done → Obeys (owed_wcnf w) a b answer → Weighs w a b
-obeyed_weighs w a b answer is obeys = by_answers answer is obeys.answers
+pub obeyed_weighs : (w : WcnfWords) (a b : DeskState) (answer : Outcome) → answer ≡ outcome.Done → Implements (wcnf_spec w) a b answer → Weighs w a b
+obeyed_weighs w a b answer is implements = by_answers answer is implements.answers
   where
-    made_of : (t u : Told) (out : Output) → (owed_wcnf w).done t.shelf out → IsMore out t u → MakesWeighing w t u
+    made_of : (t u : Told) (out : Output) → (wcnf_spec w).done t.shelf out → IsMore out t u → MakesWeighing w t u
     made_of t u out due more =
-        let posed = due.1.posed in
+        let denoted = due.1.denoted in
         record {
-          text = posed.text;
+          text = denoted.text;
           wcnf = weighted_text w.options due.0;
-          on_shelf = posed.on_shelf;
+          on_shelf = denoted.on_shelf;
           made_is = more.made ∙ ap (λ (o : Output). o.made ++ t.made) due.2;
-          weighing = weighing w.options w.bound posed.text due.0 posed.poses due.1.encodable;
+          weighing = weighing w.options w.bound denoted.text due.0 denoted.denotes due.1.encodable;
         }
 
-    by_told : (x y : Option Told) (out : Output) → IfSome x (λ t. (owed_wcnf w).done t.shelf out) → IfSome x (λ t. IsSomeAnd y (IsMore out t)) → IfSome x (λ t. IsSomeAnd y (MakesWeighing w t))
+    by_told : (x y : Option Told) (out : Output) → IfSome x (λ t. (wcnf_spec w).done t.shelf out) → IfSome x (λ t. IsSomeAnd y (IsMore out t)) → IfSome x (λ t. IsSomeAnd y (MakesWeighing w t))
     by_told None y out due more = tt
     by_told (Some t) None out due more = absurd more
     by_told (Some t) (Some u) out due more = made_of t u out due more
 
-    by_answers : (answer : Outcome) → answer ≡ outcome.Done → Answers (owed_wcnf w) a b answer → IfTold a (λ t. IsTold b (MakesWeighing w t))
+    by_answers : (answer : Outcome) → answer ≡ outcome.Done → Answers (wcnf_spec w) a b answer → IfTold a (λ t. IsTold b (MakesWeighing w t))
     by_answers _ is (done out due adds stays) = by_told a.view.told b.view.told out due adds.told
-    by_answers _ is (refused answer refusal due adds) = absurd (subst (IsRefusal (owed_wcnf w).texts) is refusal)
+    by_answers _ is (refused answer refusal due adds) = absurd (subst (IsRefusal (wcnf_spec w).texts) is refusal)
     by_answers _ is (read_fault adds) = cc
     by_answers _ is (write_fault out part adds) = cc
     by_answers _ is (no_memory out part adds held) = cc

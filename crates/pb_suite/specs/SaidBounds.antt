@@ -5,22 +5,22 @@ use Rattle.pb_base.specs.declared.problem.Problem.{Problem}
 use Rattle.pb_desk.specs.View.{Told}
 use Rattle.pb_desk.specs.Desk.{DeskState, IfTold, IsTold}
 use Rattle.pb_dimacs.specs.CnfReading.{CnfReads}
-use Rattle.pb_choice.specs.declared.options.Options.{Options}
+use Rattle.pb_base.specs.declared.options.Options.{Options}
 use Rattle.pb_encode.specs.BoundLines.{bounds_text}
 use Rattle.pb_encode.specs.Bounds.{TellBounds}
 use Rattle.pb_encode.specs.Summaries.{summary_of, summary_text}
 use Rattle.pb_words.specs.EncodeWords.{EncodeWords}
-use Rattle.pb_words.specs.Taken.{Wanted}
-use Rattle.pb_words.specs.Taken.Wanted.{Encode}
+use Rattle.pb_words.specs.Parsed.{Wanted}
+use Rattle.pb_words.specs.Parsed.Wanted.{Encode}
 use Rattle.pb_suite.specs.declared.outcome.Outcome.{Outcome}
 use Rattle.pb_suite.specs.declared.outcome.Outcome.TheVariants as outcome
-use Rattle.pb_suite.specs.OwedEncode.{file_of, proof_files}
-use Rattle.pb_suite.specs.Posed.{Poses}
+use Rattle.pb_suite.specs.EncodeSpec.{file_of, proof_files}
+use Rattle.pb_suite.specs.Denoted.{Denotes}
 
--- The words are the size of the encoding and the lines of some rows. The bytes are a CNF text, over whose clauses these rows bound the objective of the problem that the text poses.
+-- The words are the size of the encoding and the lines of some rows. The bytes are a CNF text, over whose clauses these rows bound the objective of the problem that the text denotes.
 pub record HasBounds (o : Options) (bound : Option ℤ) (text cnf said : List ℕ) : Type 0 where
   pub problem : Problem
-  pub poses : Poses bound text problem
+  pub denotes : Denotes bound text problem
   pub vars : ℕ
   pub clauses : List (List Lit)
   pub says : CnfReads cnf vars clauses

@@ -3,20 +3,20 @@ use Rattle.std.specs.Prelude.{ℕ, ◌≡◌, Bool, List, take, Option, Some}
 use Rattle.pb_base.specs.declared.problem.Problem.{Problem}
 use Rattle.pb_desk.specs.View.{Told}
 use Rattle.pb_desk.specs.Desk.{DeskState, IfTold}
-use Rattle.pb_choice.specs.declared.options.Options.{Options}
+use Rattle.pb_base.specs.declared.options.Options.{Options}
 use Rattle.pb_encode.specs.Clauses.{problem_clauses, problem_vars}
 use Rattle.pb_encode.specs.Models.{IsModelOver}
 use Rattle.pb_model.specs.declared.model.Model.{Model}
 use Rattle.pb_model.specs.declared.model.Says.TheVariants.{Satisfiable}
 use Rattle.pb_model.specs.SolutionText.{solution_text}
 use Rattle.pb_words.specs.DecodeWords.{DecodeWords}
-use Rattle.pb_words.specs.Taken.{Wanted}
-use Rattle.pb_words.specs.Taken.Wanted.{Decode}
+use Rattle.pb_words.specs.Parsed.{Wanted}
+use Rattle.pb_words.specs.Parsed.Wanted.{Decode}
 use Rattle.pb_suite.specs.declared.outcome.Outcome.{Outcome}
 use Rattle.pb_suite.specs.declared.outcome.Outcome.TheVariants as outcome
 use Rattle.pb_suite.specs.Outputs.{nothing, only_words, Adds, Output}
-use Rattle.pb_suite.specs.Owed.{Owed, Shelf}
-use Rattle.pb_suite.specs.OwedDecode.{owed_decode, IsAnswered}
+use Rattle.pb_suite.specs.CommandSpec.{CommandSpec, Shelf}
+use Rattle.pb_suite.specs.DecodeSpec.{decode_spec, IsAnswered}
 
 -- The solver says that there is a model, and its values are the front of one of the clauses that the problem is encoded as.
 pub record IsFrontOfModel (o : Options) (p : Problem) (m : Model) : Type 0 where
@@ -26,7 +26,7 @@ pub record IsFrontOfModel (o : Options) (p : Problem) (m : Model) : Type 0 where
   pub front : take p.vars model ≡ m.values
 
 -- this output is due, and nothing else is: the command does not stop
-pub record IsDue (o : Owed) (shelf : Shelf) (out : Output) : Type 0 where
+pub record IsDue (o : CommandSpec) (shelf : Shelf) (out : Output) : Type 0 where
   pub done : o.done shelf out
   pub only : (other : Output) → o.done shelf other → other ≡ out
   pub goes_on : (answer : Outcome) → ¬ o.stops shelf answer
@@ -40,7 +40,7 @@ pub data SaysOnly (line : List ℕ) (old new : DeskState) : Outcome → Type 0 w
 
 -- exactly the text of the solution is due, and is said unless a call failed or memory was wanting
 pub record SaysSolution (w : DecodeWords) (shelf : Shelf) (line : List ℕ) (old new : DeskState) (answer : Outcome) : Type 0 where
-  pub due : IsDue (owed_decode w) shelf (only_words line)
+  pub due : IsDue (decode_spec w) shelf (only_words line)
   pub ends : SaysOnly line old new answer
 
 -- so it is of what is told, for each front of a model of the clauses under any options

@@ -12,10 +12,10 @@ use Rattle.pb_family.specs.StepSinks.{first_line, steps_text}
 use Rattle.pb_dimacs.specs.CnfReading.{CnfReads}
 use Rattle.pb_check.specs.Walk.{Accepts}
 use Rattle.pb_words.specs.EncodeWords.{EncodeWords}
-use Rattle.pb_words.specs.Taken.{Wanted}
-use Rattle.pb_words.specs.Taken.Wanted.{Encode}
-use Rattle.pb_suite.specs.OwedEncode.{file_of}
-use Rattle.pb_suite.specs.Posed.{Poses}
+use Rattle.pb_words.specs.Parsed.{Wanted}
+use Rattle.pb_words.specs.Parsed.Wanted.{Encode}
+use Rattle.pb_suite.specs.EncodeSpec.{file_of}
+use Rattle.pb_suite.specs.Denoted.{Denotes}
 
 -- Going through the lines of the steps, the one canonical line of each, accepts them beside the problem and the CNF. They are few: at most eight for each fresh variable and each clause, four for each loaded constraint, and eight.
 pub record IsShortDerivation (p : Problem) (cnf : List ℕ) (steps : List Step) : Type 0 where
@@ -34,14 +34,14 @@ pub record AreFirstLines (steps : List Step) (bytes : List ℕ) : Type 0 where
   pub count : ℕ
   pub are : bytes ≡ steps_text front ++ take count (first_line left)
 
--- The derivation has the name that was asked for, and was made behind the CNF, which stands whole. The bytes are the first lines of one that is accepted for the problem that the text poses.
+-- The derivation has the name that was asked for, and was made behind the CNF, which stands whole. The bytes are the first lines of one that is accepted for the problem that the text denotes.
 pub record IsBegun (w : EncodeWords) (t : Told) (name bytes : List ℕ) (before : List Made) : Type 0 where
   pub named : w.proof ≡ Some name
   pub problem : Problem
   pub text : List ℕ
   pub cnf : List ℕ
   pub on_shelf : t.shelf w.opb ≡ Some text
-  pub poses : Poses w.bound text problem
+  pub denotes : Denotes w.bound text problem
   pub behind : before ≡ file_of 0 w.cnf cnf ∷ []
   pub steps : List Step
   pub derivation : IsShortDerivation problem cnf steps

@@ -1,7 +1,7 @@
 //! Opening a CNF and its derivation.
 ghost use Rattle.std.specs.Prelude.{◌≡◌, false, OnOk, OnErr};
 ghost use Rattle.pb_desk.specs.Desk.{IfTold, Reaches};
-ghost use Rattle.pb_suite.specs.laws.Opening.{opened_both, HasBoth, StopsOpening};
+ghost use Rattle.pb_suite.specs.inner.Opening.{opened_both, HasBoth, StopsOpening};
 
 use pb_base::Failed;
 use pb_desk::Desk;

@@ -1,5 +1,5 @@
 //! Saying words.
-ghost use Rattle.pb_suite.specs.laws.Saying.{EndsSaying};
+ghost use Rattle.pb_suite.specs.inner.Saying.{EndsSaying};
 
 use crate::outcome::Outcome;
 use pb_base::Failed;

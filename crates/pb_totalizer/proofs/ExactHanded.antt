@@ -9,38 +9,38 @@ use Rattle.pb_norm.specs.Constraints.{weights}
 use Rattle.pb_steps.specs.declared.step.Step.{Step}
 use Rattle.pb_steps.specs.declared.step.Step.TheVariants.{Out}
 use Rattle.pb_derive.specs.Claims.{claim_steps}
-use Rattle.pb_derive.specs.Reasons.{Reason, by_reason}
+use Rattle.pb_derive.specs.Justifications.{Justification, by_justification}
 use Rattle.pb_family.specs.Derivations.{pieces}
 use Rattle.pb_family.proofs.SameSteps.{HaveSameSteps, same_append}
-use Rattle.pb_family.proofs.Sequence.{reason_pieces}
+use Rattle.pb_family.proofs.Sequence.{justification_pieces}
 use Rattle.pb_tree.specs.Pairs.{Pair, pair_of}
 use Rattle.pb_tree.specs.Scheme.{fresh_of}
 use Rattle.pb_tree.specs.Tree.{Tree, node, tree_of}
-use Rattle.pb_tree.specs.TreeSteps.{leaves, output_ids, pair_reasons, reasons_along, root_reason}
+use Rattle.pb_tree.specs.TreeSteps.{leaves, output_ids, pair_justifications, justifications_along, root_justification}
 use Rattle.pb_tree.proofs.PairLists.{map_same, map-map, rows_same}
 use Rattle.pb_tree.proofs.TreeHanded.{IsFirstFree, along_first_free, pairs_first_free, bare, bare_same}
 use Rattle.pb_tree.proofs.TreeRows.{leaves_of}
 use Rattle.pb_totalizer.specs.Exact.{outputs_of, limits}
-use Rattle.pb_totalizer.specs.ExactSteps.{after_ids, after_weakened, limit_reason, limit_pairs, limit_reasons, own_reasons, least_reason, exact_reasons}
+use Rattle.pb_totalizer.specs.ExactSteps.{after_ids, after_weakened, limit_justification, limit_pairs, limit_justifications, own_justifications, least_justification, exact_justifications}
 use Rattle.pb_totalizer.specs.Totalizer.{totalizer}
 use Rattle.pb_totalizer.specs.TotalizerSteps.{totalizer_pairs}
 use Rattle.pb_totalizer.specs.declared.claims.Source.{Source}
-use Rattle.pb_totalizer.specs.declared.ways.Ways.TheVariants.{Both}
-use Rattle.pb_totalizer.specs.laws.LimitSources.{seconds_from, ids_after, weakened_after, limit_given, limit_row_given, limits_given, least_given}
+use Rattle.pb_totalizer.specs.declared.polarity.Polarity.TheVariants.{Both}
+use Rattle.pb_totalizer.specs.inner.LimitSources.{seconds_from, ids_after, weakened_after, limit_given, limit_row_given, limits_given, least_given}
 use Rattle.pb_totalizer.specs.laws.Limits.{limits_are}
-use Rattle.pb_totalizer.specs.laws.Sources.{ids_from, root_given}
-use Rattle.pb_totalizer.specs.laws.Ways.{reasons_by, exact_all_reasons}
+use Rattle.pb_totalizer.specs.inner.Sources.{ids_from, root_given}
+use Rattle.pb_totalizer.specs.laws.Polarity.{justifications_by, exact_all_justifications}
 use Rattle.pb_totalizer.proofs.Handed.{root_is}
 
 -- ---- rows
 
-abbrev pub limit_piece : (ℕ → Reason) → ℕ → ℕ → List Step
-limit_piece f id k = claim_steps id (by_reason (f k) ∷ [])
+abbrev pub limit_piece : (ℕ → Justification) → ℕ → ℕ → List Step
+limit_piece f id k = claim_steps id (by_justification (f k) ∷ [])
 
-pub limit_row_pieces : (f : ℕ → Reason) (count b i high next : ℕ) → high ≡ min (b + 1) (count - i) → claim_steps next (map by_reason (map f (limits count b i))) ≡ pieces (limit_piece f) 1 next 0 high
+pub limit_row_pieces : (f : ℕ → Justification) (count b i high next : ℕ) → high ≡ min (b + 1) (count - i) → claim_steps next (map by_justification (map f (limits count b i))) ≡ pieces (limit_piece f) 1 next 0 high
 limit_row_pieces f count b i high next is =
-    ap (λ (js : List ℕ). claim_steps next (map by_reason (map f js))) (limits_are count b i high is ∙ ap (range_with_len 0) (let e : high - 0 ≡ high = omega arith in e))
-    ∙ reason_pieces f next 0 high
+    ap (λ (js : List ℕ). claim_steps next (map by_justification (map f js))) (limits_are count b i high is ∙ ap (range_with_len 0) (let e : high - 0 ≡ high = omega arith in e))
+    ∙ justification_pieces f next 0 high
 
 -- ---- the clauses of a node, from its outputs to its parts
 
@@ -57,7 +57,7 @@ weakened_are bound ts i = by_test (nat_lt i (outputs_of bound (tree_of (weights 
     by_test true = refl
     by_test false = ap vars_of (sym (leaves_of (weights ts)))
 
-abbrev named : List ℕ → List ℕ → Reason
+abbrev named : List ℕ → List ℕ → Justification
 named ids weakened = record { clause = []; ids = ids; weakened = weakened }
 
 module _ (bound : ℕ) (lefts rights : List Term) (id own : ℕ) (sl sr : Source)
@@ -70,7 +70,7 @@ module _ (bound : ℕ) (lefts rights : List Term) (id own : ℕ) (sl sr : Source
   abbrev r : Tree
   r = tree_of (weights rights)
 
-  limit_is : (i j : ℕ) → limit_given (outputs_of bound l) (outputs_of bound r) sl lefts sr rights own i j ≡ bare (limit_reason bound l r 0 id (pair_of i j))
+  limit_is : (i j : ℕ) → limit_given (outputs_of bound l) (outputs_of bound r) sl lefts sr rights own i j ≡ bare (limit_justification bound l r 0 id (pair_of i j))
   limit_is i j =
       let s = totalizer bound in
       let one = after_are sl bound l id i left in
@@ -80,73 +80,73 @@ module _ (bound : ℕ) (lefts rights : List Term) (id own : ℕ) (sl sr : Source
       let four = weakened_are bound rights j in
       λ k. named (one k ++ (two k ++ last k ∷ [])) (three k ++ four k)
 
-  limits_are_given : (count a b : ℕ) → count ≡ outputs_of bound (node l r) → a ≡ outputs_of bound l → b ≡ outputs_of bound r → limits_given count a b sl lefts sr rights own ≡ map bare (limit_reasons bound l r 0 id)
+  limits_are_given : (count a b : ℕ) → count ≡ outputs_of bound (node l r) → a ≡ outputs_of bound l → b ≡ outputs_of bound r → limits_given count a b sl lefts sr rights own ≡ map bare (limit_justifications bound l r 0 id)
   limits_are_given count a b ec ea eb =
       let n = outputs_of bound l in
       let m = outputs_of bound r in
       let c = outputs_of bound (node l r) in
-      let claim = λ (p : Pair). bare (limit_reason bound l r 0 id p) in
+      let claim = λ (p : Pair). bare (limit_justification bound l r 0 id p) in
       (λ k. limits_given (ec k) (ea k) (eb k) sl lefts sr rights own)
       ∙ rows_same claim (λ i. map (pair_of i) (limits c m i)) (limit_row_given c n m sl lefts sr rights own) (range_with_len 0 (n + 1))
       (λ i here.
       map_same (limit_given n m sl lefts sr rights own i) (λ j. claim (pair_of i j)) (limits c m i) (λ j k. limit_is i j)
       ∙ sym (map-map claim (pair_of i) (limits c m i)))
-      ∙ sym (map-map bare (limit_reason bound l r 0 id) (limit_pairs c n m))
+      ∙ sym (map-map bare (limit_justification bound l r 0 id) (limit_pairs c n m))
 
   -- with the steps of its clauses
-  pub limits_same : (count a b : ℕ) → count ≡ outputs_of bound (node l r) → a ≡ outputs_of bound l → b ≡ outputs_of bound r → HaveSameSteps (limits_given count a b sl lefts sr rights own) (limit_reasons bound l r 0 id)
+  pub limits_same : (count a b : ℕ) → count ≡ outputs_of bound (node l r) → a ≡ outputs_of bound l → b ≡ outputs_of bound r → HaveSameSteps (limits_given count a b sl lefts sr rights own) (limit_justifications bound l r 0 id)
   limits_same count a b ec ea eb =
-      let qs = limit_reasons bound l r 0 id in
-      subst (λ (rs : List Reason). HaveSameSteps rs qs) (sym (limits_are_given count a b ec ea eb)) (bare_same qs)
+      let qs = limit_justifications bound l r 0 id in
+      subst (λ (rs : List Justification). HaveSameSteps rs qs) (sym (limits_are_given count a b ec ea eb)) (bare_same qs)
 
 -- ---- numbers of variables
 
-limits_free : (bound : ℕ) (l r : Tree) (f g id : ℕ) (ps : List Pair) → HaveSameSteps (map (limit_reason bound l r f id) ps) (map (limit_reason bound l r g id) ps)
-limits_free bound l r f g id ps = record { count = omega (arith, length-map ps (limit_reason bound l r f id), length-map ps (limit_reason bound l r g id)); steps = λ next. each next ps }
+limits_free : (bound : ℕ) (l r : Tree) (f g id : ℕ) (ps : List Pair) → HaveSameSteps (map (limit_justification bound l r f id) ps) (map (limit_justification bound l r g id) ps)
+limits_free bound l r f g id ps = record { count = omega (arith, length-map ps (limit_justification bound l r f id), length-map ps (limit_justification bound l r g id)); steps = λ next. each next ps }
   where
-    each : (next : ℕ) (ps : List Pair) → claim_steps next (map by_reason (map (limit_reason bound l r f id) ps)) ≡ claim_steps next (map by_reason (map (limit_reason bound l r g id) ps))
+    each : (next : ℕ) (ps : List Pair) → claim_steps next (map by_justification (map (limit_justification bound l r f id) ps)) ≡ claim_steps next (map by_justification (map (limit_justification bound l r g id) ps))
     each next [] = refl
-    each next (p ∷ ps) = ap (λ (ss : List Step). (by_reason (limit_reason bound l r f id p)).step ∷ Out next ∷ ss) (each (next + 1) ps)
+    each next (p ∷ ps) = ap (λ (ss : List Step). (by_justification (limit_justification bound l r f id p)).step ∷ Out next ∷ ss) (each (next + 1) ps)
 
 -- the steps do not depend on the numbers of the variables
-pub own_first_free : (bound : ℕ) → IsFirstFree (own_reasons bound)
+pub own_first_free : (bound : ℕ) → IsFirstFree (own_justifications bound)
 own_first_free bound l r f g id =
     let s = totalizer bound in
     let pairs = totalizer_pairs (bound + 1) in
-    same_append (pair_reasons s pairs l r f id) (pair_reasons s pairs l r g id) (limit_reasons bound l r f id) (limit_reasons bound l r g id) (pairs_first_free s pairs l r f g id)
+    same_append (pair_justifications s pairs l r f id) (pair_justifications s pairs l r g id) (limit_justifications bound l r f id) (limit_justifications bound l r g id) (pairs_first_free s pairs l r f g id)
     (limits_free bound l r f g id (limit_pairs (outputs_of bound (node l r)) (outputs_of bound l) (outputs_of bound r)))
 
 -- ---- the root
 
 least_is : (bound : ℕ) (ts : List Term) (id lower : ℕ) (root : Source) → ids_from root ≡ output_ids (totalizer bound) (tree_of (weights ts)) id
-    → least_given root bound lower ≡ bare (least_reason bound (tree_of (weights ts)) 0 id lower)
+    → least_given root bound lower ≡ bare (least_justification bound (tree_of (weights ts)) 0 id lower)
 least_is bound ts id lower root same = ap (λ (is : List ℕ). named (is ++ lower ∷ []) []) (seconds_are root bound (tree_of (weights ts)) id bound same)
 
 -- all clauses are those of the nodes and those of the root
 pub exact_ends_last : (bound : ℕ) (ts : List Term) (id lower upper : ℕ) (root : Source) → ids_from root ≡ output_ids (totalizer bound) (tree_of (weights ts)) id
-    → HaveSameSteps (reasons_by Both bound ts id ++ (least_given root bound lower ∷ root_given root (bound + 1) upper ∷ [])) (exact_all_reasons bound ts id lower upper)
+    → HaveSameSteps (justifications_by Both bound ts id ++ (least_given root bound lower ∷ root_given root (bound + 1) upper ∷ [])) (exact_all_justifications bound ts id lower upper)
 exact_ends_last bound ts id lower upper root same =
     let t = tree_of (weights ts) in
-    let ends = least_reason bound t 0 id lower ∷ root_reason (totalizer bound) t 0 id upper ∷ [] in
+    let ends = least_justification bound t 0 id lower ∷ root_justification (totalizer bound) t 0 id upper ∷ [] in
     let one = least_is bound ts id lower root same in
     let two = root_is bound ts id upper root same in
     let are : (least_given root bound lower ∷ root_given root (bound + 1) upper ∷ []) ≡ map bare ends = λ i. one i ∷ two i ∷ [] in
-    same_append (reasons_by Both bound ts id) (reasons_by Both bound ts id) (least_given root bound lower ∷ root_given root (bound + 1) upper ∷ []) ends (record { count = refl; steps = λ next. refl })
-    (subst (λ (rs : List Reason). HaveSameSteps rs ends) (sym are) (bare_same ends))
+    same_append (justifications_by Both bound ts id) (justifications_by Both bound ts id) (least_given root bound lower ∷ root_given root (bound + 1) upper ∷ []) ends (record { count = refl; steps = λ next. refl })
+    (subst (λ (rs : List Justification). HaveSameSteps rs ends) (sym are) (bare_same ends))
 
 -- from the sink's next id on
-pub exact_all_same : (bound : ℕ) (ts : List Term) (first lower upper base next : ℕ) → base ≡ next → HaveSameSteps (exact_all_reasons bound ts base lower upper) (exact_reasons (sum_within ts bound) first next lower upper)
+pub exact_all_same : (bound : ℕ) (ts : List Term) (first lower upper base next : ℕ) → base ≡ next → HaveSameSteps (exact_all_justifications bound ts base lower upper) (exact_justifications (sum_within ts bound) first next lower upper)
 exact_all_same bound ts first lower upper base next is =
     let s = totalizer bound in
     let t = tree_of (weights ts) in
-    let ends = λ (f : ℕ). least_reason bound t f base lower ∷ root_reason s t f base upper ∷ [] in
-    subst (λ (b : ℕ). HaveSameSteps (exact_all_reasons bound ts base lower upper) (exact_reasons (sum_within ts bound) first b lower upper)) is
-    (same_append (reasons_along s (own_reasons bound) t 0 base) (reasons_along s (own_reasons bound) t first base) (ends 0) (ends first) (along_first_free s (own_reasons bound) (own_first_free bound) t 0 first base)
+    let ends = λ (f : ℕ). least_justification bound t f base lower ∷ root_justification s t f base upper ∷ [] in
+    subst (λ (b : ℕ). HaveSameSteps (exact_all_justifications bound ts base lower upper) (exact_justifications (sum_within ts bound) first b lower upper)) is
+    (same_append (justifications_along s (own_justifications bound) t 0 base) (justifications_along s (own_justifications bound) t first base) (ends 0) (ends first) (along_first_free s (own_justifications bound) (own_first_free bound) t 0 first base)
     (record { count = refl; steps = λ next. refl }))
 
 -- ---- how many
 
-pub exact_all_counted : (bound : ℕ) (ts : List Term) (id lower upper : ℕ) → length (exact_all_reasons bound ts id lower upper) ≡ length (reasons_by Both bound ts id) + 2
+pub exact_all_counted : (bound : ℕ) (ts : List Term) (id lower upper : ℕ) → length (exact_all_justifications bound ts id lower upper) ≡ length (justifications_by Both bound ts id) + 2
 exact_all_counted bound ts id lower upper =
     let t = tree_of (weights ts) in
-    omega (arith, length-append (reasons_by Both bound ts id) (least_reason bound t 0 id lower ∷ root_reason (totalizer bound) t 0 id upper ∷ []))
+    omega (arith, length-append (justifications_by Both bound ts id) (least_justification bound t 0 id lower ∷ root_justification (totalizer bound) t 0 id upper ∷ []))

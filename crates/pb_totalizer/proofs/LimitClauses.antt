@@ -5,7 +5,7 @@ use Rattle.pb_base.specs.declared.literal.Lit.{Lit}
 use Rattle.pb_base.specs.Literals.{negated}
 use Rattle.pb_totalizer.specs.Exact.{unless_last}
 use Rattle.pb_totalizer.specs.declared.outputs.Outputs.{Outputs}
-use Rattle.pb_totalizer.specs.laws.Outputs.{output_count, output_at, limit_over}
+use Rattle.pb_totalizer.specs.inner.Outputs.{output_count, output_at, limit_over}
 
 at_last : (f : ℕ → Lit) (a i : ℕ) → a ≤ i → unless_last f a i ≡ []
 at_last f a i past = grind (arith, nat_tests)

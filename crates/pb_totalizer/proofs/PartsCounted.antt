@@ -1,47 +1,47 @@
--- How many clauses a part of a totalizer has, whichever ways they lead.
+-- How many clauses a part of a totalizer has, whichever polarity they lead.
 use Rattle.std.proofs.Common.{◌≡◌, ◌≤◌, ◌<◌, ◌+◌, ◌*◌, ◌^◌, ℕ, List, length, sym, ap, ◌∙◌, arith}
 use Rattle.std.proofs.lemmas.List.{length-map}
 use Rattle.pb_base.specs.declared.literal.Term.{Term}
 use Rattle.pb_norm.specs.Constraints.{weights}
 use Rattle.pb_tree.specs.Scheme.{fresh_of, own_count_of, clause_count_of}
 use Rattle.pb_tree.specs.Tree.{Tree, node, tree_of}
-use Rattle.pb_tree.proofs.AlongReasons.{clause_in}
+use Rattle.pb_tree.proofs.AlongJustifications.{clause_in}
 use Rattle.pb_tree.proofs.Extending.{along_counted}
-use Rattle.pb_tree.proofs.TreeCounts.{reasons_counted}
+use Rattle.pb_tree.proofs.TreeCounts.{justifications_counted}
 use Rattle.pb_totalizer.specs.Exact.{exact_along, exact_own, limit_count, limit_count_of, limits_along, outputs_of}
 use Rattle.pb_totalizer.specs.Totalizer.{node_clause_count, totalizer}
 use Rattle.pb_totalizer.specs.TotalizerSteps.{totalizer_pairs}
-use Rattle.pb_totalizer.specs.declared.ways.Ways.{Ways}
-use Rattle.pb_totalizer.specs.declared.ways.Ways.TheVariants.{Up, Both}
+use Rattle.pb_totalizer.specs.declared.polarity.Polarity.{Polarity}
+use Rattle.pb_totalizer.specs.declared.polarity.Polarity.TheVariants.{Up, Both}
 use Rattle.pb_totalizer.specs.laws.ByPairs.{totalizer_by_pairs}
 use Rattle.pb_totalizer.specs.laws.Counting.{few_along, own_in_grid}
-use Rattle.pb_totalizer.specs.laws.ExactMeanings.{own_counted}
-use Rattle.pb_totalizer.specs.laws.ExactReasons.{exact_along_clauses}
+use Rattle.pb_totalizer.specs.laws.ExactReifications.{own_counted}
+use Rattle.pb_totalizer.specs.laws.ExactJustifications.{exact_along_clauses}
 use Rattle.pb_totalizer.specs.laws.LimitCounts.{limits_in_grid, split_count}
 use Rattle.pb_totalizer.specs.laws.Shares.{few_shared}
 use Rattle.pb_totalizer.specs.laws.TotalizerLaws.{IsCapped, totalizer_lawful}
-use Rattle.pb_totalizer.specs.laws.Ways.{clause_count_by, own_count, own_count_by, reasons_by}
+use Rattle.pb_totalizer.specs.laws.Polarity.{clause_count_by, own_count, own_count_by, justifications_by}
 use Rattle.pb_totalizer.proofs.Halved.{Halved}
 
 -- ---- by the halves
 
-own_is : (ways : Ways) (bound : ℕ) (l r : Tree) (count a b : ℕ) → count ≡ outputs_of bound (node l r) → a ≡ outputs_of bound l → b ≡ outputs_of bound r → own_count ways (bound + 1) count a b ≡ own_count_by ways bound l r
+own_is : (polarity : Polarity) (bound : ℕ) (l r : Tree) (count a b : ℕ) → count ≡ outputs_of bound (node l r) → a ≡ outputs_of bound l → b ≡ outputs_of bound r → own_count polarity (bound + 1) count a b ≡ own_count_by polarity bound l r
 own_is Up bound l r count a b ec ea eb = λ i. node_clause_count (bound + 1) (ea i) (eb i)
 own_is Both bound l r count a b ec ea eb = λ i. node_clause_count (bound + 1) (ea i) (eb i) + limit_count (ec i) (ea i) (eb i)
 
 -- those of the halves, and the node's own
-pub parts_counted : (ways : Ways) {bound : ℕ} {ts lefts rights : List Term} → Halved bound ts lefts rights → (count a b : ℕ)
+pub parts_counted : (polarity : Polarity) {bound : ℕ} {ts lefts rights : List Term} → Halved bound ts lefts rights → (count a b : ℕ)
     → count ≡ outputs_of bound (tree_of (weights ts)) → a ≡ outputs_of bound (tree_of (weights lefts)) → b ≡ outputs_of bound (tree_of (weights rights))
-    → clause_count_by ways bound (tree_of (weights ts)) ≡ clause_count_by ways bound (tree_of (weights lefts)) + clause_count_by ways bound (tree_of (weights rights)) + own_count ways (bound + 1) count a b
-parts_counted ways {bound} {ts} {lefts} {rights} half count a b ec ea eb =
+    → clause_count_by polarity bound (tree_of (weights ts)) ≡ clause_count_by polarity bound (tree_of (weights lefts)) + clause_count_by polarity bound (tree_of (weights rights)) + own_count polarity (bound + 1) count a b
+parts_counted polarity {bound} {ts} {lefts} {rights} half count a b ec ea eb =
     let l = tree_of (weights lefts) in
     let r = tree_of (weights rights) in
-    let own = own_is ways bound l r count a b (ec ∙ ap (outputs_of bound) half.tree) ea eb in
-    ap (clause_count_by ways bound) half.tree ∙ ap (λ (n : ℕ). clause_count_by ways bound l + clause_count_by ways bound r + n) (sym own)
+    let own = own_is polarity bound l r count a b (ec ∙ ap (outputs_of bound) half.tree) ea eb in
+    ap (clause_count_by polarity bound) half.tree ∙ ap (λ (n : ℕ). clause_count_by polarity bound l + clause_count_by polarity bound r + n) (sym own)
 
 -- ---- they fit
 
-pub few_clauses : (ways : Ways) (bound : ℕ) (ts : List Term) → 1 ≤ length ts → length ts < 2 ^ 31 → clause_count_by ways bound (tree_of (weights ts)) + 2 < 2 ^ 63
+pub few_clauses : (polarity : Polarity) (bound : ℕ) (ts : List Term) → 1 ≤ length ts → length ts < 2 ^ 31 → clause_count_by polarity bound (tree_of (weights ts)) + 2 < 2 ^ 63
 few_clauses Up bound ts some few =
     let sums : clause_count_by Up bound (tree_of (weights ts)) + 1 < 2 ^ 62 = few_along bound (own_count_of (totalizer bound)) (own_in_grid bound) ts some few in
     omega (arith, sums)
@@ -52,18 +52,18 @@ few_clauses Both bound ts some few =
     let limits : limits_along bound t + 1 < 2 ^ 62 = few_along bound (limit_count_of bound) (limits_in_grid bound) ts some few in
     omega (arith, whole, sums, limits)
 
--- as many reasons as the ids have room for
-pub few_reasons : (ways : Ways) (bound : ℕ) (ts : List Term) (id : ℕ) → 1 ≤ bound → fresh_of (totalizer bound) (tree_of (weights ts)) ≤ 2 ^ 31 → length (reasons_by ways bound ts id) ≤ 3 * 2 ^ 59
-few_reasons Up bound ts id some few =
+-- as many justifications as the ids have room for
+pub few_justifications : (polarity : Polarity) (bound : ℕ) (ts : List Term) (id : ℕ) → 1 ≤ bound → fresh_of (totalizer bound) (tree_of (weights ts)) ≤ 2 ^ 31 → length (justifications_by polarity bound ts id) ≤ 3 * 2 ^ 59
+few_justifications Up bound ts id some few =
     let s = totalizer bound in
     let t = tree_of (weights ts) in
-    let count : length (reasons_by Up bound ts id) ≡ clause_count_of s t = reasons_counted s (IsCapped bound) (totalizer_lawful bound) (totalizer_pairs (bound + 1)) (totalizer_by_pairs bound) t 0 id (λ u h. let one : 1 ≤ 1 = omega arith in one) in
+    let count : length (justifications_by Up bound ts id) ≡ clause_count_of s t = justifications_counted s (IsCapped bound) (totalizer_lawful bound) (totalizer_pairs (bound + 1)) (totalizer_by_pairs bound) t 0 id (λ u h. let one : 1 ≤ 1 = omega arith in one) in
     let room : clause_count_of s t ≤ 3 * 2 ^ 58 = few_shared bound (own_count_of s) (own_in_grid bound) t some few in
     omega (arith, count, room)
-few_reasons Both bound ts id some few =
+few_justifications Both bound ts id some few =
     let s = totalizer bound in
     let t = tree_of (weights ts) in
-    let rs = reasons_by Both bound ts id in
+    let rs = justifications_by Both bound ts id in
     let count : length rs ≡ length (exact_along bound t 0) = sym (length-map rs clause_in) ∙ ap length (exact_along_clauses bound t 0 id) in
     omega (
       arith,

@@ -1,4 +1,4 @@
--- The clauses of a part of a totalizer that are handed over half by half, whichever ways they lead.
+-- The clauses of a part of a totalizer that are handed over half by half, whichever polarity they lead.
 use Rattle.std.proofs.Common.{◌≡◌, ◌+◌, ◌-◌, ◌++◌, ℕ, List, [], refl, sym, ap, ◌∙◌, arith}
 use Rattle.std.specs.Prelude.{Result, IsErrAnd}
 use Rattle.pb_base.specs.declared.literal.Lit.{Lit}
@@ -14,17 +14,17 @@ use Rattle.pb_tree.specs.Tree.{Tree, node, tree_of}
 use Rattle.pb_tree.proofs.Pieces.{three, node_starts, after_left, after_right, all_taken}
 use Rattle.pb_totalizer.specs.Exact.{limit_clauses, outputs_of}
 use Rattle.pb_totalizer.specs.Totalizer.{sum_clauses, totalizer}
-use Rattle.pb_totalizer.specs.declared.ways.Ways.{Ways}
-use Rattle.pb_totalizer.specs.declared.ways.Ways.TheVariants.{Up, Both}
-use Rattle.pb_totalizer.specs.laws.Ways.{clauses_by, own_by, own_clauses}
+use Rattle.pb_totalizer.specs.declared.polarity.Polarity.{Polarity}
+use Rattle.pb_totalizer.specs.declared.polarity.Polarity.TheVariants.{Up, Both}
+use Rattle.pb_totalizer.specs.laws.Polarity.{clauses_by, own_by, own_clauses}
 use Rattle.pb_totalizer.proofs.Halved.{Halved}
 
 -- ---- a node's own, by what the code has of its parts
 
-own_is : (ways : Ways) (bound : ℕ) (l r : Tree) (first count a b : ℕ) (f g h : ℕ → Lit)
+own_is : (polarity : Polarity) (bound : ℕ) (l r : Tree) (first count a b : ℕ) (f g h : ℕ → Lit)
     → count ≡ outputs_of bound (node l r) → a ≡ outputs_of bound l → b ≡ outputs_of bound r
     → f ≡ output (totalizer bound) l first → g ≡ output (totalizer bound) r (first + fresh_of (totalizer bound) l) → h ≡ output (totalizer bound) (node l r) first
-    → own_clauses ways (bound + 1) count a b f g h ≡ own_by ways bound l r first
+    → own_clauses polarity (bound + 1) count a b f g h ≡ own_by polarity bound l r first
 own_is Up bound l r first count a b f g h ec ea eb ef eg eh = λ i. sum_clauses (bound + 1) (ea i) (eb i) (ef i) (eg i) (eh i)
 own_is Both bound l r first count a b f g h ec ea eb ef eg eh =
     λ i. sum_clauses (bound + 1) (ea i) (eb i) (ef i) (eg i) (eh i) ++ limit_clauses (ec i) (ea i) (eb i) (ef i) (eg i) (eh i)
@@ -35,7 +35,7 @@ node_output bound l r first base is = ap (λ (n : ℕ). λ (u : ℕ). positive_o
 
 -- ---- over two halves
 
-module _ (ways : Ways) {bound : ℕ} {ts lefts rights : List Term} (half : Halved bound ts lefts rights) (first : ℕ) where
+module _ (polarity : Polarity) {bound : ℕ} {ts lefts rights : List Term} (half : Halved bound ts lefts rights) (first : ℕ) where
   abbrev l : Tree
   l = tree_of (weights lefts)
 
@@ -44,19 +44,19 @@ module _ (ways : Ways) {bound : ℕ} {ts lefts rights : List Term} (half : Halve
 
   -- of the whole, of the left half, of the right one and of the node itself
   abbrev all : List (List Lit)
-  all = clauses_by ways bound (tree_of (weights ts)) first
+  all = clauses_by polarity bound (tree_of (weights ts)) first
 
   abbrev ones : List (List Lit)
-  ones = clauses_by ways bound l first
+  ones = clauses_by polarity bound l first
 
   abbrev others : ℕ → List (List Lit)
-  others next = clauses_by ways bound r next
+  others next = clauses_by polarity bound r next
 
   abbrev owns : List (List Lit)
-  owns = own_by ways bound l r first
+  owns = own_by polarity bound l r first
 
   all_are : (next : ℕ) → next ≡ first + fresh_of (totalizer bound) l → all ≡ three ones (others next) owns
-  all_are next at = ap (λ (t : Tree). clauses_by ways bound t first) half.tree ∙ ap (λ (n : ℕ). three ones (others n) owns) (sym at)
+  all_are next at = ap (λ (t : Tree). clauses_by polarity bound t first) half.tree ∙ ap (λ (n : ℕ). three ones (others n) owns) (sym at)
 
   pub base_output : (next base : ℕ) → next ≡ first + fresh_of (totalizer bound) l → base ≡ next + fresh_of (totalizer bound) r
       → (λ (u : ℕ). positive_of (base + (u - 1))) ≡ output (totalizer bound) (tree_of (weights ts)) first
@@ -65,9 +65,9 @@ module _ (ways : Ways) {bound : ℕ} {ts lefts rights : List Term} (half : Halve
   pub own_same : (next base count a b : ℕ) (f g : ℕ → Lit) → next ≡ first + fresh_of (totalizer bound) l → base ≡ next + fresh_of (totalizer bound) r
       → count ≡ outputs_of bound (tree_of (weights ts)) → a ≡ outputs_of bound l → b ≡ outputs_of bound r
       → f ≡ output (totalizer bound) l first → g ≡ output (totalizer bound) r next
-      → own_clauses ways (bound + 1) count a b f g (λ (u : ℕ). positive_of (base + (u - 1))) ≡ owns
+      → own_clauses polarity (bound + 1) count a b f g (λ (u : ℕ). positive_of (base + (u - 1))) ≡ owns
   own_same next base count a b f g at after ec ea eb ef eg =
-      own_is ways bound l r first count a b f g (λ (u : ℕ). positive_of (base + (u - 1))) (ec ∙ ap (outputs_of bound) half.tree) ea eb ef (eg ∙ ap (λ (n : ℕ). output (totalizer bound) r n) at)
+      own_is polarity bound l r first count a b f g (λ (u : ℕ). positive_of (base + (u - 1))) (ec ∙ ap (outputs_of bound) half.tree) ea eb ef (eg ∙ ap (λ (n : ℕ). output (totalizer bound) r n) at)
       (node_output bound l r first base (omega (arith, at, after)))
 
   -- the fault of a half is handed on

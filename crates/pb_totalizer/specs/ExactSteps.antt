@@ -4,10 +4,10 @@ use Rattle.std.specs.Prelude.{ℕ, ◌+◌, ◌*◌, List, [], ◌∷◌, ◌++�
 use Rattle.pb_norm.specs.BoundedSums.{BoundedSum, vars_of}
 use Rattle.pb_steps.specs.declared.step.Step.{Step}
 use Rattle.pb_derive.specs.Phases.{phases}
-use Rattle.pb_derive.specs.Reasons.{Reason, by_reason}
+use Rattle.pb_derive.specs.Justifications.{Justification, by_justification}
 use Rattle.pb_tree.specs.Pairs.{Pair, pair_of}
 use Rattle.pb_tree.specs.Tree.{Tree, node, tree_of}
-use Rattle.pb_tree.specs.TreeSteps.{leaves, meanings, output_ids, pair_reasons, reasons_along, root_reason}
+use Rattle.pb_tree.specs.TreeSteps.{leaves, reifications, output_ids, pair_justifications, justifications_along, root_justification}
 use Rattle.pb_tree.specs.Scheme.{fresh_of, output}
 use Rattle.pb_totalizer.specs.Exact.{outputs_of, limits, limit_clause}
 use Rattle.pb_totalizer.specs.Totalizer.{totalizer}
@@ -21,8 +21,8 @@ abbrev pub after_weakened : ℕ → Tree → ℕ → List ℕ
 after_weakened bound t i = if nat_lt i (outputs_of bound t) then [] else vars_of (leaves t)
 
 -- the second constraints of the parts' outputs, and the first one of the node's
-abbrev pub limit_reason : ℕ → Tree → Tree → ℕ → ℕ → Pair → Reason
-limit_reason bound l r first id p = record {
+abbrev pub limit_justification : ℕ → Tree → Tree → ℕ → ℕ → Pair → Justification
+limit_justification bound l r first id p = record {
   clause = limit_clause (outputs_of bound l) (outputs_of bound r) (output (totalizer bound) l first) (output (totalizer bound) r (first + fresh_of (totalizer bound) l))
       (output (totalizer bound) (node l r) first) p.left p.right;
   ids = after_ids bound l id p.left
@@ -34,30 +34,30 @@ limit_reason bound l r first id p = record {
 abbrev pub limit_pairs : ℕ → ℕ → ℕ → List Pair
 limit_pairs count a b = flat_map (λ i. map (pair_of i) (limits count b i)) (range_with_len 0 (a + 1))
 
-abbrev pub limit_reasons : ℕ → Tree → Tree → ℕ → ℕ → List Reason
-limit_reasons bound l r first id = map (limit_reason bound l r first id) (limit_pairs (outputs_of bound (node l r)) (outputs_of bound l) (outputs_of bound r))
+abbrev pub limit_justifications : ℕ → Tree → Tree → ℕ → ℕ → List Justification
+limit_justifications bound l r first id = map (limit_justification bound l r first id) (limit_pairs (outputs_of bound (node l r)) (outputs_of bound l) (outputs_of bound r))
 
 -- a node's own, in the order of its clauses
-abbrev pub own_reasons : ℕ → Tree → Tree → ℕ → ℕ → List Reason
-own_reasons bound l r first id =
-    pair_reasons (totalizer bound) (totalizer_pairs (bound + 1)) l r first id
-    ++ limit_reasons bound l r first id
+abbrev pub own_justifications : ℕ → Tree → Tree → ℕ → ℕ → List Justification
+own_justifications bound l r first id =
+    pair_justifications (totalizer bound) (totalizer_pairs (bound + 1)) l r first id
+    ++ limit_justifications bound l r first id
 
 -- the output of the bound, by the sum's constraint from below
-abbrev pub least_reason : ℕ → Tree → ℕ → ℕ → ℕ → Reason
-least_reason bound t first id lower = record {
+abbrev pub least_justification : ℕ → Tree → ℕ → ℕ → ℕ → Justification
+least_justification bound t first id lower = record {
   clause = output (totalizer bound) t first bound ∷ [];
   ids = map (λ k. k + 1) (output_ids (totalizer bound) t id bound) ++ lower ∷ [];
   weakened = [];
 }
 
 -- of the whole, where the sum's two constraints have the ids `lower` and `upper`
-abbrev pub exact_reasons : BoundedSum → ℕ → ℕ → ℕ → ℕ → List Reason
-exact_reasons m first id lower upper =
+abbrev pub exact_justifications : BoundedSum → ℕ → ℕ → ℕ → ℕ → List Justification
+exact_justifications m first id lower upper =
     let t = tree_of m.terms in
-    reasons_along (totalizer m.bound) (own_reasons m.bound) t first id
-    ++ least_reason m.bound t first id lower ∷ root_reason (totalizer m.bound) t first id upper ∷ []
+    justifications_along (totalizer m.bound) (own_justifications m.bound) t first id
+    ++ least_justification m.bound t first id lower ∷ root_justification (totalizer m.bound) t first id upper ∷ []
 
 -- the first fresh variable, the ids of the sum's two constraints, and the next id
 abbrev pub exact_steps : BoundedSum → ℕ → ℕ → ℕ → ℕ → List Step
-exact_steps m first lower upper next = phases next (meanings (totalizer m.bound) (tree_of m.terms) first) (map by_reason (exact_reasons m first next lower upper))
+exact_steps m first lower upper next = phases next (reifications (totalizer m.bound) (tree_of m.terms) first) (map by_justification (exact_justifications m first next lower upper))

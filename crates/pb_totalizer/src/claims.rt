@@ -2,13 +2,13 @@
 ghost use Rattle.std.specs.Prelude.{◌≡◌, ◌≤◌, ◌<◌, ◌+◌, ◌-◌, ◌*◌, ◌^◌, ◌++◌, ◌∷◌, [], length, IfOk};
 ghost use Rattle.pb_norm.specs.BoundedSums.{vars_of};
 ghost use Rattle.pb_norm.specs.Constraints.{weights};
-ghost use Rattle.pb_family.specs.laws.HandedReasons.{HandsReasons};
-ghost use Rattle.pb_totalizer.specs.laws.Sources.{HasIds, some_ids, weakened_at, pair_ids, pair_beside, row_beside, node_beside};
+ghost use Rattle.pb_family.specs.inner.HandedJustifications.{HandsJustifications};
+ghost use Rattle.pb_totalizer.specs.inner.Sources.{HasIds, some_ids, weakened_at, pair_ids, pair_beside, row_beside, node_beside};
 ghost use Rattle.pb_totalizer.specs.Totalizer.{partners};
 
 use crate::emission::least_partner;
 use pb_base::Term;
-use pb_family::{SinkFault, StepSink, take_claim};
+use pb_family::{SinkFault, StepSink, derive_claim};
 use std::alloc::{AllocError, Global};
 
 /// Where the outputs of a part have their constraints: a leaf has none, else the first one's have an id and the next.
@@ -83,7 +83,7 @@ fn leaves_beside<'a>(left: Side<'a>, i: u64, right: Side<'a>, j: u64) -> &'a [Te
 }
 
 /// That where i of the left are true and j of the right, i + j are.
-fn take_pair<T: StepSink>(
+fn derive_pair<T: StepSink>(
     alloc: Global,
     left: Side,
     i: u64,
@@ -99,15 +99,15 @@ fn take_pair<T: StepSink>(
     requires right_small { j < 2 ^ 33 }
     requires some { 1 ≤ i + j }
     requires few { (T.state sink.old).next + 1 < 2 ^ 62 }
-    ensures { HandsReasons (pair_beside left.entry right.entry own i j ∷ []) result (T.state sink.old) (T.state sink.new) }
+    ensures { HandsJustifications (pair_beside left.entry right.entry own i j ∷ []) result (T.state sink.old) (T.state sink.new) }
 {
     let ids = ids_of(alloc, left.source, i, right.source, j, own)?;
     let beside = leaves_beside(left, i, right, j);
-    take_claim(alloc, ids.as_slice(), beside, sink)
+    derive_claim(alloc, ids.as_slice(), beside, sink)
 }
 
 /// The clauses of one number of the left.
-fn take_row<T: StepSink>(
+fn derive_row<T: StepSink>(
     alloc: Global,
     left: Side,
     i: u64,
@@ -123,18 +123,18 @@ fn take_row<T: StepSink>(
     requires few { cap < 2 ^ 32 }
     requires few_right { right.count < 2 ^ 32 }
     requires room { (T.state sink.old).next + length (partners cap right.count i) < 2 ^ 62 }
-    ensures { HandsReasons (row_beside cap left.entry right.entry own i) result (T.state sink.old) (T.state sink.new) }
+    ensures { HandsJustifications (row_beside cap left.entry right.entry own i) result (T.state sink.old) (T.state sink.new) }
 {
     let low = least_partner(i);
     let high = right.count.min(cap - i) + 1;
     for place in 0..high - low {
-        take_pair(alloc, left, i, right, low + place, own, sink)?;
+        derive_pair(alloc, left, i, right, low + place, own, sink)?;
     }
     Ok(())
 }
 
 /// A node's clauses from its parts to its outputs.
-pub fn take_node<T: StepSink>(
+pub fn derive_node<T: StepSink>(
     alloc: Global,
     left: Side,
     right: Side,
@@ -149,10 +149,10 @@ pub fn take_node<T: StepSink>(
     requires few { cap < 2 ^ 32 }
     requires few_right { right.count < 2 ^ 32 }
     requires room { (T.state sink.old).next + length (node_beside cap left right own) < 2 ^ 62 }
-    ensures { HandsReasons (node_beside cap left.entry right.entry own) result (T.state sink.old) (T.state sink.new) }
+    ensures { HandsJustifications (node_beside cap left.entry right.entry own) result (T.state sink.old) (T.state sink.new) }
 {
     for i in 0..left.count + 1 {
-        take_row(alloc, left, i, right, own, cap, sink)?;
+        derive_row(alloc, left, i, right, own, cap, sink)?;
     }
     Ok(())
 }

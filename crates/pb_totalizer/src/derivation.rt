@@ -3,20 +3,20 @@ ghost use Rattle.std.specs.Prelude.{◌≡◌, ◌≤◌, ◌<◌, ◌+◌, ◌*
 ghost use Rattle.pb_norm.specs.BoundedSums.{sum_within};
 ghost use Rattle.pb_norm.specs.Constraints.{weight, weights};
 ghost use Rattle.pb_family.specs.StepSinks.{HandsSteps};
-ghost use Rattle.pb_family.specs.laws.HandedReasons.{HandsReasons};
+ghost use Rattle.pb_family.specs.inner.HandedJustifications.{HandsJustifications};
 ghost use Rattle.pb_tree.specs.Tree.{tree_of};
 ghost use Rattle.pb_tree.specs.Scheme.{fresh_of};
 ghost use Rattle.pb_totalizer.specs.Totalizer.{totalizer};
 ghost use Rattle.pb_totalizer.specs.TotalizerSteps.{totalizer_steps};
-ghost use Rattle.pb_totalizer.specs.laws.Sources.{HasIds, some_ids, root_given};
-ghost use Rattle.pb_totalizer.specs.laws.Ways.{reasons_by, all_reasons};
+ghost use Rattle.pb_totalizer.specs.inner.Sources.{HasIds, some_ids, root_given};
+ghost use Rattle.pb_totalizer.specs.laws.Polarity.{justifications_by, all_justifications};
 
 use crate::claims::{Source, push_part};
-use crate::handing::take_part;
-use crate::meanings::take_meanings;
-use crate::ways::Ways;
+use crate::handing::derive_part;
+use crate::polarity::Polarity;
+use crate::reifications::derive_reifications;
 use pb_base::Term;
-use pb_family::{SinkFault, StepSink, take_claim, take_deletions};
+use pb_family::{SinkFault, StepSink, derive_claim, derive_deletions};
 use std::alloc::{AllocError, Global};
 
 /// The ids of the constraints that the root's clause follows from.
@@ -32,7 +32,7 @@ fn root_ids(alloc: Global, root: Source, number: u64, own: u64) -> Result<Vec<u6
 }
 
 /// That not so many leaves are true, by the sum's own constraint.
-pub fn take_root<T: StepSink>(
+pub fn derive_root<T: StepSink>(
     alloc: Global,
     root: Source,
     number: u64,
@@ -42,14 +42,14 @@ pub fn take_root<T: StepSink>(
     requires room { HasIds root }
     requires small { number < 2 ^ 33 }
     requires few { (T.state sink.old).next + 1 < 2 ^ 62 }
-    ensures { HandsReasons (root_given root number own ∷ []) result (T.state sink.old) (T.state sink.new) }
+    ensures { HandsJustifications (root_given root number own ∷ []) result (T.state sink.old) (T.state sink.new) }
 {
     let ids = root_ids(alloc, root, number, own)?;
-    take_claim(alloc, ids.as_slice(), &[], sink)
+    derive_claim(alloc, ids.as_slice(), &[], sink)
 }
 
 /// The clauses of the totalizer of some terms, with that of the root.
-fn take_clauses<T: StepSink>(
+fn derive_clauses<T: StepSink>(
     alloc: Global,
     terms: &[Term],
     bound: u64,
@@ -60,11 +60,11 @@ fn take_clauses<T: StepSink>(
     requires some { 1 ≤ length terms.now }
     requires small { bound < 2 ^ 31 }
     requires ids { id + 2 * fresh_of (totalizer bound) (tree_of (weights terms.now)) < 2 ^ 62 }
-    requires room { (T.state sink.old).next + length (reasons_by Ways.Up bound terms.now id) + 1 < 2 ^ 62 }
-    ensures { HandsReasons (all_reasons bound terms.now id own) result (T.state sink.old) (T.state sink.new) }
+    requires room { (T.state sink.old).next + length (justifications_by Polarity.Up bound terms.now id) + 1 < 2 ^ 62 }
+    ensures { HandsJustifications (all_justifications bound terms.now id own) result (T.state sink.old) (T.state sink.new) }
 {
-    let root = take_part(alloc, Ways::Up, terms, bound, id, sink)?;
-    take_root(alloc, root.source, bound + 1, own, sink)
+    let root = derive_part(alloc, Polarity::Up, terms, bound, id, sink)?;
+    derive_root(alloc, root.source, bound + 1, own, sink)
 }
 
 /// Hands over the whole derivation, where `id` is the constraint's.
@@ -86,7 +86,7 @@ pub fn derive_totalizer<T: StepSink>(
     ensures { HandsSteps (totalizer_steps (sum_within terms.now bound) first id (T.state sink.old).next) result (T.state sink.old) (T.state sink.new) }
 {
     let base = sink.next_id();
-    let meant = take_meanings(alloc, terms, bound, first, sink)?;
-    take_clauses(alloc, terms, bound, base, id, sink)?;
-    take_deletions(alloc, base, 2, (meant.next - first) as u64, sink)
+    let meant = derive_reifications(alloc, terms, bound, first, sink)?;
+    derive_clauses(alloc, terms, bound, base, id, sink)?;
+    derive_deletions(alloc, base, 2, (meant.next - first) as u64, sink)
 }

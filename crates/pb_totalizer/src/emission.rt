@@ -7,14 +7,14 @@ ghost use Rattle.pb_tree.specs.Tree.{tree_of};
 ghost use Rattle.pb_tree.specs.Scheme.{fresh_of, output, tree_clauses};
 ghost use Rattle.pb_totalizer.specs.Exact.{outputs_of, exact_clauses};
 ghost use Rattle.pb_totalizer.specs.Totalizer.{totalizer};
-ghost use Rattle.pb_totalizer.specs.laws.Outputs.{output_count, output_at, clause_over, row_over, clauses_over};
-ghost use Rattle.pb_totalizer.specs.laws.Ways.{clauses_by, own_over};
+ghost use Rattle.pb_totalizer.specs.inner.Outputs.{output_count, output_at, clause_over, row_over, clauses_over};
+ghost use Rattle.pb_totalizer.specs.laws.Polarity.{clauses_by, own_over};
 
 use crate::limits::emit_limits;
 use crate::outputs::{Outputs, Run};
-use crate::ways::Ways;
+use crate::polarity::Polarity;
 use pb_base::{Failed, Term};
-use pb_family::{ClauseSink, take_pair};
+use pb_family::{ClauseSink, derive_pair};
 
 /// Hands over that where i of the left and j of the right are true, i + j are.
 fn hand_over<S: ClauseSink>(
@@ -95,7 +95,7 @@ fn emit_node<S: ClauseSink>(
 
 /// Hands over a node's own clauses.
 fn emit_own<S: ClauseSink>(
-    ways: Ways,
+    polarity: Polarity,
     left: &Outputs,
     right: &Outputs,
     own: &Outputs,
@@ -106,12 +106,12 @@ fn emit_own<S: ClauseSink>(
     requires own_count { output_count own.now ≡ min (output_count left.now + output_count right.now) cap }
     requires few { cap < 2 ^ 32 }
     requires few_right { output_count right.now < 2 ^ 32 }
-    ensures { Hands (own_over ways cap left.now right.now own.now) result (S.state sink.old) (S.state sink.new) }
+    ensures { Hands (own_over polarity cap left.now right.now own.now) result (S.state sink.old) (S.state sink.new) }
 {
     emit_node(left, right, own, cap, sink)?;
-    match ways {
-        Ways::Up => Ok(()),
-        Ways::Both => emit_limits(left, right, own, sink),
+    match polarity {
+        Polarity::Up => Ok(()),
+        Polarity::Both => emit_limits(left, right, own, sink),
     }
 }
 
@@ -124,7 +124,7 @@ pub struct Part {
 
 /// Hands over the clauses of a part, whose fresh variables begin at a number.
 fn emit_part<S: ClauseSink>(
-    ways: Ways,
+    polarity: Polarity,
     terms: &[Term],
     bound: u64,
     first: u32,
@@ -134,7 +134,7 @@ fn emit_part<S: ClauseSink>(
     requires small { bound < 2 ^ 31 }
     requires low { 1 ≤ first }
     requires fits { first + fresh_of (totalizer bound) (tree_of (weights terms.now)) ≤ 2 ^ 31 }
-    ensures hands { Hands (clauses_by ways bound (tree_of (weights terms.now)) first) result (S.state sink.old) (S.state sink.new) }
+    ensures hands { Hands (clauses_by polarity bound (tree_of (weights terms.now)) first) result (S.state sink.old) (S.state sink.new) }
     ensures outputs { IfOk result (λ part. output_at part.outputs ≡ output (totalizer bound) (tree_of (weights terms.now)) first) }
     ensures count { IfOk result (λ part. output_count part.outputs ≡ outputs_of bound (tree_of (weights terms.now))) }
     ensures next { IfOk result (λ part. part.next ≡ first + fresh_of (totalizer bound) (tree_of (weights terms.now))) }
@@ -146,15 +146,15 @@ fn emit_part<S: ClauseSink>(
         });
     }
     let (lefts, rights) = terms.split_at(terms.len() / 2);
-    let left = emit_part(ways, lefts, bound, first, sink)?;
-    let right = emit_part(ways, rights, bound, left.next, sink)?;
+    let left = emit_part(polarity, lefts, bound, first, sink)?;
+    let right = emit_part(polarity, rights, bound, left.next, sink)?;
     let cap = bound + 1;
     let count = (left.outputs.count() + right.outputs.count()).min(cap);
     let outputs = Outputs::Fresh(Run {
         first: right.next,
         count,
     });
-    emit_own(ways, &left.outputs, &right.outputs, &outputs, cap, sink)?;
+    emit_own(polarity, &left.outputs, &right.outputs, &outputs, cap, sink)?;
     Ok(Part {
         outputs,
         next: right.next + count as u32,
@@ -175,7 +175,7 @@ pub fn emit_whole<S: ClauseSink>(
     requires fits { first + fresh_of (totalizer bound) (tree_of (weights terms.now)) ≤ 2 ^ 31 }
     ensures { Hands (tree_clauses (totalizer bound) (tree_of (weights terms.now)) first) result (S.state sink.old) (S.state sink.new) }
 {
-    let root = emit_part(Ways::Up, terms, bound, first, sink)?;
+    let root = emit_part(Polarity::Up, terms, bound, first, sink)?;
     sink.clause(&[root.outputs.at(bound + 1).not()])
 }
 
@@ -193,8 +193,8 @@ pub fn emit_exact<S: ClauseSink>(
     requires fits { first + fresh_of (totalizer bound) (tree_of (weights terms.now)) ≤ 2 ^ 31 }
     ensures { Hands (exact_clauses (sum_within terms.now bound) first) result (S.state sink.old) (S.state sink.new) }
 {
-    let root = emit_part(Ways::Both, terms, bound, first, sink)?;
+    let root = emit_part(Polarity::Both, terms, bound, first, sink)?;
     let least = [root.outputs.at(bound)];
     let most = [root.outputs.at(bound + 1).not()];
-    take_pair(&least, &most, sink)
+    derive_pair(&least, &most, sink)
 }

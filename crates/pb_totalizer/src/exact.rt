@@ -8,8 +8,8 @@ ghost use Rattle.pb_totalizer.specs.laws.UnitTerms.{unit_term};
 
 use crate::emission::emit_exact;
 use crate::exact_derivation::derive_exact;
+use crate::polarity::Polarity;
 use crate::size::size_of;
-use crate::ways::Ways;
 use pb_base::{Lit, Lits, NoMemory, Term};
 use pb_family::{Built, ClauseSink, Pair, SinkFault, StepSink};
 use std::alloc::{AllocError, Global};
@@ -66,7 +66,7 @@ impl Exact {
     {
         let terms = unit_terms(alloc, lits.as_slice())?;
         let bound = number as u64;
-        let size = size_of(Ways::Both, terms.as_slice(), bound);
+        let size = size_of(Polarity::Both, terms.as_slice(), bound);
         if size.fresh > budget {
             return Ok(Built::Over);
         }

@@ -3,23 +3,23 @@ ghost use Rattle.std.specs.Prelude.{◌≡◌, ◌≤◌, ◌<◌, ◌+◌, ◌*
 ghost use Rattle.pb_norm.specs.BoundedSums.{sum_within};
 ghost use Rattle.pb_norm.specs.Constraints.{weight, weights};
 ghost use Rattle.pb_family.specs.StepSinks.{HandsSteps};
-ghost use Rattle.pb_family.specs.laws.HandedReasons.{HandsReasons};
+ghost use Rattle.pb_family.specs.inner.HandedJustifications.{HandsJustifications};
 ghost use Rattle.pb_tree.specs.Tree.{tree_of};
 ghost use Rattle.pb_tree.specs.Scheme.{fresh_of};
 ghost use Rattle.pb_totalizer.specs.ExactSteps.{exact_steps};
 ghost use Rattle.pb_totalizer.specs.Totalizer.{totalizer};
-ghost use Rattle.pb_totalizer.specs.laws.LimitSources.{seconds_from, least_given};
-ghost use Rattle.pb_totalizer.specs.laws.Sources.{HasIds};
-ghost use Rattle.pb_totalizer.specs.laws.Ways.{reasons_by, exact_all_reasons};
+ghost use Rattle.pb_totalizer.specs.inner.LimitSources.{seconds_from, least_given};
+ghost use Rattle.pb_totalizer.specs.inner.Sources.{HasIds};
+ghost use Rattle.pb_totalizer.specs.laws.Polarity.{justifications_by, exact_all_justifications};
 
 use crate::claims::Source;
-use crate::derivation::take_root;
-use crate::handing::take_part;
+use crate::derivation::derive_root;
+use crate::handing::derive_part;
 use crate::limit_claims::push_second;
-use crate::meanings::take_meanings;
-use crate::ways::Ways;
+use crate::polarity::Polarity;
+use crate::reifications::derive_reifications;
 use pb_base::Term;
-use pb_family::{SinkFault, StepSink, take_claim, take_deletions};
+use pb_family::{SinkFault, StepSink, derive_claim, derive_deletions};
 use std::alloc::{AllocError, Global};
 
 /// The ids of the constraints that the clause of the bound's output follows from.
@@ -36,7 +36,7 @@ fn least_ids(alloc: Global, root: Source, number: u64, lower: u64) -> Result<Vec
 }
 
 /// That so many leaves are true, by the sum's constraint from below.
-fn take_least<T: StepSink>(
+fn derive_least<T: StepSink>(
     alloc: Global,
     root: Source,
     number: u64,
@@ -47,14 +47,14 @@ fn take_least<T: StepSink>(
     requires some { 1 ≤ number }
     requires small { number < 2 ^ 33 }
     requires few { (T.state sink.old).next + 1 < 2 ^ 62 }
-    ensures { HandsReasons (least_given root number lower ∷ []) result (T.state sink.old) (T.state sink.new) }
+    ensures { HandsJustifications (least_given root number lower ∷ []) result (T.state sink.old) (T.state sink.new) }
 {
     let ids = least_ids(alloc, root, number, lower)?;
-    take_claim(alloc, ids.as_slice(), &[], sink)
+    derive_claim(alloc, ids.as_slice(), &[], sink)
 }
 
 /// The clauses of the exact sum of some terms, with those of the root.
-fn take_exact_clauses<T: StepSink>(
+fn derive_exact_clauses<T: StepSink>(
     alloc: Global,
     terms: &[Term],
     bound: u64,
@@ -67,12 +67,12 @@ fn take_exact_clauses<T: StepSink>(
     requires from { 1 ≤ bound }
     requires small { bound < 2 ^ 31 }
     requires ids { id + 2 * fresh_of (totalizer bound) (tree_of (weights terms.now)) < 2 ^ 62 }
-    requires room { (T.state sink.old).next + length (reasons_by Ways.Both bound terms.now id) + 2 < 2 ^ 62 }
-    ensures { HandsReasons (exact_all_reasons bound terms.now id lower upper) result (T.state sink.old) (T.state sink.new) }
+    requires room { (T.state sink.old).next + length (justifications_by Polarity.Both bound terms.now id) + 2 < 2 ^ 62 }
+    ensures { HandsJustifications (exact_all_justifications bound terms.now id lower upper) result (T.state sink.old) (T.state sink.new) }
 {
-    let root = take_part(alloc, Ways::Both, terms, bound, id, sink)?;
-    take_least(alloc, root.source, bound, lower, sink)?;
-    take_root(alloc, root.source, bound + 1, upper, sink)
+    let root = derive_part(alloc, Polarity::Both, terms, bound, id, sink)?;
+    derive_least(alloc, root.source, bound, lower, sink)?;
+    derive_root(alloc, root.source, bound + 1, upper, sink)
 }
 
 /// Hands over the whole derivation, where `lower` is the id of the constraint from below, and `upper` of the one from above.
@@ -95,7 +95,7 @@ pub fn derive_exact<T: StepSink>(
     ensures { HandsSteps (exact_steps (sum_within terms.now bound) first lower upper (T.state sink.old).next) result (T.state sink.old) (T.state sink.new) }
 {
     let base = sink.next_id();
-    let meant = take_meanings(alloc, terms, bound, first, sink)?;
-    take_exact_clauses(alloc, terms, bound, base, lower, upper, sink)?;
-    take_deletions(alloc, base, 2, (meant.next - first) as u64, sink)
+    let meant = derive_reifications(alloc, terms, bound, first, sink)?;
+    derive_exact_clauses(alloc, terms, bound, base, lower, upper, sink)?;
+    derive_deletions(alloc, base, 2, (meant.next - first) as u64, sink)
 }

@@ -9,11 +9,11 @@ mod exact_derivation;
 mod handing;
 mod limit_claims;
 mod limits;
-mod meanings;
 mod outputs;
+mod polarity;
+mod reifications;
 mod size;
 mod totalizer;
-mod ways;
 
 pub use exact::Exact;
 pub use totalizer::Totalizer;

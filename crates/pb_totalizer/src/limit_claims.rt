@@ -2,14 +2,14 @@
 ghost use Rattle.std.specs.Prelude.{◌≡◌, ◌≤◌, ◌<◌, ◌+◌, ◌^◌, ◌++◌, ◌∷◌, [], length, IfOk};
 ghost use Rattle.pb_norm.specs.BoundedSums.{vars_of};
 ghost use Rattle.pb_norm.specs.Constraints.{weights};
-ghost use Rattle.pb_family.specs.laws.HandedReasons.{HandsReasons};
+ghost use Rattle.pb_family.specs.inner.HandedJustifications.{HandsJustifications};
 ghost use Rattle.pb_totalizer.specs.Exact.{limits};
-ghost use Rattle.pb_totalizer.specs.laws.LimitSources.{seconds_from, ids_after, weakened_after, limit_ids, limit_beside, limit_row_beside, limits_beside};
-ghost use Rattle.pb_totalizer.specs.laws.Sources.{HasIds};
+ghost use Rattle.pb_totalizer.specs.inner.LimitSources.{seconds_from, ids_after, weakened_after, limit_ids, limit_beside, limit_row_beside, limits_beside};
+ghost use Rattle.pb_totalizer.specs.inner.Sources.{HasIds};
 
 use crate::claims::{Side, Source};
 use pb_base::Term;
-use pb_family::{SinkFault, StepSink, take_claim};
+use pb_family::{SinkFault, StepSink, derive_claim};
 use std::alloc::{AllocError, Global};
 
 /// Adds the id of the second constraint of a number's output, if it has one.
@@ -79,7 +79,7 @@ fn leaves_after<'a>(left: Side<'a>, i: u64, right: Side<'a>, j: u64) -> &'a [Ter
 }
 
 /// That where at most i of the left are true and at most j of the right, no more than i + j are.
-fn take_limit<T: StepSink>(
+fn derive_limit<T: StepSink>(
     alloc: Global,
     left: Side,
     i: u64,
@@ -95,15 +95,15 @@ fn take_limit<T: StepSink>(
     requires right_small { j < 2 ^ 32 }
     requires within { i + j < left.count + right.count }
     requires few { (T.state sink.old).next + 1 < 2 ^ 62 }
-    ensures { HandsReasons (limit_beside left.entry right.entry own i j ∷ []) result (T.state sink.old) (T.state sink.new) }
+    ensures { HandsJustifications (limit_beside left.entry right.entry own i j ∷ []) result (T.state sink.old) (T.state sink.new) }
 {
     let ids = ids_of(alloc, left, i, right, j, own)?;
     let beside = leaves_after(left, i, right, j);
-    take_claim(alloc, ids.as_slice(), beside, sink)
+    derive_claim(alloc, ids.as_slice(), beside, sink)
 }
 
 /// The clauses of one number of the left.
-fn take_limit_row<T: StepSink>(
+fn derive_limit_row<T: StepSink>(
     alloc: Global,
     left: Side,
     i: u64,
@@ -120,17 +120,17 @@ fn take_limit_row<T: StepSink>(
     requires few { count < 2 ^ 32 }
     requires few_right { right.count < 2 ^ 32 }
     requires room { (T.state sink.old).next + length (limits count right.count i) < 2 ^ 62 }
-    ensures { HandsReasons (limit_row_beside count left.entry right.entry own i) result (T.state sink.old) (T.state sink.new) }
+    ensures { HandsJustifications (limit_row_beside count left.entry right.entry own i) result (T.state sink.old) (T.state sink.new) }
 {
     let high = (right.count + 1).min(count - i);
     for j in 0..high {
-        take_limit(alloc, left, i, right, j, own, sink)?;
+        derive_limit(alloc, left, i, right, j, own, sink)?;
     }
     Ok(())
 }
 
 /// A node's clauses from its outputs to its parts.
-pub fn take_limits<T: StepSink>(
+pub fn derive_limits<T: StepSink>(
     alloc: Global,
     left: Side,
     right: Side,
@@ -146,10 +146,10 @@ pub fn take_limits<T: StepSink>(
     requires few { count < 2 ^ 32 }
     requires few_right { right.count < 2 ^ 32 }
     requires room { (T.state sink.old).next + length (limits_beside count left right own) < 2 ^ 62 }
-    ensures { HandsReasons (limits_beside count left.entry right.entry own) result (T.state sink.old) (T.state sink.new) }
+    ensures { HandsJustifications (limits_beside count left.entry right.entry own) result (T.state sink.old) (T.state sink.new) }
 {
     for i in 0..left.count + 1 {
-        take_limit_row(alloc, left, i, right, own, count, sink)?;
+        derive_limit_row(alloc, left, i, right, own, count, sink)?;
     }
     Ok(())
 }

@@ -1,7 +1,7 @@
 //! The clauses from a node's outputs to its parts, one after another.
 ghost use Rattle.std.specs.Prelude.{◌≤◌, ◌<◌, ◌+◌, ◌^◌, ◌∷◌, []};
 ghost use Rattle.pb_family.specs.Handing.{Hands};
-ghost use Rattle.pb_totalizer.specs.laws.Outputs.{output_count, limit_over, limit_row_over, limits_over};
+ghost use Rattle.pb_totalizer.specs.inner.Outputs.{output_count, limit_over, limit_row_over, limits_over};
 
 use crate::outputs::Outputs;
 use pb_base::Failed;

@@ -16,7 +16,7 @@ use Rattle.pb_tree.proofs.Sums.{IsLawful}
 pub all_from_each : {X : Type 0} (P : X → Type 0) (xs : List X) → ((x : X) → Contains xs x → P x) → All P xs
 all_from_each P xs each = All-weaker (Contains xs) P each xs (All-contains_itself xs)
 
--- ---- meanings
+-- ---- reifications
 
 -- the output of each value of a part says whether the sum reaches it
 abbrev pub OutputsMean : Scheme → (ℕ → Bool) → Tree → ℕ → ℕ → Type 0
@@ -26,8 +26,8 @@ OutputsMean s a t first sum = (u : ℕ) → Contains (values s t) u → lit_valu
 abbrev pub IsOutputVar : Scheme → Tree → ℕ → ℕ → Type 0
 IsOutputVar s t first n = (u : ℕ) × Contains (values s t) u × (n ≡ (output s t first u).var)
 
--- What clauses along a tree need: they name outputs alone, and hold where outputs have their meanings.
-pub record IsByMeaning (s : Scheme) (own : Tree → Tree → ℕ → List (List Lit)) : Type 0 where
+-- What clauses along a tree need: they name outputs alone, and hold where outputs have their reifications.
+pub record IsByReification (s : Scheme) (own : Tree → Tree → ℕ → List (List Lit)) : Type 0 where
   pub names : (l r : Tree) (first : ℕ) (c : List Lit) (k : Lit) → Contains (own l r first) c → Contains c k
       → IsOutputVar s l first k.var ⊎ (IsOutputVar s r (first + fresh_of s l) k.var ⊎ IsOutputVar s (node l r) first k.var)
   pub holds : (l r : Tree) (first : ℕ) (a : ℕ → Bool) (x y : ℕ) → x ≤ leaf_sum s.weight l → y ≤ leaf_sum s.weight r
@@ -64,7 +64,7 @@ parts_of_clause s own l r first c h =
       | inr rest ↦ inr (Contains-append_cases rights (own l r first) c rest)
     ]
 
-pub along_named : (s : Scheme) (W : ℕ → Type 0) → IsLawful s W → (own : Tree → Tree → ℕ → List (List Lit)) → IsByMeaning s own
+pub along_named : (s : Scheme) (W : ℕ → Type 0) → IsLawful s W → (own : Tree → Tree → ℕ → List (List Lit)) → IsByReification s own
     → (t : Tree) (first : ℕ) (c : List Lit) → Contains (clauses_along s own t first) c → (k : Lit) → Contains c k → IsNamed s t first k.var
 along_named s W laws own by empty first c h k m = absurd (Contains-nil c h)
 along_named s W laws own by (leaf t) first c h k m = absurd (Contains-nil c h)
@@ -144,7 +144,7 @@ named_below s t first n below named =
       | inr fresh ↦ fresh.1
     ]
 
--- an assignment that agrees below the fresh variables, makes all clauses true and gives each output its meaning
+-- an assignment that agrees below the fresh variables, makes all clauses true and gives each output its reification
 pub record Extension (s : Scheme) (own : Tree → Tree → ℕ → List (List Lit)) (v : ℕ → Bool) (t : Tree) (first : ℕ) : Type 0 where
   pub now : ℕ → Bool
   pub agrees : AgreeBelow first v now
@@ -160,7 +160,7 @@ leaf_means s v t some u is =
           off ∙ sym (lt-leb u (passing s (lit_value v) t) (omega arith))
     ]
 
-pub extension : (s : Scheme) (W : ℕ → Type 0) → IsLawful s W → 1 ≤ s.cap → (own : Tree → Tree → ℕ → List (List Lit)) → IsByMeaning s own → (v : ℕ → Bool) (t : Tree) (first : ℕ)
+pub extension : (s : Scheme) (W : ℕ → Type 0) → IsLawful s W → 1 ≤ s.cap → (own : Tree → Tree → ℕ → List (List Lit)) → IsByReification s own → (v : ℕ → Bool) (t : Tree) (first : ℕ)
     → ((u : Weighted) → IsLeafOf t u → u.lit.var < first) → ((u : Weighted) → IsLeafOf t u → 1 ≤ s.weight u) → Extension s own v t first
 extension s W laws cap own by v empty first below positive = record {
   now = v;

@@ -20,7 +20,7 @@ use Rattle.pb_tree.specs.Tree.{Tree, node, tree_of, IsLeafOf, leaf_sum}
 use Rattle.pb_tree.specs.Scheme.{Scheme, values, fresh_of, output, own_of, own_count_of, clauses_of, clause_count_of, tree_clauses}
 use Rattle.pb_tree.proofs.Sums.{IsLawful}
 use Rattle.pb_tree.proofs.Pushing.{any, passing, reach_value, reach_output, push_leaf, reach_all, reach_all_with, reach_whole}
-use Rattle.pb_tree.proofs.ByMeaning.{lawful_by_meaning}
+use Rattle.pb_tree.proofs.ByReification.{lawful_by_reification}
 use Rattle.pb_tree.proofs.Extending.{all_from_each, IsNamed, output_named, along_named, along_counted, extension}
 use Rattle.pb_tree.proofs.Splitting.{split_sum, leaf_listed, listed_leaf}
 
@@ -140,7 +140,7 @@ tree_extends s W laws c suits first below v holds =
     let cs = tree_clauses s t first in
     let top = output s t first s.cap in
     let cut = suits.cut in
-    let ext = extension s W laws (omega arith) (own_of s) (lawful_by_meaning s W laws) v t first (leaf_below first c.terms below) (leaf_positive s c suits) in
+    let ext = extension s W laws (omega arith) (own_of s) (lawful_by_reification s W laws) v t first (leaf_below first c.terms below) (leaf_positive s c suits) in
     let w = ext.now in
     let sum = passing_sum s c suits (lit_value v) in
     let off = ext.means s.cap (cap_value s W laws c suits) ∙ lt-leb s.cap (leaf_sum (passing s (lit_value v)) t) (omega arith) in
@@ -172,7 +172,7 @@ tree_names s W laws c suits first =
     let Named : Lit → Type 0 = λ l. Contains (map (λ t. t.lit.var) ts) l.var ⊎ ((first ≤ l.var) × (l.var < first + fresh_of s t)) in
     all_from_each (All Named) (tree_clauses s t first) (λ d h. all_from_each Named d (λ k m.
     named_of s ts first k.var (elim (Contains-append_cases (clauses_of s t first) ((negated top ∷ []) ∷ []) d h) as (λ _. IsNamed s t first k.var) [
-      | inl inside ↦ along_named s W laws (own_of s) (lawful_by_meaning s W laws) t first d inside k m
+      | inl inside ↦ along_named s W laws (own_of s) (lawful_by_reification s W laws) t first d inside k m
       | inr last ↦ elim (Contains-cons_cases (negated top ∷ []) [] d last) as (λ _. IsNamed s t first k.var) [
         | inl e ↦ elim (Contains-cons_cases (negated top) [] k (subst (λ (d : List Lit). Contains d k) (sym e) m)) as (λ _. IsNamed s t first k.var) [
           | inl same ↦ subst (λ (l : Lit). IsNamed s t first l.var) same (output_named s W laws t first s.cap (cap_value s W laws c suits))

@@ -1,7 +1,7 @@
 pub mod AlongDerives
-pub mod AlongReasons
+pub mod AlongJustifications
 pub mod AlongShort
-pub mod ByMeaning
+pub mod ByReification
 pub mod Extending
 pub mod Halves
 pub mod Laws
@@ -9,7 +9,7 @@ pub mod Lists
 pub mod Numbers
 pub mod PairCounts
 pub mod PairLists
-pub mod PairReasons
+pub mod PairJustifications
 pub mod Pieces
 pub mod Places
 pub mod Pushing
@@ -20,7 +20,7 @@ pub mod TreeCounts
 pub mod TreeDerives
 pub mod TreeHalves
 pub mod TreeHanded
-pub mod TreeMeanings
+pub mod TreeReifications
 pub mod TreeParts
 pub mod TreeRows
 pub mod TreeShort

@@ -9,24 +9,24 @@ use Rattle.pb_norm.specs.Reduction.{opposite}
 use Rattle.pb_steps.specs.Database.{Database}
 use Rattle.pb_derive.specs.Derivations.{as_constraint, IsReadyFor, Derives}
 use Rattle.pb_derive.specs.Later.{Knows}
-use Rattle.pb_derive.specs.Reasons.{Reason, by_reason}
-use Rattle.pb_derive.proofs.Justified.{MeaningsKnown, IsJustified, IsWhole, room_of, stands_later}
+use Rattle.pb_derive.specs.Justifications.{Justification, by_justification}
+use Rattle.pb_derive.proofs.Justified.{ReificationsKnown, IsJustified, IsWhole, room_of, stands_later}
 use Rattle.pb_derive.proofs.Phases.{phases_few}
-use Rattle.pb_derive.proofs.ReasonClauses.{reason_clauses, clauses-reasons}
+use Rattle.pb_derive.proofs.JustificationClauses.{justification_clauses, clauses-justifications}
 use Rattle.pb_family.specs.Families.{VarsBelow}
 use Rattle.pb_tree.specs.Pairs.{Pair}
 use Rattle.pb_tree.specs.Scheme.{Scheme, values, fresh_of, tree_clauses}
 use Rattle.pb_tree.specs.Tree.{Tree, node, tree_of}
-use Rattle.pb_tree.specs.TreeSteps.{leaves, meanings, output_ids, part_ids, part_weakened, pair_reason, pair_reasons, reasons, root_reason, tree_reasons, tree_steps}
+use Rattle.pb_tree.specs.TreeSteps.{leaves, reifications, output_ids, part_ids, part_weakened, pair_justification, pair_justifications, justifications, root_justification, tree_justifications, tree_steps}
 use Rattle.pb_tree.proofs.AlongDerives.{Weighs, leaves_positive as terms_positive, over_terms, terms_derive}
-use Rattle.pb_tree.proofs.AlongReasons.{along_whole}
+use Rattle.pb_tree.proofs.AlongJustifications.{along_whole}
 use Rattle.pb_tree.proofs.Laws.{Suits, cap_value, tree_names}
-use Rattle.pb_tree.proofs.PairReasons.{IsByPairs, IsPositive, tree_reasons_clauses, tree_justified}
+use Rattle.pb_tree.proofs.PairJustifications.{IsByPairs, IsPositive, tree_justifications_clauses, tree_justified}
 use Rattle.pb_tree.proofs.Sums.{IsLawful}
-use Rattle.pb_tree.proofs.TreeMeanings.{length-meanings}
+use Rattle.pb_tree.proofs.TreeReifications.{length-reifications}
 use Rattle.pb_tree.proofs.TreeRows.{leaves_of}
 
--- ---- the reasons by themselves
+-- ---- the justifications by themselves
 
 pub not_empty : (is js : List ℕ) (i : ℕ) → is ++ (js ++ i ∷ []) ≢ []
 not_empty [] [] i e = absurd (omega (arith, ap length e))
@@ -48,24 +48,24 @@ part_up_to vars t zero h = mapped (leaves t) h
     mapped (w ∷ ws) k = All-cons (UpTo vars) w.lit.var (vars_of ws) (All-head (λ (w : Weighted). w.lit.var ≤ vars) w ws k) (mapped ws (All-tail (λ (w : Weighted). w.lit.var ≤ vars) w ws k))
 part_up_to vars t (suc u) h = All-nil (UpTo vars)
 
-pub pairs_whole : (vars : ℕ) (s : Scheme) (l r : Tree) (first id : ℕ) (ps : List Pair) → All (λ w. w.lit.var ≤ vars) (leaves (node l r)) → All (IsWhole vars) (map (pair_reason s l r first id) ps)
+pub pairs_whole : (vars : ℕ) (s : Scheme) (l r : Tree) (first id : ℕ) (ps : List Pair) → All (λ w. w.lit.var ≤ vars) (leaves (node l r)) → All (IsWhole vars) (map (pair_justification s l r first id) ps)
 pairs_whole vars s l r first id [] h = All-nil (IsWhole vars)
 pairs_whole vars s l r first id (p ∷ ps) h =
     let parts = All-append_both (λ (w : Weighted). w.lit.var ≤ vars) (leaves l) (leaves r) h in
-    All-cons (IsWhole vars) (pair_reason s l r first id p) (map (pair_reason s l r first id) ps)
+    All-cons (IsWhole vars) (pair_justification s l r first id p) (map (pair_justification s l r first id) ps)
     (record {
       some = not_empty (part_ids s l id p.left) (part_ids s r (id + 2 * fresh_of s l) p.right) (id + 2 * (fresh_of s l + fresh_of s r + s.place (min (p.left + p.right) s.cap) (values s (node l r))) + 1);
       vars_known = All-append (UpTo vars) (part_weakened l p.left) (part_weakened r p.right) (part_up_to vars l p.left parts.0) (part_up_to vars r p.right parts.1);
     })
     (pairs_whole vars s l r first id ps h)
 
-pub reasons_whole : (vars : ℕ) (s : Scheme) (pairs : List ℕ → List ℕ → List Pair) (t : Tree) (first id : ℕ) → All (λ w. w.lit.var ≤ vars) (leaves t) → All (IsWhole vars) (reasons s pairs t first id)
-reasons_whole vars s pairs t first id h = along_whole vars s (pair_reasons s pairs) (λ l r first id k. pairs_whole vars s l r first id (pairs (values s l) (values s r)) k) t first id h
+pub justifications_whole : (vars : ℕ) (s : Scheme) (pairs : List ℕ → List ℕ → List Pair) (t : Tree) (first id : ℕ) → All (λ w. w.lit.var ≤ vars) (leaves t) → All (IsWhole vars) (justifications s pairs t first id)
+justifications_whole vars s pairs t first id h = along_whole vars s (pair_justifications s pairs) (λ l r first id k. pairs_whole vars s l r first id (pairs (values s l) (values s r)) k) t first id h
 
-tree_whole : (vars : ℕ) (s : Scheme) (pairs : List ℕ → List ℕ → List Pair) (t : Tree) (first id own : ℕ) → All (λ w. w.lit.var ≤ vars) (leaves t) → All (IsWhole vars) (tree_reasons s pairs t first id own)
+tree_whole : (vars : ℕ) (s : Scheme) (pairs : List ℕ → List ℕ → List Pair) (t : Tree) (first id own : ℕ) → All (λ w. w.lit.var ≤ vars) (leaves t) → All (IsWhole vars) (tree_justifications s pairs t first id own)
 tree_whole vars s pairs t first id own h =
-    All-append (IsWhole vars) (reasons s pairs t first id) (root_reason s t first id own ∷ []) (reasons_whole vars s pairs t first id h)
-    (All-cons (IsWhole vars) (root_reason s t first id own) [] (record { some = not_empty_two (output_ids s t id s.cap) own; vars_known = All-nil (UpTo vars) }) (All-nil (IsWhole vars)))
+    All-append (IsWhole vars) (justifications s pairs t first id) (root_justification s t first id own ∷ []) (justifications_whole vars s pairs t first id h)
+    (All-cons (IsWhole vars) (root_justification s t first id own) [] (record { some = not_empty_two (output_ids s t id s.cap) own; vars_known = All-nil (UpTo vars) }) (All-nil (IsWhole vars)))
 
 -- ---- the whole
 
@@ -88,23 +88,23 @@ module _ (s : Scheme) (W : ℕ → Type 0) (laws : IsLawful s W) (pairs : List �
   pub leaves_positive : IsPositive s t
   leaves_positive = terms_positive s pairs by ts weighs
 
-  -- the reasons are of the tree's clauses
-  pub clauses_are : (first id own : ℕ) → reason_clauses (tree_reasons s pairs t first id own) ≡ tree_clauses s t first
-  clauses_are first id own = clauses-reasons (tree_reasons s pairs t first id own) ∙ tree_reasons_clauses s pairs by t first id own leaves_positive
+  -- the justifications are of the tree's clauses
+  pub clauses_are : (first id own : ℕ) → justification_clauses (tree_justifications s pairs t first id own) ≡ tree_clauses s t first
+  clauses_are first id own = clauses-justifications (tree_justifications s pairs t first id own) ∙ tree_justifications_clauses s pairs by t first id own leaves_positive
 
   -- three lines for each fresh variable, and two for each clause
   pub tree_few : (first id next : ℕ) → length (tree_steps s pairs t first id next) ≤ 8 * (fresh + length (tree_clauses s t first))
   tree_few first id next =
       omega (
         arith,
-        phases_few next (meanings s t first) (map by_reason (tree_reasons s pairs t first next id)),
-        length-meanings s t first,
+        phases_few next (reifications s t first) (map by_justification (tree_justifications s pairs t first next id)),
+        length-reifications s t first,
         ap length (clauses_are first next id),
       )
 
   module _ (light : weight m.terms < 2 ^ 100) (first id : ℕ) (db : Database) (below : VarsBelow first m.terms) (ready : IsReadyFor m first (fresh_of s (tree_of m.terms)) id db) where
-    abbrev rs : List Reason
-    rs = tree_reasons s pairs t first db.next id
+    abbrev rs : List Justification
+    rs = tree_justifications s pairs t first db.next id
 
     own_known : (K : ℕ → Constraint → Type 0) → K id (as_constraint m) → K id (record { terms = map opposite (leaves t); degree = weight (leaves t) - m.bound })
     own_known K held =
@@ -112,7 +112,7 @@ module _ (s : Scheme) (W : ℕ → Type 0) (laws : IsLawful s W) (pairs : List �
         let same : as_constraint m ≡ record { terms = map opposite (leaves t); degree = weight (leaves t) - m.bound } = λ i. record { terms = map opposite (sym is i); degree = weight (sym is i) - m.bound } in
         subst (K id) same held
 
-    justified : (K : ℕ → Constraint → Type 0) → MeaningsKnown K db.next (meanings s t first) → K id (as_constraint m) → All (IsJustified K) rs
+    justified : (K : ℕ → Constraint → Type 0) → ReificationsKnown K db.next (reifications s t first) → K id (as_constraint m) → All (IsJustified K) rs
     justified K known held =
         let total : weight (leaves t) ≡ weight ts = ap weight (leaves_of ts) in
         let passes = suits.passes in
@@ -121,5 +121,5 @@ module _ (s : Scheme) (W : ℕ → Type 0) (laws : IsLawful s W) (pairs : List �
     pub tree_derives : Derives db (tree_steps s pairs (tree_of m.terms) first id db.next) (tree_clauses s (tree_of m.terms) first) (first + fresh_of s (tree_of m.terms))
     tree_derives =
         terms_derive s pairs by ts weighs light first db below (room_of m first fresh id db ready) rs (tree_clauses s t first)
-        (tree_reasons_clauses s pairs by t first db.next id leaves_positive) (tree_names s W laws m suits first) (λ vars h. tree_whole vars s pairs t first db.next id h)
+        (tree_justifications_clauses s pairs by t first db.next id leaves_positive) (tree_names s W laws m suits first) (λ vars h. tree_whole vars s pairs t first db.next id h)
         (λ end later known. justified (Knows end) known (stands_later (λ v. v < first + fresh) db end id (as_constraint m) ready.numbered later ready.stands))

@@ -1,4 +1,4 @@
--- Meanings and clauses along a tree that are handed over part by part.
+-- Reifications and clauses along a tree that are handed over part by part.
 use Rattle.std.proofs.Common.{◌≡◌, ◌≤◌, ◌<◌, ◌+◌, ◌-◌, ◌*◌, ◌++◌, ℕ, zero, suc, List, [], ◌∷◌, length, map, refl, sym, ap, ◌∙◌, arith, append-nil, length-append}
 use Rattle.std.specs.Prelude.{Result, IsErrAnd}
 use Rattle.std.specs.List.{flat_map, range_with_len}
@@ -7,84 +7,84 @@ use Rattle.std.proofs.lemmas.List.Concat.{flat_map-cons}
 use Rattle.pb_steps.specs.declared.step.Step.{Step}
 use Rattle.pb_steps.specs.declared.step.Step.TheVariants.{Out}
 use Rattle.pb_derive.specs.Claims.{claim_steps}
-use Rattle.pb_derive.specs.Meanings.{Meaning, meaning_steps}
-use Rattle.pb_derive.specs.Reasons.{Reason, by_reason}
+use Rattle.pb_derive.specs.Reifications.{Reification, reification_steps}
+use Rattle.pb_derive.specs.Justifications.{Justification, by_justification}
 use Rattle.pb_family.specs.StepSinks.{StepState, TakesSteps, StopsInSteps, HandsSteps}
 use Rattle.pb_family.specs.declared.sink.SinkFault.{SinkFault}
 use Rattle.pb_family.proofs.Deriving.{Deriving, deriving_from, deriving_as, deriving_step, deriving_ends, steps_fault, steps_last}
 use Rattle.pb_family.proofs.SameSteps.{HaveSameSteps, same_none, same_append}
-use Rattle.pb_family.proofs.Sequence.{meanings_ids, meanings_split, reasons_ids, reasons_split}
+use Rattle.pb_family.proofs.Sequence.{reifications_ids, reifications_split, justifications_ids, justifications_split}
 use Rattle.pb_tree.specs.Pairs.{Pair}
 use Rattle.pb_tree.specs.Scheme.{Scheme, values, fresh_of}
 use Rattle.pb_tree.specs.Tree.{Tree, empty, leaf, node}
-use Rattle.pb_tree.specs.TreeSteps.{pair_reason, pair_reasons, reasons_along, reasons, root_reason, tree_reasons}
+use Rattle.pb_tree.specs.TreeSteps.{pair_justification, pair_justifications, justifications_along, justifications, root_justification, tree_justifications}
 
 pub steps_stopped : {R T : Type 0} (r : Result T SinkFault) (f : SinkFault) (ss : List Step) (a b : StepState R) → IsErrAnd r (λ g. g ≡ f) → StopsInSteps ss a b f → HandsSteps ss r a b
 steps_stopped r f ss a b is part = steps_fault r f ss [] b is (deriving_from a (sym (append-nil ss))) part
 
--- ---- meanings
+-- ---- reifications
 
 -- some were handed over, and then the others
-pub meanings_then : {R T : Type 0} (r : Result T SinkFault) (xs ys : List Meaning) (old mid new : StepState R) → TakesSteps (meaning_steps old.next xs) old mid → HandsSteps (meaning_steps mid.next ys) r mid new
-    → HandsSteps (meaning_steps old.next (xs ++ ys)) r old new
-meanings_then r xs ys old mid new h k =
-    steps_last r (meaning_steps mid.next ys) new
-    (deriving_as (ap (λ (n : ℕ). meaning_steps n ys) (let same : old.next + 2 * length xs ≡ mid.next = omega (arith, h.ids, meanings_ids old.next xs) in same))
-    (deriving_step {left = meaning_steps (old.next + 2 * length xs) ys} (meaning_steps old.next xs) mid (deriving_from old (meanings_split old.next xs ys)) h)) k
+pub reifications_then : {R T : Type 0} (r : Result T SinkFault) (xs ys : List Reification) (old mid new : StepState R) → TakesSteps (reification_steps old.next xs) old mid → HandsSteps (reification_steps mid.next ys) r mid new
+    → HandsSteps (reification_steps old.next (xs ++ ys)) r old new
+reifications_then r xs ys old mid new h k =
+    steps_last r (reification_steps mid.next ys) new
+    (deriving_as (ap (λ (n : ℕ). reification_steps n ys) (let same : old.next + 2 * length xs ≡ mid.next = omega (arith, h.ids, reifications_ids old.next xs) in same))
+    (deriving_step {left = reification_steps (old.next + 2 * length xs) ys} (reification_steps old.next xs) mid (deriving_from old (reifications_split old.next xs ys)) h)) k
 
 -- the fault in the first ones is handed on
-pub meanings_stopped : {R T : Type 0} (r : Result T SinkFault) (f : SinkFault) (xs ys : List Meaning) (old after : StepState R) → IsErrAnd r (λ g. g ≡ f) → StopsInSteps (meaning_steps old.next xs) old after f
-    → HandsSteps (meaning_steps old.next (xs ++ ys)) r old after
-meanings_stopped r f xs ys old after is h =
-    steps_fault r f (meaning_steps old.next xs) (meaning_steps (old.next + 2 * length xs) ys) after is (deriving_from old (meanings_split old.next xs ys)) h
+pub reifications_stopped : {R T : Type 0} (r : Result T SinkFault) (f : SinkFault) (xs ys : List Reification) (old after : StepState R) → IsErrAnd r (λ g. g ≡ f) → StopsInSteps (reification_steps old.next xs) old after f
+    → HandsSteps (reification_steps old.next (xs ++ ys)) r old after
+reifications_stopped r f xs ys old after is h =
+    steps_fault r f (reification_steps old.next xs) (reification_steps (old.next + 2 * length xs) ys) after is (deriving_from old (reifications_split old.next xs ys)) h
 
-pub meanings_next : {R : Type 0} (xs : List Meaning) (old mid : StepState R) → TakesSteps (meaning_steps old.next xs) old mid → mid.next ≡ old.next + 2 * length xs
-meanings_next xs old mid h = omega (arith, h.ids, meanings_ids old.next xs)
+pub reifications_next : {R : Type 0} (xs : List Reification) (old mid : StepState R) → TakesSteps (reification_steps old.next xs) old mid → mid.next ≡ old.next + 2 * length xs
+reifications_next xs old mid h = omega (arith, h.ids, reifications_ids old.next xs)
 
 -- ---- rows of clauses
 
--- of n rows of reasons, the first k were taken
-pub record Rowing {R : Type 0} (row : ℕ → List Reason) (n k : ℕ) (old now : StepState R) : Type 0 where
-  pub taken : Deriving (claim_steps old.next (map by_reason (flat_map row (range_with_len 0 n)))) (claim_steps now.next (map by_reason (flat_map row (range_with_len k (n - k))))) old now
+-- of n rows of justifications, the first k were taken
+pub record Rowing {R : Type 0} (row : ℕ → List Justification) (n k : ℕ) (old now : StepState R) : Type 0 where
+  pub taken : Deriving (claim_steps old.next (map by_justification (flat_map row (range_with_len 0 n)))) (claim_steps now.next (map by_justification (flat_map row (range_with_len k (n - k))))) old now
   pub room : now.next + length (flat_map row (range_with_len k (n - k))) ≡ old.next + length (flat_map row (range_with_len 0 n))
 
-pub rowing_from : {R : Type 0} (row : ℕ → List Reason) (n : ℕ) (a : StepState R) → Rowing row n 0 a a
+pub rowing_from : {R : Type 0} (row : ℕ → List Justification) (n : ℕ) (a : StepState R) → Rowing row n 0 a a
 rowing_from row n a =
     let e : n ≡ n - 0 = omega arith in
-    record { taken = deriving_from a (ap (λ (m : ℕ). claim_steps a.next (map by_reason (flat_map row (range_with_len 0 m)))) e); room = ap (λ (m : ℕ). a.next + length (flat_map row (range_with_len 0 m))) (sym e) }
+    record { taken = deriving_from a (ap (λ (m : ℕ). claim_steps a.next (map by_justification (flat_map row (range_with_len 0 m)))) e); room = ap (λ (m : ℕ). a.next + length (flat_map row (range_with_len 0 m))) (sym e) }
 
-module _ {R : Type 0} (row : ℕ → List Reason) (n k : ℕ) (old now : StepState R) (within : k < n) (h : Rowing row n k old now) where
-  abbrev rest : List Reason
+module _ {R : Type 0} (row : ℕ → List Justification) (n k : ℕ) (old now : StepState R) (within : k < n) (h : Rowing row n k old now) where
+  abbrev rest : List Justification
   rest = flat_map row (range_with_len (k + 1) (n - (k + 1)))
 
   next_row : flat_map row (range_with_len k (n - k)) ≡ row k ++ rest
   next_row = ap (λ (m : ℕ). flat_map row (range_with_len k m)) (let e : n - k ≡ suc (n - (k + 1)) = omega arith in e) ∙ flat_map-cons row k (range_with_len (k + 1) (n - (k + 1)))
 
-  row_left : Deriving (claim_steps old.next (map by_reason (flat_map row (range_with_len 0 n)))) (claim_steps now.next (map by_reason (row k)) ++ claim_steps (now.next + length (row k)) (map by_reason rest)) old now
-  row_left = deriving_as (ap (λ (rs : List Reason). claim_steps now.next (map by_reason rs)) next_row ∙ reasons_split now.next (row k) rest) h.taken
+  row_left : Deriving (claim_steps old.next (map by_justification (flat_map row (range_with_len 0 n)))) (claim_steps now.next (map by_justification (row k)) ++ claim_steps (now.next + length (row k)) (map by_justification rest)) old now
+  row_left = deriving_as (ap (λ (rs : List Justification). claim_steps now.next (map by_justification rs)) next_row ∙ justifications_split now.next (row k) rest) h.taken
 
   pub rowing_room : now.next + length (row k) ≤ old.next + length (flat_map row (range_with_len 0 n))
   rowing_room = omega (arith, h.room, ap length next_row, length-append (row k) rest)
 
   -- the next row was taken
-  pub rowing_next : (after : StepState R) → TakesSteps (claim_steps now.next (map by_reason (row k))) now after → Rowing row n (k + 1) old after
+  pub rowing_next : (after : StepState R) → TakesSteps (claim_steps now.next (map by_justification (row k))) now after → Rowing row n (k + 1) old after
   rowing_next after handed =
-      let counts : now.next + length (row k) ≡ after.next = omega (arith, handed.ids, reasons_ids now.next (row k)) in
+      let counts : now.next + length (row k) ≡ after.next = omega (arith, handed.ids, justifications_ids now.next (row k)) in
       record {
-        taken = deriving_as (ap (λ (i : ℕ). claim_steps i (map by_reason rest)) counts)
-            (deriving_step {left = claim_steps (now.next + length (row k)) (map by_reason rest)} (claim_steps now.next (map by_reason (row k))) after row_left handed);
+        taken = deriving_as (ap (λ (i : ℕ). claim_steps i (map by_justification rest)) counts)
+            (deriving_step {left = claim_steps (now.next + length (row k)) (map by_justification rest)} (claim_steps now.next (map by_justification (row k))) after row_left handed);
         room = omega (arith, counts, h.room, ap length next_row, length-append (row k) rest);
       }
 
   -- the fault in the next row is handed on
-  pub rowing_fault : {T : Type 0} (r : Result T SinkFault) (f : SinkFault) (after : StepState R) → IsErrAnd r (λ g. g ≡ f) → StopsInSteps (claim_steps now.next (map by_reason (row k))) now after f
-      → HandsSteps (claim_steps old.next (map by_reason (flat_map row (range_with_len 0 n)))) r old after
-  rowing_fault r f after is part = steps_fault r f (claim_steps now.next (map by_reason (row k))) (claim_steps (now.next + length (row k)) (map by_reason rest)) after is row_left part
+  pub rowing_fault : {T : Type 0} (r : Result T SinkFault) (f : SinkFault) (after : StepState R) → IsErrAnd r (λ g. g ≡ f) → StopsInSteps (claim_steps now.next (map by_justification (row k))) now after f
+      → HandsSteps (claim_steps old.next (map by_justification (flat_map row (range_with_len 0 n)))) r old after
+  rowing_fault r f after is part = steps_fault r f (claim_steps now.next (map by_justification (row k))) (claim_steps (now.next + length (row k)) (map by_justification rest)) after is row_left part
 
 -- all rows were taken
-pub rowing_ends : {R : Type 0} (row : ℕ → List Reason) (n k : ℕ) (old now : StepState R) → k ≡ n → Rowing row n k old now → TakesSteps (claim_steps old.next (map by_reason (flat_map row (range_with_len 0 n)))) old now
+pub rowing_ends : {R : Type 0} (row : ℕ → List Justification) (n k : ℕ) (old now : StepState R) → k ≡ n → Rowing row n k old now → TakesSteps (claim_steps old.next (map by_justification (flat_map row (range_with_len 0 n)))) old now
 rowing_ends row n k old now all h =
-    deriving_ends (deriving_as (ap (λ (m : ℕ). claim_steps now.next (map by_reason (flat_map row (range_with_len k m)))) (let e : n - k ≡ 0 = omega (arith, all) in e)) h.taken)
+    deriving_ends (deriving_as (ap (λ (m : ℕ). claim_steps now.next (map by_justification (flat_map row (range_with_len k m)))) (let e : n - k ≡ 0 = omega (arith, all) in e)) h.taken)
 
 -- places that are counted from another number
 pub range_shift : {X : Type 0} (f : ℕ → X) (low a n : ℕ) → map f (range_with_len (low + a) n) ≡ map (λ k. f (low + k)) (range_with_len a n)
@@ -92,42 +92,42 @@ range_shift f low a zero = refl
 range_shift {X} f low a (suc n) =
     ap (λ (xs : List X). f (low + a) ∷ xs) (ap (λ (i : ℕ). map f (range_with_len i n)) (let e : low + a + 1 ≡ low + (a + 1) = omega arith in e) ∙ range_shift f low (a + 1) n)
 
--- ---- reasons without their clauses
+-- ---- justifications without their clauses
 
-abbrev pub bare : Reason → Reason
+abbrev pub bare : Justification → Justification
 bare r = record { clause = []; ids = r.ids; weakened = r.weakened }
 
-pub bare_same : (rs : List Reason) → HaveSameSteps (map bare rs) rs
+pub bare_same : (rs : List Justification) → HaveSameSteps (map bare rs) rs
 bare_same rs = record { count = length-map rs bare; steps = λ next. each next rs }
   where
-    each : (next : ℕ) (rs : List Reason) → claim_steps next (map by_reason (map bare rs)) ≡ claim_steps next (map by_reason rs)
+    each : (next : ℕ) (rs : List Justification) → claim_steps next (map by_justification (map bare rs)) ≡ claim_steps next (map by_justification rs)
     each next [] = refl
-    each next (r ∷ rs) = ap (λ (ss : List Step). (by_reason r).step ∷ Out next ∷ ss) (each (next + 1) rs)
+    each next (r ∷ rs) = ap (λ (ss : List Step). (by_justification r).step ∷ Out next ∷ ss) (each (next + 1) rs)
 
-pairs_same : (s : Scheme) (l r : Tree) (f g id : ℕ) (ps : List Pair) → HaveSameSteps (map (pair_reason s l r f id) ps) (map (pair_reason s l r g id) ps)
-pairs_same s l r f g id ps = record { count = omega (arith, length-map ps (pair_reason s l r f id), length-map ps (pair_reason s l r g id)); steps = λ next. each next ps }
+pairs_same : (s : Scheme) (l r : Tree) (f g id : ℕ) (ps : List Pair) → HaveSameSteps (map (pair_justification s l r f id) ps) (map (pair_justification s l r g id) ps)
+pairs_same s l r f g id ps = record { count = omega (arith, length-map ps (pair_justification s l r f id), length-map ps (pair_justification s l r g id)); steps = λ next. each next ps }
   where
-    each : (next : ℕ) (ps : List Pair) → claim_steps next (map by_reason (map (pair_reason s l r f id) ps)) ≡ claim_steps next (map by_reason (map (pair_reason s l r g id) ps))
+    each : (next : ℕ) (ps : List Pair) → claim_steps next (map by_justification (map (pair_justification s l r f id) ps)) ≡ claim_steps next (map by_justification (map (pair_justification s l r g id) ps))
     each next [] = refl
-    each next (p ∷ ps) = ap (λ (ss : List Step). (by_reason (pair_reason s l r f id p)).step ∷ Out next ∷ ss) (each (next + 1) ps)
+    each next (p ∷ ps) = ap (λ (ss : List Step). (by_justification (pair_justification s l r f id p)).step ∷ Out next ∷ ss) (each (next + 1) ps)
 
 -- a node's own steps do not depend on the numbers of the variables
-abbrev pub IsFirstFree : (Tree → Tree → ℕ → ℕ → List Reason) → Type 0
+abbrev pub IsFirstFree : (Tree → Tree → ℕ → ℕ → List Justification) → Type 0
 IsFirstFree own = (l r : Tree) (f g id : ℕ) → HaveSameSteps (own l r f id) (own l r g id)
 
-pub along_first_free : (s : Scheme) (own : Tree → Tree → ℕ → ℕ → List Reason) → IsFirstFree own → (t : Tree) (f g id : ℕ) → HaveSameSteps (reasons_along s own t f id) (reasons_along s own t g id)
+pub along_first_free : (s : Scheme) (own : Tree → Tree → ℕ → ℕ → List Justification) → IsFirstFree own → (t : Tree) (f g id : ℕ) → HaveSameSteps (justifications_along s own t f id) (justifications_along s own t g id)
 along_first_free s own free empty f g id = same_none
 along_first_free s own free (leaf t) f g id = same_none
 along_first_free s own free (node l r) f g id =
     let next = id + 2 * fresh_of s l in
-    same_append (reasons_along s own l f id) (reasons_along s own l g id) (reasons_along s own r (f + fresh_of s l) next ++ own l r f id) (reasons_along s own r (g + fresh_of s l) next ++ own l r g id)
+    same_append (justifications_along s own l f id) (justifications_along s own l g id) (justifications_along s own r (f + fresh_of s l) next ++ own l r f id) (justifications_along s own r (g + fresh_of s l) next ++ own l r g id)
     (along_first_free s own free l f g id)
-    (same_append (reasons_along s own r (f + fresh_of s l) next) (reasons_along s own r (g + fresh_of s l) next) (own l r f id) (own l r g id)
+    (same_append (justifications_along s own r (f + fresh_of s l) next) (justifications_along s own r (g + fresh_of s l) next) (own l r f id) (own l r g id)
     (along_first_free s own free r (f + fresh_of s l) (g + fresh_of s l) next) (free l r f g id))
 
-pub pairs_first_free : (s : Scheme) (pairs : List ℕ → List ℕ → List Pair) → IsFirstFree (pair_reasons s pairs)
+pub pairs_first_free : (s : Scheme) (pairs : List ℕ → List ℕ → List Pair) → IsFirstFree (pair_justifications s pairs)
 pairs_first_free s pairs l r f g id = pairs_same s l r f g id (pairs (values s l) (values s r))
 
-pub all_first_free : (s : Scheme) (pairs : List ℕ → List ℕ → List Pair) (t : Tree) (f g id own : ℕ) → HaveSameSteps (tree_reasons s pairs t f id own) (tree_reasons s pairs t g id own)
+pub all_first_free : (s : Scheme) (pairs : List ℕ → List ℕ → List Pair) (t : Tree) (f g id own : ℕ) → HaveSameSteps (tree_justifications s pairs t f id own) (tree_justifications s pairs t g id own)
 all_first_free s pairs t f g id own =
-    same_append (reasons s pairs t f id) (reasons s pairs t g id) (root_reason s t f id own ∷ []) (root_reason s t g id own ∷ []) (along_first_free s (pair_reasons s pairs) (pairs_first_free s pairs) t f g id) (record { count = refl; steps = λ next. refl })
+    same_append (justifications s pairs t f id) (justifications s pairs t g id) (root_justification s t f id own ∷ []) (root_justification s t g id own ∷ []) (along_first_free s (pair_justifications s pairs) (pairs_first_free s pairs) t f g id) (record { count = refl; steps = λ next. refl })

@@ -12,11 +12,11 @@ use Rattle.pb_tree.specs.Tree.{Tree, empty, leaf, node, IsLeafOf}
 use Rattle.pb_tree.specs.Scheme.{Scheme, values, output}
 use Rattle.pb_tree.proofs.Lists.{Contains-map_cases}
 use Rattle.pb_tree.proofs.Sums.{IsLawful}
-use Rattle.pb_derive.specs.Meanings.{forward_of}
-use Rattle.pb_derive.specs.laws.Follows.{AllKnown}
-use Rattle.pb_derive.proofs.Justified.{MeaningsKnown}
-use Rattle.pb_tree.specs.TreeSteps.{leaves, meanings, output_ids, part_ids, part_weakened}
-use Rattle.pb_tree.proofs.TreeMeanings.{meaning, output_known}
+use Rattle.pb_derive.specs.Reifications.{forward_of}
+use Rattle.pb_derive.specs.inner.Follows.{AllKnown}
+use Rattle.pb_derive.proofs.Justified.{ReificationsKnown}
+use Rattle.pb_tree.specs.TreeSteps.{leaves, reifications, output_ids, part_ids, part_weakened}
+use Rattle.pb_tree.proofs.TreeReifications.{reification, output_known}
 use Rattle.pb_derive.proofs.Sides.{Side, side_none, side_leaf, side_fresh}
 
 -- ---- leaves
@@ -93,7 +93,7 @@ Given K clause t ids u weakened = (sources : List Constraint) × AllKnown K ids 
 
 -- of a value that the clause negates
 pub given_value : (K : ℕ → Constraint → Type 0) (s : Scheme) (W : ℕ → Type 0) → IsLawful s W → AreFromParts s → (low : ℕ) (t : Tree) (first id u : ℕ) (clause : List Lit)
-    → IsOver s low t → MeaningsKnown K id (meanings s t first) → Contains (values s t) u → is_among clause (negated (output s t first u)) ≡ true
+    → IsOver s low t → ReificationsKnown K id (reifications s t first) → Contains (values s t) u → is_among clause (negated (output s t first u)) ≡ true
     → Given K clause t (output_ids s t id u) u []
 given_value K s W laws from low empty first id u clause over known here among = absurd (Contains-nil u here)
 given_value K s W laws from low (leaf t) first id u clause over known here among =
@@ -101,13 +101,13 @@ given_value K s W laws from low (leaf t) first id u clause over known here among
     ([], tt, side_leaf clause t u (omega (arith, le, sum_by-cons {X = Weighted} (λ t. t.coef) t [])) among)
 given_value K s W laws from low (node l r) first id u clause over known here among =
     let t = node l r in
-    let m = meaning (output s t first u).var (leaves t) u in
+    let m = reification (output s t first u).var (leaves t) u in
     let both = output_known K s W laws l r first id u known here in
     (forward_of m ∷ [], (both.0, tt), side_fresh clause m (value_le s from t over.weights u here) among)
 
 -- of a value that the clause negates, or of none, where all leaves are weakened away
 pub given_part : (K : ℕ → Constraint → Type 0) (s : Scheme) (W : ℕ → Type 0) → IsLawful s W → AreFromParts s → (low : ℕ) (t : Tree) (first id u : ℕ) (clause : List Lit)
-    → IsOver s low t → MeaningsKnown K id (meanings s t first) → IsPart (values s t) u
+    → IsOver s low t → ReificationsKnown K id (reifications s t first) → IsPart (values s t) u
     → (u ≢ 0 → is_among clause (negated (output s t first u)) ≡ true)
     → (u ≡ 0 → (l : Lit) → Contains clause l → (v : Weighted) → IsLeafOf t v → l.var ≢ v.lit.var)
     → Given K clause t (part_ids s t id u) u (part_weakened t u)

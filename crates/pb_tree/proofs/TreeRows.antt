@@ -1,4 +1,4 @@
--- What the meanings along a tree are by themselves.
+-- What the reifications along a tree are by themselves.
 use Rattle.std.proofs.Common.{◌≡◌, ◌≢◌, ◌≤◌, ◌<◌, ◌+◌, ◌/◌, ℕ, zero, suc, List, [], ◌∷◌, ◌++◌, length, take, drop, refl, ◌∙◌, subst, arith, inl, inr, take-append-drop, length-append}
 use Rattle.std.specs.Prelude.{Contains, All}
 use Rattle.std.proofs.lemmas.List.Elements.{All-nil, All-cons, All-append, All-contains}
@@ -7,17 +7,17 @@ use Rattle.pb_base.proofs.Members.{Contains-nil, Contains-here, Contains-there, 
 use Rattle.pb_base.proofs.Pairs.{AllPairs-head, AllPairs-tail, AllPairs-nil}
 use Rattle.pb_norm.specs.Constraints.{Weighted, weight}
 use Rattle.pb_derive.specs.Forms.{AreApartTerms}
-use Rattle.pb_derive.specs.Meanings.{Meaning}
+use Rattle.pb_derive.specs.Reifications.{Reification}
 use Rattle.pb_derive.proofs.InRow.{AreInRow, row-append}
 use Rattle.pb_derive.proofs.Justified.{IsReached, IsSum}
 use Rattle.pb_derive.proofs.Sides.{weight-append}
 use Rattle.pb_tree.specs.Pairs.{Pair}
 use Rattle.pb_tree.specs.Scheme.{Scheme, values, fresh_of}
 use Rattle.pb_tree.specs.Tree.{Tree, empty, leaf, node, split_within, tree_of, IsLeafOf}
-use Rattle.pb_tree.specs.TreeSteps.{leaves, meanings_from, meanings}
-use Rattle.pb_tree.proofs.PairReasons.{IsByPairs, IsPositive}
+use Rattle.pb_tree.specs.TreeSteps.{leaves, reifications_from, reifications}
+use Rattle.pb_tree.proofs.PairJustifications.{IsByPairs, IsPositive}
 use Rattle.pb_tree.proofs.Splitting.{halves}
-use Rattle.pb_tree.proofs.TreeMeanings.{length-meanings}
+use Rattle.pb_tree.proofs.TreeReifications.{length-reifications}
 use Rattle.pb_tree.proofs.TreeParts.{IsApart, listed_leaf, value_le}
 
 -- ---- the leaves of a list's tree
@@ -62,23 +62,23 @@ apart_tree (node l r) h =
     let parts = apart-append (leaves l) (leaves r) h in
     (apart_tree l parts.0, apart_tree r parts.1, (λ u v k m. parts.2 u v (listed_leaf l u k) (listed_leaf r v m)))
 
--- ---- the meanings
+-- ---- the reifications
 
-row_from : (var : ℕ) (ts : List Weighted) (us : List ℕ) → AreInRow var (meanings_from var ts us)
+row_from : (var : ℕ) (ts : List Weighted) (us : List ℕ) → AreInRow var (reifications_from var ts us)
 row_from var ts [] = tt
 row_from var ts (u ∷ us) = (refl, row_from (var + 1) ts us)
 
-pub tree_row : (s : Scheme) (t : Tree) (first : ℕ) → AreInRow first (meanings s t first)
+pub tree_row : (s : Scheme) (t : Tree) (first : ℕ) → AreInRow first (reifications s t first)
 tree_row s empty first = tt
 tree_row s (leaf t) first = tt
 tree_row s (node l r) first =
     let middle = first + fresh_of s l in
     let start = first + fresh_of s l + fresh_of s r in
-    let rights = meanings s r middle in
-    let own = meanings_from start (leaves (node l r)) (values s (node l r)) in
-    let one : middle ≡ first + length (meanings s l first) = omega (arith, length-meanings s l first) in
-    let two : start ≡ middle + length rights = omega (arith, length-meanings s r middle) in
-    row-append first (meanings s l first) (rights ++ own) (tree_row s l first)
+    let rights = reifications s r middle in
+    let own = reifications_from start (leaves (node l r)) (values s (node l r)) in
+    let one : middle ≡ first + length (reifications s l first) = omega (arith, length-reifications s l first) in
+    let two : start ≡ middle + length rights = omega (arith, length-reifications s r middle) in
+    row-append first (reifications s l first) (rights ++ own) (tree_row s l first)
     (subst (λ (n : ℕ). AreInRow n (rights ++ own)) one
     (row-append middle rights own (tree_row s r middle) (subst (λ (n : ℕ). AreInRow n own) two (row_from start (leaves (node l r)) (values s (node l r))))))
 
@@ -93,15 +93,15 @@ sum_parts low ts us h =
       record { below = below.1; apart = apart.1; positive = positive.1; light = omega arith },
     )
 
-fit_from : (low var : ℕ) (ts : List Weighted) (us : List ℕ) → IsSum low ts → ((u : ℕ) → Contains us u → (1 ≤ u) × (u ≤ weight ts)) → All (IsReached low) (meanings_from var ts us)
+fit_from : (low var : ℕ) (ts : List Weighted) (us : List ℕ) → IsSum low ts → ((u : ℕ) → Contains us u → (1 ≤ u) × (u ≤ weight ts)) → All (IsReached low) (reifications_from var ts us)
 fit_from low var ts [] sum each = All-nil (IsReached low)
 fit_from low var ts (u ∷ us) sum each =
     let own = each u (Contains-here u us) in
-    All-cons (IsReached low) (record { var = var; sum = ts; least = u }) (meanings_from (var + 1) ts us)
+    All-cons (IsReached low) (record { var = var; sum = ts; least = u }) (reifications_from (var + 1) ts us)
     (record { below = sum.below; apart = sum.apart; positive = sum.positive; some = own.0; reached = own.1; light = sum.light })
     (fit_from low (var + 1) ts us sum (λ v h. each v (Contains-there u us v h)))
 
-pub tree_fit : (s : Scheme) (pairs : List ℕ → List ℕ → List Pair) → IsByPairs s pairs → (low : ℕ) (t : Tree) (first : ℕ) → IsSum low (leaves t) → ((u : Weighted) → IsLeafOf t u → s.weight u ≡ u.coef) → IsPositive s t → All (IsReached low) (meanings s t first)
+pub tree_fit : (s : Scheme) (pairs : List ℕ → List ℕ → List Pair) → IsByPairs s pairs → (low : ℕ) (t : Tree) (first : ℕ) → IsSum low (leaves t) → ((u : Weighted) → IsLeafOf t u → s.weight u ≡ u.coef) → IsPositive s t → All (IsReached low) (reifications s t first)
 tree_fit s pairs by low empty first sum weights positive = All-nil (IsReached low)
 tree_fit s pairs by low (leaf t) first sum weights positive = All-nil (IsReached low)
 tree_fit s pairs by low (node l r) first sum weights positive =
@@ -109,42 +109,42 @@ tree_fit s pairs by low (node l r) first sum weights positive =
     let start = first + fresh_of s l + fresh_of s r in
     let parts = sum_parts low (leaves l) (leaves r) sum in
     let t = node l r in
-    All-append (IsReached low) (meanings s l first) (meanings s r middle ++ meanings_from start (leaves t) (values s t))
+    All-append (IsReached low) (reifications s l first) (reifications s r middle ++ reifications_from start (leaves t) (values s t))
     (tree_fit s pairs by low l first parts.0 (λ u h. weights u (inl h)) (λ u h. positive u (inl h)))
-    (All-append (IsReached low) (meanings s r middle) (meanings_from start (leaves t) (values s t))
+    (All-append (IsReached low) (reifications s r middle) (reifications_from start (leaves t) (values s t))
     (tree_fit s pairs by low r middle parts.1 (λ u h. weights u (inr h)) (λ u h. positive u (inr h)))
     (fit_from low start (leaves t) (values s t) sum (λ u h. (by.low t positive u h, value_le s by.from t weights u h))))
 
--- what holds of each term holds of those of each meaning
-from_terms : (P : Weighted → Type 0) (var : ℕ) (ts : List Weighted) (us : List ℕ) → All P ts → All (λ m. All P m.sum) (meanings_from var ts us)
-from_terms P var ts [] h = All-nil (λ (m : Meaning). All P m.sum)
-from_terms P var ts (u ∷ us) h = All-cons (λ (m : Meaning). All P m.sum) (record { var = var; sum = ts; least = u }) (meanings_from (var + 1) ts us) h (from_terms P (var + 1) ts us h)
+-- what holds of each term holds of those of each reification
+from_terms : (P : Weighted → Type 0) (var : ℕ) (ts : List Weighted) (us : List ℕ) → All P ts → All (λ m. All P m.sum) (reifications_from var ts us)
+from_terms P var ts [] h = All-nil (λ (m : Reification). All P m.sum)
+from_terms P var ts (u ∷ us) h = All-cons (λ (m : Reification). All P m.sum) (record { var = var; sum = ts; least = u }) (reifications_from (var + 1) ts us) h (from_terms P (var + 1) ts us h)
 
-pub tree_terms : (P : Weighted → Type 0) (s : Scheme) (t : Tree) (first : ℕ) → All P (leaves t) → All (λ m. All P m.sum) (meanings s t first)
-tree_terms P s empty first h = All-nil (λ (m : Meaning). All P m.sum)
-tree_terms P s (leaf t) first h = All-nil (λ (m : Meaning). All P m.sum)
+pub tree_terms : (P : Weighted → Type 0) (s : Scheme) (t : Tree) (first : ℕ) → All P (leaves t) → All (λ m. All P m.sum) (reifications s t first)
+tree_terms P s empty first h = All-nil (λ (m : Reification). All P m.sum)
+tree_terms P s (leaf t) first h = All-nil (λ (m : Reification). All P m.sum)
 tree_terms P s (node l r) first h =
-    let Q : Meaning → Type 0 = λ m. All P m.sum in
+    let Q : Reification → Type 0 = λ m. All P m.sum in
     let parts = All-append_both P (leaves l) (leaves r) h in
     let middle = first + fresh_of s l in
     let start = first + fresh_of s l + fresh_of s r in
-    let own = meanings_from start (leaves (node l r)) (values s (node l r)) in
-    All-append Q (meanings s l first) (meanings s r middle ++ own) (tree_terms P s l first parts.0)
-    (All-append Q (meanings s r middle) own (tree_terms P s r middle parts.1) (from_terms P start (leaves (node l r)) (values s (node l r)) h))
+    let own = reifications_from start (leaves (node l r)) (values s (node l r)) in
+    All-append Q (reifications s l first) (reifications s r middle ++ own) (tree_terms P s l first parts.0)
+    (All-append Q (reifications s r middle) own (tree_terms P s r middle parts.1) (from_terms P start (leaves (node l r)) (values s (node l r)) h))
 
--- a meaning's sum is of no more terms than there are leaves
-few_from : (n var : ℕ) (ts : List Weighted) (us : List ℕ) → length ts ≤ n → All (λ m. length m.sum ≤ n) (meanings_from var ts us)
-few_from n var ts [] h = All-nil (λ (m : Meaning). length m.sum ≤ n)
-few_from n var ts (u ∷ us) h = All-cons (λ (m : Meaning). length m.sum ≤ n) (record { var = var; sum = ts; least = u }) (meanings_from (var + 1) ts us) h (few_from n (var + 1) ts us h)
+-- a reification's sum is of no more terms than there are leaves
+few_from : (n var : ℕ) (ts : List Weighted) (us : List ℕ) → length ts ≤ n → All (λ m. length m.sum ≤ n) (reifications_from var ts us)
+few_from n var ts [] h = All-nil (λ (m : Reification). length m.sum ≤ n)
+few_from n var ts (u ∷ us) h = All-cons (λ (m : Reification). length m.sum ≤ n) (record { var = var; sum = ts; least = u }) (reifications_from (var + 1) ts us) h (few_from n (var + 1) ts us h)
 
-pub tree_sums : (n : ℕ) (s : Scheme) (t : Tree) (first : ℕ) → length (leaves t) ≤ n → All (λ m. length m.sum ≤ n) (meanings s t first)
-tree_sums n s empty first h = All-nil (λ (m : Meaning). length m.sum ≤ n)
-tree_sums n s (leaf t) first h = All-nil (λ (m : Meaning). length m.sum ≤ n)
+pub tree_sums : (n : ℕ) (s : Scheme) (t : Tree) (first : ℕ) → length (leaves t) ≤ n → All (λ m. length m.sum ≤ n) (reifications s t first)
+tree_sums n s empty first h = All-nil (λ (m : Reification). length m.sum ≤ n)
+tree_sums n s (leaf t) first h = All-nil (λ (m : Reification). length m.sum ≤ n)
 tree_sums n s (node l r) first h =
-    let Q : Meaning → Type 0 = λ m. length m.sum ≤ n in
+    let Q : Reification → Type 0 = λ m. length m.sum ≤ n in
     let size = length-append (leaves l) (leaves r) in
     let middle = first + fresh_of s l in
     let start = first + fresh_of s l + fresh_of s r in
-    let own = meanings_from start (leaves (node l r)) (values s (node l r)) in
-    All-append Q (meanings s l first) (meanings s r middle ++ own) (tree_sums n s l first (omega arith))
-    (All-append Q (meanings s r middle) own (tree_sums n s r middle (omega arith)) (few_from n start (leaves (node l r)) (values s (node l r)) h))
+    let own = reifications_from start (leaves (node l r)) (values s (node l r)) in
+    All-append Q (reifications s l first) (reifications s r middle ++ own) (tree_sums n s l first (omega arith))
+    (All-append Q (reifications s r middle) own (tree_sums n s r middle (omega arith)) (few_from n start (leaves (node l r)) (values s (node l r)) h))

@@ -9,18 +9,18 @@ use Rattle.pb_base.proofs.Members.{Contains-here, Contains-there, All-append_bot
 use Rattle.pb_norm.specs.Constraints.{Weighted, weight}
 use Rattle.pb_norm.specs.BoundedSums.{BoundedSum, vars_of}
 use Rattle.pb_steps.specs.Sayable.{IsId, IsVariable, IsSayable}
-use Rattle.pb_derive.specs.Reasons.{Reason}
+use Rattle.pb_derive.specs.Justifications.{Justification}
 use Rattle.pb_derive.specs.Short.{AreShort}
-use Rattle.pb_derive.proofs.ShortReasons.{gone_in}
+use Rattle.pb_derive.proofs.ShortJustifications.{gone_in}
 use Rattle.pb_family.specs.Derivations.{AreOriginal, MayStart}
 use Rattle.pb_tree.specs.Pairs.{Pair}
 use Rattle.pb_tree.specs.Scheme.{Scheme, values, fresh_of, tree_clauses}
 use Rattle.pb_tree.specs.Tree.{Tree, empty, leaf, node, tree_of}
-use Rattle.pb_tree.specs.TreeSteps.{leaves, output_ids, part_ids, part_weakened, pair_reason, pair_reasons, reasons, root_reason, tree_reasons, tree_steps}
+use Rattle.pb_tree.specs.TreeSteps.{leaves, output_ids, part_ids, part_weakened, pair_justification, pair_justifications, justifications, root_justification, tree_justifications, tree_steps}
 use Rattle.pb_tree.proofs.AlongShort.{IsShort, Starts, gone-append, along_gone, along_short, known_terms, terms_sayable, terms_short}
 use Rattle.pb_tree.proofs.Laws.{Suits, cap_value}
 use Rattle.pb_tree.proofs.PairCounts.{is_none}
-use Rattle.pb_tree.proofs.PairReasons.{IsByPairs, IsPositive, tree_reasons_clauses}
+use Rattle.pb_tree.proofs.PairJustifications.{IsByPairs, IsPositive, tree_justifications_clauses}
 use Rattle.pb_tree.proofs.Sums.{IsLawful}
 use Rattle.pb_tree.proofs.TreeDerives.{leaves_positive, weighs_of}
 use Rattle.pb_tree.proofs.TreeParts.{IsPart}
@@ -47,15 +47,15 @@ some_or_none true n k = omega arith
 some_or_none false n k = omega arith
 
 pairs_gone : (s : Scheme) (l r : Tree) (first id : ℕ) (ps : List Pair)
-    → gone_in (map (pair_reason s l r first id) ps) ≡ count_by (λ p. is_none p.left) ps * length (leaves l) + count_by (λ p. is_none p.right) ps * length (leaves r)
-pairs_gone s l r first id [] = let none : gone_in (map (pair_reason s l r first id) []) ≡ 0 = refl in let left : count_by (λ (p : Pair). is_none p.left) [] ≡ 0 = refl in let right : count_by (λ (p : Pair). is_none p.right) [] ≡ 0 = refl in
+    → gone_in (map (pair_justification s l r first id) ps) ≡ count_by (λ p. is_none p.left) ps * length (leaves l) + count_by (λ p. is_none p.right) ps * length (leaves r)
+pairs_gone s l r first id [] = let none : gone_in (map (pair_justification s l r first id) []) ≡ 0 = refl in let left : count_by (λ (p : Pair). is_none p.left) [] ≡ 0 = refl in let right : count_by (λ (p : Pair). is_none p.right) [] ≡ 0 = refl in
     none ∙ (let e : 0 ≡ 0 * length (leaves l) + 0 * length (leaves r) = omega arith in e)
 pairs_gone s l r first id (p ∷ ps) =
     let a = length (leaves l) in
     let b = length (leaves r) in
     let i = count_by (λ (p : Pair). is_none p.left) ps in
     let j = count_by (λ (p : Pair). is_none p.right) ps in
-    let one = sum_by-cons (λ (r : Reason). length r.weakened) (pair_reason s l r first id p) (map (pair_reason s l r first id) ps) in
+    let one = sum_by-cons (λ (r : Justification). length r.weakened) (pair_justification s l r first id p) (map (pair_justification s l r first id) ps) in
     let two = length-append (part_weakened l p.left) (part_weakened r p.right) in
     let three : count_by (λ (p : Pair). is_none p.left) (p ∷ ps) ≡ cond (is_none p.left) 1 0 + i = sum_by-cons (λ (p : Pair). cond (is_none p.left) 1 0) p ps in
     let four : count_by (λ (p : Pair). is_none p.right) (p ∷ ps) ≡ cond (is_none p.right) 1 0 + j = sum_by-cons (λ (p : Pair). cond (is_none p.right) 1 0) p ps in
@@ -64,7 +64,7 @@ pairs_gone s l r first id (p ∷ ps) =
     omega (arith, one, two, part_gone l p.left, part_gone r p.right, five, six, pairs_gone s l r first id ps)
 
 pub pairs_gone_few : (s : Scheme) (pairs : List ℕ → List ℕ → List Pair) → IsSparing s pairs → (l r : Tree) (first id : ℕ) → IsPositive s (node l r)
-    → gone_in (pair_reasons s pairs l r first id) ≤ length (values s (node l r)) * (length (leaves l) + length (leaves r))
+    → gone_in (pair_justifications s pairs l r first id) ≤ length (values s (node l r)) * (length (leaves l) + length (leaves r))
 pairs_gone_few s pairs sparing l r first id positive =
     let ps = pairs (values s l) (values s r) in
     let a = length (leaves l) in
@@ -77,11 +77,11 @@ pairs_gone_few s pairs sparing l r first id positive =
     let here : c * (a + b) ≡ c * a + c * b = omega arith in
     omega (arith, pairs_gone s l r first id ps, lows, highs, here)
 
-pub reasons_gone : (s : Scheme) (pairs : List ℕ → List ℕ → List Pair) → IsSparing s pairs → (t : Tree) (first id : ℕ) → IsPositive s t → gone_in (reasons s pairs t first id) ≤ 2 * (fresh_of s t * length (leaves t))
-reasons_gone s pairs sparing t first id positive =
-    along_gone s (pair_reasons s pairs) (λ u. 1 ≤ s.weight u) (λ l r h first id. omega (arith, pairs_gone_few s pairs sparing l r first id h)) t first id positive
+pub justifications_gone : (s : Scheme) (pairs : List ℕ → List ℕ → List Pair) → IsSparing s pairs → (t : Tree) (first id : ℕ) → IsPositive s t → gone_in (justifications s pairs t first id) ≤ 2 * (fresh_of s t * length (leaves t))
+justifications_gone s pairs sparing t first id positive =
+    along_gone s (pair_justifications s pairs) (λ u. 1 ≤ s.weight u) (λ l r h first id. omega (arith, pairs_gone_few s pairs sparing l r first id h)) t first id positive
 
--- ---- each reason
+-- ---- each justification
 
 -- the outputs have their ids
 abbrev none_ids : All IsId [] × All IsId [] × (0 ≤ 1)
@@ -121,7 +121,7 @@ own_some s l r id u = refl
 
 module _ (s : Scheme) (W : ℕ → Type 0) (laws : IsLawful s W) (pairs : List ℕ → List ℕ → List Pair) (by : IsByPairs s pairs) where
   pair_short : (n : ℕ) (l r : Tree) (first id : ℕ) → 1 ≤ id → id + 2 * fresh_of s (node l r) < 2 ^ 63 → All (λ w. IsVariable w.lit.var) (leaves (node l r)) → length (leaves (node l r)) ≤ n
-      → (p : Pair) → Contains (pairs (values s l) (values s r)) p → IsShort n (pair_reason s l r first id p)
+      → (p : Pair) → Contains (pairs (values s l) (values s r)) p → IsShort n (pair_justification s l r first id p)
   pair_short n l r first id low high known few p h =
       let w = min (p.left + p.right) s.cap in
       let next = id + 2 * fresh_of s l in
@@ -142,20 +142,20 @@ module _ (s : Scheme) (W : ℕ → Type 0) (laws : IsLawful s W) (pairs : List �
       }
 
   pairs_short : (n : ℕ) (l r : Tree) (first id : ℕ) → 1 ≤ id → id + 2 * fresh_of s (node l r) < 2 ^ 63 → All (λ w. IsVariable w.lit.var) (leaves (node l r)) → length (leaves (node l r)) ≤ n
-      → (ps : List Pair) → ((p : Pair) → Contains ps p → Contains (pairs (values s l) (values s r)) p) → All (IsShort n) (map (pair_reason s l r first id) ps)
+      → (ps : List Pair) → ((p : Pair) → Contains ps p → Contains (pairs (values s l) (values s r)) p) → All (IsShort n) (map (pair_justification s l r first id) ps)
   pairs_short n l r first id low high known few [] h = All-nil (IsShort n)
   pairs_short n l r first id low high known few (p ∷ ps) h =
-      All-cons (IsShort n) (pair_reason s l r first id p) (map (pair_reason s l r first id) ps) (pair_short n l r first id low high known few p (h p (Contains-here p ps)))
+      All-cons (IsShort n) (pair_justification s l r first id p) (map (pair_justification s l r first id) ps) (pair_short n l r first id low high known few p (h p (Contains-here p ps)))
       (pairs_short n l r first id low high known few ps (λ q m. h q (Contains-there p ps q m)))
 
   pub own_short : (n : ℕ) (l r : Tree) (first id : ℕ) → 1 ≤ id → id + 2 * fresh_of s (node l r) < 2 ^ 63 → All (λ w. IsVariable w.lit.var) (leaves (node l r)) → length (leaves (node l r)) ≤ n
-      → All (IsShort n) (pair_reasons s pairs l r first id)
+      → All (IsShort n) (pair_justifications s pairs l r first id)
   own_short n l r first id low high known few = pairs_short n l r first id low high known few (pairs (values s l) (values s r)) (λ p h. h)
 
-  pub reasons_short : (n : ℕ) (t : Tree) (first id : ℕ) → 1 ≤ id → id + 2 * fresh_of s t < 2 ^ 63 → All (λ w. IsVariable w.lit.var) (leaves t) → length (leaves t) ≤ n → All (IsShort n) (reasons s pairs t first id)
-  reasons_short n t first id low high known few = along_short n s (pair_reasons s pairs) (own_short n) t first id low high known few
+  pub justifications_short : (n : ℕ) (t : Tree) (first id : ℕ) → 1 ≤ id → id + 2 * fresh_of s t < 2 ^ 63 → All (λ w. IsVariable w.lit.var) (leaves t) → length (leaves t) ≤ n → All (IsShort n) (justifications s pairs t first id)
+  justifications_short n t first id low high known few = along_short n s (pair_justifications s pairs) (own_short n) t first id low high known few
 
-  pub root_short : (n : ℕ) (t : Tree) (first id own : ℕ) → 1 ≤ id → id + 2 * fresh_of s t < 2 ^ 63 → IsId own → Contains (values s t) s.cap → IsShort n (root_reason s t first id own)
+  pub root_short : (n : ℕ) (t : Tree) (first id own : ℕ) → 1 ≤ id → id + 2 * fresh_of s t < 2 ^ 63 → IsId own → Contains (values s t) s.cap → IsShort n (root_justification s t first id own)
   root_short n t first id own low high given top =
       let are = output_ids_are s W laws t id s.cap low high top in
       record {
@@ -167,10 +167,10 @@ module _ (s : Scheme) (W : ℕ → Type 0) (laws : IsLawful s W) (pairs : List �
       }
 
   tree_short : (n : ℕ) (t : Tree) (first id own : ℕ) → 1 ≤ id → id + 2 * fresh_of s t < 2 ^ 63 → IsId own → Contains (values s t) s.cap → All (λ w. IsVariable w.lit.var) (leaves t) → length (leaves t) ≤ n
-      → All (IsShort n) (tree_reasons s pairs t first id own)
+      → All (IsShort n) (tree_justifications s pairs t first id own)
   tree_short n t first id own low high given top known few =
-      All-append (IsShort n) (reasons s pairs t first id) (root_reason s t first id own ∷ []) (reasons_short n t first id low high known few)
-      (All-cons (IsShort n) (root_reason s t first id own) [] (root_short n t first id own low high given top) (All-nil (IsShort n)))
+      All-append (IsShort n) (justifications s pairs t first id) (root_justification s t first id own ∷ []) (justifications_short n t first id low high known few)
+      (All-cons (IsShort n) (root_justification s t first id own) [] (root_short n t first id own low high given top) (All-nil (IsShort n)))
 
 -- ---- the whole
 
@@ -182,8 +182,8 @@ module _ (s : Scheme) (W : ℕ → Type 0) (laws : IsLawful s W) (pairs : List �
   abbrev fresh : ℕ
   fresh = fresh_of s (tree_of m.terms)
 
-  abbrev rs : List Reason
-  rs = tree_reasons s pairs (tree_of m.terms) first next id
+  abbrev rs : List Justification
+  rs = tree_justifications s pairs (tree_of m.terms) first next id
 
   starts : Starts first fresh next
   starts = let given = start.given in let known = start.known in record { low = start.low; fits = start.fits; from = omega arith; few = start.few }
@@ -198,21 +198,21 @@ module _ (s : Scheme) (W : ℕ → Type 0) (laws : IsLawful s W) (pairs : List �
       let size : length (leaves t) ≡ length m.terms = ap length (leaves_of m.terms) in
       tree_short s W laws pairs by (length m.terms) t first next id (omega arith) (omega arith) own (cap_value s W laws m suits) (known_terms m.terms first fresh start.fits original) (omega arith)
 
-  count_reasons : length rs ≡ length (tree_clauses s t first)
-  count_reasons = sym (length-map rs (λ (r : Reason). r.clause)) ∙ ap length (tree_reasons_clauses s pairs by t first next id (leaves_positive s W laws pairs by m suits))
+  count_justifications : length rs ≡ length (tree_clauses s t first)
+  count_justifications = sym (length-map rs (λ (r : Justification). r.clause)) ∙ ap length (tree_justifications_clauses s pairs by t first next id (leaves_positive s W laws pairs by m suits))
 
   module _ (few_clauses : length (tree_clauses s (tree_of m.terms) first) < 5 * 2 ^ 60) where
-    few_reasons : length rs < 5 * 2 ^ 60
-    few_reasons = omega (arith, few_clauses, count_reasons)
+    few_justifications : length rs < 5 * 2 ^ 60
+    few_justifications = omega (arith, few_clauses, count_justifications)
 
     pub tree_sayable : All IsSayable (tree_steps s pairs (tree_of m.terms) first id next)
-    tree_sayable = terms_sayable s pairs by m.terms (weighs_of s m suits) light first next original starts rs few_reasons all_short
+    tree_sayable = terms_sayable s pairs by m.terms (weighs_of s m suits) light first next original starts rs few_justifications all_short
 
     pub tree_lines_short : IsSparing s pairs → length m.terms ≤ 2 ^ 21 → AreShort (length m.terms) (fresh_of s (tree_of m.terms)) (length (tree_clauses s (tree_of m.terms) first)) (tree_steps s pairs (tree_of m.terms) first id next)
     tree_lines_short sparing narrow =
         let n = length m.terms in
         let size : length (leaves t) ≡ n = ap length (leaves_of m.terms) in
-        let gone : gone_in (reasons s pairs t first next) ≤ 2 * (fresh * n) = subst (λ (k : ℕ). gone_in (reasons s pairs t first next) ≤ 2 * (fresh * k)) size (reasons_gone s pairs sparing t first next (leaves_positive s W laws pairs by m suits)) in
-        let last : gone_in (root_reason s t first next id ∷ []) ≡ 0 = refl in
-        subst (λ (k : ℕ). AreShort n fresh k (tree_steps s pairs t first id next)) count_reasons
-        (terms_short s pairs by m.terms (weighs_of s m suits) light first next original starts rs few_reasons all_short narrow (omega (arith, gone, last, gone-append (reasons s pairs t first next) (root_reason s t first next id ∷ []))))
+        let gone : gone_in (justifications s pairs t first next) ≤ 2 * (fresh * n) = subst (λ (k : ℕ). gone_in (justifications s pairs t first next) ≤ 2 * (fresh * k)) size (justifications_gone s pairs sparing t first next (leaves_positive s W laws pairs by m suits)) in
+        let last : gone_in (root_justification s t first next id ∷ []) ≡ 0 = refl in
+        subst (λ (k : ℕ). AreShort n fresh k (tree_steps s pairs t first id next)) count_justifications
+        (terms_short s pairs by m.terms (weighs_of s m suits) light first next original starts rs few_justifications all_short narrow (omega (arith, gone, last, gone-append (justifications s pairs t first next) (root_justification s t first next id ∷ []))))

@@ -4,9 +4,9 @@ use Rattle.pb_base.specs.Literals.{negated}
 use Rattle.pb_norm.specs.Constraints.{Weighted}
 use Rattle.pb_norm.specs.BoundedSums.{vars_of}
 use Rattle.pb_steps.specs.declared.step.Step.{Step}
-use Rattle.pb_derive.specs.Meanings.{Meaning}
+use Rattle.pb_derive.specs.Reifications.{Reification}
 use Rattle.pb_derive.specs.Phases.{phases}
-use Rattle.pb_derive.specs.Reasons.{Reason, by_reason}
+use Rattle.pb_derive.specs.Justifications.{Justification, by_justification}
 use Rattle.pb_tree.specs.Pairs.{Pair, pair_clause}
 use Rattle.pb_tree.specs.Scheme.{Scheme, values, fresh_of, output}
 use Rattle.pb_tree.specs.Tree.{Tree, empty, leaf, node}
@@ -19,18 +19,18 @@ leaves (node l r) = leaves l ++ leaves r
 -- ---- what the fresh variables mean
 
 -- variables in a row, from a number on, each for a value of a sum
-abbrev pub meanings_from : ℕ → List Weighted → List ℕ → List Meaning
-meanings_from var ts [] = []
-meanings_from var ts (u ∷ us) = record { var = var; sum = ts; least = u } ∷ meanings_from (var + 1) ts us
+abbrev pub reifications_from : ℕ → List Weighted → List ℕ → List Reification
+reifications_from var ts [] = []
+reifications_from var ts (u ∷ us) = record { var = var; sum = ts; least = u } ∷ reifications_from (var + 1) ts us
 
 -- in the order of the numbers: of the left part, of the right part, and of the node itself
-abbrev pub meanings : Scheme → Tree → ℕ → List Meaning
-meanings s empty first = []
-meanings s (leaf t) first = []
-meanings s (node l r) first =
-    meanings s l first
-    ++ (meanings s r (first + fresh_of s l)
-    ++ meanings_from (first + fresh_of s l + fresh_of s r) (leaves (node l r)) (values s (node l r)))
+abbrev pub reifications : Scheme → Tree → ℕ → List Reification
+reifications s empty first = []
+reifications s (leaf t) first = []
+reifications s (node l r) first =
+    reifications s l first
+    ++ (reifications s r (first + fresh_of s l)
+    ++ reifications_from (first + fresh_of s l + fresh_of s r) (leaves (node l r)) (values s (node l r)))
 
 -- ---- why the clauses hold
 
@@ -51,8 +51,8 @@ part_weakened t zero = vars_of (leaves t)
 part_weakened t (suc u) = []
 
 -- the first constraints of the parts' values, and the second one of the node's
-abbrev pub pair_reason : Scheme → Tree → Tree → ℕ → ℕ → Pair → Reason
-pair_reason s l r first id p = record {
+abbrev pub pair_justification : Scheme → Tree → Tree → ℕ → ℕ → Pair → Justification
+pair_justification s l r first id p = record {
   clause = pair_clause s.cap (output s l first) (output s r (first + fresh_of s l)) (output s (node l r) first) p;
   ids = part_ids s l id p.left
       ++ (part_ids s r (id + 2 * fresh_of s l) p.right
@@ -60,32 +60,32 @@ pair_reason s l r first id p = record {
   weakened = part_weakened l p.left ++ part_weakened r p.right;
 }
 
--- Reasons along a tree: of the left part, of the right part, and then a node's own, which go by its two parts, the first fresh
+-- Justifications along a tree: of the left part, of the right part, and then a node's own, which go by its two parts, the first fresh
 -- variable and the id of its first constraint.
-abbrev pub reasons_along : Scheme → (Tree → Tree → ℕ → ℕ → List Reason) → Tree → ℕ → ℕ → List Reason
-reasons_along s own empty first id = []
-reasons_along s own (leaf t) first id = []
-reasons_along s own (node l r) first id =
-    reasons_along s own l first id ++ (reasons_along s own r (first + fresh_of s l) (id + 2 * fresh_of s l) ++ own l r first id)
+abbrev pub justifications_along : Scheme → (Tree → Tree → ℕ → ℕ → List Justification) → Tree → ℕ → ℕ → List Justification
+justifications_along s own empty first id = []
+justifications_along s own (leaf t) first id = []
+justifications_along s own (node l r) first id =
+    justifications_along s own l first id ++ (justifications_along s own r (first + fresh_of s l) (id + 2 * fresh_of s l) ++ own l r first id)
 
 -- a node's own by the pairs of values that have a clause
-abbrev pub pair_reasons : Scheme → (List ℕ → List ℕ → List Pair) → Tree → Tree → ℕ → ℕ → List Reason
-pair_reasons s pairs l r first id = map (pair_reason s l r first id) (pairs (values s l) (values s r))
+abbrev pub pair_justifications : Scheme → (List ℕ → List ℕ → List Pair) → Tree → Tree → ℕ → ℕ → List Justification
+pair_justifications s pairs l r first id = map (pair_justification s l r first id) (pairs (values s l) (values s r))
 
-abbrev pub reasons : Scheme → (List ℕ → List ℕ → List Pair) → Tree → ℕ → ℕ → List Reason
-reasons s pairs t first id = reasons_along s (pair_reasons s pairs) t first id
+abbrev pub justifications : Scheme → (List ℕ → List ℕ → List Pair) → Tree → ℕ → ℕ → List Justification
+justifications s pairs t first id = justifications_along s (pair_justifications s pairs) t first id
 
 -- of the whole tree, where the sum's own constraint has the id `own`
-abbrev pub root_reason : Scheme → Tree → ℕ → ℕ → ℕ → Reason
-root_reason s t first id own = record {
+abbrev pub root_justification : Scheme → Tree → ℕ → ℕ → ℕ → Justification
+root_justification s t first id own = record {
   clause = negated (output s t first s.cap) ∷ [];
   ids = output_ids s t id s.cap ++ own ∷ [];
   weakened = [];
 }
 
-abbrev pub tree_reasons : Scheme → (List ℕ → List ℕ → List Pair) → Tree → ℕ → ℕ → ℕ → List Reason
-tree_reasons s pairs t first id own = reasons s pairs t first id ++ root_reason s t first id own ∷ []
+abbrev pub tree_justifications : Scheme → (List ℕ → List ℕ → List Pair) → Tree → ℕ → ℕ → ℕ → List Justification
+tree_justifications s pairs t first id own = justifications s pairs t first id ++ root_justification s t first id own ∷ []
 
 -- from the next id on
 abbrev pub tree_steps : Scheme → (List ℕ → List ℕ → List Pair) → Tree → ℕ → ℕ → ℕ → List Step
-tree_steps s pairs t first own next = phases next (meanings s t first) (map by_reason (tree_reasons s pairs t first next own))
+tree_steps s pairs t first own next = phases next (reifications s t first) (map by_justification (tree_justifications s pairs t first next own))

@@ -12,7 +12,7 @@ use Rattle.pb_norm.specs.Constraints.{Weighted, Constraint, weight, weighted, we
 use Rattle.pb_base.specs.declared.literal.Term.{Term}
 use Rattle.pb_norm.specs.Propagation.{room}
 use Rattle.pb_unit.specs.declared.index.Occurrence.{Occurrence}
-use Rattle.pb_unit.specs.declared.kept.Kept.{Kept}
+use Rattle.pb_unit.specs.declared.kept.Counters.{Counters}
 use Rattle.pb_unit.specs.States.{at_place}
 use Rattle.pb_unit.specs.Steps.{IsAlert}
 use Rattle.pb_unit.specs.Index.{Lists, coef_of, sum_at, code, list_at, terms_at, room_at, IsPushed, AreSame, IsCounted, IsEntered, AreLowered}
@@ -86,7 +86,7 @@ known_more Q lists lists' o l m pushed here all = elim (cases_Bool (is_same l m)
 ]
 
 -- one term more was entered
-pub entered_more : (vars : ℕ) (ps : List (Option Constraint)) (lists lists' : Lists) (kept kept' : List Kept) (place : ℕ) (ts : List Weighted) (o : Occurrence) (t : Weighted) → IsPushed t.lit o lists lists' → o.place ≡ place → o.coef ≡ t.coef → t.lit.var ≤ vars → at_place ps place ≡ None → place < length kept → room_at kept place + t.coef ≤ 2 ^ 126 → AreLowered (o ∷ []) kept' kept → IsEntered vars ps lists kept place ts → IsEntered vars ps lists' kept' place (ts ++ t ∷ [])
+pub entered_more : (vars : ℕ) (ps : List (Option Constraint)) (lists lists' : Lists) (kept kept' : List Counters) (place : ℕ) (ts : List Weighted) (o : Occurrence) (t : Weighted) → IsPushed t.lit o lists lists' → o.place ≡ place → o.coef ≡ t.coef → t.lit.var ≤ vars → at_place ps place ≡ None → place < length kept → room_at kept place + t.coef ≤ 2 ^ 126 → AreLowered (o ∷ []) kept' kept → IsEntered vars ps lists kept place ts → IsEntered vars ps lists' kept' place (ts ++ t ∷ [])
 entered_more vars ps lists lists' kept kept' place ts o t pushed at coef within empty below fits low h = record {
   counts = record {
     inner = set h.counts.inner place (ts ++ t ∷ []);
@@ -174,7 +174,7 @@ front_fits ts i t below at =
 pub coef_fits : (ts : List Term) (i : ℕ) (t : Term) → i < length ts → t ≡ get_or ts i t → weight (weights ts) ≤ 2 ^ 126 → (weighted t).coef ≤ 2 ^ 126
 coef_fits ts i t below at fits = omega (arith, front_fits ts i t below at, fits)
 
-pub entered_fits : (vars : ℕ) (ps : List (Option Constraint)) (lists : Lists) (kept : List Kept) (place : ℕ) (ts : List Term) (i : ℕ) (t : Term) → i < length ts → t ≡ get_or ts i t → IsEntered vars ps lists kept place (weights (take i ts)) → weight (weights ts) ≤ 2 ^ 126 → room_at kept place + (weighted t).coef ≤ 2 ^ 126
+pub entered_fits : (vars : ℕ) (ps : List (Option Constraint)) (lists : Lists) (kept : List Counters) (place : ℕ) (ts : List Term) (i : ℕ) (t : Term) → i < length ts → t ≡ get_or ts i t → IsEntered vars ps lists kept place (weights (take i ts)) → weight (weights ts) ≤ 2 ^ 126 → room_at kept place + (weighted t).coef ≤ 2 ^ 126
 entered_fits vars ps lists kept place ts i t below at h fits =
     let full : room_at kept place ≡ weight (weights (take i ts)) = h.counts.rooms place ∙ (ap (room []) h.terms ∙ room-nil (weights (take i ts))) in
     omega (arith, full, front_fits ts i t below at, fits)
@@ -198,7 +198,7 @@ get_or-push_default [] d (suc p) = refl
 get_or-push_default (x ∷ xs) d zero = refl
 get_or-push_default (x ∷ xs) d (suc p) = get_or-push_default xs d p
 
-pub counted_wider : (vars : ℕ) (ps : List (Option Constraint)) (lists : Lists) (kept : List Kept) → IsCounted vars ps lists kept [] → IsCounted vars ps lists (kept ++ record { room = 0; alert = 0 } ∷ []) []
+pub counted_wider : (vars : ℕ) (ps : List (Option Constraint)) (lists : Lists) (kept : List Counters) → IsCounted vars ps lists kept [] → IsCounted vars ps lists (kept ++ record { room = 0; alert = 0 } ∷ []) []
 counted_wider vars ps lists kept h = record {
   inner = h.inner ++ [] ∷ [];
   size = omega (arith, length-append kept (none ∷ []), length-append h.inner (empty ∷ []), h.size);
@@ -208,11 +208,11 @@ counted_wider vars ps lists kept h = record {
   width = h.width;
   sums = λ l p. h.sums l p ∙ ap (λ (ts : List Weighted). coef_of ts l) (sym (terms p));
   known = λ l k d below. omega (arith, h.known l k d below, length-append kept (none ∷ []));
-  rooms = λ p. ap (λ (x : Kept). x.room) (get_or-push_default kept none p) ∙ (h.rooms p ∙ ap (room []) (sym (terms p)));
-  alerts = λ p c at. subst (λ (a : ℕ). IsAlert a c) (ap (λ (x : Kept). x.alert) (sym (get_or-push_default kept none p))) (h.alerts p c at);
+  rooms = λ p. ap (λ (x : Counters). x.room) (get_or-push_default kept none p) ∙ (h.rooms p ∙ ap (room []) (sym (terms p)));
+  alerts = λ p c at. subst (λ (a : ℕ). IsAlert a c) (ap (λ (x : Counters). x.alert) (sym (get_or-push_default kept none p))) (h.alerts p c at);
 }
   where
-    none : Kept
+    none : Counters
     none = record { room = 0; alert = 0 }
 
     empty : List Weighted
@@ -229,7 +229,7 @@ coef_of-le ts l = sum_by-le-sum_by (λ (t : Weighted). cond (is_same t.lit l) t.
     compare n false = omega arith
 
 -- terms without weight are as none
-pub entered_none : (vars : ℕ) (ps : List (Option Constraint)) (lists : Lists) (kept : List Kept) (place : ℕ) → IsCounted vars ps lists kept [] → room_at kept place ≡ 0 → at_place ps place ≡ None → place < length kept → IsEntered vars ps lists kept place []
+pub entered_none : (vars : ℕ) (ps : List (Option Constraint)) (lists : Lists) (kept : List Counters) (place : ℕ) → IsCounted vars ps lists kept [] → room_at kept place ≡ 0 → at_place ps place ≡ None → place < length kept → IsEntered vars ps lists kept place []
 entered_none vars ps lists kept place h unused empty below = record {
   counts = record {
     inner = set h.inner place [];
@@ -266,12 +266,12 @@ entered_none vars ps lists kept place h unused empty below = record {
     weightless : (p : ℕ) → p ≡ place → weight (terms_at h.inner p) ≡ 0
     weightless p e = sym (room-nil (terms_at h.inner p)) ∙ (sym (h.rooms p) ∙ (ap (room_at kept) e ∙ unused))
 
-pub counted_pushed : (b : Bool) (vars : ℕ) (ps : List (Option Constraint)) (lists : Lists) (kept : List Kept) → IsCounted vars ps lists kept [] → IsCounted vars ps lists (cond b (kept ++ record { room = 0; alert = 0 } ∷ []) kept) []
+pub counted_pushed : (b : Bool) (vars : ℕ) (ps : List (Option Constraint)) (lists : Lists) (kept : List Counters) → IsCounted vars ps lists kept [] → IsCounted vars ps lists (cond b (kept ++ record { room = 0; alert = 0 } ∷ []) kept) []
 counted_pushed true vars ps lists kept h = counted_wider vars ps lists kept h
 counted_pushed false vars ps lists kept h = h
 
 -- the same occurrences
-pub counted_same : (vars : ℕ) (ps : List (Option Constraint)) (lists lists' : Lists) (kept : List Kept) (counted : List Lit) → AreSame lists lists' → IsCounted vars ps lists kept counted → IsCounted vars ps lists' kept counted
+pub counted_same : (vars : ℕ) (ps : List (Option Constraint)) (lists lists' : Lists) (kept : List Counters) (counted : List Lit) → AreSame lists lists' → IsCounted vars ps lists kept counted → IsCounted vars ps lists' kept counted
 counted_same vars ps lists lists' kept counted same h = record {
   inner = h.inner;
   size = h.size;

@@ -12,10 +12,10 @@ use Rattle.pb_base.proofs.LiteralLemmas.{same_lit}
 use Rattle.pb_norm.specs.Constraints.{Weighted, Constraint, HasVarsWithin, weighted, weights}
 use Rattle.pb_unit.specs.declared.index.Occurrence.{Occurrence}
 use Rattle.pb_unit.specs.declared.places.Slot.{Slot}
-use Rattle.pb_unit.specs.Slots.{slot_at}
+use Rattle.pb_unit.specs.inner.Slots.{slot_at}
 use Rattle.pb_unit.specs.States.{at_place, StandWithin}
 use Rattle.pb_unit.specs.Index.{Lists, code, coef_of, sum_at, list_at, size_of, terms_at, IsPushed}
-use Rattle.pb_unit.specs.Filling.{terms_in, AddsPlace, AddsTerm, IsFilled, IsFilledAt, IsFilling, IsInRange}
+use Rattle.pb_unit.specs.inner.Filling.{terms_in, AddsPlace, AddsTerm, IsFilled, IsFilledAt, IsFilling, IsInRange}
 use Rattle.pb_unit.proofs.Telling.{parts_all, sum_at-here, sum_at-elsewhere}
 use Rattle.pb_unit.proofs.Entering.{same_code, other_code, sums_more, coef_of-push, code-within}
 use Rattle.pb_unit.proofs.Sweeping.{terms_all}

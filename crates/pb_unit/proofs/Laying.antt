@@ -7,12 +7,12 @@ use Rattle.std.proofs.lemmas.List.Sums.{sum_by-cons}
 use Rattle.std.proofs.lemmas.List.{get_or_push, get_or_append_left, get_or_past, length-map}
 use Rattle.pb_base.specs.declared.literal.Lit.{Lit}
 use Rattle.pb_norm.specs.Constraints.{Weighted, Constraint, weight}
-use Rattle.pb_unit.specs.declared.kept.Kept.{Kept}
+use Rattle.pb_unit.specs.declared.kept.Counters.{Counters}
 use Rattle.pb_unit.specs.States.{Stands, at_place}
 use Rattle.pb_unit.specs.Steps.{IsAlert}
 use Rattle.pb_unit.specs.Index.{Lists, coef_of, terms_at, room_at, alert_at, IsStore}
-use Rattle.pb_unit.specs.Filling.{terms_in, AreLaid, IsFilled, IsKeptOf}
-use Rattle.pb_unit.specs.Slots.{unit, clause_of}
+use Rattle.pb_unit.specs.inner.Filling.{terms_in, AreLaid, IsFilled, IsKeptOf}
+use Rattle.pb_unit.specs.inner.Slots.{unit, clause_of}
 use Rattle.pb_unit.proofs.Queueing.{room-nil}
 use Rattle.pb_unit.proofs.Sweeping.{terms_all}
 
@@ -25,13 +25,13 @@ at_other ps o p ne = elim (cases_lt p (length ps)) [
   | inr past ↦ get_or_past (ps ++ o ∷ []) p None (omega (arith, length-append ps (o ∷ []), past, ne)) ∙ sym (get_or_past ps p None past)
 ]
 
-abbrev none : Kept
+abbrev none : Counters
 none = record { room = 0; alert = 0 }
 
-kept_last : (ks : List Kept) (k : Kept) (p : ℕ) → p ≡ length ks → get_or (ks ++ k ∷ []) p none ≡ k
+kept_last : (ks : List Counters) (k : Counters) (p : ℕ) → p ≡ length ks → get_or (ks ++ k ∷ []) p none ≡ k
 kept_last ks k p e = get_or_push ks k none p (sym e)
 
-kept_other : (ks : List Kept) (k : Kept) (p : ℕ) → (p ≡ length ks → ⊥) → get_or (ks ++ k ∷ []) p none ≡ get_or ks p none
+kept_other : (ks : List Counters) (k : Counters) (p : ℕ) → (p ≡ length ks → ⊥) → get_or (ks ++ k ∷ []) p none ≡ get_or ks p none
 kept_other ks k p ne = elim (cases_lt p (length ks)) [
   | inl below ↦ get_or_append_left ks (k ∷ []) none p below
   | inr past ↦ get_or_past (ks ++ k ∷ []) p none (omega (arith, length-append ks (k ∷ []), past, ne)) ∙ sym (get_or_past ks p none past)
@@ -54,7 +54,7 @@ laid_none tight = record {
     no_room zero = refl
     no_room (suc p) = refl
 
-pub laid_more : (ps : List (Option Constraint)) (ks : List Kept) (tight tight' : List ℕ) (o : Option Constraint) (k : Kept) → AreLaid ps ks tight → IsKeptOf o k
+pub laid_more : (ps : List (Option Constraint)) (ks : List Counters) (tight tight' : List ℕ) (o : Option Constraint) (k : Counters) → AreLaid ps ks tight → IsKeptOf o k
     → (k.alert ≤ k.room) ⊎ Contains tight' (length ps) → ((p : ℕ) → Contains tight p → Contains tight' p) → AreLaid (ps ++ o ∷ []) (ks ++ k ∷ []) tight'
 laid_more ps ks tight tight' o k h fit here more = record {
   even = omega (arith, h.even, length-append ks (k ∷ []), length-append ps (o ∷ []));
@@ -63,22 +63,22 @@ laid_more ps ks tight tight' o k h fit here more = record {
     | inr ne ↦ h.narrow p d (sym (at_other ps o p ne) ∙ at)
   ];
   rooms = λ p. elim (cases_eq p (length ps)) [
-    | inl e ↦ ap (λ (x : Kept). x.room) (kept_last ks k p (e ∙ sym h.even)) ∙ (fit.room ∙ ap (λ (o : Option Constraint). weight (terms_in o)) (sym (at_last ps o p e)))
-    | inr ne ↦ ap (λ (x : Kept). x.room) (kept_other ks k p (λ i. ne (i ∙ h.even))) ∙ (h.rooms p ∙ ap (λ (o : Option Constraint). weight (terms_in o)) (sym (at_other ps o p ne)))
+    | inl e ↦ ap (λ (x : Counters). x.room) (kept_last ks k p (e ∙ sym h.even)) ∙ (fit.room ∙ ap (λ (o : Option Constraint). weight (terms_in o)) (sym (at_last ps o p e)))
+    | inr ne ↦ ap (λ (x : Counters). x.room) (kept_other ks k p (λ i. ne (i ∙ h.even))) ∙ (h.rooms p ∙ ap (λ (o : Option Constraint). weight (terms_in o)) (sym (at_other ps o p ne)))
   ];
   alerts = λ p d at. elim (cases_eq p (length ps)) [
-    | inl e ↦ subst (λ (a : ℕ). IsAlert a d) (sym (ap (λ (x : Kept). x.alert) (kept_last ks k p (e ∙ sym h.even)))) (fit.alert d (is p d e at))
-    | inr ne ↦ subst (λ (a : ℕ). IsAlert a d) (sym (ap (λ (x : Kept). x.alert) (kept_other ks k p (λ i. ne (i ∙ h.even))))) (h.alerts p d (sym (at_other ps o p ne) ∙ at))
+    | inl e ↦ subst (λ (a : ℕ). IsAlert a d) (sym (ap (λ (x : Counters). x.alert) (kept_last ks k p (e ∙ sym h.even)))) (fit.alert d (is p d e at))
+    | inr ne ↦ subst (λ (a : ℕ). IsAlert a d) (sym (ap (λ (x : Counters). x.alert) (kept_other ks k p (λ i. ne (i ∙ h.even))))) (h.alerts p d (sym (at_other ps o p ne) ∙ at))
   ];
   listed = λ p d at. elim (cases_eq p (length ps)) [
     | inl e ↦
-        let there : alert_at (ks ++ k ∷ []) p ≡ k.alert = ap (λ (x : Kept). x.alert) (kept_last ks k p (e ∙ sym h.even)) in
+        let there : alert_at (ks ++ k ∷ []) p ≡ k.alert = ap (λ (x : Counters). x.alert) (kept_last ks k p (e ∙ sym h.even)) in
         elim here [
           | inl enough ↦ inl (omega (arith, enough, fit.room, there, ap (λ (x : Option Constraint). weight (terms_in x)) (is p d e at)))
           | inr listed ↦ inr (subst (Contains tight') (sym e) listed)
         ]
     | inr ne ↦ elim (h.listed p d (sym (at_other ps o p ne) ∙ at)) [
-      | inl enough ↦ inl (omega (arith, enough, ap (λ (x : Kept). x.alert) (kept_other ks k p (λ i. ne (i ∙ h.even)))))
+      | inl enough ↦ inl (omega (arith, enough, ap (λ (x : Counters). x.alert) (kept_other ks k p (λ i. ne (i ∙ h.even)))))
       | inr there ↦ inr (more p there)
     ]
   ];
@@ -106,7 +106,7 @@ clause_kept ls short = record {
 }
 
 -- with the index all is there
-pub store_laid : (vars : ℕ) (ps : List (Option Constraint)) (lists : Lists) (ks : List Kept) (tight : List ℕ) → AreLaid ps ks tight → IsFilled vars ps lists → IsStore vars ps lists ks tight
+pub store_laid : (vars : ℕ) (ps : List (Option Constraint)) (lists : Lists) (ks : List Counters) (tight : List ℕ) → AreLaid ps ks tight → IsFilled vars ps lists → IsStore vars ps lists ks tight
 store_laid vars ps lists ks tight h f = record {
   counts = record {
     inner = map terms_in ps;

@@ -25,3 +25,7 @@ pub mod Trailing
 pub mod Unlisting
 pub mod UpTo
 pub mod Visits
+pub mod Ordered
+pub mod HeldLists
+pub mod Assuming
+pub mod Probed

@@ -5,7 +5,7 @@ use Rattle.std.proofs.lemmas.Bool.{cases_eq, ltb-true, ltb-false}
 use Rattle.std.proofs.lemmas.List.{get_or-set_same, get_or-set_other, length-set}
 use Rattle.pb_norm.specs.Constraints.{Constraint, weight, HasVarsWithin}
 use Rattle.pb_norm.specs.Propagation.{room}
-use Rattle.pb_unit.specs.declared.kept.Kept.{Kept}
+use Rattle.pb_unit.specs.declared.kept.Counters.{Counters}
 use Rattle.pb_unit.specs.States.{Stands, at_place, placed, StandWithin}
 use Rattle.pb_unit.specs.Steps.{IsAlert}
 use Rattle.pb_unit.specs.Index.{Lists, terms_at, room_at, alert_at, IsCounted, IsEntered, IsStore, AreListed}
@@ -48,7 +48,7 @@ length-placed ps place n c near longer known most = by_test (nat_lt place (lengt
     by_test true e = omega (arith, length-set ps place (Some c), ltb-true place (length ps) e, longer, most)
     by_test false e = omega (arith, length-append ps (Some c ∷ []), ltb-false place (length ps) e, near, known, most)
 
-pub stored : (vars : ℕ) (ps : List (Option Constraint)) (lists : Lists) (kept kept' kept'' : List Kept) (tight tight' : List ℕ) (place : ℕ) (c : Constraint) → place ≤ length ps → length kept ≡ length ps → AreListed ps kept tight → IsEntered vars ps lists kept' place c.terms → ((p : ℕ) → alert_at kept' p ≡ alert_at kept p) → place < length kept' → length kept' ≤ max (length kept) (place + 1) → length kept'' ≡ length kept' → ((p : ℕ) → room_at kept'' p ≡ room_at kept' p) → IsAlert (alert_at kept'' place) c → ((p : ℕ) → (p ≡ place → ⊥) → alert_at kept'' p ≡ alert_at kept' p) → (alert_at kept'' place ≤ room_at kept' place) ⊎ Contains tight' place → ((p : ℕ) → Contains tight p → Contains tight' p) → IsStore vars (placed place c ps) lists kept'' tight'
+pub stored : (vars : ℕ) (ps : List (Option Constraint)) (lists : Lists) (kept kept' kept'' : List Counters) (tight tight' : List ℕ) (place : ℕ) (c : Constraint) → place ≤ length ps → length kept ≡ length ps → AreListed ps kept tight → IsEntered vars ps lists kept' place c.terms → ((p : ℕ) → alert_at kept' p ≡ alert_at kept p) → place < length kept' → length kept' ≤ max (length kept) (place + 1) → length kept'' ≡ length kept' → ((p : ℕ) → room_at kept'' p ≡ room_at kept' p) → IsAlert (alert_at kept'' place) c → ((p : ℕ) → (p ≡ place → ⊥) → alert_at kept'' p ≡ alert_at kept' p) → (alert_at kept'' place ≤ room_at kept' place) ⊎ Contains tight' place → ((p : ℕ) → Contains tight p → Contains tight' p) → IsStore vars (placed place c ps) lists kept'' tight'
 stored vars ps lists kept kept' kept'' tight tight' place c near even listed h alerts known most size rooms alert others here more = record {
   counts = record {
     inner = h.counts.inner;
@@ -100,7 +100,7 @@ stands_removed (o ∷ ps) zero (suc p) c e = e
 stands_removed (o ∷ ps) (suc place) zero c e = e
 stands_removed (o ∷ ps) (suc place) (suc p) c e = stands_removed ps place p c e
 
-pub store_removed : (vars : ℕ) (ps : List (Option Constraint)) (lists : Lists) (kept : List Kept) (tight : List ℕ) (place : ℕ) → IsStore vars ps lists kept tight → IsStore vars (set ps place None) lists kept tight
+pub store_removed : (vars : ℕ) (ps : List (Option Constraint)) (lists : Lists) (kept : List Counters) (tight : List ℕ) (place : ℕ) → IsStore vars ps lists kept tight → IsStore vars (set ps place None) lists kept tight
 store_removed vars ps lists kept tight place s = record {
   counts = record {
     inner = s.counts.inner;
@@ -128,7 +128,7 @@ within_placed vars ps place c near new h p d at = elim (cases_eq p place) [
 ]
 
 -- the same after a sweep
-pub store_swept : (vars : ℕ) (ps : List (Option Constraint)) (lists : Lists) (kept kept' kept'' : List Kept) (tight tight' : List ℕ) → AreListed ps kept tight → ((p : ℕ) → alert_at kept' p ≡ alert_at kept p) → IsCounted vars ps lists kept'' [] → ((p : ℕ) (c : Constraint) → Stands ps p c → alert_at kept'' p ≡ alert_at kept' p) → length kept'' ≡ length ps → tight' ≡ tight → IsStore vars ps lists kept'' tight'
+pub store_swept : (vars : ℕ) (ps : List (Option Constraint)) (lists : Lists) (kept kept' kept'' : List Counters) (tight tight' : List ℕ) → AreListed ps kept tight → ((p : ℕ) → alert_at kept' p ≡ alert_at kept p) → IsCounted vars ps lists kept'' [] → ((p : ℕ) (c : Constraint) → Stands ps p c → alert_at kept'' p ≡ alert_at kept' p) → length kept'' ≡ length ps → tight' ≡ tight → IsStore vars ps lists kept'' tight'
 store_swept vars ps lists kept kept' kept'' tight tight' listed entered counts alerts even same = record {
   counts = counts;
   listed = subst (AreListed ps kept'') (sym same) (λ p c at. elim (listed p c at) [ inl enough ↦ inl (omega (arith, enough, alerts p c at, entered p)) | inr there ↦ inr there ]);

@@ -10,7 +10,7 @@ use Rattle.pb_base.specs.declared.literal.Term.{Term}
 use Rattle.pb_norm.specs.Constraints.{Weighted, Constraint, term_of, terms_of, weights, HasVarsWithin}
 use Rattle.pb_unit.specs.declared.places.Slot.{Slot}
 use Rattle.pb_unit.specs.declared.places.Slot.TheVariants.{Empty, Clause, General}
-use Rattle.pb_unit.specs.Slots.{unit, part, clause_of, alone_in, slot_at, with_slot, IsSlot, AreSlots}
+use Rattle.pb_unit.specs.inner.Slots.{unit, part, clause_of, alone_in, slot_at, with_slot, IsSlot, AreSlots}
 use Rattle.pb_unit.specs.States.{at_place, placed}
 
 -- ---- a longer list of literals

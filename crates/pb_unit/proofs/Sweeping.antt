@@ -9,8 +9,8 @@ use Rattle.pb_base.specs.declared.literal.Lit.{Lit}
 use Rattle.pb_norm.specs.Constraints.{Weighted, Constraint, weight}
 use Rattle.pb_norm.specs.Propagation.{room}
 use Rattle.pb_unit.specs.declared.index.Occurrence.{Occurrence}
-use Rattle.pb_unit.specs.declared.kept.Kept.{Kept}
-use Rattle.pb_unit.specs.Filling.{terms_in}
+use Rattle.pb_unit.specs.declared.kept.Counters.{Counters}
+use Rattle.pb_unit.specs.inner.Filling.{terms_in}
 use Rattle.pb_unit.specs.States.{Stands, at_place}
 use Rattle.pb_unit.specs.Steps.{IsAlert}
 use Rattle.pb_unit.proofs.Standing.{contains_head, contains_tail, contains_cases}
@@ -72,7 +72,7 @@ known-filter ps (o ∷ os) = by_test (stand_at ps o) refl (known-filter ps os)
     by_test true e rest = All-cons (λ (o : Occurrence). o.place < length ps) o (filter (stand_at ps) os) (stands-below ps o.place e) rest
     by_test false e rest = rest
 
-pub swept : (vars : ℕ) (ps : List (Option Constraint)) (lists lists' : Lists) (kept kept' : List Kept) → IsCounted vars ps lists kept [] → size_of lists' ≡ size_of lists → ((l : Lit) → list_at lists' l ≡ filter (stand_at ps) (list_at lists l)) → length kept' ≡ length ps → ((p : ℕ) → at_place ps p ≡ None → room_at kept' p ≡ 0) → ((p : ℕ) (c : Constraint) → Stands ps p c → room_at kept' p ≡ room_at kept p) → ((p : ℕ) (c : Constraint) → Stands ps p c → alert_at kept' p ≡ alert_at kept p) → IsCounted vars ps lists' kept' []
+pub swept : (vars : ℕ) (ps : List (Option Constraint)) (lists lists' : Lists) (kept kept' : List Counters) → IsCounted vars ps lists kept [] → size_of lists' ≡ size_of lists → ((l : Lit) → list_at lists' l ≡ filter (stand_at ps) (list_at lists l)) → length kept' ≡ length ps → ((p : ℕ) → at_place ps p ≡ None → room_at kept' p ≡ 0) → ((p : ℕ) (c : Constraint) → Stands ps p c → room_at kept' p ≡ room_at kept p) → ((p : ℕ) (c : Constraint) → Stands ps p c → alert_at kept' p ≡ alert_at kept p) → IsCounted vars ps lists' kept' []
 swept vars ps lists lists' kept kept' h same_width filtered even clean others alerts = record {
   inner = map terms_in ps;
   size = even ∙ sym (length-map ps terms_in);
@@ -98,8 +98,8 @@ swept vars ps lists lists' kept kept' h same_width filtered even clean others al
     room_of None p e = clean p e
     room_of (Some c) p e = others p c e ∙ (h.rooms p ∙ ap (room []) (h.same p c e))
 
-pub get_cut : (ps : List (Option Constraint)) (kept cut : List Kept) (p : ℕ) (c : Constraint) → cut ≡ take (length ps) kept → Stands ps p c → get_or cut p (record { room = 0; alert = 0 }) ≡ get_or kept p (record { room = 0; alert = 0 })
-get_cut ps kept cut p c e at = ap (λ (ks : List Kept). get_or ks p (record { room = 0; alert = 0 })) e ∙ get_or-take (length ps) kept p (record { room = 0; alert = 0 }) (stands-below ps p (ap (λ (o : Option Constraint). is_some o) at))
+pub get_cut : (ps : List (Option Constraint)) (kept cut : List Counters) (p : ℕ) (c : Constraint) → cut ≡ take (length ps) kept → Stands ps p c → get_or cut p (record { room = 0; alert = 0 }) ≡ get_or kept p (record { room = 0; alert = 0 })
+get_cut ps kept cut p c e at = ap (λ (ks : List Counters). get_or ks p (record { room = 0; alert = 0 })) e ∙ get_or-take (length ps) kept p (record { room = 0; alert = 0 }) (stands-below ps p (ap (λ (o : Option Constraint). is_some o) at))
 
 pub contains_filter : (f : ℕ → Bool) (xs : List ℕ) (x : ℕ) → f x ≡ true → Contains xs x → Contains (filter f xs) x
 contains_filter f [] x e h = h

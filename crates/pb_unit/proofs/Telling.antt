@@ -1,4 +1,4 @@
--- Kept rooms, and literals that are told.
+-- Counters rooms, and literals that are told.
 use Rattle.std.proofs.Common.{◌≡◌, ◌≤◌, ◌<◌, ◌+◌, ◌-◌, ◌^◌, inl, inr, ℕ, zero, suc, Bool, true, false, not, cond, List, [], ◌∷◌, ◌++◌, Option, None, arith, length, get_or, take, drop, map, ◌&&◌, ◌||◌, refl, ap, sym, ◌∙◌, subst, length-append}
 use Rattle.std.specs.Prelude.{All, sum_by, ◌==◌, IsNone}
 use Rattle.std.proofs.lemmas.Bool.{cases_eq, or_right, eq-eqb, ne_eqb}
@@ -13,7 +13,7 @@ use Rattle.pb_norm.specs.Constraints.{Weighted, Constraint}
 use Rattle.pb_norm.specs.Propagation.{room}
 use Rattle.pb_norm.proofs.Rooms.{IsPart, room-le, room-le-weight}
 use Rattle.pb_unit.specs.declared.index.Occurrence.{Occurrence}
-use Rattle.pb_unit.specs.declared.kept.Kept.{Kept}
+use Rattle.pb_unit.specs.declared.kept.Counters.{Counters}
 use Rattle.pb_unit.specs.States.{Stands, standing}
 use Rattle.pb_unit.specs.Trails.{oldest}
 use Rattle.pb_unit.specs.Steps.{IsCalm, IsAlert, HasTooLittle}
@@ -47,13 +47,13 @@ parts_all P (x ∷ xs) ys h =
 
 -- ---- rooms after a write
 
-abbrev none : Kept
+abbrev none : Counters
 none = record { room = 0; alert = 0 }
 
-pub lowered_none : (kept : List Kept) → AreLowered [] kept kept
+pub lowered_none : (kept : List Counters) → AreLowered [] kept kept
 lowered_none kept = record { size = refl; rooms = λ p. omega arith; alerts = λ p. refl }
 
-pub lowered_then : (a b c : List Kept) (xs ys : List Occurrence) → AreLowered xs a b → AreLowered ys b c → AreLowered (xs ++ ys) a c
+pub lowered_then : (a b c : List Counters) (xs ys : List Occurrence) → AreLowered xs a b → AreLowered ys b c → AreLowered (xs ++ ys) a c
 lowered_then a b c xs ys f g = record {
   size = g.size ∙ f.size;
   rooms = λ p. omega (arith, f.rooms p, g.rooms p, sum_at-append p xs ys);
@@ -62,7 +62,7 @@ lowered_then a b c xs ys f g = record {
 
 -- ---- a literal told to one constraint more
 
-pub told_none : (ps : List (Option Constraint)) (kept : List Kept) (held : List Lit) → IsTold ps [] kept kept held held None
+pub told_none : (ps : List (Option Constraint)) (kept : List Counters) (held : List Lit) → IsTold ps [] kept kept held held None
 told_none ps kept held = record {
   lowered = lowered_none kept;
   advances = λ given. record { reached = λ r. r; consistent = λ h. h; kept = λ l h. h; more = []; extends = refl };
@@ -70,7 +70,7 @@ told_none ps kept held = record {
   short = tt;
 }
 
-pub told_then : (ps : List (Option Constraint)) (xs ys : List Occurrence) (k k' k'' : List Kept) (h h' h'' : List Lit) (s s' : Option ℕ) → IsTold ps xs k k' h h' s → IsTold ps ys k' k'' h' h'' s' → (IsNone s' → IsNone s) → IsTold ps (xs ++ ys) k k'' h h'' s'
+pub told_then : (ps : List (Option Constraint)) (xs ys : List Occurrence) (k k' k'' : List Counters) (h h' h'' : List Lit) (s s' : Option ℕ) → IsTold ps xs k k' h h' s → IsTold ps ys k' k'' h' h'' s' → (IsNone s' → IsNone s) → IsTold ps (xs ++ ys) k k'' h h'' s'
 told_then ps xs ys k k' k'' h h' h'' s s' f g still = record {
   lowered = lowered_then k k' k'' xs ys f.lowered g.lowered;
   advances = λ given. then (standing ps) given h h' h'' (f.advances given) (g.advances given);
@@ -79,7 +79,7 @@ told_then ps xs ys k k' k'' h h' h'' s s' f g still = record {
 }
 
 -- the other constraints are calm as before
-pub calm_others : (ps : List (Option Constraint)) (kept kept' : List Kept) (o : Occurrence) (held held' : List Lit) → AreLowered (o ∷ []) kept kept' → IsPart held held' → ((c : Constraint) → Stands ps o.place c → IsCalm (room_at kept' o.place) held' c) → AreCalm ps kept held → AreCalm ps kept' held'
+pub calm_others : (ps : List (Option Constraint)) (kept kept' : List Counters) (o : Occurrence) (held held' : List Lit) → AreLowered (o ∷ []) kept kept' → IsPart held held' → ((c : Constraint) → Stands ps o.place c → IsCalm (room_at kept' o.place) held' c) → AreCalm ps kept held → AreCalm ps kept' held'
 calm_others ps kept kept' o held held' lowered part here all p c at = elim (cases_eq o.place p) [
   | inl e ↦ subst (λ (i : ℕ). IsCalm (room_at kept' i) held' c) e (here c (subst (λ (i : ℕ). Stands ps i c) (sym e) at))
   | inr ne ↦
@@ -170,11 +170,11 @@ oldest-more k more ls within =
     ap (λ (n : ℕ). drop n (more ++ ls)) (omega (arith, length-append more ls, within)) ∙ drop-append-add more ls (length ls - k)
 
 -- what is taken from a room is in it
-pub enough_room : (vars : ℕ) (ps : List (Option Constraint)) (lists : Lists) (kept : List Kept) (l : Lit) (ls : List Lit) (h : IsCounted vars ps lists kept ls) → is_among ls l ≡ false → (p : ℕ) → room (l ∷ ls) (terms_at h.inner p) + sum_at p (list_at lists (negated l)) ≡ room_at kept p
+pub enough_room : (vars : ℕ) (ps : List (Option Constraint)) (lists : Lists) (kept : List Counters) (l : Lit) (ls : List Lit) (h : IsCounted vars ps lists kept ls) → is_among ls l ≡ false → (p : ℕ) → room (l ∷ ls) (terms_at h.inner p) + sum_at p (list_at lists (negated l)) ≡ room_at kept p
 enough_room vars ps lists kept l ls h absent p =
     omega (arith, h.sums (negated l) p, h.rooms p, room_counted l ls (terms_at h.inner p) absent)
 
-pub counted_more : (vars : ℕ) (ps : List (Option Constraint)) (lists : Lists) (kept kept' : List Kept) (l : Lit) (ls : List Lit) → IsCounted vars ps lists kept ls → is_among ls l ≡ false → AreLowered (list_at lists (negated l)) kept kept' → IsCounted vars ps lists kept' (l ∷ ls)
+pub counted_more : (vars : ℕ) (ps : List (Option Constraint)) (lists : Lists) (kept kept' : List Counters) (l : Lit) (ls : List Lit) → IsCounted vars ps lists kept ls → is_among ls l ≡ false → AreLowered (list_at lists (negated l)) kept kept' → IsCounted vars ps lists kept' (l ∷ ls)
 counted_more vars ps lists kept kept' l ls h absent low = record {
   inner = h.inner;
   size = low.size ∙ h.size;
@@ -189,7 +189,7 @@ counted_more vars ps lists kept kept' l ls h absent low = record {
 }
 
 -- one literal less is counted
-pub counted_less : (vars : ℕ) (ps : List (Option Constraint)) (lists : Lists) (kept kept' : List Kept) (l : Lit) (ls : List Lit) → IsCounted vars ps lists kept' (l ∷ ls) → is_among ls l ≡ false → AreLowered (list_at lists (negated l)) kept kept' → IsCounted vars ps lists kept ls
+pub counted_less : (vars : ℕ) (ps : List (Option Constraint)) (lists : Lists) (kept kept' : List Counters) (l : Lit) (ls : List Lit) → IsCounted vars ps lists kept' (l ∷ ls) → is_among ls l ≡ false → AreLowered (list_at lists (negated l)) kept kept' → IsCounted vars ps lists kept ls
 counted_less vars ps lists kept kept' l ls h absent low = record {
   inner = h.inner;
   size = sym low.size ∙ h.size;
@@ -203,21 +203,21 @@ counted_less vars ps lists kept kept' l ls h absent low = record {
   alerts = λ p c at. subst (λ (a : ℕ). IsAlert a c) (low.alerts p) (h.alerts p c at);
 }
 
-pub fits_back : (vars : ℕ) (ps : List (Option Constraint)) (lists : Lists) (kept : List Kept) (l : Lit) (ls : List Lit) → IsCounted vars ps lists kept (l ∷ ls) → is_among ls l ≡ false → (p : ℕ) → room_at kept p + sum_at p (list_at lists (negated l)) < 2 ^ 128
+pub fits_back : (vars : ℕ) (ps : List (Option Constraint)) (lists : Lists) (kept : List Counters) (l : Lit) (ls : List Lit) → IsCounted vars ps lists kept (l ∷ ls) → is_among ls l ≡ false → (p : ℕ) → room_at kept p + sum_at p (list_at lists (negated l)) < 2 ^ 128
 fits_back vars ps lists kept l ls h absent p =
     omega (arith, h.sums (negated l) p, h.rooms p, room_counted l ls (terms_at h.inner p) absent, room-le-weight ls (terms_at h.inner p), h.narrow p)
 
 -- the kept rooms are no less than the rooms under more literals
-pub bound_at : (vars : ℕ) (ps : List (Option Constraint)) (lists : Lists) (kept : List Kept) (ls held : List Lit) (h : IsCounted vars ps lists kept ls) → IsPart ls held → (p : ℕ) (c : Constraint) → Stands ps p c → room held c.terms ≤ room_at kept p
+pub bound_at : (vars : ℕ) (ps : List (Option Constraint)) (lists : Lists) (kept : List Counters) (ls held : List Lit) (h : IsCounted vars ps lists kept ls) → IsPart ls held → (p : ℕ) (c : Constraint) → Stands ps p c → room held c.terms ≤ room_at kept p
 bound_at vars ps lists kept ls held h part p c at =
     let e : room ls (terms_at h.inner p) ≡ room ls c.terms = ap (room ls) (h.same p c at) in
     omega (arith, e, h.rooms p, room-le ls held part c.terms)
 
-pub counted_as : (vars : ℕ) (ps : List (Option Constraint)) (lists : Lists) (kept : List Kept) (a b : List Lit) → a ≡ b → IsCounted vars ps lists kept a → IsCounted vars ps lists kept b
+pub counted_as : (vars : ℕ) (ps : List (Option Constraint)) (lists : Lists) (kept : List Counters) (a b : List Lit) → a ≡ b → IsCounted vars ps lists kept a → IsCounted vars ps lists kept b
 counted_as vars ps lists kept a b e h = subst (IsCounted vars ps lists kept) e h
 
 -- the same with what was given back
-pub lowered_back : (a b c : List Kept) (xs ys : List Occurrence) → AreLowered xs b c → AreLowered ys a b → AreLowered (xs ++ ys) a c
+pub lowered_back : (a b c : List Counters) (xs ys : List Occurrence) → AreLowered xs b c → AreLowered ys a b → AreLowered (xs ++ ys) a c
 lowered_back a b c xs ys f g = record {
   size = f.size ∙ g.size;
   rooms = λ p. omega (arith, f.rooms p, g.rooms p, sum_at-append p xs ys);
@@ -225,34 +225,34 @@ lowered_back a b c xs ys f g = record {
 }
 
 -- in the midst of telling, the rooms are still enough
-pub told_bound : (ps : List (Option Constraint)) (os : List Occurrence) (kept kept' : List Kept) (held held' : List Lit) (s : Option ℕ) (i : ℕ) (d : Occurrence) → IsTold ps (take i os) kept kept' held held' s → i < length os → ((p : ℕ) (c : Constraint) → Stands ps p c → room held c.terms + sum_at p os ≤ room_at kept p) → (c : Constraint) → Stands ps (get_or os i d).place c → room held' c.terms + (get_or os i d).coef ≤ room_at kept' (get_or os i d).place
+pub told_bound : (ps : List (Option Constraint)) (os : List Occurrence) (kept kept' : List Counters) (held held' : List Lit) (s : Option ℕ) (i : ℕ) (d : Occurrence) → IsTold ps (take i os) kept kept' held held' s → i < length os → ((p : ℕ) (c : Constraint) → Stands ps p c → room held c.terms + sum_at p os ≤ room_at kept p) → (c : Constraint) → Stands ps (get_or os i d).place c → room held' c.terms + (get_or os i d).coef ≤ room_at kept' (get_or os i d).place
 told_bound ps os kept kept' held held' s i d told below bound c at =
     let o : Occurrence = get_or os i d in
     omega (arith, bound o.place c at, told.lowered.rooms o.place, sum_at-front o.place os i d below, sum_at-here o, room-le held held' (told.advances []).kept c.terms)
 
-pub told_enough : (ps : List (Option Constraint)) (os : List Occurrence) (kept kept' : List Kept) (held held' : List Lit) (s : Option ℕ) (i : ℕ) (d : Occurrence) → IsTold ps (take i os) kept kept' held held' s → i < length os → ((p : ℕ) → sum_at p os ≤ room_at kept p) → (get_or os i d).coef ≤ room_at kept' (get_or os i d).place
+pub told_enough : (ps : List (Option Constraint)) (os : List Occurrence) (kept kept' : List Counters) (held held' : List Lit) (s : Option ℕ) (i : ℕ) (d : Occurrence) → IsTold ps (take i os) kept kept' held held' s → i < length os → ((p : ℕ) → sum_at p os ≤ room_at kept p) → (get_or os i d).coef ≤ room_at kept' (get_or os i d).place
 told_enough ps os kept kept' held held' s i d told below enough =
     let o : Occurrence = get_or os i d in
     omega (arith, enough o.place, told.lowered.rooms o.place, sum_at-front o.place os i d below, sum_at-here o)
 
 -- the same of places where the coefficient is 1
-pub unit_bound : (ps : List (Option Constraint)) (us : List ℕ) (kept kept' : List Kept) (held held' : List Lit) (s : Option ℕ) (i : ℕ) → IsTold ps (map unit_at (take i us)) kept kept' held held' s → i < length us → ((p : ℕ) (c : Constraint) → Stands ps p c → room held c.terms + sum_at p (map unit_at us) ≤ room_at kept p) → (c : Constraint) → Stands ps (get_or us i 0) c → room held' c.terms + 1 ≤ room_at kept' (get_or us i 0)
+pub unit_bound : (ps : List (Option Constraint)) (us : List ℕ) (kept kept' : List Counters) (held held' : List Lit) (s : Option ℕ) (i : ℕ) → IsTold ps (map unit_at (take i us)) kept kept' held held' s → i < length us → ((p : ℕ) (c : Constraint) → Stands ps p c → room held c.terms + sum_at p (map unit_at us) ≤ room_at kept p) → (c : Constraint) → Stands ps (get_or us i 0) c → room held' c.terms + 1 ≤ room_at kept' (get_or us i 0)
 unit_bound ps us kept kept' held held' s i told below bound c at =
     let p : ℕ = get_or us i 0 in
     omega (arith, bound p c at, told.lowered.rooms p, units_front p us i below, sum_at-here (unit_at p), room-le held held' (told.advances []).kept c.terms)
 
-pub unit_enough : (ps : List (Option Constraint)) (us : List ℕ) (kept kept' : List Kept) (held held' : List Lit) (s : Option ℕ) (i : ℕ) → IsTold ps (map unit_at (take i us)) kept kept' held held' s → i < length us → ((p : ℕ) → sum_at p (map unit_at us) ≤ room_at kept p) → 1 ≤ room_at kept' (get_or us i 0)
+pub unit_enough : (ps : List (Option Constraint)) (us : List ℕ) (kept kept' : List Counters) (held held' : List Lit) (s : Option ℕ) (i : ℕ) → IsTold ps (map unit_at (take i us)) kept kept' held held' s → i < length us → ((p : ℕ) → sum_at p (map unit_at us) ≤ room_at kept p) → 1 ≤ room_at kept' (get_or us i 0)
 unit_enough ps us kept kept' held held' s i told below enough =
     let p : ℕ = get_or us i 0 in
     omega (arith, enough p, told.lowered.rooms p, units_front p us i below, sum_at-here (unit_at p))
 
-pub rest_bound : (ps : List (Option Constraint)) (xs ys : List Occurrence) (kept kept' : List Kept) (held held' : List Lit) (s : Option ℕ) → IsTold ps xs kept kept' held held' s → ((p : ℕ) (c : Constraint) → Stands ps p c → room held c.terms + sum_at p (xs ++ ys) ≤ room_at kept p) → (p : ℕ) (c : Constraint) → Stands ps p c → room held' c.terms + sum_at p ys ≤ room_at kept' p
+pub rest_bound : (ps : List (Option Constraint)) (xs ys : List Occurrence) (kept kept' : List Counters) (held held' : List Lit) (s : Option ℕ) → IsTold ps xs kept kept' held held' s → ((p : ℕ) (c : Constraint) → Stands ps p c → room held c.terms + sum_at p (xs ++ ys) ≤ room_at kept p) → (p : ℕ) (c : Constraint) → Stands ps p c → room held' c.terms + sum_at p ys ≤ room_at kept' p
 rest_bound ps xs ys kept kept' held held' s told bound p c at = omega (arith, bound p c at, sum_at-append p xs ys, told.lowered.rooms p, room-le held held' (told.advances []).kept c.terms)
 
-pub told_room : (vars : ℕ) (ps : List (Option Constraint)) (lists : Lists) (kept : List Kept) (l : Lit) (ls held : List Lit) → IsCounted vars ps lists kept ls → is_among ls l ≡ false → IsPart (l ∷ ls) held → (p : ℕ) (c : Constraint) → Stands ps p c → room held c.terms + sum_at p (list_at lists (negated l)) ≤ room_at kept p
+pub told_room : (vars : ℕ) (ps : List (Option Constraint)) (lists : Lists) (kept : List Counters) (l : Lit) (ls held : List Lit) → IsCounted vars ps lists kept ls → is_among ls l ≡ false → IsPart (l ∷ ls) held → (p : ℕ) (c : Constraint) → Stands ps p c → room held c.terms + sum_at p (list_at lists (negated l)) ≤ room_at kept p
 told_room vars ps lists kept l ls held h absent part p c at =
     let e : room (l ∷ ls) (terms_at h.inner p) ≡ room (l ∷ ls) c.terms = ap (room (l ∷ ls)) (h.same p c at) in
     omega (arith, e, enough_room vars ps lists kept l ls h absent p, room-le (l ∷ ls) held part c.terms)
 
-pub counted_next : (vars : ℕ) (ps : List (Option Constraint)) (lists : Lists) (kept : List Kept) (l : Lit) (held : List Lit) (n k : ℕ) → k + 1 ≡ n → oldest (k + 1) held ≡ l ∷ oldest k held → IsCounted vars ps lists kept (oldest n held) → IsCounted vars ps lists kept (l ∷ oldest k held)
+pub counted_next : (vars : ℕ) (ps : List (Option Constraint)) (lists : Lists) (kept : List Counters) (l : Lit) (held : List Lit) (n k : ℕ) → k + 1 ≡ n → oldest (k + 1) held ≡ l ∷ oldest k held → IsCounted vars ps lists kept (oldest n held) → IsCounted vars ps lists kept (l ∷ oldest k held)
 counted_next vars ps lists kept l held n k e older h = subst (IsCounted vars ps lists kept) (ap (λ (i : ℕ). oldest i held) (sym e) ∙ older) h

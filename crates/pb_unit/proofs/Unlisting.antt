@@ -13,7 +13,7 @@ use Rattle.pb_base.proofs.LiteralLemmas.{same_lit, is_same-refl}
 use Rattle.pb_norm.specs.Constraints.{Weighted, Constraint, weight}
 use Rattle.pb_norm.specs.Propagation.{room}
 use Rattle.pb_unit.specs.declared.index.Occurrence.{Occurrence}
-use Rattle.pb_unit.specs.declared.kept.Kept.{Kept}
+use Rattle.pb_unit.specs.declared.kept.Counters.{Counters}
 use Rattle.pb_unit.specs.States.{at_place}
 use Rattle.pb_unit.specs.Steps.{IsAlert}
 use Rattle.pb_unit.specs.Index.{Lists, code, size_of, units_at, others_at, unit_at, HasOneMore, coef_of, sum_at, list_at, terms_at, room_at, alert_at, IsPushed, IsCounted, IsStore, AreLowered}
@@ -120,11 +120,11 @@ left_at lists lists' o l pushed =
     (ap (λ (b : Bool). sum_at o.place (list_at lists' l) + cond b (sum_at o.place (o ∷ [])) 0) (is_same-refl l) ∙
     ap (λ (n : ℕ). sum_at o.place (list_at lists' l) + n) (sum_at-here o))
 
-pub taken_enough : (vars : ℕ) (ps : List (Option Constraint)) (lists lists' : Lists) (kept : List Kept) (o : Occurrence) (l : Lit) → IsPushed l o lists' lists → IsCounted vars ps lists kept [] → o.coef ≤ room_at kept o.place
+pub taken_enough : (vars : ℕ) (ps : List (Option Constraint)) (lists lists' : Lists) (kept : List Counters) (o : Occurrence) (l : Lit) → IsPushed l o lists' lists → IsCounted vars ps lists kept [] → o.coef ≤ room_at kept o.place
 taken_enough vars ps lists lists' kept o l pushed h =
     omega (arith, left_at lists lists' o l pushed, h.sums l o.place, rest-weight l (terms_at h.inner o.place), h.rooms o.place, room-nil (terms_at h.inner o.place))
 
-pub counted_taken : (vars : ℕ) (ps : List (Option Constraint)) (lists lists' : Lists) (kept kept' : List Kept) (o : Occurrence) (l : Lit) → IsPushed l o lists' lists → at_place ps o.place ≡ None → AreLowered (o ∷ []) kept kept' → IsCounted vars ps lists kept [] → IsCounted vars ps lists' kept' []
+pub counted_taken : (vars : ℕ) (ps : List (Option Constraint)) (lists lists' : Lists) (kept kept' : List Counters) (o : Occurrence) (l : Lit) → IsPushed l o lists' lists → at_place ps o.place ≡ None → AreLowered (o ∷ []) kept kept' → IsCounted vars ps lists kept [] → IsCounted vars ps lists' kept' []
 counted_taken vars ps lists lists' kept kept' o l pushed empty low h = record {
   inner = inner;
   size = low.size ∙ (h.size ∙ sym (length-set h.inner o.place less));
@@ -201,7 +201,7 @@ counted_taken vars ps lists lists' kept kept' o l pushed empty low h = record {
         nothing n true = omega arith
         nothing n false = omega arith
 
-pub store_unlisted : (vars : ℕ) (ps : List (Option Constraint)) (lists lists' : Lists) (kept kept' : List Kept) (tight : List ℕ) → length kept' ≡ length kept → IsCounted vars ps lists' kept' [] → ((p : ℕ) → alert_at kept' p ≡ alert_at kept p) → IsStore vars ps lists kept tight → IsStore vars ps lists' kept' tight
+pub store_unlisted : (vars : ℕ) (ps : List (Option Constraint)) (lists lists' : Lists) (kept kept' : List Counters) (tight : List ℕ) → length kept' ≡ length kept → IsCounted vars ps lists' kept' [] → ((p : ℕ) → alert_at kept' p ≡ alert_at kept p) → IsStore vars ps lists kept tight → IsStore vars ps lists' kept' tight
 store_unlisted vars ps lists lists' kept kept' tight size counts alerts s = record {
   counts = counts;
   listed = λ p c at. elim (s.listed p c at) [

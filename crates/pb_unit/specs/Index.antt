@@ -5,7 +5,7 @@ use Rattle.pb_base.specs.Literals.{is_same}
 use Rattle.pb_norm.specs.Constraints.{Weighted, Constraint, weight}
 use Rattle.pb_norm.specs.Propagation.{room}
 use Rattle.pb_unit.specs.declared.index.Occurrence.{Occurrence}
-use Rattle.pb_unit.specs.declared.kept.Kept.{Kept}
+use Rattle.pb_unit.specs.declared.kept.Counters.{Counters}
 use Rattle.pb_unit.specs.States.{Stands, at_place, standing}
 use Rattle.pb_unit.specs.Steps.{IsCalm, IsAlert, Advances, HasTooLittle}
 
@@ -89,30 +89,30 @@ pub record AreSame (before after : Lists) : Type 0 where
 abbrev pub terms_at : List (List Weighted) → ℕ → List Weighted
 terms_at inner place = slice_index_or inner place []
 
-abbrev pub room_at : List Kept → ℕ → ℕ
+abbrev pub room_at : List Counters → ℕ → ℕ
 room_at kept place = (slice_index_or kept place (record { room = 0; alert = 0 })).room
 
-abbrev pub alert_at : List Kept → ℕ → ℕ
+abbrev pub alert_at : List Counters → ℕ → ℕ
 alert_at kept place = (slice_index_or kept place (record { room = 0; alert = 0 })).alert
 
 -- what stands at the place is calm with the room that is kept
-abbrev pub IsCalmAt : List (Option Constraint) → List Kept → List Lit → ℕ → Type 0
+abbrev pub IsCalmAt : List (Option Constraint) → List Counters → List Lit → ℕ → Type 0
 IsCalmAt places kept ls place = (c : Constraint) → Stands places place c → IsCalm (room_at kept place) ls c
 
 -- the room that is kept at the place is what stands there can still add, and so much more, or greater
-abbrev pub HasRoom : List (Option Constraint) → List Kept → List Lit → ℕ → ℕ → Type 0
+abbrev pub HasRoom : List (Option Constraint) → List Counters → List Lit → ℕ → ℕ → Type 0
 HasRoom places kept ls place more = (c : Constraint) → Stands places place c → room ls c.terms + more ≤ room_at kept place
 
 -- each constraint that stands is calm with the room that is kept
-abbrev pub AreCalm : List (Option Constraint) → List Kept → List Lit → Type 0
+abbrev pub AreCalm : List (Option Constraint) → List Counters → List Lit → Type 0
 AreCalm places kept ls = (place : ℕ) → IsCalmAt places kept ls place
 
 -- with the alert or more a constraint that stands is calm
-abbrev pub AreAlerts : List (Option Constraint) → List Kept → Type 0
+abbrev pub AreAlerts : List (Option Constraint) → List Counters → Type 0
 AreAlerts places kept = (place : ℕ) (c : Constraint) → Stands places place c → IsAlert (alert_at kept place) c
 
 -- The index has the terms of each place, also of one whose constraint was removed, and the rooms count some literals
-pub record IsCounted (vars : ℕ) (places : List (Option Constraint)) (lists : Lists) (kept : List Kept) (counted : List Lit) : Type 0 where
+pub record IsCounted (vars : ℕ) (places : List (Option Constraint)) (lists : Lists) (kept : List Counters) (counted : List Lit) : Type 0 where
   pub inner : List (List Weighted)
   pub size : length kept ≡ length inner
   pub longer : length places ≤ length kept
@@ -125,33 +125,33 @@ pub record IsCounted (vars : ℕ) (places : List (Option Constraint)) (lists : L
   pub alerts : AreAlerts places kept
 
 -- the rooms after some occurrences were taken from them
-pub record AreLowered (os : List Occurrence) (before after : List Kept) : Type 0 where
+pub record AreLowered (os : List Occurrence) (before after : List Counters) : Type 0 where
   pub size : length after ≡ length before
   pub rooms : (p : ℕ) → room_at after p + sum_at p os ≡ room_at before p
   pub alerts : (p : ℕ) → alert_at after p ≡ alert_at before p
 
 -- a literal was told to some of the constraints where its negation stands
-pub record IsTold (places : List (Option Constraint)) (os : List Occurrence) (kept kept' : List Kept) (held held' : List Lit) (found : Option ℕ) : Type 0 where
+pub record IsTold (places : List (Option Constraint)) (os : List Occurrence) (kept kept' : List Counters) (held held' : List Lit) (found : Option ℕ) : Type 0 where
   pub lowered : AreLowered os kept kept'
   pub advances : (given : List Lit) → Advances (standing places) given held held'
   pub calm : IsNone found → AreCalm places kept held → AreCalm places kept' held'
   pub short : IfSome found (HasTooLittle places held')
 
 -- the same, with nothing counted, and these terms at the place
-pub record IsEntered (vars : ℕ) (places : List (Option Constraint)) (lists : Lists) (kept : List Kept) (place : ℕ) (ts : List Weighted) : Type 0 where
+pub record IsEntered (vars : ℕ) (places : List (Option Constraint)) (lists : Lists) (kept : List Counters) (place : ℕ) (ts : List Weighted) : Type 0 where
   pub counts : IsCounted vars places lists kept []
   pub terms : terms_at counts.inner place ≡ ts
 
 -- one more term was entered, whatever was entered before
-abbrev pub Enters : ℕ → List (Option Constraint) → ℕ → Weighted → Lists → List Kept → Lists → List Kept → Type 0
+abbrev pub Enters : ℕ → List (Option Constraint) → ℕ → Weighted → Lists → List Counters → Lists → List Counters → Type 0
 Enters vars places place t lists kept lists' kept' = (ts : List Weighted) → IsEntered vars places lists kept place ts → IsEntered vars places lists' kept' place (ts ++ t ∷ [])
 
 -- each constraint that stands has room enough at the start, or is listed
-abbrev pub AreListed : List (Option Constraint) → List Kept → List ℕ → Type 0
+abbrev pub AreListed : List (Option Constraint) → List Counters → List ℕ → Type 0
 AreListed places kept tight = (p : ℕ) (c : Constraint) → Stands places p c → (alert_at kept p ≤ weight c.terms) ⊎ Contains tight p
 
 -- constraints with their index and rooms, while nothing is told
-pub record IsStore (vars : ℕ) (places : List (Option Constraint)) (lists : Lists) (kept : List Kept) (tight : List ℕ) : Type 0 where
+pub record IsStore (vars : ℕ) (places : List (Option Constraint)) (lists : Lists) (kept : List Counters) (tight : List ℕ) : Type 0 where
   pub counts : IsCounted vars places lists kept []
   pub listed : AreListed places kept tight
   pub even : length kept ≡ length places

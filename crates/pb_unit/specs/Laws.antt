@@ -4,7 +4,7 @@ use Rattle.pb_base.specs.declared.literal.Lit.{Lit}
 use Rattle.pb_base.specs.Literals.{negated, is_among}
 use Rattle.pb_norm.specs.ClauseForm.{clause_form}
 use Rattle.pb_norm.specs.Propagation as propagation
-use Rattle.pb_norm.specs.laws.PropagationLaws.{AreAmong}
+use Rattle.pb_norm.specs.PropagationLaws.{AreAmong}
 use Rattle.pb_norm.specs.ClausePropagation.{ClausesReach, ClauseConflict}
 use Rattle.pb_unit.specs.declared.engine.Outcome.TheVariants.{Conflict, Fixed}
 use Rattle.pb_unit.specs.States.{EngineState, standing, IsReached}

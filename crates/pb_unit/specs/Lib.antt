@@ -1,13 +1,13 @@
 pub mod Ends
-pub mod Filling
 pub mod Index
-pub mod Kept
+pub mod Counters
 pub mod Laws
 pub mod Outcomes
 pub mod Reaching
 pub mod Renaming
 pub mod Reads
-pub mod Slots
 pub mod States
 pub mod Steps
 pub mod Trails
+pub mod inner
+pub mod Reached

@@ -13,7 +13,7 @@ use crate::constraints::Constraints;
 use crate::kept::room_of;
 use crate::queue::Queue;
 use crate::rounds::Rounds;
-use crate::store::{self, Wear};
+use crate::store::{self, Garbage};
 use crate::trail::Trail;
 use pb_base::{Lit, NoMemory};
 use pb_norm::Linear;
@@ -34,7 +34,7 @@ pub struct Engine {
     alloc: Global,
     queue: Queue,
     assumed: Trail,
-    wear: Wear,
+    garbage: Garbage,
 }
 
 // Written out: one call in the proof of a function that owns it.
@@ -44,14 +44,14 @@ impl Drop for Engine {
             alloc: _,
             queue: _,
             assumed: _,
-            wear: _,
+            garbage: _,
         } = self;
     }
 }
 
 impl Model for Engine {
     ghost use Rattle.pb_unit.specs.States.{EngineState};
-    ghost use Rattle.pb_unit.specs.Kept.{IsKept, state_of};
+    ghost use Rattle.pb_unit.specs.Counters.{IsKept, state_of};
 
     ghost Value = { EngineState };
 
@@ -82,7 +82,7 @@ impl Engine {
             alloc,
             queue,
             assumed,
-            wear: Wear::new(alloc, count),
+            garbage: Garbage::new(alloc, count),
         })
     }
 
@@ -136,11 +136,11 @@ impl Engine {
         ensures refused { IsErr result → self.new ≡ self.old }
     {
         let copy = constraint.copy(self.alloc)?;
-        if !self.wear.reserve(self.queue.places.len()) {
+        if !self.garbage.reserve(self.queue.places.len()) {
             return Err(NoMemory);
         }
         self.queue.rewind();
-        let place = store::free_place(&self.queue.places, &self.queue.kept, &mut self.wear);
+        let place = store::free_place(&self.queue.places, &self.queue.kept, &mut self.garbage);
         if !store::put(
             self.alloc,
             self.queue.held.vars(),
@@ -153,7 +153,7 @@ impl Engine {
         ) {
             return Err(NoMemory);
         }
-        self.wear.take(place);
+        self.garbage.take(place);
         self.assumed.clear();
         self.queue.held.clear();
         Ok(place as u64)
@@ -172,7 +172,7 @@ impl Engine {
         self.assumed.clear();
         self.queue.held.clear();
         store::let_go(
-            &mut self.wear,
+            &mut self.garbage,
             &mut self.queue.places,
             &mut self.queue.lists,
             &mut self.queue.kept,
@@ -201,7 +201,7 @@ impl Engine {
             alloc: _,
             queue,
             assumed: _,
-            wear: _,
+            garbage: _,
         } = self;
         Rounds::of(queue.into_held())
     }

@@ -3,9 +3,9 @@ ghost use Rattle.std.specs.Prelude.{◌≡◌, ◌≤◌, ◌<◌, ◌+◌, ◌*
 ghost use Rattle.std.specs.Bool.{OnTrue};
 ghost use Rattle.pb_base.specs.declared.literal.Lit.{Lit};
 ghost use Rattle.pb_norm.specs.Constraints.{weighted, weights};
-ghost use Rattle.pb_unit.specs.Filling.{terms_in, AddsPlace, AddsTerm, AreNumbered, IsFilled, IsFilling, IsInRange};
+ghost use Rattle.pb_unit.specs.inner.Filling.{terms_in, AddsPlace, AddsTerm, AreNumbered, IsFilled, IsFilling, IsInRange};
 ghost use Rattle.pb_unit.specs.Index.{code, list_at, size_of};
-ghost use Rattle.pb_unit.specs.Slots.{unit, slot_at, AreSlots, IsSlot};
+ghost use Rattle.pb_unit.specs.inner.Slots.{unit, slot_at, AreSlots, IsSlot};
 ghost use Rattle.pb_unit.specs.States.{StandWithin};
 
 use crate::index::{Index, code};

@@ -2,7 +2,7 @@
 ghost use Rattle.std.specs.Prelude.{◌≡◌, ◌≤◌, ◌<◌, ◌+◌, ◌^◌, ◌∷◌, [], ℕ, nat_lt, List, length, map, All, take, Some};
 ghost use Rattle.pb_norm.specs.Constraints.{weight, weights};
 ghost use Rattle.pb_unit.specs.Steps.{IsAlert};
-ghost use Rattle.pb_unit.specs.Filling.{IsKeptOf};
+ghost use Rattle.pb_unit.specs.inner.Filling.{IsKeptOf};
 ghost use Rattle.pb_unit.specs.Index.{unit_at, sum_at, room_at, alert_at, AreLowered};
 
 use crate::index::Occurrence;
@@ -10,13 +10,13 @@ use pb_norm::Linear;
 
 /// What the terms of a constraint can still add, and with how much of that it needs no literal, whatever holds.
 #[derive(Clone, Copy)]
-pub(crate) struct Kept {
+pub(crate) struct Counters {
     pub(crate) room: u128,
     pub(crate) alert: u128,
 }
 
 // Takes a coefficient from the room of its constraint. Whether the constraint may need something now.
-pub(crate) fn lower(kept: &mut [Kept], occurrence: &Occurrence) -> bool
+pub(crate) fn lower(kept: &mut [Counters], occurrence: &Occurrence) -> bool
     requires known { occurrence.now.place < length kept.old }
     requires enough { occurrence.now.coef ≤ room_at kept.old occurrence.now.place }
     ensures lowered { AreLowered (occurrence.now ∷ []) kept.old kept.new }
@@ -28,7 +28,7 @@ pub(crate) fn lower(kept: &mut [Kept], occurrence: &Occurrence) -> bool
 }
 
 // Gives a coefficient back.
-pub(crate) fn raise(kept: &mut [Kept], occurrence: &Occurrence)
+pub(crate) fn raise(kept: &mut [Counters], occurrence: &Occurrence)
     requires known { occurrence.now.place < length kept.old }
     requires fits { room_at kept.old occurrence.now.place + occurrence.now.coef < 2 ^ 128 }
     ensures { AreLowered (occurrence.now ∷ []) kept.new kept.old }
@@ -37,7 +37,7 @@ pub(crate) fn raise(kept: &mut [Kept], occurrence: &Occurrence)
 }
 
 // Gives the coefficients back to the rooms.
-pub(crate) fn raise_all(kept: &mut [Kept], occurrences: &[Occurrence])
+pub(crate) fn raise_all(kept: &mut [Counters], occurrences: &[Occurrence])
     requires known { All (λ o. o.place < length kept.old) occurrences.now }
     requires fits { (p : ℕ) → room_at kept.old p + sum_at p occurrences.now < 2 ^ 128 }
     ensures { AreLowered occurrences.now kept.new kept.old }
@@ -48,7 +48,7 @@ pub(crate) fn raise_all(kept: &mut [Kept], occurrences: &[Occurrence])
 }
 
 // Gives a coefficient of 1 back to the rooms of these places.
-pub(crate) fn raise_units(kept: &mut [Kept], places: &[u32])
+pub(crate) fn raise_units(kept: &mut [Counters], places: &[u32])
     requires known { All (λ o. o.place < length kept.old) (map unit_at places.now) }
     requires fits { (p : ℕ) → room_at kept.old p + sum_at p (map unit_at places.now) < 2 ^ 128 }
     ensures { AreLowered (map unit_at places.now) kept.new kept.old }
@@ -63,7 +63,7 @@ pub(crate) fn raise_units(kept: &mut [Kept], places: &[u32])
 }
 
 // The room at a place, 0 past the end.
-pub(crate) fn room_of(kept: &[Kept], place: usize) -> u128
+pub(crate) fn room_of(kept: &[Counters], place: usize) -> u128
     ensures { result ≡ room_at kept.now place }
 {
     match kept.get(place) {
@@ -73,7 +73,7 @@ pub(crate) fn room_of(kept: &[Kept], place: usize) -> u128
 }
 
 /// Nothing is kept where nothing stands.
-pub(crate) const NOTHING: Kept = Kept { room: 0, alert: 0 };
+pub(crate) const NOTHING: Counters = Counters { room: 0, alert: 0 };
 
 // With this room a constraint needs nothing, whatever holds.
 pub(crate) fn alert_of(constraint: &Linear) -> u128
@@ -90,10 +90,10 @@ pub(crate) fn alert_of(constraint: &Linear) -> u128
 }
 
 // What is kept of a constraint, while nothing is told.
-pub(crate) fn kept_of(constraint: &Linear) -> Kept
+pub(crate) fn kept_of(constraint: &Linear) -> Counters
     ensures { IsKeptOf (Some constraint.now) result }
 {
-    Kept {
+    Counters {
         room: constraint.weight(),
         alert: alert_of(constraint),
     }

@@ -13,6 +13,7 @@ mod numbering;
 mod passes;
 mod places;
 mod queue;
+mod reaching;
 mod rounds;
 mod slack;
 mod store;
@@ -27,4 +28,5 @@ pub use newest::newest_that;
 pub use numbering::{
     greatest, greatest_of, lit_at, named_lits, names_of, numbered_forms, numbered_lits, vars_of,
 };
+pub use reaching::reached_literals;
 pub use rounds::Rounds;

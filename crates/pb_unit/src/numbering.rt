@@ -125,7 +125,7 @@ pub fn lit_at(index: u32, positive: bool) -> Lit
 }
 
 // The literal over the place of its variable among the names, from 1 on.
-fn numbered(names: &[u32], lit: Lit) -> Lit
+fn renumbered_literal(names: &[u32], lit: Lit) -> Lit
     requires names { AreNames names.now }
     requires known { Contains names.now lit.var }
     ensures { result ≡ renamed_lit (number_in names.now) lit }
@@ -146,7 +146,7 @@ fn numbered_terms(alloc: Global, names: &[u32], terms: &[Term]) -> Result<Vec<Te
     for term in terms {
         made.push(Term {
             coef: term.coef,
-            lit: numbered(names, term.lit),
+            lit: renumbered_literal(names, term.lit),
         })?;
     }
     Ok(made)
@@ -212,13 +212,13 @@ pub fn numbered_lits(alloc: Global, names: &[u32], lits: &[Lit]) -> Result<Vec<L
 {
     let mut made = Vec::new(alloc);
     for lit in lits {
-        made.push(numbered(names, *lit))?;
+        made.push(renumbered_literal(names, *lit))?;
     }
     Ok(made)
 }
 
 // The literal of the variable at a place.
-fn named(names: &[u32], lit: Lit) -> Lit
+fn original_literal(names: &[u32], lit: Lit) -> Lit
     requires names { AreNames names.now }
     requires place { IsUpTo (length names.now) lit.var }
     ensures { result ≡ renamed_lit (name_at names.now) lit }
@@ -234,7 +234,7 @@ pub fn named_lits(alloc: Global, names: &[u32], lits: &[Lit]) -> Result<Vec<Lit>
 {
     let mut made = Vec::new(alloc);
     for lit in lits {
-        made.push(named(names, *lit))?;
+        made.push(original_literal(names, *lit))?;
     }
     Ok(made)
 }

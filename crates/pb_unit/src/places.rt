@@ -7,14 +7,14 @@ ghost use Rattle.pb_norm.specs.Constraints.{Constraint, terms_of, weight, weight
 ghost use Rattle.pb_norm.specs.Propagation.{room};
 ghost use Rattle.pb_unit.specs.States.{StandWithin, Stands, at_place, placed, standing, slack_of};
 ghost use Rattle.pb_unit.specs.Steps.{IsCalm, Advances, HasTooLittle};
-ghost use Rattle.pb_unit.specs.Filling.{terms_in, IsFilling, IsInRange, IsKeptOf};
+ghost use Rattle.pb_unit.specs.inner.Filling.{terms_in, IsFilling, IsInRange, IsKeptOf};
 ghost use Rattle.pb_unit.specs.Index.{list_at, size_of};
-ghost use Rattle.pb_unit.specs.Slots.{unit, part, slot_at, with_slot, AreSlots, IsSlot};
+ghost use Rattle.pb_unit.specs.inner.Slots.{unit, part, slot_at, with_slot, AreSlots, IsSlot};
 ghost use Rattle.pb_unit.specs.Reads.{ReadsAt};
 
 use crate::filling::{count_lits, count_terms, fill_range};
 use crate::index::Index;
-use crate::kept::{Kept, NOTHING, kept_of};
+use crate::kept::{Counters, NOTHING, kept_of};
 use crate::slack::{open_units, room_under, slack_of, slack_of_clause};
 use crate::trail::Trail;
 use crate::visit::{visit, visit_clause};
@@ -49,7 +49,7 @@ impl Drop for Places {
 impl Model for Places {
     ghost use Rattle.std.specs.Prelude.{List, Option, map, length};
     ghost use Rattle.pb_norm.specs.Constraints.{Constraint};
-    ghost use Rattle.pb_unit.specs.Slots.{slot_at, AreSlots};
+    ghost use Rattle.pb_unit.specs.inner.Slots.{slot_at, AreSlots};
 
     ghost Value = { List (Option Constraint) };
 
@@ -269,7 +269,7 @@ fn read_in(
 }
 
 // What is kept of what stands at the place, while nothing is told.
-fn kept_in(slots: &[Slot], lits: &[Lit], place: usize) -> Kept
+fn kept_in(slots: &[Slot], lits: &[Lit], place: usize) -> Counters
     requires slots { AreSlots (length lits.now) slots.now }
     requires known { place < length slots.now }
     ensures { IsKeptOf (at_place (map (slot_at lits.now) slots.now) place) result }
@@ -277,7 +277,7 @@ fn kept_in(slots: &[Slot], lits: &[Lit], place: usize) -> Kept
     match &slots[place] {
         Slot::Clause { start, len } => {
             let lits = part(lits, *start, *len);
-            Kept {
+            Counters {
                 room: lits.len() as u128,
                 alert: 2,
             }
@@ -364,7 +364,7 @@ impl Places {
     }
 
     // What is kept of what stands at the place, while nothing is told.
-    pub(crate) fn kept(&self, place: usize) -> Kept
+    pub(crate) fn kept(&self, place: usize) -> Counters
         requires { place < length self.now }
         ensures { IsKeptOf (at_place self.now place) result }
     {

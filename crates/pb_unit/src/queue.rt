@@ -8,14 +8,14 @@ ghost use Rattle.pb_unit.specs.States.{StandWithin, Stands, standing};
 ghost use Rattle.pb_unit.specs.Steps.{IsAlert, IsCalm, Advances, HasTooLittle};
 ghost use Rattle.pb_unit.specs.Trails.{oldest};
 ghost use Rattle.pb_unit.specs.Index.{code, size_of, unit_at, list_at, IsStore, AreListed, AreAlerts, sum_at, room_at, alert_at, HasRoom, IsCalmAt, AreCalm, AreLowered, IsTold, IsCounted};
-ghost use Rattle.pb_unit.specs.Kept.{IsQueue, IsInQueue, IsAtNow};
+ghost use Rattle.pb_unit.specs.Counters.{IsQueue, IsInQueue, IsAtNow};
 ghost use Rattle.pb_unit.specs.Ends.{Ends};
-ghost use Rattle.pb_unit.specs.declared.queue.Phase.TheVariants.{Fresh};
+ghost use Rattle.pb_unit.specs.declared.queue.Phase.TheVariants.{Unpropagated};
 
 use crate::engine::Outcome;
 use crate::filling::index_of;
 use crate::index::{Index, Occurrence};
-use crate::kept::{Kept, lower, raise_all, raise_units, room_of};
+use crate::kept::{Counters, lower, raise_all, raise_units, room_of};
 use crate::places::Places;
 use crate::store;
 use crate::trail::Trail;
@@ -26,17 +26,17 @@ use std::alloc::Global;
 #[derive(Clone, Copy)]
 pub(crate) enum Phase {
     /// No literal was told, and no constraint was looked at.
-    Fresh,
+    Unpropagated,
     /// Each constraint is calm with its room.
-    Calm,
+    Fixpoint,
     /// The constraint at the place has too little room.
-    Short(usize),
+    Conflicting(usize),
 }
 
 /// Constraints with their index and rooms, the literals that hold, and how many of those, the oldest, the rooms count.
 pub(crate) struct Queue {
     pub(crate) places: Places,
-    pub(crate) kept: Vec<Kept>,
+    pub(crate) kept: Vec<Counters>,
     pub(crate) lists: Index,
     pub(crate) tight: Vec<usize>,
     pub(crate) held: Trail,
@@ -60,7 +60,12 @@ impl Drop for Queue {
 }
 
 // Tells a literal to a constraint in which its negation stands. Whether the constraint has room enough.
-fn tell_one(places: &Places, kept: &mut [Kept], occurrence: &Occurrence, held: &mut Trail) -> bool
+fn tell_one(
+    places: &Places,
+    kept: &mut [Counters],
+    occurrence: &Occurrence,
+    held: &mut Trail,
+) -> bool
     requires within { StandWithin held.old.vars places.now }
     requires known { occurrence.now.place < length kept.old }
     requires enough { occurrence.now.coef ≤ room_at kept.old occurrence.now.place }
@@ -81,7 +86,7 @@ fn tell_one(places: &Places, kept: &mut [Kept], occurrence: &Occurrence, held: &
 // The same, where no constraint had too little room so far. Else only the room is counted.
 fn tell_next(
     places: &Places,
-    kept: &mut [Kept],
+    kept: &mut [Counters],
     occurrence: &Occurrence,
     short: Option<usize>,
     held: &mut Trail,
@@ -107,7 +112,12 @@ fn tell_next(
 }
 
 // Tells a literal to the constraints in which its negation stands with the coefficient 1. The place is that of one with too little room.
-fn tell_units(places: &Places, kept: &mut [Kept], units: &[u32], held: &mut Trail) -> Option<usize>
+fn tell_units(
+    places: &Places,
+    kept: &mut [Counters],
+    units: &[u32],
+    held: &mut Trail,
+) -> Option<usize>
     requires within { StandWithin held.old.vars places.now }
     requires known { All (λ o. o.place < length kept.old) (map unit_at units.now) }
     requires enough { (p : ℕ) → sum_at p (map unit_at units.now) ≤ room_at kept.old p }
@@ -130,7 +140,7 @@ fn tell_units(places: &Places, kept: &mut [Kept], units: &[u32], held: &mut Trai
 // Tells a literal to more constraints in which its negation stands. The place is that of one with too little room, as before these or here.
 fn tell_all(
     places: &Places,
-    kept: &mut [Kept],
+    kept: &mut [Counters],
     occurrences: &[Occurrence],
     before: Option<usize>,
     held: &mut Trail,
@@ -155,7 +165,7 @@ fn tell_all(
 // Tells a literal to all constraints in which its negation stands. The place is that of one with too little room.
 fn tell_both(
     places: &Places,
-    kept: &mut [Kept],
+    kept: &mut [Counters],
     lists: &Index,
     falsified: &Lit,
     held: &mut Trail,
@@ -176,7 +186,7 @@ fn tell_both(
 // Tells the next literal that holds.
 fn tell(
     places: &Places,
-    kept: &mut [Kept],
+    kept: &mut [Counters],
     lists: &Index,
     held: &mut Trail,
     counted: usize,
@@ -197,7 +207,7 @@ fn tell(
 }
 
 // Looks at the constraints that are listed. The place is that of one with too little room.
-fn look_all(places: &Places, kept: &[Kept], tight: &[usize], held: &mut Trail) -> Option<usize>
+fn look_all(places: &Places, kept: &[Counters], tight: &[usize], held: &mut Trail) -> Option<usize>
     requires within { StandWithin held.old.vars places.now }
     requires bound { (p : ℕ) (c : Constraint) → Stands places.now p c → room held.old.lits c.terms ≤ room_at kept.now p }
     ensures vars { held.new.vars ≡ held.old.vars }
@@ -216,7 +226,7 @@ fn look_all(places: &Places, kept: &[Kept], tight: &[usize], held: &mut Trail) -
 // Tells the literals that hold, one after another, until nothing more joins.
 fn tell_rest(
     places: &Places,
-    kept: &mut [Kept],
+    kept: &mut [Counters],
     lists: &Index,
     held: &mut Trail,
     counted: &mut usize,
@@ -246,14 +256,14 @@ fn tell_rest(
 // Looks at the listed constraints, where none was looked at yet. The place is that of one with too little room.
 fn begin(
     places: &Places,
-    kept: &[Kept],
+    kept: &[Counters],
     tight: &[usize],
     held: &mut Trail,
     phase: Phase,
 ) -> Option<usize>
     requires within { StandWithin held.old.vars places.now }
     requires bound { (p : ℕ) (c : Constraint) → Stands places.now p c → room held.old.lits c.terms ≤ room_at kept.now p }
-    requires full { phase ≡ Phase.Fresh → (p : ℕ) (c : Constraint) → Stands places.now p c → room_at kept.now p ≡ weight c.terms }
+    requires full { phase ≡ Phase.Unpropagated → (p : ℕ) (c : Constraint) → Stands places.now p c → room_at kept.now p ≡ weight c.terms }
     requires listed { AreListed places.now kept.now tight.now }
     requires alerts { AreAlerts places.now kept.now }
     requires at { IsAtNow phase places.now kept.now held.old.lits }
@@ -263,16 +273,16 @@ fn begin(
     ensures short { IfSome result (HasTooLittle places.now held.new.lits) }
 {
     match phase {
-        Phase::Fresh => look_all(places, kept, tight, held),
-        Phase::Calm => None,
-        Phase::Short(place) => Some(place),
+        Phase::Unpropagated => look_all(places, kept, tight, held),
+        Phase::Fixpoint => None,
+        Phase::Conflicting(place) => Some(place),
     }
 }
 
 // Goes on until nothing more joins. The place is that of a constraint with too little room.
 fn go_on(
     places: &Places,
-    kept: &mut [Kept],
+    kept: &mut [Counters],
     lists: &Index,
     tight: &[usize],
     held: &mut Trail,
@@ -296,7 +306,7 @@ fn go_on(
 }
 
 // Gives the coefficients of a literal back to the rooms.
-fn raise_both(kept: &mut [Kept], lists: &Index, lit: &Lit)
+fn raise_both(kept: &mut [Counters], lists: &Index, lit: &Lit)
     requires listed { code lit.now < size_of lists.now }
     requires known { All (λ o. o.place < length kept.old) (list_at lists.now lit.now) }
     requires fits { (p : ℕ) → room_at kept.old p + sum_at p (list_at lists.now lit.now) < 2 ^ 128 }
@@ -309,7 +319,7 @@ fn raise_both(kept: &mut [Kept], lists: &Index, lit: &Lit)
 // Counts no literal in the rooms any more. This takes as long as it took to count them.
 pub(crate) fn uncount(
     places: &Places,
-    kept: &mut [Kept],
+    kept: &mut [Counters],
     lists: &Index,
     held: &Trail,
     counted: usize,
@@ -335,10 +345,10 @@ impl Queue {
         ensures held { IfOk result (λ q. q.held ≡ record { vars = vars; lits = [] }) }
         ensures store { IfOk result (λ q. IsStore vars places q.lists q.kept.items q.tight.items) }
         ensures counted { IfOk result (λ q. q.counted ≡ 0) }
-        ensures phase { IfOk result (λ q. q.phase ≡ Fresh) }
+        ensures phase { IfOk result (λ q. q.phase ≡ Unpropagated) }
     {
         let held = Trail::new(alloc, vars)?;
-        let (kept, tight) = store::laid(alloc, &places)?;
+        let (kept, tight) = store::counters_of(alloc, &places)?;
         let lists = index_of(alloc, vars, &places)?;
         Ok(Queue {
             places,
@@ -347,7 +357,7 @@ impl Queue {
             tight,
             held,
             counted: 0,
-            phase: Phase::Fresh,
+            phase: Phase::Unpropagated,
         })
     }
 
@@ -388,13 +398,13 @@ impl Queue {
         );
         match ended {
             Some(place) => {
-                self.phase = Phase::Short(place);
+                self.phase = Phase::Conflicting(place);
                 Outcome::Conflict {
                     place: place as u64,
                 }
             }
             None => {
-                self.phase = Phase::Calm;
+                self.phase = Phase::Fixpoint;
                 Outcome::Fixed
             }
         }
@@ -406,7 +416,7 @@ impl Queue {
         ensures places { self.new.places ≡ self.old.places }
         ensures held { self.new.held ≡ self.old.held }
         ensures counted { self.new.counted ≡ 0 }
-        ensures phase { self.new.phase ≡ Phase.Fresh }
+        ensures phase { self.new.phase ≡ Phase.Unpropagated }
         ensures store { IsStore self.new.held.vars self.new.places self.new.lists self.new.kept.items self.new.tight.items }
     {
         uncount(
@@ -417,6 +427,6 @@ impl Queue {
             self.counted,
         );
         self.counted = 0;
-        self.phase = Phase::Fresh;
+        self.phase = Phase::Unpropagated;
     }
 }

@@ -4,7 +4,7 @@ ghost use Rattle.pb_base.specs.Literals.{negated, is_among};
 ghost use Rattle.pb_norm.specs.Constraints.{weight, weighted, weights};
 ghost use Rattle.pb_norm.specs.Propagation.{room};
 ghost use Rattle.pb_unit.specs.States.{slack_of};
-ghost use Rattle.pb_unit.specs.Slots.{unit, clause_of};
+ghost use Rattle.pb_unit.specs.inner.Slots.{unit, clause_of};
 
 use crate::trail::Trail;
 use pb_base::{Lit, Term};

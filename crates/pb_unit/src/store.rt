@@ -4,12 +4,12 @@ ghost use Rattle.std.specs.Bool.{OnTrue, OnFalse};
 ghost use Rattle.pb_norm.specs.Constraints.{Weighted, Constraint, weight, weighted, weights, HasVarsWithin};
 ghost use Rattle.pb_unit.specs.States.{Stands, at_place, placed};
 ghost use Rattle.pb_unit.specs.Steps.{IsAlert};
-ghost use Rattle.pb_unit.specs.Filling.{AreLaid};
+ghost use Rattle.pb_unit.specs.inner.Filling.{AreLaid};
 ghost use Rattle.pb_base.specs.declared.literal.Lit.{Lit};
 ghost use Rattle.pb_unit.specs.Index.{Enters, list_at, size_of, room_at, alert_at, AreListed, IsCounted, IsEntered, IsStore};
 
 use crate::index::{Index, Occurrence, code};
-use crate::kept::{Kept, alert_of, lower, raise, room_of};
+use crate::kept::{Counters, alert_of, lower, raise, room_of};
 use crate::newest::newest_that;
 use crate::places::{Places, Slot};
 use pb_base::{Lit, NoMemory, Term};
@@ -18,7 +18,7 @@ use std::alloc::Global;
 
 /// What removed constraints have left behind. These are counts and hints: nothing is true by them.
 #[derive(Drop)]
-pub(crate) struct Wear {
+pub(crate) struct Garbage {
     /// So many terms may be left before a sweep pays for itself.
     limit: usize,
     /// So many terms are left.
@@ -31,10 +31,10 @@ pub(crate) struct Wear {
     free: Vec<u32>,
 }
 
-impl Wear {
+impl Garbage {
     // None yet, with so many places.
-    pub(crate) fn new(alloc: Global, places: usize) -> Wear {
-        Wear {
+    pub(crate) fn new(alloc: Global, places: usize) -> Garbage {
+        Garbage {
             limit: places,
             terms: 0,
             listed: 0,
@@ -86,29 +86,29 @@ impl Wear {
 }
 
 // Whether a place has no constraint and no occurrences.
-fn is_free(places: &Places, kept: &[Kept], place: usize) -> bool
+fn is_free(places: &Places, kept: &[Counters], place: usize) -> bool
     ensures { OnTrue result (place < length places.now × (at_place places.now place ≡ None) × (room_at kept.now place ≡ 0)) }
 {
     place < places.len() && !places.stands(place) && room_of(kept, place) == 0
 }
 
 // A place without a constraint and without occurrences.
-pub(crate) fn free_place(places: &Places, kept: &[Kept], wear: &mut Wear) -> usize
+pub(crate) fn free_place(places: &Places, kept: &[Counters], garbage: &mut Garbage) -> usize
     requires { length kept.now ≡ length places.now }
     ensures near { result ≤ length places.now }
     ensures empty { at_place places.now result ≡ None }
     ensures unused { room_at kept.now result ≡ 0 }
 {
-    if let Some(place) = wear.free.pop()
+    if let Some(place) = garbage.free.pop()
         && is_free(places, kept, place as usize)
     {
         return place as usize;
     }
-    next_free(places, kept, wear.next)
+    next_free(places, kept, garbage.next)
 }
 
 // The same from a place on, or the next.
-fn next_free(places: &Places, kept: &[Kept], from: usize) -> usize
+fn next_free(places: &Places, kept: &[Counters], from: usize) -> usize
     requires { length kept.now ≡ length places.now }
     ensures near { result ≤ length places.now }
     ensures empty { at_place places.now result ≡ None }
@@ -128,7 +128,7 @@ fn next_free(places: &Places, kept: &[Kept], from: usize) -> usize
 fn enter_one(
     alloc: Global,
     lists: &mut Index,
-    kept: &mut [Kept],
+    kept: &mut [Counters],
     vars: u32,
     places: &Places,
     place: usize,
@@ -155,7 +155,7 @@ fn enter_one(
 fn enter_all(
     alloc: Global,
     lists: &mut Index,
-    kept: &mut [Kept],
+    kept: &mut [Counters],
     vars: u32,
     places: &Places,
     place: usize,
@@ -179,7 +179,7 @@ fn enter_all(
 }
 
 // An entry for the place, if there is memory.
-fn grow(kept: &mut Vec<Kept>, vars: u32, places: &Places, lists: &Index, place: usize) -> bool
+fn grow(kept: &mut Vec<Counters>, vars: u32, places: &Places, lists: &Index, place: usize) -> bool
     requires near { place ≤ length kept.old.items }
     requires counts { IsCounted vars places.now lists.now kept.old.items [] }
     ensures counts { IsCounted vars places.now lists.now kept.new.items [] }
@@ -191,7 +191,7 @@ fn grow(kept: &mut Vec<Kept>, vars: u32, places: &Places, lists: &Index, place: 
     if place < kept.len() {
         return true;
     }
-    let none = Kept { room: 0, alert: 0 };
+    let none = Counters { room: 0, alert: 0 };
     kept.push(none).is_ok()
 }
 
@@ -199,7 +199,7 @@ fn grow(kept: &mut Vec<Kept>, vars: u32, places: &Places, lists: &Index, place: 
 fn enter(
     alloc: Global,
     lists: &mut Index,
-    kept: &mut Vec<Kept>,
+    kept: &mut Vec<Counters>,
     vars: u32,
     places: &Places,
     place: usize,
@@ -223,7 +223,7 @@ fn enter(
 }
 
 // Has no room at places where no constraint stands.
-fn sweep_rooms(kept: &mut [Kept], places: &Places)
+fn sweep_rooms(kept: &mut [Counters], places: &Places)
     ensures clean { (p : ℕ) → at_place places.now p ≡ None → room_at kept.new p ≡ 0 }
     ensures others { (p : ℕ) (c : Constraint) → Stands places.now p c → room_at kept.new p ≡ room_at kept.old p }
     ensures alerts { (p : ℕ) → alert_at kept.new p ≡ alert_at kept.old p }
@@ -236,7 +236,7 @@ fn sweep_rooms(kept: &mut [Kept], places: &Places)
 }
 
 // Drops what is left of constraints that do not stand.
-pub(crate) fn sweep(lists: &mut Index, kept: &mut Vec<Kept>, vars: u32, places: &Places)
+pub(crate) fn sweep(lists: &mut Index, kept: &mut Vec<Counters>, vars: u32, places: &Places)
     requires counts { IsCounted vars places.now lists.old kept.old.items [] }
     ensures counts { IsCounted vars places.now lists.new kept.new.items [] }
     ensures alerts { (p : ℕ) (c : Constraint) → Stands places.now p c → alert_at kept.new.items p ≡ alert_at kept.old.items p }
@@ -259,7 +259,7 @@ fn list_place(tight: &mut Vec<usize>, place: usize)
 }
 
 // Keeps the alert of a constraint at a place, which is listed where its room is less.
-fn settle(kept: &mut [Kept], tight: &mut Vec<usize>, place: usize, alert: u128)
+fn settle(kept: &mut [Counters], tight: &mut Vec<usize>, place: usize, alert: u128)
     requires known { place < length kept.old }
     requires free { length tight.old.items < vec_capacity tight.old }
     ensures rooms { (p : ℕ) → room_at kept.new p ≡ room_at kept.old p }
@@ -281,7 +281,7 @@ fn enter_and_put(
     vars: u32,
     places: &mut Places,
     lists: &mut Index,
-    kept: &mut Vec<Kept>,
+    kept: &mut Vec<Counters>,
     place: usize,
     constraint: Linear,
 ) -> bool
@@ -310,7 +310,7 @@ pub(crate) fn put(
     vars: u32,
     places: &mut Places,
     lists: &mut Index,
-    kept: &mut Vec<Kept>,
+    kept: &mut Vec<Counters>,
     tight: &mut Vec<usize>,
     place: usize,
     constraint: Linear,
@@ -347,14 +347,14 @@ fn list_if(tight: &mut Vec<usize>, place: usize, asked: bool) -> bool
 }
 
 // One more room that is kept, if there is memory.
-fn keep(kept: &mut Vec<Kept>, at: Kept) -> bool
+fn keep(kept: &mut Vec<Counters>, at: Counters) -> bool
     ensures { OnTrue result (kept.new.items ≡ kept.old.items ++ at ∷ []) }
 {
     kept.push(at).is_ok()
 }
 
 // What is kept of the next place, which is listed where the room there is less than the alert, if there is memory.
-fn lay(kept: &mut Vec<Kept>, tight: &mut Vec<usize>, place: usize, at: Kept) -> bool
+fn lay(kept: &mut Vec<Counters>, tight: &mut Vec<usize>, place: usize, at: Counters) -> bool
     ensures kept { OnTrue result (kept.new.items ≡ kept.old.items ++ at ∷ []) }
     ensures listed { OnTrue result ((at.alert ≤ at.room) ⊎ Contains tight.new.items place) }
     ensures more { OnTrue result ((p : ℕ) → Contains tight.old.items p → Contains tight.new.items p) }
@@ -363,7 +363,7 @@ fn lay(kept: &mut Vec<Kept>, tight: &mut Vec<usize>, place: usize, at: Kept) -> 
 }
 
 // What is kept of all places, if there is memory.
-fn lay_all(places: &Places, kept: &mut Vec<Kept>, tight: &mut Vec<usize>) -> bool
+fn lay_all(places: &Places, kept: &mut Vec<Counters>, tight: &mut Vec<usize>) -> bool
     requires { kept.old.items ≡ [] }
     ensures { OnTrue result (AreLaid places.now kept.new.items tight.new.items) }
 {
@@ -376,7 +376,10 @@ fn lay_all(places: &Places, kept: &mut Vec<Kept>, tight: &mut Vec<usize>) -> boo
 }
 
 // What is kept of all places, and which are tight.
-pub(crate) fn laid(alloc: Global, places: &Places) -> Result<(Vec<Kept>, Vec<usize>), NoMemory>
+pub(crate) fn counters_of(
+    alloc: Global,
+    places: &Places,
+) -> Result<(Vec<Counters>, Vec<usize>), NoMemory>
     ensures { IfOk result (λ r. AreLaid places.now r.0.items r.1.items) }
 {
     let mut kept = Vec::with_capacity(alloc, places.len())?;
@@ -391,7 +394,7 @@ pub(crate) fn laid(alloc: Global, places: &Places) -> Result<(Vec<Kept>, Vec<usi
 // Takes an occurrence of a literal at a place where nothing stands out of the index, and its part out of the room there. Whether one was found.
 fn unlist_one(
     lists: &mut Index,
-    kept: &mut [Kept],
+    kept: &mut [Counters],
     vars: u32,
     places: &Places,
     place: usize,
@@ -414,7 +417,7 @@ fn unlist_one(
 // The same for terms. How many are left.
 fn unlist(
     lists: &mut Index,
-    kept: &mut [Kept],
+    kept: &mut [Counters],
     vars: u32,
     places: &Places,
     place: usize,
@@ -437,7 +440,7 @@ fn unlist(
 // The same for what stood at the place. The literals of a clause that came in order are left.
 fn unlist_slot(
     lists: &mut Index,
-    kept: &mut Vec<Kept>,
+    kept: &mut Vec<Counters>,
     tight: &Vec<usize>,
     vars: u32,
     places: &Places,
@@ -469,7 +472,7 @@ fn newest_listed(tight: &[usize], place: usize) -> Option<usize>
 // Takes a place where nothing stands out of the list, where it is among the newest there. Whether it may still be listed.
 fn unlist_place(
     lists: &Index,
-    kept: &Vec<Kept>,
+    kept: &Vec<Counters>,
     tight: &mut Vec<usize>,
     vars: u32,
     places: &Places,
@@ -502,7 +505,7 @@ pub(crate) fn prune(tight: &mut Vec<usize>, places: &Places)
 fn sweep_if(
     due: bool,
     lists: &mut Index,
-    kept: &mut Vec<Kept>,
+    kept: &mut Vec<Counters>,
     tight: &[usize],
     vars: u32,
     places: &Places,
@@ -519,7 +522,7 @@ fn sweep_if(
 fn prune_if(
     due: bool,
     lists: &Index,
-    kept: &[Kept],
+    kept: &[Counters],
     tight: &mut Vec<usize>,
     vars: u32,
     places: &Places,
@@ -534,9 +537,9 @@ fn prune_if(
 
 // Drops what is left of constraints that do not stand, as far as that is due.
 fn tidy(
-    wear: &mut Wear,
+    garbage: &mut Garbage,
     lists: &mut Index,
-    kept: &mut Vec<Kept>,
+    kept: &mut Vec<Counters>,
     tight: &mut Vec<usize>,
     vars: u32,
     places: &Places,
@@ -544,24 +547,24 @@ fn tidy(
     requires { IsStore vars places.now lists.old kept.old.items tight.old.items }
     ensures { IsStore vars places.now lists.new kept.new.items tight.new.items }
 {
-    let due = wear.terms > wear.limit;
-    let crowded = wear.listed > tight.len() / 2;
+    let due = garbage.terms > garbage.limit;
+    let crowded = garbage.listed > tight.len() / 2;
     sweep_if(due, lists, kept, tight, vars, places);
     prune_if(crowded, lists, kept, tight, vars, places);
     if due {
-        wear.renew(lists.len().saturating_add(places.len()));
+        garbage.renew(lists.len().saturating_add(places.len()));
     }
     if crowded {
-        wear.listed = 0;
+        garbage.listed = 0;
     }
 }
 
 // Has nothing stand at a place. What is left of the constraint goes as far as it is found, and the rest where that is due.
 pub(crate) fn let_go(
-    wear: &mut Wear,
+    garbage: &mut Garbage,
     places: &mut Places,
     lists: &mut Index,
-    kept: &mut Vec<Kept>,
+    kept: &mut Vec<Counters>,
     tight: &mut Vec<usize>,
     vars: u32,
     place: usize,
@@ -574,12 +577,12 @@ pub(crate) fn let_go(
     let gone = places.take(place);
     let listed = unlist_place(lists, kept, tight, vars, places, place);
     let terms = unlist_slot(lists, kept, tight, vars, places, place, &gone);
-    wear.count(place, terms, listed);
-    tidy(wear, lists, kept, tight, vars, places);
+    garbage.count(place, terms, listed);
+    tidy(garbage, lists, kept, tight, vars, places);
 }
 
 // Whether the room at a place is less than its alert.
-pub(crate) fn is_tight(kept: &[Kept], place: usize) -> bool {
+pub(crate) fn is_tight(kept: &[Counters], place: usize) -> bool {
     match kept.get(place) {
         Some(at) => at.room < at.alert,
         None => false,

@@ -5,7 +5,7 @@ use Rattle.clap.specs.Words.{Row, Text, first_of}
 use Rattle.pb_base.specs.Numbers.{natural_of}
 use Rattle.pb_words.specs.BenchWords.{bench_from, bench_in, number_in, BenchWords}
 use Rattle.pb_words.specs.Digits.{number_within, within}
-use Rattle.pb_words.specs.Fit.{IsFitBench}
+use Rattle.pb_words.specs.inner.Fit.{IsFitBench}
 
 within_most : (most n m : ℕ) → within 0 most n ≡ Some m → m ≤ most
 within_most most n m e = grind (arith, nat_tests, e)

@@ -7,15 +7,15 @@ use Rattle.std.proofs.lemmas.Bool.Decides.{nat_tests}
 use Rattle.std.proofs.lemmas.Slice.Eq.{bytes_eq-Decides}
 use Rattle.clap.specs.Words.{Row, Text, first_of}
 use Rattle.pb_base.specs.Numbers.{natural_of}
-use Rattle.pb_choice.specs.declared.options.Amo.{Amo}
-use Rattle.pb_choice.specs.declared.options.Card.{Card}
-use Rattle.pb_choice.specs.declared.options.EqualMode.{EqualMode}
-use Rattle.pb_choice.specs.declared.options.General.{General}
-use Rattle.pb_choice.specs.declared.options.Options.{Options}
+use Rattle.pb_base.specs.declared.options.Amo.{Amo}
+use Rattle.pb_base.specs.declared.options.Card.{Card}
+use Rattle.pb_base.specs.declared.options.EqualMode.{EqualMode}
+use Rattle.pb_base.specs.declared.options.General.{General}
+use Rattle.pb_base.specs.declared.options.Options.{Options}
 use Rattle.pb_words.specs.BoundWords.{bound_in}
 use Rattle.pb_words.specs.Digits.{within}
 use Rattle.pb_words.specs.EncodeWords.{EncodeWords, encode_from, encode_in}
-use Rattle.pb_words.specs.Fit.{IsFitEncode}
+use Rattle.pb_words.specs.inner.Fit.{IsFitEncode}
 use Rattle.pb_words.specs.Names.{are_different}
 use Rattle.pb_words.specs.TableWords.{table_in, tabled_in}
 use Rattle.pb_words.specs.OptionWords.{amo_in, budget_in, budget_of, card_in, chosen, equal_in, general_in, options_from, options_in}

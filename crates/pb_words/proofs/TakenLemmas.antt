@@ -8,7 +8,7 @@ use Rattle.clap.proofs.OnLiterals.{clap_on_literals}
 use Rattle.pb_words.specs.declared.fault.WordsFault.{WordsFault}
 use Rattle.pb_words.specs.declared.fault.WordsFault.TheVariants.{Usage}
 use Rattle.pb_words.specs.declared.request.Request.{Request}
-use Rattle.pb_words.specs.Taken.{is_faultless, program_app, taken_of, wanted_by, Tells, Wanted}
+use Rattle.pb_words.specs.Parsed.{is_faultless, program_app, parsed_of, wanted_by, Tells, Wanted}
 
 is_free : is_simple_and_free program_app ≡ true
 unfolding clap_on_literals
@@ -19,8 +19,8 @@ unfolding clap_on_literals
 is_plain = refl
 
 -- words that clap refuses are not taken
-refused : (words : List Text) (e : Error) → HasKind (fault_of program_app words) e → kind_of e ≢ OutOfMemory → taken_of words ≡ None
-unfolding taken_of
+refused : (words : List Text) (e : Error) → HasKind (fault_of program_app words) e → kind_of e ≢ OutOfMemory → parsed_of words ≡ None
+unfolding parsed_of
 refused words e (inl memory) other = absurd (other memory)
 refused words e (inr among) other = go (fault_of program_app words) among
   where
@@ -30,18 +30,18 @@ refused words e (inr among) other = go (fault_of program_app words) among
 
 -- of words that clap takes, the matches say what is asked for
 accepted : (words : List Text) (m : ArgMatches) → fault_of program_app words ≡ [] → HasMatchesOf program_app words m
-    → taken_of words ≡ wanted_by (subcommand_rows_of m)
-unfolding taken_of
+    → parsed_of words ≡ wanted_by (subcommand_rows_of m)
+unfolding parsed_of
 accepted words m none has = rw none (ap wanted_by (sym (has is_plain).1))
 
 -- the same, of a command that was built as the program's
 pub refused_by : (app : App) (words : List Text) (e : Error) → app ≡ program_app
-    → (is_simple_and_free app ≡ true → HasKind (fault_of app words) e) → kind_of e ≢ OutOfMemory → taken_of words ≡ None
+    → (is_simple_and_free app ≡ true → HasKind (fault_of app words) e) → kind_of e ≢ OutOfMemory → parsed_of words ≡ None
 refused_by app words e is kinds other =
     refused words e (subst (λ a. HasKind (fault_of a words) e) is (kinds (ap is_simple_and_free is ∙ is_free))) other
 
 pub accepted_by : (app : App) (words : List Text) (m : ArgMatches) → app ≡ program_app
-    → (is_simple_and_free app ≡ true → fault_of app words ≡ []) → HasMatchesOf app words m → taken_of words ≡ wanted_by (subcommand_rows_of m)
+    → (is_simple_and_free app ≡ true → fault_of app words ≡ []) → HasMatchesOf app words m → parsed_of words ≡ wanted_by (subcommand_rows_of m)
 accepted_by app words m is kinds has =
     let none : fault_of program_app words ≡ [] = ap (λ a. fault_of a words) (sym is) ∙ kinds (ap is_simple_and_free is ∙ is_free) in
     accepted words m none (subst (λ a. HasMatchesOf a words m) is has)
@@ -50,5 +50,5 @@ pub refusal_is : (f : WordsFault) → IsErrOf {T = Request} (Err f) Usage → f 
 refusal_is f h = cc
 
 -- what is said of the command is said of the words
-pub told : (words : List Text) (wanted : Option Wanted) (x : Result Request WordsFault) → taken_of words ≡ wanted → Tells wanted x → Tells (taken_of words) x
+pub told : (words : List Text) (wanted : Option Wanted) (x : Result Request WordsFault) → parsed_of words ≡ wanted → Tells wanted x → Tells (parsed_of words) x
 told words wanted x is tells = subst (λ (w : Option Wanted). Tells w x) (sym is) tells

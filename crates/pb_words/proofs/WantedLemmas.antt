@@ -6,9 +6,9 @@ use Rattle.pb_words.specs.BenchWords.{bench_in}
 use Rattle.pb_words.specs.CheckWords.{check_in}
 use Rattle.pb_words.specs.DecodeWords.{decode_in}
 use Rattle.pb_words.specs.EncodeWords.{encode_in}
-use Rattle.pb_words.specs.Fit.{IsFit}
-use Rattle.pb_words.specs.Taken.{is_faultless, program_app, taken_of, wanted_by, wanted_in, Wanted}
-use Rattle.pb_words.specs.Taken.Wanted.{Encode, Check, Decode, Probe, Bench, Refute, Map, Wcnf}
+use Rattle.pb_words.specs.inner.Fit.{IsFit}
+use Rattle.pb_words.specs.Parsed.{is_faultless, program_app, parsed_of, wanted_by, wanted_in, Wanted}
+use Rattle.pb_words.specs.Parsed.Wanted.{Encode, Check, Decode, Probe, Bench, Refute, Map, Wcnf}
 use Rattle.pb_words.specs.MapWords.{map_in}
 use Rattle.pb_words.specs.ProbeWords.{probe_in}
 use Rattle.pb_words.specs.RefuteWords.{refute_in}
@@ -53,6 +53,6 @@ faultless [] o w e = e
 faultless (kind ∷ kinds) o w e = cc
 
 -- the names of what is asked for are different, and its numbers are within their ranges
-pub taken_is_fit : (words : List Text) (w : Wanted) → taken_of words ≡ Some w → IsFit w
-unfolding taken_of
+pub taken_is_fit : (words : List Text) (w : Wanted) → parsed_of words ≡ Some w → IsFit w
+unfolding parsed_of
 taken_is_fit words w e = fit_by (subcommand_of program_app words) w (faultless (fault_of program_app words) _ w e)

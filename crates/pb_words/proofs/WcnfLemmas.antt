@@ -3,9 +3,9 @@ use Rattle.std.proofs.Common.{◌≡◌, ◌≢◌, ℤ, Bool, true, false, List
 use Rattle.std.specs.Str.{bytes_eq}
 use Rattle.std.proofs.lemmas.Slice.Eq.{bytes_eq-Decides}
 use Rattle.clap.specs.Words.{Row, Text, first_of}
-use Rattle.pb_choice.specs.declared.options.Options.{Options}
+use Rattle.pb_base.specs.declared.options.Options.{Options}
 use Rattle.pb_words.specs.BoundWords.{bound_in}
-use Rattle.pb_words.specs.Fit.{IsFitWcnf}
+use Rattle.pb_words.specs.inner.Fit.{IsFitWcnf}
 use Rattle.pb_words.specs.Names.{are_different}
 use Rattle.pb_words.specs.OptionWords.{options_in}
 use Rattle.pb_words.specs.WcnfWords.{WcnfWords, wcnf_from, wcnf_in}

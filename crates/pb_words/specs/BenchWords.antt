@@ -1,7 +1,7 @@
 -- The words of `bench`. Our own.
 use Rattle.std.specs.Prelude.{ℕ, List, [], ◌∷◌, Option, Some, None, codes, option_and_then, option_map}
 use Rattle.clap.specs.Words.{App, Row, Text, first_of}
-use Rattle.pb_words.specs.declared.bench.Benching.{Benching}
+use Rattle.pb_words.specs.declared.bench.BenchArgs.{BenchArgs}
 use Rattle.pb_words.specs.Digits.{number_within}
 use Rattle.pb_words.specs.Rules.{command_of, name_rule, optional_rule}
 
@@ -26,6 +26,6 @@ bench_from _ _ cnf = None
 abbrev pub bench_in : List Row → Option BenchWords
 bench_in given = bench_from (number_in 1000000 (codes "n") given) (number_in 4294967295 (codes "seed") given) (first_of (codes "cnf") given)
 
--- what a `Benching` says
-abbrev pub as_bench_words : Benching → BenchWords
+-- what a `BenchArgs` says
+abbrev pub as_bench_words : BenchArgs → BenchWords
 as_bench_words b = record { count = b.count; seed = b.seed; cnf = option_map (λ name. name.now) b.cnf }

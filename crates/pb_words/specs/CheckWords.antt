@@ -1,7 +1,7 @@
 -- The words of `check`. Our own.
 use Rattle.std.specs.Prelude.{ℤ, List, ◌∷◌, [], Option, Some, None, if◌then◌else◌, codes}
 use Rattle.clap.specs.Words.{App, Row, Text, first_of}
-use Rattle.pb_words.specs.declared.check.Checking.{Checking}
+use Rattle.pb_words.specs.declared.check.CheckArgs.{CheckArgs}
 use Rattle.pb_words.specs.BoundWords.{bound_in, bound_rules}
 use Rattle.pb_words.specs.Names.{are_different}
 use Rattle.pb_words.specs.Rules.{command_of, name_rule}
@@ -26,6 +26,6 @@ check_from _ _ _ _ = None
 abbrev pub check_in : List Row → Option CheckWords
 check_in given = check_from (first_of (codes "opb") given) (first_of (codes "cnf") given) (first_of (codes "proof") given) (bound_in given)
 
--- what a `Checking` says
-abbrev pub as_check_words : Checking → CheckWords
+-- what a `CheckArgs` says
+abbrev pub as_check_words : CheckArgs → CheckWords
 as_check_words c = record { opb = c.opb.now; cnf = c.cnf.now; proof = c.proof.now; bound = c.bound }

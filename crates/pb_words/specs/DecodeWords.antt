@@ -1,7 +1,7 @@
 -- The words of `decode`. Our own.
 use Rattle.std.specs.Prelude.{ℤ, List, ◌∷◌, [], Option, Some, None, if◌then◌else◌, codes}
 use Rattle.clap.specs.Words.{App, Row, Text, first_of}
-use Rattle.pb_words.specs.declared.decode.Decoding.{Decoding}
+use Rattle.pb_words.specs.declared.decode.DecodeArgs.{DecodeArgs}
 use Rattle.pb_words.specs.BoundWords.{bound_in, bound_rules}
 use Rattle.pb_words.specs.Names.{are_different}
 use Rattle.pb_words.specs.Rules.{command_of, name_rule}
@@ -24,6 +24,6 @@ decode_from _ _ _ = None
 abbrev pub decode_in : List Row → Option DecodeWords
 decode_in given = decode_from (first_of (codes "opb") given) (first_of (codes "model") given) (bound_in given)
 
--- what a `Decoding` says
-abbrev pub as_decode_words : Decoding → DecodeWords
+-- what a `DecodeArgs` says
+abbrev pub as_decode_words : DecodeArgs → DecodeWords
 as_decode_words d = record { opb = d.opb.now; model = d.model.now; bound = d.bound }

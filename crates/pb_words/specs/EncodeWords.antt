@@ -2,8 +2,8 @@
 use Rattle.std.specs.Prelude.{ℤ, List, ◌∷◌, ◌++◌, Option, Some, None, if◌then◌else◌, codes, option_copied}
 use Rattle.std.specs.Option.{option_to_list}
 use Rattle.clap.specs.Words.{App, Row, Text, first_of}
-use Rattle.pb_choice.specs.declared.options.Options.{Options}
-use Rattle.pb_words.specs.declared.encode.Encoding.{Encoding}
+use Rattle.pb_base.specs.declared.options.Options.{Options}
+use Rattle.pb_words.specs.declared.encode.EncodeArgs.{EncodeArgs}
 use Rattle.pb_words.specs.BoundWords.{bound_in, bound_rules}
 use Rattle.pb_words.specs.Names.{are_different}
 use Rattle.pb_words.specs.OptionWords.{option_rules}
@@ -31,6 +31,6 @@ encode_from _ _ _ _ _ = None
 abbrev pub encode_in : List Row → Option EncodeWords
 encode_in given = encode_from (first_of (codes "opb") given) (first_of (codes "cnf") given) (first_of (codes "proof") given) (tabled_in given) (bound_in given)
 
--- what an `Encoding` says
-abbrev pub as_encode_words : Encoding → EncodeWords
+-- what an `EncodeArgs` says
+abbrev pub as_encode_words : EncodeArgs → EncodeWords
 as_encode_words e = record { opb = e.opb.now; cnf = e.cnf.now; proof = option_copied e.proof; options = e.options; bound = e.bound }

@@ -1,5 +1,4 @@
 pub mod Rules
-pub mod Commands
 pub mod Digits
 pub mod Names
 pub mod OptionWords
@@ -14,5 +13,5 @@ pub mod ProbeWords
 pub mod RefuteWords
 pub mod MapWords
 pub mod WcnfWords
-pub mod Taken
-pub mod Fit
+pub mod Parsed
+pub mod inner

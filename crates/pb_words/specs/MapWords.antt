@@ -1,7 +1,7 @@
 -- The words of `map`. Our own.
 use Rattle.std.specs.Prelude.{List, [], ◌∷◌, Option, codes, option_map}
 use Rattle.clap.specs.Words.{App, Row, Text, first_of}
-use Rattle.pb_words.specs.declared.map.Mapping.{Mapping}
+use Rattle.pb_words.specs.declared.map.MapArgs.{MapArgs}
 use Rattle.pb_words.specs.Rules.{command_of, name_rule}
 
 -- `map OPB`
@@ -15,6 +15,6 @@ pub record MapWords : Type 0 where
 abbrev pub map_in : List Row → Option MapWords
 map_in given = option_map (λ opb. record { opb = opb }) (first_of (codes "opb") given)
 
--- what a `Mapping` says
-abbrev pub as_map_words : Mapping → MapWords
+-- what a `MapArgs` says
+abbrev pub as_map_words : MapArgs → MapWords
 as_map_words m = record { opb = m.opb.now }

@@ -2,16 +2,16 @@
 use Rattle.std.specs.Prelude.{ℕ, false, List, [], ◌∷◌, Option, Some, None, if◌then◌else◌, codes}
 use Rattle.std.specs.Str.{bytes_eq}
 use Rattle.clap.specs.Words.{Row, Rule, Text, first_of}
-use Rattle.pb_choice.specs.declared.options.Amo.{Amo}
-use Rattle.pb_choice.specs.declared.options.Amo.TheVariants as amo
-use Rattle.pb_choice.specs.declared.options.Card.{Card}
-use Rattle.pb_choice.specs.declared.options.Card.TheVariants as card
-use Rattle.pb_choice.specs.declared.options.EqualMode.{EqualMode}
-use Rattle.pb_choice.specs.declared.options.EqualMode.TheVariants as equal
-use Rattle.pb_choice.specs.declared.options.General.{General}
-use Rattle.pb_choice.specs.declared.options.General.TheVariants as general
-use Rattle.pb_choice.specs.declared.options.Options.{Options}
-use Rattle.pb_choice.specs.Defaults.{default_options}
+use Rattle.pb_base.specs.declared.options.Amo.{Amo}
+use Rattle.pb_base.specs.declared.options.Amo.TheVariants as amo
+use Rattle.pb_base.specs.declared.options.Card.{Card}
+use Rattle.pb_base.specs.declared.options.Card.TheVariants as card
+use Rattle.pb_base.specs.declared.options.EqualMode.{EqualMode}
+use Rattle.pb_base.specs.declared.options.EqualMode.TheVariants as equal
+use Rattle.pb_base.specs.declared.options.General.{General}
+use Rattle.pb_base.specs.declared.options.General.TheVariants as general
+use Rattle.pb_base.specs.declared.options.Options.{Options}
+use Rattle.pb_base.specs.Defaults.{default_options}
 use Rattle.pb_words.specs.Digits.{number_within}
 use Rattle.pb_words.specs.Rules.{option_rule}
 

@@ -2,7 +2,7 @@
 use Rattle.std.specs.Prelude.{List, [], ◌∷◌, Option, Some, None, codes, unwrap_or}
 use Rattle.clap.specs.Words.{App, Row, Text, all_of, first_of}
 use Rattle.pb_base.specs.declared.literal.Lit.{Lit}
-use Rattle.pb_words.specs.declared.probe.Probing.{Probing}
+use Rattle.pb_words.specs.declared.probe.ProbeArgs.{ProbeArgs}
 use Rattle.pb_words.specs.LitWords.{lits_in}
 use Rattle.pb_words.specs.Rules.{command_of, name_rule, words_rule}
 
@@ -22,6 +22,6 @@ probe_from _ _ = None
 abbrev pub probe_in : List Row → Option ProbeWords
 probe_in given = probe_from (first_of (codes "cnf") given) (lits_in (unwrap_or (all_of (codes "lits") given) []))
 
--- what a `Probing` says
-abbrev pub as_probe_words : Probing → ProbeWords
+-- what a `ProbeArgs` says
+abbrev pub as_probe_words : ProbeArgs → ProbeWords
 as_probe_words p = record { cnf = p.cnf.now; lits = p.lits }

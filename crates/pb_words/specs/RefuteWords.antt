@@ -2,7 +2,7 @@
 use Rattle.std.specs.Prelude.{◌||◌, ℤ, List, ◌∷◌, [], Option, Some, None, if◌then◌else◌, codes}
 use Rattle.std.specs.Str.{bytes_eq}
 use Rattle.clap.specs.Words.{App, Row, Text, first_of}
-use Rattle.pb_words.specs.declared.refute.Refuting.{Refuting}
+use Rattle.pb_words.specs.declared.refute.RefuteArgs.{RefuteArgs}
 use Rattle.pb_words.specs.BoundWords.{bound_in, bound_rules}
 use Rattle.pb_words.specs.CheckWords.{CheckWords}
 use Rattle.pb_words.specs.Names.{are_different}
@@ -36,6 +36,6 @@ refute_after (Some c) (Some lrat) =
     else Some (record { opb = c.opb; cnf = c.cnf; proof = c.proof; lrat = lrat; bound = c.bound })
 refute_after _ _ = None
 
--- what a `Refuting` says
-abbrev pub as_refute_words : Refuting → RefuteWords
+-- what a `RefuteArgs` says
+abbrev pub as_refute_words : RefuteArgs → RefuteWords
 as_refute_words c = record { opb = c.opb.now; cnf = c.cnf.now; proof = c.proof.now; lrat = c.lrat.now; bound = c.bound }

@@ -1,8 +1,8 @@
 -- The words of `wcnf`. Our own.
 use Rattle.std.specs.Prelude.{ℤ, List, [], ◌∷◌, ◌++◌, Option, Some, None, if◌then◌else◌, codes}
 use Rattle.clap.specs.Words.{App, Row, Text, first_of}
-use Rattle.pb_choice.specs.declared.options.Options.{Options}
-use Rattle.pb_words.specs.declared.wcnf.Weighing.{Weighing}
+use Rattle.pb_base.specs.declared.options.Options.{Options}
+use Rattle.pb_words.specs.declared.wcnf.WcnfArgs.{WcnfArgs}
 use Rattle.pb_words.specs.BoundWords.{bound_in, bound_rules}
 use Rattle.pb_words.specs.Names.{are_different}
 use Rattle.pb_words.specs.OptionWords.{option_rules, options_in}
@@ -28,6 +28,6 @@ wcnf_from _ _ _ _ = None
 abbrev pub wcnf_in : List Row → Option WcnfWords
 wcnf_in given = wcnf_from (first_of (codes "opb") given) (first_of (codes "wcnf") given) (options_in given) (bound_in given)
 
--- what a `Weighing` says
-abbrev pub as_wcnf_words : Weighing → WcnfWords
+-- what a `WcnfArgs` says
+abbrev pub as_wcnf_words : WcnfArgs → WcnfWords
 as_wcnf_words w = record { opb = w.opb.now; wcnf = w.wcnf.now; options = w.options; bound = w.bound }

@@ -1,7 +1,7 @@
 // Arguments of commands, and the words that they were given.
 ghost use Rattle.std.specs.Prelude.{◌≡◌, false, map, option_map};
 ghost use Rattle.clap.specs.Words.{all_of, first_of, found_of, rows_of, rule_of};
-ghost use Rattle.pb_words.specs.Commands.{rule_for};
+ghost use Rattle.pb_words.specs.inner.Commands.{rule_for};
 
 use clap::{Arg, ArgAction, ArgMatches};
 use std::alloc::Global;

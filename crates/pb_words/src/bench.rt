@@ -13,7 +13,7 @@ const MAX_COUNT: u32 = 1_000_000;
 
 /// Encode a generated problem: which one, and the file that is made, if one is.
 #[derive(Clone, Copy, PartialEq, Eq, Debug)]
-pub struct Benching<'a> {
+pub struct BenchArgs<'a> {
     /// How many statements the problem has, up to 1,000,000.
     pub count: u32,
     /// What its draws begin with.
@@ -40,10 +40,10 @@ fn number_in(given: &ArgMatches<'_>, id: &str, most: u32) -> Option<u32>
 }
 
 /// What `bench` was asked for.
-pub fn benching_in<'a>(given: &ArgMatches<'a>) -> Option<Benching<'a>>
+pub fn bench_args_in<'a>(given: &ArgMatches<'a>) -> Option<BenchArgs<'a>>
     ensures { option_map as_bench_words result ≡ bench_in (rows_of (found_of given.now)) }
 {
-    Some(Benching {
+    Some(BenchArgs {
         count: number_in(given, "n", MAX_COUNT)?,
         seed: number_in(given, "seed", u32::MAX)?,
         cnf: word_of(given, "cnf"),

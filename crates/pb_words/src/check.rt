@@ -10,7 +10,7 @@ use clap::ArgMatches;
 
 /// Check a derivation: the three files that are read.
 #[derive(Clone, Copy, PartialEq, Eq, Debug)]
-pub struct Checking<'a> {
+pub struct CheckArgs<'a> {
     /// The name of the OPB file.
     pub opb: &'a str,
     /// The name of the CNF file, which is another.
@@ -35,7 +35,7 @@ pub const COMMAND: Syntax<'static> = Syntax {
 };
 
 /// What `check` was asked for.
-pub fn checking_in<'a>(given: &ArgMatches<'a>) -> Option<Checking<'a>>
+pub fn check_args_in<'a>(given: &ArgMatches<'a>) -> Option<CheckArgs<'a>>
     ensures { option_map as_check_words result ≡ check_in (rows_of (found_of given.now)) }
 {
     let opb = word_of(given, "opb")?;
@@ -45,7 +45,7 @@ pub fn checking_in<'a>(given: &ArgMatches<'a>) -> Option<Checking<'a>>
     if opb == cnf || opb == proof || cnf == proof {
         return None;
     }
-    Some(Checking {
+    Some(CheckArgs {
         opb,
         cnf,
         proof,

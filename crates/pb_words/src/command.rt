@@ -2,7 +2,7 @@
 // clap takes long to prove.
 ghost use Rattle.std.specs.Prelude.{IfOk};
 ghost use Rattle.clap.specs.Words.{App};
-ghost use Rattle.pb_words.specs.Commands.{app_for, with_arguments};
+ghost use Rattle.pb_words.specs.inner.Commands.{app_for, with_arguments};
 ghost use Rattle.pb_words.specs.Rules.{IsCommand};
 
 use crate::argument::{Argument, arg_for};

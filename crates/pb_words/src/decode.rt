@@ -10,7 +10,7 @@ use clap::ArgMatches;
 
 /// Decode a model: the two files that are read.
 #[derive(Clone, Copy, PartialEq, Eq, Debug)]
-pub struct Decoding<'a> {
+pub struct DecodeArgs<'a> {
     /// The name of the OPB file.
     pub opb: &'a str,
     /// The name of the file that a solver printed, which is another.
@@ -26,7 +26,7 @@ pub const COMMAND: Syntax<'static> = Syntax {
 };
 
 /// What `decode` was asked for.
-pub fn decoding_in<'a>(given: &ArgMatches<'a>) -> Option<Decoding<'a>>
+pub fn decode_args_in<'a>(given: &ArgMatches<'a>) -> Option<DecodeArgs<'a>>
     ensures { option_map as_decode_words result ≡ decode_in (rows_of (found_of given.now)) }
 {
     let opb = word_of(given, "opb")?;
@@ -35,5 +35,5 @@ pub fn decoding_in<'a>(given: &ArgMatches<'a>) -> Option<Decoding<'a>>
     if opb == model {
         return None;
     }
-    Some(Decoding { opb, model, bound })
+    Some(DecodeArgs { opb, model, bound })
 }

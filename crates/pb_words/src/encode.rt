@@ -11,11 +11,11 @@ use crate::command::Syntax;
 use crate::options::OPTIONS;
 use crate::table::{TABLE, tabled_in};
 use clap::ArgMatches;
-use pb_choice::Options;
+use pb_base::Options;
 
 /// Encode a problem: the file that is read, the files that are made, and how.
 #[derive(Clone, Copy, PartialEq, Eq, Debug)]
-pub struct Encoding<'a> {
+pub struct EncodeArgs<'a> {
     /// The name of the OPB file.
     pub opb: &'a str,
     /// The name of the CNF file, which is another.
@@ -54,7 +54,7 @@ fn are_equal(opb: &str, cnf: &str, proof: Option<&str>) -> bool
 }
 
 /// What `encode` was asked for.
-pub fn encoding_in<'a>(given: &ArgMatches<'a>) -> Option<Encoding<'a>>
+pub fn encode_args_in<'a>(given: &ArgMatches<'a>) -> Option<EncodeArgs<'a>>
     ensures { option_map as_encode_words result ≡ encode_in (rows_of (found_of given.now)) }
 {
     let opb = word_of(given, "opb")?;
@@ -65,7 +65,7 @@ pub fn encoding_in<'a>(given: &ArgMatches<'a>) -> Option<Encoding<'a>>
     if are_equal(opb, cnf, proof) {
         return None;
     }
-    Some(Encoding {
+    Some(EncodeArgs {
         opb,
         cnf,
         proof,

@@ -8,21 +8,21 @@ ghost use Rattle.pb_words.specs.EncodeWords.{encode_in};
 ghost use Rattle.pb_words.specs.MapWords.{map_in};
 ghost use Rattle.pb_words.specs.ProbeWords.{probe_in};
 ghost use Rattle.pb_words.specs.RefuteWords.{refute_in};
-ghost use Rattle.pb_words.specs.Taken.{taken_of, wanted_as, wanted_by, wanted_in, Tells};
-ghost use Rattle.pb_words.specs.Taken.Wanted.{Encode, Check, Decode, Probe, Bench, Refute, Map, Wcnf};
+ghost use Rattle.pb_words.specs.Parsed.{parsed_of, wanted_as, wanted_by, wanted_in, Tells};
+ghost use Rattle.pb_words.specs.Parsed.Wanted.{Encode, Check, Decode, Probe, Bench, Refute, Map, Wcnf};
 ghost use Rattle.pb_words.specs.WcnfWords.{wcnf_in};
 
-use crate::bench::benching_in;
-use crate::check::checking_in;
-use crate::decode::decoding_in;
-use crate::encode::encoding_in;
+use crate::bench::bench_args_in;
+use crate::check::check_args_in;
+use crate::decode::decode_args_in;
+use crate::encode::encode_args_in;
 use crate::fault::WordsFault;
-use crate::map::mapping_in;
-use crate::probe::probing_in;
+use crate::map::map_args_in;
+use crate::probe::probe_args_in;
 use crate::program::program;
-use crate::refute::refuting_in;
+use crate::refute::refute_args_in;
 use crate::request::Request;
-use crate::wcnf::weighing_in;
+use crate::wcnf::wcnf_args_in;
 use clap::ArgMatches;
 use clap::error::ErrorKind;
 use std::alloc::Global;
@@ -31,7 +31,7 @@ use std::alloc::Global;
 fn encode_request<'a>(given: &ArgMatches<'a>) -> Result<Request<'a>, WordsFault>
     ensures { Tells (option_map Encode (encode_in (rows_of (found_of given.now)))) result }
 {
-    match encoding_in(given) {
+    match encode_args_in(given) {
         Some(encoding) => Ok(Request::Encode(encoding)),
         None => Err(WordsFault::Usage),
     }
@@ -41,7 +41,7 @@ fn encode_request<'a>(given: &ArgMatches<'a>) -> Result<Request<'a>, WordsFault>
 fn check_request<'a>(given: &ArgMatches<'a>) -> Result<Request<'a>, WordsFault>
     ensures { Tells (option_map Check (check_in (rows_of (found_of given.now)))) result }
 {
-    match checking_in(given) {
+    match check_args_in(given) {
         Some(checking) => Ok(Request::Check(checking)),
         None => Err(WordsFault::Usage),
     }
@@ -51,7 +51,7 @@ fn check_request<'a>(given: &ArgMatches<'a>) -> Result<Request<'a>, WordsFault>
 fn decode_request<'a>(given: &ArgMatches<'a>) -> Result<Request<'a>, WordsFault>
     ensures { Tells (option_map Decode (decode_in (rows_of (found_of given.now)))) result }
 {
-    match decoding_in(given) {
+    match decode_args_in(given) {
         Some(decoding) => Ok(Request::Decode(decoding)),
         None => Err(WordsFault::Usage),
     }
@@ -61,7 +61,7 @@ fn decode_request<'a>(given: &ArgMatches<'a>) -> Result<Request<'a>, WordsFault>
 fn probe_request<'a>(alloc: Global, given: &ArgMatches<'a>) -> Result<Request<'a>, WordsFault>
     ensures { Tells (option_map Probe (probe_in (rows_of (found_of given.now)))) result }
 {
-    match probing_in(alloc, given) {
+    match probe_args_in(alloc, given) {
         Ok(probing) => Ok(Request::Probe(probing)),
         Err(fault) => Err(fault),
     }
@@ -71,7 +71,7 @@ fn probe_request<'a>(alloc: Global, given: &ArgMatches<'a>) -> Result<Request<'a
 fn bench_request<'a>(given: &ArgMatches<'a>) -> Result<Request<'a>, WordsFault>
     ensures { Tells (option_map Bench (bench_in (rows_of (found_of given.now)))) result }
 {
-    match benching_in(given) {
+    match bench_args_in(given) {
         Some(benching) => Ok(Request::Bench(benching)),
         None => Err(WordsFault::Usage),
     }
@@ -81,7 +81,7 @@ fn bench_request<'a>(given: &ArgMatches<'a>) -> Result<Request<'a>, WordsFault>
 fn refute_request<'a>(given: &ArgMatches<'a>) -> Result<Request<'a>, WordsFault>
     ensures { Tells (option_map Refute (refute_in (rows_of (found_of given.now)))) result }
 {
-    match refuting_in(given) {
+    match refute_args_in(given) {
         Some(refuting) => Ok(Request::Refute(refuting)),
         None => Err(WordsFault::Usage),
     }
@@ -91,7 +91,7 @@ fn refute_request<'a>(given: &ArgMatches<'a>) -> Result<Request<'a>, WordsFault>
 fn map_request<'a>(given: &ArgMatches<'a>) -> Result<Request<'a>, WordsFault>
     ensures { Tells (option_map Map (map_in (rows_of (found_of given.now)))) result }
 {
-    match mapping_in(given) {
+    match map_args_in(given) {
         Some(mapping) => Ok(Request::Map(mapping)),
         None => Err(WordsFault::Usage),
     }
@@ -101,7 +101,7 @@ fn map_request<'a>(given: &ArgMatches<'a>) -> Result<Request<'a>, WordsFault>
 fn wcnf_request<'a>(given: &ArgMatches<'a>) -> Result<Request<'a>, WordsFault>
     ensures { Tells (option_map Wcnf (wcnf_in (rows_of (found_of given.now)))) result }
 {
-    match weighing_in(given) {
+    match wcnf_args_in(given) {
         Some(weighing) => Ok(Request::Wcnf(weighing)),
         None => Err(WordsFault::Usage),
     }
@@ -152,9 +152,9 @@ fn fault_of(error: &clap::Error) -> WordsFault
 
 /// What the words ask for; they begin with the program's name. `Usage` where they are none that
 /// the program takes.
-pub fn taken<'a>(alloc: Global, words: &'a [String]) -> Result<Request<'a>, WordsFault>
-    ensures asked { IfOk result (λ r. taken_of (map string_bytes words.entry.now) ≡ Some (wanted_as r)) }
-    ensures usage { IsErrOf result WordsFault.Usage → taken_of (map string_bytes words.entry.now) ≡ None }
+pub fn parse<'a>(alloc: Global, words: &'a [String]) -> Result<Request<'a>, WordsFault>
+    ensures asked { IfOk result (λ r. parsed_of (map string_bytes words.entry.now) ≡ Some (wanted_as r)) }
+    ensures usage { IsErrOf result WordsFault.Usage → parsed_of (map string_bytes words.entry.now) ≡ None }
 {
     let program = program(alloc)?;
     let matches = match program.try_get_matches_from(words) {

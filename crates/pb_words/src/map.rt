@@ -9,7 +9,7 @@ use clap::ArgMatches;
 
 /// List the free names of a problem: the file that is read.
 #[derive(Clone, Copy, PartialEq, Eq, Debug)]
-pub struct Mapping<'a> {
+pub struct MapArgs<'a> {
     /// The name of the OPB file.
     pub opb: &'a str,
 }
@@ -21,10 +21,10 @@ pub const COMMAND: Syntax<'static> = Syntax {
 };
 
 /// What `map` was asked for.
-pub fn mapping_in<'a>(given: &ArgMatches<'a>) -> Option<Mapping<'a>>
+pub fn map_args_in<'a>(given: &ArgMatches<'a>) -> Option<MapArgs<'a>>
     ensures { option_map as_map_words result ≡ map_in (rows_of (found_of given.now)) }
 {
-    Some(Mapping {
+    Some(MapArgs {
         opb: word_of(given, "opb")?,
     })
 }

@@ -6,7 +6,7 @@ ghost use Rattle.pb_words.specs.OptionWords.{amo_in, amo_of, budget_in, card_in,
 use crate::argument::{Argument, word_of};
 use crate::digits::number_within;
 use clap::ArgMatches;
-use pb_choice::{Amo, Card, EqualMode, General, MAX_BUDGET, Options};
+use pb_base::{Amo, Card, EqualMode, General, MAX_BUDGET, Options};
 
 /// The options of an encoding.
 pub const OPTIONS: [Argument<'static>; 5] = [

@@ -14,7 +14,7 @@ use std::alloc::Global;
 
 /// Propagate some literals over a CNF: the file that is read, and the literals.
 #[derive(Debug, Drop)]
-pub struct Probing<'a> {
+pub struct ProbeArgs<'a> {
     /// The name of the CNF file.
     pub cnf: &'a str,
     /// The literals that are given.
@@ -39,7 +39,7 @@ fn given_lits(alloc: Global, given: &ArgMatches<'_>) -> Result<Lits, WordsFault>
 }
 
 /// What `probe` was asked for; `Usage` where it was not asked so.
-pub fn probing_in<'a>(alloc: Global, given: &ArgMatches<'a>) -> Result<Probing<'a>, WordsFault>
+pub fn probe_args_in<'a>(alloc: Global, given: &ArgMatches<'a>) -> Result<ProbeArgs<'a>, WordsFault>
     ensures asked { IfOk result (λ p. probe_in (rows_of (found_of given.now)) ≡ Some (as_probe_words p)) }
     ensures usage { IsErrOf result WordsFault.Usage → probe_in (rows_of (found_of given.now)) ≡ None }
 {
@@ -47,7 +47,7 @@ pub fn probing_in<'a>(alloc: Global, given: &ArgMatches<'a>) -> Result<Probing<'
         return Err(WordsFault::Usage);
     };
     match given_lits(alloc, given) {
-        Ok(lits) => Ok(Probing { cnf, lits }),
+        Ok(lits) => Ok(ProbeArgs { cnf, lits }),
         Err(fault) => Err(fault),
     }
 }

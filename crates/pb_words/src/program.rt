@@ -1,9 +1,9 @@
 // The commands of the program.
 ghost use Rattle.std.specs.Prelude.{IfOk, codes};
 ghost use Rattle.clap.specs.Words.{App, with_subcommand};
-ghost use Rattle.pb_words.specs.Commands.{with_commands};
+ghost use Rattle.pb_words.specs.inner.Commands.{with_commands};
 ghost use Rattle.pb_words.specs.Rules.{bare_program, IsCommand};
-ghost use Rattle.pb_words.specs.Taken.{program_app};
+ghost use Rattle.pb_words.specs.Parsed.{program_app};
 
 use crate::command::{Syntax, command_of};
 use crate::{bench, check, decode, encode, map, probe, refute, wcnf};

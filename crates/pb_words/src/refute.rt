@@ -6,13 +6,13 @@ ghost use Rattle.pb_words.specs.RefuteWords.{as_refute_words, refute_after};
 
 use crate::argument::{Argument, word_of};
 use crate::bound::BOUND;
-use crate::check::checking_in;
+use crate::check::check_args_in;
 use crate::command::Syntax;
 use clap::ArgMatches;
 
 /// Check a derivation and a refutation of the CNF: the four files that are read.
 #[derive(Clone, Copy, PartialEq, Eq, Debug)]
-pub struct Refuting<'a> {
+pub struct RefuteArgs<'a> {
     /// The name of the OPB file.
     pub opb: &'a str,
     /// The name of the CNF file, which is another.
@@ -40,15 +40,15 @@ pub const COMMAND: Syntax<'static> = Syntax {
 };
 
 /// What `refute` was asked for: what `check` is asked for, and a refutation.
-pub fn refuting_in<'a>(given: &ArgMatches<'a>) -> Option<Refuting<'a>>
+pub fn refute_args_in<'a>(given: &ArgMatches<'a>) -> Option<RefuteArgs<'a>>
     ensures { let rows = rows_of (found_of given.now) in option_map as_refute_words result ≡ refute_after (check_in rows) (first_of (codes "lrat") rows) }
 {
-    let checking = checking_in(given)?;
+    let checking = check_args_in(given)?;
     let lrat = word_of(given, "lrat")?;
     if checking.opb == lrat || checking.cnf == lrat || checking.proof == lrat {
         return None;
     }
-    Some(Refuting {
+    Some(RefuteArgs {
         opb: checking.opb,
         cnf: checking.cnf,
         proof: checking.proof,

@@ -1,30 +1,30 @@
 //! What the words ask for.
-use crate::bench::Benching;
-use crate::check::Checking;
-use crate::decode::Decoding;
-use crate::encode::Encoding;
-use crate::map::Mapping;
-use crate::probe::Probing;
-use crate::refute::Refuting;
-use crate::wcnf::Weighing;
+use crate::bench::BenchArgs;
+use crate::check::CheckArgs;
+use crate::decode::DecodeArgs;
+use crate::encode::EncodeArgs;
+use crate::map::MapArgs;
+use crate::probe::ProbeArgs;
+use crate::refute::RefuteArgs;
+use crate::wcnf::WcnfArgs;
 
 /// What the words ask for: one of the program's commands.
 #[derive(Debug, Drop)]
 pub enum Request<'a> {
     /// Encode a problem.
-    Encode(Encoding<'a>),
+    Encode(EncodeArgs<'a>),
     /// Check a derivation.
-    Check(Checking<'a>),
+    Check(CheckArgs<'a>),
     /// Decode a model.
-    Decode(Decoding<'a>),
+    Decode(DecodeArgs<'a>),
     /// Propagate some literals over a CNF.
-    Probe(Probing<'a>),
+    Probe(ProbeArgs<'a>),
     /// Encode a generated problem.
-    Bench(Benching<'a>),
+    Bench(BenchArgs<'a>),
     /// Check a derivation and a refutation.
-    Refute(Refuting<'a>),
+    Refute(RefuteArgs<'a>),
     /// List the free names of a problem.
-    Map(Mapping<'a>),
+    Map(MapArgs<'a>),
     /// Encode a problem and its objective.
-    Wcnf(Weighing<'a>),
+    Wcnf(WcnfArgs<'a>),
 }

@@ -6,7 +6,7 @@ ghost use Rattle.pb_words.specs.TableWords.{table_in, tabled_in};
 use crate::argument::{Argument, word_of};
 use crate::options::options_in;
 use clap::ArgMatches;
-use pb_choice::Options;
+use pb_base::Options;
 
 /// The option by which a command takes a table of bounds.
 pub const TABLE: [Argument<'static>; 1] = [Argument::Flag("table")];

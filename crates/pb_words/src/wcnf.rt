@@ -8,11 +8,11 @@ use crate::bound::{BOUND, bound_in};
 use crate::command::Syntax;
 use crate::options::{OPTIONS, options_in};
 use clap::ArgMatches;
-use pb_choice::Options;
+use pb_base::Options;
 
 /// Encode a problem and its objective: the file that is read, the file that is made, and how.
 #[derive(Clone, Copy, PartialEq, Eq, Debug)]
-pub struct Weighing<'a> {
+pub struct WcnfArgs<'a> {
     /// The name of the OPB file.
     pub opb: &'a str,
     /// The name of the weighted CNF file, which is another.
@@ -34,7 +34,7 @@ pub const COMMAND: Syntax<'static> = Syntax {
 };
 
 /// What `wcnf` was asked for.
-pub fn weighing_in<'a>(given: &ArgMatches<'a>) -> Option<Weighing<'a>>
+pub fn wcnf_args_in<'a>(given: &ArgMatches<'a>) -> Option<WcnfArgs<'a>>
     ensures { option_map as_wcnf_words result ≡ wcnf_in (rows_of (found_of given.now)) }
 {
     let opb = word_of(given, "opb")?;
@@ -44,7 +44,7 @@ pub fn weighing_in<'a>(given: &ArgMatches<'a>) -> Option<Weighing<'a>>
     if opb == wcnf {
         return None;
     }
-    Some(Weighing {
+    Some(WcnfArgs {
         opb,
         wcnf,
         options,

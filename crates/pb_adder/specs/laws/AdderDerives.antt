@@ -17,15 +17,15 @@ use Rattle.pb_norm.proofs.Extremes.{value-all_true}
 use Rattle.pb_norm.proofs.Proper.{apart}
 use Rattle.pb_steps.specs.Database.{Database}
 use Rattle.pb_derive.specs.Claims.{Claim}
-use Rattle.pb_derive.specs.laws.Ran.{IsClaim, RanSwept}
+use Rattle.pb_derive.specs.inner.Ran.{IsClaim, RanSwept}
 use Rattle.pb_derive.specs.Forms.{AreApartTerms, IsFormOf}
 use Rattle.pb_derive.specs.Later.{Knows, IsLater}
-use Rattle.pb_derive.specs.Meanings.{Meaning}
-use Rattle.pb_derive.specs.laws.Meant.{AreMeant}
+use Rattle.pb_derive.specs.Reifications.{Reification}
+use Rattle.pb_derive.specs.inner.Meant.{AreMeant}
 use Rattle.pb_derive.proofs.Opposites.{value-opposite}
 use Rattle.pb_derive.proofs.Laters.{known_below}
-use Rattle.pb_derive.proofs.Meant.{Meant, meant_all, meanings_ran}
-use Rattle.pb_derive.proofs.Phases.{meanings_add, swept_derives}
+use Rattle.pb_derive.proofs.Meant.{Meant, meant_all, reifications_ran}
+use Rattle.pb_derive.proofs.Phases.{reifications_add, swept_derives}
 use Rattle.pb_derive.proofs.Scoped.{Scoped, scoped}
 use Rattle.pb_derive.proofs.PinLemmas.{Contains-same}
 use Rattle.pb_adder.specs.declared.gate.Wire.{Wire}
@@ -44,18 +44,18 @@ use Rattle.pb_adder.specs.AdderSteps.{blocks, last_sum, gate_ids, gate_claims, r
 use Rattle.pb_derive.specs.Rups.{by_rup}
 use Rattle.pb_derive.specs.Derivations.{as_constraint, IsReadyFor, Derives}
 use Rattle.pb_derive.specs.Ones.{unit_of, ones}
-use Rattle.pb_adder.specs.laws.RunningSums.{Sum, part, balance, IsRunning, IsApart}
-use Rattle.pb_adder.specs.GateMeanings.{input_lits, gate_meanings, sum_var, carry_var}
+use Rattle.pb_adder.specs.inner.RunningSums.{Sum, part, balance, IsRunning, IsApart}
+use Rattle.pb_adder.specs.GateReifications.{input_lits, gate_reifications, sum_var, carry_var}
 use Rattle.pb_adder.specs.LeveledGates.{Leveled, leveled_gates}
-use Rattle.pb_adder.specs.laws.AdderMeanings.{AllNamed, low_inputs, adder_meanings_are}
+use Rattle.pb_adder.specs.laws.AdderReifications.{AllNamed, low_inputs, adder_reifications_are}
 use Rattle.pb_adder.specs.laws.ApartGates.{Low, network_apart}
 use Rattle.pb_adder.specs.laws.Chains.{on, network_chain}
 use Rattle.pb_adder.specs.laws.GateClaims.{AreThere, AreNamed, gates_claimed, rows_claimed}
-use Rattle.pb_adder.specs.laws.Leveling.{network_each, network_meanings, network_low, few_levels, count_power}
+use Rattle.pb_adder.specs.laws.Leveling.{network_each, network_reifications, network_low, few_levels, count_power}
 use Rattle.pb_adder.specs.laws.LinesRun.{IsAcc, IsSetting, sums_swept}
 use Rattle.pb_adder.specs.laws.RowLengths.{comparator_short, ends_length}
 use Rattle.pb_adder.specs.laws.RowRups.{IsTrueWire, rows_refuted}
-use Rattle.pb_adder.specs.laws.TreeOps.{part-le, IsLaid, MakesFresh, meanings_of}
+use Rattle.pb_adder.specs.laws.TreeOps.{part-le, IsLaid, MakesFresh, reifications_of}
 
 -- ---- an assignment that makes all literals true
 
@@ -125,9 +125,9 @@ balance_named P first g h =
     let d : Weighted = record { coef = 2; lit = negated (positive_of (carry_var first g)) } in
     All-append Q (ones (input_lits first g)) (s ∷ d ∷ []) (All-map Q unit_of (input_lits first g) h.0) (All-cons Q s (d ∷ []) h.1 (All-cons Q d [] h.2 (All-nil Q)))
 
-pub meanings-length : (first : ℕ) (gs : List Gate) → length (flat_map (gate_meanings first) gs) ≡ 2 * length gs
-meanings-length first [] = refl
-meanings-length first (g ∷ gs) = omega (arith, meanings-length first gs)
+pub reifications-length : (first : ℕ) (gs : List Gate) → length (flat_map (gate_reifications first) gs) ≡ 2 * length gs
+reifications-length first [] = refl
+reifications-length first (g ∷ gs) = omega (arith, reifications-length first gs)
 
 -- ---- the clauses of the claims
 
@@ -180,8 +180,8 @@ module _ (m : BoundedSum) (first id : ℕ) (db : Database) (suits : IsForAdder m
   abbrev xs : List Leveled
   xs = leveled_gates ts
 
-  abbrev ms : List Meaning
-  ms = flat_map (gate_meanings first) gates
+  abbrev ms : List Reification
+  ms = flat_map (gate_reifications first) gates
 
   abbrev fresh : ℕ
   fresh = adder_fresh ts
@@ -211,7 +211,7 @@ module _ (m : BoundedSum) (first id : ℕ) (db : Database) (suits : IsForAdder m
   there = λ v h. omega (arith, h, ready.vars)
 
   meant : Meant P db ms
-  meant = meanings_ran P db ms ready.numbered (adder_meanings_are P db first gates there ready.original (λ v low named. ready.unnamed v low named) wired apart_gates named_gates)
+  meant = reifications_ran P db ms ready.numbered (adder_reifications_are P db first gates there ready.original (λ v low named. ready.unnamed v low named) wired apart_gates named_gates)
 
   abbrev mid : Database
   mid = meant.ran.end
@@ -244,8 +244,8 @@ module _ (m : BoundedSum) (first id : ℕ) (db : Database) (suits : IsForAdder m
       let low_xs = network_low ts suits.small in
       λ k d h. record { apart = apart_xs k d h; level = low_xs k d h; named = balance_named P first (get_or xs k d).gate (named_xs k d h) }
 
-  meant_xs : AreMeant mid db.next (meanings_of first xs)
-  meant_xs = subst (AreMeant mid db.next) (sym (network_meanings first ts)) meant.meant
+  meant_xs : AreMeant mid db.next (reifications_of first xs)
+  meant_xs = subst (AreMeant mid db.next) (sym (network_reifications first ts)) meant.meant
 
   -- ---- the clauses
 
@@ -296,11 +296,11 @@ module _ (m : BoundedSum) (first id : ℕ) (db : Database) (suits : IsForAdder m
   derived : Derives db (adder_steps ts m.bound first id db.next) (adder_clauses ts m.bound first) (first + fresh)
   derived =
       let count : ℕ = length gates in
-      let size : length ms ≡ 2 * count = meanings-length first gates in
+      let size : length ms ≡ 2 * count = reifications-length first gates in
       let at_sums : mid.next ≡ db.next + 4 * count = omega (arith, meant.ran.next, size) in
       let next : ℕ = db.next + 4 * count in
       let all : Scoped P db (adder_steps ts m.bound first id db.next) (adder_clauses ts m.bound first) (2 * length ms + ids next) (2 * length ms) =
-      scoped P db (defining_steps ts first db.next) (proving_steps ts m.bound first id db.next next) (adder_clauses ts m.bound first) (2 * length ms) (ids next) 2 (2 * count) meant.ran ready.numbered (meanings_add db.next ms)
+      scoped P db (defining_steps ts first db.next) (proving_steps ts m.bound first id db.next next) (adder_clauses ts m.bound first) (2 * length ms) (ids next) 2 (2 * count) meant.ran ready.numbered (reifications_add db.next ms)
       (subst (λ (k : ℕ). RanSwept P mid (proving_steps ts m.bound first id db.next k) (adder_clauses ts m.bound first) (ids k)) at_sums body) (omega (arith, size)) in
       swept_derives db (adder_steps ts m.bound first id db.next) (adder_clauses ts m.bound first) (first + fresh) (2 * length ms + ids next) ready.numbered all.all
 

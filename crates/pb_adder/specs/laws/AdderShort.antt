@@ -20,14 +20,14 @@ use Rattle.pb_steps.specs.Sayable.{IsId, IsVariable, IsFactor, IsOp, IsSayable}
 use Rattle.pb_steps.specs.StepSizes.{op_size, step_size}
 use Rattle.pb_derive.specs.Claims.{Claim, claim_steps}
 use Rattle.pb_derive.specs.Deletions.{deletion_steps}
-use Rattle.pb_derive.specs.Meanings.{Meaning, meaning_steps}
+use Rattle.pb_derive.specs.Reifications.{Reification, reification_steps}
 use Rattle.pb_derive.specs.Ones.{unit_of, ones}
 use Rattle.pb_derive.specs.Rups.{by_rup}
 use Rattle.pb_derive.specs.Short.{AreShort}
-use Rattle.pb_derive.proofs.Phases.{length-meanings, length-claims, length-deletions}
-use Rattle.pb_derive.proofs.Sayable.{IsSlimTerm, IsSlimMeaning, meanings_sayable, claims_sayable, deletions_sayable, rup_sayable}
+use Rattle.pb_derive.proofs.Phases.{length-reifications, length-claims, length-deletions}
+use Rattle.pb_derive.proofs.Sayable.{IsSlimTerm, IsSlimReification, reifications_sayable, claims_sayable, deletions_sayable, rup_sayable}
 use Rattle.pb_derive.proofs.Short.{lines_sized, line_sized}
-use Rattle.pb_derive.proofs.Sizes.{rup-size, meanings_each, claims_each, deletions_each, each_all}
+use Rattle.pb_derive.proofs.Sizes.{rup-size, reifications_each, claims_each, deletions_each, each_all}
 use Rattle.pb_family.specs.Derivations.{AreOriginal, MayStart}
 use Rattle.pb_family.specs.Fresh.{positive_of}
 use Rattle.pb_adder.specs.declared.gate.Gate.{Gate}
@@ -38,13 +38,13 @@ use Rattle.pb_adder.specs.Adder.{adder_clauses}
 use Rattle.pb_adder.specs.AdderSteps.{line_ops, tree_ops, blocks_within, blocks, sum_ops, later_sums, sum_steps, last_sum, last_deletion, gate_ids, gate_claims, row_claims, levels_of, adder_claims, proving_steps, adder_steps}
 use Rattle.pb_adder.specs.Comparator.{comparator}
 use Rattle.pb_adder.specs.Counts.{adder_fresh, adder_size}
-use Rattle.pb_adder.specs.GateMeanings.{carry_meaning, sum_meaning, input_lits, sum_var, carry_var, gate_meanings}
+use Rattle.pb_adder.specs.GateReifications.{carry_reification, sum_reification, input_lits, sum_var, carry_var, gate_reifications}
 use Rattle.pb_adder.specs.Gates.{wire_lit, gate_clauses}
 use Rattle.pb_adder.specs.LeveledGates.{Leveled, leveled_gates}
 use Rattle.pb_adder.specs.Network.{level_count, network_gates, network_ends}
-use Rattle.pb_adder.specs.laws.AdderDerives.{IsForAdder, meanings-length}
+use Rattle.pb_adder.specs.laws.AdderDerives.{IsForAdder, reifications-length}
 use Rattle.pb_adder.specs.laws.AdderLaws.{adder_names}
-use Rattle.pb_adder.specs.laws.AdderMeanings.{AllNamed, all_meanings}
+use Rattle.pb_adder.specs.laws.AdderReifications.{AllNamed, all_reifications}
 use Rattle.pb_adder.specs.laws.CountLaws.{network_fresh}
 use Rattle.pb_adder.specs.laws.GateClaims.{gate_few}
 use Rattle.pb_adder.specs.laws.Leveling.{few_levels, network_low}
@@ -96,11 +96,11 @@ gates_variable first m fresh [] low fits within wired = All-nil (AllNamed IsVari
 gates_variable first m fresh (g ∷ gs) low fits within wired =
     All-cons (AllNamed IsVariable first) g gs (gate_variable first m fresh g gs low fits (omega (arith, within)) wired) (gates_variable first (m + 2) fresh gs low fits (omega (arith, within)) wired.2)
 
--- ---- the meanings
+-- ---- the reifications
 
--- what lines can say of a meaning, and how many terms it has
-abbrev IsSmallMeaning : Meaning → Type 0
-IsSmallMeaning m = IsSlimMeaning m × (length m.sum ≤ 4)
+-- what lines can say of a reification, and how many terms it has
+abbrev IsSmallReification : Reification → Type 0
+IsSmallReification m = IsSlimReification m × (length m.sum ≤ 4)
 
 inputs_slim : (ls : List Lit) → AreVariables ls → All IsSlimTerm (ones ls)
 inputs_slim ls h =
@@ -113,7 +113,7 @@ sum_slim ls d h v =
     let last : Weighted = record { coef = 2; lit = negated (positive_of d) } in
     All-append IsSlimTerm (ones ls) (last ∷ []) (inputs_slim ls h) (All-cons IsSlimTerm last [] (small, v) (All-nil IsSlimTerm))
 
-gate_small : (first : ℕ) (g : Gate) → AllNamed IsVariable first g → IsSmallMeaning (carry_meaning (input_lits first g) (carry_var first g)) × IsSmallMeaning (sum_meaning (input_lits first g) (sum_var first g) (carry_var first g))
+gate_small : (first : ℕ) (g : Gate) → AllNamed IsVariable first g → IsSmallReification (carry_reification (input_lits first g) (carry_var first g)) × IsSmallReification (sum_reification (input_lits first g) (sum_var first g) (carry_var first g))
 gate_small first (Full x y z made) h =
     let ls = input_lits first (Full x y z made) in (
       (record { sum = inputs_slim ls h.0; var = h.2; light = omega arith }, omega arith),
@@ -372,8 +372,8 @@ module _ (m : BoundedSum) (suits : IsForAdder m) (first id next : ℕ) (original
   abbrev gates : List Gate
   gates = network_gates ts
 
-  abbrev ms : List Meaning
-  ms = flat_map (gate_meanings first) gates
+  abbrev ms : List Reification
+  ms = flat_map (gate_reifications first) gates
 
   abbrev count : ℕ
   count = length gates
@@ -414,8 +414,8 @@ module _ (m : BoundedSum) (suits : IsForAdder m) (first id next : ℕ) (original
   size : length levels ≡ count
   size = levels-length ts
 
-  meaning_ids : Fits next (4 * count)
-  meaning_ids = (from_one, (let below : next + 4 * count < 2 ^ 63 = omega (arith, within, room) in below))
+  reification_ids : Fits next (4 * count)
+  reification_ids = (from_one, (let below : next + 4 * count < 2 ^ 63 = omega (arith, within, room) in below))
 
   few_parts : length parts ≤ count
   few_parts = omega (arith, few_blocks levels, size)
@@ -432,8 +432,8 @@ module _ (m : BoundedSum) (suits : IsForAdder m) (first id next : ℕ) (original
   named_gates : All (AllNamed IsVariable first) gates
   named_gates = gates_variable first 0 (adder_fresh ts) gates start.low start.fits (omega (arith, network_fresh ts)) (network_wired (λ l. IsVariable l.var) ts variables)
 
-  meanings_small : All IsSmallMeaning ms
-  meanings_small = all_meanings IsSmallMeaning first gates (λ k d h. gate_small first (get_or gates k d) (named_gates k d h))
+  reifications_small : All IsSmallReification ms
+  reifications_small = all_reifications IsSmallReification first gates (λ k d h. gate_small first (get_or gates k d) (named_gates k d h))
 
   clause_variables : All AreVariables (adder_clauses ts m.bound first)
   clause_variables =
@@ -459,7 +459,7 @@ module _ (m : BoundedSum) (suits : IsForAdder m) (first id next : ℕ) (original
   claims_fine =
       let parts = All-append_both AreVariables (flat_map (gate_clauses first) gates) (comparator first m.bound (network_ends ts)) clause_variables in
       All-append IsFineClaim (gate_claims first next gates) (row_claims last (comparator first m.bound (network_ends ts)))
-      (gate_claims_fine first next gates parts.0 meaning_ids) (row_claims_fine last (comparator first m.bound (network_ends ts)) last_is parts.1 rows_few)
+      (gate_claims_fine first next gates parts.0 reification_ids) (row_claims_fine last (comparator first m.bound (network_ends ts)) last_is parts.1 rows_few)
 
   claims_few : length claims ≤ 14 * count + 100
   claims_few =
@@ -475,8 +475,8 @@ module _ (m : BoundedSum) (suits : IsForAdder m) (first id next : ℕ) (original
 
   -- ---- the parts
 
-  abbrev meanings : List Step
-  meanings = meaning_steps next ms
+  abbrev reifications : List Step
+  reifications = reification_steps next ms
 
   abbrev sums : List Step
   sums = sum_steps next id sums_from parts
@@ -490,11 +490,11 @@ module _ (m : BoundedSum) (suits : IsForAdder m) (first id next : ℕ) (original
   abbrev gone : List Step
   gone = deletion_steps 2 next (2 * count)
 
-  meanings_fine : All IsFine meanings
-  meanings_fine =
-      let slim : All IsSlimMeaning ms = All-weaker IsSmallMeaning IsSlimMeaning (λ m h. h.0) ms meanings_small in
-      let sizes : All (λ m. 119 + 53 * length m.sum ≤ 8192) ms = All-weaker IsSmallMeaning (λ (m : Meaning). 119 + 53 * length m.sum ≤ 8192) (λ m h. let few = h.1 in omega (arith, few)) ms meanings_small in
-      both_fine meanings (meanings_sayable next ms from_one (omega (arith, meanings-length first gates, within, room)) slim) (meanings_each 8192 (omega arith) next ms sizes)
+  reifications_fine : All IsFine reifications
+  reifications_fine =
+      let slim : All IsSlimReification ms = All-weaker IsSmallReification IsSlimReification (λ m h. h.0) ms reifications_small in
+      let sizes : All (λ m. 119 + 53 * length m.sum ≤ 8192) ms = All-weaker IsSmallReification (λ (m : Reification). 119 + 53 * length m.sum ≤ 8192) (λ m h. let few = h.1 in omega (arith, few)) ms reifications_small in
+      both_fine reifications (reifications_sayable next ms from_one (omega (arith, reifications-length first gates, within, room)) slim) (reifications_each 8192 (omega arith) next ms sizes)
 
   outs_fine : All IsFine outs
   outs_fine =
@@ -513,14 +513,14 @@ module _ (m : BoundedSum) (suits : IsForAdder m) (first id next : ℕ) (original
   all_sums = omega (arith, within_size 16 (length levels) levels, size)
 
   sums_fit : All IsLong sums
-  sums_fit = sums_long next id sums_from parts (within_blocks 16 (length levels) levels (omega arith) low) (front_fits next (4 * sum_by length parts) (4 * count) meaning_ids (omega (arith, all_sums))) constraint_id sum_ids
+  sums_fit = sums_long next id sums_from parts (within_blocks 16 (length levels) levels (omega arith) low) (front_fits next (4 * sum_by length parts) (4 * count) reification_ids (omega (arith, all_sums))) constraint_id sum_ids
 
   -- ---- all together
 
   all_long : All IsLong steps
   all_long =
       let long = λ (ss : List Step) (h : All IsFine ss). All-weaker IsFine IsLong fine_long ss h in
-      All-append IsLong meanings (proving_steps ts m.bound first id next sums_from ++ gone) (long meanings meanings_fine)
+      All-append IsLong reifications (proving_steps ts m.bound first id next sums_from ++ gone) (long reifications reifications_fine)
       (All-append IsLong (proving_steps ts m.bound first id next sums_from) gone
       (All-append IsLong sums (outs ++ rest) sums_fit (All-append IsLong outs rest (long outs outs_fine) (long rest rest_fine)))
       (long gone gone_all))
@@ -535,13 +535,13 @@ module _ (m : BoundedSum) (suits : IsForAdder m) (first id next : ℕ) (original
   size_all =
       omega (
         arith,
-        sum_by-append step_size meanings (proving_steps ts m.bound first id next sums_from ++ gone),
+        sum_by-append step_size reifications (proving_steps ts m.bound first id next sums_from ++ gone),
         sum_by-append step_size (proving_steps ts m.bound first id next sums_from) gone,
         sum_by-append step_size sums (outs ++ rest),
         sum_by-append step_size outs rest,
-        bytes meanings meanings_fine,
-        length-meanings next ms,
-        meanings-length first gates,
+        bytes reifications reifications_fine,
+        length-reifications next ms,
+        reifications-length first gates,
         bytes outs outs_fine,
         length-claims (sums_from + length parts) claims,
         claims-length ts m.bound first next last,

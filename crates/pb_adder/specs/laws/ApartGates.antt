@@ -17,7 +17,7 @@ use Rattle.pb_adder.specs.declared.gate.Gate.TheVariants.{Full, Half}
 use Rattle.pb_adder.specs.Gates.{wire_lit, made_of, carry_wire}
 use Rattle.pb_adder.specs.Network.{has_bit, inputs_at, level_gates, gates_of, queue_at, gates_from, level_count, network_gates}
 use Rattle.pb_adder.specs.laws.Wired.{Known, Wired, levels_wired, all_more, carries_known}
-use Rattle.pb_adder.specs.laws.RunningSums.{IsApart}
+use Rattle.pb_adder.specs.inner.RunningSums.{IsApart}
 
 -- ---- pairs
 

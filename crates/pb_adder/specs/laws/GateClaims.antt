@@ -10,21 +10,21 @@ use Rattle.pb_base.proofs.Members.{All-append_both}
 use Rattle.pb_family.specs.Fresh.{positive_of}
 use Rattle.pb_norm.specs.Constraints.{Constraint, weight}
 use Rattle.pb_steps.specs.Database.{Database, constraint_at}
-use Rattle.pb_derive.specs.laws.Ran.{IsClaim}
+use Rattle.pb_derive.specs.inner.Ran.{IsClaim}
 use Rattle.pb_derive.specs.Later.{IsNumbered, Knows}
-use Rattle.pb_derive.specs.Meanings.{forward_of, reverse_of}
-use Rattle.pb_derive.specs.laws.Meant.{IsMeant, AreMeant}
+use Rattle.pb_derive.specs.Reifications.{forward_of, reverse_of}
+use Rattle.pb_derive.specs.inner.Meant.{IsMeant, AreMeant}
 use Rattle.pb_derive.proofs.Laters.{known_below}
 use Rattle.pb_adder.specs.declared.gate.Gate.{Gate}
 use Rattle.pb_adder.specs.declared.gate.Gate.TheVariants.{Full, Half}
 use Rattle.pb_adder.specs.Gates.{wire_lit, gate_clauses}
 use Rattle.pb_derive.specs.Ones.{ones}
-use Rattle.pb_adder.specs.GateMeanings.{carry_meaning, sum_meaning, input_lits, gate_meanings, sum_var, carry_var}
-use Rattle.pb_adder.specs.laws.RunningSums.{IsApart}
+use Rattle.pb_adder.specs.GateReifications.{carry_reification, sum_reification, input_lits, gate_reifications, sum_var, carry_var}
+use Rattle.pb_adder.specs.inner.RunningSums.{IsApart}
 use Rattle.pb_derive.specs.Rups.{by_rup}
 use Rattle.pb_adder.specs.AdderSteps.{gate_ids, gate_claims, row_claims}
 use Rattle.pb_adder.specs.laws.Distances.{lits_apart}
-use Rattle.pb_derive.specs.laws.Refuted.{IsRefuting, AreAt}
+use Rattle.pb_derive.specs.inner.Refuted.{IsRefuting, AreAt}
 use Rattle.pb_derive.proofs.PinnedRups.{AreFormsOf}
 use Rattle.pb_adder.specs.laws.GateRups.{adder_constraints, full_refutes, half_refutes}
 use Rattle.pb_derive.proofs.Rups.{refuted_claims}
@@ -35,34 +35,34 @@ pub record HasFour (db : Database) (id : ℕ) (inputs : List Lit) (s d : ℕ) : 
   pub at : AreAt db (gate_ids id) cs
   pub forms : AreFormsOf (adder_constraints inputs s d) cs
 
--- two meanings give them
-four_of : (db : Database) (id : ℕ) (inputs : List Lit) (s d : ℕ) → IsNumbered db → 2 ≤ weight (ones inputs) → 3 ≤ weight (sum_meaning inputs s d).sum
-    → IsMeant db id (carry_meaning inputs d) → IsMeant db (id + 2) (sum_meaning inputs s d) → HasFour db id inputs s d
+-- two reifications give them
+four_of : (db : Database) (id : ℕ) (inputs : List Lit) (s d : ℕ) → IsNumbered db → 2 ≤ weight (ones inputs) → 3 ≤ weight (sum_reification inputs s d).sum
+    → IsMeant db id (carry_reification inputs d) → IsMeant db (id + 2) (sum_reification inputs s d) → HasFour db id inputs s d
 four_of db id inputs s d numbered two three carry sum =
-    let c : Knows db id (forward_of (carry_meaning inputs d)) = carry.first in
-    let c' : Knows db (id + 1) (reverse_of (carry_meaning inputs d)) = carry.second two in
-    let e : Knows db (id + 2) (forward_of (sum_meaning inputs s d)) = sum.first in
-    let e' : Knows db (id + 3) (reverse_of (sum_meaning inputs s d)) = subst (λ (i : ℕ). Knows db i (reverse_of (sum_meaning inputs s d))) (let f : id + 2 + 1 ≡ id + 3 = omega arith in f) (sum.second three) in
+    let c : Knows db id (forward_of (carry_reification inputs d)) = carry.first in
+    let c' : Knows db (id + 1) (reverse_of (carry_reification inputs d)) = carry.second two in
+    let e : Knows db (id + 2) (forward_of (sum_reification inputs s d)) = sum.first in
+    let e' : Knows db (id + 3) (reverse_of (sum_reification inputs s d)) = subst (λ (i : ℕ). Knows db i (reverse_of (sum_reification inputs s d))) (let f : id + 2 + 1 ≡ id + 3 = omega arith in f) (sum.second three) in
     record {
       cs = c.0 ∷ c'.0 ∷ e.0 ∷ e'.0 ∷ [];
       at = (
         c.1,
-        known_below db id (forward_of (carry_meaning inputs d)) numbered c,
+        known_below db id (forward_of (carry_reification inputs d)) numbered c,
         (
           c'.1,
-          known_below db (id + 1) (reverse_of (carry_meaning inputs d)) numbered c',
+          known_below db (id + 1) (reverse_of (carry_reification inputs d)) numbered c',
           (
             e.1,
-            known_below db (id + 2) (forward_of (sum_meaning inputs s d)) numbered e,
-            (e'.1, known_below db (id + 3) (reverse_of (sum_meaning inputs s d)) numbered e', tt),
+            known_below db (id + 2) (forward_of (sum_reification inputs s d)) numbered e,
+            (e'.1, known_below db (id + 3) (reverse_of (sum_reification inputs s d)) numbered e', tt),
           ),
         ),
       );
       forms = (c.2, (c'.2, (e.2, (e'.2, tt))));
     }
 
-gate_refuted : (db : Database) (first id : ℕ) (g : Gate) → IsNumbered db → IsApart first g → IsMeant db id (carry_meaning (input_lits first g) (carry_var first g))
-    → IsMeant db (id + 2) (sum_meaning (input_lits first g) (sum_var first g) (carry_var first g)) → (cs : List Constraint) × AreAt db (gate_ids id) cs × All (IsRefuting cs) (gate_clauses first g)
+gate_refuted : (db : Database) (first id : ℕ) (g : Gate) → IsNumbered db → IsApart first g → IsMeant db id (carry_reification (input_lits first g) (carry_var first g))
+    → IsMeant db (id + 2) (sum_reification (input_lits first g) (sum_var first g) (carry_var first g)) → (cs : List Constraint) × AreAt db (gate_ids id) cs × All (IsRefuting cs) (gate_clauses first g)
 gate_refuted db first id (Full a b c made) numbered apart carry sum =
     let g = Full a b c made in
     let inputs = input_lits first g in
@@ -98,13 +98,13 @@ abbrev pub AreNamed : (ℕ → Type 0) → List (List Lit) → Type 0
 AreNamed P clauses = All (All (λ l. P l.var)) clauses
 
 pub gates_claimed : (P : ℕ → Type 0) (db : Database) (first id : ℕ) (gs : List Gate) → IsNumbered db → AreThere P db → AreNamed P (flat_map (gate_clauses first) gs) → All (IsApart first) gs
-    → AreMeant db id (flat_map (gate_meanings first) gs) → All (IsClaim P db) (gate_claims first id gs)
+    → AreMeant db id (flat_map (gate_reifications first) gs) → All (IsClaim P db) (gate_claims first id gs)
 gates_claimed P db first id [] numbered there named apart meant = All-nil (IsClaim P db)
 gates_claimed P db first id (g ∷ gs) numbered there named apart meant =
     let parts = All-append_both (All (λ (l : Lit). P l.var)) (gate_clauses first g) (flat_map (gate_clauses first) gs) named in
     let refuted = gate_refuted db first id g numbered (All-head (IsApart first) g gs apart) meant.0 meant.1.0 in
     let few = gate_few first g in
-    let others : AreMeant db (id + 4) (flat_map (gate_meanings first) gs) = subst (λ (i : ℕ). AreMeant db i (flat_map (gate_meanings first) gs)) (let e : id + 2 + 2 ≡ id + 4 = omega arith in e) meant.1.1 in
+    let others : AreMeant db (id + 4) (flat_map (gate_reifications first) gs) = subst (λ (i : ℕ). AreMeant db i (flat_map (gate_reifications first) gs)) (let e : id + 2 + 2 ≡ id + 4 = omega arith in e) meant.1.1 in
     All-append (IsClaim P db) (map (by_rup (gate_ids id)) (gate_clauses first g)) (gate_claims first (id + 4) gs)
     (All-map (IsClaim P db) (by_rup (gate_ids id)) (gate_clauses first g) (λ k d h.
     let clause : List Lit = get_or (gate_clauses first g) k d in

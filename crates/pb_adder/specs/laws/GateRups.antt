@@ -6,19 +6,19 @@ use Rattle.pb_base.specs.declared.literal.Lit.{Lit}
 use Rattle.pb_base.specs.Literals.{negated}
 use Rattle.pb_norm.specs.Constraints.{Constraint}
 use Rattle.pb_family.specs.Fresh.{positive_of}
-use Rattle.pb_derive.specs.Meanings.{Meaning, forward_of, reverse_of}
-use Rattle.pb_derive.specs.laws.Refuted.{IsRefuting}
+use Rattle.pb_derive.specs.Reifications.{Reification, forward_of, reverse_of}
+use Rattle.pb_derive.specs.inner.Refuted.{IsRefuting}
 use Rattle.pb_derive.proofs.PinLemmas.{AreApartLits}
 use Rattle.pb_derive.proofs.PinnedRups.{AreFormsOf, is_refuted, pinned_refute}
-use Rattle.pb_adder.specs.GateMeanings.{carry_meaning, sum_meaning}
+use Rattle.pb_adder.specs.GateReifications.{carry_reification, sum_reification}
 use Rattle.pb_adder.specs.Gates.{full_clauses, half_clauses}
 
-abbrev both_of : Meaning → List Constraint
+abbrev both_of : Reification → List Constraint
 both_of m = forward_of m ∷ reverse_of m ∷ []
 
 -- the four constraints of an adder
 abbrev pub adder_constraints : List Lit → ℕ → ℕ → List Constraint
-adder_constraints inputs s d = both_of (carry_meaning inputs d) ++ both_of (sum_meaning inputs s d)
+adder_constraints inputs s d = both_of (carry_reification inputs d) ++ both_of (sum_reification inputs s d)
 
 -- what may be tried, for a clause: its literals false, and then perhaps the carry one way
 abbrev traces : ℕ → List Lit → List (List Lit)

@@ -4,16 +4,16 @@ use Rattle.std.specs.Prelude.{All, map, flat_map}
 use Rattle.std.proofs.lemmas.List.{length-map}
 use Rattle.std.proofs.lemmas.List.Elements.{All-cons, All-nil, All-head, All-tail, All-append, All-map, All-weaker}
 use Rattle.pb_norm.specs.Constraints.{Weighted, weight}
-use Rattle.pb_derive.specs.Meanings.{Meaning}
+use Rattle.pb_derive.specs.Reifications.{Reification}
 use Rattle.pb_adder.specs.declared.gate.Wire.{Wire}
 use Rattle.pb_adder.specs.declared.gate.Gate.{Gate}
 use Rattle.pb_adder.specs.Gates.{carry_wire}
 use Rattle.pb_adder.specs.Network.{gates_of, queue_at, gates_from, level_count, network_gates}
 use Rattle.pb_adder.specs.laws.NetworkLaws.{digits_few}
-use Rattle.pb_adder.specs.GateMeanings.{gate_meanings}
+use Rattle.pb_adder.specs.GateReifications.{gate_reifications}
 use Rattle.pb_adder.specs.LeveledGates.{Leveled, leveled, at_level, leveled_from, leveled_gates}
 use Rattle.pb_adder.specs.laws.Chains.{power_le}
-use Rattle.pb_adder.specs.laws.TreeOps.{meanings_of}
+use Rattle.pb_adder.specs.laws.TreeOps.{reifications_of}
 
 abbrev pub gates_in : List Leveled → List Gate
 gates_in xs = map (λ (x : Leveled). x.gate) xs
@@ -43,12 +43,12 @@ from_gates P (x ∷ xs) h = All-cons (λ (x : Leveled). P x.gate) x xs (All-head
 pub network_each : (P : Gate → Type 0) (ts : List Weighted) → All P (network_gates ts) → All (λ (x : Leveled). P x.gate) (leveled_gates ts)
 network_each P ts h = from_gates P (leveled_gates ts) (subst (All P) (sym (network_leveled ts)) h)
 
-meanings-gates : (first : ℕ) (xs : List Leveled) → meanings_of first xs ≡ flat_map (gate_meanings first) (gates_in xs)
-meanings-gates first [] = refl
-meanings-gates first (x ∷ xs) = ap (λ (ms : List Meaning). gate_meanings first x.gate ++ ms) (meanings-gates first xs)
+reifications-gates : (first : ℕ) (xs : List Leveled) → reifications_of first xs ≡ flat_map (gate_reifications first) (gates_in xs)
+reifications-gates first [] = refl
+reifications-gates first (x ∷ xs) = ap (λ (ms : List Reification). gate_reifications first x.gate ++ ms) (reifications-gates first xs)
 
-pub network_meanings : (first : ℕ) (ts : List Weighted) → meanings_of first (leveled_gates ts) ≡ flat_map (gate_meanings first) (network_gates ts)
-network_meanings first ts = meanings-gates first (leveled_gates ts) ∙ ap (flat_map (gate_meanings first)) (network_leveled ts)
+pub network_reifications : (first : ℕ) (ts : List Weighted) → reifications_of first (leveled_gates ts) ≡ flat_map (gate_reifications first) (network_gates ts)
+network_reifications first ts = reifications-gates first (leveled_gates ts) ∙ ap (flat_map (gate_reifications first)) (network_leveled ts)
 
 -- ---- no level is high
 

@@ -16,7 +16,7 @@ use Rattle.pb_steps.specs.Steps.{HasFactor, ids_of_op, vars_of_op}
 use Rattle.pb_steps.specs.Database.{Entry, Database, constraint_at, IsLive}
 use Rattle.pb_steps.specs.Stacks.{after_ops, height_from}
 use Rattle.pb_derive.proofs.Stacked.{after_step, push_step}
-use Rattle.pb_adder.specs.laws.RunningSums.{line_of}
+use Rattle.pb_adder.specs.inner.RunningSums.{line_of}
 use Rattle.pb_adder.specs.AdderSteps.{line_ops}
 use Rattle.pb_adder.specs.laws.RunningSteps.{weight-scaled}
 

@@ -20,9 +20,9 @@ use Rattle.pb_steps.specs.Runs.{Runs}
 use Rattle.pb_steps.specs.Stacks.{after_ops, is_stacked, leaves_one}
 use Rattle.pb_derive.specs.Claims.{Claim, claim_steps}
 use Rattle.pb_derive.specs.Deletions.{deletion_steps}
-use Rattle.pb_derive.specs.laws.Ran.{IsClaim, Ran, RanSwept}
+use Rattle.pb_derive.specs.inner.Ran.{IsClaim, Ran, RanSwept}
 use Rattle.pb_derive.specs.Later.{IsNumbered, IsLater}
-use Rattle.pb_derive.specs.laws.Meant.{AreMeant}
+use Rattle.pb_derive.specs.inner.Meant.{AreMeant}
 use Rattle.pb_derive.proofs.Laters.{at_grown, later_same, later_grown}
 use Rattle.pb_derive.proofs.Carried.{IsCarried, carried_first, carried_on, carried_ends}
 use Rattle.pb_derive.proofs.Held.{AreAdding}
@@ -34,8 +34,8 @@ use Rattle.pb_adder.specs.AdderSteps.{tree_ops, blocks_within, blocks, sum_ops, 
 use Rattle.pb_adder.specs.LeveledGates.{Leveled}
 use Rattle.pb_adder.specs.laws.LineOps.{IsReady, push_ready, add_ready, height_push}
 use Rattle.pb_adder.specs.laws.RunningSteps.{balanced_both, running_small}
-use Rattle.pb_adder.specs.laws.RunningSums.{Sum, IsRunning, StaysUpTo, Chain, taken_by, given_by, taken, given}
-use Rattle.pb_adder.specs.laws.TreeOps.{MakesFresh, IsLaid, Leaves, levels_in, meanings_of, meant_behind, laid_parts, taken_less, tree_leaves}
+use Rattle.pb_adder.specs.inner.RunningSums.{Sum, IsRunning, StaysUpTo, Chain, taken_by, given_by, taken, given}
+use Rattle.pb_adder.specs.laws.TreeOps.{MakesFresh, IsLaid, Leaves, levels_in, reifications_of, meant_behind, laid_parts, taken_less, tree_leaves}
 
 -- ---- what does not change from line to line
 
@@ -87,7 +87,7 @@ pub record LineRan (P : ℕ → Type 0) (db : Database) (id running bound : ℕ)
   pub acc : IsAcc P ran.end db.next bound between
 
 line_ran : (P : ℕ → Type 0) (db : Database) (first bound m : ℕ) (a : Assignment) (id running : ℕ) (xs : List Leveled) (before between : Sum) → IsSetting first bound m a → IsNumbered db → 1 ≤ length xs → length xs ≤ 2 ^ 16
-    → AreMeant db id (meanings_of first xs) → All (IsLaid P first) xs → IsAcc P db running bound before → Chain first m before xs between → StaysUpTo m before → StaysUpTo m between → bound ≤ before (lit_value a)
+    → AreMeant db id (reifications_of first xs) → All (IsLaid P first) xs → IsAcc P db running bound before → Chain first m before xs between → StaysUpTo m before → StaysUpTo m between → bound ≤ before (lit_value a)
     → LineRan P db id running bound xs between
 line_ran P db first bound m a id running xs before between setting numbered some few meant laid acc chain low high full =
     let tree : Leaves P db first 16 xs (tree_ops 16 id (levels_in xs)) = tree_leaves P db first a setting.fresh 16 id xs some few few meant laid in
@@ -182,17 +182,17 @@ module _ (P : ℕ → Type 0) (base : Database) (first bound m : ℕ) (a : Assig
     pub chain : ChainParts first m before split.front split.back after
     pub ran : LineRan P db id running bound split.front chain.between
     pub full : bound ≤ chain.between (lit_value a)
-    pub meant : AreMeant base (id + 4 * length (levels_in split.front)) (meanings_of first split.back)
+    pub meant : AreMeant base (id + 4 * length (levels_in split.front)) (reifications_of first split.back)
     pub laid : All (IsLaid P first) split.back
 
-  block_ran : (db : Database) (id running : ℕ) (x : Leveled) (xs : List Leveled) (before after : Sum) (more : ℕ) → length (x ∷ xs) ≤ suc more → IsLater P base db → AreMeant base id (meanings_of first (x ∷ xs)) → All (IsLaid P first) (x ∷ xs)
+  block_ran : (db : Database) (id running : ℕ) (x : Leveled) (xs : List Leveled) (before after : Sum) (more : ℕ) → length (x ∷ xs) ≤ suc more → IsLater P base db → AreMeant base id (reifications_of first (x ∷ xs)) → All (IsLaid P first) (x ∷ xs)
       → IsAcc P db running bound before → Chain first m before (x ∷ xs) after → StaysUpTo m before → bound ≤ before (lit_value a) → Block db id running before (x ∷ xs) after more
   block_ran db id running x xs before after more enough later meant laid acc chain low full =
       let parted : Split (x ∷ xs) more = split more x xs enough in
       let front : List Leveled = parted.front in
       let back : List Leveled = parted.back in
       let links : ChainParts first m before front back after = chain_parts first m before front back after low (subst (λ (ys : List Leveled). Chain first m before ys after) (sym parted.whole) chain) in
-      let met = meant_behind base first id front back (subst (λ (ys : List Leveled). AreMeant base id (meanings_of first ys)) (sym parted.whole) meant) in
+      let met = meant_behind base first id front back (subst (λ (ys : List Leveled). AreMeant base id (reifications_of first ys)) (sym parted.whole) meant) in
       let laid_all = laid_parts P first (2 ^ 16) (x ∷ xs) laid in
       let laid_front : All (IsLaid P first) front = subst (All (IsLaid P first)) parted.is_front laid_all.0 in
       let total = chain_total first m before front links.between links.front (lit_value a) in
@@ -200,13 +200,13 @@ module _ (P : ℕ → Type 0) (base : Database) (first bound m : ℕ) (a : Assig
       record {
         split = parted;
         chain = links;
-        ran = line_ran P db first bound m a id running front before links.between setting later.numbered parted.some parted.few (meant_all P base db id (meanings_of first front) later numbered met.0) laid_front acc links.front low links.up full;
+        ran = line_ran P db first bound m a id running front before links.between setting later.numbered parted.some parted.few (meant_all P base db id (reifications_of first front) later numbered met.0) laid_front acc links.front low links.up full;
         full = omega (arith, total, taken_less first front a setting.fresh, full);
-        meant = subst (λ (n : ℕ). AreMeant base (id + 4 * n) (meanings_of first back)) size met.1;
+        meant = subst (λ (n : ℕ). AreMeant base (id + 4 * n) (reifications_of first back)) size met.1;
         laid = subst (All (IsLaid P first)) parted.is_back laid_all.1;
       }
 
-  later_ran : (more : ℕ) (db : Database) (id running : ℕ) (xs : List Leveled) (before after : Sum) → length xs ≤ more → AreMeant base id (meanings_of first xs) → All (IsLaid P first) xs
+  later_ran : (more : ℕ) (db : Database) (id running : ℕ) (xs : List Leveled) (before after : Sum) → length xs ≤ more → AreMeant base id (reifications_of first xs) → All (IsLaid P first) xs
       → IsCarried P base db running → IsAcc P db running bound before → Chain first m before xs after → StaysUpTo m before → bound ≤ before (lit_value a)
       → SumsRan P base db (later_sums id running db.next (blocks_within 16 more (levels_in xs))) bound (last_sum running db.next (blocks_within 16 more (levels_in xs))) (length (blocks_within 16 more (levels_in xs))) after
   later_ran more db id running [] before after enough meant laid carried acc chain low full =
@@ -237,7 +237,7 @@ module _ (P : ℕ → Type 0) (base : Database) (first bound m : ℕ) (a : Assig
       })
 
   -- the first sum starts with the constraint itself
-  first_ran : (id running : ℕ) (x : Leveled) (xs : List Leveled) (before after : Sum) → AreMeant base id (meanings_of first (x ∷ xs)) → All (IsLaid P first) (x ∷ xs)
+  first_ran : (id running : ℕ) (x : Leveled) (xs : List Leveled) (before after : Sum) → AreMeant base id (reifications_of first (x ∷ xs)) → All (IsLaid P first) (x ∷ xs)
       → IsAcc P base running bound before → Chain first m before (x ∷ xs) after → StaysUpTo m before → bound ≤ before (lit_value a)
       → SumsRan P base base (sum_steps id running base.next (blocks (levels_in (x ∷ xs)))) bound (last_sum running base.next (blocks (levels_in (x ∷ xs)))) (length (blocks (levels_in (x ∷ xs)))) after
   first_ran id running x xs before after meant laid acc chain low full =
@@ -277,7 +277,7 @@ module _ (P : ℕ → Type 0) (base : Database) (first bound m : ℕ) (a : Assig
       let last = last_sum running base.next parts in
       sum_steps id running base.next parts ++ (claim_steps (base.next + length parts) (claims last) ++ last_deletion last levels)
 
-  pub sums_swept : (id running : ℕ) (xs : List Leveled) (before after : Sum) (claims : ℕ → List Claim) → AreMeant base id (meanings_of first xs) → All (IsLaid P first) xs
+  pub sums_swept : (id running : ℕ) (xs : List Leveled) (before after : Sum) (claims : ℕ → List Claim) → AreMeant base id (reifications_of first xs) → All (IsLaid P first) xs
       → IsAcc P base running bound before → Chain first m before xs after → StaysUpTo m before → bound ≤ before (lit_value a)
       → ((end : Database) (last : ℕ) → IsLater P base end → IsAcc P end last bound after → All (IsClaim P end) (claims last))
       → RanSwept P base (proving id running xs claims) (clauses_in (claims (last_sum running base.next (blocks (levels_in xs))))) (length (blocks (levels_in xs)) + length (claims (last_sum running base.next (blocks (levels_in xs)))))

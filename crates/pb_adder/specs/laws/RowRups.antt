@@ -16,9 +16,9 @@ use Rattle.pb_adder.specs.Gates.{wire_lit}
 use Rattle.pb_adder.specs.Comparator.{comparator_rows, row_clause, comparator}
 use Rattle.pb_adder.specs.laws.ComparatorLaws.{bound_rows}
 use Rattle.pb_adder.specs.laws.NetworkLaws.{number}
-use Rattle.pb_adder.specs.laws.RunningSums.{IsRunning}
+use Rattle.pb_adder.specs.inner.RunningSums.{IsRunning}
 use Rattle.pb_adder.specs.laws.Chains.{on}
-use Rattle.pb_derive.specs.laws.Refuted.{IsRefuting}
+use Rattle.pb_derive.specs.inner.Refuted.{IsRefuting}
 use Rattle.pb_derive.proofs.ShortRups.{short_refuted}
 
 row_none : (first : ℕ) (a : Assignment) (row : List Wire) → ((l : Lit) → Contains (row_clause first row) l → lit_value a l ≡ false) → list_any (λ w. not (on first (lit_value a) w)) row ≡ false

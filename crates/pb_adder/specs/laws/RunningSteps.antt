@@ -20,10 +20,10 @@ use Rattle.pb_norm.proofs.WrittenForm.{normal_terms-positive, normal_terms-ascen
 use Rattle.pb_steps.specs.Operations.{scaled, multiple, shrunk}
 use Rattle.pb_derive.specs.Forms.{AreApartTerms, IsFormOf}
 use Rattle.pb_derive.proofs.SameTerms.{written-form}
-use Rattle.pb_derive.specs.Meanings.{forward_of}
+use Rattle.pb_derive.specs.Reifications.{forward_of}
 use Rattle.pb_derive.specs.Ones.{unit_of, ones}
-use Rattle.pb_adder.specs.GateMeanings.{carry_meaning, sum_meaning}
-use Rattle.pb_adder.specs.laws.RunningSums.{outputs, balance, line_of, Sum, part, IsBalanced, IsRunning, StaysUpTo}
+use Rattle.pb_adder.specs.GateReifications.{carry_reification, sum_reification}
+use Rattle.pb_adder.specs.inner.RunningSums.{outputs, balance, line_of, Sum, part, IsBalanced, IsRunning, StaysUpTo}
 use Rattle.pb_derive.proofs.Closed.{joined-positive}
 use Rattle.pb_derive.proofs.SameValues.{same_values}
 
@@ -101,7 +101,7 @@ balance-value a inputs s d =
     )
 
 -- twice the carry's first constraint and the sum's are three times the balance
-thrice : (a : Assignment) (inputs : List Lit) (s d : ℕ) → 2 * value a (forward_of (carry_meaning inputs d)).terms + value a (forward_of (sum_meaning inputs s d)).terms ≡ 3 * value a (balance inputs s d)
+thrice : (a : Assignment) (inputs : List Lit) (s d : ℕ) → 2 * value a (forward_of (carry_reification inputs d)).terms + value a (forward_of (sum_reification inputs s d)).terms ≡ 3 * value a (balance inputs s d)
 thrice a inputs s d =
     let carry : Weighted = record { coef = 2; lit = negated (positive_of d) } in
     let sum : Weighted = unit_of (negated (positive_of s)) in
@@ -122,7 +122,7 @@ thrice a inputs s d =
     by_value true = refl
     by_value false = refl
 
-pub line_is : (inputs : List Lit) (s d : ℕ) (c e : Constraint) → AreApartTerms (balance inputs s d) → IsFormOf (forward_of (carry_meaning inputs d)) c → IsFormOf (forward_of (sum_meaning inputs s d)) e
+pub line_is : (inputs : List Lit) (s d : ℕ) (c e : Constraint) → AreApartTerms (balance inputs s d) → IsFormOf (forward_of (carry_reification inputs d)) c → IsFormOf (forward_of (sum_reification inputs s d)) e
     → line_of c e ≡ record { terms = normal_terms (terms_of (balance inputs s d)); degree = 3 }
 line_is inputs s d c e apart hc he =
     let rs = normal_terms (terms_of (balance inputs s d)) in
@@ -142,7 +142,7 @@ line_is inputs s d c e apart hc he =
     let divided_terms : map (shrunk 3) (joined twice e.terms) ≡ rs = ap (map (shrunk 3)) terms ∙ shrunk-back rs in
     λ i. record { terms = divided_terms i; degree = degree i }
 
-pub line_exact : (inputs : List Lit) (s d : ℕ) (c e : Constraint) → AreApartTerms (balance inputs s d) → IsFormOf (forward_of (carry_meaning inputs d)) c → IsFormOf (forward_of (sum_meaning inputs s d)) e
+pub line_exact : (inputs : List Lit) (s d : ℕ) (c e : Constraint) → AreApartTerms (balance inputs s d) → IsFormOf (forward_of (carry_reification inputs d)) c → IsFormOf (forward_of (sum_reification inputs s d)) e
     → IsBalanced (part (ones inputs)) (part (outputs s d)) (line_of c e)
 line_exact inputs s d c e apart hc he =
     let ts = balance inputs s d in

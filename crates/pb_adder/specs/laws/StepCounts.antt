@@ -5,15 +5,15 @@ use Rattle.std.proofs.lemmas.List.{length-map, length-drop}
 use Rattle.pb_norm.specs.Constraints.{Weighted}
 use Rattle.pb_derive.specs.Claims.{Claim, claim_steps}
 use Rattle.pb_derive.specs.Deletions.{deletion_steps}
-use Rattle.pb_derive.specs.Meanings.{Meaning, meaning_steps}
-use Rattle.pb_derive.proofs.Phases.{length-meanings, length-claims, length-deletions}
+use Rattle.pb_derive.specs.Reifications.{Reification, reification_steps}
+use Rattle.pb_derive.proofs.Phases.{length-reifications, length-claims, length-deletions}
 use Rattle.pb_adder.specs.AdderSteps.{blocks_within, blocks, later_sums, sum_steps, last_sum, last_deletion, levels_of, adder_claims, proving_steps, adder_steps}
 use Rattle.pb_adder.specs.Comparator.{comparator}
 use Rattle.pb_adder.specs.Counts.{adder_fresh, adder_size}
-use Rattle.pb_adder.specs.GateMeanings.{gate_meanings}
+use Rattle.pb_adder.specs.GateReifications.{gate_reifications}
 use Rattle.pb_adder.specs.LeveledGates.{Leveled, leveled_gates}
 use Rattle.pb_adder.specs.Network.{network_gates, network_ends}
-use Rattle.pb_adder.specs.laws.AdderDerives.{meanings-length, claims_clauses}
+use Rattle.pb_adder.specs.laws.AdderDerives.{reifications-length, claims_clauses}
 use Rattle.pb_adder.specs.laws.AdderLaws.{adder_counts}
 use Rattle.pb_adder.specs.laws.CountLaws.{network_fresh}
 use Rattle.pb_adder.specs.laws.Leveling.{leveled_length}
@@ -84,16 +84,16 @@ proving_count ts bound first id base next =
 pub adder_steps_count : (ts : List Weighted) (bound first id next : ℕ) → length (adder_steps ts bound first id next) ≤ 8 * length (network_gates ts) + 2 * adder_size ts bound
 adder_steps_count ts bound first id next =
     let count = length (network_gates ts) in
-    let ms : List Meaning = flat_map (gate_meanings first) (network_gates ts) in
-    let meanings = meaning_steps next ms in
+    let ms : List Reification = flat_map (gate_reifications first) (network_gates ts) in
+    let reifications = reification_steps next ms in
     let body = proving_steps ts bound first id next (next + 4 * count) in
     let gone = deletion_steps 2 next (2 * count) in
     omega (
       arith,
-      length-append meanings (body ++ gone),
+      length-append reifications (body ++ gone),
       length-append body gone,
-      length-meanings next ms,
-      meanings-length first (network_gates ts),
+      length-reifications next ms,
+      reifications-length first (network_gates ts),
       proving_count ts bound first id next (next + 4 * count),
       length-deletions 2 next (2 * count),
     )

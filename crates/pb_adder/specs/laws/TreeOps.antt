@@ -20,9 +20,9 @@ use Rattle.pb_steps.specs.Database.{Database}
 use Rattle.pb_steps.specs.Operations.{scaled, multiple}
 use Rattle.pb_steps.specs.Stacks.{after_ops, height_from}
 use Rattle.pb_derive.specs.Forms.{AreApartTerms, IsFormOf}
-use Rattle.pb_derive.specs.Meanings.{Meaning, forward_of}
+use Rattle.pb_derive.specs.Reifications.{Reification, forward_of}
 use Rattle.pb_derive.specs.Ones.{ones}
-use Rattle.pb_derive.specs.laws.Meant.{AreMeant}
+use Rattle.pb_derive.specs.inner.Meant.{AreMeant}
 use Rattle.pb_derive.proofs.Rups.{ones-weight}
 use Rattle.pb_derive.proofs.SameTerms.{written-all}
 use Rattle.pb_derive.proofs.Stacked.{after_step}
@@ -30,13 +30,13 @@ use Rattle.pb_adder.specs.declared.gate.Gate.{Gate}
 use Rattle.pb_adder.specs.declared.gate.Gate.TheVariants.{Full, Half}
 use Rattle.pb_adder.specs.AdderSteps.{line_ops, tree_ops}
 use Rattle.pb_adder.specs.Gates.{made_of}
-use Rattle.pb_adder.specs.GateMeanings.{carry_meaning, sum_meaning, input_lits, gate_meanings, sum_var, carry_var}
+use Rattle.pb_adder.specs.GateReifications.{carry_reification, sum_reification, input_lits, gate_reifications, sum_var, carry_var}
 use Rattle.pb_adder.specs.LeveledGates.{Leveled}
 use Rattle.pb_adder.specs.laws.Chains.{part-outputs}
 use Rattle.pb_adder.specs.laws.GateLaws.{one}
 use Rattle.pb_adder.specs.laws.LineOps.{IsReady, add_ready, line_after, line_height, line_ready, power_positive}
 use Rattle.pb_adder.specs.laws.RunningSteps.{balanced_as, balanced_both, balanced_small, balanced_times, line_exact, line_is}
-use Rattle.pb_adder.specs.laws.RunningSums.{outputs, balance, line_of, part, IsBalanced, IsApart, taken_by, given_by, taken, given}
+use Rattle.pb_adder.specs.inner.RunningSums.{outputs, balance, line_of, part, IsBalanced, IsApart, taken_by, given_by, taken, given}
 
 -- ---- what is known of an adder
 
@@ -48,11 +48,11 @@ few_inputs : (first : ℕ) (g : Gate) → length (input_lits first g) ≤ 3
 few_inputs first (Full a b c made) = omega arith
 few_inputs first (Half a b made) = omega arith
 
-small_carry : (first : ℕ) (g : Gate) (d : ℕ) → weight (forward_of (carry_meaning (input_lits first g) d)).terms ≤ 5
+small_carry : (first : ℕ) (g : Gate) (d : ℕ) → weight (forward_of (carry_reification (input_lits first g) d)).terms ≤ 5
 small_carry first (Full a b c made) d = omega arith
 small_carry first (Half a b made) d = omega arith
 
-small_sum : (first : ℕ) (g : Gate) (s d : ℕ) → weight (forward_of (sum_meaning (input_lits first g) s d)).terms ≤ 8
+small_sum : (first : ℕ) (g : Gate) (s d : ℕ) → weight (forward_of (sum_reification (input_lits first g) s d)).terms ≤ 8
 small_sum first (Full a b c made) s d = omega arith
 small_sum first (Half a b made) s d = omega arith
 
@@ -114,8 +114,8 @@ given_small P first xs p laid = each_small P first (λ (x : Leveled). given_by f
 
 -- ---- trees
 
-abbrev pub meanings_of : ℕ → List Leveled → List Meaning
-meanings_of first xs = flat_map {X = Leveled} (λ x. gate_meanings first x.gate) xs
+abbrev pub reifications_of : ℕ → List Leveled → List Reification
+reifications_of first xs = flat_map {X = Leveled} (λ x. gate_reifications first x.gate) xs
 
 abbrev pub levels_in : List Leveled → List ℕ
 levels_in xs = map (λ (x : Leveled). x.level) xs
@@ -130,18 +130,18 @@ pub record Leaves (P : ℕ → Type 0) (db : Database) (first n : ℕ) (xs : Lis
   pub named : All (λ t. P t.lit.var) sum.terms
 
 -- the ids of adders, behind others
-pub meant_behind : (db : Database) (first id : ℕ) (xs ys : List Leveled) → AreMeant db id (meanings_of first (xs ++ ys)) → AreMeant db id (meanings_of first xs) × AreMeant db (id + 4 * length xs) (meanings_of first ys)
-meant_behind db first id [] ys h = (tt, subst (λ (i : ℕ). AreMeant db i (meanings_of first ys)) (let e : id ≡ id + 4 * 0 = omega arith in e) h)
+pub meant_behind : (db : Database) (first id : ℕ) (xs ys : List Leveled) → AreMeant db id (reifications_of first (xs ++ ys)) → AreMeant db id (reifications_of first xs) × AreMeant db (id + 4 * length xs) (reifications_of first ys)
+meant_behind db first id [] ys h = (tt, subst (λ (i : ℕ). AreMeant db i (reifications_of first ys)) (let e : id ≡ id + 4 * 0 = omega arith in e) h)
 meant_behind db first id (x ∷ xs) ys h =
     let rest = meant_behind db first (id + 2 + 2) xs ys h.1.1 in
-    ((h.0, (h.1.0, rest.0)), subst (λ (i : ℕ). AreMeant db i (meanings_of first ys)) (let e : id + 2 + 2 + 4 * length xs ≡ id + 4 * length (x ∷ xs) = omega arith in e) rest.1)
+    ((h.0, (h.1.0, rest.0)), subst (λ (i : ℕ). AreMeant db i (reifications_of first ys)) (let e : id + 2 + 2 + 4 * length xs ≡ id + 4 * length (x ∷ xs) = omega arith in e) rest.1)
 
 -- the first adders of a list, and the rest
 pub laid_parts : (P : ℕ → Type 0) (first k : ℕ) (xs : List Leveled) → All (IsLaid P first) xs → All (IsLaid P first) (take k xs) × All (IsLaid P first) (drop k xs)
 laid_parts P first k xs laid = All-append_both (IsLaid P first) (take k xs) (drop k xs) (subst (All (IsLaid P first)) (sym (take-append-drop k xs)) laid)
 
 module _ (P : ℕ → Type 0) (db : Database) (first : ℕ) (a : Assignment) (fresh : MakesFresh first a) where
-  line_leaves : (id : ℕ) (x : Leveled) → AreMeant db id (meanings_of first (x ∷ [])) → IsLaid P first x → Leaves P db first 0 (x ∷ []) (line_ops x.level id)
+  line_leaves : (id : ℕ) (x : Leveled) → AreMeant db id (reifications_of first (x ∷ [])) → IsLaid P first x → Leaves P db first 0 (x ∷ []) (line_ops x.level id)
   line_leaves id x meant laid =
       let g : Gate = x.gate in
       let inputs = input_lits first g in
@@ -151,9 +151,9 @@ module _ (P : ℕ → Type 0) (db : Database) (first : ℕ) (a : Assignment) (fr
       let carry = meant.0.first in
       let both = meant.1.0.first in
       let c : Constraint = carry.0 in
-      let form_c : IsFormOf (forward_of (carry_meaning inputs d)) c = carry.2 in
+      let form_c : IsFormOf (forward_of (carry_reification inputs d)) c = carry.2 in
       let e : Constraint = both.0 in
-      let form_e : IsFormOf (forward_of (sum_meaning inputs s d)) e = both.2 in
+      let form_e : IsFormOf (forward_of (sum_reification inputs s d)) e = both.2 in
       let line : Constraint = line_of c e in
       let apart_all = gate_apart first g laid.apart in
       let exact = line_exact inputs s d c e apart_all form_c form_e in
@@ -213,7 +213,7 @@ module _ (P : ℕ → Type 0) (db : Database) (first : ℕ) (a : Assignment) (fr
   less_high : (n : ℕ) (xs : List Leveled) (ops : List PolOp) → Leaves P db first n xs ops → Leaves P db first (suc n) xs ops
   less_high n xs ops h = record { sum = h.sum; after = h.after; height = λ k rest low. h.height k rest (omega (arith, low)); ready = h.ready; balanced = h.balanced; named = h.named }
 
-  pub tree_leaves : (n id : ℕ) (xs : List Leveled) → 1 ≤ length xs → length xs ≤ 2 ^ n → length xs ≤ 2 ^ 16 → AreMeant db id (meanings_of first xs) → All (IsLaid P first) xs
+  pub tree_leaves : (n id : ℕ) (xs : List Leveled) → 1 ≤ length xs → length xs ≤ 2 ^ n → length xs ≤ 2 ^ 16 → AreMeant db id (reifications_of first xs) → All (IsLaid P first) xs
       → Leaves P db first n xs (tree_ops n id (levels_in xs))
   unfolding tree_ops
   tree_leaves zero id [] some few short meant laid = absurd (omega (arith, some))
@@ -234,10 +234,10 @@ module _ (P : ℕ → Type 0) (db : Database) (first : ℕ) (a : Assignment) (fr
       let more : k < length xs = omega (arith, leb-false (length ls) k e, size) in
       let one : length front ≡ k = length-take-le k xs (omega (arith, more)) in
       let other : length back ≡ length xs - k = length-drop k xs in
-      let met = meant_behind db first id front back (subst (λ (ys : List Leveled). AreMeant db id (meanings_of first ys)) (sym whole) meant) in
+      let met = meant_behind db first id front back (subst (λ (ys : List Leveled). AreMeant db id (reifications_of first ys)) (sym whole) meant) in
       let left = tree_leaves n id front (omega (arith, one, power_positive n)) (omega (arith, one)) (omega (arith, one, more, short)) met.0 parts.0 in
       let right = tree_leaves n (id + 4 * k) back (omega (arith, other, more)) (omega (arith, other, few, two)) (omega (arith, other, short))
-      (subst (λ (i : ℕ). AreMeant db (id + 4 * i) (meanings_of first back)) one met.1) parts.1 in
+      (subst (λ (i : ℕ). AreMeant db (id + 4 * i) (reifications_of first back)) one met.1) parts.1 in
       subst (λ (ys : List Leveled). Leaves P db first (suc n) ys (tree_ops n id (take k ls) ++ (tree_ops n (id + 4 * k) (drop k ls) ++ Add ∷ []))) whole
       (subst (λ (us : List ℕ). Leaves P db first (suc n) (front ++ back) (tree_ops n id us ++ (tree_ops n (id + 4 * k) (drop k ls) ++ Add ∷ []))) (sym (take-map (λ (x : Leveled). x.level) k xs))
       (subst (λ (us : List ℕ). Leaves P db first (suc n) (front ++ back) (tree_ops n id (levels_in front) ++ (tree_ops n (id + 4 * k) us ++ Add ∷ []))) (sym (drop-map (λ (x : Leveled). x.level) k xs))

@@ -16,8 +16,8 @@ use Rattle.pb_norm.specs.BoundedSums.{vars_of}
 use Rattle.pb_norm.specs.Reduction.{opposite}
 use Rattle.pb_norm.proofs.AdditionSizes.{weight-cons}
 use Rattle.pb_derive.specs.Forms.{AreApartTerms}
-use Rattle.pb_derive.specs.Meanings.{spare, forward_of, reverse_of}
-use Rattle.pb_derive.specs.laws.Follows.{FollowsFrom, coef_in}
+use Rattle.pb_derive.specs.Reifications.{spare, forward_of, reverse_of}
+use Rattle.pb_derive.specs.inner.Follows.{FollowsFrom, coef_in}
 use Rattle.pb_derive.proofs.SomeFollows.{some_follows}
 use Rattle.pb_derive.proofs.Sources.{degrees-two, value_in-two, weight_in-two, coef_in-two, cases_two, only}
 use Rattle.pb_derive.proofs.Opposites.{value-opposite, weight-opposite, coef_of-opposite, is_same-opposite, cases_listed, coef_of-absent, coef_of-head, coef_of-tail, value-head, value_whole}

@@ -10,17 +10,17 @@ use Rattle.pb_norm.specs.BoundedSums.{vars_of}
 use Rattle.pb_norm.specs.Constraints.{Weighted}
 use Rattle.pb_norm.specs.Reduction.{lits_of, all_weigh}
 use Rattle.pb_steps.specs.Sayable.{IsId, IsVariable, IsSayable}
-use Rattle.pb_derive.specs.Meanings.{Meaning}
-use Rattle.pb_derive.specs.Reasons.{Reason, by_reason}
+use Rattle.pb_derive.specs.Reifications.{Reification}
+use Rattle.pb_derive.specs.Justifications.{Justification, by_justification}
 use Rattle.pb_derive.specs.Short.{AreShort}
-use Rattle.pb_derive.proofs.Sayable.{IsSlimMeaning, phases_sayable}
-use Rattle.pb_derive.proofs.ShortReasons.{IsSlimReason, reasons_sayable, reasons_short, gone_few}
+use Rattle.pb_derive.proofs.Sayable.{IsSlimReification, phases_sayable}
+use Rattle.pb_derive.proofs.ShortJustifications.{IsSlimJustification, justifications_sayable, justifications_short, gone_few}
 use Rattle.pb_derive.proofs.UnitTerms.{weight-ones}
 use Rattle.pb_family.specs.Derivations.{AreOriginal, MayStart}
 use Rattle.pb_family.specs.Fresh.{positive_of, literal_at}
 use Rattle.pb_family.proofs.Ranges.{range_each}
 use Rattle.pb_family.proofs.UnitSums.{unit_coefficient}
-use Rattle.pb_amo.specs.LadderSteps.{rung, rungs, link_reason, none_reason, some_reason, ladder_reasons, ladder_steps}
+use Rattle.pb_amo.specs.LadderSteps.{rung, rungs, link_justification, none_justification, some_justification, ladder_justifications, ladder_steps}
 
 module _ (ts : List Weighted) (units : all_weigh 1 ts ≡ true) (three : 3 ≤ length ts) (few : length ts < 2 ^ 31) (first id next : ℕ) (original : AreOriginal first ts) (start : MayStart first (length ts - 1) id next) where
   abbrev n : ℕ
@@ -40,14 +40,14 @@ module _ (ts : List Weighted) (units : all_weigh 1 ts ≡ true) (three : 3 ≤ l
   vars_named : (us : List Weighted) → All Named us → All IsVariable (vars_of us)
   vars_named us h = All-map IsVariable (λ (t : Weighted). t.lit.var) us h
 
-  -- ---- the meanings
+  -- ---- the reifications
 
   size : length (rungs ts first) ≡ n - 1
   size = length-map-range_with_len (rung ts first) 0 (n - 1)
 
-  rungs_slim : All IsSlimMeaning (rungs ts first)
+  rungs_slim : All IsSlimReification (rungs ts first)
   rungs_slim =
-      range_each IsSlimMeaning (rung ts first) 0 (n - 1) (λ k from to.
+      range_each IsSlimReification (rung ts first) 0 (n - 1) (λ k from to.
       let after : List Weighted = drop (k + 1) ts in
       let ones_after = All-drop (λ (t : Weighted). t.coef ≡ 1) (k + 1) ts ones in
       let named_after = All-drop Named (k + 1) ts named in
@@ -60,11 +60,11 @@ module _ (ts : List Weighted) (units : all_weigh 1 ts ≡ true) (three : 3 ≤ l
       })
 
   rungs_narrow : All (λ m. length m.sum ≤ n) (rungs ts first)
-  rungs_narrow = range_each (λ (m : Meaning). length m.sum ≤ n) (rung ts first) 0 (n - 1) (λ k from to. omega (arith, length-drop (k + 1) ts))
+  rungs_narrow = range_each (λ (m : Reification). length m.sum ≤ n) (rung ts first) 0 (n - 1) (λ k from to. omega (arith, length-drop (k + 1) ts))
 
   -- ---- the clauses
 
-  link_slim : (k : ℕ) → k < n - 2 → IsSlimReason n (link_reason ts first next k)
+  link_slim : (k : ℕ) → k < n - 2 → IsSlimJustification n (link_justification ts first next k)
   link_slim k within =
       let d : Weighted = record { coef = 1; lit = positive_of 0 } in
       let l : Lit = literal_at (lits_of ts) (k + 1) in
@@ -80,7 +80,7 @@ module _ (ts : List Weighted) (units : all_weigh 1 ts ≡ true) (three : 3 ≤ l
         few = omega (arith, three);
       }
 
-  none_slim : (k : ℕ) → k < n - 1 → IsSlimReason n (none_reason ts first id next k)
+  none_slim : (k : ℕ) → k < n - 1 → IsSlimJustification n (none_justification ts first id next k)
   none_slim k within =
       let given = start.given in
       let known = start.known in
@@ -94,7 +94,7 @@ module _ (ts : List Weighted) (units : all_weigh 1 ts ≡ true) (three : 3 ≤ l
         few = omega (arith, length-map (take k ts) (λ (t : Weighted). t.lit.var), length-take k ts);
       }
 
-  some_slim : (k : ℕ) → k < n - 1 → IsSlimReason n (some_reason ts first next k)
+  some_slim : (k : ℕ) → k < n - 1 → IsSlimJustification n (some_justification ts first next k)
   some_slim k within =
       let known = start.known in
       let most = start.few in
@@ -106,40 +106,40 @@ module _ (ts : List Weighted) (units : all_weigh 1 ts ≡ true) (three : 3 ≤ l
         few = omega (arith, length-map (drop (k + 1 + 1) ts) (λ (t : Weighted). t.lit.var), length-drop (k + 1 + 1) ts);
       }
 
-  abbrev rs : List Reason
-  rs = ladder_reasons ts first id next
+  abbrev rs : List Justification
+  rs = ladder_justifications ts first id next
 
-  all_slim : All (IsSlimReason n) rs
+  all_slim : All (IsSlimJustification n) rs
   all_slim =
-      All-append (IsSlimReason n) (map (link_reason ts first next) (range_with_len 0 (n - 2))) (map (none_reason ts first id next) (range_with_len 0 (n - 1)) ++ map (some_reason ts first next) (range_with_len 0 (n - 1)))
-      (range_each (IsSlimReason n) (link_reason ts first next) 0 (n - 2) (λ k from to. link_slim k (omega (arith, to))))
-      (All-append (IsSlimReason n) (map (none_reason ts first id next) (range_with_len 0 (n - 1))) (map (some_reason ts first next) (range_with_len 0 (n - 1)))
-      (range_each (IsSlimReason n) (none_reason ts first id next) 0 (n - 1) (λ k from to. none_slim k (omega (arith, to))))
-      (range_each (IsSlimReason n) (some_reason ts first next) 0 (n - 1) (λ k from to. some_slim k (omega (arith, to)))))
+      All-append (IsSlimJustification n) (map (link_justification ts first next) (range_with_len 0 (n - 2))) (map (none_justification ts first id next) (range_with_len 0 (n - 1)) ++ map (some_justification ts first next) (range_with_len 0 (n - 1)))
+      (range_each (IsSlimJustification n) (link_justification ts first next) 0 (n - 2) (λ k from to. link_slim k (omega (arith, to))))
+      (All-append (IsSlimJustification n) (map (none_justification ts first id next) (range_with_len 0 (n - 1))) (map (some_justification ts first next) (range_with_len 0 (n - 1)))
+      (range_each (IsSlimJustification n) (none_justification ts first id next) 0 (n - 1) (λ k from to. none_slim k (omega (arith, to))))
+      (range_each (IsSlimJustification n) (some_justification ts first next) 0 (n - 1) (λ k from to. some_slim k (omega (arith, to)))))
 
   count : length rs ≡ 3 * n - 4
   count =
-      let nones = map (none_reason ts first id next) (range_with_len 0 (n - 1)) in
-      let somes = map (some_reason ts first next) (range_with_len 0 (n - 1)) in
+      let nones = map (none_justification ts first id next) (range_with_len 0 (n - 1)) in
+      let somes = map (some_justification ts first next) (range_with_len 0 (n - 1)) in
       omega (
         arith,
         three,
-        length-append (map (link_reason ts first next) (range_with_len 0 (n - 2))) (nones ++ somes),
+        length-append (map (link_justification ts first next) (range_with_len 0 (n - 2))) (nones ++ somes),
         length-append nones somes,
-        length-map-range_with_len (link_reason ts first next) 0 (n - 2),
-        length-map-range_with_len (none_reason ts first id next) 0 (n - 1),
-        length-map-range_with_len (some_reason ts first next) 0 (n - 1),
+        length-map-range_with_len (link_justification ts first next) 0 (n - 2),
+        length-map-range_with_len (none_justification ts first id next) 0 (n - 1),
+        length-map-range_with_len (some_justification ts first next) 0 (n - 1),
       )
 
-  claims : length (map by_reason rs) ≡ 3 * n - 4
-  claims = length-map rs by_reason ∙ count
+  claims : length (map by_justification rs) ≡ 3 * n - 4
+  claims = length-map rs by_justification ∙ count
 
   pub ladder_sayable : All IsSayable (ladder_steps ts first id next)
-  ladder_sayable = phases_sayable next (rungs ts first) (map by_reason rs) (omega (arith, start.known)) (omega (arith, start.few, size, claims, few)) rungs_slim (reasons_sayable n rs all_slim)
+  ladder_sayable = phases_sayable next (rungs ts first) (map by_justification rs) (omega (arith, start.known)) (omega (arith, start.few, size, claims, few)) rungs_slim (justifications_sayable n rs all_slim)
 
   pub ladder_short : length ts ≤ 2 ^ 21 → AreShort n (n - 1) (3 * n - 4) (ladder_steps ts first id next)
   ladder_short short =
       let same : 28 * (n * n) ≡ 28 * ((length (rungs ts first) + 1) * n) = ap (λ (p : ℕ). 28 * (p * n)) (let e : n ≡ length (rungs ts first) + 1 = omega (arith, size, three) in e) in
       subst (λ (p : ℕ). AreShort n p (3 * n - 4) (ladder_steps ts first id next)) size
       (subst (λ (k : ℕ). AreShort n (length (rungs ts first)) k (ladder_steps ts first id next)) claims
-      (reasons_short n next (rungs ts first) rs ladder_sayable short rungs_narrow all_slim (omega (arith, gone_few n n rs all_slim (omega (arith, count)), same))))
+      (justifications_short n next (rungs ts first) rs ladder_sayable short rungs_narrow all_slim (omega (arith, gone_few n n rs all_slim (omega (arith, count)), same))))

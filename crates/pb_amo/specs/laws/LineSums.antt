@@ -17,10 +17,10 @@ use Rattle.pb_norm.specs.Constraints.{Weighted, Constraint, value, term_value}
 use Rattle.pb_norm.specs.Addition.{coef_of}
 use Rattle.pb_norm.specs.Reduction.{opposite}
 use Rattle.pb_derive.specs.Derivations.{as_constraint}
-use Rattle.pb_derive.specs.laws.Exact.{IsSum}
-use Rattle.pb_derive.specs.Meanings.{forward_of}
+use Rattle.pb_derive.specs.inner.Exact.{IsSum}
+use Rattle.pb_derive.specs.Reifications.{forward_of}
 use Rattle.pb_derive.specs.Ones.{unit_of, ones}
-use Rattle.pb_derive.specs.laws.Follows.{degrees}
+use Rattle.pb_derive.specs.inner.Follows.{degrees}
 use Rattle.pb_derive.proofs.ClauseClaims.{ones-apart}
 use Rattle.pb_derive.proofs.Closing.{degrees-cons, weight_in-cons, value_in-cons, coef_in-cons, against, against-false}
 use Rattle.pb_derive.proofs.Opposites.{value-opposite, weight-opposite, coef_of-opposite}
@@ -33,8 +33,8 @@ use Rattle.pb_amo.specs.laws.LineLaws.{length-line}
 use Rattle.pb_amo.specs.Passing.{passing, in_line}
 use Rattle.pb_amo.specs.laws.PassingSums.{passing-cons, passing-le, lines-all}
 use Rattle.pb_amo.specs.Product.{line}
-use Rattle.pb_amo.specs.AtMostOne.{at_most_one}
-use Rattle.pb_amo.specs.ProductSteps.{line_meaning}
+use Rattle.pb_amo.specs.inner.AtMostOne.{at_most_one}
+use Rattle.pb_amo.specs.ProductSteps.{line_reification}
 
 -- the variables of a line are different
 pub line-other : (first n : ℕ) → AreApartLits (line first n)
@@ -50,7 +50,7 @@ line_bit false = omega arith
 
 module _ (side : ℕ → ℕ) (ms : List Lit) (first w : ℕ) where
   abbrev firsts : List Constraint
-  firsts = map (λ k. forward_of (line_meaning side ms first k)) (range_with_len 0 w)
+  firsts = map (λ k. forward_of (line_reification side ms first k)) (range_with_len 0 w)
 
   -- the lines' variables, and each literal once
   firsts_sum : (c : Weighted → ℕ) → ((e : ℕ) → e < length ms → side e < w) →
@@ -59,17 +59,17 @@ module _ (side : ℕ → ℕ) (ms : List Lit) (first w : ℕ) where
       let range : List ℕ = range_with_len 0 w in
       let fresh : ℕ → ℕ = λ k. c (opposite (unit_of (fresh_at first k))) in
       let rest : ℕ → ℕ = λ k. sum_by c (ones (passing (in_line side k) 0 ms)) in
-      let mapped : sum_by (λ s. sum_by c s.terms) firsts ≡ sum_by (λ k. sum_by c (forward_of (line_meaning side ms first k)).terms) range = sum_by-map (λ (s : Constraint). sum_by c s.terms) (λ (k : ℕ). forward_of (line_meaning side ms first k)) range in
-      let both = sum_by_two (λ k. sum_by c (forward_of (line_meaning side ms first k)).terms) fresh rest range (λ k. sum_by-cons c (opposite (unit_of (fresh_at first k))) (ones (passing (in_line side k) 0 ms))) in
+      let mapped : sum_by (λ s. sum_by c s.terms) firsts ≡ sum_by (λ k. sum_by c (forward_of (line_reification side ms first k)).terms) range = sum_by-map (λ (s : Constraint). sum_by c s.terms) (λ (k : ℕ). forward_of (line_reification side ms first k)) range in
+      let both = sum_by_two (λ k. sum_by c (forward_of (line_reification side ms first k)).terms) fresh rest range (λ k. sum_by-cons c (opposite (unit_of (fresh_at first k))) (ones (passing (in_line side k) 0 ms))) in
       let lits : sum_by rest range ≡ sum_by (λ k. sum_by (λ l. c (unit_of l)) (passing (in_line side k) 0 ms)) range = (λ i. sum_by (λ k. ones-sum c (passing (in_line side k) 0 ms) i) range) in
       let all = lines-all (λ (l : Lit). c (unit_of l)) side w 0 ms (λ j h. within j (omega arith)) in
       let heads : sum_by c (map opposite (ones (line first w))) ≡ sum_by fresh range =
       sum_by-map c opposite (ones (line first w)) ∙ sum_by-map (λ (t : Weighted). c (opposite t)) unit_of (line first w) ∙ sum_by-map (λ (l : Lit). c (opposite (unit_of l))) (fresh_at first) range in
       omega (arith, mapped, both, lits, all, ones-sum c ms, heads)
 
-  firsts_degrees : (a n : ℕ) → degrees (map (λ k. forward_of (line_meaning side ms first k)) (range_with_len a n)) ≡ n
+  firsts_degrees : (a n : ℕ) → degrees (map (λ k. forward_of (line_reification side ms first k)) (range_with_len a n)) ≡ n
   firsts_degrees a zero = refl
-  firsts_degrees a (suc n) = omega (arith, degrees-cons (forward_of (line_meaning side ms first a)) (map (λ k. forward_of (line_meaning side ms first k)) (range_with_len (a + 1) n)), firsts_degrees (a + 1) n)
+  firsts_degrees a (suc n) = omega (arith, degrees-cons (forward_of (line_reification side ms first a)) (map (λ k. forward_of (line_reification side ms first k)) (range_with_len (a + 1) n)), firsts_degrees (a + 1) n)
 
 -- with one literal and its line true, no constraint has more than its degree
 module _ (side : ℕ → ℕ) (m : Lit) (rest : List Lit) (first w : ℕ) (other : AreApartLits (m ∷ rest)) (below : All (λ l. l.var < first) (m ∷ rest)) where
@@ -111,12 +111,12 @@ module _ (side : ℕ → ℕ) (m : Lit) (rest : List Lit) (first w : ℕ) (other
       let here : cond (eqb (side 0) k) (tv m) 0 ≡ cond (eqb (side 0) k) 1 0 = ap (λ (n : ℕ). cond (eqb (side 0) k) n 0) own_true in
       omega (arith, all, parts, none, zero_rest, rest_false, here)
 
-  tight_first : (k : ℕ) → value under (forward_of (line_meaning side (m ∷ rest) first k)).terms ≤ 1
+  tight_first : (k : ℕ) → value under (forward_of (line_reification side (m ∷ rest) first k)).terms ≤ 1
   tight_first k =
       let t : Weighted = opposite (unit_of (fresh_at first k)) in
       let sum = sum_by-cons (term_value under) t (ones (passing (in_line side k) 0 (m ∷ rest))) in
       let most = line_value k in
-      elim (cases_Bool (eqb (side 0) k)) as (λ _. value under (forward_of (line_meaning side (m ∷ rest) first k)).terms ≤ 1) [
+      elim (cases_Bool (eqb (side 0) k)) as (λ _. value under (forward_of (line_reification side (m ∷ rest) first k)).terms ≤ 1) [
         | inl same ↦
             let here : term_value under t ≡ 0 = ap (λ (b : Bool). cond b 1 0) (subst (λ (j : ℕ). lit_value under (negated (fresh_at first j)) ≡ false) (eqb-true (side 0) k same) line_false) in
             omega (arith, sum, most, line_bit (eqb (side 0) k), here)
@@ -126,11 +126,11 @@ module _ (side : ℕ → ℕ) (m : Lit) (rest : List Lit) (first w : ℕ) (other
       ]
 
   pub lines-sum : ((e : ℕ) → e < length (m ∷ rest) → side e < w) → length (m ∷ rest) < 2 ^ 31 → w < 2 ^ 31 →
-      IsSum (as_constraint (at_most_one (m ∷ rest)) ∷ map (λ k. forward_of (line_meaning side (m ∷ rest) first k)) (range_with_len 0 w)) (as_constraint (at_most_one (line first w)))
+      IsSum (as_constraint (at_most_one (m ∷ rest)) ∷ map (λ k. forward_of (line_reification side (m ∷ rest) first k)) (range_with_len 0 w)) (as_constraint (at_most_one (line first w)))
   lines-sum within few narrow =
       let ms : List Lit = m ∷ rest in
       let own : Constraint = as_constraint (at_most_one ms) in
-      let lines : List Constraint = map (λ k. forward_of (line_meaning side ms first k)) (range_with_len 0 w) in
+      let lines : List Constraint = map (λ k. forward_of (line_reification side ms first k)) (range_with_len 0 w) in
       let size = length-line first w in
       let some : 0 < w = (let h = within 0 (omega arith) in omega arith) in
       let sums = λ (c : Weighted → ℕ). firsts_sum side ms first w c within in
@@ -145,7 +145,7 @@ module _ (side : ℕ → ℕ) (m : Lit) (rest : List Lit) (first w : ℕ) (other
         under = under;
         tight = All-cons (λ (s : Constraint). value under s.terms ≤ s.degree) own lines
             (omega (arith, value-opposite under (ones ms), sum_by-cons (term_value under) (unit_of m) (ones rest), own_true, rest_false))
-            (range_each (λ (s : Constraint). value under s.terms ≤ s.degree) (λ k. forward_of (line_meaning side ms first k)) 0 w (λ k low high. tight_first k));
+            (range_each (λ (s : Constraint). value under s.terms ≤ s.degree) (λ k. forward_of (line_reification side ms first k)) 0 w (λ k low high. tight_first k));
         degree = omega (arith, degrees-cons own lines, firsts_degrees side ms first w 0 w, value_in-cons under own lines, sums (term_value under), value-opposite under (ones ms), units, line_units, size, some);
         weight_fits = omega (arith, weight_in-cons own lines, sums (λ t. t.coef), weight-opposite (ones ms), weight-opposite (ones (line first w)), units, line_units, size, few, narrow);
         degree_fits = omega (arith, degrees-cons own lines, firsts_degrees side ms first w 0 w, units, few, narrow);

@@ -18,7 +18,7 @@ use Rattle.pb_derive.proofs.PinLemmas.{AreApartLits}
 use Rattle.pb_derive.proofs.UnitTerms.{ones-lits}
 use Rattle.pb_family.specs.Families.{VarsBelow}
 use Rattle.pb_family.proofs.UnitSums.{unit_coefficient}
-use Rattle.pb_amo.specs.AtMostOne.{at_most_one}
+use Rattle.pb_amo.specs.inner.AtMostOne.{at_most_one}
 use Rattle.pb_amo.specs.Pairwise.{pairwise_clauses, pair_count}
 use Rattle.pb_amo.specs.PairwiseSteps.{pairwise_claims, pairwise_steps}
 use Rattle.pb_amo.specs.laws.PairwiseDerives.{pairwise_swept}

@@ -16,14 +16,14 @@ use Rattle.pb_derive.specs.Derivations.{as_constraint}
 use Rattle.pb_derive.specs.Later.{IsNumbered, Knows}
 use Rattle.pb_derive.specs.Ones.{unit_of, ones}
 use Rattle.pb_derive.specs.Rups.{by_rup}
-use Rattle.pb_derive.specs.laws.Follows.{AllFalse}
-use Rattle.pb_derive.specs.laws.Ran.{IsClaim, RanSwept}
+use Rattle.pb_derive.specs.inner.Follows.{AllFalse}
+use Rattle.pb_derive.specs.inner.Ran.{IsClaim, RanSwept}
 use Rattle.pb_derive.proofs.Opposites.{value-opposite, two_places-le, value_whole}
 use Rattle.pb_derive.proofs.PinLemmas.{AreApartLits}
 use Rattle.pb_derive.proofs.Running.{claims_ran}
 use Rattle.pb_derive.proofs.ShortRups.{short_claims}
 use Rattle.pb_derive.proofs.UnitTerms.{ones-sum}
-use Rattle.pb_amo.specs.AtMostOne.{at_most_one}
+use Rattle.pb_amo.specs.inner.AtMostOne.{at_most_one}
 use Rattle.pb_amo.specs.Pairwise.{pairwise_clauses}
 use Rattle.pb_amo.specs.PairwiseSteps.{pairwise_claims, pairwise_steps}
 

@@ -13,11 +13,11 @@ use Rattle.pb_steps.specs.declared.step.Step.{Step}
 use Rattle.pb_steps.specs.Sayable.{IsId, IsVariable, IsSayable}
 use Rattle.pb_steps.specs.StepSizes.{step_size}
 use Rattle.pb_derive.specs.Claims.{Claim}
-use Rattle.pb_derive.specs.Meanings.{Meaning}
+use Rattle.pb_derive.specs.Reifications.{Reification}
 use Rattle.pb_derive.specs.Phases.{phases}
 use Rattle.pb_derive.specs.Rups.{by_rup}
 use Rattle.pb_derive.specs.Short.{AreShort}
-use Rattle.pb_derive.proofs.Sayable.{IsSlimMeaning, phases_sayable, rup_sayable, claims_alone}
+use Rattle.pb_derive.proofs.Sayable.{IsSlimReification, phases_sayable, rup_sayable, claims_alone}
 use Rattle.pb_derive.proofs.Short.{phases_short}
 use Rattle.pb_derive.proofs.Sizes.{rup-size}
 use Rattle.pb_family.specs.Derivations.{AreOriginal, MayStart}
@@ -63,7 +63,7 @@ module _ (ts : List Weighted) (first id next : ℕ) (original : AreOriginal firs
       let last = count_last n in
       let product = mul-le-mul_right {m = n} {n = 2 ^ 31} n (omega arith) in
       subst (All IsSayable) (claims_alone next claims)
-      (phases_sayable next [] claims (omega (arith, start.known)) (omega (arith, start.few, count, square, last, product)) (All-nil IsSlimMeaning) each_said)
+      (phases_sayable next [] claims (omega (arith, start.known)) (omega (arith, start.few, count, square, last, product)) (All-nil IsSlimReification) each_said)
 
   pub pairwise_short : length ts ≤ 2 ^ 21 → AreShort (length ts) 0 (pair_count (length ts)) (pairwise_steps (lits_of ts) id next)
   pairwise_short short =
@@ -72,6 +72,6 @@ module _ (ts : List Weighted) (first id next : ℕ) (original : AreOriginal firs
       (by_pairs (λ ls. length ls ≤ 2) (lits_of ts) (λ i j d before within. omega arith))) in
       subst (λ (ss : List Step). AreShort (length ts) 0 (pair_count (length ts)) ss) (claims_alone next claims)
       (subst (λ (k : ℕ). AreShort (length ts) 0 k (phases next [] claims)) count
-      (phases_short (length ts) next [] claims (subst (All IsSayable) (sym (claims_alone next claims)) pairwise_sayable) short (All-nil (λ (m : Meaning). length m.sum ≤ length ts))
+      (phases_short (length ts) next [] claims (subst (All IsSayable) (sym (claims_alone next claims)) pairwise_sayable) short (All-nil (λ (m : Reification). length m.sum ≤ length ts))
       (All-weaker (λ (c : Claim). step_size c.step ≤ 175) (λ (c : Claim). step_size c.step ≤ 2 ^ 28) (λ c h. omega (arith, h)) claims sizes)
       (omega (arith, sum_by-le (λ (c : Claim). step_size c.step) 175 claims sizes))))

@@ -16,16 +16,16 @@ use Rattle.pb_derive.specs.FollowedBy.{followed_by}
 use Rattle.pb_derive.specs.Claims.{Claim}
 use Rattle.pb_steps.specs.Steps.{takes_id}
 use Rattle.pb_derive.specs.Later.{Knows, IsLater}
-use Rattle.pb_derive.specs.Meanings.{Meaning, meaning_steps, forward_of}
+use Rattle.pb_derive.specs.Reifications.{Reification, reification_steps, forward_of}
 use Rattle.pb_derive.specs.Ones.{ones}
-use Rattle.pb_derive.specs.laws.Ran.{RanSwept, IsClaim}
-use Rattle.pb_derive.specs.laws.Meant.{IsMeant}
-use Rattle.pb_derive.specs.Reasons.{Reason, by_reason}
+use Rattle.pb_derive.specs.inner.Ran.{RanSwept, IsClaim}
+use Rattle.pb_derive.specs.inner.Meant.{IsMeant}
+use Rattle.pb_derive.specs.Justifications.{Justification, by_justification}
 use Rattle.pb_derive.proofs.FollowedBy.{followed_swept, swept_counted, later_wider}
-use Rattle.pb_derive.proofs.InRow.{AreInRow, IsFitMeaning, row-append, row_by_places, row_meanings}
+use Rattle.pb_derive.proofs.InRow.{AreInRow, IsFitReification, row-append, row_by_places, row_reifications}
 use Rattle.pb_derive.proofs.Laters.{known_below, later_knows, later_then}
-use Rattle.pb_derive.proofs.Meant.{Meant, meanings_ran, meant_at}
-use Rattle.pb_derive.proofs.Phases.{meanings_add, swept_derives}
+use Rattle.pb_derive.proofs.Meant.{Meant, reifications_ran, meant_at}
+use Rattle.pb_derive.proofs.Phases.{reifications_add, swept_derives}
 use Rattle.pb_derive.proofs.PinLemmas.{AreApartLits}
 use Rattle.pb_derive.proofs.Running.{claims_ran}
 use Rattle.pb_derive.proofs.Scoped.{Scoped, scoped}
@@ -38,8 +38,8 @@ use Rattle.pb_amo.specs.Pairwise.{pairwise_clauses}
 use Rattle.pb_amo.specs.laws.PairwiseDerives.{pairwise_swept}
 use Rattle.pb_amo.specs.Product.{rows, columns, line, cells, cell, fresh_within, clauses_within, product_fresh, product_clauses}
 use Rattle.pb_amo.specs.laws.ProductLines.{line_fit, line_claim, Derivable, side_swept}
-use Rattle.pb_amo.specs.ProductSteps.{line_meaning, line_meanings, line_reason, line_sum, side_steps, row_of, column_of, grid_meanings, cell_reasons, cells_steps, steps_within, product_steps}
-use Rattle.pb_amo.specs.AtMostOne.{at_most_one}
+use Rattle.pb_amo.specs.ProductSteps.{line_reification, line_reifications, line_justification, line_sum, side_steps, row_of, column_of, grid_reifications, cell_justifications, cells_steps, steps_within, product_steps}
+use Rattle.pb_amo.specs.inner.AtMostOne.{at_most_one}
 use Rattle.pb_amo.specs.PairwiseSteps.{pairwise_claims, pairwise_steps}
 use Rattle.pb_amo.specs.laws.GridCounts.{fresh_last, fresh_few, fresh_many}
 use Rattle.pb_amo.specs.laws.GridClauses.{clauses_last, clauses_few, clauses_many}
@@ -69,7 +69,7 @@ columns_steps more ms first id base =
     side_steps (line_sum id (base + 2 * rows (length ms)) (columns (length ms)))
     (steps_within more (line (first + rows (length ms)) (columns (length ms))) (first + rows (length ms) + columns (length ms) + fresh_within more (rows (length ms))))
 
--- between the meanings and their deletion
+-- between the reifications and their deletion
 abbrev pub grid_body : ℕ → List Lit → ℕ → ℕ → ℕ → ℕ → List Step
 grid_body more ms first id base = followed_by (cells_steps ms first (rows (length ms)) (columns (length ms)) base) (followed_by (rows_steps more ms first id base) (columns_steps more ms first id base))
 
@@ -77,16 +77,16 @@ abbrev pub grid_steps : ℕ → List Lit → ℕ → ℕ → ℕ → List Step
 grid_steps more ms first id next =
     let r = rows (length ms) in
     let q = columns (length ms) in
-    meaning_steps next (grid_meanings ms first r q) ++ (grid_body more ms first id next (next + 2 * (r + q)) ++ deletion_steps 2 next (r + q))
+    reification_steps next (grid_reifications ms first r q) ++ (grid_body more ms first id next (next + 2 * (r + q)) ++ deletion_steps 2 next (r + q))
 
 pub steps_many : (more : ℕ) (ms : List Lit) (first id next : ℕ) → 4 < length ms → steps_within (suc more) ms first id next ≡ grid_steps more ms first id next
 unfolding steps_within
 steps_many more ms first id next many = chosen_false (leb (length ms) 4) (pairwise_steps ms id next) _ (lt-leb (length ms) 4 many)
 
 -- the clauses of the cells
-pub cells-clauses : (ms : List Lit) (first r q base a n : ℕ) → map (λ (c : Claim). c.clause) (map by_reason (flat_map (cell_reasons ms first r q base) (range_with_len a n))) ≡ flat_map (cell ms first r q) (range_with_len a n)
+pub cells-clauses : (ms : List Lit) (first r q base a n : ℕ) → map (λ (c : Claim). c.clause) (map by_justification (flat_map (cell_justifications ms first r q base) (range_with_len a n))) ≡ flat_map (cell ms first r q) (range_with_len a n)
 cells-clauses ms first r q base a zero = refl
-cells-clauses ms first r q base a (suc n) = ap (λ (cs : List (List Lit)). (line_reason (row_of q) ms first base a).clause ∷ (line_reason (column_of q) ms (first + r) (base + 2 * r) a).clause ∷ cs) (cells-clauses ms first r q base (a + 1) n)
+cells-clauses ms first r q base a (suc n) = ap (λ (cs : List (List Lit)). (line_justification (row_of q) ms first base a).clause ∷ (line_justification (column_of q) ms (first + r) (base + 2 * r) a).clause ∷ cs) (cells-clauses ms first r q base (a + 1) n)
 
 -- ---- up to four literals
 
@@ -113,23 +113,23 @@ module _ (more : ℕ) (inductive : Derivable more) (ms : List Lit) (other : AreA
   abbrev q : ℕ
   q = columns n
 
-  abbrev by_rows : List Meaning
-  by_rows = line_meanings (row_of q) ms first r
+  abbrev by_rows : List Reification
+  by_rows = line_reifications (row_of q) ms first r
 
-  abbrev by_columns : List Meaning
-  by_columns = line_meanings (column_of q) ms (first + r) q
+  abbrev by_columns : List Reification
+  by_columns = line_reifications (column_of q) ms (first + r) q
 
-  abbrev lines : List Meaning
+  abbrev lines : List Reification
   lines = by_rows ++ by_columns
 
   abbrev P : ℕ → Type 0
   P v = v < first + r + q
 
   row_size : length by_rows ≡ r
-  row_size = length-map-range_with_len (line_meaning (row_of q) ms first) 0 r
+  row_size = length-map-range_with_len (line_reification (row_of q) ms first) 0 r
 
   size : length lines ≡ r + q
-  size = omega (arith, length-append by_rows by_columns, row_size, length-map-range_with_len (line_meaning (column_of q) ms (first + r)) 0 q)
+  size = omega (arith, length-append by_rows by_columns, row_size, length-map-range_with_len (line_reification (column_of q) ms (first + r)) 0 q)
 
   some : 0 < q
   some = columns_positive n (omega arith)
@@ -143,58 +143,58 @@ module _ (more : ℕ) (inductive : Derivable more) (ms : List Lit) (other : AreA
   in_row_of : AreInRow first lines
   in_row_of =
       row-append first by_rows by_columns
-      (subst (λ (v : ℕ). AreInRow v by_rows) (let e : first + 0 ≡ first = omega arith in e) (row_by_places (line_meaning (row_of q) ms first) first 0 r (λ k. refl)))
-      (subst (λ (v : ℕ). AreInRow v by_columns) (let e : first + r + 0 ≡ first + length by_rows = omega (arith, row_size) in e) (row_by_places (line_meaning (column_of q) ms (first + r)) (first + r) 0 q (λ k. refl)))
+      (subst (λ (v : ℕ). AreInRow v by_rows) (let e : first + 0 ≡ first = omega arith in e) (row_by_places (line_reification (row_of q) ms first) first 0 r (λ k. refl)))
+      (subst (λ (v : ℕ). AreInRow v by_columns) (let e : first + r + 0 ≡ first + length by_rows = omega (arith, row_size) in e) (row_by_places (line_reification (column_of q) ms (first + r)) (first + r) 0 q (λ k. refl)))
 
-  lines_fit : All (IsFitMeaning first) lines
+  lines_fit : All (IsFitReification first) lines
   lines_fit =
-      All-append (IsFitMeaning first) by_rows by_columns
-      (range_each (IsFitMeaning first) (line_meaning (row_of q) ms first) 0 r (λ k low high. line_fit (row_of q) ms other few first below first k))
-      (range_each (IsFitMeaning first) (line_meaning (column_of q) ms (first + r)) 0 q (λ k low high. line_fit (column_of q) ms other few first below (first + r) k))
+      All-append (IsFitReification first) by_rows by_columns
+      (range_each (IsFitReification first) (line_reification (row_of q) ms first) 0 r (λ k low high. line_fit (row_of q) ms other few first below first k))
+      (range_each (IsFitReification first) (line_reification (column_of q) ms (first + r)) 0 q (λ k low high. line_fit (column_of q) ms other few first below (first + r) k))
 
   meant : Meant P db lines
   meant =
-      meanings_ran P db lines ready.numbered
-      (row_meanings P db first lines in_row_of lines_fit ready.original (omega (arith, size, ready.vars))
+      reifications_ran P db lines ready.numbered
+      (row_reifications P db first lines in_row_of lines_fit ready.original (omega (arith, size, ready.vars))
       (λ v low high. (omega (arith, high, size), ready.unnamed v low (omega (arith, high, size))))
-      (All-weaker (IsFitMeaning first) (λ m. All (λ t. P t.lit.var) m.sum) (λ m fit. All-weaker (λ (t : Weighted). t.lit.var < first) (λ (t : Weighted). P t.lit.var) (λ t h. omega (arith, h)) m.sum fit.below) lines lines_fit))
+      (All-weaker (IsFitReification first) (λ m. All (λ t. P t.lit.var) m.sum) (λ m fit. All-weaker (λ (t : Weighted). t.lit.var < first) (λ (t : Weighted). P t.lit.var) (λ t h. omega (arith, h)) m.sum fit.below) lines lines_fit))
 
   abbrev mid : Database
   mid = meant.ran.end
 
-  at_row : (k : ℕ) → k < r → IsMeant mid (db.next + 2 * k) (line_meaning (row_of q) ms first k)
+  at_row : (k : ℕ) → k < r → IsMeant mid (db.next + 2 * k) (line_reification (row_of q) ms first k)
   at_row k within =
-      let m : Meaning = line_meaning (row_of q) ms first 0 in
-      subst (IsMeant mid (db.next + 2 * k)) (get_or_append_left by_rows by_columns m k (omega (arith, row_size, within)) ∙ get_or-map-range_with_len (line_meaning (row_of q) ms first) 0 r k k m within (omega arith))
+      let m : Reification = line_reification (row_of q) ms first 0 in
+      subst (IsMeant mid (db.next + 2 * k)) (get_or_append_left by_rows by_columns m k (omega (arith, row_size, within)) ∙ get_or-map-range_with_len (line_reification (row_of q) ms first) 0 r k k m within (omega arith))
       (meant_at mid db.next lines k m (omega (arith, size, within)) meant.meant)
 
-  at_column : (k : ℕ) → k < q → IsMeant mid (db.next + 2 * r + 2 * k) (line_meaning (column_of q) ms (first + r) k)
+  at_column : (k : ℕ) → k < q → IsMeant mid (db.next + 2 * r + 2 * k) (line_reification (column_of q) ms (first + r) k)
   at_column k within =
-      let m : Meaning = line_meaning (row_of q) ms first 0 in
-      subst (IsMeant mid (db.next + 2 * r + 2 * k)) (get_or-append-add by_rows by_columns k m ∙ get_or-map-range_with_len (line_meaning (column_of q) ms (first + r)) 0 q k k m within (omega arith))
+      let m : Reification = line_reification (row_of q) ms first 0 in
+      subst (IsMeant mid (db.next + 2 * r + 2 * k)) (get_or-append-add by_rows by_columns k m ∙ get_or-map-range_with_len (line_reification (column_of q) ms (first + r)) 0 q k k m within (omega arith))
       (subst (λ (i : ℕ). IsMeant mid i (get_or lines (length by_rows + k) m)) (let e : db.next + 2 * (length by_rows + k) ≡ db.next + 2 * r + 2 * k = omega (arith, row_size) in e)
       (meant_at mid db.next lines (length by_rows + k) m (omega (arith, size, row_size, within)) meant.meant))
 
-  abbrev rs : List Reason
-  rs = flat_map (cell_reasons ms first r q db.next) (range_with_len 0 n)
+  abbrev rs : List Justification
+  rs = flat_map (cell_justifications ms first r q db.next) (range_with_len 0 n)
 
   mid_vars : first + r + q ≤ mid.vars + 1
   mid_vars = omega (arith, ready.vars, meant.ran.later.vars)
 
-  claims : All (λ r. IsClaim P mid (by_reason r)) rs
+  claims : All (λ r. IsClaim P mid (by_justification r)) rs
   claims =
-      let Q : Reason → Type 0 = λ r. IsClaim P mid (by_reason r) in
-      flat_each Q (cell_reasons ms first r q db.next) 0 n (λ e low high.
-      All-cons Q (line_reason (row_of q) ms first db.next e) (line_reason (column_of q) ms (first + r) (db.next + 2 * r) e ∷ [])
+      let Q : Justification → Type 0 = λ r. IsClaim P mid (by_justification r) in
+      flat_each Q (cell_justifications ms first r q db.next) 0 n (λ e low high.
+      All-cons Q (line_justification (row_of q) ms first db.next e) (line_justification (column_of q) ms (first + r) (db.next + 2 * r) e ∷ [])
       (line_claim (row_of q) ms other few first below P mid first r db.next meant.ran.later.numbered (omega arith) (λ v h. omega (arith, h)) (omega (arith, mid_vars)) row_in at_row e (omega (arith, high)))
-      (All-cons Q (line_reason (column_of q) ms (first + r) (db.next + 2 * r) e) []
+      (All-cons Q (line_justification (column_of q) ms (first + r) (db.next + 2 * r) e) []
       (line_claim (column_of q) ms other few first below P mid (first + r) q (db.next + 2 * r) meant.ran.later.numbered (omega arith) (λ v h. omega (arith, h)) (omega (arith, mid_vars)) column_in at_column e (omega (arith, high)))
       (All-nil Q)))
 
-  cells_swept : RanSwept P mid (cells_steps ms first r q db.next mid.next) (cells ms first r q) (length (map by_reason rs))
+  cells_swept : RanSwept P mid (cells_steps ms first r q db.next mid.next) (cells ms first r q) (length (map by_justification rs))
   cells_swept =
-      subst (λ (cs : List (List Lit)). RanSwept P mid (cells_steps ms first r q db.next mid.next) cs (length (map by_reason rs))) (cells-clauses ms first r q db.next 0 n)
-      (claims_ran P mid (map by_reason rs) meant.ran.later.numbered (All-map (IsClaim P mid) by_reason rs claims))
+      subst (λ (cs : List (List Lit)). RanSwept P mid (cells_steps ms first r q db.next mid.next) cs (length (map by_justification rs))) (cells-clauses ms first r q db.next 0 n)
+      (claims_ran P mid (map by_justification rs) meant.ran.later.numbered (All-map (IsClaim P mid) by_justification rs claims))
 
   abbrev db1 : Database
   db1 = cells_swept.ran.end
@@ -205,7 +205,7 @@ module _ (more : ℕ) (inductive : Derivable more) (ms : List Lit) (other : AreA
   later_both : IsLater P db db1
   later_both = later_then P db mid db1 meant.ran.later later_cells
 
-  forward_known : (i : ℕ) (m : Meaning) → IsMeant mid i m → Knows db1 i (forward_of m)
+  forward_known : (i : ℕ) (m : Reification) → IsMeant mid i m → Knows db1 i (forward_of m)
   forward_known i m h = later_knows P mid db1 i (forward_of m) later_cells (known_below mid i (forward_of m) meant.ran.later.numbered h.first) h.first
 
   own : Knows db1 id (as_constraint (at_most_one ms))
@@ -226,7 +226,7 @@ module _ (more : ℕ) (inductive : Derivable more) (ms : List Lit) (other : AreA
   rows_swept : RanSwept (λ v. v < last) db1 (rows_steps more ms first id db.next db1.next) (clauses_within more (line first r) inner) (count_by takes_id (rows_steps more ms first id db.next db1.next))
   rows_swept =
       side_swept more inductive (row_of q) ms other few (omega arith) first below first r inner id db.next db1 later_both.numbered own
-      (λ j h. forward_known (db.next + 2 * j) (line_meaning (row_of q) ms first j) (at_row j h)) row_in (omega (arith, fit, few)) (omega arith) (omega arith)
+      (λ j h. forward_known (db.next + 2 * j) (line_reification (row_of q) ms first j) (at_row j h)) row_in (omega (arith, fit, few)) (omega arith) (omega arith)
       (omega (arith, later_both.original, ready.original)) (omega (arith, later_both.vars, ready.vars))
       (λ v low high. later_both.unnamed v (λ h. omega (arith, h, low)) (ready.unnamed v (omega (arith, low)) (omega (arith, high))))
 
@@ -239,7 +239,7 @@ module _ (more : ℕ) (inductive : Derivable more) (ms : List Lit) (other : AreA
       side_swept more inductive (column_of q) ms other few (omega arith) first below (first + r) q last id (db.next + 2 * r) db2 later.numbered
       (later_knows (λ v. v < last) db1 db2 id (as_constraint (at_most_one ms)) later (known_below db1 id (as_constraint (at_most_one ms)) later_both.numbered own) own)
       (λ j h.
-      let m : Meaning = line_meaning (column_of q) ms (first + r) j in
+      let m : Reification = line_reification (column_of q) ms (first + r) j in
       let known = forward_known (db.next + 2 * r + 2 * j) m (at_column j h) in
       later_knows (λ v. v < last) db1 db2 (db.next + 2 * r + 2 * j) (forward_of m) later (known_below db1 (db.next + 2 * r + 2 * j) (forward_of m) later_both.numbered known) known)
       column_in (omega (arith, fit, few)) (omega arith) (omega arith)
@@ -254,7 +254,7 @@ module _ (more : ℕ) (inductive : Derivable more) (ms : List Lit) (other : AreA
   all_clauses = cells ms first r q ++ (clauses_within more (line first r) inner ++ clauses_within more (line (first + r) q) last)
 
   abbrev ids_between : ℕ
-  ids_between = length (map by_reason rs) + (count_by takes_id (rows_steps more ms first id db.next db1.next) + count_by takes_id (columns_steps more ms first id db.next db2.next))
+  ids_between = length (map by_justification rs) + (count_by takes_id (rows_steps more ms first id db.next db1.next) + count_by takes_id (columns_steps more ms first id db.next db2.next))
 
   body_swept : RanSwept Whole mid (grid_body more ms first id db.next mid.next) all_clauses ids_between
   body_swept =
@@ -262,7 +262,7 @@ module _ (more : ℕ) (inductive : Derivable more) (ms : List Lit) (other : AreA
       let es = clauses_within more (line (first + r) q) last in
       let f = rows_steps more ms first id db.next in
       let g = columns_steps more ms first id db.next in
-      let one : RanSwept Whole mid (cells_steps ms first r q db.next mid.next) (cells ms first r q) (length (map by_reason rs)) = record {
+      let one : RanSwept Whole mid (cells_steps ms first r q db.next mid.next) (cells ms first r q) (length (map by_justification rs)) = record {
         ran = record { end = db1; runs = cells_swept.ran.runs; later = later_wider P Whole (λ v h. omega (arith, h)) mid db1 later_cells; next = cells_swept.ran.next };
         swept = cells_swept.swept;
         unmarked = cells_swept.unmarked;
@@ -283,15 +283,15 @@ module _ (more : ℕ) (inductive : Derivable more) (ms : List Lit) (other : AreA
         unmarked = columns_swept.unmarked;
       } in
       let back = followed_swept Whole db1 f g ds es (count_by takes_id (f db1.next)) (count_by takes_id (g db2.next)) two three in
-      followed_swept Whole mid (cells_steps ms first r q db.next) (followed_by f g) (cells ms first r q) (ds ++ es) (length (map by_reason rs)) (count_by takes_id (f db1.next) + count_by takes_id (g db2.next)) one back
+      followed_swept Whole mid (cells_steps ms first r q db.next) (followed_by f g) (cells ms first r q) (ds ++ es) (length (map by_justification rs)) (count_by takes_id (f db1.next) + count_by takes_id (g db2.next)) one back
 
   grid_swept : RanSwept Whole db (steps_within (suc more) ms first id db.next) (clauses_within (suc more) ms first) (count_by takes_id (steps_within (suc more) ms first id db.next))
   grid_swept =
       let start : mid.next ≡ db.next + 2 * (r + q) = omega (arith, meant.ran.next, size) in
       let body : List Step = grid_body more ms first id db.next (db.next + 2 * (r + q)) in
-      let whole : Scoped Whole db (meaning_steps db.next lines ++ (body ++ deletion_steps 2 db.next (r + q))) all_clauses (2 * length lines + ids_between) (2 * length lines) =
-      scoped Whole db (meaning_steps db.next lines) body all_clauses (2 * length lines) ids_between 2 (r + q)
-      (record { end = mid; runs = meant.ran.runs; later = later_wider P Whole (λ v h. omega (arith, h)) db mid meant.ran.later; next = meant.ran.next }) ready.numbered (meanings_add db.next lines)
+      let whole : Scoped Whole db (reification_steps db.next lines ++ (body ++ deletion_steps 2 db.next (r + q))) all_clauses (2 * length lines + ids_between) (2 * length lines) =
+      scoped Whole db (reification_steps db.next lines) body all_clauses (2 * length lines) ids_between 2 (r + q)
+      (record { end = mid; runs = meant.ran.runs; later = later_wider P Whole (λ v h. omega (arith, h)) db mid meant.ran.later; next = meant.ran.next }) ready.numbered (reifications_add db.next lines)
       (subst (λ (k : ℕ). RanSwept Whole mid (grid_body more ms first id db.next k) all_clauses ids_between) start body_swept) (omega (arith, size)) in
       let counted = swept_counted Whole db (grid_steps more ms first id db.next) all_clauses (2 * length lines + ids_between) whole.all in
       subst (λ (ss : List Step). RanSwept Whole db ss (clauses_within (suc more) ms first) (count_by takes_id ss)) (sym (steps_many more ms first id db.next many))

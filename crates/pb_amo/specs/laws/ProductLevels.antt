@@ -5,10 +5,10 @@ use Rattle.pb_base.specs.declared.literal.Lit.{Lit}
 use Rattle.pb_steps.specs.declared.step.Step.{Step}
 use Rattle.pb_derive.specs.Deletions.{deletion_steps}
 use Rattle.pb_derive.specs.FollowedBy.{followed_by}
-use Rattle.pb_derive.specs.Meanings.{meaning_steps}
+use Rattle.pb_derive.specs.Reifications.{reification_steps}
 use Rattle.pb_amo.specs.PairwiseSteps.{pairwise_steps}
 use Rattle.pb_amo.specs.Product.{rows, columns, line, fresh_within, product_fresh}
-use Rattle.pb_amo.specs.ProductSteps.{line_sum, side_steps, grid_meanings, cells_steps, steps_within, product_steps}
+use Rattle.pb_amo.specs.ProductSteps.{line_sum, side_steps, grid_reifications, cells_steps, steps_within, product_steps}
 use Rattle.pb_amo.specs.laws.GridCounts.{fresh_enough}
 use Rattle.pb_amo.specs.laws.GridSides.{columns_positive, sides_fit, rows_positive}
 use Rattle.pb_amo.specs.laws.LineLaws.{length-line}
@@ -18,7 +18,7 @@ use Rattle.pb_amo.specs.laws.ProductDerives.{steps_last, steps_few, steps_many, 
 abbrev pub level_steps : List Lit → ℕ → ℕ → (ℕ → List Step) → (ℕ → List Step) → ℕ → List Step
 level_steps ms first q by_rows by_columns next =
     let r = rows (length ms) in
-    meaning_steps next (grid_meanings ms first r q) ++ (followed_by (cells_steps ms first r q next) (followed_by by_rows by_columns) (next + 2 * (r + q)) ++ deletion_steps 2 next (r + q))
+    reification_steps next (grid_reifications ms first r q) ++ (followed_by (cells_steps ms first r q next) (followed_by by_rows by_columns) (next + 2 * (r + q)) ++ deletion_steps 2 next (r + q))
 
 steps_leaf : (k : ℕ) (ms : List Lit) (first id next : ℕ) → length ms ≤ 4 → steps_within k ms first id next ≡ pairwise_steps ms id next
 steps_leaf zero ms first id next few = steps_last ms first id next

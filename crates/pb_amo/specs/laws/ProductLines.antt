@@ -16,17 +16,17 @@ use Rattle.pb_derive.specs.Derivations.{as_constraint, IsReadyFor}
 use Rattle.pb_derive.specs.Deletions.{deletion_steps}
 use Rattle.pb_steps.specs.Steps.{takes_id}
 use Rattle.pb_derive.specs.Later.{IsNumbered, IsUnnamed, Knows}
-use Rattle.pb_derive.specs.Meanings.{Meaning, forward_of, reverse_of}
+use Rattle.pb_derive.specs.Reifications.{Reification, forward_of, reverse_of}
 use Rattle.pb_derive.specs.Ones.{unit_of, ones}
-use Rattle.pb_derive.specs.Reasons.{by_reason}
-use Rattle.pb_derive.specs.laws.Ran.{RanSwept, IsClaim}
-use Rattle.pb_derive.specs.laws.Meant.{IsMeant}
-use Rattle.pb_derive.specs.laws.Follows.{FollowsFrom, AllKnown}
+use Rattle.pb_derive.specs.Justifications.{by_justification}
+use Rattle.pb_derive.specs.inner.Ran.{RanSwept, IsClaim}
+use Rattle.pb_derive.specs.inner.Meant.{IsMeant}
+use Rattle.pb_derive.specs.inner.Follows.{FollowsFrom, AllKnown}
 use Rattle.pb_derive.proofs.ClauseClaims.{ones-apart}
 use Rattle.pb_derive.proofs.FollowedBy.{swept_counted, later_wider}
-use Rattle.pb_derive.proofs.InRow.{IsFitMeaning}
+use Rattle.pb_derive.proofs.InRow.{IsFitReification}
 use Rattle.pb_derive.proofs.KnownRanges.{known_range}
-use Rattle.pb_derive.proofs.Reasoned.{reason_claims}
+use Rattle.pb_derive.proofs.Reasoned.{justification_claims}
 use Rattle.pb_derive.proofs.PinLemmas.{AreApartLits}
 use Rattle.pb_derive.proofs.Rups.{ones-weight}
 use Rattle.pb_derive.proofs.Scoped.{Scoped, scoped}
@@ -40,8 +40,8 @@ use Rattle.pb_amo.specs.laws.LineSums.{line-other, lines-sum}
 use Rattle.pb_amo.specs.Passing.{passing, in_line, is_beside}
 use Rattle.pb_amo.specs.laws.PassingSums.{passing-each, passing-all, passing-pairs, passing-le, passing-but}
 use Rattle.pb_amo.specs.Product.{line, fresh_within, clauses_within}
-use Rattle.pb_amo.specs.AtMostOne.{at_most_one}
-use Rattle.pb_amo.specs.ProductSteps.{line_meaning, line_reason, line_sum, side_steps, steps_within}
+use Rattle.pb_amo.specs.inner.AtMostOne.{at_most_one}
+use Rattle.pb_amo.specs.ProductSteps.{line_reification, line_justification, line_sum, side_steps, steps_within}
 
 and_true : (b : Bool) → b && true ≡ b
 and_true true = refl
@@ -63,7 +63,7 @@ module _ (side : ℕ → ℕ) (ms : List Lit) (other : AreApartLits ms) (few : l
       let c : Weighted → ℕ = λ t. t.coef in
       omega (arith, ones-sum c (passing p 0 ms), passing-le (λ (l : Lit). c (unit_of l)) p 0 ms, ones-sum c ms, ones-weight ms, few)
 
-  pub line_fit : (from k : ℕ) → IsFitMeaning first (line_meaning side ms from k)
+  pub line_fit : (from k : ℕ) → IsFitReification first (line_reification side ms from k)
   line_fit from k = record {
     below = ones-all (λ (t : Weighted). t.lit.var < first) (passing (in_line side k) 0 ms) (passing-all (λ (l : Lit). l.var < first) (in_line side k) 0 ms below);
     apart = ones-apart (passing (in_line side k) 0 ms) (passing-pairs (λ (k l : Lit). k.var ≢ l.var) (in_line side k) 0 ms other);
@@ -98,9 +98,9 @@ module _ (side : ℕ → ℕ) (ms : List Lit) (other : AreApartLits ms) (few : l
       ])
 
   pub line_claim : (P : ℕ → Type 0) (db : Database) (from w base : ℕ) → IsNumbered db → first ≤ from → ((v : ℕ) → v < from + w → P v) → from + w ≤ db.vars + 1 →
-      ((e : ℕ) → e < length ms → side e < w) → ((k : ℕ) → k < w → IsMeant db (base + 2 * k) (line_meaning side ms from k)) → (e : ℕ) → e < length ms → IsClaim P db (by_reason (line_reason side ms from base e))
+      ((e : ℕ) → e < length ms → side e < w) → ((k : ℕ) → k < w → IsMeant db (base + 2 * k) (line_reification side ms from k)) → (e : ℕ) → e < length ms → IsClaim P db (by_justification (line_justification side ms from base e))
   line_claim P db from w base numbered low named vars inside meant e within =
-      let m : Meaning = line_meaning side ms from (side e) in
+      let m : Reification = line_reification side ms from (side e) in
       let l : Lit = literal_at ms e in
       let ids : List ℕ = (base + 2 * side e + 1) ∷ [] in
       let parts = line_parts e within in
@@ -112,7 +112,7 @@ module _ (side : ℕ → ℕ) (ms : List Lit) (other : AreApartLits ms) (few : l
       let fresh : ¬ Contains (vars_of (ones (rest e))) m.var =
       not_listed m.var (vars_of (ones (rest e))) (All-map (λ (v : ℕ). v ≢ m.var) (λ (t : Weighted). t.lit.var) (ones (rest e)) (ones-all (λ (t : Weighted). t.lit.var ≢ m.var) (rest e) (All-weaker (λ (l : Lit). l.var < first) (λ (l : Lit). l.var ≢ m.var) (λ l h is. omega (arith, h, is, low)) (rest e) rest_below))) in
       let follows = some_follows m (unit_of l) (ones (rest e)) ids parts (omega arith) (omega arith) (omega (arith, light (in_line side (side e)))) own fresh in
-      reason_claims P db (line_reason side ms from base e) numbered
+      justification_claims P db (line_justification side ms from base e) numbered
       (All-cons (λ (l : Lit). P l.var) (negated l) (fresh_at from (side e) ∷ []) (named l.var (omega (arith, under, low)))
       (All-cons (λ (l : Lit). P l.var) (fresh_at from (side e)) [] (named (from + side e) (omega (arith, count))) (All-nil (λ (l : Lit). P l.var))))
       (record {
@@ -131,7 +131,7 @@ Derivable k = (ms : List Lit) (n : ℕ) → length ms ≡ n → AreApartLits ms 
     RanSwept (λ v. v < first + fresh_within k n) db (steps_within k ms first id db.next) (clauses_within k ms first) (count_by takes_id (steps_within k ms first id db.next))
 
 pub side_swept : (k : ℕ) → Derivable k → (side : ℕ → ℕ) (ms : List Lit) (other : AreApartLits ms) (few : length ms < 2 ^ 31) (some : 0 < length ms) (first : ℕ) (below : All (λ l. l.var < first) ms)
-    (from w inner id base : ℕ) (db : Database) → IsNumbered db → Knows db id (as_constraint (at_most_one ms)) → ((j : ℕ) → j < w → Knows db (base + 2 * j) (forward_of (line_meaning side ms from j)))
+    (from w inner id base : ℕ) (db : Database) → IsNumbered db → Knows db id (as_constraint (at_most_one ms)) → ((j : ℕ) → j < w → Knows db (base + 2 * j) (forward_of (line_reification side ms from j)))
     → ((e : ℕ) → e < length ms → side e < w) → w < 2 ^ 31 → first ≤ from → from + w ≤ inner → db.original < inner → inner + fresh_within k w ≤ db.vars + 1
     → ((v : ℕ) → inner ≤ v → v < inner + fresh_within k w → IsUnnamed v db)
     → RanSwept (λ v. v < inner + fresh_within k w) db (side_steps (line_sum id base w) (steps_within k (line from w) inner) db.next) (clauses_within k (line from w) inner) (count_by takes_id (side_steps (line_sum id base w) (steps_within k (line from w) inner) db.next))
@@ -141,8 +141,8 @@ side_swept k inductive side (m ∷ others) other few some first below from w inn
     let P : ℕ → Type 0 = λ v. v < inner + fresh_within k w in
     let Q : ℕ → Type 0 = λ v. v < inner in
     let ids : List ℕ = map (λ j. base + 2 * j) (range_with_len 0 w) in
-    let ss : List Constraint = map (λ j. forward_of (line_meaning side ms from j)) (range_with_len 0 w) in
-    let known : AllKnown (Knows db) ids ss = known_range db (λ j. base + 2 * j) (λ j. forward_of (line_meaning side ms from j)) 0 w (λ j below above. lines j (omega arith)) in
+    let ss : List Constraint = map (λ j. forward_of (line_reification side ms from j)) (range_with_len 0 w) in
+    let known : AllKnown (Knows db) ids ss = known_range db (λ j. base + 2 * j) (λ j. forward_of (line_reification side ms from j)) 0 w (λ j below above. lines j (omega arith)) in
     let size = length-line from w in
     let under_line : All (λ l. l.var < inner) (line from w) = range_each (λ (l : Lit). l.var < inner) (fresh_at from) 0 w (λ j below above. omega arith) in
     let t : Constraint = as_constraint (at_most_one (line from w)) in

@@ -21,17 +21,17 @@ use Rattle.pb_steps.specs.Sayable.{IsId, IsVariable, IsOp, IsSayable}
 use Rattle.pb_steps.specs.StepSizes.{step_size}
 use Rattle.pb_derive.specs.Claims.{Claim, claim_steps}
 use Rattle.pb_derive.specs.Deletions.{deletion_steps}
-use Rattle.pb_derive.specs.Meanings.{Meaning, meaning_steps}
+use Rattle.pb_derive.specs.Reifications.{Reification, reification_steps}
 use Rattle.pb_derive.specs.Ones.{unit_of}
 use Rattle.pb_derive.specs.Phases.{phases}
-use Rattle.pb_derive.specs.Reasons.{Reason, by_reason, adding}
+use Rattle.pb_derive.specs.Justifications.{Justification, by_justification, adding}
 use Rattle.pb_derive.specs.Rups.{by_rup}
 use Rattle.pb_derive.specs.Short.{AreShort}
-use Rattle.pb_derive.proofs.Phases.{length-meanings, length-claims, length-deletions}
+use Rattle.pb_derive.proofs.Phases.{length-reifications, length-claims, length-deletions}
 use Rattle.pb_derive.proofs.Rups.{ones-weight}
-use Rattle.pb_derive.proofs.Sayable.{IsSlimTerm, IsSlimMeaning, phases_sayable, rup_sayable, claims_alone}
+use Rattle.pb_derive.proofs.Sayable.{IsSlimTerm, IsSlimReification, phases_sayable, rup_sayable, claims_alone}
 use Rattle.pb_derive.proofs.Short.{lines_sized, line_sized}
-use Rattle.pb_derive.proofs.ShortReasons.{IsSlimReason, reasons_sayable, reasons-size, gone_in}
+use Rattle.pb_derive.proofs.ShortJustifications.{IsSlimJustification, justifications_sayable, justifications-size, gone_in}
 use Rattle.pb_derive.proofs.Sizes.{closing-size, adding-size, phases-size, phases_each, rup-size}
 use Rattle.pb_derive.proofs.Summed.{adding-all}
 use Rattle.pb_derive.proofs.UnitTerms.{ones-all, ones-sum}
@@ -39,12 +39,12 @@ use Rattle.pb_family.specs.Derivations.{AreOriginal, MayStart}
 use Rattle.pb_family.specs.Fresh.{fresh_at}
 use Rattle.pb_family.proofs.FlatRanges.{flat_each, length-flat_range}
 use Rattle.pb_family.proofs.Ranges.{range_each}
-use Rattle.pb_family.proofs.Sequence.{reasons_ids}
+use Rattle.pb_family.proofs.Sequence.{justifications_ids}
 use Rattle.pb_amo.specs.Pairwise.{pair_count, pairwise_clauses}
 use Rattle.pb_amo.specs.PairwiseSteps.{pairwise_claims, pairwise_steps}
 use Rattle.pb_amo.specs.Passing.{passing, in_line, is_beside}
 use Rattle.pb_amo.specs.Product.{rows, columns, line, fresh_within, count_within, product_fresh, product_count}
-use Rattle.pb_amo.specs.ProductSteps.{line_meaning, line_meanings, line_reason, line_sum, side_steps, row_of, column_of, grid_meanings, cell_reasons, cells_reasons, cells_steps, steps_within, product_steps}
+use Rattle.pb_amo.specs.ProductSteps.{line_reification, line_reifications, line_justification, line_sum, side_steps, row_of, column_of, grid_reifications, cell_justifications, cells_justifications, cells_steps, steps_within, product_steps}
 use Rattle.pb_amo.specs.laws.GridCounts.{fresh_last, fresh_few, fresh_many, count_last, count_few, count_many, count_linear}
 use Rattle.pb_amo.specs.laws.GridSides.{columns_positive, rows_positive, rows_are, row_within, sides_fit}
 use Rattle.pb_amo.specs.laws.LineLaws.{length-line}
@@ -56,16 +56,16 @@ use Rattle.pb_amo.specs.laws.ProductDerives.{steps_last, steps_few, steps_many, 
 
 -- ---- how many there are
 
-pub cells_count : (ms : List Lit) (first r q base : ℕ) → length (cells_reasons ms first r q base) ≡ 2 * length ms
-cells_count ms first r q base = omega (arith, length-flat_range (cell_reasons ms first r q base) 2 0 (length ms) (λ e. refl))
+pub cells_count : (ms : List Lit) (first r q base : ℕ) → length (cells_justifications ms first r q base) ≡ 2 * length ms
+cells_count ms first r q base = omega (arith, length-flat_range (cell_justifications ms first r q base) 2 0 (length ms) (λ e. refl))
 
-pub meanings_count : (ms : List Lit) (first r q : ℕ) → length (grid_meanings ms first r q) ≡ r + q
-meanings_count ms first r q =
+pub reifications_count : (ms : List Lit) (first r q : ℕ) → length (grid_reifications ms first r q) ≡ r + q
+reifications_count ms first r q =
     omega (
       arith,
-      length-append (line_meanings (row_of q) ms first r) (line_meanings (column_of q) ms (first + r) q),
-      length-map-range_with_len (line_meaning (row_of q) ms first) 0 r,
-      length-map-range_with_len (line_meaning (column_of q) ms (first + r)) 0 q,
+      length-append (line_reifications (row_of q) ms first r) (line_reifications (column_of q) ms (first + r) q),
+      length-map-range_with_len (line_reification (row_of q) ms first) 0 r,
+      length-map-range_with_len (line_reification (column_of q) ms (first + r)) 0 q,
     )
 
 pairs_lines : (id next : ℕ) (ms : List Lit) → length (pairwise_steps ms id next) ≡ 2 * pair_count (length ms)
@@ -94,15 +94,15 @@ lines_within (suc more) ms first id next =
           omega (
             arith,
             ap length (steps_many more ms first id next many),
-            length-append (meaning_steps next (grid_meanings ms first r q)) ((ss ++ (ts ++ us)) ++ deletion_steps 2 next (r + q)),
+            length-append (reification_steps next (grid_reifications ms first r q)) ((ss ++ (ts ++ us)) ++ deletion_steps 2 next (r + q)),
             length-append (ss ++ (ts ++ us)) (deletion_steps 2 next (r + q)),
             length-append ss (ts ++ us),
             length-append ts us,
-            length-meanings next (grid_meanings ms first r q),
-            meanings_count ms first r q,
+            length-reifications next (grid_reifications ms first r q),
+            reifications_count ms first r q,
             length-deletions 2 next (r + q),
-            length-claims k0 (map by_reason (cells_reasons ms first r q next)),
-            length-map (cells_reasons ms first r q next) by_reason,
+            length-claims k0 (map by_justification (cells_justifications ms first r q next)),
+            length-map (cells_justifications ms first r q next) by_justification,
             cells_count ms first r q next,
             side_lines (line_sum id next r) (steps_within more (line first r) inner) k1,
             side_lines (line_sum id (next + 2 * r) q) (steps_within more (line (first + r) q) last) k2,
@@ -147,10 +147,10 @@ pairs_fine N ms id next vars given low high =
     All-map (λ (c : Claim). step_size c.step ≤ 175) (by_rup (id ∷ [])) (pairwise_clauses ms)
     (by_pairs (λ ls. step_size (by_rup (id ∷ []) ls).step ≤ 175) ms (λ i j d before within. rup-size (id ∷ []) (negated (get_or ms i d) ∷ negated (get_or ms j d) ∷ []))) in
     subst (IsFine N 0 (pair_count (length ms))) (claims_alone next cs) (record {
-      sayable = phases_sayable next [] cs low (omega (arith, count, high)) (All-nil IsSlimMeaning) said;
-      each = phases_each (300 + 53 * N) (omega arith) next [] cs (All-nil (λ (m : Meaning). 119 + 53 * length m.sum ≤ 300 + 53 * N))
+      sayable = phases_sayable next [] cs low (omega (arith, count, high)) (All-nil IsSlimReification) said;
+      each = phases_each (300 + 53 * N) (omega arith) next [] cs (All-nil (λ (m : Reification). 119 + 53 * length m.sum ≤ 300 + 53 * N))
           (All-weaker (λ (c : Claim). step_size c.step ≤ 175) (λ (c : Claim). step_size c.step ≤ 300 + 53 * N) (λ c h. omega (arith, h)) cs sizes);
-      all = omega (arith, phases-size 0 next [] cs (All-nil (λ (m : Meaning). 238 + 106 * length m.sum ≤ 0)), sum_by-le (λ (c : Claim). step_size c.step) 175 cs sizes, count);
+      all = omega (arith, phases-size 0 next [] cs (All-nil (λ (m : Reification). 238 + 106 * length m.sum ≤ 0)), sum_by-le (λ (c : Claim). step_size c.step) 175 cs sizes, count);
     })
 
 -- ---- a side
@@ -197,9 +197,9 @@ line_variables : (first w : ℕ) → 1 ≤ first → first + w ≤ 2 ^ 31 → Al
 line_variables first w low high =
     range_each (λ (l : Lit). IsVariable l.var) (fresh_at first) 0 w (λ k from to. ((let one : 1 ≤ first + k = omega (arith, low) in one), (let below : first + k < 2 ^ 31 = omega (arith, to, high) in below)))
 
-gone_flat : (f : ℕ → List Reason) (m : ℕ) → ((k : ℕ) → gone_in (f k) ≤ m) → (a n : ℕ) → gone_in (flat_map f (range_with_len a n)) ≤ n * m
+gone_flat : (f : ℕ → List Justification) (m : ℕ) → ((k : ℕ) → gone_in (f k) ≤ m) → (a n : ℕ) → gone_in (flat_map f (range_with_len a n)) ≤ n * m
 gone_flat f m each a zero = omega arith
-gone_flat f m each a (suc n) = omega (arith, sum_by-append (λ (r : Reason). length r.weakened) (f a) (flat_map f (range_with_len (a + 1) n)), each a, gone_flat f m each (a + 1) n)
+gone_flat f m each a (suc n) = omega (arith, sum_by-append (λ (r : Justification). length r.weakened) (f a) (flat_map f (range_with_len (a + 1) n)), each a, gone_flat f m each (a + 1) n)
 
 module _ (N : ℕ) (ms : List Lit) (vars : All (λ l. IsVariable l.var) ms) (within : length ms ≤ N) (small : length ms < 2 ^ 31) where
   passing_few : (p : ℕ → Bool) → length (passing p 0 ms) ≤ length ms
@@ -207,19 +207,19 @@ module _ (N : ℕ) (ms : List Lit) (vars : All (λ l. IsVariable l.var) ms) (wit
       let c : Weighted → ℕ = λ t. t.coef in
       omega (arith, ones-weight (passing p 0 ms), ones-sum c (passing p 0 ms), passing-le (λ (l : Lit). c (unit_of l)) p 0 ms, ones-sum c ms, ones-weight ms)
 
-  meaning_slim : (side : ℕ → ℕ) (from k : ℕ) → IsVariable (from + k) → IsSlimMeaning (line_meaning side ms from k)
-  meaning_slim side from k is = record {
+  reification_slim : (side : ℕ → ℕ) (from k : ℕ) → IsVariable (from + k) → IsSlimReification (line_reification side ms from k)
+  reification_slim side from k is = record {
     sum = ones-all IsSlimTerm (passing (in_line side k) 0 ms)
         (All-weaker (λ (l : Lit). IsVariable l.var) (λ (l : Lit). IsSlimTerm (unit_of l)) (λ l h. ((let one : 1 < 2 ^ 126 = omega arith in one), h)) (passing (in_line side k) 0 ms) (passing-all (λ (l : Lit). IsVariable l.var) (in_line side k) 0 ms vars));
     var = is;
     light = omega (arith, ones-weight (passing (in_line side k) 0 ms), passing_few (in_line side k), small);
   }
 
-  meaning_few : (side : ℕ → ℕ) (from k : ℕ) → length (line_meaning side ms from k).sum ≤ N
-  meaning_few side from k = omega (arith, length-map (passing (in_line side k) 0 ms) unit_of, passing_few (in_line side k), within)
+  reification_few : (side : ℕ → ℕ) (from k : ℕ) → length (line_reification side ms from k).sum ≤ N
+  reification_few side from k = omega (arith, length-map (passing (in_line side k) 0 ms) unit_of, passing_few (in_line side k), within)
 
-  reason_slim : (side : ℕ → ℕ) (from base e : ℕ) → IsId (base + 2 * side e + 1) → IsSlimReason N (line_reason side ms from base e)
-  reason_slim side from base e is = record {
+  justification_slim : (side : ℕ → ℕ) (from base e : ℕ) → IsId (base + 2 * side e + 1) → IsSlimJustification N (line_justification side ms from base e)
+  justification_slim side from base e is = record {
     some = λ x. cc;
     two = omega arith;
     ids = All-cons IsId (base + 2 * side e + 1) [] is (All-nil IsId);
@@ -228,15 +228,15 @@ module _ (N : ℕ) (ms : List Lit) (vars : All (λ l. IsVariable l.var) ms) (wit
   }
 
   -- the variables that go, of all cells
-  cells_gone : (first r q base : ℕ) → 0 < q → length ms ≤ r * q → gone_in (cells_reasons ms first r q base) ≤ length ms * (q + r)
+  cells_gone : (first r q base : ℕ) → 0 < q → length ms ≤ r * q → gone_in (cells_justifications ms first r q base) ≤ length ms * (q + r)
   cells_gone first r q base some covered =
-      gone_flat (cell_reasons ms first r q base) (q + r) (λ e.
-      let one : Reason = line_reason (row_of q) ms first base e in
-      let two : Reason = line_reason (column_of q) ms (first + r) (base + 2 * r) e in
+      gone_flat (cell_justifications ms first r q base) (q + r) (λ e.
+      let one : Justification = line_justification (row_of q) ms first base e in
+      let two : Justification = line_justification (column_of q) ms (first + r) (base + 2 * r) e in
       omega (
         arith,
-        sum_by-cons (λ (r : Reason). length r.weakened) one (two ∷ []),
-        sum_by-cons (λ (r : Reason). length r.weakened) two [],
+        sum_by-cons (λ (r : Justification). length r.weakened) one (two ∷ []),
+        sum_by-cons (λ (r : Justification). length r.weakened) two [],
         length-map (passing (is_beside (row_of q) e) 0 ms) (λ (l : Lit). l.var),
         length-map (passing (is_beside (column_of q) e) 0 ms) (λ (l : Lit). l.var),
         beside-row q e some ms,
@@ -256,11 +256,11 @@ module _ (N more : ℕ) (fine : Fine N more) (ms : List Lit) (vars : All (λ l. 
   abbrev q : ℕ
   q = columns n
 
-  abbrev lines : List Meaning
-  lines = grid_meanings ms first r q
+  abbrev lines : List Reification
+  lines = grid_reifications ms first r q
 
-  abbrev rs : List Reason
-  rs = cells_reasons ms first r q next
+  abbrev rs : List Justification
+  rs = cells_justifications ms first r q next
 
   some : 0 < q
   some = columns_positive n (omega (arith, many))
@@ -268,52 +268,52 @@ module _ (N more : ℕ) (fine : Fine N more) (ms : List Lit) (vars : All (λ l. 
   fit : r + q ≤ n
   fit = sides_fit n many
 
-  lines_slim : All IsSlimMeaning lines
+  lines_slim : All IsSlimReification lines
   lines_slim =
-      All-append IsSlimMeaning (line_meanings (row_of q) ms first r) (line_meanings (column_of q) ms (first + r) q)
-      (range_each IsSlimMeaning (line_meaning (row_of q) ms first) 0 r (λ k above to.
-      meaning_slim N ms vars within small (row_of q) first k ((let one : 1 ≤ first + k = omega (arith, low) in one), (let below : first + k < 2 ^ 31 = omega (arith, to, fits) in below))))
-      (range_each IsSlimMeaning (line_meaning (column_of q) ms (first + r)) 0 q (λ k above to.
-      meaning_slim N ms vars within small (column_of q) (first + r) k ((let one : 1 ≤ first + r + k = omega (arith, low) in one), (let below : first + r + k < 2 ^ 31 = omega (arith, to, fits) in below))))
+      All-append IsSlimReification (line_reifications (row_of q) ms first r) (line_reifications (column_of q) ms (first + r) q)
+      (range_each IsSlimReification (line_reification (row_of q) ms first) 0 r (λ k above to.
+      reification_slim N ms vars within small (row_of q) first k ((let one : 1 ≤ first + k = omega (arith, low) in one), (let below : first + k < 2 ^ 31 = omega (arith, to, fits) in below))))
+      (range_each IsSlimReification (line_reification (column_of q) ms (first + r)) 0 q (λ k above to.
+      reification_slim N ms vars within small (column_of q) (first + r) k ((let one : 1 ≤ first + r + k = omega (arith, low) in one), (let below : first + r + k < 2 ^ 31 = omega (arith, to, fits) in below))))
 
   lines_few : All (λ m. length m.sum ≤ N) lines
   lines_few =
-      All-append (λ m. length m.sum ≤ N) (line_meanings (row_of q) ms first r) (line_meanings (column_of q) ms (first + r) q)
-      (range_each (λ (m : Meaning). length m.sum ≤ N) (line_meaning (row_of q) ms first) 0 r (λ k above to. meaning_few N ms vars within small (row_of q) first k))
-      (range_each (λ (m : Meaning). length m.sum ≤ N) (line_meaning (column_of q) ms (first + r)) 0 q (λ k above to. meaning_few N ms vars within small (column_of q) (first + r) k))
+      All-append (λ m. length m.sum ≤ N) (line_reifications (row_of q) ms first r) (line_reifications (column_of q) ms (first + r) q)
+      (range_each (λ (m : Reification). length m.sum ≤ N) (line_reification (row_of q) ms first) 0 r (λ k above to. reification_few N ms vars within small (row_of q) first k))
+      (range_each (λ (m : Reification). length m.sum ≤ N) (line_reification (column_of q) ms (first + r)) 0 q (λ k above to. reification_few N ms vars within small (column_of q) (first + r) k))
 
-  rs_slim : All (IsSlimReason N) rs
+  rs_slim : All (IsSlimJustification N) rs
   rs_slim =
-      flat_each (IsSlimReason N) (cell_reasons ms first r q next) 0 n (λ e above to.
+      flat_each (IsSlimJustification N) (cell_justifications ms first r q next) 0 n (λ e above to.
       let row : e / q < r = row_within n e (omega (arith, to)) in
       let column : e % q < q = mod_below e q some in
-      All-cons (IsSlimReason N) (line_reason (row_of q) ms first next e) (line_reason (column_of q) ms (first + r) (next + 2 * r) e ∷ [])
-      (reason_slim N ms vars within small (row_of q) first next e ((let one : 1 ≤ next + 2 * (e / q) + 1 = omega arith in one), (let below : next + 2 * (e / q) + 1 < 2 ^ 63 = omega (arith, row, high) in below)))
-      (All-cons (IsSlimReason N) (line_reason (column_of q) ms (first + r) (next + 2 * r) e) []
-      (reason_slim N ms vars within small (column_of q) (first + r) (next + 2 * r) e ((let one : 1 ≤ next + 2 * r + 2 * (e % q) + 1 = omega arith in one), (let below : next + 2 * r + 2 * (e % q) + 1 < 2 ^ 63 = omega (arith, column, high) in below)))
-      (All-nil (IsSlimReason N))))
+      All-cons (IsSlimJustification N) (line_justification (row_of q) ms first next e) (line_justification (column_of q) ms (first + r) (next + 2 * r) e ∷ [])
+      (justification_slim N ms vars within small (row_of q) first next e ((let one : 1 ≤ next + 2 * (e / q) + 1 = omega arith in one), (let below : next + 2 * (e / q) + 1 < 2 ^ 63 = omega (arith, row, high) in below)))
+      (All-cons (IsSlimJustification N) (line_justification (column_of q) ms (first + r) (next + 2 * r) e) []
+      (justification_slim N ms vars within small (column_of q) (first + r) (next + 2 * r) e ((let one : 1 ≤ next + 2 * r + 2 * (e % q) + 1 = omega arith in one), (let below : next + 2 * r + 2 * (e % q) + 1 < 2 ^ 63 = omega (arith, column, high) in below)))
+      (All-nil (IsSlimJustification N))))
 
   -- ---- the level's own steps
 
   abbrev cs : List Claim
-  cs = map by_reason rs
+  cs = map by_justification rs
 
   abbrev k0 : ℕ
   k0 = next + 2 * (r + q)
 
   abbrev own : List Step
-  own = meaning_steps next lines ++ (claim_steps k0 cs ++ deletion_steps 2 next (r + q))
+  own = reification_steps next lines ++ (claim_steps k0 cs ++ deletion_steps 2 next (r + q))
 
   own_same : phases next lines cs ≡ own
-  own_same = ap (λ (m : ℕ). meaning_steps next lines ++ (claim_steps (next + 2 * m) cs ++ deletion_steps 2 next m)) (meanings_count ms first r q)
+  own_same = ap (λ (m : ℕ). reification_steps next lines ++ (claim_steps (next + 2 * m) cs ++ deletion_steps 2 next m)) (reifications_count ms first r q)
 
   count_claims : length cs ≡ 2 * n
-  count_claims = omega (arith, length-map rs by_reason, cells_count ms first r q next)
+  count_claims = omega (arith, length-map rs by_justification, cells_count ms first r q next)
 
   own_sayable : All IsSayable own
   own_sayable =
       subst (All IsSayable) own_same
-      (phases_sayable next lines cs from (omega (arith, meanings_count ms first r q, count_claims, high)) lines_slim (reasons_sayable N rs rs_slim))
+      (phases_sayable next lines cs from (omega (arith, reifications_count ms first r q, count_claims, high)) lines_slim (justifications_sayable N rs rs_slim))
 
   Fits : Step → Type 0
   Fits s = step_size s ≤ 300 + 53 * N
@@ -322,19 +322,19 @@ module _ (N more : ℕ) (fine : Fine N more) (ms : List Lit) (vars : All (λ l. 
   unfolding Fits
   own_each =
       subst (All (λ s. step_size s ≤ 300 + 53 * N)) own_same
-      (phases_each (300 + 53 * N) (omega arith) next lines cs (All-weaker (λ (m : Meaning). length m.sum ≤ N) (λ (m : Meaning). 119 + 53 * length m.sum ≤ 300 + 53 * N) (λ m h. omega (arith, h)) lines lines_few)
-      (All-map (λ (c : Claim). step_size c.step ≤ 300 + 53 * N) by_reason rs (λ i d w. let slim = rs_slim i d w in omega (arith, closing-size (get_or rs i d), slim.two, slim.few))))
+      (phases_each (300 + 53 * N) (omega arith) next lines cs (All-weaker (λ (m : Reification). length m.sum ≤ N) (λ (m : Reification). 119 + 53 * length m.sum ≤ 300 + 53 * N) (λ m h. omega (arith, h)) lines lines_few)
+      (All-map (λ (c : Claim). step_size c.step ≤ 300 + 53 * N) by_justification rs (λ i d w. let slim = rs_slim i d w in omega (arith, closing-size (get_or rs i d), slim.two, slim.few))))
 
   own_all : sum_by step_size own ≤ (282 + 106 * N) * (r + q) + 226 * n + 14 * (N * (q + r))
   own_all =
-      let size = phases-size (238 + 106 * N) next lines cs (All-weaker (λ (m : Meaning). length m.sum ≤ N) (λ (m : Meaning). 238 + 106 * length m.sum ≤ 238 + 106 * N) (λ m h. omega (arith, h)) lines lines_few) in
+      let size = phases-size (238 + 106 * N) next lines cs (All-weaker (λ (m : Reification). length m.sum ≤ N) (λ (m : Reification). 238 + 106 * length m.sum ≤ 238 + 106 * N) (λ m h. omega (arith, h)) lines lines_few) in
       omega (
         arith,
         ap (sum_by step_size) own_same,
         size,
-        ap (λ (m : ℕ). (238 + 106 * N) * m) (meanings_count ms first r q),
-        meanings_count ms first r q,
-        reasons-size N rs rs_slim,
+        ap (λ (m : ℕ). (238 + 106 * N) * m) (reifications_count ms first r q),
+        reifications_count ms first r q,
+        justifications-size N rs rs_slim,
         count_claims,
         cells_count ms first r q next,
         cells_gone N ms vars within small first r q next some (rows_are n (omega (arith, many))).covers,
@@ -350,7 +350,7 @@ module _ (N more : ℕ) (fine : Fine N more) (ms : List Lit) (vars : All (λ l. 
   k1 = k0 + count_by takes_id ss
 
   k1_is : k1 ≡ next + 2 * (r + q) + 2 * n
-  k1_is = omega (arith, reasons_ids k0 rs, cells_count ms first r q next)
+  k1_is = omega (arith, justifications_ids k0 rs, cells_count ms first r q next)
 
   abbrev inner : ℕ
   inner = first + r + q
@@ -396,20 +396,20 @@ module _ (N more : ℕ) (fine : Fine N more) (ms : List Lit) (vars : All (λ l. 
   level_all : (Q : Step → Type 0) → All Q own → All Q ts → All Q us → All Q (grid_steps more ms first id next)
   level_all Q h g k =
       let ds : List Step = deletion_steps 2 next (r + q) in
-      let both = All-append_both Q (meaning_steps next lines) (ss ++ ds) h in
+      let both = All-append_both Q (reification_steps next lines) (ss ++ ds) h in
       let rest = All-append_both Q ss ds both.1 in
-      All-append Q (meaning_steps next lines) ((ss ++ (ts ++ us)) ++ ds) both.0 (All-append Q (ss ++ (ts ++ us)) ds (All-append Q ss (ts ++ us) rest.0 (All-append Q ts us g k)) rest.1)
+      All-append Q (reification_steps next lines) ((ss ++ (ts ++ us)) ++ ds) both.0 (All-append Q (ss ++ (ts ++ us)) ds (All-append Q ss (ts ++ us) rest.0 (All-append Q ts us g k)) rest.1)
 
   level_sum : (f : Step → ℕ) → sum_by f (grid_steps more ms first id next) ≡ sum_by f own + sum_by f ts + sum_by f us
   level_sum f =
       let ds : List Step = deletion_steps 2 next (r + q) in
       omega (
         arith,
-        sum_by-append f (meaning_steps next lines) ((ss ++ (ts ++ us)) ++ ds),
+        sum_by-append f (reification_steps next lines) ((ss ++ (ts ++ us)) ++ ds),
         sum_by-append f (ss ++ (ts ++ us)) ds,
         sum_by-append f ss (ts ++ us),
         sum_by-append f ts us,
-        sum_by-append f (meaning_steps next lines) (ss ++ ds),
+        sum_by-append f (reification_steps next lines) (ss ++ ds),
         sum_by-append f ss ds,
       )
 

@@ -6,12 +6,12 @@ use super::desks::desk_with;
 use super::propagation::lit_at;
 use pb_base::Failed;
 use pb_desk::{Desk, MemoryDesk};
-use pb_dimacs::{ClauseWriter, HardWriter, Outbox};
+use pb_dimacs::{ClauseWriter, HardWriter, WriteBuffer};
 use pb_family::ClauseSink;
 use std::alloc::Global;
 
 // Writes a text of three clauses to a new file.
-fn write_plain<D: Desk>(desk: &mut D, outbox: &mut Outbox) -> Result<(), Failed>
+fn write_plain<D: Desk>(desk: &mut D, outbox: &mut WriteBuffer) -> Result<(), Failed>
     requires { IsClosed (D.state desk.old) }
 {
     desk.create(1, "out")?;
@@ -24,7 +24,7 @@ fn write_plain<D: Desk>(desk: &mut D, outbox: &mut Outbox) -> Result<(), Failed>
 }
 
 // Writes a text of two hard clauses and a soft literal to a new file.
-fn write_weighted<D: Desk>(desk: &mut D, outbox: &mut Outbox) -> Result<(), Failed>
+fn write_weighted<D: Desk>(desk: &mut D, outbox: &mut WriteBuffer) -> Result<(), Failed>
     requires { IsClosed (D.state desk.old) }
 {
     desk.create(1, "out")?;
@@ -39,7 +39,7 @@ fn write_weighted<D: Desk>(desk: &mut D, outbox: &mut Outbox) -> Result<(), Fail
 fn write<D: Desk>(alloc: Global, desk: &mut D, weighted: bool) -> Option<()>
     requires { IsClosed (D.state desk.old) }
 {
-    let mut outbox = Outbox::new(alloc).ok()?;
+    let mut outbox = WriteBuffer::new(alloc).ok()?;
     if weighted {
         write_weighted(desk, &mut outbox).ok()
     } else {

@@ -6,7 +6,7 @@ use super::checking::desk_with;
 use pb_amo::Pairwise;
 use pb_base::Ids;
 use pb_desk::Desk;
-use pb_dimacs::{Outbox, StepWriter};
+use pb_dimacs::{StepWriter, WriteBuffer};
 use pb_family::{Derive, StepSink, are_below, are_ones};
 use pb_norm::AtMost;
 use pb_samples::at_most;
@@ -17,7 +17,7 @@ fn derive_pairs<D: Desk>(
     alloc: Global,
     desk: &mut D,
     of: &AtMost,
-    outbox: &mut Outbox,
+    outbox: &mut WriteBuffer,
     line: &mut Vec<u8>,
 ) -> Option<u64>
     requires { IsTrue ((D.state desk.old).view.writing 1) }
@@ -36,7 +36,7 @@ fn write_new<D: Desk>(alloc: Global, desk: &mut D, of: &AtMost) -> Option<u64>
     requires { IsClosed (D.state desk.old) }
 {
     desk.create(1, "out").ok()?;
-    let mut outbox = Outbox::new(alloc).ok()?;
+    let mut outbox = WriteBuffer::new(alloc).ok()?;
     let mut line = Vec::new(alloc);
     derive_pairs(alloc, desk, of, &mut outbox, &mut line)
 }

@@ -1,7 +1,8 @@
-ghost use Rattle.pb_choice.specs.laws.EqualPlans.{IsPlannedBelow};
+ghost use Rattle.pb_choice.specs.EqualPlans.{IsPlannedBelow};
 
 use super::assert_found;
-use pb_choice::{EqualMode, EqualPlan, MAX_BUDGET, Options, plan_equal};
+use pb_base::{EqualMode, MAX_BUDGET, Options};
+use pb_choice::{EqualPlan, plan_equal};
 use pb_family::{TextSink, are_below};
 use pb_norm::Linear;
 use pb_samples::loaded;

@@ -2,7 +2,8 @@ ghost use Rattle.std.specs.Prelude.{◌≤◌};
 ghost use Rattle.pb_family.specs.Families.{VarsBelow};
 
 use super::assert_found;
-use pb_choice::{Amo, Card, EqualMode, General, MAX_BUDGET, Options, Plan, plan};
+use pb_base::{Amo, Card, EqualMode, General, MAX_BUDGET, Options};
+use pb_choice::{Plan, plan};
 use pb_family::{TextSink, are_below};
 use pb_norm::Linear;
 use pb_samples::linear;

@@ -1,6 +1,5 @@
 //! A sink in memory that fails.
-use pb_base::{Failed, Lit};
-use pb_desk::FaultCount;
+use pb_base::{Failed, FaultCount, Lit};
 use pb_family::{ClauseSink, push_clause};
 use std::alloc::{AllocError, Global};
 

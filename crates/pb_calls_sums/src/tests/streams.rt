@@ -2,8 +2,7 @@ ghost use Rattle.pb_base.specs.Problems.{IsWithinLimits};
 
 use super::assert_found;
 use super::short_sink::ShortSink;
-use pb_base::Problem;
-use pb_choice::Options;
+use pb_base::{Options, Problem};
 use pb_encode::{measure, stream_clauses};
 use pb_opb::read_opb;
 use std::alloc::Global;

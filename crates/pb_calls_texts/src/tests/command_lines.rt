@@ -1,6 +1,6 @@
 use super::{assert_found, parts};
 use pb_samples::lits_text;
-use pb_words::{Encoding, Probing, Request, Weighing, WordsFault, taken};
+use pb_words::{EncodeArgs, ProbeArgs, Request, WcnfArgs, WordsFault, parse};
 use std::alloc::Global;
 
 // The words of a line that is parted at blanks.
@@ -12,7 +12,7 @@ fn words_of(alloc: Global, line: &str) -> Option<Vec<String>> {
     Some(words)
 }
 
-fn encoding_text(alloc: Global, asked: &Encoding<'_>) -> Option<String> {
+fn encoding_text(alloc: Global, asked: &EncodeArgs<'_>) -> Option<String> {
     let options = &asked.options;
     format!(in alloc;
         "{} {} {} {:?} {:?} {:?} {}",
@@ -27,12 +27,12 @@ fn encoding_text(alloc: Global, asked: &Encoding<'_>) -> Option<String> {
     .ok()
 }
 
-fn probing_text(alloc: Global, asked: &Probing<'_>) -> Option<String> {
+fn probing_text(alloc: Global, asked: &ProbeArgs<'_>) -> Option<String> {
     let lits = lits_text(alloc, asked.lits.as_slice())?;
     format!(in alloc; "{}{lits}", asked.cnf).ok()
 }
 
-fn weighing_text(alloc: Global, asked: &Weighing<'_>) -> Option<String> {
+fn weighing_text(alloc: Global, asked: &WcnfArgs<'_>) -> Option<String> {
     let budget = asked.options.budget;
     format!(in alloc; "{} {} {budget} {:?}", asked.opb, asked.wcnf, asked.bound).ok()
 }
@@ -48,7 +48,7 @@ fn request_text(alloc: Global, request: &Request<'_>) -> Option<String> {
 
 // What words ask for.
 fn asked_by(alloc: Global, words: &[String]) -> Option<String> {
-    match taken(alloc, words) {
+    match parse(alloc, words) {
         Ok(request) => request_text(alloc, &request),
         Err(WordsFault::Usage) => "usage".to_string(alloc).ok(),
         Err(_) => None,

@@ -28,7 +28,7 @@ use Rattle.pb_choice.specs.declared.treatment.Treatment.{Treatment}
 use Rattle.pb_choice.specs.declared.treatment.Treatment.TheVariants as treatment
 use Rattle.pb_choice.specs.Sums.{sum_clauses, sum_count, sum_fresh}
 use Rattle.pb_choice.specs.SumSteps.{sum_steps}
-use Rattle.pb_choice.specs.laws.Suits.{HasRoom, IsDerivable}
+use Rattle.pb_choice.specs.inner.Suits.{HasRoom, IsDerivable}
 
 -- from a database in which the sum stands, the steps are allowed one after the other and put out the clauses
 pub sum_derives : (t : Treatment) (m : BoundedSum) → IsDerivable t m → (first id : ℕ) (db : Database) → VarsBelow first m.terms → IsReadyFor m first (sum_fresh t m) id db

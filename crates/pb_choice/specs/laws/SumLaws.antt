@@ -15,7 +15,7 @@ use Rattle.pb_adder.specs.laws.AdderLaws.{adder_sound, adder_extends, adder_name
 use Rattle.pb_choice.specs.declared.treatment.Treatment.{Treatment}
 use Rattle.pb_choice.specs.declared.treatment.Treatment.TheVariants as treatment
 use Rattle.pb_choice.specs.Sums.{sum_clauses, sum_fresh, sum_count}
-use Rattle.pb_choice.specs.laws.Suits.{Suits}
+use Rattle.pb_choice.specs.inner.Suits.{Suits}
 
 -- under a model the sum stays within its bound
 pub sum_sound : (t : Treatment) (m : BoundedSum) (first : ℕ) → Suits t m → (a : Assignment) → IsModel a (sum_clauses t m first) → StaysWithin a m

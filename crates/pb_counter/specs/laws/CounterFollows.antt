@@ -17,17 +17,17 @@ use Rattle.pb_norm.specs.Reduction.{lits_of, opposite}
 use Rattle.pb_derive.specs.Forms.{AreApartTerms}
 use Rattle.pb_norm.proofs.AdditionSizes.{weight-cons}
 use Rattle.pb_derive.proofs.Closing.{degrees-cons, weight_in-cons}
-use Rattle.pb_derive.specs.Meanings.{Meaning, forward_of, reverse_of}
-use Rattle.pb_derive.specs.laws.Follows.{FollowsFrom}
+use Rattle.pb_derive.specs.Reifications.{Reification, forward_of, reverse_of}
+use Rattle.pb_derive.specs.inner.Follows.{FollowsFrom}
 use Rattle.pb_derive.proofs.Justified.{MeansAt, AllMeant, IsJustified}
-use Rattle.pb_derive.proofs.Sides.{Known, Side, reason, known_of, known_headed, known_both, side_none, side_leaf, side_fresh, follows_bound, follows_pair, follows_unreached, weight-append}
+use Rattle.pb_derive.proofs.Sides.{Known, Side, justification, known_of, known_headed, known_both, side_none, side_leaf, side_fresh, follows_bound, follows_pair, follows_unreached, weight-append}
 use Rattle.pb_derive.proofs.UnitTerms.{weight-ones}
 use Rattle.pb_family.specs.Fresh.{positive_of, literal_at}
 use Rattle.pb_counter.specs.declared.place.Place.{Place}
 use Rattle.pb_counter.specs.declared.place.Place.TheVariants.{Start, Below, One, Keep, More, Stop}
 use Rattle.pb_counter.specs.Counter.{count_bit, clause_at, counter_fresh}
-use Rattle.pb_counter.specs.CounterSteps.{counted, counted_at, counts, reached_id, missed_id, reason_at}
-use Rattle.pb_counter.specs.Order.{IsPlace}
+use Rattle.pb_counter.specs.CounterSteps.{counted, counted_at, counts, reached_id, missed_id, justification_at}
+use Rattle.pb_counter.specs.inner.Order.{IsPlace}
 
 -- ---- literals of clauses
 
@@ -142,7 +142,7 @@ module _ (ts : List Weighted) (few : length ts < 2 ^ 31) (ones : All (λ t. t.co
 
   -- what is reached before a literal, and by it
   follow : (ls : List Lit) (k j u v : ℕ) (ss rs : List Constraint) (ws xs : List ℕ) → k < n → Side ls (take k ts) u ss ws → Side ls (here k) v rs xs → j + 1 ≤ u + v → is_among ls (bit k j) ≡ true
-      → (ids : List ℕ) → FollowsFrom (ss ++ (rs ++ reverse_of (counted ts width first k j) ∷ [])) (reason ls ids (ws ++ xs))
+      → (ids : List ℕ) → FollowsFrom (ss ++ (rs ++ reverse_of (counted ts width first k j) ∷ [])) (justification ls ids (ws ++ xs))
   follow ls k j u v ss rs ws xs within left right le among ids =
       follows_pair ls (take k ts) (here k) u v ss rs ws xs (counted ts width first k j) left right (more k within) le among (omega (arith, size k (omega (arith, within)), size_here k within, few)) ids
 
@@ -155,24 +155,24 @@ module _ (ts : List Weighted) (few : length ts < 2 ^ 31) (ones : All (λ t. t.co
   all_three P k l o h g e = All-cons P k (l ∷ o ∷ []) h (all_two P l o g e)
 
   -- where a literal is true, one is counted up to it
-  one_follows : (k : ℕ) → k < n → (ids : List ℕ) → FollowsFrom (reverse_of (counted ts width first k 0) ∷ []) (reason (negated (lit k) ∷ bit k 0 ∷ []) ids (vars_of (take k ts)))
+  one_follows : (k : ℕ) → k < n → (ids : List ℕ) → FollowsFrom (reverse_of (counted ts width first k 0) ∷ []) (justification (negated (lit k) ∷ bit k 0 ∷ []) ids (vars_of (take k ts)))
   one_follows k within ids =
       let ls : List Lit = negated (lit k) ∷ bit k 0 ∷ [] in
       let each = all_two (Either k) (negated (lit k)) (bit k 0) (inl refl) (inr (omega arith)) in
-      subst (λ (ws : List ℕ). FollowsFrom (reverse_of (counted ts width first k 0) ∷ []) (reason ls ids ws)) (append-nil (vars_of (take k ts)))
+      subst (λ (ws : List ℕ). FollowsFrom (reverse_of (counted ts width first k 0) ∷ []) (justification ls ids ws)) (append-nil (vars_of (take k ts)))
       (follow ls k 0 0 1 [] [] (vars_of (take k ts)) [] within (gone_side ls (take k ts) (either_apart k ls (take k ts) each (under_take k) (λ v h. var_before k k v (omega arith) within h)))
       (leaf_side ls k within (first_among (negated (lit k)) (bit k 0 ∷ []))) (omega arith) (second_among (negated (lit k)) (bit k 0) []) ids)
 
   -- more cannot be true than there are
   alone_follows : (ls : List Lit) (i j : ℕ) → i + 1 < n → i < j → j < 2 ^ 31 → is_among ls (negated (bit i j)) ≡ true → All (Either (i + 1)) ls
-      → (ids : List ℕ) → FollowsFrom (forward_of (counted ts width first i j) ∷ []) (reason ls ids (vars_of (take (i + 1) ts)))
+      → (ids : List ℕ) → FollowsFrom (forward_of (counted ts width first i j) ∷ []) (justification ls ids (vars_of (take (i + 1) ts)))
   alone_follows ls i j within above small among each ids =
       let front_size = size (i + 1) (omega (arith, within)) in
       follows_unreached ls (counted ts width first i j) (omega (arith, front_size, above)) (omega (arith, front_size, small, few, within)) among
       (either_apart (i + 1) ls (take (i + 1) ts) each (under_take (i + 1)) (λ v h. var_before (i + 1) (i + 1) v (omega arith) within h)) ids
 
   keep_follows : (i j : ℕ) → i + 1 < n → j ≤ i → (ids : List ℕ)
-      → FollowsFrom (forward_of (counted ts width first i j) ∷ reverse_of (counted ts width first (i + 1) j) ∷ []) (reason (clause (Keep i j)) ids (vars_of (here (i + 1))))
+      → FollowsFrom (forward_of (counted ts width first i j) ∷ reverse_of (counted ts width first (i + 1) j) ∷ []) (justification (clause (Keep i j)) ids (vars_of (here (i + 1))))
   keep_follows i j within under ids =
       let ls : List Lit = clause (Keep i j) in
       let above : All (λ (l : Lit). first ≤ l.var) ls = all_two (λ (l : Lit). first ≤ l.var) (negated (bit i j)) (bit (i + 1) j) (omega arith) (omega arith) in
@@ -183,7 +183,7 @@ module _ (ts : List Weighted) (few : length ts < 2 ^ 31) (ones : All (λ t. t.co
       (gone_side ls (here (i + 1)) apart) (omega arith) (second_among (negated (bit i j)) (bit (i + 1) j) []) ids
 
   more_follows : (i j : ℕ) → i + 1 < n → j ≤ i → (ids : List ℕ)
-      → FollowsFrom (forward_of (counted ts width first i j) ∷ reverse_of (counted ts width first (i + 1) (j + 1)) ∷ []) (reason (clause (More i j)) ids [])
+      → FollowsFrom (forward_of (counted ts width first i j) ∷ reverse_of (counted ts width first (i + 1) (j + 1)) ∷ []) (justification (clause (More i j)) ids [])
   more_follows i j within under ids =
       let ls : List Lit = clause (More i j) in
       follow ls (i + 1) (j + 1) (j + 1) 1 (forward_of (counted ts width first i j) ∷ []) [] [] [] within
@@ -192,10 +192,10 @@ module _ (ts : List Weighted) (few : length ts < 2 ^ 31) (ones : All (λ t. t.co
       (third_among (negated (lit (i + 1))) (negated (bit i j)) (bit (i + 1) (j + 1)) []) ids
 
   stop_follows : (i : ℕ) → i + 1 < n → (ids : List ℕ)
-      → FollowsFrom (forward_of (counted ts width first i (width - 1)) ∷ record { terms = map opposite ts; degree = weight ts - width } ∷ []) (reason (clause (Stop i)) ids (vars_of (drop (i + 2) ts)))
+      → FollowsFrom (forward_of (counted ts width first i (width - 1)) ∷ record { terms = map opposite ts; degree = weight ts - width } ∷ []) (justification (clause (Stop i)) ids (vars_of (drop (i + 2) ts)))
   stop_follows i within ids =
       let ls : List Lit = clause (Stop i) in
-      let m : Meaning = counted ts width first i (width - 1) in
+      let m : Reification = counted ts width first i (width - 1) in
       let rest : List Weighted = drop (i + 2) ts in
       let each = all_two (Either (i + 1)) (negated (lit (i + 1))) (negated (bit i (width - 1))) (inl refl) (inr (omega arith)) in
       let last = gone_side ls rest (either_apart (i + 1) ls rest each (under_drop (i + 2)) (λ v h. var_after (i + 1) (i + 2) v (omega arith) h)) in
@@ -231,15 +231,15 @@ module _ (ts : List Weighted) (few : length ts < 2 ^ 31) (ones : All (λ t. t.co
   missed : (i j : ℕ) → i + 1 < n → j < width → j ≤ i → K (missed_id width next i j) (reverse_of (counted ts width first i j))
   missed i j row place low = (at_count i j row place).second (omega (arith, size (i + 1) (omega (arith, row)), low))
 
-  one_is : (k : ℕ) → k + 1 < n → IsJustified K (reason (negated (lit k) ∷ bit k 0 ∷ []) (missed_id width next k 0 ∷ []) (vars_of (take k ts)))
+  one_is : (k : ℕ) → k + 1 < n → IsJustified K (justification (negated (lit k) ∷ bit k 0 ∷ []) (missed_id width next k 0 ∷ []) (vars_of (take k ts)))
   one_is k within = (reverse_of (counted ts width first k 0) ∷ [], (missed k 0 within some (omega arith), tt), one_follows k (omega (arith, within)) (missed_id width next k 0 ∷ []))
 
-  alone_is : (ls : List Lit) (i j : ℕ) → i + 1 < n → i < j → j < width → is_among ls (negated (bit i j)) ≡ true → All (Either (i + 1)) ls → IsJustified K (reason ls (reached_id width next i j ∷ []) (vars_of (take (i + 1) ts)))
+  alone_is : (ls : List Lit) (i j : ℕ) → i + 1 < n → i < j → j < width → is_among ls (negated (bit i j)) ≡ true → All (Either (i + 1)) ls → IsJustified K (justification ls (reached_id width next i j ∷ []) (vars_of (take (i + 1) ts)))
   alone_is ls i j within above place among each =
       (forward_of (counted ts width first i j) ∷ [], (reached i j within place, tt), alone_follows ls i j within above (omega (arith, place, fits, few)) among each (reached_id width next i j ∷ []))
 
   keep_is : (i j : ℕ) → i + 2 < n → j < width → (b : Bool) → leb j i ≡ b
-      → IsJustified K (reason (clause (Keep i j)) (cond {A = List ℕ} b (reached_id width next i j ∷ missed_id width next (i + 1) j ∷ []) (reached_id width next i j ∷ [])) (vars_of (cond {A = List Weighted} b (here (i + 1)) (take (i + 1) ts))))
+      → IsJustified K (justification (clause (Keep i j)) (cond {A = List ℕ} b (reached_id width next i j ∷ missed_id width next (i + 1) j ∷ []) (reached_id width next i j ∷ [])) (vars_of (cond {A = List Weighted} b (here (i + 1)) (take (i + 1) ts))))
   keep_is i j row place true e =
       let under : j ≤ i = leb-true j i e in (
         forward_of (counted ts width first i j) ∷ reverse_of (counted ts width first (i + 1) j) ∷ [],
@@ -251,7 +251,7 @@ module _ (ts : List Weighted) (few : length ts < 2 ^ 31) (ones : All (λ t. t.co
       (all_two (Either (i + 1)) (negated (bit i j)) (bit (i + 1) j) (inr (omega arith)) (inr (omega arith)))
 
   more_is : (i j : ℕ) → i + 2 < n → j + 1 < width → (b : Bool) → leb j i ≡ b
-      → IsJustified K (reason (clause (More i j)) (cond {A = List ℕ} b (reached_id width next i j ∷ missed_id width next (i + 1) (j + 1) ∷ []) (reached_id width next i j ∷ [])) (vars_of (cond {A = List Weighted} b [] (take (i + 1) ts))))
+      → IsJustified K (justification (clause (More i j)) (cond {A = List ℕ} b (reached_id width next i j ∷ missed_id width next (i + 1) (j + 1) ∷ []) (reached_id width next i j ∷ [])) (vars_of (cond {A = List Weighted} b [] (take (i + 1) ts))))
   more_is i j row place true e =
       let under : j ≤ i = leb-true j i e in (
         forward_of (counted ts width first i j) ∷ reverse_of (counted ts width first (i + 1) (j + 1)) ∷ [],
@@ -263,7 +263,7 @@ module _ (ts : List Weighted) (few : length ts < 2 ^ 31) (ones : All (λ t. t.co
       (all_three (Either (i + 1)) (negated (lit (i + 1))) (negated (bit i j)) (bit (i + 1) (j + 1)) (inl refl) (inr (omega arith)) (inr (omega arith)))
 
   -- the constraints give the clause at each place
-  pub justified : (p : Place) → IsPlace n width p → IsJustified K (reason_at ts width first id next p)
+  pub justified : (p : Place) → IsPlace n width p → IsJustified K (justification_at ts width first id next p)
   justified Start h = one_is 0 (omega (arith, some, fits))
   justified (Below j) h =
       alone_is (clause (Below j)) 0 j (omega (arith, some, fits)) (omega (arith, h.0)) h.1 (first_among (negated (bit 0 j)) []) (All-cons (Either 1) (negated (bit 0 j)) [] (inr (omega arith)) (All-nil (Either 1)))

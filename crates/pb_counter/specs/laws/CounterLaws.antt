@@ -21,7 +21,7 @@ use Rattle.pb_family.proofs.Extended.{extended, extended_below}
 use Rattle.pb_counter.specs.declared.place.Place.{Place}
 use Rattle.pb_counter.specs.declared.place.Place.TheVariants.{Start, Below, One, Keep, More, Stop}
 use Rattle.pb_counter.specs.Counter.{count_bit, clause_at, places, counter_clauses, counter_fresh, counter_size}
-use Rattle.pb_counter.specs.Order.{IsPlace}
+use Rattle.pb_counter.specs.inner.Order.{IsPlace}
 use Rattle.pb_counter.specs.laws.CounterPlaces.{each_place}
 use Rattle.pb_counter.specs.laws.CounterOrder.{count_places}
 use Rattle.pb_counter.specs.laws.CounterPropagation.{refuted, pushed}

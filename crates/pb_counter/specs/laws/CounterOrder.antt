@@ -10,7 +10,7 @@ use Rattle.pb_family.proofs.Ranges.{at_range}
 use Rattle.pb_counter.specs.declared.place.Place.{Place}
 use Rattle.pb_counter.specs.declared.place.Place.TheVariants.{Start, Below, One, Keep, More, Stop}
 use Rattle.pb_counter.specs.Counter.{row_places, places, counter_size}
-use Rattle.pb_counter.specs.Order.{IsPlace, turn_at, place_at}
+use Rattle.pb_counter.specs.inner.Order.{IsPlace, turn_at, place_at}
 use Rattle.pb_counter.specs.laws.CounterPlaces.{each_place}
 
 -- ---- ranges

@@ -10,7 +10,7 @@ use Rattle.pb_family.proofs.FlatRanges.{flat_each, at_flat}
 use Rattle.pb_counter.specs.declared.place.Place.{Place}
 use Rattle.pb_counter.specs.declared.place.Place.TheVariants.{Start, Below, One, Keep, More, Stop}
 use Rattle.pb_counter.specs.Counter.{row_places, places}
-use Rattle.pb_counter.specs.Order.{IsPlace}
+use Rattle.pb_counter.specs.inner.Order.{IsPlace}
 
 -- two clauses for one more place of a row
 abbrev pair_places : ℕ → ℕ → List Place

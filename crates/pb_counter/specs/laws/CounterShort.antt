@@ -14,22 +14,22 @@ use Rattle.pb_norm.specs.BoundedSums.{BoundedSum, IsProper}
 use Rattle.pb_norm.specs.Reduction.{all_weigh}
 use Rattle.pb_steps.specs.declared.step.Step.{Step}
 use Rattle.pb_steps.specs.Sayable.{IsId, IsVariable, IsSayable}
-use Rattle.pb_derive.specs.Meanings.{Meaning}
-use Rattle.pb_derive.specs.Reasons.{Reason, by_reason}
+use Rattle.pb_derive.specs.Reifications.{Reification}
+use Rattle.pb_derive.specs.Justifications.{Justification, by_justification}
 use Rattle.pb_derive.specs.Short.{AreShort}
-use Rattle.pb_derive.proofs.Sayable.{IsSlimMeaning, phases_sayable}
-use Rattle.pb_derive.proofs.ShortReasons.{IsSlimReason, reasons_sayable, reasons_short, gone_few}
+use Rattle.pb_derive.proofs.Sayable.{IsSlimReification, phases_sayable}
+use Rattle.pb_derive.proofs.ShortJustifications.{IsSlimJustification, justifications_sayable, justifications_short, gone_few}
 use Rattle.pb_derive.proofs.UnitTerms.{weight-ones}
 use Rattle.pb_family.proofs.Ranges.{range_each}
 use Rattle.pb_family.proofs.UnitSums.{unit_coefficient, more_than_bound}
 use Rattle.pb_counter.specs.declared.place.Place.{Place}
 use Rattle.pb_counter.specs.declared.place.Place.TheVariants.{Start, Below, One, Keep, More, Stop}
 use Rattle.pb_counter.specs.Counter.{places, counter_fresh, counter_size}
-use Rattle.pb_counter.specs.CounterSteps.{counted_at, counts, reached_id, missed_id, sources_at, beside_at, reason_at, counter_reasons, counter_steps}
-use Rattle.pb_counter.specs.Order.{IsPlace}
+use Rattle.pb_counter.specs.CounterSteps.{counted_at, counts, reached_id, missed_id, sources_at, beside_at, justification_at, counter_justifications, counter_steps}
+use Rattle.pb_counter.specs.inner.Order.{IsPlace}
 use Rattle.pb_counter.specs.laws.CounterLaws.{counter_counts}
 use Rattle.pb_counter.specs.laws.CounterPlaces.{each_place}
-use Rattle.pb_counter.specs.laws.CounterReasons.{counter_reason_clauses, pick, beside_all, beside_few, sources_some, sources_two}
+use Rattle.pb_counter.specs.laws.CounterJustifications.{counter_justification_clauses, pick, beside_all, beside_few, sources_some, sources_two}
 
 -- a place in the grid is below its size
 place_below : (i j width rows : ℕ) → i < rows → j < width → i * width + j < rows * width
@@ -85,11 +85,11 @@ module _ (m : BoundedSum) (units : all_weigh 1 m.terms ≡ true) (proper : IsPro
   variables : All (λ t. IsVariable t.lit.var) ts
   variables = All-weaker (λ (t : Weighted). (1 ≤ t.lit.var) × (t.lit.var < first)) (λ (t : Weighted). IsVariable t.lit.var) (λ t h. (h.0, (let b : t.lit.var < 2 ^ 31 = omega (arith, h.1, room) in b))) ts original
 
-  -- ---- the meanings
+  -- ---- the reifications
 
-  meanings_slim : All IsSlimMeaning (counts ts width first)
-  meanings_slim =
-      range_each IsSlimMeaning (counted_at ts width first) 0 fresh (λ k from to.
+  reifications_slim : All IsSlimReification (counts ts width first)
+  reifications_slim =
+      range_each IsSlimReification (counted_at ts width first) 0 fresh (λ k from to.
       let row : k / width < n - 1 = div_below k width (n - 1) (omega arith) (omega arith) in
       let place : k % width < width = mod_below k width (omega arith) in
       let us : List Weighted = take (k / width + 1) ts in
@@ -101,9 +101,9 @@ module _ (m : BoundedSum) (units : all_weigh 1 m.terms ≡ true) (proper : IsPro
       })
 
   sums_few : All (λ c. length c.sum ≤ n) (counts ts width first)
-  sums_few = range_each (λ (c : Meaning). length c.sum ≤ n) (counted_at ts width first) 0 fresh (λ k from to. omega (arith, length-take (k / width + 1) ts))
+  sums_few = range_each (λ (c : Reification). length c.sum ≤ n) (counted_at ts width first) 0 fresh (λ k from to. omega (arith, length-take (k / width + 1) ts))
 
-  -- ---- the reasons
+  -- ---- the justifications
 
   one_id : (i : ℕ) → IsId i → All IsId (i ∷ [])
   one_id i h = All-cons IsId i [] h (All-nil IsId)
@@ -134,9 +134,9 @@ module _ (m : BoundedSum) (units : all_weigh 1 m.terms ≡ true) (proper : IsPro
       (two_ids (reached_id width next i j) (missed_id width next (i + 1) (j + 1)) one (missed_is (i + 1) (j + 1) (omega (arith, h.0)) h.1)) (one_id (reached_id width next i j) one)
   ids_at (Stop i) h = two_ids (reached_id width next i (width - 1)) id (reached_is i (width - 1) (omega (arith, h)) (omega (arith, some))) own_id
 
-  all_slim : All (IsSlimReason n) (counter_reasons ts width first id next)
+  all_slim : All (IsSlimJustification n) (counter_justifications ts width first id next)
   all_slim =
-      All-map (IsSlimReason n) (reason_at ts width first id next) (places n width) (each_place (λ p. IsSlimReason n (reason_at ts width first id next p)) n width some (omega (arith, some, fits)) (λ p h. record {
+      All-map (IsSlimJustification n) (justification_at ts width first id next) (places n width) (each_place (λ p. IsSlimJustification n (justification_at ts width first id next p)) n width some (omega (arith, some, fits)) (λ p h. record {
         some = sources_some width id next p;
         two = sources_two width id next p;
         ids = ids_at p h;
@@ -146,26 +146,26 @@ module _ (m : BoundedSum) (units : all_weigh 1 m.terms ≡ true) (proper : IsPro
 
   -- ---- how many there are
 
-  count_meanings : length (counts ts width first) ≡ fresh
-  count_meanings = length-map-range_with_len (counted_at ts width first) 0 fresh
+  count_reifications : length (counts ts width first) ≡ fresh
+  count_reifications = length-map-range_with_len (counted_at ts width first) 0 fresh
 
-  count_reasons : length (counter_reasons ts width first id next) ≡ counter_size n width
-  count_reasons = omega (arith, length-map (counter_reasons ts width first id next) by_reason, length-map (map by_reason (counter_reasons ts width first id next)) (λ c. c.clause), ap (λ (cs : List (List Lit)). length cs) (counter_reason_clauses ts width first id next), counter_counts m units proper first)
+  count_justifications : length (counter_justifications ts width first id next) ≡ counter_size n width
+  count_justifications = omega (arith, length-map (counter_justifications ts width first id next) by_justification, length-map (map by_justification (counter_justifications ts width first id next)) (λ c. c.clause), ap (λ (cs : List (List Lit)). length cs) (counter_justification_clauses ts width first id next), counter_counts m units proper first)
 
-  count_claims : length (map by_reason (counter_reasons ts width first id next)) ≡ counter_size n width
-  count_claims = omega (arith, length-map (counter_reasons ts width first id next) by_reason, count_reasons)
+  count_claims : length (map by_justification (counter_justifications ts width first id next)) ≡ counter_size n width
+  count_claims = omega (arith, length-map (counter_justifications ts width first id next) by_justification, count_justifications)
 
-  few_reasons : counter_size n width ≤ 3 * fresh
-  few_reasons = size_small n width (omega (arith, some, fits)) some
+  few_justifications : counter_size n width ≤ 3 * fresh
+  few_justifications = size_small n width (omega (arith, some, fits)) some
 
   pub counter_sayable : All IsSayable (counter_steps ts width first id next)
   counter_sayable =
-      phases_sayable next (counts ts width first) (map by_reason (counter_reasons ts width first id next)) (omega (arith, given, known))
-      (omega (arith, count_meanings, count_claims, few_reasons, room, few)) meanings_slim (reasons_sayable n (counter_reasons ts width first id next) all_slim)
+      phases_sayable next (counts ts width first) (map by_justification (counter_justifications ts width first id next)) (omega (arith, given, known))
+      (omega (arith, count_reifications, count_claims, few_justifications, room, few)) reifications_slim (justifications_sayable n (counter_justifications ts width first id next) all_slim)
 
   pub counter_short : n ≤ 2 ^ 21 → AreShort n fresh (counter_size n width) (counter_steps ts width first id next)
   counter_short narrow =
-      let rs : List Reason = counter_reasons ts width first id next in
-      let short = reasons_short n next (counts ts width first) rs counter_sayable narrow sums_few all_slim (gone_few n (length (counts ts width first) + 1) rs all_slim (omega (arith, count_reasons, few_reasons, count_meanings))) in
+      let rs : List Justification = counter_justifications ts width first id next in
+      let short = justifications_short n next (counts ts width first) rs counter_sayable narrow sums_few all_slim (gone_few n (length (counts ts width first) + 1) rs all_slim (omega (arith, count_justifications, few_justifications, count_reifications))) in
       let steps : List Step = counter_steps ts width first id next in
-      subst (λ (k : ℕ). AreShort n fresh k steps) count_claims (subst (λ (k : ℕ). AreShort n k (length (map by_reason rs)) steps) count_meanings short)
+      subst (λ (k : ℕ). AreShort n fresh k steps) count_claims (subst (λ (k : ℕ). AreShort n k (length (map by_justification rs)) steps) count_reifications short)

@@ -4,7 +4,7 @@ use Rattle.std.specs.Prelude.{◌==◌, if◌then◌else◌, All}
 use Rattle.std.proofs.lemmas.Bool.{eqb-true}
 use Rattle.std.proofs.lemmas.List.Elements.{All-nil, All-cons, All-append}
 use Rattle.pb_desk.specs.declared.buffer.Buffer.{Buffer}
-use Rattle.pb_desk.specs.declared.sheet.Sheet.{Sheet}
+use Rattle.pb_desk.specs.declared.memory_file.MemoryFile.{MemoryFile}
 use Rattle.pb_desk.specs.View.{Made}
 use Rattle.pb_desk.specs.Desk.{HasSlot}
 use Rattle.pb_desk.specs.MemoryState.{file_in, files_of, at_two}
@@ -31,7 +31,7 @@ open_at_two zero one slot is_open = by_tests (slot == 0) (slot == 1) refl refl
     by_tests false true is_a is_b = inr (eqb-true slot 1 is_b, simp (is_a, is_b) at is_open)
     by_tests false false is_a is_b = let no : false ≡ true = simp (is_a, is_b) at is_open in cc
 
-pub in_files : (newest : Bool) (zero one : Sheet) (slot : ℕ) → at_two zero.is_open one.is_open false slot ≡ true → HasSlot slot (files_of newest zero one)
+pub in_files : (newest : Bool) (zero one : MemoryFile) (slot : ℕ) → at_two zero.is_open one.is_open false slot ≡ true → HasSlot slot (files_of newest zero one)
 in_files newest zero one slot is_open = elim (open_at_two zero.is_open one.is_open slot is_open) [
   | inl h ↦ subst (λ (n : ℕ). HasSlot n (files_of newest zero one)) (sym h.0) (in_zero newest zero.is_made one.is_made _ _ refl (zero.open_is_made h.1))
   | inr h ↦ subst (λ (n : ℕ). HasSlot n (files_of newest zero one)) (sym h.0) (in_one newest zero.is_made one.is_made _ _ refl (one.open_is_made h.1))
@@ -45,7 +45,7 @@ one_fits most false file le = All-nil (λ (f : Made). length f.bytes ≤ most)
 pub in_room : (most : ℕ) (buffer : Buffer) → buffer.room ≡ most → length buffer.bytes.items ≤ most
 in_room most buffer is = subst (λ (n : ℕ). length buffer.bytes.items ≤ n) is buffer.in_room
 
-pub all_fit : (most : ℕ) (newest : Bool) (zero one : Sheet) → zero.bytes.room ≡ most → one.bytes.room ≡ most → All (λ (f : Made). length f.bytes ≤ most) (files_of newest zero one)
+pub all_fit : (most : ℕ) (newest : Bool) (zero one : MemoryFile) → zero.bytes.room ≡ most → one.bytes.room ≡ most → All (λ (f : Made). length f.bytes ≤ most) (files_of newest zero one)
 all_fit most newest zero one is_zero is_one =
     let fits_zero = one_fits most zero.is_made (record { slot = 0; name = zero.name.bytes.items; bytes = zero.bytes.bytes.items }) (in_room most zero.bytes is_zero) in
     let fits_one = one_fits most one.is_made (record { slot = 1; name = one.name.bytes.items; bytes = one.bytes.bytes.items }) (in_room most one.bytes is_one) in

@@ -6,7 +6,7 @@ use Rattle.pb_norm.specs.ClausePropagation.{ClausesPropagate}
 use Rattle.pb_family.specs.Families.{VarsBelow, NamesOnly}
 use Rattle.pb_diagram.specs.Levels.{levels_of}
 use Rattle.pb_diagram.specs.Clauses.{diagram_clauses, diagram_fresh, diagram_size}
-use Rattle.pb_diagram.specs.laws.Links.{AreLinked, IsRootNode}
+use Rattle.pb_diagram.specs.inner.Links.{AreLinked, IsRootNode}
 use Rattle.pb_diagram.specs.laws.LevelFacts.{levels_linked, levels_root}
 use Rattle.pb_diagram.specs.laws.LinkedExtends.{linked_extends}
 use Rattle.pb_diagram.specs.laws.LinkedCounts.{linked_counts, linked_names}

@@ -14,8 +14,8 @@ use Rattle.pb_diagram.specs.declared.interval.Interval.{Interval}
 use Rattle.pb_diagram.specs.Clauses.{head_level}
 use Rattle.pb_diagram.specs.Levels.{interval_from, lies_in, intervals_after, intervals, is_reached, level, levels_from}
 use Rattle.pb_diagram.specs.Intervals.{AreApart}
-use Rattle.pb_diagram.specs.laws.Links.{Linked, AreLinked, IsRootNode}
-use Rattle.pb_diagram.specs.laws.Nodes.{LiesIn, IsInterval, IsResidue, IsNode}
+use Rattle.pb_diagram.specs.inner.Links.{Linked, AreLinked, IsRootNode}
+use Rattle.pb_diagram.specs.inner.Nodes.{LiesIn, IsInterval, IsResidue, IsNode}
 use Rattle.pb_diagram.specs.Sums.{sums}
 use Rattle.pb_diagram.specs.laws.SumFacts.{Ascends, sums_without, sums_with, sums_ascend, sums_none, sums_all, sums-le, sum-cons}
 

@@ -14,7 +14,7 @@ use Rattle.pb_family.proofs.UnitSums.{count_by-cons_true, count_by-cons_false}
 use Rattle.pb_family.specs.Families.{NamesOnly}
 use Rattle.pb_diagram.specs.declared.interval.Interval.{Interval}
 use Rattle.pb_diagram.specs.Clauses.{node_at, false_clause, true_clause, level_clauses, head_level, node_clauses, clauses_over, node_count, inner_count, clause_count_over}
-use Rattle.pb_diagram.specs.laws.Links.{AreLinked, IsRootNode}
+use Rattle.pb_diagram.specs.inner.Links.{AreLinked, IsRootNode}
 use Rattle.pb_diagram.specs.laws.ClauseRows.{NodeRows, from_node_rows}
 use Rattle.pb_diagram.specs.laws.LinkedNodes.{place, linked_at, head_le}
 

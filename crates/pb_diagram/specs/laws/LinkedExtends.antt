@@ -1,4 +1,4 @@
--- The meaning of the nodes, under which the clauses hold. It serves proofs alone.
+-- The reification of the nodes, under which the clauses hold. It serves proofs alone.
 use Rattle.std.proofs.Common.{◌≡◌, ◌<◌, ◌≤◌, ◌+◌, ◌-◌, ℕ, Bool, true, false, cond, ltb, List, [], ◌∷◌, length, get_or, sym, ap, ◌∙◌, arith}
 use Rattle.std.specs.Prelude.{Contains}
 use Rattle.std.proofs.lemmas.Bool.{lt-ltb, le-ltb, ltb-true, or_left, cond-true, cond-false}
@@ -14,7 +14,7 @@ use Rattle.pb_family.proofs.ShortClauses.{when_one}
 use Rattle.pb_family.proofs.Extended.{extended, extended_below, extended_fresh, extended_literal}
 use Rattle.pb_diagram.specs.declared.interval.Interval.{Interval}
 use Rattle.pb_diagram.specs.Clauses.{node_at, head_level, node_clauses, clauses_over}
-use Rattle.pb_diagram.specs.laws.Links.{AreLinked, IsRootNode}
+use Rattle.pb_diagram.specs.inner.Links.{AreLinked, IsRootNode}
 use Rattle.pb_diagram.specs.laws.ClauseRows.{NodeRows, from_node_rows}
 use Rattle.pb_diagram.specs.laws.LinkedNodes.{place, linked_at, rest_from, value-cons_true}
 
@@ -45,7 +45,7 @@ below_end_child v (t ∷ ts) [] linked p g within is less = absurd linked
 below_end_child v (t ∷ ts) (nodes ∷ levels) linked p g within is less =
     below_end_here v t ts nodes levels p g within is ∙ lt-ltb (value v (t ∷ ts)) g.top less
 
--- an assignment that gives each node its meaning makes the clauses true
+-- an assignment that gives each node its reification makes the clauses true
 rows_hold : (v w : ℕ → Bool) (first : ℕ) (ts : List Weighted) (levels : List (List Interval)) → AreLinked ts levels
     → ((t : Weighted) → Contains ts t → lit_value v t.lit ≡ lit_value w t.lit)
     → ((k : ℕ) → w (first + k) ≡ below_end v ts levels k)

@@ -10,7 +10,7 @@ use Rattle.pb_base.proofs.LiteralLemmas.{lit_value-negated}
 use Rattle.pb_diagram.specs.declared.interval.Interval.{Interval}
 use Rattle.pb_diagram.specs.Levels.{lies_in}
 use Rattle.pb_diagram.specs.Clauses.{head_level, node_count}
-use Rattle.pb_diagram.specs.laws.Links.{Linked, AreLinked}
+use Rattle.pb_diagram.specs.inner.Links.{Linked, AreLinked}
 
 abbrev pub place : ℕ → List Interval → ℕ
 place residue nodes = position_or_len (lies_in residue) nodes

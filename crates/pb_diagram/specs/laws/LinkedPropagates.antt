@@ -20,7 +20,7 @@ use Rattle.pb_family.proofs.Models.{sound_from_sums}
 use Rattle.pb_diagram.specs.laws.Within.{propagates_within}
 use Rattle.pb_diagram.specs.declared.interval.Interval.{Interval}
 use Rattle.pb_diagram.specs.Clauses.{node_at, head_level, node_clauses, clauses_over}
-use Rattle.pb_diagram.specs.laws.Links.{AreLinked, IsRootNode}
+use Rattle.pb_diagram.specs.inner.Links.{AreLinked, IsRootNode}
 use Rattle.pb_diagram.specs.laws.ClauseRows.{NodeRows, node_rows}
 use Rattle.pb_diagram.specs.laws.LinkedNodes.{place, linked_at}
 

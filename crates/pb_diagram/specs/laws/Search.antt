@@ -8,7 +8,7 @@ use Rattle.pb_diagram.specs.declared.search.Look.TheVariants.{Missing, Found}
 use Rattle.pb_norm.specs.BoundedSums.{BoundedSum}
 use Rattle.pb_diagram.specs.Clauses.{node_count}
 use Rattle.pb_diagram.specs.Levels.{coefs_of, levels_of}
-use Rattle.pb_diagram.specs.laws.Nodes.{LiesIn, IsResidue, IsNode}
+use Rattle.pb_diagram.specs.inner.Nodes.{LiesIn, IsResidue, IsNode}
 use Rattle.pb_diagram.specs.Intervals.{AreApart}
 
 abbrev pub nodes_at : List (List Interval) → ℕ → List Interval

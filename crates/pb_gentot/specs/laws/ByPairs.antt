@@ -11,7 +11,7 @@ use Rattle.pb_tree.specs.Scheme.{values}
 use Rattle.pb_tree.specs.Tree.{Tree, empty, leaf, node}
 use Rattle.pb_tree.proofs.Lists.{Contains-map_cases, Contains-flat_map_cases}
 use Rattle.pb_tree.proofs.PairLists.{map_same, map-append, map-map, rows_same}
-use Rattle.pb_tree.proofs.PairReasons.{IsByPairs, IsPositive}
+use Rattle.pb_tree.proofs.PairJustifications.{IsByPairs, IsPositive}
 use Rattle.pb_tree.proofs.TreeParts.{IsPart, AreFromParts}
 use Rattle.pb_gentot.specs.Generalized.{sums, one_clause, both_clause, value_clauses, generalized}
 use Rattle.pb_gentot.specs.GeneralizedSteps.{generalized_pairs}

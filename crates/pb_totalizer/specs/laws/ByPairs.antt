@@ -11,7 +11,7 @@ use Rattle.pb_tree.specs.Scheme.{values}
 use Rattle.pb_tree.specs.Tree.{Tree, node}
 use Rattle.pb_tree.proofs.Lists.{Contains-map_cases, Contains-flat_map_cases, Contains-range, Contains-range_cases}
 use Rattle.pb_tree.proofs.PairLists.{map_same, map-map, rows_same}
-use Rattle.pb_tree.proofs.PairReasons.{IsByPairs}
+use Rattle.pb_tree.proofs.PairJustifications.{IsByPairs}
 use Rattle.pb_tree.proofs.TreeParts.{IsPart, AreFromParts}
 use Rattle.pb_totalizer.specs.Totalizer.{sum_clause, is_within, partners, sum_clauses, totalizer}
 use Rattle.pb_totalizer.specs.TotalizerSteps.{totalizer_pairs}

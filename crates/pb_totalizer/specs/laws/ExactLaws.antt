@@ -25,7 +25,7 @@ use Rattle.pb_family.proofs.Models.{sound_from_sums}
 use Rattle.pb_family.proofs.UnitSums.{unit_coefficient, more_than_bound}
 use Rattle.pb_tree.specs.Tree.{tree_of, leaf_sum}
 use Rattle.pb_tree.specs.Scheme.{output, clauses_of, own_count_of}
-use Rattle.pb_tree.proofs.ByMeaning.{clause_from}
+use Rattle.pb_tree.proofs.ByReification.{clause_from}
 use Rattle.pb_tree.proofs.Extending.{IsNamed, output_named, all_from_each, extension, along_named, along_counted}
 use Rattle.pb_tree.proofs.Laws.{leaf_below, named_of}
 use Rattle.pb_tree.proofs.Lists.{Contains-map_cases}
@@ -36,7 +36,7 @@ use Rattle.pb_totalizer.specs.ExactOutputs.{ReachesOutputs}
 use Rattle.pb_totalizer.specs.Totalizer.{totalizer, totalizer_clauses}
 use Rattle.pb_totalizer.specs.laws.AtLeast.{denied, least_distinct, least_from, least_to, open_leaves_sum}
 use Rattle.pb_totalizer.specs.laws.Down.{deny_output, raise_leaf, totalizer_listed, part_listed}
-use Rattle.pb_totalizer.specs.laws.ExactMeanings.{exact_by_meaning, own_counted}
+use Rattle.pb_totalizer.specs.laws.ExactReifications.{exact_by_reification, own_counted}
 use Rattle.pb_totalizer.specs.laws.TotalizerLaws.{IsCapped, value_from, values_count, fewer, totalizer_lawful, totalizer_propagates, totalizer_sound}
 
 -- ---- what the list has
@@ -181,7 +181,7 @@ exact_extends m units proper first below a exactly =
     let d = m.bound in
     let some = proper.bound_from in
     let room = root_outputs m units proper in
-    let ext = extension s (IsCapped d) (totalizer_lawful d) (omega arith) (exact_own d) (exact_by_meaning d) a t first (leaf_below first m.terms below) (λ u h. omega arith) in
+    let ext = extension s (IsCapped d) (totalizer_lawful d) (omega arith) (exact_own d) (exact_by_reification d) a t first (leaf_below first m.terms below) (λ u h. omega arith) in
     let sum : leaf_sum (passing s (lit_value a)) t ≡ d = root_sum m units a ∙ exactly in
     let least : lit_value ext.now (o d) ≡ true = ext.means d (value_from d t d some (omega arith)) ∙ le-leb d (leaf_sum (passing s (lit_value a)) t) (omega arith) in
     let most : lit_value ext.now (negated (o (d + 1))) ≡ true =
@@ -213,7 +213,7 @@ exact_names m units proper first =
     let Named : Lit → Type 0 = λ l. Contains (vars_of m.terms) l.var ⊎ ((first ≤ l.var) × (l.var < first + exact_fresh m)) in
     all_from_each (All Named) (exact_clauses m first) (λ c h. all_from_each Named c (λ k among.
     named_of (totalizer m.bound) m.terms first k.var (elim (Contains-append_cases (exact_along d t first) ((o d ∷ []) ∷ (negated (o (d + 1)) ∷ []) ∷ []) c h) as (λ _. IsNamed s t first k.var) [
-      | inl inside ↦ along_named s (IsCapped d) laws (exact_own d) (exact_by_meaning d) t first c inside k among
+      | inl inside ↦ along_named s (IsCapped d) laws (exact_own d) (exact_by_reification d) t first c inside k among
       | inr root ↦ elim (Contains-cons_cases (o d ∷ []) ((negated (o (d + 1)) ∷ []) ∷ []) c root) as (λ _. IsNamed s t first k.var) [
         | inl e ↦ elim (Contains-cons_cases (o d) [] k (subst (λ (c : List Lit). Contains c k) (sym e) among)) as (λ _. IsNamed s t first k.var) [
           | inl same ↦ subst (λ (l : Lit). IsNamed s t first l.var) same (output_named s (IsCapped d) laws t first d (value_from d t d some (omega arith)))

@@ -14,29 +14,29 @@ use Rattle.pb_norm.specs.Constraints.{Weighted, weight}
 use Rattle.pb_norm.specs.BoundedSums.{BoundedSum, IsProper, vars_of}
 use Rattle.pb_norm.specs.Reduction.{all_weigh}
 use Rattle.pb_steps.specs.Sayable.{IsId, IsVariable, IsSayable}
-use Rattle.pb_derive.specs.Reasons.{Reason}
+use Rattle.pb_derive.specs.Justifications.{Justification}
 use Rattle.pb_derive.specs.Short.{AreShort}
-use Rattle.pb_derive.proofs.ShortReasons.{gone_in}
+use Rattle.pb_derive.proofs.ShortJustifications.{gone_in}
 use Rattle.pb_family.specs.Derivations.{AreOriginal, MayStart}
 use Rattle.pb_family.proofs.UnitSums.{unit_weight}
 use Rattle.pb_tree.specs.Pairs.{Pair, pair_of}
 use Rattle.pb_tree.specs.Scheme.{fresh_of, own_count_of}
 use Rattle.pb_tree.specs.Tree.{Tree, node, tree_of}
-use Rattle.pb_tree.specs.TreeSteps.{leaves, output_ids, pair_reasons, reasons_along, root_reason}
-use Rattle.pb_tree.proofs.AlongReasons.{clause_in}
+use Rattle.pb_tree.specs.TreeSteps.{leaves, output_ids, pair_justifications, justifications_along, root_justification}
+use Rattle.pb_tree.proofs.AlongJustifications.{clause_in}
 use Rattle.pb_tree.proofs.AlongShort.{IsShort, Starts, gone-append, along_gone, along_short, known_terms, terms_sayable, terms_short}
 use Rattle.pb_tree.proofs.PairCounts.{count-cons, count-append, count-map, count_none}
 use Rattle.pb_tree.proofs.TreeRows.{leaves_of}
 use Rattle.pb_tree.proofs.TreeShort.{length-vars, some_or_none, pairs_gone_few, output_ids_are, not_empty, own_short as pairs_own_short, root_short}
 use Rattle.pb_totalizer.specs.Exact.{limits, outputs_of, limit_count_of, exact_fresh, exact_size}
-use Rattle.pb_totalizer.specs.ExactSteps.{after_ids, after_weakened, limit_reason, limit_pairs, limit_reasons, own_reasons, least_reason, exact_reasons, exact_steps}
+use Rattle.pb_totalizer.specs.ExactSteps.{after_ids, after_weakened, limit_justification, limit_pairs, limit_justifications, own_justifications, least_justification, exact_justifications, exact_steps}
 use Rattle.pb_totalizer.specs.Totalizer.{totalizer}
 use Rattle.pb_totalizer.specs.TotalizerSteps.{totalizer_pairs}
 use Rattle.pb_totalizer.specs.laws.ByPairs.{totalizer_by_pairs}
 use Rattle.pb_totalizer.specs.laws.Counting.{own_in_grid}
 use Rattle.pb_totalizer.specs.laws.ExactDerives.{unit_weighs}
 use Rattle.pb_totalizer.specs.laws.ExactLaws.{exact_counts, root_outputs}
-use Rattle.pb_totalizer.specs.laws.ExactReasons.{pair_bounds, exact_reasons_clauses}
+use Rattle.pb_totalizer.specs.laws.ExactJustifications.{pair_bounds, exact_justifications_clauses}
 use Rattle.pb_totalizer.specs.laws.LimitCounts.{limits_in_grid, size_split}
 use Rattle.pb_totalizer.specs.laws.Limits.{limits_are}
 use Rattle.pb_totalizer.specs.laws.Shares.{few_shared}
@@ -112,26 +112,26 @@ after_gone bound t i =
     by_test true = refl
     by_test false = length-vars (leaves t)
 
-limit_reasons_gone : (bound : ℕ) (l r : Tree) (first id : ℕ) (ps : List Pair)
-    → gone_in (map (limit_reason bound l r first id) ps)
+limit_justifications_gone : (bound : ℕ) (l r : Tree) (first id : ℕ) (ps : List Pair)
+    → gone_in (map (limit_justification bound l r first id) ps)
     ≡ count_by (λ p. is_past (outputs_of bound l) p.left) ps * length (leaves l) + count_by (λ p. is_past (outputs_of bound r) p.right) ps * length (leaves r)
-limit_reasons_gone bound l r first id [] =
-    let none : gone_in (map (limit_reason bound l r first id) []) ≡ 0 = refl in
+limit_justifications_gone bound l r first id [] =
+    let none : gone_in (map (limit_justification bound l r first id) []) ≡ 0 = refl in
     none ∙ (let e : 0 ≡ 0 * length (leaves l) + 0 * length (leaves r) = omega arith in e)
-limit_reasons_gone bound l r first id (p ∷ ps) =
+limit_justifications_gone bound l r first id (p ∷ ps) =
     let a = length (leaves l) in
     let b = length (leaves r) in
     let past_left = λ (q : Pair). is_past (outputs_of bound l) q.left in
     let past_right = λ (q : Pair). is_past (outputs_of bound r) q.right in
     let i = count_by past_left ps in
     let j = count_by past_right ps in
-    let one = sum_by-cons (λ (r : Reason). length r.weakened) (limit_reason bound l r first id p) (map (limit_reason bound l r first id) ps) in
+    let one = sum_by-cons (λ (r : Justification). length r.weakened) (limit_justification bound l r first id p) (map (limit_justification bound l r first id) ps) in
     let two = length-append (after_weakened bound l p.left) (after_weakened bound r p.right) in
     let three : count_by past_left (p ∷ ps) * a ≡ cond (past_left p) a 0 + i * a = ap (λ (n : ℕ). n * a) (count-cons past_left p ps) ∙ sym (some_or_none (past_left p) a i) in
     let four : count_by past_right (p ∷ ps) * b ≡ cond (past_right p) b 0 + j * b = ap (λ (n : ℕ). n * b) (count-cons past_right p ps) ∙ sym (some_or_none (past_right p) b j) in
-    omega (arith, one, two, after_gone bound l p.left, after_gone bound r p.right, three, four, limit_reasons_gone bound l r first id ps)
+    omega (arith, one, two, after_gone bound l p.left, after_gone bound r p.right, three, four, limit_justifications_gone bound l r first id ps)
 
-limits_gone : (bound : ℕ) (l r : Tree) (first id : ℕ) → gone_in (limit_reasons bound l r first id) ≤ outputs_of bound (node l r) * (length (leaves l) + length (leaves r))
+limits_gone : (bound : ℕ) (l r : Tree) (first id : ℕ) → gone_in (limit_justifications bound l r first id) ≤ outputs_of bound (node l r) * (length (leaves l) + length (leaves r))
 limits_gone bound l r first id =
     let a = outputs_of bound l in
     let b = outputs_of bound r in
@@ -144,9 +144,9 @@ limits_gone bound l r first id =
     let none : c - 0 ≡ c = omega arith in
     let same : (c - 0) * n ≡ c * n = ap (λ (k : ℕ). k * n) none in
     let here : c * (m + n) ≡ c * m + c * n = omega arith in
-    omega (arith, limit_reasons_gone bound l r first id ps, lows, highs, same, here)
+    omega (arith, limit_justifications_gone bound l r first id ps, lows, highs, same, here)
 
--- ---- each reason
+-- ---- each justification
 
 after_ids_are : (bound : ℕ) (t : Tree) (id i : ℕ) → 1 ≤ id → id + 2 * fresh_of (totalizer bound) t < 2 ^ 63 → All IsId (after_ids bound t id i) × (length (after_ids bound t id i) ≤ 1)
 after_ids_are bound t id i low high =
@@ -178,7 +178,7 @@ after_few bound t i = by_test (nat_lt i (outputs_of bound t))
     by_test false = omega (arith, length-vars (leaves t))
 
 limit_short : (bound n : ℕ) (l r : Tree) (first id : ℕ) → 1 ≤ id → id + 2 * fresh_of (totalizer bound) (node l r) < 2 ^ 63 → All (λ w. IsVariable w.lit.var) (leaves (node l r)) → length (leaves (node l r)) ≤ n
-    → (p : Pair) → Contains (limit_pairs (outputs_of bound (node l r)) (outputs_of bound l) (outputs_of bound r)) p → IsShort n (limit_reason bound l r first id p)
+    → (p : Pair) → Contains (limit_pairs (outputs_of bound (node l r)) (outputs_of bound l) (outputs_of bound r)) p → IsShort n (limit_justification bound l r first id p)
 limit_short bound n l r first id low high known few p h =
     let s = totalizer bound in
     let next = id + 2 * fresh_of s l in
@@ -201,20 +201,20 @@ limit_short bound n l r first id low high known few p h =
     }
 
 limits_short : (bound n : ℕ) (l r : Tree) (first id : ℕ) → 1 ≤ id → id + 2 * fresh_of (totalizer bound) (node l r) < 2 ^ 63 → All (λ w. IsVariable w.lit.var) (leaves (node l r)) → length (leaves (node l r)) ≤ n
-    → (ps : List Pair) → ((p : Pair) → Contains ps p → Contains (limit_pairs (outputs_of bound (node l r)) (outputs_of bound l) (outputs_of bound r)) p) → All (IsShort n) (map (limit_reason bound l r first id) ps)
+    → (ps : List Pair) → ((p : Pair) → Contains ps p → Contains (limit_pairs (outputs_of bound (node l r)) (outputs_of bound l) (outputs_of bound r)) p) → All (IsShort n) (map (limit_justification bound l r first id) ps)
 limits_short bound n l r first id low high known few [] h = All-nil (IsShort n)
 limits_short bound n l r first id low high known few (p ∷ ps) h =
-    All-cons (IsShort n) (limit_reason bound l r first id p) (map (limit_reason bound l r first id) ps) (limit_short bound n l r first id low high known few p (h p (Contains-here p ps)))
+    All-cons (IsShort n) (limit_justification bound l r first id p) (map (limit_justification bound l r first id) ps) (limit_short bound n l r first id low high known few p (h p (Contains-here p ps)))
     (limits_short bound n l r first id low high known few ps (λ q m. h q (Contains-there p ps q m)))
 
 own_short : (bound n : ℕ) (l r : Tree) (first id : ℕ) → 1 ≤ id → id + 2 * fresh_of (totalizer bound) (node l r) < 2 ^ 63 → All (λ w. IsVariable w.lit.var) (leaves (node l r)) → length (leaves (node l r)) ≤ n
-    → All (IsShort n) (own_reasons bound l r first id)
+    → All (IsShort n) (own_justifications bound l r first id)
 own_short bound n l r first id low high known few =
-    All-append (IsShort n) (pair_reasons (totalizer bound) (totalizer_pairs (bound + 1)) l r first id) (limit_reasons bound l r first id)
+    All-append (IsShort n) (pair_justifications (totalizer bound) (totalizer_pairs (bound + 1)) l r first id) (limit_justifications bound l r first id)
     (pairs_own_short (totalizer bound) (IsCapped bound) (totalizer_lawful bound) (totalizer_pairs (bound + 1)) (totalizer_by_pairs bound) n l r first id low high known few)
     (limits_short bound n l r first id low high known few (limit_pairs (outputs_of bound (node l r)) (outputs_of bound l) (outputs_of bound r)) (λ p h. h))
 
-least_short : (bound n : ℕ) (t : Tree) (first id lower : ℕ) → 1 ≤ id → id + 2 * fresh_of (totalizer bound) t < 2 ^ 63 → IsId lower → 1 ≤ bound → bound ≤ outputs_of bound t → IsShort n (least_reason bound t first id lower)
+least_short : (bound n : ℕ) (t : Tree) (first id lower : ℕ) → 1 ≤ id → id + 2 * fresh_of (totalizer bound) t < 2 ^ 63 → IsId lower → 1 ≤ bound → bound ≤ outputs_of bound t → IsShort n (least_justification bound t first id lower)
 least_short bound n t first id lower low high given some within =
     let s = totalizer bound in
     let are = output_ids_are s (IsCapped bound) (totalizer_lawful bound) t id bound low high (value_from bound t bound some within) in
@@ -234,8 +234,8 @@ module _ (m : BoundedSum) (units : all_weigh 1 m.terms ≡ true) (proper : IsPro
   abbrev t : Tree
   t = tree_of m.terms
 
-  abbrev rs : List Reason
-  rs = exact_reasons m first next lower upper
+  abbrev rs : List Justification
+  rs = exact_justifications m first next lower upper
 
   light : weight m.terms < 2 ^ 100
   light = omega (arith, unit_weight m.terms units, few_terms)
@@ -256,18 +256,18 @@ module _ (m : BoundedSum) (units : all_weigh 1 m.terms ≡ true) (proper : IsPro
       let room = root_outputs m units proper in
       let top = value_from m.bound t (m.bound + 1) (omega arith) room in
       let size : length (leaves t) ≡ n = ap length (leaves_of m.terms) in
-      let last = root_reason s t first next upper in
-      All-append (IsShort n) (reasons_along s (own_reasons m.bound) t first next) (least_reason m.bound t first next lower ∷ last ∷ [])
-      (along_short n s (own_reasons m.bound) (own_short m.bound n) t first next (omega arith) (omega arith) (known_terms m.terms first (exact_fresh m) fits original) (omega arith))
-      (All-cons (IsShort n) (least_reason m.bound t first next lower) (last ∷ []) (least_short m.bound n t first next lower (omega arith) (omega arith) (lower_given, omega arith) proper.bound_from (omega arith))
+      let last = root_justification s t first next upper in
+      All-append (IsShort n) (justifications_along s (own_justifications m.bound) t first next) (least_justification m.bound t first next lower ∷ last ∷ [])
+      (along_short n s (own_justifications m.bound) (own_short m.bound n) t first next (omega arith) (omega arith) (known_terms m.terms first (exact_fresh m) fits original) (omega arith))
+      (All-cons (IsShort n) (least_justification m.bound t first next lower) (last ∷ []) (least_short m.bound n t first next lower (omega arith) (omega arith) (lower_given, omega arith) proper.bound_from (omega arith))
       (All-cons (IsShort n) last []
       (root_short s (IsCapped m.bound) (totalizer_lawful m.bound) (totalizer_pairs (m.bound + 1)) (totalizer_by_pairs m.bound) n t first next upper (omega arith) (omega arith) (upper_given, omega arith) top) (All-nil (IsShort n))))
 
   counted : length rs ≡ exact_size m
-  counted = sym (length-map rs clause_in) ∙ ap length (exact_reasons_clauses m first next lower upper) ∙ exact_counts m first
+  counted = sym (length-map rs clause_in) ∙ ap length (exact_justifications_clauses m first next lower upper) ∙ exact_counts m first
 
-  few_reasons : length rs < 5 * 2 ^ 60
-  few_reasons =
+  few_justifications : length rs < 5 * 2 ^ 60
+  few_justifications =
       let fits = from_below.fits in
       let fresh : exact_fresh m ≤ 2 ^ 31 = omega arith in
       omega (
@@ -280,26 +280,26 @@ module _ (m : BoundedSum) (units : all_weigh 1 m.terms ≡ true) (proper : IsPro
 
   pub exact_sayable : All IsSayable (exact_steps m first lower upper next)
   exact_sayable =
-      terms_sayable (totalizer m.bound) (totalizer_pairs (m.bound + 1)) (totalizer_by_pairs m.bound) m.terms (unit_weighs m units proper) light first next original starts rs few_reasons all_short
+      terms_sayable (totalizer m.bound) (totalizer_pairs (m.bound + 1)) (totalizer_by_pairs m.bound) m.terms (unit_weighs m units proper) light first next original starts rs few_justifications all_short
 
   all_gone : gone_in rs ≤ 2 * (exact_fresh m * length m.terms)
   all_gone =
       let s = totalizer m.bound in
       let n = length m.terms in
       let size : length (leaves t) ≡ n = ap length (leaves_of m.terms) in
-      let along = along_gone s (own_reasons m.bound) (λ u. 1 ≤ 1)
+      let along = along_gone s (own_justifications m.bound) (λ u. 1 ≤ 1)
       (λ l r h first id. omega (
         arith,
-        gone-append (pair_reasons s (totalizer_pairs (m.bound + 1)) l r first id) (limit_reasons m.bound l r first id),
+        gone-append (pair_justifications s (totalizer_pairs (m.bound + 1)) l r first id) (limit_justifications m.bound l r first id),
         pairs_gone_few s (totalizer_pairs (m.bound + 1)) (totalizer_sparing m.bound) l r first id h,
         limits_gone m.bound l r first id,
       )) t first next (λ u h. omega arith) in
       let same : exact_fresh m * length (leaves t) ≡ exact_fresh m * n = ap (λ (k : ℕ). exact_fresh m * k) size in
-      let ends = least_reason m.bound t first next lower ∷ root_reason s t first next upper ∷ [] in
+      let ends = least_justification m.bound t first next lower ∷ root_justification s t first next upper ∷ [] in
       let none : gone_in ends ≡ 0 = refl in
-      omega (arith, gone-append (reasons_along s (own_reasons m.bound) t first next) ends, along, same, none)
+      omega (arith, gone-append (justifications_along s (own_justifications m.bound) t first next) ends, along, same, none)
 
   pub exact_short : length m.terms ≤ 2 ^ 21 → AreShort (length m.terms) (exact_fresh m) (exact_size m) (exact_steps m first lower upper next)
   exact_short narrow =
       subst (λ (k : ℕ). AreShort (length m.terms) (exact_fresh m) k (exact_steps m first lower upper next)) counted
-      (terms_short (totalizer m.bound) (totalizer_pairs (m.bound + 1)) (totalizer_by_pairs m.bound) m.terms (unit_weighs m units proper) light first next original starts rs few_reasons all_short narrow all_gone)
+      (terms_short (totalizer m.bound) (totalizer_pairs (m.bound + 1)) (totalizer_by_pairs m.bound) m.terms (unit_weighs m units proper) light first next original starts rs few_justifications all_short narrow all_gone)

@@ -7,7 +7,7 @@ use Rattle.pb_norm.specs.Constraints.{Weighted, weight, weights}
 use Rattle.pb_derive.specs.Ones.{unit_of, ones}
 use Rattle.pb_family.specs.Fresh.{positive_of, literal_at}
 use Rattle.pb_amo.specs.Passing.{passing}
-use Rattle.pb_amo.specs.Source.{source_literals}
+use Rattle.pb_amo.specs.inner.Source.{source_literals}
 use Rattle.pb_amo.proofs.Visited.{Gathered, visits_start, visits_kept, visits_left, visits_out, visits_end}
 use Rattle.pb_amo.proofs.cells.gather.Goals as goal
 

@@ -1,5 +1,5 @@
 use Rattle.pb_norm.specs.Constraints.{weights}
-use Rattle.pb_amo.specs.Source.{source_literals}
+use Rattle.pb_amo.specs.inner.Source.{source_literals}
 use Rattle.pb_amo.proofs.Visited.{Gathered}
 use Rattle.pb_amo.proofs.cells.gather.Given as goal
 

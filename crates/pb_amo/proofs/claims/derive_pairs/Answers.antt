@@ -4,7 +4,7 @@ use Rattle.pb_family.specs.Fresh.{literal_at}
 use Rattle.pb_family.proofs.Deriving.{deriving_from}
 use Rattle.pb_family.proofs.Emission.{two_literals}
 use Rattle.pb_amo.specs.Pairwise.{pairwise_clauses}
-use Rattle.pb_amo.specs.Source.{source_literals}
+use Rattle.pb_amo.specs.inner.Source.{source_literals}
 use Rattle.pb_amo.proofs.Claiming.{claim_room, claim_fault, claim_step, left_pairs}
 use Rattle.pb_amo.proofs.claims.derive_pairs.Goals as goal
 
@@ -16,22 +16,22 @@ loop-j-init g c =
     let sink = g.T.StepSink in
     left_pairs c.args.id (source_literals c.args.literals.now) (sink.state c.args.sink.now) (sink.state c.loop-i.sink) c.loop-i.i (omega arith) c.loop-i.invariant
 
-pub take_propagated-requires : goal.take_propagated-requires
-take_propagated-requires g c =
+pub derive_propagated-requires : goal.derive_propagated-requires
+derive_propagated-requires g c =
     let sink = g.T.StepSink in
     let ms = source_literals c.args.literals.now in
     record {
       few = claim_room c.args.id ms (sink.state c.args.sink.now) (sink.state c.loop-j.sink) (literal_at ms c.loop-i.i) c.loop-j.j (pairwise_clauses (drop (c.loop-i.i + 1) ms)) (omega arith) c.loop-j.invariant c.requires.room;
     }
 
-pub returns-in_err-take_propagated : goal.returns-in_err-take_propagated
-returns-in_err-take_propagated g c =
+pub returns-in_err-derive_propagated : goal.returns-in_err-derive_propagated
+returns-in_err-derive_propagated g c =
     let sink = g.T.StepSink in
     let ms = source_literals c.args.literals.now in
     let m = literal_at ms c.loop-i.i in
     let same = two_literals _ _ (negated m) (negated (literal_at ms c.loop-j.j)) (c.not.ensures ∙ ap negated c.at.ensures) (c.not-in-loop-j.ensures ∙ ap negated c.at-in-loop-j.ensures) in
-    claim_fault c.args.id ms (sink.state c.args.sink.now) (sink.state c.loop-j.sink) m c.loop-j.j (pairwise_clauses (drop (c.loop-i.i + 1) ms)) (omega arith) c.loop-j.invariant _ (sink.state c.take_propagated.new.sink) same c.from_residual.result _ c.from_residual.ensures.1
-    c.in_err-take_propagated.ensures
+    claim_fault c.args.id ms (sink.state c.args.sink.now) (sink.state c.loop-j.sink) m c.loop-j.j (pairwise_clauses (drop (c.loop-i.i + 1) ms)) (omega arith) c.loop-j.invariant _ (sink.state c.derive_propagated.new.sink) same c.from_residual.result _ c.from_residual.ensures.1
+    c.in_err-derive_propagated.ensures
 
 pub loop-j-preserved : goal.loop-j-preserved
 loop-j-preserved g c =
@@ -39,4 +39,4 @@ loop-j-preserved g c =
     let ms = source_literals c.args.literals.now in
     let m = literal_at ms c.loop-i.i in
     let same = two_literals _ _ (negated m) (negated (literal_at ms c.loop-j.j)) (c.not.ensures ∙ ap negated c.at.ensures) (c.not-in-loop-j.ensures ∙ ap negated c.at-in-loop-j.ensures) in
-    claim_step c.args.id ms (sink.state c.args.sink.now) (sink.state c.loop-j.sink) m c.loop-j.j (pairwise_clauses (drop (c.loop-i.i + 1) ms)) (omega arith) c.loop-j.invariant _ (sink.state c.take_propagated.new.sink) same c.in_ok-take_propagated.ensures
+    claim_step c.args.id ms (sink.state c.args.sink.now) (sink.state c.loop-j.sink) m c.loop-j.j (pairwise_clauses (drop (c.loop-i.i + 1) ms)) (omega arith) c.loop-j.invariant _ (sink.state c.derive_propagated.new.sink) same c.in_ok-derive_propagated.ensures

@@ -1,7 +1,7 @@
 use Rattle.std.proofs.Common.{◌+◌, ◌++◌, drop}
 use Rattle.pb_family.specs.Fresh.{literal_at}
 use Rattle.pb_amo.specs.Pairwise.{pairwise_clauses}
-use Rattle.pb_amo.specs.Source.{source_literals}
+use Rattle.pb_amo.specs.inner.Source.{source_literals}
 use Rattle.pb_amo.proofs.Claiming.{Left}
 use Rattle.pb_amo.proofs.Steps.{row}
 use Rattle.pb_amo.proofs.claims.derive_pairs.Given as goal

@@ -1,15 +1,15 @@
 use Rattle.std.proofs.Common.{ap}
-use Rattle.pb_check.specs.declared.kept.Kept.{Kept}
+use Rattle.pb_check.specs.declared.kept.CollectedClauses.{CollectedClauses}
 use Rattle.pb_check.proofs.KeepingRuns.{kept_all, kept_none}
 use Rattle.pb_check.proofs.checking.check_kept.Goals as goal
 
 pub check_by-requires-clause-nothing : goal.check_by-requires-clause-nothing
-check_by-requires-clause-nothing g c = ap (λ (k : Kept). k.clauses) c.all-kept.ensures
+check_by-requires-clause-nothing g c = ap (λ (k : CollectedClauses). k.clauses) c.all-kept.ensures
 
 pub returns-in-Accepted-clause-kept : goal.returns-in-Accepted-clause-kept
 returns-in-Accepted-clause-kept g c =
     let a = g.D.Desk.state c.args.desk.now in
-    kept_all a c.args.cnf c.in-Ok.found.0 c.in-Ok.found.1 c.check_by.new.kept.clauses c.in-Accepted.is (c.in-Ok.ensures.clauses (ap (λ (k : Kept). k.wanted) c.all-kept.ensures) c.in-Accepted.is)
+    kept_all a c.args.cnf c.in-Ok.found.0 c.in-Ok.found.1 c.check_by.new.kept.clauses c.in-Accepted.is (c.in-Ok.ensures.clauses (ap (λ (k : CollectedClauses). k.wanted) c.all-kept.ensures) c.in-Accepted.is)
 
 pub returns-in-Rejected-clause-kept : goal.returns-in-Rejected-clause-kept
 returns-in-Rejected-clause-kept g c =

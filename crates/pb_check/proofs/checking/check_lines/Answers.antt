@@ -1,8 +1,8 @@
 use Rattle.std.proofs.Common.{Option, subst}
 use Rattle.pb_check.specs.declared.verdict.Verdict.{Verdict}
 use Rattle.pb_desk.specs.TwoSlots.{ReadsBoth}
-use Rattle.pb_check.specs.laws.Phases.{StepsGive}
-use Rattle.pb_check.specs.laws.Keeping.{KeepsSteps, KeptAll, Tells}
+use Rattle.pb_check.specs.inner.Phases.{StepsGive}
+use Rattle.pb_check.specs.inner.Keeping.{KeepsSteps, KeptAll, Tells}
 use Rattle.pb_check.proofs.KeepingRuns.{before, behind, waits, waits_then}
 use Rattle.pb_check.proofs.LineRuns.{begun, ready, head_fault, count_fault, steps_fault, steps_verdict, done, rest_verdict, rest_fault, apart_then}
 use Rattle.pb_check.proofs.checking.check_lines.Goals as goal

@@ -1,7 +1,7 @@
 use Rattle.std.proofs.Common.{length, subst}
 use Rattle.std.specs.Prelude.{IfOk, IfErr}
 use Rattle.pb_steps.specs.Database.{Database}
-use Rattle.pb_check.specs.laws.Calls.{AnswersLines, StopsLines}
+use Rattle.pb_check.specs.inner.Calls.{AnswersLines, StopsLines}
 use Rattle.pb_check.proofs.WholeRuns.{none_read}
 use Rattle.pb_check.proofs.checking.check_over.Goals as goal
 

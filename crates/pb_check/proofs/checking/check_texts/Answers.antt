@@ -5,7 +5,7 @@ use Rattle.pb_dimacs.specs.CnfReaders.{CnfReader}
 use Rattle.pb_steps.specs.Operations.{IsNarrow}
 use Rattle.pb_check.specs.Outcomes.{StopsCheck}
 use Rattle.pb_check.specs.declared.verdict.Verdict.{Verdict}
-use Rattle.pb_check.specs.laws.Keeping.{KeepsLines}
+use Rattle.pb_check.specs.inner.Keeping.{KeepsLines}
 use Rattle.pb_check.proofs.KeepingRuns.{clauses_told, vars_told}
 use Rattle.pb_check.proofs.Loading.{loaded_within, loaded_narrow}
 use Rattle.pb_check.proofs.WholeRuns.{AreNew, IsLoaded, lines_given, lines_stopped, too_few, walk_given, walk_stopped, walk_unstarted}

@@ -3,7 +3,7 @@ use Rattle.pb_desk.proofs.ReadLemmas.{reads_begin}
 use Rattle.pb_dimacs.specs.Cursors.{rows_left, GivesRow}
 use Rattle.pb_dimacs.proofs.RowLemmas.{row_given, row_stopped}
 use Rattle.pb_check.specs.declared.verdict.CheckFault.{CheckFault}
-use Rattle.pb_check.specs.laws.Phases.{NextStops, StopsOne}
+use Rattle.pb_check.specs.inner.Phases.{NextStops, StopsOne}
 use Rattle.pb_desk.specs.LineReaders.{GivesLine}
 use Rattle.pb_check.proofs.NextLines.{SaysSame, row_stops, row_unsaid, row_said, row_last, row_faulty}
 use Rattle.pb_check.proofs.reading.next_step.Goals as goal

@@ -1,7 +1,7 @@
 use Rattle.std.proofs.Common.{◌≡◌, ◌≤◌, ◌-◌, ◌^◌}
 use Rattle.pb_desk.specs.LineReading.{TakesAhead}
 use Rattle.pb_dimacs.specs.Cursors.{rows_left, GoesOn}
-use Rattle.pb_check.specs.laws.Phases.{behind_blank}
+use Rattle.pb_check.specs.inner.Phases.{behind_blank}
 use Rattle.pb_check.proofs.reading.next_step.Given as goal
 
 abbrev pub invariant-rows : goal.invariant-rows

@@ -2,8 +2,8 @@ use Rattle.std.proofs.Common.{refl, ◌∙◌, subst}
 use Rattle.pb_desk.specs.TwoSlots.{ReadsBoth}
 use Rattle.pb_check.specs.declared.taking.Taken.{Taken}
 use Rattle.pb_check.specs.declared.taking.Taken.TheVariants as taken
-use Rattle.pb_check.specs.laws.Keeping.{KeepsLine}
-use Rattle.pb_check.specs.laws.Phases.{LineGives}
+use Rattle.pb_check.specs.inner.Keeping.{KeepsLine}
+use Rattle.pb_check.specs.inner.Phases.{LineGives}
 use Rattle.pb_dimacs.proofs.CursorLemmas.{goes_then}
 use Rattle.pb_desk.proofs.BothSlots.{both_begin}
 use Rattle.pb_check.proofs.KeepingRuns.{none_kept, keeps_on, keeps_out, keeps_denied}

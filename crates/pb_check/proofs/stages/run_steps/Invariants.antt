@@ -2,8 +2,8 @@ use Rattle.std.proofs.Common.{◌≡◌, ◌-◌, ◌^◌, None}
 use Rattle.pb_dimacs.specs.Cursors.{GoesOn}
 use Rattle.pb_desk.specs.TwoSlots.{ReadsBoth}
 use Rattle.pb_check.specs.declared.taking.Taken.TheVariants.{On}
-use Rattle.pb_check.specs.laws.Keeping.{KeepsLine}
-use Rattle.pb_check.specs.laws.Phases.{LineGives}
+use Rattle.pb_check.specs.inner.Keeping.{KeepsLine}
+use Rattle.pb_check.specs.inner.Phases.{LineGives}
 use Rattle.pb_check.proofs.stages.run_steps.Given as goal
 
 abbrev pub invariant-steps : goal.invariant-steps

@@ -6,7 +6,7 @@ use Rattle.pb_steps.specs.declared.step.Step.{Step}
 use Rattle.pb_check.specs.Turns.Stage.{count_wanted}
 use Rattle.pb_check.specs.Turns.{Task}
 use Rattle.pb_check.specs.Outcomes.{NamesText}
-use Rattle.pb_check.specs.laws.Phases.{says_nothing, NextSays}
+use Rattle.pb_check.specs.inner.Phases.{says_nothing, NextSays}
 use Rattle.pb_check.proofs.Places.{count_stops, miscounted_stops, early_stops, count_leads}
 use Rattle.pb_check.proofs.stages.take_count.Goals as goal
 
@@ -16,7 +16,7 @@ returns-in_default-clause-stopped g c =
     let new = c.next_step.new.lines in
     let a = g.D.Desk.state c.args.desk.now in
     let b = g.D.Desk.state c.next_step.new.desk in
-    early_stops c.ended.result count_wanted (λ (task : Task). length task.loaded ≡ c.args.loaded) old new a b c.ended.ensures refl
+    early_stops c.end_fault.result count_wanted (λ (task : Task). length task.loaded ≡ c.args.loaded) old new a b c.end_fault.ensures refl
     (subst (λ (o : Option Step). TakesAhead old.slot old.ahead new.ahead a b (λ text rest. NextSays o new (rows_left old text) (rows_left new rest))) c.in_default.is c.in-Ok.ensures.next)
 
 pub returns-then-count-loaded-clause-leads : goal.returns-then-count-loaded-clause-leads

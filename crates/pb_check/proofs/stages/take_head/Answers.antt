@@ -4,7 +4,7 @@ use Rattle.pb_desk.specs.LineReading.{TakesAhead}
 use Rattle.pb_dimacs.specs.Cursors.{rows_left}
 use Rattle.pb_steps.specs.declared.step.Step.{Step}
 use Rattle.pb_check.specs.Outcomes.{NamesText}
-use Rattle.pb_check.specs.laws.Phases.{says_nothing, NextSays}
+use Rattle.pb_check.specs.inner.Phases.{says_nothing, NextSays}
 use Rattle.pb_check.proofs.Places.{head_stops, head_early, head_leads}
 use Rattle.pb_check.proofs.stages.take_head.Goals as goal
 
@@ -14,7 +14,7 @@ returns-in_default-clause-stopped g c =
     let new = c.next_step.new.lines in
     let a = g.D.Desk.state c.args.desk.now in
     let b = g.D.Desk.state c.next_step.new.desk in
-    head_early c.ended.result old new a b c.ended.ensures
+    head_early c.end_fault.result old new a b c.end_fault.ensures
     (subst (λ (o : Option Step). TakesAhead old.slot old.ahead new.ahead a b (λ text rest. NextSays o new (rows_left old text) (rows_left new rest))) c.in_default.is c.in-Ok.ensures.next)
 
 pub returns-in-Head-clause-leads : goal.returns-in-Head-clause-leads

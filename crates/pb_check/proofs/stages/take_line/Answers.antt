@@ -4,8 +4,8 @@ use Rattle.pb_dimacs.specs.Cursors.{rows_left}
 use Rattle.pb_steps.specs.declared.step.Step.{Step}
 use Rattle.pb_check.specs.Turns.{Task, step_turn}
 use Rattle.pb_desk.specs.TwoSlots.{ReadsBoth}
-use Rattle.pb_check.specs.laws.Phases.{StopsOne, StopsBoth, NextSays, clauses_of, TurnGives, TurnStops, LineGives, StepsStop}
-use Rattle.pb_check.specs.laws.Keeping.{KeepsLine, KeepsNext}
+use Rattle.pb_check.specs.inner.Phases.{StopsOne, StopsBoth, NextSays, clauses_of, TurnGives, TurnStops, LineGives, StepsStop}
+use Rattle.pb_check.specs.inner.Keeping.{KeepsLine, KeepsNext}
 use Rattle.pb_check.proofs.KeepingRuns.{line_keeps}
 use Rattle.pb_check.proofs.Takes.{at_err, at_ok}
 use Rattle.pb_check.proofs.StepRuns.{took, line_gives, line_fault, line_missing, line_stop}
@@ -21,7 +21,7 @@ returns-in_default-clause-stopped g c =
     let new = c.next_step.new.lines in
     let a = g.D.Desk.state c.args.desk.now in
     let b = g.D.Desk.state c.next_step.new.desk in
-    line_missing c.ended.result c.args.cnf.now c.args.db.now old new a b c.ended.ensures c.in-Ok.ensures.slot c.requires.apart
+    line_missing c.end_fault.result c.args.cnf.now c.args.db.now old new a b c.end_fault.ensures c.in-Ok.ensures.slot c.requires.apart
     (subst (λ (o : Option Step). TakesAhead old.slot old.ahead new.ahead a b (λ text rest. NextSays o new (rows_left old text) (rows_left new rest))) c.in_default.is c.in-Ok.ensures.next)
 
 pub returns-clause-gives : goal.returns-clause-gives

@@ -3,7 +3,7 @@ use Rattle.std.specs.Prelude.{IfSome}
 use Rattle.pb_desk.specs.LineReading.{TakesAhead}
 use Rattle.pb_dimacs.specs.Cursors.{rows_left}
 use Rattle.pb_steps.specs.declared.step.Step.{Step}
-use Rattle.pb_check.specs.laws.Phases.{says_nothing, NextSays}
+use Rattle.pb_check.specs.inner.Phases.{says_nothing, NextSays}
 use Rattle.pb_check.proofs.Places.{rest_stops, rest_ends}
 use Rattle.pb_check.proofs.stages.take_rest.Goals as goal
 

@@ -1,7 +1,7 @@
 use Rattle.std.proofs.Common.{List, Option, Ok, ap, subst}
 use Rattle.pb_base.specs.declared.literal.Lit.{Lit}
 use Rattle.pb_steps.specs.declared.step.Step.TheVariants.{Out}
-use Rattle.pb_check.specs.laws.Judging.{IsJudged}
+use Rattle.pb_check.specs.inner.Judging.{IsJudged}
 use Rattle.pb_check.proofs.Keeping.{by_taken, keeps_next}
 use Rattle.pb_check.proofs.KeepingRuns.{judged_not_last}
 use Rattle.pb_check.proofs.Takes.{out_given}

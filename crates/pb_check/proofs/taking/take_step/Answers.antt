@@ -5,10 +5,10 @@ use Rattle.pb_steps.specs.declared.step.Step.{Step}
 use Rattle.pb_check.specs.declared.taking.Taken.TheVariants.{On}
 use Rattle.pb_check.specs.Turns.{Task, step_turn, at_out, at_end, next_in}
 use Rattle.pb_check.specs.Faults.{misplaced_line}
-use Rattle.pb_check.specs.laws.Phases.{StopsOne, clauses_of, TurnGives, TurnStops}
+use Rattle.pb_check.specs.inner.Phases.{StopsOne, clauses_of, TurnGives, TurnStops}
 use Rattle.pb_check.proofs.NextLines.{stops_weaker}
-use Rattle.pb_check.specs.declared.kept.Kept.{Kept}
-use Rattle.pb_check.specs.laws.Keeping.{KeepsNext}
+use Rattle.pb_check.specs.declared.kept.CollectedClauses.{CollectedClauses}
+use Rattle.pb_check.specs.inner.Keeping.{KeepsNext}
 use Rattle.pb_check.proofs.Keeping.{rule_keeps}
 use Rattle.pb_check.proofs.KeepingRuns.{judged_not_last}
 use Rattle.pb_check.proofs.Takes.{rule_given, misplaced_stops, at_err, at_ok}
@@ -96,7 +96,7 @@ returns-in-End-clause-keeps g c =
     let new = c.end_steps.new.cnf in
     let a = g.D.Desk.state c.args.desk.now in
     let b = g.D.Desk.state c.end_steps.new.desk in
-    at_ok c.end_steps.result (λ got. (k : Kept) → KeepsNext got k r k new a b) (λ got. KeepsNext got c.args.kept.now r c.args.kept.now new a b) (λ got keeps. keeps c.args.kept.now) c.end_steps.ensures.keeps
+    at_ok c.end_steps.result (λ got. (k : CollectedClauses) → KeepsNext got k r k new a b) (λ got. KeepsNext got c.args.kept.now r c.args.kept.now new a b) (λ got keeps. keeps c.args.kept.now) c.end_steps.ensures.keeps
 
 pub returns-in-Ok-clause-keeps : goal.returns-in-Ok-clause-keeps
 returns-in-Ok-clause-keeps g c =

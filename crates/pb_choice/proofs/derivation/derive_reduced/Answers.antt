@@ -5,7 +5,7 @@ use Rattle.pb_steps.specs.declared.step.Step.TheVariants.{Del}
 use Rattle.pb_steps.specs.Steps.{takes_id}
 use Rattle.pb_family.proofs.Deriving.{deriving_as, deriving_starts, deriving_step, steps_fault, steps_last}
 use Rattle.pb_choice.specs.SumSteps.{sum_steps}
-use Rattle.pb_choice.specs.laws.Chosen.{chosen_derivable, sum_at, treatment_at}
+use Rattle.pb_choice.specs.inner.Chosen.{chosen_derivable, sum_at, treatment_at}
 use Rattle.pb_choice.specs.laws.SumDerives.{sum_few}
 use Rattle.pb_choice.proofs.PlanSteps.{one_id}
 use Rattle.pb_choice.proofs.derivation.derive_reduced.Goals as goal
@@ -24,8 +24,8 @@ derive-requires g c =
       few = omega (arith, ids, one, c.requires.few);
     }
 
-pub take_deletion-requires : goal.take_deletion-requires
-take_deletion-requires g c =
+pub derive_deletion-requires : goal.derive_deletion-requires
+derive_deletion-requires g c =
     let f = c.args.chosen.now in
     let ids = c.in_ok-step.ensures.hands.ids in
     let one = one_id c.args.reduces.now c.requires.takes in
@@ -69,7 +69,7 @@ returns g c =
     let old = g.T.StepSink.state c.args.sink.now in
     let mid = g.T.StepSink.state c.step.new.self in
     let after = g.T.StepSink.state c.derive.new.sink in
-    let end = g.T.StepSink.state c.take_deletion.new.sink in
+    let end = g.T.StepSink.state c.derive_deletion.new.sink in
     let steps : ℕ → ℕ → List Step = λ id next. sum_steps (treatment_at f) (sum_at f) c.args.first id next in
     let last : List Step = Del (old.next ∷ []) ∷ [] in
     let all : List Step = c.args.reduces.now ∷ (steps old.next (old.next + 1) ++ last) in
@@ -79,4 +79,4 @@ returns g c =
     let here = deriving_as (ap (λ (n : ℕ). steps n (old.next + 1) ++ last) given ∙ ap (λ (n : ℕ). steps own n ++ last) next)
     (deriving_step {left = steps old.next (old.next + 1) ++ last} (c.args.reduces.now ∷ []) mid (deriving_starts all old) taken) in
     let there = deriving_as (ap (λ (n : ℕ). Del (n ∷ []) ∷ []) given) (deriving_step {left = last} (steps own mid.next) after here c.in_ok-derive.ensures) in
-    steps_last c.take_deletion.result (Del (own ∷ []) ∷ []) end there c.take_deletion.ensures
+    steps_last c.derive_deletion.result (Del (own ∷ []) ∷ []) end there c.derive_deletion.ensures

@@ -11,25 +11,25 @@ use Rattle.pb_choice.proofs.derivation.derive_units.Goals as goal
 pub loop-unit-init : goal.loop-unit-init
 loop-unit-init g c = (deriving_starts _ _, refl)
 
-pub take_propagated-requires : goal.take_propagated-requires
-take_propagated-requires g c =
+pub derive_propagated-requires : goal.derive_propagated-requires
+derive_propagated-requires g c =
     let us = c.as_slice-unit-items.result.now in
     let rest = units_left us c.loop-unit.unit-index c.unit-item.result c.loop-unit-test.true c.unit-item.is in
     let same : length us ≡ length c.args.units.now = ap length c.as_slice-unit-items.ensures in
     record { few = omega (arith, c.loop-unit.invariant.1, ap length rest, same, c.requires.room) }
 
-pub returns-in_err-take_propagated : goal.returns-in_err-take_propagated
-returns-in_err-take_propagated g c =
+pub returns-in_err-derive_propagated : goal.returns-in_err-derive_propagated
+returns-in_err-derive_propagated g c =
     let us = c.as_slice-unit-items.result.now in
     let i = c.loop-unit.unit-index in
     let u = c.unit-item.result in
     let id = c.args.id in
     let old = g.T.StepSink.state c.args.sink.now in
     let now = g.T.StepSink.state c.loop-unit.sink in
-    let after = g.T.StepSink.state c.take_propagated.new.sink in
+    let after = g.T.StepSink.state c.derive_propagated.new.sink in
     let r = c.from_residual.result in
     let here = deriving_as (units_split id now.next us i u c.loop-unit-test.true c.unit-item.is) c.loop-unit.invariant.0 in
-    let failed : HandsSteps (claim_steps old.next (unit_claims id us)) r old after = steps_fault r _ (propagated now.next (id ∷ []) (u ∷ [])) (claim_steps (now.next + 1) (unit_claims id (drop (i + 1) us))) after c.from_residual.ensures.1 here c.in_err-take_propagated.ensures in
+    let failed : HandsSteps (claim_steps old.next (unit_claims id us)) r old after = steps_fault r _ (propagated now.next (id ∷ []) (u ∷ [])) (claim_steps (now.next + 1) (unit_claims id (drop (i + 1) us))) after c.from_residual.ensures.1 here c.in_err-derive_propagated.ensures in
     subst (λ (ls : List Lit). HandsSteps (claim_steps old.next (unit_claims id ls)) r old after) c.as_slice-unit-items.ensures failed
 
 pub loop-unit-preserved : goal.loop-unit-preserved
@@ -39,9 +39,9 @@ loop-unit-preserved g c =
     let u = c.unit-item.result in
     let id = c.args.id in
     let now = g.T.StepSink.state c.loop-unit.sink in
-    let after = g.T.StepSink.state c.take_propagated.new.sink in
+    let after = g.T.StepSink.state c.derive_propagated.new.sink in
     let here = deriving_as (units_split id now.next us i u c.loop-unit-test.true c.unit-item.is) c.loop-unit.invariant.0 in
-    let taken = c.in_ok-take_propagated.ensures in
+    let taken = c.in_ok-derive_propagated.ensures in
     let ids : after.next ≡ now.next + 1 = taken.ids in
     let next : now.next + 1 ≡ after.next = omega (arith, ids) in
     let rest = units_left us i u c.loop-unit-test.true c.unit-item.is in (

@@ -5,7 +5,7 @@ use Rattle.pb_norm.specs.Constraints.{Weighted}
 use Rattle.pb_steps.specs.declared.step.Step.{Step}
 use Rattle.pb_steps.specs.Steps.{takes_id}
 use Rattle.pb_family.proofs.Deriving.{deriving_as, deriving_starts, deriving_step, steps_fault, steps_last}
-use Rattle.pb_choice.specs.laws.HalfPlans.{halves_steps, plan_fresh, plan_steps}
+use Rattle.pb_choice.specs.HalfPlans.{halves_steps, plan_fresh, plan_steps}
 use Rattle.pb_choice.proofs.EqualIds.{halves_ids}
 use Rattle.pb_choice.proofs.equal_halves.derive_halves.Goals as goal
 

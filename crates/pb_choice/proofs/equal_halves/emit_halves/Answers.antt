@@ -4,7 +4,7 @@ use Rattle.pb_base.specs.declared.literal.Lit.{Lit}
 use Rattle.pb_norm.specs.Constraints.{Weighted}
 use Rattle.pb_family.proofs.Emission.{Emitting, emitting_starts, emitting_step}
 use Rattle.pb_family.proofs.Stopping.{stops_fault, stops_last}
-use Rattle.pb_choice.specs.laws.HalfPlans.{halves_clauses, plan_clauses, plan_fresh}
+use Rattle.pb_choice.specs.HalfPlans.{halves_clauses, plan_clauses, plan_fresh}
 use Rattle.pb_choice.proofs.equal_halves.emit_halves.Goals as goal
 
 pub returns-in_err-emit : goal.returns-in_err-emit

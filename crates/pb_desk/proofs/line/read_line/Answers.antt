@@ -1,7 +1,7 @@
 use Rattle.std.proofs.Common.{◌≡◌, ap, sym, ◌∙◌, true, false, List, ℕ, Bool, subst}
 use Rattle.pb_desk.specs.declared.line.Found.{Found}
 use Rattle.pb_desk.specs.LineReading.{TakesAhead}
-use Rattle.pb_desk.specs.laws.PieceReading.{Finds, StopsLine, TakesPiece, found_at_end}
+use Rattle.pb_desk.specs.inner.PieceReading.{Finds, StopsLine, TakesPiece, found_at_end}
 use Rattle.pb_desk.proofs.ReadLemmas.{end_found, line_fails, line_found, line_grows, line_stops, of_failed, refilled_line}
 use Rattle.pb_desk.proofs.line.read_line.Goals as goal
 

@@ -1,6 +1,6 @@
 use Rattle.std.proofs.Common.{◌≡◌, ◌++◌, ◌-◌, length}
 use Rattle.pb_desk.specs.LineReading.{TakesAhead}
-use Rattle.pb_desk.specs.laws.PieceReading.{InLine}
+use Rattle.pb_desk.specs.inner.PieceReading.{InLine}
 use Rattle.pb_desk.proofs.line.read_line.Given as goal
 
 abbrev pub invariant-pieces : goal.invariant-pieces

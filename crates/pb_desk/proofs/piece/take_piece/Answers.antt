@@ -1,14 +1,14 @@
 use Rattle.std.proofs.Common.{◌-◌, ap, sym, ◌∙◌, length, ℕ, Bool, List, Option, subst}
 use Rattle.pb_base.specs.declared.limit.LimitKind.{LimitKind}
-use Rattle.pb_desk.specs.declared.limits.Left.{Left}
+use Rattle.pb_desk.specs.declared.limits.Remaining.{Remaining}
 use Rattle.pb_desk.specs.Limits.{limit_of_piece}
 use Rattle.pb_desk.specs.LineReading.{Held}
-use Rattle.pb_desk.specs.laws.PieceReading.{IsPiece}
+use Rattle.pb_desk.specs.inner.PieceReading.{IsPiece}
 use Rattle.pb_desk.proofs.PieceLemmas.{stopped_by, taken_piece}
 use Rattle.pb_desk.proofs.piece.take_piece.Goals as goal
 
 -- the limit that the code tests
-abbrev limit : Left → ℕ → Bool → List ℕ → Option LimitKind
+abbrev limit : Remaining → ℕ → Bool → List ℕ → Option LimitKind
 limit left count is_ended so_far = limit_of_piece (left.text - length so_far) left.is_last (left.line - length so_far) count is_ended
 
 pub returns-in-Some-clause-stopped : goal.returns-in-Some-clause-stopped

@@ -2,29 +2,29 @@ use Rattle.std.proofs.Common.{ap, arith}
 use Rattle.pb_base.specs.declared.literal.Lit.{Lit}
 use Rattle.pb_norm.specs.Constraints.{weight, weights}
 use Rattle.pb_derive.proofs.Opposites.{weight-opposite}
-use Rattle.pb_diagram.proofs.MeaningSteps.{meaning_from, meaning_next, meaning_fault, meaning_ends}
+use Rattle.pb_diagram.proofs.ReificationSteps.{reification_from, reification_next, reification_fault, reification_ends}
 use Rattle.pb_diagram.proofs.derivation.define_level.Goals as goal
 
 pub loop-place-init : goal.loop-place-init
-loop-place-init g c = meaning_from c.args.first (weights c.args.terms.now) c.args.nodes.now (g.T.StepSink.state c.args.sink.now)
+loop-place-init g c = reification_from c.args.first (weights c.args.terms.now) c.args.nodes.now (g.T.StepSink.state c.args.sink.now)
 
-pub take_meaning-requires-clause-light : goal.take_meaning-requires-clause-light
-take_meaning-requires-clause-light g c = omega (arith, ap weight c.requires.turned, weight-opposite (weights c.args.terms.now), c.weight_of-whole.ensures, c.requires.light)
+pub derive_reification-requires-clause-light : goal.derive_reification-requires-clause-light
+derive_reification-requires-clause-light g c = omega (arith, ap weight c.requires.turned, weight-opposite (weights c.args.terms.now), c.weight_of-whole.ensures, c.requires.light)
 
-pub returns-in_err-take_meaning : goal.returns-in_err-take_meaning
-returns-in_err-take_meaning g c =
+pub returns-in_err-derive_reification : goal.returns-in_err-derive_reification
+returns-in_err-derive_reification g c =
     let old = g.T.StepSink.state c.args.sink.now in
     let now = g.T.StepSink.state c.loop-place.sink in
-    meaning_fault c.args.first (weights c.args.terms.now) c.args.nodes.now c.loop-place.place old now _ c.loop-place-test.true c.loop-place.invariant _ c.weight_of-whole.result (weights c.args.negated.now)
-    (ap (λ (l : Lit). l.var) c.fresh_at-var.ensures) c.weight_of-whole.ensures c.requires.turned c.from_residual.result _ (g.T.StepSink.state c.take_meaning.new.sink) c.from_residual.ensures.1 c.in_err-take_meaning.ensures
+    reification_fault c.args.first (weights c.args.terms.now) c.args.nodes.now c.loop-place.place old now _ c.loop-place-test.true c.loop-place.invariant _ c.weight_of-whole.result (weights c.args.negated.now)
+    (ap (λ (l : Lit). l.var) c.fresh_at-var.ensures) c.weight_of-whole.ensures c.requires.turned c.from_residual.result _ (g.T.StepSink.state c.derive_reification.new.sink) c.from_residual.ensures.1 c.in_err-derive_reification.ensures
 
 pub loop-place-preserved : goal.loop-place-preserved
 loop-place-preserved g c =
     let old = g.T.StepSink.state c.args.sink.now in
     let now = g.T.StepSink.state c.loop-place.sink in
-    meaning_next c.args.first (weights c.args.terms.now) c.args.nodes.now c.loop-place.place old now _ c.loop-place-test.true c.loop-place.invariant _ c.weight_of-whole.result (weights c.args.negated.now)
-    (ap (λ (l : Lit). l.var) c.fresh_at-var.ensures) c.weight_of-whole.ensures c.requires.turned (g.T.StepSink.state c.take_meaning.new.sink) c.in_ok-take_meaning.ensures
+    reification_next c.args.first (weights c.args.terms.now) c.args.nodes.now c.loop-place.place old now _ c.loop-place-test.true c.loop-place.invariant _ c.weight_of-whole.result (weights c.args.negated.now)
+    (ap (λ (l : Lit). l.var) c.fresh_at-var.ensures) c.weight_of-whole.ensures c.requires.turned (g.T.StepSink.state c.derive_reification.new.sink) c.in_ok-derive_reification.ensures
 
 pub returns : goal.returns
 returns g c =
-    meaning_ends c.args.first (weights c.args.terms.now) c.args.nodes.now c.loop-place.place (g.T.StepSink.state c.args.sink.now) (g.T.StepSink.state c.loop-place.sink) (omega arith) c.loop-place.invariant
+    reification_ends c.args.first (weights c.args.terms.now) c.args.nodes.now c.loop-place.place (g.T.StepSink.state c.args.sink.now) (g.T.StepSink.state c.loop-place.sink) (omega arith) c.loop-place.invariant

@@ -1,5 +1,5 @@
 use Rattle.pb_norm.specs.Constraints.{weights}
-use Rattle.pb_diagram.proofs.MeaningSteps.{Defining}
+use Rattle.pb_diagram.proofs.ReificationSteps.{Defining}
 use Rattle.pb_diagram.proofs.derivation.define_level.Given as goal
 
 abbrev pub invariant-loop-place : goal.invariant-loop-place

@@ -3,17 +3,17 @@ use Rattle.std.specs.Prelude.{All}
 use Rattle.std.proofs.lemmas.List.{length-map}
 use Rattle.pb_norm.specs.Constraints.{Weighted, weight, weighted, weights}
 use Rattle.pb_norm.specs.BoundedSums.{sum_within}
-use Rattle.pb_derive.specs.Meanings.{meaning_steps}
+use Rattle.pb_derive.specs.Reifications.{reification_steps}
 use Rattle.pb_family.specs.Fresh.{positive_of}
 use Rattle.pb_family.specs.StepSinks.{TakesSteps}
 use Rattle.pb_family.proofs.Deriving.{deriving_from, deriving_as, deriving_ends}
-use Rattle.pb_family.proofs.Sequence.{meanings_ids}
+use Rattle.pb_family.proofs.Sequence.{reifications_ids}
 use Rattle.pb_family.proofs.TermSlices.{weights_from, light_from}
 use Rattle.pb_diagram.specs.declared.interval.Interval.{Interval}
 use Rattle.pb_diagram.specs.Clauses.{node_count}
-use Rattle.pb_diagram.specs.DiagramSteps.{level_meanings, node_meanings}
-use Rattle.pb_diagram.specs.laws.NodeMeanings.{length-level}
-use Rattle.pb_diagram.proofs.MeaningSteps.{meanings_taken, meanings_stop, level_stops, nodes_left, nodes_within, nodes_count, no_meaning, turned_from, turned_length}
+use Rattle.pb_diagram.specs.DiagramSteps.{level_reifications, node_reifications}
+use Rattle.pb_diagram.specs.laws.NodeReifications.{length-level}
+use Rattle.pb_diagram.proofs.ReificationSteps.{reifications_taken, reifications_stop, level_stops, nodes_left, nodes_within, nodes_count, no_reification, turned_from, turned_length}
 use Rattle.pb_diagram.proofs.derivation.define_nodes.Goals as goal
 
 abbrev none : Weighted
@@ -59,8 +59,8 @@ returns-in_err-define_level g c =
     let after = g.T.StepSink.state c.define_level.new.sink in
     let i = c.loop-i.i in
     let nodes = c.nodes_after-nodes.result.now in
-    let begun = deriving_as (ap (meaning_steps now.next) (nodes_left of c.args.levels.now i none c.requires.nodes (omega (arith, length-map c.args.terms.now weighted, c.loop-i-test.true)) nodes c.nodes_after-nodes.ensures c.loop-i.start)) c.loop-i.invariant.taken in
-    meanings_stop (level_meanings c.loop-i.start (drop i of.terms) nodes) (node_meanings (c.loop-i.start + length nodes) (drop (i + 1) of.terms) (drop (i + 1) c.args.levels.now)) old now begun c.from_residual.result _ after c.from_residual.ensures.1
+    let begun = deriving_as (ap (reification_steps now.next) (nodes_left of c.args.levels.now i none c.requires.nodes (omega (arith, length-map c.args.terms.now weighted, c.loop-i-test.true)) nodes c.nodes_after-nodes.ensures c.loop-i.start)) c.loop-i.invariant.taken in
+    reifications_stop (level_reifications c.loop-i.start (drop i of.terms) nodes) (node_reifications (c.loop-i.start + length nodes) (drop (i + 1) of.terms) (drop (i + 1) c.args.levels.now)) old now begun c.from_residual.result _ after c.from_residual.ensures.1
     (level_stops c.loop-i.start nodes _ (drop i of.terms) now after (weights_from c.args.terms.now i i refl) c.in_err-define_level.ensures)
 
 pub loop-i-preserved : goal.loop-i-preserved
@@ -72,18 +72,18 @@ loop-i-preserved g c =
     let i = c.loop-i.i in
     let nodes = c.nodes_after-nodes.result.now in
     let within : i < length of.terms = omega (arith, length-map c.args.terms.now weighted, c.loop-i-test.true) in
-    let begun = deriving_as (ap (meaning_steps now.next) (nodes_left of c.args.levels.now i none c.requires.nodes within nodes c.nodes_after-nodes.ensures c.loop-i.start)) c.loop-i.invariant.taken in
-    let here = level_meanings c.loop-i.start (drop i of.terms) nodes in
-    let handed = subst (λ (ts : List Weighted). TakesSteps (meaning_steps now.next (level_meanings c.loop-i.start ts nodes)) now after) (weights_from c.args.terms.now i i refl) c.in_ok-define_level.ensures in
+    let begun = deriving_as (ap (reification_steps now.next) (nodes_left of c.args.levels.now i none c.requires.nodes within nodes c.nodes_after-nodes.ensures c.loop-i.start)) c.loop-i.invariant.taken in
+    let here = level_reifications c.loop-i.start (drop i of.terms) nodes in
+    let handed = subst (λ (ts : List Weighted). TakesSteps (reification_steps now.next (level_reifications c.loop-i.start ts nodes)) now after) (weights_from c.args.terms.now i i refl) c.in_ok-define_level.ensures in
     let count = nodes_count of c.args.levels.now i none c.requires.nodes within nodes c.nodes_after-nodes.ensures in
     record {
       room = omega (arith, count, c.loop-i.invariant.room);
       low = omega (arith, c.loop-i.invariant.low);
-      count = omega (arith, handed.ids, meanings_ids now.next here, length-level c.loop-i.start (drop i of.terms) nodes, c.loop-i.invariant.count);
-      taken = meanings_taken here (node_meanings (c.loop-i.start + length nodes) (drop (i + 1) of.terms) (drop (i + 1) c.args.levels.now)) old now begun after handed;
+      count = omega (arith, handed.ids, reifications_ids now.next here, length-level c.loop-i.start (drop i of.terms) nodes, c.loop-i.invariant.count);
+      taken = reifications_taken here (node_reifications (c.loop-i.start + length nodes) (drop (i + 1) of.terms) (drop (i + 1) c.args.levels.now)) old now begun after handed;
     }
 
 pub returns : goal.returns
 returns g c =
     let now = g.T.StepSink.state c.loop-i.sink in
-    deriving_ends (deriving_as (ap (meaning_steps now.next) (no_meaning (weights c.args.terms.now) c.args.levels.now c.loop-i.i c.loop-i.start (omega (arith, length-map c.args.terms.now weighted)))) c.loop-i.invariant.taken)
+    deriving_ends (deriving_as (ap (reification_steps now.next) (no_reification (weights c.args.terms.now) c.args.levels.now c.loop-i.i c.loop-i.start (omega (arith, length-map c.args.terms.now weighted)))) c.loop-i.invariant.taken)

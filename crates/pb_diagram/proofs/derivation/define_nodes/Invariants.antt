@@ -1,13 +1,13 @@
 use Rattle.std.proofs.Common.{◌≡◌, ◌≤◌, ◌+◌, ◌*◌, drop}
 use Rattle.pb_norm.specs.Constraints.{weights}
 use Rattle.pb_norm.specs.BoundedSums.{sum_within}
-use Rattle.pb_derive.specs.Meanings.{meaning_steps}
+use Rattle.pb_derive.specs.Reifications.{reification_steps}
 use Rattle.pb_family.proofs.Deriving.{Deriving}
 use Rattle.pb_diagram.specs.Clauses.{node_count, diagram_fresh}
-use Rattle.pb_diagram.specs.DiagramSteps.{node_meanings}
+use Rattle.pb_diagram.specs.DiagramSteps.{node_reifications}
 use Rattle.pb_diagram.proofs.derivation.define_nodes.Given as goal
 
--- the meanings of the levels from here on are left
+-- the reifications of the levels from here on are left
 abbrev pub invariant-loop-i : goal.invariant-loop-i
 invariant-loop-i g l =
     let old = g.T.StepSink.state l.fn.sink in
@@ -16,5 +16,5 @@ invariant-loop-i g l =
       room : l.start + node_count (drop l.i l.levels) ≡ l.first + diagram_fresh (sum_within l.terms l.bound);
       low : l.first ≤ l.start;
       count : now.next + 2 * l.first ≡ old.next + 2 * l.start;
-      taken : Deriving (meaning_steps old.next (node_meanings l.first (weights l.terms) l.levels)) (meaning_steps now.next (node_meanings l.start (drop l.i (weights l.terms)) (drop l.i l.levels))) old now;
+      taken : Deriving (reification_steps old.next (node_reifications l.first (weights l.terms) l.levels)) (reification_steps now.next (node_reifications l.start (drop l.i (weights l.terms)) (drop l.i l.levels))) old now;
     }

@@ -4,7 +4,7 @@ use Rattle.std.specs.Int.RustNames.{unsigned_abs}
 use Rattle.std.proofs.lemmas.List.{map_more, take_all}
 use Rattle.pb_base.specs.declared.literal.Lit.{Lit}
 use Rattle.pb_base.specs.declared.literal.Term.{Term}
-use Rattle.pb_norm.specs.laws.Kept.{on_term}
+use Rattle.pb_norm.specs.inner.Kept.{on_term}
 use Rattle.pb_norm.specs.Reduction.{opposite}
 use Rattle.pb_diagram.proofs.derivation.negated_terms.Goals as goal
 

@@ -1,6 +1,6 @@
 use Rattle.std.proofs.Common.{◌≡◌, take}
 use Rattle.std.specs.Prelude.{map}
-use Rattle.pb_norm.specs.laws.Kept.{on_term}
+use Rattle.pb_norm.specs.inner.Kept.{on_term}
 use Rattle.pb_norm.specs.Reduction.{opposite}
 use Rattle.pb_diagram.proofs.derivation.negated_terms.Given as goal
 

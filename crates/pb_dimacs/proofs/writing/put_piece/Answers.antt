@@ -1,6 +1,6 @@
 use Rattle.std.proofs.Common.{[]}
 use Rattle.pb_dimacs.specs.Outboxes.{held_in}
-use Rattle.pb_dimacs.specs.laws.OutboxSinks.{sink_of}
+use Rattle.pb_dimacs.specs.inner.WriteBufferSinks.{sink_of}
 use Rattle.pb_family.proofs.Taking.{fails_front}
 use Rattle.pb_dimacs.proofs.Holding.{holds_next, still_open, text_fault}
 use Rattle.pb_dimacs.proofs.writing.put_piece.Goals as goal

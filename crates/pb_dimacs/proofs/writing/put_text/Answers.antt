@@ -2,7 +2,7 @@ use Rattle.std.proofs.Common.{◌-◌, ◌++◌, take, drop, arith}
 use Rattle.std.proofs.lemmas.List.{take_all}
 use Rattle.pb_family.proofs.Taking.{takes_nothing, then_takes, then_fails, takes_same, fails_same, fails_front}
 use Rattle.pb_dimacs.specs.Outboxes.{held_in}
-use Rattle.pb_dimacs.specs.laws.OutboxSinks.{sink_of}
+use Rattle.pb_dimacs.specs.inner.WriteBufferSinks.{sink_of}
 use Rattle.pb_dimacs.proofs.Holding.{still_open, text_fault}
 use Rattle.pb_dimacs.proofs.Lines.{take_on, take_parts}
 use Rattle.pb_dimacs.proofs.writing.put_text.Goals as goal

@@ -1,7 +1,7 @@
 use Rattle.std.proofs.Common.{◌≡◌, ◌≤◌, ◌-◌, length, take, true}
 use Rattle.pb_family.specs.Sinks.{Takes}
 use Rattle.pb_dimacs.specs.Outboxes.{held_in}
-use Rattle.pb_dimacs.specs.laws.OutboxSinks.{shown}
+use Rattle.pb_dimacs.specs.inner.WriteBufferSinks.{shown}
 use Rattle.pb_dimacs.proofs.writing.put_text.Given as goal
 
 abbrev pub invariant-loop-at : goal.invariant-loop-at

@@ -3,9 +3,9 @@ use Rattle.std.specs.Prelude.{IfOk}
 use Rattle.pb_steps.specs.declared.step.Step.{Step}
 use Rattle.pb_family.specs.StepSinks.{HandsSteps}
 use Rattle.pb_family.proofs.Deriving.{steps_lack_first}
-use Rattle.pb_encode.specs.declared.derivation.Turn.{Turn}
+use Rattle.pb_encode.specs.declared.derivation.Position.{Position}
 use Rattle.pb_encode.proofs.GroupParts.{parts_of}
-use Rattle.pb_encode.proofs.StepTurns.{ids_in}
+use Rattle.pb_encode.proofs.StepPositions.{ids_in}
 use Rattle.pb_encode.proofs.derivation.derive_group.Goals as goal
 
 pub returns-in_err-plan-clause-hands : goal.returns-in_err-plan-clause-hands
@@ -13,11 +13,11 @@ returns-in_err-plan-clause-hands g c = steps_lack_first _ (g.T.StepSink.state c.
 
 pub derive_plan-requires : goal.derive_plan-requires
 derive_plan-requires g c =
-    let turn = c.args.turn in
+    let position = c.args.position in
     let parts = parts_of c.args.options.now c.args.group.now c.in_ok-plan.plan c.in_ok-plan.ensures in
-    let ids = ap ids_in (parts.steps_are turn.first turn.id (g.T.StepSink.state c.args.sink.now).next) in
+    let ids = ap ids_in (parts.steps_are position.first position.id (g.T.StepSink.state c.args.sink.now).next) in
     record {
-      below = parts.below turn.first c.requires.sound.below;
+      below = parts.below position.first c.requires.sound.below;
       low = c.requires.low;
       fits = omega (arith, c.requires.fits, parts.fresh_is);
       counted = omega (arith, c.requires.counted, parts.count_is);
@@ -28,15 +28,15 @@ derive_plan-requires g c =
 
 pub returns-clause-first : goal.returns-clause-first
 returns-clause-first g c =
-    subst (λ (n : ℕ). IfOk c.derive_plan.result (λ (next : Turn). next.first ≡ c.args.turn.first + n)) (parts_of c.args.options.now c.args.group.now c.in_ok-plan.plan c.in_ok-plan.ensures).fresh_is c.derive_plan.ensures.first
+    subst (λ (n : ℕ). IfOk c.derive_plan.result (λ (next : Position). next.first ≡ c.args.position.first + n)) (parts_of c.args.options.now c.args.group.now c.in_ok-plan.plan c.in_ok-plan.ensures).fresh_is c.derive_plan.ensures.first
 
 pub returns-clause-id : goal.returns-clause-id
 returns-clause-id g c =
-    subst (λ (n : ℕ). IfOk c.derive_plan.result (λ (next : Turn). next.id ≡ c.args.turn.id + n)) (parts_of c.args.options.now c.args.group.now c.in_ok-plan.plan c.in_ok-plan.ensures).size_is c.derive_plan.ensures.id
+    subst (λ (n : ℕ). IfOk c.derive_plan.result (λ (next : Position). next.id ≡ c.args.position.id + n)) (parts_of c.args.options.now c.args.group.now c.in_ok-plan.plan c.in_ok-plan.ensures).size_is c.derive_plan.ensures.id
 
 pub returns-clause-hands : goal.returns-clause-hands
 returns-clause-hands g c =
-    let turn = c.args.turn in
+    let position = c.args.position in
     let old = g.T.StepSink.state c.args.sink.now in
     subst (λ (ss : List Step). HandsSteps ss c.derive_plan.result old (g.T.StepSink.state c.derive_plan.new.sink))
-    ((parts_of c.args.options.now c.args.group.now c.in_ok-plan.plan c.in_ok-plan.ensures).steps_are turn.first turn.id old.next) c.derive_plan.ensures.hands
+    ((parts_of c.args.options.now c.args.group.now c.in_ok-plan.plan c.in_ok-plan.ensures).steps_are position.first position.id old.next) c.derive_plan.ensures.hands

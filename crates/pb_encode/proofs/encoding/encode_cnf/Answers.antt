@@ -1,5 +1,5 @@
 use Rattle.pb_encode.specs.Encodings.{problem_text}
-use Rattle.pb_encode.specs.laws.Files.WantsForCnf.{in_text}
+use Rattle.pb_encode.specs.inner.Files.WantsForCnf.{in_text}
 use Rattle.pb_encode.proofs.MadeFiles.{end_stops, memory_stops, write_stops}
 use Rattle.pb_encode.proofs.encoding.encode_cnf.Goals as goal
 

@@ -4,7 +4,7 @@ use Rattle.pb_base.specs.Problems.{IsWithinLimits}
 use Rattle.pb_family.specs.ClauseText.{clauses_text}
 use Rattle.pb_family.specs.Sinks.{SinkState, Takes}
 use Rattle.pb_family.specs.declared.sink.SinkFault.TheVariants as fault
-use Rattle.pb_choice.specs.declared.options.Options.{Options}
+use Rattle.pb_base.specs.declared.options.Options.{Options}
 use Rattle.pb_dimacs.specs.CnfText.{header_text}
 use Rattle.pb_encode.specs.declared.summary.Summary.{Summary}
 use Rattle.pb_encode.specs.Clauses.{problem_clauses}

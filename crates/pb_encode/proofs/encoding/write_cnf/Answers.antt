@@ -2,7 +2,7 @@ use Rattle.std.proofs.Common.{[], ap}
 use Rattle.pb_dimacs.specs.Outboxes.{held_in}
 use Rattle.pb_encode.specs.declared.fault.EncodeFault.TheVariants as fault
 use Rattle.pb_encode.specs.Encodings.{problem_text}
-use Rattle.pb_encode.specs.laws.Sending.{Stops}
+use Rattle.pb_encode.specs.inner.Sending.{Stops}
 use Rattle.pb_encode.proofs.Residuals.{on_fault}
 use Rattle.pb_encode.proofs.WholeTexts.{sends_none, text_lacks, text_stopped, text_written}
 use Rattle.pb_encode.proofs.encoding.write_cnf.Goals as goal

@@ -5,7 +5,7 @@ use Rattle.pb_norm.specs.Constraints.{Constraint}
 use Rattle.pb_norm.specs.Reduction.{opposite}
 use Rattle.pb_family.specs.Sinks.{SinkState, Takes}
 use Rattle.pb_family.specs.declared.sink.SinkFault.TheVariants as fault
-use Rattle.pb_choice.specs.declared.options.Options.{Options}
+use Rattle.pb_base.specs.declared.options.Options.{Options}
 use Rattle.pb_dimacs.specs.WcnfText.{hard_text, offset_text, softs_text, wcnf_text}
 use Rattle.pb_encode.specs.Clauses.{problem_clauses}
 use Rattle.pb_encode.specs.Costs.{objective_form}

@@ -3,7 +3,7 @@ use Rattle.std.specs.Prelude.{codes}
 use Rattle.pb_dimacs.specs.Outboxes.{held_in}
 use Rattle.pb_encode.specs.declared.fault.EncodeFault.TheVariants as fault
 use Rattle.pb_encode.specs.Weighted.{weighted_text}
-use Rattle.pb_encode.specs.laws.Sending.{Stops}
+use Rattle.pb_encode.specs.inner.Sending.{Stops}
 use Rattle.pb_encode.proofs.Residuals.{on_fault}
 use Rattle.pb_encode.proofs.WholeTexts.{sends_none, text_lacks, text_stopped, text_written}
 use Rattle.pb_encode.proofs.weighing.write_weighted.Goals as goal

@@ -2,7 +2,7 @@ use Rattle.std.proofs.Common.{◌∙◌, ◌∷◌, [], ◌++◌, List, ap, appe
 use Rattle.std.specs.Prelude.{flat_map}
 use Rattle.pb_steps.specs.declared.op.PolOp.{PolOp}
 use Rattle.pb_steps.specs.declared.op.PolOp.TheVariants.{Add, Push}
-use Rattle.pb_derive.specs.Reasons.{push_and_add}
+use Rattle.pb_derive.specs.Justifications.{push_and_add}
 use Rattle.pb_family.proofs.Gathered.{flat_next, flat_last}
 use Rattle.pb_family.proofs.claim.push_sum.Goals as goal
 

@@ -1,7 +1,7 @@
 use Rattle.std.proofs.Common.{◌≡◌, ◌∷◌, [], ◌++◌, take}
 use Rattle.std.specs.Prelude.{flat_map}
 use Rattle.pb_steps.specs.declared.op.PolOp.TheVariants.{Push}
-use Rattle.pb_derive.specs.Reasons.{push_and_add}
+use Rattle.pb_derive.specs.Justifications.{push_and_add}
 use Rattle.pb_family.proofs.claim.push_sum.Given as goal
 
 abbrev pub invariant-loop-id : goal.invariant-loop-id

@@ -1,5 +1,5 @@
 use Rattle.pb_family.proofs.Emission.{emitting_starts, emitting_step, hands_fault, hands_last}
-use Rattle.pb_gentot.specs.laws.Nodes.{ones_over, pairs_over, clauses_over}
+use Rattle.pb_gentot.specs.inner.Nodes.{ones_over, pairs_over, clauses_over}
 use Rattle.pb_gentot.proofs.emission.emit_node.Goals as goal
 
 pub returns-in_err-emit_ones : goal.returns-in_err-emit_ones

@@ -1,8 +1,8 @@
 use Rattle.std.proofs.Common.{arith, ◌∙◌, ap}
 use Rattle.pb_base.specs.Literals.{negated}
 use Rattle.pb_family.proofs.Emission.{emitting_starts, two_literals}
-use Rattle.pb_gentot.specs.laws.Nodes.{own_output}
-use Rattle.pb_gentot.specs.laws.Outputs.{output_in}
+use Rattle.pb_gentot.specs.inner.Nodes.{own_output}
+use Rattle.pb_gentot.specs.inner.Outputs.{output_in}
 use Rattle.pb_gentot.specs.Generalized.{one_clause}
 use Rattle.pb_gentot.proofs.Steps.{value_step, value_fault, values_taken}
 use Rattle.pb_gentot.proofs.emission.emit_ones.Goals as goal

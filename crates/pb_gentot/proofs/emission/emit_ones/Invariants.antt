@@ -1,8 +1,8 @@
 use Rattle.std.proofs.Common.{drop}
 use Rattle.std.specs.Prelude.{map}
 use Rattle.pb_family.proofs.Emission.{Emitting}
-use Rattle.pb_gentot.specs.laws.Nodes.{own_output, ones_over}
-use Rattle.pb_gentot.specs.laws.Outputs.{output_in}
+use Rattle.pb_gentot.specs.inner.Nodes.{own_output, ones_over}
+use Rattle.pb_gentot.specs.inner.Outputs.{output_in}
 use Rattle.pb_gentot.specs.Generalized.{one_clause}
 use Rattle.pb_gentot.proofs.emission.emit_ones.Given as goal
 

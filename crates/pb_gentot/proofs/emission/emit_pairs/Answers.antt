@@ -1,7 +1,7 @@
 use Rattle.std.proofs.Common.{arith}
 use Rattle.std.specs.Prelude.{slice_index}
 use Rattle.pb_family.proofs.Emission.{emitting_starts, emitting_step, hands_fault}
-use Rattle.pb_gentot.specs.laws.Nodes.{row_over}
+use Rattle.pb_gentot.specs.inner.Nodes.{row_over}
 use Rattle.pb_gentot.proofs.Steps.{row_next, rows_taken}
 use Rattle.pb_gentot.proofs.emission.emit_pairs.Goals as goal
 

@@ -1,7 +1,7 @@
 use Rattle.std.proofs.Common.{drop}
 use Rattle.std.specs.List.{flat_map}
 use Rattle.pb_family.proofs.Emission.{Emitting}
-use Rattle.pb_gentot.specs.laws.Nodes.{row_over, pairs_over}
+use Rattle.pb_gentot.specs.inner.Nodes.{row_over, pairs_over}
 use Rattle.pb_gentot.proofs.emission.emit_pairs.Given as goal
 
 abbrev pub invariant-loop-i : goal.invariant-loop-i

@@ -2,8 +2,8 @@ use Rattle.std.proofs.Common.{arith, ℕ, ◌∙◌, ap, sym, subst}
 use Rattle.pb_base.specs.Literals.{negated}
 use Rattle.std.specs.Prelude.{Contains, slice_index}
 use Rattle.pb_family.proofs.Emission.{emitting_starts, three_literals}
-use Rattle.pb_gentot.specs.laws.Nodes.{own_output}
-use Rattle.pb_gentot.specs.laws.Outputs.{output_in}
+use Rattle.pb_gentot.specs.inner.Nodes.{own_output}
+use Rattle.pb_gentot.specs.inner.Outputs.{output_in}
 use Rattle.pb_gentot.specs.Generalized.{both_clause}
 use Rattle.pb_gentot.proofs.Steps.{value_step, value_fault, values_taken}
 use Rattle.pb_gentot.proofs.emission.emit_row.Goals as goal

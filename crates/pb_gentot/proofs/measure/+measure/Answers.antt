@@ -26,13 +26,13 @@ returns-in-None-2 t c =
     let over = rw c.in-None-2.is at c.in_ok-part-2.ensures in
     omega (arith, left.fresh_is, left.fits)
 
-pub joined-requires-clause-left_small : goal.joined-requires-clause-left_small
-joined-requires-clause-left_small t c =
+pub join_values-requires-clause-left_small : goal.join_values-requires-clause-left_small
+join_values-requires-clause-left_small t c =
     let left = rw c.in-Some.is at c.in_ok-part.ensures in
     all_within c.args.bound (tree_of (weights c.halves.result.0.now)) c.as_slice.result.now (c.as_slice.ensures.value ∙ left.values_are)
 
-pub joined-requires-clause-right_small : goal.joined-requires-clause-right_small
-joined-requires-clause-right_small t c =
+pub join_values-requires-clause-right_small : goal.join_values-requires-clause-right_small
+join_values-requires-clause-right_small t c =
     let right = rw c.in-Some-2.is at c.in_ok-part-2.ensures in
     all_within c.args.bound (tree_of (weights c.halves.result.1.now)) c.as_slice-2.result.now (c.as_slice-2.ensures.value ∙ right.values_are)
 

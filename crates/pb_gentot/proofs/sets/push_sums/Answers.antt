@@ -1,5 +1,5 @@
 use Rattle.std.proofs.Common.{arith, ℕ, [], ◌∷◌, ◌++◌, ◌+◌, min, subst}
-use Rattle.pb_gentot.specs.laws.Members.{SameMembers}
+use Rattle.pb_gentot.specs.inner.Members.{SameMembers}
 use Rattle.pb_gentot.proofs.Marking.{row_more, row_whole}
 use Rattle.pb_gentot.proofs.sets.push_sums.Goals as goal
 

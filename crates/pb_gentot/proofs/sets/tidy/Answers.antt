@@ -1,8 +1,8 @@
 use Rattle.std.proofs.Common.{List, ℕ, sym, subst}
 use Rattle.std.proofs.Math.Dec.{eqb}
 use Rattle.std.proofs.lemmas.List.Filters.{dedup_is}
-use Rattle.pb_gentot.specs.laws.Members.{SameMembers}
-use Rattle.pb_gentot.specs.laws.Rising.{Rising}
+use Rattle.pb_gentot.specs.inner.Members.{SameMembers}
+use Rattle.pb_gentot.specs.Rising.{Rising}
 use Rattle.pb_gentot.proofs.Joining.{same_tidied}
 use Rattle.pb_gentot.proofs.RisingLists.{rising_deduped}
 use Rattle.pb_gentot.proofs.sets.tidy.Goals as goal

@@ -3,7 +3,7 @@ use Rattle.std.specs.Prelude.{slice_index}
 use Rattle.std.specs.List.{range_with_len}
 use Rattle.pb_base.specs.Literals.{negated}
 use Rattle.pb_family.proofs.Emission.{Emitting, emitting_ends, emitting_from, emitting_map, hands_fault_map, two_literals}
-use Rattle.pb_gentot.specs.laws.Outputs.{output_in}
+use Rattle.pb_gentot.specs.inner.Outputs.{output_in}
 use Rattle.pb_gentot.proofs.Neighbours.{between_starts, clause_at, clauses_between}
 use Rattle.pb_gentot.proofs.table_clauses.emit_neighbours.Goals as goal
 

@@ -2,7 +2,7 @@ use Rattle.std.proofs.Common.{◌-◌, ◌++◌, [], length}
 use Rattle.std.specs.Prelude.{map}
 use Rattle.std.specs.List.{range_with_len}
 use Rattle.pb_family.proofs.Emission.{Emitting}
-use Rattle.pb_gentot.specs.laws.Outputs.{output_in}
+use Rattle.pb_gentot.specs.inner.Outputs.{output_in}
 use Rattle.pb_gentot.proofs.Neighbours.{clause_at, clauses_between}
 use Rattle.pb_gentot.proofs.table_clauses.emit_neighbours.Given as goal
 

@@ -7,9 +7,9 @@ use Rattle.pb_family.proofs.Stopping.{stops_fault}
 use Rattle.pb_family.proofs.Taking.{takes_nothing}
 use Rattle.pb_tree.specs.Tree.{tree_of}
 use Rattle.pb_tree.specs.Scheme.{values, output, clauses_of}
-use Rattle.pb_gentot.specs.laws.KeptTables.{clauses_by}
-use Rattle.pb_gentot.specs.laws.Outputs.{output_in, HasRoom}
-use Rattle.pb_gentot.specs.laws.Rising.{Rising}
+use Rattle.pb_gentot.specs.inner.KeptTables.{clauses_by}
+use Rattle.pb_gentot.specs.inner.Outputs.{output_in, HasRoom}
+use Rattle.pb_gentot.specs.Rising.{Rising}
 use Rattle.pb_gentot.specs.Generalized.{generalized}
 use Rattle.pb_gentot.proofs.KeptTables.{no_clauses}
 use Rattle.pb_gentot.proofs.Neighbours.{clauses_between}

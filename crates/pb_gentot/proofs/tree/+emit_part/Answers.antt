@@ -11,8 +11,8 @@ use Rattle.pb_tree.specs.Scheme.{fresh_of, output, clauses_of}
 use Rattle.pb_tree.proofs.Halves.{leaf_of, fresh_parts, some_term}
 use Rattle.pb_tree.proofs.Pieces.{node_starts, after_left}
 use Rattle.pb_gentot.specs.Generalized.{generalized}
-use Rattle.pb_gentot.specs.laws.Outputs.{output_in}
-use Rattle.pb_gentot.specs.laws.Parts.{node_values}
+use Rattle.pb_gentot.specs.inner.Outputs.{output_in}
+use Rattle.pb_gentot.specs.inner.Parts.{node_values}
 use Rattle.pb_gentot.proofs.Emitting.{rising_values, clauses_are, own_clauses, own_is, node_output}
 use Rattle.pb_gentot.proofs.Parts.{all_within, numbers_of}
 use Rattle.pb_gentot.proofs.tree.+emit_part.Goals as goal

@@ -5,9 +5,9 @@ use Rattle.pb_family.proofs.Emission.{emitting_from, fails_as, takes_as}
 use Rattle.pb_family.proofs.Stopping.{stops_fault}
 use Rattle.pb_gentot.specs.declared.node.Node.{Node}
 use Rattle.pb_gentot.specs.declared.outputs.Outputs.TheVariants.{Fresh}
-use Rattle.pb_gentot.specs.laws.Nodes.{AreRanks, HasLiterals}
-use Rattle.pb_gentot.specs.laws.Outputs.{output_in}
-use Rattle.pb_gentot.specs.laws.Parts.{clauses_over_parts}
+use Rattle.pb_gentot.specs.inner.Nodes.{AreRanks, HasLiterals}
+use Rattle.pb_gentot.specs.inner.Outputs.{output_in}
+use Rattle.pb_gentot.specs.inner.Parts.{clauses_over_parts}
 use Rattle.pb_gentot.proofs.Over.{made_rising, made_within, has_sums, values_made, clauses_made}
 use Rattle.pb_gentot.proofs.tree.emit_over.Goals as goal
 

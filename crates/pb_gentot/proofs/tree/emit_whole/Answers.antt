@@ -9,8 +9,8 @@ use Rattle.pb_family.proofs.Emission.{emitting_starts, emitting_step, emitting_e
 use Rattle.pb_family.proofs.Stopping.{stops_fault}
 use Rattle.pb_tree.specs.Tree.{tree_of}
 use Rattle.pb_tree.specs.Scheme.{output, clauses_of, tree_clauses}
-use Rattle.pb_gentot.specs.laws.Outputs.{output_in, HasRoom}
-use Rattle.pb_gentot.specs.laws.Rising.{Rising}
+use Rattle.pb_gentot.specs.inner.Outputs.{output_in, HasRoom}
+use Rattle.pb_gentot.specs.Rising.{Rising}
 use Rattle.pb_gentot.specs.Generalized.{generalized}
 use Rattle.pb_gentot.proofs.tree.emit_whole.Goals as goal
 

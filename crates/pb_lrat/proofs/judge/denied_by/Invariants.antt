@@ -1,5 +1,5 @@
 use Rattle.std.proofs.Common.{◌≡◌, drop}
-use Rattle.pb_lrat.specs.laws.Looks.{hints_deny}
+use Rattle.pb_lrat.specs.inner.Looks.{hints_deny}
 use Rattle.pb_lrat.proofs.judge.denied_by.Given as goal
 
 abbrev pub invariant-loop-id : goal.invariant-loop-id

@@ -1,6 +1,6 @@
 use Rattle.std.proofs.Common.{◌≡◌, length}
 use Rattle.pb_lrat.specs.LratLines.{ids_of}
-use Rattle.pb_steps.specs.laws.Reading.{with_items}
+use Rattle.pb_steps.specs.inner.Reading.{with_items}
 use Rattle.pb_lrat.proofs.read.read_ids.Given as goal
 
 abbrev pub invariant-ids : goal.invariant-ids

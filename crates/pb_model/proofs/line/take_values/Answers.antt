@@ -6,7 +6,7 @@ use Rattle.pb_base.specs.Words.{Chunk}
 use Rattle.pb_model.specs.ModelLines.{Symbol, word_symbol, meant, place_in}
 use Rattle.pb_model.specs.ModelLines.Symbol.{word}
 use Rattle.pb_model.specs.ModelReading.{first_fault}
-use Rattle.pb_model.specs.laws.Reading.{Knows}
+use Rattle.pb_model.specs.inner.Reading.{Knows}
 use Rattle.pb_model.proofs.Going.{GoesOn, goes_first, goes_more, goes_wrong, goes_through}
 use Rattle.pb_model.proofs.line.take_values.Goals as goal
 

@@ -1,6 +1,6 @@
 use Rattle.std.proofs.Common.{ℕ, List, map}
 use Rattle.pb_model.specs.ModelLines.{Symbol, word_symbol}
-use Rattle.pb_model.specs.laws.Reading.{Knows}
+use Rattle.pb_model.specs.inner.Reading.{Knows}
 use Rattle.pb_model.proofs.Going.{GoesOn}
 use Rattle.pb_model.proofs.line.take_values.Given as goal
 

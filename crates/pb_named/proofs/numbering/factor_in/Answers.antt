@@ -1,7 +1,7 @@
 use Rattle.std.proofs.Common.{◌∙◌, map, ap, sym, subst}
 use Rattle.pb_named.specs.declared.named.NamedLit.{NamedLit}
 use Rattle.pb_named.specs.Products.{factor_of}
-use Rattle.pb_named.specs.laws.Numbering.{place_in, IsKnown}
+use Rattle.pb_named.specs.inner.Numbering.{place_in, IsKnown}
 use Rattle.pb_named.proofs.Taking.{starts-some, first-place}
 use Rattle.pb_named.proofs.numbering.factor_in.Goals as goal
 

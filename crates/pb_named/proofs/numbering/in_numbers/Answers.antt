@@ -1,6 +1,6 @@
 use Rattle.std.proofs.Common.{◌∙◌, [], map, sym, append-nil, rules}
 use Rattle.pb_named.specs.NamedProblems.{size, names_of, terms_or_none, all_names}
-use Rattle.pb_named.specs.laws.Numbering.{place_in}
+use Rattle.pb_named.specs.inner.Numbering.{place_in}
 use Rattle.pb_named.proofs.NumberLemmas.{made-by_table, over-objective, over-all}
 use Rattle.pb_named.proofs.TableLemmas.{statement_names}
 use Rattle.pb_named.proofs.Taking.{starts-behind, starts-front}

@@ -2,7 +2,7 @@ use Rattle.std.proofs.Common.{◌∙◌, ◌∷◌, ◌++◌, [], List, map, All
 use Rattle.pb_base.specs.declared.literal.Lit.{Lit}
 use Rattle.pb_named.specs.declared.named.NamedLit.{NamedLit}
 use Rattle.pb_named.specs.NamedProblems.{lit_of}
-use Rattle.pb_named.specs.laws.Numbering.{place_in, StartsWith, Gives, IsKnown}
+use Rattle.pb_named.specs.inner.Numbering.{place_in, StartsWith, Gives, IsKnown}
 use Rattle.pb_named.proofs.Taking.{starts-some, first-place, gives-first, gives-more, starts-behind}
 use Rattle.pb_named.proofs.numbering.lits_of.Goals as goal
 

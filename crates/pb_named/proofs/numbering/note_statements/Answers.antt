@@ -1,6 +1,6 @@
 use Rattle.std.proofs.Common.{◌∙◌, ◌++◌, ap, rules}
 use Rattle.pb_named.specs.NamedProblems.{names_of}
-use Rattle.pb_named.specs.laws.Numbering.{noted_all, places_from}
+use Rattle.pb_named.specs.inner.Numbering.{noted_all, places_from}
 use Rattle.pb_named.proofs.TableLemmas.{notes-item_more, statement_names}
 use Rattle.pb_named.proofs.numbering.note_statements.Goals as goal
 

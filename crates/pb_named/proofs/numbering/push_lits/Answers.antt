@@ -1,6 +1,6 @@
 use Rattle.std.proofs.Common.{[], rules}
 use Rattle.pb_named.specs.declared.named.NamedLit.{NamedLit}
-use Rattle.pb_named.specs.laws.Numbering.{place_in}
+use Rattle.pb_named.specs.inner.Numbering.{place_in}
 use Rattle.pb_named.proofs.NumberLemmas.{lits-more}
 use Rattle.pb_named.proofs.Taking.{starts-some, first-place, gives-first, starts-one, gives-one}
 use Rattle.pb_named.proofs.numbering.push_lits.Goals as goal

@@ -1,6 +1,6 @@
 use Rattle.std.proofs.Common.{◌≡◌, ◌++◌, map, take}
 use Rattle.pb_named.specs.NamedProblems.{lit_of}
-use Rattle.pb_named.specs.laws.Numbering.{place_in, Gives}
+use Rattle.pb_named.specs.inner.Numbering.{place_in, Gives}
 use Rattle.pb_named.proofs.numbering.push_lits.Given as goal
 
 abbrev pub invariant-loop-lit : goal.invariant-loop-lit

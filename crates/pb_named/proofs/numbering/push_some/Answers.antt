@@ -1,5 +1,5 @@
 use Rattle.std.proofs.Common.{◌∙◌, ◌++◌, ap, sym, append-nil}
-use Rattle.pb_named.specs.laws.Numbering.{listed}
+use Rattle.pb_named.specs.inner.Numbering.{listed}
 use Rattle.pb_named.proofs.numbering.push_some.Goals as goal
 
 pub returns-in-None : goal.returns-in-None

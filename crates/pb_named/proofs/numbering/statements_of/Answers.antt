@@ -7,7 +7,7 @@ use Rattle.std.specs.Vec.Iter.{into_iter_items}
 use Rattle.pb_named.specs.declared.named.NamedStatement.{NamedStatement}
 use Rattle.pb_named.specs.NamedTerms.{NamedTerm}
 use Rattle.pb_named.specs.NamedProblems.{names_of, products_in, terms_of}
-use Rattle.pb_named.specs.laws.Numbering.{place_in, StartsWith, Gives, IsOver}
+use Rattle.pb_named.specs.inner.Numbering.{place_in, StartsWith, Gives, IsOver}
 use Rattle.pb_named.proofs.NumberLemmas.{noting, numbers-statement, over-statement}
 use Rattle.pb_named.proofs.TableLemmas.{statement_names}
 use Rattle.pb_named.proofs.Taking.{starts-next}

@@ -7,7 +7,7 @@ use Rattle.pb_named.specs.declared.numbering.NumberFault.TheVariants.{Variables}
 use Rattle.pb_named.specs.declared.products.Factor.{Factor}
 use Rattle.pb_named.specs.NamedProblems.{terms_by}
 use Rattle.pb_named.specs.Products.{product_in}
-use Rattle.pb_named.specs.laws.Numbering.{listed, IsOver}
+use Rattle.pb_named.specs.inner.Numbering.{listed, IsOver}
 use Rattle.pb_named.proofs.NumberLemmas.{noting, when-ok}
 use Rattle.pb_named.proofs.numbering.term_of.Goals as goal
 

@@ -1,6 +1,6 @@
 use Rattle.std.proofs.Common.{◌∙◌, ◌++◌, ap, rules}
 use Rattle.pb_named.specs.NamedProblems.{term_names}
-use Rattle.pb_named.specs.laws.Numbering.{place_in}
+use Rattle.pb_named.specs.inner.Numbering.{place_in}
 use Rattle.pb_named.proofs.NumberLemmas.{numbers-item, over-item}
 use Rattle.pb_named.proofs.Taking.{starts-item, gives-push}
 use Rattle.pb_named.proofs.numbering.terms_of.Goals as goal

@@ -6,7 +6,7 @@ use Rattle.pb_base.specs.declared.literal.Term.{Term}
 use Rattle.std.specs.Option.{option_to_list}
 use Rattle.pb_norm.specs.Halves.{turned_term}
 use Rattle.pb_norm.specs.NormalForms.{signed_coef}
-use Rattle.pb_norm.specs.laws.Nets.{net_term}
+use Rattle.pb_norm.specs.inner.Nets.{net_term}
 use Rattle.pb_norm.proofs.OrderedTerms.{filter_map_item}
 use Rattle.pb_norm.proofs.nets.lone_terms.Goals as goal
 

@@ -1,7 +1,7 @@
 use Rattle.std.proofs.Common.{◌≡◌, take, filter_map}
 use Rattle.pb_norm.specs.Halves.{turned_term}
 use Rattle.pb_norm.specs.NormalForms.{signed_coef}
-use Rattle.pb_norm.specs.laws.Nets.{net_term}
+use Rattle.pb_norm.specs.inner.Nets.{net_term}
 use Rattle.pb_norm.proofs.nets.lone_terms.Given as goal
 
 abbrev pub invariant-loop-term : goal.invariant-loop-term

@@ -4,8 +4,8 @@ use Rattle.pb_steps.specs.Operations.{IsNarrow, multiple}
 use Rattle.pb_operations.proofs.Parts.{scaled-room, multiple-made, made-is, made-is_linear}
 use Rattle.pb_operations.proofs.algebra.multiple.Goals as goal
 
-pub scaled-requires : goal.scaled-requires
-scaled-requires c =
+pub scale_terms-requires : goal.scale_terms-requires
+scale_terms-requires c =
     scaled-room c.args.factor c.args.constraint.now _ c.terms.ensures.weights (sym c.has_room_for_multiple.ensures ∙ c.if-not-has_room_for_multiple.false)
 
 pub from_parts-requires-clause-terms : goal.from_parts-requires-clause-terms

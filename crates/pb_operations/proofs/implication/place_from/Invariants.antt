@@ -1,6 +1,6 @@
 use Rattle.std.proofs.Common.{length, drop, ◌-◌}
 use Rattle.pb_norm.specs.Constraints.{weights}
-use Rattle.pb_operations.specs.laws.Sides.{SameFrom}
+use Rattle.pb_operations.specs.inner.Sides.{SameFrom}
 use Rattle.pb_operations.proofs.implication.place_from.Given as goal
 
 abbrev pub invariant-skipping : goal.invariant-skipping

@@ -1,6 +1,6 @@
 use Rattle.std.proofs.Common.{◌∙◌, ap}
 use Rattle.std.specs.List.{list_any}
-use Rattle.pb_operations.specs.laws.Sides.{is_set}
+use Rattle.pb_operations.specs.inner.Sides.{is_set}
 use Rattle.pb_operations.proofs.Parts.{any-weights}
 use Rattle.pb_operations.proofs.substitution.names_set.Goals as goal
 

@@ -1,6 +1,6 @@
 use Rattle.std.proofs.Common.{◌∙◌, ap, rules, filter}
 use Rattle.std.proofs.lemmas.Fn.{filter_same}
-use Rattle.pb_norm.specs.laws.Kept.{on_weight}
+use Rattle.pb_norm.specs.inner.Kept.{on_weight}
 use Rattle.pb_steps.specs.Substitutions.{is_unset}
 use Rattle.pb_operations.proofs.substitution.unset_terms.Goals as goal
 

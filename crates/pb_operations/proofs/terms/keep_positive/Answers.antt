@@ -1,7 +1,7 @@
 use Rattle.std.proofs.Common.{rules}
 use Rattle.std.proofs.lemmas.Fn.{filter_same}
 use Rattle.pb_norm.specs.Halves.{is_positive}
-use Rattle.pb_norm.specs.laws.Kept.{on_weight}
+use Rattle.pb_norm.specs.inner.Kept.{on_weight}
 use Rattle.pb_operations.proofs.terms.keep_positive.Goals as goal
 
 pub returns : goal.returns

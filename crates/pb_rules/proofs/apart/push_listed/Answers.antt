@@ -1,5 +1,5 @@
 use Rattle.std.proofs.Common.{ℕ, get_or, refl}
-use Rattle.pb_rules.specs.laws.Slots.{slot_of}
+use Rattle.pb_rules.specs.inner.Slots.{slot_of}
 use Rattle.pb_rules.proofs.SlotLemmas.{pushed_more}
 use Rattle.pb_rules.proofs.apart.push_listed.Goals as goal
 

@@ -1,5 +1,5 @@
 use Rattle.std.proofs.Common.{◌≡◌, ◌++◌, take}
-use Rattle.pb_rules.specs.laws.Slots.{listed_slots}
+use Rattle.pb_rules.specs.inner.Slots.{listed_slots}
 use Rattle.pb_rules.proofs.apart.push_listed.Given as goal
 
 abbrev pub invariant-loop-id : goal.invariant-loop-id

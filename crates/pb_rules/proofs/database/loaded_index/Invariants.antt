@@ -1,6 +1,6 @@
 use Rattle.std.proofs.Common.{take}
-use Rattle.pb_rules.specs.laws.Slots.{placed_from}
-use Rattle.pb_rules.specs.laws.Indexed.{IsIndexed}
+use Rattle.pb_rules.specs.inner.Slots.{placed_from}
+use Rattle.pb_rules.specs.inner.Indexed.{IsIndexed}
 use Rattle.pb_rules.proofs.database.loaded_index.Given as goal
 
 abbrev pub invariant-loop-place : goal.invariant-loop-place

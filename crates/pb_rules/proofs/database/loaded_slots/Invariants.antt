@@ -1,5 +1,5 @@
 use Rattle.std.proofs.Common.{◌≡◌, take}
-use Rattle.pb_rules.specs.laws.Slots.{placed_from}
+use Rattle.pb_rules.specs.inner.Slots.{placed_from}
 use Rattle.pb_rules.proofs.database.loaded_slots.Given as goal
 
 abbrev pub invariant-loop-place : goal.invariant-loop-place

@@ -1,6 +1,6 @@
 use Rattle.std.proofs.Common.{◌≡◌, ◌∙◌, ◌+◌, List, Some, None, ap, sym}
 use Rattle.pb_rules.specs.declared.slots.Slot.{Slot}
-use Rattle.pb_rules.specs.laws.Slots.{slot_at, slot_of, database_of}
+use Rattle.pb_rules.specs.inner.Slots.{slot_at, slot_of, database_of}
 use Rattle.pb_rules.proofs.Fronts.{entered-none, entered-some, same-placed, slot_of-next}
 use Rattle.pb_rules.proofs.entering.enter_next.Goals as goal
 

@@ -1,6 +1,6 @@
 use Rattle.std.proofs.Common.{◌+◌, ℕ, take, sym, subst, arith}
 use Rattle.std.proofs.lemmas.Bool.{OnTrue_at}
-use Rattle.pb_rules.specs.laws.Mirrors.{AreWithin, IsMirrored}
+use Rattle.pb_rules.specs.inner.Mirrors.{AreWithin, IsMirrored}
 use Rattle.pb_rules.proofs.Fronts.{same-again, same-length, within-same}
 use Rattle.pb_rules.proofs.entering.enter_rest.Goals as goal
 

@@ -1,5 +1,5 @@
 use Rattle.std.proofs.Common.{◌≤◌, ◌-◌, length, take}
-use Rattle.pb_rules.specs.laws.Mirrors.{AreSame, IsMirrored}
+use Rattle.pb_rules.specs.inner.Mirrors.{AreSame, IsMirrored}
 use Rattle.pb_rules.proofs.entering.enter_rest.Given as goal
 
 abbrev pub invariant-rest : goal.invariant-rest

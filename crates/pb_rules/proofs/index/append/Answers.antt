@@ -1,7 +1,7 @@
 use Rattle.std.proofs.Common.{◌≡◌, ◌∙◌, ap, sym, List, ℕ, ◌++◌, ◌∷◌, [], set}
 use Rattle.std.proofs.lemmas.List.{set-get_or}
 use Rattle.pb_unit.proofs.Standing.{read_as}
-use Rattle.pb_rules.specs.laws.Indexed.{ids_at}
+use Rattle.pb_rules.specs.inner.Indexed.{ids_at}
 use Rattle.pb_rules.proofs.Indexing.{keeps_with, has_with, keeps_ids_same}
 use Rattle.pb_rules.proofs.index.append.Goals as goal
 

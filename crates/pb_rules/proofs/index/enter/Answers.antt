@@ -1,7 +1,7 @@
 use Rattle.std.proofs.Common.{◌≡◌, ◌%◌, ◌∙◌, ℕ, arith, ap, length, subst}
 use Rattle.std.specs.Prelude.{Contains}
 use Rattle.std.proofs.lemmas.Bool.{OnTrue_at}
-use Rattle.pb_rules.specs.laws.Indexed.{ids_at, ids_of}
+use Rattle.pb_rules.specs.inner.Indexed.{ids_at, ids_of}
 use Rattle.pb_rules.proofs.Indexing.{keeps_ids_again, added_more, all_added}
 use Rattle.pb_rules.proofs.index.enter.Goals as goal
 

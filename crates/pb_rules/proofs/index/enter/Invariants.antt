@@ -1,7 +1,7 @@
 use Rattle.std.proofs.Common.{ℕ, ◌<◌}
 use Rattle.std.specs.Prelude.{Contains, slice_index_or}
 use Rattle.pb_base.specs.declared.literal.Term.{Term}
-use Rattle.pb_rules.specs.laws.Indexed.{ids_of, KeepsIds}
+use Rattle.pb_rules.specs.inner.Indexed.{ids_of, KeepsIds}
 use Rattle.pb_rules.proofs.index.enter.Given as goal
 
 abbrev pub invariant-loop-term : goal.invariant-loop-term

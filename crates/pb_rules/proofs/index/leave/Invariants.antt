@@ -1,4 +1,4 @@
-use Rattle.pb_rules.specs.laws.Indexed.{LosesId}
+use Rattle.pb_rules.specs.inner.Indexed.{LosesId}
 use Rattle.pb_rules.proofs.index.leave.Given as goal
 
 abbrev pub invariant-loop-term : goal.invariant-loop-term

@@ -1,7 +1,7 @@
 use Rattle.std.proofs.Common.{◌≡◌, ◌≤◌, ◌<◌, ℕ}
 use Rattle.std.specs.Prelude.{filter, is_some}
-use Rattle.pb_rules.specs.laws.Slots.{slot_of}
-use Rattle.pb_rules.specs.laws.Indexed.{ids_at}
+use Rattle.pb_rules.specs.inner.Slots.{slot_of}
+use Rattle.pb_rules.specs.inner.Indexed.{ids_at}
 use Rattle.pb_rules.proofs.index.sweep.Given as goal
 
 abbrev pub invariant-loop-var : goal.invariant-loop-var

@@ -2,8 +2,8 @@ use Rattle.std.proofs.Common.{◌≡◌, ◌∙◌, ℕ, List, length, ap, sym, 
 use Rattle.std.specs.Prelude.{filter, is_some}
 use Rattle.std.specs.Vec.{with_items}
 use Rattle.std.proofs.lemmas.List.{with_items_is}
-use Rattle.pb_rules.specs.laws.Slots.{slot_of}
-use Rattle.pb_rules.specs.laws.Indexed.{ids_at, IsIndexed}
+use Rattle.pb_rules.specs.inner.Slots.{slot_of}
+use Rattle.pb_rules.specs.inner.Indexed.{ids_at, IsIndexed}
 use Rattle.pb_rules.proofs.Indexing.{indexed-swept}
 use Rattle.pb_rules.proofs.index.sweep_if.Goals as goal
 

@@ -1,7 +1,7 @@
 use Rattle.std.proofs.Common.{◌≡◌, ◌<◌, ℕ, List, [], arith, length, subst}
 use Rattle.std.specs.Prelude.{Contains}
 use Rattle.pb_unit.proofs.Standing.{read_as}
-use Rattle.pb_rules.specs.laws.Indexed.{ids_at}
+use Rattle.pb_rules.specs.inner.Indexed.{ids_at}
 use Rattle.pb_rules.proofs.Indexing.{loses-none, loses-at}
 use Rattle.pb_rules.proofs.index.take_one.Goals as goal
 

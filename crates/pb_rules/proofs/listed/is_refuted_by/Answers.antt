@@ -1,6 +1,6 @@
 use Rattle.std.proofs.Common.{◌∷◌}
 use Rattle.std.proofs.lemmas.Bool.{OnTrue_at}
-use Rattle.pb_rules.specs.laws.Slots.{listed_slots}
+use Rattle.pb_rules.specs.inner.Slots.{listed_slots}
 use Rattle.pb_rules.proofs.Refuting.{tells_just}
 use Rattle.pb_rules.proofs.listed.is_refuted_by.Goals as goal
 

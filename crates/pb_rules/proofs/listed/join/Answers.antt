@@ -1,6 +1,6 @@
 use Rattle.std.proofs.Common.{ap, sym, subst, List, ℕ, ◌++◌, ◌∷◌, []}
 use Rattle.pb_unit.specs.States.{EngineState, removed}
-use Rattle.pb_rules.specs.laws.Mirrors.{IsCovered, HasJust}
+use Rattle.pb_rules.specs.inner.Mirrors.{IsCovered, HasJust}
 use Rattle.pb_rules.proofs.Refuting.{covered-added, covered-again, just-added, gone_from, stands_put}
 use Rattle.pb_rules.proofs.listed.join.Goals as goal
 

@@ -1,7 +1,7 @@
 use Rattle.std.proofs.Common.{[], ◌∷◌}
 use Rattle.std.proofs.lemmas.Bool.{OnTrue_at, OnTrue_from}
-use Rattle.pb_rules.specs.laws.Slots.{listed_slots}
-use Rattle.pb_rules.specs.laws.Mirrors.{HasJust}
+use Rattle.pb_rules.specs.inner.Slots.{listed_slots}
+use Rattle.pb_rules.specs.inner.Mirrors.{HasJust}
 use Rattle.pb_rules.proofs.Refuting.{idle-just}
 use Rattle.pb_rules.proofs.listed.join_all.Goals as goal
 

@@ -2,7 +2,7 @@ use Rattle.std.proofs.Common.{List, ◌++◌, subst, Option}
 use Rattle.std.specs.Bool.{OnTrue}
 use Rattle.std.specs.Option.{option_to_list}
 use Rattle.pb_norm.specs.Constraints.{Constraint}
-use Rattle.pb_rules.specs.laws.Mirrors.{HasJust}
+use Rattle.pb_rules.specs.inner.Mirrors.{HasJust}
 use Rattle.pb_rules.proofs.listed.join_at.Goals as goal
 
 pub returns-in-Some-clause-joined : goal.returns-in-Some-clause-joined

@@ -1,8 +1,8 @@
 use Rattle.std.proofs.Common.{List, ℕ, ◌++◌, subst}
 use Rattle.std.proofs.lemmas.Bool.{OnTrue_at}
 use Rattle.std.proofs.lemmas.List.{take_all}
-use Rattle.pb_rules.specs.laws.Slots.{listed_slots}
-use Rattle.pb_rules.specs.laws.Mirrors.{IsCovered, HasJust}
+use Rattle.pb_rules.specs.inner.Slots.{listed_slots}
+use Rattle.pb_rules.specs.inner.Mirrors.{IsCovered, HasJust}
 use Rattle.pb_rules.proofs.Refuting.{just-more}
 use Rattle.pb_rules.proofs.listed.join_listed.Goals as goal
 

@@ -1,7 +1,7 @@
 use Rattle.std.proofs.Common.{◌++◌, List, take}
 use Rattle.pb_norm.specs.Constraints.{Constraint}
-use Rattle.pb_rules.specs.laws.Slots.{listed_slots}
-use Rattle.pb_rules.specs.laws.Mirrors.{IsCovered, HasJust}
+use Rattle.pb_rules.specs.inner.Slots.{listed_slots}
+use Rattle.pb_rules.specs.inner.Mirrors.{IsCovered, HasJust}
 use Rattle.pb_rules.proofs.listed.join_listed.Given as goal
 
 abbrev pub invariant-loop-id : goal.invariant-loop-id

@@ -1,7 +1,7 @@
 use Rattle.std.proofs.Common.{◌≡◌, ◌∙◌, ◌++◌, ◌∷◌, [], arith, ap, List, ℕ, Option, subst, ◌-◌}
 use Rattle.std.specs.Prelude.{vec_len}
 use Rattle.std.specs.Option.{option_to_list}
-use Rattle.pb_rules.specs.laws.Mirrors.{IsCovered}
+use Rattle.pb_rules.specs.inner.Mirrors.{IsCovered}
 use Rattle.pb_rules.proofs.Refuting.{covered-less, nothing_taken}
 use Rattle.pb_rules.proofs.listed.leave.Goals as goal
 

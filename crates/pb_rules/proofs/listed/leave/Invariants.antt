@@ -1,5 +1,5 @@
 use Rattle.std.specs.Prelude.{vec_len}
-use Rattle.pb_rules.specs.laws.Mirrors.{IsCovered}
+use Rattle.pb_rules.specs.inner.Mirrors.{IsCovered}
 use Rattle.pb_rules.proofs.listed.leave.Given as goal
 
 abbrev pub invariant-newest : goal.invariant-newest

@@ -2,7 +2,7 @@ use Rattle.std.proofs.Common.{◌≡◌, ◌≤◌, ◌∙◌, reverse, Some, sy
 use Rattle.std.specs.Prelude.{All}
 use Rattle.pb_steps.specs.declared.op.PolOp.{PolOp}
 use Rattle.pb_steps.specs.Steps.{vars_of_op}
-use Rattle.pb_rules.specs.laws.Tops.{done_op}
+use Rattle.pb_rules.specs.inner.Tops.{done_op}
 use Rattle.pb_rules.proofs.Fits.{narrow-fit, done-fit, outcome_true, ops_more, flat-at}
 use Rattle.pb_rules.proofs.pol.apply_ops.Goals as goal
 

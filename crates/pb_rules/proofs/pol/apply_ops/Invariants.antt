@@ -1,6 +1,6 @@
 use Rattle.std.proofs.Common.{◌≡◌, drop, reverse}
 use Rattle.pb_steps.specs.Stacks.{after_ops}
-use Rattle.pb_rules.specs.laws.Tops.{AreSoundConstraints}
+use Rattle.pb_rules.specs.inner.Tops.{AreSoundConstraints}
 use Rattle.pb_rules.proofs.pol.apply_ops.Given as goal
 
 abbrev pub invariant-loop-op : goal.invariant-loop-op

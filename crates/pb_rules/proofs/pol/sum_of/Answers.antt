@@ -18,7 +18,7 @@ pub returns-in-Some-pop-clause-fit : goal.returns-in-Some-pop-clause-fit
 returns-in-Some-pop-clause-fit c =
     let done : after_ops c.args.db.now.live c.args.ops.now [] ≡ Some (reverse c.apply_ops.new.stack.items) = ap (λ (s : List Constraint). after_ops c.args.db.now.live c.args.ops.now (reverse s)) (sym c.new-stack.ensures.items) ∙ outcome_true c.in_ok-apply_ops.field-0 _ _ c.if-not-branch.false c.in_ok-apply_ops.ensures in
     let left : IsOneLeft c.args.db.now c.args.ops.now c.in-Some-pop.made = left_from c.args.db.now c.args.ops.now c.apply_ops.new.stack.items c.pop.new.self.items c.in-Some-pop.made c.in_default.ensures.value done c.in-Some-pop.ensures.items in
-    left-fit c.args.db.now c.args.ops.now c.in-Some-pop.made c.early.ensures.sound left
+    left-fit c.args.db.now c.args.ops.now c.in-Some-pop.made c.early_denial.ensures.sound left
 
 pub returns-in-Some-pop-clause-allowed : goal.returns-in-Some-pop-clause-allowed
 returns-in-Some-pop-clause-allowed c =

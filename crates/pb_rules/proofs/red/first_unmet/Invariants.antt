@@ -1,6 +1,6 @@
 use Rattle.std.proofs.Common.{◌≡◌, ℕ, ◌<◌}
 use Rattle.std.specs.Prelude.{slice_index_or}
-use Rattle.pb_rules.specs.laws.Obligations.{SlotIsMet}
+use Rattle.pb_rules.specs.inner.Obligations.{SlotIsMet}
 use Rattle.pb_rules.proofs.red.first_unmet.Given as goal
 
 abbrev pub invariant-loop-id : goal.invariant-loop-id

@@ -1,7 +1,7 @@
 use Rattle.std.proofs.Common.{sym, subst}
 use Rattle.pb_norm.specs.Constraints.{Constraint, HasVarsWithin}
 use Rattle.pb_steps.specs.Operations.{IsNarrow}
-use Rattle.pb_rules.specs.laws.Obligations.{TellsShown}
+use Rattle.pb_rules.specs.inner.Obligations.{TellsShown}
 use Rattle.pb_rules.proofs.Withins.{restriction-narrow, restriction-within}
 use Rattle.pb_rules.proofs.red.own_is_met.Goals as goal
 

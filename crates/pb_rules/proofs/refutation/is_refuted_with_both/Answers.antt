@@ -1,7 +1,7 @@
 use Rattle.std.proofs.Common.{◌∷◌, refl}
 use Rattle.std.proofs.lemmas.Result.{IfOk-weaker}
 use Rattle.pb_unit.specs.States.{standing}
-use Rattle.pb_rules.specs.laws.Mirrors.{TellsConflict}
+use Rattle.pb_rules.specs.inner.Mirrors.{TellsConflict}
 use Rattle.pb_rules.proofs.Mirroring.{keeps_put, keeps_same}
 use Rattle.pb_rules.proofs.Refuting.{tells_placed, gone_from, stands_kept}
 use Rattle.pb_rules.proofs.refutation.is_refuted_with_both.Goals as goal

@@ -1,5 +1,5 @@
 use Rattle.std.proofs.Common.{◌≡◌, ◌∙◌, ◌∷◌, length, arith}
-use Rattle.pb_rules.specs.laws.Slots.{listed_slots}
+use Rattle.pb_rules.specs.inner.Slots.{listed_slots}
 use Rattle.pb_rules.proofs.Showings.{round_on, tells_short, tells_calm}
 use Rattle.pb_rules.proofs.rounds.seen_in_rounds.Goals as goal
 

@@ -1,6 +1,6 @@
 use Rattle.std.proofs.Common.{◌≡◌, [], ◌∷◌}
 use Rattle.pb_unit.specs.Steps.{Advances}
-use Rattle.pb_rules.specs.laws.Slots.{listed_slots}
+use Rattle.pb_rules.specs.inner.Slots.{listed_slots}
 use Rattle.pb_rules.proofs.rounds.seen_in_rounds.Given as goal
 
 abbrev pub invariant-loop-round : goal.invariant-loop-round

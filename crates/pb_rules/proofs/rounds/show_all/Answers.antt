@@ -1,4 +1,4 @@
-use Rattle.pb_rules.specs.laws.Slots.{listed_slots}
+use Rattle.pb_rules.specs.inner.Slots.{listed_slots}
 use Rattle.pb_rules.proofs.Showings.{shows_not_first, shows_first}
 use Rattle.pb_rules.proofs.rounds.show_all.Goals as goal
 

@@ -1,7 +1,7 @@
 use Rattle.std.proofs.Common.{Option, true, subst}
 use Rattle.std.specs.Option.{option_to_list}
 use Rattle.pb_norm.specs.Constraints.{Constraint}
-use Rattle.pb_rules.specs.laws.Showing.{Shows}
+use Rattle.pb_rules.specs.inner.Showing.{Shows}
 use Rattle.pb_rules.proofs.Showings.{shows_one, shows_none}
 use Rattle.pb_rules.proofs.rounds.show_at.Goals as goal
 

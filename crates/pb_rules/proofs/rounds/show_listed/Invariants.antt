@@ -1,6 +1,6 @@
 use Rattle.std.proofs.Common.{◌≡◌, true, take}
-use Rattle.pb_rules.specs.laws.Slots.{listed_slots}
-use Rattle.pb_rules.specs.laws.Showing.{Shows}
+use Rattle.pb_rules.specs.inner.Slots.{listed_slots}
+use Rattle.pb_rules.specs.inner.Showing.{Shows}
 use Rattle.pb_rules.proofs.rounds.show_listed.Given as goal
 
 abbrev pub invariant-loop-id : goal.invariant-loop-id

@@ -1,5 +1,5 @@
 use Rattle.pb_steps.specs.LineSteps.{ids_in}
-use Rattle.pb_steps.specs.laws.Reading.{with_items}
+use Rattle.pb_steps.specs.inner.Reading.{with_items}
 use Rattle.pb_base.specs.Pieces.{chunk}
 use Rattle.pb_steps.proofs.ReadLemmas.{id_more}
 use Rattle.pb_steps.proofs.constraint.add_ids.Goals as goal

@@ -1,6 +1,6 @@
 use Rattle.std.proofs.Common.{rules}
 use Rattle.pb_steps.specs.LineSteps.{terms_in}
-use Rattle.pb_steps.specs.laws.Reading.{with_terms}
+use Rattle.pb_steps.specs.inner.Reading.{with_terms}
 use Rattle.pb_base.specs.Pieces.{chunk}
 use Rattle.pb_steps.proofs.ReadLemmas.{term_more}
 use Rattle.pb_steps.proofs.constraint.add_terms.Goals as goal

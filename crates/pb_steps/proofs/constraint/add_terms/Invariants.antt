@@ -1,6 +1,6 @@
 use Rattle.std.proofs.Common.{◌≡◌, length}
 use Rattle.pb_steps.specs.LineSteps.{terms_in}
-use Rattle.pb_steps.specs.laws.Reading.{with_terms}
+use Rattle.pb_steps.specs.inner.Reading.{with_terms}
 use Rattle.pb_steps.proofs.constraint.add_terms.Given as goal
 
 abbrev pub invariant-terms : goal.invariant-terms

@@ -1,6 +1,6 @@
 use Rattle.std.proofs.Common.{◌≡◌, length}
 use Rattle.pb_steps.specs.LineSteps.{sets_in}
-use Rattle.pb_steps.specs.laws.Reading.{with_items}
+use Rattle.pb_steps.specs.inner.Reading.{with_items}
 use Rattle.pb_steps.proofs.constraint.read_sets.Given as goal
 
 abbrev pub invariant-sets : goal.invariant-sets

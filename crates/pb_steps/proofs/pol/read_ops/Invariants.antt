@@ -1,7 +1,7 @@
 use Rattle.std.proofs.Common.{◌≡◌, false, length}
-use Rattle.pb_steps.specs.laws.Ahead.{ahead_of}
+use Rattle.pb_steps.specs.inner.Ahead.{ahead_of}
 use Rattle.pb_steps.specs.LineSteps.{ops_from}
-use Rattle.pb_steps.specs.laws.Reading.{with_items}
+use Rattle.pb_steps.specs.inner.Reading.{with_items}
 use Rattle.pb_steps.proofs.pol.read_ops.Given as goal
 
 abbrev pub invariant-ops : goal.invariant-ops

@@ -4,8 +4,8 @@ use Rattle.pb_desk.specs.View.{opened}
 use Rattle.pb_desk.specs.Desk.{same}
 use Rattle.pb_desk.proofs.Steps.{as_reads, on_err, then, then_fails_to_read}
 use Rattle.pb_suite.specs.Outputs.{nothing}
-use Rattle.pb_suite.specs.laws.Opening.{opened_both}
-use Rattle.pb_suite.specs.laws.Opening.StopsOpening.{no_cnf, no_proof}
+use Rattle.pb_suite.specs.inner.Opening.{opened_both}
+use Rattle.pb_suite.specs.inner.Opening.StopsOpening.{no_cnf, no_proof}
 use Rattle.pb_suite.proofs.Afterwards.{shelf_was}
 use Rattle.pb_suite.proofs.Going.{by_opened, goes_by}
 use Rattle.pb_suite.proofs.Opened.{have_both}

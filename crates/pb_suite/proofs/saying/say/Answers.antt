@@ -1,4 +1,4 @@
-use Rattle.pb_suite.specs.laws.Saying.EndsSaying.{whole, cut_off}
+use Rattle.pb_suite.specs.inner.Saying.EndsSaying.{whole, cut_off}
 use Rattle.pb_suite.proofs.saying.say.Goals as goal
 
 pub returns-in-Ok : goal.returns-in-Ok

@@ -1,9 +1,9 @@
 use Rattle.std.proofs.Common.{◌≡◌, ◌∙◌, ℕ, List, refl, subst}
 use Rattle.pb_desk.specs.Desk.{same}
 use Rattle.pb_desk.proofs.Steps.{begin}
-use Rattle.pb_suite.specs.OwedEncode.{due_words}
-use Rattle.pb_suite.specs.laws.Saying.{EndsSaying}
-use Rattle.pb_suite.specs.laws.Saying.EndsTelling.{says, no_memory}
+use Rattle.pb_suite.specs.EncodeSpec.{due_words}
+use Rattle.pb_suite.specs.inner.Saying.{EndsSaying}
+use Rattle.pb_suite.specs.inner.Saying.EndsTelling.{says, no_memory}
 use Rattle.pb_suite.proofs.storing.say_summary.Goals as goal
 
 pub returns-in-Ok : goal.returns-in-Ok

@@ -2,19 +2,19 @@ use Rattle.std.proofs.Common.{◌≡◌, ◌≤◌, ◌+◌, ◌-◌, ◌^◌, �
 use Rattle.pb_norm.specs.Constraints.{weights}
 use Rattle.pb_derive.specs.Deletions.{deletion_steps}
 use Rattle.pb_family.proofs.Deriving.{steps_same}
-use Rattle.pb_family.proofs.FlatPieces.{reasons_next}
-use Rattle.pb_family.proofs.HandedPhases.{stopped_in_meanings, stopped_in_claims, ended_by_deletions}
+use Rattle.pb_family.proofs.FlatPieces.{justifications_next}
+use Rattle.pb_family.proofs.HandedPhases.{stopped_in_reifications, stopped_in_claims, ended_by_deletions}
 use Rattle.pb_tree.specs.Tree.{tree_of}
 use Rattle.pb_tree.specs.Scheme.{fresh_of}
-use Rattle.pb_tree.specs.TreeSteps.{meanings, tree_reasons}
-use Rattle.pb_tree.proofs.TreeHanded.{meanings_next}
-use Rattle.pb_tree.proofs.TreeMeanings.{length-meanings}
+use Rattle.pb_tree.specs.TreeSteps.{reifications, tree_justifications}
+use Rattle.pb_tree.proofs.TreeHanded.{reifications_next}
+use Rattle.pb_tree.proofs.TreeReifications.{length-reifications}
 use Rattle.pb_totalizer.specs.Totalizer.{totalizer}
 use Rattle.pb_totalizer.specs.TotalizerSteps.{totalizer_pairs}
-use Rattle.pb_totalizer.specs.declared.ways.Ways.TheVariants.{Up}
-use Rattle.pb_totalizer.specs.laws.Ways.{all_reasons}
+use Rattle.pb_totalizer.specs.declared.polarity.Polarity.TheVariants.{Up}
+use Rattle.pb_totalizer.specs.laws.Polarity.{all_justifications}
 use Rattle.pb_totalizer.proofs.Handed.{all_counted, all_same}
-use Rattle.pb_totalizer.proofs.PartsCounted.{few_reasons}
+use Rattle.pb_totalizer.proofs.PartsCounted.{few_justifications}
 use Rattle.pb_totalizer.proofs.derivation.derive_totalizer.Goals as goal
 
 pub returns-in_err-meant : goal.returns-in_err-meant
@@ -24,45 +24,45 @@ returns-in_err-meant g c =
     let t = tree_of (weights ts) in
     let old = g.T.StepSink.state c.args.sink.now in
     let base : ℕ = c.next_id-base.result in
-    stopped_in_meanings c.from_residual.result (meanings s t c.args.first) (all_reasons c.args.bound ts base c.args.id) (tree_reasons s (totalizer_pairs (c.args.bound + 1)) t c.args.first old.next c.args.id)
-    (all_same c.args.bound ts c.args.first c.args.id base old.next c.next_id-base.ensures) old _ (g.T.StepSink.state c.take_meanings.new.sink) c.from_residual.ensures.1 c.in_err-meant.ensures.hands
+    stopped_in_reifications c.from_residual.result (reifications s t c.args.first) (all_justifications c.args.bound ts base c.args.id) (tree_justifications s (totalizer_pairs (c.args.bound + 1)) t c.args.first old.next c.args.id)
+    (all_same c.args.bound ts c.args.first c.args.id base old.next c.next_id-base.ensures) old _ (g.T.StepSink.state c.derive_reifications.new.sink) c.from_residual.ensures.1 c.in_err-meant.ensures.hands
 
-pub take_clauses-requires-clause-room : goal.take_clauses-requires-clause-room
-take_clauses-requires-clause-room g c =
+pub derive_clauses-requires-clause-room : goal.derive_clauses-requires-clause-room
+derive_clauses-requires-clause-room g c =
     let ts = c.args.terms.now in
     let s = totalizer c.args.bound in
     let t = tree_of (weights ts) in
-    let next = meanings_next (meanings s t c.args.first) (g.T.StepSink.state c.args.sink.now) (g.T.StepSink.state c.take_meanings.new.sink) c.in_ok-meant.ensures.hands in
+    let next = reifications_next (reifications s t c.args.first) (g.T.StepSink.state c.args.sink.now) (g.T.StepSink.state c.derive_reifications.new.sink) c.in_ok-meant.ensures.hands in
     let fresh : fresh_of s t ≤ 2 ^ 31 = omega (arith, c.requires.fits) in
-    omega (arith, next, length-meanings s t c.args.first, few_reasons Up c.args.bound ts c.next_id-base.result c.requires.from fresh, c.requires.few, c.requires.fits)
+    omega (arith, next, length-reifications s t c.args.first, few_justifications Up c.args.bound ts c.next_id-base.result c.requires.from fresh, c.requires.few, c.requires.fits)
 
-pub returns-in_err-take_clauses : goal.returns-in_err-take_clauses
-returns-in_err-take_clauses g c =
+pub returns-in_err-derive_clauses : goal.returns-in_err-derive_clauses
+returns-in_err-derive_clauses g c =
     let ts = c.args.terms.now in
     let s = totalizer c.args.bound in
     let t = tree_of (weights ts) in
     let old = g.T.StepSink.state c.args.sink.now in
     let base : ℕ = c.next_id-base.result in
-    stopped_in_claims c.from_residual-in_err-take_clauses.result (meanings s t c.args.first) (all_reasons c.args.bound ts base c.args.id) (tree_reasons s (totalizer_pairs (c.args.bound + 1)) t c.args.first old.next c.args.id)
-    (all_same c.args.bound ts c.args.first c.args.id base old.next c.next_id-base.ensures) old _ (g.T.StepSink.state c.take_meanings.new.sink) (g.T.StepSink.state c.take_clauses.new.sink) c.from_residual-in_err-take_clauses.ensures.1 c.in_ok-meant.ensures.hands c.in_err-take_clauses.ensures
+    stopped_in_claims c.from_residual-in_err-derive_clauses.result (reifications s t c.args.first) (all_justifications c.args.bound ts base c.args.id) (tree_justifications s (totalizer_pairs (c.args.bound + 1)) t c.args.first old.next c.args.id)
+    (all_same c.args.bound ts c.args.first c.args.id base old.next c.next_id-base.ensures) old _ (g.T.StepSink.state c.derive_reifications.new.sink) (g.T.StepSink.state c.derive_clauses.new.sink) c.from_residual-in_err-derive_clauses.ensures.1 c.in_ok-meant.ensures.hands c.in_err-derive_clauses.ensures
 
-pub take_deletions-requires-clause-few : goal.take_deletions-requires-clause-few
-take_deletions-requires-clause-few g c =
+pub derive_deletions-requires-clause-few : goal.derive_deletions-requires-clause-few
+derive_deletions-requires-clause-few g c =
     let ts = c.args.terms.now in
     let s = totalizer c.args.bound in
     let t = tree_of (weights ts) in
     let base : ℕ = c.next_id-base.result in
-    let mid = g.T.StepSink.state c.take_meanings.new.sink in
-    let next = meanings_next (meanings s t c.args.first) (g.T.StepSink.state c.args.sink.now) mid c.in_ok-meant.ensures.hands in
-    let last = reasons_next (all_reasons c.args.bound ts base c.args.id) mid (g.T.StepSink.state c.take_clauses.new.sink) c.in_ok-take_clauses.ensures in
+    let mid = g.T.StepSink.state c.derive_reifications.new.sink in
+    let next = reifications_next (reifications s t c.args.first) (g.T.StepSink.state c.args.sink.now) mid c.in_ok-meant.ensures.hands in
+    let last = justifications_next (all_justifications c.args.bound ts base c.args.id) mid (g.T.StepSink.state c.derive_clauses.new.sink) c.in_ok-derive_clauses.ensures in
     let fresh : fresh_of s t ≤ 2 ^ 31 = omega (arith, c.requires.fits) in
     omega (
       arith,
       next,
       last,
-      length-meanings s t c.args.first,
+      length-reifications s t c.args.first,
       all_counted c.args.bound ts base c.args.id,
-      few_reasons Up c.args.bound ts base c.requires.from fresh,
+      few_justifications Up c.args.bound ts base c.requires.from fresh,
       c.requires.few,
       c.requires.fits,
     )
@@ -73,11 +73,11 @@ returns g c =
     let s = totalizer c.args.bound in
     let t = tree_of (weights ts) in
     let old = g.T.StepSink.state c.args.sink.now in
-    let last = g.T.StepSink.state c.take_clauses.new.sink in
-    let new = g.T.StepSink.state c.take_deletions.new.sink in
+    let last = g.T.StepSink.state c.derive_clauses.new.sink in
+    let new = g.T.StepSink.state c.derive_deletions.new.sink in
     let base : ℕ = c.next_id-base.result in
-    let ms = meanings s t c.args.first in
-    let count : c.in_ok-meant.meant.next - c.args.first ≡ length ms = omega (arith, c.in_ok-meant.ensures.next, length-meanings s t c.args.first) in
-    ended_by_deletions c.take_deletions.result ms (all_reasons c.args.bound ts base c.args.id) (tree_reasons s (totalizer_pairs (c.args.bound + 1)) t c.args.first old.next c.args.id)
-    (all_same c.args.bound ts c.args.first c.args.id base old.next c.next_id-base.ensures) old (g.T.StepSink.state c.take_meanings.new.sink) last new c.in_ok-meant.ensures.hands c.in_ok-take_clauses.ensures
-    (steps_same c.take_deletions.result _ _ last new (λ x. deletion_steps 2 (c.next_id-base.ensures x) (count x)) c.take_deletions.ensures)
+    let ms = reifications s t c.args.first in
+    let count : c.in_ok-meant.meant.next - c.args.first ≡ length ms = omega (arith, c.in_ok-meant.ensures.next, length-reifications s t c.args.first) in
+    ended_by_deletions c.derive_deletions.result ms (all_justifications c.args.bound ts base c.args.id) (tree_justifications s (totalizer_pairs (c.args.bound + 1)) t c.args.first old.next c.args.id)
+    (all_same c.args.bound ts c.args.first c.args.id base old.next c.next_id-base.ensures) old (g.T.StepSink.state c.derive_reifications.new.sink) last new c.in_ok-meant.ensures.hands c.in_ok-derive_clauses.ensures
+    (steps_same c.derive_deletions.result _ _ last new (λ x. deletion_steps 2 (c.next_id-base.ensures x) (count x)) c.derive_deletions.ensures)

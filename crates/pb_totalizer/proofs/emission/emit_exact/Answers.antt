@@ -31,5 +31,5 @@ returns g c =
     let last : List (List Lit) = (o c.args.bound ∷ []) ∷ (negated (o (c.args.bound + 1)) ∷ []) ∷ [] in
     let one : c.at.result ≡ o c.args.bound = c.at.ensures ∙ ap (λ (f : ℕ → Lit). f c.args.bound) c.in_ok-root.ensures.outputs in
     let two : c.not.result ≡ negated (o (c.args.bound + 1)) = c.not.ensures ∙ ap negated (c.at-2.ensures ∙ ap (λ (f : ℕ → Lit). f (c.args.bound + 1)) c.in_ok-root.ensures.outputs) in
-    let handed = hands_same c.take_pair.result _ last _ _ (λ i. (one i ∷ []) ∷ (two i ∷ []) ∷ []) c.take_pair.ensures in
-    hands_last {all = exact_clauses (sum_within c.args.terms.now c.args.bound) c.args.first} c.take_pair.result last _ (emitting_step (exact_along c.args.bound t c.args.first) _ (emitting_starts _ _) c.in_ok-root.ensures.hands) handed
+    let handed = hands_same c.derive_pair.result _ last _ _ (λ i. (one i ∷ []) ∷ (two i ∷ []) ∷ []) c.derive_pair.ensures in
+    hands_last {all = exact_clauses (sum_within c.args.terms.now c.args.bound) c.args.first} c.derive_pair.result last _ (emitting_step (exact_along c.args.bound t c.args.first) _ (emitting_starts _ _) c.in_ok-root.ensures.hands) handed

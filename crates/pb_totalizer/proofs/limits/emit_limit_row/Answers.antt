@@ -1,7 +1,7 @@
 use Rattle.std.proofs.Common.{[], arith, refl}
 use Rattle.pb_family.proofs.Emission.{emitting_map, hands_fault_map}
 use Rattle.pb_totalizer.specs.laws.Limits.{limits_are}
-use Rattle.pb_totalizer.specs.laws.Outputs.{output_count, limit_over}
+use Rattle.pb_totalizer.specs.inner.Outputs.{output_count, limit_over}
 use Rattle.pb_totalizer.proofs.Rows.{map_starts, map_taken}
 use Rattle.pb_totalizer.proofs.limits.emit_limit_row.Goals as goal
 

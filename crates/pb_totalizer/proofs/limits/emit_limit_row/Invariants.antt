@@ -2,7 +2,7 @@ use Rattle.std.proofs.Common.{◌≡◌, ◌-◌, ◌+◌, ◌++◌, [], min}
 use Rattle.std.specs.Prelude.{map}
 use Rattle.std.specs.List.{range_with_len}
 use Rattle.pb_family.proofs.Emission.{Emitting}
-use Rattle.pb_totalizer.specs.laws.Outputs.{output_count, limit_over, limit_row_over}
+use Rattle.pb_totalizer.specs.inner.Outputs.{output_count, limit_over, limit_row_over}
 use Rattle.pb_totalizer.proofs.limits.emit_limit_row.Given as goal
 
 -- the clauses of the numbers that are left are left

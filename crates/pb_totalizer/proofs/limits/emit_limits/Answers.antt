@@ -1,6 +1,6 @@
 use Rattle.std.proofs.Common.{◌+◌, [], arith, refl}
 use Rattle.pb_family.proofs.Emission.{emitting_flat, flat_next, hands_fault}
-use Rattle.pb_totalizer.specs.laws.Outputs.{output_count, limit_row_over}
+use Rattle.pb_totalizer.specs.inner.Outputs.{output_count, limit_row_over}
 use Rattle.pb_totalizer.proofs.Rows.{flat_starts, flat_taken}
 use Rattle.pb_totalizer.proofs.limits.emit_limits.Goals as goal
 

@@ -1,7 +1,7 @@
 use Rattle.std.proofs.Common.{◌-◌, ◌+◌, ◌++◌, []}
 use Rattle.std.specs.List.{flat_map, range_with_len}
 use Rattle.pb_family.proofs.Emission.{Emitting}
-use Rattle.pb_totalizer.specs.laws.Outputs.{output_count, limit_row_over, limits_over}
+use Rattle.pb_totalizer.specs.inner.Outputs.{output_count, limit_row_over, limits_over}
 use Rattle.pb_totalizer.proofs.limits.emit_limits.Given as goal
 
 -- the rows of the numbers that are left are left

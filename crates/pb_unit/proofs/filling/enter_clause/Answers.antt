@@ -3,8 +3,8 @@ use Rattle.std.proofs.lemmas.List.{map_more, take_all}
 use Rattle.pb_base.specs.declared.literal.Lit.{Lit}
 use Rattle.pb_norm.specs.Constraints.{Weighted}
 use Rattle.pb_unit.specs.Index.{code}
-use Rattle.pb_unit.specs.Slots.{unit}
-use Rattle.pb_unit.specs.Filling.{AddsPlace}
+use Rattle.pb_unit.specs.inner.Slots.{unit}
+use Rattle.pb_unit.specs.inner.Filling.{AddsPlace}
 use Rattle.pb_unit.proofs.Fillings.{added_none, added_then}
 use Rattle.pb_unit.proofs.filling.enter_clause.Goals as goal
 

@@ -1,7 +1,7 @@
 use Rattle.std.proofs.Common.{◌≡◌, take, map}
-use Rattle.pb_unit.specs.Slots.{unit}
+use Rattle.pb_unit.specs.inner.Slots.{unit}
 use Rattle.pb_unit.specs.Index.{size_of}
-use Rattle.pb_unit.specs.Filling.{AddsPlace}
+use Rattle.pb_unit.specs.inner.Filling.{AddsPlace}
 use Rattle.pb_unit.proofs.filling.enter_clause.Given as goal
 
 abbrev pub invariant-loop-lit : goal.invariant-loop-lit

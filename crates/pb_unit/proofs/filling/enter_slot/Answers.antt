@@ -2,8 +2,8 @@ use Rattle.std.proofs.Common.{◌≡◌, ◌<◌, ◌∙◌, List, Option, Some,
 use Rattle.pb_base.specs.declared.literal.Lit.{Lit}
 use Rattle.pb_norm.specs.Constraints.{Constraint}
 use Rattle.pb_unit.specs.Index.{code, size_of}
-use Rattle.pb_unit.specs.Slots.{clause_of, alone_in, slot_at}
-use Rattle.pb_unit.specs.Filling.{terms_in, AddsPlace, AreNumbered}
+use Rattle.pb_unit.specs.inner.Slots.{clause_of, alone_in, slot_at}
+use Rattle.pb_unit.specs.inner.Filling.{terms_in, AddsPlace, AreNumbered}
 use Rattle.pb_unit.proofs.Slotting.{units_all, first_alone, none_alone}
 use Rattle.pb_unit.proofs.Fillings.{added_none}
 use Rattle.pb_unit.proofs.filling.enter_slot.Goals as goal

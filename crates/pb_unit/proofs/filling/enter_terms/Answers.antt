@@ -3,7 +3,7 @@ use Rattle.std.proofs.lemmas.List.{take_all}
 use Rattle.pb_base.specs.declared.literal.Term.{Term}
 use Rattle.pb_norm.specs.Constraints.{Weighted, weighted, weights}
 use Rattle.pb_unit.specs.Index.{size_of}
-use Rattle.pb_unit.specs.Filling.{AddsPlace, AddsTerm}
+use Rattle.pb_unit.specs.inner.Filling.{AddsPlace, AddsTerm}
 use Rattle.pb_unit.proofs.Entering.{weights-more}
 use Rattle.pb_unit.proofs.Fillings.{added_none, added_then, numbered_at}
 use Rattle.pb_unit.proofs.filling.enter_terms.Goals as goal

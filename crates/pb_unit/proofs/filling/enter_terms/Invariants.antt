@@ -1,7 +1,7 @@
 use Rattle.std.proofs.Common.{◌≡◌, take}
 use Rattle.pb_norm.specs.Constraints.{weights}
 use Rattle.pb_unit.specs.Index.{size_of}
-use Rattle.pb_unit.specs.Filling.{AddsPlace}
+use Rattle.pb_unit.specs.inner.Filling.{AddsPlace}
 use Rattle.pb_unit.proofs.filling.enter_terms.Given as goal
 
 abbrev pub invariant-loop-term : goal.invariant-loop-term

@@ -1,5 +1,5 @@
 use Rattle.std.proofs.Common.{◌∙◌, map, arith}
-use Rattle.pb_unit.specs.Filling.{terms_in}
+use Rattle.pb_unit.specs.inner.Filling.{terms_in}
 use Rattle.pb_unit.proofs.Fillings.{all_filled, ranged_filled, ranged_known}
 use Rattle.pb_unit.proofs.filling.fill.Goals as goal
 

@@ -2,7 +2,7 @@ use Rattle.std.proofs.Common.{◌≡◌, ◌≤◌, ◌<◌, ◌-◌, [], map, l
 use Rattle.std.specs.Prelude.{All}
 use Rattle.pb_base.specs.declared.literal.Lit.{Lit}
 use Rattle.pb_unit.specs.Index.{code, list_at, size_of}
-use Rattle.pb_unit.specs.Filling.{terms_in, IsFilledAt}
+use Rattle.pb_unit.specs.inner.Filling.{terms_in, IsFilledAt}
 use Rattle.pb_unit.proofs.filling.fill.Given as goal
 
 abbrev pub invariant-loop-low : goal.invariant-loop-low

@@ -4,8 +4,8 @@ use Rattle.std.proofs.lemmas.List.{take_all}
 use Rattle.pb_norm.specs.Constraints.{Weighted}
 use Rattle.pb_unit.specs.Index.{code}
 use Rattle.pb_unit.specs.declared.places.Slot.{Slot}
-use Rattle.pb_unit.specs.Slots.{slot_at, IsSlot}
-use Rattle.pb_unit.specs.Filling.{terms_in, AreNumbered, IsFilling}
+use Rattle.pb_unit.specs.inner.Slots.{slot_at, IsSlot}
+use Rattle.pb_unit.specs.inner.Filling.{terms_in, AreNumbered, IsFilling}
 use Rattle.pb_unit.proofs.Fillings.{filling_none, filling_more}
 use Rattle.pb_unit.proofs.filling.fill_range.Goals as goal
 

@@ -1,7 +1,7 @@
 use Rattle.std.proofs.Common.{◌≡◌, take, map}
 use Rattle.pb_unit.specs.Index.{size_of}
-use Rattle.pb_unit.specs.Slots.{slot_at}
-use Rattle.pb_unit.specs.Filling.{terms_in, IsFilling}
+use Rattle.pb_unit.specs.inner.Slots.{slot_at}
+use Rattle.pb_unit.specs.inner.Filling.{terms_in, IsFilling}
 use Rattle.pb_unit.proofs.filling.fill_range.Given as goal
 
 abbrev pub invariant-loop-place : goal.invariant-loop-place

@@ -3,7 +3,7 @@ use Rattle.std.proofs.lemmas.List.{length-map}
 use Rattle.pb_base.specs.declared.literal.Lit.{Lit}
 use Rattle.pb_base.specs.declared.literal.Term.{Term}
 use Rattle.pb_norm.specs.Constraints.{Constraint, Weighted, weights, weighted}
-use Rattle.pb_unit.specs.Slots.{unit, part, clause_of}
+use Rattle.pb_unit.specs.inner.Slots.{unit, part, clause_of}
 use Rattle.pb_unit.proofs.Slotting.{clause_in}
 use Rattle.pb_unit.proofs.places.clause_slot.Goals as goal
 

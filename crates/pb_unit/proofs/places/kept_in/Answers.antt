@@ -2,8 +2,8 @@ use Rattle.std.proofs.Common.{◌≡◌, ◌<◌, ◌^◌, ◌∙◌, List, Opti
 use Rattle.pb_base.specs.declared.literal.Lit.{Lit}
 use Rattle.pb_norm.specs.Constraints.{Constraint}
 use Rattle.pb_unit.specs.States.{at_place}
-use Rattle.pb_unit.specs.Slots.{clause_of, slot_at}
-use Rattle.pb_unit.specs.Filling.{IsKeptOf}
+use Rattle.pb_unit.specs.inner.Slots.{clause_of, slot_at}
+use Rattle.pb_unit.specs.inner.Filling.{IsKeptOf}
 use Rattle.pb_unit.proofs.Slotting.{at_slot}
 use Rattle.pb_unit.proofs.Laying.{clause_kept}
 use Rattle.pb_unit.proofs.places.kept_in.Goals as goal

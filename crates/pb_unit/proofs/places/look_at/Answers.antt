@@ -2,7 +2,7 @@ use Rattle.std.proofs.Common.{◌∙◌, sym, ap, Some, List, map}
 use Rattle.std.proofs.lemmas.Bool.{ltb-true}
 use Rattle.pb_base.specs.declared.literal.Lit.{Lit}
 use Rattle.pb_unit.specs.States.{Stands}
-use Rattle.pb_unit.specs.Slots.{part, clause_of, alone_in, slot_at}
+use Rattle.pb_unit.specs.inner.Slots.{part, clause_of, alone_in, slot_at}
 use Rattle.pb_unit.proofs.Slotting.{at_slot, first_alone, lits_within}
 use Rattle.pb_unit.proofs.Visits.{visit_advanced, visit_calm, visit_short}
 use Rattle.pb_unit.proofs.places.look_at.Goals as goal

@@ -3,7 +3,7 @@ use Rattle.std.proofs.lemmas.List.{take_all}
 use Rattle.pb_base.specs.declared.literal.Lit.{Lit}
 use Rattle.pb_base.specs.declared.literal.Term.{Term}
 use Rattle.pb_norm.specs.Constraints.{term_of, terms_of}
-use Rattle.pb_unit.specs.Slots.{unit}
+use Rattle.pb_unit.specs.inner.Slots.{unit}
 use Rattle.pb_unit.proofs.Slotting.{copied_unit}
 use Rattle.pb_unit.proofs.places.push_units.Goals as goal
 

@@ -5,7 +5,7 @@ use Rattle.pb_norm.specs.Constraints.{Constraint}
 use Rattle.pb_norm.specs.Propagation.{room}
 use Rattle.pb_norm.proofs.Rooms.{room-le-weight}
 use Rattle.pb_unit.specs.States.{Stands}
-use Rattle.pb_unit.specs.Slots.{unit, clause_of, alone_in, slot_at}
+use Rattle.pb_unit.specs.inner.Slots.{unit, clause_of, alone_in, slot_at}
 use Rattle.pb_unit.proofs.Slotting.{at_slot, first_alone}
 use Rattle.pb_unit.proofs.Standing.{stands_one}
 use Rattle.pb_unit.proofs.places.room_in.Goals as goal

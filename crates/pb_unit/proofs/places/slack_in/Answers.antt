@@ -2,7 +2,7 @@ use Rattle.std.proofs.Common.{◌∙◌, sym, ap, Some, List, map}
 use Rattle.std.proofs.lemmas.Bool.{ltb-true}
 use Rattle.pb_base.specs.declared.literal.Lit.{Lit}
 use Rattle.pb_unit.specs.States.{Stands}
-use Rattle.pb_unit.specs.Slots.{alone_in, clause_of, slot_at}
+use Rattle.pb_unit.specs.inner.Slots.{alone_in, clause_of, slot_at}
 use Rattle.pb_unit.proofs.Slotting.{at_slot, first_alone}
 use Rattle.pb_unit.proofs.places.slack_in.Goals as goal
 

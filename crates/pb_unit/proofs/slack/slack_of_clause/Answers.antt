@@ -1,6 +1,6 @@
 use Rattle.std.proofs.Common.{map, arith}
 use Rattle.pb_norm.proofs.Rooms.{room-le-weight}
-use Rattle.pb_unit.specs.Slots.{unit}
+use Rattle.pb_unit.specs.inner.Slots.{unit}
 use Rattle.pb_unit.proofs.slack.slack_of_clause.Goals as goal
 
 pub above-requires-clause-left : goal.above-requires-clause-left

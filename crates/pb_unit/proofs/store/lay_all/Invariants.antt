@@ -1,5 +1,5 @@
 use Rattle.std.proofs.Common.{take}
-use Rattle.pb_unit.specs.Filling.{AreLaid}
+use Rattle.pb_unit.specs.inner.Filling.{AreLaid}
 use Rattle.pb_unit.proofs.store.lay_all.Given as goal
 
 abbrev pub invariant-loop-place : goal.invariant-loop-place

@@ -1,7 +1,7 @@
 use Rattle.std.proofs.Common.{◌≡◌, ◌≤◌, ◌<◌, ◌⊎◌, ◌∙◌, ◌++◌, ℕ, take, drop, List, Option, sym, subst, ap, length}
 use Rattle.std.specs.Prelude.{Contains}
 use Rattle.pb_norm.specs.Constraints.{Constraint}
-use Rattle.pb_unit.specs.declared.kept.Kept.{Kept}
+use Rattle.pb_unit.specs.declared.kept.Counters.{Counters}
 use Rattle.pb_unit.specs.States.{placed}
 use Rattle.pb_unit.specs.Steps.{IsAlert}
 use Rattle.pb_unit.specs.Index.{IsStore, AreListed, room_at, alert_at}
@@ -25,14 +25,14 @@ returns-clause-store c =
     let is : c.enter_and_put.new.places ≡ placed c.args.place c.args.constraint P = c.if-not-enter_and_put.ensures.placed in
     let alert : IsAlert (alert_at c.settle.new.kept c.args.place) c.args.constraint = subst (λ (a : ℕ). IsAlert a c.args.constraint) (sym c.settle.ensures.alert) c.alert_of-alert.ensures in
     let here : (alert_at c.settle.new.kept c.args.place ≤ room_at c.enter_and_put.new.kept.items c.args.place) ⊎ Contains c.settle.new.tight.items c.args.place =
-    subst (λ (ks : List Kept). (alert_at c.settle.new.kept c.args.place ≤ room_at ks c.args.place) ⊎ Contains c.settle.new.tight.items c.args.place) c.deref_mut.ensures.value c.settle.ensures.listed in
+    subst (λ (ks : List Counters). (alert_at c.settle.new.kept c.args.place ≤ room_at ks c.args.place) ⊎ Contains c.settle.new.tight.items c.args.place) c.deref_mut.ensures.value c.settle.ensures.listed in
     subst (λ (ps : List (Option Constraint)). IsStore c.args.vars ps c.enter_and_put.new.lists (take c.enter_and_put.new.kept.len (c.settle.new.kept ++ drop (length c.settle.new.kept) c.enter_and_put.new.kept.items)) c.settle.new.tight.items) (sym is)
-    (subst (λ (ks : List Kept). IsStore c.args.vars (placed c.args.place c.args.constraint P) c.enter_and_put.new.lists ks c.settle.new.tight.items) (sym kept)
+    (subst (λ (ks : List Counters). IsStore c.args.vars (placed c.args.place c.args.constraint P) c.enter_and_put.new.lists ks c.settle.new.tight.items) (sym kept)
     (stored c.args.vars P c.enter_and_put.new.lists c.args.kept.now.items c.enter_and_put.new.kept.items c.settle.new.kept c.args.tight.now.items c.settle.new.tight.items c.args.place c.args.constraint c.requires.near c.requires.store.even c.requires.store.listed c.if-not-enter_and_put.ensures.entered c.enter_and_put.ensures.alerts c.if-not-enter_and_put.ensures.known c.enter_and_put.ensures.size
-    (c.settle.auto.kept ∙ ap (λ (ks : List Kept). length ks) c.deref_mut.ensures.value)
-    (λ p. c.settle.ensures.rooms p ∙ ap (λ (ks : List Kept). room_at ks p) c.deref_mut.ensures.value)
+    (c.settle.auto.kept ∙ ap (λ (ks : List Counters). length ks) c.deref_mut.ensures.value)
+    (λ p. c.settle.ensures.rooms p ∙ ap (λ (ks : List Counters). room_at ks p) c.deref_mut.ensures.value)
     alert
-    (λ p ne. c.settle.ensures.others p ne ∙ ap (λ (ks : List Kept). alert_at ks p) c.deref_mut.ensures.value)
+    (λ p ne. c.settle.ensures.others p ne ∙ ap (λ (ks : List Counters). alert_at ks p) c.deref_mut.ensures.value)
     here
     (λ p h. c.settle.ensures.more p (subst (λ (ts : List ℕ). Contains ts p) (sym c.reserve.ensures.items) h))))
 
@@ -43,4 +43,4 @@ pub enter_and_put-requires-clause-near_kept : goal.enter_and_put-requires-clause
 enter_and_put-requires-clause-near_kept c = subst (λ (n : ℕ). c.args.place ≤ n) (sym c.requires.store.even) c.requires.near
 
 pub settle-requires-clause-known : goal.settle-requires-clause-known
-settle-requires-clause-known c = subst (λ (ks : List Kept). c.args.place < length ks) (sym c.deref_mut.ensures.value) c.if-not-enter_and_put.ensures.known
+settle-requires-clause-known c = subst (λ (ks : List Counters). c.args.place < length ks) (sym c.deref_mut.ensures.value) c.if-not-enter_and_put.ensures.known

@@ -1,5 +1,5 @@
 use Rattle.std.proofs.Common.{◌≡◌, drop, map}
-use Rattle.pb_unit.specs.Slots.{unit}
+use Rattle.pb_unit.specs.inner.Slots.{unit}
 use Rattle.pb_unit.specs.Steps.{with_all_needed}
 use Rattle.pb_unit.proofs.visit.join_units.Given as goal
 

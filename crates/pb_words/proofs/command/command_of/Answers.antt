@@ -1,4 +1,4 @@
-use Rattle.pb_words.specs.Commands.{with_arguments}
+use Rattle.pb_words.specs.inner.Commands.{with_arguments}
 use Rattle.pb_words.proofs.CommandLemmas.{last_step, next_step}
 use Rattle.pb_words.proofs.command.command_of.Goals as goal
 

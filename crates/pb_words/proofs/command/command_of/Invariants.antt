@@ -1,6 +1,6 @@
 use Rattle.std.proofs.Common.{fold, take}
 use Rattle.clap.specs.Words.{new_app}
-use Rattle.pb_words.specs.Commands.{with_arguments}
+use Rattle.pb_words.specs.inner.Commands.{with_arguments}
 use Rattle.pb_words.specs.Rules.{IsCommand}
 use Rattle.pb_words.proofs.command.command_of.Given as goal
 

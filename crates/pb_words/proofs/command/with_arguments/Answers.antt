@@ -1,5 +1,5 @@
 use Rattle.clap.specs.Words.{with_rule}
-use Rattle.pb_words.specs.Commands.{rule_for}
+use Rattle.pb_words.specs.inner.Commands.{rule_for}
 use Rattle.pb_words.proofs.CommandLemmas.{adds_rule, last_step, next_step}
 use Rattle.pb_words.proofs.command.with_arguments.Goals as goal
 

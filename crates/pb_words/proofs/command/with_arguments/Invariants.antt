@@ -1,6 +1,6 @@
 use Rattle.std.proofs.Common.{take}
 use Rattle.clap.specs.Words.{App}
-use Rattle.pb_words.specs.Commands.{with_arguments}
+use Rattle.pb_words.specs.inner.Commands.{with_arguments}
 use Rattle.pb_words.specs.Rules.{IsCommand}
 use Rattle.pb_words.proofs.command.with_arguments.Given as goal
 

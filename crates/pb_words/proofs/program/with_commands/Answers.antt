@@ -1,5 +1,5 @@
 use Rattle.clap.specs.Words.{with_subcommand}
-use Rattle.pb_words.specs.Commands.{app_for}
+use Rattle.pb_words.specs.inner.Commands.{app_for}
 use Rattle.pb_words.proofs.CommandLemmas.{last_step, next_step}
 use Rattle.pb_words.proofs.program.with_commands.Goals as goal
 

@@ -12,7 +12,7 @@ use Rattle.pb_diagram.specs.DiagramSteps.{diagram_steps}
 use Rattle.pb_adder.specs.AdderSteps.{adder_steps}
 use Rattle.pb_choice.specs.declared.chosen.Chosen.{Chosen}
 use Rattle.pb_choice.specs.SumSteps.{sum_steps}
-use Rattle.pb_choice.specs.laws.Chosen.{sum_at, treatment_at}
+use Rattle.pb_choice.specs.inner.Chosen.{sum_at, treatment_at}
 use Rattle.pb_choice.proofs.chosen.ChosenDerive.derive.Goals as goal
 
 pub returns-in-Totalizer : goal.returns-in-Totalizer

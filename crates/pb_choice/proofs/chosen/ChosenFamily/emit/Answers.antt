@@ -12,7 +12,7 @@ use Rattle.pb_diagram.specs.Clauses.{diagram_clauses}
 use Rattle.pb_adder.specs.Adder.{adder_clauses}
 use Rattle.pb_choice.specs.declared.chosen.Chosen.{Chosen}
 use Rattle.pb_choice.specs.Sums.{sum_clauses}
-use Rattle.pb_choice.specs.laws.Chosen.{sum_at, treatment_at}
+use Rattle.pb_choice.specs.inner.Chosen.{sum_at, treatment_at}
 use Rattle.pb_choice.proofs.chosen.ChosenFamily.emit.Goals as goal
 
 pub returns-in-Totalizer : goal.returns-in-Totalizer

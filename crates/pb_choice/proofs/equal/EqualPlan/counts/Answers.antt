@@ -1,5 +1,5 @@
 use Rattle.std.proofs.Common.{ap, sym, ◌∙◌}
-use Rattle.pb_choice.specs.laws.EqualPlans.{planned_count, planned_fresh}
+use Rattle.pb_choice.specs.EqualPlans.{planned_count, planned_fresh}
 use Rattle.pb_choice.proofs.equal.EqualPlan.counts.Goals as goal
 
 pub returns-in-Joint-clause-fresh : goal.returns-in-Joint-clause-fresh

@@ -2,7 +2,7 @@ use Rattle.std.proofs.Common.{ap, sym, subst, arith}
 use Rattle.pb_family.specs.StepSinks.{HandsFrom}
 use Rattle.pb_choice.specs.declared.equal.EqualPlan.{EqualPlan}
 use Rattle.pb_choice.specs.Readiness.{LeavesIds}
-use Rattle.pb_choice.specs.laws.EqualPlans.{IsPlannedBelow, planned_count, planned_fresh, planned_steps}
+use Rattle.pb_choice.specs.EqualPlans.{IsPlannedBelow, planned_count, planned_fresh, planned_steps}
 use Rattle.pb_choice.proofs.equal.EqualPlan.derive.Goals as goal
 
 pub derive_joint-requires : goal.derive_joint-requires

@@ -1,7 +1,7 @@
 use Rattle.std.proofs.Common.{ap, sym, subst, arith}
 use Rattle.pb_family.specs.Handing.{HandsIfMemory}
 use Rattle.pb_choice.specs.declared.equal.EqualPlan.{EqualPlan}
-use Rattle.pb_choice.specs.laws.EqualPlans.{IsPlannedBelow, planned_clauses, planned_fresh}
+use Rattle.pb_choice.specs.EqualPlans.{IsPlannedBelow, planned_clauses, planned_fresh}
 use Rattle.pb_choice.proofs.equal.EqualPlan.emit.Goals as goal
 
 pub emit-requires : goal.emit-requires

@@ -9,15 +9,15 @@ returns-in-Single g c =
     let own = c.args.self.now in
     let grid = own.grid in
     let old = g.T.StepSink.state c.args.sink.now in
-    steps_same c.take_claim.result _ _ old (g.T.StepSink.state c.take_claim.new.sink)
+    steps_same c.derive_claim.result _ _ old (g.T.StepSink.state c.derive_claim.new.sink)
     (claim_same grid.terms.now grid.width grid.first own.id own.base old.next c.args.place _ _ (ap ids_of (sym c.in-Single.is) ∙ c.sources.ensures) c.beside-beside.ensures)
-    c.take_claim.ensures
+    c.derive_claim.ensures
 
 pub returns-in-Both : goal.returns-in-Both
 returns-in-Both g c =
     let own = c.args.self.now in
     let grid = own.grid in
     let old = g.T.StepSink.state c.args.sink.now in
-    steps_same c.take_claim-in-Both.result _ _ old (g.T.StepSink.state c.take_claim-in-Both.new.sink)
+    steps_same c.derive_claim-in-Both.result _ _ old (g.T.StepSink.state c.derive_claim-in-Both.new.sink)
     (claim_same grid.terms.now grid.width grid.first own.id own.base old.next c.args.place _ _ (ap ids_of (sym c.in-Both.is) ∙ c.sources.ensures) c.beside-beside.ensures)
-    c.take_claim-in-Both.ensures
+    c.derive_claim-in-Both.ensures

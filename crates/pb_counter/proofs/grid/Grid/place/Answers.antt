@@ -1,5 +1,5 @@
 use Rattle.std.proofs.Common.{length, subst, sym}
-use Rattle.pb_counter.specs.Order.{IsPlace}
+use Rattle.pb_counter.specs.inner.Order.{IsPlace}
 use Rattle.pb_counter.specs.laws.CounterOrder.{place_within}
 use Rattle.pb_counter.proofs.grid.Grid.place.Goals as goal
 

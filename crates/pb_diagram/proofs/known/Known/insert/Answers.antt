@@ -1,5 +1,5 @@
 use Rattle.std.proofs.Common.{sym, subst, List, ℕ}
-use Rattle.pb_diagram.specs.laws.Known.{intervals_of}
+use Rattle.pb_diagram.specs.inner.Known.{intervals_of}
 use Rattle.pb_diagram.specs.Levels.{interval_from}
 use Rattle.pb_diagram.specs.laws.Search.{IsGrown}
 use Rattle.pb_diagram.proofs.KnownFacts.{inserted_view}

@@ -1,7 +1,7 @@
 use Rattle.std.proofs.Common.{◌+◌, ℕ, ap, ◌∙◌}
 use Rattle.std.specs.Prelude.{slice_set}
 use Rattle.pb_encode.specs.Summaries.{place_of}
-use Rattle.pb_encode.specs.laws.Tallies.{capped}
+use Rattle.pb_encode.specs.inner.Tallies.{capped}
 use Rattle.pb_encode.proofs.TallyLemmas.{tally_more}
 use Rattle.pb_encode.proofs.tally.Tally.add.Goals as goal
 

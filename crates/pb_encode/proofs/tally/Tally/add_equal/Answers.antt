@@ -1,9 +1,9 @@
 use Rattle.std.proofs.Common.{◌++◌, [], ◌∷◌, ◌∙◌, subst}
 use Rattle.pb_norm.specs.Constraints.{Constraint}
-use Rattle.pb_choice.specs.declared.options.Options.{Options}
-use Rattle.pb_choice.specs.laws.EqualPlans.{IsEqualPlan}
+use Rattle.pb_base.specs.declared.options.Options.{Options}
+use Rattle.pb_choice.specs.EqualPlans.{IsEqualPlan}
 use Rattle.pb_encode.specs.declared.groups.Group.TheVariants.{Alone}
-use Rattle.pb_encode.specs.laws.Tallies.{Counts}
+use Rattle.pb_encode.specs.inner.Tallies.{Counts}
 use Rattle.pb_encode.proofs.TallyLemmas.{tally_joint, tally_split}
 use Rattle.pb_encode.proofs.tally.Tally.add_equal.Goals as goal
 

@@ -3,7 +3,7 @@ use Rattle.pb_base.specs.declared.literal.Term.{Term}
 use Rattle.pb_norm.specs.BoundedSums.{IsOverDistinct}
 use Rattle.pb_norm.specs.Constraints.{AllPositive, weight, weights}
 use Rattle.pb_gentot.specs.BoundTable.{IsTable}
-use Rattle.pb_gentot.specs.laws.KeptTables.{IsKeptTable}
+use Rattle.pb_gentot.specs.inner.KeptTables.{IsKeptTable}
 use Rattle.pb_gentot.proofs.KeptTables.{kept_of}
 use Rattle.pb_gentot.proofs.bound_table.BoundTable.build.Goals as goal
 

@@ -5,7 +5,7 @@ use Rattle.pb_family.proofs.Deriving.{steps_same}
 use Rattle.pb_tree.proofs.Splitting.{leaf_listed}
 use Rattle.pb_gentot.specs.BoundTable.{IsTable}
 use Rattle.pb_gentot.specs.BoundTableSteps.{table_steps}
-use Rattle.pb_gentot.specs.laws.KeptTables.{steps_by}
+use Rattle.pb_gentot.specs.inner.KeptTables.{steps_by}
 use Rattle.pb_gentot.proofs.TableValues.{each_positive}
 use Rattle.pb_gentot.proofs.bound_table.BoundTable.derive.Goals as goal
 

@@ -4,7 +4,7 @@ use Rattle.pb_base.specs.declared.literal.Term.{Term}
 use Rattle.pb_norm.specs.Constraints.{Weighted}
 use Rattle.pb_family.specs.Handing.{HandsIfMemory}
 use Rattle.pb_gentot.specs.BoundTable.{table_clauses}
-use Rattle.pb_gentot.specs.laws.KeptTables.{clauses_by}
+use Rattle.pb_gentot.specs.inner.KeptTables.{clauses_by}
 use Rattle.pb_gentot.proofs.bound_table.BoundTable.emit.Goals as goal
 
 pub returns : goal.returns

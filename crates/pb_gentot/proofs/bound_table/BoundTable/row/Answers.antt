@@ -5,7 +5,7 @@ use Rattle.pb_base.specs.declared.literal.Lit.{Lit}
 use Rattle.pb_norm.specs.Constraints.{weight, weights}
 use Rattle.pb_tree.specs.Tree.{tree_of}
 use Rattle.pb_gentot.specs.BoundTable.{table_values}
-use Rattle.pb_gentot.specs.laws.Outputs.{output_in}
+use Rattle.pb_gentot.specs.inner.Outputs.{output_in}
 use Rattle.pb_gentot.proofs.Emitting.{rising_values}
 use Rattle.pb_gentot.proofs.KeptTables.{row_is, row_small}
 use Rattle.pb_gentot.proofs.bound_table.BoundTable.row.Goals as goal

@@ -1,4 +1,4 @@
-use Rattle.pb_gentot.specs.laws.Marks.{MarksOnly}
+use Rattle.pb_gentot.specs.inner.Marks.{MarksOnly}
 use Rattle.pb_gentot.proofs.seen.Seen.of.Given as goal
 
 abbrev pub invariant-loop-value : goal.invariant-loop-value

@@ -11,7 +11,7 @@ use Rattle.pb_gentot.specs.Generalized.{generalized}
 use Rattle.pb_gentot.specs.GeneralizedSteps.{generalized_pairs}
 use Rattle.pb_gentot.specs.laws.ByPairs.{generalized_by_pairs}
 use Rattle.pb_gentot.specs.laws.GeneralizedLaws.{Always, generalized_lawful, generalized_suits, generalized_cap}
-use Rattle.pb_gentot.specs.laws.Sources.{AreLeavesPositive}
+use Rattle.pb_gentot.specs.inner.Sources.{AreLeavesPositive}
 use Rattle.pb_gentot.proofs.Bounds.{some_terms}
 use Rattle.pb_gentot.proofs.weighted.WeightedDeriveImpl.derive.Goals as goal
 

@@ -2,7 +2,7 @@ use Rattle.std.proofs.Common.{rules, ◌≡◌, ap, ◌∙◌, ℕ, List, [], �
 use Rattle.pb_base.specs.declared.literal.Lit.{Lit}
 use Rattle.pb_lrat.specs.declared.store.Span.{Span}
 use Rattle.pb_lrat.specs.Hints.{Kept}
-use Rattle.pb_lrat.specs.laws.Stores.{Library, kept_in}
+use Rattle.pb_lrat.specs.inner.Stores.{Library, kept_in}
 use Rattle.pb_lrat.proofs.Storing.{kept_more}
 use Rattle.pb_lrat.proofs.store.Store.push.Goals as goal
 

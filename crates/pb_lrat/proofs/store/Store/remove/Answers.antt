@@ -1,7 +1,7 @@
 use Rattle.std.proofs.Common.{ap, sym, ◌∙◌, ℕ, List, refl}
 use Rattle.std.specs.Prelude.{filter}
 use Rattle.pb_lrat.specs.Hints.{Kept}
-use Rattle.pb_lrat.specs.laws.Stores.{Library}
+use Rattle.pb_lrat.specs.inner.Stores.{Library}
 use Rattle.pb_lrat.proofs.Storing.{less_kept, others_kept, is_other}
 use Rattle.pb_lrat.proofs.store.Store.remove.Goals as goal
 

@@ -1,7 +1,7 @@
 use Rattle.std.proofs.Common.{◌∙◌, sym, ap, List, ℕ, get_or}
 use Rattle.std.specs.Prelude.{filter}
 use Rattle.pb_lrat.specs.Hints.{Kept}
-use Rattle.pb_lrat.specs.laws.Stores.{Library}
+use Rattle.pb_lrat.specs.inner.Stores.{Library}
 use Rattle.pb_lrat.proofs.Storing.{is_other, filter_next, filter_none}
 use Rattle.pb_lrat.proofs.store.Store.remove_each.Goals as goal
 

@@ -1,8 +1,8 @@
 use Rattle.std.proofs.Common.{◌≡◌, ◌∙◌, ap, sym, ◌∷◌, reverse, List, subst}
 use Rattle.pb_base.specs.declared.literal.Lit.{Lit}
 use Rattle.pb_unit.proofs.Trailing.{popped_order}
-use Rattle.pb_lrat.specs.laws.Marks.{value_at}
-use Rattle.pb_lrat.specs.laws.Trails.{IsTrail}
+use Rattle.pb_lrat.specs.inner.Marks.{value_at}
+use Rattle.pb_lrat.specs.inner.Trails.{IsTrail}
 use Rattle.pb_lrat.proofs.Trailing.{popped}
 use Rattle.pb_lrat.proofs.trail.Trail.clear.Goals as goal
 

@@ -1,6 +1,6 @@
 use Rattle.std.proofs.Common.{reverse, vec_len}
-use Rattle.pb_lrat.specs.laws.Marks.{value_at}
-use Rattle.pb_lrat.specs.laws.Trails.{IsTrail}
+use Rattle.pb_lrat.specs.inner.Marks.{value_at}
+use Rattle.pb_lrat.specs.inner.Trails.{IsTrail}
 use Rattle.pb_lrat.proofs.trail.Trail.clear.Given as goal
 
 abbrev pub invariant-newest : goal.invariant-newest

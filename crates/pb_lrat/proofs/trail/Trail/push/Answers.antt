@@ -1,8 +1,8 @@
 use Rattle.std.proofs.Common.{◌∙◌, ◌∷◌, ◌++◌, [], List, reverse, ap, sym, subst}
 use Rattle.std.proofs.lemmas.List.{reverse-append}
 use Rattle.pb_base.specs.declared.literal.Lit.{Lit}
-use Rattle.pb_lrat.specs.laws.Marks.{value_at}
-use Rattle.pb_lrat.specs.laws.Trails.{IsTrail}
+use Rattle.pb_lrat.specs.inner.Marks.{value_at}
+use Rattle.pb_lrat.specs.inner.Trails.{IsTrail}
 use Rattle.pb_lrat.proofs.trail.Trail.push.Goals as goal
 
 pub invariant_of-self : goal.invariant_of-self

@@ -1,7 +1,7 @@
 use Rattle.std.proofs.Common.{◌∙◌, ap, sym, List}
 use Rattle.pb_steps.specs.Database.{constraint_at}
 use Rattle.pb_rules.specs.declared.slots.Slot.{Slot}
-use Rattle.pb_rules.specs.laws.Slots.{slot_of}
+use Rattle.pb_rules.specs.inner.Slots.{slot_of}
 use Rattle.pb_rules.proofs.SlotLemmas.{constraint_at-slot}
 use Rattle.pb_rules.proofs.database.Database.constraint_at.Goals as goal
 

@@ -4,11 +4,11 @@ use Rattle.std.proofs.lemmas.Bool.{OnTrue_at}
 use Rattle.pb_norm.specs.Constraints.{Weighted, HasVarsWithin}
 use Rattle.pb_steps.specs.Database.{Database, grown}
 use Rattle.pb_rules.specs.declared.slots.Slot.{Slot}
-use Rattle.pb_rules.specs.laws.Slots.{database_of, whole}
-use Rattle.pb_rules.specs.laws.Mirrors.{IsKept}
+use Rattle.pb_rules.specs.inner.Slots.{database_of, whole}
+use Rattle.pb_rules.specs.inner.Mirrors.{IsKept}
 use Rattle.pb_rules.proofs.SlotLemmas.{sound-push, grown-slots}
 use Rattle.pb_rules.proofs.Fronts.{front-pushed, kept-listed}
-use Rattle.pb_rules.specs.laws.Indexed.{ids_of}
+use Rattle.pb_rules.specs.inner.Indexed.{ids_of}
 use Rattle.pb_rules.proofs.Indexing.{indexed-kept, indexed-pushed}
 use Rattle.pb_rules.proofs.database.Database.grow.Goals as goal
 

@@ -1,6 +1,6 @@
 use Rattle.std.proofs.Common.{◌≡◌, ◌<◌, ◌∙◌, ap, sym, subst, List, ℕ, length}
 use Rattle.pb_steps.specs.Database.{Database}
-use Rattle.pb_rules.specs.laws.Indexed.{ids_of, HasNaming}
+use Rattle.pb_rules.specs.inner.Indexed.{ids_of, HasNaming}
 use Rattle.pb_rules.proofs.Indexing.{has_naming}
 use Rattle.pb_rules.proofs.database.Database.ids_of.Goals as goal
 

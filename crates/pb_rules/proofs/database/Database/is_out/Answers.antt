@@ -1,7 +1,7 @@
 use Rattle.std.proofs.Common.{◌∙◌, ap, sym, List}
 use Rattle.pb_steps.specs.Database.{is_out}
 use Rattle.pb_rules.specs.declared.slots.Slot.{Slot}
-use Rattle.pb_rules.specs.laws.Slots.{slot_of, slot_is_out}
+use Rattle.pb_rules.specs.inner.Slots.{slot_of, slot_is_out}
 use Rattle.pb_rules.proofs.SlotLemmas.{is_out-slot}
 use Rattle.pb_rules.proofs.database.Database.is_out.Goals as goal
 

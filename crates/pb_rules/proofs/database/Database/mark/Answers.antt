@@ -1,6 +1,6 @@
 use Rattle.std.proofs.Common.{◌∙◌, ap, length, map, arith}
 use Rattle.pb_steps.specs.Database.{Database, marked, mark}
-use Rattle.pb_rules.specs.laws.Slots.{entries_from}
+use Rattle.pb_rules.specs.inner.Slots.{entries_from}
 use Rattle.pb_rules.proofs.SlotLemmas.{sound-marked, same_database, marked-slots, length-marked}
 use Rattle.pb_rules.proofs.Fronts.{front-marked}
 use Rattle.pb_rules.proofs.Indexing.{indexed-marked}

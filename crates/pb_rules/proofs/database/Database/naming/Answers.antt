@@ -1,5 +1,5 @@
 use Rattle.std.proofs.Common.{take}
-use Rattle.pb_rules.specs.laws.Indexed.{IsNaming}
+use Rattle.pb_rules.specs.inner.Indexed.{IsNaming}
 use Rattle.pb_rules.proofs.Least.{least_none, least_next, least_all, named_first}
 use Rattle.pb_rules.proofs.database.Database.naming.Goals as goal
 
@@ -9,7 +9,7 @@ loop-id-init c = least_none (IsNaming c.args.self.now.live c.args.var c.args.fro
 pub loop-id-preserved : goal.loop-id-preserved
 loop-id-preserved c =
     let ids = c.ids_of-id-items.result.now in
-    least_next (IsNaming c.args.self.now.live c.args.var c.args.from) ids c.loop-id.id-index c.sooner-best.result c.loop-id-test.true (c.sooner-best.ensures (take c.loop-id.id-index ids) c.loop-id.invariant)
+    least_next (IsNaming c.args.self.now.live c.args.var c.args.from) ids c.loop-id.id-index c.earlier_naming-best.result c.loop-id-test.true (c.earlier_naming-best.ensures (take c.loop-id.id-index ids) c.loop-id.invariant)
 
 pub returns : goal.returns
 returns c =

@@ -1,5 +1,5 @@
 use Rattle.std.proofs.Common.{take}
-use Rattle.pb_rules.specs.laws.Indexed.{IsLeast, IsNaming}
+use Rattle.pb_rules.specs.inner.Indexed.{IsLeast, IsNaming}
 use Rattle.pb_rules.proofs.database.Database.naming.Given as goal
 
 abbrev pub invariant-loop-id : goal.invariant-loop-id

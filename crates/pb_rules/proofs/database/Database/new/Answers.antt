@@ -1,8 +1,8 @@
 use Rattle.std.proofs.Common.{◌≡◌, ◌∙◌, [], List, length, take, ap, refl, sym, subst, arith}
 use Rattle.pb_unit.specs.Trails.{Held}
 use Rattle.pb_rules.specs.declared.slots.Slot.{Slot}
-use Rattle.pb_rules.specs.laws.Indexed.{IsIndexed}
-use Rattle.pb_rules.specs.laws.Mirrors.{IsMirrored}
+use Rattle.pb_rules.specs.inner.Indexed.{IsIndexed}
+use Rattle.pb_rules.specs.inner.Mirrors.{IsMirrored}
 use Rattle.pb_rules.proofs.SlotLemmas.{sound-loaded_database, loaded_database-slots, length-placed_from}
 use Rattle.pb_rules.proofs.Refuting.{idle-new}
 use Rattle.pb_rules.proofs.database.Database.new.Goals as goal

@@ -1,5 +1,5 @@
 use Rattle.std.proofs.Common.{subst}
-use Rattle.pb_rules.specs.laws.Ordered.{IsOrdered}
+use Rattle.pb_rules.specs.inner.Ordered.{IsOrdered}
 use Rattle.pb_rules.proofs.Obliged.{database_of-ordered}
 use Rattle.pb_rules.proofs.database.Database.next.Goals as goal
 

@@ -2,7 +2,7 @@ use Rattle.std.proofs.Common.{◌∙◌, ◌∷◌, ◌++◌, [], ℕ, List, ari
 use Rattle.std.proofs.lemmas.Bool.{OnTrue_at}
 use Rattle.pb_norm.specs.Constraints.{Constraint, HasVarsWithin}
 use Rattle.pb_steps.specs.Database.{live_constraints}
-use Rattle.pb_rules.specs.laws.Mirrors.{TellsConflict}
+use Rattle.pb_rules.specs.inner.Mirrors.{TellsConflict}
 use Rattle.pb_rules.proofs.Mirroring.{slots-within, slots-more, within-more}
 use Rattle.pb_rules.proofs.Refuting.{tells_live}
 use Rattle.pb_rules.proofs.Fronts.{kept-same, kept-again, kept-whole}

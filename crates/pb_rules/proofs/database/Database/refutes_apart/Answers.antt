@@ -3,7 +3,7 @@ use Rattle.std.specs.Prelude.{filter_map}
 use Rattle.pb_norm.specs.Constraints.{Constraint}
 use Rattle.pb_steps.specs.Database.{live_constraints}
 use Rattle.pb_rules.specs.declared.slots.Slot.{Slot}
-use Rattle.pb_rules.specs.laws.Mirrors.{TellsConflict}
+use Rattle.pb_rules.specs.inner.Mirrors.{TellsConflict}
 use Rattle.pb_rules.proofs.SlotLemmas.{live_constraints-slots}
 use Rattle.pb_rules.proofs.database.Database.refutes_apart.Goals as goal
 

@@ -3,8 +3,8 @@ use Rattle.std.specs.Prelude.{IfOk, filter_map}
 use Rattle.pb_norm.specs.Constraints.{Constraint, HasVarsWithin}
 use Rattle.pb_steps.specs.Database.{Database, constraint_at}
 use Rattle.pb_rules.specs.declared.slots.Slot.{Slot}
-use Rattle.pb_rules.specs.laws.Slots.{listed_slots, database_of}
-use Rattle.pb_rules.specs.laws.Mirrors.{AreWithin, TellsConflict}
+use Rattle.pb_rules.specs.inner.Slots.{listed_slots, database_of}
+use Rattle.pb_rules.specs.inner.Mirrors.{AreWithin, TellsConflict}
 use Rattle.pb_rules.proofs.SlotLemmas.{listed-slots}
 use Rattle.pb_rules.proofs.Mirroring.{slots-within, slots-more, within-more}
 use Rattle.pb_rules.proofs.database.Database.refutes_listed.Goals as goal

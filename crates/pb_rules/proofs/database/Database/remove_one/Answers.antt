@@ -2,7 +2,7 @@ use Rattle.std.proofs.Common.{◌≡◌, ◌∙◌, ap, sym, length, ◌∷◌, 
 use Rattle.std.specs.Option.{option_map}
 use Rattle.pb_norm.specs.Constraints.{Constraint}
 use Rattle.pb_steps.specs.Database.{Database, reduced, without}
-use Rattle.pb_rules.specs.laws.Slots.{entries_from, place_of, slot_of}
+use Rattle.pb_rules.specs.inner.Slots.{entries_from, place_of, slot_of}
 use Rattle.pb_rules.proofs.SlotLemmas.{sound-without, slots_without-entries, length-slots_without, same_database}
 use Rattle.pb_rules.proofs.Fronts.{front-without_none}
 use Rattle.pb_rules.proofs.Indexing.{indexed-without, indexed-lost}

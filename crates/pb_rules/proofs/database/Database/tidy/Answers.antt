@@ -1,6 +1,6 @@
 use Rattle.std.proofs.Common.{List, subst, sym}
 use Rattle.pb_rules.specs.declared.slots.Slot.{Slot}
-use Rattle.pb_rules.specs.laws.Indexed.{IsIndexed}
+use Rattle.pb_rules.specs.inner.Indexed.{IsIndexed}
 use Rattle.pb_rules.proofs.database.Database.tidy.Goals as goal
 
 pub sweep_if-requires : goal.sweep_if-requires

@@ -1,7 +1,7 @@
 use Rattle.std.proofs.Common.{◌∙◌, ap, rules, ℕ}
 use Rattle.std.specs.Prelude.{filter, is_some}
 use Rattle.std.proofs.lemmas.Fn.{filter_same}
-use Rattle.pb_rules.specs.laws.Slots.{slot_of}
+use Rattle.pb_rules.specs.inner.Slots.{slot_of}
 use Rattle.pb_rules.proofs.index.Named.sweep.Goals as goal
 
 pub returns : goal.returns

@@ -5,7 +5,7 @@ use Rattle.pb_norm.specs.BoundedSums.{BoundedSum, sum_within}
 use Rattle.pb_totalizer.specs.Exact.{at_least, exact_clauses, exact_fresh, exact_size, literals_within}
 use Rattle.pb_totalizer.specs.laws.ExactLaws.{exact_outputs}
 use Rattle.pb_totalizer.specs.laws.UnitTerms.{unit_term, sum_is, sum_proper, units_weigh}
-use Rattle.pb_totalizer.specs.declared.ways.Ways.TheVariants.{Both}
+use Rattle.pb_totalizer.specs.declared.polarity.Polarity.TheVariants.{Both}
 use Rattle.pb_totalizer.proofs.PartsCounted.{few_clauses}
 use Rattle.pb_totalizer.proofs.exact.Exact.build.Goals as goal
 

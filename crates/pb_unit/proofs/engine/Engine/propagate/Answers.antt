@@ -2,7 +2,7 @@ use Rattle.std.proofs.Common.{◌≡◌, true, List, Option, ◌∙◌, sym, sub
 use Rattle.pb_base.specs.Literals.{is_among}
 use Rattle.pb_norm.specs.Constraints.{Constraint}
 use Rattle.pb_unit.specs.States.{EngineState, IsReached}
-use Rattle.pb_unit.specs.Kept.{state_of}
+use Rattle.pb_unit.specs.Counters.{state_of}
 use Rattle.pb_unit.proofs.Answering.{answers_from, advanced}
 use Rattle.pb_unit.proofs.Queueing.{within_read}
 use Rattle.pb_unit.proofs.engine.Engine.propagate.Goals as goal

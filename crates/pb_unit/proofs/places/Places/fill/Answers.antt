@@ -1,7 +1,7 @@
 use Rattle.std.proofs.Common.{◌∙◌, List, Option, map, subst}
 use Rattle.std.specs.Bool.{OnTrue}
 use Rattle.pb_norm.specs.Constraints.{Constraint}
-use Rattle.pb_unit.specs.Filling.{terms_in, IsFilling}
+use Rattle.pb_unit.specs.inner.Filling.{terms_in, IsFilling}
 use Rattle.pb_unit.proofs.Slotting.{slots_read}
 use Rattle.pb_unit.proofs.Fillings.{slots_numbered}
 use Rattle.pb_unit.proofs.places.Places.fill.Goals as goal

@@ -1,6 +1,6 @@
 use Rattle.std.proofs.Common.{Option, subst}
 use Rattle.pb_norm.specs.Constraints.{Constraint}
-use Rattle.pb_unit.specs.Filling.{IsKeptOf}
+use Rattle.pb_unit.specs.inner.Filling.{IsKeptOf}
 use Rattle.pb_unit.proofs.Slotting.{at_read}
 use Rattle.pb_unit.proofs.places.Places.kept.Goals as goal
 

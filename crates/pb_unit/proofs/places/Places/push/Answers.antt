@@ -1,6 +1,6 @@
 use Rattle.std.proofs.Common.{◌≡◌, ◌∙◌, ◌++◌, ◌∷◌, [], List, Option, Some, map, cond, subst}
 use Rattle.pb_norm.specs.Constraints.{Constraint}
-use Rattle.pb_unit.specs.Slots.{slot_at}
+use Rattle.pb_unit.specs.inner.Slots.{slot_at}
 use Rattle.pb_unit.proofs.Slotting.{slots_longer, push_view, push_slots}
 use Rattle.pb_unit.proofs.places.Places.push.Goals as goal
 

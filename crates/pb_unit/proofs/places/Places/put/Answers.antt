@@ -3,7 +3,7 @@ use Rattle.std.proofs.lemmas.List.{take_all}
 use Rattle.pb_base.specs.declared.literal.Lit.{Lit}
 use Rattle.pb_norm.specs.Constraints.{Constraint}
 use Rattle.pb_unit.specs.States.{placed}
-use Rattle.pb_unit.specs.Slots.{slot_at}
+use Rattle.pb_unit.specs.inner.Slots.{slot_at}
 use Rattle.pb_unit.proofs.Slotting.{put_view, put_slots}
 use Rattle.pb_unit.proofs.places.Places.put.Goals as goal
 

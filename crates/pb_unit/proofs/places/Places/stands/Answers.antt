@@ -2,7 +2,7 @@ use Rattle.std.proofs.Common.{◌∙◌, List, Option, map, ap}
 use Rattle.std.specs.Prelude.{is_some}
 use Rattle.pb_norm.specs.Constraints.{Constraint}
 use Rattle.pb_unit.specs.declared.places.Slot.{Slot}
-use Rattle.pb_unit.specs.Slots.{slot_at}
+use Rattle.pb_unit.specs.inner.Slots.{slot_at}
 use Rattle.pb_unit.specs.States.{at_place}
 use Rattle.pb_unit.proofs.places.Places.stands.Goals as goal
 

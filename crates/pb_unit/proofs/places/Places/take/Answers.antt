@@ -2,7 +2,7 @@ use Rattle.std.proofs.Common.{◌∙◌, set, map, List, Option, None, ap}
 use Rattle.std.proofs.lemmas.List.{map-set}
 use Rattle.pb_norm.specs.Constraints.{Constraint}
 use Rattle.pb_unit.specs.declared.places.Slot.{Slot}
-use Rattle.pb_unit.specs.Slots.{slot_at}
+use Rattle.pb_unit.specs.inner.Slots.{slot_at}
 use Rattle.pb_unit.proofs.places.Places.take.Goals as goal
 
 pub returns : goal.returns

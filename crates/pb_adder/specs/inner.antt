@@ -1,0 +1,3 @@
+pub mod GateLits
+pub mod Rows
+pub mod RunningSums

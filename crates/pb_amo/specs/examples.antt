@@ -1,0 +1,3 @@
+pub mod DerivationExamples
+pub mod Examples
+pub mod ProductExamples

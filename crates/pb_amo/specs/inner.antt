@@ -1,0 +1,4 @@
+pub mod AtMostOne
+pub mod LadderPieces
+pub mod ProductParts
+pub mod Source

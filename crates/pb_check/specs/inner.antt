@@ -1,0 +1,4 @@
+pub mod Calls
+pub mod Judging
+pub mod Keeping
+pub mod Phases

@@ -1,0 +1,101 @@
+-- What each part of checking says of the desk, of its readers and of the answer.
+use Rattle.std.specs.Prelude.{◌≡◌, ℕ, List, length, Option, Ok, Err}
+use Rattle.pb_desk.specs.Desk.{DeskState}
+use Rattle.pb_desk.specs.LineReading.{TakesAhead}
+use Rattle.pb_desk.specs.LineReaders.{Reader}
+use Rattle.pb_desk.specs.TwoSlots.{ReadsBoth}
+use Rattle.pb_dimacs.specs.CnfReaders.{CnfReader}
+use Rattle.pb_dimacs.specs.Cursors.{rows_left}
+use Rattle.pb_steps.specs.declared.step.Step.{Step}
+use Rattle.pb_steps.specs.Database.{Database, loaded_database}
+use Rattle.pb_check.specs.declared.verdict.Verdict.{Verdict}
+use Rattle.pb_check.specs.declared.verdict.Verdict.TheVariants.{Accepted}
+use Rattle.pb_check.specs.declared.verdict.CheckFault.{CheckFault}
+use Rattle.pb_check.specs.declared.taking.Taken.{Taken}
+use Rattle.pb_check.specs.Turns.{Answer, Task, Stage, Clauses, at_out, at_end, step_turn, next_in}
+use Rattle.pb_check.specs.Turns.Stage.{head_wanted, count_wanted, at_steps, ended}
+use Rattle.pb_check.specs.Walk.{Walks}
+use Rattle.pb_check.specs.inner.Phases.{StopsOne, StopsBoth, NextSays, NextStops, Leads, clauses_of, TurnGives, TurnStops, LineGives, StepsGive, StepsStop, LinesAnswer}
+
+-- ---- the next line that says something
+
+abbrev pub ReadsStep : Option Step → Reader → Reader → DeskState → DeskState → Type 0
+ReadsStep next old new a b = TakesAhead old.slot old.ahead new.ahead a b (λ text rest. NextSays next new (rows_left old text) (rows_left new rest))
+
+abbrev pub MissesStep : CheckFault → Reader → Reader → DeskState → DeskState → Type 0
+MissesStep fault old new a b = StopsOne fault old new a b (λ text fault. NextStops (rows_left old text) fault)
+
+-- ---- the lines that have a place
+
+-- whatever the clauses, the answer at the stage is this fault
+abbrev pub StopsStage : Stage → CheckFault → Reader → Reader → DeskState → DeskState → Type 0
+StopsStage stage fault old new a b = StopsOne fault old new a b (λ text fault. (task : Task) (clauses : Clauses) → Walks task stage clauses (rows_left old text) (Err fault))
+
+abbrev pub TakesHead : Reader → Reader → DeskState → DeskState → Type 0
+TakesHead old new a b = TakesAhead old.slot old.ahead new.ahead a b (λ text rest. Leads count_wanted (rows_left new rest) head_wanted (rows_left old text))
+
+-- behind the number of constraints, the steps begin over the database of those that are loaded
+abbrev pub CountLeads : ℕ → Reader → Reader → List ℕ → List ℕ → Type 0
+CountLeads loaded old new text rest =
+    (task : Task) (clauses : Clauses) (a : Answer) → length task.loaded ≡ loaded
+    → Walks task (at_steps (loaded_database task.original task.vars task.loaded)) clauses (rows_left new rest) a → Walks task count_wanted clauses (rows_left old text) a
+
+abbrev pub TakesCount : ℕ → Reader → Reader → DeskState → DeskState → Type 0
+TakesCount loaded old new a b = TakesAhead old.slot old.ahead new.ahead a b (CountLeads loaded old new)
+
+abbrev pub StopsCount : ℕ → CheckFault → Reader → Reader → DeskState → DeskState → Type 0
+StopsCount loaded fault old new a b = StopsOne fault old new a b (λ text fault. (task : Task) (clauses : Clauses) → length task.loaded ≡ loaded → Walks task count_wanted clauses (rows_left old text) (Err fault))
+
+abbrev pub TakesRest : Reader → Reader → DeskState → DeskState → Type 0
+TakesRest old new a b = TakesAhead old.slot old.ahead new.ahead a b (λ text rest. (task : Task) (clauses : Clauses) → Walks task ended clauses (rows_left old text) (Ok Accepted))
+
+-- ---- a step
+
+-- a constraint is put out as the next clause of what is left of the CNF, or that clause has a fault
+abbrev pub PutsOut : Taken → ℕ → CnfReader → Database → CnfReader → Database → DeskState → DeskState → Type 0
+PutsOut got id cnf db cnf' db' a b =
+    TakesAhead cnf.lines.slot cnf.lines.ahead cnf'.lines.ahead a b (λ text rest. (task : Task) (number : ℕ) → task.vars ≡ cnf.vars
+    → TurnGives got task number (at_out db id (clauses_of cnf text) (next_in task (clauses_of cnf text))) db' (clauses_of cnf' rest))
+
+abbrev pub StopsOut : CheckFault → ℕ → CnfReader → Database → CnfReader → DeskState → DeskState → Type 0
+StopsOut fault id cnf db cnf' a b =
+    StopsOne fault cnf.lines cnf'.lines a b (λ text fault. (task : Task) (number : ℕ) → task.vars ≡ cnf.vars → TurnStops task number (at_out db id (clauses_of cnf text) (next_in task (clauses_of cnf text))) fault)
+
+-- the steps end, where none of the CNF's clauses is left, or what is left has a fault
+abbrev pub EndsSteps : Taken → CnfReader → CnfReader → DeskState → DeskState → Type 0
+EndsSteps got cnf cnf' a b =
+    TakesAhead cnf.lines.slot cnf.lines.ahead cnf'.lines.ahead a b (λ text rest. (task : Task) (number : ℕ) (db : Database) → task.vars ≡ cnf.vars
+    → TurnGives got task number (at_end number (clauses_of cnf text) (next_in task (clauses_of cnf text))) db (clauses_of cnf' rest))
+
+abbrev pub StopsEnd : CheckFault → CnfReader → CnfReader → DeskState → DeskState → Type 0
+StopsEnd fault cnf cnf' a b =
+    StopsOne fault cnf.lines cnf'.lines a b (λ text fault. (task : Task) (number : ℕ) → task.vars ≡ cnf.vars → TurnStops task number (at_end number (clauses_of cnf text) (next_in task (clauses_of cnf text))) fault)
+
+-- what the last line says is taken among the steps
+abbrev pub TakesStep : Taken → Step → Reader → CnfReader → Database → CnfReader → Database → DeskState → DeskState → Type 0
+TakesStep got step proof cnf db cnf' db' a b =
+    TakesAhead cnf.lines.slot cnf.lines.ahead cnf'.lines.ahead a b (λ text rest. (task : Task) → task.vars ≡ cnf.vars
+    → TurnGives got task proof.number (step_turn task db (clauses_of cnf text) proof.number proof.line step) db' (clauses_of cnf' rest))
+
+abbrev pub StopsStep : CheckFault → Step → Reader → CnfReader → Database → CnfReader → DeskState → DeskState → Type 0
+StopsStep fault step proof cnf db cnf' a b =
+    StopsOne fault cnf.lines cnf'.lines a b (λ text fault. (task : Task) → task.vars ≡ cnf.vars → TurnStops task proof.number (step_turn task db (clauses_of cnf text) proof.number proof.line step) fault)
+
+-- ---- lines of steps, by both readers
+
+abbrev pub TakesLine : Taken → CnfReader → Database → Reader → CnfReader → Database → Reader → DeskState → DeskState → Type 0
+TakesLine got cnf db proof cnf' db' proof' a b = ReadsBoth cnf.lines proof cnf'.lines proof' a b (LineGives got cnf db proof cnf' db' proof')
+
+abbrev pub TakesSteps : Option Verdict → CnfReader → Database → Reader → CnfReader → Reader → DeskState → DeskState → Type 0
+TakesSteps verdict cnf db proof cnf' proof' a b = ReadsBoth cnf.lines proof cnf'.lines proof' a b (λ c p c' p'. StepsGive verdict cnf db proof proof' c p p')
+
+abbrev pub StopsSteps : CheckFault → CnfReader → Database → Reader → CnfReader → Reader → DeskState → DeskState → Type 0
+StopsSteps fault cnf db proof cnf' proof' a b = StopsBoth fault cnf.lines proof cnf'.lines proof' a b (λ c p fault. StepsStop cnf db proof c p fault)
+
+-- ---- all lines
+
+abbrev pub AnswersLines : Verdict → ℕ → CnfReader → Database → Reader → CnfReader → Reader → DeskState → DeskState → Type 0
+AnswersLines v loaded cnf db proof cnf' proof' a b = ReadsBoth cnf.lines proof cnf'.lines proof' a b (λ c p c' p'. LinesAnswer cnf db loaded proof c p (Ok v))
+
+abbrev pub StopsLines : CheckFault → ℕ → CnfReader → Database → Reader → CnfReader → Reader → DeskState → DeskState → Type 0
+StopsLines fault loaded cnf db proof cnf' proof' a b = StopsBoth fault cnf.lines proof cnf'.lines proof' a b (λ c p fault. LinesAnswer cnf db loaded proof c p (Err fault))

@@ -1,5 +1,0 @@
-use Rattle.std.proofs.Common.{rules}
-use Rattle.pb_choice.proofs.left.Left.emit.Goals as goal
-
-pub returns-in-Empty : goal.returns-in-Empty
-returns-in-Empty g c = rw c.in-Empty.is (search rules)

@@ -1,0 +1,3 @@
+pub mod EqualExamples
+pub mod Examples
+pub mod StepExamples

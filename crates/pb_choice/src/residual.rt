@@ -1,0 +1,125 @@
+//! What is left of a constraint once its units are taken.
+
+use crate::chosen::Chosen;
+use crate::derivation::derive_reduced;
+use crate::emission::emit_one;
+use crate::reducing::reducing_step;
+use crate::treatment::Treatment;
+use pb_base::Lits;
+use pb_family::{ClauseSink, Family, SinkFault, StepSink, derive_propagated};
+use pb_norm::Linear;
+use std::alloc::Global;
+
+/// What is left of a constraint, with the family that was chosen for it.
+pub enum Residual {
+    /// Nothing.
+    Nothing,
+    /// The empty clause.
+    Empty,
+    /// A clause.
+    Clause(Lits),
+    /// A sum that is to stay within its bound.
+    Sum(Chosen),
+}
+
+// Written out, as that of a family is.
+impl Drop for Residual {
+    fn drop(self) {
+        match self {
+            Residual::Nothing | Residual::Empty => {}
+            Residual::Clause(_) => {}
+            Residual::Sum(_) => {}
+        }
+    }
+}
+
+impl Residual {
+    ghost use Rattle.std.specs.Prelude.{◌≡◌, ◌≤◌, ◌+◌, ◌<◌, ◌^◌};
+    ghost use Rattle.pb_family.specs.Families.{VarsBelow};
+    ghost use Rattle.pb_family.specs.Handing.{HandsIfMemory};
+    ghost use Rattle.pb_family.specs.StepSinks.{HandsFrom};
+    ghost use Rattle.pb_choice.specs.Reducing.{reduction};
+    ghost use Rattle.pb_choice.specs.inner.Residual.{left_clauses, left_count, left_fresh, left_steps, left_terms, left_treatment};
+
+    /// How it is encoded.
+    pub fn treatment(&self) -> Treatment
+        ensures { result ≡ left_treatment self.now }
+    {
+        match self {
+            Residual::Nothing => Treatment::Nothing,
+            Residual::Empty => Treatment::Empty,
+            Residual::Clause(_) => Treatment::Clause,
+            Residual::Sum(chosen) => chosen.treatment(),
+        }
+    }
+
+    /// How many fresh variables it has.
+    pub fn fresh(&self) -> u64
+        ensures { result ≡ left_fresh self.now }
+    {
+        match self {
+            Residual::Nothing | Residual::Empty | Residual::Clause(_) => 0,
+            Residual::Sum(chosen) => chosen.fresh(),
+        }
+    }
+
+    /// How many clauses it has.
+    pub fn clauses(&self) -> u64
+        ensures { result ≡ left_count self.now }
+    {
+        match self {
+            Residual::Nothing => 0,
+            Residual::Empty | Residual::Clause(_) => 1,
+            Residual::Sum(chosen) => chosen.clauses(),
+        }
+    }
+
+    /// Hands over its clauses, with the fresh variables from `first` on.
+    pub fn emit<S: ClauseSink>(
+        &self,
+        alloc: Global,
+        first: u32,
+        sink: &mut S,
+    ) -> Result<(), SinkFault>
+        requires original { VarsBelow first (left_terms self.now) }
+        requires low { 1 ≤ first }
+        requires fits { first + left_fresh self.now ≤ 2 ^ 31 }
+        ensures { HandsIfMemory (left_clauses self.now first) result (S.state sink.old) (S.state sink.new) }
+    {
+        match self {
+            Residual::Nothing => Ok(()),
+            Residual::Empty => emit_one(&[], sink),
+            Residual::Clause(lits) => emit_one(lits.as_slice(), sink),
+            Residual::Sum(chosen) => chosen.emit(alloc, first, sink),
+        }
+    }
+
+    /// Hands over the steps that derive its clauses from the constraint with an id, with the fresh variables from `first` on.
+    pub fn derive<T: StepSink>(
+        &self,
+        alloc: Global,
+        constraint: &Linear,
+        units: &Lits,
+        first: u32,
+        id: u64,
+        sink: &mut T,
+    ) -> Result<(), SinkFault>
+        requires original { VarsBelow first (left_terms self.now) }
+        requires low { 1 ≤ first }
+        requires fits { first + left_fresh self.now ≤ 2 ^ 31 }
+        requires clauses { left_count self.now ≤ 2 ^ 56 }
+        requires few { (T.state sink.old).next < 2 ^ 61 }
+        requires given { 1 ≤ (T.state sink.old).next }
+        ensures { HandsFrom (left_steps (reduction id units.now constraint.now) self.now first id) result (T.state sink.old) (T.state sink.new) }
+    {
+        match self {
+            Residual::Nothing => Ok(()),
+            Residual::Empty => derive_propagated(alloc, &[id], &[], sink),
+            Residual::Clause(lits) => derive_propagated(alloc, &[id], lits.as_slice(), sink),
+            Residual::Sum(chosen) => {
+                let step = reducing_step(alloc, constraint, units, id)?;
+                derive_reduced(alloc, chosen, &step, first, sink)
+            }
+        }
+    }
+}

@@ -1,0 +1,2 @@
+pub mod DerivationExamples
+pub mod Examples

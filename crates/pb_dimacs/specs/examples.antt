@@ -1,0 +1,4 @@
+pub mod CnfExamples
+pub mod CnfReaderExamples
+pub mod CnfWholeExamples
+pub mod WcnfExamples

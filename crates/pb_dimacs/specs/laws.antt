@@ -1,4 +1,0 @@
-pub mod CnfLaws
-pub mod CnfWholeLaws
-pub mod OutboxSinks
-pub mod WcnfLaws

@@ -1,0 +1,3 @@
+pub mod BoundExamples
+pub mod CostExamples
+pub mod GroupExamples

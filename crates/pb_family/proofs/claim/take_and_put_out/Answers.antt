@@ -1,5 +1,0 @@
-use Rattle.std.proofs.Common.{rules}
-use Rattle.pb_family.proofs.claim.take_and_put_out.Goals as goal
-
-pub returns : goal.returns
-returns g c = search rules

@@ -1,8 +1,0 @@
-use Rattle.std.proofs.Common.{◌≡◌, ◌∷◌, take}
-use Rattle.std.specs.Prelude.{map}
-use Rattle.pb_norm.specs.laws.Kept.{on_term}
-use Rattle.pb_family.specs.laws.Parts.{kept}
-use Rattle.pb_family.proofs.meaning.with_head.Given as goal
-
-abbrev pub invariant-loop-term : goal.invariant-loop-term
-invariant-loop-term l = l.all.items ≡ l.fn.head ∷ map (on_term kept) (take l.term-index l.terms)

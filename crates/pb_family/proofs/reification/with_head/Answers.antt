@@ -1,0 +1,18 @@
+use Rattle.std.proofs.Common.{◌∙◌, ◌++◌, ◌∷◌, [], ℕ, List, ap, arith}
+use Rattle.std.specs.Prelude.{pos}
+use Rattle.pb_base.specs.declared.literal.Term.{Term}
+use Rattle.pb_norm.specs.inner.Kept.{on_term}
+use Rattle.pb_family.specs.inner.Parts.{kept}
+use Rattle.pb_family.proofs.Gathered.{map_next, map_last}
+use Rattle.pb_family.proofs.reification.with_head.Goals as goal
+
+pub loop-term-init : goal.loop-term-init
+loop-term-init c = c.in_ok-push.ensures.items ∙ ap (λ (ts : List Term). ts ++ c.args.head ∷ []) c.in_ok-all.ensures.items
+
+pub loop-term-preserved : goal.loop-term-preserved
+loop-term-preserved c =
+    map_next (on_term kept) c.args.terms.now c.loop-term.term-index c.term-item.result (c.args.head ∷ []) c.loop-term.all.items c.push-in-loop-term.new.self.items _ (omega arith) c.term-item.is c.loop-term.invariant c.in_ok-push-2.ensures.items
+    (c.weighing.ensures ∙ ap (λ (n : ℕ). let t : Term = record { coef = pos n; lit = c.term-item.result.lit } in t) c.weight.ensures)
+
+pub returns : goal.returns
+returns c = map_last (on_term kept) c.args.terms.now c.loop-term.term-index (c.args.head ∷ []) c.loop-term.all.items (omega arith) c.loop-term.invariant

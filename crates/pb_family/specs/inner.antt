@@ -1,0 +1,2 @@
+pub mod HandedJustifications
+pub mod Parts

@@ -1,7 +1,0 @@
-use Rattle.std.proofs.Common.{length}
-use Rattle.pb_tree.proofs.TreeHanded.{Rowing}
-use Rattle.pb_gentot.specs.laws.Sources.{row_given}
-use Rattle.pb_gentot.proofs.claims.take_pairs.Given as goal
-
-abbrev pub invariant-loop-i : goal.invariant-loop-i
-invariant-loop-i g l = Rowing (row_given l.cap l.left l.right l.own) (length l.left.values.items) l.i (g.T.StepSink.state l.fn.sink) (g.T.StepSink.state l.sink)

@@ -1,7 +1,0 @@
-use Rattle.pb_family.proofs.Looping.{Looping}
-use Rattle.pb_gentot.specs.laws.KeptTables.{rise_at}
-use Rattle.pb_gentot.proofs.Handed.{claim_piece}
-use Rattle.pb_gentot.proofs.table_steps.take_rises.Given as goal
-
-abbrev pub invariant-loop-place : goal.invariant-loop-place
-invariant-loop-place g l = Looping (claim_piece (rise_at l.id)) 1 l.count l.place (g.T.StepSink.state l.fn.sink) (g.T.StepSink.state l.sink)

@@ -1,0 +1,2 @@
+pub mod BoundTableExamples
+pub mod Examples

@@ -1,0 +1,4 @@
+pub mod Looks
+pub mod Marks
+pub mod Stores
+pub mod Trails

@@ -1,5 +1,0 @@
-pub mod Looks
-pub mod LratLaws
-pub mod Marks
-pub mod Stores
-pub mod Trails

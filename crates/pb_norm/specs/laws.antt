@@ -1,6 +1,0 @@
-pub mod Kept
-pub mod Nets
-pub mod Open
-pub mod PropagationLaws
-pub mod Signs
-pub mod Tight

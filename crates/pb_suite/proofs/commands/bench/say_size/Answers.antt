@@ -1,0 +1,47 @@
+use Rattle.std.proofs.Common.{ℕ, List, Option, None, Err, ap, subst, sym}
+use Rattle.pb_base.specs.declared.limit.LimitKind.{LimitKind}
+use Rattle.pb_base.specs.declared.options.Options.{Options}
+use Rattle.pb_base.specs.Defaults.{default_options}
+use Rattle.pb_encode.specs.Summaries.{IsOver}
+use Rattle.pb_words.specs.BenchWords.{as_bench_words}
+use Rattle.pb_suite.specs.declared.outcome.Outcome.TheVariants as outcome
+use Rattle.pb_suite.specs.Implementing.{Implements}
+use Rattle.pb_suite.specs.Outputs.{only_words}
+use Rattle.pb_suite.specs.BenchSpec.{bench_output, bench_spec}
+use Rattle.pb_suite.specs.EncodeSpec.{due_words}
+use Rattle.pb_suite.specs.inner.Saying.{EndsTelling}
+use Rattle.pb_suite.proofs.Endings.{bare_memory, is_refused}
+use Rattle.pb_suite.proofs.Going.{stays}
+use Rattle.pb_suite.proofs.BenchSpecs.{bench_due, bench_over}
+use Rattle.pb_suite.proofs.Says.{telling_implements}
+use Rattle.pb_suite.proofs.commands.bench.say_size.Goals as goal
+
+pub returns-in-Err-NoMemory : goal.returns-in-Err-NoMemory
+returns-in-Err-NoMemory g c = bare_memory (bench_spec (as_bench_words c.args.asked.now)) (g.D.Desk.state c.args.desk.now) (g.D.Desk.state c.args.desk.now) (stays 0 (g.D.Desk.state c.args.desk.now))
+
+pub returns-in-Err-Limit : goal.returns-in-Err-Limit
+returns-in-Err-Limit g c =
+    let w = as_bench_words c.args.asked.now in
+    let p = c.args.problem.now in
+    let a = g.D.Desk.state c.args.desk.now in
+    let which = c.in-Err-Limit.which in
+    let over = subst (λ (o : Options). IsOver which o p) c.default-options.ensures (c.in-Err-Limit.ensures.limit which (ap Err c.in-Err-Limit.field-0-is)) in
+    subst (λ (k : LimitKind). Implements (bench_spec w) a a (outcome.Limit None k None)) (sym c.in-Err-Limit.which-is)
+    (is_refused (bench_spec w) a a (outcome.Limit None which None) (stays 0 a) tt (bench_over w p a c.requires.reads which over))
+
+pub say_summary-requires-clause-encodable : goal.say_summary-requires-clause-encodable
+say_summary-requires-clause-encodable g c = c.in-Ok.ensures.encodable
+
+pub say_summary-requires-clause-summary : goal.say_summary-requires-clause-summary
+say_summary-requires-clause-summary g c = c.in-Ok.ensures.summary
+
+pub returns-in-Ok : goal.returns-in-Ok
+returns-in-Ok g c =
+    let w = as_bench_words c.args.asked.now in
+    let p = c.args.problem.now in
+    let a = g.D.Desk.state c.args.desk.now in
+    let d = g.D.Desk.state c.say_summary.new.desk in
+    let line = due_words default_options p in
+    let due = bench_due w p a c.requires.reads (only_words line) (ap (λ (n : Option (List ℕ)). bench_output n p) (sym c.requires.unnamed)) (rw (sym c.default-options.ensures) c.in-Ok.ensures.encodable) in
+    telling_implements (bench_spec w) line a d (g.met.D.Desk.steady_tells c.args.desk.now) due c.say_summary.result
+    (subst (λ (o : Options). EndsTelling (due_words o p) a d c.say_summary.result) c.default-options.ensures c.say_summary.ensures)

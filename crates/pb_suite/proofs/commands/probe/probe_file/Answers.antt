@@ -1,0 +1,47 @@
+use Rattle.std.proofs.Common.{Err, List, [], ℕ, ap, inl, refl, subst, arith}
+use Rattle.pb_base.specs.declared.file.File.TheVariants.{Cnf}
+use Rattle.pb_base.proofs.Members.{Contains-here}
+use Rattle.pb_words.specs.ProbeWords.{as_probe_words}
+use Rattle.pb_suite.specs.Outputs.{nothing}
+use Rattle.pb_suite.specs.CommandSpec.{Text}
+use Rattle.pb_suite.specs.ProbeSpec.{probe_spec}
+use Rattle.pb_suite.specs.ProbeSpec.StopsProbe.{refused, lacking}
+use Rattle.pb_suite.specs.Refusals.{RefusesCnf}
+use Rattle.pb_suite.specs.inner.Saying.{EndsSaying}
+use Rattle.pb_suite.proofs.Afterwards.{implements_after}
+use Rattle.pb_suite.proofs.Endings.{bare_memory}
+use Rattle.pb_suite.proofs.Going.{goes_fetched, shelf_is_if}
+use Rattle.pb_suite.proofs.ProbeSpecs.{line_due, HasForms}
+use Rattle.pb_suite.proofs.Refused.{reading_implements}
+use Rattle.pb_suite.proofs.Says.{saying_implements}
+use Rattle.pb_suite.proofs.commands.probe.probe_file.Goals as goal
+
+pub returns-in-Err : goal.returns-in-Err
+returns-in-Err g c =
+    let w = as_probe_words c.args.asked.now in
+    let text : Text = record { kind = Cnf; name = w.cnf } in
+    reading_implements (probe_spec w) 0 text (omega arith) (Contains-here text []) (inl refl) RefusesCnf (λ shelf bytes answer. refused bytes answer) (λ shelf none. lacking none) (g.D.Desk.state c.args.desk.now) (g.D.Desk.state c.read_cnf.new.desk)
+    c.in-Err.outcome c.in-Err.ensures.stopped (λ steady is. c.in-Err.ensures.steady steady (ap Err is))
+
+pub returns-in-Err-line_of : goal.returns-in-Err-line_of
+returns-in-Err-line_of g c =
+    let w = as_probe_words c.args.asked.now in
+    let a = g.D.Desk.state c.args.desk.now in
+    let b = g.D.Desk.state c.read_cnf.new.desk in
+    let read = c.in-Ok.ensures.read in
+    bare_memory (probe_spec w) a b (goes_fetched 1 0 w.cnf read.0 a b (omega arith) read.1)
+
+pub returns-in-Ok-line_of : goal.returns-in-Ok-line_of
+returns-in-Ok-line_of g c =
+    let w = as_probe_words c.args.asked.now in
+    let a = g.D.Desk.state c.args.desk.now in
+    let b = g.D.Desk.state c.read_cnf.new.desk in
+    let d = g.D.Desk.state c.say.new.desk in
+    let text = c.in-Ok.read in
+    let read = c.in-Ok.ensures.read in
+    let goes = goes_fetched 1 0 w.cnf read.0 a b (omega arith) read.1 in
+    let line = c.in-Ok-line_of.line.items in
+    let has = shelf_is_if a b goes (HasForms w text.head text.forms) c.in-Ok.ensures.says in
+    let due = line_due w text.head text.forms line c.in-Ok-line_of.ensures b has in
+    implements_after (probe_spec w) a b d goes _
+    (saying_implements (probe_spec w) line b d (g.met.D.Desk.steady_tells c.read_cnf.new.desk) due c.say.result (subst (λ (xs : List ℕ). EndsSaying xs b d c.say.result) c.deref.ensures.value c.say.ensures))

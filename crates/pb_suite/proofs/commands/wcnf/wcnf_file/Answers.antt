@@ -1,0 +1,47 @@
+use Rattle.std.proofs.Common.{Err, [], ◌∙◌, ap, inl, refl, arith}
+use Rattle.pb_base.specs.declared.file.File.TheVariants.{Opb}
+use Rattle.pb_base.proofs.Members.{Contains-here}
+use Rattle.pb_words.specs.WcnfWords.{as_wcnf_words}
+use Rattle.pb_suite.specs.Outputs.{nothing}
+use Rattle.pb_suite.specs.CommandSpec.{Text}
+use Rattle.pb_suite.specs.WcnfSpec.{wcnf_spec}
+use Rattle.pb_suite.specs.WcnfSpec.StopsWcnf.{refused, lacking}
+use Rattle.pb_suite.specs.Refusals.{RefusesOpb}
+use Rattle.pb_suite.proofs.Afterwards.{implements_after}
+use Rattle.pb_suite.proofs.Going.{goes_fetched, keeps}
+use Rattle.pb_suite.proofs.DenotedProblems.{denoted_by}
+use Rattle.pb_suite.proofs.Refused.{reading_implements}
+use Rattle.pb_suite.proofs.commands.wcnf.wcnf_file.Goals as goal
+
+pub returns-in-Err : goal.returns-in-Err
+returns-in-Err g c =
+    let w = as_wcnf_words c.args.asked.now in
+    let text : Text = record { kind = Opb; name = w.opb } in
+    reading_implements (wcnf_spec w) 0 text (omega arith) (Contains-here text []) (inl refl) (RefusesOpb w.bound) (λ shelf bytes answer. refused bytes answer) (λ shelf none. lacking none) (g.D.Desk.state c.args.desk.now) (g.D.Desk.state c.read_problem.new.desk)
+    c.in-Err.outcome c.in-Err.ensures.stopped (λ steady is. c.in-Err.ensures.steady steady (ap Err is))
+
+pub store_weighted-requires-clause-denoted : goal.store_weighted-requires-clause-denoted
+store_weighted-requires-clause-denoted g c =
+    let w = as_wcnf_words c.args.asked.now in
+    let a = g.D.Desk.state c.args.desk.now in
+    let b = g.D.Desk.state c.read_problem.new.desk in
+    let read = c.in-Ok.ensures.read in
+    denoted_by w.opb w.bound c.in-Ok.problem a b (goes_fetched 1 0 w.opb read.0 a b (omega arith) read.1) c.in-Ok.ensures.denotes
+
+pub store_weighted-requires-clause-free : goal.store_weighted-requires-clause-free
+store_weighted-requires-clause-free g c =
+    let w = as_wcnf_words c.args.asked.now in
+    let a = g.D.Desk.state c.args.desk.now in
+    let b = g.D.Desk.state c.read_problem.new.desk in
+    let read = c.in-Ok.ensures.read in
+    let goes = goes_fetched 1 0 w.opb read.0 a b (omega arith) read.1 in
+    λ slot. keeps a b goes slot ∙ c.requires.closed.writing slot
+
+pub returns-in-Ok : goal.returns-in-Ok
+returns-in-Ok g c =
+    let w = as_wcnf_words c.args.asked.now in
+    let a = g.D.Desk.state c.args.desk.now in
+    let b = g.D.Desk.state c.read_problem.new.desk in
+    let d = g.D.Desk.state c.store_weighted.new.desk in
+    let read = c.in-Ok.ensures.read in
+    implements_after (wcnf_spec w) a b d (goes_fetched 1 0 w.opb read.0 a b (omega arith) read.1) _ c.store_weighted.ensures

@@ -1,0 +1,45 @@
+-- What specifies a command, and what may hinder it. Our own.
+use Rattle.std.specs.Prelude.{ℕ, ◌⊎◌, ◌≡◌, List, [], ◌∷◌, All, Contains, Option, IsNone, IsSome}
+use Rattle.std.specs.Option.{ForSome}
+use Rattle.pb_base.specs.declared.file.File.{File}
+use Rattle.pb_desk.specs.Desk.{DeskState, IsTold}
+use Rattle.pb_suite.specs.declared.outcome.Outcome.{Outcome}
+use Rattle.pb_suite.specs.declared.outcome.Outcome.TheVariants.{ReadFault}
+use Rattle.pb_suite.specs.Outputs.{nothing, Fits, HasShortNames, IsPartOf, LacksFor, Output}
+
+abbrev pub Shelf : Type 0
+Shelf = List ℕ → Option (List ℕ)
+
+-- a text that is read
+pub record Text : Type 0 where
+  pub kind : File
+  pub name : List ℕ
+
+-- one of the texts is of this kind
+abbrev pub HasKind : File → List Text → Type 0
+HasKind kind [] = ⊥
+HasKind kind (text ∷ texts) = (text.kind ≡ kind) ⊎ HasKind kind texts
+
+-- The texts that are read; with which outcomes the command stops, so that nothing is made or said; and what is made and said where all is done.
+pub record CommandSpec : Type 1 where
+  pub texts : List Text
+  pub stops : Shelf → Outcome → Type 0
+  pub done : Shelf → Output → Type 0
+
+-- what may stand where a write failed or memory was wanting: nothing, or a first part of what is due
+abbrev pub MayStand : CommandSpec → Shelf → Output → Type 0
+MayStand o shelf out = (out ≡ nothing) ⊎ ((whole : Output) × o.done shelf whole × IsPartOf whole out)
+
+-- a text is not on the shelf, and the command stops there
+abbrev pub LacksText : CommandSpec → DeskState → Type 0
+LacksText o desk = (text : Text) × Contains o.texts text × IsTold desk (λ t. IsNone (t.shelf text.name)) × IsTold desk (λ t. o.stops t.shelf ReadFault)
+
+-- something is lacking for what is due
+abbrev pub LacksSpace : CommandSpec → DeskState → Type 0
+LacksSpace o desk = (out : Output) × IsTold desk (λ t. o.done t.shelf out) × LacksFor out desk
+
+-- what is called for is there: the texts, short names, and room for what is due
+pub record Suffices (o : CommandSpec) (shelf : Shelf) (space : Option ℕ) : Type 0 where
+  pub texts : All (λ (text : Text). IsSome (shelf text.name)) o.texts
+  pub names : (out : Output) → o.done shelf out → HasShortNames out
+  pub room : (out : Output) → o.done shelf out → ForSome space (λ most. Fits most out)

@@ -1,0 +1,36 @@
+-- The specification of each command. Our own.
+use Rattle.std.specs.Prelude.{ℕ, List, Option}
+use Rattle.std.specs.Option.{ForSome}
+use Rattle.pb_desk.specs.View.{Told}
+use Rattle.pb_desk.specs.Desk.{DeskState, IsFresh, IsSteady}
+use Rattle.pb_words.specs.Parsed.{Wanted, parsed_of}
+use Rattle.pb_words.specs.Parsed.Wanted.{Encode, Check, Decode, Probe, Bench, Refute, Map, Wcnf}
+use Rattle.pb_suite.specs.CommandSpec.{CommandSpec, Shelf, Suffices}
+use Rattle.pb_suite.specs.BenchSpec.{bench_spec}
+use Rattle.pb_suite.specs.CheckSpec.{check_spec}
+use Rattle.pb_suite.specs.DecodeSpec.{decode_spec}
+use Rattle.pb_suite.specs.EncodeSpec.{encode_spec}
+use Rattle.pb_suite.specs.MapSpec.{map_spec}
+use Rattle.pb_suite.specs.ProbeSpec.{probe_spec}
+use Rattle.pb_suite.specs.RefuteSpec.{refute_spec}
+use Rattle.pb_suite.specs.WcnfSpec.{wcnf_spec}
+
+abbrev pub spec_of : Wanted → CommandSpec
+spec_of (Encode w) = encode_spec w
+spec_of (Check w) = check_spec w
+spec_of (Decode w) = decode_spec w
+spec_of (Probe w) = probe_spec w
+spec_of (Bench w) = bench_spec w
+spec_of (Refute w) = refute_spec w
+spec_of (Map w) = map_spec w
+spec_of (Wcnf w) = wcnf_spec w
+
+-- what the words call for is there
+abbrev pub SufficesFor : List (List ℕ) → Shelf → Option ℕ → Type 0
+SufficesFor words shelf space = ForSome (parsed_of words) (λ w. Suffices (spec_of w) shelf space)
+
+-- a fresh and steady desk with what the words call for
+pub record IsAmple (t : Told) (words : List (List ℕ)) (desk : DeskState) : Type 0 where
+  pub fresh : IsFresh t desk
+  pub steady : IsSteady desk
+  pub enough : SufficesFor words t.shelf desk.view.room

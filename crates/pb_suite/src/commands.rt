@@ -1,0 +1,10 @@
+//! The program's commands, each by its specification.
+
+pub mod bench;
+pub mod check;
+pub mod decode;
+pub mod encode;
+pub mod map;
+pub mod probe;
+pub mod refute;
+pub mod wcnf;

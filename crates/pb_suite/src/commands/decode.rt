@@ -1,0 +1,128 @@
+//! Decoding the model of a file.
+ghost use Rattle.std.specs.Prelude.{◌≡◌, ◌<◌, ◌^◌, ℕ, length, false, Ok, Err, IsNone, IfOk, IfErr};
+ghost use Rattle.pb_base.specs.Problems.{IsWithinLimits};
+ghost use Rattle.pb_desk.specs.Desk.{IfTold, IsClosed, IsSteady, IsTold};
+ghost use Rattle.pb_model.specs.Decoding.{IsDecoded};
+ghost use Rattle.pb_model.specs.ModelReading.{told};
+ghost use Rattle.pb_words.specs.DecodeWords.{as_decode_words};
+ghost use Rattle.pb_suite.specs.Implementing.{Implements, ImplementsWithin};
+ghost use Rattle.pb_suite.specs.DecodeSpec.{decode_spec, IsAnswered};
+ghost use Rattle.pb_suite.specs.Refusals.{RefusesModel};
+ghost use Rattle.pb_suite.specs.inner.Runs.{model_refusal, Fetches, HasText, StopsReading};
+
+use crate::outcome::Outcome;
+use crate::reading::{fetch, read_problem};
+use crate::saying::say;
+use pb_base::{File, LimitKind, MAX_TEXT, NoMemory, Problem};
+use pb_desk::{Desk, TextFault};
+use pb_model::{Decoded, Model, ModelFault, decode, read_model, write_solution};
+use pb_words::DecodeArgs;
+use std::alloc::Global;
+
+/// The outcome of a text's fault.
+pub fn model_refusal(fault: ModelFault) -> Outcome
+    ensures { result ≡ model_refusal fault }
+{
+    match fault {
+        ModelFault::Token { place, expected } => Outcome::Refused {
+            file: File::Model,
+            place,
+            expected,
+        },
+        ModelFault::Limit { place, which } => Outcome::Limit {
+            file: Some(File::Model),
+            which,
+            place,
+        },
+        ModelFault::NoMemory => Outcome::NoMemory,
+    }
+}
+
+// Reads what a solver printed of so many variables, or says why not.
+fn read_answer<D: Desk>(
+    alloc: Global,
+    name: &str,
+    vars: u32,
+    desk: &mut D,
+) -> Result<Model, Outcome>
+    requires few { vars < 2 ^ 31 }
+    requires free { (D.state desk.old).view.reading 1 ≡ false }
+    ensures covers { IfOk result (λ m. length m.values ≡ vars) }
+    ensures read { IfOk result (λ m. (count : ℕ) × Fetches 1 name.now count (D.state desk.old) (D.state desk.new)) }
+    ensures says { IfOk result (λ m. HasText name.now (λ text. told vars text ≡ Ok m) (D.state desk.old)) }
+    ensures stopped { IfErr result (StopsReading File.Model 1 name.now (RefusesModel vars) (D.state desk.old) (D.state desk.new)) }
+    ensures steady { IsSteady (D.state desk.old) → result ≡ Err Outcome.ReadFault → IsTold (D.state desk.old) (λ t. IsNone (t.shelf name.now)) }
+{
+    let text = match fetch(alloc, desk, 1, name, MAX_TEXT) {
+        Ok(text) => text,
+        Err(TextFault::Failed) => return Err(Outcome::ReadFault),
+        Err(TextFault::TooLong) => {
+            return Err(model_refusal(ModelFault::Limit {
+                place: None,
+                which: LimitKind::Text,
+            }));
+        }
+        Err(TextFault::NoMemory) => return Err(Outcome::NoMemory),
+    };
+    match read_model(alloc, text.as_slice(), vars) {
+        Ok(model) => Ok(model),
+        Err(fault) => Err(model_refusal(fault)),
+    }
+}
+
+// Says the solution that a model gives.
+fn say_solution<D: Desk>(
+    alloc: Global,
+    problem: &Problem,
+    model: &Model,
+    asked: &DecodeArgs<'_>,
+    desk: &mut D,
+) -> Outcome
+    requires within { IsWithinLimits problem.now }
+    requires solution { IsDecoded problem.now model.now Decoded.Solution }
+    requires covers { length model.now.values ≡ problem.now.vars }
+    requires answered { IfTold (D.state desk.old) (λ t. IsAnswered t.shelf (as_decode_words asked.now) problem.now model.now) }
+    ensures { ImplementsWithin (decode_spec (as_decode_words asked.now)) 0 (D.state desk.old) (D.state desk.new) result }
+{
+    let mut text = Vec::new(alloc);
+    match write_solution(alloc, problem, &model.values, &mut text) {
+        Ok(()) => say(desk, &text),
+        Err(NoMemory) => Outcome::NoMemory,
+    }
+}
+
+// Says the solution that a model gives, or tells why it gives none.
+fn say_decoded<D: Desk>(
+    alloc: Global,
+    problem: &Problem,
+    model: &Model,
+    asked: &DecodeArgs<'_>,
+    desk: &mut D,
+) -> Outcome
+    requires within { IsWithinLimits problem.now }
+    requires covers { length model.now.values ≡ problem.now.vars }
+    requires answered { IfTold (D.state desk.old) (λ t. IsAnswered t.shelf (as_decode_words asked.now) problem.now model.now) }
+    ensures { ImplementsWithin (decode_spec (as_decode_words asked.now)) 0 (D.state desk.old) (D.state desk.new) result }
+{
+    match decode(problem, model) {
+        Decoded::NoModel => Outcome::NoModel,
+        Decoded::Violates { statement } => Outcome::NotASolution { statement },
+        Decoded::Solution => say_solution(alloc, problem, model, asked, desk),
+    }
+}
+
+/// Says the solution of a problem that a solver's model gives. The values are tested against each statement.
+pub fn decode_file<D: Desk>(alloc: Global, asked: &DecodeArgs<'_>, desk: &mut D) -> Outcome
+    requires closed { IsClosed (D.state desk.old) }
+    ensures { Implements (decode_spec (as_decode_words asked.now)) (D.state desk.old) (D.state desk.new) result }
+{
+    let problem = match read_problem(alloc, asked.opb, asked.bound, desk) {
+        Ok(problem) => problem,
+        Err(outcome) => return outcome,
+    };
+    let model = match read_answer(alloc, asked.model, problem.vars, desk) {
+        Ok(model) => model,
+        Err(outcome) => return outcome,
+    };
+    say_decoded(alloc, &problem, &model, asked, desk)
+}

@@ -1,0 +1,30 @@
+//! Encoding the problem of a file.
+ghost use Rattle.pb_desk.specs.Desk.{IsClosed};
+ghost use Rattle.pb_words.specs.EncodeWords.{as_encode_words};
+ghost use Rattle.pb_words.specs.inner.Fit.{IsFitEncode};
+ghost use Rattle.pb_suite.specs.Implementing.{Implements};
+ghost use Rattle.pb_suite.specs.EncodeSpec.{encode_spec};
+
+use crate::outcome::Outcome;
+use crate::reading::read_problem;
+use crate::storing::store;
+use pb_desk::Desk;
+use pb_encode::Names;
+use pb_words::EncodeArgs;
+use std::alloc::Global;
+
+/// Makes the CNF file of a problem, and the file of the derivation if that is named, and says the size of the encoding.
+pub fn encode_file<D: Desk>(alloc: Global, asked: &EncodeArgs<'_>, desk: &mut D) -> Outcome
+    requires closed { IsClosed (D.state desk.old) }
+    requires fit { IsFitEncode (as_encode_words asked.now) }
+    ensures { Implements (encode_spec (as_encode_words asked.now)) (D.state desk.old) (D.state desk.new) result }
+{
+    let names = Names {
+        cnf: asked.cnf,
+        proof: asked.proof,
+    };
+    match read_problem(alloc, asked.opb, asked.bound, desk) {
+        Ok(problem) => store(alloc, &problem, &asked.options, &names, desk),
+        Err(outcome) => outcome,
+    }
+}

@@ -1,0 +1,42 @@
+//! Propagating given literals over the clauses of a file.
+ghost use Rattle.std.specs.Prelude.{IfOk};
+ghost use Rattle.pb_desk.specs.Desk.{IsClosed};
+ghost use Rattle.pb_words.specs.ProbeWords.{as_probe_words};
+ghost use Rattle.pb_suite.specs.Implementing.{Implements};
+ghost use Rattle.pb_suite.specs.ProbeSpec.{probe_spec, SaysOfLits};
+ghost use Rattle.pb_unit.specs.Reaching.{OfClauses};
+
+use crate::cnf::read_cnf;
+use crate::line::{conflict_line, fixed_line};
+use crate::outcome::Outcome;
+use crate::saying::say;
+use pb_base::{Lits, NoMemory};
+use pb_desk::Desk;
+use pb_unit::{Constraints, reached_literals};
+use pb_words::ProbeArgs;
+use std::alloc::Global;
+
+// What is said of literals that are given beside clauses.
+fn line_of(alloc: Global, forms: Constraints, lits: &Lits) -> Result<Vec<u8>, NoMemory>
+    ensures { OfClauses forms (λ clauses. IfOk result (λ line. SaysOfLits clauses lits.now line.items)) }
+{
+    match reached_literals(alloc, forms, lits)? {
+        None => Ok(conflict_line(alloc)?),
+        Some(found) => Ok(fixed_line(alloc, &found)?),
+    }
+}
+
+/// Says what the literals reach over the clauses of a file.
+pub fn probe_file<D: Desk>(alloc: Global, asked: &ProbeArgs<'_>, desk: &mut D) -> Outcome
+    requires closed { IsClosed (D.state desk.old) }
+    ensures { Implements (probe_spec (as_probe_words asked.now)) (D.state desk.old) (D.state desk.new) result }
+{
+    let read = match read_cnf(alloc, asked.cnf, desk) {
+        Ok(read) => read,
+        Err(outcome) => return outcome,
+    };
+    match line_of(alloc, read.forms, &asked.lits) {
+        Ok(line) => say(desk, &line),
+        Err(NoMemory) => Outcome::NoMemory,
+    }
+}

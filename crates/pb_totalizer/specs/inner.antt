@@ -1,0 +1,3 @@
+pub mod LimitSources
+pub mod Outputs
+pub mod Sources

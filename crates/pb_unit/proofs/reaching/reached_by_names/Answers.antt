@@ -1,0 +1,56 @@
+use Rattle.std.proofs.Common.{◌∙◌, List, ap, arith, length, map, subst, sym}
+use Rattle.std.specs.Prelude.{All}
+use Rattle.pb_base.specs.declared.literal.Lit.{Lit}
+use Rattle.pb_norm.specs.Constraints.{Constraint}
+use Rattle.pb_norm.specs.Propagation.{Conflict}
+use Rattle.pb_unit.specs.Reaching.{AreAscending, AreReachedOver, IsUpTo, OfConstraint, OfLit}
+use Rattle.pb_unit.specs.Renaming.{name_at, number_in, renamed, renamed_lit}
+use Rattle.pb_unit.proofs.Numbers.{names_few}
+use Rattle.pb_unit.proofs.Numbered.{conflict_named, found_places, numbered_ascending, numbered_constraints, numbered_lits, reached_named}
+use Rattle.pb_unit.proofs.reaching.reached_by_names.Goals as goal
+
+pub overflow_cast-names : goal.overflow_cast-names
+overflow_cast-names c = omega (arith, names_few c.args.names.now c.requires.names)
+
+pub reached_within-requires-clause-few : goal.reached_within-requires-clause-few
+reached_within-requires-clause-few c = names_few c.args.names.now c.requires.names
+
+pub reached_within-requires-clause-within : goal.reached_within-requires-clause-within
+reached_within-requires-clause-within c =
+    let forms = c.in_ok-numbered.ensures in
+    subst (All (OfConstraint (IsUpTo (length c.args.names.now)))) (sym forms) (numbered_constraints c.args.names.now c.requires.names c.args.forms.now c.args.given.now c.requires.named)
+
+pub reached_within-requires-clause-given : goal.reached_within-requires-clause-given
+reached_within-requires-clause-given c =
+    let lits = c.deref.ensures.value ∙ c.in_ok-lits.ensures in
+    subst (All (OfLit (IsUpTo (length c.args.names.now)))) (sym lits) (numbered_lits c.args.names.now c.requires.names c.args.forms.now c.args.given.now c.requires.named)
+
+pub reached_within-requires-clause-ascending : goal.reached_within-requires-clause-ascending
+reached_within-requires-clause-ascending c =
+    let lits = c.deref.ensures.value ∙ c.in_ok-lits.ensures in
+    subst AreAscending (sym lits) (numbered_ascending c.args.names.now c.requires.names c.args.forms.now c.args.given.now c.requires.named c.requires.ascending)
+
+pub returns-in-None : goal.returns-in-None
+returns-in-None c =
+    let forms = c.in_ok-numbered.ensures in
+    let lits = c.deref.ensures.value ∙ c.in_ok-lits.ensures in
+    let found = rw c.in-None.is at c.in_ok-reached_within.ensures in
+    conflict_named c.args.names.now c.requires.names c.args.forms.now c.args.given.now c.requires.named
+    (subst (λ (ls : List Lit). Conflict (map (renamed (number_in c.args.names.now)) c.args.forms.now) ls) lits (subst (λ (cs : List Constraint). Conflict cs c.deref.result.now) forms found))
+
+pub named_lits-requires-clause-places : goal.named_lits-requires-clause-places
+named_lits-requires-clause-places c =
+    let forms = c.in_ok-numbered.ensures in
+    let lits = c.deref.ensures.value ∙ c.in_ok-lits.ensures in
+    let found : AreReachedOver c.in_ok-numbered.numbered c.deref.result.now c.in-Some.found.items = rw c.in-Some.is at c.in_ok-reached_within.ensures in
+    let over = subst (λ (ls : List Lit). AreReachedOver (map (renamed (number_in c.args.names.now)) c.args.forms.now) ls c.in-Some.found.items) lits (subst (λ (cs : List Constraint). AreReachedOver cs c.deref.result.now c.in-Some.found.items) forms found) in
+    subst (All (OfLit (IsUpTo (length c.args.names.now)))) (sym c.deref-in-Some.ensures.value) (found_places c.args.names.now c.requires.names c.args.forms.now c.args.given.now c.requires.named c.in-Some.found.items over)
+
+pub returns : goal.returns
+returns c =
+    let forms = c.in_ok-numbered.ensures in
+    let lits = c.deref.ensures.value ∙ c.in_ok-lits.ensures in
+    let found : AreReachedOver c.in_ok-numbered.numbered c.deref.result.now c.in-Some.found.items = rw c.in-Some.is at c.in_ok-reached_within.ensures in
+    let over = subst (λ (ls : List Lit). AreReachedOver (map (renamed (number_in c.args.names.now)) c.args.forms.now) ls c.in-Some.found.items) lits (subst (λ (cs : List Constraint). AreReachedOver cs c.deref.result.now c.in-Some.found.items) forms found) in
+    let made = c.in_ok-named_lits-in-Some.ensures ∙ ap (map (renamed_lit (name_at c.args.names.now))) c.deref-in-Some.ensures.value in
+    subst (AreReachedOver c.args.forms.now c.args.given.now) (sym made) (reached_named c.args.names.now c.requires.names c.args.forms.now c.args.given.now c.requires.named c.in-Some.found.items over)

@@ -1,5 +1,0 @@
-use Rattle.std.proofs.Common.{rules}
-use Rattle.pb_words.proofs.wcnf.weighing_in.Goals as goal
-
-pub returns : goal.returns
-returns c = search rules

@@ -1,0 +1,36 @@
+-- What holds of all that is asked for. Our own.
+use Rattle.std.specs.Prelude.{◌≢◌, ◌≤◌}
+use Rattle.std.specs.Option.{ForSome}
+use Rattle.pb_words.specs.BenchWords.{BenchWords}
+use Rattle.pb_words.specs.EncodeWords.{EncodeWords}
+use Rattle.pb_words.specs.Parsed.{Wanted}
+use Rattle.pb_words.specs.Parsed.Wanted.{Encode, Check, Decode, Probe, Bench, Refute, Map, Wcnf}
+use Rattle.pb_words.specs.WcnfWords.{WcnfWords}
+
+-- different names, and a budget within its range
+pub record IsFitEncode (w : EncodeWords) : Type 0 where
+  pub different : w.opb ≢ w.cnf
+  pub other : ForSome w.proof (λ proof. (w.opb ≢ proof) × (w.cnf ≢ proof))
+  pub low : 1 ≤ w.options.budget
+  pub high : w.options.budget ≤ 10000000
+
+-- the same of a weighted CNF
+pub record IsFitWcnf (w : WcnfWords) : Type 0 where
+  pub different : w.opb ≢ w.wcnf
+  pub low : 1 ≤ w.options.budget
+  pub high : w.options.budget ≤ 10000000
+
+-- a number of statements and a seed within their ranges
+pub record IsFitBench (w : BenchWords) : Type 0 where
+  pub count : w.count ≤ 1000000
+  pub seed : w.seed ≤ 4294967295
+
+abbrev pub IsFit : Wanted → Type 0
+IsFit (Encode w) = IsFitEncode w
+IsFit (Check w) = Unit {0}
+IsFit (Decode w) = Unit {0}
+IsFit (Probe w) = Unit {0}
+IsFit (Bench w) = IsFitBench w
+IsFit (Refute w) = Unit {0}
+IsFit (Map w) = Unit {0}
+IsFit (Wcnf w) = IsFitWcnf w
