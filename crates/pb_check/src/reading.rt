@@ -25,7 +25,7 @@ fn says_nothing(step: &Step) -> bool
     }
 }
 
-/// TakesAhead up to the next line that says something, as a step. None at the end of the text.
+/// Takes the next line that says something, as a step. None at the end of the text.
 pub fn next_step<D: Desk>(
     alloc: Global,
     desk: &mut D,

@@ -21,7 +21,7 @@ use pb_rules::Database;
 use pb_steps::Step;
 use std::alloc::Global;
 
-/// TakesAhead the head line.
+/// Takes the head line.
 pub fn take_head<D: Desk>(
     alloc: Global,
     desk: &mut D,
@@ -50,7 +50,7 @@ pub fn take_head<D: Desk>(
     }
 }
 
-/// TakesAhead the line that tells the number of loaded constraints.
+/// Takes the line that tells the number of loaded constraints.
 pub fn take_count<D: Desk>(
     alloc: Global,
     desk: &mut D,
@@ -159,7 +159,7 @@ pub fn run_steps<D: Desk>(
     }
 }
 
-/// TakesAhead on to the end of the text, where no line may say anything.
+/// Goes on to the end of the text, where no line may say anything.
 pub fn take_rest<D: Desk>(
     alloc: Global,
     desk: &mut D,

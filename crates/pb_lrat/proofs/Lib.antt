@@ -5,3 +5,5 @@ pub mod Storing
 pub mod Judging
 pub mod Meaning
 pub mod Walking
+pub mod Spelling
+pub mod Columns

@@ -1,9 +1,11 @@
 pub mod LratWords
 pub mod LratLines
+pub mod LratGrammar
 pub mod Hints
 pub mod LratStates
 pub mod LratWalk
 pub mod Refuting
+pub mod laws
 pub mod LratLaws
 pub mod inner
 pub mod examples

@@ -22,7 +22,7 @@ pub data LratEnding : Type 0 where
 abbrev pub place_at : ℕ → ℕ → Place
 place_at number column = record { line = number; column = column }
 
--- how a line that is not taken ends the text; want of memory is no line's fault
+-- how a line that is not taken ends the text; no line answers want of memory (LinesNeedNoMemory), so that its row is never met
 abbrev pub ending_of : ℕ → LratFault → LratEnding
 ending_of number (Token column e) = refused (place_at number column) e
 ending_of number (Limit column which) = limited (Some (place_at number column)) which
@@ -33,6 +33,7 @@ abbrev pub walk_by : ℕ → (LratState → LratEnding) → Result LratState Lra
 walk_by number others (Ok s) = others s
 walk_by number others (Err fault) = ending_of number fault
 
+-- rows end with the last one or with one that is too long, so that none are never met
 abbrev pub walk_from : LratState → List CnfRow → LratEnding
 walk_from s [] = not_refuted 0 NoEmptyClause
 walk_from s (plain number line ∷ rows) = walk_by number (λ t. walk_from t rows) (after_line s line)

@@ -28,3 +28,9 @@ pub mod Written
 pub mod Sizes
 pub mod WordText
 pub mod Unbroken
+pub mod Judged
+pub mod WordByWord
+pub mod StepStates
+pub mod StepReadings
+pub mod PolColumns
+pub mod LineColumns

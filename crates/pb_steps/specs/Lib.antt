@@ -13,6 +13,7 @@ pub mod Allowed
 pub mod Denials
 pub mod Runs
 pub mod Extends
+pub mod laws
 pub mod DenialLaws
 pub mod RunLaws
 pub mod StepLines

@@ -1,12 +1,14 @@
 -- What is claimed of lines that are read and written (our own).
 use Rattle.std.specs.Prelude.{◌≡◌, ◌↔◌, ◌+◌, ◌≤◌, ℕ, List, length, Ok, Err}
+use Rattle.pb_base.specs.Words.{words_of}
 use Rattle.pb_steps.specs.declared.fault.StepFault.{StepFault}
 use Rattle.pb_steps.specs.declared.step.Step.{Step}
 use Rattle.pb_steps.specs.Sayable.{IsSayable}
-use Rattle.pb_steps.specs.StepGrammar.{SaysStep}
+use Rattle.pb_steps.specs.StepGrammar.{SaysStep, WordsSay}
 use Rattle.pb_steps.specs.StepText.{step_line}
 use Rattle.pb_steps.specs.StepSizes.{step_size}
 use Rattle.pb_steps.specs.LineSteps.{step_of}
+use Rattle.pb_steps.specs.laws.FirstWords.{column_of, IsMarkedLike, StandsFirst}
 
 -- what is read is what is said
 abbrev pub ReadsWhatIsSaid : Type 0
@@ -23,6 +25,14 @@ LinesDiffer = (s t : Step) → IsSayable s → IsSayable t → step_line s ≡ s
 -- a line with a fault says no step
 abbrev pub StepFaultsSayNothing : Type 0
 StepFaultsSayNothing = (line : List ℕ) (fault : StepFault) → step_of line ≡ Err fault → (s : Step) → ¬ (SaysStep line s)
+
+-- the words say some step
+abbrev pub IsStepLine : List (List ℕ) → Type 0
+IsStepLine ws = (s : Step) × WordsSay ws s
+
+-- a fault stands at the first word behind which no line goes on
+abbrev pub StepFaultsStandFirst : Type 0
+StepFaultsStandFirst = (line : List ℕ) (fault : StepFault) → step_of line ≡ Err fault → StandsFirst IsStepLine IsMarkedLike (length line + 1) (words_of line) (column_of fault)
 
 -- no line is longer than its step's parts say, with its LF
 abbrev pub LinesAreBounded : Type 0

@@ -19,7 +19,8 @@ pub use denied::Denied;
 pub use fault::StepFault;
 pub use laws::{accepted_extends, allowed_or_denied};
 pub use line_laws::{
-    faults_say_nothing, lines_are_bounded, lines_differ, reads_what_is_said, written_line_reads,
+    faults_say_nothing, faults_stand_first, lines_are_bounded, lines_differ, reads_what_is_said,
+    written_line_reads,
 };
 pub use op::{PolOp, Set};
 pub use read::read_step;

@@ -25,6 +25,7 @@ pub mod Trailing
 pub mod Unlisting
 pub mod UpTo
 pub mod Visits
+pub mod Counting
 pub mod Ordered
 pub mod HeldLists
 pub mod Assuming

@@ -1,5 +1,5 @@
 -- Lists of constraints, as they are read.
-use Rattle.std.specs.Prelude.{◌≡◌, ℕ, List, Option, Some, All, map, slice_index_or}
+use Rattle.std.specs.Prelude.{◌≡◌, ℕ, List, Option, Some, All, length, map, slice_index_or, sum_by}
 use Rattle.pb_base.specs.declared.literal.Term.{Term}
 use Rattle.pb_norm.specs.Constraints.{Constraint, AreUnsigned, IsLinear, constraint_of, terms_of}
 use Rattle.pb_unit.specs.States.{standing, Stands}
@@ -18,3 +18,7 @@ pub record IsRead (cs : List Constraint) (place : ℕ) (ts : List Term) (degree 
 pub record IsWhole (places : List (Option Constraint)) : Type 0 where
   pub stand : places ≡ map Some (standing places)
   pub linear : All IsLinear (standing places)
+
+-- how many literals constraints have
+abbrev pub lit_count : List Constraint → ℕ
+lit_count cs = sum_by (λ c. length c.terms) cs

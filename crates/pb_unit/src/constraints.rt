@@ -1,7 +1,7 @@
 //! Lists of constraints.
-ghost use Rattle.std.specs.Prelude.{◌≡◌, ◌<◌, ◌++◌, ◌∷◌, [], Some, IfOk, IsErr, OnOk, All, length, map};
+ghost use Rattle.std.specs.Prelude.{◌≡◌, ◌≤◌, ◌<◌, ◌++◌, ◌∷◌, [], Some, IfOk, IsErr, OnOk, All, length, map};
 ghost use Rattle.pb_norm.specs.Constraints.{IsLinear};
-ghost use Rattle.pb_unit.specs.Reads.{IsRead};
+ghost use Rattle.pb_unit.specs.Reads.{lit_count, IsRead};
 
 use crate::places::Places;
 use pb_base::{NoMemory, Term};
@@ -79,8 +79,10 @@ impl Constraints {
         self.places.len()
     }
 
-    /// How many literals the clauses among them have.
-    pub fn clause_lits(&self) -> usize {
+    /// How many literals the clauses among them have: no more than all of them.
+    pub fn clause_lits(&self) -> usize
+        ensures { result ≤ lit_count self.now }
+    {
         self.places.clause_lits()
     }
 

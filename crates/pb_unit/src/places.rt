@@ -1,5 +1,5 @@
 //! Constraints by their places.
-ghost use Rattle.std.specs.Prelude.{◌≡◌, ◌≤◌, ◌<◌, ◌+◌, ◌*◌, ◌-◌, ◌^◌, ◌++◌, ◌∷◌, [], if◌then◌else◌, ℕ, List, Some, None, IsTrue, IfOk, IfSome, OnOk, length, map, take, is_some, nat_lt, slice_set};
+ghost use Rattle.std.specs.Prelude.{◌≡◌, ◌≤◌, ◌<◌, ◌+◌, ◌*◌, ◌-◌, ◌^◌, ◌++◌, ◌∷◌, [], if◌then◌else◌, ℕ, List, Some, None, IsTrue, IfOk, IfSome, OnOk, length, map, take, is_some, nat_lt, slice_set, sum_by};
 ghost use Rattle.std.specs.Bool.{OnTrue, OnFalse};
 ghost use Rattle.std.specs.Option.{option_map};
 ghost use Rattle.pb_base.specs.declared.literal.Lit.{Lit};
@@ -9,8 +9,8 @@ ghost use Rattle.pb_unit.specs.States.{StandWithin, Stands, at_place, placed, st
 ghost use Rattle.pb_unit.specs.Steps.{IsCalm, Advances, HasTooLittle};
 ghost use Rattle.pb_unit.specs.inner.Filling.{terms_in, IsFilling, IsInRange, IsKeptOf};
 ghost use Rattle.pb_unit.specs.Index.{list_at, size_of};
-ghost use Rattle.pb_unit.specs.inner.Slots.{unit, part, slot_at, with_slot, AreSlots, IsSlot};
-ghost use Rattle.pb_unit.specs.Reads.{ReadsAt};
+ghost use Rattle.pb_unit.specs.inner.Slots.{unit, part, slot_at, slot_lits, with_slot, AreSlots, IsSlot};
+ghost use Rattle.pb_unit.specs.Reads.{lit_count, ReadsAt};
 
 use crate::filling::{count_lits, count_terms, fill_range};
 use crate::index::Index;
@@ -305,6 +305,27 @@ fn count_slot(slot: &Slot, lits: &[Lit], counts: &mut [u32])
     }
 }
 
+// How many literals the clause of a slot has.
+fn slot_lits(slot: &Slot) -> usize
+    ensures { result ≡ slot_lits slot.now }
+{
+    match slot {
+        Slot::Clause { start: _, len } => *len as usize,
+        _ => 0,
+    }
+}
+
+// How many literals the clauses of slots have, or as many as can be counted.
+fn lits_of_slots(slots: &[Slot]) -> usize
+    ensures { result ≤ sum_by slot_lits slots.now }
+{
+    let mut count: usize = 0;
+    for slot in slots {
+        count = count.saturating_add(slot_lits(slot));
+    }
+    count
+}
+
 impl Places {
     // No place yet.
     pub(crate) fn new(alloc: Global) -> Places
@@ -323,9 +344,11 @@ impl Places {
         self.slots.len()
     }
 
-    // How many literals the clauses have that came in order.
-    pub(crate) fn clause_lits(&self) -> usize {
-        self.lits.len()
+    // How many literals the clauses have that came in order and still stand.
+    pub(crate) fn clause_lits(&self) -> usize
+        ensures { result ≤ lit_count (standing self.now) }
+    {
+        lits_of_slots(&self.slots)
     }
 
     // Whether a constraint stands at the place.

@@ -27,6 +27,12 @@ slot_at lits Empty = None
 slot_at lits (Clause start len) = Some (clause_of (part lits start len))
 slot_at lits (General alone) = alone_in alone.items
 
+-- how many literals the clause of a slot has
+abbrev pub slot_lits : Slot → ℕ
+slot_lits Empty = 0
+slot_lits (Clause start len) = len
+slot_lits (General alone) = 0
+
 -- the slot at a place, which is one of the list or the next
 abbrev pub with_slot : List Slot → ℕ → Slot → List Slot
 with_slot slots place slot = if nat_lt place (length slots) then slice_set slots place slot else slots ++ slot ∷ []
