@@ -1,5 +1,6 @@
 //! The reader of OPB texts.
-ghost use Rattle.std.specs.Prelude.{◌≡◌, IfOk, IfErr};
+ghost use Rattle.std.specs.Prelude.{◌≡◌, ◌≤◌, ◌-◌, IfOk, IfErr, length, take};
+ghost use Rattle.pb_base.specs.Places.{end_of};
 ghost use Rattle.pb_base.specs.Problems.{IsWithinLimits};
 ghost use Rattle.pb_opb.specs.FirstLine.{told_vars};
 ghost use Rattle.pb_opb.specs.Limits.{Keeps};
@@ -8,8 +9,9 @@ ghost use Rattle.pb_opb.specs.reader.Takes.{IsTokenFault};
 
 use crate::fault::OpbFault;
 use crate::first_line::told_vars;
+use crate::gap::past_gap;
 use crate::reader::Reader;
-use pb_base::{LimitKind, MAX_TEXT, Problem, end_of, tokens};
+use pb_base::{LimitKind, MAX_TEXT, Place, Problem, end_of};
 use pb_named::{NamedProblem, NumberFault, number};
 use std::alloc::Global;
 
@@ -62,6 +64,14 @@ fn read_within(alloc: Global, text: &[u8], told: u32) -> Result<Problem, OpbFaul
     }
 }
 
+// Where what is left of a text begins. Lines and columns are counted for a fault alone.
+fn place_of(text: &[u8], left: &[u8]) -> Place
+    requires { length left.now ≤ length text.now }
+    ensures { result ≡ end_of (take (length text.now - length left.now) text.now) }
+{
+    end_of(&text[..text.len() - left.len()])
+}
+
 // Reads the tokens of a text.
 fn read_tokens(alloc: Global, text: &[u8]) -> Result<NamedProblem<'_>, OpbFault>
     requires { IsAdmitted text.now }
@@ -70,11 +80,12 @@ fn read_tokens(alloc: Global, text: &[u8]) -> Result<NamedProblem<'_>, OpbFault>
     ensures fault { IfErr result (IsTokenFault text.now) }
 {
     let mut reader = Reader::new(alloc);
-    for token in tokens(text) {
-        match reader.take(alloc, token.text) {
-            Ok(()) => {}
-            Err(refusal) => return Err(refusal.at(token.place)),
-        }
+    let mut left = past_gap(text);
+    while !left.is_empty() {
+        left = match reader.take(alloc, left) {
+            Ok(rest) => past_gap(rest),
+            Err(refusal) => return Err(refusal.at(place_of(text, left))),
+        };
     }
     match reader.finish() {
         Ok(problem) => Ok(problem),

@@ -1,16 +1,22 @@
 //! What was read of a text so far.
-ghost use Rattle.std.specs.Prelude.{◌≡◌, ◌<◌, ◌≤◌, ◌^◌, [], None, OnOk, IfOk, IfErr, length};
-ghost use Rattle.pb_opb.specs.Grammar.{kind_of};
-ghost use Rattle.pb_opb.specs.Grammar.Kind.{end};
+ghost use Rattle.std.specs.Prelude.{◌≡◌, ◌<◌, ◌≤◌, ◌^◌, [], None, OnOk, IfOk, IfErr, length, ℤ, unsigned_abs};
+ghost use Rattle.pb_base.specs.inner.Scans.{BeginsToken};
+ghost use Rattle.pb_named.specs.declared.named.NamedLit.{NamedLit};
+ghost use Rattle.pb_opb.specs.Grammar.{Kind, kind_of};
+ghost use Rattle.pb_opb.specs.Grammar.Kind.{integer, literal, semicolon, end};
+ghost use Rattle.pb_opb.specs.Limits.{IsNear, IsModest};
 ghost use Rattle.pb_opb.specs.reader.Front.{Ends, IsRead, read_kinds};
-ghost use Rattle.pb_opb.specs.reader.Takes.{Refuses, Took, Finishes, PassesAt};
+ghost use Rattle.pb_opb.specs.reader.Heads.{IsInReach, behind, short_kind, token_at};
+ghost use Rattle.pb_opb.specs.reader.Steps.{MayLead};
+ghost use Rattle.pb_opb.specs.reader.Takes.{Refuses, Took, Finishes, PassesAt, PassesBy};
 ghost use Rattle.pb_opb.specs.reader.Moves.{IsStopped, IsFull, IsLonger, HasFurther, first_passed, moved, with_term, with_statement, with_objective};
 
 use crate::fault::Refusal;
-use crate::stage::{Part, Stage, Step, WEIGHT};
-use crate::symbol::symbol_of;
+use crate::head::{Short, first_token, head_of};
+use crate::stage::{Ending, Part, Spot, Stage, WEIGHT};
+use crate::symbol::{Symbol, symbol_of};
 use pb_base::{LimitKind, MAX_TERMS, Relation, Seq};
-use pb_named::{NamedLit, NamedProblem, NamedStatement, NamedTerm, NamedTerms};
+use pb_named::{Name, NamedLit, NamedProblem, NamedStatement, NamedTerm, NamedTerms};
 use std::alloc::{AllocError, Global};
 use std::mem;
 
@@ -74,31 +80,137 @@ impl<'a> Reader<'a> {
         }
     }
 
-    /// Takes a token, or says why not.
-    pub fn take(&mut self, alloc: Global, word: &'a [u8]) -> Result<(), Refusal>
+    /// Takes the token at the front of a text, of which it gives what is left, or says why not.
+    pub fn take(&mut self, alloc: Global, text: &'a [u8]) -> Result<&'a [u8], Refusal>
+        requires read { IsRead self.old }
+        requires some { 1 ≤ length text.now }
+        requires front { BeginsToken text.now }
+        ensures ok { OnOk result (Took self.old self.new (kind_of (token_at text.now))) }
+        ensures rest { IfOk result (λ rest. rest.now ≡ behind text.now) }
+        ensures err { IfErr result (Refuses (read_kinds self.old) (kind_of (token_at text.now))) }
+    {
+        match head_of(text) {
+            Some(head) => {
+                self.take_short(alloc, head.short)?;
+                Ok(head.rest)
+            }
+            None => {
+                let word = first_token(text);
+                self.take_word(alloc, word)?;
+                let (_, rest) = text.split_at(word.len());
+                Ok(rest)
+            }
+        }
+    }
+
+    // Takes a token that was read as it was found.
+    fn take_short(&mut self, alloc: Global, short: Short) -> Result<(), Refusal>
+        requires read { IsRead self.old }
+        requires reach { IsInReach short }
+        ensures ok { OnOk result (Took self.old self.new (short_kind short)) }
+        ensures err { IfErr result (Refuses (read_kinds self.old) (short_kind short)) }
+    {
+        match short {
+            Short::Integer(n) => self.go(self.stage.integer(n as i128)),
+            Short::Opposite(n) => self.go(self.stage.integer(-(n as i128))),
+            Short::Literal(index, positive) => {
+                let name = Name::of_index(index);
+                self.take_literal(alloc, NamedLit { name, positive })
+            }
+            Short::Relation(sign) => self.go(self.stage.relation(sign)),
+            Short::Semicolon => self.take_semicolon(alloc),
+        }
+    }
+
+    // Takes a token, whatever it is.
+    fn take_word(&mut self, alloc: Global, word: &'a [u8]) -> Result<(), Refusal>
         requires { IsRead self.old }
         ensures ok { OnOk result (Took self.old self.new (kind_of word.now)) }
         ensures err { IfErr result (Refuses (read_kinds self.old) (kind_of word.now)) }
     {
-        match self.stage.step(symbol_of(word)) {
-            Step::To(next) => self.go_on(next, self.weight + next.stage_weight()),
-            Step::Wide(next) => self.go_on(next, WEIGHT),
-            Step::Term(part, coef, lit) => {
+        match symbol_of(word) {
+            Symbol::Minimise => self.go(self.stage.minimise()),
+            Symbol::Integer(n) => self.go(self.stage.integer(n)),
+            Symbol::Wide => self.take_wide(),
+            Symbol::Literal(lit) => self.take_literal(alloc, lit),
+            Symbol::Far => self.refuse_literal(LimitKind::Variables),
+            Symbol::Long => self.refuse_literal(LimitKind::Name),
+            Symbol::Relation(sign) => self.go(self.stage.relation(sign)),
+            Symbol::Semicolon => self.take_semicolon(alloc),
+            Symbol::Other => Err(Refusal::Unexpected(self.stage.expected())),
+        }
+    }
+
+    // Goes on to where a token leads, if it may stand there.
+    fn go(&mut self, next: Option<Stage>) -> Result<(), Refusal>
+        requires { IsRead self.old }
+        ensures ok { (k : Kind) → MayLead self.old.stage k next → OnOk result (Took self.old self.new k) }
+        ensures err { (k : Kind) → MayLead self.old.stage k next → IfErr result (Refuses (read_kinds self.old) k) }
+    {
+        match next {
+            Some(next) => self.go_on(next, self.weight + next.stage_weight()),
+            None => Err(Refusal::Unexpected(self.stage.expected())),
+        }
+    }
+
+    // Takes an integer that is too wide.
+    fn take_wide(&mut self) -> Result<(), Refusal>
+        requires { IsRead self.old }
+        ensures ok { (n : ℤ) → 2 ^ 126 ≤ unsigned_abs n → OnOk result (Took self.old self.new (integer n)) }
+        ensures err { (n : ℤ) → 2 ^ 126 ≤ unsigned_abs n → IfErr result (Refuses (read_kinds self.old) (integer n)) }
+    {
+        match self.stage.wide() {
+            Some(next) => self.go_on(next, WEIGHT),
+            None => Err(Refusal::Unexpected(self.stage.expected())),
+        }
+    }
+
+    // Takes a literal within the limits.
+    fn take_literal(&mut self, alloc: Global, lit: NamedLit<'a>) -> Result<(), Refusal>
+        requires read { IsRead self.old }
+        requires near { IsNear lit }
+        requires modest { IsModest lit }
+        ensures ok { OnOk result (Took self.old self.new (literal lit.entry)) }
+        ensures err { IfErr result (Refuses (read_kinds self.old) (literal lit.entry)) }
+    {
+        match self.stage.spot() {
+            Spot::First(part, coef) => {
                 self.add_term(part, NamedTerm::new(coef, lit))?;
                 Ok(())
             }
-            Step::Further(part, lit) => self.add_further(alloc, part, lit),
-            Step::EndStatement(relation, right) => {
-                self.end_statement(alloc, relation, right)?;
-                Ok(())
-            }
-            Step::EndObjective => {
+            Spot::Further(part) => self.add_further(alloc, part, lit),
+            Spot::Elsewhere => Err(Refusal::Unexpected(self.stage.expected())),
+        }
+    }
+
+    // Takes no literal that passes this limit.
+    fn refuse_literal(&mut self, which: LimitKind) -> Result<(), Refusal>
+        requires { IsRead self.old }
+        ensures ok { OnOk result ⊥ }
+        ensures err { (l : NamedLit) → PassesBy which l → IfErr result (Refuses (read_kinds self.old) (literal l)) }
+    {
+        match self.stage.spot() {
+            Spot::Elsewhere => Err(Refusal::Unexpected(self.stage.expected())),
+            _ => Err(Refusal::Limit(self.first_passed(which))),
+        }
+    }
+
+    // Takes a `;`.
+    fn take_semicolon(&mut self, alloc: Global) -> Result<(), Refusal>
+        requires { IsRead self.old }
+        ensures ok { OnOk result (Took self.old self.new semicolon) }
+        ensures err { IfErr result (Refuses (read_kinds self.old) semicolon) }
+    {
+        match self.stage.ending() {
+            Ending::Objective => {
                 self.end_objective(alloc);
                 Ok(())
             }
-            Step::Wrong => Err(Refusal::Unexpected(self.stage.expected())),
-            Step::Far => Err(Refusal::Limit(self.first_passed(LimitKind::Variables))),
-            Step::Long => Err(Refusal::Limit(self.first_passed(LimitKind::Name))),
+            Ending::Statement(relation, right) => {
+                self.end_statement(alloc, relation, right)?;
+                Ok(())
+            }
+            Ending::Nothing => Err(Refusal::Unexpected(self.stage.expected())),
         }
     }
 

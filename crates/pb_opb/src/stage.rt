@@ -1,9 +1,7 @@
-//! Where a reader stands, and what a token calls for there.
+//! Where a reader stands, and where a token leads from there.
 ghost use Rattle.std.specs.Prelude.{◌≡◌};
 
-use crate::symbol::Symbol;
 use pb_base::{Expected, LimitKind, MAX_STATEMENTS, MAX_TERMS, Relation, WEIGHT_BITS};
-use pb_named::NamedLit;
 
 /// What a sum belongs to.
 #[derive(Clone, Copy)]
@@ -26,39 +24,34 @@ pub enum Stage {
     Right(Relation, i128),
 }
 
-/// What a token calls for.
-#[derive(Drop)]
-pub enum Step<'a> {
-    To(Stage),
-    /// A term begins with its first literal.
-    Term(Part, i128, NamedLit<'a>),
+/// Where a reader stands, as a literal finds it.
+#[derive(Clone, Copy)]
+pub enum Spot {
+    /// A term begins with the literal.
+    First(Part, i128),
     /// The last term has one literal more.
-    Further(Part, NamedLit<'a>),
-    EndStatement(Relation, i128),
-    EndObjective,
-    Wrong,
-    /// An integer of absolute value 2 ^ 126 or more, and the stage to which 0 would lead.
-    Wide(Stage),
-    /// A literal of index 2 ^ 31 or more.
-    Far,
-    /// A literal of a free name of more than 255 bytes.
-    Long,
+    Further(Part),
+    /// No literal may stand there.
+    Elsewhere,
+}
+
+/// What a `;` ends.
+#[derive(Clone, Copy)]
+pub enum Ending {
+    Objective,
+    Statement(Relation, i128),
+    Nothing,
 }
 
 /// The weight of a statement or objective is below this.
 pub const WEIGHT: u128 = 1 << WEIGHT_BITS;
 
 impl Stage {
-    ghost use Rattle.std.specs.Prelude.{ℤ, ◌+◌, ◌<◌, ◌≤◌, ◌^◌, unsigned_abs};
-    ghost use Rattle.pb_named.specs.declared.named.NamedLit.{NamedLit};
-    ghost use Rattle.pb_named.specs.NamedProblems.{index_in};
-    ghost use Rattle.pb_opb.specs.Limits.{name_len};
-    ghost use Rattle.pb_opb.specs.Grammar.{Kind};
-    ghost use Rattle.pb_opb.specs.Grammar.Kind.{minimise, integer, literal, relation, semicolon};
+    ghost use Rattle.std.specs.Prelude.{ℤ, ◌+◌, ◌≤◌, ◌^◌, unsigned_abs};
+    ghost use Rattle.pb_opb.specs.Grammar.Kind.{minimise, integer, relation};
     ghost use Rattle.pb_opb.specs.reader.Automaton.{expected};
     ghost use Rattle.pb_opb.specs.reader.Front.{state_of, begun_statements, begun_literals};
-    ghost use Rattle.pb_opb.specs.reader.Symbols.{Shows};
-    ghost use Rattle.pb_opb.specs.reader.Steps.{CallsFor, stage_weight};
+    ghost use Rattle.pb_opb.specs.reader.Steps.{MayLead, MayLeadAs, IsSpot, IsEnding, stage_weight};
     ghost use Rattle.pb_opb.specs.reader.Takes.{Passes};
 
     /// What could stand where a reader stands.
@@ -134,105 +127,74 @@ impl Stage {
         }
     }
 
-    /// What a token calls for where a reader stands.
-    pub fn step(self, symbol: Symbol<'_>) -> Step<'_>
-        ensures { (k : Kind) → Shows symbol.entry k → CallsFor self k result }
-    {
-        match symbol {
-            Symbol::Minimise => self.minimise(),
-            Symbol::Integer(n) => self.integer(n),
-            Symbol::Wide => self.wide(),
-            Symbol::Literal(lit) => self.literal(lit),
-            Symbol::Far => self.far(),
-            Symbol::Long => self.long(),
-            Symbol::Relation(relation) => self.relation(relation),
-            Symbol::Semicolon => self.semicolon(),
-            Symbol::Other => Step::Wrong,
-        }
-    }
-
-    fn minimise(self) -> Step<'static>
-        ensures { CallsFor self minimise result }
+    /// Where the word that begins an objective leads.
+    pub fn minimise(self) -> Option<Stage>
+        ensures { MayLead self minimise result }
     {
         match self {
-            Stage::Start => Step::To(Stage::Minimised),
-            _ => Step::Wrong,
+            Stage::Start => Some(Stage::Minimised),
+            _ => None,
         }
     }
 
-    fn integer(self, n: i128) -> Step<'static>
-        ensures { CallsFor self (integer n) result }
+    /// Where an integer leads.
+    pub fn integer(self, n: i128) -> Option<Stage>
+        ensures { MayLead self (integer n) result }
     {
         match self {
-            Stage::Start | Stage::Next => Step::To(Stage::Coefficient(Part::Statement, n)),
-            Stage::Minimised => Step::To(Stage::Coefficient(Part::Objective, n)),
-            Stage::Literals(part) => Step::To(Stage::Coefficient(part, n)),
-            Stage::Related(relation) => Step::To(Stage::Right(relation, n)),
-            Stage::Coefficient(_, _) | Stage::Right(_, _) => Step::Wrong,
+            Stage::Start | Stage::Next => Some(Stage::Coefficient(Part::Statement, n)),
+            Stage::Minimised => Some(Stage::Coefficient(Part::Objective, n)),
+            Stage::Literals(part) => Some(Stage::Coefficient(part, n)),
+            Stage::Related(relation) => Some(Stage::Right(relation, n)),
+            Stage::Coefficient(_, _) | Stage::Right(_, _) => None,
         }
     }
 
-    fn wide(self) -> Step<'static>
-        ensures { (n : ℤ) → 2 ^ 126 ≤ unsigned_abs n → CallsFor self (integer n) result }
+    /// Where 0 leads, in place of an integer of absolute value 2 ^ 126 or more.
+    pub fn wide(self) -> Option<Stage>
+        ensures { (n : ℤ) → 2 ^ 126 ≤ unsigned_abs n → MayLeadAs self (integer n) result }
     {
         match self {
-            Stage::Coefficient(_, _) | Stage::Right(_, _) => Step::Wrong,
-            Stage::Start => Step::Wide(Stage::Coefficient(Part::Statement, 0)),
-            Stage::Next => Step::Wide(Stage::Coefficient(Part::Statement, 0)),
-            Stage::Minimised => Step::Wide(Stage::Coefficient(Part::Objective, 0)),
-            Stage::Literals(part) => Step::Wide(Stage::Coefficient(part, 0)),
-            Stage::Related(relation) => Step::Wide(Stage::Right(relation, 0)),
+            Stage::Coefficient(_, _) | Stage::Right(_, _) => None,
+            Stage::Start => Some(Stage::Coefficient(Part::Statement, 0)),
+            Stage::Next => Some(Stage::Coefficient(Part::Statement, 0)),
+            Stage::Minimised => Some(Stage::Coefficient(Part::Objective, 0)),
+            Stage::Literals(part) => Some(Stage::Coefficient(part, 0)),
+            Stage::Related(relation) => Some(Stage::Right(relation, 0)),
         }
     }
 
-    fn literal(self, lit: NamedLit<'_>) -> Step<'_>
-        requires near { index_in lit.name < 2 ^ 31 }
-        requires modest { name_len lit.name ≤ 255 }
-        ensures { CallsFor self (literal lit.entry) result }
-    {
-        match self {
-            Stage::Coefficient(part, coef) => Step::Term(part, coef, lit),
-            Stage::Literals(part) => Step::Further(part, lit),
-            _ => Step::Wrong,
-        }
-    }
-
-    fn far(self) -> Step<'static>
-        ensures { (l : NamedLit) → 2 ^ 31 ≤ index_in l.name → CallsFor self (literal l) result }
-    {
-        match self {
-            Stage::Coefficient(_, _) | Stage::Literals(_) => Step::Far,
-            _ => Step::Wrong,
-        }
-    }
-
-    fn long(self) -> Step<'static>
-        ensures { (l : NamedLit) → 255 < name_len l.name → CallsFor self (literal l) result }
-    {
-        match self {
-            Stage::Coefficient(_, _) | Stage::Literals(_) => Step::Long,
-            _ => Step::Wrong,
-        }
-    }
-
-    fn relation(self, sign: Relation) -> Step<'static>
-        ensures { CallsFor self (relation sign) result }
+    /// Where a relation leads.
+    pub fn relation(self, sign: Relation) -> Option<Stage>
+        ensures { MayLead self (relation sign) result }
     {
         match self {
             Stage::Start | Stage::Next | Stage::Literals(Part::Statement) => {
-                Step::To(Stage::Related(sign))
+                Some(Stage::Related(sign))
             }
-            _ => Step::Wrong,
+            _ => None,
         }
     }
 
-    fn semicolon(self) -> Step<'static>
-        ensures { CallsFor self semicolon result }
+    /// Where a literal would stand.
+    pub fn spot(self) -> Spot
+        ensures { IsSpot self result }
     {
         match self {
-            Stage::Minimised | Stage::Literals(Part::Objective) => Step::EndObjective,
-            Stage::Right(relation, right) => Step::EndStatement(relation, right),
-            _ => Step::Wrong,
+            Stage::Coefficient(part, coef) => Spot::First(part, coef),
+            Stage::Literals(part) => Spot::Further(part),
+            _ => Spot::Elsewhere,
+        }
+    }
+
+    /// What a `;` would end.
+    pub fn ending(self) -> Ending
+        ensures { IsEnding self result }
+    {
+        match self {
+            Stage::Minimised | Stage::Literals(Part::Objective) => Ending::Objective,
+            Stage::Right(relation, right) => Ending::Statement(relation, right),
+            _ => Ending::Nothing,
         }
     }
 }

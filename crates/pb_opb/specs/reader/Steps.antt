@@ -1,19 +1,19 @@
--- What a token calls for, from each stage of reading.
-use Rattle.std.specs.Prelude.{◌≡◌, ℕ, ◌+◌, ◌<◌, ◌≤◌, ◌^◌, unsigned_abs, List, [], ◌∷◌, ◌++◌, Option, Bool, true, false}
+-- Where a token leads, from each stage of reading.
+use Rattle.std.specs.Prelude.{◌≡◌, ℕ, ◌+◌, ◌<◌, ◌≤◌, ◌^◌, unsigned_abs, List, [], ◌∷◌, ◌++◌, Option, Some, None, Bool, true, false}
 use Rattle.pb_named.specs.declared.named.NamedLit.{NamedLit}
 use Rattle.pb_named.specs.NamedTerms.{NamedTerm}
 use Rattle.pb_named.specs.declared.named.NamedStatement.{NamedStatement}
 use Rattle.pb_opb.specs.declared.stage.Part.TheVariants.{Objective, Statement}
 use Rattle.pb_opb.specs.declared.stage.Stage.{Stage}
 use Rattle.pb_opb.specs.declared.stage.Stage.TheVariants.{Minimised, Coefficient, Literals, Right}
-use Rattle.pb_opb.specs.declared.stage.Step.{Step}
-use Rattle.pb_opb.specs.declared.stage.Step.TheVariants.{To, Wide, Term, Further, EndStatement, EndObjective, Wrong, Far, Long}
+use Rattle.pb_opb.specs.declared.stage.Spot.{Spot}
+use Rattle.pb_opb.specs.declared.stage.Spot.TheVariants.{First, Further, Elsewhere}
+use Rattle.pb_opb.specs.declared.stage.Ending.{Ending}
+use Rattle.pb_opb.specs.declared.stage.Ending.TheVariants as ending
 use Rattle.pb_opb.specs.Grammar.{Kind}
-use Rattle.pb_named.specs.NamedProblems.{index_in}
 use Rattle.pb_opb.specs.Grammar.Kind.{literal, semicolon}
 use Rattle.pb_opb.specs.reader.Automaton.{takes, move}
 use Rattle.pb_opb.specs.reader.Front.{state_of, front_kinds, open_weight, begun_statements, begun_literals, IsPlaced}
-use Rattle.pb_opb.specs.Limits.{name_len, IsNear, IsModest}
 
 -- how much a stage adds to the sum's weight
 abbrev pub stage_weight : Stage → ℕ
@@ -54,13 +54,23 @@ MayEndObjective Minimised = Unit {0}
 MayEndObjective (Literals Objective) = Unit {0}
 MayEndObjective _ = ⊥
 
-abbrev pub CallsFor : Stage → Kind → Step → Type 0
-CallsFor stage k (To next) = Leads stage k next
-CallsFor stage k (Term part c l) = (stage ≡ Coefficient part c) × (k ≡ literal l) × IsNear l × IsModest l
-CallsFor stage k (Further part l) = (stage ≡ Literals part) × (k ≡ literal l) × IsNear l × IsModest l
-CallsFor stage k (EndStatement r n) = (stage ≡ Right r n) × (k ≡ semicolon)
-CallsFor stage k EndObjective = MayEndObjective stage × (k ≡ semicolon)
-CallsFor stage k Wrong = takes (state_of stage) k ≡ false
-CallsFor stage k (Wide next) = LeadsAs stage k next
-CallsFor stage k Far = (l : NamedLit) × TakesLiteral stage × (k ≡ literal l) × (2 ^ 31 ≤ index_in l.name)
-CallsFor stage k Long = (l : NamedLit) × TakesLiteral stage × (k ≡ literal l) × (255 < name_len l.name)
+-- where the token alone leads to, if it may stand there
+abbrev pub MayLead : Stage → Kind → Option Stage → Type 0
+MayLead from k None = takes (state_of from) k ≡ false
+MayLead from k (Some to) = Leads from k to
+
+abbrev pub MayLeadAs : Stage → Kind → Option Stage → Type 0
+MayLeadAs from k None = takes (state_of from) k ≡ false
+MayLeadAs from k (Some to) = LeadsAs from k to
+
+-- where a literal would stand
+abbrev pub IsSpot : Stage → Spot → Type 0
+IsSpot stage (First part c) = stage ≡ Coefficient part c
+IsSpot stage (Further part) = stage ≡ Literals part
+IsSpot stage Elsewhere = (l : NamedLit) → takes (state_of stage) (literal l) ≡ false
+
+-- what a `;` would end
+abbrev pub IsEnding : Stage → Ending → Type 0
+IsEnding stage ending.Objective = MayEndObjective stage
+IsEnding stage (ending.Statement r n) = stage ≡ Right r n
+IsEnding stage ending.Nothing = takes (state_of stage) semicolon ≡ false

@@ -2,7 +2,7 @@
 use Rattle.std.specs.Prelude.{◌≡◌, ℕ, ◌+◌, ◌<◌, ◌≤◌, ◌^◌, List, [], ◌∷◌, ◌++◌, length, Option, Some, None}
 use Rattle.pb_base.specs.declared.place.Place.{Place}
 use Rattle.pb_base.specs.declared.limit.LimitKind.{LimitKind}
-use Rattle.pb_base.specs.declared.limit.LimitKind.TheVariants.{Statements, Terms, Weight}
+use Rattle.pb_base.specs.declared.limit.LimitKind.TheVariants.{Statements, Terms, Weight, Variables, Name}
 use Rattle.pb_opb.specs.declared.fault.Refusal.{Refusal}
 use Rattle.pb_opb.specs.declared.fault.Refusal.TheVariants.{Unexpected, Limit, Memory}
 use Rattle.pb_opb.specs.declared.fault.OpbFault.{OpbFault}
@@ -11,8 +11,10 @@ use Rattle.pb_opb.specs.declared.reader.Reader.{Reader}
 use Rattle.pb_opb.specs.declared.stage.Stage.{Stage}
 use Rattle.pb_opb.specs.Grammar.{Kind, text_kinds}
 use Rattle.pb_opb.specs.Grammar.Kind.{end}
+use Rattle.pb_named.specs.declared.named.NamedLit.{NamedLit}
 use Rattle.pb_named.specs.declared.named.NamedProblem.{NamedProblem}
-use Rattle.pb_opb.specs.Limits.{Keeps, BeginsWithin, IsWithinEach, rank}
+use Rattle.pb_named.specs.NamedProblems.{index_in}
+use Rattle.pb_opb.specs.Limits.{Keeps, BeginsWithin, IsWithinEach, name_len, rank}
 use Rattle.pb_opb.specs.Faults.{Begins, Expects, IsWrong, IsTooGreat}
 use Rattle.pb_opb.specs.reader.Front.{IsRead, read_kinds, begun_statements, begun_literals}
 
@@ -27,6 +29,12 @@ Passes (Some _) statements literals weight = ⊥
 -- what the reader has passed at a stage
 abbrev pub PassesAt : Option LimitKind → Reader → Stage → ℕ → Type 0
 PassesAt o r next weight = Passes o (length r.statements + begun_statements next) (r.literals + begun_literals next) weight
+
+-- the literal passes the limit by itself
+abbrev pub PassesBy : LimitKind → NamedLit → Type 0
+PassesBy Variables l = 2 ^ 31 ≤ index_in l.name
+PassesBy Name l = 255 < name_len l.name
+PassesBy _ l = ⊥
 
 -- No text begins so, and this is what could stand there; or it passes a limit.
 abbrev pub Refuses : List Kind → Kind → Refusal → Type 0
