@@ -170,12 +170,16 @@ pub gained-room : (sets : List Set) (c : Constraint) (ts : List Term) → weight
 gained-room sets c ts e h =
     omega (arith, gained-sum sets c ts e, sum_by-le-sum_by {X = Weighted} (gained sets) (λ t. t.coef) c.terms (λ t. at_most (is_made_true sets t.lit) t.coef), h.weight_fits)
 
-pub restriction-made : (sets : List Set) (c : Constraint) (ts us vs : List Term) (lost degree : ℕ) → IsLinear c → weights ts ≡ c.terms → us ≡ filter (on_weight (is_unset sets)) ts →
-    weights vs ≡ c.terms → lost ≡ sum_by (on_weight (gained sets)) vs → degree ≡ c.degree - lost → AreUnsigned ts → IsMade (restriction sets c) us degree
-restriction-made sets c ts us vs lost degree h e f g k m unsigned = record {
+-- the degree, where the code sums up what is gained over its terms
+pub degree-left : (sets : List Set) (c : Constraint) (ts : List Term) (lost degree : ℕ) → weights ts ≡ c.terms → lost ≡ sum_by (on_weight (gained sets)) ts → degree ≡ c.degree - lost → degree ≡ (restriction sets c).degree
+degree-left sets c ts lost degree e f g = g ∙ ap (λ (n : ℕ). c.degree - n) (f ∙ gained-sum sets c ts e)
+
+pub restriction-made : (sets : List Set) (c : Constraint) (ts us : List Term) (degree : ℕ) → IsLinear c → weights ts ≡ c.terms → us ≡ filter (on_weight (is_unset sets)) ts →
+    degree ≡ (restriction sets c).degree → AreUnsigned ts → IsMade (restriction sets c) us degree
+restriction-made sets c ts us degree h e f g unsigned = record {
   unsigned = subst AreUnsigned (sym f) (All-filter (on_weight (is_unset sets)) IsUnsigned ts unsigned);
   terms = ap weights f ∙ (weights-filter (is_unset sets) ts ∙ ap (filter (is_unset sets)) e);
-  degree_is = m ∙ ap (λ (n : ℕ). c.degree - n) (k ∙ gained-sum sets c vs g);
+  degree_is = g;
   linear = record {
     positive = All-filter (is_unset sets) (λ t. 0 < t.coef) c.terms h.positive;
     ascending = filter-ascending (is_unset sets) c.terms h.ascending;

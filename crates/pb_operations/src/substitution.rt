@@ -73,12 +73,19 @@ fn gained(sets: &[Set], terms: &[Term]) -> u128
         .sum()
 }
 
+/// The degree of what is left of the constraint under a substitution.
+pub fn degree_left(sets: &[Set], constraint: &Linear) -> u128
+    ensures { result ≡ (restriction sets.now constraint.now).degree }
+{
+    let gained = gained(sets, constraint.terms());
+    constraint.degree().saturating_sub(gained)
+}
+
 /// What is left of the constraint under a substitution: no set variable, and the degree loses the coefficients of literals that become true.
 pub fn restriction(alloc: Global, sets: &[Set], constraint: &Linear) -> Result<Linear, NoMemory>
     ensures { IfOk result (λ made. made ≡ restriction sets.now constraint.now) }
 {
     let terms = unset_terms(alloc, sets, constraint.terms())?;
-    let gained = gained(sets, constraint.terms());
-    let degree = constraint.degree().saturating_sub(gained);
+    let degree = degree_left(sets, constraint);
     Ok(Linear::from_parts(terms, degree))
 }

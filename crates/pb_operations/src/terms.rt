@@ -32,6 +32,13 @@ pub(crate) fn quotient_up(divisor: u128, number: u128) -> u128
     requires number { number < 2 ^ 127 }
     ensures { result ≡ quotient_up divisor number }
 {
+    if number == 0 {
+        return 0;
+    }
+    // A division takes long, and the divisor of a clause's line is beyond all numbers.
+    if number <= divisor {
+        return 1;
+    }
     (number + (divisor - 1)) / divisor
 }
 

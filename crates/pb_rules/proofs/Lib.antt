@@ -11,3 +11,4 @@ pub mod Indexing
 pub mod Fronts
 pub mod Showings
 pub mod Least
+pub mod Forms

@@ -1,5 +1,5 @@
 -- Obligations of what stands, found by ascending ids.
-use Rattle.std.proofs.Common.{◌≡◌, ◌≤◌, ◌<◌, ◌+◌, ℕ, ℤ, List, [], ◌∷◌, ◌++◌, Bool, true, false, cond, arith, refl, ap, sym, ◌∙◌, eqb, subst, length, get_or, length-append, append_assoc, ◌^◌, ltb, inl, inr, Option, Some, None}
+use Rattle.std.proofs.Common.{◌≡◌, ◌≤◌, ◌<◌, ◌+◌, ◌==◌, ◌||◌, ℕ, ℤ, List, [], ◌∷◌, ◌++◌, Bool, true, false, cond, arith, refl, ap, sym, ◌∙◌, eqb, subst, length, get_or, length-append, append_assoc, ◌^◌, ltb, inl, inr, Option, Some, None}
 use Rattle.std.specs.Prelude.{All, filter, find, option_map, nat_lt, nat_le, unsigned_abs}
 use Rattle.std.specs.Option.{option_or}
 use Rattle.std.specs.Bool.{MatchBool}
@@ -22,7 +22,7 @@ use Rattle.pb_steps.specs.declared.denied.Denied.TheVariants.{UnknownVar, Unknow
 use Rattle.pb_steps.specs.declared.op.Set.{Set}
 use Rattle.pb_steps.specs.declared.step.Step.TheVariants.{Red}
 use Rattle.pb_steps.specs.Steps.{IsSpelled, vars_of_terms, vars_of_sets}
-use Rattle.pb_steps.specs.Operations.{negation, implies}
+use Rattle.pb_steps.specs.Operations.{negation, implies, excess}
 use Rattle.pb_steps.specs.Substitutions.{restriction, names_set}
 use Rattle.pb_steps.specs.Database.{Entry, Database, constraint_at, entry, grown}
 use Rattle.pb_steps.specs.Allowed.{Allowed, IsShown, IsMet, IsSlim, obligations, to_refute}
@@ -190,6 +190,10 @@ red-allowed db ts right sets clause spelled none met =
     shown (NotImplied id) h = h
     shown (OutDeleted id) h = h
     shown ClausesLeft h = h
+
+-- of a goal with the degree 0 nothing has to be shown
+pub shown_at_once : (live : List Entry) (claim goal : Constraint) → goal.degree ≡ 0 → TellsShown live claim goal true
+shown_at_once live claim goal none = inl (ap (λ (n : ℕ). n == 0 || nat_le (n + excess (negation claim) goal) (negation claim).degree) none)
 
 -- ---- the causes that are seen
 

@@ -1,5 +1,6 @@
 //! Constraints that are taken away.
-ghost use Rattle.std.specs.Prelude.{◌≡◌, ◌||◌, List, Option, IfOk, OnOk, IfErr, find, not};
+ghost use Rattle.std.specs.Prelude.{◌≡◌, ◌<◌, ◌||◌, List, Option, IfOk, IsTrue, OnOk, IfErr, find, not};
+ghost use Rattle.std.specs.List.{AllPairs};
 ghost use Rattle.pb_base.specs.declared.literal.Lit.{Lit};
 ghost use Rattle.pb_steps.specs.declared.step.Step.TheVariants.{Del};
 ghost use Rattle.pb_steps.specs.Steps.{IsSpelled};
@@ -10,6 +11,7 @@ ghost use Rattle.pb_rules.specs.Faults.{IsFault};
 
 use crate::database::Database;
 use crate::fault::RuleFault;
+use crate::rows::id_gone;
 use pb_base::NoMemory;
 use pb_steps::Denied;
 use std::collections::BTreeSet;
@@ -21,10 +23,21 @@ fn is_gone(db: &Database, is_fresh: bool, id: u64) -> bool
     !is_fresh || !db.is_live(id)
 }
 
+// Whether ids ascend.
+fn ascend(ids: &[u64]) -> bool
+    ensures { IsTrue result → AllPairs (λ i j. i < j) ids.now }
+{
+    ids.is_sorted_by(|id, next| id < next)
+}
+
 // The first id that is gone once those before it are taken away.
 fn first_gone(db: &Database, ids: &[u64]) -> Result<Option<u64>, NoMemory>
     ensures { IfOk result (λ found. found ≡ first_gone db.now.live ids.now) }
 {
+    // Then each is named once, and no set is needed.
+    if ascend(ids) {
+        return Ok(id_gone(db, ids));
+    }
     let mut before = BTreeSet::new(db.alloc());
     for id in ids {
         let is_fresh = before.insert(*id)?;

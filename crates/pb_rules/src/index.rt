@@ -25,11 +25,19 @@ impl Model for Named {
     ghost view = { λ n. n.items.items };
 }
 
+// Whether an id is older than the newest ones. Ids come ascending, so one look at the eighth newest tells it; nothing is true by this.
+fn is_older(items: &[u64], id: u64) -> bool {
+    items.len() > 8 && items[items.len() - 8] > id
+}
+
 // Where an id is among the newest, if it is.
 fn newest_at(items: &[u64], id: u64) -> Option<usize>
     ensures below { IfSome result (λ i. i < length items.now) }
     ensures at { IfSome result (λ i. (d : ℕ) → slice_index_or items.now i d ≡ id) }
 {
+    if is_older(items, id) {
+        return None;
+    }
     newest_that(items, |item| *item == id)
 }
 

@@ -7,6 +7,7 @@ mod database;
 mod del;
 mod entering;
 mod fault;
+mod form;
 mod index;
 mod listed;
 mod naming;

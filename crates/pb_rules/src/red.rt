@@ -20,7 +20,7 @@ use crate::fault::RuleFault;
 use crate::rows::{self, is_slim, var_above};
 use pb_base::{NoMemory, Term, Var};
 use pb_norm::Linear;
-use pb_operations::{implies, names_set, negation, restriction};
+use pb_operations::{degree_left, implies, names_set, negation, restriction};
 use pb_steps::{Denied, Set};
 
 // The first set variable that is above a number.
@@ -91,6 +91,10 @@ fn own_is_met(db: &mut Database, claim: &Linear, sets: &[Set]) -> Result<bool, N
     ensures same { db.new ≡ db.old }
     ensures met { IfOk result (TellsShown db.old.live claim.now (restriction sets.now claim.now)) }
 {
+    // Of a line that gives a fresh variable its meaning nothing is left, and no constraint has to be made to see that.
+    if degree_left(sets, claim) == 0 {
+        return Ok(true);
+    }
     let goal = restriction(db.alloc(), sets, claim)?;
     let found = is_shown(db, claim, &goal)?;
     Ok(found)

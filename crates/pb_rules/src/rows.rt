@@ -10,8 +10,9 @@ ghost use Rattle.pb_steps.specs.Allowed.{IsSlim};
 ghost use Rattle.pb_steps.specs.Database.{is_live};
 
 use crate::database::Database;
+use crate::form::form_of;
 use pb_base::{NoMemory, Term, Var};
-use pb_norm::{Linear, written};
+use pb_norm::Linear;
 use std::alloc::Global;
 
 /// The first variable of the terms that is above a number.
@@ -66,6 +67,6 @@ pub(crate) fn claim_of(alloc: Global, terms: &[Term], right: &i128) -> Result<Li
     ensures narrow { IfOk result IsNarrow }
     ensures within { (vars : ℕ) → All (λ v. v ≤ vars) (vars_of_terms terms.now) → IfOk result (λ c. HasVarsWithin vars c.terms) }
 {
-    let claim = written(alloc, terms, *right)?;
+    let claim = form_of(alloc, terms, right)?;
     Ok(claim)
 }

@@ -3,7 +3,7 @@ use Rattle.pb_steps.specs.Database.{Entry}
 use Rattle.pb_steps.specs.Denials.{first_gone}
 use Rattle.pb_rules.proofs.SlotLemmas.{without-none}
 use Rattle.pb_rules.proofs.Seen.{gone_here, gone_later}
-use Rattle.pb_rules.proofs.Gone.{has_listed-none, has_listed-more, gone-fresh}
+use Rattle.pb_rules.proofs.Gone.{has_listed-none, has_listed-more, gone-fresh, ascending-gone}
 use Rattle.pb_rules.proofs.del.first_gone.Goals as goal
 
 pub loop-id-init : goal.loop-id-init
@@ -26,3 +26,6 @@ loop-id-preserved c =
       same = c.loop-id.invariant.same ∙ gone_later c.args.db.now.live c.args.ids.now c.loop-id.id-index c.loop-id-test.true (sym gone ∙ (sym c.is_gone.ensures ∙ c.if-is_gone.false));
       listed = has_listed-more c.args.ids.now c.loop-id.id-index c.loop-id.before c.insert.new.self c.loop-id-test.true c.loop-id.invariant.listed c.in_ok-is_fresh.ensures.updates.0;
     }
+
+pub returns-then-ascend : goal.returns-then-ascend
+returns-then-ascend c = c.id_gone.ensures ∙ sym (ascending-gone c.args.db.now.live c.args.ids.now (c.ascend.ensures c.if-ascend.true))

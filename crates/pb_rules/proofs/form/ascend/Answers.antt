@@ -1,0 +1,7 @@
+use Rattle.std.proofs.Common.{rules, nat_lt}
+use Rattle.std.proofs.lemmas.List.Sorted.{answers_always}
+use Rattle.pb_norm.proofs.AscendingTerms.{ascending_from_answer}
+use Rattle.pb_rules.proofs.form.ascend.Goals as goal
+
+pub returns : goal.returns
+returns c = ascending_from_answer c.args.terms.now c.is_sorted_by.result (c.is_sorted_by.ensures.cases (λ s t. nat_lt s.lit.var t.lit.var) (answers_always _ _ _ (λ f a r q k. search rules)))
