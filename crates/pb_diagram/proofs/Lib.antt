@@ -4,6 +4,7 @@ pub mod Intervals
 pub mod Joins
 pub mod KnownFacts
 pub mod LevelSteps
+pub mod ListedNodes
 pub mod ReificationSteps
 pub mod NodeSteps
 pub mod Places
@@ -11,4 +12,5 @@ pub mod SameNodes
 pub mod SearchEnds
 pub mod SearchReads
 pub mod SearchSteps
+pub mod SideSteps
 pub mod WholeSteps

@@ -1,12 +1,10 @@
 -- Lists of nodes in order.
-use Rattle.std.proofs.Common.{◌≡◌, ◌<◌, ◌≤◌, List, [], ◌∷◌, length, refl, sym, ap, ◌∙◌, subst, arith, inl, inr}
+use Rattle.std.proofs.Common.{◌≡◌, ◌≤◌, List, [], ◌∷◌, length, refl, sym, ap, ◌∙◌, subst, arith, inl, inr}
 use Rattle.std.specs.Prelude.{Contains}
 use Rattle.pb_base.proofs.Members.{Contains-nil, Contains-here, Contains-there, Contains-cons_cases}
 use Rattle.pb_diagram.specs.declared.interval.Interval.{Interval}
 use Rattle.pb_diagram.specs.Intervals.{AreApart}
-
-abbrev pub Rise : List Interval → Type 0
-Rise gs = (g : Interval) → Contains gs g → g.low < g.top
+use Rattle.pb_diagram.specs.inner.Known.{Rise}
 
 abbrev Within : List Interval → List Interval → Type 0
 Within xs ys = (g : Interval) → Contains xs g → Contains ys g

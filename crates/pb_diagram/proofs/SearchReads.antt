@@ -1,6 +1,6 @@
 -- What the code of a search reads and changes.
 use Rattle.std.proofs.Common.{◌≡◌, ◌<◌, ◌≤◌, ◌+◌, ◌-◌, ◌++◌, ◌⊎◌, ℕ, List, [], ◌∷◌, length, get_or, drop, set, replicate, refl, sym, ap, ◌∙◌, subst, arith, inl, inr, zero, suc, length-append}
-use Rattle.std.specs.Prelude.{Contains, sum, Option, Some}
+use Rattle.std.specs.Prelude.{Contains, sum, Option, Some, None, IfSome}
 use Rattle.std.specs.Option.{option_to_list}
 use Rattle.std.proofs.lemmas.List.{get_or-map, length-map, get_or_default}
 use Rattle.std.proofs.lemmas.List.Sums.{sum-map, sum_by-cons, sum_by-take-drop}
@@ -12,7 +12,7 @@ use Rattle.pb_diagram.specs.declared.interval.Interval.{Interval}
 use Rattle.pb_diagram.specs.declared.search.Top.{Top}
 use Rattle.pb_diagram.specs.Clauses.{node_count}
 use Rattle.pb_diagram.specs.Levels.{coefs_of, levels_of}
-use Rattle.pb_diagram.specs.laws.Search.{nodes_at, before_at, IsPartSearched, IsSearch, IsJoined, IsMissing, IsGrown, IsTop, IsSearching}
+use Rattle.pb_diagram.specs.laws.Search.{nodes_at, before_at, IsPartSearched, IsSearch, IsOff, IsJoined, IsMissing, IsGrown, IsTop, IsSearching, IsSideAt, IsKept}
 use Rattle.pb_diagram.specs.laws.SumFacts.{sums-le, sum-cons}
 use Rattle.pb_diagram.proofs.SearchSteps.{drop_here, some_left, drop_first, search_starts, search_pushes, next_part, search_inserts, joined_apart}
 use Rattle.pb_diagram.proofs.SearchEnds.{rises_of, search_ends, search_count}
@@ -25,8 +25,8 @@ next_within bound before rest nodes part h among =
 sum-drop-le : (coefs : List ℕ) (i : ℕ) → sum (drop i coefs) ≤ sum coefs
 sum-drop-le coefs i = omega (arith, sum_by-take-drop (λ x. x) coefs i)
 
-pub top_is : (c : BoundedSum) (known : List (List Interval)) (wanted : List ℕ) (left : ℕ) (top : Top) → IsSearching c known wanted left → top.place + 1 ≡ length wanted → top.residue ≡ get_or wanted top.place 0 → (top.place < length c.terms → top.coef ≡ get_or (coefs_of c.terms) top.place 0) → IsTop c known wanted left top
-top_is c known wanted left top searching depth residue_is coef_at =
+pub top_is : (c : BoundedSum) (known : List (List Interval)) (wanted : List ℕ) (left : ℕ) (sides : List (Option Interval)) (last : Option Interval) (top : Top) → IsSearching c known wanted left → IsKept c known wanted sides last → top.off ≡ get_or sides top.place None → top.last ≡ last → top.place + 1 ≡ length wanted → top.residue ≡ get_or wanted top.place 0 → (top.place < length c.terms → top.coef ≡ get_or (coefs_of c.terms) top.place 0) → IsTop c known wanted left top
+top_is c known wanted left sides last top searching kept off_at last_at depth residue_is coef_at =
     let coefs = coefs_of c.terms in
     let search = searching.state in
     let left_is = searching.left_is in
@@ -52,6 +52,12 @@ top_is c known wanted left top searching depth residue_is coef_at =
       next_apart = next.apart;
       next_within = λ h among. subst (λ (n : ℕ). (h.low ≤ n) × (h.top ≤ n)) rest (next_within c.bound (get_or coefs i 0 ∷ before_at [] coefs i) (drop (i + 1) coefs) (nodes_at known (i + 1)) next h among);
       fits = omega arith;
+      off_is =
+          let side = subst (λ (o : Option Interval). IsSideAt c known wanted i o) (sym off_at) (kept.offs i (omega arith)) in
+          subst (λ (r : ℕ). IfSome top.off (IsOff top.coef left (nodes_at known (i + 1)) r)) (sym residue_is)
+          (subst (λ (n : ℕ). IfSome top.off (IsOff top.coef n (nodes_at known (i + 1)) (get_or wanted i 0))) rest
+          (subst (λ (a : ℕ). IfSome top.off (IsOff a (sum (drop (i + 1) coefs)) (nodes_at known (i + 1)) (get_or wanted i 0))) (sym coef_is) side));
+      among = subst (λ (o : Option Interval). IfSome o (Contains (nodes_at known (i + 1)))) (sym last_at) (subst (λ (n : ℕ). IfSome last (Contains (nodes_at known n))) (sym depth) kept.among);
     }
 
 -- the next level has a coefficient, where a child's residue is wanted there
@@ -96,6 +102,18 @@ wants c known wanted left less top child searching at missing less_is =
       state = search_pushes c.bound coefs known wanted i child searching.state depth exact;
       left_is = (let now : less ≡ sum (drop (length wanted + 1) coefs) = omega (arith, level.1) in now) ∙ ap (λ (n : ℕ). sum (drop n coefs)) longer;
     }
+
+-- what the last residue's false child says, by the levels' places
+pub side_at : (c : BoundedSum) (known : List (List Interval)) (wanted : List ℕ) (left : ℕ) (top : Top) (side : Option Interval) → IsSearching c known wanted left → IsTop c known wanted left top → IfSome side (IsOff top.coef left (nodes_at known (top.place + 1)) top.residue)
+    → IsSideAt c known wanted top.place side
+side_at c known wanted left top side searching at is =
+    let coefs = coefs_of c.terms in
+    let i = top.place in
+    let depth = at.depth in
+    let rest : left ≡ sum (drop (i + 1) coefs) = searching.left_is ∙ ap (λ (n : ℕ). sum (drop n coefs)) (sym depth) in
+    subst (λ (a : ℕ). IfSome side (IsOff a (sum (drop (i + 1) coefs)) (nodes_at known (i + 1)) (get_or wanted i 0))) at.coef_is
+    (subst (λ (n : ℕ). IfSome side (IsOff top.coef n (nodes_at known (i + 1)) (get_or wanted i 0))) rest
+    (subst (λ (r : ℕ). IfSome side (IsOff top.coef left (nodes_at known (i + 1)) r)) at.residue_is is))
 
 pub joins : (c : BoundedSum) (known : List (List Interval)) (wanted less : List ℕ) (left : ℕ) (top : Top) (g : Interval) (more : List Interval) → IsSearching c known wanted left → IsTop c known wanted left top → IsJoined top.coef left (nodes_at known (top.place + 1)) top.residue g
     → wanted ≡ less ++ top.residue ∷ [] → IsGrown (nodes_at known top.place) g more

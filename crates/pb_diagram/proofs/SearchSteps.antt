@@ -139,7 +139,7 @@ at_set known i k more within =
     ]
 
 -- each level has what it had
-at_set_keeps : (known : List (List Interval)) (i : ℕ) (g : Interval) (more : List Interval) → i < length known → IsGrown (nodes_at known i) g more → (k : ℕ) (h : Interval) → Contains (nodes_at known k) h → Contains (nodes_at (set known i more) k) h
+pub at_set_keeps : (known : List (List Interval)) (i : ℕ) (g : Interval) (more : List Interval) → i < length known → IsGrown (nodes_at known i) g more → (k : ℕ) (h : Interval) → Contains (nodes_at known k) h → Contains (nodes_at (set known i more) k) h
 at_set_keeps known i g more within grown k h among =
     elim (at_set known i k more within) as (λ _. Contains (nodes_at (set known i more) k) h) [
       | inl here ↦ subst (λ (l : List Interval). Contains l h) (sym here.1) (grown.keeps h (subst (λ (n : ℕ). Contains (nodes_at known n) h) here.0 among))

@@ -1,30 +1,56 @@
 //! The search for the nodes of a diagram: from the bound down to the children that are not known yet, and up again with the
 //! intervals that they give.
-ghost use Rattle.std.specs.Prelude.{[], replicate, ◌≡◌, ◌≤◌, ◌<◌, ◌+◌, ◌-◌, ◌^◌, Contains, MatchOption, IfOk, OnOk, true, false, length, sum};
+ghost use Rattle.std.specs.Prelude.{[], replicate, ◌≡◌, ◌≤◌, ◌<◌, ◌+◌, ◌-◌, ◌^◌, Contains, MatchOption, IfSome, IfOk, OnOk, true, false, length, sum};
 ghost use Rattle.pb_norm.specs.Constraints.{weight};
 ghost use Rattle.pb_diagram.specs.declared.interval.Interval.{Interval};
 ghost use Rattle.pb_diagram.specs.Clauses.{node_count};
 ghost use Rattle.pb_diagram.specs.Intervals.{AreApart};
 ghost use Rattle.pb_diagram.specs.Levels.{coefs_of, levels_of};
-ghost use Rattle.pb_diagram.specs.laws.Search.{nodes_at, AreAllNodes, IsFound, IsUnknown, IsOff, IsOn, Looked, IsMissing, IsJoined, IsTop, IsSearching, Advanced};
+ghost use Rattle.pb_diagram.specs.laws.Search.{nodes_at, AreAllNodes, IsFound, IsUnknown, IsOff, IsOn, Looked, IsMissing, IsJoined, IsTop, IsSearching, IsKept, Advanced};
 
 use crate::interval::Interval;
 use crate::known::Known;
 use pb_norm::{AtMost, weight_of};
 use std::alloc::{AllocError, Global};
 
-/// What a look at a residue gives: its node, or a child's residue whose node is not known.
+/// The last of the residues that are wanted, with its level's place and coefficient.
+#[derive(Clone, Copy)]
+struct Top {
+    place: usize,
+    coef: u128,
+    residue: u128,
+
+    /// What the false child says, if it was found before.
+    off: Option<Interval>,
+
+    /// The node of the next level that became known in the last step, if one did.
+    last: Option<Interval>,
+}
+
+/// What a look at a residue gives: its node, or a child's residue whose node is not known, with what the false child says where
+/// the true one is missing.
 #[derive(Clone, Copy)]
 enum Look {
-    Missing(u128),
+    Missing { child: u128, off: Option<Interval> },
     Found(Interval),
 }
 
-/// The node of a level in which a residue lies, if it is known.
-fn find_at(levels: &[Known], place: usize, residue: u128) -> Option<Interval>
-    requires { AreApart (nodes_at levels.now place) }
+/// The node of a level in which a residue lies, if it is known. The last that became known is the one, where a child was wanted.
+fn find_at(
+    levels: &[Known],
+    place: usize,
+    residue: u128,
+    last: Option<Interval>,
+) -> Option<Interval>
+    requires apart { AreApart (nodes_at levels.now place) }
+    requires among { IfSome last (Contains (nodes_at levels.now place)) }
     ensures { IsFound (nodes_at levels.now place) residue result }
 {
+    if let Some(near) = last {
+        if near.low <= residue && residue < near.top {
+            return Some(near);
+        }
+    }
     if place < levels.len() {
         levels[place].find(residue)
     } else {
@@ -33,44 +59,41 @@ fn find_at(levels: &[Known], place: usize, residue: u128) -> Option<Interval>
 }
 
 /// What the false child says of the node in which a residue lies.
-fn off_side(
-    levels: &[Known],
-    place: usize,
-    coef: u128,
-    whole: u128,
-    residue: u128,
-) -> Option<Interval>
-    requires apart { AreApart (nodes_at levels.now place) }
-    requires fits { whole + coef < 2 ^ 100 }
-    ensures { MatchOption result ((residue < whole) × IsUnknown (nodes_at levels.now place) residue) (IsOff coef whole (nodes_at levels.now place) residue) }
+fn off_side(levels: &[Known], whole: u128, top: Top) -> Option<Interval>
+    requires apart { AreApart (nodes_at levels.now (top.place + 1)) }
+    requires fits { whole + top.coef < 2 ^ 100 }
+    requires bounded { top.place < length levels.now }
+    requires kept { IfSome top.off (IsOff top.coef whole (nodes_at levels.now (top.place + 1)) top.residue) }
+    requires among { IfSome top.last (Contains (nodes_at levels.now (top.place + 1))) }
+    ensures { MatchOption result ((top.residue < whole) × IsUnknown (nodes_at levels.now (top.place + 1)) top.residue) (IsOff top.coef whole (nodes_at levels.now (top.place + 1)) top.residue) }
 {
-    if residue < whole {
-        find_at(levels, place, residue)
+    if top.off.is_some() {
+        return top.off;
+    }
+    if top.residue < whole {
+        find_at(levels, top.place + 1, top.residue, top.last)
     } else {
         Some(Interval {
             low: whole,
-            top: whole + coef,
+            top: whole + top.coef,
         })
     }
 }
 
 /// What the true child says of the node in which a residue lies, with the coefficient added.
-fn on_side(
-    levels: &[Known],
-    place: usize,
-    coef: u128,
-    whole: u128,
-    residue: u128,
-) -> Option<Interval>
-    requires apart { AreApart (nodes_at levels.now place) }
-    requires fits { whole + coef < 2 ^ 100 }
-    requires within { (h : Interval) → Contains (nodes_at levels.now place) h → (h.low ≤ whole) × (h.top ≤ whole) }
-    ensures { MatchOption result ((coef ≤ residue) × IsUnknown (nodes_at levels.now place) (residue - coef)) (IsOn coef (nodes_at levels.now place) residue) }
+fn on_side(levels: &[Known], whole: u128, top: Top) -> Option<Interval>
+    requires apart { AreApart (nodes_at levels.now (top.place + 1)) }
+    requires fits { whole + top.coef < 2 ^ 100 }
+    requires bounded { top.place < length levels.now }
+    requires within { (h : Interval) → Contains (nodes_at levels.now (top.place + 1)) h → (h.low ≤ whole) × (h.top ≤ whole) }
+    requires among { IfSome top.last (Contains (nodes_at levels.now (top.place + 1))) }
+    ensures { MatchOption result ((top.coef ≤ top.residue) × IsUnknown (nodes_at levels.now (top.place + 1)) (top.residue - top.coef)) (IsOn top.coef (nodes_at levels.now (top.place + 1)) top.residue) }
 {
-    if residue < coef {
+    let coef = top.coef;
+    if top.residue < coef {
         return Some(Interval { low: 0, top: coef });
     }
-    match find_at(levels, place, residue - coef) {
+    match find_at(levels, top.place + 1, top.residue - coef, top.last) {
         Some(interval) => Some(Interval {
             low: coef + interval.low,
             top: coef + interval.top,
@@ -80,16 +103,25 @@ fn on_side(
 }
 
 /// Looks for the node in which a residue lies, over the known nodes of the next level.
-fn look_for(levels: &[Known], place: usize, coef: u128, whole: u128, residue: u128) -> Look
-    requires apart { AreApart (nodes_at levels.now place) }
-    requires fits { whole + coef < 2 ^ 100 }
-    requires within { (h : Interval) → Contains (nodes_at levels.now place) h → (h.low ≤ whole) × (h.top ≤ whole) }
-    ensures { Looked coef whole (nodes_at levels.now place) residue result }
+fn look_for(levels: &[Known], whole: u128, top: Top) -> Look
+    requires apart { AreApart (nodes_at levels.now (top.place + 1)) }
+    requires fits { whole + top.coef < 2 ^ 100 }
+    requires bounded { top.place < length levels.now }
+    requires within { (h : Interval) → Contains (nodes_at levels.now (top.place + 1)) h → (h.low ≤ whole) × (h.top ≤ whole) }
+    requires kept { IfSome top.off (IsOff top.coef whole (nodes_at levels.now (top.place + 1)) top.residue) }
+    requires among { IfSome top.last (Contains (nodes_at levels.now (top.place + 1))) }
+    ensures { Looked top.coef whole (nodes_at levels.now (top.place + 1)) top.residue result }
 {
-    match off_side(levels, place, coef, whole, residue) {
-        None => Look::Missing(residue),
-        Some(off) => match on_side(levels, place, coef, whole, residue) {
-            None => Look::Missing(residue - coef),
+    match off_side(levels, whole, top) {
+        None => Look::Missing {
+            child: top.residue,
+            off: None,
+        },
+        Some(off) => match on_side(levels, whole, top) {
+            None => Look::Missing {
+                child: top.residue - top.coef,
+                off: Some(off),
+            },
             Some(on) => Look::Found(Interval {
                 low: off.low.max(on.low),
                 top: off.top.min(on.top),
@@ -104,16 +136,14 @@ struct Search {
     levels: Vec<Known>,
     wanted: Vec<u128>,
 
+    /// What the false child of each residue's node says, once a true one is wanted beside it.
+    sides: Vec<Option<Interval>>,
+
+    /// The node of the level after the residues' that became known in the last step, if one did.
+    last: Option<Interval>,
+
     /// The sum of the coefficients after the levels of the residues.
     left: u128,
-}
-
-/// The last of the residues, with its level's place and coefficient.
-#[derive(Clone, Copy)]
-struct Top {
-    place: usize,
-    coef: u128,
-    residue: u128,
 }
 
 /// Levels with no node.
@@ -133,16 +163,21 @@ impl Search {
         requires above { of.now.bound < weight of.now.terms }
         requires fits { weight of.now.terms < 2 ^ 100 }
         ensures searching { IfOk result (λ s. IsSearching of.now s.levels.items s.wanted.items s.left) }
+        ensures kept { IfOk result (λ s. IsKept of.now s.levels.items s.wanted.items s.sides.items s.last) }
         ensures none { IfOk result (λ s. node_count s.levels.items ≡ 0) }
     {
         let terms = of.terms();
         let levels = empty_levels(alloc, terms.len())?;
         let mut wanted = Vec::new(alloc);
         wanted.push(of.bound())?;
+        let mut sides = Vec::new(alloc);
+        sides.push(None)?;
         let left = weight_of(terms) - terms[0].weight();
         Ok(Search {
             levels,
             wanted,
+            sides,
+            last: None,
             left,
         })
     }
@@ -150,6 +185,7 @@ impl Search {
     /// The last residue that is wanted.
     fn top(&self, of: &AtMost) -> Top
         requires searching { IsSearching of.now self.now.levels.items self.now.wanted.items self.now.left }
+        requires kept { IsKept of.now self.now.levels.items self.now.wanted.items self.now.sides.items self.now.last }
         requires some { 0 < length self.now.wanted.items }
         ensures { IsTop of.now self.now.levels.items self.now.wanted.items self.now.left result }
     {
@@ -158,33 +194,51 @@ impl Search {
             place,
             coef: of.terms()[place].weight(),
             residue: self.wanted.as_slice()[place],
+            off: self.sides.as_slice()[place],
+            last: self.last,
         }
     }
 
     /// A child's residue is wanted too.
-    fn want(&mut self, of: &AtMost, top: Top, child: u128) -> Result<(), AllocError>
+    fn want(
+        &mut self,
+        of: &AtMost,
+        top: Top,
+        child: u128,
+        off: Option<Interval>,
+    ) -> Result<(), AllocError>
         requires searching { IsSearching of.now self.old.levels.items self.old.wanted.items self.old.left }
+        requires kept { IsKept of.now self.old.levels.items self.old.wanted.items self.old.sides.items self.old.last }
         requires top { IsTop of.now self.old.levels.items self.old.wanted.items self.old.left top }
         requires missing { IsMissing top.coef self.old.left (nodes_at self.old.levels.items (top.place + 1)) top.residue child }
+        requires off { IfSome off (IsOff top.coef self.old.left (nodes_at self.old.levels.items (top.place + 1)) top.residue) }
         ensures searching { OnOk result (IsSearching of.now self.new.levels.items self.new.wanted.items self.new.left) }
+        ensures kept { OnOk result (IsKept of.now self.new.levels.items self.new.wanted.items self.new.sides.items self.new.last) }
         ensures advanced { OnOk result (Advanced false self.old.levels.items self.new.levels.items self.old.wanted.items self.new.wanted.items) }
     {
         self.left -= of.terms()[top.place + 1].weight();
+        self.sides[top.place] = off;
+        self.sides.push(None)?;
         self.wanted.push(child)?;
+        self.last = None;
         Ok(())
     }
 
     /// The node of the last residue becomes known.
     fn join(&mut self, of: &AtMost, top: Top, interval: Interval) -> Result<(), AllocError>
         requires searching { IsSearching of.now self.old.levels.items self.old.wanted.items self.old.left }
+        requires kept { IsKept of.now self.old.levels.items self.old.wanted.items self.old.sides.items self.old.last }
         requires top { IsTop of.now self.old.levels.items self.old.wanted.items self.old.left top }
         requires joined { IsJoined top.coef self.old.left (nodes_at self.old.levels.items (top.place + 1)) top.residue interval }
         requires fits { sum (coefs_of of.now.terms) < 2 ^ 100 }
         ensures searching { OnOk result (IsSearching of.now self.new.levels.items self.new.wanted.items self.new.left) }
+        ensures kept { OnOk result (IsKept of.now self.new.levels.items self.new.wanted.items self.new.sides.items self.new.last) }
         ensures advanced { OnOk result (Advanced true self.old.levels.items self.new.levels.items self.old.wanted.items self.new.wanted.items) }
     {
         self.levels[top.place].insert(interval)?;
         self.wanted.pop();
+        self.sides.pop();
+        self.last = Some(interval);
         self.left += top.coef;
         Ok(())
     }
@@ -192,21 +246,17 @@ impl Search {
     /// Looks at the last residue. Its node becomes known, or a child's residue is wanted too. Tells whether a node became known.
     fn advance(&mut self, of: &AtMost) -> Result<bool, AllocError>
         requires searching { IsSearching of.now self.old.levels.items self.old.wanted.items self.old.left }
+        requires kept { IsKept of.now self.old.levels.items self.old.wanted.items self.old.sides.items self.old.last }
         requires some { 0 < length self.old.wanted.items }
         requires fits { sum (coefs_of of.now.terms) < 2 ^ 100 }
         ensures searching { OnOk result (IsSearching of.now self.new.levels.items self.new.wanted.items self.new.left) }
+        ensures kept { OnOk result (IsKept of.now self.new.levels.items self.new.wanted.items self.new.sides.items self.new.last) }
         ensures advanced { IfOk result (λ joined. Advanced joined self.old.levels.items self.new.levels.items self.old.wanted.items self.new.wanted.items) }
     {
         let top = self.top(of);
-        match look_for(
-            &self.levels,
-            top.place + 1,
-            top.coef,
-            self.left,
-            top.residue,
-        ) {
-            Look::Missing(child) => {
-                self.want(of, top, child)?;
+        match look_for(&self.levels, self.left, top) {
+            Look::Missing { child, off } => {
+                self.want(of, top, child, off)?;
                 Ok(false)
             }
             Look::Found(interval) => {

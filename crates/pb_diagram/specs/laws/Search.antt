@@ -1,6 +1,6 @@
 -- What is known while a diagram's nodes are searched for. It serves proofs alone.
 use Rattle.std.proofs.Common.{zero, suc}
-use Rattle.std.specs.Prelude.{◌≡◌, ◌<◌, ◌≤◌, ◌+◌, ◌-◌, ◌⊎◌, ℕ, List, [], ◌∷◌, Contains, drop, length, sum, slice_index, slice_index_or, max, min, Bool, true, false, Option, MatchOption}
+use Rattle.std.specs.Prelude.{◌≡◌, ◌<◌, ◌≤◌, ◌+◌, ◌-◌, ◌⊎◌, ℕ, List, [], ◌∷◌, Contains, drop, length, sum, slice_index, slice_index_or, max, min, Bool, true, false, Option, None, IfSome, MatchOption}
 use Rattle.pb_diagram.specs.declared.interval.Interval.{Interval}
 use Rattle.pb_diagram.specs.declared.search.Look.{Look}
 use Rattle.pb_diagram.specs.declared.search.Top.{Top}
@@ -36,6 +36,12 @@ IsUnknown nodes residue = (h : Interval) → Contains nodes h → ¬ LiesIn resi
 -- the node that holds the residue was found, if one does
 abbrev pub IsFound : List Interval → ℕ → Option Interval → Type 0
 IsFound nodes residue found = MatchOption found (IsUnknown nodes residue) (λ g. Contains nodes g × LiesIn residue g)
+
+-- a place behind the intervals that end not above a residue, and before all others
+pub record IsPlaceAfter (nodes : List Interval) (residue place : ℕ) : Type 0 where
+  pub within : place ≤ length nodes
+  pub before : (k : ℕ) (d : Interval) → k < place → (slice_index_or nodes k d).top ≤ residue
+  pub after : (k : ℕ) (d : Interval) → place ≤ k → k < length nodes → residue < (slice_index_or nodes k d).top
 
 -- the children of a node are known
 pub record IsIntervalClosed (a : ℕ) (rest : List ℕ) (next : List Interval) (g : Interval) : Type 0 where
@@ -90,13 +96,24 @@ pub record IsGrown (nodes : List Interval) (g : Interval) (more : List Interval)
 
 -- a look at a residue found its node, or misses a child
 abbrev pub Looked : ℕ → ℕ → List Interval → ℕ → Look → Type 0
-Looked a whole next residue (Missing child) = IsMissing a whole next residue child
+Looked a whole next residue (Missing child off) = IsMissing a whole next residue child × IfSome off (IsOff a whole next residue)
 Looked a whole next residue (Found g) = IsJoined a whole next residue g
 
 -- a search, with the sum of the coefficients after the levels at which residues are wanted
 pub record IsSearching (c : BoundedSum) (known : List (List Interval)) (wanted : List ℕ) (left : ℕ) : Type 0 where
   pub state : IsSearch c.bound (coefs_of c.terms) known wanted
   pub left_is : left ≡ sum (drop (length wanted) (coefs_of c.terms))
+
+-- what the false child of a wanted residue's node says, where it is kept
+abbrev pub IsSideAt : BoundedSum → List (List Interval) → List ℕ → ℕ → Option Interval → Type 0
+IsSideAt c known wanted i side =
+    IfSome side (IsOff (slice_index (coefs_of c.terms) i) (sum (drop (i + 1) (coefs_of c.terms))) (nodes_at known (i + 1)) (slice_index wanted i))
+
+-- beside a search: what the false child of each residue's node says, where it was kept, and a node of the level after the residues'
+pub record IsKept (c : BoundedSum) (known : List (List Interval)) (wanted : List ℕ) (sides : List (Option Interval)) (last : Option Interval) : Type 0 where
+  pub each : length sides ≡ length wanted
+  pub offs : (i : ℕ) → i < length wanted → IsSideAt c known wanted i (slice_index_or sides i None)
+  pub among : IfSome last (Contains (nodes_at known (length wanted)))
 
 -- the last residue that is wanted, with its level, and what holds there
 pub record IsTop (c : BoundedSum) (known : List (List Interval)) (wanted : List ℕ) (left : ℕ) (top : Top) : Type 0 where
@@ -110,6 +127,8 @@ pub record IsTop (c : BoundedSum) (known : List (List Interval)) (wanted : List 
   pub next_apart : AreApart (nodes_at known (top.place + 1))
   pub next_within : (h : Interval) → Contains (nodes_at known (top.place + 1)) h → (h.low ≤ left) × (h.top ≤ left)
   pub fits : left + top.coef ≤ sum (coefs_of c.terms)
+  pub off_is : IfSome top.off (IsOff top.coef left (nodes_at known (top.place + 1)) top.residue)
+  pub among : IfSome top.last (Contains (nodes_at known (top.place + 1)))
 
 -- the nodes of all levels, which are not more than a budget
 abbrev pub AreAllNodes : BoundedSum → ℕ → List (List Interval) → Type 0

@@ -7,6 +7,21 @@ use Rattle.pb_diagram.proofs.SearchSteps.{search_depth}
 use Rattle.pb_diagram.proofs.SearchReads.{ended, counted}
 use Rattle.pb_diagram.proofs.search.known_levels.Goals as goal
 
+pub loop-search-init : goal.loop-search-init
+loop-search-init c =
+    let of = c.args.of.now in
+    let now = c.in_ok-search.search in
+    let searching = c.in_ok-search.ensures.searching in
+    let deep = search_depth of.bound (coefs_of of.terms) now.levels.items now.wanted.items searching.state in
+    let size = length-map of.terms (λ t. t.coef) in
+    record {
+      searching = searching;
+      kept = c.in_ok-search.ensures.kept;
+      counted = sym c.in_ok-search.ensures.none;
+      within = omega arith;
+      depth = omega arith;
+    }
+
 pub returns-then-count-budget : goal.returns-then-count-budget
 returns-then-count-budget c =
     let now = c.advance.new.self in
@@ -29,6 +44,7 @@ loop-search-preserved-else-count-budget c =
     let wanted = more.1 in
     record {
       searching = c.in_ok-advance.ensures.searching;
+      kept = c.in_ok-advance.ensures.kept;
       counted = omega arith;
       within = omega arith;
       depth = omega arith;
@@ -43,6 +59,7 @@ loop-search-preserved c =
     let size = length-map of.terms (λ t. t.coef) in
     record {
       searching = c.in_ok-advance.ensures.searching;
+      kept = c.in_ok-advance.ensures.kept;
       counted = omega arith;
       within = c.loop-search.invariant.within;
       depth = omega arith;

@@ -1,11 +1,12 @@
 use Rattle.std.proofs.Common.{◌≡◌, ◌≤◌, ◌+◌, ◌*◌, ◌-◌, length}
 use Rattle.pb_diagram.specs.Clauses.{node_count}
-use Rattle.pb_diagram.specs.laws.Search.{IsSearching}
+use Rattle.pb_diagram.specs.laws.Search.{IsSearching, IsKept}
 use Rattle.pb_diagram.proofs.search.known_levels.Given as goal
 
 abbrev pub invariant-loop-search : goal.invariant-loop-search
 invariant-loop-search l = record {
   searching : IsSearching l.of l.search.levels.items l.search.wanted.items l.search.left;
+  kept : IsKept l.of l.search.levels.items l.search.wanted.items l.search.sides.items l.search.last;
   counted : l.count ≡ node_count l.search.levels.items;
   within : l.count ≤ l.budget;
   depth : length l.search.wanted.items ≤ length l.of.terms;
