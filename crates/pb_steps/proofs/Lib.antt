@@ -34,3 +34,5 @@ pub mod StepStates
 pub mod StepReadings
 pub mod PolColumns
 pub mod LineColumns
+pub mod Shorts
+pub mod ShortLines

@@ -1,3 +1,4 @@
 pub mod Ahead
 pub mod Appending
+pub mod Front
 pub mod Reading

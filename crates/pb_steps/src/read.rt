@@ -10,6 +10,7 @@ use crate::constraint::{read_ids, read_right, read_sets, read_terms};
 use crate::fault::StepFault;
 use crate::past::{ends_here, take};
 use crate::pol::read_ops;
+use crate::quick::quick_step;
 use crate::step::Step;
 use crate::word::{count_in, id_in, token_fault};
 use pb_base::{Expected, Word, Words, words};
@@ -143,6 +144,17 @@ fn read_line(alloc: Global, line: &[u8]) -> Result<Step, StepFault>
     }
 }
 
+// The same in one pass, where the line is in the usual layout.
+fn read_either(alloc: Global, line: &[u8]) -> Result<Step, StepFault>
+    ensures ok { IfOk result (λ step. step_of line.now ≡ Ok step) }
+    ensures err { IfErr result (IsFaultOf (step_of line.now)) }
+{
+    if let Some(step) = quick_step(alloc, line)? {
+        return Ok(step);
+    }
+    read_line(alloc, line)
+}
+
 /// Reads a line, without its LF, as a step, or tells its first fault.
 ///
 /// Ids and counts are at most 2^63 - 1, variables at most 2^31 - 1, and the absolute values of
@@ -153,5 +165,5 @@ pub fn read_step(alloc: Global, line: &[u8]) -> Result<Step, StepFault>
     ensures spelled { IfOk result IsSpelled }
     ensures fault { IfErr result (IsFaultOf (step_of line.now)) }
 {
-    read_line(alloc, line)
+    read_either(alloc, line)
 }

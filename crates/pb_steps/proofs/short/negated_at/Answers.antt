@@ -1,0 +1,9 @@
+use Rattle.std.proofs.Common.{arith, false, ◌+◌, refl}
+use Rattle.pb_steps.specs.StepGrammar.StepSymbol.{literal}
+use Rattle.pb_steps.proofs.Shorts.{behind_front, number_here_two, literal_told}
+use Rattle.pb_steps.proofs.short.negated_at.Goals as goal
+
+pub returns-clause-short : goal.returns-clause-short
+returns-clause-short c =
+    let told = literal_told false _ c.in_ok-var.var c.in_ok-var.ensures.number.value c.in_ok-var.ensures.named.0 in
+    number_here_two 126 120 c.args.left.now _ c.in_ok-var.var c.in_ok-var.count (c.in_ok-var.count + 3) (literal record { var = c.in_ok-var.var; positive = false }) c.in-32.len_at_least (omega arith) (omega arith) (omega arith) (behind_front c.args.left.now 3) c.in_ok-var.ensures.number refl refl refl told
