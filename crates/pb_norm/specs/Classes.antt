@@ -1,12 +1,14 @@
 -- What is known of what is left of a constraint, by its class.
-use Rattle.std.specs.Prelude.{◌≡◌, ◌≤◌, true, length}
+use Rattle.std.specs.Prelude.{◌≡◌, ◌≤◌, ◌+◌, true, length}
 use Rattle.pb_norm.specs.declared.reduction.Rest.{Rest}
 use Rattle.pb_norm.specs.declared.reduction.Rest.TheVariants.{Nothing, Empty, Clause, One, Card, General}
 use Rattle.pb_norm.specs.BoundedSums.{BoundedSum, IsProper}
 use Rattle.pb_norm.specs.Reduction.{all_weigh}
 
--- at most so many of more literals
+-- at most so many of more literals: two or more of them, and two or more are left out
 pub record IsCardinality (m : BoundedSum) : Type 0 where
+  pub two : 2 ≤ m.bound
+  pub two_more : m.bound + 2 ≤ length m.terms
   pub units : all_weigh 1 m.terms ≡ true
   pub proper : IsProper m
 
