@@ -8,6 +8,8 @@ use Rattle.pb_base.specs.Problems.{originals}
 use Rattle.pb_desk.specs.declared.limits.LineLimits.{LineLimits}
 use Rattle.pb_base.specs.Lines.{first_line}
 use Rattle.pb_dimacs.specs.CnfRows.{CnfRow, starts_from, limit_at, row_or, rows_from, rows_of, cnf_limits}
+use Rattle.pb_desk.specs.LineReaders.{Reader}
+use Rattle.pb_dimacs.specs.Cursors.{rows_left}
 use Rattle.pb_dimacs.specs.CnfRows.CnfRow.{last}
 use Rattle.pb_dimacs.specs.CnfSymbols.{Next, Start, start_of}
 use Rattle.pb_dimacs.specs.CnfSymbols.Next.{clause, nothing, refused}
@@ -50,14 +52,14 @@ walks-only task (row ∷ rows) stage clauses a b v w =
 
 -- ---- an answer
 
-abbrev SomeAnswer : Task → Stage → Clauses → List CnfRow → Type 0
+abbrev pub SomeAnswer : Task → Stage → Clauses → List CnfRow → Type 0
 SomeAnswer task stage clauses rows = (answer : Answer) × Walks task stage clauses rows answer
 
-abbrev SomeTurn : Task → List CnfRow → ℕ → Turn → Type 0
+abbrev pub SomeTurn : Task → List CnfRow → ℕ → Turn → Type 0
 SomeTurn task rows number turn = (answer : Answer) × Follows number turn (λ s c. Walks task s c rows answer) answer
 
 -- there is one from each later place on
-abbrev Later : Task → List CnfRow → Type 0
+abbrev pub Later : Task → List CnfRow → Type 0
 Later task rows = (s : Stage) (c : Clauses) → SomeAnswer task s c rows
 
 stopped : (a : Answer) → (answer : Answer) × (answer ≡ a)
@@ -70,12 +72,12 @@ some-test task rows number db step next clauses rule spells later =
       | inr denied ↦ (Ok (Rejected number denied.0), inr (denied.0, denied.1, refl))
     ]
 
-some-out : (task : Task) (rows : List CnfRow) (number : ℕ) (db : Database) (id : ℕ) (clauses : Clauses) → IsSpelled (Out id) → Later task rows → (n : Next) → SomeTurn task rows number (at_out db id clauses n)
+pub some-out : (task : Task) (rows : List CnfRow) (number : ℕ) (db : Database) (id : ℕ) (clauses : Clauses) → IsSpelled (Out id) → Later task rows → (n : Next) → SomeTurn task rows number (at_out db id clauses n)
 some-out task rows number db id clauses spells later (clause ls rest) = some-test task rows number db (Out id) (Some ls) (record { left = clauses.left - 1; symbols = rest }) tt spells later
 some-out task rows number db id clauses spells later nothing = some-test task rows number db (Out id) None clauses tt spells later
 some-out task rows number db id clauses spells later (refused fault) = stopped (Err (of_cnf fault))
 
-some-end : (task : Task) (rows : List CnfRow) (number : ℕ) (clauses : Clauses) → Later task rows → (n : Next) → SomeTurn task rows number (at_end number clauses n)
+pub some-end : (task : Task) (rows : List CnfRow) (number : ℕ) (clauses : Clauses) → Later task rows → (n : Next) → SomeTurn task rows number (at_end number clauses n)
 some-end task rows number clauses later (clause ls rest) = stopped _
 some-end task rows number clauses later nothing = later ended clauses
 some-end task rows number clauses later (refused fault) = stopped (Err (of_cnf fault))
@@ -130,14 +132,21 @@ some-from task limits total [] number stage clauses = some-last task stage (numb
 some-from task limits total (bytes ∷ starts) number stage clauses =
     some-row task (rows_from limits total (number + 1) starts) (number + 1) (first_line bytes) (some-from task limits total starts (number + 1)) (limit_at limits total number bytes) stage clauses
 
+-- of what a reader has left
+pub some-left : (task : Task) (r : Reader) (text : List ℕ) → Later task (rows_left r text)
+some-left task r text = some-from task r.limits (r.at + length text) (starts_from true text) r.number
+
 -- ---- of the texts
 
-some-walk : (p : Problem) (proof : List ℕ) (s : Start) → (answer : Answer) × WalksBy p (rows_of proof) s answer
-some-walk p proof (told head symbols) = by_test (leb (originals p) head.vars) where
-  by_test : (b : Bool) → (answer : Answer) × WalksFrom p (rows_of proof) head symbols b answer
-  by_test true = some-from (task_of p head) cnf_limits (length proof) (starts_from true proof) 0 head_wanted (record { left = head.clauses; symbols = symbols })
+pub some-start : (p : Problem) (rows : List CnfRow) → ((task : Task) → Later task rows) → (s : Start) → (answer : Answer) × WalksBy p rows s answer
+some-start p rows later (told head symbols) = by_test (leb (originals p) head.vars) where
+  by_test : (b : Bool) → (answer : Answer) × WalksFrom p rows head symbols b answer
+  by_test true = later (task_of p head) head_wanted (record { left = head.clauses; symbols = symbols })
   by_test false = stopped _
-some-walk p proof (wrong fault) = stopped (Err (of_cnf fault))
+some-start p rows later (wrong fault) = stopped (Err (of_cnf fault))
+
+some-walk : (p : Problem) (proof : List ℕ) (s : Start) → (answer : Answer) × WalksBy p (rows_of proof) s answer
+some-walk p proof s = some-start p (rows_of proof) (λ task. some-from task cnf_limits (length proof) (starts_from true proof) 0) s
 
 only-walk : (p : Problem) (proof : List ℕ) (s : Start) (a b : Answer) → WalksBy p (rows_of proof) s a → WalksBy p (rows_of proof) s b → a ≡ b
 only-walk p proof (told head symbols) a b v w = by_test (leb (originals p) head.vars) v w where

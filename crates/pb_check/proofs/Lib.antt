@@ -5,6 +5,8 @@ pub mod Answering
 pub mod Told
 pub mod Running
 pub mod Writing
+pub mod StepLimits
+pub mod WithinAnswers
 pub mod TurnLemmas
 pub mod NextLines
 pub mod Takes

@@ -1,5 +1,5 @@
 -- All lines, from the first on.
-use Rattle.std.proofs.Common.{◌≡◌, ℕ, List, length, Some, None, Ok, Err, refl, sym, ◌∙◌, subst}
+use Rattle.std.proofs.Common.{◌≡◌, ℕ, List, [], Some, None, Ok, refl, sym, ◌∙◌, subst}
 use Rattle.std.specs.Prelude.{◌≢◌}
 use Rattle.pb_desk.specs.Desk.{DeskState}
 use Rattle.pb_desk.specs.LineReading.{TakesAhead}
@@ -14,9 +14,11 @@ use Rattle.pb_check.specs.Turns.{Answer, Task, Clauses}
 use Rattle.pb_check.specs.Turns.Stage.{head_wanted, count_wanted, at_steps, ended}
 use Rattle.pb_check.specs.Walk.{Walks}
 use Rattle.pb_desk.specs.TwoSlots.{ReadsBoth}
-use Rattle.pb_check.specs.inner.Calls.{CountLeads}
-use Rattle.pb_check.specs.inner.Phases.{StopsOne, StopsBoth, Leads, clauses_of, StepsGive, StepsStop, IsTask, LinesAnswer}
+use Rattle.pb_check.specs.inner.Calls.{CountLeads, TaskOf}
+use Rattle.pb_check.specs.inner.Phases.{StopsOne, StopsBoth, Leads, clauses_of, StepsGive, TaskOver, IsTask, TaskFrom, LinesAnswer}
 use Rattle.pb_desk.proofs.BothSlots.{both_of_two, both_then}
+use Rattle.pb_check.proofs.StepRuns.{StepsCome}
+use Rattle.pb_check.proofs.WithinAnswers.{ended_same}
 use Rattle.pb_check.proofs.BothStops.{stops_of_proof, both_stops}
 
 -- the head line was read
@@ -43,22 +45,28 @@ ready cnf db count l0 l1 l2 a b d apart slot first reads =
     (subst (λ (x : List ℕ). Walks task (at_steps db) (clauses_of cnf x) (rows_left l2 u2) answer) (q.0 ∙ p.0) w))))
     first (both_of_two cnf.lines l1 l2 b d (CountLeads count l1 l2) (λ c p c' p'. (c' ≡ c) × CountLeads count l1 l2 p p') apart slot (λ c p p' h. (refl, h)) reads)
 
+-- the answer from the first line on
+abbrev pub LinesCome : (cnf : CnfReader) (db : Database) (count : ℕ) → Reader → TaskFrom cnf db count → List ℕ → List ℕ → Answer → Type 0
+LinesCome cnf db count l0 x c p answer = Walks x.0 head_wanted (clauses_of cnf c) (rows_left l0 p) answer
+
 pub head_fault : (f : CheckFault) (cnf : CnfReader) (db : Database) (count : ℕ) (l0 l1 : Reader) (a b : DeskState) → cnf.lines.slot ≢ l0.slot → l1.slot ≡ l0.slot
-    → StopsOne f l0 l1 a b (λ text f. (task : Task) (clauses : Clauses) → Walks task head_wanted clauses (rows_left l0 text) (Err f)) → StopsBoth f cnf.lines l0 cnf.lines l1 a b (λ c p f. LinesAnswer cnf db count l0 c p (Err f))
+    → StopsOne (Task × Clauses) f l0 l1 a b (λ x text answer. Walks x.0 head_wanted x.1 (rows_left l0 text) answer) → StopsBoth (TaskFrom cnf db count) f cnf.lines l0 cnf.lines l1 a b (LinesCome cnf db count l0)
 head_fault f cnf db count l0 l1 a b apart slot stops =
-    stops_of_proof f cnf.lines l0 l1 a b (λ text f. (task : Task) (clauses : Clauses) → Walks task head_wanted clauses (rows_left l0 text) (Err f)) (λ c p f. LinesAnswer cnf db count l0 c p (Err f)) apart slot (λ c p f h task is. h task (clauses_of cnf c)) stops
+    stops_of_proof (Task × Clauses) (TaskFrom cnf db count) f cnf.lines l0 l1 a b (λ x text answer. Walks x.0 head_wanted x.1 (rows_left l0 text) answer) (LinesCome cnf db count l0) apart slot (λ x c. ((x.0, clauses_of cnf c), λ p answer w. w)) stops
 
 pub count_fault : (f : CheckFault) (cnf : CnfReader) (db : Database) (count : ℕ) (l0 l1 l2 : Reader) (a b d : DeskState) → cnf.lines.slot ≢ l1.slot → l2.slot ≡ l1.slot → ReadsBoth cnf.lines l0 cnf.lines l1 a b (Begun l0 l1)
-    → StopsOne f l1 l2 b d (λ text f. (task : Task) (clauses : Clauses) → length task.loaded ≡ count → Walks task count_wanted clauses (rows_left l1 text) (Err f)) → StopsBoth f cnf.lines l0 cnf.lines l2 a d (λ c p f. LinesAnswer cnf db count l0 c p (Err f))
+    → StopsOne (TaskOf count) f l1 l2 b d (λ x text answer. Walks x.0 count_wanted x.1 (rows_left l1 text) answer) → StopsBoth (TaskFrom cnf db count) f cnf.lines l0 cnf.lines l2 a d (LinesCome cnf db count l0)
 count_fault f cnf db count l0 l1 l2 a b d apart slot first stops =
-    both_stops f cnf.lines l0 cnf.lines l1 cnf.lines l2 a b d (Begun l0 l1) (λ c p f. (task : Task) (clauses : Clauses) → length task.loaded ≡ count → Walks task count_wanted clauses (rows_left l1 p) (Err f)) (λ c p f. LinesAnswer cnf db count l0 c p (Err f))
-    (λ t u t' u' f p q task is. p.1 task (clauses_of cnf t) (Err f) (q task (clauses_of cnf t) is.same_count)) first
-    (stops_of_proof f cnf.lines l1 l2 b d (λ text f. (task : Task) (clauses : Clauses) → length task.loaded ≡ count → Walks task count_wanted clauses (rows_left l1 text) (Err f)) (λ c p f. (task : Task) (clauses : Clauses) → length task.loaded ≡ count → Walks task count_wanted clauses (rows_left l1 p) (Err f)) apart slot (λ c p f h. h) stops)
+    let Comes = λ (x : TaskFrom cnf db count) (c p : List ℕ) (answer : Answer). Walks x.0 count_wanted (clauses_of cnf c) (rows_left l1 p) answer in
+    both_stops (TaskFrom cnf db count) (TaskFrom cnf db count) f cnf.lines l0 cnf.lines l1 cnf.lines l2 a b d (Begun l0 l1) Comes (LinesCome cnf db count l0)
+    (λ x. (x, λ t u t' u' answer p w. p.1 x.0 (clauses_of cnf t) answer (subst (λ (v : List ℕ). Walks x.0 count_wanted (clauses_of cnf v) (rows_left l1 u') answer) p.0 w))) first
+    (stops_of_proof (TaskOf count) (TaskFrom cnf db count) f cnf.lines l1 l2 b d (λ x text answer. Walks x.0 count_wanted x.1 (rows_left l1 text) answer) Comes apart slot (λ x c. ((x.0, clauses_of cnf c, x.1.same_count), λ p answer w. w)) stops)
 
-pub steps_fault : (f : CheckFault) (cnf cnf' : CnfReader) (db : Database) (count : ℕ) (l0 l2 l3 : Reader) (a d e : DeskState) → ReadsBoth cnf.lines l0 cnf.lines l2 a d (Ready cnf db count l0 l2) → StopsBoth f cnf.lines l2 cnf'.lines l3 d e (λ c p f. StepsStop cnf db l2 c p f)
-    → StopsBoth f cnf.lines l0 cnf'.lines l3 a e (λ c p f. LinesAnswer cnf db count l0 c p (Err f))
+pub steps_fault : (f : CheckFault) (cnf cnf' : CnfReader) (db : Database) (count : ℕ) (l0 l2 l3 : Reader) (a d e : DeskState) → ReadsBoth cnf.lines l0 cnf.lines l2 a d (Ready cnf db count l0 l2) → StopsBoth (TaskOver cnf) f cnf.lines l2 cnf'.lines l3 d e (StepsCome cnf db l2)
+    → StopsBoth (TaskFrom cnf db count) f cnf.lines l0 cnf'.lines l3 a e (LinesCome cnf db count l0)
 steps_fault f cnf cnf' db count l0 l2 l3 a d e first stops =
-    both_stops f cnf.lines l0 cnf.lines l2 cnf'.lines l3 a d e (Ready cnf db count l0 l2) (λ c p f. StepsStop cnf db l2 c p f) (λ c p f. LinesAnswer cnf db count l0 c p (Err f)) (λ t u t' u' f p q task is. p task (Err f) is (q task is.same_vars)) first stops
+    both_stops (TaskOver cnf) (TaskFrom cnf db count) f cnf.lines l0 cnf.lines l2 cnf'.lines l3 a d e (Ready cnf db count l0 l2) (StepsCome cnf db l2) (LinesCome cnf db count l0)
+    (λ x. ((x.0, x.1.same_vars), λ t u t' u' answer p w. p x.0 answer x.1 w)) first stops
 
 pub steps_verdict : (v : Verdict) (cnf cnf' : CnfReader) (db : Database) (count : ℕ) (l0 l2 l3 : Reader) (a d e : DeskState) → ReadsBoth cnf.lines l0 cnf.lines l2 a d (Ready cnf db count l0 l2) → ReadsBoth cnf.lines l2 cnf'.lines l3 d e (λ c p c' p'. StepsGive (Some v) cnf db l2 l3 c p p')
     → ReadsBoth cnf.lines l0 cnf'.lines l3 a e (λ c p c' p'. LinesAnswer cnf db count l0 c p (Ok v))
@@ -77,12 +85,17 @@ rest_verdict cnf cnf' db count l0 l3 l4 a e h apart slot first reads =
     (λ t0 u0 t1 u1 t2 u2 p q task is. p task (Ok Accepted) is (q task)) first
     (both_of_two cnf'.lines l3 l4 e h (λ text rest. (task : Task) (clauses : Clauses) → Walks task ended clauses (rows_left l3 text) (Ok Accepted)) (λ c p c' p'. (task : Task) (clauses : Clauses) → Walks task ended clauses (rows_left l3 p) (Ok Accepted)) apart slot (λ c p p' h. h) reads)
 
+-- behind the steps no clause is asked for
+abbrev no_clauses : Clauses
+no_clauses = record { left = 0; symbols = [] }
+
 pub rest_fault : (f : CheckFault) (cnf cnf' : CnfReader) (db : Database) (count : ℕ) (l0 l3 l4 : Reader) (a e h : DeskState) → cnf'.lines.slot ≢ l3.slot → l4.slot ≡ l3.slot → ReadsBoth cnf.lines l0 cnf'.lines l3 a e (Done cnf db count l0 l3)
-    → StopsOne f l3 l4 e h (λ text f. (task : Task) (clauses : Clauses) → Walks task ended clauses (rows_left l3 text) (Err f)) → StopsBoth f cnf.lines l0 cnf'.lines l4 a h (λ c p f. LinesAnswer cnf db count l0 c p (Err f))
+    → StopsOne (Task × Clauses) f l3 l4 e h (λ x text answer. Walks x.0 ended x.1 (rows_left l3 text) answer) → StopsBoth (TaskFrom cnf db count) f cnf.lines l0 cnf'.lines l4 a h (LinesCome cnf db count l0)
 rest_fault f cnf cnf' db count l0 l3 l4 a e h apart slot first stops =
-    both_stops f cnf.lines l0 cnf'.lines l3 cnf'.lines l4 a e h (Done cnf db count l0 l3) (λ c p f. (task : Task) (clauses : Clauses) → Walks task ended clauses (rows_left l3 p) (Err f)) (λ c p f. LinesAnswer cnf db count l0 c p (Err f))
-    (λ t u t' u' f p q task is. p task (Err f) is (q task)) first
-    (stops_of_proof f cnf'.lines l3 l4 e h (λ text f. (task : Task) (clauses : Clauses) → Walks task ended clauses (rows_left l3 text) (Err f)) (λ c p f. (task : Task) (clauses : Clauses) → Walks task ended clauses (rows_left l3 p) (Err f)) apart slot (λ c p f h. h) stops)
+    let Comes = λ (x : TaskFrom cnf db count) (c p : List ℕ) (answer : Answer). Walks x.0 ended no_clauses (rows_left l3 p) answer in
+    both_stops (TaskFrom cnf db count) (TaskFrom cnf db count) f cnf.lines l0 cnf'.lines l3 cnf'.lines l4 a e h (Done cnf db count l0 l3) Comes (LinesCome cnf db count l0)
+    (λ x. (x, λ t u t' u' answer p w. p x.0 answer x.1 (λ cs. ended_same x.0 (rows_left l3 u') no_clauses cs answer w))) first
+    (stops_of_proof (Task × Clauses) (TaskFrom cnf db count) f cnf'.lines l3 l4 e h (λ x text answer. Walks x.0 ended x.1 (rows_left l3 text) answer) Comes apart slot (λ x c. ((x.0, no_clauses), λ p answer w. w)) stops)
 
 pub apart_then : (cnf proof cnf' proof' : Reader) (a b : DeskState) (P : List ℕ → List ℕ → List ℕ → List ℕ → Type 0) → ReadsBoth cnf proof cnf' proof' a b P → cnf'.slot ≢ proof'.slot
 apart_then cnf proof cnf' proof' a b P reads e = reads.apart (sym reads.one_slot ∙ e ∙ reads.two_slot)

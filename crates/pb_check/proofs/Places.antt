@@ -18,9 +18,9 @@ use Rattle.pb_check.specs.Turns.Stage.{head_wanted, count_wanted, at_steps, ende
 use Rattle.pb_check.specs.Turns.Turn.{go, stop}
 use Rattle.pb_check.specs.Walk.{Walks}
 use Rattle.pb_check.specs.Faults.{misplaced_line, miscounted_line, early_end}
+use Rattle.pb_check.specs.inner.Calls.{TaskOf}
 use Rattle.pb_check.specs.inner.Phases.{says_nothing, StopsOne, NextSays, FollowsRows, Leads}
 use Rattle.pb_desk.proofs.BothSlots.{differs}
-use Rattle.pb_check.proofs.NextLines.{stops_weaker}
 use Rattle.pb_check.proofs.TurnLemmas.{next_walks, end_walks}
 
 head_misplaced : (s : Step) (clauses : Clauses) (number : ℕ) (line : List ℕ) → says_nothing s ≡ false → s ≢ Head → head_turn clauses number line s ≡ misplaced number line expected.Head
@@ -56,55 +56,49 @@ end_misplaced (Del ids) clauses number line some = refl
 end_misplaced (Out id) clauses number line some = refl
 end_misplaced End clauses number line some = refl
 
--- a line that stops
-stops_line : (f g : CheckFault) (s : Step) (stage : Stage) (premise : Task → Type 0) (old new : Reader) (a b : DeskState) → f ≡ g → ((task : Task) (clauses : Clauses) → premise task → turn_by task stage clauses new.number new.line s ≡ stop (Err g))
-    → (TakesAhead old.slot old.ahead new.ahead a b (λ text rest. (task : Task) (clauses : Clauses) → premise task → Walks task stage clauses (rows_left old text) (Err g)) → StopsOne g old new a b (λ text f. (task : Task) (clauses : Clauses) → premise task → Walks task stage clauses (rows_left old text) (Err f)))
-    → TakesAhead old.slot old.ahead new.ahead a b (λ text rest. NextSays (Some s) new (rows_left old text) (rows_left new rest)) → StopsOne f old new a b (λ text f. (task : Task) (clauses : Clauses) → premise task → Walks task stage clauses (rows_left old text) (Err f))
-stops_line f g s stage premise old new a b is turn at reads =
-    subst (λ (f : CheckFault). StopsOne f old new a b (λ text f. (task : Task) (clauses : Clauses) → premise task → Walks task stage clauses (rows_left old text) (Err f))) (sym is)
-    (at (reads_weaker old.slot old.ahead new.ahead a b (λ text rest. NextSays (Some s) new (rows_left old text) (rows_left new rest)) (λ text rest. (task : Task) (clauses : Clauses) → premise task → Walks task stage clauses (rows_left old text) (Err g))
-    (λ text rest p task clauses holds. next_walks task stage clauses (rows_left old text) (rows_left new rest) new.number new.line s (Err g) p.0 p.1
-    (subst (λ (t : Turn). FollowsRows task new.number t (rows_left new rest) (Err g)) (sym (turn task clauses holds)) refl)) reads))
-
--- the same with no premise
-plain : (f : CheckFault) (stage : Stage) (old new : Reader) (a b : DeskState) → f ≡ f → StopsOne f old new a b (λ text f. (task : Task) (clauses : Clauses) → Unit {0} → Walks task stage clauses (rows_left old text) (Err f))
-    → StopsOne f old new a b (λ text f. (task : Task) (clauses : Clauses) → Walks task stage clauses (rows_left old text) (Err f))
-plain f stage old new a b e stops = stops_weaker f old new a b (λ text f. (task : Task) (clauses : Clauses) → Unit {0} → Walks task stage clauses (rows_left old text) (Err f))
-    (λ text f. (task : Task) (clauses : Clauses) → Walks task stage clauses (rows_left old text) (Err f)) (λ text f h task clauses. h task clauses tt) stops
+-- a line that stops, whatever the circumstances
+stops_line : (X : Type 0) (f g : CheckFault) (s : Step) (stage : Stage) (task : X → Task) (clauses : X → Clauses) (old new : Reader) (a b : DeskState) → f ≡ g → ((x : X) → turn_by (task x) stage (clauses x) new.number new.line s ≡ stop (Err g))
+    → (TakesAhead old.slot old.ahead new.ahead a b (λ text rest. (x : X) → Walks (task x) stage (clauses x) (rows_left old text) (Err g)) → StopsOne X g old new a b (λ x text answer. Walks (task x) stage (clauses x) (rows_left old text) answer))
+    → TakesAhead old.slot old.ahead new.ahead a b (λ text rest. NextSays (Some s) new (rows_left old text) (rows_left new rest)) → StopsOne X f old new a b (λ x text answer. Walks (task x) stage (clauses x) (rows_left old text) answer)
+stops_line X f g s stage task clauses old new a b is turn at reads =
+    subst (λ (f : CheckFault). StopsOne X f old new a b (λ x text answer. Walks (task x) stage (clauses x) (rows_left old text) answer)) (sym is)
+    (at (reads_weaker old.slot old.ahead new.ahead a b (λ text rest. NextSays (Some s) new (rows_left old text) (rows_left new rest)) (λ text rest. (x : X) → Walks (task x) stage (clauses x) (rows_left old text) (Err g))
+    (λ text rest p x. next_walks (task x) stage (clauses x) (rows_left old text) (rows_left new rest) new.number new.line s (Err g) p.0 p.1
+    (subst (λ (t : Turn). FollowsRows (task x) new.number t (rows_left new rest) (Err g)) (sym (turn x)) refl)) reads))
 
 pub head_stops : (f : CheckFault) (s : Step) (old new : Reader) (a b : DeskState) → f ≡ misplaced_line new.number new.line expected.Head → says_nothing s ≡ false → s ≢ Head
-    → TakesAhead old.slot old.ahead new.ahead a b (λ text rest. NextSays (Some s) new (rows_left old text) (rows_left new rest)) → StopsOne f old new a b (λ text f. (task : Task) (clauses : Clauses) → Walks task head_wanted clauses (rows_left old text) (Err f))
+    → TakesAhead old.slot old.ahead new.ahead a b (λ text rest. NextSays (Some s) new (rows_left old text) (rows_left new rest)) → StopsOne (Task × Clauses) f old new a b (λ x text answer. Walks x.0 head_wanted x.1 (rows_left old text) answer)
 head_stops f s old new a b is some other reads =
-    plain f head_wanted old new a b refl (stops_line f (misplaced_line new.number new.line expected.Head) s head_wanted (λ task. Unit {0}) old new a b is (λ task clauses _. head_misplaced s clauses new.number new.line some other) (λ r. r) reads)
+    stops_line (Task × Clauses) f (misplaced_line new.number new.line expected.Head) s head_wanted (λ x. x.0) (λ x. x.1) old new a b is (λ x. head_misplaced s x.1 new.number new.line some other) (λ r. r) reads
 
 pub rest_stops : (f : CheckFault) (s : Step) (old new : Reader) (a b : DeskState) → f ≡ misplaced_line new.number new.line expected.DerivationEnd → says_nothing s ≡ false
-    → TakesAhead old.slot old.ahead new.ahead a b (λ text rest. NextSays (Some s) new (rows_left old text) (rows_left new rest)) → StopsOne f old new a b (λ text f. (task : Task) (clauses : Clauses) → Walks task ended clauses (rows_left old text) (Err f))
+    → TakesAhead old.slot old.ahead new.ahead a b (λ text rest. NextSays (Some s) new (rows_left old text) (rows_left new rest)) → StopsOne (Task × Clauses) f old new a b (λ x text answer. Walks x.0 ended x.1 (rows_left old text) answer)
 rest_stops f s old new a b is some reads =
-    plain f ended old new a b refl (stops_line f (misplaced_line new.number new.line expected.DerivationEnd) s ended (λ task. Unit {0}) old new a b is (λ task clauses _. end_misplaced s clauses new.number new.line some) (λ r. r) reads)
+    stops_line (Task × Clauses) f (misplaced_line new.number new.line expected.DerivationEnd) s ended (λ x. x.0) (λ x. x.1) old new a b is (λ x. end_misplaced s x.1 new.number new.line some) (λ r. r) reads
 
 pub count_stops : (f : CheckFault) (s : Step) (loaded : ℕ) (old new : Reader) (a b : DeskState) → f ≡ misplaced_line new.number new.line expected.Loaded → says_nothing s ≡ false → ((count : ℕ) → s ≢ Loaded count)
-    → TakesAhead old.slot old.ahead new.ahead a b (λ text rest. NextSays (Some s) new (rows_left old text) (rows_left new rest)) → StopsOne f old new a b (λ text f. (task : Task) (clauses : Clauses) → length task.loaded ≡ loaded → Walks task count_wanted clauses (rows_left old text) (Err f))
+    → TakesAhead old.slot old.ahead new.ahead a b (λ text rest. NextSays (Some s) new (rows_left old text) (rows_left new rest)) → StopsOne (TaskOf loaded) f old new a b (λ x text answer. Walks x.0 count_wanted x.1 (rows_left old text) answer)
 count_stops f s loaded old new a b is some other reads =
-    stops_line f (misplaced_line new.number new.line expected.Loaded) s count_wanted (λ task. length task.loaded ≡ loaded) old new a b is (λ task clauses _. count_misplaced s task clauses new.number new.line some other) (λ r. r) reads
+    stops_line (TaskOf loaded) f (misplaced_line new.number new.line expected.Loaded) s count_wanted (λ x. x.0) (λ x. x.1) old new a b is (λ x. count_misplaced s x.0 x.1 new.number new.line some other) (λ r. r) reads
 
 pub miscounted_stops : (f : CheckFault) (s : Step) (count loaded : ℕ) (old new : Reader) (a b : DeskState) → f ≡ miscounted_line new.number new.line → s ≡ Loaded count → (count ≡ loaded → ⊥)
-    → TakesAhead old.slot old.ahead new.ahead a b (λ text rest. NextSays (Some s) new (rows_left old text) (rows_left new rest)) → StopsOne f old new a b (λ text f. (task : Task) (clauses : Clauses) → length task.loaded ≡ loaded → Walks task count_wanted clauses (rows_left old text) (Err f))
+    → TakesAhead old.slot old.ahead new.ahead a b (λ text rest. NextSays (Some s) new (rows_left old text) (rows_left new rest)) → StopsOne (TaskOf loaded) f old new a b (λ x text answer. Walks x.0 count_wanted x.1 (rows_left old text) answer)
 miscounted_stops f s count loaded old new a b is says wrong reads =
-    stops_line f (miscounted_line new.number new.line) s count_wanted (λ task. length task.loaded ≡ loaded) old new a b is
-    (λ task clauses same. ap (count_turn task clauses new.number new.line) says
-    ∙ ap (λ (t : Bool). cond t (go (at_steps (loaded_database task.original task.vars task.loaded)) clauses) (stop (Err (miscounted_line new.number new.line)))) (ap (λ (n : ℕ). count == n) same ∙ differs count loaded wrong)) (λ r. r) reads
+    stops_line (TaskOf loaded) f (miscounted_line new.number new.line) s count_wanted (λ x. x.0) (λ x. x.1) old new a b is
+    (λ x. ap (count_turn x.0 x.1 new.number new.line) says
+    ∙ ap (λ (t : Bool). cond t (go (at_steps (loaded_database x.0.original x.0.vars x.0.loaded)) x.1) (stop (Err (miscounted_line new.number new.line)))) (ap (λ (n : ℕ). count == n) x.2 ∙ differs count loaded wrong)) (λ r. r) reads
 
 -- the text ends too early
-pub early_stops : (f : CheckFault) (stage : Stage) (premise : Task → Type 0) (old new : Reader) (a b : DeskState) → f ≡ early_end (new.number + 1) → last_turn stage (new.number + 1) ≡ stop (Err (early_end (new.number + 1)))
-    → TakesAhead old.slot old.ahead new.ahead a b (λ text rest. NextSays None new (rows_left old text) (rows_left new rest)) → StopsOne f old new a b (λ text f. (task : Task) (clauses : Clauses) → premise task → Walks task stage clauses (rows_left old text) (Err f))
-early_stops f stage premise old new a b is ends reads =
-    subst (λ (f : CheckFault). StopsOne f old new a b (λ text f. (task : Task) (clauses : Clauses) → premise task → Walks task stage clauses (rows_left old text) (Err f))) (sym is)
-    (reads_weaker old.slot old.ahead new.ahead a b (λ text rest. NextSays None new (rows_left old text) (rows_left new rest)) (λ text rest. (task : Task) (clauses : Clauses) → premise task → Walks task stage clauses (rows_left old text) (Err (early_end (new.number + 1))))
-    (λ text rest p task clauses holds. end_walks task stage clauses (rows_left old text) (new.number + 1) (Err (early_end (new.number + 1))) p ends) reads)
+pub early_stops : (X : Type 0) (f : CheckFault) (stage : Stage) (task : X → Task) (clauses : X → Clauses) (old new : Reader) (a b : DeskState) → f ≡ early_end (new.number + 1) → last_turn stage (new.number + 1) ≡ stop (Err (early_end (new.number + 1)))
+    → TakesAhead old.slot old.ahead new.ahead a b (λ text rest. NextSays None new (rows_left old text) (rows_left new rest)) → StopsOne X f old new a b (λ x text answer. Walks (task x) stage (clauses x) (rows_left old text) answer)
+early_stops X f stage task clauses old new a b is ends reads =
+    subst (λ (f : CheckFault). StopsOne X f old new a b (λ x text answer. Walks (task x) stage (clauses x) (rows_left old text) answer)) (sym is)
+    (reads_weaker old.slot old.ahead new.ahead a b (λ text rest. NextSays None new (rows_left old text) (rows_left new rest)) (λ text rest. (x : X) → Walks (task x) stage (clauses x) (rows_left old text) (Err (early_end (new.number + 1))))
+    (λ text rest p x. end_walks (task x) stage (clauses x) (rows_left old text) (new.number + 1) (Err (early_end (new.number + 1))) p ends) reads)
 
 pub head_early : (f : CheckFault) (old new : Reader) (a b : DeskState) → f ≡ early_end (new.number + 1)
-    → TakesAhead old.slot old.ahead new.ahead a b (λ text rest. NextSays None new (rows_left old text) (rows_left new rest)) → StopsOne f old new a b (λ text f. (task : Task) (clauses : Clauses) → Walks task head_wanted clauses (rows_left old text) (Err f))
-head_early f old new a b is reads = plain f head_wanted old new a b refl (early_stops f head_wanted (λ task. Unit {0}) old new a b is refl reads)
+    → TakesAhead old.slot old.ahead new.ahead a b (λ text rest. NextSays None new (rows_left old text) (rows_left new rest)) → StopsOne (Task × Clauses) f old new a b (λ x text answer. Walks x.0 head_wanted x.1 (rows_left old text) answer)
+head_early f old new a b is reads = early_stops (Task × Clauses) f head_wanted (λ x. x.0) (λ x. x.1) old new a b is refl reads
 
 -- a line that leads on
 pub head_leads : (s : Step) (old new : Reader) (a b : DeskState) → s ≡ Head → TakesAhead old.slot old.ahead new.ahead a b (λ text rest. NextSays (Some s) new (rows_left old text) (rows_left new rest))

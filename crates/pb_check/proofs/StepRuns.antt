@@ -13,12 +13,13 @@ use Rattle.pb_check.specs.declared.verdict.Verdict.TheVariants.{Rejected}
 use Rattle.pb_check.specs.declared.verdict.CheckFault.{CheckFault}
 use Rattle.pb_check.specs.declared.taking.Taken.{Taken}
 use Rattle.pb_check.specs.declared.taking.Taken.TheVariants as taken
-use Rattle.pb_check.specs.Turns.{Task, step_turn}
+use Rattle.pb_check.specs.Turns.{Answer, Task, step_turn}
 use Rattle.pb_check.specs.Turns.Stage.{at_steps}
 use Rattle.pb_check.specs.Walk.{Walks}
 use Rattle.pb_desk.specs.TwoSlots.{ReadsBoth}
 use Rattle.pb_check.specs.Faults.{early_end}
-use Rattle.pb_check.specs.inner.Phases.{StopsOne, StopsBoth, NextSays, NextStops, clauses_of, TurnGives, TurnStops, LineGives, StepsGive, StepsStop}
+use Rattle.pb_check.specs.inner.Phases.{StopsOne, StopsBoth, NextSays, clauses_of, FollowsRows, TurnGives, LineGives, OnLine, StepsGive, TaskOver}
+use Rattle.pb_check.proofs.NextLines.{Anywhere, LineComes}
 use Rattle.pb_check.proofs.TurnLemmas.{next_walks, end_walks}
 use Rattle.pb_desk.proofs.BothSlots.{both_weaker, both_of_one, both_of_two, both_then}
 use Rattle.pb_check.proofs.BothStops.{stops_of_cnf, stops_of_proof, both_stops}
@@ -69,35 +70,45 @@ line_gives t s cnf cnf' db db' proof proof' a b step =
     by_taken (taken.Denied d) c p c' p' gives says = λ task vars.
         next_walks task (at_steps db) (clauses_of cnf c) (rows_left proof p) (rows_left proof' p') proof'.number proof'.line s (Ok (Rejected proof'.number d)) says.0 says.1 (gives task vars (rows_left proof' p'))
 
+-- the answer from the steps on
+abbrev pub StepsCome : (cnf : CnfReader) → Database → Reader → TaskOver cnf → List ℕ → List ℕ → Answer → Type 0
+StepsCome cnf db proof x c p answer = Walks x.0 (at_steps db) (clauses_of cnf c) (rows_left proof p) answer
+
 -- a line was not read
-pub line_fault : (f : CheckFault) (cnf : CnfReader) (db : Database) (proof proof' : Reader) (a b : DeskState) → proof'.slot ≡ proof.slot → cnf.lines.slot ≢ proof.slot → StopsOne f proof proof' a b (λ text f. NextStops (rows_left proof text) f)
-    → StopsBoth f cnf.lines proof cnf.lines proof' a b (λ c p f. StepsStop cnf db proof c p f)
+pub line_fault : (f : CheckFault) (cnf : CnfReader) (db : Database) (proof proof' : Reader) (a b : DeskState) → proof'.slot ≡ proof.slot → cnf.lines.slot ≢ proof.slot → StopsOne Anywhere f proof proof' a b (LineComes proof)
+    → StopsBoth (TaskOver cnf) f cnf.lines proof cnf.lines proof' a b (StepsCome cnf db proof)
 line_fault f cnf db proof proof' a b slot apart stops =
-    stops_of_proof f cnf.lines proof proof' a b (λ text f. NextStops (rows_left proof text) f) (λ c p f. StepsStop cnf db proof c p f) apart slot (λ c p f h task vars. h task (at_steps db) (clauses_of cnf c)) stops
+    stops_of_proof Anywhere (TaskOver cnf) f cnf.lines proof proof' a b (LineComes proof) (StepsCome cnf db proof) apart slot (λ x c. ((x.0, at_steps db, clauses_of cnf c), λ p answer w. w)) stops
 
 -- the text ends before its last line
 pub line_missing : (f : CheckFault) (cnf : CnfReader) (db : Database) (proof proof' : Reader) (a b : DeskState) → f ≡ early_end (proof'.number + 1) → proof'.slot ≡ proof.slot → cnf.lines.slot ≢ proof.slot
-    → TakesAhead proof.slot proof.ahead proof'.ahead a b (λ text rest. NextSays None proof' (rows_left proof text) (rows_left proof' rest)) → StopsBoth f cnf.lines proof cnf.lines proof' a b (λ c p f. StepsStop cnf db proof c p f)
+    → TakesAhead proof.slot proof.ahead proof'.ahead a b (λ text rest. NextSays None proof' (rows_left proof text) (rows_left proof' rest)) → StopsBoth (TaskOver cnf) f cnf.lines proof cnf.lines proof' a b (StepsCome cnf db proof)
 line_missing f cnf db proof proof' a b is slot apart reads =
-    subst (λ (f : CheckFault). StopsBoth f cnf.lines proof cnf.lines proof' a b (λ c p f. StepsStop cnf db proof c p f)) (sym is)
-    (both_of_two cnf.lines proof proof' a b (λ text rest. NextSays None proof' (rows_left proof text) (rows_left proof' rest)) (λ c p c' p'. StepsStop cnf db proof c p (early_end (proof'.number + 1))) apart slot
-    (λ c p p' h task vars. end_walks task (at_steps db) (clauses_of cnf c) (rows_left proof p) (proof'.number + 1) (Err (early_end (proof'.number + 1))) h refl) reads)
+    subst (λ (f : CheckFault). StopsBoth (TaskOver cnf) f cnf.lines proof cnf.lines proof' a b (StepsCome cnf db proof)) (sym is)
+    (both_of_two cnf.lines proof proof' a b (λ text rest. NextSays None proof' (rows_left proof text) (rows_left proof' rest)) (λ c p c' p'. (x : TaskOver cnf) → StepsCome cnf db proof x c p (Err (early_end (proof'.number + 1)))) apart slot
+    (λ c p p' h x. end_walks x.0 (at_steps db) (clauses_of cnf c) (rows_left proof p) (proof'.number + 1) (Err (early_end (proof'.number + 1))) h refl) reads)
+
+-- the answer from a step on, whose line was read
+abbrev pub StepComes : (cnf : CnfReader) → Database → Reader → Step → OnLine cnf → List ℕ → Answer → Type 0
+StepComes cnf db proof s x text answer = FollowsRows x.task proof.number (step_turn x.task db (clauses_of cnf text) proof.number proof.line s) (rows_left x.proof x.text) answer
 
 -- a step does not stand in its place, or its clause was not read
 pub line_stop : (f : CheckFault) (s : Step) (cnf cnf' : CnfReader) (db : Database) (proof proof' : Reader) (a b c : DeskState) → proof'.slot ≡ proof.slot → cnf'.lines.slot ≡ cnf.lines.slot → cnf.lines.slot ≢ proof.slot
     → TakesAhead proof.slot proof.ahead proof'.ahead a b (λ text rest. NextSays (Some s) proof' (rows_left proof text) (rows_left proof' rest))
-    → StopsOne f cnf.lines cnf'.lines b c (λ text f. (task : Task) → task.vars ≡ cnf.vars → TurnStops task proof'.number (step_turn task db (clauses_of cnf text) proof'.number proof'.line s) f)
-    → StopsBoth f cnf.lines proof cnf'.lines proof' a c (λ c p f. StepsStop cnf db proof c p f)
+    → StopsOne (OnLine cnf) f cnf.lines cnf'.lines b c (StepComes cnf db proof' s)
+    → StopsBoth (TaskOver cnf) f cnf.lines proof cnf'.lines proof' a c (StepsCome cnf db proof)
 line_stop f s cnf cnf' db proof proof' a b c slot slot' apart line stops =
-    both_stops f cnf.lines proof cnf.lines proof' cnf'.lines proof' a b c (Read s proof proof')
-    (λ t u f. (task : Task) → task.vars ≡ cnf.vars → TurnStops task proof'.number (step_turn task db (clauses_of cnf t) proof'.number proof'.line s) f)
-    (λ c p f. StepsStop cnf db proof c p f)
-    (λ t u t' u' f p q task vars.
-    next_walks task (at_steps db) (clauses_of cnf t) (rows_left proof u) (rows_left proof' u') proof'.number proof'.line s (Err f) p.1.0 p.1.1
-    (subst (λ (x : List ℕ). TurnStops task proof'.number (step_turn task db (clauses_of cnf x) proof'.number proof'.line s) f) p.0 (q task vars) (rows_left proof' u')))
+    let Comes = λ (x : TaskOver cnf) (t u : List ℕ) (answer : Answer). FollowsRows x.0 proof'.number (step_turn x.0 db (clauses_of cnf t) proof'.number proof'.line s) (rows_left proof' u) answer in
+    both_stops (TaskOver cnf) (TaskOver cnf) f cnf.lines proof cnf.lines proof' cnf'.lines proof' a b c (Read s proof proof') Comes (StepsCome cnf db proof)
+    (λ x. (
+      x,
+      λ t u t' u' answer p w.
+          next_walks x.0 (at_steps db) (clauses_of cnf t) (rows_left proof u) (rows_left proof' u') proof'.number proof'.line s answer p.1.0 p.1.1
+          (subst (λ (v : List ℕ). FollowsRows x.0 proof'.number (step_turn x.0 db (clauses_of cnf v) proof'.number proof'.line s) (rows_left proof' u') answer) p.0 w),
+    ))
     (read s cnf.lines proof proof' a b apart slot line)
-    (stops_of_cnf f cnf.lines cnf'.lines proof' b c (λ text f. (task : Task) → task.vars ≡ cnf.vars → TurnStops task proof'.number (step_turn task db (clauses_of cnf text) proof'.number proof'.line s) f)
-    (λ t u f. (task : Task) → task.vars ≡ cnf.vars → TurnStops task proof'.number (step_turn task db (clauses_of cnf t) proof'.number proof'.line s) f) (λ e. apart (e ∙ slot)) slot' (λ c p f h. h) stops)
+    (stops_of_cnf (OnLine cnf) (TaskOver cnf) f cnf.lines cnf'.lines proof' b c (StepComes cnf db proof' s) Comes (λ e. apart (e ∙ slot)) slot'
+    (λ x p. (record { task = x.0; number = proof'.number; proof = proof'; text = p; same_vars = x.1 }, λ c answer w. w)) stops)
 
 -- line after line
 pub runs_on : (first cnf cnf' : CnfReader) (db0 db db' : Database) (proof0 proof proof' : Reader) (a b c : DeskState) → cnf.vars ≡ first.vars → ReadsBoth first.lines proof0 cnf.lines proof a b (LineGives taken.On first db0 proof0 cnf db proof)
@@ -121,7 +132,7 @@ runs_denied d number first cnf cnf' db0 db db' proof0 proof proof' a b c at same
     before line
 
 pub runs_stop : (f : CheckFault) (first cnf cnf' : CnfReader) (db0 db : Database) (proof0 proof proof' : Reader) (a b c : DeskState) → cnf.vars ≡ first.vars → ReadsBoth first.lines proof0 cnf.lines proof a b (LineGives taken.On first db0 proof0 cnf db proof)
-    → StopsBoth f cnf.lines proof cnf'.lines proof' b c (λ c p f. StepsStop cnf db proof c p f) → StopsBoth f first.lines proof0 cnf'.lines proof' a c (λ c p f. StepsStop first db0 proof0 c p f)
+    → StopsBoth (TaskOver cnf) f cnf.lines proof cnf'.lines proof' b c (StepsCome cnf db proof) → StopsBoth (TaskOver first) f first.lines proof0 cnf'.lines proof' a c (StepsCome first db0 proof0)
 runs_stop f first cnf cnf' db0 db proof0 proof proof' a b c same_vars before stops =
-    both_stops f first.lines proof0 cnf.lines proof cnf'.lines proof' a b c (LineGives taken.On first db0 proof0 cnf db proof) (λ c p f. StepsStop cnf db proof c p f) (λ c p f. StepsStop first db0 proof0 c p f)
-    (λ t u t' u' f p q task vars. p task (Err f) vars (q task (vars ∙ sym same_vars))) before stops
+    both_stops (TaskOver cnf) (TaskOver first) f first.lines proof0 cnf.lines proof cnf'.lines proof' a b c (LineGives taken.On first db0 proof0 cnf db proof) (StepsCome cnf db proof) (StepsCome first db0 proof0)
+    (λ x. ((x.0, x.1 ∙ sym same_vars), λ t u t' u' answer p w. p x.0 answer x.1 w)) before stops

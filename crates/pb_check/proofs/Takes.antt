@@ -1,25 +1,33 @@
 -- Steps, with the clauses that come as they are needed.
-use Rattle.std.proofs.Common.{◌≡◌, ◌+◌, ℕ, List, Option, Some, None, refl, sym, subst}
+use Rattle.std.proofs.Common.{◌≡◌, ◌+◌, ℕ, List, [], ◌++◌, Option, Some, None, refl, sym, ap, ◌∙◌, subst}
 use Rattle.std.specs.Prelude.{◌≢◌, IfSome, Result, Ok, Err, IfErr, IfOk}
-use Rattle.pb_desk.proofs.ReadLemmas.{reads_weaker}
+use Rattle.std.proofs.lemmas.List.{append-nil}
+use Rattle.pb_desk.proofs.ReadLemmas.{fails_weaker, reads_weaker}
 use Rattle.pb_base.specs.declared.expected.Expected.{Expected}
 use Rattle.pb_desk.specs.LineReaders.{Reader}
 use Rattle.pb_check.specs.declared.verdict.CheckFault.{CheckFault}
 use Rattle.pb_base.specs.declared.literal.Lit.{Lit}
 use Rattle.pb_desk.specs.Desk.{DeskState}
 use Rattle.pb_desk.specs.LineReading.{TakesAhead}
-use Rattle.pb_dimacs.specs.CnfReaders.{CnfReader, symbols_left}
-use Rattle.pb_dimacs.specs.CnfSymbols.{next_of}
-use Rattle.pb_dimacs.specs.CnfSymbols.Next.{clause, nothing}
-use Rattle.pb_dimacs.specs.Cursors.{GivesNext}
+use Rattle.pb_dimacs.specs.CnfReaders.{CnfReader, symbols_left, StopsNext}
+use Rattle.pb_dimacs.specs.declared.fault.CnfFault.{CnfFault}
+use Rattle.pb_dimacs.specs.declared.fault.CnfFault.TheVariants as cnf_fault
+use Rattle.pb_dimacs.specs.CnfSymbols.{Next, next_of}
+use Rattle.pb_dimacs.specs.CnfSymbols.Next.{clause, nothing, refused}
+use Rattle.pb_dimacs.specs.Cursors.{rows_left, GivesNext}
+use Rattle.pb_dimacs.specs.Within.{IsNextWithin, CouldPass}
 use Rattle.pb_steps.specs.declared.step.Step.{Step}
 use Rattle.pb_steps.specs.declared.step.Step.TheVariants.{Blank, Head, Loaded, Pol, Rup, Red, Del, Out, End}
 use Rattle.pb_steps.specs.Database.{Database}
 use Rattle.pb_check.specs.declared.taking.Taken.{Taken}
-use Rattle.pb_check.specs.Turns.{Task, at_out, next_in, step_turn}
+use Rattle.pb_steps.specs.Steps.{IsSpelled}
+use Rattle.pb_check.specs.Turns.{Answer, Task, Clauses, Turn, at_out, at_end, next_in, step_turn}
+use Rattle.pb_check.specs.Turns.Turn.{stop}
 use Rattle.pb_check.specs.inner.Judging.{IsJudged}
-use Rattle.pb_check.specs.Faults.{misplaced_line}
-use Rattle.pb_check.specs.inner.Phases.{StopsOne, clauses_of, TurnGives}
+use Rattle.pb_check.specs.Faults.{misplaced_line, of_cnf}
+use Rattle.pb_check.specs.inner.Phases.{IsOpen, StopsOne, clauses_of, FollowsRows, OnLine, TurnGives}
+use Rattle.pb_check.proofs.Answering.{SomeTurn, some-left, some-out, some-end}
+use Rattle.pb_check.proofs.WithinAnswers.{PassesCnf, out_within, end_within}
 use Rattle.pb_check.proofs.TurnLemmas.{judged_gives, clause_given, nothing_given, out_turn}
 
 pub out_given : (next : Option (List Lit)) (t : Taken) (old new : CnfReader) (a b : DeskState) (db db' : Database) (id : ℕ) → GivesNext next old.vars old.left old.lines old.at new.lines new.at a b
@@ -48,9 +56,68 @@ rule_given (Red ts right sets) t task number line db db' old text a b c d e judg
 rule_given (Del ids) t task number line db db' old text a b c d e judged = judged_gives t task number db db' (Del ids) None (clauses_of old text) judged
 
 -- a line that does not stand in its place
-pub misplaced_stops : (fault : CheckFault) (number : ℕ) (line : List ℕ) (e : Expected) (r : Reader) (r' : Reader) (a b : DeskState) (T : List ℕ → CheckFault → Type 0) → fault ≡ misplaced_line number line e
-    → TakesAhead r.slot r.ahead r'.ahead a b (λ text rest. T text (misplaced_line number line e)) → StopsOne fault r r' a b T
-misplaced_stops fault number line e r r' a b T is reads = subst (λ (f : CheckFault). StopsOne f r r' a b T) (sym is) reads
+pub misplaced_stops : (X : Type 0) (fault : CheckFault) (number : ℕ) (line : List ℕ) (e : Expected) (r : Reader) (r' : Reader) (a b : DeskState) (T : X → List ℕ → Answer → Type 0) → fault ≡ misplaced_line number line e
+    → TakesAhead r.slot r.ahead r'.ahead a b (λ text rest. (x : X) → T x text (Err (misplaced_line number line e))) → StopsOne X fault r r' a b T
+misplaced_stops X fault number line e r r' a b T is reads = subst (λ (f : CheckFault). StopsOne X f r r' a b T) (sym is) reads
+
+-- ---- the next clause is not read
+
+-- what a line asks by what the CNF gives next: it stops where that has a fault, has an answer in any case, and tells no limit of a length that the CNF does not pass
+pub record AsksNext (old : CnfReader) (turn : OnLine old → Clauses → Next → Turn) : Type 0 where
+  pub refuses : (x : OnLine old) (c : Clauses) (f : CnfFault) → turn x c (refused f) ≡ stop (Err (of_cnf f))
+  pub answers : (x : OnLine old) (c : Clauses) (n : Next) → SomeTurn x.task (rows_left x.proof x.text) x.number (turn x c n)
+  pub within : (x : OnLine old) (c : Clauses) (n : Next) (answer : Answer) → IsNextWithin n → FollowsRows x.task x.number (turn x c n) (rows_left x.proof x.text) answer → PassesCnf answer → ⊥
+
+abbrev pub NextComes : (old : CnfReader) → (OnLine old → Clauses → Next → Turn) → OnLine old → List ℕ → Answer → Type 0
+NextComes old turn x text answer = FollowsRows x.task x.number (turn x (clauses_of old text) (next_in x.task (clauses_of old text))) (rows_left x.proof x.text) answer
+
+next_refused : (old : CnfReader) (turn : OnLine old → Clauses → Next → Turn) → AsksNext old turn → (x : OnLine old) (text : List ℕ) (f : CnfFault) → next_of old.vars old.left (symbols_left old text) ≡ refused f → NextComes old turn x text (Err (of_cnf f))
+next_refused old turn asks x text f is =
+    let next : next_in x.task (clauses_of old text) ≡ refused f = ap (λ (v : ℕ). next_of v old.left (symbols_left old text)) x.same_vars ∙ is in
+    subst (λ (n : Next). FollowsRows x.task x.number (turn x (clauses_of old text) n) (rows_left x.proof x.text) (Err (of_cnf f))) (sym next)
+    (subst (λ (t : Turn). FollowsRows x.task x.number t (rows_left x.proof x.text) (Err (of_cnf f))) (sym (asks.refuses x (clauses_of old text) f)) refl)
+
+-- the CNF may end there, or a line go on until it passes a limit
+next_open : (old : CnfReader) (turn : OnLine old → Clauses → Next → Turn) → AsksNext old turn → (bytes : List ℕ) → IsNextWithin (next_of old.vars old.left (symbols_left old bytes)) → CouldPass (λ text f. next_of old.vars old.left (symbols_left old text) ≡ refused f) bytes
+    → (x : OnLine old) → IsOpen (NextComes old turn x) bytes
+next_open old turn asks bytes within could x =
+    let clauses = clauses_of old (bytes ++ []) in
+    let next = next_in x.task clauses in
+    let here = asks.answers x clauses next in
+    let fault : CnfFault = cnf_fault.Limit could.place could.which in
+    let short : IsNextWithin next =
+    subst (λ (v : ℕ). IsNextWithin (next_of v old.left (symbols_left old (bytes ++ [])))) (sym x.same_vars) (subst (λ (xs : List ℕ). IsNextWithin (next_of old.vars old.left (symbols_left old xs))) (sym (append-nil bytes)) within) in
+    record {
+      one = record { behind = []; answer = here.0; comes = here.1 };
+      two = record { behind = could.behind; answer = Err (of_cnf fault); comes = next_refused old turn asks x (bytes ++ could.behind) fault could.tells };
+      apart = λ e. asks.within x clauses next here.0 short here.1 (subst PassesCnf (sym e) could.by_length);
+    }
+
+pub next_stops : (fault : CnfFault) (old new : CnfReader) (turn : OnLine old → Clauses → Next → Turn) (a b : DeskState) → AsksNext old turn → StopsNext fault old new a b → StopsOne (OnLine old) (of_cnf fault) old.lines new.lines a b (NextComes old turn)
+next_stops cnf_fault.Failed old new turn a b asks stops =
+    fails_weaker old.lines.slot old.lines.ahead a b (λ bytes. IsNextWithin (next_of old.vars old.left (symbols_left old bytes)) × CouldPass (λ text f. next_of old.vars old.left (symbols_left old text) ≡ refused f) bytes)
+    (λ bytes. (x : OnLine old) → IsOpen (NextComes old turn x) bytes) (λ bytes h x. next_open old turn asks bytes h.0 h.1 x) stops
+next_stops cnf_fault.NoMemory old new turn a b asks stops = stops
+next_stops (cnf_fault.Token place e) old new turn a b asks stops =
+    reads_weaker old.lines.slot old.lines.ahead new.lines.ahead a b (λ text rest. next_of old.vars old.left (symbols_left old text) ≡ refused (cnf_fault.Token place e)) (λ text rest. (x : OnLine old) → NextComes old turn x text (Err (of_cnf (cnf_fault.Token place e))))
+    (λ text rest is x. next_refused old turn asks x text (cnf_fault.Token place e) is) stops
+next_stops (cnf_fault.Limit place which) old new turn a b asks stops =
+    reads_weaker old.lines.slot old.lines.ahead new.lines.ahead a b (λ text rest. next_of old.vars old.left (symbols_left old text) ≡ refused (cnf_fault.Limit place which)) (λ text rest. (x : OnLine old) → NextComes old turn x text (Err (of_cnf (cnf_fault.Limit place which))))
+    (λ text rest is x. next_refused old turn asks x text (cnf_fault.Limit place which) is) stops
+
+pub out_asks : (old : CnfReader) (db : Database) (id : ℕ) → IsSpelled (Out id) → AsksNext old (λ x c n. at_out db id c n)
+out_asks old db id spelled = record {
+  refuses = λ x c f. refl;
+  answers = λ x c n. some-out x.task (rows_left x.proof x.text) x.number db id c spelled (some-left x.task x.proof x.text) n;
+  within = λ x c n answer h w. out_within x.task x.number (rows_left x.proof x.text) db id c n answer h w;
+}
+
+pub end_asks : (old : CnfReader) → AsksNext old (λ x c n. at_end x.number c n)
+end_asks old = record {
+  refuses = λ x c f. refl;
+  answers = λ x c n. some-end x.task (rows_left x.proof x.text) x.number c (some-left x.task x.proof x.text) n;
+  within = λ x c n answer h w. end_within x.task x.number (rows_left x.proof x.text) c n answer h w;
+}
 
 pub at_err : {X : Type 0} (r : Result X CheckFault) (P Q : CheckFault → Type 0) → ((f : CheckFault) → P f → Q f) → IfErr r P → IfErr r Q
 at_err (Ok x) P Q h p = tt

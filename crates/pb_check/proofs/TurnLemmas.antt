@@ -57,6 +57,23 @@ walks_behind task stage clauses (plain number line ∷ rows) a w = by_step (step
 walks_behind task stage clauses (too_long number which ∷ rows) a w = w
 walks_behind task stage clauses (last number ∷ rows) a w = w
 
+-- and the other way round
+pub behind_walks : (task : Task) (stage : Stage) (clauses : Clauses) (rows : List CnfRow) (a : Answer) → Walks task stage clauses rows a → Walks task stage clauses (behind_blank rows) a
+behind_walks task stage clauses [] a w = w
+behind_walks task stage clauses (plain number line ∷ rows) a w = by_step (step_of line) refl (behind_walks task stage clauses rows a) w
+  where
+    by_step : (r : Result Step StepFault) → step_of line ≡ r → (Walks task stage clauses rows a → Walks task stage clauses (behind_blank rows) a)
+        → Walks task stage clauses (plain number line ∷ rows) a → Walks task stage clauses (unless_blank r (behind_blank rows) (plain number line ∷ rows)) a
+    by_step (Ok s) e ih h = by_test (says_nothing s) refl e h
+      where
+        by_test : (b : Bool) → says_nothing s ≡ b → step_of line ≡ Ok s → Walks task stage clauses (plain number line ∷ rows) a → Walks task stage clauses (cond b (behind_blank rows) (plain number line ∷ rows)) a
+        by_test true blank e h =
+            ih (subst (λ (t : Turn). Follows number t (λ s c. Walks task s c rows a) a) (ap (read_turn task stage clauses number line) e ∙ ap (turn_by task stage clauses number line) (is_blank s blank) ∙ blank_goes task stage clauses number line) h)
+        by_test false blank e h = h
+    by_step (Err f) e ih h = h
+behind_walks task stage clauses (too_long number which ∷ rows) a w = w
+behind_walks task stage clauses (last number ∷ rows) a w = w
+
 pub behind_unsaid : (number : ℕ) (line : List ℕ) (rows : List CnfRow) (s : Step) → step_of line ≡ Ok s → says_nothing s ≡ true → behind_blank (plain number line ∷ rows) ≡ behind_blank rows
 behind_unsaid number line rows s e blank =
     ap (λ (r : Result Step StepFault). unless_blank r (behind_blank rows) (plain number line ∷ rows)) e ∙ ap (λ (b : Bool). cond {A = List CnfRow} b (behind_blank rows) (plain number line ∷ rows)) blank

@@ -1,12 +1,14 @@
 -- The first limit that a line passes, piece by piece.
-use Rattle.std.proofs.Common.{◌≡◌, ◌+◌, ◌-◌, ℕ, Bool, true, false, cond, List, [], ◌∷◌, ◌++◌, Option, Some, None, arith, length, refl, ap, sym, ◌∙◌, eqb, ◌&&◌}
+use Rattle.std.proofs.Common.{◌≡◌, ◌+◌, ◌-◌, ◌<◌, ℕ, zero, suc, Bool, true, false, cond, List, [], ◌∷◌, ◌++◌, Option, Some, None, arith, length, refl, ap, sym, ◌∙◌, subst, eqb, ◌&&◌, length-append}
 use Rattle.std.specs.Prelude.{if◌then◌else◌, ◌==◌}
-use Rattle.std.proofs.lemmas.List.Elements.{All-head, All-tail}
+use Rattle.std.proofs.lemmas.List.Elements.{All-head, All-tail, All-nil, All-cons, All-append}
 use Rattle.std.proofs.lemmas.Bool.Decides.{nat_tests}
 use Rattle.pb_base.specs.declared.limit.LimitKind.{LimitKind}
 use Rattle.pb_base.specs.declared.limit.LimitKind.TheVariants.{Text, Lines, Line}
 use Rattle.pb_desk.specs.Lines.{IsUnbroken}
-use Rattle.pb_desk.specs.Limits.{first_of, limit_of, limit_of_piece}
+use Rattle.pb_desk.specs.declared.limits.Remaining.{Remaining}
+use Rattle.pb_desk.specs.LineReading.{limit_in}
+use Rattle.pb_desk.specs.Limits.{first_of, limit_of, limit_of_piece, IsLengthLimit}
 
 -- the limit that a byte other than LF passes
 abbrev limit_of_plain : ℕ → Bool → ℕ → Option LimitKind
@@ -61,3 +63,56 @@ limit_of-ended text is_last line (p ∷ ps) more h =
     limit_of-plain text is_last line p (ps ++ 10 ∷ more) first ∙
     (ap (first_of (limit_of_plain text is_last line)) rest ∙
     (sym (piece_more text is_last line (length ps) true) ∙ ap (λ (n : ℕ). limit_of_piece text is_last line n true) (omega arith)))
+
+-- ---- a line may always go on until it passes a limit
+
+-- there is a limit, by length
+abbrev Passed : Option LimitKind → Type 0
+Passed None = ⊥
+Passed (Some which) = IsLengthLimit which
+
+passed-long : (text : ℕ) (is_last : Bool) (line : ℕ) (xs : List ℕ) → IsUnbroken xs → line < length xs → Passed (limit_of text is_last line xs)
+passed-long text is_last line [] h long = absurd (omega (arith, long))
+passed-long text is_last line (x ∷ xs) h long =
+    subst Passed (sym (limit_of-plain text is_last line x xs (All-head (λ b. eqb b 10 ≡ false) x xs h)))
+    (by_tests (text == 0) is_last (line == 0) refl (λ more. passed-long (text - 1) is_last (line - 1) xs (All-tail (λ b. eqb b 10 ≡ false) x xs h) more))
+  where
+    by_tests : (t l m : Bool) → (line == 0) ≡ m → (line - 1 < length xs → Passed (limit_of (text - 1) is_last (line - 1) xs))
+        → Passed (first_of (if t then Some Text else (if l then Some Lines else (if m then Some Line else None))) (limit_of (text - 1) is_last (line - 1) xs))
+    by_tests true l m is later = tt
+    by_tests false true m is later = tt
+    by_tests false false true is later = tt
+    by_tests false false false is later = later (let some : 0 < line = grind (arith, nat_tests, is) in omega (arith, some, long))
+
+blanks : ℕ → List ℕ
+blanks zero = []
+blanks (suc n) = 32 ∷ blanks n
+
+blanks-unbroken : (n : ℕ) → IsUnbroken (blanks n)
+unfolding blanks
+blanks-unbroken zero = All-nil (λ b. eqb b 10 ≡ false)
+blanks-unbroken (suc n) = All-cons (λ b. eqb b 10 ≡ false) 32 (blanks n) refl (blanks-unbroken n)
+
+blanks-length : (n : ℕ) → length (blanks n) ≡ n
+unfolding blanks
+blanks-length zero = refl
+blanks-length (suc n) = ap suc (blanks-length n)
+
+-- what stands behind a part of a line so that a limit is passed
+pub record Overflow (left : Remaining) (part : List ℕ) : Type 0 where
+  pub behind : List ℕ
+  pub which : LimitKind
+  pub passes : limit_in left (part ++ behind) ≡ Some which
+  pub by_length : IsLengthLimit which
+
+pub overflows : (left : Remaining) (part : List ℕ) → IsUnbroken part → Overflow left part
+overflows left part unbroken = by_limit (limit_in left (part ++ behind)) refl
+    (passed-long left.text left.is_last left.line (part ++ behind) (All-append (λ b. eqb b 10 ≡ false) part behind unbroken (blanks-unbroken (left.line + 1)))
+    (omega (arith, length-append part behind, blanks-length (left.line + 1))))
+  where
+    behind : List ℕ
+    behind = blanks (left.line + 1)
+
+    by_limit : (o : Option LimitKind) → limit_in left (part ++ behind) ≡ o → Passed o → Overflow left part
+    by_limit None is h = absurd h
+    by_limit (Some which) is h = record { behind = behind; which = which; passes = is; by_length = h }

@@ -6,7 +6,8 @@ use Rattle.std.specs.declared.result.Result.TheVariants.{Ok, Err}
 use Rattle.std.proofs.lemmas.Bool.{eqb-true, true≢false}
 use Rattle.std.specs.declared.option.Option.{Option}
 use Rattle.std.specs.declared.option.Option.TheVariants.{Some, None}
-use Rattle.std.proofs.lemmas.List.{drop-drop, append-nil, append_cancel_right, length-drop, take-append-drop}
+use Rattle.std.proofs.lemmas.List.{drop-drop, append-nil, length-drop, take-append-drop}
+use Rattle.std.proofs.Math.Seq.{take-add}
 use Rattle.pb_desk.specs.View.{Told, View, taken}
 use Rattle.pb_desk.specs.Desk.{DeskState, Advances, FailsToRead, IfTold, same}
 use Rattle.pb_desk.proofs.Steps.{as_reads, begin, reads_by_then, then_fails_to_read}
@@ -17,7 +18,7 @@ use Rattle.pb_desk.specs.declared.piece.Stop.{Stop}
 use Rattle.pb_desk.specs.declared.piece.Stop.TheVariants as stop
 use Rattle.pb_desk.specs.declared.line.Found.TheVariants.{Ended}
 use Rattle.pb_desk.proofs.LineLemmas.{begins_break, begins_last}
-use Rattle.pb_desk.specs.LineReading.{Held, before_end, beyond, limit_in, may_end, TakesAhead, FailsInLine, FailsAhead, IsPart}
+use Rattle.pb_desk.specs.LineReading.{Held, MayStand, before_end, beyond, limit_in, may_end, TakesAhead, FailsAhead, IsPart}
 use Rattle.pb_desk.specs.inner.PieceReading.{InLine, TakesPiece, StopsPiece, Finds, Fits, StopsLine, found_at_end, Refills}
 
 pub taken-none : (slot : ℕ) (view : View) → taken slot 0 view ≡ view
@@ -36,6 +37,10 @@ weaker_told a P Q h p = by_cases a.view.told p
     by_cases None p = tt
     by_cases (Some t) p = h t p
 
+-- what a read tells of the bytes that were taken, with whatever stands behind them
+abbrev pub Tells : ℕ → ℕ → Held → Held → (List ℕ → List ℕ → Type 0) → Told → Type 0
+Tells slot count x y P t = (rest : List ℕ) → MayStand y (drop count (t.left slot)) rest → P (before_end x (take count (t.left slot) ++ rest)) (before_end y rest)
+
 -- nothing is read
 reads_nothing : (slot : ℕ) (ahead : Held) (a : DeskState) (P : List ℕ → List ℕ → Type 0) → ((left : List ℕ) → P (before_end ahead left) (before_end ahead left)) → TakesAhead slot ahead ahead a a P
 reads_nothing slot ahead a P h = record {
@@ -43,7 +48,7 @@ reads_nothing slot ahead a P h = record {
   takes = record { reached = as_reads (taken slot 0) a a (begin (taken slot 0) a (taken-none slot)); were_left = always_told a (λ t. 0 ≤ length (t.left slot)) (λ t. omega arith) };
   over = λ e. e;
   ends = omega arith;
-  told = always_told a (λ t. P (before_end ahead (t.left slot)) (before_end ahead (drop 0 (t.left slot)))) (λ t. h (t.left slot));
+  told = always_told a (Tells slot 0 ahead ahead P) (λ t rest may. h rest);
 }
 
 -- nothing was read yet
@@ -57,21 +62,34 @@ takes_takes slot n m a b c first second = record {
       (λ t le more. omega (arith, le, more, length-drop n (t.left slot))) first.were_left (told_after slot n (λ left. m ≤ length left) a b first.reached.view second.were_left);
 }
 
+-- bytes that are taken in two reads are those of one
+pub take_twice : (n m : ℕ) (left behind : List ℕ) → take n left ++ (take m (drop n left) ++ behind) ≡ take (n + m) left ++ behind
+take_twice n m left behind = sym (append_assoc (take n left) (take m (drop n left)) behind) ∙ ap (λ (xs : List ℕ). xs ++ behind) (sym (take-add n m left))
+
 -- one read after another
 pub reads_then : (slot : ℕ) (x y z : Held) (a b c : DeskState) (P Q R : List ℕ → List ℕ → Type 0) → ((text middle rest : List ℕ) → P text middle → Q middle rest → R text rest) → TakesAhead slot x y a b P → TakesAhead slot y z b c Q → TakesAhead slot x z a c R
 reads_then slot x y z a b c P Q R joins first second =
-    let later : IfTold a (λ t. Q (before_end y (drop first.count (t.left slot))) (before_end z (drop second.count (drop first.count (t.left slot))))) =
-    told_after slot first.count (λ left. Q (before_end y left) (before_end z (drop second.count left))) a b first.takes.reached.view second.told in
+    let later : IfTold a (λ t. Later second.count (drop first.count (t.left slot))) = told_after slot first.count (Later second.count) a b first.takes.reached.view second.told in
     record {
       count = first.count + second.count;
       takes = takes_takes slot first.count second.count a b c first.takes second.takes;
       over = λ e. second.over (first.over e);
       ends = omega (arith, first.ends, second.ends);
-      told = both_told (λ t. P (before_end x (t.left slot)) (before_end y (drop first.count (t.left slot)))) (λ t. Q (before_end y (drop first.count (t.left slot))) (before_end z (drop second.count (drop first.count (t.left slot)))))
-          (λ t. R (before_end x (t.left slot)) (before_end z (drop (first.count + second.count) (t.left slot)))) a
-          (λ t p q. joins (before_end x (t.left slot)) (before_end y (drop first.count (t.left slot))) (before_end z (drop (first.count + second.count) (t.left slot))) p
-          (subst (λ (left : List ℕ). Q (before_end y (drop first.count (t.left slot))) (before_end z left)) (drop-drop second.count first.count (t.left slot)) q)) first.told later;
+      told = both_told (Tells slot first.count x y P) (λ t. Later second.count (drop first.count (t.left slot))) (Tells slot (first.count + second.count) x z R) a
+          (λ t p q rest may. join first.count second.count (t.left slot) rest may p q) first.told later;
     }
+  where
+    Later : ℕ → List ℕ → Type 0
+    Later m left = (rest : List ℕ) → MayStand z (drop m left) rest → Q (before_end y (take m left ++ rest)) (before_end z rest)
+
+    join : (n m : ℕ) (left rest : List ℕ) → MayStand z (drop (n + m) left) rest → ((rest : List ℕ) → MayStand y (drop n left) rest → P (before_end x (take n left ++ rest)) (before_end y rest)) → Later m (drop n left)
+        → R (before_end x (take (n + m) left ++ rest)) (before_end z rest)
+    join n m left rest may p q =
+        let may' : MayStand z (drop m (drop n left)) rest = λ e. may e ∙ sym (drop-drop m n left) in
+        let middle : List ℕ = take m (drop n left) ++ rest in
+        let here : MayStand y (drop n left) middle = λ e. ap (λ (xs : List ℕ). take m (drop n left) ++ xs) (may' (second.over e)) ∙ take-append-drop m (drop n left) in
+        subst (λ (xs : List ℕ). R (before_end x xs) (before_end z rest)) (take_twice n m left rest)
+        (joins (before_end x (take n left ++ middle)) (before_end y middle) (before_end z rest) (p middle here) (q rest may'))
 
 -- bytes that were ahead are used
 pub reads_ahead : (slot : ℕ) (x y z : Held) (a b : DeskState) (P Q : List ℕ → List ℕ → Type 0) → z.over ≡ y.over → ((text left : List ℕ) → P text (y.bytes ++ left) → Q text (z.bytes ++ left)) → TakesAhead slot x y a b P → TakesAhead slot x z a b Q
@@ -80,8 +98,9 @@ reads_ahead slot x y z a b P Q same_end h first = record {
   takes = first.takes;
   over = λ e. same_end ∙ first.over e;
   ends = subst (λ (over : Bool). b.ends + (if over then 0 else 1) ≤ a.ends + may_end x) (sym same_end) first.ends;
-  told = weaker_told a (λ t. P (before_end x (t.left slot)) (before_end y (drop first.count (t.left slot)))) (λ t. Q (before_end x (t.left slot)) (before_end z (drop first.count (t.left slot))))
-      (λ t p. subst (λ (over : Bool). Q (before_end x (t.left slot)) (z.bytes ++ beyond over (drop first.count (t.left slot)))) (sym same_end) (h (before_end x (t.left slot)) (beyond y.over (drop first.count (t.left slot))) p)) first.told;
+  told = weaker_told a (Tells slot first.count x y P) (Tells slot first.count x z Q)
+      (λ t p rest may. subst (λ (over : Bool). Q (before_end x (take first.count (t.left slot) ++ rest)) (z.bytes ++ beyond over rest)) (sym same_end)
+      (h (before_end x (take first.count (t.left slot) ++ rest)) (beyond y.over rest) (p rest (λ e. may (same_end ∙ e))))) first.told;
 }
 
 -- the same read, of which less is said
@@ -177,48 +196,58 @@ fails_at_once slot ahead a b P h not_over stays fails = record {
 }
 
 -- a read fails later
-pub fails_then : (slot : ℕ) (x y : Held) (a b c : DeskState) (P : List ℕ → List ℕ → Type 0) (Q R : List ℕ → Type 0) → ((bytes part behind : List ℕ) → P (bytes ++ behind) (part ++ behind) → Q part → R bytes)
+pub fails_then : (slot : ℕ) (x y : Held) (a b c : DeskState) (P : List ℕ → List ℕ → Type 0) (Q R : List ℕ → Type 0) → ((bytes part : List ℕ) → ((behind : List ℕ) → P (bytes ++ behind) (part ++ behind)) → Q part → R bytes)
     → TakesAhead slot x y a b P → FailsAhead slot y b c Q → FailsAhead slot x a c R
 fails_then slot x y a b c P Q R joins first second =
     let later : IfTold a (λ t. (second.count ≤ length (drop first.count (t.left slot))) × Q (y.bytes ++ take second.count (drop first.count (t.left slot)))) =
     told_after slot first.count (λ left. (second.count ≤ length left) × Q (y.bytes ++ take second.count left)) a b first.takes.reached.view second.told in
-    let both : IfTold a (λ t. (first.count ≤ length (t.left slot)) × P (before_end x (t.left slot)) (before_end y (drop first.count (t.left slot)))) =
-    both_told (λ t. first.count ≤ length (t.left slot)) (λ t. P (before_end x (t.left slot)) (before_end y (drop first.count (t.left slot)))) (λ t. (first.count ≤ length (t.left slot)) × P (before_end x (t.left slot)) (before_end y (drop first.count (t.left slot)))) a
-    (λ t le p. (le, p)) first.takes.were_left first.told in
+    let both : IfTold a (λ t. (first.count ≤ length (t.left slot)) × Tells slot first.count x y P t) =
+    both_told (λ t. first.count ≤ length (t.left slot)) (Tells slot first.count x y P) (λ t. (first.count ≤ length (t.left slot)) × Tells slot first.count x y P t) a (λ t le p. (le, p)) first.takes.were_left first.told in
     record {
       count = first.count + second.count;
       fails = then_fails_to_read (taken slot first.count) (taken slot second.count) (taken slot (first.count + second.count)) a b c (taken-taken slot first.count second.count) first.takes.reached second.fails;
       not_over = open_before x.over refl;
       ends = omega (arith, first.ends, second.ends);
-      told = both_told (λ t. (first.count ≤ length (t.left slot)) × P (before_end x (t.left slot)) (before_end y (drop first.count (t.left slot))))
+      told = both_told (λ t. (first.count ≤ length (t.left slot)) × Tells slot first.count x y P t)
           (λ t. (second.count ≤ length (drop first.count (t.left slot))) × Q (y.bytes ++ take second.count (drop first.count (t.left slot))))
           (λ t. (first.count + second.count ≤ length (t.left slot)) × R (x.bytes ++ take (first.count + second.count) (t.left slot))) a
-          (λ t p q. (omega (arith, p.0, q.0, length-drop first.count (t.left slot)), join first.count second.count (t.left slot) (opened first.count (t.left slot) p.1) q.1)) both later;
+          (λ t p q. (omega (arith, p.0, q.0, length-drop first.count (t.left slot)), join first.count second.count (t.left slot) p.1 q.1)) both later;
     }
   where
     open_before : (over : Bool) → x.over ≡ over → x.over ≡ false
     open_before true e = absurd (true≢false (sym (first.over e) ∙ second.not_over))
     open_before false e = e
 
-    opened : (n : ℕ) (left : List ℕ) → P (before_end x left) (before_end y (drop n left)) → P (x.bytes ++ left) (y.bytes ++ drop n left)
-    opened n left p = subst (λ (o : Bool). P (x.bytes ++ left) (y.bytes ++ beyond o (drop n left))) second.not_over (subst (λ (o : Bool). P (x.bytes ++ beyond o left) (before_end y (drop n left))) (open_before x.over refl) p)
+    join : (n m : ℕ) (left : List ℕ) → ((rest : List ℕ) → MayStand y (drop n left) rest → P (before_end x (take n left ++ rest)) (before_end y rest)) → Q (y.bytes ++ take m (drop n left)) → R (x.bytes ++ take (n + m) left)
+    join n m left p q = joins (x.bytes ++ take (n + m) left) (y.bytes ++ take m (drop n left)) stands q
+      where
+        stands : (behind : List ℕ) → P ((x.bytes ++ take (n + m) left) ++ behind) ((y.bytes ++ take m (drop n left)) ++ behind)
+        stands behind =
+            let rest : List ℕ = take m (drop n left) ++ behind in
+            let text : before_end x (take n left ++ rest) ≡ (x.bytes ++ take (n + m) left) ++ behind =
+            ap (λ (o : Bool). x.bytes ++ beyond o (take n left ++ rest)) (open_before x.over refl) ∙ (ap (λ (xs : List ℕ). x.bytes ++ xs) (take_twice n m left behind) ∙ sym (append_assoc x.bytes (take (n + m) left) behind)) in
+            let more : before_end y rest ≡ (y.bytes ++ take m (drop n left)) ++ behind =
+            ap (λ (o : Bool). y.bytes ++ beyond o rest) second.not_over ∙ sym (append_assoc y.bytes (take m (drop n left)) behind) in
+            subst (λ (xs : List ℕ). P xs ((y.bytes ++ take m (drop n left)) ++ behind)) text
+            (subst (λ (ys : List ℕ). P (before_end x (take n left ++ rest)) ys) more (p rest (λ e. absurd (true≢false (sym e ∙ second.not_over)))))
 
-    join : (n m : ℕ) (left : List ℕ) → P (x.bytes ++ left) (y.bytes ++ drop n left) → Q (y.bytes ++ take m (drop n left)) → R (x.bytes ++ take (n + m) left)
-    join n m left p q =
-        let text : x.bytes ++ left ≡ (x.bytes ++ take (n + m) left) ++ drop (n + m) left = sym (append_assoc x.bytes (take (n + m) left) (drop (n + m) left) ∙ ap (λ (xs : List ℕ). x.bytes ++ xs) (take-append-drop (n + m) left)) in
-        let rest : y.bytes ++ drop n left ≡ (y.bytes ++ take m (drop n left)) ++ drop (n + m) left = sym (append_assoc y.bytes (take m (drop n left)) (drop (n + m) left) ∙ ap (λ (xs : List ℕ). y.bytes ++ xs) (ap (λ (xs : List ℕ). take m (drop n left) ++ xs) (sym (drop-drop m n left)) ∙ take-append-drop m (drop n left))) in
-        joins (x.bytes ++ take (n + m) left) (y.bytes ++ take m (drop n left)) (drop (n + m) left) (subst (λ (xs : List ℕ). P ((x.bytes ++ take (n + m) left) ++ drop (n + m) left) xs) rest (subst (λ (xs : List ℕ). P xs (y.bytes ++ drop n left)) text p)) q
-
--- what was taken before it is not asked
-pub fails_in_line : (slot : ℕ) (ahead : Held) (a b : DeskState) (P : List ℕ → Type 0) → FailsAhead slot ahead a b P → FailsInLine slot (may_end ahead) a b
-fails_in_line slot ahead a b P h = record { count = h.count; fails = h.fails; ends = h.ends }
+-- less is said of what was taken before it
+pub fails_weaker : (slot : ℕ) (ahead : Held) (a b : DeskState) (P Q : List ℕ → Type 0) → ((bytes : List ℕ) → P bytes → Q bytes) → FailsAhead slot ahead a b P → FailsAhead slot ahead a b Q
+fails_weaker slot ahead a b P Q weaker h = record {
+  count = h.count;
+  fails = h.fails;
+  not_over = h.not_over;
+  ends = h.ends;
+  told = weaker_told a (λ t. (h.count ≤ length (t.left slot)) × P (ahead.bytes ++ take h.count (t.left slot))) (λ t. (h.count ≤ length (t.left slot)) × Q (ahead.bytes ++ take h.count (t.left slot)))
+      (λ t p. (p.0, weaker (ahead.bytes ++ take h.count (t.left slot)) p.1)) h.told;
+}
 
 -- a line's end is not there yet
 pub line_fails : (left : Remaining) (slot : ℕ) (line : List ℕ) (x y : Held) (a b c : DeskState) → InLine left line → y.bytes ≡ [] → y.over ≡ false → c.ends ≡ b.ends → TakesAhead slot x y a b (Behind line) → FailsToRead same b c → FailsAhead slot x a c (IsPart left)
 line_fails left slot line x y a b c h none not_over stays first fails =
     fails_then slot x y a b c (Behind line) (λ part. part ≡ []) (IsPart left)
-    (λ bytes part behind p q.
-    let whole : bytes ≡ line = append_cancel_right bytes line behind (p ∙ ap (λ (xs : List ℕ). line ++ (xs ++ behind)) q) in
+    (λ bytes part p q.
+    let whole : bytes ≡ line = sym (append-nil bytes) ∙ (p [] ∙ (ap (λ (xs : List ℕ). line ++ (xs ++ [])) q ∙ append-nil line)) in
     subst (IsPart left) (sym whole) (h.unbroken, ap (limit_in left) (sym (append-nil line)) ∙ h.limit [])) first
     (fails_at_once slot y b c (λ part. part ≡ []) none not_over stays fails)
 

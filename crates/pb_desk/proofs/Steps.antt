@@ -1,11 +1,10 @@
 -- One call after another.
-use Rattle.std.proofs.Common.{◌≡◌, ◌≤◌, ℕ, ◌+◌, ◌-◌, length, List, ◌++◌, take, drop, refl, sym, subst, ap, ◌∙◌, arith, inl, inr}
+use Rattle.std.proofs.Common.{◌≡◌, ℕ, ◌+◌, ◌-◌, length, List, ◌++◌, take, drop, refl, sym, ap, ◌∙◌}
 use Rattle.std.proofs.Math.Seq.{take-add, take-length}
 use Rattle.std.proofs.lemmas.List.{length-drop}
 use Rattle.std.specs.Prelude.{Result, OnErr}
 use Rattle.std.specs.declared.result.Result.TheVariants.{Ok, Err}
-use Rattle.pb_base.specs.FaultCounts.{Rose}
-use Rattle.pb_base.proofs.FaultCounts.{rose_later, rose_from}
+use Rattle.pb_base.proofs.FaultCounts.{rose_later}
 use Rattle.pb_desk.specs.View.{View}
 use Rattle.pb_desk.specs.Desk.{DeskState, Reads, Reaches, FailsToWrite, FailsToRead}
 

@@ -26,3 +26,10 @@ limit_of_piece text is_last line count is_ended =
     else (if nat_lt line count && nat_lt line text then Some Line
     else (if nat_lt text count || (is_ended && text == count) then Some Text
     else None)))
+
+-- what a line may pass: the bytes or lines of a text, or the bytes of a line
+abbrev pub IsLengthLimit : LimitKind → Type 0
+IsLengthLimit Text = Unit {0}
+IsLengthLimit Lines = Unit {0}
+IsLengthLimit Line = Unit {0}
+IsLengthLimit other = ⊥

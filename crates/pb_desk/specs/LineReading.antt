@@ -32,21 +32,21 @@ before_end held left = held.bytes ++ beyond held.over left
 abbrev pub may_end : Held → ℕ
 may_end held = if held.over then 0 else 1
 
--- So many bytes of the slot were taken, and its end was met once at most. What stood before the end of the text, and what stands there now
+-- where a slot has these bytes left, others could be: any, where its end was not met
+abbrev pub MayStand : Held → List ℕ → List ℕ → Type 0
+MayStand held left other = held.over ≡ true → other ≡ left
+
+-- So many bytes of the slot were taken, and its end was met once at most. What stood before the end of the text, and what stands there now; the same is so
+-- of whatever else could stand behind the bytes that were taken, where the end was not met.
 pub record TakesAhead (slot : ℕ) (ahead ahead' : Held) (before after : DeskState) (P : List ℕ → List ℕ → Type 0) : Type 0 where
   pub count : ℕ
   pub takes : Advances slot count before after
   pub over : ahead.over ≡ true → ahead'.over ≡ true
   pub ends : after.ends + may_end ahead' ≤ before.ends + may_end ahead
-  pub told : IfTold before (λ t. P (before_end ahead (t.left slot)) (before_end ahead' (drop count (t.left slot))))
+  pub told : IfTold before (λ t. (rest : List ℕ) → MayStand ahead' (drop count (t.left slot)) rest → P (before_end ahead (take count (t.left slot) ++ rest)) (before_end ahead' rest))
 
--- a read failed, after so many bytes of the slot, and after so many reads at most that gave none
-pub record FailsInLine (slot most : ℕ) (before after : DeskState) : Type 0 where
-  pub count : ℕ
-  pub fails : FailsToRead (taken slot count) before after
-  pub ends : after.ends ≤ before.ends + most
-
--- The same of a slot whose end was not met, and of the bytes that stood ahead or were taken before it this is so.
+-- A read failed, after so many bytes of the slot, whose end was not met, and after one read at most that gave none. Of the bytes that stood ahead or were
+-- taken before it this is so.
 pub record FailsAhead (slot : ℕ) (ahead : Held) (before after : DeskState) (P : List ℕ → Type 0) : Type 0 where
   pub count : ℕ
   pub fails : FailsToRead (taken slot count) before after

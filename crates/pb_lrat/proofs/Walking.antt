@@ -88,7 +88,7 @@ line_stopped f s t old mid new a b c line number slot is at due first more = by_
 pub row_missed : (fault : LineFault) (s t : LratState) (old mid new : Reader) (a b c : DeskState) → mid.slot ≡ old.slot → TakesAhead old.slot old.ahead mid.ahead a b (EndsSame s old t mid) → TakesAhead old.slot old.ahead mid.ahead a b (Passes (AllTaken s) (AllTaken t)) → StopsRow (fault_of_line fault) mid new b c
     → StopsLines (of_line fault) s old new a c
 row_missed line_fault.Failed s t old mid new a b c slot first passes stops =
-    fails_then old.slot old.ahead mid.ahead a b c (Passes (AllTaken s) (AllTaken t)) (IsPart (left_for mid)) (TakesEnded s) (λ bytes part behind p q. passes_part (AllTaken s) (AllTaken t) bytes part behind q.0 refl p) passes
+    fails_then old.slot old.ahead mid.ahead a b c (Passes (AllTaken s) (AllTaken t)) (IsPart (left_for mid)) (TakesEnded s) (λ bytes part p q. passes_part (AllTaken s) (AllTaken t) bytes part [] q.0 refl (p [])) passes
     (subst (λ (n : ℕ). FailsAhead n mid.ahead b c (IsPart (left_for mid))) slot stops)
 row_missed line_fault.NoMemory s t old mid new a b c slot first passes stops =
     reads_on old mid new a b c (EndsSame s old t mid) (λ text rest. Unit {0}) (λ text rest. Unit {0}) slot (λ text middle rest p q. tt) first stops

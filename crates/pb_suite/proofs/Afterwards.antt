@@ -84,6 +84,7 @@ module _ (o : CommandSpec) {most : ℕ} (a b d : DeskState) (goes : Goes (length
     opens = λ slot le. implements.opens slot le ∙ goes.reading slot le;
     ends = omega (arith, implements.ends, goes.ends);
     counts = counts_after answer implements.counts;
+    unsettled = implements.unsettled;
     causes = λ steady.
         let causes = implements.causes (goes.adds.steady ∙ steady) in
         record { reads = λ e. lacks_text_was (causes.reads e); writes = λ e. lacks_space_was (causes.writes e) };

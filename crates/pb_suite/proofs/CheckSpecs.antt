@@ -1,27 +1,29 @@
 -- How going through a CNF and a derivation side by side ends a command that is to do so.
-use Rattle.std.proofs.Common.{◌≡◌, ◌≢◌, List, [], ◌∷◌, ℕ, Option, Some, None, Ok, Err, inl, inr, refl, sym, subst, ◌≤◌, ◌<◌, length, arith, ◌+◌}
-use Rattle.std.specs.Prelude.{◌⊎◌, Contains, IfSome, IsSome}
+use Rattle.std.proofs.Common.{◌≡◌, ◌≢◌, List, [], ◌∷◌, ℕ, Option, Some, None, Ok, Err, inl, inr, refl, sym, subst, ◌≤◌, ◌<◌, length, arith, ◌+◌, ◌∙◌, ap, drop, false, take}
+use Rattle.std.specs.Prelude.{◌⊎◌, Contains, IfSome, IsSome, IsTrue}
+use Rattle.std.specs.Option.{unwrap_or}
+use Rattle.pb_base.specs.declared.expected.Expected.TheVariants.{PLine}
 use Rattle.pb_base.specs.declared.file.File.{File}
 use Rattle.pb_base.specs.declared.file.File.TheVariants.{Opb, Cnf, Proof}
 use Rattle.pb_base.specs.declared.problem.Problem.{Problem}
 use Rattle.pb_base.proofs.Members.{Contains-here, Contains-there}
-use Rattle.pb_desk.specs.View.{Told, opened}
+use Rattle.pb_desk.specs.View.{Told, View, opened, put}
 use Rattle.pb_desk.specs.Desk.{DeskState, IfTold, IsSteady, Reaches, same}
 use Rattle.pb_steps.specs.declared.denied.Denied.{Denied}
 use Rattle.pb_check.specs.declared.verdict.CheckFault.{CheckFault}
 use Rattle.pb_check.specs.declared.verdict.CheckFault.TheVariants as fault
 use Rattle.pb_check.specs.declared.verdict.Verdict.TheVariants.{Accepted, Rejected}
-use Rattle.pb_check.specs.Outcomes.{NamesText, StopsCheck as StopsChecking}
+use Rattle.pb_check.specs.Outcomes.{LeavesOpen, NamesText, StopsCheck as StopsChecking}
 use Rattle.pb_check.specs.Turns.{Answer}
-use Rattle.pb_desk.specs.TwoSlots.{both_taken, TakesBoth}
+use Rattle.pb_desk.specs.TwoSlots.{both_taken, FailsBoth, TakesBoth}
 use Rattle.pb_check.specs.Walk.{Walk}
 use Rattle.pb_words.specs.CheckWords.{CheckWords}
 use Rattle.pb_suite.specs.declared.outcome.Outcome.{Outcome}
 use Rattle.pb_suite.specs.declared.outcome.Outcome.TheVariants as outcome
-use Rattle.pb_suite.specs.Implementing.{ImplementsWithin}
+use Rattle.pb_suite.specs.Implementing.{ImplementsWithin, KeepsReading}
 use Rattle.pb_suite.specs.Outputs.{nothing, only_words}
-use Rattle.pb_suite.specs.CommandSpec.{HasKind, CommandSpec, Shelf, Text}
-use Rattle.pb_suite.specs.CheckSpec.{accepted_line, check_spec, IsJudged, StopsCheck}
+use Rattle.pb_suite.specs.CommandSpec.{HasKind, CommandSpec, Shelf, Text, taken_in}
+use Rattle.pb_suite.specs.CheckSpec.{accepted_line, check_spec, IsJudged, IsUnjudged, StopsCheck}
 use Rattle.pb_suite.specs.CheckSpec.StopsCheck.{token, limit, denial, lacking}
 use Rattle.pb_suite.specs.Denoted.{IsDenoted}
 use Rattle.pb_suite.specs.inner.Opening.{opened_both, HasBoth, StopsOpening}
@@ -29,10 +31,26 @@ use Rattle.pb_suite.specs.inner.Opening.StopsOpening.{no_cnf, no_proof}
 use Rattle.pb_suite.specs.inner.Runs.{check_refusal}
 use Rattle.pb_suite.specs.inner.Saying.{EndsSaying}
 use Rattle.pb_suite.proofs.Afterwards.{implements_after}
-use Rattle.pb_suite.proofs.Endings.{bare_memory, is_refused, is_unread, within_more}
-use Rattle.pb_suite.proofs.Going.{by_both_opened, by_both_taken, by_opened, by_same, goes_by, goes_reading, shelf_is_if, Goes}
+use Rattle.pb_suite.proofs.Endings.{always, bare_memory, is_refused, is_unread, within_more, IsOpenIn}
+use Rattle.pb_suite.proofs.Going.{by_both_opened, by_both_taken, by_opened, by_same, goes_by, goes_reading, keeps_by, shelf_is_if, shelf_stays, Goes}
 use Rattle.pb_suite.proofs.Says.{saying_implements}
-use Rattle.pb_suite.proofs.Texts.{told_more, told_none_of}
+use Rattle.pb_suite.proofs.Takings.{taken-closed, taken-drop, taken-opened}
+use Rattle.pb_suite.proofs.Texts.{both_told, told_more, told_none_of}
+
+-- an empty CNF and an empty line are refused in different places, so that nothing is settled before a byte was taken
+abbrev no_p_line : ℕ → Answer
+no_p_line line = Err (fault.Refused Cnf (record { line = line; column = 1 }) PLine)
+
+abbrev line_in : Answer → ℕ
+line_in (Err (fault.Refused file place e)) = place.line
+line_in other = 0
+
+nothing_judged : (p : Problem) → LeavesOpen p [] []
+nothing_judged p answer settled =
+    let one : answer ≡ no_p_line 1 = settled [] [] in
+    let two : answer ≡ no_p_line 2 = settled (10 ∷ []) [] in
+    let lines : 1 ≡ 2 = ap line_in (sym one ∙ two) in
+    omega (arith, lines)
 
 module _ (w : CheckWords) where
   abbrev first_text : Text
@@ -62,10 +80,34 @@ module _ (w : CheckWords) where
   pub check_checks : Checks (check_spec w)
   check_checks = record { three = omega arith; has_cnf = has_cnf_text; has_proof = has_proof_text; cnf_kind = inr (inl refl); proof_kind = inr (inr (inl refl)); stops = λ shelf answer stops. stops }
 
+  -- the two texts as a desk tells what was taken of them
+  abbrev pub UnjudgedIn : View → Told → Type 0
+  UnjudgedIn v t = IsUnjudged t.shelf w (taken_in v t 1 w.cnf) (taken_in v t 2 w.proof)
+
+  -- neither text was opened
+  pub unbegun_all : (b : DeskState) → b.view.reading 1 ≡ false → b.view.reading 2 ≡ false → IfTold b (UnjudgedIn b.view)
+  unbegun_all b one two = always b (UnjudgedIn b.view) (λ t. inl (taken-closed b.view t 1 w.cnf one, taken-closed b.view t 2 w.proof two))
+
+  -- the first alone was
+  unbegun_second : (p : Problem) (a b : DeskState) → b.view ≡ opened 1 w.cnf a.view → a.view.reading 2 ≡ false → IfTold b (λ t. IsDenoted t.shelf w.opb w.bound p) → IfTold b (UnjudgedIn b.view)
+  unbegun_second p a b is two denoted =
+      both_told b (λ t. IsDenoted t.shelf w.opb w.bound p) (λ t. taken_in b.view t 1 w.cnf ≡ Some []) (UnjudgedIn b.view) (λ t has none. at t has none (taken-closed b.view t 2 w.proof (ap (λ (v : View). v.reading 2) is ∙ two))) denoted (taken-opened w.cnf a b is)
+    where
+      at : (t : Told) → IsDenoted t.shelf w.opb w.bound p → taken_in b.view t 1 w.cnf ≡ Some [] → taken_in b.view t 2 w.proof ≡ None → UnjudgedIn b.view t
+      at t has one other =
+          inr (p, has, subst (λ (x : Option (List ℕ)). LeavesOpen p (unwrap_or x []) (unwrap_or (taken_in b.view t 2 w.proof) [])) (sym one) (subst (λ (x : Option (List ℕ)). LeavesOpen p [] (unwrap_or x [])) (sym other) (nothing_judged p)))
+
+  -- what is open for the check is so for a command that checks first, where no other slot was opened
+  abbrev pub OpenBy : CommandSpec → DeskState → DeskState → Type 0
+  OpenBy o a b = KeepsReading 3 a b → IfTold b (UnjudgedIn b.view) → IsOpenIn o b
+
   -- one of both files was not opened
-  pub unopened_implements : (o : CommandSpec) → Checks o → (p : Problem) (a b : DeskState) → IfTold a (λ t. IsDenoted t.shelf w.opb w.bound p) → StopsOpening w.cnf w.proof a b → ImplementsWithin o 0 a b outcome.ReadFault
-  unopened_implements o checks p a b denoted (no_cnf fails ends lacks) = is_unread o a b same (by_same (length o.texts)) fails (omega (arith, ends)) (λ steady. (cnf_text, checks.has_cnf, lacks steady, told_none_of a (λ shelf. shelf w.cnf) (λ shelf. o.stops shelf outcome.ReadFault) (λ shelf. IsDenoted shelf w.opb w.bound p) (λ shelf is none. checks.stops shelf _ (lacking p is (inl none))) denoted (lacks steady)))
-  unopened_implements o checks p a b denoted (no_proof fails ends lacks) = is_unread o a b (opened 1 w.cnf) (by_opened (length o.texts) 1 w.cnf (omega (arith, checks.three))) fails (omega (arith, ends)) (λ steady. (proof_text, checks.has_proof, lacks steady, told_none_of a (λ shelf. shelf w.proof) (λ shelf. o.stops shelf outcome.ReadFault) (λ shelf. IsDenoted shelf w.opb w.bound p) (λ shelf is none. checks.stops shelf _ (lacking p is (inr none))) denoted (lacks steady)))
+  pub unopened_implements : (o : CommandSpec) → Checks o → (p : Problem) (a b : DeskState) → a.view.reading 1 ≡ false → a.view.reading 2 ≡ false → OpenBy o a b
+      → IfTold a (λ t. IsDenoted t.shelf w.opb w.bound p) → StopsOpening w.cnf w.proof a b → ImplementsWithin o 0 a b outcome.ReadFault
+  unopened_implements o checks p a b one two unjudged denoted (no_cnf fails ends lacks) = is_unread o a b same (by_same (length o.texts)) fails (omega (arith, ends)) (λ steady. (cnf_text, checks.has_cnf, lacks steady, told_none_of a (λ shelf. shelf w.cnf) (λ shelf. o.stops shelf outcome.ReadFault) (λ shelf. IsDenoted shelf w.opb w.bound p) (λ shelf is none. checks.stops shelf _ (lacking p is (inl none))) denoted (lacks steady)))
+      (unjudged (keeps_by 3 same a b (by_same 3) fails.view) (unbegun_all b (ap (λ (v : View). v.reading 1) fails.view ∙ one) (ap (λ (v : View). v.reading 2) fails.view ∙ two)))
+  unopened_implements o checks p a b one two unjudged denoted (no_proof fails ends lacks) = is_unread o a b (opened 1 w.cnf) (by_opened (length o.texts) 1 w.cnf (omega (arith, checks.three))) fails (omega (arith, ends)) (λ steady. (proof_text, checks.has_proof, lacks steady, told_none_of a (λ shelf. shelf w.proof) (λ shelf. o.stops shelf outcome.ReadFault) (λ shelf. IsDenoted shelf w.opb w.bound p) (λ shelf is none. checks.stops shelf _ (lacking p is (inr none))) denoted (lacks steady)))
+      (unjudged (keeps_by 3 (opened 1 w.cnf) a b (by_opened 3 1 w.cnf (omega arith)) fails.view) (unbegun_second p a b fails.view two (shelf_stays (opened 1 w.cnf) a b (by_opened 3 1 w.cnf (omega arith)) fails (λ shelf. IsDenoted shelf w.opb w.bound p) denoted)))
 
 module _ (w : CheckWords) (p : Problem) (d e : DeskState) (denoted : IfTold d (λ t. IsDenoted t.shelf w.opb w.bound p)) (both : IfTold d (HasBoth w.cnf w.proof)) where
   abbrev pub JudgedSo : Answer → Type 0
@@ -93,17 +135,33 @@ module _ (w : CheckWords) (p : Problem) (d e : DeskState) (denoted : IfTold d (�
   has_kind o checks file (inl cnf) = subst (λ (f : File). HasKind f o.texts) (sym cnf) checks.cnf_kind
   has_kind o checks file (inr proof) = subst (λ (f : File). HasKind f o.texts) (sym proof) checks.proof_kind
 
+  -- a read failed, before which the answer was open
+  unjudged_so : IsTrue (d.view.reading 1) → IsTrue (d.view.reading 2) → FailsBoth 1 2 2 (LeavesOpen p) d e → IfTold e (UnjudgedIn w e.view)
+  unjudged_so one two fails = subst (λ (v : View). IfSome v.told (UnjudgedIn w v)) (sym fails.fails.view) (by_cases d.view.told denoted both fails.told)
+    where
+      after : Option Told → View
+      after told = both_taken 1 2 fails.of_one fails.of_two (record d.view { told = told })
+
+      by_cases : (told : Option Told) → IfSome told (λ t. IsDenoted t.shelf w.opb w.bound p) → IfSome told (HasBoth w.cnf w.proof) → IfSome told (λ t. LeavesOpen p (take fails.of_one (t.left 1)) (take fails.of_two (t.left 2))) → IfSome (after told).told (UnjudgedIn w (after told))
+      by_cases None denoted both leaves = tt
+      by_cases (Some t) denoted both leaves =
+          let u : Told = record t { left = put (put t.left 1 (drop fails.of_one (t.left 1))) 2 (drop fails.of_two (t.left 2)) } in
+          let cnf = taken-drop (after (Some t)) u 1 w.cnf (t.left 1) fails.of_one one both.has_cnf refl in
+          let proof = taken-drop (after (Some t)) u 2 w.proof (t.left 2) fails.of_two two both.has_proof refl in
+          inr (p, denoted, subst (λ (x : Option (List ℕ)). LeavesOpen p (unwrap_or x []) (unwrap_or (taken_in (after (Some t)) u 2 w.proof) [])) (sym cnf) (subst (λ (x : Option (List ℕ)). LeavesOpen p (take fails.of_one (t.left 1)) (unwrap_or x [])) (sym proof) leaves))
+
   -- a text's fault, a read that failed, or want of memory
-  pub stopped_implements : (o : CommandSpec) → Checks w o → (f : CheckFault) → StopsChecking p 1 2 d e f → NamesText f → (IsSteady d → f ≢ fault.ReadFault) → ImplementsWithin o 2 d e (check_refusal f)
-  stopped_implements o checks (fault.Refused file place expected) stops names steady =
+  pub stopped_implements : (o : CommandSpec) → Checks w o → IsTrue (d.view.reading 1) → IsTrue (d.view.reading 2) → OpenBy w o d e → (f : CheckFault) → StopsChecking p 1 2 d e f → NamesText f → (IsSteady d → f ≢ fault.ReadFault) → ImplementsWithin o 2 d e (check_refusal f)
+  stopped_implements o checks one two unjudged (fault.Refused file place expected) stops names steady =
       is_refused o d e _ (goes_both (length o.texts) _ stops) (has_kind o checks file names)
       (told_more d _ _ (λ t judged. checks.stops t.shelf _ (token file place expected judged)) (judged_so (Err (fault.Refused file place expected)) stops))
-  stopped_implements o checks (fault.Limit file place which) stops names steady =
+  stopped_implements o checks one two unjudged (fault.Limit file place which) stops names steady =
       is_refused o d e _ (goes_both (length o.texts) _ stops) (has_kind o checks file names)
       (told_more d _ _ (λ t judged. checks.stops t.shelf _ (limit file place which judged)) (judged_so (Err (fault.Limit file place which)) stops))
-  stopped_implements o checks fault.ReadFault stops names steady =
+  stopped_implements o checks one two unjudged fault.ReadFault stops names steady =
       is_unread o d e (both_taken 1 2 stops.of_one stops.of_two) (by_both_taken (length o.texts) 1 2 stops.of_one stops.of_two) stops.fails stops.ends (λ is. absurd (steady is refl))
-  stopped_implements o checks fault.NoMemory stops names steady = bare_memory o d e (goes_both (length o.texts) _ stops)
+      (unjudged (keeps_by 3 (both_taken 1 2 stops.of_one stops.of_two) d e (by_both_taken 3 1 2 stops.of_one stops.of_two) stops.fails.view) (unjudged_so one two stops))
+  stopped_implements o checks one two unjudged fault.NoMemory stops names steady = bare_memory o d e (goes_both (length o.texts) _ stops)
 
   -- a step that is not allowed
   pub rejected_implements : (o : CommandSpec) → Checks w o → (line : ℕ) (denied : Denied) → TakesBoth 1 2 (λ c q. Walk p c q (Ok (Rejected line denied))) d e → ImplementsWithin o 2 d e (outcome.Rejected line denied)

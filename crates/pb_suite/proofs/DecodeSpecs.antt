@@ -1,12 +1,11 @@
 -- How what a solver said of a problem ends a command that is to decode it.
-use Rattle.std.proofs.Common.{◌≡◌, ◌<◌, ◌^◌, ℕ, Bool, true, cond, List, [], ◌∷◌, Option, Some, None, Result, Ok, Err, ap, inl, inr, length, refl, arith}
-use Rattle.std.specs.Prelude.{Contains, IfSome, IsNone, nat_lt}
+use Rattle.std.proofs.Common.{◌≡◌, ◌<◌, ◌^◌, ℕ, Bool, true, cond, List, [], ◌∷◌, Some, None, Result, Ok, Err, ap, inl, inr, length, refl, arith}
+use Rattle.std.specs.Prelude.{Contains, IsNone, nat_lt}
 use Rattle.std.proofs.lemmas.Bool.Decides.{nat_tests}
 use Rattle.pb_base.specs.declared.file.File.TheVariants.{Opb, Model as ModelText}
 use Rattle.pb_base.specs.declared.limit.LimitKind.TheVariants as limit
 use Rattle.pb_base.specs.declared.problem.Problem.{Problem}
 use Rattle.pb_base.proofs.Members.{Contains-here, Contains-there}
-use Rattle.pb_desk.specs.View.{Told}
 use Rattle.pb_desk.specs.Desk.{DeskState, IfTold, IsSteady, IsTold}
 use Rattle.pb_model.specs.declared.decoding.Decoded.{Decoded}
 use Rattle.pb_model.specs.declared.decoding.Decoded.TheVariants as decoded
@@ -22,7 +21,7 @@ use Rattle.pb_suite.specs.declared.outcome.Outcome.{Outcome}
 use Rattle.pb_suite.specs.declared.outcome.Outcome.TheVariants as outcome
 use Rattle.pb_suite.specs.Implementing.{ImplementsWithin}
 use Rattle.pb_suite.specs.Outputs.{nothing, only_words}
-use Rattle.pb_suite.specs.CommandSpec.{Text}
+use Rattle.pb_suite.specs.CommandSpec.{Text, taken_in}
 use Rattle.pb_suite.specs.DecodeSpec.{decode_spec, ComesTo, IsAnswered, StopsDecode}
 use Rattle.pb_suite.specs.DecodeSpec.StopsDecode.{bad_model, no_model, violated, lacking}
 use Rattle.pb_suite.specs.Denoted.{IsDenoted}
@@ -31,15 +30,7 @@ use Rattle.pb_suite.specs.inner.Runs.{HasText, StopsReading}
 use Rattle.pb_suite.proofs.Endings.{is_refused}
 use Rattle.pb_suite.proofs.Going.{shelf_is_if, Goes}
 use Rattle.pb_suite.proofs.Refused.{reading_ends}
-use Rattle.pb_suite.proofs.Texts.{told_more, told_none_of}
-
--- what follows from two things that are told
-both_told : (a : DeskState) (P Q R : Told → Type 0) → ((t : Told) → P t → Q t → R t) → IfTold a P → IfTold a Q → IfTold a R
-both_told a P Q R gives p q = by_cases a.view.told p q
-  where
-    by_cases : (o : Option Told) → IfSome o P → IfSome o Q → IfSome o R
-    by_cases None p q = tt
-    by_cases (Some t) p q = gives t p q
+use Rattle.pb_suite.proofs.Texts.{both_told, told_more, told_none_of}
 
 module _ (w : DecodeWords) (p : Problem) where
   abbrev first_text : Text
@@ -86,7 +77,7 @@ module _ (w : DecodeWords) (p : Problem) where
       reading_ends (decode_spec w) 1 model_text (omega arith) has_model_text (inr (inl refl)) (RefusesModel p.vars) b d (told_none_of b (λ shelf. shelf w.model) (λ shelf. StopsDecode shelf w outcome.ReadFault) (λ shelf. IsDenoted shelf w.opb w.bound p) (λ shelf is none. lacking p is none) denoted)
       (λ answer found. both_told b (λ t. IsDenoted t.shelf w.opb w.bound p) (λ t. (text : List ℕ) × (t.shelf w.model ≡ Some text) × RefusesModel p.vars text answer) (λ t. StopsDecode t.shelf w answer)
       (λ t is refused. bad_model p refused.0 answer is refused.1 refused.2) denoted found)
-      answer stops lacks
+      answer stops lacks (λ e keeps shelf. told_more d (λ t. IsDenoted t.shelf w.opb w.bound p) (λ t. (decode_spec w).leaves_open t.shelf (taken_in d.view t)) (λ t is. inr (p, is)) (shelf (λ s. IsDenoted s w.opb w.bound p) denoted))
 
 -- what is told of a text that is too long
 pub too_long : (vars : ℕ) (text : List ℕ) → 2 ^ 32 < length text → told vars text ≡ Err (model.Limit None limit.Text)

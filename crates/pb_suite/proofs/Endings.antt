@@ -9,7 +9,7 @@ use Rattle.pb_suite.specs.Implementing.{Counts, HasCauses, IsQuiet, IsRefusal, K
 use Rattle.pb_suite.specs.Implementing.Answers.{done, refused, read_fault, write_fault, no_memory}
 use Rattle.pb_suite.specs.Implementing.WritesHeld.{cut_off, well}
 use Rattle.pb_suite.specs.Outputs.{nothing, Output}
-use Rattle.pb_suite.specs.CommandSpec.{LacksSpace, LacksText, MayStand, CommandSpec, Text}
+use Rattle.pb_suite.specs.CommandSpec.{LacksSpace, LacksText, MayStand, CommandSpec, Text, taken_in}
 use Rattle.pb_suite.proofs.Going.{adds_by, AddsBy, Goes}
 
 pub always : (a : DeskState) (P : Told → Type 0) → ((t : Told) → P t) → IfTold a P
@@ -18,6 +18,10 @@ always a P holds = by_cases a.view.told
     by_cases : (o : Option Told) → IfSome o P
     by_cases None = tt
     by_cases (Some t) = holds t
+
+-- where the desk tells, what was taken leaves the answer open
+abbrev pub IsOpenIn : CommandSpec → DeskState → Type 0
+IsOpenIn o b = IfTold b (λ t. o.leaves_open t.shelf (taken_in b.view t))
 
 pub refusal_no_read : (texts : List Text) (answer : Outcome) → IsRefusal texts answer → answer ≢ outcome.ReadFault
 refusal_no_read texts answer is e = subst (IsRefusal texts) e is
@@ -61,26 +65,27 @@ module _ (o : CommandSpec) (a b : DeskState) where
   no_causes answer no_read no_write = record { reads = λ e. absurd (no_read e); writes = λ e. absurd (no_write e) }
 
   pub all_done : {most : ℕ} (out : Output) → Goes (length o.texts) most out a b → KeepsSlots a b → IfTold a (λ t. o.done t.shelf out) → ImplementsWithin o most a b outcome.Done
-  all_done out goes keeps due = record { answers = done out due goes.adds keeps; opens = goes.reading; ends = goes.ends; counts = quiet_of out goes; causes = λ steady. no_causes outcome.Done (λ e. cc) (λ e. cc) }
+  all_done out goes keeps due = record { answers = done out due goes.adds keeps; opens = goes.reading; ends = goes.ends; counts = quiet_of out goes; unsettled = λ e. cc; causes = λ steady. no_causes outcome.Done (λ e. cc) (λ e. cc) }
 
   pub is_refused : {most : ℕ} (answer : Outcome) → Goes (length o.texts) most nothing a b → IsRefusal o.texts answer → IfTold a (λ t. o.stops t.shelf answer) → ImplementsWithin o most a b answer
   is_refused answer goes is due =
       let no_read = refusal_no_read o.texts answer is in
       let no_write = refusal_no_write o.texts answer is in
-      record { answers = refused answer is due goes.adds; opens = goes.reading; ends = goes.ends; counts = counts_quiet a b answer no_read no_write (quiet_of nothing goes); causes = λ steady. no_causes answer no_read no_write }
+      record { answers = refused answer is due goes.adds; opens = goes.reading; ends = goes.ends; counts = counts_quiet a b answer no_read no_write (quiet_of nothing goes); unsettled = λ e. absurd (no_read e); causes = λ steady. no_causes answer no_read no_write }
 
   pub wants_memory : {most : ℕ} (out : Output) → Goes (length o.texts) most out a b → IfTold a (λ t. MayStand o t.shelf out) → ImplementsWithin o most a b outcome.NoMemory
-  wants_memory out goes part = record { answers = no_memory out part goes.adds (well goes.writes); opens = goes.reading; ends = goes.ends; counts = counts_quiet a b outcome.NoMemory (λ e. cc) (λ e. cc) (quiet_of out goes); causes = λ steady. no_causes outcome.NoMemory (λ e. cc) (λ e. cc) }
+  wants_memory out goes part = record { answers = no_memory out part goes.adds (well goes.writes); opens = goes.reading; ends = goes.ends; counts = counts_quiet a b outcome.NoMemory (λ e. cc) (λ e. cc) (quiet_of out goes); unsettled = λ e. cc; causes = λ steady. no_causes outcome.NoMemory (λ e. cc) (λ e. cc) }
 
   pub bare_memory : {most : ℕ} → Goes (length o.texts) most nothing a b → ImplementsWithin o most a b outcome.NoMemory
   bare_memory goes = wants_memory nothing goes (always a (λ t. MayStand o t.shelf nothing) (λ t. inl refl))
 
-  pub is_unread : {most : ℕ} (f : View → View) → AddsBy (length o.texts) nothing f → FailsToRead f a b → b.ends ≤ a.ends + most → (IsSteady a → LacksText o a) → ImplementsWithin o most a b outcome.ReadFault
-  is_unread f by fails ends lacks = record {
+  pub is_unread : {most : ℕ} (f : View → View) → AddsBy (length o.texts) nothing f → FailsToRead f a b → b.ends ≤ a.ends + most → (IsSteady a → LacksText o a) → IsOpenIn o b → ImplementsWithin o most a b outcome.ReadFault
+  is_unread f by fails ends lacks unsettled = record {
     ends = ends;
     answers = read_fault (adds_by nothing f a b by fails.view);
     opens = λ slot le. ap (λ (v : View). v.reading slot) fails.view ∙ by.reading a.view slot le;
     counts = (fails.reads, fails.writes);
+    unsettled = λ e. unsettled;
     causes = λ steady. record { reads = λ e. lacks steady; writes = λ e. let no : ⊥ = cc in absurd no };
   }
 
@@ -90,6 +95,7 @@ module _ (o : CommandSpec) (a b : DeskState) where
     answers = write_fault out part (adds_by out f a b by fails.view);
     opens = λ slot le. ap (λ (v : View). v.reading slot) fails.view ∙ by.reading a.view slot le;
     counts = (fails.reads, fails.writes);
+    unsettled = λ e. cc;
     causes = λ steady. record { reads = λ e. let no : ⊥ = cc in absurd no; writes = λ e. lacks steady };
   }
 
@@ -100,9 +106,10 @@ module _ (o : CommandSpec) (a b : DeskState) where
     answers = no_memory out part (adds_by out f a b by fails.view) (cut_off some lacks);
     opens = λ slot le. ap (λ (v : View). v.reading slot) fails.view ∙ by.reading a.view slot le;
     counts = (fails.reads, inr fails.writes);
+    unsettled = λ e. cc;
     causes = λ steady. no_causes outcome.NoMemory (λ e. cc) (λ e. cc);
   }
 
   -- what met so few ends met no more
   pub within_more : (few most : ℕ) (answer : Outcome) → few ≤ most → ImplementsWithin o few a b answer → ImplementsWithin o most a b answer
-  within_more few most answer le implements = record { answers = implements.answers; opens = implements.opens; ends = omega (arith, le, implements.ends); counts = implements.counts; causes = implements.causes }
+  within_more few most answer le implements = record { answers = implements.answers; opens = implements.opens; ends = omega (arith, le, implements.ends); counts = implements.counts; unsettled = implements.unsettled; causes = implements.causes }

@@ -4,7 +4,7 @@ use Rattle.std.specs.Prelude.{◌⊎◌, ◌==◌, is_some, IfSome, IsSomeAnd}
 use Rattle.std.proofs.lemmas.Bool.{eqb-true}
 use Rattle.std.proofs.lemmas.List.{append-nil}
 use Rattle.pb_desk.specs.View.{Made, Told, View, opened, put, spoke, taken}
-use Rattle.pb_desk.specs.Desk.{DeskState, HasSlot, IfTold, IsTold, Reads, Reaches, same}
+use Rattle.pb_desk.specs.Desk.{DeskState, FailsToRead, HasSlot, IfTold, IsTold, Reads, Reaches, same}
 use Rattle.pb_desk.proofs.Steps.{as_reads, begin}
 use Rattle.pb_desk.proofs.Tells.{told_by}
 use Rattle.pb_desk.specs.TwoSlots.{both_taken}
@@ -38,6 +38,10 @@ adds_by out f a b by is = record {
 
 more_of : (t u : Told) → u.shelf ≡ t.shelf → u.made ≡ t.made → u.said ≡ t.said → IsMore nothing t u
 more_of t u shelf files words = record { shelf = shelf; made = files; said = words ∙ sym (append-nil t.said) }
+
+-- the slots from a number on stay as they were
+pub keeps_by : (few : ℕ) (f : View → View) (a b : DeskState) → AddsBy few nothing f → b.view ≡ f a.view → KeepsReading few a b
+keeps_by few f a b by is slot le = ap (λ (v : View). v.reading slot) is ∙ by.reading a.view slot le
 
 pub by_same : (few : ℕ) → AddsBy few nothing same
 by_same few = record { reading = λ v slot le. refl; told = λ v t. more_of t t refl refl refl; slots = λ v slot. inr refl; room = λ v. refl; steady = λ v. refl }
@@ -152,3 +156,11 @@ adds_after out a b d goes adds = record {
 -- what holds of the shelf
 pub shelf_is_if : {few most : ℕ} (a b : DeskState) → Goes few most nothing a b → (P : Shelf → Type 0) → IfTold a (λ t. P t.shelf) → IfTold b (λ t. P t.shelf)
 shelf_is_if a b goes P holds = is_if_told (λ t. P t.shelf) (λ t. P t.shelf) a b goes (λ t u more has. subst P (sym more.shelf) has) holds
+
+-- what holds of the shelf holds of it later
+abbrev pub KeepsShelf : DeskState → DeskState → Type 1
+KeepsShelf a b = (P : Shelf → Type 0) → IfTold a (λ t. P t.shelf) → IfTold b (λ t. P t.shelf)
+
+-- so it is behind a read that failed
+pub shelf_stays : {few : ℕ} (f : View → View) (a b : DeskState) → AddsBy few nothing f → FailsToRead f a b → KeepsShelf a b
+shelf_stays f a b by fails P holds = is_if (λ t. P t.shelf) (λ t. P t.shelf) a.view.told b.view.told fails.tells (adds_by nothing f a b by fails.view).told (λ t u more has. subst P (sym more.shelf) has) holds

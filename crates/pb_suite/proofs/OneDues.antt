@@ -12,7 +12,7 @@ use Rattle.pb_check.specs.Walk.{Walk}
 use Rattle.pb_check.specs.declared.verdict.CheckFault.TheVariants as fault
 use Rattle.pb_check.specs.declared.verdict.Verdict.TheVariants.{Accepted, Rejected}
 use Rattle.pb_base.specs.Defaults.{default_options}
-use Rattle.pb_dimacs.specs.CnfWhole.{CnfTold, told_of}
+use Rattle.pb_dimacs.specs.CnfWhole.{told_of}
 use Rattle.pb_dimacs.specs.CnfWhole.CnfTold.{says}
 use Rattle.pb_dimacs.specs.declared.head.CnfHead.{CnfHead}
 use Rattle.pb_desk.specs.View.{Made}

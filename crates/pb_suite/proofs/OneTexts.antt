@@ -1,6 +1,6 @@
 -- What texts say, and how they are refused, is one thing.
-use Rattle.std.proofs.Common.{◌≡◌, ◌≢◌, ◌∙◌, ◌∷◌, ◌++◌, ◌+◌, ◌<◌, ◌≤◌, ◌^◌, ℕ, ℤ, List, [], Option, Some, None, Result, Ok, Err, ap, arith, inl, inr, length, refl, subst, sym}
-use Rattle.std.specs.Prelude.{◌⊎◌, ◌↔◌, All, Contains}
+use Rattle.std.proofs.Common.{◌≡◌, ◌∙◌, ◌∷◌, ◌++◌, ◌<◌, ℕ, ℤ, List, [], Option, Some, None, ap, arith, inl, inr, length, refl, subst, sym}
+use Rattle.std.specs.Prelude.{◌⊎◌, All, Contains}
 use Rattle.std.specs.List.{AllPairs}
 use Rattle.std.proofs.lemmas.List.Elements.{All-contains, All-head, All-tail}
 use Rattle.pb_base.proofs.Members.{Contains-cons_cases, Contains-here, Contains-nil, Contains-there}
@@ -13,25 +13,22 @@ use Rattle.pb_base.specs.declared.problem.Raw.{Raw}
 use Rattle.pb_base.specs.Literals.{Assignment}
 use Rattle.pb_base.specs.Problems.{Satisfies}
 use Rattle.pb_base.specs.declared.options.Options.{Options}
-use Rattle.pb_dimacs.specs.CnfWhole.{CnfTold, told_of}
 use Rattle.pb_dimacs.specs.CnfWhole.CnfTold.{refuses as cnf_refuses}
 use Rattle.pb_dimacs.specs.declared.fault.CnfFault.TheVariants as cnf
 use Rattle.pb_encode.specs.Summaries.{IsEncodable, IsOver}
-use Rattle.pb_model.specs.declared.fault.ModelFault.TheVariants as model
 use Rattle.pb_model.specs.Decoding.{IsFirstViolated}
-use Rattle.pb_model.specs.ModelReading.{told}
 use Rattle.pb_opb.proofs.Reading.{reads-no_fault}
 use Rattle.pb_opb.proofs.Uniqueness.{one_fault}
 use Rattle.pb_opb.specs.declared.fault.OpbFault.TheVariants as opb
 use Rattle.pb_suite.specs.declared.outcome.Outcome.{Outcome}
 use Rattle.pb_suite.specs.declared.outcome.Outcome.TheVariants as outcome
 use Rattle.pb_suite.specs.CommandSpec.{Shelf}
-use Rattle.pb_suite.specs.Denoted.{IsDenoted, Denotes}
+use Rattle.pb_suite.specs.Denoted.{IsDenoted}
 use Rattle.pb_suite.specs.Refusals.{RefusesCnf, RefusesModel, RefusesOpb}
 use Rattle.pb_suite.specs.Refusals.RefusesCnf.{token as cnf_token, limit as cnf_limit}
 use Rattle.pb_suite.specs.Refusals.RefusesModel.{token as model_token, limit as model_limit}
 use Rattle.pb_suite.specs.Refusals.RefusesOpb.{token, limit, heavy}
-use Rattle.pb_suite.proofs.Decodes.{not_none, same_posed, same_some}
+use Rattle.pb_suite.proofs.Decodes.{not_none, same_some}
 use Rattle.pb_suite.proofs.DenotedProblems.{denotes_unrefused}
 
 -- ---- refusals

@@ -1,12 +1,11 @@
 -- What stands of a derivation that a command made.
-use Rattle.std.proofs.Common.{◌≡◌, ◌∙◌, ◌++◌, ◌+◌, ◌*◌, ◌≤◌, ℕ, ℤ, List, [], ◌∷◌, Option, Some, None, ap, arith, inl, inr, length, refl, subst, sym, take, ◌⊎◌}
+use Rattle.std.proofs.Common.{◌≡◌, ◌∙◌, ◌++◌, ℕ, ℤ, List, [], ◌∷◌, Option, Some, None, ap, arith, inl, inr, length, refl, subst, sym, take, ◌⊎◌}
 use Rattle.std.specs.Prelude.{IfSome, IsSomeAnd}
 use Rattle.std.proofs.lemmas.List.{append_cancel_right}
 use Rattle.std.proofs.Math.Seq.{take-length}
 use Rattle.pb_base.specs.declared.problem.Problem.{Problem}
 use Rattle.pb_desk.specs.View.{Made, Told}
 use Rattle.pb_desk.specs.Desk.{DeskState, IfTold, IsTold}
-use Rattle.pb_family.specs.StepSinks.{steps_text}
 use Rattle.pb_base.specs.declared.options.Options.{Options}
 use Rattle.pb_dimacs.proofs.Written.{written_reads}
 use Rattle.pb_encode.specs.Clauses.{problem_clauses, problem_fresh, problem_vars}

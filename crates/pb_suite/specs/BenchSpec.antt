@@ -11,7 +11,7 @@ use Rattle.pb_words.specs.BenchWords.{BenchWords}
 use Rattle.pb_suite.specs.declared.outcome.Outcome.{Outcome}
 use Rattle.pb_suite.specs.declared.outcome.Outcome.TheVariants as outcome
 use Rattle.pb_suite.specs.Outputs.{only_words, Output}
-use Rattle.pb_suite.specs.CommandSpec.{CommandSpec}
+use Rattle.pb_suite.specs.CommandSpec.{CommandSpec, reads_whole}
 use Rattle.pb_suite.specs.EncodeSpec.{due_words, encoded_output}
 
 -- no derivation
@@ -35,6 +35,7 @@ pub data StopsBench (w : BenchWords) : Outcome → Type 0 where
 abbrev pub bench_spec : BenchWords → CommandSpec
 bench_spec w = record {
   texts = [];
+  leaves_open = reads_whole;
   stops = λ shelf answer. StopsBench w answer;
   done = λ shelf out. (p : Problem) × IsBenched w p × (out ≡ bench_output w.cnf p);
 }

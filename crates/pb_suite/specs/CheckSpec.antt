@@ -1,5 +1,6 @@
 -- The specification of checking a derivation. Our own.
 use Rattle.std.specs.Prelude.{ℕ, ◌≡◌, ◌⊎◌, List, [], ◌∷◌, Option, Some, None, Ok, Err, codes}
+use Rattle.std.specs.Option.{unwrap_or}
 use Rattle.pb_base.specs.declared.expected.Expected.{Expected}
 use Rattle.pb_base.specs.declared.file.File.{File}
 use Rattle.pb_base.specs.declared.file.File.TheVariants.{Opb, Cnf, Proof}
@@ -9,6 +10,7 @@ use Rattle.pb_base.specs.declared.problem.Problem.{Problem}
 use Rattle.pb_steps.specs.declared.denied.Denied.{Denied}
 use Rattle.pb_check.specs.declared.verdict.CheckFault.TheVariants as fault
 use Rattle.pb_check.specs.declared.verdict.Verdict.TheVariants.{Accepted, Rejected}
+use Rattle.pb_check.specs.Outcomes.{LeavesOpen}
 use Rattle.pb_check.specs.Turns.{Answer}
 use Rattle.pb_check.specs.Walk.{Walk}
 use Rattle.pb_words.specs.CheckWords.{CheckWords}
@@ -38,12 +40,17 @@ pub data StopsCheck (shelf : Shelf) (w : CheckWords) : Outcome → Type 0 where
   limit : (file : File) (place : Option Place) (which : LimitKind) → IsJudged shelf w (Err (fault.Limit file place which)) → StopsCheck shelf w (outcome.Limit (Some file) which place)
   denial : (line : ℕ) (denied : Denied) → IsJudged shelf w (Ok (Rejected line denied)) → StopsCheck shelf w (outcome.Rejected line denied)
 
+-- neither the CNF nor the derivation is open yet; or there is a problem, over which what was taken of both leaves the answer open
+abbrev pub IsUnjudged : Shelf → CheckWords → Option (List ℕ) → Option (List ℕ) → Type 0
+IsUnjudged shelf w cnf proof = ((cnf ≡ None) × (proof ≡ None)) ⊎ ((p : Problem) × IsDenoted shelf w.opb w.bound p × LeavesOpen p (unwrap_or cnf []) (unwrap_or proof []))
+
 abbrev pub accepted_line : List ℕ
 accepted_line = codes "accepted\n"
 
 abbrev pub check_spec : CheckWords → CommandSpec
 check_spec w = record {
   texts = record { kind = Opb; name = w.opb } ∷ record { kind = Cnf; name = w.cnf } ∷ record { kind = Proof; name = w.proof } ∷ [];
+  leaves_open = λ shelf taken. IsUnjudged shelf w (taken 1 w.cnf) (taken 2 w.proof);
   stops = λ shelf answer. StopsCheck shelf w answer;
   done = λ shelf out. IsJudged shelf w (Ok Accepted) × (out ≡ only_words accepted_line);
 }

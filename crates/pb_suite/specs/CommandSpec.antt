@@ -1,7 +1,8 @@
 -- What specifies a command, and what may hinder it. Our own.
-use Rattle.std.specs.Prelude.{ℕ, ◌⊎◌, ◌≡◌, List, [], ◌∷◌, All, Contains, Option, IsNone, IsSome}
-use Rattle.std.specs.Option.{ForSome}
+use Rattle.std.specs.Prelude.{ℕ, ◌-◌, ◌⊎◌, ◌≡◌, if◌then◌else◌, List, [], ◌∷◌, All, Contains, take, length, Option, Some, None, IsNone, IsSome}
+use Rattle.std.specs.Option.{ForSome, unwrap_or}
 use Rattle.pb_base.specs.declared.file.File.{File}
+use Rattle.pb_desk.specs.View.{Told, View}
 use Rattle.pb_desk.specs.Desk.{DeskState, IsTold}
 use Rattle.pb_suite.specs.declared.outcome.Outcome.{Outcome}
 use Rattle.pb_suite.specs.declared.outcome.Outcome.TheVariants.{ReadFault}
@@ -20,11 +21,28 @@ abbrev pub HasKind : File → List Text → Type 0
 HasKind kind [] = ⊥
 HasKind kind (text ∷ texts) = (text.kind ≡ kind) ⊎ HasKind kind texts
 
--- The texts that are read; with which outcomes the command stops, so that nothing is made or said; and what is made and said where all is done.
+-- what was taken of a text, by its reading slot and its name, where that slot is open
+abbrev pub Taken : Type 0
+Taken = ℕ → List ℕ → Option (List ℕ)
+
+-- the first bytes of a text, of which these are left
+abbrev pub before_rest : List ℕ → List ℕ → List ℕ
+before_rest text left = take (length text - length left) text
+
+-- as a desk tells it: what the slot has no more
+abbrev pub taken_in : View → Told → Taken
+taken_in view t slot name = if view.reading slot then Some (before_rest (unwrap_or (t.shelf name) []) (t.left slot)) else None
+
+-- The texts that are read; whether what was taken of them leaves open how the command ends; with which outcomes it stops, so that nothing is made or said; and what is made and said where all is done.
 pub record CommandSpec : Type 1 where
   pub texts : List Text
+  pub leaves_open : Shelf → Taken → Type 0
   pub stops : Shelf → Outcome → Type 0
   pub done : Shelf → Output → Type 0
+
+-- of texts that are read whole before anything is said of one, no beginning settles anything
+abbrev pub reads_whole : Shelf → Taken → Type 0
+reads_whole shelf taken = Unit {0}
 
 -- what may stand where a write failed or memory was wanting: nothing, or a first part of what is due
 abbrev pub MayStand : CommandSpec → Shelf → Output → Type 0

@@ -1,5 +1,5 @@
 -- The specification of decoding a model. Our own.
-use Rattle.std.specs.Prelude.{ℕ, ◌≡◌, List, [], ◌∷◌, Some, None, Ok}
+use Rattle.std.specs.Prelude.{ℕ, ◌≡◌, ◌⊎◌, List, [], ◌∷◌, Option, Some, None, Ok}
 use Rattle.pb_base.specs.declared.file.File.TheVariants.{Opb, Model as ModelText}
 use Rattle.pb_base.specs.declared.problem.Problem.{Problem}
 use Rattle.pb_model.specs.declared.decoding.Decoded.{Decoded}
@@ -37,10 +37,15 @@ pub data StopsDecode (shelf : Shelf) (w : DecodeWords) : Outcome → Type 0 wher
   no_model : (p : Problem) (m : Model) → ComesTo shelf w p m decoded.NoModel → StopsDecode shelf w outcome.NoModel
   violated : (p : Problem) (m : Model) (statement : ℕ) → ComesTo shelf w p m (decoded.Violates statement) → StopsDecode shelf w (outcome.NotASolution statement)
 
+-- the solver's text is not open yet, or there is a problem; both texts are read whole
+abbrev pub IsUnanswered : Shelf → DecodeWords → Option (List ℕ) → Type 0
+IsUnanswered shelf w model = (model ≡ None) ⊎ ((p : Problem) × IsDenoted shelf w.opb w.bound p)
+
 -- the text of a solution is said
 abbrev pub decode_spec : DecodeWords → CommandSpec
 decode_spec w = record {
   texts = record { kind = Opb; name = w.opb } ∷ record { kind = ModelText; name = w.model } ∷ [];
+  leaves_open = λ shelf taken. IsUnanswered shelf w (taken 1 w.model);
   stops = λ shelf answer. StopsDecode shelf w answer;
   done = λ shelf out. (p : Problem) × (m : Model) × ComesTo shelf w p m decoded.Solution × (out ≡ only_words (solution_text p m.values));
 }

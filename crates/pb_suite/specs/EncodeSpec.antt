@@ -12,7 +12,7 @@ use Rattle.pb_words.specs.EncodeWords.{EncodeWords}
 use Rattle.pb_suite.specs.declared.outcome.Outcome.{Outcome}
 use Rattle.pb_suite.specs.declared.outcome.Outcome.TheVariants as outcome
 use Rattle.pb_suite.specs.Outputs.{Output}
-use Rattle.pb_suite.specs.CommandSpec.{CommandSpec, Shelf}
+use Rattle.pb_suite.specs.CommandSpec.{CommandSpec, Shelf, reads_whole}
 use Rattle.pb_suite.specs.Denoted.{Denotes}
 use Rattle.pb_suite.specs.Refusals.{RefusesOpb}
 
@@ -56,6 +56,7 @@ pub data StopsEncode (shelf : Shelf) (w : EncodeWords) : Outcome → Type 0 wher
 abbrev pub encode_spec : EncodeWords → CommandSpec
 encode_spec w = record {
   texts = record { kind = Opb; name = w.opb } ∷ [];
+  leaves_open = reads_whole;
   stops = λ shelf answer. StopsEncode shelf w answer;
   done = λ shelf out. (p : Problem) × IsEncoded shelf w p × (out ≡ encoded_output (names_in w) w.options p);
 }

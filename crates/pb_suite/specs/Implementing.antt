@@ -6,7 +6,7 @@ use Rattle.pb_desk.specs.Desk.{DeskState, IfTold, IsSteady}
 use Rattle.pb_suite.specs.declared.outcome.Outcome.{Outcome}
 use Rattle.pb_suite.specs.declared.outcome.Outcome.TheVariants as outcome
 use Rattle.pb_suite.specs.Outputs.{nothing, Adds, Output}
-use Rattle.pb_suite.specs.CommandSpec.{HasKind, LacksSpace, LacksText, MayStand, CommandSpec, Text}
+use Rattle.pb_suite.specs.CommandSpec.{HasKind, LacksSpace, LacksText, MayStand, CommandSpec, Text, taken_in}
 
 -- a refusal of one of the texts, or of what is to be made of them; a step that is not allowed is one of a derivation's, values are those of a model, and a line that does not refute is one of a refutation's
 abbrev pub IsRefusal : List Text → Outcome → Type 0
@@ -57,12 +57,13 @@ pub record HasCauses (lacks_text lacks_space : Type 0) (answer : Outcome) : Type
   pub reads : answer ≡ outcome.ReadFault → lacks_text
   pub writes : answer ≡ outcome.WriteFault → lacks_space
 
--- What is spec_of was done, with a reading slot for each of the texts: no more of them were opened, over every desk. So many reads at most gave no byte.
+-- What is spec_of was done, with a reading slot for each of the texts: no more of them were opened, over every desk. So many reads at most gave no byte. A failed read is told only where what was taken of the texts leaves the answer open.
 pub record ImplementsWithin (o : CommandSpec) (most : ℕ) (old new : DeskState) (answer : Outcome) : Type 0 where
   pub answers : Answers o old new answer
   pub opens : KeepsReading (length o.texts) old new
   pub ends : new.ends ≤ old.ends + most
   pub counts : Counts old new answer
+  pub unsettled : answer ≡ outcome.ReadFault → IfTold new (λ t. o.leaves_open t.shelf (taken_in new.view t))
   pub causes : IsSteady old → HasCauses (LacksText o old) (LacksSpace o old) answer
 
 -- The command met its specification, and the end of each of its texts once at most.

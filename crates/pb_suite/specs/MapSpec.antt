@@ -7,7 +7,7 @@ use Rattle.pb_words.specs.MapWords.{MapWords}
 use Rattle.pb_suite.specs.declared.outcome.Outcome.{Outcome}
 use Rattle.pb_suite.specs.declared.outcome.Outcome.TheVariants as outcome
 use Rattle.pb_suite.specs.Outputs.{only_words}
-use Rattle.pb_suite.specs.CommandSpec.{CommandSpec, Shelf}
+use Rattle.pb_suite.specs.CommandSpec.{CommandSpec, Shelf, reads_whole}
 use Rattle.pb_suite.specs.Denoted.{IsDenoted}
 use Rattle.pb_suite.specs.Refusals.{RefusesOpb}
 
@@ -20,6 +20,7 @@ pub data StopsMap (shelf : Shelf) (w : MapWords) : Outcome → Type 0 where
 abbrev pub map_spec : MapWords → CommandSpec
 map_spec w = record {
   texts = record { kind = Opb; name = w.opb } ∷ [];
+  leaves_open = reads_whole;
   stops = λ shelf answer. StopsMap shelf w answer;
   done = λ shelf out. (p : Problem) × IsDenoted shelf w.opb None p × (out ≡ only_words (map_text p));
 }

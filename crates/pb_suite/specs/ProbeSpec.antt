@@ -1,11 +1,12 @@
 -- The specification of propagating given literals over a CNF. Unit propagation is the usual one; what is said of it is our own.
-use Rattle.std.specs.Prelude.{ℕ, ◌≡◌, List, [], ◌∷◌, ◌++◌, Some, None, codes}
+use Rattle.std.specs.Prelude.{ℕ, ◌≡◌, List, [], ◌∷◌, ◌++◌, Some, None, IfSome, codes}
 use Rattle.pb_base.specs.declared.file.File.TheVariants.{Cnf}
 use Rattle.pb_base.specs.declared.literal.Lit.{Lit}
 use Rattle.pb_norm.specs.ClausePropagation.{ClauseConflict}
 use Rattle.pb_unit.specs.Reached.{AreReached}
 use Rattle.pb_family.specs.ClauseText.{clause_text}
 use Rattle.pb_dimacs.specs.declared.head.CnfHead.{CnfHead}
+use Rattle.pb_dimacs.specs.CnfForms.{LeavesTold}
 use Rattle.pb_dimacs.specs.CnfWhole.{told_of}
 use Rattle.pb_dimacs.specs.CnfWhole.CnfTold.{says}
 use Rattle.pb_words.specs.ProbeWords.{ProbeWords}
@@ -43,6 +44,7 @@ pub data StopsProbe (shelf : Shelf) (w : ProbeWords) : Outcome → Type 0 where
 abbrev pub probe_spec : ProbeWords → CommandSpec
 probe_spec w = record {
   texts = record { kind = Cnf; name = w.cnf } ∷ [];
+  leaves_open = λ shelf taken. IfSome (taken 0 w.cnf) LeavesTold;
   stops = λ shelf answer. StopsProbe shelf w answer;
   done = λ shelf out. (out.made ≡ []) × IsProbed shelf w out.said;
 }

@@ -1,5 +1,6 @@
 -- The specification of refuting a problem. Our own.
-use Rattle.std.specs.Prelude.{ℕ, ◌≡◌, List, [], ◌∷◌, Option, Some, None, Ok, codes}
+use Rattle.std.specs.Prelude.{ℕ, ◌≡◌, ◌⊎◌, List, [], ◌∷◌, Option, Some, None, Ok, codes}
+use Rattle.std.specs.Option.{unwrap_or}
 use Rattle.pb_base.specs.declared.expected.Expected.{Expected}
 use Rattle.pb_base.specs.declared.file.File.TheVariants.{Opb, Cnf, Proof, Lrat}
 use Rattle.pb_base.specs.declared.limit.LimitKind.{LimitKind}
@@ -8,15 +9,17 @@ use Rattle.pb_base.specs.declared.place.Place.{Place}
 use Rattle.pb_check.specs.declared.verdict.Verdict.TheVariants.{Accepted}
 use Rattle.pb_check.specs.KeptClauses.{SaysClauses}
 use Rattle.pb_lrat.specs.declared.denied.LratDenied.{LratDenied}
+use Rattle.pb_lrat.specs.LratStates.{started}
 use Rattle.pb_lrat.specs.LratWalk.{LratEnding, lrat_walk}
 use Rattle.pb_lrat.specs.LratWalk.{LratEnding as ending}
+use Rattle.pb_lrat.specs.Refuting.{TakesEnded}
 use Rattle.pb_words.specs.CheckWords.{CheckWords}
 use Rattle.pb_words.specs.RefuteWords.{RefuteWords}
 use Rattle.pb_suite.specs.declared.outcome.Outcome.{Outcome}
 use Rattle.pb_suite.specs.declared.outcome.Outcome.TheVariants as outcome
 use Rattle.pb_suite.specs.Outputs.{only_words}
 use Rattle.pb_suite.specs.CommandSpec.{CommandSpec, Shelf}
-use Rattle.pb_suite.specs.CheckSpec.{IsJudged, StopsCheck}
+use Rattle.pb_suite.specs.CheckSpec.{IsJudged, IsUnjudged, StopsCheck}
 
 -- what is checked first
 abbrev pub checked_words : RefuteWords → CheckWords
@@ -44,12 +47,17 @@ pub data StopsRefute (shelf : Shelf) (w : RefuteWords) : Outcome → Type 0 wher
   limit : (place : Option Place) (which : LimitKind) → IsFollowed shelf w (ending.limited place which) → StopsRefute shelf w (outcome.Limit (Some Lrat) which place)
   no_refutation : (line : ℕ) (why : LratDenied) → IsFollowed shelf w (ending.not_refuted line why) → StopsRefute shelf w (outcome.NotRefuted line why)
 
+-- the refutation is not open yet, nor is the check's answer settled; or the derivation is accepted, and each line that LF ends in what was taken of the refutation is taken
+abbrev pub IsUnfollowed : Shelf → RefuteWords → Option (List ℕ) → Option (List ℕ) → Option (List ℕ) → Type 0
+IsUnfollowed shelf w cnf proof lrat = ((lrat ≡ None) × IsUnjudged shelf (checked_words w) cnf proof) ⊎ ((vars : ℕ) × (clauses : List (List Lit)) × IsAccepted shelf w vars clauses × TakesEnded (started vars clauses) (unwrap_or lrat []))
+
 abbrev pub refuted_line : List ℕ
 refuted_line = codes "refuted\n"
 
 abbrev pub refute_spec : RefuteWords → CommandSpec
 refute_spec w = record {
   texts = record { kind = Opb; name = w.opb } ∷ record { kind = Cnf; name = w.cnf } ∷ record { kind = Proof; name = w.proof } ∷ record { kind = Lrat; name = w.lrat } ∷ [];
+  leaves_open = λ shelf taken. IsUnfollowed shelf w (taken 1 w.cnf) (taken 2 w.proof) (taken 3 w.lrat);
   stops = λ shelf answer. StopsRefute shelf w answer;
   done = λ shelf out. IsFollowed shelf w ending.refuted × (out ≡ only_words refuted_line);
 }

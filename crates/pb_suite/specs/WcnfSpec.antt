@@ -10,7 +10,7 @@ use Rattle.pb_words.specs.WcnfWords.{WcnfWords}
 use Rattle.pb_suite.specs.declared.outcome.Outcome.{Outcome}
 use Rattle.pb_suite.specs.declared.outcome.Outcome.TheVariants as outcome
 use Rattle.pb_suite.specs.Outputs.{Output}
-use Rattle.pb_suite.specs.CommandSpec.{CommandSpec, Shelf}
+use Rattle.pb_suite.specs.CommandSpec.{CommandSpec, Shelf, reads_whole}
 use Rattle.pb_suite.specs.EncodeSpec.{due_words, file_of}
 use Rattle.pb_suite.specs.Denoted.{IsDenoted}
 use Rattle.pb_suite.specs.Refusals.{RefusesOpb}
@@ -33,6 +33,7 @@ pub data StopsWcnf (shelf : Shelf) (w : WcnfWords) : Outcome → Type 0 where
 abbrev pub wcnf_spec : WcnfWords → CommandSpec
 wcnf_spec w = record {
   texts = record { kind = Opb; name = w.opb } ∷ [];
+  leaves_open = reads_whole;
   stops = λ shelf answer. StopsWcnf shelf w answer;
   done = λ shelf out. (p : Problem) × IsWeighed shelf w p × (out ≡ weighted_output w.wcnf w.options p);
 }

@@ -1,5 +1,5 @@
 -- What each part of checking says of the desk, of its readers and of the answer.
-use Rattle.std.specs.Prelude.{◌≡◌, ℕ, List, length, Option, Ok, Err}
+use Rattle.std.specs.Prelude.{◌≡◌, ℕ, List, length, Option, Ok}
 use Rattle.pb_desk.specs.Desk.{DeskState}
 use Rattle.pb_desk.specs.LineReading.{TakesAhead}
 use Rattle.pb_desk.specs.LineReaders.{Reader}
@@ -15,7 +15,7 @@ use Rattle.pb_check.specs.declared.taking.Taken.{Taken}
 use Rattle.pb_check.specs.Turns.{Answer, Task, Stage, Clauses, at_out, at_end, step_turn, next_in}
 use Rattle.pb_check.specs.Turns.Stage.{head_wanted, count_wanted, at_steps, ended}
 use Rattle.pb_check.specs.Walk.{Walks}
-use Rattle.pb_check.specs.inner.Phases.{StopsOne, StopsBoth, NextSays, NextStops, Leads, clauses_of, TurnGives, TurnStops, LineGives, StepsGive, StepsStop, LinesAnswer}
+use Rattle.pb_check.specs.inner.Phases.{StopsOne, StopsBoth, NextSays, Leads, clauses_of, FollowsRows, TurnGives, LineGives, OnLine, StepsGive, TaskOver, TaskFrom, LinesAnswer}
 
 -- ---- the next line that says something
 
@@ -23,13 +23,13 @@ abbrev pub ReadsStep : Option Step → Reader → Reader → DeskState → DeskS
 ReadsStep next old new a b = TakesAhead old.slot old.ahead new.ahead a b (λ text rest. NextSays next new (rows_left old text) (rows_left new rest))
 
 abbrev pub MissesStep : CheckFault → Reader → Reader → DeskState → DeskState → Type 0
-MissesStep fault old new a b = StopsOne fault old new a b (λ text fault. NextStops (rows_left old text) fault)
+MissesStep fault old new a b = StopsOne (Task × Stage × Clauses) fault old new a b (λ x text answer. Walks x.0 x.1 x.2 (rows_left old text) answer)
 
 -- ---- the lines that have a place
 
--- whatever the clauses, the answer at the stage is this fault
+-- whatever the clauses, that is so of the answer at the stage
 abbrev pub StopsStage : Stage → CheckFault → Reader → Reader → DeskState → DeskState → Type 0
-StopsStage stage fault old new a b = StopsOne fault old new a b (λ text fault. (task : Task) (clauses : Clauses) → Walks task stage clauses (rows_left old text) (Err fault))
+StopsStage stage fault old new a b = StopsOne (Task × Clauses) fault old new a b (λ x text answer. Walks x.0 stage x.1 (rows_left old text) answer)
 
 abbrev pub TakesHead : Reader → Reader → DeskState → DeskState → Type 0
 TakesHead old new a b = TakesAhead old.slot old.ahead new.ahead a b (λ text rest. Leads count_wanted (rows_left new rest) head_wanted (rows_left old text))
@@ -43,8 +43,12 @@ CountLeads loaded old new text rest =
 abbrev pub TakesCount : ℕ → Reader → Reader → DeskState → DeskState → Type 0
 TakesCount loaded old new a b = TakesAhead old.slot old.ahead new.ahead a b (CountLeads loaded old new)
 
+-- over so many constraints
+abbrev pub TaskOf : ℕ → Type 0
+TaskOf loaded = (task : Task) × (clauses : Clauses) × (length task.loaded ≡ loaded)
+
 abbrev pub StopsCount : ℕ → CheckFault → Reader → Reader → DeskState → DeskState → Type 0
-StopsCount loaded fault old new a b = StopsOne fault old new a b (λ text fault. (task : Task) (clauses : Clauses) → length task.loaded ≡ loaded → Walks task count_wanted clauses (rows_left old text) (Err fault))
+StopsCount loaded fault old new a b = StopsOne (TaskOf loaded) fault old new a b (λ x text answer. Walks x.0 count_wanted x.1 (rows_left old text) answer)
 
 abbrev pub TakesRest : Reader → Reader → DeskState → DeskState → Type 0
 TakesRest old new a b = TakesAhead old.slot old.ahead new.ahead a b (λ text rest. (task : Task) (clauses : Clauses) → Walks task ended clauses (rows_left old text) (Ok Accepted))
@@ -59,7 +63,7 @@ PutsOut got id cnf db cnf' db' a b =
 
 abbrev pub StopsOut : CheckFault → ℕ → CnfReader → Database → CnfReader → DeskState → DeskState → Type 0
 StopsOut fault id cnf db cnf' a b =
-    StopsOne fault cnf.lines cnf'.lines a b (λ text fault. (task : Task) (number : ℕ) → task.vars ≡ cnf.vars → TurnStops task number (at_out db id (clauses_of cnf text) (next_in task (clauses_of cnf text))) fault)
+    StopsOne (OnLine cnf) fault cnf.lines cnf'.lines a b (λ x text answer. FollowsRows x.task x.number (at_out db id (clauses_of cnf text) (next_in x.task (clauses_of cnf text))) (rows_left x.proof x.text) answer)
 
 -- the steps end, where none of the CNF's clauses is left, or what is left has a fault
 abbrev pub EndsSteps : Taken → CnfReader → CnfReader → DeskState → DeskState → Type 0
@@ -69,7 +73,7 @@ EndsSteps got cnf cnf' a b =
 
 abbrev pub StopsEnd : CheckFault → CnfReader → CnfReader → DeskState → DeskState → Type 0
 StopsEnd fault cnf cnf' a b =
-    StopsOne fault cnf.lines cnf'.lines a b (λ text fault. (task : Task) (number : ℕ) → task.vars ≡ cnf.vars → TurnStops task number (at_end number (clauses_of cnf text) (next_in task (clauses_of cnf text))) fault)
+    StopsOne (OnLine cnf) fault cnf.lines cnf'.lines a b (λ x text answer. FollowsRows x.task x.number (at_end x.number (clauses_of cnf text) (next_in x.task (clauses_of cnf text))) (rows_left x.proof x.text) answer)
 
 -- what the last line says is taken among the steps
 abbrev pub TakesStep : Taken → Step → Reader → CnfReader → Database → CnfReader → Database → DeskState → DeskState → Type 0
@@ -79,7 +83,7 @@ TakesStep got step proof cnf db cnf' db' a b =
 
 abbrev pub StopsStep : CheckFault → Step → Reader → CnfReader → Database → CnfReader → DeskState → DeskState → Type 0
 StopsStep fault step proof cnf db cnf' a b =
-    StopsOne fault cnf.lines cnf'.lines a b (λ text fault. (task : Task) → task.vars ≡ cnf.vars → TurnStops task proof.number (step_turn task db (clauses_of cnf text) proof.number proof.line step) fault)
+    StopsOne (OnLine cnf) fault cnf.lines cnf'.lines a b (λ x text answer. FollowsRows x.task proof.number (step_turn x.task db (clauses_of cnf text) proof.number proof.line step) (rows_left x.proof x.text) answer)
 
 -- ---- lines of steps, by both readers
 
@@ -90,7 +94,7 @@ abbrev pub TakesSteps : Option Verdict → CnfReader → Database → Reader →
 TakesSteps verdict cnf db proof cnf' proof' a b = ReadsBoth cnf.lines proof cnf'.lines proof' a b (λ c p c' p'. StepsGive verdict cnf db proof proof' c p p')
 
 abbrev pub StopsSteps : CheckFault → CnfReader → Database → Reader → CnfReader → Reader → DeskState → DeskState → Type 0
-StopsSteps fault cnf db proof cnf' proof' a b = StopsBoth fault cnf.lines proof cnf'.lines proof' a b (λ c p fault. StepsStop cnf db proof c p fault)
+StopsSteps fault cnf db proof cnf' proof' a b = StopsBoth (TaskOver cnf) fault cnf.lines proof cnf'.lines proof' a b (λ x c p answer. Walks x.0 (at_steps db) (clauses_of cnf c) (rows_left proof p) answer)
 
 -- ---- all lines
 
@@ -98,4 +102,4 @@ abbrev pub AnswersLines : Verdict → ℕ → CnfReader → Database → Reader 
 AnswersLines v loaded cnf db proof cnf' proof' a b = ReadsBoth cnf.lines proof cnf'.lines proof' a b (λ c p c' p'. LinesAnswer cnf db loaded proof c p (Ok v))
 
 abbrev pub StopsLines : CheckFault → ℕ → CnfReader → Database → Reader → CnfReader → Reader → DeskState → DeskState → Type 0
-StopsLines fault loaded cnf db proof cnf' proof' a b = StopsBoth fault cnf.lines proof cnf'.lines proof' a b (λ c p fault. LinesAnswer cnf db loaded proof c p (Err fault))
+StopsLines fault loaded cnf db proof cnf' proof' a b = StopsBoth (TaskFrom cnf db loaded) fault cnf.lines proof cnf'.lines proof' a b (λ x c p answer. Walks x.0 head_wanted (clauses_of cnf c) (rows_left proof p) answer)

@@ -1,7 +1,7 @@
 -- What is left of both texts while a derivation is checked, and what its lines give (our own).
-use Rattle.std.specs.Prelude.{◌≡◌, ℕ, ◌+◌, List, [], ◌∷◌, length, Option, Some, None, Result, Ok, Err, Bool, true, false, if◌then◌else◌}
+use Rattle.std.specs.Prelude.{◌≡◌, ◌≢◌, ℕ, ◌+◌, List, [], ◌∷◌, ◌++◌, length, Option, Some, None, Result, Ok, Err, Bool, true, false, if◌then◌else◌}
 use Rattle.pb_desk.specs.Desk.{DeskState}
-use Rattle.pb_desk.specs.LineReading.{TakesAhead, FailsInLine, may_end}
+use Rattle.pb_desk.specs.LineReading.{TakesAhead, FailsAhead}
 use Rattle.pb_desk.specs.LineReaders.{Reader}
 use Rattle.pb_dimacs.specs.CnfReaders.{CnfReader, symbols_left}
 use Rattle.pb_dimacs.specs.CnfRows.{CnfRow}
@@ -21,23 +21,50 @@ use Rattle.pb_check.specs.declared.taking.Taken.TheVariants as taken
 use Rattle.pb_check.specs.Turns.{Answer, Task, Stage, Clauses, Turn}
 use Rattle.pb_check.specs.Turns.Stage.{head_wanted, at_steps, ended}
 use Rattle.pb_check.specs.Walk.{Follows, Walks}
-use Rattle.pb_desk.specs.TwoSlots.{FailsBoth, ReadsBoth, both_may_end}
+use Rattle.pb_desk.specs.TwoSlots.{MissesBoth, ReadsBoth}
+
+-- ---- what is open
+
+-- with something behind these bytes there is an answer
+pub record Answered (Comes : List ℕ → Answer → Type 0) (bytes : List ℕ) : Type 0 where
+  pub behind : List ℕ
+  pub answer : Answer
+  pub comes : Comes (bytes ++ behind) answer
+
+-- with something else behind them there is another
+pub record IsOpen (Comes : List ℕ → Answer → Type 0) (bytes : List ℕ) : Type 0 where
+  pub one : Answered Comes bytes
+  pub two : Answered Comes bytes
+  pub apart : one.answer ≢ two.answer
+
+-- the same of two texts, which are such as may be
+pub record BothAnswered (May : List ℕ → List ℕ → Type 0) (Comes : List ℕ → List ℕ → Answer → Type 0) : Type 0 where
+  pub cnf : List ℕ
+  pub proof : List ℕ
+  pub may : May cnf proof
+  pub answer : Answer
+  pub comes : Comes cnf proof answer
+
+pub record AreOpen (May : List ℕ → List ℕ → Type 0) (Comes : List ℕ → List ℕ → Answer → Type 0) : Type 0 where
+  pub one : BothAnswered May Comes
+  pub two : BothAnswered May Comes
+  pub apart : one.answer ≢ two.answer
 
 -- ---- stops
 
--- why a reader of a slot stopped: a read failed, memory was wanting, or what is left of the text tells this fault
-abbrev pub StopsOne : CheckFault → Reader → Reader → DeskState → DeskState → (List ℕ → CheckFault → Type 0) → Type 0
-StopsOne ReadFault old new a b Tells = FailsInLine old.slot (may_end old.ahead) a b
-StopsOne NoMemory old new a b Tells = TakesAhead old.slot old.ahead new.ahead a b (λ text rest. Unit {0})
-StopsOne (Refused file place e) old new a b Tells = TakesAhead old.slot old.ahead new.ahead a b (λ text rest. Tells text (Refused file place e))
-StopsOne (Limit file place which) old new a b Tells = TakesAhead old.slot old.ahead new.ahead a b (λ text rest. Tells text (Limit file place which))
+-- Why a reader of a slot stopped: a read failed, where what was taken left the answer open; memory was wanting; or this fault is the answer for what is left of the text. The answer is that for each of some circumstances.
+abbrev pub StopsOne : (X : Type 0) → CheckFault → Reader → Reader → DeskState → DeskState → (X → List ℕ → Answer → Type 0) → Type 0
+StopsOne X ReadFault old new a b Comes = FailsAhead old.slot old.ahead a b (λ bytes. (x : X) → IsOpen (Comes x) bytes)
+StopsOne X NoMemory old new a b Comes = TakesAhead old.slot old.ahead new.ahead a b (λ text rest. Unit {0})
+StopsOne X (Refused file place e) old new a b Comes = TakesAhead old.slot old.ahead new.ahead a b (λ text rest. (x : X) → Comes x text (Err (Refused file place e)))
+StopsOne X (Limit file place which) old new a b Comes = TakesAhead old.slot old.ahead new.ahead a b (λ text rest. (x : X) → Comes x text (Err (Limit file place which)))
 
 -- the same of readers of two slots
-abbrev pub StopsBoth : CheckFault → Reader → Reader → Reader → Reader → DeskState → DeskState → (List ℕ → List ℕ → CheckFault → Type 0) → Type 0
-StopsBoth ReadFault cnf proof cnf' proof' a b Tells = FailsBoth cnf.slot proof.slot (both_may_end cnf proof) a b
-StopsBoth NoMemory cnf proof cnf' proof' a b Tells = ReadsBoth cnf proof cnf' proof' a b (λ c p c' p'. Unit {0})
-StopsBoth (Refused file place e) cnf proof cnf' proof' a b Tells = ReadsBoth cnf proof cnf' proof' a b (λ c p c' p'. Tells c p (Refused file place e))
-StopsBoth (Limit file place which) cnf proof cnf' proof' a b Tells = ReadsBoth cnf proof cnf' proof' a b (λ c p c' p'. Tells c p (Limit file place which))
+abbrev pub StopsBoth : (X : Type 0) → CheckFault → Reader → Reader → Reader → Reader → DeskState → DeskState → (X → List ℕ → List ℕ → Answer → Type 0) → Type 0
+StopsBoth X ReadFault cnf proof cnf' proof' a b Comes = MissesBoth cnf proof a b (λ May. (x : X) → AreOpen May (Comes x))
+StopsBoth X NoMemory cnf proof cnf' proof' a b Comes = ReadsBoth cnf proof cnf' proof' a b (λ c p c' p'. Unit {0})
+StopsBoth X (Refused file place e) cnf proof cnf' proof' a b Comes = ReadsBoth cnf proof cnf' proof' a b (λ c p c' p'. (x : X) → Comes x c p (Err (Refused file place e)))
+StopsBoth X (Limit file place which) cnf proof cnf' proof' a b Comes = ReadsBoth cnf proof cnf' proof' a b (λ c p c' p'. (x : X) → Comes x c p (Err (Limit file place which)))
 
 -- ---- lines
 
@@ -85,9 +112,13 @@ TurnGives taken.On task number turn db clauses = (rows : List CnfRow) (a : Answe
 TurnGives taken.Last task number turn db clauses = (rows : List CnfRow) (a : Answer) → ((c : Clauses) → Walks task ended c rows a) → FollowsRows task number turn rows a
 TurnGives (taken.Denied d) task number turn db clauses = (rows : List CnfRow) → FollowsRows task number turn rows (Ok (Rejected number d))
 
--- the turn stops with the fault
-abbrev pub TurnStops : Task → ℕ → Turn → CheckFault → Type 0
-TurnStops task number turn fault = (rows : List CnfRow) → FollowsRows task number turn rows (Err fault)
+-- a line of a derivation beside a CNF: over which constraints, its number, and what a reader has left behind it
+pub record OnLine (cnf : CnfReader) : Type 0 where
+  pub task : Task
+  pub number : ℕ
+  pub proof : Reader
+  pub text : List ℕ
+  pub same_vars : task.vars ≡ cnf.vars
 
 -- what a line among the steps gave, from there on and from here on
 abbrev pub LineGives : Taken → CnfReader → Database → Reader → CnfReader → Database → Reader → List ℕ → List ℕ → List ℕ → List ℕ → Type 0
@@ -104,14 +135,18 @@ StepsGive None cnf db proof proof' c p p' =
     (task : Task) (a : Answer) → task.vars ≡ cnf.vars → ((cs : Clauses) → Walks task ended cs (rows_left proof' p') a) → Walks task (at_steps db) (clauses_of cnf c) (rows_left proof p) a
 StepsGive (Some v) cnf db proof proof' c p p' = (task : Task) → task.vars ≡ cnf.vars → Walks task (at_steps db) (clauses_of cnf c) (rows_left proof p) (Ok v)
 
-abbrev pub StepsStop : CnfReader → Database → Reader → List ℕ → List ℕ → CheckFault → Type 0
-StepsStop cnf db proof c p fault = (task : Task) → task.vars ≡ cnf.vars → Walks task (at_steps db) (clauses_of cnf c) (rows_left proof p) (Err fault)
+-- a task over so many variables as the CNF has
+abbrev pub TaskOver : CnfReader → Type 0
+TaskOver cnf = (task : Task) × (task.vars ≡ cnf.vars)
 
 -- the answer from the first line on, where the database is that of the loaded constraints
 pub record IsTask (task : Task) (vars count : ℕ) (db : Database) : Type 0 where
   pub same_vars : task.vars ≡ vars
   pub same_count : length task.loaded ≡ count
   pub database : db ≡ loaded_database task.original task.vars task.loaded
+
+abbrev pub TaskFrom : CnfReader → Database → ℕ → Type 0
+TaskFrom cnf db count = (task : Task) × IsTask task cnf.vars count db
 
 abbrev pub LinesAnswer : CnfReader → Database → ℕ → Reader → List ℕ → List ℕ → Answer → Type 0
 LinesAnswer cnf db count proof c p answer = (task : Task) → IsTask task cnf.vars count db → Walks task head_wanted (clauses_of cnf c) (rows_left proof p) answer

@@ -1,11 +1,11 @@
 use Rattle.std.proofs.Common.{Bool, refl, sym, ◌∙◌, subst, arith}
 use Rattle.pb_desk.proofs.ReadLemmas.{reads_begin}
-use Rattle.pb_dimacs.specs.Cursors.{rows_left, GivesRow}
+use Rattle.pb_dimacs.specs.Cursors.{GivesRow}
 use Rattle.pb_dimacs.proofs.RowLemmas.{row_given, row_stopped}
 use Rattle.pb_check.specs.declared.verdict.CheckFault.{CheckFault}
-use Rattle.pb_check.specs.inner.Phases.{NextStops, StopsOne}
+use Rattle.pb_check.specs.inner.Phases.{StopsOne}
 use Rattle.pb_desk.specs.LineReaders.{GivesLine}
-use Rattle.pb_check.proofs.NextLines.{SaysSame, row_stops, row_unsaid, row_said, row_last, row_faulty}
+use Rattle.pb_check.proofs.NextLines.{Anywhere, LineComes, SaysSame, row_stops, row_unsaid, row_said, row_last, row_faulty}
 use Rattle.pb_check.proofs.reading.next_step.Goals as goal
 
 pub rows-init : goal.rows-init
@@ -20,7 +20,7 @@ returns-in-Err-clause-stopped g c =
     let a = g.D.Desk.state c.args.desk.now in
     let b = g.D.Desk.state c.rows.desk in
     let d = g.D.Desk.state c.next_line.new.desk in
-    subst (λ (f : CheckFault). StopsOne f c.args.lines.now c.next_line.new.self a d (λ text f. NextStops (rows_left c.args.lines.now text) f)) (sym c.of_line.ensures.value)
+    subst (λ (f : CheckFault). StopsOne Anywhere f c.args.lines.now c.next_line.new.self a d (LineComes c.args.lines.now)) (sym c.of_line.ensures.value)
     (row_stops c.in-Err.fault c.args.lines.now c.rows.lines c.next_line.new.self a b d c.rows.invariant.goes_on.slot c.rows.invariant.reads
     (row_stopped c.in-Err.fault c.rows.lines c.next_line.new.self b d (c.in-Err.ensures.stopped c.rows.invariant.goes_on.fine).cause))
 
@@ -30,7 +30,7 @@ returns-in-Err-read_step-clause-stopped g c =
     let b = g.D.Desk.state c.rows.desk in
     let d = g.D.Desk.state c.next_line.new.desk in
     let more = subst (λ (m : Bool). GivesRow m c.rows.lines c.next_line.new.self b d) c.if-not-more.false (row_given c.in-Ok.more c.rows.lines c.next_line.new.self b d (c.in-Ok.ensures.line c.rows.invariant.goes_on.fine)) in
-    subst (λ (f : CheckFault). StopsOne f c.args.lines.now c.next_line.new.self a d (λ text f. NextStops (rows_left c.args.lines.now text) f)) (sym c.of_step.ensures.value)
+    subst (λ (f : CheckFault). StopsOne Anywhere f c.args.lines.now c.next_line.new.self a d (LineComes c.args.lines.now)) (sym c.of_step.ensures.value)
     (row_faulty c.in-Err-read_step.fault c.args.lines.now c.rows.lines c.next_line.new.self a b d c.line.result.now c.number.result c.rows.invariant.goes_on.slot c.line.ensures c.number.ensures c.in-Err-read_step.ensures.fault c.rows.invariant.reads more)
 
 pub returns-then-not-more-clause-next : goal.returns-then-not-more-clause-next

@@ -1,13 +1,15 @@
-use Rattle.std.proofs.Common.{◌≡◌, Option, false, length, refl, sym, subst, inr}
+use Rattle.std.proofs.Common.{◌≡◌, Option, false, refl, sym, subst, inr}
 use Rattle.std.specs.Prelude.{IfSome}
 use Rattle.pb_desk.specs.LineReading.{TakesAhead}
 use Rattle.pb_dimacs.specs.Cursors.{rows_left}
 use Rattle.pb_steps.specs.declared.step.Step.{Step}
 use Rattle.pb_check.specs.Turns.Stage.{count_wanted}
-use Rattle.pb_check.specs.Turns.{Task}
+use Rattle.pb_check.specs.Walk.{Walks}
+use Rattle.pb_check.specs.inner.Calls.{TaskOf}
 use Rattle.pb_check.specs.Outcomes.{NamesText}
 use Rattle.pb_check.specs.inner.Phases.{says_nothing, NextSays}
 use Rattle.pb_check.proofs.Places.{count_stops, miscounted_stops, early_stops, count_leads}
+use Rattle.pb_check.proofs.NextLines.{Anywhere, LineComes, stops_weaker}
 use Rattle.pb_check.proofs.stages.take_count.Goals as goal
 
 pub returns-in_default-clause-stopped : goal.returns-in_default-clause-stopped
@@ -16,7 +18,7 @@ returns-in_default-clause-stopped g c =
     let new = c.next_step.new.lines in
     let a = g.D.Desk.state c.args.desk.now in
     let b = g.D.Desk.state c.next_step.new.desk in
-    early_stops c.end_fault.result count_wanted (λ (task : Task). length task.loaded ≡ c.args.loaded) old new a b c.end_fault.ensures refl
+    early_stops (TaskOf c.args.loaded) c.end_fault.result count_wanted (λ x. x.0) (λ x. x.1) old new a b c.end_fault.ensures refl
     (subst (λ (o : Option Step). TakesAhead old.slot old.ahead new.ahead a b (λ text rest. NextSays o new (rows_left old text) (rows_left new rest))) c.in_default.is c.in-Ok.ensures.next)
 
 pub returns-then-count-loaded-clause-leads : goal.returns-then-count-loaded-clause-leads
@@ -53,3 +55,9 @@ returns g c =
       named = subst NamesText (sym c.misplaced.ensures) (inr refl);
       steady = λ s e. let is = c.misplaced.ensures in cc;
     }
+
+pub returns-in-Err-clause-stopped : goal.returns-in-Err-clause-stopped
+returns-in-Err-clause-stopped g c =
+    let old = c.args.lines.now in
+    stops_weaker Anywhere (TaskOf c.args.loaded) c.in-Err.fault old c.next_step.new.lines (g.D.Desk.state c.args.desk.now) (g.D.Desk.state c.next_step.new.desk) (LineComes old) (λ x text answer. Walks x.0 count_wanted x.1 (rows_left old text) answer)
+    (λ x. ((x.0, count_wanted, x.1), λ text answer w. w)) c.in-Err.ensures.stopped

@@ -4,8 +4,12 @@ use Rattle.pb_desk.specs.LineReading.{TakesAhead}
 use Rattle.pb_dimacs.specs.Cursors.{rows_left}
 use Rattle.pb_steps.specs.declared.step.Step.{Step}
 use Rattle.pb_check.specs.Outcomes.{NamesText}
+use Rattle.pb_check.specs.Turns.{Task, Clauses}
+use Rattle.pb_check.specs.Turns.Stage.{head_wanted}
+use Rattle.pb_check.specs.Walk.{Walks}
 use Rattle.pb_check.specs.inner.Phases.{says_nothing, NextSays}
 use Rattle.pb_check.proofs.Places.{head_stops, head_early, head_leads}
+use Rattle.pb_check.proofs.NextLines.{Anywhere, LineComes, stops_weaker}
 use Rattle.pb_check.proofs.stages.take_head.Goals as goal
 
 pub returns-in_default-clause-stopped : goal.returns-in_default-clause-stopped
@@ -42,3 +46,9 @@ returns g c =
       named = subst NamesText (sym c.misplaced.ensures) (inr refl);
       steady = λ s e. let is = c.misplaced.ensures in cc;
     }
+
+pub returns-in-Err-clause-stopped : goal.returns-in-Err-clause-stopped
+returns-in-Err-clause-stopped g c =
+    let old = c.args.lines.now in
+    stops_weaker Anywhere (Task × Clauses) c.in-Err.fault old c.next_step.new.lines (g.D.Desk.state c.args.desk.now) (g.D.Desk.state c.next_step.new.desk) (LineComes old) (λ x text answer. Walks x.0 head_wanted x.1 (rows_left old text) answer)
+    (λ x. ((x.0, head_wanted, x.1), λ text answer w. w)) c.in-Err.ensures.stopped

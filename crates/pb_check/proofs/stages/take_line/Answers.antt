@@ -4,11 +4,11 @@ use Rattle.pb_dimacs.specs.Cursors.{rows_left}
 use Rattle.pb_steps.specs.declared.step.Step.{Step}
 use Rattle.pb_check.specs.Turns.{Task, step_turn}
 use Rattle.pb_desk.specs.TwoSlots.{ReadsBoth}
-use Rattle.pb_check.specs.inner.Phases.{StopsOne, StopsBoth, NextSays, clauses_of, TurnGives, TurnStops, LineGives, StepsStop}
+use Rattle.pb_check.specs.inner.Phases.{StopsOne, StopsBoth, NextSays, clauses_of, TurnGives, LineGives, OnLine, TaskOver}
 use Rattle.pb_check.specs.inner.Keeping.{KeepsLine, KeepsNext}
 use Rattle.pb_check.proofs.KeepingRuns.{line_keeps}
 use Rattle.pb_check.proofs.Takes.{at_err, at_ok}
-use Rattle.pb_check.proofs.StepRuns.{took, line_gives, line_fault, line_missing, line_stop}
+use Rattle.pb_check.proofs.StepRuns.{StepComes, StepsCome, took, line_gives, line_fault, line_missing, line_stop}
 use Rattle.pb_check.proofs.stages.take_line.Goals as goal
 
 pub returns-in-Err-clause-stopped : goal.returns-in-Err-clause-stopped
@@ -56,8 +56,8 @@ returns-clause-stopped g c =
     let d = g.D.Desk.state c.take_step.new.desk in
     let line = subst (λ (o : Option Step). TakesAhead old.slot old.ahead new.ahead a b (λ text rest. NextSays o new (rows_left old text) (rows_left new rest))) c.in-Some.is c.in-Ok.ensures.next in
     at_err c.take_step.result
-    (λ f. StopsOne f cnf.lines cnf'.lines b d (λ text f. (task : Task) → task.vars ≡ cnf.vars → TurnStops task new.number (step_turn task db (clauses_of cnf text) new.number new.line s) f))
-    (λ f. StopsBoth f cnf.lines old cnf'.lines new a d (λ c p f. StepsStop cnf db old c p f))
+    (λ f. StopsOne (OnLine cnf) f cnf.lines cnf'.lines b d (StepComes cnf db new s))
+    (λ f. StopsBoth (TaskOver cnf) f cnf.lines old cnf'.lines new a d (StepsCome cnf db old))
     (λ f stops. line_stop f s cnf cnf' db old new a b d c.in-Ok.ensures.slot c.take_step.ensures.slot c.requires.apart line stops)
     c.take_step.ensures.stopped
 

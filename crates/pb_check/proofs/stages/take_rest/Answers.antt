@@ -5,6 +5,10 @@ use Rattle.pb_dimacs.specs.Cursors.{rows_left}
 use Rattle.pb_steps.specs.declared.step.Step.{Step}
 use Rattle.pb_check.specs.inner.Phases.{says_nothing, NextSays}
 use Rattle.pb_check.proofs.Places.{rest_stops, rest_ends}
+use Rattle.pb_check.specs.Turns.{Task, Clauses}
+use Rattle.pb_check.specs.Turns.Stage.{ended}
+use Rattle.pb_check.specs.Walk.{Walks}
+use Rattle.pb_check.proofs.NextLines.{Anywhere, LineComes, stops_weaker}
 use Rattle.pb_check.proofs.stages.take_rest.Goals as goal
 
 pub returns-in-Ok-None-clause-ends : goal.returns-in-Ok-None-clause-ends
@@ -25,3 +29,9 @@ returns-in-Ok-Some-clause-stopped g c =
     let said = subst (λ (o : Option Step). IfSome o (λ s. says_nothing s ≡ false)) c.in-Ok-Some.field-0-is c.in-Ok-Some.ensures.said in
     rest_stops c.misplaced.result c.in-Ok-Some.field-0-0 old new a b c.misplaced.ensures said
     (subst (λ (o : Option Step). TakesAhead old.slot old.ahead new.ahead a b (λ text rest. NextSays o new (rows_left old text) (rows_left new rest))) c.in-Ok-Some.field-0-is c.in-Ok-Some.ensures.next)
+
+pub returns-clause-stopped : goal.returns-clause-stopped
+returns-clause-stopped g c =
+    let old = c.args.lines.now in
+    stops_weaker Anywhere (Task × Clauses) c.in-Err.fault old c.next_step.new.lines (g.D.Desk.state c.args.desk.now) (g.D.Desk.state c.next_step.new.desk) (LineComes old) (λ x text answer. Walks x.0 ended x.1 (rows_left old text) answer)
+    (λ x. ((x.0, ended, x.1), λ text answer w. w)) c.in-Err.ensures.stopped

@@ -1,17 +1,18 @@
-use Rattle.std.proofs.Common.{◌≡◌, ℕ, None, refl, sym, subst}
+use Rattle.std.proofs.Common.{◌≡◌, None, Err, refl, sym, subst}
 use Rattle.pb_base.specs.declared.expected.Expected.TheVariants.{StepWord}
 use Rattle.pb_desk.proofs.ReadLemmas.{reads_begin}
 use Rattle.pb_steps.specs.declared.step.Step.{Step}
 use Rattle.pb_check.specs.declared.taking.Taken.TheVariants.{On}
-use Rattle.pb_check.specs.Turns.{Task, step_turn, at_out, at_end, next_in}
+use Rattle.pb_check.specs.Turns.{Task, step_turn, at_out, at_end}
 use Rattle.pb_check.specs.Faults.{misplaced_line}
-use Rattle.pb_check.specs.inner.Phases.{StopsOne, clauses_of, TurnGives, TurnStops}
+use Rattle.pb_check.specs.inner.Phases.{StopsOne, clauses_of, OnLine, TurnGives}
+use Rattle.pb_check.proofs.StepRuns.{StepComes}
 use Rattle.pb_check.proofs.NextLines.{stops_weaker}
 use Rattle.pb_check.specs.declared.kept.CollectedClauses.{CollectedClauses}
 use Rattle.pb_check.specs.inner.Keeping.{KeepsNext}
 use Rattle.pb_check.proofs.Keeping.{rule_keeps}
 use Rattle.pb_check.proofs.KeepingRuns.{judged_not_last}
-use Rattle.pb_check.proofs.Takes.{rule_given, misplaced_stops, at_err, at_ok}
+use Rattle.pb_check.proofs.Takes.{NextComes, rule_given, misplaced_stops, at_err, at_ok}
 use Rattle.pb_check.proofs.taking.take_step.Goals as goal
 
 pub returns-in-Blank-clause-gives : goal.returns-in-Blank-clause-gives
@@ -27,10 +28,9 @@ returns-in-Head-clause-stopped g c =
     let n = c.args.lines.now.number in
     let line = c.args.lines.now.line in
     let a = g.D.Desk.state c.args.desk.now in
-    misplaced_stops c.misplaced.result n line StepWord r.lines r.lines a a
-    (λ text f. (task : Task) → task.vars ≡ r.vars → TurnStops task n (step_turn task c.args.db.now (clauses_of r text) n line c.args.step.now) f) c.misplaced.ensures
-    (reads_begin r.lines.slot r.lines.ahead a (λ text rest. (task : Task) → task.vars ≡ r.vars → TurnStops task n (step_turn task c.args.db.now (clauses_of r text) n line c.args.step.now) (misplaced_line n line StepWord))
-    (λ text task vars. subst (λ (s : Step). TurnStops task n (step_turn task c.args.db.now (clauses_of r text) n line s) (misplaced_line n line StepWord)) (sym c.in-Head.is) (λ rows. refl)))
+    misplaced_stops (OnLine r) c.misplaced.result n line StepWord r.lines r.lines a a (StepComes r c.args.db.now c.args.lines.now c.args.step.now) c.misplaced.ensures
+    (reads_begin r.lines.slot r.lines.ahead a (λ text rest. (x : OnLine r) → StepComes r c.args.db.now c.args.lines.now c.args.step.now x text (Err (misplaced_line n line StepWord)))
+    (λ text x. subst (λ (s : Step). StepComes r c.args.db.now c.args.lines.now s x text (Err (misplaced_line n line StepWord))) (sym c.in-Head.is) refl))
 
 pub returns-in-Loaded-clause-stopped : goal.returns-in-Loaded-clause-stopped
 returns-in-Loaded-clause-stopped g c =
@@ -38,10 +38,9 @@ returns-in-Loaded-clause-stopped g c =
     let n = c.args.lines.now.number in
     let line = c.args.lines.now.line in
     let a = g.D.Desk.state c.args.desk.now in
-    misplaced_stops c.misplaced-in-Loaded.result n line StepWord r.lines r.lines a a
-    (λ text f. (task : Task) → task.vars ≡ r.vars → TurnStops task n (step_turn task c.args.db.now (clauses_of r text) n line c.args.step.now) f) c.misplaced-in-Loaded.ensures
-    (reads_begin r.lines.slot r.lines.ahead a (λ text rest. (task : Task) → task.vars ≡ r.vars → TurnStops task n (step_turn task c.args.db.now (clauses_of r text) n line c.args.step.now) (misplaced_line n line StepWord))
-    (λ text task vars. subst (λ (s : Step). TurnStops task n (step_turn task c.args.db.now (clauses_of r text) n line s) (misplaced_line n line StepWord)) (sym c.in-Loaded.is) (λ rows. refl)))
+    misplaced_stops (OnLine r) c.misplaced-in-Loaded.result n line StepWord r.lines r.lines a a (StepComes r c.args.db.now c.args.lines.now c.args.step.now) c.misplaced-in-Loaded.ensures
+    (reads_begin r.lines.slot r.lines.ahead a (λ text rest. (x : OnLine r) → StepComes r c.args.db.now c.args.lines.now c.args.step.now x text (Err (misplaced_line n line StepWord)))
+    (λ text x. subst (λ (s : Step). StepComes r c.args.db.now c.args.lines.now s x text (Err (misplaced_line n line StepWord))) (sym c.in-Loaded.is) refl))
 
 pub returns-in-Out-clause-stopped : goal.returns-in-Out-clause-stopped
 returns-in-Out-clause-stopped g c =
@@ -53,12 +52,13 @@ returns-in-Out-clause-stopped g c =
     let b = g.D.Desk.state c.put_out.new.desk in
     let id = c.in-Out.id in
     at_err c.put_out.result
-    (λ f. StopsOne f r.lines new.lines a b (λ text f. (task : Task) (number : ℕ) → task.vars ≡ r.vars → TurnStops task number (at_out c.args.db.now id (clauses_of r text) (next_in task (clauses_of r text))) f))
-    (λ f. StopsOne f r.lines new.lines a b (λ text f. (task : Task) → task.vars ≡ r.vars → TurnStops task n (step_turn task c.args.db.now (clauses_of r text) n line c.args.step.now) f))
-    (λ f. stops_weaker f r.lines new.lines a b
-    (λ text f. (task : Task) (number : ℕ) → task.vars ≡ r.vars → TurnStops task number (at_out c.args.db.now id (clauses_of r text) (next_in task (clauses_of r text))) f)
-    (λ text f. (task : Task) → task.vars ≡ r.vars → TurnStops task n (step_turn task c.args.db.now (clauses_of r text) n line c.args.step.now) f)
-    (λ text f t task vars. subst (λ (s : Step). TurnStops task n (step_turn task c.args.db.now (clauses_of r text) n line s) f) (sym c.in-Out.is) (t task n vars)))
+    (λ f. StopsOne (OnLine r) f r.lines new.lines a b (NextComes r (λ x cs next. at_out c.args.db.now id cs next)))
+    (λ f. StopsOne (OnLine r) f r.lines new.lines a b (StepComes r c.args.db.now c.args.lines.now c.args.step.now))
+    (λ f. stops_weaker (OnLine r) (OnLine r) f r.lines new.lines a b (NextComes r (λ x cs next. at_out c.args.db.now id cs next)) (StepComes r c.args.db.now c.args.lines.now c.args.step.now)
+    (λ x. (
+      record { task = x.task; number = n; proof = x.proof; text = x.text; same_vars = x.same_vars },
+      λ text answer w. subst (λ (s : Step). StepComes r c.args.db.now c.args.lines.now s x text answer) (sym c.in-Out.is) w,
+    )))
     c.put_out.ensures.stopped
 
 pub returns-in-End-clause-stopped : goal.returns-in-End-clause-stopped
@@ -70,12 +70,13 @@ returns-in-End-clause-stopped g c =
     let a = g.D.Desk.state c.args.desk.now in
     let b = g.D.Desk.state c.end_steps.new.desk in
     at_err c.end_steps.result
-    (λ f. StopsOne f r.lines new.lines a b (λ text f. (task : Task) (number : ℕ) → task.vars ≡ r.vars → TurnStops task number (at_end number (clauses_of r text) (next_in task (clauses_of r text))) f))
-    (λ f. StopsOne f r.lines new.lines a b (λ text f. (task : Task) → task.vars ≡ r.vars → TurnStops task n (step_turn task c.args.db.now (clauses_of r text) n line c.args.step.now) f))
-    (λ f. stops_weaker f r.lines new.lines a b
-    (λ text f. (task : Task) (number : ℕ) → task.vars ≡ r.vars → TurnStops task number (at_end number (clauses_of r text) (next_in task (clauses_of r text))) f)
-    (λ text f. (task : Task) → task.vars ≡ r.vars → TurnStops task n (step_turn task c.args.db.now (clauses_of r text) n line c.args.step.now) f)
-    (λ text f t task vars. subst (λ (s : Step). TurnStops task n (step_turn task c.args.db.now (clauses_of r text) n line s) f) (sym c.in-End.is) (t task n vars)))
+    (λ f. StopsOne (OnLine r) f r.lines new.lines a b (NextComes r (λ x cs next. at_end x.number cs next)))
+    (λ f. StopsOne (OnLine r) f r.lines new.lines a b (StepComes r c.args.db.now c.args.lines.now c.args.step.now))
+    (λ f. stops_weaker (OnLine r) (OnLine r) f r.lines new.lines a b (NextComes r (λ x cs next. at_end x.number cs next)) (StepComes r c.args.db.now c.args.lines.now c.args.step.now)
+    (λ x. (
+      record { task = x.task; number = n; proof = x.proof; text = x.text; same_vars = x.same_vars },
+      λ text answer w. subst (λ (s : Step). StepComes r c.args.db.now c.args.lines.now s x text answer) (sym c.in-End.is) w,
+    )))
     c.end_steps.ensures.stopped
 
 pub returns-in-Ok-clause-gives : goal.returns-in-Ok-clause-gives
@@ -101,3 +102,8 @@ returns-in-End-clause-keeps g c =
 pub returns-in-Ok-clause-keeps : goal.returns-in-Ok-clause-keeps
 returns-in-Ok-clause-keeps g c =
     rule_keeps c.in-Ok.taken c.args.kept.now c.args.cnf.now (g.D.Desk.state c.args.desk.now) (judged_not_last c.args.db.now c.judge.new.db c.args.step.now None c.in-Ok.taken c.in-Ok.ensures)
+
+pub returns-in-Err-clause-stopped : goal.returns-in-Err-clause-stopped
+returns-in-Err-clause-stopped g c =
+    let r = c.args.cnf.now in
+    reads_begin r.lines.slot r.lines.ahead (g.D.Desk.state c.args.desk.now) (λ text rest. Unit {0}) (λ text. tt)

@@ -14,7 +14,7 @@ returns-in-Err g c =
     let d = g.D.Desk.state c.args.desk.now in
     let e = g.D.Desk.state c.check.new.desk in
     subst (ImplementsWithin (check_spec w) 2 d e) (sym c.check_refusal.ensures)
-    (stopped_implements w c.args.problem.now d e c.requires.denoted c.requires.both (check_spec w) (check_checks w) c.in-Err.fault c.in-Err.ensures.stopped c.in-Err.ensures.named (λ steady is. c.in-Err.ensures.steady steady (ap Err is)))
+    (stopped_implements w c.args.problem.now d e c.requires.denoted c.requires.both (check_spec w) (check_checks w) c.requires.cnf_open c.requires.proof_open (λ keeps leaves. leaves) c.in-Err.fault c.in-Err.ensures.stopped c.in-Err.ensures.named (λ steady is. c.in-Err.ensures.steady steady (ap Err is)))
 
 pub returns-in-Ok-Rejected : goal.returns-in-Ok-Rejected
 returns-in-Ok-Rejected g c =

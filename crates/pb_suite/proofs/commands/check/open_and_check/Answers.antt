@@ -10,7 +10,7 @@ use Rattle.pb_suite.proofs.commands.check.open_and_check.Goals as goal
 pub returns-in-Err : goal.returns-in-Err
 returns-in-Err g c =
     let w = as_check_words c.args.asked.now in
-    within_more (check_spec w) (g.D.Desk.state c.args.desk.now) (g.D.Desk.state c.open_both.new.desk) 0 2 _ (omega arith) (unopened_implements w (check_spec w) (check_checks w) c.args.problem.now (g.D.Desk.state c.args.desk.now) (g.D.Desk.state c.open_both.new.desk) c.requires.denoted c.in-Err.ensures.failed)
+    within_more (check_spec w) (g.D.Desk.state c.args.desk.now) (g.D.Desk.state c.open_both.new.desk) 0 2 _ (omega arith) (unopened_implements w (check_spec w) (check_checks w) c.args.problem.now (g.D.Desk.state c.args.desk.now) (g.D.Desk.state c.open_both.new.desk) c.requires.cnf_free c.requires.proof_free (λ keeps leaves. leaves) c.requires.denoted c.in-Err.ensures.failed)
 
 pub check_opened-requires-clause-cnf_open : goal.check_opened-requires-clause-cnf_open
 check_opened-requires-clause-cnf_open g c = subst (λ (v : View). IsTrue (v.reading 1)) (sym c.in-Ok.ensures.opened.view) refl

@@ -3,16 +3,17 @@ use Rattle.pb_base.specs.declared.file.File.TheVariants.{Opb, Model}
 use Rattle.pb_base.proofs.Members.{Contains-here}
 use Rattle.pb_desk.specs.View.{View}
 use Rattle.pb_words.specs.DecodeWords.{as_decode_words}
-use Rattle.pb_suite.specs.Outputs.{nothing}
-use Rattle.pb_suite.specs.CommandSpec.{Text}
+use Rattle.pb_suite.specs.CommandSpec.{Text, taken_in}
 use Rattle.pb_suite.specs.DecodeSpec.{decode_spec}
 use Rattle.pb_suite.specs.DecodeSpec.StopsDecode.{bad_problem, no_problem}
 use Rattle.pb_suite.specs.Refusals.{RefusesOpb}
 use Rattle.pb_suite.proofs.Afterwards.{implements_after}
+use Rattle.pb_suite.proofs.Endings.{always}
 use Rattle.pb_suite.proofs.Going.{goes_fetched}
 use Rattle.pb_suite.proofs.DecodeSpecs.{answered_by, answered_later, no_answer_implements}
 use Rattle.pb_suite.proofs.DenotedProblems.{denoted_by}
 use Rattle.pb_suite.proofs.Refused.{reading_implements}
+use Rattle.pb_suite.proofs.Takings.{taken-closed}
 use Rattle.pb_suite.proofs.commands.decode.decode_file.Goals as goal
 
 -- a problem's text that is not read
@@ -23,6 +24,9 @@ returns-in-Err g c =
     let others = record { kind = Model; name = w.model } ∷ [] in
     reading_implements (decode_spec w) 0 text (omega arith) (Contains-here text others) (inl refl) (RefusesOpb w.bound) (λ shelf bytes answer. bad_problem bytes answer) (λ shelf none. no_problem none) (g.D.Desk.state c.args.desk.now) (g.D.Desk.state c.read_problem.new.desk)
     c.in-Err.outcome c.in-Err.ensures.stopped (λ steady is. c.in-Err.ensures.steady steady (ap Err is))
+    (λ e keeps shelf.
+    let b = g.D.Desk.state c.read_problem.new.desk in
+    always b (λ t. (decode_spec w).leaves_open t.shelf (taken_in b.view t)) (λ t. inl (taken-closed b.view t 1 w.model (keeps 1 (omega arith) ∙ c.requires.closed.reading 1))))
 
 pub read_answer-requires-clause-free : goal.read_answer-requires-clause-free
 read_answer-requires-clause-free g c = ap (λ (v : View). v.reading 1) c.in-Ok.ensures.read.1.reached.view ∙ c.requires.closed.reading 1

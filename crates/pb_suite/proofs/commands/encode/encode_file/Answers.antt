@@ -2,12 +2,12 @@ use Rattle.std.proofs.Common.{◌∙◌, Err, [], ap, inl, refl, arith}
 use Rattle.pb_base.specs.declared.file.File.TheVariants.{Opb}
 use Rattle.pb_base.proofs.Members.{Contains-here}
 use Rattle.pb_words.specs.EncodeWords.{as_encode_words}
-use Rattle.pb_suite.specs.Outputs.{nothing}
 use Rattle.pb_suite.specs.CommandSpec.{Text}
 use Rattle.pb_suite.specs.EncodeSpec.{names_in, encode_spec}
 use Rattle.pb_suite.specs.EncodeSpec.StopsEncode.{refused, lacking}
 use Rattle.pb_suite.specs.Refusals.{RefusesOpb}
 use Rattle.pb_suite.proofs.Afterwards.{implements_after}
+use Rattle.pb_suite.proofs.Endings.{always}
 use Rattle.pb_suite.proofs.Going.{goes_fetched, keeps, shelf_is_if}
 use Rattle.pb_suite.proofs.EncodeSpecs.{encoded_due, names_differ, over_due, HasProblem}
 use Rattle.pb_suite.proofs.Refused.{reading_implements}
@@ -19,7 +19,7 @@ returns-in-Err g c =
     let w = as_encode_words c.args.asked.now in
     let text : Text = record { kind = Opb; name = w.opb } in
     reading_implements (encode_spec w) 0 text (omega arith) (Contains-here text []) (inl refl) (RefusesOpb w.bound) (λ shelf bytes answer. refused bytes answer) (λ shelf none. lacking none) (g.D.Desk.state c.args.desk.now) (g.D.Desk.state c.read_problem.new.desk)
-    c.in-Err.outcome c.in-Err.ensures.stopped (λ steady is. c.in-Err.ensures.steady steady (ap Err is))
+    c.in-Err.outcome c.in-Err.ensures.stopped (λ steady is. c.in-Err.ensures.steady steady (ap Err is)) (λ e keeps shelf. always (g.D.Desk.state c.read_problem.new.desk) (λ t. Unit {0}) (λ t. tt))
 
 pub returns-in-Ok : goal.returns-in-Ok
 returns-in-Ok g c =

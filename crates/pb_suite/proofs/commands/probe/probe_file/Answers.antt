@@ -2,7 +2,6 @@ use Rattle.std.proofs.Common.{Err, List, [], ℕ, ap, inl, refl, subst, arith}
 use Rattle.pb_base.specs.declared.file.File.TheVariants.{Cnf}
 use Rattle.pb_base.proofs.Members.{Contains-here}
 use Rattle.pb_words.specs.ProbeWords.{as_probe_words}
-use Rattle.pb_suite.specs.Outputs.{nothing}
 use Rattle.pb_suite.specs.CommandSpec.{Text}
 use Rattle.pb_suite.specs.ProbeSpec.{probe_spec}
 use Rattle.pb_suite.specs.ProbeSpec.StopsProbe.{refused, lacking}
@@ -21,7 +20,7 @@ returns-in-Err g c =
     let w = as_probe_words c.args.asked.now in
     let text : Text = record { kind = Cnf; name = w.cnf } in
     reading_implements (probe_spec w) 0 text (omega arith) (Contains-here text []) (inl refl) RefusesCnf (λ shelf bytes answer. refused bytes answer) (λ shelf none. lacking none) (g.D.Desk.state c.args.desk.now) (g.D.Desk.state c.read_cnf.new.desk)
-    c.in-Err.outcome c.in-Err.ensures.stopped (λ steady is. c.in-Err.ensures.steady steady (ap Err is))
+    c.in-Err.outcome c.in-Err.ensures.stopped (λ steady is. c.in-Err.ensures.steady steady (ap Err is)) (λ e keeps shelf. c.in-Err.ensures.unsettled (ap Err e))
 
 pub returns-in-Err-line_of : goal.returns-in-Err-line_of
 returns-in-Err-line_of g c =

@@ -12,7 +12,7 @@ use Rattle.pb_suite.proofs.Afterwards.{implements_after}
 use Rattle.pb_suite.proofs.Endings.{within_more}
 use Rattle.pb_suite.proofs.Going.{shelf_is_if}
 use Rattle.pb_suite.proofs.CheckSpecs.{goes_both, rejected_implements, stopped_implements}
-use Rattle.pb_suite.proofs.RefuteSpecs.{accepted_so, refute_checks}
+use Rattle.pb_suite.proofs.RefuteSpecs.{accepted_so, refute_checks, unfollowed}
 use Rattle.pb_suite.proofs.commands.refute.check_opened.Goals as goal
 
 pub returns-in-Err : goal.returns-in-Err
@@ -21,7 +21,7 @@ returns-in-Err g c =
     let d = g.D.Desk.state c.args.desk.now in
     let e = g.D.Desk.state c.check_kept.new.desk in
     subst (ImplementsWithin (refute_spec w) 3 d e) (sym c.check_refusal.ensures)
-    (within_more (refute_spec w) d e 2 3 _ (omega arith) (stopped_implements (checked_words w) c.args.problem.now d e c.requires.denoted c.requires.both (refute_spec w) (refute_checks w) c.in-Err.fault c.in-Err.ensures.stopped c.in-Err.ensures.named (λ steady is. c.in-Err.ensures.steady steady (ap Err is))))
+    (within_more (refute_spec w) d e 2 3 _ (omega arith) (stopped_implements (checked_words w) c.args.problem.now d e c.requires.denoted c.requires.both (refute_spec w) (refute_checks w) c.requires.cnf_open c.requires.proof_open (λ keeps leaves. unfollowed w e (keeps 3 (omega arith) ∙ c.requires.lrat_free) leaves) c.in-Err.fault c.in-Err.ensures.stopped c.in-Err.ensures.named (λ steady is. c.in-Err.ensures.steady steady (ap Err is))))
 
 pub check_refutation-requires-clause-free : goal.check_refutation-requires-clause-free
 check_refutation-requires-clause-free g c = ap (λ (v : View). v.reading 3) c.in-Ok.ensures.verdict.reached.view ∙ c.requires.lrat_free

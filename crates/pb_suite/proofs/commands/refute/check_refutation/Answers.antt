@@ -7,7 +7,7 @@ use Rattle.pb_suite.proofs.commands.refute.check_refutation.Goals as goal
 
 pub returns-in-Err : goal.returns-in-Err
 returns-in-Err g c =
-    no_lrat (as_refute_words c.args.asked.now) c.args.vars c.args.clauses (g.D.Desk.state c.args.desk.now) (g.D.Desk.state c.«open».new.self) c.requires.accepted c.in-Err.ensures.failed c.in-Err.ensures.steady c.in-Err.ensures.no_end
+    no_lrat (as_refute_words c.args.asked.now) c.args.vars c.args.clauses (g.D.Desk.state c.args.desk.now) (g.D.Desk.state c.«open».new.self) c.requires.accepted c.in-Err.ensures.failed c.in-Err.ensures.steady c.in-Err.ensures.no_end c.requires.free
 
 pub returns-in-Err-refute : goal.returns-in-Err-refute
 returns-in-Err-refute g c =

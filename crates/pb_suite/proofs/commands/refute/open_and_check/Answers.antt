@@ -5,13 +5,13 @@ use Rattle.pb_words.specs.RefuteWords.{as_refute_words}
 use Rattle.pb_suite.specs.RefuteSpec.{checked_words, refute_spec}
 use Rattle.pb_suite.proofs.Endings.{within_more}
 use Rattle.pb_suite.proofs.CheckSpecs.{opened_implements, still_posed, unopened_implements}
-use Rattle.pb_suite.proofs.RefuteSpecs.{refute_checks}
+use Rattle.pb_suite.proofs.RefuteSpecs.{refute_checks, unfollowed}
 use Rattle.pb_suite.proofs.commands.refute.open_and_check.Goals as goal
 
 pub returns-in-Err : goal.returns-in-Err
 returns-in-Err g c =
     let w = as_refute_words c.args.asked.now in
-    within_more (refute_spec w) (g.D.Desk.state c.args.desk.now) (g.D.Desk.state c.open_both.new.desk) 0 3 _ (omega arith) (unopened_implements (checked_words w) (refute_spec w) (refute_checks w) c.args.problem.now (g.D.Desk.state c.args.desk.now) (g.D.Desk.state c.open_both.new.desk) c.requires.denoted c.in-Err.ensures.failed)
+    within_more (refute_spec w) (g.D.Desk.state c.args.desk.now) (g.D.Desk.state c.open_both.new.desk) 0 3 _ (omega arith) (unopened_implements (checked_words w) (refute_spec w) (refute_checks w) c.args.problem.now (g.D.Desk.state c.args.desk.now) (g.D.Desk.state c.open_both.new.desk) c.requires.cnf_free c.requires.proof_free (λ keeps leaves. unfollowed w (g.D.Desk.state c.open_both.new.desk) (keeps 3 (omega arith) ∙ c.requires.lrat_free) leaves) c.requires.denoted c.in-Err.ensures.failed)
 
 pub check_opened-requires-clause-cnf_open : goal.check_opened-requires-clause-cnf_open
 check_opened-requires-clause-cnf_open g c = subst (λ (v : View). IsTrue (v.reading 1)) (sym c.in-Ok.ensures.opened.view) refl

@@ -3,16 +3,17 @@ use Rattle.pb_base.specs.declared.file.File.TheVariants.{Opb, Cnf, Proof, Lrat}
 use Rattle.pb_base.proofs.Members.{Contains-here}
 use Rattle.pb_desk.specs.View.{View}
 use Rattle.pb_words.specs.RefuteWords.{as_refute_words}
-use Rattle.pb_suite.specs.Outputs.{nothing}
 use Rattle.pb_suite.specs.CommandSpec.{Text}
-use Rattle.pb_suite.specs.RefuteSpec.{refute_spec}
+use Rattle.pb_suite.specs.RefuteSpec.{checked_words, refute_spec}
 use Rattle.pb_suite.specs.CheckSpec.StopsCheck.{bad_problem, no_problem}
 use Rattle.pb_suite.specs.RefuteSpec.StopsRefute.{unchecked}
 use Rattle.pb_suite.specs.Refusals.{RefusesOpb}
 use Rattle.pb_suite.proofs.Afterwards.{implements_after}
+use Rattle.pb_suite.proofs.CheckSpecs.{unbegun_all}
 use Rattle.pb_suite.proofs.Going.{goes_fetched}
 use Rattle.pb_suite.proofs.DenotedProblems.{denoted_by}
 use Rattle.pb_suite.proofs.Refused.{reading_implements}
+use Rattle.pb_suite.proofs.RefuteSpecs.{unfollowed}
 use Rattle.pb_suite.proofs.commands.refute.refute_file.Goals as goal
 
 pub returns-in-Err : goal.returns-in-Err
@@ -22,6 +23,7 @@ returns-in-Err g c =
     let others = record { kind = Cnf; name = w.cnf } ∷ record { kind = Proof; name = w.proof } ∷ record { kind = Lrat; name = w.lrat } ∷ [] in
     reading_implements (refute_spec w) 0 text (omega arith) (Contains-here text others) (inl refl) (RefusesOpb w.bound) (λ shelf bytes answer has refuses. unchecked answer (bad_problem bytes answer has refuses)) (λ shelf none. unchecked _ (no_problem none)) (g.D.Desk.state c.args.desk.now) (g.D.Desk.state c.read_problem.new.desk)
     c.in-Err.outcome c.in-Err.ensures.stopped (λ steady is. c.in-Err.ensures.steady steady (ap Err is))
+    (λ e keeps shelf. unfollowed w (g.D.Desk.state c.read_problem.new.desk) (keeps 3 (omega arith) ∙ c.requires.closed.reading 3) (unbegun_all (checked_words w) (g.D.Desk.state c.read_problem.new.desk) (keeps 1 (omega arith) ∙ c.requires.closed.reading 1) (keeps 2 (omega arith) ∙ c.requires.closed.reading 2)))
 
 pub open_and_check-requires-clause-denoted : goal.open_and_check-requires-clause-denoted
 open_and_check-requires-clause-denoted g c =

@@ -2,12 +2,12 @@ use Rattle.std.proofs.Common.{Err, [], ◌∙◌, ap, inl, refl, arith}
 use Rattle.pb_base.specs.declared.file.File.TheVariants.{Opb}
 use Rattle.pb_base.proofs.Members.{Contains-here}
 use Rattle.pb_words.specs.WcnfWords.{as_wcnf_words}
-use Rattle.pb_suite.specs.Outputs.{nothing}
 use Rattle.pb_suite.specs.CommandSpec.{Text}
 use Rattle.pb_suite.specs.WcnfSpec.{wcnf_spec}
 use Rattle.pb_suite.specs.WcnfSpec.StopsWcnf.{refused, lacking}
 use Rattle.pb_suite.specs.Refusals.{RefusesOpb}
 use Rattle.pb_suite.proofs.Afterwards.{implements_after}
+use Rattle.pb_suite.proofs.Endings.{always}
 use Rattle.pb_suite.proofs.Going.{goes_fetched, keeps}
 use Rattle.pb_suite.proofs.DenotedProblems.{denoted_by}
 use Rattle.pb_suite.proofs.Refused.{reading_implements}
@@ -18,7 +18,7 @@ returns-in-Err g c =
     let w = as_wcnf_words c.args.asked.now in
     let text : Text = record { kind = Opb; name = w.opb } in
     reading_implements (wcnf_spec w) 0 text (omega arith) (Contains-here text []) (inl refl) (RefusesOpb w.bound) (λ shelf bytes answer. refused bytes answer) (λ shelf none. lacking none) (g.D.Desk.state c.args.desk.now) (g.D.Desk.state c.read_problem.new.desk)
-    c.in-Err.outcome c.in-Err.ensures.stopped (λ steady is. c.in-Err.ensures.steady steady (ap Err is))
+    c.in-Err.outcome c.in-Err.ensures.stopped (λ steady is. c.in-Err.ensures.steady steady (ap Err is)) (λ e keeps shelf. always (g.D.Desk.state c.read_problem.new.desk) (λ t. Unit {0}) (λ t. tt))
 
 pub store_weighted-requires-clause-denoted : goal.store_weighted-requires-clause-denoted
 store_weighted-requires-clause-denoted g c =
