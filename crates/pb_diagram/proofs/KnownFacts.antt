@@ -1,5 +1,5 @@
 -- What a map from beginnings to ends finds, and what it is after an insertion.
-use Rattle.std.proofs.Common.{◌≡◌, ◌<◌, ◌≤◌, ◌⊎◌, ◌++◌, ◌&&◌, ◌+◌, ℕ, Bool, true, false, not, List, [], ◌∷◌, length, get_or, take, length-take-le, get_or-take, refl, sym, ap, ◌∙◌, subst, arith, inl, inr, length-append}
+use Rattle.std.proofs.Common.{◌≡◌, ◌<◌, ◌≤◌, ◌⊎◌, ◌++◌, ◌&&◌, ℕ, Bool, true, false, not, List, [], ◌∷◌, length, sym, ap, ◌∙◌, subst, arith, inl, inr, length-append}
 use Rattle.std.specs.Prelude.{Contains}
 use Rattle.std.specs.List.{filter}
 use Rattle.std.specs.Ordering.{nat_cmp, is_lt}
@@ -9,16 +9,13 @@ use Rattle.std.specs.declared.cmp.Ordering.{Ordering}
 use Rattle.std.specs.declared.cmp.Ordering.TheVariants.{Less, Equal, Greater}
 use Rattle.std.specs.Ordering.{match_ordering}
 use Rattle.std.proofs.lemmas.Bool.{cases_lt, both_ways, cond-true, cond-false}
-use Rattle.std.proofs.lemmas.List.{get_or_default, map_push, take_more}
 use Rattle.pb_base.proofs.Members.{Contains-nil, Contains-here, Contains-there, Contains-cons_cases}
 use Rattle.pb_diagram.specs.declared.interval.Interval.{Interval}
-use Rattle.pb_diagram.specs.inner.Known.{interval_of_entry, intervals_of}
+use Rattle.pb_diagram.specs.inner.Known.{interval_of_entry, intervals_of, Rise}
 use Rattle.pb_diagram.specs.Levels.{interval_from}
 use Rattle.pb_diagram.specs.inner.Nodes.{LiesIn}
 use Rattle.pb_diagram.specs.Intervals.{AreApart}
-use Rattle.pb_diagram.specs.inner.Links.{StandApart}
 use Rattle.pb_diagram.specs.laws.Search.{IsGrown}
-use Rattle.pb_diagram.proofs.Places.{apart_at}
 
 -- ---- find
 
@@ -136,7 +133,7 @@ find_none residue es now view none h among inside = let above = none_begins resi
 insert_cons : (k v : ℕ) (e : ℕ × ℕ) (es : List (ℕ × ℕ)) (o : Ordering) → o ≡ nat_cmp k e.0 → insert_entry nat_cmp (e ∷ es) k v ≡ match_ordering o ((k, v) ∷ e ∷ es) ((e.0, v) ∷ es) (e ∷ insert_entry nat_cmp es k v)
 insert_cons k v e es o same = ap (λ (o : Ordering). match_ordering o ((k, v) ∷ e ∷ es) ((e.0, v) ∷ es) (e ∷ insert_entry nat_cmp es k v)) (sym same)
 
-pub inserted_entry : (low top : ℕ) (es : List (ℕ × ℕ)) → low < top → AreApart (intervals_of es) → ((h : Interval) → Contains (intervals_of es) h → h.low < h.top) → ((h : Interval) → Contains (intervals_of es) h → (h.top ≤ low) ⊎ (top ≤ h.low))
+inserted_entry : (low top : ℕ) (es : List (ℕ × ℕ)) → low < top → AreApart (intervals_of es) → Rise (intervals_of es) → ((h : Interval) → Contains (intervals_of es) h → (h.top ≤ low) ⊎ (top ≤ h.low))
     → IsGrown (intervals_of es) (interval_from low top) (intervals_of (insert_entry nat_cmp es low top))
 inserted_entry low top [] rises apart rise elsewhere = record {
   here = Contains-here (interval_from low top) [];
@@ -199,31 +196,17 @@ inserted_entry low top (e ∷ es) rises apart rise elsewhere =
           })
     ]
 
--- ---- all of a list
+pub inserted_view : (low top : ℕ) (es : List (ℕ × ℕ)) (now : List Interval) → intervals_of es ≡ now → low < top → AreApart now → Rise (intervals_of es) → ((h : Interval) → Contains now h → (h.top ≤ low) ⊎ (top ≤ h.low))
+    → IsGrown now (interval_from low top) (intervals_of (insert_entry nat_cmp es low top))
+inserted_view low top es now view rises apart rise elsewhere =
+    subst (λ (l : List Interval). IsGrown l (interval_from low top) (intervals_of (insert_entry nat_cmp es low top))) view
+    (inserted_entry low top es rises (subst AreApart (sym view) apart) rise
+    (λ h among. elsewhere h (subst (λ (l : List Interval). Contains l h) view among)))
 
-put_last : (low top : ℕ) (es : List (ℕ × ℕ)) → ((h : Interval) → Contains (intervals_of es) h → h.low < low) → insert_entry nat_cmp es low top ≡ es ++ (low, top) ∷ []
-put_last low top [] below = refl
-put_last low top (e ∷ es) below =
-    let k = interval_of_entry e in
-    let greater : e.0 < low = below k (Contains-here k (intervals_of es)) in
-    insert_cons low top e es Greater (nat_cmp_is low e.0 Greater greater)
-    ∙ ap (λ (l : List (ℕ × ℕ)). e ∷ l) (put_last low top es (λ h among. below h (Contains-there k (intervals_of es) h among)))
-
--- one more interval of a list that is in order
-pub moved : (nodes : List Interval) (i : ℕ) (es more : List (ℕ × ℕ)) (d : Interval) → StandApart nodes → i < length nodes → intervals_of es ≡ take i nodes → more ≡ insert_entry nat_cmp es (get_or nodes i d).low (get_or nodes i d).top → intervals_of more ≡ take (i + 1) nodes
-moved nodes i es more d stands within so_far new =
-    let g = get_or nodes i d in
-    let below : (h : Interval) → Contains (intervals_of es) h → h.low < g.low = λ h among.
-    let there = subst (λ (l : List Interval). Contains l h) so_far among in
-    let k = there.0 in
-    let under : k < i = omega (arith, there.1, length-take-le i nodes (omega arith)) in
-    let read = sym (get_or-take i nodes k h under) ∙ there.2 in
-    let order = apart_at nodes k i h stands.apart under within in
-    let up = stands.rise h (k, (omega arith), read) in
-    let top = ap (λ (j : Interval). j.top) read in
-    let low = ap (λ (j : Interval). j.low) (get_or_default nodes i h d within) in
-    omega arith in
-    ap intervals_of (new ∙ put_last g.low g.top es below)
-    ∙ map_push interval_of_entry es (g.low, g.top)
-    ∙ ap (λ (l : List Interval). l ++ g ∷ []) so_far
-    ∙ sym (take_more nodes i d within)
+-- all rise where an interval that rises joined others that do
+pub rise_grown : (nodes more : List Interval) (g : Interval) → IsGrown nodes g more → g.low < g.top → Rise nodes → Rise more
+rise_grown nodes more g grown rises rise h among =
+    elim (grown.cases h among) as (λ _. h.low < h.top) [
+      | inl is_g ↦ subst (λ (j : Interval). j.low < j.top) is_g rises
+      | inr old ↦ rise h old
+    ]

@@ -4,7 +4,6 @@ pub mod Intervals
 pub mod Joins
 pub mod KnownFacts
 pub mod LevelSteps
-pub mod ListedNodes
 pub mod ReificationSteps
 pub mod NodeSteps
 pub mod Places

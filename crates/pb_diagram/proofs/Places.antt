@@ -13,7 +13,7 @@ use Rattle.pb_diagram.specs.Intervals.{AreApart}
 use Rattle.pb_diagram.specs.inner.Links.{StandApart}
 
 -- an earlier node ends before a later one begins
-pub apart_at : (nodes : List Interval) (i j : ℕ) (d : Interval) → AreApart nodes → i < j → j < length nodes → (get_or nodes i d).top ≤ (get_or nodes j d).low
+apart_at : (nodes : List Interval) (i j : ℕ) (d : Interval) → AreApart nodes → i < j → j < length nodes → (get_or nodes i d).top ≤ (get_or nodes j d).low
 apart_at [] i j d apart below within = absurd (omega arith)
 apart_at (g ∷ gs) i zero d apart below within = absurd (omega arith)
 apart_at (g ∷ gs) zero (suc j) d apart below within = apart.0 (get_or gs j d) (Contains-get_or gs j d (omega arith))

@@ -1,5 +1,5 @@
 -- The intervals of a map from beginnings to ends. It serves proofs alone.
-use Rattle.std.specs.Prelude.{◌≡◌, ◌<◌, ◌⊎◌, ℕ, List, [], ◌++◌, Contains, map}
+use Rattle.std.specs.Prelude.{◌<◌, ℕ, List, Contains, map}
 use Rattle.pb_diagram.specs.declared.interval.Interval.{Interval}
 use Rattle.pb_diagram.specs.Levels.{interval_from}
 
@@ -12,7 +12,3 @@ intervals_of entries = map interval_of_entry entries
 -- each ends above its beginning
 abbrev pub Rise : List Interval → Type 0
 Rise gs = (g : Interval) → Contains gs g → g.low < g.top
-
--- intervals that rise stand in a list, or else in a map
-abbrev pub IsListOrMap : List Interval → List (ℕ × ℕ) → Type 0
-IsListOrMap few entries = Rise (few ++ intervals_of entries) × ((few ≡ []) ⊎ (entries ≡ []))

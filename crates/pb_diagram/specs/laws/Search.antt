@@ -37,12 +37,6 @@ IsUnknown nodes residue = (h : Interval) → Contains nodes h → ¬ LiesIn resi
 abbrev pub IsFound : List Interval → ℕ → Option Interval → Type 0
 IsFound nodes residue found = MatchOption found (IsUnknown nodes residue) (λ g. Contains nodes g × LiesIn residue g)
 
--- a place behind the intervals that end not above a residue, and before all others
-pub record IsPlaceAfter (nodes : List Interval) (residue place : ℕ) : Type 0 where
-  pub within : place ≤ length nodes
-  pub before : (k : ℕ) (d : Interval) → k < place → (slice_index_or nodes k d).top ≤ residue
-  pub after : (k : ℕ) (d : Interval) → place ≤ k → k < length nodes → residue < (slice_index_or nodes k d).top
-
 -- the children of a node are known
 pub record IsIntervalClosed (a : ℕ) (rest : List ℕ) (next : List Interval) (g : Interval) : Type 0 where
   pub off : g.low < sum rest → IsKnown next g.low
