@@ -198,7 +198,7 @@ module _ (c : Constraint) (modest : IsModest c) (first fresh id : ℕ) (original
 
   reduced_fine : (t : Treatment) (m : BoundedSum) (next : ℕ) → 1 ≤ first → sum_fresh t m ≡ fresh → 1 ≤ next → next + 1 ≤ 2 ^ 61 → AreOriginal first m.terms → IsDerivable t m → sum_count t m ≤ 2 ^ 56 → IsCoreOf m c
       → length c.terms ≤ 2 ^ 21 → length m.terms ≤ length c.terms
-      → AreFine (512 * (fresh + 1) * length m.terms + 2 ^ 20 * (fresh + sum_count t m + 4) + (91 + 14 * length (units_of c))) (rest_steps (Pol (core_ops c id)) t (rest.General m) first id next)
+      → AreFine (512 * (fresh + 1) * length m.terms + 2 ^ 20 * (fresh + sum_count t m + 3) + (91 + 14 * length (units_of c))) (rest_steps (Pol (core_ops c id)) t (rest.General m) first id next)
   reduced_fine t m next low same from early own ok count is short fewer =
       let Fits : Step → Type 0 = λ s. line_size s ≤ 2 ^ 28 in
       let steps = sum_steps t m first next (next + 1) in
@@ -209,8 +209,8 @@ module _ (c : Constraint) (modest : IsModest c) (first fresh id : ℕ) (original
       let del_line = lines_are_bounded del ((known, tt), some_ids next []) in
       let del_size : step_size del ≡ 24 = refl in
       let family = sum_short t m ok (room_of t m count) first next (next + 1) own (sum_start t m next low same from early) (omega (arith, short, fewer)) in
-      let bytes : sum_by line_size steps ≤ 512 * (fresh + 1) * length m.terms + 2 ^ 20 * (fresh + sum_count t m + 4) =
-      subst (λ (k : ℕ). sum_by line_size steps ≤ 512 * (k + 1) * length m.terms + 2 ^ 20 * (k + sum_count t m + 4)) same family.all in
+      let bytes : sum_by line_size steps ≤ 512 * (fresh + 1) * length m.terms + 2 ^ 20 * (fresh + sum_count t m + 3) =
+      subst (λ (k : ℕ). sum_by line_size steps ≤ 512 * (k + 1) * length m.terms + 2 ^ 20 * (k + sum_count t m + 3)) same family.all in
       record {
         sayable = reduced_sayable t m next low same from early own ok count is;
         each = All-cons Fits pol (steps ++ del ∷ []) (omega (arith, pol_line, ops_size, units_short c, short))
@@ -226,7 +226,7 @@ module _ (c : Constraint) (modest : IsModest c) (first fresh id : ℕ) (original
 
   fine_sum : (t : Treatment) (m : BoundedSum) (next : ℕ) → 1 ≤ first → sum_fresh t m ≡ fresh → 1 ≤ next → next + 1 ≤ 2 ^ 61 → AreOriginal first m.terms → IsDerivable t m → sum_count t m ≤ 2 ^ 56 → IsCoreOf m c
       → length c.terms ≤ 2 ^ 21 → length m.terms ≤ length c.terms
-      → AreFine (512 * (fresh + 1) * length c.terms + 2 ^ 20 * (fresh + sum_count t m + 4) + (230 + 14 * length (units_of c))) (rest_steps (Pol (core_ops c id)) t (rest.General m) first id next)
+      → AreFine (512 * (fresh + 1) * length c.terms + 2 ^ 20 * (fresh + sum_count t m + 3) + (230 + 14 * length (units_of c))) (rest_steps (Pol (core_ops c id)) t (rest.General m) first id next)
   fine_sum t m next low same from early own ok count is short fewer =
       let longer = mul-le (512 * (fresh + 1)) (length m.terms) (512 * (fresh + 1)) (length c.terms) (omega arith) fewer in
       fine_more (reduced_fine t m next low same from early own ok count is short fewer) (omega (arith, longer))
@@ -243,7 +243,7 @@ module _ (c : Constraint) (modest : IsModest c) (first fresh id : ℕ) (original
   rest_sayable t (rest.General m) next low same from early own ok count left = reduced_sayable t m next low same from early own ok count left
 
   abbrev Most : Treatment → Rest → ℕ
-  Most t r = 512 * (fresh + 1) * length c.terms + 2 ^ 20 * (fresh + rest_count t r + 4) + (230 + 14 * length (units_of c))
+  Most t r = 512 * (fresh + 1) * length c.terms + 2 ^ 20 * (fresh + rest_count t r + 3) + (230 + 14 * length (units_of c))
 
   rest_fine : (t : Treatment) (r : Rest) (next : ℕ) → 1 ≤ first → rest_fresh t r ≡ fresh → 1 ≤ next → next + 1 ≤ 2 ^ 61 → RestOver (λ v. (1 ≤ v) × (v < first)) r → IsRestDerivable t r → rest_count t r ≤ 2 ^ 56 → IsLeftOf c r
       → length c.terms ≤ 2 ^ 21 → length (rest_terms r) ≤ length c.terms → AreFine (Most t r) (rest_steps (Pol (core_ops c id)) t r first id next)

@@ -24,12 +24,12 @@ pub record IsReadyWith (c : Constraint) (first fresh id : ℕ) (db : Database) :
 -- each line, and all together, of the clauses of a constraint of n terms
 pub record AreBrief (n fresh clauses : ℕ) (steps : List Step) : Type 0 where
   pub each : All (λ s. line_size s ≤ 2 ^ 28) steps
-  pub all : sum_by line_size steps ≤ 512 * (fresh + 1) * n + 2 ^ 20 * (fresh + clauses + 5)
+  pub all : sum_by line_size steps ≤ 512 * (fresh + 1) * n + 2 ^ 20 * (fresh + clauses + 4)
 
 -- of the clauses of an equality, whose halves have n terms each
 pub record AreBothBrief (n fresh clauses : ℕ) (steps : List Step) : Type 0 where
   pub each : All (λ s. line_size s ≤ 2 ^ 28) steps
-  pub all : sum_by line_size steps ≤ 512 * (fresh + 2) * n + 2 ^ 20 * (fresh + clauses + 10)
+  pub all : sum_by line_size steps ≤ 512 * (fresh + 2) * n + 2 ^ 20 * (fresh + clauses + 8)
 
 -- the ids of steps from the next one on are within a bound
 abbrev pub LeavesIds : (ℕ → List Step) → ℕ → Type 0

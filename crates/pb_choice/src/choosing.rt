@@ -1,15 +1,16 @@
 //! The choice of a family.
-ghost use Rattle.std.specs.Prelude.{◌≤◌, ◌<◌, ◌^◌, IfOk, length};
+ghost use Rattle.std.specs.Prelude.{◌≡◌, ◌≤◌, ◌<◌, ◌^◌, IfOk, length};
 ghost use Rattle.pb_norm.specs.Constraints.{weight};
 ghost use Rattle.pb_norm.specs.BoundedSums.{IsProper};
 ghost use Rattle.pb_norm.specs.Classes.{IsAtMostOne, IsCardinality, RestIs};
-ghost use Rattle.pb_choice.specs.Choice.{amo_treatment, card_treatment, general_treatment, within_budget};
+ghost use Rattle.pb_choice.specs.Choice.{amo_treatment, card_treatment, general_treatment, treatment_of, within_budget};
 ghost use Rattle.pb_choice.specs.inner.Chosen.{IsChosen};
 ghost use Rattle.pb_choice.specs.inner.Residual.{rest_terms, IsLeft};
 
 use crate::chosen::Chosen;
 use crate::held::AtMostOne;
 use crate::residual::Residual;
+use crate::treatment::Treatment;
 use crate::within::{adder_of, counter_within, diagram_within, totalizer_within, tree_within};
 use pb_base::{Amo, Card, General, NoMemory, Options};
 use pb_norm::{AtMost, Rest};
@@ -77,5 +78,20 @@ pub fn residual_of(alloc: Global, options: &Options, rest: Rest) -> Result<Resid
         Rest::One(sum) => Ok(Residual::Sum(one_of(options.amo, sum))),
         Rest::Card(sum) => Ok(Residual::Sum(card_of(alloc, options, sum)?)),
         Rest::General(sum) => Ok(Residual::Sum(general_of(alloc, options, sum)?)),
+    }
+}
+
+/// The same where the adder is known to be chosen: nothing else is built first.
+pub fn adder_left(alloc: Global, options: &Options, rest: Rest) -> Result<Residual, NoMemory>
+    requires class { RestIs rest }
+    requires light { weight (rest_terms rest) < 2 ^ 100 }
+    requires modest { options.now.budget ≤ 10000000 }
+    requires adder { treatment_of options.now rest ≡ Treatment.Adder }
+    ensures { IfOk result (IsLeft options.now rest) }
+{
+    match rest {
+        Rest::Card(sum) => Ok(Residual::Sum(adder_of(alloc, sum)?)),
+        Rest::General(sum) => Ok(Residual::Sum(adder_of(alloc, sum)?)),
+        other => residual_of(alloc, options, other),
     }
 }

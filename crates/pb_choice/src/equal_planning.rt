@@ -4,12 +4,13 @@ ghost use Rattle.std.specs.Option.{MatchOption};
 ghost use Rattle.pb_norm.specs.Constraints.{IsLinear, weight};
 ghost use Rattle.pb_norm.specs.Reduction.{first_coef, lits_of};
 ghost use Rattle.pb_totalizer.specs.ExactSum.{exact_sum};
+ghost use Rattle.pb_choice.specs.Choice.{IsSentToAdder};
 ghost use Rattle.pb_choice.specs.Equals.{is_joining, is_joint, literals_asked};
 ghost use Rattle.pb_choice.specs.EqualPlans.{HasPartsOf, IsEqualPlan};
 
 use crate::asking::{asks_for_number, number_asked};
 use crate::equal::EqualPlan;
-use crate::planning::plan;
+use crate::planning::{plan, plan_adder};
 use pb_base::{EqualMode, Lits, NoMemory, Options};
 use pb_family::Built;
 use pb_norm::{Linear, first_coef, lits_of};
@@ -101,4 +102,25 @@ pub fn plan_equal<'a>(
         }
         None => plan_halves(alloc, lower, upper, options),
     }
+}
+
+/// The same where the equality is not encoded as one, and both halves are known to go to the adder.
+pub fn plan_adders<'a>(
+    alloc: Global,
+    lower: &'a Linear,
+    upper: &'a Linear,
+    options: &Options,
+) -> Result<EqualPlan<'a>, NoMemory>
+    requires lower_light { weight lower.now.terms < 2 ^ 100 }
+    requires upper_light { weight upper.now.terms < 2 ^ 100 }
+    requires modest { options.now.budget ≤ 10000000 }
+    requires split { is_joint options.now lower.now ≡ false }
+    requires lower_adder { IsSentToAdder options.now lower.now }
+    requires upper_adder { IsSentToAdder options.now upper.now }
+    ensures choice { IfOk result (IsEqualPlan options.now lower.now upper.now) }
+    ensures parts { IfOk result (HasPartsOf options.now lower.now upper.now) }
+{
+    let one = plan_adder(alloc, lower, options)?;
+    let other = plan_adder(alloc, upper, options)?;
+    Ok(EqualPlan::Split(one, other))
 }

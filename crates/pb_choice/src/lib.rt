@@ -24,8 +24,8 @@ pub use equal::EqualPlan;
 pub use equal_laws::{
     equalities_derive, equalities_encode, equalities_force, statements_have_halves,
 };
-pub use equal_planning::plan_equal;
+pub use equal_planning::{plan_adders, plan_equal};
 pub use laws::{clauses_encode, clauses_force, constraints_derive};
-pub use planning::plan;
+pub use planning::{plan, plan_adder};
 pub use plans::{Counts, Plan};
 pub use treatment::Treatment;

@@ -10,4 +10,4 @@ line_size s = length (step_line s) + 1
 -- each line, and all together, of the clauses that stand for a sum of n terms
 pub record AreShort (n fresh clauses : ℕ) (steps : List Step) : Type 0 where
   pub each : All (λ s. line_size s ≤ 2 ^ 28) steps
-  pub all : sum_by line_size steps ≤ 512 * (fresh + 1) * n + 2 ^ 20 * (fresh + clauses + 4)
+  pub all : sum_by line_size steps ≤ 512 * (fresh + 1) * n + 2 ^ 20 * (fresh + clauses + 3)

@@ -43,7 +43,7 @@ pub constraint-few : (o : Options) (n : ℕ) (c : Constraint) (first id next : �
 constraint-few o n c first id next light = constraints_few o c first id next (modest o n c light)
 
 -- the bytes of all lines, where the terms are few
-pub bytes_small : (n fresh clauses bytes : ℕ) → n ≤ 2 ^ 20 + 1 → bytes ≤ 512 * (fresh + 1) * n + 2 ^ 20 * (fresh + clauses + 5) → bytes ≤ 2 ^ 30 * fresh + 2 ^ 21 * clauses + 512 * n + 2 ^ 23 * 1
+pub bytes_small : (n fresh clauses bytes : ℕ) → n ≤ 2 ^ 20 + 1 → bytes ≤ 512 * (fresh + 1) * n + 2 ^ 20 * (fresh + clauses + 4) → bytes ≤ 2 ^ 30 * fresh + 2 ^ 21 * clauses + 512 * n + 2 ^ 23 * 1
 bytes_small n fresh clauses bytes few h =
     let more : 512 * (fresh + 1) ≡ 512 * fresh + 512 = omega arith in
     let parts : 512 * (fresh + 1) * n ≡ 512 * fresh * n + 512 * n = ap (λ (k : ℕ). k * n) more ∙ add-mul (512 * fresh) 512 n in

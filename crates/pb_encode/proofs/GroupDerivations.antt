@@ -72,7 +72,7 @@ abbrev pub term_total : List Constraint → ℕ
 term_total cs = sum_by (λ (c : Constraint). length c.terms) cs
 
 -- the bytes of all lines of an equality, where the terms are few
-both_bytes_small : (n fresh clauses bytes : ℕ) → n ≤ 2 ^ 20 + 1 → bytes ≤ 512 * (fresh + 2) * n + 2 ^ 20 * (fresh + clauses + 10) → bytes ≤ 2 ^ 30 * fresh + 2 ^ 21 * clauses + 512 * (n + n) + 2 ^ 23 * 2
+both_bytes_small : (n fresh clauses bytes : ℕ) → n ≤ 2 ^ 20 + 1 → bytes ≤ 512 * (fresh + 2) * n + 2 ^ 20 * (fresh + clauses + 8) → bytes ≤ 2 ^ 30 * fresh + 2 ^ 21 * clauses + 512 * (n + n) + 2 ^ 23 * 2
 both_bytes_small n fresh clauses bytes few h =
     let more : 512 * (fresh + 2) ≡ 512 * fresh + 1024 = omega arith in
     let parts : 512 * (fresh + 2) * n ≡ 512 * fresh * n + 1024 * n = ap (λ (k : ℕ). k * n) more ∙ add-mul (512 * fresh) 1024 n in

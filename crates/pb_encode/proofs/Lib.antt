@@ -35,6 +35,7 @@ pub mod StreamSteps
 pub mod TableStreams
 pub mod TableTerms
 pub mod TallyLemmas
+pub mod Telling
 pub mod Walks
 pub mod WeightedTexts
 pub mod WholeTexts

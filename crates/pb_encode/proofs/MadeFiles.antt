@@ -11,7 +11,7 @@ use Rattle.pb_encode.specs.Encodings.{begun, LeavesPart, StopsMaking}
 use Rattle.pb_encode.specs.Encodings.LacksToMake.{no_room}
 use Rattle.pb_encode.specs.Encodings.LeavesPart.{cut_off as leaves_cut, left}
 use Rattle.pb_encode.specs.Encodings.StopsMaking.{in_text}
-use Rattle.pb_encode.specs.inner.Sending.{LacksFor, Stops, StopsSending, WantsSending}
+use Rattle.pb_encode.specs.inner.Sending.{Stops, StopsSending, WantsSending}
 use Rattle.pb_encode.specs.inner.Sending.WantsSending.{cut_off, sent}
 use Rattle.pb_encode.proofs.Residuals.{was_handed}
 

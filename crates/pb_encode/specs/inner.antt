@@ -1,3 +1,4 @@
+pub mod Adders
 pub mod Faults
 pub mod Files
 pub mod GroupPlans

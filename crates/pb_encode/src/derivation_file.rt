@@ -8,13 +8,15 @@ ghost use Rattle.pb_dimacs.specs.Outboxes.{IsAllSent};
 ghost use Rattle.pb_norm.specs.Halves.{constraints_of, loaded};
 ghost use Rattle.pb_norm.specs.Products.{defining, loaded_of};
 ghost use Rattle.pb_encode.specs.Encodings.{derivation_text, made};
+ghost use Rattle.pb_encode.specs.Groups.{groups_of};
+ghost use Rattle.pb_encode.specs.inner.Adders.{TellAdders};
 ghost use Rattle.pb_encode.specs.inner.Files.{LacksForProof, LeavesProof, StopsProof};
 ghost use Rattle.pb_encode.specs.inner.Sending.{LacksFor, Stops};
 ghost use Rattle.pb_encode.specs.inner.SendingTexts.{SendsText};
 ghost use Rattle.pb_encode.specs.Summaries.{IsEncodable};
 
 use crate::fault::EncodeFault;
-use crate::whole::stream_steps;
+use crate::whole::stream_told_steps;
 use pb_base::{Lits, Options, Problem, Raw};
 use pb_desk::Desk;
 use pb_dimacs::{StepWriter, WriteBuffer};
@@ -72,16 +74,18 @@ fn send_steps<'a, D: Desk>(
     alloc: Global,
     problem: &Problem,
     options: &Options,
+    adders: &[bool],
     writer: &mut StepWriter<'a, D>,
 ) -> Result<(), SinkFault>
     requires within { IsWithinLimits problem.now }
     requires encodable { IsEncodable options.now problem.now }
     requires modest { options.now.budget ≤ 10000000 }
+    requires told { TellAdders options.now (groups_of problem.now) adders.now }
     requires next { (⟦<StepWriter<'a, D> as StepSink>⟧.state writer.old).next ≡ length (loaded_of problem.now) + 1 }
     ensures sends { let seen = ⟦<StepWriter<'a, D> as StepSink>⟧.state in SendsText (derivation_text options.now problem.now) result (seen writer.old).sink (seen writer.new).sink }
     ensures all_sent { OnOk result (IsAllSent ((⟦<StepWriter<'a, D> as StepSink>⟧.state writer.new).sink)) }
 {
-    match stream_steps(alloc, problem, options, writer) {
+    match stream_told_steps(alloc, problem, options, adders, writer) {
         Ok(()) => Ok(writer.flush()?),
         Err(fault) => {
             writer.settle(fault);
@@ -95,11 +99,13 @@ fn write_steps<D: Desk>(
     alloc: Global,
     problem: &Problem,
     options: &Options,
+    adders: &[bool],
     desk: &mut D,
 ) -> Result<(), EncodeFault>
     requires within { IsWithinLimits problem.now }
     requires encodable { IsEncodable options.now problem.now }
     requires modest { options.now.budget ≤ 10000000 }
+    requires told { TellAdders options.now (groups_of problem.now) adders.now }
     requires open { IsTrue ((D.state desk.old).view.writing 1) }
     ensures written { OnOk result (Reaches (wrote 1 (derivation_text options.now problem.now)) (D.state desk.old) (D.state desk.new)) }
     ensures stopped { IfErr result (Stops 1 (derivation_text options.now problem.now) (D.state desk.old) (D.state desk.new)) }
@@ -109,7 +115,7 @@ fn write_steps<D: Desk>(
     let mut outbox = WriteBuffer::new(alloc)?;
     let mut line = Vec::new(alloc);
     let mut writer = StepWriter::new(alloc, desk, 1, &mut outbox, &mut line, next);
-    send_steps(alloc, problem, options, &mut writer)?;
+    send_steps(alloc, problem, options, adders, &mut writer)?;
     Ok(())
 }
 
@@ -118,12 +124,14 @@ pub fn encode_steps<D: Desk>(
     alloc: Global,
     problem: &Problem,
     options: &Options,
+    adders: &[bool],
     name: &str,
     desk: &mut D,
 ) -> Result<(), EncodeFault>
     requires within { IsWithinLimits problem.now }
     requires encodable { IsEncodable options.now problem.now }
     requires modest { options.now.budget ≤ 10000000 }
+    requires told { TellAdders options.now (groups_of problem.now) adders.now }
     requires free { (D.state desk.old).view.writing 1 ≡ false }
 
     ensures made { OnOk result (Reaches (made 1 name.now (derivation_text options.now problem.now)) (D.state desk.old) (D.state desk.new)) }
@@ -134,7 +142,7 @@ pub fn encode_steps<D: Desk>(
     ensures steady { IsSteady (D.state desk.old) → result ≡ Err EncodeFault.WriteFault → LacksForProof options.now problem.now name.now (D.state desk.old) }
 {
     desk.create(1, name)?;
-    write_steps(alloc, problem, options, desk)?;
+    write_steps(alloc, problem, options, adders, desk)?;
     desk.close(1)?;
     Ok(())
 }

@@ -1,13 +1,14 @@
 //! How a group of constraints is encoded.
-ghost use Rattle.std.specs.Prelude.{◌≡◌, ◌≤◌, ◌+◌, ◌^◌, IfOk};
+ghost use Rattle.std.specs.Prelude.{◌≡◌, ◌≤◌, ◌+◌, ◌^◌, IfOk, IsTrue};
 ghost use Rattle.pb_family.specs.Handing.{HandsIfMemory};
 ghost use Rattle.pb_family.specs.StepSinks.{HandsFrom};
 ghost use Rattle.pb_choice.specs.Readiness.{LeavesIds};
+ghost use Rattle.pb_encode.specs.inner.Adders.{IsAdderGroup};
 ghost use Rattle.pb_encode.specs.inner.GroupPlans.{plan_clauses, plan_count, plan_fresh, plan_size, plan_steps, IsGroupPlan, IsLightGroup, IsPlanBelow};
 
 use crate::groups::Group;
 use pb_base::{NoMemory, Options};
-use pb_choice::{Counts, EqualPlan, Plan, plan, plan_equal};
+use pb_choice::{Counts, EqualPlan, Plan, plan, plan_adder, plan_adders, plan_equal};
 use pb_family::{ClauseSink, SinkFault, StepSink};
 use std::alloc::Global;
 
@@ -27,16 +28,41 @@ impl Drop for GroupPlan<'_> {
     }
 }
 
-/// How a group is encoded under some options.
-pub fn plan_group<'a>(
+// How a group is encoded that is known to go to the adder.
+fn plan_adder_group<'a>(
     alloc: Global,
     group: &'a Group,
     options: &Options,
 ) -> Result<GroupPlan<'a>, NoMemory>
     requires light { IsLightGroup group.now }
     requires modest { options.now.budget ≤ 10000000 }
+    requires adder { IsAdderGroup options.now group.now }
     ensures { IfOk result (IsGroupPlan options.now group.now) }
 {
+    match group {
+        Group::Alone(constraint) => Ok(GroupPlan::Alone(plan_adder(alloc, constraint, options)?)),
+        Group::Paired(lower, upper) => {
+            let plan = plan_adders(alloc, lower, upper, options)?;
+            Ok(GroupPlan::Paired(plan))
+        }
+    }
+}
+
+/// How a group is encoded under some options. Where it is known to go to the adder, no other family is built.
+pub fn plan_group<'a>(
+    alloc: Global,
+    group: &'a Group,
+    options: &Options,
+    is_adder: bool,
+) -> Result<GroupPlan<'a>, NoMemory>
+    requires light { IsLightGroup group.now }
+    requires modest { options.now.budget ≤ 10000000 }
+    requires adder { IsTrue is_adder → IsAdderGroup options.now group.now }
+    ensures { IfOk result (IsGroupPlan options.now group.now) }
+{
+    if is_adder {
+        return plan_adder_group(alloc, group, options);
+    }
     match group {
         Group::Alone(constraint) => Ok(GroupPlan::Alone(plan(alloc, constraint, options)?)),
         Group::Paired(lower, upper) => {

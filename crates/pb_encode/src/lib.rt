@@ -1,6 +1,7 @@
 //! Encodes problems as clauses.
 #![tactic(auto)]
 
+mod adders;
 mod bounds;
 mod derivation;
 mod derivation_file;
@@ -27,7 +28,7 @@ pub use fault::{EncodeFault, MeasureFault};
 pub use measuring::measure;
 pub use models::{
     clauses_force_what_constraints_do, clauses_have_the_solutions, equalities_stand_apart,
-    rows_bound_the_objective,
+    groups_have_the_constraints, rows_bound_the_objective,
 };
 pub use summary::{Summary, Treatments, summary_text};
 pub use table::table_of;

@@ -6,9 +6,11 @@ ghost use Rattle.pb_gentot.specs.BoundTable.{table_fresh};
 ghost use Rattle.pb_encode.specs.Groups.{groups_of};
 ghost use Rattle.pb_encode.specs.Summaries.{summary_of, IsEncodable, IsOver};
 ghost use Rattle.pb_encode.specs.Tables.{table_terms};
+ghost use Rattle.pb_encode.specs.inner.Adders.{IsTold, TellAdders};
 ghost use Rattle.pb_encode.specs.inner.GroupPlans.{IsLightGroup};
 ghost use Rattle.pb_encode.specs.inner.Tallies.{Counts, IsTally};
 
+use crate::adders::are_adders;
 use crate::fault::MeasureFault;
 use crate::group_plan::plan_group;
 use crate::groups::{Group, Groups};
@@ -20,32 +22,42 @@ use pb_family::Built;
 use pb_gentot::BoundTable;
 use std::alloc::Global;
 
-// Counts the constraints of a group.
+// Counts the constraints of a group, and notes whether they go to the adder.
 fn count_group(
     alloc: Global,
     group: &Group,
     options: &Options,
     tally: &mut Tally,
+    adders: &mut Vec<bool>,
 ) -> Result<(), NoMemory>
     requires light { IsLightGroup group.now }
     requires modest { options.now.budget ≤ 10000000 }
-    ensures { OnOk result (Counts options.now tally.old tally.new (group.now ∷ [])) }
+    ensures counts { OnOk result (Counts options.now tally.old tally.new (group.now ∷ [])) }
+    ensures told { OnOk result (IsTold options.now group.now adders.old.items adders.new.items) }
 {
-    let plan = plan_group(alloc, group, options)?;
+    let plan = plan_group(alloc, group, options, false)?;
     tally.add_group(&plan);
+    adders.push(are_adders(&plan))?;
     Ok(())
 }
 
-// Counts all constraints of a problem.
-fn tally_of(alloc: Global, problem: &Problem, options: &Options) -> Result<Tally, NoMemory>
+// Counts all constraints of a problem, and notes which groups go to the adder.
+fn tally_of(
+    alloc: Global,
+    problem: &Problem,
+    options: &Options,
+    adders: &mut Vec<bool>,
+) -> Result<Tally, NoMemory>
     requires within { IsWithinLimits problem.now }
     requires modest { options.now.budget ≤ 10000000 }
-    ensures { IfOk result (IsTally options.now (groups_of problem.now)) }
+    requires none { adders.old.items ≡ [] }
+    ensures counts { IfOk result (IsTally options.now (groups_of problem.now)) }
+    ensures told { OnOk result (TellAdders options.now (groups_of problem.now) adders.new.items) }
 {
     let mut tally = Tally::new();
     let mut groups = Groups::of(problem);
     while let Some(group) = groups.next(alloc)? {
-        count_group(alloc, &group, options, &mut tally)?;
+        count_group(alloc, &group, options, &mut tally, adders)?;
     }
     Ok(tally)
 }
@@ -64,16 +76,19 @@ fn measure_with(
     problem: &Problem,
     options: &Options,
     table: &BoundTable,
+    adders: &mut Vec<bool>,
 ) -> Result<Summary, MeasureFault>
     requires within { IsWithinLimits problem.now }
     requires modest { options.now.budget ≤ 10000000 }
+    requires none { adders.old.items ≡ [] }
     requires terms { table.now ≡ table_terms options.now problem.now }
     requires bounds { table_fresh (table_terms options.now problem.now) ≤ options.now.budget }
+    ensures told { OnOk result (TellAdders options.now (groups_of problem.now) adders.new.items) }
     ensures summary { IfOk result (λ summary. summary ≡ summary_of options.now problem.now) }
     ensures encodable { OnOk result (IsEncodable options.now problem.now) }
     ensures limit { (which : LimitKind) → result ≡ Err (MeasureFault.Limit which) → IsOver which options.now problem.now }
 {
-    let tally = tally_of(alloc, problem, options)?;
+    let tally = tally_of(alloc, problem, options, adders)?;
     let loaded = (problem.originals() as u64).saturating_add(tally.fresh);
     let vars = loaded.saturating_add(table.fresh());
     if vars > MAX_VARIABLES as u64 {
@@ -97,6 +112,32 @@ fn measure_with(
     })
 }
 
+/// The size of a problem's encoding, and which groups go to the adder. Their other families passed the budget, or were not built,
+/// so that whoever plans them again need not build these.
+pub fn measure_telling(
+    alloc: Global,
+    problem: &Problem,
+    options: &Options,
+    adders: &mut Vec<bool>,
+) -> Result<Summary, MeasureFault>
+    requires within { IsWithinLimits problem.now }
+    requires modest { options.now.budget ≤ 10000000 }
+    requires none { adders.old.items ≡ [] }
+    ensures told { OnOk result (TellAdders options.now (groups_of problem.now) adders.new.items) }
+    ensures summary { IfOk result (λ summary. summary ≡ summary_of options.now problem.now) }
+    ensures encodable { OnOk result (IsEncodable options.now problem.now) }
+    ensures limit { (which : LimitKind) → result ≡ Err (MeasureFault.Limit which) → IsOver which options.now problem.now }
+{
+    let built = table_of(alloc, problem, options)?;
+    match built {
+        Built::Fits(table) => measure_with(alloc, problem, options, &table, adders),
+        Built::Over => {
+            let which = LimitKind::Bounds;
+            Err(MeasureFault::Limit { which })
+        }
+    }
+}
+
 /// The size of a problem's encoding.
 pub fn measure(alloc: Global, problem: &Problem, options: &Options) -> Result<Summary, MeasureFault>
     requires within { IsWithinLimits problem.now }
@@ -105,12 +146,6 @@ pub fn measure(alloc: Global, problem: &Problem, options: &Options) -> Result<Su
     ensures encodable { OnOk result (IsEncodable options.now problem.now) }
     ensures limit { (which : LimitKind) → result ≡ Err (MeasureFault.Limit which) → IsOver which options.now problem.now }
 {
-    let built = table_of(alloc, problem, options)?;
-    match built {
-        Built::Fits(table) => measure_with(alloc, problem, options, &table),
-        Built::Over => {
-            let which = LimitKind::Bounds;
-            Err(MeasureFault::Limit { which })
-        }
-    }
+    let mut adders = Vec::new(alloc);
+    measure_telling(alloc, problem, options, &mut adders)
 }

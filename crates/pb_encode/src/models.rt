@@ -3,9 +3,10 @@ ghost use Rattle.std.specs.Prelude.{◌≡◌, ◌+◌, true};
 ghost use Rattle.pb_base.specs.declared.problem.Problem.{Problem};
 ghost use Rattle.pb_base.specs.Problems.{IsWithinLimits, originals};
 ghost use Rattle.pb_base.specs.declared.options.Options.{Options};
+ghost use Rattle.pb_norm.specs.Products.{loaded_of};
 ghost use Rattle.pb_encode.specs.Bounds.{bound_rows, TellBounds};
 ghost use Rattle.pb_encode.specs.Clauses.{problem_clauses, problem_vars};
-ghost use Rattle.pb_encode.specs.Groups.{groups_of};
+ghost use Rattle.pb_encode.specs.Groups.{all_members, groups_of};
 ghost use Rattle.pb_encode.specs.Models.{ForceEach, HasSolutionsOf};
 ghost use Rattle.pb_encode.specs.Apart.{AreApart};
 
@@ -14,6 +15,11 @@ use pb_base::EqualMode;
 /// The law that the clauses of a problem have its solutions, under any options.
 pub fn clauses_have_the_solutions()
     ensures { (o : Options) (p : Problem) → IsWithinLimits p → HasSolutionsOf p (problem_vars o p) (problem_clauses o p) }
+{}
+
+/// The law that the constraints of a problem's groups, one after another, are its loaded constraints.
+pub fn groups_have_the_constraints()
+    ensures { (p : Problem) → all_members (groups_of p) ≡ loaded_of p }
 {}
 
 /// The law that unit propagation over all of them reaches what each loaded constraint forces, or a conflict, but for the

@@ -14,16 +14,18 @@ ghost use Rattle.pb_dimacs.specs.WcnfText.{offset_text, softs_text};
 ghost use Rattle.pb_encode.specs.Clauses.{problem_clauses};
 ghost use Rattle.pb_encode.specs.Costs.{objective_form, softs_of, CostsAddUp};
 ghost use Rattle.pb_encode.specs.Encodings.{made, Refuses};
+ghost use Rattle.pb_encode.specs.Groups.{groups_of};
+ghost use Rattle.pb_encode.specs.inner.Adders.{TellAdders};
 ghost use Rattle.pb_encode.specs.inner.Sending.{LacksFor, Stops};
 ghost use Rattle.pb_encode.specs.inner.SendingTexts.{HandsTextIfMemory, SendsText};
 ghost use Rattle.pb_encode.specs.Summaries.{summary_of, IsEncodable};
 ghost use Rattle.pb_encode.specs.Weighted.{weighted_text, HasCostsOf, IsWeightedCutOff, LacksForWeighted, WantsForWeighted};
 
 use crate::fault::EncodeFault;
-use crate::measuring::measure;
+use crate::measuring::measure_telling;
 use crate::objective::{objective_form, offset_by};
 use crate::summary::Summary;
-use crate::whole::hand_clauses;
+use crate::whole::hand_told_clauses;
 use pb_base::{Failed, Options, Problem};
 use pb_desk::Desk;
 use pb_dimacs::{HardWriter, WriteBuffer};
@@ -57,17 +59,19 @@ fn hand_weighted<'a, D: Desk>(
     alloc: Global,
     problem: &Problem,
     options: &Options,
+    adders: &[bool],
     objective: &Linear,
     writer: &mut HardWriter<'a, D>,
 ) -> Result<(), SinkFault>
     requires within { IsWithinLimits problem.now }
     requires encodable { IsEncodable options.now problem.now }
     requires modest { options.now.budget ≤ 10000000 }
+    requires told { TellAdders options.now (groups_of problem.now) adders.now }
     requires objective { objective.now ≡ objective_form problem.now }
     ensures { let seen = ⟦<HardWriter<'a, D> as ClauseSink>⟧.state in HandsTextIfMemory (weighted_text options.now problem.now) result (seen writer.old) (seen writer.new) }
 {
     send_offset(objective, writer)?;
-    hand_clauses(alloc, problem, options, writer)?;
+    hand_told_clauses(alloc, problem, options, adders, writer)?;
     send_softs(objective, writer)?;
     Ok(())
 }
@@ -77,17 +81,19 @@ fn send_weighted<'a, D: Desk>(
     alloc: Global,
     problem: &Problem,
     options: &Options,
+    adders: &[bool],
     objective: &Linear,
     writer: &mut HardWriter<'a, D>,
 ) -> Result<(), SinkFault>
     requires within { IsWithinLimits problem.now }
     requires encodable { IsEncodable options.now problem.now }
     requires modest { options.now.budget ≤ 10000000 }
+    requires told { TellAdders options.now (groups_of problem.now) adders.now }
     requires objective { objective.now ≡ objective_form problem.now }
     ensures sends { let seen = ⟦<HardWriter<'a, D> as ClauseSink>⟧.state in SendsText (weighted_text options.now problem.now) result (seen writer.old) (seen writer.new) }
     ensures all_sent { OnOk result (IsAllSent (⟦<HardWriter<'a, D> as ClauseSink>⟧.state writer.new)) }
 {
-    match hand_weighted(alloc, problem, options, objective, writer) {
+    match hand_weighted(alloc, problem, options, adders, objective, writer) {
         Ok(()) => Ok(writer.flush()?),
         Err(fault) => {
             writer.settle(fault);
@@ -101,12 +107,14 @@ fn write_weighted<D: Desk>(
     alloc: Global,
     problem: &Problem,
     options: &Options,
+    adders: &[bool],
     objective: &Linear,
     desk: &mut D,
 ) -> Result<(), EncodeFault>
     requires within { IsWithinLimits problem.now }
     requires encodable { IsEncodable options.now problem.now }
     requires modest { options.now.budget ≤ 10000000 }
+    requires told { TellAdders options.now (groups_of problem.now) adders.now }
     requires objective { objective.now ≡ objective_form problem.now }
     requires open { IsTrue ((D.state desk.old).view.writing 0) }
     ensures written { OnOk result (Reaches (wrote 0 (weighted_text options.now problem.now)) (D.state desk.old) (D.state desk.new)) }
@@ -115,7 +123,7 @@ fn write_weighted<D: Desk>(
 {
     let mut outbox = WriteBuffer::new(alloc)?;
     let mut writer = HardWriter::new(desk, 0, &mut outbox);
-    send_weighted(alloc, problem, options, objective, &mut writer)?;
+    send_weighted(alloc, problem, options, adders, objective, &mut writer)?;
     Ok(())
 }
 
@@ -142,10 +150,11 @@ pub fn weighted<D: Desk>(
     ensures no_memory { result ≡ Err EncodeFault.NoMemory → WantsForWeighted options.now problem.now name.now (D.state desk.old) (D.state desk.new) }
     ensures steady { IsSteady (D.state desk.old) → result ≡ Err EncodeFault.WriteFault → LacksForWeighted options.now problem.now name.now (D.state desk.old) }
 {
-    let summary = measure(alloc, problem, options)?;
+    let mut adders = Vec::new(alloc);
+    let summary = measure_telling(alloc, problem, options, &mut adders)?;
     let objective = objective_form(alloc, problem)?;
     desk.create(0, name)?;
-    write_weighted(alloc, problem, options, &objective, desk)?;
+    write_weighted(alloc, problem, options, adders.as_slice(), &objective, desk)?;
     desk.close(0)?;
     Ok(summary)
 }

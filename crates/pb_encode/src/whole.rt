@@ -1,17 +1,19 @@
 //! All clauses of a problem and their derivation, handed to a sink: those of its constraints, and then those of its table.
-ghost use Rattle.std.specs.Prelude.{◌≡◌, ◌≤◌, ◌+◌, IfOk, length};
+ghost use Rattle.std.specs.Prelude.{◌≡◌, ◌≤◌, ◌+◌, [], IfOk, OnOk, length};
 ghost use Rattle.pb_base.specs.Problems.{IsWithinLimits};
 ghost use Rattle.pb_norm.specs.Products.{loaded_of};
 ghost use Rattle.pb_family.specs.Handing.{HandsIfMemory};
 ghost use Rattle.pb_family.specs.StepSinks.{HandsFrom, HandsSteps};
 ghost use Rattle.pb_encode.specs.Clauses.{problem_clauses, problem_counts};
+ghost use Rattle.pb_encode.specs.Groups.{groups_of};
 ghost use Rattle.pb_encode.specs.Steps.{problem_steps};
 ghost use Rattle.pb_encode.specs.Summaries.{IsEncodable};
+ghost use Rattle.pb_encode.specs.inner.Adders.{TellAdders};
 ghost use Rattle.pb_encode.specs.inner.Streams.{steps_at_next};
 
 use crate::derivation::{Position, derive_loaded};
 use crate::fault::MeasureFault;
-use crate::measuring::measure;
+use crate::measuring::measure_telling;
 use crate::streaming::stream_loaded;
 use crate::table::{derive_table, stream_table};
 use pb_base::{NoMemory, Options, Problem};
@@ -21,7 +23,25 @@ use pb_steps::Step;
 use std::alloc::Global;
 
 /// Hands over the clauses of a problem: those of its constraints, of which nothing is kept but what one statement needs, and then
-/// those of its table.
+/// those of its table. The bits tell which groups of constraints go to the adder, as far as it is known.
+pub fn hand_told_clauses<S: ClauseSink>(
+    alloc: Global,
+    problem: &Problem,
+    options: &Options,
+    adders: &[bool],
+    sink: &mut S,
+) -> Result<(), SinkFault>
+    requires within { IsWithinLimits problem.now }
+    requires encodable { IsEncodable options.now problem.now }
+    requires modest { options.now.budget ≤ 10000000 }
+    requires told { TellAdders options.now (groups_of problem.now) adders.now }
+    ensures { HandsIfMemory (problem_clauses options.now problem.now) result (S.state sink.old) (S.state sink.new) }
+{
+    let first = stream_loaded(alloc, problem, options, adders, sink)?;
+    stream_table(alloc, problem, options, first, sink)
+}
+
+/// The same where nothing is known of the groups.
 pub fn hand_clauses<S: ClauseSink>(
     alloc: Global,
     problem: &Problem,
@@ -33,18 +53,24 @@ pub fn hand_clauses<S: ClauseSink>(
     requires modest { options.now.budget ≤ 10000000 }
     ensures { HandsIfMemory (problem_clauses options.now problem.now) result (S.state sink.old) (S.state sink.new) }
 {
-    let first = stream_loaded(alloc, problem, options, sink)?;
-    stream_table(alloc, problem, options, first, sink)
+    hand_told_clauses(alloc, problem, options, &[], sink)
 }
 
-// How many fresh variables and clauses the encoding of a problem has that passes no limit.
-fn counts_of(alloc: Global, problem: &Problem, options: &Options) -> Result<Counts, NoMemory>
+// How many fresh variables and clauses the encoding of a problem has that passes no limit, and which groups go to the adder.
+fn counts_of(
+    alloc: Global,
+    problem: &Problem,
+    options: &Options,
+    adders: &mut Vec<bool>,
+) -> Result<Counts, NoMemory>
     requires within { IsWithinLimits problem.now }
     requires encodable { IsEncodable options.now problem.now }
     requires modest { options.now.budget ≤ 10000000 }
-    ensures { IfOk result (λ counts. counts ≡ problem_counts options.now problem.now) }
+    requires none { adders.old.items ≡ [] }
+    ensures counts { IfOk result (λ counts. counts ≡ problem_counts options.now problem.now) }
+    ensures told { OnOk result (TellAdders options.now (groups_of problem.now) adders.new.items) }
 {
-    match measure(alloc, problem, options) {
+    match measure_telling(alloc, problem, options, adders) {
         Ok(summary) => Ok(Counts {
             fresh: (summary.vars - problem.originals()) as u64,
             clauses: summary.clauses,
@@ -68,8 +94,9 @@ pub fn stream_clauses<S: ClauseSink>(
     ensures counts { IfOk result (λ counts. counts ≡ problem_counts options.now problem.now) }
     ensures hands { HandsIfMemory (problem_clauses options.now problem.now) result (S.state sink.old) (S.state sink.new) }
 {
-    let counts = counts_of(alloc, problem, options)?;
-    hand_clauses(alloc, problem, options, sink)?;
+    let mut adders = Vec::new(alloc);
+    let counts = counts_of(alloc, problem, options, &mut adders)?;
+    hand_told_clauses(alloc, problem, options, adders.as_slice(), sink)?;
     Ok(counts)
 }
 
@@ -78,11 +105,13 @@ fn derive_clauses<T: StepSink>(
     alloc: Global,
     problem: &Problem,
     options: &Options,
+    adders: &[bool],
     sink: &mut T,
 ) -> Result<(), SinkFault>
     requires within { IsWithinLimits problem.now }
     requires encodable { IsEncodable options.now problem.now }
     requires modest { options.now.budget ≤ 10000000 }
+    requires told { TellAdders options.now (groups_of problem.now) adders.now }
     requires next { (T.state sink.old).next ≡ length (loaded_of problem.now) + 1 }
     ensures { HandsFrom (steps_at_next options.now problem.now) result (T.state sink.old) (T.state sink.new) }
 {
@@ -90,11 +119,34 @@ fn derive_clauses<T: StepSink>(
         first: problem.originals() + 1,
         id: 1,
     };
-    let next = derive_loaded(alloc, problem, options, position, sink)?;
+    let next = derive_loaded(alloc, problem, options, adders, position, sink)?;
     derive_table(alloc, problem, options, next.first, sink)
 }
 
-/// Hands over the derivation of a problem's clauses, whole.
+/// Hands over the derivation of a problem's clauses, whole. The bits tell which groups of constraints go to the adder, as far as it
+/// is known.
+pub fn stream_told_steps<T: StepSink>(
+    alloc: Global,
+    problem: &Problem,
+    options: &Options,
+    adders: &[bool],
+    sink: &mut T,
+) -> Result<(), SinkFault>
+    requires within { IsWithinLimits problem.now }
+    requires encodable { IsEncodable options.now problem.now }
+    requires modest { options.now.budget ≤ 10000000 }
+    requires told { TellAdders options.now (groups_of problem.now) adders.now }
+    requires next { (T.state sink.old).next ≡ length (loaded_of problem.now) + 1 }
+    ensures { HandsSteps (problem_steps options.now problem.now) result (T.state sink.old) (T.state sink.new) }
+{
+    let count = sink.next_id() - 1;
+    sink.step(&Step::Head)?;
+    sink.step(&Step::Loaded { count })?;
+    derive_clauses(alloc, problem, options, adders, sink)?;
+    sink.step(&Step::End)
+}
+
+/// The same where nothing is known of the groups.
 pub fn stream_steps<T: StepSink>(
     alloc: Global,
     problem: &Problem,
@@ -107,9 +159,5 @@ pub fn stream_steps<T: StepSink>(
     requires next { (T.state sink.old).next ≡ length (loaded_of problem.now) + 1 }
     ensures { HandsSteps (problem_steps options.now problem.now) result (T.state sink.old) (T.state sink.new) }
 {
-    let count = sink.next_id() - 1;
-    sink.step(&Step::Head)?;
-    sink.step(&Step::Loaded { count })?;
-    derive_clauses(alloc, problem, options, sink)?;
-    sink.step(&Step::End)
+    stream_told_steps(alloc, problem, options, &[], sink)
 }

@@ -531,7 +531,7 @@ module _ (m : BoundedSum) (suits : IsForAdder m) (first id next : ℕ) (original
   bytes : (ss : List Step) → All IsFine ss → sum_by step_size ss ≤ 8192 * length ss
   bytes ss h = omega (arith, each_all 8192 ss (All-weaker IsFine (λ (s : Step). step_size s ≤ 8192) (λ s h. h.1) ss h))
 
-  size_all : sum_by step_size steps ≤ 2 ^ 20 * (adder_fresh ts + adder_size ts m.bound + 4)
+  size_all : sum_by step_size steps ≤ 2 ^ 20 * (adder_fresh ts + adder_size ts m.bound + 3)
   size_all =
       omega (
         arith,

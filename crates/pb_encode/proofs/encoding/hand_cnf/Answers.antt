@@ -30,5 +30,5 @@ returns-in_err-header g c =
 
 pub returns : goal.returns
 returns g c =
-    sending_hands c.hand_clauses.result _ (begun c.args.options.now c.args.problem.now c.args.summary.now c.requires.within c.requires.encodable c.requires.summary _ _ c.in_ok-header.ensures)
-    (lines_handed (problem_clauses c.args.options.now c.args.problem.now) c.hand_clauses.result _ _ c.hand_clauses.ensures)
+    sending_hands c.hand_told_clauses.result _ (begun c.args.options.now c.args.problem.now c.args.summary.now c.requires.within c.requires.encodable c.requires.summary _ _ c.in_ok-header.ensures)
+    (lines_handed (problem_clauses c.args.options.now c.args.problem.now) c.hand_told_clauses.result _ _ c.hand_told_clauses.ensures)

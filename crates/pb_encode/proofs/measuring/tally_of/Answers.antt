@@ -9,7 +9,7 @@ pub loop-group-init : goal.loop-group-init
 loop-group-init c =
     let o = c.args.options.now in
     let p = c.args.problem.now in
-    counting_begin o (originals p + 1) (groups_of p) c.of-groups.result c.new-tally.result c.of-groups.ensures (c.new-tally.ensures o) (groups_sound o p (originals p + 1) c.requires.within (omega arith))
+    counting_begin o (originals p + 1) (groups_of p) c.of-groups.result c.new-tally.result c.args.adders.now.items c.of-groups.ensures (c.new-tally.ensures o) (groups_sound o p (originals p + 1) c.requires.within (omega arith)) c.requires.none
 
 pub count_group-requires-clause-light : goal.count_group-requires-clause-light
 count_group-requires-clause-light c =
@@ -19,4 +19,4 @@ count_group-requires-clause-light c =
 pub loop-group-preserved : goal.loop-group-preserved
 loop-group-preserved c =
     let parts : c.loop-group.groups ≡ c.in-Some.group ∷ c.next.new.self = rw c.in-Some.is at c.in_ok-group.ensures.some in
-    counting_more c.in-Some.group c.next.new.self parts c.loop-group.invariant c.count_group.new.tally c.in_ok-count_group.ensures
+    counting_more c.in-Some.group c.next.new.self parts c.loop-group.invariant c.count_group.new.tally c.count_group.new.adders.items c.in_ok-count_group.ensures.counts c.in_ok-count_group.ensures.told

@@ -40,17 +40,17 @@ returns-in_err-send_offset g c =
     sending_stops c.from_residual.result fault.Failed (head_of form) (hard_text (problem_clauses c.args.options.now c.args.problem.now) ++ tail_of form) _ refl c.from_residual.ensures.1
     (starts c.args.options.now c.args.problem.now form c.requires.objective _) c.in_err-send_offset.ensures
 
-pub returns-in_err-hand_clauses : goal.returns-in_err-hand_clauses
-returns-in_err-hand_clauses g c =
+pub returns-in_err-hand_told_clauses : goal.returns-in_err-hand_told_clauses
+returns-in_err-hand_told_clauses g c =
     let form = c.args.objective.now in
-    sending_stops c.from_residual-in_err-hand_clauses.result c.in_err-hand_clauses.field-0.0 (hard_text (problem_clauses c.args.options.now c.args.problem.now)) (tail_of form) _ refl c.from_residual-in_err-hand_clauses.ensures.1
-    (begun c.args.options.now c.args.problem.now form c.requires.objective _ _ c.in_ok-send_offset.ensures) c.in_err-hand_clauses.ensures
+    sending_stops c.from_residual-in_err-hand_told_clauses.result c.in_err-hand_told_clauses.field-0.0 (hard_text (problem_clauses c.args.options.now c.args.problem.now)) (tail_of form) _ refl c.from_residual-in_err-hand_told_clauses.ensures.1
+    (begun c.args.options.now c.args.problem.now form c.requires.objective _ _ c.in_ok-send_offset.ensures) c.in_err-hand_told_clauses.ensures
 
 pub returns-in_err-send_softs : goal.returns-in_err-send_softs
 returns-in_err-send_softs g c =
     sending_stops_last c.from_residual-in_err-send_softs.result fault.Failed _ c.from_residual-in_err-send_softs.ensures.1
-    (hards c.args.options.now c.args.problem.now c.args.objective.now c.requires.objective _ _ _ c.in_ok-send_offset.ensures c.in_ok-hand_clauses.ensures) c.in_err-send_softs.ensures
+    (hards c.args.options.now c.args.problem.now c.args.objective.now c.requires.objective _ _ _ c.in_ok-send_offset.ensures c.in_ok-hand_told_clauses.ensures) c.in_err-send_softs.ensures
 
 pub returns : goal.returns
 returns g c =
-    sending_ends (whole c.args.options.now c.args.problem.now c.args.objective.now c.requires.objective _ _ _ _ c.in_ok-send_offset.ensures c.in_ok-hand_clauses.ensures c.in_ok-send_softs.ensures)
+    sending_ends (whole c.args.options.now c.args.problem.now c.args.objective.now c.requires.objective _ _ _ _ c.in_ok-send_offset.ensures c.in_ok-hand_told_clauses.ensures c.in_ok-send_softs.ensures)

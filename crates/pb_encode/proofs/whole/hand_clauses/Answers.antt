@@ -1,19 +1,6 @@
-use Rattle.pb_family.proofs.Emission.{emitting_starts}
-use Rattle.pb_family.proofs.Stopping.{stops_fault}
-use Rattle.pb_gentot.specs.BoundTable.{table_clauses}
-use Rattle.pb_encode.specs.Clauses.{loaded_clauses, problem_clauses, table_first}
-use Rattle.pb_encode.specs.Tables.{table_terms}
-use Rattle.pb_encode.proofs.TableStreams.{table_last}
+use Rattle.pb_encode.specs.Groups.{groups_of}
+use Rattle.pb_encode.proofs.Telling.{tell_none}
 use Rattle.pb_encode.proofs.whole.hand_clauses.Goals as goal
 
-pub returns-in_err-first : goal.returns-in_err-first
-returns-in_err-first g c =
-    let o = c.args.options.now in
-    let p = c.args.problem.now in
-    stops_fault c.from_residual.result c.in_err-first.field-0.0 (loaded_clauses o p) (table_clauses (table_terms o p) (table_first o p)) (g.S.ClauseSink.state c.stream_loaded.new.sink) c.from_residual.ensures.1
-    (emitting_starts (problem_clauses o p) (g.S.ClauseSink.state c.args.sink.now)) c.in_err-first.ensures.hands
-
-pub returns : goal.returns
-returns g c =
-    table_last c.args.options.now c.args.problem.now (g.S.ClauseSink.state c.args.sink.now) (g.S.ClauseSink.state c.stream_loaded.new.sink) (g.S.ClauseSink.state c.stream_table.new.sink) c.in_ok-first.first c.in_ok-first.ensures.next c.in_ok-first.ensures.hands
-    c.stream_table.result c.stream_table.ensures
+pub hand_told_clauses-requires-clause-told : goal.hand_told_clauses-requires-clause-told
+hand_told_clauses-requires-clause-told g c = tell_none c.args.options.now (groups_of c.args.problem.now)

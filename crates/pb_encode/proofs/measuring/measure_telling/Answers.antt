@@ -4,7 +4,7 @@ use Rattle.pb_base.specs.declared.limit.LimitKind.TheVariants as limit
 use Rattle.pb_gentot.specs.BoundTable.{table_fresh}
 use Rattle.pb_encode.specs.Summaries.{IsOver}
 use Rattle.pb_encode.specs.Tables.{table_terms}
-use Rattle.pb_encode.proofs.measuring.measure.Goals as goal
+use Rattle.pb_encode.proofs.measuring.measure_telling.Goals as goal
 
 pub measure_with-requires-clause-terms : goal.measure_with-requires-clause-terms
 measure_with-requires-clause-terms c = rw c.in-Fits.is at c.in_ok-built.ensures.terms
