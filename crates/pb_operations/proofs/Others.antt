@@ -11,7 +11,7 @@ use Rattle.pb_norm.specs.Constraints.{Weighted, weighted, weights, IsAscending}
 use Rattle.pb_norm.specs.inner.Kept.{on_weight}
 use Rattle.pb_steps.specs.Operations.{is_other, coef_at}
 
-abbrev IsApart : ℕ → Term → Type 0
+abbrev pub IsApart : ℕ → Term → Type 0
 IsApart v t = t.lit.var ≢ v
 
 pub others-none : (v : ℕ) (ts : List Term) → All (IsApart v) ts → filter (on_weight (is_other v)) ts ≡ ts
@@ -33,14 +33,14 @@ later-apart v (t ∷ ts) h =
     let first : v < t.lit.var = All-head (λ (u : Weighted). v < u.lit.var) (weighted t) (weights ts) h in
     All-cons (IsApart v) t ts (λ e. omega (arith, first, e)) (later-apart v ts (All-tail (λ (u : Weighted). v < u.lit.var) (weighted t) (weights ts) h))
 
-abbrev Before : Weighted → Weighted → Type 0
+abbrev pub Before : Weighted → Weighted → Type 0
 Before s t = s.lit.var < t.lit.var
 
-apart-behind : (t : Term) (ts : List Term) → IsAscending (weights (t ∷ ts)) → All (IsApart t.lit.var) ts
+pub apart-behind : (t : Term) (ts : List Term) → IsAscending (weights (t ∷ ts)) → All (IsApart t.lit.var) ts
 apart-behind t ts up = later-apart t.lit.var ts (AllPairs-head Before (weighted t) (weights ts) up)
 
 -- a term in front of one of the variable is of an earlier one
-earlier-apart : (v : ℕ) (t : Term) (ts : List Term) (i : ℕ) → i < length ts → ((d : Term) → (get_or ts i d).lit.var ≡ v) → IsAscending (weights (t ∷ ts)) → IsApart v t
+pub earlier-apart : (v : ℕ) (t : Term) (ts : List Term) (i : ℕ) → i < length ts → ((d : Term) → (get_or ts i d).lit.var ≡ v) → IsAscending (weights (t ∷ ts)) → IsApart v t
 earlier-apart v t ts i below at up e = apart-behind t ts up i t below (at t ∙ sym e)
 
 pub others-remove : (v : ℕ) (ts : List Term) (i : ℕ) → i < length ts → ((d : Term) → (get_or ts i d).lit.var ≡ v) → IsAscending (weights ts) → filter (on_weight (is_other v)) ts ≡ remove ts i

@@ -1,5 +1,5 @@
 -- The parts that the code puts together are those of the constraint that is meant.
-use Rattle.std.proofs.Common.{◌≡◌, ◌≤◌, ◌<◌, ◌+◌, ◌-◌, ◌*◌, ◌^◌, ℕ, zero, suc, Bool, true, false, cond, List, [], ◌∷◌, arith, refl, ap, sym, ◌∙◌, ltb, subst, ◌||◌}
+use Rattle.std.proofs.Common.{◌≡◌, ◌≤◌, ◌<◌, ◌+◌, ◌-◌, ◌*◌, ◌^◌, ℕ, zero, suc, Bool, true, false, cond, List, [], ◌∷◌, arith, refl, ap, sym, ◌∙◌, ltb, subst, ◌||◌, length, get_or, drop, drop-cons}
 use Rattle.std.specs.Prelude.{All, sum_by, map, filter, pos, ◌≤ℤ◌}
 use Rattle.std.proofs.lemmas.Bool.{ltb-true, lt-ltb, and_parts, and_from}
 use Rattle.std.proofs.lemmas.List.Elements.{All-map, All-weaker, All-filter, filter_passes}
@@ -17,9 +17,13 @@ use Rattle.pb_norm.specs.Addition.{sum_of, joined, cancelled}
 use Rattle.pb_norm.proofs.AdditionSizes.{weight-joined}
 use Rattle.pb_norm.proofs.KeptTerms.{weights-map, weights-filter, map-unsigned}
 use Rattle.pb_operations.proofs.Joins.{joined-positive}
+use Rattle.pb_operations.specs.Weakenings.{weakened_by, weakened}
+use Rattle.pb_operations.proofs.Zeroed.{counted, counted-all, counted-weakened}
+use Rattle.pb_steps.specs.declared.op.PolOp.{PolOp}
+use Rattle.pb_steps.specs.declared.op.PolOp.TheVariants.{Push, Axiom, Add, Mul, Div, Saturate, Weaken}
 use Rattle.pb_steps.specs.declared.op.Set.{Set}
 use Rattle.pb_steps.specs.Substitutions.{is_unset, is_made_true, restriction}
-use Rattle.pb_operations.specs.inner.Sides.{gained}
+use Rattle.pb_operations.specs.inner.Sides.{gained, zeroed}
 use Rattle.std.specs.List.{list_any}
 use Rattle.pb_steps.specs.Operations.{IsNarrow, scaled, multiple, shrunk, division, saturation, is_other, coef_at, weakening, negation}
 
@@ -147,18 +151,93 @@ at_most false k = omega arith
 coef_at-sum : (v : ℕ) (c : Constraint) (ts : List Term) → weights ts ≡ c.terms → sum_by (on_weight (coef_at v)) ts ≡ sum_by (coef_at v) c.terms
 coef_at-sum v c ts e = sym (sum_by-map (coef_at v) weighted ts) ∙ ap (sum_by (coef_at v)) e
 
+weakening-linear : (v : ℕ) (c : Constraint) → IsLinear c → IsLinear (weakening v c)
+weakening-linear v c h = record {
+  positive = All-filter (is_other v) (λ t. 0 < t.coef) c.terms h.positive;
+  ascending = filter-ascending (is_other v) c.terms h.ascending;
+  weight_fits = omega (arith, weight-filter (is_other v) c.terms, h.weight_fits);
+  degree_fits = omega (arith, h.degree_fits);
+}
+
 pub weakening-made : (v : ℕ) (c : Constraint) (ts us vs : List Term) (lost degree : ℕ) → IsLinear c → weights ts ≡ c.terms → us ≡ filter (on_weight (is_other v)) ts →
     weights vs ≡ c.terms → lost ≡ sum_by (on_weight (coef_at v)) vs → degree ≡ c.degree - lost → AreUnsigned ts → IsMade (weakening v c) us degree
 weakening-made v c ts us vs lost degree h e f g k m unsigned = record {
   unsigned = subst AreUnsigned (sym f) (All-filter (on_weight (is_other v)) IsUnsigned ts unsigned);
   terms = ap weights f ∙ (weights-filter (is_other v) ts ∙ ap (filter (is_other v)) e);
   degree_is = m ∙ ap (λ (n : ℕ). c.degree - n) (k ∙ coef_at-sum v c vs g);
-  linear = record {
-    positive = All-filter (is_other v) (λ t. 0 < t.coef) c.terms h.positive;
-    ascending = filter-ascending (is_other v) c.terms h.ascending;
-    weight_fits = omega (arith, weight-filter (is_other v) c.terms, h.weight_fits);
-    degree_fits = omega (arith, h.degree_fits);
-  };
+  linear = weakening-linear v c h;
+}
+
+-- ---- weakenings one after the other
+
+weakened_by-linear : (op : PolOp) (c : Constraint) → IsLinear c → IsLinear (weakened_by op c)
+weakened_by-linear (Push id) c h = h
+weakened_by-linear (Axiom l) c h = h
+weakened_by-linear Add c h = h
+weakened_by-linear (Mul n) c h = h
+weakened_by-linear (Div n) c h = h
+weakened_by-linear Saturate c h = h
+weakened_by-linear (Weaken v) c h = weakening-linear v c h
+
+weakened-linear : (ops : List PolOp) (c : Constraint) → IsLinear c → IsLinear (weakened ops c)
+weakened-linear [] c h = h
+weakened-linear (op ∷ ops) c h = weakened-linear ops (weakened_by op c) (weakened_by-linear op c h)
+
+-- nothing is weakened yet
+pub weakened-begun : (ops : List PolOp) (c : Constraint) (ts : List Term) (d : ℕ) → IsLinear c → weights ts ≡ c.terms → d ≡ c.degree → weakened ops c ≡ weakened ops (counted (weights ts) d)
+weakened-begun ops c ts d h e f =
+    let terms : c.terms ≡ filter is_positive (weights ts) = sym (ap (filter is_positive) e ∙ counted-all c.terms h.positive) in
+    let same : c ≡ counted (weights ts) d = λ i. record { terms = terms i; degree = sym f i } in
+    ap (weakened ops) same
+
+-- an operation is behind
+pub weakened-more : (ops : List PolOp) (i : ℕ) (op : PolOp) (c made : Constraint) → i < length ops → op ≡ get_or ops i op → weakened_by op c ≡ made → weakened (drop i ops) c ≡ weakened (drop (i + 1) ops) made
+weakened-more ops i op c made below at e =
+    let next : suc i ≡ i + 1 = omega arith in
+    let parts : drop i ops ≡ op ∷ drop (i + 1) ops = drop-cons ops i op below ∙ (ap (λ (x : PolOp). x ∷ drop (suc i) ops) (sym at) ∙ ap (λ (k : ℕ). op ∷ drop k ops) next) in
+    ap (λ (xs : List PolOp). weakened xs c) parts ∙ ap (weakened (drop (i + 1) ops)) e
+
+-- what an operation does to terms and a degree, where a term of 0 counts for nothing
+pub record IsStep (op : PolOp) (ts : List Term) (degree : ℕ) (us : List Term) (left : ℕ) : Type 0 where
+  pub same : weakened_by op (counted (weights ts) degree) ≡ counted (weights us) left
+  pub ascending : IsAscending (weights us)
+  pub unsigned : AreUnsigned us
+
+pub weakening-step : (op : PolOp) (v : ℕ) (ts us items : List Term) (degree lost left : ℕ) → op ≡ Weaken v → items ≡ us → weights us ≡ map (zeroed v) (weights ts) → (AreUnsigned ts → AreUnsigned us) →
+    lost ≡ sum_by (on_weight (coef_at v)) ts → left ≡ degree - lost → IsAscending (weights ts) → AreUnsigned ts → IsStep op ts degree items left
+weakening-step op v ts us items degree lost left is e f keeps g k ascending unsigned =
+    let zero : weights items ≡ map (zeroed v) (weights ts) = ap weights e ∙ f in
+    let gone : left ≡ degree - sum_by (coef_at v) (weights ts) = k ∙ ap (λ (n : ℕ). degree - n) (g ∙ sym (sum_by-map (coef_at v) weighted ts)) in
+    record {
+      same = ap (λ (o : PolOp). weakened_by o (counted (weights ts) degree)) is ∙ counted-weakened v (weights ts) (weights items) degree left zero gone;
+      ascending = subst IsAscending (sym zero) (map-ascending (zeroed v) (λ t. refl) (weights ts) ascending);
+      unsigned = subst AreUnsigned (sym e) (keeps unsigned);
+    }
+
+weakened_by-other : (op : PolOp) (c : Constraint) → ((v : ℕ) → op ≡ Weaken v → ⊥) → weakened_by op c ≡ c
+weakened_by-other (Push id) c other = refl
+weakened_by-other (Axiom l) c other = refl
+weakened_by-other Add c other = refl
+weakened_by-other (Mul n) c other = refl
+weakened_by-other (Div n) c other = refl
+weakened_by-other Saturate c other = refl
+weakened_by-other (Weaken v) c other = absurd (other v refl)
+
+pub other-step : (op : PolOp) (ts us : List Term) (degree left : ℕ) → ((v : ℕ) → op ≡ Weaken v → ⊥) → us ≡ ts → left ≡ degree → IsAscending (weights ts) → AreUnsigned ts → IsStep op ts degree us left
+other-step op ts us degree left other e f ascending unsigned =
+    let same : counted (weights ts) degree ≡ counted (weights us) left = λ i. counted (weights (sym e i)) (sym f i) in
+    record {
+      same = weakened_by-other op (counted (weights ts) degree) other ∙ same;
+      ascending = subst (λ (xs : List Term). IsAscending (weights xs)) (sym e) ascending;
+      unsigned = subst AreUnsigned (sym e) unsigned;
+    }
+
+pub weakened-made : (ops : List PolOp) (c : Constraint) (ts us : List Term) (degree : ℕ) → IsLinear c → us ≡ filter (on_weight is_positive) ts → AreUnsigned ts → weakened ops c ≡ counted (weights ts) degree → IsMade (weakened ops c) us degree
+weakened-made ops c ts us degree h e unsigned same = record {
+  unsigned = subst AreUnsigned (sym e) (All-filter (on_weight is_positive) IsUnsigned ts unsigned);
+  terms = ap weights e ∙ (weights-filter is_positive ts ∙ ap (λ (d : Constraint). d.terms) (sym same));
+  degree_is = ap (λ (d : Constraint). d.degree) (sym same);
+  linear = weakened-linear ops c h;
 }
 
 -- ---- restriction

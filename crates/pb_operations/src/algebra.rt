@@ -4,11 +4,13 @@ ghost use Rattle.pb_norm.specs.Constraints.{constraint_of, weight, weights, AreU
 ghost use Rattle.pb_norm.specs.Addition.{sum_of};
 ghost use Rattle.pb_steps.specs.Operations.{is_narrow, IsNarrow, axiom_of, multiple, division, saturation, weakening, negation};
 ghost use Rattle.pb_operations.specs.Room.{fitting};
+ghost use Rattle.pb_operations.specs.Weakenings.{weakened};
 
 use crate::join::join;
 use crate::terms;
 use pb_base::{Lit, NoMemory, Term, Var};
 use pb_norm::{Linear, weight_of};
+use pb_steps::PolOp;
 use std::alloc::Global;
 
 // What the sum of the coefficients, and the degree, of a constraint stay below.
@@ -108,6 +110,23 @@ pub fn weakening(constraint: Linear, var: Var) -> Linear
     let mut terms = constraint.into_terms();
     let lost = terms::take_var(&mut terms, var);
     Linear::from_parts(terms, degree.saturating_sub(lost))
+}
+
+/// The constraint weakened by each operation that weakens, one after the other; the others count for nothing. It takes no memory,
+/// and goes through the terms once.
+pub fn weakenings(constraint: Linear, ops: &[PolOp]) -> Linear
+    ensures { result ≡ weakened ops.now constraint }
+{
+    let mut degree = constraint.degree();
+    let mut terms = constraint.into_terms();
+    for op in ops {
+        if let PolOp::Weaken(var) = op {
+            let lost = terms::take_coef(&mut terms, *var);
+            degree = degree.saturating_sub(lost);
+        }
+    }
+    terms::keep_positive(&mut terms);
+    Linear::from_parts(terms, degree)
 }
 
 /// The constraint that holds exactly where this one does not. Its degree may be 2^126.

@@ -7,6 +7,6 @@ mod join;
 mod substitution;
 mod terms;
 
-pub use algebra::{axiom, division, multiple, negation, plus, saturation, weakening};
+pub use algebra::{axiom, division, multiple, negation, plus, saturation, weakening, weakenings};
 pub use implication::implies;
 pub use substitution::{degree_left, names_set, restriction};

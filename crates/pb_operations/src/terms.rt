@@ -1,11 +1,13 @@
 //! What is done to each term.
 ghost use Rattle.std.specs.Prelude.{◌≡◌, ◌≢◌, ◌<◌, ◌≤◌, ◌^◌, ◌*◌, All, map, filter, sum_by, length, slice_index_or, IfOk, IfSome, IsNone};
+ghost use Rattle.std.specs.List.Sorted.{IsPartitionPoint};
 ghost use Rattle.pb_base.specs.declared.literal.Term.{Term};
-ghost use Rattle.pb_norm.specs.Constraints.{weighted, weights, IsAscending};
+ghost use Rattle.pb_norm.specs.Constraints.{weighted, weights, AreUnsigned, IsAscending};
 ghost use Rattle.pb_norm.specs.Halves.{is_positive};
 ghost use Rattle.pb_norm.specs.inner.Kept.{on_term, on_weight};
 ghost use Rattle.pb_norm.specs.Reduction.{cut_to, opposite, quotient_up};
 ghost use Rattle.pb_steps.specs.Operations.{scaled, shrunk, is_other, coef_at};
+ghost use Rattle.pb_operations.specs.inner.Sides.{zeroed};
 
 use pb_base::{Term, Var};
 use std::alloc::{AllocError, Global};
@@ -66,8 +68,8 @@ fn cut(alloc: Global, terms: &[Term], degree: u128) -> Result<Vec<Term>, AllocEr
         .collect(alloc)
 }
 
-// Drops the coefficients of 0.
-fn keep_positive(terms: &mut Vec<Term>)
+/// Drops the coefficients of 0.
+pub(crate) fn keep_positive(terms: &mut Vec<Term>)
     ensures { terms.new.items ≡ filter (on_weight is_positive) terms.old.items }
 {
     terms.retain(|term| term.weight() > 0);
@@ -87,18 +89,28 @@ pub(crate) fn saturate_terms(
     Ok(kept)
 }
 
+// The first place on where no earlier variable stands.
+fn place_for(terms: &[Term], var: Var) -> usize
+    requires { IsAscending (weights terms.now) }
+    ensures within { result ≤ length terms.now }
+    ensures point { IsPartitionPoint (λ t. t.lit.var < var) (λ t. var ≤ t.lit.var) terms.now result }
+{
+    terms.partition_point(|term| term.lit.var < var)
+}
+
 // Where the term of a variable is, if there is one.
 fn place_of(terms: &[Term], var: Var) -> Option<usize>
+    requires { IsAscending (weights terms.now) }
     ensures below { IfSome result (λ i. i < length terms.now) }
     ensures at { IfSome result (λ i. (d : Term) → (slice_index_or terms.now i d).lit.var ≡ var) }
     ensures none { IsNone result → All (λ t. t.lit.var ≢ var) terms.now }
 {
-    for place in 0..terms.len() {
-        if terms[place].lit.var == var {
-            return Some(place);
-        }
+    let place = place_for(terms, var);
+    if place < terms.len() && terms[place].lit.var == var {
+        Some(place)
+    } else {
+        None
     }
-    None
 }
 
 /// Takes the term of a variable out, if there is one. Its coefficient, and 0 where there is none.
@@ -109,6 +121,23 @@ pub(crate) fn take_var(terms: &mut Vec<Term>, var: Var) -> u128
 {
     match place_of(terms, var) {
         Some(place) => terms.remove(place).weight(),
+        None => 0,
+    }
+}
+
+/// Takes the coefficient of a variable, if it has a term, and leaves 0. The coefficient, and 0 where there is no term.
+pub(crate) fn take_coef(terms: &mut Vec<Term>, var: Var) -> u128
+    requires { IsAscending (weights terms.old.items) }
+    ensures left { weights terms.new.items ≡ map (zeroed var) (weights terms.old.items) }
+    ensures unsigned { AreUnsigned terms.old.items → AreUnsigned terms.new.items }
+    ensures lost { result ≡ sum_by (on_weight (coef_at var)) terms.old.items }
+{
+    match place_of(terms, var) {
+        Some(place) => {
+            let term = terms[place];
+            terms[place] = Term::weighing(0, term.lit);
+            term.weight()
+        }
         None => 0,
     }
 }

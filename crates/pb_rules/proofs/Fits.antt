@@ -102,10 +102,10 @@ only_top {X} old new x y e f =
 
 -- ---- what keeps its room
 
-with_room-narrow : (c : Constraint) (stack : List Constraint) → IsNarrow c → with_room (c ∷ stack) ≡ Some (c ∷ stack)
+pub with_room-narrow : (c : Constraint) (stack : List Constraint) → IsNarrow c → with_room (c ∷ stack) ≡ Some (c ∷ stack)
 with_room-narrow c stack h = ap (λ (b : Bool). cond {A = Option (List Constraint)} b (Some (c ∷ stack)) None) h
 
-weakening-narrow : (v : ℕ) (c : Constraint) → IsNarrow c → IsNarrow (weakening v c)
+pub weakening-narrow : (v : ℕ) (c : Constraint) → IsNarrow c → IsNarrow (weakening v c)
 weakening-narrow v c h = narrow-from (weakening v c) (omega (arith, weight-filter (is_other v) c.terms, weight-narrow c h)) (omega (arith, degree-narrow c h))
 
 pub weakened-top : (v : ℕ) (old new after : List Constraint) (c made : Constraint) (done : Bool) → old ≡ new ++ c ∷ [] → All IsNarrow (reverse old) → made ≡ weakening v c → IsOutcome done (topped (Some made) (reverse new)) (reverse after) → IsOpOutcome [] (Weaken v) old after done

@@ -3,6 +3,7 @@ pub mod SlotLemmas
 pub mod Seen
 pub mod Withins
 pub mod Fits
+pub mod Runs
 pub mod Obliged
 pub mod Mirroring
 pub mod Refuting

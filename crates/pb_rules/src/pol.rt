@@ -1,24 +1,24 @@
 //! Operations on a stack of constraints.
-ghost use Rattle.std.specs.Prelude.{◌≡◌, ◌≤◌, ◌<◌, ◌^◌, ℤ, [], List, Option, All, Some, None, IfSome, IfOk, IfErr, nat_lt, not, find, flat_map, reverse, unsigned_abs};
+ghost use Rattle.std.specs.Prelude.{◌≡◌, ◌≤◌, ◌<◌, ◌^◌, ℤ, [], List, Option, All, Some, None, IfSome, IfOk, IfErr, nat_lt, not, find, flat_map, length, reverse, take, unsigned_abs};
 ghost use Rattle.pb_base.specs.declared.literal.Lit.{Lit};
 ghost use Rattle.pb_steps.specs.declared.op.PolOp.TheVariants.{Push, Axiom, Add, Mul, Div, Saturate, Weaken};
 ghost use Rattle.pb_steps.specs.declared.step.Step.TheVariants.{Pol};
 ghost use Rattle.pb_steps.specs.Steps.{HasFactor, IsSpelled, ids_of_op, vars_of_op};
 ghost use Rattle.pb_steps.specs.Operations.{IsNarrow};
-ghost use Rattle.pb_steps.specs.Database.{is_live};
+ghost use Rattle.pb_steps.specs.Database.{Entry, is_live};
 ghost use Rattle.pb_steps.specs.Stacks.{after_ops, height_after, is_stacked};
 ghost use Rattle.pb_rules.specs.inner.Early.{early};
 ghost use Rattle.pb_operations.specs.Room.{fitting};
 ghost use Rattle.pb_rules.specs.Faults.{IsFault};
 ghost use Rattle.pb_rules.specs.inner.Claims.{AllowsClaim};
-ghost use Rattle.pb_rules.specs.inner.Tops.{topped, IsOutcome, IsOpOutcome, IsSoundConstraint, AreSoundConstraints};
+ghost use Rattle.pb_rules.specs.inner.Tops.{topped, is_weakening, IsWeakening, IsRun, IsOutcome, IsOpOutcome, IsSoundConstraint, AreSoundConstraints};
 ghost use Rattle.pb_rules.specs.inner.Sound.{IsDatabase};
 
 use crate::database::Database;
 use crate::fault::RuleFault;
 use pb_base::{NoMemory, Var};
 use pb_norm::Linear;
-use pb_operations::{axiom, division, multiple, plus, saturation, weakening};
+use pb_operations::{axiom, division, multiple, plus, saturation, weakening, weakenings};
 use pb_steps::{Denied, PolOp};
 use std::alloc::Global;
 
@@ -230,7 +230,66 @@ fn apply_op(db: &Database, op: &PolOp, stack: &mut Vec<Linear>) -> Result<bool, 
     }
 }
 
-// Does operations one after the other, until one cannot be done.
+// Whether an operation weakens.
+fn weakens(op: &PolOp) -> bool
+    ensures { result ≡ is_weakening op.now }
+{
+    matches!(op, PolOp::Weaken(_))
+}
+
+// How many operations at the front weaken.
+fn weakenings_in_front(ops: &[PolOp]) -> usize
+    ensures within { result ≤ length ops.now }
+    ensures weaken { All IsWeakening (take result ops.now) }
+{
+    for place in 0..ops.len() {
+        if !weakens(&ops[place]) {
+            return place;
+        }
+    }
+    ops.len()
+}
+
+// How many operations at the front are done at once: those that weaken, or one.
+fn run_in_front(ops: &[PolOp]) -> usize
+    requires { 1 ≤ length ops.now }
+    ensures some { 1 ≤ result }
+    ensures within { result ≤ length ops.now }
+    ensures run { IsRun (take result ops.now) }
+{
+    let count = weakenings_in_front(ops);
+    if count > 1 { count } else { 1 }
+}
+
+// Weakens the topmost constraint by operations that all weaken.
+fn weaken_by(run: &[PolOp], stack: &mut Vec<Linear>) -> Result<bool, NoMemory>
+    requires some { 1 ≤ length run.now }
+    requires weaken { All IsWeakening run.now }
+    requires narrow { All IsNarrow (reverse stack.old.items) }
+    ensures { (live : List Entry) → IfOk result (λ done. IsOutcome done (after_ops live run.now (reverse stack.old.items)) (reverse stack.new.items)) }
+{
+    let Some(c) = stack.pop() else {
+        return Ok(false)
+    };
+    push_onto(stack, Some(weakenings(c, run)))
+}
+
+// Does operations that stand together: one, or those that weaken.
+fn apply_run(db: &Database, run: &[PolOp], stack: &mut Vec<Linear>) -> Result<bool, NoMemory>
+    requires some { 1 ≤ length run.now }
+    requires run { IsRun run.now }
+    requires factors { All HasFactor run.now }
+    requires narrow { All IsNarrow (reverse stack.old.items) }
+    ensures { IfOk result (λ done. IsOutcome done (after_ops db.now.live run.now (reverse stack.old.items)) (reverse stack.new.items)) }
+{
+    if run.len() > 1 {
+        weaken_by(run, stack)
+    } else {
+        apply_op(db, &run[0], stack)
+    }
+}
+
+// Does operations one after the other, those that weaken together at once, until one cannot be done.
 fn apply_ops(db: &Database, ops: &[PolOp], stack: &mut Vec<Linear>) -> Result<bool, NoMemory>
     requires sound { IsDatabase db.now }
     requires factors { All HasFactor ops.now }
@@ -238,10 +297,13 @@ fn apply_ops(db: &Database, ops: &[PolOp], stack: &mut Vec<Linear>) -> Result<bo
     requires fit { AreSoundConstraints db.now.vars (reverse stack.old.items) }
     ensures { IfOk result (λ done. IsOutcome done (after_ops db.now.live ops.now (reverse stack.old.items)) (reverse stack.new.items)) }
 {
-    for op in ops {
-        if !apply_op(db, op, stack)? {
+    let mut rest = ops;
+    'applying: while !rest.is_empty() {
+        let (run, others) = rest.split_at(run_in_front(rest));
+        if !apply_run(db, run, stack)? {
             return Ok(false);
         }
+        rest = others;
     }
     Ok(true)
 }

@@ -1,5 +1,5 @@
 -- Parts of the operations as the code computes them: a term's share of a restriction, two lists of terms side by side (our own).
-use Rattle.std.specs.Prelude.{◌≡◌, ◌≤◌, ◌-◌, ℕ, Bool, not, cond, List, All}
+use Rattle.std.specs.Prelude.{◌≡◌, ◌≤◌, ◌-◌, ◌==◌, ℕ, Bool, not, cond, List, All}
 use Rattle.pb_base.specs.declared.literal.Lit.{Lit}
 use Rattle.pb_norm.specs.Constraints.{Weighted}
 use Rattle.pb_norm.specs.Addition.{coef_of}
@@ -25,3 +25,7 @@ StartsFrom var ts = All (λ t. var ≤ t.lit.var) ts
 -- literals of these variables and later ones have the same coefficients
 abbrev pub SameFrom : ℕ → List Weighted → List Weighted → Type 0
 SameFrom var ts us = (l : Lit) → var ≤ l.var → coef_of ts l ≡ coef_of us l
+
+-- the term, with no coefficient where it is of the variable
+abbrev pub zeroed : ℕ → Weighted → Weighted
+zeroed var t = record { coef = cond (t.lit.var == var) 0 t.coef; lit = t.lit }

@@ -1,8 +1,9 @@
 -- Stacks of constraints, as the code goes through operations.
-use Rattle.std.specs.Prelude.{◌≡◌, ◌∷◌, ℕ, Bool, true, false, List, Option, Some, None, All, option_and_then, reverse}
+use Rattle.std.specs.Prelude.{◌≡◌, ◌<◌, ◌∷◌, ℕ, Bool, true, false, IsTrue, length, List, Option, Some, None, All, option_and_then, reverse}
 use Rattle.pb_norm.specs.Constraints.{Constraint}
 use Rattle.pb_norm.specs.Constraints.{HasVarsWithin}
 use Rattle.pb_steps.specs.declared.op.PolOp.{PolOp}
+use Rattle.pb_steps.specs.declared.op.PolOp.TheVariants.{Weaken}
 use Rattle.pb_steps.specs.Operations.{IsNarrow}
 use Rattle.pb_steps.specs.Database.{Entry}
 use Rattle.pb_steps.specs.Stacks.{after_op, with_room}
@@ -24,6 +25,18 @@ IsOutcome false after stack = after ≡ None
 -- the same of an operation on a stack whose topmost constraint is the last
 abbrev pub IsOpOutcome : List Entry → PolOp → List Constraint → List Constraint → Bool → Type 0
 IsOpOutcome live op before after done = IsOutcome done (done_op live op (reverse before)) (reverse after)
+
+-- the operation takes a variable out
+abbrev pub is_weakening : PolOp → Bool
+is_weakening (Weaken v) = true
+is_weakening _ = false
+
+abbrev pub IsWeakening : PolOp → Type 0
+IsWeakening op = IsTrue (is_weakening op)
+
+-- operations that are done at once: one, or those that weaken
+abbrev pub IsRun : List PolOp → Type 0
+IsRun ops = (1 < length ops) → All IsWeakening ops
 
 -- its numbers have room, and its variables are within those that there are
 pub record IsSoundConstraint (vars : ℕ) (c : Constraint) : Type 0 where

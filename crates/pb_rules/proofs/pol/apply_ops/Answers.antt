@@ -1,20 +1,38 @@
-use Rattle.std.proofs.Common.{◌≡◌, ◌≤◌, ◌∙◌, reverse, Some, sym, subst, ℕ}
-use Rattle.std.specs.Prelude.{All}
+use Rattle.std.proofs.Common.{◌≡◌, ◌≤◌, ◌∙◌, ◌++◌, reverse, List, Some, None, subst, ℕ}
+use Rattle.std.specs.Prelude.{All, flat_map}
+use Rattle.pb_base.proofs.Members.{All-append_both}
 use Rattle.pb_steps.specs.declared.op.PolOp.{PolOp}
-use Rattle.pb_steps.specs.Steps.{vars_of_op}
-use Rattle.pb_rules.specs.inner.Tops.{done_op}
-use Rattle.pb_rules.proofs.Fits.{narrow-fit, done-fit, outcome_true, ops_more, flat-at}
+use Rattle.pb_steps.specs.Stacks.{after_ops}
+use Rattle.pb_steps.specs.Steps.{HasFactor, vars_of_op}
+use Rattle.pb_rules.proofs.Fits.{after_ops-fit, outcome_true}
+use Rattle.pb_rules.proofs.Runs.{run-parts, run-behind, outcome_false, known-both}
 use Rattle.pb_rules.proofs.pol.apply_ops.Goals as goal
 
-pub apply_op-requires-clause-narrow : goal.apply_op-requires-clause-narrow
-apply_op-requires-clause-narrow c = narrow-fit c.args.db.now.vars (reverse c.loop-op.stack.items) c.loop-op.invariant.fit
+pub returns-then-not-branch : goal.returns-then-not-branch
+returns-then-not-branch c =
+    let live = c.args.db.now.live in
+    let rest = c.applying.rest.now in
+    let run = c.split_at.result.0.now in
+    let others = c.split_at.result.1.now in
+    let parts : rest ≡ run ++ others = run-parts rest run others c.run_in_front.result c.split_at.ensures.front c.split_at.ensures.back in
+    let stuck : after_ops live run (reverse c.applying.stack.items) ≡ None = outcome_false c.in_ok-apply_run.field-0 _ _ c.if-not-branch.true c.in_ok-apply_run.ensures in
+    c.applying.invariant.same ∙ run-behind live rest run others (reverse c.applying.stack.items) None parts stuck
 
-pub loop-op-preserved : goal.loop-op-preserved
-loop-op-preserved c =
-    let op = c.op-item.result in
-    let done : done_op c.args.db.now.live op (reverse c.loop-op.stack.items) ≡ Some (reverse c.apply_op.new.stack.items) = outcome_true c.in_ok-apply_op.field-0 _ _ c.if-not-branch.false c.in_ok-apply_op.ensures in
-    let known : All (λ v. v ≤ c.args.db.now.vars) (vars_of_op op) = subst (λ (x : PolOp). All (λ (v : ℕ). v ≤ c.args.db.now.vars) (vars_of_op x)) (sym c.op-item.is) (flat-at (λ (v : ℕ). v ≤ c.args.db.now.vars) vars_of_op c.args.ops.now c.loop-op.op-index op c.requires.known c.loop-op-test.true) in
+pub applying-preserved : goal.applying-preserved
+applying-preserved c =
+    let live = c.args.db.now.live in
+    let vars = c.args.db.now.vars in
+    let rest = c.applying.rest.now in
+    let run = c.split_at.result.0.now in
+    let others = c.split_at.result.1.now in
+    let before = reverse c.applying.stack.items in
+    let after = reverse c.apply_run.new.stack.items in
+    let parts : rest ≡ run ++ others = run-parts rest run others c.run_in_front.result c.split_at.ensures.front c.split_at.ensures.back in
+    let done : after_ops live run before ≡ Some after = outcome_true c.in_ok-apply_run.field-0 _ _ c.if-not-branch.false c.in_ok-apply_run.ensures in
+    let known = known-both (λ v. v ≤ vars) run others (subst (λ (ops : List PolOp). All (λ (v : ℕ). v ≤ vars) (flat_map vars_of_op ops)) parts c.applying.invariant.known) in
     record {
-      same = c.loop-op.invariant.same ∙ ops_more c.args.db.now.live c.args.ops.now c.loop-op.op-index op (reverse c.loop-op.stack.items) (reverse c.apply_op.new.stack.items) c.loop-op-test.true c.op-item.is done;
-      fit = done-fit c.args.db.now.vars c.args.db.now.live op (reverse c.loop-op.stack.items) (reverse c.apply_op.new.stack.items) c.requires.sound known c.loop-op.invariant.fit done;
+      same = c.applying.invariant.same ∙ run-behind live rest run others before (Some after) parts done;
+      fit = after_ops-fit vars live run before after c.requires.sound known.0 c.applying.invariant.fit done;
+      factors = (All-append_both HasFactor run others (subst (All HasFactor) parts c.applying.invariant.factors)).1;
+      known = known.1;
     }
