@@ -2,11 +2,11 @@
 #
 # usage: awk -v to=FOLDER -f blocks.awk PAGE
 #
-# A block between ``` lines is of commands where it runs ./pbcnf or a script of examples/. The next block is its output, unless
-# that is of commands too, or a heading or a second paragraph stands between; where the lines of commands begin with `$ `, the
-# others are the output. Where there is none, a paragraph may say it: right behind the block as `It says ..`, or right before
-# it, with a colon at the end.
-# It makes N.sh, N.out for the output, and N.says for lines that are among it, for N = 1, 2, ..
+# A block between ``` lines is of commands where it runs ./pbcnf or a script of examples/, or is marked as one of `sh`. The next
+# block is its output, unless that is of commands too, or a heading or a second paragraph stands between; where the lines of
+# commands begin with `$ `, the others are the output. Where there is none, a paragraph may say it: right behind the block as
+# `It says ..`, or right before it, with a colon at the end. A block with a name behind the word for its language is a file.
+# It makes N.sh, N.out for the output, and N.says for lines that are among it, for N = 1, 2, .., and files/NAME.
 
 function is_command(line) {
     return line ~ /(^|[ (|])\.\/pbcnf / || line ~ /^(\$ )?([A-Z]+=[^ ]* )?examples\/[a-z]/
@@ -39,8 +39,20 @@ function end_paragraph() {
     paragraph = ""
 }
 
+# A file that the page has, in a folder of its own if its name says so.
+function end_file(    i, place) {
+    place = to "/files/" file
+    sub(/[^\/]*$/, "", place)
+    system("mkdir -p \"" place "\"")
+    printf "" > (to "/files/" file)
+    for (i = 1; i <= lines; i++) print line[i] > (to "/files/" file)
+    close(to "/files/" file)
+}
+
 function end_block(    i, prompts) {
-    if (commands) {
+    if (file != "") {
+        end_file()
+    } else if (commands) {
         number++
         for (i = 1; i <= lines; i++) prompts += line[i] ~ /^\$ /
         for (i = 1; i <= lines; i++) {
@@ -64,7 +76,9 @@ function end_block(    i, prompts) {
     end_paragraph()
     inside = !inside
     if (inside) {
-        lines = commands = 0
+        lines = 0
+        commands = $1 == "```sh"
+        file = NF == 2 ? $2 : ""
         indent = match($0, /`/) - 1
     } else {
         end_block()

@@ -17,6 +17,22 @@ missing() {
         done
         [ -n "$any" ] || printf 'solver '
     fi
+    if grep -q '/page/local/' "$1"; then
+        [ -f "$top/library/out/libpbcnf.a" ] || printf 'built library '
+        for tool in c++ cargo python3; do
+            has $tool || ! grep -Fq "$tool " "$1" || printf '%s ' $tool
+        done
+    fi
+}
+
+# What a page has installed below ~/.local is put into a folder of its own.
+install_library() {
+    local block
+    [ ! -f "$top/library/out/libpbcnf.a" ] || "$top/library/install" "$PWD/page/local" >"$state/installed"
+    ln -s "$top/library" page/library
+    for block in blocks/*.sh; do
+        sed "s|~/\.local|$PWD/page/local|g" "$block" >"$block.new" && mv "$block.new" "$block"
+    done
 }
 
 # complain BLOCK WHY: unless it lacks what a block that was skipped makes.
@@ -63,6 +79,8 @@ run_page() {
     cp -R "$examples" page/examples
     ln -s "$pbcnf" page/pbcnf
     awk -v to=blocks -f "$top/tests/blocks.awk" "$1"
+    [ ! -d blocks/files ] || cp -R blocks/files/. page
+    if grep -q '~/.local/lib' "$1"; then install_library; fi
     while [ -e blocks/$block.sh ]; do
         lacks=$(missing blocks/$block.sh)
         if [ -n "$lacks" ]; then

@@ -65,8 +65,8 @@ code() {
 lost_files() {
     code | while read -r page name rest; do
         case $name in
-        *..* | *'*'*) ;;
-        docs/* | examples/* | tests/* | bench/* | crates/* | .ci/* | ./pbcnf | ./install)
+        *..* | *'*'* | library/out*) ;;
+        library/* | docs/* | examples/* | tests/* | bench/* | crates/* | .ci/* | ./pbcnf | ./install)
             [ -e "$top/$name" ] || printf '%s: %s is not there\n' "$page" "$name"
             ;;
         esac
@@ -78,7 +78,7 @@ lost_crates() {
     code | while read -r page name rest; do
         case $name in
         *..* | *'*'*) continue ;;
-        pb_*) ;;
+        pb_* | pbcnf_c | pbcnf_c/*) ;;
         *) continue ;;
         esac
         crate=${name%%/*}
@@ -109,6 +109,9 @@ other_versions() {
     [ -n "$version" ] || printf 'README.md names none\n'
     grep -q "^## $version" "$top/CHANGELOG.md" || printf 'CHANGELOG.md has no %s\n' "$version"
     grep -q "^\.TH PBCNF .*\"pbcnf $version\"" "$top/docs/pbcnf.1" || printf 'docs/pbcnf.1 is not of %s\n' "$version"
+    for package in library/python/pyproject.toml library/rust/Cargo.toml; do
+        grep -qx "version = \"$version\"" "$top/$package" || printf '%s is not of %s\n' "$package" "$version"
+    done
 }
 
 # Names that gave way to the field's word, where docs/GLOSSARY.md has the word that stands for them.

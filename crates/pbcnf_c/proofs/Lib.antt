@@ -1,0 +1,16 @@
+mod Pushed
+mod Exact
+mod Held
+mod Endings
+mod Prepared
+mod Encoded
+mod Weighed
+mod Bounded
+mod Decoded
+mod Numbered
+mod Worded
+mod Checked
+mod TermLists
+mod OneStatement
+mod Admitted
+mod Constrained

@@ -1,0 +1,2 @@
+pub mod BoundExamples
+pub mod StatementExamples

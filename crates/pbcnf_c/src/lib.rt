@@ -1,0 +1,270 @@
+//! The encoder as a C library: each call is a function of what it is passed, and writes into what it is passed.
+#![tactic(auto)]
+
+mod bounds;
+mod checking;
+mod constraint;
+mod decoding;
+mod encoding;
+mod integers;
+mod line_sink;
+mod number;
+mod objective;
+mod options;
+mod outcomes;
+mod ready;
+mod refusal;
+mod room;
+mod said;
+mod shelves;
+mod size;
+mod statement;
+mod weighing;
+mod words;
+
+ghost use Rattle.pbcnf_c.specs.Bounds.{BoundsInto};
+ghost use Rattle.pbcnf_c.specs.Choices.{bound_of};
+ghost use Rattle.pbcnf_c.specs.Checks.{Checks, Refutes};
+ghost use Rattle.pbcnf_c.specs.Constraints.{ConstrainsInto, ConstraintDerivesInto};
+ghost use Rattle.pbcnf_c.specs.Decodings.{DecodesInto, MapsInto};
+ghost use Rattle.pbcnf_c.specs.Exports.{DerivesInto, EncodesInto, HandsInto};
+ghost use Rattle.pbcnf_c.specs.Rooms.{Tells};
+ghost use Rattle.pbcnf_c.specs.Weighings.{WeighsInto};
+ghost use Rattle.pbcnf_c.specs.WordsSaid.{HasStatusOf, SaysRefusal};
+
+use bounds::{PbcnfRow, bounds_into};
+use checking::{check_texts, refute_texts};
+use constraint::{Asked, constrain_into, derive_one_into};
+use decoding::{decode_into, map_into};
+use encoding::{clauses_into, derive_into, encode_into};
+use options::{PbcnfBound, PbcnfOptions, bound_of};
+use refusal::{PbcnfRefusal, tell};
+use size::PbcnfSize;
+use statement::PbcnfSide;
+use std::alloc::Global;
+use weighing::weigh_into;
+use words::words_into;
+
+/// The CNF text of an OPB text.
+#[unsafe(no_mangle)]
+pub extern "C" fn pbcnf_encode(
+    alloc: Global,
+    opb: &[u8],
+    options: &PbcnfOptions,
+    bound: &PbcnfBound,
+    cnf: &mut [u8],
+    size: &mut PbcnfSize,
+    refusal: &mut PbcnfRefusal,
+) -> u8
+    ensures { Tells (EncodesInto options.now (bound_of bound.now) opb.now cnf.old cnf.new size.new) result refusal.new }
+{
+    let ending = encode_into(alloc, opb, options, bound, cnf);
+    *size = ending.size;
+    tell(ending.outcome, refusal)
+}
+
+/// The clauses of an OPB text as integers, as IPASIR takes them: the literals of each, and 0.
+#[unsafe(no_mangle)]
+pub extern "C" fn pbcnf_clauses(
+    alloc: Global,
+    opb: &[u8],
+    options: &PbcnfOptions,
+    bound: &PbcnfBound,
+    integers: &mut [i32],
+    size: &mut PbcnfSize,
+    refusal: &mut PbcnfRefusal,
+) -> u8
+    ensures { Tells (HandsInto options.now (bound_of bound.now) opb.now integers.old integers.new size.new) result refusal.new }
+{
+    let ending = clauses_into(alloc, opb, options, bound, integers);
+    *size = ending.size;
+    tell(ending.outcome, refusal)
+}
+
+/// The text of the derivation of these clauses.
+#[unsafe(no_mangle)]
+pub extern "C" fn pbcnf_derive(
+    alloc: Global,
+    opb: &[u8],
+    options: &PbcnfOptions,
+    bound: &PbcnfBound,
+    proof: &mut [u8],
+    size: &mut PbcnfSize,
+    refusal: &mut PbcnfRefusal,
+) -> u8
+    ensures { Tells (DerivesInto options.now (bound_of bound.now) opb.now proof.old proof.new size.new) result refusal.new }
+{
+    let ending = derive_into(alloc, opb, options, bound, proof);
+    *size = ending.size;
+    tell(ending.outcome, refusal)
+}
+
+/// The rows of the table of bounds on the objective of an OPB text.
+#[unsafe(no_mangle)]
+pub extern "C" fn pbcnf_bounds(
+    alloc: Global,
+    opb: &[u8],
+    options: &PbcnfOptions,
+    bound: &PbcnfBound,
+    rows: &mut [PbcnfRow],
+    size: &mut PbcnfSize,
+    refusal: &mut PbcnfRefusal,
+) -> u8
+    ensures { Tells (BoundsInto options.now (bound_of bound.now) opb.now rows.old rows.new size.new) result refusal.new }
+{
+    let ending = bounds_into(alloc, opb, options, bound, rows);
+    *size = ending.size;
+    tell(ending.outcome, refusal)
+}
+
+/// The text of the solution that a solver's text gives.
+#[unsafe(no_mangle)]
+pub extern "C" fn pbcnf_decode(
+    alloc: Global,
+    opb: &[u8],
+    bound: &PbcnfBound,
+    model: &[u8],
+    said: &mut [u8],
+    length: &mut u64,
+    refusal: &mut PbcnfRefusal,
+) -> u8
+    ensures { Tells (DecodesInto (bound_of bound.now) opb.now model.now said.old said.new length.new) result refusal.new }
+{
+    let ending = decode_into(alloc, opb, bound, model, said);
+    *length = ending.length;
+    tell(ending.outcome, refusal)
+}
+
+/// The text that gives the numbers of the free names of an OPB text.
+#[unsafe(no_mangle)]
+pub extern "C" fn pbcnf_map(
+    alloc: Global,
+    opb: &[u8],
+    said: &mut [u8],
+    length: &mut u64,
+    refusal: &mut PbcnfRefusal,
+) -> u8
+    ensures { Tells (MapsInto opb.now said.old said.new length.new) result refusal.new }
+{
+    let ending = map_into(alloc, opb, said);
+    *length = ending.length;
+    tell(ending.outcome, refusal)
+}
+
+/// The weighted CNF text of an OPB text and its objective.
+#[unsafe(no_mangle)]
+pub extern "C" fn pbcnf_wcnf(
+    alloc: Global,
+    opb: &[u8],
+    options: &PbcnfOptions,
+    bound: &PbcnfBound,
+    wcnf: &mut [u8],
+    size: &mut PbcnfSize,
+    refusal: &mut PbcnfRefusal,
+) -> u8
+    ensures { Tells (WeighsInto options.now (bound_of bound.now) opb.now wcnf.old wcnf.new size.new) result refusal.new }
+{
+    let ending = weigh_into(alloc, opb, options, bound, wcnf);
+    *size = ending.size;
+    tell(ending.outcome, refusal)
+}
+
+/// Whether the derivation shows that each solution of the problem extends to a model of the CNF.
+#[unsafe(no_mangle)]
+pub extern "C" fn pbcnf_check(
+    alloc: Global,
+    opb: &[u8],
+    bound: &PbcnfBound,
+    cnf: &[u8],
+    proof: &[u8],
+    refusal: &mut PbcnfRefusal,
+) -> u8
+    ensures { Tells (Checks (bound_of bound.now) opb.now cnf.now proof.now) result refusal.new }
+{
+    tell(
+        check_texts(alloc, opb, bound_of(bound), cnf, proof),
+        refusal,
+    )
+}
+
+/// Whether these show that the problem has no solution: the derivation is accepted, and the refutation is one of the CNF.
+#[unsafe(no_mangle)]
+pub extern "C" fn pbcnf_refute(
+    alloc: Global,
+    opb: &[u8],
+    bound: &PbcnfBound,
+    cnf: &[u8],
+    proof: &[u8],
+    lrat: &[u8],
+    refusal: &mut PbcnfRefusal,
+) -> u8
+    ensures { Tells (Refutes (bound_of bound.now) opb.now cnf.now proof.now lrat.now) result refusal.new }
+{
+    tell(
+        refute_texts(alloc, opb, bound_of(bound), cnf, proof, lrat),
+        refusal,
+    )
+}
+
+/// The words of a refusal, as the program prints them.
+#[unsafe(no_mangle)]
+pub extern "C" fn pbcnf_words(
+    alloc: Global,
+    refusal: &PbcnfRefusal,
+    said: &mut [u8],
+    length: &mut u64,
+) -> u8
+    ensures { HasStatusOf (SaysRefusal refusal.now said.old said.new length.new) result }
+{
+    let ending = words_into(alloc, refusal, said);
+    *length = ending.length;
+    ending.outcome.status()
+}
+
+/// The clauses of one constraint as integers. A coefficient is one word, or two, for each literal.
+#[unsafe(no_mangle)]
+pub extern "C" fn pbcnf_constraint(
+    alloc: Global,
+    coefficients: &[u64],
+    literals: &[i32],
+    side: &PbcnfSide,
+    options: &PbcnfOptions,
+    integers: &mut [i32],
+    size: &mut PbcnfSize,
+    refusal: &mut PbcnfRefusal,
+) -> u8
+    ensures { Tells (ConstrainsInto options.now coefficients.now literals.now side.now integers.old integers.new size.new) result refusal.new }
+{
+    let asked = Asked {
+        words: coefficients,
+        literals,
+        side,
+    };
+    let ending = constrain_into(alloc, &asked, options, integers);
+    *size = ending.size;
+    tell(ending.outcome, refusal)
+}
+
+/// The text of the derivation of these clauses, beside the problem of this one constraint.
+#[unsafe(no_mangle)]
+pub extern "C" fn pbcnf_constraint_derive(
+    alloc: Global,
+    coefficients: &[u64],
+    literals: &[i32],
+    side: &PbcnfSide,
+    options: &PbcnfOptions,
+    proof: &mut [u8],
+    size: &mut PbcnfSize,
+    refusal: &mut PbcnfRefusal,
+) -> u8
+    ensures { Tells (ConstraintDerivesInto options.now coefficients.now literals.now side.now proof.old proof.new size.new) result refusal.new }
+{
+    let asked = Asked {
+        words: coefficients,
+        literals,
+        side,
+    };
+    let ending = derive_one_into(alloc, &asked, options, proof);
+    *size = ending.size;
+    tell(ending.outcome, refusal)
+}

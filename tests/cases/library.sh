@@ -1,0 +1,148 @@
+# The C library: its header is that of the crate's exports; its bytes are the program's; rooms, memory, threads.
+. "$top/tests/lib.sh"
+
+library=$top/library
+out=$library/out
+own=$top/tests/library
+sources=("$top"/crates/pbcnf_c/src/*.rt)
+
+if [ ! -f "$out/libpbcnf.a" ] || [ ! -f "$out/libpbcnf.so.0" ]; then
+    skip 'the library is not built; library/build builds it'
+    exit 0
+fi
+
+compiler=
+for name in cc gcc clang; do
+    if has $name; then
+        compiler=$name
+        break
+    fi
+done
+
+# judged CMD..: the command says at last how many checks it has made, and none has failed.
+judged() {
+    last=$(shown "$@")
+    "$@" >"$said" 2>&1
+    if [ $? -eq 0 ] && tail -n 1 "$said" | grep -Eq '^([1-9][0-9]* passed, 0 failed|OK)$'; then
+        passed
+    else
+        failed "$last: $(head -n 5 "$said")"
+    fi
+}
+
+# compile PROGRAM FLAG..: makes it of a file of tests/library and the static library.
+compile() {
+    expect 0 "$compiler" -std=c11 -Wall -Wextra -Wpedantic -Werror -O1 -g -I "$library" -I . "$own/$1.c" "$out/libpbcnf.a" "${@:2}" -o "$1"
+}
+
+# makes FLAG..: whether the compiler makes a program with these flags that runs.
+makes() {
+    echo 'int main(void) { return 0; }' >try.c
+    "$compiler" try.c "$@" -o try 2>"$state/cc" && ./try 2>>"$state/cc"
+}
+
+# The header stands by itself, in C and C++.
+try_header() {
+    echo '#include "pbcnf.h"' >alone.c
+    expect 0 "$compiler" -std=c99 -Wall -Wextra -Wpedantic -Werror -fsyntax-only -I "$library" alone.c
+    if has c++; then
+        expect 0 c++ -std=c++11 -Wall -Wextra -Wpedantic -Werror -fsyntax-only -I "$library" -x c++ alone.c
+    else
+        skip 'there is no c++'
+    fi
+}
+
+# restate HEADER: the exports that the sources have, held against a header in this folder.
+restate() {
+    mkdir -p changed
+    sed "$1" "$library/pbcnf.h" >changed/pbcnf.h
+    "$compiler" -std=c11 -Wall -Wextra -Werror -fsyntax-only -I changed restated.c
+}
+
+# The header declares just what the sources export, with the same types; a header that is changed is refused.
+try_signatures() {
+    local change
+    if ! has python3; then
+        skip 'there is no python3, which reads the signatures'
+        return
+    fi
+    "$own/signatures" "${sources[@]}" >restated.c
+    expect 0 restate ''
+    for change in 's/size_t room, pbcnf_size/uint32_t room, pbcnf_size/' 's/const uint8_t \*model/uint8_t *model/' \
+        's/^uint8_t pbcnf_map/uint32_t pbcnf_map/' 's/uint32_t budget;/uint64_t budget;/' 's/uint64_t low;/int64_t low;/' \
+        's/uint64_t number; /uint64_t number, more; /' 's/uint32_t vars; /uint32_t original; /; s/uint32_t original; \/\* the/uint32_t vars; \/* the/'; do
+        expect 1 restate "$change"
+    done
+    "$own/signatures" --calls "${sources[@]}" | sort >exported
+    grep -o '^uint8_t pbcnf_[a-z_]*' "$library/pbcnf.h" | cut -d' ' -f2 | sort >declared
+    same exported declared
+    "$own/signatures" --constants EXPECTED "$library/pbcnf.h" >expected.h
+    "$own/signatures" --constants LIMIT "$library/pbcnf.h" >limits.h
+    "$own/signatures" --constants DENIED "$library/pbcnf.h" >denied.h
+    "$own/signatures" --constants UNPROVED "$library/pbcnf.h" >unproved.h
+    compile numbers
+    judged ./numbers
+}
+
+# Nothing but the calls can be linked to.
+try_symbols() {
+    if ! has nm; then
+        skip 'there is no nm'
+        return
+    fi
+    grep -o '^uint8_t pbcnf_[a-z_]*' "$library/pbcnf.h" | cut -d' ' -f2 | sort >declared
+    nm -g --defined-only "$out/libpbcnf.a" | awk 'NF == 3 { print $3 }' | sort >offered
+    same declared offered
+    nm -D --defined-only "$out/libpbcnf.so.0" | awk 'NF == 3 { print $3 }' | sort >offered
+    same declared offered
+}
+
+try_programs() {
+    compile rooms
+    judged ./rooms
+    compile misuse
+    judged ./misuse
+    compile constraints
+    judged ./constraints
+    if makes -Wl,--wrap=malloc; then
+        compile growth -Wl,--wrap=malloc,--wrap=realloc,--wrap=free
+        judged ./growth
+    else
+        skip "$compiler wraps no allocation"
+    fi
+    compile threads -pthread
+    judged ./threads
+    if makes -fsanitize=address,undefined; then
+        compile rooms -fsanitize=address,undefined
+        judged ./rooms
+        compile misuse -fsanitize=address,undefined
+        judged ./misuse
+    else
+        skip "$compiler has no AddressSanitizer"
+    fi
+    if makes -fsanitize=thread; then
+        compile threads -fsanitize=thread -pthread
+        judged ./threads
+    else
+        skip "$compiler has no ThreadSanitizer"
+    fi
+}
+
+# The bytes, refusals and judgements are the program's.
+try_bytes() {
+    if ! has python3; then
+        skip 'there is no python3'
+        return
+    fi
+    judged env PYTHONPATH="$library/python" PYTHONDONTWRITEBYTECODE=1 python3 "$own/same.py" "$pbcnf" "$examples"/*.opb
+}
+
+if [ -n "$compiler" ]; then
+    try_header
+    try_signatures
+    try_programs
+else
+    skip 'there is no C compiler'
+fi
+try_symbols
+try_bytes

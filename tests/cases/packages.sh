@@ -1,0 +1,137 @@
+# What goes with the C library: the Python module, the Rust crate, the examples, and where all of that is installed.
+. "$top/tests/lib.sh"
+
+library=$top/library
+out=$library/out
+own=$top/tests/library
+
+expect 2 "$library/build" a b
+expect 2 "$library/install" --help
+expect 2 "$library/install" a b
+absent a b
+
+if [ ! -f "$out/libpbcnf.a" ] || [ ! -f "$out/libpbcnf.so.0" ]; then
+    skip 'the library is not built; library/build builds it'
+    exit 0
+fi
+
+compiler=
+for name in cc gcc clang; do
+    if has $name; then
+        compiler=$name
+        break
+    fi
+done
+python=
+if has python3; then python=python3; else skip 'there is no python3'; fi
+export PYTHONPATH=$library/python${PYTHONPATH:+:$PYTHONPATH} PYTHONDONTWRITEBYTECODE=1
+
+try_python() {
+    expect 0 $python "$own/module.py"
+    # What the README prints of its program.
+    mkdir blocks
+    awk -v to=blocks -f "$top/tests/blocks.awk" "$top/README.md"
+    ln -s "$examples" examples
+    expect 0 $python blocks/files/knapsack.py
+    sed -n 's/.*print(.*)  # //p' blocks/files/knapsack.py >printed
+    same printed "$said"
+}
+
+try_rust() {
+    if ! has cargo; then
+        skip 'there is no cargo'
+        return
+    fi
+    cp -R "$library/rust" crate
+    expect 0 env PBCNF_LIB_DIR="$out" CARGO_TARGET_DIR="$PWD/target" cargo test -q --offline --manifest-path crate/Cargo.toml
+}
+
+# What is installed is found by pkg-config, linked both ways, and taken away again.
+try_install() {
+    local prefix=$PWD/'a place'
+    expect 0 "$library/install" "$prefix"
+    same "$library/pbcnf.h" "$prefix/include/pbcnf.h"
+    same "$out/libpbcnf.a" "$prefix/lib/libpbcnf.a"
+    same "$out/libpbcnf.so.0" "$prefix/lib/libpbcnf.so.0" "$prefix/lib/libpbcnf.so"
+    if [ -n "$python" ]; then
+        expect 0 env -u PYTHONPATH $python -c \
+            'import sys; sys.path.insert(0, sys.argv[1]); import pbcnf; print(pbcnf.encode("+1 x1 >= 1 ;").clauses)' "$prefix/share/pbcnf"
+        says '[[1]]'
+    fi
+    expect 0 "$library/install" "$PWD/plain"
+    if has pkg-config; then
+        expect 0 env PKG_CONFIG_PATH="$PWD/plain/lib/pkgconfig" pkg-config --cflags --libs pbcnf
+        # Some print a blank at the end.
+        sed -i 's/ *$//' "$said"
+        says "-I$PWD/plain/include -L$PWD/plain/lib -lpbcnf"
+        expect 0 env PKG_CONFIG_PATH="$PWD/plain/lib/pkgconfig" pkg-config --modversion pbcnf
+        holds "$said" "$(sed -n 's/^## \([0-9][0-9.]*\)$/\1/p' "$top/CHANGELOG.md" | head -n 1)"
+    else
+        skip 'there is no pkg-config'
+    fi
+    for place in "$prefix" "$PWD/plain"; do
+        expect 0 "$library/install" --remove "$place"
+        expect 0 find "$place" ! -type d
+        says
+    done
+}
+
+# solves CMD..: the example solves OPB files.
+solves() {
+    expect 0 "$@" "$examples/knapsack.opb"
+    head -n 1 "$said" >first
+    holds first 's SATISFIABLE'
+    expect 20 "$@" "$examples/pigeons.opb"
+    says 's UNSATISFIABLE'
+    text wrong.opb '+1 x1 >= ;'
+    expect 1 "$@" wrong.opb
+    tells 'pbcnf: OPB 1:10: expected an integer'
+}
+
+finds_the_cheapest() {
+    expect 0 "$@"
+    tail -n 2 "$said" >ends
+    holds ends 'cost 16' 'none is cheaper'
+}
+
+try_examples() {
+    local flags=(-I "$library" "$out/libpbcnf.a" -lcadical -lstdc++ -lm)
+    echo '#include <ccadical.h>' >has.c
+    if [ -n "$compiler" ] && "$compiler" -fsyntax-only has.c 2>"$state/cc"; then
+        for name in solve cheapest; do
+            expect 0 "$compiler" -Wall -Wextra -Werror "$library/examples/$name.c" "${flags[@]}" -o $name.c.out
+        done
+        solves ./solve.c.out
+        finds_the_cheapest ./cheapest.c.out
+    else
+        skip 'there is no ccadical.h, of libcadical-dev'
+    fi
+    if has c++ && echo '#include <cadical.hpp>' >has.cc && c++ -fsyntax-only has.cc 2>"$state/cc"; then
+        for name in solve cheapest; do
+            expect 0 c++ -Wall -Wextra -Werror "$library/examples/$name.cc" "${flags[@]}" -o $name.cc.out
+        done
+        solves ./solve.cc.out
+        finds_the_cheapest ./cheapest.cc.out
+    else
+        skip 'there is no cadical.hpp, of libcadical-dev'
+    fi
+    if [ -n "$python" ] && $python -c 'import pycryptosat' 2>"$state/python"; then
+        solves $python "$library/examples/solve.py"
+        finds_the_cheapest $python "$library/examples/cheapest.py"
+    else
+        skip 'there is no pycryptosat, of python3-cryptominisat'
+    fi
+    if has cargo && [ -x solve.c.out ]; then
+        expect 0 env PBCNF_LIB_DIR="$out" CARGO_TARGET_DIR="$PWD/target" \
+            cargo build -q --offline --examples --features cadical --manifest-path crate/Cargo.toml
+        solves target/debug/examples/solve
+        finds_the_cheapest target/debug/examples/cheapest
+    else
+        skip 'there is no cargo, or no CaDiCaL for it'
+    fi
+}
+
+[ -z "$python" ] || try_python
+try_rust
+try_install
+try_examples

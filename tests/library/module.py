@@ -1,0 +1,134 @@
+#!/usr/bin/env python3
+"""Tests what pbcnf.py itself does: its classes, its exceptions, and what it says to values that are none.
+
+It looks for the library as a user's program would. usage: module.py
+"""
+
+import concurrent.futures
+import doctest
+import sys
+import unittest
+
+import pbcnf
+
+OPB = "min: +3 rain -2 sun ;\n+2 rain +1 sun +1 x1 x2 >= 2 ;\n+1 rain +1 x1 = 1 ;\n"
+
+
+class Encodings(unittest.TestCase):
+    def test_clauses(self):
+        encoding = pbcnf.encode("+2 x1 +1 x2 +1 x3 >= 3 ;", general="tree")
+        self.assertEqual(encoding.clauses, [[1], [2, 3]])
+        self.assertEqual((encoding.variables, encoding.original, encoding.next_free), (3, 3, 4))
+        self.assertEqual(list(encoding.integers), [1, 0, 2, 3, 0])
+
+    def test_bytes_are_a_text(self):
+        self.assertEqual(pbcnf.encode(OPB.encode()), pbcnf.encode(OPB))
+
+    def test_an_empty_clause(self):
+        self.assertEqual(pbcnf.encode("+1 x1 >= 2 ;").clauses, [[]])
+        self.assertEqual(pbcnf.encode("").clauses, [])
+
+    def test_a_bound_is_one_more_statement(self):
+        self.assertEqual(pbcnf.encode(OPB, at_most=-1), pbcnf.encode(OPB + "+3 rain -2 sun <= -1 ;\n"))
+
+    def test_a_room_that_has_to_grow(self):
+        text = " ".join("+%d x%d" % (3 * n % 101 + 1, n) for n in range(1, 41)) + " >= 900 ;"
+        self.assertGreater(len(pbcnf.encode(text).integers), 2 * len(text) + 1024)
+        terms = [(3 * n % 101 + 1, n) for n in range(1, 41)]
+        self.assertEqual(pbcnf.constraint(terms, ">=", 900, first=41).integers, pbcnf.encode(text).integers)
+
+    def test_one_constraint(self):
+        one = pbcnf.constraint([(1, 1), (1, -2), (1, 3)], "<=", 1, first=10)
+        self.assertEqual((one.clauses, one.original, one.next_free), ([[-1, 2], [-1, -3], [2, -3]], 9, 10))
+        proof = pbcnf.derive_constraint([(1, 1), (1, -2), (1, 3)], "<=", 1, first=10)
+        self.assertEqual(proof, pbcnf.derive("* #variable= 9\n+1 x1 +1 ~x2 +1 x3 <= 1 ;"))
+
+    def test_bounds(self):
+        self.assertEqual(pbcnf.bounds(OPB), [(0, 9), (1, 10), (3, 11)])
+        self.assertEqual(pbcnf.encode(OPB, table=True).variables, 11)
+        self.assertEqual(pbcnf.bounds("+1 x1 >= 1 ;"), [])
+        self.assertEqual(pbcnf.bounds("min: -%d x1 -1 x2 ;" % (1 << 70)), [(-(1 << 70), 3), (-1, 4), (0, 5)])
+
+
+class Models(unittest.TestCase):
+    def test_literals_or_a_text(self):
+        solution = pbcnf.decode(OPB, [-1, -2, 3, 4])
+        self.assertEqual(solution, pbcnf.decode(OPB, "s SATISFIABLE\nv -1 -2 3 4 0\n"))
+        self.assertEqual(solution.text, "o 1\ns SATISFIABLE\nv -x1 -x2 rain sun\n")
+        self.assertEqual((solution.objective, solution.values), (1, {"x1": False, "x2": False, "rain": True, "sun": True}))
+        self.assertIsNone(pbcnf.decode("+1 x1 >= 1 ;", [1]).objective)
+
+    def test_names(self):
+        self.assertEqual(pbcnf.names(OPB), {3: "rain", 4: "sun"})
+
+
+class Judgements(unittest.TestCase):
+    UNSOLVED = "+1 x1 >= 1 ;\n+1 ~x1 >= 1 ;\n"
+
+    def setUp(self):
+        self.texts = self.UNSOLVED, pbcnf.dimacs(self.UNSOLVED), pbcnf.derive(self.UNSOLVED)
+
+    def test_derivations(self):
+        self.assertIsNone(pbcnf.check(*self.texts))
+        with self.assertRaises(pbcnf.Rejected) as caught:
+            pbcnf.check(self.UNSOLVED, "p cnf 1 2\n1 0\n1 0\n", self.texts[2])
+        self.assertEqual((str(caught.exception), caught.exception.line), ("pbcnf: PROOF line 6: not implied by 4", 6))
+        with self.assertRaises(pbcnf.Refused) as caught:
+            pbcnf.check(*self.texts[:2], "")
+        self.assertEqual((caught.exception.file, caught.exception.line, caught.exception.column), ("PROOF", 1, 1))
+
+    def test_refutations(self):
+        self.assertIsNone(pbcnf.refute(*self.texts, "3 0 1 2 0\n"))
+        with self.assertRaises(pbcnf.NotRefuted) as caught:
+            pbcnf.refute(*self.texts, "")
+        self.assertEqual((str(caught.exception), caught.exception.status), ("pbcnf: LRAT line 1: no empty clause", 10))
+
+    def test_weights(self):
+        self.assertEqual(pbcnf.wcnf("min: +3 x1 -2 x2 ;\n+1 x1 +1 x2 >= 1 ;\n"), "c offset -2\nh 1 2 0\n3 -1 0\n2 2 0\n")
+
+
+class Faults(unittest.TestCase):
+    def raised(self, kind, call, *given, **chosen):
+        with self.assertRaises(kind) as caught:
+            call(*given, **chosen)
+        return caught.exception
+
+    def test_places(self):
+        error = self.raised(pbcnf.Refused, pbcnf.encode, "+1 x1 >= ;")
+        self.assertEqual((error.file, error.line, error.column, error.expected), ("OPB", 1, 10, "an integer"))
+        self.assertEqual((str(error), error.status), ("pbcnf: OPB 1:10: expected an integer", 1))
+        self.assertIsInstance(error, pbcnf.Error)
+
+    def test_limits(self):
+        error = self.raised(pbcnf.LimitPassed, pbcnf.encode, "+1 x2147483648 >= 1 ;")
+        self.assertEqual((error.limit, error.file, error.line, error.column), ("variables", "OPB", 1, 4))
+
+    def test_models(self):
+        self.assertEqual(self.raised(pbcnf.NotASolution, pbcnf.decode, OPB, []).statement, 1)
+        self.assertEqual(self.raised(pbcnf.NotASolution, pbcnf.decode, OPB, [3, 4], at_most=0).statement, 3)
+        self.assertEqual(self.raised(pbcnf.NoModel, pbcnf.decode, OPB, "s UNSATISFIABLE\n").status, 9)
+
+    def test_values_that_are_none(self):
+        for call in (lambda: pbcnf.encode("", general="sorter"), lambda: pbcnf.encode("", budget=0), lambda: pbcnf.encode("", budget=1 << 40),
+                     lambda: pbcnf.constraint([(1, 0)], ">=", 1, first=2), lambda: pbcnf.constraint([(1, 1)], ">=", 1, first=1),
+                     lambda: pbcnf.constraint([(1, 1)], ">=", 1, first=-1), lambda: pbcnf.constraint([(1, 1 << 40)], ">=", 1, first=2),
+                     lambda: pbcnf.constraint([(1, 1)], ">", 1, first=2)):
+            self.raised(ValueError, call)
+        self.raised(TypeError, pbcnf.encode, "", sorter=1)
+        self.raised(OverflowError, pbcnf.encode, "", at_most=1 << 200)
+
+
+class Threads(unittest.TestCase):
+    def test_several_at_once(self):
+        due = pbcnf.encode(OPB)
+        with concurrent.futures.ThreadPoolExecutor(4) as pool:
+            self.assertTrue(all(encoding == due for encoding in pool.map(pbcnf.encode, [OPB] * 400)))
+
+
+def load_tests(loader, tests, pattern):
+    tests.addTests(doctest.DocTestSuite(pbcnf, extraglobs={"pbcnf": pbcnf}))
+    return tests
+
+
+if __name__ == "__main__":
+    unittest.main(argv=[sys.argv[0], "-q"])

@@ -1,0 +1,81 @@
+/* The numbers of pbcnf.h and the words that the library has for them are those of the comments there.
+ *
+ * The list of the constants, `numbers.h`, is made of the header by the test: each with its comment. */
+#include "calls.h"
+
+/* A constant of the header, which text it is about, and its comment. */
+struct constant {
+  const char *name;
+  uint32_t number;
+  const char *comment;
+};
+
+static const struct constant expected[] = {
+#include "expected.h"
+};
+static const struct constant limits[] = {
+#include "limits.h"
+};
+static const struct constant denied[] = {
+#include "denied.h"
+};
+static const struct constant unproved[] = {
+#include "unproved.h"
+};
+
+static int says(pbcnf_refusal r, const char *due) {
+  uint8_t said[160];
+  uint64_t length = 0;
+  uint8_t status = pbcnf_words(&r, said, sizeof said, &length);
+  if (status == PBCNF_DONE && length == strlen(due) && memcmp(said, due, length) == 0) return 1;
+  printf("wanted '%s', got status %d and '%.*s'\n", due, status, (int)length, (const char *)said);
+  return 0;
+}
+
+/* Which text a comment begins with, and what is behind it. */
+static uint32_t file_of(const char **comment, const char **name) {
+  static const char *const marks[] = {"OPB: ", "CNF: ", "derivation: ", "model: ", "LRAT: "};
+  static const char *const names[] = {"OPB", "CNF", "PROOF", "MODEL", "LRAT"};
+  for (uint32_t i = 0; i < COUNT(marks); i++)
+    if (strncmp(*comment, marks[i], strlen(marks[i])) == 0) {
+      *comment += strlen(marks[i]);
+      *name = names[i];
+      return i + 1;
+    }
+  *name = "OPB";
+  return PBCNF_FILE_OPB;
+}
+
+/* The words of a reason, at whose end N stands for the number that is told beside. */
+static void try_reason(const struct constant *reason, pbcnf_refusal r, const char *where) {
+  const size_t length = strlen(reason->comment), has_number = reason->comment[length - 1] == 'N';
+  char due[200], number[2] = "";
+  if (has_number) r.number = 8, number[0] = '8';
+  snprintf(due, sizeof due, "pbcnf: %s line 3: %.*s%s", where, (int)(length - has_number), reason->comment, number);
+  judge(says(r, due), "the words of its comment", reason->name, (long)reason->number);
+}
+
+int main(void) {
+  char due[200];
+  for (size_t i = 0; i < COUNT(expected); i++) {
+    const char *comment = expected[i].comment, *name;
+    pbcnf_refusal r = {3, 7, 0, PBCNF_REFUSED, 0, expected[i].number, 0, 0, 0};
+    r.file = file_of(&comment, &name);
+    snprintf(due, sizeof due, "pbcnf: %s 3:7: expected %s", name, comment);
+    judge(says(r, due), "the words of its comment", expected[i].name, (long)expected[i].number);
+  }
+  for (size_t i = 0; i < COUNT(limits); i++) {
+    pbcnf_refusal r = {3, 7, 0, PBCNF_LIMIT, PBCNF_FILE_OPB, 0, limits[i].number, 0, 0};
+    snprintf(due, sizeof due, "pbcnf: OPB 3:7: limit %s", limits[i].comment);
+    judge(says(r, due), "the word of its name", limits[i].name, (long)limits[i].number);
+  }
+  for (size_t i = 0; i < COUNT(denied); i++) {
+    pbcnf_refusal r = {3, 0, 0, PBCNF_REJECTED, 0, 0, 0, denied[i].number, 0};
+    try_reason(&denied[i], r, "PROOF");
+  }
+  for (size_t i = 0; i < COUNT(unproved); i++) {
+    pbcnf_refusal r = {3, 0, 0, PBCNF_NOT_REFUTED, 0, 0, 0, 0, unproved[i].number};
+    try_reason(&unproved[i], r, "LRAT");
+  }
+  return conclude();
+}
