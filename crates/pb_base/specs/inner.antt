@@ -1,1 +1,3 @@
 pub mod Scans
+pub mod Packing
+pub mod SignedLits

@@ -1,6 +1,5 @@
 //! What may be chosen of an encoding.
-ghost use Rattle.std.specs.Prelude.{◌≡◌};
-ghost use Rattle.pb_base.specs.Defaults.{default_options};
+ghost use Rattle.std.specs.Prelude.{◌≤◌};
 
 /// How an at-most-one constraint is encoded.
 #[derive(Clone, Copy, PartialEq, Eq, Debug)]
@@ -63,6 +62,8 @@ pub struct Options {
     /// Whether a table of bounds on the objective stands behind all constraints. It has no more fresh variables than the
     /// budget.
     pub table: bool,
+    pub ghost low: { 1 ≤ budget },
+    pub ghost high: { budget ≤ 10000000 },
 }
 
 /// The budget where none is chosen.
@@ -72,6 +73,9 @@ pub const DEFAULT_BUDGET: u64 = 50_000;
 pub const MAX_BUDGET: u64 = 10_000_000;
 
 impl Default for Options {
+    ghost use Rattle.std.specs.Prelude.{◌≡◌};
+    ghost use Rattle.pb_base.specs.Defaults.{default_options};
+
     /// What stands where nothing is chosen.
     fn default() -> Self
         ensures { result ≡ default_options }

@@ -1,12 +1,13 @@
 //! Whether the values of a model are a solution.
-ghost use Rattle.std.specs.Prelude.{◌≡◌, ◌<◌, ◌≤◌, ◌^◌, ◌↔◌, IsTrue, All, length};
+ghost use Rattle.std.specs.Prelude.{◌≡◌, ◌<◌, ◌≤◌, ◌+◌, ◌^◌, ◌↔◌, IsTrue, All, length};
 ghost use Rattle.pb_base.specs.Literals.{assigned_by};
 ghost use Rattle.pb_base.specs.Problems.{magnitude, written_value, sum_value, Satisfies, StaysBelow, IsWithinLimits};
+ghost use Rattle.pb_base.specs.Statements.{raw_of};
 ghost use Rattle.pb_model.specs.Decoding.{FindsViolated, IsDecoded, AreVarsWithin};
 
 use crate::model::{Model, Says};
 use crate::widened::Widened;
-use pb_base::{Problem, Raw, Relation, Term};
+use pb_base::{Problem, Relation, Statement, Statements, Term, TermsLeft};
 
 /// What a model comes to beside a problem.
 #[derive(Clone, Copy, Debug, PartialEq, Eq)]
@@ -44,13 +45,26 @@ pub(crate) fn sum_of(values: &Widened, terms: &[Term]) -> i128
     sum
 }
 
-// Whether a statement holds under the values.
-fn satisfies(values: &Widened, statement: &Raw) -> bool
-    requires vars { AreVarsWithin (length values.now) statement.now.terms }
-    requires numbers { magnitude statement.now.terms < 2 ^ 100 }
-    ensures { IsTrue result ↔ Satisfies (assigned_by values.now) statement.now }
+// The same of the terms of a statement where it is kept.
+fn sum_left(values: &Widened, terms: TermsLeft<'_>) -> i128
+    requires vars { AreVarsWithin (length values.now) terms }
+    requires numbers { magnitude terms < 2 ^ 100 }
+    ensures { result ≡ sum_value (assigned_by values.now) terms.entry }
 {
-    let sum = sum_of(values, statement.terms.as_slice());
+    let mut sum: i128 = 0;
+    for term in terms {
+        sum += term_value(values, &term);
+    }
+    sum
+}
+
+// Whether a statement holds under the values.
+fn satisfies(values: &Widened, statement: Statement<'_>) -> bool
+    requires vars { AreVarsWithin (length values.now) statement.terms }
+    requires numbers { magnitude statement.terms < 2 ^ 100 }
+    ensures { IsTrue result ↔ Satisfies (assigned_by values.now) (raw_of statement.entry) }
+{
+    let sum = sum_left(values, statement.terms);
     match statement.relation {
         Relation::AtLeast => sum >= statement.right,
         Relation::AtMost => sum <= statement.right,
@@ -59,15 +73,18 @@ fn satisfies(values: &Widened, statement: &Raw) -> bool
 }
 
 // The place of the first statement that does not hold, counted from 0.
-fn first_violated(values: &Widened, statements: &[Raw]) -> Option<usize>
+fn first_violated(values: &Widened, statements: &Statements) -> Option<u64>
+    requires few { length statements.now ≤ 2 ^ 24 + 1 }
     requires vars { All (λ s. AreVarsWithin (length values.now) s.terms) statements.now }
     requires numbers { All (StaysBelow (2 ^ 100)) statements.now }
     ensures { FindsViolated (assigned_by values.now) statements.now result }
 {
-    for (place, statement) in statements.iter().enumerate() {
+    let mut place = 0;
+    for statement in statements.iter() {
         if !satisfies(values, statement) {
             return Some(place);
         }
+        place += 1;
     }
     None
 }
@@ -83,10 +100,10 @@ pub fn decode(problem: &Problem, model: &Model) -> Decoded
         return Decoded::NoModel;
     };
     let values = Widened::new(problem, model.values.as_slice());
-    match first_violated(&values, problem.statements.as_slice()) {
+    match first_violated(&values, &problem.statements) {
         None => Decoded::Solution,
         Some(place) => Decoded::Violates {
-            statement: place as u64 + 1,
+            statement: place + 1,
         },
     }
 }

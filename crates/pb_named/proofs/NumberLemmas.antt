@@ -183,6 +183,12 @@ over-statement t seen all before behind s products whole noted over =
     (ap (λ (ps : List (List Lit)). noting (noting ps own) rest) noted ∙ sym (firsts-append same_product (noting seen (products_in t (terms_in before))) own rest) ∙ sym (firsts-append same_product seen (products_in t (terms_in before)) (own ++ rest)) ∙ ap (noting seen) (sym split))
     (over-more t (noting products own) rest over)
 
+-- the statements in front of those that are left were numbered
+pub record NumbersFront (t : Table) (seen : List (List Lit)) (ks : List ℕ) (all left : List NamedStatement) (products : List (List Lit)) (places : List ℕ) (list : List Raw) : Type 0 where
+  pub front : List NamedStatement
+  pub whole : front ++ left ≡ all
+  pub numbers : NumbersAll t seen ks front products places list
+
 -- ---- the whole
 
 -- the products of a problem: the objective's, and then those of the statements

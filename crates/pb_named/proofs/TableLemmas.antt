@@ -113,6 +113,24 @@ notes-term t u v ks ls ms n l more first_is more_is first rest =
 abbrev pub statement_names : NamedStatement → List Name
 statement_names s = names_of s.terms
 
+-- noting the names of the statements that are left makes the same as noting those of all did
+pub record NotesLeft (t : Table) (ks : List ℕ) (all : List NamedStatement) (u : Table) (ls : List ℕ) (left : List NamedStatement) : Type 0 where
+  pub noted : noted_all u (flat_map statement_names left) ≡ noted_all t (flat_map statement_names all)
+  pub placed : ls ++ places_from u (flat_map statement_names left) ≡ ks ++ places_from t (flat_map statement_names all)
+
+-- one statement less is left
+pub notes-left : (t u v : Table) (ks ls ms : List ℕ) (all left rest : List NamedStatement) (s : NamedStatement) → NotesLeft t ks all u ls left → left ≡ s ∷ rest → v ≡ noted_all u (names_of s.terms) → ms ≡ ls ++ places_from u (names_of s.terms) → NotesLeft t ks all v ms rest
+notes-left t u v ks ls ms all left rest s before is noted placed =
+    let more = flat_map statement_names rest in
+    record {
+      noted = ap (λ (w : Table). noted_all w more) noted ∙ sym (noted_all-append u (names_of s.terms) more) ∙ sym (ap (λ (ss : List NamedStatement). noted_all u (flat_map statement_names ss)) is) ∙ before.noted;
+      placed = (λ i. placed i ++ places_from (noted i) more)
+          ∙ append_assoc ls (places_from u (names_of s.terms)) (places_from (noted_all u (names_of s.terms)) more)
+          ∙ ap (λ (w : List ℕ). ls ++ w) (sym (places_from-append u (names_of s.terms) more))
+          ∙ sym (ap (λ (ss : List NamedStatement). ls ++ places_from u (flat_map statement_names ss)) is)
+          ∙ before.placed;
+    }
+
 -- ---- the table of a problem
 
 abbrev empty : ℕ → Table

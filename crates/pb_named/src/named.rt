@@ -2,6 +2,7 @@
 ghost use Rattle.std.specs.Prelude.{◌≡◌, length, ◌≤◌, ◌<◌, ◌^◌};
 ghost use Rattle.pb_named.specs.Names.Name.{index, free};
 
+use crate::statements::NamedStatements;
 use pb_base::{Relation, Seq};
 use std::alloc::{AllocError, Global};
 use std::marker::Model;
@@ -203,5 +204,5 @@ impl Drop for NamedStatement<'_> {
 #[derive(Debug, Drop)]
 pub struct NamedProblem<'a> {
     pub objective: Option<NamedTerms<'a>>,
-    pub statements: Seq<NamedStatement<'a>>,
+    pub statements: NamedStatements<'a>,
 }

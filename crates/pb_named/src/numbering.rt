@@ -8,15 +8,15 @@ ghost use Rattle.pb_named.specs.declared.numbering.NumberFault.TheVariants.{NoMe
 ghost use Rattle.pb_named.specs.NamedProblems.{term_names, names_of, terms_or_none, all_names, table_of, size, lit_of, factor, products_in, product_lit, terms_by, terms_of, statement_of, by_table, problem_of};
 ghost use Rattle.pb_named.specs.NamedTerms.{lits_of};
 ghost use Rattle.pb_named.specs.Products.{product_in, same_product};
+ghost use Rattle.pb_named.specs.inner.Kept.{body_terms};
 ghost use Rattle.pb_named.specs.inner.Numbering.{place_in, noted_all, places_from, StartsWith, Gives, IsKnown, IsTermKnown, AreKnown, IsOver, IsFew, listed};
 
-use crate::named::{NamedLit, NamedProblem, NamedStatement, NamedTerm, NamedTerms};
+use crate::named::{NamedLit, NamedProblem, NamedTerm, NamedTerms};
 use crate::places::Places;
 use crate::products::{Factor, ProductTable, factor_of};
+use crate::statements::{Body, NamedStatements, write_named};
 use crate::table::Table;
-use pb_base::{
-    Lit, Lits, MAX_VARIABLES, NoMemory, Problem, Raw, Seq, Statements, Term, Terms, Var,
-};
+use pb_base::{Lit, Lits, MAX_VARIABLES, NoMemory, Problem, Seq, Statements, Term, Terms, Var};
 use std::alloc::{AllocError, Global};
 use thiserror::Error;
 
@@ -93,17 +93,38 @@ fn note_terms<'a>(
     Ok(())
 }
 
-// Notes the names of statements, and their places.
-fn note_statements<'a>(
+// Notes the names of a statement, and their places.
+fn note_body<'a>(
     table: &mut Table<'a>,
     places: &mut Seq<usize>,
-    statements: &[NamedStatement<'a>],
+    body: Body<'_, 'a>,
+    room: &mut Vec<NamedTerm<'a>>,
+) -> Result<(), NoMemory>
+    ensures noted { OnOk result (table.new ≡ noted_all table.old (names_of (body_terms body.entry))) }
+    ensures places { OnOk result (places.new ≡ places.old ++ places_from table.old (names_of (body_terms body.entry))) }
+{
+    match body {
+        Body::Plain(terms) => {
+            write_named(terms, room)?;
+            note_terms(table, places, room.as_slice())
+        }
+        Body::Whole(terms) => note_terms(table, places, terms),
+    }
+}
+
+// Notes the names of statements, and their places.
+fn note_statements<'a>(
+    alloc: Global,
+    table: &mut Table<'a>,
+    places: &mut Seq<usize>,
+    statements: &NamedStatements<'a>,
 ) -> Result<(), NoMemory>
     ensures noted { OnOk result (table.new ≡ noted_all table.old (flat_map (λ s. names_of s.terms) statements.now)) }
     ensures places { OnOk result (places.new ≡ places.old ++ places_from table.old (flat_map (λ s. names_of s.terms) statements.now)) }
 {
-    for statement in statements {
-        note_terms(table, places, statement.terms.as_slice())?;
+    let mut room = Vec::new(alloc);
+    for next in statements.iter() {
+        note_body(table, places, next.body, &mut room)?;
     }
     Ok(())
 }
@@ -120,6 +141,7 @@ fn terms_in<'a, 'b>(objective: &'b Option<NamedTerms<'a>>) -> &'b [NamedTerm<'a>
 
 // Notes the names of a problem, and their places.
 fn note_problem<'a>(
+    alloc: Global,
     table: &mut Table<'a>,
     places: &mut Seq<usize>,
     problem: &NamedProblem<'a>,
@@ -128,7 +150,7 @@ fn note_problem<'a>(
     ensures places { OnOk result (places.new ≡ places.old ++ places_from table.old (all_names problem.now)) }
 {
     note_terms(table, places, terms_in(&problem.objective))?;
-    note_statements(table, places, problem.statements.as_slice())?;
+    note_statements(alloc, table, places, &problem.statements)?;
     Ok(())
 }
 
@@ -294,13 +316,65 @@ fn terms_of(
     Ok(list)
 }
 
-// Statements in numbers. Each is given up once it is numbered.
+// The terms of a statement in numbers.
+fn body_of<'a>(
+    alloc: Global,
+    table: &Table<'_>,
+    products: &mut ProductTable,
+    places: &mut Places<'_>,
+    body: Body<'_, 'a>,
+    room: &mut Vec<NamedTerm<'a>>,
+) -> Result<Terms, NumberFault>
+    requires places { StartsWith (place_in table.now) places.old (names_of (body_terms body)) }
+    requires known { AreKnown table.now (body_terms body) }
+    requires few { IsFew table.now products.old }
+    ensures few { OnOk result (IsFew table.now products.new) }
+    ensures places { OnOk result (Gives (place_in table.now) places.old (names_of (body_terms body.entry)) places.new) }
+    ensures noted { OnOk result (products.new ≡ firsts_behind same_product products.old (products_in table.now (body_terms body.entry))) }
+    ensures terms { IfOk result (λ ts. ts ≡ terms_of table.now (firsts_behind same_product products.old (products_in table.now (body_terms body.entry))) (body_terms body.entry)) }
+    ensures many { IsErrOf result HasTooMany → IsOver table.now (firsts_behind same_product products.old (products_in table.now (body_terms body.entry))) }
+{
+    match body {
+        Body::Plain(terms) => {
+            write_named(terms, room)?;
+            terms_of(alloc, table, products, places, room.as_slice())
+        }
+        Body::Whole(terms) => terms_of(alloc, table, products, places, terms),
+    }
+}
+
+// Statements in numbers, one after another.
+fn each_of(
+    alloc: Global,
+    table: &Table<'_>,
+    products: &mut ProductTable,
+    places: &mut Places<'_>,
+    statements: &NamedStatements<'_>,
+) -> Result<Statements, NumberFault>
+    requires places { StartsWith (place_in table.now) places.old (flat_map (λ s. names_of s.terms) statements.now) }
+    requires known { All (λ s. AreKnown table.now s.terms) statements.now }
+    requires few { IsFew table.now products.old }
+    ensures few { OnOk result (IsFew table.now products.new) }
+    ensures noted { OnOk result (products.new ≡ firsts_behind same_product products.old (products_in table.now (flat_map (λ s. s.terms) statements.now))) }
+    ensures statements { IfOk result (λ ss. ss ≡ map (statement_of table.now (firsts_behind same_product products.old (products_in table.now (flat_map (λ s. s.terms) statements.now)))) statements.now) }
+    ensures many { IsErrOf result HasTooMany → IsOver table.now (firsts_behind same_product products.old (products_in table.now (flat_map (λ s. s.terms) statements.now))) }
+{
+    let mut list = Statements::new(alloc);
+    let mut room = Vec::new(alloc);
+    for next in statements.iter() {
+        let terms = body_of(alloc, table, products, places, next.body, &mut room)?;
+        list.push(terms.as_slice(), next.relation, next.right)?;
+    }
+    Ok(list)
+}
+
+// Statements in numbers. Where all are over numbered variables alone, they are so already.
 fn statements_of(
     alloc: Global,
     table: &Table<'_>,
     products: &mut ProductTable,
     places: &mut Places<'_>,
-    statements: Seq<NamedStatement<'_>>,
+    statements: NamedStatements<'_>,
 ) -> Result<Statements, NumberFault>
     requires places { StartsWith (place_in table.now) places.old (flat_map (λ s. names_of s.terms) statements) }
     requires known { All (λ s. AreKnown table.now s.terms) statements }
@@ -310,16 +384,10 @@ fn statements_of(
     ensures statements { IfOk result (λ ss. ss ≡ map (statement_of table.now (firsts_behind same_product products.old (products_in table.now (flat_map (λ s. s.terms) statements.entry)))) statements.entry) }
     ensures many { IsErrOf result HasTooMany → IsOver table.now (firsts_behind same_product products.old (products_in table.now (flat_map (λ s. s.terms) statements.entry))) }
 {
-    let mut list = Statements::new(alloc);
-    for statement in statements.into_vec() {
-        let terms = terms_of(alloc, table, products, places, statement.terms.as_slice())?;
-        list.push(Raw {
-            terms,
-            relation: statement.relation,
-            right: statement.right,
-        })?;
+    match statements.into_plain() {
+        Ok(list) => Ok(list),
+        Err(rest) => each_of(alloc, table, products, places, &rest),
     }
-    Ok(list)
 }
 
 // An objective in numbers.
@@ -428,7 +496,7 @@ fn by_names<'a>(
     ensures many { IsErrOf result HasTooMany → 2 ^ 31 ≤ originals (problem_of table.old.numbered problem.entry) }
 {
     let mut places = Seq::new(alloc);
-    note_problem(table, &mut places, &problem)?;
+    note_problem(alloc, table, &mut places, &problem)?;
     by_table(alloc, table, places.as_slice(), problem)
 }
 

@@ -1,10 +1,6 @@
 -- The order in which terms are written does not matter to the normal form.
-use Rattle.std.proofs.Common.{◌≡◌, ◌<◌, ◌+◌, ℕ, cond, ◌==◌, List, [], ◌∷◌, ◌++◌, take, filter_map, length, get_or, Option, Some, None, pos, ℤ, refl, ap, sym, ◌∙◌}
-use Rattle.std.specs.List.{cons_option}
+use Rattle.std.proofs.Common.{◌≡◌, ℕ, cond, ◌==◌, List, pos, ℤ, sym, ◌∙◌}
 use Rattle.std.specs.List.Sorted.{IsPermutation}
-use Rattle.std.specs.Option.{option_to_list}
-use Rattle.std.proofs.lemmas.List.{take_more}
-use Rattle.std.proofs.lemmas.List.Elements.{filter_map-append}
 use Rattle.pb_base.specs.declared.literal.Term.{Term}
 use Rattle.pb_base.proofs.IntSums.{int_sum_by-map, int_sum_by-IsPermutation}
 use Rattle.pb_norm.specs.declared.halves.Half.{Half}
@@ -24,14 +20,3 @@ normal_terms-permutation half ts us p =
     let after = half_terms half us in
     same_nets (normal_terms after) (normal_terms before) (normal_terms-positive after) (normal_terms-ascending after) (normal_terms-positive before) (normal_terms-ascending before)
     (λ v. normal_terms-net v after ∙ (net-permutation half ts us p v ∙ sym (normal_terms-net v before)))
-
--- one more item, if it gives something
-pub filter_map_item : {X Y : Type 0} (f : X → Option Y) (xs : List X) (i : ℕ) (x : X) (made more : List Y) → i < length xs → x ≡ get_or xs i x → made ≡ filter_map f (take i xs) → more ≡ made ++ option_to_list (f x) → more ≡ filter_map f (take (i + 1) xs)
-filter_map_item {X} {Y} f xs i x made more below here so_far e =
-    let next = ap (filter_map f) (take_more xs i x below) ∙ filter_map-append f (take i xs) (get_or xs i x ∷ []) in
-    let last : filter_map f (get_or xs i x ∷ []) ≡ option_to_list (f x) = ap (λ (y : X). filter_map f (y ∷ [])) (sym here) ∙ one (f x) in
-    e ∙ (ap (λ (ys : List Y). ys ++ option_to_list (f x)) so_far ∙ (ap (λ (ys : List Y). filter_map f (take i xs) ++ ys) (sym last) ∙ sym next))
-  where
-    one : (o : Option Y) → cons_option o [] ≡ option_to_list o
-    one None = refl
-    one (Some y) = refl

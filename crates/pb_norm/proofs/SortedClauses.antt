@@ -1,5 +1,5 @@
 -- The literals of a clause by their variables, each of which stands once: they are the signs of its variables.
-use Rattle.std.proofs.Common.{◌≡◌, ◌<◌, ◌≤◌, ◌^◌, ℕ, Bool, true, false, cond, List, [], ◌∷◌, map, All, length, refl, ap, sym, ◌∙◌, subst, arith, Option, Some, None, inl, inr, Less}
+use Rattle.std.proofs.Common.{◌≡◌, ◌<◌, ◌^◌, ℕ, Bool, true, false, cond, List, [], ◌∷◌, map, All, length, refl, ap, ◌∙◌, subst, arith, Some, inl, inr, Less}
 use Rattle.std.specs.Prelude.{Contains}
 use Rattle.std.specs.Ordering.{nat_cmp}
 use Rattle.std.specs.BTreeMap.{is_at}

@@ -1,16 +1,15 @@
 -- Constraints of which each literal alone reaches the degree and none is forced: they are clauses.
-use Rattle.std.proofs.Common.{◌≡◌, ◌<◌, ◌≤◌, ◌+◌, ◌-◌, ◌*◌, ◌==◌, ◌&&◌, nat_lt, ℕ, Bool, true, false, not, cond, List, [], ◌∷◌, map, filter, min, arith, refl, ap, sym, ◌∙◌, inl, inr}
+use Rattle.std.proofs.Common.{◌≡◌, ◌<◌, ◌≤◌, ◌-◌, ◌*◌, ◌==◌, nat_lt, ℕ, true, false, not, List, [], ◌∷◌, map, filter, min, arith, refl, ap, sym, ◌∙◌, inl, inr}
 use Rattle.std.specs.List.{list_all}
 use Rattle.std.proofs.lemmas.Bool.{and_parts, cases_lt, ltb-false, le-ltb, not-true}
 use Rattle.std.proofs.lemmas.Bool.Decides.{nat_tests}
 use Rattle.pb_base.specs.declared.literal.Lit.{Lit}
 use Rattle.pb_base.specs.declared.literal.Term.{Term}
-use Rattle.pb_norm.specs.declared.reduction.Rest.TheVariants.{Nothing, Empty, Clause}
-use Rattle.pb_norm.specs.declared.reduction.Reduced.{Reduced}
+use Rattle.pb_norm.specs.declared.reduction.Rest.TheVariants.{Clause}
 use Rattle.pb_norm.specs.Constraints.{Weighted, Constraint, weight, weights, slack}
 use Rattle.pb_norm.specs.inner.Kept.{on_weight}
 use Rattle.pb_norm.specs.inner.Tight.{is_tight}
-use Rattle.pb_norm.specs.Reduction.{is_above, is_within, is_too_light, forcing_terms, lits_of, units_of, without_units, cut_to, saturated, first_coef, has_coef, all_weigh, single, quotient_up, divided, core, class_of, rest_of, split}
+use Rattle.pb_norm.specs.Reduction.{is_above, is_within, is_too_light, forcing_terms, lits_of, units_of, without_units, cut_to, saturated, first_coef, all_weigh, single, quotient_up, divided, core, class_of, rest_of, split}
 use Rattle.pb_norm.proofs.KeptTerms.{all-weights}
 use Rattle.pb_norm.proofs.Opened.{quotient_up-enough, quotient_up-least}
 

@@ -20,7 +20,11 @@ pub fn weight_of(terms: &[Term]) -> u128
 pub fn lits_of(alloc: Global, terms: &[Term]) -> Result<Vec<Lit>, AllocError>
     ensures { IfOk result (λ lits. lits.items ≡ map (λ t. t.lit) terms.now) }
 {
-    terms.iter().map(|term| term.lit).collect(alloc)
+    let mut lits = Vec::with_capacity(alloc, terms.len())?;
+    for term in terms {
+        lits.push(term.lit)?;
+    }
+    Ok(lits)
 }
 
 /// The coefficient of the first term, and 1 if there is none.

@@ -1,11 +1,11 @@
 -- What stands between two tokens, and where what stands behind it begins.
-use Rattle.std.proofs.Common.{◌≡◌, ℕ, suc, ◌+◌, ◌≤◌, ◌<◌, Bool, true, false, not, ◌&&◌, ◌||◌, ◌==◌, cond, List, [], ◌∷◌, ◌++◌, length, get_or, take, drop, ◌-◌, sym, refl, ap, ◌∙◌, subst, arith, add-one, append_assoc}
+use Rattle.std.proofs.Common.{◌≡◌, ℕ, ◌+◌, ◌≤◌, Bool, true, false, not, ◌&&◌, ◌||◌, ◌==◌, cond, List, [], ◌∷◌, ◌++◌, length, get_or, take, drop, ◌-◌, sym, refl, ap, ◌∙◌, subst, arith, add-one, append_assoc}
 use Rattle.std.proofs.lemmas.List.{take_rest}
 use Rattle.std.proofs.lemmas.Bool.Decides.{nat_tests}
 use Rattle.pb_base.specs.declared.place.Place.{Place}
 use Rattle.pb_base.specs.Places.{after, along, end_from}
 use Rattle.pb_base.specs.Lines.{first_line}
-use Rattle.pb_base.specs.Tokens.{is_white, joins, joins_next, blanks, uncommented, tokens_from}
+use Rattle.pb_base.specs.Tokens.{is_white, joins, blanks, uncommented, tokens_from}
 use Rattle.pb_base.specs.inner.Scans.{run_len}
 use Rattle.pb_base.proofs.Cuts.{skipped}
 use Rattle.pb_opb.specs.reader.Heads.{Skips, token_at}

@@ -1,6 +1,6 @@
 -- The token at the front of a text, by its first bytes.
-use Rattle.std.proofs.Common.{◌≡◌, ℕ, suc, ◌+◌, ◌-◌, ◌*◌, ◌<◌, ◌≤◌, ◌^◌, Bool, true, false, not, ◌&&◌, ◌||◌, ◌==◌, cond, List, [], ◌∷◌, length, get_or, take, drop, Some, None, sym, refl, ap, ◌∙◌, arith, rules, add-one, length-take-le}
-use Rattle.std.specs.Prelude.{ℤ, pos, neg_ℤ}
+use Rattle.std.proofs.Common.{◌≡◌, ℕ, suc, ◌+◌, ◌-◌, ◌*◌, ◌<◌, ◌≤◌, Bool, true, false, ◌==◌, cond, List, [], ◌∷◌, length, get_or, take, drop, Some, None, sym, refl, ap, ◌∙◌, arith, rules, add-one, length-take-le}
+use Rattle.std.specs.Prelude.{pos, neg_ℤ}
 use Rattle.std.specs.Option.{option_map}
 use Rattle.std.specs.Char.{is_ascii_digit, digit_value}
 use Rattle.std.specs.Str.{all_ascii_digits}
@@ -12,13 +12,13 @@ use Rattle.pb_base.specs.declared.place.Place.{Place}
 use Rattle.pb_base.specs.declared.problem.Relation.TheVariants.{AtLeast, AtMost, Equal}
 use Rattle.pb_base.specs.Places.{start, along}
 use Rattle.pb_base.specs.Numbers.{natural_of, weighed}
-use Rattle.pb_base.specs.Tokens.{Piece, is_white, is_word_byte, joins, joins_next, uncommented, tokens_from, tokens_of}
+use Rattle.pb_base.specs.Tokens.{Piece, is_word_byte, joins, joins_next, uncommented, tokens_from, tokens_of}
 use Rattle.pb_base.specs.inner.Scans.{run_len, BeginsToken}
 use Rattle.pb_base.proofs.Cuts.{run_len_le, tokens_from-split}
-use Rattle.pb_named.specs.Names.{named, name_of}
+use Rattle.pb_named.specs.Names.{named}
 use Rattle.pb_named.specs.Names.Name.{index}
 use Rattle.pb_opb.specs.declared.head.Digits.{Digits}
-use Rattle.pb_opb.specs.Grammar.{Kind, kind_of, spelled, named_literal, with_sign}
+use Rattle.pb_opb.specs.Grammar.{kind_of, spelled, named_literal, with_sign}
 use Rattle.pb_opb.specs.Grammar.Kind.{integer, literal, relation, semicolon}
 use Rattle.pb_opb.specs.reader.Heads.{AreDigits, behind, behind_x, ends_word, token_at}
 

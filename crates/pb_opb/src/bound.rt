@@ -1,12 +1,12 @@
 //! A bound on the objective of a problem.
-ghost use Rattle.std.specs.Prelude.{◌≡◌, ◌≤◌, ◌<◌, ◌^◌, IfOk, IsErrOf, OnOk, length};
+ghost use Rattle.std.specs.Prelude.{◌≡◌, ◌≤◌, ◌<◌, ◌^◌, [], IfOk, IsErrOf, OnOk, length, unwrap_or};
 ghost use Rattle.pb_base.specs.Problems.{magnitude, objective_terms, IsWithinLimits};
 ghost use Rattle.pb_opb.specs.Bounded.{bound_weight, bounded, BoundKeepsSmaller};
 ghost use Rattle.pb_opb.specs.declared.bound.BoundFault.TheVariants as fault;
 
 use crate::stage::WEIGHT;
-use pb_base::{Problem, Raw, Relation, Term, Terms};
-use std::alloc::{AllocError, Global};
+use pb_base::{NoMemory, Problem, Relation, Term, Terms};
+use std::alloc::Global;
 use thiserror::Error;
 
 /// Why a problem gets no bound on its objective.
@@ -20,19 +20,19 @@ pub enum BoundFault {
     NoMemory,
 }
 
-impl From<AllocError> for BoundFault {
+impl From<NoMemory> for BoundFault {
     ghost from_gives = { λ _ f. f ≡ fault.NoMemory };
 
-    fn from(_error: AllocError) -> BoundFault {
+    fn from(_error: NoMemory) -> BoundFault {
         BoundFault::NoMemory
     }
 }
 
 // The terms of the objective, if there is one.
-fn objective_of(problem: &Problem) -> &[Term]
-    ensures { result.now ≡ objective_terms problem.now }
+fn terms_in(objective: &Option<Terms>) -> &[Term]
+    ensures { result.now ≡ unwrap_or objective.now [] }
 {
-    match &problem.objective {
+    match objective {
         Some(terms) => terms.as_slice(),
         None => &[],
     }
@@ -48,7 +48,7 @@ fn magnitude_of(terms: &[Term]) -> u128
 
 /// The problem with one more statement behind the others: that its objective is at most the bound. A problem without an
 /// objective has the empty sum.
-pub fn bounded(alloc: Global, problem: Problem, bound: i128) -> Result<Problem, BoundFault>
+pub fn bounded(_alloc: Global, problem: Problem, bound: i128) -> Result<Problem, BoundFault>
     requires within { IsWithinLimits problem }
     requires room { length problem.statements ≤ 2 ^ 24 }
 
@@ -59,16 +59,11 @@ pub fn bounded(alloc: Global, problem: Problem, bound: i128) -> Result<Problem, 
     ensures heavy { IsErrOf result fault.Weight → 2 ^ 100 ≤ bound_weight problem bound }
 {
     let mut problem = problem;
-    let terms = objective_of(&problem);
+    let terms = terms_in(&problem.objective);
     if magnitude_of(terms) + bound.unsigned_abs() >= WEIGHT {
         return Err(BoundFault::Weight);
     }
-    let terms = Terms::from_vec(Vec::from_slice(alloc, terms)?);
-    problem.statements.push(Raw {
-        terms,
-        relation: Relation::AtMost,
-        right: bound,
-    })?;
+    problem.statements.push(terms, Relation::AtMost, bound)?;
     Ok(problem)
 }
 

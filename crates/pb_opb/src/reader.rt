@@ -15,8 +15,8 @@ use crate::fault::Refusal;
 use crate::head::{Short, first_token, head_of};
 use crate::stage::{Ending, Part, Spot, Stage, WEIGHT};
 use crate::symbol::{Symbol, symbol_of};
-use pb_base::{LimitKind, MAX_TERMS, Relation, Seq};
-use pb_named::{Name, NamedLit, NamedProblem, NamedStatement, NamedTerm, NamedTerms};
+use pb_base::{LimitKind, MAX_TERMS, NoMemory, Relation};
+use pb_named::{Name, NamedLit, NamedProblem, NamedStatements, NamedTerm, NamedTerms};
 use std::alloc::{AllocError, Global};
 use std::mem;
 
@@ -38,24 +38,11 @@ fn with_further<'a>(
     Ok(NamedTerms::from_vec(items))
 }
 
-// Terms that are moved out of their vector, in no more room than they need, since they stay until the problem is numbered.
-fn take_terms<'a>(
-    alloc: Global,
-    read: &mut Vec<NamedTerm<'a>>,
-) -> Result<NamedTerms<'a>, AllocError>
-    ensures terms { IfOk result (λ terms. terms ≡ read.old.items) }
-    ensures rest { OnOk result (read.new.items ≡ []) }
-{
-    let mut terms = Vec::with_capacity(alloc, read.len())?;
-    terms.append(read)?;
-    Ok(NamedTerms::from_vec(terms))
-}
-
 /// What was read of a text so far.
 #[derive(Drop)]
 pub struct Reader<'a> {
     pub objective: Option<NamedTerms<'a>>,
-    pub statements: Seq<NamedStatement<'a>>,
+    pub statements: NamedStatements<'a>,
     pub stage: Stage,
     /// The terms of the open sum.
     pub terms: NamedTerms<'a>,
@@ -72,7 +59,7 @@ impl<'a> Reader<'a> {
     {
         Reader {
             objective: None,
-            statements: Seq::new(alloc),
+            statements: NamedStatements::new(alloc),
             stage: Stage::Start,
             terms: NamedTerms::new(alloc),
             literals: 0,
@@ -277,18 +264,13 @@ impl<'a> Reader<'a> {
         alloc: Global,
         relation: Relation,
         right: i128,
-    ) -> Result<(), AllocError>
+    ) -> Result<(), NoMemory>
         ensures { OnOk result (self.new ≡ with_statement self.old relation right) }
     {
         // The room in which they were read is kept for the next sum.
         let mut read = mem::replace(&mut self.terms, NamedTerms::new(alloc)).into_vec();
-        let terms = take_terms(alloc, &mut read)?;
+        self.statements.push(alloc, &mut read, relation, right)?;
         mem::replace(&mut self.terms, NamedTerms::from_vec(read));
-        self.statements.push(NamedStatement {
-            terms,
-            relation,
-            right,
-        })?;
         self.literals = 0;
         self.weight = 0;
         self.stage = Stage::Next;

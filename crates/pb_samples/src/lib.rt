@@ -4,7 +4,7 @@
 ghost use Rattle.std.specs.Prelude.{◌≤◌, ◌<◌};
 ghost use Rattle.pb_family.specs.Families.{VarsBelow};
 
-use pb_base::{Lit, LitWord, Term, read_literal, words};
+use pb_base::{Lit, LitWord, Raw, Term, read_literal, words};
 use pb_family::{Family, TextSink};
 use pb_norm::{AtMost, Half, Linear, Linears, Rest, load, normalize, reduce};
 use pb_opb::read_opb;
@@ -31,9 +31,10 @@ pub fn loaded(alloc: Global, text: &str) -> Option<Linears> {
 /// The lower half of the first statement of an OPB text.
 pub fn linear(alloc: Global, text: &str) -> Option<Linear> {
     let problem = read_opb(alloc, text.as_bytes()).ok()?;
-    match problem.statements.as_slice() {
-        [raw, ..] => normalize(alloc, raw, Half::Lower).ok(),
-        [] => None,
+    let mut first = Raw::empty(alloc);
+    match problem.statements.iter().next_into(&mut first) {
+        Ok(true) => normalize(alloc, &first, Half::Lower).ok(),
+        _ => None,
     }
 }
 

@@ -8,4 +8,4 @@ pub mod Rows
 pub mod TableRows
 pub mod TakenLemmas
 pub mod WantedLemmas
-pub mod WcnfLemmas
+mod OptionLemmas

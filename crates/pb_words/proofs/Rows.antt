@@ -1,5 +1,6 @@
 -- Worked examples of command lines, which the check computes.
 use Rattle.std.specs.Prelude.{◌≡◌, ℕ, List, [], ◌∷◌, true, false, Option, Some, None, codes, refl}
+use Rattle.std.proofs.Common.{lit≤}
 use Rattle.clap.specs.Words.{Text}
 use Rattle.clap.proofs.OnLiterals.{clap_on_literals}
 use Rattle.pb_base.specs.declared.options.Amo.TheVariants as amo
@@ -40,12 +41,12 @@ negative n = record { var = n; positive = false }
 -- ---- words that are taken
 
 two_names : said (codes "pbcnf encode a b")
-    ≡ encode_a_b (record { amo = amo.Auto; card = card.Auto; general = general.Diagram; equal = equal.Split; budget = 50000; table = false })
+    ≡ encode_a_b (record { amo = amo.Auto; card = card.Auto; general = general.Diagram; equal = equal.Split; budget = 50000; low = lit≤ tt; high = lit≤ tt; table = false })
 unfolding parsed_of clap_on_literals
 two_names = refl
 
 options_behind_the_names : said (codes "pbcnf encode a b --budget 9 --amo pairwise")
-    ≡ encode_a_b (record default_options { budget = 9; amo = amo.Pairwise })
+    ≡ encode_a_b (record default_options { budget = 9; low = lit≤ tt; high = lit≤ tt; amo = amo.Pairwise })
 unfolding parsed_of clap_on_literals
 options_behind_the_names = refl
 
@@ -60,7 +61,7 @@ unfolding parsed_of clap_on_literals
 options_between_the_names = refl
 
 all_options : said (codes "pbcnf encode --amo ladder a --card=totalizer b --budget=7 --equal joint --general adder")
-    ≡ encode_a_b (record { amo = amo.Ladder; card = card.Totalizer; general = general.Adder; equal = equal.Joint; budget = 7; table = false })
+    ≡ encode_a_b (record { amo = amo.Ladder; card = card.Totalizer; general = general.Adder; equal = equal.Joint; budget = 7; low = lit≤ tt; high = lit≤ tt; table = false })
 unfolding parsed_of clap_on_literals
 all_options = refl
 
@@ -70,16 +71,16 @@ unfolding parsed_of clap_on_literals
 the_defaults_named = refl
 
 leading_zeros : said (codes "pbcnf encode a b --budget=0000000000000000000000000000000000000000009")
-    ≡ encode_a_b (record default_options { budget = 9 })
+    ≡ encode_a_b (record default_options { budget = 9; low = lit≤ tt; high = lit≤ tt })
 unfolding parsed_of clap_on_literals
 leading_zeros = refl
 
-the_least_budget : said (codes "pbcnf encode a b --budget=1") ≡ encode_a_b (record default_options { budget = 1 })
+the_least_budget : said (codes "pbcnf encode a b --budget=1") ≡ encode_a_b (record default_options { budget = 1; low = lit≤ tt; high = lit≤ tt })
 unfolding parsed_of clap_on_literals
 the_least_budget = refl
 
 the_greatest_budget : said (codes "pbcnf encode a b --budget 10000000")
-    ≡ encode_a_b (record default_options { budget = 10000000 })
+    ≡ encode_a_b (record default_options { budget = 10000000; low = lit≤ tt; high = lit≤ tt })
 unfolding parsed_of clap_on_literals
 the_greatest_budget = refl
 
@@ -102,7 +103,7 @@ a_third_name : said (codes "pbcnf encode a b c") ≡ encode_a_b_c default_option
 unfolding parsed_of clap_on_literals
 a_third_name = refl
 
-options_between_three_names : said (codes "pbcnf encode a --budget=9 b --amo ladder c") ≡ encode_a_b_c (record default_options { amo = amo.Ladder; budget = 9 })
+options_between_three_names : said (codes "pbcnf encode a --budget=9 b --amo ladder c") ≡ encode_a_b_c (record default_options { amo = amo.Ladder; budget = 9; low = lit≤ tt; high = lit≤ tt })
 unfolding parsed_of clap_on_literals
 options_between_three_names = refl
 

@@ -15,7 +15,6 @@ use Rattle.pb_words.specs.RefuteWords.{refute_in}
 use Rattle.pb_words.specs.WcnfWords.{wcnf_in}
 use Rattle.pb_words.proofs.BenchLemmas.{bench_fit}
 use Rattle.pb_words.proofs.EncodeLemmas.{encode_fit}
-use Rattle.pb_words.proofs.WcnfLemmas.{wcnf_fit}
 
 -- the command of one name, or one of the others
 one_or : (named : Bool) (own others : Option Wanted) (w : Wanted) → (own ≡ Some w → IsFit w) → (others ≡ Some w → IsFit w)
@@ -42,7 +41,7 @@ fit_in name given w =
     (one_or (bytes_eq name (codes "bench")) _ _ w (fit_as Bench (bench_in given) w (bench_fit given))
     (one_or (bytes_eq name (codes "refute")) _ _ w (fit_as Refute (refute_in given) w (λ x is. tt))
     (one_or (bytes_eq name (codes "map")) _ _ w (fit_as Map (map_in given) w (λ x is. tt))
-    (one_or (bytes_eq name (codes "wcnf")) _ _ w (fit_as Wcnf (wcnf_in given) w (wcnf_fit given)) (none_left w))))))))
+    (one_or (bytes_eq name (codes "wcnf")) _ _ w (fit_as Wcnf (wcnf_in given) w (λ x is. tt)) (none_left w))))))))
 
 fit_by : (command : Option (Text × List Row)) (w : Wanted) → wanted_by command ≡ Some w → IsFit w
 fit_by None w e = cc

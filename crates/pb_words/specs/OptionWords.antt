@@ -11,6 +11,7 @@ use Rattle.pb_base.specs.declared.options.EqualMode.TheVariants as equal
 use Rattle.pb_base.specs.declared.options.General.{General}
 use Rattle.pb_base.specs.declared.options.General.TheVariants as general
 use Rattle.pb_base.specs.declared.options.Options.{Options}
+use Rattle.pb_base.specs.Budgets.{options_with}
 use Rattle.pb_base.specs.Defaults.{default_options}
 use Rattle.pb_words.specs.Digits.{number_within}
 use Rattle.pb_words.specs.Rules.{option_rule}
@@ -65,7 +66,7 @@ budget_in given = chosen budget_of default_options.budget (first_of (codes "budg
 
 abbrev pub options_from : Option Amo → Option Card → Option General → Option EqualMode → Option ℕ → Option Options
 options_from (Some amo) (Some card) (Some general) (Some equal) (Some budget) =
-    Some (record { amo = amo; card = card; general = general; equal = equal; budget = budget; table = false })
+    options_with amo card general equal false budget
 options_from _ _ _ _ _ = None
 
 -- the options of a command to which these arguments were given

@@ -107,6 +107,7 @@ fn budget_in(given: &ArgMatches<'_>) -> Option<u64>
 }
 
 /// The options that a command was given.
+#[tactic(auto, using(crate::proofs::OptionLemmas::budget_range))]
 pub fn options_in(given: &ArgMatches<'_>) -> Option<Options>
     ensures { result ≡ options_in (rows_of (found_of given.now)) }
 {

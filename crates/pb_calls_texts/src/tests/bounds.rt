@@ -2,13 +2,20 @@ ghost use Rattle.std.specs.Prelude.{◌≤◌, ◌^◌, length};
 ghost use Rattle.pb_base.specs.Problems.{IsWithinLimits};
 
 use super::assert_found;
-use pb_base::{MAX_STATEMENTS, Problem};
+use pb_base::{MAX_STATEMENTS, Problem, Raw};
 use pb_opb::{BoundFault, bounded, read_opb};
 use std::alloc::Global;
 
 // The statement at a place.
 fn statement_text(alloc: Global, problem: &Problem, place: usize) -> Option<String> {
-    let statement = problem.statements.as_slice().get(place)?;
+    let mut left = problem.statements.iter();
+    for _ in 0..place {
+        left.next()?;
+    }
+    let mut statement = Raw::empty(alloc);
+    if !left.next_into(&mut statement).ok()? {
+        return None;
+    }
     format!(in alloc; "{} terms, {}", statement.terms.len(), statement.right).ok()
 }
 

@@ -1,5 +1,5 @@
 use super::{assert_found, parts};
-use pb_base::{Lit, Problem, Term};
+use pb_base::{Lit, Problem, TermsLeft};
 use pb_opb::{OpbFault, read_opb};
 use std::alloc::Global;
 
@@ -155,7 +155,7 @@ fn push_product(alloc: Global, product: &[Lit], shown: &mut String) -> Option<()
 }
 
 // Adds the terms of a statement.
-fn push_terms(alloc: Global, terms: &[Term], shown: &mut String) -> Option<()> {
+fn push_terms(alloc: Global, terms: TermsLeft<'_>, shown: &mut String) -> Option<()> {
     for term in terms {
         push_lit(alloc, term.lit, shown)?;
         let coef = format!(in alloc; ":{} ", term.coef).ok()?;
@@ -170,8 +170,8 @@ fn products_of(alloc: Global, problem: &Problem) -> Option<String> {
     for product in problem.products.as_slice() {
         push_product(alloc, product.as_slice(), &mut shown)?;
     }
-    for statement in problem.statements.as_slice() {
-        push_terms(alloc, statement.terms.as_slice(), &mut shown)?;
+    for statement in problem.statements.iter() {
+        push_terms(alloc, statement.terms, &mut shown)?;
     }
     Some(shown)
 }

@@ -1,5 +1,5 @@
 -- Where a token leads, from each stage of reading.
-use Rattle.std.specs.Prelude.{◌≡◌, ℕ, ◌+◌, ◌<◌, ◌≤◌, ◌^◌, unsigned_abs, List, [], ◌∷◌, ◌++◌, Option, Some, None, Bool, true, false}
+use Rattle.std.specs.Prelude.{◌≡◌, ℕ, ◌+◌, ◌≤◌, ◌^◌, unsigned_abs, List, [], ◌∷◌, ◌++◌, Option, Some, None, Bool, true, false}
 use Rattle.pb_named.specs.declared.named.NamedLit.{NamedLit}
 use Rattle.pb_named.specs.NamedTerms.{NamedTerm}
 use Rattle.pb_named.specs.declared.named.NamedStatement.{NamedStatement}

@@ -5,20 +5,11 @@ use Rattle.pb_words.specs.BenchWords.{BenchWords}
 use Rattle.pb_words.specs.EncodeWords.{EncodeWords}
 use Rattle.pb_words.specs.Parsed.{Wanted}
 use Rattle.pb_words.specs.Parsed.Wanted.{Encode, Check, Decode, Probe, Bench, Refute, Map, Wcnf}
-use Rattle.pb_words.specs.WcnfWords.{WcnfWords}
 
--- different names, and a budget within its range
+-- different names
 pub record IsFitEncode (w : EncodeWords) : Type 0 where
   pub different : w.opb ≢ w.cnf
   pub other : ForSome w.proof (λ proof. (w.opb ≢ proof) × (w.cnf ≢ proof))
-  pub low : 1 ≤ w.options.budget
-  pub high : w.options.budget ≤ 10000000
-
--- the same of a weighted CNF
-pub record IsFitWcnf (w : WcnfWords) : Type 0 where
-  pub different : w.opb ≢ w.wcnf
-  pub low : 1 ≤ w.options.budget
-  pub high : w.options.budget ≤ 10000000
 
 -- a number of statements and a seed within their ranges
 pub record IsFitBench (w : BenchWords) : Type 0 where
@@ -33,4 +24,4 @@ IsFit (Probe w) = Unit {0}
 IsFit (Bench w) = IsFitBench w
 IsFit (Refute w) = Unit {0}
 IsFit (Map w) = Unit {0}
-IsFit (Wcnf w) = IsFitWcnf w
+IsFit (Wcnf w) = Unit {0}

@@ -1,5 +1,4 @@
 use Rattle.std.proofs.Common.{◌+◌, ◌∙◌, All, Bool, List, ap, subst}
-use Rattle.pb_base.specs.declared.problem.Raw.{Raw}
 use Rattle.pb_base.specs.Literals.{assigned_by}
 use Rattle.pb_base.specs.Problems.{Satisfies, widened}
 use Rattle.pb_model.specs.Decoding.{IsFirstViolated}
@@ -12,7 +11,7 @@ returns-in-None c =
       c.in-Satisfiable.is,
       record {
         covers = c.requires.covers;
-        statements = subst (λ (xs : List Bool). All (Satisfies (assigned_by xs)) p.statements) values (subst (λ (ss : List Raw). All (Satisfies (assigned_by c.new-values.result)) ss) c.as_slice-2.ensures c.in-None.ensures);
+        statements = subst (λ (xs : List Bool). All (Satisfies (assigned_by xs)) p.statements) values c.in-None.ensures;
       },
     )
 
@@ -22,5 +21,5 @@ returns-in-Some c =
     let place = c.in-Some.place in
     let values = c.new-values.ensures ∙ ap (widened p) c.as_slice.ensures in (
       c.in-Satisfiable.is,
-      subst (λ (xs : List Bool). IsFirstViolated (assigned_by xs) p.statements (place + 1)) values (subst (λ (ss : List Raw). IsFirstViolated (assigned_by c.new-values.result) ss (place + 1)) c.as_slice-2.ensures c.in-Some.ensures),
+      subst (λ (xs : List Bool). IsFirstViolated (assigned_by xs) p.statements (place + 1)) values c.in-Some.ensures,
     )

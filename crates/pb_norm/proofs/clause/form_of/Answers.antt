@@ -1,4 +1,4 @@
-use Rattle.std.proofs.Common.{◌≡◌, ◌<◌, ◌^◌, ◌∙◌, List, ap, length, rules, subst}
+use Rattle.std.proofs.Common.{◌<◌, ◌^◌, ◌∙◌, List, ap, length, rules, subst}
 use Rattle.pb_base.specs.declared.literal.Term.{Term}
 use Rattle.pb_norm.specs.Constraints.{IsAscending, weights}
 use Rattle.pb_norm.specs.ClauseForm.{clause_form}

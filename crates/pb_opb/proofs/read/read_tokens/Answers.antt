@@ -1,4 +1,4 @@
-use Rattle.std.proofs.Common.{◌≡◌, ◌≤◌, ◌∙◌, List, ap, length, subst, sym}
+use Rattle.std.proofs.Common.{◌≤◌, ◌∙◌, List, ap, length, subst, sym}
 use Rattle.pb_base.specs.declared.place.Place.{Place}
 use Rattle.pb_opb.specs.Grammar.{Kind}
 use Rattle.pb_opb.specs.Grammar.Kind.{end}
