@@ -9,7 +9,7 @@ use Rattle.pb_desk.specs.Desk.{DeskState}
 use Rattle.pb_files.specs.declared.handle.FileId.{FileId}
 use Rattle.pb_files.specs.declared.handle.Handle.{Handle}
 use Rattle.pb_files.specs.Calls.{Call, with_call}
-use Rattle.pb_files.specs.Calls.Call.{open_file, create, truncate}
+use Rattle.pb_files.specs.Calls.Call.{open_file, create, truncate, read, write, sync}
 
 -- a function of what a slot holds, slot by slot
 abbrev pub by_slot : {F X : Type 0} → (Option F → X) → List (Option F) → ℕ → X
@@ -40,6 +40,22 @@ number_in slots slot = option_map_or (λ h. h.number) (slots slot) 0
 -- one call more, and all else as it was
 abbrev pub after : Call → Asked → Asked
 after call asked = record asked { calls = with_call call asked.calls }
+
+-- the file in a slot was asked for so many bytes
+abbrev pub after_read : ℕ → ℕ → Option (List ℕ) → Asked → Asked
+after_read slot room answer asked = after (read (number_in asked.reading slot) room answer) asked
+
+-- it was asked to take some bytes
+abbrev pub after_write : ℕ → List ℕ → Option ℕ → Asked → Asked
+after_write slot piece answer asked = after (write (number_in asked.writing slot) piece answer) asked
+
+-- it was asked to store what it took
+abbrev pub after_sync : ℕ → Option (Unit {0}) → Asked → Asked
+after_sync slot answer asked = after (sync (number_in asked.writing slot) answer) asked
+
+-- it has stored it, and the slot is empty
+abbrev pub after_close : ℕ → Asked → Asked
+after_close slot asked = record (after_sync slot (Some tt) asked) { writing = put asked.writing slot None }
 
 -- it is this file
 unfoldable pub is_id : FileId → Option FileId → Bool

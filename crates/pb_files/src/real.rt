@@ -70,8 +70,8 @@ impl<S: System + Drop> Desk for RealDesk<S> {
     ghost use Rattle.pb_base.specs.FaultCounts.{Rose};
     ghost use Rattle.pb_desk.specs.View.{put, opened, taken, created, wrote, closed, spoke};
     ghost use Rattle.pb_desk.specs.Desk.{Reads, Reaches, FailsToRead, FailsToWrite, same, IsSteady, IfTold, IsTold, Gives, TakesSome, HasName, IsTaken, LacksRoom, written, words};
-    ghost use Rattle.pb_files.specs.Calls.Call.{open_file as opens, read as reads, write as writes, sync as syncs, say as says};
-    ghost use Rattle.pb_files.specs.Asked.{after, number_in, Opens, Makes, Refuses};
+    ghost use Rattle.pb_files.specs.Calls.Call.{open_file as opens, say as says};
+    ghost use Rattle.pb_files.specs.Asked.{after, after_close, after_read, after_sync, after_write, Opens, Makes, Refuses};
 
     ghost state = { ⟦<RealDesk<S> as Asks>⟧.shown };
 
@@ -107,8 +107,8 @@ impl<S: System + Drop> Desk for RealDesk<S> {
         ensures at_end { IfOk result (λ count. count ≡ 0 → Rose (⟦<RealDesk<S> as Asks>⟧.shown self.old).ends (⟦<RealDesk<S> as Asks>⟧.shown self.new).ends) }
         ensures not_at_end { IfOk result (λ count. 0 < count → (⟦<RealDesk<S> as Asks>⟧.shown self.new).ends ≡ (⟦<RealDesk<S> as Asks>⟧.shown self.old).ends) }
         ensures no_end { OnErr result ((⟦<RealDesk<S> as Asks>⟧.shown self.new).ends ≡ (⟦<RealDesk<S> as Asks>⟧.shown self.old).ends) }
-        ensures given { let asked = ⟦<RealDesk<S> as Asks>⟧.asked in IfOk result (λ count. asked self.new ≡ after (reads (number_in (asked self.old).reading slot) (length room.old) (Some (take count room.new))) (asked self.old)) }
-        ensures refused { let asked = ⟦<RealDesk<S> as Asks>⟧.asked in OnErr result (asked self.new ≡ after (reads (number_in (asked self.old).reading slot) (length room.old) None) (asked self.old)) }
+        ensures given { let asked = ⟦<RealDesk<S> as Asks>⟧.asked in IfOk result (λ count. asked self.new ≡ after_read slot (length room.old) (Some (take count room.new)) (asked self.old)) }
+        ensures refused { let asked = ⟦<RealDesk<S> as Asks>⟧.asked in OnErr result (asked self.new ≡ after_read slot (length room.old) None (asked self.old)) }
     {
         let Some(file) = self.reading[slot as usize] else {
             unreachable!();
@@ -156,9 +156,9 @@ impl<S: System + Drop> Desk for RealDesk<S> {
         ensures failed { OnErr result (FailsToWrite same (⟦<RealDesk<S> as Asks>⟧.shown self.old) (⟦<RealDesk<S> as Asks>⟧.shown self.new)) }
         ensures count { IfOk result (TakesSome piece.now) }
         ensures steady { IsSteady (⟦<RealDesk<S> as Asks>⟧.shown self.old) → OnErr result (LacksRoom (written slot) 1 (⟦<RealDesk<S> as Asks>⟧.shown self.old)) }
-        ensures took { let asked = ⟦<RealDesk<S> as Asks>⟧.asked in IfOk result (λ count. asked self.new ≡ after (writes (number_in (asked self.old).writing slot) piece.now (Some count)) (asked self.old)) }
-        ensures refused { let asked = ⟦<RealDesk<S> as Asks>⟧.asked in OnErr result ((asked self.new ≡ after (writes (number_in (asked self.old).writing slot) piece.now None) (asked self.old))
-            ⊎ ((0 < length piece.now) × (asked self.new ≡ after (writes (number_in (asked self.old).writing slot) piece.now (Some 0)) (asked self.old)))) }
+        ensures took { let asked = ⟦<RealDesk<S> as Asks>⟧.asked in IfOk result (λ count. asked self.new ≡ after_write slot piece.now (Some count) (asked self.old)) }
+        ensures refused { let asked = ⟦<RealDesk<S> as Asks>⟧.asked in OnErr result ((asked self.new ≡ after_write slot piece.now None (asked self.old))
+            ⊎ ((0 < length piece.now) × (asked self.new ≡ after_write slot piece.now (Some 0) (asked self.old)))) }
     {
         let Some(file) = self.writing[slot as usize] else {
             unreachable!();
@@ -176,8 +176,8 @@ impl<S: System + Drop> Desk for RealDesk<S> {
         ensures ok { OnOk result (Reaches (closed slot) (⟦<RealDesk<S> as Asks>⟧.shown self.old) (⟦<RealDesk<S> as Asks>⟧.shown self.new)) }
         ensures failed { OnErr result (FailsToWrite same (⟦<RealDesk<S> as Asks>⟧.shown self.old) (⟦<RealDesk<S> as Asks>⟧.shown self.new)) }
         ensures steady { IsSteady (⟦<RealDesk<S> as Asks>⟧.shown self.old) → OnErr result ⊥ }
-        ensures synced { let asked = ⟦<RealDesk<S> as Asks>⟧.asked in OnOk result (asked self.new ≡ record (after (syncs (number_in (asked self.old).writing slot) (Some tt)) (asked self.old)) { writing = put (asked self.old).writing slot None }) }
-        ensures refused { let asked = ⟦<RealDesk<S> as Asks>⟧.asked in OnErr result (asked self.new ≡ after (syncs (number_in (asked self.old).writing slot) None) (asked self.old)) }
+        ensures synced { let asked = ⟦<RealDesk<S> as Asks>⟧.asked in OnOk result (asked self.new ≡ after_close slot (asked self.old)) }
+        ensures refused { let asked = ⟦<RealDesk<S> as Asks>⟧.asked in OnErr result (asked self.new ≡ after_sync slot None (asked self.old)) }
     {
         let Some(file) = self.writing[slot as usize] else {
             unreachable!();
