@@ -9,15 +9,11 @@ use Rattle.pb_norm.specs.Constraints.{Constraint}
 use Rattle.pb_unit.specs.declared.places.Slot.{Slot}
 use Rattle.pb_unit.specs.declared.places.Slot.TheVariants.{Empty, Clause, General}
 use Rattle.pb_unit.specs.Reads.{lit_count}
-use Rattle.pb_unit.specs.inner.Slots.{unit, part, clause_of, alone_in, slot_at, slot_lits, IsSlot, AreSlots}
+use Rattle.pb_unit.specs.inner.Slots.{unit, part, clause_of, slot_at, slot_lits, IsSlot, AreSlots}
 use Rattle.pb_unit.specs.States.{standing}
 
 all_there : (lits : List Lit) (start len : ℕ) → start + len ≤ length lits → length (part lits start len) ≡ len
 all_there lits start len within = omega (arith, length-take len (drop start lits), length-drop start lits, within)
-
-few_alone : (few : ℕ) (cs : List Constraint) (slots : List Slot) (lits : List Lit) → few ≤ lit_count (standing (map (slot_at lits) slots)) → few ≤ lit_count (standing (alone_in cs ∷ map (slot_at lits) slots))
-few_alone few [] slots lits le = le
-few_alone few (c ∷ cs) slots lits le = omega (arith, le, sum_by-cons (λ (d : Constraint). length d.terms) c (standing (map (slot_at lits) slots)))
 
 -- no more than what stands has
 pub few_lits : (lits : List Lit) (slots : List Slot) → AreSlots (length lits) slots → sum_by slot_lits slots ≤ lit_count (standing (map (slot_at lits) slots))
@@ -34,5 +30,9 @@ few_lits lits (Clause start len ∷ slots) ok =
       few_lits lits slots (All-tail (IsSlot (length lits)) (Clause start len) slots ok),
     )
 few_lits lits (General alone ∷ slots) ok =
-    few_alone (sum_by slot_lits (General alone ∷ slots)) alone.items slots lits
-    (omega (arith, sum_by-cons slot_lits (General alone) slots, few_lits lits slots (All-tail (IsSlot (length lits)) (General alone) slots ok)))
+    omega (
+      arith,
+      sum_by-cons slot_lits (General alone) slots,
+      sum_by-cons (λ (d : Constraint). length d.terms) alone.value (standing (map (slot_at lits) slots)),
+      few_lits lits slots (All-tail (IsSlot (length lits)) (General alone) slots ok),
+    )

@@ -19,12 +19,14 @@ pub mod Sections
 pub mod Slotting
 pub mod Standing
 pub mod Sweeping
+pub mod Tabled
 pub mod Telling
 pub mod TrailValues
 pub mod Trailing
 pub mod Unlisting
 pub mod UpTo
 pub mod Visits
+pub mod Clausal
 pub mod Counting
 pub mod Ordered
 pub mod HeldLists

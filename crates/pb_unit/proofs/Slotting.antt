@@ -1,7 +1,6 @@
 -- Constraints in their slots.
 use Rattle.std.proofs.Common.{◌≡◌, ◌≤◌, ◌<◌, ◌+◌, ◌-◌, ℕ, Bool, true, false, cond, List, [], ◌∷◌, ◌++◌, Option, Some, None, map, arith, length, get_or, set, take, drop, refl, ap, sym, ◌∙◌, subst, append_assoc}
 use Rattle.std.specs.Prelude.{All, nat_lt}
-use Rattle.std.specs.List.{slice_get}
 use Rattle.std.specs.Bool.{OnTrue, OnFalse}
 use Rattle.std.proofs.lemmas.List.{length-map, length-take, take-take, drop-take, map-set, map_push, get_or-map, take_all, take_more}
 use Rattle.std.proofs.lemmas.List.Elements.{All-nil, All-cons, All-head, All-tail, All-weaker, All-set, All-push}
@@ -10,7 +9,7 @@ use Rattle.pb_base.specs.declared.literal.Term.{Term}
 use Rattle.pb_norm.specs.Constraints.{Weighted, Constraint, term_of, terms_of, weights, HasVarsWithin}
 use Rattle.pb_unit.specs.declared.places.Slot.{Slot}
 use Rattle.pb_unit.specs.declared.places.Slot.TheVariants.{Empty, Clause, General}
-use Rattle.pb_unit.specs.inner.Slots.{unit, part, clause_of, alone_in, slot_at, with_slot, IsSlot, AreSlots}
+use Rattle.pb_unit.specs.inner.Slots.{unit, part, clause_of, slot_at, with_slot, IsSlot, AreSlots}
 use Rattle.pb_unit.specs.States.{at_place, placed}
 
 -- ---- a longer list of literals
@@ -69,14 +68,6 @@ placed_slot lits slots place slot c is =
 -- what is read at a place
 pub at_slot : (lits : List Lit) (slots : List Slot) (place : ℕ) (slot : Slot) → place < length slots → slot ≡ get_or slots place slot → at_place (map (slot_at lits) slots) place ≡ slot_at lits slot
 at_slot lits slots place slot below at = get_or-map (slot_at lits) slots place slot None below ∙ ap (slot_at lits) (sym at)
-
-pub first_alone : (cs : List Constraint) (c : Constraint) → Some c ≡ slice_get cs 0 → alone_in cs ≡ Some c
-first_alone [] c e = sym e
-first_alone (d ∷ cs) c e = sym e
-
-pub none_alone : (cs : List Constraint) → None ≡ slice_get cs 0 → alone_in cs ≡ None
-none_alone [] e = refl
-none_alone (d ∷ cs) e = sym e
 
 pub units_all : (P : Lit → Type 0) (ls : List Lit) → All (λ (t : Weighted). P t.lit) (map unit ls) → All P ls
 units_all P [] h = All-nil P

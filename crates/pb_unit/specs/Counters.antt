@@ -9,7 +9,7 @@ use Rattle.pb_unit.specs.declared.queue.Phase.TheVariants.{Unpropagated, Fixpoin
 use Rattle.pb_unit.specs.States.{EngineState, IsEngine}
 use Rattle.pb_unit.specs.Steps.{HasTooLittle}
 use Rattle.pb_unit.specs.Trails.{oldest}
-use Rattle.pb_unit.specs.Index.{Lists, AreCalm, IsCounted, AreListed}
+use Rattle.pb_unit.specs.Index.{Lists, AreCalm, IsCounted, AreListed, IsStore}
 
 -- how far propagation has come
 abbrev pub IsAtNow : Phase → List (Option Constraint) → List Counters → List Lit → Type 0
@@ -28,6 +28,16 @@ pub record IsQueue (vars : ℕ) (places : List (Option Constraint)) (lists : Lis
 
 abbrev pub IsInQueue : Queue → Type 0
 IsInQueue q = IsQueue q.held.vars q.places q.lists q.kept.items q.tight.items q.held.lits q.counted q.phase
+
+-- nothing is told, and what stands has its index and its rooms
+abbrev pub IsUntold : Queue → Type 0
+IsUntold q = IsStore q.held.vars q.places q.lists q.kept.items q.tight.items
+
+-- the same literals hold, and as many of them are told
+pub record OthersStay (before after : Queue) : Type 0 where
+  pub held : after.held ≡ before.held
+  pub counted : after.counted ≡ before.counted
+  pub phase : after.phase ≡ before.phase
 
 -- what contracts see
 abbrev pub state_of : Queue → List Lit → EngineState

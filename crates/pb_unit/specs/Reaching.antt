@@ -1,11 +1,12 @@
 -- How the literals that are reached are put together. It serves proofs.
-use Rattle.std.specs.Prelude.{ℕ, zero, suc, ◌≡◌, ◌≤◌, ◌<◌, ◌↔◌, true, false, if◌then◌else◌, List, [], ◌∷◌, ◌++◌, map, All, Contains}
+use Rattle.std.specs.Prelude.{ℕ, zero, suc, ◌≡◌, ◌≤◌, ◌<◌, ◌+◌, ◌^◌, ◌↔◌, length, true, false, if◌then◌else◌, List, [], ◌∷◌, ◌++◌, map, All, Contains}
 use Rattle.std.specs.List.{AllPairs}
 use Rattle.pb_base.specs.declared.literal.Lit.{Lit}
 use Rattle.pb_base.specs.Literals.{negated, is_among}
 use Rattle.pb_norm.specs.ClauseForm.{clause_form}
 use Rattle.pb_norm.specs.Constraints.{Constraint, Weighted}
 use Rattle.pb_norm.specs.Propagation.{Conflict, IsReachable}
+use Rattle.pb_unit.specs.Reads.{lit_count}
 use Rattle.pb_unit.specs.States.{EngineState}
 
 -- variables ascending
@@ -63,7 +64,9 @@ pub record IsUpTo (most v : ℕ) : Type 0 where
   pub low : 1 ≤ v
   pub high : v ≤ most
 
--- each variable of the constraints and of the literals is
-pub record AreUpTo (cs : List Constraint) (ls : List Lit) (most : ℕ) : Type 0 where
+-- each variable of the constraints and of the literals is, and tables up to that number are no longer than all these literals
+pub record FitsTables (cs : List Constraint) (ls : List Lit) (most : ℕ) : Type 0 where
+  pub few : most < 2 ^ 31
+  pub modest : most ≤ lit_count cs + length ls
   pub constraints : All (OfConstraint (IsUpTo most)) cs
   pub lits : All (OfLit (IsUpTo most)) ls

@@ -1,11 +1,13 @@
 //! Lists of constraints.
-ghost use Rattle.std.specs.Prelude.{◌≡◌, ◌≤◌, ◌<◌, ◌++◌, ◌∷◌, [], Some, IfOk, IsErr, OnOk, All, length, map};
-ghost use Rattle.pb_norm.specs.Constraints.{IsLinear};
+ghost use Rattle.std.specs.Prelude.{◌≡◌, ◌≤◌, ◌<◌, ◌++◌, ◌∷◌, [], Some, if◌then◌else◌, IfOk, IsErr, IsTrue, OnOk, All, length, map};
+ghost use Rattle.pb_norm.specs.ClauseForm.{clause_form};
+ghost use Rattle.pb_norm.specs.Constraints.{IsAscending, IsLinear};
+ghost use Rattle.pb_unit.specs.inner.Slots.{unit};
 ghost use Rattle.pb_unit.specs.Reads.{lit_count, IsRead};
 
 use crate::places::Places;
-use pb_base::{NoMemory, Term};
-use pb_norm::Linear;
+use pb_base::{Clause, Lit, NoMemory, Term};
+use pb_norm::{Linear, clause_form};
 use std::alloc::Global;
 use std::marker::Model;
 
@@ -36,6 +38,13 @@ impl Model for Constraints {
     ghost view = { λ l. standing l.places };
 
     ghost invariant = { λ l. IsWhole l.places };
+}
+
+// Whether the variable of each literal is below the next one's.
+fn ascend(lits: &[Lit]) -> bool
+    ensures { IsTrue result → IsAscending (map unit lits.now) }
+{
+    lits.is_sorted_by(|lit, next| lit.var < next.var)
 }
 
 impl Constraints {
@@ -70,6 +79,26 @@ impl Constraints {
             return Err(NoMemory);
         }
         Ok(())
+    }
+
+    // Adds the form of a clause at the end, where the variables of its literals ascend and there is room.
+    fn push_ascending(&mut self, clause: &[Lit]) -> bool
+        ensures { self.new ≡ (if result then self.old ++ clause_form clause.now ∷ [] else self.old) }
+    {
+        ascend(clause) && self.places.push_clause(clause)
+    }
+
+    /// Adds the form of a clause at the end. Where the variables of its literals ascend, as mostly, they are copied as they are.
+    pub fn push_clause(&mut self, clause: &[Lit]) -> Result<(), NoMemory>
+        ensures ok { OnOk result (self.new ≡ self.old ++ clause_form clause.now ∷ []) }
+        ensures refused { IsErr result → self.new ≡ self.old }
+    {
+        if self.push_ascending(clause) {
+            return Ok(());
+        }
+        let copy = Clause::from_vec(Vec::from_slice(self.alloc, clause)?);
+        let form = clause_form(self.alloc, &copy)?;
+        self.push(&form)
     }
 
     /// How many constraints there are.

@@ -141,16 +141,7 @@ impl Engine {
         }
         self.queue.rewind();
         let place = store::free_place(&self.queue.places, &self.queue.kept, &mut self.garbage);
-        if !store::put(
-            self.alloc,
-            self.queue.held.vars(),
-            &mut self.queue.places,
-            &mut self.queue.lists,
-            &mut self.queue.kept,
-            &mut self.queue.tight,
-            place,
-            copy,
-        ) {
+        if !self.queue.put(self.alloc, place, copy) {
             return Err(NoMemory);
         }
         self.garbage.take(place);
@@ -171,15 +162,7 @@ impl Engine {
         self.queue.rewind();
         self.assumed.clear();
         self.queue.held.clear();
-        store::let_go(
-            &mut self.garbage,
-            &mut self.queue.places,
-            &mut self.queue.lists,
-            &mut self.queue.kept,
-            &mut self.queue.tight,
-            self.queue.held.vars(),
-            place,
-        );
+        self.queue.let_go(&mut self.garbage, place);
         true
     }
 

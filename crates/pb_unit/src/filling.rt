@@ -18,6 +18,13 @@ const RANGE: usize = 2_097_152;
 
 const MOST_RANGES: usize = 16;
 
+/// Numbers of literals, from one up to another, which is not among them.
+#[derive(Clone, Copy)]
+pub(crate) struct Codes {
+    pub(crate) low: usize,
+    pub(crate) high: usize,
+}
+
 // How many terms have each literal with the coefficient 1, by the literals' numbers.
 fn counts_of(alloc: Global, vars: u32, places: &Places) -> Result<Vec<u32>, NoMemory>
     ensures { IfOk result (λ v. length v.items ≡ 2 * vars + 2) }
@@ -66,35 +73,27 @@ fn enter_term(
     place: usize,
     lit: &Lit,
     coef: u128,
-    low: usize,
-    high: usize,
+    codes: Codes,
 ) -> bool
     requires { code lit.now < size_of lists.old }
     ensures size { size_of lists.new ≡ size_of lists.old }
-    ensures added { OnTrue result (AddsTerm low high place (record { coef = coef; lit = lit.now }) lists.old lists.new) }
+    ensures added { OnTrue result (AddsTerm codes.low codes.high place (record { coef = coef; lit = lit.now }) lists.old lists.new) }
 {
     let number = code(lit);
-    if number < low || number >= high {
+    if number < codes.low || number >= codes.high {
         return true;
     }
     lists.push(alloc, lit, place, coef)
 }
 
 // The literals of a clause at a place, as far as they are in the range.
-fn enter_clause(
-    alloc: Global,
-    lists: &mut Index,
-    place: usize,
-    lits: &[Lit],
-    low: usize,
-    high: usize,
-) -> bool
+fn enter_clause(alloc: Global, lists: &mut Index, place: usize, lits: &[Lit], codes: Codes) -> bool
     requires { All (λ l. code l < size_of lists.old) lits.now }
     ensures size { size_of lists.new ≡ size_of lists.old }
-    ensures added { OnTrue result (AddsPlace low high place (map unit lits.now) lists.old lists.new) }
+    ensures added { OnTrue result (AddsPlace codes.low codes.high place (map unit lits.now) lists.old lists.new) }
 {
     for lit in lits {
-        if !enter_term(alloc, lists, place, lit, 1, low, high) {
+        if !enter_term(alloc, lists, place, lit, 1, codes) {
             return false;
         }
     }
@@ -102,20 +101,13 @@ fn enter_clause(
 }
 
 // The terms of a constraint at a place, as far as their literals are in the range.
-fn enter_terms(
-    alloc: Global,
-    lists: &mut Index,
-    place: usize,
-    terms: &[Term],
-    low: usize,
-    high: usize,
-) -> bool
+fn enter_terms(alloc: Global, lists: &mut Index, place: usize, terms: &[Term], codes: Codes) -> bool
     requires { AreNumbered lists.old (weights terms.now) }
     ensures size { size_of lists.new ≡ size_of lists.old }
-    ensures added { OnTrue result (AddsPlace low high place (weights terms.now) lists.old lists.new) }
+    ensures added { OnTrue result (AddsPlace codes.low codes.high place (weights terms.now) lists.old lists.new) }
 {
     for term in terms {
-        if !enter_term(alloc, lists, place, &term.lit, term.weight(), low, high) {
+        if !enter_term(alloc, lists, place, &term.lit, term.weight(), codes) {
             return false;
         }
     }
@@ -129,22 +121,18 @@ fn enter_slot(
     place: usize,
     slot: &Slot,
     lits: &[Lit],
-    low: usize,
-    high: usize,
+    codes: Codes,
 ) -> bool
     requires slot { IsSlot (length lits.now) slot.now }
     requires numbered { AreNumbered lists.old (terms_in (slot_at lits.now slot.now)) }
     ensures size { size_of lists.new ≡ size_of lists.old }
-    ensures added { OnTrue result (AddsPlace low high place (terms_in (slot_at lits.now slot.now)) lists.old lists.new) }
+    ensures added { OnTrue result (AddsPlace codes.low codes.high place (terms_in (slot_at lits.now slot.now)) lists.old lists.new) }
 {
     match slot {
         Slot::Clause { start, len } => {
-            enter_clause(alloc, lists, place, part(lits, *start, *len), low, high)
+            enter_clause(alloc, lists, place, part(lits, *start, *len), codes)
         }
-        Slot::General(alone) => match alone.first() {
-            Some(constraint) => enter_terms(alloc, lists, place, constraint.terms(), low, high),
-            None => true,
-        },
+        Slot::General(alone) => enter_terms(alloc, lists, place, alone.terms(), codes),
         Slot::Empty => true,
     }
 }
@@ -155,16 +143,15 @@ pub(crate) fn fill_range(
     lists: &mut Index,
     slots: &[Slot],
     lits: &[Lit],
-    low: usize,
-    high: usize,
+    codes: Codes,
 ) -> bool
     requires slots { AreSlots (length lits.now) slots.now }
     requires numbered { All (λ s. AreNumbered lists.old (terms_in (slot_at lits.now s))) slots.now }
-    requires empty { (l : Lit) → IsInRange low high l → list_at lists.old l ≡ [] }
-    ensures { OnTrue result (IsFilling low high lists.old lists.new (map terms_in (map (slot_at lits.now) slots.now))) }
+    requires empty { (l : Lit) → IsInRange codes.low codes.high l → list_at lists.old l ≡ [] }
+    ensures { OnTrue result (IsFilling codes.low codes.high lists.old lists.new (map terms_in (map (slot_at lits.now) slots.now))) }
 {
     for place in 0..slots.len() {
-        if !enter_slot(alloc, lists, place, &slots[place], lits, low, high) {
+        if !enter_slot(alloc, lists, place, &slots[place], lits, codes) {
             return false;
         }
     }
@@ -183,7 +170,7 @@ fn fill(alloc: Global, places: &Places, lists: &mut Index, vars: u32) -> bool
     let mut low = 0;
     while low < size {
         let high = low + step;
-        if !places.fill(alloc, lists, vars, low, high) {
+        if !places.fill(alloc, lists, vars, Codes { low, high }) {
             return false;
         }
         low = high;

@@ -3,6 +3,7 @@ ghost use Rattle.std.specs.Prelude.{◌≡◌, ◌≤◌, ◌<◌, ◌+◌, ◌^
 ghost use Rattle.pb_norm.specs.Constraints.{weight, weights};
 ghost use Rattle.pb_unit.specs.Steps.{IsAlert};
 ghost use Rattle.pb_unit.specs.inner.Filling.{IsKeptOf};
+ghost use Rattle.pb_unit.specs.inner.Tellable.{AreRaisable};
 ghost use Rattle.pb_unit.specs.Index.{unit_at, sum_at, room_at, alert_at, AreLowered};
 
 use crate::index::Occurrence;
@@ -38,8 +39,7 @@ pub(crate) fn raise(kept: &mut [Counters], occurrence: &Occurrence)
 
 // Gives the coefficients back to the rooms.
 pub(crate) fn raise_all(kept: &mut [Counters], occurrences: &[Occurrence])
-    requires known { All (λ o. o.place < length kept.old) occurrences.now }
-    requires fits { (p : ℕ) → room_at kept.old p + sum_at p occurrences.now < 2 ^ 128 }
+    requires { AreRaisable kept.old occurrences.now }
     ensures { AreLowered occurrences.now kept.new kept.old }
 {
     for occurrence in occurrences {
@@ -49,8 +49,7 @@ pub(crate) fn raise_all(kept: &mut [Counters], occurrences: &[Occurrence])
 
 // Gives a coefficient of 1 back to the rooms of these places.
 pub(crate) fn raise_units(kept: &mut [Counters], places: &[u32])
-    requires known { All (λ o. o.place < length kept.old) (map unit_at places.now) }
-    requires fits { (p : ℕ) → room_at kept.old p + sum_at p (map unit_at places.now) < 2 ^ 128 }
+    requires { AreRaisable kept.old (map unit_at places.now) }
     ensures { AreLowered (map unit_at places.now) kept.new kept.old }
 {
     for place in places {

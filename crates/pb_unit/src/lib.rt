@@ -16,6 +16,7 @@ mod queue;
 mod reaching;
 mod rounds;
 mod slack;
+mod spot;
 mod store;
 mod trail;
 mod visit;
@@ -28,5 +29,5 @@ pub use newest::newest_that;
 pub use numbering::{
     greatest, greatest_of, lit_at, named_lits, names_of, numbered_forms, numbered_lits, vars_of,
 };
-pub use reaching::reached_literals;
+pub use reaching::{modest_greatest, reached_literals};
 pub use rounds::Rounds;

@@ -104,6 +104,7 @@ pub fn greatest(lits: &[Lit]) -> u32
 pub fn names_of(vars: Vec<u32>) -> Vec<u32>
     requires { All IsName vars.items }
     ensures names { AreNames result.items }
+    ensures few { length result.items ≤ length vars.items }
     ensures same { (v : ℕ) → Contains vars.items v → Contains result.items v }
 {
     let mut names = vars;

@@ -9,10 +9,10 @@ ghost use Rattle.pb_unit.specs.States.{StandWithin, Stands, at_place, placed, st
 ghost use Rattle.pb_unit.specs.Steps.{IsCalm, Advances, HasTooLittle};
 ghost use Rattle.pb_unit.specs.inner.Filling.{terms_in, IsFilling, IsInRange, IsKeptOf};
 ghost use Rattle.pb_unit.specs.Index.{list_at, size_of};
-ghost use Rattle.pb_unit.specs.inner.Slots.{unit, part, slot_at, slot_lits, with_slot, AreSlots, IsSlot};
+ghost use Rattle.pb_unit.specs.inner.Slots.{unit, part, clause_of, slot_at, slot_lits, with_slot, AreSlots, IsSlot};
 ghost use Rattle.pb_unit.specs.Reads.{lit_count, ReadsAt};
 
-use crate::filling::{count_lits, count_terms, fill_range};
+use crate::filling::{Codes, count_lits, count_terms, fill_range};
 use crate::index::Index;
 use crate::kept::{Counters, NOTHING, kept_of};
 use crate::slack::{open_units, room_under, slack_of, slack_of_clause};
@@ -30,7 +30,7 @@ use std::mem;
 pub(crate) enum Slot {
     Empty,
     Clause { start: u32, len: u32 },
-    General(Vec<Linear>),
+    General(Box<Linear>),
 }
 
 /// Constraints by their places.
@@ -103,15 +103,29 @@ fn clause_slot(lits: &mut Vec<Lit>, constraint: &Linear) -> Option<Slot>
     })
 }
 
+// A slot for a clause whose literals go to the list, if that can be.
+fn lits_slot(lits: &mut Vec<Lit>, clause: &[Lit]) -> Option<Slot>
+    ensures longer { take (length lits.old.items) lits.new.items ≡ lits.old.items }
+    ensures slot { IfSome result (λ slot. IsSlot (length lits.new.items) slot × (slot_at lits.new.items slot ≡ Some (clause_of clause.now))) }
+{
+    let start = lits.len();
+    let len = clause.len();
+    let most = u32::MAX as usize;
+    if start > most || len > most || lits.extend_from_slice(clause).is_err() {
+        return None;
+    }
+    Some(Slot::Clause {
+        start: start as u32,
+        len: len as u32,
+    })
+}
+
 // A slot for any constraint, if there is memory.
 fn general_slot(alloc: Global, constraint: Linear) -> Option<Slot>
     ensures { IfSome result (λ slot. (n : ℕ) (lits : List Lit) → IsSlot n slot × (slot_at lits slot ≡ Some constraint)) }
 {
-    let Ok(mut alone) = Vec::with_capacity(alloc, 1) else {
-        return None
-    };
-    match alone.push(constraint) {
-        Ok(()) => Some(Slot::General(alone)),
+    match Box::new(alloc, constraint) {
+        Ok(alone) => Some(Slot::General(alone)),
         Err(_) => None,
     }
 }
@@ -164,7 +178,7 @@ fn stands_in(slots: &[Slot], place: usize) -> bool
 {
     match slots.get(place) {
         Some(Slot::Clause { .. }) => true,
-        Some(Slot::General(alone)) => !alone.is_empty(),
+        Some(Slot::General(_)) => true,
         _ => false,
     }
 }
@@ -181,10 +195,7 @@ fn look_at(slots: &[Slot], lits: &[Lit], place: usize, left: u128, held: &mut Tr
 {
     match slots.get(place) {
         Some(Slot::Clause { start, len }) => visit_clause(part(lits, *start, *len), left, held),
-        Some(Slot::General(alone)) => match alone.first() {
-            Some(constraint) => visit(constraint, left, held),
-            None => true,
-        },
+        Some(Slot::General(alone)) => visit(alone, left, held),
         _ => true,
     }
 }
@@ -197,10 +208,7 @@ fn room_in(slots: &[Slot], lits: &[Lit], place: usize, held: &Trail) -> u128
 {
     match slots.get(place) {
         Some(Slot::Clause { start, len }) => open_units(part(lits, *start, *len), held),
-        Some(Slot::General(alone)) => match alone.first() {
-            Some(constraint) => room_under(constraint, held),
-            None => 0,
-        },
+        Some(Slot::General(alone)) => room_under(alone, held),
         _ => 0,
     }
 }
@@ -223,10 +231,7 @@ fn slack_in(
         Some(Slot::Clause { start, len }) => {
             Some(slack_of_clause(part(lits, *start, *len), left, told, held))
         }
-        Some(Slot::General(alone)) => match alone.first() {
-            Some(constraint) => Some(slack_of(constraint, left, told, held)),
-            None => None,
-        },
+        Some(Slot::General(alone)) => Some(slack_of(alone, left, told, held)),
         _ => None,
     }
 }
@@ -257,13 +262,10 @@ fn read_in(
             push_units(terms, part(lits, *start, *len))?;
             Ok(1)
         }
-        Some(Slot::General(alone)) => match alone.first() {
-            Some(constraint) => {
-                terms.extend_from_slice(constraint.terms())?;
-                Ok(constraint.degree())
-            }
-            None => Ok(0),
-        },
+        Some(Slot::General(alone)) => {
+            terms.extend_from_slice(alone.terms())?;
+            Ok(alone.degree())
+        }
         _ => Ok(0),
     }
 }
@@ -282,10 +284,7 @@ fn kept_in(slots: &[Slot], lits: &[Lit], place: usize) -> Counters
                 alert: 2,
             }
         }
-        Slot::General(alone) => match alone.first() {
-            Some(constraint) => kept_of(constraint),
-            None => NOTHING,
-        },
+        Slot::General(alone) => kept_of(alone),
         Slot::Empty => NOTHING,
     }
 }
@@ -296,11 +295,7 @@ fn count_slot(slot: &Slot, lits: &[Lit], counts: &mut [u32])
 {
     match slot {
         Slot::Clause { start, len } => count_lits(part(lits, *start, *len), counts),
-        Slot::General(alone) => {
-            if let Some(constraint) = alone.first() {
-                count_terms(constraint.terms(), counts);
-            }
-        }
+        Slot::General(alone) => count_terms(alone.terms(), counts),
         Slot::Empty => {}
     }
 }
@@ -379,6 +374,16 @@ impl Places {
         }
     }
 
+    // Has a clause stand at the next place, if that can be.
+    pub(crate) fn push_clause(&mut self, clause: &[Lit]) -> bool
+        ensures { self.new ≡ (if result then self.old ++ Some (clause_of clause.now) ∷ [] else self.old) }
+    {
+        match lits_slot(&mut self.lits, clause) {
+            Some(slot) => push_slot(&mut self.slots, slot),
+            None => false,
+        }
+    }
+
     // The terms and the degree of what stands at the place.
     pub(crate) fn read(&self, place: usize, terms: &mut Vec<Term>) -> Result<u128, NoMemory>
         ensures { IfOk result (λ degree. ReadsAt self.now place terms.new.items degree) }
@@ -430,20 +435,13 @@ impl Places {
     }
 
     // The index of all that stands, as far as its literals are in a range, if there is memory.
-    pub(crate) fn fill(
-        &self,
-        alloc: Global,
-        lists: &mut Index,
-        vars: u32,
-        low: usize,
-        high: usize,
-    ) -> bool
+    pub(crate) fn fill(&self, alloc: Global, lists: &mut Index, vars: u32, codes: Codes) -> bool
         requires within { StandWithin vars self.now }
         requires width { size_of lists.old ≡ 2 * vars + 2 }
-        requires empty { (l : Lit) → IsInRange low high l → list_at lists.old l ≡ [] }
-        ensures { OnTrue result (IsFilling low high lists.old lists.new (map terms_in self.now)) }
+        requires empty { (l : Lit) → IsInRange codes.low codes.high l → list_at lists.old l ≡ [] }
+        ensures { OnTrue result (IsFilling codes.low codes.high lists.old lists.new (map terms_in self.now)) }
     {
-        fill_range(alloc, lists, &self.slots, &self.lits, low, high)
+        fill_range(alloc, lists, &self.slots, &self.lits, codes)
     }
 
     // The slack of what stands at the place. The room is that, if all literals that hold were told.

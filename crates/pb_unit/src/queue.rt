@@ -8,7 +8,8 @@ ghost use Rattle.pb_unit.specs.States.{StandWithin, Stands, standing};
 ghost use Rattle.pb_unit.specs.Steps.{IsAlert, IsCalm, Advances, HasTooLittle};
 ghost use Rattle.pb_unit.specs.Trails.{oldest};
 ghost use Rattle.pb_unit.specs.Index.{code, size_of, unit_at, list_at, IsStore, AreListed, AreAlerts, sum_at, room_at, alert_at, HasRoom, IsCalmAt, AreCalm, AreLowered, IsTold, IsCounted};
-ghost use Rattle.pb_unit.specs.Counters.{IsQueue, IsInQueue, IsAtNow};
+ghost use Rattle.pb_unit.specs.Counters.{IsUntold, IsInQueue, IsAtNow};
+ghost use Rattle.pb_unit.specs.inner.Tellable.{AreRaisable, AreTellable, IsTellable};
 ghost use Rattle.pb_unit.specs.Ends.{Ends};
 ghost use Rattle.pb_unit.specs.declared.queue.Phase.TheVariants.{Unpropagated};
 
@@ -66,11 +67,7 @@ fn tell_one(
     occurrence: &Occurrence,
     held: &mut Trail,
 ) -> bool
-    requires within { StandWithin held.old.vars places.now }
-    requires known { occurrence.now.place < length kept.old }
-    requires enough { occurrence.now.coef ≤ room_at kept.old occurrence.now.place }
-    requires bound { HasRoom places.now kept.old held.old.lits occurrence.now.place occurrence.now.coef }
-    requires alerts { (c : Constraint) → Stands places.now occurrence.now.place c → IsAlert (alert_at kept.old occurrence.now.place) c }
+    requires { IsTellable held.old.vars places.now kept.old held.old.lits occurrence.now }
     ensures vars { held.new.vars ≡ held.old.vars }
     ensures lowered { AreLowered (occurrence.now ∷ []) kept.old kept.new }
     ensures advances { (given : List Lit) → Advances (standing places.now) given held.old.lits held.new.lits }
@@ -91,11 +88,7 @@ fn tell_next(
     short: Option<usize>,
     held: &mut Trail,
 ) -> Option<usize>
-    requires within { StandWithin held.old.vars places.now }
-    requires known { occurrence.now.place < length kept.old }
-    requires enough { occurrence.now.coef ≤ room_at kept.old occurrence.now.place }
-    requires bound { HasRoom places.now kept.old held.old.lits occurrence.now.place occurrence.now.coef }
-    requires alerts { (c : Constraint) → Stands places.now occurrence.now.place c → IsAlert (alert_at kept.old occurrence.now.place) c }
+    requires tell { IsTellable held.old.vars places.now kept.old held.old.lits occurrence.now }
     requires short { IfSome short (HasTooLittle places.now held.old.lits) }
     ensures vars { held.new.vars ≡ held.old.vars }
     ensures told { IsTold places.now (occurrence.now ∷ []) kept.old kept.new held.old.lits held.new.lits result }
@@ -118,11 +111,7 @@ fn tell_units(
     units: &[u32],
     held: &mut Trail,
 ) -> Option<usize>
-    requires within { StandWithin held.old.vars places.now }
-    requires known { All (λ o. o.place < length kept.old) (map unit_at units.now) }
-    requires enough { (p : ℕ) → sum_at p (map unit_at units.now) ≤ room_at kept.old p }
-    requires bound { (p : ℕ) → HasRoom places.now kept.old held.old.lits p (sum_at p (map unit_at units.now)) }
-    requires alerts { AreAlerts places.now kept.old }
+    requires { AreTellable held.old.vars places.now kept.old held.old.lits (map unit_at units.now) }
     ensures vars { held.new.vars ≡ held.old.vars }
     ensures told { IsTold places.now (map unit_at units.now) kept.old kept.new held.old.lits held.new.lits result }
 {
@@ -145,11 +134,7 @@ fn tell_all(
     before: Option<usize>,
     held: &mut Trail,
 ) -> Option<usize>
-    requires within { StandWithin held.old.vars places.now }
-    requires known { All (λ o. o.place < length kept.old) occurrences.now }
-    requires enough { (p : ℕ) → sum_at p occurrences.now ≤ room_at kept.old p }
-    requires bound { (p : ℕ) → HasRoom places.now kept.old held.old.lits p (sum_at p occurrences.now) }
-    requires alerts { AreAlerts places.now kept.old }
+    requires tell { AreTellable held.old.vars places.now kept.old held.old.lits occurrences.now }
     requires short { IfSome before (HasTooLittle places.now held.old.lits) }
     ensures vars { held.new.vars ≡ held.old.vars }
     ensures told { IsTold places.now occurrences.now kept.old kept.new held.old.lits held.new.lits result }
@@ -171,11 +156,7 @@ fn tell_both(
     held: &mut Trail,
 ) -> Option<usize>
     requires listed { code falsified.now < size_of lists.now }
-    requires within { StandWithin held.old.vars places.now }
-    requires known { All (λ o. o.place < length kept.old) (list_at lists.now falsified.now) }
-    requires enough { (p : ℕ) → sum_at p (list_at lists.now falsified.now) ≤ room_at kept.old p }
-    requires bound { (p : ℕ) → HasRoom places.now kept.old held.old.lits p (sum_at p (list_at lists.now falsified.now)) }
-    requires alerts { AreAlerts places.now kept.old }
+    requires tell { AreTellable held.old.vars places.now kept.old held.old.lits (list_at lists.now falsified.now) }
     ensures vars { held.new.vars ≡ held.old.vars }
     ensures told { IsTold places.now (list_at lists.now falsified.now) kept.old kept.new held.old.lits held.new.lits result }
 {
@@ -279,37 +260,10 @@ fn begin(
     }
 }
 
-// Goes on until nothing more joins. The place is that of a constraint with too little room.
-fn go_on(
-    places: &Places,
-    kept: &mut [Counters],
-    lists: &Index,
-    tight: &[usize],
-    held: &mut Trail,
-    counted: &mut usize,
-    phase: Phase,
-) -> Option<usize>
-    requires within { StandWithin held.old.vars places.now }
-    requires queue { IsQueue held.old.vars places.now lists.now kept.old tight.now held.old.lits counted.old phase }
-    ensures vars { held.new.vars ≡ held.old.vars }
-    ensures advances { (given : List Lit) → Advances (standing places.now) given held.old.lits held.new.lits }
-    ensures in_held { counted.new ≤ length held.new.lits }
-    ensures counts { IsCounted held.new.vars places.now lists.now kept.new (oldest counted.new held.new.lits) }
-    ensures listed { AreListed places.now kept.new tight.now }
-    ensures calm { IsNone result → (length held.new.lits ≤ counted.new) × AreCalm places.now kept.new held.new.lits }
-    ensures short { IfSome result (HasTooLittle places.now held.new.lits) }
-{
-    if let Some(place) = begin(places, kept, tight, held, phase) {
-        return Some(place);
-    }
-    tell_rest(places, kept, lists, held, counted)
-}
-
 // Gives the coefficients of a literal back to the rooms.
 fn raise_both(kept: &mut [Counters], lists: &Index, lit: &Lit)
     requires listed { code lit.now < size_of lists.now }
-    requires known { All (λ o. o.place < length kept.old) (list_at lists.now lit.now) }
-    requires fits { (p : ℕ) → room_at kept.old p + sum_at p (list_at lists.now lit.now) < 2 ^ 128 }
+    requires raise { AreRaisable kept.old (list_at lists.now lit.now) }
     ensures { AreLowered (list_at lists.now lit.now) kept.new kept.old }
 {
     raise_units(kept, lists.units(lit));
@@ -377,6 +331,38 @@ impl Queue {
         held
     }
 
+    // Goes on until nothing more joins. The place is that of a constraint with too little room.
+    fn go_on(&mut self) -> Option<usize>
+        requires within { StandWithin self.old.held.vars self.old.places }
+        requires queue { IsInQueue self.old }
+        ensures places { self.new.places ≡ self.old.places }
+        ensures vars { self.new.held.vars ≡ self.old.held.vars }
+        ensures advances { (given : List Lit) → Advances (standing self.old.places) given self.old.held.lits self.new.held.lits }
+        ensures in_held { self.new.counted ≤ length self.new.held.lits }
+        ensures counts { IsCounted self.new.held.vars self.new.places self.new.lists self.new.kept.items (oldest self.new.counted self.new.held.lits) }
+        ensures listed { AreListed self.new.places self.new.kept.items self.new.tight.items }
+        ensures even { length self.new.kept.items ≡ length self.new.places }
+        ensures calm { IsNone result → (length self.new.held.lits ≤ self.new.counted) × AreCalm self.new.places self.new.kept.items self.new.held.lits }
+        ensures short { IfSome result (HasTooLittle self.new.places self.new.held.lits) }
+    {
+        if let Some(place) = begin(
+            &self.places,
+            &self.kept,
+            &self.tight,
+            &mut self.held,
+            self.phase,
+        ) {
+            return Some(place);
+        }
+        tell_rest(
+            &self.places,
+            &mut self.kept,
+            &self.lists,
+            &mut self.held,
+            &mut self.counted,
+        )
+    }
+
     // Has all literals hold that are reached, or finds a constraint with too little room.
     pub(crate) fn propagate(&mut self) -> Outcome
         requires within { StandWithin self.old.held.vars self.old.places }
@@ -387,16 +373,7 @@ impl Queue {
         ensures queue { IsInQueue self.new }
         ensures ends { Ends self.new.places self.new.held.lits result }
     {
-        let ended = go_on(
-            &self.places,
-            &mut self.kept,
-            &self.lists,
-            &self.tight,
-            &mut self.held,
-            &mut self.counted,
-            self.phase,
-        );
-        match ended {
+        match self.go_on() {
             Some(place) => {
                 self.phase = Phase::Conflicting(place);
                 Outcome::Conflict {
@@ -417,7 +394,7 @@ impl Queue {
         ensures held { self.new.held ≡ self.old.held }
         ensures counted { self.new.counted ≡ 0 }
         ensures phase { self.new.phase ≡ Phase.Unpropagated }
-        ensures store { IsStore self.new.held.vars self.new.places self.new.lists self.new.kept.items self.new.tight.items }
+        ensures store { IsUntold self.new }
     {
         uncount(
             &self.places,

@@ -1,10 +1,11 @@
 //! What given literals reach over clauses.
-ghost use Rattle.std.specs.Prelude.{◌≡◌, ◌≤◌, ◌<◌, ◌^◌, ◌++◌, [], All, IfOk, IfSome, OnOk};
+ghost use Rattle.std.specs.Prelude.{◌≡◌, ◌≤◌, ◌<◌, ◌+◌, ◌^◌, ◌++◌, [], length, All, IfOk, IfSome, OnOk};
 ghost use Rattle.std.specs.Option.{MatchOption};
 ghost use Rattle.pb_norm.specs.ClausePropagation.{ClauseConflict};
 ghost use Rattle.pb_norm.specs.Propagation.{Conflict};
 ghost use Rattle.pb_unit.specs.Reached.{AreReached};
-ghost use Rattle.pb_unit.specs.Reaching.{held_to, value_at, AreAscending, AreAssumed, AreReachedOver, AreSorted, AreUpTo, HaveOpposites, IsUpTo, OfClauses, OfConstraint, OfLit};
+ghost use Rattle.pb_unit.specs.Reaching.{held_to, value_at, AreAscending, AreAssumed, AreReachedOver, AreSorted, FitsTables, HaveOpposites, OfClauses};
+ghost use Rattle.pb_unit.specs.Reads.{lit_count};
 ghost use Rattle.pb_unit.specs.Renaming.{AreNamed, AreNames};
 
 use crate::constraints::Constraints;
@@ -49,8 +50,7 @@ fn held_by_engine(
     forms: Constraints,
     given: &[Lit],
 ) -> Result<Option<Rounds>, NoMemory>
-    requires within { All (OfConstraint (IsUpTo vars)) forms }
-    requires given { All (OfLit (IsUpTo vars)) given.now }
+    requires tables { FitsTables forms given.now vars }
     requires ascending { AreAscending given.now }
     ensures { IfOk result (λ found. MatchOption found (Conflict forms given.now) (λ held. AreReachedOver forms given.now (held_to held.lits vars))) }
 {
@@ -69,8 +69,7 @@ fn held_over(
     forms: Constraints,
     given: &[Lit],
 ) -> Result<Option<Rounds>, NoMemory>
-    requires within { All (OfConstraint (IsUpTo vars)) forms }
-    requires given { All (OfLit (IsUpTo vars)) given.now }
+    requires tables { FitsTables forms given.now vars }
     requires ascending { AreAscending given.now }
     ensures { IfOk result (λ found. MatchOption found (Conflict forms given.now) (λ held. AreReachedOver forms given.now (held_to held.lits vars))) }
 {
@@ -130,9 +129,7 @@ fn reached_within(
     forms: Constraints,
     given: &[Lit],
 ) -> Result<Option<Vec<Lit>>, NoMemory>
-    requires few { vars < 2 ^ 31 }
-    requires within { All (OfConstraint (IsUpTo vars)) forms }
-    requires given { All (OfLit (IsUpTo vars)) given.now }
+    requires tables { FitsTables forms given.now vars }
     requires ascending { AreAscending given.now }
     ensures { IfOk result (λ found. MatchOption found (Conflict forms given.now) (λ v. AreReachedOver forms given.now v.items)) }
 {
@@ -150,6 +147,7 @@ fn reached_by_names(
     given: &[Lit],
 ) -> Result<Option<Vec<Lit>>, NoMemory>
     requires names { AreNames names.now }
+    requires few { length names.now ≤ lit_count forms.now + length given.now }
     requires named { AreNamed names.now forms.now given.now }
     requires ascending { AreAscending given.now }
     ensures { IfOk result (λ found. MatchOption found (Conflict forms.now given.now) (λ v. AreReachedOver forms.now given.now v.items)) }
@@ -175,14 +173,14 @@ fn reached_by_places(
     reached_by_names(alloc, &names, forms, given)
 }
 
-// The greatest variable, where tables up to it take no more room than the literals do.
-fn modest_greatest(
+/// The greatest variable of constraints and of literals, or a number that is no less, where tables up to it have no more entries
+/// than there are literals in all; else none, and it is for the variables to be numbered anew.
+pub fn modest_greatest(
     alloc: Global,
     forms: &Constraints,
     given: &[Lit],
 ) -> Result<Option<u32>, NoMemory>
-    ensures few { IfOk result (λ found. IfSome found (λ most. most < 2 ^ 31)) }
-    ensures up_to { IfOk result (λ found. IfSome found (AreUpTo forms.now given.now)) }
+    ensures { IfOk result (λ found. IfSome found (FitsTables forms.now given.now)) }
 {
     let most = greatest_of(alloc, forms, greatest(given))?;
     if most as usize > forms.clause_lits().saturating_add(given.len()) {

@@ -12,6 +12,8 @@ use crate::index::{Index, Occurrence, code};
 use crate::kept::{Counters, alert_of, lower, raise, room_of};
 use crate::newest::newest_that;
 use crate::places::{Places, Slot};
+use crate::queue::Queue;
+use crate::spot::Spot;
 use pb_base::{Lit, NoMemory, Term};
 use pb_norm::Linear;
 use std::alloc::Global;
@@ -129,20 +131,18 @@ fn enter_one(
     alloc: Global,
     lists: &mut Index,
     kept: &mut [Counters],
-    vars: u32,
-    places: &Places,
-    place: usize,
+    spot: &Spot,
     term: &Term,
 ) -> bool
-    requires within { term.now.lit.var ≤ vars }
-    requires empty { at_place places.now place ≡ None }
-    requires known { place < length kept.old }
-    requires fits { room_at kept.old place + (weighted term.now).coef ≤ 2 ^ 126 }
-    requires counts { IsCounted vars places.now lists.old kept.old [] }
-    ensures entered { OnTrue result (Enters vars places.now place (weighted term.now) lists.old kept.old lists.new kept.new) }
-    ensures refused { OnFalse result (IsCounted vars places.now lists.new kept.new []) }
+    requires within { term.now.lit.var ≤ spot.now.vars }
+    requires known { spot.now.place < length kept.old }
+    requires fits { room_at kept.old spot.now.place + (weighted term.now).coef ≤ 2 ^ 126 }
+    requires counts { IsCounted spot.now.vars spot.now.places.now lists.old kept.old [] }
+    ensures entered { OnTrue result (Enters spot.now.vars spot.now.places.now spot.now.place (weighted term.now) lists.old kept.old lists.new kept.new) }
+    ensures refused { OnFalse result (IsCounted spot.now.vars spot.now.places.now lists.new kept.new []) }
     ensures alerts { (p : ℕ) → alert_at kept.new p ≡ alert_at kept.old p }
 {
+    let place = spot.place;
     let coef = term.weight();
     if !lists.push(alloc, &term.lit, place, coef) {
         return false;
@@ -156,22 +156,19 @@ fn enter_all(
     alloc: Global,
     lists: &mut Index,
     kept: &mut [Counters],
-    vars: u32,
-    places: &Places,
-    place: usize,
+    spot: &Spot,
     terms: &[Term],
 ) -> bool
-    requires within { HasVarsWithin vars (weights terms.now) }
-    requires empty { at_place places.now place ≡ None }
-    requires known { place < length kept.old }
+    requires within { HasVarsWithin spot.now.vars (weights terms.now) }
+    requires known { spot.now.place < length kept.old }
     requires fits { weight (weights terms.now) ≤ 2 ^ 126 }
-    requires entered { IsEntered vars places.now lists.old kept.old place [] }
-    ensures entered { OnTrue result (IsEntered vars places.now lists.new kept.new place (weights terms.now)) }
-    ensures refused { OnFalse result (IsCounted vars places.now lists.new kept.new []) }
+    requires entered { IsEntered spot.now.vars spot.now.places.now lists.old kept.old spot.now.place [] }
+    ensures entered { OnTrue result (IsEntered spot.now.vars spot.now.places.now lists.new kept.new spot.now.place (weights terms.now)) }
+    ensures refused { OnFalse result (IsCounted spot.now.vars spot.now.places.now lists.new kept.new []) }
     ensures alerts { (p : ℕ) → alert_at kept.new p ≡ alert_at kept.old p }
 {
     for term in terms {
-        if !enter_one(alloc, lists, kept, vars, places, place, term) {
+        if !enter_one(alloc, lists, kept, spot, term) {
             return false;
         }
     }
@@ -179,16 +176,16 @@ fn enter_all(
 }
 
 // An entry for the place, if there is memory.
-fn grow(kept: &mut Vec<Counters>, vars: u32, places: &Places, lists: &Index, place: usize) -> bool
-    requires near { place ≤ length kept.old.items }
-    requires counts { IsCounted vars places.now lists.now kept.old.items [] }
-    ensures counts { IsCounted vars places.now lists.now kept.new.items [] }
+fn grow(kept: &mut Vec<Counters>, lists: &Index, spot: &Spot) -> bool
+    requires near { spot.now.place ≤ length kept.old.items }
+    requires counts { IsCounted spot.now.vars spot.now.places.now lists.now kept.old.items [] }
+    ensures counts { IsCounted spot.now.vars spot.now.places.now lists.now kept.new.items [] }
     ensures alerts { (p : ℕ) → alert_at kept.new.items p ≡ alert_at kept.old.items p }
     ensures rooms { (p : ℕ) → room_at kept.new.items p ≡ room_at kept.old.items p }
-    ensures known { OnTrue result (place < length kept.new.items) }
-    ensures size { length kept.new.items ≤ max (length kept.old.items) (place + 1) }
+    ensures known { OnTrue result (spot.now.place < length kept.new.items) }
+    ensures size { length kept.new.items ≤ max (length kept.old.items) (spot.now.place + 1) }
 {
-    if place < kept.len() {
+    if spot.place < kept.len() {
         return true;
     }
     let none = Counters { room: 0, alert: 0 };
@@ -200,26 +197,23 @@ fn enter(
     alloc: Global,
     lists: &mut Index,
     kept: &mut Vec<Counters>,
-    vars: u32,
-    places: &Places,
-    place: usize,
+    spot: &Spot,
     constraint: &Linear,
 ) -> bool
-    requires within { HasVarsWithin vars constraint.now.terms }
-    requires empty { at_place places.now place ≡ None }
-    requires near { place ≤ length kept.old.items }
-    requires unused { room_at kept.old.items place ≡ 0 }
-    requires counts { IsCounted vars places.now lists.old kept.old.items [] }
-    ensures entered { OnTrue result (IsEntered vars places.now lists.new kept.new.items place constraint.now.terms) }
-    ensures refused { OnFalse result (IsCounted vars places.now lists.new kept.new.items []) }
+    requires within { HasVarsWithin spot.now.vars constraint.now.terms }
+    requires near { spot.now.place ≤ length kept.old.items }
+    requires unused { room_at kept.old.items spot.now.place ≡ 0 }
+    requires counts { IsCounted spot.now.vars spot.now.places.now lists.old kept.old.items [] }
+    ensures entered { OnTrue result (IsEntered spot.now.vars spot.now.places.now lists.new kept.new.items spot.now.place constraint.now.terms) }
+    ensures refused { OnFalse result (IsCounted spot.now.vars spot.now.places.now lists.new kept.new.items []) }
     ensures alerts { (p : ℕ) → alert_at kept.new.items p ≡ alert_at kept.old.items p }
-    ensures known { OnTrue result (place < length kept.new.items) }
-    ensures size { length kept.new.items ≤ max (length kept.old.items) (place + 1) }
+    ensures known { OnTrue result (spot.now.place < length kept.new.items) }
+    ensures size { length kept.new.items ≤ max (length kept.old.items) (spot.now.place + 1) }
 {
-    if !grow(kept, vars, places, lists, place) {
+    if !grow(kept, lists, spot) {
         return false;
     }
-    enter_all(alloc, lists, kept, vars, places, place, constraint.terms())
+    enter_all(alloc, lists, kept, spot, constraint.terms())
 }
 
 // Has no room at places where no constraint stands.
@@ -273,66 +267,6 @@ fn settle(kept: &mut [Counters], tight: &mut Vec<usize>, place: usize, alert: u1
     if at.room < alert {
         list_place(tight, place);
     }
-}
-
-// A constraint at a place, with its terms in the index, if there is memory. Else nothing stands that did not stand before.
-fn enter_and_put(
-    alloc: Global,
-    vars: u32,
-    places: &mut Places,
-    lists: &mut Index,
-    kept: &mut Vec<Counters>,
-    place: usize,
-    constraint: Linear,
-) -> bool
-    requires within { HasVarsWithin vars constraint.terms }
-    requires near { place ≤ length places.old }
-    requires empty { at_place places.old place ≡ None }
-    requires near_kept { place ≤ length kept.old.items }
-    requires unused { room_at kept.old.items place ≡ 0 }
-    requires counts { IsCounted vars places.old lists.old kept.old.items [] }
-    ensures placed { places.new ≡ (if result then placed place constraint places.old else places.old) }
-    ensures entered { OnTrue result (IsEntered vars places.old lists.new kept.new.items place constraint.terms) }
-    ensures refused { OnFalse result (IsCounted vars places.old lists.new kept.new.items []) }
-    ensures alerts { (p : ℕ) → alert_at kept.new.items p ≡ alert_at kept.old.items p }
-    ensures known { OnTrue result (place < length kept.new.items) }
-    ensures size { length kept.new.items ≤ max (length kept.old.items) (place + 1) }
-{
-    if !enter(alloc, lists, kept, vars, places, place, &constraint) {
-        return false;
-    }
-    places.put(alloc, place, constraint)
-}
-
-// A constraint at a free place, if there is memory. Else nothing stands that did not stand before.
-pub(crate) fn put(
-    alloc: Global,
-    vars: u32,
-    places: &mut Places,
-    lists: &mut Index,
-    kept: &mut Vec<Counters>,
-    tight: &mut Vec<usize>,
-    place: usize,
-    constraint: Linear,
-) -> bool
-    requires store { IsStore vars places.old lists.old kept.old.items tight.old.items }
-    requires within { HasVarsWithin vars constraint.terms }
-    requires near { place ≤ length places.old }
-    requires empty { at_place places.old place ≡ None }
-    requires unused { room_at kept.old.items place ≡ 0 }
-    ensures placed { places.new ≡ (if result then placed place constraint places.old else places.old) }
-    ensures store { IsStore vars places.new lists.new kept.new.items tight.new.items }
-{
-    if tight.reserve(1).is_err() {
-        return false;
-    }
-    let alert = alert_of(&constraint);
-    if !enter_and_put(alloc, vars, places, lists, kept, place, constraint) {
-        sweep(lists, kept, vars, places);
-        return false;
-    }
-    settle(kept, tight, place, alert);
-    true
 }
 
 // One more place, where that is asked for and there is memory.
@@ -392,20 +326,12 @@ pub(crate) fn counters_of(
 }
 
 // Takes an occurrence of a literal at a place where nothing stands out of the index, and its part out of the room there. Whether one was found.
-fn unlist_one(
-    lists: &mut Index,
-    kept: &mut [Counters],
-    vars: u32,
-    places: &Places,
-    place: usize,
-    lit: &Lit,
-) -> bool
-    requires empty { at_place places.now place ≡ None }
-    requires counts { IsCounted vars places.now lists.old kept.old [] }
-    ensures counts { IsCounted vars places.now lists.new kept.new [] }
+fn unlist_one(lists: &mut Index, kept: &mut [Counters], spot: &Spot, lit: &Lit) -> bool
+    requires { IsCounted spot.now.vars spot.now.places.now lists.old kept.old [] }
+    ensures counts { IsCounted spot.now.vars spot.now.places.now lists.new kept.new [] }
     ensures alerts { (p : ℕ) → alert_at kept.new p ≡ alert_at kept.old p }
 {
-    match lists.take(lit, place) {
+    match lists.take(lit, spot.place) {
         Some(occurrence) => {
             lower(kept, &occurrence);
             true
@@ -415,22 +341,14 @@ fn unlist_one(
 }
 
 // The same for terms. How many are left.
-fn unlist(
-    lists: &mut Index,
-    kept: &mut [Counters],
-    vars: u32,
-    places: &Places,
-    place: usize,
-    terms: &[Term],
-) -> usize
-    requires empty { at_place places.now place ≡ None }
-    requires counts { IsCounted vars places.now lists.old kept.old [] }
-    ensures counts { IsCounted vars places.now lists.new kept.new [] }
+fn unlist(lists: &mut Index, kept: &mut [Counters], spot: &Spot, terms: &[Term]) -> usize
+    requires { IsCounted spot.now.vars spot.now.places.now lists.old kept.old [] }
+    ensures counts { IsCounted spot.now.vars spot.now.places.now lists.new kept.new [] }
     ensures alerts { (p : ℕ) → alert_at kept.new p ≡ alert_at kept.old p }
 {
     let mut left: usize = 0;
     for term in terms {
-        if !unlist_one(lists, kept, vars, places, place, &term.lit) {
+        if !unlist_one(lists, kept, spot, &term.lit) {
             left = left.saturating_add(1);
         }
     }
@@ -442,21 +360,15 @@ fn unlist_slot(
     lists: &mut Index,
     kept: &mut Vec<Counters>,
     tight: &Vec<usize>,
-    vars: u32,
-    places: &Places,
-    place: usize,
+    spot: &Spot,
     gone: &Slot,
 ) -> usize
-    requires empty { at_place places.now place ≡ None }
-    requires store { IsStore vars places.now lists.old kept.old.items tight.now.items }
-    ensures { IsStore vars places.now lists.new kept.new.items tight.now.items }
+    requires { IsStore spot.now.vars spot.now.places.now lists.old kept.old.items tight.now.items }
+    ensures { IsStore spot.now.vars spot.now.places.now lists.new kept.new.items tight.now.items }
 {
     match gone {
         Slot::Clause { len, .. } => *len as usize,
-        Slot::General(alone) => match alone.first() {
-            Some(constraint) => unlist(lists, kept, vars, places, place, constraint.terms()),
-            None => 0,
-        },
+        Slot::General(alone) => unlist(lists, kept, spot, alone.terms()),
         Slot::Empty => 0,
     }
 }
@@ -470,22 +382,14 @@ fn newest_listed(tight: &[usize], place: usize) -> Option<usize>
 }
 
 // Takes a place where nothing stands out of the list, where it is among the newest there. Whether it may still be listed.
-fn unlist_place(
-    lists: &Index,
-    kept: &Vec<Counters>,
-    tight: &mut Vec<usize>,
-    vars: u32,
-    places: &Places,
-    place: usize,
-) -> bool
-    requires empty { at_place places.now place ≡ None }
-    requires store { IsStore vars places.now lists.now kept.now.items tight.old.items }
-    ensures { IsStore vars places.now lists.now kept.now.items tight.new.items }
+fn unlist_place(lists: &Index, kept: &Vec<Counters>, tight: &mut Vec<usize>, spot: &Spot) -> bool
+    requires { IsStore spot.now.vars spot.now.places.now lists.now kept.now.items tight.old.items }
+    ensures { IsStore spot.now.vars spot.now.places.now lists.now kept.now.items tight.new.items }
 {
-    if !is_tight(kept, place) {
+    if !is_tight(kept, spot.place) {
         return false;
     }
-    match newest_listed(tight, place) {
+    match newest_listed(tight, spot.place) {
         Some(index) => {
             tight.remove(index);
             false
@@ -559,32 +463,97 @@ fn tidy(
     }
 }
 
-// Has nothing stand at a place. What is left of the constraint goes as far as it is found, and the rest where that is due.
-pub(crate) fn let_go(
-    garbage: &mut Garbage,
-    places: &mut Places,
-    lists: &mut Index,
-    kept: &mut Vec<Counters>,
-    tight: &mut Vec<usize>,
-    vars: u32,
-    place: usize,
-)
-    requires known { place < length places.old }
-    requires store { IsStore vars places.old lists.old kept.old.items tight.old.items }
-    ensures removed { places.new ≡ slice_set places.old place None }
-    ensures store { IsStore vars places.new lists.new kept.new.items tight.new.items }
-{
-    let gone = places.take(place);
-    let listed = unlist_place(lists, kept, tight, vars, places, place);
-    let terms = unlist_slot(lists, kept, tight, vars, places, place, &gone);
-    garbage.count(place, terms, listed);
-    tidy(garbage, lists, kept, tight, vars, places);
-}
-
 // Whether the room at a place is less than its alert.
 pub(crate) fn is_tight(kept: &[Counters], place: usize) -> bool {
     match kept.get(place) {
         Some(at) => at.room < at.alert,
         None => false,
+    }
+}
+
+impl Queue {
+    ghost use Rattle.pb_unit.specs.Counters.{IsUntold, OthersStay};
+
+    // A constraint at a place, with its terms in the index, if there is memory. Else nothing stands that did not stand before.
+    fn enter_and_put(&mut self, alloc: Global, place: usize, constraint: Linear) -> bool
+        requires store { IsUntold self.old }
+        requires within { HasVarsWithin self.old.held.vars constraint.terms }
+        requires near { place ≤ length self.old.places }
+        requires empty { at_place self.old.places place ≡ None }
+        requires unused { room_at self.old.kept.items place ≡ 0 }
+        ensures stay { OthersStay self.old self.new }
+        ensures tight { self.new.tight ≡ self.old.tight }
+        ensures placed { self.new.places ≡ (if result then placed place constraint self.old.places else self.old.places) }
+        ensures entered { OnTrue result (IsEntered self.old.held.vars self.old.places self.new.lists self.new.kept.items place constraint.terms) }
+        ensures refused { OnFalse result (IsCounted self.old.held.vars self.old.places self.new.lists self.new.kept.items []) }
+        ensures alerts { (p : ℕ) → alert_at self.new.kept.items p ≡ alert_at self.old.kept.items p }
+        ensures known { OnTrue result (place < length self.new.kept.items) }
+        ensures size { length self.new.kept.items ≤ max (length self.old.kept.items) (place + 1) }
+    {
+        let spot = Spot {
+            vars: self.held.vars(),
+            places: &self.places,
+            place,
+        };
+        if !enter(alloc, &mut self.lists, &mut self.kept, &spot, &constraint) {
+            return false;
+        }
+        self.places.put(alloc, place, constraint)
+    }
+
+    // A constraint at a free place, if there is memory. Else nothing stands that did not stand before.
+    pub(crate) fn put(&mut self, alloc: Global, place: usize, constraint: Linear) -> bool
+        requires store { IsUntold self.old }
+        requires within { HasVarsWithin self.old.held.vars constraint.terms }
+        requires near { place ≤ length self.old.places }
+        requires empty { at_place self.old.places place ≡ None }
+        requires unused { room_at self.old.kept.items place ≡ 0 }
+        ensures stay { OthersStay self.old self.new }
+        ensures placed { self.new.places ≡ (if result then placed place constraint self.old.places else self.old.places) }
+        ensures store { IsUntold self.new }
+    {
+        if self.tight.reserve(1).is_err() {
+            return false;
+        }
+        let alert = alert_of(&constraint);
+        if !self.enter_and_put(alloc, place, constraint) {
+            sweep(
+                &mut self.lists,
+                &mut self.kept,
+                self.held.vars(),
+                &self.places,
+            );
+            return false;
+        }
+        settle(&mut self.kept, &mut self.tight, place, alert);
+        true
+    }
+
+    // Has nothing stand at a place. What is left of the constraint goes as far as it is found, and the rest where that is due.
+    pub(crate) fn let_go(&mut self, garbage: &mut Garbage, place: usize)
+        requires known { place < length self.old.places }
+        requires store { IsUntold self.old }
+        ensures stay { OthersStay self.old self.new }
+        ensures removed { self.new.places ≡ slice_set self.old.places place None }
+        ensures store { IsUntold self.new }
+    {
+        let gone = self.places.take(place);
+        let vars = self.held.vars();
+        let spot = Spot {
+            vars,
+            places: &self.places,
+            place,
+        };
+        let listed = unlist_place(&self.lists, &self.kept, &mut self.tight, &spot);
+        let terms = unlist_slot(&mut self.lists, &mut self.kept, &self.tight, &spot, &gone);
+        garbage.count(place, terms, listed);
+        tidy(
+            garbage,
+            &mut self.lists,
+            &mut self.kept,
+            &mut self.tight,
+            vars,
+            &self.places,
+        );
     }
 }

@@ -17,15 +17,10 @@ part lits start len = take len (drop start lits)
 abbrev pub clause_of : List Lit → Constraint
 clause_of ls = record { terms = map unit ls; degree = 1 }
 
--- the constraint of a list with at most one
-abbrev pub alone_in : List Constraint → Option Constraint
-alone_in [] = None
-alone_in (c ∷ cs) = Some c
-
 abbrev pub slot_at : List Lit → Slot → Option Constraint
 slot_at lits Empty = None
 slot_at lits (Clause start len) = Some (clause_of (part lits start len))
-slot_at lits (General alone) = alone_in alone.items
+slot_at lits (General alone) = Some alone.value
 
 -- how many literals the clause of a slot has
 abbrev pub slot_lits : Slot → ℕ

@@ -1,10 +1,10 @@
-use Rattle.std.proofs.Common.{◌≡◌, ◌<◌, ◌∙◌, List, Option, Some, None, ap, subst, sym}
+use Rattle.std.proofs.Common.{◌≡◌, ◌<◌, ◌∙◌, List, Option, Some, ap, subst, sym}
 use Rattle.pb_base.specs.declared.literal.Lit.{Lit}
 use Rattle.pb_norm.specs.Constraints.{Constraint}
 use Rattle.pb_unit.specs.Index.{code, size_of}
-use Rattle.pb_unit.specs.inner.Slots.{clause_of, alone_in, slot_at}
+use Rattle.pb_unit.specs.inner.Slots.{clause_of, slot_at}
 use Rattle.pb_unit.specs.inner.Filling.{terms_in, AddsPlace, AreNumbered}
-use Rattle.pb_unit.proofs.Slotting.{units_all, first_alone, none_alone}
+use Rattle.pb_unit.proofs.Slotting.{units_all}
 use Rattle.pb_unit.proofs.Fillings.{added_none}
 use Rattle.pb_unit.proofs.filling.enter_slot.Goals as goal
 
@@ -15,15 +15,10 @@ enter_clause-requires c =
 
 pub enter_terms-requires : goal.enter_terms-requires
 enter_terms-requires c =
-    let is : slot_at c.args.lits.now c.args.slot.now ≡ Some c.in-Some.constraint.now =
-    ap (slot_at c.args.lits.now) c.in-General.is ∙ (ap alone_in (sym c.deref.ensures.value) ∙ first_alone c.deref.result.now c.in-Some.constraint.now c.in-Some.ensures.value) in
+    let is : slot_at c.args.lits.now c.args.slot.now ≡ Some c.deref.result.now =
+    ap (slot_at c.args.lits.now) c.in-General.is ∙ ap (λ (d : Constraint). Some d) (sym c.deref.ensures) in
     subst (AreNumbered c.args.lists.now) (sym c.terms.ensures.weights) (subst (λ (o : Option Constraint). AreNumbered c.args.lists.now (terms_in o)) is c.requires.numbered)
-
-pub returns-in-None-clause-added : goal.returns-in-None-clause-added
-returns-in-None-clause-added c =
-    let is : slot_at c.args.lits.now c.args.slot.now ≡ None = ap (slot_at c.args.lits.now) c.in-General.is ∙ (ap alone_in (sym c.deref.ensures.value) ∙ none_alone c.deref.result.now c.in-None.ensures.value) in
-    subst (λ (o : Option Constraint). AddsPlace c.args.low c.args.high c.args.place (terms_in o) c.args.lists.now c.args.lists.now) (sym is) (added_none c.args.low c.args.high c.args.place c.args.lists.now)
 
 pub returns-in-Empty-clause-added : goal.returns-in-Empty-clause-added
 returns-in-Empty-clause-added c =
-    subst (λ (o : Option Constraint). AddsPlace c.args.low c.args.high c.args.place (terms_in o) c.args.lists.now c.args.lists.now) (sym (ap (slot_at c.args.lits.now) c.in-Empty.is)) (added_none c.args.low c.args.high c.args.place c.args.lists.now)
+    subst (λ (o : Option Constraint). AddsPlace c.args.codes.low c.args.codes.high c.args.place (terms_in o) c.args.lists.now c.args.lists.now) (sym (ap (slot_at c.args.lits.now) c.in-Empty.is)) (added_none c.args.codes.low c.args.codes.high c.args.place c.args.lists.now)

@@ -7,5 +7,5 @@ use Rattle.pb_unit.proofs.filling.fill_range.Given as goal
 abbrev pub invariant-loop-place : goal.invariant-loop-place
 invariant-loop-place l = record {
   size : size_of l.lists ≡ size_of l.initial.lists;
-  filling : IsFilling l.low l.high l.initial.lists l.lists (map terms_in (map (slot_at l.lits) (take l.place l.slots)));
+  filling : IsFilling l.codes.low l.codes.high l.initial.lists l.lists (map terms_in (map (slot_at l.lits) (take l.place l.slots)));
 }

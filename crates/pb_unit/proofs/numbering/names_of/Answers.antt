@@ -1,3 +1,4 @@
+use Rattle.std.proofs.Common.{arith}
 use Rattle.pb_unit.proofs.Numbers.{names_are, names_have}
 use Rattle.pb_unit.proofs.numbering.names_of.Goals as goal
 
@@ -6,3 +7,6 @@ returns-clause-names c = names_are c.args.vars.items c.sort_unstable.new.self.it
 
 pub returns-clause-same : goal.returns-clause-same
 returns-clause-same c = names_have c.args.vars.items c.sort_unstable.new.self.items c.dedup.new.self.items c.sort_unstable.ensures.permutation c.dedup.ensures.filtered
+
+pub returns-clause-few : goal.returns-clause-few
+returns-clause-few c = omega (arith, c.sort_unstable.ensures.len, c.dedup.ensures.bound)

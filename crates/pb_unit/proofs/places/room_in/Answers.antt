@@ -5,8 +5,8 @@ use Rattle.pb_norm.specs.Constraints.{Constraint}
 use Rattle.pb_norm.specs.Propagation.{room}
 use Rattle.pb_norm.proofs.Rooms.{room-le-weight}
 use Rattle.pb_unit.specs.States.{Stands}
-use Rattle.pb_unit.specs.inner.Slots.{unit, clause_of, alone_in, slot_at}
-use Rattle.pb_unit.proofs.Slotting.{at_slot, first_alone}
+use Rattle.pb_unit.specs.inner.Slots.{unit, clause_of, slot_at}
+use Rattle.pb_unit.proofs.Slotting.{at_slot}
 use Rattle.pb_unit.proofs.Standing.{stands_one}
 use Rattle.pb_unit.proofs.places.room_in.Goals as goal
 
@@ -27,11 +27,11 @@ pub returns-in-Some-Clause : goal.returns-in-Some-Clause
 returns-in-Some-Clause c = λ d at.
     c.open_units.ensures ∙ ap (λ (x : Constraint). room c.args.held.now.lits x.terms) (stands_one (map (slot_at c.args.lits.now) c.args.slots.now) c.args.place (clause_of c.part.result.now) d (clause_here c) at)
 
-pub returns-in-Some : goal.returns-in-Some
-returns-in-Some c = λ d at.
+pub returns-in-Some-General : goal.returns-in-Some-General
+returns-in-Some-General c = λ d at.
     let e = c.in-Some-General.ensures.lookup in
-    let here : Stands (map (slot_at c.args.lits.now) c.args.slots.now) c.args.place c.in-Some.constraint.now =
+    let here : Stands (map (slot_at c.args.lits.now) c.args.slots.now) c.args.place c.deref.result.now =
     at_slot c.args.lits.now c.args.slots.now c.args.place c.in-Some-General.field-0.now (ltb-true _ _ (sym e.0)) e.1 ∙
     (ap (slot_at c.args.lits.now) c.in-Some-General.field-0-is ∙
-    (ap alone_in (sym c.deref.ensures.value) ∙ first_alone c.deref.result.now c.in-Some.constraint.now c.in-Some.ensures.value)) in
-    c.room_under.ensures ∙ ap (λ (x : Constraint). room c.args.held.now.lits x.terms) (stands_one (map (slot_at c.args.lits.now) c.args.slots.now) c.args.place c.in-Some.constraint.now d here at)
+    ap (λ (d : Constraint). Some d) (sym c.deref.ensures)) in
+    c.room_under.ensures ∙ ap (λ (x : Constraint). room c.args.held.now.lits x.terms) (stands_one (map (slot_at c.args.lits.now) c.args.slots.now) c.args.place c.deref.result.now d here at)

@@ -1,9 +1,10 @@
 use Rattle.std.proofs.Common.{◌∙◌, sym, ap, Some, List, map}
 use Rattle.std.proofs.lemmas.Bool.{ltb-true}
 use Rattle.pb_base.specs.declared.literal.Lit.{Lit}
+use Rattle.pb_norm.specs.Constraints.{Constraint}
 use Rattle.pb_unit.specs.States.{Stands}
-use Rattle.pb_unit.specs.inner.Slots.{alone_in, clause_of, slot_at}
-use Rattle.pb_unit.proofs.Slotting.{at_slot, first_alone}
+use Rattle.pb_unit.specs.inner.Slots.{clause_of, slot_at}
+use Rattle.pb_unit.proofs.Slotting.{at_slot}
 use Rattle.pb_unit.proofs.places.slack_in.Goals as goal
 
 clause_at : (c : goal.After-part) → Stands (map (slot_at c.args.lits.now) c.args.slots.now) c.args.place (clause_of c.part.result.now)
@@ -20,7 +21,7 @@ slack_of_clause-requires-clause-narrow c = c.requires.narrow (clause_of c.part.r
 pub slack_of-requires : goal.slack_of-requires
 slack_of-requires c = λ told.
     let e = c.in-Some-General.ensures.lookup in
-    c.requires.told told c.in-Some.constraint.now
+    c.requires.told told c.deref.result.now
     (at_slot c.args.lits.now c.args.slots.now c.args.place c.in-Some-General.field-0.now (ltb-true _ _ (sym e.0)) e.1 ∙
     (ap (slot_at c.args.lits.now) c.in-Some-General.field-0-is ∙
-    (ap alone_in (sym c.deref.ensures.value) ∙ first_alone c.deref.result.now c.in-Some.constraint.now c.in-Some.ensures.value)))
+    ap (λ (d : Constraint). Some d) (sym c.deref.ensures)))

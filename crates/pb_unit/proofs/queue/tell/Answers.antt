@@ -15,16 +15,20 @@ pub tell_both-requires-clause-listed : goal.tell_both-requires-clause-listed
 tell_both-requires-clause-listed c =
     omega (arith, c.requires.counts.width, ap code c.not-falsified.ensures, code-within c.args.held.now.vars (negated c.nth.result.now) c.nth.ensures.within)
 
-pub tell_both-requires-clause-enough : goal.tell_both-requires-clause-enough
-tell_both-requires-clause-enough c = λ p.
-    let e = enough_room c.args.held.now.vars c.args.places.now c.args.lists.now c.args.kept.now c.nth.result.now (oldest c.args.counted c.args.held.now.lits) c.requires.counts c.nth.ensures.absent p in
-    subst (λ (l : Lit). sum_at p (list_at c.args.lists.now l) ≤ room_at c.args.kept.now p) (sym c.not-falsified.ensures) (omega (arith, e))
-
-pub tell_both-requires-clause-bound : goal.tell_both-requires-clause-bound
-tell_both-requires-clause-bound c = λ p d at.
+pub tell_both-requires-clause-tell : goal.tell_both-requires-clause-tell
+tell_both-requires-clause-tell c =
     let part : IsPart (c.nth.result.now ∷ oldest c.args.counted c.args.held.now.lits) c.args.held.now.lits = subst (λ (ls : List Lit). IsPart ls c.args.held.now.lits) c.nth.ensures.older (drop_part (length c.args.held.now.lits - (c.args.counted + 1)) c.args.held.now.lits) in
-    subst (λ (l : Lit). room c.args.held.now.lits d.terms + sum_at p (list_at c.args.lists.now l) ≤ room_at c.args.kept.now p) (sym c.not-falsified.ensures)
-    (told_room c.args.held.now.vars c.args.places.now c.args.lists.now c.args.kept.now c.nth.result.now (oldest c.args.counted c.args.held.now.lits) c.args.held.now.lits c.requires.counts c.nth.ensures.absent part p d at)
+    record {
+      within = c.requires.within;
+      known = c.requires.counts.known c.not-falsified.result;
+      enough = λ p.
+          let e = enough_room c.args.held.now.vars c.args.places.now c.args.lists.now c.args.kept.now c.nth.result.now (oldest c.args.counted c.args.held.now.lits) c.requires.counts c.nth.ensures.absent p in
+          subst (λ (l : Lit). sum_at p (list_at c.args.lists.now l) ≤ room_at c.args.kept.now p) (sym c.not-falsified.ensures) (omega (arith, e));
+      bound = λ p d at.
+          subst (λ (l : Lit). room c.args.held.now.lits d.terms + sum_at p (list_at c.args.lists.now l) ≤ room_at c.args.kept.now p) (sym c.not-falsified.ensures)
+          (told_room c.args.held.now.vars c.args.places.now c.args.lists.now c.args.kept.now c.nth.result.now (oldest c.args.counted c.args.held.now.lits) c.args.held.now.lits c.requires.counts c.nth.ensures.absent part p d at);
+      alerts = c.requires.counts.alerts;
+    }
 
 pub returns-clause-counts : goal.returns-clause-counts
 returns-clause-counts c =

@@ -7,23 +7,14 @@ use Rattle.pb_unit.specs.Index.{unit_at, IsTold}
 use Rattle.pb_unit.proofs.Telling.{told_then, units_known, unit_enough, unit_bound}
 use Rattle.pb_unit.proofs.queue.tell_units.Goals as goal
 
-pub tell_next-short-requires-clause-within : goal.tell_next-short-requires-clause-within
-tell_next-short-requires-clause-within c = subst (λ (n : ℕ). StandWithin n c.args.places.now) (sym c.loop-place.invariant.vars) c.requires.within
-
-pub tell_next-short-requires-clause-known : goal.tell_next-short-requires-clause-known
-tell_next-short-requires-clause-known c =
-    omega (arith, units_known (length c.args.kept.now) c.args.units.now c.loop-place.place-index c.loop-place-test.true c.requires.known, c.loop-place.invariant.told.lowered.size)
-
-pub tell_next-short-requires-clause-enough : goal.tell_next-short-requires-clause-enough
-tell_next-short-requires-clause-enough c =
-    unit_enough c.args.places.now c.args.units.now c.args.kept.now c.loop-place.kept c.args.held.now.lits c.loop-place.held.lits c.loop-place.short c.loop-place.place-index c.loop-place.invariant.told c.loop-place-test.true c.requires.enough
-
-pub tell_next-short-requires-clause-bound : goal.tell_next-short-requires-clause-bound
-tell_next-short-requires-clause-bound c =
-    unit_bound c.args.places.now c.args.units.now c.args.kept.now c.loop-place.kept c.args.held.now.lits c.loop-place.held.lits c.loop-place.short c.loop-place.place-index c.loop-place.invariant.told c.loop-place-test.true c.requires.bound
-
-pub tell_next-short-requires-clause-alerts : goal.tell_next-short-requires-clause-alerts
-tell_next-short-requires-clause-alerts c = λ d at. subst (λ (a : ℕ). IsAlert a d) (sym (c.loop-place.invariant.told.lowered.alerts _)) (c.requires.alerts _ d at)
+pub tell_next-short-requires-clause-tell : goal.tell_next-short-requires-clause-tell
+tell_next-short-requires-clause-tell c = record {
+  within = subst (λ (n : ℕ). StandWithin n c.args.places.now) (sym c.loop-place.invariant.vars) c.requires.within;
+  known = omega (arith, units_known (length c.args.kept.now) c.args.units.now c.loop-place.place-index c.loop-place-test.true c.requires.known, c.loop-place.invariant.told.lowered.size);
+  enough = unit_enough c.args.places.now c.args.units.now c.args.kept.now c.loop-place.kept c.args.held.now.lits c.loop-place.held.lits c.loop-place.short c.loop-place.place-index c.loop-place.invariant.told c.loop-place-test.true c.requires.enough;
+  bound = unit_bound c.args.places.now c.args.units.now c.args.kept.now c.loop-place.kept c.args.held.now.lits c.loop-place.held.lits c.loop-place.short c.loop-place.place-index c.loop-place.invariant.told c.loop-place-test.true c.requires.bound;
+  alerts = λ d at. subst (λ (a : ℕ). IsAlert a d) (sym (c.loop-place.invariant.told.lowered.alerts _)) (c.requires.alerts _ d at);
+}
 
 pub tell_next-short-requires-clause-short : goal.tell_next-short-requires-clause-short
 tell_next-short-requires-clause-short c = c.loop-place.invariant.told.short

@@ -12,11 +12,14 @@ pub raise_both-requires-clause-listed : goal.raise_both-requires-clause-listed
 raise_both-requires-clause-listed c =
     omega (arith, c.loop-left.invariant.counts.width, ap code c.not-falsified.ensures, code-within c.args.held.now.vars (negated c.nth.result.now) c.nth.ensures.within)
 
-pub raise_both-requires-clause-fits : goal.raise_both-requires-clause-fits
-raise_both-requires-clause-fits c =
+pub raise_both-requires-clause-raise : goal.raise_both-requires-clause-raise
+raise_both-requires-clause-raise c =
     let counts = counted_next c.args.held.now.vars c.args.places.now c.args.lists.now c.loop-left.kept c.nth.result.now c.args.held.now.lits c.loop-left.left (c.loop-left.left - 1) (omega (arith, c.loop-left-test.true)) c.nth.ensures.older c.loop-left.invariant.counts in
-    λ p. subst (λ (l : Lit). room_at c.loop-left.kept p + sum_at p (list_at c.args.lists.now l) < 2 ^ 128) (sym c.not-falsified.ensures)
-    (fits_back c.args.held.now.vars c.args.places.now c.args.lists.now c.loop-left.kept c.nth.result.now (oldest (c.loop-left.left - 1) c.args.held.now.lits) counts c.nth.ensures.absent p)
+    record {
+      known = c.loop-left.invariant.counts.known c.not-falsified.result;
+      fits = λ p. subst (λ (l : Lit). room_at c.loop-left.kept p + sum_at p (list_at c.args.lists.now l) < 2 ^ 128) (sym c.not-falsified.ensures)
+          (fits_back c.args.held.now.vars c.args.places.now c.args.lists.now c.loop-left.kept c.nth.result.now (oldest (c.loop-left.left - 1) c.args.held.now.lits) counts c.nth.ensures.absent p);
+    }
 
 pub loop-left-preserved : goal.loop-left-preserved
 loop-left-preserved c =

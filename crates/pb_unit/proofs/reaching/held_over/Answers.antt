@@ -15,22 +15,22 @@ use Rattle.pb_unit.proofs.reaching.held_over.Goals as goal
 
 pub settle-requires-clause-within : goal.settle-requires-clause-within
 settle-requires-clause-within c =
-    subst (λ (most : ℕ). AreVarsWithin most c.args.forms) (sym (ap (λ (h : Held). h.vars) c.in_ok-rounds.ensures)) (within_most c.args.vars c.args.forms c.requires.within)
+    subst (λ (most : ℕ). AreVarsWithin most c.args.forms) (sym (ap (λ (h : Held). h.vars) c.in_ok-rounds.ensures)) (within_most c.args.vars c.args.forms c.requires.tables.constraints)
 
 pub settle-requires-clause-given : goal.settle-requires-clause-given
 settle-requires-clause-given c =
-    subst (λ (most : ℕ). All (λ (l : Lit). l.var ≤ most) c.args.given.now) (sym (ap (λ (h : Held). h.vars) c.in_ok-rounds.ensures)) (All-weaker (OfLit (IsUpTo c.args.vars)) (λ (l : Lit). l.var ≤ c.args.vars) (λ l h. h.high) c.args.given.now c.requires.given)
+    subst (λ (most : ℕ). All (λ (l : Lit). l.var ≤ most) c.args.given.now) (sym (ap (λ (h : Held). h.vars) c.in_ok-rounds.ensures)) (All-weaker (OfLit (IsUpTo c.args.vars)) (λ (l : Lit). l.var ≤ c.args.vars) (λ l h. h.high) c.args.given.now c.requires.tables.lits)
 
 pub settle-requires-clause-consistent : goal.settle-requires-clause-consistent
 settle-requires-clause-consistent c = ascending_consistent c.args.given.now c.requires.ascending
 
 pub returns-in-Some-Conflict : goal.returns-in-Some-Conflict
 returns-in-Some-Conflict c =
-    conflict_else c.args.vars c.args.forms c.args.given.now c.requires.within c.requires.given (given_over c.args.forms c.args.given.now c.settle.new.self) (standing_all c.args.forms) (λ l. ((λ h. h), (λ h. h)))
+    conflict_else c.args.vars c.args.forms c.args.given.now c.requires.tables.constraints c.requires.tables.lits (given_over c.args.forms c.args.given.now c.settle.new.self) (standing_all c.args.forms) (λ l. ((λ h. h), (λ h. h)))
     c.in-Some-Conflict.field-0 (λ fixed. let no : ⊥ = cc (fixed, c.in-Some-Conflict.field-0-is) in no) c.in-Some-Conflict.ensures.answer
 
 pub returns-in-Some-Fixed : goal.returns-in-Some-Fixed
 returns-in-Some-Fixed c =
     let s = given_over c.args.forms c.args.given.now c.settle.new.self in
-    reached_held c.args.vars c.args.forms c.args.given.now c.requires.within c.requires.given s (standing_all c.args.forms) (λ l. ((λ h. h), (λ h. h)))
+    reached_held c.args.vars c.args.forms c.args.given.now c.requires.tables.constraints c.requires.tables.lits s (standing_all c.args.forms) (λ l. ((λ h. h), (λ h. h)))
     (subst (λ (o : Outcome). AnswersOf s o) c.in-Some-Fixed.field-0-is c.in-Some-Fixed.ensures.answer) c.settle.ensures.reached

@@ -3,27 +3,31 @@ use Rattle.std.specs.Prelude.{All}
 use Rattle.pb_base.specs.declared.literal.Lit.{Lit}
 use Rattle.pb_norm.specs.Constraints.{Constraint}
 use Rattle.pb_norm.specs.Propagation.{Conflict}
-use Rattle.pb_unit.specs.Reaching.{AreAscending, AreReachedOver, IsUpTo, OfConstraint, OfLit}
+use Rattle.pb_unit.specs.Reaching.{AreAscending, AreReachedOver, FitsTables, IsUpTo, OfLit}
 use Rattle.pb_unit.specs.Renaming.{name_at, number_in, renamed, renamed_lit}
 use Rattle.pb_unit.proofs.Numbers.{names_few}
+use Rattle.pb_unit.proofs.Tabled.{renamed_few}
 use Rattle.pb_unit.proofs.Numbered.{conflict_named, found_places, numbered_ascending, numbered_constraints, numbered_lits, reached_named}
 use Rattle.pb_unit.proofs.reaching.reached_by_names.Goals as goal
 
 pub overflow_cast-names : goal.overflow_cast-names
 overflow_cast-names c = omega (arith, names_few c.args.names.now c.requires.names)
 
-pub reached_within-requires-clause-few : goal.reached_within-requires-clause-few
-reached_within-requires-clause-few c = names_few c.args.names.now c.requires.names
-
-pub reached_within-requires-clause-within : goal.reached_within-requires-clause-within
-reached_within-requires-clause-within c =
-    let forms = c.in_ok-numbered.ensures in
-    subst (All (OfConstraint (IsUpTo (length c.args.names.now)))) (sym forms) (numbered_constraints c.args.names.now c.requires.names c.args.forms.now c.args.given.now c.requires.named)
-
-pub reached_within-requires-clause-given : goal.reached_within-requires-clause-given
-reached_within-requires-clause-given c =
-    let lits = c.deref.ensures.value ∙ c.in_ok-lits.ensures in
-    subst (All (OfLit (IsUpTo (length c.args.names.now)))) (sym lits) (numbered_lits c.args.names.now c.requires.names c.args.forms.now c.args.given.now c.requires.named)
+pub reached_within-requires-clause-tables : goal.reached_within-requires-clause-tables
+reached_within-requires-clause-tables c =
+    let names = c.args.names.now in
+    let cs = c.args.forms.now in
+    let ls = c.args.given.now in
+    let number = number_in names in
+    let named = c.requires.named in
+    let fits : FitsTables (map (renamed number) cs) (map (renamed_lit number) ls) (length names) = record {
+      few = names_few names c.requires.names;
+      modest = renamed_few number cs ls (length names) c.requires.few;
+      constraints = numbered_constraints names c.requires.names cs ls named;
+      lits = numbered_lits names c.requires.names cs ls named;
+    } in
+    subst (λ (forms : List Constraint). FitsTables forms c.deref.result.now (length names)) (sym c.in_ok-numbered.ensures)
+    (subst (λ (lits : List Lit). FitsTables (map (renamed number) cs) lits (length names)) (sym (c.deref.ensures.value ∙ c.in_ok-lits.ensures)) fits)
 
 pub reached_within-requires-clause-ascending : goal.reached_within-requires-clause-ascending
 reached_within-requires-clause-ascending c =

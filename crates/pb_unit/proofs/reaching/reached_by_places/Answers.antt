@@ -1,6 +1,8 @@
-use Rattle.std.proofs.Common.{ℕ, List, subst, sym}
+use Rattle.std.proofs.Common.{◌≤◌, ◌+◌, ℕ, List, ap, arith, length, subst, sym}
 use Rattle.std.specs.Prelude.{Contains}
+use Rattle.pb_unit.specs.Reads.{lit_count}
 use Rattle.pb_unit.specs.Renaming.{all_vars, AreNamed}
+use Rattle.pb_unit.proofs.Tabled.{length-all_vars}
 use Rattle.pb_unit.proofs.Numbers.{all_named, of_constraints, of_lits}
 use Rattle.pb_unit.proofs.reaching.reached_by_places.Goals as goal
 
@@ -16,3 +18,11 @@ reached_by_names-requires-clause-named c =
       lits = of_lits (all_vars forms given) forms given named (Contains names) has;
     } in
     subst (λ (ns : List ℕ). AreNamed ns forms given) (sym c.deref.ensures.value) are
+
+pub reached_by_names-requires-clause-few : goal.reached_by_names-requires-clause-few
+reached_by_names-requires-clause-few c =
+    let forms = c.args.forms.now in
+    let given = c.args.given.now in
+    let most : length c.names_of-names.result.items ≤ lit_count forms + length given =
+    omega (arith, c.names_of-names.ensures.few, ap length c.in_ok-vars_of.ensures.vars, length-all_vars forms given) in
+    subst (λ (ns : List ℕ). length ns ≤ lit_count forms + length given) (sym c.deref.ensures.value) most

@@ -11,9 +11,9 @@ use Rattle.pb_unit.proofs.store.enter.Goals as goal
 
 pub enter_all-requires-clause-entered : goal.enter_all-requires-clause-entered
 enter_all-requires-clause-entered c =
-    subst (λ (ks : List Counters). IsEntered c.args.vars c.args.places.now c.args.lists.now ks c.args.place []) (sym c.deref_mut.ensures.value)
-    (entered_none c.args.vars c.args.places.now c.args.lists.now c.grow.new.kept.items c.args.place c.grow.ensures.counts
-    (c.grow.ensures.rooms c.args.place ∙ c.requires.unused) c.requires.empty c.if-not-grow.ensures.known)
+    subst (λ (ks : List Counters). IsEntered c.args.spot.now.vars c.args.spot.now.places.now c.args.lists.now ks c.args.spot.now.place []) (sym c.deref_mut.ensures.value)
+    (entered_none c.args.spot.now.vars c.args.spot.now.places.now c.args.lists.now c.grow.new.kept.items c.args.spot.now.place c.grow.ensures.counts
+    (c.grow.ensures.rooms c.args.spot.now.place ∙ c.requires.unused) c.args.spot.now.empty c.if-not-grow.ensures.known)
 
 -- what was written is the list, and nothing is left of the old one
 all_written : (c : goal.After-kept-1) → take c.grow.new.kept.len (c.enter_all.new.kept ++ drop (length c.enter_all.new.kept) c.grow.new.kept.items) ≡ c.enter_all.new.kept
@@ -23,16 +23,16 @@ as_long : (c : goal.After-kept-1) → length (take c.grow.new.kept.len (c.enter_
 as_long c = ap (λ (ks : List Counters). length ks) (all_written c) ∙ (c.enter_all.auto.kept ∙ ap (λ (ks : List Counters). length ks) c.deref_mut.ensures.value)
 
 pub enter_all-requires-clause-known : goal.enter_all-requires-clause-known
-enter_all-requires-clause-known c = subst (λ (ks : List Counters). c.args.place < length ks) (sym c.deref_mut.ensures.value) c.if-not-grow.ensures.known
+enter_all-requires-clause-known c = subst (λ (ks : List Counters). c.args.spot.now.place < length ks) (sym c.deref_mut.ensures.value) c.if-not-grow.ensures.known
 
 pub returns-clause-entered : goal.returns-clause-entered
 returns-clause-entered c =
-    subst (λ (ks : List Counters). OnTrue c.enter_all.result (IsEntered c.args.vars c.args.places.now c.enter_all.new.lists ks c.args.place c.args.constraint.now.terms)) (sym (all_written c))
-    (subst (λ (ts : List Weighted). OnTrue c.enter_all.result (IsEntered c.args.vars c.args.places.now c.enter_all.new.lists c.enter_all.new.kept c.args.place ts)) c.terms.ensures.weights c.enter_all.ensures.entered)
+    subst (λ (ks : List Counters). OnTrue c.enter_all.result (IsEntered c.args.spot.now.vars c.args.spot.now.places.now c.enter_all.new.lists ks c.args.spot.now.place c.args.constraint.now.terms)) (sym (all_written c))
+    (subst (λ (ts : List Weighted). OnTrue c.enter_all.result (IsEntered c.args.spot.now.vars c.args.spot.now.places.now c.enter_all.new.lists c.enter_all.new.kept c.args.spot.now.place ts)) c.terms.ensures.weights c.enter_all.ensures.entered)
 
 pub returns-clause-refused : goal.returns-clause-refused
 returns-clause-refused c =
-    subst (λ (ks : List Counters). OnFalse c.enter_all.result (IsCounted c.args.vars c.args.places.now c.enter_all.new.lists ks [])) (sym (all_written c)) c.enter_all.ensures.refused
+    subst (λ (ks : List Counters). OnFalse c.enter_all.result (IsCounted c.args.spot.now.vars c.args.spot.now.places.now c.enter_all.new.lists ks [])) (sym (all_written c)) c.enter_all.ensures.refused
 
 pub returns-clause-alerts : goal.returns-clause-alerts
 returns-clause-alerts c = λ p.
@@ -40,7 +40,7 @@ returns-clause-alerts c = λ p.
     (c.enter_all.ensures.alerts p ∙ (ap (λ (ks : List Counters). alert_at ks p) c.deref_mut.ensures.value ∙ c.grow.ensures.alerts p))
 
 pub returns-clause-known : goal.returns-clause-known
-returns-clause-known c = OnTrue_from c.enter_all.result _ (λ yes. subst (λ (n : ℕ). c.args.place < n) (sym (as_long c)) c.if-not-grow.ensures.known)
+returns-clause-known c = OnTrue_from c.enter_all.result _ (λ yes. subst (λ (n : ℕ). c.args.spot.now.place < n) (sym (as_long c)) c.if-not-grow.ensures.known)
 
 pub returns-clause-size : goal.returns-clause-size
-returns-clause-size c = subst (λ (n : ℕ). n ≤ max (length c.args.kept.now.items) (c.args.place + 1)) (sym (as_long c)) c.grow.ensures.size
+returns-clause-size c = subst (λ (n : ℕ). n ≤ max (length c.args.kept.now.items) (c.args.spot.now.place + 1)) (sym (as_long c)) c.grow.ensures.size

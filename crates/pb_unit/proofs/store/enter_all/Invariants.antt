@@ -5,6 +5,6 @@ use Rattle.pb_unit.proofs.store.enter_all.Given as goal
 
 abbrev pub invariant-loop-term : goal.invariant-loop-term
 invariant-loop-term l = record {
-  entered : IsEntered l.vars l.places l.lists l.kept l.place (weights (take l.term-index l.terms));
+  entered : IsEntered l.spot.vars l.spot.places.now l.lists l.kept l.spot.place (weights (take l.term-index l.terms));
   alerts : (p : ℕ) → alert_at l.kept p ≡ alert_at l.initial.kept p;
 }

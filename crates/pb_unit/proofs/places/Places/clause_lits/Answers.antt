@@ -1,4 +1,4 @@
-use Rattle.std.proofs.Common.{◌≤◌, List, Option, map, arith, subst}
+use Rattle.std.proofs.Common.{◌≤◌, List, Option, arith, subst}
 use Rattle.std.specs.Prelude.{sum_by}
 use Rattle.pb_norm.specs.Constraints.{Constraint}
 use Rattle.pb_unit.specs.declared.places.Slot.{Slot}

@@ -12,4 +12,4 @@ fill_range-requires-clause-numbered c =
 
 pub returns : goal.returns
 returns c =
-    subst (λ (ps : List (Option Constraint)). OnTrue c.fill_range.result (IsFilling c.args.low c.args.high c.args.lists.now c.fill_range.new.lists (map terms_in ps))) (slots_read c.deref-2.ensures.value c.deref.ensures.value ∙ c.self.view_is) c.fill_range.ensures
+    subst (λ (ps : List (Option Constraint)). OnTrue c.fill_range.result (IsFilling c.args.codes.low c.args.codes.high c.args.lists.now c.fill_range.new.lists (map terms_in ps))) (slots_read c.deref-2.ensures.value c.deref.ensures.value ∙ c.self.view_is) c.fill_range.ensures
