@@ -2,3 +2,4 @@ pub mod Calls
 pub mod Judging
 pub mod Keeping
 pub mod Phases
+pub mod Sessions

@@ -6,6 +6,7 @@ mod fault;
 mod kept;
 mod laws;
 mod reading;
+mod session;
 mod stages;
 mod taking;
 mod verdict;

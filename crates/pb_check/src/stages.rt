@@ -6,17 +6,16 @@ ghost use Rattle.pb_dimacs.specs.CnfRows.{cnf_limits};
 ghost use Rattle.pb_dimacs.specs.Cursors.{GoesOn};
 ghost use Rattle.pb_check.specs.Turns.Stage.{head_wanted, ended};
 ghost use Rattle.pb_check.specs.Outcomes.{NamesText};
-ghost use Rattle.pb_check.specs.inner.Calls.{StopsStage, TakesHead, TakesCount, StopsCount, TakesLine, TakesSteps, StopsSteps, TakesRest};
-ghost use Rattle.pb_check.specs.inner.Keeping.{KeepsLine, KeepsSteps};
+ghost use Rattle.pb_check.specs.inner.Calls.{StopsStage, TakesHead, TakesCount, StopsCount, TakesRest};
+ghost use Rattle.pb_check.specs.inner.Sessions.{GivesLine, GivesSteps, KeepsOne, KeepsSome, StopsAmong};
 
 use crate::fault::{end_fault, miscounted, misplaced};
-use crate::kept::CollectedClauses;
 use crate::reading::next_step;
+use crate::session::Session;
 use crate::taking::{Taken, take_step};
 use crate::verdict::{CheckFault, Verdict};
 use pb_base::Expected;
 use pb_desk::{Desk, LineReader};
-use pb_dimacs::ClauseReader;
 use pb_rules::Database;
 use pb_steps::Step;
 use std::alloc::Global;
@@ -90,67 +89,68 @@ pub fn take_count<D: Desk>(
 fn take_line<D: Desk>(
     alloc: Global,
     desk: &mut D,
-    cnf: &mut ClauseReader,
-    kept: &mut CollectedClauses,
-    lines: &mut LineReader,
+    session: &mut Session,
     db: &mut Database,
 ) -> Result<Taken, CheckFault>
-    requires apart { cnf.old.lines.slot ≢ lines.old.slot }
-    requires open { IsTrue ((D.state desk.old).view.reading lines.old.slot) }
-    requires fine { lines.old.fault ≡ None }
-    requires limits { lines.old.limits ≡ cnf_limits }
-    requires cnf_open { IsTrue ((D.state desk.old).view.reading cnf.old.lines.slot) }
-    requires cnf_fine { cnf.old.fault ≡ None }
-    ensures follows { OnOk result (GoesOn lines.old lines.new) }
-    ensures cnf_fine { OnOk result (cnf.new.fault ≡ None) }
-    ensures cnf_vars { cnf.new.vars ≡ cnf.old.vars }
-    ensures further { OnOk result (lines.old.number < lines.new.number) }
-    ensures few { OnOk result (lines.new.number ≤ 2 ^ 40) }
-    ensures gives { IfOk result (λ got. TakesLine got cnf.old db.old lines.old cnf.new db.new lines.new (D.state desk.old) (D.state desk.new)) }
-    ensures keeps { IfOk result (λ got. KeepsLine got kept.old cnf.old lines.old kept.new cnf.new lines.new (D.state desk.old) (D.state desk.new)) }
-    ensures stopped { IfErr result (λ fault. StopsSteps fault cnf.old db.old lines.old cnf.new lines.new (D.state desk.old) (D.state desk.new)) }
+    requires open { IsTrue ((D.state desk.old).view.reading session.old.lines.slot) }
+    requires fine { session.old.lines.fault ≡ None }
+    requires limits { session.old.lines.limits ≡ cnf_limits }
+    requires cnf_open { IsTrue ((D.state desk.old).view.reading session.old.cnf.lines.slot) }
+    requires cnf_fine { session.old.cnf.fault ≡ None }
+    ensures follows { OnOk result (GoesOn session.old.lines session.new.lines) }
+    ensures cnf_fine { OnOk result (session.new.cnf.fault ≡ None) }
+    ensures cnf_vars { session.new.cnf.vars ≡ session.old.cnf.vars }
+    ensures further { OnOk result (session.old.lines.number < session.new.lines.number) }
+    ensures few { OnOk result (session.new.lines.number ≤ 2 ^ 40) }
+    ensures gives { IfOk result (λ got. GivesLine got db.old session.old db.new session.new (D.state desk.old) (D.state desk.new)) }
+    ensures keeps { IfOk result (λ got. KeepsOne got session.old session.new (D.state desk.old) (D.state desk.new)) }
+    ensures stopped { IfErr result (λ fault. StopsAmong fault db.old session.old session.new (D.state desk.old) (D.state desk.new)) }
     ensures named { IfErr result NamesText }
     ensures steady { IsSteady (D.state desk.old) → result ≢ Err CheckFault.ReadFault }
 {
-    let next = match next_step(alloc, desk, lines) {
+    let next = match next_step(alloc, desk, &mut session.lines) {
         Ok(next) => next,
         Err(fault) => return Err(fault),
     };
     let Some(step) = next else {
-        return Err(end_fault(lines));
+        return Err(end_fault(&session.lines));
     };
-    take_step(desk, cnf, kept, db, lines, &step)
+    take_step(
+        desk,
+        &mut session.cnf,
+        &mut session.kept,
+        db,
+        &session.lines,
+        &step,
+    )
 }
 
 /// Takes steps up to the line that ends them, or to the first that is not allowed, which gives a verdict.
 pub fn run_steps<D: Desk>(
     alloc: Global,
     desk: &mut D,
-    cnf: &mut ClauseReader,
-    kept: &mut CollectedClauses,
-    lines: &mut LineReader,
+    session: &mut Session,
     db: &mut Database,
 ) -> Result<Option<Verdict>, CheckFault>
-    requires apart { cnf.old.lines.slot ≢ lines.old.slot }
-    requires open { IsTrue ((D.state desk.old).view.reading lines.old.slot) }
-    requires fine { lines.old.fault ≡ None }
-    requires limits { lines.old.limits ≡ cnf_limits }
-    requires cnf_open { IsTrue ((D.state desk.old).view.reading cnf.old.lines.slot) }
-    requires cnf_fine { cnf.old.fault ≡ None }
-    ensures follows { OnOk result (GoesOn lines.old lines.new) }
-    ensures steps { IfOk result (λ verdict. TakesSteps verdict cnf.old db.old lines.old cnf.new lines.new (D.state desk.old) (D.state desk.new)) }
-    ensures keeps { IfOk result (λ verdict. KeepsSteps verdict kept.old cnf.old lines.old kept.new cnf.new lines.new (D.state desk.old) (D.state desk.new)) }
-    ensures stopped { IfErr result (λ fault. StopsSteps fault cnf.old db.old lines.old cnf.new lines.new (D.state desk.old) (D.state desk.new)) }
+    requires open { IsTrue ((D.state desk.old).view.reading session.old.lines.slot) }
+    requires fine { session.old.lines.fault ≡ None }
+    requires limits { session.old.lines.limits ≡ cnf_limits }
+    requires cnf_open { IsTrue ((D.state desk.old).view.reading session.old.cnf.lines.slot) }
+    requires cnf_fine { session.old.cnf.fault ≡ None }
+    ensures follows { OnOk result (GoesOn session.old.lines session.new.lines) }
+    ensures steps { IfOk result (λ verdict. GivesSteps verdict db.old session.old session.new (D.state desk.old) (D.state desk.new)) }
+    ensures keeps { IfOk result (λ verdict. KeepsSome verdict session.old session.new (D.state desk.old) (D.state desk.new)) }
+    ensures stopped { IfErr result (λ fault. StopsAmong fault db.old session.old session.new (D.state desk.old) (D.state desk.new)) }
     ensures named { IfErr result NamesText }
     ensures steady { IsSteady (D.state desk.old) → result ≢ Err CheckFault.ReadFault }
 {
     'steps: loop {
-        match take_line(alloc, desk, cnf, kept, lines, db) {
+        match take_line(alloc, desk, session, db) {
             Ok(Taken::On) => {}
             Ok(Taken::Last) => return Ok(None),
             Ok(Taken::Denied(denied)) => {
                 return Ok(Some(Verdict::Rejected {
-                    line: lines.number(),
+                    line: session.lines.number(),
                     denied,
                 }));
             }

@@ -13,3 +13,5 @@ pub mod Fronts
 pub mod Showings
 pub mod Least
 pub mod Forms
+pub mod UnitLemmas
+pub mod PartClauses

@@ -3,15 +3,16 @@ use Rattle.std.proofs.Common.{◌≡◌, ◌≤◌, ◌<◌, ◌+◌, ◌⊎◌,
 use Rattle.std.specs.Prelude.{All, Contains, filter_map, is_some, option_map}
 use Rattle.std.specs.List.{cons_option}
 use Rattle.std.proofs.lemmas.Bool.{cases_eq}
+use Rattle.std.proofs.lemmas.List.Elements.{All-nil, All-cons}
 use Rattle.std.proofs.lemmas.List.{get_or-set_same, get_or-set_other, take_all}
-use Rattle.pb_norm.specs.Constraints.{Constraint, Weighted, HasVarsWithin}
+use Rattle.pb_norm.specs.Constraints.{Constraint, Weighted, HasVarsWithin, AreVarsWithin}
 use Rattle.pb_norm.specs.PropagationLaws.{AreAmong}
 use Rattle.pb_steps.specs.Database.{live_constraints}
 use Rattle.pb_unit.specs.States.{EngineState, at_place, placed, added, removed, started, Stands, standing, IsFree}
 use Rattle.pb_unit.proofs.Standing.{contains_head, contains_tail, contains_cases, stands_contains, contains_stands}
 use Rattle.pb_unit.proofs.Placing.{at_placed, at_placed_other}
 use Rattle.pb_rules.specs.declared.slots.Slot.{Slot}
-use Rattle.pb_rules.specs.inner.Slots.{hole, whole, placed_from, slot_at, slot_of, slots_without, marked_slots, place_of, entries_from}
+use Rattle.pb_rules.specs.inner.Slots.{hole, whole, placed_from, slot_at, slot_of, slots_without, marked_slots, place_of, entries_from, listed_slots}
 use Rattle.pb_rules.specs.inner.Sound.{IsSound}
 use Rattle.pb_rules.specs.inner.Mirrors.{IsMirrored, KeepsEngine, AreWithin}
 use Rattle.pb_rules.proofs.SlotLemmas.{live_constraints-slots, constraint_at-slot, length-placed_from}
@@ -381,6 +382,19 @@ within-more vars most n ts le same h = λ k d below. omega (arith, h k d below, 
 
 pub slots-more : (vars most n : ℕ) (ss : List Slot) → vars ≤ most → n ≡ most → AreWithin vars ss → AreWithin n ss
 slots-more vars most n ss le same h = λ k c e. within-more vars most n c.terms le same (h k c e)
+
+-- the same of the constraints of ids
+pub listed-within : (vars : ℕ) (ss : List Slot) (ids : List ℕ) → AreWithin vars ss → AreVarsWithin vars (listed_slots ss ids)
+listed-within vars ss [] h = All-nil (λ (c : Constraint). HasVarsWithin vars c.terms)
+listed-within vars ss (id ∷ ids) h = one (slot_of ss id).constraint (at id) (listed-within vars ss ids h)
+  where
+    at : (id : ℕ) (c : Constraint) → (slot_of ss id).constraint ≡ Some c → HasVarsWithin vars c.terms
+    at zero c e = absurd (some-none c (sym e))
+    at (suc k) c e = h k c e
+
+    one : (o : Option Constraint) → ((c : Constraint) → o ≡ Some c → HasVarsWithin vars c.terms) → AreVarsWithin vars (listed_slots ss ids) → AreVarsWithin vars (cons_option o (listed_slots ss ids))
+    one None f rest = rest
+    one (Some c) f rest = All-cons (λ (d : Constraint). HasVarsWithin vars d.terms) c (listed_slots ss ids) (f c refl) rest
 
 -- ---- an engine at the start
 

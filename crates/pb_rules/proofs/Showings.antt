@@ -2,9 +2,8 @@
 use Rattle.std.proofs.Common.{◌≡◌, ◌≤◌, ◌<◌, ◌+◌, inl, inr, ℕ, Bool, true, false, List, [], ◌∷◌, ◌++◌, length, length-append, arith, refl, ap, sym, ◌∙◌, subst, take, drop, get_or}
 use Rattle.std.specs.Prelude.{Contains}
 use Rattle.std.specs.Bool.{OnTrue, OnFalse}
-use Rattle.std.proofs.lemmas.List.Elements.{Contains-append_left, Contains-append_right, Contains-append_cases, filter_map-append}
-use Rattle.std.proofs.lemmas.List.{take-append-drop, take_all}
-use Rattle.std.specs.Option.{option_to_list}
+use Rattle.std.proofs.lemmas.List.Elements.{Contains-append_left, Contains-append_right, Contains-append_cases}
+use Rattle.std.proofs.lemmas.List.{take-append-drop, take_all, take_more}
 use Rattle.pb_base.specs.declared.literal.Lit.{Lit}
 use Rattle.pb_base.proofs.Members.{Contains-here, Contains-cons_cases, Contains-nil}
 use Rattle.pb_norm.specs.Constraints.{Constraint}
@@ -16,10 +15,7 @@ use Rattle.pb_unit.specs.Steps.{Advances, IsCalm}
 use Rattle.pb_unit.proofs.Visits.{stays, then}
 use Rattle.pb_unit.proofs.Answering.{fixed_over}
 use Rattle.pb_rules.specs.inner.Mirrors.{TellsConflict}
-use Rattle.pb_rules.specs.declared.slots.Slot.{Slot}
-use Rattle.pb_rules.specs.inner.Slots.{slot_of, listed_slots}
 use Rattle.pb_rules.specs.inner.Showing.{Shows}
-use Rattle.pb_rules.proofs.SlotLemmas.{pushed_more}
 
 nothing_before : (more before : List Lit) → length (more ++ before) ≡ length before → more ++ before ≡ before
 nothing_before [] before e = refl
@@ -112,32 +108,29 @@ pub shows_first : (enough rest : Bool) (c : Constraint) (cs : List Constraint) (
 shows_first enough rest c cs before mid after e advances calm short more =
     shows_then rest (c ∷ []) cs before mid after (subst (λ (b : Bool). Shows b (c ∷ []) before mid) e (shows_one enough c before mid advances calm short)) more
 
-listed_more : (ss : List Slot) (ids : List ℕ) (i : ℕ) → i < length ids → listed_slots ss (take (i + 1) ids) ≡ listed_slots ss (take i ids) ++ option_to_list (slot_of ss (get_or ids i 0)).constraint
-listed_more ss ids i below =
-    let front = listed_slots ss (take i ids) in
-    sym (pushed_more (λ (id : ℕ). (slot_of ss id).constraint) [] front (front ++ option_to_list (slot_of ss (get_or ids i 0)).constraint) ids i (get_or ids i 0) 0 below refl refl refl)
+one_more : (cs : List Constraint) (i : ℕ) (c : Constraint) → i < length cs → c ≡ get_or cs i c → take (i + 1) cs ≡ take i cs ++ c ∷ []
+one_more cs i c below at = take_more cs i c below ∙ ap (λ (d : Constraint). take i cs ++ d ∷ []) (sym at)
 
-listed_parts : (ss : List Slot) (ids : List ℕ) (n : ℕ) → listed_slots ss ids ≡ listed_slots ss (take n ids) ++ listed_slots ss (drop n ids)
-listed_parts ss ids n = ap (listed_slots ss) (sym (take-append-drop n ids)) ∙ filter_map-append (λ (id : ℕ). (slot_of ss id).constraint) (take n ids) (drop n ids)
-
-shows_next : (enough t : Bool) (ss : List Slot) (ids : List ℕ) (i : ℕ) (a b c : List Lit) → i < length ids → enough ≡ t → Shows true (listed_slots ss (take i ids)) a b → Shows enough (option_to_list (slot_of ss (get_or ids i 0)).constraint) b c → Shows t (listed_slots ss (take (i + 1) ids)) a c
-shows_next enough t ss ids i a b c below e f g =
-    let one = option_to_list (slot_of ss (get_or ids i 0)).constraint in
-    subst (λ (cs : List Constraint). Shows t cs a c) (sym (listed_more ss ids i below))
-    (shows_then t (listed_slots ss (take i ids)) one a b c f (subst (λ (x : Bool). Shows x one b c) e g))
+shows_next : (enough t : Bool) (cs : List Constraint) (i : ℕ) (c : Constraint) (before mid after : List Lit) → i < length cs → c ≡ get_or cs i c → enough ≡ t → Shows true (take i cs) before mid
+    → ((ds : List Constraint) (given : List Lit) → Contains ds c → Advances ds given mid after) → OnTrue enough (IsCalm (room mid c.terms) after c) → OnFalse enough (room after c.terms < c.degree) → Shows t (take (i + 1) cs) before after
+shows_next enough t cs i c before mid after below at e f advances calm short =
+    subst (λ (ds : List Constraint). Shows t ds before after) (sym (one_more cs i c below at))
+    (shows_then t (take i cs) (c ∷ []) before mid after f (subst (λ (x : Bool). Shows x (c ∷ []) mid after) e (shows_one enough c mid after advances calm short)))
 
 -- one more has room enough
-pub shows_more : (enough : Bool) (ss : List Slot) (ids : List ℕ) (i : ℕ) (a b c : List Lit) → i < length ids → enough ≡ true → Shows true (listed_slots ss (take i ids)) a b → Shows enough (option_to_list (slot_of ss (get_or ids i 0)).constraint) b c → Shows true (listed_slots ss (take (i + 1) ids)) a c
+pub shows_more : (enough : Bool) (cs : List Constraint) (i : ℕ) (c : Constraint) (before mid after : List Lit) → i < length cs → c ≡ get_or cs i c → enough ≡ true → Shows true (take i cs) before mid
+    → ((ds : List Constraint) (given : List Lit) → Contains ds c → Advances ds given mid after) → OnTrue enough (IsCalm (room mid c.terms) after c) → OnFalse enough (room after c.terms < c.degree) → Shows true (take (i + 1) cs) before after
 shows_more enough = shows_next enough true
 
 -- one more has too little
-pub shows_no_more : (enough : Bool) (ss : List Slot) (ids : List ℕ) (i : ℕ) (a b c : List Lit) → i < length ids → enough ≡ false → Shows true (listed_slots ss (take i ids)) a b → Shows enough (option_to_list (slot_of ss (get_or ids i 0)).constraint) b c → Shows false (listed_slots ss ids) a c
-shows_no_more enough ss ids i a b c below e f g =
-    subst (λ (cs : List Constraint). Shows false cs a c) (sym (listed_parts ss ids (i + 1)))
-    (shows_short (listed_slots ss (take (i + 1) ids)) (listed_slots ss (drop (i + 1) ids)) a c (shows_next enough false ss ids i a b c below e f g))
+pub shows_no_more : (enough : Bool) (cs : List Constraint) (i : ℕ) (c : Constraint) (before mid after : List Lit) → i < length cs → c ≡ get_or cs i c → enough ≡ false → Shows true (take i cs) before mid
+    → ((ds : List Constraint) (given : List Lit) → Contains ds c → Advances ds given mid after) → OnTrue enough (IsCalm (room mid c.terms) after c) → OnFalse enough (room after c.terms < c.degree) → Shows false cs before after
+shows_no_more enough cs i c before mid after below at e f advances calm short =
+    subst (λ (ds : List Constraint). Shows false ds before after) (take-append-drop (i + 1) cs)
+    (shows_short (take (i + 1) cs) (drop (i + 1) cs) before after (shows_next enough false cs i c before mid after below at e f advances calm short))
 
-pub shows_all : (ss : List Slot) (ids : List ℕ) (i : ℕ) (a b : List Lit) → length ids ≤ i → Shows true (listed_slots ss (take i ids)) a b → Shows true (listed_slots ss ids) a b
-shows_all ss ids i a b past f = subst (λ (js : List ℕ). Shows true (listed_slots ss js) a b) (take_all i ids past) f
+pub shows_all : (cs : List Constraint) (i : ℕ) (before after : List Lit) → length cs ≤ i → Shows true (take i cs) before after → Shows true cs before after
+shows_all cs i before after past f = subst (λ (ds : List Constraint). Shows true ds before after) (take_all i cs past) f
 
 -- ---- what that tells
 

@@ -9,3 +9,6 @@ pub mod Showing
 pub mod Slots
 pub mod Sound
 pub mod Tops
+pub mod Packing
+pub mod ShortLits
+pub mod Units

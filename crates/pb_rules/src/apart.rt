@@ -29,12 +29,13 @@ pub(crate) fn two(alloc: Global, first: &Linear, second: &Linear) -> Result<Cons
 }
 
 // Adds the constraint of a slot, if it has one.
-fn push_slot(slot: &Slot, list: &mut Constraints) -> Result<(), NoMemory>
+fn push_slot(alloc: Global, slot: &Slot, list: &mut Constraints) -> Result<(), NoMemory>
     ensures { OnOk result (list.new ≡ list.old ++ option_to_list slot.now.constraint) }
 {
     match &slot.constraint {
-        Some(alone) => {
-            list.push(alone.get())?;
+        Some(packed) => {
+            let constraint = packed.read(alloc)?;
+            list.push(&constraint)?;
             Ok(())
         }
         None => Ok(()),
@@ -42,22 +43,23 @@ fn push_slot(slot: &Slot, list: &mut Constraints) -> Result<(), NoMemory>
 }
 
 // Adds the constraints of slots.
-fn push_slots(slots: &[Slot], list: &mut Constraints) -> Result<(), NoMemory>
+fn push_slots(alloc: Global, slots: &[Slot], list: &mut Constraints) -> Result<(), NoMemory>
     ensures { OnOk result (list.new ≡ list.old ++ filter_map (λ s. s.constraint) slots.now) }
 {
     for slot in slots {
-        push_slot(slot, list)?;
+        push_slot(alloc, slot, list)?;
     }
     Ok(())
 }
 
 // Adds the constraint with an id, if it stands.
-fn push_at(slots: &[Slot], id: u64, list: &mut Constraints) -> Result<(), NoMemory>
+fn push_at(alloc: Global, slots: &[Slot], id: u64, list: &mut Constraints) -> Result<(), NoMemory>
     ensures { OnOk result (list.new ≡ list.old ++ option_to_list (slot_of slots.now id).constraint) }
 {
     match slots::constraint_at(slots, id) {
-        Some(constraint) => {
-            list.push(constraint)?;
+        Some(packed) => {
+            let constraint = packed.read(alloc)?;
+            list.push(&constraint)?;
             Ok(())
         }
         None => Ok(()),
@@ -65,11 +67,16 @@ fn push_at(slots: &[Slot], id: u64, list: &mut Constraints) -> Result<(), NoMemo
 }
 
 // Adds the constraints with the ids.
-fn push_listed(slots: &[Slot], ids: &[u64], list: &mut Constraints) -> Result<(), NoMemory>
+fn push_listed(
+    alloc: Global,
+    slots: &[Slot],
+    ids: &[u64],
+    list: &mut Constraints,
+) -> Result<(), NoMemory>
     ensures { OnOk result (list.new ≡ list.old ++ listed_slots slots.now ids.now) }
 {
     for id in ids {
-        push_at(slots, *id, list)?;
+        push_at(alloc, slots, *id, list)?;
     }
     Ok(())
 }
@@ -83,7 +90,7 @@ pub(crate) fn is_refuted_with_all(
     ensures { IfOk result (TellsConflict (front ++ filter_map (λ s. s.constraint) slots.now)) }
 {
     let mut list = front;
-    push_slots(slots, &mut list)?;
+    push_slots(alloc, slots, &mut list)?;
     let found = is_conflicting(alloc, &list)?;
     Ok(found)
 }
@@ -98,7 +105,7 @@ pub(crate) fn is_refuted_with_listed(
     ensures { IfOk result (TellsConflict (front ++ listed_slots slots.now ids.now)) }
 {
     let mut list = front;
-    push_listed(slots, ids, &mut list)?;
+    push_listed(alloc, slots, ids, &mut list)?;
     let found = is_conflicting(alloc, &list)?;
     Ok(found)
 }

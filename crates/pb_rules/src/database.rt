@@ -15,6 +15,7 @@ use crate::apart::{self, is_refuted_with_all, is_refuted_with_listed};
 use crate::entering::{enter_rest, leave};
 use crate::index::{self, Named};
 use crate::listed::is_refuted_by;
+use crate::packed::Packed;
 use crate::refutation::{is_refuted_with, is_refuted_with_both};
 use crate::rounds::is_refuted_by_few;
 use crate::slots::{self, Slot};
@@ -202,7 +203,7 @@ impl Database {
     }
 
     /// The constraint with an id.
-    pub(crate) fn constraint_at(&self, id: u64) -> Option<&Linear>
+    pub(crate) fn constraint_at(&self, id: u64) -> Option<&Packed>
         ensures found { option_copied result ≡ constraint_at self.now.live id }
         ensures sound { IsDatabase self.now }
     {
@@ -265,7 +266,12 @@ impl Database {
             let found = self.refutes_apart(front)?;
             return Ok(found);
         }
-        if !enter_rest(&mut self.engine, &mut self.slots, &mut self.entered) {
+        if !enter_rest(
+            self.alloc,
+            &mut self.engine,
+            &mut self.slots,
+            &mut self.entered,
+        ) {
             return Err(NoMemory);
         }
         is_refuted_with(&mut self.engine, more)
@@ -283,7 +289,12 @@ impl Database {
             let found = self.refutes_apart(front)?;
             return Ok(found);
         }
-        if !enter_rest(&mut self.engine, &mut self.slots, &mut self.entered) {
+        if !enter_rest(
+            self.alloc,
+            &mut self.engine,
+            &mut self.slots,
+            &mut self.entered,
+        ) {
             return Err(NoMemory);
         }
         is_refuted_with_both(&mut self.engine, first, second)
@@ -300,14 +311,20 @@ impl Database {
             let found = is_refuted_with_listed(self.alloc, front, &self.slots, ids)?;
             return Ok(found);
         }
-        if let Some(found) = is_refuted_by_few(&mut self.rounds, &self.slots, more, ids) {
+        if let Some(found) = is_refuted_by_few(
+            self.alloc,
+            &mut self.rounds,
+            &self.slots,
+            more,
+            ids,
+        ) {
             return Ok(found);
         }
         is_refuted_by(self.alloc, &mut self.idle, &self.slots, more, ids)
     }
 
     /// Ids, among them those of all constraints that have the variable.
-    pub(crate) fn ids_of(&self, var: Var) -> &[u64]
+    pub(crate) fn ids_of(&self, var: Var) -> &[u32]
         ensures { HasNaming self.now.live var result.now }
     {
         index::ids_of(&self.named, var)
@@ -334,11 +351,11 @@ impl Database {
         ensures { self.new ≡ reduced self.old (id ∷ []) }
     {
         let gone = slots::take(&mut self.slots, id);
-        let place = gone.place;
+        let place = gone.place as u64;
         match gone.constraint {
-            Some(alone) => {
+            Some(packed) => {
                 leave(&mut self.engine, self.entered, id, place);
-                let left = index::leave(&mut self.named, alone.get().terms(), id);
+                let left = packed.unlist(&mut self.named, id);
                 self.left = self.left.saturating_add(left);
             }
             None => {}

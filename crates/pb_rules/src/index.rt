@@ -5,16 +5,17 @@ ghost use Rattle.pb_norm.specs.Constraints.{weights};
 ghost use Rattle.pb_rules.specs.inner.Slots.{slot_of};
 ghost use Rattle.pb_rules.specs.inner.Indexed.{ids_at, ids_of, KeepsIds, LosesId, IsIndexed};
 
+use crate::short_lit::ShortLit;
 use crate::slots::{self, Slot};
 use pb_base::{NoMemory, Term, Var};
 use pb_unit::newest_that;
 use std::alloc::Global;
 use std::marker::Model;
 
-/// The ids that are listed for a variable, in the order in which they came.
+/// The ids that are listed for a variable, in the order in which they came. They take four bytes each: there is no memory for more slots than that.
 #[derive(Drop)]
 pub(crate) struct Named {
-    items: Vec<u64>,
+    items: Vec<u32>,
 }
 
 impl Model for Named {
@@ -26,12 +27,12 @@ impl Model for Named {
 }
 
 // Whether an id is older than the newest ones. Ids come ascending, so one look at the eighth newest tells it; nothing is true by this.
-fn is_older(items: &[u64], id: u64) -> bool {
+fn is_older(items: &[u32], id: u32) -> bool {
     items.len() > 8 && items[items.len() - 8] > id
 }
 
 // Where an id is among the newest, if it is.
-fn newest_at(items: &[u64], id: u64) -> Option<usize>
+fn newest_at(items: &[u32], id: u32) -> Option<usize>
     ensures below { IfSome result (λ i. i < length items.now) }
     ensures at { IfSome result (λ i. (d : ℕ) → slice_index_or items.now i d ≡ id) }
 {
@@ -47,7 +48,10 @@ impl Named {
         ensures ok { OnOk result (self.new ≡ self.old ++ id ∷ []) }
         ensures err { OnErr result (self.new ≡ self.old) }
     {
-        self.items.push(id)?;
+        if id > u32::MAX as u64 {
+            return Err(NoMemory);
+        }
+        self.items.push(id as u32)?;
         Ok(())
     }
 
@@ -55,7 +59,10 @@ impl Named {
     fn take(&mut self, id: u64) -> bool
         ensures { (k : ℕ) → (k ≡ id → ⊥) → Contains self.old k → Contains self.new k }
     {
-        match newest_at(&self.items, id) {
+        if id > u32::MAX as u64 {
+            return false;
+        }
+        match newest_at(&self.items, id as u32) {
             Some(index) => {
                 self.items.remove(index);
                 true
@@ -68,10 +75,10 @@ impl Named {
     fn sweep(&mut self, slots: &[Slot])
         ensures { self.new ≡ filter (λ id. is_some (slot_of slots.now id).constraint) self.old }
     {
-        self.items.retain(|id| slots::stands(slots, *id));
+        self.items.retain(|id| slots::stands(slots, *id as u64));
     }
 
-    fn as_slice(&self) -> &[u64]
+    fn as_slice(&self) -> &[u32]
         ensures { result.now ≡ self.now }
     {
         self.items.as_slice()
@@ -154,6 +161,21 @@ pub(crate) fn leave(lists: &mut Vec<Named>, terms: &[Term], id: u64) -> usize
     left
 }
 
+/// The same of the variables of literals.
+pub(crate) fn leave_lits(lists: &mut Vec<Named>, lits: &[ShortLit], id: u64) -> usize
+    requires { 0 < length lists.old.items }
+    ensures { LosesId id lists.old.items lists.new.items }
+{
+    let count = lists.len();
+    let mut left: usize = 0;
+    for lit in lits {
+        if !take_one(lists, number_in(count, lit.get().index()), id) {
+            left = left.saturating_add(1);
+        }
+    }
+    left
+}
+
 // Lists only ids whose constraints stand.
 fn sweep(lists: &mut [Named], slots: &[Slot])
     ensures { (v : ℕ) → ids_at lists.new v ≡ filter (λ id. is_some (slot_of slots.now id).constraint) (ids_at lists.old v) }
@@ -183,7 +205,7 @@ pub(crate) fn sweep_if(due: bool, lists: &mut Vec<Named>, slots: &[Slot])
 }
 
 /// The ids that are listed for a variable.
-pub(crate) fn ids_of(lists: &[Named], var: Var) -> &[u64]
+pub(crate) fn ids_of(lists: &[Named], var: Var) -> &[u32]
     requires { 0 < length lists.now }
     ensures { result.now ≡ ids_of lists.now var }
 {

@@ -12,12 +12,14 @@ mod index;
 mod listed;
 mod naming;
 mod out;
+mod packed;
 mod pol;
 mod red;
 mod refutation;
 mod rounds;
 mod rows;
 mod rup;
+mod short_lit;
 mod slots;
 
 pub use apply::Applied;

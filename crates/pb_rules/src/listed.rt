@@ -33,27 +33,42 @@ fn join(engine: &mut Engine, places: &mut Vec<u64>, constraint: &Linear) -> bool
 }
 
 // Adds the constraint with an id, if it stands and there is memory.
-fn join_at(engine: &mut Engine, places: &mut Vec<u64>, slots: &[Slot], id: u64) -> bool
+fn join_at(
+    alloc: Global,
+    engine: &mut Engine,
+    places: &mut Vec<u64>,
+    slots: &[Slot],
+    id: u64,
+) -> bool
     requires within { AreWithin engine.old.vars slots.now }
     requires covered { IsCovered engine.old.vars places.old.items engine.old }
     ensures covered { IsCovered engine.old.vars places.new.items engine.new }
     ensures joined { OnTrue result ((cs : List Constraint) → HasJust cs engine.old → HasJust (cs ++ option_to_list (slot_of slots.now id).constraint) engine.new) }
 {
-    match slots::constraint_at(slots, id) {
-        Some(constraint) => join(engine, places, constraint),
-        None => true,
+    let Some(found) = slots::constraint_at(slots, id) else {
+        return true
+    };
+    match found.read(alloc) {
+        Ok(constraint) => join(engine, places, &constraint),
+        Err(NoMemory) => false,
     }
 }
 
 // Adds the constraints with the ids, if there is memory.
-fn join_listed(engine: &mut Engine, places: &mut Vec<u64>, slots: &[Slot], ids: &[u64]) -> bool
+fn join_listed(
+    alloc: Global,
+    engine: &mut Engine,
+    places: &mut Vec<u64>,
+    slots: &[Slot],
+    ids: &[u64],
+) -> bool
     requires within { AreWithin engine.old.vars slots.now }
     requires covered { IsCovered engine.old.vars places.old.items engine.old }
     ensures covered { IsCovered engine.old.vars places.new.items engine.new }
     ensures joined { OnTrue result ((cs : List Constraint) → HasJust cs engine.old → HasJust (cs ++ listed_slots slots.now ids.now) engine.new) }
 {
     for id in ids {
-        if !join_at(engine, places, slots, *id) {
+        if !join_at(alloc, engine, places, slots, *id) {
             return false;
         }
     }
@@ -72,6 +87,7 @@ fn leave(engine: &mut Engine, places: &mut Vec<u64>)
 
 // Adds a constraint and those with the ids, if there is memory.
 fn join_all(
+    alloc: Global,
     engine: &mut Engine,
     places: &mut Vec<u64>,
     slots: &[Slot],
@@ -88,7 +104,7 @@ fn join_all(
     if !join(engine, places, more) {
         return false;
     }
-    join_listed(engine, places, slots, ids)
+    join_listed(alloc, engine, places, slots, ids)
 }
 
 /// Whether propagation over a constraint and those with the ids reaches a conflict. They are taken away again.
@@ -106,7 +122,7 @@ pub(crate) fn is_refuted_by(
     ensures answer { IfOk result (TellsConflict (more.now ∷ listed_slots slots.now ids.now)) }
 {
     let mut places = Vec::new(alloc);
-    let joined = join_all(engine, &mut places, slots, more, ids);
+    let joined = join_all(alloc, engine, &mut places, slots, more, ids);
     let outcome = engine.propagate();
     leave(engine, &mut places);
     if !joined {

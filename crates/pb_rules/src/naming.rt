@@ -1,19 +1,10 @@
 //! Constraints by the variables that they have.
 ghost use Rattle.std.specs.Prelude.{◌≡◌, ◌∷◌, ◌++◌, [], ℕ, List, MatchOption};
-ghost use Rattle.std.specs.List.{list_any};
-ghost use Rattle.pb_norm.specs.inner.Kept.{on_weight};
-ghost use Rattle.pb_rules.specs.Naming.{is_of, names_at, IsUnnamed, IsFirstNaming};
+ghost use Rattle.pb_rules.specs.Naming.{names_at, IsUnnamed, IsFirstNaming};
 ghost use Rattle.pb_rules.specs.inner.Indexed.{IsLeast, IsNaming, lesser};
 
 use crate::database::Database;
-use pb_base::{Term, Var};
-
-// Whether some term is of the variable.
-fn has_var(terms: &[Term], var: Var) -> bool
-    ensures { result ≡ list_any (on_weight (is_of var)) terms.now }
-{
-    terms.iter().any(|term| term.lit.var == var)
-}
+use pb_base::Var;
 
 // The id, or what was found before where that is not greater.
 fn lesser_id(best: Option<u64>, id: u64) -> Option<u64>
@@ -31,7 +22,7 @@ impl Database {
         ensures { result ≡ names_at self.now.live var id }
     {
         match self.constraint_at(id) {
-            Some(constraint) => has_var(constraint.terms(), var),
+            Some(constraint) => constraint.names(var),
             None => false,
         }
     }
@@ -55,7 +46,7 @@ impl Database {
     {
         let mut best = None;
         for id in self.ids_of(var) {
-            best = self.earlier_naming(best, *id, var, from);
+            best = self.earlier_naming(best, *id as u64, var, from);
         }
         best
     }

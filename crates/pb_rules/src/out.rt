@@ -9,8 +9,6 @@ ghost use Rattle.pb_rules.specs.Faults.{IsFault};
 use crate::database::Database;
 use crate::fault::RuleFault;
 use pb_base::Clause;
-use pb_norm::clause_form;
-use pb_operations::implies;
 use pb_steps::Denied;
 
 /// Tests whether the constraint with an id gives the next clause.
@@ -24,8 +22,7 @@ pub(crate) fn test(db: &Database, id: u64, next: Option<&Clause>) -> Result<(), 
     let Some(clause) = next else {
         return Err(RuleFault::Denied(Denied::NoClause))
     };
-    let form = clause_form(db.alloc(), clause)?;
-    if !implies(found, &form) {
+    if !found.gives(db.alloc(), clause)? {
         return Err(RuleFault::Denied(Denied::NotImplied { id }));
     }
     Ok(())

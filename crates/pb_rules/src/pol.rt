@@ -205,7 +205,7 @@ fn push_at(db: &Database, id: u64, stack: &mut Vec<Linear>) -> Result<bool, NoMe
     let Some(found) = db.constraint_at(id) else {
         return Ok(false)
     };
-    let copy = found.copy(db.alloc())?;
+    let copy = found.read(db.alloc())?;
     push_onto(stack, Some(copy))
 }
 

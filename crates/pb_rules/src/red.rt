@@ -106,13 +106,15 @@ fn goal_of(db: &Database, sets: &[Set], id: u64) -> Result<Option<Linear>, NoMem
     ensures narrow { IfOk result (λ goal. IfSome goal IsNarrow) }
     ensures within { IfOk result (λ goal. IfSome goal (λ c. HasVarsWithin db.now.vars c.terms)) }
 {
-    match db.constraint_at(id) {
-        Some(constraint) if names_set(sets, constraint) => {
-            let goal = restriction(db.alloc(), sets, constraint)?;
-            Ok(Some(goal))
-        }
-        _ => Ok(None),
+    let Some(found) = db.constraint_at(id) else {
+        return Ok(None)
+    };
+    let constraint = found.read(db.alloc())?;
+    if !names_set(sets, &constraint) {
+        return Ok(None);
     }
+    let goal = restriction(db.alloc(), sets, &constraint)?;
+    Ok(Some(goal))
 }
 
 // Whether the constraint with an id, if it has a set variable, is met.
@@ -130,11 +132,11 @@ fn slot_is_met(db: &mut Database, claim: &Linear, sets: &[Set], id: u64) -> Resu
 }
 
 // Adds ids to a list.
-fn push_ids(ids: &[u64], list: &mut Vec<u64>) -> Result<(), NoMemory>
+fn push_ids(ids: &[u32], list: &mut Vec<u64>) -> Result<(), NoMemory>
     ensures { OnOk result (list.new.items ≡ list.old.items ++ ids.now) }
 {
     for id in ids {
-        list.push(*id)?;
+        list.push(*id as u64)?;
     }
     Ok(())
 }

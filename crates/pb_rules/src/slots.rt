@@ -1,50 +1,19 @@
 //! Constraints by their ids.
 ghost use Rattle.std.specs.Prelude.{◌≡◌, ◌<◌, ◌++◌, ◌∷◌, [], IfOk, OnOk, OnErr, is_some, length};
-ghost use Rattle.std.specs.Option.{option_copied};
-ghost use Rattle.pb_rules.specs.inner.Slots.{whole, slot_of, slot_is_out, slots_without, slots_placed, marked_slots};
+ghost use Rattle.std.specs.Option.{option_copied, option_to_list};
+ghost use Rattle.pb_rules.specs.inner.Slots.{whole, slot_of, listed_slots, slot_is_out, slots_without, slots_placed, marked_slots};
 
+use crate::packed::Packed;
 use pb_base::NoMemory;
 use pb_norm::Linear;
 use std::alloc::Global;
-use std::marker::Model;
 use std::mem;
 
-/// A constraint in memory of its own, so that an id takes little.
-#[derive(Drop)]
-pub(crate) struct Alone {
-    inner: Box<Linear>,
-}
-
-impl Model for Alone {
-    ghost use Rattle.pb_norm.specs.Constraints.{Constraint};
-
-    ghost Value = { Constraint };
-
-    ghost view = { λ a. a.inner.value };
-}
-
-impl Alone {
-    /// A constraint in memory of its own.
-    pub(crate) fn new(alloc: Global, constraint: Linear) -> Result<Alone, NoMemory>
-        ensures { IfOk result (λ alone. alone ≡ constraint) }
-    {
-        let inner = Box::new(alloc, constraint)?;
-        Ok(Alone { inner })
-    }
-
-    /// The constraint.
-    pub(crate) fn get(&self) -> &Linear
-        ensures { result.now ≡ self.now }
-    {
-        &self.inner
-    }
-}
-
-/// The constraint of an id, if it stands, its place in the engine, and whether it was put out.
+/// The constraint of an id, if it stands, its place in the engine, and whether it was put out: two words.
 #[derive(Drop)]
 pub(crate) struct Slot {
-    pub(crate) constraint: Option<Alone>,
-    pub(crate) place: u64,
+    pub(crate) constraint: Option<Packed>,
+    pub(crate) place: u32,
     pub(crate) out: bool,
 }
 
@@ -58,17 +27,20 @@ pub(crate) fn push(
     ensures ok { OnOk result (slots.new.items ≡ slots.old.items ++ whole constraint place ∷ []) }
     ensures err { OnErr result (slots.new.items ≡ slots.old.items) }
 {
-    let alone = Alone::new(alloc, constraint)?;
+    if place > u32::MAX as u64 {
+        return Err(NoMemory);
+    }
+    let packed = Packed::new(alloc, constraint)?;
     slots.push(Slot {
-        constraint: Some(alone),
-        place,
+        constraint: Some(packed),
+        place: place as u32,
         out: false,
     })?;
     Ok(())
 }
 
 /// The constraint with an id.
-pub(crate) fn constraint_at(slots: &[Slot], id: u64) -> Option<&Linear>
+pub(crate) fn constraint_at(slots: &[Slot], id: u64) -> Option<&Packed>
     ensures { option_copied result ≡ (slot_of slots.now id).constraint }
 {
     if id == 0 {
@@ -76,11 +48,36 @@ pub(crate) fn constraint_at(slots: &[Slot], id: u64) -> Option<&Linear>
     }
     match slots.get((id - 1) as usize) {
         Some(slot) => match &slot.constraint {
-            Some(alone) => Some(alone.get()),
+            Some(packed) => Some(packed),
             None => None,
         },
         None => None,
     }
+}
+
+// Adds the constraint with an id to a list, if it stands.
+fn push_at(alloc: Global, slots: &[Slot], id: u64, list: &mut Vec<Linear>) -> Result<(), NoMemory>
+    ensures { OnOk result (list.new.items ≡ list.old.items ++ option_to_list (slot_of slots.now id).constraint) }
+{
+    match constraint_at(slots, id) {
+        Some(packed) => {
+            let constraint = packed.read(alloc)?;
+            list.push(constraint)?;
+            Ok(())
+        }
+        None => Ok(()),
+    }
+}
+
+/// The constraints with the ids, as far as they stand.
+pub(crate) fn listed(alloc: Global, slots: &[Slot], ids: &[u64]) -> Result<Vec<Linear>, NoMemory>
+    ensures { IfOk result (λ list. list.items ≡ listed_slots slots.now ids.now) }
+{
+    let mut list = Vec::with_capacity(alloc, ids.len())?;
+    for id in ids {
+        push_at(alloc, slots, *id, &mut list)?;
+    }
+    Ok(list)
 }
 
 /// Whether a constraint stands under an id.
@@ -120,7 +117,7 @@ pub(crate) fn take(slots: &mut Vec<Slot>, id: u64) -> Slot
 }
 
 /// Notes the place of a slot's constraint.
-pub(crate) fn set_place(slots: &mut Vec<Slot>, index: usize, place: u64)
+pub(crate) fn set_place(slots: &mut Vec<Slot>, index: usize, place: u32)
     requires { index < length slots.old.items }
     ensures { slots.new.items ≡ slots_placed slots.old.items index place }
 {

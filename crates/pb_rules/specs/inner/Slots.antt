@@ -1,5 +1,5 @@
 -- Constraints by their ids, as the code keeps them: the one with id 1 first, and a hole where one was taken away.
-use Rattle.std.specs.Prelude.{◌+◌, ℕ, zero, suc, Bool, false, List, [], ◌∷◌, Option, Some, None, length, slice_index_or, slice_set, is_some, true, ◌&&◌, filter_map}
+use Rattle.std.specs.Prelude.{◌≡◌, ◌+◌, ℕ, zero, suc, Bool, false, List, [], ◌∷◌, Option, Some, None, length, slice_index_or, slice_set, is_some, true, ◌&&◌, filter_map}
 use Rattle.std.specs.Option.{option_map}
 use Rattle.pb_norm.specs.Constraints.{Constraint}
 use Rattle.pb_steps.specs.Database.{Entry, Database}
@@ -46,6 +46,11 @@ slot_is_out s = is_some s.constraint && s.out
 abbrev pub slots_without : List Slot → ℕ → List Slot
 slots_without ss zero = ss
 slots_without ss (suc k) = slice_set ss k hole
+
+-- the slot of an id, whose constraint is at the place, becomes a hole
+pub record LeavesSlot (before : List Slot) (id place : ℕ) (after : List Slot) : Type 0 where
+  pub hole_left : after ≡ slots_without before id
+  pub at : Some place ≡ place_of (slot_of before id)
 
 -- the constraint of an id is marked
 abbrev pub marked_slots : List Slot → ℕ → List Slot

@@ -1,13 +1,11 @@
-use Rattle.std.proofs.Common.{◌≡◌, ℕ, Ok, ap, subst}
-use Rattle.std.specs.Prelude.{IfOk, IfErr}
+use Rattle.std.proofs.Common.{◌≡◌, ℕ, List, Ok, ap, subst, sym}
+use Rattle.pb_base.specs.declared.literal.Lit.{Lit}
 use Rattle.pb_desk.specs.Desk.{IfTold}
 use Rattle.pb_desk.specs.TwoSlots.{TakesBoth}
 use Rattle.pb_desk.specs.LineReaders.{Reader}
 use Rattle.pb_desk.proofs.BothSlots.{takes_none}
 use Rattle.pb_dimacs.specs.CnfReaders.{CnfReader}
-use Rattle.pb_check.specs.declared.verdict.Verdict.TheVariants.{Accepted}
 use Rattle.pb_check.specs.KeptClauses.{HasVars, SaysClauses}
-use Rattle.pb_check.specs.Outcomes.{StopsCheck}
 use Rattle.pb_check.specs.Walk.{Walk}
 use Rattle.pb_check.proofs.WholeRuns.{apart_new, cnf_of_slot, lines_of_slot}
 use Rattle.pb_check.proofs.checking.check_by.Goals as goal
@@ -25,36 +23,33 @@ returns-in_default-new-clause-stopped g c = takes_none c.args.cnf c.args.proof (
 pub returns-in_default-new-2-clause-stopped : goal.returns-in_default-new-2-clause-stopped
 returns-in_default-new-2-clause-stopped g c = takes_none c.args.cnf c.args.proof (g.D.Desk.state c.args.desk.now)
 
-pub check_texts-requires-clause-cnf_new : goal.check_texts-requires-clause-cnf_new
-check_texts-requires-clause-cnf_new g c = cnf_of_slot c.args.cnf c.in-Ok-new.clauses c.in-Ok-new.ensures
+pub invariant_of-session : goal.invariant_of-session
+invariant_of-session g c = record {
+  apart = apart_new c.args.cnf c.args.proof c.in-Ok-new.clauses c.in-Ok-new-2.lines (record { cnf_new = c.in-Ok-new.ensures; proof_new = c.in-Ok-new-2.ensures }) c.requires.apart;
+}
 
-pub check_texts-requires-clause-lines_new : goal.check_texts-requires-clause-lines_new
-check_texts-requires-clause-lines_new g c = lines_of_slot c.args.proof c.in-Ok-new-2.lines c.in-Ok-new-2.ensures
+pub check_texts-requires-clause-new : goal.check_texts-requires-clause-new
+check_texts-requires-clause-new g c = record {
+  cnf_new = cnf_of_slot c.args.cnf c.in-Ok-new.clauses c.in-Ok-new.ensures;
+  lines_new = lines_of_slot c.args.proof c.in-Ok-new-2.lines c.in-Ok-new-2.ensures;
+  nothing = c.requires.nothing;
+}
 
-pub check_texts-requires-clause-apart : goal.check_texts-requires-clause-apart
-check_texts-requires-clause-apart g c =
-    apart_new c.args.cnf c.args.proof c.in-Ok-new.clauses c.in-Ok-new-2.lines (record { cnf_new = c.in-Ok-new.ensures; proof_new = c.in-Ok-new-2.ensures }) c.requires.apart
-
-pub returns-clause-verdict : goal.returns-clause-verdict
-returns-clause-verdict g c =
+pub returns-in-Ok-check_texts-clause-verdict : goal.returns-in-Ok-check_texts-clause-verdict
+returns-in-Ok-check_texts-clause-verdict g c =
     let a = g.D.Desk.state c.args.desk.now in
     let b = g.D.Desk.state c.check_texts.new.desk in
-    of_slots (λ x y. IfOk c.check_texts.result (λ r. TakesBoth x y (λ t u. Walk c.args.problem.now t u (Ok r.0)) a b)) c.in-Ok-new.clauses.lines.slot c.in-Ok-new-2.lines.slot c.args.cnf c.args.proof
-    (ap (λ (r : CnfReader). r.lines.slot) c.in-Ok-new.ensures) (ap (λ (r : Reader). r.slot) c.in-Ok-new-2.ensures) c.check_texts.ensures.verdict
+    of_slots (λ x y. TakesBoth x y (λ t u. Walk c.args.problem.now t u (Ok c.in-Ok-check_texts.verdict)) a b) c.in-Ok-new.clauses.lines.slot c.in-Ok-new-2.lines.slot c.args.cnf c.args.proof
+    (ap (λ (r : CnfReader). r.lines.slot) c.in-Ok-new.ensures) (ap (λ (r : Reader). r.slot) c.in-Ok-new-2.ensures) c.in-Ok-check_texts.ensures.verdict
 
-pub returns-clause-vars : goal.returns-clause-vars
-returns-clause-vars g c =
+pub returns-in-Ok-check_texts-clause-vars : goal.returns-in-Ok-check_texts-clause-vars
+returns-in-Ok-check_texts-clause-vars g c =
     let a = g.D.Desk.state c.args.desk.now in
-    subst (λ (x : ℕ). IfOk c.check_texts.result (λ r. IfTold a (λ t. HasVars (t.left x) r.1))) (ap (λ (r : CnfReader). r.lines.slot) c.in-Ok-new.ensures) c.check_texts.ensures.vars
+    subst (λ (x : ℕ). IfTold a (λ t. HasVars (t.left x) c.in-Ok-check_texts.vars)) (ap (λ (r : CnfReader). r.lines.slot) c.in-Ok-new.ensures) c.in-Ok-check_texts.ensures.vars
 
-pub returns-clause-clauses : goal.returns-clause-clauses
-returns-clause-clauses g c = λ wanted.
+pub returns-in-Ok-check_texts-clause-clauses : goal.returns-in-Ok-check_texts-clause-clauses
+returns-in-Ok-check_texts-clause-clauses g c = λ wanted accepted.
     let a = g.D.Desk.state c.args.desk.now in
-    subst (λ (x : ℕ). IfOk c.check_texts.result (λ r. r.0 ≡ Accepted → IfTold a (λ t. SaysClauses (t.left x) r.1 c.check_texts.new.kept.clauses))) (ap (λ (r : CnfReader). r.lines.slot) c.in-Ok-new.ensures) (c.check_texts.ensures.clauses wanted)
-
-pub returns-clause-stopped : goal.returns-clause-stopped
-returns-clause-stopped g c =
-    let a = g.D.Desk.state c.args.desk.now in
-    let b = g.D.Desk.state c.check_texts.new.desk in
-    of_slots (λ x y. IfErr c.check_texts.result (StopsCheck c.args.problem.now x y a b)) c.in-Ok-new.clauses.lines.slot c.in-Ok-new-2.lines.slot c.args.cnf c.args.proof
-    (ap (λ (r : CnfReader). r.lines.slot) c.in-Ok-new.ensures) (ap (λ (r : Reader). r.slot) c.in-Ok-new-2.ensures) c.check_texts.ensures.stopped
+    subst (λ (cs : List (List Lit)). IfTold a (λ t. SaysClauses (t.left c.args.cnf) c.in-Ok-check_texts.vars cs)) (sym c.into_clauses.ensures)
+    (subst (λ (x : ℕ). IfTold a (λ t. SaysClauses (t.left x) c.in-Ok-check_texts.vars c.check_texts.new.session.kept.clauses)) (ap (λ (r : CnfReader). r.lines.slot) c.in-Ok-new.ensures)
+    (c.in-Ok-check_texts.ensures.clauses wanted accepted))

@@ -9,15 +9,15 @@ pub returns-clause-verdict : goal.returns-clause-verdict
 returns-clause-verdict g c =
     let a = g.D.Desk.state c.args.desk.now in
     let b = g.D.Desk.state c.check_lines-answer.new.desk in
-    subst (λ (d : Database). IfOk c.check_lines-answer.result (λ v. AnswersLines v (length c.args.loaded.now) c.args.cnf.now d c.args.lines.now c.check_lines-answer.new.cnf c.check_lines-answer.new.lines a b)) c.in-Ok.ensures
+    subst (λ (d : Database). IfOk c.check_lines-answer.result (λ v. AnswersLines v (length c.args.loaded.now) c.args.session.now.cnf d c.args.session.now.lines c.check_lines-answer.new.session.cnf c.check_lines-answer.new.session.lines a b)) c.in-Ok.ensures
     c.check_lines-answer.ensures.verdict
 
 pub returns-clause-stopped : goal.returns-clause-stopped
 returns-clause-stopped g c =
     let a = g.D.Desk.state c.args.desk.now in
     let b = g.D.Desk.state c.check_lines-answer.new.desk in
-    subst (λ (d : Database). IfErr c.check_lines-answer.result (λ f. StopsLines f (length c.args.loaded.now) c.args.cnf.now d c.args.lines.now c.check_lines-answer.new.cnf c.check_lines-answer.new.lines a b)) c.in-Ok.ensures
+    subst (λ (d : Database). IfErr c.check_lines-answer.result (λ f. StopsLines f (length c.args.loaded.now) c.args.session.now.cnf d c.args.session.now.lines c.check_lines-answer.new.session.cnf c.check_lines-answer.new.session.lines a b)) c.in-Ok.ensures
     c.check_lines-answer.ensures.stopped
 
 pub returns-in_default-clause-stopped : goal.returns-in_default-clause-stopped
-returns-in_default-clause-stopped g c = none_read c.args.cnf.now.lines c.args.lines.now (g.D.Desk.state c.args.desk.now) c.requires.apart
+returns-in_default-clause-stopped g c = none_read c.args.session.now.cnf.lines c.args.session.now.lines (g.D.Desk.state c.args.desk.now) c.args.session.now.apart

@@ -12,33 +12,33 @@ use Rattle.pb_check.proofs.WholeRuns.{AreNew, IsLoaded, lines_given, lines_stopp
 use Rattle.pb_check.proofs.checking.check_texts.Goals as goal
 
 pub head-requires-clause-first : goal.head-requires-clause-first
-head-requires-clause-first g c = ap (λ (r : CnfReader). r.lines.number) c.requires.cnf_new
+head-requires-clause-first g c = ap (λ (r : CnfReader). r.lines.number) c.requires.new.cnf_new
 
 pub head-requires-clause-fine : goal.head-requires-clause-fine
-head-requires-clause-fine g c = ap (λ (r : CnfReader). r.fault) c.requires.cnf_new
+head-requires-clause-fine g c = ap (λ (r : CnfReader). r.fault) c.requires.new.cnf_new
 
 pub returns-in-Err-clause-stopped : goal.returns-in-Err-clause-stopped
 returns-in-Err-clause-stopped g c =
-    let cnf = c.args.cnf.now in
-    let proof = c.args.lines.now in
+    let cnf = c.args.session.now.cnf in
+    let proof = c.args.session.now.lines in
     let a = g.D.Desk.state c.args.desk.now in
     let b = g.D.Desk.state c.head.new.desk in
-    let new : AreNew cnf.lines.slot proof.slot cnf proof = record { cnf_new = c.requires.cnf_new; proof_new = c.requires.lines_new } in
+    let new : AreNew cnf.lines.slot proof.slot cnf proof = record { cnf_new = c.requires.new.cnf_new; proof_new = c.requires.new.lines_new } in
     subst (StopsCheck c.args.problem.now cnf.lines.slot proof.slot a b) (sym c.of_cnf.ensures.value)
-    (walk_unstarted c.in-Err.fault c.args.problem.now cnf.lines.slot proof.slot cnf c.head.new.self proof a b new c.requires.apart c.in-Err.ensures.slot c.in-Err.ensures.stopped)
+    (walk_unstarted c.in-Err.fault c.args.problem.now cnf.lines.slot proof.slot cnf c.head.new.self proof a b new c.args.session.now.apart c.in-Err.ensures.slot c.in-Err.ensures.stopped)
 
 pub returns-then-head-originals-clause-stopped : goal.returns-then-head-originals-clause-stopped
 returns-then-head-originals-clause-stopped g c =
     let p = c.args.problem.now in
     let head = c.in-Ok.head in
-    let cnf = c.args.cnf.now in
+    let cnf = c.args.session.now.cnf in
     let cnf' = c.head.new.self in
-    let proof = c.args.lines.now in
+    let proof = c.args.session.now.lines in
     let a = g.D.Desk.state c.args.desk.now in
     let b = g.D.Desk.state c.head.new.desk in
-    let new : AreNew cnf.lines.slot proof.slot cnf proof = record { cnf_new = c.requires.cnf_new; proof_new = c.requires.lines_new } in
-    walk_stopped c.too_few_vars.result p head cnf.lines.slot proof.slot cnf cnf' cnf' proof proof a b b new c.requires.apart c.in-Ok.ensures.slot c.in-Ok.ensures.head
-    (too_few c.too_few_vars.result p head cnf' proof b c.too_few_vars.ensures (λ e. c.requires.apart (sym c.in-Ok.ensures.slot ∙ e)) (omega (arith, c.if-head-originals.true, c.originals.ensures)))
+    let new : AreNew cnf.lines.slot proof.slot cnf proof = record { cnf_new = c.requires.new.cnf_new; proof_new = c.requires.new.lines_new } in
+    walk_stopped c.too_few_vars.result p head cnf.lines.slot proof.slot cnf cnf' cnf' proof proof a b b new c.args.session.now.apart c.in-Ok.ensures.slot c.in-Ok.ensures.head
+    (too_few c.too_few_vars.result p head cnf' proof b c.too_few_vars.ensures (λ e. c.args.session.now.apart (sym c.in-Ok.ensures.slot ∙ e)) (omega (arith, c.if-head-originals.true, c.originals.ensures)))
 
 pub check_over-requires-clause-within : goal.check_over-requires-clause-within
 check_over-requires-clause-within g c =
@@ -49,68 +49,68 @@ pub check_over-requires-clause-narrow : goal.check_over-requires-clause-narrow
 check_over-requires-clause-narrow g c = subst (All IsNarrow) (sym (c.as_slice.ensures ∙ c.requires.loaded)) (loaded_narrow c.args.problem.now c.requires.within)
 
 pub check_over-requires-clause-fine : goal.check_over-requires-clause-fine
-check_over-requires-clause-fine g c = ap (λ (r : Reader). r.fault) c.requires.lines_new
+check_over-requires-clause-fine g c = ap (λ (r : Reader). r.fault) c.requires.new.lines_new
 
 pub check_over-requires-clause-limits : goal.check_over-requires-clause-limits
-check_over-requires-clause-limits g c = ap (λ (r : Reader). r.limits) c.requires.lines_new
+check_over-requires-clause-limits g c = ap (λ (r : Reader). r.limits) c.requires.new.lines_new
 
 pub returns-in-Ok-check_over-clause-verdict : goal.returns-in-Ok-check_over-clause-verdict
 returns-in-Ok-check_over-clause-verdict g c =
     let p = c.args.problem.now in
     let head = c.in-Ok.head in
-    let cnf = c.args.cnf.now in
+    let cnf = c.args.session.now.cnf in
     let cnf' = c.head.new.self in
-    let cnf'' = c.check_over.new.cnf in
-    let proof = c.args.lines.now in
-    let proof' = c.check_over.new.lines in
+    let cnf'' = c.check_over.new.session.cnf in
+    let proof = c.args.session.now.lines in
+    let proof' = c.check_over.new.session.lines in
     let loaded = c.as_slice.result.now in
     let original = c.originals-2.result in
     let a = g.D.Desk.state c.args.desk.now in
     let b = g.D.Desk.state c.head.new.desk in
     let d = g.D.Desk.state c.check_over.new.desk in
-    let new : AreNew cnf.lines.slot proof.slot cnf proof = record { cnf_new = c.requires.cnf_new; proof_new = c.requires.lines_new } in
+    let new : AreNew cnf.lines.slot proof.slot cnf proof = record { cnf_new = c.requires.new.cnf_new; proof_new = c.requires.new.lines_new } in
     let is : IsLoaded p head cnf' original loaded = record { vars = c.in-Ok.ensures.vars; left = c.in-Ok.ensures.clauses; enough = omega (arith, c.if-head-originals.false, c.originals.ensures); original_is = c.originals-2.ensures; loaded_is = c.as_slice.ensures ∙ c.requires.loaded } in
-    walk_given p head cnf.lines.slot proof.slot cnf cnf' cnf'' proof proof' a b d (Ok c.in-Ok-check_over.verdict) new c.requires.apart c.in-Ok.ensures.slot c.in-Ok.ensures.head
+    walk_given p head cnf.lines.slot proof.slot cnf cnf' cnf'' proof proof' a b d (Ok c.in-Ok-check_over.verdict) new c.args.session.now.apart c.in-Ok.ensures.slot c.in-Ok.ensures.head
     (lines_given p head cnf' cnf'' proof proof' original loaded b d (Ok c.in-Ok-check_over.verdict) is c.in-Ok-check_over.ensures.verdict)
 
 pub returns-in-Err-check_over-clause-stopped : goal.returns-in-Err-check_over-clause-stopped
 returns-in-Err-check_over-clause-stopped g c =
     let p = c.args.problem.now in
     let head = c.in-Ok.head in
-    let cnf = c.args.cnf.now in
+    let cnf = c.args.session.now.cnf in
     let cnf' = c.head.new.self in
-    let cnf'' = c.check_over.new.cnf in
-    let proof = c.args.lines.now in
-    let proof' = c.check_over.new.lines in
+    let cnf'' = c.check_over.new.session.cnf in
+    let proof = c.args.session.now.lines in
+    let proof' = c.check_over.new.session.lines in
     let loaded = c.as_slice.result.now in
     let original = c.originals-2.result in
     let a = g.D.Desk.state c.args.desk.now in
     let b = g.D.Desk.state c.head.new.desk in
     let d = g.D.Desk.state c.check_over.new.desk in
-    let new : AreNew cnf.lines.slot proof.slot cnf proof = record { cnf_new = c.requires.cnf_new; proof_new = c.requires.lines_new } in
+    let new : AreNew cnf.lines.slot proof.slot cnf proof = record { cnf_new = c.requires.new.cnf_new; proof_new = c.requires.new.lines_new } in
     let is : IsLoaded p head cnf' original loaded = record { vars = c.in-Ok.ensures.vars; left = c.in-Ok.ensures.clauses; enough = omega (arith, c.if-head-originals.false, c.originals.ensures); original_is = c.originals-2.ensures; loaded_is = c.as_slice.ensures ∙ c.requires.loaded } in
-    walk_stopped c.in-Err-check_over.fault p head cnf.lines.slot proof.slot cnf cnf' cnf'' proof proof' a b d new c.requires.apart c.in-Ok.ensures.slot c.in-Ok.ensures.head
+    walk_stopped c.in-Err-check_over.fault p head cnf.lines.slot proof.slot cnf cnf' cnf'' proof proof' a b d new c.args.session.now.apart c.in-Ok.ensures.slot c.in-Ok.ensures.head
     (lines_stopped c.in-Err-check_over.fault p head cnf' cnf'' proof proof' original loaded b d is c.in-Err-check_over.ensures.stopped)
 
 pub returns-in-Ok-check_over-clause-vars : goal.returns-in-Ok-check_over-clause-vars
 returns-in-Ok-check_over-clause-vars g c =
-    let cnf = c.args.cnf.now in
-    let proof = c.args.lines.now in
-    let new : AreNew cnf.lines.slot proof.slot cnf proof = record { cnf_new = c.requires.cnf_new; proof_new = c.requires.lines_new } in
-    vars_told c.args.problem.now cnf.lines.slot proof.slot cnf c.head.new.self proof c.in-Ok.head (g.D.Desk.state c.args.desk.now) (g.D.Desk.state c.head.new.desk) new c.requires.apart c.in-Ok.ensures.slot c.in-Ok.ensures.head
+    let cnf = c.args.session.now.cnf in
+    let proof = c.args.session.now.lines in
+    let new : AreNew cnf.lines.slot proof.slot cnf proof = record { cnf_new = c.requires.new.cnf_new; proof_new = c.requires.new.lines_new } in
+    vars_told c.args.problem.now cnf.lines.slot proof.slot cnf c.head.new.self proof c.in-Ok.head (g.D.Desk.state c.args.desk.now) (g.D.Desk.state c.head.new.desk) new c.args.session.now.apart c.in-Ok.ensures.slot c.in-Ok.ensures.head
 
 pub returns-in-Ok-check_over-clause-clauses : goal.returns-in-Ok-check_over-clause-clauses
 returns-in-Ok-check_over-clause-clauses g c = λ wanted accepted.
-    let cnf = c.args.cnf.now in
+    let cnf = c.args.session.now.cnf in
     let cnf' = c.head.new.self in
-    let cnf'' = c.check_over.new.cnf in
-    let proof = c.args.lines.now in
-    let proof' = c.check_over.new.lines in
-    let k = c.args.kept.now in
-    let k' = c.check_over.new.kept in
+    let cnf'' = c.check_over.new.session.cnf in
+    let proof = c.args.session.now.lines in
+    let proof' = c.check_over.new.session.lines in
+    let k = c.args.session.now.kept in
+    let k' = c.check_over.new.session.kept in
     let a = g.D.Desk.state c.args.desk.now in
     let b = g.D.Desk.state c.head.new.desk in
     let d = g.D.Desk.state c.check_over.new.desk in
-    let new : AreNew cnf.lines.slot proof.slot cnf proof = record { cnf_new = c.requires.cnf_new; proof_new = c.requires.lines_new } in
-    clauses_told c.args.problem.now cnf.lines.slot proof.slot cnf cnf' cnf'' proof proof' c.in-Ok.head k k' a b d new c.requires.apart c.in-Ok.ensures.slot c.in-Ok.ensures.vars c.in-Ok.ensures.clauses
-    wanted c.requires.nothing c.in-Ok.ensures.head (subst (λ (v : Verdict). KeepsLines v k cnf' proof k' cnf'' proof' b d) accepted c.in-Ok-check_over.ensures.keeps)
+    let new : AreNew cnf.lines.slot proof.slot cnf proof = record { cnf_new = c.requires.new.cnf_new; proof_new = c.requires.new.lines_new } in
+    clauses_told c.args.problem.now cnf.lines.slot proof.slot cnf cnf' cnf'' proof proof' c.in-Ok.head k k' a b d new c.args.session.now.apart c.in-Ok.ensures.slot c.in-Ok.ensures.vars c.in-Ok.ensures.clauses
+    wanted c.requires.new.nothing c.in-Ok.ensures.head (subst (λ (v : Verdict). KeepsLines v k cnf' proof k' cnf'' proof' b d) accepted c.in-Ok-check_over.ensures.keeps)

@@ -12,14 +12,14 @@ use Rattle.pb_check.proofs.stages.run_steps.Goals as goal
 
 pub steps-init : goal.steps-init
 steps-init g c =
-    let cnf = c.args.cnf.now in
-    let proof = c.args.lines.now in
+    let cnf = c.args.session.now.cnf in
+    let proof = c.args.session.now.lines in
     record {
       goes_on = record { slot = refl; limits = refl; fine = c.requires.fine };
       vars = refl;
       fine = c.requires.cnf_fine;
-      reads = both_begin cnf.lines proof (g.D.Desk.state c.args.desk.now) (LineGives taken.On cnf c.args.db.now proof cnf c.args.db.now proof) c.requires.apart (λ t u task answer vars w. w);
-      keeps = none_kept c.args.kept.now cnf proof (g.D.Desk.state c.args.desk.now) c.requires.apart;
+      reads = both_begin cnf.lines proof (g.D.Desk.state c.args.desk.now) (LineGives taken.On cnf c.args.db.now proof cnf c.args.db.now proof) c.args.session.now.apart (λ t u task answer vars w. w);
+      keeps = none_kept c.args.session.now.kept cnf proof (g.D.Desk.state c.args.desk.now) c.args.session.now.apart;
     }
 
 pub steps-preserved : goal.steps-preserved
@@ -27,16 +27,16 @@ steps-preserved g c =
     let a = g.D.Desk.state c.args.desk.now in
     let b = g.D.Desk.state c.steps.desk in
     let d = g.D.Desk.state c.take_line.new.desk in
-    let cnf = c.steps.cnf in
-    let cnf' = c.take_line.new.cnf in
-    let gives = subst (λ (t : Taken). ReadsBoth cnf.lines c.steps.lines cnf'.lines c.take_line.new.lines b d (LineGives t cnf c.steps.db c.steps.lines cnf' c.take_line.new.db c.take_line.new.lines)) c.in-Ok-On.field-0-is c.in-Ok-On.ensures.gives in
+    let cnf = c.steps.session.cnf in
+    let cnf' = c.take_line.new.session.cnf in
+    let gives = subst (λ (t : Taken). ReadsBoth cnf.lines c.steps.session.lines cnf'.lines c.take_line.new.session.lines b d (LineGives t cnf c.steps.db c.steps.session.lines cnf' c.take_line.new.db c.take_line.new.session.lines)) c.in-Ok-On.field-0-is c.in-Ok-On.ensures.gives in
     record {
-      goes_on = goes_then c.args.lines.now c.steps.lines c.steps.lines c.take_line.new.lines c.take_line.new.lines c.steps.invariant.goes_on refl c.in-Ok-On.ensures.follows refl;
+      goes_on = goes_then c.args.session.now.lines c.steps.session.lines c.steps.session.lines c.take_line.new.session.lines c.take_line.new.session.lines c.steps.invariant.goes_on refl c.in-Ok-On.ensures.follows refl;
       vars = c.in-Ok-On.ensures.cnf_vars ∙ c.steps.invariant.vars;
       fine = c.in-Ok-On.ensures.cnf_fine;
-      reads = runs_on c.args.cnf.now cnf cnf' c.args.db.now c.steps.db c.take_line.new.db c.args.lines.now c.steps.lines c.take_line.new.lines a b d c.steps.invariant.vars c.steps.invariant.reads gives;
-      keeps = keeps_on c.args.kept.now c.steps.kept c.take_line.new.kept c.args.cnf.now cnf cnf' c.args.lines.now c.steps.lines c.take_line.new.lines a b d c.steps.invariant.keeps
-          (subst (λ (t : Taken). KeepsLine t c.steps.kept cnf c.steps.lines c.take_line.new.kept cnf' c.take_line.new.lines b d) c.in-Ok-On.field-0-is c.in-Ok-On.ensures.keeps);
+      reads = runs_on c.args.session.now.cnf cnf cnf' c.args.db.now c.steps.db c.take_line.new.db c.args.session.now.lines c.steps.session.lines c.take_line.new.session.lines a b d c.steps.invariant.vars c.steps.invariant.reads gives;
+      keeps = keeps_on c.args.session.now.kept c.steps.session.kept c.take_line.new.session.kept c.args.session.now.cnf cnf cnf' c.args.session.now.lines c.steps.session.lines c.take_line.new.session.lines a b d c.steps.invariant.keeps
+          (subst (λ (t : Taken). KeepsLine t c.steps.session.kept cnf c.steps.session.lines c.take_line.new.session.kept cnf' c.take_line.new.session.lines b d) c.in-Ok-On.field-0-is c.in-Ok-On.ensures.keeps);
     }
 
 pub returns-in-Ok-Last-clause-steps : goal.returns-in-Ok-Last-clause-steps
@@ -44,43 +44,43 @@ returns-in-Ok-Last-clause-steps g c =
     let a = g.D.Desk.state c.args.desk.now in
     let b = g.D.Desk.state c.steps.desk in
     let d = g.D.Desk.state c.take_line.new.desk in
-    let cnf = c.steps.cnf in
-    let cnf' = c.take_line.new.cnf in
-    let gives = subst (λ (t : Taken). ReadsBoth cnf.lines c.steps.lines cnf'.lines c.take_line.new.lines b d (LineGives t cnf c.steps.db c.steps.lines cnf' c.take_line.new.db c.take_line.new.lines)) c.in-Ok-Last.field-0-is c.in-Ok-Last.ensures.gives in
-    runs_out c.args.cnf.now cnf cnf' c.args.db.now c.steps.db c.take_line.new.db c.args.lines.now c.steps.lines c.take_line.new.lines a b d c.steps.invariant.vars c.steps.invariant.reads gives
+    let cnf = c.steps.session.cnf in
+    let cnf' = c.take_line.new.session.cnf in
+    let gives = subst (λ (t : Taken). ReadsBoth cnf.lines c.steps.session.lines cnf'.lines c.take_line.new.session.lines b d (LineGives t cnf c.steps.db c.steps.session.lines cnf' c.take_line.new.db c.take_line.new.session.lines)) c.in-Ok-Last.field-0-is c.in-Ok-Last.ensures.gives in
+    runs_out c.args.session.now.cnf cnf cnf' c.args.db.now c.steps.db c.take_line.new.db c.args.session.now.lines c.steps.session.lines c.take_line.new.session.lines a b d c.steps.invariant.vars c.steps.invariant.reads gives
 
 pub returns-in-Ok-Denied-clause-steps : goal.returns-in-Ok-Denied-clause-steps
 returns-in-Ok-Denied-clause-steps g c =
     let a = g.D.Desk.state c.args.desk.now in
     let b = g.D.Desk.state c.steps.desk in
     let d = g.D.Desk.state c.take_line.new.desk in
-    let cnf = c.steps.cnf in
-    let cnf' = c.take_line.new.cnf in
-    let gives = subst (λ (t : Taken). ReadsBoth cnf.lines c.steps.lines cnf'.lines c.take_line.new.lines b d (LineGives t cnf c.steps.db c.steps.lines cnf' c.take_line.new.db c.take_line.new.lines)) c.in-Ok-Denied.field-0-is c.in-Ok-Denied.ensures.gives in
-    runs_denied c.in-Ok-Denied.denied c.number.result c.args.cnf.now cnf cnf' c.args.db.now c.steps.db c.take_line.new.db c.args.lines.now c.steps.lines c.take_line.new.lines a b d c.number.ensures c.steps.invariant.vars c.steps.invariant.reads gives
+    let cnf = c.steps.session.cnf in
+    let cnf' = c.take_line.new.session.cnf in
+    let gives = subst (λ (t : Taken). ReadsBoth cnf.lines c.steps.session.lines cnf'.lines c.take_line.new.session.lines b d (LineGives t cnf c.steps.db c.steps.session.lines cnf' c.take_line.new.db c.take_line.new.session.lines)) c.in-Ok-Denied.field-0-is c.in-Ok-Denied.ensures.gives in
+    runs_denied c.in-Ok-Denied.denied c.number.result c.args.session.now.cnf cnf cnf' c.args.db.now c.steps.db c.take_line.new.db c.args.session.now.lines c.steps.session.lines c.take_line.new.session.lines a b d c.number.ensures c.steps.invariant.vars c.steps.invariant.reads gives
 
 pub returns-in-Err-clause-stopped : goal.returns-in-Err-clause-stopped
 returns-in-Err-clause-stopped g c =
     let a = g.D.Desk.state c.args.desk.now in
     let b = g.D.Desk.state c.steps.desk in
     let d = g.D.Desk.state c.take_line.new.desk in
-    runs_stop c.in-Err.fault c.args.cnf.now c.steps.cnf c.take_line.new.cnf c.args.db.now c.steps.db c.args.lines.now c.steps.lines c.take_line.new.lines a b d c.steps.invariant.vars c.steps.invariant.reads c.in-Err.ensures.stopped
+    runs_stop c.in-Err.fault c.args.session.now.cnf c.steps.session.cnf c.take_line.new.session.cnf c.args.db.now c.steps.db c.args.session.now.lines c.steps.session.lines c.take_line.new.session.lines a b d c.steps.invariant.vars c.steps.invariant.reads c.in-Err.ensures.stopped
 
 pub returns-in-Ok-Last-clause-keeps : goal.returns-in-Ok-Last-clause-keeps
 returns-in-Ok-Last-clause-keeps g c =
     let a = g.D.Desk.state c.args.desk.now in
     let b = g.D.Desk.state c.steps.desk in
     let d = g.D.Desk.state c.take_line.new.desk in
-    let cnf = c.steps.cnf in
-    let cnf' = c.take_line.new.cnf in
-    keeps_out c.args.kept.now c.steps.kept c.take_line.new.kept c.args.cnf.now cnf cnf' c.args.lines.now c.steps.lines c.take_line.new.lines a b d c.steps.invariant.keeps
-    (subst (λ (t : Taken). KeepsLine t c.steps.kept cnf c.steps.lines c.take_line.new.kept cnf' c.take_line.new.lines b d) c.in-Ok-Last.field-0-is c.in-Ok-Last.ensures.keeps)
+    let cnf = c.steps.session.cnf in
+    let cnf' = c.take_line.new.session.cnf in
+    keeps_out c.args.session.now.kept c.steps.session.kept c.take_line.new.session.kept c.args.session.now.cnf cnf cnf' c.args.session.now.lines c.steps.session.lines c.take_line.new.session.lines a b d c.steps.invariant.keeps
+    (subst (λ (t : Taken). KeepsLine t c.steps.session.kept cnf c.steps.session.lines c.take_line.new.session.kept cnf' c.take_line.new.session.lines b d) c.in-Ok-Last.field-0-is c.in-Ok-Last.ensures.keeps)
 
 pub returns-in-Ok-Denied-clause-keeps : goal.returns-in-Ok-Denied-clause-keeps
 returns-in-Ok-Denied-clause-keeps g c =
     let a = g.D.Desk.state c.args.desk.now in
     let b = g.D.Desk.state c.steps.desk in
     let d = g.D.Desk.state c.take_line.new.desk in
-    let cnf = c.steps.cnf in
-    let cnf' = c.take_line.new.cnf in
-    keeps_denied _ c.args.kept.now c.steps.kept c.take_line.new.kept c.args.cnf.now cnf cnf' c.args.lines.now c.steps.lines c.take_line.new.lines a b d c.steps.invariant.keeps c.in-Ok-Denied.ensures.keeps
+    let cnf = c.steps.session.cnf in
+    let cnf' = c.take_line.new.session.cnf in
+    keeps_denied _ c.args.session.now.kept c.steps.session.kept c.take_line.new.session.kept c.args.session.now.cnf cnf cnf' c.args.session.now.lines c.steps.session.lines c.take_line.new.session.lines a b d c.steps.invariant.keeps c.in-Ok-Denied.ensures.keeps

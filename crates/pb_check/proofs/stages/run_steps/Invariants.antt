@@ -8,12 +8,12 @@ use Rattle.pb_check.proofs.stages.run_steps.Given as goal
 
 abbrev pub invariant-steps : goal.invariant-steps
 invariant-steps g l = record {
-  goes_on : GoesOn l.initial.lines l.lines;
-  vars : l.cnf.vars ≡ l.initial.cnf.vars;
-  fine : l.cnf.fault ≡ None;
-  reads : ReadsBoth l.initial.cnf.lines l.initial.lines l.cnf.lines l.lines (g.D.Desk.state l.initial.desk) (g.D.Desk.state l.desk) (LineGives On l.initial.cnf l.initial.db l.initial.lines l.cnf l.db l.lines);
-  keeps : KeepsLine On l.initial.kept l.initial.cnf l.initial.lines l.kept l.cnf l.lines (g.D.Desk.state l.initial.desk) (g.D.Desk.state l.desk);
+  goes_on : GoesOn l.initial.session.lines l.session.lines;
+  vars : l.session.cnf.vars ≡ l.initial.session.cnf.vars;
+  fine : l.session.cnf.fault ≡ None;
+  reads : ReadsBoth l.initial.session.cnf.lines l.initial.session.lines l.session.cnf.lines l.session.lines (g.D.Desk.state l.initial.desk) (g.D.Desk.state l.desk) (LineGives On l.initial.session.cnf l.initial.db l.initial.session.lines l.session.cnf l.db l.session.lines);
+  keeps : KeepsLine On l.initial.session.kept l.initial.session.cnf l.initial.session.lines l.session.kept l.session.cnf l.session.lines (g.D.Desk.state l.initial.desk) (g.D.Desk.state l.desk);
 }
 
 abbrev pub decreases-steps : goal.decreases-steps
-decreases-steps g l = 2 ^ 40 - l.lines.number
+decreases-steps g l = 2 ^ 40 - l.session.lines.number

@@ -18,10 +18,10 @@ invariant_of-self c =
     record {
       sound = sound-without c.self.inside.vars (c.args.id ∷ []) (entries_from 1 old) (entries_from 1 new) live c.self.invariant.sound;
       few = omega (arith, c.self.invariant.few, ap length c.take-gone.ensures.after, length-slots_without old c.args.id);
-      mirrored = c.leave.ensures c.self.inside.most old new c.take-gone.ensures.after at c.self.invariant.mirrored;
+      mirrored = c.leave.ensures c.self.inside.most old new (record { hole_left = c.take-gone.ensures.after; at = at }) c.self.invariant.mirrored;
       is_idle = c.self.invariant.is_idle;
       beside = c.self.invariant.beside;
-      indexed = indexed-lost c.args.id old new c.self.inside.named.items c.leave-left.new.lists.items c.take-gone.ensures.after c.leave-left.ensures c.self.invariant.indexed;
+      indexed = indexed-lost c.args.id old new c.self.inside.named.items c.unlist-left.new.lists.items c.take-gone.ensures.after c.unlist-left.ensures c.self.invariant.indexed;
     }
 
 pub invariant_of-self-in-None : goal.invariant_of-self-in-None
