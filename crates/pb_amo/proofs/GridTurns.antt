@@ -1,20 +1,17 @@
 -- A grid's derivation, part by part.
-use Rattle.std.proofs.Common.{◌≡◌, ◌≤◌, ◌<◌, ◌+◌, ◌*◌, ◌^◌, ◌++◌, ◌∙◌, ℕ, cond, List, [], ◌∷◌, map, length, append_assoc, refl, ap, sym, arith}
+use Rattle.std.proofs.Common.{◌≡◌, ◌≤◌, ◌<◌, ◌+◌, ◌*◌, ◌^◌, ◌++◌, ◌∙◌, ℕ, cond, List, [], ◌∷◌, length, append_assoc, refl, ap, sym, arith}
 use Rattle.std.specs.Prelude.{count_by}
 use Rattle.std.proofs.lemmas.List.Sums.{sum_by-cons, sum_by-append, count_by-le-length}
 use Rattle.pb_base.specs.declared.literal.Lit.{Lit}
 use Rattle.pb_steps.specs.declared.step.Step.{Step}
 use Rattle.pb_steps.specs.Steps.{takes_id}
-use Rattle.pb_derive.specs.Claims.{claim_steps}
 use Rattle.pb_derive.specs.Deletions.{deletion_steps}
 use Rattle.pb_derive.specs.Reifications.{reification_steps}
-use Rattle.pb_derive.specs.Justifications.{by_justification}
 use Rattle.pb_family.specs.StepSinks.{StepState, TakesSteps}
 use Rattle.pb_family.proofs.Deriving.{Deriving, deriving_starts, deriving_from, deriving_as, deriving_step}
-use Rattle.pb_family.proofs.SameSteps.{HaveSameSteps, same_flat}
 use Rattle.pb_family.proofs.Sequence.{reifications_ids, justifications_ids, deletions_ids}
 use Rattle.pb_amo.specs.Product.{rows, columns, line, product_fresh, product_count}
-use Rattle.pb_amo.specs.ProductSteps.{line_sum, side_steps, grid_reifications, cell_justifications, cells_justifications, cells_steps, product_steps}
+use Rattle.pb_amo.specs.ProductSteps.{line_sum, side_steps, grid_reifications, cells_justifications, cells_steps, product_steps}
 use Rattle.pb_amo.specs.laws.GridCounts.{fresh_step, count_step}
 use Rattle.pb_amo.specs.laws.LineLaws.{length-line}
 use Rattle.pb_amo.specs.laws.ProductLevels.{rows_part, columns_part, product_levels}
@@ -23,29 +20,23 @@ use Rattle.pb_amo.specs.laws.ProductShort.{cells_count, reifications_count, line
 
 -- ---- the opening
 
--- the steps of the cells do not depend on the numbers of the fresh variables
-cells_same : (ms : List Lit) (first other r q base : ℕ) → HaveSameSteps (cells_justifications ms first r q base) (cells_justifications ms other r q base)
-cells_same ms first other r q base = same_flat (cell_justifications ms first r q base) (cell_justifications ms other r q base) (λ e. record { count = refl; steps = λ n. refl }) 0 (length ms)
-
 module _ {R : Type 0} (ms : List Lit) (first r q id base : ℕ) (old : StepState R) (starts : base ≡ old.next) where
   abbrev all_opening : List Step
   all_opening = opening_steps ms first r q id old.next
 
   abbrev pub cells_from : ℕ → List Step
-  cells_from next = claim_steps next (map by_justification (cells_justifications ms 0 r q base))
+  cells_from next = cells_steps ms first r q base next
 
   pub lines_next : (now : StepState R) → TakesSteps (reification_steps old.next (grid_reifications ms first r q)) old now → now.next ≡ old.next + 2 * (r + q)
   lines_next now h = omega (arith, h.ids, reifications_ids old.next (grid_reifications ms first r q), reifications_count ms first r q)
 
   pub after_lines : (now : StepState R) → TakesSteps (reification_steps old.next (grid_reifications ms first r q)) old now → Deriving all_opening (cells_from now.next ++ line_sum id base r ∷ []) old now
   after_lines now h =
-      let same : (k : ℕ) → cells_steps ms first r q old.next k ++ line_sum id old.next r ∷ [] ≡ cells_from k ++ line_sum id base r ∷ [] = λ k.
-      (λ i. cells_steps ms first r q (sym starts i) k ++ line_sum id (sym starts i) r ∷ []) ∙ ap (λ (ss : List Step). ss ++ line_sum id base r ∷ []) ((cells_same ms first 0 r q base).steps k) in
-      deriving_as (ap (λ (k : ℕ). cells_steps ms first r q old.next k ++ line_sum id old.next r ∷ []) (sym (lines_next now h)) ∙ same now.next)
+      deriving_as (λ x. cells_steps ms first r q (sym starts x) (sym (lines_next now h) x) ++ line_sum id (sym starts x) r ∷ [])
       (deriving_step {left = cells_steps ms first r q old.next (old.next + 2 * (r + q)) ++ line_sum id old.next r ∷ []} (reification_steps old.next (grid_reifications ms first r q)) now (deriving_starts all_opening old) h)
 
   pub cells_next : (now after : StepState R) → TakesSteps (cells_from now.next) now after → after.next ≡ now.next + 2 * length ms
-  cells_next now after h = omega (arith, h.ids, justifications_ids now.next (cells_justifications ms 0 r q base), cells_count ms 0 r q base)
+  cells_next now after h = omega (arith, h.ids, justifications_ids now.next (cells_justifications ms first r q base), cells_count ms first r q base)
 
 -- ---- a grid
 

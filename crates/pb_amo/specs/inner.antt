@@ -1,4 +1,6 @@
 pub mod AtMostOne
-pub mod LadderPieces
+pub mod GridOrder
+pub mod LadderOrder
 pub mod ProductParts
+pub mod RungClaims
 pub mod Source

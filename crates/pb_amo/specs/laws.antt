@@ -1,4 +1,5 @@
 pub mod Choice
+pub mod GridCases
 pub mod GridClauses
 pub mod GridCounts
 pub mod GridExtends
@@ -7,7 +8,9 @@ pub mod GridPushes
 pub mod GridSides
 pub mod LadderDerives
 pub mod LadderFollows
+pub mod LadderJustifications
 pub mod LadderLaws
+pub mod LadderPlaces
 pub mod LadderShort
 pub mod LineLaws
 pub mod LineSums

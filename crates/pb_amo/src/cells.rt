@@ -3,14 +3,16 @@ ghost use Rattle.std.specs.Prelude.{◌≡◌, ◌≢◌, ◌≤◌, ◌<◌, �
 ghost use Rattle.std.specs.List.{range_with_len};
 ghost use Rattle.pb_norm.specs.Constraints.{weight, weights};
 ghost use Rattle.pb_family.specs.StepSinks.{HandsFrom, HandsSteps};
-ghost use Rattle.pb_amo.specs.ProductSteps.{row_of, column_of, cells_steps, line_sum};
-ghost use Rattle.pb_amo.specs.inner.Source.{source_literals};
-ghost use Rattle.pb_amo.specs.inner.ProductParts.{source_size, IsMet, passed, unit_at, line_steps, beside_steps, side_reification_steps, grid_reification_steps, cell_steps};
+ghost use Rattle.pb_amo.specs.ProductSteps.{line_sum};
+ghost use Rattle.pb_amo.specs.inner.ProductParts.{source_size, IsMet, passed, unit_at, line_steps, beside_steps};
 
 use crate::sides::Sides;
 use crate::source::{Source, Stride};
 use pb_base::{Term, Var};
-use pb_family::{SinkFault, StepSink, derive_claim, derive_reification, derive_sum, fresh_at};
+use pb_family::{
+    NumberedSteps, SinkFault, StepSink, claim_all, derive_claim, derive_reification, derive_sum,
+    fresh_at, reify_all,
+};
 use std::alloc::{AllocError, Global};
 
 // Adds the literal at a place with the coefficient 1, where there is one, but not at one place.
@@ -93,141 +95,132 @@ fn derive_beside<T: StepSink>(
     derive_claim(alloc, &[id], &terms, sink)
 }
 
-/// What the fresh variables of the rows mean.
-fn derive_rows<T: StepSink>(
-    alloc: Global,
-    literals: &Source,
-    first: u32,
-    sides: Sides,
-    sink: &mut T,
-) -> Result<(), SinkFault>
-    requires few { source_size literals.now < 2 ^ 31 }
-    requires some { 0 < sides.columns }
-    requires fit { sides.rows * sides.columns < 2 ^ 62 }
-    requires narrow { sides.columns < 2 ^ 31 }
-    requires low { 1 ≤ first }
-    requires fits { first + sides.rows ≤ 2 ^ 31 }
-    requires room { (T.state sink.old).next + 2 * sides.rows < 2 ^ 62 }
-    ensures { HandsFrom (side_reification_steps (row_of sides.columns) (source_literals literals.now) first sides.rows) result (T.state sink.old) (T.state sink.new) }
-{
-    for row in 0..sides.rows {
-        let stride = Stride {
-            from: row * sides.columns,
+/// A grid of literals, where the fresh variables of its rows and then of its columns are numbered from `first` on, and the
+/// constraints of their reifications have the ids from `base` on.
+#[derive(Clone, Copy)]
+pub struct Cells<'a> {
+    pub literals: Source<'a>,
+    pub first: u32,
+    pub sides: Sides,
+    pub base: u64,
+    ghost few: { source_size literals < 2 ^ 31 },
+    ghost some: { 0 < sides.columns },
+    ghost covered: { source_size literals ≤ sides.rows * sides.columns },
+    ghost fit: { sides.rows * sides.columns < 2 ^ 62 },
+    ghost narrow: { sides.rows + sides.columns < 2 ^ 31 },
+    ghost low: { 1 ≤ first },
+    ghost fits: { first + sides.rows + sides.columns ≤ 2 ^ 31 },
+    ghost modest: { base < 2 ^ 62 },
+}
+
+impl Cells<'_> {
+    ghost use Rattle.std.specs.Prelude.{◌≡◌, ◌<◌, ◌+◌, ◌*◌, ◌^◌};
+    ghost use Rattle.pb_family.specs.StepSinks.{HandsFrom};
+    ghost use Rattle.pb_amo.specs.ProductSteps.{cells_steps};
+    ghost use Rattle.pb_amo.specs.inner.Source.{source_literals};
+    ghost use Rattle.pb_amo.specs.inner.ProductParts.{source_size, grid_reification_steps};
+
+    /// The places of a row.
+    fn across(&self, row: usize) -> Stride
+        requires { row < self.now.sides.rows }
+        ensures from { result.from ≡ row * self.now.sides.columns }
+        ensures step { result.step ≡ 1 }
+        ensures count { result.count ≡ self.now.sides.columns }
+        ensures fits { result.from + result.count * result.step < 2 ^ 63 }
+    {
+        Stride {
+            from: row * self.sides.columns,
             step: 1,
-            count: sides.columns,
-        };
-        derive_line(alloc, literals, stride, fresh_at(first, row).var, sink)?;
+            count: self.sides.columns,
+        }
     }
-    Ok(())
-}
 
-/// What those of the columns mean.
-fn derive_columns<T: StepSink>(
-    alloc: Global,
-    literals: &Source,
-    first: u32,
-    sides: Sides,
-    sink: &mut T,
-) -> Result<(), SinkFault>
-    requires few { source_size literals.now < 2 ^ 31 }
-    requires some { 0 < sides.columns }
-    requires covered { source_size literals.now ≤ sides.rows * sides.columns }
-    requires fit { sides.rows * sides.columns < 2 ^ 62 }
-    requires low { 1 ≤ first }
-    requires fits { first + sides.columns ≤ 2 ^ 31 }
-    requires room { (T.state sink.old).next + 2 * sides.columns < 2 ^ 62 }
-    ensures { HandsFrom (side_reification_steps (column_of sides.columns) (source_literals literals.now) first sides.columns) result (T.state sink.old) (T.state sink.new) }
-{
-    for column in 0..sides.columns {
-        let stride = Stride {
+    /// The places of a column.
+    fn down(&self, column: usize) -> Stride
+        requires { column < self.now.sides.columns }
+        ensures from { result.from ≡ column }
+        ensures step { result.step ≡ self.now.sides.columns }
+        ensures count { result.count ≡ self.now.sides.rows }
+        ensures fits { result.from + result.count * result.step < 2 ^ 63 }
+    {
+        Stride {
             from: column,
-            step: sides.columns,
-            count: sides.rows,
-        };
-        derive_line(alloc, literals, stride, fresh_at(first, column).var, sink)?;
+            step: self.sides.columns,
+            count: self.sides.rows,
+        }
     }
-    Ok(())
-}
 
-/// What all of them mean.
-pub fn derive_lines<T: StepSink>(
-    alloc: Global,
-    literals: &Source,
-    first: u32,
-    sides: Sides,
-    sink: &mut T,
-) -> Result<(), SinkFault>
-    requires few { source_size literals.now < 2 ^ 31 }
-    requires some { 0 < sides.columns }
-    requires covered { source_size literals.now ≤ sides.rows * sides.columns }
-    requires fit { sides.rows * sides.columns < 2 ^ 62 }
-    requires low { 1 ≤ first }
-    requires fits { first + sides.rows + sides.columns ≤ 2 ^ 31 }
-    requires room { (T.state sink.old).next + 2 * (sides.rows + sides.columns) < 2 ^ 62 }
-    ensures { HandsFrom (grid_reification_steps (source_literals literals.now) first sides.rows sides.columns) result (T.state sink.old) (T.state sink.new) }
-{
-    derive_rows(alloc, literals, first, sides, sink)?;
-    derive_columns(alloc, literals, first + sides.rows as u32, sides, sink)
-}
-
-/// The two clauses of a literal, where the reifications' constraints have the ids from `base` on.
-fn derive_cell<T: StepSink>(
-    alloc: Global,
-    literals: &Source,
-    sides: Sides,
-    base: u64,
-    place: usize,
-    sink: &mut T,
-) -> Result<(), SinkFault>
-    requires few { source_size literals.now < 2 ^ 31 }
-    requires some { 0 < sides.columns }
-    requires covered { source_size literals.now ≤ sides.rows * sides.columns }
-    requires fit { sides.rows * sides.columns < 2 ^ 62 }
-    requires narrow { sides.rows + sides.columns < 2 ^ 31 }
-    requires low { base < 2 ^ 62 }
-    requires within { place < source_size literals.now }
-    requires room { (T.state sink.old).next + 2 < 2 ^ 62 }
-    ensures { HandsFrom (cell_steps (source_literals literals.now) 0 sides.rows sides.columns base place) result (T.state sink.old) (T.state sink.new) }
-{
-    let row = place / sides.columns;
-    let column = place % sides.columns;
-    let across = Stride {
-        from: row * sides.columns,
-        step: 1,
-        count: sides.columns,
-    };
-    let down = Stride {
-        from: column,
-        step: sides.columns,
-        count: sides.rows,
-    };
-    let row_id = base + 2 * row as u64 + 1;
-    let column_id = base + 2 * sides.rows as u64 + 2 * column as u64 + 1;
-    derive_beside(alloc, literals, across, place, row_id, sink)?;
-    derive_beside(alloc, literals, down, place, column_id, sink)
-}
-
-/// The clauses of all literals.
-pub fn derive_cells<T: StepSink>(
-    alloc: Global,
-    literals: &Source,
-    sides: Sides,
-    base: u64,
-    sink: &mut T,
-) -> Result<(), SinkFault>
-    requires few { source_size literals.now < 2 ^ 31 }
-    requires some { 0 < sides.columns }
-    requires covered { source_size literals.now ≤ sides.rows * sides.columns }
-    requires fit { sides.rows * sides.columns < 2 ^ 62 }
-    requires narrow { sides.rows + sides.columns < 2 ^ 31 }
-    requires low { base < 2 ^ 62 }
-    requires room { (T.state sink.old).next + 2 * source_size literals.now < 2 ^ 62 }
-    ensures { HandsFrom (cells_steps (source_literals literals.now) 0 sides.rows sides.columns base) result (T.state sink.old) (T.state sink.new) }
-{
-    for place in 0..literals.len() {
-        derive_cell(alloc, literals, sides, base, place, sink)?;
+    /// What the fresh variables of all rows and columns mean.
+    pub fn derive_lines<T: StepSink>(&self, alloc: Global, sink: &mut T) -> Result<(), SinkFault>
+        requires room { (T.state sink.old).next + 2 * (self.now.sides.rows + self.now.sides.columns) < 2 ^ 62 }
+        ensures { HandsFrom (grid_reification_steps (source_literals self.now.literals) self.now.first self.now.sides.rows self.now.sides.columns) result (T.state sink.old) (T.state sink.new) }
+    {
+        reify_all(alloc, self, sink)
     }
-    Ok(())
+
+    /// The clauses of all literals.
+    pub fn derive_cells<T: StepSink>(&self, alloc: Global, sink: &mut T) -> Result<(), SinkFault>
+        requires room { (T.state sink.old).next + 2 * source_size self.now.literals < 2 ^ 62 }
+        ensures { HandsFrom (cells_steps (source_literals self.now.literals) self.now.first self.now.sides.rows self.now.sides.columns self.now.base) result (T.state sink.old) (T.state sink.new) }
+    {
+        claim_all(alloc, self, sink)
+    }
+}
+
+impl NumberedSteps for Cells<'_> {
+    ghost use Rattle.std.specs.Prelude.{◌+◌, ◌*◌};
+    ghost use Rattle.pb_amo.specs.inner.GridOrder.{line_at, cell_at};
+    ghost use Rattle.pb_amo.specs.inner.Source.{source_literals};
+    ghost use Rattle.pb_amo.specs.inner.ProductParts.{source_size};
+
+    ghost fresh_count = { λ c. c.sides.rows + c.sides.columns };
+
+    ghost reification = { λ c. line_at (source_literals c.literals) c.first c.sides.rows c.sides.columns };
+
+    ghost claim_count = { λ c. source_size c.literals * 2 };
+
+    ghost justification = { λ c. cell_at (source_literals c.literals) c.first c.sides.rows c.sides.columns c.base };
+
+    fn fresh(&self) -> usize {
+        self.sides.rows + self.sides.columns
+    }
+
+    fn claims(&self) -> usize {
+        self.literals.len() * 2
+    }
+
+    fn reify_one<T: StepSink>(
+        &self,
+        alloc: Global,
+        number: usize,
+        sink: &mut T,
+    ) -> Result<(), SinkFault> {
+        let var = fresh_at(self.first, number).var;
+        if number < self.sides.rows {
+            derive_line(alloc, &self.literals, self.across(number), var, sink)
+        } else {
+            let column = number - self.sides.rows;
+            derive_line(alloc, &self.literals, self.down(column), var, sink)
+        }
+    }
+
+    fn claim_one<T: StepSink>(
+        &self,
+        alloc: Global,
+        number: usize,
+        sink: &mut T,
+    ) -> Result<(), SinkFault> {
+        let place = number / 2;
+        if number % 2 == 0 {
+            let row = place / self.sides.columns;
+            let id = self.base + 2 * row as u64 + 1;
+            derive_beside(alloc, &self.literals, self.across(row), place, id, sink)
+        } else {
+            let column = place % self.sides.columns;
+            let id = self.base + 2 * self.sides.rows as u64 + 2 * column as u64 + 1;
+            derive_beside(alloc, &self.literals, self.down(column), place, id, sink)
+        }
+    }
 }
 
 /// The ids of a constraint and of the first constraints of so many lines.

@@ -6,7 +6,7 @@ ghost use Rattle.pb_amo.specs.ProductSteps.{product_steps};
 ghost use Rattle.pb_amo.specs.inner.Source.{source_literals};
 ghost use Rattle.pb_amo.specs.inner.ProductParts.{source_size, most_steps, opening_steps, turning_steps, closing_steps};
 
-use crate::cells::{derive_cells, derive_line_sum, derive_lines};
+use crate::cells::{Cells, derive_line_sum};
 use crate::claims::derive_pairs;
 use crate::sides::{Sides, fresh_of, sides_of};
 use crate::source::{Line, Source};
@@ -33,8 +33,14 @@ fn derive_opening<T: StepSink>(
     ensures { HandsFrom (opening_steps (source_literals literals.now) first sides.rows sides.columns id) result (T.state sink.old) (T.state sink.new) }
 {
     let base = sink.next_id();
-    derive_lines(alloc, literals, first, sides, sink)?;
-    derive_cells(alloc, literals, sides, base, sink)?;
+    let cells = Cells {
+        literals: *literals,
+        first,
+        sides,
+        base,
+    };
+    cells.derive_lines(alloc, sink)?;
+    cells.derive_cells(alloc, sink)?;
     derive_line_sum(alloc, id, base, sides.rows, sink)
 }
 

@@ -1,193 +1,94 @@
-//! The steps of a ladder.
-ghost use Rattle.std.specs.Prelude.{◌≡◌, ◌≤◌, ◌<◌, ◌+◌, ◌-◌, ◌*◌, ◌^◌, length};
-ghost use Rattle.pb_norm.specs.Constraints.{weight, weights};
-ghost use Rattle.pb_family.specs.Derivations.{pieces};
-ghost use Rattle.pb_family.specs.StepSinks.{HandsSteps};
-ghost use Rattle.pb_amo.specs.LadderSteps.{ladder_steps};
-ghost use Rattle.pb_amo.specs.inner.LadderPieces.{rung_piece, link_piece, none_piece, some_piece};
+//! The literals of a ladder and its fresh variables, and the clause at each place.
+ghost use Rattle.std.specs.Prelude.{◌≤◌, ◌<◌, ◌+◌, ◌^◌, length};
 
-use pb_base::Term;
-use pb_family::{
-    SinkFault, StepSink, derive_claim, derive_deletions, derive_reification, fresh_at,
-};
-use std::alloc::Global;
+use crate::rung::{Place, place_at};
+use crate::source::Source;
+use pb_base::{Failed, Lit, Term};
+use pb_family::{ClauseSink, NumberedClauses, emit_all, fresh_at};
 
-// What the fresh variable at a place means.
-fn derive_rung<T: StepSink>(
-    alloc: Global,
-    terms: &[Term],
-    first: u32,
-    place: usize,
-    sink: &mut T,
-) -> Result<(), SinkFault>
-    requires low { 1 ≤ first }
-    requires within { place + 1 < length terms.now }
-    requires fits { first + place < 2 ^ 31 }
-    requires light { weight (weights terms.now) < 2 ^ 100 }
-    requires room { (T.state sink.old).next + 1 < 2 ^ 62 }
-    ensures { HandsSteps (rung_piece (weights terms.now) first (T.state sink.old).next place) result (T.state sink.old) (T.state sink.new) }
-{
-    let var = fresh_at(first, place).var;
-    derive_reification(alloc, var, &terms[place + 1..], 1, sink)
+/// A fresh variable for each literal but the last.
+#[derive(Clone, Copy)]
+pub struct Rungs<'a> {
+    pub terms: &'a [Term],
+    pub first: u32,
+    ghost three: { 3 ≤ length terms.now },
+    ghost few: { length terms.now < 2 ^ 31 },
+    ghost low: { 1 ≤ first },
+    ghost fits: { first + length terms.now ≤ 2 ^ 31 + 1 },
 }
 
-// What all of them mean.
-fn derive_rungs<T: StepSink>(
-    alloc: Global,
-    terms: &[Term],
-    first: u32,
-    sink: &mut T,
-) -> Result<(), SinkFault>
-    requires low { 1 ≤ first }
-    requires some { 1 ≤ length terms.now }
-    requires few { length terms.now < 2 ^ 31 }
-    requires fits { first + length terms.now ≤ 2 ^ 31 + 1 }
-    requires light { weight (weights terms.now) < 2 ^ 100 }
-    requires room { (T.state sink.old).next ≤ 2 ^ 61 }
-    ensures { HandsSteps (pieces (rung_piece (weights terms.now) first) 2 (T.state sink.old).next 0 (length terms.now - 1)) result (T.state sink.old) (T.state sink.new) }
-{
-    for place in 0..terms.len() - 1 {
-        derive_rung(alloc, terms, first, place, sink)?;
+impl Rungs<'_> {
+    ghost use Rattle.std.specs.Prelude.{◌≡◌, ◌<◌, ◌+◌, ◌-◌, ◌*◌, ◌∷◌, [], length};
+    ghost use Rattle.pb_base.specs.Literals.{negated};
+    ghost use Rattle.pb_norm.specs.Constraints.{weights};
+    ghost use Rattle.pb_norm.specs.Reduction.{lits_of};
+    ghost use Rattle.pb_family.specs.Fresh.{fresh_at, literal_at};
+    ghost use Rattle.pb_family.specs.Handing.{Hands};
+    ghost use Rattle.pb_amo.specs.Ladder.{ladder_clauses};
+    ghost use Rattle.pb_amo.specs.LadderSteps.{clause_at};
+    ghost use Rattle.pb_amo.specs.inner.LadderOrder.{IsPlace, place_at};
+
+    /// The place with a number.
+    pub fn place(&self, number: usize) -> Place
+        requires { number < 3 * length self.now.terms.now - 4 }
+        ensures is { result ≡ place_at (length self.now.terms.now) number }
+        ensures within { IsPlace (length self.now.terms.now) result }
+    {
+        place_at(self.terms.len(), number)
     }
-    Ok(())
-}
 
-// The clause between two neighbours, where the ids of the reifications begin at `base`.
-fn derive_link<T: StepSink>(
-    alloc: Global,
-    terms: &[Term],
-    base: u64,
-    place: usize,
-    sink: &mut T,
-) -> Result<(), SinkFault>
-    requires within { place + 2 < length terms.now }
-    requires few { length terms.now < 2 ^ 31 }
-    requires low { base ≤ 2 ^ 61 }
-    requires room { (T.state sink.old).next + 1 < 2 ^ 62 }
-    ensures { HandsSteps (link_piece (weights terms.now) base (T.state sink.old).next place) result (T.state sink.old) (T.state sink.new) }
-{
-    let id = base + 2 * place as u64;
-    derive_claim(alloc, &[id + 2, id + 1], &terms[place + 1..place + 2], sink)
-}
-
-// The clauses between neighbours.
-fn derive_links<T: StepSink>(
-    alloc: Global,
-    terms: &[Term],
-    base: u64,
-    sink: &mut T,
-) -> Result<(), SinkFault>
-    requires some { 2 ≤ length terms.now }
-    requires few { length terms.now < 2 ^ 31 }
-    requires low { base ≤ 2 ^ 61 }
-    requires room { (T.state sink.old).next ≤ 2 ^ 61 + 2 ^ 35 }
-    ensures { HandsSteps (pieces (link_piece (weights terms.now) base) 1 (T.state sink.old).next 0 (length terms.now - 2)) result (T.state sink.old) (T.state sink.new) }
-{
-    for place in 0..terms.len() - 2 {
-        derive_link(alloc, terms, base, place, sink)?;
+    /// The fresh variable that says that some literal after a place is true.
+    fn bit(&self, place: usize) -> Lit
+        requires { place + 1 < length self.now.terms.now }
+        ensures { result ≡ fresh_at self.now.first place }
+    {
+        fresh_at(self.first, place)
     }
-    Ok(())
-}
 
-// The clause that none is true after the literal at a place, where `id` is the constraint's.
-fn derive_none<T: StepSink>(
-    alloc: Global,
-    terms: &[Term],
-    id: u64,
-    base: u64,
-    place: usize,
-    sink: &mut T,
-) -> Result<(), SinkFault>
-    requires within { place < length terms.now }
-    requires few { length terms.now < 2 ^ 31 }
-    requires low { base ≤ 2 ^ 61 }
-    requires room { (T.state sink.old).next + 1 < 2 ^ 62 }
-    ensures { HandsSteps (none_piece (weights terms.now) id base (T.state sink.old).next place) result (T.state sink.old) (T.state sink.new) }
-{
-    derive_claim(alloc, &[base + 2 * place as u64, id], &terms[..place], sink)
-}
-
-// The clauses that none is true after a literal that is.
-fn derive_nones<T: StepSink>(
-    alloc: Global,
-    terms: &[Term],
-    id: u64,
-    base: u64,
-    sink: &mut T,
-) -> Result<(), SinkFault>
-    requires some { 1 ≤ length terms.now }
-    requires few { length terms.now < 2 ^ 31 }
-    requires low { base ≤ 2 ^ 61 }
-    requires room { (T.state sink.old).next ≤ 2 ^ 61 + 2 ^ 35 }
-    ensures { HandsSteps (pieces (none_piece (weights terms.now) id base) 1 (T.state sink.old).next 0 (length terms.now - 1)) result (T.state sink.old) (T.state sink.new) }
-{
-    for place in 0..terms.len() - 1 {
-        derive_none(alloc, terms, id, base, place, sink)?;
+    /// The negation of the literal at a place.
+    fn not_at(&self, place: usize) -> Lit
+        requires { place < length self.now.terms.now }
+        ensures { result ≡ negated (literal_at (lits_of (weights self.now.terms.now)) place) }
+    {
+        Source::OfTerms(self.terms).at(place).not()
     }
-    Ok(())
-}
 
-// The clause that some is true before the literal behind a place.
-fn derive_some<T: StepSink>(
-    alloc: Global,
-    terms: &[Term],
-    base: u64,
-    place: usize,
-    sink: &mut T,
-) -> Result<(), SinkFault>
-    requires within { place + 1 < length terms.now }
-    requires few { length terms.now < 2 ^ 31 }
-    requires low { base ≤ 2 ^ 61 }
-    requires room { (T.state sink.old).next + 1 < 2 ^ 62 }
-    ensures { HandsSteps (some_piece (weights terms.now) base (T.state sink.old).next place) result (T.state sink.old) (T.state sink.new) }
-{
-    derive_claim(
-        alloc,
-        &[base + 2 * place as u64 + 1],
-        &terms[place + 2..],
-        sink,
-    )
-}
-
-// The clauses that some is true before a literal that is.
-fn derive_somes<T: StepSink>(
-    alloc: Global,
-    terms: &[Term],
-    base: u64,
-    sink: &mut T,
-) -> Result<(), SinkFault>
-    requires some { 1 ≤ length terms.now }
-    requires few { length terms.now < 2 ^ 31 }
-    requires low { base ≤ 2 ^ 61 }
-    requires room { (T.state sink.old).next ≤ 2 ^ 61 + 2 ^ 35 }
-    ensures { HandsSteps (pieces (some_piece (weights terms.now) base) 1 (T.state sink.old).next 0 (length terms.now - 1)) result (T.state sink.old) (T.state sink.new) }
-{
-    for place in 0..terms.len() - 1 {
-        derive_some(alloc, terms, base, place, sink)?;
+    /// Hands over the clause at a place.
+    fn emit_at<S: ClauseSink>(&self, place: Place, sink: &mut S) -> Result<(), Failed>
+        requires { IsPlace (length self.now.terms.now) place }
+        ensures { Hands (clause_at (lits_of (weights self.now.terms.now)) self.now.first place ∷ []) result (S.state sink.old) (S.state sink.new) }
+    {
+        match place {
+            Place::Link(k) => sink.clause(&[self.bit(k + 1).not(), self.bit(k)]),
+            Place::NoneAfter(k) => sink.clause(&[self.not_at(k), self.bit(k).not()]),
+            Place::SomeAfter(k) => sink.clause(&[self.not_at(k + 1), self.bit(k)]),
+        }
     }
-    Ok(())
+
+    /// Hands over all the clauses.
+    pub fn emit<S: ClauseSink>(&self, sink: &mut S) -> Result<(), Failed>
+        ensures { Hands (ladder_clauses (lits_of (weights self.now.terms.now)) self.now.first) result (S.state sink.old) (S.state sink.new) }
+    {
+        emit_all(self, sink)
+    }
 }
 
-/// Hands over what the fresh variables mean, that each clause follows, and that the reifications go.
-pub(crate) fn derive_ladder<T: StepSink>(
-    alloc: Global,
-    terms: &[Term],
-    first: u32,
-    id: u64,
-    sink: &mut T,
-) -> Result<(), SinkFault>
-    requires low { 1 ≤ first }
-    requires some { 2 ≤ length terms.now }
-    requires few { length terms.now < 2 ^ 31 }
-    requires fits { first + length terms.now ≤ 2 ^ 31 + 1 }
-    requires light { weight (weights terms.now) < 2 ^ 100 }
-    requires room { (T.state sink.old).next ≤ 2 ^ 61 }
-    ensures { HandsSteps (ladder_steps (weights terms.now) first id (T.state sink.old).next) result (T.state sink.old) (T.state sink.new) }
-{
-    let base = sink.next_id();
-    derive_rungs(alloc, terms, first, sink)?;
-    derive_links(alloc, terms, base, sink)?;
-    derive_nones(alloc, terms, id, base, sink)?;
-    derive_somes(alloc, terms, base, sink)?;
-    derive_deletions(alloc, base, 2, terms.len() as u64 - 1, sink)
+impl NumberedClauses for Rungs<'_> {
+    ghost use Rattle.std.specs.Prelude.{◌-◌, ◌*◌, length};
+    ghost use Rattle.pb_norm.specs.Constraints.{weights};
+    ghost use Rattle.pb_norm.specs.Reduction.{lits_of};
+    ghost use Rattle.pb_amo.specs.LadderSteps.{clause_at};
+    ghost use Rattle.pb_amo.specs.inner.LadderOrder.{place_at};
+
+    ghost clause_count = { λ r. 3 * length r.terms.now - 4 };
+
+    ghost clause = { λ r k. clause_at (lits_of (weights r.terms.now)) r.first (place_at (length r.terms.now) k) };
+
+    fn clauses(&self) -> usize {
+        3 * self.terms.len() - 4
+    }
+
+    fn emit_one<S: ClauseSink>(&self, number: usize, sink: &mut S) -> Result<(), Failed> {
+        self.emit_at(self.place(number), sink)
+    }
 }

@@ -6,7 +6,8 @@ use crate::grid::Grid;
 use crate::place::Place;
 use pb_base::Term;
 use pb_family::{
-    SinkFault, StepSink, derive_claim, derive_deletions, derive_reification, fresh_at,
+    NumberedClauses, NumberedSteps, SinkFault, StepSink, derive_all, derive_claim,
+    derive_reification, fresh_at,
 };
 use std::alloc::Global;
 
@@ -30,11 +31,10 @@ pub struct Derivation<'a> {
 impl<'a> Derivation<'a> {
     ghost use Rattle.std.specs.Prelude.{◌≡◌, ◌≤◌, ◌<◌, ◌+◌, ◌^◌, ◌∷◌, [], length};
     ghost use Rattle.pb_norm.specs.Constraints.{weights};
-    ghost use Rattle.pb_derive.specs.Reifications.{reification_steps};
-    ghost use Rattle.pb_family.specs.StepSinks.{HandsSteps};
+    ghost use Rattle.pb_family.specs.StepSinks.{HandsFrom};
     ghost use Rattle.pb_family.specs.inner.HandedJustifications.{HandsJustifications};
-    ghost use Rattle.pb_counter.specs.Counter.{counter_fresh, counter_size};
-    ghost use Rattle.pb_counter.specs.CounterSteps.{counted_at, counts, reached_id, missed_id, ids_of, sources_at, beside_at, justification_at, counter_justifications, counter_steps};
+    ghost use Rattle.pb_counter.specs.CounterSteps.{reached_id, missed_id, ids_of, sources_at, beside_at, counter_steps};
+    ghost use Rattle.pb_counter.specs.inner.Claimed.{claimed_at};
     ghost use Rattle.pb_counter.specs.inner.Order.{IsPlace};
 
     /// The id of the constraint that holds where a fresh variable is true.
@@ -102,7 +102,7 @@ impl<'a> Derivation<'a> {
     fn claim<T: StepSink>(&self, alloc: Global, place: Place, sink: &mut T) -> Result<(), SinkFault>
         requires place { IsPlace (length self.now.grid.terms.now) self.now.grid.width place }
         requires few { (T.state sink.old).next + 1 < 2 ^ 62 }
-        ensures { HandsJustifications (justification_at (weights self.now.grid.terms.now) self.now.grid.width self.now.grid.first self.now.id self.now.base place ∷ []) result (T.state sink.old) (T.state sink.new) }
+        ensures { HandsJustifications (claimed_at self.now place ∷ []) result (T.state sink.old) (T.state sink.new) }
     {
         let beside = self.beside(place);
         match self.sources(place) {
@@ -111,52 +111,57 @@ impl<'a> Derivation<'a> {
         }
     }
 
-    /// Derives all the clauses.
-    fn claims<T: StepSink>(&self, alloc: Global, sink: &mut T) -> Result<(), SinkFault>
-        requires few { (T.state sink.old).next + counter_size (length self.now.grid.terms.now) self.now.grid.width < 2 ^ 62 }
-        ensures { HandsJustifications (counter_justifications (weights self.now.grid.terms.now) self.now.grid.width self.now.grid.first self.now.id self.now.base) result (T.state sink.old) (T.state sink.new) }
+    /// The whole derivation.
+    pub fn derive<T: StepSink>(&self, alloc: Global, sink: &mut T) -> Result<(), SinkFault>
+        requires { self.now.base ≡ (T.state sink.old).next }
+        ensures { HandsFrom (counter_steps (weights self.now.grid.terms.now) self.now.grid.width self.now.grid.first self.now.id) result (T.state sink.old) (T.state sink.new) }
     {
-        for number in 0..self.grid.size() {
-            self.claim(alloc, self.grid.place(number), sink)?;
-        }
-        Ok(())
+        derive_all(alloc, self, sink)
+    }
+}
+
+impl NumberedSteps for Derivation<'_> {
+    ghost use Rattle.std.specs.Prelude.{length};
+    ghost use Rattle.pb_norm.specs.Constraints.{weights};
+    ghost use Rattle.pb_counter.specs.Counter.{counter_fresh, counter_size};
+    ghost use Rattle.pb_counter.specs.CounterSteps.{counted_at};
+    ghost use Rattle.pb_counter.specs.inner.Claimed.{claimed_at};
+    ghost use Rattle.pb_counter.specs.inner.Order.{place_at};
+
+    ghost fresh_count = { λ d. counter_fresh (length d.grid.terms.now) d.grid.width };
+
+    ghost reification = { λ d. counted_at (weights d.grid.terms.now) d.grid.width d.grid.first };
+
+    ghost claim_count = { λ d. counter_size (length d.grid.terms.now) d.grid.width };
+
+    ghost justification = { λ d k. claimed_at d (place_at (length d.grid.terms.now) d.grid.width k) };
+
+    fn fresh(&self) -> usize {
+        self.grid.fresh()
     }
 
-    /// Says what the fresh variable with a number means.
-    fn reification<T: StepSink>(
+    fn claims(&self) -> usize {
+        self.grid.clauses()
+    }
+
+    fn reify_one<T: StepSink>(
         &self,
         alloc: Global,
         number: usize,
         sink: &mut T,
-    ) -> Result<(), SinkFault>
-        requires within { number < counter_fresh (length self.now.grid.terms.now) self.now.grid.width }
-        requires few { (T.state sink.old).next + 1 < 2 ^ 62 }
-        ensures { HandsSteps (reification_steps (T.state sink.old).next (counted_at (weights self.now.grid.terms.now) self.now.grid.width self.now.grid.first number ∷ [])) result (T.state sink.old) (T.state sink.new) }
-    {
+    ) -> Result<(), SinkFault> {
         let var = fresh_at(self.grid.first, number).var;
         let seen = number / self.grid.width + 1;
         let least = number % self.grid.width + 1;
         derive_reification(alloc, var, &self.grid.terms[..seen], least as u128, sink)
     }
 
-    /// Says what all of them mean.
-    fn reifications<T: StepSink>(&self, alloc: Global, sink: &mut T) -> Result<(), SinkFault>
-        requires few { (T.state sink.old).next ≤ 2 ^ 61 }
-        ensures { HandsSteps (reification_steps (T.state sink.old).next (counts (weights self.now.grid.terms.now) self.now.grid.width self.now.grid.first)) result (T.state sink.old) (T.state sink.new) }
-    {
-        for number in 0..self.grid.fresh() {
-            self.reification(alloc, number, sink)?;
-        }
-        Ok(())
-    }
-
-    /// The whole derivation.
-    pub fn derive<T: StepSink>(&self, alloc: Global, sink: &mut T) -> Result<(), SinkFault>
-        requires { self.now.base ≡ (T.state sink.old).next }
-        ensures { HandsSteps (counter_steps (weights self.now.grid.terms.now) self.now.grid.width self.now.grid.first self.now.id (T.state sink.old).next) result (T.state sink.old) (T.state sink.new) }
-    {
-        self.reifications(alloc, sink)?;
-        self.claims(alloc, sink)?;
-        derive_deletions(alloc, self.base, 2, self.grid.fresh() as u64, sink)
+    fn claim_one<T: StepSink>(
+        &self,
+        alloc: Global,
+        number: usize,
+        sink: &mut T,
+    ) -> Result<(), SinkFault> {
+        self.claim(alloc, self.grid.place(number), sink)
     }
 }

@@ -3,7 +3,7 @@ ghost use Rattle.std.specs.Prelude.{◌≤◌, ◌<◌, ◌+◌, ◌-◌, ◌*�
 
 use crate::place::{Place, place_at};
 use pb_base::{Failed, Lit, Term};
-use pb_family::{ClauseSink, fresh_at};
+use pb_family::{ClauseSink, NumberedClauses, emit_all, fresh_at};
 
 /// Rows of fresh variables, one row for each literal but the last.
 #[derive(Clone, Copy)]
@@ -27,13 +27,6 @@ impl Grid<'_> {
     ghost use Rattle.pb_family.specs.Handing.{Hands};
     ghost use Rattle.pb_counter.specs.Counter.{count_bit, clause_at, counter_clauses, counter_fresh, counter_size};
     ghost use Rattle.pb_counter.specs.inner.Order.{IsPlace, place_at};
-
-    /// How many places there are.
-    pub fn size(&self) -> usize
-        ensures { result ≡ counter_size (length self.now.terms.now) self.now.width }
-    {
-        self.width + (self.terms.len() - 2) * (2 * self.width + 1) + 1
-    }
 
     /// How many fresh variables there are.
     pub fn fresh(&self) -> usize
@@ -91,9 +84,26 @@ impl Grid<'_> {
     pub fn emit<S: ClauseSink>(&self, sink: &mut S) -> Result<(), Failed>
         ensures { Hands (counter_clauses (lits_of (weights self.now.terms.now)) self.now.width self.now.first) result (S.state sink.old) (S.state sink.new) }
     {
-        for number in 0..self.size() {
-            self.emit_at(self.place(number), sink)?;
-        }
-        Ok(())
+        emit_all(self, sink)
+    }
+}
+
+impl NumberedClauses for Grid<'_> {
+    ghost use Rattle.std.specs.Prelude.{length};
+    ghost use Rattle.pb_norm.specs.Constraints.{weights};
+    ghost use Rattle.pb_norm.specs.Reduction.{lits_of};
+    ghost use Rattle.pb_counter.specs.Counter.{clause_at, counter_size};
+    ghost use Rattle.pb_counter.specs.inner.Order.{place_at};
+
+    ghost clause_count = { λ g. counter_size (length g.terms.now) g.width };
+
+    ghost clause = { λ g k. clause_at (lits_of (weights g.terms.now)) g.width g.first (place_at (length g.terms.now) g.width k) };
+
+    fn clauses(&self) -> usize {
+        self.width + (self.terms.len() - 2) * (2 * self.width + 1) + 1
+    }
+
+    fn emit_one<S: ClauseSink>(&self, number: usize, sink: &mut S) -> Result<(), Failed> {
+        self.emit_at(self.place(number), sink)
     }
 }

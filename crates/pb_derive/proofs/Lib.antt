@@ -4,6 +4,7 @@ pub mod Closed
 pub mod Closing
 pub mod Deleted
 pub mod Exact
+pub mod Fine
 pub mod FollowedBy
 pub mod Held
 pub mod InRow

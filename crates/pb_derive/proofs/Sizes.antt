@@ -81,7 +81,7 @@ second-size id m false = omega (arith, reverse-size m)
 
 -- ---- the three parts
 
-reifications-size : (most next : ℕ) (ms : List Reification) → All (λ m. 238 + 106 * length m.sum ≤ most) ms → sum_by step_size (reification_steps next ms) ≤ most * length ms
+pub reifications-size : (most next : ℕ) (ms : List Reification) → All (λ m. 238 + 106 * length m.sum ≤ most) ms → sum_by step_size (reification_steps next ms) ≤ most * length ms
 reifications-size most next [] h = omega arith
 reifications-size most next (m ∷ ms) h =
     let first : Step = redundant (forward_of m) m.var false in
@@ -96,7 +96,7 @@ reifications-size most next (m ∷ ms) h =
       reifications-size most (next + 2) ms (All-tail (λ (m : Reification). 238 + 106 * length m.sum ≤ most) m ms h),
     )
 
-claims-size : (next : ℕ) (cs : List Claim) → sum_by step_size (claim_steps next cs) ≡ sum_by (λ c. step_size c.step) cs + 24 * length cs
+pub claims-size : (next : ℕ) (cs : List Claim) → sum_by step_size (claim_steps next cs) ≡ sum_by (λ c. step_size c.step) cs + 24 * length cs
 claims-size next [] = refl
 claims-size next (c ∷ cs) =
     let out : step_size (Out next) ≡ 24 = refl in
@@ -109,7 +109,7 @@ claims-size next (c ∷ cs) =
       claims-size (next + 1) cs,
     )
 
-deletions-size : (id n : ℕ) → sum_by step_size (deletion_steps 2 id n) ≡ 44 * n
+pub deletions-size : (id n : ℕ) → sum_by step_size (deletion_steps 2 id n) ≡ 44 * n
 deletions-size id zero = refl
 deletions-size id (suc n) =
     let here : step_size (Del (id ∷ (id + 1) ∷ [])) ≡ 44 = refl in

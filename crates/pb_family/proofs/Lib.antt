@@ -8,6 +8,7 @@ pub mod FlatRanges
 pub mod Fronts
 pub mod Gathered
 pub mod HandedPhases
+pub mod Limits
 pub mod Looping
 pub mod Models
 pub mod Opposites
@@ -19,4 +20,7 @@ pub mod ShortClauses
 pub mod Stopping
 pub mod Taking
 pub mod TermSlices
+pub mod TermVars
+pub mod UnitCuts
+pub mod UnitDerivations
 pub mod UnitSums

@@ -97,11 +97,17 @@ module _ {R : Type 0} {all : List Step} (old now : StepState R) where
 
 -- ---- lists as pieces
 
-pub reification_pieces : (f : ℕ → Reification) (next a n : ℕ) → reification_steps next (map f (range_with_len a n)) ≡ pieces (λ id k. reification_steps id (f k ∷ [])) 2 next a n
+abbrev pub reification_piece : (ℕ → Reification) → ℕ → ℕ → List Step
+reification_piece f id k = reification_steps id (f k ∷ [])
+
+pub reification_pieces : (f : ℕ → Reification) (next a n : ℕ) → reification_steps next (map f (range_with_len a n)) ≡ pieces (reification_piece f) 2 next a n
 reification_pieces f next a zero = refl
 reification_pieces f next a (suc n) = ap (λ (ss : List Step). reification_steps next (f a ∷ []) ++ ss) (reification_pieces f (next + 2) (a + 1) n)
 
-pub justification_pieces : (f : ℕ → Justification) (next a n : ℕ) → claim_steps next (map by_justification (map f (range_with_len a n))) ≡ pieces (λ id k. claim_steps id (by_justification (f k) ∷ [])) 1 next a n
+abbrev pub justification_piece : (ℕ → Justification) → ℕ → ℕ → List Step
+justification_piece f id k = claim_steps id (by_justification (f k) ∷ [])
+
+pub justification_pieces : (f : ℕ → Justification) (next a n : ℕ) → claim_steps next (map by_justification (map f (range_with_len a n))) ≡ pieces (justification_piece f) 1 next a n
 justification_pieces f next a zero = refl
 justification_pieces f next a (suc n) = ap (λ (ss : List Step). claim_steps next (by_justification (f a) ∷ []) ++ ss) (justification_pieces f (next + 1) (a + 1) n)
 

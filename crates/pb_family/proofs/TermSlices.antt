@@ -1,13 +1,10 @@
 -- Terms as steps have them, and slices of terms.
-use Rattle.std.proofs.Common.{◌≡◌, ◌≤◌, ◌<◌, ◌-◌, ◌^◌, ℕ, zero, suc, List, [], ◌∷◌, length, length-drop, take, drop, refl, sym, ap, ◌∙◌, arith, pos}
-use Rattle.std.specs.Prelude.{All, map}
-use Rattle.std.proofs.lemmas.List.{take-map, drop-map, get_or-map, length-map}
+use Rattle.std.proofs.Common.{◌≡◌, ◌≤◌, ◌<◌, ◌+◌, ◌-◌, ◌^◌, ℕ, List, [], ◌∷◌, length, length-drop, take, drop, refl, sym, ap, ◌∙◌, arith}
+use Rattle.std.specs.Prelude.{All, map, slice_index_or}
+use Rattle.std.proofs.lemmas.List.{take-map, drop-map, get_or-map, length-map, take_all}
 use Rattle.std.proofs.lemmas.List.Elements.{All-nil, All-cons}
 use Rattle.std.proofs.lemmas.List.Sums.{sum_by-take-drop}
-use Rattle.std.proofs.Math.Seq.{drop-cons}
-use Rattle.pb_base.specs.declared.literal.Lit.{Lit}
 use Rattle.pb_base.specs.declared.literal.Term.{Term}
-use Rattle.pb_norm.specs.BoundedSums.{vars_of}
 use Rattle.pb_norm.specs.Constraints.{Weighted, weight, weighted, weights, term_of, terms_of}
 use Rattle.pb_norm.specs.inner.Kept.{on_term}
 use Rattle.pb_norm.specs.Reduction.{lits_of, opposite}
@@ -31,26 +28,28 @@ opposite_terms (t ∷ ts) = ap (λ (us : List Term). term_of (opposite (weighted
 
 -- ---- slices
 
-take_whole : {X : Type 0} (xs : List X) (n : ℕ) → length xs ≤ n → take n xs ≡ xs
-take_whole [] zero h = refl
-take_whole [] (suc n) h = refl
-take_whole (x ∷ xs) zero h = absurd (omega arith)
-take_whole {X} (x ∷ xs) (suc n) h = ap (λ (ys : List X). x ∷ ys) (take_whole xs n (omega arith))
-
 pub weights_from : (ts : List Term) (k j : ℕ) → j ≡ k → weights (take (length ts - k) (drop k ts)) ≡ drop j (weights ts)
 weights_from ts k j same =
-    ap weights (take_whole (drop k ts) (length ts - k) (let size = length-drop k ts in omega arith)) ∙ sym (drop-map weighted k ts) ∙ ap (λ (n : ℕ). drop n (weights ts)) (sym same)
+    ap weights (take_all (length ts - k) (drop k ts) (let size = length-drop k ts in omega arith)) ∙ sym (drop-map weighted k ts) ∙ ap (λ (n : ℕ). drop n (weights ts)) (sym same)
 
 pub weights_until : (ts : List Term) (k : ℕ) → weights (take k ts) ≡ take k (weights ts)
 weights_until ts k = sym (take-map weighted k ts)
 
-pub var_of_one : (ts : List Term) (k n : ℕ) → k < length ts → n ≡ 1 → vars_of (weights (take n (drop k ts))) ≡ (literal_at (lits_of (weights ts)) k).var ∷ []
-var_of_one ts k n within one =
-    let d : Term = record { coef = pos 1; lit = positive_of 0 } in
-    let size = length-map ts weighted in
-    ap (λ (m : ℕ). vars_of (weights (take m (drop k ts)))) one
-    ∙ ap (λ (us : List Term). vars_of (weights (take 1 us))) (drop-cons ts k d within)
-    ∙ ap (λ (l : Lit). l.var ∷ []) (sym (get_or-map (λ (u : Weighted). u.lit) (weights ts) k (weighted d) (positive_of 0) (omega arith) ∙ ap (λ (u : Weighted). u.lit) (get_or-map weighted ts k d (weighted d) within)))
+-- one term
+pub weights_one : (ts : List Term) (k j : ℕ) → j ≡ k + 1 → weights (take (j - k) (drop k ts)) ≡ take 1 (drop k (weights ts))
+weights_one ts k j next = ap (λ (m : ℕ). weights (take m (drop k ts))) (let e : j - k ≡ 1 = omega (arith, next) in e) ∙ weights_until (drop k ts) 1 ∙ ap (take 1) (sym (drop-map weighted k ts))
 
 pub light_from : (ts : List Term) (k : ℕ) → weight (weights (take (length ts - k) (drop k ts))) ≤ weight (weights ts)
 light_from ts k = omega (arith, ap weight (weights_from ts k k refl), sum_by-take-drop (λ (t : Weighted). t.coef) (weights ts) k)
+
+-- ---- literals
+
+-- a literal for each term
+pub literal_count : (ts : List Term) → length (lits_of (weights ts)) ≡ length ts
+literal_count ts = length-map (weights ts) (λ (t : Weighted). t.lit) ∙ length-map ts weighted
+
+pub literal_of_term : (ts : List Term) (k : ℕ) (d : Term) → k < length ts → literal_at (lits_of (weights ts)) k ≡ (slice_index_or ts k d).lit
+literal_of_term ts k d within =
+    let same : length (weights ts) ≡ length ts = length-map ts weighted in
+    get_or-map (λ (t : Weighted). t.lit) (weights ts) k (weighted d) (positive_of 0) (omega arith)
+    ∙ ap (λ (t : Weighted). t.lit) (get_or-map weighted ts k d (weighted d) within)

@@ -1,11 +1,9 @@
 //! Families that derive their clauses.
 ghost use Rattle.std.specs.Prelude.{◌≡◌, ◌≤◌, ◌<◌, ◌+◌, ◌*◌, ◌^◌, ℕ, List, All, length};
 ghost use Rattle.pb_steps.specs.declared.step.Step.{Step};
-ghost use Rattle.pb_steps.specs.Database.{Database};
 ghost use Rattle.pb_steps.specs.Sayable.{IsSayable};
-ghost use Rattle.pb_derive.specs.Derivations.{IsReadyFor, Derives};
-ghost use Rattle.pb_derive.specs.Short.{AreShort};
 ghost use Rattle.pb_family.specs.Derivations.{AreOriginal, MayStart};
+ghost use Rattle.pb_family.specs.DeriveLaws.{AreShortSteps, DeriveSum};
 ghost use Rattle.pb_family.specs.Families.{VarsBelow};
 ghost use Rattle.pb_family.specs.StepSinks.{HandsSteps};
 
@@ -37,7 +35,7 @@ pub trait Derive: Family {
         ensures { HandsSteps (step_list self.now first id (T.state sink.old).next) result (T.state sink.old) (T.state sink.new) };
 
     /// From a database in which the constraint has the id, the steps are allowed one after the other and put out the clauses.
-    ghost derives: { (f : Self) (first id : ℕ) (db : Database) → VarsBelow first (Self.constraint f).terms → IsReadyFor (Self.constraint f) first (Self.fresh_count f) id db → Derives db (step_list f first id db.next) (Self.clause_list f first) (first + Self.fresh_count f) };
+    ghost derives: { (f : Self) → DeriveSum (Self.constraint f) (Self.fresh_count f) (Self.clause_list f) (step_list f) };
 
     /// The steps are few.
     ghost few_steps: { (f : Self) (first id next : ℕ) → length (step_list f first id next) ≤ 8 * (Self.fresh_count f + Self.clause_count f) };
@@ -46,5 +44,5 @@ pub trait Derive: Family {
     ghost sayable: { (f : Self) (first id next : ℕ) → AreOriginal first (Self.constraint f).terms → MayStart first (Self.fresh_count f) id next → All IsSayable (step_list f first id next) };
 
     /// These lines are short.
-    ghost short: { (f : Self) (first id next : ℕ) → AreOriginal first (Self.constraint f).terms → MayStart first (Self.fresh_count f) id next → length (Self.constraint f).terms ≤ 2 ^ 21 → AreShort (length (Self.constraint f).terms) (Self.fresh_count f) (Self.clause_count f) (step_list f first id next) };
+    ghost short: { (f : Self) → AreShortSteps (Self.constraint f) (Self.fresh_count f) (Self.clause_count f) (step_list f) };
 }

@@ -1,16 +1,12 @@
 //! Pairs: clauses that stand for two bounded sums at once.
-ghost use Rattle.std.specs.Prelude.{◌≡◌, ◌≤◌, ◌<◌, ◌+◌, ◌*◌, ◌^◌, ℕ, List, All, length};
+ghost use Rattle.std.specs.Prelude.{◌≡◌, ◌≤◌, ◌<◌, ◌+◌, ◌*◌, ◌^◌, ℕ, List, length};
 ghost use Rattle.pb_base.specs.declared.literal.Lit.{Lit};
-ghost use Rattle.pb_base.specs.Literals.{Assignment, AgreeBelow, IsModel};
+ghost use Rattle.pb_base.specs.Literals.{Assignment, IsModel};
 ghost use Rattle.pb_norm.specs.BoundedSums.{BoundedSum, StaysWithin};
 ghost use Rattle.pb_norm.specs.ClausePropagation.{ClausesPropagate};
 ghost use Rattle.pb_steps.specs.declared.step.Step.{Step};
-ghost use Rattle.pb_steps.specs.Database.{Database};
-ghost use Rattle.pb_steps.specs.Sayable.{IsSayable};
-ghost use Rattle.pb_derive.specs.Derivations.{IsReadyForBoth, Derives};
-ghost use Rattle.pb_derive.specs.Short.{AreShort};
-ghost use Rattle.pb_family.specs.Derivations.{AreOriginal, MayStart};
-ghost use Rattle.pb_family.specs.Families.{NamesOnly, VarsBelow};
+ghost use Rattle.pb_family.specs.DeriveLaws.{AreSayableForBoth, AreShortForBoth, DeriveBoth};
+ghost use Rattle.pb_family.specs.Families.{ExtendsToModel, NamesOnly, VarsBelow};
 ghost use Rattle.pb_family.specs.Handing.{HandsIfMemory};
 ghost use Rattle.pb_family.specs.Pairs.{StayWithinBoth};
 ghost use Rattle.pb_family.specs.StepSinks.{HandsSteps};
@@ -78,7 +74,7 @@ pub trait Pair {
     ghost sound: { (f : Self) (first : ℕ) → VarsBelow first (most f).terms → (a : Assignment) → IsModel a (clause_list f first) → StayWithinBoth (most f) (least f) a };
 
     /// An assignment under which both do extends over the fresh variables to a model.
-    ghost extends: { (f : Self) (first : ℕ) → VarsBelow first (most f).terms → (a : Assignment) → StayWithinBoth (most f) (least f) a → (b : Assignment) × AgreeBelow first a b × IsModel b (clause_list f first) };
+    ghost extends: { (f : Self) (first : ℕ) → VarsBelow first (most f).terms → (a : Assignment) → StayWithinBoth (most f) (least f) a → ExtendsToModel first a (clause_list f first) };
 
     /// The clauses are as many as it says.
     ghost counts: { (f : Self) (first : ℕ) → length (clause_list f first) ≡ clause_count f };
@@ -94,14 +90,14 @@ pub trait Pair {
     ghost propagates: { (f : Self) (first : ℕ) → VarsBelow first (most f).terms → ClausesPropagate (clause_list f first) (StayWithinBoth (most f) (least f)) };
 
     /// From a database in which both constraints have the ids, the steps are allowed one after the other and put out the clauses.
-    ghost derives: { (f : Self) (first lower upper : ℕ) (db : Database) → VarsBelow first (most f).terms → IsReadyForBoth (most f) (least f) first (fresh_count f) lower upper db → Derives db (step_list f first lower upper db.next) (clause_list f first) (first + fresh_count f) };
+    ghost derives: { (f : Self) → DeriveBoth (most f) (least f) (fresh_count f) (clause_list f) (step_list f) };
 
     /// The steps are few.
     ghost few_steps: { (f : Self) (first lower upper next : ℕ) → length (step_list f first lower upper next) ≤ 8 * (fresh_count f + clause_count f) };
 
     /// Lines can say them: all numbers are within their limits.
-    ghost sayable: { (f : Self) (first lower upper next : ℕ) → AreOriginal first (most f).terms → MayStart first (fresh_count f) lower next → MayStart first (fresh_count f) upper next → All IsSayable (step_list f first lower upper next) };
+    ghost sayable: { (f : Self) → AreSayableForBoth (most f) (fresh_count f) (step_list f) };
 
     /// These lines are short.
-    ghost short: { (f : Self) (first lower upper next : ℕ) → AreOriginal first (most f).terms → MayStart first (fresh_count f) lower next → MayStart first (fresh_count f) upper next → length (most f).terms ≤ 2 ^ 21 → AreShort (length (most f).terms) (fresh_count f) (clause_count f) (step_list f first lower upper next) };
+    ghost short: { (f : Self) → AreShortForBoth (most f) (fresh_count f) (clause_count f) (step_list f) };
 }

@@ -1,19 +1,17 @@
 -- A grid's derivation in parts, as code hands them over around those of the rows and the columns.
-use Rattle.std.specs.Prelude.{ℕ, ◌+◌, ◌*◌, Bool, List, [], ◌∷◌, ◌++◌, length, map}
+use Rattle.std.specs.Prelude.{ℕ, ◌+◌, ◌*◌, Bool, List, [], ◌∷◌, ◌++◌, length}
 use Rattle.pb_base.specs.declared.literal.Lit.{Lit}
 use Rattle.pb_norm.specs.BoundedSums.{vars_of}
 use Rattle.pb_norm.specs.Constraints.{Weighted}
 use Rattle.pb_steps.specs.declared.step.Step.{Step}
-use Rattle.pb_derive.specs.Claims.{claim_steps}
 use Rattle.pb_derive.specs.Deletions.{deletion_steps}
 use Rattle.pb_derive.specs.Reifications.{reification_steps}
 use Rattle.pb_derive.specs.Ones.{unit_of, ones}
-use Rattle.pb_derive.specs.Justifications.{by_justification}
 use Rattle.pb_family.specs.Derivations.{meant, claimed}
 use Rattle.pb_family.specs.Fresh.{literal_at}
 use Rattle.pb_amo.specs.Passing.{passing, Visits}
 use Rattle.pb_amo.specs.Product.{product_fresh, product_count}
-use Rattle.pb_amo.specs.ProductSteps.{line_reifications, grid_reifications, cell_justifications, cells_steps, line_sum}
+use Rattle.pb_amo.specs.ProductSteps.{grid_reifications, cells_steps, line_sum}
 use Rattle.pb_amo.specs.inner.Source.{source_literals}
 use Rattle.pb_amo.specs.declared.source.Source.{Source}
 use Rattle.pb_amo.specs.declared.source.Stride.{Stride}
@@ -45,14 +43,8 @@ line_steps s var p next = meant next var (passed s p) 1
 abbrev pub beside_steps : Source → ℕ → (ℕ → Bool) → ℕ → List Step
 beside_steps s id p next = claimed next (id ∷ []) (vars_of (passed s p))
 
-abbrev pub side_reification_steps : (ℕ → ℕ) → List Lit → ℕ → ℕ → ℕ → List Step
-side_reification_steps side ms first count next = reification_steps next (line_reifications side ms first count)
-
 abbrev pub grid_reification_steps : List Lit → ℕ → ℕ → ℕ → ℕ → List Step
 grid_reification_steps ms first r q next = reification_steps next (grid_reifications ms first r q)
-
-abbrev pub cell_steps : List Lit → ℕ → ℕ → ℕ → ℕ → ℕ → ℕ → List Step
-cell_steps ms first r q base e next = claim_steps next (map by_justification (cell_justifications ms first r q base e))
 
 -- ---- a grid
 

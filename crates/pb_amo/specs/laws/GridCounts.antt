@@ -15,10 +15,6 @@ pub fresh_few : (more n : ℕ) → n ≤ 4 → fresh_within (suc more) n ≡ 0
 unfolding fresh_within
 fresh_few more n few = chosen_true (leb n 4) 0 _ (le-leb n 4 few)
 
-pub fresh_leaf : (k n : ℕ) → n ≤ 4 → fresh_within k n ≡ 0
-fresh_leaf zero n few = fresh_last n
-fresh_leaf (suc more) n few = fresh_few more n few
-
 pub fresh_many : (more n : ℕ) → 4 < n → fresh_within (suc more) n ≡ rows n + columns n + fresh_within more (rows n) + fresh_within more (columns n)
 unfolding fresh_within
 fresh_many more n many = chosen_false (leb n 4) 0 _ (lt-leb n 4 many)
@@ -31,72 +27,9 @@ pub count_few : (more n : ℕ) → n ≤ 4 → count_within (suc more) n ≡ pai
 unfolding count_within
 count_few more n few = chosen_true (leb n 4) (pair_count n) _ (le-leb n 4 few)
 
-pub count_leaf : (k n : ℕ) → n ≤ 4 → count_within k n ≡ pair_count n
-count_leaf zero n few = count_last n
-count_leaf (suc more) n few = count_few more n few
-
 pub count_many : (more n : ℕ) → 4 < n → count_within (suc more) n ≡ 2 * n + count_within more (rows n) + count_within more (columns n)
 unfolding count_within
 count_many more n many = chosen_false (leb n 4) (pair_count n) _ (lt-leb n 4 many)
-
--- as many grids as there are literals are enough
-pub fresh_enough : (k j n : ℕ) → n ≤ k → n ≤ j → fresh_within k n ≡ fresh_within j n
-fresh_enough zero j n hk hj = fresh_last n ∙ sym (fresh_leaf j n (omega arith))
-fresh_enough (suc k) zero n hk hj = fresh_few k n (omega arith) ∙ sym (fresh_last n)
-fresh_enough (suc k) (suc j) n hk hj =
-    elim (cases_lt 4 n) as (λ _. fresh_within (suc k) n ≡ fresh_within (suc j) n) [
-      | inr few ↦ fresh_few k n few ∙ sym (fresh_few j n few)
-      | inl many ↦
-          let fit = sides_fit n many in
-          let some = columns_positive n (omega arith) in
-          let some_rows = rows_positive n (omega arith) in
-          let by_rows = fresh_enough k j (rows n) (omega arith) (omega arith) in
-          let by_columns = fresh_enough k j (columns n) (omega arith) (omega arith) in
-          let one = fresh_many k n many in
-          let two = fresh_many j n many in
-          omega arith
-    ]
-
-pub count_enough : (k j n : ℕ) → n ≤ k → n ≤ j → count_within k n ≡ count_within j n
-count_enough zero j n hk hj = count_last n ∙ sym (count_leaf j n (omega arith))
-count_enough (suc k) zero n hk hj = count_few k n (omega arith) ∙ sym (count_last n)
-count_enough (suc k) (suc j) n hk hj =
-    elim (cases_lt 4 n) as (λ _. count_within (suc k) n ≡ count_within (suc j) n) [
-      | inr few ↦ count_few k n few ∙ sym (count_few j n few)
-      | inl many ↦
-          let fit = sides_fit n many in
-          let some = columns_positive n (omega arith) in
-          let some_rows = rows_positive n (omega arith) in
-          let by_rows = count_enough k j (rows n) (omega arith) (omega arith) in
-          let by_columns = count_enough k j (columns n) (omega arith) (omega arith) in
-          let one = count_many k n many in
-          let two = count_many j n many in
-          omega arith
-    ]
-
--- F(n) = r + q + F(r) + F(q), and 0 up to four
-pub fresh_step : (n : ℕ) → 4 < n → product_fresh n ≡ rows n + columns n + product_fresh (rows n) + product_fresh (columns n)
-fresh_step n many =
-    let fit = sides_fit n many in
-    let some = columns_positive n (omega arith) in
-    let some_rows = rows_positive n (omega arith) in
-    let by_rows = fresh_enough (n - 1) (rows n) (rows n) (omega arith) (omega arith) in
-    let by_columns = fresh_enough (n - 1) (columns n) (columns n) (omega arith) (omega arith) in
-    let whole = ap (λ (k : ℕ). fresh_within k n) (let e : n ≡ suc (n - 1) = omega arith in e) ∙ fresh_many (n - 1) n many in
-    omega arith
-
--- A(n) = 2n + A(r) + A(q), and n(n - 1)/2 up to four
-pub count_step : (n : ℕ) → 4 < n → product_count n ≡ 2 * n + product_count (rows n) + product_count (columns n)
-count_step n many =
-    let fit = sides_fit n many in
-    let some = columns_positive n (omega arith) in
-    let some_rows = rows_positive n (omega arith) in
-    let by_rows = count_enough (n - 1) (rows n) (rows n) (omega arith) (omega arith) in
-    let by_columns = count_enough (n - 1) (columns n) (columns n) (omega arith) (omega arith) in
-    let whole = ap (λ (k : ℕ). count_within k n) (let e : n ≡ suc (n - 1) = omega arith in e) ∙ count_many (n - 1) n many in
-    omega arith
-
--- ---- neither is more than the square of n
 
 square_of_sum : (r q n : ℕ) → r + q ≤ n → n ≤ r * q → r * r + q * q + 2 * n ≤ n * n
 square_of_sum r q n fit covers =
@@ -104,20 +37,76 @@ square_of_sum r q n fit covers =
     let two = mul-le-mul_left n fit in
     omega arith
 
+-- a number that is made up by grids inside grids: of a list without a grid, and of a grid beside its rows and its columns
+record IsByGrids (f : ℕ → ℕ → ℕ) (leaf own : ℕ → ℕ) : Type 0 where
+  last : (n : ℕ) → f zero n ≡ leaf n
+  few : (more n : ℕ) → n ≤ 4 → f (suc more) n ≡ leaf n
+  many : (more n : ℕ) → 4 < n → f (suc more) n ≡ own n + f more (rows n) + f more (columns n)
+
+fresh_by_grids : IsByGrids fresh_within (λ n. 0) (λ n. rows n + columns n)
+fresh_by_grids = record { last = fresh_last; few = fresh_few; many = fresh_many }
+
+count_by_grids : IsByGrids count_within pair_count (λ n. 2 * n)
+count_by_grids = record { last = count_last; few = count_few; many = count_many }
+
+module _ {f : ℕ → ℕ → ℕ} {leaf own : ℕ → ℕ} (made : IsByGrids f leaf own) where
+  leaf_at : (k n : ℕ) → n ≤ 4 → f k n ≡ leaf n
+  leaf_at zero n small = made.last n
+  leaf_at (suc more) n small = made.few more n small
+
+  -- as many grids as there are literals are enough
+  enough : (k j n : ℕ) → n ≤ k → n ≤ j → f k n ≡ f j n
+  enough zero j n hk hj = made.last n ∙ sym (leaf_at j n (omega arith))
+  enough (suc k) zero n hk hj = made.few k n (omega arith) ∙ sym (made.last n)
+  enough (suc k) (suc j) n hk hj =
+      elim (cases_lt 4 n) as (λ _. f (suc k) n ≡ f (suc j) n) [
+        | inr few ↦ made.few k n few ∙ sym (made.few j n few)
+        | inl many ↦
+            let fit = sides_fit n many in
+            let some = columns_positive n (omega arith) in
+            let some_rows = rows_positive n (omega arith) in
+            made.many k n many ∙ (λ x. own n + enough k j (rows n) (omega arith) (omega arith) x + enough k j (columns n) (omega arith) (omega arith) x) ∙ sym (made.many j n many)
+      ]
+
+  step : (n : ℕ) → 4 < n → f n n ≡ own n + f (rows n) (rows n) + f (columns n) (columns n)
+  step n many =
+      let fit = sides_fit n many in
+      let some = columns_positive n (omega arith) in
+      let some_rows = rows_positive n (omega arith) in
+      let more : ℕ = n - 1 in
+      ap (λ (k : ℕ). f k n) (let e : n ≡ suc more = omega arith in e) ∙ made.many more n many
+      ∙ (λ x. own n + enough more (rows n) (rows n) (omega arith) (omega arith) x + enough more (columns n) (columns n) (omega arith) (omega arith) x)
+
+  -- no more than the square, where that is so of what is added
+  square : ((n : ℕ) → leaf n ≤ n * n) → ((n : ℕ) → 4 < n → own n ≤ 2 * n) → (k n : ℕ) → f k n ≤ n * n
+  square small least zero n = omega (arith, made.last n, small n)
+  square small least (suc k) n =
+      elim (cases_lt 4 n) as (λ _. f (suc k) n ≤ n * n) [
+        | inr few ↦ omega (arith, made.few k n few, small n)
+        | inl many ↦
+            let grid = rows_are n (omega arith) in
+            omega (arith, made.many k n many, square_of_sum (rows n) (columns n) n (sides_fit n many) grid.covers, square small least k (rows n), square small least k (columns n), least n many)
+      ]
+
+pub fresh_leaf : (k n : ℕ) → n ≤ 4 → fresh_within k n ≡ 0
+fresh_leaf k n few = leaf_at fresh_by_grids k n few
+
+pub count_leaf : (k n : ℕ) → n ≤ 4 → count_within k n ≡ pair_count n
+count_leaf k n few = leaf_at count_by_grids k n few
+
+pub fresh_enough : (k j n : ℕ) → n ≤ k → n ≤ j → fresh_within k n ≡ fresh_within j n
+fresh_enough k j n hk hj = enough fresh_by_grids k j n hk hj
+
+-- F(n) = r + q + F(r) + F(q), and 0 up to four
+pub fresh_step : (n : ℕ) → 4 < n → product_fresh n ≡ rows n + columns n + product_fresh (rows n) + product_fresh (columns n)
+fresh_step n many = step fresh_by_grids n many
+
+-- A(n) = 2n + A(r) + A(q), and n(n - 1)/2 up to four
+pub count_step : (n : ℕ) → 4 < n → product_count n ≡ 2 * n + product_count (rows n) + product_count (columns n)
+count_step n many = step count_by_grids n many
+
 pub fresh_within_square : (k n : ℕ) → fresh_within k n ≤ n * n
-fresh_within_square zero n = let none = fresh_last n in omega arith
-fresh_within_square (suc k) n =
-    elim (cases_lt 4 n) as (λ _. fresh_within (suc k) n ≤ n * n) [
-      | inr few ↦ let none = fresh_few k n few in omega arith
-      | inl many ↦
-          let fit = sides_fit n many in
-          let grid = rows_are n (omega arith) in
-          let square = square_of_sum (rows n) (columns n) n fit grid.covers in
-          let by_rows = fresh_within_square k (rows n) in
-          let by_columns = fresh_within_square k (columns n) in
-          let whole = fresh_many k n many in
-          omega arith
-    ]
+fresh_within_square = square fresh_by_grids (λ n. omega arith) (λ n many. omega (arith, sides_fit n many))
 
 pairs_square : (n : ℕ) → pair_count n ≤ n * n
 pairs_square zero = omega arith
@@ -126,19 +115,7 @@ pairs_square (suc n) =
     rw below (omega arith)
 
 pub count_within_square : (k n : ℕ) → count_within k n ≤ n * n
-count_within_square zero n = let pairs = count_last n in let square = pairs_square n in omega arith
-count_within_square (suc k) n =
-    elim (cases_lt 4 n) as (λ _. count_within (suc k) n ≤ n * n) [
-      | inr few ↦ let pairs = count_few k n few in let square = pairs_square n in omega arith
-      | inl many ↦
-          let fit = sides_fit n many in
-          let grid = rows_are n (omega arith) in
-          let square = square_of_sum (rows n) (columns n) n fit grid.covers in
-          let by_rows = count_within_square k (rows n) in
-          let by_columns = count_within_square k (columns n) in
-          let whole = count_many k n many in
-          omega arith
-    ]
+count_within_square = square count_by_grids pairs_square (λ n many. omega arith)
 
 -- ---- what a grid gives
 

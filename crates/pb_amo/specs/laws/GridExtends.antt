@@ -1,7 +1,7 @@
 -- An assignment under which at most one literal is true extends over the fresh variables of a grid.
-use Rattle.std.proofs.Common.{◌≡◌, ◌<◌, ◌≤◌, ◌+◌, ◌/◌, ◌%◌, ◌==◌, ℕ, Bool, true, false, cond, ltb, List, [], ◌∷◌, length, refl, sym, ap, ◌∙◌, subst, arith, inl, inr, zero, suc}
+use Rattle.std.proofs.Common.{◌≡◌, ◌<◌, ◌≤◌, ◌+◌, ◌/◌, ◌%◌, ◌==◌, ℕ, Bool, true, false, cond, ltb, List, [], ◌∷◌, length, refl, sym, ap, ◌∙◌, arith, inl, inr, zero, suc}
 use Rattle.std.specs.Prelude.{count_by}
-use Rattle.std.proofs.lemmas.Bool.{cases_Bool, cases_lt, cond-true, cond-false, lt-ltb, le-ltb, eqb-true, eq-eqb, both_ways}
+use Rattle.std.proofs.lemmas.Bool.{cases_Bool, cond-true, cond-false, lt-ltb, le-ltb, eqb-true, eq-eqb, both_ways}
 use Rattle.std.proofs.lemmas.List.Elements.{All-append}
 use Rattle.std.proofs.lemmas.List.Sums.{get_or-le-sum_by}
 use Rattle.pb_base.specs.declared.literal.Lit.{Lit}
@@ -13,8 +13,10 @@ use Rattle.pb_family.proofs.Ranges.{one_by_places}
 use Rattle.pb_family.proofs.ShortClauses.{when_one}
 use Rattle.pb_family.proofs.Extended.{extended, extended_below, extended_fresh}
 use Rattle.pb_amo.specs.Pairwise.{pairwise_clauses}
+use Rattle.pb_steps.specs.declared.step.Step.{Step}
 use Rattle.pb_amo.specs.Product.{columns, rows, line, cells, fresh_within, clauses_within}
-use Rattle.pb_amo.specs.laws.GridClauses.{clauses_last, clauses_few, clauses_many, cells_each}
+use Rattle.pb_amo.specs.laws.GridCases.{by_grids}
+use Rattle.pb_amo.specs.laws.GridClauses.{cells_each}
 use Rattle.pb_amo.specs.laws.GridNames.{names_within}
 use Rattle.pb_amo.specs.laws.GridSides.{columns_positive, row_within}
 use Rattle.pb_amo.specs.laws.LineLaws.{length-line, line_at}
@@ -77,53 +79,51 @@ Extension first v cs = (w : Assignment) × AgreeBelow first v w × IsModel w cs
 extends_leaf : (ms : List Lit) (first : ℕ) (v : Assignment) → count_by (lit_value v) ms ≤ 1 → Extension first v (pairwise_clauses ms)
 extends_leaf ms first v few = (v, (λ n h. refl), all_pairs v ms few)
 
+-- an assignment under which at most one is true extends
+abbrev Extends : List Lit → ℕ → ℕ → (ℕ → List (List Lit)) → (ℕ → ℕ → ℕ → List Step) → Type 0
+Extends ms fresh count clauses steps = (first : ℕ) → ((e : ℕ) → e < length ms → (literal_at ms e).var < first) → (v : Assignment) → count_by (lit_value v) ms ≤ 1 → Extension first v (clauses first)
+
 pub extends_within : (k : ℕ) (ms : List Lit) (first : ℕ) → ((e : ℕ) → e < length ms → (literal_at ms e).var < first) → (v : Assignment) → count_by (lit_value v) ms ≤ 1 → Extension first v (clauses_within k ms first)
-extends_within zero ms first below v few = subst (Extension first v) (sym (clauses_last ms first)) (extends_leaf ms first v few)
-extends_within (suc more) ms first below v few =
-    elim (cases_lt 4 (length ms)) as (λ _. Extension first v (clauses_within (suc more) ms first)) [
-      | inr small ↦ subst (Extension first v) (sym (clauses_few more ms first small)) (extends_leaf ms first v few)
-      | inl many ↦
-          let n = length ms in
-          let r = rows n in
-          let q = columns n in
-          let some = columns_positive n (omega arith) in
-          let inner = first + r + q in
-          let last = inner + fresh_within more r in
-          let only = only_place (lit_value v) ms few in
-          let e = only.0 in
-          let w1 = extended v first (gridded r q e) in
-          let row_only = λ (k : ℕ) (h : k < r) (on : lit_value w1 (fresh_at first k) ≡ true). let same = eqb-true k (e / q) (sym (gridded_row v first r q e k h) ∙ on) in let place : k ≡ e / q = omega arith in place in
-          let size_r = length-line first r in
-          let size_q = length-line (first + r) q in
-          let by_rows = extends_within more (line first r) inner (λ k h. let at_k = ap (λ (l : Lit). l.var) (line_at first r k (omega arith)) in omega arith) w1 (one_of_line w1 first r (e / q) row_only) in
-          let w2 = by_rows.0 in
-          let column_same = λ (k : ℕ) (h : k < q). lit_value-agree w1 w2 (fresh_at (first + r) k) (by_rows.1 (first + r + k) (omega arith)) in
-          let column_only = λ (k : ℕ) (h : k < q) (on : lit_value w2 (fresh_at (first + r) k) ≡ true). let same = eqb-true (r + k) (r + e % q) (sym (gridded_column v first r q e k) ∙ column_same k h ∙ on) in let place : k ≡ e % q = omega arith in place in
-          let by_columns = extends_within more (line (first + r) q) last (λ k h. let at_k = ap (λ (l : Lit). l.var) (line_at (first + r) q k (omega arith)) in omega arith) w2 (one_of_line w2 (first + r) q (e % q) column_only) in
-          let w3 = by_columns.0 in
-          let agree = λ (x : ℕ) (h : x < first). extended_below v first (gridded r q e) x h ∙ by_rows.1 x (omega arith) ∙ by_columns.1 x (omega arith) in
-          let own = λ (k : ℕ) (h : k < n) (on : lit_value w3 (literal_at ms k) ≡ true). only.1 k h (lit_value-agree v w3 (literal_at ms k) (agree (literal_at ms k).var (below k h)) ∙ on) in
-          let fresh_r = ap (fresh_within more) size_r in
-          let named = names_within (λ l. l.var < last) more (line first r) inner
-          (λ k h. let at_k = ap (λ (l : Lit). l.var) (line_at first r k (omega arith)) in omega arith)
-          (λ x s low high. omega arith) in
-          let here = cells_each (λ c. clause_value w3 c ≡ true) ms first r q (λ k h. (
-            when_one w3 (literal_at ms k) (fresh_at first (k / q)) (λ on.
-                let row = row_within n k h in
-                let same = ap (λ (x : ℕ). x / q) (own k h on) in
-                sym (lit_value-agree w1 w3 (fresh_at first (k / q)) (by_rows.1 (first + k / q) (omega arith) ∙ by_columns.1 (first + k / q) (omega arith)))
-                ∙ gridded_row v first r q e (k / q) row ∙ eq-eqb (k / q) (e / q) same),
-            when_one w3 (literal_at ms k) (fresh_at (first + r) (k % q)) (λ on.
-                let same = ap (λ (x : ℕ). x % q) (own k h on) in
-                sym (lit_value-agree w1 w3 (fresh_at (first + r) (k % q)) (by_rows.1 (first + r + k % q) (omega arith) ∙ by_columns.1 (first + r + k % q) (omega arith)))
-                ∙ gridded_column v first r q e (k % q) ∙ eq-eqb (r + k % q) (r + e % q) (ap (λ (x : ℕ). r + x) same)),
-          )) in
-          subst (Extension first v) (sym (clauses_many more ms first many)) (
-            w3,
-            agree,
-            All-append (λ c. clause_value w3 c ≡ true) (cells ms first r q) _ here
-                (All-append (λ c. clause_value w3 c ≡ true) (clauses_within more (line first r) inner) (clauses_within more (line (first + r) q) last)
-                (IsModel-agree last w2 w3 by_columns.1 (clauses_within more (line first r) inner) named by_rows.2)
-                by_columns.2),
-          )
-    ]
+extends_within = by_grids Extends (λ ms first low v few. extends_leaf ms first v few) (λ more below ms many first low v few.
+    let n = length ms in
+    let r = rows n in
+    let q = columns n in
+    let some = columns_positive n (omega arith) in
+    let inner = first + r + q in
+    let last = inner + fresh_within more r in
+    let only = only_place (lit_value v) ms few in
+    let e = only.0 in
+    let w1 = extended v first (gridded r q e) in
+    let row_only = λ (k : ℕ) (h : k < r) (on : lit_value w1 (fresh_at first k) ≡ true). let same = eqb-true k (e / q) (sym (gridded_row v first r q e k h) ∙ on) in let place : k ≡ e / q = omega arith in place in
+    let size_r = length-line first r in
+    let size_q = length-line (first + r) q in
+    let by_rows = below (line first r) inner (λ k h. let at_k = ap (λ (l : Lit). l.var) (line_at first r k (omega arith)) in omega arith) w1 (one_of_line w1 first r (e / q) row_only) in
+    let w2 = by_rows.0 in
+    let column_same = λ (k : ℕ) (h : k < q). lit_value-agree w1 w2 (fresh_at (first + r) k) (by_rows.1 (first + r + k) (omega arith)) in
+    let column_only = λ (k : ℕ) (h : k < q) (on : lit_value w2 (fresh_at (first + r) k) ≡ true). let same = eqb-true (r + k) (r + e % q) (sym (gridded_column v first r q e k) ∙ column_same k h ∙ on) in let place : k ≡ e % q = omega arith in place in
+    let by_columns = below (line (first + r) q) last (λ k h. let at_k = ap (λ (l : Lit). l.var) (line_at (first + r) q k (omega arith)) in omega arith) w2 (one_of_line w2 (first + r) q (e % q) column_only) in
+    let w3 = by_columns.0 in
+    let agree = λ (x : ℕ) (h : x < first). extended_below v first (gridded r q e) x h ∙ by_rows.1 x (omega arith) ∙ by_columns.1 x (omega arith) in
+    let own = λ (k : ℕ) (h : k < n) (on : lit_value w3 (literal_at ms k) ≡ true). only.1 k h (lit_value-agree v w3 (literal_at ms k) (agree (literal_at ms k).var (low k h)) ∙ on) in
+    let fresh_r = ap (fresh_within more) size_r in
+    let named = names_within (λ l. l.var < last) more (line first r) inner
+    (λ k h. let at_k = ap (λ (l : Lit). l.var) (line_at first r k (omega arith)) in omega arith)
+    (λ x s low high. omega arith) in
+    let here = cells_each (λ c. clause_value w3 c ≡ true) ms first r q (λ k h. (
+      when_one w3 (literal_at ms k) (fresh_at first (k / q)) (λ on.
+          let row = row_within n k h in
+          let same = ap (λ (x : ℕ). x / q) (own k h on) in
+          sym (lit_value-agree w1 w3 (fresh_at first (k / q)) (by_rows.1 (first + k / q) (omega arith) ∙ by_columns.1 (first + k / q) (omega arith)))
+          ∙ gridded_row v first r q e (k / q) row ∙ eq-eqb (k / q) (e / q) same),
+      when_one w3 (literal_at ms k) (fresh_at (first + r) (k % q)) (λ on.
+          let same = ap (λ (x : ℕ). x % q) (own k h on) in
+          sym (lit_value-agree w1 w3 (fresh_at (first + r) (k % q)) (by_rows.1 (first + r + k % q) (omega arith) ∙ by_columns.1 (first + r + k % q) (omega arith)))
+          ∙ gridded_column v first r q e (k % q) ∙ eq-eqb (r + k % q) (r + e % q) (ap (λ (x : ℕ). r + x) same)),
+    )) in (
+      w3,
+      agree,
+      All-append (λ c. clause_value w3 c ≡ true) (cells ms first r q) _ here
+          (All-append (λ c. clause_value w3 c ≡ true) (clauses_within more (line first r) inner) (clauses_within more (line (first + r) q) last)
+          (IsModel-agree last w2 w3 by_columns.1 (clauses_within more (line first r) inner) named by_rows.2)
+          by_columns.2),
+    ))

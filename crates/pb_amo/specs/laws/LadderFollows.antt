@@ -1,199 +1,103 @@
 -- The clauses of a ladder follow from what its variables mean.
-use Rattle.std.proofs.Common.{◌≡◌, ◌≢◌, ◌<◌, ◌≤◌, ◌+◌, ◌-◌, ◌^◌, ◌⊎◌, ℕ, Bool, true, false, cond, List, [], ◌∷◌, length, take, drop, refl, ap, sym, ◌∙◌, subst, arith, inl, inr, get_or}
-use Rattle.std.specs.Prelude.{map, All, Contains, sum_by}
-use Rattle.std.proofs.lemmas.Bool.{cases_eq}
-use Rattle.std.proofs.lemmas.List.{length-map, get_or-map}
-use Rattle.std.proofs.Common.{length-take, length-drop, get_or-take, get_or-drop}
-use Rattle.std.proofs.lemmas.List.Elements.{All-head, All-tail}
-use Rattle.std.proofs.lemmas.List.Sums.{sum_by-take-drop, sum_by-drop_more}
+use Rattle.std.proofs.Common.{◌≡◌, ◌<◌, ◌≤◌, ◌+◌, ◌-◌, ◌*◌, ◌++◌, ◌⊎◌, ℕ, true, List, [], ◌∷◌, length, take, drop, ap, sym, refl, ◌∙◌, subst, arith, inl, inr, append-nil}
+use Rattle.std.specs.Prelude.{map}
+use Rattle.std.proofs.lemmas.List.{take-append-drop}
+use Rattle.std.proofs.lemmas.List.Elements.{All-from_recursion}
+use Rattle.std.proofs.lemmas.List.FromFn.{length-map-range_with_len, get_or-map-range_with_len}
 use Rattle.pb_base.specs.declared.literal.Lit.{Lit}
-use Rattle.pb_base.specs.Literals.{negated, lit_value, is_same, is_among}
-use Rattle.pb_base.proofs.LiteralLemmas.{negated-negated, is_same-other_var}
-use Rattle.pb_base.proofs.Members.{Contains-here, Contains-cons_cases, Contains-nil}
-use Rattle.pb_norm.specs.Constraints.{Weighted, Constraint, weight, term_value}
-use Rattle.pb_norm.specs.Addition.{coef_of}
+use Rattle.pb_base.specs.Literals.{negated, is_among}
+use Rattle.pb_norm.specs.Constraints.{Weighted, Constraint, weight}
 use Rattle.pb_norm.specs.BoundedSums.{vars_of}
-use Rattle.pb_norm.specs.Reduction.{opposite}
+use Rattle.pb_norm.specs.Reduction.{lits_of, opposite}
 use Rattle.pb_norm.proofs.AdditionSizes.{weight-cons}
-use Rattle.pb_derive.specs.Forms.{AreApartTerms}
-use Rattle.pb_derive.specs.Reifications.{spare, forward_of, reverse_of}
-use Rattle.pb_derive.specs.inner.Follows.{FollowsFrom, coef_in}
-use Rattle.pb_derive.proofs.SomeFollows.{some_follows}
-use Rattle.pb_derive.proofs.Sources.{degrees-two, value_in-two, weight_in-two, coef_in-two, cases_two, only}
-use Rattle.pb_derive.proofs.Opposites.{value-opposite, weight-opposite, coef_of-opposite, is_same-opposite, cases_listed, coef_of-absent, coef_of-head, coef_of-tail, value-head, value_whole}
+use Rattle.pb_derive.specs.Reifications.{forward_of, reverse_of}
+use Rattle.pb_derive.specs.inner.Follows.{FollowsFrom}
+use Rattle.pb_derive.proofs.Closing.{degrees-cons, weight_in-cons}
+use Rattle.pb_derive.proofs.Justified.{MeansAt, AllMeant, IsJustified}
+use Rattle.pb_derive.proofs.Sides.{Known, Side, justification, known_of, known_both, side_fresh, follows_bound, follows_pair}
 use Rattle.pb_family.specs.Fresh.{fresh_at}
-use Rattle.pb_amo.specs.LadderSteps.{rung}
+use Rattle.pb_family.proofs.ShortClauses.{first_among, second_among}
+use Rattle.pb_family.proofs.UnitCuts.{IsUnitSum, lit_at, here, back_more, whole_size, back_size, here_size, front_gone, back_gone, here_gone, here_side}
+use Rattle.pb_amo.specs.declared.rung.Place.{Place}
+use Rattle.pb_amo.specs.declared.rung.Place.TheVariants.{Link, NoneAfter, SomeAfter}
+use Rattle.pb_amo.specs.LadderSteps.{rung, rungs, clause_at, sources_at, justification_at}
+use Rattle.pb_amo.specs.inner.LadderOrder.{IsPlace}
 
--- terms of the ladder: those before a place, the one there and those after it
-module _ (ts : List Weighted) (d : Weighted) (light : weight ts < 2 ^ 31) (ones : All (λ t. t.coef ≡ 1) ts) (first : ℕ) (below : All (λ t. t.lit.var < first) ts) where
-  abbrev at : ℕ → Weighted
-  at k = get_or ts k d
-
-  abbrev from : ℕ → List Weighted
-  from k = drop k ts
+module _ {first : ℕ} {ts : List Weighted} (s : IsUnitSum first ts) (id next : ℕ) (K : ℕ → Constraint → Type 0) (given : AllMeant K next (rungs ts first)) (own : K id (record { terms = map opposite ts; degree = weight ts - 1 })) where
+  abbrev n : ℕ
+  n = length ts
 
   abbrev y : ℕ → Lit
   y k = fresh_at first k
 
-  from_more : (f : Weighted → ℕ) (k : ℕ) → k < length ts → sum_by f (from k) ≡ f (at k) + sum_by f (from (k + 1))
-  from_more f k within = sum_by-drop_more f ts k d within
+  abbrev clause : Place → List Lit
+  clause p = clause_at (lits_of ts) first p
 
-  coef_more : (l : Lit) (k : ℕ) → k < length ts → coef_of (from k) l ≡ cond (is_same (at k).lit l) (at k).coef 0 + coef_of (from (k + 1)) l
-  coef_more l k within = from_more (λ t. cond (is_same t.lit l) t.coef 0) k within
+  abbrev ids : Place → List ℕ
+  ids p = sources_at id next p
 
-  from-light : (k : ℕ) → weight (from k) ≤ weight ts
-  from-light k = omega (arith, sum_by-take-drop (λ (t : Weighted). t.coef) ts k)
+  -- a literal of the term at a place, or of a fresh variable
+  abbrev Either : ℕ → Lit → Type 0
+  Either k l = (l.var ≡ (lit_at ts k).var) ⊎ (first ≤ l.var)
 
-  -- the literals of two rungs are of other variables
-  fresh_apart : (l : Lit) (v i j : ℕ) → v < first → Contains (negated (y i) ∷ y j ∷ []) l → v ≡ l.var → ⊥
-  fresh_apart l v i j under among same =
-      elim (Contains-cons_cases (negated (y i)) (y j ∷ []) l among) as (λ _. ⊥) [
-        | inl one ↦ let e : first + i ≡ l.var = ap (λ (l : Lit). l.var) one in omega arith
-        | inr more ↦ elim (Contains-cons_cases (y j) [] l more) as (λ _. ⊥) [
-          | inl two ↦ let e : first + j ≡ l.var = ap (λ (l : Lit). l.var) two in omega arith
-          | inr none ↦ Contains-nil l none
-        ]
-      ]
+  back : (k : ℕ) → k + 1 < n → 1 ≤ weight (drop (k + 1) ts)
+  back k within = omega (arith, back_size s (k + 1), within)
 
-  -- the variables of the terms before a place, and from a later place on
-  var_before : (k v : ℕ) → k < length ts → AreApartTerms ts → Contains (vars_of (take k ts)) v → (v ≢ (at k).lit.var) × (v < first)
-  var_before k v within apart h =
-      let i : ℕ = h.0 in
-      let size = length-map (take k ts) (λ (t : Weighted). t.lit.var) in
-      let taken = length-take k ts in
-      let inside : i < length (take k ts) = omega (arith, h.1, size) in
-      let i_k : i < k = omega (arith, inside, taken) in
-      let read : get_or (vars_of (take k ts)) i v ≡ (get_or (take k ts) i d).lit.var = get_or-map (λ (t : Weighted). t.lit.var) (take k ts) i d v inside in
-      let same : get_or (take k ts) i d ≡ at i = get_or-take k ts i d i_k in
-      let is : v ≡ (at i).lit.var = sym h.2 ∙ read ∙ ap (λ (t : Weighted). t.lit.var) same in
-      let under : (at i).lit.var < first = below i d (omega arith) in
-      ((λ e. apart i k d i_k within (sym is ∙ e)), omega (arith, is, under))
+  after_side : (ls : List Lit) (k : ℕ) → k + 1 < n → is_among ls (negated (y k)) ≡ true → Side ls (drop (k + 1) ts) 1 (forward_of (rung ts first k) ∷ []) []
+  after_side ls k within among = side_fresh ls (rung ts first k) (back k within) among
 
-  var_after : (k j v : ℕ) → k < j → AreApartTerms ts → Contains (vars_of (from j)) v → (v ≢ (at k).lit.var) × (v < first)
-  var_after k j v later apart h =
-      let i : ℕ = h.0 in
-      let size = length-map (from j) (λ (t : Weighted). t.lit.var) in
-      let left = length-drop j ts in
-      let inside : i < length (from j) = omega (arith, h.1, size) in
-      let read : get_or (vars_of (from j)) i v ≡ (get_or (from j) i d).lit.var = get_or-map (λ (t : Weighted). t.lit.var) (from j) i d v inside in
-      let same : get_or (from j) i d ≡ at (j + i) = get_or-drop j ts i d in
-      let is : v ≡ (at (j + i)).lit.var = sym h.2 ∙ read ∙ ap (λ (t : Weighted). t.lit.var) same in
-      let under : (at (j + i)).lit.var < first = below (j + i) d (omega arith) in
-      ((λ e. apart k (j + i) d (omega arith) (omega arith) (sym e ∙ is)), omega (arith, is, under))
+  -- what is true after a place is so at the next place, or after it
+  follow : (ls : List Lit) (k u v : ℕ) (ss rs : List Constraint) (ws xs : List ℕ) → k + 1 < n → Side ls (here ts (k + 1)) u ss ws → Side ls (drop (k + 1 + 1) ts) v rs xs → 1 ≤ u + v → is_among ls (y k) ≡ true
+      → (is : List ℕ) → FollowsFrom (ss ++ (rs ++ reverse_of (rung ts first k) ∷ [])) (justification ls is (ws ++ xs))
+  follow ls k u v ss rs ws xs within left right le among is =
+      follows_pair ls (here ts (k + 1)) (drop (k + 1 + 1) ts) u v ss rs ws xs (rung ts first k) left right (back_more ts (k + 1)) le among (omega (arith, here_size s (k + 1) within, back_size s (k + 1 + 1), s.few)) is
 
-  -- a literal of a term or of a rung is of another variable
-  term_apart : (l m : Lit) (k : ℕ) → m.var ≡ first + k → (t : Weighted) → Contains (negated t.lit ∷ m ∷ []) l → (l.var ≢ t.lit.var) × (l.var < first) → ⊥
-  term_apart l m k rung t among other =
-      elim (Contains-cons_cases (negated t.lit) (m ∷ []) l among) as (λ _. ⊥) [
-        | inl one ↦ other.0 (sym (ap (λ (l : Lit). l.var) one))
-        | inr more ↦ elim (Contains-cons_cases m [] l more) as (λ _. ⊥) [
-          | inl two ↦ let e : m.var ≡ l.var = ap (λ (l : Lit). l.var) two in omega (arith, other.1, rung, e)
-          | inr none ↦ Contains-nil l none
-        ]
-      ]
+  link_follows : (k : ℕ) → k + 2 < n → FollowsFrom (forward_of (rung ts first (k + 1)) ∷ reverse_of (rung ts first k) ∷ []) (justification (clause (Link k)) (ids (Link k)) (vars_of (here ts (k + 1))))
+  link_follows k within =
+      let ls : List Lit = clause (Link k) in
+      let above = All-from_recursion (λ (l : Lit). first ≤ l.var) ls (omega arith, (omega arith, tt)) in
+      subst (λ (ws : List ℕ). FollowsFrom (forward_of (rung ts first (k + 1)) ∷ reverse_of (rung ts first k) ∷ []) (justification ls (ids (Link k)) ws)) (append-nil (vars_of (here ts (k + 1))))
+      (follow ls k 0 1 [] (forward_of (rung ts first (k + 1)) ∷ []) (vars_of (here ts (k + 1))) [] (omega (arith, within)) (here_gone s (k + 1) ls above)
+      (after_side ls (k + 1) (omega (arith, within)) (first_among (negated (y (k + 1))) (y k ∷ []))) (omega arith) (second_among (negated (y (k + 1))) (y k) []) (ids (Link k)))
 
-  -- a link between two rungs
-  pub link-follows : (next k : ℕ) (ids : List ℕ) → k + 1 < length ts →
-      FollowsFrom (forward_of (rung ts first (k + 1)) ∷ reverse_of (rung ts first k) ∷ []) (record { clause = negated (y (k + 1)) ∷ y k ∷ []; ids = ids; weakened = (at (k + 1)).lit.var ∷ [] })
-  link-follows next k ids within =
-      let s : Constraint = forward_of (rung ts first (k + 1)) in
-      let t : Constraint = reverse_of (rung ts first k) in
-      let z : Weighted = record { coef = 1; lit = negated (y (k + 1)) } in
-      let w : Weighted = record { coef = spare (rung ts first k); lit = y k } in
-      let rest : List Weighted = from (k + 1 + 1) in
-      let after : List Weighted = from (k + 1) in
-      record {
-        within = λ l.
-            let Goal : Type 0 = (is_among (negated (y (k + 1)) ∷ y k ∷ []) l ≡ true) ⊎ Contains ((at (k + 1)).lit.var ∷ []) l.var ⊎ (coef_in (s ∷ t ∷ []) l ≤ coef_in (s ∷ t ∷ []) (negated l)) in
-            elim (cases_two (negated (y (k + 1))) (y k) l) as (λ _. Goal) [
-              | inl among ↦ inl among
-              | inr neither ↦ elim (cases_eq (at (k + 1)).lit.var l.var) as (λ _. Goal) [
-                | inl same ↦ inr (inl (subst (λ (v : ℕ). Contains ((at (k + 1)).lit.var ∷ []) v) same (Contains-here (at (k + 1)).lit.var [])))
-                | inr other ↦
-                    let none : cond (is_same (at (k + 1)).lit (negated l)) (at (k + 1)).coef 0 ≡ 0 = ap (λ (b : Bool). cond b (at (k + 1)).coef 0) (is_same-other_var (at (k + 1)).lit (negated l) other) in
-                    let twice : coef_of after (negated (negated l)) ≡ coef_of after l = ap (coef_of after) (negated-negated l) in
-                    inr (inr (omega (
-                      arith,
-                      coef_in-two l s t,
-                      coef_in-two (negated l) s t,
-                      coef_of-head z rest l neither.0,
-                      coef_of-head w (map opposite after) l neither.1,
-                      coef_of-opposite after l,
-                      coef_more (negated l) (k + 1) within,
-                      none,
-                      coef_of-tail z rest (negated l),
-                      coef_of-tail w (map opposite after) (negated l),
-                      coef_of-opposite after (negated l),
-                      twice,
-                      coef_more l (k + 1) within,
-                    )))
-              ]
-            ];
-        apart = λ l among goes.
-            fresh_apart l (at (k + 1)).lit.var (k + 1) k (below (k + 1) d within) among (only (at (k + 1)).lit.var l.var goes);
-        short = λ a falses.
-            let one : lit_value a (negated (y (k + 1))) ≡ false = All-head (λ (l : Lit). lit_value a l ≡ false) (negated (y (k + 1))) (y k ∷ []) falses in
-            let two : lit_value a (y k) ≡ false = All-head (λ (l : Lit). lit_value a l ≡ false) (y k) [] (All-tail (λ (l : Lit). lit_value a l ≡ false) (negated (y (k + 1))) (y k ∷ []) falses) in
-            omega (arith, value_in-two a s t, degrees-two s t, value-head a z rest one, value-head a w (map opposite after) two, value-opposite a after, from_more (term_value a) (k + 1) within);
-        weight_fits = omega (arith, weight_in-two s t, weight-cons z rest, weight-cons w (map opposite after), weight-opposite after, from-light (k + 1), from-light (k + 1 + 1), light);
-        degree_fits = omega (arith, degrees-two s t, from-light (k + 1), light);
-      }
+  some_follows : (k : ℕ) → k + 1 < n → FollowsFrom (reverse_of (rung ts first k) ∷ []) (justification (clause (SomeAfter k)) (ids (SomeAfter k)) (vars_of (drop (k + 1 + 1) ts)))
+  some_follows k within =
+      let ls : List Lit = clause (SomeAfter k) in
+      let each = All-from_recursion (Either (k + 1)) ls (inl refl, (inr (omega arith), tt)) in
+      follow ls k 1 0 [] [] [] (vars_of (drop (k + 1 + 1) ts)) within (here_side s (k + 1) ls within (first_among (negated (lit_at ts (k + 1))) (y k ∷ [])))
+      (back_gone s (k + 1) (k + 1 + 1) ls (omega arith) each) (omega arith) (second_among (negated (lit_at ts (k + 1))) (y k) []) (ids (SomeAfter k))
 
   -- a literal is the only one from its place on
-  pub none-follows : (id k : ℕ) (ids : List ℕ) → k + 1 < length ts → AreApartTerms ts →
-      FollowsFrom (forward_of (rung ts first k) ∷ record { terms = map opposite ts; degree = weight ts - 1 } ∷ []) (record { clause = negated (at k).lit ∷ negated (y k) ∷ []; ids = ids; weakened = vars_of (take k ts) })
-  none-follows id k ids within apart =
-      let s : Constraint = forward_of (rung ts first k) in
-      let t : Constraint = record { terms = map opposite ts; degree = weight ts - 1 } in
-      let z : Weighted = record { coef = 1; lit = negated (y k) } in
-      let after : List Weighted = from (k + 1) in
-      let before : List Weighted = take k ts in
-      let here : (at k).coef ≡ 1 = ones k d (omega arith) in
-      let parts = λ (f : Weighted → ℕ). sum_by-take-drop f ts k in
-      let more = λ (f : Weighted → ℕ). from_more f k (omega arith) in
-      record {
-        within = λ l.
-            let Goal : Type 0 = (is_among (negated (at k).lit ∷ negated (y k) ∷ []) l ≡ true) ⊎ Contains (vars_of before) l.var ⊎ (coef_in (s ∷ t ∷ []) l ≤ coef_in (s ∷ t ∷ []) (negated l)) in
-            elim (cases_two (negated (at k).lit) (negated (y k)) l) as (λ _. Goal) [
-              | inl among ↦ inl among
-              | inr neither ↦ elim (cases_listed (vars_of before) l.var) as (λ _. Goal) [
-                | inl goes ↦ inr (inl goes)
-                | inr stays ↦
-                    let c = λ (l : Lit) (t : Weighted). cond (is_same t.lit l) t.coef 0 in
-                    let none : c (negated l) (at k) ≡ 0 = ap (λ (b : Bool). cond b (at k).coef 0) (sym (is_same-opposite (at k).lit l) ∙ neither.0) in
-                    let absent : coef_of before (negated l) ≡ 0 = coef_of-absent before (negated l) stays in
-                    let twice : coef_of ts (negated (negated l)) ≡ coef_of ts l = ap (coef_of ts) (negated-negated l) in
-                    inr (inr (omega (
-                      arith,
-                      coef_in-two l s t,
-                      coef_in-two (negated l) s t,
-                      coef_of-head z after l neither.1,
-                      coef_of-opposite ts l,
-                      parts (c (negated l)),
-                      more (c (negated l)),
-                      none,
-                      absent,
-                      coef_of-tail z after (negated l),
-                      coef_of-opposite ts (negated l),
-                      twice,
-                      parts (c l),
-                      more (c l),
-                    )))
-              ]
-            ];
-        apart = λ l among goes. term_apart l (negated (y k)) k refl (at k) among (var_before k l.var (omega arith) apart goes);
-        short = λ a falses.
-            let one : lit_value a (negated (at k).lit) ≡ false = All-head (λ (l : Lit). lit_value a l ≡ false) (negated (at k).lit) (negated (y k) ∷ []) falses in
-            let two : lit_value a (negated (y k)) ≡ false = All-head (λ (l : Lit). lit_value a l ≡ false) (negated (y k)) [] (All-tail (λ (l : Lit). lit_value a l ≡ false) (negated (at k).lit) (negated (y k) ∷ []) falses) in
-            omega (arith, value_in-two a s t, degrees-two s t, value-head a z after two, value-opposite a ts, parts (term_value a), more (term_value a), value_whole a (at k) one, here, parts (λ t. t.coef), more (λ t. t.coef));
-        weight_fits = omega (arith, weight_in-two s t, weight-cons z after, weight-opposite ts, from-light (k + 1), light);
-        degree_fits = omega (arith, degrees-two s t, light);
-      }
+  none_follows : (k : ℕ) → k + 1 < n → FollowsFrom (forward_of (rung ts first k) ∷ record { terms = map opposite ts; degree = weight ts - 1 } ∷ []) (justification (clause (NoneAfter k)) (ids (NoneAfter k)) (vars_of (take k ts)))
+  none_follows k within =
+      let ls : List Lit = clause (NoneAfter k) in
+      let m : List Constraint = forward_of (rung ts first k) ∷ [] in
+      let before : List ℕ = vars_of (take k ts) in
+      let each = All-from_recursion (Either k) ls (inl refl, (inr (omega arith), tt)) in
+      let from = known_both ls (here ts k) (drop (k + 1) ts) 1 1 [] m [] [] (known_of (here_side s k ls (omega (arith, within)) (first_among (negated (lit_at ts k)) (negated (y k) ∷ []))))
+      (known_of (after_side ls k within (second_among (negated (lit_at ts k)) (negated (y k)) []))) in
+      let whole = known_both ls (take k ts) (here ts k ++ drop (k + 1) ts) 0 2 [] m before [] (known_of (front_gone s k k ls (omega arith) (omega (arith, within)) each)) from in
+      let parts : take k ts ++ (here ts k ++ drop (k + 1) ts) ≡ ts = ap (λ (us : List Weighted). take k ts ++ us) (sym (back_more ts k)) ∙ take-append-drop k ts in
+      let all : weight ts ≡ n = whole_size s in
+      subst (λ (ws : List ℕ). FollowsFrom (forward_of (rung ts first k) ∷ record { terms = map opposite ts; degree = weight ts - 1 } ∷ []) (justification ls (ids (NoneAfter k)) ws)) (append-nil before)
+      (follows_bound ls ts 1 2 m (before ++ []) (subst (λ (us : List Weighted). Known ls us 2 m (before ++ [])) parts whole) (omega arith) (omega (arith, all, within)) (omega (arith, all, s.few))
+      (omega (arith, weight_in-cons (forward_of (rung ts first k)) [], weight-cons (record { coef = 1; lit = negated (y k) }) (drop (k + 1) ts), back_size s (k + 1), all, within)) (omega (arith, degrees-cons (forward_of (rung ts first k)) [], all, within)) (ids (NoneAfter k)))
 
-  -- a later literal is some
-  pub some-follows : (k : ℕ) (ids : List ℕ) → k + 1 < length ts → AreApartTerms ts →
-      FollowsFrom (reverse_of (rung ts first k) ∷ []) (record { clause = negated (at (k + 1)).lit ∷ y k ∷ []; ids = ids; weakened = vars_of (from (k + 1 + 1)) })
-  some-follows k ids within apart =
-      some_follows (rung ts first k) (at (k + 1)) (from (k + 1 + 1)) ids (λ f. from_more f (k + 1) within) (omega arith) (omega (arith, ones (k + 1) d within)) (omega (arith, from-light (k + 1), light))
-      (λ own. (var_after (k + 1) (k + 1 + 1) (at (k + 1)).lit.var (omega arith) apart own).0 refl)
-      (λ fresh. let under = (var_after (k + 1) (k + 1 + 1) (first + k) (omega arith) apart fresh).1 in omega (arith, under))
+  -- ---- what is known
+
+  at_rung : (k : ℕ) → k + 1 < n → MeansAt K (next + 2 * k) (rung ts first k)
+  at_rung k within =
+      given k (rung ts first k)
+      (record {
+        within = omega (arith, length-map-range_with_len (rung ts first) 0 (n - 1), within);
+        here = get_or-map-range_with_len (rung ts first) 0 (n - 1) k k (rung ts first k) (omega (arith, within)) (omega arith);
+      })
+
+  missed : (k : ℕ) → k + 1 < n → K (next + 2 * k + 1) (reverse_of (rung ts first k))
+  missed k within = (at_rung k within).second (back k within)
+
+  -- the constraints give the clause at each place
+  pub justified : (p : Place) → IsPlace n p → IsJustified K (justification_at ts first id next p)
+  justified (Link k) h = (forward_of (rung ts first (k + 1)) ∷ reverse_of (rung ts first k) ∷ [], ((at_rung (k + 1) (omega (arith, h))).first, (missed k (omega (arith, h)), tt)), link_follows k h)
+  justified (NoneAfter k) h = (forward_of (rung ts first k) ∷ record { terms = map opposite ts; degree = weight ts - 1 } ∷ [], ((at_rung k h).first, (own, tt)), none_follows k h)
+  justified (SomeAfter k) h = (reverse_of (rung ts first k) ∷ [], (missed k h, tt), some_follows k h)

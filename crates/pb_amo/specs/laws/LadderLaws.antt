@@ -1,16 +1,15 @@
 -- The laws of a ladder.
-use Rattle.std.proofs.Common.{◌≡◌, ◌<◌, ◌≤◌, ◌+◌, ◌*◌, ◌-◌, ◌++◌, ◌||◌, ℕ, Bool, true, false, not, List, [], ◌∷◌, length, drop, refl, sym, ap, ◌∙◌, subst, arith, inl, inr, zero, suc, length-append}
+use Rattle.std.proofs.Common.{◌≡◌, ◌<◌, ◌≤◌, ◌+◌, ◌*◌, ◌-◌, ◌||◌, ℕ, Bool, true, false, not, List, [], ◌∷◌, length, drop, refl, sym, ap, ◌∙◌, subst, arith, inl, inr, zero, suc}
 use Rattle.std.specs.Prelude.{Contains, All, count_by}
 use Rattle.std.specs.List.{list_any}
 use Rattle.std.proofs.lemmas.Bool.{cases_Bool, cases_order, or_left, or_right, or_from}
 use Rattle.std.proofs.lemmas.List.{length-map}
 use Rattle.std.proofs.Math.Seq.{drop-cons}
-use Rattle.std.proofs.lemmas.List.FromFn.{length-map-range_with_len}
-use Rattle.std.proofs.lemmas.List.Elements.{All-append, All-map, All-from_recursion, Contains-get_or}
+use Rattle.std.proofs.lemmas.List.Elements.{All-map, All-from_recursion}
 use Rattle.pb_base.specs.declared.literal.Lit.{Lit}
 use Rattle.pb_base.specs.Literals.{Assignment, negated, lit_value, clause_value, IsModel, AgreeBelow}
 use Rattle.pb_base.proofs.LiteralLemmas.{lit_value-negated}
-use Rattle.pb_base.proofs.Members.{All-append_both}
+use Rattle.pb_base.proofs.Members.{Contains-map}
 use Rattle.pb_norm.specs.Constraints.{Weighted}
 use Rattle.pb_norm.specs.BoundedSums.{BoundedSum, StaysWithin, IsOverDistinct}
 use Rattle.pb_norm.specs.Reduction.{lits_of, all_weigh}
@@ -19,42 +18,29 @@ use Rattle.pb_norm.proofs.Derived.{Derived, second_of, first_of_two}
 use Rattle.pb_family.specs.Families.{VarsBelow, NamesOnly, IsNamed}
 use Rattle.pb_family.specs.Fresh.{positive_of, literal_at, fresh_at}
 use Rattle.pb_family.proofs.Extended.{extended, extended_below, extended_fresh, extended_literal}
+use Rattle.pb_family.proofs.TermVars.{named_at}
 use Rattle.pb_family.proofs.UnitSums.{count_by-cons_true, count_by-cons_false, unit_sum}
 use Rattle.pb_family.proofs.FlatRanges.{All-itself, counting_up}
-use Rattle.pb_family.proofs.Ranges.{range_each, at_range}
 use Rattle.pb_family.proofs.ShortClauses.{LeftOver, twice, when_one}
 use Rattle.pb_family.proofs.Pushes.{Pushes, first_left, sound_from_pushes, propagates_from_pushes}
-use Rattle.pb_amo.specs.Ladder.{link, none_after, some_after, links, nones_after, somes_after, ladder_clauses}
-use Rattle.pb_amo.specs.laws.PairwiseLaws.{among_vars}
+use Rattle.pb_amo.specs.declared.rung.Place.{Place}
+use Rattle.pb_amo.specs.declared.rung.Place.TheVariants.{Link, NoneAfter, SomeAfter}
+use Rattle.pb_amo.specs.Ladder.{link, none_after, some_after, ladder_clauses}
+use Rattle.pb_amo.specs.LadderSteps.{clause_at, places}
+use Rattle.pb_amo.specs.inner.LadderOrder.{IsPlace}
+use Rattle.pb_amo.specs.laws.LadderPlaces.{each_place, at_place, ladder_by_places, count_places}
 
 -- ---- the clauses by their places
 
-record LadderParts (P : List Lit → Type 0) (ms : List Lit) (first : ℕ) : Type 0 where
-  link_at : (k : ℕ) → k < length ms - 2 → P (link first k)
-  none_at : (k : ℕ) → k < length ms - 1 → P (none_after ms first k)
-  some_at : (k : ℕ) → k < length ms - 1 → P (some_after ms first k)
-
-ladder_parts : (P : List Lit → Type 0) (ms : List Lit) (first : ℕ) → All P (ladder_clauses ms first) → LadderParts P ms first
-ladder_parts P ms first all =
-    let one = All-append_both P (links first (length ms)) (nones_after ms first ++ somes_after ms first) all in
-    let two = All-append_both P (nones_after ms first) (somes_after ms first) one.1 in
-    record {
-      link_at = λ k h. at_range P (link first) 0 (length ms - 2) one.0 k (omega arith) (omega arith);
-      none_at = λ k h. at_range P (none_after ms first) 0 (length ms - 1) two.0 k (omega arith) (omega arith);
-      some_at = λ k h. at_range P (some_after ms first) 0 (length ms - 1) two.1 k (omega arith) (omega arith);
-    }
-
-from_ladder_parts : (P : List Lit → Type 0) (ms : List Lit) (first : ℕ) → LadderParts P ms first → All P (ladder_clauses ms first)
-from_ladder_parts P ms first parts =
-    All-append P (links first (length ms)) (nones_after ms first ++ somes_after ms first)
-    (range_each P (link first) 0 (length ms - 2) (λ k low high. parts.link_at k (omega arith)))
-    (All-append P (nones_after ms first) (somes_after ms first)
-    (range_each P (none_after ms first) 0 (length ms - 1) (λ k low high. parts.none_at k (omega arith)))
-    (range_each P (some_after ms first) 0 (length ms - 1) (λ k low high. parts.some_at k (omega arith))))
+ladder_each : (P : List Lit → Type 0) (ms : List Lit) (first : ℕ) → ((p : Place) → IsPlace (length ms) p → P (clause_at ms first p)) → All P (ladder_clauses ms first)
+ladder_each P ms first each =
+    subst (All P) (ladder_by_places ms first) (All-map P (clause_at ms first) (places (length ms)) (each_place (λ p. P (clause_at ms first p)) (length ms) each))
 
 -- the clauses are listed
-listed : (ms : List Lit) (first : ℕ) → LadderParts (Contains (ladder_clauses ms first)) ms first
-listed ms first = ladder_parts (Contains (ladder_clauses ms first)) ms first (All-itself (ladder_clauses ms first))
+listed : (ms : List Lit) (first : ℕ) (p : Place) → IsPlace (length ms) p → Contains (ladder_clauses ms first) (clause_at ms first p)
+listed ms first p h =
+    subst (λ (cs : List (List Lit)). Contains cs (clause_at ms first p)) (ladder_by_places ms first)
+    (Contains-map (clause_at ms first) (places (length ms)) p (at_place (Contains (places (length ms))) (length ms) (All-itself (places (length ms))) p h))
 
 -- ---- extends
 
@@ -88,59 +74,63 @@ none_later v (m ∷ ms) (suc k) within few here =
     ] in
     ap (λ (n : ℕ). list_any (lit_value v) (drop n (m ∷ ms))) (let e : suc k + 1 ≡ suc (k + 1) = omega arith in e) ∙ none_later v ms k (omega arith) fewer here
 
+-- each clause is true where each fresh variable says so
+module _ (v : Assignment) (ms : List Lit) (first : ℕ) (low : All (λ m. m.var < first) ms) (few : count_by (lit_value v) ms ≤ 1) where
+  abbrev w : Assignment
+  w = extended v first (later v ms)
+
+  fresh : (k : ℕ) → lit_value w (fresh_at first k) ≡ later v ms k
+  fresh k = extended_fresh v first (later v ms) k
+
+  same : (k : ℕ) → k < length ms → lit_value v (literal_at ms k) ≡ lit_value w (literal_at ms k)
+  same k h = extended_literal v first (later v ms) (literal_at ms k) (low k (positive_of 0) h)
+
+  holds : (p : Place) → IsPlace (length ms) p → clause_value w (clause_at ms first p) ≡ true
+  holds (Link k) h = when_one w (fresh_at first (k + 1)) (fresh_at first k) (λ up.
+      fresh k ∙ next_true v ms k (omega (arith, h)) ∙ or_right (lit_value v (literal_at ms (k + 1))) (later v ms (k + 1)) (sym (fresh (k + 1)) ∙ up))
+  holds (NoneAfter k) h = when_one w (literal_at ms k) (negated (fresh_at first k)) (λ here.
+      lit_value-negated w (fresh_at first k) ∙ ap not (fresh k ∙ none_later v ms k (omega (arith, h)) few (same k (omega (arith, h)) ∙ here)))
+  holds (SomeAfter k) h = when_one w (literal_at ms (k + 1)) (fresh_at first k) (λ here.
+      fresh k ∙ next_true v ms k h ∙ or_left (lit_value v (literal_at ms (k + 1))) (later v ms (k + 1)) (same (k + 1) h ∙ here))
+
 pub ladder_extends : (c : BoundedSum) → c.bound ≡ 1 → all_weigh 1 c.terms ≡ true → (first : ℕ) → VarsBelow first c.terms → (v : Assignment) → StaysWithin v c
     → (w : Assignment) × AgreeBelow first v w × IsModel w (ladder_clauses (lits_of c.terms) first)
-ladder_extends c one units first below v holds =
+ladder_extends c one units first below v holds_within =
     let ms = lits_of c.terms in
-    let w = extended v first (later v ms) in
     let count = unit_sum (lit_value v) c.terms units in
-    let few : count_by (lit_value v) ms ≤ 1 = omega arith in
-    let low = All-map (λ (m : Lit). m.var < first) (λ (t : Weighted). t.lit) c.terms below in
-    let fresh = extended_fresh v first (later v ms) in
-    let same = λ (k : ℕ) (h : k < length ms). extended_literal v first (later v ms) (literal_at ms k) (low k (positive_of 0) h) in (
-      w,
+    let low = All-map (λ (m : Lit). m.var < first) (λ (t : Weighted). t.lit) c.terms below in (
+      extended v first (later v ms),
       extended_below v first (later v ms),
-      from_ladder_parts (λ c. clause_value w c ≡ true) ms first (record {
-        link_at = λ k h. when_one w (fresh_at first (k + 1)) (fresh_at first k) (λ up.
-            fresh k ∙ next_true v ms k (omega arith)
-            ∙ or_right (lit_value v (literal_at ms (k + 1))) (later v ms (k + 1)) (sym (fresh (k + 1)) ∙ up));
-        none_at = λ k h. when_one w (literal_at ms k) (negated (fresh_at first k)) (λ here.
-            lit_value-negated w (fresh_at first k) ∙ ap not (fresh k ∙ none_later v ms k (omega arith) few (same k (omega arith) ∙ here)));
-        some_at = λ k h. when_one w (literal_at ms (k + 1)) (fresh_at first k) (λ here.
-            fresh k ∙ next_true v ms k (omega arith)
-            ∙ or_left (lit_value v (literal_at ms (k + 1))) (later v ms (k + 1)) (same (k + 1) (omega arith) ∙ here));
-      }),
+      ladder_each (λ d. clause_value (extended v first (later v ms)) d ≡ true) ms first (holds v ms first low (omega arith)),
     )
 
 -- ---- names and counts
 
-pub ladder_names : (ts : List Weighted) (first : ℕ) → NamesOnly ts first (length ts - 1) (ladder_clauses (lits_of ts) first)
-ladder_names ts first =
-    let ms = lits_of ts in
-    let Named : Lit → Type 0 = IsNamed ts first (length ts - 1) in
-    let count : length ms ≡ length ts = length-map ts (λ t. t.lit) in
-    let own = λ (k : ℕ) (h : k < length ms). among_vars ts (literal_at ms k) (Contains-get_or ms k (positive_of 0) h) in
-    from_ladder_parts (All Named) ms first (record {
-      link_at = λ k h. All-from_recursion Named (link first k) (inr (omega arith, omega arith), (inr (omega arith, omega arith), tt));
-      none_at = λ k h. All-from_recursion Named (none_after ms first k) (inl (own k (omega arith)), (inr (omega arith, omega arith), tt));
-      some_at = λ k h. All-from_recursion Named (some_after ms first k) (inl (own (k + 1) (omega arith)), (inr (omega arith, omega arith), tt));
-    })
+module _ (ts : List Weighted) (first : ℕ) where
+  abbrev Named : Lit → Type 0
+  Named = IsNamed ts first (length ts - 1)
 
-length-ladder : (ms : List Lit) (first : ℕ) → 3 ≤ length ms → length (ladder_clauses ms first) ≡ 3 * length ms - 4
-length-ladder ms first three =
-    omega (
-      arith,
-      length-append (links first (length ms)) (nones_after ms first ++ somes_after ms first),
-      length-append (nones_after ms first) (somes_after ms first),
-      length-map-range_with_len (link first) 0 (length ms - 2),
-      length-map-range_with_len (none_after ms first) 0 (length ms - 1),
-      length-map-range_with_len (some_after ms first) 0 (length ms - 1),
-    )
+  size : length (lits_of ts) ≡ length ts
+  size = length-map ts (λ t. t.lit)
 
-pub ladder_counts : (ts : List Weighted) (first : ℕ) → 3 ≤ length ts → length (ladder_clauses (lits_of ts) first) ≡ 3 * length ts - 4
-ladder_counts ts first three =
-    let count : length (lits_of ts) ≡ length ts = length-map ts (λ t. t.lit) in
-    omega (arith, length-ladder (lits_of ts) first (omega arith))
+  own : (k : ℕ) → k < length ts → Named (negated (literal_at (lits_of ts) k))
+  own k h = named_at ts first (length ts - 1) k (omega (arith, size, h))
+
+  bit : (k : ℕ) → k + 1 < length ts → Named (fresh_at first k)
+  bit k h = inr (omega arith, omega (arith, h))
+
+  pub named : (p : Place) → IsPlace (length ts) p → All Named (clause_at (lits_of ts) first p)
+  named (Link k) h = All-from_recursion Named (link first k) (bit (k + 1) (omega (arith, h)), (bit k (omega (arith, h)), tt))
+  named (NoneAfter k) h = All-from_recursion Named (none_after (lits_of ts) first k) (own k (omega (arith, h)), (bit k h, tt))
+  named (SomeAfter k) h = All-from_recursion Named (some_after (lits_of ts) first k) (own (k + 1) h, (bit k h, tt))
+
+  pub ladder_names : NamesOnly ts first (length ts - 1) (ladder_clauses (lits_of ts) first)
+  ladder_names = ladder_each (All Named) (lits_of ts) first (λ p h. named p (subst (λ (n : ℕ). IsPlace n p) size h))
+
+  pub ladder_counts : 3 ≤ length ts → length (ladder_clauses (lits_of ts) first) ≡ 3 * length ts - 4
+  ladder_counts three =
+      sym (ap (λ (cs : List (List Lit)). length cs) (ladder_by_places (lits_of ts) first))
+      ∙ length-map (places (length (lits_of ts))) (clause_at (lits_of ts) first) ∙ count_places (length (lits_of ts)) ∙ ap (λ (n : ℕ). 3 * n - 4) size
 
 -- ---- what unit propagation derives
 
@@ -151,9 +141,9 @@ module _ (ms : List Lit) (first : ℕ) (given : List Lit) where
   -- a literal makes the fresh variables before it true
   reaches : (d k : ℕ) → k + d + 1 < length ms → Derived cs given (literal_at ms (k + d + 1)) → Derived cs given (fresh_at first k)
   reaches d = counting_up (λ d. (k : ℕ) → k + d + 1 < length ms → Derived cs given (literal_at ms (k + d + 1)) → Derived cs given (fresh_at first k))
-      (λ k within held. second_of cs given (negated (literal_at ms (k + 1))) (fresh_at first k) ((listed ms first).some_at k (omega arith))
+      (λ k within held. second_of cs given (negated (literal_at ms (k + 1))) (fresh_at first k) (listed ms first (SomeAfter k) (omega arith))
       (twice cs given (literal_at ms (k + 1)) (subst (λ (n : ℕ). Derived cs given (literal_at ms (n + 1))) (let e : k + 0 ≡ k = omega arith in e) held)))
-      (λ d rest k within held. second_of cs given (negated (fresh_at first (k + 1))) (fresh_at first k) ((listed ms first).link_at k (omega arith))
+      (λ d rest k within held. second_of cs given (negated (fresh_at first (k + 1))) (fresh_at first k) (listed ms first (Link k) (omega arith))
       (twice cs given (fresh_at first (k + 1)) (rest (k + 1) (omega arith) (subst (λ (n : ℕ). Derived cs given (literal_at ms (n + 1))) (let e : k + (d + 1) ≡ (k + 1) + d = omega arith in e) held))))
       d
 
@@ -161,9 +151,9 @@ module _ (ms : List Lit) (first : ℕ) (given : List Lit) where
   clears : (d k : ℕ) → k + d + 1 < length ms → Derived cs given (literal_at ms k) → Derived cs given (negated (fresh_at first (k + d)))
   clears d = counting_up (λ d. (k : ℕ) → k + d + 1 < length ms → Derived cs given (literal_at ms k) → Derived cs given (negated (fresh_at first (k + d))))
       (λ k within held. subst (λ (n : ℕ). Derived cs given (negated (fresh_at first n))) (let e : k ≡ k + 0 = omega arith in e)
-      (second_of cs given (negated (literal_at ms k)) (negated (fresh_at first k)) ((listed ms first).none_at k (omega arith)) (twice cs given (literal_at ms k) held)))
+      (second_of cs given (negated (literal_at ms k)) (negated (fresh_at first k)) (listed ms first (NoneAfter k) (omega arith)) (twice cs given (literal_at ms k) held)))
       (λ d rest k within held. subst (λ (n : ℕ). Derived cs given (negated (fresh_at first n))) (let e : (k + d) + 1 ≡ k + (d + 1) = omega arith in e)
-      (first_of_two cs given (negated (fresh_at first ((k + d) + 1))) (fresh_at first (k + d)) ((listed ms first).link_at (k + d) (omega arith)) (rest k (omega arith) held)))
+      (first_of_two cs given (negated (fresh_at first ((k + d) + 1))) (fresh_at first (k + d)) (listed ms first (Link (k + d)) (omega arith)) (rest k (omega arith) held)))
       d
 
   ladder_pushes : Pushes cs given ms
@@ -174,9 +164,9 @@ module _ (ms : List Lit) (first : ℕ) (given : List Lit) where
           | inl before ↦
               let gap = j - (i + 1) in
               subst (λ (n : ℕ). LeftOver cs given (negated (literal_at ms n))) (let e : i + gap + 1 ≡ j = omega arith in e)
-              (first_left cs given (negated (literal_at ms (i + gap + 1))) (fresh_at first (i + gap)) ((listed ms first).some_at (i + gap) (omega arith)) (clears gap i (omega arith) d))
+              (first_left cs given (negated (literal_at ms (i + gap + 1))) (fresh_at first (i + gap)) (listed ms first (SomeAfter (i + gap)) (omega arith)) (clears gap i (omega arith) d))
           | inr after ↦
-              first_left cs given (negated (literal_at ms j)) (negated (fresh_at first j)) ((listed ms first).none_at j (omega arith))
+              first_left cs given (negated (literal_at ms j)) (negated (fresh_at first j)) (listed ms first (NoneAfter j) (omega arith))
               (twice cs given (fresh_at first j) (reaches (i - (j + 1)) j (omega arith) (subst (λ (n : ℕ). Derived cs given (literal_at ms n)) (let e : i ≡ j + (i - (j + 1)) + 1 = omega arith in e) d)))
         ]
       ]

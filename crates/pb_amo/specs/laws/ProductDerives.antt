@@ -1,8 +1,8 @@
 -- The clauses of a grid are derived.
-use Rattle.std.proofs.Common.{◌≡◌, ◌≢◌, ◌≤◌, ◌<◌, ◌+◌, ◌*◌, ◌^◌, ℕ, true, leb, List, [], ◌∷◌, ◌++◌, length, length-append, refl, ap, sym, ◌∙◌, subst, arith, inl, inr, get_or, zero, suc}
+use Rattle.std.proofs.Common.{◌≡◌, ◌≢◌, ◌≤◌, ◌<◌, ◌+◌, ◌*◌, ◌^◌, ℕ, true, List, [], ◌∷◌, ◌++◌, length, length-append, refl, ap, sym, ◌∙◌, subst, arith, inl, inr, get_or, zero, suc}
 use Rattle.std.specs.Prelude.{All, map, count_by}
 use Rattle.std.specs.List.{range_with_len, flat_map}
-use Rattle.std.proofs.lemmas.Bool.{cases_lt, le-leb, lt-leb}
+use Rattle.std.proofs.lemmas.Bool.{cases_lt}
 use Rattle.std.proofs.lemmas.List.{get_or_append_left, get_or-append-add, length-map}
 use Rattle.std.proofs.lemmas.List.Elements.{All-nil, All-cons, All-append, All-map, All-weaker, All-contains_itself}
 use Rattle.std.proofs.lemmas.List.FromFn.{length-map-range_with_len, get_or-map-range_with_len}
@@ -32,15 +32,15 @@ use Rattle.pb_derive.proofs.Scoped.{Scoped, scoped}
 use Rattle.pb_derive.proofs.UnitTerms.{ones-lits}
 use Rattle.pb_family.proofs.Ranges.{range_each}
 use Rattle.pb_family.proofs.FlatRanges.{flat_each}
-use Rattle.pb_amo.specs.laws.Choice.{chosen_true, chosen_false}
 use Rattle.pb_amo.specs.laws.GridSides.{columns_positive, row_within, sides_fit}
 use Rattle.pb_amo.specs.Pairwise.{pairwise_clauses}
 use Rattle.pb_amo.specs.laws.PairwiseDerives.{pairwise_swept}
 use Rattle.pb_amo.specs.Product.{rows, columns, line, cells, cell, fresh_within, clauses_within, product_fresh, product_clauses}
 use Rattle.pb_amo.specs.laws.ProductLines.{line_fit, line_claim, Derivable, side_swept}
-use Rattle.pb_amo.specs.ProductSteps.{line_reification, line_reifications, line_justification, line_sum, side_steps, row_of, column_of, grid_reifications, cell_justifications, cells_steps, steps_within, product_steps}
+use Rattle.pb_amo.specs.ProductSteps.{line_reification, line_reifications, line_justification, row_of, column_of, cell_justifications, cells_steps, steps_within, product_steps}
 use Rattle.pb_amo.specs.inner.AtMostOne.{at_most_one}
 use Rattle.pb_amo.specs.PairwiseSteps.{pairwise_claims, pairwise_steps}
+use Rattle.pb_amo.specs.laws.GridCases.{rows_steps, columns_steps, grid_body, grid_steps, steps_last, steps_few, steps_many}
 use Rattle.pb_amo.specs.laws.GridCounts.{fresh_last, fresh_few, fresh_many}
 use Rattle.pb_amo.specs.laws.GridClauses.{clauses_last, clauses_few, clauses_many}
 use Rattle.pb_base.proofs.Pairs.{AllPairs-map}
@@ -49,39 +49,6 @@ use Rattle.pb_family.specs.Families.{VarsBelow}
 use Rattle.pb_norm.proofs.Proper.{apart}
 use Rattle.pb_norm.specs.Reduction.{lits_of, all_weigh}
 use Rattle.pb_norm.specs.BoundedSums.{BoundedSum, IsOverDistinct}
-
--- ---- the steps by cases
-
-pub steps_last : (ms : List Lit) (first id next : ℕ) → steps_within zero ms first id next ≡ pairwise_steps ms id next
-unfolding steps_within
-steps_last ms first id next = refl
-
-pub steps_few : (more : ℕ) (ms : List Lit) (first id next : ℕ) → length ms ≤ 4 → steps_within (suc more) ms first id next ≡ pairwise_steps ms id next
-unfolding steps_within
-steps_few more ms first id next few = chosen_true (leb (length ms) 4) (pairwise_steps ms id next) _ (le-leb (length ms) 4 few)
-
--- the rows' part and the columns'
-abbrev pub rows_steps : ℕ → List Lit → ℕ → ℕ → ℕ → ℕ → List Step
-rows_steps more ms first id base = side_steps (line_sum id base (rows (length ms))) (steps_within more (line first (rows (length ms))) (first + rows (length ms) + columns (length ms)))
-
-abbrev pub columns_steps : ℕ → List Lit → ℕ → ℕ → ℕ → ℕ → List Step
-columns_steps more ms first id base =
-    side_steps (line_sum id (base + 2 * rows (length ms)) (columns (length ms)))
-    (steps_within more (line (first + rows (length ms)) (columns (length ms))) (first + rows (length ms) + columns (length ms) + fresh_within more (rows (length ms))))
-
--- between the reifications and their deletion
-abbrev pub grid_body : ℕ → List Lit → ℕ → ℕ → ℕ → ℕ → List Step
-grid_body more ms first id base = followed_by (cells_steps ms first (rows (length ms)) (columns (length ms)) base) (followed_by (rows_steps more ms first id base) (columns_steps more ms first id base))
-
-abbrev pub grid_steps : ℕ → List Lit → ℕ → ℕ → ℕ → List Step
-grid_steps more ms first id next =
-    let r = rows (length ms) in
-    let q = columns (length ms) in
-    reification_steps next (grid_reifications ms first r q) ++ (grid_body more ms first id next (next + 2 * (r + q)) ++ deletion_steps 2 next (r + q))
-
-pub steps_many : (more : ℕ) (ms : List Lit) (first id next : ℕ) → 4 < length ms → steps_within (suc more) ms first id next ≡ grid_steps more ms first id next
-unfolding steps_within
-steps_many more ms first id next many = chosen_false (leb (length ms) 4) (pairwise_steps ms id next) _ (lt-leb (length ms) 4 many)
 
 -- the clauses of the cells
 pub cells-clauses : (ms : List Lit) (first r q base a n : ℕ) → map (λ (c : Claim). c.clause) (map by_justification (flat_map (cell_justifications ms first r q base) (range_with_len a n))) ≡ flat_map (cell ms first r q) (range_with_len a n)

@@ -17,7 +17,7 @@ use Rattle.pb_norm.specs.ClausePropagation.{ClausesPropagate}
 use Rattle.pb_amo.specs.laws.GridPushes.{pushes_within}
 use Rattle.pb_amo.specs.laws.GridNames.{names_within, counts_within}
 use Rattle.pb_amo.specs.laws.GridExtends.{extends_within}
-use Rattle.pb_amo.specs.laws.PairwiseLaws.{among_vars}
+use Rattle.pb_family.proofs.TermVars.{among_vars}
 
 module _ (c : BoundedSum) (one : c.bound ≡ 1) (units : all_weigh 1 c.terms ≡ true) (first : ℕ) where
   abbrev ms : List Lit

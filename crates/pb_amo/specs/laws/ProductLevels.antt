@@ -12,7 +12,7 @@ use Rattle.pb_amo.specs.ProductSteps.{line_sum, side_steps, grid_reifications, c
 use Rattle.pb_amo.specs.laws.GridCounts.{fresh_enough}
 use Rattle.pb_amo.specs.laws.GridSides.{columns_positive, sides_fit, rows_positive}
 use Rattle.pb_amo.specs.laws.LineLaws.{length-line}
-use Rattle.pb_amo.specs.laws.ProductDerives.{steps_last, steps_few, steps_many, rows_steps, columns_steps}
+use Rattle.pb_amo.specs.laws.GridCases.{steps_last, steps_few, steps_many, rows_steps, columns_steps}
 
 -- a grid, where the steps of its rows and columns are given
 abbrev pub level_steps : List Lit → ℕ → ℕ → (ℕ → List Step) → (ℕ → List Step) → ℕ → List Step

@@ -1,20 +1,21 @@
 -- The laws of a sequential counter.
-use Rattle.std.proofs.Common.{◌≡◌, ◌<◌, ◌≤◌, ◌+◌, ◌*◌, ◌-◌, ℕ, true, false, List, [], ◌∷◌, length, ap, sym, ◌∙◌, subst, arith, inl, inr}
-use Rattle.std.specs.Prelude.{Contains, All}
+use Rattle.std.proofs.Common.{◌≡◌, ◌<◌, ◌≤◌, ◌+◌, ◌*◌, ◌-◌, ℕ, true, false, List, length, ap, sym, ◌∙◌, subst, arith, inr}
+use Rattle.std.specs.Prelude.{All}
 use Rattle.std.proofs.lemmas.List.{length-map, get_or_default}
 use Rattle.std.proofs.Math.Nat.{mul-le-mul_right}
-use Rattle.std.proofs.lemmas.List.Elements.{All-map, All-from_recursion, Contains-get_or}
+use Rattle.std.proofs.lemmas.List.Elements.{All-map, All-from_recursion}
 use Rattle.pb_base.specs.declared.literal.Lit.{Lit}
 use Rattle.pb_base.specs.Literals.{Assignment, negated, lit_value, IsModel, AgreeBelow, is_among}
 use Rattle.pb_norm.specs.Constraints.{Weighted}
-use Rattle.pb_norm.specs.BoundedSums.{BoundedSum, StaysWithin, IsProper, vars_of}
+use Rattle.pb_norm.specs.BoundedSums.{BoundedSum, StaysWithin, IsProper}
 use Rattle.pb_norm.specs.Reduction.{lits_of, all_weigh}
 use Rattle.pb_norm.specs.ClausePropagation.{ClausesPropagate}
 use Rattle.pb_norm.proofs.Derived.{Derived, Refuted}
 use Rattle.pb_norm.proofs.BoundedForcing.{given_sum, propagates_from_sums}
-use Rattle.pb_base.proofs.Members.{Contains-map, Contains-nil, Contains-here, Contains-there, Contains-cons_cases, not_among_from}
+use Rattle.pb_base.proofs.Members.{Contains-map, not_among_from}
 use Rattle.pb_family.specs.Fresh.{positive_of, literal_at}
 use Rattle.pb_family.specs.Families.{VarsBelow, IsNamed, NamesOnly}
+use Rattle.pb_family.proofs.TermVars.{named_at}
 use Rattle.pb_family.proofs.UnitSums.{unit_sum, unit_coefficient, more_than_bound}
 use Rattle.pb_family.proofs.Models.{sound_from_sums}
 use Rattle.pb_family.proofs.Extended.{extended, extended_below}
@@ -78,14 +79,6 @@ bit_within n width first i j h low =
     let rows : i + 1 ≤ n - 1 = omega arith in
     omega (arith, mul-le-mul_right width rows)
 
-var_of_term : (ts : List Weighted) (k : Lit) → Contains (lits_of ts) k → Contains (vars_of ts) k.var
-var_of_term [] k h = absurd (Contains-nil k h)
-var_of_term (t ∷ ts) k h =
-    elim (Contains-cons_cases t.lit (lits_of ts) k h) as (λ _. Contains (vars_of (t ∷ ts)) k.var) [
-      | inl e ↦ subst (λ (m : Lit). Contains (vars_of (t ∷ ts)) m.var) e (Contains-here t.lit.var (vars_of ts))
-      | inr rest ↦ Contains-there t.lit.var (vars_of ts) k.var (var_of_term ts k rest)
-    ]
-
 module _ (ts : List Weighted) (width first : ℕ) (some : 1 ≤ width) (two : 2 ≤ length ts) where
   abbrev ms : List Lit
   ms = lits_of ts
@@ -97,7 +90,7 @@ module _ (ts : List Weighted) (width first : ℕ) (some : 1 ≤ width) (two : 2 
   size = length-map ts (λ t. t.lit)
 
   own : (k : ℕ) → k < length ms → Named (negated (literal_at ms k))
-  own k h = inl (var_of_term ts (literal_at ms k) (Contains-get_or ms k (positive_of 0) h))
+  own k h = named_at ts first (counter_fresh (length ts) width) k h
 
   bit : (i j : ℕ) → i + 1 < length ms → j < width → Named (count_bit first width i j)
   bit i j h low = inr (omega arith, bit_within (length ts) width first i j (omega (arith, size, h)) low)

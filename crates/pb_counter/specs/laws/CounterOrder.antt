@@ -1,40 +1,17 @@
 -- The places of a counter's clauses, one number after another.
-use Rattle.std.proofs.Common.{◌≡◌, ◌<◌, ◌≤◌, ◌+◌, ◌-◌, ◌*◌, ◌/◌, ◌%◌, ◌++◌, ℕ, zero, suc, cond, List, [], ◌∷◌, length, refl, sym, ap, subst, ◌∙◌, arith}
+use Rattle.std.proofs.Common.{◌≡◌, ◌<◌, ◌≤◌, ◌+◌, ◌-◌, ◌*◌, ◌/◌, ◌%◌, ◌++◌, ℕ, suc, cond, List, [], ◌∷◌, length, refl, sym, ap, subst, ◌∙◌, arith}
 use Rattle.std.specs.Prelude.{map, All, ◌==◌, nat_lt}
-use Rattle.std.specs.List.{range_with_len, flat_map}
+use Rattle.std.specs.List.{range_with_len}
 use Rattle.std.proofs.lemmas.Bool.{cond-true, cond-false, eq-eqb, ne_eqb, lt-ltb, le-ltb}
 use Rattle.std.proofs.lemmas.Simd.{map-map}
 use Rattle.std.proofs.lemmas.Nat.{div-mul-add, mod-mul-add}
 use Rattle.std.proofs.lemmas.List.FromFn.{length-map-range_with_len}
-use Rattle.pb_family.proofs.Ranges.{at_range}
+use Rattle.pb_family.proofs.Ranges.{at_range, map_split, range_same, flat_as_map}
 use Rattle.pb_counter.specs.declared.place.Place.{Place}
 use Rattle.pb_counter.specs.declared.place.Place.TheVariants.{Start, Below, One, Keep, More, Stop}
 use Rattle.pb_counter.specs.Counter.{row_places, places, counter_size}
 use Rattle.pb_counter.specs.inner.Order.{IsPlace, turn_at, place_at}
 use Rattle.pb_counter.specs.laws.CounterPlaces.{each_place}
-
--- ---- ranges
-
-map_split : {X : Type 0} (f : ℕ → X) (a m k : ℕ) → map f (range_with_len a (m + k)) ≡ map f (range_with_len a m) ++ map f (range_with_len (a + m) k)
-map_split f a zero k = ap (λ (m : ℕ). map f (range_with_len a m)) (let e : 0 + k ≡ k = omega arith in e) ∙ ap (λ (b : ℕ). map f (range_with_len b k)) (let e : a ≡ a + 0 = omega arith in e)
-map_split f a (suc m) k =
-    ap (λ (n : ℕ). map f (range_with_len a n)) (let e : suc m + k ≡ suc (m + k) = omega arith in e)
-    ∙ ap (λ ys. f a ∷ ys) (map_split f (a + 1) m k ∙ ap (λ (b : ℕ). map f (range_with_len (a + 1) m) ++ map f (range_with_len b k)) (let e : a + 1 + m ≡ a + suc m = omega arith in e))
-
-range_same : {X : Type 0} (f g : ℕ → X) (a b n : ℕ) → ((i : ℕ) → i < n → f (a + i) ≡ g (b + i)) → map f (range_with_len a n) ≡ map g (range_with_len b n)
-range_same f g a b zero each = refl
-range_same f g a b (suc n) each =
-    (λ x. (let here : f a ≡ g b = ap f (let e : a ≡ a + 0 = omega arith in e) ∙ each 0 (omega arith) ∙ ap g (let e : b + 0 ≡ b = omega arith in e) in here) x ∷ range_same f g (a + 1) (b + 1) n (λ i h. ap f (let e : a + 1 + i ≡ a + (i + 1) = omega arith in e) ∙ each (i + 1) (omega arith) ∙ ap g (let e : b + (i + 1) ≡ b + 1 + i = omega arith in e)) x)
-
--- lists that are as long each are one range
-flat_as_map : {X : Type 0} (g : ℕ → List X) (f : ℕ → X) (c a b n : ℕ) → ((i : ℕ) → i < n → g (a + i) ≡ map f (range_with_len (b + i * c) c)) → flat_map g (range_with_len a n) ≡ map f (range_with_len b (n * c))
-flat_as_map g f c a b zero each = ap (λ (k : ℕ). map f (range_with_len b k)) (let e : 0 ≡ 0 * c = omega arith in e)
-flat_as_map g f c a b (suc n) each =
-    (λ x. (let here : g a ≡ map f (range_with_len b c) = ap g (let e : a ≡ a + 0 = omega arith in e) ∙ each 0 (omega arith) ∙ ap (λ (k : ℕ). map f (range_with_len k c)) (let e : b + 0 * c ≡ b = omega arith in e) in here) x
-    ++ flat_as_map g f c (a + 1) (b + c) n (λ i h.
-    ap g (let e : a + 1 + i ≡ a + (i + 1) = omega arith in e) ∙ each (i + 1) (omega arith) ∙ ap (λ (k : ℕ). map f (range_with_len k c)) (let e : b + (i + 1) * c ≡ b + c + i * c = omega arith in e)) x)
-    ∙ sym (map_split f b c (n * c))
-    ∙ ap (λ (k : ℕ). map f (range_with_len b k)) (let e : c + n * c ≡ suc n * c = omega arith in e)
 
 -- ---- each number
 

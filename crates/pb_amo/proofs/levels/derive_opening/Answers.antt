@@ -18,9 +18,10 @@ returns-in_err-derive_lines g c =
     steps_fault c.from_residual.result _ (reification_steps old.next (grid_reifications ms first r q)) (cells_steps ms first r q old.next (old.next + 2 * (r + q)) ++ line_sum id old.next r ∷ []) (g.T.StepSink.state c.derive_lines.new.sink) c.from_residual.ensures.1
     (deriving_starts (opening_steps ms first r q id old.next) old) c.in_err-derive_lines.ensures
 
-pub derive_cells-requires-clause-room : goal.derive_cells-requires-clause-room
-derive_cells-requires-clause-room g c =
-    omega (arith, c.requires.room, lines_next (source_literals c.args.literals.now) c.args.first c.args.sides.rows c.args.sides.columns c.args.id c.next_id-base.result (g.T.StepSink.state c.args.sink.now) c.next_id-base.ensures (g.T.StepSink.state c.derive_lines.new.sink) c.in_ok-derive_lines.ensures)
+pub derive_cells-requires : goal.derive_cells-requires
+derive_cells-requires g c = record {
+  room = omega (arith, c.requires.room, lines_next (source_literals c.args.literals.now) c.args.first c.args.sides.rows c.args.sides.columns c.args.id c.next_id-base.result (g.T.StepSink.state c.args.sink.now) c.next_id-base.ensures (g.T.StepSink.state c.derive_lines.new.sink) c.in_ok-derive_lines.ensures);
+}
 
 pub returns-in_err-derive_cells : goal.returns-in_err-derive_cells
 returns-in_err-derive_cells g c =

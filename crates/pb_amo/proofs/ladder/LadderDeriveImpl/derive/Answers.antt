@@ -1,9 +1,9 @@
-use Rattle.std.proofs.Common.{◌<◌, ◌^◌, List, sym, subst}
+use Rattle.std.proofs.Common.{◌<◌, ◌^◌, List, sym, subst, arith}
 use Rattle.pb_norm.specs.Constraints.{Weighted, weight}
-use Rattle.pb_amo.proofs.LadderParts.{unit_light}
+use Rattle.pb_amo.proofs.LadderHanding.{unit_light}
 use Rattle.pb_amo.proofs.ladder.LadderDeriveImpl.derive.Goals as goal
 
-pub derive_ladder-requires-clause-light : goal.derive_ladder-requires-clause-light
-derive_ladder-requires-clause-light g c =
+pub invariant_of-steps : goal.invariant_of-steps
+invariant_of-steps g c =
     let f = c.args.self.now in
-    subst (λ (ts : List Weighted). weight ts < 2 ^ 100) (sym c.terms.ensures.weights) (unit_light f.of.now.terms f.units f.few)
+    record { light = subst (λ (ts : List Weighted). weight ts < 2 ^ 100) (sym c.rungs.ensures.terms) (unit_light f.of.now.terms f.units f.few); modest = omega (arith, c.next_id.ensures, c.requires.few) }

@@ -1,6 +1,6 @@
 use Rattle.std.proofs.Common.{ap, sym, ◌∙◌}
 use Rattle.pb_base.specs.Literals.{negated}
-use Rattle.pb_counter.proofs.CounterSizes.{literal_of_term}
+use Rattle.pb_family.proofs.TermSlices.{literal_of_term}
 use Rattle.pb_counter.proofs.grid.Grid.not_at.Goals as goal
 
 pub returns : goal.returns

@@ -1,9 +1,0 @@
-use Rattle.pb_family.proofs.Deriving.{steps_same}
-use Rattle.pb_amo.proofs.LadderParts.{some_same}
-use Rattle.pb_amo.proofs.rungs.derive_some.Goals as goal
-
-pub returns : goal.returns
-returns g c =
-    let sink = g.T.StepSink in
-    steps_same c.derive_claim.result _ _ (sink.state c.args.sink.now) (sink.state c.derive_claim.new.sink)
-    (some_same c.args.terms.now c.args.place (sink.state c.args.sink.now).next c.args.base) c.derive_claim.ensures
