@@ -19,21 +19,21 @@ use Rattle.pb_tree.specs.Pairs.{Pair, pair_of}
 use Rattle.pb_tree.specs.Places.{place_of}
 use Rattle.pb_tree.specs.Scheme.{values, fresh_of}
 use Rattle.pb_tree.specs.Tree.{Tree, node, tree_of}
-use Rattle.pb_tree.specs.TreeSteps.{leaves, reifications_from, output_ids, pair_justification, root_justification, tree_justifications}
+use Rattle.pb_tree.specs.TreeSteps.{leaves, reifications_from, output_ids, pair_justification, pair_justifications, root_justification}
 use Rattle.pb_tree.proofs.Lists.{Contains-range_cases}
 use Rattle.pb_tree.proofs.PairLists.{map_same, map-append, map-map, rows_same}
-use Rattle.pb_tree.proofs.TreeHalves.{node_justifications}
-use Rattle.pb_tree.proofs.TreeHanded.{bare, bare_same, all_first_free}
+use Rattle.pb_tree.proofs.TreeHanded.{bare, bare_same}
 use Rattle.pb_tree.proofs.TreeRows.{leaves_of}
 use Rattle.pb_gentot.specs.Generalized.{generalized}
 use Rattle.pb_gentot.specs.GeneralizedSteps.{generalized_pairs}
-use Rattle.pb_gentot.specs.declared.claims.Handed.{Handed}
-use Rattle.pb_gentot.specs.declared.claims.Owned.{Owned}
-use Rattle.pb_gentot.specs.declared.claims.Source.{Source}
-use Rattle.pb_gentot.specs.declared.claims.Source.TheVariants.{Leaf, Fresh}
+use Rattle.pb_gentot.specs.declared.node_ids.Handed.{Handed}
+use Rattle.pb_gentot.specs.declared.node_ids.Owned.{Owned}
+use Rattle.pb_gentot.specs.declared.node_ids.Source.{Source}
+use Rattle.pb_gentot.specs.declared.node_ids.Source.TheVariants.{Leaf, Fresh}
 use Rattle.pb_gentot.specs.laws.ByPairs.{value_from}
 use Rattle.pb_gentot.specs.laws.GeneralizedLaws.{values_within}
-use Rattle.pb_gentot.specs.inner.Sources.{output_reification, ids_at, ids_of, HasIds, second_of, one_at, ones_given, both_at, row_given, pairs_given, node_given, root_given, part_justifications, all_justifications, AreLeavesPositive}
+use Rattle.pb_gentot.specs.inner.Ids.{ids_at, HasIds}
+use Rattle.pb_gentot.specs.inner.Sources.{output_reification, ids_of, second_of, one_at, ones_given, both_at, row_given, pairs_given, node_given, root_given, part_justifications, all_justifications, AreLeavesPositive}
 use Rattle.pb_gentot.proofs.Emitting.{rising_values}
 use Rattle.pb_gentot.proofs.RisingLists.{place_at}
 
@@ -227,7 +227,7 @@ module _ (bound : ℕ) (lefts rights : List Term) (id : ℕ) (left right : Hande
       rows_same claim (λ i. row (get_or us i 0)) (row_given (bound + 1) left right own) (range_with_len 0 (length us)) (λ i h. let within = Contains-range_cases 0 (length us) i h in row_is i (omega arith))
       ∙ ap (map claim) (sym (rows_by_places row us) ∙ ap (flat_map row) lv)
 
-  node_are : node_given (bound + 1) left lefts right rights own ≡ map bare (node_justifications (generalized bound) generalized_pairs l r id)
+  node_are : node_given (bound + 1) left lefts right rights own ≡ map bare (pair_justifications (generalized bound) generalized_pairs l r 0 id)
   node_are =
       let us = values (generalized bound) l in
       let vs = values (generalized bound) r in
@@ -240,9 +240,9 @@ module _ (bound : ℕ) (lefts rights : List Term) (id : ℕ) (left right : Hande
       ∙ sym (map-map bare (pair_justification (generalized bound) l r 0 id) (generalized_pairs us vs))
 
   -- they have the steps of those by its pairs
-  pub node_same : HaveSameSteps (node_given (bound + 1) left lefts right rights own) (node_justifications (generalized bound) generalized_pairs (tree_of (weights lefts)) (tree_of (weights rights)) id)
+  pub node_same : HaveSameSteps (node_given (bound + 1) left lefts right rights own) (pair_justifications (generalized bound) generalized_pairs (tree_of (weights lefts)) (tree_of (weights rights)) 0 id)
   node_same =
-      let owns = node_justifications (generalized bound) generalized_pairs l r id in
+      let owns = pair_justifications (generalized bound) generalized_pairs l r 0 id in
       subst (λ (rs : List Justification). HaveSameSteps rs owns) (sym node_are) (bare_same owns)
 
 pub source_is : (bound : ℕ) (ts : List Term) (l r : Tree) (id base : ℕ) (us : List ℕ) → tree_of (weights ts) ≡ node l r → us ≡ values (generalized bound) (node l r)
@@ -263,11 +263,3 @@ root_given_last bound ts id own root same =
     let is : root_given root (bound + 1) own ≡ bare last = ap (λ (f : ℕ → List ℕ). named (f (bound + 1) ++ own ∷ []) []) same in
     same_append (part_justifications bound ts id) (part_justifications bound ts id) (root_given root (bound + 1) own ∷ []) (last ∷ []) (record { count = refl; steps = λ next. refl })
     (subst (λ (r : Justification). HaveSameSteps (r ∷ []) (last ∷ [])) (sym is) (bare_same (last ∷ [])))
-
--- from the sink's next id on
-pub all_same : (bound : ℕ) (ts : List Term) (first own base next : ℕ) → base ≡ next
-    → HaveSameSteps (all_justifications bound ts base own) (tree_justifications (generalized bound) generalized_pairs (tree_of (weights ts)) first next own)
-all_same bound ts first own base next is =
-    let s = generalized bound in
-    let t = tree_of (weights ts) in
-    subst (λ (b : ℕ). HaveSameSteps (all_justifications bound ts base own) (tree_justifications s generalized_pairs t first b own)) is (all_first_free s generalized_pairs t 0 first base own)

@@ -8,7 +8,7 @@ use Rattle.pb_base.specs.declared.literal.Term.{Term}
 use Rattle.pb_norm.specs.Constraints.{Weighted, weight, weights}
 use Rattle.pb_tree.specs.Scheme.{values, fresh_of, output, clause_count_of}
 use Rattle.pb_tree.specs.Tree.{split_within, tree_of}
-use Rattle.pb_tree.proofs.Halves.{leaf_of}
+use Rattle.pb_tree.proofs.SplitTerms.{leaf_of}
 use Rattle.pb_tree.proofs.Splitting.{split-node}
 use Rattle.pb_gentot.specs.BoundTable.{IsTable, uncut, table_values, table_output, table_fresh, table_rows}
 use Rattle.pb_gentot.specs.Generalized.{generalized}

@@ -1,12 +1,10 @@
 pub mod Bounds
-pub mod DerivedPhases
 pub mod Emitting
 pub mod Handed
 pub mod HandedParts
 pub mod Joining
 pub mod KeptTables
 pub mod Marking
-pub mod MeantParts
 pub mod Neighbours
 pub mod Over
 pub mod Parts

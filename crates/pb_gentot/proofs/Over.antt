@@ -3,12 +3,10 @@ use Rattle.std.proofs.Common.{◌≡◌, ◌≤◌, ◌+◌, ℕ, List, min, sym
 use Rattle.std.specs.Prelude.{All, Contains}
 use Rattle.std.proofs.lemmas.List.Elements.{All-contains}
 use Rattle.pb_tree.proofs.Extending.{all_from_each}
-use Rattle.pb_gentot.specs.declared.node.Node.{Node}
 use Rattle.pb_gentot.specs.declared.outputs.Outputs.TheVariants.{Fresh}
 use Rattle.pb_gentot.specs.declared.tree.Emitted.{Emitted}
 use Rattle.pb_gentot.specs.Generalized.{ascending, sums, value_clauses}
 use Rattle.pb_gentot.specs.laws.GeneralizedLaws.{ascending_has, ascending_cases, sums_left, sums_right, sums_both}
-use Rattle.pb_gentot.specs.inner.Nodes.{HasSums, clauses_over}
 use Rattle.pb_gentot.specs.inner.Outputs.{output_in}
 use Rattle.pb_gentot.specs.inner.Parts.{node_values, clauses_over_parts}
 use Rattle.pb_gentot.specs.Rising.{Rising}
@@ -32,6 +30,12 @@ has_both cap us vs ws is =
     all_from_each (λ v. Contains ws (min (u + v) cap)) vs (λ v k.
     subst (λ (xs : List ℕ). Contains xs (min (u + v) cap)) (sym is) (ascending_has cap (sums cap us vs) (min (u + v) cap) (sums_both cap us vs u v h k) (omega arith))))
 
+-- each value of the parts is one of the node, and so is each sum of two, cut
+pub record HasSums (cap : ℕ) (us vs ws : List ℕ) : Type 0 where
+  pub lefts : All (Contains ws) us
+  pub rights : All (Contains ws) vs
+  pub both : All (λ u. All (λ v. Contains ws (min (u + v) cap)) vs) us
+
 pub has_sums : (cap : ℕ) (us vs ws : List ℕ) → All (λ u. u ≤ cap) us → All (λ v. v ≤ cap) vs → ws ≡ ascending cap (sums cap us vs) → HasSums cap us vs ws
 has_sums cap us vs ws left right is = record { lefts = has_left cap us vs ws left is; rights = has_right cap us vs ws right is; both = has_both cap us vs ws is }
 
@@ -43,7 +47,7 @@ pub values_made : (cap : ℕ) (us vs ws lefts rights : List ℕ) → us ≡ left
 values_made cap us vs ws lefts rights left right is = is ∙ ap (λ (xs : List ℕ). ascending cap (sums cap xs vs)) left ∙ ap (λ (xs : List ℕ). ascending cap (sums cap lefts xs)) right
 
 -- the clauses by the parts, where the code has their values as slices
-pub clauses_made : (cap : ℕ) (left right : Emitted) (us vs : List ℕ) (own : Node) → us ≡ left.values.items → vs ≡ right.values.items → own.first ≡ right.next → own.values.items ≡ node_values cap left right
-    → clauses_over cap left.outputs us right.outputs vs own ≡ clauses_over_parts cap left right
-clauses_made cap left right us vs own lefts rights first values =
-    (λ i. value_clauses cap (lefts i) (rights i) (output_in left.outputs (lefts i)) (output_in right.outputs (rights i)) (output_in (Fresh (first i)) (values i)))
+pub clauses_made : (cap : ℕ) (left right : Emitted) (us vs ws : List ℕ) → us ≡ left.values.items → vs ≡ right.values.items → ws ≡ node_values cap left right
+    → value_clauses cap us vs (output_in left.outputs us) (output_in right.outputs vs) (output_in (Fresh right.next) ws) ≡ clauses_over_parts cap left right
+clauses_made cap left right us vs ws lefts rights values =
+    (λ i. value_clauses cap (lefts i) (rights i) (output_in left.outputs (lefts i)) (output_in right.outputs (rights i)) (output_in (Fresh right.next) (values i)))

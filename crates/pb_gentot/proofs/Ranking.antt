@@ -4,7 +4,7 @@ use Rattle.std.proofs.lemmas.Bool.{cases_lt}
 use Rattle.std.proofs.lemmas.List.{get_or_default}
 use Rattle.pb_tree.specs.Places.{place_of}
 use Rattle.pb_gentot.specs.declared.ranks.Ranks.{Ranks}
-use Rattle.pb_gentot.specs.inner.Nodes.{AreRanks}
+use Rattle.pb_gentot.specs.inner.Ranked.{AreRanks}
 use Rattle.pb_gentot.specs.Rising.{Rising}
 use Rattle.pb_gentot.proofs.RisingLists.{place_at, found_is}
 

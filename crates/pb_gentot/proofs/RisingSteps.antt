@@ -19,11 +19,12 @@ use Rattle.pb_gentot.specs.BoundTable.{neighbours}
 use Rattle.pb_gentot.specs.BoundTableSteps.{neighbour_justification}
 use Rattle.pb_gentot.specs.Generalized.{generalized}
 use Rattle.pb_gentot.specs.GeneralizedSteps.{generalized_pairs}
-use Rattle.pb_gentot.specs.declared.claims.Handed.{Handed}
-use Rattle.pb_gentot.specs.declared.claims.Source.{Source}
-use Rattle.pb_gentot.specs.declared.claims.Source.TheVariants.{Leaf, Fresh}
+use Rattle.pb_gentot.specs.declared.node_ids.Handed.{Handed}
+use Rattle.pb_gentot.specs.declared.node_ids.Source.{Source}
+use Rattle.pb_gentot.specs.declared.node_ids.Source.TheVariants.{Leaf, Fresh}
 use Rattle.pb_gentot.specs.inner.KeptTables.{neighbour_justifications, justifications_by, rise_at, rises_of}
-use Rattle.pb_gentot.specs.inner.Sources.{AreLeavesPositive, ids_at, ids_of, part_justifications}
+use Rattle.pb_gentot.specs.inner.Ids.{ids_at}
+use Rattle.pb_gentot.specs.inner.Sources.{AreLeavesPositive, ids_of, part_justifications}
 use Rattle.pb_gentot.proofs.Bounds.{justifications_are}
 use Rattle.pb_gentot.proofs.Emitting.{rising_values}
 use Rattle.pb_gentot.proofs.Neighbours.{neighbours_by_places, neighbours_counted, pair_at}

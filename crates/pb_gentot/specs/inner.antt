@@ -1,8 +1,11 @@
+pub mod Ids
 pub mod KeptTables
 pub mod Marks
 pub mod Measured
 pub mod Members
 pub mod Nodes
+pub mod OneProof
 pub mod Outputs
 pub mod Parts
+pub mod Ranked
 pub mod Sources

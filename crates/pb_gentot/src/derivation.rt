@@ -8,22 +8,20 @@ ghost use Rattle.pb_tree.specs.Tree.{tree_of};
 ghost use Rattle.pb_tree.specs.Scheme.{values, fresh_of, clause_count_of};
 ghost use Rattle.pb_gentot.specs.Generalized.{generalized};
 ghost use Rattle.pb_gentot.specs.GeneralizedSteps.{generalized_steps};
-ghost use Rattle.pb_gentot.specs.Rising.{Rising};
-ghost use Rattle.pb_gentot.specs.inner.Sources.{AreLeavesPositive, HasIds, ids_of, root_given, part_justifications, all_justifications};
+ghost use Rattle.pb_gentot.specs.inner.Sources.{AreLeavesPositive, ids_of, root_given, part_justifications, all_justifications};
 
-use crate::claims::{Handed, push_first};
+use crate::claims::push_first;
 use crate::handing::derive_part;
+use crate::node_ids::Handed;
 use crate::outputs::place_in;
 use crate::reifications::derive_reifications;
-use pb_base::Term;
+use crate::subtree::Subtree;
 use pb_family::{SinkFault, StepSink, derive_claim, derive_deletions};
 use std::alloc::{AllocError, Global};
 
 /// The ids of the constraints that the root's clause follows from.
 fn root_ids(alloc: Global, root: &Handed, cap: u128, own: u64) -> Result<Vec<u64>, AllocError>
-    requires rising { Rising root.now.values.items }
-    requires has { Contains root.now.values.items cap }
-    requires room { HasIds root.now.source (length root.now.values.items) }
+    requires { Contains root.now.values.items cap }
     ensures { IfOk result (λ ids. ids.items ≡ ids_of root.now cap ++ own ∷ []) }
 {
     let place = place_in(root.values.as_slice(), cap);
@@ -41,9 +39,7 @@ fn derive_root<T: StepSink>(
     own: u64,
     sink: &mut T,
 ) -> Result<(), SinkFault>
-    requires rising { Rising root.now.values.items }
     requires has { Contains root.now.values.items cap }
-    requires room { HasIds root.now.source (length root.now.values.items) }
     requires few { (T.state sink.old).next + 1 < 2 ^ 62 }
     ensures { HandsJustifications (root_given root.now cap own ∷ []) result (T.state sink.old) (T.state sink.new) }
 {
@@ -51,50 +47,40 @@ fn derive_root<T: StepSink>(
     derive_claim(alloc, ids.as_slice(), &[], sink)
 }
 
-/// The clauses of the generalized totalizer of some terms, with that of the root.
+/// The clauses of a generalized totalizer, with that of the root.
 fn derive_clauses<T: StepSink>(
     alloc: Global,
-    terms: &[Term],
-    bound: u128,
+    tree: &Subtree,
     id: u64,
     own: u64,
     sink: &mut T,
 ) -> Result<(), SinkFault>
-    requires some { 1 ≤ length terms.now }
-    requires positive { AreLeavesPositive (tree_of (weights terms.now)) }
-    requires small { bound < 2 ^ 100 }
-    requires root { Contains (values (generalized bound) (tree_of (weights terms.now))) (bound + 1) }
-    requires few { fresh_of (generalized bound) (tree_of (weights terms.now)) ≤ 2 ^ 31 }
-    requires ids { id + 2 * fresh_of (generalized bound) (tree_of (weights terms.now)) < 2 ^ 62 }
-    requires room { (T.state sink.old).next + length (part_justifications bound terms.now id) + 1 < 2 ^ 62 }
-    ensures { HandsJustifications (all_justifications bound terms.now id own) result (T.state sink.old) (T.state sink.new) }
+    requires positive { AreLeavesPositive (tree_of (weights tree.now.terms.now)) }
+    requires root { Contains (values (generalized tree.now.bound) (tree_of (weights tree.now.terms.now))) (tree.now.bound + 1) }
+    requires ids { id + 2 * fresh_of (generalized tree.now.bound) (tree_of (weights tree.now.terms.now)) < 2 ^ 62 }
+    requires room { (T.state sink.old).next + length (part_justifications tree.now.bound tree.now.terms.now id) + 1 < 2 ^ 62 }
+    ensures { HandsJustifications (all_justifications tree.now.bound tree.now.terms.now id own) result (T.state sink.old) (T.state sink.new) }
 {
-    let root = derive_part(alloc, terms, bound, id, sink)?;
-    derive_root(alloc, &root, bound + 1, own, sink)
+    let root = derive_part(alloc, tree.terms, tree.bound, id, sink)?;
+    derive_root(alloc, &root, tree.bound + 1, own, sink)
 }
 
 /// Hands over the whole derivation, where `id` is the constraint's.
 pub fn derive_weighted<T: StepSink>(
     alloc: Global,
-    terms: &[Term],
-    bound: u128,
-    first: u32,
+    tree: &Subtree,
     id: u64,
     sink: &mut T,
 ) -> Result<(), SinkFault>
-    requires some { 1 ≤ length terms.now }
-    requires positive { AreLeavesPositive (tree_of (weights terms.now)) }
-    requires small { bound < 2 ^ 100 }
-    requires root { Contains (values (generalized bound) (tree_of (weights terms.now))) (bound + 1) }
-    requires light { weight (weights terms.now) < 2 ^ 100 }
-    requires low { 1 ≤ first }
-    requires fits { first + fresh_of (generalized bound) (tree_of (weights terms.now)) ≤ 2 ^ 31 }
-    requires modest { clause_count_of (generalized bound) (tree_of (weights terms.now)) < 2 ^ 60 }
+    requires positive { AreLeavesPositive (tree_of (weights tree.now.terms.now)) }
+    requires root { Contains (values (generalized tree.now.bound) (tree_of (weights tree.now.terms.now))) (tree.now.bound + 1) }
+    requires light { weight (weights tree.now.terms.now) < 2 ^ 100 }
+    requires modest { clause_count_of (generalized tree.now.bound) (tree_of (weights tree.now.terms.now)) < 2 ^ 60 }
     requires few { (T.state sink.old).next ≤ 2 ^ 61 }
-    ensures { HandsSteps (generalized_steps (sum_within terms.now bound) first id (T.state sink.old).next) result (T.state sink.old) (T.state sink.new) }
+    ensures { HandsSteps (generalized_steps (sum_within tree.now.terms.now tree.now.bound) tree.now.first id (T.state sink.old).next) result (T.state sink.old) (T.state sink.new) }
 {
     let base = sink.next_id();
-    let meant = derive_reifications(alloc, terms, bound, first, sink)?;
-    derive_clauses(alloc, terms, bound, base, id, sink)?;
-    derive_deletions(alloc, base, 2, (meant.next - first) as u64, sink)
+    let meant = derive_reifications(alloc, tree, sink)?;
+    derive_clauses(alloc, tree, base, id, sink)?;
+    derive_deletions(alloc, base, 2, (meant.next - tree.first) as u64, sink)
 }

@@ -1,21 +1,22 @@
 //! The clauses of a generalized totalizer's derivation, part by part.
-ghost use Rattle.std.specs.Prelude.{◌≡◌, ◌≤◌, ◌<◌, ◌+◌, ◌*◌, ◌^◌, length, IfOk};
+ghost use Rattle.std.specs.Prelude.{◌≡◌, ◌≤◌, ◌<◌, ◌+◌, ◌*◌, ◌^◌, All, length, IfOk};
 ghost use Rattle.pb_norm.specs.Constraints.{weights};
 ghost use Rattle.pb_family.specs.inner.HandedJustifications.{HandsJustifications};
 ghost use Rattle.pb_tree.specs.Tree.{tree_of};
 ghost use Rattle.pb_tree.specs.Scheme.{values, fresh_of};
 ghost use Rattle.pb_tree.specs.TreeSteps.{output_ids};
 ghost use Rattle.pb_gentot.specs.Generalized.{generalized, ascending, sums};
-ghost use Rattle.pb_gentot.specs.inner.Nodes.{HasSums};
-ghost use Rattle.pb_gentot.specs.inner.Sources.{AreLeavesPositive, IsHandedWithin, IsOwned, ids_of, part_justifications};
+ghost use Rattle.pb_gentot.specs.inner.Sources.{AreLeavesPositive, ids_of, part_justifications};
 
-use crate::claims::{Handed, Owned, Source, derive_node};
-use crate::halving::{halves, leaf_values};
+use crate::claims::derive_node;
+use crate::leaf::leaf_values;
+use crate::node_ids::{Handed, NodeIds, Owned, Source};
 use crate::ranks::Ranks;
 use crate::sets::values_over;
 use crate::tables::table_size;
 use pb_base::Term;
 use pb_family::{SinkFault, StepSink};
+use pb_tree::halves;
 use std::alloc::{AllocError, Global};
 
 /// What a node has over two parts.
@@ -25,15 +26,13 @@ fn node_of_parts(
     right: &Handed,
     cap: u128,
 ) -> Result<Owned, AllocError>
-    requires left { IsHandedWithin cap left.now }
-    requires right { IsHandedWithin cap right.now }
+    requires left { All (λ u. u ≤ cap) left.now.values.items }
+    requires right { All (λ v. v ≤ cap) right.now.values.items }
     requires few { cap < 2 ^ 101 }
     requires fits { length (ascending cap (sums cap left.now.values.items right.now.values.items)) ≤ 2 ^ 31 }
     requires room { right.now.next + 2 * length (ascending cap (sums cap left.now.values.items right.now.values.items)) < 2 ^ 62 }
     ensures values { IfOk result (λ own. own.values.items ≡ ascending cap (sums cap left.now.values.items right.now.values.items)) }
     ensures id { IfOk result (λ own. own.id ≡ right.now.next) }
-    ensures owned { IfOk result (λ own. IsOwned own) }
-    ensures has { IfOk result (λ own. HasSums cap left.now.values.items right.now.values.items own.values.items) }
 {
     let lefts = left.values.as_slice();
     let rights = right.values.as_slice();
@@ -64,7 +63,7 @@ pub fn derive_part<T: StepSink>(
     ensures hands { HandsJustifications (part_justifications bound terms.now id) result (T.state sink.old) (T.state sink.new) }
     ensures values { IfOk result (λ part. part.values.items ≡ values (generalized bound) (tree_of (weights terms.now))) }
     ensures ids { IfOk result (λ part. ids_of part ≡ output_ids (generalized bound) (tree_of (weights terms.now)) id) }
-    ensures within { IfOk result (λ part. IsHandedWithin (bound + 1) part) }
+    ensures within { IfOk result (λ part. All (λ u. u ≤ bound + 1) part.values.items) }
     ensures next { IfOk result (λ part. part.next ≡ id + 2 * fresh_of (generalized bound) (tree_of (weights terms.now))) }
 {
     if terms.len() == 1 {
@@ -80,7 +79,15 @@ pub fn derive_part<T: StepSink>(
     let left = derive_part(alloc, lefts, bound, id, sink)?;
     let right = derive_part(alloc, rights, bound, left.next, sink)?;
     let own = node_of_parts(alloc, &left, &right, cap)?;
-    derive_node(alloc, &left, lefts, &right, rights, &own, cap, sink)?;
+    let node = NodeIds {
+        left: &left,
+        lefts,
+        right: &right,
+        rights,
+        own: &own,
+        cap,
+    };
+    derive_node(alloc, &node, sink)?;
     let next = right.next + 2 * own.values.len() as u64;
     Ok(Handed {
         values: own.values,

@@ -4,9 +4,10 @@ ghost use Rattle.pb_norm.specs.Constraints.{weights};
 ghost use Rattle.pb_tree.specs.Tree.{tree_of};
 ghost use Rattle.pb_gentot.specs.inner.Measured.{IsMeasured};
 
-use crate::halving::{halves, leaf_values};
+use crate::leaf::leaf_values;
 use crate::sets::join_values;
 use pb_base::Term;
+use pb_tree::halves;
 use std::alloc::{AllocError, Global};
 
 /// The values of a part, and its numbers.

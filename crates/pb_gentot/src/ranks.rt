@@ -13,7 +13,7 @@ impl Ranks {
     ghost use Rattle.std.specs.Prelude.{◌≡◌, ◌<◌, ◌^◌, length, Contains, IfOk};
     ghost use Rattle.pb_tree.specs.Places.{place_of};
     ghost use Rattle.pb_gentot.specs.Rising.{Rising};
-    ghost use Rattle.pb_gentot.specs.inner.Nodes.{AreRanks};
+    ghost use Rattle.pb_gentot.specs.inner.Ranked.{AreRanks};
 
     /// The places of some values, in a table of a size.
     pub fn of(alloc: Global, values: &[u128], size: usize) -> Result<Ranks, AllocError>

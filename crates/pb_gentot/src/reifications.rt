@@ -8,50 +8,54 @@ ghost use Rattle.pb_tree.specs.TreeSteps.{reifications_from, reifications};
 ghost use Rattle.pb_gentot.specs.Generalized.{generalized};
 ghost use Rattle.pb_gentot.specs.inner.Sources.{output_reification};
 
-use crate::halving::{halves, leaf_values};
+use crate::leaf::leaf_values;
 use crate::sets::values_over;
+use crate::subtree::Subtree;
 use pb_base::Term;
 use pb_family::{SinkFault, StepSink, derive_reification, fresh_at};
+use pb_tree::halves;
 use std::alloc::Global;
+
+/// The values of a node's outputs, and the first of its fresh variables.
+#[derive(Clone, Copy)]
+pub struct NodeValues<'a> {
+    pub values: &'a [u128],
+    pub first: u32,
+    ghost low: { 1 ≤ first },
+    ghost high: { first + length values.now ≤ 2 ^ 31 },
+    ghost small: { All (λ u. u < 2 ^ 101) values.now },
+}
 
 /// What the output of the value at a place means.
 fn derive_output<T: StepSink>(
     alloc: Global,
     terms: &[Term],
-    first: u32,
-    values: &[u128],
+    outputs: &NodeValues,
     place: usize,
     sink: &mut T,
 ) -> Result<(), SinkFault>
-    requires low { 1 ≤ first }
-    requires high { first + place < 2 ^ 31 }
+    requires within { place < length outputs.now.values.now }
     requires light { weight (weights terms.now) < 2 ^ 100 }
-    requires within { place < length values.now }
-    requires small { All (λ u. u < 2 ^ 101) values.now }
     requires few { (T.state sink.old).next + 1 < 2 ^ 62 }
-    ensures { HandsReifications (output_reification first (weights terms.now) values.now place ∷ []) result (T.state sink.old) (T.state sink.new) }
+    ensures { HandsReifications (output_reification outputs.now.first (weights terms.now) outputs.now.values.now place ∷ []) result (T.state sink.old) (T.state sink.new) }
 {
-    let var = fresh_at(first, place).var;
-    derive_reification(alloc, var, terms, values[place], sink)
+    let var = fresh_at(outputs.first, place).var;
+    derive_reification(alloc, var, terms, outputs.values[place], sink)
 }
 
 /// What the outputs of a node mean.
 fn derive_outputs<T: StepSink>(
     alloc: Global,
     terms: &[Term],
-    first: u32,
-    values: &[u128],
+    outputs: &NodeValues,
     sink: &mut T,
 ) -> Result<(), SinkFault>
-    requires low { 1 ≤ first }
-    requires high { first + length values.now ≤ 2 ^ 31 }
     requires light { weight (weights terms.now) < 2 ^ 100 }
-    requires small { All (λ u. u < 2 ^ 101) values.now }
-    requires few { (T.state sink.old).next + 2 * length values.now ≤ 2 ^ 61 + 2 ^ 33 }
-    ensures { HandsReifications (reifications_from first (weights terms.now) values.now) result (T.state sink.old) (T.state sink.new) }
+    requires few { (T.state sink.old).next + 2 * length outputs.now.values.now ≤ 2 ^ 61 + 2 ^ 33 }
+    ensures { HandsReifications (reifications_from outputs.now.first (weights terms.now) outputs.now.values.now) result (T.state sink.old) (T.state sink.new) }
 {
-    for place in 0..values.len() {
-        derive_output(alloc, terms, first, values, place, sink)?;
+    for place in 0..outputs.values.len() {
+        derive_output(alloc, terms, outputs, place, sink)?;
     }
     Ok(())
 }
@@ -63,37 +67,50 @@ pub struct Meant {
     pub next: u32,
 }
 
-/// What the fresh variables of the generalized totalizer of some terms mean, which begin at a number.
+/// What the fresh variables of a part mean.
 pub fn derive_reifications<T: StepSink>(
     alloc: Global,
-    terms: &[Term],
-    bound: u128,
-    first: u32,
+    tree: &Subtree,
     sink: &mut T,
 ) -> Result<Meant, SinkFault>
-    requires some { 1 ≤ length terms.now }
-    requires small { bound < 2 ^ 100 }
-    requires low { 1 ≤ first }
-    requires light { weight (weights terms.now) < 2 ^ 100 }
-    requires fits { first + fresh_of (generalized bound) (tree_of (weights terms.now)) ≤ 2 ^ 31 }
-    requires few { (T.state sink.old).next + 2 * fresh_of (generalized bound) (tree_of (weights terms.now)) ≤ 2 ^ 61 + 2 ^ 33 }
-    ensures hands { HandsReifications (reifications (generalized bound) (tree_of (weights terms.now)) first) result (T.state sink.old) (T.state sink.new) }
-    ensures values { IfOk result (λ part. part.values.items ≡ values (generalized bound) (tree_of (weights terms.now))) }
-    ensures next { IfOk result (λ part. part.next ≡ first + fresh_of (generalized bound) (tree_of (weights terms.now))) }
+    requires light { weight (weights tree.now.terms.now) < 2 ^ 100 }
+    requires few { (T.state sink.old).next + 2 * fresh_of (generalized tree.now.bound) (tree_of (weights tree.now.terms.now)) ≤ 2 ^ 61 + 2 ^ 33 }
+    ensures hands { HandsReifications (reifications (generalized tree.now.bound) (tree_of (weights tree.now.terms.now)) tree.now.first) result (T.state sink.old) (T.state sink.new) }
+    ensures values { IfOk result (λ part. part.values.items ≡ values (generalized tree.now.bound) (tree_of (weights tree.now.terms.now))) }
+    ensures next { IfOk result (λ part. part.next ≡ tree.now.first + fresh_of (generalized tree.now.bound) (tree_of (weights tree.now.terms.now))) }
 {
-    if terms.len() == 1 {
-        let values = leaf_values(alloc, terms, bound)?;
+    let bound = tree.bound;
+    if tree.terms.len() == 1 {
+        let values = leaf_values(alloc, tree.terms, bound)?;
         return Ok(Meant {
             values,
-            next: first,
+            next: tree.first,
         });
     }
-    let cap = bound + 1;
-    let (lefts, rights) = halves(terms);
-    let left = derive_reifications(alloc, lefts, bound, first, sink)?;
-    let right = derive_reifications(alloc, rights, bound, left.next, sink)?;
-    let made = values_over(alloc, left.values.as_slice(), right.values.as_slice(), cap)?;
-    derive_outputs(alloc, terms, right.next, made.as_slice(), sink)?;
+    let (terms, others) = halves(tree.terms);
+    let front = Subtree {
+        terms,
+        bound,
+        first: tree.first,
+    };
+    let left = derive_reifications(alloc, &front, sink)?;
+    let back = Subtree {
+        terms: others,
+        bound,
+        first: left.next,
+    };
+    let right = derive_reifications(alloc, &back, sink)?;
+    let made = values_over(
+        alloc,
+        left.values.as_slice(),
+        right.values.as_slice(),
+        bound + 1,
+    )?;
+    let outputs = NodeValues {
+        values: made.as_slice(),
+        first: right.next,
+    };
+    derive_outputs(alloc, tree.terms, &outputs, sink)?;
     let next = right.next + made.len() as u32;
     Ok(Meant { values: made, next })
 }

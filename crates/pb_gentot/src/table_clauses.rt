@@ -11,6 +11,7 @@ ghost use Rattle.pb_gentot.specs.inner.Outputs.{output_in, HasRoom};
 ghost use Rattle.pb_gentot.specs.Rising.{Rising};
 
 use crate::outputs::Outputs;
+use crate::subtree::Subtree;
 use crate::tree::emit_part;
 use pb_base::{Failed, Term};
 use pb_family::{ClauseSink, SinkFault};
@@ -49,7 +50,12 @@ pub fn emit_table<S: ClauseSink>(
     if terms.is_empty() {
         return Ok(());
     }
-    let root = emit_part(alloc, terms, bound, first, sink)?;
+    let tree = Subtree {
+        terms,
+        bound,
+        first,
+    };
+    let root = emit_part(alloc, &tree, sink)?;
     emit_neighbours(root.values.as_slice(), &root.outputs, sink)?;
     Ok(())
 }

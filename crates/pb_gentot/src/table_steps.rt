@@ -8,11 +8,12 @@ ghost use Rattle.pb_tree.specs.Tree.{tree_of};
 ghost use Rattle.pb_tree.specs.Scheme.{values, fresh_of, clause_count_of};
 ghost use Rattle.pb_gentot.specs.Generalized.{generalized};
 ghost use Rattle.pb_gentot.specs.inner.KeptTables.{justifications_by, rise_at, rises_of, steps_by};
-ghost use Rattle.pb_gentot.specs.inner.Sources.{AreLeavesPositive, HasIds, part_justifications};
+ghost use Rattle.pb_gentot.specs.inner.Sources.{AreLeavesPositive, part_justifications};
 
-use crate::claims::{Handed, Source};
 use crate::handing::derive_part;
+use crate::node_ids::{Handed, Source};
 use crate::reifications::derive_reifications;
+use crate::subtree::Subtree;
 use pb_base::Term;
 use pb_family::{SinkFault, StepSink, derive_claim, derive_deletions};
 use std::alloc::Global;
@@ -55,8 +56,7 @@ fn derive_neighbours<T: StepSink>(
     root: &Handed,
     sink: &mut T,
 ) -> Result<(), SinkFault>
-    requires room { HasIds root.now.source (length root.now.values.items) }
-    requires few { (T.state sink.old).next + length root.now.values.items < 2 ^ 62 }
+    requires { (T.state sink.old).next + length root.now.values.items < 2 ^ 62 }
     ensures { HandsJustifications (rises_of root.now.source (length root.now.values.items)) result (T.state sink.old) (T.state sink.new) }
 {
     match root.source {
@@ -71,20 +71,16 @@ fn derive_neighbours<T: StepSink>(
 /// The clauses of some terms, with those between neighbours, where the variables' constraints have the ids from `id` on.
 fn derive_whole_table<T: StepSink>(
     alloc: Global,
-    terms: &[Term],
-    bound: u128,
+    tree: &Subtree,
     id: u64,
     sink: &mut T,
 ) -> Result<(), SinkFault>
-    requires some { 1 ≤ length terms.now }
-    requires positive { AreLeavesPositive (tree_of (weights terms.now)) }
-    requires small { bound < 2 ^ 100 }
-    requires few { fresh_of (generalized bound) (tree_of (weights terms.now)) ≤ 2 ^ 31 }
-    requires ids { id + 2 * fresh_of (generalized bound) (tree_of (weights terms.now)) < 2 ^ 62 }
-    requires room { (T.state sink.old).next + length (part_justifications bound terms.now id) + length (values (generalized bound) (tree_of (weights terms.now))) < 2 ^ 62 }
-    ensures { HandsJustifications (justifications_by bound terms.now 0 id) result (T.state sink.old) (T.state sink.new) }
+    requires positive { AreLeavesPositive (tree_of (weights tree.now.terms.now)) }
+    requires ids { id + 2 * fresh_of (generalized tree.now.bound) (tree_of (weights tree.now.terms.now)) < 2 ^ 62 }
+    requires room { let t = tree.now in (T.state sink.old).next + length (part_justifications t.bound t.terms.now id) + length (values (generalized t.bound) (tree_of (weights t.terms.now))) < 2 ^ 62 }
+    ensures { HandsJustifications (justifications_by tree.now.bound tree.now.terms.now 0 id) result (T.state sink.old) (T.state sink.new) }
 {
-    let root = derive_part(alloc, terms, bound, id, sink)?;
+    let root = derive_part(alloc, tree.terms, tree.bound, id, sink)?;
     derive_neighbours(alloc, &root, sink)
 }
 
@@ -108,8 +104,13 @@ pub fn derive_table<T: StepSink>(
     if terms.is_empty() {
         return Ok(());
     }
+    let tree = Subtree {
+        terms,
+        bound,
+        first,
+    };
     let base = sink.next_id();
-    let meant = derive_reifications(alloc, terms, bound, first, sink)?;
-    derive_whole_table(alloc, terms, bound, base, sink)?;
+    let meant = derive_reifications(alloc, &tree, sink)?;
+    derive_whole_table(alloc, &tree, base, sink)?;
     derive_deletions(alloc, base, 2, (meant.next - first) as u64, sink)
 }

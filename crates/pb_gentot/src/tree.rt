@@ -4,20 +4,21 @@ ghost use Rattle.pb_norm.specs.Constraints.{weights};
 ghost use Rattle.pb_family.specs.Handing.{HandsIfMemory};
 ghost use Rattle.pb_tree.specs.Tree.{tree_of};
 ghost use Rattle.pb_tree.specs.Scheme.{values, fresh_of, output, clauses_of, tree_clauses};
-ghost use Rattle.pb_gentot.specs.inner.Nodes.{HasLiterals};
-ghost use Rattle.pb_gentot.specs.inner.Outputs.{output_in};
+ghost use Rattle.pb_gentot.specs.inner.Outputs.{output_in, HasLiterals};
 ghost use Rattle.pb_gentot.specs.inner.Parts.{node_values, output_over, clauses_over_parts};
 ghost use Rattle.pb_gentot.specs.Generalized.{generalized};
 
 use crate::emission::emit_node;
-use crate::halving::{halves, leaf_values};
+use crate::leaf::leaf_values;
+use crate::merge::Merge;
 use crate::node::Node;
 use crate::outputs::Outputs;
 use crate::ranks::Ranks;
 use crate::sets::values_over;
+use crate::subtree::Subtree;
 use crate::tables::table_size;
-use pb_base::Term;
 use pb_family::{ClauseSink, SinkFault};
+use pb_tree::halves;
 use std::alloc::Global;
 
 /// What a part leaves to what stands over it.
@@ -57,15 +58,15 @@ fn emit_over<S: ClauseSink>(
         first: right.next,
         ranks,
     };
-    emit_node(
+    let node = Merge {
         lefts,
-        &left.outputs,
+        left: &left.outputs,
         rights,
-        &right.outputs,
-        &own,
+        right: &right.outputs,
+        own: &own,
         cap,
-        sink,
-    )?;
+    };
+    emit_node(&node, sink)?;
     let next = right.next + own.values.len() as u32;
     Ok(Emitted {
         values: own.values,
@@ -74,54 +75,57 @@ fn emit_over<S: ClauseSink>(
     })
 }
 
-/// Hands over the clauses of some terms, whose fresh variables begin at a number.
+/// Hands over the clauses of a part.
 pub fn emit_part<S: ClauseSink>(
     alloc: Global,
-    terms: &[Term],
-    bound: u128,
-    first: u32,
+    tree: &Subtree,
     sink: &mut S,
 ) -> Result<Emitted, SinkFault>
-    requires some { 1 ≤ length terms.now }
-    requires small { bound < 2 ^ 100 }
-    requires low { 1 ≤ first }
-    requires fits { first + fresh_of (generalized bound) (tree_of (weights terms.now)) ≤ 2 ^ 31 }
-    ensures hands { HandsIfMemory (clauses_of (generalized bound) (tree_of (weights terms.now)) first) result (S.state sink.old) (S.state sink.new) }
-    ensures values { IfOk result (λ part. part.values.items ≡ values (generalized bound) (tree_of (weights terms.now))) }
-    ensures outputs { IfOk result (λ part. output_in part.outputs part.values.items ≡ output (generalized bound) (tree_of (weights terms.now)) first) }
-    ensures within { IfOk result (λ part. HasLiterals (bound + 1) part.outputs part.values.items) }
-    ensures next { IfOk result (λ part. part.next ≡ first + fresh_of (generalized bound) (tree_of (weights terms.now))) }
+    ensures hands { HandsIfMemory (clauses_of (generalized tree.now.bound) (tree_of (weights tree.now.terms.now)) tree.now.first) result (S.state sink.old) (S.state sink.new) }
+    ensures values { IfOk result (λ part. part.values.items ≡ values (generalized tree.now.bound) (tree_of (weights tree.now.terms.now))) }
+    ensures outputs { IfOk result (λ part. output_in part.outputs part.values.items ≡ output (generalized tree.now.bound) (tree_of (weights tree.now.terms.now)) tree.now.first) }
+    ensures within { IfOk result (λ part. HasLiterals (tree.now.bound + 1) part.outputs part.values.items) }
+    ensures next { IfOk result (λ part. part.next ≡ tree.now.first + fresh_of (generalized tree.now.bound) (tree_of (weights tree.now.terms.now))) }
 {
-    if terms.len() == 1 {
-        let values = leaf_values(alloc, terms, bound)?;
+    let bound = tree.bound;
+    if tree.terms.len() == 1 {
+        let values = leaf_values(alloc, tree.terms, bound)?;
         return Ok(Emitted {
             values,
-            outputs: Outputs::Single(terms[0].lit),
-            next: first,
+            outputs: Outputs::Single(tree.terms[0].lit),
+            next: tree.first,
         });
     }
-    let (lefts, rights) = halves(terms);
-    let left = emit_part(alloc, lefts, bound, first, sink)?;
-    let right = emit_part(alloc, rights, bound, left.next, sink)?;
+    let (terms, others) = halves(tree.terms);
+    let front = Subtree {
+        terms,
+        bound,
+        first: tree.first,
+    };
+    let left = emit_part(alloc, &front, sink)?;
+    let back = Subtree {
+        terms: others,
+        bound,
+        first: left.next,
+    };
+    let right = emit_part(alloc, &back, sink)?;
     emit_over(alloc, &left, &right, bound + 1, sink)
 }
 
-/// Hands over the clauses of some terms, with that of the root.
+/// Hands over the clauses of a sum, with that of the root.
 pub fn emit_whole<S: ClauseSink>(
     alloc: Global,
-    terms: &[Term],
-    bound: u128,
-    first: u32,
+    tree: &Subtree,
     sink: &mut S,
 ) -> Result<(), SinkFault>
-    requires some { 1 ≤ length terms.now }
-    requires small { bound < 2 ^ 100 }
-    requires root { Contains (values (generalized bound) (tree_of (weights terms.now))) (bound + 1) }
-    requires low { 1 ≤ first }
-    requires fits { first + fresh_of (generalized bound) (tree_of (weights terms.now)) ≤ 2 ^ 31 }
-    ensures { HandsIfMemory (tree_clauses (generalized bound) (tree_of (weights terms.now)) first) result (S.state sink.old) (S.state sink.new) }
+    requires { Contains (values (generalized tree.now.bound) (tree_of (weights tree.now.terms.now))) (tree.now.bound + 1) }
+    ensures { HandsIfMemory (tree_clauses (generalized tree.now.bound) (tree_of (weights tree.now.terms.now)) tree.now.first) result (S.state sink.old) (S.state sink.new) }
 {
-    let root = emit_part(alloc, terms, bound, first, sink)?;
-    sink.clause(&[root.outputs.of(root.values.as_slice(), bound + 1).not()])?;
+    let root = emit_part(alloc, tree, sink)?;
+    sink.clause(&[
+        root.outputs
+            .of(root.values.as_slice(), tree.bound + 1)
+            .not(),
+    ])?;
     Ok(())
 }

@@ -6,6 +6,7 @@ ghost use Rattle.pb_gentot.specs.Generalized.{generalized_clauses, generalized_f
 
 use crate::derivation::derive_weighted;
 use crate::measure::measure;
+use crate::subtree::Subtree;
 use crate::tree::emit_whole;
 use pb_base::{NoMemory, Term};
 use pb_family::{Built, ClauseSink, Derive, Family, SinkFault, StepSink, Strong};
@@ -90,7 +91,12 @@ impl Family for Weighted {
         first: u32,
         sink: &mut S,
     ) -> Result<(), SinkFault> {
-        emit_whole(alloc, self.terms.as_slice(), self.bound, first, sink)
+        let tree = Subtree {
+            terms: self.terms.as_slice(),
+            bound: self.bound,
+            first,
+        };
+        emit_whole(alloc, &tree, sink)
     }
 
     ghost sound = { λ f first below a model. generalized_sound (sum_within f.terms.items f.bound) f.proper first a model };
@@ -111,7 +117,6 @@ impl Strong for Weighted {
 
 impl Derive for Weighted {
     ghost use Rattle.pb_norm.specs.BoundedSums.{sum_within};
-    ghost use Rattle.pb_gentot.specs.Generalized.{generalized_size};
     ghost use Rattle.pb_gentot.specs.GeneralizedSteps.{generalized_steps};
     ghost use Rattle.pb_gentot.specs.laws.GeneralizedDerives.{generalized_derives, generalized_lines};
     ghost use Rattle.pb_gentot.specs.laws.GeneralizedShort.{generalized_sayable, generalized_short, size_fits};
@@ -125,14 +130,19 @@ impl Derive for Weighted {
         id: u64,
         sink: &mut T,
     ) -> Result<(), SinkFault> {
-        derive_weighted(alloc, self.terms.as_slice(), self.bound, first, id, sink)
+        let tree = Subtree {
+            terms: self.terms.as_slice(),
+            bound: self.bound,
+            first,
+        };
+        derive_weighted(alloc, &tree, id, sink)
     }
 
     ghost derives = { λ f first id db below ready. generalized_derives (sum_within f.terms.items f.bound) f.proper f.light first id db below ready };
 
     ghost few_steps = { λ f first id next. generalized_lines (sum_within f.terms.items f.bound) f.proper first id next };
 
-    ghost sayable = { λ f first id next original start. generalized_sayable (sum_within f.terms.items f.bound) f.proper f.light (size_fits f.clauses (generalized_size (sum_within f.terms.items f.bound)) f.clauses_is f.modest) first id next original start };
+    ghost sayable = { λ f first id next original start. generalized_sayable (sum_within f.terms.items f.bound) f.proper f.light (size_fits f.clauses_is f.modest) first id next original start };
 
-    ghost short = { λ f first id next original start. generalized_short (sum_within f.terms.items f.bound) f.proper f.light (size_fits f.clauses (generalized_size (sum_within f.terms.items f.bound)) f.clauses_is f.modest) first id next original start };
+    ghost short = { λ f first id next original start. generalized_short (sum_within f.terms.items f.bound) f.proper f.light (size_fits f.clauses_is f.modest) first id next original start };
 }

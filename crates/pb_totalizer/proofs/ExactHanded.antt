@@ -24,7 +24,7 @@ use Rattle.pb_totalizer.specs.Exact.{outputs_of, limits}
 use Rattle.pb_totalizer.specs.ExactSteps.{after_ids, after_weakened, limit_justification, limit_pairs, limit_justifications, own_justifications, least_justification, exact_justifications}
 use Rattle.pb_totalizer.specs.Totalizer.{totalizer}
 use Rattle.pb_totalizer.specs.TotalizerSteps.{totalizer_pairs}
-use Rattle.pb_totalizer.specs.declared.claims.Source.{Source}
+use Rattle.pb_totalizer.specs.declared.node_ids.Source.{Source}
 use Rattle.pb_totalizer.specs.declared.polarity.Polarity.TheVariants.{Both}
 use Rattle.pb_totalizer.specs.inner.LimitSources.{seconds_from, ids_after, weakened_after, limit_given, limit_row_given, limits_given, least_given}
 use Rattle.pb_totalizer.specs.laws.Limits.{limits_are}

@@ -1,10 +1,10 @@
 -- A part of a totalizer, over its two halves.
-use Rattle.std.proofs.Common.{◌≡◌, ◌≤◌, ◌<◌, ◌+◌, ◌/◌, ℕ, List, length, take, drop, min, ap, ◌∙◌, arith}
+use Rattle.std.proofs.Common.{◌≡◌, ◌≤◌, ◌<◌, ◌+◌, ℕ, List, length, min, ap, ◌∙◌, arith}
 use Rattle.pb_base.specs.declared.literal.Term.{Term}
 use Rattle.pb_norm.specs.Constraints.{weights}
+use Rattle.pb_tree.specs.Halves.{Halves}
 use Rattle.pb_tree.specs.Scheme.{fresh_of}
 use Rattle.pb_tree.specs.Tree.{node, tree_of}
-use Rattle.pb_tree.proofs.Halves.{halves_of}
 use Rattle.pb_totalizer.specs.Exact.{outputs_of}
 use Rattle.pb_totalizer.specs.Totalizer.{totalizer}
 use Rattle.pb_totalizer.specs.laws.TotalizerLaws.{node_length, values_length}
@@ -21,9 +21,8 @@ pub record Halved (bound : ℕ) (ts lefts rights : List Term) : Type 0 where
   pub outputs : outputs_of bound (tree_of (weights ts)) ≡ min (outputs_of bound (tree_of (weights lefts)) + outputs_of bound (tree_of (weights rights))) (bound + 1)
   pub fresh : fresh_of (totalizer bound) (tree_of (weights ts)) ≡ fresh_of (totalizer bound) (tree_of (weights lefts)) + fresh_of (totalizer bound) (tree_of (weights rights)) + outputs_of bound (tree_of (weights ts))
 
-pub halved : (bound : ℕ) (ts lefts rights : List Term) → 1 ≤ length ts → (length ts ≡ 1 → ⊥) → lefts ≡ take (length ts / 2) ts → rights ≡ drop (length ts / 2) ts → Halved bound ts lefts rights
-halved bound ts lefts rights some other front back =
-    let halves = halves_of ts lefts rights some other front back in
+pub halved : (bound : ℕ) {ts lefts rights : List Term} → Halves ts lefts rights → Halved bound ts lefts rights
+halved bound {ts} {lefts} {rights} halves =
     let l = tree_of (weights lefts) in
     let r = tree_of (weights rights) in
     let long : outputs_of bound (tree_of (weights ts)) ≡ outputs_of bound (node l r) = ap (outputs_of bound) halves.tree in

@@ -1,5 +1,5 @@
 -- The steps of a totalizer's derivation as the code has their parts.
-use Rattle.std.proofs.Common.{◌≡◌, ◌≤◌, ◌+◌, ◌-◌, ◌*◌, ◌++◌, ℕ, zero, suc, List, [], ◌∷◌, length, map, min, refl, sym, ap, ◌∙◌, subst, arith, length-append}
+use Rattle.std.proofs.Common.{◌≡◌, ◌≤◌, ◌+◌, ◌-◌, ◌*◌, ◌++◌, ℕ, zero, suc, List, [], ◌∷◌, length, map, min, refl, sym, ap, ◌∙◌, subst, arith}
 use Rattle.std.specs.List.{range_with_len}
 use Rattle.pb_base.specs.declared.literal.Term.{Term}
 use Rattle.pb_norm.specs.BoundedSums.{vars_of}
@@ -13,16 +13,15 @@ use Rattle.pb_family.proofs.SameSteps.{HaveSameSteps, same_append}
 use Rattle.pb_family.proofs.Sequence.{reification_pieces, justification_pieces}
 use Rattle.pb_tree.specs.Pairs.{Pair, pair_of}
 use Rattle.pb_tree.specs.Scheme.{values, fresh_of}
-use Rattle.pb_tree.specs.Tree.{Tree, node, tree_of}
-use Rattle.pb_tree.specs.TreeSteps.{reifications_from, reifications, output_ids, part_ids, part_weakened, pair_justification, pair_justifications, root_justification, tree_justifications}
+use Rattle.pb_tree.specs.Tree.{Tree, tree_of}
+use Rattle.pb_tree.specs.TreeSteps.{reifications_from, output_ids, part_ids, part_weakened, pair_justification, pair_justifications, root_justification}
 use Rattle.pb_tree.proofs.PairLists.{map_same, map-map, rows_same}
-use Rattle.pb_tree.proofs.TreeHalves.{halves_meant}
-use Rattle.pb_tree.proofs.TreeHanded.{range_shift, bare, bare_same, all_first_free}
+use Rattle.pb_tree.proofs.TreeHanded.{range_shift, bare, bare_same}
 use Rattle.pb_tree.proofs.TreeRows.{leaves_of}
 use Rattle.pb_totalizer.specs.Exact.{outputs_of}
 use Rattle.pb_totalizer.specs.Totalizer.{partners, totalizer}
 use Rattle.pb_totalizer.specs.TotalizerSteps.{totalizer_pairs}
-use Rattle.pb_totalizer.specs.declared.claims.Source.{Source}
+use Rattle.pb_totalizer.specs.declared.node_ids.Source.{Source}
 use Rattle.pb_totalizer.specs.declared.polarity.Polarity.TheVariants.{Up}
 use Rattle.pb_totalizer.specs.laws.ByPairs.{partner_bounds}
 use Rattle.pb_totalizer.specs.inner.Sources.{output_reification, ids_from, some_ids, weakened_at, pair_given, row_given, node_given, root_given}
@@ -41,15 +40,6 @@ output_piece first ts id k = reification_steps id (output_reification first ts k
 pub output_pieces : (first : ℕ) (ts : List Weighted) (next n : ℕ) → reification_steps next (reifications_from first ts (range_with_len 1 n)) ≡ pieces (output_piece first ts) 2 next 0 n
 output_pieces first ts next n =
     ap (reification_steps next) (outputs_from first ts first 0 n (let e : first ≡ first + 0 = omega arith in e)) ∙ reification_pieces (output_reification first ts) next 0 n
-
--- the reifications of a part are those of its halves, and its own
-pub parts_meant : (bound : ℕ) (ts lefts rights : List Term) (first middle start count : ℕ) → tree_of (weights ts) ≡ node (tree_of (weights lefts)) (tree_of (weights rights))
-    → middle ≡ first + fresh_of (totalizer bound) (tree_of (weights lefts)) → start ≡ middle + fresh_of (totalizer bound) (tree_of (weights rights))
-    → count ≡ min (length (values (totalizer bound) (tree_of (weights lefts))) + length (values (totalizer bound) (tree_of (weights rights)))) (bound + 1)
-    → reifications (totalizer bound) (tree_of (weights lefts)) first ++ (reifications (totalizer bound) (tree_of (weights rights)) middle ++ reifications_from start (weights ts) (range_with_len 1 count))
-    ≡ reifications (totalizer bound) (tree_of (weights ts)) first
-parts_meant bound ts lefts rights first middle start count tree is at counts =
-    halves_meant (totalizer bound) ts (tree_of (weights lefts)) (tree_of (weights rights)) first middle start (range_with_len 1 count) tree is at (ap (range_with_len 1) counts)
 
 -- ---- rows
 
@@ -136,16 +126,3 @@ root_given_last bound ts id own root same =
     let last = root_justification (totalizer bound) (tree_of (weights ts)) 0 id own in
     same_append (justifications_by Up bound ts id) (justifications_by Up bound ts id) (root_given root (bound + 1) own ∷ []) (last ∷ []) (record { count = refl; steps = λ next. refl })
     (subst (λ (r : Justification). HaveSameSteps (r ∷ []) (last ∷ [])) (sym (root_is bound ts id own root same)) (bare_same (last ∷ [])))
-
--- from the sink's next id on
-pub all_same : (bound : ℕ) (ts : List Term) (first own base next : ℕ) → base ≡ next
-    → HaveSameSteps (all_justifications bound ts base own) (tree_justifications (totalizer bound) (totalizer_pairs (bound + 1)) (tree_of (weights ts)) first next own)
-all_same bound ts first own base next is =
-    let s = totalizer bound in
-    let t = tree_of (weights ts) in
-    let pairs = totalizer_pairs (bound + 1) in
-    subst (λ (b : ℕ). HaveSameSteps (all_justifications bound ts base own) (tree_justifications s pairs t first b own)) is (all_first_free s pairs t 0 first base own)
-
--- one more than of the nodes
-pub all_counted : (bound : ℕ) (ts : List Term) (id own : ℕ) → length (all_justifications bound ts id own) ≡ length (justifications_by Up bound ts id) + 1
-all_counted bound ts id own = omega (arith, length-append (justifications_by Up bound ts id) (root_justification (totalizer bound) (tree_of (weights ts)) 0 id own ∷ []))

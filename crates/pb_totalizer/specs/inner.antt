@@ -1,3 +1,5 @@
 pub mod LimitSources
+pub mod NodeClauses
+pub mod Numbers
 pub mod Outputs
 pub mod Sources

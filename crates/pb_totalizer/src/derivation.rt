@@ -8,21 +8,21 @@ ghost use Rattle.pb_tree.specs.Tree.{tree_of};
 ghost use Rattle.pb_tree.specs.Scheme.{fresh_of};
 ghost use Rattle.pb_totalizer.specs.Totalizer.{totalizer};
 ghost use Rattle.pb_totalizer.specs.TotalizerSteps.{totalizer_steps};
-ghost use Rattle.pb_totalizer.specs.inner.Sources.{HasIds, some_ids, root_given};
+ghost use Rattle.pb_totalizer.specs.inner.Sources.{some_ids, root_given};
 ghost use Rattle.pb_totalizer.specs.laws.Polarity.{justifications_by, all_justifications};
 
-use crate::claims::{Source, push_part};
+use crate::claims::push_part;
 use crate::handing::derive_part;
+use crate::node_ids::Source;
 use crate::polarity::Polarity;
 use crate::reifications::derive_reifications;
-use pb_base::Term;
+use crate::subtree::Subtree;
 use pb_family::{SinkFault, StepSink, derive_claim, derive_deletions};
 use std::alloc::{AllocError, Global};
 
 /// The ids of the constraints that the root's clause follows from.
 fn root_ids(alloc: Global, root: Source, number: u64, own: u64) -> Result<Vec<u64>, AllocError>
-    requires room { HasIds root }
-    requires small { number < 2 ^ 33 }
+    requires { number < 2 ^ 33 }
     ensures { IfOk result (λ ids. ids.items ≡ some_ids root number ++ own ∷ []) }
 {
     let mut ids = Vec::new(alloc);
@@ -39,7 +39,6 @@ pub fn derive_root<T: StepSink>(
     own: u64,
     sink: &mut T,
 ) -> Result<(), SinkFault>
-    requires room { HasIds root }
     requires small { number < 2 ^ 33 }
     requires few { (T.state sink.old).next + 1 < 2 ^ 62 }
     ensures { HandsJustifications (root_given root number own ∷ []) result (T.state sink.old) (T.state sink.new) }
@@ -48,45 +47,36 @@ pub fn derive_root<T: StepSink>(
     derive_claim(alloc, ids.as_slice(), &[], sink)
 }
 
-/// The clauses of the totalizer of some terms, with that of the root.
+/// The clauses of a totalizer, with that of the root.
 fn derive_clauses<T: StepSink>(
     alloc: Global,
-    terms: &[Term],
-    bound: u64,
+    tree: &Subtree,
     id: u64,
     own: u64,
     sink: &mut T,
 ) -> Result<(), SinkFault>
-    requires some { 1 ≤ length terms.now }
-    requires small { bound < 2 ^ 31 }
-    requires ids { id + 2 * fresh_of (totalizer bound) (tree_of (weights terms.now)) < 2 ^ 62 }
-    requires room { (T.state sink.old).next + length (justifications_by Polarity.Up bound terms.now id) + 1 < 2 ^ 62 }
-    ensures { HandsJustifications (all_justifications bound terms.now id own) result (T.state sink.old) (T.state sink.new) }
+    requires ids { id + 2 * fresh_of (totalizer tree.now.bound) (tree_of (weights tree.now.terms.now)) < 2 ^ 62 }
+    requires room { (T.state sink.old).next + length (justifications_by Polarity.Up tree.now.bound tree.now.terms.now id) + 1 < 2 ^ 62 }
+    ensures { HandsJustifications (all_justifications tree.now.bound tree.now.terms.now id own) result (T.state sink.old) (T.state sink.new) }
 {
-    let root = derive_part(alloc, Polarity::Up, terms, bound, id, sink)?;
-    derive_root(alloc, root.source, bound + 1, own, sink)
+    let root = derive_part(alloc, Polarity::Up, tree.terms, tree.bound, id, sink)?;
+    derive_root(alloc, root.source, tree.bound + 1, own, sink)
 }
 
 /// Hands over the whole derivation, where `id` is the constraint's.
 pub fn derive_totalizer<T: StepSink>(
     alloc: Global,
-    terms: &[Term],
-    bound: u64,
-    first: u32,
+    tree: &Subtree,
     id: u64,
     sink: &mut T,
 ) -> Result<(), SinkFault>
-    requires from { 1 ≤ bound }
-    requires more { bound < length terms.now }
-    requires short { length terms.now < 2 ^ 31 }
-    requires low { 1 ≤ first }
-    requires fits { first + fresh_of (totalizer bound) (tree_of (weights terms.now)) ≤ 2 ^ 31 }
-    requires light { weight (weights terms.now) < 2 ^ 100 }
+    requires from { 1 ≤ tree.now.bound }
+    requires light { weight (weights tree.now.terms.now) < 2 ^ 100 }
     requires few { (T.state sink.old).next ≤ 2 ^ 61 }
-    ensures { HandsSteps (totalizer_steps (sum_within terms.now bound) first id (T.state sink.old).next) result (T.state sink.old) (T.state sink.new) }
+    ensures { HandsSteps (totalizer_steps (sum_within tree.now.terms.now tree.now.bound) tree.now.first id (T.state sink.old).next) result (T.state sink.old) (T.state sink.new) }
 {
     let base = sink.next_id();
-    let meant = derive_reifications(alloc, terms, bound, first, sink)?;
-    derive_clauses(alloc, terms, bound, base, id, sink)?;
-    derive_deletions(alloc, base, 2, (meant.next - first) as u64, sink)
+    let meant = derive_reifications(alloc, tree, sink)?;
+    derive_clauses(alloc, tree, base, id, sink)?;
+    derive_deletions(alloc, base, 2, (meant.next - tree.first) as u64, sink)
 }

@@ -10,6 +10,7 @@ use crate::emission::emit_exact;
 use crate::exact_derivation::derive_exact;
 use crate::polarity::Polarity;
 use crate::size::size_of;
+use crate::subtree::Subtree;
 use pb_base::{Lit, Lits, NoMemory, Term};
 use pb_family::{Built, ClauseSink, Pair, SinkFault, StepSink};
 use std::alloc::{AllocError, Global};
@@ -122,7 +123,12 @@ impl Pair for Exact {
         ensures hands { HandsIfMemory (⟦<Exact as Pair>⟧.clause_list self.now first) result (S.state sink.old) (S.state sink.new) }
         ensures never { result ≢ Err SinkFault.NoMemory }
     {
-        emit_exact(self.terms.as_slice(), self.bound, first, sink)?;
+        let tree = Subtree {
+            terms: self.terms.as_slice(),
+            bound: self.bound,
+            first,
+        };
+        emit_exact(&tree, sink)?;
         Ok(())
     }
 
@@ -134,15 +140,12 @@ impl Pair for Exact {
         upper: u64,
         sink: &mut T,
     ) -> Result<(), SinkFault> {
-        derive_exact(
-            alloc,
-            self.terms.as_slice(),
-            self.bound,
+        let tree = Subtree {
+            terms: self.terms.as_slice(),
+            bound: self.bound,
             first,
-            lower,
-            upper,
-            sink,
-        )
+        };
+        derive_exact(alloc, &tree, lower, upper, sink)
     }
 
     ghost sound = { λ f first below a model. pair_sound (exact_sum f) f.units f.proper first a model };
@@ -159,11 +162,11 @@ impl Pair for Exact {
 
     ghost propagates = { λ f first below. exact_propagates (exact_sum f) f.units f.proper first };
 
-    ghost derives = { λ f first lower upper db below ready. exact_derives (exact_sum f) f.units f.proper (few_terms f.terms.items f.few) first lower upper db below ready };
+    ghost derives = { λ f first lower upper db below ready. exact_derives (exact_sum f) f.units f.proper (few_terms _ f.few) first lower upper db below ready };
 
     ghost few_steps = { λ f first lower upper next. exact_lines (exact_sum f) first lower upper next };
 
-    ghost sayable = { λ f first lower upper next original low high. exact_sayable (exact_sum f) f.units f.proper (few_terms f.terms.items f.few) first lower upper next original low high };
+    ghost sayable = { λ f first lower upper next original low high. exact_sayable (exact_sum f) f.units f.proper (few_terms _ f.few) first lower upper next original low high };
 
-    ghost short = { λ f first lower upper next original low high. exact_short (exact_sum f) f.units f.proper (few_terms f.terms.items f.few) first lower upper next original low high };
+    ghost short = { λ f first lower upper next original low high. exact_short (exact_sum f) f.units f.proper (few_terms _ f.few) first lower upper next original low high };
 }

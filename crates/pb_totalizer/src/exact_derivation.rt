@@ -9,22 +9,20 @@ ghost use Rattle.pb_tree.specs.Scheme.{fresh_of};
 ghost use Rattle.pb_totalizer.specs.ExactSteps.{exact_steps};
 ghost use Rattle.pb_totalizer.specs.Totalizer.{totalizer};
 ghost use Rattle.pb_totalizer.specs.inner.LimitSources.{seconds_from, least_given};
-ghost use Rattle.pb_totalizer.specs.inner.Sources.{HasIds};
 ghost use Rattle.pb_totalizer.specs.laws.Polarity.{justifications_by, exact_all_justifications};
 
-use crate::claims::Source;
 use crate::derivation::derive_root;
 use crate::handing::derive_part;
 use crate::limit_claims::push_second;
+use crate::node_ids::Source;
 use crate::polarity::Polarity;
 use crate::reifications::derive_reifications;
-use pb_base::Term;
+use crate::subtree::Subtree;
 use pb_family::{SinkFault, StepSink, derive_claim, derive_deletions};
 use std::alloc::{AllocError, Global};
 
 /// The ids of the constraints that the clause of the bound's output follows from.
 fn least_ids(alloc: Global, root: Source, number: u64, lower: u64) -> Result<Vec<u64>, AllocError>
-    requires room { HasIds root }
     requires some { 1 ≤ number }
     requires small { number < 2 ^ 33 }
     ensures { IfOk result (λ ids. ids.items ≡ seconds_from root number ++ lower ∷ []) }
@@ -43,7 +41,6 @@ fn derive_least<T: StepSink>(
     lower: u64,
     sink: &mut T,
 ) -> Result<(), SinkFault>
-    requires room { HasIds root }
     requires some { 1 ≤ number }
     requires small { number < 2 ^ 33 }
     requires few { (T.state sink.old).next + 1 < 2 ^ 62 }
@@ -53,49 +50,40 @@ fn derive_least<T: StepSink>(
     derive_claim(alloc, ids.as_slice(), &[], sink)
 }
 
-/// The clauses of the exact sum of some terms, with those of the root.
+/// The clauses of an exact sum, with those of the root.
 fn derive_exact_clauses<T: StepSink>(
     alloc: Global,
-    terms: &[Term],
-    bound: u64,
+    tree: &Subtree,
     id: u64,
     lower: u64,
     upper: u64,
     sink: &mut T,
 ) -> Result<(), SinkFault>
-    requires some { 1 ≤ length terms.now }
-    requires from { 1 ≤ bound }
-    requires small { bound < 2 ^ 31 }
-    requires ids { id + 2 * fresh_of (totalizer bound) (tree_of (weights terms.now)) < 2 ^ 62 }
-    requires room { (T.state sink.old).next + length (justifications_by Polarity.Both bound terms.now id) + 2 < 2 ^ 62 }
-    ensures { HandsJustifications (exact_all_justifications bound terms.now id lower upper) result (T.state sink.old) (T.state sink.new) }
+    requires from { 1 ≤ tree.now.bound }
+    requires ids { id + 2 * fresh_of (totalizer tree.now.bound) (tree_of (weights tree.now.terms.now)) < 2 ^ 62 }
+    requires room { (T.state sink.old).next + length (justifications_by Polarity.Both tree.now.bound tree.now.terms.now id) + 2 < 2 ^ 62 }
+    ensures { HandsJustifications (exact_all_justifications tree.now.bound tree.now.terms.now id lower upper) result (T.state sink.old) (T.state sink.new) }
 {
-    let root = derive_part(alloc, Polarity::Both, terms, bound, id, sink)?;
-    derive_least(alloc, root.source, bound, lower, sink)?;
-    derive_root(alloc, root.source, bound + 1, upper, sink)
+    let root = derive_part(alloc, Polarity::Both, tree.terms, tree.bound, id, sink)?;
+    derive_least(alloc, root.source, tree.bound, lower, sink)?;
+    derive_root(alloc, root.source, tree.bound + 1, upper, sink)
 }
 
 /// Hands over the whole derivation, where `lower` is the id of the constraint from below, and `upper` of the one from above.
 pub fn derive_exact<T: StepSink>(
     alloc: Global,
-    terms: &[Term],
-    bound: u64,
-    first: u32,
+    tree: &Subtree,
     lower: u64,
     upper: u64,
     sink: &mut T,
 ) -> Result<(), SinkFault>
-    requires from { 1 ≤ bound }
-    requires more { bound < length terms.now }
-    requires short { length terms.now < 2 ^ 31 }
-    requires low { 1 ≤ first }
-    requires fits { first + fresh_of (totalizer bound) (tree_of (weights terms.now)) ≤ 2 ^ 31 }
-    requires light { weight (weights terms.now) < 2 ^ 100 }
+    requires from { 1 ≤ tree.now.bound }
+    requires light { weight (weights tree.now.terms.now) < 2 ^ 100 }
     requires few { (T.state sink.old).next ≤ 2 ^ 61 }
-    ensures { HandsSteps (exact_steps (sum_within terms.now bound) first lower upper (T.state sink.old).next) result (T.state sink.old) (T.state sink.new) }
+    ensures { HandsSteps (exact_steps (sum_within tree.now.terms.now tree.now.bound) tree.now.first lower upper (T.state sink.old).next) result (T.state sink.old) (T.state sink.new) }
 {
     let base = sink.next_id();
-    let meant = derive_reifications(alloc, terms, bound, first, sink)?;
-    derive_exact_clauses(alloc, terms, bound, base, lower, upper, sink)?;
-    derive_deletions(alloc, base, 2, (meant.next - first) as u64, sink)
+    let meant = derive_reifications(alloc, tree, sink)?;
+    derive_exact_clauses(alloc, tree, base, lower, upper, sink)?;
+    derive_deletions(alloc, base, 2, (meant.next - tree.first) as u64, sink)
 }

@@ -1,5 +1,5 @@
 //! The clauses of a totalizer's derivation, part by part.
-ghost use Rattle.std.specs.Prelude.{◌≡◌, ◌≤◌, ◌<◌, ◌+◌, ◌*◌, ◌^◌, min, length, IfOk};
+ghost use Rattle.std.specs.Prelude.{◌≡◌, ◌≤◌, ◌<◌, ◌+◌, ◌*◌, ◌^◌, length, IfOk};
 ghost use Rattle.pb_norm.specs.Constraints.{weights};
 ghost use Rattle.pb_family.specs.inner.HandedJustifications.{HandsJustifications};
 ghost use Rattle.pb_tree.specs.Tree.{tree_of};
@@ -7,41 +7,32 @@ ghost use Rattle.pb_tree.specs.Scheme.{fresh_of};
 ghost use Rattle.pb_tree.specs.TreeSteps.{output_ids};
 ghost use Rattle.pb_totalizer.specs.Exact.{outputs_of};
 ghost use Rattle.pb_totalizer.specs.Totalizer.{totalizer};
-ghost use Rattle.pb_totalizer.specs.inner.Sources.{HasIds, ids_from};
+ghost use Rattle.pb_totalizer.specs.inner.Sources.{ids_from};
 ghost use Rattle.pb_totalizer.specs.laws.Polarity.{own_beside, justifications_by};
 
-use crate::claims::{Side, Source, derive_node};
+use crate::claims::derive_node;
 use crate::limit_claims::derive_limits;
+use crate::node_ids::{IdRow, NodeIds, Side, Source};
 use crate::polarity::Polarity;
 use pb_base::Term;
 use pb_family::{SinkFault, StepSink};
+use pb_tree::halves;
 use std::alloc::Global;
 
 /// A node's own clauses.
 fn derive_own<T: StepSink>(
     alloc: Global,
     polarity: Polarity,
-    left: Side,
-    right: Side,
-    own: u64,
-    cap: u64,
-    count: u64,
+    node: &NodeIds,
     sink: &mut T,
 ) -> Result<(), SinkFault>
-    requires left_room { HasIds left.source }
-    requires right_room { HasIds right.source }
-    requires own_room { own < 2 ^ 62 }
-    requires within { left.count ≤ cap }
-    requires own_count { count ≡ min (left.count + right.count) cap }
-    requires few { cap < 2 ^ 32 }
-    requires few_right { right.count < 2 ^ 32 }
-    requires room { (T.state sink.old).next + length (own_beside polarity cap count left right own) < 2 ^ 62 }
-    ensures { HandsJustifications (own_beside polarity cap count left.entry right.entry own) result (T.state sink.old) (T.state sink.new) }
+    requires { (T.state sink.old).next + length (own_beside polarity node.now) < 2 ^ 62 }
+    ensures { HandsJustifications (own_beside polarity node.now) result (T.state sink.old) (T.state sink.new) }
 {
-    derive_node(alloc, left, right, own, cap, sink)?;
+    derive_node(alloc, node, sink)?;
     match polarity {
         Polarity::Up => Ok(()),
-        Polarity::Both => derive_limits(alloc, left, right, own, count, sink),
+        Polarity::Both => derive_limits(alloc, node, sink),
     }
 }
 
@@ -69,7 +60,6 @@ pub fn derive_part<T: StepSink>(
     requires room { (T.state sink.old).next + length (justifications_by polarity bound terms.now id) < 2 ^ 62 }
     ensures hands { HandsJustifications (justifications_by polarity bound terms.now id) result (T.state sink.old) (T.state sink.new) }
     ensures source { IfOk result (λ part. ids_from part.source ≡ output_ids (totalizer bound) (tree_of (weights terms.now)) id) }
-    ensures has { IfOk result (λ part. HasIds part.source) }
     ensures count { IfOk result (λ part. part.count ≡ outputs_of bound (tree_of (weights terms.now))) }
     ensures id { IfOk result (λ part. part.id ≡ id + 2 * fresh_of (totalizer bound) (tree_of (weights terms.now))) }
 {
@@ -80,24 +70,29 @@ pub fn derive_part<T: StepSink>(
             id,
         });
     }
-    let (lefts, rights) = terms.split_at(terms.len() / 2);
+    let (lefts, rights) = halves(terms);
     let left = derive_part(alloc, polarity, lefts, bound, id, sink)?;
     let right = derive_part(alloc, polarity, rights, bound, left.id, sink)?;
     let cap = bound + 1;
     let count = (left.count + right.count).min(cap);
-    let front = Side {
-        terms: lefts,
-        source: left.source,
-        count: left.count,
+    let node = NodeIds {
+        left: Side {
+            terms: lefts,
+            source: left.source,
+            count: left.count,
+        },
+        right: Side {
+            terms: rights,
+            source: right.source,
+            count: right.count,
+        },
+        own: right.id,
+        count,
+        cap,
     };
-    let back = Side {
-        terms: rights,
-        source: right.source,
-        count: right.count,
-    };
-    derive_own(alloc, polarity, front, back, right.id, cap, count, sink)?;
+    derive_own(alloc, polarity, &node, sink)?;
     Ok(Handed {
-        source: Source::Fresh(right.id),
+        source: Source::Fresh(IdRow { first: right.id }),
         count,
         id: right.id + 2 * count,
     })

@@ -9,10 +9,13 @@ mod exact_derivation;
 mod handing;
 mod limit_claims;
 mod limits;
+mod node;
+mod node_ids;
 mod outputs;
 mod polarity;
 mod reifications;
 mod size;
+mod subtree;
 mod totalizer;
 
 pub use exact::Exact;

@@ -9,25 +9,27 @@ ghost use Rattle.pb_tree.specs.TreeSteps.{reifications_from, reifications};
 ghost use Rattle.pb_totalizer.specs.Totalizer.{totalizer};
 ghost use Rattle.pb_totalizer.specs.inner.Sources.{output_reification};
 
+use crate::outputs::Run;
+use crate::subtree::Subtree;
 use pb_base::Term;
 use pb_family::{SinkFault, StepSink, derive_reification, fresh_at};
+use pb_tree::halves;
 use std::alloc::Global;
 
 /// What the output of a node at a place means.
 fn derive_output<T: StepSink>(
     alloc: Global,
     terms: &[Term],
-    first: u32,
+    outputs: &Run,
     place: u64,
     sink: &mut T,
 ) -> Result<(), SinkFault>
-    requires low { 1 ≤ first }
-    requires high { first + place < 2 ^ 31 }
+    requires within { place < outputs.now.count }
     requires light { weight (weights terms.now) < 2 ^ 100 }
     requires few { (T.state sink.old).next + 1 < 2 ^ 62 }
-    ensures { HandsReifications (output_reification first (weights terms.now) place ∷ []) result (T.state sink.old) (T.state sink.new) }
+    ensures { HandsReifications (output_reification outputs.now.first (weights terms.now) place ∷ []) result (T.state sink.old) (T.state sink.new) }
 {
-    let var = fresh_at(first, place as usize).var;
+    let var = fresh_at(outputs.first, place as usize).var;
     derive_reification(alloc, var, terms, place as u128 + 1, sink)
 }
 
@@ -35,18 +37,15 @@ fn derive_output<T: StepSink>(
 fn derive_outputs<T: StepSink>(
     alloc: Global,
     terms: &[Term],
-    first: u32,
-    count: u64,
+    outputs: &Run,
     sink: &mut T,
 ) -> Result<(), SinkFault>
-    requires low { 1 ≤ first }
-    requires high { first + count ≤ 2 ^ 31 }
     requires light { weight (weights terms.now) < 2 ^ 100 }
-    requires few { (T.state sink.old).next + 2 * count ≤ 2 ^ 61 + 2 ^ 33 }
-    ensures { HandsReifications (reifications_from first (weights terms.now) (range_with_len 1 count)) result (T.state sink.old) (T.state sink.new) }
+    requires few { (T.state sink.old).next + 2 * outputs.now.count ≤ 2 ^ 61 + 2 ^ 33 }
+    ensures { HandsReifications (reifications_from outputs.now.first (weights terms.now) (range_with_len 1 outputs.now.count)) result (T.state sink.old) (T.state sink.new) }
 {
-    for place in 0..count {
-        derive_output(alloc, terms, first, place, sink)?;
+    for place in 0..outputs.count {
+        derive_output(alloc, terms, outputs, place, sink)?;
     }
     Ok(())
 }
@@ -58,37 +57,45 @@ pub struct Meant {
     pub next: u32,
 }
 
-/// What the fresh variables of the totalizer of some terms mean, which begin at a number.
+/// What the fresh variables of a totalizer mean.
 pub fn derive_reifications<T: StepSink>(
     alloc: Global,
-    terms: &[Term],
-    bound: u64,
-    first: u32,
+    tree: &Subtree,
     sink: &mut T,
 ) -> Result<Meant, SinkFault>
-    requires some { 1 ≤ length terms.now }
-    requires small { bound < 2 ^ 31 }
-    requires low { 1 ≤ first }
-    requires light { weight (weights terms.now) < 2 ^ 100 }
-    requires fits { first + fresh_of (totalizer bound) (tree_of (weights terms.now)) ≤ 2 ^ 31 }
-    requires few { (T.state sink.old).next + 2 * fresh_of (totalizer bound) (tree_of (weights terms.now)) ≤ 2 ^ 61 + 2 ^ 33 }
-    ensures hands { HandsReifications (reifications (totalizer bound) (tree_of (weights terms.now)) first) result (T.state sink.old) (T.state sink.new) }
-    ensures count { IfOk result (λ part. part.count ≡ length (values (totalizer bound) (tree_of (weights terms.now)))) }
-    ensures next { IfOk result (λ part. part.next ≡ first + fresh_of (totalizer bound) (tree_of (weights terms.now))) }
+    requires light { weight (weights tree.now.terms.now) < 2 ^ 100 }
+    requires few { (T.state sink.old).next + 2 * fresh_of (totalizer tree.now.bound) (tree_of (weights tree.now.terms.now)) ≤ 2 ^ 61 + 2 ^ 33 }
+    ensures hands { HandsReifications (reifications (totalizer tree.now.bound) (tree_of (weights tree.now.terms.now)) tree.now.first) result (T.state sink.old) (T.state sink.new) }
+    ensures count { IfOk result (λ part. part.count ≡ length (values (totalizer tree.now.bound) (tree_of (weights tree.now.terms.now)))) }
+    ensures next { IfOk result (λ part. part.next ≡ tree.now.first + fresh_of (totalizer tree.now.bound) (tree_of (weights tree.now.terms.now))) }
 {
-    if terms.len() == 1 {
+    let bound = tree.bound;
+    if tree.terms.len() == 1 {
         return Ok(Meant {
             count: 1,
-            next: first,
+            next: tree.first,
         });
     }
-    let (lefts, rights) = terms.split_at(terms.len() / 2);
-    let left = derive_reifications(alloc, lefts, bound, first, sink)?;
-    let right = derive_reifications(alloc, rights, bound, left.next, sink)?;
-    let count = (left.count + right.count).min(bound + 1);
-    derive_outputs(alloc, terms, right.next, count, sink)?;
+    let (terms, others) = halves(tree.terms);
+    let front = Subtree {
+        terms,
+        bound,
+        first: tree.first,
+    };
+    let left = derive_reifications(alloc, &front, sink)?;
+    let back = Subtree {
+        terms: others,
+        bound,
+        first: left.next,
+    };
+    let right = derive_reifications(alloc, &back, sink)?;
+    let outputs = Run {
+        first: right.next,
+        count: (left.count + right.count).min(bound + 1),
+    };
+    derive_outputs(alloc, tree.terms, &outputs, sink)?;
     Ok(Meant {
-        count,
-        next: right.next + count as u32,
+        count: outputs.count,
+        next: outputs.first + outputs.count as u32,
     })
 }

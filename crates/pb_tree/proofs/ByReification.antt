@@ -25,7 +25,7 @@ clause_from a (l ∷ ls) k h on =
 abbrev Named : Scheme → Tree → Tree → ℕ → ℕ → Type 0
 Named s l r first n = IsOutputVar s l first n ⊎ (IsOutputVar s r (first + fresh_of s l) n ⊎ IsOutputVar s (node l r) first n)
 
-var_of : (k l : Lit) → k ≡ l → k.var ≡ l.var
+pub var_of : (k l : Lit) → k ≡ l → k.var ≡ l.var
 var_of k l e = ap (λ (m : Lit). m.var) e
 
 own_named : (s : Scheme) (W : ℕ → Type 0) → IsLawful s W → (l r : Tree) (first : ℕ) (c : List Lit) (k : Lit)

@@ -3,7 +3,9 @@ pub mod AlongJustifications
 pub mod AlongShort
 pub mod ByReification
 pub mod Extending
-pub mod Halves
+pub mod SplitTerms
+pub mod HalvesHanded
+pub mod HalvesMeant
 pub mod Laws
 pub mod Lists
 pub mod Numbers
@@ -22,5 +24,6 @@ pub mod TreeHalves
 pub mod TreeHanded
 pub mod TreeReifications
 pub mod TreeParts
+pub mod TreePhases
 pub mod TreeRows
 pub mod TreeShort

@@ -5,11 +5,10 @@ use Rattle.pb_norm.specs.Constraints.{weight, weights}
 use Rattle.pb_derive.specs.Justifications.{Justification}
 use Rattle.pb_derive.proofs.Sides.{weight-append}
 use Rattle.pb_family.proofs.SameSteps.{HaveSameSteps, same_append}
-use Rattle.pb_tree.specs.Pairs.{Pair}
 use Rattle.pb_tree.specs.Scheme.{Scheme, values, fresh_of}
 use Rattle.pb_tree.specs.Tree.{Tree, node, tree_of}
-use Rattle.pb_tree.specs.TreeSteps.{leaves, reifications_from, reifications, pair_justifications, justifications_along, justifications}
-use Rattle.pb_tree.proofs.TreeHanded.{IsFirstFree, along_first_free, pairs_first_free}
+use Rattle.pb_tree.specs.TreeSteps.{leaves, reifications_from, reifications, justifications_along}
+use Rattle.pb_tree.proofs.TreeHanded.{IsFirstFree, along_first_free}
 use Rattle.pb_tree.proofs.TreeRows.{leaves_of}
 
 -- both halves weigh as much as all
@@ -47,20 +46,3 @@ module _ (s : Scheme) (own : Tree → Tree → ℕ → ℕ → List Justificatio
       let next = id + 2 * fresh_of s l in
       let all = along_same next refl in
       omega (arith, all.count, length-append (justifications_along s own l 0 id) (justifications_along s own r 0 next ++ own l r 0 id), length-append (justifications_along s own r 0 next) (own l r 0 id))
-
--- ---- by pairs
-
--- a node's own, in the order of its pairs
-abbrev pub node_justifications : Scheme → (List ℕ → List ℕ → List Pair) → Tree → Tree → ℕ → List Justification
-node_justifications s pairs l r id = pair_justifications s pairs l r 0 id
-
-module _ (s : Scheme) (pairs : List ℕ → List ℕ → List Pair) (t l r : Tree) (id : ℕ) (tree : t ≡ node l r) where
-  pub halves_given : (middle : ℕ) (given : List Justification) → middle ≡ id + 2 * fresh_of s l → HaveSameSteps given (node_justifications s pairs l r id)
-      → HaveSameSteps (justifications s pairs l 0 id ++ (justifications s pairs r 0 middle ++ given)) (justifications s pairs t 0 id)
-  halves_given middle given is owns = along_given s (pair_justifications s pairs) (pairs_first_free s pairs) t l r id tree middle given is owns
-
-  pub halves_same : (middle : ℕ) → middle ≡ id + 2 * fresh_of s l → HaveSameSteps (justifications s pairs l 0 id ++ (justifications s pairs r 0 middle ++ node_justifications s pairs l r id)) (justifications s pairs t 0 id)
-  halves_same middle is = along_same s (pair_justifications s pairs) (pairs_first_free s pairs) t l r id tree middle is
-
-  pub halves_length : length (justifications s pairs l 0 id) + length (justifications s pairs r 0 (id + 2 * fresh_of s l)) ≤ length (justifications s pairs t 0 id)
-  halves_length = along_length s (pair_justifications s pairs) (pairs_first_free s pairs) t l r id tree

@@ -1,5 +1,5 @@
 -- Reifications and clauses along a tree that are handed over part by part.
-use Rattle.std.proofs.Common.{◌≡◌, ◌≤◌, ◌<◌, ◌+◌, ◌-◌, ◌*◌, ◌++◌, ℕ, zero, suc, List, [], ◌∷◌, length, map, refl, sym, ap, ◌∙◌, arith, append-nil, length-append}
+use Rattle.std.proofs.Common.{◌≡◌, ◌≤◌, ◌<◌, ◌+◌, ◌-◌, ◌*◌, ◌++◌, ℕ, zero, suc, List, [], ◌∷◌, length, map, refl, sym, ap, ◌∙◌, subst, arith, append-nil, length-append}
 use Rattle.std.specs.Prelude.{Result, IsErrAnd}
 use Rattle.std.specs.List.{flat_map, range_with_len}
 use Rattle.std.proofs.lemmas.List.{length-map}
@@ -131,3 +131,7 @@ pairs_first_free s pairs l r f g id = pairs_same s l r f g id (pairs (values s l
 pub all_first_free : (s : Scheme) (pairs : List ℕ → List ℕ → List Pair) (t : Tree) (f g id own : ℕ) → HaveSameSteps (tree_justifications s pairs t f id own) (tree_justifications s pairs t g id own)
 all_first_free s pairs t f g id own =
     same_append (justifications s pairs t f id) (justifications s pairs t g id) (root_justification s t f id own ∷ []) (root_justification s t g id own ∷ []) (along_first_free s (pair_justifications s pairs) (pairs_first_free s pairs) t f g id) (record { count = refl; steps = λ next. refl })
+
+-- from the sink's next id on
+pub all_from : (s : Scheme) (pairs : List ℕ → List ℕ → List Pair) (t : Tree) (first own base next : ℕ) → base ≡ next → HaveSameSteps (tree_justifications s pairs t 0 base own) (tree_justifications s pairs t first next own)
+all_from s pairs t first own base next is = subst (λ (b : ℕ). HaveSameSteps (tree_justifications s pairs t 0 base own) (tree_justifications s pairs t first b own)) is (all_first_free s pairs t 0 first base own)

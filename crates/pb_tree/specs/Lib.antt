@@ -1,3 +1,4 @@
+pub mod Halves
 pub mod Pairs
 pub mod Places
 pub mod Scheme

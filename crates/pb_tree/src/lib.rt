@@ -1,2 +1,6 @@
-//! Sums encoded along a tree that splits the terms in halves: its clauses, and their laws.
+//! Sums encoded along a tree that splits the terms in halves: the halves, the tree's clauses, and their laws.
 #![tactic(auto)]
+
+mod halving;
+
+pub use halving::halves;

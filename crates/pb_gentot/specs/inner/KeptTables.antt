@@ -14,8 +14,8 @@ use Rattle.pb_gentot.specs.BoundTable.{IsTable, table_values, table_fresh, table
 use Rattle.pb_gentot.specs.BoundTableSteps.{neighbour_justification}
 use Rattle.pb_gentot.specs.Generalized.{generalized}
 use Rattle.pb_gentot.specs.GeneralizedSteps.{generalized_pairs}
-use Rattle.pb_gentot.specs.declared.claims.Source.{Source}
-use Rattle.pb_gentot.specs.declared.claims.Source.TheVariants.{Leaf, Fresh}
+use Rattle.pb_gentot.specs.declared.node_ids.Source.{Source}
+use Rattle.pb_gentot.specs.declared.node_ids.Source.TheVariants.{Leaf, Fresh}
 
 -- the terms and their weight, and the values and numbers of the table
 pub record IsKeptTable (ts : List Term) (whole : ℕ) (us : List ℕ) (fresh clauses : ℕ) : Type 0 where

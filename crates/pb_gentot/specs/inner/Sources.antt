@@ -1,5 +1,5 @@
 -- Where the constraints of a part's outputs stand, and the justifications of a node's clauses by that; their clauses are left out.
-use Rattle.std.specs.Prelude.{ℕ, ◌+◌, ◌*◌, ◌^◌, ◌≤◌, ◌<◌, All, List, [], ◌∷◌, ◌++◌, min, map, length, slice_index}
+use Rattle.std.specs.Prelude.{ℕ, ◌+◌, ◌*◌, ◌≤◌, List, [], ◌∷◌, ◌++◌, min, map, length, slice_index}
 use Rattle.std.specs.List.{flat_map, range_with_len}
 use Rattle.pb_base.specs.declared.literal.Term.{Term}
 use Rattle.pb_norm.specs.BoundedSums.{vars_of}
@@ -11,42 +11,18 @@ use Rattle.pb_tree.specs.Tree.{Tree, IsLeafOf, tree_of}
 use Rattle.pb_tree.specs.TreeSteps.{justifications, tree_justifications}
 use Rattle.pb_gentot.specs.Generalized.{generalized}
 use Rattle.pb_gentot.specs.GeneralizedSteps.{generalized_pairs}
-use Rattle.pb_gentot.specs.declared.claims.Handed.{Handed}
-use Rattle.pb_gentot.specs.declared.claims.Owned.{Owned}
-use Rattle.pb_gentot.specs.declared.claims.Source.{Source}
-use Rattle.pb_gentot.specs.declared.claims.Source.TheVariants.{Leaf, Fresh}
-use Rattle.pb_gentot.specs.inner.Nodes.{AreRanks}
-use Rattle.pb_gentot.specs.Rising.{Rising}
+use Rattle.pb_gentot.specs.declared.node_ids.Handed.{Handed}
+use Rattle.pb_gentot.specs.declared.node_ids.NodeIds.{NodeIds}
+use Rattle.pb_gentot.specs.declared.node_ids.Owned.{Owned}
+use Rattle.pb_gentot.specs.inner.Ids.{ids_at}
 
 -- the output of the value at a place says that it is reached
 abbrev pub output_reification : ℕ → List Weighted → List ℕ → ℕ → Reification
 output_reification first ts us place = record { var = first + place; sum = ts; least = slice_index us place }
 
--- a leaf has no constraints; the ids of the first one of an output go up by two from place to place
-abbrev pub ids_at : Source → ℕ → List ℕ
-ids_at Leaf place = []
-ids_at (Fresh id) place = (id + 2 * place) ∷ []
-
 -- of a value
 abbrev pub ids_of : Handed → ℕ → List ℕ
 ids_of part u = ids_at part.source (place_of u part.values.items)
-
--- so many outputs have their ids below 2 ^ 62
-abbrev pub HasIds : Source → ℕ → Type 0
-HasIds Leaf n = Unit {0}
-HasIds (Fresh id) n = id + 2 * n < 2 ^ 62
-
--- the values ascend up to the cap, and their ids have room
-pub record IsHandedWithin (cap : ℕ) (part : Handed) : Type 0 where
-  pub rising : Rising part.values.items
-  pub small : All (λ u. u ≤ cap) part.values.items
-  pub ids : HasIds part.source (length part.values.items)
-
--- a node's values ascend, the ranks are theirs, and their ids have room
-pub record IsOwned (own : Owned) : Type 0 where
-  pub rising : Rising own.values.items
-  pub ranked : AreRanks own.ranks own.values.items
-  pub ids : own.id + 2 * length own.values.items < 2 ^ 62
 
 -- the second constraint of a node's value
 abbrev pub second_of : Owned → ℕ → ℕ
@@ -84,6 +60,23 @@ pairs_given cap left right own = flat_map (row_given cap left right own) (range_
 
 abbrev pub node_given : ℕ → Handed → List Term → Handed → List Term → Owned → List Justification
 node_given cap left lefts right rights own = ones_given left rights own ++ (ones_given right lefts own ++ pairs_given cap left right own)
+
+-- ---- over two parts, as the code has them
+
+abbrev pub sum_beside : NodeIds → ℕ → ℕ → ℕ
+sum_beside node i j = sum_at node.cap node.left.now node.right.now i j
+
+abbrev pub both_beside : NodeIds → ℕ → ℕ → Justification
+both_beside node i j = both_at node.cap node.left.now node.right.now node.own.now i j
+
+abbrev pub row_beside : NodeIds → ℕ → List Justification
+row_beside node i = row_given node.cap node.left.now node.right.now node.own.now i
+
+abbrev pub pairs_beside : NodeIds → List Justification
+pairs_beside node = pairs_given node.cap node.left.now node.right.now node.own.now
+
+abbrev pub node_beside : NodeIds → List Justification
+node_beside node = node_given node.cap node.left.now node.lefts.now node.right.now node.rights.now node.own.now
 
 -- of the root, whose sum's own constraint has the id `own`
 abbrev pub root_given : Handed → ℕ → ℕ → Justification

@@ -83,8 +83,8 @@ generalized_sparing bound =
       right_grows = λ l r. grows bound r l r (right_value bound l r);
     }
 
-pub size_fits : (clauses size : ℕ) → clauses ≡ size → clauses < 2 ^ 60 → size < 5 * 2 ^ 60
-size_fits clauses size is small = omega (arith, is, small)
+pub size_fits : {clauses size : ℕ} → clauses ≡ size → clauses < 2 ^ 60 → size < 5 * 2 ^ 60
+size_fits is small = omega (arith, is, small)
 
 module _ (m : BoundedSum) (proper : IsProper m) (light : weight m.terms < 2 ^ 100) (modest : generalized_size m < 5 * 2 ^ 60) (first id next : ℕ)
     (original : AreOriginal first m.terms) (start : MayStart first (generalized_fresh m) id next) where

@@ -6,8 +6,8 @@ use Rattle.pb_norm.specs.BoundedSums.{vars_of}
 use Rattle.pb_norm.specs.Constraints.{weights}
 use Rattle.pb_derive.specs.Justifications.{Justification}
 use Rattle.pb_totalizer.specs.Exact.{limits}
-use Rattle.pb_totalizer.specs.declared.claims.Side.{Side}
-use Rattle.pb_totalizer.specs.declared.claims.Source.{Source}
+use Rattle.pb_totalizer.specs.declared.node_ids.NodeIds.{NodeIds}
+use Rattle.pb_totalizer.specs.declared.node_ids.Source.{Source}
 use Rattle.pb_totalizer.specs.inner.Sources.{ids_from}
 
 -- the ids of an output's second constraint
@@ -22,12 +22,12 @@ ids_after source count i = if nat_lt i count then seconds_from source (i + 1) el
 abbrev pub weakened_after : List Term → ℕ → ℕ → List Term
 weakened_after ts count i = if nat_lt i count then [] else ts
 
-abbrev pub limit_ids : ℕ → ℕ → Source → Source → ℕ → ℕ → ℕ → List ℕ
-limit_ids a b left right own i j = ids_after left a i ++ (ids_after right b j ++ (own + 2 * (i + j)) ∷ [])
+abbrev pub limit_ids_given : ℕ → ℕ → Source → Source → ℕ → ℕ → ℕ → List ℕ
+limit_ids_given a b left right own i j = ids_after left a i ++ (ids_after right b j ++ (own + 2 * (i + j)) ∷ [])
 
 abbrev pub limit_given : ℕ → ℕ → Source → List Term → Source → List Term → ℕ → ℕ → ℕ → Justification
 limit_given a b left lefts right rights own i j =
-    record { clause = []; ids = limit_ids a b left right own i j; weakened = vars_of (weights (weakened_after lefts a i)) ++ vars_of (weights (weakened_after rights b j)) }
+    record { clause = []; ids = limit_ids_given a b left right own i j; weakened = vars_of (weights (weakened_after lefts a i)) ++ vars_of (weights (weakened_after rights b j)) }
 
 -- of one number of the left
 abbrev pub limit_row_given : ℕ → ℕ → ℕ → Source → List Term → Source → List Term → ℕ → ℕ → List Justification
@@ -39,14 +39,20 @@ limits_given count a b left lefts right rights own = flat_map (limit_row_given c
 
 -- ---- over two parts, as the code has them
 
-abbrev pub limit_beside : Side → Side → ℕ → ℕ → ℕ → Justification
-limit_beside left right own i j = limit_given left.count right.count left.source left.terms.now right.source right.terms.now own i j
+abbrev pub limit_ids : NodeIds → ℕ → ℕ → List ℕ
+limit_ids node i j = limit_ids_given node.left.count node.right.count node.left.source node.right.source node.own i j
 
-abbrev pub limit_row_beside : ℕ → Side → Side → ℕ → ℕ → List Justification
-limit_row_beside count left right own i = limit_row_given count left.count right.count left.source left.terms.now right.source right.terms.now own i
+abbrev pub limit_weakened : NodeIds → ℕ → ℕ → List ℕ
+limit_weakened node i j = vars_of (weights (weakened_after node.left.terms.now node.left.count i)) ++ vars_of (weights (weakened_after node.right.terms.now node.right.count j))
 
-abbrev pub limits_beside : ℕ → Side → Side → ℕ → List Justification
-limits_beside count left right own = limits_given count left.count right.count left.source left.terms.now right.source right.terms.now own
+abbrev pub limit_beside : NodeIds → ℕ → ℕ → Justification
+limit_beside node i j = limit_given node.left.count node.right.count node.left.source node.left.terms.now node.right.source node.right.terms.now node.own i j
+
+abbrev pub limit_row_beside : NodeIds → ℕ → List Justification
+limit_row_beside node i = limit_row_given node.count node.left.count node.right.count node.left.source node.left.terms.now node.right.source node.right.terms.now node.own i
+
+abbrev pub limits_beside : NodeIds → List Justification
+limits_beside node = limits_given node.count node.left.count node.right.count node.left.source node.left.terms.now node.right.source node.right.terms.now node.own
 
 -- of the root's output, whose sum's constraint from below has the id `lower`
 abbrev pub least_given : Source → ℕ → ℕ → Justification

@@ -1,5 +1,5 @@
 -- Where the constraints of a part's outputs stand, and the justifications of a node's clauses by that; their clauses are left out.
-use Rattle.std.specs.Prelude.{ℕ, zero, suc, ◌+◌, ◌-◌, ◌*◌, ◌^◌, ◌<◌, List, [], ◌∷◌, ◌++◌, map}
+use Rattle.std.specs.Prelude.{ℕ, zero, suc, ◌+◌, ◌-◌, ◌*◌, List, [], ◌∷◌, ◌++◌, map}
 use Rattle.std.specs.List.{flat_map, range_with_len}
 use Rattle.pb_base.specs.declared.literal.Term.{Term}
 use Rattle.pb_norm.specs.BoundedSums.{vars_of}
@@ -7,9 +7,9 @@ use Rattle.pb_norm.specs.Constraints.{Weighted, weights}
 use Rattle.pb_derive.specs.Reifications.{Reification}
 use Rattle.pb_derive.specs.Justifications.{Justification}
 use Rattle.pb_totalizer.specs.Totalizer.{partners}
-use Rattle.pb_totalizer.specs.declared.claims.Side.{Side}
-use Rattle.pb_totalizer.specs.declared.claims.Source.{Source}
-use Rattle.pb_totalizer.specs.declared.claims.Source.TheVariants.{Leaf, Fresh}
+use Rattle.pb_totalizer.specs.declared.node_ids.NodeIds.{NodeIds}
+use Rattle.pb_totalizer.specs.declared.node_ids.Source.{Source}
+use Rattle.pb_totalizer.specs.declared.node_ids.Source.TheVariants.{Leaf, Fresh}
 
 -- the output at a place, from 0 on, says that one more is reached
 abbrev pub output_reification : ℕ → List Weighted → ℕ → Reification
@@ -18,28 +18,23 @@ output_reification first ts place = record { var = first + place; sum = ts; leas
 -- a leaf has no constraints; the ids of an output's first one go up by two
 abbrev pub ids_from : Source → ℕ → List ℕ
 ids_from Leaf u = []
-ids_from (Fresh id) u = (id + 2 * (u - 1)) ∷ []
+ids_from (Fresh row) u = (row.first + 2 * (u - 1)) ∷ []
 
 abbrev pub some_ids : Source → ℕ → List ℕ
 some_ids source zero = []
 some_ids source (suc u) = ids_from source (suc u)
-
--- so that its ids have room
-abbrev pub HasIds : Source → Type 0
-HasIds Leaf = Unit {0}
-HasIds (Fresh id) = id < 2 ^ 62
 
 -- the terms that go: all where the number is 0
 abbrev pub weakened_at : List Term → ℕ → List Term
 weakened_at ts zero = ts
 weakened_at ts (suc u) = []
 
-abbrev pub pair_ids : Source → Source → ℕ → ℕ → ℕ → List ℕ
-pair_ids left right own i j = some_ids left i ++ (some_ids right j ++ (own + 2 * (i + j - 1) + 1) ∷ [])
+abbrev pub ids_given : Source → Source → ℕ → ℕ → ℕ → List ℕ
+ids_given left right own i j = some_ids left i ++ (some_ids right j ++ (own + 2 * (i + j - 1) + 1) ∷ [])
 
 abbrev pub pair_given : Source → List Term → Source → List Term → ℕ → ℕ → ℕ → Justification
 pair_given left lefts right rights own i j =
-    record { clause = []; ids = pair_ids left right own i j; weakened = vars_of (weights (weakened_at lefts i)) ++ vars_of (weights (weakened_at rights j)) }
+    record { clause = []; ids = ids_given left right own i j; weakened = vars_of (weights (weakened_at lefts i)) ++ vars_of (weights (weakened_at rights j)) }
 
 -- of one number of the left
 abbrev pub row_given : ℕ → ℕ → Source → List Term → Source → List Term → ℕ → ℕ → List Justification
@@ -51,14 +46,20 @@ node_given cap a b left lefts right rights own = flat_map (row_given cap b left 
 
 -- ---- over two parts, as the code has them
 
-abbrev pub pair_beside : Side → Side → ℕ → ℕ → ℕ → Justification
-pair_beside left right own i j = pair_given left.source left.terms.now right.source right.terms.now own i j
+abbrev pub pair_ids : NodeIds → ℕ → ℕ → List ℕ
+pair_ids node i j = ids_given node.left.source node.right.source node.own i j
 
-abbrev pub row_beside : ℕ → Side → Side → ℕ → ℕ → List Justification
-row_beside cap left right own i = row_given cap right.count left.source left.terms.now right.source right.terms.now own i
+abbrev pub pair_weakened : NodeIds → ℕ → ℕ → List ℕ
+pair_weakened node i j = vars_of (weights (weakened_at node.left.terms.now i)) ++ vars_of (weights (weakened_at node.right.terms.now j))
 
-abbrev pub node_beside : ℕ → Side → Side → ℕ → List Justification
-node_beside cap left right own = node_given cap left.count right.count left.source left.terms.now right.source right.terms.now own
+abbrev pub pair_beside : NodeIds → ℕ → ℕ → Justification
+pair_beside node i j = pair_given node.left.source node.left.terms.now node.right.source node.right.terms.now node.own i j
+
+abbrev pub row_beside : NodeIds → ℕ → List Justification
+row_beside node i = row_given node.cap node.right.count node.left.source node.left.terms.now node.right.source node.right.terms.now node.own i
+
+abbrev pub node_beside : NodeIds → List Justification
+node_beside node = node_given node.cap node.left.count node.right.count node.left.source node.left.terms.now node.right.source node.right.terms.now node.own
 
 -- of the root, whose sum's own constraint has the id `own`
 abbrev pub root_given : Source → ℕ → ℕ → Justification

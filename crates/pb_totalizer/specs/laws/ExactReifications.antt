@@ -1,5 +1,5 @@
 -- The clauses of a node, in both directions, hold where outputs have their reifications.
-use Rattle.std.proofs.Common.{◌≡◌, ◌≤◌, ◌+◌, ◌⊎◌, ℕ, Bool, true, List, length, sym, ap, ◌∙◌, subst, arith, inl, inr, length-append}
+use Rattle.std.proofs.Common.{◌≡◌, ◌≤◌, ◌+◌, ◌⊎◌, ℕ, Bool, true, List, length, sym, ◌∙◌, subst, arith, inl, inr, length-append}
 use Rattle.std.specs.Prelude.{Contains}
 use Rattle.std.proofs.lemmas.Bool.{cases_lt, cases_Bool, le-leb, leb-true, not_from_false}
 use Rattle.std.proofs.lemmas.List.Elements.{Contains-append_cases}
@@ -8,7 +8,7 @@ use Rattle.pb_base.specs.Literals.{negated, lit_value, clause_value}
 use Rattle.pb_base.proofs.LiteralLemmas.{lit_value-negated}
 use Rattle.pb_tree.specs.Tree.{Tree, node}
 use Rattle.pb_tree.specs.Scheme.{fresh_of, output, own_of, own_count_of}
-use Rattle.pb_tree.proofs.ByReification.{clause_from, lawful_by_reification}
+use Rattle.pb_tree.proofs.ByReification.{clause_from, lawful_by_reification, var_of}
 use Rattle.pb_tree.proofs.Extending.{OutputsMean, IsOutputVar, IsByReification}
 use Rattle.pb_totalizer.specs.Exact.{limit_clause, limits_of, limit_count_of, outputs_of, exact_own}
 use Rattle.pb_totalizer.specs.Totalizer.{totalizer}
@@ -19,9 +19,6 @@ use Rattle.pb_totalizer.specs.laws.TotalizerLaws.{IsCapped, value_from, values_c
 
 abbrev Named : ℕ → Tree → Tree → ℕ → ℕ → Type 0
 Named bound l r first n = IsOutputVar (totalizer bound) l first n ⊎ (IsOutputVar (totalizer bound) r (first + fresh_of (totalizer bound) l) n ⊎ IsOutputVar (totalizer bound) (node l r) first n)
-
-var_of : (k l : Lit) → k ≡ l → k.var ≡ l.var
-var_of k l e = ap (λ (m : Lit). m.var) e
 
 limits_named : (bound : ℕ) (l r : Tree) (first : ℕ) (c : List Lit) (k : Lit)
     → Contains (limits_of bound l r first) c

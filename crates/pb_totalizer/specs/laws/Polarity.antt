@@ -12,9 +12,9 @@ use Rattle.pb_totalizer.specs.Exact.{limit_clauses, limit_count, limit_count_of,
 use Rattle.pb_totalizer.specs.ExactSteps.{own_justifications, least_justification}
 use Rattle.pb_totalizer.specs.Totalizer.{sum_clauses, node_clause_count, totalizer}
 use Rattle.pb_totalizer.specs.TotalizerSteps.{totalizer_pairs}
-use Rattle.pb_totalizer.specs.declared.claims.Side.{Side}
-use Rattle.pb_totalizer.specs.declared.claims.Source.{Source}
-use Rattle.pb_totalizer.specs.declared.outputs.Outputs.{Outputs}
+use Rattle.pb_totalizer.specs.declared.node.Node.{Node}
+use Rattle.pb_totalizer.specs.declared.node_ids.NodeIds.{NodeIds}
+use Rattle.pb_totalizer.specs.declared.node_ids.Source.{Source}
 use Rattle.pb_totalizer.specs.declared.polarity.Polarity.{Polarity}
 use Rattle.pb_totalizer.specs.declared.polarity.Polarity.TheVariants.{Up, Both}
 use Rattle.pb_totalizer.specs.inner.LimitSources.{limits_given}
@@ -43,8 +43,9 @@ clauses_by polarity bound t first = clauses_along (totalizer bound) (own_by pola
 abbrev pub own_clauses : Polarity → ℕ → ℕ → ℕ → ℕ → (ℕ → Lit) → (ℕ → Lit) → (ℕ → Lit) → List (List Lit)
 own_clauses polarity cap count a b f g h = by_ways polarity (sum_clauses cap a b f g h) (limit_clauses count a b f g h)
 
-abbrev pub own_over : Polarity → ℕ → Outputs → Outputs → Outputs → List (List Lit)
-own_over polarity cap left right own = own_clauses polarity cap (output_count own) (output_count left) (output_count right) (output_at left) (output_at right) (output_at own)
+abbrev pub own_over : Polarity → Node → List (List Lit)
+own_over polarity node =
+    own_clauses polarity node.cap (output_count node.own) (output_count node.left) (output_count node.right) (output_at node.left) (output_at node.right) (output_at node.own)
 
 -- ---- how many
 
@@ -74,8 +75,8 @@ justifications_by polarity bound ts id = justifications_along (totalizer bound) 
 abbrev pub own_given : Polarity → ℕ → ℕ → ℕ → ℕ → Source → List Term → Source → List Term → ℕ → List Justification
 own_given polarity cap count a b left lefts right rights own = by_ways polarity (node_given cap a b left lefts right rights own) (limits_given count a b left lefts right rights own)
 
-abbrev pub own_beside : Polarity → ℕ → ℕ → Side → Side → ℕ → List Justification
-own_beside polarity cap count left right own = own_given polarity cap count left.count right.count left.source left.terms.now right.source right.terms.now own
+abbrev pub own_beside : Polarity → NodeIds → List Justification
+own_beside polarity node = own_given polarity node.cap node.count node.left.count node.right.count node.left.source node.left.terms.now node.right.source node.right.terms.now node.own
 
 -- ---- and of the root
 

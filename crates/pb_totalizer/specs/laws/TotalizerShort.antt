@@ -97,8 +97,8 @@ totalizer_sparing bound =
 pub few_terms : (ts : List Term) → length ts < 2 ^ 31 → length (weights ts) < 2 ^ 31
 few_terms ts few = omega (arith, length-map ts weighted, few)
 
-pub size_fits : (clauses size : ℕ) → clauses ≡ size → clauses < 5 * 2 ^ 60 → size < 5 * 2 ^ 60
-size_fits clauses size is small = omega (arith, is, small)
+pub size_fits : {clauses size : ℕ} → clauses ≡ size → clauses < 5 * 2 ^ 60 → size < 5 * 2 ^ 60
+size_fits is small = omega (arith, is, small)
 
 module _ (m : BoundedSum) (units : all_weigh 1 m.terms ≡ true) (proper : IsProper m) (few : length m.terms < 2 ^ 31) (modest : totalizer_size m < 5 * 2 ^ 60) (first id next : ℕ)
     (original : AreOriginal first m.terms) (start : MayStart first (totalizer_fresh m) id next) where

@@ -1,74 +1,66 @@
 use Rattle.std.proofs.Common.{◌++◌, arith}
 use Rattle.pb_family.proofs.FlatPieces.{justifications_then, justifications_stopped, justifications_next}
-use Rattle.pb_gentot.specs.inner.Sources.{ones_given, pairs_given}
+use Rattle.pb_gentot.specs.inner.Sources.{ones_given, pairs_beside}
 use Rattle.pb_gentot.proofs.Handed.{ones_length, node_length}
+use Rattle.pb_gentot.proofs.Over.{has_sums}
 use Rattle.pb_gentot.proofs.claims.derive_node.Goals as goal
 
 pub derive_ones-requires-clause-few : goal.derive_ones-requires-clause-few
 derive_ones-requires-clause-few g c =
-    omega (arith, node_length c.args.cap c.args.left.now c.args.lefts.now c.args.right.now c.args.rights.now c.args.own.now, c.requires.few)
+    omega (arith, node_length c.args.node.now.cap c.args.node.now.left.now c.args.node.now.lefts.now c.args.node.now.right.now c.args.node.now.rights.now c.args.node.now.own.now, c.requires)
 
 pub returns-in_err-derive_ones : goal.returns-in_err-derive_ones
 returns-in_err-derive_ones g c =
-    let xs = ones_given c.args.left.now c.args.rights.now c.args.own.now in
-    let ys = ones_given c.args.right.now c.args.lefts.now c.args.own.now in
-    let zs = pairs_given c.args.cap c.args.left.now c.args.right.now c.args.own.now in
+    let xs = ones_given c.args.node.now.left.now c.args.node.now.rights.now c.args.node.now.own.now in
+    let ys = ones_given c.args.node.now.right.now c.args.node.now.lefts.now c.args.node.now.own.now in
+    let zs = pairs_beside c.args.node.now in
     justifications_stopped c.from_residual.result _ xs (ys ++ zs) (g.T.StepSink.state c.args.sink.now) (g.T.StepSink.state c.derive_ones.new.sink) c.from_residual.ensures.1 c.in_err-derive_ones.ensures
 
 pub derive_ones-requires-2-clause-few : goal.derive_ones-requires-2-clause-few
 derive_ones-requires-2-clause-few g c =
-    let xs = ones_given c.args.left.now c.args.rights.now c.args.own.now in
+    let xs = ones_given c.args.node.now.left.now c.args.node.now.rights.now c.args.node.now.own.now in
     let next = justifications_next xs (g.T.StepSink.state c.args.sink.now) (g.T.StepSink.state c.derive_ones.new.sink) c.in_ok-derive_ones.ensures in
-    omega (arith, next, ones_length c.args.left.now c.args.rights.now c.args.own.now, node_length c.args.cap c.args.left.now c.args.lefts.now c.args.right.now c.args.rights.now c.args.own.now, c.requires.few)
+    omega (arith, next, ones_length c.args.node.now.left.now c.args.node.now.rights.now c.args.node.now.own.now, node_length c.args.node.now.cap c.args.node.now.left.now c.args.node.now.lefts.now c.args.node.now.right.now c.args.node.now.rights.now c.args.node.now.own.now, c.requires)
 
 pub returns-in_err-derive_ones-2 : goal.returns-in_err-derive_ones-2
 returns-in_err-derive_ones-2 g c =
-    let xs = ones_given c.args.left.now c.args.rights.now c.args.own.now in
-    let ys = ones_given c.args.right.now c.args.lefts.now c.args.own.now in
-    let zs = pairs_given c.args.cap c.args.left.now c.args.right.now c.args.own.now in
+    let xs = ones_given c.args.node.now.left.now c.args.node.now.rights.now c.args.node.now.own.now in
+    let ys = ones_given c.args.node.now.right.now c.args.node.now.lefts.now c.args.node.now.own.now in
+    let zs = pairs_beside c.args.node.now in
     let result = c.from_residual-in_err-derive_ones-2.result in
     let mid = g.T.StepSink.state c.derive_ones.new.sink in
     let after = g.T.StepSink.state c.derive_ones-2.new.sink in
     justifications_then result xs (ys ++ zs) (g.T.StepSink.state c.args.sink.now) mid after c.in_ok-derive_ones.ensures
     (justifications_stopped result _ ys zs mid after c.from_residual-in_err-derive_ones-2.ensures.1 c.in_err-derive_ones-2.ensures)
 
-pub derive_pairs-requires-clause-few : goal.derive_pairs-requires-clause-few
-derive_pairs-requires-clause-few g c =
+pub derive_pairs-requires : goal.derive_pairs-requires
+derive_pairs-requires g c =
     let mid = g.T.StepSink.state c.derive_ones.new.sink in
-    let one = justifications_next (ones_given c.args.left.now c.args.rights.now c.args.own.now) (g.T.StepSink.state c.args.sink.now) mid c.in_ok-derive_ones.ensures in
-    let two = justifications_next (ones_given c.args.right.now c.args.lefts.now c.args.own.now) mid (g.T.StepSink.state c.derive_ones-2.new.sink) c.in_ok-derive_ones-2.ensures in
+    let one = justifications_next (ones_given c.args.node.now.left.now c.args.node.now.rights.now c.args.node.now.own.now) (g.T.StepSink.state c.args.sink.now) mid c.in_ok-derive_ones.ensures in
+    let two = justifications_next (ones_given c.args.node.now.right.now c.args.node.now.lefts.now c.args.node.now.own.now) mid (g.T.StepSink.state c.derive_ones-2.new.sink) c.in_ok-derive_ones-2.ensures in
     omega (
       arith,
       one,
       two,
-      ones_length c.args.left.now c.args.rights.now c.args.own.now,
-      ones_length c.args.right.now c.args.lefts.now c.args.own.now,
-      node_length c.args.cap c.args.left.now c.args.lefts.now c.args.right.now c.args.rights.now c.args.own.now,
-      c.requires.few,
+      ones_length c.args.node.now.left.now c.args.node.now.rights.now c.args.node.now.own.now,
+      ones_length c.args.node.now.right.now c.args.node.now.lefts.now c.args.node.now.own.now,
+      node_length c.args.node.now.cap c.args.node.now.left.now c.args.node.now.lefts.now c.args.node.now.right.now c.args.node.now.rights.now c.args.node.now.own.now,
+      c.requires,
     )
 
 pub returns : goal.returns
 returns g c =
-    let xs = ones_given c.args.left.now c.args.rights.now c.args.own.now in
-    let ys = ones_given c.args.right.now c.args.lefts.now c.args.own.now in
-    let zs = pairs_given c.args.cap c.args.left.now c.args.right.now c.args.own.now in
+    let xs = ones_given c.args.node.now.left.now c.args.node.now.rights.now c.args.node.now.own.now in
+    let ys = ones_given c.args.node.now.right.now c.args.node.now.lefts.now c.args.node.now.own.now in
+    let zs = pairs_beside c.args.node.now in
     let result = c.derive_pairs.result in
     let mid = g.T.StepSink.state c.derive_ones.new.sink in
     let two = g.T.StepSink.state c.derive_ones-2.new.sink in
     let new = g.T.StepSink.state c.derive_pairs.new.sink in
     justifications_then result xs (ys ++ zs) (g.T.StepSink.state c.args.sink.now) mid new c.in_ok-derive_ones.ensures (justifications_then result ys zs mid two new c.in_ok-derive_ones-2.ensures c.derive_pairs.ensures)
 
-pub derive_ones-requires-clause-room : goal.derive_ones-requires-clause-room
-derive_ones-requires-clause-room g c = c.requires.left.ids
-
-pub derive_ones-requires-2-clause-room : goal.derive_ones-requires-2-clause-room
-derive_ones-requires-2-clause-room g c = c.requires.right.ids
-
 pub derive_ones-requires-clause-has : goal.derive_ones-requires-clause-has
-derive_ones-requires-clause-has g c = c.requires.has.lefts
+derive_ones-requires-clause-has g c = (has_sums c.args.node.now.cap c.args.node.now.left.now.values.items c.args.node.now.right.now.values.items c.args.node.now.own.now.values.items c.args.node.now.left_within c.args.node.now.right_within c.args.node.now.made).lefts
 
 pub derive_ones-requires-2-clause-has : goal.derive_ones-requires-2-clause-has
-derive_ones-requires-2-clause-has g c = c.requires.has.rights
-
-pub derive_pairs-requires-clause-has : goal.derive_pairs-requires-clause-has
-derive_pairs-requires-clause-has g c = c.requires.has.both
+derive_ones-requires-2-clause-has g c = (has_sums c.args.node.now.cap c.args.node.now.left.now.values.items c.args.node.now.right.now.values.items c.args.node.now.own.now.values.items c.args.node.now.left_within c.args.node.now.right_within c.args.node.now.made).rights

@@ -3,4 +3,4 @@ use Rattle.pb_gentot.proofs.Handed.{has_fewer}
 use Rattle.pb_gentot.proofs.claims.one_ids.Goals as goal
 
 pub push_first-requires : goal.push_first-requires
-push_first-requires c = record { room = has_fewer c.args.part.now.source (length c.args.part.now.values.items) c.args.place (omega arith) c.requires.room }
+push_first-requires c = has_fewer c.args.part.now.source (length c.args.part.now.values.items) c.args.place (omega arith) c.args.part.now.ids

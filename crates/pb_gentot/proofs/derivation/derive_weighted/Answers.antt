@@ -5,47 +5,47 @@ use Rattle.pb_family.proofs.HandedPhases.{stopped_in_reifications, stopped_in_cl
 use Rattle.pb_tree.specs.Tree.{tree_of}
 use Rattle.pb_tree.specs.TreeSteps.{tree_justifications}
 use Rattle.pb_tree.proofs.TreeCounts.{all_counted}
+use Rattle.pb_tree.proofs.TreeHanded.{all_from}
+use Rattle.pb_tree.proofs.TreePhases.{part_reifications, meant_next, derived}
 use Rattle.pb_gentot.specs.Generalized.{generalized}
 use Rattle.pb_gentot.specs.GeneralizedSteps.{generalized_pairs}
 use Rattle.pb_gentot.specs.inner.Sources.{all_justifications}
 use Rattle.pb_gentot.proofs.Bounds.{justifications_are}
-use Rattle.pb_gentot.proofs.DerivedPhases.{part_reifications, meant_next, derived}
-use Rattle.pb_gentot.proofs.Handed.{all_same}
 use Rattle.pb_gentot.proofs.derivation.derive_weighted.Goals as goal
 
 pub returns-in_err-meant : goal.returns-in_err-meant
 returns-in_err-meant g c =
-    let ts = c.args.terms.now in
+    let ts = c.args.tree.now.terms.now in
     let base : ℕ = c.next_id-base.result in
     let old = g.T.StepSink.state c.args.sink.now in
-    stopped_in_reifications c.from_residual.result (part_reifications c.args.bound ts c.args.first) (all_justifications c.args.bound ts base c.args.id) (tree_justifications (generalized c.args.bound) generalized_pairs (tree_of (weights ts)) c.args.first old.next c.args.id) (all_same c.args.bound ts c.args.first c.args.id base old.next c.next_id-base.ensures) old _ (g.T.StepSink.state c.derive_reifications.new.sink) c.from_residual.ensures.1 c.in_err-meant.ensures.hands
+    stopped_in_reifications c.from_residual.result (part_reifications (generalized c.args.tree.now.bound) ts c.args.tree.now.first) (all_justifications c.args.tree.now.bound ts base c.args.id) (tree_justifications (generalized c.args.tree.now.bound) generalized_pairs (tree_of (weights ts)) c.args.tree.now.first old.next c.args.id) (all_from (generalized c.args.tree.now.bound) generalized_pairs (tree_of (weights ts)) c.args.tree.now.first c.args.id base old.next c.next_id-base.ensures) old _ (g.T.StepSink.state c.derive_reifications.new.sink) c.from_residual.ensures.1 c.in_err-meant.ensures.hands
 
 pub derive_clauses-requires-clause-room : goal.derive_clauses-requires-clause-room
 derive_clauses-requires-clause-room g c =
-    let ts = c.args.terms.now in
-    let next = meant_next c.args.bound ts c.args.first (g.T.StepSink.state c.args.sink.now) (g.T.StepSink.state c.derive_reifications.new.sink) c.in_ok-meant.ensures.hands in
-    omega (arith, next, justifications_are c.args.bound ts c.next_id-base.result c.requires.positive, c.requires.modest, c.requires.few, c.requires.fits)
+    let ts = c.args.tree.now.terms.now in
+    let next = meant_next (generalized c.args.tree.now.bound) ts c.args.tree.now.first (g.T.StepSink.state c.args.sink.now) (g.T.StepSink.state c.derive_reifications.new.sink) c.in_ok-meant.ensures.hands in
+    omega (arith, next, justifications_are c.args.tree.now.bound ts c.next_id-base.result c.requires.positive, c.requires.modest, c.requires.few, c.args.tree.now.fits)
 
 pub returns-in_err-derive_clauses : goal.returns-in_err-derive_clauses
 returns-in_err-derive_clauses g c =
-    let ts = c.args.terms.now in
+    let ts = c.args.tree.now.terms.now in
     let base : ℕ = c.next_id-base.result in
     let old = g.T.StepSink.state c.args.sink.now in
-    stopped_in_claims c.from_residual-in_err-derive_clauses.result (part_reifications c.args.bound ts c.args.first) (all_justifications c.args.bound ts base c.args.id) (tree_justifications (generalized c.args.bound) generalized_pairs (tree_of (weights ts)) c.args.first old.next c.args.id) (all_same c.args.bound ts c.args.first c.args.id base old.next c.next_id-base.ensures) old _ (g.T.StepSink.state c.derive_reifications.new.sink) (g.T.StepSink.state c.derive_clauses.new.sink)
+    stopped_in_claims c.from_residual-in_err-derive_clauses.result (part_reifications (generalized c.args.tree.now.bound) ts c.args.tree.now.first) (all_justifications c.args.tree.now.bound ts base c.args.id) (tree_justifications (generalized c.args.tree.now.bound) generalized_pairs (tree_of (weights ts)) c.args.tree.now.first old.next c.args.id) (all_from (generalized c.args.tree.now.bound) generalized_pairs (tree_of (weights ts)) c.args.tree.now.first c.args.id base old.next c.next_id-base.ensures) old _ (g.T.StepSink.state c.derive_reifications.new.sink) (g.T.StepSink.state c.derive_clauses.new.sink)
     c.from_residual-in_err-derive_clauses.ensures.1 c.in_ok-meant.ensures.hands c.in_err-derive_clauses.ensures
 
 pub derive_deletions-requires-clause-few : goal.derive_deletions-requires-clause-few
 derive_deletions-requires-clause-few g c =
-    let ts = c.args.terms.now in
+    let ts = c.args.tree.now.terms.now in
     let base : ℕ = c.next_id-base.result in
-    let next = meant_next c.args.bound ts c.args.first (g.T.StepSink.state c.args.sink.now) (g.T.StepSink.state c.derive_reifications.new.sink) c.in_ok-meant.ensures.hands in
-    let last = justifications_next (all_justifications c.args.bound ts base c.args.id) (g.T.StepSink.state c.derive_reifications.new.sink) (g.T.StepSink.state c.derive_clauses.new.sink) c.in_ok-derive_clauses.ensures in
-    omega (arith, next, last, all_counted (generalized c.args.bound) generalized_pairs (tree_of (weights ts)) 0 base c.args.id, justifications_are c.args.bound ts base c.requires.positive, c.requires.modest, c.requires.few, c.requires.fits)
+    let next = meant_next (generalized c.args.tree.now.bound) ts c.args.tree.now.first (g.T.StepSink.state c.args.sink.now) (g.T.StepSink.state c.derive_reifications.new.sink) c.in_ok-meant.ensures.hands in
+    let last = justifications_next (all_justifications c.args.tree.now.bound ts base c.args.id) (g.T.StepSink.state c.derive_reifications.new.sink) (g.T.StepSink.state c.derive_clauses.new.sink) c.in_ok-derive_clauses.ensures in
+    omega (arith, next, last, all_counted (generalized c.args.tree.now.bound) generalized_pairs (tree_of (weights ts)) 0 base c.args.id, justifications_are c.args.tree.now.bound ts base c.requires.positive, c.requires.modest, c.requires.few, c.args.tree.now.fits)
 
 pub returns : goal.returns
 returns g c =
-    let ts = c.args.terms.now in
+    let ts = c.args.tree.now.terms.now in
     let base : ℕ = c.next_id-base.result in
     let old = g.T.StepSink.state c.args.sink.now in
-    derived c.args.bound ts c.args.first old (g.T.StepSink.state c.derive_reifications.new.sink) c.in_ok-meant.ensures.hands c.derive_deletions.result (all_justifications c.args.bound ts base c.args.id) (tree_justifications (generalized c.args.bound) generalized_pairs (tree_of (weights ts)) c.args.first old.next c.args.id) base c.in_ok-meant.meant.next (g.T.StepSink.state c.derive_clauses.new.sink) (g.T.StepSink.state c.derive_deletions.new.sink)
-    (all_same c.args.bound ts c.args.first c.args.id base old.next c.next_id-base.ensures) c.next_id-base.ensures c.in_ok-meant.ensures.next c.in_ok-derive_clauses.ensures c.derive_deletions.ensures
+    derived (generalized c.args.tree.now.bound) ts c.args.tree.now.first old (g.T.StepSink.state c.derive_reifications.new.sink) c.in_ok-meant.ensures.hands c.derive_deletions.result (all_justifications c.args.tree.now.bound ts base c.args.id) (tree_justifications (generalized c.args.tree.now.bound) generalized_pairs (tree_of (weights ts)) c.args.tree.now.first old.next c.args.id) base c.in_ok-meant.meant.next (g.T.StepSink.state c.derive_clauses.new.sink) (g.T.StepSink.state c.derive_deletions.new.sink)
+    (all_from (generalized c.args.tree.now.bound) generalized_pairs (tree_of (weights ts)) c.args.tree.now.first c.args.id base old.next c.next_id-base.ensures) c.next_id-base.ensures c.in_ok-meant.ensures.next c.in_ok-derive_clauses.ensures c.derive_deletions.ensures

@@ -8,4 +8,4 @@ pub push_first-requires : goal.push_first-requires
 push_first-requires c =
     let us = c.args.root.now.values.items in
     let place = c.place_in-place.ensures ∙ ap (place_of c.args.cap) c.as_slice.ensures.value in
-    record { room = has_fewer c.args.root.now.source (length us) c.place_in-place.result (omega (arith, place, place_within c.args.cap us c.requires.has)) c.requires.room }
+    has_fewer c.args.root.now.source (length us) c.place_in-place.result (omega (arith, place, place_within c.args.cap us c.requires)) c.args.root.now.ids

@@ -7,4 +7,4 @@ use Rattle.pb_gentot.proofs.emission.emit_pairs.Given as goal
 abbrev pub invariant-loop-i : goal.invariant-loop-i
 invariant-loop-i g l =
     let sink = g.S.ClauseSink in
-    Emitting (pairs_over l.cap l.left l.lefts l.right l.rights l.own) (flat_map (row_over l.cap l.left l.lefts l.right l.rights l.own) (drop l.i l.lefts)) (sink.state l.fn.sink) (sink.state l.sink)
+    Emitting (pairs_over l.node) (flat_map (row_over l.node) (drop l.i l.node.lefts.now)) (sink.state l.fn.sink) (sink.state l.sink)

@@ -1,14 +1,14 @@
 use Rattle.std.proofs.Common.{◌≤◌, ℕ, List, length, refl, subst, sym, ap, ◌∙◌, arith}
 use Rattle.std.specs.Prelude.{All}
-use Rattle.pb_gentot.specs.inner.Nodes.{AreRanks}
-use Rattle.pb_gentot.proofs.Over.{made_rising, has_sums, values_made}
+use Rattle.pb_gentot.specs.inner.Ranked.{AreRanks}
+use Rattle.pb_gentot.proofs.Over.{made_rising, values_made}
 use Rattle.pb_gentot.proofs.handing.node_of_parts.Goals as goal
 
 pub values_over-requires-clause-left_small : goal.values_over-requires-clause-left_small
-values_over-requires-clause-left_small c = subst (All (λ v. v ≤ c.args.cap)) (sym c.as_slice-lefts.ensures.value) c.requires.left.small
+values_over-requires-clause-left_small c = subst (All (λ v. v ≤ c.args.cap)) (sym c.as_slice-lefts.ensures.value) c.requires.left
 
 pub values_over-requires-clause-right_small : goal.values_over-requires-clause-right_small
-values_over-requires-clause-right_small c = subst (All (λ v. v ≤ c.args.cap)) (sym c.as_slice-rights.ensures.value) c.requires.right.small
+values_over-requires-clause-right_small c = subst (All (λ v. v ≤ c.args.cap)) (sym c.as_slice-rights.ensures.value) c.requires.right
 
 pub values_over-requires-clause-fits : goal.values_over-requires-clause-fits
 values_over-requires-clause-fits c =
@@ -27,16 +27,11 @@ of-requires-clause-few c =
 pub returns-clause-values : goal.returns-clause-values
 returns-clause-values c = values_made c.args.cap _ _ _ _ _ c.as_slice-lefts.ensures.value c.as_slice-rights.ensures.value c.in_ok-values.ensures
 
-pub returns-clause-owned : goal.returns-clause-owned
-returns-clause-owned c =
+pub invariant_of-result : goal.invariant_of-result
+invariant_of-result c =
     let made = values_made c.args.cap _ _ _ _ _ c.as_slice-lefts.ensures.value c.as_slice-rights.ensures.value c.in_ok-values.ensures in
     record {
       rising = made_rising c.args.cap c.as_slice-lefts.result.now c.as_slice-rights.result.now c.in_ok-values.values.items c.in_ok-values.ensures;
       ranked = subst (λ (us : List ℕ). AreRanks c.in_ok-ranks.ranks us) c.as_slice.ensures.value c.in_ok-ranks.ensures;
       ids = omega (arith, ap length made, c.requires.room);
     }
-
-pub returns-clause-has : goal.returns-clause-has
-returns-clause-has c =
-    let made = values_made c.args.cap _ _ _ _ _ c.as_slice-lefts.ensures.value c.as_slice-rights.ensures.value c.in_ok-values.ensures in
-    has_sums c.args.cap c.args.left.now.values.items c.args.right.now.values.items c.in_ok-values.values.items c.requires.left.small c.requires.right.small made

@@ -2,7 +2,7 @@ use Rattle.std.proofs.Common.{◌≡◌, ◌+◌, ◌*◌, length, ap, ◌∙◌
 use Rattle.pb_norm.specs.Constraints.{weights}
 use Rattle.pb_tree.specs.Tree.{tree_of}
 use Rattle.pb_tree.specs.Scheme.{values}
-use Rattle.pb_tree.proofs.Halves.{leaf_of, fresh_parts, some_term}
+use Rattle.pb_tree.proofs.SplitTerms.{leaf_of, fresh_parts, some_term}
 use Rattle.pb_gentot.specs.Generalized.{generalized}
 use Rattle.pb_gentot.proofs.Bounds.{sizes_of}
 use Rattle.pb_gentot.proofs.Parts.{all_within, numbers_of}

@@ -20,10 +20,10 @@ returns-then-is_empty g c =
     let none : length c.args.terms.now ≡ 0 = eqb-true _ 0 (sym c.is_empty.ensures ∙ c.if-is_empty.true) in
     rw (no_clauses c.args.bound c.args.terms.now c.args.first none) (takes_nothing (g.S.ClauseSink.state c.args.sink.now))
 
-pub emit_part-requires-clause-some : goal.emit_part-requires-clause-some
-emit_part-requires-clause-some g c =
+pub invariant_of-tree : goal.invariant_of-tree
+invariant_of-tree g c =
     let some = false-eqb (length c.args.terms.now) 0 (sym c.if-is_empty.false ∙ c.is_empty.ensures) in
-    omega (arith, some)
+    record { some = omega (arith, some); small = c.requires.small; low = c.requires.low; fits = c.requires.fits }
 
 pub returns-in_err-root : goal.returns-in_err-root
 returns-in_err-root g c =

@@ -3,12 +3,11 @@ use Rattle.std.specs.Prelude.{All}
 use Rattle.pb_family.specs.declared.sink.SinkFault.TheVariants as fault
 use Rattle.pb_family.proofs.Emission.{emitting_from, fails_as, takes_as}
 use Rattle.pb_family.proofs.Stopping.{stops_fault}
-use Rattle.pb_gentot.specs.declared.node.Node.{Node}
 use Rattle.pb_gentot.specs.declared.outputs.Outputs.TheVariants.{Fresh}
-use Rattle.pb_gentot.specs.inner.Nodes.{AreRanks, HasLiterals}
-use Rattle.pb_gentot.specs.inner.Outputs.{output_in}
+use Rattle.pb_gentot.specs.inner.Ranked.{AreRanks}
+use Rattle.pb_gentot.specs.inner.Outputs.{output_in, HasLiterals}
 use Rattle.pb_gentot.specs.inner.Parts.{clauses_over_parts}
-use Rattle.pb_gentot.proofs.Over.{made_rising, made_within, has_sums, values_made, clauses_made}
+use Rattle.pb_gentot.proofs.Over.{made_rising, made_within, values_made, clauses_made}
 use Rattle.pb_gentot.proofs.tree.emit_over.Goals as goal
 
 pub values_over-requires-clause-left_small : goal.values_over-requires-clause-left_small
@@ -31,33 +30,31 @@ of-requires-clause-few g c =
     let made = values_made c.args.cap _ _ _ c.args.left.now.values.items c.args.right.now.values.items c.as_slice-lefts.ensures.value c.as_slice-rights.ensures.value c.in_ok-values.ensures in
     omega (arith, ap length (c.as_slice.ensures.value ∙ made), c.requires.fits)
 
-pub emit_node-requires-clause-left : goal.emit_node-requires-clause-left
-emit_node-requires-clause-left g c = subst (HasLiterals c.args.cap c.args.left.now.outputs) (sym c.as_slice-lefts.ensures.value) c.requires.left
-
-pub emit_node-requires-clause-right : goal.emit_node-requires-clause-right
-emit_node-requires-clause-right g c = subst (HasLiterals c.args.cap c.args.right.now.outputs) (sym c.as_slice-rights.ensures.value) c.requires.right
-
-pub emit_node-requires-clause-ready : goal.emit_node-requires-clause-ready
-emit_node-requires-clause-ready g c =
+pub invariant_of-own : goal.invariant_of-own
+invariant_of-own g c =
     let made = values_made c.args.cap _ _ _ c.args.left.now.values.items c.args.right.now.values.items c.as_slice-lefts.ensures.value c.as_slice-rights.ensures.value c.in_ok-values.ensures in
     record {
       rising = made_rising c.args.cap c.as_slice-lefts.result.now c.as_slice-rights.result.now c.in_ok-values.values.items c.in_ok-values.ensures;
-      room = (c.requires.low, omega (arith, ap length made, c.requires.fits));
+      low = c.requires.low;
+      high = omega (arith, ap length made, c.requires.fits);
       ranked = subst (AreRanks c.in_ok-ranks.ranks) c.as_slice.ensures.value c.in_ok-ranks.ensures;
     }
 
-pub emit_node-requires-clause-has : goal.emit_node-requires-clause-has
-emit_node-requires-clause-has g c =
-    has_sums c.args.cap c.as_slice-lefts.result.now c.as_slice-rights.result.now c.in_ok-values.values.items (subst (All (λ u. u ≤ c.args.cap)) (sym c.as_slice-lefts.ensures.value) c.requires.left.small)
-    (subst (All (λ v. v ≤ c.args.cap)) (sym c.as_slice-rights.ensures.value) c.requires.right.small) c.in_ok-values.ensures
+pub invariant_of-node : goal.invariant_of-node
+invariant_of-node g c =
+    record {
+      left_has = subst (HasLiterals c.args.cap c.args.left.now.outputs) (sym c.as_slice-lefts.ensures.value) c.requires.left;
+      right_has = subst (HasLiterals c.args.cap c.args.right.now.outputs) (sym c.as_slice-rights.ensures.value) c.requires.right;
+      made = c.in_ok-values.ensures;
+      few = c.requires.few;
+    }
 
 pub returns-in_err-emit_node-clause-hands : goal.returns-in_err-emit_node-clause-hands
 returns-in_err-emit_node-clause-hands g c =
     let sink = g.S.ClauseSink in
     let all = clauses_over_parts c.args.cap c.args.left.now c.args.right.now in
     let made = values_made c.args.cap _ _ _ c.args.left.now.values.items c.args.right.now.values.items c.as_slice-lefts.ensures.value c.as_slice-rights.ensures.value c.in_ok-values.ensures in
-    let own : Node = record { values = c.in_ok-values.values; first = c.args.right.now.next; ranks = c.in_ok-ranks.ranks } in
-    let same = clauses_made c.args.cap c.args.left.now c.args.right.now _ _ own c.as_slice-lefts.ensures.value c.as_slice-rights.ensures.value refl made in
+    let same = clauses_made c.args.cap c.args.left.now c.args.right.now _ _ _ c.as_slice-lefts.ensures.value c.as_slice-rights.ensures.value made in
     stops_fault {all = all} c.from_residual-in_err-emit_node.result fault.Failed all _ _ c.from_residual-in_err-emit_node.ensures.1 (emitting_from _ (sym (append-nil all)))
     (fails_as _ all (sink.state c.args.sink.now) (sink.state c.emit_node.new.sink) same c.in_err-emit_node.ensures)
 
@@ -65,8 +62,7 @@ pub returns-clause-hands : goal.returns-clause-hands
 returns-clause-hands g c =
     let sink = g.S.ClauseSink in
     let made = values_made c.args.cap _ _ _ c.args.left.now.values.items c.args.right.now.values.items c.as_slice-lefts.ensures.value c.as_slice-rights.ensures.value c.in_ok-values.ensures in
-    let own : Node = record { values = c.in_ok-values.values; first = c.args.right.now.next; ranks = c.in_ok-ranks.ranks } in
-    let same = clauses_made c.args.cap c.args.left.now c.args.right.now _ _ own c.as_slice-lefts.ensures.value c.as_slice-rights.ensures.value refl made in
+    let same = clauses_made c.args.cap c.args.left.now c.args.right.now _ _ _ c.as_slice-lefts.ensures.value c.as_slice-rights.ensures.value made in
     takes_as _ _ (sink.state c.args.sink.now) (sink.state c.emit_node.new.sink) same c.in_ok-emit_node.ensures
 
 pub returns-clause-values : goal.returns-clause-values

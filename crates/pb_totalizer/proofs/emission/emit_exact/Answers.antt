@@ -13,23 +13,23 @@ use Rattle.pb_totalizer.proofs.emission.emit_exact.Goals as goal
 
 pub returns-in_err-root : goal.returns-in_err-root
 returns-in_err-root g c =
-    let t = tree_of (weights c.args.terms.now) in
-    hands_fault {all = exact_clauses (sum_within c.args.terms.now c.args.bound) c.args.first} c.from_residual.result _ (exact_along c.args.bound t c.args.first) _ _ c.from_residual.ensures.1 (emitting_starts _ _) c.in_err-root.ensures.hands
+    let t = tree_of (weights c.args.tree.now.terms.now) in
+    hands_fault {all = exact_clauses (sum_within c.args.tree.now.terms.now c.args.tree.now.bound) c.args.tree.now.first} c.from_residual.result _ (exact_along c.args.tree.now.bound t c.args.tree.now.first) _ _ c.from_residual.ensures.1 (emitting_starts _ _) c.in_err-root.ensures.hands
 
 pub at-requires-clause-within : goal.at-requires-clause-within
 at-requires-clause-within g c =
-    omega (arith, root_count c.args.bound c.args.terms.now c.requires.more, c.in_ok-root.ensures.count)
+    omega (arith, root_count c.args.tree.now.bound c.args.tree.now.terms.now c.requires.more, c.in_ok-root.ensures.count, c.in_ok-root.root.counted)
 
 pub at-requires-2-clause-within : goal.at-requires-2-clause-within
 at-requires-2-clause-within g c =
-    omega (arith, root_count c.args.bound c.args.terms.now c.requires.more, c.in_ok-root.ensures.count)
+    omega (arith, root_count c.args.tree.now.bound c.args.tree.now.terms.now c.requires.more, c.in_ok-root.ensures.count, c.in_ok-root.root.counted)
 
 pub returns : goal.returns
 returns g c =
-    let t = tree_of (weights c.args.terms.now) in
-    let o = output (totalizer c.args.bound) t c.args.first in
-    let last : List (List Lit) = (o c.args.bound ∷ []) ∷ (negated (o (c.args.bound + 1)) ∷ []) ∷ [] in
-    let one : c.at.result ≡ o c.args.bound = c.at.ensures ∙ ap (λ (f : ℕ → Lit). f c.args.bound) c.in_ok-root.ensures.outputs in
-    let two : c.not.result ≡ negated (o (c.args.bound + 1)) = c.not.ensures ∙ ap negated (c.at-2.ensures ∙ ap (λ (f : ℕ → Lit). f (c.args.bound + 1)) c.in_ok-root.ensures.outputs) in
+    let t = tree_of (weights c.args.tree.now.terms.now) in
+    let o = output (totalizer c.args.tree.now.bound) t c.args.tree.now.first in
+    let last : List (List Lit) = (o c.args.tree.now.bound ∷ []) ∷ (negated (o (c.args.tree.now.bound + 1)) ∷ []) ∷ [] in
+    let one : c.at.result ≡ o c.args.tree.now.bound = c.at.ensures ∙ ap (λ (f : ℕ → Lit). f c.args.tree.now.bound) c.in_ok-root.ensures.outputs in
+    let two : c.not.result ≡ negated (o (c.args.tree.now.bound + 1)) = c.not.ensures ∙ ap negated (c.at-2.ensures ∙ ap (λ (f : ℕ → Lit). f (c.args.tree.now.bound + 1)) c.in_ok-root.ensures.outputs) in
     let handed = hands_same c.derive_pair.result _ last _ _ (λ i. (one i ∷ []) ∷ (two i ∷ []) ∷ []) c.derive_pair.ensures in
-    hands_last {all = exact_clauses (sum_within c.args.terms.now c.args.bound) c.args.first} c.derive_pair.result last _ (emitting_step (exact_along c.args.bound t c.args.first) _ (emitting_starts _ _) c.in_ok-root.ensures.hands) handed
+    hands_last {all = exact_clauses (sum_within c.args.tree.now.terms.now c.args.tree.now.bound) c.args.tree.now.first} c.derive_pair.result last _ (emitting_step (exact_along c.args.tree.now.bound t c.args.tree.now.first) _ (emitting_starts _ _) c.in_ok-root.ensures.hands) handed

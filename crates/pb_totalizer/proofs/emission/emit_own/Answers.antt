@@ -1,15 +1,15 @@
 use Rattle.std.proofs.Common.{[]}
 use Rattle.pb_family.proofs.Emission.{emitting_from, emitting_starts, emitting_step, hands_fault, hands_last}
 use Rattle.pb_totalizer.specs.declared.polarity.Polarity.TheVariants.{Both}
-use Rattle.pb_totalizer.specs.inner.Outputs.{clauses_over, limits_over}
+use Rattle.pb_totalizer.specs.inner.NodeClauses.{clauses_over, limits_over}
 use Rattle.pb_totalizer.specs.laws.Polarity.{by_ways, first_by_ways, own_over}
 use Rattle.pb_totalizer.proofs.emission.emit_own.Goals as goal
 
 pub returns-in_err-emit_node : goal.returns-in_err-emit_node
 returns-in_err-emit_node g c =
-    let sums = clauses_over c.args.cap c.args.left.now c.args.right.now c.args.own.now in
-    let limits = limits_over c.args.left.now c.args.right.now c.args.own.now in
-    hands_fault {all = own_over c.args.polarity c.args.cap c.args.left.now c.args.right.now c.args.own.now} c.from_residual.result _ sums (by_ways c.args.polarity [] limits) _ c.from_residual.ensures.1
+    let sums = clauses_over c.args.node.now in
+    let limits = limits_over c.args.node.now in
+    hands_fault {all = own_over c.args.polarity c.args.node.now} c.from_residual.result _ sums (by_ways c.args.polarity [] limits) _ c.from_residual.ensures.1
     (emitting_from _ (first_by_ways c.args.polarity sums limits)) c.in_err-emit_node.ensures
 
 pub returns-in-Up : goal.returns-in-Up
@@ -17,7 +17,7 @@ returns-in-Up g c = rw c.in-Up.is c.in_ok-emit_node.ensures
 
 pub returns-in-Both : goal.returns-in-Both
 returns-in-Both g c =
-    let sums = clauses_over c.args.cap c.args.left.now c.args.right.now c.args.own.now in
-    let limits = limits_over c.args.left.now c.args.right.now c.args.own.now in
+    let sums = clauses_over c.args.node.now in
+    let limits = limits_over c.args.node.now in
     rw c.in-Both.is
-    (hands_last {all = own_over Both c.args.cap c.args.left.now c.args.right.now c.args.own.now} c.emit_limits.result limits _ (emitting_step sums _ (emitting_starts _ _) c.in_ok-emit_node.ensures) c.emit_limits.ensures)
+    (hands_last {all = own_over Both c.args.node.now} c.emit_limits.result limits _ (emitting_step sums _ (emitting_starts _ _) c.in_ok-emit_node.ensures) c.emit_limits.ensures)

@@ -2,30 +2,30 @@ use Rattle.std.proofs.Common.{◌+◌, arith}
 use Rattle.std.proofs.lemmas.List.{length-map}
 use Rattle.pb_tree.proofs.TreeHanded.{rowing_from, rowing_next, rowing_fault, rowing_ends, rowing_room}
 use Rattle.pb_totalizer.specs.Exact.{limits}
-use Rattle.pb_totalizer.specs.inner.LimitSources.{limit_given, limit_row_given}
+use Rattle.pb_totalizer.specs.inner.LimitSources.{limit_beside, limit_row_beside}
 use Rattle.pb_totalizer.proofs.limit_claims.derive_limits.Goals as goal
 
 pub loop-i-init : goal.loop-i-init
-loop-i-init g c = rowing_from (limit_row_given c.args.count c.args.left.count c.args.right.count c.args.left.source c.args.left.terms.now c.args.right.source c.args.right.terms.now c.args.own) (c.args.left.count + 1) (g.T.StepSink.state c.args.sink.now)
+loop-i-init g c = rowing_from (limit_row_beside c.args.node.now) (c.args.node.now.left.count + 1) (g.T.StepSink.state c.args.sink.now)
 
 pub derive_limit_row-requires-clause-room : goal.derive_limit_row-requires-clause-room
 derive_limit_row-requires-clause-room g c =
-    let row = limit_row_given c.args.count c.args.left.count c.args.right.count c.args.left.source c.args.left.terms.now c.args.right.source c.args.right.terms.now c.args.own in
-    let size = length-map (limits c.args.count c.args.right.count c.loop-i.i) (limit_given c.args.left.count c.args.right.count c.args.left.source c.args.left.terms.now c.args.right.source c.args.right.terms.now c.args.own c.loop-i.i) in
-    let room = rowing_room row (c.args.left.count + 1) c.loop-i.i (g.T.StepSink.state c.args.sink.now) (g.T.StepSink.state c.loop-i.sink) (omega arith) c.loop-i.invariant in
-    omega (arith, room, size, c.requires.room)
+    let row = limit_row_beside c.args.node.now in
+    let size = length-map (limits c.args.node.now.count c.args.node.now.right.count c.loop-i.i) (limit_beside c.args.node.now c.loop-i.i) in
+    let room = rowing_room row (c.args.node.now.left.count + 1) c.loop-i.i (g.T.StepSink.state c.args.sink.now) (g.T.StepSink.state c.loop-i.sink) (omega arith) c.loop-i.invariant in
+    omega (arith, room, size, c.requires)
 
 pub returns-in_err-derive_limit_row : goal.returns-in_err-derive_limit_row
 returns-in_err-derive_limit_row g c =
-    let row = limit_row_given c.args.count c.args.left.count c.args.right.count c.args.left.source c.args.left.terms.now c.args.right.source c.args.right.terms.now c.args.own in
-    rowing_fault row (c.args.left.count + 1) c.loop-i.i (g.T.StepSink.state c.args.sink.now) (g.T.StepSink.state c.loop-i.sink) (omega arith) c.loop-i.invariant c.from_residual.result _ (g.T.StepSink.state c.derive_limit_row.new.sink) c.from_residual.ensures.1 c.in_err-derive_limit_row.ensures
+    let row = limit_row_beside c.args.node.now in
+    rowing_fault row (c.args.node.now.left.count + 1) c.loop-i.i (g.T.StepSink.state c.args.sink.now) (g.T.StepSink.state c.loop-i.sink) (omega arith) c.loop-i.invariant c.from_residual.result _ (g.T.StepSink.state c.derive_limit_row.new.sink) c.from_residual.ensures.1 c.in_err-derive_limit_row.ensures
 
 pub loop-i-preserved : goal.loop-i-preserved
 loop-i-preserved g c =
-    let row = limit_row_given c.args.count c.args.left.count c.args.right.count c.args.left.source c.args.left.terms.now c.args.right.source c.args.right.terms.now c.args.own in
-    rowing_next row (c.args.left.count + 1) c.loop-i.i (g.T.StepSink.state c.args.sink.now) (g.T.StepSink.state c.loop-i.sink) (omega arith) c.loop-i.invariant (g.T.StepSink.state c.derive_limit_row.new.sink) c.in_ok-derive_limit_row.ensures
+    let row = limit_row_beside c.args.node.now in
+    rowing_next row (c.args.node.now.left.count + 1) c.loop-i.i (g.T.StepSink.state c.args.sink.now) (g.T.StepSink.state c.loop-i.sink) (omega arith) c.loop-i.invariant (g.T.StepSink.state c.derive_limit_row.new.sink) c.in_ok-derive_limit_row.ensures
 
 pub returns : goal.returns
 returns g c =
-    let row = limit_row_given c.args.count c.args.left.count c.args.right.count c.args.left.source c.args.left.terms.now c.args.right.source c.args.right.terms.now c.args.own in
-    rowing_ends row (c.args.left.count + 1) c.loop-i.i (g.T.StepSink.state c.args.sink.now) (g.T.StepSink.state c.loop-i.sink) (omega arith) c.loop-i.invariant
+    let row = limit_row_beside c.args.node.now in
+    rowing_ends row (c.args.node.now.left.count + 1) c.loop-i.i (g.T.StepSink.state c.args.sink.now) (g.T.StepSink.state c.loop-i.sink) (omega arith) c.loop-i.invariant

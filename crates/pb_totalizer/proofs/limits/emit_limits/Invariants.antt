@@ -1,11 +1,12 @@
 use Rattle.std.proofs.Common.{◌-◌, ◌+◌, ◌++◌, []}
 use Rattle.std.specs.List.{flat_map, range_with_len}
 use Rattle.pb_family.proofs.Emission.{Emitting}
-use Rattle.pb_totalizer.specs.inner.Outputs.{output_count, limit_row_over, limits_over}
+use Rattle.pb_totalizer.specs.inner.NodeClauses.{limit_row_over, limits_over}
+use Rattle.pb_totalizer.specs.inner.Outputs.{output_count}
 use Rattle.pb_totalizer.proofs.limits.emit_limits.Given as goal
 
 -- the rows of the numbers that are left are left
 abbrev pub invariant-loop-i : goal.invariant-loop-i
 invariant-loop-i g l =
     let sink = g.S.ClauseSink in
-    Emitting (limits_over l.left l.right l.own) (flat_map (limit_row_over l.left l.right l.own) (range_with_len l.i (output_count l.left + 1 - l.i)) ++ []) (sink.state l.fn.sink) (sink.state l.sink)
+    Emitting (limits_over l.node) (flat_map (limit_row_over l.node) (range_with_len l.i (output_count l.node.left + 1 - l.i)) ++ []) (sink.state l.fn.sink) (sink.state l.sink)

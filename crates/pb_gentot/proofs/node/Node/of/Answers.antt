@@ -7,4 +7,4 @@ pub fresh_at-requires-clause-high : goal.fresh_at-requires-clause-high
 fresh_at-requires-clause-high c =
     let own = c.args.self.now in
     let places = c.place.ensures ∙ ap (place_of c.args.value) c.as_slice.ensures.value in
-    omega (arith, c.requires.ready.room.1, place_within c.args.value own.values.items c.requires.has, places)
+    omega (arith, own.high, place_within c.args.value own.values.items c.requires, places)

@@ -4,7 +4,7 @@ use Rattle.std.proofs.lemmas.List.{length-map}
 use Rattle.pb_base.specs.declared.literal.Term.{Term}
 use Rattle.pb_norm.specs.Constraints.{weighted, weights}
 use Rattle.pb_norm.specs.BoundedSums.{sum_within}
-use Rattle.pb_tree.specs.Scheme.{values, clause_count_of}
+use Rattle.pb_tree.specs.Scheme.{values, clause_count_of, fresh_of}
 use Rattle.pb_tree.specs.Tree.{tree_of}
 use Rattle.pb_tree.proofs.TreeDerives.{leaves_positive}
 use Rattle.pb_gentot.specs.Generalized.{generalized}
@@ -15,11 +15,16 @@ use Rattle.pb_gentot.specs.inner.Sources.{AreLeavesPositive}
 use Rattle.pb_gentot.proofs.Bounds.{some_terms}
 use Rattle.pb_gentot.proofs.weighted.WeightedDeriveImpl.derive.Goals as goal
 
-pub derive_weighted-requires-clause-some : goal.derive_weighted-requires-clause-some
-derive_weighted-requires-clause-some g c =
+pub invariant_of-tree : goal.invariant_of-tree
+invariant_of-tree g c =
     let f = c.args.self.now in
     let long = length-map f.terms.items weighted in
-    omega (arith, some_terms f.bound (weights f.terms.items) f.proper.heavy, ap length c.as_slice.ensures.value)
+    record {
+      some = omega (arith, long, some_terms f.bound (weights f.terms.items) f.proper.heavy, ap length c.as_slice.ensures.value);
+      small = f.small;
+      low = c.requires.low;
+      fits = omega (arith, c.requires.fits, ap (λ (ts : List Term). fresh_of (generalized f.bound) (tree_of (weights ts))) c.as_slice.ensures.value);
+    }
 
 pub derive_weighted-requires-clause-positive : goal.derive_weighted-requires-clause-positive
 derive_weighted-requires-clause-positive g c =

@@ -1,17 +1,14 @@
-use Rattle.std.proofs.Common.{ap, length, List, arith}
-use Rattle.std.proofs.lemmas.List.{length-map}
-use Rattle.pb_base.specs.declared.literal.Term.{Term}
-use Rattle.pb_norm.specs.BoundedSums.{sum_within}
-use Rattle.pb_norm.specs.Constraints.{weighted, weight, weights}
-use Rattle.pb_family.proofs.UnitSums.{more_than_bound, unit_weight}
+use Rattle.pb_totalizer.proofs.WholeTrees.{whole_of}
 use Rattle.pb_totalizer.proofs.exact.ExactPair.derive.Goals as goal
 
-pub derive_exact-requires-clause-more : goal.derive_exact-requires-clause-more
-derive_exact-requires-clause-more g c =
+pub invariant_of-tree : goal.invariant_of-tree
+invariant_of-tree g c =
     let f = c.args.self.now in
-    omega (arith, length-map f.terms.items weighted, ap length c.as_slice.ensures.value, more_than_bound (sum_within f.terms.items f.bound) f.units f.proper)
+    let whole = whole_of f.terms.items c.as_slice.result.now f.bound c.args.first f.units f.proper f.few c.as_slice.ensures.value c.requires.fits in
+    record { some = whole.some; small = whole.small; low = c.requires.low; fits = whole.fits }
 
 pub derive_exact-requires-clause-light : goal.derive_exact-requires-clause-light
 derive_exact-requires-clause-light g c =
     let f = c.args.self.now in
-    omega (arith, unit_weight (weights f.terms.items) f.units, length-map f.terms.items weighted, f.few, ap (λ (ts : List Term). weight (weights ts)) c.as_slice.ensures.value)
+    let whole = whole_of f.terms.items c.as_slice.result.now f.bound c.args.first f.units f.proper f.few c.as_slice.ensures.value c.requires.fits in
+    whole.light

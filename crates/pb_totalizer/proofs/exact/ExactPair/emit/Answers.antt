@@ -1,12 +1,14 @@
-use Rattle.std.proofs.Common.{arith}
-use Rattle.std.proofs.lemmas.List.{length-map}
-use Rattle.pb_norm.specs.Constraints.{weighted}
-use Rattle.pb_norm.specs.BoundedSums.{sum_within}
-use Rattle.pb_family.proofs.UnitSums.{more_than_bound}
+use Rattle.pb_totalizer.proofs.WholeTrees.{whole_of}
 use Rattle.pb_totalizer.proofs.exact.ExactPair.emit.Goals as goal
+
+pub invariant_of-tree : goal.invariant_of-tree
+invariant_of-tree g c =
+    let f = c.args.self.now in
+    let whole = whole_of f.terms.items c.as_slice.result.now f.bound c.args.first f.units f.proper f.few c.as_slice.ensures.value c.requires.fits in
+    record { some = whole.some; small = whole.small; low = c.requires.low; fits = whole.fits }
 
 pub emit_exact-requires-clause-more : goal.emit_exact-requires-clause-more
 emit_exact-requires-clause-more g c =
     let f = c.args.self.now in
-    let long = length-map f.terms.items weighted in
-    omega (arith, more_than_bound (sum_within f.terms.items f.bound) f.units f.proper)
+    let whole = whole_of f.terms.items c.as_slice.result.now f.bound c.args.first f.units f.proper f.few c.as_slice.ensures.value c.requires.fits in
+    whole.more

@@ -4,21 +4,15 @@ use Rattle.std.proofs.lemmas.List.{length-take, length-map, take-map, drop-map}
 use Rattle.pb_base.specs.declared.literal.Term.{Term}
 use Rattle.pb_norm.specs.Constraints.{weighted, weights, term_of}
 use Rattle.pb_family.specs.Fresh.{positive_of}
+use Rattle.pb_tree.specs.Halves.{Halves}
 use Rattle.pb_tree.specs.Tree.{leaf, node, tree_of}
 use Rattle.pb_tree.specs.Scheme.{Scheme, fresh_of}
 use Rattle.pb_tree.proofs.Splitting.{split-two, split-one}
 
--- the halves that the code takes
-pub record Halves (ts front back : List Term) : Type 0 where
-  pub tree : tree_of (weights ts) ≡ node (tree_of (weights front)) (tree_of (weights back))
-  pub front_some : 1 ≤ length front
-  pub back_some : 1 ≤ length back
-  pub whole : length front + length back ≡ length ts
-
-pub halves_of : (ts front back : List Term) → 1 ≤ length ts → (length ts ≡ 1 → ⊥) → front ≡ take (length ts / 2) ts → back ≡ drop (length ts / 2) ts → Halves ts front back
-halves_of ts front back some other e f =
+-- the halves that the code takes are these
+pub halves_of : (ts front back : List Term) → 2 ≤ length ts → front ≡ take (length ts / 2) ts → back ≡ drop (length ts / 2) ts → Halves ts front back
+halves_of ts front back two e f =
     let n = length ts / 2 in
-    let two : 2 ≤ length ts = omega arith in
     let fronts = ap length e in
     let backs = ap length f in
     let taken = length-take n ts in

@@ -3,9 +3,9 @@ use Rattle.std.specs.Prelude.{IfOk}
 use Rattle.std.specs.Int.RustNames.{unsigned_abs}
 use Rattle.pb_base.specs.declared.literal.Term.{Term}
 use Rattle.pb_tree.specs.Scheme.{values}
-use Rattle.pb_tree.proofs.Halves.{leaf_of}
+use Rattle.pb_tree.proofs.SplitTerms.{leaf_of}
 use Rattle.pb_gentot.specs.Generalized.{generalized}
-use Rattle.pb_gentot.proofs.halving.leaf_values.Goals as goal
+use Rattle.pb_gentot.proofs.leaf.leaf_values.Goals as goal
 
 pub returns : goal.returns
 returns c =
