@@ -49,13 +49,20 @@ module _ {R : Type 0} {all : List Step} {old now : StepState R} (first bound id 
       ∙ claims-append now.next (row_claims id here) (row_claims id others)
       ∙ ap (λ (n : ℕ). by_last id now.next here ++ by_last id (now.next + n) others) (length-map here (by_rup (id ∷ [])))) left
 
-  pub rows_taken : (after : StepState R) → TakesSteps (by_last id now.next here) now after → Deriving all (by_last id after.next others) old after
-  rows_taken after h =
-      let count : now.next + length here ≡ after.next = omega (arith, h.ids, claims_ids now.next (id ∷ []) here) in
-      deriving_as (ap (λ (n : ℕ). by_last id n others) count) (deriving_step {left = by_last id (now.next + length here) others} (by_last id now.next here) after more h)
+  -- by what code has found the row to be
+  module _ (found : List (List Lit)) (is : found ≡ here) where
+    given : (after : StepState R) → TakesSteps (by_last id now.next found) now after → TakesSteps (by_last id now.next here) now after
+    given after h = subst (λ (cs : List (List Lit)). TakesSteps (by_last id now.next cs) now after) is h
 
-  pub rows_stopped : {T : Type 0} (r : Result T SinkFault) (f : SinkFault) (after : StepState R) → IsErrAnd r (λ g. g ≡ f) → StopsInSteps (by_last id now.next here) now after f → HandsSteps all r old after
-  rows_stopped r f after is h = steps_fault r f (by_last id now.next here) (by_last id (now.next + length here) others) after is more h
+    pub rows_taken : (after : StepState R) → TakesSteps (by_last id now.next found) now after → Deriving all (by_last id after.next others) old after
+    rows_taken after h =
+        let taken = given after h in
+        let count : now.next + length here ≡ after.next = omega (arith, taken.ids, claims_ids now.next (id ∷ []) here) in
+        deriving_as (ap (λ (n : ℕ). by_last id n others) count) (deriving_step {left = by_last id (now.next + length here) others} (by_last id now.next here) after more taken)
 
-  pub rows_counted : (after : StepState R) → TakesSteps (by_last id now.next here) now after → after.next ≤ now.next + 1
-  rows_counted after h = omega (arith, h.ids, claims_ids now.next (id ∷ []) here, length-map (row_at bound e above) (row_clause first), row_at_few bound e above)
+    pub rows_stopped : {T : Type 0} (r : Result T SinkFault) (f : SinkFault) (after : StepState R) → IsErrAnd r (λ g. g ≡ f) → StopsInSteps (by_last id now.next found) now after f → HandsSteps all r old after
+    rows_stopped r f after done h =
+        steps_fault r f (by_last id now.next here) (by_last id (now.next + length here) others) after done more (subst (λ (cs : List (List Lit)). StopsInSteps (by_last id now.next cs) now after f) is h)
+
+    pub rows_counted : (after : StepState R) → TakesSteps (by_last id now.next found) now after → after.next ≤ now.next + 1
+    rows_counted after h = omega (arith, (given after h).ids, claims_ids now.next (id ∷ []) here, length-map (row_at bound e above) (row_clause first), row_at_few bound e above)

@@ -2,13 +2,14 @@
 ghost use Rattle.std.specs.Prelude.{◌≡◌, ◌≤◌, ◌<◌, ◌+◌, ◌*◌, ◌^◌, ◌∷◌, [], All, map, length};
 ghost use Rattle.pb_derive.specs.Rups.{by_rup};
 ghost use Rattle.pb_adder.specs.AdderSteps.{gate_claims, gate_ids, row_claims};
-ghost use Rattle.pb_adder.specs.Comparator.{comparator, end_needs, row_at, row_clause};
-ghost use Rattle.pb_adder.specs.Gates.{full_clauses, gate_clauses, gate_needs, half_clauses};
+ghost use Rattle.pb_adder.specs.Comparator.{comparator, end_needs};
+ghost use Rattle.pb_adder.specs.Gates.{gate_clauses, gate_needs};
+ghost use Rattle.pb_adder.specs.inner.Rows.{rows_in};
 ghost use Rattle.pb_family.specs.inner.HandedJustifications.{HandsClaims};
 
 use crate::comparator::row_at;
-use crate::emit::{full_carries, full_sums, half_threes, half_twos};
-use crate::gate::{Bits, Gate, GateLits, Wire};
+use crate::gate::{FullAdder, Gate, GateLits, HalfAdder, Wire};
+use crate::row::Row;
 use pb_base::Lit;
 use pb_family::{SinkFault, StepSink, derive_propagated};
 use std::alloc::Global;
@@ -29,39 +30,36 @@ fn derive_each<const N: usize, T: StepSink>(
     Ok(())
 }
 
-/// Hands over that `s` is the sum of three bits and `d` their carry.
-fn claim_full<T: StepSink>(
-    alloc: Global,
-    ids: &[u64],
-    a: &Lit,
-    b: &Lit,
-    c: &Lit,
-    s: &Lit,
-    d: &Lit,
-    sink: &mut T,
-) -> Result<(), SinkFault>
-    requires few { (T.state sink.old).next + 14 < 2 ^ 62 }
-    ensures { HandsClaims (map (by_rup ids.now) (full_clauses a.now b.now c.now s.now d.now)) result (T.state sink.old) (T.state sink.new) }
-{
-    derive_each(alloc, ids, &full_sums(a, b, c, s), sink)?;
-    derive_each(alloc, ids, &full_carries(a, b, c, d), sink)
+impl FullAdder {
+    ghost use Rattle.std.specs.Prelude.{◌<◌, ◌+◌, ◌^◌, map};
+    ghost use Rattle.pb_derive.specs.Rups.{by_rup};
+    ghost use Rattle.pb_family.specs.inner.HandedJustifications.{HandsClaims};
+    ghost use Rattle.pb_adder.specs.Gates.{full_clauses};
+
+    /// Hands over that its clauses follow from constraints, and the clauses.
+    fn claim<T: StepSink>(&self, alloc: Global, ids: &[u64], sink: &mut T) -> Result<(), SinkFault>
+        requires few { (T.state sink.old).next + 14 < 2 ^ 62 }
+        ensures { HandsClaims (map (by_rup ids.now) (full_clauses self.now.a self.now.b self.now.c self.now.sum self.now.carry)) result (T.state sink.old) (T.state sink.new) }
+    {
+        derive_each(alloc, ids, &self.sums(), sink)?;
+        derive_each(alloc, ids, &self.carries(), sink)
+    }
 }
 
-/// Hands over that `s` is the sum of two bits and `d` their carry.
-fn claim_half<T: StepSink>(
-    alloc: Global,
-    ids: &[u64],
-    a: &Lit,
-    b: &Lit,
-    s: &Lit,
-    d: &Lit,
-    sink: &mut T,
-) -> Result<(), SinkFault>
-    requires few { (T.state sink.old).next + 7 < 2 ^ 62 }
-    ensures { HandsClaims (map (by_rup ids.now) (half_clauses a.now b.now s.now d.now)) result (T.state sink.old) (T.state sink.new) }
-{
-    derive_each(alloc, ids, &half_threes(a, b, s, d), sink)?;
-    derive_each(alloc, ids, &half_twos(a, b, d), sink)
+impl HalfAdder {
+    ghost use Rattle.std.specs.Prelude.{◌<◌, ◌+◌, ◌^◌, map};
+    ghost use Rattle.pb_derive.specs.Rups.{by_rup};
+    ghost use Rattle.pb_family.specs.inner.HandedJustifications.{HandsClaims};
+    ghost use Rattle.pb_adder.specs.Gates.{half_clauses};
+
+    /// Hands over that its clauses follow from constraints, and the clauses.
+    fn claim<T: StepSink>(&self, alloc: Global, ids: &[u64], sink: &mut T) -> Result<(), SinkFault>
+        requires few { (T.state sink.old).next + 7 < 2 ^ 62 }
+        ensures { HandsClaims (map (by_rup ids.now) (half_clauses self.now.a self.now.b self.now.sum self.now.carry)) result (T.state sink.old) (T.state sink.new) }
+    {
+        derive_each(alloc, ids, &self.threes(), sink)?;
+        derive_each(alloc, ids, &self.twos(), sink)
+    }
 }
 
 /// Hands over the clauses of an adder, whose constraints have four ids, from `id` on.
@@ -79,10 +77,9 @@ fn derive_gate<T: StepSink>(
     ensures { HandsClaims (map (by_rup (gate_ids id)) (gate_clauses first gate.now)) result (T.state sink.old) (T.state sink.new) }
 {
     let ids = [id, id + 1, id + 2, id + 3];
-    let GateLits { bits, sum, carry } = gate.lits(first);
-    match bits {
-        Bits::Three(a, b, c) => claim_full(alloc, &ids, &a, &b, &c, &sum, &carry, sink),
-        Bits::Two(a, b) => claim_half(alloc, &ids, &a, &b, &sum, &carry, sink),
+    match gate.lits(first) {
+        GateLits::Three(full) => full.claim(alloc, &ids, sink),
+        GateLits::Two(half) => half.claim(alloc, &ids, sink),
     }
 }
 
@@ -108,24 +105,17 @@ pub fn derive_gates<T: StepSink>(
     Ok(())
 }
 
-/// Hands over the clause of a level, if it has one.
+/// Hands over a clause that follows from the constraint with an id, if there is one.
 fn derive_row<T: StepSink>(
     alloc: Global,
-    bound: u128,
-    end: &Option<Wire>,
-    above: &[Option<Wire>],
-    first: u32,
+    row: Option<Row>,
     id: u64,
     sink: &mut T,
 ) -> Result<(), SinkFault>
-    requires low { 1 ≤ first }
-    requires few { length above.now < 128 }
-    requires end_fits { first + end_needs end.now ≤ 2 ^ 31 }
-    requires fits { All (λ e. first + end_needs e ≤ 2 ^ 31) above.now }
     requires room { (T.state sink.old).next + 1 < 2 ^ 62 }
-    ensures { HandsClaims (row_claims id (map (row_clause first) (row_at bound end.now above.now))) result (T.state sink.old) (T.state sink.new) }
+    ensures { HandsClaims (row_claims id (rows_in row)) result (T.state sink.old) (T.state sink.new) }
 {
-    match row_at(bound, end, above, first) {
+    match row {
         Some(row) => derive_propagated(alloc, &[id], row.as_slice(), sink),
         None => Ok(()),
     }
@@ -149,7 +139,7 @@ pub fn derive_rows<T: StepSink>(
     let mut bound = bound;
     let mut rest = ends;
     while let Some((end, above)) = rest.split_first() {
-        derive_row(alloc, bound, end, above, first, id, sink)?;
+        derive_row(alloc, row_at(bound, end, above, first), id, sink)?;
         bound /= 2;
         rest = above;
     }

@@ -1,12 +1,12 @@
 //! What the fresh variables of adders mean.
-ghost use Rattle.std.specs.Prelude.{◌≡◌, ◌≤◌, ◌<◌, ◌+◌, ◌*◌, ◌^◌, ◌∷◌, [], All, length};
+ghost use Rattle.std.specs.Prelude.{◌≡◌, ◌≤◌, ◌<◌, ◌+◌, ◌*◌, ◌^◌, All, length};
 ghost use Rattle.std.specs.List.{flat_map};
 ghost use Rattle.pb_norm.specs.Constraints.{weighted};
 ghost use Rattle.pb_family.specs.inner.HandedJustifications.{HandsReifications};
-ghost use Rattle.pb_adder.specs.GateReifications.{adder_reifications, gate_reifications, twice_off};
+ghost use Rattle.pb_adder.specs.GateReifications.{gate_reifications, twice_off};
 ghost use Rattle.pb_adder.specs.Gates.{gate_needs};
 
-use crate::gate::{Bits, Gate, GateLits};
+use crate::gate::{FullAdder, Gate, GateLits, HalfAdder};
 use pb_base::{Lit, Term, Var};
 use pb_family::{SinkFault, StepSink, derive_reification};
 use std::alloc::Global;
@@ -22,54 +22,84 @@ fn twice_off(carry: Var) -> Term
     Term { coef: 2, lit }
 }
 
-/// Hands over what the carry and the sum of three bits mean.
-fn derive_full<T: StepSink>(
-    alloc: Global,
-    a: &Lit,
-    b: &Lit,
-    c: &Lit,
-    sum: Var,
-    carry: Var,
-    sink: &mut T,
-) -> Result<(), SinkFault>
-    requires few { (T.state sink.old).next + 3 < 2 ^ 62 }
-    ensures { HandsReifications (adder_reifications (a.now ∷ b.now ∷ c.now ∷ []) sum carry) result (T.state sink.old) (T.state sink.new) }
-{
-    let bits = [
-        Term { coef: 1, lit: *a },
-        Term { coef: 1, lit: *b },
-        Term { coef: 1, lit: *c },
-    ];
-    let all = [
-        Term { coef: 1, lit: *a },
-        Term { coef: 1, lit: *b },
-        Term { coef: 1, lit: *c },
-        twice_off(carry),
-    ];
-    derive_reification(alloc, carry, &bits, 2, sink)?;
-    derive_reification(alloc, sum, &all, 3, sink)
+impl FullAdder {
+    ghost use Rattle.std.specs.Prelude.{◌<◌, ◌+◌, ◌^◌, ◌∷◌, []};
+    ghost use Rattle.pb_family.specs.inner.HandedJustifications.{HandsReifications};
+    ghost use Rattle.pb_adder.specs.GateReifications.{adder_reifications};
+
+    /// Hands over what its carry and its sum mean.
+    fn define<T: StepSink>(&self, alloc: Global, sink: &mut T) -> Result<(), SinkFault>
+        requires few { (T.state sink.old).next + 3 < 2 ^ 62 }
+        ensures { HandsReifications (adder_reifications (self.now.a ∷ self.now.b ∷ self.now.c ∷ []) self.now.sum.var self.now.carry.var) result (T.state sink.old) (T.state sink.new) }
+    {
+        let bits = [
+            Term {
+                coef: 1,
+                lit: self.a,
+            },
+            Term {
+                coef: 1,
+                lit: self.b,
+            },
+            Term {
+                coef: 1,
+                lit: self.c,
+            },
+        ];
+        let all = [
+            Term {
+                coef: 1,
+                lit: self.a,
+            },
+            Term {
+                coef: 1,
+                lit: self.b,
+            },
+            Term {
+                coef: 1,
+                lit: self.c,
+            },
+            twice_off(self.carry.var),
+        ];
+        derive_reification(alloc, self.carry.var, &bits, 2, sink)?;
+        derive_reification(alloc, self.sum.var, &all, 3, sink)
+    }
 }
 
-/// Hands over what the carry and the sum of two bits mean.
-fn derive_half<T: StepSink>(
-    alloc: Global,
-    a: &Lit,
-    b: &Lit,
-    sum: Var,
-    carry: Var,
-    sink: &mut T,
-) -> Result<(), SinkFault>
-    requires few { (T.state sink.old).next + 3 < 2 ^ 62 }
-    ensures { HandsReifications (adder_reifications (a.now ∷ b.now ∷ []) sum carry) result (T.state sink.old) (T.state sink.new) }
-{
-    let bits = [Term { coef: 1, lit: *a }, Term { coef: 1, lit: *b }];
-    let all = [
-        Term { coef: 1, lit: *a },
-        Term { coef: 1, lit: *b },
-        twice_off(carry),
-    ];
-    derive_reification(alloc, carry, &bits, 2, sink)?;
-    derive_reification(alloc, sum, &all, 3, sink)
+impl HalfAdder {
+    ghost use Rattle.std.specs.Prelude.{◌<◌, ◌+◌, ◌^◌, ◌∷◌, []};
+    ghost use Rattle.pb_family.specs.inner.HandedJustifications.{HandsReifications};
+    ghost use Rattle.pb_adder.specs.GateReifications.{adder_reifications};
+
+    /// Hands over what its carry and its sum mean.
+    fn define<T: StepSink>(&self, alloc: Global, sink: &mut T) -> Result<(), SinkFault>
+        requires few { (T.state sink.old).next + 3 < 2 ^ 62 }
+        ensures { HandsReifications (adder_reifications (self.now.a ∷ self.now.b ∷ []) self.now.sum.var self.now.carry.var) result (T.state sink.old) (T.state sink.new) }
+    {
+        let bits = [
+            Term {
+                coef: 1,
+                lit: self.a,
+            },
+            Term {
+                coef: 1,
+                lit: self.b,
+            },
+        ];
+        let all = [
+            Term {
+                coef: 1,
+                lit: self.a,
+            },
+            Term {
+                coef: 1,
+                lit: self.b,
+            },
+            twice_off(self.carry.var),
+        ];
+        derive_reification(alloc, self.carry.var, &bits, 2, sink)?;
+        derive_reification(alloc, self.sum.var, &all, 3, sink)
+    }
 }
 
 /// Hands over what the two fresh variables of an adder mean.
@@ -84,10 +114,9 @@ fn derive_gate_reifications<T: StepSink>(
     requires few { (T.state sink.old).next + 3 < 2 ^ 62 }
     ensures { HandsReifications (gate_reifications first gate.now) result (T.state sink.old) (T.state sink.new) }
 {
-    let GateLits { bits, sum, carry } = gate.lits(first);
-    match bits {
-        Bits::Three(a, b, c) => derive_full(alloc, &a, &b, &c, sum.var, carry.var, sink),
-        Bits::Two(a, b) => derive_half(alloc, &a, &b, sum.var, carry.var, sink),
+    match gate.lits(first) {
+        GateLits::Three(full) => full.define(alloc, sink),
+        GateLits::Two(half) => half.define(alloc, sink),
     }
 }
 

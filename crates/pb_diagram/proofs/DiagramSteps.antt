@@ -1,5 +1,5 @@
 -- The steps of loops over the levels of a diagram.
-use Rattle.std.proofs.Common.{◌≡◌, ◌<◌, ◌≤◌, ◌+◌, ◌-◌, ◌++◌, ℕ, List, [], ◌∷◌, length, get_or, drop, refl, sym, ap, ◌∙◌, subst, arith, append_assoc, inl, inr, zero, suc}
+use Rattle.std.proofs.Common.{◌≡◌, ◌<◌, ◌≤◌, ◌+◌, ◌++◌, ℕ, List, [], ◌∷◌, length, get_or, drop, refl, sym, ap, ◌∙◌, subst, arith, append_assoc, inl, inr, zero, suc}
 use Rattle.std.specs.Prelude.{All, Result, IsErrAnd}
 use Rattle.std.specs.List.{count_by}
 use Rattle.std.proofs.Common.{ltb}
@@ -22,9 +22,10 @@ use Rattle.pb_diagram.specs.declared.interval.Interval.{Interval}
 use Rattle.pb_diagram.specs.Clauses.{head_level, level_clauses, node_clauses, node_count, inner_count}
 use Rattle.pb_diagram.specs.laws.LevelFacts.{levels_linked, levels_root, level_apart, node_of}
 use Rattle.pb_diagram.specs.laws.LinkedNodes.{head_le}
-use Rattle.pb_diagram.specs.inner.Links.{StandApart, Linked, AreLinked}
+use Rattle.pb_diagram.specs.inner.Links.{AreInOrder, AreLinked, HasChildren, Linked, StandApart}
 use Rattle.pb_diagram.specs.Levels.{coefs_of, levels_of}
 use Rattle.pb_diagram.specs.laws.Search.{nodes_at, before_at}
+use Rattle.pb_diagram.proofs.Places.{in_order}
 use Rattle.pb_diagram.proofs.SearchSteps.{levels_from_length, levels_from_at}
 
 pub linked_drop : (ts : List Weighted) (ls : List (List Interval)) (i : ℕ) → AreLinked ts ls → AreLinked (drop i ts) (drop i ls)
@@ -110,14 +111,18 @@ pub record Read (ts : List Weighted) (ls : List (List Interval)) (i : ℕ) (t : 
   pub nodes_is : nodes ≡ nodes_at ls i
   pub next_is : next ≡ nodes_at ls (i + 1)
 
-pub read_linked : (ts : List Weighted) (ls : List (List Interval)) (i : ℕ) (t : Weighted) (whole : ℕ) (nodes next : List Interval) → Read ts ls i t whole nodes next → All (Linked t.coef whole next) nodes
-read_linked ts ls i t whole nodes next read =
-    subst (λ (l : List Interval). All (Linked t.coef whole next) l) (sym read.nodes_is)
-    (subst (λ (l : List Interval). All (Linked t.coef whole l) (nodes_at ls i)) (sym read.next_is)
-    (subst (λ (n : ℕ). All (Linked t.coef n (nodes_at ls (i + 1))) (nodes_at ls i)) (sym read.whole_is) read.at.linked))
+module _ (ts : List Weighted) (ls : List (List Interval)) (i : ℕ) (t : Weighted) (whole : ℕ) (nodes next : List Interval) (read : Read ts ls i t whole nodes next) where
+  linked : All (Linked t.coef whole next) nodes
+  linked =
+      subst (λ (l : List Interval). All (Linked t.coef whole next) l) (sym read.nodes_is)
+      (subst (λ (l : List Interval). All (Linked t.coef whole l) (nodes_at ls i)) (sym read.next_is)
+      (subst (λ (n : ℕ). All (Linked t.coef n (nodes_at ls (i + 1))) (nodes_at ls i)) (sym read.whole_is) read.at.linked))
 
-pub read_stands : (ts : List Weighted) (ls : List (List Interval)) (i : ℕ) (t : Weighted) (whole : ℕ) (nodes next : List Interval) → Read ts ls i t whole nodes next → StandApart next
-read_stands ts ls i t whole nodes next read = subst StandApart (sym read.next_is) read.at.stands
+  pub read_children : All (HasChildren t.coef whole next) nodes
+  read_children k d within = let here = linked k d within in ((λ inner. (here.off inner).within), (λ room. (here.on room).within))
+
+  pub read_order : AreInOrder next
+  read_order = in_order next (subst StandApart (sym read.next_is) read.at.stands)
 
 -- the clauses of the level, and those after it
 pub read_left : (ts : List Weighted) (ls : List (List Interval)) (i : ℕ) (t : Weighted) (whole : ℕ) (nodes next : List Interval) → Read ts ls i t whole nodes next → (start : ℕ) (last : List (List Lit))
@@ -157,19 +162,18 @@ none_left (t ∷ ts) [] (suc i) first past = nothing (drop i ts) first
 none_left (t ∷ ts) (l ∷ ls) (suc i) first past = none_left ts ls i first (omega arith)
 
 -- what code reads of some terms and the levels of their diagram
-pub read_of : (terms : List Term) (bound : ℕ) (ls : List (List Interval)) (i : ℕ) (t : Term) (coef left : ℕ) (nodes next : List Interval)
-    → ls ≡ levels_of (sum_within terms bound) → i < length terms → t ≡ get_or terms i t → coef ≡ unsigned_abs t.coef → left ≡ weight (drop i (weights terms))
+pub read_at : (terms : List Term) (bound : ℕ) (ls : List (List Interval)) (i : ℕ) (t : Term) (whole : ℕ) (nodes next : List Interval)
+    → ls ≡ levels_of (sum_within terms bound) → i < length terms → t ≡ get_or terms i t → whole ≡ weight (drop (i + 1) (weights terms))
     → nodes ≡ nodes_at ls i → next ≡ nodes_at ls (i + 1)
-    → Read (weights terms) ls i (weighted t) (left - coef) nodes next
-read_of terms bound ls i t coef left nodes next same within is coef_is left_is nodes_is next_is =
+    → Read (weights terms) ls i (weighted t) whole nodes next
+read_at terms bound ls i t whole nodes next same within is whole_is nodes_is next_is =
     let c = sum_within terms bound in
     let ts = weights terms in
     let count = length-map terms weighted in
     let there : get_or ts i (weighted t) ≡ weighted t = get_or-map weighted terms i t (weighted t) within ∙ ap weighted (sym is) in
     let at : AtLevel ts ls i (weighted t) =
     subst (λ (u : Weighted). AtLevel ts ls i u) there (subst (λ (l : List (List Interval)). AtLevel ts l i (get_or ts i (weighted t))) (sym same) (at_level_of c i (weighted t) (omega arith))) in
-    let sums = at.sums in
-    record { at = at; whole_is = omega arith; nodes_is = nodes_is; next_is = next_is }
+    record { at = at; whole_is = whole_is; nodes_is = nodes_is; next_is = next_is }
 
 -- there is a root
 pub some_node : (c : BoundedSum) → c.bound < weight c.terms → 0 < node_count (levels_of c)
@@ -177,9 +181,10 @@ some_node c above =
     let root = levels_root c.bound c.terms above in
     omega (arith, ap length root.is, head_le (levels_of c))
 
--- the coefficient of the next term is within what is left
-pub coef_within : (terms : List Term) (i : ℕ) (t : Term) (coef left : ℕ) → i < length terms → t ≡ get_or terms i t → coef ≡ unsigned_abs t.coef → left ≡ weight (drop i (weights terms)) → coef ≤ left
-coef_within terms i t coef left within is coef_is left_is =
+-- what is left of a weight after the next term
+pub weight_after : (terms : List Term) (i : ℕ) (t : Term) (coef left : ℕ) → i < length terms → t ≡ get_or terms i t → coef ≡ unsigned_abs t.coef → left ≡ weight (drop i (weights terms))
+    → left ≡ coef + weight (drop (i + 1) (weights terms))
+weight_after terms i t coef left within is coef_is left_is =
     let ts = weights terms in
     let count = length-map terms weighted in
     let there : get_or ts i (weighted t) ≡ weighted t = get_or-map weighted terms i t (weighted t) within ∙ ap weighted (sym is) in

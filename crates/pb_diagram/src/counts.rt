@@ -2,14 +2,12 @@
 ghost use Rattle.std.specs.Prelude.{◌≡◌, ◌<◌, ◌^◌};
 ghost use Rattle.std.specs.List.{count_by};
 ghost use Rattle.std.specs.Prelude.{nat_lt};
-ghost use Rattle.pb_norm.specs.Constraints.{weight, weights};
 ghost use Rattle.pb_norm.specs.BoundedSums.{sum_within};
-ghost use Rattle.pb_diagram.specs.Clauses.{node_count, diagram_fresh, diagram_size};
-ghost use Rattle.pb_diagram.specs.Levels.{levels_of};
+ghost use Rattle.pb_diagram.specs.Clauses.{node_count, diagram_size};
 
 use crate::interval::Interval;
-use crate::level::{Level, nodes_after};
-use pb_base::Term;
+use crate::level::Level;
+use crate::shape::Shape;
 use pb_norm::weight_of;
 
 /// How many nodes there are.
@@ -32,17 +30,15 @@ fn count_below(nodes: &[Interval], whole: u128) -> u64
 }
 
 /// How many clauses there are.
-pub fn count_clauses(terms: &[Term], bound: u128, levels: &[Level]) -> u64
-    requires light { weight (weights terms.now) < 2 ^ 100 }
-    requires nodes { levels.now ≡ levels_of (sum_within terms.now bound) }
-    requires small { diagram_fresh (sum_within terms.now bound) < 2 ^ 31 }
-    ensures { result ≡ diagram_size (sum_within terms.now bound) }
+pub fn count_clauses(shape: Shape) -> u64
+    ensures { result ≡ diagram_size (sum_within shape.entry.terms.now shape.entry.bound) }
 {
-    let mut whole = weight_of(terms);
-    let mut count = count_nodes(levels) + 1;
-    for i in 0..terms.len() {
-        whole -= terms[i].weight();
-        count += count_below(nodes_after(levels, i), whole);
+    let mut whole = weight_of(shape.terms);
+    let mut count = shape.fresh + 1;
+    for i in 0..shape.terms.len() {
+        let layer = shape.layer(i, whole);
+        whole = layer.whole;
+        count += count_below(layer.nodes, whole);
     }
     count
 }

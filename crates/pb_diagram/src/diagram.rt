@@ -6,11 +6,12 @@ ghost use Rattle.pb_diagram.specs.Clauses.{diagram_clauses, diagram_fresh, diagr
 ghost use Rattle.pb_diagram.specs.Levels.{levels_of};
 
 use crate::counts::{count_clauses, count_nodes};
-use crate::derivation::derive_whole;
+use crate::derivation::{Derivation, negated_terms};
 use crate::emission::emit_whole;
 use crate::known::Known;
 use crate::level::Level;
 use crate::search::known_levels;
+use crate::shape::Shape;
 use pb_base::{NoMemory, Term};
 use pb_family::{Built, ClauseSink, Derive, Family, SinkFault, StepSink, Strong};
 use pb_norm::AtMost;
@@ -70,7 +71,12 @@ impl Diagram {
         let mut terms = Vec::new(alloc);
         terms.extend_from_slice(of.terms())?;
         let fresh = count_nodes(levels.as_slice());
-        let clauses = count_clauses(terms.as_slice(), bound, levels.as_slice());
+        let clauses = count_clauses(Shape {
+            terms: terms.as_slice(),
+            bound,
+            levels: levels.as_slice(),
+            fresh,
+        });
         Ok(Built::Fits(Diagram {
             terms,
             bound,
@@ -78,6 +84,20 @@ impl Diagram {
             fresh,
             clauses,
         }))
+    }
+
+    /// Its terms and levels.
+    fn shape(&self) -> Shape<'_>
+        requires { self.now.fresh < 2 ^ 31 }
+        ensures terms { result.terms.now ≡ self.now.terms.items }
+        ensures bound { result.bound ≡ self.now.bound }
+    {
+        Shape {
+            terms: self.terms.as_slice(),
+            bound: self.bound,
+            levels: self.levels.as_slice(),
+            fresh: self.fresh,
+        }
     }
 }
 
@@ -113,13 +133,7 @@ impl Family for Diagram {
         ensures hands { HandsIfMemory (⟦<Diagram as Family>⟧.clause_list self.now first) result (S.state sink.old) (S.state sink.new) }
         ensures never { result ≢ Err SinkFault.NoMemory }
     {
-        emit_whole(
-            self.terms.as_slice(),
-            self.bound,
-            self.levels.as_slice(),
-            first,
-            sink,
-        )?;
+        emit_whole(self.shape(), first, sink)?;
         Ok(())
     }
 
@@ -154,16 +168,15 @@ impl Derive for Diagram {
         id: u64,
         sink: &mut T,
     ) -> Result<(), SinkFault> {
-        derive_whole(
-            alloc,
-            self.terms.as_slice(),
-            self.bound,
-            self.levels.as_slice(),
-            self.fresh,
+        let negated = negated_terms(alloc, self.terms.as_slice())?;
+        let derivation = Derivation {
+            shape: self.shape(),
+            negated: negated.as_slice(),
             first,
-            id,
-            sink,
-        )
+            own: id,
+            base: sink.next_id(),
+        };
+        derivation.derive(alloc, sink)
     }
 
     ghost derives = { λ f first id db below ready. diagram_derives (sum_within f.terms.items f.bound) f.proper f.light first below id db ready };

@@ -10,8 +10,10 @@ mod emission;
 mod interval;
 mod known;
 mod laws;
+mod layer;
 mod level;
 mod search;
+mod shape;
 
 pub use diagram::Diagram;
 pub use laws::{children_are_of_nodes, nodes_are_intervals};

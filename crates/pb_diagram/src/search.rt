@@ -6,7 +6,7 @@ ghost use Rattle.pb_diagram.specs.declared.interval.Interval.{Interval};
 ghost use Rattle.pb_diagram.specs.Clauses.{node_count};
 ghost use Rattle.pb_diagram.specs.Intervals.{AreApart};
 ghost use Rattle.pb_diagram.specs.Levels.{coefs_of, levels_of};
-ghost use Rattle.pb_diagram.specs.laws.Search.{nodes_at, AreAllNodes, IsFound, IsUnknown, IsOff, IsOn, Looked, IsMissing, IsJoined, IsTop, IsSearching, IsKept, Advanced};
+ghost use Rattle.pb_diagram.specs.laws.Search.{nodes_at, AreAllNodes, IsFound, IsUnknown, IsOff, IsOn, Looked, IsMissing, IsJoined, IsTop, IsSeen, IsSearching, IsKept, Advanced};
 
 use crate::interval::Interval;
 use crate::known::Known;
@@ -60,11 +60,7 @@ fn find_at(
 
 /// What the false child says of the node in which a residue lies.
 fn off_side(levels: &[Known], whole: u128, top: Top) -> Option<Interval>
-    requires apart { AreApart (nodes_at levels.now (top.place + 1)) }
-    requires fits { whole + top.coef < 2 ^ 100 }
-    requires bounded { top.place < length levels.now }
-    requires kept { IfSome top.off (IsOff top.coef whole (nodes_at levels.now (top.place + 1)) top.residue) }
-    requires among { IfSome top.last (Contains (nodes_at levels.now (top.place + 1))) }
+    requires { IsSeen levels.now whole top }
     ensures { MatchOption result ((top.residue < whole) × IsUnknown (nodes_at levels.now (top.place + 1)) top.residue) (IsOff top.coef whole (nodes_at levels.now (top.place + 1)) top.residue) }
 {
     if top.off.is_some() {
@@ -82,11 +78,7 @@ fn off_side(levels: &[Known], whole: u128, top: Top) -> Option<Interval>
 
 /// What the true child says of the node in which a residue lies, with the coefficient added.
 fn on_side(levels: &[Known], whole: u128, top: Top) -> Option<Interval>
-    requires apart { AreApart (nodes_at levels.now (top.place + 1)) }
-    requires fits { whole + top.coef < 2 ^ 100 }
-    requires bounded { top.place < length levels.now }
-    requires within { (h : Interval) → Contains (nodes_at levels.now (top.place + 1)) h → (h.low ≤ whole) × (h.top ≤ whole) }
-    requires among { IfSome top.last (Contains (nodes_at levels.now (top.place + 1))) }
+    requires { IsSeen levels.now whole top }
     ensures { MatchOption result ((top.coef ≤ top.residue) × IsUnknown (nodes_at levels.now (top.place + 1)) (top.residue - top.coef)) (IsOn top.coef (nodes_at levels.now (top.place + 1)) top.residue) }
 {
     let coef = top.coef;
@@ -104,12 +96,7 @@ fn on_side(levels: &[Known], whole: u128, top: Top) -> Option<Interval>
 
 /// Looks for the node in which a residue lies, over the known nodes of the next level.
 fn look_for(levels: &[Known], whole: u128, top: Top) -> Look
-    requires apart { AreApart (nodes_at levels.now (top.place + 1)) }
-    requires fits { whole + top.coef < 2 ^ 100 }
-    requires bounded { top.place < length levels.now }
-    requires within { (h : Interval) → Contains (nodes_at levels.now (top.place + 1)) h → (h.low ≤ whole) × (h.top ≤ whole) }
-    requires kept { IfSome top.off (IsOff top.coef whole (nodes_at levels.now (top.place + 1)) top.residue) }
-    requires among { IfSome top.last (Contains (nodes_at levels.now (top.place + 1))) }
+    requires { IsSeen levels.now whole top }
     ensures { Looked top.coef whole (nodes_at levels.now (top.place + 1)) top.residue result }
 {
     match off_side(levels, whole, top) {

@@ -25,6 +25,10 @@ pub record Linked (coef whole : ℕ) (next : List Interval) (g : Interval) : Typ
   pub on : coef ≤ g.low → Child next (g.low - coef) coef g.top
   pub full : g.low < coef → g.top ≤ coef
 
+-- the nodes of the next level hold what a node asks of its children
+abbrev pub HasChildren : ℕ → ℕ → List Interval → Interval → Type 0
+HasChildren coef whole next g = (g.low < whole → HasPlace next g.low) × (coef ≤ g.low → HasPlace next (g.low - coef))
+
 -- the children of the nodes of each level
 abbrev pub AreLinked : List Weighted → List (List Interval) → Type 0
 AreLinked [] [] = Unit {0}
@@ -39,6 +43,11 @@ pub record IsRootNode (bound : ℕ) (levels : List (List Interval)) : Type 0 whe
   pub is : head_level levels ≡ root ∷ []
   pub starts : root.low ≤ bound
   pub ends : bound < root.top
+
+-- each node ends above its beginning, which is not below the end of any before it
+abbrev pub AreInOrder : List Interval → Type 0
+AreInOrder nodes =
+    (i : ℕ) (d : Interval) → i < length nodes → ((slice_index_or nodes i d).low < (slice_index_or nodes i d).top) × ((k : ℕ) → k < i → (slice_index_or nodes k d).top ≤ (slice_index_or nodes i d).low)
 
 -- nodes in order, each of which ends above its beginning
 pub record StandApart (nodes : List Interval) : Type 0 where

@@ -1,6 +1,6 @@
 -- What is known while a diagram's nodes are searched for. It serves proofs alone.
 use Rattle.std.proofs.Common.{zero, suc}
-use Rattle.std.specs.Prelude.{◌≡◌, ◌<◌, ◌≤◌, ◌+◌, ◌-◌, ◌⊎◌, ℕ, List, [], ◌∷◌, Contains, drop, length, sum, slice_index, slice_index_or, max, min, Bool, true, false, Option, None, IfSome, MatchOption}
+use Rattle.std.specs.Prelude.{◌≡◌, ◌<◌, ◌≤◌, ◌+◌, ◌-◌, ◌^◌, ◌⊎◌, ℕ, List, [], ◌∷◌, Contains, drop, length, sum, slice_index, slice_index_or, max, min, Bool, true, false, Option, None, IfSome, MatchOption}
 use Rattle.pb_diagram.specs.declared.interval.Interval.{Interval}
 use Rattle.pb_diagram.specs.declared.search.Look.{Look}
 use Rattle.pb_diagram.specs.declared.search.Top.{Top}
@@ -127,6 +127,15 @@ pub record IsTop (c : BoundedSum) (known : List (List Interval)) (wanted : List 
 -- the nodes of all levels, which are not more than a budget
 abbrev pub AreAllNodes : BoundedSum → ℕ → List (List Interval) → Type 0
 AreAllNodes c budget known = (known ≡ levels_of c) × (node_count (levels_of c) ≤ budget)
+
+-- what a look at the last residue rests on: what is known of the next level, whose terms add up to a number, and what was kept
+pub record IsSeen (known : List (List Interval)) (whole : ℕ) (top : Top) : Type 0 where
+  pub apart : AreApart (nodes_at known (top.place + 1))
+  pub fits : whole + top.coef < 2 ^ 100
+  pub bounded : top.place < length known
+  pub within : (h : Interval) → Contains (nodes_at known (top.place + 1)) h → (h.low ≤ whole) × (h.top ≤ whole)
+  pub kept : IfSome top.off (IsOff top.coef whole (nodes_at known (top.place + 1)) top.residue)
+  pub among : IfSome top.last (Contains (nodes_at known (top.place + 1)))
 
 -- one more node is known and one residue less is wanted, or one more is wanted
 pub record Advanced (joined : Bool) (known more : List (List Interval)) (wanted now : List ℕ) : Type 0 where

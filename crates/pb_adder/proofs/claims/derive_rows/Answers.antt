@@ -15,7 +15,7 @@ loop-end-init g c = record {
 
 pub returns-in_err-derive_row : goal.returns-in_err-derive_row
 returns-in_err-derive_row g c =
-    rows_stopped c.args.first c.loop-end.bound c.args.id c.in-Some.end.now c.loop-end.rest.now c.in-Some.above.now c.in-Some.ensures.cases.0 c.loop-end.invariant.steps
+    rows_stopped c.args.first c.loop-end.bound c.args.id c.in-Some.end.now c.loop-end.rest.now c.in-Some.above.now c.in-Some.ensures.cases.0 c.loop-end.invariant.steps _ c.row_at.ensures
     c.from_residual.result _ (g.T.StepSink.state c.derive_row.new.sink) c.from_residual.ensures.1 c.in_err-derive_row.ensures
 
 pub loop-end-preserved : goal.loop-end-preserved
@@ -24,17 +24,17 @@ loop-end-preserved g c =
     let split = c.in-Some.ensures.cases.0 in
     let shorter = c.in-Some.ensures.cases.1 in
     let handed = c.in_ok-derive_row.ensures in
-    let count = rows_counted c.args.first c.loop-end.bound c.args.id c.in-Some.end.now c.loop-end.rest.now c.in-Some.above.now split c.loop-end.invariant.steps after handed in
+    let count = rows_counted c.args.first c.loop-end.bound c.args.id c.in-Some.end.now c.loop-end.rest.now c.in-Some.above.now split c.loop-end.invariant.steps _ c.row_at.ensures after handed in
     record {
-      steps = rows_taken c.args.first c.loop-end.bound c.args.id c.in-Some.end.now c.loop-end.rest.now c.in-Some.above.now split c.loop-end.invariant.steps after handed;
+      steps = rows_taken c.args.first c.loop-end.bound c.args.id c.in-Some.end.now c.loop-end.rest.now c.in-Some.above.now split c.loop-end.invariant.steps _ c.row_at.ensures after handed;
       next = omega (arith, c.loop-end.invariant.next, count, shorter);
       few = omega (arith, c.loop-end.invariant.few);
       fits = rest_all (λ e. c.args.first + end_needs e ≤ 2 ^ 31) c.in-Some.end.now c.loop-end.rest.now c.in-Some.above.now split c.loop-end.invariant.fits;
     }
 
-pub derive_row-requires-clause-fits : goal.derive_row-requires-clause-fits
-derive_row-requires-clause-fits g c =
+pub row_at-requires-clause-fits : goal.row_at-requires-clause-fits
+row_at-requires-clause-fits g c =
     rest_all (λ e. c.args.first + end_needs e ≤ 2 ^ 31) c.in-Some.end.now c.loop-end.rest.now c.in-Some.above.now c.in-Some.ensures.cases.0 c.loop-end.invariant.fits
 
-pub derive_row-requires-clause-room : goal.derive_row-requires-clause-room
-derive_row-requires-clause-room g c = omega (arith, c.loop-end.invariant.next, c.in-Some.ensures.cases.1, c.requires.room)
+pub derive_row-requires : goal.derive_row-requires
+derive_row-requires g c = record { room = omega (arith, c.loop-end.invariant.next, c.in-Some.ensures.cases.1, c.requires.room) }

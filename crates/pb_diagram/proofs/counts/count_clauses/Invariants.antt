@@ -6,6 +6,6 @@ use Rattle.pb_diagram.proofs.counts.count_clauses.Given as goal
 
 abbrev pub invariant-loop-i : goal.invariant-loop-i
 invariant-loop-i l = record {
-  left : l.whole ≡ weight (drop l.i (weights l.terms));
-  counted : l.count + inner_count (drop l.i (weights l.terms)) (drop l.i l.levels) ≡ diagram_size (sum_within l.terms l.bound);
+  left : l.whole ≡ weight (drop l.i (weights l.shape.terms.now));
+  counted : l.count + inner_count (drop l.i (weights l.shape.terms.now)) (drop l.i l.shape.levels.now) ≡ diagram_size (sum_within l.shape.terms.now l.shape.bound);
 }

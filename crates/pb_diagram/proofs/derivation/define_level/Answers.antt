@@ -6,25 +6,25 @@ use Rattle.pb_diagram.proofs.ReificationSteps.{reification_from, reification_nex
 use Rattle.pb_diagram.proofs.derivation.define_level.Goals as goal
 
 pub loop-place-init : goal.loop-place-init
-loop-place-init g c = reification_from c.args.first (weights c.args.terms.now) c.args.nodes.now (g.T.StepSink.state c.args.sink.now)
+loop-place-init g c = reification_from c.args.first (weights c.args.sides.terms.now) c.args.sides.nodes.now (g.T.StepSink.state c.args.sink.now)
 
 pub derive_reification-requires-clause-light : goal.derive_reification-requires-clause-light
-derive_reification-requires-clause-light g c = omega (arith, ap weight c.requires.turned, weight-opposite (weights c.args.terms.now), c.weight_of-whole.ensures, c.requires.light)
+derive_reification-requires-clause-light g c = omega (arith, ap weight c.args.sides.turned, weight-opposite (weights c.args.sides.terms.now), c.weight_of-whole.ensures, c.args.sides.light)
 
 pub returns-in_err-derive_reification : goal.returns-in_err-derive_reification
 returns-in_err-derive_reification g c =
     let old = g.T.StepSink.state c.args.sink.now in
     let now = g.T.StepSink.state c.loop-place.sink in
-    reification_fault c.args.first (weights c.args.terms.now) c.args.nodes.now c.loop-place.place old now _ c.loop-place-test.true c.loop-place.invariant _ c.weight_of-whole.result (weights c.args.negated.now)
-    (ap (λ (l : Lit). l.var) c.fresh_at-var.ensures) c.weight_of-whole.ensures c.requires.turned c.from_residual.result _ (g.T.StepSink.state c.derive_reification.new.sink) c.from_residual.ensures.1 c.in_err-derive_reification.ensures
+    reification_fault c.args.first (weights c.args.sides.terms.now) c.args.sides.nodes.now c.loop-place.place old now _ c.loop-place-test.true c.loop-place.invariant _ c.weight_of-whole.result (weights c.args.sides.negated.now)
+    (ap (λ (l : Lit). l.var) c.fresh_at-var.ensures) c.weight_of-whole.ensures c.args.sides.turned c.from_residual.result _ (g.T.StepSink.state c.derive_reification.new.sink) c.from_residual.ensures.1 c.in_err-derive_reification.ensures
 
 pub loop-place-preserved : goal.loop-place-preserved
 loop-place-preserved g c =
     let old = g.T.StepSink.state c.args.sink.now in
     let now = g.T.StepSink.state c.loop-place.sink in
-    reification_next c.args.first (weights c.args.terms.now) c.args.nodes.now c.loop-place.place old now _ c.loop-place-test.true c.loop-place.invariant _ c.weight_of-whole.result (weights c.args.negated.now)
-    (ap (λ (l : Lit). l.var) c.fresh_at-var.ensures) c.weight_of-whole.ensures c.requires.turned (g.T.StepSink.state c.derive_reification.new.sink) c.in_ok-derive_reification.ensures
+    reification_next c.args.first (weights c.args.sides.terms.now) c.args.sides.nodes.now c.loop-place.place old now _ c.loop-place-test.true c.loop-place.invariant _ c.weight_of-whole.result (weights c.args.sides.negated.now)
+    (ap (λ (l : Lit). l.var) c.fresh_at-var.ensures) c.weight_of-whole.ensures c.args.sides.turned (g.T.StepSink.state c.derive_reification.new.sink) c.in_ok-derive_reification.ensures
 
 pub returns : goal.returns
 returns g c =
-    reification_ends c.args.first (weights c.args.terms.now) c.args.nodes.now c.loop-place.place (g.T.StepSink.state c.args.sink.now) (g.T.StepSink.state c.loop-place.sink) (omega arith) c.loop-place.invariant
+    reification_ends c.args.first (weights c.args.sides.terms.now) c.args.sides.nodes.now c.loop-place.place (g.T.StepSink.state c.args.sink.now) (g.T.StepSink.state c.loop-place.sink) (omega arith) c.loop-place.invariant

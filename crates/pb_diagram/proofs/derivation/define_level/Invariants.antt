@@ -3,4 +3,4 @@ use Rattle.pb_diagram.proofs.ReificationSteps.{Defining}
 use Rattle.pb_diagram.proofs.derivation.define_level.Given as goal
 
 abbrev pub invariant-loop-place : goal.invariant-loop-place
-invariant-loop-place g l = Defining l.first (weights l.terms) l.nodes l.place (g.T.StepSink.state l.fn.sink) (g.T.StepSink.state l.sink)
+invariant-loop-place g l = Defining l.first (weights l.sides.terms.now) l.sides.nodes.now l.place (g.T.StepSink.state l.fn.sink) (g.T.StepSink.state l.sink)

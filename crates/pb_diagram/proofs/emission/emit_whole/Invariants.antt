@@ -10,10 +10,10 @@ use Rattle.pb_diagram.proofs.emission.emit_whole.Given as goal
 abbrev pub invariant-loop-i : goal.invariant-loop-i
 invariant-loop-i g l =
     let sink = g.S.ClauseSink in
-    let of = sum_within l.terms l.bound in
+    let of = sum_within l.shape.terms.now l.shape.bound in
     record {
-      left : l.whole ≡ weight (drop l.i (weights l.terms));
-      room : l.start + node_count (drop l.i l.levels) ≡ l.first + diagram_fresh of;
+      left : l.whole ≡ weight (drop l.i (weights l.shape.terms.now));
+      room : l.start + node_count (drop l.i l.shape.levels.now) ≡ l.first + diagram_fresh of;
       low : l.first ≤ l.start;
-      clauses : Emitting (diagram_clauses of l.first) (node_clauses l.start (drop l.i (weights l.terms)) (drop l.i l.levels) ++ (positive_of l.first ∷ []) ∷ []) (sink.state l.fn.sink) (sink.state l.sink);
+      clauses : Emitting (diagram_clauses of l.first) (node_clauses l.start (drop l.i (weights l.shape.terms.now)) (drop l.i l.shape.levels.now) ++ (positive_of l.first ∷ []) ∷ []) (sink.state l.fn.sink) (sink.state l.sink);
     }

@@ -1,0 +1,89 @@
+use Rattle.std.proofs.Common.{◌≤◌, ◌<◌, ◌+◌, List, length, drop, refl, sym, ap, subst, arith}
+use Rattle.std.specs.Prelude.{All}
+use Rattle.std.proofs.lemmas.List.{length-map}
+use Rattle.pb_norm.specs.Constraints.{Weighted, weight, weighted, weights}
+use Rattle.pb_norm.specs.BoundedSums.{sum_within}
+use Rattle.pb_derive.specs.Reifications.{reification_steps}
+use Rattle.pb_family.specs.Fresh.{positive_of}
+use Rattle.pb_family.specs.StepSinks.{TakesSteps}
+use Rattle.pb_family.proofs.Deriving.{deriving_from, deriving_as, deriving_ends}
+use Rattle.pb_family.proofs.Sequence.{reifications_ids}
+use Rattle.pb_family.proofs.TermSlices.{weights_from, light_from}
+use Rattle.pb_diagram.specs.declared.interval.Interval.{Interval}
+use Rattle.pb_diagram.specs.Clauses.{node_count}
+use Rattle.pb_diagram.specs.DiagramSteps.{level_reifications, node_reifications}
+use Rattle.pb_diagram.specs.laws.NodeReifications.{length-level}
+use Rattle.pb_diagram.proofs.ReificationSteps.{reifications_taken, reifications_stop, level_stops, nodes_left, nodes_within, nodes_count, no_reification, turned_from, turned_length}
+use Rattle.pb_diagram.proofs.derivation.Derivation.define_nodes.Goals as goal
+
+abbrev none : Weighted
+none = record { coef = 0; lit = positive_of 0 }
+
+pub loop-i-init : goal.loop-i-init
+loop-i-init g c = record {
+  room = ap (λ (ls : List (List Interval)). c.args.self.now.first + node_count ls) c.args.self.now.shape.nodes;
+  low = omega arith;
+  count = omega arith;
+  taken = deriving_from _ refl;
+}
+
+pub offset_bounds-self-i : goal.offset_bounds-self-i
+offset_bounds-self-i g c = omega (arith, turned_length c.args.self.now.shape.terms.now c.args.self.now.negated.now c.args.self.now.turned, c.loop-i-test.true)
+
+pub invariant_of-sides : goal.invariant_of-sides
+invariant_of-sides g c =
+    let shape = c.args.self.now.shape in
+    let i = c.loop-i.i in
+    record {
+      light = omega (arith, light_from shape.terms.now i, shape.light);
+      turned = turned_from shape.terms.now c.args.self.now.negated.now i c.args.self.now.turned;
+      within = subst (λ (ts : List Weighted). All (λ g. g.top ≤ weight ts) c.nodes_after.result.now) (sym (weights_from shape.terms.now i i refl))
+          (nodes_within (sum_within shape.terms.now shape.bound) shape.levels.now i shape.nodes c.nodes_after.result.now c.nodes_after.ensures);
+    }
+
+pub define_level-requires-clause-high : goal.define_level-requires-clause-high
+define_level-requires-clause-high g c =
+    let count = nodes_count (sum_within c.args.self.now.shape.terms.now c.args.self.now.shape.bound) c.args.self.now.shape.levels.now c.loop-i.i none c.args.self.now.shape.nodes (omega (arith, length-map c.args.self.now.shape.terms.now weighted, c.loop-i-test.true)) c.nodes_after.result.now c.nodes_after.ensures in
+    omega (arith, count, c.loop-i.invariant.room, c.args.self.now.fits)
+
+pub define_level-requires-clause-few : goal.define_level-requires-clause-few
+define_level-requires-clause-few g c =
+    let count = nodes_count (sum_within c.args.self.now.shape.terms.now c.args.self.now.shape.bound) c.args.self.now.shape.levels.now c.loop-i.i none c.args.self.now.shape.nodes (omega (arith, length-map c.args.self.now.shape.terms.now weighted, c.loop-i-test.true)) c.nodes_after.result.now c.nodes_after.ensures in
+    omega (arith, count, c.loop-i.invariant.room, c.loop-i.invariant.count, c.args.self.now.fits, c.requires)
+
+pub returns-in_err-define_level : goal.returns-in_err-define_level
+returns-in_err-define_level g c =
+    let of = sum_within c.args.self.now.shape.terms.now c.args.self.now.shape.bound in
+    let old = g.T.StepSink.state c.args.sink.now in
+    let now = g.T.StepSink.state c.loop-i.sink in
+    let after = g.T.StepSink.state c.define_level.new.sink in
+    let i = c.loop-i.i in
+    let nodes = c.nodes_after.result.now in
+    let begun = deriving_as (ap (reification_steps now.next) (nodes_left of c.args.self.now.shape.levels.now i none c.args.self.now.shape.nodes (omega (arith, length-map c.args.self.now.shape.terms.now weighted, c.loop-i-test.true)) nodes c.nodes_after.ensures c.loop-i.start)) c.loop-i.invariant.taken in
+    reifications_stop (level_reifications c.loop-i.start (drop i of.terms) nodes) (node_reifications (c.loop-i.start + length nodes) (drop (i + 1) of.terms) (drop (i + 1) c.args.self.now.shape.levels.now)) old now begun c.from_residual.result _ after c.from_residual.ensures.1
+    (level_stops c.loop-i.start nodes _ (drop i of.terms) now after (weights_from c.args.self.now.shape.terms.now i i refl) c.in_err-define_level.ensures)
+
+pub loop-i-preserved : goal.loop-i-preserved
+loop-i-preserved g c =
+    let of = sum_within c.args.self.now.shape.terms.now c.args.self.now.shape.bound in
+    let old = g.T.StepSink.state c.args.sink.now in
+    let now = g.T.StepSink.state c.loop-i.sink in
+    let after = g.T.StepSink.state c.define_level.new.sink in
+    let i = c.loop-i.i in
+    let nodes = c.nodes_after.result.now in
+    let within : i < length of.terms = omega (arith, length-map c.args.self.now.shape.terms.now weighted, c.loop-i-test.true) in
+    let begun = deriving_as (ap (reification_steps now.next) (nodes_left of c.args.self.now.shape.levels.now i none c.args.self.now.shape.nodes within nodes c.nodes_after.ensures c.loop-i.start)) c.loop-i.invariant.taken in
+    let here = level_reifications c.loop-i.start (drop i of.terms) nodes in
+    let handed = subst (λ (ts : List Weighted). TakesSteps (reification_steps now.next (level_reifications c.loop-i.start ts nodes)) now after) (weights_from c.args.self.now.shape.terms.now i i refl) c.in_ok-define_level.ensures in
+    let count = nodes_count of c.args.self.now.shape.levels.now i none c.args.self.now.shape.nodes within nodes c.nodes_after.ensures in
+    record {
+      room = omega (arith, count, c.loop-i.invariant.room);
+      low = omega (arith, c.loop-i.invariant.low);
+      count = omega (arith, handed.ids, reifications_ids now.next here, length-level c.loop-i.start (drop i of.terms) nodes, c.loop-i.invariant.count);
+      taken = reifications_taken here (node_reifications (c.loop-i.start + length nodes) (drop (i + 1) of.terms) (drop (i + 1) c.args.self.now.shape.levels.now)) old now begun after handed;
+    }
+
+pub returns : goal.returns
+returns g c =
+    let now = g.T.StepSink.state c.loop-i.sink in
+    deriving_ends (deriving_as (ap (reification_steps now.next) (no_reification (weights c.args.self.now.shape.terms.now) c.args.self.now.shape.levels.now c.loop-i.i c.loop-i.start (omega (arith, length-map c.args.self.now.shape.terms.now weighted)))) c.loop-i.invariant.taken)
