@@ -15,3 +15,4 @@ pub mod HalfPlans
 pub mod ConstraintLaws
 pub mod inner
 pub mod examples
+pub mod Kept

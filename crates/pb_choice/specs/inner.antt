@@ -1,3 +1,4 @@
 pub mod Chosen
+pub mod Lent
 pub mod Residual
 pub mod Suits

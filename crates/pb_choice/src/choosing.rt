@@ -1,5 +1,5 @@
 //! The choice of a family.
-ghost use Rattle.std.specs.Prelude.{◌≡◌, ◌≤◌, ◌<◌, ◌^◌, IfOk, length};
+ghost use Rattle.std.specs.Prelude.{◌≡◌, ◌<◌, ◌^◌, IfOk, length};
 ghost use Rattle.pb_norm.specs.Constraints.{weight};
 ghost use Rattle.pb_norm.specs.BoundedSums.{IsProper};
 ghost use Rattle.pb_norm.specs.Classes.{IsAtMostOne, IsCardinality, RestIs};
@@ -9,6 +9,7 @@ ghost use Rattle.pb_choice.specs.inner.Residual.{rest_terms, IsLeft};
 
 use crate::chosen::Chosen;
 use crate::held::AtMostOne;
+use crate::lent::Lent;
 use crate::residual::Residual;
 use crate::treatment::Treatment;
 use crate::within::{adder_of, counter_within, diagram_within, totalizer_within, tree_within};
@@ -38,15 +39,14 @@ fn one_of(amo: Amo, sum: AtMost) -> Chosen
 fn card_of(alloc: Global, options: &Options, sum: AtMost) -> Result<Chosen, NoMemory>
     requires class { IsCardinality sum }
     requires light { weight sum.terms < 2 ^ 100 }
-    requires modest { options.now.budget ≤ 10000000 }
     ensures { IfOk result (IsChosen (within_budget options.now.budget sum (card_treatment options.now.card sum.bound)) sum) }
 {
     let bound = sum.bound();
     match options.card {
-        Card::Auto if bound <= 8 => counter_within(alloc, sum, options.budget),
-        Card::Auto => totalizer_within(alloc, sum, options.budget),
-        Card::Counter => counter_within(alloc, sum, options.budget),
-        Card::Totalizer => totalizer_within(alloc, sum, options.budget),
+        Card::Auto if bound <= 8 => counter_within(alloc, sum, options),
+        Card::Auto => totalizer_within(alloc, sum, options),
+        Card::Counter => counter_within(alloc, sum, options),
+        Card::Totalizer => totalizer_within(alloc, sum, options),
     }
 }
 
@@ -54,44 +54,49 @@ fn card_of(alloc: Global, options: &Options, sum: AtMost) -> Result<Chosen, NoMe
 fn general_of(alloc: Global, options: &Options, sum: AtMost) -> Result<Chosen, NoMemory>
     requires class { IsProper sum }
     requires light { weight sum.terms < 2 ^ 100 }
-    requires modest { options.now.budget ≤ 10000000 }
     ensures { IfOk result (IsChosen (within_budget options.now.budget sum (general_treatment options.now.general)) sum) }
 {
     match options.general {
-        General::Diagram => diagram_within(alloc, sum, options.budget),
-        General::Tree => tree_within(alloc, sum, options.budget),
+        General::Diagram => diagram_within(alloc, sum, options),
+        General::Tree => tree_within(alloc, sum, options),
         General::Adder => adder_of(alloc, sum),
     }
 }
 
 /// What is left of a constraint, with the family that is chosen for it.
-pub fn residual_of(alloc: Global, options: &Options, rest: Rest) -> Result<Residual, NoMemory>
+pub fn residual_of<'a>(
+    alloc: Global,
+    options: &Options,
+    rest: Rest,
+) -> Result<Residual<'a>, NoMemory>
     requires class { RestIs rest }
     requires light { weight (rest_terms rest) < 2 ^ 100 }
-    requires modest { options.now.budget ≤ 10000000 }
     ensures { IfOk result (IsLeft options.now rest) }
 {
     match rest {
         Rest::Nothing => Ok(Residual::Nothing),
         Rest::Empty => Ok(Residual::Empty),
         Rest::Clause(lits) => Ok(Residual::Clause(lits)),
-        Rest::One(sum) => Ok(Residual::Sum(one_of(options.amo, sum))),
-        Rest::Card(sum) => Ok(Residual::Sum(card_of(alloc, options, sum)?)),
-        Rest::General(sum) => Ok(Residual::Sum(general_of(alloc, options, sum)?)),
+        Rest::One(sum) => Ok(Residual::Sum(Lent::own(one_of(options.amo, sum)))),
+        Rest::Card(sum) => Ok(Residual::Sum(Lent::own(card_of(alloc, options, sum)?))),
+        Rest::General(sum) => Ok(Residual::Sum(Lent::own(general_of(alloc, options, sum)?))),
     }
 }
 
 /// The same where the adder is known to be chosen: nothing else is built first.
-pub fn adder_left(alloc: Global, options: &Options, rest: Rest) -> Result<Residual, NoMemory>
+pub fn adder_left<'a>(
+    alloc: Global,
+    options: &Options,
+    rest: Rest,
+) -> Result<Residual<'a>, NoMemory>
     requires class { RestIs rest }
     requires light { weight (rest_terms rest) < 2 ^ 100 }
-    requires modest { options.now.budget ≤ 10000000 }
     requires adder { treatment_of options.now rest ≡ Treatment.Adder }
     ensures { IfOk result (IsLeft options.now rest) }
 {
     match rest {
-        Rest::Card(sum) => Ok(Residual::Sum(adder_of(alloc, sum)?)),
-        Rest::General(sum) => Ok(Residual::Sum(adder_of(alloc, sum)?)),
+        Rest::Card(sum) => Ok(Residual::Sum(Lent::own(adder_of(alloc, sum)?))),
+        Rest::General(sum) => Ok(Residual::Sum(Lent::own(adder_of(alloc, sum)?))),
         other => residual_of(alloc, options, other),
     }
 }

@@ -1,7 +1,7 @@
 //! How an equality is encoded.
 
 use crate::equal_derivation::derive_joint;
-use crate::equal_halves::{count_halves, derive_halves, emit_halves};
+use crate::equal_halves::{HalfIds, count_halves, derive_halves, emit_halves};
 use crate::plans::{Counts, Plan};
 use pb_family::{ClauseSink, Pair, SinkFault, StepSink};
 use pb_totalizer::Exact;
@@ -84,11 +84,10 @@ impl EqualPlan<'_> {
         requires few { LeavesIds (planned_steps self.now first low high) (T.state sink.old).next }
         ensures { HandsFrom (planned_steps self.now first low high) result (T.state sink.old) (T.state sink.new) }
     {
+        let ids = HalfIds { low, high };
         match self {
-            EqualPlan::Joint { exact, a } => derive_joint(alloc, exact, a, first, low, high, sink),
-            EqualPlan::Split(lower, upper) => {
-                derive_halves(alloc, lower, upper, first, low, high, sink)
-            }
+            EqualPlan::Joint { exact, a } => derive_joint(alloc, exact, a, first, ids, sink),
+            EqualPlan::Split(lower, upper) => derive_halves(alloc, lower, upper, first, ids, sink),
         }
     }
 }

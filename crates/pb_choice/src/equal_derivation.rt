@@ -7,6 +7,7 @@ ghost use Rattle.pb_totalizer.specs.ExactSum.{exact_sum};
 ghost use Rattle.pb_choice.specs.EqualitySteps.{joint_steps, quotient_step};
 ghost use Rattle.pb_choice.specs.Readiness.{LeavesIds};
 
+use crate::equal_halves::HalfIds;
 use pb_family::{Pair, SinkFault, StepSink, derive_deletion};
 use pb_steps::{PolOp, PolOps, Step};
 use pb_totalizer::Exact;
@@ -42,20 +43,19 @@ pub fn derive_joint<T: StepSink>(
     exact: &Exact,
     coef: &i128,
     first: u32,
-    low: u64,
-    high: u64,
+    ids: HalfIds,
     sink: &mut T,
 ) -> Result<(), SinkFault>
     requires original { VarsBelow first (exact_sum exact.now).terms }
     requires from { 1 ≤ first }
     requires fits { first + exact_fresh (exact_sum exact.now) ≤ 2 ^ 31 }
     requires given { 1 ≤ (T.state sink.old).next }
-    requires few { LeavesIds (joint_steps (exact_sum exact.now) coef.now first low high) (T.state sink.old).next }
-    ensures { HandsFrom (joint_steps (exact_sum exact.now) coef.now first low high) result (T.state sink.old) (T.state sink.new) }
+    requires few { LeavesIds (joint_steps (exact_sum exact.now) coef.now first ids.low ids.high) (T.state sink.old).next }
+    ensures { HandsFrom (joint_steps (exact_sum exact.now) coef.now first ids.low ids.high) result (T.state sink.old) (T.state sink.new) }
 {
     let own = sink.next_id();
-    derive_quotient(alloc, low, coef, sink)?;
-    derive_quotient(alloc, high, coef, sink)?;
+    derive_quotient(alloc, ids.low, coef, sink)?;
+    derive_quotient(alloc, ids.high, coef, sink)?;
     exact.derive(alloc, first, own, own + 1, sink)?;
     derive_deletion(alloc, own, 2, sink)
 }

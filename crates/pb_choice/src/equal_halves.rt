@@ -10,6 +10,13 @@ use crate::plans::{Counts, Plan};
 use pb_family::{ClauseSink, SinkFault, StepSink};
 use std::alloc::Global;
 
+/// The ids of an equality's halves.
+#[derive(Clone, Copy)]
+pub struct HalfIds {
+    pub low: u64,
+    pub high: u64,
+}
+
 /// How many fresh variables and clauses both have.
 pub fn count_halves(lower: &Plan<'_>, upper: &Plan<'_>) -> Counts
     ensures fresh { result.fresh ≡ plan_fresh lower.now + plan_fresh upper.now }
@@ -42,14 +49,13 @@ pub fn emit_halves<S: ClauseSink>(
     upper.emit(alloc, next, sink)
 }
 
-/// Hands over the steps of the lower half, which has the id `low`, and then those of the upper one, which has the id `high`.
+/// Hands over the steps of the lower half and then those of the upper one, which have the ids.
 pub fn derive_halves<T: StepSink>(
     alloc: Global,
     lower: &Plan<'_>,
     upper: &Plan<'_>,
     first: u32,
-    low: u64,
-    high: u64,
+    ids: HalfIds,
     sink: &mut T,
 ) -> Result<(), SinkFault>
     requires lower_original { VarsBelow first lower.now.constraint.now.terms }
@@ -57,14 +63,14 @@ pub fn derive_halves<T: StepSink>(
     requires from { 1 ≤ first }
     requires fits { first + (plan_fresh lower.now + plan_fresh upper.now) ≤ 2 ^ 31 }
     requires clauses { plan_count lower.now + plan_count upper.now ≤ 2 ^ 56 }
-    requires low_given { 1 ≤ low }
-    requires low_known { low < (T.state sink.old).next }
-    requires high_given { 1 ≤ high }
-    requires high_known { high < (T.state sink.old).next }
-    requires few { LeavesIds (halves_steps lower.now upper.now first low high) (T.state sink.old).next }
-    ensures { HandsFrom (halves_steps lower.now upper.now first low high) result (T.state sink.old) (T.state sink.new) }
+    requires low_given { 1 ≤ ids.low }
+    requires low_known { ids.low < (T.state sink.old).next }
+    requires high_given { 1 ≤ ids.high }
+    requires high_known { ids.high < (T.state sink.old).next }
+    requires few { LeavesIds (halves_steps lower.now upper.now first ids.low ids.high) (T.state sink.old).next }
+    ensures { HandsFrom (halves_steps lower.now upper.now first ids.low ids.high) result (T.state sink.old) (T.state sink.new) }
 {
-    lower.derive(alloc, first, low, sink)?;
+    lower.derive(alloc, first, ids.low, sink)?;
     let next = first + lower.counts().fresh as u32;
-    upper.derive(alloc, next, high, sink)
+    upper.derive(alloc, next, ids.high, sink)
 }

@@ -1,5 +1,5 @@
 //! Planning the encoding of an equality.
-ghost use Rattle.std.specs.Prelude.{◌≡◌, ◌≤◌, ◌<◌, ◌^◌, true, false, pos, length, IfOk};
+ghost use Rattle.std.specs.Prelude.{◌≡◌, ◌<◌, ◌^◌, true, false, pos, length, IfOk, IsTrue};
 ghost use Rattle.std.specs.Option.{MatchOption};
 ghost use Rattle.pb_norm.specs.Constraints.{IsLinear, weight};
 ghost use Rattle.pb_norm.specs.Reduction.{first_coef, lits_of};
@@ -10,7 +10,7 @@ ghost use Rattle.pb_choice.specs.EqualPlans.{HasPartsOf, IsEqualPlan};
 
 use crate::asking::{asks_for_number, number_asked};
 use crate::equal::EqualPlan;
-use crate::planning::{plan, plan_adder};
+use crate::planning::plan_by;
 use pb_base::{EqualMode, Lits, NoMemory, Options};
 use pb_family::Built;
 use pb_norm::{Linear, first_coef, lits_of};
@@ -63,22 +63,24 @@ fn coef_of(lower: &Linear) -> i128
     first_coef(lower.terms()) as i128
 }
 
-// Plans the encoding of an equality half by half.
+// Plans the encoding of an equality half by half. Both halves may be known to go to the adder.
 fn plan_halves<'a>(
     alloc: Global,
     lower: &'a Linear,
     upper: &'a Linear,
     options: &Options,
+    is_adder: bool,
 ) -> Result<EqualPlan<'a>, NoMemory>
     requires lower_light { weight lower.now.terms < 2 ^ 100 }
     requires upper_light { weight upper.now.terms < 2 ^ 100 }
-    requires modest { options.now.budget ≤ 10000000 }
     requires split { is_joint options.now lower.now ≡ false }
+    requires lower_adder { IsTrue is_adder → IsSentToAdder options.now lower.now }
+    requires upper_adder { IsTrue is_adder → IsSentToAdder options.now upper.now }
     ensures choice { IfOk result (IsEqualPlan options.now lower.now upper.now) }
     ensures parts { IfOk result (HasPartsOf options.now lower.now upper.now) }
 {
-    let one = plan(alloc, lower, options)?;
-    let other = plan(alloc, upper, options)?;
+    let one = plan_by(alloc, lower, options, is_adder)?;
+    let other = plan_by(alloc, upper, options, is_adder)?;
     Ok(EqualPlan::Split(one, other))
 }
 
@@ -91,7 +93,6 @@ pub fn plan_equal<'a>(
 ) -> Result<EqualPlan<'a>, NoMemory>
     requires lower_light { weight lower.now.terms < 2 ^ 100 }
     requires upper_light { weight upper.now.terms < 2 ^ 100 }
-    requires modest { options.now.budget ≤ 10000000 }
     ensures choice { IfOk result (IsEqualPlan options.now lower.now upper.now) }
     ensures parts { IfOk result (HasPartsOf options.now lower.now upper.now) }
 {
@@ -100,7 +101,7 @@ pub fn plan_equal<'a>(
             let a = coef_of(lower);
             Ok(EqualPlan::Joint { exact, a })
         }
-        None => plan_halves(alloc, lower, upper, options),
+        None => plan_halves(alloc, lower, upper, options, false),
     }
 }
 
@@ -113,14 +114,11 @@ pub fn plan_adders<'a>(
 ) -> Result<EqualPlan<'a>, NoMemory>
     requires lower_light { weight lower.now.terms < 2 ^ 100 }
     requires upper_light { weight upper.now.terms < 2 ^ 100 }
-    requires modest { options.now.budget ≤ 10000000 }
     requires split { is_joint options.now lower.now ≡ false }
     requires lower_adder { IsSentToAdder options.now lower.now }
     requires upper_adder { IsSentToAdder options.now upper.now }
     ensures choice { IfOk result (IsEqualPlan options.now lower.now upper.now) }
     ensures parts { IfOk result (HasPartsOf options.now lower.now upper.now) }
 {
-    let one = plan_adder(alloc, lower, options)?;
-    let other = plan_adder(alloc, upper, options)?;
-    Ok(EqualPlan::Split(one, other))
+    plan_halves(alloc, lower, upper, options, true)
 }

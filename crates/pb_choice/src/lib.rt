@@ -12,7 +12,9 @@ mod equal_halves;
 mod equal_laws;
 mod equal_planning;
 mod held;
+mod kept;
 mod laws;
+mod lent;
 mod planning;
 mod plans;
 mod reducing;
@@ -25,6 +27,7 @@ pub use equal_laws::{
     equalities_derive, equalities_encode, equalities_force, statements_have_halves,
 };
 pub use equal_planning::{plan_adders, plan_equal};
+pub use kept::{Kept, plan_kept};
 pub use laws::{clauses_encode, clauses_force, constraints_derive};
 pub use planning::{plan, plan_adder};
 pub use plans::{Counts, Plan};

@@ -1,5 +1,5 @@
 //! How one constraint is encoded.
-ghost use Rattle.std.specs.Prelude.{◌≡◌, ◌≤◌, ◌<◌, ◌+◌, ◌^◌};
+ghost use Rattle.std.specs.Prelude.{◌≡◌, ◌≤◌, ◌<◌, ◌+◌, ◌^◌, IfSome};
 ghost use Rattle.pb_norm.specs.Reduction.{rest_of, units_of};
 ghost use Rattle.pb_family.specs.Families.{VarsBelow};
 ghost use Rattle.pb_family.specs.Handing.{HandsIfMemory};
@@ -7,10 +7,13 @@ ghost use Rattle.pb_family.specs.StepSinks.{HandsFrom};
 ghost use Rattle.pb_choice.specs.Choice.{treatment_of};
 ghost use Rattle.pb_choice.specs.Clauses.{constraint_clauses, constraint_count, constraint_fresh};
 ghost use Rattle.pb_choice.specs.ConstraintSteps.{constraint_steps};
+ghost use Rattle.pb_choice.specs.declared.residual.Residual.TheVariants.{Sum};
 ghost use Rattle.pb_choice.specs.inner.Residual.{IsLeft};
 
+use crate::chosen::Chosen;
 use crate::derivation::derive_units;
 use crate::emission::emit_units;
+use crate::reducing::Origin;
 use crate::residual::Residual;
 use crate::treatment::Treatment;
 use pb_base::{Lits, Options};
@@ -30,7 +33,7 @@ pub struct Plan<'a> {
     pub constraint: &'a Linear,
     pub options: Options,
     pub(crate) units: Lits,
-    pub(crate) left: Residual,
+    pub(crate) left: Residual<'a>,
     ghost units_are: { units ≡ units_of constraint.now },
     ghost left_is: { IsLeft options (rest_of constraint.now) left },
 }
@@ -71,6 +74,19 @@ impl Plan<'_> {
         self.left.treatment()
     }
 
+    /// The family that was built for what is left, if one was.
+    pub(crate) fn into_own(self) -> Option<Chosen>
+        ensures { IfSome result (λ chosen. IsLeft self.entry.options (rest_of self.entry.constraint.now) (Sum chosen)) }
+    {
+        let Plan {
+            constraint: _,
+            options: _,
+            units: _,
+            left,
+        } = self;
+        left.into_own()
+    }
+
     /// Hands over the clauses: the units, and then those of what is left, with the fresh variables from `first` on.
     pub fn emit<S: ClauseSink>(
         &self,
@@ -107,8 +123,12 @@ impl Plan<'_> {
     {
         // Brings in that its terms are few.
         let _ = self.constraint.len();
+        let origin = Origin {
+            constraint: self.constraint,
+            units: &self.units,
+            id,
+        };
         derive_units(alloc, &self.units, id, sink)?;
-        self.left
-            .derive(alloc, self.constraint, &self.units, first, id, sink)
+        self.left.derive(alloc, &origin, first, sink)
     }
 }

@@ -9,6 +9,14 @@ use pb_norm::Linear;
 use pb_steps::{PolOp, PolOps, Step};
 use std::alloc::{AllocError, Global};
 
+/// A constraint, its units and its id.
+#[derive(Clone, Copy)]
+pub struct Origin<'a> {
+    pub constraint: &'a Linear,
+    pub units: &'a Lits,
+    pub id: u64,
+}
+
 // What the terms above the slack leave of the degree.
 fn degree_left(terms: &[Term], slack: u128, degree: u128) -> u128
     ensures { result ≡ degree - weight (filter (is_above slack) (weights terms.now)) }
@@ -74,31 +82,21 @@ fn push_units(ops: &mut Vec<PolOp>, units: &[Lit]) -> Result<(), AllocError>
 }
 
 // Adds all operations.
-fn push_reducing(
-    ops: &mut Vec<PolOp>,
-    constraint: &Linear,
-    units: &[Lit],
-    id: u64,
-) -> Result<(), AllocError>
-    ensures { IfOk result (λ _. ops.new.items ≡ ops.old.items ++ reducing id units.now (divisor constraint.now)) }
+fn push_reducing(ops: &mut Vec<PolOp>, origin: &Origin<'_>) -> Result<(), AllocError>
+    ensures { IfOk result (λ _. ops.new.items ≡ ops.old.items ++ reducing origin.now.id origin.now.units.now (divisor origin.now.constraint.now)) }
 {
-    ops.push(PolOp::Push(id))?;
-    push_units(ops, units)?;
+    ops.push(PolOp::Push(origin.id))?;
+    push_units(ops, origin.units.as_slice())?;
     ops.push(PolOp::Saturate)?;
-    ops.push(PolOp::Div(divisor(constraint)))?;
+    ops.push(PolOp::Div(divisor(origin.constraint)))?;
     Ok(())
 }
 
-/// The constraint with an id, without its units, saturated and divided.
-pub fn reducing_step(
-    alloc: Global,
-    constraint: &Linear,
-    units: &Lits,
-    id: u64,
-) -> Result<Step, AllocError>
-    ensures { IfOk result (λ step. step ≡ reduction id units.now constraint.now) }
+/// The constraint without its units, saturated and divided.
+pub fn reducing_step(alloc: Global, origin: &Origin<'_>) -> Result<Step, AllocError>
+    ensures { IfOk result (λ step. step ≡ reduction origin.now.id origin.now.units.now origin.now.constraint.now) }
 {
     let mut ops = Vec::new(alloc);
-    push_reducing(&mut ops, constraint, units.as_slice(), id)?;
+    push_reducing(&mut ops, origin)?;
     Ok(Step::Pol(PolOps::from_vec(ops)))
 }

@@ -3,15 +3,15 @@
 use crate::chosen::Chosen;
 use crate::derivation::derive_reduced;
 use crate::emission::emit_one;
-use crate::reducing::reducing_step;
+use crate::lent::Lent;
+use crate::reducing::{Origin, reducing_step};
 use crate::treatment::Treatment;
 use pb_base::Lits;
 use pb_family::{ClauseSink, Family, SinkFault, StepSink, derive_propagated};
-use pb_norm::Linear;
 use std::alloc::Global;
 
 /// What is left of a constraint, with the family that was chosen for it.
-pub enum Residual {
+pub enum Residual<'a> {
     /// Nothing.
     Nothing,
     /// The empty clause.
@@ -19,11 +19,11 @@ pub enum Residual {
     /// A clause.
     Clause(Lits),
     /// A sum that is to stay within its bound.
-    Sum(Chosen),
+    Sum(Lent<'a>),
 }
 
 // Written out, as that of a family is.
-impl Drop for Residual {
+impl Drop for Residual<'_> {
     fn drop(self) {
         match self {
             Residual::Nothing | Residual::Empty => {}
@@ -33,8 +33,9 @@ impl Drop for Residual {
     }
 }
 
-impl Residual {
-    ghost use Rattle.std.specs.Prelude.{◌≡◌, ◌≤◌, ◌+◌, ◌<◌, ◌^◌};
+impl Residual<'_> {
+    ghost use Rattle.std.specs.Prelude.{◌≡◌, ◌≤◌, ◌+◌, ◌<◌, ◌^◌, IfSome};
+    ghost use Rattle.pb_choice.specs.declared.residual.Residual.TheVariants.{Sum};
     ghost use Rattle.pb_family.specs.Families.{VarsBelow};
     ghost use Rattle.pb_family.specs.Handing.{HandsIfMemory};
     ghost use Rattle.pb_family.specs.StepSinks.{HandsFrom};
@@ -49,7 +50,17 @@ impl Residual {
             Residual::Nothing => Treatment::Nothing,
             Residual::Empty => Treatment::Empty,
             Residual::Clause(_) => Treatment::Clause,
-            Residual::Sum(chosen) => chosen.treatment(),
+            Residual::Sum(lent) => lent.chosen().treatment(),
+        }
+    }
+
+    /// The family, if one was built for this plan.
+    pub fn into_own(self) -> Option<Chosen>
+        ensures { IfSome result (λ chosen. self.entry ≡ Sum chosen) }
+    {
+        match self {
+            Residual::Sum(lent) => lent.into_own(),
+            _ => None,
         }
     }
 
@@ -59,7 +70,7 @@ impl Residual {
     {
         match self {
             Residual::Nothing | Residual::Empty | Residual::Clause(_) => 0,
-            Residual::Sum(chosen) => chosen.fresh(),
+            Residual::Sum(lent) => lent.chosen().fresh(),
         }
     }
 
@@ -70,7 +81,7 @@ impl Residual {
         match self {
             Residual::Nothing => 0,
             Residual::Empty | Residual::Clause(_) => 1,
-            Residual::Sum(chosen) => chosen.clauses(),
+            Residual::Sum(lent) => lent.chosen().clauses(),
         }
     }
 
@@ -90,18 +101,16 @@ impl Residual {
             Residual::Nothing => Ok(()),
             Residual::Empty => emit_one(&[], sink),
             Residual::Clause(lits) => emit_one(lits.as_slice(), sink),
-            Residual::Sum(chosen) => chosen.emit(alloc, first, sink),
+            Residual::Sum(lent) => lent.chosen().emit(alloc, first, sink),
         }
     }
 
-    /// Hands over the steps that derive its clauses from the constraint with an id, with the fresh variables from `first` on.
+    /// Hands over the steps that derive its clauses from the constraint, with the fresh variables from `first` on.
     pub fn derive<T: StepSink>(
         &self,
         alloc: Global,
-        constraint: &Linear,
-        units: &Lits,
+        origin: &Origin<'_>,
         first: u32,
-        id: u64,
         sink: &mut T,
     ) -> Result<(), SinkFault>
         requires original { VarsBelow first (left_terms self.now) }
@@ -110,15 +119,17 @@ impl Residual {
         requires clauses { left_count self.now ≤ 2 ^ 56 }
         requires few { (T.state sink.old).next < 2 ^ 61 }
         requires given { 1 ≤ (T.state sink.old).next }
-        ensures { HandsFrom (left_steps (reduction id units.now constraint.now) self.now first id) result (T.state sink.old) (T.state sink.new) }
+        ensures { HandsFrom (left_steps (reduction origin.now.id origin.now.units.now origin.now.constraint.now) self.now first origin.now.id) result (T.state sink.old) (T.state sink.new) }
     {
         match self {
             Residual::Nothing => Ok(()),
-            Residual::Empty => derive_propagated(alloc, &[id], &[], sink),
-            Residual::Clause(lits) => derive_propagated(alloc, &[id], lits.as_slice(), sink),
-            Residual::Sum(chosen) => {
-                let step = reducing_step(alloc, constraint, units, id)?;
-                derive_reduced(alloc, chosen, &step, first, sink)
+            Residual::Empty => derive_propagated(alloc, &[origin.id], &[], sink),
+            Residual::Clause(lits) => {
+                derive_propagated(alloc, &[origin.id], lits.as_slice(), sink)
+            }
+            Residual::Sum(lent) => {
+                let step = reducing_step(alloc, origin)?;
+                derive_reduced(alloc, lent.chosen(), &step, first, sink)
             }
         }
     }

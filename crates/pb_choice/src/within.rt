@@ -1,5 +1,5 @@
 //! Families within a budget of fresh variables, and the adder in their place.
-ghost use Rattle.std.specs.Prelude.{◌≤◌, ◌<◌, ◌^◌, IfOk};
+ghost use Rattle.std.specs.Prelude.{◌<◌, ◌^◌, IfOk};
 ghost use Rattle.pb_norm.specs.Constraints.{weight};
 ghost use Rattle.pb_norm.specs.BoundedSums.{IsProper};
 ghost use Rattle.pb_norm.specs.Classes.{IsCardinality};
@@ -10,7 +10,7 @@ use crate::chosen::Chosen;
 use crate::held::{AdderOf, Cardinality, DiagramOf, TotalizerOf, TreeOf};
 use crate::treatment::Treatment;
 use pb_adder::Adder;
-use pb_base::NoMemory;
+use pb_base::{NoMemory, Options};
 use pb_counter::Counter;
 use pb_diagram::Diagram;
 use pb_family::{Built, Family};
@@ -31,60 +31,56 @@ pub fn adder_of(alloc: Global, sum: AtMost) -> Result<Chosen, NoMemory>
 }
 
 /// The counter, or the adder.
-pub fn counter_within(alloc: Global, sum: AtMost, budget: u64) -> Result<Chosen, NoMemory>
+pub fn counter_within(alloc: Global, sum: AtMost, options: &Options) -> Result<Chosen, NoMemory>
     requires class { IsCardinality sum }
     requires light { weight sum.terms < 2 ^ 100 }
-    requires modest { budget ≤ 10000000 }
-    ensures { IfOk result (IsChosen (within_budget budget sum Treatment.Counter) sum) }
+    ensures { IfOk result (IsChosen (within_budget options.now.budget sum Treatment.Counter) sum) }
 {
     // Brings in that its terms are few.
     let _ = sum.bound();
-    if Counter::over(&sum).fresh() > budget {
+    if Counter::over(&sum).fresh() > options.budget {
         return adder_of(alloc, sum);
     }
     Ok(Chosen::Counter(Cardinality { sum }))
 }
 
 /// The totalizer, or the adder.
-pub fn totalizer_within(alloc: Global, sum: AtMost, budget: u64) -> Result<Chosen, NoMemory>
+pub fn totalizer_within(alloc: Global, sum: AtMost, options: &Options) -> Result<Chosen, NoMemory>
     requires class { IsCardinality sum }
     requires light { weight sum.terms < 2 ^ 100 }
-    requires modest { budget ≤ 10000000 }
-    ensures { IfOk result (IsChosen (within_budget budget sum Treatment.Totalizer) sum) }
+    ensures { IfOk result (IsChosen (within_budget options.now.budget sum Treatment.Totalizer) sum) }
 {
     // Brings in that its terms are few.
     let _ = sum.bound();
-    match Totalizer::build(alloc, &sum, budget)? {
+    match Totalizer::build(alloc, &sum, options.budget)? {
         Built::Fits(family) => Ok(Chosen::Totalizer(TotalizerOf { sum, family })),
         Built::Over => adder_of(alloc, sum),
     }
 }
 
 /// The diagram, or the adder.
-pub fn diagram_within(alloc: Global, sum: AtMost, budget: u64) -> Result<Chosen, NoMemory>
+pub fn diagram_within(alloc: Global, sum: AtMost, options: &Options) -> Result<Chosen, NoMemory>
     requires class { IsProper sum }
     requires light { weight sum.terms < 2 ^ 100 }
-    requires modest { budget ≤ 10000000 }
-    ensures { IfOk result (IsChosen (within_budget budget sum Treatment.Diagram) sum) }
+    ensures { IfOk result (IsChosen (within_budget options.now.budget sum Treatment.Diagram) sum) }
 {
     // Brings in that its terms are few.
     let _ = sum.bound();
-    match Diagram::build(alloc, &sum, budget)? {
+    match Diagram::build(alloc, &sum, options.budget)? {
         Built::Fits(family) => Ok(Chosen::Diagram(DiagramOf { sum, family })),
         Built::Over => adder_of(alloc, sum),
     }
 }
 
 /// The generalized totalizer, or the adder.
-pub fn tree_within(alloc: Global, sum: AtMost, budget: u64) -> Result<Chosen, NoMemory>
+pub fn tree_within(alloc: Global, sum: AtMost, options: &Options) -> Result<Chosen, NoMemory>
     requires class { IsProper sum }
     requires light { weight sum.terms < 2 ^ 100 }
-    requires modest { budget ≤ 10000000 }
-    ensures { IfOk result (IsChosen (within_budget budget sum Treatment.Tree) sum) }
+    ensures { IfOk result (IsChosen (within_budget options.now.budget sum Treatment.Tree) sum) }
 {
     // Brings in that its terms are few.
     let _ = sum.bound();
-    match Weighted::build(alloc, &sum, budget)? {
+    match Weighted::build(alloc, &sum, options.budget)? {
         Built::Fits(family) => Ok(Chosen::Tree(TreeOf { sum, family })),
         Built::Over => adder_of(alloc, sum),
     }

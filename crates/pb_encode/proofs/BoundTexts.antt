@@ -1,8 +1,8 @@
--- The lines of a table's rows, one after another.
-use Rattle.std.proofs.Common.{◌≡◌, ◌<◌, ◌+◌, ◌++◌, ◌^◌, ℕ, zero, suc, Bool, true, false, cond, ℤ, pos, ◌+ℤ◌, List, [], ◌∷◌, Option, Some, None, map, take, length, sym, ap, subst, ◌∙◌, arith, append_assoc, slice_get}
+-- The rows of a table, one after another.
+use Rattle.std.proofs.Common.{◌≡◌, ◌<◌, ◌+◌, ◌++◌, ◌^◌, ℕ, zero, suc, Bool, true, false, cond, ℤ, pos, ◌+ℤ◌, List, [], ◌∷◌, Option, Some, None, map, take, length, sym, ap, subst, ◌∙◌, arith, slice_get}
 use Rattle.std.specs.Prelude.{Contains}
 use Rattle.std.specs.Int.RustNames.{unsigned_abs}
-use Rattle.std.proofs.lemmas.List.{append-nil, length-map}
+use Rattle.std.proofs.lemmas.List.{length-map}
 use Rattle.pb_base.specs.declared.literal.Lit.{Lit}
 use Rattle.pb_base.specs.declared.problem.Problem.{Problem}
 use Rattle.pb_base.proofs.Members.{Contains-here, Contains-there}
@@ -13,36 +13,30 @@ use Rattle.pb_gentot.specs.BoundTable.{table_output, table_rows, table_values}
 use Rattle.pb_gentot.proofs.KeptTables.{no_values}
 use Rattle.pb_gentot.proofs.TableValues.{table_value_within}
 use Rattle.pb_encode.specs.declared.summary.Summary.{Summary}
-use Rattle.pb_encode.specs.BoundLines.{bound_line, bounds_text}
 use Rattle.pb_encode.specs.Bounds.{bound_rows}
 use Rattle.pb_encode.specs.Clauses.{table_first}
 use Rattle.pb_encode.specs.Costs.{objective_form, offset_of}
 use Rattle.pb_encode.specs.Summaries.{summary_of}
 use Rattle.pb_encode.specs.Tables.{table_terms}
 
--- the line of a row whose value is from an offset on
-abbrev pub line_at : ℤ → ℤ × Lit → List ℕ
-line_at z r = bound_line (z +ℤ r.0, r.1)
-
-abbrev pub lines_at : ℤ → List (ℤ × Lit) → List ℕ
-lines_at z rows = bounds_text (map (λ (r : ℤ × Lit). (z +ℤ r.0, r.1)) rows)
+-- rows whose values are from an offset on
+abbrev pub risen : ℤ → List (ℤ × Lit) → List (ℤ × Lit)
+risen z rows = map (λ (r : ℤ × Lit). (z +ℤ r.0, r.1)) rows
 
 -- one row more
-pub lines_more : (z : ℤ) (rows : List (ℤ × Lit)) (i : ℕ) (r : ℤ × Lit) → slice_get rows i ≡ Some r → lines_at z (take (suc i) rows) ≡ lines_at z (take i rows) ++ line_at z r
-lines_more z [] i r at = cc
-lines_more z (x ∷ rows) zero r at =
+one_more : (z : ℤ) (rows : List (ℤ × Lit)) (i : ℕ) (r : ℤ × Lit) → slice_get rows i ≡ Some r → risen z (take (suc i) rows) ≡ risen z (take i rows) ++ (z +ℤ r.0, r.1) ∷ []
+one_more z [] i r at = cc
+one_more z (x ∷ rows) zero r at =
     let same : x ≡ r = cc in
-    append-nil (line_at z x) ∙ ap (line_at z) same
-lines_more z (x ∷ rows) (suc i) r at =
-    ap (λ (text : List ℕ). line_at z x ++ text) (lines_more z rows i r at) ∙ sym (append_assoc (line_at z x) (lines_at z (take i rows)) (line_at z r))
+    ap (λ (y : ℤ × Lit). (z +ℤ y.0, y.1) ∷ []) same
+one_more z (x ∷ rows) (suc i) r at = ap (λ (later : List (ℤ × Lit)). (z +ℤ x.0, x.1) ∷ later) (one_more z rows i r at)
 
--- the text grows by a row
-pub text_more : (z : ℤ) (rows : List (ℤ × Lit)) (i : ℕ) (r : ℤ × Lit) (start now next : List ℕ) → slice_get rows i ≡ Some r → now ≡ start ++ lines_at z (take i rows) → next ≡ now ++ line_at z r
-    → next ≡ start ++ lines_at z (take (i + 1) rows)
-text_more z rows i r start now next at is more =
+pub rows_more : (z : ℤ) (rows : List (ℤ × Lit)) (i : ℕ) (r : ℤ × Lit) (now next : List (ℤ × Lit)) (x : ℤ) → slice_get rows i ≡ Some r → now ≡ risen z (take i rows) → next ≡ now ++ (x, r.1) ∷ [] → x ≡ z +ℤ r.0
+    → next ≡ risen z (take (i + 1) rows)
+rows_more z rows i r now next x at is pushed value =
     let one : suc i ≡ i + 1 = omega arith in
-    let grown = sym (lines_more z rows i r at) ∙ ap (λ (n : ℕ). lines_at z (take n rows)) one in
-    more ∙ ap (λ (text : List ℕ). text ++ line_at z r) is ∙ append_assoc start (lines_at z (take i rows)) (line_at z r) ∙ ap (λ (text : List ℕ). start ++ text) grown
+    pushed ∙ ap (λ (made : List (ℤ × Lit)). made ++ (x, r.1) ∷ []) is ∙ ap (λ (v : ℤ). risen z (take i rows) ++ (v, r.1) ∷ []) value
+    ∙ sym (one_more z rows i r at) ∙ ap (λ (n : ℕ). risen z (take n rows)) one
 
 -- there is a row at each place
 pub row_there : (rows : List (ℤ × Lit)) (i : ℕ) → i < length rows → slice_get rows i ≡ None → ⊥
@@ -67,12 +61,9 @@ row_small ts first i r light at =
 
 -- ---- without a table
 
-abbrev shifted : ℤ → List (ℤ × Lit) → List (ℤ × Lit)
-shifted z rows = map (λ (r : ℤ × Lit). (z +ℤ r.0, r.1)) rows
-
-none_if : (b : Bool) (ts : List Weighted) (z : ℤ) (first n : ℕ) → cond {A = Option ℕ} b (Some n) None ≡ None → shifted z (table_rows (cond b ts []) first) ≡ []
+none_if : (b : Bool) (ts : List Weighted) (z : ℤ) (first n : ℕ) → cond {A = Option ℕ} b (Some n) None ≡ None → risen z (table_rows (cond b ts []) first) ≡ []
 none_if true ts z first n none = cc
-none_if false ts z first n none = ap (λ (us : List ℕ). shifted z (map (λ (u : ℕ). (pos u, table_output [] first u)) us)) (no_values (weight []))
+none_if false ts z first n none = ap (λ (us : List ℕ). risen z (map (λ (u : ℕ). (pos u, table_output [] first u)) us)) (no_values (weight []))
 
 pub no_rows : (o : Options) (p : Problem) (s : Summary) → s ≡ summary_of o p → s.table ≡ None → bound_rows o p ≡ []
 no_rows o p s is none = none_if o.table (by_weight (objective_form p).terms) (offset_of p) (table_first o p) (table_first o p) (sym (ap (λ (t : Summary). t.table) is) ∙ none)
@@ -85,5 +76,5 @@ pub first_is : (o : Options) (p : Problem) (s : Summary) (first : ℕ) → s ≡
 first_is o p s first is some = some_if o.table (table_first o p) first (sym (ap (λ (t : Summary). t.table) is) ∙ some)
 
 -- the rows of the problem's table, as they are given
-pub rows_are : (o : Options) (p : Problem) (z : ℤ) (ts : List Weighted) (first : ℕ) → z ≡ offset_of p → ts ≡ table_terms o p → first ≡ table_first o p → lines_at z (table_rows ts first) ≡ bounds_text (bound_rows o p)
-rows_are o p z ts first z_is ts_are first_at = λ i. lines_at (z_is i) (table_rows (ts_are i) (first_at i))
+pub rows_are : (o : Options) (p : Problem) (z : ℤ) (ts : List Weighted) (first : ℕ) → z ≡ offset_of p → ts ≡ table_terms o p → first ≡ table_first o p → risen z (table_rows ts first) ≡ bound_rows o p
+rows_are o p z ts first z_is ts_are first_at = λ i. risen (z_is i) (table_rows (ts_are i) (first_at i))

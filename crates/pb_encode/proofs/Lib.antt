@@ -35,7 +35,7 @@ pub mod StreamSteps
 pub mod TableStreams
 pub mod TableTerms
 pub mod TallyLemmas
-pub mod Telling
+pub mod Hinting
 pub mod Walks
 pub mod WeightedTexts
 pub mod WholeTexts

@@ -1,4 +1,4 @@
-pub mod Adders
+pub mod Hints
 pub mod Faults
 pub mod Files
 pub mod GroupPlans

@@ -49,53 +49,63 @@ fn value_at(offset: &i128, above: &i128) -> i128
     *offset + *above
 }
 
-// Appends the lines of a table's rows, whose values are from an offset on.
-fn push_rows(
-    out: &mut Vec<u8>,
+// Appends the lines of rows.
+fn push_rows(out: &mut Vec<u8>, rows: &[(i128, Lit)]) -> Result<(), AllocError>
+    ensures { OnOk result (out.new.items ≡ out.old.items ++ bounds_text rows.now) }
+{
+    for row in rows {
+        push_row(out, &row.0, &row.1)?;
+    }
+    Ok(())
+}
+
+// The rows of a table, whose values are from an offset on.
+fn rows_at(
+    alloc: Global,
     table: &BoundTable,
     first: u32,
     offset: &i128,
-) -> Result<(), NoMemory>
+) -> Result<Vec<(i128, Lit)>, NoMemory>
     requires light { weight table.now < 2 ^ 100 }
     requires original { VarsBelow first table.now }
     requires low { 1 ≤ first }
     requires fits { first + table_fresh table.now ≤ 2 ^ 31 }
     requires offset { unsigned_abs offset.now < 2 ^ 126 }
-    ensures { OnOk result (out.new.items ≡ out.old.items ++ bounds_text (map (λ r. (offset.now +ℤ r.0, r.1)) (table_rows table.now first))) }
+    ensures { IfOk result (λ rows. rows.items ≡ map (λ r. (offset.now +ℤ r.0, r.1)) (table_rows table.now first)) }
 {
+    let mut rows = Vec::new(alloc);
     for place in 0..table.len() {
         let Some(row) = table.row(first, place) else {
             unreachable!();
         };
-        push_row(out, &value_at(offset, &row.0), &row.1)?;
+        rows.push((value_at(offset, &row.0), row.1))?;
     }
-    Ok(())
+    Ok(rows)
 }
 
-// Appends the lines of a problem's table, which is built anew.
-fn push_bounds(
+/// The rows of a problem's table of bounds, which is built anew, values ascending: a value that the objective may be below, and the
+/// literal that is false just there. None where no table is asked for. `NoMemory` is the only fault.
+pub fn bound_rows(
     alloc: Global,
     problem: &Problem,
     options: &Options,
     summary: &Summary,
-    out: &mut Vec<u8>,
-) -> Result<(), NoMemory>
+) -> Result<Vec<(i128, Lit)>, NoMemory>
     requires within { IsWithinLimits problem.now }
-    requires modest { options.now.budget ≤ 10000000 }
     requires encodable { IsEncodable options.now problem.now }
     requires summary { summary.now ≡ summary_of options.now problem.now }
-    ensures { OnOk result (out.new.items ≡ out.old.items ++ bounds_text (bound_rows options.now problem.now)) }
+    ensures { IfOk result (λ rows. rows.items ≡ bound_rows options.now problem.now) }
 {
     let Some(first) = summary.table else {
-        return Ok(());
+        return Ok(Vec::new(alloc));
     };
     let offset = offset_of(alloc, problem)?;
     let table = table_within(alloc, problem, options)?;
-    push_rows(out, &table, first, &offset)
+    rows_at(alloc, &table, first, &offset)
 }
 
-/// The two lines of a summary and, where there is a table of bounds, a line `bound W L` for each row, W ascending: W is a value that
-/// the objective may be below, and L the literal that is false just there. `NoMemory` is the only fault.
+/// The two lines of a summary and, where there is a table of bounds, a line `bound W L` for each row of a value W and a literal L.
+/// `NoMemory` is the only fault.
 pub fn words_of(
     alloc: Global,
     problem: &Problem,
@@ -103,12 +113,12 @@ pub fn words_of(
     summary: &Summary,
 ) -> Result<Vec<u8>, NoMemory>
     requires within { IsWithinLimits problem.now }
-    requires modest { options.now.budget ≤ 10000000 }
     requires encodable { IsEncodable options.now problem.now }
     requires summary { summary.now ≡ summary_of options.now problem.now }
     ensures { IfOk result (λ text. text.items ≡ words_of options.now problem.now) }
 {
     let mut text = summary_text(alloc, summary)?;
-    push_bounds(alloc, problem, options, summary, &mut text)?;
+    let rows = bound_rows(alloc, problem, options, summary)?;
+    push_rows(&mut text, rows.as_slice())?;
     Ok(text)
 }

@@ -1,5 +1,5 @@
 //! The steps that derive the clauses of a problem, handed to a sink.
-ghost use Rattle.std.specs.Prelude.{◌≡◌, ◌≤◌, ◌<◌, ◌+◌, ◌^◌, IfOk, IsTrue, length};
+ghost use Rattle.std.specs.Prelude.{◌≡◌, ◌≤◌, ◌<◌, ◌+◌, ◌^◌, IfOk, IfSome, length};
 ghost use Rattle.pb_base.specs.Problems.{originals, IsWithinLimits};
 ghost use Rattle.pb_norm.specs.Products.{loaded_of};
 ghost use Rattle.pb_family.specs.StepSinks.{HandsFrom};
@@ -7,12 +7,12 @@ ghost use Rattle.pb_choice.specs.Readiness.{LeavesIds};
 ghost use Rattle.pb_encode.specs.Clauses.{clause_total, fresh_total};
 ghost use Rattle.pb_encode.specs.Groups.{group_count, group_fresh, group_size, group_steps, groups_of};
 ghost use Rattle.pb_encode.specs.Steps.{steps_from};
-ghost use Rattle.pb_encode.specs.inner.Adders.{IsAdderGroup, TellAdders};
+ghost use Rattle.pb_encode.specs.inner.Hints.{AreHintsOf, IsToldOf};
 ghost use Rattle.pb_encode.specs.inner.GroupPlans.{plan_count, plan_fresh, plan_size, plan_steps, IsPlanBelow, IsSound};
 
-use crate::adders::first_bit;
 use crate::group_plan::{GroupPlan, plan_group};
 use crate::groups::{Group, Groups};
+use crate::hints::{Hint, HintsLeft, Tells};
 use pb_base::{Options, Problem};
 use pb_family::{SinkFault, StepSink};
 use std::alloc::Global;
@@ -55,14 +55,13 @@ fn derive_group<T: StepSink>(
     alloc: Global,
     group: &Group,
     options: &Options,
-    is_adder: bool,
+    told: Option<&Tells>,
     position: Position,
     sink: &mut T,
 ) -> Result<Position, SinkFault>
-    requires adder { IsTrue is_adder → IsAdderGroup options.now group.now }
+    requires told { IfSome told (λ tells. IsToldOf options.now group.now tells.now) }
     requires sound { IsSound position.first group.now }
     requires low { 1 ≤ position.first }
-    requires modest { options.now.budget ≤ 10000000 }
     requires fits { position.first + group_fresh options.now group.now ≤ 2 ^ 31 }
     requires counted { group_count options.now group.now ≤ 2 ^ 56 }
     requires given { 1 ≤ position.id }
@@ -72,24 +71,23 @@ fn derive_group<T: StepSink>(
     ensures id { IfOk result (λ next. next.id ≡ position.id + group_size group.now) }
     ensures hands { HandsFrom (group_steps options.now group.now position.first position.id) result (T.state sink.old) (T.state sink.new) }
 {
-    let plan = plan_group(alloc, group, options, is_adder)?;
+    let plan = plan_group(alloc, group, options, told)?;
     derive_plan(alloc, &plan, position, sink)
 }
 
 /// Hands over the derivations of all constraints of a problem, and gives where the next one stands. Each constraint is planned
-/// anew, and nothing is kept but what one statement needs. The bits tell which groups go to the adder, as far as it is known.
+/// anew, and nothing is kept but what one statement needs. The hints are of its groups.
 pub fn derive_loaded<T: StepSink>(
     alloc: Global,
     problem: &Problem,
     options: &Options,
-    adders: &[bool],
+    hints: &[Hint],
     position: Position,
     sink: &mut T,
 ) -> Result<Position, SinkFault>
     requires within { IsWithinLimits problem.now }
-    requires told { TellAdders options.now (groups_of problem.now) adders.now }
+    requires told { AreHintsOf options.now (groups_of problem.now) hints.now }
     requires vars { originals problem.now < position.first }
-    requires modest { options.now.budget ≤ 10000000 }
     requires fits { position.first + fresh_total options.now (groups_of problem.now) ≤ 2 ^ 31 }
     requires counted { clause_total options.now (groups_of problem.now) ≤ 2 ^ 56 }
     requires given { 1 ≤ position.id }
@@ -99,12 +97,11 @@ pub fn derive_loaded<T: StepSink>(
     ensures hands { HandsFrom (steps_from options.now position.first position.id (groups_of problem.now)) result (T.state sink.old) (T.state sink.new) }
 {
     let mut next = position;
-    let mut bits = adders;
+    let mut hints = HintsLeft::of(hints);
     let mut groups = Groups::of(problem);
     while let Some(group) = groups.next(alloc)? {
-        let (is_adder, rest) = first_bit(bits);
-        bits = rest;
-        next = derive_group(alloc, &group, options, is_adder, next, sink)?;
+        let told = hints.next();
+        next = derive_group(alloc, &group, options, told, next, sink)?;
     }
     Ok(next)
 }

@@ -2,6 +2,7 @@
 ghost use Rattle.std.specs.Prelude.{◌≡◌, ◌≤◌, ◌<◌, ◌^◌, ◌+◌, false, All, Err, OnOk, IfErr, IsTrue, length};
 ghost use Rattle.pb_base.specs.declared.limit.LimitKind.{LimitKind};
 ghost use Rattle.pb_base.specs.Problems.{IsWithinLimits};
+ghost use Rattle.pb_base.specs.Statements.{raw_of};
 ghost use Rattle.pb_desk.specs.View.{wrote};
 ghost use Rattle.pb_desk.specs.Desk.{IsSteady, Reaches};
 ghost use Rattle.pb_dimacs.specs.Outboxes.{IsAllSent};
@@ -9,15 +10,16 @@ ghost use Rattle.pb_norm.specs.Halves.{constraints_of, loaded};
 ghost use Rattle.pb_norm.specs.Products.{defining, loaded_of};
 ghost use Rattle.pb_encode.specs.Encodings.{derivation_text, made};
 ghost use Rattle.pb_encode.specs.Groups.{groups_of};
-ghost use Rattle.pb_encode.specs.inner.Adders.{TellAdders};
+ghost use Rattle.pb_encode.specs.inner.Hints.{AreHintsOf};
 ghost use Rattle.pb_encode.specs.inner.Files.{LacksForProof, LeavesProof, StopsProof};
 ghost use Rattle.pb_encode.specs.inner.Sending.{LacksFor, Stops};
 ghost use Rattle.pb_encode.specs.inner.SendingTexts.{SendsText};
 ghost use Rattle.pb_encode.specs.Summaries.{IsEncodable};
 
 use crate::fault::EncodeFault;
+use crate::hints::Hint;
 use crate::whole::stream_told_steps;
-use pb_base::{Lits, Options, Problem, Raw};
+use pb_base::{Lits, Options, Problem, Statement, Statements};
 use pb_desk::Desk;
 use pb_dimacs::{StepWriter, WriteBuffer};
 use pb_family::{SinkFault, StepSink};
@@ -25,22 +27,22 @@ use pb_norm::halves_of;
 use std::alloc::Global;
 
 // How many constraints a statement has.
-fn count_of(statement: &Raw) -> u64
-    ensures count { result ≡ length (constraints_of statement.now) }
+fn count_of(statement: &Statement<'_>) -> u64
+    ensures count { result ≡ length (constraints_of (raw_of statement.now)) }
     ensures few { result ≤ 2 }
 {
     halves_of(statement.relation).len() as u64
 }
 
 // How many statements have.
-fn count_statements(statements: &[Raw]) -> u64
+fn count_statements(statements: &Statements) -> u64
     requires few { length statements.now ≤ 2 ^ 24 + 1 }
     ensures count { result ≡ length (loaded statements.now) }
     ensures few { result ≤ 2 ^ 25 + 2 }
 {
     let mut count = 0_u64;
-    for statement in statements {
-        count += count_of(statement);
+    for statement in statements.iter() {
+        count += count_of(&statement);
     }
     count
 }
@@ -66,7 +68,7 @@ pub fn count_loaded(problem: &Problem) -> u64
     ensures few { result ≤ 2 ^ 53 }
 {
     count_products(problem.vars, problem.products.as_slice())
-        + count_statements(problem.statements.as_slice())
+        + count_statements(&problem.statements)
 }
 
 // Hands over all lines, and writes what is held, also where memory is wanting.
@@ -74,18 +76,17 @@ fn send_steps<'a, D: Desk>(
     alloc: Global,
     problem: &Problem,
     options: &Options,
-    adders: &[bool],
+    hints: &[Hint],
     writer: &mut StepWriter<'a, D>,
 ) -> Result<(), SinkFault>
     requires within { IsWithinLimits problem.now }
     requires encodable { IsEncodable options.now problem.now }
-    requires modest { options.now.budget ≤ 10000000 }
-    requires told { TellAdders options.now (groups_of problem.now) adders.now }
+    requires told { AreHintsOf options.now (groups_of problem.now) hints.now }
     requires next { (⟦<StepWriter<'a, D> as StepSink>⟧.state writer.old).next ≡ length (loaded_of problem.now) + 1 }
     ensures sends { let seen = ⟦<StepWriter<'a, D> as StepSink>⟧.state in SendsText (derivation_text options.now problem.now) result (seen writer.old).sink (seen writer.new).sink }
     ensures all_sent { OnOk result (IsAllSent ((⟦<StepWriter<'a, D> as StepSink>⟧.state writer.new).sink)) }
 {
-    match stream_told_steps(alloc, problem, options, adders, writer) {
+    match stream_told_steps(alloc, problem, options, hints, writer) {
         Ok(()) => Ok(writer.flush()?),
         Err(fault) => {
             writer.settle(fault);
@@ -99,13 +100,12 @@ fn write_steps<D: Desk>(
     alloc: Global,
     problem: &Problem,
     options: &Options,
-    adders: &[bool],
+    hints: &[Hint],
     desk: &mut D,
 ) -> Result<(), EncodeFault>
     requires within { IsWithinLimits problem.now }
     requires encodable { IsEncodable options.now problem.now }
-    requires modest { options.now.budget ≤ 10000000 }
-    requires told { TellAdders options.now (groups_of problem.now) adders.now }
+    requires told { AreHintsOf options.now (groups_of problem.now) hints.now }
     requires open { IsTrue ((D.state desk.old).view.writing 1) }
     ensures written { OnOk result (Reaches (wrote 1 (derivation_text options.now problem.now)) (D.state desk.old) (D.state desk.new)) }
     ensures stopped { IfErr result (Stops 1 (derivation_text options.now problem.now) (D.state desk.old) (D.state desk.new)) }
@@ -115,7 +115,7 @@ fn write_steps<D: Desk>(
     let mut outbox = WriteBuffer::new(alloc)?;
     let mut line = Vec::new(alloc);
     let mut writer = StepWriter::new(alloc, desk, 1, &mut outbox, &mut line, next);
-    send_steps(alloc, problem, options, adders, &mut writer)?;
+    send_steps(alloc, problem, options, hints, &mut writer)?;
     Ok(())
 }
 
@@ -124,14 +124,13 @@ pub fn encode_steps<D: Desk>(
     alloc: Global,
     problem: &Problem,
     options: &Options,
-    adders: &[bool],
+    hints: &[Hint],
     name: &str,
     desk: &mut D,
 ) -> Result<(), EncodeFault>
     requires within { IsWithinLimits problem.now }
     requires encodable { IsEncodable options.now problem.now }
-    requires modest { options.now.budget ≤ 10000000 }
-    requires told { TellAdders options.now (groups_of problem.now) adders.now }
+    requires told { AreHintsOf options.now (groups_of problem.now) hints.now }
     requires free { (D.state desk.old).view.writing 1 ≡ false }
 
     ensures made { OnOk result (Reaches (made 1 name.now (derivation_text options.now problem.now)) (D.state desk.old) (D.state desk.new)) }
@@ -142,7 +141,7 @@ pub fn encode_steps<D: Desk>(
     ensures steady { IsSteady (D.state desk.old) → result ≡ Err EncodeFault.WriteFault → LacksForProof options.now problem.now name.now (D.state desk.old) }
 {
     desk.create(1, name)?;
-    write_steps(alloc, problem, options, adders, desk)?;
+    write_steps(alloc, problem, options, hints, desk)?;
     desk.close(1)?;
     Ok(())
 }

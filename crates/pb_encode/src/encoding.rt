@@ -1,5 +1,5 @@
 //! A problem's files: the CNF, and the derivation of its clauses.
-ghost use Rattle.std.specs.Prelude.{◌≡◌, ◌≤◌, [], false, Err, OnOk, IfOk, IfErr, IsSome, IsTrue};
+ghost use Rattle.std.specs.Prelude.{◌≡◌, [], false, Err, OnOk, IfOk, IfErr, IsSome, IsTrue};
 ghost use Rattle.pb_base.specs.declared.limit.LimitKind.{LimitKind};
 ghost use Rattle.pb_base.specs.Problems.{IsWithinLimits};
 ghost use Rattle.pb_desk.specs.View.{wrote};
@@ -7,7 +7,7 @@ ghost use Rattle.pb_desk.specs.Desk.{IsSteady, Reaches, written};
 ghost use Rattle.pb_dimacs.specs.Outboxes.{IsAllSent};
 ghost use Rattle.pb_encode.specs.Encodings.{made, made_files, names_of, problem_text, IsCutOff, Lacks, Refuses, WantsMemory};
 ghost use Rattle.pb_encode.specs.Groups.{groups_of};
-ghost use Rattle.pb_encode.specs.inner.Adders.{TellAdders};
+ghost use Rattle.pb_encode.specs.inner.Hints.{AreHintsOf, IsBlank};
 ghost use Rattle.pb_encode.specs.inner.Files.{IsCnfCutOff, LacksForCnf, WantsForCnf};
 ghost use Rattle.pb_encode.specs.inner.Sending.{LacksFor, Stops};
 ghost use Rattle.pb_encode.specs.inner.SendingTexts.{HandsTextIfMemory, SendsText};
@@ -15,6 +15,7 @@ ghost use Rattle.pb_encode.specs.Summaries.{summary_of, IsEncodable};
 
 use crate::derivation_file::encode_steps;
 use crate::fault::EncodeFault;
+use crate::hints::{Hint, Hints};
 use crate::measuring::measure_telling;
 use crate::summary::Summary;
 use crate::whole::hand_told_clauses;
@@ -29,19 +30,18 @@ fn hand_cnf<'a, D: Desk>(
     alloc: Global,
     problem: &Problem,
     options: &Options,
-    adders: &[bool],
+    hints: &[Hint],
     summary: &Summary,
     writer: &mut ClauseWriter<'a, D>,
 ) -> Result<(), SinkFault>
     requires within { IsWithinLimits problem.now }
     requires encodable { IsEncodable options.now problem.now }
-    requires modest { options.now.budget ≤ 10000000 }
-    requires told { TellAdders options.now (groups_of problem.now) adders.now }
+    requires told { AreHintsOf options.now (groups_of problem.now) hints.now }
     requires summary { summary.now ≡ summary_of options.now problem.now }
     ensures { let seen = ⟦<ClauseWriter<'a, D> as ClauseSink>⟧.state in HandsTextIfMemory (problem_text options.now problem.now) result (seen writer.old) (seen writer.new) }
 {
     writer.header(summary.vars, summary.clauses)?;
-    hand_told_clauses(alloc, problem, options, adders, writer)
+    hand_told_clauses(alloc, problem, options, hints, writer)
 }
 
 // Hands over all lines, and writes what is held, also where memory is wanting.
@@ -49,19 +49,18 @@ fn send_cnf<'a, D: Desk>(
     alloc: Global,
     problem: &Problem,
     options: &Options,
-    adders: &[bool],
+    hints: &[Hint],
     summary: &Summary,
     writer: &mut ClauseWriter<'a, D>,
 ) -> Result<(), SinkFault>
     requires within { IsWithinLimits problem.now }
     requires encodable { IsEncodable options.now problem.now }
-    requires modest { options.now.budget ≤ 10000000 }
-    requires told { TellAdders options.now (groups_of problem.now) adders.now }
+    requires told { AreHintsOf options.now (groups_of problem.now) hints.now }
     requires summary { summary.now ≡ summary_of options.now problem.now }
     ensures sends { let seen = ⟦<ClauseWriter<'a, D> as ClauseSink>⟧.state in SendsText (problem_text options.now problem.now) result (seen writer.old) (seen writer.new) }
     ensures all_sent { OnOk result (IsAllSent (⟦<ClauseWriter<'a, D> as ClauseSink>⟧.state writer.new)) }
 {
-    match hand_cnf(alloc, problem, options, adders, summary, writer) {
+    match hand_cnf(alloc, problem, options, hints, summary, writer) {
         Ok(()) => Ok(writer.flush()?),
         Err(fault) => {
             writer.settle(fault);
@@ -75,14 +74,13 @@ fn write_cnf<D: Desk>(
     alloc: Global,
     problem: &Problem,
     options: &Options,
-    adders: &[bool],
+    hints: &[Hint],
     summary: &Summary,
     desk: &mut D,
 ) -> Result<(), EncodeFault>
     requires within { IsWithinLimits problem.now }
     requires encodable { IsEncodable options.now problem.now }
-    requires modest { options.now.budget ≤ 10000000 }
-    requires told { TellAdders options.now (groups_of problem.now) adders.now }
+    requires told { AreHintsOf options.now (groups_of problem.now) hints.now }
     requires summary { summary.now ≡ summary_of options.now problem.now }
     requires open { IsTrue ((D.state desk.old).view.writing 0) }
     ensures written { OnOk result (Reaches (wrote 0 (problem_text options.now problem.now)) (D.state desk.old) (D.state desk.new)) }
@@ -91,7 +89,7 @@ fn write_cnf<D: Desk>(
 {
     let mut outbox = WriteBuffer::new(alloc)?;
     let mut writer = ClauseWriter::new(desk, 0, &mut outbox);
-    send_cnf(alloc, problem, options, adders, summary, &mut writer)?;
+    send_cnf(alloc, problem, options, hints, summary, &mut writer)?;
     Ok(())
 }
 
@@ -101,18 +99,17 @@ fn encode_cnf<D: Desk>(
     alloc: Global,
     problem: &Problem,
     options: &Options,
-    adders: &mut Vec<bool>,
+    hints: &mut Hints,
     name: &str,
     desk: &mut D,
 ) -> Result<Summary, EncodeFault>
     requires within { IsWithinLimits problem.now }
-    requires modest { options.now.budget ≤ 10000000 }
-    requires none { adders.old.items ≡ [] }
+    requires none { IsBlank hints.old }
     requires free { (D.state desk.old).view.writing 0 ≡ false }
 
     ensures summary { IfOk result (λ summary. summary ≡ summary_of options.now problem.now) }
     ensures encodable { OnOk result (IsEncodable options.now problem.now) }
-    ensures told { OnOk result (TellAdders options.now (groups_of problem.now) adders.new.items) }
+    ensures told { OnOk result (AreHintsOf options.now (groups_of problem.now) hints.new.list.items) }
     ensures made { OnOk result (Reaches (made 0 name.now (problem_text options.now problem.now)) (D.state desk.old) (D.state desk.new)) }
 
     ensures limit { (k : LimitKind) → result ≡ Err (EncodeFault.Limit k) → Refuses k options.now problem.now (D.state desk.old) (D.state desk.new) }
@@ -120,9 +117,9 @@ fn encode_cnf<D: Desk>(
     ensures no_memory { result ≡ Err EncodeFault.NoMemory → WantsForCnf options.now problem.now name.now (D.state desk.old) (D.state desk.new) }
     ensures steady { IsSteady (D.state desk.old) → result ≡ Err EncodeFault.WriteFault → LacksForCnf options.now problem.now name.now (D.state desk.old) }
 {
-    let summary = measure_telling(alloc, problem, options, adders)?;
+    let summary = measure_telling(alloc, problem, options, hints)?;
     desk.create(0, name)?;
-    write_cnf(alloc, problem, options, adders.as_slice(), &summary, desk)?;
+    write_cnf(alloc, problem, options, hints.as_slice(), &summary, desk)?;
     desk.close(0)?;
     Ok(summary)
 }
@@ -145,7 +142,6 @@ pub fn encode<D: Desk>(
     desk: &mut D,
 ) -> Result<Summary, EncodeFault>
     requires within { IsWithinLimits problem.now }
-    requires modest { options.now.budget ≤ 10000000 }
     requires free { (D.state desk.old).view.writing 0 ≡ false }
     requires free_proof { IsSome names.now.proof → (D.state desk.old).view.writing 1 ≡ false }
 
@@ -158,10 +154,10 @@ pub fn encode<D: Desk>(
     ensures no_memory { result ≡ Err EncodeFault.NoMemory → WantsMemory options.now problem.now (names_of names.now) (D.state desk.old) (D.state desk.new) }
     ensures steady { IsSteady (D.state desk.old) → result ≡ Err EncodeFault.WriteFault → Lacks options.now problem.now (names_of names.now) (D.state desk.old) }
 {
-    let mut adders = Vec::new(alloc);
-    let summary = encode_cnf(alloc, problem, options, &mut adders, names.cnf, desk)?;
+    let mut hints = Hints::new(alloc);
+    let summary = encode_cnf(alloc, problem, options, &mut hints, names.cnf, desk)?;
     if let Some(proof) = names.proof {
-        encode_steps(alloc, problem, options, adders.as_slice(), proof, desk)?;
+        encode_steps(alloc, problem, options, hints.as_slice(), proof, desk)?;
     }
     Ok(summary)
 }

@@ -1,14 +1,19 @@
 //! How a group of constraints is encoded.
-ghost use Rattle.std.specs.Prelude.{◌≡◌, ◌≤◌, ◌+◌, ◌^◌, IfOk, IsTrue};
+ghost use Rattle.std.specs.Prelude.{◌≡◌, ◌≤◌, ◌+◌, ◌^◌, IfOk, IfSome};
 ghost use Rattle.pb_family.specs.Handing.{HandsIfMemory};
 ghost use Rattle.pb_family.specs.StepSinks.{HandsFrom};
 ghost use Rattle.pb_choice.specs.Readiness.{LeavesIds};
-ghost use Rattle.pb_encode.specs.inner.Adders.{IsAdderGroup};
+ghost use Rattle.pb_encode.specs.declared.group_plan.GroupPlan.TheVariants.{Alone};
+ghost use Rattle.pb_encode.specs.declared.hints.Tells.TheVariants.{Diagram};
+ghost use Rattle.pb_encode.specs.inner.Hints.{IsAdderGroup, IsToldOf};
 ghost use Rattle.pb_encode.specs.inner.GroupPlans.{plan_clauses, plan_count, plan_fresh, plan_size, plan_steps, IsGroupPlan, IsLightGroup, IsPlanBelow};
 
 use crate::groups::Group;
+use crate::hints::Tells;
 use pb_base::{NoMemory, Options};
-use pb_choice::{Counts, EqualPlan, Plan, plan, plan_adder, plan_adders, plan_equal};
+use pb_choice::{
+    Counts, EqualPlan, Kept, Plan, plan, plan_adder, plan_adders, plan_equal, plan_kept,
+};
 use pb_family::{ClauseSink, SinkFault, StepSink};
 use std::alloc::Global;
 
@@ -35,7 +40,6 @@ fn plan_adder_group<'a>(
     options: &Options,
 ) -> Result<GroupPlan<'a>, NoMemory>
     requires light { IsLightGroup group.now }
-    requires modest { options.now.budget ≤ 10000000 }
     requires adder { IsAdderGroup options.now group.now }
     ensures { IfOk result (IsGroupPlan options.now group.now) }
 {
@@ -48,25 +52,69 @@ fn plan_adder_group<'a>(
     }
 }
 
-/// How a group is encoded under some options. Where it is known to go to the adder, no other family is built.
-pub fn plan_group<'a>(
+// How a group of one constraint is encoded of which the diagram is kept.
+fn plan_kept_group<'a>(
     alloc: Global,
     group: &'a Group,
     options: &Options,
-    is_adder: bool,
+    kept: &'a Kept,
 ) -> Result<GroupPlan<'a>, NoMemory>
     requires light { IsLightGroup group.now }
-    requires modest { options.now.budget ≤ 10000000 }
-    requires adder { IsTrue is_adder → IsAdderGroup options.now group.now }
+    requires kept { IsToldOf options.now group.now (Diagram kept.now) }
     ensures { IfOk result (IsGroupPlan options.now group.now) }
 {
-    if is_adder {
-        return plan_adder_group(alloc, group, options);
+    match group {
+        Group::Alone(constraint) => {
+            let plan = plan_kept(alloc, constraint, options, kept)?;
+            Ok(GroupPlan::Alone(plan))
+        }
+        Group::Paired(_, _) => unreachable!(),
     }
+}
+
+// How a group is encoded of which nothing is told.
+fn plan_new_group<'a>(
+    alloc: Global,
+    group: &'a Group,
+    options: &Options,
+) -> Result<GroupPlan<'a>, NoMemory>
+    requires light { IsLightGroup group.now }
+    ensures { IfOk result (IsGroupPlan options.now group.now) }
+{
     match group {
         Group::Alone(constraint) => Ok(GroupPlan::Alone(plan(alloc, constraint, options)?)),
         Group::Paired(lower, upper) => {
             Ok(GroupPlan::Paired(plan_equal(alloc, lower, upper, options)?))
+        }
+    }
+}
+
+/// How a group is encoded under some options. What is told of it is not built again.
+pub fn plan_group<'a>(
+    alloc: Global,
+    group: &'a Group,
+    options: &Options,
+    told: Option<&'a Tells>,
+) -> Result<GroupPlan<'a>, NoMemory>
+    requires light { IsLightGroup group.now }
+    requires told { IfSome told (λ tells. IsToldOf options.now group.now tells.now) }
+    ensures { IfOk result (IsGroupPlan options.now group.now) }
+{
+    match told {
+        Some(Tells::Adder) => plan_adder_group(alloc, group, options),
+        Some(Tells::Diagram(kept)) => plan_kept_group(alloc, group, options, kept),
+        None => plan_new_group(alloc, group, options),
+    }
+}
+
+impl<'a> GroupPlan<'a> {
+    /// The plan of the constraint, if it is of one alone.
+    pub fn into_alone(self) -> Option<Plan<'a>>
+        ensures { IfSome result (λ plan. self.entry ≡ Alone plan) }
+    {
+        match self {
+            GroupPlan::Alone(plan) => Some(plan),
+            GroupPlan::Paired(_) => None,
         }
     }
 }

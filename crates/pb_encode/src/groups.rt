@@ -3,7 +3,7 @@ ghost use Rattle.std.specs.Prelude.{◌≡◌, ◌^◌, [], ◌∷◌, IfOk, IfS
 ghost use Rattle.pb_base.specs.Problems.{IsWithinLimits, StaysBelow};
 ghost use Rattle.pb_encode.specs.Groups.{group_of, groups_of};
 
-use pb_base::{Lits, NoMemory, Problem, Raw, Relation};
+use pb_base::{Lits, NoMemory, Problem, Raw, Relation, StatementsLeft};
 use pb_norm::{Half, Linear, normalize, product_constraint, product_variable};
 use std::alloc::Global;
 use std::marker::Model;
@@ -48,7 +48,9 @@ pub struct Groups<'a> {
     vars: u32,
     products: &'a [Lits],
     place: usize,
-    statements: &'a [Raw],
+    statements: StatementsLeft<'a>,
+    // The statement that was read last, whose room serves the next one.
+    last: Option<Raw>,
 }
 
 impl<'a> Model for Groups<'a> {
@@ -58,9 +60,9 @@ impl<'a> Model for Groups<'a> {
 
     ghost Value = { List Group };
 
-    ghost view = { λ g. groups_left g.vars g.products.now g.place g.statements.now };
+    ghost view = { λ g. groups_left g.vars g.products.now g.place g.statements };
 
-    ghost invariant = { λ g. MayGoOn g.vars g.products.now g.place g.statements.now };
+    ghost invariant = { λ g. MayGoOn g.vars g.products.now g.place g.statements };
 }
 
 impl<'a> Groups<'a> {
@@ -73,7 +75,8 @@ impl<'a> Groups<'a> {
             vars: problem.vars,
             products: problem.products.as_slice(),
             place: 0,
-            statements: problem.statements.as_slice(),
+            statements: problem.statements.iter(),
+            last: None,
         }
     }
 
@@ -94,11 +97,15 @@ impl<'a> Groups<'a> {
             }
             return Ok(Some(Group::Alone(constraint)));
         }
-        let Some((statement, rest)) = self.statements.split_first() else {
-            return Ok(None);
+        let mut statement = match self.last.take() {
+            Some(last) => last,
+            None => Raw::empty(alloc),
         };
-        let group = group_of(alloc, statement)?;
-        self.statements = rest;
+        if !self.statements.next_into(&mut statement)? {
+            return Ok(None);
+        }
+        let group = group_of(alloc, &statement)?;
+        self.last = Some(statement);
         Ok(Some(group))
     }
 }

@@ -1,7 +1,6 @@
 //! Encodes problems as clauses.
 #![tactic(auto)]
 
-mod adders;
 mod bounds;
 mod derivation;
 mod derivation_file;
@@ -10,6 +9,7 @@ mod encoding;
 mod fault;
 mod group_plan;
 mod groups;
+mod hints;
 mod measuring;
 mod models;
 mod objective;
@@ -20,7 +20,7 @@ mod tally;
 mod weighing;
 mod whole;
 
-pub use bounds::words_of;
+pub use bounds::{bound_rows, words_of};
 pub use derivation_file::count_loaded;
 pub use derived::{cnf_tells_the_clauses, steps_derive_the_clauses};
 pub use encoding::{Names, encode};
@@ -30,8 +30,8 @@ pub use models::{
     clauses_force_what_constraints_do, clauses_have_the_solutions, equalities_stand_apart,
     groups_have_the_constraints, rows_bound_the_objective,
 };
+pub use objective::{objective_form, offset_by};
 pub use summary::{Summary, Treatments, summary_text};
-pub use table::table_of;
 pub use weighing::{
     costs_add_up, hard_clauses_have_the_costs, weighted, weighted_text_says_the_clauses,
 };

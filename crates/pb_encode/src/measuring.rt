@@ -1,19 +1,20 @@
 //! The size of an encoding, before anything is written.
-ghost use Rattle.std.specs.Prelude.{◌≡◌, ◌≤◌, ◌<◌, ◌+◌, [], ◌∷◌, ◌^◌, IfOk, OnOk, Err, None, Some, if◌then◌else◌};
+ghost use Rattle.std.specs.Prelude.{◌≡◌, ◌≤◌, ◌<◌, ◌+◌, [], ◌∷◌, ◌^◌, List, drop, IfOk, OnOk, Err, None, Some, if◌then◌else◌};
 ghost use Rattle.pb_base.specs.Problems.{IsWithinLimits};
 ghost use Rattle.pb_base.specs.declared.limit.LimitKind.{LimitKind};
 ghost use Rattle.pb_gentot.specs.BoundTable.{table_fresh};
 ghost use Rattle.pb_encode.specs.Groups.{groups_of};
 ghost use Rattle.pb_encode.specs.Summaries.{summary_of, IsEncodable, IsOver};
 ghost use Rattle.pb_encode.specs.Tables.{table_terms};
-ghost use Rattle.pb_encode.specs.inner.Adders.{IsTold, TellAdders};
+ghost use Rattle.pb_encode.specs.declared.groups.Group.{Group};
+ghost use Rattle.pb_encode.specs.inner.Hints.{AreHintsOf, IsBlank, StayHints};
 ghost use Rattle.pb_encode.specs.inner.GroupPlans.{IsLightGroup};
 ghost use Rattle.pb_encode.specs.inner.Tallies.{Counts, IsTally};
 
-use crate::adders::are_adders;
 use crate::fault::MeasureFault;
 use crate::group_plan::plan_group;
 use crate::groups::{Group, Groups};
+use crate::hints::Hints;
 use crate::summary::Summary;
 use crate::table::table_of;
 use crate::tally::Tally;
@@ -22,42 +23,42 @@ use pb_family::Built;
 use pb_gentot::BoundTable;
 use std::alloc::Global;
 
-// Counts the constraints of a group, and notes whether they go to the adder.
+// Counts the constraints of a group, and notes what is to be told of it.
 fn count_group(
     alloc: Global,
     group: &Group,
     options: &Options,
     tally: &mut Tally,
-    adders: &mut Vec<bool>,
+    hints: &mut Hints,
 ) -> Result<(), NoMemory>
     requires light { IsLightGroup group.now }
-    requires modest { options.now.budget ≤ 10000000 }
+    requires few { hints.old.noted < 2 ^ 63 }
     ensures counts { OnOk result (Counts options.now tally.old tally.new (group.now ∷ [])) }
-    ensures told { OnOk result (IsTold options.now group.now adders.old.items adders.new.items) }
+    ensures next { OnOk result (hints.new.noted ≡ hints.old.noted + 1) }
+    ensures told { (gs rest : List Group) → drop hints.old.noted gs ≡ group.now ∷ rest → OnOk result (StayHints options.now gs hints.old hints.new) }
 {
-    let plan = plan_group(alloc, group, options, false)?;
+    let plan = plan_group(alloc, group, options, None)?;
     tally.add_group(&plan);
-    adders.push(are_adders(&plan))?;
+    hints.note(alloc, plan)?;
     Ok(())
 }
 
-// Counts all constraints of a problem, and notes which groups go to the adder.
+// Counts all constraints of a problem, and notes what is to be told of its groups.
 fn tally_of(
     alloc: Global,
     problem: &Problem,
     options: &Options,
-    adders: &mut Vec<bool>,
+    hints: &mut Hints,
 ) -> Result<Tally, NoMemory>
     requires within { IsWithinLimits problem.now }
-    requires modest { options.now.budget ≤ 10000000 }
-    requires none { adders.old.items ≡ [] }
+    requires none { IsBlank hints.old }
     ensures counts { IfOk result (IsTally options.now (groups_of problem.now)) }
-    ensures told { OnOk result (TellAdders options.now (groups_of problem.now) adders.new.items) }
+    ensures told { OnOk result (AreHintsOf options.now (groups_of problem.now) hints.new.list.items) }
 {
     let mut tally = Tally::new();
     let mut groups = Groups::of(problem);
     while let Some(group) = groups.next(alloc)? {
-        count_group(alloc, &group, options, &mut tally, adders)?;
+        count_group(alloc, &group, options, &mut tally, hints)?;
     }
     Ok(tally)
 }
@@ -76,19 +77,18 @@ fn measure_with(
     problem: &Problem,
     options: &Options,
     table: &BoundTable,
-    adders: &mut Vec<bool>,
+    hints: &mut Hints,
 ) -> Result<Summary, MeasureFault>
     requires within { IsWithinLimits problem.now }
-    requires modest { options.now.budget ≤ 10000000 }
-    requires none { adders.old.items ≡ [] }
+    requires none { IsBlank hints.old }
     requires terms { table.now ≡ table_terms options.now problem.now }
     requires bounds { table_fresh (table_terms options.now problem.now) ≤ options.now.budget }
-    ensures told { OnOk result (TellAdders options.now (groups_of problem.now) adders.new.items) }
+    ensures told { OnOk result (AreHintsOf options.now (groups_of problem.now) hints.new.list.items) }
     ensures summary { IfOk result (λ summary. summary ≡ summary_of options.now problem.now) }
     ensures encodable { OnOk result (IsEncodable options.now problem.now) }
     ensures limit { (which : LimitKind) → result ≡ Err (MeasureFault.Limit which) → IsOver which options.now problem.now }
 {
-    let tally = tally_of(alloc, problem, options, adders)?;
+    let tally = tally_of(alloc, problem, options, hints)?;
     let loaded = (problem.originals() as u64).saturating_add(tally.fresh);
     let vars = loaded.saturating_add(table.fresh());
     if vars > MAX_VARIABLES as u64 {
@@ -112,25 +112,24 @@ fn measure_with(
     })
 }
 
-/// The size of a problem's encoding, and which groups go to the adder. Their other families passed the budget, or were not built,
-/// so that whoever plans them again need not build these.
+/// The size of a problem's encoding, and what is told of its groups: which go to the adder, since their other families passed the
+/// budget or were not built, and diagrams that were searched for, so that whoever plans them again need not build these.
 pub fn measure_telling(
     alloc: Global,
     problem: &Problem,
     options: &Options,
-    adders: &mut Vec<bool>,
+    hints: &mut Hints,
 ) -> Result<Summary, MeasureFault>
     requires within { IsWithinLimits problem.now }
-    requires modest { options.now.budget ≤ 10000000 }
-    requires none { adders.old.items ≡ [] }
-    ensures told { OnOk result (TellAdders options.now (groups_of problem.now) adders.new.items) }
+    requires none { IsBlank hints.old }
+    ensures told { OnOk result (AreHintsOf options.now (groups_of problem.now) hints.new.list.items) }
     ensures summary { IfOk result (λ summary. summary ≡ summary_of options.now problem.now) }
     ensures encodable { OnOk result (IsEncodable options.now problem.now) }
     ensures limit { (which : LimitKind) → result ≡ Err (MeasureFault.Limit which) → IsOver which options.now problem.now }
 {
     let built = table_of(alloc, problem, options)?;
     match built {
-        Built::Fits(table) => measure_with(alloc, problem, options, &table, adders),
+        Built::Fits(table) => measure_with(alloc, problem, options, &table, hints),
         Built::Over => {
             let which = LimitKind::Bounds;
             Err(MeasureFault::Limit { which })
@@ -141,11 +140,10 @@ pub fn measure_telling(
 /// The size of a problem's encoding.
 pub fn measure(alloc: Global, problem: &Problem, options: &Options) -> Result<Summary, MeasureFault>
     requires within { IsWithinLimits problem.now }
-    requires modest { options.now.budget ≤ 10000000 }
     ensures summary { IfOk result (λ summary. summary ≡ summary_of options.now problem.now) }
     ensures encodable { OnOk result (IsEncodable options.now problem.now) }
     ensures limit { (which : LimitKind) → result ≡ Err (MeasureFault.Limit which) → IsOver which options.now problem.now }
 {
-    let mut adders = Vec::new(alloc);
-    measure_telling(alloc, problem, options, &mut adders)
+    let mut hints = Hints::new(alloc);
+    measure_telling(alloc, problem, options, &mut hints)
 }

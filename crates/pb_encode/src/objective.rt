@@ -20,7 +20,8 @@ fn objective_of(problem: &Problem) -> &[Term]
     }
 }
 
-/// The objective in normal form.
+/// The objective of a problem in normal form, as a half that is never reached: its terms are what literals cost, and what is left of
+/// the degree is told by `offset_by`. `NoMemory` is the only fault.
 pub fn objective_form(alloc: Global, problem: &Problem) -> Result<Linear, NoMemory>
     requires { IsWithinLimits problem.now }
     ensures { IfOk result (λ form. form ≡ objective_form problem.now) }
@@ -28,7 +29,7 @@ pub fn objective_form(alloc: Global, problem: &Problem) -> Result<Linear, NoMemo
     written(alloc, objective_of(problem), FAR)
 }
 
-/// What the costs are added to.
+/// What the costs are added to, given the objective in normal form.
 pub fn offset_by(objective: &Linear) -> i128
     ensures { result ≡ pos (2 ^ 100) -ℤ pos objective.now.degree }
 {

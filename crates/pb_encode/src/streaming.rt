@@ -1,15 +1,15 @@
 //! The clauses of a problem, handed to a sink.
-ghost use Rattle.std.specs.Prelude.{◌≡◌, ◌≤◌, ◌<◌, ◌+◌, ◌^◌, IfOk, IsTrue};
+ghost use Rattle.std.specs.Prelude.{◌≡◌, ◌≤◌, ◌<◌, ◌+◌, ◌^◌, IfOk, IfSome};
 ghost use Rattle.pb_base.specs.Problems.{IsWithinLimits};
 ghost use Rattle.pb_family.specs.Handing.{HandsIfMemory};
 ghost use Rattle.pb_encode.specs.Clauses.{loaded_clauses, loaded_vars, table_first};
 ghost use Rattle.pb_encode.specs.Groups.{group_clauses, group_fresh, groups_of};
-ghost use Rattle.pb_encode.specs.inner.Adders.{IsAdderGroup, TellAdders};
+ghost use Rattle.pb_encode.specs.inner.Hints.{AreHintsOf, IsToldOf};
 ghost use Rattle.pb_encode.specs.inner.GroupPlans.{plan_clauses, plan_fresh, IsPlanBelow, IsSound};
 
-use crate::adders::first_bit;
 use crate::group_plan::{GroupPlan, plan_group};
 use crate::groups::{Group, Groups};
+use crate::hints::{Hint, HintsLeft, Tells};
 use pb_base::{Options, Problem};
 use pb_family::{ClauseSink, SinkFault};
 use std::alloc::Global;
@@ -37,45 +37,42 @@ fn stream_group<S: ClauseSink>(
     alloc: Global,
     group: &Group,
     options: &Options,
-    is_adder: bool,
+    told: Option<&Tells>,
     first: u32,
     sink: &mut S,
 ) -> Result<u32, SinkFault>
-    requires adder { IsTrue is_adder → IsAdderGroup options.now group.now }
+    requires told { IfSome told (λ tells. IsToldOf options.now group.now tells.now) }
     requires sound { IsSound first group.now }
     requires low { 1 ≤ first }
-    requires modest { options.now.budget ≤ 10000000 }
     requires fits { first + group_fresh options.now group.now ≤ 2 ^ 31 }
     ensures next { IfOk result (λ next. next ≡ first + group_fresh options.now group.now) }
     ensures hands { HandsIfMemory (group_clauses options.now group.now first) result (S.state sink.old) (S.state sink.new) }
 {
-    let plan = plan_group(alloc, group, options, is_adder)?;
+    let plan = plan_group(alloc, group, options, told)?;
     stream_plan(alloc, &plan, first, sink)
 }
 
 /// Hands over the clauses of all constraints of a problem, of which nothing is kept but what one statement needs, and gives the
-/// first number after their fresh variables. The bits tell which groups go to the adder, as far as it is known.
+/// first number after their fresh variables. The hints are of its groups.
 pub fn stream_loaded<S: ClauseSink>(
     alloc: Global,
     problem: &Problem,
     options: &Options,
-    adders: &[bool],
+    hints: &[Hint],
     sink: &mut S,
 ) -> Result<u32, SinkFault>
     requires within { IsWithinLimits problem.now }
-    requires told { TellAdders options.now (groups_of problem.now) adders.now }
+    requires told { AreHintsOf options.now (groups_of problem.now) hints.now }
     requires fits { loaded_vars options.now problem.now < 2 ^ 31 }
-    requires modest { options.now.budget ≤ 10000000 }
     ensures next { IfOk result (λ next. next ≡ table_first options.now problem.now) }
     ensures hands { HandsIfMemory (loaded_clauses options.now problem.now) result (S.state sink.old) (S.state sink.new) }
 {
     let mut next = problem.originals() + 1;
-    let mut bits = adders;
+    let mut hints = HintsLeft::of(hints);
     let mut groups = Groups::of(problem);
     while let Some(group) = groups.next(alloc)? {
-        let (is_adder, rest) = first_bit(bits);
-        bits = rest;
-        next = stream_group(alloc, &group, options, is_adder, next, sink)?;
+        let told = hints.next();
+        next = stream_group(alloc, &group, options, told, next, sink)?;
     }
     Ok(next)
 }

@@ -47,7 +47,6 @@ pub fn table_of(
     options: &Options,
 ) -> Result<Built<BoundTable>, NoMemory>
     requires within { IsWithinLimits problem.now }
-    requires modest { options.now.budget ≤ 10000000 }
     ensures over { IfOk result (λ built. IsOverExactly (table_fresh (table_terms options.now problem.now)) options.now.budget built) }
     ensures terms { IfOk result (λ built. IfFits (λ t. t ≡ table_terms options.now problem.now) built) }
 {
@@ -62,7 +61,6 @@ pub fn table_within(
     options: &Options,
 ) -> Result<BoundTable, NoMemory>
     requires within { IsWithinLimits problem.now }
-    requires modest { options.now.budget ≤ 10000000 }
     requires bounds { table_fresh (table_terms options.now problem.now) ≤ options.now.budget }
     ensures { IfOk result (λ table. table ≡ table_terms options.now problem.now) }
 {
@@ -82,7 +80,6 @@ pub fn stream_table<S: ClauseSink>(
     sink: &mut S,
 ) -> Result<(), SinkFault>
     requires within { IsWithinLimits problem.now }
-    requires modest { options.now.budget ≤ 10000000 }
     requires bounds { table_fresh (table_terms options.now problem.now) ≤ options.now.budget }
     requires original { originals problem.now + 1 ≤ first }
     requires fits { first + table_fresh (table_terms options.now problem.now) ≤ 2 ^ 31 }
@@ -101,7 +98,6 @@ pub fn derive_table<T: StepSink>(
     sink: &mut T,
 ) -> Result<(), SinkFault>
     requires within { IsWithinLimits problem.now }
-    requires modest { options.now.budget ≤ 10000000 }
     requires bounds { table_fresh (table_terms options.now problem.now) ≤ options.now.budget }
     requires original { originals problem.now + 1 ≤ first }
     requires fits { first + table_fresh (table_terms options.now problem.now) ≤ 2 ^ 31 }

@@ -1,5 +1,5 @@
 //! A problem's weighted CNF: its clauses, which are hard, and its objective as soft literals.
-ghost use Rattle.std.specs.Prelude.{◌≡◌, ◌≤◌, ◌^◌, ◌-ℤ◌, pos, false, map, Err, IsTrue, IfOk, IfErr, OnOk};
+ghost use Rattle.std.specs.Prelude.{◌≡◌, ◌^◌, ◌-ℤ◌, pos, false, map, Err, IsTrue, IfOk, IfErr, OnOk};
 ghost use Rattle.pb_base.specs.declared.limit.LimitKind.{LimitKind};
 ghost use Rattle.pb_base.specs.declared.problem.Problem.{Problem};
 ghost use Rattle.pb_base.specs.Problems.{IsWithinLimits};
@@ -15,13 +15,14 @@ ghost use Rattle.pb_encode.specs.Clauses.{problem_clauses};
 ghost use Rattle.pb_encode.specs.Costs.{objective_form, softs_of, CostsAddUp};
 ghost use Rattle.pb_encode.specs.Encodings.{made, Refuses};
 ghost use Rattle.pb_encode.specs.Groups.{groups_of};
-ghost use Rattle.pb_encode.specs.inner.Adders.{TellAdders};
+ghost use Rattle.pb_encode.specs.inner.Hints.{AreHintsOf};
 ghost use Rattle.pb_encode.specs.inner.Sending.{LacksFor, Stops};
 ghost use Rattle.pb_encode.specs.inner.SendingTexts.{HandsTextIfMemory, SendsText};
 ghost use Rattle.pb_encode.specs.Summaries.{summary_of, IsEncodable};
 ghost use Rattle.pb_encode.specs.Weighted.{weighted_text, HasCostsOf, IsWeightedCutOff, LacksForWeighted, WantsForWeighted};
 
 use crate::fault::EncodeFault;
+use crate::hints::{Hint, Hints};
 use crate::measuring::measure_telling;
 use crate::objective::{objective_form, offset_by};
 use crate::summary::Summary;
@@ -59,19 +60,18 @@ fn hand_weighted<'a, D: Desk>(
     alloc: Global,
     problem: &Problem,
     options: &Options,
-    adders: &[bool],
+    hints: &[Hint],
     objective: &Linear,
     writer: &mut HardWriter<'a, D>,
 ) -> Result<(), SinkFault>
     requires within { IsWithinLimits problem.now }
     requires encodable { IsEncodable options.now problem.now }
-    requires modest { options.now.budget ≤ 10000000 }
-    requires told { TellAdders options.now (groups_of problem.now) adders.now }
+    requires told { AreHintsOf options.now (groups_of problem.now) hints.now }
     requires objective { objective.now ≡ objective_form problem.now }
     ensures { let seen = ⟦<HardWriter<'a, D> as ClauseSink>⟧.state in HandsTextIfMemory (weighted_text options.now problem.now) result (seen writer.old) (seen writer.new) }
 {
     send_offset(objective, writer)?;
-    hand_told_clauses(alloc, problem, options, adders, writer)?;
+    hand_told_clauses(alloc, problem, options, hints, writer)?;
     send_softs(objective, writer)?;
     Ok(())
 }
@@ -81,19 +81,18 @@ fn send_weighted<'a, D: Desk>(
     alloc: Global,
     problem: &Problem,
     options: &Options,
-    adders: &[bool],
+    hints: &[Hint],
     objective: &Linear,
     writer: &mut HardWriter<'a, D>,
 ) -> Result<(), SinkFault>
     requires within { IsWithinLimits problem.now }
     requires encodable { IsEncodable options.now problem.now }
-    requires modest { options.now.budget ≤ 10000000 }
-    requires told { TellAdders options.now (groups_of problem.now) adders.now }
+    requires told { AreHintsOf options.now (groups_of problem.now) hints.now }
     requires objective { objective.now ≡ objective_form problem.now }
     ensures sends { let seen = ⟦<HardWriter<'a, D> as ClauseSink>⟧.state in SendsText (weighted_text options.now problem.now) result (seen writer.old) (seen writer.new) }
     ensures all_sent { OnOk result (IsAllSent (⟦<HardWriter<'a, D> as ClauseSink>⟧.state writer.new)) }
 {
-    match hand_weighted(alloc, problem, options, adders, objective, writer) {
+    match hand_weighted(alloc, problem, options, hints, objective, writer) {
         Ok(()) => Ok(writer.flush()?),
         Err(fault) => {
             writer.settle(fault);
@@ -107,14 +106,13 @@ fn write_weighted<D: Desk>(
     alloc: Global,
     problem: &Problem,
     options: &Options,
-    adders: &[bool],
+    hints: &[Hint],
     objective: &Linear,
     desk: &mut D,
 ) -> Result<(), EncodeFault>
     requires within { IsWithinLimits problem.now }
     requires encodable { IsEncodable options.now problem.now }
-    requires modest { options.now.budget ≤ 10000000 }
-    requires told { TellAdders options.now (groups_of problem.now) adders.now }
+    requires told { AreHintsOf options.now (groups_of problem.now) hints.now }
     requires objective { objective.now ≡ objective_form problem.now }
     requires open { IsTrue ((D.state desk.old).view.writing 0) }
     ensures written { OnOk result (Reaches (wrote 0 (weighted_text options.now problem.now)) (D.state desk.old) (D.state desk.new)) }
@@ -123,7 +121,7 @@ fn write_weighted<D: Desk>(
 {
     let mut outbox = WriteBuffer::new(alloc)?;
     let mut writer = HardWriter::new(desk, 0, &mut outbox);
-    send_weighted(alloc, problem, options, adders, objective, &mut writer)?;
+    send_weighted(alloc, problem, options, hints, objective, &mut writer)?;
     Ok(())
 }
 
@@ -138,7 +136,6 @@ pub fn weighted<D: Desk>(
     desk: &mut D,
 ) -> Result<Summary, EncodeFault>
     requires within { IsWithinLimits problem.now }
-    requires modest { options.now.budget ≤ 10000000 }
     requires free { (D.state desk.old).view.writing 0 ≡ false }
 
     ensures summary { IfOk result (λ summary. summary ≡ summary_of options.now problem.now) }
@@ -150,11 +147,11 @@ pub fn weighted<D: Desk>(
     ensures no_memory { result ≡ Err EncodeFault.NoMemory → WantsForWeighted options.now problem.now name.now (D.state desk.old) (D.state desk.new) }
     ensures steady { IsSteady (D.state desk.old) → result ≡ Err EncodeFault.WriteFault → LacksForWeighted options.now problem.now name.now (D.state desk.old) }
 {
-    let mut adders = Vec::new(alloc);
-    let summary = measure_telling(alloc, problem, options, &mut adders)?;
+    let mut hints = Hints::new(alloc);
+    let summary = measure_telling(alloc, problem, options, &mut hints)?;
     let objective = objective_form(alloc, problem)?;
     desk.create(0, name)?;
-    write_weighted(alloc, problem, options, adders.as_slice(), &objective, desk)?;
+    write_weighted(alloc, problem, options, hints.as_slice(), &objective, desk)?;
     desk.close(0)?;
     Ok(summary)
 }

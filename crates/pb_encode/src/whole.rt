@@ -1,5 +1,5 @@
 //! All clauses of a problem and their derivation, handed to a sink: those of its constraints, and then those of its table.
-ghost use Rattle.std.specs.Prelude.{◌≡◌, ◌≤◌, ◌+◌, [], IfOk, OnOk, length};
+ghost use Rattle.std.specs.Prelude.{◌≡◌, ◌+◌, [], IfOk, OnOk, length};
 ghost use Rattle.pb_base.specs.Problems.{IsWithinLimits};
 ghost use Rattle.pb_norm.specs.Products.{loaded_of};
 ghost use Rattle.pb_family.specs.Handing.{HandsIfMemory};
@@ -8,11 +8,12 @@ ghost use Rattle.pb_encode.specs.Clauses.{problem_clauses, problem_counts};
 ghost use Rattle.pb_encode.specs.Groups.{groups_of};
 ghost use Rattle.pb_encode.specs.Steps.{problem_steps};
 ghost use Rattle.pb_encode.specs.Summaries.{IsEncodable};
-ghost use Rattle.pb_encode.specs.inner.Adders.{TellAdders};
+ghost use Rattle.pb_encode.specs.inner.Hints.{AreHintsOf, IsBlank};
 ghost use Rattle.pb_encode.specs.inner.Streams.{steps_at_next};
 
 use crate::derivation::{Position, derive_loaded};
 use crate::fault::MeasureFault;
+use crate::hints::{Hint, Hints};
 use crate::measuring::measure_telling;
 use crate::streaming::stream_loaded;
 use crate::table::{derive_table, stream_table};
@@ -23,21 +24,20 @@ use pb_steps::Step;
 use std::alloc::Global;
 
 /// Hands over the clauses of a problem: those of its constraints, of which nothing is kept but what one statement needs, and then
-/// those of its table. The bits tell which groups of constraints go to the adder, as far as it is known.
+/// those of its table. The hints are of its groups.
 pub fn hand_told_clauses<S: ClauseSink>(
     alloc: Global,
     problem: &Problem,
     options: &Options,
-    adders: &[bool],
+    hints: &[Hint],
     sink: &mut S,
 ) -> Result<(), SinkFault>
     requires within { IsWithinLimits problem.now }
     requires encodable { IsEncodable options.now problem.now }
-    requires modest { options.now.budget ≤ 10000000 }
-    requires told { TellAdders options.now (groups_of problem.now) adders.now }
+    requires told { AreHintsOf options.now (groups_of problem.now) hints.now }
     ensures { HandsIfMemory (problem_clauses options.now problem.now) result (S.state sink.old) (S.state sink.new) }
 {
-    let first = stream_loaded(alloc, problem, options, adders, sink)?;
+    let first = stream_loaded(alloc, problem, options, hints, sink)?;
     stream_table(alloc, problem, options, first, sink)
 }
 
@@ -50,7 +50,6 @@ pub fn hand_clauses<S: ClauseSink>(
 ) -> Result<(), SinkFault>
     requires within { IsWithinLimits problem.now }
     requires encodable { IsEncodable options.now problem.now }
-    requires modest { options.now.budget ≤ 10000000 }
     ensures { HandsIfMemory (problem_clauses options.now problem.now) result (S.state sink.old) (S.state sink.new) }
 {
     hand_told_clauses(alloc, problem, options, &[], sink)
@@ -61,16 +60,15 @@ fn counts_of(
     alloc: Global,
     problem: &Problem,
     options: &Options,
-    adders: &mut Vec<bool>,
+    hints: &mut Hints,
 ) -> Result<Counts, NoMemory>
     requires within { IsWithinLimits problem.now }
     requires encodable { IsEncodable options.now problem.now }
-    requires modest { options.now.budget ≤ 10000000 }
-    requires none { adders.old.items ≡ [] }
+    requires none { IsBlank hints.old }
     ensures counts { IfOk result (λ counts. counts ≡ problem_counts options.now problem.now) }
-    ensures told { OnOk result (TellAdders options.now (groups_of problem.now) adders.new.items) }
+    ensures told { OnOk result (AreHintsOf options.now (groups_of problem.now) hints.new.list.items) }
 {
-    match measure_telling(alloc, problem, options, adders) {
+    match measure_telling(alloc, problem, options, hints) {
         Ok(summary) => Ok(Counts {
             fresh: (summary.vars - problem.originals()) as u64,
             clauses: summary.clauses,
@@ -90,13 +88,12 @@ pub fn stream_clauses<S: ClauseSink>(
 ) -> Result<Counts, SinkFault>
     requires within { IsWithinLimits problem.now }
     requires encodable { IsEncodable options.now problem.now }
-    requires modest { options.now.budget ≤ 10000000 }
     ensures counts { IfOk result (λ counts. counts ≡ problem_counts options.now problem.now) }
     ensures hands { HandsIfMemory (problem_clauses options.now problem.now) result (S.state sink.old) (S.state sink.new) }
 {
-    let mut adders = Vec::new(alloc);
-    let counts = counts_of(alloc, problem, options, &mut adders)?;
-    hand_told_clauses(alloc, problem, options, adders.as_slice(), sink)?;
+    let mut hints = Hints::new(alloc);
+    let counts = counts_of(alloc, problem, options, &mut hints)?;
+    hand_told_clauses(alloc, problem, options, hints.as_slice(), sink)?;
     Ok(counts)
 }
 
@@ -105,13 +102,12 @@ fn derive_clauses<T: StepSink>(
     alloc: Global,
     problem: &Problem,
     options: &Options,
-    adders: &[bool],
+    hints: &[Hint],
     sink: &mut T,
 ) -> Result<(), SinkFault>
     requires within { IsWithinLimits problem.now }
     requires encodable { IsEncodable options.now problem.now }
-    requires modest { options.now.budget ≤ 10000000 }
-    requires told { TellAdders options.now (groups_of problem.now) adders.now }
+    requires told { AreHintsOf options.now (groups_of problem.now) hints.now }
     requires next { (T.state sink.old).next ≡ length (loaded_of problem.now) + 1 }
     ensures { HandsFrom (steps_at_next options.now problem.now) result (T.state sink.old) (T.state sink.new) }
 {
@@ -119,7 +115,7 @@ fn derive_clauses<T: StepSink>(
         first: problem.originals() + 1,
         id: 1,
     };
-    let next = derive_loaded(alloc, problem, options, adders, position, sink)?;
+    let next = derive_loaded(alloc, problem, options, hints, position, sink)?;
     derive_table(alloc, problem, options, next.first, sink)
 }
 
@@ -129,20 +125,19 @@ pub fn stream_told_steps<T: StepSink>(
     alloc: Global,
     problem: &Problem,
     options: &Options,
-    adders: &[bool],
+    hints: &[Hint],
     sink: &mut T,
 ) -> Result<(), SinkFault>
     requires within { IsWithinLimits problem.now }
     requires encodable { IsEncodable options.now problem.now }
-    requires modest { options.now.budget ≤ 10000000 }
-    requires told { TellAdders options.now (groups_of problem.now) adders.now }
+    requires told { AreHintsOf options.now (groups_of problem.now) hints.now }
     requires next { (T.state sink.old).next ≡ length (loaded_of problem.now) + 1 }
     ensures { HandsSteps (problem_steps options.now problem.now) result (T.state sink.old) (T.state sink.new) }
 {
     let count = sink.next_id() - 1;
     sink.step(&Step::Head)?;
     sink.step(&Step::Loaded { count })?;
-    derive_clauses(alloc, problem, options, adders, sink)?;
+    derive_clauses(alloc, problem, options, hints, sink)?;
     sink.step(&Step::End)
 }
 
@@ -155,7 +150,6 @@ pub fn stream_steps<T: StepSink>(
 ) -> Result<(), SinkFault>
     requires within { IsWithinLimits problem.now }
     requires encodable { IsEncodable options.now problem.now }
-    requires modest { options.now.budget ≤ 10000000 }
     requires next { (T.state sink.old).next ≡ length (loaded_of problem.now) + 1 }
     ensures { HandsSteps (problem_steps options.now problem.now) result (T.state sink.old) (T.state sink.new) }
 {

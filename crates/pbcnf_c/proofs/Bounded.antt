@@ -1,18 +1,15 @@
 -- What is put of a table of bounds, as what is put of its text.
-use Rattle.std.proofs.Common.{◌≡◌, ◌+◌, ◌∙◌, ◌++◌, [], ◌∷◌, zero, suc, List, ℕ, ℤ, Bool, false, cond, Option, Some, None, ◌+ℤ◌, ap, arith, length, map, refl, slice_get, sym, take}
+use Rattle.std.proofs.Common.{◌≡◌, ◌<◌, ◌+◌, ◌∙◌, ◌++◌, [], ◌∷◌, List, ℕ, ℤ, Bool, false, cond, Option, Some, None, ap, get_or, length, map, refl, take}
 use Rattle.std.proofs.lemmas.List.{map-append}
 use Rattle.pb_base.specs.declared.literal.Lit.{Lit}
+use Rattle.pb_family.proofs.Gathered.{map_next}
 use Rattle.pb_base.specs.declared.options.Options.{Options}
 use Rattle.pb_base.specs.declared.problem.Problem.{Problem}
-use Rattle.pb_norm.specs.Constraints.{Weighted}
-use Rattle.pb_gentot.specs.BoundTable.{table_rows}
 use Rattle.pb_encode.specs.declared.summary.Summary.{Summary}
 use Rattle.pb_encode.specs.Bounds.{bound_rows}
 use Rattle.pb_encode.specs.Clauses.{table_first}
-use Rattle.pb_encode.specs.Costs.{offset_of}
 use Rattle.pb_encode.specs.Encodings.{problem_text}
 use Rattle.pb_encode.specs.Summaries.{summary_of}
-use Rattle.pb_encode.specs.Tables.{table_terms}
 use Rattle.pb_encode.proofs.BoundRows.{table_tells}
 use Rattle.pb_encode.proofs.BoundTexts.{no_rows}
 use Rattle.pb_suite.specs.declared.outcome.Outcome.{Outcome}
@@ -32,38 +29,11 @@ use Rattle.pbcnf_c.proofs.Endings.{ends_as}
 
 -- ---- row after row
 
--- rows whose values are from an offset on
-abbrev pub risen : ℤ → List (ℤ × Lit) → List (ℤ × Lit)
-risen z rows = map (λ (r : ℤ × Lit). (z +ℤ r.0, r.1)) rows
-
--- so many of them are told
-abbrev pub Stands : ℤ → List (ℤ × Lit) → ℕ → List PbcnfRow → Type 0
-Stands z rows i given = TellRows (risen z (take i rows)) given
-
-abbrev numbers_at : ℤ → ℤ × Lit → ℤ × ℤ × ℤ
-numbers_at z r = numbers_of (z +ℤ r.0, r.1)
-
-more : (z : ℤ) (rows : List (ℤ × Lit)) (i : ℕ) (r : ℤ × Lit) → slice_get rows i ≡ Some r → map numbers_of (risen z (take (suc i) rows)) ≡ map numbers_of (risen z (take i rows)) ++ numbers_at z r ∷ []
-more z [] i r at = cc
-more z (x ∷ rows) zero r at =
-    let same : x ≡ r = cc in
-    ap (λ (y : ℤ × Lit). numbers_at z y ∷ []) same
-more z (x ∷ rows) (suc i) r at = ap (λ (ns : List (ℤ × ℤ × ℤ)). numbers_at z x ∷ ns) (more z rows i r at)
-
--- one row more
-pub next : (z : ℤ) (rows : List (ℤ × Lit)) (i : ℕ) (r : ℤ × Lit) (given new : List PbcnfRow) (row : PbcnfRow) → slice_get rows i ≡ Some r → Stands z rows i given → told_by row ≡ numbers_at z r → new ≡ given ++ row ∷ [] → Stands z rows (i + 1) new
-next z rows i r given new row at stands tells pushed =
-    let one : suc i ≡ i + 1 = omega arith in
-    ap (λ (gs : List PbcnfRow). map told_by gs) pushed ∙ map-append told_by given (row ∷ []) ∙ ap (λ (ns : List (ℤ × ℤ × ℤ)). ns ++ told_by row ∷ []) stands
-    ∙ ap (λ (n : ℤ × ℤ × ℤ). map numbers_of (risen z (take i rows)) ++ n ∷ []) tells ∙ sym (more z rows i r at) ∙ ap (λ (n : ℕ). map numbers_of (risen z (take n rows))) one
-
--- ---- the rows of a problem
-
-pub rows_are : (o : Options) (p : Problem) (z : ℤ) (ts : List Weighted) (first : ℕ) → z ≡ offset_of p → ts ≡ table_terms o p → first ≡ table_first o p → risen z (table_rows ts first) ≡ bound_rows o p
-rows_are o p z ts first z_is ts_are first_at = λ i. risen (z_is i) (table_rows (ts_are i) (first_at i))
-
-pub tell_none : (rows : List (ℤ × Lit)) (given : List PbcnfRow) → rows ≡ [] → given ≡ [] → TellRows rows given
-tell_none rows given none empty = ap (λ (gs : List PbcnfRow). map told_by gs) empty ∙ sym (ap (λ (rs : List (ℤ × Lit)). map numbers_of rs) none)
+-- one row more is told
+pub next : (rows : List (ℤ × Lit)) (i : ℕ) (r : ℤ × Lit) (given new : List PbcnfRow) (row : PbcnfRow) → i < length rows → r ≡ get_or rows i r → TellRows (take i rows) given → told_by row ≡ numbers_of r → new ≡ given ++ row ∷ []
+    → TellRows (take (i + 1) rows) new
+next rows i r given new row within is told tells pushed =
+    map_next numbers_of rows i r [] (map told_by given) (map told_by new) (told_by row) within is told (ap (λ (gs : List PbcnfRow). map told_by gs) pushed ∙ map-append told_by given (row ∷ [])) tells
 
 pub put_rows : (r : Ready) (items : List PbcnfRow) (old new : List PbcnfRow) (size : PbcnfSize) (answer : Outcome) → IsReady r → TellRows (bound_rows r.options r.problem) items → Fills items old new answer → size ≡ size_of r.summary (length items)
     → Ends (AreSizedRows r) IsWanting no_size old new size answer

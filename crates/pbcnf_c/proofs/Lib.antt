@@ -14,3 +14,4 @@ mod TermLists
 mod OneStatement
 mod Admitted
 mod Constrained
+mod Chosen

@@ -1,5 +1,6 @@
 -- What numbers choose of an encoding. Our own.
-use Rattle.std.specs.Prelude.{ℕ, ℤ, nat_le, ◌==◌, ◌||◌, not, Bool, true, false, Option, Some, None, option_and_then, if◌then◌else◌}
+use Rattle.std.specs.Prelude.{ℕ, ℤ, ◌==◌, Bool, true, false, Option, Some, None, option_and_then, if◌then◌else◌}
+use Rattle.pb_base.specs.Budgets.{IsBudget, as_budget}
 use Rattle.pb_base.specs.declared.options.Amo.{Amo}
 use Rattle.pb_base.specs.declared.options.Amo.TheVariants as amo
 use Rattle.pb_base.specs.declared.options.Card.{Card}
@@ -28,12 +29,15 @@ equal_of n = if n == 0 then Some equal.Split else if n == 1 then Some equal.Join
 abbrev pub table_of : ℕ → Option Bool
 table_of n = if n == 0 then Some false else if n == 1 then Some true else None
 
-abbrev pub with_budget : ℕ → Amo → Card → General → EqualMode → Bool → Options
-with_budget budget a c g e t = record { amo = a; card = c; general = g; equal = e; budget = budget; table = t }
+-- the options with this budget, where each other number is in its range
+abbrev pub options_at : (chosen : PbcnfOptions) → IsBudget chosen.budget → Option Options
+options_at chosen range = option_and_then (λ a. option_and_then (λ c. option_and_then (λ g. option_and_then (λ e. option_and_then (λ t.
+    Some (record { amo = a; card = c; general = g; equal = e; budget = chosen.budget; table = t; low = range.0; high = range.1 }))
+    (table_of chosen.table)) (equal_of chosen.equal)) (general_of chosen.general)) (card_of chosen.card)) (amo_of chosen.amo)
 
 -- each number is in its range, or nothing is chosen
 abbrev pub options_of : PbcnfOptions → Option Options
-options_of chosen = if (chosen.budget == 0) || not (nat_le chosen.budget 10000000) then None else option_and_then (λ a. option_and_then (λ c. option_and_then (λ g. option_and_then (λ e. option_and_then (λ t. Some (with_budget chosen.budget a c g e t)) (table_of chosen.table)) (equal_of chosen.equal)) (general_of chosen.general)) (card_of chosen.card)) (amo_of chosen.amo)
+options_of chosen = option_and_then (options_at chosen) (as_budget chosen.budget)
 
 -- the bound on the objective, if one is set
 abbrev pub bound_of : PbcnfBound → Option ℤ

@@ -1,5 +1,5 @@
 -- Problems that are ready to be encoded, and why one is not. Our own.
-use Rattle.std.specs.Prelude.{ℕ, ℤ, ◌≡◌, ◌≤◌, List, Option, Some, None}
+use Rattle.std.specs.Prelude.{ℕ, ℤ, ◌≡◌, List, Option, Some, None}
 use Rattle.pb_base.specs.declared.limit.LimitKind.{LimitKind}
 use Rattle.pb_base.specs.declared.problem.Problem.{Problem}
 use Rattle.pb_base.specs.Problems.{IsWithinLimits}
@@ -15,7 +15,6 @@ use Rattle.pbcnf_c.specs.Choices.{options_of}
 
 pub record IsReady (r : Ready) : Type 0 where
   pub within : IsWithinLimits r.problem
-  pub modest : r.options.budget ≤ 10000000
   pub encodable : IsEncodable r.options r.problem
   pub summary : r.summary ≡ summary_of r.options r.problem
 

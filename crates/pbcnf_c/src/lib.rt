@@ -9,7 +9,6 @@ mod encoding;
 mod integers;
 mod line_sink;
 mod number;
-mod objective;
 mod options;
 mod outcomes;
 mod ready;

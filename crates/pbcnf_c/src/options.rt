@@ -1,6 +1,7 @@
 //! What is chosen of an encoding, in numbers.
-ghost use Rattle.std.specs.Prelude.{◌≡◌, ◌≤◌, IfSome};
-ghost use Rattle.pbcnf_c.specs.Choices.{amo_of, bound_of, card_of, equal_of, general_of, options_of, table_of};
+ghost use Rattle.std.specs.Prelude.{◌≡◌};
+ghost use Rattle.pb_base.specs.Budgets.{IsBudget};
+ghost use Rattle.pbcnf_c.specs.Choices.{amo_of, bound_of, card_of, equal_of, general_of, options_at, options_of, table_of};
 
 use crate::number::wide;
 use pb_base::{Amo, Card, EqualMode, General, MAX_BUDGET, Options};
@@ -88,15 +89,12 @@ fn table_of(word: u32) -> Option<bool>
     }
 }
 
-/// The options that the numbers choose, if they choose any.
-pub fn options_of(chosen: &PbcnfOptions) -> Option<Options>
-    ensures value { result ≡ options_of chosen.now }
-    ensures modest { IfSome result (λ o. o.budget ≤ 10000000) }
+// The options with a budget.
+fn options_at(chosen: &PbcnfOptions, budget: u64) -> Option<Options>
+    requires budget { budget ≡ chosen.now.budget }
+    requires range { IsBudget budget }
+    ensures { (range : IsBudget chosen.now.budget) → result ≡ options_at chosen.now range }
 {
-    let budget = u64::from(chosen.budget);
-    if budget == 0 || budget > MAX_BUDGET {
-        return None;
-    }
     let amo = amo_of(chosen.amo)?;
     let card = card_of(chosen.card)?;
     let general = general_of(chosen.general)?;
@@ -110,6 +108,17 @@ pub fn options_of(chosen: &PbcnfOptions) -> Option<Options>
         budget,
         table,
     })
+}
+
+/// The options that the numbers choose, if they choose any.
+pub fn options_of(chosen: &PbcnfOptions) -> Option<Options>
+    ensures value { result ≡ options_of chosen.now }
+{
+    let budget = u64::from(chosen.budget);
+    if budget == 0 || budget > MAX_BUDGET {
+        return None;
+    }
+    options_at(chosen, budget)
 }
 
 /// The bound, if there is one.

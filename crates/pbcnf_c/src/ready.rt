@@ -1,5 +1,5 @@
 //! Problems that are ready to be encoded.
-ghost use Rattle.std.specs.Prelude.{◌≡◌, ◌≤◌, Some, IfErr, IfOk};
+ghost use Rattle.std.specs.Prelude.{◌≡◌, Some, IfErr, IfOk};
 ghost use Rattle.pb_base.specs.Problems.{IsWithinLimits};
 ghost use Rattle.pbcnf_c.specs.Choices.{bound_of};
 ghost use Rattle.pbcnf_c.specs.Ready.{IsReady, IsReadyAs, IsReadyFor, StopsEncoding, StopsSizing};
@@ -31,7 +31,6 @@ impl Drop for Ready {
 /// Sizes up the encoding of a problem.
 pub fn size_up(alloc: Global, problem: Problem, options: Options) -> Result<Ready, Outcome>
     requires within { IsWithinLimits problem }
-    requires modest { options.budget ≤ 10000000 }
     ensures ready { IfOk result IsReady }
     ensures of { IfOk result (IsReadyAs options problem) }
     ensures stopped { IfErr result (StopsSizing options problem) }

@@ -156,7 +156,11 @@ pub fn problem_of(alloc: Global, first: u32, statement: Raw) -> Result<Problem, 
     ensures { IfOk result (λ p. p ≡ problem_of first statement) }
 {
     let mut statements = Statements::new(alloc);
-    statements.push(statement)?;
+    statements.push(
+        statement.terms.as_slice(),
+        statement.relation,
+        statement.right,
+    )?;
     Ok(Problem {
         vars: first - 1,
         numbered: first - 1,

@@ -11,13 +11,12 @@ ghost use Rattle.pbcnf_c.specs.Ready.{IsReady};
 ghost use Rattle.pbcnf_c.specs.Weighings.{WeighsInto};
 
 use crate::line_sink::LineSink;
-use crate::objective::{form_of, offset_by};
 use crate::options::{PbcnfBound, PbcnfOptions};
 use crate::ready::{Ready, prepare};
 use crate::size::{Ending, delivered, stopped};
 use itoa::Buffer;
 use pb_base::{Lit, NoMemory};
-use pb_encode::hand_clauses;
+use pb_encode::{hand_clauses, objective_form, offset_by};
 use pb_family::push_clause;
 use pb_norm::Linear;
 use pb_suite::Outcome;
@@ -82,7 +81,7 @@ fn put_wcnf(alloc: Global, ready: &Ready, wcnf: &mut [u8]) -> Ending
     requires { IsReady ready.now }
     ensures { PutsOf (weighted_text ready.now.options ready.now.problem) ready.now wcnf.old wcnf.new result.size result.outcome }
 {
-    let Ok(objective) = form_of(alloc, &ready.problem) else {
+    let Ok(objective) = objective_form(alloc, &ready.problem) else {
         return stopped(Outcome::NoMemory);
     };
     match weighted_text(alloc, ready, &objective) {

@@ -1,7 +1,7 @@
 ghost use Rattle.pb_choice.specs.EqualPlans.{IsPlannedBelow};
 
 use super::assert_found;
-use pb_base::{EqualMode, MAX_BUDGET, Options};
+use pb_base::{Amo, Card, EqualMode, General, MAX_BUDGET, Options};
 use pb_choice::{EqualPlan, plan_equal};
 use pb_family::{TextSink, are_below};
 use pb_norm::Linear;
@@ -27,16 +27,22 @@ fn plan_of(alloc: Global, halves: &[Linear], equal: EqualMode, budget: u64) -> O
     let [lower, upper] = halves else {
         return None;
     };
-    if lower.weight() >= 1 << 100 || upper.weight() >= 1 << 100 || budget > MAX_BUDGET {
+    if lower.weight() >= 1 << 100 || upper.weight() >= 1 << 100 {
+        return None;
+    }
+    if budget == 0 || budget > MAX_BUDGET {
         return None;
     }
     if !are_below(lower.terms(), 4) || !are_below(upper.terms(), 4) {
         return None;
     }
     let options = Options {
+        amo: Amo::Auto,
+        card: Card::Auto,
+        general: General::Diagram,
         equal,
         budget,
-        ..Options::default()
+        table: false,
     };
     let plan = plan_equal(alloc, lower, upper, &options).ok()?;
     plan_text(alloc, &plan)

@@ -30,7 +30,7 @@ fn plan_text(alloc: Global, plan: &Plan<'_>, first: u32) -> Option<String>
 
 // The same of a constraint's plan.
 fn plan_of(alloc: Global, constraint: &Linear, options: &Options, first: u32) -> Option<String> {
-    if constraint.weight() >= 1 << 100 || options.budget > MAX_BUDGET {
+    if constraint.weight() >= 1 << 100 {
         return None;
     }
     if !are_below(constraint.terms(), first) {
@@ -48,7 +48,7 @@ fn planned(alloc: Global, text: &str, options: &Options, first: u32) -> Option<S
 
 // How a constraint is treated.
 fn treatment_of(alloc: Global, constraint: &Linear, options: &Options) -> Option<String> {
-    if constraint.weight() >= 1 << 100 || options.budget > MAX_BUDGET {
+    if constraint.weight() >= 1 << 100 {
         return None;
     }
     let plan = plan(alloc, constraint, options).ok()?;
@@ -61,29 +61,29 @@ fn treatment(alloc: Global, text: &str, options: &Options) -> Option<String> {
     treatment_of(alloc, &constraint, options)
 }
 
+// Options with these families and a budget within its range.
+fn options_of(amo: Amo, card: Card, general: General, budget: u64) -> Options {
+    Options {
+        amo,
+        card,
+        general,
+        equal: EqualMode::Split,
+        budget: budget.max(1).min(MAX_BUDGET),
+        table: false,
+    }
+}
+
 // Options that differ from those where nothing is chosen by one family and the budget.
 fn with_card(card: Card, budget: u64) -> Options {
-    Options {
-        card,
-        budget,
-        ..Options::default()
-    }
+    options_of(Amo::Auto, card, General::Diagram, budget)
 }
 
 fn with_general(general: General, budget: u64) -> Options {
-    Options {
-        general,
-        budget,
-        ..Options::default()
-    }
+    options_of(Amo::Auto, Card::Auto, general, budget)
 }
 
 fn with_amo(amo: Amo, budget: u64) -> Options {
-    Options {
-        amo,
-        budget,
-        ..Options::default()
-    }
+    options_of(amo, Card::Auto, General::Diagram, budget)
 }
 
 // Three weights of negated variables are to reach four.

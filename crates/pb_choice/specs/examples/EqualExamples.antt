@@ -1,13 +1,18 @@
 -- Worked examples: equalities, with how many fresh variables and clauses, and the steps that divide their halves.
 use Rattle.std.specs.Prelude.{◌≡◌, ℕ, ◌+◌, ◌-◌, Bool, true, false, pos, List, [], ◌∷◌, map, take, refl}
+use Rattle.std.specs.Option.{unwrap_or}
 use Rattle.pb_norm.specs.Constraints.{Weighted, Constraint, weight}
 use Rattle.pb_norm.specs.Reduction.{opposite}
 use Rattle.pb_steps.specs.declared.op.PolOp.TheVariants.{Push, Div}
 use Rattle.pb_steps.specs.declared.step.Step.TheVariants.{Pol}
 use Rattle.pb_family.specs.Fresh.{positive_of}
 use Rattle.pb_tree.specs.Tree.{split_within}
+use Rattle.pb_base.specs.declared.options.Amo.TheVariants as amo
+use Rattle.pb_base.specs.declared.options.Card.TheVariants as card
 use Rattle.pb_base.specs.declared.options.EqualMode.TheVariants as equal
+use Rattle.pb_base.specs.declared.options.General.TheVariants as general
 use Rattle.pb_base.specs.declared.options.Options.{Options}
+use Rattle.pb_base.specs.Budgets.{options_with}
 use Rattle.pb_base.specs.Defaults.{default_options}
 use Rattle.pb_choice.specs.Equals.{equality_count, equality_fresh, is_joint}
 use Rattle.pb_choice.specs.EqualitySteps.{equality_steps}
@@ -29,7 +34,7 @@ abbrev planned : Options → ℕ → List ℕ → Bool × ℕ × ℕ
 planned o degree coefs = (is_joint o (lower degree coefs), equality_fresh o (lower degree coefs) (upper degree coefs), equality_count o (lower degree coefs) (upper degree coefs))
 
 abbrev joint : ℕ → Options
-joint most = record default_options { equal = equal.Joint; budget = most }
+joint most = unwrap_or (options_with amo.Auto card.Auto general.Diagram equal.Joint false most) default_options
 
 -- x1 + x2 + x3 = 1
 pub one_of_three : planned (joint 50000) 1 (1 ∷ 1 ∷ 1 ∷ []) ≡ (true, 4, 15)

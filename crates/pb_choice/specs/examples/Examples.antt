@@ -1,5 +1,7 @@
 -- Worked examples: how constraints are treated, with how many fresh variables and clauses.
-use Rattle.std.specs.Prelude.{◌≡◌, ℕ, ◌+◌, List, [], ◌∷◌, replicate, refl}
+use Rattle.std.specs.Prelude.{◌≡◌, ℕ, ◌+◌, List, [], ◌∷◌, false, replicate, refl}
+use Rattle.std.specs.Option.{unwrap_or}
+use Rattle.std.proofs.Common.{lit≤}
 use Rattle.pb_base.specs.Literals.{negated}
 use Rattle.pb_norm.specs.Constraints.{Weighted, Constraint}
 use Rattle.pb_norm.specs.Reduction.{rest_of}
@@ -9,12 +11,14 @@ use Rattle.pb_adder.specs.Network.{digits_within}
 use Rattle.pb_amo.specs.Product.{root_from, columns, rows, fresh_within, count_within}
 use Rattle.pb_base.specs.declared.options.Amo.TheVariants as amo
 use Rattle.pb_base.specs.declared.options.Card.TheVariants as card
+use Rattle.pb_base.specs.declared.options.EqualMode.TheVariants as equal
 use Rattle.pb_base.specs.declared.options.General.TheVariants as general
 use Rattle.pb_base.specs.declared.options.Options.{Options}
 use Rattle.pb_choice.specs.declared.treatment.Treatment.{Treatment}
 use Rattle.pb_choice.specs.declared.treatment.Treatment.TheVariants as treatment
 use Rattle.pb_choice.specs.Choice.{treatment_of}
 use Rattle.pb_choice.specs.Clauses.{constraint_count, constraint_fresh}
+use Rattle.pb_base.specs.Budgets.{options_with}
 use Rattle.pb_base.specs.Defaults.{default_options}
 
 -- coefficients of the negated variables from a number on
@@ -53,7 +57,7 @@ unit_alone = refl
 -- ---- at most one, which the budget does not touch
 
 abbrev narrow : ℕ → Options
-narrow most = record default_options { budget = most }
+narrow most = unwrap_or (options_with amo.Auto card.Auto general.Diagram equal.Split false most) default_options
 
 pub one_of_six : planned (narrow 1) (some_of 5 6) ≡ (treatment.Pairwise, 0, 15)
 one_of_six = refl
@@ -85,18 +89,18 @@ unfolding split_within
 nine_of_eleven = refl
 
 -- ~x1 + ~x2 + ~x3 + ~x4 >= 2
-pub two_of_four_by_counter : planned (record default_options { card = card.Counter; budget = 6 }) (some_of 2 4) ≡ (treatment.Counter, 6, 13)
+pub two_of_four_by_counter : planned (record default_options { card = card.Counter; budget = 6; low = lit≤ tt; high = lit≤ tt }) (some_of 2 4) ≡ (treatment.Counter, 6, 13)
 two_of_four_by_counter = refl
 
-pub two_of_four_past_counter : planned (record default_options { card = card.Counter; budget = 5 }) (some_of 2 4) ≡ (treatment.Adder, 6, 30)
+pub two_of_four_past_counter : planned (record default_options { card = card.Counter; budget = 5; low = lit≤ tt; high = lit≤ tt }) (some_of 2 4) ≡ (treatment.Adder, 6, 30)
 unfolding digits_within
 two_of_four_past_counter = refl
 
-pub two_of_four_by_totalizer : planned (record default_options { card = card.Totalizer; budget = 7 }) (some_of 2 4) ≡ (treatment.Totalizer, 7, 14)
+pub two_of_four_by_totalizer : planned (record default_options { card = card.Totalizer; budget = 7; low = lit≤ tt; high = lit≤ tt }) (some_of 2 4) ≡ (treatment.Totalizer, 7, 14)
 unfolding split_within
 two_of_four_by_totalizer = refl
 
-pub two_of_four_past_totalizer : planned (record default_options { card = card.Totalizer; budget = 6 }) (some_of 2 4) ≡ (treatment.Adder, 6, 30)
+pub two_of_four_past_totalizer : planned (record default_options { card = card.Totalizer; budget = 6; low = lit≤ tt; high = lit≤ tt }) (some_of 2 4) ≡ (treatment.Adder, 6, 30)
 unfolding split_within digits_within
 two_of_four_past_totalizer = refl
 
@@ -112,15 +116,15 @@ pub three_past_diagram : planned (narrow 2) weighted_three ≡ (treatment.Adder,
 unfolding digits_within
 three_past_diagram = refl
 
-pub three_by_tree : planned (record default_options { general = general.Tree; budget = 8 }) weighted_three ≡ (treatment.Tree, 8, 11)
+pub three_by_tree : planned (record default_options { general = general.Tree; budget = 8; low = lit≤ tt; high = lit≤ tt }) weighted_three ≡ (treatment.Tree, 8, 11)
 unfolding split_within
 three_by_tree = refl
 
-pub three_past_tree : planned (record default_options { general = general.Tree; budget = 7 }) weighted_three ≡ (treatment.Adder, 4, 16)
+pub three_past_tree : planned (record default_options { general = general.Tree; budget = 7; low = lit≤ tt; high = lit≤ tt }) weighted_three ≡ (treatment.Adder, 4, 16)
 unfolding split_within digits_within
 three_past_tree = refl
 
 -- the adder has no budget
-pub three_by_adder : planned (record default_options { general = general.Adder; budget = 1 }) weighted_three ≡ (treatment.Adder, 4, 16)
+pub three_by_adder : planned (record default_options { general = general.Adder; budget = 1; low = lit≤ tt; high = lit≤ tt }) weighted_three ≡ (treatment.Adder, 4, 16)
 unfolding digits_within
 three_by_adder = refl

@@ -2,7 +2,6 @@
 ghost use Rattle.std.specs.Prelude.{◌≡◌, ℕ, false};
 ghost use Rattle.pb_base.specs.Problems.{IsWithinLimits};
 ghost use Rattle.pb_desk.specs.Desk.{IfTold, IsClosed};
-ghost use Rattle.pb_words.specs.inner.Fit.{IsFitWcnf};
 ghost use Rattle.pb_words.specs.WcnfWords.{as_wcnf_words};
 ghost use Rattle.pb_suite.specs.Implementing.{Implements, ImplementsWithin};
 ghost use Rattle.pb_suite.specs.WcnfSpec.{wcnf_spec};
@@ -25,7 +24,6 @@ fn store_weighted<D: Desk>(
     desk: &mut D,
 ) -> Outcome
     requires within { IsWithinLimits problem.now }
-    requires fit { IsFitWcnf (as_wcnf_words asked.now) }
     requires free { (slot : ℕ) → (D.state desk.old).view.writing slot ≡ false }
     requires denoted { IfTold (D.state desk.old) (λ t. IsDenoted t.shelf (as_wcnf_words asked.now).opb (as_wcnf_words asked.now).bound problem.now) }
     ensures { ImplementsWithin (wcnf_spec (as_wcnf_words asked.now)) 0 (D.state desk.old) (D.state desk.new) result }
@@ -40,7 +38,6 @@ fn store_weighted<D: Desk>(
 /// the size of the hard clauses.
 pub fn wcnf_file<D: Desk>(alloc: Global, asked: &WcnfArgs<'_>, desk: &mut D) -> Outcome
     requires closed { IsClosed (D.state desk.old) }
-    requires fit { IsFitWcnf (as_wcnf_words asked.now) }
     ensures { Implements (wcnf_spec (as_wcnf_words asked.now)) (D.state desk.old) (D.state desk.new) result }
 {
     match read_problem(alloc, asked.opb, asked.bound, desk) {

@@ -1,7 +1,5 @@
 -- Worked examples of rows in numbers.
 use Rattle.std.specs.Prelude.{◌≡◌, ◌^◌, ◌-◌, ℕ, true, false, pos, negsuc, refl}
-use Rattle.pb_base.specs.declared.literal.Lit.{Lit}
-use Rattle.pbcnf_c.specs.declared.bounds.PbcnfRow.{PbcnfRow}
 use Rattle.pbcnf_c.specs.Bounds.{numbers_of, told_by}
 
 -- the greatest word

@@ -14,9 +14,9 @@ returns-in_err-derive g c =
     let l = c.args.lower.now in
     let u = c.args.upper.now in
     let old = g.T.StepSink.state c.args.sink.now in
-    let front : List Step = plan_steps l c.args.first c.args.low old.next in
-    steps_fault c.from_residual.result _ front (plan_steps u (c.args.first + plan_fresh l) c.args.high (old.next + count_by takes_id front)) (g.T.StepSink.state c.derive.new.sink) c.from_residual.ensures.1
-    (deriving_starts (halves_steps l u c.args.first c.args.low c.args.high old.next) old) c.in_err-derive.ensures
+    let front : List Step = plan_steps l c.args.first c.args.ids.low old.next in
+    steps_fault c.from_residual.result _ front (plan_steps u (c.args.first + plan_fresh l) c.args.ids.high (old.next + count_by takes_id front)) (g.T.StepSink.state c.derive.new.sink) c.from_residual.ensures.1
+    (deriving_starts (halves_steps l u c.args.first c.args.ids.low c.args.ids.high old.next) old) c.in_err-derive.ensures
 
 pub derive-requires-clause-few : goal.derive-requires-clause-few
 derive-requires-clause-few g c = omega (arith, c.requires.few)
@@ -35,7 +35,7 @@ derive-requires-2 g c =
       clauses = omega (arith, c.requires.clauses);
       given = c.requires.high_given;
       known = omega (arith, ids, c.requires.high_known);
-      few = omega (arith, ids, halves_ids l u c.args.first c.args.low c.args.high old.next, c.requires.few);
+      few = omega (arith, ids, halves_ids l u c.args.first c.args.ids.low c.args.ids.high old.next, c.requires.few);
     }
 
 pub returns : goal.returns
@@ -45,11 +45,11 @@ returns g c =
     let old = g.T.StepSink.state c.args.sink.now in
     let mid = g.T.StepSink.state c.derive.new.sink in
     let after = g.T.StepSink.state c.derive-2.new.sink in
-    let front : List Step = plan_steps l c.args.first c.args.low old.next in
-    let back : ℕ → ℕ → List Step = λ fresh next. plan_steps u (c.args.first + fresh) c.args.high next in
+    let front : List Step = plan_steps l c.args.first c.args.ids.low old.next in
+    let back : ℕ → ℕ → List Step = λ fresh next. plan_steps u (c.args.first + fresh) c.args.ids.high next in
     let taken = c.in_ok-derive.ensures in
     let next : old.next + count_by takes_id front ≡ mid.next = sym taken.ids in
     let fresh : plan_fresh l ≡ c.counts.result.fresh = sym c.counts.ensures.fresh in
     let here = deriving_as (λ i. back (fresh i) (next i))
-    (deriving_step {left = back (plan_fresh l) (old.next + count_by takes_id front)} front mid (deriving_starts (halves_steps l u c.args.first c.args.low c.args.high old.next) old) taken) in
+    (deriving_step {left = back (plan_fresh l) (old.next + count_by takes_id front)} front mid (deriving_starts (halves_steps l u c.args.first c.args.ids.low c.args.ids.high old.next) old) taken) in
     steps_last c.derive-2.result (back c.counts.result.fresh mid.next) after here c.derive-2.ensures

@@ -28,14 +28,8 @@ returns-in-Some-clause-choice c =
     let fits : FitsSigned w128 a = search rules in
     (joint.0, joint.1, to_z-of_z w128 a fits ∙ c.coef_of-a.ensures)
 
-pub plan_halves-requires : goal.plan_halves-requires
-plan_halves-requires c =
+pub plan_halves-requires-clause-split : goal.plan_halves-requires-clause-split
+plan_halves-requires-clause-split c =
     let o = c.args.options.now in
     let d = c.args.lower.now in
-    let apart = subst (λ (found : Option Exact). MatchOption found (is_joint o d ≡ false) (λ exact. (is_joint o d ≡ true) × (exact_sum exact ≡ literals_asked d))) c.in-None.is c.in_ok-exact.ensures in
-    record {
-      lower_light = c.requires.lower_light;
-      upper_light = c.requires.upper_light;
-      modest = c.requires.modest;
-      split = apart;
-    }
+    subst (λ (found : Option Exact). MatchOption found (is_joint o d ≡ false) (λ exact. (is_joint o d ≡ true) × (exact_sum exact ≡ literals_asked d))) c.in-None.is c.in_ok-exact.ensures

@@ -1,5 +1,5 @@
 use Rattle.std.proofs.Common.{rules}
 use Rattle.pb_choice.proofs.within.counter_within.Goals as goal
 
-pub returns-then-fresh-budget : goal.returns-then-fresh-budget
-returns-then-fresh-budget c = search rules
+pub returns-then-fresh-options : goal.returns-then-fresh-options
+returns-then-fresh-options c = search rules

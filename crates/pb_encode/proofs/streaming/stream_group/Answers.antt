@@ -2,8 +2,13 @@ use Rattle.std.proofs.Common.{◌≡◌, ◌+◌, ℕ, List, subst}
 use Rattle.std.specs.Prelude.{IfOk}
 use Rattle.pb_base.specs.declared.literal.Lit.{Lit}
 use Rattle.pb_family.specs.Handing.{HandsIfMemory}
+use Rattle.pb_family.proofs.Emission.{emitting_starts}
+use Rattle.pb_family.proofs.Stopping.{stops_between}
 use Rattle.pb_encode.proofs.GroupParts.{parts_of}
 use Rattle.pb_encode.proofs.streaming.stream_group.Goals as goal
+
+pub returns-in_err-plan-clause-hands : goal.returns-in_err-plan-clause-hands
+returns-in_err-plan-clause-hands g c = stops_between c.from_residual.result c.from_residual.ensures.1 (emitting_starts _ _)
 
 pub stream_plan-requires-clause-below : goal.stream_plan-requires-clause-below
 stream_plan-requires-clause-below g c = (parts_of c.args.options.now c.args.group.now c.in_ok-plan.plan c.in_ok-plan.ensures).below c.args.first c.requires.sound.below

@@ -35,6 +35,3 @@ returns-in-Map g c = subst (λ (r : Request). Implements (spec_of (wanted_as r))
 
 pub returns-in-Wcnf : goal.returns-in-Wcnf
 returns-in-Wcnf g c = subst (λ (r : Request). Implements (spec_of (wanted_as r)) (g.D.Desk.state c.args.desk.now) (g.D.Desk.state c.wcnf_file.new.desk) c.wcnf_file.result) (sym c.in-Wcnf.is) c.wcnf_file.ensures
-
-pub wcnf_file-requires-clause-fit : goal.wcnf_file-requires-clause-fit
-wcnf_file-requires-clause-fit g c = subst (λ (r : Request). IsFit (wanted_as r)) c.in-Wcnf.is c.requires.fit

@@ -33,9 +33,9 @@ returns-then-not-is_light-clause-stopped c =
     subst (StopsConstraint c.args.chosen.now words literals side) (sym c.over-then-not-is_light.ensures)
     (too_heavy c.args.chosen.now words literals side c.in-Some.options c.in-Ok.statement (sym c.in-Some.ensures.value) given (omega (arith, c.if-asked-gt-MAX_TERMS.false)) (λ light. false≢true (c.if-not-is_light.ensures.1 light)))
 
-pub size_up-requires-clause-within : goal.size_up-requires-clause-within
-size_up-requires-clause-within c =
-    is_within c.args.chosen.now c.args.asked.now.words.now c.args.asked.now.literals.now c.args.asked.now.side.now c.in-Ok.statement c.in-Ok-problem_of.problem (c.if-not-is_fit.ensures.0 refl) c.in-Ok.ensures.terms (omega (arith, c.if-asked-gt-MAX_TERMS.false)) (c.if-not-is_light.ensures.0 refl) c.in-Ok-problem_of.ensures
+pub size_up-requires : goal.size_up-requires
+size_up-requires c =
+    record { within = is_within c.args.chosen.now c.args.asked.now.words.now c.args.asked.now.literals.now c.args.asked.now.side.now c.in-Ok.statement c.in-Ok-problem_of.problem (c.if-not-is_fit.ensures.0 refl) c.in-Ok.ensures.terms (omega (arith, c.if-asked-gt-MAX_TERMS.false)) (c.if-not-is_light.ensures.0 refl) c.in-Ok-problem_of.ensures }
 
 pub returns-in-Ok-problem_of-clause-stopped : goal.returns-in-Ok-problem_of-clause-stopped
 returns-in-Ok-problem_of-clause-stopped c =

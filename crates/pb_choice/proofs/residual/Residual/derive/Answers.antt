@@ -12,4 +12,5 @@ returns-in_err-step-in-Sum g c = steps_lack_first _ _ c.from_residual.result c.f
 pub returns-in-Nothing : goal.returns-in-Nothing
 returns-in-Nothing g c =
     let a = g.T.StepSink.state c.args.sink.now in
-    subst (λ (left : Residual). TakesSteps (left_steps (reduction c.args.id c.args.units.now c.args.constraint.now) left c.args.first c.args.id a.next) a a) (sym c.in-Nothing.is) (takes_no_steps a)
+    let o = c.args.origin.now in
+    subst (λ (left : Residual). TakesSteps (left_steps (reduction o.id o.units.now o.constraint.now) left c.args.first o.id a.next) a a) (sym c.in-Nothing.is) (takes_no_steps a)

@@ -1,13 +1,11 @@
-use Rattle.std.proofs.Common.{◌≡◌, ◌≤◌, ◌+◌, ◌^◌, [], ◌∷◌, ◌∙◌, List, length, sym, ap, subst, arith}
-use Rattle.std.specs.Prelude.{All, slice_index_or}
-use Rattle.std.proofs.lemmas.List.Elements.{All-tail}
+use Rattle.std.proofs.Common.{◌≡◌, ◌≤◌, ◌+◌, [], ◌∷◌, ◌∙◌, List, length, sym, ap, subst, arith}
+use Rattle.std.specs.Prelude.{slice_index_or}
 use Rattle.pb_base.specs.declared.literal.Lit.{Lit}
-use Rattle.pb_base.specs.Problems.{StaysBelow}
 use Rattle.pb_norm.specs.ClauseForm.{clause_form}
 use Rattle.pb_norm.specs.Products.{plain, product_clauses}
 use Rattle.pb_encode.specs.declared.groups.Group.{Group}
 use Rattle.pb_encode.specs.declared.groups.Group.TheVariants.{Alone}
-use Rattle.pb_encode.proofs.Walks.{product_ends, product_stays}
+use Rattle.pb_encode.proofs.Walks.{goes_on, product_ends, product_stays}
 use Rattle.pb_encode.proofs.groups.Groups.next.Goals as goal
 use Rattle.pb_encode.proofs.groups.Groups.next.Goals.{then-self-len, else-self-len}
 
@@ -22,15 +20,21 @@ returns-in-Some-clause-some c =
     let product : c.product_variable-product.result ≡ plain (left.vars + 1) = c.product_variable-product.ensures ∙ ap plain number in
     let is : one ≡ clause_form (slice_index_or (product_clauses (plain (left.vars + 1)) ls) left.place []) = c.in_ok-constraint.ensures ∙ (λ i. clause_form (slice_index_or (product_clauses (product i) (c.as_slice.ensures i)) left.place [])) in
     elim c.if-self-len.branch as (λ _. c.args.self.now ≡ Alone one ∷ c.if-self-len.self) [
-      | then-self-len w ↦ sym c.self.view_is ∙ product_stays left.vars left.products.now c.in-Some.rest.now ls parts left.place le one is left.statements.now ∙ ap (λ (gs : List Group). Alone one ∷ gs) (sym w.self-is)
+      | then-self-len w ↦ sym c.self.view_is ∙ product_stays left.vars left.products.now c.in-Some.rest.now ls parts left.place le one is left.statements ∙ ap (λ (gs : List Group). Alone one ∷ gs) (sym w.self-is)
       | else-self-len w ↦
-          sym c.self.view_is ∙ product_ends left.vars left.products.now c.in-Some.rest.now ls parts left.place le one is left.statements.now (omega (arith, w.if-self-len.false, c.len.ensures))
+          sym c.self.view_is ∙ product_ends left.vars left.products.now c.in-Some.rest.now ls parts left.place le one is left.statements (omega (arith, w.if-self-len.false, c.len.ensures))
           ∙ ap (λ (gs : List Group). Alone one ∷ gs) (sym w.self-is)
     ]
 
+pub invariant_of-self-in_err-next_into : goal.invariant_of-self-in_err-next_into
+invariant_of-self-in_err-next_into c =
+    let gone = c.in_err-next_into.ensures.err in
+    goes_on c.self.inside.vars c.self.inside.products.now c.self.inside.place c.self.inside.statements c.next_into.new.self gone.0 gone.1 c.self.invariant
+
+pub invariant_of-self-in_err-group : goal.invariant_of-self-in_err-group
+invariant_of-self-in_err-group c =
+    goes_on c.self.inside.vars c.self.inside.products.now c.self.inside.place c.self.inside.statements c.next_into.new.self c.next_into.new.raw (c.in_ok-next_into.ensures.more c.if-not-branch.false) c.self.invariant
+
 pub invariant_of-self-2 : goal.invariant_of-self-2
-invariant_of-self-2 c = record {
-  named = c.self.invariant.named;
-  inside = c.self.invariant.inside;
-  numbers = All-tail (StaysBelow (2 ^ 126)) c.in-Some-split_first.statement.now c.in-Some-split_first.rest.now (subst (All (StaysBelow (2 ^ 126))) c.in-Some-split_first.ensures.cases.0 c.self.invariant.numbers);
-}
+invariant_of-self-2 c =
+    goes_on c.self.inside.vars c.self.inside.products.now c.self.inside.place c.self.inside.statements c.next_into.new.self c.next_into.new.raw (c.in_ok-next_into.ensures.more c.if-not-branch.false) c.self.invariant

@@ -1,29 +1,25 @@
-use Rattle.std.proofs.Common.{rules, FitsSigned, to_z, of_z, ◌≡◌, ◌<◌, ◌∙◌, ◌++◌, ◌^◌, ℕ, ℤ, List, ap, sym, subst, arith}
+use Rattle.std.proofs.Common.{rules, FitsSigned, to_z, of_z, ◌≡◌, ◌<◌, ◌∙◌, ◌^◌, ℤ, List, ap, sym, subst, arith}
 use mir.Syntax.{w128}
-use Rattle.std.specs.Prelude.{OnOk}
+use Rattle.std.specs.Prelude.{IfOk}
 use Rattle.std.specs.Int.RustNames.{unsigned_abs}
 use Rattle.std.proofs.lemmas.Int.{to_z-of_z}
-use Rattle.std.proofs.lemmas.List.{append-nil}
 use Rattle.pb_base.specs.declared.literal.Lit.{Lit}
 use Rattle.pb_norm.specs.Constraints.{Weighted, weight}
 use Rattle.pb_family.specs.Families.{VarsBelow}
 use Rattle.pb_gentot.specs.BoundTable.{table_fresh}
-use Rattle.pb_encode.specs.BoundLines.{bounds_text}
 use Rattle.pb_encode.proofs.BoundTexts.{first_is, no_rows, rows_are}
 use Rattle.pb_encode.proofs.TableTerms.{table_below, table_fits}
 use Rattle.pb_encode.proofs.WeightedTexts.{offset_small}
-use Rattle.pb_encode.proofs.bounds.push_bounds.Goals as goal
+use Rattle.pb_encode.proofs.bounds.bound_rows.Goals as goal
 
 pub returns-in_default : goal.returns-in_default
-returns-in_default c =
-    let none = no_rows c.args.options.now c.args.problem.now c.args.summary.now c.requires.summary c.in_default.is in
-    sym (append-nil c.args.out.now.items) ∙ ap (λ (rows : List (ℤ × Lit)). c.args.out.now.items ++ bounds_text rows) (sym none)
+returns-in_default c = c.new.ensures.items ∙ sym (no_rows c.args.options.now c.args.problem.now c.args.summary.now c.requires.summary c.in_default.is)
 
 pub table_within-requires-clause-bounds : goal.table_within-requires-clause-bounds
 table_within-requires-clause-bounds c = c.requires.encodable.bounds
 
-pub push_rows-requires : goal.push_rows-requires
-push_rows-requires c =
+pub rows_at-requires : goal.rows_at-requires
+rows_at-requires c =
     let o = c.args.options.now in
     let p = c.args.problem.now in
     let first = c.in-Some.first in
@@ -46,4 +42,4 @@ returns c =
     let kept = to_z-of_z w128 c.in_ok-offset.offset fits in
     let at = first_is o p c.args.summary.now first c.requires.summary c.in-Some.is in
     let rows = rows_are o p (to_z w128 (of_z w128 c.in_ok-offset.offset)) c.in_ok-table.table first (kept ∙ c.in_ok-offset.ensures) c.in_ok-table.ensures at in
-    subst (λ (text : List ℕ). OnOk c.push_rows.result (c.push_rows.new.out.items ≡ c.args.out.now.items ++ text)) rows c.push_rows.ensures
+    subst (λ (whole : List (ℤ × Lit)). IfOk c.rows_at.result (λ made. made.items ≡ whole)) rows c.rows_at.ensures

@@ -1,0 +1,75 @@
+//! Families that are kept from one plan of a constraint to the next.
+ghost use Rattle.std.specs.Prelude.{◌≡◌, ◌<◌, ◌^◌, IfOk, IfSome};
+ghost use Rattle.pb_norm.specs.Constraints.{weight};
+ghost use Rattle.pb_choice.specs.Kept.{IsKeptOf};
+
+use crate::chosen::Chosen;
+use crate::lent::Lent;
+use crate::plans::Plan;
+use crate::residual::Residual;
+use crate::treatment::Treatment;
+use pb_base::{NoMemory, Options};
+use pb_family::Family;
+use pb_norm::{Linear, Reduced, reduce};
+use std::alloc::{AllocError, Global};
+use std::marker::Model;
+
+/// A family that was built for a constraint, kept for whoever plans it again. It stands in memory of its own, so that where none is
+/// kept little is taken.
+#[derive(Drop)]
+pub struct Kept {
+    chosen: Box<Chosen>,
+}
+
+impl Model for Kept {
+    ghost use Rattle.pb_choice.specs.declared.chosen.Chosen.{Chosen};
+
+    ghost Value = { Chosen };
+
+    ghost view = { λ k. k.chosen.value };
+}
+
+impl Kept {
+    /// How many fresh variables it has.
+    pub fn fresh(&self) -> u64 {
+        self.chosen.fresh()
+    }
+}
+
+impl Plan<'_> {
+    /// The diagram that was built, if one was: it took a search, which whoever plans the constraint again need not make.
+    pub fn into_kept(self, alloc: Global) -> Result<Option<Kept>, AllocError>
+        ensures { IfOk result (λ kept. IfSome kept (IsKeptOf self.entry.options self.entry.constraint.now)) }
+    {
+        match self.treatment() {
+            Treatment::Diagram => {}
+            _ => return Ok(None),
+        }
+        let Some(chosen) = self.into_own() else {
+            return Ok(None);
+        };
+        let chosen = Box::new(alloc, chosen)?;
+        Ok(Some(Kept { chosen }))
+    }
+}
+
+/// Plans the encoding of a constraint of which a family is kept.
+pub fn plan_kept<'a>(
+    alloc: Global,
+    constraint: &'a Linear,
+    options: &Options,
+    kept: &'a Kept,
+) -> Result<Plan<'a>, NoMemory>
+    requires light { weight constraint.now.terms < 2 ^ 100 }
+    requires kept { IsKeptOf options.now constraint.now kept.now }
+    ensures constraint { IfOk result (λ plan. plan.constraint.now ≡ constraint.now) }
+    ensures options { IfOk result (λ plan. plan.options ≡ options.now) }
+{
+    let Reduced { units, rest: _ } = reduce(alloc, constraint)?;
+    Ok(Plan {
+        constraint,
+        options: *options,
+        units,
+        left: Residual::Sum(Lent::kept(&kept.chosen)),
+    })
+}

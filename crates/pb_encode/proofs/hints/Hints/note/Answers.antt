@@ -1,0 +1,5 @@
+use Rattle.pb_encode.proofs.hints.Hints.note.Goals as goal
+
+pub returns-clause-told : goal.returns-clause-told
+returns-clause-told c = λ o gs rest g here planned before.
+    c.in_ok-push.ensures.told o gs rest g here (c.in_ok-told.ensures o g planned) before
