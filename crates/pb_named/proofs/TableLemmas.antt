@@ -1,5 +1,5 @@
 -- Names in a table, and their places.
-use Rattle.std.proofs.Common.{All, take, get_or, ◌≡◌, ℕ, ◌+◌, ◌<◌, true, List, [], ◌∷◌, ◌++◌, map, length, arith, refl, ap, sym, ◌∙◌, subst}
+use Rattle.std.proofs.Common.{All, take, get_or, ◌≡◌, ℕ, ◌+◌, ◌<◌, true, List, [], ◌∷◌, ◌++◌, map, length, arith, refl, ap, sym, ◌∙◌, subst, append-nil}
 use Rattle.std.specs.Prelude.{max}
 use Rattle.std.specs.List.{flat_map, AllByRecursion}
 use Rattle.std.specs.Str.{bytes_eq}
@@ -60,27 +60,33 @@ all-known t (n ∷ ns) = (known-all (noted t n) ns n (known-new t n), all-known 
 place-stays : (t : Table) (m n : Name) → IsKnown t n → place_in (noted t m) n ≡ place_in t n
 place-stays t m (index n) known = refl
 place-stays t (index k) (free x) known = refl
-place-stays t (free text) (free x) known = with-place bytes_eq t.names text x known
+place-stays t (free text) (free x) known = ap (λ (k : ℕ). k ∷ []) (with-place bytes_eq t.names text x known)
 
 place-stays_all : (t : Table) (ms : List Name) (n : Name) → IsKnown t n → place_in (noted_all t ms) n ≡ place_in t n
 place-stays_all t [] n known = refl
 place-stays_all t (m ∷ ms) n known = place-stays_all (noted t m) ms n (known-more t m n known) ∙ place-stays t m n known
 
-places-stay : (t : Table) (ns : List Name) → places_from t ns ≡ map (place_in (noted_all t ns)) ns
+places-stay : (t : Table) (ns : List Name) → places_from t ns ≡ flat_map (place_in (noted_all t ns)) ns
 places-stay t [] = refl
 places-stay t (n ∷ ns) =
-    ap (λ (k : ℕ). k ∷ places_from (noted t n) ns) (sym (place-stays_all (noted t n) ns n (known-new t n)))
-    ∙ ap (λ (ks : List ℕ). place_in (noted_all (noted t n) ns) n ∷ ks) (places-stay (noted t n) ns)
+    ap (λ (ks : List ℕ). ks ++ places_from (noted t n) ns) (sym (place-stays_all (noted t n) ns n (known-new t n)))
+    ∙ ap (λ (ks : List ℕ). place_in (noted_all (noted t n) ns) n ++ ks) (places-stay (noted t n) ns)
 
 places_from-append : (t : Table) (ns more : List Name) → places_from t (ns ++ more) ≡ places_from t ns ++ places_from (noted_all t ns) more
 places_from-append t [] more = refl
-places_from-append t (n ∷ ns) more = ap (λ (ks : List ℕ). place_in (noted t n) n ∷ ks) (places_from-append (noted t n) ns more)
+places_from-append t (n ∷ ns) more =
+    ap (λ (ks : List ℕ). place_in (noted t n) n ++ ks) (places_from-append (noted t n) ns more)
+    ∙ sym (append_assoc (place_in (noted t n) n) (places_from (noted t n) ns) (places_from (noted_all (noted t n) ns) more))
 
 -- ---- loops
 
 -- from t and ks, noting the names made u and ls
 abbrev pub Notes : Table → List ℕ → List Name → Table → List ℕ → Type 0
 Notes t ks ns u ls = (u ≡ noted_all t ns) × (ls ≡ ks ++ places_from t ns)
+
+-- one name
+pub notes-one : (t u : Table) (ks ls : List ℕ) (n : Name) → u ≡ noted t n → ls ≡ ks ++ place_in (noted t n) n → Notes t ks (n ∷ []) u ls
+notes-one t u ks ls n adds places = (adds, places ∙ ap (λ (w : List ℕ). ks ++ w) (sym (append-nil (place_in (noted t n) n))))
 
 notes-more : (t u v : Table) (ks ls ms : List ℕ) (ns more : List Name) → Notes t ks ns u ls → Notes u ls more v ms → Notes t ks (ns ++ more) v ms
 notes-more t u v ks ls ms ns more (noted, placed) (adds, places) = (
@@ -144,12 +150,12 @@ notes-problem p s t u js ks ls os ss objective statements first rest =
     subst (λ (ns : List Name). Notes s js ns u ls) names (notes-more s t u js ks ls (names_of os) (flat_map statement_names ss) first rest)
 
 -- what is noted from nothing on is the table of the names, and their places in it
-pub table-made : (told : ℕ) (ns : List Name) (s u : Table) (js ls : List ℕ) → s ≡ empty told → js ≡ [] → Notes s js ns u ls → (u ≡ table_of told ns) × (ls ≡ map (place_in u) ns)
+pub table-made : (told : ℕ) (ns : List Name) (s u : Table) (js ls : List ℕ) → s ≡ empty told → js ≡ [] → Notes s js ns u ls → (u ≡ table_of told ns) × (ls ≡ flat_map (place_in u) ns)
 table-made told ns s u js ls starts none notes =
     let (noted, placed) : Notes (empty told) [] ns u ls
     = subst (λ (w : Table). Notes w [] ns u ls) starts (subst (λ (ws : List ℕ). Notes s ws ns u ls) none notes) in (
       noted ∙ noted_all-is (empty told) ns,
-      placed ∙ places-stay (empty told) ns ∙ ap (λ (w : Table). map (place_in w) ns) (sym noted),
+      placed ∙ places-stay (empty told) ns ∙ ap (λ (w : Table). flat_map (place_in w) ns) (sym noted),
     )
 
 known-lits : (t : Table) (ls : List NamedLit) → AllByRecursion (IsKnown t) (map (λ l. l.name) ls) → All (λ l. IsKnown t l.name) ls

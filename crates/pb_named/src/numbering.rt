@@ -50,15 +50,14 @@ impl From<AllocError> for NumberFault {
 // Notes the names of literals, and their places.
 fn note_lits<'a>(
     table: &mut Table<'a>,
-    places: &mut Seq<usize>,
+    places: &mut Seq<u32>,
     lits: &[NamedLit<'a>],
 ) -> Result<(), NoMemory>
     ensures noted { OnOk result (table.new ≡ noted_all table.old (map (λ l. l.name) lits.now)) }
     ensures places { OnOk result (places.new ≡ places.old ++ places_from table.old (map (λ l. l.name) lits.now)) }
 {
     for lit in lits {
-        let place = table.note(&lit.name)?;
-        places.push(place)?;
+        table.note(places, &lit.name)?;
     }
     Ok(())
 }
@@ -66,14 +65,13 @@ fn note_lits<'a>(
 // Notes the names of a term, and their places.
 fn note_term<'a>(
     table: &mut Table<'a>,
-    places: &mut Seq<usize>,
+    places: &mut Seq<u32>,
     term: &NamedTerm<'a>,
 ) -> Result<(), NoMemory>
     ensures noted { OnOk result (table.new ≡ noted_all table.old (term_names term.now)) }
     ensures places { OnOk result (places.new ≡ places.old ++ places_from table.old (term_names term.now)) }
 {
-    let place = table.note(&term.lit().name)?;
-    places.push(place)?;
+    table.note(places, &term.lit().name)?;
     note_lits(table, places, term.more())?;
     Ok(())
 }
@@ -81,7 +79,7 @@ fn note_term<'a>(
 // Notes the names of a sum, and their places.
 fn note_terms<'a>(
     table: &mut Table<'a>,
-    places: &mut Seq<usize>,
+    places: &mut Seq<u32>,
     terms: &[NamedTerm<'a>],
 ) -> Result<(), NoMemory>
     ensures noted { OnOk result (table.new ≡ noted_all table.old (names_of terms.now)) }
@@ -96,7 +94,7 @@ fn note_terms<'a>(
 // Notes the names of a statement, and their places.
 fn note_body<'a>(
     table: &mut Table<'a>,
-    places: &mut Seq<usize>,
+    places: &mut Seq<u32>,
     body: Body<'_, 'a>,
     room: &mut Vec<NamedTerm<'a>>,
 ) -> Result<(), NoMemory>
@@ -116,7 +114,7 @@ fn note_body<'a>(
 fn note_statements<'a>(
     alloc: Global,
     table: &mut Table<'a>,
-    places: &mut Seq<usize>,
+    places: &mut Seq<u32>,
     statements: &NamedStatements<'a>,
 ) -> Result<(), NoMemory>
     ensures noted { OnOk result (table.new ≡ noted_all table.old (flat_map (λ s. names_of s.terms) statements.now)) }
@@ -143,7 +141,7 @@ fn terms_in<'a, 'b>(objective: &'b Option<NamedTerms<'a>>) -> &'b [NamedTerm<'a>
 fn note_problem<'a>(
     alloc: Global,
     table: &mut Table<'a>,
-    places: &mut Seq<usize>,
+    places: &mut Seq<u32>,
     problem: &NamedProblem<'a>,
 ) -> Result<(), NoMemory>
     ensures noted { OnOk result (table.new ≡ noted_all table.old (all_names problem.now)) }
@@ -168,7 +166,7 @@ fn push_lits(
     ensures lits { OnOk result (list.new ≡ list.old ++ map (lit_of table.now) lits.now) }
 {
     for lit in lits {
-        list.push(table.lit_of(lit, places.next()))?;
+        list.push(table.lit_of(lit, places))?;
     }
     Ok(())
 }
@@ -187,7 +185,7 @@ fn lits_of(
     ensures lits { IfOk result (λ ls. ls ≡ map (lit_of table.now) (lits_of term.now)) }
 {
     let mut lits = Lits::new(alloc);
-    lits.push(table.lit_of(term.lit(), places.next()))?;
+    lits.push(table.lit_of(term.lit(), places))?;
     push_lits(table, places, &mut lits, term.more())?;
     Ok(lits)
 }
@@ -251,7 +249,7 @@ fn factor_in(
     ensures factor { IfOk result (λ f. f ≡ factor table.now term.now) }
 {
     if term.more().is_empty() {
-        let lit = table.lit_of(term.lit(), places.next());
+        let lit = table.lit_of(term.lit(), places);
         return Ok(Factor::Single(lit));
     }
     let lits = lits_of(alloc, table, places, term)?;
@@ -444,7 +442,7 @@ fn in_numbers(
     problem: NamedProblem<'_>,
 ) -> Result<Problem, NumberFault>
     requires fresh { products.old ≡ [] }
-    requires places { places.old ≡ map (place_in table.now) (all_names problem) }
+    requires places { places.old ≡ flat_map (place_in table.now) (all_names problem) }
     requires objective { AreKnown table.now (terms_or_none problem.objective) }
     requires statements { All (λ s. AreKnown table.now s.terms) problem.statements }
     requires few { size table.now < 2 ^ 31 }
@@ -461,10 +459,10 @@ fn in_numbers(
 fn by_table(
     alloc: Global,
     table: &Table<'_>,
-    places: &[usize],
+    places: &[u32],
     problem: NamedProblem<'_>,
 ) -> Result<Problem, NumberFault>
-    requires places { places.now ≡ map (place_in table.now) (all_names problem) }
+    requires places { places.now ≡ flat_map (place_in table.now) (all_names problem) }
     requires objective { AreKnown table.now (terms_or_none problem.objective) }
     requires statements { All (λ s. AreKnown table.now s.terms) problem.statements }
     ensures ok { IfOk result (λ p. p ≡ by_table table.now problem.entry) }

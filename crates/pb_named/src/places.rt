@@ -1,12 +1,24 @@
-//! The places of names, taken one after another.
-ghost use Rattle.std.specs.Prelude.{◌≡◌, ◌∷◌, ◌≤◌, length};
+//! The places of free names, taken one after another.
+ghost use Rattle.std.specs.Prelude.{[], ◌≡◌, ◌∷◌, ◌++◌, ◌≤◌, OnOk, length};
 
+use pb_base::{NoMemory, Seq};
 use std::marker::Model;
+
+/// Adds a place at the end, in four bytes.
+pub fn push_place(places: &mut Seq<u32>, place: usize) -> Result<(), NoMemory>
+    ensures { OnOk result (places.new ≡ places.old ++ place ∷ []) }
+{
+    if place > u32::MAX as usize {
+        return Err(NoMemory);
+    }
+    places.push(place as u32)?;
+    Ok(())
+}
 
 /// Places that are left.
 #[derive(Drop)]
 pub struct Places<'a> {
-    rest: &'a [usize],
+    rest: &'a [u32],
 }
 
 impl<'a> Model for Places<'a> {
@@ -19,14 +31,14 @@ impl<'a> Model for Places<'a> {
 
 impl<'a> Places<'a> {
     /// All of these.
-    pub fn of(rest: &'a [usize]) -> Self
+    pub fn of(rest: &'a [u32]) -> Self
         ensures { result ≡ rest.now }
     {
         Places { rest }
     }
 
     /// The next one.
-    pub fn next(&mut self) -> usize
+    pub fn next(&mut self) -> u32
         requires { 1 ≤ length self.old }
         ensures { self.old ≡ result ∷ self.new }
     {

@@ -1,14 +1,15 @@
 //! The names of a text's variables.
-ghost use Rattle.std.specs.Prelude.{◌≡◌, ◌<◌, ◌^◌, OnOk, IfOk, map, length};
+ghost use Rattle.std.specs.Prelude.{[], ◌∷◌, ◌++◌, ◌≡◌, ◌<◌, ◌^◌, OnOk, IfOk, map, length};
 ghost use Rattle.std.specs.List.{position_or_len};
 ghost use Rattle.std.specs.Str.{bytes_eq};
 ghost use Rattle.pb_base.specs.Firsts.{with_item};
 ghost use Rattle.pb_named.specs.NamedProblems.{size};
-ghost use Rattle.pb_named.specs.inner.Numbering.{noted, place_in, IsKnown};
+ghost use Rattle.pb_named.specs.inner.Numbering.{noted, place_in, StartsWith, Gives, IsKnown};
 
 use crate::named::{Name, NamedLit, Parts};
+use crate::places::{Places, push_place};
 use indexmap::IndexSet;
-use pb_base::{Bytes, Lit, Names, NoMemory, Var};
+use pb_base::{Bytes, Lit, Names, NoMemory, Seq, Var};
 use std::alloc::Global;
 use std::marker::Model;
 
@@ -62,7 +63,6 @@ fn names_in(alloc: Global, names: &[&[u8]]) -> Result<Names, NoMemory>
 }
 
 impl<'a> Table<'a> {
-    ghost use Rattle.std.specs.Prelude.{[]};
     ghost use Rattle.pb_named.specs.NamedProblems.{var_of, lit_of};
 
     /// No name, where a number of variables is told.
@@ -76,17 +76,20 @@ impl<'a> Table<'a> {
         }
     }
 
-    /// One name more, and its place among the free ones.
-    pub fn note(&mut self, name: &Name<'a>) -> Result<usize, NoMemory>
+    /// One name more. The place of a free one is added to the places.
+    pub fn note(&mut self, places: &mut Seq<u32>, name: &Name<'a>) -> Result<(), NoMemory>
         ensures noted { OnOk result (self.new ≡ noted self.old name.now) }
-        ensures place { IfOk result (λ p. p ≡ place_in (noted self.old name.now) name.now) }
+        ensures places { OnOk result (places.new ≡ places.old ++ place_in (noted self.old name.now) name.now) }
     {
         match name.parts() {
             Parts::Index(number) => {
                 self.numbered = self.numbered.max(number);
-                Ok(0)
+                Ok(())
             }
-            Parts::Free(text) => note_free(&mut self.names, text),
+            Parts::Free(text) => {
+                let place = note_free(&mut self.names, text)?;
+                push_place(places, place)
+            }
         }
     }
 
@@ -120,28 +123,30 @@ impl<'a> Table<'a> {
         names_in(alloc, self.names.as_slice())
     }
 
-    /// The variable of a name, whose place is told.
-    pub fn var_of(&self, name: &Name<'_>, place: usize) -> Var
-        requires place { place ≡ place_in self.now name.now }
+    /// The variable of a name. The place of a free one is the next of the places.
+    pub fn var_of(&self, name: &Name<'_>, places: &mut Places<'_>) -> Var
+        requires places { StartsWith (place_in self.now) places.old (name.now ∷ []) }
         requires known { IsKnown self.now name.now }
         requires few { size self.now < 2 ^ 31 }
-        ensures { result ≡ var_of self.now name.now }
+        ensures var { result ≡ var_of self.now name.now }
+        ensures places { Gives (place_in self.now) places.old (name.now ∷ []) places.new }
     {
         match name.parts() {
             Parts::Index(number) => Var::new(number),
-            Parts::Free(_) => Var::new(self.numbered + 1 + place as u32),
+            Parts::Free(_) => Var::new(self.numbered + 1 + places.next()),
         }
     }
 
-    /// The literal in numbers, where the place of its name is told.
-    pub fn lit_of(&self, lit: &NamedLit<'_>, place: usize) -> Lit
-        requires place { place ≡ place_in self.now lit.now.name }
+    /// The literal in numbers. The place of a free name is the next of the places.
+    pub fn lit_of(&self, lit: &NamedLit<'_>, places: &mut Places<'_>) -> Lit
+        requires places { StartsWith (place_in self.now) places.old (lit.now.name ∷ []) }
         requires known { IsKnown self.now lit.now.name }
         requires few { size self.now < 2 ^ 31 }
-        ensures { result ≡ lit_of self.now lit.now }
+        ensures lit { result ≡ lit_of self.now lit.now }
+        ensures places { Gives (place_in self.now) places.old (lit.now.name ∷ []) places.new }
     {
         Lit {
-            var: self.var_of(&lit.name, place),
+            var: self.var_of(&lit.name, places),
             positive: lit.positive,
         }
     }

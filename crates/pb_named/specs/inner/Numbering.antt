@@ -1,6 +1,6 @@
 -- How names get their numbers, one after another.
 use Rattle.std.specs.Prelude.{ℕ, ◌+◌, ◌<◌, ◌≤◌, ◌^◌, max, List, [], ◌∷◌, ◌++◌, map, length, All, Option, Some, None, ◌≡◌}
-use Rattle.std.specs.List.{position_or_len}
+use Rattle.std.specs.List.{flat_map, position_or_len}
 use Rattle.std.specs.Str.{bytes_eq}
 use Rattle.pb_base.specs.Firsts.{with_item}
 use Rattle.pb_named.specs.Names.{Name}
@@ -28,15 +28,15 @@ abbrev pub noted_all : Table → List Name → Table
 noted_all t [] = t
 noted_all t (n ∷ ns) = noted_all (noted t n) ns
 
--- the place of a free name among those of the table (0 of an index)
-abbrev pub place_in : Table → Name → ℕ
-place_in t (index n) = 0
-place_in t (free text) = position_or_len (bytes_eq text) t.names
+-- the place of a free name among those of the table (none of an index)
+abbrev pub place_in : Table → Name → List ℕ
+place_in t (index n) = []
+place_in t (free text) = position_or_len (bytes_eq text) t.names ∷ []
 
--- the place of each name, as it is noted
+-- the places of the free names, each as it is noted
 abbrev pub places_from : Table → List Name → List ℕ
 places_from t [] = []
-places_from t (n ∷ ns) = place_in (noted t n) n ∷ places_from (noted t n) ns
+places_from t (n ∷ ns) = place_in (noted t n) n ++ places_from (noted t n) ns
 
 -- the table has the name
 abbrev pub IsKnown : Table → Name → Type 0
@@ -52,12 +52,12 @@ AreKnown t ns = All (IsTermKnown t) ns
 -- ---- the places of names, taken one after another
 
 -- the numbers begin with those of the names
-abbrev pub StartsWith : (Name → ℕ) → List ℕ → List Name → Type 0
-StartsWith f ks ns = (rest : List ℕ) × (ks ≡ map f ns ++ rest)
+abbrev pub StartsWith : (Name → List ℕ) → List ℕ → List Name → Type 0
+StartsWith f ks ns = (rest : List ℕ) × (ks ≡ flat_map f ns ++ rest)
 
 -- those of the names were taken, and these are left
-abbrev pub Gives : (Name → ℕ) → List ℕ → List Name → List ℕ → Type 0
-Gives f ks ns rest = ks ≡ map f ns ++ rest
+abbrev pub Gives : (Name → List ℕ) → List ℕ → List Name → List ℕ → Type 0
+Gives f ks ns rest = ks ≡ flat_map f ns ++ rest
 
 -- ---- products
 

@@ -1,4 +1,4 @@
-use Rattle.std.proofs.Common.{◌∙◌, ◌++◌, ap, rules}
+use Rattle.std.proofs.Common.{◌∙◌, ◌++◌, ap, take, rules}
 use Rattle.pb_named.specs.NamedProblems.{term_names}
 use Rattle.pb_named.specs.inner.Numbering.{place_in}
 use Rattle.pb_named.proofs.NumberLemmas.{numbers-item, over-item}
@@ -14,7 +14,7 @@ loop-term-preserved c =
     let t = c.args.table.now in
     let x = c.term-item.result in
     numbers-item t c.args.products.now c.args.places.now c.args.terms.now c.loop-term.term-index x c.loop-term.products _ c.loop-term.places _ c.loop-term.list _ (search rules) (search rules) c.loop-term.invariant
-    (gives-push (place_in t) term_names c.args.places.now c.loop-term.places _ _ x c.loop-term.invariant.gives c.in_ok-term_of.ensures.places)
+    (gives-push (place_in t) term_names c.args.places.now c.loop-term.places _ (take c.loop-term.term-index c.args.terms.now) x c.loop-term.invariant.gives c.in_ok-term_of.ensures.places)
     c.in_ok-term_of.ensures.noted
     (c.in_ok-push_some.ensures ∙ ap (λ ts. c.loop-term.list ++ ts) c.in_ok-term_of.ensures.term)
     c.in_ok-term_of.ensures.few
