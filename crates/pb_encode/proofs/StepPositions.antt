@@ -1,5 +1,5 @@
 -- The derivations of groups of constraints that are handed over one after another.
-use Rattle.std.proofs.Common.{◌≡◌, ◌≤◌, ◌+◌, ◌^◌, ◌++◌, ℕ, Bool, true, false, cond, List, All, [], ◌∷◌, length, refl, sym, ap, subst, arith}
+use Rattle.std.proofs.Common.{◌≡◌, ◌≤◌, ◌+◌, ◌^◌, ◌++◌, ℕ, Bool, true, false, cond, List, All, [], ◌∷◌, length, sym, ap, subst, arith}
 use Rattle.std.specs.Prelude.{count_by, sum_by, Result, IsErrAnd}
 use Rattle.std.proofs.lemmas.List.Elements.{All-head, All-tail}
 use Rattle.std.proofs.lemmas.List.Sums.{sum_by-append, sum_by-cons}
@@ -35,10 +35,16 @@ pub record Positions {R : Type 0} (o : Options) (first id : ℕ) (all left : Lis
   pub sound : All (IsSound first) left
   pub handed : Deriving (steps_from o first id all old.next) (steps_from o variable place left now.next) old now
 
-pub positions_begin : {R : Type 0} (o : Options) (first id : ℕ) (all left : List Group) (a : StepState R) → left ≡ all → All (IsSound first) all → Positions o first id all left first id a a
-positions_begin o first id all left a all_are sound =
-    subst (λ (gs : List Group). Positions o first id all gs first id a a) (sym all_are)
-    (record { variable_is = refl; place_is = refl; fewer = omega arith; later = omega arith; known = omega arith; sound = sound; handed = deriving_starts (steps_from o first id all a.next) a })
+pub positions_begin : {R : Type 0} (o : Options) (first id variable : ℕ) (all left : List Group) (a : StepState R) → variable ≡ first → left ≡ all → All (IsSound first) all → Positions o first id all left variable id a a
+positions_begin o first id variable all left a first_is all_are sound = record {
+  variable_is = λ i. first_is i + fresh_total o (all_are i);
+  place_is = λ i. id + size_total (all_are i);
+  fewer = omega (arith, ap (clause_total o) all_are);
+  later = omega (arith, first_is);
+  known = omega arith;
+  sound = subst (All (IsSound first)) (sym all_are) sound;
+  handed = deriving_as (λ i. steps_from o (sym first_is i) id (sym all_are i) a.next) (deriving_starts (steps_from o first id all a.next) a);
+}
 
 -- what is asked so that the derivations of groups may be handed over, which begin with a fresh variable and an id
 pub record Ready (o : Options) (variable place next : ℕ) (gs : List Group) : Type 0 where

@@ -16,14 +16,14 @@ use Rattle.pb_base.specs.declared.options.Options.{Options}
 use Rattle.pb_choice.specs.Readiness.{LeavesIds}
 use Rattle.pb_gentot.specs.BoundTable.{table_clauses}
 use Rattle.pb_gentot.specs.BoundTableSteps.{table_steps}
-use Rattle.pb_encode.specs.Clauses.{fresh_total, loaded_clauses, problem_clauses, table_first}
+use Rattle.pb_encode.specs.Clauses.{loaded_clauses, problem_clauses, table_first}
 use Rattle.pb_encode.specs.Groups.{groups_of}
-use Rattle.pb_encode.specs.Steps.{steps_from}
 use Rattle.pb_encode.specs.Summaries.{IsEncodable}
 use Rattle.pb_encode.specs.Tables.{table_terms}
-use Rattle.pb_encode.specs.inner.Streams.{steps_at_next}
+use Rattle.pb_encode.specs.inner.Streams.{loaded_steps_from, steps_at_next}
 use Rattle.pb_encode.proofs.DerivedProblems.{loaded_leave}
-use Rattle.pb_encode.proofs.StepPositions.{ids_in, stops_same_steps, takes_same_steps}
+use Rattle.pb_encode.proofs.GroupLists.{size_loaded}
+use Rattle.pb_encode.proofs.StepPositions.{ids_in, Ready}
 
 -- ---- the clauses
 
@@ -35,42 +35,32 @@ table_last o p a b c first is taken r hands =
 
 -- ---- the derivation
 
-module _ {R : Type 0} (o : Options) (p : Problem) (within : IsWithinLimits p) (encodable : IsEncodable o p) (a b : StepState R) (first : ℕ) (first_is : first ≡ originals p + 1) (starts : a.next ≡ length (loaded_of p) + 1) where
+module _ {R : Type 0} (o : Options) (p : Problem) (within : IsWithinLimits p) (encodable : IsEncodable o p) (a b : StepState R) (starts : a.next ≡ length (loaded_of p) + 1) where
   abbrev all : List Step
   all = steps_at_next o p a.next
 
   -- the derivations of the constraints
   abbrev front : List Step
-  front = steps_from o (originals p + 1) 1 (groups_of p) a.next
+  front = loaded_steps_from o p a.next
 
-  same : steps_from o first 1 (groups_of p) a.next ≡ front
-  same = λ i. steps_from o (first_is i) 1 (groups_of p) a.next
+  at_start : front ≡ loaded_steps_from o p (length (loaded_of p) + 1)
+  at_start = ap (loaded_steps_from o p) starts
 
-  at_start : steps_from o first 1 (groups_of p) a.next ≡ steps_from o (originals p + 1) 1 (groups_of p) (length (loaded_of p) + 1)
-  at_start = λ i. steps_from o (first_is i) 1 (groups_of p) (starts i)
-
-  pub front_leaves : LeavesIds (steps_from o first 1 (groups_of p)) a.next
+  front_leaves : LeavesIds (loaded_steps_from o p) a.next
   front_leaves = omega (arith, loaded_leave o p within encodable, ap ids_in at_start, starts)
 
-  pub front_stops : {T : Type 0} (r : Result T SinkFault) (f : SinkFault) → IsErrAnd r (λ g. g ≡ f) → StopsInSteps (steps_from o first 1 (groups_of p) a.next) a b f → HandsSteps all r a b
-  front_stops r f is stops =
-      steps_fault r f front (table_steps (table_terms o p) (table_first o p) (a.next + ids_in front)) b is (deriving_starts all a) (stops_same_steps _ _ a b f same stops)
+  pub front_ready : Ready o (originals p + 1) 1 a.next (groups_of p)
+  front_ready = record { fits = omega (arith, encodable.vars); counted = omega (arith, encodable.clauses); known = omega (arith, starts, size_loaded p); few = front_leaves }
+
+  pub front_stops : {T : Type 0} (r : Result T SinkFault) (f : SinkFault) → IsErrAnd r (λ g. g ≡ f) → StopsInSteps front a b f → HandsSteps all r a b
+  front_stops r f is stops = steps_fault r f front (table_steps (table_terms o p) (table_first o p) (a.next + ids_in front)) b is (deriving_starts all a) stops
 
   -- once these are taken
-  module _ (taken : TakesSteps (steps_from o first 1 (groups_of p) a.next) a b) (last : ℕ) (last_is : last ≡ first + fresh_total o (groups_of p)) where
+  module _ (taken : TakesSteps front a b) where
     pub back_small : b.next ≤ 2 ^ 61
     back_small = omega (arith, taken.ids, front_leaves)
 
-    front_taken : TakesSteps front a b
-    front_taken = takes_same_steps _ _ a b same taken
-
-    first_at : table_first o p ≡ last
-    first_at = omega (arith, last_is, first_is)
-
-    next_at : a.next + ids_in front ≡ b.next
-    next_at = sym front_taken.ids
-
-    pub back_last : {T : Type 0} (r : Result T SinkFault) (c : StepState R) → HandsSteps (table_steps (table_terms o p) last b.next) r b c → HandsSteps all r a c
-    back_last r c hands =
-        let at : table_steps (table_terms o p) (table_first o p) (a.next + ids_in front) ≡ table_steps (table_terms o p) last b.next = λ i. table_steps (table_terms o p) (first_at i) (next_at i) in
-        steps_last r (table_steps (table_terms o p) last b.next) c (deriving_as at (deriving_step front b (deriving_starts all a) front_taken)) hands
+    pub back_last : {T : Type 0} (last : ℕ) (last_is : last ≡ table_first o p) (r : Result T SinkFault) (c : StepState R) → HandsSteps (table_steps (table_terms o p) last b.next) r b c → HandsSteps all r a c
+    back_last last last_is r c hands =
+        let at : table_steps (table_terms o p) (table_first o p) (a.next + ids_in front) ≡ table_steps (table_terms o p) last b.next = λ i. table_steps (table_terms o p) (sym last_is i) (sym taken.ids i) in
+        steps_last r (table_steps (table_terms o p) last b.next) c (deriving_as at (deriving_step front b (deriving_starts all a) taken)) hands

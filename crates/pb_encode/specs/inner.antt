@@ -1,4 +1,5 @@
 pub mod Hints
+pub mod OneProof
 pub mod Faults
 pub mod Files
 pub mod GroupPlans

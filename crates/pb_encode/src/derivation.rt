@@ -1,19 +1,19 @@
 //! The steps that derive the clauses of a problem, handed to a sink.
-ghost use Rattle.std.specs.Prelude.{◌≡◌, ◌≤◌, ◌<◌, ◌+◌, ◌^◌, IfOk, IfSome, length};
-ghost use Rattle.pb_base.specs.Problems.{originals, IsWithinLimits};
+ghost use Rattle.std.specs.Prelude.{◌≡◌, ◌≤◌, ◌+◌, ◌^◌, IfOk, IfSome, length};
 ghost use Rattle.pb_norm.specs.Products.{loaded_of};
 ghost use Rattle.pb_family.specs.StepSinks.{HandsFrom};
 ghost use Rattle.pb_choice.specs.Readiness.{LeavesIds};
-ghost use Rattle.pb_encode.specs.Clauses.{clause_total, fresh_total};
-ghost use Rattle.pb_encode.specs.Groups.{group_count, group_fresh, group_size, group_steps, groups_of};
-ghost use Rattle.pb_encode.specs.Steps.{steps_from};
-ghost use Rattle.pb_encode.specs.inner.Hints.{AreHintsOf, IsToldOf};
+ghost use Rattle.pb_encode.specs.Clauses.{table_first};
+ghost use Rattle.pb_encode.specs.Groups.{group_count, group_fresh, group_size, group_steps};
+ghost use Rattle.pb_encode.specs.inner.Streams.{loaded_steps_from};
+ghost use Rattle.pb_encode.specs.inner.Hints.{IsToldOf};
 ghost use Rattle.pb_encode.specs.inner.GroupPlans.{plan_count, plan_fresh, plan_size, plan_steps, IsPlanBelow, IsSound};
 
+use crate::encodable::Encodable;
 use crate::group_plan::{GroupPlan, plan_group};
 use crate::groups::{Group, Groups};
-use crate::hints::{Hint, HintsLeft, Tells};
-use pb_base::{Options, Problem};
+use crate::hints::{HintsLeft, Tells};
+use pb_base::Options;
 use pb_family::{SinkFault, StepSink};
 use std::alloc::Global;
 
@@ -75,33 +75,26 @@ fn derive_group<T: StepSink>(
     derive_plan(alloc, &plan, position, sink)
 }
 
-/// Hands over the derivations of all constraints of a problem, and gives where the next one stands. Each constraint is planned
-/// anew, and nothing is kept but what one statement needs. The hints are of its groups.
+/// Hands over the derivations of all constraints, which stand under the ids from 1 on, and gives the first number after their fresh
+/// variables. Each constraint is planned anew, and nothing is kept but what one statement needs.
 pub fn derive_loaded<T: StepSink>(
     alloc: Global,
-    problem: &Problem,
-    options: &Options,
-    hints: &[Hint],
-    position: Position,
+    input: &Encodable<'_>,
     sink: &mut T,
-) -> Result<Position, SinkFault>
-    requires within { IsWithinLimits problem.now }
-    requires told { AreHintsOf options.now (groups_of problem.now) hints.now }
-    requires vars { originals problem.now < position.first }
-    requires fits { position.first + fresh_total options.now (groups_of problem.now) ≤ 2 ^ 31 }
-    requires counted { clause_total options.now (groups_of problem.now) ≤ 2 ^ 56 }
-    requires given { 1 ≤ position.id }
-    requires known { position.id + length (loaded_of problem.now) ≤ (T.state sink.old).next }
-    requires few { LeavesIds (steps_from options.now position.first position.id (groups_of problem.now)) (T.state sink.old).next }
-    ensures first { IfOk result (λ next. next.first ≡ position.first + fresh_total options.now (groups_of problem.now)) }
-    ensures hands { HandsFrom (steps_from options.now position.first position.id (groups_of problem.now)) result (T.state sink.old) (T.state sink.new) }
+) -> Result<u32, SinkFault>
+    requires next { (T.state sink.old).next ≡ length (loaded_of input.now.problem.now) + 1 }
+    ensures first { IfOk result (λ first. first ≡ table_first input.now.options.now input.now.problem.now) }
+    ensures hands { HandsFrom (loaded_steps_from input.now.options.now input.now.problem.now) result (T.state sink.old) (T.state sink.new) }
 {
-    let mut next = position;
-    let mut hints = HintsLeft::of(hints);
-    let mut groups = Groups::of(problem);
+    let mut next = Position {
+        first: input.problem.originals() + 1,
+        id: 1,
+    };
+    let mut hints = HintsLeft::of(input.hints);
+    let mut groups = Groups::of(input.problem);
     while let Some(group) = groups.next(alloc)? {
         let told = hints.next();
-        next = derive_group(alloc, &group, options, told, next, sink)?;
+        next = derive_group(alloc, &group, input.options, told, next, sink)?;
     }
-    Ok(next)
+    Ok(next.first)
 }

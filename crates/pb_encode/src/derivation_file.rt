@@ -16,10 +16,10 @@ ghost use Rattle.pb_encode.specs.inner.Sending.{LacksFor, Stops};
 ghost use Rattle.pb_encode.specs.inner.SendingTexts.{SendsText};
 ghost use Rattle.pb_encode.specs.Summaries.{IsEncodable};
 
+use crate::encodable::Encodable;
 use crate::fault::EncodeFault;
-use crate::hints::Hint;
 use crate::whole::stream_told_steps;
-use pb_base::{Lits, Options, Problem, Statement, Statements};
+use pb_base::{Lits, Problem, Statement, Statements};
 use pb_desk::Desk;
 use pb_dimacs::{StepWriter, WriteBuffer};
 use pb_family::{SinkFault, StepSink};
@@ -74,19 +74,14 @@ pub fn count_loaded(problem: &Problem) -> u64
 // Hands over all lines, and writes what is held, also where memory is wanting.
 fn send_steps<'a, D: Desk>(
     alloc: Global,
-    problem: &Problem,
-    options: &Options,
-    hints: &[Hint],
+    input: &Encodable<'_>,
     writer: &mut StepWriter<'a, D>,
 ) -> Result<(), SinkFault>
-    requires within { IsWithinLimits problem.now }
-    requires encodable { IsEncodable options.now problem.now }
-    requires told { AreHintsOf options.now (groups_of problem.now) hints.now }
-    requires next { (⟦<StepWriter<'a, D> as StepSink>⟧.state writer.old).next ≡ length (loaded_of problem.now) + 1 }
-    ensures sends { let seen = ⟦<StepWriter<'a, D> as StepSink>⟧.state in SendsText (derivation_text options.now problem.now) result (seen writer.old).sink (seen writer.new).sink }
+    requires next { (⟦<StepWriter<'a, D> as StepSink>⟧.state writer.old).next ≡ length (loaded_of input.now.problem.now) + 1 }
+    ensures sends { let seen = ⟦<StepWriter<'a, D> as StepSink>⟧.state in SendsText (derivation_text input.now.options.now input.now.problem.now) result (seen writer.old).sink (seen writer.new).sink }
     ensures all_sent { OnOk result (IsAllSent ((⟦<StepWriter<'a, D> as StepSink>⟧.state writer.new).sink)) }
 {
-    match stream_told_steps(alloc, problem, options, hints, writer) {
+    match stream_told_steps(alloc, input, writer) {
         Ok(()) => Ok(writer.flush()?),
         Err(fault) => {
             writer.settle(fault);
@@ -98,50 +93,40 @@ fn send_steps<'a, D: Desk>(
 // Writes the text of a problem's derivation to slot 1.
 fn write_steps<D: Desk>(
     alloc: Global,
-    problem: &Problem,
-    options: &Options,
-    hints: &[Hint],
+    input: &Encodable<'_>,
     desk: &mut D,
 ) -> Result<(), EncodeFault>
-    requires within { IsWithinLimits problem.now }
-    requires encodable { IsEncodable options.now problem.now }
-    requires told { AreHintsOf options.now (groups_of problem.now) hints.now }
     requires open { IsTrue ((D.state desk.old).view.writing 1) }
-    ensures written { OnOk result (Reaches (wrote 1 (derivation_text options.now problem.now)) (D.state desk.old) (D.state desk.new)) }
-    ensures stopped { IfErr result (Stops 1 (derivation_text options.now problem.now) (D.state desk.old) (D.state desk.new)) }
-    ensures steady { IsSteady (D.state desk.old) → result ≡ Err EncodeFault.WriteFault → LacksFor 1 (derivation_text options.now problem.now) (D.state desk.old) }
+    ensures written { OnOk result (Reaches (wrote 1 (derivation_text input.now.options.now input.now.problem.now)) (D.state desk.old) (D.state desk.new)) }
+    ensures stopped { IfErr result (Stops 1 (derivation_text input.now.options.now input.now.problem.now) (D.state desk.old) (D.state desk.new)) }
+    ensures steady { IsSteady (D.state desk.old) → result ≡ Err EncodeFault.WriteFault → LacksFor 1 (derivation_text input.now.options.now input.now.problem.now) (D.state desk.old) }
 {
-    let next = count_loaded(problem) + 1;
+    let next = count_loaded(input.problem) + 1;
     let mut outbox = WriteBuffer::new(alloc)?;
     let mut line = Vec::new(alloc);
     let mut writer = StepWriter::new(alloc, desk, 1, &mut outbox, &mut line, next);
-    send_steps(alloc, problem, options, hints, &mut writer)?;
+    send_steps(alloc, input, &mut writer)?;
     Ok(())
 }
 
 /// Writes the derivation of a problem's clauses to a new file in slot 1.
 pub fn encode_steps<D: Desk>(
     alloc: Global,
-    problem: &Problem,
-    options: &Options,
-    hints: &[Hint],
+    input: &Encodable<'_>,
     name: &str,
     desk: &mut D,
 ) -> Result<(), EncodeFault>
-    requires within { IsWithinLimits problem.now }
-    requires encodable { IsEncodable options.now problem.now }
-    requires told { AreHintsOf options.now (groups_of problem.now) hints.now }
     requires free { (D.state desk.old).view.writing 1 ≡ false }
 
-    ensures made { OnOk result (Reaches (made 1 name.now (derivation_text options.now problem.now)) (D.state desk.old) (D.state desk.new)) }
+    ensures made { OnOk result (Reaches (made 1 name.now (derivation_text input.now.options.now input.now.problem.now)) (D.state desk.old) (D.state desk.new)) }
 
     ensures limit { (k : LimitKind) → result ≡ Err (EncodeFault.Limit k) → ⊥ }
-    ensures write_fault { result ≡ Err EncodeFault.WriteFault → StopsProof options.now problem.now name.now (D.state desk.old) (D.state desk.new) }
-    ensures no_memory { result ≡ Err EncodeFault.NoMemory → LeavesProof options.now problem.now name.now (D.state desk.old) (D.state desk.new) }
-    ensures steady { IsSteady (D.state desk.old) → result ≡ Err EncodeFault.WriteFault → LacksForProof options.now problem.now name.now (D.state desk.old) }
+    ensures write_fault { result ≡ Err EncodeFault.WriteFault → StopsProof input.now.options.now input.now.problem.now name.now (D.state desk.old) (D.state desk.new) }
+    ensures no_memory { result ≡ Err EncodeFault.NoMemory → LeavesProof input.now.options.now input.now.problem.now name.now (D.state desk.old) (D.state desk.new) }
+    ensures steady { IsSteady (D.state desk.old) → result ≡ Err EncodeFault.WriteFault → LacksForProof input.now.options.now input.now.problem.now name.now (D.state desk.old) }
 {
     desk.create(1, name)?;
-    write_steps(alloc, problem, options, hints, desk)?;
+    write_steps(alloc, input, desk)?;
     desk.close(1)?;
     Ok(())
 }

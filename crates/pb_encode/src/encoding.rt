@@ -14,8 +14,9 @@ ghost use Rattle.pb_encode.specs.inner.SendingTexts.{HandsTextIfMemory, SendsTex
 ghost use Rattle.pb_encode.specs.Summaries.{summary_of, IsEncodable};
 
 use crate::derivation_file::encode_steps;
+use crate::encodable::Encodable;
 use crate::fault::EncodeFault;
-use crate::hints::{Hint, Hints};
+use crate::hints::Hints;
 use crate::measuring::measure_telling;
 use crate::summary::Summary;
 use crate::whole::hand_told_clauses;
@@ -28,39 +29,29 @@ use std::alloc::Global;
 // Hands over all lines, given the problem's summary.
 fn hand_cnf<'a, D: Desk>(
     alloc: Global,
-    problem: &Problem,
-    options: &Options,
-    hints: &[Hint],
+    input: &Encodable<'_>,
     summary: &Summary,
     writer: &mut ClauseWriter<'a, D>,
 ) -> Result<(), SinkFault>
-    requires within { IsWithinLimits problem.now }
-    requires encodable { IsEncodable options.now problem.now }
-    requires told { AreHintsOf options.now (groups_of problem.now) hints.now }
-    requires summary { summary.now ≡ summary_of options.now problem.now }
-    ensures { let seen = ⟦<ClauseWriter<'a, D> as ClauseSink>⟧.state in HandsTextIfMemory (problem_text options.now problem.now) result (seen writer.old) (seen writer.new) }
+    requires summary { summary.now ≡ summary_of input.now.options.now input.now.problem.now }
+    ensures { let seen = ⟦<ClauseWriter<'a, D> as ClauseSink>⟧.state in HandsTextIfMemory (problem_text input.now.options.now input.now.problem.now) result (seen writer.old) (seen writer.new) }
 {
     writer.header(summary.vars, summary.clauses)?;
-    hand_told_clauses(alloc, problem, options, hints, writer)
+    hand_told_clauses(alloc, input, writer)
 }
 
 // Hands over all lines, and writes what is held, also where memory is wanting.
 fn send_cnf<'a, D: Desk>(
     alloc: Global,
-    problem: &Problem,
-    options: &Options,
-    hints: &[Hint],
+    input: &Encodable<'_>,
     summary: &Summary,
     writer: &mut ClauseWriter<'a, D>,
 ) -> Result<(), SinkFault>
-    requires within { IsWithinLimits problem.now }
-    requires encodable { IsEncodable options.now problem.now }
-    requires told { AreHintsOf options.now (groups_of problem.now) hints.now }
-    requires summary { summary.now ≡ summary_of options.now problem.now }
-    ensures sends { let seen = ⟦<ClauseWriter<'a, D> as ClauseSink>⟧.state in SendsText (problem_text options.now problem.now) result (seen writer.old) (seen writer.new) }
+    requires summary { summary.now ≡ summary_of input.now.options.now input.now.problem.now }
+    ensures sends { let seen = ⟦<ClauseWriter<'a, D> as ClauseSink>⟧.state in SendsText (problem_text input.now.options.now input.now.problem.now) result (seen writer.old) (seen writer.new) }
     ensures all_sent { OnOk result (IsAllSent (⟦<ClauseWriter<'a, D> as ClauseSink>⟧.state writer.new)) }
 {
-    match hand_cnf(alloc, problem, options, hints, summary, writer) {
+    match hand_cnf(alloc, input, summary, writer) {
         Ok(()) => Ok(writer.flush()?),
         Err(fault) => {
             writer.settle(fault);
@@ -72,24 +63,19 @@ fn send_cnf<'a, D: Desk>(
 // Writes the CNF text of a problem to slot 0, given its summary.
 fn write_cnf<D: Desk>(
     alloc: Global,
-    problem: &Problem,
-    options: &Options,
-    hints: &[Hint],
+    input: &Encodable<'_>,
     summary: &Summary,
     desk: &mut D,
 ) -> Result<(), EncodeFault>
-    requires within { IsWithinLimits problem.now }
-    requires encodable { IsEncodable options.now problem.now }
-    requires told { AreHintsOf options.now (groups_of problem.now) hints.now }
-    requires summary { summary.now ≡ summary_of options.now problem.now }
+    requires summary { summary.now ≡ summary_of input.now.options.now input.now.problem.now }
     requires open { IsTrue ((D.state desk.old).view.writing 0) }
-    ensures written { OnOk result (Reaches (wrote 0 (problem_text options.now problem.now)) (D.state desk.old) (D.state desk.new)) }
-    ensures stopped { IfErr result (Stops 0 (problem_text options.now problem.now) (D.state desk.old) (D.state desk.new)) }
-    ensures steady { IsSteady (D.state desk.old) → result ≡ Err EncodeFault.WriteFault → LacksFor 0 (problem_text options.now problem.now) (D.state desk.old) }
+    ensures written { OnOk result (Reaches (wrote 0 (problem_text input.now.options.now input.now.problem.now)) (D.state desk.old) (D.state desk.new)) }
+    ensures stopped { IfErr result (Stops 0 (problem_text input.now.options.now input.now.problem.now) (D.state desk.old) (D.state desk.new)) }
+    ensures steady { IsSteady (D.state desk.old) → result ≡ Err EncodeFault.WriteFault → LacksFor 0 (problem_text input.now.options.now input.now.problem.now) (D.state desk.old) }
 {
     let mut outbox = WriteBuffer::new(alloc)?;
     let mut writer = ClauseWriter::new(desk, 0, &mut outbox);
-    send_cnf(alloc, problem, options, hints, summary, &mut writer)?;
+    send_cnf(alloc, input, summary, &mut writer)?;
     Ok(())
 }
 
@@ -119,7 +105,12 @@ fn encode_cnf<D: Desk>(
 {
     let summary = measure_telling(alloc, problem, options, hints)?;
     desk.create(0, name)?;
-    write_cnf(alloc, problem, options, hints.as_slice(), &summary, desk)?;
+    let input = Encodable {
+        problem,
+        options,
+        hints: hints.as_slice(),
+    };
+    write_cnf(alloc, &input, &summary, desk)?;
     desk.close(0)?;
     Ok(summary)
 }
@@ -157,7 +148,12 @@ pub fn encode<D: Desk>(
     let mut hints = Hints::new(alloc);
     let summary = encode_cnf(alloc, problem, options, &mut hints, names.cnf, desk)?;
     if let Some(proof) = names.proof {
-        encode_steps(alloc, problem, options, hints.as_slice(), proof, desk)?;
+        let input = Encodable {
+            problem,
+            options,
+            hints: hints.as_slice(),
+        };
+        encode_steps(alloc, &input, proof, desk)?;
     }
     Ok(summary)
 }

@@ -5,6 +5,7 @@ mod bounds;
 mod derivation;
 mod derivation_file;
 mod derived;
+mod encodable;
 mod encoding;
 mod fault;
 mod group_plan;

@@ -1,16 +1,16 @@
 //! The clauses of a problem, handed to a sink.
 ghost use Rattle.std.specs.Prelude.{◌≡◌, ◌≤◌, ◌<◌, ◌+◌, ◌^◌, IfOk, IfSome};
-ghost use Rattle.pb_base.specs.Problems.{IsWithinLimits};
 ghost use Rattle.pb_family.specs.Handing.{HandsIfMemory};
-ghost use Rattle.pb_encode.specs.Clauses.{loaded_clauses, loaded_vars, table_first};
-ghost use Rattle.pb_encode.specs.Groups.{group_clauses, group_fresh, groups_of};
-ghost use Rattle.pb_encode.specs.inner.Hints.{AreHintsOf, IsToldOf};
+ghost use Rattle.pb_encode.specs.Clauses.{loaded_clauses, table_first};
+ghost use Rattle.pb_encode.specs.Groups.{group_clauses, group_fresh};
+ghost use Rattle.pb_encode.specs.inner.Hints.{IsToldOf};
 ghost use Rattle.pb_encode.specs.inner.GroupPlans.{plan_clauses, plan_fresh, IsPlanBelow, IsSound};
 
+use crate::encodable::Encodable;
 use crate::group_plan::{GroupPlan, plan_group};
 use crate::groups::{Group, Groups};
-use crate::hints::{Hint, HintsLeft, Tells};
-use pb_base::{Options, Problem};
+use crate::hints::{HintsLeft, Tells};
+use pb_base::Options;
 use pb_family::{ClauseSink, SinkFault};
 use std::alloc::Global;
 
@@ -52,27 +52,22 @@ fn stream_group<S: ClauseSink>(
     stream_plan(alloc, &plan, first, sink)
 }
 
-/// Hands over the clauses of all constraints of a problem, of which nothing is kept but what one statement needs, and gives the
-/// first number after their fresh variables. The hints are of its groups.
+/// Hands over the clauses of all constraints, of which nothing is kept but what one statement needs, and gives the first number after
+/// their fresh variables.
 pub fn stream_loaded<S: ClauseSink>(
     alloc: Global,
-    problem: &Problem,
-    options: &Options,
-    hints: &[Hint],
+    input: &Encodable<'_>,
     sink: &mut S,
 ) -> Result<u32, SinkFault>
-    requires within { IsWithinLimits problem.now }
-    requires told { AreHintsOf options.now (groups_of problem.now) hints.now }
-    requires fits { loaded_vars options.now problem.now < 2 ^ 31 }
-    ensures next { IfOk result (λ next. next ≡ table_first options.now problem.now) }
-    ensures hands { HandsIfMemory (loaded_clauses options.now problem.now) result (S.state sink.old) (S.state sink.new) }
+    ensures next { IfOk result (λ next. next ≡ table_first input.now.options.now input.now.problem.now) }
+    ensures hands { HandsIfMemory (loaded_clauses input.now.options.now input.now.problem.now) result (S.state sink.old) (S.state sink.new) }
 {
-    let mut next = problem.originals() + 1;
-    let mut hints = HintsLeft::of(hints);
-    let mut groups = Groups::of(problem);
+    let mut next = input.problem.originals() + 1;
+    let mut hints = HintsLeft::of(input.hints);
+    let mut groups = Groups::of(input.problem);
     while let Some(group) = groups.next(alloc)? {
         let told = hints.next();
-        next = stream_group(alloc, &group, options, told, next, sink)?;
+        next = stream_group(alloc, &group, input.options, told, next, sink)?;
     }
     Ok(next)
 }

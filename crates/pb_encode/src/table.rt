@@ -1,6 +1,6 @@
 //! The table of bounds on a problem's objective, where one is asked for.
-ghost use Rattle.std.specs.Prelude.{◌≡◌, ◌≤◌, ◌+◌, ◌^◌, IfOk};
-ghost use Rattle.pb_base.specs.Problems.{IsWithinLimits, originals};
+ghost use Rattle.std.specs.Prelude.{◌≡◌, ◌≤◌, ◌^◌, IfOk};
+ghost use Rattle.pb_base.specs.Problems.{IsWithinLimits};
 ghost use Rattle.pb_norm.specs.Constraints.{weights};
 ghost use Rattle.pb_norm.specs.Reduction.{by_weight};
 ghost use Rattle.pb_family.specs.Budgets.{IsOverExactly, IfFits};
@@ -8,9 +8,11 @@ ghost use Rattle.pb_family.specs.Handing.{HandsIfMemory};
 ghost use Rattle.pb_family.specs.StepSinks.{HandsFrom};
 ghost use Rattle.pb_gentot.specs.BoundTable.{table_clauses, table_fresh};
 ghost use Rattle.pb_gentot.specs.BoundTableSteps.{table_steps};
+ghost use Rattle.pb_encode.specs.Clauses.{table_first};
 ghost use Rattle.pb_encode.specs.Costs.{objective_form};
 ghost use Rattle.pb_encode.specs.Tables.{table_terms};
 
+use crate::encodable::Encodable;
 use crate::objective::objective_form;
 use pb_base::{NoMemory, Options, Problem, Terms};
 use pb_family::{Built, ClauseSink, SinkFault, StepSink};
@@ -74,36 +76,28 @@ pub fn table_within(
 /// Hands over the clauses of the table.
 pub fn stream_table<S: ClauseSink>(
     alloc: Global,
-    problem: &Problem,
-    options: &Options,
+    input: &Encodable<'_>,
     first: u32,
     sink: &mut S,
 ) -> Result<(), SinkFault>
-    requires within { IsWithinLimits problem.now }
-    requires bounds { table_fresh (table_terms options.now problem.now) ≤ options.now.budget }
-    requires original { originals problem.now + 1 ≤ first }
-    requires fits { first + table_fresh (table_terms options.now problem.now) ≤ 2 ^ 31 }
-    ensures { HandsIfMemory (table_clauses (table_terms options.now problem.now) first) result (S.state sink.old) (S.state sink.new) }
+    requires first { first ≡ table_first input.now.options.now input.now.problem.now }
+    ensures { HandsIfMemory (table_clauses (table_terms input.now.options.now input.now.problem.now) first) result (S.state sink.old) (S.state sink.new) }
 {
-    let table = table_within(alloc, problem, options)?;
+    let table = table_within(alloc, input.problem, input.options)?;
     table.emit(alloc, first, sink)
 }
 
 /// Hands over the derivation of the table.
 pub fn derive_table<T: StepSink>(
     alloc: Global,
-    problem: &Problem,
-    options: &Options,
+    input: &Encodable<'_>,
     first: u32,
     sink: &mut T,
 ) -> Result<(), SinkFault>
-    requires within { IsWithinLimits problem.now }
-    requires bounds { table_fresh (table_terms options.now problem.now) ≤ options.now.budget }
-    requires original { originals problem.now + 1 ≤ first }
-    requires fits { first + table_fresh (table_terms options.now problem.now) ≤ 2 ^ 31 }
+    requires first { first ≡ table_first input.now.options.now input.now.problem.now }
     requires few { (T.state sink.old).next ≤ 2 ^ 61 }
-    ensures { HandsFrom (table_steps (table_terms options.now problem.now) first) result (T.state sink.old) (T.state sink.new) }
+    ensures { HandsFrom (table_steps (table_terms input.now.options.now input.now.problem.now) first) result (T.state sink.old) (T.state sink.new) }
 {
-    let table = table_within(alloc, problem, options)?;
+    let table = table_within(alloc, input.problem, input.options)?;
     table.derive(alloc, first, sink)
 }

@@ -21,8 +21,9 @@ ghost use Rattle.pb_encode.specs.inner.SendingTexts.{HandsTextIfMemory, SendsTex
 ghost use Rattle.pb_encode.specs.Summaries.{summary_of, IsEncodable};
 ghost use Rattle.pb_encode.specs.Weighted.{weighted_text, HasCostsOf, IsWeightedCutOff, LacksForWeighted, WantsForWeighted};
 
+use crate::encodable::Encodable;
 use crate::fault::EncodeFault;
-use crate::hints::{Hint, Hints};
+use crate::hints::Hints;
 use crate::measuring::measure_telling;
 use crate::objective::{objective_form, offset_by};
 use crate::summary::Summary;
@@ -58,20 +59,15 @@ fn send_softs<'a, D: Desk>(objective: &Linear, writer: &mut HardWriter<'a, D>) -
 // Hands over all lines, given the objective in normal form.
 fn hand_weighted<'a, D: Desk>(
     alloc: Global,
-    problem: &Problem,
-    options: &Options,
-    hints: &[Hint],
+    input: &Encodable<'_>,
     objective: &Linear,
     writer: &mut HardWriter<'a, D>,
 ) -> Result<(), SinkFault>
-    requires within { IsWithinLimits problem.now }
-    requires encodable { IsEncodable options.now problem.now }
-    requires told { AreHintsOf options.now (groups_of problem.now) hints.now }
-    requires objective { objective.now ≡ objective_form problem.now }
-    ensures { let seen = ⟦<HardWriter<'a, D> as ClauseSink>⟧.state in HandsTextIfMemory (weighted_text options.now problem.now) result (seen writer.old) (seen writer.new) }
+    requires objective { objective.now ≡ objective_form input.now.problem.now }
+    ensures { let seen = ⟦<HardWriter<'a, D> as ClauseSink>⟧.state in HandsTextIfMemory (weighted_text input.now.options.now input.now.problem.now) result (seen writer.old) (seen writer.new) }
 {
     send_offset(objective, writer)?;
-    hand_told_clauses(alloc, problem, options, hints, writer)?;
+    hand_told_clauses(alloc, input, writer)?;
     send_softs(objective, writer)?;
     Ok(())
 }
@@ -79,20 +75,15 @@ fn hand_weighted<'a, D: Desk>(
 // Hands over all lines, and writes what is held, also where memory is wanting.
 fn send_weighted<'a, D: Desk>(
     alloc: Global,
-    problem: &Problem,
-    options: &Options,
-    hints: &[Hint],
+    input: &Encodable<'_>,
     objective: &Linear,
     writer: &mut HardWriter<'a, D>,
 ) -> Result<(), SinkFault>
-    requires within { IsWithinLimits problem.now }
-    requires encodable { IsEncodable options.now problem.now }
-    requires told { AreHintsOf options.now (groups_of problem.now) hints.now }
-    requires objective { objective.now ≡ objective_form problem.now }
-    ensures sends { let seen = ⟦<HardWriter<'a, D> as ClauseSink>⟧.state in SendsText (weighted_text options.now problem.now) result (seen writer.old) (seen writer.new) }
+    requires objective { objective.now ≡ objective_form input.now.problem.now }
+    ensures sends { let seen = ⟦<HardWriter<'a, D> as ClauseSink>⟧.state in SendsText (weighted_text input.now.options.now input.now.problem.now) result (seen writer.old) (seen writer.new) }
     ensures all_sent { OnOk result (IsAllSent (⟦<HardWriter<'a, D> as ClauseSink>⟧.state writer.new)) }
 {
-    match hand_weighted(alloc, problem, options, hints, objective, writer) {
+    match hand_weighted(alloc, input, objective, writer) {
         Ok(()) => Ok(writer.flush()?),
         Err(fault) => {
             writer.settle(fault);
@@ -104,24 +95,19 @@ fn send_weighted<'a, D: Desk>(
 // Writes the weighted CNF text of a problem to slot 0, given its objective in normal form.
 fn write_weighted<D: Desk>(
     alloc: Global,
-    problem: &Problem,
-    options: &Options,
-    hints: &[Hint],
+    input: &Encodable<'_>,
     objective: &Linear,
     desk: &mut D,
 ) -> Result<(), EncodeFault>
-    requires within { IsWithinLimits problem.now }
-    requires encodable { IsEncodable options.now problem.now }
-    requires told { AreHintsOf options.now (groups_of problem.now) hints.now }
-    requires objective { objective.now ≡ objective_form problem.now }
+    requires objective { objective.now ≡ objective_form input.now.problem.now }
     requires open { IsTrue ((D.state desk.old).view.writing 0) }
-    ensures written { OnOk result (Reaches (wrote 0 (weighted_text options.now problem.now)) (D.state desk.old) (D.state desk.new)) }
-    ensures stopped { IfErr result (Stops 0 (weighted_text options.now problem.now) (D.state desk.old) (D.state desk.new)) }
-    ensures steady { IsSteady (D.state desk.old) → result ≡ Err EncodeFault.WriteFault → LacksFor 0 (weighted_text options.now problem.now) (D.state desk.old) }
+    ensures written { OnOk result (Reaches (wrote 0 (weighted_text input.now.options.now input.now.problem.now)) (D.state desk.old) (D.state desk.new)) }
+    ensures stopped { IfErr result (Stops 0 (weighted_text input.now.options.now input.now.problem.now) (D.state desk.old) (D.state desk.new)) }
+    ensures steady { IsSteady (D.state desk.old) → result ≡ Err EncodeFault.WriteFault → LacksFor 0 (weighted_text input.now.options.now input.now.problem.now) (D.state desk.old) }
 {
     let mut outbox = WriteBuffer::new(alloc)?;
     let mut writer = HardWriter::new(desk, 0, &mut outbox);
-    send_weighted(alloc, problem, options, hints, objective, &mut writer)?;
+    send_weighted(alloc, input, objective, &mut writer)?;
     Ok(())
 }
 
@@ -151,7 +137,12 @@ pub fn weighted<D: Desk>(
     let summary = measure_telling(alloc, problem, options, &mut hints)?;
     let objective = objective_form(alloc, problem)?;
     desk.create(0, name)?;
-    write_weighted(alloc, problem, options, hints.as_slice(), &objective, desk)?;
+    let input = Encodable {
+        problem,
+        options,
+        hints: hints.as_slice(),
+    };
+    write_weighted(alloc, &input, &objective, desk)?;
     desk.close(0)?;
     Ok(summary)
 }

@@ -11,9 +11,10 @@ ghost use Rattle.pb_encode.specs.Summaries.{IsEncodable};
 ghost use Rattle.pb_encode.specs.inner.Hints.{AreHintsOf, IsBlank};
 ghost use Rattle.pb_encode.specs.inner.Streams.{steps_at_next};
 
-use crate::derivation::{Position, derive_loaded};
+use crate::derivation::derive_loaded;
+use crate::encodable::Encodable;
 use crate::fault::MeasureFault;
-use crate::hints::{Hint, Hints};
+use crate::hints::Hints;
 use crate::measuring::measure_telling;
 use crate::streaming::stream_loaded;
 use crate::table::{derive_table, stream_table};
@@ -24,21 +25,16 @@ use pb_steps::Step;
 use std::alloc::Global;
 
 /// Hands over the clauses of a problem: those of its constraints, of which nothing is kept but what one statement needs, and then
-/// those of its table. The hints are of its groups.
+/// those of its table.
 pub fn hand_told_clauses<S: ClauseSink>(
     alloc: Global,
-    problem: &Problem,
-    options: &Options,
-    hints: &[Hint],
+    input: &Encodable<'_>,
     sink: &mut S,
 ) -> Result<(), SinkFault>
-    requires within { IsWithinLimits problem.now }
-    requires encodable { IsEncodable options.now problem.now }
-    requires told { AreHintsOf options.now (groups_of problem.now) hints.now }
-    ensures { HandsIfMemory (problem_clauses options.now problem.now) result (S.state sink.old) (S.state sink.new) }
+    ensures { HandsIfMemory (problem_clauses input.now.options.now input.now.problem.now) result (S.state sink.old) (S.state sink.new) }
 {
-    let first = stream_loaded(alloc, problem, options, hints, sink)?;
-    stream_table(alloc, problem, options, first, sink)
+    let first = stream_loaded(alloc, input, sink)?;
+    stream_table(alloc, input, first, sink)
 }
 
 /// The same where nothing is known of the groups.
@@ -52,7 +48,12 @@ pub fn hand_clauses<S: ClauseSink>(
     requires encodable { IsEncodable options.now problem.now }
     ensures { HandsIfMemory (problem_clauses options.now problem.now) result (S.state sink.old) (S.state sink.new) }
 {
-    hand_told_clauses(alloc, problem, options, &[], sink)
+    let input = Encodable {
+        problem,
+        options,
+        hints: &[],
+    };
+    hand_told_clauses(alloc, &input, sink)
 }
 
 // How many fresh variables and clauses the encoding of a problem has that passes no limit, and which groups go to the adder.
@@ -93,51 +94,41 @@ pub fn stream_clauses<S: ClauseSink>(
 {
     let mut hints = Hints::new(alloc);
     let counts = counts_of(alloc, problem, options, &mut hints)?;
-    hand_told_clauses(alloc, problem, options, hints.as_slice(), sink)?;
+    let input = Encodable {
+        problem,
+        options,
+        hints: hints.as_slice(),
+    };
+    hand_told_clauses(alloc, &input, sink)?;
     Ok(counts)
 }
 
 // Hands over the derivations of all constraints, and then that of the table.
 fn derive_clauses<T: StepSink>(
     alloc: Global,
-    problem: &Problem,
-    options: &Options,
-    hints: &[Hint],
+    input: &Encodable<'_>,
     sink: &mut T,
 ) -> Result<(), SinkFault>
-    requires within { IsWithinLimits problem.now }
-    requires encodable { IsEncodable options.now problem.now }
-    requires told { AreHintsOf options.now (groups_of problem.now) hints.now }
-    requires next { (T.state sink.old).next ≡ length (loaded_of problem.now) + 1 }
-    ensures { HandsFrom (steps_at_next options.now problem.now) result (T.state sink.old) (T.state sink.new) }
+    requires next { (T.state sink.old).next ≡ length (loaded_of input.now.problem.now) + 1 }
+    ensures { HandsFrom (steps_at_next input.now.options.now input.now.problem.now) result (T.state sink.old) (T.state sink.new) }
 {
-    let position = Position {
-        first: problem.originals() + 1,
-        id: 1,
-    };
-    let next = derive_loaded(alloc, problem, options, hints, position, sink)?;
-    derive_table(alloc, problem, options, next.first, sink)
+    let first = derive_loaded(alloc, input, sink)?;
+    derive_table(alloc, input, first, sink)
 }
 
-/// Hands over the derivation of a problem's clauses, whole. The bits tell which groups of constraints go to the adder, as far as it
-/// is known.
+/// Hands over the derivation of a problem's clauses, whole.
 pub fn stream_told_steps<T: StepSink>(
     alloc: Global,
-    problem: &Problem,
-    options: &Options,
-    hints: &[Hint],
+    input: &Encodable<'_>,
     sink: &mut T,
 ) -> Result<(), SinkFault>
-    requires within { IsWithinLimits problem.now }
-    requires encodable { IsEncodable options.now problem.now }
-    requires told { AreHintsOf options.now (groups_of problem.now) hints.now }
-    requires next { (T.state sink.old).next ≡ length (loaded_of problem.now) + 1 }
-    ensures { HandsSteps (problem_steps options.now problem.now) result (T.state sink.old) (T.state sink.new) }
+    requires next { (T.state sink.old).next ≡ length (loaded_of input.now.problem.now) + 1 }
+    ensures { HandsSteps (problem_steps input.now.options.now input.now.problem.now) result (T.state sink.old) (T.state sink.new) }
 {
     let count = sink.next_id() - 1;
     sink.step(&Step::Head)?;
     sink.step(&Step::Loaded { count })?;
-    derive_clauses(alloc, problem, options, hints, sink)?;
+    derive_clauses(alloc, input, sink)?;
     sink.step(&Step::End)
 }
 
@@ -153,5 +144,10 @@ pub fn stream_steps<T: StepSink>(
     requires next { (T.state sink.old).next ≡ length (loaded_of problem.now) + 1 }
     ensures { HandsSteps (problem_steps options.now problem.now) result (T.state sink.old) (T.state sink.new) }
 {
-    stream_told_steps(alloc, problem, options, &[], sink)
+    let input = Encodable {
+        problem,
+        options,
+        hints: &[],
+    };
+    stream_told_steps(alloc, &input, sink)
 }

@@ -11,6 +11,10 @@ use Rattle.pb_encode.specs.Groups.{groups_of}
 use Rattle.pb_encode.specs.Steps.{steps_from}
 use Rattle.pb_encode.specs.Tables.{table_terms}
 
--- the derivations of all constraints and that of the table, where the constraints stand under the ids from 1 on
+-- the derivations of all constraints, which stand under the ids from 1 on
+abbrev pub loaded_steps_from : Options → Problem → ℕ → List Step
+loaded_steps_from o p next = steps_from o (originals p + 1) 1 (groups_of p) next
+
+-- and that of the table
 abbrev pub steps_at_next : Options → Problem → ℕ → List Step
-steps_at_next o p next = followed_by (steps_from o (originals p + 1) 1 (groups_of p)) (table_steps (table_terms o p) (table_first o p)) next
+steps_at_next o p next = followed_by (loaded_steps_from o p) (table_steps (table_terms o p) (table_first o p)) next

@@ -1,4 +1,5 @@
-use Rattle.std.proofs.Common.{length}
+use Rattle.std.proofs.Common.{◌+◌, length}
+use Rattle.pb_base.specs.Problems.{originals}
 use Rattle.pb_encode.specs.Groups.{groups_of}
 use Rattle.pb_encode.specs.inner.Hints.{AreHintsOf}
 use Rattle.pb_encode.proofs.Hinting.{Gone}
@@ -7,9 +8,9 @@ use Rattle.pb_encode.proofs.derivation.derive_loaded.Given as goal
 
 abbrev pub invariant-loop-groups : goal.invariant-loop-groups
 invariant-loop-groups g l = record {
-  turns : Positions l.options l.fn.position.first l.fn.position.id (groups_of l.problem) l.groups l.next.first l.next.id (g.T.StepSink.state l.initial.sink) (g.T.StepSink.state l.sink);
-  gone : Gone (groups_of l.problem) l.groups l.hints.place;
-  told : AreHintsOf l.options (groups_of l.problem) l.hints.hints.now;
+  turns : Positions l.input.options.now (originals l.input.problem.now + 1) 1 (groups_of l.input.problem.now) l.groups l.next.first l.next.id (g.T.StepSink.state l.initial.sink) (g.T.StepSink.state l.sink);
+  gone : Gone (groups_of l.input.problem.now) l.groups l.hints.place;
+  told : AreHintsOf l.input.options.now (groups_of l.input.problem.now) l.hints.hints.now;
 }
 
 abbrev pub decreases-loop-groups : goal.decreases-loop-groups

@@ -10,13 +10,13 @@ use Rattle.pb_encode.proofs.streaming.stream_loaded.Goals as goal
 
 pub loop-groups-init : goal.loop-groups-init
 loop-groups-init g c =
-    let o = c.args.options.now in
-    let p = c.args.problem.now in
+    let o = c.args.input.now.options.now in
+    let p = c.args.input.now.problem.now in
     record {
       streams = streams_begin o (originals p + 1) (c.originals-next.result + 1) (groups_of p) c.of-groups.result (g.S.ClauseSink.state c.args.sink.now) (omega (arith, c.originals-next.ensures)) c.of-groups.ensures
-          (groups_sound o p (originals p + 1) c.requires.within (omega arith));
-      gone = gone_begin (groups_of p) c.of-groups.result c.of-hints.result.place c.of-groups.ensures c.of-hints.ensures.first (groups_few p c.requires.within);
-      told = subst (AreHintsOf o (groups_of p)) (sym c.of-hints.ensures.hints) c.requires.told;
+          (groups_sound o p (originals p + 1) c.args.input.now.within (omega arith));
+      gone = gone_begin (groups_of p) c.of-groups.result c.of-hints.result.place c.of-groups.ensures c.of-hints.ensures.first (groups_few p c.args.input.now.within);
+      told = subst (AreHintsOf o (groups_of p)) (sym c.of-hints.ensures.hints) c.args.input.now.told;
     }
 
 pub next-told-requires : goal.next-told-requires
@@ -27,7 +27,7 @@ next-told-requires g c =
 pub stream_group-requires-clause-told : goal.stream_group-requires-clause-told
 stream_group-requires-clause-told g c =
     let parts : c.loop-groups.groups ≡ c.in-Some.group ∷ c.next.new.self = rw c.in-Some.is at c.in_ok-group.ensures.some in
-    c.next-told.ensures.told c.args.options.now (groups_of c.args.problem.now) c.next.new.self c.in-Some.group (gone_here c.in-Some.group c.next.new.self parts c.loop-groups.invariant.gone) c.loop-groups.invariant.told
+    c.next-told.ensures.told c.args.input.now.options.now (groups_of c.args.input.now.problem.now) c.next.new.self c.in-Some.group (gone_here c.in-Some.group c.next.new.self parts c.loop-groups.invariant.gone) c.loop-groups.invariant.told
 
 pub returns-in_err-group-clause-hands : goal.returns-in_err-group-clause-hands
 returns-in_err-group-clause-hands g c = stops_between c.from_residual.result c.from_residual.ensures.1 c.loop-groups.invariant.streams.handed
@@ -49,5 +49,5 @@ loop-groups-preserved g c =
     record {
       streams = streams_more c.in-Some.group c.next.new.self parts c.loop-groups.invariant.streams c.in_ok-next.next (g.S.ClauseSink.state c.stream_group.new.sink) c.in_ok-next.ensures.next c.in_ok-next.ensures.hands;
       gone = gone_more c.in-Some.group c.next.new.self parts c.loop-groups.invariant.gone c.next-told.new.self.place c.next-told.ensures.next;
-      told = c.next-told.ensures.left c.args.options.now (groups_of c.args.problem.now) c.loop-groups.invariant.told;
+      told = c.next-told.ensures.left c.args.input.now.options.now (groups_of c.args.input.now.problem.now) c.loop-groups.invariant.told;
     }

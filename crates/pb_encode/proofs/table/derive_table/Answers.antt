@@ -12,12 +12,14 @@ pub returns-in_err-table : goal.returns-in_err-table
 returns-in_err-table g c = steps_lack_first _ (g.T.StepSink.state c.args.sink.now) c.from_residual.result c.from_residual.ensures.1
 
 pub derive-requires : goal.derive-requires
-derive-requires g c = record {
-  original = subst (VarsBelow c.args.first) (sym c.in_ok-table.ensures) (table_below c.args.problem.now c.requires.within c.args.options.now c.args.first c.requires.original);
-  low = omega (arith, c.requires.original);
-  fits = omega (arith, c.requires.fits, ap table_fresh c.in_ok-table.ensures);
-  few = c.requires.few;
-}
+derive-requires g c =
+    let e = c.args.input.now in
+    record {
+      original = subst (VarsBelow c.args.first) (sym c.in_ok-table.ensures) (table_below e.problem.now e.within e.options.now c.args.first (omega (arith, c.requires.first)));
+      low = omega (arith, c.requires.first);
+      fits = omega (arith, c.requires.first, e.encodable.vars, ap table_fresh c.in_ok-table.ensures);
+      few = c.requires.few;
+    }
 
 pub returns : goal.returns
 returns g c =

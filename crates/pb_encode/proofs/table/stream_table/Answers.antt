@@ -11,14 +11,16 @@ use Rattle.pb_encode.proofs.table.stream_table.Goals as goal
 
 pub returns-in_err-table : goal.returns-in_err-table
 returns-in_err-table g c =
-    stops_between c.from_residual.result c.from_residual.ensures.1 (emitting_starts (table_clauses (table_terms c.args.options.now c.args.problem.now) c.args.first) _)
+    stops_between c.from_residual.result c.from_residual.ensures.1 (emitting_starts (table_clauses (table_terms c.args.input.now.options.now c.args.input.now.problem.now) c.args.first) _)
 
 pub emit-requires : goal.emit-requires
-emit-requires g c = record {
-  original = subst (VarsBelow c.args.first) (sym c.in_ok-table.ensures) (table_below c.args.problem.now c.requires.within c.args.options.now c.args.first c.requires.original);
-  low = omega (arith, c.requires.original);
-  fits = omega (arith, c.requires.fits, ap table_fresh c.in_ok-table.ensures);
-}
+emit-requires g c =
+    let e = c.args.input.now in
+    record {
+      original = subst (VarsBelow c.args.first) (sym c.in_ok-table.ensures) (table_below e.problem.now e.within e.options.now c.args.first (omega (arith, c.requires.first)));
+      low = omega (arith, c.requires.first);
+      fits = omega (arith, c.requires.first, e.encodable.vars, ap table_fresh c.in_ok-table.ensures);
+    }
 
 pub returns : goal.returns
 returns g c =

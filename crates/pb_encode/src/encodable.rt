@@ -1,0 +1,21 @@
+//! What is encoded: a problem, the options, and what is told of its groups.
+ghost use Rattle.std.proofs.Props.{props};
+ghost use Rattle.pb_base.specs.Problems.{IsWithinLimits};
+ghost use Rattle.pb_encode.specs.Groups.{groups_of};
+ghost use Rattle.pb_encode.specs.inner.Hints.{AreHintsOf};
+ghost use Rattle.pb_encode.specs.inner.OneProof.{AreHintsOf-prop};
+ghost use Rattle.pb_encode.specs.Summaries.{IsEncodable};
+
+use crate::hints::Hint;
+use pb_base::{Options, Problem};
+
+/// A problem that passes no limit under the options, and hints of its groups; none where nothing is known of them.
+#[derive(Clone, Copy)]
+pub struct Encodable<'a> {
+    pub problem: &'a Problem,
+    pub options: &'a Options,
+    pub hints: &'a [Hint],
+    ghost within: { IsWithinLimits problem.now } by { Prim.hlevel props },
+    ghost encodable: { IsEncodable options.now problem.now },
+    ghost told: { AreHintsOf options.now (groups_of problem.now) hints.now } by { AreHintsOf-prop options.now (groups_of problem.now) hints.now },
+}
