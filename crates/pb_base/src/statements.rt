@@ -13,21 +13,21 @@ use crate::term_column::{TermColumn, TermsLeft};
 use std::alloc::Global;
 use std::marker::Model;
 
-/// Statements in order. Their terms stand in one column, those of a statement behind those of the one before.
+// Their terms stand in one column, those of a statement behind those of the one before.
 #[derive(Debug)]
-pub struct Statements {
+struct Columns {
     heads: Heads,
     terms: TermColumn,
 }
 
 // Written out: one call in the proof of a function that owns it.
-impl Drop for Statements {
+impl Drop for Columns {
     fn drop(self) {
-        let Statements { heads: _, terms: _ } = self;
+        let Columns { heads: _, terms: _ } = self;
     }
 }
 
-impl Model for Statements {
+impl Model for Columns {
     ghost use Rattle.std.specs.Prelude.{List, ◌≡◌, length};
     ghost use Rattle.pb_base.specs.declared.problem.Raw.{Raw};
     ghost use Rattle.pb_base.specs.Statements.{statements_in, term_count};
@@ -37,6 +37,21 @@ impl Model for Statements {
     ghost view = { λ s. statements_in s.heads s.terms };
 
     ghost invariant = { λ s. length s.terms ≡ term_count s.heads };
+}
+
+/// Statements in order.
+#[derive(Debug, Drop)]
+pub struct Statements {
+    columns: Columns,
+}
+
+impl Model for Statements {
+    ghost use Rattle.std.specs.Prelude.{List};
+    ghost use Rattle.pb_base.specs.declared.problem.Raw.{Raw};
+
+    ghost Value = { List Raw };
+
+    ghost view = { λ s. s.columns };
 }
 
 // Adds terms at the end, if there is memory for all of them.
@@ -79,10 +94,7 @@ impl Statements {
     pub fn new(alloc: Global) -> Statements
         ensures { result ≡ [] }
     {
-        Statements {
-            heads: Heads::new(alloc),
-            terms: TermColumn::new(alloc),
-        }
+        Statements::from_columns(Heads::new(alloc), TermColumn::new(alloc))
     }
 
     /// The statements of these heads, each with its number of the terms that follow.
@@ -90,14 +102,16 @@ impl Statements {
         requires { length terms ≡ term_count heads }
         ensures { result ≡ statements_in heads terms }
     {
-        Statements { heads, terms }
+        Statements {
+            columns: Columns { heads, terms },
+        }
     }
 
     /// How many statements there are.
     pub fn len(&self) -> usize
         ensures { result ≡ length self.now }
     {
-        self.heads.len()
+        self.columns.heads.len()
     }
 
     /// Adds a statement at the end.
@@ -105,14 +119,16 @@ impl Statements {
         ensures ok { OnOk result (self.new ≡ self.old ++ record { terms = terms.now; relation = relation; right = right } ∷ []) }
         ensures err { OnErr result (self.new ≡ self.old) }
     {
-        let count = self.terms.len();
-        match push_parts(&mut self.heads, &mut self.terms, terms, relation, right) {
-            Ok(()) => Ok(()),
-            Err(NoMemory) => {
-                self.terms.truncate(count);
-                Err(NoMemory)
-            }
-        }
+        let Columns {
+            heads,
+            terms: column,
+        } = &mut self.columns;
+        let count = column.len();
+        let Ok(()) = push_parts(heads, column, terms, relation, right) else {
+            column.truncate(count);
+            return Err(NoMemory);
+        };
+        Ok(())
     }
 
     /// The statements, one after another.
@@ -120,8 +136,8 @@ impl Statements {
         ensures { result ≡ self.now }
     {
         StatementsLeft {
-            heads: self.heads.iter(),
-            terms: self.terms.iter(),
+            heads: self.columns.heads.iter(),
+            terms: self.columns.terms.iter(),
         }
     }
 }

@@ -1,5 +1,6 @@
 -- A line that grows by a piece.
 use Rattle.std.proofs.Common.{◌≡◌, ◌≤◌, ◌<◌, ◌+◌, ◌-◌, ℕ, Bool, true, false, cond, inl, inr, List, ◌∷◌, ◌++◌, Option, Some, None, arith, length, drop, refl, ap, sym, ◌∙◌, subst, eqb, append_assoc, length-append}
+use Rattle.std.specs.Option.{option_or}
 use Rattle.std.proofs.lemmas.List.{drop_all}
 use Rattle.std.proofs.lemmas.List.Elements.{All-append}
 use Rattle.std.proofs.lemmas.Bool.{cases_lt}
@@ -7,7 +8,7 @@ use Rattle.std.proofs.lemmas.Bool.Decides.{nat_tests}
 use Rattle.pb_base.specs.declared.limit.LimitKind.{LimitKind}
 use Rattle.pb_desk.specs.declared.limits.Remaining.{Remaining}
 use Rattle.pb_desk.specs.Lines.{IsUnbroken}
-use Rattle.pb_desk.specs.Limits.{first_of, limit_of, limit_of_piece}
+use Rattle.pb_desk.specs.Limits.{limit_of, limit_of_piece}
 use Rattle.pb_desk.specs.LineReading.{limit_in}
 use Rattle.pb_desk.specs.inner.PieceReading.{limit_after, InLine, IsEnded, IsPiece, TakesPiece}
 use Rattle.pb_desk.proofs.LimitLemmas.{limit_of-piece, limit_of-ended}
@@ -22,14 +23,14 @@ ended_fits : (text : ℕ) (is_last : Bool) (line n : ℕ) → limit_of_piece tex
 ended_fits text is_last line n e = (grind (arith, nat_tests), grind (arith, nat_tests))
 
 -- the limit of a line, behind a piece of it
-limit_behind : (left : Remaining) (line piece more : List ℕ) → InLine left line → IsUnbroken piece → limit_in left (line ++ piece ++ more) ≡ first_of (limit_of_piece (left.text - length line) left.is_last (left.line - length line) (length piece) false) (limit_after left (length (line ++ piece)) more)
+limit_behind : (left : Remaining) (line piece more : List ℕ) → InLine left line → IsUnbroken piece → limit_in left (line ++ piece ++ more) ≡ option_or (limit_of_piece (left.text - length line) left.is_last (left.line - length line) (length piece) false) (limit_after left (length (line ++ piece)) more)
 limit_behind left line piece more h unbroken =
     ap (limit_in left) (append_assoc line piece more) ∙
     (h.limit (piece ++ more) ∙
     (limit_of-piece (left.text - length line) left.is_last (left.line - length line) piece more unbroken ∙
     same (left.text - length line - length piece) (left.line - length line - length piece) (omega (arith, length-append line piece)) (omega (arith, length-append line piece))))
   where
-    same : (t l : ℕ) → t ≡ left.text - length (line ++ piece) → l ≡ left.line - length (line ++ piece) → first_of (limit_of_piece (left.text - length line) left.is_last (left.line - length line) (length piece) false) (limit_of t left.is_last l more) ≡ first_of (limit_of_piece (left.text - length line) left.is_last (left.line - length line) (length piece) false) (limit_after left (length (line ++ piece)) more)
+    same : (t l : ℕ) → t ≡ left.text - length (line ++ piece) → l ≡ left.line - length (line ++ piece) → option_or (limit_of_piece (left.text - length line) left.is_last (left.line - length line) (length piece) false) (limit_of t left.is_last l more) ≡ option_or (limit_of_piece (left.text - length line) left.is_last (left.line - length line) (length piece) false) (limit_after left (length (line ++ piece)) more)
     same t l e f = rw (e, f) refl
 
 limit_at_end : (left : Remaining) (line piece more : List ℕ) → InLine left line → IsUnbroken piece → limit_in left (line ++ piece ++ 10 ∷ more) ≡ limit_of_piece (left.text - length line) left.is_last (left.line - length line) (length piece) true
@@ -48,7 +49,7 @@ in_line_more left line piece h unbroken none =
         | inl before ↦ h.is_line before
         | inr none_before ↦ piece_is_line (left.text - length line) left.is_last (left.line - length line) (length piece) none (omega (arith, length-append line piece, some, none_before))
       ];
-      limit = λ more. limit_behind left line piece more h unbroken ∙ ap (λ (o : Option LimitKind). first_of o (limit_after left (length (line ++ piece)) more)) none;
+      limit = λ more. limit_behind left line piece more h unbroken ∙ ap (λ (o : Option LimitKind). option_or o (limit_after left (length (line ++ piece)) more)) none;
     }
 
 ended_line : (left : Remaining) (line piece : List ℕ) → InLine left line → IsUnbroken piece → limit_of_piece (left.text - length line) left.is_last (left.line - length line) (length piece) true ≡ None → IsEnded left (line ++ piece)
@@ -73,7 +74,7 @@ stopped_by left true ahead line piece which h found is more =
     regroup a b c d = simp append_assoc
 stopped_by left false ahead line piece which h found is more =
     ap (λ (xs : List ℕ). limit_in left (line ++ xs ++ more)) (sym found.whole) ∙
-    (limit_behind left line piece more h found.unbroken ∙ ap (λ (o : Option LimitKind). first_of o (limit_after left (length (line ++ piece)) more)) is)
+    (limit_behind left line piece more h found.unbroken ∙ ap (λ (o : Option LimitKind). option_or o (limit_after left (length (line ++ piece)) more)) is)
 
 -- a piece that passes none
 pub taken_piece : (left : Remaining) (is_ended : Bool) (ahead after line grown piece : List ℕ) → InLine left line → IsPiece ahead piece is_ended → limit_of_piece (left.text - length line) left.is_last (left.line - length line) (length piece) is_ended ≡ None → grown ≡ line ++ piece → after ≡ drop (cond is_ended (length piece + 1) (length piece)) ahead → TakesPiece left is_ended ahead after line grown

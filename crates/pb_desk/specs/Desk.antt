@@ -42,11 +42,9 @@ pub record FailsToWrite (change : View → View) (old new : DeskState) : Type 0 
   pub writes : Rose old.write_faults new.write_faults
   pub ends : new.ends ≡ old.ends
 
--- the view stays
 abbrev pub same : View → View
 same view = view
 
--- the desk is steady
 abbrev pub IsSteady : DeskState → Type 0
 IsSteady desk = IsTrue desk.view.steady
 
@@ -87,11 +85,9 @@ HasSlot slot (file ∷ files) = (file.slot ≡ slot) ⊎ HasSlot slot files
 abbrev pub IsTaken : ℕ → List ℕ → List Made → Type 0
 IsTaken slot name made = HasName name made ⊎ (255 < length name) ⊎ HasSlot slot made
 
--- the bytes of the newest file of a slot
 abbrev pub written : ℕ → Told → List ℕ
 written slot t = bytes_in slot t.made
 
--- what was said
 abbrev pub words : Told → List ℕ
 words t = t.said
 

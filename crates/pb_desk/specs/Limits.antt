@@ -1,11 +1,8 @@
 -- Which limit a line passes first (our own).
 use Rattle.std.specs.Prelude.{ℕ, Bool, ◌-◌, ◌==◌, ◌&&◌, ◌||◌, not, nat_lt, if◌then◌else◌, List, [], ◌∷◌, Option, Some, None}
+use Rattle.std.specs.Option.{option_or}
 use Rattle.pb_base.specs.declared.limit.LimitKind.{LimitKind}
 use Rattle.pb_base.specs.declared.limit.LimitKind.TheVariants.{Text, Lines, Line}
-
-abbrev pub first_of : Option LimitKind → Option LimitKind → Option LimitKind
-first_of None later = later
-first_of (Some which) later = Some which
 
 -- the limit that a byte passes, where so many bytes of the text and of its line are left, and maybe no line
 abbrev pub limit_of_byte : ℕ → Bool → ℕ → ℕ → Option LimitKind
@@ -16,7 +13,7 @@ limit_of_byte text is_last line b =
 abbrev pub limit_of : ℕ → Bool → ℕ → List ℕ → Option LimitKind
 limit_of text is_last line [] = None
 limit_of text is_last line (b ∷ bytes) =
-    first_of (limit_of_byte text is_last line b) (if b == 10 then None else limit_of (text - 1) is_last (line - 1) bytes)
+    option_or (limit_of_byte text is_last line b) (if b == 10 then None else limit_of (text - 1) is_last (line - 1) bytes)
 
 -- the limit that a piece without LF passes, which may be followed by LF
 abbrev pub limit_of_piece : ℕ → Bool → ℕ → ℕ → Bool → Option LimitKind

@@ -40,34 +40,25 @@ abbrev pub bytes_in : ℕ → List Made → List ℕ
 bytes_in slot [] = []
 bytes_in slot (file ∷ files) = if file.slot == slot then file.bytes else bytes_in slot files
 
--- each call's effect on what is told
+-- what is told, if anything is, changes so
+abbrev pub telling : (Told → Told) → View → View
+telling change view = record view { told = option_map change view.told }
 
 abbrev pub opened : ℕ → List ℕ → View → View
-opened slot name view = record view {
-  reading = put view.reading slot true;
-  told = option_map (λ (t : Told). record t { left = put t.left slot (unwrap_or (t.shelf name) []) }) view.told;
-}
+opened slot name view = telling (λ t. record t { left = put t.left slot (unwrap_or (t.shelf name) []) }) (record view { reading = put view.reading slot true })
 
 abbrev pub taken : ℕ → ℕ → View → View
-taken slot count view = record view {
-  told = option_map (λ (t : Told). record t { left = put t.left slot (drop count (t.left slot)) }) view.told;
-}
+taken slot count view = telling (λ t. record t { left = put t.left slot (drop count (t.left slot)) }) view
 
 abbrev pub created : ℕ → List ℕ → View → View
-created slot name view = record view {
-  writing = put view.writing slot true;
-  told = option_map (λ (t : Told). record t { made = record { slot = slot; name = name; bytes = [] } ∷ t.made }) view.told;
-}
+created slot name view =
+    telling (λ t. record t { made = record { slot = slot; name = name; bytes = [] } ∷ t.made }) (record view { writing = put view.writing slot true })
 
 abbrev pub wrote : ℕ → List ℕ → View → View
-wrote slot bytes view = record view {
-  told = option_map (λ (t : Told). record t { made = appended slot bytes t.made }) view.told;
-}
+wrote slot bytes view = telling (λ t. record t { made = appended slot bytes t.made }) view
 
 abbrev pub closed : ℕ → View → View
 closed slot view = record view { writing = put view.writing slot false }
 
 abbrev pub spoke : List ℕ → View → View
-spoke bytes view = record view {
-  told = option_map (λ (t : Told). record t { said = t.said ++ bytes }) view.told;
-}
+spoke bytes view = telling (λ t. record t { said = t.said ++ bytes }) view

@@ -7,7 +7,6 @@ use Rattle.pb_norm.specs.Constraints.{Constraint}
 use Rattle.pb_norm.specs.ClauseForm.{clause_form}
 use Rattle.pb_norm.specs.Halves.{loaded}
 
--- a variable as a literal
 abbrev pub plain : ℕ → Lit
 plain v = record { var = v; positive = true }
 

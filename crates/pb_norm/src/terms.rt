@@ -1,9 +1,9 @@
 //! What the terms of a constraint say together.
-ghost use Rattle.std.specs.Prelude.{◌≡◌, ◌<◌, ◌^◌, IfOk, map};
+ghost use Rattle.std.specs.Prelude.{◌≡◌, ◌==◌, ◌<◌, ◌^◌, IfOk, map};
 ghost use Rattle.std.specs.List.{list_all};
 ghost use Rattle.pb_norm.specs.Constraints.{weight, weights};
 ghost use Rattle.pb_norm.specs.inner.Kept.{on_weight};
-ghost use Rattle.pb_norm.specs.Reduction.{all_weigh, first_coef, has_coef};
+ghost use Rattle.pb_norm.specs.Reduction.{all_weigh, first_coef};
 
 use pb_base::{Lit, Term};
 use std::alloc::{AllocError, Global};
@@ -39,7 +39,7 @@ pub fn first_coef(terms: &[Term]) -> u128
 
 // Whether the coefficient of each term is this number.
 fn each_weighs(terms: &[Term], coef: u128) -> bool
-    ensures { result ≡ list_all (on_weight (has_coef coef)) terms.now }
+    ensures { result ≡ list_all (on_weight (λ t. t.coef == coef)) terms.now }
 {
     terms.iter().all(|term| term.weight() == coef)
 }

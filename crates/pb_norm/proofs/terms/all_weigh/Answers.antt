@@ -1,7 +1,6 @@
-use Rattle.std.proofs.Common.{◌∙◌}
-use Rattle.pb_norm.specs.Reduction.{has_coef}
+use Rattle.std.proofs.Common.{◌∙◌, ◌==◌}
 use Rattle.pb_norm.proofs.KeptTerms.{all-weights}
 use Rattle.pb_norm.proofs.terms.all_weigh.Goals as goal
 
 pub returns : goal.returns
-returns c = c.each_weighs.ensures ∙ all-weights (has_coef c.args.coef) c.args.terms.now
+returns c = c.each_weighs.ensures ∙ all-weights (λ t. t.coef == c.args.coef) c.args.terms.now
