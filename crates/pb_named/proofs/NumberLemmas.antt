@@ -1,5 +1,6 @@
 -- Terms in numbers, while the products are still noted: what was numbered stays so.
 use Rattle.std.proofs.Common.{◌≡◌, ℕ, ◌+◌, ◌<◌, List, [], ◌∷◌, ◌++◌, map, length, take, drop, get_or, Option, Some, None, ℤ, true, arith, refl, ap, sym, ◌∙◌, subst, append_assoc, option_map}
+use Rattle.std.specs.Option.{unwrap_or}
 use Rattle.std.specs.Prelude.{Result, Ok, Err, OnOk}
 use Rattle.std.specs.List.{flat_map, position_or_len, AllByRecursion}
 use Rattle.std.proofs.lemmas.List.{map-append, take_more, flat_map_more}
@@ -15,7 +16,7 @@ use Rattle.pb_named.specs.declared.products.Factor.{Factor}
 use Rattle.pb_named.specs.declared.products.Factor.TheVariants.{Nought, Single, Product}
 use Rattle.pb_named.specs.NamedTerms.{NamedTerm}
 use Rattle.pb_named.specs.Products.{product_in, same_product}
-use Rattle.pb_named.specs.NamedProblems.{Table, size, lit_of, factor, products_in, products_of, terms_by, terms_of, terms_or_none, statement_of, names_of}
+use Rattle.pb_named.specs.NamedProblems.{Table, size, lit_of, factor, products_in, products_of, terms_by, terms_of, statement_of, names_of}
 use Rattle.pb_named.specs.inner.Numbering.{place_in, Gives, IsFew, IsOver}
 use Rattle.pb_named.proofs.Appends.{all-front, all-behind}
 use Rattle.pb_named.proofs.FirstsLemmas.{firsts-append, firsts-longer, firsts-place, firsts-found}
@@ -192,20 +193,20 @@ pub record NumbersFront (t : Table) (seen : List (List Lit)) (ks : List ℕ) (al
 -- ---- the whole
 
 -- the products of a problem: the objective's, and then those of the statements
-pub products_of-is : (t : Table) (p : NamedProblem) → noting (noting [] (products_in t (terms_or_none p.objective))) (products_in t (terms_in p.statements)) ≡ products_of t p
+pub products_of-is : (t : Table) (p : NamedProblem) → noting (noting [] (products_in t (unwrap_or p.objective []))) (products_in t (terms_in p.statements)) ≡ products_of t p
 products_of-is t p =
-    sym (firsts-append same_product [] (products_in t (terms_or_none p.objective)) (products_in t (terms_in p.statements))) ∙ ap (noting []) (sym (products-append t (terms_or_none p.objective) (terms_in p.statements)))
+    sym (firsts-append same_product [] (products_in t (unwrap_or p.objective [])) (products_in t (terms_in p.statements))) ∙ ap (noting []) (sym (products-append t (unwrap_or p.objective []) (terms_in p.statements)))
 
-pub objective-stays : (t : Table) (more : List (List Lit)) (o : Option (List NamedTerm)) → option_map (terms_of t (noting [] (products_in t (terms_or_none o)))) o ≡ option_map (terms_of t (noting (noting [] (products_in t (terms_or_none o))) more)) o
+pub objective-stays : (t : Table) (more : List (List Lit)) (o : Option (List NamedTerm)) → option_map (terms_of t (noting [] (products_in t (unwrap_or o [])))) o ≡ option_map (terms_of t (noting (noting [] (products_in t (unwrap_or o []))) more)) o
 objective-stays t more None = refl
 objective-stays t more (Some ns) = ap Some (noted-stay t [] more ns)
 
 -- what was numbered from no product on is by the products of the problem
-pub made-by_table : (t : Table) (p : NamedProblem) (none first all : List (List Lit)) (o : Option (List Term)) (ss : List Raw) → none ≡ [] → first ≡ noting none (products_in t (terms_or_none p.objective)) → all ≡ noting first (products_in t (terms_in p.statements)) →
-    o ≡ option_map (terms_of t (noting none (products_in t (terms_or_none p.objective)))) p.objective → ss ≡ map (statement_of t (noting first (products_in t (terms_in p.statements)))) p.statements →
+pub made-by_table : (t : Table) (p : NamedProblem) (none first all : List (List Lit)) (o : Option (List Term)) (ss : List Raw) → none ≡ [] → first ≡ noting none (products_in t (unwrap_or p.objective [])) → all ≡ noting first (products_in t (terms_in p.statements)) →
+    o ≡ option_map (terms_of t (noting none (products_in t (unwrap_or p.objective [])))) p.objective → ss ≡ map (statement_of t (noting first (products_in t (terms_in p.statements)))) p.statements →
     (all ≡ products_of t p) × (o ≡ option_map (terms_of t (products_of t p)) p.objective) × (ss ≡ map (statement_of t (products_of t p)) p.statements)
 made-by_table t p none first all o ss empty noted noted_all objective statements =
-    let os = products_in t (terms_or_none p.objective) in
+    let os = products_in t (unwrap_or p.objective []) in
     let rest = products_in t (terms_in p.statements) in
     let first_is : first ≡ noting [] os = noted ∙ ap (λ (ps : List (List Lit)). noting ps os) empty in
     let all_is : noting first rest ≡ products_of t p = ap (λ (ps : List (List Lit)). noting ps rest) first_is ∙ products_of-is t p in (
@@ -215,11 +216,11 @@ made-by_table t p none first all o ss empty noted noted_all objective statements
     )
 
 -- too many products of the objective, or of all terms
-pub over-objective : (t : Table) (p : NamedProblem) (none : List (List Lit)) → none ≡ [] → IsOver t (noting none (products_in t (terms_or_none p.objective))) → IsOver t (products_of t p)
+pub over-objective : (t : Table) (p : NamedProblem) (none : List (List Lit)) → none ≡ [] → IsOver t (noting none (products_in t (unwrap_or p.objective []))) → IsOver t (products_of t p)
 over-objective t p none empty over =
     subst (IsOver t) (products_of-is t p)
-    (over-more t (noting [] (products_in t (terms_or_none p.objective))) (products_in t (terms_in p.statements)) (subst (λ (ps : List (List Lit)). IsOver t (noting ps (products_in t (terms_or_none p.objective)))) empty over))
+    (over-more t (noting [] (products_in t (unwrap_or p.objective []))) (products_in t (terms_in p.statements)) (subst (λ (ps : List (List Lit)). IsOver t (noting ps (products_in t (unwrap_or p.objective [])))) empty over))
 
-pub over-all : (t : Table) (p : NamedProblem) (none first : List (List Lit)) → none ≡ [] → first ≡ noting none (products_in t (terms_or_none p.objective)) → IsOver t (noting first (products_in t (terms_in p.statements))) → IsOver t (products_of t p)
+pub over-all : (t : Table) (p : NamedProblem) (none first : List (List Lit)) → none ≡ [] → first ≡ noting none (products_in t (unwrap_or p.objective [])) → IsOver t (noting first (products_in t (terms_in p.statements))) → IsOver t (products_of t p)
 over-all t p none first empty noted over =
-    subst (IsOver t) (ap (λ (ps : List (List Lit)). noting ps (products_in t (terms_in p.statements))) (noted ∙ ap (λ (ps : List (List Lit)). noting ps (products_in t (terms_or_none p.objective))) empty) ∙ products_of-is t p) over
+    subst (IsOver t) (ap (λ (ps : List (List Lit)). noting ps (products_in t (terms_in p.statements))) (noted ∙ ap (λ (ps : List (List Lit)). noting ps (products_in t (unwrap_or p.objective []))) empty) ∙ products_of-is t p) over

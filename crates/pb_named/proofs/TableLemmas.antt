@@ -1,5 +1,6 @@
 -- Names in a table, and their places.
 use Rattle.std.proofs.Common.{All, take, get_or, ◌≡◌, ℕ, ◌+◌, ◌<◌, true, List, [], ◌∷◌, ◌++◌, map, length, arith, refl, ap, sym, ◌∙◌, subst, append-nil}
+use Rattle.std.specs.Option.{unwrap_or}
 use Rattle.std.specs.Prelude.{max}
 use Rattle.std.specs.List.{flat_map, AllByRecursion}
 use Rattle.std.specs.Str.{bytes_eq}
@@ -8,7 +9,7 @@ use Rattle.std.proofs.lemmas.Slice.Eq.{bytes_eq-Decides}
 use Rattle.pb_base.specs.Firsts.{with_item, firsts_behind}
 use Rattle.pb_named.specs.Names.{Name}
 use Rattle.pb_named.specs.Names.Name.{index, free}
-use Rattle.pb_named.specs.NamedProblems.{Table, table_of, greatest, free_in, term_names, names_of, terms_or_none, all_names}
+use Rattle.pb_named.specs.NamedProblems.{Table, table_of, greatest, free_in, term_names, names_of, all_names}
 use Rattle.pb_named.specs.declared.named.NamedLit.{NamedLit}
 use Rattle.pb_named.specs.NamedTerms.{NamedTerm}
 use Rattle.pb_named.specs.declared.named.NamedStatement.{NamedStatement}
@@ -143,10 +144,10 @@ abbrev empty : ℕ → Table
 empty told = record { numbered = told; names = [] }
 
 -- those of the objective, and then those of the statements
-pub notes-problem : (p : NamedProblem) (s t u : Table) (js ks ls : List ℕ) (os : List NamedTerm) (ss : List NamedStatement) → os ≡ terms_or_none p.objective → ss ≡ p.statements → Notes s js (names_of os) t ks → Notes t ks (flat_map (λ s. names_of s.terms) ss) u ls → Notes s js (all_names p) u ls
+pub notes-problem : (p : NamedProblem) (s t u : Table) (js ks ls : List ℕ) (os : List NamedTerm) (ss : List NamedStatement) → os ≡ unwrap_or p.objective [] → ss ≡ p.statements → Notes s js (names_of os) t ks → Notes t ks (flat_map (λ s. names_of s.terms) ss) u ls → Notes s js (all_names p) u ls
 notes-problem p s t u js ks ls os ss objective statements first rest =
     let names : names_of os ++ flat_map statement_names ss ≡ all_names p
-    = ap (λ (ws : List NamedTerm). names_of ws ++ flat_map statement_names ss) objective ∙ ap (λ (ws : List NamedStatement). names_of (terms_or_none p.objective) ++ flat_map statement_names ws) statements in
+    = ap (λ (ws : List NamedTerm). names_of ws ++ flat_map statement_names ss) objective ∙ ap (λ (ws : List NamedStatement). names_of (unwrap_or p.objective []) ++ flat_map statement_names ws) statements in
     subst (λ (ns : List Name). Notes s js ns u ls) names (notes-more s t u js ks ls (names_of os) (flat_map statement_names ss) first rest)
 
 -- what is noted from nothing on is the table of the names, and their places in it
@@ -177,10 +178,10 @@ known-statements t (s ∷ ss) h = All-cons (λ (r : NamedStatement). AreKnown t 
 known-names : (told : ℕ) (p : NamedProblem) → AllByRecursion (IsKnown (table_of told (all_names p))) (all_names p)
 known-names told p = subst (λ (t : Table). AllByRecursion (IsKnown t) (all_names p)) (noted_all-is (record { numbered = told; names = [] }) (all_names p)) (all-known (record { numbered = told; names = [] }) (all_names p))
 
-pub known-objective : (told : ℕ) (p : NamedProblem) (t : Table) → t ≡ table_of told (all_names p) → AreKnown t (terms_or_none p.objective)
-known-objective told p t is = subst (λ (u : Table). AreKnown u (terms_or_none p.objective)) (sym is)
-    (known-terms (table_of told (all_names p)) (terms_or_none p.objective) (all-front (IsKnown (table_of told (all_names p))) (names_of (terms_or_none p.objective)) _ (known-names told p)))
+pub known-objective : (told : ℕ) (p : NamedProblem) (t : Table) → t ≡ table_of told (all_names p) → AreKnown t (unwrap_or p.objective [])
+known-objective told p t is = subst (λ (u : Table). AreKnown u (unwrap_or p.objective [])) (sym is)
+    (known-terms (table_of told (all_names p)) (unwrap_or p.objective []) (all-front (IsKnown (table_of told (all_names p))) (names_of (unwrap_or p.objective [])) _ (known-names told p)))
 
 pub known-all_statements : (told : ℕ) (p : NamedProblem) (t : Table) → t ≡ table_of told (all_names p) → All (λ s. AreKnown t s.terms) p.statements
 known-all_statements told p t is = subst (λ (u : Table). All (λ (s : NamedStatement). AreKnown u s.terms) p.statements) (sym is)
-    (known-statements (table_of told (all_names p)) p.statements (all-behind (IsKnown (table_of told (all_names p))) (names_of (terms_or_none p.objective)) _ (known-names told p)))
+    (known-statements (table_of told (all_names p)) p.statements (all-behind (IsKnown (table_of told (all_names p))) (names_of (unwrap_or p.objective [])) _ (known-names told p)))

@@ -2,7 +2,7 @@
 use Rattle.std.proofs.Common.{◌≡◌, ℕ, ◌+◌, ◌<◌, ◌≤◌, List, [], ◌∷◌, ◌++◌, map, length, take, drop, get_or, arith, refl, ap, sym, ◌∙◌, subst, append_assoc, zero, suc}
 use Rattle.std.specs.List.{flat_map, position_or_len}
 use Rattle.std.specs.Str.{bytes_eq}
-use Rattle.std.proofs.lemmas.List.{map-append, take_more, flat_map_more}
+use Rattle.std.proofs.lemmas.List.{take_more, flat_map_more}
 use Rattle.pb_named.specs.Names.{Name}
 use Rattle.pb_named.specs.Names.Name.{free}
 use Rattle.pb_named.specs.NamedProblems.{Table, var_of}

@@ -1,7 +1,7 @@
 -- The problem of names: each free name, in the order in which they first stand in a text, is a variable behind those of indices, and each product of literals one behind them (our own).
-use Rattle.std.specs.Prelude.{ℕ, ◌+◌, max, List, [], ◌∷◌, ◌++◌, map, length, Option, Some, None, ℤ, true}
+use Rattle.std.specs.Prelude.{ℕ, ◌+◌, max, List, [], ◌∷◌, ◌++◌, map, length, ℤ, true}
 use Rattle.std.specs.List.{flat_map, position_or_len}
-use Rattle.std.specs.Option.{option_map}
+use Rattle.std.specs.Option.{option_map, unwrap_or}
 use Rattle.std.specs.Str.{bytes_eq}
 use Rattle.pb_base.specs.Firsts.{firsts}
 use Rattle.pb_base.specs.declared.literal.Lit.{Lit}
@@ -26,12 +26,8 @@ term_names t = map (λ l. l.name) (lits_of t)
 abbrev pub names_of : List NamedTerm → List Name
 names_of ts = flat_map term_names ts
 
-abbrev pub terms_or_none : Option (List NamedTerm) → List NamedTerm
-terms_or_none None = []
-terms_or_none (Some ts) = ts
-
 abbrev pub all_names : NamedProblem → List Name
-all_names p = names_of (terms_or_none p.objective) ++ flat_map (λ s. names_of s.terms) p.statements
+all_names p = names_of (unwrap_or p.objective []) ++ flat_map (λ s. names_of s.terms) p.statements
 
 abbrev pub index_in : Name → ℕ
 index_in (index n) = n
@@ -82,7 +78,7 @@ products_in t ns = flat_map (λ n. product_in (factor t n)) ns
 
 -- in the order of the text, the objective's first
 abbrev pub all_terms : NamedProblem → List NamedTerm
-all_terms p = terms_or_none p.objective ++ flat_map (λ s. s.terms) p.statements
+all_terms p = unwrap_or p.objective [] ++ flat_map (λ s. s.terms) p.statements
 
 -- the products, each once, in the order in which they first stand there
 abbrev pub products_of : Table → NamedProblem → List (List Lit)
@@ -106,18 +102,15 @@ terms_of t products ns = flat_map (λ n. terms_by t products n.coef (factor t n)
 abbrev pub statement_of : Table → List (List Lit) → NamedStatement → Raw
 statement_of t products s = record { terms = terms_of t products s.terms; relation = s.relation; right = s.right }
 
-abbrev pub by_tables : Table → List (List Lit) → NamedProblem → Problem
-by_tables t products p = record {
+abbrev pub by_table : Table → NamedProblem → Problem
+by_table t p = record {
   vars = size t;
   numbered = t.numbered;
   names = t.names;
-  products = products;
-  objective = option_map (terms_of t products) p.objective;
-  statements = map (statement_of t products) p.statements;
+  products = products_of t p;
+  objective = option_map (terms_of t (products_of t p)) p.objective;
+  statements = map (statement_of t (products_of t p)) p.statements;
 }
-
-abbrev pub by_table : Table → NamedProblem → Problem
-by_table t p = by_tables t (products_of t p) p
 
 -- the problem, where the first line tells a number of variables
 abbrev pub problem_of : ℕ → NamedProblem → Problem

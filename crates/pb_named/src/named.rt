@@ -7,6 +7,32 @@ use pb_base::{Relation, Seq};
 use std::alloc::{AllocError, Global};
 use std::marker::Model;
 
+/// The bytes of a free name.
+#[derive(Debug, Drop)]
+pub(crate) struct FreeName<'a> {
+    text: &'a [u8],
+}
+
+impl<'a> Model for FreeName<'a> {
+    ghost use Rattle.std.specs.Prelude.{ℕ, List, ◌≤◌, length};
+
+    ghost Value = { List ℕ };
+
+    ghost view = { λ n. n.text.now };
+
+    ghost invariant = { λ n. length n.text.now ≤ 255 };
+}
+
+impl<'a> FreeName<'a> {
+    /// Of these bytes.
+    pub fn new(text: &'a [u8]) -> Self
+        requires { length text.now ≤ 255 }
+        ensures { result ≡ text.now }
+    {
+        FreeName { text }
+    }
+}
+
 /// What a word names: a variable by its number behind `x`, or by a free name.
 #[derive(Debug, Drop)]
 pub struct Name<'a> {
@@ -48,6 +74,16 @@ impl<'a> Name<'a> {
         ensures { result ≡ free text.now }
     {
         Name { index: 0, text }
+    }
+
+    /// A free name again.
+    pub(crate) fn of_free(name: &FreeName<'a>) -> Self
+        ensures { result ≡ free name.now }
+    {
+        Name {
+            index: 0,
+            text: name.text,
+        }
     }
 
     /// What stands in it.

@@ -1,15 +1,18 @@
 -- How names get their numbers, one after another.
-use Rattle.std.specs.Prelude.{ℕ, ◌+◌, ◌<◌, ◌≤◌, ◌^◌, max, List, [], ◌∷◌, ◌++◌, map, length, All, Option, Some, None, ◌≡◌}
+use Rattle.std.specs.Prelude.{ℕ, ◌+◌, ◌<◌, ◌≤◌, ◌^◌, max, List, [], ◌∷◌, ◌++◌, map, length, All, ◌≡◌}
 use Rattle.std.specs.List.{flat_map, position_or_len}
 use Rattle.std.specs.Str.{bytes_eq}
-use Rattle.pb_base.specs.Firsts.{with_item}
+use Rattle.pb_base.specs.Firsts.{with_item, firsts_behind}
 use Rattle.pb_named.specs.Names.{Name}
 use Rattle.pb_named.specs.Names.Name.{index, free}
 use Rattle.pb_named.specs.declared.named.Parts.{Parts}
 use Rattle.pb_named.specs.declared.named.Parts.TheVariants.{Index, Free}
 use Rattle.pb_base.specs.declared.literal.Lit.{Lit}
 use Rattle.pb_named.specs.NamedTerms.{NamedTerm}
-use Rattle.pb_named.specs.NamedProblems.{Table, size}
+use Rattle.pb_named.specs.NamedProblems.{Table, size, products_in, statement_of}
+use Rattle.pb_named.specs.Products.{same_product}
+use Rattle.pb_named.specs.declared.named.NamedStatement.{NamedStatement}
+use Rattle.pb_base.specs.declared.problem.Raw.{Raw}
 
 abbrev pub of_parts : Parts → Name
 of_parts (Index n) = index n
@@ -17,7 +20,7 @@ of_parts (Free text) = free text.now
 
 abbrev pub IsInReach : Parts → Type 0
 IsInReach (Index n) = (1 ≤ n) × (n < 2 ^ 31)
-IsInReach (Free text) = Unit {0}
+IsInReach (Free text) = length text.now ≤ 255
 
 -- one name more
 abbrev pub noted : Table → Name → Table
@@ -68,6 +71,6 @@ IsOver t products = 2 ^ 31 ≤ size t + length products
 abbrev pub IsFew : Table → List (List Lit) → Type 0
 IsFew t products = size t + length products < 2 ^ 31
 
-abbrev pub listed : {X : Type 0} → Option X → List X
-listed None = []
-listed (Some x) = x ∷ []
+-- the statements in numbers, where these products were noted before
+abbrev pub statements_from : Table → List (List Lit) → List NamedStatement → List Raw
+statements_from t seen ss = map (statement_of t (firsts_behind same_product seen (products_in t (flat_map (λ s. s.terms) ss)))) ss

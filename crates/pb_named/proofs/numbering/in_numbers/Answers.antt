@@ -1,5 +1,6 @@
 use Rattle.std.proofs.Common.{◌∙◌, [], sym, append-nil, rules}
-use Rattle.pb_named.specs.NamedProblems.{size, names_of, terms_or_none, all_names}
+use Rattle.std.specs.Option.{unwrap_or}
+use Rattle.pb_named.specs.NamedProblems.{size, names_of, all_names}
 use Rattle.pb_named.specs.inner.Numbering.{place_in}
 use Rattle.pb_named.proofs.NumberLemmas.{made-by_table, over-objective, over-all}
 use Rattle.pb_named.proofs.TableLemmas.{statement_names}
@@ -11,13 +12,13 @@ pub objective_of-requires-clause-places : goal.objective_of-requires-clause-plac
 objective_of-requires-clause-places c =
     let f = place_in c.args.table.now in
     let p = c.args.problem in
-    starts-front f c.args.places.now (names_of (terms_or_none p.objective)) (flat_map statement_names p.statements) ([], c.requires.places ∙ sym (append-nil (flat_map f (all_names p))))
+    starts-front f c.args.places.now (names_of (unwrap_or p.objective [])) (flat_map statement_names p.statements) ([], c.requires.places ∙ sym (append-nil (flat_map f (all_names p))))
 
 pub statements_of-requires-clause-places : goal.statements_of-requires-clause-places
 statements_of-requires-clause-places c =
     let f = place_in c.args.table.now in
     let p = c.args.problem in
-    starts-behind f c.args.places.now _ (names_of (terms_or_none p.objective)) (flat_map statement_names p.statements) ([], c.requires.places ∙ sym (append-nil (flat_map f (all_names p))))
+    starts-behind f c.args.places.now _ (names_of (unwrap_or p.objective [])) (flat_map statement_names p.statements) ([], c.requires.places ∙ sym (append-nil (flat_map f (all_names p))))
     c.in_ok-objective.ensures.places
 
 pub returns-clause-ok : goal.returns-clause-ok

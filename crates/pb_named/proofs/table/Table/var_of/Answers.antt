@@ -1,4 +1,4 @@
-use Rattle.std.proofs.Common.{◌≡◌, ◌∙◌, ◌+◌, ap, sym}
+use Rattle.std.proofs.Common.{◌∙◌, ◌+◌, ap, sym}
 use Rattle.pb_named.specs.NamedProblems.{Table}
 use Rattle.pb_named.specs.inner.Numbering.{of_parts}
 use Rattle.pb_named.proofs.Taking.{starts-some, takes-place}
