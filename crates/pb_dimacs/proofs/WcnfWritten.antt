@@ -2,6 +2,7 @@
 use Rattle.std.proofs.Common.{◌≡◌, ◌<◌, ◌^◌, ℕ, Bool, true, cond, List, [], ◌∷◌, ◌++◌, map, refl, sym, ap, ◌∙◌, subst, arith, append_assoc}
 use Rattle.std.specs.Prelude.{ℤ, pos, negsuc, suc, not, All, filter, codes, decimal, unsigned_abs}
 use Rattle.std.specs.Fmt.{signed_decimal}
+use Rattle.std.specs.List.{AllZip}
 use Rattle.std.proofs.lemmas.List.Elements.{All-append, All-cons, All-from_recursion, All-head, All-nil, All-tail}
 use Rattle.pb_base.specs.declared.literal.Lit.{Lit}
 use Rattle.pb_base.proofs.NumeralLemmas.{IsNumeralOf, natural_printed, numeral_is_black, printed}
@@ -9,7 +10,7 @@ use Rattle.pb_base.proofs.WordLemmas.{IsBlack, bare_from, bare_words, word_ends}
 use Rattle.pb_norm.specs.Constraints.{Weighted}
 use Rattle.pb_family.specs.ClauseText.{clause_text}
 use Rattle.pb_dimacs.specs.CnfReading.{is_said, line_words, said_lines}
-use Rattle.pb_dimacs.specs.WcnfReading.{LinesSay, LineSays, WcnfReads, WeightedClause, hard_and_soft, soft_literal}
+use Rattle.pb_dimacs.specs.WcnfReading.{LineSays, WcnfReads, WeightedClause, hard_and_soft, soft_literal}
 use Rattle.pb_dimacs.specs.WcnfReading.WeightedClause.{hard}
 use Rattle.pb_dimacs.specs.WcnfText.{hard_text, offset_text, soft_text, softs_text, wcnf_text}
 use Rattle.pb_dimacs.specs.WcnfLaws.{IsSoftWithin}
@@ -29,10 +30,10 @@ said_first line rest words inside are =
     ∙ ap (λ (ws : List (List ℕ)). said_of ws (said_lines rest)) (bare_from 1 line ∙ are)
 
 -- a line that says a clause, before others
-says_first : (line rest : List ℕ) (words : List (List ℕ)) (c : WeightedClause) (cs : List WeightedClause) → All Inside line → bare_words line ≡ words → is_said words ≡ true → LineSays words c → LinesSay (said_lines rest) cs → LinesSay (said_lines (line ++ 10 ∷ rest)) (c ∷ cs)
+says_first : (line rest : List ℕ) (words : List (List ℕ)) (c : WeightedClause) (cs : List WeightedClause) → All Inside line → bare_words line ≡ words → is_said words ≡ true → LineSays words c → AllZip LineSays (said_lines rest) cs → AllZip LineSays (said_lines (line ++ 10 ∷ rest)) (c ∷ cs)
 says_first line rest words c cs inside are said says others =
     let same = said_first line rest words inside are ∙ ap (λ (b : Bool). cond b (words ∷ said_lines rest) (said_lines rest)) said in
-    subst (λ (lines : List (List (List ℕ))). LinesSay lines (c ∷ cs)) (sym same) (says, others)
+    subst (λ (lines : List (List (List ℕ))). AllZip LineSays lines (c ∷ cs)) (sym same) (says, others)
 
 -- ---- soft lines
 
@@ -54,13 +55,13 @@ soft_words s within =
 numeral_is_said : (n : ℕ) (ds : List ℕ) (words : List (List ℕ)) → IsNumeralOf n ds → is_said (ds ∷ words) ≡ true
 numeral_is_said n ds words is = ap not (digits_spell n ds is).quiet
 
-softs_say : (softs : List Weighted) → All IsSoftWithin softs → LinesSay (said_lines (softs_text softs)) (map soft_literal softs)
+softs_say : (softs : List Weighted) → All IsSoftWithin softs → AllZip LineSays (said_lines (softs_text softs)) (map soft_literal softs)
 softs_say [] within = tt
 softs_say (s ∷ softs) within =
     let here = All-head IsSoftWithin s softs within in
     let number : IsNumeralOf s.coef (decimal s.coef) = printed s.coef (omega (arith, here.high)) in
     let fits = All-cons Fits s.lit [] here.var (All-nil Fits) in
-    subst (λ (text : List ℕ). LinesSay (said_lines text) (map soft_literal (s ∷ softs))) (sym (soft_line s (softs_text softs)))
+    subst (λ (text : List ℕ). AllZip LineSays (said_lines text) (map soft_literal (s ∷ softs))) (sym (soft_line s (softs_text softs)))
     (says_first (decimal s.coef ++ 32 ∷ clause_line (s.lit ∷ [])) (softs_text softs) (decimal s.coef ∷ clause_words (s.lit ∷ [])) (soft_literal s) (map soft_literal softs)
     (soft_is_line s here) (soft_words s here) (numeral_is_said s.coef (decimal s.coef) (clause_words (s.lit ∷ [])) number)
     (natural_printed s.coef (decimal s.coef) number, here.low, clause_words_spell (s.lit ∷ []) fits)
@@ -74,12 +75,12 @@ hard_line ls rest = simp append_assoc
 hard_is_line : (ls : List Lit) → All Fits ls → All Inside (codes "h " ++ clause_line ls)
 hard_is_line ls fits = All-cons Inside 104 (32 ∷ clause_line ls) refl (All-cons Inside 32 (clause_line ls) refl (clause_is_line ls fits))
 
-hards_say : (clauses : List (List Lit)) (rest : List ℕ) (others : List WeightedClause) → All (All Fits) clauses → LinesSay (said_lines rest) others → LinesSay (said_lines (hard_text clauses ++ rest)) (map hard clauses ++ others)
+hards_say : (clauses : List (List Lit)) (rest : List ℕ) (others : List WeightedClause) → All (All Fits) clauses → AllZip LineSays (said_lines rest) others → AllZip LineSays (said_lines (hard_text clauses ++ rest)) (map hard clauses ++ others)
 hards_say [] rest others fits say = say
 hards_say (c ∷ cs) rest others fits say =
     let here = All-head (All Fits) c cs fits in
     let line = append_assoc (codes "h " ++ clause_text c) (hard_text cs) rest ∙ hard_line c (hard_text cs ++ rest) in
-    subst (λ (text : List ℕ). LinesSay (said_lines text) (map hard (c ∷ cs) ++ others)) (sym line)
+    subst (λ (text : List ℕ). AllZip LineSays (said_lines text) (map hard (c ∷ cs) ++ others)) (sym line)
     (says_first (codes "h " ++ clause_line c) (hard_text cs ++ rest) (codes "h" ∷ clause_words c) (hard c) (map hard cs ++ others)
     (hard_is_line c here) (ap (λ (ws : List (List ℕ)). codes "h" ∷ ws) (clause_line_words c here)) refl
     (refl, clause_words_spell c here)
@@ -103,5 +104,5 @@ offset_says_nothing offset rest fits =
 
 pub written_wcnf_reads : (offset : ℤ) (clauses : List (List Lit)) (softs : List Weighted) → unsigned_abs offset < 2 ^ 126 → All (All Fits) clauses → All IsSoftWithin softs → WcnfReads (wcnf_text offset clauses softs) (hard_and_soft clauses softs)
 written_wcnf_reads offset clauses softs small fits within =
-    subst (λ (lines : List (List (List ℕ))). LinesSay lines (hard_and_soft clauses softs)) (sym (offset_says_nothing offset (hard_text clauses ++ softs_text softs) small))
+    subst (λ (lines : List (List (List ℕ))). AllZip LineSays lines (hard_and_soft clauses softs)) (sym (offset_says_nothing offset (hard_text clauses ++ softs_text softs) small))
     (hards_say clauses (softs_text softs) (map soft_literal softs) fits (softs_say softs within))

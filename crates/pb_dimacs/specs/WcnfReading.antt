@@ -1,5 +1,6 @@
 -- What a weighted CNF text says, a clause a line (the format of the MaxSAT Evaluations since 2022).
 use Rattle.std.specs.Prelude.{◌≡◌, ◌≤◌, ℕ, List, [], ◌∷◌, ◌++◌, map, Some, codes}
+use Rattle.std.specs.List.{AllZip}
 use Rattle.pb_base.specs.declared.literal.Lit.{Lit}
 use Rattle.pb_base.specs.Numbers.{natural_of, integer_of}
 use Rattle.pb_norm.specs.Constraints.{Weighted}
@@ -16,15 +17,9 @@ LineSays [] c = ⊥
 LineSays (first ∷ words) (hard ls) = (first ≡ codes "h") × (map integer_of words ≡ map Some (clause_numbers ls))
 LineSays (first ∷ words) (soft weight ls) = (natural_of first ≡ Some weight) × (1 ≤ weight) × (map integer_of words ≡ map Some (clause_numbers ls))
 
--- each line says the clause at its place
-abbrev pub LinesSay : List (List (List ℕ)) → List WeightedClause → Type 0
-LinesSay [] [] = Unit {0}
-LinesSay (line ∷ lines) (c ∷ cs) = LineSays line c × LinesSay lines cs
-LinesSay _ _ = ⊥
-
--- the lines of the text that are no comments say these clauses
+-- the lines of the text that are no comments say these clauses, each the one at its place
 abbrev pub WcnfReads : List ℕ → List WeightedClause → Type 0
-WcnfReads text clauses = LinesSay (said_lines text) clauses
+WcnfReads text clauses = AllZip LineSays (said_lines text) clauses
 
 -- a literal that is soft by itself
 abbrev pub soft_literal : Weighted → WeightedClause

@@ -25,15 +25,11 @@ abbrev pub drawn_literal : ℕ → ℕ → Lit
 drawn_literal vars seed = record { var = 1 + draw seed 0 % vars; positive = draw seed 1 % 2 == 0 }
 
 abbrev pub drawn_term : ℕ → Bool → ℕ → Term
-drawn_term vars weighted seed = record {
-  coef = pos (drawn_weight weighted seed);
-  lit = drawn_literal vars (state_after (weight_draws weighted) seed);
-}
+drawn_term vars weighted seed = record { coef = pos (drawn_weight weighted seed); lit = drawn_literal vars (state_after (weight_draws weighted) seed) }
 
 abbrev pub term_draws : Bool → ℕ
 term_draws weighted = if weighted then 3 else 2
 
--- so many terms
 abbrev pub drawn_terms : ℕ → Bool → ℕ → ℕ → List Term
 drawn_terms vars weighted count seed = map (λ i. drawn_term vars weighted (state_after (i * term_draws weighted) seed)) (range_with_len 0 count)
 
@@ -50,26 +46,19 @@ drawn_kind seed = kind_by (draw seed 1)
 
 -- whether coefficients and the right side are drawn
 abbrev pub is_weighted : Kind → Bool
-is_weighted kind.AllButOne = false
-is_weighted kind.Half = false
 is_weighted kind.AtLeast = true
 is_weighted kind.AtMost = true
+is_weighted _ = false
 
 abbrev pub relation_of : Kind → Relation
-relation_of kind.AllButOne = relation.AtLeast
-relation_of kind.Half = relation.AtLeast
-relation_of kind.AtLeast = relation.AtLeast
 relation_of kind.AtMost = relation.AtMost
+relation_of _ = relation.AtLeast
 
 -- by the number of terms and the sum of their coefficients
 abbrev pub drawn_right : Kind → ℕ → ℕ → ℕ → ℕ
 drawn_right kind.AllButOne count sum seed = count - 1
 drawn_right kind.Half count sum seed = (count + 1) / 2
-drawn_right kind.AtLeast count sum seed = draw seed 0 % (sum + 1)
-drawn_right kind.AtMost count sum seed = draw seed 0 % (sum + 1)
-
-abbrev pub right_draws : Bool → ℕ
-right_draws weighted = if weighted then 1 else 0
+drawn_right _ count sum seed = draw seed 0 % (sum + 1)
 
 -- behind its terms, which begin with this seed
 abbrev pub statement_with : ℕ → Kind → ℕ → ℕ → Raw
@@ -84,4 +73,4 @@ abbrev pub drawn_statement : ℕ → ℕ → Raw
 drawn_statement vars seed = statement_with vars (drawn_kind seed) (drawn_count seed) (state_after 2 seed)
 
 abbrev pub statement_draws : ℕ → ℕ
-statement_draws seed = 2 + (drawn_count seed * term_draws (is_weighted (drawn_kind seed)) + right_draws (is_weighted (drawn_kind seed)))
+statement_draws seed = 2 + (drawn_count seed * term_draws (is_weighted (drawn_kind seed)) + weight_draws (is_weighted (drawn_kind seed)))

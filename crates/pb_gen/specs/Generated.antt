@@ -34,11 +34,9 @@ relation_text AtLeast = codes ">= "
 relation_text AtMost = codes "<= "
 relation_text Equal = codes "= "
 
--- a line
 abbrev pub statement_text : Raw → List ℕ
 statement_text s = flat_map term_text s.terms ++ relation_text s.relation ++ signed_decimal s.right ++ codes " ;\n"
 
--- the first line
 abbrev pub header_text : ℕ → ℕ → List ℕ
 header_text vars count = codes "* #variable= " ++ decimal vars ++ codes " #constraint= " ++ decimal count ++ codes "\n"
 

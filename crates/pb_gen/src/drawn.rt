@@ -1,7 +1,7 @@
 //! Statements by their draws.
 ghost use Rattle.std.specs.Prelude.{◌≡◌, ◌≤◌, ◌<◌, ◌^◌, ◌-◌};
 ghost use Rattle.pb_gen.specs.Draws.{draw, state_after};
-ghost use Rattle.pb_gen.specs.Drawn.{drawn_count, drawn_kind, drawn_literal, drawn_right, drawn_weight, is_weighted, kind_by, relation_of, right_draws, weight_draws};
+ghost use Rattle.pb_gen.specs.Drawn.{drawn_count, drawn_kind, drawn_literal, drawn_right, drawn_weight, is_weighted, kind_by, relation_of, weight_draws};
 
 use crate::draws::Draws;
 use pb_base::{Lit, Relation, Var};
@@ -100,7 +100,7 @@ pub fn draw_right(draws: &mut Draws, kind: Kind, count: u32, sum: u32) -> u32
     requires most { count < 2 ^ 16 }
     requires sum { sum < 2 ^ 16 }
     ensures right { result ≡ drawn_right kind count sum draws.old.state }
-    ensures state { draws.new.state ≡ state_after (right_draws (is_weighted kind)) draws.old.state }
+    ensures state { draws.new.state ≡ state_after (weight_draws (is_weighted kind)) draws.old.state }
 {
     match kind {
         Kind::AllButOne => count - 1,

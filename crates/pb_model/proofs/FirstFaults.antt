@@ -1,18 +1,19 @@
 -- The first fault of symbols, by where they are cut.
 use Rattle.std.proofs.Common.{◌≡◌, List, [], ◌∷◌, ◌++◌, Some, None, refl, ap, sym, ◌∙◌, subst, append_assoc, append-nil}
+use Rattle.std.specs.Option.{option_or}
 use Rattle.std.specs.Prelude.{Option, Ok, Err}
 use Rattle.pb_model.specs.declared.fault.ModelFault.{ModelFault}
 use Rattle.pb_model.specs.declared.model.Model.{Model}
 use Rattle.pb_model.specs.ModelLines.{Symbol}
-use Rattle.pb_model.specs.ModelReading.{fault_at, fault_or, first_fault, model_in, told_by}
+use Rattle.pb_model.specs.ModelReading.{fault_at, first_fault, model_in, told_by}
 use Rattle.pb_model.specs.ModelLaws.{IsFirstFault, ToldExactly}
 use Rattle.pb_model.proofs.Taking.{fine_then}
 
-none_first : (a b : Option ModelFault) → fault_or a b ≡ None → a ≡ None
+none_first : (a b : Option ModelFault) → option_or a b ≡ None → a ≡ None
 none_first None b e = refl
 none_first (Some f) b e = cc
 
-none_later : (a b : Option ModelFault) → fault_or a b ≡ None → b ≡ None
+none_later : (a b : Option ModelFault) → option_or a b ≡ None → b ≡ None
 none_later None b e = e
 none_later (Some f) b e = cc
 
@@ -30,7 +31,7 @@ none_from : (ss rest : List Symbol) → ((before : List Symbol) (here : Symbol) 
 none_from ss [] fine = refl
 none_from ss (s ∷ rest) fine =
     let first : fault_at ss s ≡ None = subst (λ (xs : List Symbol). fault_at xs s ≡ None) (append-nil ss) (fine [] s rest refl) in
-    ap (λ (o : Option ModelFault). fault_or o (first_fault (ss ++ s ∷ []) rest)) first
+    ap (λ (o : Option ModelFault). option_or o (first_fault (ss ++ s ∷ []) rest)) first
     ∙ none_from (ss ++ s ∷ []) rest (λ before here after cut.
     subst (λ (xs : List Symbol). fault_at xs here ≡ None) (sym (append_assoc ss (s ∷ []) before)) (fine (s ∷ before) here after (ap (λ (xs : List Symbol). s ∷ xs) cut)))
 
@@ -52,7 +53,7 @@ stands_later ss s rest f none at = record {
   here = at.here;
   after = at.after;
   cut = ap (λ (xs : List Symbol). s ∷ xs) at.cut;
-  fine = ap (λ (o : Option ModelFault). fault_or o (first_fault (ss ++ s ∷ []) at.before)) none ∙ at.fine;
+  fine = ap (λ (o : Option ModelFault). option_or o (first_fault (ss ++ s ∷ []) at.before)) none ∙ at.fine;
   wrong = subst (λ (xs : List Symbol). fault_at xs at.here ≡ Some f) (append_assoc ss (s ∷ []) at.before) at.wrong;
 }
 
@@ -60,7 +61,7 @@ stands : (ss rest : List Symbol) (f : ModelFault) → first_fault ss rest ≡ So
 stands ss [] f e = cc
 stands ss (s ∷ rest) f e = by_fault (fault_at ss s) refl e (stands (ss ++ s ∷ []) rest f)
   where
-    by_fault : (o : Option ModelFault) → fault_at ss s ≡ o → fault_or o (first_fault (ss ++ s ∷ []) rest) ≡ Some f → (first_fault (ss ++ s ∷ []) rest ≡ Some f → StandsAt (ss ++ s ∷ []) rest f) → StandsAt ss (s ∷ rest) f
+    by_fault : (o : Option ModelFault) → fault_at ss s ≡ o → option_or o (first_fault (ss ++ s ∷ []) rest) ≡ Some f → (first_fault (ss ++ s ∷ []) rest ≡ Some f → StandsAt (ss ++ s ∷ []) rest f) → StandsAt ss (s ∷ rest) f
     by_fault None is later on = stands_later ss s rest f is (on later)
     by_fault (Some g) is same on = stands_first ss s rest f (is ∙ same)
 
@@ -87,7 +88,7 @@ tells_exactly vars ss = record {
     (λ (at : IsFirstFault ss f).
         let first : first_fault [] ss ≡ Some f =
         ap (first_fault []) at.cut ∙ fine_then [] at.before (at.here ∷ at.after) (none_from [] at.before at.fine)
-        ∙ ap (λ (o : Option ModelFault). fault_or o (first_fault (at.before ++ at.here ∷ []) at.after)) at.wrong in
+        ∙ ap (λ (o : Option ModelFault). option_or o (first_fault (at.before ++ at.here ∷ []) at.after)) at.wrong in
         ap (λ (o : Option ModelFault). told_by o (model_in vars ss)) first),
   );
 }

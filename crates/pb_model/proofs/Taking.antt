@@ -1,5 +1,6 @@
 -- What is known once more symbols were taken.
 use Rattle.std.proofs.Common.{◌≡◌, ℕ, ◌+◌, ◌<◌, Bool, true, false, cond, List, [], ◌∷◌, ◌++◌, Option, Some, None, refl, ap, sym, ◌∙◌, append_assoc, append-nil, ◌||◌, ◌&&◌, not, subst, length}
+use Rattle.std.specs.Option.{option_or}
 use Rattle.std.specs.List.{list_any}
 use Rattle.std.proofs.lemmas.List.Folds.{list_any-append}
 use Rattle.pb_base.specs.declared.literal.Lit.{Lit}
@@ -17,36 +18,36 @@ use Rattle.pb_model.specs.declared.model.Says.TheVariants.{Satisfiable, Other, M
 use Rattle.pb_model.specs.declared.reader.Reader.{Reader}
 use Rattle.pb_model.specs.ModelLines.{Symbol}
 use Rattle.pb_model.specs.ModelLines.Symbol.{status, values, word, other, end}
-use Rattle.pb_model.specs.ModelReading.{is_listed, is_said, lists, says_in, says_or, opens_values, ends_values, fault_at, fault_or, first_fault, word_fault, refused_if, values_in, model_in}
+use Rattle.pb_model.specs.ModelReading.{is_listed, is_said, lists, says_in, says_or, opens_values, ends_values, fault_at, first_fault, word_fault, refused_if, values_in, model_in}
 use Rattle.pb_model.specs.inner.Reading.{Lists, Knows}
 
 -- ---- the first fault
 
 pub refused_one : (ss : List Symbol) (s : Symbol) (f : ModelFault) → fault_at ss s ≡ Some f → first_fault ss (s ∷ []) ≡ Some f
-refused_one ss s f e = ap (λ (o : Option ModelFault). fault_or o None) e
+refused_one ss s f e = ap (λ (o : Option ModelFault). option_or o None) e
 
 pub fine_one : (ss : List Symbol) (s : Symbol) → fault_at ss s ≡ None → first_fault ss (s ∷ []) ≡ None
-fine_one ss s e = ap (λ (o : Option ModelFault). fault_or o None) e
+fine_one ss s e = ap (λ (o : Option ModelFault). option_or o None) e
 
-fault_or-fault_or : (a b c : Option ModelFault) → fault_or a (fault_or b c) ≡ fault_or (fault_or a b) c
-fault_or-fault_or None b c = refl
-fault_or-fault_or (Some f) b c = refl
+option_or-option_or : (a b c : Option ModelFault) → option_or a (option_or b c) ≡ option_or (option_or a b) c
+option_or-option_or None b c = refl
+option_or-option_or (Some f) b c = refl
 
 -- of symbols one part after another
-pub first_fault-append : (ss xs ys : List Symbol) → first_fault ss (xs ++ ys) ≡ fault_or (first_fault ss xs) (first_fault (ss ++ xs) ys)
+pub first_fault-append : (ss xs ys : List Symbol) → first_fault ss (xs ++ ys) ≡ option_or (first_fault ss xs) (first_fault (ss ++ xs) ys)
 first_fault-append ss [] ys = ap (λ (zs : List Symbol). first_fault zs ys) (sym (append-nil ss))
 first_fault-append ss (x ∷ xs) ys =
-    ap (fault_or (fault_at ss x)) (first_fault-append (ss ++ x ∷ []) xs ys)
-    ∙ fault_or-fault_or (fault_at ss x) (first_fault (ss ++ x ∷ []) xs) (first_fault ((ss ++ x ∷ []) ++ xs) ys)
-    ∙ ap (λ (zs : List Symbol). fault_or (first_fault ss (x ∷ xs)) (first_fault zs ys)) (append_assoc ss (x ∷ []) xs)
+    ap (option_or (fault_at ss x)) (first_fault-append (ss ++ x ∷ []) xs ys)
+    ∙ option_or-option_or (fault_at ss x) (first_fault (ss ++ x ∷ []) xs) (first_fault ((ss ++ x ∷ []) ++ xs) ys)
+    ∙ ap (λ (zs : List Symbol). option_or (first_fault ss (x ∷ xs)) (first_fault zs ys)) (append_assoc ss (x ∷ []) xs)
 
 -- none in a first part
 pub fine_then : (ss xs ys : List Symbol) → first_fault ss xs ≡ None → first_fault ss (xs ++ ys) ≡ first_fault (ss ++ xs) ys
-fine_then ss xs ys e = first_fault-append ss xs ys ∙ ap (λ (o : Option ModelFault). fault_or o (first_fault (ss ++ xs) ys)) e
+fine_then ss xs ys e = first_fault-append ss xs ys ∙ ap (λ (o : Option ModelFault). option_or o (first_fault (ss ++ xs) ys)) e
 
 -- one in a first part
 pub refused_then : (ss xs ys : List Symbol) (f : ModelFault) → first_fault ss xs ≡ Some f → first_fault ss (xs ++ ys) ≡ Some f
-refused_then ss xs ys f e = first_fault-append ss xs ys ∙ ap (λ (o : Option ModelFault). fault_or o (first_fault (ss ++ xs) ys)) e
+refused_then ss xs ys f e = first_fault-append ss xs ys ∙ ap (λ (o : Option ModelFault). option_or o (first_fault (ss ++ xs) ys)) e
 
 -- ---- what is known
 

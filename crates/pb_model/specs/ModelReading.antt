@@ -1,5 +1,6 @@
 -- What a model text says, and its first fault (our own).
 use Rattle.std.specs.Prelude.{ℕ, ◌≡◌, ◌≢◌, ◌+◌, ◌^◌, nat_lt, Bool, true, false, not, ◌&&◌, if◌then◌else◌, List, [], ◌∷◌, ◌++◌, length, map, Option, Some, None, Result, Ok, Err}
+use Rattle.std.specs.Option.{option_or}
 use Rattle.std.specs.List.{list_any, range_with_len}
 use Rattle.pb_base.specs.declared.place.Place.{Place}
 use Rattle.pb_base.specs.declared.literal.Lit.{Lit}
@@ -37,8 +38,7 @@ is_listed ss l = list_any (lists l) ss
 -- what is said, or else what is said later
 abbrev pub says_or : Says → Says → Says
 says_or Missing later = later
-says_or Satisfiable later = Satisfiable
-says_or Other later = Other
+says_or says later = says
 
 -- what the first status line says
 abbrev pub says_in : List Symbol → Says
@@ -48,8 +48,7 @@ says_in (_ ∷ ss) = says_in ss
 
 abbrev pub is_said : Says → Bool
 is_said Missing = false
-is_said Satisfiable = true
-is_said Other = true
+is_said _ = true
 
 -- a variable is true where it is listed
 abbrev pub values_in : ℕ → List Symbol → List Bool
@@ -64,11 +63,10 @@ refused_if wrong fault = if wrong then Some fault else None
 
 -- the fault of a word among the values, behind these symbols
 abbrev pub word_fault : List Symbol → Place → Meaning → Option ModelFault
-word_fault before place meaning.End = None
 word_fault before place (meaning.Literal l) = refused_if (is_listed before (negated l)) (Token place Opposite)
-word_fault before place meaning.Beyond = None
 word_fault before place meaning.TooGreat = Some (Limit (Some place) Variables)
 word_fault before place meaning.Nothing = Some (Token place ModelLiteral)
+word_fault before place _ = None
 
 -- The fault of a symbol behind others: at most one status line; nothing of the values behind their 0; no literal whose negation was
 -- listed; no other lines; and a 0 where there are values.
@@ -79,14 +77,10 @@ fault_at before (word place m) = if list_any ends_values before then Some (Token
 fault_at before (other place) = Some (Token place ModelLine)
 fault_at before (end place) = refused_if (list_any opens_values before && not (list_any ends_values before)) (Token place ModelZero)
 
-abbrev pub fault_or : Option ModelFault → Option ModelFault → Option ModelFault
-fault_or (Some fault) later = Some fault
-fault_or None later = later
-
 -- the first fault of symbols behind others
 abbrev pub first_fault : List Symbol → List Symbol → Option ModelFault
 first_fault before [] = None
-first_fault before (s ∷ ss) = fault_or (fault_at before s) (first_fault (before ++ s ∷ []) ss)
+first_fault before (s ∷ ss) = option_or (fault_at before s) (first_fault (before ++ s ∷ []) ss)
 
 abbrev pub told_by : Option ModelFault → Model → Result Model ModelFault
 told_by (Some fault) m = Err fault

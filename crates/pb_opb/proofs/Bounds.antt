@@ -1,5 +1,6 @@
 -- A problem that a text says within the limits is one that each call may take.
 use Rattle.std.proofs.Common.{option_map, unsigned_abs, ◌≡◌, ℕ, ◌≤◌, ◌<◌, ◌+◌, ◌^◌, List, [], ◌∷◌, ◌++◌, map, Bool, true, false, cond, Option, Some, None, ℤ, sym, refl, ap, ◌∙◌, subst, arith}
+use Rattle.std.specs.Option.{unwrap_or}
 use Rattle.std.specs.Prelude.{codes, ◌==◌, All, IfSome, MatchOption, length}
 use Rattle.std.specs.List.{AllByRecursion, flat_map, list_any, position_or_len}
 use Rattle.std.specs.Str.{bytes_eq}
@@ -23,7 +24,7 @@ use Rattle.pb_named.specs.Names.Name.{index, free}
 use Rattle.pb_named.specs.declared.products.Factor.{Factor}
 use Rattle.pb_named.specs.declared.products.Factor.TheVariants.{Nought, Single, Product}
 use Rattle.pb_named.specs.Products.{product_in, same_product}
-use Rattle.pb_named.specs.NamedProblems.{Table, size, table_of, all_names, all_terms, terms_or_none, var_of, lit_of, factor, products_in, products_of, product_lit, terms_by, terms_of, statement_of, problem_of}
+use Rattle.pb_named.specs.NamedProblems.{Table, size, table_of, all_names, all_terms, var_of, lit_of, factor, products_in, products_of, product_lit, terms_by, terms_of, statement_of, problem_of}
 use Rattle.pb_named.specs.inner.Numbering.{IsKnown, IsTermKnown, AreKnown}
 use Rattle.pb_named.proofs.Appends.{all-front, all-behind}
 use Rattle.pb_named.proofs.FirstsLemmas.{firsts-found}
@@ -233,7 +234,7 @@ module _ (t : Table) (products : List (List Lit)) where
       let here = light.0 in
       All-cons (StaysBelow (2 ^ 100)) (statement_of t products s) (map (statement_of t products) ss) (omega (arith, here, terms-magnitude s.terms)) (numbers-within ss light.1)
 
-  objective-within : (o : Option (List NamedTerm)) → AllByRecursion (IsTermWithin t) (terms_or_none o) → AllByRecursion (IsFound products) (products_in t (terms_or_none o)) → IfSome o (λ ts. literal_count ts ≤ 2 ^ 20) → IfSome o (λ ts. named_magnitude ts + 0 < 2 ^ 100) →
+  objective-within : (o : Option (List NamedTerm)) → AllByRecursion (IsTermWithin t) (unwrap_or o []) → AllByRecursion (IsFound products) (products_in t (unwrap_or o [])) → IfSome o (λ ts. literal_count ts ≤ 2 ^ 20) → IfSome o (λ ts. named_magnitude ts + 0 < 2 ^ 100) →
       MatchOption (option_map (terms_of t products) o) (Unit {0}) (λ ts. IsSumWithin vars ts × (magnitude ts < 2 ^ 100))
   objective-within None within found short light = tt
   objective-within (Some ns) within found short light = (sum-within ns within found short, omega (arith, light, terms-magnitude ns))
@@ -286,7 +287,7 @@ all-terms-within t (s ∷ ss) from known short =
     (terms-within t s.terms (all-front AtName (sum_kinds s.terms) tail (all-front AtName (statement_kinds s) (flat_map statement_kinds ss) from)) (All-head K s ss known) short.0)
     (all-terms-within t ss (all-behind AtName (statement_kinds s) (flat_map statement_kinds ss) from) (All-tail K s ss known) short.1)
 
-objective-terms-within : (t : Table) (o : Option (List NamedTerm)) → AllByRecursion AtName (objective_kinds o) → AreKnown t (terms_or_none o) → IfSome o (λ ts. literal_count ts ≤ 2 ^ 20) → AllByRecursion (IsTermWithin t) (terms_or_none o)
+objective-terms-within : (t : Table) (o : Option (List NamedTerm)) → AllByRecursion AtName (objective_kinds o) → AreKnown t (unwrap_or o []) → IfSome o (λ ts. literal_count ts ≤ 2 ^ 20) → AllByRecursion (IsTermWithin t) (unwrap_or o [])
 objective-terms-within t None from known short = tt
 objective-terms-within t (Some ns) from known short = terms-within t ns (all-front AtName (sum_kinds ns) (semicolon ∷ []) from.1) known short
 
@@ -299,16 +300,16 @@ written-within text told w spells keeps few =
     let begin = all-front AtName (objective_kinds w.objective ++ flat_map statement_kinds w.statements) (end ∷ []) from in
     let first = objective-terms-within t w.objective (all-front AtName (objective_kinds w.objective) (flat_map statement_kinds w.statements) begin) (known-objective told w t refl) (keeps Terms).objective in
     let rest = all-terms-within t w.statements (all-behind AtName (objective_kinds w.objective) (flat_map statement_kinds w.statements) begin) (known-all_statements told w t refl) (keeps Terms).statements in
-    let found = subst (AllByRecursion (IsFound products)) (products-append t (terms_or_none w.objective) statements) (firsts-found same_product same_product-refl [] (products_in t (all_terms w))) in
+    let found = subst (AllByRecursion (IsFound products)) (products-append t (unwrap_or w.objective []) statements) (firsts-found same_product same_product-refl [] (products_in t (all_terms w))) in
     let count = (keeps Statements).count in
     record {
       vars = few;
       named = refl;
-      products = to-all (IsProduct t) products (firsts-all (IsProduct t) [] (products_in t (all_terms w)) tt (products-within t (all_terms w) (all-append (IsTermWithin t) (terms_or_none w.objective) statements first rest)));
+      products = to-all (IsProduct t) products (firsts-all (IsProduct t) [] (products_in t (all_terms w)) tt (products-within t (all_terms w) (all-append (IsTermWithin t) (unwrap_or w.objective []) statements first rest)));
       count = omega (arith, count, same-length (statement_of t products) w.statements);
-      sums = statements-within t products w.statements rest (all-behind (IsFound products) (products_in t (terms_or_none w.objective)) (products_in t statements) found) (keeps Terms).statements;
+      sums = statements-within t products w.statements rest (all-behind (IsFound products) (products_in t (unwrap_or w.objective [])) (products_in t statements) found) (keeps Terms).statements;
       numbers = numbers-within t products w.statements (keeps Weight).statements;
-      objective = objective-within t products w.objective first (all-front (IsFound products) (products_in t (terms_or_none w.objective)) (products_in t statements) found) (keeps Terms).objective (keeps Weight).objective;
+      objective = objective-within t products w.objective first (all-front (IsFound products) (products_in t (unwrap_or w.objective [])) (products_in t statements) found) (keeps Terms).objective (keeps Weight).objective;
     }
 
 pub reads-within : (text : List ℕ) (p : Problem) → Reads text p → IsWithinLimits p

@@ -29,26 +29,24 @@ kinds-symbols [] = refl
 kinds-symbols (t ∷ ts) = ap (λ (ks : List Kind). kind_of t.text ∷ ks) (kinds-symbols ts)
 
 -- a token of a text, after others
-abbrev token_at : (text : List ℕ) (before : List Piece) (place : Place) (k : Kind) (after : List Symbol) → symbols_of text ≡ map symbol before ++ record { place = place; kind = k } ∷ after → IsAt text place
-token_at text before place k after cut = record { before = map symbol before; here = k; after = after; cut = cut }
+abbrev token_at : (text : List ℕ) (before : List Piece) (place : Place) (k : Kind) (after : List Symbol) → IsAdmitted text →
+    symbols_of text ≡ map symbol before ++ record { place = place; kind = k } ∷ after → IsWithinEach (piece_kinds before) → IsAt text place
+token_at text before place k after admitted cut fine =
+    record { admitted = admitted; before = map symbol before; here = k; after = after; cut = cut; fine = subst IsWithinEach (sym (kinds-symbols before)) fine }
 
 wrong : (text : List ℕ) (before : List Piece) (place : Place) (k : Kind) (after : List Symbol) (refusal : Refusal) → IsAdmitted text →
     symbols_of text ≡ map symbol before ++ record { place = place; kind = k } ∷ after → Refuses (piece_kinds before) k refusal → IsTokenFault text (fault_at place refusal)
 wrong text before place k after (Unexpected e) admitted cut refused =
     let same = kinds-symbols before in
     record {
-      admitted = admitted;
-      at = token_at text before place k after cut;
-      fine = subst IsWithinEach (sym same) refused.2;
+      at = token_at text before place k after admitted cut refused.2;
       wrong = λ begins. refused.0 (subst (λ (ks : List Kind). Begins (ks ++ k ∷ [])) same begins);
       expects = subst (Expects e) (sym same) refused.1;
     }
 wrong text before place k after (Limit which) admitted cut refused =
     let same = kinds-symbols before in
     record {
-      admitted = admitted;
-      at = token_at text before place k after cut;
-      fine = subst IsWithinEach (sym same) refused.3;
+      at = token_at text before place k after admitted cut refused.3;
       accepted = subst (λ (ks : List Kind). Begins (ks ++ k ∷ [])) (sym same) refused.0;
       over = λ begins. refused.1 (subst (λ (ks : List Kind). BeginsWithin which (ks ++ k ∷ [])) same begins);
       first = λ e earlier. subst (λ (ks : List Kind). BeginsWithin e (ks ++ k ∷ [])) (sym same) (refused.2 e earlier);

@@ -53,7 +53,6 @@ cuts (d ∷ b) (e ∷ c) s t x y same =
 -- where reading stops: some limit can no longer be kept
 pub record Stops (text : List ℕ) (place : Place) : Type 0 where
   pub at : IsAt text place
-  pub fine : IsWithinEach (kinds at.before)
   pub which : LimitKind
   pub over : BeginsWithin which (so_far at) → ⊥
 
@@ -61,17 +60,17 @@ abbrev stop_of : {text : List ℕ} {place : Place} → Stops text place → Symb
 stop_of {text} {place} s = record { place = place; kind = s.at.here }
 
 abbrev wrong-stops : (text : List ℕ) (place : Place) (e : Expected) → IsWrong text place e → Stops text place
-wrong-stops text place e w = record { at = w.at; fine = w.fine; which = Weight; over = λ within. (let (p, rest, keeps, same) = within in w.wrong (p, rest, same)) }
+wrong-stops text place e w = record { at = w.at; which = Weight; over = λ within. (let (p, rest, keeps, same) = within in w.wrong (p, rest, same)) }
 
 abbrev great-stops : (text : List ℕ) (place : Place) (which : LimitKind) → IsTooGreat text place which → Stops text place
-great-stops text place which g = record { at = g.at; fine = g.fine; which = which; over = g.over }
+great-stops text place which g = record { at = g.at; which = which; over = g.over }
 
 kinds-earlier : (b c : List Symbol) (s : Symbol) (e : Earlier b s c) → kinds c ≡ (kinds b ++ s.kind ∷ []) ++ kinds e.more
 kinds-earlier b c s e = ap kinds e.is ∙ map-append (λ (z : Symbol). z.kind) b (s ∷ e.more) ∙ sym (append_assoc (kinds b) (s.kind ∷ []) (kinds e.more))
 
 not-earlier : (text : List ℕ) (p q : Place) (s : Stops text p) (t : Stops text q) → Earlier s.at.before (stop_of s) t.at.before → ⊥
 not-earlier text p q s t e =
-    let (problem, rest, keeps, same) = t.fine s.which in
+    let (problem, rest, keeps, same) = t.at.fine s.which in
     s.over (problem, kinds e.more ++ rest, keeps, same ∙ ap (λ (ks : List Kind). ks ++ rest) (kinds-earlier s.at.before t.at.before (stop_of s) e) ∙ append_assoc (so_far s.at) (kinds e.more) rest)
 
 same-stop : (text : List ℕ) (p q : Place) (s : Stops text p) (t : Stops text q) → (s.at.before ≡ t.at.before) × (stop_of s ≡ stop_of t)
@@ -217,7 +216,7 @@ module _ (text : List ℕ) (p q : Place) where
       let place = same-place text p q s t in
       let before = (same-stop text p q s t).0 in
       let going = kinds-go b.at.before (words-go (tokens_of text) (record { place = end_of text; kind = end }) b.at.before (record { place = q; kind = b.at.here }) b.at.after b.at.cut) in
-      let (problem, rest, keeps, same) = b.fine Weight in
+      let (problem, rest, keeps, same) = b.at.fine Weight in
       let goes = goes-by (kinds b.at.before) problem rest going same in
       let expected = same-expected (kinds b.at.before) d e goes (subst (λ (ss : List Symbol). Expects d (kinds ss)) before a.expects) b.expects in
       λ i. Token (place i) (expected i)
@@ -255,14 +254,14 @@ great-many : (text : List ℕ) (p q : Place) (v : LimitKind) → IsTooGreat text
 great-many text p q v a b = let none = spells-no_fault text b.says.written (Limit (Some p) v) b.says.spells b.keeps a in cc
 
 wrong-at : (text : List ℕ) (p q : Place) (e : Expected) (w : LimitKind) → IsWrong text p e → AtPlace text q w → ⊥
-wrong-at text p q e w a (inl (is, inl many)) = too_many text q many a.admitted
+wrong-at text p q e w a (inl (is, inl many)) = too_many text q many a.at.admitted
 wrong-at text p q e w a (inl (is, inr many)) = wrong-many text p q e a many
 wrong-at text p q e w a (inr great) = wrong-great text p q e w a great
 
 bytes-at : (text : List ℕ) (q : Place) (w : LimitKind) → AtPlace text q w → length text ≤ 2 ^ 32
 bytes-at text q w (inl (is, inl many)) = many.bytes
 bytes-at text q w (inl (is, inr many)) = many.admitted.bytes
-bytes-at text q w (inr great) = great.admitted.bytes
+bytes-at text q w (inr great) = great.at.admitted.bytes
 
 limits-at : {p q : Place} {v w : LimitKind} → p ≡ q → v ≡ w → Limit (Some p) v ≡ Limit (Some q) w
 limits-at place limit = λ i. Limit (Some (place i)) (limit i)
@@ -272,9 +271,9 @@ two-at text p q v w (inl (is, inl a)) (inl (so, inl b)) = limits-at (many-place 
 two-at text p q v w (inl (is, inl a)) (inl (so, inr b)) = absurd (too_many text p a b.admitted)
 two-at text p q v w (inl (is, inr a)) (inl (so, inl b)) = absurd (too_many text q b a.admitted)
 two-at text p q v w (inl (is, inr a)) (inl (so, inr b)) = limits-at (a.last ∙ sym b.last) (is ∙ sym so)
-two-at text p q v w (inl (is, inl a)) (inr b) = absurd (too_many text p a b.admitted)
+two-at text p q v w (inl (is, inl a)) (inr b) = absurd (too_many text p a b.at.admitted)
 two-at text p q v w (inl (is, inr a)) (inr b) = absurd (great-many text q p w b a)
-two-at text p q v w (inr a) (inl (so, inl b)) = absurd (too_many text q b a.admitted)
+two-at text p q v w (inr a) (inl (so, inl b)) = absurd (too_many text q b a.at.admitted)
 two-at text p q v w (inr a) (inl (so, inr b)) = absurd (great-many text p q v a b)
 two-at text p q v w (inr a) (inr b) = two-great text p q v w a b
 
@@ -285,9 +284,9 @@ one_fault text (Token p d) NoMemory nf ng a b = absurd (ng refl)
 one_fault text (Limit None v) NoMemory nf ng a b = absurd (ng refl)
 one_fault text (Limit (Some p) v) NoMemory nf ng a b = absurd (ng refl)
 one_fault text (Token p d) (Token q e) nf ng a b = two-wrong text p q d e a b
-one_fault text (Token p d) (Limit None w) nf ng a b = absurd (short text 0 a.admitted.bytes b.1)
+one_fault text (Token p d) (Limit None w) nf ng a b = absurd (short text 0 a.at.admitted.bytes b.1)
 one_fault text (Token p d) (Limit (Some q) w) nf ng a b = absurd (wrong-at text p q d w a b)
-one_fault text (Limit None v) (Token q e) nf ng a b = absurd (short text 0 b.admitted.bytes a.1)
+one_fault text (Limit None v) (Token q e) nf ng a b = absurd (short text 0 b.at.admitted.bytes a.1)
 one_fault text (Limit None v) (Limit None w) nf ng a b = ap (Limit None) (a.0 ∙ sym b.0)
 one_fault text (Limit None v) (Limit (Some q) w) nf ng a b = absurd (short text 0 (bytes-at text q w b) a.1)
 one_fault text (Limit (Some p) v) (Token q e) nf ng a b = absurd (wrong-at text q p e v b a)

@@ -1,5 +1,5 @@
 -- What a text says, and its first fault (our own).
-use Rattle.std.specs.Prelude.{◌≡◌, ◌↔◌, ◌⊎◌, IsTrue, ℕ, ◌<◌, ◌≤◌, ◌^◌, List, [], ◌∷◌, ◌++◌, length, map, Option, Some, None, Bool, true, false}
+use Rattle.std.specs.Prelude.{◌≡◌, ◌↔◌, ◌⊎◌, IsTrue, ℕ, ◌<◌, ◌≤◌, ◌^◌, List, [], ◌∷◌, ◌++◌, length, map, Option, Some, None, IsSomeAnd, Bool, true, false}
 use Rattle.pb_base.specs.declared.place.Place.{Place}
 use Rattle.pb_base.specs.declared.problem.Problem.{Problem}
 use Rattle.pb_base.specs.Problems.{originals}
@@ -57,8 +57,7 @@ pub record Reads (text : List ℕ) (p : Problem) : Type 0 where
 
 -- too many variables are told, at this place of the first line
 abbrev pub IsManyAt : Option Count → Place → Type 0
-IsManyAt None place = ⊥
-IsManyAt (Some c) place = (2 ^ 31 ≤ c.vars) × (place ≡ record { line = 1; column = c.column })
+IsManyAt first place = IsSomeAnd first (λ c. (2 ^ 31 ≤ c.vars) × (place ≡ record { line = 1; column = c.column }))
 
 -- The text is not too long, but its first line tells too many variables.
 pub record TellsTooMany (text : List ℕ) (place : Place) : Type 0 where
@@ -105,34 +104,31 @@ tells _ _ = true
 abbrev pub Expects : Expected → List Kind → Type 0
 Expects e before = (k : Kind) → IsTrue (tells e k) → (Begins (before ++ k ∷ []) ↔ IsTrue (allows e k))
 
--- a token of the text, with those before it
+-- a token of an admitted text, behind others that begin an accepted text within the limits
 pub record IsAt (text : List ℕ) (place : Place) : Type 0 where
+  pub admitted : IsAdmitted text
   pub before : List Symbol
   pub here : Kind
   pub after : List Symbol
   pub cut : symbols_of text ≡ before ++ record { place = place; kind = here } ∷ after
+  pub fine : IsWithinEach (kinds before)
 
 abbrev pub so_far : {text : List ℕ} {place : Place} → IsAt text place → List Kind
 so_far at = kinds at.before ++ at.here ∷ []
 
--- The tokens before the place begin an accepted text within the limits, with the token there they begin none, and this is what could stand there.
+-- With the token there the tokens begin no accepted text, and this is what could stand there.
 pub record IsWrong (text : List ℕ) (place : Place) (e : Expected) : Type 0 where
-  pub admitted : IsAdmitted text
   pub at : IsAt text place
-  pub fine : IsWithinEach (kinds at.before)
   pub wrong : ¬ Begins (so_far at)
   pub expects : Expects e (kinds at.before)
 
--- The tokens before the place begin an accepted text within the limits, and with the token there an accepted text, but none within this limit; limits that are told earlier are kept.
+-- With the token there the tokens begin an accepted text, but none within this limit; limits that are told earlier are kept.
 pub record IsTooGreat (text : List ℕ) (place : Place) (which : LimitKind) : Type 0 where
-  pub admitted : IsAdmitted text
   pub at : IsAt text place
-  pub fine : IsWithinEach (kinds at.before)
   pub accepted : Begins (so_far at)
   pub over : ¬ BeginsWithin which (so_far at)
   pub first : (earlier : LimitKind) → rank earlier < rank which → BeginsWithin earlier (so_far at)
 
--- the first fault of a text
 abbrev pub IsFirstFault : List ℕ → OpbFault → Type 0
 IsFirstFault text (Token place e) = IsWrong text place e
 IsFirstFault text (Limit None which) = (which ≡ Text) × (2 ^ 32 < length text)

@@ -30,7 +30,6 @@ IsNear l = index_in l.name < 2 ^ 31
 abbrev pub IsModest : NamedLit → Type 0
 IsModest l = name_len l.name ≤ 255
 
--- this holds of each literal
 abbrev pub AllLits : (NamedLit → Type 0) → List NamedTerm → Type 0
 AllLits P ts = AllByRecursion (λ t. AllByRecursion P (lits_of t)) ts
 

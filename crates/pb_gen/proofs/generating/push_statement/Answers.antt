@@ -3,7 +3,7 @@ use Rattle.std.specs.Fmt.{signed_decimal}
 use Rattle.std.specs.List.{flat_map}
 use Rattle.pb_base.specs.Problems.{magnitude}
 use Rattle.pb_gen.specs.Draws.{draw, state_after}
-use Rattle.pb_gen.specs.Drawn.{drawn_count, drawn_kind, drawn_right, drawn_terms, is_weighted, kind_by, relation_of, right_draws, term_draws}
+use Rattle.pb_gen.specs.Drawn.{drawn_count, drawn_kind, drawn_right, drawn_terms, is_weighted, kind_by, relation_of, term_draws, weight_draws}
 use Rattle.pb_gen.specs.Generated.{relation_text, term_text}
 use Rattle.pb_gen.proofs.Drawing.{statement_end}
 use Rattle.pb_gen.proofs.generating.push_statement.Goals as goal
@@ -29,7 +29,7 @@ pub returns-clause-state : goal.returns-clause-state
 returns-clause-state c =
     let s = c.args.draws.now.state in
     let w = is_weighted (drawn_kind s) in
-    c.draw_right-right.ensures.state ∙ (λ i. state_after (right_draws (is_weighted (kind c i))) (behind c i)) ∙ statement_end (drawn_count s * term_draws w) (right_draws w) s
+    c.draw_right-right.ensures.state ∙ (λ i. state_after (weight_draws (is_weighted (kind c i))) (behind c i)) ∙ statement_end (drawn_count s * term_draws w) (weight_draws w) s
 
 regroup : (out a b c d : List ℕ) → out ++ a ++ b ++ c ++ d ≡ out ++ (a ++ b ++ c ++ d)
 regroup out a b c d = simp append_assoc
