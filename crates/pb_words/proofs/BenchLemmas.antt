@@ -1,22 +1,14 @@
 -- What the words of `bench` keep.
-use Rattle.std.proofs.Common.{◌≡◌, ◌≤◌, ℕ, List, Option, Some, None, codes, option_and_then, refl, arith}
-use Rattle.std.proofs.lemmas.Bool.Decides.{nat_tests}
+use Rattle.std.proofs.Common.{◌≡◌, ◌≤◌, ℕ, List, Option, Some, None, codes, option_and_then, refl}
 use Rattle.clap.specs.Words.{Row, Text, first_of}
-use Rattle.pb_base.specs.Numbers.{natural_of}
 use Rattle.pb_words.specs.BenchWords.{bench_from, bench_in, number_in, BenchWords}
-use Rattle.pb_words.specs.Digits.{number_within, within}
+use Rattle.pb_words.specs.Digits.{number_within}
 use Rattle.pb_words.specs.inner.Fit.{IsFitBench}
-
-within_most : (most n m : ℕ) → within 0 most n ≡ Some m → m ≤ most
-within_most most n m e = grind (arith, nat_tests, e)
-
-read_most : (most : ℕ) (o : Option ℕ) (m : ℕ) → option_and_then (within 0 most) o ≡ Some m → m ≤ most
-read_most most None m e = cc
-read_most most (Some n) m e = within_most most n m e
+use Rattle.pb_words.proofs.DigitLemmas.{in_range}
 
 word_most : (most : ℕ) (o : Option Text) (m : ℕ) → option_and_then (number_within 0 most) o ≡ Some m → m ≤ most
 word_most most None m e = cc
-word_most most (Some word) m e = read_most most (natural_of word) m e
+word_most most (Some word) m e = (in_range 0 most word m e).1
 
 fit_from : (count seed : Option ℕ) (cnf : Option Text) (w : BenchWords) → ((n : ℕ) → count ≡ Some n → n ≤ 1000000) → ((n : ℕ) → seed ≡ Some n → n ≤ 4294967295)
     → bench_from count seed cnf ≡ Some w → IsFitBench w

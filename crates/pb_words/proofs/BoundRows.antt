@@ -37,7 +37,7 @@ a_bound_to_decode : said (codes "pbcnf decode a --at-most=2 b") ≡ Some (Decode
 unfolding parsed_of clap_on_literals
 a_bound_to_decode = refl
 
-a_bound_to_refute : said (codes "pbcnf refute a b c d --at-most-minus=1") ≡ Some (Refute (record { opb = codes "a"; cnf = codes "b"; proof = codes "c"; lrat = codes "d"; bound = Some (negsuc 0) }))
+a_bound_to_refute : said (codes "pbcnf refute a b c d --at-most-minus=1") ≡ Some (Refute (record { checked = record { opb = codes "a"; cnf = codes "b"; proof = codes "c"; bound = Some (negsuc 0) }; lrat = codes "d" }))
 unfolding parsed_of clap_on_literals
 a_bound_to_refute = refl
 

@@ -127,7 +127,7 @@ unfolding parsed_of clap_on_literals
 three_texts = refl
 
 abbrev refute : Text → Text → Text → Text → Option Wanted
-refute opb cnf proof lrat = Some (Refute (record { opb = opb; cnf = cnf; proof = proof; lrat = lrat; bound = None }))
+refute opb cnf proof lrat = Some (Refute (record { checked = record { opb = opb; cnf = cnf; proof = proof; bound = None }; lrat = lrat }))
 
 four_texts : said (codes "pbcnf refute a b c d") ≡ refute (codes "a") (codes "b") (codes "c") (codes "d")
 unfolding parsed_of clap_on_literals

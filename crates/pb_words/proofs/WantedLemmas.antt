@@ -1,5 +1,5 @@
 -- What the requests keep that are taken.
-use Rattle.std.proofs.Common.{◌≡◌, Bool, true, false, List, [], ◌∷◌, Option, Some, None, cond, codes, option_map, refl, subst, sym}
+use Rattle.std.proofs.Common.{◌≡◌, Bool, true, false, List, [], ◌∷◌, Option, Some, None, cond, codes, length, option_and_then, option_map, ◌==◌, refl, subst, sym, ◌∙◌}
 use Rattle.std.specs.Str.{bytes_eq}
 use Rattle.clap.specs.Words.{Kinds, Row, Text, fault_of, subcommand_of}
 use Rattle.pb_words.specs.BenchWords.{bench_in}
@@ -7,7 +7,7 @@ use Rattle.pb_words.specs.CheckWords.{check_in}
 use Rattle.pb_words.specs.DecodeWords.{decode_in}
 use Rattle.pb_words.specs.EncodeWords.{encode_in}
 use Rattle.pb_words.specs.inner.Fit.{IsFit}
-use Rattle.pb_words.specs.Parsed.{is_faultless, program_app, parsed_of, wanted_by, wanted_in, Wanted}
+use Rattle.pb_words.specs.Parsed.{program_app, parsed_of, wanted_in, Wanted}
 use Rattle.pb_words.specs.Parsed.Wanted.{Encode, Check, Decode, Probe, Bench, Refute, Map, Wcnf}
 use Rattle.pb_words.specs.MapWords.{map_in}
 use Rattle.pb_words.specs.ProbeWords.{probe_in}
@@ -15,6 +15,7 @@ use Rattle.pb_words.specs.RefuteWords.{refute_in}
 use Rattle.pb_words.specs.WcnfWords.{wcnf_in}
 use Rattle.pb_words.proofs.BenchLemmas.{bench_fit}
 use Rattle.pb_words.proofs.EncodeLemmas.{encode_fit}
+use Rattle.pb_words.proofs.TakenLemmas.{found}
 
 -- the command of one name, or one of the others
 one_or : (named : Bool) (own others : Option Wanted) (w : Wanted) → (own ≡ Some w → IsFit w) → (others ≡ Some w → IsFit w)
@@ -32,7 +33,7 @@ fit_as make (Some x) w fits e =
     subst IsFit (sym same) (fits x refl)
 fit_as make None w fits e = cc
 
-fit_in : (name : Text) (given : List Row) (w : Wanted) → wanted_in name given ≡ Some w → IsFit w
+fit_in : (name : Text) (given : List Row) (w : Wanted) → wanted_in (name, given) ≡ Some w → IsFit w
 fit_in name given w =
     one_or (bytes_eq name (codes "encode")) _ _ w (fit_as Encode (encode_in given) w (encode_fit given))
     (one_or (bytes_eq name (codes "check")) _ _ w (fit_as Check (check_in given) w (λ x is. tt))
@@ -43,13 +44,13 @@ fit_in name given w =
     (one_or (bytes_eq name (codes "map")) _ _ w (fit_as Map (map_in given) w (λ x is. tt))
     (one_or (bytes_eq name (codes "wcnf")) _ _ w (fit_as Wcnf (wcnf_in given) w (λ x is. tt)) (none_left w))))))))
 
-fit_by : (command : Option (Text × List Row)) (w : Wanted) → wanted_by command ≡ Some w → IsFit w
+fit_by : (command : Option (Text × List Row)) (w : Wanted) → option_and_then wanted_in command ≡ Some w → IsFit w
 fit_by None w e = cc
-fit_by (Some command) w e = fit_in command.0 command.1 w e
+fit_by (Some (name, given)) w e = fit_in name given w e
 
-faultless : (kinds : Kinds) (o : Option Wanted) (w : Wanted) → cond (is_faultless kinds) o None ≡ Some w → o ≡ Some w
+faultless : (kinds : Kinds) (o : Option Wanted) (w : Wanted) → cond (length kinds == 0) o None ≡ Some w → o ≡ Some w
 faultless [] o w e = e
-faultless (kind ∷ kinds) o w e = cc
+faultless (kind ∷ kinds) o w e = let none : None ≡ Some w = sym (found kind kinds o) ∙ e in cc
 
 -- the names of what is asked for are different, and its numbers are within their ranges
 pub taken_is_fit : (words : List Text) (w : Wanted) → parsed_of words ≡ Some w → IsFit w

@@ -1,11 +1,10 @@
--- The words of `bench`. Our own.
+-- What `bench N SEED [CNF]` asks for. Our own.
 use Rattle.std.specs.Prelude.{ℕ, List, [], ◌∷◌, Option, Some, None, codes, option_and_then, option_map}
-use Rattle.clap.specs.Words.{App, Row, Text, first_of}
+use Rattle.clap.specs.Words.{App, Row, Text, first_of, new_rule as optional_rule}
 use Rattle.pb_words.specs.declared.bench.BenchArgs.{BenchArgs}
 use Rattle.pb_words.specs.Digits.{number_within}
-use Rattle.pb_words.specs.Rules.{command_of, name_rule, optional_rule}
+use Rattle.pb_words.specs.Rules.{command_of, name_rule}
 
--- `bench N SEED [CNF]`
 abbrev pub bench_app : App
 bench_app = command_of (codes "bench") (name_rule (codes "n") ∷ name_rule (codes "seed") ∷ optional_rule (codes "cnf") ∷ [])
 
@@ -22,7 +21,6 @@ abbrev pub bench_from : Option ℕ → Option ℕ → Option Text → Option Ben
 bench_from (Some count) (Some seed) cnf = Some (record { count = count; seed = seed; cnf = cnf })
 bench_from _ _ cnf = None
 
--- what `bench` is asked for, to which these arguments were given
 abbrev pub bench_in : List Row → Option BenchWords
 bench_in given = bench_from (number_in 1000000 (codes "n") given) (number_in 4294967295 (codes "seed") given) (first_of (codes "cnf") given)
 

@@ -1,27 +1,21 @@
 -- A bound on the objective, in words. Our own.
-use Rattle.std.specs.Prelude.{◌-◌, ◌^◌, ℕ, ℤ, pos, neg_ℤ, List, [], ◌∷◌, Option, Some, None, codes, option_map}
+use Rattle.std.specs.Prelude.{◌-◌, ◌^◌, ℕ, ℤ, pos, neg_ℤ, List, [], ◌∷◌, Option, Some, None, codes, map, option_map}
 use Rattle.clap.specs.Words.{Row, Rule, Text, first_of}
 use Rattle.pb_words.specs.Digits.{number_within}
 use Rattle.pb_words.specs.Rules.{option_rule}
 
 abbrev pub bound_rules : List Rule
-bound_rules = option_rule (codes "at-most") ∷ option_rule (codes "at-most-minus") ∷ []
+bound_rules = map option_rule (codes "at-most" ∷ codes "at-most-minus" ∷ [])
 
 -- digits alone, below 2 ^ 100
 abbrev pub magnitude_of : Text → Option ℕ
 magnitude_of = number_within 0 (2 ^ 100 - 1)
 
-abbrev pub above_zero : ℕ → Option ℤ
-above_zero n = Some (pos n)
-
-abbrev pub below_zero : ℕ → Option ℤ
-below_zero n = Some (neg_ℤ (pos n))
-
 -- a bound, if one is given; both options are too many
 abbrev pub bound_from : Option Text → Option Text → Option (Option ℤ)
 bound_from None None = Some None
-bound_from (Some word) None = option_map above_zero (magnitude_of word)
-bound_from None (Some word) = option_map below_zero (magnitude_of word)
+bound_from (Some word) None = option_map (λ n. Some (pos n)) (magnitude_of word)
+bound_from None (Some word) = option_map (λ n. Some (neg_ℤ (pos n))) (magnitude_of word)
 bound_from (Some word) (Some other) = None
 
 -- the bound of a command to which these arguments were given, if it has one

@@ -1,4 +1,4 @@
--- The words of `check`. Our own.
+-- What `check OPB CNF PROOF`, with a bound, asks for. Our own.
 use Rattle.std.specs.Prelude.{ℤ, List, ◌∷◌, [], Option, Some, None, if◌then◌else◌, codes}
 use Rattle.clap.specs.Words.{App, Row, Text, first_of}
 use Rattle.pb_words.specs.declared.check.CheckArgs.{CheckArgs}
@@ -6,7 +6,6 @@ use Rattle.pb_words.specs.BoundWords.{bound_in, bound_rules}
 use Rattle.pb_words.specs.Names.{are_different}
 use Rattle.pb_words.specs.Rules.{command_of, name_rule}
 
--- `check OPB CNF PROOF` and a bound
 abbrev pub check_app : App
 check_app = command_of (codes "check") (name_rule (codes "opb") ∷ name_rule (codes "cnf") ∷ name_rule (codes "proof") ∷ bound_rules)
 
@@ -16,13 +15,11 @@ pub record CheckWords : Type 0 where
   pub proof : Text
   pub bound : Option ℤ
 
--- the three names, of which no two are equal, and a bound if one was given
 abbrev pub check_from : Option Text → Option Text → Option Text → Option (Option ℤ) → Option CheckWords
 check_from (Some opb) (Some cnf) (Some proof) (Some bound) =
     if are_different (opb ∷ cnf ∷ proof ∷ []) then Some (record { opb = opb; cnf = cnf; proof = proof; bound = bound }) else None
 check_from _ _ _ _ = None
 
--- what `check` is asked for, to which these arguments were given
 abbrev pub check_in : List Row → Option CheckWords
 check_in given = check_from (first_of (codes "opb") given) (first_of (codes "cnf") given) (first_of (codes "proof") given) (bound_in given)
 

@@ -1,4 +1,4 @@
--- The words of `decode`. Our own.
+-- What `decode OPB MODEL`, with a bound, asks for. Our own.
 use Rattle.std.specs.Prelude.{ℤ, List, ◌∷◌, [], Option, Some, None, if◌then◌else◌, codes}
 use Rattle.clap.specs.Words.{App, Row, Text, first_of}
 use Rattle.pb_words.specs.declared.decode.DecodeArgs.{DecodeArgs}
@@ -6,7 +6,6 @@ use Rattle.pb_words.specs.BoundWords.{bound_in, bound_rules}
 use Rattle.pb_words.specs.Names.{are_different}
 use Rattle.pb_words.specs.Rules.{command_of, name_rule}
 
--- `decode OPB MODEL` and a bound
 abbrev pub decode_app : App
 decode_app = command_of (codes "decode") (name_rule (codes "opb") ∷ name_rule (codes "model") ∷ bound_rules)
 
@@ -15,12 +14,10 @@ pub record DecodeWords : Type 0 where
   pub model : Text
   pub bound : Option ℤ
 
--- the two names, which are not equal, and a bound if one was given
 abbrev pub decode_from : Option Text → Option Text → Option (Option ℤ) → Option DecodeWords
 decode_from (Some opb) (Some model) (Some bound) = if are_different (opb ∷ model ∷ []) then Some (record { opb = opb; model = model; bound = bound }) else None
 decode_from _ _ _ = None
 
--- what `decode` is asked for, to which these arguments were given
 abbrev pub decode_in : List Row → Option DecodeWords
 decode_in given = decode_from (first_of (codes "opb") given) (first_of (codes "model") given) (bound_in given)
 

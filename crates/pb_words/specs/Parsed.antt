@@ -1,7 +1,7 @@
 -- Which words the program takes, and what they ask for: those in which clap finds no fault, by its own definitions.
-use Rattle.std.specs.Prelude.{◌≡◌, Bool, true, false, List, [], ◌∷◌, Option, Some, None, if◌then◌else◌, codes, option_map, option_and_then, Result, IfOk, IsErrOf}
+use Rattle.std.specs.Prelude.{◌≡◌, List, [], ◌∷◌, ◌==◌, length, Option, Some, None, if◌then◌else◌, codes, option_map, option_and_then, Result, IfOk, IsErrOf}
 use Rattle.std.specs.Str.{bytes_eq}
-use Rattle.clap.specs.Words.{App, Kinds, Row, Text, fault_of, subcommand_of}
+use Rattle.clap.specs.Words.{App, Row, Text, fault_of, subcommand_of}
 use Rattle.pb_words.specs.declared.fault.WordsFault.{WordsFault}
 use Rattle.pb_words.specs.declared.fault.WordsFault.TheVariants.{Usage}
 use Rattle.pb_words.specs.declared.request.Request.{Request}
@@ -32,8 +32,8 @@ pub data Wanted : Type 0 where
   Wcnf : WcnfWords → Wanted
 
 -- what the command of this name is asked for, to which these arguments were given
-abbrev pub wanted_in : Text → List Row → Option Wanted
-wanted_in name given =
+abbrev pub wanted_in : Text × List Row → Option Wanted
+wanted_in (name, given) =
     if bytes_eq name (codes "encode") then option_map Encode (encode_in given)
     else (if bytes_eq name (codes "check") then option_map Check (check_in given)
     else (if bytes_eq name (codes "decode") then option_map Decode (decode_in given)
@@ -43,19 +43,10 @@ wanted_in name given =
     else (if bytes_eq name (codes "map") then option_map Map (map_in given)
     else (if bytes_eq name (codes "wcnf") then option_map Wcnf (wcnf_in given) else None)))))))
 
--- the same, of the command that was given
-abbrev pub wanted_by : Option (Text × List Row) → Option Wanted
-wanted_by = option_and_then (λ command. wanted_in command.0 command.1)
-
--- no fault is found
-abbrev pub is_faultless : Kinds → Bool
-is_faultless [] = true
-is_faultless (kind ∷ kinds) = false
-
 -- what the words ask for, the program's name first, where clap finds no fault in them
 unfoldable pub parsed_of : List Text → Option Wanted
 parsed_of words =
-    if is_faultless (fault_of program_app words) then wanted_by (subcommand_of program_app words) else None
+    if length (fault_of program_app words) == 0 then option_and_then wanted_in (subcommand_of program_app words) else None
 
 -- what a request says
 abbrev pub wanted_as : Request → Wanted

@@ -1,4 +1,4 @@
--- The words of `probe`. Our own.
+-- What `probe CNF LIT ..` asks for. Our own.
 use Rattle.std.specs.Prelude.{List, [], ◌∷◌, Option, Some, None, codes, unwrap_or}
 use Rattle.clap.specs.Words.{App, Row, Text, all_of, first_of}
 use Rattle.pb_base.specs.declared.literal.Lit.{Lit}
@@ -6,7 +6,6 @@ use Rattle.pb_words.specs.declared.probe.ProbeArgs.{ProbeArgs}
 use Rattle.pb_words.specs.LitWords.{lits_in}
 use Rattle.pb_words.specs.Rules.{command_of, name_rule, words_rule}
 
--- `probe CNF LIT ..`
 abbrev pub probe_app : App
 probe_app = command_of (codes "probe") (name_rule (codes "cnf") ∷ words_rule (codes "lits") ∷ [])
 
@@ -18,7 +17,6 @@ abbrev pub probe_from : Option Text → Option (List Lit) → Option ProbeWords
 probe_from (Some cnf) (Some lits) = Some (record { cnf = cnf; lits = lits })
 probe_from _ _ = None
 
--- what `probe` is asked for, to which these arguments were given
 abbrev pub probe_in : List Row → Option ProbeWords
 probe_in given = probe_from (first_of (codes "cnf") given) (lits_in (unwrap_or (all_of (codes "lits") given) []))
 

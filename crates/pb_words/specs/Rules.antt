@@ -10,10 +10,6 @@ use Rattle.clap.specs.declared.builder.command.Command.TheViews.{out-Command}
 abbrev pub name_rule : Text → Rule
 name_rule id = record (new_rule id) { required = true }
 
--- a name that may be given
-abbrev pub optional_rule : Text → Rule
-optional_rule = new_rule
-
 -- any number of words, none included
 abbrev pub words_rule : Text → Rule
 words_rule id = record (new_rule id) { action = Some Append }
@@ -26,13 +22,9 @@ option_rule id = record (new_rule id) { long = Some id }
 abbrev pub flag_rule : Text → Rule
 flag_rule id = record (new_rule id) { long = Some id; action = Some SetTrue }
 
--- a command that takes these besides
-abbrev pub with_rules : App → List Rule → App
-with_rules = fold with_rule
-
 -- a command that takes these and no others
 abbrev pub command_of : Text → List Rule → App
-command_of name = with_rules (new_app name)
+command_of name = fold with_rule (new_app name)
 
 -- a program without commands, of which one has to be given; there is no help or version
 abbrev pub bare_program : Text → App

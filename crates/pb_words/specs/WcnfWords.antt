@@ -1,4 +1,4 @@
--- The words of `wcnf`. Our own.
+-- What `wcnf OPB WCNF`, with the options and a bound, asks for. Our own.
 use Rattle.std.specs.Prelude.{ℤ, List, [], ◌∷◌, ◌++◌, Option, Some, None, if◌then◌else◌, codes}
 use Rattle.clap.specs.Words.{App, Row, Text, first_of}
 use Rattle.pb_base.specs.declared.options.Options.{Options}
@@ -8,7 +8,6 @@ use Rattle.pb_words.specs.Names.{are_different}
 use Rattle.pb_words.specs.OptionWords.{option_rules, options_in}
 use Rattle.pb_words.specs.Rules.{command_of, name_rule}
 
--- `wcnf OPB WCNF`, the options and a bound
 abbrev pub wcnf_app : App
 wcnf_app = command_of (codes "wcnf") (name_rule (codes "opb") ∷ name_rule (codes "wcnf") ∷ (option_rules ++ bound_rules))
 
@@ -18,13 +17,11 @@ pub record WcnfWords : Type 0 where
   pub options : Options
   pub bound : Option ℤ
 
--- the two names, which are not equal, the options, and a bound if one was given
 abbrev pub wcnf_from : Option Text → Option Text → Option Options → Option (Option ℤ) → Option WcnfWords
 wcnf_from (Some opb) (Some wcnf) (Some options) (Some bound) =
     if are_different (opb ∷ wcnf ∷ []) then Some (record { opb = opb; wcnf = wcnf; options = options; bound = bound }) else None
 wcnf_from _ _ _ _ = None
 
--- what `wcnf` is asked for, to which these arguments were given
 abbrev pub wcnf_in : List Row → Option WcnfWords
 wcnf_in given = wcnf_from (first_of (codes "opb") given) (first_of (codes "wcnf") given) (options_in given) (bound_in given)
 

@@ -1,5 +1,5 @@
 //! The request that a command line makes.
-ghost use Rattle.std.specs.Prelude.{◌≡◌, ◌≢◌, IfOk, IsErrOf, None, Some, map, option_map, string_bytes};
+ghost use Rattle.std.specs.Prelude.{◌≡◌, ◌≢◌, IfOk, IsErrOf, None, Some, map, option_and_then, option_map, string_bytes};
 ghost use Rattle.clap.specs.Words.{found_of, kind_of, rows_of, subcommand_rows_of};
 ghost use Rattle.pb_words.specs.BenchWords.{bench_in};
 ghost use Rattle.pb_words.specs.CheckWords.{check_in};
@@ -8,7 +8,7 @@ ghost use Rattle.pb_words.specs.EncodeWords.{encode_in};
 ghost use Rattle.pb_words.specs.MapWords.{map_in};
 ghost use Rattle.pb_words.specs.ProbeWords.{probe_in};
 ghost use Rattle.pb_words.specs.RefuteWords.{refute_in};
-ghost use Rattle.pb_words.specs.Parsed.{parsed_of, wanted_as, wanted_by, wanted_in, Tells};
+ghost use Rattle.pb_words.specs.Parsed.{parsed_of, wanted_as, wanted_in, Tells};
 ghost use Rattle.pb_words.specs.Parsed.Wanted.{Encode, Check, Decode, Probe, Bench, Refute, Map, Wcnf};
 ghost use Rattle.pb_words.specs.WcnfWords.{wcnf_in};
 
@@ -113,7 +113,7 @@ fn request_in<'a>(
     name: &str,
     given: &ArgMatches<'a>,
 ) -> Result<Request<'a>, WordsFault>
-    ensures { Tells (wanted_in name.now (rows_of (found_of given.now))) result }
+    ensures { Tells (wanted_in (name.now, rows_of (found_of given.now))) result }
 {
     match name {
         "encode" => encode_request(given),
@@ -130,7 +130,7 @@ fn request_in<'a>(
 
 // What the command that was given was asked for.
 fn request_by<'a>(alloc: Global, matches: &ArgMatches<'a>) -> Result<Request<'a>, WordsFault>
-    ensures { Tells (wanted_by (subcommand_rows_of matches.now)) result }
+    ensures { Tells (option_and_then wanted_in (subcommand_rows_of matches.now)) result }
 {
     match matches.subcommand() {
         Some((name, given)) => request_in(alloc, name, given),

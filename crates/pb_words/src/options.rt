@@ -1,7 +1,9 @@
 // The options of an encoding, in words.
-ghost use Rattle.std.specs.Prelude.{◌≡◌};
+ghost use Rattle.std.specs.Prelude.{◌≡◌, codes};
 ghost use Rattle.clap.specs.Words.{found_of, rows_of};
-ghost use Rattle.pb_words.specs.OptionWords.{amo_in, amo_of, budget_in, card_in, card_of, equal_in, equal_of, general_in, general_of, options_in};
+ghost use Rattle.pb_base.specs.Defaults.{default_options};
+ghost use Rattle.pb_words.specs.Digits.{number_within};
+ghost use Rattle.pb_words.specs.OptionWords.{amo_of, card_of, equal_of, general_of, option_in, options_in};
 
 use crate::argument::{Argument, word_of};
 use crate::digits::number_within;
@@ -62,7 +64,7 @@ fn equal_of(word: &str) -> Option<EqualMode>
 }
 
 fn amo_in(given: &ArgMatches<'_>) -> Option<Amo>
-    ensures { result ≡ amo_in (rows_of (found_of given.now)) }
+    ensures { result ≡ option_in (codes "amo") amo_of default_options.amo (rows_of (found_of given.now)) }
 {
     match word_of(given, "amo") {
         Some(word) => amo_of(word),
@@ -71,7 +73,7 @@ fn amo_in(given: &ArgMatches<'_>) -> Option<Amo>
 }
 
 fn card_in(given: &ArgMatches<'_>) -> Option<Card>
-    ensures { result ≡ card_in (rows_of (found_of given.now)) }
+    ensures { result ≡ option_in (codes "card") card_of default_options.card (rows_of (found_of given.now)) }
 {
     match word_of(given, "card") {
         Some(word) => card_of(word),
@@ -80,7 +82,7 @@ fn card_in(given: &ArgMatches<'_>) -> Option<Card>
 }
 
 fn general_in(given: &ArgMatches<'_>) -> Option<General>
-    ensures { result ≡ general_in (rows_of (found_of given.now)) }
+    ensures { result ≡ option_in (codes "general") general_of default_options.general (rows_of (found_of given.now)) }
 {
     match word_of(given, "general") {
         Some(word) => general_of(word),
@@ -89,7 +91,7 @@ fn general_in(given: &ArgMatches<'_>) -> Option<General>
 }
 
 fn equal_in(given: &ArgMatches<'_>) -> Option<EqualMode>
-    ensures { result ≡ equal_in (rows_of (found_of given.now)) }
+    ensures { result ≡ option_in (codes "equal") equal_of default_options.equal (rows_of (found_of given.now)) }
 {
     match word_of(given, "equal") {
         Some(word) => equal_of(word),
@@ -98,7 +100,7 @@ fn equal_in(given: &ArgMatches<'_>) -> Option<EqualMode>
 }
 
 fn budget_in(given: &ArgMatches<'_>) -> Option<u64>
-    ensures { result ≡ budget_in (rows_of (found_of given.now)) }
+    ensures { result ≡ option_in (codes "budget") (number_within 1 10000000) default_options.budget (rows_of (found_of given.now)) }
 {
     match word_of(given, "budget") {
         Some(word) => number_within(word.as_bytes(), 1, MAX_BUDGET),

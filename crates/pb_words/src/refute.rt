@@ -1,8 +1,7 @@
 //! The words of `refute`.
-ghost use Rattle.std.specs.Prelude.{◌≡◌, codes, option_map};
-ghost use Rattle.clap.specs.Words.{first_of, found_of, rows_of};
-ghost use Rattle.pb_words.specs.CheckWords.{check_in};
-ghost use Rattle.pb_words.specs.RefuteWords.{as_refute_words, refute_after};
+ghost use Rattle.std.specs.Prelude.{◌≡◌, option_map};
+ghost use Rattle.clap.specs.Words.{found_of, rows_of};
+ghost use Rattle.pb_words.specs.RefuteWords.{as_refute_words, refute_in};
 
 use crate::argument::{Argument, word_of};
 use crate::bound::BOUND;
@@ -41,7 +40,7 @@ pub const COMMAND: Syntax<'static> = Syntax {
 
 /// What `refute` was asked for: what `check` is asked for, and a refutation.
 pub fn refute_args_in<'a>(given: &ArgMatches<'a>) -> Option<RefuteArgs<'a>>
-    ensures { let rows = rows_of (found_of given.now) in option_map as_refute_words result ≡ refute_after (check_in rows) (first_of (codes "lrat") rows) }
+    ensures { option_map as_refute_words result ≡ refute_in (rows_of (found_of given.now)) }
 {
     let checking = check_args_in(given)?;
     let lrat = word_of(given, "lrat")?;

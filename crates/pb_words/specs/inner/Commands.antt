@@ -1,14 +1,14 @@
 -- Commands as the program lists them, and what clap's definitions make of them.
 use Rattle.std.specs.Prelude.{List, fold}
-use Rattle.clap.specs.Words.{App, Rule, new_app, with_rule, with_subcommand}
+use Rattle.clap.specs.Words.{App, Rule, new_app, new_rule, with_rule, with_subcommand}
 use Rattle.pb_words.specs.declared.argument.Argument.{Argument}
 use Rattle.pb_words.specs.declared.argument.Argument.TheVariants.{Name, OptionalName, Words, Valued, Flag}
 use Rattle.pb_words.specs.declared.command.Syntax.{Syntax}
-use Rattle.pb_words.specs.Rules.{flag_rule, name_rule, option_rule, optional_rule, words_rule}
+use Rattle.pb_words.specs.Rules.{flag_rule, name_rule, option_rule, words_rule}
 
 abbrev pub rule_for : Argument → Rule
 rule_for (Name id) = name_rule id.now
-rule_for (OptionalName id) = optional_rule id.now
+rule_for (OptionalName id) = new_rule id.now
 rule_for (Words id) = words_rule id.now
 rule_for (Valued id) = option_rule id.now
 rule_for (Flag id) = flag_rule id.now

@@ -1,6 +1,6 @@
-use Rattle.std.proofs.Common.{map, string_bytes}
+use Rattle.std.proofs.Common.{map, option_and_then, string_bytes}
 use Rattle.clap.specs.Words.{subcommand_rows_of}
-use Rattle.pb_words.specs.Parsed.{parsed_of, wanted_by, Tells}
+use Rattle.pb_words.specs.Parsed.{parsed_of, wanted_in, Tells}
 use Rattle.pb_words.proofs.TakenLemmas.{accepted_by, refusal_is, refused_by, told}
 use Rattle.pb_words.proofs.line.parse.Goals as goal
 
@@ -10,7 +10,7 @@ returns-in-Err-clause-usage c =
 
 tells : (c : goal.Joined-matches) → Tells (parsed_of (map string_bytes c.args.words.now)) c.request_by.result
 tells c =
-    told _ (wanted_by (subcommand_rows_of c.in-Ok.matches)) c.request_by.result
+    told _ (option_and_then wanted_in (subcommand_rows_of c.in-Ok.matches)) c.request_by.result
     (accepted_by _ (map string_bytes c.args.words.now) c.in-Ok.matches c.in_ok-program.ensures.0 c.in-Ok.ensures.kinds c.in-Ok.ensures.matches)
     c.request_by.ensures
 
