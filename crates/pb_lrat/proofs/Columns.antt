@@ -1,7 +1,8 @@
 -- The fault of a line stands at the first word behind which no line goes on.
 use Rattle.std.proofs.Common.{◌≡◌, ◌+◌, ◌<◌, ◌^◌, ℕ, Bool, true, false, cond, List, [], ◌∷◌, length, Option, Some, None, refl, sym, ap, ◌∙◌}
-use Rattle.std.specs.Prelude.{Result, Ok, Err, codes}
+use Rattle.std.specs.Prelude.{Result, Ok, Err, option_map, unwrap_or, codes}
 use Rattle.std.specs.Str.{bytes_eq}
+use Rattle.std.specs.Result.{result_map_both}
 use Rattle.pb_base.specs.declared.literal.Lit.{Lit}
 use Rattle.pb_base.specs.declared.expected.Expected.{Expected}
 use Rattle.pb_base.specs.declared.expected.Expected.TheVariants.{LratEnd, LratHint, LratId, LratLiteral}
@@ -12,8 +13,10 @@ use Rattle.pb_dimacs.specs.declared.meaning.Meaning.TheVariants as meaning
 use Rattle.pb_dimacs.specs.CnfReading.{opens_comment}
 use Rattle.pb_dimacs.specs.CnfSymbols.{meant}
 use Rattle.pb_steps.specs.declared.fault.StepFault.{StepFault}
+use Rattle.pb_steps.specs.declared.fault.StepFault.TheVariants.{Token}
 use Rattle.pb_steps.specs.declared.fault.StepFault.TheVariants as step_fault
-use Rattle.pb_steps.specs.LineWords.{and_then, number_between, token_fault}
+use Rattle.pb_steps.specs.LineWords.{and_then, id_in, number_between}
+use Rattle.pb_steps.specs.LineSteps.{ends_here}
 use Rattle.pb_steps.specs.StepGrammar.{texts}
 use Rattle.pb_steps.specs.laws.FirstWords.{begin_at, column_of}
 use Rattle.pb_steps.proofs.Judged.{judged, judged_from, judged_then, FaultsAt, at_either, at_id, at_number, at_ok, at_then, at_token}
@@ -23,10 +26,10 @@ use Rattle.pb_lrat.specs.declared.fault.LratFault.TheVariants as fault
 use Rattle.pb_lrat.specs.declared.said.Said.{Said}
 use Rattle.pb_lrat.specs.declared.said.Said.TheVariants.{Nothing, Adds, Deletes}
 use Rattle.pb_lrat.specs.laws.LineLaws.{IsAnything, IsLratLine, LinesNeedNoMemory, LratFaultsStandFirst}
-use Rattle.pb_lrat.specs.LratLines.{addition_of, behind_id, clause_of, deletion_of, ids_of, no_more, said_in, said_of, with_id, with_literal}
-use Rattle.pb_lrat.specs.LratStates.{after_read, denied, unless_denied, with_clause, LratState}
-use Rattle.pb_lrat.specs.LratWords.{hint_in, line_id_in, literal_in, some_id, some_literal}
-use Rattle.pb_lrat.proofs.Spelling.{said_from, said_is}
+use Rattle.pb_lrat.specs.LratLines.{addition_of, behind_id, clause_of, ids_of, said_in, said_of, with_id, with_literal}
+use Rattle.pb_lrat.specs.LratStates.{after_said, fault_of, denied, with_clause, LratState}
+use Rattle.pb_lrat.specs.LratWords.{hint_in, literal_in, some_literal}
+use Rattle.pb_lrat.proofs.Spelling.{said_from, said_is, some_id}
 
 -- what comes next
 pub data LineState : Type 0 where
@@ -49,12 +52,12 @@ abbrev literal_step : ℕ → Chunk → Result LineState StepFault
 literal_step vars w = and_then (λ o. Ok (behind_literal o)) (literal_in vars w)
 
 abbrev step_from : ℕ → LineState → Chunk → Result LineState StepFault
-step_from vars start_due w = cond (opens_comment w.text) (Ok in_comment) (and_then (λ _. Ok kind_due) (line_id_in w))
+step_from vars start_due w = cond (opens_comment w.text) (Ok in_comment) (and_then (λ _. Ok kind_due) (id_in LratId w))
 step_from vars in_comment w = Ok in_comment
 step_from vars kind_due w = cond (bytes_eq w.text (codes "d")) (Ok hints_due) (literal_step vars w)
 step_from vars lits_due w = literal_step vars w
 step_from vars hints_due w = and_then (λ o. Ok (behind_hint o)) (hint_in w)
-step_from vars nothing_due w = token_fault w.column LratEnd
+step_from vars nothing_due w = Err (Token w.column LratEnd)
 
 abbrev wanting_at : LineState → Option Expected
 wanting_at start_due = None
@@ -81,7 +84,7 @@ at_hint : (w : Chunk) → FaultsAt w.column (hint_in w)
 at_hint w = at_then w.column (λ n. Ok (some_id n)) (number_between 0 (2 ^ 63) LratHint w.column (natural_of w.text)) (at_number 0 (2 ^ 63) LratHint w.column (natural_of w.text)) (λ n. at_ok w.column (some_id n))
 
 stands_at : (vars : ℕ) (s : LineState) (w : Chunk) → FaultsAt w.column (step_from vars s w)
-stands_at vars start_due w = at_either w.column (opens_comment w.text) (Ok in_comment) _ (at_ok w.column in_comment) (at_then w.column (λ _. Ok kind_due) (line_id_in w) (at_id LratId w) (λ _. at_ok w.column kind_due))
+stands_at vars start_due w = at_either w.column (opens_comment w.text) (Ok in_comment) _ (at_ok w.column in_comment) (at_then w.column (λ _. Ok kind_due) (id_in LratId w) (at_id LratId w) (λ _. at_ok w.column kind_due))
 stands_at vars in_comment w = at_ok w.column in_comment
 stands_at vars kind_due w = at_either w.column (bytes_eq w.text (codes "d")) (Ok hints_due) (literal_step vars w) (at_ok w.column hints_due) (at_literal vars w)
 stands_at vars lits_due w = at_literal vars w
@@ -108,7 +111,7 @@ comment_go : (vars end : ℕ) (ws : List Chunk) → go vars end in_comment ws �
 comment_go vars end [] = refl
 comment_go vars end (w ∷ ws) = comment_go vars end ws
 
-more_go : (vars end : ℕ) (ws : List Chunk) → judged (no_more ws) ≡ go vars end nothing_due ws
+more_go : (vars end : ℕ) (ws : List Chunk) → judged (ends_here {A = List ℕ} LratEnd [] ws) ≡ go vars end nothing_due ws
 more_go vars end [] = refl
 more_go vars end (w ∷ ws) = refl
 
@@ -147,7 +150,7 @@ kind_go : (vars end id : ℕ) (ws : List Chunk) → judged (behind_id vars end i
 kind_go vars end id [] = refl
 kind_go vars end id (w ∷ ws) = by_letter (bytes_eq w.text (codes "d"))
   where
-    by_letter : (b : Bool) → judged (cond b (deletion_of end ws) (addition_of vars end id (w ∷ ws))) ≡ and_then (λ t. go vars end t ws) (cond b (Ok hints_due) (literal_step vars w))
+    by_letter : (b : Bool) → judged (cond b (and_then (λ ids. Ok (Deletes ids)) (ids_of end ws)) (addition_of vars end id (w ∷ ws))) ≡ and_then (λ t. go vars end t ws) (cond b (Ok hints_due) (literal_step vars w))
     by_letter true = judged_then (λ ids. Deletes ids) (ids_of end ws) ∙ ids_go vars end ws
     by_letter false = added end id (clause_of vars end (w ∷ ws)) ∙ clause_go vars end (w ∷ ws)
 
@@ -159,9 +162,9 @@ start_go vars end (w ∷ ws) = by_comment (opens_comment w.text)
     by_id (Ok id) = kind_go vars end id ws
     by_id (Err fault) = refl
 
-    by_comment : (b : Bool) → judged (cond b (Ok Nothing) (and_then (λ id. behind_id vars end id ws) (line_id_in w))) ≡ and_then (λ t. go vars end t ws) (cond b (Ok in_comment) (and_then (λ _. Ok kind_due) (line_id_in w)))
+    by_comment : (b : Bool) → judged (cond b (Ok Nothing) (and_then (λ id. behind_id vars end id ws) (id_in LratId w))) ≡ and_then (λ t. go vars end t ws) (cond b (Ok in_comment) (and_then (λ _. Ok kind_due) (id_in LratId w)))
     by_comment true = sym (comment_go vars end ws)
-    by_comment false = by_id (line_id_in w)
+    by_comment false = by_id (id_in LratId w)
 
 -- ---- the law
 
@@ -180,11 +183,11 @@ lrat_faults_stand_first vars line fault few h =
 
 -- ---- want of memory
 
-denied_otherwise : (o : Option LratDenied) (s : LratState) → unless_denied o s ≡ Err fault.NoMemory → ⊥
+denied_otherwise : (o : Option LratDenied) (s : LratState) → unwrap_or (option_map (λ why. Err (fault.Denied why)) o) (Ok s) ≡ Err fault.NoMemory → ⊥
 denied_otherwise None s h = cc
 denied_otherwise (Some why) s h = cc
 
-no_memory : (s : LratState) (r : Result Said StepFault) → ((f : StepFault) → r ≡ Err f → (column : ℕ) × (column_of f ≡ Some column)) → after_read s r ≡ Err fault.NoMemory → ⊥
+no_memory : (s : LratState) (r : Result Said StepFault) → ((f : StepFault) → r ≡ Err f → (column : ℕ) × (column_of f ≡ Some column)) → and_then (after_said s) (result_map_both (λ said. said) fault_of r) ≡ Err fault.NoMemory → ⊥
 no_memory s (Ok Nothing) placed h = cc
 no_memory s (Ok (Deletes ids)) placed h = cc
 no_memory s (Ok (Adds id ls hints)) placed h = denied_otherwise (denied s id ls hints) (with_clause s id ls) h

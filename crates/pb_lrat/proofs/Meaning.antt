@@ -1,7 +1,8 @@
 -- What lines that are taken mean.
 use Rattle.std.proofs.Common.{◌≡◌, ◌+◌, ℕ, Bool, true, false, not, List, [], ◌∷◌, Option, Some, None, ◌||◌, refl, ap, sym, ◌∙◌, inl, inr, subst, eqb}
-use Rattle.std.specs.Prelude.{All, Result, Ok, Err, nat_le, if◌then◌else◌}
-use Rattle.std.specs.List.{list_any, list_all}
+use Rattle.std.specs.Prelude.{All, Result, Ok, Err, option_map, unwrap_or, nat_le, if◌then◌else◌}
+use Rattle.std.specs.List.{list_any, list_all, cons_option}
+use Rattle.std.specs.Result.{result_map_both}
 use Rattle.std.proofs.lemmas.Bool.{cases_Bool, both_ways, or_cases, and_parts, false≢true, or_left, or_right}
 use Rattle.std.proofs.lemmas.List.Elements.{All-nil, All-cons, All-head, All-tail, All-append, All-filter, All-map}
 use Rattle.pb_base.specs.declared.literal.Lit.{Lit}
@@ -14,7 +15,7 @@ use Rattle.pb_lrat.specs.declared.denied.LratDenied.TheVariants.{OldId}
 use Rattle.pb_lrat.specs.declared.fault.LratFault.{LratFault}
 use Rattle.pb_lrat.specs.declared.said.Said.{Said}
 use Rattle.pb_lrat.specs.declared.said.Said.TheVariants.{Nothing, Adds, Deletes}
-use Rattle.pb_lrat.specs.Hints.{Kept, clause_at, clauses_at, before_clauses, with_true, falsified, left_of, with_single, is_nothing, reaches_conflict, follows, first_missing}
+use Rattle.pb_lrat.specs.Hints.{Kept, clause_at, clauses_at, with_true, falsified, left_of, with_single, is_nothing, reaches_conflict, follows, first_missing}
 use Rattle.pb_steps.specs.LineWords.{and_then}
 use Rattle.pb_steps.specs.declared.fault.StepFault.{StepFault}
 use Rattle.pb_lrat.specs.declared.denied.LratDenied.TheVariants.{NoEmptyClause}
@@ -25,7 +26,8 @@ use Rattle.pb_lrat.specs.LratWalk.{LratEnding, ending_of, walk_by, walk_from}
 use Rattle.pb_lrat.specs.LratWalk.LratEnding.{refuted, not_refuted, refused, limited}
 use Rattle.pb_lrat.specs.LratLaws.{AddedClausesHold, EmptyClausesRefute, RefutedHaveNoModel}
 use Rattle.pb_lrat.specs.LratLines.{said_of}
-use Rattle.pb_lrat.specs.LratStates.{LratState, numbered, started, denied, denied_by, with_clause, unless_denied, without, after_said, after_read, after_line, after_lines}
+use Rattle.pb_lrat.specs.inner.Looks.{denied_by}
+use Rattle.pb_lrat.specs.LratStates.{LratState, numbered, started, denied, with_clause, without, after_said, fault_of, after_line, after_lines}
 
 abbrev pub IsTrue_in : Assignment → Kept → Type 0
 IsTrue_in a k = clause_value a k.clause ≡ true
@@ -43,7 +45,7 @@ at_true a (k ∷ live) id ls h e =
       | inr other ↦ at_true a live id ls (All-tail (IsTrue_in a) k live h) (sym (ap (λ (b : Bool). if b then Some k.clause else clause_at live id) other) ∙ e)
     ]
 
-with_hinted : (a : Assignment) (o : Option (List Lit)) (others : List (List Lit)) → ((ls : List Lit) → o ≡ Some ls → clause_value a ls ≡ true) → IsModel a others → IsModel a (before_clauses o others)
+with_hinted : (a : Assignment) (o : Option (List Lit)) (others : List (List Lit)) → ((ls : List Lit) → o ≡ Some ls → clause_value a ls ≡ true) → IsModel a others → IsModel a (cons_option o others)
 with_hinted a None others h m = m
 with_hinted a (Some ls) others h m = All-cons (λ ks. clause_value a ks ≡ true) ls others (h ls refl) m
 
@@ -184,7 +186,7 @@ said_holds a s t (Deletes ids) e h =
     subst (Holds a) same (record { live = All-filter (λ k. not (list_any (λ id. eqb k.id id) ids)) (IsTrue_in a) s.live h.live; open_yet = h.open_yet })
 said_holds a s t (Adds id ls hints) e h = by_denial (denied s id ls hints) refl e
   where
-    by_denial : (o : Option LratDenied) → denied s id ls hints ≡ o → unless_denied o (with_clause s id ls) ≡ Ok t → Holds a t
+    by_denial : (o : Option LratDenied) → denied s id ls hints ≡ o → unwrap_or (option_map (λ why. Err (Denied why)) o) (Ok (with_clause s id ls)) ≡ Ok t → Holds a t
     by_denial None allows e =
         let same : with_clause s id ls ≡ t = cc in
         subst (Holds a) same (added_holds a s id ls (follows_true a ls (clauses_at s.live hints) (hinted_true a s.live hints h.live) (allowed s id ls hints allows)) h)
@@ -193,7 +195,7 @@ said_holds a s t (Adds id ls hints) e h = by_denial (denied s id ls hints) refl 
 pub line_holds : (a : Assignment) (s t : LratState) (line : List ℕ) → after_line s line ≡ Ok t → Holds a s → Holds a t
 line_holds a s t line e h = by_said (said_of s.vars line) e
   where
-    by_said : (r : Result Said StepFault) → after_read s r ≡ Ok t → Holds a t
+    by_said : (r : Result Said StepFault) → and_then (after_said s) (result_map_both (λ said. said) fault_of r) ≡ Ok t → Holds a t
     by_said (Ok said) e = said_holds a s t said e h
     by_said (Err fault) e = let no : ⊥ = cc in absurd no
 

@@ -6,7 +6,7 @@ use Rattle.std.specs.List.{AllByRecursion}
 use Rattle.std.specs.Str.{bytes_eq, all_ascii_digits}
 use Rattle.std.proofs.lemmas.Bool.Decides.{nat_tests}
 use Rattle.pb_base.specs.declared.literal.Lit.{Lit}
-use Rattle.pb_base.specs.declared.expected.Expected.TheVariants.{LratHint, LratId}
+use Rattle.pb_base.specs.declared.expected.Expected.TheVariants.{LratEnd, LratHint, LratId}
 use Rattle.pb_base.specs.declared.number.Number.{Number}
 use Rattle.pb_base.specs.Numbers.{integer_of, limited, limited_number, natural_of, weighed}
 use Rattle.pb_base.specs.Words.{Chunk, words_of}
@@ -16,8 +16,8 @@ use Rattle.pb_dimacs.specs.CnfReading.{clause_numbers, literal_number, opens_com
 use Rattle.pb_dimacs.specs.CnfSymbols.{meant}
 use Rattle.pb_dimacs.proofs.MeaningLemmas.{end_meant, literal_meant, meant_literal}
 use Rattle.pb_dimacs.proofs.Whole.{limited_fits, limited_is, literal_narrow}
-use Rattle.pb_steps.specs.LineWords.{and_then, number_between}
-use Rattle.pb_steps.specs.LineSteps.{with_item}
+use Rattle.pb_steps.specs.LineWords.{and_then, id_in, number_between}
+use Rattle.pb_steps.specs.LineSteps.{with_item, ends_here}
 use Rattle.pb_steps.specs.Sayable.{IsId}
 use Rattle.pb_steps.specs.StepGrammar.{SpellAll, StepSymbol, texts}
 use Rattle.pb_steps.specs.StepGrammar.StepSymbol.{integer, key}
@@ -27,10 +27,13 @@ use Rattle.pb_lrat.specs.declared.said.Said.{Said}
 use Rattle.pb_lrat.specs.declared.said.Said.TheVariants.{Nothing, Adds, Deletes}
 use Rattle.pb_lrat.specs.laws.LineLaws.{ReadsWhatIsTold}
 use Rattle.pb_lrat.specs.LratGrammar.{id_symbols, WordsTell}
-use Rattle.pb_lrat.specs.LratLines.{addition_of, behind_id, clause_of, deletion_of, ids_of, no_more, said_in, with_id, with_literal}
-use Rattle.pb_lrat.specs.LratWords.{hint_in, line_id_in, literal_in, some_id, some_literal}
+use Rattle.pb_lrat.specs.LratLines.{addition_of, behind_id, clause_of, ids_of, said_in, with_id, with_literal}
+use Rattle.pb_lrat.specs.LratWords.{hint_in, literal_in, some_literal}
 
 -- ---- ids
+
+abbrev pub some_id : ℕ → Option ℕ
+some_id n = cond (n == 0) None (Some n)
 
 hint_is : (w : Chunk) (n : ℕ) → natural_of w.text ≡ Some n → n < 2 ^ 63 → hint_in w ≡ Ok (some_id n)
 hint_is w n is high = ap (and_then (λ m. Ok (some_id m))) (counted_is 0 (2 ^ 63) LratHint w.column (natural_of w.text) n is (omega arith) high)
@@ -70,7 +73,7 @@ ids_spelled end (w ∷ ws) (id ∷ ids) sp ok =
 abbrev Ids : List Chunk → List ℕ → Type 0
 Ids ws ids = SpellAll (texts ws) (id_symbols ids) × AllByRecursion IsId ids
 
-last_from : (w : Chunk) (ws : List Chunk) (ids : List ℕ) → natural_of w.text ≡ Some 0 → no_more ws ≡ Ok ids → Ids (w ∷ ws) ids
+last_from : (w : Chunk) (ws : List Chunk) (ids : List ℕ) → natural_of w.text ≡ Some 0 → ends_here LratEnd [] ws ≡ Ok ids → Ids (w ∷ ws) ids
 last_from w [] ids is h = let e : [] ≡ ids = cc in subst (Ids (w ∷ [])) e ((is, tt), tt)
 last_from w (v ∷ ws) ids is h = cc
 
@@ -181,20 +184,20 @@ addition_is vars end id [] [] hints few sp lits ids = absurd sp
 addition_is vars end id [] (l ∷ ls) hints few sp lits ids = absurd sp
 addition_is vars end id (w ∷ ws) ls hints few sp lits ids =
     let (vs, read, left) = clause_spelled vars end (w ∷ ws) ls (id_symbols hints) few sp lits in
-    ap (λ (b : Bool). cond b (deletion_of end ws) (addition_of vars end id (w ∷ ws))) (clause_word w ws ls (id_symbols hints) sp)
+    ap (λ (b : Bool). cond b (and_then (λ ids. Ok (Deletes ids)) (ids_of end ws)) (addition_of vars end id (w ∷ ws))) (clause_word w ws ls (id_symbols hints) sp)
     ∙ ap (and_then (λ p. and_then (λ hs. Ok (Adds id p.0 hs)) (ids_of end p.1))) read
     ∙ ap (and_then (λ hs. Ok (Adds id ls hs))) (ids_spelled end vs hints left ids)
 
 deletion_is : (vars end id : ℕ) (ws : List Chunk) (ids : List ℕ) → SpellAll (texts ws) (key (codes "d") ∷ id_symbols ids) → AllByRecursion IsId ids → behind_id vars end id ws ≡ Ok (Deletes ids)
 deletion_is vars end id [] ids sp ok = absurd sp
 deletion_is vars end id (w ∷ ws) ids sp ok =
-    ap (λ (b : Bool). cond b (deletion_of end ws) (addition_of vars end id (w ∷ ws))) (key_is w.text (codes "d") sp.0)
+    ap (λ (b : Bool). cond b (and_then (λ ids. Ok (Deletes ids)) (ids_of end ws)) (addition_of vars end id (w ∷ ws))) (key_is w.text (codes "d") sp.0)
     ∙ ap (and_then (λ is. Ok (Deletes is))) (ids_spelled end ws ids sp.1 ok)
 
 -- behind the line's id
 behind_first : (vars end : ℕ) (w : Chunk) (ws : List Chunk) (id : ℕ) (said : Said) → natural_of w.text ≡ Some id → IsId id → behind_id vars end id ws ≡ Ok said → said_in vars end (w ∷ ws) ≡ Ok said
 behind_first vars end w ws id said is range later =
-    ap (λ (b : Bool). cond b (Ok Nothing) (and_then (λ i. behind_id vars end i ws) (line_id_in w))) (number_is_quiet w.text id is)
+    ap (λ (b : Bool). cond b (Ok Nothing) (and_then (λ i. behind_id vars end i ws) (id_in LratId w))) (number_is_quiet w.text id is)
     ∙ ap (and_then (λ i. behind_id vars end i ws)) (id_is LratId w id is range)
     ∙ later
 
@@ -204,7 +207,7 @@ quiet false h = cc
 
 pub said_is : (vars end : ℕ) (ws : List Chunk) (said : Said) → vars < 2 ^ 31 → WordsTell vars (texts ws) said → said_in vars end ws ≡ Ok said
 said_is vars end [] Nothing few tells = refl
-said_is vars end (w ∷ ws) Nothing few tells = ap (λ (b : Bool). cond b (Ok Nothing) (and_then (λ i. behind_id vars end i ws) (line_id_in w))) (quiet (opens_comment w.text) tells)
+said_is vars end (w ∷ ws) Nothing few tells = ap (λ (b : Bool). cond b (Ok Nothing) (and_then (λ i. behind_id vars end i ws) (id_in LratId w))) (quiet (opens_comment w.text) tells)
 said_is vars end [] (Adds id ls hints) few tells = absurd tells.0
 said_is vars end (w ∷ ws) (Adds id ls hints) few tells = behind_first vars end w ws id (Adds id ls hints) tells.0.0 tells.1 (addition_is vars end id ws ls hints few tells.0.1 tells.2 tells.3)
 said_is vars end [] (Deletes ids) few tells = absurd tells.1
@@ -215,7 +218,7 @@ said_is vars end (w ∷ ws) (Deletes ids) few tells = behind_first vars end w ws
 abbrev Follow : ℕ → Chunk → List Chunk → Said → Type 0
 Follow vars w ws said = WordsTell vars (texts (w ∷ ws)) said
 
-deletion_from : (vars end id : ℕ) (w d : Chunk) (ws : List Chunk) (said : Said) → natural_of w.text ≡ Some id → IsId id → d.text ≡ codes "d" → deletion_of end ws ≡ Ok said → Follow vars w (d ∷ ws) said
+deletion_from : (vars end id : ℕ) (w d : Chunk) (ws : List Chunk) (said : Said) → natural_of w.text ≡ Some id → IsId id → d.text ≡ codes "d" → and_then (λ ids. Ok (Deletes ids)) (ids_of end ws) ≡ Ok said → Follow vars w (d ∷ ws) said
 deletion_from vars end id w d ws said is range letter h =
     let (ids, read, made) = and_then_from (λ xs. Ok (Deletes xs)) (ids_of end ws) said h in
     let e : Deletes ids ≡ said = cc in
@@ -235,7 +238,7 @@ behind_from : (vars end id : ℕ) (w : Chunk) (ws : List Chunk) (said : Said) �
 behind_from vars end id w [] said is range h = cc
 behind_from vars end id w (d ∷ ws) said is range h = by_letter (bytes_eq d.text (codes "d")) (key_from d.text (codes "d")) h
   where
-    by_letter : (b : Bool) → (b ≡ true → d.text ≡ codes "d") → cond b (deletion_of end ws) (addition_of vars end id (d ∷ ws)) ≡ Ok said → Follow vars w (d ∷ ws) said
+    by_letter : (b : Bool) → (b ≡ true → d.text ≡ codes "d") → cond b (and_then (λ ids. Ok (Deletes ids)) (ids_of end ws)) (addition_of vars end id (d ∷ ws)) ≡ Ok said → Follow vars w (d ∷ ws) said
     by_letter true same h = deletion_from vars end id w d ws said is range (same refl) h
     by_letter false same h = addition_from vars end id w (d ∷ ws) said is range h
 
@@ -243,10 +246,10 @@ pub said_from : (vars end : ℕ) (ws : List Chunk) (said : Said) → said_in var
 said_from vars end [] said h = let e : Nothing ≡ said = cc in subst (WordsTell vars []) e refl
 said_from vars end (w ∷ ws) said h = by_comment (opens_comment w.text) refl h
   where
-    by_comment : (b : Bool) → opens_comment w.text ≡ b → cond b (Ok Nothing) (and_then (λ i. behind_id vars end i ws) (line_id_in w)) ≡ Ok said → Follow vars w ws said
+    by_comment : (b : Bool) → opens_comment w.text ≡ b → cond b (Ok Nothing) (and_then (λ i. behind_id vars end i ws) (id_in LratId w)) ≡ Ok said → Follow vars w ws said
     by_comment true is h = let e : Nothing ≡ said = cc in subst (Follow vars w ws) e (ap not is)
     by_comment false is h =
-        let (id, first, behind) = and_then_from (λ i. behind_id vars end i ws) (line_id_in w) said h in
+        let (id, first, behind) = and_then_from (λ i. behind_id vars end i ws) (id_in LratId w) said h in
         let i = id_from LratId w id first in
         behind_from vars end id w ws said i.0 i.1 behind
 

@@ -1,6 +1,8 @@
 -- What a checker of LRAT lines has taken so far, and what a line makes of it.
-use Rattle.std.specs.Prelude.{◌≡◌, ◌≢◌, ℕ, ◌+◌, ◌==◌, nat_le, Bool, not, ◌||◌, if◌then◌else◌, List, [], ◌∷◌, ◌++◌, length, filter, Option, Some, None, Result, Ok, Err}
+use Rattle.std.specs.Prelude.{◌≡◌, ◌≢◌, ℕ, ◌+◌, ◌==◌, nat_le, Bool, not, ◌||◌, if◌then◌else◌, List, [], ◌∷◌, ◌++◌, length, filter, Option, Some, None, option_map, unwrap_or, Result, Ok, Err}
 use Rattle.std.specs.List.{list_any}
+use Rattle.std.specs.Option.{option_or}
+use Rattle.std.specs.Result.{result_map_both}
 use Rattle.pb_base.specs.declared.literal.Lit.{Lit}
 use Rattle.pb_lrat.specs.declared.denied.LratDenied.{LratDenied}
 use Rattle.pb_lrat.specs.declared.denied.LratDenied.TheVariants.{OldId, UnknownHint, NoConflict}
@@ -31,28 +33,21 @@ abbrev pub started : ℕ → List (List Lit) → LratState
 started vars clauses = record { vars = vars; last = length clauses; live = numbered 1 clauses; refuted = list_any is_nothing clauses }
 
 -- why a clause may not be added, if so
-abbrev pub denied_by : Option ℕ → Bool → Option LratDenied
-denied_by (Some id) allowed = Some (UnknownHint id)
-denied_by None allowed = if allowed then None else Some NoConflict
-
 abbrev pub denied : LratState → ℕ → List Lit → List ℕ → Option LratDenied
-denied s id ls hints = if nat_le id s.last then Some (OldId id) else denied_by (first_missing s.live hints) (follows ls (clauses_at s.live hints))
+denied s id ls hints =
+    if nat_le id s.last then Some (OldId id) else option_or (option_map UnknownHint (first_missing s.live hints)) (if follows ls (clauses_at s.live hints) then None else Some NoConflict)
 
 abbrev pub with_clause : LratState → ℕ → List Lit → LratState
-with_clause s id ls = record { vars = s.vars; last = id; live = s.live ++ record { id = id; clause = ls } ∷ []; refuted = s.refuted || is_nothing ls }
-
-abbrev pub unless_denied : Option LratDenied → LratState → Result LratState LratFault
-unless_denied None s = Ok s
-unless_denied (Some why) s = Err (fault.Denied why)
+with_clause s id ls = record s { last = id; live = s.live ++ record { id = id; clause = ls } ∷ []; refuted = s.refuted || is_nothing ls }
 
 -- ids that are not live are passed over
 abbrev pub without : LratState → List ℕ → LratState
-without s ids = record { vars = s.vars; last = s.last; live = filter (λ k. not (list_any (λ id. k.id == id) ids)) s.live; refuted = s.refuted }
+without s ids = record s { live = filter (λ k. not (list_any (λ id. k.id == id) ids)) s.live }
 
 abbrev pub after_said : LratState → Said → Result LratState LratFault
 after_said s Nothing = Ok s
 after_said s (Deletes ids) = Ok (without s ids)
-after_said s (Adds id ls hints) = unless_denied (denied s id ls hints) (with_clause s id ls)
+after_said s (Adds id ls hints) = unwrap_or (option_map (λ why. Err (fault.Denied why)) (denied s id ls hints)) (Ok (with_clause s id ls))
 
 -- the fault of a line that is not read
 abbrev pub fault_of : StepFault → LratFault
@@ -60,13 +55,9 @@ fault_of (step_fault.Token column e) = fault.Token column e
 fault_of (step_fault.Limit column which) = fault.Limit column which
 fault_of step_fault.NoMemory = fault.NoMemory
 
-abbrev pub after_read : LratState → Result Said StepFault → Result LratState LratFault
-after_read s (Ok said) = after_said s said
-after_read s (Err f) = Err (fault_of f)
-
 -- the state after a line, or the line's first fault, or why it is denied
 abbrev pub after_line : LratState → List ℕ → Result LratState LratFault
-after_line s line = after_read s (said_of s.vars line)
+after_line s line = and_then (after_said s) (result_map_both (λ said. said) fault_of (said_of s.vars line))
 
 -- the same of lines one after another
 abbrev pub after_lines : LratState → List (List ℕ) → Result LratState LratFault

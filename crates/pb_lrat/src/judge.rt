@@ -4,8 +4,7 @@ ghost use Rattle.pb_base.specs.declared.literal.Lit.{Lit};
 ghost use Rattle.pb_base.specs.Literals.{negated, is_among};
 ghost use Rattle.pb_norm.specs.ClauseForm.{is_tautology};
 ghost use Rattle.pb_lrat.specs.Hints.{clauses_at, falsified, first_missing, follows, is_nothing, left_of, with_single};
-ghost use Rattle.pb_lrat.specs.LratStates.{denied_by};
-ghost use Rattle.pb_lrat.specs.inner.Looks.{kind_of, left_with, hints_deny};
+ghost use Rattle.pb_lrat.specs.inner.Looks.{kind_of, left_with, denied_by, hints_deny};
 
 use crate::denied::LratDenied;
 use crate::store::Store;

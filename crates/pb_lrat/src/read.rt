@@ -1,9 +1,10 @@
 //! What a line says.
-ghost use Rattle.std.specs.Prelude.{◌≡◌, [], ◌∷◌, ◌<◌, ◌^◌, Ok, Err, IfOk, IfErr};
+ghost use Rattle.std.specs.Prelude.{◌≡◌, ℕ, List, [], ◌∷◌, ◌<◌, ◌^◌, Ok, Err, IfOk, IfErr};
 ghost use Rattle.pb_base.specs.Pieces.{chunk};
 ghost use Rattle.pb_dimacs.specs.CnfReading.{opens_comment};
-ghost use Rattle.pb_steps.specs.LineSteps.{IsFaultOf};
-ghost use Rattle.pb_lrat.specs.LratLines.{no_more, ids_of, clause_of, addition_of, deletion_of, behind_id, said_of};
+ghost use Rattle.pb_steps.specs.LineWords.{and_then};
+ghost use Rattle.pb_steps.specs.LineSteps.{ends_here, IsFaultOf};
+ghost use Rattle.pb_lrat.specs.LratLines.{ids_of, clause_of, addition_of, behind_id, said_of};
 
 use crate::said::Said;
 use crate::word::{hint_in, literal_in};
@@ -13,8 +14,8 @@ use std::alloc::Global;
 
 // Nothing follows the ids.
 fn end_ids(words: &mut Words<'_>, ids: Ids) -> Result<Ids, StepFault>
-    ensures ok { IfOk result (λ made. (made ≡ ids) × (no_more words.old ≡ Ok [])) }
-    ensures err { IfErr result (λ fault. no_more words.old ≡ Err fault) }
+    ensures ok { IfOk result (λ made. (made ≡ ids) × (ends_here {A = List ℕ} Expected.LratEnd [] words.old ≡ Ok [])) }
+    ensures err { IfErr result (λ fault. ends_here {A = List ℕ} Expected.LratEnd [] words.old ≡ Err fault) }
 {
     match words.next() {
         None => Ok(ids),
@@ -81,8 +82,8 @@ fn read_addition(
 }
 
 fn read_deletion(alloc: Global, words: Words<'_>, end: u64) -> Result<Said, StepFault>
-    ensures ok { IfOk result (λ said. deletion_of end words.entry ≡ Ok said) }
-    ensures err { IfErr result (IsFaultOf (deletion_of end words.entry)) }
+    ensures ok { IfOk result (λ said. and_then (λ ids. Ok (Said.Deletes ids)) (ids_of end words.entry) ≡ Ok said) }
+    ensures err { IfErr result (IsFaultOf (and_then (λ ids. Ok (Said.Deletes ids)) (ids_of end words.entry))) }
 {
     Ok(Said::Deletes(read_ids(alloc, words, end)?))
 }

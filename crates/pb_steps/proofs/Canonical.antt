@@ -1,6 +1,6 @@
 -- The words that are written of a step stand for it.
 use Rattle.std.proofs.Common.{◌≡◌, ◌≤◌, ◌<◌, ◌^◌, ◌==◌, ◌&&◌, ◌++◌, ℕ, suc, zero, Bool, true, false, not, cond, List, [], ◌∷◌, length, map, Some, None, refl, sym, ap, ◌∙◌, subst, arith}
-use Rattle.std.specs.Prelude.{ℤ, pos, negsuc, neg_ℤ, unsigned_abs, decimal, codes}
+use Rattle.std.specs.Prelude.{ℤ, pos, negsuc, neg_ℤ, unsigned_abs, decimal, codes, drop}
 use Rattle.std.specs.Fmt.{signed_decimal}
 use Rattle.std.specs.List.{flat_map, list_all, AllByRecursion}
 use Rattle.std.specs.Option.{option_map}
@@ -20,7 +20,7 @@ use Rattle.pb_steps.specs.declared.step.Step.TheVariants.{Blank, Head, Loaded, P
 use Rattle.pb_steps.specs.StepGrammar.{StepSymbol, SpellsSymbol, SpellAll, op_symbols, term_symbols, bit_word, set_symbols, constraint_symbols, step_symbols, texts, SaysStep}
 use Rattle.pb_steps.specs.Sayable.{IsId, IsFactor, IsVariable, IsOp, IsTerm, Ascend, IsSayable}
 use Rattle.pb_steps.specs.StepGrammar.StepSymbol.{key, number, factor, integer, coefficient, literal, variable, weakened}
-use Rattle.pb_steps.specs.StepText.{variable_word, word_of, with_blanks, spaced, step_line}
+use Rattle.pb_steps.specs.StepText.{variable_word, word_of, with_blanks, step_line}
 use Rattle.pb_base.proofs.WordLemmas.{IsBlack, bare_words, bare_from, word_ends}
 use Rattle.pb_base.proofs.NumeralLemmas.{printed, numeral_is_black, natural_printed, integer_printed}
 
@@ -169,7 +169,7 @@ behind_words : (ks : List StepSymbol) → AllWritten ks → bare_words (with_bla
 behind_words [] all = refl
 behind_words (k ∷ ks) all = word_ends (word_of k) (with_blanks ks) all.0.some all.0.black (starts_blank ks) ∙ ap (λ (ws : List (List ℕ)). word_of k ∷ ws) (behind_words ks all.1)
 
-spaced_words : (ks : List StepSymbol) → AllWritten ks → bare_words (spaced ks) ≡ map word_of ks
+spaced_words : (ks : List StepSymbol) → AllWritten ks → bare_words (drop 1 (with_blanks ks)) ≡ map word_of ks
 spaced_words [] all = refl
 spaced_words (k ∷ ks) all = word_ends (word_of k) (with_blanks ks) all.0.some all.0.black (starts_blank ks) ∙ ap (λ (ws : List (List ℕ)). word_of k ∷ ws) (behind_words ks all.1)
 

@@ -1,6 +1,6 @@
 -- Each step of a rule is allowed or denied, in one way.
 use Rattle.std.proofs.Common.{◌≡◌, ◌≤◌, ◌<◌, ◌+◌, ◌⊎◌, ◌^◌, inl, inr, ℕ, true, false, not, List, [], ◌∷◌, arith, refl, ap, sym, ◌∙◌, subst, ltb, leb}
-use Rattle.std.specs.Prelude.{All, Some, None, Option, ℤ, find, option_map, unsigned_abs}
+use Rattle.std.specs.Prelude.{All, Some, None, Option, ℤ, find, option_map, unwrap_or, is_some, unsigned_abs}
 use Rattle.std.proofs.lemmas.Bool.{cases_Bool, both_ways, ltb-true, ltb-false, lt-ltb, le-ltb, leb-false, lt-leb, not-false}
 use Rattle.std.proofs.lemmas.List.Elements.{All-nil, All-head, All-weaker}
 use Rattle.pb_base.proofs.Members.{All-append_both}
@@ -8,6 +8,7 @@ use Rattle.pb_base.specs.declared.literal.Lit.{Lit}
 use Rattle.pb_base.specs.declared.literal.Term.{Term}
 use Rattle.pb_base.specs.Problems.{magnitude}
 use Rattle.pb_norm.specs.Constraints.{Constraint}
+use Rattle.pb_norm.specs.ClauseForm.{clause_form}
 use Rattle.pb_norm.specs.Halves.{written}
 use Rattle.pb_norm.specs.Propagation.{Conflict}
 use Rattle.pb_steps.specs.declared.denied.Denied.{Denied}
@@ -18,11 +19,11 @@ use Rattle.pb_steps.specs.declared.step.Step.{Step}
 use Rattle.pb_steps.specs.declared.step.Step.TheVariants.{Blank, Head, Loaded, Pol, Rup, Red, Del, Out, End}
 use Rattle.pb_steps.specs.Steps.{vars_named, ids_named, vars_of_sets, IsRule, IsSpelled}
 use Rattle.pb_steps.specs.Operations.{negation, implies}
-use Rattle.pb_steps.specs.Database.{Entry, Database, constraint_at, is_live, IsLive, is_out, grown, reduced, marked}
+use Rattle.pb_steps.specs.Database.{Entry, Database, live_constraints, constraint_at, is_live, IsLive, is_out, grown, reduced, marked}
 use Rattle.pb_steps.specs.Stacks.{is_stacked, after_ops}
 use Rattle.pb_steps.specs.Substitutions.{restriction}
-use Rattle.pb_steps.specs.Allowed.{propagated, obligations, to_refute, IsMet, ByRule, Allowed}
-use Rattle.pb_steps.specs.Denials.{unless, unknown_var, unknown_id, first_gone, stack, width, sets_original, no_clause, implies_clause, not_implied, out_deleted, seen_denial, FirstUnmet, UnshownBy, FirstDenied}
+use Rattle.pb_steps.specs.Allowed.{propagated, obligations, IsMet, ByRule, Allowed}
+use Rattle.pb_steps.specs.Denials.{unless, unknown_var, unknown_id, first_gone, causes, seen_denial, FirstUnmet, UnshownBy, FirstDenied}
 use Rattle.pb_steps.specs.DenialLaws.{IsAllowed, IsDenied, AllowedOrDenied}
 use Rattle.pb_steps.proofs.Searching.{none-some, find-none, from_find-none, map-none, from_map-none, or-none, from_first_some-none, unless-none, from_unless-none, all_or_first, first_unique}
 use Rattle.pb_steps.proofs.Heights.{one_left}
@@ -79,20 +80,18 @@ allowed-seen db (Pol ops) clause db' a =
     (or-none (unless-none (is_stacked ops) Stack a.rule.stacked) (or-none (rw a.rule.result refl) refl)))
 allowed-seen db (Rup ts right ids) clause db' a =
     or-none (vars-row db (Rup ts right ids) a.vars) (or-none (ids-row db ids a.ids)
-    (or-none {o = None} refl (or-none (unless-none (ltb (magnitude ts + unsigned_abs right) (2 ^ 126)) Width (lt-ltb (magnitude ts + unsigned_abs right) (2 ^ 126) a.rule.slim)) refl)))
+    (or-none (unless-none (ltb (magnitude ts + unsigned_abs right) (2 ^ 126)) Width (lt-ltb (magnitude ts + unsigned_abs right) (2 ^ 126) a.rule.slim)) refl))
 allowed-seen db (Red ts right sets) clause db' a =
     or-none (vars-row db (Red ts right sets) a.vars) (or-none {o = None} refl
-    (or-none {o = None} refl (or-none (unless-none (ltb (magnitude ts + unsigned_abs right) (2 ^ 126)) Width (lt-ltb (magnitude ts + unsigned_abs right) (2 ^ 126) a.rule.slim))
-    (or-none (sets-row db sets a.rule.fresh) refl))))
+    (or-none (unless-none (ltb (magnitude ts + unsigned_abs right) (2 ^ 126)) Width (lt-ltb (magnitude ts + unsigned_abs right) (2 ^ 126) a.rule.slim))
+    (or-none (sets-row db sets a.rule.fresh) refl)))
 allowed-seen db (Del ids) clause db' a =
-    or-none {o = None} refl (or-none (map-none UnknownId (first_gone db.live ids) (none-gone db.live ids a.ids a.rule.once))
-    (or-none {o = None} refl (or-none {o = None} refl (or-none {o = None} refl (or-none {o = None} refl (or-none {o = None} refl (or-none (out-row db ids a.rule.kept) refl)))))))
+    or-none {o = None} refl (or-none (map-none UnknownId (first_gone db.live ids) (none-gone db.live ids a.ids a.rule.once)) (or-none (out-row db ids a.rule.kept) refl))
 allowed-seen db (Out id) clause db' a =
     let is_next : clause ≡ Some a.rule.literals = a.rule.is_next in
     rw is_next (
     or-none {o = None} refl (or-none (ids-row db (id ∷ []) a.ids)
-    (or-none {o = None} refl (or-none {o = None} refl (or-none {o = None} refl (or-none {o = None} refl
-    (or-none (unless-none (implies_clause (constraint_at db.live id) a.rule.literals) (NotImplied id) (rw a.rule.found a.rule.implied)) refl)))))))
+    (or-none (unless-none (unwrap_or (option_map (λ c. implies c (clause_form a.rule.literals)) (constraint_at db.live id)) true) (NotImplied id) (rw a.rule.found a.rule.implied)) refl)))
 allowed-seen db Head clause db' a = absurd a.rule
 allowed-seen db (Loaded count) clause db' a = absurd a.rule
 allowed-seen db End clause db' a = absurd a.rule
@@ -183,15 +182,15 @@ is_clear row = row ≡ None
 
 -- the rows of a step of which nothing is seen
 rows-clear : (db : Database) (step : Step) (clause : Option (List Lit)) → seen_denial db step clause ≡ None →
-    All is_clear (unknown_var db step ∷ unknown_id db step ∷ stack step ∷ width db step ∷ sets_original db step ∷ no_clause step clause ∷ not_implied db step clause ∷ out_deleted db step ∷ [])
+    All is_clear (unknown_var db step ∷ unknown_id db step ∷ causes db step clause)
 rows-clear db step clause e =
-    from_first_some-none (unknown_var db step ∷ unknown_id db step ∷ stack step ∷ width db step ∷ sets_original db step ∷ no_clause step clause ∷ not_implied db step clause ∷ out_deleted db step ∷ []) e
+    from_first_some-none (unknown_var db step ∷ unknown_id db step ∷ causes db step clause) e
 
 met-decided : (db : Database) (claim : Constraint) (sets : List Set) (e : Entry) → IsMet db claim sets e ⊎ ¬ IsMet db claim sets e
 met-decided db claim sets e =
     elim (cases_Bool (implies (negation claim) (restriction sets e.constraint))) [
       | inl implied ↦ inl (inl implied)
-      | inr fails ↦ elim (conflict_decided (to_refute db.live claim (restriction sets e.constraint))) [
+      | inr fails ↦ elim (conflict_decided (negation claim ∷ negation (restriction sets e.constraint) ∷ live_constraints db.live)) [
         | inl conflict ↦ inl (inr conflict)
         | inr none ↦ inr (λ met. elim met [
           | inl implied ↦ both_ways (implies (negation claim) (restriction sets e.constraint)) fails implied
@@ -204,7 +203,7 @@ unseen-pol : (db : Database) (ops : List PolOp) (clause : Option (List Lit)) →
 unseen-pol db ops clause spelled e = by_result (after_ops db.live ops []) refl where
   by_result : (o : Option (List Constraint)) → after_ops db.live ops [] ≡ o → Unseen db (Pol ops) clause
   by_result None n =
-      let row : width db (Pol ops) ≡ None = rows-clear db (Pol ops) clause e 3 None (omega arith) in
+      let row : unless (is_some (after_ops db.live ops [])) Width ≡ None = rows-clear db (Pol ops) clause e 3 None (omega arith) in
       absurd (none-some Width (sym row ∙ rw n refl))
   by_result (Some s) n =
       let stacked = from_unless-none (is_stacked ops) Stack (rows-clear db (Pol ops) clause e 2 None (omega arith)) in
@@ -227,7 +226,7 @@ unseen-rup db ts right ids clause e =
           vars = from_vars-row db (Rup ts right ids) (rows-clear db (Rup ts right ids) clause e 0 None (omega arith));
           ids = from_ids-row db ids (rows-clear db (Rup ts right ids) clause e 1 None (omega arith));
           rule = record {
-            slim = ltb-true (magnitude ts + unsigned_abs right) (2 ^ 126) (from_unless-none (ltb (magnitude ts + unsigned_abs right) (2 ^ 126)) Width (rows-clear db (Rup ts right ids) clause e 3 None (omega arith)));
+            slim = ltb-true (magnitude ts + unsigned_abs right) (2 ^ 126) (from_unless-none (ltb (magnitude ts + unsigned_abs right) (2 ^ 126)) Width (rows-clear db (Rup ts right ids) clause e 2 None (omega arith)));
             conflict = conflict;
             after = refl;
           };
@@ -245,8 +244,8 @@ unseen-red db ts right sets clause e =
           vars = from_vars-row db (Red ts right sets) (rows-clear db (Red ts right sets) clause e 0 None (omega arith));
           ids = All-nil (IsLive db.live);
           rule = record {
-            slim = ltb-true (magnitude ts + unsigned_abs right) (2 ^ 126) (from_unless-none (ltb (magnitude ts + unsigned_abs right) (2 ^ 126)) Width (rows-clear db (Red ts right sets) clause e 3 None (omega arith)));
-            fresh = from_sets-row db sets (rows-clear db (Red ts right sets) clause e 4 None (omega arith));
+            slim = ltb-true (magnitude ts + unsigned_abs right) (2 ^ 126) (from_unless-none (ltb (magnitude ts + unsigned_abs right) (2 ^ 126)) Width (rows-clear db (Red ts right sets) clause e 2 None (omega arith)));
+            fresh = from_sets-row db sets (rows-clear db (Red ts right sets) clause e 3 None (omega arith));
             met = met;
             after = refl;
           };
@@ -263,20 +262,20 @@ unseen-del db ids clause e =
       record {
         vars = All-nil (λ v. v ≤ db.vars);
         ids = known.0;
-        rule = record { once = known.1; kept = from_out-row db ids (rows-clear db (Del ids) clause e 7 None (omega arith)); after = refl };
+        rule = record { once = known.1; kept = from_out-row db ids (rows-clear db (Del ids) clause e 2 None (omega arith)); after = refl };
       },
     )
 
 unseen-out : (db : Database) (id : ℕ) (clause : Option (List Lit)) → seen_denial db (Out id) clause ≡ None → Unseen db (Out id) clause
-unseen-out db id None e = absurd (none-some NoClause (sym (rows-clear db (Out id) None e 5 None (omega arith))))
+unseen-out db id None e = absurd (none-some NoClause (sym (rows-clear db (Out id) None e 2 None (omega arith))))
 unseen-out db id (Some ls) e = by_found (constraint_at db.live id) refl where
   by_found : (o : Option Constraint) → constraint_at db.live id ≡ o → Unseen db (Out id) (Some ls)
   by_found None n =
       let live = from_ids-row db (id ∷ []) (rows-clear db (Out id) (Some ls) e 1 None (omega arith)) in
       absurd (both_ways (is_live db.live id) (rw n refl) (All-head (IsLive db.live) id [] live))
   by_found (Some c) n =
-      let row : unless (implies_clause (constraint_at db.live id) ls) (NotImplied id) ≡ None = rows-clear db (Out id) (Some ls) e 6 None (omega arith) in
-      let implied = from_unless-none (implies_clause (constraint_at db.live id) ls) (NotImplied id) row in
+      let row : unless (unwrap_or (option_map (λ c. implies c (clause_form ls)) (constraint_at db.live id)) true) (NotImplied id) ≡ None = rows-clear db (Out id) (Some ls) e 2 None (omega arith) in
+      let implied = from_unless-none (unwrap_or (option_map (λ c. implies c (clause_form ls)) (constraint_at db.live id)) true) (NotImplied id) row in
       inl (
         marked db id,
         record {
@@ -287,7 +286,7 @@ unseen-out db id (Some ls) e = by_found (constraint_at db.live id) refl where
             is_next = refl;
             constraint = c;
             found = n;
-            implied = subst (λ (o : Option Constraint). implies_clause o ls ≡ true) n implied;
+            implied = subst (λ (o : Option Constraint). unwrap_or (option_map (λ c. implies c (clause_form ls)) o) true ≡ true) n implied;
             after = refl;
           };
         },

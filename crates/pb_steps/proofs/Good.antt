@@ -16,7 +16,7 @@ use Rattle.pb_steps.specs.declared.op.PolOp.TheVariants.{Push, Axiom, Add, Mul, 
 use Rattle.pb_steps.specs.Steps.{HasFactor}
 use Rattle.pb_steps.specs.Operations.{axiom_of, scaled, multiple, shrunk, division, saturation, is_other, weakening, negation, is_narrow}
 use Rattle.pb_steps.specs.Database.{Entry, live_constraints, constraint_at}
-use Rattle.pb_steps.specs.Stacks.{on_top, added, after_op, with_room, after_ops}
+use Rattle.pb_steps.specs.Stacks.{after_op, with_room, after_ops}
 use Rattle.pb_steps.proofs.Holding.{axiom_holds, sum_holds, multiple_holds, divided_holds, saturated_holds, weakened_holds}
 
 -- ---- order
@@ -71,14 +71,11 @@ pushed-good : (a : Assignment) (o : Option Constraint) (stack : List Constraint)
 pushed-good a None stack h g = tt
 pushed-good a (Some c) stack h g = All-cons (IsGood a) c stack h g
 
-top-good : (a : Assignment) (f : Constraint → Constraint) → ((c : Constraint) → IsGood a c → IsGood a (f c)) → (stack : List Constraint) → AllGood a stack → StackGood a (on_top f stack)
-top-good a f each [] g = tt
-top-good a f each (c ∷ stack) g = All-cons (IsGood a) (f c) stack (each c (All-head (IsGood a) c stack g)) (All-tail (IsGood a) c stack g)
+top-good : (a : Assignment) (f : Constraint → Constraint) → ((c : Constraint) → IsGood a c → IsGood a (f c)) → (c : Constraint) (stack : List Constraint) → AllGood a (c ∷ stack) → AllGood a (f c ∷ stack)
+top-good a f each c stack g = All-cons (IsGood a) (f c) stack (each c (All-head (IsGood a) c stack g)) (All-tail (IsGood a) c stack g)
 
-added-good : (a : Assignment) (stack : List Constraint) → AllGood a stack → StackGood a (added stack)
-added-good a [] g = tt
-added-good a (c ∷ []) g = tt
-added-good a (d ∷ c ∷ stack) g =
+added-good : (a : Assignment) (c d : Constraint) (stack : List Constraint) → AllGood a (d ∷ c ∷ stack) → AllGood a (sum_of c d ∷ stack)
+added-good a c d stack g =
     let rest = All-tail (IsGood a) d (c ∷ stack) g in
     All-cons (IsGood a) (sum_of c d) stack (sum-good a c d (All-head (IsGood a) c stack rest) (All-head (IsGood a) d (c ∷ stack) g)) (All-tail (IsGood a) c stack rest)
 
@@ -103,11 +100,17 @@ factor-positive n h = grind arith
 after_op-good : (a : Assignment) (live : List Entry) (op : PolOp) (stack : List Constraint) → HasFactor op → AllGood a (live_constraints live) → AllGood a stack → StackGood a (after_op live op stack)
 after_op-good a live (Push id) stack f h g = pushed-good a (constraint_at live id) stack (at-good a live id h) g
 after_op-good a live (Axiom l) stack f h g = All-cons (IsGood a) (axiom_of l) stack (record { holds = axiom_holds a l; ascending = axiom-ascending l }) g
-after_op-good a live Add stack f h g = added-good a stack g
-after_op-good a live (Mul n) stack f h g = top-good a (multiple (unsigned_abs n)) (multiple-good a (unsigned_abs n)) stack g
-after_op-good a live (Div n) stack f h g = top-good a (division (unsigned_abs n)) (divided-good a (unsigned_abs n) (factor-positive n f)) stack g
-after_op-good a live Saturate stack f h g = top-good a saturation (saturated-good a) stack g
-after_op-good a live (Weaken v) stack f h g = top-good a (weakening v) (weakened-good a v) stack g
+after_op-good a live Add [] f h g = tt
+after_op-good a live Add (c ∷ []) f h g = tt
+after_op-good a live Add (d ∷ c ∷ stack) f h g = added-good a c d stack g
+after_op-good a live (Mul n) [] f h g = tt
+after_op-good a live (Mul n) (c ∷ stack) f h g = top-good a (multiple (unsigned_abs n)) (multiple-good a (unsigned_abs n)) c stack g
+after_op-good a live (Div n) [] f h g = tt
+after_op-good a live (Div n) (c ∷ stack) f h g = top-good a (division (unsigned_abs n)) (divided-good a (unsigned_abs n) (factor-positive n f)) c stack g
+after_op-good a live Saturate [] f h g = tt
+after_op-good a live Saturate (c ∷ stack) f h g = top-good a saturation (saturated-good a) c stack g
+after_op-good a live (Weaken v) [] f h g = tt
+after_op-good a live (Weaken v) (c ∷ stack) f h g = top-good a (weakening v) (weakened-good a v) c stack g
 
 room-good : (a : Assignment) (o : Option (List Constraint)) → StackGood a o → StackGood a (option_and_then with_room o)
 room-good a None g = tt

@@ -18,7 +18,7 @@ use Rattle.pb_steps.specs.declared.step.Step.TheVariants.{Blank, Head, Loaded, P
 use Rattle.pb_steps.specs.Operations.{negation}
 use Rattle.pb_steps.specs.Database.{Entry, Database, live_constraints, constraint_at, is_listed, entry, grown, reduced, mark, marked}
 use Rattle.pb_steps.specs.Substitutions.{overwritten, restriction, names_set}
-use Rattle.pb_steps.specs.Allowed.{hinted, to_refute, IsShown, IsMet, IsRedundant, ByRule}
+use Rattle.pb_steps.specs.Allowed.{hinted, IsShown, IsMet, IsRedundant, ByRule}
 use Rattle.pb_steps.proofs.Holding.{holds_or_negation}
 use Rattle.pb_steps.proofs.Implying.{implied_holds}
 use Rattle.pb_steps.proofs.Substituting.{holds-from_restricted, unnamed-value, agree-overwritten}
@@ -77,7 +77,7 @@ shown-holds a live claim goal ascending h n (inr conflict) =
       | inl holds ↦ holds
       | inr not_holds ↦
           let rest = All-cons (Holds a) (negation goal) (live_constraints live) not_holds h in
-          absurd (conflict-unsolvable a (to_refute live claim goal) [] conflict (All-cons (Holds a) (negation claim) (negation goal ∷ live_constraints live) n rest) (All-nil (λ l. lit_value a l ≡ true)))
+          absurd (conflict-unsolvable a (negation claim ∷ negation goal ∷ live_constraints live) [] conflict (All-cons (Holds a) (negation claim) (negation goal ∷ live_constraints live) n rest) (All-nil (λ l. lit_value a l ≡ true)))
     ]
 
 -- ---- substitution

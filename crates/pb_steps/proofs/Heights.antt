@@ -5,9 +5,9 @@ use Rattle.std.proofs.lemmas.Bool.{eqb-true, both_ways}
 use Rattle.pb_norm.specs.Constraints.{Constraint}
 use Rattle.pb_steps.specs.declared.op.PolOp.{PolOp}
 use Rattle.pb_steps.specs.declared.op.PolOp.TheVariants.{Push, Axiom, Add, Mul, Div, Saturate, Weaken}
-use Rattle.pb_steps.specs.Operations.{axiom_of, multiple, division, saturation, weakening, is_narrow}
+use Rattle.pb_steps.specs.Operations.{axiom_of, is_narrow}
 use Rattle.pb_steps.specs.Database.{Entry, constraint_at}
-use Rattle.pb_steps.specs.Stacks.{higher, lower, same_height, height_after, height_from, leaves_one, is_stacked, on_top, added, after_op, with_room, after_ops}
+use Rattle.pb_steps.specs.Stacks.{higher, height_after, height_from, leaves_one, is_stacked, after_op, with_room, after_ops}
 
 -- the stack, if there is one, is as high as told, if it is told
 abbrev IsAsHigh : Option (List Constraint) → Option ℕ → Type 0
@@ -21,23 +21,20 @@ higher-high (Some c) stack = by_test (ltb (length stack) 65536) where
   by_test true = omega arith
   by_test false = tt
 
-top-high : (f : Constraint → Constraint) (stack : List Constraint) → IsAsHigh (on_top f stack) (same_height (length stack))
-top-high f [] = tt
-top-high f (c ∷ stack) = refl
-
-added-high : (stack : List Constraint) → IsAsHigh (added stack) (lower (length stack))
-added-high [] = tt
-added-high (c ∷ []) = tt
-added-high (d ∷ c ∷ stack) = refl
-
 op-high : (live : List Entry) (op : PolOp) (stack : List Constraint) → IsAsHigh (after_op live op stack) (height_after op (length stack))
 op-high live (Push id) stack = higher-high (constraint_at live id) stack
 op-high live (Axiom l) stack = higher-high (Some (axiom_of l)) stack
-op-high live Add stack = added-high stack
-op-high live (Mul n) stack = top-high (multiple (unsigned_abs n)) stack
-op-high live (Div n) stack = top-high (division (unsigned_abs n)) stack
-op-high live Saturate stack = top-high saturation stack
-op-high live (Weaken v) stack = top-high (weakening v) stack
+op-high live Add [] = tt
+op-high live Add (c ∷ []) = tt
+op-high live Add (d ∷ c ∷ stack) = refl
+op-high live (Mul n) [] = tt
+op-high live (Mul n) (c ∷ stack) = refl
+op-high live (Div n) [] = tt
+op-high live (Div n) (c ∷ stack) = refl
+op-high live Saturate [] = tt
+op-high live Saturate (c ∷ stack) = refl
+op-high live (Weaken v) [] = tt
+op-high live (Weaken v) (c ∷ stack) = refl
 
 room-high : (o : Option (List Constraint)) (h : Option ℕ) → IsAsHigh o h → IsAsHigh (option_and_then with_room o) h
 room-high None h k = tt

@@ -3,17 +3,16 @@ use Rattle.std.proofs.Common.{◌≡◌, ℕ, Bool, true, false, cond, List, Opt
 use Rattle.std.specs.Prelude.{ℤ, nat_lt, unsigned_abs, ◌^◌, Result, Ok, Err, codes}
 use Rattle.std.specs.Str.{bytes_eq}
 use Rattle.pb_base.specs.declared.expected.Expected.{Expected}
-use Rattle.pb_base.specs.declared.expected.Expected.TheVariants.{Bit, LoadedCount, SetVar}
+use Rattle.pb_base.specs.declared.expected.Expected.TheVariants.{Bit, SetVar}
 use Rattle.pb_base.specs.declared.limit.LimitKind.{LimitKind}
 use Rattle.pb_base.specs.declared.limit.LimitKind.TheVariants.{Number, Variables}
-use Rattle.pb_base.specs.declared.literal_word.LitWord.{LitWord}
-use Rattle.pb_base.specs.declared.literal_word.LitWord.TheVariants.{Within, TooGreat, NotALiteral}
-use Rattle.pb_base.specs.LiteralWords.{variable_of, literal_of, limited_literal}
+use Rattle.pb_base.specs.declared.literal.Lit.{Lit}
+use Rattle.pb_base.specs.LiteralWords.{variable_of, literal_of}
 use Rattle.pb_base.specs.Numbers.{natural_of, integer_of}
 use Rattle.pb_base.specs.Words.{Chunk}
 use Rattle.pb_steps.specs.declared.fault.StepFault.{StepFault}
 use Rattle.pb_steps.specs.declared.fault.StepFault.TheVariants.{Token, Limit}
-use Rattle.pb_steps.specs.LineWords.{and_then, token_fault, number_between, id_in, count_in, integer_below, integer_in, literal_by, literal_in, variable_in, bit_in}
+use Rattle.pb_steps.specs.LineWords.{and_then, within, number_between, id_in, integer_in, literal_by, literal_in, variable_in, bit_in}
 use Rattle.pb_steps.specs.LineSteps.{with_item}
 use Rattle.pb_steps.specs.laws.FirstWords.{column_of}
 
@@ -82,37 +81,33 @@ at_then {A} {B} column g (Err other) here later = at_err column other (here.stan
 
 -- ---- single words
 
+at_within : {A : Type 0} (fits : A → Bool) (which : LimitKind) (e : Expected) (column : ℕ) (o : Option A) → FaultsAt column (within fits which e column o)
+at_within fits which e column None = at_token column e
+at_within fits which e column (Some x) = at_either column (fits x) (Ok x) (Err (Limit column which)) (at_ok column x) (at_limit column which)
+
 pub at_number : (least bound : ℕ) (e : Expected) (column : ℕ) (o : Option ℕ) → FaultsAt column (number_between least bound e column o)
-at_number least bound e column None = at_token column e
-at_number least bound e column (Some n) = at_either column (nat_lt n least) (token_fault column e) _ (at_token column e) (at_either column (nat_lt n bound) (Ok n) (Err (Limit column Number)) (at_ok column n) (at_limit column Number))
+at_number least bound e column o =
+    at_then column (λ n. cond (nat_lt n least) (Err (Token column e)) (Ok n)) (within (λ n. nat_lt n bound) Number e column o) (at_within (λ n. nat_lt n bound) Number e column o)
+    (λ n. at_either column (nat_lt n least) (Err (Token column e)) (Ok n) (at_token column e) (at_ok column n))
 
 pub at_id : (e : Expected) (w : Chunk) → FaultsAt w.column (id_in e w)
 at_id e w = at_number 1 (2 ^ 63) e w.column (natural_of w.text)
 
-pub at_count : (w : Chunk) → FaultsAt w.column (count_in w)
-at_count w = at_number 0 (2 ^ 63) LoadedCount w.column (natural_of w.text)
-
-at_whole : (e : Expected) (column : ℕ) (o : Option ℤ) → FaultsAt column (integer_below e column o)
-at_whole e column None = at_token column e
-at_whole e column (Some z) = at_either column (nat_lt (unsigned_abs z) (2 ^ 126)) (Ok z) (Err (Limit column Number)) (at_ok column z) (at_limit column Number)
-
 pub at_integer : (e : Expected) (w : Chunk) → FaultsAt w.column (integer_in e w)
-at_integer e w = at_whole e w.column (integer_of w.text)
+at_integer e w = at_within (λ z. nat_lt (unsigned_abs z) (2 ^ 126)) Number e w.column (integer_of w.text)
 
-at_name : (e : Expected) (column : ℕ) (name : LitWord) → FaultsAt column (literal_by e column name)
-at_name e column (Within l) = at_ok column l
-at_name e column TooGreat = at_limit column Variables
-at_name e column NotALiteral = at_token column e
+at_name : (e : Expected) (column : ℕ) (o : Option Lit) → FaultsAt column (literal_by e column o)
+at_name e column o = at_within (λ l. nat_lt l.var (2 ^ 31)) Variables e column o
 
 pub at_literal : (e : Expected) (w : Chunk) → FaultsAt w.column (literal_in e w)
-at_literal e w = at_name e w.column (limited_literal (literal_of w.text))
+at_literal e w = at_name e w.column (literal_of w.text)
 
 pub at_variable : (above : ℕ) (w : Chunk) → FaultsAt w.column (variable_in above w)
 at_variable above w =
-    at_then w.column (λ l. cond (nat_lt above l.var) (Ok l.var) (token_fault w.column SetVar)) (literal_by SetVar w.column (limited_literal (variable_of true w.text))) (at_name SetVar w.column (limited_literal (variable_of true w.text)))
-    (λ l. at_either w.column (nat_lt above l.var) (Ok l.var) (token_fault w.column SetVar) (at_ok w.column l.var) (at_token w.column SetVar))
+    at_then w.column (λ l. cond (nat_lt above l.var) (Ok l.var) (Err (Token w.column SetVar))) (literal_by SetVar w.column (variable_of true w.text)) (at_name SetVar w.column (variable_of true w.text))
+    (λ l. at_either w.column (nat_lt above l.var) (Ok l.var) (Err (Token w.column SetVar)) (at_ok w.column l.var) (at_token w.column SetVar))
 
 pub at_bit : (w : Chunk) → FaultsAt w.column (bit_in w)
 at_bit w =
     at_either w.column (bytes_eq w.text (codes "0")) (Ok false) _ (at_ok w.column false)
-    (at_either w.column (bytes_eq w.text (codes "1")) (Ok true) (token_fault w.column Bit) (at_ok w.column true) (at_token w.column Bit))
+    (at_either w.column (bytes_eq w.text (codes "1")) (Ok true) (Err (Token w.column Bit)) (at_ok w.column true) (at_token w.column Bit))

@@ -1,6 +1,6 @@
 -- What the words of a line stand for, by what was read.
 use Rattle.std.proofs.Common.{◌≡◌, ◌<◌, ◌^◌, ◌++◌, ℕ, Bool, true, false, cond, List, [], ◌∷◌, map, refl, sym, subst}
-use Rattle.std.specs.Prelude.{ℤ, unsigned_abs, Ok, codes}
+use Rattle.std.specs.Prelude.{ℤ, unsigned_abs, Ok, Err, codes}
 use Rattle.std.specs.List.{flat_map, AllByRecursion}
 use Rattle.std.specs.Str.{bytes_eq}
 use Rattle.pb_base.specs.declared.literal.Term.{Term}
@@ -9,7 +9,7 @@ use Rattle.pb_base.specs.declared.expected.Expected.TheVariants as expected
 use Rattle.pb_base.specs.Words.{Chunk}
 use Rattle.pb_steps.specs.declared.fault.StepFault.TheVariants.{Token}
 use Rattle.pb_steps.specs.declared.op.Set.{Set}
-use Rattle.pb_steps.specs.LineWords.{and_then, token_fault, id_in, integer_in, literal_in, variable_in, bit_in}
+use Rattle.pb_steps.specs.LineWords.{and_then, id_in, integer_in, literal_in, variable_in, bit_in}
 use Rattle.pb_steps.specs.LineSteps.{with_item, with_first_term, past, ids_in, terms_in, term_in, Written, right_in, constraint_by, constraint_in, sets_in, arrow_in, value_in}
 use Rattle.pb_steps.specs.StepGrammar.{SpellAll, term_symbols, set_symbols, constraint_symbols, StepSymbol, texts}
 use Rattle.pb_steps.specs.Sayable.{IsId, IsTerm, Ascend}
@@ -41,9 +41,9 @@ pub terms_read : (end : ℕ) (ws : List Chunk) (p : List Term × List Chunk) →
 terms_read end [] p h = cc
 terms_read end (w ∷ []) p h = by_sign (bytes_eq w.text (codes ">=")) (key_from w.text (codes ">=")) h
   where
-    by_sign : (t : Bool) → (t ≡ true → w.text ≡ codes ">=") → cond t (Ok ([], [])) (and_then (λ coef. token_fault end expected.Literal) (integer_in expected.Term w)) ≡ Ok p → Sums (w ∷ []) p
+    by_sign : (t : Bool) → (t ≡ true → w.text ≡ codes ">=") → cond t (Ok ([], [])) (and_then (λ coef. Err (Token end expected.Literal)) (integer_in expected.Term w)) ≡ Ok p → Sums (w ∷ []) p
     by_sign true same h = let e : ([], []) ≡ p = cc in subst (Sums (w ∷ [])) e ((λ rest sp. (same refl, sp)), tt)
-    by_sign false same h = let (coef, first, none) = and_then_from (λ coef. token_fault end expected.Literal) (integer_in expected.Term w) p h in cc
+    by_sign false same h = let (coef, first, none) = and_then_from (λ coef. Err (Token end expected.Literal)) (integer_in expected.Term w) p h in cc
 terms_read end (w ∷ v ∷ ws) p h = by_sign (bytes_eq w.text (codes ">=")) (key_from w.text (codes ">=")) (λ q read. terms_read end ws q read) h
   where
     by_sign : (t : Bool) → (t ≡ true → w.text ≡ codes ">=") → ((q : List Term × List Chunk) → terms_in end ws ≡ Ok q → Sums ws q) → cond t (Ok ([], v ∷ ws)) (and_then (λ coef. term_in end coef (v ∷ ws)) (integer_in expected.Term w)) ≡ Ok p → Sums (w ∷ v ∷ ws) p
@@ -103,10 +103,10 @@ sets_read end above [] sets h = let e : [] ≡ sets = cc in subst (Sets above []
 sets_read end above (w ∷ []) sets h = let (v, first, none) = and_then_from (λ v. arrow_in end v []) (variable_in above w) sets h in cc
 sets_read end above (w ∷ a ∷ []) sets h =
     let (v, first, behind) = and_then_from (λ v. arrow_in end v (a ∷ [])) (variable_in above w) sets h in
-    let none = key_read a.text (codes "->") (token_fault end expected.Bit) (Token a.column expected.Arrow) sets behind in
+    let none = key_read a.text (codes "->") (Err (Token end expected.Bit)) (Token a.column expected.Arrow) sets behind in
     absurd (no_value none.1)
   where
-    no_value : token_fault end expected.Bit ≡ Ok sets → ⊥
+    no_value : Err (Token end expected.Bit) ≡ Ok sets → ⊥
     no_value h = cc
 sets_read end above (w ∷ a ∷ b ∷ ws) sets h =
     let (v, first, behind) = and_then_from (λ v. arrow_in end v (a ∷ b ∷ ws)) (variable_in above w) sets h in

@@ -1,15 +1,16 @@
 -- A line that is read as a step says it.
 use Rattle.std.proofs.Common.{◌≡◌, ◌≢◌, ◌^◌, ℕ, Bool, true, false, cond, List, [], ◌∷◌, map, refl, sym, subst}
-use Rattle.std.specs.Prelude.{Result, Ok, codes}
+use Rattle.std.specs.Prelude.{Result, Ok, Err, codes}
 use Rattle.std.specs.List.{flat_map}
 use Rattle.std.specs.Str.{bytes_eq}
 use Rattle.pb_base.specs.declared.expected.Expected.TheVariants as expected
 use Rattle.pb_base.specs.Numbers.{natural_of}
 use Rattle.pb_base.specs.Words.{Chunk}
 use Rattle.pb_steps.specs.declared.fault.StepFault.{StepFault}
+use Rattle.pb_steps.specs.declared.fault.StepFault.TheVariants.{Token}
 use Rattle.pb_steps.specs.declared.step.Step.{Step}
 use Rattle.pb_steps.specs.declared.step.Step.TheVariants.{Blank, Head, Loaded, Pol, Rup, Red, Del, Out, End}
-use Rattle.pb_steps.specs.LineWords.{and_then, token_fault, id_in, count_in}
+use Rattle.pb_steps.specs.LineWords.{and_then, id_in, number_between}
 use Rattle.pb_steps.specs.LineSteps.{ends_here, past, ops_from, ids_in, sets_in, constraint_in, rup_in, red_in, del_in, out_in, loaded_in, head_in, place_by, said_in}
 use Rattle.pb_steps.specs.StepGrammar.{begins_with_star, SpellAll, set_symbols, texts, WordsSay}
 use Rattle.pb_steps.specs.StepGrammar.StepSymbol.{key, number}
@@ -22,7 +23,7 @@ use Rattle.pb_steps.proofs.ReadOps.{ops_read}
 abbrev Follow : List ℕ → List Chunk → Step → Type 0
 Follow verb ws s = WordsSay (verb ∷ texts ws) s
 
-alone_read : (s t : Step) (ws : List Chunk) → ends_here s ws ≡ Ok t → (s ≡ t) × SpellAll (texts ws) []
+alone_read : (s t : Step) (ws : List Chunk) → ends_here expected.LineEnd s ws ≡ Ok t → (s ≡ t) × SpellAll (texts ws) []
 alone_read s t [] h = (cc, tt)
 alone_read s t (w ∷ ws) h = cc
 
@@ -66,7 +67,7 @@ del_read end (w ∷ ws) s h =
 out_read : (end : ℕ) (ws : List Chunk) (s : Step) → out_in end ws ≡ Ok s → Follow (codes "out") ws s
 out_read end [] s h = cc
 out_read end (w ∷ ws) s h =
-    let (id, read, behind) = and_then_from (λ id. ends_here (Out id) ws) (id_in expected.Id w) s h in
+    let (id, read, behind) = and_then_from (λ id. ends_here expected.LineEnd (Out id) ws) (id_in expected.Id w) s h in
     let a = alone_read (Out id) s ws behind in
     let i = id_from expected.Id w id read in
     subst (Follow (codes "out") (w ∷ ws)) a.0 ((refl, (i.0, a.1)), i.1)
@@ -74,16 +75,16 @@ out_read end (w ∷ ws) s h =
 loaded_read : (end : ℕ) (ws : List Chunk) (s : Step) → loaded_in end ws ≡ Ok s → Follow (codes "f") ws s
 loaded_read end [] s h = cc
 loaded_read end (w ∷ ws) s h =
-    let (n, read, behind) = and_then_from (λ n. ends_here (Loaded n) ws) (count_in w) s h in
+    let (n, read, behind) = and_then_from (λ n. ends_here expected.LineEnd (Loaded n) ws) (number_between 0 (2 ^ 63) expected.LoadedCount w.column (natural_of w.text)) s h in
     let a = alone_read (Loaded n) s ws behind in
     let i = counted_from 0 (2 ^ 63) expected.LoadedCount w.column (natural_of w.text) n read in
     subst (Follow (codes "f") (w ∷ ws)) a.0 ((refl, (i.0, a.1)), i.2)
 
 head_read : (end : ℕ) (ws : List Chunk) (s : Step) → head_in end ws ≡ Ok s → Follow (codes "pseudo-Boolean") ws s
 head_read end ws s h =
-    let (us, first, behind) = and_then_from (λ us. and_then (λ vs. and_then (ends_here Head) (past end (codes "1") expected.Head vs)) (past end (codes "profile") expected.Head us)) (past end (codes "derivation") expected.Head ws) s h in
-    let (vs, second, behind2) = and_then_from (λ vs. and_then (ends_here Head) (past end (codes "1") expected.Head vs)) (past end (codes "profile") expected.Head us) s behind in
-    let (xs, third, last) = and_then_from (ends_here Head) (past end (codes "1") expected.Head vs) s behind2 in
+    let (us, first, behind) = and_then_from (λ us. and_then (λ vs. and_then (ends_here expected.LineEnd Head) (past end (codes "1") expected.Head vs)) (past end (codes "profile") expected.Head us)) (past end (codes "derivation") expected.Head ws) s h in
+    let (vs, second, behind2) = and_then_from (λ vs. and_then (ends_here expected.LineEnd Head) (past end (codes "1") expected.Head vs)) (past end (codes "profile") expected.Head us) s behind in
+    let (xs, third, last) = and_then_from (ends_here expected.LineEnd Head) (past end (codes "1") expected.Head vs) s behind2 in
     let a = alone_read Head s xs last in
     subst (Follow (codes "pseudo-Boolean") ws) a.0 (
       (
@@ -94,7 +95,7 @@ head_read end ws s h =
       tt,
     )
 
-end_read : (ws : List Chunk) (s : Step) → ends_here End ws ≡ Ok s → Follow (codes "end") ws s
+end_read : (ws : List Chunk) (s : Step) → ends_here expected.LineEnd End ws ≡ Ok s → Follow (codes "end") ws s
 end_read ws s h = let a = alone_read End s ws h in subst (Follow (codes "end") ws) a.0 ((refl, a.1), tt)
 
 -- one first word, or another
@@ -108,10 +109,10 @@ by_word w ws k r q s here there h = by_test (bytes_eq w.text k) (key_from w.text
 place_read : (end : ℕ) (w : Chunk) (ws : List Chunk) (s : Step) → place_by end w ws ≡ Ok s → Follow w.text ws s
 place_read end w ws s h = by_star (begins_with_star w.text) refl h
   where
-    none : token_fault w.column expected.StepWord ≡ Ok s → Follow w.text ws s
+    none : Err (Token w.column expected.StepWord) ≡ Ok s → Follow w.text ws s
     none h = cc
 
-    by_star : (t : Bool) → begins_with_star w.text ≡ t → cond t (Ok Blank) (cond (bytes_eq w.text (codes "end")) (ends_here End ws) (cond (bytes_eq w.text (codes "f")) (loaded_in end ws) (cond (bytes_eq w.text (codes "pseudo-Boolean")) (head_in end ws) (token_fault w.column expected.StepWord)))) ≡ Ok s → Follow w.text ws s
+    by_star : (t : Bool) → begins_with_star w.text ≡ t → cond t (Ok Blank) (cond (bytes_eq w.text (codes "end")) (ends_here expected.LineEnd End ws) (cond (bytes_eq w.text (codes "f")) (loaded_in end ws) (cond (bytes_eq w.text (codes "pseudo-Boolean")) (head_in end ws) (Err (Token w.column expected.StepWord))))) ≡ Ok s → Follow w.text ws s
     by_star true star h = let e : Blank ≡ s = cc in subst (Follow w.text ws) e star
     by_star false star h = by_word w ws (codes "end") _ _ s (end_read ws s) (by_word w ws (codes "f") _ _ s (loaded_read end ws s) (by_word w ws (codes "pseudo-Boolean") _ _ s (head_read end ws s) none)) h
 

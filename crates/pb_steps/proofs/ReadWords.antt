@@ -6,14 +6,14 @@ use Rattle.std.proofs.lemmas.Bool.Decides.{nat_tests}
 use Rattle.pb_base.specs.declared.literal.Lit.{Lit}
 use Rattle.pb_base.specs.declared.expected.Expected.{Expected}
 use Rattle.pb_base.specs.declared.expected.Expected.TheVariants.{Bit, SetVar}
-use Rattle.pb_base.specs.declared.limit.LimitKind.TheVariants.{Number}
+use Rattle.pb_base.specs.declared.limit.LimitKind.{LimitKind}
+use Rattle.pb_base.specs.declared.limit.LimitKind.TheVariants.{Number, Variables}
 use Rattle.pb_base.specs.Numbers.{natural_of, integer_of}
 use Rattle.pb_base.specs.Words.{Chunk}
-use Rattle.pb_base.specs.declared.literal_word.LitWord.TheVariants.{Within, TooGreat}
-use Rattle.pb_base.specs.LiteralWords.{indexed, variable_of, literal_of, limited_literal}
+use Rattle.pb_base.specs.LiteralWords.{indexed, variable_of, literal_of}
 use Rattle.pb_steps.specs.declared.fault.StepFault.{StepFault}
 use Rattle.pb_steps.specs.declared.fault.StepFault.TheVariants.{Token, Limit}
-use Rattle.pb_steps.specs.LineWords.{and_then, token_fault, number_between, id_in, integer_below, integer_in, literal_by, literal_in, variable_in, bit_in}
+use Rattle.pb_steps.specs.LineWords.{and_then, within, number_between, id_in, integer_in, literal_by, literal_in, variable_in, bit_in}
 use Rattle.pb_steps.specs.Sayable.{IsId, IsVariable}
 use Rattle.pb_steps.specs.StepGrammar.{bit_word}
 use Rattle.pb_steps.proofs.SpelledWords.{key_from}
@@ -31,41 +31,37 @@ passed false r fault a h = cc
 pub key_read : {A : Type 0} (w k : List ℕ) (r : Result A StepFault) (fault : StepFault) (a : A) → cond (bytes_eq w k) r (Err fault) ≡ Ok a → (w ≡ k) × (r ≡ Ok a)
 key_read w k r fault a h = let p = passed (bytes_eq w k) r fault a h in (key_from w k p.0, p.1)
 
-some_counted : (least bound : ℕ) (e : Expected) (column m n : ℕ) (low below : Bool) → nat_lt m least ≡ low → nat_lt m bound ≡ below → cond low (token_fault column e) (cond below (Ok m) (Err (Limit column Number))) ≡ Ok n → (m ≡ n) × (least ≤ n) × (n < bound)
-some_counted least bound e column m n true below l b h = cc
-some_counted least bound e column m n false true l b h = let same : m ≡ n = cc in (same, grind (arith, nat_tests), grind (arith, nat_tests))
-some_counted least bound e column m n false false l b h = cc
+-- what was read within a limit
+within_from : {A : Type 0} (fits : A → Bool) (which : LimitKind) (e : Expected) (column : ℕ) (o : Option A) (x : A) → within fits which e column o ≡ Ok x → (o ≡ Some x) × (fits x ≡ true)
+within_from fits which e column None x h = cc
+within_from fits which e column (Some y) x h =
+    let p = passed (fits y) (Ok y) (Limit column which) x h in
+    let same : y ≡ x = cc in
+    (ap Some same, ap fits (sym same) ∙ p.0)
+
+from_least : (least : ℕ) (fault : StepFault) (m n : ℕ) (low : Bool) → nat_lt m least ≡ low → cond low (Err fault) (Ok m) ≡ Ok n → (m ≡ n) × (least ≤ n)
+from_least least fault m n true l h = cc
+from_least least fault m n false l h = let same : m ≡ n = cc in (same, grind (arith, nat_tests))
 
 pub counted_from : (least bound : ℕ) (e : Expected) (column : ℕ) (o : Option ℕ) (n : ℕ) → number_between least bound e column o ≡ Ok n → (o ≡ Some n) × (least ≤ n) × (n < bound)
-counted_from least bound e column None n h = cc
-counted_from least bound e column (Some m) n h =
-    let c = some_counted least bound e column m n (nat_lt m least) (nat_lt m bound) refl refl h in
-    (ap Some c.0, c.1, c.2)
+counted_from least bound e column o n h =
+    let (m, read, behind) = and_then_from (λ m. cond (nat_lt m least) (Err (Token column e)) (Ok m)) (within (λ m. nat_lt m bound) Number e column o) n h in
+    let w = within_from (λ m. nat_lt m bound) Number e column o m read in
+    let l = from_least least (Token column e) m n (nat_lt m least) refl behind in
+    (w.0 ∙ ap Some l.0, l.1, grind (arith, nat_tests, l.0, w.1))
 
 pub id_from : (e : Expected) (w : Chunk) (id : ℕ) → id_in e w ≡ Ok id → (natural_of w.text ≡ Some id) × IsId id
 id_from e w id h = let c = counted_from 1 (2 ^ 63) e w.column (natural_of w.text) id h in (c.0, (c.1, c.2))
 
-whole_from : (e : Expected) (column : ℕ) (o : Option ℤ) (z : ℤ) → integer_below e column o ≡ Ok z → (o ≡ Some z) × (unsigned_abs z < 2 ^ 126)
-whole_from e column None z h = cc
-whole_from e column (Some y) z h =
-    let p = passed (nat_lt (unsigned_abs y) (2 ^ 126)) (Ok y) (Limit column Number) z h in
-    let same : y ≡ z = cc in
-    let below : nat_lt (unsigned_abs z) (2 ^ 126) ≡ true = ap (λ (x : ℤ). nat_lt (unsigned_abs x) (2 ^ 126)) (sym same) ∙ p.0 in
-    (ap Some same, grind (arith, nat_tests))
-
 pub integer_from : (e : Expected) (w : Chunk) (z : ℤ) → integer_in e w ≡ Ok z → (integer_of w.text ≡ Some z) × (unsigned_abs z < 2 ^ 126)
-integer_from e w z h = whole_from e w.column (integer_of w.text) z h
+integer_from e w z h =
+    let n = within_from (λ z. nat_lt (unsigned_abs z) (2 ^ 126)) Number e w.column (integer_of w.text) z h in
+    (n.0, grind (arith, nat_tests, n.1))
 
-named_by : (e : Expected) (column : ℕ) (k l : Lit) (b : Bool) → nat_lt k.var (2 ^ 31) ≡ b → literal_by e column (cond b (Within k) TooGreat) ≡ Ok l → (Some k ≡ Some l) × (l.var < 2 ^ 31)
-named_by e column k l true low h =
-    let same : k ≡ l = cc in
-    let below : nat_lt l.var (2 ^ 31) ≡ true = ap (λ (x : Lit). nat_lt x.var (2 ^ 31)) (sym same) ∙ low in
-    (ap Some same, grind (arith, nat_tests))
-named_by e column k l false high h = cc
-
-named_from : (e : Expected) (column : ℕ) (o : Option Lit) (l : Lit) → literal_by e column (limited_literal o) ≡ Ok l → (o ≡ Some l) × (l.var < 2 ^ 31)
-named_from e column None l h = cc
-named_from e column (Some k) l h = named_by e column k l (nat_lt k.var (2 ^ 31)) refl h
+named_from : (e : Expected) (column : ℕ) (o : Option Lit) (l : Lit) → literal_by e column o ≡ Ok l → (o ≡ Some l) × (l.var < 2 ^ 31)
+named_from e column o l h =
+    let n = within_from (λ l. nat_lt l.var (2 ^ 31)) Variables e column o l h in
+    (n.0, grind (arith, nat_tests, n.1))
 
 -- an index is at least 1
 from_one : (positive : Bool) (n : ℕ) (l : Lit) (z : Bool) → (n == 0) ≡ z → cond z None (Some (record { var = n; positive = positive })) ≡ Some l → (1 ≤ l.var) × (l.positive ≡ positive)
@@ -98,7 +94,7 @@ literal_from_one (b ∷ ds) l h = sign_from b ds l (b == 126) h
 pub literal_from : (e : Expected) (w : Chunk) (l : Lit) → literal_in e w ≡ Ok l → (literal_of w.text ≡ Some l) × IsVariable l.var
 literal_from e w l h = let n = named_from e w.column (literal_of w.text) l h in (n.0, (literal_from_one w.text l n.0, n.1))
 
-greater_from : (above column v : ℕ) (l : Lit) → cond (nat_lt above l.var) (Ok l.var) (token_fault column SetVar) ≡ Ok v → (l.var ≡ v) × (above < v)
+greater_from : (above column v : ℕ) (l : Lit) → cond (nat_lt above l.var) (Ok l.var) (Err (Token column SetVar)) ≡ Ok v → (l.var ≡ v) × (above < v)
 greater_from above column v l h =
     let p = passed (nat_lt above l.var) (Ok l.var) (Token column SetVar) v h in
     let same : l.var ≡ v = cc in
@@ -110,7 +106,7 @@ lit_is l v e p = ap (λ (x : ℕ). record { var = x; positive = l.positive }) e 
 
 pub variable_from : (above : ℕ) (w : Chunk) (v : ℕ) → variable_in above w ≡ Ok v → (variable_of true w.text ≡ Some (record { var = v; positive = true })) × (above < v) × (v < 2 ^ 31)
 variable_from above w v h =
-    let (l, read, rest) = and_then_from (λ (l : Lit). cond (nat_lt above l.var) (Ok l.var) (token_fault w.column SetVar)) (literal_by SetVar w.column (limited_literal (variable_of true w.text))) v h in
+    let (l, read, rest) = and_then_from (λ (l : Lit). cond (nat_lt above l.var) (Ok l.var) (Err (Token w.column SetVar))) (literal_by SetVar w.column (variable_of true w.text)) v h in
     let n = named_from SetVar w.column (variable_of true w.text) l read in
     let g = greater_from above w.column v l rest in
     (n.0 ∙ ap Some (lit_is l v g.0 (variable_from_one true w.text l n.0).1), g.1, omega (arith, g.0, n.1))
@@ -118,10 +114,10 @@ variable_from above w v h =
 pub bit_from : (w : Chunk) (value : Bool) → bit_in w ≡ Ok value → w.text ≡ bit_word value
 bit_from w value h = by_zero (bytes_eq w.text (codes "0")) (key_from w.text (codes "0")) h
   where
-    by_one : (t : Bool) → (t ≡ true → w.text ≡ codes "1") → cond t (Ok true) (token_fault w.column Bit) ≡ Ok value → w.text ≡ bit_word value
+    by_one : (t : Bool) → (t ≡ true → w.text ≡ codes "1") → cond t (Ok true) (Err (Token w.column Bit)) ≡ Ok value → w.text ≡ bit_word value
     by_one true same h = let e : true ≡ value = cc in same refl ∙ ap bit_word e
     by_one false same h = cc
 
-    by_zero : (t : Bool) → (t ≡ true → w.text ≡ codes "0") → cond t (Ok false) (cond (bytes_eq w.text (codes "1")) (Ok true) (token_fault w.column Bit)) ≡ Ok value → w.text ≡ bit_word value
+    by_zero : (t : Bool) → (t ≡ true → w.text ≡ codes "0") → cond t (Ok false) (cond (bytes_eq w.text (codes "1")) (Ok true) (Err (Token w.column Bit))) ≡ Ok value → w.text ≡ bit_word value
     by_zero true same h = let e : false ≡ value = cc in same refl ∙ ap bit_word e
     by_zero false same h = by_one (bytes_eq w.text (codes "1")) (key_from w.text (codes "1")) h

@@ -1,6 +1,6 @@
 -- Words that say a step are read as it.
 use Rattle.std.proofs.Common.{◌≡◌, ◌^◌, ℕ, Bool, true, false, cond, List, [], ◌∷◌, map, refl, ap, ◌∙◌, arith}
-use Rattle.std.specs.Prelude.{Result, Ok, codes, ℤ}
+use Rattle.std.specs.Prelude.{Result, Ok, Err, codes, ℤ}
 use Rattle.std.specs.List.{flat_map}
 use Rattle.std.specs.Str.{bytes_eq}
 use Rattle.pb_base.specs.declared.literal.Term.{Term}
@@ -8,10 +8,11 @@ use Rattle.pb_base.specs.declared.expected.Expected.TheVariants as expected
 use Rattle.pb_base.specs.Numbers.{natural_of}
 use Rattle.pb_base.specs.Words.{Chunk}
 use Rattle.pb_steps.specs.declared.fault.StepFault.{StepFault}
+use Rattle.pb_steps.specs.declared.fault.StepFault.TheVariants.{Token}
 use Rattle.pb_steps.specs.declared.op.Set.{Set}
 use Rattle.pb_steps.specs.declared.step.Step.{Step}
 use Rattle.pb_steps.specs.declared.step.Step.TheVariants.{Blank, Head, Loaded, Pol, Rup, Red, Del, Out, End}
-use Rattle.pb_steps.specs.LineWords.{and_then, token_fault}
+use Rattle.pb_steps.specs.LineWords.{and_then}
 use Rattle.pb_steps.specs.LineSteps.{ends_here, past, ids_in, sets_in, rup_in, red_in, del_in, out_in, loaded_in, head_in, said_by, said_in}
 use Rattle.pb_steps.specs.StepGrammar.{begins_with_star, SpellAll, constraint_symbols, set_symbols, texts, WordsSay}
 use Rattle.pb_steps.specs.Sayable.{IsSayable}
@@ -38,26 +39,26 @@ del_is end [] [] sp ok = absurd (ok.1 refl)
 del_is end [] (id ∷ ids) sp ok = absurd sp
 del_is end (w ∷ ws) ids sp ok = ap (and_then (λ is. Ok (Del is))) (ids_spelled (w ∷ ws) ids sp ok.0)
 
-alone_is : (s : Step) (ws : List Chunk) → SpellAll (texts ws) [] → ends_here s ws ≡ Ok s
+alone_is : (s : Step) (ws : List Chunk) → SpellAll (texts ws) [] → ends_here expected.LineEnd s ws ≡ Ok s
 alone_is s [] sp = refl
 alone_is s (w ∷ ws) sp = absurd sp
 
 out_is : (end : ℕ) (ws : List Chunk) (id : ℕ) → SpellAll (texts ws) (number id ∷ []) → IsSayable (Out id) → out_in end ws ≡ Ok (Out id)
 out_is end [] id sp ok = absurd sp
-out_is end (w ∷ ws) id sp ok = ap (and_then (λ i. ends_here (Out i) ws)) (id_is expected.Id w id sp.0 ok) ∙ alone_is (Out id) ws sp.1
+out_is end (w ∷ ws) id sp ok = ap (and_then (λ i. ends_here expected.LineEnd (Out i) ws)) (id_is expected.Id w id sp.0 ok) ∙ alone_is (Out id) ws sp.1
 
 loaded_is : (end : ℕ) (ws : List Chunk) (n : ℕ) → SpellAll (texts ws) (number n ∷ []) → IsSayable (Loaded n) → loaded_in end ws ≡ Ok (Loaded n)
 loaded_is end [] n sp ok = absurd sp
-loaded_is end (w ∷ ws) n sp ok = ap (and_then (λ i. ends_here (Loaded i) ws)) (counted_is 0 (2 ^ 63) expected.LoadedCount w.column (natural_of w.text) n sp.0 (omega arith) ok) ∙ alone_is (Loaded n) ws sp.1
+loaded_is end (w ∷ ws) n sp ok = ap (and_then (λ i. ends_here expected.LineEnd (Loaded i) ws)) (counted_is 0 (2 ^ 63) expected.LoadedCount w.column (natural_of w.text) n sp.0 (omega arith) ok) ∙ alone_is (Loaded n) ws sp.1
 
 head_is : (end : ℕ) (ws : List Chunk) → SpellAll (texts ws) (key (codes "derivation") ∷ key (codes "profile") ∷ key (codes "1") ∷ []) → head_in end ws ≡ Ok Head
 head_is end [] sp = absurd sp
 head_is end (d ∷ []) sp = absurd sp.1
 head_is end (d ∷ p ∷ []) sp = absurd sp.1.1
 head_is end (d ∷ p ∷ one ∷ ws) sp =
-    ap (and_then (λ us. and_then (λ vs. and_then (ends_here Head) (past end (codes "1") expected.Head vs)) (past end (codes "profile") expected.Head us))) (take_key d (codes "derivation") (Ok (p ∷ one ∷ ws)) (token_fault d.column expected.Head) sp.0)
-    ∙ ap (and_then (λ vs. and_then (ends_here Head) (past end (codes "1") expected.Head vs))) (take_key p (codes "profile") (Ok (one ∷ ws)) (token_fault p.column expected.Head) sp.1.0)
-    ∙ ap (and_then (ends_here Head)) (take_key one (codes "1") (Ok ws) (token_fault one.column expected.Head) sp.1.1.0)
+    ap (and_then (λ us. and_then (λ vs. and_then (ends_here expected.LineEnd Head) (past end (codes "1") expected.Head vs)) (past end (codes "profile") expected.Head us))) (take_key d (codes "derivation") (Ok (p ∷ one ∷ ws)) (Err (Token d.column expected.Head)) sp.0)
+    ∙ ap (and_then (λ vs. and_then (ends_here expected.LineEnd Head) (past end (codes "1") expected.Head vs))) (take_key p (codes "profile") (Ok (one ∷ ws)) (Err (Token p.column expected.Head)) sp.1.0)
+    ∙ ap (and_then (ends_here expected.LineEnd Head)) (take_key one (codes "1") (Ok ws) (Err (Token one.column expected.Head)) sp.1.1.0)
     ∙ alone_is Head ws sp.1.1.1
 
 -- a comment is no first word of a step
@@ -69,7 +70,7 @@ comment_is end w ws star =
     ∙ pass_key w (codes "red") _ _ (no (codes "red") refl)
     ∙ pass_key w (codes "del") _ _ (no (codes "del") refl)
     ∙ pass_key w (codes "out") _ _ (no (codes "out") refl)
-    ∙ ap (λ (b : Bool). cond b (Ok Blank) (cond (bytes_eq w.text (codes "end")) (ends_here End ws) (cond (bytes_eq w.text (codes "f")) (loaded_in end ws) (cond (bytes_eq w.text (codes "pseudo-Boolean")) (head_in end ws) (token_fault w.column expected.StepWord))))) star
+    ∙ ap (λ (b : Bool). cond b (Ok Blank) (cond (bytes_eq w.text (codes "end")) (ends_here expected.LineEnd End ws) (cond (bytes_eq w.text (codes "f")) (loaded_in end ws) (cond (bytes_eq w.text (codes "pseudo-Boolean")) (head_in end ws) (Err (Token w.column expected.StepWord)))))) star
 
 pub said_is : (end : ℕ) (ws : List Chunk) (s : Step) → WordsSay (texts ws) s → said_in end ws ≡ Ok s
 said_is end [] Blank says = refl

@@ -1,6 +1,6 @@
 -- A line whose words stand for a step says it.
 use Rattle.std.proofs.Common.{◌≡◌, ◌≤◌, ◌<◌, ◌^◌, ◌++◌, ℕ, Bool, true, false, cond, List, [], ◌∷◌, map, Option, Some, None, refl, sym, ap, ◌∙◌, subst, arith}
-use Rattle.std.specs.Prelude.{ℤ, pos, unsigned_abs, Result, Ok, codes}
+use Rattle.std.specs.Prelude.{ℤ, pos, unsigned_abs, Result, Ok, Err, codes}
 use Rattle.std.specs.Option.{option_map}
 use Rattle.std.specs.List.{flat_map, AllByRecursion}
 use Rattle.std.specs.Str.{bytes_eq}
@@ -12,10 +12,11 @@ use Rattle.pb_base.specs.Numbers.{natural_of, integer_of}
 use Rattle.pb_base.specs.Words.{Chunk}
 use Rattle.pb_base.specs.LiteralWords.{literal_of}
 use Rattle.pb_steps.specs.declared.fault.StepFault.{StepFault}
+use Rattle.pb_steps.specs.declared.fault.StepFault.TheVariants.{Token}
 use Rattle.pb_steps.specs.declared.op.Set.{Set}
 use Rattle.pb_steps.specs.declared.op.PolOp.{PolOp}
 use Rattle.pb_steps.specs.declared.op.PolOp.TheVariants.{Push, Axiom, Add, Mul, Div, Saturate, Weaken}
-use Rattle.pb_steps.specs.LineWords.{and_then, token_fault, number_between, bit_in}
+use Rattle.pb_steps.specs.LineWords.{and_then, number_between, bit_in}
 use Rattle.pb_steps.specs.LineSteps.{with_item, with_first_term, past, number_op, literal_op, op_by, op_of, next_text, ops_from, ids_in, terms_in, term_in, Written, right_in, constraint_by, constraint_in, sets_in, arrow_in, value_in}
 use Rattle.pb_steps.specs.StepGrammar.{StepSymbol, SpellAll, op_symbols, term_symbols, bit_word, set_symbols, constraint_symbols, texts}
 use Rattle.pb_steps.specs.Sayable.{IsId, IsFactor, IsVariable, IsOp, IsTerm, Ascend}
@@ -64,7 +65,7 @@ right_spelled end (w ∷ []) right rest sp ok = absurd sp.1
 right_spelled end (w ∷ v ∷ ws) right rest sp ok = (
   ws,
   ap (and_then (λ z. and_then (λ us. Ok (z, us)) (past end (codes ";") expected.Semicolon (v ∷ ws)))) (integer_is expected.Integer w right sp.0 ok)
-      ∙ ap (and_then (λ us. Ok (right, us))) (take_key v (codes ";") (Ok ws) (token_fault v.column expected.Semicolon) sp.1.0),
+      ∙ ap (and_then (λ us. Ok (right, us))) (take_key v (codes ";") (Ok ws) (Err (Token v.column expected.Semicolon)) sp.1.0),
   sp.1.1,
 )
 

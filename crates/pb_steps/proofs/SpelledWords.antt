@@ -8,35 +8,35 @@ use Rattle.std.proofs.lemmas.Slice.Eq.{bytes_eq-Decides}
 use Rattle.pb_base.specs.declared.literal.Lit.{Lit}
 use Rattle.pb_base.specs.declared.expected.Expected.{Expected}
 use Rattle.pb_base.specs.declared.expected.Expected.TheVariants.{SetVar}
-use Rattle.pb_base.specs.declared.limit.LimitKind.TheVariants.{Number}
+use Rattle.pb_base.specs.declared.limit.LimitKind.{LimitKind}
+use Rattle.pb_base.specs.declared.limit.LimitKind.TheVariants.{Number, Variables}
 use Rattle.pb_base.specs.Numbers.{weighed, natural_of, integer_of}
 use Rattle.pb_base.specs.Words.{Chunk}
-use Rattle.pb_base.specs.declared.literal_word.LitWord.TheVariants.{Within, TooGreat}
-use Rattle.pb_base.specs.LiteralWords.{indexed, variable_of, literal_of, limited_literal}
-use Rattle.pb_steps.specs.declared.fault.StepFault.TheVariants.{Limit}
-use Rattle.pb_steps.specs.LineWords.{and_then, token_fault, number_between, id_in, integer_below, integer_in, literal_by, literal_in, variable_in}
+use Rattle.pb_base.specs.LiteralWords.{indexed, variable_of, literal_of}
+use Rattle.pb_steps.specs.declared.fault.StepFault.TheVariants.{Token, Limit}
+use Rattle.pb_steps.specs.LineWords.{and_then, within, number_between, id_in, integer_in, literal_by, literal_in, variable_in}
 use Rattle.pb_steps.specs.Sayable.{IsId, IsVariable}
+
+-- what is within a limit is read
+within_is : {A : Type 0} (fits : A → Bool) (which : LimitKind) (e : Expected) (column : ℕ) (o : Option A) (x : A) → o ≡ Some x → fits x ≡ true → within fits which e column o ≡ Ok x
+within_is fits which e column o x is fit = ap (within fits which e column) is ∙ ap (λ (b : Bool). cond b (Ok x) (Err (Limit column which))) fit
 
 pub counted_is : (least bound : ℕ) (e : Expected) (column : ℕ) (o : Option ℕ) (n : ℕ) → o ≡ Some n → least ≤ n → n < bound → number_between least bound e column o ≡ Ok n
 counted_is least bound e column o n is low high =
     let not_low : nat_lt n least ≡ false = grind (arith, nat_tests) in
     let below : nat_lt n bound ≡ true = grind (arith, nat_tests) in
-    ap (number_between least bound e column) is
-    ∙ ap (λ (b : Bool). cond b (token_fault column e) (cond (nat_lt n bound) (Ok n) (Err (Limit column Number)))) not_low
-    ∙ ap (λ (b : Bool). cond b (Ok n) (Err (Limit column Number))) below
+    ap (and_then (λ m. cond (nat_lt m least) (Err (Token column e)) (Ok m))) (within_is (λ m. nat_lt m bound) Number e column o n is below)
+    ∙ ap (λ (b : Bool). cond b (Err (Token column e)) (Ok n)) not_low
 
 pub id_is : (e : Expected) (w : Chunk) (id : ℕ) → natural_of w.text ≡ Some id → IsId id → id_in e w ≡ Ok id
 id_is e w id is range = counted_is 1 (2 ^ 63) e w.column (natural_of w.text) id is range.0 range.1
 
 pub integer_is : (e : Expected) (w : Chunk) (z : ℤ) → integer_of w.text ≡ Some z → unsigned_abs z < 2 ^ 126 → integer_in e w ≡ Ok z
 integer_is e w z is high =
-    let below : nat_lt (unsigned_abs z) (2 ^ 126) ≡ true = grind (arith, nat_tests) in
-    ap (integer_below e w.column) is ∙ ap (λ (b : Bool). cond b (Ok z) (Err (Limit w.column Number))) below
+    within_is (λ z. nat_lt (unsigned_abs z) (2 ^ 126)) Number e w.column (integer_of w.text) z is (grind (arith, nat_tests))
 
-named_is : (e : Expected) (column : ℕ) (o : Option Lit) (l : Lit) → o ≡ Some l → l.var < 2 ^ 31 → literal_by e column (limited_literal o) ≡ Ok l
-named_is e column o l is high =
-    let below : nat_lt l.var (2 ^ 31) ≡ true = grind (arith, nat_tests) in
-    ap (λ (p : Option Lit). literal_by e column (limited_literal p)) is ∙ ap (λ (b : Bool). literal_by e column (cond b (Within l) TooGreat)) below
+named_is : (e : Expected) (column : ℕ) (o : Option Lit) (l : Lit) → o ≡ Some l → l.var < 2 ^ 31 → literal_by e column o ≡ Ok l
+named_is e column o l is high = within_is (λ l. nat_lt l.var (2 ^ 31)) Variables e column o l is (grind (arith, nat_tests))
 
 pub literal_is : (e : Expected) (w : Chunk) (l : Lit) → literal_of w.text ≡ Some l → IsVariable l.var → literal_in e w ≡ Ok l
 literal_is e w l is range = named_is e w.column (literal_of w.text) l is range.1
@@ -44,8 +44,8 @@ literal_is e w l is range = named_is e w.column (literal_of w.text) l is range.1
 pub variable_is : (above : ℕ) (w : Chunk) (v : ℕ) → variable_of true w.text ≡ Some (record { var = v; positive = true }) → above < v → v < 2 ^ 31 → variable_in above w ≡ Ok v
 variable_is above w v is low high =
     let more : nat_lt above v ≡ true = grind (arith, nat_tests) in
-    ap (and_then (λ l. cond (nat_lt above l.var) (Ok l.var) (token_fault w.column SetVar))) (named_is SetVar w.column (variable_of true w.text) (record { var = v; positive = true }) is high)
-    ∙ ap (λ (b : Bool). cond b (Ok v) (token_fault w.column SetVar)) more
+    ap (and_then (λ l. cond (nat_lt above l.var) (Ok l.var) (Err (Token w.column SetVar)))) (named_is SetVar w.column (variable_of true w.text) (record { var = v; positive = true }) is high)
+    ∙ ap (λ (b : Bool). cond b (Ok v) (Err (Token w.column SetVar))) more
 
 pub key_is : (w k : List ℕ) → w ≡ k → bytes_eq w k ≡ true
 key_is w k is = (bytes_eq-Decides w k).1 is

@@ -1,15 +1,17 @@
 -- What the definition that computes a step tells of a line is what its words tell one by one.
 use Rattle.std.proofs.Common.{◌≡◌, ℕ, Bool, true, false, cond, List, [], ◌∷◌, refl, ◌∙◌}
-use Rattle.std.specs.Prelude.{ℤ, Result, Ok, Err, codes}
+use Rattle.std.specs.Prelude.{◌^◌, ℤ, Result, Ok, Err, codes}
 use Rattle.std.specs.Str.{bytes_eq}
 use Rattle.pb_base.specs.declared.literal.Lit.{Lit}
 use Rattle.pb_base.specs.declared.literal.Term.{Term}
 use Rattle.pb_base.specs.declared.expected.Expected.TheVariants as expected
+use Rattle.pb_base.specs.Numbers.{natural_of}
 use Rattle.pb_base.specs.Words.{Chunk}
 use Rattle.pb_steps.specs.declared.fault.StepFault.{StepFault}
+use Rattle.pb_steps.specs.declared.fault.StepFault.TheVariants.{Token}
 use Rattle.pb_steps.specs.declared.step.Step.{Step}
 use Rattle.pb_steps.specs.declared.step.Step.TheVariants.{Head, Loaded, Rup, Red, Del, Out}
-use Rattle.pb_steps.specs.LineWords.{and_then, token_fault, id_in, count_in, integer_in, literal_in, variable_in, bit_in}
+use Rattle.pb_steps.specs.LineWords.{and_then, id_in, number_between, integer_in, literal_in, variable_in, bit_in}
 use Rattle.pb_steps.specs.LineSteps.{with_item, with_first_term, ends_here, past, ids_in, terms_in, term_in, Written, right_in, constraint_by, sets_in, arrow_in, value_in, rup_in, red_in, del_in, out_in, loaded_in, head_in}
 use Rattle.pb_steps.proofs.Judged.{judged, judged_item, judged_then}
 use Rattle.pb_steps.proofs.StepStates.{LineState, behind_constraint, line_states}
@@ -45,16 +47,16 @@ sets_go end above [] = refl
 sets_go end above (w ∷ []) = by_first end [] (variable_in above w) (λ v. arrow_in end v []) (λ v. arrow_due v) (λ v. refl)
 sets_go end above (w ∷ a ∷ []) =
     by_first end (a ∷ []) (variable_in above w) (λ v. arrow_in end v (a ∷ [])) (λ v. arrow_due v)
-    (λ v. judged_either (bytes_eq a.text (codes "->")) (value_in end v []) (token_fault a.column expected.Arrow)
-    ∙ by_either end [] (bytes_eq a.text (codes "->")) (judged (value_in end v [])) (Err _) (Ok (value_due v)) (token_fault a.column expected.Arrow) refl refl)
+    (λ v. judged_either (bytes_eq a.text (codes "->")) (value_in end v []) (Err (Token a.column expected.Arrow))
+    ∙ by_either end [] (bytes_eq a.text (codes "->")) (judged (value_in end v [])) (Err _) (Ok (value_due v)) (Err (Token a.column expected.Arrow)) refl refl)
 sets_go end above (w ∷ a ∷ b ∷ ws) =
     let later : (v : ℕ) → judged (sets_in end v ws) ≡ go end (sets_due v) ws = λ v. sets_go end v ws in
     let of_value : (v : ℕ) → judged (value_in end v (b ∷ ws)) ≡ go end (value_due v) (b ∷ ws) =
     λ v. by_first end ws (bit_in b) (λ value. with_item (record { var = v; value = value }) (sets_in end v ws)) (λ _. sets_due v) (λ value. judged_item (record { var = v; value = value }) (sets_in end v ws) ∙ later v)
     in
     by_first end (a ∷ b ∷ ws) (variable_in above w) (λ v. arrow_in end v (a ∷ b ∷ ws)) (λ v. arrow_due v)
-    (λ v. judged_either (bytes_eq a.text (codes "->")) (value_in end v (b ∷ ws)) (token_fault a.column expected.Arrow)
-    ∙ by_either end (b ∷ ws) (bytes_eq a.text (codes "->")) (judged (value_in end v (b ∷ ws))) (Err _) (Ok (value_due v)) (token_fault a.column expected.Arrow) (of_value v) refl)
+    (λ v. judged_either (bytes_eq a.text (codes "->")) (value_in end v (b ∷ ws)) (Err (Token a.column expected.Arrow))
+    ∙ by_either end (b ∷ ws) (bytes_eq a.text (codes "->")) (judged (value_in end v (b ∷ ws))) (Err _) (Ok (value_due v)) (Err (Token a.column expected.Arrow)) (of_value v) refl)
 
 -- ---- a constraint, and what follows it
 
@@ -76,7 +78,7 @@ semi_go : (rup : Bool) (end : ℕ) (right : ℤ) (ws : List Chunk) → and_then 
 semi_go rup end right [] = refl
 semi_go rup end right (w ∷ ws) = by_test (bytes_eq w.text (codes ";"))
   where
-    by_test : (b : Bool) → and_then (λ (p : ℤ × List Chunk). rest_in rup end p.1) (and_then (λ rest. Ok (right, rest)) (cond b (Ok ws) (token_fault w.column expected.Semicolon))) ≡ and_then (λ t. go end t ws) (cond b (Ok (behind_constraint rup)) (token_fault w.column expected.Semicolon))
+    by_test : (b : Bool) → and_then (λ (p : ℤ × List Chunk). rest_in rup end p.1) (and_then (λ rest. Ok (right, rest)) (cond b (Ok ws) (Err (Token w.column expected.Semicolon)))) ≡ and_then (λ t. go end t ws) (cond b (Ok (behind_constraint rup)) (Err (Token w.column expected.Semicolon)))
     by_test true = rest_go rup end ws
     by_test false = refl
 
@@ -139,7 +141,7 @@ red_go end ws =
 
 -- ---- the other lines
 
-pub alone_go : (s : Step) (end : ℕ) (ws : List Chunk) → judged (ends_here s ws) ≡ go end nothing_due ws
+pub alone_go : (s : Step) (end : ℕ) (ws : List Chunk) → judged (ends_here expected.LineEnd s ws) ≡ go end nothing_due ws
 alone_go s end [] = refl
 alone_go s end (w ∷ ws) = refl
 
@@ -149,11 +151,11 @@ del_go end (w ∷ ws) = judged_then (λ ids. Del ids) (ids_in (w ∷ ws)) ∙ id
 
 pub out_go : (end : ℕ) (ws : List Chunk) → judged (out_in end ws) ≡ go end one_id_due ws
 out_go end [] = refl
-out_go end (w ∷ ws) = by_first end ws (id_in expected.Id w) (λ id. ends_here (Out id) ws) (λ _. nothing_due) (λ id. alone_go (Out id) end ws)
+out_go end (w ∷ ws) = by_first end ws (id_in expected.Id w) (λ id. ends_here expected.LineEnd (Out id) ws) (λ _. nothing_due) (λ id. alone_go (Out id) end ws)
 
 pub loaded_go : (end : ℕ) (ws : List Chunk) → judged (loaded_in end ws) ≡ go end count_due ws
 loaded_go end [] = refl
-loaded_go end (w ∷ ws) = by_first end ws (count_in w) (λ n. ends_here (Loaded n) ws) (λ _. nothing_due) (λ n. alone_go (Loaded n) end ws)
+loaded_go end (w ∷ ws) = by_first end ws (number_between 0 (2 ^ 63) expected.LoadedCount w.column (natural_of w.text)) (λ n. ends_here expected.LineEnd (Loaded n) ws) (λ _. nothing_due) (λ n. alone_go (Loaded n) end ws)
 
 -- a certain word, and what comes behind it
 key_go : {A : Type 0} (end : ℕ) (k : List ℕ) (next : LineState) (f : List Chunk → Result A StepFault) → ((ws : List Chunk) → judged (f ws) ≡ go end next ws) → (ws : List Chunk)
@@ -161,7 +163,7 @@ key_go : {A : Type 0} (end : ℕ) (k : List ℕ) (next : LineState) (f : List Ch
 key_go end k next f later [] = refl
 key_go end k next f later (w ∷ ws) = by_test (bytes_eq w.text k)
   where
-    by_test : (b : Bool) → judged (and_then f (cond b (Ok ws) (token_fault w.column expected.Head))) ≡ and_then (λ t. go end t ws) (cond b (Ok next) (token_fault w.column expected.Head))
+    by_test : (b : Bool) → judged (and_then f (cond b (Ok ws) (Err (Token w.column expected.Head)))) ≡ and_then (λ t. go end t ws) (cond b (Ok next) (Err (Token w.column expected.Head)))
     by_test true = later ws
     by_test false = refl
 
@@ -170,6 +172,6 @@ head_state = key_due (codes "derivation") (key_due (codes "profile") (key_due (c
 
 pub head_go : (end : ℕ) (ws : List Chunk) → judged (head_in end ws) ≡ go end head_state ws
 head_go end ws =
-    key_go end (codes "derivation") (key_due (codes "profile") (key_due (codes "1") nothing_due)) (λ us. and_then (λ vs. and_then (ends_here Head) (past end (codes "1") expected.Head vs)) (past end (codes "profile") expected.Head us))
-    (λ us. key_go end (codes "profile") (key_due (codes "1") nothing_due) (λ vs. and_then (ends_here Head) (past end (codes "1") expected.Head vs))
-    (λ vs. key_go end (codes "1") nothing_due (ends_here Head) (λ xs. alone_go Head end xs) vs) us) ws
+    key_go end (codes "derivation") (key_due (codes "profile") (key_due (codes "1") nothing_due)) (λ us. and_then (λ vs. and_then (ends_here expected.LineEnd Head) (past end (codes "1") expected.Head vs)) (past end (codes "profile") expected.Head us))
+    (λ us. key_go end (codes "profile") (key_due (codes "1") nothing_due) (λ vs. and_then (ends_here expected.LineEnd Head) (past end (codes "1") expected.Head vs))
+    (λ vs. key_go end (codes "1") nothing_due (ends_here expected.LineEnd Head) (λ xs. alone_go Head end xs) vs) us) ws

@@ -1,13 +1,15 @@
 -- The lines of steps other than `pol`, word by word.
 use Rattle.std.proofs.Common.{◌≡◌, ℕ, Bool, true, false, cond, List, [], ◌∷◌, Option, Some, None, refl, ap, ◌∙◌}
-use Rattle.std.specs.Prelude.{Result, Ok, codes}
+use Rattle.std.specs.Prelude.{◌^◌, Result, Ok, Err, codes}
 use Rattle.std.specs.Str.{bytes_eq}
 use Rattle.pb_base.specs.declared.expected.Expected.{Expected}
 use Rattle.pb_base.specs.declared.expected.Expected.TheVariants as expected
+use Rattle.pb_base.specs.Numbers.{natural_of}
 use Rattle.pb_base.specs.Words.{Chunk}
 use Rattle.pb_steps.specs.declared.fault.StepFault.{StepFault}
-use Rattle.pb_steps.specs.LineWords.{and_then, token_fault, id_in, count_in, integer_in, literal_in, variable_in, bit_in}
-use Rattle.pb_steps.proofs.Judged.{FaultsAt, at_ok, at_token, at_either, at_then, at_id, at_count, at_integer, at_literal, at_variable, at_bit}
+use Rattle.pb_steps.specs.declared.fault.StepFault.TheVariants.{Token}
+use Rattle.pb_steps.specs.LineWords.{and_then, number_between, id_in, integer_in, literal_in, variable_in, bit_in}
+use Rattle.pb_steps.proofs.Judged.{FaultsAt, at_ok, at_token, at_either, at_then, at_id, at_number, at_integer, at_literal, at_variable, at_bit}
 use Rattle.pb_steps.proofs.SpelledWords.{key_is}
 use Rattle.pb_steps.proofs.WordByWord.{States, IsSound, Accepts, run, word}
 
@@ -28,7 +30,7 @@ pub data LineState : Type 0 where
   nothing_due : LineState
 
 abbrev pub on_key : List ℕ → LineState → Expected → Chunk → Result LineState StepFault
-on_key k next e w = cond (bytes_eq w.text k) (Ok next) (token_fault w.column e)
+on_key k next e w = cond (bytes_eq w.text k) (Ok next) (Err (Token w.column e))
 
 abbrev pub behind_constraint : Bool → LineState
 behind_constraint rup = cond rup ids_due (sets_due 0)
@@ -44,9 +46,9 @@ step_from (arrow_due v) w = on_key (codes "->") (value_due v) expected.Arrow w
 step_from (value_due v) w = and_then (λ _. Ok (sets_due v)) (bit_in w)
 step_from some_ids_due w = and_then (λ _. Ok ids_due) (id_in expected.Id w)
 step_from one_id_due w = and_then (λ _. Ok nothing_due) (id_in expected.Id w)
-step_from count_due w = and_then (λ _. Ok nothing_due) (count_in w)
+step_from count_due w = and_then (λ _. Ok nothing_due) (number_between 0 (2 ^ 63) expected.LoadedCount w.column (natural_of w.text))
 step_from (key_due k next) w = on_key k next expected.Head w
-step_from nothing_due w = token_fault w.column expected.LineEnd
+step_from nothing_due w = Err (Token w.column expected.LineEnd)
 
 abbrev pub wanting_at : LineState → Option Expected
 wanting_at (terms_due rup) = Some expected.Term
@@ -69,7 +71,7 @@ line_states = record { step = step_from; wanting = wanting_at }
 -- ---- a fault stands at its word, and each state can come to an end
 
 at_key : (k : List ℕ) (next : LineState) (e : Expected) (w : Chunk) → FaultsAt w.column (on_key k next e w)
-at_key k next e w = at_either w.column (bytes_eq w.text k) (Ok next) (token_fault w.column e) (at_ok w.column next) (at_token w.column e)
+at_key k next e w = at_either w.column (bytes_eq w.text k) (Ok next) (Err (Token w.column e)) (at_ok w.column next) (at_token w.column e)
 
 stands_at : (s : LineState) (w : Chunk) → FaultsAt w.column (step_from s w)
 stands_at (terms_due rup) w = at_either w.column (bytes_eq w.text (codes ">=")) (Ok (right_due rup)) _ (at_ok w.column (right_due rup)) (at_then w.column (λ _. Ok (lit_due rup)) (integer_in expected.Term w) (at_integer expected.Term w) (λ _. at_ok w.column (lit_due rup)))
@@ -82,7 +84,7 @@ stands_at (arrow_due v) w = at_key (codes "->") (value_due v) expected.Arrow w
 stands_at (value_due v) w = at_then w.column (λ _. Ok (sets_due v)) (bit_in w) (at_bit w) (λ _. at_ok w.column (sets_due v))
 stands_at some_ids_due w = at_then w.column (λ _. Ok ids_due) (id_in expected.Id w) (at_id expected.Id w) (λ _. at_ok w.column ids_due)
 stands_at one_id_due w = at_then w.column (λ _. Ok nothing_due) (id_in expected.Id w) (at_id expected.Id w) (λ _. at_ok w.column nothing_due)
-stands_at count_due w = at_then w.column (λ _. Ok nothing_due) (count_in w) (at_count w) (λ _. at_ok w.column nothing_due)
+stands_at count_due w = at_then w.column (λ _. Ok nothing_due) (number_between 0 (2 ^ 63) expected.LoadedCount w.column (natural_of w.text)) (at_number 0 (2 ^ 63) expected.LoadedCount w.column (natural_of w.text)) (λ _. at_ok w.column nothing_due)
 stands_at (key_due k next) w = at_key k next expected.Head w
 stands_at nothing_due w = at_token w.column expected.LineEnd
 
@@ -90,7 +92,7 @@ abbrev Some_end : ℕ → LineState → Type 0
 Some_end end s = (more : List Chunk) × Accepts line_states end s more
 
 behind_key : (end : ℕ) (k : List ℕ) (next : LineState) → bytes_eq k k ≡ true → Some_end end next → Some_end end (key_due k next)
-behind_key end k next same later = (word k ∷ later.0, ap (λ (b : Bool). and_then (λ t. run line_states end t later.0) (cond b (Ok next) (token_fault 0 expected.Head))) same ∙ later.1)
+behind_key end k next same later = (word k ∷ later.0, ap (λ (b : Bool). and_then (λ t. run line_states end t later.0) (cond b (Ok next) (Err (Token 0 expected.Head)))) same ∙ later.1)
 
 behind_semi : (end : ℕ) (rup : Bool) → Accepts line_states end (semi_due rup) (word (codes ";") ∷ [])
 behind_semi end true = refl

@@ -1,12 +1,12 @@
 -- No line that is written of a step has an LF inside.
 use Rattle.std.proofs.Common.{◌≡◌, ◌==◌, ◌||◌, ℕ, Bool, true, false, List, [], ◌∷◌, refl}
-use Rattle.std.specs.Prelude.{All}
+use Rattle.std.specs.Prelude.{All, drop}
 use Rattle.std.proofs.lemmas.List.Elements.{All-nil, All-cons, All-append}
 use Rattle.pb_base.specs.Tokens.{is_white}
 use Rattle.pb_base.proofs.WordLemmas.{IsBlack}
 use Rattle.pb_steps.specs.declared.step.Step.{Step}
 use Rattle.pb_steps.specs.StepGrammar.{StepSymbol, step_symbols}
-use Rattle.pb_steps.specs.StepText.{word_of, with_blanks, spaced, step_line}
+use Rattle.pb_steps.specs.StepText.{word_of, with_blanks, step_line}
 use Rattle.pb_steps.specs.Sayable.{IsSayable}
 use Rattle.pb_steps.proofs.Canonical.{AllWritten, step_written}
 
@@ -31,7 +31,7 @@ blanks_inside [] all = All-nil IsInside
 blanks_inside (k ∷ ks) all =
     All-append IsInside (32 ∷ word_of k) (with_blanks ks) (All-cons IsInside 32 (word_of k) refl (black_inside (word_of k) all.0.black)) (blanks_inside ks all.1)
 
-spaced_inside : (ks : List StepSymbol) → AllWritten ks → All IsInside (spaced ks)
+spaced_inside : (ks : List StepSymbol) → AllWritten ks → All IsInside (drop 1 (with_blanks ks))
 spaced_inside [] all = All-nil IsInside
 spaced_inside (k ∷ ks) all = All-append IsInside (word_of k) (with_blanks ks) (black_inside (word_of k) all.0.black) (blanks_inside ks all.1)
 

@@ -38,13 +38,9 @@ propagated live claim ids = negation claim ∷ hinted live ids
 abbrev pub obligations : Database → Constraint → List Set → List Entry
 obligations db claim sets = filter (λ e. names_set sets e.constraint) db.live ++ entry db.next claim ∷ []
 
--- what is propagated to show a goal
-abbrev pub to_refute : List Entry → Constraint → Constraint → List Constraint
-to_refute live claim goal = negation claim ∷ negation goal ∷ live_constraints live
-
 -- the claim's negation gives the goal, by itself or with all constraints that stand
 abbrev pub IsShown : List Entry → Constraint → Constraint → Type 0
-IsShown live claim goal = Implies (negation claim) goal ⊎ Conflict (to_refute live claim goal) []
+IsShown live claim goal = Implies (negation claim) goal ⊎ Conflict (negation claim ∷ negation goal ∷ live_constraints live) []
 
 abbrev pub IsMet : Database → Constraint → List Set → Entry → Type 0
 IsMet db claim sets e = IsShown db.live claim (restriction sets e.constraint)

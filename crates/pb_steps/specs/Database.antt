@@ -19,7 +19,6 @@ pub record Database : Type 0 where
 abbrev pub live_constraints : List Entry → List Constraint
 live_constraints es = map (λ e. e.constraint) es
 
--- the constraint with a number
 abbrev pub constraint_at : List Entry → ℕ → Option Constraint
 constraint_at [] id = None
 constraint_at (e ∷ es) id = if e.id == id then Some e.constraint else constraint_at es id
@@ -50,7 +49,6 @@ entry id c = record { id = id; constraint = c; out = false }
 abbrev pub grown : Database → Constraint → Database
 grown db c = record db { live = db.live ++ entry db.next c ∷ []; next = db.next + 1 }
 
--- fewer constraints
 abbrev pub reduced : Database → List ℕ → Database
 reduced db ids = record db { live = without ids db.live }
 
@@ -67,9 +65,4 @@ numbered_from n (c ∷ cs) = entry n c ∷ numbered_from (n + 1) cs
 
 -- the database of the loaded constraints
 abbrev pub loaded_database : ℕ → ℕ → List Constraint → Database
-loaded_database original vars loaded = record {
-  original = original;
-  vars = vars;
-  live = numbered_from 1 loaded;
-  next = length loaded + 1;
-}
+loaded_database original vars loaded = record { original = original; vars = vars; live = numbered_from 1 loaded; next = length loaded + 1 }

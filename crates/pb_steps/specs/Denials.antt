@@ -1,5 +1,5 @@
 -- Why a step is not allowed: the first cause that applies (our own).
-use Rattle.std.specs.Prelude.{◌≡◌, ◌^◌, ◌+◌, ◌⊎◌, ℕ, Bool, true, not, nat_lt, nat_le, List, [], ◌∷◌, ◌++◌, Option, Some, None, is_none, unsigned_abs, option_map, find, All, if◌then◌else◌}
+use Rattle.std.specs.Prelude.{◌≡◌, ◌^◌, ◌+◌, ◌⊎◌, ℕ, Bool, true, not, nat_lt, nat_le, List, [], ◌∷◌, ◌++◌, Option, Some, None, is_some, unsigned_abs, option_map, unwrap_or, find, All, if◌then◌else◌}
 use Rattle.std.specs.Option.{option_or}
 use Rattle.pb_base.specs.declared.literal.Lit.{Lit}
 use Rattle.pb_base.specs.Problems.{magnitude}
@@ -36,45 +36,24 @@ abbrev pub unknown_id : Database → Step → Option Denied
 unknown_id db (Del ids) = option_map UnknownId (first_gone db.live ids)
 unknown_id db step = option_map UnknownId (find (λ id. not (is_live db.live id)) (ids_named step))
 
-abbrev pub stack : Step → Option Denied
-stack (Pol ops) = unless (is_stacked ops) Stack
-stack _ = None
-
-abbrev pub width : Database → Step → Option Denied
-width db (Pol ops) = if is_none (after_ops db.live ops []) then Some Width else None
-width db (Rup ts right ids) = unless (nat_lt (magnitude ts + unsigned_abs right) (2 ^ 126)) Width
-width db (Red ts right sets) = unless (nat_lt (magnitude ts + unsigned_abs right) (2 ^ 126)) Width
-width db _ = None
-
-abbrev pub sets_original : Database → Step → Option Denied
-sets_original db (Red ts right sets) = option_map SetsOriginal (find (λ v. nat_le v db.original) (vars_of_sets sets))
-sets_original db _ = None
-
-abbrev pub no_clause : Step → Option (List Lit) → Option Denied
-no_clause (Out id) None = Some NoClause
-no_clause _ _ = None
-
-abbrev pub implies_clause : Option Constraint → List Lit → Bool
-implies_clause (Some c) ls = implies c (clause_form ls)
-implies_clause None ls = true
-
-abbrev pub not_implied : Database → Step → Option (List Lit) → Option Denied
-not_implied db (Out id) (Some ls) = unless (implies_clause (constraint_at db.live id) ls) (NotImplied id)
-not_implied db _ _ = None
-
-abbrev pub out_deleted : Database → Step → Option Denied
-out_deleted db (Del ids) = option_map OutDeleted (find (is_out db.live) ids)
-out_deleted db _ = None
+-- the other causes of each kind of step, in their order. Where propagation has a cause of a kind, it comes behind these.
+abbrev pub causes : Database → Step → Option (List Lit) → List (Option Denied)
+causes db (Pol ops) clause = unless (is_stacked ops) Stack ∷ unless (is_some (after_ops db.live ops [])) Width ∷ []
+causes db (Rup ts right ids) clause = unless (nat_lt (magnitude ts + unsigned_abs right) (2 ^ 126)) Width ∷ []
+causes db (Red ts right sets) clause =
+    unless (nat_lt (magnitude ts + unsigned_abs right) (2 ^ 126)) Width ∷ option_map SetsOriginal (find (λ v. nat_le v db.original) (vars_of_sets sets)) ∷ []
+causes db (Del ids) clause = option_map OutDeleted (find (is_out db.live) ids) ∷ []
+causes db (Out id) None = Some NoClause ∷ []
+causes db (Out id) (Some ls) = unless (unwrap_or (option_map (λ c. implies c (clause_form ls)) (constraint_at db.live id)) true) (NotImplied id) ∷ []
+causes db _ clause = []
 
 abbrev pub first_some : {X : Type 0} → List (Option X) → Option X
 first_some [] = None
 first_some (row ∷ rows) = option_or row (first_some rows)
 
--- the first of them. Where the causes by propagation have their place, after the fifth, no later one is a step's of those that propagate.
+-- the first of them
 abbrev pub seen_denial : Database → Step → Option (List Lit) → Option Denied
-seen_denial db step clause = first_some (
-    unknown_var db step ∷ unknown_id db step ∷ stack step ∷ width db step ∷ sets_original db step
-    ∷ no_clause step clause ∷ not_implied db step clause ∷ out_deleted db step ∷ [])
+seen_denial db step clause = first_some (unknown_var db step ∷ unknown_id db step ∷ causes db step clause)
 
 -- ---- the causes that propagation shows
 

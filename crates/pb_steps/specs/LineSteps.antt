@@ -7,14 +7,14 @@ use Rattle.pb_base.specs.declared.expected.Expected.TheVariants as expected
 use Rattle.pb_base.specs.Numbers.{natural_of}
 use Rattle.pb_base.specs.Words.{Chunk, words_of}
 use Rattle.pb_steps.specs.declared.fault.StepFault.{StepFault}
-use Rattle.pb_steps.specs.declared.fault.StepFault.TheVariants.{NoMemory}
+use Rattle.pb_steps.specs.declared.fault.StepFault.TheVariants.{Token, NoMemory}
 use Rattle.pb_steps.specs.declared.step.Step.{Step}
 use Rattle.pb_steps.specs.declared.step.Step.TheVariants as step
 use Rattle.pb_steps.specs.declared.op.PolOp.{PolOp}
 use Rattle.pb_steps.specs.declared.op.PolOp.TheVariants.{Push, Axiom, Add, Mul, Div, Saturate, Weaken}
 use Rattle.pb_steps.specs.declared.op.Set.{Set}
 use Rattle.pb_steps.specs.StepGrammar.{begins_with_star}
-use Rattle.pb_steps.specs.LineWords.{and_then, token_fault, number_between, id_in, count_in, integer_in, literal_in, variable_in, bit_in}
+use Rattle.pb_steps.specs.LineWords.{and_then, number_between, id_in, integer_in, literal_in, variable_in, bit_in}
 
 -- the fault of what is read, or want of memory
 abbrev pub IsFaultOf : {A : Type 0} → Result A StepFault → StepFault → Type 0
@@ -24,15 +24,15 @@ IsFaultOf due fault = fault ≢ NoMemory → due ≡ Err fault
 abbrev pub with_item : {A : Type 0} → A → Result (List A) StepFault → Result (List A) StepFault
 with_item x r = and_then (λ xs. Ok (x ∷ xs)) r
 
--- nothing follows the step
-abbrev pub ends_here : Step → List Chunk → Result Step StepFault
-ends_here s [] = Ok s
-ends_here s (w ∷ ws) = token_fault w.column expected.LineEnd
+-- what was read, where nothing follows it
+abbrev pub ends_here : {A : Type 0} → Expected → A → List Chunk → Result A StepFault
+ends_here e x [] = Ok x
+ends_here e x (w ∷ ws) = Err (Token w.column e)
 
 -- what stands behind a certain word
 abbrev pub past : ℕ → List ℕ → Expected → List Chunk → Result (List Chunk) StepFault
-past end key e [] = token_fault end e
-past end key e (w ∷ ws) = if bytes_eq w.text key then Ok ws else token_fault w.column e
+past end key e [] = Err (Token end e)
+past end key e (w ∷ ws) = if bytes_eq w.text key then Ok ws else Err (Token w.column e)
 
 -- `pol`: an operation, and whether it takes the word behind it too
 abbrev pub number_op : ℕ → ℕ → List ℕ → Result (PolOp × Bool) StepFault
@@ -55,7 +55,6 @@ op_by None w next =
 abbrev pub op_of : Chunk → List ℕ → Result (PolOp × Bool) StepFault
 op_of w next = op_by (natural_of w.text) w next
 
--- the next word, as it is written
 abbrev pub next_text : List Chunk → List ℕ
 next_text [] = []
 next_text (w ∷ ws) = w.text
@@ -76,13 +75,13 @@ with_first_term t r = and_then (λ p. Ok (t ∷ p.0, p.1)) r
 
 abbrev mutual
   pub terms_in : ℕ → List Chunk → Result (List Term × List Chunk) StepFault
-  terms_in end [] = token_fault end expected.Term
+  terms_in end [] = Err (Token end expected.Term)
   terms_in end (w ∷ ws) =
       if bytes_eq w.text (codes ">=") then Ok ([], ws)
       else and_then (λ coef. term_in end coef ws) (integer_in expected.Term w)
 
   pub term_in : ℕ → ℤ → List Chunk → Result (List Term × List Chunk) StepFault
-  term_in end coef [] = token_fault end expected.Literal
+  term_in end coef [] = Err (Token end expected.Literal)
   term_in end coef (w ∷ ws) = and_then (λ l. with_first_term (record { coef = coef; lit = l }) (terms_in end ws)) (literal_in expected.Literal w)
 
 -- a constraint, and what stands behind its `;`
@@ -92,7 +91,7 @@ pub record Written : Type 0 where
   pub rest : List Chunk
 
 abbrev pub right_in : ℕ → List Chunk → Result (ℤ × List Chunk) StepFault
-right_in end [] = token_fault end expected.Integer
+right_in end [] = Err (Token end expected.Integer)
 right_in end (w ∷ ws) = and_then (λ right. and_then (λ rest. Ok (right, rest)) (past end (codes ";") expected.Semicolon ws)) (integer_in expected.Integer w)
 
 abbrev pub constraint_by : List Term → Result (ℤ × List Chunk) StepFault → Result Written StepFault
@@ -108,11 +107,11 @@ abbrev mutual
   sets_in end above (w ∷ ws) = and_then (λ v. arrow_in end v ws) (variable_in above w)
 
   pub arrow_in : ℕ → ℕ → List Chunk → Result (List Set) StepFault
-  arrow_in end v [] = token_fault end expected.Arrow
-  arrow_in end v (w ∷ ws) = if bytes_eq w.text (codes "->") then value_in end v ws else token_fault w.column expected.Arrow
+  arrow_in end v [] = Err (Token end expected.Arrow)
+  arrow_in end v (w ∷ ws) = if bytes_eq w.text (codes "->") then value_in end v ws else Err (Token w.column expected.Arrow)
 
   pub value_in : ℕ → ℕ → List Chunk → Result (List Set) StepFault
-  value_in end v [] = token_fault end expected.Bit
+  value_in end v [] = Err (Token end expected.Bit)
   value_in end v (w ∷ ws) = and_then (λ b. with_item (record { var = v; value = b }) (sets_in end v ws)) (bit_in w)
 
 abbrev pub rup_in : ℕ → List Chunk → Result Step StepFault
@@ -122,31 +121,31 @@ abbrev pub red_in : ℕ → List Chunk → Result Step StepFault
 red_in end ws = and_then (λ c. and_then (λ sets. Ok (step.Red c.terms c.right sets)) (sets_in end 0 c.rest)) (constraint_in end ws)
 
 abbrev pub del_in : ℕ → List Chunk → Result Step StepFault
-del_in end [] = token_fault end expected.Id
+del_in end [] = Err (Token end expected.Id)
 del_in end (w ∷ ws) = and_then (λ ids. Ok (step.Del ids)) (ids_in (w ∷ ws))
 
 abbrev pub out_in : ℕ → List Chunk → Result Step StepFault
-out_in end [] = token_fault end expected.Id
-out_in end (w ∷ ws) = and_then (λ id. ends_here (step.Out id) ws) (id_in expected.Id w)
+out_in end [] = Err (Token end expected.Id)
+out_in end (w ∷ ws) = and_then (λ id. ends_here expected.LineEnd (step.Out id) ws) (id_in expected.Id w)
 
 abbrev pub loaded_in : ℕ → List Chunk → Result Step StepFault
-loaded_in end [] = token_fault end expected.LoadedCount
-loaded_in end (w ∷ ws) = and_then (λ n. ends_here (step.Loaded n) ws) (count_in w)
+loaded_in end [] = Err (Token end expected.LoadedCount)
+loaded_in end (w ∷ ws) = and_then (λ n. ends_here expected.LineEnd (step.Loaded n) ws) (number_between 0 (2 ^ 63) expected.LoadedCount w.column (natural_of w.text))
 
 -- the other words of the head line
 abbrev pub head_in : ℕ → List Chunk → Result Step StepFault
 head_in end ws =
-    and_then (λ us. and_then (λ vs. and_then (ends_here step.Head) (past end (codes "1") expected.Head vs)) (past end (codes "profile") expected.Head us))
+    and_then (λ us. and_then (λ vs. and_then (ends_here expected.LineEnd step.Head) (past end (codes "1") expected.Head vs)) (past end (codes "profile") expected.Head us))
     (past end (codes "derivation") expected.Head ws)
 
 -- a line that is no rule: it begins with `*`, or has its own place
 abbrev pub place_by : ℕ → Chunk → List Chunk → Result Step StepFault
 place_by end w ws =
     if begins_with_star w.text then Ok step.Blank
-    else (if bytes_eq w.text (codes "end") then ends_here step.End ws
+    else (if bytes_eq w.text (codes "end") then ends_here expected.LineEnd step.End ws
     else (if bytes_eq w.text (codes "f") then loaded_in end ws
     else (if bytes_eq w.text (codes "pseudo-Boolean") then head_in end ws
-    else token_fault w.column expected.StepWord)))
+    else Err (Token w.column expected.StepWord))))
 
 -- by the first word
 abbrev pub said_by : ℕ → Chunk → List Chunk → Result Step StepFault

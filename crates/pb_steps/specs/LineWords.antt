@@ -3,13 +3,12 @@ use Rattle.std.specs.Prelude.{ℕ, ◌^◌, nat_lt, Option, Some, None, Result, 
 use Rattle.std.specs.Str.{bytes_eq}
 use Rattle.pb_base.specs.declared.literal.Lit.{Lit}
 use Rattle.pb_base.specs.declared.expected.Expected.{Expected}
-use Rattle.pb_base.specs.declared.expected.Expected.TheVariants.{Bit, LoadedCount, SetVar}
+use Rattle.pb_base.specs.declared.expected.Expected.TheVariants.{Bit, SetVar}
+use Rattle.pb_base.specs.declared.limit.LimitKind.{LimitKind}
 use Rattle.pb_base.specs.declared.limit.LimitKind.TheVariants.{Variables, Number}
 use Rattle.pb_base.specs.Numbers.{natural_of, integer_of}
 use Rattle.pb_base.specs.Words.{Chunk}
-use Rattle.pb_base.specs.LiteralWords.{variable_of, literal_of, limited_literal}
-use Rattle.pb_base.specs.declared.literal_word.LitWord.{LitWord}
-use Rattle.pb_base.specs.declared.literal_word.LitWord.TheVariants.{Within, TooGreat, NotALiteral}
+use Rattle.pb_base.specs.LiteralWords.{variable_of, literal_of}
 use Rattle.pb_steps.specs.declared.fault.StepFault.{StepFault}
 use Rattle.pb_steps.specs.declared.fault.StepFault.TheVariants.{Token, Limit}
 
@@ -18,49 +17,34 @@ abbrev pub and_then : {A B F : Type 0} → (A → Result B F) → Result A F →
 and_then f (Ok a) = f a
 and_then f (Err fault) = Err fault
 
--- another word could stand there
-abbrev pub token_fault : {A : Type 0} → ℕ → Expected → Result A StepFault
-token_fault column e = Err (Token column e)
+-- what a word is read as, where that is within a limit
+abbrev pub within : {A : Type 0} → (A → Bool) → LimitKind → Expected → ℕ → Option A → Result A StepFault
+within fits which e column None = Err (Token column e)
+within fits which e column (Some x) = if fits x then Ok x else Err (Limit column which)
 
 -- a number from `least` on and below a bound
 abbrev pub number_between : ℕ → ℕ → Expected → ℕ → Option ℕ → Result ℕ StepFault
-number_between least bound e column None = token_fault column e
-number_between least bound e column (Some n) =
-    if nat_lt n least then token_fault column e
-    else (if nat_lt n bound then Ok n else Err (Limit column Number))
+number_between least bound e column o = and_then (λ n. if nat_lt n least then Err (Token column e) else Ok n) (within (λ n. nat_lt n bound) Number e column o)
 
--- an id, from 1 on
 abbrev pub id_in : Expected → Chunk → Result ℕ StepFault
 id_in e w = number_between 1 (2 ^ 63) e w.column (natural_of w.text)
 
--- how many constraints are loaded
-abbrev pub count_in : Chunk → Result ℕ StepFault
-count_in w = number_between 0 (2 ^ 63) LoadedCount w.column (natural_of w.text)
-
--- an integer that is not too great
-abbrev pub integer_below : Expected → ℕ → Option ℤ → Result ℤ StepFault
-integer_below e column None = token_fault column e
-integer_below e column (Some z) = if nat_lt (unsigned_abs z) (2 ^ 126) then Ok z else Err (Limit column Number)
-
 abbrev pub integer_in : Expected → Chunk → Result ℤ StepFault
-integer_in e w = integer_below e w.column (integer_of w.text)
+integer_in e w = within (λ z. nat_lt (unsigned_abs z) (2 ^ 126)) Number e w.column (integer_of w.text)
 
--- a literal, where its variable is not too great
-abbrev pub literal_by : Expected → ℕ → LitWord → Result Lit StepFault
-literal_by e column (Within l) = Ok l
-literal_by e column TooGreat = Err (Limit column Variables)
-literal_by e column NotALiteral = token_fault column e
+abbrev pub literal_by : Expected → ℕ → Option Lit → Result Lit StepFault
+literal_by e column o = within (λ l. nat_lt l.var (2 ^ 31)) Variables e column o
 
 abbrev pub literal_in : Expected → Chunk → Result Lit StepFault
-literal_in e w = literal_by e w.column (limited_literal (literal_of w.text))
+literal_in e w = literal_by e w.column (literal_of w.text)
 
 -- a variable that is greater than another one
 abbrev pub variable_in : ℕ → Chunk → Result ℕ StepFault
 variable_in above w =
-    and_then (λ l. if nat_lt above l.var then Ok l.var else token_fault w.column SetVar) (literal_by SetVar w.column (limited_literal (variable_of true w.text)))
+    and_then (λ l. if nat_lt above l.var then Ok l.var else Err (Token w.column SetVar)) (literal_by SetVar w.column (variable_of true w.text))
 
 -- `0` or `1`
 abbrev pub bit_in : Chunk → Result Bool StepFault
 bit_in w =
     if bytes_eq w.text (codes "0") then Ok false
-    else (if bytes_eq w.text (codes "1") then Ok true else token_fault w.column Bit)
+    else (if bytes_eq w.text (codes "1") then Ok true else Err (Token w.column Bit))

@@ -30,7 +30,6 @@ saturation c = record { terms = filter is_positive (map (cut_to c.degree) c.term
 abbrev pub is_other : ℕ → Weighted → Bool
 is_other v t = not (t.lit.var == v)
 
--- the coefficient of a variable's term
 abbrev pub coef_at : ℕ → Weighted → ℕ
 coef_at v t = cond (t.lit.var == v) t.coef 0
 

@@ -13,23 +13,14 @@ use Rattle.pb_steps.specs.Database.{Entry, constraint_at}
 abbrev pub higher : ℕ → Option ℕ
 higher h = if nat_lt h 65536 then Some (suc h) else None
 
-abbrev pub lower : ℕ → Option ℕ
-lower (suc (suc h)) = Some (suc h)
-lower _ = None
-
-abbrev pub same_height : ℕ → Option ℕ
-same_height zero = None
-same_height (suc h) = Some (suc h)
-
 -- the height after an operation, where the operands are there and the stack is not too high
 abbrev pub height_after : PolOp → ℕ → Option ℕ
 height_after (Push id) h = higher h
 height_after (Axiom l) h = higher h
-height_after Add h = lower h
-height_after (Mul n) h = same_height h
-height_after (Div n) h = same_height h
-height_after Saturate h = same_height h
-height_after (Weaken v) h = same_height h
+height_after Add (suc (suc h)) = Some (suc h)
+height_after Add _ = None
+height_after _ (suc h) = Some (suc h)
+height_after _ zero = None
 
 abbrev pub height_from : ℕ → List PolOp → Option ℕ
 height_from h [] = Some h
@@ -45,23 +36,16 @@ is_stacked ops = leaves_one (height_from 0 ops)
 
 -- ---- what is on it
 
-abbrev pub on_top : (Constraint → Constraint) → List Constraint → Option (List Constraint)
-on_top f [] = None
-on_top f (c ∷ stack) = Some (f c ∷ stack)
-
-abbrev pub added : List Constraint → Option (List Constraint)
-added (d ∷ c ∷ stack) = Some (sum_of c d ∷ stack)
-added _ = None
-
 -- the stack after an operation that finds its operands
 abbrev pub after_op : List Entry → PolOp → List Constraint → Option (List Constraint)
 after_op live (Push id) stack = option_map (λ c. c ∷ stack) (constraint_at live id)
 after_op live (Axiom l) stack = Some (axiom_of l ∷ stack)
-after_op live Add stack = added stack
-after_op live (Mul n) stack = on_top (multiple (unsigned_abs n)) stack
-after_op live (Div n) stack = on_top (division (unsigned_abs n)) stack
-after_op live Saturate stack = on_top saturation stack
-after_op live (Weaken v) stack = on_top (weakening v) stack
+after_op live Add (d ∷ c ∷ stack) = Some (sum_of c d ∷ stack)
+after_op live (Mul n) (c ∷ stack) = Some (multiple (unsigned_abs n) c ∷ stack)
+after_op live (Div n) (c ∷ stack) = Some (division (unsigned_abs n) c ∷ stack)
+after_op live Saturate (c ∷ stack) = Some (saturation c ∷ stack)
+after_op live (Weaken v) (c ∷ stack) = Some (weakening v c ∷ stack)
+after_op _ _ _ = None
 
 -- where the topmost constraint has room
 abbrev pub with_room : List Constraint → Option (List Constraint)

@@ -15,8 +15,12 @@ abbrev pub ReadsWhatIsSaid : Type 0
 ReadsWhatIsSaid = (line : List ℕ) (s : Step) → (step_of line ≡ Ok s) ↔ SaysStep line s
 
 -- the line that is written of a step says it
+abbrev pub IsReadBack : Step → Type 0
+IsReadBack s = step_of (step_line s) ≡ Ok s
+
+-- so it is of each step that some line says
 abbrev pub WrittenLineReads : Type 0
-WrittenLineReads = (s : Step) → IsSayable s → step_of (step_line s) ≡ Ok s
+WrittenLineReads = (s : Step) → IsSayable s → IsReadBack s
 
 -- each step has a line of its own
 abbrev pub LinesDiffer : Type 0

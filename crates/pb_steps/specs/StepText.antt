@@ -1,5 +1,5 @@
 -- The one line that is written of a step (our own profile, after VeriPB's).
-use Rattle.std.specs.Prelude.{ℕ, suc, List, [], ◌∷◌, ◌++◌, ℤ, pos, if◌then◌else◌, decimal}
+use Rattle.std.specs.Prelude.{ℕ, suc, List, [], ◌∷◌, ◌++◌, ℤ, pos, drop, if◌then◌else◌, decimal}
 use Rattle.std.specs.Fmt.{signed_decimal}
 use Rattle.std.specs.List.{flat_map}
 use Rattle.pb_base.specs.declared.literal.Lit.{Lit}
@@ -29,15 +29,9 @@ word_of (literal l) = literal_word l
 word_of (variable v) = variable_word v
 word_of (weakened v) = variable_word v
 
--- each word behind a blank
 abbrev pub with_blanks : List StepSymbol → List ℕ
 with_blanks ks = flat_map (λ k. 32 ∷ word_of k) ks
 
--- words with one blank between each two
-abbrev pub spaced : List StepSymbol → List ℕ
-spaced [] = []
-spaced (k ∷ ks) = word_of k ++ with_blanks ks
-
--- the line of a step, without its LF
+-- the line of a step, without its LF: its words, with one blank between each two
 abbrev pub step_line : Step → List ℕ
-step_line s = spaced (step_symbols s)
+step_line s = drop 1 (with_blanks (step_symbols s))

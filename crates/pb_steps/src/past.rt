@@ -28,7 +28,7 @@ pub fn take(
 
 /// Nothing follows the step.
 pub fn ends_here(words: &mut Words<'_>, step: Step) -> Result<Step, StepFault>
-    ensures { result ≡ ends_here step words.old }
+    ensures { result ≡ ends_here Expected.LineEnd step words.old }
 {
     match words.next() {
         None => Ok(step),

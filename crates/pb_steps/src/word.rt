@@ -1,9 +1,11 @@
 //! Single words of a line.
 ghost use Rattle.std.specs.Prelude.{◌≡◌, ◌<◌, ◌≤◌, ◌^◌, ℕ, Option, pos, IfOk};
 ghost use Rattle.std.specs.Option.{option_map};
-ghost use Rattle.pb_base.specs.Numbers.{limited};
+ghost use Rattle.pb_base.specs.declared.literal.Lit.{Lit};
+ghost use Rattle.pb_base.specs.Numbers.{limited, natural_of};
+ghost use Rattle.pb_base.specs.LiteralWords.{limited_literal};
 ghost use Rattle.pb_base.specs.Pieces.{chunk};
-ghost use Rattle.pb_steps.specs.LineWords.{number_between, literal_by, id_in, count_in, integer_in, literal_in, variable_in, bit_in};
+ghost use Rattle.pb_steps.specs.LineWords.{number_between, literal_by, id_in, integer_in, literal_in, variable_in, bit_in};
 
 use crate::fault::StepFault;
 use pb_base::{
@@ -66,7 +68,7 @@ pub fn id_in(word: &Word<'_>, expected: Expected) -> Result<u64, StepFault>
 
 /// How many constraints a word says.
 pub fn count_in(word: &Word<'_>) -> Result<u64, StepFault>
-    ensures { result ≡ count_in (chunk word.now) }
+    ensures { result ≡ number_between 0 (2 ^ 63) Expected.LoadedCount (chunk word.now).column (natural_of (chunk word.now).text) }
 {
     let count = number_between(
         read_digits(word.text),
@@ -91,7 +93,7 @@ pub fn integer_in(word: &Word<'_>, expected: Expected) -> Result<i128, StepFault
 
 // A literal, where its variable is not too great.
 fn literal_by(name: LitWord, column: u64, expected: Expected) -> Result<Lit, StepFault>
-    ensures { result ≡ literal_by expected column name }
+    ensures { (o : Option Lit) → name ≡ limited_literal o → result ≡ literal_by expected column o }
 {
     match name {
         LitWord::Within(lit) => Ok(lit),
