@@ -1,9 +1,8 @@
 -- Claims of clauses of two literals that are handed over one after another.
-use Rattle.std.proofs.Common.{◌≡◌, ◌<◌, ◌≤◌, ◌+◌, ◌-◌, ◌*◌, ◌^◌, ◌++◌, ℕ, cond, List, [], ◌∷◌, length, drop, refl, sym, ap, ◌∙◌, subst, arith, suc}
+use Rattle.std.proofs.Common.{◌≡◌, ◌<◌, ◌≤◌, ◌+◌, ◌-◌, ◌*◌, ◌^◌, ◌++◌, ℕ, cond, List, [], ◌∷◌, length, drop, refl, sym, ap, ◌∙◌, subst, arith}
 use Rattle.std.specs.Prelude.{map, count_by, Result, IsErrAnd}
 use Rattle.std.proofs.lemmas.List.Sums.{sum_by_from, sum_by-append}
 use Rattle.std.proofs.Math.Nat.{mul-le-mul_right}
-use Rattle.std.proofs.Math.Seq.{drop-cons}
 use Rattle.pb_base.specs.declared.literal.Lit.{Lit}
 use Rattle.pb_base.specs.Literals.{negated}
 use Rattle.pb_steps.specs.declared.step.Step.{Step}
@@ -11,14 +10,14 @@ use Rattle.pb_steps.specs.Steps.{takes_id}
 use Rattle.pb_derive.specs.Claims.{claim_steps}
 use Rattle.pb_derive.specs.Rups.{by_rup}
 use Rattle.pb_family.specs.Derivations.{propagated}
-use Rattle.pb_family.specs.Fresh.{positive_of, literal_at}
+use Rattle.pb_family.specs.Fresh.{literal_at}
 use Rattle.pb_family.specs.StepSinks.{StepState, TakesSteps, StopsInSteps, HandsSteps}
 use Rattle.pb_family.specs.declared.sink.SinkFault.{SinkFault}
 use Rattle.pb_family.proofs.Deriving.{Deriving, deriving_as, deriving_step, steps_fault}
 use Rattle.pb_amo.specs.Pairwise.{pairwise_clauses, pair_count}
 use Rattle.pb_amo.specs.PairwiseSteps.{pairwise_steps}
 use Rattle.pb_amo.specs.laws.PairwiseLaws.{pairs_count}
-use Rattle.pb_amo.proofs.Steps.{row}
+use Rattle.pb_amo.proofs.Steps.{row, pairs_at, row_at}
 
 -- claims by one id, from the next id on
 abbrev pub by_one : ℕ → ℕ → List (List Lit) → List Step
@@ -29,15 +28,6 @@ ids_of_claims id next [] = refl
 ids_of_claims id next (c ∷ cs) =
     let rest = ids_of_claims id (next + 1) cs in
     sum_by_from (λ (s : Step). cond (takes_id s) 1 0) 1 (by_one id (next + 1) cs) ∙ omega arith
-
--- the claims of the literals from place i on begin with those of the one there
-pairs_at : (ms : List Lit) (i : ℕ) → i < length ms → pairwise_clauses (drop i ms) ≡ row (literal_at ms i) (drop (i + 1) ms) ++ pairwise_clauses (drop (i + 1) ms)
-pairs_at ms i within =
-    ap pairwise_clauses (drop-cons ms i (positive_of 0) within)
-    ∙ ap (λ (n : ℕ). row (literal_at ms i) (drop n ms) ++ pairwise_clauses (drop n ms)) (let e : suc i ≡ i + 1 = omega arith in e)
-
-row_at : (ms : List Lit) (m : Lit) (j : ℕ) (rest : List (List Lit)) → j < length ms → row m (drop j ms) ++ rest ≡ (negated m ∷ negated (literal_at ms j) ∷ []) ∷ (row m (drop (j + 1) ms) ++ rest)
-row_at ms m j rest within = ap (λ (ks : List Lit). row m ks ++ rest) (drop-cons ms j (positive_of 0) within ∙ ap (λ (n : ℕ). literal_at ms j ∷ drop n ms) (let e : suc j ≡ j + 1 = omega arith in e))
 
 module _ {R : Type 0} (id : ℕ) (ms : List Lit) (old now : StepState R) where
   -- what is left, of which a front was handed over

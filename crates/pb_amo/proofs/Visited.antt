@@ -6,7 +6,6 @@ use Rattle.std.proofs.lemmas.Nat.{div-mul-add, mod-mul-add, mod_below}
 use Rattle.pb_base.specs.declared.literal.Lit.{Lit}
 use Rattle.pb_norm.specs.Constraints.{Weighted, weight}
 use Rattle.pb_derive.specs.Ones.{ones}
-use Rattle.pb_amo.specs.declared.source.Stride.{Stride}
 use Rattle.pb_amo.specs.Passing.{passing, in_line, is_beside, Visits}
 use Rattle.pb_amo.specs.ProductSteps.{row_of, column_of}
 
@@ -137,8 +136,3 @@ row_beside q e size some = beside_visits (row_of q) e size (e / q * q) 1 q (row_
 
 pub column_beside : (q r e size : ℕ) → 0 < q → size ≤ r * q → Visits (is_beside (column_of q) e) size (e % q) q r e
 column_beside q r e size some covered = beside_visits (column_of q) e size (e % q) q r (column_lies q r (e % q) size some (mod_below e q some) covered)
-
--- the same by the numbers that a stride has
-pub visits_stride : (p : ℕ → Bool) (size from step count but : ℕ) (w : Stride) → w.from ≡ from → w.step ≡ step → w.count ≡ count → Visits p size from step count but → Visits p size w.from w.step w.count but
-visits_stride p size from step count but w begins turns many h =
-    subst (λ (k : ℕ). Visits p size k w.step w.count but) (sym begins) (subst (λ (k : ℕ). Visits p size from k w.count but) (sym turns) (subst (λ (k : ℕ). Visits p size from step k but) (sym many) h))

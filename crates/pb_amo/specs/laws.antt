@@ -1,3 +1,4 @@
+pub mod ByGrids
 pub mod Choice
 pub mod GridCases
 pub mod GridClauses
@@ -14,7 +15,6 @@ pub mod LadderPlaces
 pub mod LadderShort
 pub mod LineLaws
 pub mod LineSums
-pub mod PairwiseDerivation
 pub mod PairwiseDerives
 pub mod PairwiseLaws
 pub mod PairwiseShort

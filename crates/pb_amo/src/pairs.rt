@@ -111,7 +111,7 @@ impl Strong for Pairwise<'_> {
 
 impl Derive for Pairwise<'_> {
     ghost use Rattle.pb_amo.specs.PairwiseSteps.{pairwise_steps};
-    ghost use Rattle.pb_amo.specs.laws.PairwiseDerivation.{pairwise_derives, pairwise_few};
+    ghost use Rattle.pb_amo.specs.laws.PairwiseDerives.{pairwise_derives, pairwise_few};
     ghost use Rattle.pb_amo.specs.laws.PairwiseShort.{pairwise_sayable, pairwise_short};
 
     ghost step_list = { λ f first id next. pairwise_steps (lits_of f.of.now.terms) id next };

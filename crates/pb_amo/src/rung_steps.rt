@@ -5,8 +5,7 @@ ghost use Rattle.pb_norm.specs.Constraints.{weight, weights};
 use crate::rung::Place;
 use crate::rungs::Rungs;
 use pb_family::{
-    NumberedClauses, NumberedSteps, SinkFault, StepSink, derive_all, derive_claim,
-    derive_reification, fresh_at,
+    NumberedClauses, NumberedSteps, SinkFault, StepSink, derive_claim, derive_reification, fresh_at,
 };
 use std::alloc::Global;
 
@@ -21,13 +20,7 @@ pub struct RungSteps<'a> {
 }
 
 impl RungSteps<'_> {
-    ghost use Rattle.std.specs.Prelude.{◌≡◌, ◌≤◌, ◌<◌, ◌+◌, ◌*◌, ◌^◌, ◌∷◌, [], length};
-    ghost use Rattle.pb_norm.specs.Constraints.{weights};
-    ghost use Rattle.pb_family.specs.StepSinks.{HandsFrom};
-    ghost use Rattle.pb_family.specs.inner.HandedJustifications.{HandsJustifications};
-    ghost use Rattle.pb_amo.specs.LadderSteps.{ladder_steps};
-    ghost use Rattle.pb_amo.specs.inner.LadderOrder.{IsPlace};
-    ghost use Rattle.pb_amo.specs.inner.RungClaims.{claimed_at};
+    ghost use Rattle.std.specs.Prelude.{◌≡◌, ◌<◌, ◌+◌, ◌*◌, ◌^◌};
 
     /// The id of the constraint that holds where a fresh variable is true.
     fn forward_id(&self, place: usize) -> u64
@@ -44,43 +37,13 @@ impl RungSteps<'_> {
     {
         self.base + 2 * place as u64 + 1
     }
-
-    /// Derives the clause at a place.
-    fn claim<T: StepSink>(&self, alloc: Global, place: Place, sink: &mut T) -> Result<(), SinkFault>
-        requires place { IsPlace (length self.now.rungs.terms.now) place }
-        requires few { (T.state sink.old).next + 1 < 2 ^ 62 }
-        ensures { HandsJustifications (claimed_at self.now place ∷ []) result (T.state sink.old) (T.state sink.new) }
-    {
-        let terms = self.rungs.terms;
-        match place {
-            Place::Link(k) => {
-                let ids = [self.forward_id(k + 1), self.reverse_id(k)];
-                derive_claim(alloc, &ids, &terms[k + 1..k + 2], sink)
-            }
-            Place::NoneAfter(k) => {
-                derive_claim(alloc, &[self.forward_id(k), self.id], &terms[..k], sink)
-            }
-            Place::SomeAfter(k) => {
-                derive_claim(alloc, &[self.reverse_id(k)], &terms[k + 2..], sink)
-            }
-        }
-    }
-
-    /// The whole derivation.
-    pub fn derive<T: StepSink>(&self, alloc: Global, sink: &mut T) -> Result<(), SinkFault>
-        requires { self.now.base ≡ (T.state sink.old).next }
-        ensures { HandsFrom (ladder_steps (weights self.now.rungs.terms.now) self.now.rungs.first self.now.id) result (T.state sink.old) (T.state sink.new) }
-    {
-        derive_all(alloc, self, sink)
-    }
 }
 
 impl NumberedSteps for RungSteps<'_> {
     ghost use Rattle.std.specs.Prelude.{◌-◌, ◌*◌, length};
     ghost use Rattle.pb_norm.specs.Constraints.{weights};
-    ghost use Rattle.pb_amo.specs.LadderSteps.{rung};
+    ghost use Rattle.pb_amo.specs.LadderSteps.{rung, justification_at};
     ghost use Rattle.pb_amo.specs.inner.LadderOrder.{place_at};
-    ghost use Rattle.pb_amo.specs.inner.RungClaims.{claimed_at};
 
     ghost fresh_count = { λ r. length r.rungs.terms.now - 1 };
 
@@ -88,7 +51,7 @@ impl NumberedSteps for RungSteps<'_> {
 
     ghost claim_count = { λ r. 3 * length r.rungs.terms.now - 4 };
 
-    ghost justification = { λ r k. claimed_at r (place_at (length r.rungs.terms.now) k) };
+    ghost justification = { λ r k. justification_at (weights r.rungs.terms.now) r.rungs.first r.id r.base (place_at (length r.rungs.terms.now) k) };
 
     fn fresh(&self) -> usize {
         self.rungs.terms.len() - 1
@@ -114,6 +77,18 @@ impl NumberedSteps for RungSteps<'_> {
         number: usize,
         sink: &mut T,
     ) -> Result<(), SinkFault> {
-        self.claim(alloc, self.rungs.place(number), sink)
+        let terms = self.rungs.terms;
+        match self.rungs.place(number) {
+            Place::Link(k) => {
+                let ids = [self.forward_id(k + 1), self.reverse_id(k)];
+                derive_claim(alloc, &ids, &terms[k + 1..k + 2], sink)
+            }
+            Place::NoneAfter(k) => {
+                derive_claim(alloc, &[self.forward_id(k), self.id], &terms[..k], sink)
+            }
+            Place::SomeAfter(k) => {
+                derive_claim(alloc, &[self.reverse_id(k)], &terms[k + 2..], sink)
+            }
+        }
     }
 }

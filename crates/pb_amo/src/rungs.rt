@@ -53,18 +53,6 @@ impl Rungs<'_> {
         Source::OfTerms(self.terms).at(place).not()
     }
 
-    /// Hands over the clause at a place.
-    fn emit_at<S: ClauseSink>(&self, place: Place, sink: &mut S) -> Result<(), Failed>
-        requires { IsPlace (length self.now.terms.now) place }
-        ensures { Hands (clause_at (lits_of (weights self.now.terms.now)) self.now.first place ∷ []) result (S.state sink.old) (S.state sink.new) }
-    {
-        match place {
-            Place::Link(k) => sink.clause(&[self.bit(k + 1).not(), self.bit(k)]),
-            Place::NoneAfter(k) => sink.clause(&[self.not_at(k), self.bit(k).not()]),
-            Place::SomeAfter(k) => sink.clause(&[self.not_at(k + 1), self.bit(k)]),
-        }
-    }
-
     /// Hands over all the clauses.
     pub fn emit<S: ClauseSink>(&self, sink: &mut S) -> Result<(), Failed>
         ensures { Hands (ladder_clauses (lits_of (weights self.now.terms.now)) self.now.first) result (S.state sink.old) (S.state sink.new) }
@@ -89,6 +77,10 @@ impl NumberedClauses for Rungs<'_> {
     }
 
     fn emit_one<S: ClauseSink>(&self, number: usize, sink: &mut S) -> Result<(), Failed> {
-        self.emit_at(self.place(number), sink)
+        match self.place(number) {
+            Place::Link(k) => sink.clause(&[self.bit(k + 1).not(), self.bit(k)]),
+            Place::NoneAfter(k) => sink.clause(&[self.not_at(k), self.bit(k).not()]),
+            Place::SomeAfter(k) => sink.clause(&[self.not_at(k + 1), self.bit(k)]),
+        }
     }
 }

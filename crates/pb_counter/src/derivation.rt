@@ -6,8 +6,7 @@ use crate::grid::Grid;
 use crate::place::Place;
 use pb_base::Term;
 use pb_family::{
-    NumberedClauses, NumberedSteps, SinkFault, StepSink, derive_all, derive_claim,
-    derive_reification, fresh_at,
+    NumberedClauses, NumberedSteps, SinkFault, StepSink, derive_claim, derive_reification, fresh_at,
 };
 use std::alloc::Global;
 
@@ -29,12 +28,9 @@ pub struct Derivation<'a> {
 }
 
 impl<'a> Derivation<'a> {
-    ghost use Rattle.std.specs.Prelude.{◌≡◌, ◌≤◌, ◌<◌, ◌+◌, ◌^◌, ◌∷◌, [], length};
+    ghost use Rattle.std.specs.Prelude.{◌≡◌, ◌<◌, ◌+◌, length};
     ghost use Rattle.pb_norm.specs.Constraints.{weights};
-    ghost use Rattle.pb_family.specs.StepSinks.{HandsFrom};
-    ghost use Rattle.pb_family.specs.inner.HandedJustifications.{HandsJustifications};
-    ghost use Rattle.pb_counter.specs.CounterSteps.{reached_id, missed_id, ids_of, sources_at, beside_at, counter_steps};
-    ghost use Rattle.pb_counter.specs.inner.Claimed.{claimed_at};
+    ghost use Rattle.pb_counter.specs.CounterSteps.{reached_id, missed_id, ids_of, sources_at, beside_at};
     ghost use Rattle.pb_counter.specs.inner.Order.{IsPlace};
 
     /// The id of the constraint that holds where a fresh variable is true.
@@ -97,35 +93,13 @@ impl<'a> Derivation<'a> {
             Place::Stop(i) => &terms[i + 2..],
         }
     }
-
-    /// Derives the clause at a place.
-    fn claim<T: StepSink>(&self, alloc: Global, place: Place, sink: &mut T) -> Result<(), SinkFault>
-        requires place { IsPlace (length self.now.grid.terms.now) self.now.grid.width place }
-        requires few { (T.state sink.old).next + 1 < 2 ^ 62 }
-        ensures { HandsJustifications (claimed_at self.now place ∷ []) result (T.state sink.old) (T.state sink.new) }
-    {
-        let beside = self.beside(place);
-        match self.sources(place) {
-            Sources::Single(one) => derive_claim(alloc, &[one], beside, sink),
-            Sources::Both(one, other) => derive_claim(alloc, &[one, other], beside, sink),
-        }
-    }
-
-    /// The whole derivation.
-    pub fn derive<T: StepSink>(&self, alloc: Global, sink: &mut T) -> Result<(), SinkFault>
-        requires { self.now.base ≡ (T.state sink.old).next }
-        ensures { HandsFrom (counter_steps (weights self.now.grid.terms.now) self.now.grid.width self.now.grid.first self.now.id) result (T.state sink.old) (T.state sink.new) }
-    {
-        derive_all(alloc, self, sink)
-    }
 }
 
 impl NumberedSteps for Derivation<'_> {
     ghost use Rattle.std.specs.Prelude.{length};
     ghost use Rattle.pb_norm.specs.Constraints.{weights};
     ghost use Rattle.pb_counter.specs.Counter.{counter_fresh, counter_size};
-    ghost use Rattle.pb_counter.specs.CounterSteps.{counted_at};
-    ghost use Rattle.pb_counter.specs.inner.Claimed.{claimed_at};
+    ghost use Rattle.pb_counter.specs.CounterSteps.{counted_at, justification_at};
     ghost use Rattle.pb_counter.specs.inner.Order.{place_at};
 
     ghost fresh_count = { λ d. counter_fresh (length d.grid.terms.now) d.grid.width };
@@ -134,7 +108,7 @@ impl NumberedSteps for Derivation<'_> {
 
     ghost claim_count = { λ d. counter_size (length d.grid.terms.now) d.grid.width };
 
-    ghost justification = { λ d k. claimed_at d (place_at (length d.grid.terms.now) d.grid.width k) };
+    ghost justification = { λ d k. justification_at (weights d.grid.terms.now) d.grid.width d.grid.first d.id d.base (place_at (length d.grid.terms.now) d.grid.width k) };
 
     fn fresh(&self) -> usize {
         self.grid.fresh()
@@ -162,6 +136,11 @@ impl NumberedSteps for Derivation<'_> {
         number: usize,
         sink: &mut T,
     ) -> Result<(), SinkFault> {
-        self.claim(alloc, self.grid.place(number), sink)
+        let place = self.grid.place(number);
+        let beside = self.beside(place);
+        match self.sources(place) {
+            Sources::Single(one) => derive_claim(alloc, &[one], beside, sink),
+            Sources::Both(one, other) => derive_claim(alloc, &[one, other], beside, sink),
+        }
     }
 }

@@ -61,25 +61,6 @@ impl Grid<'_> {
         self.terms[place].lit.not()
     }
 
-    /// Hands over the clause at a place.
-    fn emit_at<S: ClauseSink>(&self, place: Place, sink: &mut S) -> Result<(), Failed>
-        requires { IsPlace (length self.now.terms.now) self.now.width place }
-        ensures { Hands (clause_at (lits_of (weights self.now.terms.now)) self.now.width self.now.first place ∷ []) result (S.state sink.old) (S.state sink.new) }
-    {
-        match place {
-            Place::Start => sink.clause(&[self.not_at(0), self.bit(0, 0)]),
-            Place::Below(j) => sink.clause(&[self.bit(0, j).not()]),
-            Place::One(i) => sink.clause(&[self.not_at(i + 1), self.bit(i + 1, 0)]),
-            Place::Keep(i, j) => sink.clause(&[self.bit(i, j).not(), self.bit(i + 1, j)]),
-            Place::More(i, j) => sink.clause(&[
-                self.not_at(i + 1),
-                self.bit(i, j).not(),
-                self.bit(i + 1, j + 1),
-            ]),
-            Place::Stop(i) => sink.clause(&[self.not_at(i + 1), self.bit(i, self.width - 1).not()]),
-        }
-    }
-
     /// Hands over all the clauses.
     pub fn emit<S: ClauseSink>(&self, sink: &mut S) -> Result<(), Failed>
         ensures { Hands (counter_clauses (lits_of (weights self.now.terms.now)) self.now.width self.now.first) result (S.state sink.old) (S.state sink.new) }
@@ -104,6 +85,17 @@ impl NumberedClauses for Grid<'_> {
     }
 
     fn emit_one<S: ClauseSink>(&self, number: usize, sink: &mut S) -> Result<(), Failed> {
-        self.emit_at(self.place(number), sink)
+        match self.place(number) {
+            Place::Start => sink.clause(&[self.not_at(0), self.bit(0, 0)]),
+            Place::Below(j) => sink.clause(&[self.bit(0, j).not()]),
+            Place::One(i) => sink.clause(&[self.not_at(i + 1), self.bit(i + 1, 0)]),
+            Place::Keep(i, j) => sink.clause(&[self.bit(i, j).not(), self.bit(i + 1, j)]),
+            Place::More(i, j) => sink.clause(&[
+                self.not_at(i + 1),
+                self.bit(i, j).not(),
+                self.bit(i + 1, j + 1),
+            ]),
+            Place::Stop(i) => sink.clause(&[self.not_at(i + 1), self.bit(i, self.width - 1).not()]),
+        }
     }
 }

@@ -1,9 +1,10 @@
--- The clauses of justifications.
+-- The clauses of justifications, and of claims by propagation.
 use Rattle.std.proofs.Common.{◌≡◌, ◌+◌, ◌∷◌, ◌++◌, ◌∙◌, ℕ, zero, suc, List, [], map, refl, ap}
 use Rattle.std.specs.List.{range_with_len, flat_map}
 use Rattle.pb_base.specs.declared.literal.Lit.{Lit}
 use Rattle.pb_derive.specs.Claims.{Claim}
 use Rattle.pb_derive.specs.Justifications.{Justification, by_justification}
+use Rattle.pb_derive.specs.Rups.{by_rup}
 
 abbrev pub justification_clauses : List Justification → List (List Lit)
 justification_clauses rs = map (λ (c : Claim). c.clause) (map by_justification rs)
@@ -23,3 +24,7 @@ clauses-range f a (suc n) = ap (λ (cs : List (List Lit)). (f a).clause ∷ cs) 
 pub clauses-flat : (f : ℕ → List Justification) (g : ℕ → List (List Lit)) → ((k : ℕ) → justification_clauses (f k) ≡ g k) → (a n : ℕ) → justification_clauses (flat_map f (range_with_len a n)) ≡ flat_map g (range_with_len a n)
 clauses-flat f g each a zero = refl
 clauses-flat f g each a (suc n) = clauses-append (f a) (flat_map f (range_with_len (a + 1) n)) ∙ (λ i. each a i ++ clauses-flat f g each (a + 1) n i)
+
+pub rup_clauses : (ids : List ℕ) (cs : List (List Lit)) → map (λ (c : Claim). c.clause) (map (by_rup ids) cs) ≡ cs
+rup_clauses ids [] = refl
+rup_clauses ids (c ∷ cs) = ap (λ (ds : List (List Lit)). c ∷ ds) (rup_clauses ids cs)

@@ -16,6 +16,7 @@ use Rattle.pb_norm.specs.Propagation.{Conflict}
 use Rattle.pb_norm.proofs.AdditionSizes.{weight-cons}
 use Rattle.pb_norm.proofs.AllBut.{coef_of-at}
 use Rattle.pb_norm.proofs.ClauseTerms.{form-lit}
+use Rattle.pb_norm.proofs.SignTerms.{magnitude-distinct}
 use Rattle.pb_norm.proofs.WrittenForm.{normal_terms-ascending}
 use Rattle.pb_steps.specs.Operations.{negation, excess, Implies}
 use Rattle.pb_steps.specs.Database.{Database, constraint_at, IsLive}
@@ -23,10 +24,9 @@ use Rattle.pb_derive.specs.inner.Ran.{IsClaim}
 use Rattle.pb_derive.specs.inner.Refuted.{AreAt, IsClauseIn, IsRefuting}
 use Rattle.pb_derive.specs.Later.{IsLater}
 use Rattle.pb_derive.proofs.Closed.{no_excess}
-use Rattle.pb_derive.proofs.SameTerms.{magnitude-terms}
 use Rattle.pb_derive.specs.Ones.{unit_of, ones}
 use Rattle.pb_derive.specs.Rups.{by_rup}
-use Rattle.pb_derive.proofs.ClauseClaims.{claim-form, one_of-ones, distinct-all}
+use Rattle.pb_derive.proofs.ClauseClaims.{claim-form, distinct-all}
 
 at_later : (P : ℕ → Type 0) (db end : Database) (ids : List ℕ) (cs : List Constraint) → IsLater P db end → AreAt db ids cs → AreAt end ids cs
 at_later P db end [] [] later h = tt
@@ -68,9 +68,6 @@ distinct-length (l ∷ ls) = by_test (is_among ls l) (distinct-length ls)
     by_test true h = omega (arith, h)
     by_test false h = omega (arith, h)
 
-magnitude-ones : (ls : List Lit) → magnitude (map one_of (distinct ls)) ≤ length ls
-magnitude-ones ls = omega (arith, ap magnitude (one_of-ones (distinct ls)), magnitude-terms (ones (distinct ls)), ones-weight (distinct ls), distinct-length ls)
-
 named : (m : ℕ) (ls : List Lit) → All (λ l. l.var ≤ m) ls → All (λ v. v ≤ m) (map {A = Term} {B = ℕ} (λ t. t.lit.var) (map one_of ls))
 named m ls all = All-map (λ (v : ℕ). v ≤ m) {Y = Term} (λ t. t.lit.var) (map one_of ls) (All-map (λ (t : Term). t.lit.var ≤ m) one_of ls all)
 
@@ -90,7 +87,7 @@ refuted_claims P db id ids cs clause at_ids refuted short = record {
           vars = subst (λ (m : ℕ). All (λ v. v ≤ m) (map {A = Term} {B = ℕ} (λ t. t.lit.var) ts)) (sym later.vars) (named db.vars (distinct clause) (distinct-all (λ l. l.var ≤ db.vars) clause short.vars));
           ids = at_live end (id ∷ ids) cs here;
           rule = record {
-            slim = omega (arith, magnitude-ones clause, short.few);
+            slim = omega (arith, magnitude-distinct clause, short.few);
             conflict = subst (λ (hints : List Constraint). Conflict (negation c ∷ hints) []) (sym (at_hints end (id ∷ ids) cs here)) refuted.1;
             after = refl;
           };

@@ -1,5 +1,5 @@
 -- Reifications, clauses and deletions that are handed over part by part.
-use Rattle.std.proofs.Common.{◌≡◌, ◌+◌, ◌*◌, ◌++◌, ℕ, zero, suc, Bool, true, false, cond, List, [], ◌∷◌, length, refl, ap, ◌∙◌, arith, append_assoc, ltb, pos}
+use Rattle.std.proofs.Common.{◌≡◌, ◌+◌, ◌*◌, ◌++◌, ℕ, zero, suc, Bool, true, false, cond, List, [], ◌∷◌, length, refl, sym, ap, ◌∙◌, arith, append_assoc, ltb, pos}
 use Rattle.std.specs.Prelude.{map, count_by, Result, IsErrAnd}
 use Rattle.std.specs.List.{range_with_len}
 use Rattle.std.proofs.lemmas.List.Sums.{sum_by-cons, sum_by-append}
@@ -9,6 +9,7 @@ use Rattle.pb_steps.specs.declared.step.Step.TheVariants.{Rup, Del, Out}
 use Rattle.pb_steps.specs.Steps.{takes_id}
 use Rattle.pb_derive.specs.Claims.{Claim, claim_steps}
 use Rattle.pb_derive.specs.Deletions.{deletion_steps}
+use Rattle.pb_derive.specs.FollowedBy.{followed_by}
 use Rattle.pb_derive.specs.Reifications.{Reification, reification_steps, forward_of, reverse_of, redundant}
 use Rattle.pb_derive.specs.Phases.{phases}
 use Rattle.pb_derive.specs.Justifications.{Justification, by_justification}
@@ -137,3 +138,20 @@ pub after_pieces : {R : Type 0} {all : List Step} (old now : StepState R) (piece
 after_pieces old now piece width n each rest after e h =
     deriving_as (ap rest (let same : now.next + width * n ≡ after.next = omega (arith, h.ids, pieces_ids piece width each now.next 0 n) in same))
     (deriving_step {left = rest (now.next + width * n)} (pieces piece width now.next 0 n) after e h)
+
+-- ---- steps that are followed by others
+
+module _ {R : Type 0} {all : List Step} {old now : StepState R} (f g : ℕ → List Step) (rest : List Step) (e : Deriving all (followed_by f g now.next ++ rest) old now) where
+  abbrev behind : List Step
+  behind = g (now.next + count_by takes_id (f now.next)) ++ rest
+
+  followed_left : Deriving all (f now.next ++ behind) old now
+  followed_left = deriving_as (append_assoc (f now.next) (g (now.next + count_by takes_id (f now.next))) rest) e
+
+  -- the first ones were taken
+  pub after_followed : (after : StepState R) → TakesSteps (f now.next) now after → Deriving all (g after.next ++ rest) old after
+  after_followed after h = deriving_as (ap (λ (n : ℕ). g n ++ rest) (sym h.ids)) (deriving_step {left = behind} (f now.next) after followed_left h)
+
+  -- their fault is handed on
+  pub followed_fault : {T : Type 0} (r : Result T SinkFault) (k : SinkFault) (after : StepState R) → IsErrAnd r (λ j. j ≡ k) → StopsInSteps (f now.next) now after k → HandsSteps all r old after
+  followed_fault r k after is part = steps_fault r k (f now.next) behind after is followed_left part

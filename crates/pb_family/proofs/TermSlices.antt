@@ -1,5 +1,5 @@
 -- Terms as steps have them, and slices of terms.
-use Rattle.std.proofs.Common.{◌≡◌, ◌≤◌, ◌<◌, ◌+◌, ◌-◌, ◌^◌, ℕ, List, [], ◌∷◌, length, length-drop, take, drop, refl, sym, ap, ◌∙◌, arith}
+use Rattle.std.proofs.Common.{◌≡◌, ◌≤◌, ◌<◌, ◌+◌, ◌-◌, ◌^◌, ℕ, true, false, List, [], ◌∷◌, length, length-drop, take, drop, refl, sym, ap, ◌∙◌, arith}
 use Rattle.std.specs.Prelude.{All, map, slice_index_or}
 use Rattle.std.proofs.lemmas.List.{take-map, drop-map, get_or-map, length-map, take_all}
 use Rattle.std.proofs.lemmas.List.Elements.{All-nil, All-cons}
@@ -10,7 +10,7 @@ use Rattle.pb_norm.specs.inner.Kept.{on_term}
 use Rattle.pb_norm.specs.Reduction.{lits_of, opposite}
 use Rattle.pb_norm.proofs.AdditionSizes.{weight-cons}
 use Rattle.pb_family.specs.Fresh.{positive_of, literal_at}
-use Rattle.pb_family.specs.inner.Parts.{kept}
+use Rattle.pb_family.specs.inner.Parts.{turned}
 
 pub light_terms : (ts : List Term) → weight (weights ts) < 2 ^ 124 → All (λ t. (weighted t).coef < 2 ^ 127) ts
 light_terms [] light = All-nil (λ (t : Term). (weighted t).coef < 2 ^ 127)
@@ -18,11 +18,11 @@ light_terms (t ∷ ts) light =
     let sum = weight-cons (weighted t) (weights ts) in
     All-cons (λ (t : Term). (weighted t).coef < 2 ^ 127) t ts (omega arith) (light_terms ts (omega arith))
 
-pub kept_terms : (ts : List Term) → map (on_term kept) ts ≡ terms_of (weights ts)
+pub kept_terms : (ts : List Term) → map (on_term (turned false)) ts ≡ terms_of (weights ts)
 kept_terms [] = refl
 kept_terms (t ∷ ts) = ap (λ (us : List Term). term_of (weighted t) ∷ us) (kept_terms ts)
 
-pub opposite_terms : (ts : List Term) → map (on_term opposite) ts ≡ terms_of (map opposite (weights ts))
+pub opposite_terms : (ts : List Term) → map (on_term (turned true)) ts ≡ terms_of (map opposite (weights ts))
 opposite_terms [] = refl
 opposite_terms (t ∷ ts) = ap (λ (us : List Term). term_of (opposite (weighted t)) ∷ us) (opposite_terms ts)
 

@@ -13,13 +13,7 @@ pub fn write_literal(lit: &Lit, text: &mut [u8; LITERAL]) -> usize
     ensures within { result ≤ LITERAL }
     ensures written { drop result text.new ≡ literal_text lit.now ++ codes " " }
 {
-    text[LITERAL - 1] = b' ';
-    let start = write_digits(u64::from(lit.index()), text, LITERAL - 1);
-    if lit.positive {
-        return start;
-    }
-    text[start - 1] = b'-';
-    start - 1
+    write_before(lit, text, LITERAL)
 }
 
 /// A clause of so many literals is short.
@@ -29,9 +23,9 @@ pub const SHORT: usize = 5;
 pub const SHORT_TEXT: usize = 62;
 
 // Writes a literal and a blank before what stands from the end on, and says where they begin.
-fn write_before(lit: &Lit, text: &mut [u8; SHORT_TEXT], end: usize) -> usize
+fn write_before(lit: &Lit, text: &mut [u8], end: usize) -> usize
     requires low { LITERAL ≤ end }
-    requires high { end ≤ SHORT_TEXT }
+    requires high { end ≤ length text.old }
     ensures within { result ≤ end }
     ensures room { end ≤ result + LITERAL }
     ensures written { drop result text.new ≡ (literal_text lit.now ++ codes " ") ++ drop end text.old }

@@ -7,7 +7,7 @@ ghost use Rattle.pb_derive.specs.Reifications.{Reification};
 ghost use Rattle.pb_family.specs.Handing.{Hands};
 ghost use Rattle.pb_family.specs.StepSinks.{HandsFrom};
 ghost use Rattle.pb_family.specs.Numbered.{justifications_by_number, numbered_phases, reifications_by_number};
-ghost use Rattle.pb_family.specs.inner.HandedJustifications.{HandsJustifications, HandsReifications};
+ghost use Rattle.pb_family.specs.HandedJustifications.{HandsJustifications, HandsReifications};
 
 use crate::deletion::derive_deletions;
 use crate::sink::{ClauseSink, SinkFault};

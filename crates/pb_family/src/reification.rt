@@ -1,13 +1,13 @@
 //! Steps that give a fresh variable its reification.
-ghost use Rattle.std.specs.Prelude.{◌≡◌, ◌<◌, ◌+◌, ◌-◌, ◌^◌, All, [], ◌∷◌, false, pos, map, IfOk};
+ghost use Rattle.std.specs.Prelude.{◌≡◌, ◌<◌, ◌+◌, ◌-◌, ◌^◌, All, [], ◌∷◌, false, pos, map, if◌then◌else◌, IfOk};
+ghost use Rattle.pb_base.specs.Literals.{negated};
 ghost use Rattle.pb_norm.specs.Constraints.{weight, weighted, weights};
 ghost use Rattle.pb_norm.specs.inner.Kept.{on_term};
-ghost use Rattle.pb_norm.specs.Reduction.{opposite};
 ghost use Rattle.pb_steps.specs.declared.step.Step.TheVariants.{Red};
 ghost use Rattle.pb_derive.specs.Reifications.{forward_of, redundant};
 ghost use Rattle.pb_family.specs.Derivations.{meant};
 ghost use Rattle.pb_family.specs.StepSinks.{HandsSteps};
-ghost use Rattle.pb_family.specs.inner.Parts.{kept, reification_of, second_line};
+ghost use Rattle.pb_family.specs.inner.Parts.{reification_of, second_line, turned};
 
 use crate::sink::SinkFault;
 use crate::step_sink::{StepSink, derive_steps};
@@ -16,32 +16,22 @@ use pb_norm::weight_of;
 use pb_steps::{Set, Sets, Step};
 use std::alloc::{AllocError, Global};
 
-// A term before others.
-fn with_head(alloc: Global, head: Term, terms: &[Term]) -> Result<Vec<Term>, AllocError>
-    requires fits { All (λ t. (weighted t).coef < 2 ^ 127) terms.now }
-    ensures { IfOk result (λ v. v.items ≡ head ∷ map (on_term kept) terms.now) }
+// A literal, or its negation where that is asked for.
+fn turned(lit: Lit, flip: bool) -> Lit
+    ensures { result ≡ if flip then negated lit else lit }
 {
-    let mut all = Vec::with_capacity(alloc, terms.len() + 1)?;
-    all.push(head)?;
-    for term in terms {
-        all.push(Term::weighing(term.weight(), term.lit))?;
-    }
-    Ok(all)
+    if flip { lit.not() } else { lit }
 }
 
-// A term before others, whose literals are negated.
-fn with_head_before_negated(
-    alloc: Global,
-    head: Term,
-    terms: &[Term],
-) -> Result<Vec<Term>, AllocError>
+// A term before others, whose literals are negated where that is asked for.
+fn with_head(alloc: Global, head: Term, terms: &[Term], flip: bool) -> Result<Vec<Term>, AllocError>
     requires fits { All (λ t. (weighted t).coef < 2 ^ 127) terms.now }
-    ensures { IfOk result (λ v. v.items ≡ head ∷ map (on_term opposite) terms.now) }
+    ensures { IfOk result (λ v. v.items ≡ head ∷ map (on_term (turned flip)) terms.now) }
 {
     let mut all = Vec::with_capacity(alloc, terms.len() + 1)?;
     all.push(head)?;
     for term in terms {
-        all.push(Term::weighing(term.weight(), term.lit.not()))?;
+        all.push(Term::weighing(term.weight(), turned(term.lit, flip)))?;
     }
     Ok(all)
 }
@@ -74,7 +64,7 @@ fn forward_step(alloc: Global, var: Var, terms: &[Term], least: u128) -> Result<
         var,
         positive: false,
     };
-    let all = with_head(alloc, Term::weighing(least, off), terms)?;
+    let all = with_head(alloc, Term::weighing(least, off), terms, false)?;
     redundant_step(alloc, all, least, var, false)
 }
 
@@ -103,7 +93,7 @@ fn reverse_step(
         positive: true,
     };
     let spare = whole + 1 - least;
-    let all = with_head_before_negated(alloc, Term::weighing(spare, on), terms)?;
+    let all = with_head(alloc, Term::weighing(spare, on), terms, true)?;
     redundant_step(alloc, all, spare, var, true)
 }
 

@@ -1,9 +1,10 @@
 -- How many fresh variables and clauses there are.
-use Rattle.std.proofs.Common.{◌≡◌, ◌<◌, ◌≤◌, ◌+◌, ◌*◌, ◌^◌, ◌-◌, ℕ, leb, sym, ap, ◌∙◌, arith, inl, inr, zero, suc, refl}
+use Rattle.std.proofs.Common.{◌≡◌, ◌<◌, ◌≤◌, ◌+◌, ◌*◌, ◌^◌, ◌-◌, ℕ, leb, arith, inl, inr, zero, suc, refl}
 use Rattle.std.proofs.Math.Nat.{mul-le-mul_right, mul-le-mul_left}
 use Rattle.std.proofs.lemmas.Bool.{cases_lt, le-leb, lt-leb}
 use Rattle.pb_amo.specs.Pairwise.{pair_count}
 use Rattle.pb_amo.specs.Product.{columns, rows, fresh_within, count_within, product_fresh, product_count}
+use Rattle.pb_amo.specs.laws.ByGrids.{IsByGrids, leaf_at, enough, step}
 use Rattle.pb_amo.specs.laws.GridSides.{columns_positive, rows_are, sides_fit, sides_half, rows_positive}
 use Rattle.pb_amo.specs.laws.Choice.{chosen_true, chosen_false}
 
@@ -37,45 +38,21 @@ square_of_sum r q n fit covers =
     let two = mul-le-mul_left n fit in
     omega arith
 
--- a number that is made up by grids inside grids: of a list without a grid, and of a grid beside its rows and its columns
-record IsByGrids (f : ℕ → ℕ → ℕ) (leaf own : ℕ → ℕ) : Type 0 where
+-- a number that is made up by grids, however many there are at most
+record IsNumber (f : ℕ → ℕ → ℕ) (leaf own : ℕ → ℕ) : Type 0 where
   last : (n : ℕ) → f zero n ≡ leaf n
   few : (more n : ℕ) → n ≤ 4 → f (suc more) n ≡ leaf n
   many : (more n : ℕ) → 4 < n → f (suc more) n ≡ own n + f more (rows n) + f more (columns n)
 
-fresh_by_grids : IsByGrids fresh_within (λ n. 0) (λ n. rows n + columns n)
-fresh_by_grids = record { last = fresh_last; few = fresh_few; many = fresh_many }
+fresh_is : IsNumber fresh_within (λ n. 0) (λ n. rows n + columns n)
+fresh_is = record { last = fresh_last; few = fresh_few; many = fresh_many }
 
-count_by_grids : IsByGrids count_within pair_count (λ n. 2 * n)
-count_by_grids = record { last = count_last; few = count_few; many = count_many }
+count_is : IsNumber count_within pair_count (λ n. 2 * n)
+count_is = record { last = count_last; few = count_few; many = count_many }
 
-module _ {f : ℕ → ℕ → ℕ} {leaf own : ℕ → ℕ} (made : IsByGrids f leaf own) where
-  leaf_at : (k n : ℕ) → n ≤ 4 → f k n ≡ leaf n
-  leaf_at zero n small = made.last n
-  leaf_at (suc more) n small = made.few more n small
-
-  -- as many grids as there are literals are enough
-  enough : (k j n : ℕ) → n ≤ k → n ≤ j → f k n ≡ f j n
-  enough zero j n hk hj = made.last n ∙ sym (leaf_at j n (omega arith))
-  enough (suc k) zero n hk hj = made.few k n (omega arith) ∙ sym (made.last n)
-  enough (suc k) (suc j) n hk hj =
-      elim (cases_lt 4 n) as (λ _. f (suc k) n ≡ f (suc j) n) [
-        | inr few ↦ made.few k n few ∙ sym (made.few j n few)
-        | inl many ↦
-            let fit = sides_fit n many in
-            let some = columns_positive n (omega arith) in
-            let some_rows = rows_positive n (omega arith) in
-            made.many k n many ∙ (λ x. own n + enough k j (rows n) (omega arith) (omega arith) x + enough k j (columns n) (omega arith) (omega arith) x) ∙ sym (made.many j n many)
-      ]
-
-  step : (n : ℕ) → 4 < n → f n n ≡ own n + f (rows n) (rows n) + f (columns n) (columns n)
-  step n many =
-      let fit = sides_fit n many in
-      let some = columns_positive n (omega arith) in
-      let some_rows = rows_positive n (omega arith) in
-      let more : ℕ = n - 1 in
-      ap (λ (k : ℕ). f k n) (let e : n ≡ suc more = omega arith in e) ∙ made.many more n many
-      ∙ (λ x. own n + enough more (rows n) (rows n) (omega arith) (omega arith) x + enough more (columns n) (columns n) (omega arith) (omega arith) x)
+module _ {f : ℕ → ℕ → ℕ} {leaf own : ℕ → ℕ} (made : IsNumber f leaf own) where
+  by_grids : IsByGrids (λ n. n) rows columns f leaf (λ n x y. own n + x + y)
+  by_grids = record { last = made.last; few = made.few; many = λ more n h k. made.many more n h; of_rows = λ n. refl; of_columns = λ n. refl }
 
   -- no more than the square, where that is so of what is added
   square : ((n : ℕ) → leaf n ≤ n * n) → ((n : ℕ) → 4 < n → own n ≤ 2 * n) → (k n : ℕ) → f k n ≤ n * n
@@ -89,24 +66,24 @@ module _ {f : ℕ → ℕ → ℕ} {leaf own : ℕ → ℕ} (made : IsByGrids f 
       ]
 
 pub fresh_leaf : (k n : ℕ) → n ≤ 4 → fresh_within k n ≡ 0
-fresh_leaf k n few = leaf_at fresh_by_grids k n few
+fresh_leaf = leaf_at (by_grids fresh_is)
 
 pub count_leaf : (k n : ℕ) → n ≤ 4 → count_within k n ≡ pair_count n
-count_leaf k n few = leaf_at count_by_grids k n few
+count_leaf = leaf_at (by_grids count_is)
 
 pub fresh_enough : (k j n : ℕ) → n ≤ k → n ≤ j → fresh_within k n ≡ fresh_within j n
-fresh_enough k j n hk hj = enough fresh_by_grids k j n hk hj
+fresh_enough = enough (by_grids fresh_is)
 
 -- F(n) = r + q + F(r) + F(q), and 0 up to four
 pub fresh_step : (n : ℕ) → 4 < n → product_fresh n ≡ rows n + columns n + product_fresh (rows n) + product_fresh (columns n)
-fresh_step n many = step fresh_by_grids n many
+fresh_step = step (by_grids fresh_is)
 
 -- A(n) = 2n + A(r) + A(q), and n(n - 1)/2 up to four
 pub count_step : (n : ℕ) → 4 < n → product_count n ≡ 2 * n + product_count (rows n) + product_count (columns n)
-count_step n many = step count_by_grids n many
+count_step = step (by_grids count_is)
 
 pub fresh_within_square : (k n : ℕ) → fresh_within k n ≤ n * n
-fresh_within_square = square fresh_by_grids (λ n. omega arith) (λ n many. omega (arith, sides_fit n many))
+fresh_within_square = square fresh_is (λ n. omega arith) (λ n many. omega (arith, sides_fit n many))
 
 pairs_square : (n : ℕ) → pair_count n ≤ n * n
 pairs_square zero = omega arith
@@ -115,7 +92,7 @@ pairs_square (suc n) =
     rw below (omega arith)
 
 pub count_within_square : (k n : ℕ) → count_within k n ≤ n * n
-count_within_square = square count_by_grids pairs_square (λ n many. omega arith)
+count_within_square = square count_is pairs_square (λ n many. omega arith)
 
 -- ---- what a grid gives
 

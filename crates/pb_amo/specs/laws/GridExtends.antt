@@ -5,8 +5,9 @@ use Rattle.std.proofs.lemmas.Bool.{cases_Bool, cond-true, cond-false, lt-ltb, le
 use Rattle.std.proofs.lemmas.List.Elements.{All-append}
 use Rattle.std.proofs.lemmas.List.Sums.{get_or-le-sum_by}
 use Rattle.pb_base.specs.declared.literal.Lit.{Lit}
-use Rattle.pb_base.specs.Literals.{Assignment, lit_value, clause_value, IsModel, AgreeBelow}
+use Rattle.pb_base.specs.Literals.{Assignment, lit_value, clause_value}
 use Rattle.pb_norm.proofs.Agreement.{lit_value-agree, IsModel-agree}
+use Rattle.pb_family.specs.Families.{ExtendsToModel}
 use Rattle.pb_family.specs.Fresh.{positive_of, literal_at, fresh_at}
 use Rattle.pb_family.proofs.UnitSums.{count_by-cons_true, count_by-cons_false}
 use Rattle.pb_family.proofs.Ranges.{one_by_places}
@@ -73,17 +74,14 @@ gridded_column v first r q e k =
     ∙ extended_fresh v first (gridded r q e) (r + k)
     ∙ cond-false (ltb (r + k) r) (r + k == e / q) (r + k == r + e % q) (le-ltb (r + k) r (omega arith))
 
-abbrev pub Extension : ℕ → Assignment → List (List Lit) → Type 0
-Extension first v cs = (w : Assignment) × AgreeBelow first v w × IsModel w cs
-
-extends_leaf : (ms : List Lit) (first : ℕ) (v : Assignment) → count_by (lit_value v) ms ≤ 1 → Extension first v (pairwise_clauses ms)
+extends_leaf : (ms : List Lit) (first : ℕ) (v : Assignment) → count_by (lit_value v) ms ≤ 1 → ExtendsToModel first v (pairwise_clauses ms)
 extends_leaf ms first v few = (v, (λ n h. refl), all_pairs v ms few)
 
 -- an assignment under which at most one is true extends
 abbrev Extends : List Lit → ℕ → ℕ → (ℕ → List (List Lit)) → (ℕ → ℕ → ℕ → List Step) → Type 0
-Extends ms fresh count clauses steps = (first : ℕ) → ((e : ℕ) → e < length ms → (literal_at ms e).var < first) → (v : Assignment) → count_by (lit_value v) ms ≤ 1 → Extension first v (clauses first)
+Extends ms fresh count clauses steps = (first : ℕ) → ((e : ℕ) → e < length ms → (literal_at ms e).var < first) → (v : Assignment) → count_by (lit_value v) ms ≤ 1 → ExtendsToModel first v (clauses first)
 
-pub extends_within : (k : ℕ) (ms : List Lit) (first : ℕ) → ((e : ℕ) → e < length ms → (literal_at ms e).var < first) → (v : Assignment) → count_by (lit_value v) ms ≤ 1 → Extension first v (clauses_within k ms first)
+pub extends_within : (k : ℕ) (ms : List Lit) (first : ℕ) → ((e : ℕ) → e < length ms → (literal_at ms e).var < first) → (v : Assignment) → count_by (lit_value v) ms ≤ 1 → ExtendsToModel first v (clauses_within k ms first)
 extends_within = by_grids Extends (λ ms first low v few. extends_leaf ms first v few) (λ more below ms many first low v few.
     let n = length ms in
     let r = rows n in

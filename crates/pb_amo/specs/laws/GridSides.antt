@@ -101,13 +101,13 @@ columns_are n h =
     let times = div_ceil_times n (root n) (root_at_least n 0 (omega arith)) in
     record { covers = times.0; close = times.1 }
 
+-- a factor of what covers something is something
+factor_positive : (k m n : ℕ) → 0 < n → n ≤ k * m → 0 < k
+factor_positive zero m n some covers = absurd (omega (arith, some, covers))
+factor_positive (suc k) m n some covers = omega arith
+
 pub columns_positive : (n : ℕ) → 0 < n → 0 < columns n
-columns_positive n h =
-    let sides = columns_are n h in
-    elim (cases_eq (columns n) 0) as (λ _. 0 < columns n) [
-      | inl none ↦ let covers = sides.covers in let product = ap (λ (k : ℕ). k * root n) none in absurd (omega arith)
-      | inr some ↦ omega arith
-    ]
+columns_positive n h = factor_positive (columns n) (root n) n h (columns_are n h).covers
 
 pub record Rows (n : ℕ) : Type 0 where
   pub covers : n ≤ rows n * columns n
@@ -195,10 +195,4 @@ row_within n e h =
     div_below e (columns n) (rows n) (columns_positive n (omega arith)) (omega arith)
 
 pub rows_positive : (n : ℕ) → 0 < n → 0 < rows n
-rows_positive n h =
-    let grid = rows_are n h in
-    let covers = grid.covers in
-    elim (cases_eq (rows n) 0) as (λ _. 0 < rows n) [
-      | inl none ↦ let product = ap (λ (k : ℕ). k * columns n) none in absurd (omega arith)
-      | inr some ↦ omega arith
-    ]
+rows_positive n h = factor_positive (rows n) (columns n) n h (rows_are n h).covers

@@ -1,5 +1,5 @@
 -- What the lines of a side add up to.
-use Rattle.std.proofs.Common.{◌≡◌, ◌≢◌, ◌≤◌, ◌<◌, ◌+◌, ◌^◌, ℕ, Bool, true, false, cond, List, [], ◌∷◌, length, refl, ap, sym, ◌∙◌, subst, arith, eqb, inl, inr, get_or, zero, suc}
+use Rattle.std.proofs.Common.{◌≡◌, ◌≢◌, ◌≤◌, ◌<◌, ◌+◌, ◌^◌, ℕ, Bool, false, cond, List, [], ◌∷◌, length, refl, ap, sym, ◌∙◌, subst, arith, eqb, inl, inr, get_or, zero, suc}
 use Rattle.std.specs.Prelude.{All, Contains, map, sum_by}
 use Rattle.std.specs.List.{range_with_len}
 use Rattle.std.proofs.lemmas.Bool.{eqb-true, cases_Bool, not-false}
@@ -31,7 +31,7 @@ use Rattle.pb_family.specs.Fresh.{fresh_at}
 use Rattle.pb_family.proofs.Ranges.{range_each}
 use Rattle.pb_amo.specs.laws.LineLaws.{length-line}
 use Rattle.pb_amo.specs.Passing.{passing, in_line}
-use Rattle.pb_amo.specs.laws.PassingSums.{passing-cons, passing-le, lines-all}
+use Rattle.pb_amo.specs.laws.PassingSums.{at_most, passing-cons, passing-le, lines-all}
 use Rattle.pb_amo.specs.Product.{line}
 use Rattle.pb_amo.specs.inner.AtMostOne.{at_most_one}
 use Rattle.pb_amo.specs.ProductSteps.{line_reification}
@@ -43,10 +43,6 @@ line-other first n = λ i j d before within.
     let at_i = get_or-map-range_with_len (fresh_at first) 0 n i i d (omega arith) (omega arith) in
     let at_j = get_or-map-range_with_len (fresh_at first) 0 n j j d (omega arith) (omega arith) in
     rw (at_i, at_j) (λ e. omega (arith, e, before))
-
-line_bit : (b : Bool) → cond b 1 0 ≤ 1
-line_bit true = omega arith
-line_bit false = omega arith
 
 module _ (side : ℕ → ℕ) (ms : List Lit) (first w : ℕ) where
   abbrev firsts : List Constraint
@@ -119,10 +115,10 @@ module _ (side : ℕ → ℕ) (m : Lit) (rest : List Lit) (first w : ℕ) (other
       elim (cases_Bool (eqb (side 0) k)) as (λ _. value under (forward_of (line_reification side (m ∷ rest) first k)).terms ≤ 1) [
         | inl same ↦
             let here : term_value under t ≡ 0 = ap (λ (b : Bool). cond b 1 0) (subst (λ (j : ℕ). lit_value under (negated (fresh_at first j)) ≡ false) (eqb-true (side 0) k same) line_false) in
-            omega (arith, sum, most, line_bit (eqb (side 0) k), here)
+            omega (arith, sum, most, at_most (eqb (side 0) k) 1, here)
         | inr apart ↦
             let none : cond {A = ℕ} (eqb (side 0) k) 1 0 ≡ 0 = ap (λ (b : Bool). cond b 1 0) apart in
-            omega (arith, sum, most, none, line_bit (lit_value under t.lit))
+            omega (arith, sum, most, none, at_most (lit_value under t.lit) 1)
       ]
 
   pub lines-sum : ((e : ℕ) → e < length (m ∷ rest) → side e < w) → length (m ∷ rest) < 2 ^ 31 → w < 2 ^ 31 →

@@ -21,8 +21,7 @@ use Rattle.pb_family.proofs.Limits.{id_of, variables_of}
 use Rattle.pb_amo.specs.Pairwise.{pairwise_clauses, pair_count}
 use Rattle.pb_amo.specs.PairwiseSteps.{pairwise_claims, pairwise_steps}
 use Rattle.pb_amo.specs.laws.GridCounts.{count_last, count_within_square}
-use Rattle.pb_amo.specs.laws.PairwiseDerives.{by_pairs}
-use Rattle.pb_amo.specs.laws.PairwiseLaws.{pairs_count}
+use Rattle.pb_amo.specs.laws.PairwiseLaws.{by_pairs, pairs_count}
 
 -- clauses for each two
 pub pairs_fine : (ms : List Lit) (id next : ℕ) → All (λ l. IsVariable l.var) ms → IsId id → 1 ≤ next → next + pair_count (length ms) < 2 ^ 63 → AreFine 175 (199 * pair_count (length ms)) (pairwise_steps ms id next)

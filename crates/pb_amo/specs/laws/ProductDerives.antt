@@ -1,10 +1,10 @@
 -- The clauses of a grid are derived.
-use Rattle.std.proofs.Common.{◌≡◌, ◌≢◌, ◌≤◌, ◌<◌, ◌+◌, ◌*◌, ◌^◌, ℕ, true, List, [], ◌∷◌, ◌++◌, length, length-append, refl, ap, sym, ◌∙◌, subst, arith, inl, inr, get_or, zero, suc}
+use Rattle.std.proofs.Common.{◌≡◌, ◌≤◌, ◌<◌, ◌+◌, ◌*◌, ◌^◌, ℕ, true, List, [], ◌∷◌, ◌++◌, length, length-append, refl, ap, sym, ◌∙◌, subst, arith, inl, inr, get_or, zero, suc}
 use Rattle.std.specs.Prelude.{All, map, count_by}
 use Rattle.std.specs.List.{range_with_len, flat_map}
 use Rattle.std.proofs.lemmas.Bool.{cases_lt}
 use Rattle.std.proofs.lemmas.List.{get_or_append_left, get_or-append-add, length-map}
-use Rattle.std.proofs.lemmas.List.Elements.{All-nil, All-cons, All-append, All-map, All-weaker, All-contains_itself}
+use Rattle.std.proofs.lemmas.List.Elements.{All-nil, All-cons, All-map, All-weaker}
 use Rattle.std.proofs.lemmas.List.FromFn.{length-map-range_with_len, get_or-map-range_with_len}
 use Rattle.pb_base.specs.declared.literal.Lit.{Lit}
 use Rattle.pb_norm.specs.Constraints.{Weighted}
@@ -17,7 +17,6 @@ use Rattle.pb_derive.specs.Claims.{Claim}
 use Rattle.pb_steps.specs.Steps.{takes_id}
 use Rattle.pb_derive.specs.Later.{Knows, IsLater}
 use Rattle.pb_derive.specs.Reifications.{Reification, reification_steps, forward_of}
-use Rattle.pb_derive.specs.Ones.{ones}
 use Rattle.pb_derive.specs.inner.Ran.{RanSwept, IsClaim}
 use Rattle.pb_derive.specs.inner.Meant.{IsMeant}
 use Rattle.pb_derive.specs.Justifications.{Justification, by_justification}
@@ -29,24 +28,20 @@ use Rattle.pb_derive.proofs.Phases.{reifications_add, swept_derives}
 use Rattle.pb_derive.proofs.PinLemmas.{AreApartLits}
 use Rattle.pb_derive.proofs.Running.{claims_ran}
 use Rattle.pb_derive.proofs.Scoped.{Scoped, scoped}
-use Rattle.pb_derive.proofs.UnitTerms.{ones-lits}
-use Rattle.pb_family.proofs.Ranges.{range_each}
 use Rattle.pb_family.proofs.FlatRanges.{flat_each}
 use Rattle.pb_amo.specs.laws.GridSides.{columns_positive, row_within, sides_fit}
 use Rattle.pb_amo.specs.Pairwise.{pairwise_clauses}
-use Rattle.pb_amo.specs.laws.PairwiseDerives.{pairwise_swept}
+use Rattle.pb_amo.specs.laws.PairwiseDerives.{pairs_swept, of_lits}
+use Rattle.pb_amo.specs.laws.LineLaws.{lines_each}
 use Rattle.pb_amo.specs.Product.{rows, columns, line, cells, cell, fresh_within, clauses_within, product_fresh, product_clauses}
 use Rattle.pb_amo.specs.laws.ProductLines.{line_fit, line_claim, Derivable, side_swept}
 use Rattle.pb_amo.specs.ProductSteps.{line_reification, line_reifications, line_justification, row_of, column_of, cell_justifications, cells_steps, steps_within, product_steps}
 use Rattle.pb_amo.specs.inner.AtMostOne.{at_most_one}
-use Rattle.pb_amo.specs.PairwiseSteps.{pairwise_claims, pairwise_steps}
+use Rattle.pb_amo.specs.PairwiseSteps.{pairwise_steps}
 use Rattle.pb_amo.specs.laws.GridCases.{rows_steps, columns_steps, grid_body, grid_steps, steps_last, steps_few, steps_many}
 use Rattle.pb_amo.specs.laws.GridCounts.{fresh_last, fresh_few, fresh_many}
 use Rattle.pb_amo.specs.laws.GridClauses.{clauses_last, clauses_few, clauses_many}
-use Rattle.pb_base.proofs.Pairs.{AllPairs-map}
-use Rattle.pb_family.proofs.UnitSums.{unit_coefficient}
 use Rattle.pb_family.specs.Families.{VarsBelow}
-use Rattle.pb_norm.proofs.Proper.{apart}
 use Rattle.pb_norm.specs.Reduction.{lits_of, all_weigh}
 use Rattle.pb_norm.specs.BoundedSums.{BoundedSum, IsOverDistinct}
 
@@ -54,18 +49,6 @@ use Rattle.pb_norm.specs.BoundedSums.{BoundedSum, IsOverDistinct}
 pub cells-clauses : (ms : List Lit) (first r q base a n : ℕ) → map (λ (c : Claim). c.clause) (map by_justification (flat_map (cell_justifications ms first r q base) (range_with_len a n))) ≡ flat_map (cell ms first r q) (range_with_len a n)
 cells-clauses ms first r q base a zero = refl
 cells-clauses ms first r q base a (suc n) = ap (λ (cs : List (List Lit)). (line_justification (row_of q) ms first base a).clause ∷ (line_justification (column_of q) ms (first + r) (base + 2 * r) a).clause ∷ cs) (cells-clauses ms first r q base (a + 1) n)
-
--- ---- up to four literals
-
-leaf_swept : (ms : List Lit) → AreApartLits ms → (first id : ℕ) → All (λ l. l.var < first) ms → (db : Database) → IsReadyFor (at_most_one ms) first 0 id db →
-    RanSwept (λ v. v < first + 0) db (pairwise_steps ms id db.next) (pairwise_clauses ms) (count_by takes_id (pairwise_steps ms id db.next))
-leaf_swept ms other first id below db ready =
-    let P : ℕ → Type 0 = λ v. v < first + 0 in
-    let fits = ready.vars in
-    swept_counted P db (pairwise_steps ms id db.next) (pairwise_clauses ms) (length (pairwise_claims ms id))
-    (pairwise_swept ms other P id db ready.numbered ready.stands
-    (All-weaker (λ (l : Lit). l.var < first) (λ (l : Lit). P l.var) (λ l h. omega arith) ms below)
-    (All-weaker (λ (l : Lit). l.var < first) (λ (l : Lit). l.var ≤ db.vars) (λ l h. omega arith) ms below))
 
 -- ---- a grid
 
@@ -114,10 +97,7 @@ module _ (more : ℕ) (inductive : Derivable more) (ms : List Lit) (other : AreA
       (subst (λ (v : ℕ). AreInRow v by_columns) (let e : first + r + 0 ≡ first + length by_rows = omega (arith, row_size) in e) (row_by_places (line_reification (column_of q) ms (first + r)) (first + r) 0 q (λ k. refl)))
 
   lines_fit : All (IsFitReification first) lines
-  lines_fit =
-      All-append (IsFitReification first) by_rows by_columns
-      (range_each (IsFitReification first) (line_reification (row_of q) ms first) 0 r (λ k low high. line_fit (row_of q) ms other few first below first k))
-      (range_each (IsFitReification first) (line_reification (column_of q) ms (first + r)) 0 q (λ k low high. line_fit (column_of q) ms other few first below (first + r) k))
+  lines_fit = lines_each (IsFitReification first) ms first r q (λ k within. line_fit (row_of q) ms other few first below first k) (λ k within. line_fit (column_of q) ms other few first below (first + r) k)
 
   meant : Meant P db lines
   meant =
@@ -269,7 +249,7 @@ module _ (more : ℕ) (inductive : Derivable more) (ms : List Lit) (other : AreA
 pairs_ready : (k : ℕ) (ms : List Lit) → AreApartLits ms → (first id : ℕ) → All (λ l. l.var < first) ms → (db : Database) (count : ℕ) (ss : List Step) (cs : List (List Lit)) → count ≡ 0 → ss ≡ pairwise_steps ms id db.next → cs ≡ pairwise_clauses ms
     → IsReadyFor (at_most_one ms) first count id db → RanSwept (λ v. v < first + count) db ss cs (count_by takes_id ss)
 pairs_ready k ms other first id below db count ss cs none steps clauses ready =
-    let ran = leaf_swept ms other first id below db (subst (λ (f : ℕ). IsReadyFor (at_most_one ms) first f id db) none ready) in
+    let ran = pairs_swept ms other first id below db (subst (λ (f : ℕ). IsReadyFor (at_most_one ms) first f id db) none ready) in
     subst (λ (f : ℕ). RanSwept (λ v. v < first + f) db ss cs (count_by takes_id ss)) (sym none)
     (subst (λ (xs : List Step). RanSwept (λ v. v < first + 0) db xs cs (count_by takes_id xs)) (sym steps) (subst (λ (ds : List (List Lit)). RanSwept (λ v. v < first + 0) db (pairwise_steps ms id db.next) ds (count_by takes_id (pairwise_steps ms id db.next))) (sym clauses) ran))
 
@@ -297,11 +277,8 @@ product_derives c one units distinct few first id db below ready =
     let n : ℕ = length c.terms in
     let size : length ms ≡ n = length-map c.terms (λ (t : Weighted). t.lit) in
     let fresh : fresh_within (length ms) n ≡ product_fresh n = ap (λ (k : ℕ). fresh_within k n) size in
-    let terms : ones ms ≡ c.terms = ones-lits c.terms (λ k d within. unit_coefficient c.terms units (get_or c.terms k d) (All-contains_itself c.terms k d within)) in
-    let same : c ≡ at_most_one ms = (λ i. record { terms = sym terms i; bound = one i }) in
-    let other : AreApartLits ms = AllPairs-map (λ (s t : Weighted). s.lit.var ≢ t.lit.var) (λ (k l : Lit). k.var ≢ l.var) (λ (t : Weighted). t.lit) (λ s t h. h) c.terms (apart c.terms distinct) in
-    let under : All (λ (l : Lit). l.var < first) ms = All-map (λ (l : Lit). l.var < first) (λ (t : Weighted). t.lit) c.terms below in
+    let own = of_lits c one units distinct first below in
     let steps : List Step = product_steps ms first id db.next in
-    let ran = derivable (length ms) ms n size other few first id under db (subst (λ (m : BoundedSum). IsReadyFor m first (fresh_within (length ms) n) id db) same (subst (λ (f : ℕ). IsReadyFor c first f id db) (sym fresh) ready)) in
+    let ran = derivable (length ms) ms n size own.apart few first id own.below db (subst (λ (m : BoundedSum). IsReadyFor m first (fresh_within (length ms) n) id db) own.same (subst (λ (f : ℕ). IsReadyFor c first f id db) (sym fresh) ready)) in
     subst (λ (f : ℕ). Derives db steps (product_clauses ms first) (first + f)) fresh
     (swept_derives db steps (product_clauses ms first) (first + fresh_within (length ms) n) (count_by takes_id steps) ready.numbered ran)

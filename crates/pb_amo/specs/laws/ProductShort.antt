@@ -6,7 +6,7 @@ use Rattle.std.proofs.Math.Nat.{mul-le-mul_right}
 use Rattle.std.proofs.lemmas.Nat.{mod_below}
 use Rattle.std.proofs.lemmas.List.{length-map}
 use Rattle.std.proofs.lemmas.List.FromFn.{length-map-range_with_len}
-use Rattle.std.proofs.lemmas.List.Elements.{All-nil, All-cons, All-append, All-map, All-weaker, recursion_from_All}
+use Rattle.std.proofs.lemmas.List.Elements.{All-nil, All-cons, All-map, All-weaker, recursion_from_All}
 use Rattle.std.proofs.lemmas.List.Sums.{sum_by-cons, sum_by-append, count_by-le-length}
 use Rattle.pb_base.specs.declared.literal.Lit.{Lit}
 use Rattle.pb_norm.specs.Constraints.{Weighted}
@@ -44,7 +44,7 @@ use Rattle.pb_amo.specs.Product.{rows, columns, line, fresh_within, count_within
 use Rattle.pb_amo.specs.ProductSteps.{line_reification, line_reifications, line_justification, line_sum, side_steps, row_of, column_of, grid_reifications, cell_justifications, cells_justifications, cells_steps, steps_within, product_steps}
 use Rattle.pb_amo.specs.laws.GridCounts.{count_linear}
 use Rattle.pb_amo.specs.laws.GridSides.{columns_positive, rows_positive, rows_are, row_within, sides_fit}
-use Rattle.pb_amo.specs.laws.LineLaws.{length-line}
+use Rattle.pb_amo.specs.laws.LineLaws.{length-line, lines_each}
 use Rattle.pb_amo.specs.laws.PairwiseLaws.{pairs_count}
 use Rattle.pb_amo.specs.laws.PairwiseShort.{pairs_fine}
 use Rattle.pb_amo.specs.laws.PassingCounts.{beside-row, beside-column}
@@ -243,17 +243,12 @@ module _ (N more : ℕ) (fine : HoldsWithin (Fine N) more) (ms : List Lit) (vars
 
   lines_slim : All IsSlimReification lines
   lines_slim =
-      All-append IsSlimReification (line_reifications (row_of q) ms first r) (line_reifications (column_of q) ms (first + r) q)
-      (range_each IsSlimReification (line_reification (row_of q) ms first) 0 r (λ k above to.
-      reification_slim N ms vars within small (row_of q) first k ((let one : 1 ≤ first + k = omega (arith, low) in one), (let below : first + k < 2 ^ 31 = omega (arith, to, fits) in below))))
-      (range_each IsSlimReification (line_reification (column_of q) ms (first + r)) 0 q (λ k above to.
-      reification_slim N ms vars within small (column_of q) (first + r) k ((let one : 1 ≤ first + r + k = omega (arith, low) in one), (let below : first + r + k < 2 ^ 31 = omega (arith, to, fits) in below))))
+      lines_each IsSlimReification ms first r q
+      (λ k to. reification_slim N ms vars within small (row_of q) first k ((let one : 1 ≤ first + k = omega (arith, low) in one), (let below : first + k < 2 ^ 31 = omega (arith, to, fits) in below)))
+      (λ k to. reification_slim N ms vars within small (column_of q) (first + r) k ((let one : 1 ≤ first + r + k = omega (arith, low) in one), (let below : first + r + k < 2 ^ 31 = omega (arith, to, fits) in below)))
 
   lines_few : All (λ m. length m.sum ≤ N) lines
-  lines_few =
-      All-append (λ m. length m.sum ≤ N) (line_reifications (row_of q) ms first r) (line_reifications (column_of q) ms (first + r) q)
-      (range_each (λ (m : Reification). length m.sum ≤ N) (line_reification (row_of q) ms first) 0 r (λ k above to. reification_few N ms vars within small (row_of q) first k))
-      (range_each (λ (m : Reification). length m.sum ≤ N) (line_reification (column_of q) ms (first + r)) 0 q (λ k above to. reification_few N ms vars within small (column_of q) (first + r) k))
+  lines_few = lines_each (λ m. length m.sum ≤ N) ms first r q (λ k to. reification_few N ms vars within small (row_of q) first k) (λ k to. reification_few N ms vars within small (column_of q) (first + r) k)
 
   rs_slim : All (IsSlimJustification N) rs
   rs_slim =

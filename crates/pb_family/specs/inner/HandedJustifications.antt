@@ -1,16 +1,17 @@
--- The steps of reifications, of clauses and of their justifications, handed over from the sink's next id on.
-use Rattle.std.specs.Prelude.{List, map, Result}
-use Rattle.pb_derive.specs.Claims.{Claim, claim_steps}
-use Rattle.pb_derive.specs.Reifications.{Reification, reification_steps}
-use Rattle.pb_derive.specs.Justifications.{Justification, by_justification}
-use Rattle.pb_family.specs.StepSinks.{HandsSteps, StepState}
+-- The same, by the names that private contracts of other crates cite.
+use Rattle.std.specs.Prelude.{List, Result}
+use Rattle.pb_derive.specs.Claims.{Claim}
+use Rattle.pb_derive.specs.Reifications.{Reification}
+use Rattle.pb_derive.specs.Justifications.{Justification}
+use Rattle.pb_family.specs.HandedJustifications as handed
+use Rattle.pb_family.specs.StepSinks.{StepState}
 use Rattle.pb_family.specs.declared.sink.SinkFault.{SinkFault}
 
 abbrev pub HandsReifications : {T Rest : Type 0} → List Reification → Result T SinkFault → StepState Rest → StepState Rest → Type 0
-HandsReifications reifications result old new = HandsSteps (reification_steps old.next reifications) result old new
+HandsReifications = handed.HandsReifications
 
 abbrev pub HandsClaims : {T Rest : Type 0} → List Claim → Result T SinkFault → StepState Rest → StepState Rest → Type 0
-HandsClaims claims result old new = HandsSteps (claim_steps old.next claims) result old new
+HandsClaims = handed.HandsClaims
 
 abbrev pub HandsJustifications : {T Rest : Type 0} → List Justification → Result T SinkFault → StepState Rest → StepState Rest → Type 0
-HandsJustifications justifications result old new = HandsSteps (claim_steps old.next (map by_justification justifications)) result old new
+HandsJustifications = handed.HandsJustifications

@@ -1,13 +1,14 @@
 -- Parts of steps. These serve proofs about the code that makes them.
-use Rattle.std.specs.Prelude.{ℕ, true, pos, List, [], ◌∷◌, nat_lt, if◌then◌else◌}
+use Rattle.std.specs.Prelude.{ℕ, Bool, true, pos, List, [], ◌∷◌, nat_lt, if◌then◌else◌}
+use Rattle.pb_base.specs.Literals.{negated}
 use Rattle.pb_norm.specs.Constraints.{Weighted, weight}
 use Rattle.pb_steps.specs.declared.step.Step.{Step}
 use Rattle.pb_steps.specs.declared.step.Step.TheVariants.{Rup}
 use Rattle.pb_derive.specs.Reifications.{Reification, reverse_of, redundant}
 
--- nothing is done to a weighted literal
-abbrev pub kept : Weighted → Weighted
-kept t = t
+-- a weighted literal, negated where that is asked for
+abbrev pub turned : Bool → Weighted → Weighted
+turned flip t = record { coef = t.coef; lit = if flip then negated t.lit else t.lit }
 
 abbrev pub reification_of : ℕ → List Weighted → ℕ → Reification
 reification_of var sum least = record { var = var; sum = sum; least = least }

@@ -1,7 +1,7 @@
-use Rattle.std.proofs.Common.{◌≡◌, ◌<◌, ◌≤◌, ◌+◌, ◌-◌, ◌^◌, ◌++◌, ◌∷◌, ℕ, List, [], length, drop, ap, sym, ◌∙◌, arith, append_assoc}
+use Rattle.std.proofs.Common.{◌≡◌, ◌<◌, ◌≤◌, ◌+◌, ◌-◌, ◌^◌, ◌++◌, ◌∷◌, ℕ, List, [], length, length-append, length-drop, drop, ap, sym, ◌∙◌, arith, append_assoc}
 use Rattle.std.specs.Prelude.{decimal, slice_set}
 use Rattle.std.proofs.lemmas.Fmt.{length-decimal-le}
-use Rattle.std.proofs.lemmas.List.{drop-set}
+use Rattle.std.proofs.lemmas.List.{drop-set, length-set}
 use Rattle.pb_family.proofs.literal.write_before.Goals as goal
 
 -- what stands behind the digits
@@ -15,7 +15,7 @@ short : (n : ℕ) → n < 2 ^ 31 → length (decimal n) ≤ 10
 short n below = length-decimal-le 10 n (omega arith) (omega arith) (omega arith)
 
 pub write_digits-digits-requires : goal.write_digits-digits-requires
-write_digits-digits-requires c = (omega (arith, short c.from.result (omega arith)), omega arith)
+write_digits-digits-requires c = (omega (arith, short c.from.result (omega arith)), omega (arith, c.requires.high, length-set c.args.text.now (c.args.end - 1) 32))
 
 pub overflow_sub-text-2 : goal.overflow_sub-text-2
 overflow_sub-text-2 c = omega (arith, short c.from.result (omega arith))
@@ -35,6 +35,8 @@ returns-clause-written c =
     let n = c.from.result in
     let rest = drop c.args.end c.args.text.now in
     let e : w.result - 1 + 1 ≡ w.result = omega (arith, short n (omega arith)) in
-    let behind = blank c.args.text.now c.args.end (omega arith) (omega (arith, c.told-text)) in
+    let behind = blank c.args.text.now c.args.end (omega arith) c.requires.high in
+    let placed : w.result - 1 < length w.new.buf =
+    omega (arith, ap (λ (xs : List ℕ). length xs) w.ensures.written, ap (λ (xs : List ℕ). length xs) behind, length-append (decimal n) (drop (c.args.end - 1) (slice_set c.args.text.now (c.args.end - 1) 32)), length-drop w.result w.new.buf) in
     rw (c.if-lit.false, ← c.index.ensures.value, ← c.from.ensures)
-    (drop-set w.new.buf (w.result - 1) 45 (omega (arith, short n (omega arith))) ∙ ap (λ (xs : List ℕ). 45 ∷ xs) (rw e (w.ensures.written ∙ ap (λ (xs : List ℕ). decimal n ++ xs) behind ∙ sym (append_assoc (decimal n) (32 ∷ []) rest))))
+    (drop-set w.new.buf (w.result - 1) 45 placed ∙ ap (λ (xs : List ℕ). 45 ∷ xs) (rw e (w.ensures.written ∙ ap (λ (xs : List ℕ). decimal n ++ xs) behind ∙ sym (append_assoc (decimal n) (32 ∷ []) rest))))

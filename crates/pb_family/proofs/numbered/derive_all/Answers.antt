@@ -1,23 +1,16 @@
-use Rattle.std.proofs.Common.{◌≡◌, ◌+◌, ◌*◌, ◌∙◌, ℕ, List, length, refl, sym, arith}
+use Rattle.std.proofs.Common.{◌≡◌, ◌∙◌, List, length, refl, sym, arith}
 use Rattle.std.proofs.lemmas.List.FromFn.{length-map-range_with_len}
 use Rattle.pb_derive.specs.Deletions.{deletion_steps}
 use Rattle.pb_derive.specs.Justifications.{Justification}
-use Rattle.pb_derive.specs.Reifications.{Reification, reification_steps}
 use Rattle.pb_family.specs.Numbered.{justifications_by_number, reifications_by_number}
-use Rattle.pb_family.specs.StepSinks.{StepState, TakesSteps}
 use Rattle.pb_family.proofs.Deriving.{steps_same}
-use Rattle.pb_family.proofs.FlatPieces.{justifications_next}
+use Rattle.pb_family.proofs.FlatPieces.{justifications_next, reifications_next}
 use Rattle.pb_family.proofs.HandedPhases.{stopped_in_reifications, stopped_in_claims, ended_by_deletions}
 use Rattle.pb_family.proofs.SameSteps.{HaveSameSteps}
-use Rattle.pb_family.proofs.Sequence.{reifications_ids}
 use Rattle.pb_family.proofs.numbered.derive_all.Goals as goal
 
 themselves : (rs : List Justification) → HaveSameSteps rs rs
 themselves rs = record { count = refl; steps = λ n. refl }
-
--- the ids that what the variables mean takes
-reifications_next : {R : Type 0} (f : ℕ → Reification) (n : ℕ) (old mid : StepState R) → TakesSteps (reification_steps old.next (reifications_by_number f n)) old mid → mid.next ≡ old.next + 2 * n
-reifications_next f n old mid h = omega (arith, h.ids, reifications_ids old.next (reifications_by_number f n), length-map-range_with_len f 0 n)
 
 pub returns-in_err-reify_all : goal.returns-in_err-reify_all
 returns-in_err-reify_all g c =

@@ -11,8 +11,8 @@ use Rattle.pb_family.specs.inner.Parts.{reification_of}
 use Rattle.pb_family.proofs.TermSlices.{light_terms, opposite_terms}
 use Rattle.pb_family.proofs.reification.reverse_step.Goals as goal
 
-pub with_head_before_negated-requires : goal.with_head_before_negated-requires
-with_head_before_negated-requires c = record { fits = light_terms c.args.terms.now (omega (arith, c.requires.light)) }
+pub with_head-requires : goal.with_head-requires
+with_head-requires c = record { fits = light_terms c.args.terms.now (omega (arith, c.requires.light)) }
 
 pub returns : goal.returns
 returns c =

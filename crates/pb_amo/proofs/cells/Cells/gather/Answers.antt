@@ -9,17 +9,17 @@ use Rattle.pb_family.specs.Fresh.{positive_of, literal_at}
 use Rattle.pb_amo.specs.Passing.{passing}
 use Rattle.pb_amo.specs.inner.Source.{source_literals}
 use Rattle.pb_amo.proofs.Visited.{Gathered, visits_start, visits_kept, visits_left, visits_out, visits_end}
-use Rattle.pb_amo.proofs.cells.gather.Goals as goal
+use Rattle.pb_amo.proofs.cells.Cells.gather.Goals as goal
 
 pub loop-turn-init : goal.loop-turn-init
 loop-turn-init c = record {
   light = omega (arith, ap (λ (ts : List Weighted). weight ts) (ap weights c.new-terms.ensures.items));
-  met = λ p v. ap weights c.new-terms.ensures.items ∙ sym (ap ones (visits_start p (source_literals c.args.literals.now) c.args.stride.from c.args.stride.step c.args.stride.count c.args.but v));
+  met = λ p v. ap weights c.new-terms.ensures.items ∙ sym (ap ones (visits_start p (source_literals c.args.self.now.grid.literals) c.args.stride.from c.args.stride.step c.args.stride.count c.args.but v));
 }
 
 pub loop-turn-preserved : goal.loop-turn-preserved
 loop-turn-preserved c =
-    let ms = source_literals c.args.literals.now in
+    let ms = source_literals c.args.self.now.grid.literals in
     let from = c.args.stride.from in
     let step = c.args.stride.step in
     let count = c.args.stride.count in
@@ -37,7 +37,7 @@ loop-turn-preserved c =
       | inl within ↦ elim (cases_eq place c.args.but) as (λ _. Goal) [
         | inl left ↦
             let same : after ≡ before = c.in_ok-push_at.ensures.left left in
-            record { light = omega (arith, ap weight same, light); met = λ p v. same ∙ c.loop-turn.invariant.met p v ∙ sym (ap ones (visits_left p ms from step count c.args.but v turn (omega arith) c.requires.some left)) }
+            record { light = omega (arith, ap weight same, light); met = λ p v. same ∙ c.loop-turn.invariant.met p v ∙ sym (ap ones (visits_left p ms from step count c.args.but v turn (omega arith) c.args.stride.some left)) }
         | inr other ↦
             let more : after ≡ before ++ unit_of l ∷ [] = c.in_ok-push_at.ensures.kept within other in
             let one : weight (unit_of l ∷ []) ≡ 1 = refl in
@@ -46,14 +46,14 @@ loop-turn-preserved c =
               met = λ p v.
                   more ∙ ap (λ (ts : List Weighted). ts ++ unit_of l ∷ []) (c.loop-turn.invariant.met p v)
                   ∙ sym (map-append unit_of (passing p 0 (take place ms)) (l ∷ []))
-                  ∙ sym (ap ones (visits_kept p ms from step count c.args.but v turn (positive_of 0) (omega arith) c.requires.some within other));
+                  ∙ sym (ap ones (visits_kept p ms from step count c.args.but v turn (positive_of 0) (omega arith) c.args.stride.some within other));
             }
       ]
     ]
 
 pub returns : goal.returns
 returns c =
-    let ms = source_literals c.args.literals.now in
+    let ms = source_literals c.args.self.now.grid.literals in
     let from = c.args.stride.from in
     let step = c.args.stride.step in
     let all : c.loop-turn.turn ≡ c.args.stride.count = omega arith in
