@@ -16,7 +16,8 @@ use Rattle.pb_gentot.specs.laws.GeneralizedLaws.{Always, generalized_lawful}
 use Rattle.pb_gentot.specs.laws.GeneralizedShort.{generalized_sparing}
 use Rattle.pb_gentot.specs.declared.measure.Part.{Part}
 use Rattle.pb_gentot.specs.inner.Measured.{IsPartMeasured}
-use Rattle.pb_gentot.specs.inner.Sources.{AreLeavesPositive, part_justifications}
+use Rattle.pb_gentot.specs.inner.Sources.{part_justifications}
+use Rattle.pb_gentot.proofs.Parts.{AreLeavesPositive}
 
 pub record Bounds (bound : ℕ) (t : Tree) (n : ℕ) : Type 0 where
   pub count : length (values (generalized bound) t) ≤ fresh_of (generalized bound) t + n

@@ -1,18 +1,25 @@
 -- The clauses of a node over two parts, as the code hands them over.
-use Rattle.std.proofs.Common.{◌≡◌, ◌+◌, ◌++◌, ℕ, List, sym, ap, ◌∙◌, subst}
+use Rattle.std.proofs.Common.{◌≡◌, ◌+◌, ℕ, List, refl, sym, ap, ◌∙◌, subst, arith}
 use Rattle.pb_base.specs.declared.literal.Lit.{Lit}
 use Rattle.pb_base.specs.declared.literal.Term.{Term}
 use Rattle.pb_norm.specs.Constraints.{weights}
 use Rattle.pb_base.proofs.Members.{Contains-nil}
 use Rattle.pb_family.specs.Fresh.{positive_of}
+use Rattle.pb_family.specs.Handing.{StopsInClauses}
+use Rattle.pb_family.specs.Sinks.{SinkState}
+use Rattle.pb_family.specs.declared.sink.SinkFault.{SinkFault}
 use Rattle.pb_tree.specs.Tree.{Tree, empty, leaf, node, tree_of}
-use Rattle.pb_tree.specs.Scheme.{values, fresh_of, output, clauses_of}
+use Rattle.pb_tree.specs.Scheme.{values, fresh_of, output, own_of}
 use Rattle.pb_tree.specs.Places.{place_of}
+use Rattle.pb_tree.specs.inner.Walks.{AreParts, fresh_over}
 use Rattle.pb_gentot.specs.inner.Outputs.{output_in}
 use Rattle.pb_gentot.specs.declared.outputs.Outputs.TheVariants.{Fresh}
 use Rattle.pb_gentot.specs.Rising.{Rising}
 use Rattle.pb_gentot.proofs.RisingLists.{rising_ascending}
+use Rattle.pb_gentot.specs.declared.tree.Emitted.{Emitted}
+use Rattle.pb_gentot.specs.inner.Parts.{IsEmitted, clauses_over_parts, node_values, output_over}
 use Rattle.pb_gentot.specs.Generalized.{generalized, value_clauses, sums}
+use Rattle.pb_gentot.proofs.Parts.{values_are_over}
 
 rising_of : (bound : ℕ) (t : Tree) → Rising (values (generalized bound) t)
 rising_of bound empty = tt
@@ -25,12 +32,6 @@ rising_values bound t us is = subst Rising (sym is) (rising_of bound t)
 abbrev pub own_clauses : ℕ → Tree → Tree → ℕ → ℕ → List (List Lit)
 own_clauses bound l r first next =
     value_clauses (bound + 1) (values (generalized bound) l) (values (generalized bound) r) (output (generalized bound) l first) (output (generalized bound) r next) (output (generalized bound) (node l r) first)
-
-pub clauses_are : (bound : ℕ) (ts : List Term) (l r : Tree) (first next : ℕ) → tree_of (weights ts) ≡ node l r → next ≡ first + fresh_of (generalized bound) l
-    → clauses_of (generalized bound) (tree_of (weights ts)) first ≡ clauses_of (generalized bound) l first ++ (clauses_of (generalized bound) r next ++ own_clauses bound l r first next)
-clauses_are bound ts l r first next tree is =
-    ap (λ (t : Tree). clauses_of (generalized bound) t first) tree
-    ∙ ap (λ (n : ℕ). clauses_of (generalized bound) l first ++ (clauses_of (generalized bound) r n ++ own_clauses bound l r first n)) (sym is)
 
 pub own_is : (bound : ℕ) (l r : Tree) (first next : ℕ) (us vs : List ℕ) (f g h : ℕ → Lit)
     → us ≡ values (generalized bound) l → vs ≡ values (generalized bound) r
@@ -49,3 +50,27 @@ pub node_output : (bound : ℕ) (l r : Tree) (first base : ℕ) (us : List ℕ) 
 node_output bound l r first base us is own =
     ap (λ (n : ℕ). λ (u : ℕ). positive_of (n + place_of u us)) is
     ∙ ap (λ (xs : List ℕ). λ (u : ℕ). positive_of (first + fresh_of (generalized bound) l + fresh_of (generalized bound) r + place_of u xs)) own
+
+-- ---- over two parts of a walk
+
+module _ (bound : ℕ) {ts front back : List Term} {before next : ℕ} (parts : AreParts (generalized bound) ts front back before next) (first : ℕ) (left right : Emitted)
+    (lefts : IsEmitted bound front (first + before) left) (rights : IsEmitted bound back (first + (before + fresh_over (generalized bound) front)) right) where
+  over_output : output_over (bound + 1) (first + next) left right ≡ output (generalized bound) (node (tree_of (weights front)) (tree_of (weights back))) (first + before)
+  over_output =
+      let start : first + next ≡ first + before + fresh_over (generalized bound) front + fresh_over (generalized bound) back = omega (arith, parts.behind) in
+      node_output bound (tree_of (weights front)) (tree_of (weights back)) (first + before) (first + next) (node_values (bound + 1) left right) start
+      (values_are_over bound (tree_of (weights front)) (tree_of (weights back)) left.values.items right.values.items lefts.values_are rights.values_are)
+
+  pub parts_output : output_over (bound + 1) (first + next) left right ≡ output (generalized bound) (tree_of (weights ts)) (first + before)
+  parts_output = over_output ∙ ap (λ (t : Tree). output (generalized bound) t (first + before)) (sym parts.halves.tree)
+
+  pub parts_own : clauses_over_parts (bound + 1) (first + next) left right ≡ own_of (generalized bound) (tree_of (weights front)) (tree_of (weights back)) (first + before)
+  parts_own =
+      let r = tree_of (weights back) in
+      let middle : first + (before + fresh_over (generalized bound) front) ≡ first + before + fresh_over (generalized bound) front = omega arith in
+      own_is bound (tree_of (weights front)) r (first + before) (first + before + fresh_over (generalized bound) front) left.values.items right.values.items _ _ _
+      lefts.values_are rights.values_are lefts.outputs_are (rights.outputs_are ∙ ap (output (generalized bound) r) middle) over_output
+
+-- a first part of the same clauses, written another way
+pub stops_as : {R : Type 0} (cs ds : List (List Lit)) (f : SinkFault) (a b : SinkState R) → cs ≡ ds → StopsInClauses cs a b f → StopsInClauses ds a b f
+stops_as cs ds f a b same h = subst (λ (xs : List (List Lit)). StopsInClauses xs a b f) same h

@@ -33,9 +33,10 @@ use Rattle.pb_gentot.specs.declared.node_ids.Source.TheVariants.{Leaf, Fresh}
 use Rattle.pb_gentot.specs.laws.ByPairs.{value_from}
 use Rattle.pb_gentot.specs.laws.GeneralizedLaws.{values_within}
 use Rattle.pb_gentot.specs.inner.Ids.{ids_at, HasIds}
-use Rattle.pb_gentot.specs.inner.Sources.{output_reification, ids_of, second_of, one_at, ones_given, both_at, row_given, pairs_given, node_given, root_given, part_justifications, all_justifications, AreLeavesPositive}
+use Rattle.pb_gentot.specs.inner.Sources.{output_reification, ids_of, second_of, one_at, ones_given, both_at, row_given, pairs_given, node_given, root_given, part_justifications, all_justifications}
 use Rattle.pb_gentot.proofs.Emitting.{rising_values}
 use Rattle.pb_gentot.proofs.RisingLists.{place_at}
+use Rattle.pb_gentot.proofs.Parts.{AreLeavesPositive}
 
 -- ---- values by their places
 

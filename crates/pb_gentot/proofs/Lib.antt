@@ -19,3 +19,4 @@ pub mod TableModels
 pub mod TableJustifications
 pub mod TableShort
 pub mod TableValues
+mod WholeTrees

@@ -47,7 +47,7 @@ pub values_made : (cap : ℕ) (us vs ws lefts rights : List ℕ) → us ≡ left
 values_made cap us vs ws lefts rights left right is = is ∙ ap (λ (xs : List ℕ). ascending cap (sums cap xs vs)) left ∙ ap (λ (xs : List ℕ). ascending cap (sums cap lefts xs)) right
 
 -- the clauses by the parts, where the code has their values as slices
-pub clauses_made : (cap : ℕ) (left right : Emitted) (us vs ws : List ℕ) → us ≡ left.values.items → vs ≡ right.values.items → ws ≡ node_values cap left right
-    → value_clauses cap us vs (output_in left.outputs us) (output_in right.outputs vs) (output_in (Fresh right.next) ws) ≡ clauses_over_parts cap left right
-clauses_made cap left right us vs ws lefts rights values =
-    (λ i. value_clauses cap (lefts i) (rights i) (output_in left.outputs (lefts i)) (output_in right.outputs (rights i)) (output_in (Fresh right.next) (values i)))
+pub clauses_made : (cap first : ℕ) (left right : Emitted) (us vs ws : List ℕ) → us ≡ left.values.items → vs ≡ right.values.items → ws ≡ node_values cap left right
+    → value_clauses cap us vs (output_in left.outputs us) (output_in right.outputs vs) (output_in (Fresh first) ws) ≡ clauses_over_parts cap first left right
+clauses_made cap first left right us vs ws lefts rights values =
+    (λ i. value_clauses cap (lefts i) (rights i) (output_in left.outputs (lefts i)) (output_in right.outputs (rights i)) (output_in (Fresh first) (values i)))

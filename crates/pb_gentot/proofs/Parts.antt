@@ -1,13 +1,23 @@
 -- A part of a generalized totalizer, over its two halves.
 use Rattle.std.proofs.Common.{◌≡◌, ◌≤◌, ◌<◌, ◌+◌, ◌*◌, ◌^◌, ℕ, List, length, refl, ap, ◌∙◌, sym, subst, arith}
 use Rattle.std.specs.Prelude.{All, Contains, Option, Some, None, IsSome, IfNone}
+use Rattle.std.proofs.lemmas.List.Elements.{All-contains}
 use Rattle.pb_base.specs.declared.literal.Term.{Term}
-use Rattle.pb_norm.specs.Constraints.{weights}
-use Rattle.pb_tree.specs.Tree.{Tree, node, tree_of}
+use Rattle.pb_norm.specs.Constraints.{AllPositive, Weighted, weights}
+use Rattle.pb_tree.specs.Tree.{Tree, node, tree_of, IsLeafOf}
 use Rattle.pb_tree.specs.Scheme.{values, fresh_of, clause_count_of}
+use Rattle.pb_tree.specs.inner.Walks.{AreParts, Suits, fresh_over}
 use Rattle.pb_tree.proofs.Extending.{all_from_each}
+use Rattle.pb_tree.proofs.Splitting.{leaf_listed}
 use Rattle.pb_gentot.specs.Generalized.{generalized, ascending, sums}
 use Rattle.pb_gentot.specs.laws.GeneralizedLaws.{values_within}
+
+-- each leaf adds something
+abbrev pub AreLeavesPositive : Tree → Type 0
+AreLeavesPositive t = (u : Weighted) → IsLeafOf t u → 1 ≤ u.coef
+
+pub leaves_add : (ts : List Term) → AllPositive (weights ts) → AreLeavesPositive (tree_of (weights ts))
+leaves_add ts positive u h = All-contains (λ (t : Weighted). 0 < t.coef) (weights ts) u positive (leaf_listed (weights ts) u h)
 
 pub all_within : (bound : ℕ) (t : Tree) (us : List ℕ) → us ≡ values (generalized bound) t → All (λ u. u ≤ bound + 1) us
 all_within bound t us is = all_from_each (λ u. u ≤ bound + 1) us (λ u h. values_within bound t u (subst (λ (xs : List ℕ). Contains xs u) is h))
@@ -41,6 +51,18 @@ numbers_of bound ts l r us vs made tree left right is =
       fresh = omega arith;
       clauses = ap (clause_count_of (generalized bound)) tree;
     }
+
+-- of a node of a walk
+pub record IsNode (bound most before next : ℕ) (ts : List Term) (made : List ℕ) : Type 0 where
+  pub values_are : made ≡ values (generalized bound) (tree_of (weights ts))
+  pub after : next + length made ≡ before + fresh_over (generalized bound) ts
+  pub within : next + length made ≤ most
+
+pub node_of : {bound most before next : ℕ} {ts front back : List Term} {us vs made : List ℕ} → AreParts (generalized bound) ts front back before next → Suits (generalized bound) most ts before
+    → us ≡ values (generalized bound) (tree_of (weights front)) → vs ≡ values (generalized bound) (tree_of (weights back)) → made ≡ ascending (bound + 1) (sums (bound + 1) us vs) → IsNode bound most before next ts made
+node_of {bound} {ts = ts} {front} {back} {us} {vs} {made} parts suits left right is =
+    let number = numbers_of bound ts (tree_of (weights front)) (tree_of (weights back)) us vs made parts.halves.tree left right is in
+    record { values_are = number.values_are; after = omega (arith, number.fresh, parts.behind); within = omega (arith, number.fresh, parts.behind, suits.fits) }
 
 -- an option that cannot be empty
 pub there_is : {X A : Type 0} (o : Option X) → IfNone o A → (A → ⊥) → IsSome o

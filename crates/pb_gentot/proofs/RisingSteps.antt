@@ -24,11 +24,12 @@ use Rattle.pb_gentot.specs.declared.node_ids.Source.{Source}
 use Rattle.pb_gentot.specs.declared.node_ids.Source.TheVariants.{Leaf, Fresh}
 use Rattle.pb_gentot.specs.inner.KeptTables.{neighbour_justifications, justifications_by, rise_at, rises_of}
 use Rattle.pb_gentot.specs.inner.Ids.{ids_at}
-use Rattle.pb_gentot.specs.inner.Sources.{AreLeavesPositive, ids_of, part_justifications}
+use Rattle.pb_gentot.specs.inner.Sources.{ids_of, part_justifications}
 use Rattle.pb_gentot.proofs.Bounds.{justifications_are}
 use Rattle.pb_gentot.proofs.Emitting.{rising_values}
 use Rattle.pb_gentot.proofs.Neighbours.{neighbours_by_places, neighbours_counted, pair_at}
 use Rattle.pb_gentot.proofs.RisingLists.{place_at}
+use Rattle.pb_gentot.proofs.Parts.{AreLeavesPositive}
 
 same_by_bare : (rs qs : List Justification) → map bare rs ≡ map bare qs → HaveSameSteps rs qs
 same_by_bare rs qs e = record {

@@ -9,3 +9,4 @@ pub mod Outputs
 pub mod Parts
 pub mod Ranked
 pub mod Sources
+pub mod Wholes

@@ -8,14 +8,14 @@ ghost use Rattle.pb_tree.specs.Tree.{tree_of};
 ghost use Rattle.pb_tree.specs.Scheme.{values, fresh_of, clause_count_of};
 ghost use Rattle.pb_gentot.specs.Generalized.{generalized};
 ghost use Rattle.pb_gentot.specs.GeneralizedSteps.{generalized_steps};
-ghost use Rattle.pb_gentot.specs.inner.Sources.{AreLeavesPositive, ids_of, root_given, part_justifications, all_justifications};
+ghost use Rattle.pb_gentot.specs.inner.Sources.{ids_of, root_given, part_justifications, all_justifications};
 
 use crate::claims::push_first;
-use crate::handing::derive_part;
+use crate::handing::derive_nodes;
 use crate::node_ids::Handed;
 use crate::outputs::place_in;
 use crate::reifications::derive_reifications;
-use crate::subtree::Subtree;
+use crate::whole::Whole;
 use pb_family::{SinkFault, StepSink, derive_claim, derive_deletions};
 use std::alloc::{AllocError, Global};
 
@@ -50,37 +50,34 @@ fn derive_root<T: StepSink>(
 /// The clauses of a generalized totalizer, with that of the root.
 fn derive_clauses<T: StepSink>(
     alloc: Global,
-    tree: &Subtree,
+    whole: &Whole,
     id: u64,
     own: u64,
     sink: &mut T,
 ) -> Result<(), SinkFault>
-    requires positive { AreLeavesPositive (tree_of (weights tree.now.terms.now)) }
-    requires root { Contains (values (generalized tree.now.bound) (tree_of (weights tree.now.terms.now))) (tree.now.bound + 1) }
-    requires ids { id + 2 * fresh_of (generalized tree.now.bound) (tree_of (weights tree.now.terms.now)) < 2 ^ 62 }
-    requires room { (T.state sink.old).next + length (part_justifications tree.now.bound tree.now.terms.now id) + 1 < 2 ^ 62 }
-    ensures { HandsJustifications (all_justifications tree.now.bound tree.now.terms.now id own) result (T.state sink.old) (T.state sink.new) }
+    requires root { Contains (values (generalized whole.now.bound) (tree_of (weights whole.now.terms.now))) (whole.now.bound + 1) }
+    requires ids { id + 2 * fresh_of (generalized whole.now.bound) (tree_of (weights whole.now.terms.now)) < 2 ^ 62 }
+    requires room { (T.state sink.old).next + length (part_justifications whole.now.bound whole.now.terms.now id) + 1 < 2 ^ 62 }
+    ensures { HandsJustifications (all_justifications whole.now.bound whole.now.terms.now id own) result (T.state sink.old) (T.state sink.new) }
 {
-    let root = derive_part(alloc, tree.terms, tree.bound, id, sink)?;
-    derive_root(alloc, &root, tree.bound + 1, own, sink)
+    let root = derive_nodes(alloc, whole, id, sink)?;
+    derive_root(alloc, &root, whole.bound + 1, own, sink)
 }
 
 /// Hands over the whole derivation, where `id` is the constraint's.
 pub fn derive_weighted<T: StepSink>(
     alloc: Global,
-    tree: &Subtree,
+    whole: &Whole,
     id: u64,
     sink: &mut T,
 ) -> Result<(), SinkFault>
-    requires positive { AreLeavesPositive (tree_of (weights tree.now.terms.now)) }
-    requires root { Contains (values (generalized tree.now.bound) (tree_of (weights tree.now.terms.now))) (tree.now.bound + 1) }
-    requires light { weight (weights tree.now.terms.now) < 2 ^ 100 }
-    requires modest { clause_count_of (generalized tree.now.bound) (tree_of (weights tree.now.terms.now)) < 2 ^ 60 }
+    requires root { Contains (values (generalized whole.now.bound) (tree_of (weights whole.now.terms.now))) (whole.now.bound + 1) }
+    requires modest { clause_count_of (generalized whole.now.bound) (tree_of (weights whole.now.terms.now)) < 2 ^ 60 }
     requires few { (T.state sink.old).next ≤ 2 ^ 61 }
-    ensures { HandsSteps (generalized_steps (sum_within tree.now.terms.now tree.now.bound) tree.now.first id (T.state sink.old).next) result (T.state sink.old) (T.state sink.new) }
+    ensures { HandsSteps (generalized_steps (sum_within whole.now.terms.now whole.now.bound) whole.now.first id (T.state sink.old).next) result (T.state sink.old) (T.state sink.new) }
 {
     let base = sink.next_id();
-    let meant = derive_reifications(alloc, tree, sink)?;
-    derive_clauses(alloc, tree, base, id, sink)?;
-    derive_deletions(alloc, base, 2, (meant.next - tree.first) as u64, sink)
+    let fresh = derive_reifications(alloc, whole, sink)?;
+    derive_clauses(alloc, whole, base, id, sink)?;
+    derive_deletions(alloc, base, 2, fresh, sink)
 }

@@ -1,12 +1,9 @@
 //! The clauses of a generalized totalizer's derivation, part by part.
 ghost use Rattle.std.specs.Prelude.{◌≡◌, ◌≤◌, ◌<◌, ◌+◌, ◌*◌, ◌^◌, All, length, IfOk};
-ghost use Rattle.pb_norm.specs.Constraints.{weights};
 ghost use Rattle.pb_family.specs.inner.HandedJustifications.{HandsJustifications};
-ghost use Rattle.pb_tree.specs.Tree.{tree_of};
-ghost use Rattle.pb_tree.specs.Scheme.{values, fresh_of};
-ghost use Rattle.pb_tree.specs.TreeSteps.{output_ids};
+ghost use Rattle.pb_tree.specs.inner.Walks.{fresh_over};
 ghost use Rattle.pb_gentot.specs.Generalized.{generalized, ascending, sums};
-ghost use Rattle.pb_gentot.specs.inner.Sources.{AreLeavesPositive, ids_of, part_justifications};
+ghost use Rattle.pb_gentot.specs.inner.Sources.{IsHanded, part_justifications};
 
 use crate::claims::derive_node;
 use crate::leaf::leaf_values;
@@ -14,9 +11,10 @@ use crate::node_ids::{Handed, NodeIds, Owned, Source};
 use crate::ranks::Ranks;
 use crate::sets::values_over;
 use crate::tables::table_size;
+use crate::whole::Whole;
 use pb_base::Term;
 use pb_family::{SinkFault, StepSink};
-use pb_tree::halves;
+use pb_tree::{Parts, Placed, Walk, walk_along};
 use std::alloc::{AllocError, Global};
 
 /// What a node has over two parts.
@@ -24,74 +22,125 @@ fn node_of_parts(
     alloc: Global,
     left: &Handed,
     right: &Handed,
+    id: u64,
     cap: u128,
 ) -> Result<Owned, AllocError>
     requires left { All (λ u. u ≤ cap) left.now.values.items }
     requires right { All (λ v. v ≤ cap) right.now.values.items }
     requires few { cap < 2 ^ 101 }
     requires fits { length (ascending cap (sums cap left.now.values.items right.now.values.items)) ≤ 2 ^ 31 }
-    requires room { right.now.next + 2 * length (ascending cap (sums cap left.now.values.items right.now.values.items)) < 2 ^ 62 }
+    requires room { id + 2 * length (ascending cap (sums cap left.now.values.items right.now.values.items)) < 2 ^ 62 }
     ensures values { IfOk result (λ own. own.values.items ≡ ascending cap (sums cap left.now.values.items right.now.values.items)) }
-    ensures id { IfOk result (λ own. own.id ≡ right.now.next) }
+    ensures id { IfOk result (λ own. own.id ≡ id) }
 {
     let lefts = left.values.as_slice();
     let rights = right.values.as_slice();
     let values = values_over(alloc, lefts, rights, cap)?;
     let size = table_size(cap, lefts.len(), rights.len());
     let ranks = Ranks::of(alloc, values.as_slice(), size)?;
-    Ok(Owned {
-        values,
-        id: right.next,
-        ranks,
-    })
+    Ok(Owned { values, id, ranks })
 }
 
-/// The clauses of the generalized totalizer of some terms, whose variables' constraints have the ids from `id` on.
-pub fn derive_part<T: StepSink>(
+/// The clauses along the tree of a generalized totalizer, whose variables' constraints have the ids from `id` on.
+#[derive(Clone, Copy)]
+struct Claims<'a> {
+    whole: &'a Whole<'a>,
+    id: u64,
+    ghost ids: { id + 2 * fresh_over (generalized whole.now.bound) whole.now.terms.now < 2 ^ 62 },
+}
+
+impl<'a, T: StepSink> Walk<T> for Claims<'a> {
+    ghost use Rattle.std.specs.Prelude.{◌<◌, ◌+◌, ◌*◌, ◌^◌};
+    ghost use Rattle.pb_derive.specs.Justifications.{Justification};
+    ghost use Rattle.pb_family.specs.inner.HandedJustifications.{HandsJustifications};
+    ghost use Rattle.pb_family.proofs.FlatPieces.{justifications_then};
+    ghost use Rattle.pb_tree.specs.TreeSteps.{pair_justifications};
+    ghost use Rattle.pb_tree.specs.inner.Walks.{fresh_over};
+    ghost use Rattle.pb_tree.proofs.HandingLaws.{claimed_stop, less_claimed, claimed_room};
+    ghost use Rattle.pb_gentot.specs.Generalized.{generalized};
+    ghost use Rattle.pb_gentot.specs.GeneralizedSteps.{generalized_pairs};
+    ghost use Rattle.pb_gentot.specs.inner.Sources.{IsHanded};
+
+    type Part = Handed;
+
+    type Fault = SinkFault;
+
+    ghost Item = { Justification };
+
+    ghost scheme = { λ w. generalized w.whole.now.bound };
+
+    ghost most = { λ w. fresh_over (generalized w.whole.now.bound) w.whole.now.terms.now };
+
+    ghost own = { λ w l r before. pair_justifications (generalized w.whole.now.bound) generalized_pairs l r before (w.id + 2 * before) };
+
+    ghost hands = { λ justifications result old new. HandsJustifications justifications result (T.state old) (T.state new) };
+
+    ghost has_room = { λ n sink. (T.state sink).next + n < 2 ^ 62 };
+
+    ghost leaves = { λ w ts before part. IsHanded w.whole.now.bound ts (w.id + 2 * before) part };
+
+    fn leaf(
+        &self,
+        alloc: Global,
+        terms: &[Term],
+        before: u64,
+        _sink: &mut T,
+    ) -> Result<Placed<Handed>, SinkFault> {
+        let values = leaf_values(alloc, terms, self.whole.bound)?;
+        let part = Handed {
+            values,
+            source: Source::Leaf,
+        };
+        Ok(Placed { part, next: before })
+    }
+
+    fn node(
+        &self,
+        alloc: Global,
+        parts: &Parts<Handed>,
+        sink: &mut T,
+    ) -> Result<Placed<Handed>, SinkFault> {
+        let cap = self.whole.bound + 1;
+        let id = self.id + 2 * parts.next;
+        let own = node_of_parts(alloc, parts.left, parts.right, id, cap)?;
+        let node = NodeIds {
+            left: parts.left,
+            lefts: parts.lefts,
+            right: parts.right,
+            rights: parts.rights,
+            own: &own,
+            cap,
+        };
+        derive_node(alloc, &node, sink)?;
+        let next = parts.next + own.values.len() as u64;
+        let part = Handed {
+            values: own.values,
+            source: Source::Fresh(id),
+        };
+        Ok(Placed { part, next })
+    }
+
+    ghost then = { λ xs ys placed r a b c taken rest. justifications_then r xs ys (T.state a) (T.state b) (T.state c) taken rest };
+
+    ghost stops = { λ xs ys f a b part. claimed_stop xs (T.state a) (T.state b) ys f part };
+
+    ghost room_first = { λ m n a room. less_claimed m n _ room };
+
+    ghost room_then = { λ xs n placed a b room taken. claimed_room xs (T.state a) (T.state b) n room taken };
+}
+
+/// The clauses of all nodes, where the variables' constraints have the ids from `id` on.
+pub fn derive_nodes<T: StepSink>(
     alloc: Global,
-    terms: &[Term],
-    bound: u128,
+    whole: &Whole,
     id: u64,
     sink: &mut T,
 ) -> Result<Handed, SinkFault>
-    requires some { 1 ≤ length terms.now }
-    requires positive { AreLeavesPositive (tree_of (weights terms.now)) }
-    requires small { bound < 2 ^ 100 }
-    requires few { fresh_of (generalized bound) (tree_of (weights terms.now)) ≤ 2 ^ 31 }
-    requires ids { id + 2 * fresh_of (generalized bound) (tree_of (weights terms.now)) < 2 ^ 62 }
-    requires room { (T.state sink.old).next + length (part_justifications bound terms.now id) < 2 ^ 62 }
-    ensures hands { HandsJustifications (part_justifications bound terms.now id) result (T.state sink.old) (T.state sink.new) }
-    ensures values { IfOk result (λ part. part.values.items ≡ values (generalized bound) (tree_of (weights terms.now))) }
-    ensures ids { IfOk result (λ part. ids_of part ≡ output_ids (generalized bound) (tree_of (weights terms.now)) id) }
-    ensures within { IfOk result (λ part. All (λ u. u ≤ bound + 1) part.values.items) }
-    ensures next { IfOk result (λ part. part.next ≡ id + 2 * fresh_of (generalized bound) (tree_of (weights terms.now))) }
+    requires ids { id + 2 * fresh_over (generalized whole.now.bound) whole.now.terms.now < 2 ^ 62 }
+    requires room { (T.state sink.old).next + length (part_justifications whole.now.bound whole.now.terms.now id) < 2 ^ 62 }
+    ensures hands { HandsJustifications (part_justifications whole.now.bound whole.now.terms.now id) result (T.state sink.old) (T.state sink.new) }
+    ensures handed { IfOk result (IsHanded whole.now.bound whole.now.terms.now id) }
 {
-    if terms.len() == 1 {
-        let values = leaf_values(alloc, terms, bound)?;
-        return Ok(Handed {
-            values,
-            source: Source::Leaf,
-            next: id,
-        });
-    }
-    let cap = bound + 1;
-    let (lefts, rights) = halves(terms);
-    let left = derive_part(alloc, lefts, bound, id, sink)?;
-    let right = derive_part(alloc, rights, bound, left.next, sink)?;
-    let own = node_of_parts(alloc, &left, &right, cap)?;
-    let node = NodeIds {
-        left: &left,
-        lefts,
-        right: &right,
-        rights,
-        own: &own,
-        cap,
-    };
-    derive_node(alloc, &node, sink)?;
-    let next = right.next + 2 * own.values.len() as u64;
-    Ok(Handed {
-        values: own.values,
-        source: Source::Fresh(right.next),
-        next,
-    })
+    let root = walk_along(alloc, &Claims { whole, id }, whole.terms, 0, sink)?;
+    Ok(root.part)
 }

@@ -17,12 +17,12 @@ mod ranks;
 mod reifications;
 mod seen;
 mod sets;
-mod subtree;
 mod table_clauses;
 mod table_steps;
 mod tables;
 mod tree;
 mod weighted;
+mod whole;
 
 pub use bound_table::BoundTable;
 pub use laws::{

@@ -16,12 +16,11 @@ pub enum Source {
     Fresh(u64),
 }
 
-/// What a part leaves to what stands over it: its values, where their constraints stand, and the id after them.
+/// What a part leaves to what stands over it: its values, and where their constraints stand.
 #[derive(Drop)]
 pub struct Handed {
     pub values: Vec<u128>,
     pub source: Source,
-    pub next: u64,
     ghost rising: { Rising values.items } by { Rising-prop values.items },
     ghost ids: { HasIds source (length values.items) } by { HasIds-prop source (length values.items) },
 }

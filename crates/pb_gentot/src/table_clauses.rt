@@ -1,6 +1,6 @@
 //! The clauses of a table of bounds.
 ghost use Rattle.std.specs.Prelude.{◌≤◌, ◌<◌, ◌+◌, ◌^◌, length, map};
-ghost use Rattle.pb_norm.specs.Constraints.{weights};
+ghost use Rattle.pb_norm.specs.Constraints.{AllPositive, weight, weights};
 ghost use Rattle.pb_family.specs.Handing.{Hands, HandsIfMemory};
 ghost use Rattle.pb_tree.specs.Tree.{tree_of};
 ghost use Rattle.pb_tree.specs.Scheme.{fresh_of};
@@ -11,8 +11,8 @@ ghost use Rattle.pb_gentot.specs.inner.Outputs.{output_in, HasRoom};
 ghost use Rattle.pb_gentot.specs.Rising.{Rising};
 
 use crate::outputs::Outputs;
-use crate::subtree::Subtree;
-use crate::tree::emit_part;
+use crate::tree::emit_nodes;
+use crate::whole::Whole;
 use pb_base::{Failed, Term};
 use pb_family::{ClauseSink, SinkFault};
 use std::alloc::Global;
@@ -42,7 +42,9 @@ pub fn emit_table<S: ClauseSink>(
     first: u32,
     sink: &mut S,
 ) -> Result<(), SinkFault>
+    requires positive { AllPositive (weights terms.now) }
     requires small { bound < 2 ^ 100 }
+    requires light { weight (weights terms.now) < 2 ^ 100 }
     requires low { 1 ≤ first }
     requires fits { first + fresh_of (generalized bound) (tree_of (weights terms.now)) ≤ 2 ^ 31 }
     ensures { HandsIfMemory (clauses_by bound terms.now first) result (S.state sink.old) (S.state sink.new) }
@@ -50,12 +52,12 @@ pub fn emit_table<S: ClauseSink>(
     if terms.is_empty() {
         return Ok(());
     }
-    let tree = Subtree {
+    let whole = Whole {
         terms,
         bound,
         first,
     };
-    let root = emit_part(alloc, &tree, sink)?;
+    let root = emit_nodes(alloc, &whole, sink)?;
     emit_neighbours(root.values.as_slice(), &root.outputs, sink)?;
     Ok(())
 }

@@ -1,19 +1,19 @@
 //! The derivation of the clauses of a table of bounds.
 ghost use Rattle.std.specs.Prelude.{◌≡◌, ◌≤◌, ◌<◌, ◌+◌, ◌*◌, ◌-◌, ◌^◌, [], ◌∷◌, length, map};
 ghost use Rattle.std.specs.List.{range_with_len};
-ghost use Rattle.pb_norm.specs.Constraints.{weight, weights};
+ghost use Rattle.pb_norm.specs.Constraints.{AllPositive, weight, weights};
 ghost use Rattle.pb_family.specs.StepSinks.{HandsSteps};
 ghost use Rattle.pb_family.specs.inner.HandedJustifications.{HandsJustifications};
 ghost use Rattle.pb_tree.specs.Tree.{tree_of};
 ghost use Rattle.pb_tree.specs.Scheme.{values, fresh_of, clause_count_of};
 ghost use Rattle.pb_gentot.specs.Generalized.{generalized};
 ghost use Rattle.pb_gentot.specs.inner.KeptTables.{justifications_by, rise_at, rises_of, steps_by};
-ghost use Rattle.pb_gentot.specs.inner.Sources.{AreLeavesPositive, part_justifications};
+ghost use Rattle.pb_gentot.specs.inner.Sources.{part_justifications};
 
-use crate::handing::derive_part;
+use crate::handing::derive_nodes;
 use crate::node_ids::{Handed, Source};
 use crate::reifications::derive_reifications;
-use crate::subtree::Subtree;
+use crate::whole::Whole;
 use pb_base::Term;
 use pb_family::{SinkFault, StepSink, derive_claim, derive_deletions};
 use std::alloc::Global;
@@ -71,16 +71,15 @@ fn derive_neighbours<T: StepSink>(
 /// The clauses of some terms, with those between neighbours, where the variables' constraints have the ids from `id` on.
 fn derive_whole_table<T: StepSink>(
     alloc: Global,
-    tree: &Subtree,
+    whole: &Whole,
     id: u64,
     sink: &mut T,
 ) -> Result<(), SinkFault>
-    requires positive { AreLeavesPositive (tree_of (weights tree.now.terms.now)) }
-    requires ids { id + 2 * fresh_of (generalized tree.now.bound) (tree_of (weights tree.now.terms.now)) < 2 ^ 62 }
-    requires room { let t = tree.now in (T.state sink.old).next + length (part_justifications t.bound t.terms.now id) + length (values (generalized t.bound) (tree_of (weights t.terms.now))) < 2 ^ 62 }
-    ensures { HandsJustifications (justifications_by tree.now.bound tree.now.terms.now 0 id) result (T.state sink.old) (T.state sink.new) }
+    requires ids { id + 2 * fresh_of (generalized whole.now.bound) (tree_of (weights whole.now.terms.now)) < 2 ^ 62 }
+    requires few { let t = whole.now in (T.state sink.old).next + length (part_justifications t.bound t.terms.now id) + length (values (generalized t.bound) (tree_of (weights t.terms.now))) < 2 ^ 62 }
+    ensures { HandsJustifications (justifications_by whole.now.bound whole.now.terms.now 0 id) result (T.state sink.old) (T.state sink.new) }
 {
-    let root = derive_part(alloc, tree.terms, tree.bound, id, sink)?;
+    let root = derive_nodes(alloc, whole, id, sink)?;
     derive_neighbours(alloc, &root, sink)
 }
 
@@ -92,7 +91,7 @@ pub fn derive_table<T: StepSink>(
     first: u32,
     sink: &mut T,
 ) -> Result<(), SinkFault>
-    requires positive { AreLeavesPositive (tree_of (weights terms.now)) }
+    requires positive { AllPositive (weights terms.now) }
     requires small { bound < 2 ^ 100 }
     requires light { weight (weights terms.now) < 2 ^ 100 }
     requires low { 1 ≤ first }
@@ -104,13 +103,13 @@ pub fn derive_table<T: StepSink>(
     if terms.is_empty() {
         return Ok(());
     }
-    let tree = Subtree {
+    let whole = Whole {
         terms,
         bound,
         first,
     };
     let base = sink.next_id();
-    let meant = derive_reifications(alloc, &tree, sink)?;
-    derive_whole_table(alloc, &tree, base, sink)?;
-    derive_deletions(alloc, base, 2, (meant.next - first) as u64, sink)
+    let fresh = derive_reifications(alloc, &whole, sink)?;
+    derive_whole_table(alloc, &whole, base, sink)?;
+    derive_deletions(alloc, base, 2, fresh, sink)
 }

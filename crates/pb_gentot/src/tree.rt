@@ -3,9 +3,9 @@ ghost use Rattle.std.specs.Prelude.{◌≡◌, ◌≤◌, ◌<◌, ◌+◌, ◌^
 ghost use Rattle.pb_norm.specs.Constraints.{weights};
 ghost use Rattle.pb_family.specs.Handing.{HandsIfMemory};
 ghost use Rattle.pb_tree.specs.Tree.{tree_of};
-ghost use Rattle.pb_tree.specs.Scheme.{values, fresh_of, output, clauses_of, tree_clauses};
+ghost use Rattle.pb_tree.specs.Scheme.{values, clauses_of, tree_clauses};
 ghost use Rattle.pb_gentot.specs.inner.Outputs.{output_in, HasLiterals};
-ghost use Rattle.pb_gentot.specs.inner.Parts.{node_values, output_over, clauses_over_parts};
+ghost use Rattle.pb_gentot.specs.inner.Parts.{IsEmitted, node_values, output_over, clauses_over_parts};
 ghost use Rattle.pb_gentot.specs.Generalized.{generalized};
 
 use crate::emission::emit_node;
@@ -15,10 +15,11 @@ use crate::node::Node;
 use crate::outputs::Outputs;
 use crate::ranks::Ranks;
 use crate::sets::values_over;
-use crate::subtree::Subtree;
 use crate::tables::table_size;
+use crate::whole::Whole;
+use pb_base::Term;
 use pb_family::{ClauseSink, SinkFault};
-use pb_tree::halves;
+use pb_tree::{Parts, Placed, Walk, walk_along};
 use std::alloc::Global;
 
 /// What a part leaves to what stands over it.
@@ -26,7 +27,6 @@ use std::alloc::Global;
 pub struct Emitted {
     pub values: Vec<u128>,
     pub outputs: Outputs,
-    pub next: u32,
 }
 
 /// Hands over a node's own clauses, over two parts.
@@ -34,19 +34,19 @@ fn emit_over<S: ClauseSink>(
     alloc: Global,
     left: &Emitted,
     right: &Emitted,
+    first: u32,
     cap: u128,
     sink: &mut S,
 ) -> Result<Emitted, SinkFault>
     requires left { HasLiterals cap left.now.outputs left.now.values.items }
     requires right { HasLiterals cap right.now.outputs right.now.values.items }
     requires few { cap < 2 ^ 101 }
-    requires low { 1 ≤ right.now.next }
-    requires fits { right.now.next + length (node_values cap left.now right.now) ≤ 2 ^ 31 }
-    ensures hands { HandsIfMemory (clauses_over_parts cap left.now right.now) result (S.state sink.old) (S.state sink.new) }
+    requires low { 1 ≤ first }
+    requires fits { first + length (node_values cap left.now right.now) ≤ 2 ^ 31 }
+    ensures hands { HandsIfMemory (clauses_over_parts cap first left.now right.now) result (S.state sink.old) (S.state sink.new) }
     ensures values { IfOk result (λ part. part.values.items ≡ node_values cap left.now right.now) }
-    ensures outputs { IfOk result (λ part. output_in part.outputs part.values.items ≡ output_over cap left.now right.now) }
+    ensures outputs { IfOk result (λ part. output_in part.outputs part.values.items ≡ output_over cap first left.now right.now) }
     ensures within { IfOk result (λ part. HasLiterals cap part.outputs part.values.items) }
-    ensures next { IfOk result (λ part. part.next ≡ right.now.next + length (node_values cap left.now right.now)) }
 {
     let lefts = left.values.as_slice();
     let rights = right.values.as_slice();
@@ -55,7 +55,7 @@ fn emit_over<S: ClauseSink>(
     let ranks = Ranks::of(alloc, values.as_slice(), size)?;
     let own = Node {
         values,
-        first: right.next,
+        first,
         ranks,
     };
     let node = Merge {
@@ -67,64 +67,115 @@ fn emit_over<S: ClauseSink>(
         cap,
     };
     emit_node(&node, sink)?;
-    let next = right.next + own.values.len() as u32;
     Ok(Emitted {
         values: own.values,
-        outputs: Outputs::Fresh(right.next),
-        next,
+        outputs: Outputs::Fresh(first),
     })
 }
 
-/// Hands over the clauses of a part.
-pub fn emit_part<S: ClauseSink>(
+/// The clauses along the tree of a generalized totalizer.
+#[derive(Clone, Copy)]
+struct Clauses<'a> {
+    whole: &'a Whole<'a>,
+}
+
+impl<'a, S: ClauseSink> Walk<S> for Clauses<'a> {
+    ghost use Rattle.std.specs.Prelude.{◌+◌, List};
+    ghost use Rattle.pb_base.specs.declared.literal.Lit.{Lit};
+    ghost use Rattle.pb_family.specs.Handing.{HandsIfMemory};
+    ghost use Rattle.pb_tree.specs.Scheme.{own_of};
+    ghost use Rattle.pb_tree.specs.inner.Walks.{fresh_over};
+    ghost use Rattle.pb_tree.proofs.HandingLaws.{memory_then, memory_stop};
+    ghost use Rattle.pb_gentot.specs.Generalized.{generalized};
+    ghost use Rattle.pb_gentot.specs.inner.Parts.{IsEmitted};
+
+    type Part = Emitted;
+
+    type Fault = SinkFault;
+
+    ghost Item = { List Lit };
+
+    ghost scheme = { λ w. generalized w.whole.now.bound };
+
+    ghost most = { λ w. fresh_over (generalized w.whole.now.bound) w.whole.now.terms.now };
+
+    ghost own = { λ w l r before. own_of (generalized w.whole.now.bound) l r (w.whole.now.first + before) };
+
+    ghost hands = { λ clauses result old new. HandsIfMemory clauses result (S.state old) (S.state new) };
+
+    ghost has_room = { λ n sink. Unit {0} };
+
+    ghost leaves = { λ w ts before part. IsEmitted w.whole.now.bound ts (w.whole.now.first + before) part };
+
+    fn leaf(
+        &self,
+        alloc: Global,
+        terms: &[Term],
+        before: u64,
+        _sink: &mut S,
+    ) -> Result<Placed<Emitted>, SinkFault> {
+        let values = leaf_values(alloc, terms, self.whole.bound)?;
+        let part = Emitted {
+            values,
+            outputs: Outputs::Single(terms[0].lit),
+        };
+        Ok(Placed { part, next: before })
+    }
+
+    fn node(
+        &self,
+        alloc: Global,
+        parts: &Parts<Emitted>,
+        sink: &mut S,
+    ) -> Result<Placed<Emitted>, SinkFault> {
+        let first = self.whole.first + parts.next as u32;
+        let part = emit_over(
+            alloc,
+            parts.left,
+            parts.right,
+            first,
+            self.whole.bound + 1,
+            sink,
+        )?;
+        let next = parts.next + part.values.len() as u64;
+        Ok(Placed { part, next })
+    }
+
+    ghost then = { λ xs ys placed r a b c taken rest. memory_then xs ys r (S.state a) (S.state b) (S.state c) taken rest };
+
+    ghost stops = { λ xs ys f a b part. memory_stop xs ys f (S.state a) (S.state b) part };
+
+    ghost room_first = { λ m n a room. tt };
+
+    ghost room_then = { λ xs n placed a b room taken. tt };
+}
+
+/// Hands over the clauses of all nodes.
+pub fn emit_nodes<S: ClauseSink>(
     alloc: Global,
-    tree: &Subtree,
+    whole: &Whole,
     sink: &mut S,
 ) -> Result<Emitted, SinkFault>
-    ensures hands { HandsIfMemory (clauses_of (generalized tree.now.bound) (tree_of (weights tree.now.terms.now)) tree.now.first) result (S.state sink.old) (S.state sink.new) }
-    ensures values { IfOk result (λ part. part.values.items ≡ values (generalized tree.now.bound) (tree_of (weights tree.now.terms.now))) }
-    ensures outputs { IfOk result (λ part. output_in part.outputs part.values.items ≡ output (generalized tree.now.bound) (tree_of (weights tree.now.terms.now)) tree.now.first) }
-    ensures within { IfOk result (λ part. HasLiterals (tree.now.bound + 1) part.outputs part.values.items) }
-    ensures next { IfOk result (λ part. part.next ≡ tree.now.first + fresh_of (generalized tree.now.bound) (tree_of (weights tree.now.terms.now))) }
+    ensures hands { HandsIfMemory (clauses_of (generalized whole.now.bound) (tree_of (weights whole.now.terms.now)) whole.now.first) result (S.state sink.old) (S.state sink.new) }
+    ensures emitted { IfOk result (IsEmitted whole.now.bound whole.now.terms.now whole.now.first) }
 {
-    let bound = tree.bound;
-    if tree.terms.len() == 1 {
-        let values = leaf_values(alloc, tree.terms, bound)?;
-        return Ok(Emitted {
-            values,
-            outputs: Outputs::Single(tree.terms[0].lit),
-            next: tree.first,
-        });
-    }
-    let (terms, others) = halves(tree.terms);
-    let front = Subtree {
-        terms,
-        bound,
-        first: tree.first,
-    };
-    let left = emit_part(alloc, &front, sink)?;
-    let back = Subtree {
-        terms: others,
-        bound,
-        first: left.next,
-    };
-    let right = emit_part(alloc, &back, sink)?;
-    emit_over(alloc, &left, &right, bound + 1, sink)
+    let root = walk_along(alloc, &Clauses { whole }, whole.terms, 0, sink)?;
+    Ok(root.part)
 }
 
 /// Hands over the clauses of a sum, with that of the root.
 pub fn emit_whole<S: ClauseSink>(
     alloc: Global,
-    tree: &Subtree,
+    whole: &Whole,
     sink: &mut S,
 ) -> Result<(), SinkFault>
-    requires { Contains (values (generalized tree.now.bound) (tree_of (weights tree.now.terms.now))) (tree.now.bound + 1) }
-    ensures { HandsIfMemory (tree_clauses (generalized tree.now.bound) (tree_of (weights tree.now.terms.now)) tree.now.first) result (S.state sink.old) (S.state sink.new) }
+    requires { Contains (values (generalized whole.now.bound) (tree_of (weights whole.now.terms.now))) (whole.now.bound + 1) }
+    ensures { HandsIfMemory (tree_clauses (generalized whole.now.bound) (tree_of (weights whole.now.terms.now)) whole.now.first) result (S.state sink.old) (S.state sink.new) }
 {
-    let root = emit_part(alloc, tree, sink)?;
+    let root = emit_nodes(alloc, whole, sink)?;
     sink.clause(&[
         root.outputs
-            .of(root.values.as_slice(), tree.bound + 1)
+            .of(root.values.as_slice(), whole.bound + 1)
             .not(),
     ])?;
     Ok(())

@@ -6,8 +6,8 @@ ghost use Rattle.pb_gentot.specs.Generalized.{generalized_clauses, generalized_f
 
 use crate::derivation::derive_weighted;
 use crate::measure::measure;
-use crate::subtree::Subtree;
 use crate::tree::emit_whole;
+use crate::whole::Whole;
 use pb_base::{NoMemory, Term};
 use pb_family::{Built, ClauseSink, Derive, Family, SinkFault, StepSink, Strong};
 use pb_norm::AtMost;
@@ -91,12 +91,12 @@ impl Family for Weighted {
         first: u32,
         sink: &mut S,
     ) -> Result<(), SinkFault> {
-        let tree = Subtree {
+        let whole = Whole {
             terms: self.terms.as_slice(),
             bound: self.bound,
             first,
         };
-        emit_whole(alloc, &tree, sink)
+        emit_whole(alloc, &whole, sink)
     }
 
     ghost sound = { λ f first below a model. generalized_sound (sum_within f.terms.items f.bound) f.proper first a model };
@@ -130,12 +130,12 @@ impl Derive for Weighted {
         id: u64,
         sink: &mut T,
     ) -> Result<(), SinkFault> {
-        let tree = Subtree {
+        let whole = Whole {
             terms: self.terms.as_slice(),
             bound: self.bound,
             first,
         };
-        derive_weighted(alloc, &tree, id, sink)
+        derive_weighted(alloc, &whole, id, sink)
     }
 
     ghost derives = { λ f first id db below ready. generalized_derives (sum_within f.terms.items f.bound) f.proper f.light first id db below ready };

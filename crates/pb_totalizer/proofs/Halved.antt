@@ -3,8 +3,10 @@ use Rattle.std.proofs.Common.{◌≡◌, ◌≤◌, ◌<◌, ◌+◌, ℕ, List,
 use Rattle.pb_base.specs.declared.literal.Term.{Term}
 use Rattle.pb_norm.specs.Constraints.{weights}
 use Rattle.pb_tree.specs.Halves.{Halves}
-use Rattle.pb_tree.specs.Scheme.{fresh_of}
+use Rattle.std.specs.List.{range_with_len}
+use Rattle.pb_tree.specs.Scheme.{values, fresh_of}
 use Rattle.pb_tree.specs.Tree.{node, tree_of}
+use Rattle.pb_tree.specs.inner.Walks.{AreParts, Suits, fresh_over}
 use Rattle.pb_totalizer.specs.Exact.{outputs_of}
 use Rattle.pb_totalizer.specs.Totalizer.{totalizer}
 use Rattle.pb_totalizer.specs.laws.TotalizerLaws.{node_length, values_length}
@@ -38,3 +40,30 @@ halved bound {ts} {lefts} {rights} halves =
       outputs = long ∙ node_length bound l r;
       fresh = omega (arith, whole, long);
     }
+
+-- a node of a walk, its outputs by those of its parts, and its fresh variables
+pub record IsNode (bound most before next count : ℕ) (ts front back : List Term) : Type 0 where
+  pub half : Halved bound ts front back
+  pub counted : count ≡ outputs_of bound (tree_of (weights ts))
+  pub own : count ≡ outputs_of bound (node (tree_of (weights front)) (tree_of (weights back)))
+  pub after : next + count ≡ before + fresh_over (totalizer bound) ts
+  pub within : next + count ≤ most
+
+pub node_of : {bound most before next count a b : ℕ} {ts front back : List Term} → AreParts (totalizer bound) ts front back before next → Suits (totalizer bound) most ts before
+    → count ≡ min (a + b) (bound + 1) → a ≡ outputs_of bound (tree_of (weights front)) → b ≡ outputs_of bound (tree_of (weights back)) → IsNode bound most before next count ts front back
+node_of {bound} {ts = ts} {front} {back} parts suits is left right =
+    let half = halved bound parts.halves in
+    let whole = ap (outputs_of bound) half.tree in
+    record {
+      half = half;
+      counted = omega (arith, half.outputs, is, left, right);
+      own = omega (arith, half.outputs, is, left, right, whole);
+      after = omega (arith, half.outputs, is, left, right, half.fresh, parts.behind);
+      within = omega (arith, half.outputs, is, left, right, half.fresh, parts.behind, suits.fits);
+    }
+
+pub own_values : (bound : ℕ) {count a b : ℕ} (front back : List Term) → count ≡ min (a + b) (bound + 1) → a ≡ outputs_of bound (tree_of (weights front)) → b ≡ outputs_of bound (tree_of (weights back))
+    → range_with_len 1 count ≡ values (totalizer bound) (node (tree_of (weights front)) (tree_of (weights back)))
+own_values bound {count} front back is left right =
+    let own : count ≡ min (outputs_of bound (tree_of (weights front)) + outputs_of bound (tree_of (weights back))) (bound + 1) = omega (arith, is, left, right) in
+    ap (range_with_len 1) own

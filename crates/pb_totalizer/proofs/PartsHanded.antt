@@ -1,24 +1,27 @@
 -- A node's own justifications, by what the code has of its parts, whichever polarity its clauses lead.
-use Rattle.std.proofs.Common.{◌≡◌, ◌+◌, ◌-◌, ◌*◌, ◌∷◌, [], ℕ, List, sym, ap, ◌∙◌, arith}
+use Rattle.std.proofs.Common.{◌≡◌, ◌+◌, ◌-◌, ◌*◌, ◌∷◌, [], ℕ, List, min, sym, ap, ◌∙◌, arith}
 use Rattle.pb_base.specs.declared.literal.Term.{Term}
 use Rattle.pb_norm.specs.Constraints.{weights}
 use Rattle.pb_family.proofs.SameSteps.{HaveSameSteps, same_append}
 use Rattle.pb_tree.specs.Scheme.{fresh_of}
 use Rattle.pb_tree.specs.Tree.{Tree, node, tree_of}
 use Rattle.pb_tree.specs.TreeSteps.{output_ids, pair_justifications}
+use Rattle.pb_tree.specs.inner.Walks.{AreParts, fresh_over}
+use Rattle.pb_tree.proofs.HandingLaws.{same_then}
 use Rattle.pb_tree.proofs.TreeHanded.{IsFirstFree, pairs_first_free}
 use Rattle.pb_totalizer.specs.Exact.{outputs_of}
 use Rattle.pb_totalizer.specs.ExactSteps.{limit_justifications}
 use Rattle.pb_totalizer.specs.Totalizer.{totalizer}
 use Rattle.pb_totalizer.specs.TotalizerSteps.{totalizer_pairs}
+use Rattle.pb_totalizer.specs.declared.handing.Handed.{Handed}
 use Rattle.pb_totalizer.specs.declared.node_ids.Source.{Source}
 use Rattle.pb_totalizer.specs.declared.polarity.Polarity.{Polarity}
 use Rattle.pb_totalizer.specs.declared.polarity.Polarity.TheVariants.{Up, Both}
 use Rattle.pb_totalizer.specs.inner.LimitSources.{limits_given}
-use Rattle.pb_totalizer.specs.inner.Sources.{ids_from, node_given}
+use Rattle.pb_totalizer.specs.inner.Sources.{StandAt, ids_from, node_given}
 use Rattle.pb_totalizer.specs.laws.Polarity.{own_given, own_justifications_by}
+use Rattle.pb_totalizer.specs.laws.TotalizerLaws.{node_length}
 use Rattle.pb_totalizer.proofs.ExactHanded.{limits_same, own_first_free}
-use Rattle.pb_totalizer.proofs.Halved.{Halved}
 use Rattle.pb_totalizer.proofs.Handed.{sums_same}
 
 -- ---- a node's own
@@ -41,25 +44,28 @@ own_same Both bound lefts rights id own count a b sl sr left right at ec ea eb =
     (limits_given count a b sl lefts sr rights own) (limit_justifications bound (tree_of (weights lefts)) (tree_of (weights rights)) 0 id)
     (sums_same bound lefts rights id own sl sr left right at a b ea eb) (limits_same bound lefts rights id own sl sr left right at count a b ec ea eb)
 
--- ---- over two halves
+-- ---- over two parts
 
-module _ (polarity : Polarity) {bound : ℕ} {ts lefts rights : List Term} (half : Halved bound ts lefts rights) (id : ℕ) where
+module _ (bound : ℕ) {ts front back : List Term} {before next : ℕ} (parts : AreParts (totalizer bound) ts front back before next) (id own : ℕ) (at : own ≡ id + 2 * next) where
   abbrev l : Tree
-  l = tree_of (weights lefts)
+  l = tree_of (weights front)
 
   abbrev r : Tree
-  r = tree_of (weights rights)
+  r = tree_of (weights back)
 
-  pub node_source : (middle own : ℕ) → middle ≡ id + 2 * fresh_of (totalizer bound) l → own ≡ middle + 2 * fresh_of (totalizer bound) r → (λ (u : ℕ). (own + 2 * (u - 1)) ∷ []) ≡ output_ids (totalizer bound) (tree_of (weights ts)) id
-  node_source middle own is at =
+  pub node_source : (λ (u : ℕ). (own + 2 * (u - 1)) ∷ []) ≡ output_ids (totalizer bound) (tree_of (weights ts)) (id + 2 * before)
+  node_source =
       let f = fresh_of (totalizer bound) l in
       let g = fresh_of (totalizer bound) r in
-      let e : (u : ℕ) → own + 2 * (u - 1) ≡ id + 2 * (f + g + (u - 1)) = λ u. omega (arith, is, at) in
-      (λ i u. (e u i) ∷ []) ∙ ap (λ (t : Tree). output_ids (totalizer bound) t id) (sym half.tree)
+      let e : (u : ℕ) → own + 2 * (u - 1) ≡ id + 2 * before + 2 * (f + g + (u - 1)) = λ u. omega (arith, at, parts.behind) in
+      (λ i u. (e u i) ∷ []) ∙ ap (λ (t : Tree). output_ids (totalizer bound) t (id + 2 * before)) (sym parts.halves.tree)
 
-  pub node_same : (middle own count a b : ℕ) (sl sr : Source) → middle ≡ id + 2 * fresh_of (totalizer bound) l → own ≡ middle + 2 * fresh_of (totalizer bound) r
-      → count ≡ outputs_of bound (tree_of (weights ts)) → a ≡ outputs_of bound l → b ≡ outputs_of bound r
-      → ids_from sl ≡ output_ids (totalizer bound) l id → ids_from sr ≡ output_ids (totalizer bound) r middle
-      → HaveSameSteps (own_given polarity (bound + 1) count a b sl lefts sr rights own) (own_justifications_by polarity bound l r 0 id)
-  node_same middle own count a b sl sr is at ec ea eb left right =
-      own_same polarity bound lefts rights id own count a b sl sr left (right ∙ ap (λ (n : ℕ). output_ids (totalizer bound) r n) is) (omega (arith, is, at)) (ec ∙ ap (outputs_of bound) half.tree) ea eb
+  pub node_same : (polarity : Polarity) (count : ℕ) (left right : Handed) → count ≡ min (left.count + right.count) (bound + 1)
+      → StandAt bound front (id + 2 * before) left → StandAt bound back (id + 2 * (before + fresh_over (totalizer bound) front)) right
+      → HaveSameSteps (own_given polarity (bound + 1) count left.count right.count left.source front right.source back own) (own_justifications_by polarity bound l r before (id + 2 * before))
+  node_same polarity count left right counted lefts rights =
+      let middle : id + 2 * (before + fresh_over (totalizer bound) front) ≡ id + 2 * before + 2 * fresh_of (totalizer bound) l = omega arith in
+      same_then
+      (own_same polarity bound front back (id + 2 * before) own count left.count right.count left.source right.source lefts.ids (rights.ids ∙ ap (output_ids (totalizer bound) r) middle) (omega (arith, at, parts.behind))
+      (omega (arith, counted, node_length bound l r, lefts.count, rights.count)) lefts.count rights.count)
+      (own_free polarity bound l r 0 before (id + 2 * before))

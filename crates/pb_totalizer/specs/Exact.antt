@@ -9,7 +9,7 @@ use Rattle.pb_norm.specs.BoundedSums.{BoundedSum}
 use Rattle.pb_norm.specs.Reduction.{at_most}
 use Rattle.pb_derive.specs.Ones.{ones}
 use Rattle.pb_tree.specs.Tree.{Tree, node, tree_of}
-use Rattle.pb_tree.specs.Scheme.{values, fresh_of, output, clauses_along, count_along, own_of, own_count_of}
+use Rattle.pb_tree.specs.Scheme.{values, fresh_of, output, along, count_along, own_of, own_count_of}
 use Rattle.pb_totalizer.specs.Totalizer.{totalizer}
 
 -- the literal after an index, which is left out past the last one
@@ -45,7 +45,7 @@ abbrev pub exact_own : ℕ → Tree → Tree → ℕ → List (List Lit)
 exact_own bound l r first = own_of (totalizer bound) l r first ++ limits_of bound l r first
 
 abbrev pub exact_along : ℕ → Tree → ℕ → List (List Lit)
-exact_along bound t first = clauses_along (totalizer bound) (exact_own bound) t first
+exact_along bound t first = along (totalizer bound) (exact_own bound) t first
 
 -- how many clauses lead from a node's outputs to its parts, and along a tree
 abbrev pub limit_count_of : ℕ → Tree → Tree → ℕ

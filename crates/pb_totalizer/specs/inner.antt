@@ -3,3 +3,4 @@ pub mod NodeClauses
 pub mod Numbers
 pub mod Outputs
 pub mod Sources
+pub mod Wholes

@@ -4,19 +4,18 @@ ghost use Rattle.pb_norm.specs.BoundedSums.{sum_within};
 ghost use Rattle.pb_norm.specs.Constraints.{weight, weights};
 ghost use Rattle.pb_family.specs.StepSinks.{HandsSteps};
 ghost use Rattle.pb_family.specs.inner.HandedJustifications.{HandsJustifications};
-ghost use Rattle.pb_tree.specs.Tree.{tree_of};
-ghost use Rattle.pb_tree.specs.Scheme.{fresh_of};
+ghost use Rattle.pb_tree.specs.inner.Walks.{fresh_over};
 ghost use Rattle.pb_totalizer.specs.Totalizer.{totalizer};
 ghost use Rattle.pb_totalizer.specs.TotalizerSteps.{totalizer_steps};
 ghost use Rattle.pb_totalizer.specs.inner.Sources.{some_ids, root_given};
 ghost use Rattle.pb_totalizer.specs.laws.Polarity.{justifications_by, all_justifications};
 
 use crate::claims::push_part;
-use crate::handing::derive_part;
+use crate::handing::derive_nodes;
 use crate::node_ids::Source;
 use crate::polarity::Polarity;
 use crate::reifications::derive_reifications;
-use crate::subtree::Subtree;
+use crate::whole::Whole;
 use pb_family::{SinkFault, StepSink, derive_claim, derive_deletions};
 use std::alloc::{AllocError, Global};
 
@@ -50,33 +49,31 @@ pub fn derive_root<T: StepSink>(
 /// The clauses of a totalizer, with that of the root.
 fn derive_clauses<T: StepSink>(
     alloc: Global,
-    tree: &Subtree,
+    whole: &Whole,
     id: u64,
     own: u64,
     sink: &mut T,
 ) -> Result<(), SinkFault>
-    requires ids { id + 2 * fresh_of (totalizer tree.now.bound) (tree_of (weights tree.now.terms.now)) < 2 ^ 62 }
-    requires room { (T.state sink.old).next + length (justifications_by Polarity.Up tree.now.bound tree.now.terms.now id) + 1 < 2 ^ 62 }
-    ensures { HandsJustifications (all_justifications tree.now.bound tree.now.terms.now id own) result (T.state sink.old) (T.state sink.new) }
+    requires ids { id + 2 * fresh_over (totalizer whole.now.bound) whole.now.terms.now < 2 ^ 62 }
+    requires room { (T.state sink.old).next + length (justifications_by Polarity.Up whole.now.bound whole.now.terms.now id) + 1 < 2 ^ 62 }
+    ensures { HandsJustifications (all_justifications whole.now.bound whole.now.terms.now id own) result (T.state sink.old) (T.state sink.new) }
 {
-    let root = derive_part(alloc, Polarity::Up, tree.terms, tree.bound, id, sink)?;
-    derive_root(alloc, root.source, tree.bound + 1, own, sink)
+    let root = derive_nodes(alloc, Polarity::Up, whole, id, sink)?;
+    derive_root(alloc, root, whole.bound + 1, own, sink)
 }
 
 /// Hands over the whole derivation, where `id` is the constraint's.
 pub fn derive_totalizer<T: StepSink>(
     alloc: Global,
-    tree: &Subtree,
+    whole: &Whole,
     id: u64,
     sink: &mut T,
 ) -> Result<(), SinkFault>
-    requires from { 1 ≤ tree.now.bound }
-    requires light { weight (weights tree.now.terms.now) < 2 ^ 100 }
-    requires few { (T.state sink.old).next ≤ 2 ^ 61 }
-    ensures { HandsSteps (totalizer_steps (sum_within tree.now.terms.now tree.now.bound) tree.now.first id (T.state sink.old).next) result (T.state sink.old) (T.state sink.new) }
+    requires { (T.state sink.old).next ≤ 2 ^ 61 }
+    ensures { HandsSteps (totalizer_steps (sum_within whole.now.terms.now whole.now.bound) whole.now.first id (T.state sink.old).next) result (T.state sink.old) (T.state sink.new) }
 {
     let base = sink.next_id();
-    let meant = derive_reifications(alloc, tree, sink)?;
-    derive_clauses(alloc, tree, base, id, sink)?;
-    derive_deletions(alloc, base, 2, (meant.next - tree.first) as u64, sink)
+    let fresh = derive_reifications(alloc, whole, sink)?;
+    derive_clauses(alloc, whole, base, id, sink)?;
+    derive_deletions(alloc, base, 2, fresh, sink)
 }

@@ -1,25 +1,26 @@
 //! The clauses of a totalizer, one after another.
-ghost use Rattle.std.specs.Prelude.{◌≡◌, ◌≤◌, ◌<◌, ◌+◌, ◌-◌, ◌^◌, ◌∷◌, [], length, IfOk};
+ghost use Rattle.std.specs.Prelude.{◌≡◌, ◌≤◌, ◌-◌, ◌∷◌, []};
 ghost use Rattle.pb_norm.specs.BoundedSums.{sum_within};
 ghost use Rattle.pb_norm.specs.Constraints.{weights};
 ghost use Rattle.pb_family.specs.Handing.{Hands};
 ghost use Rattle.pb_tree.specs.Tree.{tree_of};
-ghost use Rattle.pb_tree.specs.Scheme.{fresh_of, output, tree_clauses};
-ghost use Rattle.pb_totalizer.specs.Exact.{outputs_of, exact_clauses};
+ghost use Rattle.pb_tree.specs.Scheme.{tree_clauses};
+ghost use Rattle.pb_totalizer.specs.Exact.{exact_clauses};
 ghost use Rattle.pb_totalizer.specs.Totalizer.{totalizer};
 ghost use Rattle.pb_totalizer.specs.inner.NodeClauses.{clause_over, row_over, clauses_over};
 ghost use Rattle.pb_totalizer.specs.inner.Numbers.{AreSummed};
-ghost use Rattle.pb_totalizer.specs.inner.Outputs.{output_count, output_at};
-ghost use Rattle.pb_totalizer.specs.laws.Polarity.{clauses_by, own_over};
+ghost use Rattle.pb_totalizer.specs.inner.Outputs.{output_count};
+ghost use Rattle.pb_totalizer.specs.laws.Polarity.{own_over};
 
 use crate::limits::emit_limits;
 use crate::node::Node;
 use crate::outputs::{Outputs, Run};
 use crate::polarity::Polarity;
-use crate::subtree::Subtree;
-use pb_base::Failed;
+use crate::whole::Whole;
+use pb_base::{Failed, Term};
 use pb_family::{ClauseSink, derive_pair};
-use pb_tree::halves;
+use pb_tree::{Parts, Placed, Walk, walk_along};
+use std::alloc::Global;
 
 /// Hands over that where i of the left and j of the right are true, i + j are.
 fn hand_over<S: ClauseSink>(node: &Node, i: u64, j: u64, sink: &mut S) -> Result<(), Failed>
@@ -77,82 +78,107 @@ fn emit_own<S: ClauseSink>(polarity: Polarity, node: &Node, sink: &mut S) -> Res
     }
 }
 
-/// What a part of a totalizer leaves to what stands over it: its outputs, how many there are, and the number after its fresh
-/// variables.
+/// The clauses along the tree of a totalizer.
 #[derive(Clone, Copy)]
-pub struct Part {
-    pub outputs: Outputs,
-    pub count: u64,
-    pub next: u32,
-    ghost counted: { count ≡ output_count outputs },
+struct Clauses<'a> {
+    whole: &'a Whole<'a>,
+    polarity: Polarity,
 }
 
-/// Hands over the clauses of a part.
-fn emit_part<S: ClauseSink>(
-    polarity: Polarity,
-    tree: &Subtree,
-    sink: &mut S,
-) -> Result<Part, Failed>
-    ensures hands { Hands (clauses_by polarity tree.now.bound (tree_of (weights tree.now.terms.now)) tree.now.first) result (S.state sink.old) (S.state sink.new) }
-    ensures outputs { IfOk result (λ part. output_at part.outputs ≡ output (totalizer tree.now.bound) (tree_of (weights tree.now.terms.now)) tree.now.first) }
-    ensures count { IfOk result (λ part. part.count ≡ outputs_of tree.now.bound (tree_of (weights tree.now.terms.now))) }
-    ensures next { IfOk result (λ part. part.next ≡ tree.now.first + fresh_of (totalizer tree.now.bound) (tree_of (weights tree.now.terms.now))) }
-{
-    let bound = tree.bound;
-    if tree.terms.len() == 1 {
-        return Ok(Part {
-            outputs: Outputs::Single(tree.terms[0].lit),
-            count: 1,
-            next: tree.first,
-        });
+impl<'a, S: ClauseSink> Walk<S> for Clauses<'a> {
+    ghost use Rattle.std.specs.Prelude.{◌+◌, List};
+    ghost use Rattle.pb_base.specs.declared.literal.Lit.{Lit};
+    ghost use Rattle.pb_family.specs.Handing.{Hands};
+    ghost use Rattle.pb_tree.specs.inner.Walks.{fresh_over};
+    ghost use Rattle.pb_tree.proofs.HandingLaws.{clauses_then, clauses_stop};
+    ghost use Rattle.pb_totalizer.specs.Totalizer.{totalizer};
+    ghost use Rattle.pb_totalizer.specs.inner.Outputs.{AreOutputs};
+    ghost use Rattle.pb_totalizer.specs.laws.Polarity.{own_by};
+
+    type Part = Outputs;
+
+    type Fault = Failed;
+
+    ghost Item = { List Lit };
+
+    ghost scheme = { λ w. totalizer w.whole.now.bound };
+
+    ghost most = { λ w. fresh_over (totalizer w.whole.now.bound) w.whole.now.terms.now };
+
+    ghost own = { λ w l r before. own_by w.polarity w.whole.now.bound l r (w.whole.now.first + before) };
+
+    ghost hands = { λ clauses result old new. Hands clauses result (S.state old) (S.state new) };
+
+    ghost has_room = { λ n sink. Unit {0} };
+
+    ghost leaves = { λ w ts before outputs. AreOutputs w.whole.now.bound ts (w.whole.now.first + before) outputs };
+
+    fn leaf(
+        &self,
+        _alloc: Global,
+        terms: &[Term],
+        before: u64,
+        _sink: &mut S,
+    ) -> Result<Placed<Outputs>, Failed> {
+        Ok(Placed {
+            part: Outputs::Single(terms[0].lit),
+            next: before,
+        })
     }
-    let (terms, others) = halves(tree.terms);
-    let front = Subtree {
-        terms,
-        bound,
-        first: tree.first,
-    };
-    let left = emit_part(polarity, &front, sink)?;
-    let back = Subtree {
-        terms: others,
-        bound,
-        first: left.next,
-    };
-    let right = emit_part(polarity, &back, sink)?;
-    let cap = bound + 1;
-    let count = (left.count + right.count).min(cap);
-    let first = right.next;
-    let node = Node {
-        left: left.outputs,
-        right: right.outputs,
-        own: Outputs::Fresh(Run { first, count }),
-        cap,
-    };
-    emit_own(polarity, &node, sink)?;
-    Ok(Part {
-        outputs: Outputs::Fresh(Run { first, count }),
-        count,
-        next: first + count as u32,
-    })
+
+    fn node(
+        &self,
+        _alloc: Global,
+        parts: &Parts<Outputs>,
+        sink: &mut S,
+    ) -> Result<Placed<Outputs>, Failed> {
+        let cap = self.whole.bound + 1;
+        let count = (parts.left.count() + parts.right.count()).min(cap);
+        let first = self.whole.first + parts.next as u32;
+        let node = Node {
+            left: *parts.left,
+            right: *parts.right,
+            own: Outputs::Fresh(Run { first, count }),
+            cap,
+        };
+        emit_own(self.polarity, &node, sink)?;
+        Ok(Placed {
+            part: Outputs::Fresh(Run { first, count }),
+            next: parts.next + count,
+        })
+    }
+
+    ghost then = { λ xs ys placed r a b c taken rest. clauses_then xs ys r (S.state a) (S.state b) (S.state c) taken rest };
+
+    ghost stops = { λ xs ys f a b part. clauses_stop xs ys (S.state a) (S.state b) part };
+
+    ghost room_first = { λ m n a room. tt };
+
+    ghost room_then = { λ xs n placed a b room taken. tt };
 }
 
 /// Hands over the clauses of a totalizer, with that of the root.
-pub fn emit_whole<S: ClauseSink>(tree: &Subtree, sink: &mut S) -> Result<(), Failed>
-    requires { tree.now.bound < length tree.now.terms.now }
-    ensures { Hands (tree_clauses (totalizer tree.now.bound) (tree_of (weights tree.now.terms.now)) tree.now.first) result (S.state sink.old) (S.state sink.new) }
+pub fn emit_whole<S: ClauseSink>(alloc: Global, whole: &Whole, sink: &mut S) -> Result<(), Failed>
+    ensures { Hands (tree_clauses (totalizer whole.now.bound) (tree_of (weights whole.now.terms.now)) whole.now.first) result (S.state sink.old) (S.state sink.new) }
 {
-    let root = emit_part(Polarity::Up, tree, sink)?;
-    sink.clause(&[root.outputs.at(tree.bound + 1).not()])
+    let clauses = Clauses {
+        whole,
+        polarity: Polarity::Up,
+    };
+    let root = walk_along(alloc, &clauses, whole.terms, 0, sink)?;
+    sink.clause(&[root.part.at(whole.bound + 1).not()])
 }
 
 /// Hands over the clauses of an exact sum, with those of the root.
-pub fn emit_exact<S: ClauseSink>(tree: &Subtree, sink: &mut S) -> Result<(), Failed>
-    requires from { 1 ≤ tree.now.bound }
-    requires more { tree.now.bound < length tree.now.terms.now }
-    ensures { Hands (exact_clauses (sum_within tree.now.terms.now tree.now.bound) tree.now.first) result (S.state sink.old) (S.state sink.new) }
+pub fn emit_exact<S: ClauseSink>(alloc: Global, whole: &Whole, sink: &mut S) -> Result<(), Failed>
+    ensures { Hands (exact_clauses (sum_within whole.now.terms.now whole.now.bound) whole.now.first) result (S.state sink.old) (S.state sink.new) }
 {
-    let root = emit_part(Polarity::Both, tree, sink)?;
-    let least = [root.outputs.at(tree.bound)];
-    let most = [root.outputs.at(tree.bound + 1).not()];
+    let clauses = Clauses {
+        whole,
+        polarity: Polarity::Both,
+    };
+    let root = walk_along(alloc, &clauses, whole.terms, 0, sink)?;
+    let least = [root.part.at(whole.bound)];
+    let most = [root.part.at(whole.bound + 1).not()];
     derive_pair(&least, &most, sink)
 }

@@ -10,7 +10,7 @@ use crate::emission::emit_exact;
 use crate::exact_derivation::derive_exact;
 use crate::polarity::Polarity;
 use crate::size::size_of;
-use crate::subtree::Subtree;
+use crate::whole::Whole;
 use pb_base::{Lit, Lits, NoMemory, Term};
 use pb_family::{Built, ClauseSink, Pair, SinkFault, StepSink};
 use std::alloc::{AllocError, Global};
@@ -116,19 +116,19 @@ impl Pair for Exact {
     }
 
     // It takes no memory.
-    fn emit<S: ClauseSink>(&self, _alloc: Global, first: u32, sink: &mut S) -> Result<(), SinkFault>
+    fn emit<S: ClauseSink>(&self, alloc: Global, first: u32, sink: &mut S) -> Result<(), SinkFault>
         requires original { VarsBelow first (⟦<Exact as Pair>⟧.most self.now).terms }
         requires low { 1 ≤ first }
         requires fits { first + ⟦<Exact as Pair>⟧.fresh_count self.now ≤ 2 ^ 31 }
         ensures hands { HandsIfMemory (⟦<Exact as Pair>⟧.clause_list self.now first) result (S.state sink.old) (S.state sink.new) }
         ensures never { result ≢ Err SinkFault.NoMemory }
     {
-        let tree = Subtree {
+        let whole = Whole {
             terms: self.terms.as_slice(),
             bound: self.bound,
             first,
         };
-        emit_exact(&tree, sink)?;
+        emit_exact(alloc, &whole, sink)?;
         Ok(())
     }
 
@@ -140,12 +140,12 @@ impl Pair for Exact {
         upper: u64,
         sink: &mut T,
     ) -> Result<(), SinkFault> {
-        let tree = Subtree {
+        let whole = Whole {
             terms: self.terms.as_slice(),
             bound: self.bound,
             first,
         };
-        derive_exact(alloc, &tree, lower, upper, sink)
+        derive_exact(alloc, &whole, lower, upper, sink)
     }
 
     ghost sound = { λ f first below a model. pair_sound (exact_sum f) f.units f.proper first a model };

@@ -4,20 +4,19 @@ ghost use Rattle.pb_norm.specs.BoundedSums.{sum_within};
 ghost use Rattle.pb_norm.specs.Constraints.{weight, weights};
 ghost use Rattle.pb_family.specs.StepSinks.{HandsSteps};
 ghost use Rattle.pb_family.specs.inner.HandedJustifications.{HandsJustifications};
-ghost use Rattle.pb_tree.specs.Tree.{tree_of};
-ghost use Rattle.pb_tree.specs.Scheme.{fresh_of};
+ghost use Rattle.pb_tree.specs.inner.Walks.{fresh_over};
 ghost use Rattle.pb_totalizer.specs.ExactSteps.{exact_steps};
 ghost use Rattle.pb_totalizer.specs.Totalizer.{totalizer};
 ghost use Rattle.pb_totalizer.specs.inner.LimitSources.{seconds_from, least_given};
 ghost use Rattle.pb_totalizer.specs.laws.Polarity.{justifications_by, exact_all_justifications};
 
 use crate::derivation::derive_root;
-use crate::handing::derive_part;
+use crate::handing::derive_nodes;
 use crate::limit_claims::push_second;
 use crate::node_ids::Source;
 use crate::polarity::Polarity;
 use crate::reifications::derive_reifications;
-use crate::subtree::Subtree;
+use crate::whole::Whole;
 use pb_family::{SinkFault, StepSink, derive_claim, derive_deletions};
 use std::alloc::{AllocError, Global};
 
@@ -53,37 +52,34 @@ fn derive_least<T: StepSink>(
 /// The clauses of an exact sum, with those of the root.
 fn derive_exact_clauses<T: StepSink>(
     alloc: Global,
-    tree: &Subtree,
+    whole: &Whole,
     id: u64,
     lower: u64,
     upper: u64,
     sink: &mut T,
 ) -> Result<(), SinkFault>
-    requires from { 1 ≤ tree.now.bound }
-    requires ids { id + 2 * fresh_of (totalizer tree.now.bound) (tree_of (weights tree.now.terms.now)) < 2 ^ 62 }
-    requires room { (T.state sink.old).next + length (justifications_by Polarity.Both tree.now.bound tree.now.terms.now id) + 2 < 2 ^ 62 }
-    ensures { HandsJustifications (exact_all_justifications tree.now.bound tree.now.terms.now id lower upper) result (T.state sink.old) (T.state sink.new) }
+    requires ids { id + 2 * fresh_over (totalizer whole.now.bound) whole.now.terms.now < 2 ^ 62 }
+    requires room { (T.state sink.old).next + length (justifications_by Polarity.Both whole.now.bound whole.now.terms.now id) + 2 < 2 ^ 62 }
+    ensures { HandsJustifications (exact_all_justifications whole.now.bound whole.now.terms.now id lower upper) result (T.state sink.old) (T.state sink.new) }
 {
-    let root = derive_part(alloc, Polarity::Both, tree.terms, tree.bound, id, sink)?;
-    derive_least(alloc, root.source, tree.bound, lower, sink)?;
-    derive_root(alloc, root.source, tree.bound + 1, upper, sink)
+    let root = derive_nodes(alloc, Polarity::Both, whole, id, sink)?;
+    derive_least(alloc, root, whole.bound, lower, sink)?;
+    derive_root(alloc, root, whole.bound + 1, upper, sink)
 }
 
 /// Hands over the whole derivation, where `lower` is the id of the constraint from below, and `upper` of the one from above.
 pub fn derive_exact<T: StepSink>(
     alloc: Global,
-    tree: &Subtree,
+    whole: &Whole,
     lower: u64,
     upper: u64,
     sink: &mut T,
 ) -> Result<(), SinkFault>
-    requires from { 1 ≤ tree.now.bound }
-    requires light { weight (weights tree.now.terms.now) < 2 ^ 100 }
-    requires few { (T.state sink.old).next ≤ 2 ^ 61 }
-    ensures { HandsSteps (exact_steps (sum_within tree.now.terms.now tree.now.bound) tree.now.first lower upper (T.state sink.old).next) result (T.state sink.old) (T.state sink.new) }
+    requires { (T.state sink.old).next ≤ 2 ^ 61 }
+    ensures { HandsSteps (exact_steps (sum_within whole.now.terms.now whole.now.bound) whole.now.first lower upper (T.state sink.old).next) result (T.state sink.old) (T.state sink.new) }
 {
     let base = sink.next_id();
-    let meant = derive_reifications(alloc, tree, sink)?;
-    derive_exact_clauses(alloc, tree, base, lower, upper, sink)?;
-    derive_deletions(alloc, base, 2, (meant.next - tree.first) as u64, sink)
+    let fresh = derive_reifications(alloc, whole, sink)?;
+    derive_exact_clauses(alloc, whole, base, lower, upper, sink)?;
+    derive_deletions(alloc, base, 2, fresh, sink)
 }

@@ -1,11 +1,10 @@
 //! The clauses of a totalizer's derivation, part by part.
-ghost use Rattle.std.specs.Prelude.{◌≡◌, ◌≤◌, ◌<◌, ◌+◌, ◌*◌, ◌^◌, length, IfOk};
+ghost use Rattle.std.specs.Prelude.{◌≡◌, ◌<◌, ◌+◌, ◌*◌, ◌^◌, length, IfOk};
 ghost use Rattle.pb_norm.specs.Constraints.{weights};
 ghost use Rattle.pb_family.specs.inner.HandedJustifications.{HandsJustifications};
 ghost use Rattle.pb_tree.specs.Tree.{tree_of};
-ghost use Rattle.pb_tree.specs.Scheme.{fresh_of};
 ghost use Rattle.pb_tree.specs.TreeSteps.{output_ids};
-ghost use Rattle.pb_totalizer.specs.Exact.{outputs_of};
+ghost use Rattle.pb_tree.specs.inner.Walks.{fresh_over};
 ghost use Rattle.pb_totalizer.specs.Totalizer.{totalizer};
 ghost use Rattle.pb_totalizer.specs.inner.Sources.{ids_from};
 ghost use Rattle.pb_totalizer.specs.laws.Polarity.{own_beside, justifications_by};
@@ -14,9 +13,10 @@ use crate::claims::derive_node;
 use crate::limit_claims::derive_limits;
 use crate::node_ids::{IdRow, NodeIds, Side, Source};
 use crate::polarity::Polarity;
+use crate::whole::Whole;
 use pb_base::Term;
 use pb_family::{SinkFault, StepSink};
-use pb_tree::halves;
+use pb_tree::{Parts, Placed, Walk, walk_along};
 use std::alloc::Global;
 
 /// A node's own clauses.
@@ -36,64 +36,129 @@ fn derive_own<T: StepSink>(
     }
 }
 
-/// What a part leaves to what stands over it: where its outputs have their constraints, how many there are, and the id after
-/// its variables' constraints.
+/// Where a part's outputs have their constraints, and how many outputs there are.
 #[derive(Clone, Copy)]
 pub struct Handed {
     pub source: Source,
     pub count: u64,
-    pub id: u64,
 }
 
-/// The clauses of a part, whose variables' constraints have the ids from `id` on.
-pub fn derive_part<T: StepSink>(
+/// The clauses along the tree of a totalizer, whose variables' constraints have the ids from `id` on.
+#[derive(Clone, Copy)]
+struct Claims<'a> {
+    whole: &'a Whole<'a>,
+    polarity: Polarity,
+    id: u64,
+    ghost ids: { id + 2 * fresh_over (totalizer whole.now.bound) whole.now.terms.now < 2 ^ 62 },
+}
+
+impl<'a, T: StepSink> Walk<T> for Claims<'a> {
+    ghost use Rattle.std.specs.Prelude.{◌<◌, ◌+◌, ◌*◌, ◌^◌};
+    ghost use Rattle.pb_derive.specs.Justifications.{Justification};
+    ghost use Rattle.pb_family.specs.inner.HandedJustifications.{HandsJustifications};
+    ghost use Rattle.pb_family.proofs.FlatPieces.{justifications_then};
+    ghost use Rattle.pb_tree.specs.inner.Walks.{fresh_over};
+    ghost use Rattle.pb_tree.proofs.HandingLaws.{claimed_stop, less_claimed, claimed_room};
+    ghost use Rattle.pb_totalizer.specs.Totalizer.{totalizer};
+    ghost use Rattle.pb_totalizer.specs.inner.Sources.{StandAt};
+    ghost use Rattle.pb_totalizer.specs.laws.Polarity.{own_justifications_by};
+
+    type Part = Handed;
+
+    type Fault = SinkFault;
+
+    ghost Item = { Justification };
+
+    ghost scheme = { λ w. totalizer w.whole.now.bound };
+
+    ghost most = { λ w. fresh_over (totalizer w.whole.now.bound) w.whole.now.terms.now };
+
+    ghost own = { λ w l r before. own_justifications_by w.polarity w.whole.now.bound l r before (w.id + 2 * before) };
+
+    ghost hands = { λ justifications result old new. HandsJustifications justifications result (T.state old) (T.state new) };
+
+    ghost has_room = { λ n sink. (T.state sink).next + n < 2 ^ 62 };
+
+    ghost leaves = { λ w ts before part. StandAt w.whole.now.bound ts (w.id + 2 * before) part };
+
+    fn leaf(
+        &self,
+        _alloc: Global,
+        _terms: &[Term],
+        before: u64,
+        _sink: &mut T,
+    ) -> Result<Placed<Handed>, SinkFault> {
+        Ok(Placed {
+            part: Handed {
+                source: Source::Leaf,
+                count: 1,
+            },
+            next: before,
+        })
+    }
+
+    fn node(
+        &self,
+        alloc: Global,
+        parts: &Parts<Handed>,
+        sink: &mut T,
+    ) -> Result<Placed<Handed>, SinkFault> {
+        let (left, right) = (*parts.left, *parts.right);
+        let cap = self.whole.bound + 1;
+        let count = (left.count + right.count).min(cap);
+        let own = self.id + 2 * parts.next;
+        let node = NodeIds {
+            left: Side {
+                terms: parts.lefts,
+                source: left.source,
+                count: left.count,
+            },
+            right: Side {
+                terms: parts.rights,
+                source: right.source,
+                count: right.count,
+            },
+            own,
+            count,
+            cap,
+        };
+        derive_own(alloc, self.polarity, &node, sink)?;
+        Ok(Placed {
+            part: Handed {
+                source: Source::Fresh(IdRow { first: own }),
+                count,
+            },
+            next: parts.next + count,
+        })
+    }
+
+    ghost then = { λ xs ys placed r a b c taken rest. justifications_then r xs ys (T.state a) (T.state b) (T.state c) taken rest };
+
+    ghost stops = { λ xs ys f a b part. claimed_stop xs (T.state a) (T.state b) ys f part };
+
+    ghost room_first = { λ m n a room. less_claimed m n _ room };
+
+    ghost room_then = { λ xs n placed a b room taken. claimed_room xs (T.state a) (T.state b) n room taken };
+}
+
+/// The clauses of all nodes, and where the root's outputs have their constraints.
+pub fn derive_nodes<T: StepSink>(
     alloc: Global,
     polarity: Polarity,
-    terms: &[Term],
-    bound: u64,
+    whole: &Whole,
     id: u64,
     sink: &mut T,
-) -> Result<Handed, SinkFault>
-    requires some { 1 ≤ length terms.now }
-    requires small { bound < 2 ^ 31 }
-    requires ids { id + 2 * fresh_of (totalizer bound) (tree_of (weights terms.now)) < 2 ^ 62 }
-    requires room { (T.state sink.old).next + length (justifications_by polarity bound terms.now id) < 2 ^ 62 }
-    ensures hands { HandsJustifications (justifications_by polarity bound terms.now id) result (T.state sink.old) (T.state sink.new) }
-    ensures source { IfOk result (λ part. ids_from part.source ≡ output_ids (totalizer bound) (tree_of (weights terms.now)) id) }
-    ensures count { IfOk result (λ part. part.count ≡ outputs_of bound (tree_of (weights terms.now))) }
-    ensures id { IfOk result (λ part. part.id ≡ id + 2 * fresh_of (totalizer bound) (tree_of (weights terms.now))) }
+) -> Result<Source, SinkFault>
+    requires ids { id + 2 * fresh_over (totalizer whole.now.bound) whole.now.terms.now < 2 ^ 62 }
+    requires room { (T.state sink.old).next + length (justifications_by polarity whole.now.bound whole.now.terms.now id) < 2 ^ 62 }
+    ensures hands { HandsJustifications (justifications_by polarity whole.now.bound whole.now.terms.now id) result (T.state sink.old) (T.state sink.new) }
+    ensures source { IfOk result (λ source. ids_from source ≡ output_ids (totalizer whole.now.bound) (tree_of (weights whole.now.terms.now)) id) }
 {
-    if terms.len() == 1 {
-        return Ok(Handed {
-            source: Source::Leaf,
-            count: 1,
-            id,
-        });
-    }
-    let (lefts, rights) = halves(terms);
-    let left = derive_part(alloc, polarity, lefts, bound, id, sink)?;
-    let right = derive_part(alloc, polarity, rights, bound, left.id, sink)?;
-    let cap = bound + 1;
-    let count = (left.count + right.count).min(cap);
-    let node = NodeIds {
-        left: Side {
-            terms: lefts,
-            source: left.source,
-            count: left.count,
-        },
-        right: Side {
-            terms: rights,
-            source: right.source,
-            count: right.count,
-        },
-        own: right.id,
-        count,
-        cap,
+    let claims = Claims {
+        whole,
+        polarity,
+        id,
     };
-    derive_own(alloc, polarity, &node, sink)?;
-    Ok(Handed {
-        source: Source::Fresh(IdRow { first: right.id }),
-        count,
-        id: right.id + 2 * count,
-    })
+    let root = walk_along(alloc, &claims, whole.terms, 0, sink)?;
+    Ok(root.part.source)
 }

@@ -15,8 +15,8 @@ mod outputs;
 mod polarity;
 mod reifications;
 mod size;
-mod subtree;
 mod totalizer;
+mod whole;
 
 pub use exact::Exact;
 pub use totalizer::Totalizer;

@@ -1,19 +1,19 @@
 //! What the fresh variables of a totalizer mean.
-ghost use Rattle.std.specs.Prelude.{◌≡◌, ◌≤◌, ◌<◌, ◌+◌, ◌*◌, ◌^◌, ◌∷◌, [], length, IfOk};
+ghost use Rattle.std.specs.Prelude.{◌≡◌, ◌≤◌, ◌<◌, ◌+◌, ◌*◌, ◌^◌, ◌∷◌, [], IfOk};
 ghost use Rattle.std.specs.List.{range_with_len};
 ghost use Rattle.pb_norm.specs.Constraints.{weight, weights};
 ghost use Rattle.pb_family.specs.inner.HandedJustifications.{HandsReifications};
 ghost use Rattle.pb_tree.specs.Tree.{tree_of};
-ghost use Rattle.pb_tree.specs.Scheme.{values, fresh_of};
 ghost use Rattle.pb_tree.specs.TreeSteps.{reifications_from, reifications};
+ghost use Rattle.pb_tree.specs.inner.Walks.{fresh_over};
 ghost use Rattle.pb_totalizer.specs.Totalizer.{totalizer};
 ghost use Rattle.pb_totalizer.specs.inner.Sources.{output_reification};
 
 use crate::outputs::Run;
-use crate::subtree::Subtree;
+use crate::whole::Whole;
 use pb_base::Term;
 use pb_family::{SinkFault, StepSink, derive_reification, fresh_at};
-use pb_tree::halves;
+use pb_tree::{Parts, Placed, Walk, walk_along};
 use std::alloc::Global;
 
 /// What the output of a node at a place means.
@@ -50,52 +50,91 @@ fn derive_outputs<T: StepSink>(
     Ok(())
 }
 
-/// How many outputs a part has, and the number after its fresh variables.
+/// What the fresh variables along the tree of a totalizer mean. A part leaves how many outputs it has.
 #[derive(Clone, Copy)]
-pub struct Meant {
-    pub count: u64,
-    pub next: u32,
+struct Meanings<'a> {
+    whole: &'a Whole<'a>,
 }
 
-/// What the fresh variables of a totalizer mean.
+impl<'a, T: StepSink> Walk<T> for Meanings<'a> {
+    ghost use Rattle.std.specs.Prelude.{◌≡◌, ◌≤◌, ◌+◌, ◌*◌, ◌^◌};
+    ghost use Rattle.pb_norm.specs.Constraints.{weights};
+    ghost use Rattle.pb_derive.specs.Reifications.{Reification};
+    ghost use Rattle.pb_family.specs.inner.HandedJustifications.{HandsReifications};
+    ghost use Rattle.pb_tree.specs.Tree.{tree_of};
+    ghost use Rattle.pb_tree.specs.TreeSteps.{own_reifications};
+    ghost use Rattle.pb_tree.specs.inner.Walks.{fresh_over};
+    ghost use Rattle.pb_tree.proofs.HandingLaws.{meant_stop, less_meant, meant_room};
+    ghost use Rattle.pb_tree.proofs.TreeHanded.{reifications_then};
+    ghost use Rattle.pb_totalizer.specs.Exact.{outputs_of};
+    ghost use Rattle.pb_totalizer.specs.Totalizer.{totalizer};
+
+    type Part = u64;
+
+    type Fault = SinkFault;
+
+    ghost Item = { Reification };
+
+    ghost scheme = { λ w. totalizer w.whole.now.bound };
+
+    ghost most = { λ w. fresh_over (totalizer w.whole.now.bound) w.whole.now.terms.now };
+
+    ghost own = { λ w l r before. own_reifications (totalizer w.whole.now.bound) l r (w.whole.now.first + before) };
+
+    ghost hands = { λ reifications result old new. HandsReifications reifications result (T.state old) (T.state new) };
+
+    ghost has_room = { λ n sink. (T.state sink).next + 2 * n ≤ 2 ^ 61 + 2 ^ 33 };
+
+    ghost leaves = { λ w ts before count. count ≡ outputs_of w.whole.now.bound (tree_of (weights ts)) };
+
+    fn leaf(
+        &self,
+        _alloc: Global,
+        _terms: &[Term],
+        before: u64,
+        _sink: &mut T,
+    ) -> Result<Placed<u64>, SinkFault> {
+        Ok(Placed {
+            part: 1,
+            next: before,
+        })
+    }
+
+    fn node(
+        &self,
+        alloc: Global,
+        parts: &Parts<u64>,
+        sink: &mut T,
+    ) -> Result<Placed<u64>, SinkFault> {
+        let count = (*parts.left + *parts.right).min(self.whole.bound + 1);
+        let first = self.whole.first + parts.next as u32;
+        let outputs = Run { first, count };
+        derive_outputs(alloc, parts.terms, &outputs, sink)?;
+        Ok(Placed {
+            part: count,
+            next: parts.next + count,
+        })
+    }
+
+    ghost then = { λ xs ys placed r a b c taken rest. reifications_then r xs ys (T.state a) (T.state b) (T.state c) taken rest };
+
+    ghost stops = { λ xs ys f a b part. meant_stop xs (T.state a) (T.state b) ys f part };
+
+    ghost room_first = { λ m n a room. less_meant m n _ room };
+
+    ghost room_then = { λ xs n placed a b room taken. meant_room xs (T.state a) (T.state b) n room taken };
+}
+
+/// What the fresh variables of a totalizer mean, and how many they are.
 pub fn derive_reifications<T: StepSink>(
     alloc: Global,
-    tree: &Subtree,
+    whole: &Whole,
     sink: &mut T,
-) -> Result<Meant, SinkFault>
-    requires light { weight (weights tree.now.terms.now) < 2 ^ 100 }
-    requires few { (T.state sink.old).next + 2 * fresh_of (totalizer tree.now.bound) (tree_of (weights tree.now.terms.now)) ≤ 2 ^ 61 + 2 ^ 33 }
-    ensures hands { HandsReifications (reifications (totalizer tree.now.bound) (tree_of (weights tree.now.terms.now)) tree.now.first) result (T.state sink.old) (T.state sink.new) }
-    ensures count { IfOk result (λ part. part.count ≡ length (values (totalizer tree.now.bound) (tree_of (weights tree.now.terms.now)))) }
-    ensures next { IfOk result (λ part. part.next ≡ tree.now.first + fresh_of (totalizer tree.now.bound) (tree_of (weights tree.now.terms.now))) }
+) -> Result<u64, SinkFault>
+    requires { (T.state sink.old).next ≤ 2 ^ 61 }
+    ensures hands { HandsReifications (reifications (totalizer whole.now.bound) (tree_of (weights whole.now.terms.now)) whole.now.first) result (T.state sink.old) (T.state sink.new) }
+    ensures count { IfOk result (λ count. count ≡ fresh_over (totalizer whole.now.bound) whole.now.terms.now) }
 {
-    let bound = tree.bound;
-    if tree.terms.len() == 1 {
-        return Ok(Meant {
-            count: 1,
-            next: tree.first,
-        });
-    }
-    let (terms, others) = halves(tree.terms);
-    let front = Subtree {
-        terms,
-        bound,
-        first: tree.first,
-    };
-    let left = derive_reifications(alloc, &front, sink)?;
-    let back = Subtree {
-        terms: others,
-        bound,
-        first: left.next,
-    };
-    let right = derive_reifications(alloc, &back, sink)?;
-    let outputs = Run {
-        first: right.next,
-        count: (left.count + right.count).min(bound + 1),
-    };
-    derive_outputs(alloc, tree.terms, &outputs, sink)?;
-    Ok(Meant {
-        count: outputs.count,
-        next: outputs.first + outputs.count as u32,
-    })
+    let root = walk_along(alloc, &Meanings { whole }, whole.terms, 0, sink)?;
+    Ok(root.next)
 }

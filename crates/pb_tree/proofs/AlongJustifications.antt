@@ -8,7 +8,7 @@ use Rattle.pb_norm.specs.Constraints.{Weighted, Constraint, weight}
 use Rattle.pb_derive.specs.Justifications.{Justification}
 use Rattle.pb_derive.proofs.Justified.{IsJustified, IsWhole, ReificationsKnown}
 use Rattle.pb_derive.proofs.Sides.{weight-append}
-use Rattle.pb_tree.specs.Scheme.{Scheme, fresh_of, clauses_along}
+use Rattle.pb_tree.specs.Scheme.{Scheme, fresh_of, along}
 use Rattle.pb_tree.specs.Tree.{Tree, empty, leaf, node, IsLeafOf}
 use Rattle.pb_tree.specs.TreeSteps.{leaves, reifications, justifications_along}
 use Rattle.pb_tree.proofs.PairLists.{map-append}
@@ -21,7 +21,7 @@ clause_in r = r.clause
 -- the clauses are those along the tree, where each leaf meets what a node's own need
 pub along_clauses : (s : Scheme) (own : Tree → Tree → ℕ → ℕ → List Justification) (clauses : Tree → Tree → ℕ → List (List Lit)) (P : Weighted → Type 0)
     → ((l r : Tree) (first id : ℕ) → ((u : Weighted) → IsLeafOf (node l r) u → P u) → map clause_in (own l r first id) ≡ clauses l r first)
-    → (t : Tree) (first id : ℕ) → ((u : Weighted) → IsLeafOf t u → P u) → map clause_in (justifications_along s own t first id) ≡ clauses_along s clauses t first
+    → (t : Tree) (first id : ℕ) → ((u : Weighted) → IsLeafOf t u → P u) → map clause_in (justifications_along s own t first id) ≡ along s clauses t first
 along_clauses s own clauses P each empty first id h = refl
 along_clauses s own clauses P each (leaf t) first id h = refl
 along_clauses s own clauses P each (node l r) first id h =

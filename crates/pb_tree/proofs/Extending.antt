@@ -9,7 +9,7 @@ use Rattle.pb_base.proofs.Members.{Contains-nil, Contains-cons_cases}
 use Rattle.pb_norm.specs.Constraints.{Weighted}
 use Rattle.pb_norm.proofs.Agreement.{lit_value-agree, clause_value-agree}
 use Rattle.pb_tree.specs.Tree.{Tree, empty, leaf, node, IsLeafOf, leaf_sum}
-use Rattle.pb_tree.specs.Scheme.{Scheme, values, fresh_of, output, clauses_along, count_along}
+use Rattle.pb_tree.specs.Scheme.{Scheme, values, fresh_of, output, along, count_along}
 use Rattle.pb_tree.proofs.Pushing.{passing}
 use Rattle.pb_tree.proofs.Sums.{IsLawful}
 
@@ -54,18 +54,18 @@ named_right s l r first n named = elim named as (λ _. IsNamed s (node l r) firs
 var_named : (s : Scheme) (W : ℕ → Type 0) → IsLawful s W → (t : Tree) (first n : ℕ) → IsOutputVar s t first n → IsNamed s t first n
 var_named s W laws t first n is = subst (λ (m : ℕ). IsNamed s t first m) (sym is.2) (output_named s W laws t first is.0 is.1)
 
-pub parts_of_clause : (s : Scheme) (own : Tree → Tree → ℕ → List (List Lit)) (l r : Tree) (first : ℕ) (c : List Lit) → Contains (clauses_along s own (node l r) first) c
-    → Contains (clauses_along s own l first) c ⊎ (Contains (clauses_along s own r (first + fresh_of s l)) c ⊎ Contains (own l r first) c)
+pub parts_of_clause : (s : Scheme) (own : Tree → Tree → ℕ → List (List Lit)) (l r : Tree) (first : ℕ) (c : List Lit) → Contains (along s own (node l r) first) c
+    → Contains (along s own l first) c ⊎ (Contains (along s own r (first + fresh_of s l)) c ⊎ Contains (own l r first) c)
 parts_of_clause s own l r first c h =
-    let lefts = clauses_along s own l first in
-    let rights = clauses_along s own r (first + fresh_of s l) in
+    let lefts = along s own l first in
+    let rights = along s own r (first + fresh_of s l) in
     elim (Contains-append_cases lefts (rights ++ own l r first) c h) as (λ _. Contains lefts c ⊎ (Contains rights c ⊎ Contains (own l r first) c)) [
       | inl left ↦ inl left
       | inr rest ↦ inr (Contains-append_cases rights (own l r first) c rest)
     ]
 
 pub along_named : (s : Scheme) (W : ℕ → Type 0) → IsLawful s W → (own : Tree → Tree → ℕ → List (List Lit)) → IsByReification s own
-    → (t : Tree) (first : ℕ) (c : List Lit) → Contains (clauses_along s own t first) c → (k : Lit) → Contains c k → IsNamed s t first k.var
+    → (t : Tree) (first : ℕ) (c : List Lit) → Contains (along s own t first) c → (k : Lit) → Contains c k → IsNamed s t first k.var
 along_named s W laws own by empty first c h k m = absurd (Contains-nil c h)
 along_named s W laws own by (leaf t) first c h k m = absurd (Contains-nil c h)
 along_named s W laws own by (node l r) first c h k m =
@@ -87,12 +87,12 @@ along_named s W laws own by (node l r) first c h k m =
 -- ---- counts
 
 pub along_counted : (s : Scheme) (own : Tree → Tree → ℕ → List (List Lit)) (count : Tree → Tree → ℕ) → ((l r : Tree) (first : ℕ) → length (own l r first) ≡ count l r)
-    → (t : Tree) (first : ℕ) → length (clauses_along s own t first) ≡ count_along count t
+    → (t : Tree) (first : ℕ) → length (along s own t first) ≡ count_along count t
 along_counted s own count each empty first = refl
 along_counted s own count each (leaf t) first = refl
 along_counted s own count each (node l r) first =
-    let lefts = clauses_along s own l first in
-    let rights = clauses_along s own r (first + fresh_of s l) in
+    let lefts = along s own l first in
+    let rights = along s own r (first + fresh_of s l) in
     omega (
       arith,
       length-append lefts (rights ++ own l r first),
@@ -148,7 +148,7 @@ named_below s t first n below named =
 pub record Extension (s : Scheme) (own : Tree → Tree → ℕ → List (List Lit)) (v : ℕ → Bool) (t : Tree) (first : ℕ) : Type 0 where
   pub now : ℕ → Bool
   pub agrees : AgreeBelow first v now
-  pub holds : (c : List Lit) → Contains (clauses_along s own t first) c → clause_value now c ≡ true
+  pub holds : (c : List Lit) → Contains (along s own t first) c → clause_value now c ≡ true
   pub means : OutputsMean s now t first (leaf_sum (passing s (lit_value v)) t)
 
 leaf_means : (s : Scheme) (v : ℕ → Bool) (t : Weighted) → 1 ≤ min (s.weight t) s.cap → (u : ℕ) → min (s.weight t) s.cap ≡ u → lit_value v t.lit ≡ leb u (passing s (lit_value v) t)

@@ -1,5 +1,5 @@
 -- A whole derivation along a tree: what the fresh variables mean, then the clauses, and then the deletions.
-use Rattle.std.proofs.Common.{◌≡◌, ◌+◌, ◌-◌, ◌*◌, ℕ, List, map, length, arith}
+use Rattle.std.proofs.Common.{◌≡◌, ◌+◌, ◌*◌, ℕ, List, map, length, arith}
 use Rattle.std.specs.Prelude.{Result}
 use Rattle.pb_base.specs.declared.literal.Term.{Term}
 use Rattle.pb_norm.specs.Constraints.{weights}
@@ -28,9 +28,9 @@ module _ {R : Type 0} (s : Scheme) (ts : List Term) (first : ℕ) (old mid : Ste
   meant_next = omega (arith, reifications_next (part_reifications s ts first) old mid meant, length-reifications s (tree_of (weights ts)) first)
 
   -- the deletions end it
-  pub derived : {T : Type 0} (result : Result T SinkFault) (rs qs : List Justification) (base next : ℕ) (last new : StepState R) → HaveSameSteps rs qs → base ≡ old.next → next ≡ first + fresh_of s (tree_of (weights ts))
-      → TakesSteps (claim_steps mid.next (map by_justification rs)) mid last → HandsSteps (deletion_steps 2 base (next - first)) result last new → HandsSteps (phases old.next (part_reifications s ts first) (map by_justification qs)) result old new
-  derived result rs qs base next last new same is ends claimed deleted =
+  pub derived : {T : Type 0} (result : Result T SinkFault) (rs qs : List Justification) (base fresh : ℕ) (last new : StepState R) → HaveSameSteps rs qs → base ≡ old.next → fresh ≡ fresh_of s (tree_of (weights ts))
+      → TakesSteps (claim_steps mid.next (map by_justification rs)) mid last → HandsSteps (deletion_steps 2 base fresh) result last new → HandsSteps (phases old.next (part_reifications s ts first) (map by_justification qs)) result old new
+  derived result rs qs base fresh last new same is ends claimed deleted =
       let ms = part_reifications s ts first in
-      let count : next - first ≡ length ms = omega (arith, ends, length-reifications s (tree_of (weights ts)) first) in
+      let count : fresh ≡ length ms = omega (arith, ends, length-reifications s (tree_of (weights ts)) first) in
       ended_by_deletions result ms rs qs same old mid last new meant claimed (steps_same result _ _ last new (λ i. deletion_steps 2 (is i) (count i)) deleted)

@@ -4,3 +4,4 @@ pub mod Places
 pub mod Scheme
 pub mod Tree
 pub mod TreeSteps
+pub mod inner

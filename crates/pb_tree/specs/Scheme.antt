@@ -37,13 +37,12 @@ output s empty first u = positive_of 0
 output s (leaf t) first u = t.lit
 output s (node l r) first u = positive_of (first + fresh_of s l + fresh_of s r + s.place u (values s (node l r)))
 
--- Clauses along a tree: of the left part, of the right part, and then a node's own, which go by its two parts and the first
--- fresh variable.
-abbrev pub clauses_along : Scheme → (Tree → Tree → ℕ → List (List Lit)) → Tree → ℕ → List (List Lit)
-clauses_along s own empty first = []
-clauses_along s own (leaf t) first = []
-clauses_along s own (node l r) first =
-    clauses_along s own l first ++ (clauses_along s own r (first + fresh_of s l) ++ own l r first)
+-- Along a tree: what the left part has, the right part, and then a node's own, which go by its two parts and the first fresh
+-- variable.
+abbrev pub along : {X : Type 0} → Scheme → (Tree → Tree → ℕ → List X) → Tree → ℕ → List X
+along s own empty first = []
+along s own (leaf t) first = []
+along s own (node l r) first = along s own l first ++ (along s own r (first + fresh_of s l) ++ own l r first)
 
 -- how many, where it is known how many each node has
 abbrev pub count_along : (Tree → Tree → ℕ) → Tree → ℕ
@@ -59,7 +58,7 @@ abbrev pub own_count_of : Scheme → Tree → Tree → ℕ
 own_count_of s l r = s.merged_count (length (values s l)) (length (values s r))
 
 abbrev pub clauses_of : Scheme → Tree → ℕ → List (List Lit)
-clauses_of s t first = clauses_along s (own_of s) t first
+clauses_of s t first = along s (own_of s) t first
 
 abbrev pub clause_count_of : Scheme → Tree → ℕ
 clause_count_of s t = count_along (own_count_of s) t

@@ -8,7 +8,7 @@ use Rattle.pb_derive.specs.Reifications.{Reification}
 use Rattle.pb_derive.specs.Phases.{phases}
 use Rattle.pb_derive.specs.Justifications.{Justification, by_justification}
 use Rattle.pb_tree.specs.Pairs.{Pair, pair_clause}
-use Rattle.pb_tree.specs.Scheme.{Scheme, values, fresh_of, output}
+use Rattle.pb_tree.specs.Scheme.{Scheme, values, fresh_of, output, along}
 use Rattle.pb_tree.specs.Tree.{Tree, empty, leaf, node}
 
 abbrev pub leaves : Tree → List Weighted
@@ -23,14 +23,13 @@ abbrev pub reifications_from : ℕ → List Weighted → List ℕ → List Reifi
 reifications_from var ts [] = []
 reifications_from var ts (u ∷ us) = record { var = var; sum = ts; least = u } ∷ reifications_from (var + 1) ts us
 
--- in the order of the numbers: of the left part, of the right part, and of the node itself
+-- a node's own
+abbrev pub own_reifications : Scheme → Tree → Tree → ℕ → List Reification
+own_reifications s l r first = reifications_from (first + fresh_of s l + fresh_of s r) (leaves (node l r)) (values s (node l r))
+
+-- in the order of the numbers
 abbrev pub reifications : Scheme → Tree → ℕ → List Reification
-reifications s empty first = []
-reifications s (leaf t) first = []
-reifications s (node l r) first =
-    reifications s l first
-    ++ (reifications s r (first + fresh_of s l)
-    ++ reifications_from (first + fresh_of s l + fresh_of s r) (leaves (node l r)) (values s (node l r)))
+reifications s t first = along s (own_reifications s) t first
 
 -- ---- why the clauses hold
 

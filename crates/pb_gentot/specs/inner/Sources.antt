@@ -1,5 +1,5 @@
 -- Where the constraints of a part's outputs stand, and the justifications of a node's clauses by that; their clauses are left out.
-use Rattle.std.specs.Prelude.{ℕ, ◌+◌, ◌*◌, ◌≤◌, List, [], ◌∷◌, ◌++◌, min, map, length, slice_index}
+use Rattle.std.specs.Prelude.{◌≡◌, ℕ, ◌+◌, ◌*◌, ◌≤◌, All, List, [], ◌∷◌, ◌++◌, min, map, length, slice_index}
 use Rattle.std.specs.List.{flat_map, range_with_len}
 use Rattle.pb_base.specs.declared.literal.Term.{Term}
 use Rattle.pb_norm.specs.BoundedSums.{vars_of}
@@ -7,8 +7,9 @@ use Rattle.pb_norm.specs.Constraints.{Weighted, weights}
 use Rattle.pb_derive.specs.Reifications.{Reification}
 use Rattle.pb_derive.specs.Justifications.{Justification}
 use Rattle.pb_tree.specs.Places.{place_of}
-use Rattle.pb_tree.specs.Tree.{Tree, IsLeafOf, tree_of}
-use Rattle.pb_tree.specs.TreeSteps.{justifications, tree_justifications}
+use Rattle.pb_tree.specs.Scheme.{values}
+use Rattle.pb_tree.specs.Tree.{tree_of}
+use Rattle.pb_tree.specs.TreeSteps.{justifications, output_ids, tree_justifications}
 use Rattle.pb_gentot.specs.Generalized.{generalized}
 use Rattle.pb_gentot.specs.GeneralizedSteps.{generalized_pairs}
 use Rattle.pb_gentot.specs.declared.node_ids.Handed.{Handed}
@@ -23,6 +24,12 @@ output_reification first ts us place = record { var = first + place; sum = ts; l
 -- of a value
 abbrev pub ids_of : Handed → ℕ → List ℕ
 ids_of part u = ids_at part.source (place_of u part.values.items)
+
+-- the values of some terms, and where the constraints of their outputs stand
+pub record IsHanded (bound : ℕ) (ts : List Term) (id : ℕ) (part : Handed) : Type 0 where
+  pub values_are : part.values.items ≡ values (generalized bound) (tree_of (weights ts))
+  pub ids_are : ids_of part ≡ output_ids (generalized bound) (tree_of (weights ts)) id
+  pub within : All (λ u. u ≤ bound + 1) part.values.items
 
 -- the second constraint of a node's value
 abbrev pub second_of : Owned → ℕ → ℕ
@@ -90,7 +97,3 @@ part_justifications bound ts id = justifications (generalized bound) generalized
 -- and of the root
 abbrev pub all_justifications : ℕ → List Term → ℕ → ℕ → List Justification
 all_justifications bound ts id own = tree_justifications (generalized bound) generalized_pairs (tree_of (weights ts)) 0 id own
-
--- each leaf adds something
-abbrev pub AreLeavesPositive : Tree → Type 0
-AreLeavesPositive t = (u : Weighted) → IsLeafOf t u → 1 ≤ u.coef

@@ -1,12 +1,16 @@
 -- Where the constraints of a part's outputs stand, and the justifications of a node's clauses by that; their clauses are left out.
-use Rattle.std.specs.Prelude.{ℕ, zero, suc, ◌+◌, ◌-◌, ◌*◌, List, [], ◌∷◌, ◌++◌, map}
+use Rattle.std.specs.Prelude.{◌≡◌, ℕ, zero, suc, ◌+◌, ◌-◌, ◌*◌, List, [], ◌∷◌, ◌++◌, map}
 use Rattle.std.specs.List.{flat_map, range_with_len}
 use Rattle.pb_base.specs.declared.literal.Term.{Term}
 use Rattle.pb_norm.specs.BoundedSums.{vars_of}
 use Rattle.pb_norm.specs.Constraints.{Weighted, weights}
 use Rattle.pb_derive.specs.Reifications.{Reification}
 use Rattle.pb_derive.specs.Justifications.{Justification}
-use Rattle.pb_totalizer.specs.Totalizer.{partners}
+use Rattle.pb_tree.specs.Tree.{tree_of}
+use Rattle.pb_tree.specs.TreeSteps.{output_ids}
+use Rattle.pb_totalizer.specs.Exact.{outputs_of}
+use Rattle.pb_totalizer.specs.Totalizer.{partners, totalizer}
+use Rattle.pb_totalizer.specs.declared.handing.Handed.{Handed}
 use Rattle.pb_totalizer.specs.declared.node_ids.NodeIds.{NodeIds}
 use Rattle.pb_totalizer.specs.declared.node_ids.Source.{Source}
 use Rattle.pb_totalizer.specs.declared.node_ids.Source.TheVariants.{Leaf, Fresh}
@@ -19,6 +23,11 @@ output_reification first ts place = record { var = first + place; sum = ts; leas
 abbrev pub ids_from : Source → ℕ → List ℕ
 ids_from Leaf u = []
 ids_from (Fresh row) u = (row.first + 2 * (u - 1)) ∷ []
+
+-- where the constraints of the outputs of some terms stand, and how many there are
+pub record StandAt (bound : ℕ) (ts : List Term) (id : ℕ) (part : Handed) : Type 0 where
+  pub ids : ids_from part.source ≡ output_ids (totalizer bound) (tree_of (weights ts)) id
+  pub count : part.count ≡ outputs_of bound (tree_of (weights ts))
 
 abbrev pub some_ids : Source → ℕ → List ℕ
 some_ids source zero = []

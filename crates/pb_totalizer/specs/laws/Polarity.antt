@@ -5,7 +5,7 @@ use Rattle.pb_base.specs.declared.literal.Lit.{Lit}
 use Rattle.pb_base.specs.declared.literal.Term.{Term}
 use Rattle.pb_norm.specs.Constraints.{weights}
 use Rattle.pb_derive.specs.Justifications.{Justification}
-use Rattle.pb_tree.specs.Scheme.{clauses_along, count_along, own_of, own_count_of}
+use Rattle.pb_tree.specs.Scheme.{along, count_along, own_of, own_count_of}
 use Rattle.pb_tree.specs.Tree.{Tree, tree_of}
 use Rattle.pb_tree.specs.TreeSteps.{pair_justifications, justifications_along, root_justification}
 use Rattle.pb_totalizer.specs.Exact.{limit_clauses, limit_count, limit_count_of, exact_own}
@@ -37,7 +37,7 @@ own_by Up bound = own_of (totalizer bound)
 own_by Both bound = exact_own bound
 
 abbrev pub clauses_by : Polarity → ℕ → Tree → ℕ → List (List Lit)
-clauses_by polarity bound t first = clauses_along (totalizer bound) (own_by polarity bound) t first
+clauses_by polarity bound t first = along (totalizer bound) (own_by polarity bound) t first
 
 -- by the cap, how many outputs the node and its parts have, and the literals of its parts' and of its own
 abbrev pub own_clauses : Polarity → ℕ → ℕ → ℕ → ℕ → (ℕ → Lit) → (ℕ → Lit) → (ℕ → Lit) → List (List Lit)

@@ -20,10 +20,10 @@ returns-then-is_empty g c =
     let none : length c.args.terms.now ≡ 0 = eqb-true _ 0 (sym c.is_empty.ensures ∙ c.if-is_empty.true) in
     rw (no_clauses c.args.bound c.args.terms.now c.args.first none) (takes_nothing (g.S.ClauseSink.state c.args.sink.now))
 
-pub invariant_of-tree : goal.invariant_of-tree
-invariant_of-tree g c =
+pub invariant_of-whole : goal.invariant_of-whole
+invariant_of-whole g c =
     let some = false-eqb (length c.args.terms.now) 0 (sym c.if-is_empty.false ∙ c.is_empty.ensures) in
-    record { some = omega (arith, some); small = c.requires.small; low = c.requires.low; fits = c.requires.fits }
+    record { whole = record { some = omega (arith, some); small = c.requires.small; positive = c.requires.positive; light = c.requires.light; low = c.requires.low; fits = c.requires.fits } }
 
 pub returns-in_err-root : goal.returns-in_err-root
 returns-in_err-root g c =
@@ -33,22 +33,22 @@ returns-in_err-root g c =
 
 pub emit_neighbours-requires-clause-rising : goal.emit_neighbours-requires-clause-rising
 emit_neighbours-requires-clause-rising g c =
-    subst Rising (sym c.as_slice.ensures.value) c.in_ok-root.ensures.within.rising
+    subst Rising (sym c.as_slice.ensures.value) c.in_ok-root.ensures.emitted.within.rising
 
 pub emit_neighbours-requires-clause-room : goal.emit_neighbours-requires-clause-room
-emit_neighbours-requires-clause-room g c = subst (λ (us : List ℕ). HasRoom c.in_ok-root.root.outputs (length us)) (sym c.as_slice.ensures.value) c.in_ok-root.ensures.within.room
+emit_neighbours-requires-clause-room g c = subst (λ (us : List ℕ). HasRoom c.in_ok-root.root.outputs (length us)) (sym c.as_slice.ensures.value) c.in_ok-root.ensures.emitted.within.room
 
 pub returns-in_err-emit_neighbours : goal.returns-in_err-emit_neighbours
 returns-in_err-emit_neighbours g c =
     let s = generalized c.args.bound in
     let t = tree_of (weights c.args.terms.now) in
     let sink = g.S.ClauseSink in
-    let outs = ap (output_in c.in_ok-root.root.outputs) c.as_slice.ensures.value ∙ c.in_ok-root.ensures.outputs in
-    let vals = c.as_slice.ensures.value ∙ c.in_ok-root.ensures.values in
+    let outs = ap (output_in c.in_ok-root.root.outputs) c.as_slice.ensures.value ∙ c.in_ok-root.ensures.emitted.outputs_are in
+    let vals = c.as_slice.ensures.value ∙ c.in_ok-root.ensures.emitted.values_are in
     let between = clauses_between (output s t c.args.first) (values s t) in
     let same : clauses_between (output_in c.in_ok-root.root.outputs c.as_slice.result.now) c.as_slice.result.now ≡ between = (λ i. clauses_between (outs i) (vals i)) in
     let whole = ap (λ (cs : List (List Lit)). clauses_of s t c.args.first ++ cs) (sym (append-nil between)) in
-    let part = fails_as _ _ (sink.state c.emit_part.new.sink) (sink.state c.emit_neighbours.new.sink) same c.in_err-emit_neighbours.ensures in
+    let part = fails_as _ _ (sink.state c.emit_nodes.new.sink) (sink.state c.emit_neighbours.new.sink) same c.in_err-emit_neighbours.ensures in
     stops_fault {all = clauses_by c.args.bound c.args.terms.now c.args.first} c.from_residual-in_err-emit_neighbours.result fault.Failed between [] _ c.from_residual-in_err-emit_neighbours.ensures.1
     (emitting_step (clauses_of s t c.args.first) _ (emitting_from _ whole) c.in_ok-root.ensures.hands) part
 
@@ -57,10 +57,10 @@ returns g c =
     let s = generalized c.args.bound in
     let t = tree_of (weights c.args.terms.now) in
     let sink = g.S.ClauseSink in
-    let outs = ap (output_in c.in_ok-root.root.outputs) c.as_slice.ensures.value ∙ c.in_ok-root.ensures.outputs in
-    let vals = c.as_slice.ensures.value ∙ c.in_ok-root.ensures.values in
+    let outs = ap (output_in c.in_ok-root.root.outputs) c.as_slice.ensures.value ∙ c.in_ok-root.ensures.emitted.outputs_are in
+    let vals = c.as_slice.ensures.value ∙ c.in_ok-root.ensures.emitted.values_are in
     let between = clauses_between (output s t c.args.first) (values s t) in
     let same : clauses_between (output_in c.in_ok-root.root.outputs c.as_slice.result.now) c.as_slice.result.now ≡ between = (λ i. clauses_between (outs i) (vals i)) in
     let whole = ap (λ (cs : List (List Lit)). clauses_of s t c.args.first ++ cs) (sym (append-nil between)) in
-    let handed = takes_as _ _ (sink.state c.emit_part.new.sink) (sink.state c.emit_neighbours.new.sink) same c.in_ok-emit_neighbours.ensures in
+    let handed = takes_as _ _ (sink.state c.emit_nodes.new.sink) (sink.state c.emit_neighbours.new.sink) same c.in_ok-emit_neighbours.ensures in
     emitting_ends {all = clauses_by c.args.bound c.args.terms.now c.args.first} (emitting_step {left = []} between _ (emitting_step (clauses_of s t c.args.first) _ (emitting_from _ whole) c.in_ok-root.ensures.hands) handed)

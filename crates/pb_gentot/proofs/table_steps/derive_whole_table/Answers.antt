@@ -10,20 +10,20 @@ use Rattle.pb_gentot.proofs.table_steps.derive_whole_table.Goals as goal
 
 pub derive_neighbours-requires : goal.derive_neighbours-requires
 derive_neighbours-requires g c =
-    let next = justifications_next (part_justifications c.args.tree.now.bound c.args.tree.now.terms.now c.args.id) (g.T.StepSink.state c.args.sink.now) (g.T.StepSink.state c.derive_part.new.sink) c.in_ok-root.ensures.hands in
-    omega (arith, next, c.requires.room, ap length c.in_ok-root.ensures.values)
+    let next = justifications_next (part_justifications c.args.whole.now.bound c.args.whole.now.terms.now c.args.id) (g.T.StepSink.state c.args.sink.now) (g.T.StepSink.state c.derive_nodes.new.sink) c.in_ok-root.ensures.hands in
+    omega (arith, next, c.requires.few, ap length c.in_ok-root.ensures.handed.values_are)
 
 pub returns-in_err-root : goal.returns-in_err-root
 returns-in_err-root g c =
-    let ts = c.args.tree.now.terms.now in
-    justifications_stopped c.from_residual.result _ (part_justifications c.args.tree.now.bound ts c.args.id) (neighbour_justifications c.args.tree.now.bound (tree_of (weights ts)) 0 c.args.id) (g.T.StepSink.state c.args.sink.now) (g.T.StepSink.state c.derive_part.new.sink) c.from_residual.ensures.1 c.in_err-root.ensures.hands
+    let ts = c.args.whole.now.terms.now in
+    justifications_stopped c.from_residual.result _ (part_justifications c.args.whole.now.bound ts c.args.id) (neighbour_justifications c.args.whole.now.bound (tree_of (weights ts)) 0 c.args.id) (g.T.StepSink.state c.args.sink.now) (g.T.StepSink.state c.derive_nodes.new.sink) c.from_residual.ensures.1 c.in_err-root.ensures.hands
 
 pub returns : goal.returns
 returns g c =
-    let ts = c.args.tree.now.terms.now in
+    let ts = c.args.whole.now.terms.now in
     let root = c.in_ok-root.root in
     let old = g.T.StepSink.state c.args.sink.now in
     let new = g.T.StepSink.state c.derive_neighbours.new.sink in
-    let same = rises_last c.args.tree.now.bound ts c.args.id root c.in_ok-root.ensures.values c.in_ok-root.ensures.ids in
+    let same = rises_last c.args.whole.now.bound ts c.args.id root c.in_ok-root.ensures.handed.values_are c.in_ok-root.ensures.handed.ids_are in
     steps_same c.derive_neighbours.result _ _ old new (same.steps old.next)
-    (justifications_then c.derive_neighbours.result (part_justifications c.args.tree.now.bound ts c.args.id) (rises_of root.source (length root.values.items)) old (g.T.StepSink.state c.derive_part.new.sink) new c.in_ok-root.ensures.hands c.derive_neighbours.ensures)
+    (justifications_then c.derive_neighbours.result (part_justifications c.args.whole.now.bound ts c.args.id) (rises_of root.source (length root.values.items)) old (g.T.StepSink.state c.derive_nodes.new.sink) new c.in_ok-root.ensures.hands c.derive_neighbours.ensures)

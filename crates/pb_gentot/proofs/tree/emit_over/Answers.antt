@@ -52,9 +52,9 @@ invariant_of-node g c =
 pub returns-in_err-emit_node-clause-hands : goal.returns-in_err-emit_node-clause-hands
 returns-in_err-emit_node-clause-hands g c =
     let sink = g.S.ClauseSink in
-    let all = clauses_over_parts c.args.cap c.args.left.now c.args.right.now in
+    let all = clauses_over_parts c.args.cap c.args.first c.args.left.now c.args.right.now in
     let made = values_made c.args.cap _ _ _ c.args.left.now.values.items c.args.right.now.values.items c.as_slice-lefts.ensures.value c.as_slice-rights.ensures.value c.in_ok-values.ensures in
-    let same = clauses_made c.args.cap c.args.left.now c.args.right.now _ _ _ c.as_slice-lefts.ensures.value c.as_slice-rights.ensures.value made in
+    let same = clauses_made c.args.cap c.args.first c.args.left.now c.args.right.now _ _ _ c.as_slice-lefts.ensures.value c.as_slice-rights.ensures.value made in
     stops_fault {all = all} c.from_residual-in_err-emit_node.result fault.Failed all _ _ c.from_residual-in_err-emit_node.ensures.1 (emitting_from _ (sym (append-nil all)))
     (fails_as _ all (sink.state c.args.sink.now) (sink.state c.emit_node.new.sink) same c.in_err-emit_node.ensures)
 
@@ -62,7 +62,7 @@ pub returns-clause-hands : goal.returns-clause-hands
 returns-clause-hands g c =
     let sink = g.S.ClauseSink in
     let made = values_made c.args.cap _ _ _ c.args.left.now.values.items c.args.right.now.values.items c.as_slice-lefts.ensures.value c.as_slice-rights.ensures.value c.in_ok-values.ensures in
-    let same = clauses_made c.args.cap c.args.left.now c.args.right.now _ _ _ c.as_slice-lefts.ensures.value c.as_slice-rights.ensures.value made in
+    let same = clauses_made c.args.cap c.args.first c.args.left.now c.args.right.now _ _ _ c.as_slice-lefts.ensures.value c.as_slice-rights.ensures.value made in
     takes_as _ _ (sink.state c.args.sink.now) (sink.state c.emit_node.new.sink) same c.in_ok-emit_node.ensures
 
 pub returns-clause-values : goal.returns-clause-values
@@ -71,7 +71,7 @@ returns-clause-values g c = values_made c.args.cap _ _ _ c.args.left.now.values.
 pub returns-clause-outputs : goal.returns-clause-outputs
 returns-clause-outputs g c =
     let made = values_made c.args.cap _ _ _ c.args.left.now.values.items c.args.right.now.values.items c.as_slice-lefts.ensures.value c.as_slice-rights.ensures.value c.in_ok-values.ensures in
-    ap (output_in (Fresh c.args.right.now.next)) made
+    ap (output_in (Fresh c.args.first)) made
 
 pub returns-clause-within : goal.returns-clause-within
 returns-clause-within g c =
@@ -84,18 +84,3 @@ returns-clause-within g c =
       small = made_within c.args.cap us vs ws c.in_ok-values.ensures;
       room = (c.requires.low, omega (arith, ap length made, c.requires.fits));
     }
-
-pub returns-clause-next : goal.returns-clause-next
-returns-clause-next g c =
-    let made = values_made c.args.cap _ _ _ c.args.left.now.values.items c.args.right.now.values.items c.as_slice-lefts.ensures.value c.as_slice-rights.ensures.value c.in_ok-values.ensures in
-    omega (arith, ap length made)
-
-pub overflow_add-next : goal.overflow_add-next
-overflow_add-next g c =
-    let made = values_made c.args.cap _ _ _ c.args.left.now.values.items c.args.right.now.values.items c.as_slice-lefts.ensures.value c.as_slice-rights.ensures.value c.in_ok-values.ensures in
-    omega (arith, ap length made, c.requires.fits)
-
-pub overflow_cast-next : goal.overflow_cast-next
-overflow_cast-next g c =
-    let made = values_made c.args.cap _ _ _ c.args.left.now.values.items c.args.right.now.values.items c.as_slice-lefts.ensures.value c.as_slice-rights.ensures.value c.in_ok-values.ensures in
-    omega (arith, ap length made, c.requires.fits)

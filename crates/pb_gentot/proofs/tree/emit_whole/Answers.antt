@@ -16,40 +16,40 @@ use Rattle.pb_gentot.proofs.tree.emit_whole.Goals as goal
 
 pub returns-in_err-root : goal.returns-in_err-root
 returns-in_err-root g c =
-    let s = generalized c.args.tree.now.bound in
-    let t = tree_of (weights c.args.tree.now.terms.now) in
-    stops_fault {all = tree_clauses s t c.args.tree.now.first} c.from_residual.result _ (clauses_of s t c.args.tree.now.first) _ _ c.from_residual.ensures.1 (emitting_starts _ _) c.in_err-root.ensures.hands
+    let s = generalized c.args.whole.now.bound in
+    let t = tree_of (weights c.args.whole.now.terms.now) in
+    stops_fault {all = tree_clauses s t c.args.whole.now.first} c.from_residual.result _ (clauses_of s t c.args.whole.now.first) _ _ c.from_residual.ensures.1 (emitting_starts _ _) c.in_err-root.ensures.hands
 
 pub of-requires-clause-rising : goal.of-requires-clause-rising
 of-requires-clause-rising g c =
-    subst Rising (sym c.as_slice.ensures.value) c.in_ok-root.ensures.within.rising
+    subst Rising (sym c.as_slice.ensures.value) c.in_ok-root.ensures.emitted.within.rising
 
 pub of-requires-clause-room : goal.of-requires-clause-room
-of-requires-clause-room g c = subst (λ (us : List ℕ). HasRoom c.in_ok-root.root.outputs (length us)) (sym c.as_slice.ensures.value) c.in_ok-root.ensures.within.room
+of-requires-clause-room g c = subst (λ (us : List ℕ). HasRoom c.in_ok-root.root.outputs (length us)) (sym c.as_slice.ensures.value) c.in_ok-root.ensures.emitted.within.room
 
 pub of-requires-clause-has : goal.of-requires-clause-has
 of-requires-clause-has g c =
-    subst (λ (us : List ℕ). Contains us (c.args.tree.now.bound + 1)) (sym (c.as_slice.ensures.value ∙ c.in_ok-root.ensures.values)) c.requires
+    subst (λ (us : List ℕ). Contains us (c.args.whole.now.bound + 1)) (sym (c.as_slice.ensures.value ∙ c.in_ok-root.ensures.emitted.values_are)) c.requires
 
 pub returns : goal.returns
 returns g c =
-    let s = generalized c.args.tree.now.bound in
-    let t = tree_of (weights c.args.tree.now.terms.now) in
+    let s = generalized c.args.whole.now.bound in
+    let t = tree_of (weights c.args.whole.now.terms.now) in
     let sink = g.S.ClauseSink in
-    let top : Lit = negated (output s t c.args.tree.now.first s.cap) in
-    let outs = ap (output_in c.in_ok-root.root.outputs) c.as_slice.ensures.value ∙ c.in_ok-root.ensures.outputs in
-    let same : c.not.result ≡ top = c.not.ensures ∙ ap negated (c.of.ensures ∙ ap (λ (f : ℕ → Lit). f (c.args.tree.now.bound + 1)) outs) in
-    let handed = subst (λ (l : Lit). TakesClauses ((l ∷ []) ∷ []) (sink.state c.emit_part.new.sink) (sink.state c.clause.new.self)) same c.in_ok-clause.ensures in
-    emitting_ends {all = tree_clauses s t c.args.tree.now.first} (emitting_step ((top ∷ []) ∷ []) _ (emitting_step (clauses_of s t c.args.tree.now.first) _ (emitting_starts _ _) c.in_ok-root.ensures.hands) handed)
+    let top : Lit = negated (output s t c.args.whole.now.first s.cap) in
+    let outs = ap (output_in c.in_ok-root.root.outputs) c.as_slice.ensures.value ∙ c.in_ok-root.ensures.emitted.outputs_are in
+    let same : c.not.result ≡ top = c.not.ensures ∙ ap negated (c.of.ensures ∙ ap (λ (f : ℕ → Lit). f (c.args.whole.now.bound + 1)) outs) in
+    let handed = subst (λ (l : Lit). TakesClauses ((l ∷ []) ∷ []) (sink.state c.emit_nodes.new.sink) (sink.state c.clause.new.self)) same c.in_ok-clause.ensures in
+    emitting_ends {all = tree_clauses s t c.args.whole.now.first} (emitting_step ((top ∷ []) ∷ []) _ (emitting_step (clauses_of s t c.args.whole.now.first) _ (emitting_starts _ _) c.in_ok-root.ensures.hands) handed)
 
 pub returns-in_err-clause : goal.returns-in_err-clause
 returns-in_err-clause g c =
-    let s = generalized c.args.tree.now.bound in
-    let t = tree_of (weights c.args.tree.now.terms.now) in
+    let s = generalized c.args.whole.now.bound in
+    let t = tree_of (weights c.args.whole.now.terms.now) in
     let sink = g.S.ClauseSink in
-    let top : Lit = negated (output s t c.args.tree.now.first s.cap) in
-    let outs = ap (output_in c.in_ok-root.root.outputs) c.as_slice.ensures.value ∙ c.in_ok-root.ensures.outputs in
-    let same : c.not.result ≡ top = c.not.ensures ∙ ap negated (c.of.ensures ∙ ap (λ (f : ℕ → Lit). f (c.args.tree.now.bound + 1)) outs) in
-    let part = subst (λ (l : Lit). FailsInClauses ((l ∷ []) ∷ []) (sink.state c.emit_part.new.sink) (sink.state c.clause.new.self)) same c.in_err-clause.ensures in
-    stops_fault {all = tree_clauses s t c.args.tree.now.first} c.from_residual-in_err-clause.result fault.Failed ((top ∷ []) ∷ []) [] _ c.from_residual-in_err-clause.ensures.1
-    (emitting_step (clauses_of s t c.args.tree.now.first) _ (emitting_starts _ _) c.in_ok-root.ensures.hands) part
+    let top : Lit = negated (output s t c.args.whole.now.first s.cap) in
+    let outs = ap (output_in c.in_ok-root.root.outputs) c.as_slice.ensures.value ∙ c.in_ok-root.ensures.emitted.outputs_are in
+    let same : c.not.result ≡ top = c.not.ensures ∙ ap negated (c.of.ensures ∙ ap (λ (f : ℕ → Lit). f (c.args.whole.now.bound + 1)) outs) in
+    let part = subst (λ (l : Lit). FailsInClauses ((l ∷ []) ∷ []) (sink.state c.emit_nodes.new.sink) (sink.state c.clause.new.self)) same c.in_err-clause.ensures in
+    stops_fault {all = tree_clauses s t c.args.whole.now.first} c.from_residual-in_err-clause.result fault.Failed ((top ∷ []) ∷ []) [] _ c.from_residual-in_err-clause.ensures.1
+    (emitting_step (clauses_of s t c.args.whole.now.first) _ (emitting_starts _ _) c.in_ok-root.ensures.hands) part

@@ -15,47 +15,47 @@ use Rattle.pb_totalizer.proofs.exact_derivation.derive_exact_clauses.Goals as go
 
 pub returns-in_err-root : goal.returns-in_err-root
 returns-in_err-root g c =
-    let ts = c.args.tree.now.terms.now in
-    let ends = least_justification c.args.tree.now.bound (tree_of (weights ts)) 0 c.args.id c.args.lower ∷ root_justification (totalizer c.args.tree.now.bound) (tree_of (weights ts)) 0 c.args.id c.args.upper ∷ [] in
-    justifications_stopped c.from_residual.result _ (justifications_by Both c.args.tree.now.bound ts c.args.id) ends (g.T.StepSink.state c.args.sink.now) (g.T.StepSink.state c.derive_part.new.sink) c.from_residual.ensures.1 c.in_err-root.ensures.hands
+    let ts = c.args.whole.now.terms.now in
+    let ends = least_justification c.args.whole.now.bound (tree_of (weights ts)) 0 c.args.id c.args.lower ∷ root_justification (totalizer c.args.whole.now.bound) (tree_of (weights ts)) 0 c.args.id c.args.upper ∷ [] in
+    justifications_stopped c.from_residual.result _ (justifications_by Both c.args.whole.now.bound ts c.args.id) ends (g.T.StepSink.state c.args.sink.now) (g.T.StepSink.state c.derive_nodes.new.sink) c.from_residual.ensures.1 c.in_err-root.ensures.hands
 
 pub derive_least-requires-clause-few : goal.derive_least-requires-clause-few
 derive_least-requires-clause-few g c =
-    let next = justifications_next (justifications_by Both c.args.tree.now.bound c.args.tree.now.terms.now c.args.id) (g.T.StepSink.state c.args.sink.now) (g.T.StepSink.state c.derive_part.new.sink) c.in_ok-root.ensures.hands in
+    let next = justifications_next (justifications_by Both c.args.whole.now.bound c.args.whole.now.terms.now c.args.id) (g.T.StepSink.state c.args.sink.now) (g.T.StepSink.state c.derive_nodes.new.sink) c.in_ok-root.ensures.hands in
     omega (arith, next, c.requires.room)
 
 pub returns-in_err-derive_least : goal.returns-in_err-derive_least
 returns-in_err-derive_least g c =
-    let ts = c.args.tree.now.terms.now in
-    let root = c.in_ok-root.root.source in
+    let ts = c.args.whole.now.terms.now in
+    let root = c.in_ok-root.root in
     let old = g.T.StepSink.state c.args.sink.now in
-    let mid = g.T.StepSink.state c.derive_part.new.sink in
+    let mid = g.T.StepSink.state c.derive_nodes.new.sink in
     let new = g.T.StepSink.state c.derive_least.new.sink in
-    let same = exact_ends_last c.args.tree.now.bound ts c.args.id c.args.lower c.args.upper root c.in_ok-root.ensures.source in
+    let same = exact_ends_last c.args.whole.now.bound ts c.args.id c.args.lower c.args.upper root c.in_ok-root.ensures.source in
     let result = c.from_residual-in_err-derive_least.result in
     steps_same result _ _ old new (same.steps old.next)
-    (justifications_then result (justifications_by Both c.args.tree.now.bound ts c.args.id) (least_given root c.args.tree.now.bound c.args.lower ∷ root_given root (c.args.tree.now.bound + 1) c.args.upper ∷ []) old mid new c.in_ok-root.ensures.hands
-    (justifications_stopped result _ (least_given root c.args.tree.now.bound c.args.lower ∷ []) (root_given root (c.args.tree.now.bound + 1) c.args.upper ∷ []) mid new c.from_residual-in_err-derive_least.ensures.1 c.in_err-derive_least.ensures))
+    (justifications_then result (justifications_by Both c.args.whole.now.bound ts c.args.id) (least_given root c.args.whole.now.bound c.args.lower ∷ root_given root (c.args.whole.now.bound + 1) c.args.upper ∷ []) old mid new c.in_ok-root.ensures.hands
+    (justifications_stopped result _ (least_given root c.args.whole.now.bound c.args.lower ∷ []) (root_given root (c.args.whole.now.bound + 1) c.args.upper ∷ []) mid new c.from_residual-in_err-derive_least.ensures.1 c.in_err-derive_least.ensures))
 
 pub derive_root-requires-clause-few : goal.derive_root-requires-clause-few
 derive_root-requires-clause-few g c =
-    let root = c.in_ok-root.root.source in
-    let mid = g.T.StepSink.state c.derive_part.new.sink in
-    let next = justifications_next (justifications_by Both c.args.tree.now.bound c.args.tree.now.terms.now c.args.id) (g.T.StepSink.state c.args.sink.now) mid c.in_ok-root.ensures.hands in
-    let after = justifications_next (least_given root c.args.tree.now.bound c.args.lower ∷ []) mid (g.T.StepSink.state c.derive_least.new.sink) c.in_ok-derive_least.ensures in
+    let root = c.in_ok-root.root in
+    let mid = g.T.StepSink.state c.derive_nodes.new.sink in
+    let next = justifications_next (justifications_by Both c.args.whole.now.bound c.args.whole.now.terms.now c.args.id) (g.T.StepSink.state c.args.sink.now) mid c.in_ok-root.ensures.hands in
+    let after = justifications_next (least_given root c.args.whole.now.bound c.args.lower ∷ []) mid (g.T.StepSink.state c.derive_least.new.sink) c.in_ok-derive_least.ensures in
     omega (arith, next, after, c.requires.room)
 
 pub returns : goal.returns
 returns g c =
-    let ts = c.args.tree.now.terms.now in
-    let root = c.in_ok-root.root.source in
+    let ts = c.args.whole.now.terms.now in
+    let root = c.in_ok-root.root in
     let old = g.T.StepSink.state c.args.sink.now in
-    let mid = g.T.StepSink.state c.derive_part.new.sink in
+    let mid = g.T.StepSink.state c.derive_nodes.new.sink in
     let one = g.T.StepSink.state c.derive_least.new.sink in
     let new = g.T.StepSink.state c.derive_root.new.sink in
-    let least = least_given root c.args.tree.now.bound c.args.lower in
-    let most = root_given root (c.args.tree.now.bound + 1) c.args.upper in
-    let same = exact_ends_last c.args.tree.now.bound ts c.args.id c.args.lower c.args.upper root c.in_ok-root.ensures.source in
+    let least = least_given root c.args.whole.now.bound c.args.lower in
+    let most = root_given root (c.args.whole.now.bound + 1) c.args.upper in
+    let same = exact_ends_last c.args.whole.now.bound ts c.args.id c.args.lower c.args.upper root c.in_ok-root.ensures.source in
     steps_same c.derive_root.result _ _ old new (same.steps old.next)
-    (justifications_then c.derive_root.result (justifications_by Both c.args.tree.now.bound ts c.args.id) (least ∷ most ∷ []) old mid new c.in_ok-root.ensures.hands
+    (justifications_then c.derive_root.result (justifications_by Both c.args.whole.now.bound ts c.args.id) (least ∷ most ∷ []) old mid new c.in_ok-root.ensures.hands
     (justifications_then c.derive_root.result (least ∷ []) (most ∷ []) mid one new c.in_ok-derive_least.ensures c.derive_root.ensures))

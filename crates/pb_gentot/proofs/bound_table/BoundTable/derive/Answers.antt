@@ -1,12 +1,9 @@
 use Rattle.std.proofs.Common.{◌≡◌, ℕ, List, sym, ap, ◌∙◌, subst}
 use Rattle.pb_base.specs.declared.literal.Term.{Term}
-use Rattle.pb_norm.specs.Constraints.{Weighted, weights}
+use Rattle.pb_norm.specs.Constraints.{AllPositive, Weighted, weights}
 use Rattle.pb_family.proofs.Deriving.{steps_same}
-use Rattle.pb_tree.proofs.Splitting.{leaf_listed}
-use Rattle.pb_gentot.specs.BoundTable.{IsTable}
 use Rattle.pb_gentot.specs.BoundTableSteps.{table_steps}
 use Rattle.pb_gentot.specs.inner.KeptTables.{steps_by}
-use Rattle.pb_gentot.proofs.TableValues.{each_positive}
 use Rattle.pb_gentot.proofs.bound_table.BoundTable.derive.Goals as goal
 
 pub returns : goal.returns
@@ -19,6 +16,4 @@ returns g c =
     steps_same c.derive_table.result _ _ old (g.T.StepSink.state c.derive_table.new.sink) same c.derive_table.ensures
 
 pub derive_table-requires-clause-positive : goal.derive_table-requires-clause-positive
-derive_table-requires-clause-positive g c = λ u h.
-    let ts = c.as_slice.result.now in
-    each_positive (weights ts) (subst (λ (us : List Term). IsTable (weights us)) (sym c.as_slice.ensures.value) c.self.invariant.table) u (leaf_listed (weights ts) u h)
+derive_table-requires-clause-positive g c = subst (λ (ts : List Term). AllPositive (weights ts)) (sym c.as_slice.ensures.value) c.self.invariant.table.positive

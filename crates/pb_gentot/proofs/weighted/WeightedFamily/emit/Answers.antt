@@ -1,26 +1,19 @@
-use Rattle.std.proofs.Common.{◌+◌, List, length, ap, arith, sym, subst}
+use Rattle.std.proofs.Common.{◌+◌, List, sym, subst}
 use Rattle.std.specs.Prelude.{Contains}
 use Rattle.pb_base.specs.declared.literal.Term.{Term}
-use Rattle.pb_tree.specs.Tree.{tree_of}
-use Rattle.pb_tree.specs.Scheme.{values, fresh_of}
-use Rattle.pb_gentot.specs.Generalized.{generalized}
-use Rattle.std.proofs.lemmas.List.{length-map}
-use Rattle.pb_norm.specs.Constraints.{weighted, weights}
 use Rattle.pb_norm.specs.BoundedSums.{sum_within}
+use Rattle.pb_norm.specs.Constraints.{weights}
+use Rattle.pb_tree.specs.Tree.{tree_of}
+use Rattle.pb_tree.specs.Scheme.{values}
+use Rattle.pb_gentot.specs.Generalized.{generalized}
 use Rattle.pb_gentot.specs.laws.GeneralizedLaws.{generalized_cap}
-use Rattle.pb_gentot.proofs.Bounds.{some_terms}
+use Rattle.pb_gentot.proofs.WholeTrees.{whole_of}
 use Rattle.pb_gentot.proofs.weighted.WeightedFamily.emit.Goals as goal
 
-pub invariant_of-tree : goal.invariant_of-tree
-invariant_of-tree g c =
+pub invariant_of-whole : goal.invariant_of-whole
+invariant_of-whole g c =
     let f = c.args.self.now in
-    let long = length-map f.terms.items weighted in
-    record {
-      some = omega (arith, long, some_terms f.bound (weights f.terms.items) f.proper.heavy, ap length c.as_slice.ensures.value);
-      small = f.small;
-      low = c.requires.low;
-      fits = omega (arith, c.requires.fits, ap (λ (ts : List Term). fresh_of (generalized f.bound) (tree_of (weights ts))) c.as_slice.ensures.value);
-    }
+    record { whole = whole_of f.terms.items c.as_slice.result.now f.bound c.args.first f.proper f.small f.light c.as_slice.ensures.value c.requires.low c.requires.fits }
 
 pub emit_whole-requires : goal.emit_whole-requires
 emit_whole-requires g c =

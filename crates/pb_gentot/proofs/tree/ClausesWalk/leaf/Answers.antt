@@ -1,0 +1,23 @@
+use Rattle.std.proofs.Common.{[]}
+use Rattle.pb_norm.specs.Constraints.{weights}
+use Rattle.pb_family.proofs.Emission.{emitting_starts}
+use Rattle.pb_family.proofs.Stopping.{stops_between}
+use Rattle.pb_tree.specs.Tree.{tree_of}
+use Rattle.pb_tree.proofs.SplitTerms.{leaf_of}
+use Rattle.pb_gentot.proofs.Emitting.{rising_values}
+use Rattle.pb_gentot.proofs.Parts.{all_within}
+use Rattle.pb_gentot.proofs.tree.ClausesWalk.leaf.Goals as goal
+
+pub returns-in_err-values-clause-hands : goal.returns-in_err-values-clause-hands
+returns-in_err-values-clause-hands g c = stops_between {all = []} {left = []} c.from_residual.result c.from_residual.ensures.1 (emitting_starts [] (g.S.ClauseSink.state c.args._sink.now))
+
+pub returns-clause-leaves : goal.returns-clause-leaves
+returns-clause-leaves g c =
+    let bound = c.args.self.now.whole.now.bound in
+    let t = tree_of (weights c.args.terms.now) in
+    let us = c.in_ok-values.values.items in
+    record {
+      values_are = c.in_ok-values.ensures;
+      outputs_are = rw (leaf_of c.args.terms.now c.index-terms-0.result c.requires.one);
+      within = record { rising = rising_values bound t us c.in_ok-values.ensures; small = all_within bound t us c.in_ok-values.ensures; room = tt };
+    }

@@ -1,0 +1,67 @@
+use Rattle.std.proofs.Common.{◌≡◌, ◌+◌, ◌*◌, List, map, refl, arith, Ok}
+use Rattle.std.specs.Prelude.{Result}
+use Rattle.pb_derive.specs.Claims.{claim_steps}
+use Rattle.pb_derive.specs.Justifications.{Justification, by_justification}
+use Rattle.pb_family.specs.declared.sink.SinkFault.{SinkFault}
+use Rattle.pb_family.proofs.Deriving.{steps_same}
+use Rattle.pb_tree.proofs.TreeHanded.{steps_stopped}
+use Rattle.pb_totalizer.specs.laws.Polarity.{own_given}
+use Rattle.pb_totalizer.proofs.Halved.{halved, node_of}
+use Rattle.pb_totalizer.proofs.PartsHanded.{node_same, node_source}
+use Rattle.pb_totalizer.proofs.handing.ClaimsWalk.node.Goals as goal
+
+pub overflow_add-left : goal.overflow_add-left
+overflow_add-left g c =
+    let w = c.args.self.now.whole.now in
+    let half = halved w.bound c.requires.parts.halves in
+    omega (arith, half.left_within, half.right_within, c.requires.left.count, c.requires.right.count, w.whole.more, w.whole.few)
+
+pub invariant_of-node : goal.invariant_of-node
+invariant_of-node g c =
+    let w = c.args.self.now.whole.now in
+    let own = node_of c.requires.parts c.requires.suits c.min-count.ensures c.requires.left.count c.requires.right.count in
+    record {
+      room = omega (arith, own.within, c.args.self.now.ids);
+      left_within = omega (arith, own.half.left_within, c.requires.left.count);
+      right_within = omega (arith, own.half.right_within, c.requires.right.count);
+      counted = c.min-count.ensures;
+      few = omega (arith, w.whole.more, w.whole.few);
+    }
+
+pub derive_own-requires : goal.derive_own-requires
+derive_own-requires g c =
+    let parts = c.args.parts.now in
+    let self = c.args.self.now in
+    let same = node_same self.whole.now.bound c.requires.parts self.id (self.id + 2 * parts.next) refl self.polarity c.min-count.result parts.left.now parts.right.now c.min-count.ensures c.requires.left c.requires.right in
+    omega (arith, same.count, c.requires.room)
+
+pub returns-in_err-derive_own-clause-hands : goal.returns-in_err-derive_own-clause-hands
+returns-in_err-derive_own-clause-hands g c =
+    let parts = c.args.parts.now in
+    let self = c.args.self.now in
+    let old = g.T.StepSink.state c.args.sink.now in
+    let new = g.T.StepSink.state c.derive_own.new.sink in
+    let given : List Justification = own_given self.polarity (self.whole.now.bound + 1) c.min-count.result parts.left.now.count parts.right.now.count parts.left.now.source parts.lefts.now parts.right.now.source parts.rights.now (self.id + 2 * parts.next) in
+    let same = node_same self.whole.now.bound c.requires.parts self.id (self.id + 2 * parts.next) refl self.polarity c.min-count.result parts.left.now parts.right.now c.min-count.ensures c.requires.left c.requires.right in
+    steps_same c.from_residual.result _ _ old new (same.steps old.next)
+    (steps_stopped c.from_residual.result _ (claim_steps old.next (map by_justification given)) old new c.from_residual.ensures.1 c.in_err-derive_own.ensures)
+
+pub returns-clause-hands : goal.returns-clause-hands
+returns-clause-hands g c =
+    let parts = c.args.parts.now in
+    let self = c.args.self.now in
+    let old = g.T.StepSink.state c.args.sink.now in
+    let new = g.T.StepSink.state c.derive_own.new.sink in
+    let same = node_same self.whole.now.bound c.requires.parts self.id (self.id + 2 * parts.next) refl self.polarity c.min-count.result parts.left.now parts.right.now c.min-count.ensures c.requires.left c.requires.right in
+    let done : Result (Unit {0}) SinkFault = Ok tt in
+    steps_same done _ _ old new (same.steps old.next) c.in_ok-derive_own.ensures
+
+pub returns-clause-next : goal.returns-clause-next
+returns-clause-next g c = (node_of c.requires.parts c.requires.suits c.min-count.ensures c.requires.left.count c.requires.right.count).after
+
+pub returns-clause-leaves : goal.returns-clause-leaves
+returns-clause-leaves g c =
+    let parts = c.args.parts.now in
+    let self = c.args.self.now in
+    let own = node_of c.requires.parts c.requires.suits c.min-count.ensures c.requires.left.count c.requires.right.count in
+    record { ids = node_source self.whole.now.bound c.requires.parts self.id (self.id + 2 * parts.next) refl; count = own.counted }

@@ -1,0 +1,51 @@
+use Rattle.std.proofs.Common.{arith, ◌≡◌, ◌+◌, ◌++◌, ℕ, List, length, refl, sym, subst}
+use Rattle.std.specs.Prelude.{IfOk}
+use Rattle.pb_norm.specs.Constraints.{weights}
+use Rattle.pb_tree.specs.Scheme.{along}
+use Rattle.pb_tree.specs.Tree.{tree_of}
+use Rattle.pb_tree.specs.inner.Walks.{fresh_over}
+use Rattle.pb_tree.proofs.Walking.{leaf_along, leaf_fresh, front_suits, back_suits, node_along, node_count}
+use Rattle.pb_tree.proofs.walk.+walk_along.Goals as goal
+
+pub returns-then-terms-eq1-clause-hands : goal.returns-then-terms-eq1-clause-hands
+returns-then-terms-eq1-clause-hands g t c =
+    let w = g.W.Walk in
+    subst (λ (xs : List w.Item). w.hands xs c.leaf.result c.args.sink.now c.leaf.new.sink) (leaf_along (w.scheme c.args.of.now) (w.own c.args.of.now) c.args.terms.now c.args.before c.if-terms-eq1.true) c.leaf.ensures.hands
+
+pub returns-then-terms-eq1-clause-next : goal.returns-then-terms-eq1-clause-next
+returns-then-terms-eq1-clause-next g t c =
+    let none : c.args.before ≡ c.args.before + fresh_over (g.W.Walk.scheme c.args.of.now) c.args.terms.now = omega (arith, leaf_fresh (g.W.Walk.scheme c.args.of.now) c.args.terms.now c.if-terms-eq1.true) in
+    subst (λ (n : ℕ). IfOk c.leaf.result (λ placed. placed.next ≡ n)) none c.leaf.ensures.next
+
+pub walk_along-requires : goal.walk_along-requires
+walk_along-requires g t c κs within =
+    let w = g.W.Walk in
+    let s = w.scheme c.args.of.now in
+    let own = w.own c.args.of.now in
+    let parts = c.halves.ensures in
+    let room = g.met.W.Walk.room_first (length (along s own (tree_of (weights c.halves.result.0.now)) c.args.before)) _ c.args.sink.now
+    (subst (λ (n : ℕ). w.has_room n c.args.sink.now) (node_count parts s own c.args.before (c.args.before + fresh_over s c.halves.result.0.now) refl) c.requires.room) in
+    (omega (arith, parts.whole, parts.back_some), (within.0, (within.1.0, (within.1.1.0, (within.1.1.1, (parts.front_some, (front_suits parts c.requires.suits, room)))))))
+
+pub walk_along-requires-2 : goal.walk_along-requires-2
+walk_along-requires-2 g t c κs within =
+    let w = g.W.Walk in
+    let s = w.scheme c.args.of.now in
+    let own = w.own c.args.of.now in
+    let parts = c.halves.ensures in
+    let at = c.in_ok-left.ensures.next in
+    let rest = g.met.W.Walk.room_then (along s own (tree_of (weights c.halves.result.0.now)) c.args.before) _ c.in_ok-left.left c.args.sink.now c.walk_along.new.sink
+    (subst (λ (n : ℕ). w.has_room n c.args.sink.now) (node_count parts s own c.args.before c.in_ok-left.left.next at) c.requires.room) c.in_ok-left.ensures.hands in
+    let room = g.met.W.Walk.room_first (length (along s own (tree_of (weights c.halves.result.1.now)) c.in_ok-left.left.next)) _ c.walk_along.new.sink rest in
+    (omega (arith, parts.whole, parts.front_some), (within.0, (within.1.0, (within.1.1.0, (within.1.1.1, (parts.back_some, (back_suits parts c.requires.suits c.in_ok-left.left.next at, room)))))))
+
+pub node-requires-clause-room : goal.node-requires-clause-room
+node-requires-clause-room g t c =
+    let w = g.W.Walk in
+    let s = w.scheme c.args.of.now in
+    let own = w.own c.args.of.now in
+    let parts = c.halves.ensures in
+    let at = c.in_ok-left.ensures.next in
+    let rest = g.met.W.Walk.room_then (along s own (tree_of (weights c.halves.result.0.now)) c.args.before) _ c.in_ok-left.left c.args.sink.now c.walk_along.new.sink
+    (subst (λ (n : ℕ). w.has_room n c.args.sink.now) (node_count parts s own c.args.before c.in_ok-left.left.next at) c.requires.room) c.in_ok-left.ensures.hands in
+    g.met.W.Walk.room_then (along s own (tree_of (weights c.halves.result.1.now)) c.in_ok-left.left.next) _ c.in_ok-right.right c.walk_along.new.sink c.walk_along-2.new.sink rest c.in_ok-right.ensures.hands
