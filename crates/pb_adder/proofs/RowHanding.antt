@@ -1,7 +1,6 @@
 -- The rows of a comparator that are claimed one after another.
 use Rattle.std.proofs.Common.{◌≡◌, ◌≤◌, ◌+◌, ◌/◌, ◌++◌, ◌∙◌, ℕ, List, [], ◌∷◌, length, sym, ap, subst, arith}
-use Rattle.std.specs.Prelude.{map, Option, Some, None, Result, IsErrAnd}
-use Rattle.std.proofs.lemmas.Bool.{cond_both}
+use Rattle.std.specs.Prelude.{map, Option, Result, IsErrAnd}
 use Rattle.std.proofs.lemmas.List.{length-map, map-append}
 use Rattle.pb_base.specs.declared.literal.Lit.{Lit}
 use Rattle.pb_steps.specs.declared.step.Step.{Step}
@@ -11,8 +10,9 @@ use Rattle.pb_family.specs.StepSinks.{StepState, TakesSteps, StopsInSteps, Hands
 use Rattle.pb_family.specs.declared.sink.SinkFault.{SinkFault}
 use Rattle.pb_family.proofs.Deriving.{Deriving, deriving_as, deriving_step, steps_fault, takes_no_steps}
 use Rattle.pb_adder.specs.AdderSteps.{row_claims}
-use Rattle.pb_adder.specs.Comparator.{is_odd, covering, row_of, row_at, row_clause, comparator}
+use Rattle.pb_adder.specs.Comparator.{row_at, row_clause, comparator}
 use Rattle.pb_adder.specs.declared.gate.Wire.{Wire}
+use Rattle.pb_adder.specs.laws.RowLengths.{row_at_few}
 use Rattle.pb_adder.proofs.RowSteps.{level_rows}
 use Rattle.pb_adder.proofs.Walks.{claims-append, claims_ids}
 
@@ -22,16 +22,6 @@ by_last id next cs = claim_steps next (row_claims id cs)
 
 pub no_rows : {R : Type 0} (id : ℕ) (cs : List (List Lit)) (a : StepState R) → cs ≡ [] → TakesSteps (by_last id a.next cs) a a
 no_rows id cs a none = subst (λ (ds : List (List Lit)). TakesSteps (by_last id a.next ds) a a) (sym none) (takes_no_steps a)
-
--- a level has one row at most
-pub row_at_few : (bound : ℕ) (e : Option Wire) (above : List (Option Wire)) → length (row_at bound e above) ≤ 1
-row_at_few bound None above = omega arith
-row_at_few bound (Some w) above =
-    cond_both (is_odd bound) [] (row_of w (covering (bound / 2) above)) (λ (r : List (List Wire)). length r ≤ 1) (λ _. omega arith) (λ _. few (covering (bound / 2) above))
-  where
-    few : (found : Option (List Wire)) → length (row_of w found) ≤ 1
-    few None = omega arith
-    few (Some ws) = omega arith
 
 module _ {R : Type 0} {all : List Step} {old now : StepState R} (first bound id : ℕ) (e : Option Wire) (rest above : List (Option Wire)) (split : rest ≡ e ∷ above)
     (left : Deriving all (by_last id now.next (comparator first bound rest)) old now) where

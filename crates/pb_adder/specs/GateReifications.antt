@@ -1,5 +1,5 @@
 -- What the two fresh variables of an adder mean (Eén and Sörensson 2006; Gocht, Martins, Nordström and Oertel 2022).
-use Rattle.std.specs.Prelude.{ℕ, ◌+◌, List, [], ◌∷◌, ◌++◌}
+use Rattle.std.specs.Prelude.{ℕ, ◌+◌, List, [], ◌∷◌, ◌++◌, map}
 use Rattle.pb_base.specs.declared.literal.Lit.{Lit}
 use Rattle.pb_base.specs.Literals.{negated}
 use Rattle.pb_norm.specs.Constraints.{Weighted}
@@ -7,8 +7,7 @@ use Rattle.pb_family.specs.Fresh.{positive_of}
 use Rattle.pb_derive.specs.Reifications.{Reification}
 use Rattle.pb_derive.specs.Ones.{ones}
 use Rattle.pb_adder.specs.declared.gate.Gate.{Gate}
-use Rattle.pb_adder.specs.declared.gate.Gate.TheVariants.{Full, Half}
-use Rattle.pb_adder.specs.Gates.{wire_lit, made_of}
+use Rattle.pb_adder.specs.Gates.{gate_inputs, made_of, wire_lit}
 
 -- the carry d: two of the inputs are true
 abbrev pub carry_reification : List Lit → ℕ → Reification
@@ -27,8 +26,7 @@ abbrev pub adder_reifications : List Lit → ℕ → ℕ → List Reification
 adder_reifications inputs s d = carry_reification inputs d ∷ sum_reification inputs s d ∷ []
 
 abbrev pub input_lits : ℕ → Gate → List Lit
-input_lits first (Full a b c made) = wire_lit first a ∷ wire_lit first b ∷ wire_lit first c ∷ []
-input_lits first (Half a b made) = wire_lit first a ∷ wire_lit first b ∷ []
+input_lits first g = map (wire_lit first) (gate_inputs g)
 
 abbrev pub sum_var : ℕ → Gate → ℕ
 sum_var first g = first + made_of g

@@ -11,6 +11,7 @@ pub mod Extends
 pub mod GateClaims
 pub mod GateLaws
 pub mod GateRups
+pub mod GateTables
 pub mod Leveling
 pub mod LineOps
 pub mod LinesRun

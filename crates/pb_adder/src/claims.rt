@@ -1,5 +1,5 @@
 //! The clauses of adders and of a comparator, each of which follows by propagation.
-ghost use Rattle.std.specs.Prelude.{◌≡◌, ◌≤◌, ◌<◌, ◌+◌, ◌*◌, ◌^◌, ◌∷◌, [], All, map, length};
+ghost use Rattle.std.specs.Prelude.{◌≡◌, ◌≤◌, ◌<◌, ◌+◌, ◌*◌, ◌^◌, ◌∷◌, ◌++◌, [], All, map, length};
 ghost use Rattle.pb_derive.specs.Rups.{by_rup};
 ghost use Rattle.pb_adder.specs.AdderSteps.{gate_claims, gate_ids, row_claims};
 ghost use Rattle.pb_adder.specs.Comparator.{comparator, end_needs};
@@ -8,7 +8,8 @@ ghost use Rattle.pb_adder.specs.inner.Rows.{rows_in};
 ghost use Rattle.pb_family.specs.inner.HandedJustifications.{HandsClaims};
 
 use crate::comparator::row_at;
-use crate::gate::{FullAdder, Gate, GateLits, HalfAdder, Wire};
+use crate::emit::{full_carries, full_sums, half_threes, half_twos};
+use crate::gate::{Gate, GateLits, Wire};
 use crate::row::Row;
 use pb_base::Lit;
 use pb_family::{SinkFault, StepSink, derive_propagated};
@@ -30,36 +31,19 @@ fn derive_each<const N: usize, T: StepSink>(
     Ok(())
 }
 
-impl FullAdder {
-    ghost use Rattle.std.specs.Prelude.{◌<◌, ◌+◌, ◌^◌, map};
-    ghost use Rattle.pb_derive.specs.Rups.{by_rup};
-    ghost use Rattle.pb_family.specs.inner.HandedJustifications.{HandsClaims};
-    ghost use Rattle.pb_adder.specs.Gates.{full_clauses};
-
-    /// Hands over that its clauses follow from constraints, and the clauses.
-    fn claim<T: StepSink>(&self, alloc: Global, ids: &[u64], sink: &mut T) -> Result<(), SinkFault>
-        requires few { (T.state sink.old).next + 14 < 2 ^ 62 }
-        ensures { HandsClaims (map (by_rup ids.now) (full_clauses self.now.a self.now.b self.now.c self.now.sum self.now.carry)) result (T.state sink.old) (T.state sink.new) }
-    {
-        derive_each(alloc, ids, &self.sums(), sink)?;
-        derive_each(alloc, ids, &self.carries(), sink)
-    }
-}
-
-impl HalfAdder {
-    ghost use Rattle.std.specs.Prelude.{◌<◌, ◌+◌, ◌^◌, map};
-    ghost use Rattle.pb_derive.specs.Rups.{by_rup};
-    ghost use Rattle.pb_family.specs.inner.HandedJustifications.{HandsClaims};
-    ghost use Rattle.pb_adder.specs.Gates.{half_clauses};
-
-    /// Hands over that its clauses follow from constraints, and the clauses.
-    fn claim<T: StepSink>(&self, alloc: Global, ids: &[u64], sink: &mut T) -> Result<(), SinkFault>
-        requires few { (T.state sink.old).next + 7 < 2 ^ 62 }
-        ensures { HandsClaims (map (by_rup ids.now) (half_clauses self.now.a self.now.b self.now.sum self.now.carry)) result (T.state sink.old) (T.state sink.new) }
-    {
-        derive_each(alloc, ids, &self.threes(), sink)?;
-        derive_each(alloc, ids, &self.twos(), sink)
-    }
+/// The same for clauses of one length, and then for those of another.
+fn derive_both<const N: usize, const M: usize, T: StepSink>(
+    alloc: Global,
+    ids: &[u64],
+    long: &[[Lit; N]],
+    short: &[[Lit; M]],
+    sink: &mut T,
+) -> Result<(), SinkFault>
+    requires few { (T.state sink.old).next + length (long.now ++ short.now) < 2 ^ 62 }
+    ensures { HandsClaims (map (by_rup ids.now) (long.now ++ short.now)) result (T.state sink.old) (T.state sink.new) }
+{
+    derive_each(alloc, ids, long, sink)?;
+    derive_each(alloc, ids, short, sink)
 }
 
 /// Hands over the clauses of an adder, whose constraints have four ids, from `id` on.
@@ -78,8 +62,16 @@ fn derive_gate<T: StepSink>(
 {
     let ids = [id, id + 1, id + 2, id + 3];
     match gate.lits(first) {
-        GateLits::Three(full) => full.claim(alloc, &ids, sink),
-        GateLits::Two(half) => half.claim(alloc, &ids, sink),
+        GateLits::Three(x) => {
+            let sums = full_sums(x.a, x.b, x.c, x.sum);
+            let carries = full_carries(x.a, x.b, x.c, x.carry);
+            derive_both(alloc, &ids, &sums, &carries, sink)
+        },
+        GateLits::Two(x) => {
+            let threes = half_threes(x.a, x.b, x.sum, x.carry);
+            let twos = half_twos(x.a, x.b, x.carry);
+            derive_both(alloc, &ids, &threes, &twos, sink)
+        },
     }
 }
 

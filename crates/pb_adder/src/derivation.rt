@@ -2,7 +2,7 @@
 use crate::adder::Adder;
 use crate::claims::{derive_gates, derive_rows};
 use crate::reifications::derive_reifications;
-use crate::sums::{derive_last_deletion, derive_sums};
+use crate::sums::{Summands, derive_last_deletion, derive_sums};
 use pb_family::{SinkFault, StepSink, derive_deletions};
 use std::alloc::Global;
 
@@ -51,7 +51,11 @@ impl Adder {
         ensures { HandsFrom (proving_steps (weights self.now.terms) self.now.bound first id base) result (T.state sink.old) (T.state sink.new) }
     {
         let heights = self.heights.as_slice();
-        let last = derive_sums(alloc, heights, base, id, sink)?;
+        let summands = Summands {
+            levels: heights,
+            id: base,
+        };
+        let last = derive_sums(alloc, summands, id, sink)?;
         self.derive_clauses(alloc, first, base, last, sink)?;
         derive_last_deletion(alloc, heights, last, sink)
     }

@@ -15,6 +15,59 @@ const HEIGHT: u32 = 16;
 
 const BLOCK: usize = 1 << HEIGHT;
 
+/// The levels of adders, whose constraints have four ids each, from `id` on.
+#[derive(Clone, Copy)]
+pub struct Summands<'a> {
+    pub levels: &'a [u32],
+    pub id: u64,
+    ghost low: { All (λ l. l < 126) levels.now },
+    ghost fits: { id + 4 * length levels.now < 2 ^ 62 },
+}
+
+/// Those of a block.
+#[derive(Clone, Copy)]
+struct Block<'a> {
+    of: Summands<'a>,
+    ghost some: { 1 ≤ length of.levels.now },
+    ghost few: { length of.levels.now ≤ 2 ^ 16 },
+}
+
+impl<'a> Summands<'a> {
+    ghost use Rattle.std.specs.Prelude.{◌≡◌, ◌≤◌, ◌<◌, ◌+◌, ◌*◌, ◌∷◌, drop, length, take};
+    ghost use Rattle.pb_adder.specs.AdderSteps.{blocks};
+
+    /// Those before a place, and the others.
+    fn split_at(self, place: usize) -> (Self, Self)
+        requires { place ≤ length self.levels.now }
+        ensures front { result.0.levels.now ≡ take place self.entry.levels.now }
+        ensures back { result.1.levels.now ≡ drop place self.entry.levels.now }
+        ensures id { result.0.id ≡ self.entry.id }
+        ensures later { result.1.id ≡ self.entry.id + 4 * place }
+    {
+        let (front, back) = self.levels.split_at(place);
+        let id = self.id + 4 * place as u64;
+        let first = Summands {
+            levels: front,
+            id: self.id,
+        };
+        let later = Summands { levels: back, id };
+        (first, later)
+    }
+
+    /// Those of the first block, and the others.
+    fn first_block(self) -> (Block<'a>, Self)
+        requires { 0 < length self.levels.now }
+        ensures split { blocks self.entry.levels.now ≡ result.0.of.levels.now ∷ blocks result.1.levels.now }
+        ensures size { length result.0.of.levels.now + length result.1.levels.now ≡ length self.entry.levels.now }
+        ensures id { result.0.of.id ≡ self.entry.id }
+        ensures later { result.1.id ≡ self.entry.id + 4 * length result.0.of.levels.now }
+    {
+        let (of, later) = self.split_at(BLOCK.min(self.levels.len()));
+        let block = Block { of };
+        (block, later)
+    }
+}
+
 /// How often an adder at a level counts.
 fn times_at(level: u32) -> i128
     requires low { level < 126 }
@@ -39,38 +92,32 @@ fn push_line(ops: &mut Vec<PolOp>, level: u32, id: u64) -> Result<(), AllocError
 }
 
 /// Adds the sum of what up to 2^height adders say, halves before the whole, so that few terms are added often.
-fn push_tree(ops: &mut Vec<PolOp>, height: u32, levels: &[u32], id: u64) -> Result<(), AllocError>
-    requires some { 1 ≤ length levels.now }
+fn push_tree(ops: &mut Vec<PolOp>, height: u32, of: Summands) -> Result<(), AllocError>
+    requires some { 1 ≤ length of.levels.now }
     requires high { height ≤ 16 }
-    requires few { length levels.now ≤ 2 ^ height }
-    requires low { All (λ l. l < 126) levels.now }
-    requires fits { id + 4 * length levels.now < 2 ^ 62 }
-    ensures { IfOk result (λ _. ops.new.items ≡ ops.old.items ++ tree_ops height id levels.now) }
+    requires few { length of.levels.now ≤ 2 ^ height }
+    ensures { IfOk result (λ _. ops.new.items ≡ ops.old.items ++ tree_ops height of.entry.id of.entry.levels.now) }
 {
     if height == 0 {
-        return push_line(ops, levels[0], id);
+        return push_line(ops, of.levels[0], of.id);
     }
     let half: usize = 1 << (height - 1);
-    if levels.len() <= half {
-        return push_tree(ops, height - 1, levels, id);
+    if of.levels.len() <= half {
+        return push_tree(ops, height - 1, of);
     }
-    let (lefts, rights) = levels.split_at(half);
-    push_tree(ops, height - 1, lefts, id)?;
-    push_tree(ops, height - 1, rights, id + 4 * half as u64)?;
+    let (lefts, rights) = of.split_at(half);
+    push_tree(ops, height - 1, lefts)?;
+    push_tree(ops, height - 1, rights)?;
     ops.push(PolOp::Add)?;
     Ok(())
 }
 
-/// The step of a block of adders at levels, whose constraints have four ids each, from `id` on.
-fn sum_step(alloc: Global, levels: &[u32], id: u64, running: u64) -> Result<Step, AllocError>
-    requires some { 1 ≤ length levels.now }
-    requires few { length levels.now ≤ 2 ^ 16 }
-    requires low { All (λ l. l < 126) levels.now }
-    requires fits { id + 4 * length levels.now < 2 ^ 62 }
-    ensures { IfOk result (λ step. step ≡ Pol (sum_ops id levels.now running)) }
+/// The step of a block.
+fn sum_step(alloc: Global, block: Block, running: u64) -> Result<Step, AllocError>
+    ensures { IfOk result (λ step. step ≡ Pol (sum_ops block.entry.of.id block.entry.of.levels.now running)) }
 {
     let mut ops = Vec::new(alloc);
-    push_tree(&mut ops, HEIGHT, levels, id)?;
+    push_tree(&mut ops, HEIGHT, block.of)?;
     ops.push(PolOp::Push(running))?;
     ops.push(PolOp::Add)?;
     Ok(Step::Pol(PolOps::from_vec(ops)))
@@ -79,93 +126,75 @@ fn sum_step(alloc: Global, levels: &[u32], id: u64, running: u64) -> Result<Step
 /// Hands over the sum of a block.
 fn derive_sum<T: StepSink>(
     alloc: Global,
-    levels: &[u32],
-    id: u64,
+    block: Block,
     running: u64,
     sink: &mut T,
 ) -> Result<(), SinkFault>
-    requires some { 1 ≤ length levels.now }
-    requires few { length levels.now ≤ 2 ^ 16 }
-    requires low { All (λ l. l < 126) levels.now }
-    requires fits { id + 4 * length levels.now < 2 ^ 62 }
     requires room { (T.state sink.old).next + 1 < 2 ^ 62 }
-    ensures { HandsSteps (Pol (sum_ops id levels.now running) ∷ []) result (T.state sink.old) (T.state sink.new) }
+    ensures { HandsSteps (Pol (sum_ops block.entry.of.id block.entry.of.levels.now running) ∷ []) result (T.state sink.old) (T.state sink.new) }
 {
-    let step = sum_step(alloc, levels, id, running)?;
+    let step = sum_step(alloc, block, running)?;
     sink.step(&step)
 }
 
 /// Hands over the sum of a block, and that the one before it goes.
 fn derive_later_sum<T: StepSink>(
     alloc: Global,
-    levels: &[u32],
-    id: u64,
+    block: Block,
     running: u64,
     sink: &mut T,
 ) -> Result<(), SinkFault>
-    requires some { 1 ≤ length levels.now }
-    requires few { length levels.now ≤ 2 ^ 16 }
-    requires low { All (λ l. l < 126) levels.now }
-    requires fits { id + 4 * length levels.now < 2 ^ 62 }
     requires given { running < 2 ^ 62 }
     requires room { (T.state sink.old).next + 1 < 2 ^ 62 }
-    ensures { HandsSteps (Pol (sum_ops id levels.now running) ∷ deletion_steps 1 running 1) result (T.state sink.old) (T.state sink.new) }
+    ensures { HandsSteps (Pol (sum_ops block.entry.of.id block.entry.of.levels.now running) ∷ deletion_steps 1 running 1) result (T.state sink.old) (T.state sink.new) }
 {
-    derive_sum(alloc, levels, id, running, sink)?;
+    derive_sum(alloc, block, running, sink)?;
     derive_deletion(alloc, running, 1, sink)
 }
 
 /// Hands over the sums of later blocks, each with that the one before it goes, and gives the id of the last one.
 fn derive_later_sums<T: StepSink>(
     alloc: Global,
-    levels: &[u32],
-    id: u64,
+    of: Summands,
     running: u64,
     sink: &mut T,
 ) -> Result<u64, SinkFault>
-    requires low { All (λ l. l < 126) levels.now }
-    requires fits { id + 4 * length levels.now < 2 ^ 62 }
     requires given { running < 2 ^ 62 }
-    requires room { (T.state sink.old).next + length levels.now < 2 ^ 62 }
-    ensures steps { HandsSteps (later_sums id running (T.state sink.old).next (blocks levels.now)) result (T.state sink.old) (T.state sink.new) }
-    ensures last { IfOk result (λ last. last ≡ last_sum running (T.state sink.old).next (blocks levels.now)) }
+    requires room { (T.state sink.old).next + length of.levels.now < 2 ^ 62 }
+    ensures steps { HandsSteps (later_sums of.entry.id running (T.state sink.old).next (blocks of.entry.levels.now)) result (T.state sink.old) (T.state sink.new) }
+    ensures last { IfOk result (λ last. last ≡ last_sum running (T.state sink.old).next (blocks of.entry.levels.now)) }
 {
-    let mut id = id;
     let mut running = running;
-    let mut rest = levels;
-    while rest.len() > 0 {
-        let (block, later) = rest.split_at(BLOCK.min(rest.len()));
+    let mut rest = of;
+    while rest.levels.len() > 0 {
+        let (block, later) = rest.first_block();
         let next = sink.next_id();
-        derive_later_sum(alloc, block, id, running, sink)?;
+        derive_later_sum(alloc, block, running, sink)?;
         running = next;
-        id += 4 * block.len() as u64;
         rest = later;
     }
     Ok(running)
 }
 
-/// Hands over the sums of adders at levels, block by block, from the constraint with the id `running` on, and gives the id
-/// of the last one. The constraints of each adder have four ids, from `id` on.
+/// Hands over the sums of adders, block by block, from the constraint with the id `running` on, and gives the id of the last
+/// one.
 pub fn derive_sums<T: StepSink>(
     alloc: Global,
-    levels: &[u32],
-    id: u64,
+    of: Summands,
     running: u64,
     sink: &mut T,
 ) -> Result<u64, SinkFault>
-    requires low { All (λ l. l < 126) levels.now }
-    requires fits { id + 4 * length levels.now < 2 ^ 62 }
-    requires room { (T.state sink.old).next + length levels.now < 2 ^ 62 }
-    ensures steps { HandsSteps (sum_steps id running (T.state sink.old).next (blocks levels.now)) result (T.state sink.old) (T.state sink.new) }
-    ensures last { IfOk result (λ last. last ≡ last_sum running (T.state sink.old).next (blocks levels.now)) }
+    requires room { (T.state sink.old).next + length of.levels.now < 2 ^ 62 }
+    ensures steps { HandsSteps (sum_steps of.entry.id running (T.state sink.old).next (blocks of.entry.levels.now)) result (T.state sink.old) (T.state sink.new) }
+    ensures last { IfOk result (λ last. last ≡ last_sum running (T.state sink.old).next (blocks of.entry.levels.now)) }
 {
-    if levels.len() == 0 {
+    if of.levels.len() == 0 {
         return Ok(running);
     }
-    let (block, later) = levels.split_at(BLOCK.min(levels.len()));
+    let (block, later) = of.first_block();
     let next = sink.next_id();
-    derive_sum(alloc, block, id, running, sink)?;
-    derive_later_sums(alloc, later, id + 4 * block.len() as u64, next, sink)
+    derive_sum(alloc, block, running, sink)?;
+    derive_later_sums(alloc, later, next, sink)
 }
 
 /// Hands over that the last sum goes, where there is an adder.

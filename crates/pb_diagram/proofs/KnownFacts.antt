@@ -1,212 +1,305 @@
--- What a map from beginnings to ends finds, and what it is after an insertion.
-use Rattle.std.proofs.Common.{◌≡◌, ◌<◌, ◌≤◌, ◌⊎◌, ◌++◌, ◌&&◌, ℕ, Bool, true, false, not, List, [], ◌∷◌, length, sym, ap, ◌∙◌, subst, arith, inl, inr, length-append}
+-- Runs of intervals in order: to which of them a residue belongs, and what they are after an insertion and a division.
+use Rattle.std.proofs.Common.{◌≡◌, ◌<◌, ◌≤◌, ◌+◌, ◌-◌, ◌⊎◌, ◌++◌, ℕ, true, false, leb, List, [], ◌∷◌, length, get_or, set, sym, ap, ◌∙◌, subst, arith, inl, inr, zero, suc, refl, take, drop, Option, None, Some, length-append}
 use Rattle.std.specs.Prelude.{Contains}
-use Rattle.std.specs.List.{filter}
-use Rattle.std.specs.Ordering.{nat_cmp, is_lt}
-use Rattle.std.specs.Cmp.{nat_cmp_is}
-use Rattle.std.specs.BTreeMap.{insert_entry}
-use Rattle.std.specs.declared.cmp.Ordering.{Ordering}
-use Rattle.std.specs.declared.cmp.Ordering.TheVariants.{Less, Equal, Greater}
-use Rattle.std.specs.Ordering.{match_ordering}
-use Rattle.std.proofs.lemmas.Bool.{cases_lt, both_ways, cond-true, cond-false}
+use Rattle.std.specs.List.{insert}
+use Rattle.std.specs.List.Sorted.{IsPartitionedBy, IsPartitionPoint}
+use Rattle.std.proofs.lemmas.Bool.{cases_lt, le-leb, leb-true, both_ways}
+use Rattle.std.proofs.lemmas.List.{append_assoc, append-nil, get_or_default, length-drop, length-take-le, set-get_or, take-append-drop}
+use Rattle.std.proofs.lemmas.List.Edits.{get_or-insert_above}
+use Rattle.std.proofs.lemmas.List.Elements.{Contains-append_left, Contains-append_right, Contains-append_cases}
 use Rattle.pb_base.proofs.Members.{Contains-nil, Contains-here, Contains-there, Contains-cons_cases}
 use Rattle.pb_diagram.specs.declared.interval.Interval.{Interval}
-use Rattle.pb_diagram.specs.inner.Known.{interval_of_entry, intervals_of, Rise}
-use Rattle.pb_diagram.specs.Levels.{interval_from}
-use Rattle.pb_diagram.specs.inner.Nodes.{LiesIn}
+use Rattle.pb_diagram.specs.inner.Known.{Rise, AreFull, AreRuns, IsRunOf, begins_by, intervals_in}
 use Rattle.pb_diagram.specs.Intervals.{AreApart}
-use Rattle.pb_diagram.specs.laws.Search.{IsGrown}
+use Rattle.pb_diagram.specs.laws.Search.{IsFound, IsGrown, IsUnknown}
+use Rattle.pb_diagram.proofs.RunFacts.{apart_append, apart_parts}
+
+-- ---- where a residue belongs
+
+pub among_runs : (runs : List (List Interval)) (place : ℕ) (d : List Interval) (h : Interval) → place < length runs → Contains (get_or runs place d) h → Contains (intervals_in runs) h
+among_runs [] place d h within among = absurd (omega arith)
+among_runs (r ∷ rs) zero d h within among = Contains-append_left r (intervals_in rs) h among
+among_runs (r ∷ rs) (suc place) d h within among = Contains-append_right r (intervals_in rs) h (among_runs rs place d h (omega arith) among)
+
+begin_of : (run : List Interval) (residue : ℕ) → begins_by run residue ≡ true → (x : Interval) × Contains run x × x.low ≤ residue
+begin_of [] residue begins = absurd (both_ways false refl begins)
+begin_of (g ∷ gs) residue begins = (g, Contains-here g gs, leb-true g.low residue begins)
+
+rest_runs : (r : List Interval) (rs : List (List Interval)) → AreRuns (r ∷ rs) → AreRuns rs
+rest_runs r rs runs = record {
+  apart = (apart_parts r (intervals_in rs) runs.apart).1;
+  rise = λ g among. runs.rise g (Contains-append_right r (intervals_in rs) g among);
+  full = λ run among. runs.full run (Contains-there r rs run among);
+}
+
+-- the runs that end before a residue, and those that begin above it
+abbrev IsAround : List (List Interval) → ℕ → ℕ → Type 0
+IsAround [] residue place = ⊥
+IsAround (r ∷ rs) residue zero = (h : Interval) → Contains (intervals_in rs) h → residue < h.low
+IsAround (r ∷ rs) residue (suc place) = ((h : Interval) → Contains r h → h.top ≤ residue) × IsAround rs residue place
+
+past : (rs : List (List Interval)) (residue : ℕ) → AreRuns rs → ((d : List Interval) → 0 < length rs → begins_by (get_or rs 0 d) residue ≡ false) → (h : Interval) → Contains (intervals_in rs) h → residue < h.low
+past [] residue runs ends h among = absurd (Contains-nil h among)
+past ([] ∷ rs) residue runs ends h among = absurd (omega (arith, runs.full [] (Contains-here [] rs)))
+past ((g ∷ gs) ∷ rs) residue runs ends h among =
+    let begin : residue < g.low = elim (cases_lt residue g.low) as (λ _. residue < g.low) [
+      | inl above ↦ above
+      | inr le ↦ absurd (both_ways (leb g.low residue) (ends [] (omega arith)) (le-leb g.low residue le))
+    ] in
+    elim (Contains-cons_cases g (gs ++ intervals_in rs) h among) as (λ _. residue < h.low) [
+      | inl is_g ↦ subst (λ (j : Interval). residue < j.low) is_g begin
+      | inr later ↦ let order = runs.apart.0 h later in let up = runs.rise g (Contains-here g (gs ++ intervals_in rs)) in omega arith
+    ]
+
+around : (rs : List (List Interval)) (residue place : ℕ) → AreRuns rs → place < length rs
+    → ((d : List Interval) → 0 < place → begins_by (get_or rs place d) residue ≡ true) → ((d : List Interval) → suc place < length rs → begins_by (get_or rs (suc place) d) residue ≡ false)
+    → IsAround rs residue place
+around [] residue place runs within begins ends = absurd (omega arith)
+around (r ∷ rs) residue zero runs within begins ends = past rs residue (rest_runs r rs runs) (λ d some. ends d (omega arith))
+around (r ∷ rs) residue (suc place) runs within begins ends =
+    let x = begin_of (get_or rs place []) residue (begins [] (omega arith)) in (
+      (λ h among.
+          let order = (apart_parts r (intervals_in rs) runs.apart).2 h x.0 among (among_runs rs place [] x.0 (omega arith) x.1) in
+          let low = x.2 in
+          omega arith),
+      around rs residue place (rest_runs r rs runs) (omega arith) (λ d some. begins d (omega arith)) (λ d some. ends d (omega arith)),
+    )
+
+around_of : (rs : List (List Interval)) (residue place : ℕ) → AreRuns rs → place < length rs → IsRunOf rs residue place → IsAround rs residue place
+around_of rs residue place runs within is =
+    let next : place + 1 ≡ suc place = omega arith in
+    around rs residue place runs within is.begins (λ d inside. subst (λ (n : ℕ). begins_by (get_or rs n d) residue ≡ false) next (is.ends d (omega arith)))
+
+pub begins_part : (rs : List (List Interval)) (residue : ℕ) → AreRuns rs → IsPartitionedBy (λ run. begins_by run residue) rs
+begins_part [] residue runs i j d le within begins = absurd (omega arith)
+begins_part (r ∷ rs) residue runs zero zero d le within begins = begins
+begins_part (r ∷ rs) residue runs (suc i) zero d le within begins = absurd (omega arith)
+begins_part (r ∷ rs) residue runs (suc i) (suc j) d le within begins = begins_part rs residue (rest_runs r rs runs) i j d (omega arith) (omega arith) begins
+begins_part ([] ∷ rs) residue runs zero (suc j) d le within begins = absurd (omega (arith, runs.full [] (Contains-here [] rs)))
+begins_part ((g ∷ gs) ∷ rs) residue runs zero (suc j) d le within begins =
+    let x = begin_of (get_or rs j d) residue begins in
+    let order = (apart_parts (g ∷ gs) (intervals_in rs) runs.apart).2 g x.0 (Contains-here g gs) (among_runs rs j d x.0 (omega arith) x.1) in
+    let up = runs.rise g (Contains-here g (gs ++ intervals_in rs)) in
+    let low = x.2 in
+    le-leb g.low residue (omega arith)
+
+pub run_found : (runs : List (List Interval)) (residue point : ℕ) → point ≤ length runs → IsPartitionPoint (λ run. begins_by run residue ≡ true) (λ run. begins_by run residue ≡ false) runs point → IsRunOf runs residue (point - 1)
+run_found runs residue point bound is = record {
+  within = λ some. omega arith;
+  begins = λ d some. is.0 (point - 1) d (omega arith) (omega arith);
+  ends = λ d within. is.1 (point - 1 + 1) d (omega arith) within;
+}
 
 -- ---- find
 
--- a test that passes the entries that begin not above a residue
-abbrev is_from : ℕ → ℕ × ℕ → Bool
-is_from residue e = true && not (is_lt (nat_cmp residue e.0))
+module _ (residue : ℕ) where
+  unknown_at : (rs : List (List Interval)) (place : ℕ) (d : List Interval) → place < length rs → IsAround rs residue place → IsUnknown (get_or rs place d) residue → IsUnknown (intervals_in rs) residue
+  unknown_at [] place d within is here h among inside = absurd (omega arith)
+  unknown_at (r ∷ rs) zero d within is here h among inside =
+      elim (Contains-append_cases r (intervals_in rs) h among) as (λ _. ⊥) [
+        | inl mine ↦ here h mine inside
+        | inr later ↦ let above = is h later in omega (arith, inside.0)
+      ]
+  unknown_at (r ∷ rs) (suc place) d within is here h among inside =
+      elim (Contains-append_cases r (intervals_in rs) h among) as (λ _. ⊥) [
+        | inl early ↦ let ended = is.0 h early in omega (arith, inside.1)
+        | inr mine ↦ unknown_at rs place d (omega arith) is.1 here h mine inside
+      ]
 
-from_true : (residue : ℕ) (e : ℕ × ℕ) → e.0 ≤ residue → is_from residue e ≡ true
-from_true residue e h =
-    elim (cases_lt e.0 residue) as (λ _. is_from residue e ≡ true) [
-      | inl below ↦ ap (λ (o : Ordering). true && not (is_lt o)) (sym (nat_cmp_is residue e.0 Greater below))
-      | inr above ↦ let same : residue ≡ e.0 = omega arith in ap (λ (o : Ordering). true && not (is_lt o)) (sym (nat_cmp_is residue e.0 Equal same))
-    ]
-
-from_false : (residue : ℕ) (e : ℕ × ℕ) → residue < e.0 → is_from residue e ≡ false
-from_false residue e h = ap (λ (o : Ordering). true && not (is_lt o)) (sym (nat_cmp_is residue e.0 Less h))
-
-begins : (residue : ℕ) (e : ℕ × ℕ) → is_from residue e ≡ true → e.0 ≤ residue
-begins residue e h =
-    elim (cases_lt residue e.0) as (λ _. e.0 ≤ residue) [
-      | inl above ↦ absurd (both_ways (is_from residue e) (from_false residue e above) h)
-      | inr le ↦ le
-    ]
-
--- the last of the entries that begin not above a residue
-record IsLast (residue : ℕ) (es : List (ℕ × ℕ)) (e : ℕ × ℕ) : Type 0 where
-  among : Contains (intervals_of es) (interval_of_entry e)
-  low : e.0 ≤ residue
-  others : (h : Interval) → Contains (intervals_of es) h → h.low ≤ residue → (interval_of_entry e ≡ h) ⊎ (h.top ≤ e.0)
-
-none_begins : (residue : ℕ) (es : List (ℕ × ℕ)) → filter (is_from residue) es ≡ [] → (h : Interval) → Contains (intervals_of es) h → residue < h.low
-none_begins residue [] none h among = absurd (Contains-nil h among)
-none_begins residue (k ∷ es) none h among =
-    elim (cases_lt residue k.0) as (λ _. residue < h.low) [
-      | inl above ↦
-          let skip = cond-false (is_from residue k) (k ∷ filter (is_from residue) es) (filter (is_from residue) es) (from_false residue k above) in
-          elim (Contains-cons_cases (interval_of_entry k) (intervals_of es) h among) as (λ _. residue < h.low) [
-            | inl e ↦ subst (λ (j : Interval). residue < j.low) e above
-            | inr later ↦ none_begins residue es (sym skip ∙ none) h later
-          ]
-      | inr le ↦
-          let keep = cond-true (is_from residue k) (k ∷ filter (is_from residue) es) (filter (is_from residue) es) (from_true residue k le) in
-          let same : (k ∷ filter (is_from residue) es) ≡ [] = sym keep ∙ none in
-          absurd (omega (arith, ap length same))
-    ]
-
-last_kept : (residue : ℕ) (k : ℕ × ℕ) (es front : List (ℕ × ℕ)) (e : ℕ × ℕ) → AreApart (intervals_of (k ∷ es)) → ((front : List (ℕ × ℕ)) → filter (is_from residue) es ≡ front ++ e ∷ [] → IsLast residue es e) → k.0 ≤ residue → (k ∷ filter (is_from residue) es) ≡ front ++ e ∷ [] → IsLast residue (k ∷ es) e
-last_kept residue k es [] e apart later_last le same =
-    let head : k ≡ e = cc in
-    let none : filter (is_from residue) es ≡ [] = cc in
-    subst (λ (j : ℕ × ℕ). IsLast residue (k ∷ es) j) head (record {
-      among = Contains-here (interval_of_entry k) (intervals_of es);
-      low = le;
-      others = λ h among low.
-          elim (Contains-cons_cases (interval_of_entry k) (intervals_of es) h among) as (λ _. (interval_of_entry k ≡ h) ⊎ (h.top ≤ k.0)) [
-            | inl is_k ↦ inl is_k
-            | inr later ↦ let above = none_begins residue es none h later in absurd (omega arith)
-          ];
-    })
-last_kept residue k es (j ∷ front) e apart later_last le same =
-    let tail : filter (is_from residue) es ≡ front ++ e ∷ [] = cc in
-    let rest = later_last front tail in
-    record {
-      among = Contains-there (interval_of_entry k) (intervals_of es) (interval_of_entry e) rest.among;
-      low = rest.low;
-      others = λ h among low.
-          elim (Contains-cons_cases (interval_of_entry k) (intervals_of es) h among) as (λ _. (interval_of_entry e ≡ h) ⊎ (h.top ≤ e.0)) [
-            | inl is_k ↦ inr (subst (λ (j : Interval). j.top ≤ e.0) is_k (apart.0 (interval_of_entry e) rest.among))
-            | inr later ↦ rest.others h later low
-          ];
-    }
-
-last_one : (residue : ℕ) (es front : List (ℕ × ℕ)) (e : ℕ × ℕ) → AreApart (intervals_of es) → filter (is_from residue) es ≡ front ++ e ∷ [] → IsLast residue es e
-last_one residue [] front e apart same = absurd (omega (arith, ap length same, length-append front (e ∷ [])))
-last_one residue (k ∷ es) front e apart same =
-    elim (cases_lt residue k.0) as (λ _. IsLast residue (k ∷ es) e) [
-      | inl above ↦
-          let skip = cond-false (is_from residue k) (k ∷ filter (is_from residue) es) (filter (is_from residue) es) (from_false residue k above) in
-          let rest = last_one residue es front e apart.1 (sym skip ∙ same) in
-          record {
-            among = Contains-there (interval_of_entry k) (intervals_of es) (interval_of_entry e) rest.among;
-            low = rest.low;
-            others = λ h among le.
-                elim (Contains-cons_cases (interval_of_entry k) (intervals_of es) h among) as (λ _. (interval_of_entry e ≡ h) ⊎ (h.top ≤ e.0)) [
-                  | inl is_k ↦ let low : k.0 ≤ residue = subst (λ (j : Interval). j.low ≤ residue) (sym is_k) le in absurd (omega arith)
-                  | inr later ↦ rest.others h later le
-                ];
-          }
-      | inr le ↦
-          let keep = cond-true (is_from residue k) (k ∷ filter (is_from residue) es) (filter (is_from residue) es) (from_true residue k le) in
-          last_kept residue k es front e apart (λ front same. last_one residue es front e apart.1 same) le (sym keep ∙ same)
-    ]
-
--- the last entry that begins not above the residue holds it, if any does
-pub find_holds : (residue : ℕ) (es front : List (ℕ × ℕ)) (now : List Interval) (low top : ℕ) → intervals_of es ≡ now → AreApart now → filter (λ e. true && not (is_lt (nat_cmp residue e.0))) es ≡ front ++ (low, top) ∷ [] → residue < top
-    → Contains now (interval_from low top) × LiesIn residue (interval_from low top)
-find_holds residue es front now low top view apart same below =
-    let last = last_one residue es front (low, top) (subst AreApart (sym view) apart) same in
-    (subst (λ (l : List Interval). Contains l (interval_from low top)) view last.among, (last.low, below))
-
-pub find_fails : (residue : ℕ) (es front : List (ℕ × ℕ)) (now : List Interval) (low top : ℕ) → intervals_of es ≡ now → AreApart now → filter (λ e. true && not (is_lt (nat_cmp residue e.0))) es ≡ front ++ (low, top) ∷ [] → top ≤ residue
-    → (h : Interval) → Contains now h → ¬ LiesIn residue h
-find_fails residue es front now low top view apart same past h among inside =
-    let last = last_one residue es front (low, top) (subst AreApart (sym view) apart) same in
-    elim (last.others h (subst (λ (l : List Interval). Contains l h) (sym view) among) inside.0) as (λ _. ⊥) [
-      | inl e ↦ let end = ap (λ (j : Interval). j.top) e in omega (arith, inside.1)
-      | inr before ↦ let le = last.low in omega (arith, inside.1)
-    ]
-
-pub find_none : (residue : ℕ) (es : List (ℕ × ℕ)) (now : List Interval) → intervals_of es ≡ now → filter (λ e. true && not (is_lt (nat_cmp residue e.0))) es ≡ [] → (h : Interval) → Contains now h → ¬ LiesIn residue h
-find_none residue es now view none h among inside = let above = none_begins residue es none h (subst (λ (l : List Interval). Contains l h) (sym view) among) in omega (arith, inside.0)
+  -- what is found in the residue's run is found in all
+  pub found_in : (rs : List (List Interval)) (place : ℕ) (d : List Interval) (found : Option Interval) → AreRuns rs → place < length rs → IsRunOf rs residue place → IsFound (get_or rs place d) residue found → IsFound (intervals_in rs) residue found
+  found_in rs place d None runs within is here = unknown_at rs place d within (around_of rs residue place runs within is) here
+  found_in rs place d (Some g) runs within is here = (among_runs rs place d g within here.0, here.1)
 
 -- ---- insert
 
-insert_cons : (k v : ℕ) (e : ℕ × ℕ) (es : List (ℕ × ℕ)) (o : Ordering) → o ≡ nat_cmp k e.0 → insert_entry nat_cmp (e ∷ es) k v ≡ match_ordering o ((k, v) ∷ e ∷ es) ((e.0, v) ∷ es) (e ∷ insert_entry nat_cmp es k v)
-insert_cons k v e es o same = ap (λ (o : Ordering). match_ordering o ((k, v) ∷ e ∷ es) ((e.0, v) ∷ es) (e ∷ insert_entry nat_cmp es k v)) (sym same)
+module _ (g : Interval) (r more : List Interval) (grown : IsGrown r g more) where
+  grown_before : (rest : List Interval) → AreApart (r ++ rest) → ((h : Interval) → Contains rest h → g.top ≤ h.low) → IsGrown (r ++ rest) g (more ++ rest)
+  grown_before rest apart after =
+      let parts = apart_parts r rest apart in
+      record {
+        here = Contains-append_left more rest g grown.here;
+        keeps = λ h among.
+            elim (Contains-append_cases r rest h among) as (λ _. Contains (more ++ rest) h) [
+              | inl mine ↦ Contains-append_left more rest h (grown.keeps h mine)
+              | inr later ↦ Contains-append_right more rest h later
+            ];
+        cases = λ h among.
+            elim (Contains-append_cases more rest h among) as (λ _. (g ≡ h) ⊎ Contains (r ++ rest) h) [
+              | inl mine ↦ elim (grown.cases h mine) as (λ _. (g ≡ h) ⊎ Contains (r ++ rest) h) [
+                | inl is_g ↦ inl is_g
+                | inr old ↦ inr (Contains-append_left r rest h old)
+              ]
+              | inr later ↦ inr (Contains-append_right r rest h later)
+            ];
+        apart = apart_append more rest grown.apart parts.1
+            (λ x y in_x in_y. elim (grown.cases x in_x) as (λ _. x.top ≤ y.low) [
+              | inl is_g ↦ subst (λ (j : Interval). j.top ≤ y.low) is_g (after y in_y)
+              | inr old ↦ parts.2 x y old in_y
+            ]);
+        longer = let count = grown.longer in omega (arith, length-append r rest, length-append more rest);
+      }
 
-inserted_entry : (low top : ℕ) (es : List (ℕ × ℕ)) → low < top → AreApart (intervals_of es) → Rise (intervals_of es) → ((h : Interval) → Contains (intervals_of es) h → (h.top ≤ low) ⊎ (top ≤ h.low))
-    → IsGrown (intervals_of es) (interval_from low top) (intervals_of (insert_entry nat_cmp es low top))
-inserted_entry low top [] rises apart rise elsewhere = record {
-  here = Contains-here (interval_from low top) [];
-  keeps = λ h among. absurd (Contains-nil h among);
-  cases = λ h among. Contains-cons_cases (interval_from low top) [] h among;
-  apart = ((λ h among. absurd (Contains-nil h among)), tt);
-  longer = omega arith;
-}
-inserted_entry low top (e ∷ es) rises apart rise elsewhere =
-    let g = interval_from low top in
-    let k = interval_of_entry e in
-    let rest = intervals_of es in
-    let rise_k = rise k (Contains-here k rest) in
-    let Goal : List (ℕ × ℕ) → Type 0 = λ l. IsGrown (k ∷ rest) g (intervals_of l) in
-    elim (elsewhere k (Contains-here k rest)) as (λ _. Goal (insert_entry nat_cmp (e ∷ es) low top)) [
-      | inl before ↦
-          let greater : e.0 < low = omega arith in
-          let more = inserted_entry low top es rises apart.1 (λ h among. rise h (Contains-there k rest h among)) (λ h among. elsewhere h (Contains-there k rest h among)) in
-          let now = intervals_of (insert_entry nat_cmp es low top) in
-          subst Goal (sym (insert_cons low top e es Greater (nat_cmp_is low e.0 Greater greater))) (record {
-            here = Contains-there k now g more.here;
-            keeps = λ h among.
-                elim (Contains-cons_cases k rest h among) as (λ _. Contains (k ∷ now) h) [
-                  | inl is_k ↦ subst (λ (j : Interval). Contains (k ∷ now) j) is_k (Contains-here k now)
-                  | inr later ↦ Contains-there k now h (more.keeps h later)
-                ];
-            cases = λ h among.
-                elim (Contains-cons_cases k now h among) as (λ _. (g ≡ h) ⊎ Contains (k ∷ rest) h) [
-                  | inl is_k ↦ inr (subst (λ (j : Interval). Contains (k ∷ rest) j) is_k (Contains-here k rest))
-                  | inr later ↦ elim (more.cases h later) as (λ _. (g ≡ h) ⊎ Contains (k ∷ rest) h) [
-                    | inl is_g ↦ inl is_g
-                    | inr old ↦ inr (Contains-there k rest h old)
-                  ]
-                ];
-            apart = (
-              (λ h among.
-                  elim (more.cases h among) as (λ _. k.top ≤ h.low) [
-                    | inl is_g ↦ subst (λ (j : Interval). k.top ≤ j.low) is_g before
-                    | inr old ↦ apart.0 h old
-                  ]),
-              more.apart,
-            );
-            longer = let count = more.longer in omega arith;
-          })
-      | inr after ↦
-          let less : low < e.0 = omega arith in
-          subst Goal (sym (insert_cons low top e es Less (nat_cmp_is low e.0 Less less))) (record {
-            here = Contains-here g (k ∷ rest);
-            keeps = λ h among. Contains-there g (k ∷ rest) h among;
-            cases = λ h among. Contains-cons_cases g (k ∷ rest) h among;
-            apart = (
-              (λ h among.
-                  elim (Contains-cons_cases k rest h among) as (λ _. top ≤ h.low) [
-                    | inl is_k ↦ subst (λ (j : Interval). top ≤ j.low) is_k after
-                    | inr later ↦ let order = apart.0 h later in omega arith
-                  ]),
-              apart,
-            );
-            longer = omega arith;
-          })
-    ]
+  grown_after : (front : List Interval) → AreApart (front ++ r) → ((h : Interval) → Contains front h → h.top ≤ g.low) → IsGrown (front ++ r) g (front ++ more)
+  grown_after front apart before =
+      let parts = apart_parts front r apart in
+      record {
+        here = Contains-append_right front more g grown.here;
+        keeps = λ h among.
+            elim (Contains-append_cases front r h among) as (λ _. Contains (front ++ more) h) [
+              | inl early ↦ Contains-append_left front more h early
+              | inr mine ↦ Contains-append_right front more h (grown.keeps h mine)
+            ];
+        cases = λ h among.
+            elim (Contains-append_cases front more h among) as (λ _. (g ≡ h) ⊎ Contains (front ++ r) h) [
+              | inl early ↦ inr (Contains-append_left front r h early)
+              | inr mine ↦ elim (grown.cases h mine) as (λ _. (g ≡ h) ⊎ Contains (front ++ r) h) [
+                | inl is_g ↦ inl is_g
+                | inr old ↦ inr (Contains-append_right front r h old)
+              ]
+            ];
+        apart = apart_append front more parts.0 grown.apart
+            (λ x y in_x in_y. elim (grown.cases y in_y) as (λ _. x.top ≤ y.low) [
+              | inl is_g ↦ subst (λ (j : Interval). x.top ≤ j.low) is_g (before x in_x)
+              | inr old ↦ parts.2 x y in_x old
+            ]);
+        longer = let count = grown.longer in omega (arith, length-append front r, length-append front more);
+      }
 
-pub inserted_view : (low top : ℕ) (es : List (ℕ × ℕ)) (now : List Interval) → intervals_of es ≡ now → low < top → AreApart now → Rise (intervals_of es) → ((h : Interval) → Contains now h → (h.top ≤ low) ⊎ (top ≤ h.low))
-    → IsGrown now (interval_from low top) (intervals_of (insert_entry nat_cmp es low top))
-inserted_view low top es now view rises apart rise elsewhere =
-    subst (λ (l : List Interval). IsGrown l (interval_from low top) (intervals_of (insert_entry nat_cmp es low top))) view
-    (inserted_entry low top es rises (subst AreApart (sym view) apart) rise
-    (λ h among. elsewhere h (subst (λ (l : List Interval). Contains l h) view among)))
+module _ (g : Interval) (more : List Interval) where
+  grown_at : (rs : List (List Interval)) (place : ℕ) (d : List Interval) → AreApart (intervals_in rs) → Rise (intervals_in rs) → ((h : Interval) → Contains (intervals_in rs) h → (h.top ≤ g.low) ⊎ (g.top ≤ h.low))
+      → place < length rs → IsAround rs g.low place → IsGrown (get_or rs place d) g more → IsGrown (intervals_in rs) g (intervals_in (set rs place more))
+  grown_at [] place d apart rise elsewhere within is grown = absurd (omega arith)
+  grown_at (r ∷ rs) zero d apart rise elsewhere within is grown =
+      grown_before g r more grown (intervals_in rs) apart
+      (λ h among. let late = Contains-append_right r (intervals_in rs) h among in elim (elsewhere h late) as (λ _. g.top ≤ h.low) [
+        | inl under ↦ let above = is h among in let up = rise h late in absurd (omega arith)
+        | inr over ↦ over
+      ])
+  grown_at (r ∷ rs) (suc place) d apart rise elsewhere within is grown =
+      let later : (h : Interval) → Contains (intervals_in rs) h → Contains (r ++ intervals_in rs) h = λ h among. Contains-append_right r (intervals_in rs) h among in
+      grown_after g (intervals_in rs) (intervals_in (set rs place more))
+      (grown_at rs place d (apart_parts r (intervals_in rs) apart).1 (λ h among. rise h (later h among)) (λ h among. elsewhere h (later h among)) (omega arith) is.1 grown) r apart is.0
 
 -- all rise where an interval that rises joined others that do
-pub rise_grown : (nodes more : List Interval) (g : Interval) → IsGrown nodes g more → g.low < g.top → Rise nodes → Rise more
+rise_grown : (nodes more : List Interval) (g : Interval) → IsGrown nodes g more → g.low < g.top → Rise nodes → Rise more
 rise_grown nodes more g grown rises rise h among =
     elim (grown.cases h among) as (λ _. h.low < h.top) [
       | inl is_g ↦ subst (λ (j : Interval). j.low < j.top) is_g rises
       | inr old ↦ rise h old
     ]
+
+full_set : (rs : List (List Interval)) (place : ℕ) (more : List Interval) → AreFull rs → 0 < length more → AreFull (set rs place more)
+full_set [] place more full some = full
+full_set (r ∷ rs) zero more full some = λ run among.
+    elim (Contains-cons_cases more rs run among) as (λ _. 0 < length run) [
+      | inl is ↦ subst (λ (l : List Interval). 0 < length l) is some
+      | inr old ↦ full run (Contains-there r rs run old)
+    ]
+full_set (r ∷ rs) (suc place) more full some = λ run among.
+    elim (Contains-cons_cases r (set rs place more) run among) as (λ _. 0 < length run) [
+      | inl is ↦ subst (λ (l : List Interval). 0 < length l) is (full r (Contains-here r rs))
+      | inr later ↦ full_set rs place more (λ l old. full l (Contains-there r rs l old)) some run later
+    ]
+
+-- ---- two runs of one
+
+-- a run's first intervals, and the others
+pub record AreParts (rs : List (List Interval)) (place : ℕ) (lower upper : List Interval) : Type 0 where
+  pub joined : get_or rs place [] ≡ lower ++ upper
+  pub some : 0 < length lower
+  pub others : 0 < length upper
+
+pub parts_of : (rs now : List (List Interval)) (place count : ℕ) (r s lower upper : List Interval) → place < length rs → 0 < count → count < length (get_or rs place []) → r ≡ get_or rs place r → lower ≡ take count r
+    → now ≡ insert rs place lower → s ≡ get_or now (place + 1) s → upper ≡ drop count s → AreParts rs place lower upper
+parts_of rs now place count r s lower upper within some more r_is lower_is now_is s_is upper_is =
+    let run = get_or rs place [] in
+    let first : lower ≡ take count run = lower_is ∙ ap (take count) (r_is ∙ get_or_default rs place r [] within) in
+    let same : s ≡ run = s_is ∙ ap (λ (l : List (List Interval)). get_or l (place + 1) s) now_is ∙ get_or-insert_above rs place lower s place (omega arith) (omega arith) ∙ get_or_default rs place s [] within in
+    let rest : upper ≡ drop count run = upper_is ∙ ap (drop count) same in
+    record {
+      joined = sym (take-append-drop count run) ∙ ap (λ (l : List Interval). l ++ drop count run) (sym first) ∙ ap (λ (l : List Interval). lower ++ l) (sym rest);
+      some = omega (arith, ap length first, length-take-le count run (omega arith));
+      others = omega (arith, ap length rest, length-drop count run);
+    }
+
+module _ (lower upper : List Interval) where
+  halved : (rs : List (List Interval)) (place : ℕ) (d : List Interval) → place < length rs → get_or rs place d ≡ lower ++ upper → intervals_in (set (insert rs place lower) (suc place) upper) ≡ intervals_in rs
+  halved [] place d within is = absurd (omega arith)
+  halved (r ∷ rs) zero d within is = sym (append_assoc lower upper (intervals_in rs)) ∙ ap (λ (l : List Interval). l ++ intervals_in rs) (sym is)
+  halved (r ∷ rs) (suc place) d within is = ap (λ (l : List Interval). r ++ l) (halved rs place d (omega arith) is)
+
+  full_halved : (rs : List (List Interval)) (place : ℕ) → place < length rs → AreFull rs → 0 < length lower → 0 < length upper → AreFull (set (insert rs place lower) (suc place) upper)
+  full_halved [] place within full low up = absurd (omega arith)
+  full_halved (r ∷ rs) zero within full low up = λ run among.
+      elim (Contains-cons_cases lower (upper ∷ rs) run among) as (λ _. 0 < length run) [
+        | inl is ↦ subst (λ (l : List Interval). 0 < length l) is low
+        | inr other ↦ full_set (r ∷ rs) 0 upper full up run other
+      ]
+  full_halved (r ∷ rs) (suc place) within full low up = λ run among.
+      elim (Contains-cons_cases r (set (insert rs place lower) (suc place) upper) run among) as (λ _. 0 < length run) [
+        | inl is ↦ subst (λ (l : List Interval). 0 < length l) is (full r (Contains-here r rs))
+        | inr later ↦ full_halved rs place (omega arith) (λ l old. full l (Contains-there r rs l old)) low up run later
+      ]
+
+  after : (rs now : List (List Interval)) (place : ℕ) → now ≡ insert rs place lower → set now (place + 1) upper ≡ set (insert rs place lower) (suc place) upper
+  after rs now place now_is = let next : place + 1 ≡ suc place = omega arith in ap (λ (n : ℕ). set now n upper) next ∙ ap (λ (l : List (List Interval)). set l (suc place) upper) now_is
+
+  -- what was one run are two
+  pub same_split : (rs now : List (List Interval)) (place : ℕ) → place < length rs → AreParts rs place lower upper → now ≡ insert rs place lower → intervals_in (set now (place + 1) upper) ≡ intervals_in rs
+  same_split rs now place within parts now_is = ap intervals_in (after rs now place now_is) ∙ halved rs place [] within parts.joined
+
+  pub runs_split : (rs now : List (List Interval)) (place : ℕ) → place < length rs → AreRuns rs → AreParts rs place lower upper → now ≡ insert rs place lower → AreRuns (set now (place + 1) upper)
+  runs_split rs now place within runs parts now_is =
+      let same = sym (same_split rs now place within parts now_is) in
+      record {
+        apart = subst AreApart same runs.apart;
+        rise = subst Rise same runs.rise;
+        full = subst AreFull (sym (after rs now place now_is)) (full_halved rs place within runs.full parts.some parts.others);
+      }
+
+pub intervals_push : (rs : List (List Interval)) (run : List Interval) → intervals_in (rs ++ run ∷ []) ≡ intervals_in rs ++ run
+intervals_push [] run = append-nil run
+intervals_push (r ∷ rs) run = ap (λ (l : List Interval). r ++ l) (intervals_push rs run) ∙ sym (append_assoc r (intervals_in rs) run)
+
+-- ---- an insertion
+
+-- the run in which an interval goes, beside which all others stand
+pub record IsAt (rs : List (List Interval)) (g : Interval) (place : ℕ) (run : List Interval) : Type 0 where
+  pub runs : AreRuns rs
+  pub within : place < length rs
+  pub around : IsAround rs g.low place
+  pub is : run ≡ get_or rs place run
+  pub rises : g.low < g.top
+  pub elsewhere : (h : Interval) → Contains (intervals_in rs) h → (h.top ≤ g.low) ⊎ (g.top ≤ h.low)
+
+-- as the code finds it
+pub is_at : (rs seen : List (List Interval)) (now run : List Interval) (g : Interval) (place : ℕ) → AreRuns rs → seen ≡ rs → intervals_in rs ≡ now → 0 < length rs → IsRunOf seen g.low place
+    → run ≡ get_or rs place run → g.low < g.top → ((h : Interval) → Contains now h → (h.top ≤ g.low) ⊎ (g.top ≤ h.low)) → IsAt rs g place run
+is_at rs seen now run g place runs same view some is read rises elsewhere =
+    let found : IsRunOf rs g.low place = subst (λ (l : List (List Interval)). IsRunOf l g.low place) same is in
+    record {
+      runs = runs;
+      within = found.within some;
+      around = around_of rs g.low place runs (found.within some) found;
+      is = read;
+      rises = rises;
+      elsewhere = λ h among. elsewhere h (subst (λ (l : List Interval). Contains l h) view among);
+    }
+
+module _ (rs : List (List Interval)) (g : Interval) (place : ℕ) (run more : List Interval) (at : IsAt rs g place run) where
+  pub run_elsewhere : (h : Interval) → Contains run h → (h.top ≤ g.low) ⊎ (g.top ≤ h.low)
+  run_elsewhere h among = at.elsewhere h (among_runs rs place run h at.within (subst (λ (l : List Interval). Contains l h) at.is among))
+
+  pub run_kept : more ≡ run → AreRuns (set rs place more)
+  run_kept same = subst AreRuns (sym (ap (set rs place) (same ∙ at.is) ∙ set-get_or rs place run)) at.runs
+
+  pub run_grown : IsGrown run g more → IsGrown (intervals_in rs) g (intervals_in (set rs place more))
+  run_grown grown = grown_at g more rs place run at.runs.apart at.runs.rise at.elsewhere at.within at.around (subst (λ (l : List Interval). IsGrown l g more) at.is grown)
+
+  pub run_joined : IsGrown run g more → AreRuns (set rs place more)
+  run_joined grown = record {
+    apart = (run_grown grown).apart;
+    rise = rise_grown (intervals_in rs) (intervals_in (set rs place more)) g (run_grown grown) at.rises at.runs.rise;
+    full = full_set rs place more at.runs.full (let count = grown.longer in omega arith);
+  }

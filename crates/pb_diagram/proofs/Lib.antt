@@ -3,6 +3,7 @@ pub mod DiagramSteps
 pub mod Intervals
 pub mod Joins
 pub mod KnownFacts
+pub mod RunFacts
 pub mod LevelSteps
 pub mod ReificationSteps
 pub mod NodeSteps

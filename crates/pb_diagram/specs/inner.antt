@@ -1,4 +1,5 @@
 pub mod Known
+pub mod Layers
 pub mod Links
 pub mod Nodes
 pub mod NodesAt

@@ -19,10 +19,11 @@ pub struct Claims<'a> {
 
 impl Claims<'_> {
     ghost use Rattle.std.specs.Prelude.{◌≡◌, ◌≤◌, ◌<◌, ◌+◌, ◌-◌, ◌*◌, ◌^◌, length};
-    ghost use Rattle.pb_norm.specs.Constraints.{weighted, weights};
+    ghost use Rattle.pb_norm.specs.Constraints.{weighted};
     ghost use Rattle.pb_family.specs.inner.HandedJustifications.{HandsJustifications};
     ghost use Rattle.pb_diagram.specs.DiagramSteps.{child_id};
-    ghost use Rattle.pb_diagram.specs.inner.NodesAt.{below_at, false_at, level_at, true_at};
+    ghost use Rattle.pb_diagram.specs.inner.Layers.{false_in, layer_justifications, true_in};
+    ghost use Rattle.pb_diagram.specs.inner.NodesAt.{below_at};
     ghost use Rattle.pb_diagram.specs.inner.Links.{HasPlace};
 
     /// The id of the second constraint of the node in which a residue lies.
@@ -44,7 +45,7 @@ impl Claims<'_> {
         requires within { place < length self.now.layer.nodes.now }
         requires held { node.low < self.now.layer.whole → HasPlace self.now.layer.next.now node.low }
         requires few { (T.state sink.old).next + 1 < 2 ^ 62 }
-        ensures { HandsJustifications (false_at (weighted self.now.layer.term.now) self.now.layer.whole self.now.layer.next.now self.now.after self.now.id place node) result (T.state sink.old) (T.state sink.new) }
+        ensures { HandsJustifications (false_in self.now.layer self.now.after self.now.id place node) result (T.state sink.old) (T.state sink.new) }
     {
         if self.layer.whole <= node.low {
             return Ok(());
@@ -65,7 +66,7 @@ impl Claims<'_> {
         requires within { place < length self.now.layer.nodes.now }
         requires held { (weighted self.now.layer.term.now).coef ≤ node.low → HasPlace self.now.layer.next.now (node.low - (weighted self.now.layer.term.now).coef) }
         requires few { (T.state sink.old).next + 1 < 2 ^ 62 }
-        ensures { HandsJustifications (true_at (weighted self.now.layer.term.now) (weights self.now.layer.rest.now) self.now.layer.next.now self.now.after self.now.id place node) result (T.state sink.old) (T.state sink.new) }
+        ensures { HandsJustifications (true_in self.now.layer self.now.after self.now.id place node) result (T.state sink.old) (T.state sink.new) }
     {
         let own = self.id + 2 * place as u64;
         let rest = self.layer.rest;
@@ -80,7 +81,7 @@ impl Claims<'_> {
     /// Both of each node of the level.
     pub fn derive_level<T: StepSink>(&self, alloc: Global, sink: &mut T) -> Result<(), SinkFault>
         requires few { (T.state sink.old).next + 2 * length self.now.layer.nodes.now < 2 ^ 62 }
-        ensures { HandsJustifications (level_at (weighted self.now.layer.term.now) (weights self.now.layer.rest.now) self.now.layer.next.now self.now.after self.now.id self.now.layer.nodes.now) result (T.state sink.old) (T.state sink.new) }
+        ensures { HandsJustifications (layer_justifications self.now.layer self.now.after self.now.id) result (T.state sink.old) (T.state sink.new) }
     {
         let nodes = self.layer.nodes;
         for place in 0..nodes.len() {

@@ -86,13 +86,13 @@ impl Derivation<'_> {
     ghost use Rattle.pb_family.specs.StepSinks.{HandsSteps};
     ghost use Rattle.pb_family.specs.inner.HandedJustifications.{HandsJustifications};
     ghost use Rattle.pb_norm.specs.Constraints.{weights};
-    ghost use Rattle.pb_norm.specs.BoundedSums.{sum_within};
-    ghost use Rattle.pb_diagram.specs.DiagramSteps.{node_reifications, justifications_over, diagram_steps};
+    ghost use Rattle.pb_diagram.specs.DiagramSteps.{justifications_over, diagram_steps};
+    ghost use Rattle.pb_diagram.specs.inner.Layers.{shape_reifications, shape_sum};
 
     /// What all nodes mean.
     fn define_nodes<T: StepSink>(&self, alloc: Global, sink: &mut T) -> Result<(), SinkFault>
         requires few { (T.state sink.old).next ≤ 2 ^ 61 }
-        ensures { HandsSteps (reification_steps (T.state sink.old).next (node_reifications self.now.first (weights self.now.shape.terms.now) self.now.shape.levels.now)) result (T.state sink.old) (T.state sink.new) }
+        ensures { HandsSteps (reification_steps (T.state sink.old).next (shape_reifications self.now.shape self.now.first)) result (T.state sink.old) (T.state sink.new) }
     {
         let terms = self.shape.terms;
         let mut start = self.first;
@@ -130,7 +130,7 @@ impl Derivation<'_> {
     /// All of it.
     pub fn derive<T: StepSink>(&self, alloc: Global, sink: &mut T) -> Result<(), SinkFault>
         requires { self.now.base ≡ (T.state sink.old).next }
-        ensures { HandsSteps (diagram_steps (sum_within self.now.shape.terms.now self.now.shape.bound) self.now.first self.now.own (T.state sink.old).next) result (T.state sink.old) (T.state sink.new) }
+        ensures { HandsSteps (diagram_steps (shape_sum self.now.shape) self.now.first self.now.own (T.state sink.old).next) result (T.state sink.old) (T.state sink.new) }
     {
         self.define_nodes(alloc, sink)?;
         self.derive_clauses(alloc, sink)?;

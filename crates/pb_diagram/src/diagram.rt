@@ -35,13 +35,13 @@ pub struct Diagram {
     ghost clauses_is: { clauses ≡ diagram_size (sum_within terms.items bound) },
 }
 
-/// The levels, with the nodes of each in a list. Each map is given up once its nodes are listed.
+/// The levels, with the nodes of each in order.
 fn list_levels(alloc: Global, known: Vec<Known>) -> Result<Vec<Level>, AllocError>
     ensures { IfOk result (λ ls. ls.items ≡ known.items) }
 {
     let mut levels = Vec::new(alloc);
     for level in known {
-        levels.push(Level::from_vec(level.intervals(alloc)?))?;
+        levels.push(Level::from_vec(level.into_intervals(alloc)?))?;
     }
     Ok(levels)
 }

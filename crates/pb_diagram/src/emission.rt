@@ -27,7 +27,8 @@ impl Numbered<'_> {
     ghost use Rattle.std.specs.Prelude.{◌≡◌, ◌≤◌, ◌<◌, ◌+◌, ◌-◌, ◌∷◌, [], length};
     ghost use Rattle.pb_norm.specs.Constraints.{weighted};
     ghost use Rattle.pb_family.specs.Handing.{Hands};
-    ghost use Rattle.pb_diagram.specs.Clauses.{false_clause, level_clauses, node_at, true_clause};
+    ghost use Rattle.pb_diagram.specs.Clauses.{false_clause, node_at, true_clause};
+    ghost use Rattle.pb_diagram.specs.inner.Layers.{layer_clauses};
     ghost use Rattle.pb_diagram.specs.inner.Links.{HasPlace};
 
     /// The variable of the next level's node in which a residue lies, which is looked for from a place on, and whose place it
@@ -86,7 +87,7 @@ impl Numbered<'_> {
 
     /// Hands over the clauses of the level's nodes.
     fn emit_level<S: ClauseSink>(&self, sink: &mut S) -> Result<(), Failed>
-        ensures { Hands (level_clauses (weighted self.now.layer.term.now) self.now.layer.whole self.now.after self.now.layer.next.now self.now.first self.now.layer.nodes.now) result (S.state sink.old) (S.state sink.new) }
+        ensures { Hands (layer_clauses self.now.layer self.now.after self.now.first) result (S.state sink.old) (S.state sink.new) }
     {
         let nodes = self.layer.nodes;
         let mut off = 0;

@@ -1,33 +1,98 @@
 //! The nodes of a level that are known.
-ghost use Rattle.std.specs.Prelude.{◌≡◌, ◌≤◌, ◌<◌, ◌⊎◌, [], List, Contains, OnOk, IfOk};
+ghost use Rattle.std.specs.Prelude.{◌≡◌, ◌≤◌, ◌<◌, ◌+◌, ◌⊎◌, [], true, false, List, length, slice_index_or, Contains, IfOk, OnOk};
 ghost use Rattle.pb_diagram.specs.declared.interval.Interval.{Interval};
-ghost use Rattle.pb_diagram.specs.Intervals.{AreApart};
-ghost use Rattle.pb_diagram.specs.inner.Known.{intervals_of, Rise};
+ghost use Rattle.pb_diagram.specs.inner.Known.{AreRuns, IsRunOf, begins_by, intervals_in};
 ghost use Rattle.pb_diagram.specs.laws.Search.{IsFound, IsGrown};
 
 use crate::interval::Interval;
+use crate::run::Run;
 use std::alloc::{AllocError, Global};
-use std::collections::BTreeMap;
 use std::marker::Model;
-use std::ops::Bound;
 
-/// Intervals in order, none of which begins within another, as a map from beginnings to ends. While they are few, the map is one
-/// list.
+/// How many intervals a run has at most, so that with one more its memory is full and need not grow, and how many of the first
+/// become a run of their own then.
+const MOST: usize = 63;
+
+const HALF: usize = 32;
+
+/// About where an interval stands: its run's place among the runs, and its own from the run's end.
+#[derive(Clone, Copy)]
+pub struct Spot {
+    run: usize,
+    place: usize,
+}
+
+/// Where a search begins.
+pub const START: Spot = Spot { run: 0, place: 0 };
+
+/// Intervals none of which begins within another. They stand in short runs, so that a new one moves few, however many there are: a
+/// list of all moves some hundreds where a level has thousands, and a map costs more where it has few.
 #[derive(Drop)]
 pub struct Known {
-    tops: BTreeMap<u128, u128>,
+    runs: Vec<Run>,
 }
 
 impl Model for Known {
     ghost use Rattle.std.specs.Prelude.{List};
     ghost use Rattle.pb_diagram.specs.declared.interval.Interval.{Interval};
-    ghost use Rattle.pb_diagram.specs.inner.Known.{intervals_of, Rise};
+    ghost use Rattle.pb_diagram.specs.inner.Known.{AreRuns, intervals_in};
 
     ghost Value = { List Interval };
 
-    ghost view = { λ k. intervals_of k.tops.entries };
+    ghost view = { λ k. intervals_in k.runs.items };
 
-    ghost invariant = { λ k. Rise (intervals_of k.tops.entries) };
+    ghost invariant = { λ k. AreRuns k.runs.items };
+}
+
+/// The run to which a residue belongs: the last that does not begin above it, or the first of all.
+fn run_of(runs: &[Run], residue: u128) -> usize
+    requires { AreRuns runs.now }
+    ensures { IsRunOf runs.now residue result }
+{
+    runs.partition_point(|run| run.begins_by(residue))
+        .saturating_sub(1)
+}
+
+/// The same, looked for at a place first.
+fn run_near(runs: &[Run], residue: u128, near: usize) -> usize
+    requires { AreRuns runs.now }
+    ensures { IsRunOf runs.now residue result }
+{
+    if begins_at(runs, residue, near) && ends_at(runs, residue, near) {
+        near
+    } else {
+        run_of(runs, residue)
+    }
+}
+
+/// Whether there is a run at a place that does not begin above a residue, or is the first.
+fn begins_at(runs: &[Run], residue: u128, place: usize) -> bool
+    ensures { result ≡ true → (place < length runs.now) × ((d : List Interval) → 0 < place → begins_by (slice_index_or runs.now place d) residue ≡ true) }
+{
+    place < runs.len() && (place == 0 || runs[place].begins_by(residue))
+}
+
+/// Whether the run after a place, if there is one, begins above a residue.
+fn ends_at(runs: &[Run], residue: u128, place: usize) -> bool
+    requires { place < length runs.now }
+    ensures { result ≡ true → (d : List Interval) → place + 1 < length runs.now → begins_by (slice_index_or runs.now (place + 1) d) residue ≡ false }
+{
+    runs.len() <= place + 1 || !runs[place + 1].begins_by(residue)
+}
+
+/// Makes two runs of one, of which the first has as many intervals as told.
+fn split(alloc: Global, runs: &mut Vec<Run>, place: usize, count: usize) -> Result<(), AllocError>
+    requires within { place < length runs.old.items }
+    requires some { 0 < count }
+    requires more { count < length (slice_index_or runs.old.items place []) }
+    requires runs { AreRuns runs.old.items }
+    ensures same { intervals_in runs.new.items ≡ intervals_in runs.old.items }
+    ensures runs { AreRuns runs.new.items }
+{
+    let lower = runs[place].lowest(alloc, count)?;
+    runs.insert(place, lower)?;
+    runs[place + 1].drop_lowest(count);
+    Ok(())
 }
 
 impl Known {
@@ -36,60 +101,52 @@ impl Known {
         ensures { result ≡ [] }
     {
         Known {
-            tops: BTreeMap::new(alloc),
+            runs: Vec::new(alloc),
         }
     }
 
-    /// The interval in which a residue lies.
-    pub fn find(&self, residue: u128) -> Option<Interval>
-        requires { AreApart self.now }
+    /// The interval in which a residue lies. `near` becomes where it stands, or where one goes that the residue lies in.
+    pub fn find(&self, residue: u128, near: &mut Spot) -> Option<Interval>
         ensures { IsFound self.now residue result }
     {
-        match self
-            .tops
-            .range((Bound::Unbounded, Bound::Included(residue)))
-            .next_back()
-        {
-            Some((low, top)) => {
-                if residue < *top {
-                    Some(Interval {
-                        low: *low,
-                        top: *top,
-                    })
-                } else {
-                    None
-                }
-            }
-            None => None,
+        let runs = self.runs.as_slice();
+        let place = run_of(runs, residue);
+        near.run = place;
+        if place < runs.len() {
+            runs[place].find(residue, &mut near.place)
+        } else {
+            None
         }
     }
 
-    /// Joins an interval to the others.
-    pub fn insert(&mut self, interval: Interval) -> Result<(), AllocError>
-        requires apart { AreApart self.old }
+    /// Joins an interval to the others. Its place is looked for at `near` first.
+    pub fn insert(&mut self, interval: Interval, near: Spot) -> Result<(), AllocError>
         requires rises { interval.low < interval.top }
         requires elsewhere { (h : Interval) → Contains self.old h → (h.top ≤ interval.low) ⊎ (interval.top ≤ h.low) }
         ensures { OnOk result (IsGrown self.old interval self.new) }
     {
-        self.tops.insert(interval.low, interval.top)?;
+        let alloc = *self.runs.allocator();
+        if self.runs.is_empty() {
+            self.runs.push(Run::of(alloc, interval)?)?;
+            return Ok(());
+        }
+        let place = run_near(self.runs.as_slice(), interval.low, near.run);
+        self.runs[place].insert(interval, near.place)?;
+        if MOST < self.runs[place].len() {
+            split(alloc, &mut self.runs, place, HALF)?;
+        }
         Ok(())
     }
 
     /// All of them, in order.
-    pub fn intervals(&self, alloc: Global) -> Result<Vec<Interval>, AllocError>
-        ensures { IfOk result (λ v. v.items ≡ self.now) }
+    #[tactic(auto, using(crate::proofs::KnownFacts::intervals_push))]
+    pub fn into_intervals(self, alloc: Global) -> Result<Vec<Interval>, AllocError>
+        ensures { IfOk result (λ v. v.items ≡ self) }
     {
-        intervals_in(alloc, &self.tops)
+        let mut intervals = Vec::new(alloc);
+        for run in self.runs {
+            intervals.extend_from_slice(run.into_intervals().as_slice())?;
+        }
+        Ok(intervals)
     }
-}
-
-fn intervals_in(alloc: Global, tops: &BTreeMap<u128, u128>) -> Result<Vec<Interval>, AllocError>
-    ensures { IfOk result (λ v. v.items ≡ intervals_of tops.now.entries) }
-{
-    tops.iter()
-        .map(|(low, top)| Interval {
-            low: *low,
-            top: *top,
-        })
-        .collect(alloc)
 }

@@ -12,6 +12,7 @@ mod known;
 mod laws;
 mod layer;
 mod level;
+mod run;
 mod search;
 mod shape;
 

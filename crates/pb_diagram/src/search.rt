@@ -6,10 +6,10 @@ ghost use Rattle.pb_diagram.specs.declared.interval.Interval.{Interval};
 ghost use Rattle.pb_diagram.specs.Clauses.{node_count};
 ghost use Rattle.pb_diagram.specs.Intervals.{AreApart};
 ghost use Rattle.pb_diagram.specs.Levels.{coefs_of, levels_of};
-ghost use Rattle.pb_diagram.specs.laws.Search.{nodes_at, AreAllNodes, IsFound, IsUnknown, IsOff, IsOn, Looked, IsMissing, IsJoined, IsTop, IsSeen, IsSearching, IsKept, Advanced};
+ghost use Rattle.pb_diagram.specs.laws.Search.{nodes_at, AreAllNodes, IsFound, IsOff, IsOn, LacksFalseChild, LacksTrueChild, Looked, IsMissing, IsJoined, IsTop, IsSeen, IsSearching, IsKept, Advanced};
 
 use crate::interval::Interval;
-use crate::known::Known;
+use crate::known::{Known, START, Spot};
 use pb_norm::{AtMost, weight_of};
 use std::alloc::{AllocError, Global};
 
@@ -28,22 +28,28 @@ struct Top {
 }
 
 /// What a look at a residue gives: its node, or a child's residue whose node is not known, with what the false child says where
-/// the true one is missing.
+/// the true one is missing, and about where the child's node goes in its level.
 #[derive(Clone, Copy)]
 enum Look {
-    Missing { child: u128, off: Option<Interval> },
+    Missing {
+        child: u128,
+        off: Option<Interval>,
+        near: Spot,
+    },
     Found(Interval),
 }
 
-/// The node of a level in which a residue lies, if it is known. The last that became known is the one, where a child was wanted.
+/// The node of a level in which a residue lies, if it is known; else `near` becomes its place. The last that became known is the
+/// one, where a child was wanted. Most looks are short, and a call with its result in memory costs as much as they do.
+#[inline(always)]
 fn find_at(
     levels: &[Known],
     place: usize,
     residue: u128,
     last: Option<Interval>,
+    near: &mut Spot,
 ) -> Option<Interval>
-    requires apart { AreApart (nodes_at levels.now place) }
-    requires among { IfSome last (Contains (nodes_at levels.now place)) }
+    requires { IfSome last (Contains (nodes_at levels.now place)) }
     ensures { IsFound (nodes_at levels.now place) residue result }
 {
     if let Some(near) = last {
@@ -52,22 +58,22 @@ fn find_at(
         }
     }
     if place < levels.len() {
-        levels[place].find(residue)
+        levels[place].find(residue, near)
     } else {
         None
     }
 }
 
 /// What the false child says of the node in which a residue lies.
-fn off_side(levels: &[Known], whole: u128, top: Top) -> Option<Interval>
+fn off_side(levels: &[Known], whole: u128, top: Top, near: &mut Spot) -> Option<Interval>
     requires { IsSeen levels.now whole top }
-    ensures { MatchOption result ((top.residue < whole) × IsUnknown (nodes_at levels.now (top.place + 1)) top.residue) (IsOff top.coef whole (nodes_at levels.now (top.place + 1)) top.residue) }
+    ensures { MatchOption result (LacksFalseChild whole (nodes_at levels.now (top.place + 1)) top.residue) (IsOff top.coef whole (nodes_at levels.now (top.place + 1)) top.residue) }
 {
     if top.off.is_some() {
         return top.off;
     }
     if top.residue < whole {
-        find_at(levels, top.place + 1, top.residue, top.last)
+        find_at(levels, top.place + 1, top.residue, top.last, near)
     } else {
         Some(Interval {
             low: whole,
@@ -77,15 +83,15 @@ fn off_side(levels: &[Known], whole: u128, top: Top) -> Option<Interval>
 }
 
 /// What the true child says of the node in which a residue lies, with the coefficient added.
-fn on_side(levels: &[Known], whole: u128, top: Top) -> Option<Interval>
+fn on_side(levels: &[Known], whole: u128, top: Top, near: &mut Spot) -> Option<Interval>
     requires { IsSeen levels.now whole top }
-    ensures { MatchOption result ((top.coef ≤ top.residue) × IsUnknown (nodes_at levels.now (top.place + 1)) (top.residue - top.coef)) (IsOn top.coef (nodes_at levels.now (top.place + 1)) top.residue) }
+    ensures { MatchOption result (LacksTrueChild top.coef (nodes_at levels.now (top.place + 1)) top.residue) (IsOn top.coef (nodes_at levels.now (top.place + 1)) top.residue) }
 {
     let coef = top.coef;
     if top.residue < coef {
         return Some(Interval { low: 0, top: coef });
     }
-    match find_at(levels, top.place + 1, top.residue - coef, top.last) {
+    match find_at(levels, top.place + 1, top.residue - coef, top.last, near) {
         Some(interval) => Some(Interval {
             low: coef + interval.low,
             top: coef + interval.top,
@@ -99,15 +105,18 @@ fn look_for(levels: &[Known], whole: u128, top: Top) -> Look
     requires { IsSeen levels.now whole top }
     ensures { Looked top.coef whole (nodes_at levels.now (top.place + 1)) top.residue result }
 {
-    match off_side(levels, whole, top) {
+    let mut near = START;
+    match off_side(levels, whole, top, &mut near) {
         None => Look::Missing {
             child: top.residue,
             off: None,
+            near,
         },
-        Some(off) => match on_side(levels, whole, top) {
+        Some(off) => match on_side(levels, whole, top, &mut near) {
             None => Look::Missing {
                 child: top.residue - top.coef,
                 off: Some(off),
+                near,
             },
             Some(on) => Look::Found(Interval {
                 low: off.low.max(on.low),
@@ -122,6 +131,9 @@ fn look_for(levels: &[Known], whole: u128, top: Top) -> Look
 struct Search {
     levels: Vec<Known>,
     wanted: Vec<u128>,
+
+    /// About where each residue's node goes in its level.
+    places: Vec<Spot>,
 
     /// What the false child of each residue's node says, once a true one is wanted beside it.
     sides: Vec<Option<Interval>>,
@@ -157,12 +169,15 @@ impl Search {
         let levels = empty_levels(alloc, terms.len())?;
         let mut wanted = Vec::new(alloc);
         wanted.push(of.bound())?;
+        let mut places = Vec::new(alloc);
+        places.push(START)?;
         let mut sides = Vec::new(alloc);
         sides.push(None)?;
         let left = weight_of(terms) - terms[0].weight();
         Ok(Search {
             levels,
             wanted,
+            places,
             sides,
             last: None,
             left,
@@ -193,6 +208,7 @@ impl Search {
         top: Top,
         child: u128,
         off: Option<Interval>,
+        near: Spot,
     ) -> Result<(), AllocError>
         requires searching { IsSearching of.now self.old.levels.items self.old.wanted.items self.old.left }
         requires kept { IsKept of.now self.old.levels.items self.old.wanted.items self.old.sides.items self.old.last }
@@ -207,6 +223,7 @@ impl Search {
         self.sides[top.place] = off;
         self.sides.push(None)?;
         self.wanted.push(child)?;
+        self.places.push(near)?;
         self.last = None;
         Ok(())
     }
@@ -222,7 +239,8 @@ impl Search {
         ensures kept { OnOk result (IsKept of.now self.new.levels.items self.new.wanted.items self.new.sides.items self.new.last) }
         ensures advanced { OnOk result (Advanced true self.old.levels.items self.new.levels.items self.old.wanted.items self.new.wanted.items) }
     {
-        self.levels[top.place].insert(interval)?;
+        let near = self.places.pop().unwrap_or(START);
+        self.levels[top.place].insert(interval, near)?;
         self.wanted.pop();
         self.sides.pop();
         self.last = Some(interval);
@@ -242,8 +260,8 @@ impl Search {
     {
         let top = self.top(of);
         match look_for(&self.levels, self.left, top) {
-            Look::Missing { child, off } => {
-                self.want(of, top, child, off)?;
+            Look::Missing { child, off, near } => {
+                self.want(of, top, child, off, near)?;
                 Ok(false)
             }
             Look::Found(interval) => {

@@ -3,6 +3,7 @@ use Rattle.std.proofs.Common.{◌≡◌, ◌≢◌, ◌≤◌, ◌<◌, ◌+◌,
 use Rattle.std.specs.Prelude.{All, map, flat_map, Option}
 use Rattle.std.proofs.lemmas.Bool.{ne_eqb}
 use Rattle.std.proofs.lemmas.List.Elements.{All-cons, All-nil, All-append, All-map, All-weaker, All-contains, All-contains_itself}
+use Rattle.std.proofs.lemmas.List.{map-append}
 use Rattle.pb_base.specs.declared.literal.Lit.{Lit}
 use Rattle.pb_base.specs.Literals.{Assignment, lit_value, negated}
 use Rattle.pb_base.proofs.Members.{All-append_both}
@@ -47,8 +48,9 @@ use Rattle.pb_derive.specs.Ones.{unit_of, ones}
 use Rattle.pb_adder.specs.inner.RunningSums.{Sum, part, balance, IsRunning, IsApart}
 use Rattle.pb_adder.specs.GateReifications.{input_lits, gate_reifications, sum_var, carry_var}
 use Rattle.pb_adder.specs.LeveledGates.{Leveled, leveled_gates}
-use Rattle.pb_adder.specs.laws.AdderReifications.{AllNamed, low_inputs, adder_reifications_are}
-use Rattle.pb_adder.specs.laws.ApartGates.{Low, network_apart}
+use Rattle.pb_adder.specs.laws.AdderReifications.{adder_reifications_are}
+use Rattle.pb_adder.specs.laws.Names.{AllNamed, named_gates}
+use Rattle.pb_adder.specs.laws.ApartGates.{Low, network_apart, wire_below}
 use Rattle.pb_adder.specs.laws.Chains.{on, network_chain}
 use Rattle.pb_adder.specs.laws.GateClaims.{AreThere, AreNamed, gates_claimed, rows_claimed}
 use Rattle.pb_adder.specs.laws.Leveling.{network_each, network_reifications, network_low, few_levels, count_power}
@@ -106,18 +108,6 @@ sum_runs m c heavy form = record {
 
 -- ---- the variables of the network
 
-all_named-more : (first m n : ℕ) (g : Gate) → m ≤ n → AllNamed (λ v. v < first + m) first g → AllNamed (λ v. v < first + n) first g
-all_named-more first m n g le h = (
-  All-weaker (λ (l : Lit). l.var < first + m) (λ (l : Lit). l.var < first + n) (λ l k. omega (arith, k, le)) (input_lits first g) h.0,
-  (let s : sum_var first g < first + n = omega (arith, h.1, le) in s),
-  (let d : carry_var first g < first + n = omega (arith, h.2, le) in d),
-)
-
-wired_named : (first m n : ℕ) (gs : List Gate) → m + 2 * length gs ≤ n → Wired (Low first) m gs → All (AllNamed (λ v. v < first + n) first) gs
-wired_named first m n [] fits wired = All-nil (AllNamed (λ v. v < first + n) first)
-wired_named first m n (g ∷ gs) fits wired =
-    All-cons (AllNamed (λ v. v < first + n) first) g gs (all_named-more first (m + 2) n g (omega (arith, fits)) (low_inputs first m g gs wired)) (wired_named first (m + 2) n gs (omega (arith, fits)) wired.2)
-
 balance_named : (P : ℕ → Type 0) (first : ℕ) (g : Gate) → AllNamed P first g → All (λ t. P t.lit.var) (balance (input_lits first g) (sum_var first g) (carry_var first g))
 balance_named P first g h =
     let Q : Weighted → Type 0 = λ t. P t.lit.var in
@@ -135,20 +125,16 @@ rup_clauses : (ids : List ℕ) (cs : List (List Lit)) → map (λ (c : Claim). c
 rup_clauses ids [] = refl
 rup_clauses ids (c ∷ cs) = ap (λ (ds : List (List Lit)). c ∷ ds) (rup_clauses ids cs)
 
-both_clauses : (xs ys : List Claim) → map (λ (c : Claim). c.clause) (xs ++ ys) ≡ map (λ (c : Claim). c.clause) xs ++ map (λ (c : Claim). c.clause) ys
-both_clauses [] ys = refl
-both_clauses (x ∷ xs) ys = ap (λ (ds : List (List Lit)). x.clause ∷ ds) (both_clauses xs ys)
-
 gates_clauses : (first id : ℕ) (gs : List Gate) → map (λ (c : Claim). c.clause) (gate_claims first id gs) ≡ flat_map (gate_clauses first) gs
 gates_clauses first id [] = refl
 gates_clauses first id (g ∷ gs) =
-    both_clauses (map (by_rup (gate_ids id)) (gate_clauses first g)) (gate_claims first (id + 4) gs)
+    map-append (λ (c : Claim). c.clause) (map (by_rup (gate_ids id)) (gate_clauses first g)) (gate_claims first (id + 4) gs)
     ∙ ap (λ (ds : List (List Lit)). ds ++ map (λ (c : Claim). c.clause) (gate_claims first (id + 4) gs)) (rup_clauses (gate_ids id) (gate_clauses first g))
     ∙ ap (λ (ds : List (List Lit)). gate_clauses first g ++ ds) (gates_clauses first (id + 4) gs)
 
 pub claims_clauses : (first id running : ℕ) (gs : List Gate) (cs : List (List Lit)) → map (λ (c : Claim). c.clause) (gate_claims first id gs ++ row_claims running cs) ≡ flat_map (gate_clauses first) gs ++ cs
 claims_clauses first id running gs cs =
-    both_clauses (gate_claims first id gs) (row_claims running cs)
+    map-append (λ (c : Claim). c.clause) (gate_claims first id gs) (row_claims running cs)
     ∙ ap (λ (ds : List (List Lit)). ds ++ map (λ (c : Claim). c.clause) (row_claims running cs)) (gates_clauses first id gs)
     ∙ ap (λ (ds : List (List Lit)). flat_map (gate_clauses first) gs ++ ds) (rup_clauses (running ∷ []) cs)
 
@@ -204,14 +190,14 @@ module _ (m : BoundedSum) (first id : ℕ) (db : Database) (suits : IsForAdder m
   apart_gates : All (IsApart first) gates
   apart_gates = network_apart first ts below suits.distinct
 
-  named_gates : All (AllNamed P first) gates
-  named_gates = wired_named first 0 fresh gates (omega (arith, network_fresh ts)) wired
+  gates_are_named : All (AllNamed P first) gates
+  gates_are_named = named_gates P (Low first) first fresh 0 gates wired (omega (arith, network_fresh ts)) (wire_below first fresh)
 
   there : AreThere P db
   there = λ v h. omega (arith, h, ready.vars)
 
   meant : Meant P db ms
-  meant = reifications_ran P db ms ready.numbered (adder_reifications_are P db first gates there ready.original (λ v low named. ready.unnamed v low named) wired apart_gates named_gates)
+  meant = reifications_ran P db ms ready.numbered (adder_reifications_are P db first gates there ready.original (λ v low named. ready.unnamed v low named) wired apart_gates gates_are_named)
 
   abbrev mid : Database
   mid = meant.ran.end
@@ -240,7 +226,7 @@ module _ (m : BoundedSum) (first id : ℕ) (db : Database) (suits : IsForAdder m
   laid : All (IsLaid P first) xs
   laid =
       let apart_xs = network_each (IsApart first) ts apart_gates in
-      let named_xs = network_each (AllNamed P first) ts named_gates in
+      let named_xs = network_each (AllNamed P first) ts gates_are_named in
       let low_xs = network_low ts suits.small in
       λ k d h. record { apart = apart_xs k d h; level = low_xs k d h; named = balance_named P first (get_or xs k d).gate (named_xs k d h) }
 

@@ -3,7 +3,7 @@ use Rattle.std.proofs.Common.{◌≡◌, ◌<◌, ◌*◌, ◌||◌, ℕ, Bool, 
 use Rattle.std.specs.Prelude.{All, Contains, map}
 use Rattle.std.specs.List.{list_any, flat_map}
 use Rattle.std.proofs.lemmas.List.{length-map}
-use Rattle.std.proofs.lemmas.List.Elements.{All-cons, All-nil, All-head, All-tail, All-append, Contains-get_or}
+use Rattle.std.proofs.lemmas.List.Elements.{All-cons, All-nil, All-append, Contains-get_or, All-map, All-weaker}
 use Rattle.pb_base.specs.Literals.{clause_value, IsModel, AgreeBelow}
 use Rattle.pb_norm.specs.Constraints.{Weighted}
 use Rattle.pb_norm.specs.BoundedSums.{BoundedSum, StaysWithin}
@@ -11,6 +11,8 @@ use Rattle.pb_norm.proofs.Agreement.{value-agree}
 use Rattle.pb_base.proofs.Members.{Contains-map, All-append_both}
 use Rattle.pb_base.proofs.LiteralLemmas.{lit_value-negated}
 use Rattle.pb_family.specs.Families.{VarsBelow, NamesOnly}
+use Rattle.pb_derive.proofs.Justified.{all_unmapped}
+use Rattle.pb_derive.proofs.Reasoned.{All-flat_map}
 use Rattle.pb_adder.specs.declared.gate.Wire.{Wire}
 use Rattle.pb_adder.specs.declared.gate.Gate.{Gate}
 use Rattle.pb_adder.specs.Adder.{adder_clauses}
@@ -20,11 +22,11 @@ use Rattle.pb_adder.specs.laws.CountLaws.{network_fresh, network_clauses, compar
 use Rattle.pb_adder.specs.Counts.{adder_fresh, adder_size}
 use Rattle.pb_family.proofs.Extended.{extended, extended_below}
 use Rattle.pb_adder.specs.laws.Extends.{made_values, extended_computes}
-use Rattle.pb_adder.specs.laws.GateLaws.{Computes, computes_adds, holds_of, clauses_compute, computes_satisfies}
+use Rattle.pb_adder.specs.laws.GateLaws.{Adds, Computes, computes_adds, holds_of, clauses_compute, computes_satisfies}
 use Rattle.pb_adder.specs.Gates.{wire_lit, gate_clauses}
 use Rattle.pb_adder.specs.laws.Names.{Named, gates_named, comparator_rows_named}
 use Rattle.pb_adder.specs.Network.{network_gates, network_ends}
-use Rattle.pb_adder.specs.laws.NetworkLaws.{Adds, network_adds}
+use Rattle.pb_adder.specs.laws.NetworkLaws.{network_adds}
 use Rattle.pb_adder.specs.laws.Wired.{network_wired, network_rows}
 
 -- ---- lists of clauses
@@ -36,11 +38,8 @@ all_compute first v (g ∷ gs) holds =
     All-cons (Computes (holds_of first v)) g gs (clauses_compute first v g parts.0) (all_compute first v gs parts.1)
 
 all_satisfied : (first : ℕ) (v : ℕ → Bool) (gs : List Gate) → All (Computes (holds_of first v)) gs → IsModel v (flat_map (gate_clauses first) gs)
-all_satisfied first v [] all = All-nil (λ c. clause_value v c ≡ true)
-all_satisfied first v (g ∷ gs) all =
-    All-append (λ c. clause_value v c ≡ true) (gate_clauses first g) (flat_map (gate_clauses first) gs)
-    (computes_satisfies first v g (All-head (Computes (holds_of first v)) g gs all))
-    (all_satisfied first v gs (All-tail (Computes (holds_of first v)) g gs all))
+all_satisfied first v gs all =
+    All-flat_map (λ c. clause_value v c ≡ true) (gate_clauses first) gs (All-weaker (Computes (holds_of first v)) (λ g. IsModel v (gate_clauses first g)) (λ g h. computes_satisfies first v g h) gs all)
 
 all_add : (p : Wire → Bool) (gs : List Gate) → All (Computes p) gs → All (Adds p) gs
 all_add p gs all = λ k d h. computes_adds p _ (all k d h)
@@ -52,18 +51,14 @@ row_value first v (w ∷ row) =
     ∙ ap (λ b. not (holds_of first v w) || b) (row_value first v row)
 
 rows_true : (first : ℕ) (v : ℕ → Bool) (rows : List (List Wire)) → IsModel v (map (row_clause first) rows) → All (RowTrue (holds_of first v)) rows
-rows_true first v [] holds = All-nil (RowTrue (holds_of first v))
-rows_true first v (row ∷ rows) holds =
-    All-cons (RowTrue (holds_of first v)) row rows
-    (sym (row_value first v row) ∙ All-head (λ c. clause_value v c ≡ true) (row_clause first row) (map (row_clause first) rows) holds)
-    (rows_true first v rows (All-tail (λ c. clause_value v c ≡ true) (row_clause first row) (map (row_clause first) rows) holds))
+rows_true first v rows holds =
+    All-weaker (λ row. clause_value v (row_clause first row) ≡ true) (RowTrue (holds_of first v)) (λ row h. sym (row_value first v row) ∙ h) rows
+    (all_unmapped (λ c. clause_value v c ≡ true) (row_clause first) rows holds)
 
 true_rows : (first : ℕ) (v : ℕ → Bool) (rows : List (List Wire)) → All (RowTrue (holds_of first v)) rows → IsModel v (map (row_clause first) rows)
-true_rows first v [] all = All-nil (λ c. clause_value v c ≡ true)
-true_rows first v (row ∷ rows) all =
-    All-cons (λ c. clause_value v c ≡ true) (row_clause first row) (map (row_clause first) rows)
-    (row_value first v row ∙ All-head (RowTrue (holds_of first v)) row rows all)
-    (true_rows first v rows (All-tail (RowTrue (holds_of first v)) row rows all))
+true_rows first v rows all =
+    All-map (λ c. clause_value v c ≡ true) (row_clause first) rows
+    (All-weaker (RowTrue (holds_of first v)) (λ row. clause_value v (row_clause first row) ≡ true) (λ row h. row_value first v row ∙ h) rows all)
 
 -- ---- the laws
 

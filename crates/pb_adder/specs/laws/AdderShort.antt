@@ -1,5 +1,5 @@
 -- The lines of the derivation of an adder network are within their limits, and short.
-use Rattle.std.proofs.Common.{◌≡◌, ◌≤◌, ◌<◌, ◌+◌, ◌-◌, ◌*◌, ◌^◌, ℕ, zero, suc, List, [], ◌∷◌, ◌++◌, length, take, drop, refl, ap, sym, subst, arith, get_or, leb, pos, inl, inr, length-append}
+use Rattle.std.proofs.Common.{◌≡◌, ◌≤◌, ◌<◌, ◌+◌, ◌-◌, ◌*◌, ◌^◌, ℕ, zero, suc, List, [], ◌∷◌, ◌++◌, length, min, take, drop, refl, ap, sym, subst, arith, get_or, leb, pos, inl, inr, length-append}
 use Rattle.std.specs.Prelude.{All, map, flat_map, sum_by, ◌≤ℤ◌}
 use Rattle.std.specs.List.{AllByRecursion}
 use Rattle.std.proofs.lemmas.Bool.{cond_both, leb-false}
@@ -25,6 +25,8 @@ use Rattle.pb_derive.specs.Ones.{unit_of, ones}
 use Rattle.pb_derive.specs.Rups.{by_rup}
 use Rattle.pb_derive.specs.Short.{AreShort}
 use Rattle.pb_derive.proofs.Phases.{length-reifications, length-claims, length-deletions}
+use Rattle.pb_derive.proofs.Rups.{ones-weight}
+use Rattle.pb_derive.proofs.Sides.{weight-append}
 use Rattle.pb_derive.proofs.Sayable.{IsSlimTerm, IsSlimReification, reifications_sayable, claims_sayable, deletions_sayable, rup_sayable}
 use Rattle.pb_derive.proofs.Short.{lines_sized, line_sized}
 use Rattle.pb_derive.proofs.Sizes.{rup-size, reifications_each, claims_each, deletions_each, each_all}
@@ -38,20 +40,22 @@ use Rattle.pb_adder.specs.Adder.{adder_clauses}
 use Rattle.pb_adder.specs.AdderSteps.{line_ops, tree_ops, blocks_within, blocks, sum_ops, later_sums, sum_steps, last_sum, last_deletion, gate_ids, gate_claims, row_claims, levels_of, adder_claims, proving_steps, adder_steps}
 use Rattle.pb_adder.specs.Comparator.{comparator}
 use Rattle.pb_adder.specs.Counts.{adder_fresh, adder_size}
-use Rattle.pb_adder.specs.GateReifications.{carry_reification, sum_reification, input_lits, sum_var, carry_var, gate_reifications}
-use Rattle.pb_adder.specs.Gates.{wire_lit, gate_clauses}
+use Rattle.pb_adder.specs.GateReifications.{carry_reification, sum_reification, input_lits, sum_var, carry_var, gate_reifications, twice_off}
+use Rattle.pb_adder.specs.Gates.{gate_clauses, gate_inputs, wire_lit}
 use Rattle.pb_adder.specs.LeveledGates.{Leveled, leveled_gates}
 use Rattle.pb_adder.specs.Network.{level_count, network_gates, network_ends}
 use Rattle.pb_adder.specs.laws.AdderDerives.{IsForAdder, reifications-length}
 use Rattle.pb_adder.specs.laws.AdderLaws.{adder_names}
-use Rattle.pb_adder.specs.laws.AdderReifications.{AllNamed, all_reifications}
+use Rattle.pb_adder.specs.laws.AdderReifications.{all_reifications}
 use Rattle.pb_adder.specs.laws.CountLaws.{network_fresh}
 use Rattle.pb_adder.specs.laws.GateClaims.{gate_few}
+use Rattle.pb_adder.specs.laws.GateTables.{few_inputs}
 use Rattle.pb_adder.specs.laws.Leveling.{few_levels, network_low}
 use Rattle.pb_adder.specs.laws.LineOps.{power_positive}
+use Rattle.pb_adder.specs.laws.Names.{AllNamed, named_gates}
 use Rattle.pb_adder.specs.laws.RowLengths.{comparator_short, comparator_few, ends_length}
 use Rattle.pb_adder.specs.laws.StepCounts.{claims-length, few_blocks, last_count, levels-length}
-use Rattle.pb_adder.specs.laws.Wired.{Known, Wired, network_wired}
+use Rattle.pb_adder.specs.laws.Wired.{Known, network_wired}
 
 -- a line can say the step, in few bytes
 abbrev IsFine : Step → Type 0
@@ -65,36 +69,9 @@ AreVariables ls = All (λ l. IsVariable l.var) ls
 
 -- ---- the variables of adders
 
-wire_variable : (first m fresh : ℕ) (w : Wire) → 1 ≤ first → first + fresh ≤ 2 ^ 31 → m ≤ fresh → Known (λ l. IsVariable l.var) m w → IsVariable (wire_lit first w).var
-wire_variable first m fresh (Input l) low fits within h = h
-wire_variable first m fresh (Made k) low fits within h = ((let from : 1 ≤ first + k = omega (arith, low) in from), (let below : first + k < 2 ^ 31 = omega (arith, h, fits, within) in below))
-
-made_variable : (first m fresh k : ℕ) → 1 ≤ first → first + fresh ≤ 2 ^ 31 → m + 2 ≤ fresh → k ≤ m + 1 → IsVariable (first + k)
-made_variable first m fresh k low fits within h = ((let from : 1 ≤ first + k = omega (arith, low) in from), (let below : first + k < 2 ^ 31 = omega (arith, h, fits, within) in below))
-
-gate_variable : (first m fresh : ℕ) (g : Gate) (gs : List Gate) → 1 ≤ first → first + fresh ≤ 2 ^ 31 → m + 2 ≤ fresh → Wired (λ l. IsVariable l.var) m (g ∷ gs) → AllNamed IsVariable first g
-gate_variable first m fresh (Full x y z made) gs low fits within wired =
-    let V : Lit → Type 0 = λ l. IsVariable l.var in
-    let same = wired.1 in
-    let on = λ (w : Wire) (h : Known V m w). wire_variable first m fresh w low fits (omega (arith, within)) h in (
-      All-cons V (wire_lit first x) (wire_lit first y ∷ wire_lit first z ∷ []) (on x wired.0.0)
-          (All-cons V (wire_lit first y) (wire_lit first z ∷ []) (on y wired.0.1) (All-cons V (wire_lit first z) [] (on z wired.0.2) (All-nil V))),
-      made_variable first m fresh made low fits within (omega (arith, same)),
-      made_variable first m fresh (made + 1) low fits within (omega (arith, same)),
-    )
-gate_variable first m fresh (Half x y made) gs low fits within wired =
-    let V : Lit → Type 0 = λ l. IsVariable l.var in
-    let same = wired.1 in
-    let on = λ (w : Wire) (h : Known V m w). wire_variable first m fresh w low fits (omega (arith, within)) h in (
-      All-cons V (wire_lit first x) (wire_lit first y ∷ []) (on x wired.0.0) (All-cons V (wire_lit first y) [] (on y wired.0.1) (All-nil V)),
-      made_variable first m fresh made low fits within (omega (arith, same)),
-      made_variable first m fresh (made + 1) low fits within (omega (arith, same)),
-    )
-
-gates_variable : (first m fresh : ℕ) (gs : List Gate) → 1 ≤ first → first + fresh ≤ 2 ^ 31 → m + 2 * length gs ≤ fresh → Wired (λ l. IsVariable l.var) m gs → All (AllNamed IsVariable first) gs
-gates_variable first m fresh [] low fits within wired = All-nil (AllNamed IsVariable first)
-gates_variable first m fresh (g ∷ gs) low fits within wired =
-    All-cons (AllNamed IsVariable first) g gs (gate_variable first m fresh g gs low fits (omega (arith, within)) wired) (gates_variable first (m + 2) fresh gs low fits (omega (arith, within)) wired.2)
+wire_variable : (first fresh : ℕ) (w : Wire) → 1 ≤ first → first + fresh ≤ 2 ^ 31 → Known (λ l. IsVariable l.var) fresh w → IsVariable (wire_lit first w).var
+wire_variable first fresh (Input l) low fits h = h
+wire_variable first fresh (Made k) low fits h = ((let from : 1 ≤ first + k = omega (arith, low) in from), (let below : first + k < 2 ^ 31 = omega (arith, h, fits) in below))
 
 -- ---- the reifications
 
@@ -114,15 +91,17 @@ sum_slim ls d h v =
     All-append IsSlimTerm (ones ls) (last ∷ []) (inputs_slim ls h) (All-cons IsSlimTerm last [] (small, v) (All-nil IsSlimTerm))
 
 gate_small : (first : ℕ) (g : Gate) → AllNamed IsVariable first g → IsSmallReification (carry_reification (input_lits first g) (carry_var first g)) × IsSmallReification (sum_reification (input_lits first g) (sum_var first g) (carry_var first g))
-gate_small first (Full x y z made) h =
-    let ls = input_lits first (Full x y z made) in (
-      (record { sum = inputs_slim ls h.0; var = h.2; light = omega arith }, omega arith),
-      (record { sum = sum_slim ls (first + (made + 1)) h.0 h.2; var = h.1; light = omega arith }, omega arith),
-    )
-gate_small first (Half x y made) h =
-    let ls = input_lits first (Half x y made) in (
-      (record { sum = inputs_slim ls h.0; var = h.2; light = omega arith }, omega arith),
-      (record { sum = sum_slim ls (first + (made + 1)) h.0 h.2; var = h.1; light = omega arith }, omega arith),
+gate_small first g h =
+    let ls = input_lits first g in
+    let d = carry_var first g in
+    let few : length ls ≤ 3 = omega (arith, length-map (gate_inputs g) (wire_lit first), few_inputs g) in
+    let size = length-map ls unit_of in
+    let heavy = ones-weight ls in (
+      (record { sum = inputs_slim ls h.0; var = h.2; light = omega (arith, few, heavy) }, omega (arith, few, size)),
+      (
+        record { sum = sum_slim ls d h.0 h.2; var = h.1; light = omega (arith, few, heavy, weight-append (ones ls) (twice_off d ∷ [])) },
+        omega (arith, few, size, length-append (ones ls) (twice_off d ∷ [])),
+      ),
     )
 
 -- ---- the sums
@@ -185,44 +164,24 @@ tree_said (suc n) id levels low ids =
     (tree_said n (id + 4 * k) (drop k levels) both.1 ((let f : 1 ≤ id + 4 * k = omega (arith, from) in f), (let b : id + 4 * k + 4 * length (drop k levels) < 2 ^ 63 = omega (arith, below, other, more) in b)))
     (tt, tt)))
 
-tree_some : (n id : ℕ) (levels : List ℕ) → 1 ≤ length levels → sum_by op_size (tree_ops n id levels) + 2 ≤ 167 * length levels
+tree_size : (n id : ℕ) (levels : List ℕ) → sum_by op_size (tree_ops n id levels) + 2 * min 1 (length levels) ≤ 167 * length levels
 unfolding tree_ops
-tree_some zero id [] some = absurd (omega (arith, some))
-tree_some zero id (level ∷ levels) some = let size : sum_by op_size (line_ops level id) ≡ 165 = refl in omega (arith, size)
-tree_some (suc n) id levels some =
+tree_size zero id [] = omega arith
+tree_size zero id (level ∷ levels) = let size : sum_by op_size (line_ops level id) ≡ 165 = refl in omega (arith, size)
+tree_size (suc n) id levels =
     let k = 2 ^ n in
-    cond_both (leb (length levels) k) (tree_ops n id levels) (tree_ops n id (take k levels) ++ (tree_ops n (id + 4 * k) (drop k levels) ++ Add ∷ [])) (λ ops. sum_by op_size ops + 2 ≤ 167 * length levels)
-    (λ e. tree_some n id levels some)
+    let front = take k levels in
+    let back = drop k levels in
+    cond_both (leb (length levels) k) (tree_ops n id levels) (tree_ops n id front ++ (tree_ops n (id + 4 * k) back ++ Add ∷ [])) (λ ops. sum_by op_size ops + 2 * min 1 (length levels) ≤ 167 * length levels)
+    (λ e. tree_size n id levels)
     (λ e.
     let last : sum_by op_size (Add ∷ []) ≡ 2 = refl in
     let more : k < length levels = leb-false (length levels) k e in
-    let one : length (take k levels) ≡ k = length-take-le k levels (omega (arith, more)) in
-    let other : length (drop k levels) ≡ length levels - k = length-drop k levels in
-    let left = tree_some n id (take k levels) (omega (arith, one, power_positive n)) in
-    let right = tree_some n (id + 4 * k) (drop k levels) (omega (arith, other, more)) in
-    omega (
-      arith,
-      sum_by-append op_size (tree_ops n id (take k levels)) (tree_ops n (id + 4 * k) (drop k levels) ++ Add ∷ []),
-      sum_by-append op_size (tree_ops n (id + 4 * k) (drop k levels)) (Add ∷ []),
-      last,
-      left,
-      right,
-      more,
-      one,
-      other,
-    ))
-
-tree_none : (n id : ℕ) → tree_ops n id [] ≡ []
-unfolding tree_ops
-tree_none zero id = refl
-tree_none (suc n) id =
-    let k = 2 ^ n in
-    cond_both (leb 0 k) (tree_ops n id []) (tree_ops n id (take k []) ++ (tree_ops n (id + 4 * k) (drop k []) ++ Add ∷ [])) (λ ops. ops ≡ [])
-    (λ e. tree_none n id) (λ e. let none : k < 0 = leb-false 0 k e in absurd (omega (arith, none)))
-
-tree_size : (n id : ℕ) (levels : List ℕ) → sum_by op_size (tree_ops n id levels) ≤ 167 * length levels
-tree_size n id [] = omega (arith, ap (sum_by op_size) (tree_none n id))
-tree_size n id (level ∷ levels) = omega (arith, tree_some n id (level ∷ levels) (omega arith))
+    let left = tree_size n id front in
+    let right = tree_size n (id + 4 * k) back in
+    let both = sum_by-append op_size (tree_ops n id front) (tree_ops n (id + 4 * k) back ++ Add ∷ []) in
+    let rest = sum_by-append op_size (tree_ops n (id + 4 * k) back) (Add ∷ []) in
+    omega (arith, both, rest, last, left, right, more, length-take-le k levels (omega (arith, more)), length-drop k levels, power_positive n))
 
 -- a block's line
 block_size : (id running : ℕ) (block : List ℕ) → step_size (Pol (sum_ops id block running)) ≤ 26 + 167 * length block
@@ -278,11 +237,11 @@ later_long id running next (block ∷ parts) are ids r nexts =
 sums_long : (id running next : ℕ) (parts : List (List ℕ)) → All IsBlock parts → Fits id (4 * sum_by length parts) → IsId running → Fits next (length parts) → All IsLong (sum_steps id running next parts)
 sums_long id running next [] are ids r nexts = All-nil IsLong
 sums_long id running next (block ∷ parts) are ids r nexts =
-    let whole = sum_by-cons {X = List ℕ} length block parts in
-    All-cons IsLong (Pol (sum_ops id block running)) (later_sums (id + 4 * length block) next (next + 1) parts)
-    (one_long id running block (All-head IsBlock block parts are) (front_fits id (4 * length block) (4 * sum_by length (block ∷ parts)) ids (omega (arith, whole))) r)
-    (later_long (id + 4 * length block) next (next + 1) parts (All-tail IsBlock block parts are) (fits_from id (4 * sum_by length (block ∷ parts)) (4 * length block) (4 * sum_by length parts) ids (omega (arith, whole)))
-    (own_id next (length (block ∷ parts)) nexts) (fits_from next (length (block ∷ parts)) 1 (length parts) nexts (omega arith)))
+    let step = Pol (sum_ops id block running) in
+    let gone = Del (running ∷ []) in
+    let rest = later_sums (id + 4 * length block) next (next + 1) parts in
+    let all = later_long id running next (block ∷ parts) are ids r nexts in
+    All-cons IsLong step rest (All-head IsLong step (gone ∷ rest) all) (All-tail IsLong gone rest (All-tail IsLong step (gone ∷ rest) all))
 
 -- all of them together
 later_size : (id running next : ℕ) (parts : List (List ℕ)) → sum_by step_size (later_sums id running next parts) ≤ 50 * length parts + 167 * sum_by length parts
@@ -303,14 +262,10 @@ later_size id running next (block ∷ parts) =
 sums_size : (id running next : ℕ) (parts : List (List ℕ)) → sum_by step_size (sum_steps id running next parts) ≤ 50 * length parts + 167 * sum_by length parts
 sums_size id running next [] = omega arith
 sums_size id running next (block ∷ parts) =
+    let step = Pol (sum_ops id block running) in
+    let gone = Del (running ∷ []) in
     let rest = later_sums (id + 4 * length block) next (next + 1) parts in
-    omega (
-      arith,
-      sum_by-cons step_size (Pol (sum_ops id block running)) rest,
-      block_size id running block,
-      later_size (id + 4 * length block) next (next + 1) parts,
-      sum_by-cons {X = List ℕ} length block parts,
-    )
+    omega (arith, sum_by-cons step_size step rest, sum_by-cons step_size step (gone ∷ rest), sum_by-cons step_size gone rest, later_size id running next (block ∷ parts))
 
 last_id : (running next : ℕ) (parts : List (List ℕ)) → IsId running → Fits next (length parts) → IsId (last_sum running next parts)
 last_id running next [] r nexts = r
@@ -429,11 +384,13 @@ module _ (m : BoundedSum) (suits : IsForAdder m) (first id next : ℕ) (original
   variables : All (λ t. IsVariable t.lit.var) ts
   variables = All-weaker (λ (t : Weighted). (1 ≤ t.lit.var) × (t.lit.var < first)) (λ (t : Weighted). IsVariable t.lit.var) (λ t h. (h.0, (let b : t.lit.var < 2 ^ 31 = omega (arith, h.1, start.fits) in b))) ts original
 
-  named_gates : All (AllNamed IsVariable first) gates
-  named_gates = gates_variable first 0 (adder_fresh ts) gates start.low start.fits (omega (arith, network_fresh ts)) (network_wired (λ l. IsVariable l.var) ts variables)
+  gates_are_named : All (AllNamed IsVariable first) gates
+  gates_are_named =
+      let V : Lit → Type 0 = λ l. IsVariable l.var in
+      named_gates IsVariable V first (adder_fresh ts) 0 gates (network_wired V ts variables) (omega (arith, network_fresh ts)) (λ w known. wire_variable first (adder_fresh ts) w start.low start.fits known)
 
   reifications_small : All IsSmallReification ms
-  reifications_small = all_reifications IsSmallReification first gates (λ k d h. gate_small first (get_or gates k d) (named_gates k d h))
+  reifications_small = all_reifications IsSmallReification first gates (λ k d h. gate_small first (get_or gates k d) (gates_are_named k d h))
 
   clause_variables : All AreVariables (adder_clauses ts m.bound first)
   clause_variables =

@@ -12,7 +12,7 @@ use Rattle.pb_norm.specs.Constraints.{Weighted, weight}
 use Rattle.pb_adder.specs.declared.gate.Wire.{Wire}
 use Rattle.pb_adder.specs.declared.gate.Wire.TheVariants.{Made}
 use Rattle.pb_adder.specs.Gates.{wire_lit, carry_wire}
-use Rattle.pb_adder.specs.laws.GateLaws.{one}
+use Rattle.pb_adder.specs.laws.GateTables.{one}
 use Rattle.pb_adder.specs.Network.{inputs_at, level_gates, level_left, gates_of, oldest_of, level_end, queue_at, ends_from, level_count, network_ends}
 use Rattle.pb_adder.specs.laws.NetworkLaws.{few_left, gates_length, end_value, number, levels_value, value_le, value_step, first_value, count_all, whole_value, levels_enough}
 use Rattle.pb_derive.specs.Ones.{ones, unit_of}

@@ -6,7 +6,7 @@ use Rattle.std.proofs.lemmas.Bool.{cases_Bool, cases_lt, eqb-true, eqb-false, fa
 use Rattle.std.proofs.lemmas.List.Elements.{All-cons, All-nil, All-head, All-tail, All-append}
 use Rattle.pb_base.proofs.Members.{All-append_both}
 use Rattle.pb_adder.specs.declared.gate.Wire.{Wire}
-use Rattle.pb_adder.specs.laws.GateLaws.{one}
+use Rattle.pb_adder.specs.laws.GateTables.{one}
 use Rattle.pb_adder.specs.laws.NetworkLaws.{end_value, number}
 use Rattle.pb_adder.specs.Comparator.{is_odd, with_end, covering, row_of, comparator_rows}
 

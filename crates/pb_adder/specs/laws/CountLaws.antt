@@ -5,7 +5,7 @@ use Rattle.std.specs.List.{filter, flat_map}
 use Rattle.std.proofs.lemmas.Bool.{cases_Bool, eqb-true, eqb-false, ne_eqb, cond-true, cond-false}
 use Rattle.std.proofs.lemmas.List.{length-map}
 use Rattle.std.proofs.lemmas.List.Sums.{sum_by-cons, length-filter, count_by-le-length}
-use Rattle.pb_base.specs.declared.literal.Lit.{Lit}
+use Rattle.std.proofs.lemmas.Grind.{flat_map-append}
 use Rattle.pb_norm.specs.Constraints.{Weighted}
 use Rattle.pb_adder.specs.declared.gate.Wire.{Wire}
 use Rattle.pb_adder.specs.declared.gate.Wire.TheVariants.{Input, Made}
@@ -73,10 +73,6 @@ carries_length : (ts : List Weighted) (level : ℕ) (carried : List Wire) (made 
 carries_length ts level carried made =
     length-map (gates_of (queue_at ts level carried) made) carry_wire ∙ gates_length (queue_at ts level carried) made ∙ ap (λ n. n / 2) (queue_length ts level carried)
 
-flat_map-append : (f : Gate → List (List Lit)) (gs hs : List Gate) → length (flat_map f (gs ++ hs)) ≡ length (flat_map f gs) + length (flat_map f hs)
-flat_map-append f [] hs = omega arith
-flat_map-append f (g ∷ gs) hs = omega (arith, length-append (f g) (flat_map f (gs ++ hs)), length-append (f g) (flat_map f gs), flat_map-append f gs hs)
-
 -- ---- all levels
 
 gates_count : (n level : ℕ) (ts : List Weighted) (carried : List Wire) (made : ℕ) → length (gates_from n level ts carried made) ≡ adder_count (sizes_from n level ts (length carried))
@@ -114,7 +110,8 @@ gate_clauses_count first (suc n) level ts carried made =
       rest,
       same,
       here,
-      flat_map-append (gate_clauses first) gates later,
+      ap length (flat_map-append (gate_clauses first) gates later),
+      length-append (flat_map (gate_clauses first) gates) (flat_map (gate_clauses first) later),
       sum_by-cons (λ b. 14 * full_count b + 7 * half_count b) size (sizes_from n (level + 1) ts (size / 2)),
     )
 

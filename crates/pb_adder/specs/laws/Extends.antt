@@ -1,6 +1,6 @@
 -- What the adders of a network make of its inputs.
-use Rattle.std.proofs.Common.{◌≡◌, ◌<◌, ◌+◌, ◌==◌, ℕ, Bool, false, cond, List, [], ◌∷◌, refl, sym, ◌∙◌, arith}
-use Rattle.std.specs.Prelude.{All}
+use Rattle.std.proofs.Common.{◌≡◌, ◌<◌, ◌+◌, ◌==◌, ℕ, Bool, false, cond, List, [], ◌∷◌, refl, sym, ap, ◌∙◌, arith}
+use Rattle.std.specs.Prelude.{All, map}
 use Rattle.std.proofs.lemmas.Bool.{cond-true, cond-false, eq-eqb, ne_eqb}
 use Rattle.std.proofs.lemmas.List.Elements.{All-cons, All-nil, All-head, All-tail}
 use Rattle.pb_base.specs.declared.literal.Lit.{Lit}
@@ -9,10 +9,10 @@ use Rattle.pb_family.proofs.Extended.{extended, extended_fresh, extended_literal
 use Rattle.pb_adder.specs.declared.gate.Wire.{Wire}
 use Rattle.pb_adder.specs.declared.gate.Wire.TheVariants.{Input, Made}
 use Rattle.pb_adder.specs.declared.gate.Gate.{Gate}
-use Rattle.pb_adder.specs.declared.gate.Gate.TheVariants.{Full, Half}
-use Rattle.pb_adder.specs.Gates.{made_of}
-use Rattle.pb_adder.specs.laws.GateLaws.{odd_of, two_of, Computes, holds_of}
-use Rattle.pb_adder.specs.laws.Wired.{Known, GateReads, Wired}
+use Rattle.pb_adder.specs.Gates.{gate_inputs, made_of}
+use Rattle.pb_adder.specs.laws.GateLaws.{Computes, holds_of}
+use Rattle.pb_adder.specs.laws.GateTables.{odd_of, two_of}
+use Rattle.pb_adder.specs.laws.Wired.{Known, Wired}
 
 -- a bit's value, from those of the inputs and of the variables made so far
 abbrev pub bit_value : (Lit → Bool) → (ℕ → Bool) → Wire → Bool
@@ -20,12 +20,10 @@ bit_value u env (Input l) = u l
 bit_value u env (Made k) = env k
 
 gate_sum_value : (Wire → Bool) → Gate → Bool
-gate_sum_value p (Full a b c made) = odd_of (p a) (p b) (p c)
-gate_sum_value p (Half a b made) = odd_of (p a) (p b) false
+gate_sum_value p g = odd_of (map p (gate_inputs g))
 
 carry_value : (Wire → Bool) → Gate → Bool
-carry_value p (Full a b c made) = two_of (p a) (p b) (p c)
-carry_value p (Half a b made) = two_of (p a) (p b) false
+carry_value p g = two_of (map p (gate_inputs g))
 
 -- with the variables of one more adder
 with_gate : (Lit → Bool) → (ℕ → Bool) → Gate → ℕ → Bool
@@ -60,19 +58,18 @@ gates_keep I u env (g ∷ gs) m wired k below =
     let same = wired.1 in
     gates_keep I u (with_gate u env g) gs (m + 2) wired.2 k (omega arith) ∙ gate_keeps u env g k (omega arith)
 
+same_values : (I : Lit → Type 0) (m : ℕ) (p q : Wire → Bool) (ws : List Wire) → All (Known I m) ws → ((w : Wire) → Known I m w → p w ≡ q w) → map p ws ≡ map q ws
+same_values I m p q [] known same = refl
+same_values I m p q (w ∷ ws) known same =
+    ap (λ b. b ∷ map p ws) (same w (All-head (Known I m) w ws known)) ∙ ap (λ bs. q w ∷ bs) (same_values I m p q ws (All-tail (Known I m) w ws known) same)
+
 -- the values of what an adder reads, and of what it makes, decide
-same_computes : (I : Lit → Type 0) (m : ℕ) (p q : Wire → Bool) (g : Gate) → GateReads I m g → ((w : Wire) → Known I m w → p w ≡ q w)
+same_computes : (I : Lit → Type 0) (m : ℕ) (p q : Wire → Bool) (g : Gate) → All (Known I m) (gate_inputs g) → ((w : Wire) → Known I m w → p w ≡ q w)
     → p (Made (made_of g)) ≡ gate_sum_value q g → p (Made (made_of g + 1)) ≡ carry_value q g → Computes p g
 unfolding gate_sum_value carry_value
-same_computes I m p q (Full a b c made) reads same sum carry =
-    let ea = same a reads.0 in
-    let eb = same b reads.1 in
-    let ec = same c reads.2 in
-    (rw (ea, eb, ec) sum, rw (ea, eb, ec) carry)
-same_computes I m p q (Half a b made) reads same sum carry =
-    let ea = same a reads.0 in
-    let eb = same b reads.1 in
-    (rw (ea, eb) sum, rw (ea, eb) carry)
+same_computes I m p q g reads same sum carry =
+    let values = sym (same_values I m p q (gate_inputs g) reads same) in
+    (sum ∙ ap odd_of values, carry ∙ ap two_of values)
 
 pub gates_compute : (I : Lit → Type 0) (u : Lit → Bool) (env : ℕ → Bool) (gs : List Gate) (m : ℕ) → Wired I m gs → All (Computes (bit_value u (with_gates u env gs))) gs
 unfolding with_gates
@@ -103,25 +100,14 @@ extended_value : (first : ℕ) (v : ℕ → Bool) (gs : List Gate) (m : ℕ) (w 
 extended_value first v gs m (Input l) known = sym (extended_literal v first (made_values v gs) l known)
 extended_value first v gs m (Made k) known = extended_fresh v first (made_values v gs) k
 
-transfer : (I : Lit → Type 0) (m : ℕ) (p q : Wire → Bool) (g : Gate) (gs : List Gate) → Wired I m (g ∷ gs) → ((n : ℕ) (w : Wire) → Known I n w → p w ≡ q w) → Computes q g → Computes p g
-transfer I m p q (Full a b c made) gs wired same h =
-    let ea = same m a wired.0.0 in
-    let eb = same m b wired.0.1 in
-    let ec = same m c wired.0.2 in (
-      rw (ea, eb, ec) (same (made + 1) (Made made) (let k : made < made + 1 = omega arith in k) ∙ h.0),
-      rw (ea, eb, ec) (same (made + 2) (Made (made + 1)) (let k : made + 1 < made + 2 = omega arith in k) ∙ h.1),
-    )
-transfer I m p q (Half a b made) gs wired same h =
-    let ea = same m a wired.0.0 in
-    let eb = same m b wired.0.1 in (
-      rw (ea, eb) (same (made + 1) (Made made) (let k : made < made + 1 = omega arith in k) ∙ h.0),
-      rw (ea, eb) (same (made + 2) (Made (made + 1)) (let k : made + 1 < made + 2 = omega arith in k) ∙ h.1),
-    )
-
 transfer_all : (I : Lit → Type 0) (m : ℕ) (p q : Wire → Bool) (gs : List Gate) → Wired I m gs → ((n : ℕ) (w : Wire) → Known I n w → p w ≡ q w) → All (Computes q) gs → All (Computes p) gs
+unfolding gate_sum_value carry_value
 transfer_all I m p q [] wired same all = All-nil (Computes p)
 transfer_all I m p q (g ∷ gs) wired same all =
-    All-cons (Computes p) g gs (transfer I m p q g gs wired same (All-head (Computes q) g gs all)) (transfer_all I (m + 2) p q gs wired.2 same (All-tail (Computes q) g gs all))
+    let here = All-head (Computes q) g gs all in
+    let made : (n : ℕ) → p (Made n) ≡ q (Made n) = λ n. same (n + 1) (Made n) (let h : n < n + 1 = omega arith in h) in
+    All-cons (Computes p) g gs (same_computes I m p q g wired.0 (same m) (made (made_of g) ∙ here.0) (made (made_of g + 1) ∙ here.1))
+    (transfer_all I (m + 2) p q gs wired.2 same (All-tail (Computes q) g gs all))
 
 pub extended_computes : (first : ℕ) (v : ℕ → Bool) (gs : List Gate) → Wired (λ l. l.var < first) 0 gs → All (Computes (holds_of first (extended v first (made_values v gs)))) gs
 extended_computes first v gs wired =

@@ -1,7 +1,8 @@
 -- The clauses of the adders may be claimed once it is known what their variables mean.
-use Rattle.std.proofs.Common.{◌≡◌, ◌≤◌, ◌<◌, ◌+◌, ◌^◌, ℕ, true, List, [], ◌∷◌, length, refl, subst, arith, get_or, leb}
+use Rattle.std.proofs.Common.{◌≡◌, ◌≤◌, ◌<◌, ◌+◌, ◌^◌, ℕ, true, List, [], ◌∷◌, length, refl, subst, sym, arith, get_or, leb}
 use Rattle.std.specs.Prelude.{All, map, flat_map, Some}
-use Rattle.std.specs.List.{list_all}
+use Rattle.std.specs.List.{AllPairs, list_all}
+use Rattle.std.proofs.lemmas.List.{length-map, map-append}
 use Rattle.std.proofs.lemmas.Bool.{leb-true}
 use Rattle.std.proofs.lemmas.List.Elements.{All-nil, All-head, All-tail, All-append, All-map}
 use Rattle.std.proofs.lemmas.List.Sums.{AllPass-from_list_all}
@@ -17,17 +18,19 @@ use Rattle.pb_derive.specs.inner.Meant.{IsMeant, AreMeant}
 use Rattle.pb_derive.proofs.Laters.{known_below}
 use Rattle.pb_adder.specs.declared.gate.Gate.{Gate}
 use Rattle.pb_adder.specs.declared.gate.Gate.TheVariants.{Full, Half}
-use Rattle.pb_adder.specs.Gates.{wire_lit, gate_clauses}
+use Rattle.pb_adder.specs.Gates.{gate_clauses, gate_inputs, wire_lit}
 use Rattle.pb_derive.specs.Ones.{ones}
-use Rattle.pb_adder.specs.GateReifications.{carry_reification, sum_reification, input_lits, gate_reifications, sum_var, carry_var}
+use Rattle.pb_adder.specs.GateReifications.{carry_reification, sum_reification, input_lits, gate_reifications, sum_var, carry_var, twice_off}
 use Rattle.pb_adder.specs.inner.RunningSums.{IsApart}
 use Rattle.pb_derive.specs.Rups.{by_rup}
 use Rattle.pb_adder.specs.AdderSteps.{gate_ids, gate_claims, row_claims}
-use Rattle.pb_adder.specs.laws.Distances.{lits_apart}
+use Rattle.pb_adder.specs.laws.Distances.{Unequal, lits_apart, vars}
+use Rattle.pb_adder.specs.laws.GateTables.{few_inputs, gate_places}
 use Rattle.pb_derive.specs.inner.Refuted.{IsRefuting, AreAt}
 use Rattle.pb_derive.proofs.PinnedRups.{AreFormsOf}
-use Rattle.pb_adder.specs.laws.GateRups.{adder_constraints, full_refutes, half_refutes}
-use Rattle.pb_derive.proofs.Rups.{refuted_claims}
+use Rattle.pb_adder.specs.laws.GateRups.{adder_constraints, gate_refutes}
+use Rattle.pb_derive.proofs.Rups.{ones-weight, refuted_claims}
+use Rattle.pb_derive.proofs.Sides.{weight-append}
 
 -- the four constraints of an adder, and where they stand
 pub record HasFour (db : Database) (id : ℕ) (inputs : List Lit) (s d : ℕ) : Type 0 where
@@ -63,24 +66,14 @@ four_of db id inputs s d numbered two three carry sum =
 
 gate_refuted : (db : Database) (first id : ℕ) (g : Gate) → IsNumbered db → IsApart first g → IsMeant db id (carry_reification (input_lits first g) (carry_var first g))
     → IsMeant db (id + 2) (sum_reification (input_lits first g) (sum_var first g) (carry_var first g)) → (cs : List Constraint) × AreAt db (gate_ids id) cs × All (IsRefuting cs) (gate_clauses first g)
-gate_refuted db first id (Full a b c made) numbered apart carry sum =
-    let g = Full a b c made in
+gate_refuted db first id g numbered apart carry sum =
     let inputs = input_lits first g in
-    let has = four_of db id inputs (sum_var first g) (carry_var first g) numbered (omega arith) (omega arith) carry sum in (
-      has.cs,
-      has.at,
-      full_refutes (wire_lit first a) (wire_lit first b) (wire_lit first c) (sum_var first g) (carry_var first g) has.cs
-          (lits_apart (wire_lit first a ∷ wire_lit first b ∷ wire_lit first c ∷ positive_of (sum_var first g) ∷ positive_of (carry_var first g) ∷ []) apart) has.forms,
-    )
-gate_refuted db first id (Half a b made) numbered apart carry sum =
-    let g = Half a b made in
-    let inputs = input_lits first g in
-    let has = four_of db id inputs (sum_var first g) (carry_var first g) numbered (omega arith) (omega arith) carry sum in (
-      has.cs,
-      has.at,
-      half_refutes (wire_lit first a) (wire_lit first b) (sum_var first g) (carry_var first g) has.cs
-          (lits_apart (wire_lit first a ∷ wire_lit first b ∷ positive_of (sum_var first g) ∷ positive_of (carry_var first g) ∷ []) apart) has.forms,
-    )
+    let size = length-map (gate_inputs g) (wire_lit first) in
+    let heavy = ones-weight inputs in
+    let has = four_of db id inputs (sum_var first g) (carry_var first g) numbered (omega (arith, size, heavy, few_inputs g))
+    (omega (arith, size, heavy, few_inputs g, weight-append (ones inputs) (twice_off (carry_var first g) ∷ []))) carry sum in
+    let places : AllPairs Unequal (vars (gate_places first g)) = subst (AllPairs Unequal) (sym (map-append (λ (l : Lit). l.var) inputs (positive_of (sum_var first g) ∷ positive_of (carry_var first g) ∷ []))) apart in
+    (has.cs, has.at, gate_refutes first g has.cs (lits_apart (gate_places first g) places) has.forms)
 
 -- an adder's clauses are short
 pub gate_few : (first : ℕ) (g : Gate) → All (λ (c : List Lit). length c ≤ 4) (gate_clauses first g)

@@ -1,5 +1,5 @@
 -- The clauses of an adder follow by propagation from what its variables mean.
-use Rattle.std.proofs.Common.{◌≡◌, ℕ, true, List, [], ◌∷◌, ◌++◌, refl}
+use Rattle.std.proofs.Common.{◌≡◌, ◌+◌, ℕ, true, List, [], ◌∷◌, ◌++◌, length, refl, subst, sym}
 use Rattle.std.specs.Prelude.{All, map}
 use Rattle.std.specs.List.{list_all}
 use Rattle.pb_base.specs.declared.literal.Lit.{Lit}
@@ -10,8 +10,12 @@ use Rattle.pb_derive.specs.Reifications.{Reification, forward_of, reverse_of}
 use Rattle.pb_derive.specs.inner.Refuted.{IsRefuting}
 use Rattle.pb_derive.proofs.PinLemmas.{AreApartLits}
 use Rattle.pb_derive.proofs.PinnedRups.{AreFormsOf, is_refuted, pinned_refute}
-use Rattle.pb_adder.specs.GateReifications.{carry_reification, sum_reification}
-use Rattle.pb_adder.specs.Gates.{full_clauses, half_clauses}
+use Rattle.pb_derive.specs.laws.Pins.{pinned_constraint}
+use Rattle.pb_adder.specs.declared.gate.Gate.{Gate}
+use Rattle.pb_adder.specs.declared.gate.Gate.TheVariants.{Full, Half}
+use Rattle.pb_adder.specs.GateReifications.{carry_reification, sum_reification, input_lits, sum_var, carry_var}
+use Rattle.pb_adder.specs.Gates.{gate_clauses, gate_inputs}
+use Rattle.pb_adder.specs.laws.GateTables.{gate_places, gate_table, table_clauses}
 
 abbrev both_of : Reification → List Constraint
 both_of m = forward_of m ∷ reverse_of m ∷ []
@@ -24,36 +28,24 @@ adder_constraints inputs s d = both_of (carry_reification inputs d) ++ both_of (
 abbrev traces : ℕ → List Lit → List (List Lit)
 traces d q = map negated q ∷ (positive_of d ∷ map negated q) ∷ (negated (positive_of d) ∷ map negated q) ∷ []
 
--- ---- over numbered literals
+-- those of an adder, over the places of its table
+abbrev numbered : Gate → List Constraint
+numbered (Full a b c made) = adder_constraints (positive_of 0 ∷ positive_of 1 ∷ positive_of 2 ∷ []) 3 4
+numbered (Half a b made) = adder_constraints (positive_of 0 ∷ positive_of 1 ∷ []) 2 3
 
-abbrev full_numbered : List Constraint
-full_numbered = adder_constraints (positive_of 0 ∷ positive_of 1 ∷ positive_of 2 ∷ []) 3 4
-
-abbrev full_pins : List (List Lit)
-full_pins = full_clauses (positive_of 0) (positive_of 1) (positive_of 2) (positive_of 3) (positive_of 4)
-
-full_refuted : list_all (is_refuted (traces 4) 5 full_numbered) full_pins ≡ true
+table_refuted : (first : ℕ) (g : Gate) → list_all (is_refuted (traces (length (gate_inputs g) + 1)) (length (gate_places first g)) (numbered g)) (gate_table g) ≡ true
 unfolding is_refuted
-full_refuted = refl
+table_refuted first (Full a b c made) = refl
+table_refuted first (Half a b made) = refl
 
-abbrev half_numbered : List Constraint
-half_numbered = adder_constraints (positive_of 0 ∷ positive_of 1 ∷ []) 2 3
+numbered_pinned : (first : ℕ) (g : Gate) → map (pinned_constraint (gate_places first g)) (numbered g) ≡ adder_constraints (input_lits first g) (sum_var first g) (carry_var first g)
+numbered_pinned first (Full a b c made) = refl
+numbered_pinned first (Half a b made) = refl
 
-abbrev half_pins : List (List Lit)
-half_pins = half_clauses (positive_of 0) (positive_of 1) (positive_of 2) (positive_of 3)
-
-half_refuted : list_all (is_refuted (traces 3) 4 half_numbered) half_pins ≡ true
-unfolding is_refuted
-half_refuted = refl
-
--- ---- over any literals of different variables
-
-pub full_refutes : (a b c : Lit) (s d : ℕ) (cs : List Constraint) → AreApartLits (a ∷ b ∷ c ∷ positive_of s ∷ positive_of d ∷ [])
-    → AreFormsOf (adder_constraints (a ∷ b ∷ c ∷ []) s d) cs → All (IsRefuting cs) (full_clauses a b c (positive_of s) (positive_of d))
-full_refutes a b c s d cs apart forms =
-    pinned_refute (traces 4) (a ∷ b ∷ c ∷ positive_of s ∷ positive_of d ∷ []) full_numbered cs full_pins apart forms full_refuted
-
-pub half_refutes : (a b : Lit) (s d : ℕ) (cs : List Constraint) → AreApartLits (a ∷ b ∷ positive_of s ∷ positive_of d ∷ [])
-    → AreFormsOf (adder_constraints (a ∷ b ∷ []) s d) cs → All (IsRefuting cs) (half_clauses a b (positive_of s) (positive_of d))
-half_refutes a b s d cs apart forms =
-    pinned_refute (traces 3) (a ∷ b ∷ positive_of s ∷ positive_of d ∷ []) half_numbered cs half_pins apart forms half_refuted
+-- so over its literals, where all variables differ
+pub gate_refutes : (first : ℕ) (g : Gate) (cs : List Constraint) → AreApartLits (gate_places first g)
+    → AreFormsOf (adder_constraints (input_lits first g) (sum_var first g) (carry_var first g)) cs → All (IsRefuting cs) (gate_clauses first g)
+gate_refutes first g cs apart forms =
+    subst (All (IsRefuting cs)) (table_clauses first g)
+    (pinned_refute (traces (length (gate_inputs g) + 1)) (gate_places first g) (numbered g) cs (gate_table g) apart
+    (subst (λ (ps : List Constraint). AreFormsOf ps cs) (sym (numbered_pinned first g)) forms) (table_refuted first g))

@@ -2,9 +2,10 @@
 use Rattle.std.proofs.Common.{◌≡◌, ◌≤◌, ◌<◌, ◌+◌, ◌*◌, ◌^◌, ℕ, List, [], ◌∷◌, ◌++◌, length, refl, sym, ap, ◌∙◌, subst, arith, zero, suc, ◌-◌}
 use Rattle.std.specs.Prelude.{All, map, flat_map}
 use Rattle.std.proofs.lemmas.List.{length-map}
-use Rattle.std.proofs.lemmas.List.Elements.{All-cons, All-nil, All-head, All-tail, All-append, All-map, All-weaker}
+use Rattle.std.proofs.lemmas.List.Elements.{All-nil, All-append, All-map, All-weaker}
+use Rattle.std.proofs.lemmas.List.Folds.{flat_map-map}
 use Rattle.pb_norm.specs.Constraints.{Weighted, weight}
-use Rattle.pb_derive.specs.Reifications.{Reification}
+use Rattle.pb_derive.proofs.Justified.{all_unmapped}
 use Rattle.pb_adder.specs.declared.gate.Wire.{Wire}
 use Rattle.pb_adder.specs.declared.gate.Gate.{Gate}
 use Rattle.pb_adder.specs.Gates.{carry_wire}
@@ -36,19 +37,11 @@ pub leveled_length : (ts : List Weighted) → length (leveled_gates ts) ≡ leng
 leveled_length ts = sym (length-map (leveled_gates ts) (λ (x : Leveled). x.gate)) ∙ ap length (network_leveled ts)
 
 -- what holds of each adder of the network holds of each with its level
-from_gates : (P : Gate → Type 0) (xs : List Leveled) → All P (gates_in xs) → All (λ (x : Leveled). P x.gate) xs
-from_gates P [] h = All-nil (λ (x : Leveled). P x.gate)
-from_gates P (x ∷ xs) h = All-cons (λ (x : Leveled). P x.gate) x xs (All-head P x.gate (gates_in xs) h) (from_gates P xs (All-tail P x.gate (gates_in xs) h))
-
 pub network_each : (P : Gate → Type 0) (ts : List Weighted) → All P (network_gates ts) → All (λ (x : Leveled). P x.gate) (leveled_gates ts)
-network_each P ts h = from_gates P (leveled_gates ts) (subst (All P) (sym (network_leveled ts)) h)
-
-reifications-gates : (first : ℕ) (xs : List Leveled) → reifications_of first xs ≡ flat_map (gate_reifications first) (gates_in xs)
-reifications-gates first [] = refl
-reifications-gates first (x ∷ xs) = ap (λ (ms : List Reification). gate_reifications first x.gate ++ ms) (reifications-gates first xs)
+network_each P ts h = all_unmapped P (λ (x : Leveled). x.gate) (leveled_gates ts) (subst (All P) (sym (network_leveled ts)) h)
 
 pub network_reifications : (first : ℕ) (ts : List Weighted) → reifications_of first (leveled_gates ts) ≡ flat_map (gate_reifications first) (network_gates ts)
-network_reifications first ts = reifications-gates first (leveled_gates ts) ∙ ap (flat_map (gate_reifications first)) (network_leveled ts)
+network_reifications first ts = sym (flat_map-map (gate_reifications first) (λ (x : Leveled). x.gate) (leveled_gates ts)) ∙ ap (flat_map (gate_reifications first)) (network_leveled ts)
 
 -- ---- no level is high
 

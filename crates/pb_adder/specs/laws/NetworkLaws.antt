@@ -13,14 +13,11 @@ use Rattle.pb_base.proofs.Members.{All-append_both}
 use Rattle.pb_family.proofs.UnitSums.{count_by-cons}
 use Rattle.pb_adder.specs.declared.gate.Wire.{Wire}
 use Rattle.pb_adder.specs.declared.gate.Wire.TheVariants.{Input, Made}
-use Rattle.pb_adder.specs.declared.gate.Gate.{Gate}
 use Rattle.pb_adder.specs.declared.gate.Gate.TheVariants.{Full, Half}
-use Rattle.pb_adder.specs.Gates.{sum_wire, carry_wire}
-use Rattle.pb_adder.specs.laws.GateLaws.{one, inputs_sum}
+use Rattle.pb_adder.specs.Gates.{carry_wire}
+use Rattle.pb_adder.specs.laws.GateLaws.{Adds}
+use Rattle.pb_adder.specs.laws.GateTables.{one}
 use Rattle.pb_adder.specs.Network.{has_bit, inputs_at, level_gates, level_left, gates_of, oldest_of, level_end, queue_at, gates_from, ends_from, digits_within, level_count, network_gates, network_ends}
-
-abbrev pub Adds : (Wire → Bool) → Gate → Type 0
-Adds p g = inputs_sum p g ≡ one (p (sum_wire g)) + 2 * one (p (carry_wire g))
 
 -- ---- one level
 

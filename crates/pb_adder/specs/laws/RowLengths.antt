@@ -10,7 +10,7 @@ use Rattle.pb_adder.specs.declared.gate.Wire.{Wire}
 use Rattle.pb_base.specs.Literals.{negated}
 use Rattle.pb_adder.specs.Gates.{carry_wire, wire_lit}
 use Rattle.pb_adder.specs.Network.{gates_of, queue_at, ends_from}
-use Rattle.pb_adder.specs.Comparator.{is_odd, with_end, covering, row_of, comparator_rows, row_clause, comparator}
+use Rattle.pb_adder.specs.Comparator.{is_odd, with_end, covering, row_at, row_of, comparator_rows, row_clause, comparator}
 
 FoundShort : ℕ → Option (List Wire) → Type 0
 FoundShort n None = Unit {0}
@@ -65,18 +65,18 @@ ends_length (suc n) level ts carried made =
     ap suc (ends_length n (level + 1) ts (map carry_wire gates) (made + 2 * length gates))
 
 -- no level has more than one
-row_few : (n : ℕ) (w : Wire) (found : Option (List Wire)) → length (row_of w found) ≤ 1
-row_few n w None = omega arith
-row_few n w (Some ws) = omega arith
+pub row_at_few : (bound : ℕ) (e : Option Wire) (above : List (Option Wire)) → length (row_at bound e above) ≤ 1
+row_at_few bound None above = omega arith
+row_at_few bound (Some w) above =
+    cond_both (is_odd bound) [] (row_of w (covering (bound / 2) above)) (λ (r : List (List Wire)). length r ≤ 1) (λ _. omega arith) (λ _. few (covering (bound / 2) above))
+  where
+    few : (found : Option (List Wire)) → length (row_of w found) ≤ 1
+    few None = omega arith
+    few (Some ws) = omega arith
 
 rows_few : (k : ℕ) (es : List (Option Wire)) → length (comparator_rows k es) ≤ length es
 rows_few k [] = omega arith
-rows_few k (None ∷ es) = omega (arith, rows_few (k / 2) es)
-rows_few k (Some w ∷ es) =
-    let row : List (List Wire) = row_of w (covering (k / 2) es) in
-    let own : List (List Wire) = cond (is_odd k) [] row in
-    let few : length own ≤ 1 = cond_both (is_odd k) [] row (λ (r : List (List Wire)). length r ≤ 1) (λ _. omega arith) (λ _. row_few k w (covering (k / 2) es)) in
-    omega (arith, length-append own (comparator_rows (k / 2) es), few, rows_few (k / 2) es)
+rows_few k (e ∷ es) = omega (arith, length-append (row_at k e es) (comparator_rows (k / 2) es), row_at_few k e es, rows_few (k / 2) es)
 
 pub comparator_few : (first k : ℕ) (es : List (Option Wire)) → length (comparator first k es) ≤ length es
 comparator_few first k es = omega (arith, length-map (comparator_rows k es) (row_clause first), rows_few k es)

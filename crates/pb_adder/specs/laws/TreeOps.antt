@@ -33,7 +33,7 @@ use Rattle.pb_adder.specs.Gates.{made_of}
 use Rattle.pb_adder.specs.GateReifications.{carry_reification, sum_reification, input_lits, gate_reifications, sum_var, carry_var}
 use Rattle.pb_adder.specs.LeveledGates.{Leveled}
 use Rattle.pb_adder.specs.laws.Chains.{part-outputs}
-use Rattle.pb_adder.specs.laws.GateLaws.{one}
+use Rattle.pb_adder.specs.laws.GateTables.{one}
 use Rattle.pb_adder.specs.laws.LineOps.{IsReady, add_ready, line_after, line_height, line_ready, power_positive}
 use Rattle.pb_adder.specs.laws.RunningSteps.{balanced_as, balanced_both, balanced_small, balanced_times, line_exact, line_is}
 use Rattle.pb_adder.specs.inner.RunningSums.{outputs, balance, line_of, part, IsBalanced, IsApart, taken_by, given_by, taken, given}

@@ -3,14 +3,15 @@ use Rattle.std.proofs.Common.{◌≡◌, ◌<◌, ◌≤◌, ◌+◌, ◌*◌, �
 use Rattle.std.specs.Prelude.{All, map, Option, Some, None}
 use Rattle.std.specs.List.{filter}
 use Rattle.std.proofs.lemmas.Bool.{cond_both}
-use Rattle.std.proofs.lemmas.List.Elements.{All-cons, All-nil, All-head, All-tail, All-append}
+use Rattle.std.proofs.lemmas.List.Elements.{All-append, All-cons, All-filter, All-head, All-map, All-nil, All-tail}
 use Rattle.pb_base.specs.declared.literal.Lit.{Lit}
+use Rattle.pb_base.proofs.Members.{All-append_both}
 use Rattle.pb_norm.specs.Constraints.{Weighted}
 use Rattle.pb_adder.specs.declared.gate.Wire.{Wire}
 use Rattle.pb_adder.specs.declared.gate.Wire.TheVariants.{Input, Made}
 use Rattle.pb_adder.specs.declared.gate.Gate.{Gate}
-use Rattle.pb_adder.specs.declared.gate.Gate.TheVariants.{Full, Half}
-use Rattle.pb_adder.specs.Gates.{made_of, carry_wire}
+use Rattle.pb_adder.specs.declared.gate.Gate.TheVariants.{Full}
+use Rattle.pb_adder.specs.Gates.{carry_wire, gate_inputs, made_of}
 use Rattle.pb_adder.specs.Comparator.{is_odd, with_end, covering, row_of, comparator_rows}
 use Rattle.pb_adder.specs.Network.{has_bit, inputs_at, level_gates, level_left, gates_of, oldest_of, level_end, queue_at, gates_from, ends_from, level_count, network_gates, network_ends}
 
@@ -19,14 +20,10 @@ abbrev pub Known : (Lit → Type 0) → ℕ → Wire → Type 0
 Known I m (Input l) = I l
 Known I m (Made k) = k < m
 
-abbrev pub GateReads : (Lit → Type 0) → ℕ → Gate → Type 0
-GateReads I m (Full a b c made) = Known I m a × Known I m b × Known I m c
-GateReads I m (Half a b made) = Known I m a × Known I m b
-
 -- the adders make two variables each, one after another, and read earlier ones
 abbrev pub Wired : (Lit → Type 0) → ℕ → List Gate → Type 0
 Wired I m [] = Unit {0}
-Wired I m (g ∷ gs) = GateReads I m g × (made_of g ≡ m) × Wired I (m + 2) gs
+Wired I m (g ∷ gs) = All (Known I m) (gate_inputs g) × (made_of g ≡ m) × Wired I (m + 2) gs
 
 abbrev pub EndKnown : (Lit → Type 0) → ℕ → Option Wire → Type 0
 EndKnown I m None = Unit {0}
@@ -41,26 +38,19 @@ all_more I m n le ws all = λ k d h. known_more I m n le _ (all k d h)
 
 -- ---- one level
 
-joined_known : (I : Lit → Type 0) (m : ℕ) (rest : List Wire) → All (Known I m) rest → All (Known I (m + 2)) (rest ++ Made m ∷ [])
+pub joined_known : (I : Lit → Type 0) (m : ℕ) (rest : List Wire) → All (Known I m) rest → All (Known I (m + 2)) (rest ++ Made m ∷ [])
 joined_known I m rest all =
     All-append (Known I (m + 2)) rest (Made m ∷ []) (all_more I m (m + 2) (omega arith) rest all)
     (All-cons (Known I (m + 2)) (Made m) [] (let h : m < m + 2 = omega arith in h) (All-nil (Known I (m + 2))))
-
-third_tail : (I : Lit → Type 0) (m : ℕ) (a b c : Wire) (rest : List Wire) → All (Known I m) (a ∷ b ∷ c ∷ rest) → Known I m a × Known I m b × Known I m c × All (Known I m) rest
-third_tail I m a b c rest all =
-    let P = Known I m in
-    let one = All-tail P a (b ∷ c ∷ rest) all in
-    let two = All-tail P b (c ∷ rest) one in
-    (All-head P a (b ∷ c ∷ rest) all, All-head P b (c ∷ rest) one, All-head P c rest two, All-tail P c rest two)
 
 level_wired : (I : Lit → Type 0) (n : ℕ) (queue : List Wire) (m : ℕ) → All (Known I m) queue → Wired I m (level_gates n queue m)
 level_wired I zero queue m all = tt
 level_wired I (suc n) [] m all = tt
 level_wired I (suc n) (a ∷ []) m all = tt
-level_wired I (suc n) (a ∷ b ∷ []) m all = ((All-head (Known I m) a (b ∷ []) all, All-head (Known I m) b [] (All-tail (Known I m) a (b ∷ []) all)), refl, tt)
+level_wired I (suc n) (a ∷ b ∷ []) m all = (all, refl, tt)
 level_wired I (suc n) (a ∷ b ∷ c ∷ rest) m all =
-    let parts = third_tail I m a b c rest all in
-    ((parts.0, parts.1, parts.2), refl, level_wired I n (rest ++ Made m ∷ []) (m + 2) (joined_known I m rest parts.3))
+    let parts = All-append_both (Known I m) (a ∷ b ∷ c ∷ []) rest all in
+    (parts.0, refl, level_wired I n (rest ++ Made m ∷ []) (m + 2) (joined_known I m rest parts.1))
 
 left_known : (I : Lit → Type 0) (n : ℕ) (queue : List Wire) (m : ℕ) → All (Known I m) queue → All (Known I (m + 2 * length (level_gates n queue m))) (level_left n queue m)
 left_known I zero queue m all = all_more I m (m + 2 * 0) (omega arith) queue all
@@ -68,10 +58,10 @@ left_known I (suc n) [] m all = all_more I m (m + 2 * 0) (omega arith) [] all
 left_known I (suc n) (a ∷ []) m all = all_more I m (m + 2 * 0) (omega arith) (a ∷ []) all
 left_known I (suc n) (a ∷ b ∷ []) m all = All-cons (Known I (m + 2 * 1)) (Made m) [] (let h : m < m + 2 * 1 = omega arith in h) (All-nil (Known I (m + 2 * 1)))
 left_known I (suc n) (a ∷ b ∷ c ∷ rest) m all =
-    let parts = third_tail I m a b c rest all in
+    let parts = All-append_both (Known I m) (a ∷ b ∷ c ∷ []) rest all in
     let later = level_gates n (rest ++ Made m ∷ []) (m + 2) in
     all_more I (m + 2 + 2 * length later) (m + 2 * length (Full a b c m ∷ later)) (omega arith) (level_left n (rest ++ Made m ∷ []) (m + 2))
-    (left_known I n (rest ++ Made m ∷ []) (m + 2) (joined_known I m rest parts.3))
+    (left_known I n (rest ++ Made m ∷ []) (m + 2) (joined_known I m rest parts.1))
 
 pub carries_known : (I : Lit → Type 0) (gs : List Gate) (m : ℕ) → Wired I m gs → All (Known I (m + 2 * length gs)) (map carry_wire gs)
 carries_known I [] m wired = All-nil (Known I (m + 2 * 0))
@@ -93,12 +83,7 @@ first_known I m (w ∷ ws) all = All-head (Known I m) w ws all
 -- ---- all levels
 
 inputs_known : (I : Lit → Type 0) (m level : ℕ) (ts : List Weighted) → All (λ t. I t.lit) ts → All (Known I m) (inputs_at ts level)
-inputs_known I m level [] all = All-nil (Known I m)
-inputs_known I m level (t ∷ ts) all =
-    let rest = inputs_known I m level ts (All-tail (λ t. I t.lit) t ts all) in
-    cond_both (has_bit level t) (t ∷ filter (has_bit level) ts) (filter (has_bit level) ts) (λ us. All (Known I m) (map (λ (t : Weighted). Input t.lit) us))
-    (λ _. All-cons (Known I m) (Input t.lit) (inputs_at ts level) (All-head (λ t. I t.lit) t ts all) rest)
-    (λ _. rest)
+inputs_known I m level ts all = All-map (Known I m) (λ (t : Weighted). Input t.lit) (filter (has_bit level) ts) (All-filter (has_bit level) (λ t. I t.lit) ts all)
 
 queue_known : (I : Lit → Type 0) (m level : ℕ) (ts : List Weighted) (carried : List Wire) → All (λ t. I t.lit) ts → All (Known I m) carried → All (Known I m) (queue_at ts level carried)
 queue_known I m level ts carried inputs known = All-append (Known I m) (inputs_at ts level) carried (inputs_known I m level ts inputs) known

@@ -71,6 +71,13 @@ pub record IsOn (a : ℕ) (next : List Interval) (residue : ℕ) (side : Interva
   pub ends : residue < a → (side.low ≡ 0) × (side.top ≡ a)
   pub node : a ≤ residue → (h : Interval) × Contains next h × LiesIn (residue - a) h × (side.low ≡ a + h.low) × (side.top ≡ a + h.top)
 
+-- the false child, or the true one, of the node that holds the residue is not known
+abbrev pub LacksFalseChild : ℕ → List Interval → ℕ → Type 0
+LacksFalseChild whole next residue = (residue < whole) × IsUnknown next residue
+
+abbrev pub LacksTrueChild : ℕ → List Interval → ℕ → Type 0
+LacksTrueChild a next residue = (a ≤ residue) × IsUnknown next (residue - a)
+
 -- a node from its children
 pub record IsJoined (a whole : ℕ) (next : List Interval) (residue : ℕ) (g : Interval) : Type 0 where
   pub off : Interval
@@ -90,7 +97,7 @@ pub record IsGrown (nodes : List Interval) (g : Interval) (more : List Interval)
 
 -- a look at a residue found its node, or misses a child
 abbrev pub Looked : ℕ → ℕ → List Interval → ℕ → Look → Type 0
-Looked a whole next residue (Missing child off) = IsMissing a whole next residue child × IfSome off (IsOff a whole next residue)
+Looked a whole next residue (Missing child off near) = IsMissing a whole next residue child × IfSome off (IsOff a whole next residue)
 Looked a whole next residue (Found g) = IsJoined a whole next residue g
 
 -- a search, with the sum of the coefficients after the levels at which residues are wanted

@@ -1,4 +1,4 @@
-use Rattle.std.proofs.Common.{List, ap}
+use Rattle.std.proofs.Common.{List, ◌++◌, ◌∙◌, ap}
 use Rattle.std.specs.Prelude.{map}
 use Rattle.pb_base.specs.declared.literal.Lit.{Lit}
 use Rattle.pb_derive.specs.Claims.{claim_steps}
@@ -12,15 +12,12 @@ pub returns-in-Three : goal.returns-in-Three
 returns-in-Three g c =
     let old = g.T.StepSink.state c.args.sink.now in
     let by_ids = λ (cs : List (List Lit)). claim_steps old.next (map (by_rup (gate_ids c.args.id)) cs) in
-    steps_same c.claim.result _ _ old (g.T.StepSink.state c.claim.new.sink)
-    (ap by_ids (same_clauses c.args.first c.args.gate.now c.lits.result _ c.lits.ensures c.in-Three.is)) c.claim.ensures
+    steps_same c.derive_both.result _ _ old (g.T.StepSink.state c.derive_both.new.sink)
+    (ap by_ids ((λ i. c.full_sums-sums.ensures i ++ c.full_carries-carries.ensures i) ∙ same_clauses c.args.first c.args.gate.now c.lits.result _ c.lits.ensures c.in-Three.is)) c.derive_both.ensures
 
 pub returns-in-Two : goal.returns-in-Two
 returns-in-Two g c =
     let old = g.T.StepSink.state c.args.sink.now in
     let by_ids = λ (cs : List (List Lit)). claim_steps old.next (map (by_rup (gate_ids c.args.id)) cs) in
-    steps_same c.claim-in-Two.result _ _ old (g.T.StepSink.state c.claim-in-Two.new.sink)
-    (ap by_ids (same_clauses c.args.first c.args.gate.now c.lits.result _ c.lits.ensures c.in-Two.is)) c.claim-in-Two.ensures
-
-pub claim-requires : goal.claim-requires
-claim-requires g c = record { few = c.requires.few }
+    steps_same c.derive_both-in-Two.result _ _ old (g.T.StepSink.state c.derive_both-in-Two.new.sink)
+    (ap by_ids ((λ i. c.half_threes-threes.ensures i ++ c.half_twos-twos.ensures i) ∙ same_clauses c.args.first c.args.gate.now c.lits.result _ c.lits.ensures c.in-Two.is)) c.derive_both-in-Two.ensures

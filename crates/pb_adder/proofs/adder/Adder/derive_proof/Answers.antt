@@ -16,24 +16,22 @@ use Rattle.pb_adder.proofs.Walking.{part_stopped, middle_stopped, last_handed}
 use Rattle.pb_adder.proofs.Walks.{last_below, sums_ids}
 use Rattle.pb_adder.proofs.adder.Adder.derive_proof.Goals as goal
 
-pub derive_sums-requires-clause-low : goal.derive_sums-requires-clause-low
-derive_sums-requires-clause-low g c =
+pub invariant_of-summands : goal.invariant_of-summands
+invariant_of-summands g c =
     let f = c.args.self.now in
     let ts = weights f.terms in
     let Low : ℕ → Type 0 = λ l. l < 126 in
-    subst (All Low) (sym (c.as_slice-heights.ensures.value ∙ f.leveled)) (All-map Low (λ (x : Leveled). x.level) (leveled_gates ts) (network_levels ts f.small))
+    let same = c.as_slice-heights.ensures.value ∙ f.leveled in
+    record {
+      low = subst (All Low) (sym same) (All-map Low (λ (x : Leveled). x.level) (leveled_gates ts) (network_levels ts f.small));
+      fits = omega (arith, c.requires.given, c.requires.fits, ap length same, levels-length ts, network_fresh ts);
+    }
 
-pub derive_sums-requires-clause-fits : goal.derive_sums-requires-clause-fits
-derive_sums-requires-clause-fits g c =
+pub derive_sums-requires : goal.derive_sums-requires
+derive_sums-requires g c =
     let f = c.args.self.now in
     let ts = weights f.terms in
-    omega (arith, c.requires.given, c.requires.fits, ap length (c.as_slice-heights.ensures.value ∙ f.leveled), levels-length ts, network_fresh ts)
-
-pub derive_sums-requires-clause-room : goal.derive_sums-requires-clause-room
-derive_sums-requires-clause-room g c =
-    let f = c.args.self.now in
-    let ts = weights f.terms in
-    omega (arith, c.requires.next, c.requires.given, c.requires.fits, ap length (c.as_slice-heights.ensures.value ∙ f.leveled), levels-length ts, network_fresh ts)
+    record { room = omega (arith, c.requires.next, c.requires.given, c.requires.fits, ap length (c.as_slice-heights.ensures.value ∙ f.leveled), levels-length ts, network_fresh ts) }
 
 pub returns-in_err-last : goal.returns-in_err-last
 returns-in_err-last g c =

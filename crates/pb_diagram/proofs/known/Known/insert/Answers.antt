@@ -1,24 +1,46 @@
-use Rattle.std.proofs.Common.{sym, subst, List, ℕ}
-use Rattle.pb_diagram.specs.inner.Known.{intervals_of, Rise}
-use Rattle.pb_diagram.specs.Levels.{interval_from}
+use Rattle.std.proofs.Common.{List, [], arith, false-eqb, set, subst, sym, ◌∙◌}
+use Rattle.pb_diagram.specs.declared.interval.Interval.{Interval}
+use Rattle.pb_diagram.specs.inner.Known.{AreRuns, intervals_in}
 use Rattle.pb_diagram.specs.laws.Search.{IsGrown}
-use Rattle.pb_diagram.proofs.KnownFacts.{inserted_view, rise_grown}
+use Rattle.pb_diagram.proofs.KnownFacts.{is_at, run_elsewhere, run_grown, run_joined, run_kept}
 use Rattle.pb_diagram.proofs.known.Known.insert.Goals as goal
 
-pub invariant_of-self : goal.invariant_of-self
-invariant_of-self c = subst (λ (l : List (ℕ × ℕ)). Rise (intervals_of l)) (sym c.in_err-insert.ensures.err) c.self.invariant
+pub run_near-place-requires : goal.run_near-place-requires
+run_near-place-requires c = subst AreRuns (sym c.as_slice.ensures.value) c.self.invariant
 
-pub invariant_of-self-2 : goal.invariant_of-self-2
-invariant_of-self-2 c =
-    let now = c.args.self.now in
-    let low = c.args.interval.low in
-    let top = c.args.interval.top in
-    let grown = inserted_view low top c.self.inside.tops.entries now c.self.view_is c.requires.rises c.requires.apart c.self.invariant c.requires.elsewhere in
-    subst (λ (l : List (ℕ × ℕ)). Rise (intervals_of l)) (sym c.in_ok-insert.ensures.entries) (rise_grown now _ (interval_from low top) grown c.requires.rises (subst Rise c.self.view_is c.self.invariant))
+pub insert-requires-clause-elsewhere : goal.insert-requires-clause-elsewhere
+insert-requires-clause-elsewhere c =
+    let some = false-eqb c.self.inside.runs.len 0 (sym c.if-is_empty.false ∙ c.is_empty.ensures) in
+    let at = is_at c.self.inside.runs.items c.as_slice.result.now c.args.self.now c.index_mut.result.now c.args.interval c.run_near-place.result c.self.invariant c.as_slice.ensures.value c.self.view_is (omega (arith, some, c.self.inside.runs.ok.0)) c.run_near-place.ensures c.index_mut.ensures.value c.requires.rises c.requires.elsewhere in
+    run_elsewhere c.self.inside.runs.items c.args.interval c.run_near-place.result c.index_mut.result.now [] at
 
-pub returns : goal.returns
-returns c =
-    let low = c.args.interval.low in
-    let top = c.args.interval.top in
-    subst (λ (l : List (ℕ × ℕ)). IsGrown c.args.self.now (interval_from low top) (intervals_of l)) (sym c.in_ok-insert.ensures.entries)
-    (inserted_view low top c.self.inside.tops.entries c.args.self.now c.self.view_is c.requires.rises c.requires.apart c.self.invariant c.requires.elsewhere)
+pub invariant_of-self-in_err-insert : goal.invariant_of-self-in_err-insert
+invariant_of-self-in_err-insert c =
+    let some = false-eqb c.self.inside.runs.len 0 (sym c.if-is_empty.false ∙ c.is_empty.ensures) in
+    let at = is_at c.self.inside.runs.items c.as_slice.result.now c.args.self.now c.index_mut.result.now c.args.interval c.run_near-place.result c.self.invariant c.as_slice.ensures.value c.self.view_is (omega (arith, some, c.self.inside.runs.ok.0)) c.run_near-place.ensures c.index_mut.ensures.value c.requires.rises c.requires.elsewhere in
+    run_kept c.self.inside.runs.items c.args.interval c.run_near-place.result c.index_mut.result.now c.insert.new.self at c.in_err-insert.ensures.kept
+
+pub invariant_of-self-else-len-gt-MOST : goal.invariant_of-self-else-len-gt-MOST
+invariant_of-self-else-len-gt-MOST c =
+    let some = false-eqb c.self.inside.runs.len 0 (sym c.if-is_empty.false ∙ c.is_empty.ensures) in
+    let at = is_at c.self.inside.runs.items c.as_slice.result.now c.args.self.now c.index_mut.result.now c.args.interval c.run_near-place.result c.self.invariant c.as_slice.ensures.value c.self.view_is (omega (arith, some, c.self.inside.runs.ok.0)) c.run_near-place.ensures c.index_mut.ensures.value c.requires.rises c.requires.elsewhere in
+    run_joined c.self.inside.runs.items c.args.interval c.run_near-place.result c.index_mut.result.now c.insert.new.self at c.in_ok-insert.ensures.grown
+
+pub split-requires-clause-runs : goal.split-requires-clause-runs
+split-requires-clause-runs c =
+    let some = false-eqb c.self.inside.runs.len 0 (sym c.if-is_empty.false ∙ c.is_empty.ensures) in
+    let at = is_at c.self.inside.runs.items c.as_slice.result.now c.args.self.now c.index_mut.result.now c.args.interval c.run_near-place.result c.self.invariant c.as_slice.ensures.value c.self.view_is (omega (arith, some, c.self.inside.runs.ok.0)) c.run_near-place.ensures c.index_mut.ensures.value c.requires.rises c.requires.elsewhere in
+    run_joined c.self.inside.runs.items c.args.interval c.run_near-place.result c.index_mut.result.now c.insert.new.self at c.in_ok-insert.ensures.grown
+
+pub returns-in_ok-split : goal.returns-in_ok-split
+returns-in_ok-split c =
+    let some = false-eqb c.self.inside.runs.len 0 (sym c.if-is_empty.false ∙ c.is_empty.ensures) in
+    let at = is_at c.self.inside.runs.items c.as_slice.result.now c.args.self.now c.index_mut.result.now c.args.interval c.run_near-place.result c.self.invariant c.as_slice.ensures.value c.self.view_is (omega (arith, some, c.self.inside.runs.ok.0)) c.run_near-place.ensures c.index_mut.ensures.value c.requires.rises c.requires.elsewhere in
+    let grown = run_grown c.self.inside.runs.items c.args.interval c.run_near-place.result c.index_mut.result.now c.insert.new.self at c.in_ok-insert.ensures.grown in
+    subst (λ (l : List Interval). IsGrown l c.args.interval (intervals_in c.split.new.runs.items)) c.self.view_is (subst (IsGrown (intervals_in c.self.inside.runs.items) c.args.interval) (sym c.split.ensures.same) grown)
+
+pub returns-else-len-gt-MOST : goal.returns-else-len-gt-MOST
+returns-else-len-gt-MOST c =
+    let some = false-eqb c.self.inside.runs.len 0 (sym c.if-is_empty.false ∙ c.is_empty.ensures) in
+    let at = is_at c.self.inside.runs.items c.as_slice.result.now c.args.self.now c.index_mut.result.now c.args.interval c.run_near-place.result c.self.invariant c.as_slice.ensures.value c.self.view_is (omega (arith, some, c.self.inside.runs.ok.0)) c.run_near-place.ensures c.index_mut.ensures.value c.requires.rises c.requires.elsewhere in
+    subst (λ (l : List Interval). IsGrown l c.args.interval (intervals_in (set c.self.inside.runs.items c.run_near-place.result c.insert.new.self))) c.self.view_is (run_grown c.self.inside.runs.items c.args.interval c.run_near-place.result c.index_mut.result.now c.insert.new.self at c.in_ok-insert.ensures.grown)

@@ -18,8 +18,8 @@ returns-clause-searching c =
     let self = c.args.self.now in
     let top = c.args.top in
     let row = row_read self.levels.items top.place c.index_mut.result.now c.index_mut.ensures.value c.requires.top.listed in
-    let split = popped self.wanted.items c.pop.new.self.items _ top.place top.residue c.pop.result c.pop.ensures.items (c.pop.ensures.value 0 (omega (arith, self.wanted.ok.0, c.requires.top.depth))) self.wanted.ok.0 c.requires.top.depth c.requires.top.residue_is in
-    joins c.args.of.now self.levels.items self.wanted.items c.pop.new.self.items self.left top c.args.interval c.insert.new.self c.requires.searching c.requires.top c.requires.joined split
+    let split = popped self.wanted.items c.pop-2.new.self.items _ top.place top.residue c.pop-2.result c.pop-2.ensures.items (c.pop-2.ensures.value 0 (omega (arith, self.wanted.ok.0, c.requires.top.depth))) self.wanted.ok.0 c.requires.top.depth c.requires.top.residue_is in
+    joins c.args.of.now self.levels.items self.wanted.items c.pop-2.new.self.items self.left top c.args.interval c.insert.new.self c.requires.searching c.requires.top c.requires.joined split
     (subst (λ (l : List Interval). IsGrown l c.args.interval c.insert.new.self) row c.in_ok-insert.ensures)
 
 pub returns-clause-kept : goal.returns-clause-kept
@@ -27,7 +27,7 @@ returns-clause-kept c =
     let self = c.args.self.now in
     let top = c.args.top in
     let row = row_read self.levels.items top.place c.index_mut.result.now c.index_mut.ensures.value c.requires.top.listed in
-    let split = popped self.wanted.items c.pop.new.self.items _ top.place top.residue c.pop.result c.pop.ensures.items (c.pop.ensures.value 0 (omega (arith, self.wanted.ok.0, c.requires.top.depth))) self.wanted.ok.0 c.requires.top.depth c.requires.top.residue_is in
-    sides_join c.args.of.now self.levels.items self.wanted.items c.pop.new.self.items self.sides.items c.pop-2.new.self.items top.place top.residue c.args.interval c.insert.new.self self.last c.requires.kept c.requires.top.depth c.requires.top.listed split
-    (subst (λ (n : ℕ). c.pop-2.new.self.items ≡ take (n - 1) self.sides.items) self.sides.ok.0 c.pop-2.ensures.rest)
+    let split = popped self.wanted.items c.pop-2.new.self.items _ top.place top.residue c.pop-2.result c.pop-2.ensures.items (c.pop-2.ensures.value 0 (omega (arith, self.wanted.ok.0, c.requires.top.depth))) self.wanted.ok.0 c.requires.top.depth c.requires.top.residue_is in
+    sides_join c.args.of.now self.levels.items self.wanted.items c.pop-2.new.self.items self.sides.items c.pop-3.new.self.items top.place top.residue c.args.interval c.insert.new.self self.last c.requires.kept c.requires.top.depth c.requires.top.listed split
+    (subst (λ (n : ℕ). c.pop-3.new.self.items ≡ take (n - 1) self.sides.items) self.sides.ok.0 c.pop-3.ensures.rest)
     (subst (λ (l : List Interval). IsGrown l c.args.interval c.insert.new.self) row c.in_ok-insert.ensures)
