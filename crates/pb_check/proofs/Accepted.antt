@@ -27,7 +27,7 @@ use Rattle.pb_steps.specs.declared.denied.Denied.{Denied}
 use Rattle.pb_steps.specs.declared.denied.Denied.TheVariants.{ClausesLeft}
 use Rattle.pb_steps.proofs.Searching.{none-some}
 use Rattle.pb_check.specs.Faults.{of_cnf, of_step, miscounted_line}
-use Rattle.pb_check.specs.Turns.{Answer, Task, Clauses, Turn, at_out, at_end, next_in, step_turn, head_turn, count_turn, read_turn}
+use Rattle.pb_check.specs.Turns.{Answer, Task, Clauses, Turn, at_out, at_end, next_in, read_turn, turn_by}
 use Rattle.pb_check.specs.Turns.Stage.{head_wanted, count_wanted, at_steps}
 use Rattle.pb_check.specs.Turns.Turn.{go, stop, test}
 use Rattle.pb_check.specs.Walk.{Follows, Walks}
@@ -123,7 +123,7 @@ from-end task head rows number db clauses vars nothing e w =
 from-end task head rows number db clauses vars (refused fault) e w = absurd (no-cnf fault w)
 
 from-step : (task : Task) (head : CnfHead) (rows : List CnfRow) (number : ℕ) (line : List ℕ) (db : Database) (clauses : Clauses) → task.vars ≡ head.vars →
-    Goes task head rows → (s : Step) → Turns task rows number (step_turn task db clauses number line s) → IsRun head db clauses
+    Goes task head rows → (s : Step) → Turns task rows number (turn_by task (at_steps db) clauses number line s) → IsRun head db clauses
 from-step task head rows number line db clauses vars goes Blank w = goes db clauses w
 from-step task head rows number line db clauses vars goes Head w = absurd (no-fault _ w)
 from-step task head rows number line db clauses vars goes (Loaded count) w = absurd (no-fault _ w)
@@ -155,7 +155,7 @@ abbrev pub started : Task → Database
 started task = loaded_database task.original task.vars task.loaded
 
 count-step : (task : Task) (head : CnfHead) (rows : List CnfRow) (number : ℕ) (line : List ℕ) (clauses : Clauses) → Goes task head rows →
-    (Walks task count_wanted clauses rows accepted → IsRun head (started task) clauses) → (s : Step) → Turns task rows number (count_turn task clauses number line s) → IsRun head (started task) clauses
+    (Walks task count_wanted clauses rows accepted → IsRun head (started task) clauses) → (s : Step) → Turns task rows number (turn_by task count_wanted clauses number line s) → IsRun head (started task) clauses
 count-step task head rows number line clauses goes later Blank w = later w
 count-step task head rows number line clauses goes later (Loaded count) w = by_test (eqb count (length task.loaded)) w where
   by_test : (b : Bool) → Turns task rows number (cond {A = Turn} b (go (at_steps (started task)) clauses) (stop (Err (miscounted_line number line)))) → IsRun head (started task) clauses
@@ -176,7 +176,7 @@ count-run task head vars (too_long number which ∷ rows) clauses w = absurd (no
 count-run task head vars (last number ∷ rows) clauses w = absurd (no-fault _ w)
 
 head-step : (task : Task) (head : CnfHead) (rows : List CnfRow) (number : ℕ) (line : List ℕ) (clauses : Clauses) → (Walks task count_wanted clauses rows accepted → IsRun head (started task) clauses) →
-    (Walks task head_wanted clauses rows accepted → IsRun head (started task) clauses) → (s : Step) → Turns task rows number (head_turn clauses number line s) → IsRun head (started task) clauses
+    (Walks task head_wanted clauses rows accepted → IsRun head (started task) clauses) → (s : Step) → Turns task rows number (turn_by task head_wanted clauses number line s) → IsRun head (started task) clauses
 head-step task head rows number line clauses next later Blank w = later w
 head-step task head rows number line clauses next later Head w = next w
 head-step task head rows number line clauses next later _ w = absurd (no-fault _ w)

@@ -24,7 +24,7 @@ use Rattle.pb_steps.specs.LineSteps.{step_of}
 use Rattle.pb_steps.proofs.Denying.{allowed_or_denied}
 use Rattle.pb_steps.proofs.Spelling.{all_spelled}
 use Rattle.pb_check.specs.declared.verdict.Verdict.TheVariants.{Rejected}
-use Rattle.pb_check.specs.Turns.{Answer, Task, Stage, Clauses, Turn, at_out, at_end, next_in, step_turn, head_turn, count_turn, end_turn, read_turn, turn_of}
+use Rattle.pb_check.specs.Turns.{Answer, Task, Stage, Clauses, Turn, at_out, at_end, next_in, read_turn, turn_of, turn_by}
 use Rattle.pb_check.specs.Faults.{of_cnf, of_step, miscounted_line}
 use Rattle.pb_check.specs.Turns.Stage.{head_wanted, count_wanted, at_steps, ended}
 use Rattle.pb_check.specs.Turns.Turn.{go, stop, test}
@@ -82,7 +82,7 @@ some-end task rows number clauses later (clause ls rest) = stopped _
 some-end task rows number clauses later nothing = later ended clauses
 some-end task rows number clauses later (refused fault) = stopped (Err (of_cnf fault))
 
-some-step : (task : Task) (rows : List CnfRow) (number : ℕ) (line : List ℕ) (db : Database) (clauses : Clauses) → Later task rows → (s : Step) → IsSpelled s → SomeTurn task rows number (step_turn task db clauses number line s)
+some-step : (task : Task) (rows : List CnfRow) (number : ℕ) (line : List ℕ) (db : Database) (clauses : Clauses) → Later task rows → (s : Step) → IsSpelled s → SomeTurn task rows number (turn_by task (at_steps db) clauses number line s)
 some-step task rows number line db clauses later Blank spells = later (at_steps db) clauses
 some-step task rows number line db clauses later Head spells = stopped _
 some-step task rows number line db clauses later (Loaded count) spells = stopped _
@@ -93,12 +93,12 @@ some-step task rows number line db clauses later (Del ids) spells = some-test ta
 some-step task rows number line db clauses later (Out id) spells = some-out task rows number db id clauses spells later (next_in task clauses)
 some-step task rows number line db clauses later End spells = some-end task rows number clauses later (next_in task clauses)
 
-some-head : (task : Task) (rows : List CnfRow) (number : ℕ) (line : List ℕ) (clauses : Clauses) → Later task rows → (s : Step) → SomeTurn task rows number (head_turn clauses number line s)
+some-head : (task : Task) (rows : List CnfRow) (number : ℕ) (line : List ℕ) (clauses : Clauses) → Later task rows → (s : Step) → SomeTurn task rows number (turn_by task head_wanted clauses number line s)
 some-head task rows number line clauses later Blank = later head_wanted clauses
 some-head task rows number line clauses later Head = later count_wanted clauses
 some-head task rows number line clauses later _ = stopped _
 
-some-count : (task : Task) (rows : List CnfRow) (number : ℕ) (line : List ℕ) (clauses : Clauses) → Later task rows → (s : Step) → SomeTurn task rows number (count_turn task clauses number line s)
+some-count : (task : Task) (rows : List CnfRow) (number : ℕ) (line : List ℕ) (clauses : Clauses) → Later task rows → (s : Step) → SomeTurn task rows number (turn_by task count_wanted clauses number line s)
 some-count task rows number line clauses later Blank = later count_wanted clauses
 some-count task rows number line clauses later (Loaded count) = by_test (eqb count (length task.loaded)) where
   by_test : (b : Bool) → SomeTurn task rows number (cond {A = Turn} b (go (at_steps (loaded_database task.original task.vars task.loaded)) clauses) (stop (Err (miscounted_line number line))))
@@ -106,7 +106,7 @@ some-count task rows number line clauses later (Loaded count) = by_test (eqb cou
   by_test false = stopped _
 some-count task rows number line clauses later _ = stopped _
 
-some-ended : (task : Task) (rows : List CnfRow) (number : ℕ) (line : List ℕ) (clauses : Clauses) → Later task rows → (s : Step) → SomeTurn task rows number (end_turn clauses number line s)
+some-ended : (task : Task) (rows : List CnfRow) (number : ℕ) (line : List ℕ) (clauses : Clauses) → Later task rows → (s : Step) → SomeTurn task rows number (turn_by task ended clauses number line s)
 some-ended task rows number line clauses later Blank = later ended clauses
 some-ended task rows number line clauses later _ = stopped _
 

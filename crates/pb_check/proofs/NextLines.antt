@@ -27,6 +27,7 @@ use Rattle.pb_check.specs.declared.verdict.CheckFault.TheVariants.{Refused, Limi
 use Rattle.pb_check.specs.Turns.{Answer, Task, Stage, Clauses}
 use Rattle.pb_check.specs.Walk.{Walks}
 use Rattle.pb_check.specs.Faults.{of_step, of_line}
+use Rattle.pb_check.specs.inner.Calls.{ReadsStep}
 use Rattle.pb_check.specs.inner.Phases.{says_nothing, behind_blank, NextSays, IsOpen, StopsOne}
 use Rattle.pb_check.proofs.Answering.{some-left}
 use Rattle.pb_check.proofs.BothStops.{open_weaker}
@@ -107,6 +108,10 @@ pub row_said : (old mid new : Reader) (a b c : DeskState) (line : List ℕ) (s :
 row_said old mid new a b c line s slot is says some first more =
     reads_on old mid new a b c (SaysSame old mid) (λ text rest. rows_left mid text ≡ plain new.number new.line ∷ rows_left new rest) (λ text rest. NextSays (Some s) new (rows_left old text) (rows_left new rest)) slot
     (λ text middle rest p q. (ap step_of (sym is) ∙ says, p ∙ ap behind_blank q ∙ behind_said new.number new.line (rows_left new rest) s (ap step_of (sym is) ∙ says) some)) first more
+
+-- the step that was read, by another name
+pub next_is : {o p : Option Step} (old new : Reader) (a b : DeskState) → o ≡ p → ReadsStep o old new a b → ReadsStep p old new a b
+next_is old new a b is reads = subst (λ (o : Option Step). ReadsStep o old new a b) is reads
 
 -- the end of the text
 pub row_last : (old mid new : Reader) (a b c : DeskState) → mid.slot ≡ old.slot → TakesAhead old.slot old.ahead mid.ahead a b (SaysSame old mid) → GivesRow false mid new b c

@@ -27,7 +27,7 @@ use Rattle.pb_steps.specs.Allowed.{Allowed}
 use Rattle.pb_steps.specs.LineSteps.{step_of}
 use Rattle.pb_steps.specs.Runs.{next_clause, clauses_after, Runs}
 use Rattle.pb_steps.proofs.Searching.{none-some}
-use Rattle.pb_check.specs.Turns.{Task, Stage, Clauses, Turn, at_out, at_end, next_in, step_turn, read_turn}
+use Rattle.pb_check.specs.Turns.{Task, Stage, Clauses, Turn, at_out, at_end, next_in, read_turn, turn_by}
 use Rattle.pb_check.specs.Turns.Stage.{head_wanted, count_wanted, at_steps, ended}
 use Rattle.pb_check.specs.Turns.Turn.{go, stop}
 use Rattle.pb_check.specs.Walk.{Walks, task_of, WalksFrom, WalksBy}
@@ -90,7 +90,7 @@ out-turn task head ss rows number db db' clauses id (c ∷ cs) end vars on spell
 
 step-walks : (task : Task) (head : CnfHead) → task.vars ≡ head.vars → (s : Step) (ss : List Step) → OnLines task head ss →
     (rows : List CnfRow) (number : ℕ) (line : List ℕ) (db : Database) (clauses : Clauses) (cs : List (List Lit)) (end : Database) → Spell rows (ss ++ End ∷ []) → Runs db (s ∷ ss) cs end →
-    told_from head clauses.left clauses.symbols ≡ says head cs → Turns task rows number (step_turn task db clauses number line s)
+    told_from head clauses.left clauses.symbols ≡ says head cs → Turns task rows number (turn_by task (at_steps db) clauses number line s)
 step-walks task head vars Blank ss on rows number line db clauses cs end spell runs tells =
     subst (λ (d : Database). Walks task (at_steps d) clauses rows accepted) runs.1.rule (on rows runs.0 clauses cs end spell runs.2 tells)
 step-walks task head vars (Pol ops) ss on rows number line db clauses cs end spell runs tells =

@@ -6,9 +6,8 @@ use Rattle.pb_base.specs.declared.expected.Expected.{Expected}
 use Rattle.pb_base.specs.declared.expected.Expected.TheVariants as expected
 use Rattle.pb_base.specs.declared.limit.LimitKind.{LimitKind}
 use Rattle.pb_base.specs.declared.limit.LimitKind.TheVariants.{Number, Variables}
-use Rattle.pb_base.specs.declared.literal_word.LitWord.{LitWord}
-use Rattle.pb_base.specs.declared.literal_word.LitWord.TheVariants.{Within, TooGreat, NotALiteral}
-use Rattle.pb_base.specs.LiteralWords.{variable_of, literal_of, limited_literal}
+use Rattle.pb_base.specs.declared.literal.Lit.{Lit}
+use Rattle.pb_base.specs.LiteralWords.{variable_of, literal_of}
 use Rattle.pb_base.specs.Numbers.{natural_of, integer_of}
 use Rattle.pb_base.specs.Words.{Chunk, words_of}
 use Rattle.pb_desk.specs.Limits.{IsLengthLimit}
@@ -18,7 +17,7 @@ use Rattle.pb_steps.specs.declared.op.PolOp.TheVariants.{Push, Axiom, Add, Mul, 
 use Rattle.pb_steps.specs.declared.step.Step.{Step}
 use Rattle.pb_steps.specs.declared.step.Step.TheVariants as step
 use Rattle.pb_steps.specs.StepGrammar.{begins_with_star}
-use Rattle.pb_steps.specs.LineWords.{and_then, token_fault, number_between, id_in, count_in, integer_below, integer_in, literal_by, literal_in, variable_in, bit_in}
+use Rattle.pb_steps.specs.LineWords.{and_then, within, number_between, id_in, integer_in, literal_by, literal_in, variable_in, bit_in}
 use Rattle.pb_steps.specs.LineSteps.{ends_here, past, number_op, literal_op, op_by, op_of, next_text, ops_from, ids_in, terms_in, term_in, right_in, constraint_by, constraint_in, sets_in, arrow_in, value_in, rup_in, red_in, del_in, out_in, loaded_in, head_in, place_by, said_by, said_in, step_of, with_item}
 
 -- no fault of the result is a limit of a length
@@ -47,48 +46,44 @@ next {A} {B} g (Err fault) here later = record { other = λ column which h. here
 
 -- ---- single words
 
+limited : {A : Type 0} (fits : A → Bool) (which : LimitKind) (e : Expected) (column : ℕ) (o : Option A) → ((c : ℕ) → OfWords {A = A} (Err (Limit c which))) → OfWords (within fits which e column o)
+limited fits which e column None allowed = token column e
+limited fits which e column (Some x) allowed = either (fits x) (Ok x) (Err (Limit column which)) (ok x) (allowed column)
+
 between : (least bound : ℕ) (e : Expected) (column : ℕ) (o : Option ℕ) → OfWords (number_between least bound e column o)
-between least bound e column None = token column e
-between least bound e column (Some n) = either (nat_lt n least) (token_fault column e) _ (token column e) (either (nat_lt n bound) (Ok n) (Err (Limit column Number)) (ok n) (number column))
+between least bound e column o =
+    next (λ n. cond (nat_lt n least) (Err (Token column e)) (Ok n)) (within (λ n. nat_lt n bound) Number e column o) (limited (λ n. nat_lt n bound) Number e column o (λ c. number c))
+    (λ n. either (nat_lt n least) (Err (Token column e)) (Ok n) (token column e) (ok n))
 
-whole : (e : Expected) (column : ℕ) (o : Option ℤ) → OfWords (integer_below e column o)
-whole e column None = token column e
-whole e column (Some z) = either (nat_lt (unsigned_abs z) (2 ^ 126)) (Ok z) (Err (Limit column Number)) (ok z) (number column)
-
-name : (e : Expected) (column : ℕ) (w : LitWord) → OfWords (literal_by e column w)
-name e column (Within l) = ok l
-name e column TooGreat = variables column
-name e column NotALiteral = token column e
+name : (e : Expected) (column : ℕ) (o : Option Lit) → OfWords (literal_by e column o)
+name e column o = limited (λ l. nat_lt l.var (2 ^ 31)) Variables e column o (λ c. variables c)
 
 id : (e : Expected) (w : Chunk) → OfWords (id_in e w)
 id e w = between 1 (2 ^ 63) e w.column (natural_of w.text)
 
-count : (w : Chunk) → OfWords (count_in w)
-count w = between 0 (2 ^ 63) expected.LoadedCount w.column (natural_of w.text)
-
 integer : (e : Expected) (w : Chunk) → OfWords (integer_in e w)
-integer e w = whole e w.column (integer_of w.text)
+integer e w = limited (λ z. nat_lt (unsigned_abs z) (2 ^ 126)) Number e w.column (integer_of w.text) (λ c. number c)
 
 literal : (e : Expected) (w : Chunk) → OfWords (literal_in e w)
-literal e w = name e w.column (limited_literal (literal_of w.text))
+literal e w = name e w.column (literal_of w.text)
 
 variable : (above : ℕ) (w : Chunk) → OfWords (variable_in above w)
 variable above w =
-    next (λ l. if nat_lt above l.var then Ok l.var else token_fault w.column expected.SetVar) (literal_by expected.SetVar w.column (limited_literal (variable_of true w.text))) (name expected.SetVar w.column (limited_literal (variable_of true w.text)))
-    (λ l. either (nat_lt above l.var) (Ok l.var) (token_fault w.column expected.SetVar) (ok l.var) (token w.column expected.SetVar))
+    next (λ l. if nat_lt above l.var then Ok l.var else Err (Token w.column expected.SetVar)) (literal_by expected.SetVar w.column (variable_of true w.text)) (name expected.SetVar w.column (variable_of true w.text))
+    (λ l. either (nat_lt above l.var) (Ok l.var) (Err (Token w.column expected.SetVar)) (ok l.var) (token w.column expected.SetVar))
 
 bit : (w : Chunk) → OfWords (bit_in w)
-bit w = either (bytes_eq w.text (codes "0")) (Ok false) _ (ok false) (either (bytes_eq w.text (codes "1")) (Ok true) (token_fault w.column expected.Bit) (ok true) (token w.column expected.Bit))
+bit w = either (bytes_eq w.text (codes "0")) (Ok false) _ (ok false) (either (bytes_eq w.text (codes "1")) (Ok true) (Err (Token w.column expected.Bit)) (ok true) (token w.column expected.Bit))
 
 -- ---- parts of a line
 
-ends : (s : Step) (ws : List Chunk) → OfWords (ends_here s ws)
+ends : (s : Step) (ws : List Chunk) → OfWords (ends_here expected.LineEnd s ws)
 ends s [] = ok s
 ends s (w ∷ ws) = token w.column expected.LineEnd
 
 behind : (end : ℕ) (key : List ℕ) (e : Expected) (ws : List Chunk) → OfWords (past end key e ws)
 behind end key e [] = token end e
-behind end key e (w ∷ ws) = either (bytes_eq w.text key) (Ok ws) (token_fault w.column e) (ok ws) (token w.column e)
+behind end key e (w ∷ ws) = either (bytes_eq w.text key) (Ok ws) (Err (Token w.column e)) (ok ws) (token w.column e)
 
 item : {A : Type 0} (x : A) (r : Result (List A) StepFault) → OfWords r → OfWords (with_item x r)
 item x r h = next (λ xs. Ok (x ∷ xs)) r h (λ xs. ok (x ∷ xs))
@@ -144,7 +139,7 @@ sets end [] = ((λ above. ok []), (λ v. token end expected.Arrow), (λ v. token
 sets end (w ∷ ws) =
     let later = sets end ws in (
       (λ above. next (λ v. arrow_in end v ws) (variable_in above w) (variable above w) later.1),
-      (λ v. either (bytes_eq w.text (codes "->")) (value_in end v ws) (token_fault w.column expected.Arrow) (later.2 v) (token w.column expected.Arrow)),
+      (λ v. either (bytes_eq w.text (codes "->")) (value_in end v ws) (Err (Token w.column expected.Arrow)) (later.2 v) (token w.column expected.Arrow)),
       (λ v. next (λ b. with_item (record { var = v; value = b }) (sets_in end v ws)) (bit_in w) (bit w) (λ b. item (record { var = v; value = b }) (sets_in end v ws) (later.0 v))),
     )
 
@@ -166,24 +161,24 @@ del end (w ∷ ws) = next (λ is. Ok (step.Del is)) (ids_in (w ∷ ws)) (ids (w 
 
 out : (end : ℕ) (ws : List Chunk) → OfWords (out_in end ws)
 out end [] = token end expected.Id
-out end (w ∷ ws) = next (λ i. ends_here (step.Out i) ws) (id_in expected.Id w) (id expected.Id w) (λ i. ends (step.Out i) ws)
+out end (w ∷ ws) = next (λ i. ends_here expected.LineEnd (step.Out i) ws) (id_in expected.Id w) (id expected.Id w) (λ i. ends (step.Out i) ws)
 
 loaded : (end : ℕ) (ws : List Chunk) → OfWords (loaded_in end ws)
 loaded end [] = token end expected.LoadedCount
-loaded end (w ∷ ws) = next (λ n. ends_here (step.Loaded n) ws) (count_in w) (count w) (λ n. ends (step.Loaded n) ws)
+loaded end (w ∷ ws) = next (λ n. ends_here expected.LineEnd (step.Loaded n) ws) (number_between 0 (2 ^ 63) expected.LoadedCount w.column (natural_of w.text)) (between 0 (2 ^ 63) expected.LoadedCount w.column (natural_of w.text)) (λ n. ends (step.Loaded n) ws)
 
 head : (end : ℕ) (ws : List Chunk) → OfWords (head_in end ws)
 head end ws =
-    next (λ us. and_then (λ vs. and_then (ends_here step.Head) (past end (codes "1") expected.Head vs)) (past end (codes "profile") expected.Head us)) (past end (codes "derivation") expected.Head ws) (behind end (codes "derivation") expected.Head ws)
-    (λ us. next (λ vs. and_then (ends_here step.Head) (past end (codes "1") expected.Head vs)) (past end (codes "profile") expected.Head us) (behind end (codes "profile") expected.Head us)
-    (λ vs. next (ends_here step.Head) (past end (codes "1") expected.Head vs) (behind end (codes "1") expected.Head vs) (ends step.Head)))
+    next (λ us. and_then (λ vs. and_then (ends_here expected.LineEnd step.Head) (past end (codes "1") expected.Head vs)) (past end (codes "profile") expected.Head us)) (past end (codes "derivation") expected.Head ws) (behind end (codes "derivation") expected.Head ws)
+    (λ us. next (λ vs. and_then (ends_here expected.LineEnd step.Head) (past end (codes "1") expected.Head vs)) (past end (codes "profile") expected.Head us) (behind end (codes "profile") expected.Head us)
+    (λ vs. next (ends_here expected.LineEnd step.Head) (past end (codes "1") expected.Head vs) (behind end (codes "1") expected.Head vs) (ends step.Head)))
 
 placed : (end : ℕ) (w : Chunk) (ws : List Chunk) → OfWords (place_by end w ws)
 placed end w ws =
     either (begins_with_star w.text) (Ok step.Blank) _ (ok step.Blank)
-    (either (bytes_eq w.text (codes "end")) (ends_here step.End ws) _ (ends step.End ws)
+    (either (bytes_eq w.text (codes "end")) (ends_here expected.LineEnd step.End ws) _ (ends step.End ws)
     (either (bytes_eq w.text (codes "f")) (loaded_in end ws) _ (loaded end ws)
-    (either (bytes_eq w.text (codes "pseudo-Boolean")) (head_in end ws) (token_fault w.column expected.StepWord) (head end ws) (token w.column expected.StepWord))))
+    (either (bytes_eq w.text (codes "pseudo-Boolean")) (head_in end ws) (Err (Token w.column expected.StepWord)) (head end ws) (token w.column expected.StepWord))))
 
 said : (end : ℕ) (w : Chunk) (ws : List Chunk) → OfWords (said_by end w ws)
 said end w ws =

@@ -11,13 +11,16 @@ use Rattle.pb_steps.specs.declared.step.Step.{Step}
 use Rattle.pb_steps.specs.Database.{Database}
 use Rattle.pb_check.specs.declared.verdict.Verdict.TheVariants.{Rejected}
 use Rattle.pb_check.specs.declared.verdict.CheckFault.{CheckFault}
+use Rattle.pb_check.specs.declared.verdict.CheckFault.TheVariants.{Refused}
+use Rattle.pb_base.specs.declared.file.File.TheVariants.{Proof}
+use Rattle.pb_dimacs.specs.CnfRows.{line_start}
+use Rattle.pb_base.specs.declared.expected.Expected.TheVariants.{StepWord}
 use Rattle.pb_check.specs.declared.taking.Taken.{Taken}
 use Rattle.pb_check.specs.declared.taking.Taken.TheVariants as taken
-use Rattle.pb_check.specs.Turns.{Answer, Task, step_turn}
+use Rattle.pb_check.specs.Turns.{Answer, Task, turn_by}
 use Rattle.pb_check.specs.Turns.Stage.{at_steps}
 use Rattle.pb_check.specs.Walk.{Walks}
 use Rattle.pb_desk.specs.TwoSlots.{ReadsBoth}
-use Rattle.pb_check.specs.Faults.{early_end}
 use Rattle.pb_check.specs.inner.Phases.{StopsOne, StopsBoth, NextSays, clauses_of, FollowsRows, TurnGives, LineGives, OnLine, StepsGive, TaskOver}
 use Rattle.pb_check.proofs.NextLines.{Anywhere, LineComes}
 use Rattle.pb_check.proofs.TurnLemmas.{next_walks, end_walks}
@@ -36,23 +39,23 @@ read s cnf proof proof' a b apart slot reads =
 -- a step that was read, and what it gave
 abbrev pub Took : Taken → Step → CnfReader → Database → Reader → CnfReader → Database → Reader → List ℕ → List ℕ → List ℕ → List ℕ → Type 0
 Took t s cnf db proof cnf' db' proof' c p c' p' =
-    ((task : Task) → task.vars ≡ cnf.vars → TurnGives t task proof'.number (step_turn task db (clauses_of cnf c) proof'.number proof'.line s) db' (clauses_of cnf' c')) × NextSays (Some s) proof' (rows_left proof p) (rows_left proof' p')
+    ((task : Task) → task.vars ≡ cnf.vars → TurnGives t task proof'.number (turn_by task (at_steps db) (clauses_of cnf c) proof'.number proof'.line s) db' (clauses_of cnf' c')) × NextSays (Some s) proof' (rows_left proof p) (rows_left proof' p')
 
 pub took : (t : Taken) (s : Step) (cnf cnf' : CnfReader) (db db' : Database) (proof proof' : Reader) (a b c : DeskState) → cnf.lines.slot ≢ proof.slot → proof'.slot ≡ proof.slot → cnf'.lines.slot ≡ cnf.lines.slot
     → TakesAhead proof.slot proof.ahead proof'.ahead a b (λ text rest. NextSays (Some s) proof' (rows_left proof text) (rows_left proof' rest))
-    → TakesAhead cnf.lines.slot cnf.lines.ahead cnf'.lines.ahead b c (λ text rest. (task : Task) → task.vars ≡ cnf.vars → TurnGives t task proof'.number (step_turn task db (clauses_of cnf text) proof'.number proof'.line s) db' (clauses_of cnf' rest))
+    → TakesAhead cnf.lines.slot cnf.lines.ahead cnf'.lines.ahead b c (λ text rest. (task : Task) → task.vars ≡ cnf.vars → TurnGives t task proof'.number (turn_by task (at_steps db) (clauses_of cnf text) proof'.number proof'.line s) db' (clauses_of cnf' rest))
     → ReadsBoth cnf.lines proof cnf'.lines proof' a c (Took t s cnf db proof cnf' db' proof')
 took t s cnf cnf' db db' proof proof' a b c apart slot slot' line step =
     both_then cnf.lines proof cnf.lines proof' cnf'.lines proof' a b c (Read s proof proof')
-    (λ c p c' p'. ((task : Task) → task.vars ≡ cnf.vars → TurnGives t task proof'.number (step_turn task db (clauses_of cnf c) proof'.number proof'.line s) db' (clauses_of cnf' c')) × (p' ≡ p))
+    (λ c p c' p'. ((task : Task) → task.vars ≡ cnf.vars → TurnGives t task proof'.number (turn_by task (at_steps db) (clauses_of cnf c) proof'.number proof'.line s) db' (clauses_of cnf' c')) × (p' ≡ p))
     (Took t s cnf db proof cnf' db' proof')
     (λ t0 u0 t1 u1 t2 u2 p q. (
-      λ task vars. subst (λ (x : List ℕ). TurnGives t task proof'.number (step_turn task db (clauses_of cnf x) proof'.number proof'.line s) db' (clauses_of cnf' t2)) p.0 (q.0 task vars),
+      λ task vars. subst (λ (x : List ℕ). TurnGives t task proof'.number (turn_by task (at_steps db) (clauses_of cnf x) proof'.number proof'.line s) db' (clauses_of cnf' t2)) p.0 (q.0 task vars),
       subst (λ (y : List ℕ). NextSays (Some s) proof' (rows_left proof u0) (rows_left proof' y)) (sym q.1) p.1,
     ))
     (read s cnf.lines proof proof' a b apart slot line)
-    (both_of_one cnf.lines cnf'.lines proof' b c (λ text rest. (task : Task) → task.vars ≡ cnf.vars → TurnGives t task proof'.number (step_turn task db (clauses_of cnf text) proof'.number proof'.line s) db' (clauses_of cnf' rest))
-    (λ c p c' p'. ((task : Task) → task.vars ≡ cnf.vars → TurnGives t task proof'.number (step_turn task db (clauses_of cnf c) proof'.number proof'.line s) db' (clauses_of cnf' c')) × (p' ≡ p))
+    (both_of_one cnf.lines cnf'.lines proof' b c (λ text rest. (task : Task) → task.vars ≡ cnf.vars → TurnGives t task proof'.number (turn_by task (at_steps db) (clauses_of cnf text) proof'.number proof'.line s) db' (clauses_of cnf' rest))
+    (λ c p c' p'. ((task : Task) → task.vars ≡ cnf.vars → TurnGives t task proof'.number (turn_by task (at_steps db) (clauses_of cnf c) proof'.number proof'.line s) db' (clauses_of cnf' c')) × (p' ≡ p))
     (λ e. apart (e ∙ slot)) slot' (λ c p c' h. (h, refl)) step)
 
 -- what a line gave
@@ -61,7 +64,7 @@ pub line_gives : (t : Taken) (s : Step) (cnf cnf' : CnfReader) (db db' : Databas
 line_gives t s cnf cnf' db db' proof proof' a b step =
     both_weaker cnf.lines proof cnf'.lines proof' a b (Took t s cnf db proof cnf' db' proof') (LineGives t cnf db proof cnf' db' proof') (λ c p c' p' q. by_taken t c p c' p' q.0 q.1) step
   where
-    by_taken : (t : Taken) (c p c' p' : List ℕ) → ((task : Task) → task.vars ≡ cnf.vars → TurnGives t task proof'.number (step_turn task db (clauses_of cnf c) proof'.number proof'.line s) db' (clauses_of cnf' c')) → NextSays (Some s) proof' (rows_left proof p) (rows_left proof' p')
+    by_taken : (t : Taken) (c p c' p' : List ℕ) → ((task : Task) → task.vars ≡ cnf.vars → TurnGives t task proof'.number (turn_by task (at_steps db) (clauses_of cnf c) proof'.number proof'.line s) db' (clauses_of cnf' c')) → NextSays (Some s) proof' (rows_left proof p) (rows_left proof' p')
         → LineGives t cnf db proof cnf' db' proof' c p c' p'
     by_taken taken.On c p c' p' gives says = λ task answer vars w.
         next_walks task (at_steps db) (clauses_of cnf c) (rows_left proof p) (rows_left proof' p') proof'.number proof'.line s answer says.0 says.1 (gives task vars (rows_left proof' p') answer w)
@@ -81,16 +84,16 @@ line_fault f cnf db proof proof' a b slot apart stops =
     stops_of_proof Anywhere (TaskOver cnf) f cnf.lines proof proof' a b (LineComes proof) (StepsCome cnf db proof) apart slot (λ x c. ((x.0, at_steps db, clauses_of cnf c), λ p answer w. w)) stops
 
 -- the text ends before its last line
-pub line_missing : (f : CheckFault) (cnf : CnfReader) (db : Database) (proof proof' : Reader) (a b : DeskState) → f ≡ early_end (proof'.number + 1) → proof'.slot ≡ proof.slot → cnf.lines.slot ≢ proof.slot
+pub line_missing : (f : CheckFault) (cnf : CnfReader) (db : Database) (proof proof' : Reader) (a b : DeskState) → f ≡ Refused Proof (line_start (proof'.number + 1)) StepWord → proof'.slot ≡ proof.slot → cnf.lines.slot ≢ proof.slot
     → TakesAhead proof.slot proof.ahead proof'.ahead a b (λ text rest. NextSays None proof' (rows_left proof text) (rows_left proof' rest)) → StopsBoth (TaskOver cnf) f cnf.lines proof cnf.lines proof' a b (StepsCome cnf db proof)
 line_missing f cnf db proof proof' a b is slot apart reads =
     subst (λ (f : CheckFault). StopsBoth (TaskOver cnf) f cnf.lines proof cnf.lines proof' a b (StepsCome cnf db proof)) (sym is)
-    (both_of_two cnf.lines proof proof' a b (λ text rest. NextSays None proof' (rows_left proof text) (rows_left proof' rest)) (λ c p c' p'. (x : TaskOver cnf) → StepsCome cnf db proof x c p (Err (early_end (proof'.number + 1)))) apart slot
-    (λ c p p' h x. end_walks x.0 (at_steps db) (clauses_of cnf c) (rows_left proof p) (proof'.number + 1) (Err (early_end (proof'.number + 1))) h refl) reads)
+    (both_of_two cnf.lines proof proof' a b (λ text rest. NextSays None proof' (rows_left proof text) (rows_left proof' rest)) (λ c p c' p'. (x : TaskOver cnf) → StepsCome cnf db proof x c p (Err (Refused Proof (line_start (proof'.number + 1)) StepWord))) apart slot
+    (λ c p p' h x. end_walks x.0 (at_steps db) (clauses_of cnf c) (rows_left proof p) (proof'.number + 1) (Err (Refused Proof (line_start (proof'.number + 1)) StepWord)) h refl) reads)
 
 -- the answer from a step on, whose line was read
 abbrev pub StepComes : (cnf : CnfReader) → Database → Reader → Step → OnLine cnf → List ℕ → Answer → Type 0
-StepComes cnf db proof s x text answer = FollowsRows x.task proof.number (step_turn x.task db (clauses_of cnf text) proof.number proof.line s) (rows_left x.proof x.text) answer
+StepComes cnf db proof s x text answer = FollowsRows x.task proof.number (turn_by x.task (at_steps db) (clauses_of cnf text) proof.number proof.line s) (rows_left x.proof x.text) answer
 
 -- a step does not stand in its place, or its clause was not read
 pub line_stop : (f : CheckFault) (s : Step) (cnf cnf' : CnfReader) (db : Database) (proof proof' : Reader) (a b c : DeskState) → proof'.slot ≡ proof.slot → cnf'.lines.slot ≡ cnf.lines.slot → cnf.lines.slot ≢ proof.slot
@@ -98,13 +101,13 @@ pub line_stop : (f : CheckFault) (s : Step) (cnf cnf' : CnfReader) (db : Databas
     → StopsOne (OnLine cnf) f cnf.lines cnf'.lines b c (StepComes cnf db proof' s)
     → StopsBoth (TaskOver cnf) f cnf.lines proof cnf'.lines proof' a c (StepsCome cnf db proof)
 line_stop f s cnf cnf' db proof proof' a b c slot slot' apart line stops =
-    let Comes = λ (x : TaskOver cnf) (t u : List ℕ) (answer : Answer). FollowsRows x.0 proof'.number (step_turn x.0 db (clauses_of cnf t) proof'.number proof'.line s) (rows_left proof' u) answer in
+    let Comes = λ (x : TaskOver cnf) (t u : List ℕ) (answer : Answer). FollowsRows x.0 proof'.number (turn_by x.0 (at_steps db) (clauses_of cnf t) proof'.number proof'.line s) (rows_left proof' u) answer in
     both_stops (TaskOver cnf) (TaskOver cnf) f cnf.lines proof cnf.lines proof' cnf'.lines proof' a b c (Read s proof proof') Comes (StepsCome cnf db proof)
     (λ x. (
       x,
       λ t u t' u' answer p w.
           next_walks x.0 (at_steps db) (clauses_of cnf t) (rows_left proof u) (rows_left proof' u') proof'.number proof'.line s answer p.1.0 p.1.1
-          (subst (λ (v : List ℕ). FollowsRows x.0 proof'.number (step_turn x.0 db (clauses_of cnf v) proof'.number proof'.line s) (rows_left proof' u') answer) p.0 w),
+          (subst (λ (v : List ℕ). FollowsRows x.0 proof'.number (turn_by x.0 (at_steps db) (clauses_of cnf v) proof'.number proof'.line s) (rows_left proof' u') answer) p.0 w),
     ))
     (read s cnf.lines proof proof' a b apart slot line)
     (stops_of_cnf (OnLine cnf) (TaskOver cnf) f cnf.lines cnf'.lines proof' b c (StepComes cnf db proof' s) Comes (λ e. apart (e ∙ slot)) slot'

@@ -21,7 +21,8 @@ use Rattle.pb_steps.specs.declared.step.Step.TheVariants.{Blank, Head, Loaded, P
 use Rattle.pb_steps.specs.Database.{Database}
 use Rattle.pb_check.specs.declared.taking.Taken.{Taken}
 use Rattle.pb_steps.specs.Steps.{IsSpelled}
-use Rattle.pb_check.specs.Turns.{Answer, Task, Clauses, Turn, at_out, at_end, next_in, step_turn}
+use Rattle.pb_check.specs.Turns.Stage.{at_steps}
+use Rattle.pb_check.specs.Turns.{Answer, Task, Clauses, Turn, at_out, at_end, next_in, turn_by}
 use Rattle.pb_check.specs.Turns.Turn.{stop}
 use Rattle.pb_check.specs.inner.Judging.{IsJudged}
 use Rattle.pb_check.specs.Faults.{misplaced_line, of_cnf}
@@ -44,7 +45,7 @@ out_given (Some ls) t old new a b db db' id given count judged =
 
 -- a rule that looks at no clause
 pub rule_given : (s : Step) (t : Taken) (task : Task) (number : ℕ) (line : List ℕ) (db db' : Database) (old : CnfReader) (text : List ℕ) → s ≢ Blank → s ≢ Head → ((count : ℕ) → s ≢ Loaded count) → ((id : ℕ) → s ≢ Out id) → s ≢ End
-    → IsJudged db s None db' t → TurnGives t task number (step_turn task db (clauses_of old text) number line s) db' (clauses_of old text)
+    → IsJudged db s None db' t → TurnGives t task number (turn_by task (at_steps db) (clauses_of old text) number line s) db' (clauses_of old text)
 rule_given Blank t task number line db db' old text a b c d e judged = absurd (a refl)
 rule_given Head t task number line db db' old text a b c d e judged = absurd (b refl)
 rule_given (Loaded count) t task number line db db' old text a b c d e judged = absurd (c count refl)

@@ -25,8 +25,9 @@ use Rattle.pb_dimacs.specs.Within.{IsStartWithin, CouldPass}
 use Rattle.pb_dimacs.proofs.FormLemmas.{start_rows}
 use Rattle.pb_steps.specs.Database.{loaded_database}
 use Rattle.pb_check.specs.declared.verdict.CheckFault.{CheckFault}
+use Rattle.pb_base.specs.declared.expected.Expected.TheVariants.{VarCount}
 use Rattle.pb_check.specs.declared.verdict.CheckFault.TheVariants.{Refused, Limit, ReadFault, NoMemory}
-use Rattle.pb_check.specs.Faults.{of_cnf, too_few_vars}
+use Rattle.pb_check.specs.Faults.{of_cnf}
 use Rattle.pb_check.specs.Turns.{Answer}
 use Rattle.pb_check.specs.Turns.Stage.{head_wanted}
 use Rattle.pb_check.specs.Walk.{Walks, WalksFrom, WalksBy, Walk, task_of}
@@ -54,12 +55,12 @@ abbrev pub HeadComes : Problem → CnfHead → CnfReader → Reader → Unit {0}
 HeadComes p head cnf proof x c d answer = HeadAnswer p head cnf proof c d answer
 
 -- the CNF has too few variables
-pub too_few : (f : CheckFault) (p : Problem) (head : CnfHead) (cnf : CnfReader) (proof : Reader) (a : DeskState) → f ≡ too_few_vars head → cnf.lines.slot ≢ proof.slot → head.vars < originals p
+pub too_few : (f : CheckFault) (p : Problem) (head : CnfHead) (cnf : CnfReader) (proof : Reader) (a : DeskState) → f ≡ Refused Cnf head.place VarCount → cnf.lines.slot ≢ proof.slot → head.vars < originals p
     → StopsBoth (Unit {0}) f cnf.lines proof cnf.lines proof a a (HeadComes p head cnf proof)
 too_few f p head cnf proof a is apart less =
     subst (λ (f : CheckFault). StopsBoth (Unit {0}) f cnf.lines proof cnf.lines proof a a (HeadComes p head cnf proof)) (sym is)
-    (both_begin cnf.lines proof a (λ c d c' d'. (x : Unit {0}) → HeadComes p head cnf proof x c d (Err (too_few_vars head))) apart
-    (λ c d x. subst (λ (b : Bool). WalksFrom p (rows_left proof d) head (symbols_left cnf c) b (Err (too_few_vars head))) (sym (lt-leb-false head.vars (originals p) less)) refl))
+    (both_begin cnf.lines proof a (λ c d c' d'. (x : Unit {0}) → HeadComes p head cnf proof x c d (Err (Refused Cnf head.place VarCount))) apart
+    (λ c d x. subst (λ (b : Bool). WalksFrom p (rows_left proof d) head (symbols_left cnf c) b (Err (Refused Cnf head.place VarCount))) (sym (lt-leb-false head.vars (originals p) less)) refl))
 
 -- memory was wanting before a line was read
 pub none_read : (cnf proof : Reader) (a : DeskState) → cnf.slot ≢ proof.slot → ReadsBoth cnf proof cnf proof a a (λ c d c' d'. Unit {0})

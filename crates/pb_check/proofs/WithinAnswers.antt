@@ -28,7 +28,7 @@ use Rattle.pb_steps.proofs.Searching.{none-some}
 use Rattle.pb_check.specs.declared.verdict.Verdict.{Verdict}
 use Rattle.pb_check.specs.declared.verdict.CheckFault.TheVariants.{Refused, Limit}
 use Rattle.pb_check.specs.Faults.{of_cnf, of_step, miscounted_line}
-use Rattle.pb_check.specs.Turns.{Answer, Task, Stage, Clauses, Turn, at_out, at_end, next_in, step_turn, head_turn, count_turn, end_turn, read_turn, last_turn}
+use Rattle.pb_check.specs.Turns.{Answer, Task, Stage, Clauses, Turn, at_out, at_end, next_in, read_turn, last_turn, turn_by}
 use Rattle.pb_check.specs.Turns.Stage.{head_wanted, count_wanted, at_steps, ended}
 use Rattle.pb_check.specs.Turns.Turn.{go, stop, test}
 use Rattle.pb_check.specs.Walk.{Follows, Walks, task_of, WalksFrom, WalksBy}
@@ -81,7 +81,7 @@ end_fine Fit Bad none number clauses (clause ls rest) fits h = none.verdict _
 end_fine Fit Bad none number clauses nothing fits h = fits
 end_fine Fit Bad none number clauses (refused fault) fits h = h
 
-step_fine : (Fit : Clauses → Type 0) (Bad : Answer → Type 0) → IsNotGiven Fit Bad → (task : Task) (db : Database) (clauses : Clauses) (number : ℕ) (line : List ℕ) (s : Step) → Fit clauses → IsFine Fit Bad (step_turn task db clauses number line s)
+step_fine : (Fit : Clauses → Type 0) (Bad : Answer → Type 0) → IsNotGiven Fit Bad → (task : Task) (db : Database) (clauses : Clauses) (number : ℕ) (line : List ℕ) (s : Step) → Fit clauses → IsFine Fit Bad (turn_by task (at_steps db) clauses number line s)
 step_fine Fit Bad none task db clauses number line Blank fits = fits
 step_fine Fit Bad none task db clauses number line Head fits = none.refusal _ _ _
 step_fine Fit Bad none task db clauses number line (Loaded count) fits = none.refusal _ _ _
@@ -92,12 +92,12 @@ step_fine Fit Bad none task db clauses number line (Del ids) fits = fits
 step_fine Fit Bad none task db clauses number line (Out id) fits = out_fine Fit Bad db id clauses (next_in task clauses) fits (none.next task clauses fits)
 step_fine Fit Bad none task db clauses number line End fits = end_fine Fit Bad none number clauses (next_in task clauses) fits (none.next task clauses fits)
 
-head_fine : (Fit : Clauses → Type 0) (Bad : Answer → Type 0) → IsNotGiven Fit Bad → (clauses : Clauses) (number : ℕ) (line : List ℕ) (s : Step) → Fit clauses → IsFine Fit Bad (head_turn clauses number line s)
-head_fine Fit Bad none clauses number line Blank fits = fits
-head_fine Fit Bad none clauses number line Head fits = fits
-head_fine Fit Bad none clauses number line _ fits = none.refusal _ _ _
+head_fine : (Fit : Clauses → Type 0) (Bad : Answer → Type 0) → IsNotGiven Fit Bad → (task : Task) (clauses : Clauses) (number : ℕ) (line : List ℕ) (s : Step) → Fit clauses → IsFine Fit Bad (turn_by task head_wanted clauses number line s)
+head_fine Fit Bad none task clauses number line Blank fits = fits
+head_fine Fit Bad none task clauses number line Head fits = fits
+head_fine Fit Bad none task clauses number line _ fits = none.refusal _ _ _
 
-count_fine : (Fit : Clauses → Type 0) (Bad : Answer → Type 0) → IsNotGiven Fit Bad → (task : Task) (clauses : Clauses) (number : ℕ) (line : List ℕ) (s : Step) → Fit clauses → IsFine Fit Bad (count_turn task clauses number line s)
+count_fine : (Fit : Clauses → Type 0) (Bad : Answer → Type 0) → IsNotGiven Fit Bad → (task : Task) (clauses : Clauses) (number : ℕ) (line : List ℕ) (s : Step) → Fit clauses → IsFine Fit Bad (turn_by task count_wanted clauses number line s)
 count_fine Fit Bad none task clauses number line Blank fits = fits
 count_fine Fit Bad none task clauses number line (Loaded count) fits = by_test (eqb count (length task.loaded))
   where
@@ -106,16 +106,16 @@ count_fine Fit Bad none task clauses number line (Loaded count) fits = by_test (
     by_test false = none.refusal _ _ _
 count_fine Fit Bad none task clauses number line _ fits = none.refusal _ _ _
 
-ended_fine : (Fit : Clauses → Type 0) (Bad : Answer → Type 0) → IsNotGiven Fit Bad → (clauses : Clauses) (number : ℕ) (line : List ℕ) (s : Step) → Fit clauses → IsFine Fit Bad (end_turn clauses number line s)
-ended_fine Fit Bad none clauses number line Blank fits = fits
-ended_fine Fit Bad none clauses number line _ fits = none.refusal _ _ _
+ended_fine : (Fit : Clauses → Type 0) (Bad : Answer → Type 0) → IsNotGiven Fit Bad → (task : Task) (clauses : Clauses) (number : ℕ) (line : List ℕ) (s : Step) → Fit clauses → IsFine Fit Bad (turn_by task ended clauses number line s)
+ended_fine Fit Bad none task clauses number line Blank fits = fits
+ended_fine Fit Bad none task clauses number line _ fits = none.refusal _ _ _
 
 read_fine : (Fit : Clauses → Type 0) (Bad : Answer → Type 0) → IsNotGiven Fit Bad → (task : Task) (stage : Stage) (clauses : Clauses) (number : ℕ) (line : List ℕ) (r : Result Step StepFault) → step_of line ≡ r → Fit clauses → IsFine Fit Bad (read_turn task stage clauses number line r)
 read_fine Fit Bad none task stage clauses number line (Err fault) e fits = none.line number line fault e
-read_fine Fit Bad none task head_wanted clauses number line (Ok s) e fits = head_fine Fit Bad none clauses number line s fits
+read_fine Fit Bad none task head_wanted clauses number line (Ok s) e fits = head_fine Fit Bad none task clauses number line s fits
 read_fine Fit Bad none task count_wanted clauses number line (Ok s) e fits = count_fine Fit Bad none task clauses number line s fits
 read_fine Fit Bad none task (at_steps db) clauses number line (Ok s) e fits = step_fine Fit Bad none task db clauses number line s fits
-read_fine Fit Bad none task ended clauses number line (Ok s) e fits = ended_fine Fit Bad none clauses number line s fits
+read_fine Fit Bad none task ended clauses number line (Ok s) e fits = ended_fine Fit Bad none task clauses number line s fits
 
 last_fine : (Fit : Clauses → Type 0) (Bad : Answer → Type 0) → IsNotGiven Fit Bad → (stage : Stage) (number : ℕ) → IsFine Fit Bad (last_turn stage number)
 last_fine Fit Bad none head_wanted number = none.refusal _ _ _
@@ -226,7 +226,7 @@ out_within task number rows db id clauses (refused fault) answer h w = turn_with
 -- ---- behind the steps no clause is asked for
 
 ended_step : (task : Task) (rows : List CnfRow) (c d : Clauses) (answer : Answer) → (Walks task ended c rows answer → Walks task ended d rows answer) → (number : ℕ) (line : List ℕ) (s : Step)
-    → Follows number (end_turn c number line s) (λ s c. Walks task s c rows answer) answer → Follows number (end_turn d number line s) (λ s c. Walks task s c rows answer) answer
+    → Follows number (turn_by task ended c number line s) (λ s c. Walks task s c rows answer) answer → Follows number (turn_by task ended d number line s) (λ s c. Walks task s c rows answer) answer
 ended_step task rows c d answer later number line Blank w = later w
 ended_step task rows c d answer later number line Head w = w
 ended_step task rows c d answer later number line (Loaded count) w = w

@@ -8,7 +8,6 @@ use Rattle.pb_desk.specs.declared.lines.LineFault.{LineFault}
 use Rattle.pb_desk.specs.declared.lines.LineFault.TheVariants as line_fault
 use Rattle.pb_dimacs.specs.declared.fault.CnfFault.{CnfFault}
 use Rattle.pb_dimacs.specs.declared.fault.CnfFault.TheVariants as cnf_fault
-use Rattle.pb_dimacs.specs.declared.head.CnfHead.{CnfHead}
 use Rattle.pb_dimacs.specs.CnfRows.{line_start, limit_place}
 use Rattle.pb_steps.specs.declared.fault.StepFault.{StepFault}
 use Rattle.pb_steps.specs.declared.fault.StepFault.TheVariants as step_fault
@@ -50,11 +49,3 @@ misplaced_line number line e = Refused Proof (record { line = number; column = f
 -- a line that tells a wrong number of loaded constraints
 abbrev pub miscounted_line : ℕ → List ℕ → CheckFault
 miscounted_line number line = Refused Proof (record { line = number; column = second_column (words_of line) }) expected.LoadedCount
-
--- the text ends on the line of a number, before its last line
-abbrev pub early_end : ℕ → CheckFault
-early_end number = Refused Proof (line_start number) expected.StepWord
-
--- the CNF has fewer variables than the constraints
-abbrev pub too_few_vars : CnfHead → CheckFault
-too_few_vars head = Refused Cnf head.place expected.VarCount

@@ -18,8 +18,8 @@ use Rattle.pb_steps.specs.LineSteps.{step_of}
 use Rattle.pb_check.specs.declared.verdict.Verdict.{Verdict}
 use Rattle.pb_check.specs.declared.verdict.Verdict.TheVariants.{Accepted, Rejected}
 use Rattle.pb_check.specs.declared.verdict.CheckFault.{CheckFault}
-use Rattle.pb_check.specs.declared.verdict.CheckFault.TheVariants.{Limit}
-use Rattle.pb_check.specs.Faults.{of_cnf, of_step, misplaced_line, miscounted_line, early_end}
+use Rattle.pb_check.specs.declared.verdict.CheckFault.TheVariants.{Refused, Limit}
+use Rattle.pb_check.specs.Faults.{of_cnf, of_step, misplaced_line, miscounted_line}
 
 abbrev pub Answer : Type 0
 Answer = Result Verdict CheckFault
@@ -70,38 +70,21 @@ at_end number clauses (refused fault) = stop (Err (of_cnf fault))
 abbrev pub next_in : Task → Clauses → Next
 next_in task clauses = next_of task.vars clauses.left clauses.symbols
 
--- a line among the steps
-abbrev pub step_turn : Task → Database → Clauses → ℕ → List ℕ → Step → Turn
-step_turn task db clauses number line Blank = go (at_steps db) clauses
-step_turn task db clauses number line Head = misplaced number line expected.StepWord
-step_turn task db clauses number line (Loaded count) = misplaced number line expected.StepWord
-step_turn task db clauses number line (Out id) = at_out db id clauses (next_in task clauses)
-step_turn task db clauses number line End = at_end number clauses (next_in task clauses)
-step_turn task db clauses number line step = test db step None clauses
-
-abbrev pub head_turn : Clauses → ℕ → List ℕ → Step → Turn
-head_turn clauses number line Blank = go head_wanted clauses
-head_turn clauses number line Head = go count_wanted clauses
-head_turn clauses number line _ = misplaced number line expected.Head
-
--- as many as there are
-abbrev pub count_turn : Task → Clauses → ℕ → List ℕ → Step → Turn
-count_turn task clauses number line Blank = go count_wanted clauses
-count_turn task clauses number line (Loaded count) =
+-- by what is to come. A number of constraints is as many as there are; an empty line or a comment asks for nothing.
+abbrev pub turn_by : Task → Stage → Clauses → ℕ → List ℕ → Step → Turn
+turn_by task stage clauses number line Blank = go stage clauses
+turn_by task head_wanted clauses number line Head = go count_wanted clauses
+turn_by task head_wanted clauses number line _ = misplaced number line expected.Head
+turn_by task count_wanted clauses number line (Loaded count) =
     if count == length task.loaded then go (at_steps (loaded_database task.original task.vars task.loaded)) clauses
     else stop (Err (miscounted_line number line))
-count_turn task clauses number line _ = misplaced number line expected.Loaded
-
-abbrev pub end_turn : Clauses → ℕ → List ℕ → Step → Turn
-end_turn clauses number line Blank = go ended clauses
-end_turn clauses number line _ = misplaced number line expected.DerivationEnd
-
--- by what is to come
-abbrev pub turn_by : Task → Stage → Clauses → ℕ → List ℕ → Step → Turn
-turn_by task head_wanted clauses number line step = head_turn clauses number line step
-turn_by task count_wanted clauses number line step = count_turn task clauses number line step
-turn_by task (at_steps db) clauses number line step = step_turn task db clauses number line step
-turn_by task ended clauses number line step = end_turn clauses number line step
+turn_by task count_wanted clauses number line _ = misplaced number line expected.Loaded
+turn_by task (at_steps db) clauses number line Head = misplaced number line expected.StepWord
+turn_by task (at_steps db) clauses number line (Loaded count) = misplaced number line expected.StepWord
+turn_by task (at_steps db) clauses number line (Out id) = at_out db id clauses (next_in task clauses)
+turn_by task (at_steps db) clauses number line End = at_end number clauses (next_in task clauses)
+turn_by task (at_steps db) clauses number line step = test db step None clauses
+turn_by task ended clauses number line _ = misplaced number line expected.DerivationEnd
 
 -- a line is read by itself first
 abbrev pub read_turn : Task → Stage → Clauses → ℕ → List ℕ → Result Step StepFault → Turn
@@ -111,7 +94,7 @@ read_turn task stage clauses number line (Err fault) = stop (Err (of_step number
 -- the text ends on the line of a number
 abbrev pub last_turn : Stage → ℕ → Turn
 last_turn ended number = stop (Ok Accepted)
-last_turn _ number = stop (Err (early_end number))
+last_turn _ number = stop (Err (Refused Proof (line_start number) expected.StepWord))
 
 -- what a line of the derivation asks, where that is to come; no rule is tested here
 abbrev pub turn_of : Task → Stage → Clauses → CnfRow → Turn

@@ -1,8 +1,9 @@
 //! Faults by their places.
 ghost use Rattle.std.specs.Prelude.{◌≡◌, ◌<◌, ◌+◌, ◌^◌};
 ghost use Rattle.pb_base.specs.Words.{words_of};
+ghost use Rattle.pb_dimacs.specs.CnfRows.{line_start};
 ghost use Rattle.pb_check.specs.Outcomes.{NamesText};
-ghost use Rattle.pb_check.specs.Faults.{first_column, second_column, of_cnf, of_step, of_line, misplaced_line, miscounted_line, early_end, too_few_vars};
+ghost use Rattle.pb_check.specs.Faults.{first_column, second_column, of_cnf, of_step, of_line, misplaced_line, miscounted_line};
 
 use crate::verdict::CheckFault;
 use pb_base::{Expected, File, Place, words};
@@ -59,7 +60,7 @@ pub fn of_step(number: u64, fault: StepFault) -> CheckFault
 
 /// The fault of a CNF with fewer variables than the constraints.
 pub fn too_few_vars(head: &CnfHead) -> CheckFault
-    ensures { result ≡ too_few_vars head.now }
+    ensures { result ≡ CheckFault.Refused File.Cnf head.now.place Expected.VarCount }
 {
     CheckFault::Refused {
         file: File::Cnf,
@@ -139,7 +140,7 @@ pub fn miscounted(lines: &LineReader) -> CheckFault
 /// The text ends before its last line.
 pub fn end_fault(lines: &LineReader) -> CheckFault
     requires { lines.now.number < 2 ^ 63 }
-    ensures { result ≡ early_end (lines.now.number + 1) }
+    ensures { result ≡ CheckFault.Refused File.Proof (line_start (lines.now.number + 1)) Expected.StepWord }
 {
     CheckFault::Refused {
         file: File::Proof,

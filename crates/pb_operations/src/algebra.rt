@@ -119,9 +119,10 @@ pub fn weakenings(constraint: Linear, ops: &[PolOp]) -> Linear
 {
     let mut degree = constraint.degree();
     let mut terms = constraint.into_terms();
+    let mut next = 0;
     for op in ops {
         if let PolOp::Weaken(var) = op {
-            let lost = terms::take_coef(&mut terms, *var);
+            let lost = terms::take_coef(&mut terms, *var, &mut next);
             degree = degree.saturating_sub(lost);
         }
     }

@@ -9,4 +9,4 @@ mod terms;
 
 pub use algebra::{axiom, division, multiple, negation, plus, saturation, weakening, weakenings};
 pub use implication::implies;
-pub use substitution::{degree_left, names_set, restriction};
+pub use substitution::{degree_left, names_set, restricted, restriction};

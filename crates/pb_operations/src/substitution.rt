@@ -8,7 +8,7 @@ ghost use Rattle.pb_operations.specs.inner.Sides.{gained, is_set};
 use pb_base::{Lit, NoMemory, Term, Var};
 use pb_norm::Linear;
 use pb_steps::Set;
-use std::alloc::{AllocError, Global};
+use std::alloc::Global;
 
 // The value that a variable is given.
 fn set_value(sets: &[Set], var: Var) -> Option<bool>
@@ -49,13 +49,11 @@ pub fn names_set(sets: &[Set], constraint: &Linear) -> bool
     name_set(sets, constraint.terms())
 }
 
-// The terms of variables that are not set.
-fn unset_terms(alloc: Global, sets: &[Set], terms: &[Term]) -> Result<Vec<Term>, AllocError>
-    ensures { IfOk result (λ v. v.items ≡ filter (on_weight (is_unset sets.now)) terms.now) }
+// Drops the terms of variables that are set.
+fn keep_unset(terms: &mut Vec<Term>, sets: &[Set])
+    ensures { terms.new.items ≡ filter (on_weight (is_unset sets.now)) terms.old.items }
 {
-    let mut kept = Vec::from_slice(alloc, terms)?;
-    kept.retain(|term| is_unset(sets, term.lit.var));
-    Ok(kept)
+    terms.retain(|term| is_unset(sets, term.lit.var));
 }
 
 // The coefficients of the literals that become true.
@@ -82,10 +80,20 @@ pub fn degree_left(sets: &[Set], constraint: &Linear) -> u128
 }
 
 /// What is left of the constraint under a substitution: no set variable, and the degree loses the coefficients of literals that become true.
+/// It takes no memory.
+pub fn restricted(sets: &[Set], constraint: Linear) -> Linear
+    ensures { result ≡ restriction sets.now constraint }
+{
+    let degree = degree_left(sets, &constraint);
+    let mut terms = constraint.into_terms();
+    keep_unset(&mut terms, sets);
+    Linear::from_parts(terms, degree)
+}
+
+/// The same of a constraint that stays.
 pub fn restriction(alloc: Global, sets: &[Set], constraint: &Linear) -> Result<Linear, NoMemory>
     ensures { IfOk result (λ made. made ≡ restriction sets.now constraint.now) }
 {
-    let terms = unset_terms(alloc, sets, constraint.terms())?;
-    let degree = degree_left(sets, constraint);
-    Ok(Linear::from_parts(terms, degree))
+    let copy = constraint.copy(alloc)?;
+    Ok(restricted(sets, copy))
 }

@@ -113,6 +113,19 @@ fn place_of(terms: &[Term], var: Var) -> Option<usize>
     }
 }
 
+// The same, with a guess that is tried first.
+fn place_near(terms: &[Term], var: Var, guess: usize) -> Option<usize>
+    requires { IsAscending (weights terms.now) }
+    ensures below { IfSome result (λ i. i < length terms.now) }
+    ensures at { IfSome result (λ i. (d : Term) → (slice_index_or terms.now i d).lit.var ≡ var) }
+    ensures none { IsNone result → All (λ t. t.lit.var ≢ var) terms.now }
+{
+    if guess < terms.len() && terms[guess].lit.var == var {
+        return Some(guess);
+    }
+    place_of(terms, var)
+}
+
 /// Takes the term of a variable out, if there is one. Its coefficient, and 0 where there is none.
 pub(crate) fn take_var(terms: &mut Vec<Term>, var: Var) -> u128
     requires { IsAscending (weights terms.old.items) }
@@ -125,15 +138,17 @@ pub(crate) fn take_var(terms: &mut Vec<Term>, var: Var) -> u128
     }
 }
 
-/// Takes the coefficient of a variable, if it has a term, and leaves 0. The coefficient, and 0 where there is no term.
-pub(crate) fn take_coef(terms: &mut Vec<Term>, var: Var) -> u128
+/// Takes the coefficient of a variable, if it has a term, and leaves 0. The coefficient, and 0 where there is no term. The variable is
+/// looked for at a place first, which then is the one after it: variables that go one after the other mostly ascend.
+pub(crate) fn take_coef(terms: &mut Vec<Term>, var: Var, next: &mut usize) -> u128
     requires { IsAscending (weights terms.old.items) }
     ensures left { weights terms.new.items ≡ map (zeroed var) (weights terms.old.items) }
     ensures unsigned { AreUnsigned terms.old.items → AreUnsigned terms.new.items }
     ensures lost { result ≡ sum_by (on_weight (coef_at var)) terms.old.items }
 {
-    match place_of(terms, var) {
+    match place_near(terms, var, *next) {
         Some(place) => {
+            *next = place + 1;
             let term = terms[place];
             terms[place] = Term::weighing(0, term.lit);
             term.weight()

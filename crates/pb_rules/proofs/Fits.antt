@@ -1,6 +1,6 @@
 -- Constraints on a stack keep their room and their variables.
 use Rattle.std.proofs.Common.{◌≡◌, ◌≤◌, ◌<◌, ◌+◌, ℕ, zero, suc, ltb, length, get_or, drop, drop-cons, List, [], ◌∷◌, ◌++◌, Bool, true, false, cond, arith, refl, ap, sym, ◌∙◌, subst, Option, Some, None, reverse}
-use Rattle.std.specs.Prelude.{All, map, flat_map, unsigned_abs, option_and_then, option_map}
+use Rattle.std.specs.Prelude.{All, map, flat_map, unsigned_abs, option_and_then, option_map, is_some}
 use Rattle.std.specs.Option.{option_or}
 use Rattle.std.proofs.lemmas.Bool.{ltb-false, false≢true}
 use Rattle.std.proofs.lemmas.List.{reverse-append}
@@ -15,7 +15,7 @@ use Rattle.pb_norm.proofs.Variables.{joined-vars}
 use Rattle.pb_operations.proofs.Parts.{weight-filter, weight-narrow, degree-narrow, narrow-from}
 use Rattle.pb_norm.specs.Constraints.{HasVarsWithin}
 use Rattle.pb_steps.specs.declared.denied.Denied.{Denied}
-use Rattle.pb_steps.specs.declared.denied.Denied.TheVariants.{Stack, UnknownVar}
+use Rattle.pb_steps.specs.declared.denied.Denied.TheVariants.{Stack, UnknownVar, Width}
 use Rattle.pb_steps.specs.declared.op.PolOp.{PolOp}
 use Rattle.pb_steps.specs.declared.op.PolOp.TheVariants.{Push, Axiom, Add, Mul, Div, Saturate, Weaken}
 use Rattle.pb_steps.specs.declared.step.Step.TheVariants.{Pol}
@@ -25,8 +25,7 @@ use Rattle.pb_steps.specs.Database.{Entry, Database, constraint_at, grown}
 use Rattle.pb_steps.specs.Stacks.{after_op, after_ops, with_room, is_stacked}
 use Rattle.pb_operations.specs.Room.{fitting}
 use Rattle.pb_steps.specs.Allowed.{Allowed}
-use Rattle.pb_steps.specs.Denials.{seen_denial, width, unknown_var, unknown_id}
-use Rattle.pb_steps.specs.Denials as denials
+use Rattle.pb_steps.specs.Denials.{seen_denial, unless, unknown_var, unknown_id}
 use Rattle.pb_steps.proofs.Searching.{none-some, from_unless-none, from_find-none, from_map-none}
 use Rattle.pb_steps.proofs.Heights.{one_left}
 use Rattle.pb_rules.specs.inner.Sound.{IsSound}
@@ -158,8 +157,8 @@ ordered None None (Some d) w = refl
 ordered None None None (Some d) = refl
 ordered None None None None = refl
 
-seen_denial-pol : (db : Database) (ops : List PolOp) (clause : Option (List Lit)) → seen_denial db (Pol ops) clause ≡ option_or (early db ops) (width db (Pol ops))
-seen_denial-pol db ops clause = ordered (unknown_var db (Pol ops)) (unknown_id db (Pol ops)) (denials.stack (Pol ops)) (width db (Pol ops))
+seen_denial-pol : (db : Database) (ops : List PolOp) (clause : Option (List Lit)) → seen_denial db (Pol ops) clause ≡ option_or (early db ops) (unless (is_some (after_ops db.live ops [])) Width)
+seen_denial-pol db ops clause = ordered (unknown_var db (Pol ops)) (unknown_id db (Pol ops)) (unless (is_stacked ops) Stack) (unless (is_some (after_ops db.live ops [])) Width)
 
 pub seen_denial-early : (db : Database) (ops : List PolOp) (clause : Option (List Lit)) (d : Denied) → Some d ≡ early db ops → seen_denial db (Pol ops) clause ≡ Some d
 seen_denial-early db ops clause d e = seen_denial-pol db ops clause ∙ rw (← e) refl
@@ -173,13 +172,13 @@ or-parts (Some d) p e = absurd (none-some d (sym e))
 
 pub early-vars : (db : Database) (ops : List PolOp) → None ≡ early db ops → All (λ v. v ≤ db.vars) (flat_map vars_of_op ops)
 early-vars db ops e =
-    let row : unknown_var db (Pol ops) ≡ None = (or-parts (unknown_var db (Pol ops)) (option_or (unknown_id db (Pol ops)) (denials.stack (Pol ops))) (sym e)).0 in
+    let row : unknown_var db (Pol ops) ≡ None = (or-parts (unknown_var db (Pol ops)) (option_or (unknown_id db (Pol ops)) (unless (is_stacked ops) Stack)) (sym e)).0 in
     All-weaker (λ v. ltb db.vars v ≡ false) (λ v. v ≤ db.vars) (λ v h. ltb-false db.vars v h) (flat_map vars_of_op ops) (from_find-none (λ v. ltb db.vars v) (flat_map vars_of_op ops) (from_map-none UnknownVar _ row))
 
 pub early-stacked : (db : Database) (ops : List PolOp) → None ≡ early db ops → is_stacked ops ≡ true
 early-stacked db ops e =
-    let rest = (or-parts (unknown_var db (Pol ops)) (option_or (unknown_id db (Pol ops)) (denials.stack (Pol ops))) (sym e)).1 in
-    let row : denials.stack (Pol ops) ≡ None = (or-parts (unknown_id db (Pol ops)) (denials.stack (Pol ops)) rest).1 in
+    let rest = (or-parts (unknown_var db (Pol ops)) (option_or (unknown_id db (Pol ops)) (unless (is_stacked ops) Stack)) (sym e)).1 in
+    let row : unless (is_stacked ops) Stack ≡ None = (or-parts (unknown_id db (Pol ops)) (unless (is_stacked ops) Stack) rest).1 in
     from_unless-none (is_stacked ops) Stack row
 
 -- ---- the step as a whole

@@ -42,18 +42,18 @@ within-same vars ss ts h w = λ k c e. w k c (sym (same-constraint ss ts h k) �
 -- ---- what is kept
 
 -- over the same database, with another front in another engine
-pub kept-same : (original vars most n m : ℕ) (ss ts : List Slot) (s t idle : EngineState) (rounds : Held) (named : List (List ℕ)) → IsKept original vars most ss n s idle rounds named → AreSame ss ts → m ≤ length ts → IsMirrored s.vars (take m ts) t → IsKept original vars most ts m t idle rounds named
+pub kept-same : (original vars most n m : ℕ) (ss ts : List Slot) (s t : EngineState) (idle : ℕ) (rounds : Held) (named : List (List ℕ)) → IsKept original vars most ss n s idle rounds named → AreSame ss ts → m ≤ length ts → IsMirrored s.vars (take m ts) t → IsKept original vars most ts m t idle rounds named
 kept-same original vars most n m ss ts s t idle rounds named kept same few mirrored = record {
   sound = subst IsDatabase (sym (same original vars)) kept.sound;
   few = few;
   mirrored = subst (λ (w : ℕ). IsMirrored w (take m ts) t) kept.mirrored.vars_are mirrored;
   is_idle = kept.is_idle;
   beside = kept.beside;
-  indexed = indexed-same ss ts named (same-constraint ss ts same) kept.indexed;
+  indexed = indexed-same original ss ts named (same-constraint ss ts same) kept.indexed;
 }
 
 -- with the same at the same places
-pub kept-again : (original vars most n : ℕ) (ss : List Slot) (s t idle : EngineState) (rounds : Held) (named : List (List ℕ)) → IsKept original vars most ss n s idle rounds named → KeepsEngine s t → IsKept original vars most ss n t idle rounds named
+pub kept-again : (original vars most n : ℕ) (ss : List Slot) (s t : EngineState) (idle : ℕ) (rounds : Held) (named : List (List ℕ)) → IsKept original vars most ss n s idle rounds named → KeepsEngine s t → IsKept original vars most ss n t idle rounds named
 kept-again original vars most n ss s t idle rounds named kept again = record {
   sound = kept.sound;
   few = kept.few;
@@ -64,11 +64,16 @@ kept-again original vars most n ss s t idle rounds named kept again = record {
 }
 
 -- with other lists of ids
-pub kept-listed : (original vars most n : ℕ) (ss : List Slot) (s idle : EngineState) (rounds : Held) (named listed : List (List ℕ)) → IsKept original vars most ss n s idle rounds named → IsIndexed ss listed → IsKept original vars most ss n s idle rounds listed
+pub kept-listed : (original vars most n : ℕ) (ss : List Slot) (s : EngineState) (idle : ℕ) (rounds : Held) (named listed : List (List ℕ)) → IsKept original vars most ss n s idle rounds named → IsIndexed original ss listed → IsKept original vars most ss n s idle rounds listed
 kept-listed original vars most n ss s idle rounds named listed kept indexed = record { sound = kept.sound; few = kept.few; mirrored = kept.mirrored; is_idle = kept.is_idle; beside = kept.beside; indexed = indexed }
 
+-- with lists that are complete where those were
+pub kept-swept : (original vars most n : ℕ) (ss ts : List Slot) (s : EngineState) (idle : ℕ) (rounds : Held) (named listed : List (List ℕ)) → ts ≡ ss → IsKept original vars most ss n s idle rounds named → (IsIndexed original ts named → IsIndexed original ts listed) → IsKept original vars most ss n s idle rounds listed
+kept-swept original vars most n ss ts s idle rounds named listed same kept swept =
+    kept-listed original vars most n ss s idle rounds named listed kept (subst (λ (us : List Slot). IsIndexed original us listed) same (swept (subst (λ (us : List Slot). IsIndexed original us named) (sym same) kept.indexed)))
+
 -- all that stands is in the engine
-pub kept-whole : (original vars most n : ℕ) (ss : List Slot) (s idle : EngineState) (rounds : Held) (named : List (List ℕ)) → IsKept original vars most ss n s idle rounds named → length ss ≤ n → IsMirrored most ss s
+pub kept-whole : (original vars most n : ℕ) (ss : List Slot) (s : EngineState) (idle : ℕ) (rounds : Held) (named : List (List ℕ)) → IsKept original vars most ss n s idle rounds named → length ss ≤ n → IsMirrored most ss s
 kept-whole original vars most n ss s idle rounds named kept all = subst (λ (ts : List Slot). IsMirrored most ts s) (take_all n ss all) kept.mirrored
 
 -- ---- the next slot

@@ -73,49 +73,49 @@ keeps_ids_again first mid last h k = record { size = k.size ∙ h.size; more = �
 
 -- ---- the variables of terms
 
-abbrev AddedTo : List (List ℕ) → List Term → ℕ → ℕ → Type 0
-AddedTo lists ts id i = (k : ℕ) (d : Term) → k < i → Contains (ids_of lists (get_or ts k d).lit.var) id
+abbrev AddedTo : ℕ → List (List ℕ) → List Term → ℕ → ℕ → Type 0
+AddedTo original lists ts id i = (k : ℕ) (d : Term) → k < i → original < (get_or ts k d).lit.var → Contains (ids_of lists (get_or ts k d).lit.var) id
 
-pub added_more : (ts : List Term) (id i : ℕ) (t : Term) (var : ℕ) (lists after : List (List ℕ)) → i < length ts → t ≡ get_or ts i t → var ≡ t.lit.var → KeepsIds lists after → Contains (ids_of after var) id → AddedTo lists ts id i → AddedTo after ts id (i + 1)
-added_more ts id i t var lists after below at same kept here h k d low = elim (cases_eq k i) [
+pub added_more : (original : ℕ) (ts : List Term) (id i : ℕ) (t : Term) (var : ℕ) (lists after : List (List ℕ)) → i < length ts → t ≡ get_or ts i t → var ≡ t.lit.var → KeepsIds lists after → (original < var → Contains (ids_of after var) id) → AddedTo original lists ts id i → AddedTo original after ts id (i + 1)
+added_more original ts id i t var lists after below at same kept here h k d low fresh = elim (cases_eq k i) [
   | inl e ↦
       let own : get_or ts i d ≡ t = read_as ts i t d below at in
       let found : var ≡ (get_or ts k d).lit.var = same ∙ ap (λ (x : Term). x.lit.var) (sym own) ∙ ap (λ (j : ℕ). (get_or ts j d).lit.var) (sym e) in
-      subst (λ (v : ℕ). Contains (ids_of after v) id) found here
-  | inr ne ↦ at_number lists after (get_or ts k d).lit.var id kept.size (kept.more ((get_or ts k d).lit.var % length lists) id (h k d (omega (arith, ne, low))))
+      subst (λ (v : ℕ). original < v → Contains (ids_of after v) id) found here fresh
+  | inr ne ↦ at_number lists after (get_or ts k d).lit.var id kept.size (kept.more ((get_or ts k d).lit.var % length lists) id (h k d (omega (arith, ne, low)) fresh))
 ]
 
-pub all_added : (ts : List Term) (id i : ℕ) (lists : List (List ℕ)) → length ts ≤ i → AddedTo lists ts id i → All (λ t. Contains (ids_of lists t.lit.var) id) (weights ts)
-all_added ts id i lists past h = All-map {X = Weighted} (λ t. Contains (ids_of lists t.lit.var) id) weighted ts (λ k d below. h k d (omega (arith, below, past)))
+pub all_added : (original : ℕ) (ts : List Term) (id i : ℕ) (lists : List (List ℕ)) → length ts ≤ i → AddedTo original lists ts id i → All (λ t. original < t.lit.var → Contains (ids_of lists t.lit.var) id) (weights ts)
+all_added original ts id i lists past h = All-map {X = Weighted} (λ t. original < t.lit.var → Contains (ids_of lists t.lit.var) id) weighted ts (λ k d below. h k d (omega (arith, below, past)))
 
 -- ---- what is indexed
 
-pub indexed-kept : (ss : List Slot) (lists after : List (List ℕ)) → KeepsIds lists after → IsIndexed ss lists → IsIndexed ss after
-indexed-kept ss lists after k h = record {
+pub indexed-kept : (original : ℕ) (ss : List Slot) (lists after : List (List ℕ)) → KeepsIds lists after → IsIndexed original ss lists → IsIndexed original ss after
+indexed-kept original ss lists after k h = record {
   enough = subst (λ (n : ℕ). 0 < n) (sym k.size) h.enough;
-  complete = λ id v named. at_number lists after v id k.size (k.more (v % length lists) id (h.complete id v named));
+  complete = λ id v fresh named. at_number lists after v id k.size (k.more (v % length lists) id (h.complete id v fresh named));
 }
 
 -- the same constraints
-pub indexed-same : (ss ss' : List Slot) (lists : List (List ℕ)) → ((k : ℕ) → (slot_at ss' k).constraint ≡ (slot_at ss k).constraint) → IsIndexed ss lists → IsIndexed ss' lists
-indexed-same ss ss' lists same h = record { enough = h.enough; complete = complete }
+pub indexed-same : (original : ℕ) (ss ss' : List Slot) (lists : List (List ℕ)) → ((k : ℕ) → (slot_at ss' k).constraint ≡ (slot_at ss k).constraint) → IsIndexed original ss lists → IsIndexed original ss' lists
+indexed-same original ss ss' lists same h = record { enough = h.enough; complete = complete }
   where
-    complete : (id v : ℕ) → names_var v (slot_of ss' id).constraint ≡ true → Contains (ids_of lists v) id
-    complete zero v named = absurd (false≢true named)
-    complete (suc k) v named = h.complete (suc k) v (ap (names_var v) (sym (same k)) ∙ named)
+    complete : (id v : ℕ) → original < v → names_var v (slot_of ss' id).constraint ≡ true → Contains (ids_of lists v) id
+    complete zero v fresh named = absurd (false≢true named)
+    complete (suc k) v fresh named = h.complete (suc k) v fresh (ap (names_var v) (sym (same k)) ∙ named)
 
-pub indexed-marked : (id : ℕ) (ss ss' : List Slot) (lists : List (List ℕ)) → ss' ≡ marked_slots ss id → IsIndexed ss lists → IsIndexed ss' lists
-indexed-marked id ss ss' lists e h = subst (λ (ts : List Slot). IsIndexed ts lists) (sym e) (indexed-same ss (marked_slots ss id) lists (marked-constraint ss id) h)
+pub indexed-marked : (original id : ℕ) (ss ss' : List Slot) (lists : List (List ℕ)) → ss' ≡ marked_slots ss id → IsIndexed original ss lists → IsIndexed original ss' lists
+indexed-marked original id ss ss' lists e h = subst (λ (ts : List Slot). IsIndexed original ts lists) (sym e) (indexed-same original ss (marked_slots ss id) lists (marked-constraint ss id) h)
 
-pub indexed-without : (id : ℕ) (ss ss' : List Slot) (lists : List (List ℕ)) → ss' ≡ slots_without ss id → IsIndexed ss lists → IsIndexed ss' lists
-indexed-without zero ss ss' lists e h = subst (λ (ts : List Slot). IsIndexed ts lists) (sym e) h
-indexed-without (suc k) ss ss' lists e h = subst (λ (ts : List Slot). IsIndexed ts lists) (sym e) (record { enough = h.enough; complete = complete })
+pub indexed-without : (original id : ℕ) (ss ss' : List Slot) (lists : List (List ℕ)) → ss' ≡ slots_without ss id → IsIndexed original ss lists → IsIndexed original ss' lists
+indexed-without original zero ss ss' lists e h = subst (λ (ts : List Slot). IsIndexed original ts lists) (sym e) h
+indexed-without original (suc k) ss ss' lists e h = subst (λ (ts : List Slot). IsIndexed original ts lists) (sym e) (record { enough = h.enough; complete = complete })
   where
-    complete : (id v : ℕ) → names_var v (slot_of (set ss k hole) id).constraint ≡ true → Contains (ids_of lists v) id
-    complete zero v named = absurd (false≢true named)
-    complete (suc j) v named = elim (cases_eq j k) [
+    complete : (id v : ℕ) → original < v → names_var v (slot_of (set ss k hole) id).constraint ≡ true → Contains (ids_of lists v) id
+    complete zero v fresh named = absurd (false≢true named)
+    complete (suc j) v fresh named = elim (cases_eq j k) [
       | inl same ↦ absurd (false≢true (sym (ap (λ (s : Slot). names_var v s.constraint) (ap (slot_at (set ss k hole)) same ∙ slot_at-set ss k)) ∙ named))
-      | inr ne ↦ h.complete (suc j) v (ap (λ (s : Slot). names_var v s.constraint) (sym (slot_at-set_other ss k j ne)) ∙ named)
+      | inr ne ↦ h.complete (suc j) v fresh (ap (λ (s : Slot). names_var v s.constraint) (sym (slot_at-set_other ss k j ne)) ∙ named)
     ]
 
 gone-slot : (ss : List Slot) (id : ℕ) → (slot_of (slots_without ss id) id).constraint ≡ None
@@ -123,12 +123,12 @@ gone-slot ss zero = refl
 gone-slot ss (suc k) = ap (λ (s : Slot). s.constraint) (slot_at-set ss k)
 
 -- the constraint of an id goes, and the id from lists
-pub indexed-lost : (id : ℕ) (ss ss' : List Slot) (lists after : List (List ℕ)) → ss' ≡ slots_without ss id → LosesId id lists after → IsIndexed ss lists → IsIndexed ss' after
-indexed-lost id ss ss' lists after e loses h =
-    let kept = indexed-without id ss ss' lists e h in
+pub indexed-lost : (original id : ℕ) (ss ss' : List Slot) (lists after : List (List ℕ)) → ss' ≡ slots_without ss id → LosesId id lists after → IsIndexed original ss lists → IsIndexed original ss' after
+indexed-lost original id ss ss' lists after e loses h =
+    let kept = indexed-without original id ss ss' lists e h in
     record {
       enough = subst (λ (n : ℕ). 0 < n) (sym loses.size) kept.enough;
-      complete = λ i v named. at_number lists after v i loses.size (loses.others (v % length lists) i (other i v named) (kept.complete i v named));
+      complete = λ i v fresh named. at_number lists after v i loses.size (loses.others (v % length lists) i (other i v named) (kept.complete i v fresh named));
     }
   where
     other : (i v : ℕ) → names_var v (slot_of ss' i).constraint ≡ true → i ≡ id → ⊥
@@ -157,11 +157,11 @@ loses-at id var lists ids below h = record {
 }
 
 -- the ids of what stands are left
-pub indexed-swept : (ss : List Slot) (lists after : List (List ℕ)) → length after ≡ length lists → ((v : ℕ) → ids_at after v ≡ filter (λ (id : ℕ). is_some (slot_of ss id).constraint) (ids_at lists v)) → IsIndexed ss lists → IsIndexed ss after
-indexed-swept ss lists after size swept h = record {
+pub indexed-swept : (original : ℕ) (ss : List Slot) (lists after : List (List ℕ)) → length after ≡ length lists → ((v : ℕ) → ids_at after v ≡ filter (λ (id : ℕ). is_some (slot_of ss id).constraint) (ids_at lists v)) → IsIndexed original ss lists → IsIndexed original ss after
+indexed-swept original ss lists after size swept h = record {
   enough = subst (λ (n : ℕ). 0 < n) (sym size) h.enough;
-  complete = λ id v named. at_number lists after v id size (subst (λ (ks : List ℕ). Contains ks id) (sym (swept (v % length lists)))
-      (contains_filter (λ (id : ℕ). is_some (slot_of ss id).constraint) (ids_of lists v) id (stands v (slot_of ss id).constraint named) (h.complete id v named)));
+  complete = λ id v fresh named. at_number lists after v id size (subst (λ (ks : List ℕ). Contains ks id) (sym (swept (v % length lists)))
+      (contains_filter (λ (id : ℕ). is_some (slot_of ss id).constraint) (ids_of lists v) id (stands v (slot_of ss id).constraint named) (h.complete id v fresh named)));
 }
   where
     stands : (v : ℕ) (o : Option Constraint) → names_var v o ≡ true → is_some o ≡ true
@@ -169,38 +169,37 @@ indexed-swept ss lists after size swept h = record {
     stands v (Some c) e = refl
 
 -- a term of the variable
-pub named-contains : (lists : List (List ℕ)) (v id : ℕ) (ts : List Weighted) → list_any (is_of v) ts ≡ true → All (λ t. Contains (ids_of lists t.lit.var) id) ts → Contains (ids_of lists v) id
-named-contains lists v id ts named all =
+pub named-contains : (original : ℕ) (lists : List (List ℕ)) (v id : ℕ) (ts : List Weighted) → original < v → list_any (is_of v) ts ≡ true → All (λ t. original < t.lit.var → Contains (ids_of lists t.lit.var) id) ts → Contains (ids_of lists v) id
+named-contains original lists v id ts fresh named all =
     let found = Any-from_list_any (is_of v) ts named in
-    let here : Contains (ids_of lists (get_or ts found.0 found.1).lit.var) id = all found.0 found.1 found.2 in
     let var : (get_or ts found.0 found.1).lit.var ≡ v = ap (λ (t : Weighted). t.lit.var) found.3 ∙ eqb-true found.1.lit.var v found.4 in
-    subst (λ (w : ℕ). Contains (ids_of lists w) id) var here
+    subst (λ (w : ℕ). original < w → Contains (ids_of lists w) id) var (all found.0 found.1 found.2) fresh
 
-pub indexed-pushed : (ss ss' : List Slot) (lists : List (List ℕ)) (c : Constraint) (p id : ℕ) → ss' ≡ ss ++ whole c p ∷ [] → id ≡ length ss + 1 → All (λ t. Contains (ids_of lists t.lit.var) id) c.terms → IsIndexed ss lists → IsIndexed ss' lists
-indexed-pushed ss ss' lists c p id e is_next all h = subst (λ (ts : List Slot). IsIndexed ts lists) (sym e) (record { enough = h.enough; complete = complete })
+pub indexed-pushed : (original : ℕ) (ss ss' : List Slot) (lists : List (List ℕ)) (c : Constraint) (p id : ℕ) → ss' ≡ ss ++ whole c p ∷ [] → id ≡ length ss + 1 → All (λ t. original < t.lit.var → Contains (ids_of lists t.lit.var) id) c.terms → IsIndexed original ss lists → IsIndexed original ss' lists
+indexed-pushed original ss ss' lists c p id e is_next all h = subst (λ (ts : List Slot). IsIndexed original ts lists) (sym e) (record { enough = h.enough; complete = complete })
   where
-    complete : (i v : ℕ) → names_var v (slot_of (ss ++ whole c p ∷ []) i).constraint ≡ true → Contains (ids_of lists v) i
-    complete zero v named = absurd (false≢true named)
-    complete (suc k) v named = elim (cases_eq k (length ss)) [
+    complete : (i v : ℕ) → original < v → names_var v (slot_of (ss ++ whole c p ∷ []) i).constraint ≡ true → Contains (ids_of lists v) i
+    complete zero v fresh named = absurd (false≢true named)
+    complete (suc k) v fresh named = elim (cases_eq k (length ss)) [
       | inl last ↦
           let own : list_any (is_of v) c.terms ≡ true = ap (λ (s : Slot). names_var v s.constraint) (sym (ap (slot_at (ss ++ whole c p ∷ [])) last ∙ slot_at-push ss (whole c p))) ∙ named in
           let same : id ≡ suc k = omega (arith, is_next, last) in
-          subst (Contains (ids_of lists v)) same (named-contains lists v id c.terms own all)
-      | inr ne ↦ h.complete (suc k) v (ap (λ (s : Slot). names_var v s.constraint) (sym (slot_at-push_other ss (whole c p) k ne)) ∙ named)
+          subst (Contains (ids_of lists v)) same (named-contains original lists v id c.terms fresh own all)
+      | inr ne ↦ h.complete (suc k) v fresh (ap (λ (s : Slot). names_var v s.constraint) (sym (slot_at-push_other ss (whole c p) k ne)) ∙ named)
     ]
 
-pub indexed-empty : (vars : ℕ) (lists : List (List ℕ)) → length lists ≡ vars + 1 → IsIndexed [] lists
-indexed-empty vars lists e = record { enough = omega (arith, e); complete = complete }
+pub indexed-empty : (original vars : ℕ) (lists : List (List ℕ)) → length lists ≡ vars + 1 → IsIndexed original [] lists
+indexed-empty original vars lists e = record { enough = omega (arith, e); complete = complete }
   where
-    complete : (id v : ℕ) → names_var v (slot_of [] id).constraint ≡ true → Contains (ids_of lists v) id
-    complete zero v named = absurd (false≢true named)
-    complete (suc zero) v named = absurd (false≢true named)
-    complete (suc (suc k)) v named = absurd (false≢true named)
+    complete : (id v : ℕ) → original < v → names_var v (slot_of [] id).constraint ≡ true → Contains (ids_of lists v) id
+    complete zero v fresh named = absurd (false≢true named)
+    complete (suc zero) v fresh named = absurd (false≢true named)
+    complete (suc (suc k)) v fresh named = absurd (false≢true named)
 
 -- ---- of a variable
 
-pub has_naming : (ss : List Slot) (lists : List (List ℕ)) (v : ℕ) → IsIndexed ss lists → HasNaming (entries_from 1 ss) v (ids_of lists v)
-has_naming ss lists v h id named = h.complete id v (ap (names_var v) (sym (constraint_at-slot id ss)) ∙ named)
+pub has_naming : (original : ℕ) (ss : List Slot) (lists : List (List ℕ)) (v : ℕ) → original < v → IsIndexed original ss lists → HasNaming (entries_from 1 ss) v (ids_of lists v)
+has_naming original ss lists v fresh h id named = h.complete id v fresh (ap (names_var v) (sym (constraint_at-slot id ss)) ∙ named)
 
 -- ---- of the variables of a substitution
 
@@ -235,13 +234,13 @@ has_named live sets ids h id c at is_named =
 
 -- ---- constraints that are loaded
 
-pub loaded_more : (loaded : List Constraint) (i id : ℕ) (c : Constraint) (ts : List Weighted) (lists after : List (List ℕ)) → i < length loaded → c ≡ get_or loaded i c → id ≡ i + 1 → ts ≡ c.terms →
-    KeepsIds lists after → All (λ t. Contains (ids_of after t.lit.var) id) ts → IsIndexed (placed_from 0 (take i loaded)) lists → IsIndexed (placed_from 0 (take (i + 1) loaded)) after
-loaded_more loaded i id c ts lists after below at next terms kept added h =
+pub loaded_more : (original : ℕ) (loaded : List Constraint) (i id : ℕ) (c : Constraint) (ts : List Weighted) (lists after : List (List ℕ)) → i < length loaded → c ≡ get_or loaded i c → id ≡ i + 1 → ts ≡ c.terms →
+    KeepsIds lists after → All (λ t. original < t.lit.var → Contains (ids_of after t.lit.var) id) ts → IsIndexed original (placed_from 0 (take i loaded)) lists → IsIndexed original (placed_from 0 (take (i + 1) loaded)) after
+loaded_more original loaded i id c ts lists after below at next terms kept added h =
     let front = placed_from 0 (take i loaded) in
     let count : id ≡ length front + 1 = omega (arith, next, length-placed_from 0 (take i loaded), length-take-le i loaded (omega (arith, below))) in
-    indexed-pushed front (placed_from 0 (take (i + 1) loaded)) after c i id (sym (placed_more loaded i c c front (front ++ whole c i ∷ []) below at refl refl refl)) count
-    (subst (λ (us : List Weighted). All (λ (t : Weighted). Contains (ids_of after t.lit.var) id) us) terms added) (indexed-kept front lists after kept h)
+    indexed-pushed original front (placed_from 0 (take (i + 1) loaded)) after c i id (sym (placed_more loaded i c c front (front ++ whole c i ∷ []) below at refl refl refl)) count
+    (subst (λ (us : List Weighted). All (λ (t : Weighted). original < t.lit.var → Contains (ids_of after t.lit.var) id) us) terms added) (indexed-kept original front lists after kept h)
 
 -- ---- ids of all set variables
 

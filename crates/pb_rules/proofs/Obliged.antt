@@ -4,7 +4,7 @@ use Rattle.std.specs.Prelude.{All, filter, find, option_map, nat_lt, nat_le, uns
 use Rattle.std.specs.Option.{option_or}
 use Rattle.std.specs.Bool.{MatchBool}
 use Rattle.std.specs.List.{AllPairs}
-use Rattle.std.proofs.lemmas.Bool.{ltb-true, both_ways, eqb-true, eq-eqb, ne_eqb, cases_eq, cases_lt}
+use Rattle.std.proofs.lemmas.Bool.{ltb-true, leb-false, both_ways, eqb-true, eq-eqb, ne_eqb, cases_eq, cases_lt}
 use Rattle.std.proofs.lemmas.List.{get_or_append_left, get_or_at, get_or_default}
 use Rattle.std.proofs.lemmas.List.Elements.{All-nil, All-cons, All-head, All-tail, All-append, All-weaker, filter-append}
 use Rattle.std.specs.List.Sorted.{IsStrictlyIncreasing}
@@ -24,10 +24,10 @@ use Rattle.pb_steps.specs.declared.step.Step.TheVariants.{Red}
 use Rattle.pb_steps.specs.Steps.{IsSpelled, vars_of_terms, vars_of_sets}
 use Rattle.pb_steps.specs.Operations.{negation, implies, excess}
 use Rattle.pb_steps.specs.Substitutions.{restriction, names_set}
-use Rattle.pb_steps.specs.Database.{Entry, Database, constraint_at, entry, grown}
-use Rattle.pb_steps.specs.Allowed.{Allowed, IsShown, IsMet, IsSlim, obligations, to_refute}
+use Rattle.pb_steps.specs.Database.{Entry, Database, constraint_at, entry, grown, live_constraints}
+use Rattle.pb_steps.specs.Allowed.{Allowed, IsShown, IsMet, IsSlim, obligations}
 use Rattle.pb_steps.specs.Denials.{seen_denial, unless, UnshownBy, FirstUnmet}
-use Rattle.pb_steps.proofs.Searching.{none-some, from_first_some-none, from_unless-none}
+use Rattle.pb_steps.proofs.Searching.{none-some, from_find-none, from_first_some-none, from_map-none, from_unless-none}
 use Rattle.pb_rules.specs.declared.slots.Slot.{Slot}
 use Rattle.pb_rules.specs.inner.Slots.{with_entry, entries_from, database_of}
 use Rattle.pb_rules.specs.inner.Ordered.{IsOrdered}
@@ -222,15 +222,26 @@ red-seen_denial db ts right sets clause =
 
 pub red-slim : (db : Database) (ts : List Term) (right : ℤ) (sets : List Set) → seen_denial db (Red ts right sets) None ≡ None → IsSlim ts right
 red-slim db ts right sets e =
-    let row = from_first_some-none (rows db (Red ts right sets) None) e 3 None (omega arith) in
+    let row = from_first_some-none (rows db (Red ts right sets) None) e 2 None (omega arith) in
     ltb-true (magnitude ts + unsigned_abs right) (2 ^ 126) (from_unless-none (ltb (magnitude ts + unsigned_abs right) (2 ^ 126)) Width row)
 
 pub red-vars : (db : Database) (ts : List Term) (right : ℤ) (sets : List Set) → seen_denial db (Red ts right sets) None ≡ None → All (λ v. v ≤ db.vars) (vars_of_terms ts)
 red-vars db ts right sets e = (All-append_both (λ v. v ≤ db.vars) (vars_of_terms ts) (vars_of_sets sets) (seen_denial-vars db (Red ts right sets) None e)).0
 
+fresh_sets : (n : ℕ) (sets : List Set) → All (λ v. nat_le v n ≡ false) (vars_of_sets sets) → All (λ (s : Set). n < s.var) sets
+fresh_sets n [] h = All-nil (λ (s : Set). n < s.var)
+fresh_sets n (s ∷ sets) h =
+    All-cons (λ (t : Set). n < t.var) s sets (leb-false s.var n (All-head (λ v. nat_le v n ≡ false) s.var (vars_of_sets sets) h)) (fresh_sets n sets (All-tail (λ v. nat_le v n ≡ false) s.var (vars_of_sets sets) h))
+
+pub red-fresh : (db : Database) (ts : List Term) (right : ℤ) (sets : List Set) → seen_denial db (Red ts right sets) None ≡ None → All (λ (s : Set). db.original < s.var) sets
+red-fresh db ts right sets e =
+    let own = find (λ v. nat_le v db.original) (vars_of_sets sets) in
+    let row : option_map SetsOriginal own ≡ None = from_first_some-none (rows db (Red ts right sets) None) e 3 None (omega arith) in
+    fresh_sets db.original sets (from_find-none (λ v. nat_le v db.original) (vars_of_sets sets) (from_map-none SetsOriginal own row))
+
 -- ---- what is shown
 
-pub shown_from : (found : Bool) (live : List Entry) (claim goal : Constraint) (cs : List Constraint) → cs ≡ to_refute live claim goal → implies (negation claim) goal ≡ false →
+pub shown_from : (found : Bool) (live : List Entry) (claim goal : Constraint) (cs : List Constraint) → cs ≡ negation claim ∷ negation goal ∷ live_constraints live → implies (negation claim) goal ≡ false →
     MatchBool found (Conflict cs []) (¬ Conflict cs []) → MatchBool found (IsShown live claim goal) (¬ IsShown live claim goal)
 shown_from true live claim goal cs e f conflict = inr (subst (λ (xs : List Constraint). Conflict xs []) e conflict)
 shown_from false live claim goal cs e f none = λ h. elim h [

@@ -191,13 +191,6 @@ just-added cs s p c free h = record {
   ]);
 }
 
-pub idle-new : (vars : ℕ) (ds : List Constraint) (s : EngineState) → s ≡ started vars ds → ds ≡ [] → IsIdle vars s
-idle-new vars ds s f g = subst (IsIdle vars) (sym (f ∙ ap (started vars) g)) (record { vars_are = refl; given = refl; covered = nothing })
-  where
-    nothing : (p : ℕ) → (at_place [] p ≡ None) ⊎ Contains [] p
-    nothing zero = inl refl
-    nothing (suc p) = inl refl
-
 pub just-more : (ss : List Slot) (ids : List ℕ) (i : ℕ) (cs : List Constraint) (s : EngineState) → i < length ids →
     HasJust ((cs ++ listed_slots ss (take i ids)) ++ option_to_list (slot_of ss (get_or ids i 0)).constraint) s → HasJust (cs ++ listed_slots ss (take (i + 1) ids)) s
 just-more ss ids i cs s below h =

@@ -16,7 +16,7 @@ use Rattle.pb_steps.specs.declared.step.Step.TheVariants.{Rup, Del}
 use Rattle.pb_steps.specs.Steps.{vars_named, IsSpelled, IsRule}
 use Rattle.pb_steps.specs.Database.{Entry, Database, constraint_at, is_live, is_out, is_listed, without, grown, reduced}
 use Rattle.pb_steps.specs.Allowed.{Allowed, IsSlim, propagated}
-use Rattle.pb_steps.specs.Denials.{seen_denial, first_gone, unknown_var, unknown_id, stack, width, sets_original, no_clause, not_implied, out_deleted, UnshownBy}
+use Rattle.pb_steps.specs.Denials.{seen_denial, first_gone, unknown_var, unknown_id, causes, UnshownBy}
 use Rattle.pb_steps.specs.DenialLaws.{IsAllowed}
 use Rattle.pb_steps.proofs.Searching.{from_find-none, from_map-none, from_first_some-none, from_unless-none, none-some}
 use Rattle.std.proofs.lemmas.List.{take_more}
@@ -27,7 +27,7 @@ use Rattle.pb_steps.proofs.Denying.{allowed_or_denied}
 
 -- the rows of the causes, as they stand in `seen`
 abbrev pub rows : Database → Step → Option (List Lit) → List (Option Denied)
-rows db step clause = unknown_var db step ∷ unknown_id db step ∷ stack step ∷ width db step ∷ sets_original db step ∷ no_clause step clause ∷ not_implied db step clause ∷ out_deleted db step ∷ []
+rows db step clause = unknown_var db step ∷ unknown_id db step ∷ causes db step clause
 
 pub seen_denial-vars : (db : Database) (step : Step) (clause : Option (List Lit)) → seen_denial db step clause ≡ None → All (λ v. v ≤ db.vars) (vars_named step)
 seen_denial-vars db step clause e =
@@ -36,7 +36,7 @@ seen_denial-vars db step clause e =
 
 pub seen_denial-slim : (db : Database) (ts : List Term) (right : ℤ) (ids : List ℕ) (clause : Option (List Lit)) → seen_denial db (Rup ts right ids) clause ≡ None → IsSlim ts right
 seen_denial-slim db ts right ids clause e =
-    let row = from_first_some-none (rows db (Rup ts right ids) clause) e 3 None (omega arith) in
+    let row = from_first_some-none (rows db (Rup ts right ids) clause) e 2 None (omega arith) in
     ltb-true (magnitude ts + unsigned_abs right) (2 ^ 126) (from_unless-none (ltb (magnitude ts + unsigned_abs right) (2 ^ 126)) Width row)
 
 -- a step that has no cause of a denial is allowed

@@ -1,5 +1,5 @@
 //! The constraints that stand.
-ghost use Rattle.std.specs.Prelude.{◌≡◌, ◌≤◌, ◌∷◌, ◌++◌, [], IfOk, OnOk, OnErr, All, filter_map, length, take};
+ghost use Rattle.std.specs.Prelude.{◌≡◌, ◌≤◌, ◌<◌, ◌∷◌, ◌++◌, [], IfOk, OnOk, OnErr, All, filter_map, length, take};
 ghost use Rattle.std.specs.Option.{option_copied};
 ghost use Rattle.pb_norm.specs.Constraints.{HasVarsWithin, AreVarsWithin};
 ghost use Rattle.pb_steps.specs.Operations.{IsNarrow};
@@ -13,8 +13,8 @@ ghost use Rattle.pb_rules.specs.inner.Mirrors.{TellsConflict, IsMirrored};
 
 use crate::apart::{self, is_refuted_with_all, is_refuted_with_listed};
 use crate::entering::{enter_rest, leave};
+use crate::idle::{Idle, idle_engine};
 use crate::index::{self, Named};
-use crate::listed::is_refuted_by;
 use crate::packed::Packed;
 use crate::refutation::{is_refuted_with, is_refuted_with_both};
 use crate::rounds::is_refuted_by_few;
@@ -35,11 +35,11 @@ pub struct Database {
     // The constraints of so many of the first slots stand in the engine. The others join them before all that stands is propagated over.
     entered: usize,
     engine: Engine,
-    // Nothing stands in it between calls.
-    idle: Engine,
+    // For listed constraints alone.
+    idle: Idle,
     // For few constraints no engine is worth its while.
     rounds: Rounds,
-    // By variables, ids of constraints that have them.
+    // By fresh variables, ids of constraints that have them.
     named: Vec<Named>,
     // So many ids of constraints that do not stand are listed there; past so many a sweep pays for itself. Nothing is true by these counts.
     left: usize,
@@ -92,12 +92,17 @@ fn loaded_slots(alloc: Global, loaded: &[Linear]) -> Result<Vec<Slot>, NoMemory>
 }
 
 // The index of constraints that are loaded, with lists for so many variables.
-fn loaded_index(alloc: Global, size: u32, loaded: &[Linear]) -> Result<Vec<Named>, NoMemory>
-    ensures { IfOk result (λ lists. IsIndexed (placed_from 0 loaded.now) lists.items) }
+fn loaded_index(
+    alloc: Global,
+    size: u32,
+    original: u32,
+    loaded: &[Linear],
+) -> Result<Vec<Named>, NoMemory>
+    ensures { IfOk result (λ lists. IsIndexed original (placed_from 0 loaded.now) lists.items) }
 {
     let mut lists = index::empty(alloc, size)?;
     for (place, constraint) in loaded.iter().enumerate() {
-        if !index::enter(&mut lists, constraint.terms(), place as u64 + 1) {
+        if !index::enter(&mut lists, original, constraint.terms(), place as u64 + 1) {
             return Err(NoMemory);
         }
     }
@@ -121,13 +126,6 @@ fn loaded_engine(alloc: Global, vars: u32, loaded: &[Linear]) -> Result<Engine, 
     ensures { IfOk result (λ engine. engine ≡ started vars loaded.now) }
 {
     Engine::new(alloc, vars, copies(alloc, loaded)?)
-}
-
-// An engine in which nothing stands.
-fn idle_engine(alloc: Global, vars: u32) -> Result<Engine, NoMemory>
-    ensures { IfOk result (λ engine. engine ≡ started vars []) }
-{
-    Engine::new(alloc, vars, Vec::new(alloc))
 }
 
 // Up to so many variables have tables, however few occur, and so many more for each term that is loaded.
@@ -182,9 +180,9 @@ impl Database {
         let slots = loaded_slots(alloc, loaded)?;
         let most = most_of(vars, loaded);
         let lists = if most < vars { SHARED_LISTS } else { vars };
-        let named = loaded_index(alloc, lists, loaded)?;
+        let named = loaded_index(alloc, lists, original, loaded)?;
         let (engine, entered) = first_engine(alloc, vars, most, loaded)?;
-        let idle = idle_engine(alloc, most)?;
+        let idle = Idle::new(most);
         let rounds = Rounds::new(alloc, most)?;
         Ok(Database {
             original,
@@ -320,11 +318,12 @@ impl Database {
         ) {
             return Ok(found);
         }
-        is_refuted_by(self.alloc, &mut self.idle, &self.slots, more, ids)
+        self.idle.refutes(self.alloc, &self.slots, more, ids)
     }
 
-    /// Ids, among them those of all constraints that have the variable.
+    /// Ids, among them those of all constraints that have the variable, which is a fresh one.
     pub(crate) fn ids_of(&self, var: Var) -> &[u32]
+        requires { self.now.original < var }
         ensures { HasNaming self.now.live var result.now }
     {
         index::ids_of(&self.named, var)
@@ -339,7 +338,7 @@ impl Database {
         ensures err { OnErr result (self.new ≡ self.old) }
     {
         let id = self.slots.len() as u64 + 1;
-        if !index::enter(&mut self.named, constraint.terms(), id) {
+        if !index::enter(&mut self.named, self.original, constraint.terms(), id) {
             return Err(NoMemory);
         }
         slots::push(&mut self.slots, self.alloc, constraint, 0)?;
@@ -355,7 +354,7 @@ impl Database {
         match gone.constraint {
             Some(packed) => {
                 leave(&mut self.engine, self.entered, id, place);
-                let left = packed.unlist(&mut self.named, id);
+                let left = packed.unlist(&mut self.named, self.original, id);
                 self.left = self.left.saturating_add(left);
             }
             None => {}

@@ -1,11 +1,11 @@
-//! For each variable, ids whose constraints have it, and perhaps others. There may be fewer lists than variables: then some share one.
+//! For each fresh variable, ids whose constraints have it, and perhaps others: a substitution sets no other variable, and most terms have another.
+//! There may be fewer lists than variables: then some share one.
 ghost use Rattle.std.specs.Prelude.{◌≡◌, ◌<◌, ◌+◌, ◌%◌, ◌++◌, ◌∷◌, [], ℕ, All, Contains, IfOk, IfSome, OnOk, OnErr, length, filter, is_some, slice_index_or};
 ghost use Rattle.std.specs.Bool.{OnTrue};
 ghost use Rattle.pb_norm.specs.Constraints.{weights};
 ghost use Rattle.pb_rules.specs.inner.Slots.{slot_of};
 ghost use Rattle.pb_rules.specs.inner.Indexed.{ids_at, ids_of, KeepsIds, LosesId, IsIndexed};
 
-use crate::short_lit::ShortLit;
 use crate::slots::{self, Slot};
 use pb_base::{NoMemory, Term, Var};
 use pb_unit::newest_that;
@@ -42,6 +42,18 @@ fn newest_at(items: &[u32], id: u32) -> Option<usize>
     newest_that(items, |item| *item == id)
 }
 
+// Gives room back where ids take less than a quarter of it: while a sum is derived, a variable has far more constraints than after it.
+// Nothing is true by this.
+fn fit(items: &mut Vec<u32>)
+    ensures { items.new.items ≡ items.old.items }
+{
+    let len = items.len();
+    let room = items.capacity();
+    if room >= 8 && len <= room / 4 {
+        items.shrink_to(len * 2);
+    }
+}
+
 impl Named {
     // One more id, if there is memory.
     fn push(&mut self, id: u64) -> Result<(), NoMemory>
@@ -65,6 +77,7 @@ impl Named {
         match newest_at(&self.items, id as u32) {
             Some(index) => {
                 self.items.remove(index);
+                fit(&mut self.items);
                 true
             }
             None => false,
@@ -76,6 +89,7 @@ impl Named {
         ensures { self.new ≡ filter (λ id. is_some (slot_of slots.now id).constraint) self.old }
     {
         self.items.retain(|id| slots::stands(slots, *id as u64));
+        fit(&mut self.items);
     }
 
     fn as_slice(&self) -> &[u32]
@@ -121,15 +135,29 @@ fn append(lists: &mut Vec<Named>, number: usize, id: u64) -> bool
     }
 }
 
-/// One more id for the variables of terms, if there is memory.
-pub(crate) fn enter(lists: &mut Vec<Named>, terms: &[Term], id: u64) -> bool
+// One more id for a variable, if it is fresh and there is memory.
+fn enter_one(lists: &mut Vec<Named>, original: u32, var: u32, id: u64) -> bool
     requires { 0 < length lists.old.items }
     ensures kept { KeepsIds lists.old.items lists.new.items }
-    ensures added { OnTrue result (All (λ t. Contains (ids_of lists.new.items t.lit.var) id) (weights terms.now)) }
+    ensures added { OnTrue result (original < var → Contains (ids_of lists.new.items var) id) }
 {
-    let count = lists.len();
+    if var <= original {
+        return true;
+    }
+    if !append(lists, number_in(lists.len(), var), id) {
+        return false;
+    }
+    true
+}
+
+/// One more id for the variables of terms that are beyond the original ones, if there is memory.
+pub(crate) fn enter(lists: &mut Vec<Named>, original: u32, terms: &[Term], id: u64) -> bool
+    requires { 0 < length lists.old.items }
+    ensures kept { KeepsIds lists.old.items lists.new.items }
+    ensures added { OnTrue result (All (λ t. original < t.lit.var → Contains (ids_of lists.new.items t.lit.var) id) (weights terms.now)) }
+{
     for term in terms {
-        if !append(lists, number_in(count, term.lit.index()), id) {
+        if !enter_one(lists, original, term.lit.index(), id) {
             return false;
         }
     }
@@ -146,30 +174,34 @@ fn take_one(lists: &mut Vec<Named>, number: usize, id: u64) -> bool
     lists[number].take(id)
 }
 
-/// Takes an id out of the lists of the variables of terms, where it is among the newest there. In how many it is left.
-pub(crate) fn leave(lists: &mut Vec<Named>, terms: &[Term], id: u64) -> usize
+// Takes an id out of the list of a variable, where that is fresh and the id is among the newest there. Whether it is left.
+fn leave_one(lists: &mut Vec<Named>, original: u32, var: u32, id: u64) -> bool
     requires { 0 < length lists.old.items }
     ensures { LosesId id lists.old.items lists.new.items }
 {
-    let count = lists.len();
-    let mut left: usize = 0;
-    for term in terms {
-        if !take_one(lists, number_in(count, term.lit.index()), id) {
-            left = left.saturating_add(1);
-        }
+    if var <= original {
+        return false;
     }
-    left
+    let number = number_in(lists.len(), var);
+    !take_one(lists, number, id)
 }
 
-/// The same of the variables of literals.
-pub(crate) fn leave_lits(lists: &mut Vec<Named>, lits: &[ShortLit], id: u64) -> usize
-    requires { 0 < length lists.old.items }
+/// Takes an id out of the lists of the variables of items that are beyond the original ones, where it is among the newest there.
+/// In how many it is left.
+pub(crate) fn leave<T, F: Fn(&T) -> u32>(
+    lists: &mut Vec<Named>,
+    original: u32,
+    items: &[T],
+    id: u64,
+    var_of: F,
+) -> usize
+    requires callable { F.IsAlwaysCallable var_of }
+    requires some { 0 < length lists.old.items }
     ensures { LosesId id lists.old.items lists.new.items }
 {
-    let count = lists.len();
     let mut left: usize = 0;
-    for lit in lits {
-        if !take_one(lists, number_in(count, lit.get().index()), id) {
+    for item in items {
+        if leave_one(lists, original, var_of(item), id) {
             left = left.saturating_add(1);
         }
     }
@@ -196,8 +228,7 @@ pub(crate) fn len(lists: &[Named]) -> usize {
 
 /// Lists only ids whose constraints stand, where that is due.
 pub(crate) fn sweep_if(due: bool, lists: &mut Vec<Named>, slots: &[Slot])
-    requires { IsIndexed slots.now lists.old.items }
-    ensures { IsIndexed slots.now lists.new.items }
+    ensures { (original : ℕ) → IsIndexed original slots.now lists.old.items → IsIndexed original slots.now lists.new.items }
 {
     if due {
         sweep(lists, slots);

@@ -8,6 +8,7 @@ mod del;
 mod entering;
 mod fault;
 mod form;
+mod idle;
 mod index;
 mod listed;
 mod naming;
@@ -20,6 +21,8 @@ mod rounds;
 mod rows;
 mod rup;
 mod short_lit;
+mod short_sum;
+mod short_term;
 mod slots;
 
 pub use apply::Applied;

@@ -40,10 +40,25 @@ impl Database {
         lesser_id(best, id)
     }
 
-    /// The least id, from a number on, whose constraint has the variable, or None where none has it.
+    // The same as below, by a walk over all ids.
+    fn walked_naming(&self, var: Var, from: u64) -> Option<u64>
+        ensures { MatchOption result (IsUnnamed self.now var from) (IsFirstNaming self.now.live var from) }
+    {
+        for id in from..self.next() {
+            if self.names(id, var) {
+                return Some(id);
+            }
+        }
+        None
+    }
+
+    /// The least id, from a number on, whose constraint has the variable, or None where none has it. Only fresh variables have lists of ids.
     pub fn naming(&self, var: Var, from: u64) -> Option<u64>
         ensures { MatchOption result (IsUnnamed self.now var from) (IsFirstNaming self.now.live var from) }
     {
+        if var.index() <= self.original() {
+            return self.walked_naming(var, from);
+        }
         let mut best = None;
         for id in self.ids_of(var) {
             best = self.earlier_naming(best, *id as u64, var, from);

@@ -13,18 +13,21 @@ ghost use Rattle.pb_rules.specs.inner.Units.{unit, unit_term, clause_of};
 
 use crate::index::{self, Named};
 use crate::short_lit::ShortLit;
+use crate::short_sum::ShortSum;
 use pb_base::{Clause, Lit, NoMemory, Term, Var};
 use pb_norm::{Linear, clause_form};
 use pb_operations::implies;
 use std::alloc::{AllocError, Global};
 use std::marker::Model;
 
-/// A constraint as it is kept: a clause of two, three or four literals, which take four bytes each, or any other, in memory of its own.
+/// A constraint as it is kept: a clause of two, three or four literals, which take four bytes each, or another sum, in memory of its own: of terms of eight bytes
+/// where its numbers take 32 bits, or as it came.
 #[derive(Drop)]
 pub(crate) enum Form {
     Two([ShortLit; 2]),
     Three([ShortLit; 3]),
     Four([ShortLit; 4]),
+    Sum(Box<ShortSum>),
     Other(Box<Linear>),
 }
 
@@ -86,6 +89,14 @@ fn are_among(lits: &[ShortLit], others: &[Lit]) -> bool
     lits.iter().all(|lit| is_among(others, &lit.get()))
 }
 
+// Takes an id out of the lists of the fresh variables of literals, where it is among the newest there. In how many it is left.
+fn leave_lits(lists: &mut Vec<Named>, original: u32, lits: &[ShortLit], id: u64) -> usize
+    requires { 0 < length lists.old.items }
+    ensures { LosesId id lists.old.items lists.new.items }
+{
+    index::leave(lists, original, lits, id, |lit| lit.get().index())
+}
+
 // The terms of literals, each with the coefficient 1.
 fn units(alloc: Global, lits: &[ShortLit]) -> Result<Vec<Term>, AllocError>
     ensures { IfOk result (λ v. v.items ≡ map unit_term lits.now) }
@@ -136,16 +147,29 @@ fn short_form(constraint: &Linear) -> Option<Form>
     short(terms)
 }
 
+// The form of a constraint that is no clause of few literals.
+fn long_form(alloc: Global, constraint: Linear) -> Result<Form, NoMemory>
+    ensures { IfOk result (λ form. constraint_in form ≡ constraint) }
+{
+    match ShortSum::of(alloc, &constraint)? {
+        Some(sum) => {
+            let alone = Box::new(alloc, sum)?;
+            Ok(Form::Sum(alone))
+        }
+        None => {
+            let alone = Box::new(alloc, constraint)?;
+            Ok(Form::Other(alone))
+        }
+    }
+}
+
 // The form of a constraint.
 fn form_of(alloc: Global, constraint: Linear) -> Result<Form, NoMemory>
     ensures { IfOk result (λ form. constraint_in form ≡ constraint) }
 {
     match short_form(&constraint) {
         Some(form) => Ok(form),
-        None => {
-            let alone = Box::new(alloc, constraint)?;
-            Ok(Form::Other(alone))
-        }
+        None => long_form(alloc, constraint),
     }
 }
 
@@ -168,6 +192,7 @@ impl Packed {
             Form::Two(lits) => clause(alloc, lits),
             Form::Three(lits) => clause(alloc, lits),
             Form::Four(lits) => clause(alloc, lits),
+            Form::Sum(sum) => sum.read(alloc),
             Form::Other(alone) => alone.copy(alloc),
         }
     }
@@ -180,6 +205,7 @@ impl Packed {
             Form::Two(lits) => has_lit(lits, var),
             Form::Three(lits) => has_lit(lits, var),
             Form::Four(lits) => has_lit(lits, var),
+            Form::Sum(sum) => sum.has_var(var),
             Form::Other(alone) => has_var(alone.terms(), var),
         }
     }
@@ -192,6 +218,7 @@ impl Packed {
             Form::Two(lits) => are_among(lits, others),
             Form::Three(lits) => are_among(lits, others),
             Form::Four(lits) => are_among(lits, others),
+            Form::Sum(_) => false,
             Form::Other(_) => false,
         }
     }
@@ -208,16 +235,29 @@ impl Packed {
         Ok(implies(&constraint, &form))
     }
 
-    /// Takes an id out of the lists of its variables, where it is among the newest there. In how many it is left.
-    pub(crate) fn unlist(&self, lists: &mut Vec<Named>, id: u64) -> usize
+    /// Takes an id out of the lists of its variables beyond the original ones, where it is among the newest there. In how many it is left.
+    pub(crate) fn unlist(&self, lists: &mut Vec<Named>, original: u32, id: u64) -> usize
         requires { 0 < length lists.old.items }
         ensures { LosesId id lists.old.items lists.new.items }
     {
         match &*self.form {
-            Form::Two(lits) => index::leave_lits(lists, lits, id),
-            Form::Three(lits) => index::leave_lits(lists, lits, id),
-            Form::Four(lits) => index::leave_lits(lists, lits, id),
-            Form::Other(alone) => index::leave(lists, alone.terms(), id),
+            Form::Two(lits) => leave_lits(lists, original, lits, id),
+            Form::Three(lits) => leave_lits(lists, original, lits, id),
+            Form::Four(lits) => leave_lits(lists, original, lits, id),
+            Form::Sum(sum) => index::leave(
+                lists,
+                original,
+                sum.terms(),
+                id,
+                |term| term.var().index(),
+            ),
+            Form::Other(alone) => index::leave(
+                lists,
+                original,
+                alone.terms(),
+                id,
+                |term| term.lit.index(),
+            ),
         }
     }
 }

@@ -1,5 +1,5 @@
 //! Redundance by a substitution.
-ghost use Rattle.std.specs.Prelude.{◌≡◌, ◌++◌, List, Option, None, IfOk, IfSome, OnOk, IfErr, nat_lt, nat_le, find};
+ghost use Rattle.std.specs.Prelude.{◌≡◌, ◌<◌, ◌++◌, List, Option, None, All, IfOk, IfSome, OnOk, IfErr, nat_lt, nat_le, find};
 ghost use Rattle.std.specs.Bool.{MatchBool};
 ghost use Rattle.pb_base.specs.declared.literal.Lit.{Lit};
 ghost use Rattle.pb_norm.specs.Halves.{written};
@@ -20,7 +20,7 @@ use crate::fault::RuleFault;
 use crate::rows::{self, is_slim, var_above};
 use pb_base::{NoMemory, Term, Var};
 use pb_norm::Linear;
-use pb_operations::{degree_left, implies, names_set, negation, restriction};
+use pb_operations::{degree_left, implies, names_set, negation, restricted, restriction};
 use pb_steps::{Denied, Set};
 
 // The first set variable that is above a number.
@@ -113,8 +113,7 @@ fn goal_of(db: &Database, sets: &[Set], id: u64) -> Result<Option<Linear>, NoMem
     if !names_set(sets, &constraint) {
         return Ok(None);
     }
-    let goal = restriction(db.alloc(), sets, &constraint)?;
-    Ok(Some(goal))
+    Ok(Some(restricted(sets, constraint)))
 }
 
 // Whether the constraint with an id, if it has a set variable, is met.
@@ -143,6 +142,7 @@ fn push_ids(ids: &[u32], list: &mut Vec<u64>) -> Result<(), NoMemory>
 
 // Ids, among them those of all constraints that have a set variable.
 fn ids_to_show(db: &Database, sets: &[Set]) -> Result<Vec<u64>, NoMemory>
+    requires { All (λ s. db.now.original < s.var) sets.now }
     ensures { IfOk result (λ ids. HasNamed db.now.live sets.now ids.items) }
 {
     let mut ids = Vec::new(db.alloc());
@@ -154,6 +154,7 @@ fn ids_to_show(db: &Database, sets: &[Set]) -> Result<Vec<u64>, NoMemory>
 
 // The same in order, each once.
 fn named_ids(db: &Database, sets: &[Set]) -> Result<Vec<u64>, NoMemory>
+    requires { All (λ s. db.now.original < s.var) sets.now }
     ensures named { IfOk result (λ ids. HasNamed db.now.live sets.now ids.items) }
     ensures rising { IfOk result (λ ids. IsStrictlyIncreasing ids.items) }
 {
@@ -165,6 +166,7 @@ fn named_ids(db: &Database, sets: &[Set]) -> Result<Vec<u64>, NoMemory>
 
 // The id of the first obligation that is not met.
 fn first_unmet(db: &mut Database, claim: &Linear, sets: &[Set]) -> Result<Option<u64>, NoMemory>
+    requires fresh { All (λ s. db.old.original < s.var) sets.now }
     requires claim { IsNarrow claim.now }
     requires claim_within { HasVarsWithin db.old.vars claim.now.terms }
     ensures same { db.new ≡ db.old }

@@ -1,5 +1,6 @@
 pub mod Answering
 pub mod ByNames
+pub mod Easy
 pub mod Entering
 pub mod Fillings
 pub mod Lawful

@@ -212,12 +212,12 @@ module _ (ns : List ℕ) (up : AllPairs Below ns) (v : ℕ) (known : Contains ns
   said : MatchResult r (λ i. (i < length ns) × (get_or ns i 0 ≡ v)) (λ i. (i ≤ length ns) × ((k : ℕ) → k < i → get_or ns k 0 < v) × ((k : ℕ) → i ≤ k → k < length ns → v < get_or ns k 0))
   said = searched ns v r searches no_fall
 
-  pub search_finds : (i : ℕ) → r ≡ Ok i → (i < length ns) × (number_in ns v ≡ i + 1)
+  search_finds : (i : ℕ) → r ≡ Ok i → (i < length ns) × (number_in ns v ≡ i + 1)
   search_finds i is =
       let at = subst (λ (q : Result ℕ ℕ). MatchResult q (λ i. (i < length ns) × (get_or ns i 0 ≡ v)) (λ i. (i ≤ length ns) × ((k : ℕ) → k < i → get_or ns k 0 < v) × ((k : ℕ) → i ≤ k → k < length ns → v < get_or ns k 0))) is said in
       (at.0, number-found ns up i v at.0 at.1)
 
-  pub search_hits : (i : ℕ) → r ≡ Err i → ⊥
+  search_hits : (i : ℕ) → r ≡ Err i → ⊥
   search_hits i is =
       let none = subst (λ (q : Result ℕ ℕ). MatchResult q (λ i. (i < length ns) × (get_or ns i 0 ≡ v)) (λ i. (i ≤ length ns) × ((k : ℕ) → k < i → get_or ns k 0 < v) × ((k : ℕ) → i ≤ k → k < length ns → v < get_or ns k 0))) is said in
       let at = contains_at ns v known in
@@ -228,3 +228,19 @@ module _ (ns : List ℕ) (up : AllPairs Below ns) (v : ℕ) (known : Contains ns
     where
       side : (k i : ℕ) → (k < i) ⊎ (i ≤ k)
       side k i = grind arith
+
+-- among names that have the variable
+module _ (ns items : List ℕ) (v w : ℕ) (same : items ≡ ns) (are : AreNames ns) (known : Contains ns v) (of : w ≡ v) (r : Result ℕ ℕ) (searches : IsBinarySearchResult (λ y. nat_cmp y w) items r) where
+  are_items : AreNames items
+  are_items = subst AreNames (sym same) are
+
+  has : Contains items w
+  has = subst (λ (ms : List ℕ). Contains ms w) (sym same) (subst (Contains ns) (sym of) known)
+
+  pub names_found : (i : ℕ) → r ≡ Ok i → (i + 1 < 2 ^ 31) × (i + 1 ≡ number_in ns v)
+  names_found i is =
+      let at = search_finds items are_items.rising w has r searches i is in
+      (omega (arith, at.0, names_few items are_items), sym at.1 ∙ ap (λ (ms : List ℕ). number_in ms w) same ∙ ap (number_in ns) of)
+
+  pub names_hit : (i : ℕ) → r ≡ Err i → ⊥
+  names_hit i is = search_hits items are_items.rising w has r searches i is

@@ -1,5 +1,6 @@
 -- Given literals, and passes over constraints.
 use Rattle.std.proofs.Common.{◌≡◌, ◌≤◌, ◌<◌, ◌+◌, ◌-◌, ◌^◌, ◌⊎◌, inl, inr, ℕ, Bool, true, false, cond, List, [], ◌∷◌, ◌++◌, ◌∙◌, Option, Some, None, arith, length, length-append, map, take, get_or, ap, sym, subst}
+use Rattle.std.specs.Bool.{OnTrue}
 use Rattle.std.specs.Prelude.{All, Contains, IfSome}
 use Rattle.std.proofs.lemmas.Bool.{cases_lt}
 use Rattle.std.proofs.lemmas.List.{nil_from_length, take_more}
@@ -70,13 +71,18 @@ last_or_before : (q p : ℕ) → q < p + 1 → (q < p) ⊎ (q ≡ p)
 last_or_before q p below = grind arith
 
 -- one more place was looked at, with the room that what stands there had
-pub pass_more : (ps : List (Option Constraint)) (p left : ℕ) (start before after : List Lit) → IsPart start before → IsPart before after → ((c : Constraint) → Stands ps p c → left ≡ room before c.terms) → ((c : Constraint) → Stands ps p c → IsCalm left after c) → ((q : ℕ) (c : Constraint) → q < p → Stands ps q c → IsCalm (room start c.terms) before c) → (q : ℕ) (c : Constraint) → q < p + 1 → Stands ps q c → IsCalm (room start c.terms) after c
-pass_more ps p left start before after part more is here so_far q c below at = elim (last_or_before q p below) [
+pub pass_more : (ps : List (Option Constraint)) (p : ℕ) (start before after : List Lit) → IsPart start before → IsPart before after → ((c : Constraint) → Stands ps p c → IsCalm (room before c.terms) after c) → ((q : ℕ) (c : Constraint) → q < p → Stands ps q c → IsCalm (room start c.terms) before c) → (q : ℕ) (c : Constraint) → q < p + 1 → Stands ps q c → IsCalm (room start c.terms) after c
+pass_more ps p start before after part more here so_far q c below at = elim (last_or_before q p below) [
   | inl old ↦ calm_more (room start c.terms) c before after more (so_far q c old at)
   | inr last ↦
       let there : Stands ps p c = subst (λ (k : ℕ). Stands ps k c) last at in
-      calm_wider left (room start c.terms) c after (omega (arith, is c there, room-le start before part c.terms)) (here c there)
+      calm_wider (room before c.terms) (room start c.terms) c after (room-le start before part c.terms) (here c there)
 ]
+
+-- what was looked at with its room
+pub looked_calm : (b : Bool) (ps : List (Option Constraint)) (p left : ℕ) (before after : List Lit) → ((c : Constraint) → Stands ps p c → left ≡ room before c.terms) → OnTrue b ((c : Constraint) → Stands ps p c → IsCalm left after c) → OnTrue b ((c : Constraint) → Stands ps p c → IsCalm (room before c.terms) after c)
+looked_calm true ps p left before after is h = λ c at. subst (λ (r : ℕ). IsCalm r after c) (is c at) (h c at)
+looked_calm false ps p left before after is h = tt
 
 -- ---- passes
 

@@ -27,7 +27,7 @@ pub use engine::{Engine, Outcome};
 pub use laws::{a_conflict_stays, a_refused_literal_conflicts, answers_over_clauses};
 pub use newest::newest_that;
 pub use numbering::{
-    greatest, greatest_of, lit_at, named_lits, names_of, numbered_forms, numbered_lits, vars_of,
+    Names, greatest, greatest_of, lit_at, named_lits, numbered_forms, numbered_lits,
 };
 pub use reaching::{modest_greatest, reached_literals};
 pub use rounds::Rounds;

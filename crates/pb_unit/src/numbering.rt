@@ -1,13 +1,15 @@
 //! Variables by their places among those that occur, so that tables over them are no longer than the text.
-ghost use Rattle.std.specs.Prelude.{◌≡◌, ◌≤◌, ◌<◌, ◌^◌, ◌++◌, ℕ, length, map, All, Contains, IfOk, OnOk};
+ghost use Rattle.std.specs.Prelude.{◌≡◌, ◌≤◌, ◌<◌, ◌+◌, ◌^◌, ◌++◌, ℕ, length, map, All, Contains, IfOk, OnOk};
 ghost use Rattle.pb_norm.specs.Constraints.{constraint_of, weights, AreUnsigned, IsLinear};
 ghost use Rattle.pb_unit.specs.Reaching.{IsUpTo, OfConstraint, OfLit, OfTerm};
-ghost use Rattle.pb_unit.specs.Renaming.{all_vars, form_vars, lit_vars, name_at, number_in, renamed, renamed_lit, term_vars, AreNames, IsName};
+ghost use Rattle.pb_unit.specs.Reads.{lit_count};
+ghost use Rattle.pb_unit.specs.Renaming.{all_vars, form_vars, lit_vars, name_at, number_in, renamed, renamed_lit, term_vars, AreNamed, AreNames, IsName};
 
 use crate::constraints::Constraints;
 use pb_base::{Lit, NoMemory, Term, Var};
 use pb_norm::Linear;
 use std::alloc::{AllocError, Global};
+use std::marker::Model;
 
 // Adds the variables of terms.
 fn push_term_vars(terms: &[Term], out: &mut Vec<u32>) -> Result<(), AllocError>
@@ -47,8 +49,8 @@ fn push_lit_vars(lits: &[Lit], out: &mut Vec<u32>) -> Result<(), AllocError>
     Ok(())
 }
 
-/// The variable of each literal of constraints, and of other literals.
-pub fn vars_of(alloc: Global, forms: &Constraints, lits: &[Lit]) -> Result<Vec<u32>, NoMemory>
+// The variable of each literal of constraints, and of other literals.
+fn vars_of(alloc: Global, forms: &Constraints, lits: &[Lit]) -> Result<Vec<u32>, NoMemory>
     ensures vars { IfOk result (λ v. v.items ≡ all_vars forms.now lits.now) }
     ensures names { IfOk result (λ v. All IsName v.items) }
 {
@@ -100,19 +102,6 @@ pub fn greatest(lits: &[Lit]) -> u32
     most
 }
 
-/// The variables, each once, ascending.
-pub fn names_of(vars: Vec<u32>) -> Vec<u32>
-    requires { All IsName vars.items }
-    ensures names { AreNames result.items }
-    ensures few { length result.items ≤ length vars.items }
-    ensures same { (v : ℕ) → Contains vars.items v → Contains result.items v }
-{
-    let mut names = vars;
-    names.sort_unstable();
-    names.dedup();
-    names
-}
-
 /// The literal of a variable.
 pub fn lit_at(index: u32, positive: bool) -> Lit
     requires low { 1 ≤ index }
@@ -125,66 +114,106 @@ pub fn lit_at(index: u32, positive: bool) -> Lit
     }
 }
 
-// The literal over the place of its variable among the names, from 1 on.
-fn renumbered_literal(names: &[u32], lit: Lit) -> Lit
-    requires names { AreNames names.now }
-    requires known { Contains names.now lit.var }
-    ensures { result ≡ renamed_lit (number_in names.now) lit }
-{
-    let Ok(place) = names.binary_search(&lit.index()) else {
-        unreachable!();
-    };
-    lit_at(place as u32 + 1, lit.positive)
+/// Variables, each once, ascending.
+#[derive(Drop)]
+pub struct Names {
+    vars: Vec<u32>,
+}
+
+impl Model for Names {
+    ghost use Rattle.std.specs.Prelude.{List, ℕ};
+    ghost use Rattle.pb_unit.specs.Renaming.{AreNames};
+
+    ghost Value = { List ℕ };
+
+    ghost view = { λ n. n.vars.items };
+
+    ghost invariant = { λ n. AreNames n.vars.items };
+}
+
+impl Names {
+    /// The variables of constraints and of literals.
+    pub fn of(alloc: Global, forms: &Constraints, lits: &[Lit]) -> Result<Names, NoMemory>
+        ensures named { IfOk result (λ names. AreNamed names forms.now lits.now) }
+        ensures few { IfOk result (λ names. length names ≤ lit_count forms.now + length lits.now) }
+    {
+        let mut vars = vars_of(alloc, forms, lits)?;
+        vars.sort_unstable();
+        vars.dedup();
+        Ok(Names { vars })
+    }
+
+    /// How many there are: fewer than 2^31.
+    pub fn len(&self) -> usize
+        ensures value { result ≡ length self.now }
+        ensures names { AreNames self.now }
+    {
+        self.vars.len()
+    }
+
+    // The literal over the place of its variable, from 1 on.
+    fn numbered_literal(&self, lit: Lit) -> Lit
+        requires { Contains self.now lit.var }
+        ensures { result ≡ renamed_lit (number_in self.now) lit }
+    {
+        let Ok(place) = self.vars.binary_search(&lit.index()) else {
+            unreachable!();
+        };
+        lit_at(place as u32 + 1, lit.positive)
+    }
+
+    // The literal of the variable at a place.
+    fn original_literal(&self, lit: Lit) -> Lit
+        requires { IsUpTo (length self.now) lit.var }
+        ensures { result ≡ renamed_lit (name_at self.now) lit }
+    {
+        lit_at(self.vars[lit.index() as usize - 1], lit.positive)
+    }
 }
 
 // Terms over the places of their variables.
-fn numbered_terms(alloc: Global, names: &[u32], terms: &[Term]) -> Result<Vec<Term>, AllocError>
-    requires names { AreNames names.now }
-    requires known { All (λ t. Contains names.now t.lit.var) terms.now }
+fn numbered_terms(alloc: Global, names: &Names, terms: &[Term]) -> Result<Vec<Term>, AllocError>
+    requires { All (λ t. Contains names.now t.lit.var) terms.now }
     ensures { IfOk result (λ v. v.items ≡ map (λ t. record { coef = t.coef; lit = renamed_lit (number_in names.now) t.lit }) terms.now) }
 {
     let mut made = Vec::new(alloc);
     for term in terms {
         made.push(Term {
             coef: term.coef,
-            lit: renumbered_literal(names, term.lit),
+            lit: names.numbered_literal(term.lit),
         })?;
     }
     Ok(made)
 }
 
-// A constraint over the places of its variables.
-fn numbered_form(
-    alloc: Global,
-    names: &[u32],
-    terms: &[Term],
-    degree: u128,
-) -> Result<Linear, NoMemory>
-    requires names { AreNames names.now }
-    requires unsigned { AreUnsigned terms.now }
-    requires linear { IsLinear (constraint_of terms.now degree) }
-    requires known { OfConstraint (Contains names.now) (constraint_of terms.now degree) }
-    ensures { IfOk result (λ c. c ≡ renamed (number_in names.now) (constraint_of terms.now degree)) }
-{
-    let terms = numbered_terms(alloc, names, terms)?;
-    Ok(Linear::from_parts(terms, degree))
+impl Names {
+    // A constraint over the places of its variables.
+    fn numbered_form(&self, alloc: Global, terms: &[Term], degree: u128) -> Result<Linear, NoMemory>
+        requires unsigned { AreUnsigned terms.now }
+        requires linear { IsLinear (constraint_of terms.now degree) }
+        requires known { OfConstraint (Contains self.now) (constraint_of terms.now degree) }
+        ensures { IfOk result (λ c. c ≡ renamed (number_in self.now) (constraint_of terms.now degree)) }
+    {
+        let _ = self.len();
+        let terms = numbered_terms(alloc, self, terms)?;
+        Ok(Linear::from_parts(terms, degree))
+    }
 }
 
 // Adds constraints over the places of their variables.
 fn push_numbered(
     alloc: Global,
-    names: &[u32],
+    names: &Names,
     forms: &Constraints,
     made: &mut Constraints,
 ) -> Result<(), NoMemory>
-    requires names { AreNames names.now }
-    requires known { All (OfConstraint (Contains names.now)) forms.now }
+    requires { All (OfConstraint (Contains names.now)) forms.now }
     ensures { OnOk result (made.new ≡ made.old ++ map (renamed (number_in names.now)) forms.now) }
 {
     let mut terms = Vec::new(alloc);
     for place in 0..forms.len() {
         let degree = forms.read(place, &mut terms)?;
-        let form = numbered_form(alloc, names, &terms, degree)?;
+        let form = names.numbered_form(alloc, &terms, degree)?;
         made.push(&form)?;
     }
     Ok(())
@@ -193,11 +222,10 @@ fn push_numbered(
 /// Constraints over the places of their variables.
 pub fn numbered_forms(
     alloc: Global,
-    names: &[u32],
+    names: &Names,
     forms: &Constraints,
 ) -> Result<Constraints, NoMemory>
-    requires names { AreNames names.now }
-    requires known { All (OfConstraint (Contains names.now)) forms.now }
+    requires { All (OfConstraint (Contains names.now)) forms.now }
     ensures { IfOk result (λ made. made ≡ map (renamed (number_in names.now)) forms.now) }
 {
     let mut made = Constraints::new(alloc);
@@ -206,36 +234,25 @@ pub fn numbered_forms(
 }
 
 /// Literals over the places of their variables.
-pub fn numbered_lits(alloc: Global, names: &[u32], lits: &[Lit]) -> Result<Vec<Lit>, AllocError>
-    requires names { AreNames names.now }
-    requires known { All (OfLit (Contains names.now)) lits.now }
+pub fn numbered_lits(alloc: Global, names: &Names, lits: &[Lit]) -> Result<Vec<Lit>, AllocError>
+    requires { All (OfLit (Contains names.now)) lits.now }
     ensures { IfOk result (λ v. v.items ≡ map (renamed_lit (number_in names.now)) lits.now) }
 {
     let mut made = Vec::new(alloc);
     for lit in lits {
-        made.push(renumbered_literal(names, *lit))?;
+        made.push(names.numbered_literal(*lit))?;
     }
     Ok(made)
 }
 
-// The literal of the variable at a place.
-fn original_literal(names: &[u32], lit: Lit) -> Lit
-    requires names { AreNames names.now }
-    requires place { IsUpTo (length names.now) lit.var }
-    ensures { result ≡ renamed_lit (name_at names.now) lit }
-{
-    lit_at(names[lit.index() as usize - 1], lit.positive)
-}
-
 /// The literals of the variables at their places.
-pub fn named_lits(alloc: Global, names: &[u32], lits: &[Lit]) -> Result<Vec<Lit>, AllocError>
-    requires names { AreNames names.now }
-    requires places { All (OfLit (IsUpTo (length names.now))) lits.now }
+pub fn named_lits(alloc: Global, names: &Names, lits: &[Lit]) -> Result<Vec<Lit>, AllocError>
+    requires { All (OfLit (IsUpTo (length names.now))) lits.now }
     ensures { IfOk result (λ v. v.items ≡ map (renamed_lit (name_at names.now)) lits.now) }
 {
     let mut made = Vec::new(alloc);
     for lit in lits {
-        made.push(original_literal(names, *lit))?;
+        made.push(names.original_literal(*lit))?;
     }
     Ok(made)
 }

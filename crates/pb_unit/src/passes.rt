@@ -1,5 +1,6 @@
 //! Passes over all constraints, for which no index is needed.
 ghost use Rattle.std.specs.Prelude.{◌≡◌, ◌≤◌, ◌+◌, ◌^◌, [], ℕ, List, Option, All, length, IsNone, IfSome};
+ghost use Rattle.std.specs.Bool.{OnTrue, OnFalse};
 ghost use Rattle.pb_base.specs.declared.literal.Lit.{Lit};
 ghost use Rattle.pb_norm.specs.Constraints.{Constraint, weight};
 ghost use Rattle.pb_norm.specs.Forced.{IsConsistent};
@@ -30,6 +31,23 @@ pub(crate) fn hold_all(lits: &[Lit], held: &mut Trail)
     }
 }
 
+// Has all hold that what stands at a place needs, or says that its room is too little.
+fn settle_at(places: &Places, place: usize, held: &mut Trail) -> bool
+    requires within { StandWithin held.old.vars places.now }
+    requires narrow { (c : Constraint) → Stands places.now place c → weight c.terms ≤ 2 ^ 126 }
+    ensures vars { held.new.vars ≡ held.old.vars }
+    ensures advances { (given : List Lit) → Advances (standing places.now) given held.old.lits held.new.lits }
+    ensures calm { OnTrue result ((c : Constraint) → Stands places.now place c → IsCalm (room held.old.lits c.terms) held.new.lits c) }
+    ensures short { OnFalse result (HasTooLittle places.now held.new.lits place) }
+{
+    // In most clauses two literals are soon found that can be true.
+    if places.is_easy(place, held) {
+        return true;
+    }
+    let left = places.room(place, held);
+    places.look(place, left, held)
+}
+
 // Has all hold that what stands needs, place by place. The place is that of one with too little room.
 fn pass(places: &Places, held: &mut Trail) -> Option<usize>
     requires within { StandWithin held.old.vars places.now }
@@ -40,8 +58,7 @@ fn pass(places: &Places, held: &mut Trail) -> Option<usize>
     ensures short { IfSome result (HasTooLittle places.now held.new.lits) }
 {
     for place in 0..places.len() {
-        let left = places.room(place, held);
-        if !places.look(place, left, held) {
+        if !settle_at(places, place, held) {
             return Some(place);
         }
     }

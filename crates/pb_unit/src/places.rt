@@ -15,7 +15,7 @@ ghost use Rattle.pb_unit.specs.Reads.{lit_count, ReadsAt};
 use crate::filling::{Codes, count_lits, count_terms, fill_range};
 use crate::index::Index;
 use crate::kept::{Counters, NOTHING, kept_of};
-use crate::slack::{open_units, room_under, slack_of, slack_of_clause};
+use crate::slack::{are_two_open, open_units, room_under, slack_of, slack_of_clause};
 use crate::trail::Trail;
 use crate::visit::{visit, visit_clause};
 use pb_base::{Lit, NoMemory, Term};
@@ -197,6 +197,17 @@ fn look_at(slots: &[Slot], lits: &[Lit], place: usize, left: u128, held: &mut Tr
         Some(Slot::Clause { start, len }) => visit_clause(part(lits, *start, *len), left, held),
         Some(Slot::General(alone)) => visit(alone, left, held),
         _ => true,
+    }
+}
+
+// Whether a clause is at the place that needs nothing, since two of its literals can still be true.
+fn is_easy_in(slots: &[Slot], lits: &[Lit], place: usize, held: &Trail) -> bool
+    requires { AreSlots (length lits.now) slots.now }
+    ensures { IsTrue result → (c : Constraint) → Stands (map (slot_at lits.now) slots.now) place c → IsCalm (room held.now.lits c.terms) held.now.lits c }
+{
+    match slots.get(place) {
+        Some(Slot::Clause { start, len }) => are_two_open(part(lits, *start, *len), held),
+        _ => false,
     }
 }
 
@@ -412,6 +423,13 @@ impl Places {
         ensures { self.new ≡ slice_set self.old place None }
     {
         mem::replace(&mut self.slots[place], Slot::Empty)
+    }
+
+    // Whether a clause is at the place that needs nothing, since two of its literals can still be true.
+    pub(crate) fn is_easy(&self, place: usize, held: &Trail) -> bool
+        ensures { IsTrue result → (c : Constraint) → Stands self.now place c → IsCalm (room held.now.lits c.terms) held.now.lits c }
+    {
+        is_easy_in(&self.slots, &self.lits, place, held)
     }
 
     // What the terms at the place can still add.

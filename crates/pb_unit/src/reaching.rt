@@ -5,13 +5,11 @@ ghost use Rattle.pb_norm.specs.ClausePropagation.{ClauseConflict};
 ghost use Rattle.pb_norm.specs.Propagation.{Conflict};
 ghost use Rattle.pb_unit.specs.Reached.{AreReached};
 ghost use Rattle.pb_unit.specs.Reaching.{held_to, value_at, AreAscending, AreAssumed, AreReachedOver, AreSorted, FitsTables, HaveOpposites, OfClauses};
-ghost use Rattle.pb_unit.specs.Reads.{lit_count};
-ghost use Rattle.pb_unit.specs.Renaming.{AreNamed, AreNames};
 
 use crate::constraints::Constraints;
 use crate::engine::{Engine, Outcome};
 use crate::numbering::{
-    greatest, greatest_of, lit_at, named_lits, names_of, numbered_forms, numbered_lits, vars_of,
+    Names, greatest, greatest_of, lit_at, named_lits, numbered_forms, numbered_lits,
 };
 use crate::rounds::Rounds;
 use pb_base::{Lit, Lits, NoMemory};
@@ -139,27 +137,6 @@ fn reached_within(
     }
 }
 
-// The same over the places of the variables among these, which have all that occur.
-fn reached_by_names(
-    alloc: Global,
-    names: &[u32],
-    forms: &Constraints,
-    given: &[Lit],
-) -> Result<Option<Vec<Lit>>, NoMemory>
-    requires names { AreNames names.now }
-    requires few { length names.now ≤ lit_count forms.now + length given.now }
-    requires named { AreNamed names.now forms.now given.now }
-    requires ascending { AreAscending given.now }
-    ensures { IfOk result (λ found. MatchOption found (Conflict forms.now given.now) (λ v. AreReachedOver forms.now given.now v.items)) }
-{
-    let lits = numbered_lits(alloc, names, given)?;
-    let numbered = numbered_forms(alloc, names, forms)?;
-    match reached_within(alloc, names.len() as u32, numbered, &lits)? {
-        None => Ok(None),
-        Some(found) => Ok(Some(named_lits(alloc, names, &found)?)),
-    }
-}
-
 // The same over the places of the variables among those that occur.
 fn reached_by_places(
     alloc: Global,
@@ -169,8 +146,13 @@ fn reached_by_places(
     requires ascending { AreAscending given.now }
     ensures { IfOk result (λ found. MatchOption found (Conflict forms.now given.now) (λ v. AreReachedOver forms.now given.now v.items)) }
 {
-    let names = names_of(vars_of(alloc, forms, given)?);
-    reached_by_names(alloc, &names, forms, given)
+    let names = Names::of(alloc, forms, given)?;
+    let lits = numbered_lits(alloc, &names, given)?;
+    let numbered = numbered_forms(alloc, &names, forms)?;
+    match reached_within(alloc, names.len() as u32, numbered, &lits)? {
+        None => Ok(None),
+        Some(found) => Ok(Some(named_lits(alloc, &names, &found)?)),
+    }
 }
 
 /// The greatest variable of constraints and of literals, or a number that is no less, where tables up to it have no more entries

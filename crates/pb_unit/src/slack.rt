@@ -82,6 +82,20 @@ pub(crate) fn open_units(lits: &[Lit], held: &Trail) -> u128
     lits.iter().map(|lit| open_unit(lit, held)).sum()
 }
 
+// Whether two literals of a clause can still be true: then it needs nothing.
+pub(crate) fn are_two_open(lits: &[Lit], held: &Trail) -> bool
+    ensures { IsTrue result → 2 ≤ room held.now.lits (map unit lits.now) }
+{
+    let mut open = 0;
+    for lit in lits {
+        open += open_unit(lit, held);
+        if open > 1 {
+            return true;
+        }
+    }
+    false
+}
+
 // The room that is kept, if all literals that hold were told, else anew.
 fn room_of_clause(lits: &[Lit], kept: u128, told: bool, held: &Trail) -> u128
     requires told { IsTrue told → kept ≡ room held.now.lits (map unit lits.now) }

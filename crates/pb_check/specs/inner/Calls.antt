@@ -12,7 +12,7 @@ use Rattle.pb_check.specs.declared.verdict.Verdict.{Verdict}
 use Rattle.pb_check.specs.declared.verdict.Verdict.TheVariants.{Accepted}
 use Rattle.pb_check.specs.declared.verdict.CheckFault.{CheckFault}
 use Rattle.pb_check.specs.declared.taking.Taken.{Taken}
-use Rattle.pb_check.specs.Turns.{Answer, Task, Stage, Clauses, at_out, at_end, step_turn, next_in}
+use Rattle.pb_check.specs.Turns.{Answer, Task, Stage, Clauses, at_out, at_end, next_in, turn_by}
 use Rattle.pb_check.specs.Turns.Stage.{head_wanted, count_wanted, at_steps, ended}
 use Rattle.pb_check.specs.Walk.{Walks}
 use Rattle.pb_check.specs.inner.Phases.{StopsOne, StopsBoth, NextSays, Leads, clauses_of, FollowsRows, TurnGives, LineGives, OnLine, StepsGive, TaskOver, TaskFrom, LinesAnswer}
@@ -79,11 +79,11 @@ StopsEnd fault cnf cnf' a b =
 abbrev pub TakesStep : Taken → Step → Reader → CnfReader → Database → CnfReader → Database → DeskState → DeskState → Type 0
 TakesStep got step proof cnf db cnf' db' a b =
     TakesAhead cnf.lines.slot cnf.lines.ahead cnf'.lines.ahead a b (λ text rest. (task : Task) → task.vars ≡ cnf.vars
-    → TurnGives got task proof.number (step_turn task db (clauses_of cnf text) proof.number proof.line step) db' (clauses_of cnf' rest))
+    → TurnGives got task proof.number (turn_by task (at_steps db) (clauses_of cnf text) proof.number proof.line step) db' (clauses_of cnf' rest))
 
 abbrev pub StopsStep : CheckFault → Step → Reader → CnfReader → Database → CnfReader → DeskState → DeskState → Type 0
 StopsStep fault step proof cnf db cnf' a b =
-    StopsOne (OnLine cnf) fault cnf.lines cnf'.lines a b (λ x text answer. FollowsRows x.task proof.number (step_turn x.task db (clauses_of cnf text) proof.number proof.line step) (rows_left x.proof x.text) answer)
+    StopsOne (OnLine cnf) fault cnf.lines cnf'.lines a b (λ x text answer. FollowsRows x.task proof.number (turn_by x.task (at_steps db) (clauses_of cnf text) proof.number proof.line step) (rows_left x.proof x.text) answer)
 
 -- ---- lines of steps, by both readers
 

@@ -16,10 +16,10 @@ ids_at lists n = slice_index_or lists n []
 abbrev pub ids_of : List (List ℕ) → ℕ → List ℕ
 ids_of lists v = ids_at lists (v % length lists)
 
--- each constraint that stands is listed for each of its variables
-pub record IsIndexed (ss : List Slot) (lists : List (List ℕ)) : Type 0 where
+-- each constraint that stands is listed for each of its variables beyond the original ones
+pub record IsIndexed (original : ℕ) (ss : List Slot) (lists : List (List ℕ)) : Type 0 where
   pub enough : 0 < length lists
-  pub complete : (id v : ℕ) → names_var v (slot_of ss id).constraint ≡ true → Contains (ids_of lists v) id
+  pub complete : (id v : ℕ) → original < v → names_var v (slot_of ss id).constraint ≡ true → Contains (ids_of lists v) id
 
 -- the lists have the same ids, and perhaps more
 pub record KeepsIds (before after : List (List ℕ)) : Type 0 where

@@ -50,11 +50,11 @@ AreSame before after = (original vars : ℕ) → database_of original vars after
 abbrev pub TellsConflict : List Constraint → Bool → Type 0
 TellsConflict cs found = MatchBool found (Conflict cs []) (¬ Conflict cs [])
 
--- what stands by ids is sound and listed by its variables; of the first slots, `entered` many, it stands in one engine; in the other engine nothing stands; both and rounds are over as many variables
-pub record IsKept (original vars most : ℕ) (ss : List Slot) (entered : ℕ) (engine idle : EngineState) (rounds : Held) (named : List (List ℕ)) : Type 0 where
+-- what stands by ids is sound and listed by its fresh variables; of the first slots, `entered` many, it stands in one engine; that engine, the one for listed constraints and rounds are over as many variables
+pub record IsKept (original vars most : ℕ) (ss : List Slot) (entered : ℕ) (engine : EngineState) (idle : ℕ) (rounds : Held) (named : List (List ℕ)) : Type 0 where
   pub sound : IsDatabase (database_of original vars ss)
   pub few : entered ≤ length ss
   pub mirrored : IsMirrored most (take entered ss) engine
-  pub is_idle : IsIdle most idle
+  pub is_idle : idle ≡ most
   pub beside : rounds.vars ≡ most
-  pub indexed : IsIndexed ss named
+  pub indexed : IsIndexed original ss named

@@ -1,15 +1,14 @@
 use Rattle.std.proofs.Common.{◌≡◌, Option, false, refl, sym, subst, inr}
 use Rattle.std.specs.Prelude.{IfSome}
-use Rattle.pb_desk.specs.LineReading.{TakesAhead}
 use Rattle.pb_dimacs.specs.Cursors.{rows_left}
 use Rattle.pb_steps.specs.declared.step.Step.{Step}
 use Rattle.pb_check.specs.Turns.Stage.{count_wanted}
 use Rattle.pb_check.specs.Walk.{Walks}
 use Rattle.pb_check.specs.inner.Calls.{TaskOf}
 use Rattle.pb_check.specs.Outcomes.{NamesText}
-use Rattle.pb_check.specs.inner.Phases.{says_nothing, NextSays}
+use Rattle.pb_check.specs.inner.Phases.{says_nothing}
 use Rattle.pb_check.proofs.Places.{count_stops, miscounted_stops, early_stops, count_leads}
-use Rattle.pb_check.proofs.NextLines.{Anywhere, LineComes, stops_weaker}
+use Rattle.pb_check.proofs.NextLines.{Anywhere, LineComes, stops_weaker, next_is}
 use Rattle.pb_check.proofs.stages.take_count.Goals as goal
 
 pub returns-in_default-clause-stopped : goal.returns-in_default-clause-stopped
@@ -18,8 +17,7 @@ returns-in_default-clause-stopped g c =
     let new = c.next_step.new.lines in
     let a = g.D.Desk.state c.args.desk.now in
     let b = g.D.Desk.state c.next_step.new.desk in
-    early_stops (TaskOf c.args.loaded) c.end_fault.result count_wanted (λ x. x.0) (λ x. x.1) old new a b c.end_fault.ensures refl
-    (subst (λ (o : Option Step). TakesAhead old.slot old.ahead new.ahead a b (λ text rest. NextSays o new (rows_left old text) (rows_left new rest))) c.in_default.is c.in-Ok.ensures.next)
+    early_stops (TaskOf c.args.loaded) c.end_fault.result count_wanted (λ x. x.0) (λ x. x.1) old new a b c.end_fault.ensures refl (next_is old new a b c.in_default.is c.in-Ok.ensures.next)
 
 pub returns-then-count-loaded-clause-leads : goal.returns-then-count-loaded-clause-leads
 returns-then-count-loaded-clause-leads g c =
@@ -27,8 +25,7 @@ returns-then-count-loaded-clause-leads g c =
     let new = c.next_step.new.lines in
     let a = g.D.Desk.state c.args.desk.now in
     let b = g.D.Desk.state c.next_step.new.desk in
-    count_leads c.in-Some.step c.in-Loaded.count c.args.loaded old new a b c.in-Loaded.is c.if-count-loaded.true
-    (subst (λ (o : Option Step). TakesAhead old.slot old.ahead new.ahead a b (λ text rest. NextSays o new (rows_left old text) (rows_left new rest))) c.in-Some.is c.in-Ok.ensures.next)
+    count_leads c.in-Some.step c.in-Loaded.count c.args.loaded old new a b c.in-Loaded.is c.if-count-loaded.true (next_is old new a b c.in-Some.is c.in-Ok.ensures.next)
 
 pub returns-in-Loaded-clause-stopped : goal.returns-in-Loaded-clause-stopped
 returns-in-Loaded-clause-stopped g c =
@@ -37,7 +34,7 @@ returns-in-Loaded-clause-stopped g c =
     let a = g.D.Desk.state c.args.desk.now in
     let b = g.D.Desk.state c.next_step.new.desk in
     miscounted_stops c.miscounted.result c.in-Some.step c.in-Loaded.count c.args.loaded old new a b c.miscounted.ensures c.in-Loaded.is c.if-count-loaded.false
-    (subst (λ (o : Option Step). TakesAhead old.slot old.ahead new.ahead a b (λ text rest. NextSays o new (rows_left old text) (rows_left new rest))) c.in-Some.is c.in-Ok.ensures.next)
+    (next_is old new a b c.in-Some.is c.in-Ok.ensures.next)
 
 pub returns : goal.returns
 returns g c =
@@ -50,8 +47,7 @@ returns g c =
       follows = tt;
       slot = c.in-Ok.ensures.slot;
       leads = tt;
-      stopped = count_stops c.misplaced.result c.in-Some.step c.args.loaded old new a b c.misplaced.ensures said c.in_default-step.not-Loaded
-          (subst (λ (o : Option Step). TakesAhead old.slot old.ahead new.ahead a b (λ text rest. NextSays o new (rows_left old text) (rows_left new rest))) c.in-Some.is c.in-Ok.ensures.next);
+      stopped = count_stops c.misplaced.result c.in-Some.step c.args.loaded old new a b c.misplaced.ensures said c.in_default-step.not-Loaded (next_is old new a b c.in-Some.is c.in-Ok.ensures.next);
       named = subst NamesText (sym c.misplaced.ensures) (inr refl);
       steady = λ s e. let is = c.misplaced.ensures in cc;
     }

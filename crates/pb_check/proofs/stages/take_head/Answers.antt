@@ -1,15 +1,14 @@
 use Rattle.std.proofs.Common.{◌≡◌, Option, false, refl, sym, subst, inr}
 use Rattle.std.specs.Prelude.{IfSome}
-use Rattle.pb_desk.specs.LineReading.{TakesAhead}
 use Rattle.pb_dimacs.specs.Cursors.{rows_left}
 use Rattle.pb_steps.specs.declared.step.Step.{Step}
 use Rattle.pb_check.specs.Outcomes.{NamesText}
 use Rattle.pb_check.specs.Turns.{Task, Clauses}
 use Rattle.pb_check.specs.Turns.Stage.{head_wanted}
 use Rattle.pb_check.specs.Walk.{Walks}
-use Rattle.pb_check.specs.inner.Phases.{says_nothing, NextSays}
+use Rattle.pb_check.specs.inner.Phases.{says_nothing}
 use Rattle.pb_check.proofs.Places.{head_stops, head_early, head_leads}
-use Rattle.pb_check.proofs.NextLines.{Anywhere, LineComes, stops_weaker}
+use Rattle.pb_check.proofs.NextLines.{Anywhere, LineComes, stops_weaker, next_is}
 use Rattle.pb_check.proofs.stages.take_head.Goals as goal
 
 pub returns-in_default-clause-stopped : goal.returns-in_default-clause-stopped
@@ -18,8 +17,7 @@ returns-in_default-clause-stopped g c =
     let new = c.next_step.new.lines in
     let a = g.D.Desk.state c.args.desk.now in
     let b = g.D.Desk.state c.next_step.new.desk in
-    head_early c.end_fault.result old new a b c.end_fault.ensures
-    (subst (λ (o : Option Step). TakesAhead old.slot old.ahead new.ahead a b (λ text rest. NextSays o new (rows_left old text) (rows_left new rest))) c.in_default.is c.in-Ok.ensures.next)
+    head_early c.end_fault.result old new a b c.end_fault.ensures (next_is old new a b c.in_default.is c.in-Ok.ensures.next)
 
 pub returns-in-Head-clause-leads : goal.returns-in-Head-clause-leads
 returns-in-Head-clause-leads g c =
@@ -27,8 +25,7 @@ returns-in-Head-clause-leads g c =
     let new = c.next_step.new.lines in
     let a = g.D.Desk.state c.args.desk.now in
     let b = g.D.Desk.state c.next_step.new.desk in
-    head_leads c.in-Some.step old new a b c.in-Head.is
-    (subst (λ (o : Option Step). TakesAhead old.slot old.ahead new.ahead a b (λ text rest. NextSays o new (rows_left old text) (rows_left new rest))) c.in-Some.is c.in-Ok.ensures.next)
+    head_leads c.in-Some.step old new a b c.in-Head.is (next_is old new a b c.in-Some.is c.in-Ok.ensures.next)
 
 pub returns : goal.returns
 returns g c =
@@ -41,8 +38,7 @@ returns g c =
       follows = tt;
       slot = c.in-Ok.ensures.slot;
       leads = tt;
-      stopped = head_stops c.misplaced.result c.in-Some.step old new a b c.misplaced.ensures said c.in_default-step.not-Head
-          (subst (λ (o : Option Step). TakesAhead old.slot old.ahead new.ahead a b (λ text rest. NextSays o new (rows_left old text) (rows_left new rest))) c.in-Some.is c.in-Ok.ensures.next);
+      stopped = head_stops c.misplaced.result c.in-Some.step old new a b c.misplaced.ensures said c.in_default-step.not-Head (next_is old new a b c.in-Some.is c.in-Ok.ensures.next);
       named = subst NamesText (sym c.misplaced.ensures) (inr refl);
       steady = λ s e. let is = c.misplaced.ensures in cc;
     }

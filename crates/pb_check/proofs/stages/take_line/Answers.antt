@@ -1,14 +1,14 @@
-use Rattle.std.proofs.Common.{◌≡◌, Option, subst}
+use Rattle.std.proofs.Common.{◌≡◌}
 use Rattle.pb_desk.specs.LineReading.{TakesAhead}
-use Rattle.pb_dimacs.specs.Cursors.{rows_left}
-use Rattle.pb_steps.specs.declared.step.Step.{Step}
-use Rattle.pb_check.specs.Turns.{Task, step_turn}
+use Rattle.pb_check.specs.Turns.Stage.{at_steps}
+use Rattle.pb_check.specs.Turns.{Task, turn_by}
 use Rattle.pb_desk.specs.TwoSlots.{ReadsBoth}
-use Rattle.pb_check.specs.inner.Phases.{StopsOne, StopsBoth, NextSays, clauses_of, TurnGives, LineGives, OnLine, TaskOver}
+use Rattle.pb_check.specs.inner.Phases.{StopsOne, StopsBoth, clauses_of, TurnGives, LineGives, OnLine, TaskOver}
 use Rattle.pb_check.specs.inner.Keeping.{KeepsLine, KeepsNext}
 use Rattle.pb_check.proofs.KeepingRuns.{line_keeps}
 use Rattle.pb_check.proofs.Takes.{at_err, at_ok}
 use Rattle.pb_check.proofs.StepRuns.{StepComes, StepsCome, took, line_gives, line_fault, line_missing, line_stop}
+use Rattle.pb_check.proofs.NextLines.{next_is}
 use Rattle.pb_check.proofs.stages.take_line.Goals as goal
 
 pub returns-in-Err-clause-stopped : goal.returns-in-Err-clause-stopped
@@ -22,7 +22,7 @@ returns-in_default-clause-stopped g c =
     let a = g.D.Desk.state c.args.desk.now in
     let b = g.D.Desk.state c.next_step.new.desk in
     line_missing c.end_fault.result c.args.session.now.cnf c.args.db.now old new a b c.end_fault.ensures c.in-Ok.ensures.slot c.args.session.now.apart
-    (subst (λ (o : Option Step). TakesAhead old.slot old.ahead new.ahead a b (λ text rest. NextSays o new (rows_left old text) (rows_left new rest))) c.in_default.is c.in-Ok.ensures.next)
+    (next_is old new a b c.in_default.is c.in-Ok.ensures.next)
 
 pub returns-clause-gives : goal.returns-clause-gives
 returns-clause-gives g c =
@@ -36,9 +36,9 @@ returns-clause-gives g c =
     let a = g.D.Desk.state c.args.desk.now in
     let b = g.D.Desk.state c.next_step.new.desk in
     let d = g.D.Desk.state c.take_step.new.desk in
-    let line = subst (λ (o : Option Step). TakesAhead old.slot old.ahead new.ahead a b (λ text rest. NextSays o new (rows_left old text) (rows_left new rest))) c.in-Some.is c.in-Ok.ensures.next in
+    let line = next_is old new a b c.in-Some.is c.in-Ok.ensures.next in
     at_ok c.take_step.result
-    (λ got. TakesAhead cnf.lines.slot cnf.lines.ahead cnf'.lines.ahead b d (λ text rest. (task : Task) → task.vars ≡ cnf.vars → TurnGives got task new.number (step_turn task db (clauses_of cnf text) new.number new.line s) db' (clauses_of cnf' rest)))
+    (λ got. TakesAhead cnf.lines.slot cnf.lines.ahead cnf'.lines.ahead b d (λ text rest. (task : Task) → task.vars ≡ cnf.vars → TurnGives got task new.number (turn_by task (at_steps db) (clauses_of cnf text) new.number new.line s) db' (clauses_of cnf' rest)))
     (λ got. ReadsBoth cnf.lines old cnf'.lines new a d (LineGives got cnf db old cnf' db' new))
     (λ got step. line_gives got s cnf cnf' db db' old new a d (took got s cnf cnf' db db' old new a b d c.args.session.now.apart c.in-Ok.ensures.slot c.take_step.ensures.slot line step))
     c.take_step.ensures.gives
@@ -54,7 +54,7 @@ returns-clause-stopped g c =
     let a = g.D.Desk.state c.args.desk.now in
     let b = g.D.Desk.state c.next_step.new.desk in
     let d = g.D.Desk.state c.take_step.new.desk in
-    let line = subst (λ (o : Option Step). TakesAhead old.slot old.ahead new.ahead a b (λ text rest. NextSays o new (rows_left old text) (rows_left new rest))) c.in-Some.is c.in-Ok.ensures.next in
+    let line = next_is old new a b c.in-Some.is c.in-Ok.ensures.next in
     at_err c.take_step.result
     (λ f. StopsOne (OnLine cnf) f cnf.lines cnf'.lines b d (StepComes cnf db new s))
     (λ f. StopsBoth (TaskOver cnf) f cnf.lines old cnf'.lines new a d (StepsCome cnf db old))

@@ -1,14 +1,13 @@
 use Rattle.std.proofs.Common.{◌≡◌, Option, false, subst}
 use Rattle.std.specs.Prelude.{IfSome}
-use Rattle.pb_desk.specs.LineReading.{TakesAhead}
 use Rattle.pb_dimacs.specs.Cursors.{rows_left}
 use Rattle.pb_steps.specs.declared.step.Step.{Step}
-use Rattle.pb_check.specs.inner.Phases.{says_nothing, NextSays}
+use Rattle.pb_check.specs.inner.Phases.{says_nothing}
 use Rattle.pb_check.proofs.Places.{rest_stops, rest_ends}
 use Rattle.pb_check.specs.Turns.{Task, Clauses}
 use Rattle.pb_check.specs.Turns.Stage.{ended}
 use Rattle.pb_check.specs.Walk.{Walks}
-use Rattle.pb_check.proofs.NextLines.{Anywhere, LineComes, stops_weaker}
+use Rattle.pb_check.proofs.NextLines.{Anywhere, LineComes, stops_weaker, next_is}
 use Rattle.pb_check.proofs.stages.take_rest.Goals as goal
 
 pub returns-in-Ok-None-clause-ends : goal.returns-in-Ok-None-clause-ends
@@ -17,8 +16,7 @@ returns-in-Ok-None-clause-ends g c =
     let new = c.next_step.new.lines in
     let a = g.D.Desk.state c.args.desk.now in
     let b = g.D.Desk.state c.next_step.new.desk in
-    rest_ends old new a b
-    (subst (λ (o : Option Step). TakesAhead old.slot old.ahead new.ahead a b (λ text rest. NextSays o new (rows_left old text) (rows_left new rest))) c.in-Ok-None.field-0-is c.in-Ok-None.ensures.next)
+    rest_ends old new a b (next_is old new a b c.in-Ok-None.field-0-is c.in-Ok-None.ensures.next)
 
 pub returns-in-Ok-Some-clause-stopped : goal.returns-in-Ok-Some-clause-stopped
 returns-in-Ok-Some-clause-stopped g c =
@@ -27,8 +25,7 @@ returns-in-Ok-Some-clause-stopped g c =
     let a = g.D.Desk.state c.args.desk.now in
     let b = g.D.Desk.state c.next_step.new.desk in
     let said = subst (λ (o : Option Step). IfSome o (λ s. says_nothing s ≡ false)) c.in-Ok-Some.field-0-is c.in-Ok-Some.ensures.said in
-    rest_stops c.misplaced.result c.in-Ok-Some.field-0-0 old new a b c.misplaced.ensures said
-    (subst (λ (o : Option Step). TakesAhead old.slot old.ahead new.ahead a b (λ text rest. NextSays o new (rows_left old text) (rows_left new rest))) c.in-Ok-Some.field-0-is c.in-Ok-Some.ensures.next)
+    rest_stops c.misplaced.result c.in-Ok-Some.field-0-0 old new a b c.misplaced.ensures said (next_is old new a b c.in-Ok-Some.field-0-is c.in-Ok-Some.ensures.next)
 
 pub returns-clause-stopped : goal.returns-clause-stopped
 returns-clause-stopped g c =

@@ -3,7 +3,8 @@ use Rattle.pb_base.specs.declared.expected.Expected.TheVariants.{StepWord}
 use Rattle.pb_desk.proofs.ReadLemmas.{reads_begin}
 use Rattle.pb_steps.specs.declared.step.Step.{Step}
 use Rattle.pb_check.specs.declared.taking.Taken.TheVariants.{On}
-use Rattle.pb_check.specs.Turns.{Task, step_turn, at_out, at_end}
+use Rattle.pb_check.specs.Turns.Stage.{at_steps}
+use Rattle.pb_check.specs.Turns.{Task, at_out, at_end, turn_by}
 use Rattle.pb_check.specs.Faults.{misplaced_line}
 use Rattle.pb_check.specs.inner.Phases.{StopsOne, clauses_of, OnLine, TurnGives}
 use Rattle.pb_check.proofs.StepRuns.{StepComes}
@@ -19,8 +20,8 @@ pub returns-in-Blank-clause-gives : goal.returns-in-Blank-clause-gives
 returns-in-Blank-clause-gives g c =
     let r = c.args.cnf.now in
     reads_begin r.lines.slot r.lines.ahead (g.D.Desk.state c.args.desk.now)
-    (λ text rest. (task : Task) → task.vars ≡ r.vars → TurnGives On task c.args.lines.now.number (step_turn task c.args.db.now (clauses_of r text) c.args.lines.now.number c.args.lines.now.line c.args.step.now) c.args.db.now (clauses_of r rest))
-    (λ text task vars. subst (λ (s : Step). TurnGives On task c.args.lines.now.number (step_turn task c.args.db.now (clauses_of r text) c.args.lines.now.number c.args.lines.now.line s) c.args.db.now (clauses_of r text)) (sym c.in-Blank.is) (λ rows a w. w))
+    (λ text rest. (task : Task) → task.vars ≡ r.vars → TurnGives On task c.args.lines.now.number (turn_by task (at_steps c.args.db.now) (clauses_of r text) c.args.lines.now.number c.args.lines.now.line c.args.step.now) c.args.db.now (clauses_of r rest))
+    (λ text task vars. subst (λ (s : Step). TurnGives On task c.args.lines.now.number (turn_by task (at_steps c.args.db.now) (clauses_of r text) c.args.lines.now.number c.args.lines.now.line s) c.args.db.now (clauses_of r text)) (sym c.in-Blank.is) (λ rows a w. w))
 
 pub returns-in-Head-clause-stopped : goal.returns-in-Head-clause-stopped
 returns-in-Head-clause-stopped g c =
@@ -85,7 +86,7 @@ returns-in-Ok-clause-gives g c =
     let n = c.args.lines.now.number in
     let line = c.args.lines.now.line in
     reads_begin r.lines.slot r.lines.ahead (g.D.Desk.state c.args.desk.now)
-    (λ text rest. (task : Task) → task.vars ≡ r.vars → TurnGives c.in-Ok.taken task n (step_turn task c.args.db.now (clauses_of r text) n line c.args.step.now) c.judge.new.db (clauses_of r rest))
+    (λ text rest. (task : Task) → task.vars ≡ r.vars → TurnGives c.in-Ok.taken task n (turn_by task (at_steps c.args.db.now) (clauses_of r text) n line c.args.step.now) c.judge.new.db (clauses_of r rest))
     (λ text task vars. rule_given c.args.step.now c.in-Ok.taken task n line c.args.db.now c.judge.new.db r text c.in_default.not-Blank c.in_default.not-Head c.in_default.not-Loaded c.in_default.not-Out c.in_default.not-End c.in-Ok.ensures)
 
 pub returns-in-Blank-clause-keeps : goal.returns-in-Blank-clause-keeps

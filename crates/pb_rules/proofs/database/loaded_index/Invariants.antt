@@ -4,4 +4,4 @@ use Rattle.pb_rules.specs.inner.Indexed.{IsIndexed}
 use Rattle.pb_rules.proofs.database.loaded_index.Given as goal
 
 abbrev pub invariant-loop-place : goal.invariant-loop-place
-invariant-loop-place l = IsIndexed (placed_from 0 (take l.place l.loaded)) l.lists.items
+invariant-loop-place l = IsIndexed l.original (placed_from 0 (take l.place l.loaded)) l.lists.items

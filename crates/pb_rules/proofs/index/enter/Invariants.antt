@@ -7,5 +7,5 @@ use Rattle.pb_rules.proofs.index.enter.Given as goal
 abbrev pub invariant-loop-term : goal.invariant-loop-term
 invariant-loop-term l = record {
   kept : KeepsIds l.initial.lists.items l.lists.items;
-  added : (k : ℕ) (d : Term) → k < l.term-index → Contains (ids_of l.lists.items (slice_index_or l.terms k d).lit.var) l.id;
+  added : (k : ℕ) (d : Term) → k < l.term-index → l.original < (slice_index_or l.terms k d).lit.var → Contains (ids_of l.lists.items (slice_index_or l.terms k d).lit.var) l.id;
 }

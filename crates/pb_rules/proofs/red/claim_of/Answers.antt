@@ -4,7 +4,7 @@ use Rattle.pb_norm.specs.Constraints.{Constraint}
 use Rattle.pb_norm.specs.Halves.{written}
 use Rattle.pb_steps.specs.Allowed.{IsMet, obligations}
 use Rattle.pb_steps.specs.Denials.{FirstUnmet}
-use Rattle.pb_rules.proofs.Obliged.{red-seen_denial, red-slim, red-vars, red-allowed}
+use Rattle.pb_rules.proofs.Obliged.{red-seen_denial, red-fresh, red-slim, red-vars, red-allowed}
 use Rattle.pb_rules.proofs.red.claim_of.Goals as goal
 
 pub returns-in-Some-clause-fault : goal.returns-in-Some-clause-fault
@@ -16,6 +16,9 @@ claim_of-requires c = red-slim c.args.db.now c.args.terms.now c.args.right.now c
 pub first_unmet-requires-clause-claim_within : goal.first_unmet-requires-clause-claim_within
 first_unmet-requires-clause-claim_within c =
     c.in_ok-claim.ensures.within c.args.db.now.vars (red-vars c.args.db.now c.args.terms.now c.args.right.now c.args.sets.now (red-seen_denial c.args.db.now c.args.terms.now c.args.right.now c.args.sets.now None ∙ sym c.in_default.ensures))
+
+pub first_unmet-requires-clause-fresh : goal.first_unmet-requires-clause-fresh
+first_unmet-requires-clause-fresh c = red-fresh c.args.db.now c.args.terms.now c.args.right.now c.args.sets.now (red-seen_denial c.args.db.now c.args.terms.now c.args.right.now c.args.sets.now None ∙ sym c.in_default.ensures)
 
 pub returns-in-Some-2-clause-fault : goal.returns-in-Some-2-clause-fault
 returns-in-Some-2-clause-fault c =

@@ -1,8 +1,12 @@
-use Rattle.std.proofs.Common.{sym, subst, List, ℕ}
+use Rattle.std.proofs.Common.{◌<◌, sym, subst, List, ℕ}
 use Rattle.std.specs.Prelude.{Contains}
 use Rattle.std.proofs.lemmas.List.Elements.{Contains-append_left, Contains-append_right}
+use Rattle.pb_steps.specs.declared.op.Set.{Set}
 use Rattle.pb_rules.proofs.Indexing.{sets_more, sets_named}
 use Rattle.pb_rules.proofs.red.ids_to_show.Goals as goal
+
+pub ids_of-requires : goal.ids_of-requires
+ids_of-requires c = subst (λ (s : Set). c.args.db.now.original < s.var) (sym c.set-item.is) (c.requires c.loop-set.set-index c.set-item.result c.loop-set-test.true)
 
 pub loop-set-preserved : goal.loop-set-preserved
 loop-set-preserved c =

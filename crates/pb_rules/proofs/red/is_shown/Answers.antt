@@ -2,7 +2,6 @@ use Rattle.std.proofs.Common.{◌≡◌, ◌∙◌, ap, sym, subst, false, ◌�
 use Rattle.pb_norm.specs.Constraints.{Constraint, HasVarsWithin}
 use Rattle.pb_steps.specs.Operations.{implies, negation}
 use Rattle.pb_steps.specs.Database.{live_constraints}
-use Rattle.pb_steps.specs.Allowed.{to_refute}
 use Rattle.pb_rules.proofs.Withins.{negation-within}
 use Rattle.pb_rules.proofs.Obliged.{shown_from}
 use Rattle.pb_rules.proofs.red.is_shown.Goals as goal
@@ -16,7 +15,7 @@ refutes_both-requires-clause-second c = subst (λ (d : Constraint). HasVarsWithi
 pub returns-clause-shown : goal.returns-clause-shown
 returns-clause-shown c =
     let live = live_constraints c.args.db.now.live in
-    let list : c.in_ok-denial.denial ∷ c.in_ok-opposite.opposite ∷ live ≡ to_refute c.args.db.now.live c.args.claim.now c.args.goal.now =
+    let list : c.in_ok-denial.denial ∷ c.in_ok-opposite.opposite ∷ live ≡ negation c.args.claim.now ∷ negation c.args.goal.now ∷ live =
     ap (λ (d : Constraint). d ∷ c.in_ok-opposite.opposite ∷ live) c.in_ok-denial.ensures ∙ ap (λ (d : Constraint). negation c.args.claim.now ∷ d ∷ live) c.in_ok-opposite.ensures in
     let fails : implies (negation c.args.claim.now) c.args.goal.now ≡ false = ap (λ (n : Constraint). implies n c.args.goal.now) (sym c.in_ok-denial.ensures) ∙ (sym c.implies.ensures ∙ c.if-implies.false) in
     shown_from c.in_ok-found.found c.args.db.now.live c.args.claim.now c.args.goal.now (c.in_ok-denial.denial ∷ c.in_ok-opposite.opposite ∷ live) list fails c.in_ok-found.ensures.answer

@@ -1,13 +1,20 @@
-use Rattle.std.proofs.Common.{[], ℕ, List, subst, sym}
-use Rattle.std.specs.Prelude.{All, Contains}
-use Rattle.pb_unit.specs.Reaching.{OfConstraint}
-use Rattle.pb_unit.specs.Renaming.{all_vars}
-use Rattle.pb_unit.proofs.Numbers.{all_named, of_constraints}
+use Rattle.std.proofs.Common.{◌∙◌, ℕ, ap, arith, subst, sym}
+use Rattle.pb_norm.specs.Constraints.{AreVarsWithin}
+use Rattle.pb_unit.specs.States.{started}
+use Rattle.pb_unit.proofs.ByNames.{apart_found, apart_none, apart_within}
+use Rattle.pb_unit.proofs.Numbers.{names_few}
 use Rattle.pb_unit.proofs.apart.is_conflicting.Goals as goal
 
-pub conflicts_by_names-requires-clause-known : goal.conflicts_by_names-requires-clause-known
-conflicts_by_names-requires-clause-known c =
-    let forms = c.args.forms.now in
-    let has = λ (v : ℕ) (h : Contains (all_vars forms []) v). c.names_of-names.ensures.same v (subst (λ (vs : List ℕ). Contains vs v) (sym c.in_ok-vars_of.ensures.vars) h) in
-    subst (λ (ns : List ℕ). All (OfConstraint (Contains ns)) forms) (sym c.deref.ensures.value)
-    (of_constraints (all_vars forms []) forms [] (all_named forms []) (Contains c.names_of-names.result.items) has)
+pub overflow_cast-len : goal.overflow_cast-len
+overflow_cast-len c = omega (arith, names_few c.in_ok-names.names c.len.ensures.names, c.len.ensures.value)
+
+pub over-requires : goal.over-requires
+over-requires c = record { within = subst (λ (n : ℕ). AreVarsWithin n c.in_ok-numbered.numbered) (sym c.len.ensures.value) (apart_within c.in_ok-names.names c.len.ensures.names c.args.forms.now c.in_ok-names.ensures.named.constraints c.in_ok-numbered.numbered c.in_ok-numbered.ensures) }
+
+pub returns-in-Conflict : goal.returns-in-Conflict
+returns-in-Conflict c =
+    apart_found c.in_ok-names.names c.len.ensures.names c.args.forms.now c.in_ok-names.ensures.named.constraints c.in_ok-numbered.numbered c.in_ok-numbered.ensures c.in_ok-engine.engine c.propagate.new.self (c.in_ok-engine.ensures.start ∙ ap (λ (n : ℕ). started n c.in_ok-numbered.numbered) c.len.ensures.value) c.propagate.ensures.same c.in-Conflict.ensures.answer.0
+
+pub returns : goal.returns
+returns c =
+    apart_none c.in_ok-names.names c.len.ensures.names c.args.forms.now c.in_ok-names.ensures.named.constraints c.in_ok-numbered.numbered c.in_ok-numbered.ensures c.in_ok-engine.engine c.propagate.new.self (c.in_ok-engine.ensures.start ∙ ap (λ (n : ℕ). started n c.in_ok-numbered.numbered) c.len.ensures.value) c.propagate.ensures.same c.in-Fixed.ensures.answer.no_conflict

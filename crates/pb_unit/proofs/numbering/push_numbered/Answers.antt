@@ -11,7 +11,7 @@ pub numbered_form-requires-clause-known : goal.numbered_form-requires-clause-kno
 numbered_form-requires-clause-known c =
     let below : c.loop-place.place < length c.args.forms.now = omega (arith, c.loop-place-test.true, c.len-place-end.ensures) in
     subst (λ (ts : List Term). OfConstraint (Contains c.args.names.now) (constraint_of ts c.in_ok-degree.degree)) (sym c.deref.ensures.value)
-    (of_read c.args.forms.now c.loop-place.place c.read.new.terms.items c.in_ok-degree.degree below c.in_ok-degree.ensures (OfConstraint (Contains c.args.names.now)) c.requires.known)
+    (of_read c.args.forms.now c.loop-place.place c.read.new.terms.items c.in_ok-degree.degree below c.in_ok-degree.ensures (OfConstraint (Contains c.args.names.now)) c.requires)
 
 pub loop-place-preserved : goal.loop-place-preserved
 loop-place-preserved c =

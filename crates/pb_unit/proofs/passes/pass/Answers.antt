@@ -14,23 +14,20 @@ loop-place-init c = record {
   calm = λ p d below at. absurd (omega (arith, below));
 }
 
-pub room-left-requires : goal.room-left-requires
-room-left-requires c = λ d at. c.requires.narrow c.loop-place.place d at
+pub settle_at-requires-clause-narrow : goal.settle_at-requires-clause-narrow
+settle_at-requires-clause-narrow c = λ d at. c.requires.narrow c.loop-place.place d at
 
-pub look-requires-clause-bound : goal.look-requires-clause-bound
-look-requires-clause-bound c = λ d at. omega (arith, c.room-left.ensures d at)
-
-pub returns-then-not-look-clause-advances : goal.returns-then-not-look-clause-advances
-returns-then-not-look-clause-advances c = λ given.
-    then (standing c.args.places.now) given c.args.held.now.lits c.loop-place.held.lits c.look.new.held.lits (c.loop-place.invariant.advances given) (c.look.ensures.advances given)
+pub returns-then-not-settle_at-clause-advances : goal.returns-then-not-settle_at-clause-advances
+returns-then-not-settle_at-clause-advances c = λ given.
+    then (standing c.args.places.now) given c.args.held.now.lits c.loop-place.held.lits c.settle_at.new.held.lits (c.loop-place.invariant.advances given) (c.settle_at.ensures.advances given)
 
 pub loop-place-preserved : goal.loop-place-preserved
 loop-place-preserved c = record {
-  vars = c.look.ensures.vars ∙ c.loop-place.invariant.vars;
-  advances = λ given. then (standing c.args.places.now) given c.args.held.now.lits c.loop-place.held.lits c.look.new.held.lits (c.loop-place.invariant.advances given) (c.look.ensures.advances given);
+  vars = c.settle_at.ensures.vars ∙ c.loop-place.invariant.vars;
+  advances = λ given. then (standing c.args.places.now) given c.args.held.now.lits c.loop-place.held.lits c.settle_at.new.held.lits (c.loop-place.invariant.advances given) (c.settle_at.ensures.advances given);
   calm =
-      pass_more c.args.places.now c.loop-place.place c.room-left.result c.args.held.now.lits c.loop-place.held.lits c.look.new.held.lits
-      (c.loop-place.invariant.advances []).kept (c.look.ensures.advances []).kept c.room-left.ensures c.if-not-look.ensures.calm c.loop-place.invariant.calm;
+      pass_more c.args.places.now c.loop-place.place c.args.held.now.lits c.loop-place.held.lits c.settle_at.new.held.lits
+      (c.loop-place.invariant.advances []).kept (c.settle_at.ensures.advances []).kept c.if-not-settle_at.ensures.calm c.loop-place.invariant.calm;
 }
 
 pub returns-clause-calm : goal.returns-clause-calm

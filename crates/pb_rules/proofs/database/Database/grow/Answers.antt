@@ -1,4 +1,4 @@
-use Rattle.std.proofs.Common.{◌≡◌, ◌∙◌, ◌+◌, ap, sym, ℕ, subst, List, ◌∷◌, [], arith, length, length-append}
+use Rattle.std.proofs.Common.{◌≡◌, ◌∙◌, ◌+◌, ◌<◌, ap, sym, ℕ, subst, List, ◌∷◌, [], arith, length, length-append}
 use Rattle.std.specs.Prelude.{All, Contains}
 use Rattle.std.proofs.lemmas.Bool.{OnTrue_at}
 use Rattle.pb_norm.specs.Constraints.{Weighted, HasVarsWithin}
@@ -15,7 +15,7 @@ use Rattle.pb_rules.proofs.database.Database.grow.Goals as goal
 pub invariant_of-self-in_err-push : goal.invariant_of-self-in_err-push
 invariant_of-self-in_err-push c =
     let old = c.self.inside.slots.items in
-    let listed = indexed-kept old c.self.inside.named.items c.enter.new.lists.items c.enter.ensures.kept c.self.invariant.indexed in
+    let listed = indexed-kept c.self.inside.original old c.self.inside.named.items c.enter.new.lists.items c.enter.ensures.kept c.self.invariant.indexed in
     subst (λ (ss : List Slot). IsKept c.self.inside.original c.self.inside.vars c.self.inside.most ss c.self.inside.entered c.self.inside.engine c.self.inside.idle c.self.inside.rounds c.enter.new.lists.items) (sym c.in_err-push.ensures.err)
     (kept-listed c.self.inside.original c.self.inside.vars c.self.inside.most c.self.inside.entered old c.self.inside.engine c.self.inside.idle c.self.inside.rounds c.self.inside.named.items c.enter.new.lists.items c.self.invariant listed)
 
@@ -34,9 +34,9 @@ invariant_of-self-2 c =
       is_idle = c.self.invariant.is_idle;
       beside = c.self.invariant.beside;
       indexed =
-          let kept = indexed-kept old c.self.inside.named.items c.enter.new.lists.items c.enter.ensures.kept c.self.invariant.indexed in
-          let added = subst (λ (ts : List Weighted). All (λ (t : Weighted). Contains (ids_of c.enter.new.lists.items t.lit.var) (c.len.result + 1)) ts) c.terms.ensures.weights (OnTrue_at c.if-not-enter.false c.enter.ensures.added) in
-          indexed-pushed old new c.enter.new.lists.items c.args.constraint 0 (c.len.result + 1) put (omega (arith, c.len.ensures)) added kept;
+          let kept = indexed-kept c.self.inside.original old c.self.inside.named.items c.enter.new.lists.items c.enter.ensures.kept c.self.invariant.indexed in
+          let added = subst (λ (ts : List Weighted). All (λ (t : Weighted). c.self.inside.original < t.lit.var → Contains (ids_of c.enter.new.lists.items t.lit.var) (c.len.result + 1)) ts) c.terms.ensures.weights (OnTrue_at c.if-not-enter.false c.enter.ensures.added) in
+          indexed-pushed c.self.inside.original old new c.enter.new.lists.items c.args.constraint 0 (c.len.result + 1) put (omega (arith, c.len.ensures)) added kept;
     }
 
 pub returns-clause-ok : goal.returns-clause-ok

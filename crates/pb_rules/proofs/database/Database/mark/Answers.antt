@@ -13,7 +13,7 @@ invariant_of-self c = record {
   mirrored = front-marked c.self.inside.most c.self.inside.entered c.args.id c.self.inside.slots.items c.mark.new.slots.items c.self.inside.engine c.mark.ensures c.self.invariant.mirrored;
   is_idle = c.self.invariant.is_idle;
   beside = c.self.invariant.beside;
-  indexed = indexed-marked c.args.id c.self.inside.slots.items c.mark.new.slots.items c.self.inside.named.items c.mark.ensures c.self.invariant.indexed;
+  indexed = indexed-marked c.self.inside.original c.args.id c.self.inside.slots.items c.mark.new.slots.items c.self.inside.named.items c.mark.ensures c.self.invariant.indexed;
 }
 
 pub returns : goal.returns

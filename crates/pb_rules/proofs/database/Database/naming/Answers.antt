@@ -1,7 +1,10 @@
-use Rattle.std.proofs.Common.{take}
+use Rattle.std.proofs.Common.{arith, take}
 use Rattle.pb_rules.specs.inner.Indexed.{IsNaming}
 use Rattle.pb_rules.proofs.Least.{least_none, least_next, least_all, named_first}
 use Rattle.pb_rules.proofs.database.Database.naming.Goals as goal
+
+pub ids_of-id-items-requires : goal.ids_of-id-items-requires
+ids_of-id-items-requires c = omega (arith, c.if-index-original.false, c.index.ensures.value, c.original.ensures)
 
 pub loop-id-init : goal.loop-id-init
 loop-id-init c = least_none (IsNaming c.args.self.now.live c.args.var c.args.from) c.ids_of-id-items.result.now

@@ -1,10 +1,9 @@
-use Rattle.std.proofs.Common.{◌≡◌, ◌∙◌, [], List, length, take, ap, refl, sym, subst, arith}
+use Rattle.std.proofs.Common.{◌≡◌, ◌∙◌, List, length, take, ap, sym, subst, arith}
 use Rattle.pb_unit.specs.Trails.{Held}
 use Rattle.pb_rules.specs.declared.slots.Slot.{Slot}
 use Rattle.pb_rules.specs.inner.Indexed.{IsIndexed}
 use Rattle.pb_rules.specs.inner.Mirrors.{IsMirrored}
 use Rattle.pb_rules.proofs.SlotLemmas.{sound-loaded_database, loaded_database-slots, length-placed_from}
-use Rattle.pb_rules.proofs.Refuting.{idle-new}
 use Rattle.pb_rules.proofs.database.Database.new.Goals as goal
 
 pub invariant_of-result : goal.invariant_of-result
@@ -16,9 +15,9 @@ invariant_of-result c =
       sound = sound-loaded_database c.args.vars c.in_ok-slots.slots.items c.args.loaded.now c.in_ok-slots.ensures c.requires.within c.requires.narrow;
       few = omega (arith, count, c.in_ok-engine.ensures.few);
       mirrored = subst (λ (ss : List Slot). IsMirrored most (take c.in_ok-engine.entered ss) c.in_ok-engine.engine) (sym c.in_ok-slots.ensures) c.in_ok-engine.ensures.mirrored;
-      is_idle = idle-new most [] c.in_ok-idle.idle c.in_ok-idle.ensures refl;
+      is_idle = c.new-idle.ensures;
       beside = ap (λ (h : Held). h.vars) c.in_ok-rounds.ensures;
-      indexed = subst (λ (ss : List Slot). IsIndexed ss c.in_ok-named.named.items) (sym c.in_ok-slots.ensures) c.in_ok-named.ensures;
+      indexed = subst (λ (ss : List Slot). IsIndexed c.args.original ss c.in_ok-named.named.items) (sym c.in_ok-slots.ensures) c.in_ok-named.ensures;
     }
 
 pub returns : goal.returns

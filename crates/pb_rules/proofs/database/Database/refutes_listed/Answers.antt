@@ -19,15 +19,15 @@ is_refuted_by_few-requires-clause-within c =
     subst (λ (ss : List Slot). AreWithin c.self.inside.rounds.vars ss) (sym c.deref-2.ensures.value)
     (slots-more c.self.inside.vars c.self.inside.most c.self.inside.rounds.vars c.self.inside.slots.items (omega (arith, c.if-self.false)) c.self.invariant.beside (slots-within c.self.inside.vars c.self.inside.slots.items c.self.invariant.sound))
 
-pub is_refuted_by-requires-clause-more : goal.is_refuted_by-requires-clause-more
-is_refuted_by-requires-clause-more c =
+pub refutes-requires-clause-more : goal.refutes-requires-clause-more
+refutes-requires-clause-more c =
     let within = subst (λ (n : ℕ). HasVarsWithin n c.args.more.now.terms) (λ i. (sym c.self.view_is i).vars) c.requires in
-    within-more c.self.inside.vars c.self.inside.most c.self.inside.idle.vars c.args.more.now.terms (omega (arith, c.if-self.false)) c.self.invariant.is_idle.vars_are within
+    within-more c.self.inside.vars c.self.inside.most c.self.inside.idle c.args.more.now.terms (omega (arith, c.if-self.false)) c.self.invariant.is_idle within
 
-pub is_refuted_by-requires-clause-within : goal.is_refuted_by-requires-clause-within
-is_refuted_by-requires-clause-within c =
-    subst (λ (ss : List Slot). AreWithin c.self.inside.idle.vars ss) (sym c.deref-3.ensures.value)
-    (slots-more c.self.inside.vars c.self.inside.most c.self.inside.idle.vars c.self.inside.slots.items (omega (arith, c.if-self.false)) c.self.invariant.is_idle.vars_are (slots-within c.self.inside.vars c.self.inside.slots.items c.self.invariant.sound))
+pub refutes-requires-clause-within : goal.refutes-requires-clause-within
+refutes-requires-clause-within c =
+    subst (λ (ss : List Slot). AreWithin c.self.inside.idle ss) (sym c.deref-3.ensures.value)
+    (slots-more c.self.inside.vars c.self.inside.most c.self.inside.idle c.self.inside.slots.items (omega (arith, c.if-self.false)) c.self.invariant.is_idle (slots-within c.self.inside.vars c.self.inside.slots.items c.self.invariant.sound))
 
 listed_live : (original vars : ℕ) (ss ts : List Slot) (db : Database) (ids : List ℕ) → ts ≡ ss → database_of original vars ss ≡ db → listed_slots ts ids ≡ filter_map (constraint_at db.live) ids
 listed_live original vars ss ts db ids e view =
@@ -40,8 +40,8 @@ returns-in-Some-clause-answer c =
 
 pub returns-clause-answer : goal.returns-clause-answer
 returns-clause-answer c =
-    subst (λ (cs : List Constraint). IfOk c.is_refuted_by.result (TellsConflict (c.args.more.now ∷ cs)))
-    (listed_live c.self.inside.original c.self.inside.vars c.self.inside.slots.items c.deref-3.result.now c.args.self.now c.args.ids.now c.deref-3.ensures.value c.self.view_is) c.is_refuted_by.ensures.answer
+    subst (λ (cs : List Constraint). IfOk c.refutes.result (TellsConflict (c.args.more.now ∷ cs)))
+    (listed_live c.self.inside.original c.self.inside.vars c.self.inside.slots.items c.deref-3.result.now c.args.self.now c.args.ids.now c.deref-3.ensures.value c.self.view_is) c.refutes.ensures.answer
 
 pub returns-then-self-clause-answer : goal.returns-then-self-clause-answer
 returns-then-self-clause-answer c =

@@ -21,7 +21,7 @@ invariant_of-self c =
       mirrored = c.leave.ensures c.self.inside.most old new (record { hole_left = c.take-gone.ensures.after; at = at }) c.self.invariant.mirrored;
       is_idle = c.self.invariant.is_idle;
       beside = c.self.invariant.beside;
-      indexed = indexed-lost c.args.id old new c.self.inside.named.items c.unlist-left.new.lists.items c.take-gone.ensures.after c.unlist-left.ensures c.self.invariant.indexed;
+      indexed = indexed-lost c.self.inside.original c.args.id old new c.self.inside.named.items c.unlist-left.new.lists.items c.take-gone.ensures.after c.unlist-left.ensures c.self.invariant.indexed;
     }
 
 pub invariant_of-self-in-None : goal.invariant_of-self-in-None
@@ -36,7 +36,7 @@ invariant_of-self-in-None c =
       mirrored = front-without_none c.self.inside.most c.self.inside.entered c.args.id old new c.self.inside.engine c.take-gone.ensures.after at c.self.invariant.mirrored;
       is_idle = c.self.invariant.is_idle;
       beside = c.self.invariant.beside;
-      indexed = indexed-without c.args.id old new c.self.inside.named.items c.take-gone.ensures.after c.self.invariant.indexed;
+      indexed = indexed-without c.self.inside.original c.args.id old new c.self.inside.named.items c.take-gone.ensures.after c.self.invariant.indexed;
     }
 
 pub returns-in-Some : goal.returns-in-Some

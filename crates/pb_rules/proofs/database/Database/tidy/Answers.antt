@@ -1,7 +1,12 @@
-use Rattle.std.proofs.Common.{List, subst, sym}
-use Rattle.pb_rules.specs.declared.slots.Slot.{Slot}
-use Rattle.pb_rules.specs.inner.Indexed.{IsIndexed}
+use Rattle.pb_rules.proofs.Fronts.{kept-swept}
 use Rattle.pb_rules.proofs.database.Database.tidy.Goals as goal
 
-pub sweep_if-requires : goal.sweep_if-requires
-sweep_if-requires c = subst (λ (ss : List Slot). IsIndexed ss c.self.inside.named.items) (sym c.deref.ensures.value) c.self.invariant.indexed
+pub invariant_of-self : goal.invariant_of-self
+invariant_of-self c =
+    let own = c.self.inside in
+    kept-swept own.original own.vars own.most own.entered own.slots.items c.deref.result.now own.engine own.idle own.rounds own.named.items c.sweep_if.new.lists.items c.deref.ensures.value c.self.invariant (c.sweep_if.ensures own.original)
+
+pub invariant_of-self-else-due : goal.invariant_of-self-else-due
+invariant_of-self-else-due c =
+    let own = c.self.inside in
+    kept-swept own.original own.vars own.most own.entered own.slots.items c.deref.result.now own.engine own.idle own.rounds own.named.items c.sweep_if.new.lists.items c.deref.ensures.value c.self.invariant (c.sweep_if.ensures own.original)

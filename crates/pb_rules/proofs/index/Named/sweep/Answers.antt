@@ -6,5 +6,6 @@ use Rattle.pb_rules.proofs.index.Named.sweep.Goals as goal
 
 pub returns : goal.returns
 returns c =
-    filter_same _ (λ (id : ℕ). is_some (slot_of c.args.slots.now id).constraint) _ (λ x b f' k. search rules) _ _ c.retain.ensures.filtered
+    c.fit.ensures
+    ∙ filter_same _ (λ (id : ℕ). is_some (slot_of c.args.slots.now id).constraint) _ (λ x b f' k. search rules) _ _ c.retain.ensures.filtered
     ∙ ap (filter (λ (id : ℕ). is_some (slot_of c.args.slots.now id).constraint)) c.self.view_is
