@@ -33,7 +33,7 @@ use Rattle.pb_choice.specs.Reducing.{core_ops}
 use Rattle.pb_choice.specs.SumSteps.{sum_steps}
 use Rattle.pb_choice.specs.Sums.{sum_clauses, sum_fresh}
 use Rattle.pb_choice.specs.DeriveLaws.{ConstraintsDerive}
-use Rattle.pb_choice.specs.inner.Residual.{rest_terms}
+use Rattle.pb_choice.specs.Residual.{rest_terms}
 use Rattle.pb_choice.specs.laws.SumDerives.{sum_derives}
 use Rattle.pb_choice.specs.inner.Suits.{IsDerivable, RestSuits}
 use Rattle.pb_choice.proofs.ClaimedClauses.{form_itself, empty_claimed, rest_claimed, units_claimed}
@@ -46,20 +46,16 @@ use Rattle.pb_choice.proofs.RestTerms.{rest_light, rest_short}
 -- ---- a sum that is left may be derived
 
 abbrev pub IsRestDerivable : Treatment → Rest → Type 0
-IsRestDerivable t rest.Nothing = Unit {0}
-IsRestDerivable t rest.Empty = Unit {0}
-IsRestDerivable t (rest.Clause ls) = Unit {0}
 IsRestDerivable t (rest.One m) = IsDerivable t m
 IsRestDerivable t (rest.Card m) = IsDerivable t m
 IsRestDerivable t (rest.General m) = IsDerivable t m
+IsRestDerivable t other = Unit {0}
 
 by_class : (t : Treatment) (r : Rest) → RestSuits t r → RestIs r → length (rest_terms r) < 2 ^ 31 → weight (rest_terms r) < 2 ^ 100 → IsRestDerivable t r
-by_class t rest.Nothing suits is few light = tt
-by_class t rest.Empty suits is few light = tt
-by_class t (rest.Clause ls) suits is few light = tt
 by_class t (rest.One m) suits is few light = record { suits = suits; proper = is.proper; few = few; light = light }
 by_class t (rest.Card m) suits is few light = record { suits = suits; proper = is.proper; few = few; light = light }
 by_class t (rest.General m) suits is few light = record { suits = suits; proper = is; few = few; light = light }
+by_class t other suits is few light = tt
 
 pub rest_derivable : (o : Options) (c : Constraint) → IsModest c → IsRestDerivable (treatment_of o (rest_of c)) (rest_of c)
 rest_derivable o c modest =

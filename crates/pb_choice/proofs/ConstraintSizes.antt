@@ -42,7 +42,7 @@ use Rattle.pb_choice.specs.Reducing.{core_ops, divisor, weaken_unit}
 use Rattle.pb_choice.specs.SumSteps.{sum_steps}
 use Rattle.pb_choice.specs.Sums.{sum_count, sum_fresh}
 use Rattle.pb_choice.specs.DeriveLaws.{ConstraintsAreBrief, ConstraintsAreSayable, ConstraintsHaveFewSteps}
-use Rattle.pb_choice.specs.inner.Residual.{rest_terms}
+use Rattle.pb_choice.specs.Residual.{rest_terms}
 use Rattle.pb_choice.specs.laws.SumDerives.{sum_few, sum_sayable, sum_short}
 use Rattle.pb_choice.specs.inner.Suits.{HasRoom, IsDerivable}
 use Rattle.pb_choice.proofs.ConstraintDerived.{IsRestDerivable, rest_derivable}
@@ -61,12 +61,10 @@ sum_steps_few : (reduces : Step) (t : Treatment) (m : BoundedSum) (first next : 
 sum_steps_few reduces t m first next h = omega (arith, length-append (sum_steps t m first next (next + 1)) (Del (next ∷ []) ∷ []), sum_few t m h first next (next + 1))
 
 rest_few : (reduces : Step) (t : Treatment) (r : Rest) (first id next : ℕ) → IsRestDerivable t r → length (rest_steps reduces t r first id next) ≤ 8 * (rest_fresh t r + rest_count t r) + 2
-rest_few reduces t rest.Nothing first id next h = omega arith
-rest_few reduces t rest.Empty first id next h = omega arith
-rest_few reduces t (rest.Clause ls) first id next h = omega arith
 rest_few reduces t (rest.One m) first id next h = sum_steps_few reduces t m first next h
 rest_few reduces t (rest.Card m) first id next h = sum_steps_few reduces t m first next h
 rest_few reduces t (rest.General m) first id next h = sum_steps_few reduces t m first next h
+rest_few reduces t other first id next h = omega arith
 
 pub constraints_few : ConstraintsHaveFewSteps
 constraints_few o c first id next modest =

@@ -25,8 +25,8 @@ use Rattle.pb_choice.specs.declared.chosen.Chosen.{Chosen}
 use Rattle.pb_choice.specs.declared.chosen.Chosen.TheVariants as chosen
 use Rattle.pb_choice.specs.declared.residual.Residual.{Residual}
 use Rattle.pb_choice.specs.declared.residual.Residual.TheVariants as left
-use Rattle.pb_choice.specs.inner.Chosen.{sum_at, treatment_at}
-use Rattle.pb_choice.specs.inner.Residual.{left_count, left_fresh, left_terms}
+use Rattle.pb_choice.specs.Chosen.{sum_at, treatment_at}
+use Rattle.pb_choice.specs.Residual.{left_count, left_fresh, left_terms}
 use Rattle.pb_choice.specs.Sums.{sum_count, sum_fresh}
 use Rattle.pb_choice.specs.laws.SumSizes.{square_small, totalizer_small, tree_small}
 
@@ -112,13 +112,9 @@ chosen_fresh_small (chosen.Tree held) few = omega (arith, held.modest)
 chosen_fresh_small (chosen.Adder held) few = omega (arith, adder_fresh_small held.sum.terms few held.light)
 
 pub left_small : (l : Residual) → length (left_terms l) < 2 ^ 31 → left_count l < 5 * 2 ^ 60
-left_small left.Nothing few = omega arith
-left_small left.Empty few = omega arith
-left_small (left.Clause ls) few = omega arith
 left_small (left.Sum f) few = chosen_small f few
+left_small other few = omega arith
 
 pub left_fresh_small : (l : Residual) → length (left_terms l) < 2 ^ 31 → left_fresh l < 2 ^ 62
-left_fresh_small left.Nothing few = omega arith
-left_fresh_small left.Empty few = omega arith
-left_fresh_small (left.Clause ls) few = omega arith
 left_fresh_small (left.Sum f) few = chosen_fresh_small f few
+left_fresh_small other few = omega arith

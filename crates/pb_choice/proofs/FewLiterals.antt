@@ -46,7 +46,7 @@ use Rattle.pb_base.specs.declared.options.Options.{Options}
 use Rattle.pb_choice.specs.Choice.{treatment_of}
 use Rattle.pb_choice.specs.Clauses.{constraint_clauses, rest_clauses, unit_clause}
 use Rattle.pb_choice.specs.Sums.{sum_clauses as clauses_of_sum}
-use Rattle.pb_choice.specs.inner.Residual.{rest_terms}
+use Rattle.pb_choice.specs.Residual.{rest_terms}
 use Rattle.pb_choice.proofs.RestTerms.{rest_light}
 
 -- at most so many literals each
@@ -121,12 +121,7 @@ grid_short (suc more) ms first =
 -- ---- the counter
 
 place_short : (ms : List Lit) (width first : ℕ) (p : Place) → length (clause_at ms width first p) ≤ 4
-place_short ms width first Start = omega arith
-place_short ms width first (Below j) = omega arith
-place_short ms width first (One i) = omega arith
-place_short ms width first (Keep i j) = omega arith
-place_short ms width first (More i j) = omega arith
-place_short ms width first (Stop i) = omega arith
+place_short ms width first p = grind arith
 
 counted_short : (ms : List Lit) (width first : ℕ) → HaveFewLiterals 4 (counter_clauses ms width first)
 counted_short ms width first = mapped 4 (clause_at ms width first) (place_short ms width first) (places (length ms) width)
@@ -226,9 +221,6 @@ adders_short m first small =
 -- ---- sums and constraints
 
 pub sum_few_literals : (t : Treatment) (m : BoundedSum) (first : ℕ) → weight m.terms < 2 ^ 100 → HaveFewLiterals 128 (clauses_of_sum t m first)
-sum_few_literals treatment.Nothing m first small = none 128
-sum_few_literals treatment.Empty m first small = none 128
-sum_few_literals treatment.Clause m first small = none 128
 sum_few_literals treatment.Pairwise m first small = longer 4 128 (omega arith) (pairwise_clauses (lits_of m.terms)) (pairs_short (lits_of m.terms))
 sum_few_literals treatment.Ladder m first small = longer 4 128 (omega arith) (ladder_clauses (lits_of m.terms) first) (ladder_short (lits_of m.terms) first)
 sum_few_literals treatment.Product m first small = longer 4 128 (omega arith) (product_clauses (lits_of m.terms) first) (grid_short (length (lits_of m.terms)) (lits_of m.terms) first)
@@ -237,6 +229,7 @@ sum_few_literals treatment.Totalizer m first small = longer 4 128 (omega arith) 
 sum_few_literals treatment.Diagram m first small = longer 4 128 (omega arith) (diagram_clauses m first) (diagram_short m first)
 sum_few_literals treatment.Tree m first small = longer 4 128 (omega arith) (generalized_clauses m first) (generalized_short m first)
 sum_few_literals treatment.Adder m first small = adders_short m first small
+sum_few_literals other m first small = none 128
 
 -- a clause that is left has at most so many literals
 FitsIn : ℕ → Rest → Type 0
@@ -249,12 +242,9 @@ rest_fits c = by_tests (is_too_light c) ((without_units c).degree == 0) (not (al
   where
     by_tests : (light done weighted clause single : Bool) → FitsIn (length c.terms) (cond light rest.Empty (cond done rest.Nothing
         (cond weighted (rest.General (sorted (at_most (core c)))) (cond clause (rest.Clause (lits_of (core c).terms)) (cond single (rest.One (at_most (core c))) (rest.Card (at_most (core c))))))))
-    by_tests true done weighted clause single = tt
-    by_tests false true weighted clause single = tt
-    by_tests false false true clause single = tt
     by_tests false false false true single = omega (arith, length-map (core c).terms (λ (t : Weighted). t.lit), length-core c)
     by_tests false false false false true = tt
-    by_tests false false false false false = tt
+    by_tests light done weighted clause single = tt
 
 rest_shorter : (n : ℕ) (t : Treatment) (r : Rest) (first : ℕ) → FitsIn n r → weight (rest_terms r) < 2 ^ 100 → HaveFewLiterals (n + 128) (rest_clauses t r first)
 unfolding FitsIn

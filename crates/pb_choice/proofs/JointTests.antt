@@ -1,7 +1,7 @@
 -- When an equality is encoded as one, test by test.
-use Rattle.std.proofs.Common.{◌≡◌, ◌<◌, ◌≤◌, ◌&&◌, Bool, true, false}
+use Rattle.std.proofs.Common.{◌≡◌, ◌&&◌, Bool, false}
 use Rattle.std.specs.Prelude.{nat_le}
-use Rattle.std.proofs.lemmas.Bool.{and_from, and_left, and_right, le-leb, lt-leb}
+use Rattle.std.proofs.lemmas.Bool.{and_left, and_right}
 use Rattle.pb_norm.specs.Constraints.{Constraint}
 use Rattle.pb_totalizer.specs.Exact.{exact_fresh}
 use Rattle.pb_base.specs.declared.options.Options.{Options}
@@ -16,11 +16,3 @@ module _ (o : Options) (c : Constraint) where
 
   pub not_asking : asks_for_number c ≡ false → is_joint o c ≡ false
   not_asking e = and_right (is_joining o.equal) (asks_for_number c && within) (and_left (asks_for_number c) within e)
-
-  pub not_within : o.budget < exact_fresh (literals_asked c) → is_joint o c ≡ false
-  not_within over =
-      and_right (is_joining o.equal) (asks_for_number c && within) (and_right (asks_for_number c) within (lt-leb (exact_fresh (literals_asked c)) o.budget over))
-
-  pub are_joint : is_joining o.equal ≡ true → asks_for_number c ≡ true → exact_fresh (literals_asked c) ≤ o.budget → is_joint o c ≡ true
-  are_joint joining asking fits =
-      and_from (is_joining o.equal) (asks_for_number c && within) joining (and_from (asks_for_number c) within asking (le-leb (exact_fresh (literals_asked c)) o.budget fits))

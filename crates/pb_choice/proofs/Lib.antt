@@ -27,7 +27,6 @@ pub mod Reduced
 pub mod ReducedSteps
 pub mod RestLaws
 pub mod RestTerms
-pub mod Selection
 pub mod Suits
 pub mod UnitClauses
 pub mod UnitSteps

@@ -7,7 +7,7 @@ use Rattle.pb_base.specs.declared.options.Options.{Options}
 use Rattle.pb_choice.specs.declared.residual.Residual.{Residual}
 use Rattle.pb_choice.specs.Choice.{treatment_of}
 use Rattle.pb_choice.specs.Clauses.{constraint_clauses, rest_clauses, unit_clause}
-use Rattle.pb_choice.specs.inner.Residual.{left_clauses, IsLeft}
+use Rattle.pb_choice.specs.Residual.{left_clauses, IsLeft}
 
 pub plan_clauses : (o : Options) (c : Constraint) (units : List Lit) (left : Residual) (first : ℕ) → units ≡ units_of c → IsLeft o (rest_of c) left → constraint_clauses o c first ≡ map unit_clause units ++ left_clauses left first
 plan_clauses o c units left first are h =

@@ -15,7 +15,7 @@ use Rattle.pb_base.specs.declared.options.Options.{Options}
 use Rattle.pb_choice.specs.Clauses.{unit_clause}
 use Rattle.pb_choice.specs.ConstraintSteps.{constraint_steps, unit_claims}
 use Rattle.pb_choice.specs.Reducing.{core_ops, divisor, reducing}
-use Rattle.pb_choice.specs.inner.Residual.{IsLeft, left_steps}
+use Rattle.pb_choice.specs.Residual.{IsLeft, left_steps}
 
 pub plan_steps : (o : Options) (c : Constraint) (units : List Lit) (left : Residual) (first id next : ℕ) → units ≡ units_of c → IsLeft o (rest_of c) left
     → constraint_steps o c first id next ≡ claim_steps next (unit_claims id units) ++ left_steps (Pol (reducing id units (divisor c))) left first id (next + length units)

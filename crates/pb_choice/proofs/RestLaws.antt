@@ -63,9 +63,7 @@ rest_names ts t (rest.General m) first h over = names-among m.terms ts first (re
 -- ---- counts
 
 pub rest_counts : (t : Treatment) (r : Rest) (first : ℕ) → RestSuits t r → length (rest_clauses t r first) ≡ rest_count t r
-rest_counts t rest.Nothing first h = refl
-rest_counts t rest.Empty first h = refl
-rest_counts t (rest.Clause ls) first h = refl
 rest_counts t (rest.One m) first h = sum_counts t m first h
 rest_counts t (rest.Card m) first h = sum_counts t m first h
 rest_counts t (rest.General m) first h = sum_counts t m first h
+rest_counts t other first h = refl

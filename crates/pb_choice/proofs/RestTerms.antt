@@ -12,18 +12,16 @@ use Rattle.pb_norm.proofs.Sorting.{by_weight-sum}
 use Rattle.pb_norm.proofs.Units.{without_open}
 use Rattle.pb_family.specs.Families.{VarsBelow}
 use Rattle.std.proofs.lemmas.List.Elements.{All-nil}
-use Rattle.pb_choice.specs.inner.Residual.{rest_terms}
+use Rattle.pb_choice.specs.Residual.{rest_terms}
 use Rattle.pb_choice.proofs.CoreWeights.{weight-opposite, weight-core}
 
 -- ---- over variables of the constraint
 
 terms_over : (first : ℕ) (r : Rest) → RestOver (λ v. v < first) r → VarsBelow first (rest_terms r)
-terms_over first rest.Nothing h = All-nil (λ (t : Weighted). t.lit.var < first)
-terms_over first rest.Empty h = All-nil (λ (t : Weighted). t.lit.var < first)
-terms_over first (rest.Clause ls) h = All-nil (λ (t : Weighted). t.lit.var < first)
 terms_over first (rest.One m) h = h
 terms_over first (rest.Card m) h = h
 terms_over first (rest.General m) h = h
+terms_over first other h = All-nil (λ (t : Weighted). t.lit.var < first)
 
 pub rest_below : (c : Constraint) (first : ℕ) → VarsBelow first c.terms → VarsBelow first (rest_terms (rest_of c))
 rest_below c first below = terms_over first (rest_of c) (rest-over (λ v. v < first) c below)
@@ -31,12 +29,10 @@ rest_below c first below = terms_over first (rest_of c) (rest-over (λ v. v < fi
 -- ---- it is no longer
 
 terms_short : (n : ℕ) (r : Rest) → HasAtMost n r → length (rest_terms r) ≤ n
-terms_short n rest.Nothing h = omega arith
-terms_short n rest.Empty h = omega arith
-terms_short n (rest.Clause ls) h = omega arith
 terms_short n (rest.One m) h = h
 terms_short n (rest.Card m) h = h
 terms_short n (rest.General m) h = h
+terms_short n other h = omega arith
 
 pub rest_short : (c : Constraint) → length (rest_terms (rest_of c)) ≤ length c.terms
 rest_short c = terms_short (length c.terms) (rest_of c) (rest-few c)

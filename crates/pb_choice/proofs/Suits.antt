@@ -52,9 +52,7 @@ general_suits general.Tree m h = h
 general_suits general.Adder m h = tt
 
 pub treatment_suits : (o : Options) (r : Rest) → RestIs r → RestSuits (treatment_of o r) r
-treatment_suits o rest.Nothing h = tt
-treatment_suits o rest.Empty h = tt
-treatment_suits o (rest.Clause ls) h = tt
 treatment_suits o (rest.One m) h = amo_suits o.amo m h
 treatment_suits o (rest.Card m) h = within_suits o.budget m (card_treatment o.card m.bound) (card_suits o.card m h)
 treatment_suits o (rest.General m) h = within_suits o.budget m (general_treatment o.general) (general_suits o.general m h)
+treatment_suits o other h = tt

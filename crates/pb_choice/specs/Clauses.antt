@@ -3,6 +3,7 @@ use Rattle.std.specs.Prelude.{ℕ, ◌+◌, List, [], ◌∷◌, ◌++◌, map, 
 use Rattle.pb_base.specs.declared.literal.Lit.{Lit}
 use Rattle.pb_norm.specs.declared.reduction.Rest.{Rest}
 use Rattle.pb_norm.specs.declared.reduction.Rest.TheVariants as rest
+use Rattle.pb_norm.specs.BoundedSums.{BoundedSum}
 use Rattle.pb_norm.specs.Constraints.{Constraint}
 use Rattle.pb_norm.specs.Reduction.{units_of, rest_of}
 use Rattle.pb_base.specs.declared.options.Options.{Options}
@@ -12,29 +13,23 @@ use Rattle.pb_choice.specs.Sums.{sum_clauses, sum_count, sum_fresh}
 
 -- ---- what is left of a constraint
 
+-- nothing, the empty clause, a clause, or a sum
+abbrev pub by_rest : {T : Type 0} → T → T → (List Lit → T) → (BoundedSum → T) → Rest → T
+by_rest nothing empty clause sum rest.Nothing = nothing
+by_rest nothing empty clause sum rest.Empty = empty
+by_rest nothing empty clause sum (rest.Clause ls) = clause ls
+by_rest nothing empty clause sum (rest.One m) = sum m
+by_rest nothing empty clause sum (rest.Card m) = sum m
+by_rest nothing empty clause sum (rest.General m) = sum m
+
 abbrev pub rest_clauses : Treatment → Rest → ℕ → List (List Lit)
-rest_clauses t rest.Nothing first = []
-rest_clauses t rest.Empty first = [] ∷ []
-rest_clauses t (rest.Clause ls) first = ls ∷ []
-rest_clauses t (rest.One m) first = sum_clauses t m first
-rest_clauses t (rest.Card m) first = sum_clauses t m first
-rest_clauses t (rest.General m) first = sum_clauses t m first
+rest_clauses t r first = by_rest [] ([] ∷ []) (λ ls. ls ∷ []) (λ m. sum_clauses t m first) r
 
 abbrev pub rest_fresh : Treatment → Rest → ℕ
-rest_fresh t rest.Nothing = 0
-rest_fresh t rest.Empty = 0
-rest_fresh t (rest.Clause ls) = 0
-rest_fresh t (rest.One m) = sum_fresh t m
-rest_fresh t (rest.Card m) = sum_fresh t m
-rest_fresh t (rest.General m) = sum_fresh t m
+rest_fresh t r = by_rest 0 0 (λ ls. 0) (sum_fresh t) r
 
 abbrev pub rest_count : Treatment → Rest → ℕ
-rest_count t rest.Nothing = 0
-rest_count t rest.Empty = 1
-rest_count t (rest.Clause ls) = 1
-rest_count t (rest.One m) = sum_count t m
-rest_count t (rest.Card m) = sum_count t m
-rest_count t (rest.General m) = sum_count t m
+rest_count t r = by_rest 0 1 (λ ls. 1) (sum_count t) r
 
 -- ---- a constraint
 

@@ -2,7 +2,6 @@
 use Rattle.std.specs.Prelude.{ℕ, ◌+◌, List, [], ◌∷◌, ◌++◌, map, length}
 use Rattle.pb_base.specs.declared.literal.Lit.{Lit}
 use Rattle.pb_norm.specs.declared.reduction.Rest.{Rest}
-use Rattle.pb_norm.specs.declared.reduction.Rest.TheVariants as rest
 use Rattle.pb_norm.specs.Constraints.{Constraint}
 use Rattle.pb_norm.specs.BoundedSums.{BoundedSum}
 use Rattle.pb_norm.specs.Reduction.{units_of, rest_of}
@@ -13,7 +12,7 @@ use Rattle.pb_derive.specs.Rups.{by_rup}
 use Rattle.pb_base.specs.declared.options.Options.{Options}
 use Rattle.pb_choice.specs.declared.treatment.Treatment.{Treatment}
 use Rattle.pb_choice.specs.Choice.{treatment_of}
-use Rattle.pb_choice.specs.Clauses.{unit_clause}
+use Rattle.pb_choice.specs.Clauses.{by_rest, unit_clause}
 use Rattle.pb_choice.specs.Reducing.{core_ops}
 use Rattle.pb_choice.specs.SumSteps.{sum_steps}
 
@@ -31,12 +30,7 @@ reduced_steps reduces t m first next = reduces ∷ (sum_steps t m first next (ne
 
 -- what is left of a constraint, by the step that reduces the constraint to it
 abbrev pub rest_steps : Step → Treatment → Rest → ℕ → ℕ → ℕ → List Step
-rest_steps reduces t rest.Nothing first id next = []
-rest_steps reduces t rest.Empty first id next = clause_steps id next []
-rest_steps reduces t (rest.Clause ls) first id next = clause_steps id next ls
-rest_steps reduces t (rest.One m) first id next = reduced_steps reduces t m first next
-rest_steps reduces t (rest.Card m) first id next = reduced_steps reduces t m first next
-rest_steps reduces t (rest.General m) first id next = reduced_steps reduces t m first next
+rest_steps reduces t r first id next = by_rest [] (clause_steps id next []) (clause_steps id next) (λ m. reduced_steps reduces t m first next) r
 
 -- The units in their order, and then what is left. The fresh variables are numbered from the first number on, the second is the
 -- id of the constraint, and the third is the next id.

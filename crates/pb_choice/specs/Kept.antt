@@ -4,7 +4,7 @@ use Rattle.pb_norm.specs.Reduction.{rest_of}
 use Rattle.pb_base.specs.declared.options.Options.{Options}
 use Rattle.pb_choice.specs.declared.chosen.Chosen.{Chosen}
 use Rattle.pb_choice.specs.declared.residual.Residual.TheVariants.{Sum}
-use Rattle.pb_choice.specs.inner.Residual.{IsLeft}
+use Rattle.pb_choice.specs.Residual.{IsLeft}
 
 -- it is that of what is left of the constraint, under the options
 abbrev pub IsKeptOf : Options → Constraint → Chosen → Type 0

@@ -1,10 +1,12 @@
 pub mod Choice
+pub mod Chosen
 pub mod Clauses
 pub mod ConstraintSteps
 pub mod EqualitySteps
 pub mod Equals
 pub mod Readiness
 pub mod Reducing
+pub mod Residual
 pub mod SumSteps
 pub mod Sums
 pub mod laws

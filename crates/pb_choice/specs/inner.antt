@@ -1,4 +1,5 @@
 pub mod Chosen
+pub mod Known
 pub mod Lent
-pub mod Residual
+pub mod Ready
 pub mod Suits

@@ -5,7 +5,7 @@ ghost use Rattle.pb_norm.specs.BoundedSums.{IsProper};
 ghost use Rattle.pb_norm.specs.Classes.{IsAtMostOne, IsCardinality, RestIs};
 ghost use Rattle.pb_choice.specs.Choice.{amo_treatment, card_treatment, general_treatment, treatment_of, within_budget};
 ghost use Rattle.pb_choice.specs.inner.Chosen.{IsChosen};
-ghost use Rattle.pb_choice.specs.inner.Residual.{rest_terms, IsLeft};
+ghost use Rattle.pb_choice.specs.Residual.{rest_terms, IsLeft};
 
 use crate::chosen::Chosen;
 use crate::held::AtMostOne;

@@ -35,7 +35,7 @@ impl Drop for Chosen {
 
 impl Chosen {
     ghost use Rattle.std.specs.Prelude.{◌≡◌};
-    ghost use Rattle.pb_choice.specs.inner.Chosen.{treatment_at};
+    ghost use Rattle.pb_choice.specs.Chosen.{treatment_at};
 
     /// Which family it is.
     pub fn treatment(&self) -> Treatment
@@ -55,7 +55,8 @@ impl Chosen {
 }
 
 impl Family for Chosen {
-    ghost use Rattle.pb_choice.specs.inner.Chosen.{chosen_suits, sum_at, treatment_at};
+    ghost use Rattle.pb_choice.specs.Chosen.{sum_at, treatment_at};
+    ghost use Rattle.pb_choice.specs.inner.Chosen.{chosen_suits};
     ghost use Rattle.pb_choice.specs.Sums.{sum_clauses, sum_count, sum_fresh};
     ghost use Rattle.pb_choice.specs.laws.SumLaws.{sum_counts, sum_extends, sum_names, sum_sound};
 
@@ -121,7 +122,8 @@ impl Family for Chosen {
 }
 
 impl Derive for Chosen {
-    ghost use Rattle.pb_choice.specs.inner.Chosen.{chosen_derivable, chosen_room, sum_at, treatment_at};
+    ghost use Rattle.pb_choice.specs.Chosen.{sum_at, treatment_at};
+    ghost use Rattle.pb_choice.specs.inner.Chosen.{chosen_derivable, chosen_room};
     ghost use Rattle.pb_choice.specs.SumSteps.{sum_steps};
     ghost use Rattle.pb_choice.specs.laws.SumDerives.{sum_derives, sum_few, sum_sayable, sum_short};
 

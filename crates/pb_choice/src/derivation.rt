@@ -6,7 +6,7 @@ ghost use Rattle.pb_family.specs.StepSinks.{HandsFrom};
 ghost use Rattle.pb_family.specs.inner.HandedJustifications.{HandsClaims};
 ghost use Rattle.pb_choice.specs.ConstraintSteps.{reduced_steps, unit_claims};
 ghost use Rattle.pb_choice.specs.Sums.{sum_count, sum_fresh};
-ghost use Rattle.pb_choice.specs.inner.Chosen.{sum_at, treatment_at};
+ghost use Rattle.pb_choice.specs.Chosen.{sum_at, treatment_at};
 
 use crate::chosen::Chosen;
 use pb_base::Lits;

@@ -1,11 +1,10 @@
 //! The steps of an equality that is encoded as one.
-ghost use Rattle.std.specs.Prelude.{◌≡◌, ◌≤◌, ◌<◌, ◌+◌, ◌^◌, [], ◌∷◌, IfOk};
-ghost use Rattle.pb_family.specs.Families.{VarsBelow};
+ghost use Rattle.std.specs.Prelude.{◌≡◌, ◌<◌, ◌^◌, [], ◌∷◌, IfOk};
 ghost use Rattle.pb_family.specs.StepSinks.{HandsFrom, HandsSteps};
-ghost use Rattle.pb_totalizer.specs.Exact.{exact_fresh};
 ghost use Rattle.pb_totalizer.specs.ExactSum.{exact_sum};
 ghost use Rattle.pb_choice.specs.EqualitySteps.{joint_steps, quotient_step};
-ghost use Rattle.pb_choice.specs.Readiness.{LeavesIds};
+ghost use Rattle.pb_choice.specs.declared.equal.EqualPlan.TheVariants.{Joint};
+ghost use Rattle.pb_choice.specs.inner.Ready.{MayDerive};
 
 use crate::equal_halves::HalfIds;
 use pb_family::{Pair, SinkFault, StepSink, derive_deletion};
@@ -46,11 +45,7 @@ pub fn derive_joint<T: StepSink>(
     ids: HalfIds,
     sink: &mut T,
 ) -> Result<(), SinkFault>
-    requires original { VarsBelow first (exact_sum exact.now).terms }
-    requires from { 1 ≤ first }
-    requires fits { first + exact_fresh (exact_sum exact.now) ≤ 2 ^ 31 }
-    requires given { 1 ≤ (T.state sink.old).next }
-    requires few { LeavesIds (joint_steps (exact_sum exact.now) coef.now first ids.low ids.high) (T.state sink.old).next }
+    requires ready { MayDerive first ids.low ids.high (T.state sink.old).next (Joint exact.now coef.now) }
     ensures { HandsFrom (joint_steps (exact_sum exact.now) coef.now first ids.low ids.high) result (T.state sink.old) (T.state sink.new) }
 {
     let own = sink.next_id();

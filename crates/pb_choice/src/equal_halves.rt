@@ -1,9 +1,9 @@
 //! The halves of an equality, encoded one by one.
-ghost use Rattle.std.specs.Prelude.{◌≡◌, ◌≤◌, ◌<◌, ◌+◌, ◌^◌};
-ghost use Rattle.pb_family.specs.Families.{VarsBelow};
+ghost use Rattle.std.specs.Prelude.{◌≡◌, ◌+◌};
 ghost use Rattle.pb_family.specs.Handing.{HandsIfMemory};
 ghost use Rattle.pb_family.specs.StepSinks.{HandsFrom};
-ghost use Rattle.pb_choice.specs.Readiness.{LeavesIds};
+ghost use Rattle.pb_choice.specs.declared.equal.EqualPlan.TheVariants.{Split};
+ghost use Rattle.pb_choice.specs.inner.Ready.{MayDerive, MayEmit};
 ghost use Rattle.pb_choice.specs.HalfPlans.{halves_clauses, halves_steps, plan_count, plan_fresh};
 
 use crate::plans::{Counts, Plan};
@@ -38,10 +38,7 @@ pub fn emit_halves<S: ClauseSink>(
     first: u32,
     sink: &mut S,
 ) -> Result<(), SinkFault>
-    requires lower_original { VarsBelow first lower.now.constraint.now.terms }
-    requires upper_original { VarsBelow first upper.now.constraint.now.terms }
-    requires from { 1 ≤ first }
-    requires fits { first + (plan_fresh lower.now + plan_fresh upper.now) ≤ 2 ^ 31 }
+    requires ready { MayEmit first (Split lower.now upper.now) }
     ensures { HandsIfMemory (halves_clauses lower.now upper.now first) result (S.state sink.old) (S.state sink.new) }
 {
     lower.emit(alloc, first, sink)?;
@@ -58,16 +55,7 @@ pub fn derive_halves<T: StepSink>(
     ids: HalfIds,
     sink: &mut T,
 ) -> Result<(), SinkFault>
-    requires lower_original { VarsBelow first lower.now.constraint.now.terms }
-    requires upper_original { VarsBelow first upper.now.constraint.now.terms }
-    requires from { 1 ≤ first }
-    requires fits { first + (plan_fresh lower.now + plan_fresh upper.now) ≤ 2 ^ 31 }
-    requires clauses { plan_count lower.now + plan_count upper.now ≤ 2 ^ 56 }
-    requires low_given { 1 ≤ ids.low }
-    requires low_known { ids.low < (T.state sink.old).next }
-    requires high_given { 1 ≤ ids.high }
-    requires high_known { ids.high < (T.state sink.old).next }
-    requires few { LeavesIds (halves_steps lower.now upper.now first ids.low ids.high) (T.state sink.old).next }
+    requires ready { MayDerive first ids.low ids.high (T.state sink.old).next (Split lower.now upper.now) }
     ensures { HandsFrom (halves_steps lower.now upper.now first ids.low ids.high) result (T.state sink.old) (T.state sink.new) }
 {
     lower.derive(alloc, first, ids.low, sink)?;

@@ -1,15 +1,17 @@
 //! Planning the encoding of an equality.
-ghost use Rattle.std.specs.Prelude.{◌≡◌, ◌<◌, ◌^◌, true, false, pos, length, IfOk, IsTrue};
+ghost use Rattle.std.specs.Prelude.{◌≡◌, ◌<◌, ◌^◌, true, false, pos, length, IfOk};
 ghost use Rattle.std.specs.Option.{MatchOption};
 ghost use Rattle.pb_norm.specs.Constraints.{IsLinear, weight};
-ghost use Rattle.pb_norm.specs.Reduction.{first_coef, lits_of};
+ghost use Rattle.pb_norm.specs.Reduction.{first_coef, lits_of, rest_of};
 ghost use Rattle.pb_totalizer.specs.ExactSum.{exact_sum};
 ghost use Rattle.pb_choice.specs.Choice.{IsSentToAdder};
 ghost use Rattle.pb_choice.specs.Equals.{is_joining, is_joint, literals_asked};
 ghost use Rattle.pb_choice.specs.EqualPlans.{HasPartsOf, IsEqualPlan};
+ghost use Rattle.pb_choice.specs.inner.Known.{IsKnown};
 
 use crate::asking::{asks_for_number, number_asked};
 use crate::equal::EqualPlan;
+use crate::known::Known;
 use crate::planning::plan_by;
 use pb_base::{EqualMode, Lits, NoMemory, Options};
 use pb_family::Built;
@@ -63,24 +65,24 @@ fn coef_of(lower: &Linear) -> i128
     first_coef(lower.terms()) as i128
 }
 
-// Plans the encoding of an equality half by half. Both halves may be known to go to the adder.
+// Plans the encoding of an equality half by half. The same may be known of both halves.
 fn plan_halves<'a>(
     alloc: Global,
     lower: &'a Linear,
     upper: &'a Linear,
     options: &Options,
-    is_adder: bool,
+    known: Known<'a>,
 ) -> Result<EqualPlan<'a>, NoMemory>
     requires lower_light { weight lower.now.terms < 2 ^ 100 }
     requires upper_light { weight upper.now.terms < 2 ^ 100 }
     requires split { is_joint options.now lower.now ≡ false }
-    requires lower_adder { IsTrue is_adder → IsSentToAdder options.now lower.now }
-    requires upper_adder { IsTrue is_adder → IsSentToAdder options.now upper.now }
+    requires lower_known { IsKnown options.now (rest_of lower.now) known }
+    requires upper_known { IsKnown options.now (rest_of upper.now) known }
     ensures choice { IfOk result (IsEqualPlan options.now lower.now upper.now) }
     ensures parts { IfOk result (HasPartsOf options.now lower.now upper.now) }
 {
-    let one = plan_by(alloc, lower, options, is_adder)?;
-    let other = plan_by(alloc, upper, options, is_adder)?;
+    let one = plan_by(alloc, lower, options, known)?;
+    let other = plan_by(alloc, upper, options, known)?;
     Ok(EqualPlan::Split(one, other))
 }
 
@@ -101,7 +103,7 @@ pub fn plan_equal<'a>(
             let a = coef_of(lower);
             Ok(EqualPlan::Joint { exact, a })
         }
-        None => plan_halves(alloc, lower, upper, options, false),
+        None => plan_halves(alloc, lower, upper, options, Known::Nothing),
     }
 }
 
@@ -120,5 +122,5 @@ pub fn plan_adders<'a>(
     ensures choice { IfOk result (IsEqualPlan options.now lower.now upper.now) }
     ensures parts { IfOk result (HasPartsOf options.now lower.now upper.now) }
 {
-    plan_halves(alloc, lower, upper, options, true)
+    plan_halves(alloc, lower, upper, options, Known::Adder)
 }

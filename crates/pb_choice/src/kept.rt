@@ -4,13 +4,13 @@ ghost use Rattle.pb_norm.specs.Constraints.{weight};
 ghost use Rattle.pb_choice.specs.Kept.{IsKeptOf};
 
 use crate::chosen::Chosen;
-use crate::lent::Lent;
+use crate::known::Known;
+use crate::planning::plan_by;
 use crate::plans::Plan;
-use crate::residual::Residual;
 use crate::treatment::Treatment;
 use pb_base::{NoMemory, Options};
 use pb_family::Family;
-use pb_norm::{Linear, Reduced, reduce};
+use pb_norm::Linear;
 use std::alloc::{AllocError, Global};
 use std::marker::Model;
 
@@ -65,11 +65,5 @@ pub fn plan_kept<'a>(
     ensures constraint { IfOk result (λ plan. plan.constraint.now ≡ constraint.now) }
     ensures options { IfOk result (λ plan. plan.options ≡ options.now) }
 {
-    let Reduced { units, rest: _ } = reduce(alloc, constraint)?;
-    Ok(Plan {
-        constraint,
-        options: *options,
-        units,
-        left: Residual::Sum(Lent::kept(&kept.chosen)),
-    })
+    plan_by(alloc, constraint, options, Known::Kept(&kept.chosen))
 }

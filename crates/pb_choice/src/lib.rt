@@ -13,6 +13,7 @@ mod equal_laws;
 mod equal_planning;
 mod held;
 mod kept;
+mod known;
 mod laws;
 mod lent;
 mod planning;

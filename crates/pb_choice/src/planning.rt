@@ -1,11 +1,15 @@
 //! Planning an encoding.
-ghost use Rattle.std.specs.Prelude.{◌≡◌, ◌<◌, ◌^◌, IfOk, IsTrue};
+ghost use Rattle.std.specs.Prelude.{◌≡◌, ◌<◌, ◌^◌, IfOk};
 ghost use Rattle.pb_norm.specs.Constraints.{weight};
 ghost use Rattle.pb_norm.specs.Classes.{RestIs};
-ghost use Rattle.pb_choice.specs.Choice.{treatment_of, IsSentToAdder};
-ghost use Rattle.pb_choice.specs.inner.Residual.{rest_terms, IsLeft};
+ghost use Rattle.pb_norm.specs.Reduction.{rest_of};
+ghost use Rattle.pb_choice.specs.Choice.{IsSentToAdder};
+ghost use Rattle.pb_choice.specs.inner.Known.{IsKnown};
+ghost use Rattle.pb_choice.specs.Residual.{rest_terms, IsLeft};
 
 use crate::choosing::{adder_left, residual_of};
+use crate::known::Known;
+use crate::lent::Lent;
 use crate::plans::Plan;
 use crate::residual::Residual;
 use crate::treatment::Treatment;
@@ -13,39 +17,39 @@ use pb_base::{NoMemory, Options};
 use pb_norm::{Linear, Reduced, Rest, reduce};
 use std::alloc::Global;
 
-// What is left of a constraint, by the adder at once where that is known to be chosen.
+// What is left of a constraint of which something may be known.
 fn left_of<'a>(
     alloc: Global,
     options: &Options,
     rest: Rest,
-    is_adder: bool,
+    known: Known<'a>,
 ) -> Result<Residual<'a>, NoMemory>
     requires class { RestIs rest }
     requires light { weight (rest_terms rest) < 2 ^ 100 }
-    requires adder { IsTrue is_adder → treatment_of options.now rest ≡ Treatment.Adder }
+    requires known { IsKnown options.now rest known }
     ensures { IfOk result (IsLeft options.now rest) }
 {
-    if is_adder {
-        adder_left(alloc, options, rest)
-    } else {
-        residual_of(alloc, options, rest)
+    match known {
+        Known::Nothing => residual_of(alloc, options, rest),
+        Known::Adder => adder_left(alloc, options, rest),
+        Known::Kept(chosen) => Ok(Residual::Sum(Lent::kept(chosen))),
     }
 }
 
-/// Plans the encoding of a constraint, which may be known to go to the adder.
+/// Plans the encoding of a constraint of which something may be known.
 pub fn plan_by<'a>(
     alloc: Global,
     constraint: &'a Linear,
     options: &Options,
-    is_adder: bool,
+    known: Known<'a>,
 ) -> Result<Plan<'a>, NoMemory>
     requires light { weight constraint.now.terms < 2 ^ 100 }
-    requires adder { IsTrue is_adder → IsSentToAdder options.now constraint.now }
+    requires known { IsKnown options.now (rest_of constraint.now) known }
     ensures constraint { IfOk result (λ plan. plan.constraint.now ≡ constraint.now) }
     ensures options { IfOk result (λ plan. plan.options ≡ options.now) }
 {
     let Reduced { units, rest } = reduce(alloc, constraint)?;
-    let left = left_of(alloc, options, rest, is_adder)?;
+    let left = left_of(alloc, options, rest, known)?;
     Ok(Plan {
         constraint,
         options: *options,
@@ -64,7 +68,7 @@ pub fn plan<'a>(
     ensures constraint { IfOk result (λ plan. plan.constraint.now ≡ constraint.now) }
     ensures options { IfOk result (λ plan. plan.options ≡ options.now) }
 {
-    plan_by(alloc, constraint, options, false)
+    plan_by(alloc, constraint, options, Known::Nothing)
 }
 
 /// The same of a constraint that is known to go to the adder, as a plan of it told: the family that it would pass the budget with
@@ -79,5 +83,5 @@ pub fn plan_adder<'a>(
     ensures constraint { IfOk result (λ plan. plan.constraint.now ≡ constraint.now) }
     ensures options { IfOk result (λ plan. plan.options ≡ options.now) }
 {
-    plan_by(alloc, constraint, options, true)
+    plan_by(alloc, constraint, options, Known::Adder)
 }

@@ -8,7 +8,7 @@ ghost use Rattle.pb_choice.specs.Choice.{treatment_of};
 ghost use Rattle.pb_choice.specs.Clauses.{constraint_clauses, constraint_count, constraint_fresh};
 ghost use Rattle.pb_choice.specs.ConstraintSteps.{constraint_steps};
 ghost use Rattle.pb_choice.specs.declared.residual.Residual.TheVariants.{Sum};
-ghost use Rattle.pb_choice.specs.inner.Residual.{IsLeft};
+ghost use Rattle.pb_choice.specs.Residual.{IsLeft};
 
 use crate::chosen::Chosen;
 use crate::derivation::derive_units;

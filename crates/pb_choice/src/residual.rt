@@ -40,7 +40,7 @@ impl Residual<'_> {
     ghost use Rattle.pb_family.specs.Handing.{HandsIfMemory};
     ghost use Rattle.pb_family.specs.StepSinks.{HandsFrom};
     ghost use Rattle.pb_choice.specs.Reducing.{reduction};
-    ghost use Rattle.pb_choice.specs.inner.Residual.{left_clauses, left_count, left_fresh, left_steps, left_terms, left_treatment};
+    ghost use Rattle.pb_choice.specs.Residual.{left_clauses, left_count, left_fresh, left_steps, left_terms, left_treatment};
 
     /// How it is encoded.
     pub fn treatment(&self) -> Treatment

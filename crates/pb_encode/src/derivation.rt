@@ -13,16 +13,10 @@ use crate::encodable::Encodable;
 use crate::group_plan::{GroupPlan, plan_group};
 use crate::groups::{Group, Groups};
 use crate::hints::{HintsLeft, Tells};
+use crate::position::Position;
 use pb_base::Options;
 use pb_family::{SinkFault, StepSink};
 use std::alloc::Global;
-
-/// Where the derivation of a group stands: its first fresh variable, and the id of its first constraint.
-#[derive(Drop)]
-pub struct Position {
-    pub first: u32,
-    pub id: u64,
-}
 
 // Hands over the derivation of a group by its plan, and gives where the next one stands. It only looks at the plan: each way out
 // of a function that owns one makes the proof of that function much longer.
@@ -33,17 +27,15 @@ fn derive_plan<T: StepSink>(
     sink: &mut T,
 ) -> Result<Position, SinkFault>
     requires below { IsPlanBelow position.first plan.now }
-    requires low { 1 ≤ position.first }
     requires fits { position.first + plan_fresh plan.now ≤ 2 ^ 31 }
     requires counted { plan_count plan.now ≤ 2 ^ 56 }
-    requires given { 1 ≤ position.id }
     requires known { position.id + plan_size plan.now ≤ (T.state sink.old).next }
     requires few { LeavesIds (plan_steps plan.now position.first position.id) (T.state sink.old).next }
     ensures first { IfOk result (λ next. next.first ≡ position.first + plan_fresh plan.now) }
     ensures id { IfOk result (λ next. next.id ≡ position.id + plan_size plan.now) }
     ensures hands { HandsFrom (plan_steps plan.now position.first position.id) result (T.state sink.old) (T.state sink.new) }
 {
-    plan.derive(alloc, position.first, position.id, sink)?;
+    plan.derive(alloc, &position, sink)?;
     Ok(Position {
         first: position.first + plan.counts().fresh as u32,
         id: position.id + plan.size(),
@@ -61,10 +53,8 @@ fn derive_group<T: StepSink>(
 ) -> Result<Position, SinkFault>
     requires told { IfSome told (λ tells. IsToldOf options.now group.now tells.now) }
     requires sound { IsSound position.first group.now }
-    requires low { 1 ≤ position.first }
     requires fits { position.first + group_fresh options.now group.now ≤ 2 ^ 31 }
     requires counted { group_count options.now group.now ≤ 2 ^ 56 }
-    requires given { 1 ≤ position.id }
     requires known { position.id + group_size group.now ≤ (T.state sink.old).next }
     requires few { LeavesIds (group_steps options.now group.now position.first position.id) (T.state sink.old).next }
     ensures first { IfOk result (λ next. next.first ≡ position.first + group_fresh options.now group.now) }
@@ -75,15 +65,15 @@ fn derive_group<T: StepSink>(
     derive_plan(alloc, &plan, position, sink)
 }
 
-/// Hands over the derivations of all constraints, which stand under the ids from 1 on, and gives the first number after their fresh
-/// variables. Each constraint is planned anew, and nothing is kept but what one statement needs.
+/// Hands over the derivations of all constraints, which stand under the ids from 1 on, and gives where the next one stands. Each
+/// constraint is planned anew, and nothing is kept but what one statement needs.
 pub fn derive_loaded<T: StepSink>(
     alloc: Global,
     input: &Encodable<'_>,
     sink: &mut T,
-) -> Result<u32, SinkFault>
+) -> Result<Position, SinkFault>
     requires next { (T.state sink.old).next ≡ length (loaded_of input.now.problem.now) + 1 }
-    ensures first { IfOk result (λ first. first ≡ table_first input.now.options.now input.now.problem.now) }
+    ensures first { IfOk result (λ next. next.first ≡ table_first input.now.options.now input.now.problem.now) }
     ensures hands { HandsFrom (loaded_steps_from input.now.options.now input.now.problem.now) result (T.state sink.old) (T.state sink.new) }
 {
     let mut next = Position {
@@ -96,5 +86,5 @@ pub fn derive_loaded<T: StepSink>(
         let told = hints.next();
         next = derive_group(alloc, &group, input.options, told, next, sink)?;
     }
-    Ok(next.first)
+    Ok(next)
 }

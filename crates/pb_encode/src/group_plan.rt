@@ -10,6 +10,7 @@ ghost use Rattle.pb_encode.specs.inner.GroupPlans.{plan_clauses, plan_count, pla
 
 use crate::groups::Group;
 use crate::hints::Tells;
+use crate::position::Position;
 use pb_base::{NoMemory, Options};
 use pb_choice::{
     Counts, EqualPlan, Kept, Plan, plan, plan_adder, plan_adders, plan_equal, plan_kept,
@@ -142,44 +143,54 @@ impl GroupPlan<'_> {
         }
     }
 
-    /// Hands over the clauses, with the fresh variables from `first` on.
+    /// Hands over the clauses, with the fresh variables from `first` on, and gives the first number after these.
     pub fn emit<S: ClauseSink>(
         &self,
         alloc: Global,
         first: u32,
         sink: &mut S,
-    ) -> Result<(), SinkFault>
+    ) -> Result<u32, SinkFault>
         requires original { IsPlanBelow first self.now }
         requires low { 1 ≤ first }
         requires fits { first + plan_fresh self.now ≤ 2 ^ 31 }
-        ensures { HandsIfMemory (plan_clauses self.now first) result (S.state sink.old) (S.state sink.new) }
+        ensures next { IfOk result (λ next. next ≡ first + plan_fresh self.now) }
+        ensures hands { HandsIfMemory (plan_clauses self.now first) result (S.state sink.old) (S.state sink.new) }
     {
         match self {
-            GroupPlan::Alone(plan) => plan.emit(alloc, first, sink),
-            GroupPlan::Paired(plan) => plan.emit(alloc, first, sink),
+            GroupPlan::Alone(plan) => {
+                plan.emit(alloc, first, sink)?;
+                Ok(first + plan.counts().fresh as u32)
+            }
+            GroupPlan::Paired(plan) => {
+                plan.emit(alloc, first, sink)?;
+                Ok(first + plan.counts().fresh as u32)
+            }
         }
     }
 
-    /// Hands over the steps that derive these clauses from the constraints, which have the ids from `id` on.
+    /// Hands over the steps that derive these clauses from the constraints.
     pub fn derive<T: StepSink>(
         &self,
         alloc: Global,
-        first: u32,
-        id: u64,
+        position: &Position,
         sink: &mut T,
     ) -> Result<(), SinkFault>
-        requires original { IsPlanBelow first self.now }
-        requires low { 1 ≤ first }
-        requires fits { first + plan_fresh self.now ≤ 2 ^ 31 }
+        requires original { IsPlanBelow position.now.first self.now }
+        requires fits { position.now.first + plan_fresh self.now ≤ 2 ^ 31 }
         requires counted { plan_count self.now ≤ 2 ^ 56 }
-        requires given { 1 ≤ id }
-        requires known { id + plan_size self.now ≤ (T.state sink.old).next }
-        requires few { LeavesIds (plan_steps self.now first id) (T.state sink.old).next }
-        ensures { HandsFrom (plan_steps self.now first id) result (T.state sink.old) (T.state sink.new) }
+        requires known { position.now.id + plan_size self.now ≤ (T.state sink.old).next }
+        requires few { LeavesIds (plan_steps self.now position.now.first position.now.id) (T.state sink.old).next }
+        ensures { HandsFrom (plan_steps self.now position.now.first position.now.id) result (T.state sink.old) (T.state sink.new) }
     {
         match self {
-            GroupPlan::Alone(plan) => plan.derive(alloc, first, id, sink),
-            GroupPlan::Paired(plan) => plan.derive(alloc, first, id, id + 1, sink),
+            GroupPlan::Alone(plan) => plan.derive(alloc, position.first, position.id, sink),
+            GroupPlan::Paired(plan) => plan.derive(
+                alloc,
+                position.first,
+                position.id,
+                position.id + 1,
+                sink,
+            ),
         }
     }
 }

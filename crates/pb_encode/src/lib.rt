@@ -14,6 +14,7 @@ mod hints;
 mod measuring;
 mod models;
 mod objective;
+mod position;
 mod streaming;
 mod summary;
 mod table;

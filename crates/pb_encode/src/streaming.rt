@@ -4,33 +4,15 @@ ghost use Rattle.pb_family.specs.Handing.{HandsIfMemory};
 ghost use Rattle.pb_encode.specs.Clauses.{loaded_clauses, table_first};
 ghost use Rattle.pb_encode.specs.Groups.{group_clauses, group_fresh};
 ghost use Rattle.pb_encode.specs.inner.Hints.{IsToldOf};
-ghost use Rattle.pb_encode.specs.inner.GroupPlans.{plan_clauses, plan_fresh, IsPlanBelow, IsSound};
+ghost use Rattle.pb_encode.specs.inner.GroupPlans.{IsSound};
 
 use crate::encodable::Encodable;
-use crate::group_plan::{GroupPlan, plan_group};
+use crate::group_plan::plan_group;
 use crate::groups::{Group, Groups};
 use crate::hints::{HintsLeft, Tells};
 use pb_base::Options;
 use pb_family::{ClauseSink, SinkFault};
 use std::alloc::Global;
-
-// Hands over the clauses of a group by its plan, and gives the first number after its fresh variables. It only looks at the plan:
-// each way out of a function that owns one makes the proof of that function much longer.
-fn stream_plan<S: ClauseSink>(
-    alloc: Global,
-    plan: &GroupPlan<'_>,
-    first: u32,
-    sink: &mut S,
-) -> Result<u32, SinkFault>
-    requires below { IsPlanBelow first plan.now }
-    requires low { 1 ≤ first }
-    requires fits { first + plan_fresh plan.now ≤ 2 ^ 31 }
-    ensures next { IfOk result (λ next. next ≡ first + plan_fresh plan.now) }
-    ensures hands { HandsIfMemory (plan_clauses plan.now first) result (S.state sink.old) (S.state sink.new) }
-{
-    plan.emit(alloc, first, sink)?;
-    Ok(first + plan.counts().fresh as u32)
-}
 
 // Hands over the clauses of a group, and gives the first number after its fresh variables.
 fn stream_group<S: ClauseSink>(
@@ -49,7 +31,7 @@ fn stream_group<S: ClauseSink>(
     ensures hands { HandsIfMemory (group_clauses options.now group.now first) result (S.state sink.old) (S.state sink.new) }
 {
     let plan = plan_group(alloc, group, options, told)?;
-    stream_plan(alloc, &plan, first, sink)
+    plan.emit(alloc, first, sink)
 }
 
 /// Hands over the clauses of all constraints, of which nothing is kept but what one statement needs, and gives the first number after

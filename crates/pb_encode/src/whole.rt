@@ -112,8 +112,8 @@ fn derive_clauses<T: StepSink>(
     requires next { (T.state sink.old).next ≡ length (loaded_of input.now.problem.now) + 1 }
     ensures { HandsFrom (steps_at_next input.now.options.now input.now.problem.now) result (T.state sink.old) (T.state sink.new) }
 {
-    let first = derive_loaded(alloc, input, sink)?;
-    derive_table(alloc, input, first, sink)
+    let next = derive_loaded(alloc, input, sink)?;
+    derive_table(alloc, input, next.first, sink)
 }
 
 /// Hands over the derivation of a problem's clauses, whole.

@@ -24,12 +24,10 @@ Suits t m = ⊥
 
 -- the same of what is left
 abbrev pub RestSuits : Treatment → Rest → Type 0
-RestSuits t rest.Nothing = Unit {0}
-RestSuits t rest.Empty = Unit {0}
-RestSuits t (rest.Clause ls) = Unit {0}
 RestSuits t (rest.One m) = Suits t m
 RestSuits t (rest.Card m) = Suits t m
 RestSuits t (rest.General m) = Suits t m
+RestSuits t other = Unit {0}
 
 -- what the derivation of its clauses asks
 pub record IsDerivable (t : Treatment) (m : BoundedSum) : Type 0 where

@@ -7,7 +7,7 @@ use Rattle.pb_derive.specs.Derivations.{Derives, IsReadyFor}
 use Rattle.pb_derive.specs.Short.{AreShort}
 use Rattle.pb_family.specs.Derivations.{AreOriginal, MayStart}
 use Rattle.pb_family.specs.Families.{VarsBelow}
-use Rattle.pb_amo.specs.laws.PairwiseDerivation.{pairwise_derives, pairwise_few}
+use Rattle.pb_amo.specs.laws.PairwiseDerives.{pairwise_derives, pairwise_few}
 use Rattle.pb_amo.specs.laws.PairwiseShort.{pairwise_sayable, pairwise_short}
 use Rattle.pb_amo.specs.laws.LadderDerives.{ladder_derives, ladder_few}
 use Rattle.pb_amo.specs.laws.LadderShort.{ladder_sayable, ladder_short}

@@ -12,7 +12,7 @@ use Rattle.pb_choice.specs.contracts.treatment.Treatment as treatment
 use Rattle.pb_choice.specs.declared.residual.Residual.{Residual}
 use Rattle.pb_choice.specs.Choice.{IsSentToAdder}
 use Rattle.pb_choice.specs.Equals.{is_joint}
-use Rattle.pb_choice.specs.inner.Residual.{IsLeft}
+use Rattle.pb_choice.specs.Residual.{IsLeft}
 use Rattle.pb_encode.specs.declared.groups.Group.{Group}
 use Rattle.pb_encode.specs.declared.groups.Group.TheVariants.{Alone, Paired}
 use Rattle.pb_encode.specs.declared.hints.Hint.{Hint}

@@ -18,8 +18,18 @@ returns-in_err-derive g c =
     steps_fault c.from_residual.result _ front (plan_steps u (c.args.first + plan_fresh l) c.args.ids.high (old.next + count_by takes_id front)) (g.T.StepSink.state c.derive.new.sink) c.from_residual.ensures.1
     (deriving_starts (halves_steps l u c.args.first c.args.ids.low c.args.ids.high old.next) old) c.in_err-derive.ensures
 
-pub derive-requires-clause-few : goal.derive-requires-clause-few
-derive-requires-clause-few g c = omega (arith, c.requires.few)
+pub derive-requires : goal.derive-requires
+derive-requires g c =
+    let r = c.requires.ready in
+    record {
+      original = r.emits.original.0;
+      low = r.emits.from;
+      fits = omega (arith, r.emits.fits);
+      clauses = omega (arith, r.clauses);
+      given = r.low_given;
+      known = r.low_known;
+      few = omega (arith, r.few);
+    }
 
 pub derive-requires-2 : goal.derive-requires-2
 derive-requires-2 g c =
@@ -29,13 +39,13 @@ derive-requires-2 g c =
     let ids = c.in_ok-derive.ensures.ids in
     let fresh = c.counts.ensures.fresh in
     record {
-      original = All-weaker (λ (t : Weighted). t.lit.var < c.args.first) (λ (t : Weighted). t.lit.var < c.args.first + c.counts.result.fresh) (λ t h. omega (arith, h)) u.constraint.now.terms c.requires.upper_original;
-      low = omega (arith, c.requires.from);
-      fits = omega (arith, fresh, c.requires.fits);
-      clauses = omega (arith, c.requires.clauses);
-      given = c.requires.high_given;
-      known = omega (arith, ids, c.requires.high_known);
-      few = omega (arith, ids, halves_ids l u c.args.first c.args.ids.low c.args.ids.high old.next, c.requires.few);
+      original = All-weaker (λ (t : Weighted). t.lit.var < c.args.first) (λ (t : Weighted). t.lit.var < c.args.first + c.counts.result.fresh) (λ t h. omega (arith, h)) u.constraint.now.terms c.requires.ready.emits.original.1;
+      low = omega (arith, c.requires.ready.emits.from);
+      fits = omega (arith, fresh, c.requires.ready.emits.fits);
+      clauses = omega (arith, c.requires.ready.clauses);
+      given = c.requires.ready.high_given;
+      known = omega (arith, ids, c.requires.ready.high_known);
+      few = omega (arith, ids, halves_ids l u c.args.first c.args.ids.low c.args.ids.high old.next, c.requires.ready.few);
     }
 
 pub returns : goal.returns

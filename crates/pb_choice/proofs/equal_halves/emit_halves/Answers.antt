@@ -14,9 +14,15 @@ returns-in_err-emit g c =
     stops_fault c.from_residual.result _ (plan_clauses l c.args.first) (plan_clauses u (c.args.first + plan_fresh l)) _ c.from_residual.ensures.1
     (emitting_starts (halves_clauses l u c.args.first) (g.S.ClauseSink.state c.args.sink.now)) c.in_err-emit.ensures
 
-pub emit-requires-2-clause-original : goal.emit-requires-2-clause-original
-emit-requires-2-clause-original g c =
-    All-weaker (λ (t : Weighted). t.lit.var < c.args.first) (λ (t : Weighted). t.lit.var < c.args.first + c.counts.result.fresh) (λ t h. omega (arith, h)) c.args.upper.now.constraint.now.terms c.requires.upper_original
+pub emit-requires : goal.emit-requires
+emit-requires g c = record { original = c.requires.ready.original.0; low = c.requires.ready.from; fits = omega (arith, c.requires.ready.fits) }
+
+pub emit-requires-2 : goal.emit-requires-2
+emit-requires-2 g c = record {
+  original = All-weaker (λ (t : Weighted). t.lit.var < c.args.first) (λ (t : Weighted). t.lit.var < c.args.first + c.counts.result.fresh) (λ t h. omega (arith, h)) c.args.upper.now.constraint.now.terms c.requires.ready.original.1;
+  low = omega (arith, c.requires.ready.from);
+  fits = omega (arith, c.counts.ensures.fresh, c.requires.ready.fits);
+}
 
 pub returns : goal.returns
 returns g c =

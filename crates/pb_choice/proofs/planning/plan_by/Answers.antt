@@ -3,7 +3,7 @@ use Rattle.pb_norm.specs.declared.reduction.Reduced.{Reduced}
 use Rattle.pb_norm.specs.declared.reduction.Rest.{Rest}
 use Rattle.pb_norm.specs.Constraints.{weight}
 use Rattle.pb_norm.specs.Reduction.{rest_of}
-use Rattle.pb_choice.specs.inner.Residual.{rest_terms}
+use Rattle.pb_choice.specs.Residual.{rest_terms}
 use Rattle.pb_choice.proofs.RestTerms.{rest_light}
 use Rattle.pb_choice.proofs.planning.plan_by.Goals as goal
 

@@ -3,7 +3,7 @@ use Rattle.std.specs.Prelude.{IfOk}
 use Rattle.pb_steps.specs.declared.step.Step.{Step}
 use Rattle.pb_family.specs.StepSinks.{HandsSteps}
 use Rattle.pb_family.proofs.Deriving.{steps_lack_first}
-use Rattle.pb_encode.specs.declared.derivation.Position.{Position}
+use Rattle.pb_encode.specs.declared.position.Position.{Position}
 use Rattle.pb_encode.proofs.GroupParts.{parts_of}
 use Rattle.pb_encode.proofs.StepPositions.{ids_in}
 use Rattle.pb_encode.proofs.derivation.derive_group.Goals as goal
@@ -18,10 +18,8 @@ derive_plan-requires g c =
     let ids = ap ids_in (parts.steps_are position.first position.id (g.T.StepSink.state c.args.sink.now).next) in
     record {
       below = parts.below position.first c.requires.sound.below;
-      low = c.requires.low;
       fits = omega (arith, c.requires.fits, parts.fresh_is);
       counted = omega (arith, c.requires.counted, parts.count_is);
-      given = c.requires.given;
       known = omega (arith, c.requires.known, parts.size_is);
       few = omega (arith, c.requires.few, ids);
     }

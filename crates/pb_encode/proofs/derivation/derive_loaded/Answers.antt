@@ -38,10 +38,8 @@ derive_group-requires g c =
     record {
       told = c.next-told.ensures.told c.args.input.now.options.now (groups_of c.args.input.now.problem.now) c.next.new.self c.in-Some.group (gone_here c.in-Some.group c.next.new.self parts l.invariant.gone) l.invariant.told;
       sound = ready.sound;
-      low = omega (arith, l.invariant.turns.later);
       fits = ready.fits;
       counted = ready.counted;
-      given = omega (arith, l.invariant.turns.known);
       known = ready.known;
       few = ready.few;
     }
@@ -61,3 +59,6 @@ loop-groups-preserved g c =
       gone = gone_more c.in-Some.group c.next.new.self parts c.loop-groups.invariant.gone c.next-told.new.self.place c.next-told.ensures.next;
       told = c.next-told.ensures.left c.args.input.now.options.now (groups_of c.args.input.now.problem.now) c.loop-groups.invariant.told;
     }
+
+pub invariant_of-next : goal.invariant_of-next
+invariant_of-next g c = record { low = omega (arith, c.loop-groups.invariant.turns.later); given = omega (arith, c.loop-groups.invariant.turns.known) }

@@ -6,9 +6,10 @@ use Rattle.pb_encode.proofs.Hinting.{Gone}
 use Rattle.pb_encode.proofs.StepPositions.{Positions}
 use Rattle.pb_encode.proofs.derivation.derive_loaded.Given as goal
 
+-- the fields of the position stand apart there: its first variable, and then its id
 abbrev pub invariant-loop-groups : goal.invariant-loop-groups
 invariant-loop-groups g l = record {
-  turns : Positions l.input.options.now (originals l.input.problem.now + 1) 1 (groups_of l.input.problem.now) l.groups l.next.first l.next.id (g.T.StepSink.state l.initial.sink) (g.T.StepSink.state l.sink);
+  turns : Positions l.input.options.now (originals l.input.problem.now + 1) 1 (groups_of l.input.problem.now) l.groups l.next.0 l.next.1.0 (g.T.StepSink.state l.initial.sink) (g.T.StepSink.state l.sink);
   gone : Gone (groups_of l.input.problem.now) l.groups l.hints.place;
   told : AreHintsOf l.input.options.now (groups_of l.input.problem.now) l.hints.hints.now;
 }

@@ -10,14 +10,14 @@ use Rattle.pb_encode.proofs.streaming.stream_group.Goals as goal
 pub returns-in_err-plan-clause-hands : goal.returns-in_err-plan-clause-hands
 returns-in_err-plan-clause-hands g c = stops_between c.from_residual.result c.from_residual.ensures.1 (emitting_starts _ _)
 
-pub stream_plan-requires-clause-below : goal.stream_plan-requires-clause-below
-stream_plan-requires-clause-below g c = (parts_of c.args.options.now c.args.group.now c.in_ok-plan.plan c.in_ok-plan.ensures).below c.args.first c.requires.sound.below
+pub emit-requires-clause-original : goal.emit-requires-clause-original
+emit-requires-clause-original g c = (parts_of c.args.options.now c.args.group.now c.in_ok-plan.plan c.in_ok-plan.ensures).below c.args.first c.requires.sound.below
 
 pub returns-clause-next : goal.returns-clause-next
 returns-clause-next g c =
-    subst (λ (n : ℕ). IfOk c.stream_plan.result (λ next. next ≡ c.args.first + n)) (parts_of c.args.options.now c.args.group.now c.in_ok-plan.plan c.in_ok-plan.ensures).fresh_is c.stream_plan.ensures.next
+    subst (λ (n : ℕ). IfOk c.emit.result (λ next. next ≡ c.args.first + n)) (parts_of c.args.options.now c.args.group.now c.in_ok-plan.plan c.in_ok-plan.ensures).fresh_is c.emit.ensures.next
 
 pub returns-clause-hands : goal.returns-clause-hands
 returns-clause-hands g c =
-    subst (λ (ls : List (List Lit)). HandsIfMemory ls c.stream_plan.result (g.S.ClauseSink.state c.args.sink.now) (g.S.ClauseSink.state c.stream_plan.new.sink))
-    ((parts_of c.args.options.now c.args.group.now c.in_ok-plan.plan c.in_ok-plan.ensures).clauses_are c.args.first) c.stream_plan.ensures.hands
+    subst (λ (ls : List (List Lit)). HandsIfMemory ls c.emit.result (g.S.ClauseSink.state c.args.sink.now) (g.S.ClauseSink.state c.emit.new.sink))
+    ((parts_of c.args.options.now c.args.group.now c.in_ok-plan.plan c.in_ok-plan.ensures).clauses_are c.args.first) c.emit.ensures.hands

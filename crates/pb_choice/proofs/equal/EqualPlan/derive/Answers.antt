@@ -1,20 +1,17 @@
-use Rattle.std.proofs.Common.{ap, sym, subst, arith}
+use Rattle.std.proofs.Common.{sym, subst}
 use Rattle.pb_family.specs.StepSinks.{HandsFrom}
 use Rattle.pb_choice.specs.declared.equal.EqualPlan.{EqualPlan}
-use Rattle.pb_choice.specs.Readiness.{LeavesIds}
-use Rattle.pb_choice.specs.EqualPlans.{IsPlannedBelow, planned_count, planned_fresh, planned_steps}
+use Rattle.pb_choice.specs.EqualPlans.{planned_steps}
+use Rattle.pb_choice.specs.inner.Ready.{MayDerive, MayEmit}
 use Rattle.pb_choice.proofs.equal.EqualPlan.derive.Goals as goal
 
 pub derive_joint-requires : goal.derive_joint-requires
 derive_joint-requires g c =
-    let old = g.T.StepSink.state c.args.sink.now in
-    record {
-      original = subst (IsPlannedBelow c.args.first) c.in-Joint.is c.requires.original;
-      from = c.requires.from;
-      fits = omega (arith, c.requires.fits, ap planned_fresh c.in-Joint.is);
-      given = omega (arith, c.requires.low_given, c.requires.low_known);
-      few = subst (λ (p : EqualPlan). LeavesIds (planned_steps p c.args.first c.args.low c.args.high) old.next) c.in-Joint.is c.requires.few;
-    }
+    let r = c.requires in
+    let emits : MayEmit c.args.first c.args.self.now = record { original = r.original; from = r.from; fits = r.fits } in
+    let all : MayDerive c.args.first c.args.low c.args.high (g.T.StepSink.state c.args.sink.now).next c.args.self.now =
+    record { emits = emits; clauses = r.clauses; low_given = r.low_given; low_known = r.low_known; high_given = r.high_given; high_known = r.high_known; few = r.few } in
+    record { ready = subst (MayDerive c.args.first c.args.low c.args.high (g.T.StepSink.state c.args.sink.now).next) c.in-Joint.is all }
 
 pub returns-in-Joint : goal.returns-in-Joint
 returns-in-Joint g c =
@@ -24,20 +21,11 @@ returns-in-Joint g c =
 
 pub derive_halves-requires : goal.derive_halves-requires
 derive_halves-requires g c =
-    let old = g.T.StepSink.state c.args.sink.now in
-    let below = subst (IsPlannedBelow c.args.first) c.in-Split.is c.requires.original in
-    record {
-      lower_original = below.0;
-      upper_original = below.1;
-      from = c.requires.from;
-      fits = omega (arith, c.requires.fits, ap planned_fresh c.in-Split.is);
-      clauses = omega (arith, c.requires.clauses, ap planned_count c.in-Split.is);
-      low_given = c.requires.low_given;
-      low_known = c.requires.low_known;
-      high_given = c.requires.high_given;
-      high_known = c.requires.high_known;
-      few = subst (λ (p : EqualPlan). LeavesIds (planned_steps p c.args.first c.args.low c.args.high) old.next) c.in-Split.is c.requires.few;
-    }
+    let r = c.requires in
+    let emits : MayEmit c.args.first c.args.self.now = record { original = r.original; from = r.from; fits = r.fits } in
+    let all : MayDerive c.args.first c.args.low c.args.high (g.T.StepSink.state c.args.sink.now).next c.args.self.now =
+    record { emits = emits; clauses = r.clauses; low_given = r.low_given; low_known = r.low_known; high_given = r.high_given; high_known = r.high_known; few = r.few } in
+    record { ready = subst (MayDerive c.args.first c.args.low c.args.high (g.T.StepSink.state c.args.sink.now).next) c.in-Split.is all }
 
 pub returns-in-Split : goal.returns-in-Split
 returns-in-Split g c =

@@ -2,6 +2,7 @@ use Rattle.std.proofs.Common.{ap, sym, subst, arith}
 use Rattle.pb_family.specs.Handing.{HandsIfMemory}
 use Rattle.pb_choice.specs.declared.equal.EqualPlan.{EqualPlan}
 use Rattle.pb_choice.specs.EqualPlans.{IsPlannedBelow, planned_clauses, planned_fresh}
+use Rattle.pb_choice.specs.inner.Ready.{MayEmit}
 use Rattle.pb_choice.proofs.equal.EqualPlan.emit.Goals as goal
 
 pub emit-requires : goal.emit-requires
@@ -19,8 +20,8 @@ returns-in-Joint g c =
 
 pub emit_halves-requires : goal.emit_halves-requires
 emit_halves-requires g c =
-    let below = subst (IsPlannedBelow c.args.first) c.in-Split.is c.requires.original in
-    record { lower_original = below.0; upper_original = below.1; from = c.requires.low; fits = omega (arith, c.requires.fits, ap planned_fresh c.in-Split.is) }
+    let all : MayEmit c.args.first c.args.self.now = record { original = c.requires.original; from = c.requires.low; fits = c.requires.fits } in
+    record { ready = subst (MayEmit c.args.first) c.in-Split.is all }
 
 pub returns-in-Split : goal.returns-in-Split
 returns-in-Split g c =

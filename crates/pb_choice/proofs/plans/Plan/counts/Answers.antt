@@ -1,5 +1,5 @@
 use Rattle.std.proofs.Common.{◌<◌, ◌^◌, ap, length, arith}
-use Rattle.pb_choice.specs.inner.Residual.{left_terms}
+use Rattle.pb_choice.specs.Residual.{left_terms}
 use Rattle.pb_choice.proofs.FamilyCounts.{left_fresh_small, left_small}
 use Rattle.pb_choice.proofs.RestTerms.{rest_short, units_short}
 use Rattle.pb_choice.proofs.plans.Plan.counts.Goals as goal

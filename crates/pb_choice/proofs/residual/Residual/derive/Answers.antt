@@ -3,7 +3,7 @@ use Rattle.pb_family.specs.StepSinks.{TakesSteps}
 use Rattle.pb_family.proofs.Deriving.{steps_lack_first, takes_no_steps}
 use Rattle.pb_choice.specs.declared.residual.Residual.{Residual}
 use Rattle.pb_choice.specs.Reducing.{reduction}
-use Rattle.pb_choice.specs.inner.Residual.{left_steps}
+use Rattle.pb_choice.specs.Residual.{left_steps}
 use Rattle.pb_choice.proofs.residual.Residual.derive.Goals as goal
 
 pub returns-in_err-step-in-Sum : goal.returns-in_err-step-in-Sum

@@ -1,5 +1,5 @@
 -- What is left of a constraint, as a plan keeps it. Our own.
-use Rattle.std.specs.Prelude.{◌≡◌, ℕ, List, [], ◌∷◌}
+use Rattle.std.specs.Prelude.{◌≡◌, ℕ, List, []}
 use Rattle.pb_base.specs.declared.literal.Lit.{Lit}
 use Rattle.pb_norm.specs.declared.reduction.Rest.{Rest}
 use Rattle.pb_norm.specs.declared.reduction.Rest.TheVariants as rest
@@ -11,10 +11,9 @@ use Rattle.pb_base.specs.declared.options.Options.{Options}
 use Rattle.pb_choice.specs.declared.treatment.Treatment.{Treatment}
 use Rattle.pb_choice.specs.declared.treatment.Treatment.TheVariants as treatment
 use Rattle.pb_choice.specs.Choice.{treatment_of}
-use Rattle.pb_choice.specs.inner.Chosen.{sum_at, treatment_at}
-use Rattle.pb_choice.specs.Clauses.{rest_clauses, rest_count, rest_fresh}
-use Rattle.pb_choice.specs.ConstraintSteps.{clause_steps, reduced_steps, rest_steps}
-use Rattle.pb_choice.specs.Sums.{sum_clauses, sum_count, sum_fresh}
+use Rattle.pb_choice.specs.Chosen.{sum_at, treatment_at}
+use Rattle.pb_choice.specs.Clauses.{by_rest, rest_clauses, rest_count, rest_fresh}
+use Rattle.pb_choice.specs.ConstraintSteps.{rest_steps}
 
 abbrev pub left_treatment : Residual → Treatment
 left_treatment Nothing = treatment.Nothing
@@ -22,38 +21,31 @@ left_treatment Empty = treatment.Empty
 left_treatment (Clause ls) = treatment.Clause
 left_treatment (Sum f) = treatment_at f
 
+-- as a rest; of which class its sum is makes no difference to what is asked below
+abbrev pub left_rest : Residual → Rest
+left_rest Nothing = rest.Nothing
+left_rest Empty = rest.Empty
+left_rest (Clause ls) = rest.Clause ls
+left_rest (Sum f) = rest.General (sum_at f)
+
 abbrev pub left_clauses : Residual → ℕ → List (List Lit)
-left_clauses Nothing first = []
-left_clauses Empty first = [] ∷ []
-left_clauses (Clause ls) first = ls ∷ []
-left_clauses (Sum f) first = sum_clauses (treatment_at f) (sum_at f) first
+left_clauses l first = rest_clauses (left_treatment l) (left_rest l) first
 
 abbrev pub left_fresh : Residual → ℕ
-left_fresh (Sum f) = sum_fresh (treatment_at f) (sum_at f)
-left_fresh other = 0
+left_fresh l = rest_fresh (left_treatment l) (left_rest l)
 
 abbrev pub left_count : Residual → ℕ
-left_count Nothing = 0
-left_count Empty = 1
-left_count (Clause ls) = 1
-left_count (Sum f) = sum_count (treatment_at f) (sum_at f)
+left_count l = rest_count (left_treatment l) (left_rest l)
 
 abbrev pub left_steps : Step → Residual → ℕ → ℕ → ℕ → List Step
-left_steps reduces Nothing first id next = []
-left_steps reduces Empty first id next = clause_steps id next []
-left_steps reduces (Clause ls) first id next = clause_steps id next ls
-left_steps reduces (Sum f) first id next = reduced_steps reduces (treatment_at f) (sum_at f) first next
+left_steps reduces l first id next = rest_steps reduces (left_treatment l) (left_rest l) first id next
 
 -- the terms of the sum, if it is one
-abbrev pub left_terms : Residual → List Weighted
-left_terms (Sum f) = (sum_at f).terms
-left_terms other = []
-
 abbrev pub rest_terms : Rest → List Weighted
-rest_terms (rest.One m) = m.terms
-rest_terms (rest.Card m) = m.terms
-rest_terms (rest.General m) = m.terms
-rest_terms other = []
+rest_terms r = by_rest [] [] (λ ls. []) (λ m. m.terms) r
+
+abbrev pub left_terms : Residual → List Weighted
+left_terms l = rest_terms (left_rest l)
 
 -- it is this rest, treated as it is to be
 pub record IsLeft (o : Options) (r : Rest) (left : Residual) : Type 0 where
