@@ -85,7 +85,6 @@ module _ (o : CommandSpec) {most : ℕ} (a b d : DeskState) (goes : Goes (length
     ends = omega (arith, implements.ends, goes.ends);
     counts = counts_after answer implements.counts;
     unsettled = implements.unsettled;
-    causes = λ steady.
-        let causes = implements.causes (goes.adds.steady ∙ steady) in
-        record { reads = λ e. lacks_text_was (causes.reads e); writes = λ e. lacks_space_was (causes.writes e) };
+    no_text = λ steady is. lacks_text_was (implements.no_text (goes.adds.steady ∙ steady) is);
+    no_space = λ steady is. lacks_space_was (implements.no_space (goes.adds.steady ∙ steady) is);
   }

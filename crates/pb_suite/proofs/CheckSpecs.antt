@@ -1,5 +1,5 @@
 -- How going through a CNF and a derivation side by side ends a command that is to do so.
-use Rattle.std.proofs.Common.{◌≡◌, ◌≢◌, List, [], ◌∷◌, ℕ, Option, Some, None, Ok, Err, inl, inr, refl, sym, subst, ◌≤◌, ◌<◌, length, arith, ◌+◌, ◌∙◌, ap, drop, false, take}
+use Rattle.std.proofs.Common.{◌≡◌, ◌≢◌, List, [], ◌∷◌, ℕ, Option, Some, None, Ok, Err, codes, inl, inr, refl, sym, subst, ◌≤◌, ◌<◌, length, arith, ◌+◌, ◌∙◌, ap, drop, false, take}
 use Rattle.std.specs.Prelude.{◌⊎◌, Contains, IfSome, IsSome, IsTrue}
 use Rattle.std.specs.Option.{unwrap_or}
 use Rattle.pb_base.specs.declared.expected.Expected.TheVariants.{PLine}
@@ -20,15 +20,15 @@ use Rattle.pb_check.specs.Walk.{Walk}
 use Rattle.pb_words.specs.CheckWords.{CheckWords}
 use Rattle.pb_suite.specs.declared.outcome.Outcome.{Outcome}
 use Rattle.pb_suite.specs.declared.outcome.Outcome.TheVariants as outcome
-use Rattle.pb_suite.specs.Implementing.{ImplementsWithin, KeepsReading}
+use Rattle.pb_suite.specs.Implementing.{ImplementsWithin}
 use Rattle.pb_suite.specs.Outputs.{nothing, only_words}
 use Rattle.pb_suite.specs.CommandSpec.{HasKind, CommandSpec, Shelf, Text, taken_in}
-use Rattle.pb_suite.specs.CheckSpec.{accepted_line, check_spec, IsJudged, IsUnjudged, StopsCheck}
+use Rattle.pb_suite.specs.CheckSpec.{check_spec, IsJudged, IsUnjudged, StopsCheck}
 use Rattle.pb_suite.specs.CheckSpec.StopsCheck.{token, limit, denial, lacking}
 use Rattle.pb_suite.specs.Denoted.{IsDenoted}
 use Rattle.pb_suite.specs.inner.Opening.{opened_both, HasBoth, StopsOpening}
 use Rattle.pb_suite.specs.inner.Opening.StopsOpening.{no_cnf, no_proof}
-use Rattle.pb_suite.specs.inner.Runs.{check_refusal}
+use Rattle.pb_suite.specs.inner.Runs.{check_refusal, KeepsReading}
 use Rattle.pb_suite.specs.inner.Saying.{EndsSaying}
 use Rattle.pb_suite.proofs.Afterwards.{implements_after}
 use Rattle.pb_suite.proofs.Endings.{always, bare_memory, is_refused, is_unread, within_more, IsOpenIn}
@@ -82,7 +82,7 @@ module _ (w : CheckWords) where
 
   -- the two texts as a desk tells what was taken of them
   abbrev pub UnjudgedIn : View → Told → Type 0
-  UnjudgedIn v t = IsUnjudged t.shelf w (taken_in v t 1 w.cnf) (taken_in v t 2 w.proof)
+  UnjudgedIn v t = IsUnjudged t.shelf w (taken_in v t)
 
   -- neither text was opened
   pub unbegun_all : (b : DeskState) → b.view.reading 1 ≡ false → b.view.reading 2 ≡ false → IfTold b (UnjudgedIn b.view)
@@ -170,13 +170,13 @@ module _ (w : CheckWords) (p : Problem) (d e : DeskState) (denoted : IfTold d (�
       (told_more d _ _ (λ t judged. checks.stops t.shelf _ (denial line denied judged)) (judged_so (Ok (Rejected line denied)) takes))
 
   -- all is allowed
-  accepted_due : Goes 3 2 nothing d e → TakesBoth 1 2 (λ c q. Walk p c q (Ok Accepted)) d e → IfTold e (λ t. (check_spec w).done t.shelf (only_words accepted_line))
-  accepted_due goes takes = shelf_is_if d e goes (λ shelf. (check_spec w).done shelf (only_words accepted_line)) (told_more d _ _ (λ t judged. (judged, refl)) (judged_so (Ok Accepted) takes))
+  accepted_due : Goes 3 2 nothing d e → TakesBoth 1 2 (λ c q. Walk p c q (Ok Accepted)) d e → IfTold e (λ t. (check_spec w).done t.shelf (only_words (codes "accepted\n")))
+  accepted_due goes takes = shelf_is_if d e goes (λ shelf. (check_spec w).done shelf (only_words (codes "accepted\n"))) (told_more d _ _ (λ t judged. (judged, refl)) (judged_so (Ok Accepted) takes))
 
-  pub accepted_implements : (f : DeskState) → (IsSteady e → IsSome e.view.told) → TakesBoth 1 2 (λ c q. Walk p c q (Ok Accepted)) d e → (answer : Outcome) → EndsSaying accepted_line e f answer → ImplementsWithin (check_spec w) 2 d f answer
+  pub accepted_implements : (f : DeskState) → (IsSteady e → IsSome e.view.told) → TakesBoth 1 2 (λ c q. Walk p c q (Ok Accepted)) d e → (answer : Outcome) → EndsSaying (codes "accepted\n") e f answer → ImplementsWithin (check_spec w) 2 d f answer
   accepted_implements f tells takes answer ends =
       let goes = goes_both 3 _ takes in
-      implements_after (check_spec w) d e f goes answer (saying_implements (check_spec w) accepted_line e f tells (accepted_due goes takes) answer ends)
+      implements_after (check_spec w) d e f goes answer (saying_implements (check_spec w) (codes "accepted\n") e f tells (accepted_due goes takes) answer ends)
 
 -- ---- from before the two files were opened
 

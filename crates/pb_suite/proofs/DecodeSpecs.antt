@@ -23,9 +23,10 @@ use Rattle.pb_suite.specs.Implementing.{ImplementsWithin}
 use Rattle.pb_suite.specs.Outputs.{nothing, only_words}
 use Rattle.pb_suite.specs.CommandSpec.{Text, taken_in}
 use Rattle.pb_suite.specs.DecodeSpec.{decode_spec, ComesTo, IsAnswered, StopsDecode}
-use Rattle.pb_suite.specs.DecodeSpec.StopsDecode.{bad_model, no_model, violated, lacking}
+use Rattle.pb_suite.specs.DecodeSpec.StopsDecode.{no_model, unanswered, violated}
 use Rattle.pb_suite.specs.Denoted.{IsDenoted}
 use Rattle.pb_suite.specs.Refusals.{RefusesModel}
+use Rattle.pb_suite.specs.Refusals.IsUnread.{lacks as absent, refuses as refusal}
 use Rattle.pb_suite.specs.inner.Runs.{HasText, StopsReading}
 use Rattle.pb_suite.proofs.Endings.{is_refused}
 use Rattle.pb_suite.proofs.Going.{shelf_is_if, Goes}
@@ -74,9 +75,9 @@ module _ (w : DecodeWords) (p : Problem) where
   pub no_answer_implements : (b d : DeskState) → IfTold b (λ t. IsDenoted t.shelf w.opb w.bound p) → (answer : Outcome) → StopsReading ModelText 1 w.model (RefusesModel p.vars) b d answer
       → (IsSteady b → answer ≡ outcome.ReadFault → IsTold b (λ t. IsNone (t.shelf w.model))) → ImplementsWithin (decode_spec w) 1 b d answer
   no_answer_implements b d denoted answer stops lacks =
-      reading_ends (decode_spec w) 1 model_text (omega arith) has_model_text (inr (inl refl)) (RefusesModel p.vars) b d (told_none_of b (λ shelf. shelf w.model) (λ shelf. StopsDecode shelf w outcome.ReadFault) (λ shelf. IsDenoted shelf w.opb w.bound p) (λ shelf is none. lacking p is none) denoted)
+      reading_ends (decode_spec w) 1 model_text (omega arith) has_model_text (inr (inl refl)) (RefusesModel p.vars) b d (told_none_of b (λ shelf. shelf w.model) (λ shelf. StopsDecode shelf w outcome.ReadFault) (λ shelf. IsDenoted shelf w.opb w.bound p) (λ shelf is none. unanswered p _ is (absent none)) denoted)
       (λ answer found. both_told b (λ t. IsDenoted t.shelf w.opb w.bound p) (λ t. (text : List ℕ) × (t.shelf w.model ≡ Some text) × RefusesModel p.vars text answer) (λ t. StopsDecode t.shelf w answer)
-      (λ t is refused. bad_model p refused.0 answer is refused.1 refused.2) denoted found)
+      (λ t is found. unanswered p answer is (refusal found.0 answer found.1 found.2)) denoted found)
       answer stops lacks (λ e keeps shelf. told_more d (λ t. IsDenoted t.shelf w.opb w.bound p) (λ t. (decode_spec w).leaves_open t.shelf (taken_in d.view t)) (λ t is. inr (p, is)) (shelf (λ s. IsDenoted s w.opb w.bound p) denoted))
 
 -- what is told of a text that is too long

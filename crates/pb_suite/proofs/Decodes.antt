@@ -25,25 +25,20 @@ use Rattle.pb_model.proofs.Told.{ok_covers}
 use Rattle.pb_words.specs.DecodeWords.{DecodeWords}
 use Rattle.pb_suite.specs.declared.outcome.Outcome.{Outcome}
 use Rattle.pb_suite.specs.Implementing.{Answers, Implements}
-use Rattle.pb_suite.specs.Implementing.Answers.{done as all_done, refused, read_fault as unread, write_fault as unwritten, no_memory as wanting}
+use Rattle.pb_suite.specs.Implementing.Answers.{done as all_done, refused, read_fault as not_read, write_fault as unwritten, no_memory as wanting}
 use Rattle.pb_suite.specs.Outputs.{only_words, Adds, Output}
 use Rattle.pb_suite.specs.CommandSpec.{Shelf}
 use Rattle.pb_suite.specs.DecodeSpec.{decode_spec, IsAnswered, StopsDecode}
-use Rattle.pb_suite.specs.DecodeSpec.StopsDecode.{no_problem, bad_problem, lacking, bad_model, no_model, violated}
+use Rattle.pb_suite.specs.DecodeSpec.StopsDecode.{unread, unanswered, no_model, violated}
 use Rattle.pb_suite.specs.Denoted.{IsDenoted, Denotes}
-use Rattle.pb_suite.specs.Refusals.{RefusesModel, RefusesOpb}
+use Rattle.pb_suite.specs.Refusals.{IsUnread, RefusesModel}
 use Rattle.pb_suite.specs.Refusals.RefusesModel.{token as model_token, limit as model_limit}
 use Rattle.pb_suite.specs.SaidSolutions.{IsDue, IsFrontOfModel, SaidOf, SaysOnly}
 use Rattle.pb_suite.specs.SaidSolutions.SaysOnly.{done, read_fault, write_fault, no_memory}
-use Rattle.pb_suite.proofs.DenotedProblems.{denotes_one, denotes_unrefused, denotes_within}
+use Rattle.pb_suite.proofs.DenotedProblems.{denotes_one, denotes_within}
+use Rattle.pb_suite.proofs.Unread.{same_some, unread_posed, unread_read}
 
 -- ---- what texts say is one thing
-
-pub same_some : {X : Type 0} (o : Option X) (x y : X) → o ≡ Some x → o ≡ Some y → x ≡ y
-same_some o x y first second = let same : Some x ≡ Some y = sym first ∙ second in cc
-
-pub not_none : {X : Type 0} (o : Option X) (x : X) → o ≡ Some x → o ≡ None → ⊥
-not_none o x some none = let no : Some x ≡ None = sym some ∙ none in cc
 
 pub same_ok : {X Y : Type 0} (r : Result X Y) (x y : X) → r ≡ Ok x → r ≡ Ok y → x ≡ y
 same_ok r x y first second = let same : Ok x ≡ Ok y = sym first ∙ second in cc
@@ -93,16 +88,10 @@ module _ (w : DecodeWords) (shelf : Shelf) (p : Problem) (m : Model) (answered :
   only_due out (q, n, comes, is) = of_same q n (λ r k. out ≡ only_words (solution_text r k.values)) comes.answered is
 
   never_stops : (answer : Outcome) → StopsDecode shelf w answer → ⊥
-  never_stops _ (no_problem lacks) = not_none (shelf w.opb) answered.denoted.text answered.denoted.on_shelf lacks
-  never_stops answer (bad_problem text _ on_shelf refuses) =
-      let same = same_some (shelf w.opb) text answered.denoted.text on_shelf answered.denoted.on_shelf in
-      denotes_unrefused w.bound answered.denoted.text p answer answered.denoted.denotes (subst (λ (xs : List ℕ). RefusesOpb w.bound xs answer) same refuses)
-  never_stops _ (lacking q denoted lacks) = not_none (shelf w.model) answered.text answered.on_shelf lacks
-  never_stops answer (bad_model q text _ denoted on_shelf refuses) =
-      let same = same_some (shelf w.model) text answered.text on_shelf answered.on_shelf in
-      let problems = same_posed shelf w.opb w.bound q p denoted answered.denoted in
-      model_refuses_none p.vars answered.text m answer answered.says
-      (subst (λ (r : Problem). RefusesModel r.vars answered.text answer) problems (subst (λ (xs : List ℕ). RefusesModel q.vars xs answer) same refuses))
+  never_stops answer (unread _ is) = unread_posed shelf w.opb w.bound p answer is answered.denoted
+  never_stops answer (unanswered q _ denoted is) =
+      unread_read shelf w.model answered.text (RefusesModel p.vars) answer answered.on_shelf (model_refuses_none p.vars answered.text m answer answered.says)
+      (subst (λ (r : Problem). IsUnread shelf w.model (RefusesModel r.vars) answer) (same_posed shelf w.opb w.bound q p denoted answered.denoted) is)
   never_stops _ (no_model q n comes) = of_same q n (λ r k. IsDecoded r k decoded.NoModel) comes.answered comes.decoded solution.0
   never_stops _ (violated q n statement comes) =
       none_violated (assigned_by (widened p m.values)) p.statements statement solution.1.statements (of_same q n (λ r k. IsDecoded r k (decoded.Violates statement)) comes.answered comes.decoded).1
@@ -128,7 +117,7 @@ obeyed_says w a b answer implements = by_told a.view.told refl
     ends : (t : Told) (line : List ℕ) → a.view.told ≡ Some t → IsDue (decode_spec w) t.shelf (only_words line) → (answer : Outcome) → Answers (decode_spec w) a b answer → SaysOnly line a b answer
     ends t line is due _ (all_done out has adds keeps) = done (subst (λ (x : Output). Adds x a b) (due.only out (in_told a t (λ u. (decode_spec w).done u.shelf out) is has)) adds)
     ends t line is due answer (refused _ refusal stops adds) = absurd (due.goes_on answer (in_told a t (λ u. (decode_spec w).stops u.shelf answer) is stops))
-    ends t line is due _ (unread adds) = read_fault adds
+    ends t line is due _ (not_read adds) = read_fault adds
     ends t line is due _ (unwritten out part adds) = write_fault
     ends t line is due _ (wanting out part adds held) = no_memory
 
@@ -136,4 +125,4 @@ obeyed_says w a b answer implements = by_told a.view.told refl
     by_told None is = tt
     by_told (Some t) is = λ o p m answered front.
         let due = solution_is_due w t.shelf p m answered (front_solves o w t.shelf p m answered front) in
-        record { due = due; ends = ends t (solution_text p m.values) is due answer implements.answers }
+        (due, ends t (solution_text p m.values) is due answer implements.answers)

@@ -1,12 +1,13 @@
 -- What is so of a text that denotes a problem.
 use Rattle.std.proofs.Common.{◌≡◌, ◌≤◌, ◌<◌, ◌^◌, ◌∙◌, List, ℕ, ℤ, Option, Some, None, ap, arith, subst, sym}
 use Rattle.std.specs.Prelude.{◌⊎◌, IfSome}
+use Rattle.std.specs.Option.{option_map_or}
 use Rattle.pb_base.specs.declared.file.File.TheVariants.{Opb}
 use Rattle.pb_base.specs.declared.limit.LimitKind.TheVariants.{Weight}
 use Rattle.pb_base.specs.declared.problem.Problem.{Problem}
 use Rattle.pb_base.specs.Problems.{IsWithinLimits}
 use Rattle.pb_desk.specs.Desk.{DeskState, IfTold}
-use Rattle.pb_opb.specs.Bounded.{bound_weight}
+use Rattle.pb_opb.specs.Bounded.{bound_weight, bounded}
 use Rattle.pb_opb.specs.declared.fault.OpbFault.TheVariants as opb
 use Rattle.pb_opb.proofs.BoundedLemmas.{bounded_within, reads_few}
 use Rattle.pb_opb.proofs.Bounds.{reads-within}
@@ -14,7 +15,7 @@ use Rattle.pb_opb.proofs.Reading.{reads-no_fault, says_one}
 use Rattle.pb_suite.specs.declared.outcome.Outcome.{Outcome}
 use Rattle.pb_suite.specs.declared.outcome.Outcome.TheVariants as outcome
 use Rattle.pb_suite.specs.Outputs.{nothing}
-use Rattle.pb_suite.specs.Denoted.{with_bound, IsDenoted, Denotes}
+use Rattle.pb_suite.specs.Denoted.{IsDenoted, Denotes}
 use Rattle.pb_suite.specs.Refusals.{RefusesOpb}
 use Rattle.pb_suite.specs.Refusals.RefusesOpb.{token, limit, heavy}
 use Rattle.pb_suite.specs.inner.Runs.{HasText, RefusesFile}
@@ -29,13 +30,13 @@ denotes_within bound text p denotes = subst IsWithinLimits (sym denotes.is) (by_
     within : IsWithinLimits denotes.plain
     within = reads-within text denotes.plain denotes.reads
 
-    by_bound : (o : Option ℤ) → IfSome o (λ b. bound_weight denotes.plain b < 2 ^ 100) → IsWithinLimits (with_bound o denotes.plain)
+    by_bound : (o : Option ℤ) → IfSome o (λ b. bound_weight denotes.plain b < 2 ^ 100) → IsWithinLimits (option_map_or (bounded denotes.plain) o denotes.plain)
     by_bound None light = within
     by_bound (Some b) light = bounded_within denotes.plain b within (reads_few text denotes.plain denotes.reads) light
 
 -- it is the only one
 pub denotes_one : (bound : Option ℤ) (text : List ℕ) (p q : Problem) → Denotes bound text p → Denotes bound text q → p ≡ q
-denotes_one bound text p q denotes other = denotes.is ∙ ap (with_bound bound) (says_one text denotes.plain other.plain denotes.reads.says other.reads.says) ∙ sym other.is
+denotes_one bound text p q denotes other = denotes.is ∙ ap (λ (q : Problem). option_map_or (bounded q) bound q) (says_one text denotes.plain other.plain denotes.reads.says other.reads.says) ∙ sym other.is
 
 -- and the text is not refused
 pub denotes_unrefused : (bound : Option ℤ) (text : List ℕ) (p : Problem) (answer : Outcome) → Denotes bound text p → RefusesOpb bound text answer → ⊥

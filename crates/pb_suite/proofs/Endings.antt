@@ -5,7 +5,7 @@ use Rattle.pb_desk.specs.View.{Told, View}
 use Rattle.pb_desk.specs.Desk.{DeskState, FailsToRead, FailsToWrite, IfTold, IsSteady}
 use Rattle.pb_suite.specs.declared.outcome.Outcome.{Outcome}
 use Rattle.pb_suite.specs.declared.outcome.Outcome.TheVariants as outcome
-use Rattle.pb_suite.specs.Implementing.{Counts, HasCauses, IsQuiet, IsRefusal, KeepsSlots, ImplementsWithin}
+use Rattle.pb_suite.specs.Implementing.{Counts, IsQuiet, IsRefusal, ImplementsWithin}
 use Rattle.pb_suite.specs.Implementing.Answers.{done, refused, read_fault, write_fault, no_memory}
 use Rattle.pb_suite.specs.Implementing.WritesHeld.{cut_off, well}
 use Rattle.pb_suite.specs.Outputs.{nothing, Output}
@@ -61,20 +61,17 @@ module _ (o : CommandSpec) (a b : DeskState) where
   quiet_of : {few most : ℕ} (out : Output) → Goes few most out a b → IsQuiet a b
   quiet_of out goes = record { reads = goes.reads; writes = goes.writes }
 
-  no_causes : (answer : Outcome) → answer ≢ outcome.ReadFault → answer ≢ outcome.WriteFault → HasCauses (LacksText o a) (LacksSpace o a) answer
-  no_causes answer no_read no_write = record { reads = λ e. absurd (no_read e); writes = λ e. absurd (no_write e) }
-
-  pub all_done : {most : ℕ} (out : Output) → Goes (length o.texts) most out a b → KeepsSlots a b → IfTold a (λ t. o.done t.shelf out) → ImplementsWithin o most a b outcome.Done
-  all_done out goes keeps due = record { answers = done out due goes.adds keeps; opens = goes.reading; ends = goes.ends; counts = quiet_of out goes; unsettled = λ e. cc; causes = λ steady. no_causes outcome.Done (λ e. cc) (λ e. cc) }
+  pub all_done : {most : ℕ} (out : Output) → Goes (length o.texts) most out a b → ((slot : ℕ) → b.view.writing slot ≡ a.view.writing slot) → IfTold a (λ t. o.done t.shelf out) → ImplementsWithin o most a b outcome.Done
+  all_done out goes keeps due = record { answers = done out due goes.adds keeps; opens = goes.reading; ends = goes.ends; counts = quiet_of out goes; unsettled = λ e. cc; no_text = λ steady e. cc; no_space = λ steady e. cc }
 
   pub is_refused : {most : ℕ} (answer : Outcome) → Goes (length o.texts) most nothing a b → IsRefusal o.texts answer → IfTold a (λ t. o.stops t.shelf answer) → ImplementsWithin o most a b answer
   is_refused answer goes is due =
       let no_read = refusal_no_read o.texts answer is in
       let no_write = refusal_no_write o.texts answer is in
-      record { answers = refused answer is due goes.adds; opens = goes.reading; ends = goes.ends; counts = counts_quiet a b answer no_read no_write (quiet_of nothing goes); unsettled = λ e. absurd (no_read e); causes = λ steady. no_causes answer no_read no_write }
+      record { answers = refused answer is due goes.adds; opens = goes.reading; ends = goes.ends; counts = counts_quiet a b answer no_read no_write (quiet_of nothing goes); unsettled = λ e. absurd (no_read e); no_text = λ steady e. absurd (no_read e); no_space = λ steady e. absurd (no_write e) }
 
   pub wants_memory : {most : ℕ} (out : Output) → Goes (length o.texts) most out a b → IfTold a (λ t. MayStand o t.shelf out) → ImplementsWithin o most a b outcome.NoMemory
-  wants_memory out goes part = record { answers = no_memory out part goes.adds (well goes.writes); opens = goes.reading; ends = goes.ends; counts = counts_quiet a b outcome.NoMemory (λ e. cc) (λ e. cc) (quiet_of out goes); unsettled = λ e. cc; causes = λ steady. no_causes outcome.NoMemory (λ e. cc) (λ e. cc) }
+  wants_memory out goes part = record { answers = no_memory out part goes.adds (well goes.writes); opens = goes.reading; ends = goes.ends; counts = counts_quiet a b outcome.NoMemory (λ e. cc) (λ e. cc) (quiet_of out goes); unsettled = λ e. cc; no_text = λ steady e. cc; no_space = λ steady e. cc }
 
   pub bare_memory : {most : ℕ} → Goes (length o.texts) most nothing a b → ImplementsWithin o most a b outcome.NoMemory
   bare_memory goes = wants_memory nothing goes (always a (λ t. MayStand o t.shelf nothing) (λ t. inl refl))
@@ -86,7 +83,8 @@ module _ (o : CommandSpec) (a b : DeskState) where
     opens = λ slot le. ap (λ (v : View). v.reading slot) fails.view ∙ by.reading a.view slot le;
     counts = (fails.reads, fails.writes);
     unsettled = λ e. unsettled;
-    causes = λ steady. record { reads = λ e. lacks steady; writes = λ e. let no : ⊥ = cc in absurd no };
+    no_text = λ steady e. lacks steady;
+    no_space = λ steady e. cc;
   }
 
   pub is_unwritten : (out : Output) (f : View → View) → AddsBy (length o.texts) out f → FailsToWrite f a b → IfTold a (λ t. MayStand o t.shelf out) → (IsSteady a → LacksSpace o a) → ImplementsWithin o 0 a b outcome.WriteFault
@@ -96,7 +94,8 @@ module _ (o : CommandSpec) (a b : DeskState) where
     opens = λ slot le. ap (λ (v : View). v.reading slot) fails.view ∙ by.reading a.view slot le;
     counts = (fails.reads, fails.writes);
     unsettled = λ e. cc;
-    causes = λ steady. record { reads = λ e. let no : ⊥ = cc in absurd no; writes = λ e. lacks steady };
+    no_text = λ steady e. cc;
+    no_space = λ steady e. lacks steady;
   }
 
   -- memory was wanting, and what was held could not be written
@@ -107,9 +106,10 @@ module _ (o : CommandSpec) (a b : DeskState) where
     opens = λ slot le. ap (λ (v : View). v.reading slot) fails.view ∙ by.reading a.view slot le;
     counts = (fails.reads, inr fails.writes);
     unsettled = λ e. cc;
-    causes = λ steady. no_causes outcome.NoMemory (λ e. cc) (λ e. cc);
+    no_text = λ steady e. cc;
+    no_space = λ steady e. cc;
   }
 
   -- what met so few ends met no more
   pub within_more : (few most : ℕ) (answer : Outcome) → few ≤ most → ImplementsWithin o few a b answer → ImplementsWithin o most a b answer
-  within_more few most answer le implements = record { answers = implements.answers; opens = implements.opens; ends = omega (arith, le, implements.ends); counts = implements.counts; unsettled = implements.unsettled; causes = implements.causes }
+  within_more few most answer le implements = record { answers = implements.answers; opens = implements.opens; ends = omega (arith, le, implements.ends); counts = implements.counts; unsettled = implements.unsettled; no_text = implements.no_text; no_space = implements.no_space }

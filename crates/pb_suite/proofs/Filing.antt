@@ -8,9 +8,8 @@ use Rattle.pb_base.specs.declared.options.Options.{Options}
 use Rattle.pb_desk.specs.View.{View, spoke}
 use Rattle.pb_desk.specs.Desk.{DeskState}
 use Rattle.pb_encode.specs.Encodings.{begun, derivation_text, made, made_files, problem_text, FileNames}
-use Rattle.pb_suite.specs.Implementing.{KeepsSlots}
 use Rattle.pb_suite.specs.Outputs.{Output}
-use Rattle.pb_suite.specs.EncodeSpec.{file_of, files_of, proof_files}
+use Rattle.pb_suite.specs.EncodeSpec.{file_of, proof_files}
 use Rattle.pb_suite.specs.inner.Runs.{stored}
 use Rattle.pb_suite.proofs.Going.{AddsBy}
 
@@ -66,7 +65,7 @@ by_spoken few name bytes said = record {
 }
 
 -- a file that was made and ended leaves its slot as it was
-pub spoken_keeps : (name bytes said : List ℕ) (a b : DeskState) → b.view ≡ spoke said (made 0 name bytes a.view) → ((slot : ℕ) → a.view.writing slot ≡ false) → KeepsSlots a b
+pub spoken_keeps : (name bytes said : List ℕ) (a b : DeskState) → b.view ≡ spoke said (made 0 name bytes a.view) → ((slot : ℕ) → a.view.writing slot ≡ false) → (slot : ℕ) → b.view.writing slot ≡ a.view.writing slot
 spoken_keeps name bytes said a b is free slot = ap (λ (v : View). v.writing slot) is ∙ by_test (slot == 0) refl
   where
     by_test : (found : Bool) → (slot == 0) ≡ found → (spoke said (made 0 name bytes a.view)).writing slot ≡ a.view.writing slot
@@ -88,7 +87,7 @@ by_begun_proof few name text proof bytes = record {
 
 module _ (o : Options) (p : Problem) where
   abbrev with_words : FileNames → List ℕ → Output
-  with_words names said = record { made = files_of names o p; said = said }
+  with_words names said = record { made = proof_files names.proof (derivation_text o p) ++ file_of 0 names.cnf (problem_text o p) ∷ []; said = said }
 
   by_stored_cnf : (few : ℕ) (name said : List ℕ) → AddsBy few (with_words (record { cnf = name; proof = None }) said) (stored o p (record { cnf = name; proof = None }) said)
   by_stored_cnf few name said = by_spoken few name (problem_text o p) said
@@ -136,5 +135,5 @@ module _ (o : Options) (p : Problem) where
       by_tests false true one_is none_is = simp (one_is, none_is) (sym (free slot))
       by_tests false false one_is none_is = simp (one_is, none_is)
 
-  pub stored_keeps : (names : FileNames) (said : List ℕ) (a b : DeskState) → b.view ≡ stored o p names said a.view → ((slot : ℕ) → a.view.writing slot ≡ false) → KeepsSlots a b
+  pub stored_keeps : (names : FileNames) (said : List ℕ) (a b : DeskState) → b.view ≡ stored o p names said a.view → ((slot : ℕ) → a.view.writing slot ≡ false) → (slot : ℕ) → b.view.writing slot ≡ a.view.writing slot
   stored_keeps names said a b is free slot = ap (λ (v : View). v.writing slot) is ∙ stored_keeps_as names.cnf names.proof said a.view free slot

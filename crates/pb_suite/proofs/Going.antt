@@ -8,11 +8,10 @@ use Rattle.pb_desk.specs.Desk.{DeskState, FailsToRead, HasSlot, IfTold, IsTold, 
 use Rattle.pb_desk.proofs.Steps.{as_reads, begin}
 use Rattle.pb_desk.proofs.Tells.{told_by}
 use Rattle.pb_desk.specs.TwoSlots.{both_taken}
-use Rattle.pb_suite.specs.Implementing.{KeepsReading, KeepsSlots}
 use Rattle.pb_suite.specs.Outputs.{nothing, Adds, IsMore, Output}
 use Rattle.pb_suite.specs.CommandSpec.{Shelf}
 use Rattle.pb_suite.specs.inner.Opening.{opened_both}
-use Rattle.pb_suite.specs.inner.Runs.{fetched, Fetches}
+use Rattle.pb_suite.specs.inner.Runs.{fetched, Fetches, KeepsReading}
 
 -- ---- what a change of the view adds
 
@@ -138,7 +137,7 @@ more_after out t u v first second = record {
   said = second.said ∙ ap (λ (xs : List ℕ). xs ++ out.said) (first.said ∙ append-nil t.said);
 }
 
-pub keeps : {few most : ℕ} (a b : DeskState) → Goes few most nothing a b → KeepsSlots a b
+pub keeps : {few most : ℕ} (a b : DeskState) → Goes few most nothing a b → (slot : ℕ) → b.view.writing slot ≡ a.view.writing slot
 keeps a b goes slot = elim (goes.adds.slots slot) as (λ _. b.view.writing slot ≡ a.view.writing slot) [ inl none ↦ absurd none | inr stays ↦ stays ]
 
 pub adds_after : {few most : ℕ} (out : Output) (a b d : DeskState) → Goes few most nothing a b → Adds out b d → Adds out a d

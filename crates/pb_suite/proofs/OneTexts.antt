@@ -22,14 +22,10 @@ use Rattle.pb_opb.proofs.Uniqueness.{one_fault}
 use Rattle.pb_opb.specs.declared.fault.OpbFault.TheVariants as opb
 use Rattle.pb_suite.specs.declared.outcome.Outcome.{Outcome}
 use Rattle.pb_suite.specs.declared.outcome.Outcome.TheVariants as outcome
-use Rattle.pb_suite.specs.CommandSpec.{Shelf}
-use Rattle.pb_suite.specs.Denoted.{IsDenoted}
 use Rattle.pb_suite.specs.Refusals.{RefusesCnf, RefusesModel, RefusesOpb}
 use Rattle.pb_suite.specs.Refusals.RefusesCnf.{token as cnf_token, limit as cnf_limit}
 use Rattle.pb_suite.specs.Refusals.RefusesModel.{token as model_token, limit as model_limit}
 use Rattle.pb_suite.specs.Refusals.RefusesOpb.{token, limit, heavy}
-use Rattle.pb_suite.proofs.Decodes.{not_none, same_some}
-use Rattle.pb_suite.proofs.DenotedProblems.{denotes_unrefused}
 
 -- ---- refusals
 
@@ -55,24 +51,6 @@ model_one vars text _ _ (model_token p e first) (model_token q d second) = let s
 model_one vars text _ _ (model_token p e first) (model_limit q d second) = let same = sym first ∙ second in cc
 model_one vars text _ _ (model_limit p e first) (model_token q d second) = let same = sym first ∙ second in cc
 model_one vars text _ _ (model_limit p e first) (model_limit q d second) = let same = sym first ∙ second in cc
-
--- ---- a problem's text that is not there, or is refused
-
-pub data IsUnread (shelf : Shelf) (name : List ℕ) (bound : Option ℤ) : Outcome → Type 0 where
-  lacks : shelf name ≡ None → IsUnread shelf name bound outcome.ReadFault
-  refuses : (text : List ℕ) (answer : Outcome) → shelf name ≡ Some text → RefusesOpb bound text answer → IsUnread shelf name bound answer
-
-pub unread_one : (shelf : Shelf) (name : List ℕ) (bound : Option ℤ) (a b : Outcome) → IsUnread shelf name bound a → IsUnread shelf name bound b → a ≡ b
-unread_one shelf name bound _ _ (lacks none) (lacks none') = refl
-unread_one shelf name bound _ _ (lacks none) (refuses text b on_shelf refused) = absurd (not_none (shelf name) text on_shelf none)
-unread_one shelf name bound _ _ (refuses text a on_shelf refused) (lacks none) = absurd (not_none (shelf name) text on_shelf none)
-unread_one shelf name bound _ _ (refuses text a on_shelf refused) (refuses text' b on_shelf' refused') =
-    opb_one bound text a b refused (subst (λ (xs : List ℕ). RefusesOpb bound xs b) (same_some (shelf name) text' text on_shelf' on_shelf) refused')
-
-pub unread_posed : (shelf : Shelf) (name : List ℕ) (bound : Option ℤ) (p : Problem) (answer : Outcome) → IsUnread shelf name bound answer → IsDenoted shelf name bound p → ⊥
-unread_posed shelf name bound p _ (lacks none) denoted = not_none (shelf name) denoted.text denoted.on_shelf none
-unread_posed shelf name bound p _ (refuses text answer on_shelf refused) denoted =
-    denotes_unrefused bound denoted.text p answer denoted.denotes (subst (λ (xs : List ℕ). RefusesOpb bound xs answer) (same_some (shelf name) text denoted.text on_shelf denoted.on_shelf) refused)
 
 -- ---- limits of what is made
 

@@ -1,5 +1,5 @@
 -- How going through a refutation ends a command that is to do so, once the derivation was accepted.
-use Rattle.std.proofs.Common.{◌≡◌, ◌≢◌, ℕ, List, [], ◌∷◌, Option, Some, None, Ok, inl, inr, refl, sym, subst, arith, ◌≤◌, false, length, take}
+use Rattle.std.proofs.Common.{◌≡◌, ◌≢◌, ℕ, List, [], ◌∷◌, Option, Some, None, Ok, codes, inl, inr, refl, sym, subst, arith, ◌≤◌, false, length, take}
 use Rattle.std.specs.Prelude.{Contains, IfSome, IsNone, IsSome, IsTrue}
 use Rattle.std.specs.Option.{unwrap_or}
 use Rattle.pb_base.specs.declared.file.File.TheVariants.{Opb, Lrat}
@@ -26,7 +26,7 @@ use Rattle.pb_suite.specs.declared.outcome.Outcome.TheVariants as outcome
 use Rattle.pb_suite.specs.Implementing.{ImplementsWithin}
 use Rattle.pb_suite.specs.Outputs.{nothing, only_words}
 use Rattle.pb_suite.specs.CommandSpec.{Text, taken_in}
-use Rattle.pb_suite.specs.RefuteSpec.{checked_words, refute_spec, refuted_line, IsAccepted, IsFollowed}
+use Rattle.pb_suite.specs.RefuteSpec.{refute_spec, IsAccepted, IsFollowed}
 use Rattle.pb_suite.specs.RefuteSpec.StopsRefute.{unchecked, token, limit, no_refutation, lacking}
 use Rattle.pb_suite.specs.Denoted.{IsDenoted}
 use Rattle.pb_suite.specs.inner.Opening.{HasBoth}
@@ -42,16 +42,16 @@ use Rattle.pb_suite.proofs.Texts.{both_told, told_more, told_none_of}
 
 module _ (w : RefuteWords) where
   abbrev opb_text : Text
-  opb_text = record { kind = Opb; name = w.opb }
+  opb_text = record { kind = Opb; name = w.checked.opb }
 
   abbrev lrat_text : Text
   lrat_text = record { kind = Lrat; name = w.lrat }
 
-  pub refute_checks : Checks (checked_words w) (refute_spec w)
+  pub refute_checks : Checks w.checked (refute_spec w)
   refute_checks = record {
-    has_cnf = Contains-there opb_text (cnf_text (checked_words w) ∷ proof_text (checked_words w) ∷ lrat_text ∷ []) (cnf_text (checked_words w)) (Contains-here (cnf_text (checked_words w)) (proof_text (checked_words w) ∷ lrat_text ∷ []));
-    has_proof = Contains-there opb_text (cnf_text (checked_words w) ∷ proof_text (checked_words w) ∷ lrat_text ∷ []) (proof_text (checked_words w))
-        (Contains-there (cnf_text (checked_words w)) (proof_text (checked_words w) ∷ lrat_text ∷ []) (proof_text (checked_words w)) (Contains-here (proof_text (checked_words w)) (lrat_text ∷ [])));
+    has_cnf = Contains-there opb_text (cnf_text w.checked ∷ proof_text w.checked ∷ lrat_text ∷ []) (cnf_text w.checked) (Contains-here (cnf_text w.checked) (proof_text w.checked ∷ lrat_text ∷ []));
+    has_proof = Contains-there opb_text (cnf_text w.checked ∷ proof_text w.checked ∷ lrat_text ∷ []) (proof_text w.checked)
+        (Contains-there (cnf_text w.checked) (proof_text w.checked ∷ lrat_text ∷ []) (proof_text w.checked) (Contains-here (proof_text w.checked) (lrat_text ∷ [])));
     three = omega arith;
     cnf_kind = inr (inl refl);
     proof_kind = inr (inr (inl refl));
@@ -60,13 +60,13 @@ module _ (w : RefuteWords) where
 
   has_lrat_text : Contains (refute_spec w).texts lrat_text
   has_lrat_text =
-      Contains-there opb_text (cnf_text (checked_words w) ∷ proof_text (checked_words w) ∷ lrat_text ∷ []) lrat_text
-      (Contains-there (cnf_text (checked_words w)) (proof_text (checked_words w) ∷ lrat_text ∷ []) lrat_text
-      (Contains-there (proof_text (checked_words w)) (lrat_text ∷ []) lrat_text (Contains-here lrat_text [])))
+      Contains-there opb_text (cnf_text w.checked ∷ proof_text w.checked ∷ lrat_text ∷ []) lrat_text
+      (Contains-there (cnf_text w.checked) (proof_text w.checked ∷ lrat_text ∷ []) lrat_text
+      (Contains-there (proof_text w.checked) (lrat_text ∷ []) lrat_text (Contains-here lrat_text [])))
 
   -- what is open for the check is so for the refutation, where its slot was not opened
-  pub unfollowed : (b : DeskState) → b.view.reading 3 ≡ false → IfTold b (UnjudgedIn (checked_words w) b.view) → IsOpenIn (refute_spec w) b
-  unfollowed b closed leaves = told_more b (UnjudgedIn (checked_words w) b.view) (λ t. (refute_spec w).leaves_open t.shelf (taken_in b.view t)) (λ t is. inl (taken-closed b.view t 3 w.lrat closed, is)) leaves
+  pub unfollowed : (b : DeskState) → b.view.reading 3 ≡ false → IfTold b (UnjudgedIn w.checked b.view) → IsOpenIn (refute_spec w) b
+  unfollowed b closed leaves = told_more b (UnjudgedIn w.checked b.view) (λ t. (refute_spec w).leaves_open t.shelf (taken_in b.view t)) (λ t is. inl (taken-closed b.view t 3 w.lrat closed, is)) leaves
 
   -- the file was not opened
   pub no_lrat : (vars : ℕ) (clauses : List (List Lit)) (a b : DeskState) → IfTold a (λ t. IsAccepted t.shelf w vars clauses) → FailsToRead same a b → (IsSteady a → IsTold a (λ t. IsNone (t.shelf w.lrat))) → b.ends ≡ a.ends → a.view.reading 3 ≡ false → ImplementsWithin (refute_spec w) 1 a b outcome.ReadFault
@@ -82,11 +82,11 @@ module _ (w : RefuteWords) where
       (λ t is. inr (vars, clauses, is, subst (λ (x : Option (List ℕ)). TakesEnded (started vars clauses) (unwrap_or x [])) (sym (taken-closed a.view t 3 w.lrat free)) refl)) accepted))
 
 -- what was kept of the CNF are the clauses of the texts that were judged
-pub accepted_so : (w : RefuteWords) (p : Problem) (vars : ℕ) (clauses : List (List Lit)) (d e : DeskState) → IfTold d (λ t. IsDenoted t.shelf w.opb w.bound p) → IfTold d (HasBoth w.cnf w.proof) → TakesBoth 1 2 (λ c q. Walk p c q (Ok Accepted)) d e
+pub accepted_so : (w : RefuteWords) (p : Problem) (vars : ℕ) (clauses : List (List Lit)) (d e : DeskState) → IfTold d (λ t. IsDenoted t.shelf w.checked.opb w.checked.bound p) → IfTold d (HasBoth w.checked.cnf w.checked.proof) → TakesBoth 1 2 (λ c q. Walk p c q (Ok Accepted)) d e
     → IfTold d (λ t. SaysClauses (t.left 1) vars clauses) → IfTold d (λ t. IsAccepted t.shelf w vars clauses)
 accepted_so w p vars clauses d e denoted both takes says = by_cases d.view.told denoted both takes.texts says
   where
-    by_cases : (told : Option Told) → IfSome told (λ t. IsDenoted t.shelf w.opb w.bound p) → IfSome told (HasBoth w.cnf w.proof) → IfSome told (λ t. Walk p (t.left 1) (t.left 2) (Ok Accepted)) → IfSome told (λ t. SaysClauses (t.left 1) vars clauses)
+    by_cases : (told : Option Told) → IfSome told (λ t. IsDenoted t.shelf w.checked.opb w.checked.bound p) → IfSome told (HasBoth w.checked.cnf w.checked.proof) → IfSome told (λ t. Walk p (t.left 1) (t.left 2) (Ok Accepted)) → IfSome told (λ t. SaysClauses (t.left 1) vars clauses)
         → IfSome told (λ t. IsAccepted t.shelf w vars clauses)
     by_cases None denoted both walk says = tt
     by_cases (Some t) denoted both walk says = record {
@@ -134,9 +134,9 @@ module _ (w : RefuteWords) (vars : ℕ) (clauses : List (List Lit)) (a b d : Des
   after_ending f stops steady = opened_implements d _ (unrefuted f stops steady)
 
   -- it is one
-  refuted_due : Refutes vars clauses 3 b d → IfTold d (λ t. (refute_spec w).done t.shelf (only_words refuted_line))
+  refuted_due : Refutes vars clauses 3 b d → IfTold d (λ t. (refute_spec w).done t.shelf (only_words (codes "refuted\n")))
   refuted_due takes =
-      shelf_is_if b d (text_goes _ takes) (λ shelf. (refute_spec w).done shelf (only_words refuted_line)) (told_more b _ _ (λ t ends. (ends, refl)) (followed ending.refuted takes))
+      shelf_is_if b d (text_goes _ takes) (λ shelf. (refute_spec w).done shelf (only_words (codes "refuted\n"))) (told_more b _ _ (λ t ends. (ends, refl)) (followed ending.refuted takes))
 
-  pub after_saying : (e : DeskState) → (IsSteady d → IsSome d.view.told) → Refutes vars clauses 3 b d → (answer : Outcome) → EndsSaying refuted_line d e answer → ImplementsWithin (refute_spec w) 1 a e answer
-  after_saying e tells takes answer ends = opened_implements e _ (implements_after (refute_spec w) b d e (text_goes _ takes) answer (saying_implements (refute_spec w) refuted_line d e tells (refuted_due takes) answer ends))
+  pub after_saying : (e : DeskState) → (IsSteady d → IsSome d.view.told) → Refutes vars clauses 3 b d → (answer : Outcome) → EndsSaying (codes "refuted\n") d e answer → ImplementsWithin (refute_spec w) 1 a e answer
+  after_saying e tells takes answer ends = opened_implements e _ (implements_after (refute_spec w) b d e (text_goes _ takes) answer (saying_implements (refute_spec w) (codes "refuted\n") d e tells (refuted_due takes) answer ends))

@@ -1,4 +1,8 @@
 -- What stands of a derivation that a command made.
+use Rattle.pb_steps.proofs.LineLaws.{written_line_reads}
+use Rattle.pb_steps.specs.StepLines.{IsReadBack}
+use Rattle.pb_steps.specs.Sayable.{IsSayable}
+use Rattle.std.proofs.lemmas.List.Elements.{All-weaker}
 use Rattle.std.proofs.Common.{◌≡◌, ◌∙◌, ◌++◌, ℕ, ℤ, List, [], ◌∷◌, Option, Some, None, ap, arith, inl, inr, length, refl, subst, sym, take, ◌⊎◌}
 use Rattle.std.specs.Prelude.{IfSome, IsSomeAnd}
 use Rattle.std.proofs.lemmas.List.{append_cancel_right}
@@ -21,8 +25,8 @@ use Rattle.pb_suite.specs.Implementing.Answers.{done, refused, read_fault, write
 use Rattle.pb_suite.specs.Outputs.{nothing, IsMore, IsPartOf, Output}
 use Rattle.pb_suite.specs.Outputs.IsPartOf.{none, of_file, of_words}
 use Rattle.pb_suite.specs.CommandSpec.{MayStand}
-use Rattle.pb_suite.specs.EncodeSpec.{encoded_output, file_of, names_in, encode_spec, proof_files, IsEncoded}
-use Rattle.pb_suite.specs.Denoted.{Denotes}
+use Rattle.pb_suite.specs.EncodeSpec.{encoded_output, file_of, names_in, encode_spec, proof_files}
+use Rattle.pb_suite.specs.Denoted.{Denotes, IsDenoted}
 use Rattle.pb_suite.specs.Standing.{AreFirstLines, IsBegun, IsShortDerivation, Stands}
 use Rattle.pb_suite.proofs.Derives.{texts_accepted}
 use Rattle.pb_suite.proofs.Endings.{always}
@@ -39,7 +43,7 @@ short o bound text p denotes encodable =
     let derived = problem_derived o p within encodable in
     record {
       accepted = texts_accepted o bound text p denotes encodable;
-      sayable = derived.sayable;
+      read_back = All-weaker IsSayable IsReadBack written_line_reads (problem_steps o p) derived.sayable;
       fresh = problem_fresh o p;
       clauses = problem_clauses o p;
       says = written_reads (problem_vars o p) (problem_clauses o p) (omega (arith, encodable.vars)) (let few = encodable.clauses in omega (arith, count, few)) (problem-within o p within);
@@ -69,7 +73,7 @@ slots_apart x y zero_is one_is is = let no : 0 ≡ 1 = sym zero_is ∙ ap (λ (f
 
 -- ---- a part of the files of which the newest is in slot 1
 
-module _ (w : EncodeWords) (t : Told) (p : Problem) (found : IsEncoded t.shelf w p) (name bytes : List ℕ) (before : List Made) where
+module _ (w : EncodeWords) (t : Told) (p : Problem) (denoted : IsDenoted t.shelf w.opb w.bound p) (encodable : IsEncodable w.options p) (name bytes : List ℕ) (before : List Made) where
   abbrev cnf : List ℕ
   cnf = problem_text w.options p
 
@@ -80,13 +84,11 @@ module _ (w : EncodeWords) (t : Told) (p : Problem) (found : IsEncoded t.shelf w
   begun named behind lines = record {
     named = named;
     problem = p;
-    text = found.text;
     cnf = cnf;
-    on_shelf = found.on_shelf;
-    denotes = found.denotes;
+    denoted = denoted;
     behind = behind;
     steps = problem_steps w.options p;
-    derivation = short w.options w.bound found.text p found.denotes found.encodable;
+    derivation = short w.options w.bound denoted.text p denoted.denotes encodable;
     first_lines = lines;
   }
 
@@ -131,7 +133,7 @@ module _ (w : EncodeWords) (a b : DeskState) where
 
       by_part : MayStand (encode_spec w) t.shelf out → IsBegun w t name bytes before
       by_part (inl bare) = let no : [] ≡ file_of 1 name bytes ∷ before = sym (ap (λ (o : Output). o.made) bare) ∙ made_is in cc
-      by_part (inr part) = of_output w t part.1.0 part.1.1 name bytes before part.0 out part.1.2 part.2 made_is
+      by_part (inr part) = of_output w t part.1.0 part.1.1 part.1.2 name bytes before part.0 out part.1.3 part.2 made_is
 
   told_stands : (x y : Option Told) (out : Output) → IfSome x (λ t. MayStand (encode_spec w) t.shelf out) → IfSome x (λ t. IsSomeAnd y (IsMore out t)) → IfSome x (λ t. IsSomeAnd y (Stands w t))
   told_stands None y out may more = tt

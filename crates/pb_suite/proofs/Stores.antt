@@ -1,4 +1,5 @@
 -- How storing an encoding ends a command that is to do so.
+use Rattle.pb_encode.specs.BoundLines.{words_of}
 use Rattle.std.proofs.Common.{◌≡◌, ◌∙◌, ℕ, List, [], ◌∷◌, ◌++◌, Option, Some, None, take, length, inl, inr, refl, ap, sym, subst, false}
 use Rattle.std.proofs.Math.Seq.{take-length}
 use Rattle.std.specs.Prelude.{Contains, IsSome}
@@ -25,7 +26,7 @@ use Rattle.pb_suite.specs.Outputs.{nothing, IsPartOf, LacksFor, Output}
 use Rattle.pb_suite.specs.Outputs.IsPartOf.{of_file, of_words}
 use Rattle.pb_suite.specs.Outputs.LacksFor.{is_taken, no_room, no_words as no_word_room}
 use Rattle.pb_suite.specs.CommandSpec.{LacksSpace, MayStand, CommandSpec}
-use Rattle.pb_suite.specs.EncodeSpec.{due_words, encoded_output, file_of, proof_files}
+use Rattle.pb_suite.specs.EncodeSpec.{encoded_output, file_of, proof_files}
 use Rattle.pb_suite.specs.inner.Runs.{stored, stored_whole, EndsStoring, LacksToStore, StopsStoring}
 use Rattle.pb_suite.specs.inner.Runs.EndsStoring.{whole as all_stored, stopped}
 use Rattle.pb_suite.specs.inner.Runs.LacksToStore.{to_make, to_say}
@@ -47,7 +48,7 @@ module _ (o : CommandSpec) (options : Options) (p : Problem) (names : FileNames)
   derivation = derivation_text options p
 
   abbrev summary : List ℕ
-  summary = due_words options p
+  summary = words_of options p
 
   abbrev whole : Output
   whole = encoded_output names options p

@@ -7,8 +7,12 @@ use Rattle.std.proofs.Math.Seq.{take-append_seam}
 use Rattle.pb_desk.specs.View.{Told, View, opened, put, taken}
 use Rattle.pb_desk.specs.Desk.{DeskState, IfTold}
 use Rattle.pb_desk.proofs.Readings.{put-same}
-use Rattle.pb_suite.specs.CommandSpec.{Shelf, before_rest, taken_in}
+use Rattle.pb_suite.specs.CommandSpec.{Shelf, taken_in}
 use Rattle.pb_suite.proofs.Opened.{some_is}
+
+-- the first bytes of a text, of which these are left
+abbrev before_rest : List ℕ → List ℕ → List ℕ
+before_rest text left = take (length text - length left) text
 
 before-drop : (n : ℕ) (text : List ℕ) → before_rest text (drop n text) ≡ take n text
 before-drop n text =

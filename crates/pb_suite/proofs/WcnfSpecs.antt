@@ -1,5 +1,6 @@
 -- How making a weighted CNF ends a command that is to do so.
-use Rattle.std.proofs.Common.{◌≡◌, ◌∙◌, ℕ, List, None, ap, length, refl, take, false}
+use Rattle.pb_encode.specs.BoundLines.{words_of}
+use Rattle.std.proofs.Common.{◌≡◌, ◌∙◌, ℕ, List, None, ap, inr, length, refl, take, false}
 use Rattle.std.specs.Prelude.{IsSome}
 use Rattle.pb_base.specs.declared.limit.LimitKind.{LimitKind}
 use Rattle.pb_base.specs.declared.problem.Problem.{Problem}
@@ -17,9 +18,8 @@ use Rattle.pb_suite.specs.declared.outcome.Outcome.{Outcome}
 use Rattle.pb_suite.specs.declared.outcome.Outcome.TheVariants as outcome
 use Rattle.pb_suite.specs.Implementing.{ImplementsWithin}
 use Rattle.pb_suite.specs.Outputs.{nothing}
-use Rattle.pb_suite.specs.EncodeSpec.{due_words}
-use Rattle.pb_suite.specs.WcnfSpec.{wcnf_spec, weighted_output, StopsWcnf}
-use Rattle.pb_suite.specs.WcnfSpec.StopsWcnf.{over}
+use Rattle.pb_suite.specs.WcnfSpec.{wcnf_spec, weighted_output}
+use Rattle.pb_suite.specs.EncodeSpec.PassesLimit.{over}
 use Rattle.pb_suite.specs.Denoted.{IsDenoted}
 use Rattle.pb_suite.specs.inner.Runs.{outcome_of}
 use Rattle.pb_suite.specs.inner.Saying.{EndsSaying, EndsTelling}
@@ -33,17 +33,17 @@ use Rattle.pb_suite.proofs.Texts.{told_more}
 
 module _ (w : WcnfWords) (p : Problem) (b : DeskState) (denoted : IfTold b (λ t. IsDenoted t.shelf w.opb w.bound p)) where
   pub weighed_due : IsEncodable w.options p → IfTold b (λ t. (wcnf_spec w).done t.shelf (weighted_output w.wcnf w.options p))
-  weighed_due is = told_more b (λ t. IsDenoted t.shelf w.opb w.bound p) (λ t. (wcnf_spec w).done t.shelf (weighted_output w.wcnf w.options p)) (λ t found. (p, record { denoted = found; encodable = is }, refl)) denoted
+  weighed_due is = told_more b (λ t. IsDenoted t.shelf w.opb w.bound p) (λ t. (wcnf_spec w).done t.shelf (weighted_output w.wcnf w.options p)) (λ t found. (p, found, is, refl)) denoted
 
-  over_due : (which : LimitKind) → IsOver which w.options p → IfTold b (λ t. StopsWcnf t.shelf w (outcome.Limit None which None))
-  over_due which is = told_more b (λ t. IsDenoted t.shelf w.opb w.bound p) (λ t. StopsWcnf t.shelf w (outcome.Limit None which None)) (λ t found. over p which found is) denoted
+  over_due : (which : LimitKind) → IsOver which w.options p → IfTold b (λ t. (wcnf_spec w).stops t.shelf (outcome.Limit None which None))
+  over_due which is = told_more b (λ t. IsDenoted t.shelf w.opb w.bound p) (λ t. (wcnf_spec w).stops t.shelf (outcome.Limit None which None)) (λ t found. inr (over p which found is)) denoted
 
   module _ (tells : IsSteady b → IsSome b.view.told) where
     abbrev pub text : List ℕ
     text = weighted_text w.options p
 
     abbrev pub summary : List ℕ
-    summary = due_words w.options p
+    summary = words_of w.options p
 
     abbrev pub Fine : Type 0
     Fine = IsEncodable w.options p

@@ -17,9 +17,9 @@ use Rattle.pb_words.specs.CheckWords.{CheckWords}
 use Rattle.pb_suite.specs.declared.outcome.Outcome.{Outcome}
 use Rattle.pb_suite.specs.declared.outcome.Outcome.TheVariants as outcome
 use Rattle.pb_suite.specs.Outputs.{only_words}
-use Rattle.pb_suite.specs.CommandSpec.{CommandSpec, Shelf}
+use Rattle.pb_suite.specs.CommandSpec.{CommandSpec, Shelf, Taken}
 use Rattle.pb_suite.specs.Denoted.{IsDenoted}
-use Rattle.pb_suite.specs.Refusals.{RefusesOpb}
+use Rattle.pb_suite.specs.Refusals.{IsUnread, RefusesOpb}
 
 -- the shelf has all three texts, and walking through the CNF and the derivation gives this answer
 pub record IsJudged (shelf : Shelf) (w : CheckWords) (answer : Answer) : Type 0 where
@@ -33,24 +33,20 @@ pub record IsJudged (shelf : Shelf) (w : CheckWords) (answer : Answer) : Type 0 
 
 -- in the order of a run: the OPB text, and the bound if one is given; whether both others are there; their first fault, or the first step that is not allowed
 pub data StopsCheck (shelf : Shelf) (w : CheckWords) : Outcome → Type 0 where
-  no_problem : shelf w.opb ≡ None → StopsCheck shelf w outcome.ReadFault
-  bad_problem : (text : List ℕ) (answer : Outcome) → shelf w.opb ≡ Some text → RefusesOpb w.bound text answer → StopsCheck shelf w answer
+  unread : (answer : Outcome) → IsUnread shelf w.opb (RefusesOpb w.bound) answer → StopsCheck shelf w answer
   lacking : (p : Problem) → IsDenoted shelf w.opb w.bound p → (shelf w.cnf ≡ None) ⊎ (shelf w.proof ≡ None) → StopsCheck shelf w outcome.ReadFault
   token : (file : File) (place : Place) (expected : Expected) → IsJudged shelf w (Err (fault.Refused file place expected)) → StopsCheck shelf w (outcome.Refused file place expected)
   limit : (file : File) (place : Option Place) (which : LimitKind) → IsJudged shelf w (Err (fault.Limit file place which)) → StopsCheck shelf w (outcome.Limit (Some file) which place)
   denial : (line : ℕ) (denied : Denied) → IsJudged shelf w (Ok (Rejected line denied)) → StopsCheck shelf w (outcome.Rejected line denied)
 
 -- neither the CNF nor the derivation is open yet; or there is a problem, over which what was taken of both leaves the answer open
-abbrev pub IsUnjudged : Shelf → CheckWords → Option (List ℕ) → Option (List ℕ) → Type 0
-IsUnjudged shelf w cnf proof = ((cnf ≡ None) × (proof ≡ None)) ⊎ ((p : Problem) × IsDenoted shelf w.opb w.bound p × LeavesOpen p (unwrap_or cnf []) (unwrap_or proof []))
-
-abbrev pub accepted_line : List ℕ
-accepted_line = codes "accepted\n"
+abbrev pub IsUnjudged : Shelf → CheckWords → Taken → Type 0
+IsUnjudged shelf w taken = ((taken 1 w.cnf ≡ None) × (taken 2 w.proof ≡ None)) ⊎ ((p : Problem) × IsDenoted shelf w.opb w.bound p × LeavesOpen p (unwrap_or (taken 1 w.cnf) []) (unwrap_or (taken 2 w.proof) []))
 
 abbrev pub check_spec : CheckWords → CommandSpec
 check_spec w = record {
   texts = record { kind = Opb; name = w.opb } ∷ record { kind = Cnf; name = w.cnf } ∷ record { kind = Proof; name = w.proof } ∷ [];
-  leaves_open = λ shelf taken. IsUnjudged shelf w (taken 1 w.cnf) (taken 2 w.proof);
+  leaves_open = λ shelf taken. IsUnjudged shelf w taken;
   stops = λ shelf answer. StopsCheck shelf w answer;
-  done = λ shelf out. IsJudged shelf w (Ok Accepted) × (out ≡ only_words accepted_line);
+  done = λ shelf out. IsJudged shelf w (Ok Accepted) × (out ≡ only_words (codes "accepted\n"));
 }

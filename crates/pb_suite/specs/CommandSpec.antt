@@ -1,12 +1,12 @@
 -- What specifies a command, and what may hinder it. Our own.
-use Rattle.std.specs.Prelude.{ℕ, ◌-◌, ◌⊎◌, ◌≡◌, if◌then◌else◌, List, [], ◌∷◌, All, Contains, take, length, Option, Some, None, IsNone, IsSome}
+use Rattle.std.specs.Prelude.{ℕ, ◌-◌, ◌⊎◌, ◌≡◌, ◌≤◌, if◌then◌else◌, List, [], ◌∷◌, All, Contains, take, length, Option, Some, None, IsNone, IsSome}
 use Rattle.std.specs.Option.{ForSome, unwrap_or}
 use Rattle.pb_base.specs.declared.file.File.{File}
-use Rattle.pb_desk.specs.View.{Told, View}
+use Rattle.pb_desk.specs.View.{Made, Told, View}
 use Rattle.pb_desk.specs.Desk.{DeskState, IsTold}
 use Rattle.pb_suite.specs.declared.outcome.Outcome.{Outcome}
 use Rattle.pb_suite.specs.declared.outcome.Outcome.TheVariants.{ReadFault}
-use Rattle.pb_suite.specs.Outputs.{nothing, Fits, HasShortNames, IsPartOf, LacksFor, Output}
+use Rattle.pb_suite.specs.Outputs.{nothing, Fits, IsPartOf, LacksFor, Output}
 
 abbrev pub Shelf : Type 0
 Shelf = List ℕ → Option (List ℕ)
@@ -25,13 +25,9 @@ HasKind kind (text ∷ texts) = (text.kind ≡ kind) ⊎ HasKind kind texts
 abbrev pub Taken : Type 0
 Taken = ℕ → List ℕ → Option (List ℕ)
 
--- the first bytes of a text, of which these are left
-abbrev pub before_rest : List ℕ → List ℕ → List ℕ
-before_rest text left = take (length text - length left) text
-
--- as a desk tells it: what the slot has no more
+-- as a desk tells it: the first bytes of the text, which the slot has no more
 abbrev pub taken_in : View → Told → Taken
-taken_in view t slot name = if view.reading slot then Some (before_rest (unwrap_or (t.shelf name) []) (t.left slot)) else None
+taken_in view t slot name = if view.reading slot then (let text = unwrap_or (t.shelf name) [] in Some (take (length text - length (t.left slot)) text)) else None
 
 -- The texts that are read; whether what was taken of them leaves open how the command ends; with which outcomes it stops, so that nothing is made or said; and what is made and said where all is done.
 pub record CommandSpec : Type 1 where
@@ -59,5 +55,5 @@ LacksSpace o desk = (out : Output) × IsTold desk (λ t. o.done t.shelf out) × 
 -- what is called for is there: the texts, short names, and room for what is due
 pub record Suffices (o : CommandSpec) (shelf : Shelf) (space : Option ℕ) : Type 0 where
   pub texts : All (λ (text : Text). IsSome (shelf text.name)) o.texts
-  pub names : (out : Output) → o.done shelf out → HasShortNames out
+  pub names : (out : Output) → o.done shelf out → All (λ (file : Made). length file.name ≤ 255) out.made
   pub room : (out : Output) → o.done shelf out → ForSome space (λ most. Fits most out)

@@ -5,7 +5,7 @@ use Rattle.pb_desk.specs.View.{Told}
 use Rattle.pb_desk.specs.Desk.{DeskState, IsFresh, IsSteady}
 use Rattle.pb_words.specs.Parsed.{Wanted, parsed_of}
 use Rattle.pb_words.specs.Parsed.Wanted.{Encode, Check, Decode, Probe, Bench, Refute, Map, Wcnf}
-use Rattle.pb_suite.specs.CommandSpec.{CommandSpec, Shelf, Suffices}
+use Rattle.pb_suite.specs.CommandSpec.{CommandSpec, Suffices}
 use Rattle.pb_suite.specs.BenchSpec.{bench_spec}
 use Rattle.pb_suite.specs.CheckSpec.{check_spec}
 use Rattle.pb_suite.specs.DecodeSpec.{decode_spec}
@@ -25,12 +25,8 @@ spec_of (Refute w) = refute_spec w
 spec_of (Map w) = map_spec w
 spec_of (Wcnf w) = wcnf_spec w
 
--- what the words call for is there
-abbrev pub SufficesFor : List (List ℕ) → Shelf → Option ℕ → Type 0
-SufficesFor words shelf space = ForSome (parsed_of words) (λ w. Suffices (spec_of w) shelf space)
-
 -- a fresh and steady desk with what the words call for
 pub record IsAmple (t : Told) (words : List (List ℕ)) (desk : DeskState) : Type 0 where
   pub fresh : IsFresh t desk
   pub steady : IsSteady desk
-  pub enough : SufficesFor words t.shelf desk.view.room
+  pub enough : ForSome (parsed_of words) (λ w. Suffices (spec_of w) t.shelf desk.view.room)

@@ -14,7 +14,7 @@ use Rattle.pb_suite.specs.declared.outcome.Outcome.TheVariants as outcome
 use Rattle.pb_suite.specs.Outputs.{only_words}
 use Rattle.pb_suite.specs.CommandSpec.{CommandSpec, Shelf}
 use Rattle.pb_suite.specs.Denoted.{IsDenoted}
-use Rattle.pb_suite.specs.Refusals.{RefusesModel, RefusesOpb}
+use Rattle.pb_suite.specs.Refusals.{IsUnread, RefusesModel, RefusesOpb}
 
 -- the shelf has both texts: a problem's, and what a solver said of its variables
 pub record IsAnswered (shelf : Shelf) (w : DecodeWords) (p : Problem) (m : Model) : Type 0 where
@@ -30,22 +30,16 @@ pub record ComesTo (shelf : Shelf) (w : DecodeWords) (p : Problem) (m : Model) (
 
 -- in the order of a run: the problem's text, and the bound if one is given; the solver's text; whether that says that there is a model; the first statement that the values violate
 pub data StopsDecode (shelf : Shelf) (w : DecodeWords) : Outcome → Type 0 where
-  no_problem : shelf w.opb ≡ None → StopsDecode shelf w outcome.ReadFault
-  bad_problem : (text : List ℕ) (answer : Outcome) → shelf w.opb ≡ Some text → RefusesOpb w.bound text answer → StopsDecode shelf w answer
-  lacking : (p : Problem) → IsDenoted shelf w.opb w.bound p → shelf w.model ≡ None → StopsDecode shelf w outcome.ReadFault
-  bad_model : (p : Problem) (text : List ℕ) (answer : Outcome) → IsDenoted shelf w.opb w.bound p → shelf w.model ≡ Some text → RefusesModel p.vars text answer → StopsDecode shelf w answer
+  unread : (answer : Outcome) → IsUnread shelf w.opb (RefusesOpb w.bound) answer → StopsDecode shelf w answer
+  unanswered : (p : Problem) (answer : Outcome) → IsDenoted shelf w.opb w.bound p → IsUnread shelf w.model (RefusesModel p.vars) answer → StopsDecode shelf w answer
   no_model : (p : Problem) (m : Model) → ComesTo shelf w p m decoded.NoModel → StopsDecode shelf w outcome.NoModel
   violated : (p : Problem) (m : Model) (statement : ℕ) → ComesTo shelf w p m (decoded.Violates statement) → StopsDecode shelf w (outcome.NotASolution statement)
 
--- the solver's text is not open yet, or there is a problem; both texts are read whole
-abbrev pub IsUnanswered : Shelf → DecodeWords → Option (List ℕ) → Type 0
-IsUnanswered shelf w model = (model ≡ None) ⊎ ((p : Problem) × IsDenoted shelf w.opb w.bound p)
-
--- the text of a solution is said
+-- the text of a solution is said; the solver's text is not open yet, or there is a problem, and both texts are read whole
 abbrev pub decode_spec : DecodeWords → CommandSpec
 decode_spec w = record {
   texts = record { kind = Opb; name = w.opb } ∷ record { kind = ModelText; name = w.model } ∷ [];
-  leaves_open = λ shelf taken. IsUnanswered shelf w (taken 1 w.model);
+  leaves_open = λ shelf taken. (taken 1 w.model ≡ None) ⊎ ((p : Problem) × IsDenoted shelf w.opb w.bound p);
   stops = λ shelf answer. StopsDecode shelf w answer;
   done = λ shelf out. (p : Problem) × (m : Model) × ComesTo shelf w p m decoded.Solution × (out ≡ only_words (solution_text p m.values));
 }

@@ -1,21 +1,17 @@
 -- That a text says a problem, with a bound on its objective where one is given. Our own.
-use Rattle.std.specs.Prelude.{ℕ, ◌≡◌, ◌<◌, ◌^◌, ℤ, List, Option, Some, None, IfSome}
+use Rattle.std.specs.Prelude.{ℕ, ◌≡◌, ◌<◌, ◌^◌, ℤ, List, Option, Some, IfSome}
+use Rattle.std.specs.Option.{option_map_or}
 use Rattle.pb_base.specs.declared.problem.Problem.{Problem}
 use Rattle.pb_opb.specs.Bounded.{bound_weight, bounded}
 use Rattle.pb_opb.specs.Faults.{Reads}
 use Rattle.pb_suite.specs.CommandSpec.{Shelf}
-
--- the problem, with the bound on its objective as a last statement where one is given
-abbrev pub with_bound : Option ℤ → Problem → Problem
-with_bound None p = p
-with_bound (Some bound) p = bounded p bound
 
 -- The text says a plain problem, to which a bound that is given may be added, and with it that is this one.
 pub record Denotes (bound : Option ℤ) (text : List ℕ) (p : Problem) : Type 0 where
   pub plain : Problem
   pub reads : Reads text plain
   pub light : IfSome bound (λ b. bound_weight plain b < 2 ^ 100)
-  pub is : p ≡ with_bound bound plain
+  pub is : p ≡ option_map_or (bounded plain) bound plain
 
 -- the text of this name denotes this problem
 pub record IsDenoted (shelf : Shelf) (name : List ℕ) (bound : Option ℤ) (p : Problem) : Type 0 where

@@ -1,5 +1,5 @@
 -- The specification of encoding a problem. Our own.
-use Rattle.std.specs.Prelude.{ℕ, ◌≡◌, List, [], ◌∷◌, ◌++◌, Option, Some, None}
+use Rattle.std.specs.Prelude.{ℕ, ◌≡◌, ◌⊎◌, ℤ, List, [], ◌∷◌, ◌++◌, Option, Some, None}
 use Rattle.pb_base.specs.declared.file.File.TheVariants.{Opb}
 use Rattle.pb_base.specs.declared.limit.LimitKind.{LimitKind}
 use Rattle.pb_base.specs.declared.problem.Problem.{Problem}
@@ -13,8 +13,8 @@ use Rattle.pb_suite.specs.declared.outcome.Outcome.{Outcome}
 use Rattle.pb_suite.specs.declared.outcome.Outcome.TheVariants as outcome
 use Rattle.pb_suite.specs.Outputs.{Output}
 use Rattle.pb_suite.specs.CommandSpec.{CommandSpec, Shelf, reads_whole}
-use Rattle.pb_suite.specs.Denoted.{Denotes}
-use Rattle.pb_suite.specs.Refusals.{RefusesOpb}
+use Rattle.pb_suite.specs.Denoted.{IsDenoted}
+use Rattle.pb_suite.specs.Refusals.{IsUnread, RefusesOpb}
 
 -- a file that was made
 abbrev pub file_of : ℕ → List ℕ → List ℕ → Made
@@ -25,38 +25,25 @@ abbrev pub proof_files : Option (List ℕ) → List ℕ → List Made
 proof_files None bytes = []
 proof_files (Some name) bytes = file_of 1 name bytes ∷ []
 
--- the files of a problem: its CNF, in slot 0, and the derivation after it
-abbrev pub files_of : FileNames → Options → Problem → List Made
-files_of names o p = proof_files names.proof (derivation_text o p) ++ file_of 0 names.cnf (problem_text o p) ∷ []
-
--- its size, and the rows of its table of bounds, if there is one
-abbrev pub due_words : Options → Problem → List ℕ
-due_words o p = words_of o p
-
--- the files of a problem, and its words
+-- the files of a problem, its CNF in slot 0 and the derivation after it; its size, and the rows of its table of bounds, if there is one
 abbrev pub encoded_output : FileNames → Options → Problem → Output
-encoded_output names o p = record { made = files_of names o p; said = due_words o p }
+encoded_output names o p = record { made = proof_files names.proof (derivation_text o p) ++ file_of 0 names.cnf (problem_text o p) ∷ []; said = words_of o p }
 
 abbrev pub names_in : EncodeWords → FileNames
 names_in w = record { cnf = w.cnf; proof = w.proof }
 
--- the shelf has a text that denotes this problem, which is encoded
-pub record IsEncoded (shelf : Shelf) (w : EncodeWords) (p : Problem) : Type 0 where
-  pub text : List ℕ
-  pub on_shelf : shelf w.opb ≡ Some text
-  pub denotes : Denotes w.bound text p
-  pub encodable : IsEncodable w.options p
+-- the problem is too large to be encoded: first the budget of its table is tested, and then the numbers of variables and of clauses
+pub data PassesLimit (o : Options) (IsDue : Problem → Type 0) : Outcome → Type 0 where
+  over : (p : Problem) (which : LimitKind) → IsDue p → IsOver which o p → PassesLimit o IsDue (outcome.Limit None which None)
 
--- in the order of a run: the text, and the bound if one is given; and then the budget of its table, and the numbers of variables and of clauses
-pub data StopsEncode (shelf : Shelf) (w : EncodeWords) : Outcome → Type 0 where
-  lacking : shelf w.opb ≡ None → StopsEncode shelf w outcome.ReadFault
-  refused : (text : List ℕ) (answer : Outcome) → shelf w.opb ≡ Some text → RefusesOpb w.bound text answer → StopsEncode shelf w answer
-  over : (text : List ℕ) (p : Problem) (which : LimitKind) → shelf w.opb ≡ Some text → Denotes w.bound text p → IsOver which w.options p → StopsEncode shelf w (outcome.Limit None which None)
+-- in the order of a run: the text, and the bound if one is given; and then what is to be made
+abbrev pub StopsEncode : Shelf → List ℕ → Option ℤ → Options → Outcome → Type 0
+StopsEncode shelf opb bound o answer = IsUnread shelf opb (RefusesOpb bound) answer ⊎ PassesLimit o (IsDenoted shelf opb bound) answer
 
 abbrev pub encode_spec : EncodeWords → CommandSpec
 encode_spec w = record {
   texts = record { kind = Opb; name = w.opb } ∷ [];
   leaves_open = reads_whole;
-  stops = λ shelf answer. StopsEncode shelf w answer;
-  done = λ shelf out. (p : Problem) × IsEncoded shelf w p × (out ≡ encoded_output (names_in w) w.options p);
+  stops = λ shelf answer. StopsEncode shelf w.opb w.bound w.options answer;
+  done = λ shelf out. (p : Problem) × IsDenoted shelf w.opb w.bound p × IsEncodable w.options p × (out ≡ encoded_output (names_in w) w.options p);
 }

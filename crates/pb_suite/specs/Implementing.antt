@@ -19,14 +19,6 @@ IsRefusal texts outcome.NoModel = HasKind Model texts
 IsRefusal texts (outcome.NotRefuted line why) = HasKind Lrat texts
 IsRefusal texts other = ⊥
 
--- the writing slots are as before
-abbrev pub KeepsSlots : DeskState → DeskState → Type 0
-KeepsSlots old new = (slot : ℕ) → new.view.writing slot ≡ old.view.writing slot
-
--- the reading slots from a number on are as before
-abbrev pub KeepsReading : ℕ → DeskState → DeskState → Type 0
-KeepsReading few old new = (slot : ℕ) → few ≤ slot → new.view.reading slot ≡ old.view.reading slot
-
 -- no count rose
 pub record IsQuiet (old new : DeskState) : Type 0 where
   pub reads : new.read_faults ≡ old.read_faults
@@ -44,27 +36,23 @@ pub data WritesHeld (o : CommandSpec) (out : Output) (old new : DeskState) : Typ
   well : new.write_faults ≡ old.write_faults → WritesHeld o out old new
   cut_off : out.made ≢ [] → (IsSteady old → LacksSpace o old) → WritesHeld o out old new
 
--- Over every desk, telling or not: all that is due was made and said; or the due refusal is told, or a read failed, and nothing was added; or a write failed, or memory was wanting, and a first part was added.
+-- Over every desk, telling or not: all that is due was made and said, and the writing slots are as before; or the due refusal is told, or a read failed, and nothing was added; or a write failed, or memory was wanting, and a first part was added.
 pub data Answers (o : CommandSpec) (old new : DeskState) : Outcome → Type 0 where
-  done : (out : Output) → IfTold old (λ t. o.done t.shelf out) → Adds out old new → KeepsSlots old new → Answers o old new outcome.Done
+  done : (out : Output) → IfTold old (λ t. o.done t.shelf out) → Adds out old new → ((slot : ℕ) → new.view.writing slot ≡ old.view.writing slot) → Answers o old new outcome.Done
   refused : (answer : Outcome) → IsRefusal o.texts answer → IfTold old (λ t. o.stops t.shelf answer) → Adds nothing old new → Answers o old new answer
   read_fault : Adds nothing old new → Answers o old new outcome.ReadFault
   write_fault : (out : Output) → IfTold old (λ t. MayStand o t.shelf out) → Adds out old new → Answers o old new outcome.WriteFault
   no_memory : (out : Output) → IfTold old (λ t. MayStand o t.shelf out) → Adds out old new → WritesHeld o out old new → Answers o old new outcome.NoMemory
 
--- a fault that is told has its cause
-pub record HasCauses (lacks_text lacks_space : Type 0) (answer : Outcome) : Type 0 where
-  pub reads : answer ≡ outcome.ReadFault → lacks_text
-  pub writes : answer ≡ outcome.WriteFault → lacks_space
-
--- What is spec_of was done, with a reading slot for each of the texts: no more of them were opened, over every desk. So many reads at most gave no byte. A failed read is told only where what was taken of the texts leaves the answer open.
+-- What is specified was done, with a reading slot for each of the texts: no more of them were opened, over every desk. So many reads at most gave no byte. A failed read is told only where what was taken of the texts leaves the answer open, and over a steady desk a fault only for its cause.
 pub record ImplementsWithin (o : CommandSpec) (most : ℕ) (old new : DeskState) (answer : Outcome) : Type 0 where
   pub answers : Answers o old new answer
-  pub opens : KeepsReading (length o.texts) old new
+  pub opens : (slot : ℕ) → length o.texts ≤ slot → new.view.reading slot ≡ old.view.reading slot
   pub ends : new.ends ≤ old.ends + most
   pub counts : Counts old new answer
   pub unsettled : answer ≡ outcome.ReadFault → IfTold new (λ t. o.leaves_open t.shelf (taken_in new.view t))
-  pub causes : IsSteady old → HasCauses (LacksText o old) (LacksSpace o old) answer
+  pub no_text : IsSteady old → answer ≡ outcome.ReadFault → LacksText o old
+  pub no_space : IsSteady old → answer ≡ outcome.WriteFault → LacksSpace o old
 
 -- The command met its specification, and the end of each of its texts once at most.
 abbrev pub Implements : CommandSpec → DeskState → DeskState → Outcome → Type 0

@@ -1,26 +1,19 @@
 -- The specification of listing the free names of a problem. Our own.
-use Rattle.std.specs.Prelude.{ℕ, ◌≡◌, List, [], ◌∷◌, Some, None}
+use Rattle.std.specs.Prelude.{◌≡◌, [], ◌∷◌, None}
 use Rattle.pb_base.specs.declared.file.File.TheVariants.{Opb}
 use Rattle.pb_base.specs.declared.problem.Problem.{Problem}
 use Rattle.pb_model.specs.MapText.{map_text}
 use Rattle.pb_words.specs.MapWords.{MapWords}
-use Rattle.pb_suite.specs.declared.outcome.Outcome.{Outcome}
-use Rattle.pb_suite.specs.declared.outcome.Outcome.TheVariants as outcome
 use Rattle.pb_suite.specs.Outputs.{only_words}
-use Rattle.pb_suite.specs.CommandSpec.{CommandSpec, Shelf, reads_whole}
+use Rattle.pb_suite.specs.CommandSpec.{CommandSpec, reads_whole}
 use Rattle.pb_suite.specs.Denoted.{IsDenoted}
-use Rattle.pb_suite.specs.Refusals.{RefusesOpb}
-
--- the text is not there, or is refused
-pub data StopsMap (shelf : Shelf) (w : MapWords) : Outcome → Type 0 where
-  lacking : shelf w.opb ≡ None → StopsMap shelf w outcome.ReadFault
-  refused : (text : List ℕ) (answer : Outcome) → shelf w.opb ≡ Some text → RefusesOpb None text answer → StopsMap shelf w answer
+use Rattle.pb_suite.specs.Refusals.{IsUnread, RefusesOpb}
 
 -- a line is said for each free name
 abbrev pub map_spec : MapWords → CommandSpec
 map_spec w = record {
   texts = record { kind = Opb; name = w.opb } ∷ [];
   leaves_open = reads_whole;
-  stops = λ shelf answer. StopsMap shelf w answer;
+  stops = λ shelf answer. IsUnread shelf w.opb (RefusesOpb None) answer;
   done = λ shelf out. (p : Problem) × IsDenoted shelf w.opb None p × (out ≡ only_words (map_text p));
 }

@@ -1,5 +1,5 @@
 -- The specification of propagating given literals over a CNF. Unit propagation is the usual one; what is said of it is our own.
-use Rattle.std.specs.Prelude.{ℕ, ◌≡◌, List, [], ◌∷◌, ◌++◌, Some, None, IfSome, codes}
+use Rattle.std.specs.Prelude.{ℕ, ◌≡◌, List, [], ◌∷◌, ◌++◌, Some, IfSome, codes}
 use Rattle.pb_base.specs.declared.file.File.TheVariants.{Cnf}
 use Rattle.pb_base.specs.declared.literal.Lit.{Lit}
 use Rattle.pb_norm.specs.ClausePropagation.{ClauseConflict}
@@ -10,22 +10,13 @@ use Rattle.pb_dimacs.specs.CnfForms.{LeavesTold}
 use Rattle.pb_dimacs.specs.CnfWhole.{told_of}
 use Rattle.pb_dimacs.specs.CnfWhole.CnfTold.{says}
 use Rattle.pb_words.specs.ProbeWords.{ProbeWords}
-use Rattle.pb_suite.specs.declared.outcome.Outcome.{Outcome}
-use Rattle.pb_suite.specs.declared.outcome.Outcome.TheVariants as outcome
 use Rattle.pb_suite.specs.CommandSpec.{CommandSpec, Shelf}
-use Rattle.pb_suite.specs.Refusals.{RefusesCnf}
+use Rattle.pb_suite.specs.Refusals.{IsUnread, RefusesCnf}
 
-abbrev pub conflict_line : List ℕ
-conflict_line = codes "conflict\n"
-
--- the literals as in a clause of CNF text
-abbrev pub fixed_line : List Lit → List ℕ
-fixed_line ls = codes "fixed " ++ clause_text ls
-
--- what is said of literals that are given beside clauses
+-- what is said of literals that are given beside clauses; those that are fixed stand as in a clause of CNF text
 pub data SaysOfLits (clauses : List (List Lit)) (given : List Lit) : List ℕ → Type 0 where
-  conflict : ClauseConflict clauses given → SaysOfLits clauses given conflict_line
-  fixed : (ls : List Lit) → AreReached clauses given ls → SaysOfLits clauses given (fixed_line ls)
+  conflict : ClauseConflict clauses given → SaysOfLits clauses given (codes "conflict\n")
+  fixed : (ls : List Lit) → AreReached clauses given ls → SaysOfLits clauses given (codes "fixed " ++ clause_text ls)
 
 -- the shelf has a text, and of its clauses this line is to be said
 pub record IsProbed (shelf : Shelf) (w : ProbeWords) (line : List ℕ) : Type 0 where
@@ -36,15 +27,10 @@ pub record IsProbed (shelf : Shelf) (w : ProbeWords) (line : List ℕ) : Type 0 
   pub told : told_of text ≡ says head clauses
   pub of_lits : SaysOfLits clauses w.lits line
 
--- the text is not there, or is refused
-pub data StopsProbe (shelf : Shelf) (w : ProbeWords) : Outcome → Type 0 where
-  lacking : shelf w.cnf ≡ None → StopsProbe shelf w outcome.ReadFault
-  refused : (text : List ℕ) (answer : Outcome) → shelf w.cnf ≡ Some text → RefusesCnf text answer → StopsProbe shelf w answer
-
 abbrev pub probe_spec : ProbeWords → CommandSpec
 probe_spec w = record {
   texts = record { kind = Cnf; name = w.cnf } ∷ [];
   leaves_open = λ shelf taken. IfSome (taken 0 w.cnf) LeavesTold;
-  stops = λ shelf answer. StopsProbe shelf w answer;
+  stops = λ shelf answer. IsUnread shelf w.cnf RefusesCnf answer;
   done = λ shelf out. (out.made ≡ []) × IsProbed shelf w out.said;
 }

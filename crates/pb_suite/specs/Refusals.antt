@@ -11,11 +11,12 @@ use Rattle.pb_opb.specs.Bounded.{bound_weight}
 use Rattle.pb_opb.specs.Faults.{IsFirstFault, Reads}
 use Rattle.pb_dimacs.specs.declared.fault.CnfFault.TheVariants as cnf
 use Rattle.pb_dimacs.specs.CnfWhole.{told_of}
-use Rattle.pb_dimacs.specs.CnfWhole.CnfTold.{refuses}
+use Rattle.pb_dimacs.specs.CnfWhole.CnfTold.{refuses as cnf_refuses}
 use Rattle.pb_model.specs.declared.fault.ModelFault.TheVariants as model
 use Rattle.pb_model.specs.ModelReading.{told}
 use Rattle.pb_suite.specs.declared.outcome.Outcome.{Outcome}
 use Rattle.pb_suite.specs.declared.outcome.Outcome.TheVariants as outcome
+use Rattle.pb_suite.specs.CommandSpec.{Shelf}
 
 -- the outcome tells the OPB text's first fault, or, of a text without one, that a bound on its objective is too heavy
 pub data RefusesOpb (bound : Option ℤ) (text : List ℕ) : Outcome → Type 0 where
@@ -25,10 +26,15 @@ pub data RefusesOpb (bound : Option ℤ) (text : List ℕ) : Outcome → Type 0 
 
 -- the outcome tells the CNF text's first fault
 pub data RefusesCnf (text : List ℕ) : Outcome → Type 0 where
-  token : (place : Place) (expected : Expected) → told_of text ≡ refuses (cnf.Token place expected) → RefusesCnf text (outcome.Refused Cnf place expected)
-  limit : (place : Option Place) (which : LimitKind) → told_of text ≡ refuses (cnf.Limit place which) → RefusesCnf text (outcome.Limit (Some Cnf) which place)
+  token : (place : Place) (expected : Expected) → told_of text ≡ cnf_refuses (cnf.Token place expected) → RefusesCnf text (outcome.Refused Cnf place expected)
+  limit : (place : Option Place) (which : LimitKind) → told_of text ≡ cnf_refuses (cnf.Limit place which) → RefusesCnf text (outcome.Limit (Some Cnf) which place)
 
 -- the outcome tells the first fault of what a solver said, beside so many variables
 pub data RefusesModel (vars : ℕ) (text : List ℕ) : Outcome → Type 0 where
   token : (place : Place) (expected : Expected) → told vars text ≡ Err (model.Token place expected) → RefusesModel vars text (outcome.Refused Model place expected)
   limit : (place : Option Place) (which : LimitKind) → told vars text ≡ Err (model.Limit place which) → RefusesModel vars text (outcome.Limit (Some Model) which place)
+
+-- the text of this name is not there, or is refused
+pub data IsUnread (shelf : Shelf) (name : List ℕ) (Refuses : List ℕ → Outcome → Type 0) : Outcome → Type 0 where
+  lacks : shelf name ≡ None → IsUnread shelf name Refuses outcome.ReadFault
+  refuses : (text : List ℕ) (answer : Outcome) → shelf name ≡ Some text → Refuses text answer → IsUnread shelf name Refuses answer

@@ -13,21 +13,16 @@ use Rattle.pb_lrat.specs.LratStates.{started}
 use Rattle.pb_lrat.specs.LratWalk.{LratEnding, lrat_walk}
 use Rattle.pb_lrat.specs.LratWalk.{LratEnding as ending}
 use Rattle.pb_lrat.specs.Refuting.{TakesEnded}
-use Rattle.pb_words.specs.CheckWords.{CheckWords}
 use Rattle.pb_words.specs.RefuteWords.{RefuteWords}
 use Rattle.pb_suite.specs.declared.outcome.Outcome.{Outcome}
 use Rattle.pb_suite.specs.declared.outcome.Outcome.TheVariants as outcome
 use Rattle.pb_suite.specs.Outputs.{only_words}
-use Rattle.pb_suite.specs.CommandSpec.{CommandSpec, Shelf}
+use Rattle.pb_suite.specs.CommandSpec.{CommandSpec, Shelf, Taken}
 use Rattle.pb_suite.specs.CheckSpec.{IsJudged, IsUnjudged, StopsCheck}
-
--- what is checked first
-abbrev pub checked_words : RefuteWords → CheckWords
-checked_words w = record { opb = w.opb; cnf = w.cnf; proof = w.proof; bound = w.bound }
 
 -- the derivation is accepted, and the CNF says these clauses over so many variables
 pub record IsAccepted (shelf : Shelf) (w : RefuteWords) (vars : ℕ) (clauses : List (List Lit)) : Type 0 where
-  pub judged : IsJudged shelf (checked_words w) (Ok Accepted)
+  pub judged : IsJudged shelf w.checked (Ok Accepted)
   pub says_all : SaysClauses judged.cnf vars clauses
 
 -- the same, and the last text ends so as a refutation of these clauses
@@ -41,23 +36,20 @@ pub record IsFollowed (shelf : Shelf) (w : RefuteWords) (end : LratEnding) : Typ
 
 -- in the order of a run: what stops the check; whether the refutation is there; its first fault, or the line at which it is none
 pub data StopsRefute (shelf : Shelf) (w : RefuteWords) : Outcome → Type 0 where
-  unchecked : (answer : Outcome) → StopsCheck shelf (checked_words w) answer → StopsRefute shelf w answer
+  unchecked : (answer : Outcome) → StopsCheck shelf w.checked answer → StopsRefute shelf w answer
   lacking : (vars : ℕ) (clauses : List (List Lit)) → IsAccepted shelf w vars clauses → shelf w.lrat ≡ None → StopsRefute shelf w outcome.ReadFault
   token : (place : Place) (expected : Expected) → IsFollowed shelf w (ending.refused place expected) → StopsRefute shelf w (outcome.Refused Lrat place expected)
   limit : (place : Option Place) (which : LimitKind) → IsFollowed shelf w (ending.limited place which) → StopsRefute shelf w (outcome.Limit (Some Lrat) which place)
   no_refutation : (line : ℕ) (why : LratDenied) → IsFollowed shelf w (ending.not_refuted line why) → StopsRefute shelf w (outcome.NotRefuted line why)
 
 -- the refutation is not open yet, nor is the check's answer settled; or the derivation is accepted, and each line that LF ends in what was taken of the refutation is taken
-abbrev pub IsUnfollowed : Shelf → RefuteWords → Option (List ℕ) → Option (List ℕ) → Option (List ℕ) → Type 0
-IsUnfollowed shelf w cnf proof lrat = ((lrat ≡ None) × IsUnjudged shelf (checked_words w) cnf proof) ⊎ ((vars : ℕ) × (clauses : List (List Lit)) × IsAccepted shelf w vars clauses × TakesEnded (started vars clauses) (unwrap_or lrat []))
-
-abbrev pub refuted_line : List ℕ
-refuted_line = codes "refuted\n"
+abbrev pub IsUnfollowed : Shelf → RefuteWords → Taken → Type 0
+IsUnfollowed shelf w taken = ((taken 3 w.lrat ≡ None) × IsUnjudged shelf w.checked taken) ⊎ ((vars : ℕ) × (clauses : List (List Lit)) × IsAccepted shelf w vars clauses × TakesEnded (started vars clauses) (unwrap_or (taken 3 w.lrat) []))
 
 abbrev pub refute_spec : RefuteWords → CommandSpec
 refute_spec w = record {
-  texts = record { kind = Opb; name = w.opb } ∷ record { kind = Cnf; name = w.cnf } ∷ record { kind = Proof; name = w.proof } ∷ record { kind = Lrat; name = w.lrat } ∷ [];
-  leaves_open = λ shelf taken. IsUnfollowed shelf w (taken 1 w.cnf) (taken 2 w.proof) (taken 3 w.lrat);
+  texts = record { kind = Opb; name = w.checked.opb } ∷ record { kind = Cnf; name = w.checked.cnf } ∷ record { kind = Proof; name = w.checked.proof } ∷ record { kind = Lrat; name = w.lrat } ∷ [];
+  leaves_open = λ shelf taken. IsUnfollowed shelf w taken;
   stops = λ shelf answer. StopsRefute shelf w answer;
-  done = λ shelf out. IsFollowed shelf w ending.refuted × (out ≡ only_words refuted_line);
+  done = λ shelf out. IsFollowed shelf w ending.refuted × (out ≡ only_words (codes "refuted\n"));
 }

@@ -38,14 +38,10 @@ pub data SaysOnly (line : List ℕ) (old new : DeskState) : Outcome → Type 0 w
   write_fault : SaysOnly line old new outcome.WriteFault
   no_memory : SaysOnly line old new outcome.NoMemory
 
--- exactly the text of the solution is due, and is said unless a call failed or memory was wanting
-pub record SaysSolution (w : DecodeWords) (shelf : Shelf) (line : List ℕ) (old new : DeskState) (answer : Outcome) : Type 0 where
-  pub due : IsDue (decode_spec w) shelf (only_words line)
-  pub ends : SaysOnly line old new answer
-
--- so it is of what is told, for each front of a model of the clauses under any options
+-- for each front of a model of the clauses under any options, exactly the text of its solution is due, and is said unless a call failed or memory was wanting
 abbrev pub SaidOf : DecodeWords → DeskState → DeskState → Outcome → Told → Type 0
-SaidOf w old new answer t = (o : Options) (p : Problem) (m : Model) → IsAnswered t.shelf w p m → IsFrontOfModel o p m → SaysSolution w t.shelf (solution_text p m.values) old new answer
+SaidOf w old new answer t = (o : Options) (p : Problem) (m : Model) → IsAnswered t.shelf w p m → IsFrontOfModel o p m
+    → IsDue (decode_spec w) t.shelf (only_words (solution_text p m.values)) × SaysOnly (solution_text p m.values) old new answer
 
 -- so it is where words ask for decoding
 abbrev pub SaysSolutions : Option Wanted → Outcome → DeskState → DeskState → Type 0

@@ -7,7 +7,7 @@ use Rattle.pb_desk.specs.View.{Made, Told}
 use Rattle.pb_desk.specs.Desk.{DeskState, IfTold, IsTold}
 use Rattle.pb_norm.specs.Products.{loaded_of}
 use Rattle.pb_steps.specs.declared.step.Step.{Step}
-use Rattle.pb_steps.specs.Sayable.{IsSayable}
+use Rattle.pb_steps.specs.StepLines.{IsReadBack}
 use Rattle.pb_family.specs.StepSinks.{first_line, steps_text}
 use Rattle.pb_dimacs.specs.CnfReading.{CnfReads}
 use Rattle.pb_check.specs.Walk.{Accepts}
@@ -15,12 +15,12 @@ use Rattle.pb_words.specs.EncodeWords.{EncodeWords}
 use Rattle.pb_words.specs.Parsed.{Wanted}
 use Rattle.pb_words.specs.Parsed.Wanted.{Encode}
 use Rattle.pb_suite.specs.EncodeSpec.{file_of}
-use Rattle.pb_suite.specs.Denoted.{Denotes}
+use Rattle.pb_suite.specs.Denoted.{IsDenoted}
 
 -- Going through the lines of the steps, the one canonical line of each, accepts them beside the problem and the CNF. They are few: at most eight for each fresh variable and each clause, four for each loaded constraint, and eight.
 pub record IsShortDerivation (p : Problem) (cnf : List ℕ) (steps : List Step) : Type 0 where
   pub accepted : Accepts p cnf (steps_text steps)
-  pub sayable : All IsSayable steps
+  pub read_back : All IsReadBack steps
   pub fresh : ℕ
   pub clauses : List (List Lit)
   pub says : CnfReads cnf (originals p + fresh) clauses
@@ -38,10 +38,8 @@ pub record AreFirstLines (steps : List Step) (bytes : List ℕ) : Type 0 where
 pub record IsBegun (w : EncodeWords) (t : Told) (name bytes : List ℕ) (before : List Made) : Type 0 where
   pub named : w.proof ≡ Some name
   pub problem : Problem
-  pub text : List ℕ
   pub cnf : List ℕ
-  pub on_shelf : t.shelf w.opb ≡ Some text
-  pub denotes : Denotes w.bound text problem
+  pub denoted : IsDenoted t.shelf w.opb w.bound problem
   pub behind : before ≡ file_of 0 w.cnf cnf ∷ []
   pub steps : List Step
   pub derivation : IsShortDerivation problem cnf steps

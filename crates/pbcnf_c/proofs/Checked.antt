@@ -16,9 +16,9 @@ use Rattle.pb_words.specs.CheckWords.{CheckWords}
 use Rattle.pb_words.specs.RefuteWords.{RefuteWords}
 use Rattle.pb_suite.specs.declared.outcome.Outcome.{Outcome}
 use Rattle.pb_suite.specs.declared.outcome.Outcome.TheVariants as outcome
-use Rattle.pb_suite.specs.CheckSpec.{accepted_line, check_spec, StopsCheck}
+use Rattle.pb_suite.specs.CheckSpec.{check_spec, StopsCheck}
 use Rattle.pb_suite.specs.CheckSpec.{IsJudged as IsJudgedOn}
-use Rattle.pb_suite.specs.CheckSpec.StopsCheck.{no_problem, bad_problem as bad_file, lacking, token as token_on, limit as limit_on, denial as denial_on}
+use Rattle.pb_suite.specs.CheckSpec.StopsCheck.{unread, lacking, token as token_on, limit as limit_on, denial as denial_on}
 use Rattle.pb_suite.specs.CommandSpec.{Shelf}
 use Rattle.pb_suite.specs.Denoted.{Denotes}
 use Rattle.pb_suite.specs.Headline.{HasNoSolution}
@@ -27,7 +27,8 @@ use Rattle.pb_suite.specs.InMemory.AnswersInMemory.{done, refused, read_fault, w
 use Rattle.pb_suite.specs.InMemory.Overflows.{long_name, long_file, long_words}
 use Rattle.pb_suite.specs.Outputs.{only_words, Output}
 use Rattle.pb_suite.specs.Refusals.{RefusesOpb}
-use Rattle.pb_suite.specs.RefuteSpec.{checked_words, refute_spec, refuted_line, StopsRefute}
+use Rattle.pb_suite.specs.Refusals.IsUnread.{lacks, refuses}
+use Rattle.pb_suite.specs.RefuteSpec.{refute_spec, StopsRefute}
 use Rattle.pb_suite.specs.RefuteSpec.{IsFollowed as IsFollowedOn}
 use Rattle.pb_suite.specs.RefuteSpec.StopsRefute.{unchecked as unchecked_on, lacking as lacking_lrat, token as lrat_token_on, limit as lrat_limit_on, no_refutation}
 use Rattle.pb_suite.proofs.DenotedProblems.{denotes_one, denotes_within}
@@ -81,8 +82,8 @@ module _ (w : CheckWords) (shelf : Shelf) (opb cnf proof : List ℕ) (has_opb : 
       }
 
   pub stops_here : (answer : Outcome) → StopsCheck shelf w answer → StopsChecking w.bound opb cnf proof answer
-  stops_here _ (no_problem none) = cc
-  stops_here _ (bad_file text answer there refuses) = bad_problem answer (subst (λ (t : List ℕ). RefusesOpb w.bound t answer) (same_text (shelf w.opb) text opb there has_opb) refuses)
+  stops_here _ (unread _ (lacks none)) = cc
+  stops_here _ (unread _ (refuses text answer there refusal)) = bad_problem answer (subst (λ (t : List ℕ). RefusesOpb w.bound t answer) (same_text (shelf w.opb) text opb there has_opb) refusal)
   stops_here _ (lacking p denoted (inl none)) = cc
   stops_here _ (lacking p denoted (inr none)) = cc
   stops_here _ (token_on file place e judged) = token file place e (judged_here _ judged)
@@ -93,43 +94,43 @@ module _ (w : CheckWords) (shelf : Shelf) (opb cnf proof : List ℕ) (has_opb : 
   checked most _ few (done out due fits) = accepted (accepted_here due.0)
   checked most _ few (refused answer is stops) = stopped answer (stops_here answer stops)
   checked most _ few (read_fault text among none stops) = stopped outcome.ReadFault (stops_here outcome.ReadFault stops)
-  checked most _ few (write_fault out due over) = absurd (no_overflow accepted_line most out few due.1 over)
+  checked most _ few (write_fault out due over) = absurd (no_overflow (codes "accepted\n") most out few due.1 over)
   checked most _ few wanting = no_memory
 
-module _ (w : RefuteWords) (shelf : Shelf) (opb cnf proof lrat : List ℕ) (has_opb : shelf w.opb ≡ Some opb) (has_cnf : shelf w.cnf ≡ Some cnf) (has_proof : shelf w.proof ≡ Some proof) (has_lrat : shelf w.lrat ≡ Some lrat) where
-  followed_here : (end : LratEnding) → IsFollowedOn shelf w end → IsFollowed w.bound opb cnf proof lrat end
+module _ (w : RefuteWords) (shelf : Shelf) (opb cnf proof lrat : List ℕ) (has_opb : shelf w.checked.opb ≡ Some opb) (has_cnf : shelf w.checked.cnf ≡ Some cnf) (has_proof : shelf w.checked.proof ≡ Some proof) (has_lrat : shelf w.lrat ≡ Some lrat) where
+  followed_here : (end : LratEnding) → IsFollowedOn shelf w end → IsFollowed w.checked.bound opb cnf proof lrat end
   followed_here end on =
       let judged = on.accepted.judged in
       record {
         vars = on.vars;
         clauses = on.clauses;
-        accepted = accepted_here (checked_words w) shelf opb cnf proof has_opb has_cnf has_proof judged;
-        says_all = subst (λ (t : List ℕ). SaysClauses t on.vars on.clauses) (same_text (shelf w.cnf) judged.cnf cnf judged.has_cnf has_cnf) on.accepted.says_all;
+        accepted = accepted_here w.checked shelf opb cnf proof has_opb has_cnf has_proof judged;
+        says_all = subst (λ (t : List ℕ). SaysClauses t on.vars on.clauses) (same_text (shelf w.checked.cnf) judged.cnf cnf judged.has_cnf has_cnf) on.accepted.says_all;
         ends = subst (λ (t : List ℕ). lrat_walk on.vars on.clauses t ≡ end) (same_text (shelf w.lrat) on.lrat lrat on.has_lrat has_lrat) on.ends;
       }
 
-  none_here : (p : Problem) → Denotes w.bound opb p → HasNoSolution w shelf → (values : List Bool) → ¬ IsSolution p values
+  none_here : (p : Problem) → Denotes w.checked.bound opb p → HasNoSolution w shelf → (values : List Bool) → ¬ IsSolution p values
   none_here p denotes unsolved values solution =
-      let there = subst (λ (t : List ℕ). Denotes w.bound t unsolved.problem) (same_text (shelf w.opb) unsolved.text opb unsolved.on_shelf has_opb) unsolved.denotes in
-      unsolved.none values (subst (λ (q : Problem). IsSolution q values) (denotes_one w.bound opb p unsolved.problem denotes there) solution)
+      let there = subst (λ (t : List ℕ). Denotes w.checked.bound t unsolved.problem) (same_text (shelf w.checked.opb) unsolved.denoted.text opb unsolved.denoted.on_shelf has_opb) unsolved.denoted.denotes in
+      unsolved.none values (subst (λ (q : Problem). IsSolution q values) (denotes_one w.checked.bound opb p unsolved.problem denotes there) solution)
 
-  refuted_here : IsFollowedOn shelf w ending.refuted → HasNoSolution w shelf → IsRefuted w.bound opb cnf proof lrat
+  refuted_here : IsFollowedOn shelf w ending.refuted → HasNoSolution w shelf → IsRefuted w.checked.bound opb cnf proof lrat
   refuted_here on unsolved =
       let here = followed_here ending.refuted on in
       record { followed = here; none = none_here here.accepted.problem here.accepted.denotes unsolved }
 
-  refute_stops : (answer : Outcome) → StopsRefute shelf w answer → Refutes w.bound opb cnf proof lrat answer
-  refute_stops _ (unchecked_on answer stops) = unchecked answer (stops_here (checked_words w) shelf opb cnf proof has_opb has_cnf has_proof answer stops)
+  refute_stops : (answer : Outcome) → StopsRefute shelf w answer → Refutes w.checked.bound opb cnf proof lrat answer
+  refute_stops _ (unchecked_on answer stops) = unchecked answer (stops_here w.checked shelf opb cnf proof has_opb has_cnf has_proof answer stops)
   refute_stops _ (lacking_lrat vars clauses before none) = cc
   refute_stops _ (lrat_token_on place e followed) = lrat_token place e (followed_here _ followed)
   refute_stops _ (lrat_limit_on place which followed) = lrat_limit place which (followed_here _ followed)
   refute_stops _ (no_refutation line why followed) = lrat_denial line why (followed_here _ followed)
 
-  pub refutes : (most : ℕ) (answer : Outcome) → 8 ≤ most → (answer ≡ outcome.Done → HasNoSolution w shelf) → AnswersInMemory (refute_spec w) shelf most answer → Refutes w.bound opb cnf proof lrat answer
+  pub refutes : (most : ℕ) (answer : Outcome) → 8 ≤ most → (answer ≡ outcome.Done → HasNoSolution w shelf) → AnswersInMemory (refute_spec w) shelf most answer → Refutes w.checked.bound opb cnf proof lrat answer
   refutes most _ few unsolved (done out due fits) = refuted (refuted_here due.0 (unsolved refl))
   refutes most _ few unsolved (refused answer is stops) = refute_stops answer stops
   refutes most _ few unsolved (read_fault text among none stops) = refute_stops outcome.ReadFault stops
-  refutes most _ few unsolved (write_fault out due over) = absurd (no_overflow refuted_line most out few due.1 over)
+  refutes most _ few unsolved (write_fault out due over) = absurd (no_overflow (codes "refuted\n") most out few due.1 over)
   refutes most _ few unsolved wanting = refute_no_memory
 
 -- ---- over the files that the calls make
@@ -142,7 +143,7 @@ checked_files w files opb cnf proof answer are has_opb has_cnf has_proof answers
     let due = checked_texts opb cnf proof in
     checked w (shelf_of files) opb cnf proof (at files due (codes "opb") w.opb opb are has_opb refl) (at files due (codes "cnf") w.cnf cnf are has_cnf refl) (at files due (codes "proof") w.proof proof are has_proof refl) 16 answer (omega arith) answers
 
-pub refuted_files : (w : RefuteWords) (files : List Named) (opb cnf proof lrat : List ℕ) (answer : Outcome) → files ≡ refuted_texts opb cnf proof lrat → w.opb ≡ codes "opb" → w.cnf ≡ codes "cnf" → w.proof ≡ codes "proof" → w.lrat ≡ codes "lrat" → (answer ≡ outcome.Done → HasNoSolution w (shelf_of files)) → AnswersInMemory (refute_spec w) (shelf_of files) 16 answer → Refutes w.bound opb cnf proof lrat answer
+pub refuted_files : (w : RefuteWords) (files : List Named) (opb cnf proof lrat : List ℕ) (answer : Outcome) → files ≡ refuted_texts opb cnf proof lrat → w.checked.opb ≡ codes "opb" → w.checked.cnf ≡ codes "cnf" → w.checked.proof ≡ codes "proof" → w.lrat ≡ codes "lrat" → (answer ≡ outcome.Done → HasNoSolution w (shelf_of files)) → AnswersInMemory (refute_spec w) (shelf_of files) 16 answer → Refutes w.checked.bound opb cnf proof lrat answer
 refuted_files w files opb cnf proof lrat answer are has_opb has_cnf has_proof has_lrat unsolved answers =
     let due = refuted_texts opb cnf proof lrat in
-    refutes w (shelf_of files) opb cnf proof lrat (at files due (codes "opb") w.opb opb are has_opb refl) (at files due (codes "cnf") w.cnf cnf are has_cnf refl) (at files due (codes "proof") w.proof proof are has_proof refl) (at files due (codes "lrat") w.lrat lrat are has_lrat refl) 16 answer (omega arith) unsolved answers
+    refutes w (shelf_of files) opb cnf proof lrat (at files due (codes "opb") w.checked.opb opb are has_opb refl) (at files due (codes "cnf") w.checked.cnf cnf are has_cnf refl) (at files due (codes "proof") w.checked.proof proof are has_proof refl) (at files due (codes "lrat") w.lrat lrat are has_lrat refl) 16 answer (omega arith) unsolved answers

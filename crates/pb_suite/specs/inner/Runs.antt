@@ -1,4 +1,5 @@
 -- What the steps of a run do to a desk. It serves proofs.
+use Rattle.pb_encode.specs.BoundLines.{words_of}
 use Rattle.std.specs.Prelude.{ℕ, ◌≡◌, ◌≤◌, ◌<◌, ◌+◌, List, take, length, Option, Some, None}
 use Rattle.pb_base.specs.declared.expected.Expected.{Expected}
 use Rattle.pb_base.specs.declared.file.File.{File}
@@ -28,7 +29,10 @@ use Rattle.pb_encode.specs.Encodings.{made_files, FileNames, Lacks, StopsEncodin
 use Rattle.pb_encode.specs.Summaries.{IsOver, IsEncodable}
 use Rattle.pb_suite.specs.declared.outcome.Outcome.{Outcome}
 use Rattle.pb_suite.specs.declared.outcome.Outcome.TheVariants as outcome
-use Rattle.pb_suite.specs.EncodeSpec.{due_words}
+
+-- the reading slots from a number on are as before
+abbrev pub KeepsReading : ℕ → DeskState → DeskState → Type 0
+KeepsReading few old new = (slot : ℕ) → few ≤ slot → new.view.reading slot ≡ old.view.reading slot
 
 -- so many bytes of the file were read, in this slot
 abbrev pub fetched : ℕ → List ℕ → ℕ → View → View
@@ -112,14 +116,14 @@ outcome_of encode.NoMemory = outcome.NoMemory
 pub data StopsStoring (o : Options) (p : Problem) (names : FileNames) (old new : DeskState) : Outcome → Type 0 where
   over : (which : LimitKind) → IsOver which o p → Reaches same old new → StopsStoring o p names old new (outcome.Limit None which None)
   not_made : IsEncodable o p → StopsEncoding o p names old new → StopsStoring o p names old new outcome.WriteFault
-  in_words : IsEncodable o p → (count : ℕ) → FailsToWrite (stored o p names (take count (due_words o p))) old new → StopsStoring o p names old new outcome.WriteFault
+  in_words : IsEncodable o p → (count : ℕ) → FailsToWrite (stored o p names (take count (words_of o p))) old new → StopsStoring o p names old new outcome.WriteFault
   no_memory : WantsMemory o p names old new → StopsStoring o p names old new outcome.NoMemory
   no_words : IsEncodable o p → Reaches (made_files o p names) old new → StopsStoring o p names old new outcome.NoMemory
 
 -- Why a steady desk may fail to store: something lacks for the files, or there is no room for the words.
 pub data LacksToStore (o : Options) (p : Problem) (names : FileNames) (desk : DeskState) : Type 0 where
   to_make : Lacks o p names desk → LacksToStore o p names desk
-  to_say : LacksRoom words (length (due_words o p)) desk → LacksToStore o p names desk
+  to_say : LacksRoom words (length (words_of o p)) desk → LacksToStore o p names desk
 
 -- so many bytes of the file were read, of those that it has
 pub record FetchesPart (slot : ℕ) (name : List ℕ) (count : ℕ) (old new : DeskState) : Type 0 where
@@ -132,7 +136,7 @@ FetchesMore slot name most old new = (count : ℕ) × (most < count) × FetchesP
 
 -- all was made and said
 abbrev pub stored_whole : Options → Problem → FileNames → View → View
-stored_whole o p names = stored o p names (due_words o p)
+stored_whole o p names = stored o p names (words_of o p)
 
 -- how storing an encoding ended: with all made and said, or without it
 pub data EndsStoring (o : Options) (p : Problem) (names : FileNames) (old new : DeskState) : Outcome → Type 0 where

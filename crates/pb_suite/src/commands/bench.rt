@@ -1,10 +1,7 @@
 //! Encoding a generated problem.
 ghost use Rattle.std.specs.Prelude.{◌≡◌, ◌≤◌, ◌^◌, None, Some, Err, OnOk, IfOk, IfErr};
 ghost use Rattle.pb_base.specs.Problems.{IsWithinLimits};
-ghost use Rattle.pb_base.specs.Defaults.{default_options};
-ghost use Rattle.pb_desk.specs.View.{spoke};
-ghost use Rattle.pb_desk.specs.Desk.{IsClosed, IsSteady, LacksRoom, Reaches, words};
-ghost use Rattle.pb_encode.specs.Summaries.{IsEncodable};
+ghost use Rattle.pb_desk.specs.Desk.{IsClosed};
 ghost use Rattle.pb_gen.specs.Generated.{generated};
 ghost use Rattle.pb_opb.specs.Faults.{Reads};
 ghost use Rattle.pb_words.specs.BenchWords.{as_bench_words};

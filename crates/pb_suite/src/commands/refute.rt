@@ -76,8 +76,8 @@ fn check_opened<D: Desk>(
     requires cnf_open { IsTrue ((D.state desk.old).view.reading 1) }
     requires proof_open { IsTrue ((D.state desk.old).view.reading 2) }
     requires lrat_free { (D.state desk.old).view.reading 3 ≡ false }
-    requires denoted { IfTold (D.state desk.old) (λ t. IsDenoted t.shelf (as_refute_words asked.now).opb (as_refute_words asked.now).bound problem.now) }
-    requires both { IfTold (D.state desk.old) (HasBoth (as_refute_words asked.now).cnf (as_refute_words asked.now).proof) }
+    requires denoted { IfTold (D.state desk.old) (λ t. IsDenoted t.shelf (as_refute_words asked.now).checked.opb (as_refute_words asked.now).checked.bound problem.now) }
+    requires both { IfTold (D.state desk.old) (HasBoth (as_refute_words asked.now).checked.cnf (as_refute_words asked.now).checked.proof) }
     ensures { ImplementsWithin (refute_spec (as_refute_words asked.now)) 3 (D.state desk.old) (D.state desk.new) result }
 {
     let (verdict, vars, clauses) = match check_kept(alloc, problem, desk, 1, 2) {
@@ -101,7 +101,7 @@ fn open_and_check<D: Desk>(
     requires cnf_free { (D.state desk.old).view.reading 1 ≡ false }
     requires proof_free { (D.state desk.old).view.reading 2 ≡ false }
     requires lrat_free { (D.state desk.old).view.reading 3 ≡ false }
-    requires denoted { IfTold (D.state desk.old) (λ t. IsDenoted t.shelf (as_refute_words asked.now).opb (as_refute_words asked.now).bound problem.now) }
+    requires denoted { IfTold (D.state desk.old) (λ t. IsDenoted t.shelf (as_refute_words asked.now).checked.opb (as_refute_words asked.now).checked.bound problem.now) }
     ensures { ImplementsWithin (refute_spec (as_refute_words asked.now)) 3 (D.state desk.old) (D.state desk.new) result }
 {
     match open_both(asked.cnf, asked.proof, desk) {

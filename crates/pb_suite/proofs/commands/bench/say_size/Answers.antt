@@ -1,3 +1,4 @@
+use Rattle.pb_encode.specs.BoundLines.{words_of}
 use Rattle.std.proofs.Common.{ℕ, List, Option, None, Err, ap, subst, sym}
 use Rattle.pb_base.specs.declared.limit.LimitKind.{LimitKind}
 use Rattle.pb_base.specs.declared.options.Options.{Options}
@@ -8,7 +9,6 @@ use Rattle.pb_suite.specs.declared.outcome.Outcome.TheVariants as outcome
 use Rattle.pb_suite.specs.Implementing.{Implements}
 use Rattle.pb_suite.specs.Outputs.{only_words}
 use Rattle.pb_suite.specs.BenchSpec.{bench_output, bench_spec}
-use Rattle.pb_suite.specs.EncodeSpec.{due_words}
 use Rattle.pb_suite.specs.inner.Saying.{EndsTelling}
 use Rattle.pb_suite.proofs.Endings.{bare_memory, is_refused}
 use Rattle.pb_suite.proofs.Going.{stays}
@@ -41,7 +41,7 @@ returns-in-Ok g c =
     let p = c.args.problem.now in
     let a = g.D.Desk.state c.args.desk.now in
     let d = g.D.Desk.state c.say_summary.new.desk in
-    let line = due_words default_options p in
+    let line = words_of default_options p in
     let due = bench_due w p a c.requires.reads (only_words line) (ap (λ (n : Option (List ℕ)). bench_output n p) (sym c.requires.unnamed)) (rw (sym c.default-options.ensures) c.in-Ok.ensures.encodable) in
     telling_implements (bench_spec w) line a d (g.met.D.Desk.steady_tells c.args.desk.now) due c.say_summary.result
-    (subst (λ (o : Options). EndsTelling (due_words o p) a d c.say_summary.result) c.default-options.ensures c.say_summary.ensures)
+    (subst (λ (o : Options). EndsTelling (words_of o p) a d c.say_summary.result) c.default-options.ensures c.say_summary.ensures)

@@ -1,8 +1,9 @@
-use Rattle.std.proofs.Common.{ℕ, List, Option, ap, subst, sym}
+use Rattle.std.proofs.Common.{ℕ, List, Option, None, ap, subst, sym}
 use Rattle.pb_base.specs.Defaults.{default_options}
 use Rattle.pb_base.specs.declared.options.Options.{Options}
 use Rattle.pb_words.specs.BenchWords.{as_bench_words}
-use Rattle.pb_suite.specs.BenchSpec.{bench_output, only_cnf, bench_spec}
+use Rattle.pb_suite.specs.BenchSpec.{bench_output, bench_spec}
+use Rattle.pb_encode.specs.Encodings.{FileNames}
 use Rattle.pb_suite.specs.EncodeSpec.{encoded_output}
 use Rattle.pb_suite.specs.inner.Runs.{EndsStoring}
 use Rattle.pb_suite.proofs.BenchSpecs.{bench_due, bench_over}
@@ -16,7 +17,8 @@ returns g c =
     let name = c.args.name.now in
     let a = g.D.Desk.state c.args.desk.now in
     let b = g.D.Desk.state c.store.new.desk in
-    storing_implements (bench_spec w) default_options p (only_cnf name) a b (g.met.D.Desk.steady_tells c.args.desk.now) (λ e. cc)
-    (bench_due w p a c.requires.reads (encoded_output (only_cnf name) default_options p) (ap (λ (n : Option (List ℕ)). bench_output n p) (sym c.requires.named)))
+    let names : FileNames = record { cnf = name; proof = None } in
+    storing_implements (bench_spec w) default_options p names a b (g.met.D.Desk.steady_tells c.args.desk.now) (λ e. cc)
+    (bench_due w p a c.requires.reads (encoded_output names default_options p) (ap (λ (n : Option (List ℕ)). bench_output n p) (sym c.requires.named)))
     (bench_over w p a c.requires.reads)
-    c.requires.closed.writing c.store.result (subst (λ (o : Options). EndsStoring o p (only_cnf name) a b c.store.result) c.default.ensures c.store.ensures)
+    c.requires.closed.writing c.store.result (subst (λ (o : Options). EndsStoring o p names a b c.store.result) c.default.ensures c.store.ensures)

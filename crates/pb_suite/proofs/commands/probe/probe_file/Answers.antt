@@ -4,7 +4,6 @@ use Rattle.pb_base.proofs.Members.{Contains-here}
 use Rattle.pb_words.specs.ProbeWords.{as_probe_words}
 use Rattle.pb_suite.specs.CommandSpec.{Text}
 use Rattle.pb_suite.specs.ProbeSpec.{probe_spec}
-use Rattle.pb_suite.specs.ProbeSpec.StopsProbe.{refused, lacking}
 use Rattle.pb_suite.specs.Refusals.{RefusesCnf}
 use Rattle.pb_suite.specs.inner.Saying.{EndsSaying}
 use Rattle.pb_suite.proofs.Afterwards.{implements_after}
@@ -19,7 +18,7 @@ pub returns-in-Err : goal.returns-in-Err
 returns-in-Err g c =
     let w = as_probe_words c.args.asked.now in
     let text : Text = record { kind = Cnf; name = w.cnf } in
-    reading_implements (probe_spec w) 0 text (omega arith) (Contains-here text []) (inl refl) RefusesCnf (λ shelf bytes answer. refused bytes answer) (λ shelf none. lacking none) (g.D.Desk.state c.args.desk.now) (g.D.Desk.state c.read_cnf.new.desk)
+    reading_implements (probe_spec w) 0 text (omega arith) (Contains-here text []) (inl refl) RefusesCnf (λ shelf answer unread. unread) (g.D.Desk.state c.args.desk.now) (g.D.Desk.state c.read_cnf.new.desk)
     c.in-Err.outcome c.in-Err.ensures.stopped (λ steady is. c.in-Err.ensures.steady steady (ap Err is)) (λ e keeps shelf. c.in-Err.ensures.unsettled (ap Err e))
 
 pub returns-in-Err-line_of : goal.returns-in-Err-line_of

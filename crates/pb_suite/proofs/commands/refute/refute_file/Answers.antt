@@ -1,37 +1,25 @@
-use Rattle.std.proofs.Common.{Err, [], ◌∷◌, ◌∙◌, ap, inl, refl, arith}
-use Rattle.pb_base.specs.declared.file.File.TheVariants.{Opb, Cnf, Proof, Lrat}
-use Rattle.pb_base.proofs.Members.{Contains-here}
+use Rattle.std.proofs.Common.{Err, ◌∙◌, ap, refl, arith}
 use Rattle.pb_desk.specs.View.{View}
 use Rattle.pb_words.specs.RefuteWords.{as_refute_words}
-use Rattle.pb_suite.specs.CommandSpec.{Text}
-use Rattle.pb_suite.specs.RefuteSpec.{checked_words, refute_spec}
-use Rattle.pb_suite.specs.CheckSpec.StopsCheck.{bad_problem, no_problem}
+use Rattle.pb_suite.specs.RefuteSpec.{refute_spec}
+use Rattle.pb_suite.specs.CheckSpec.StopsCheck.{unread}
 use Rattle.pb_suite.specs.RefuteSpec.StopsRefute.{unchecked}
-use Rattle.pb_suite.specs.Refusals.{RefusesOpb}
-use Rattle.pb_suite.proofs.Afterwards.{implements_after}
 use Rattle.pb_suite.proofs.CheckSpecs.{unbegun_all}
-use Rattle.pb_suite.proofs.Going.{goes_fetched}
-use Rattle.pb_suite.proofs.DenotedProblems.{denoted_by}
-use Rattle.pb_suite.proofs.Refused.{reading_implements}
+use Rattle.pb_suite.proofs.Posed.{posed, read_first, unread_ends}
 use Rattle.pb_suite.proofs.RefuteSpecs.{unfollowed}
 use Rattle.pb_suite.proofs.commands.refute.refute_file.Goals as goal
 
 pub returns-in-Err : goal.returns-in-Err
 returns-in-Err g c =
     let w = as_refute_words c.args.asked.now in
-    let text : Text = record { kind = Opb; name = w.opb } in
-    let others = record { kind = Cnf; name = w.cnf } ∷ record { kind = Proof; name = w.proof } ∷ record { kind = Lrat; name = w.lrat } ∷ [] in
-    reading_implements (refute_spec w) 0 text (omega arith) (Contains-here text others) (inl refl) (RefusesOpb w.bound) (λ shelf bytes answer has refuses. unchecked answer (bad_problem bytes answer has refuses)) (λ shelf none. unchecked _ (no_problem none)) (g.D.Desk.state c.args.desk.now) (g.D.Desk.state c.read_problem.new.desk)
-    c.in-Err.outcome c.in-Err.ensures.stopped (λ steady is. c.in-Err.ensures.steady steady (ap Err is))
-    (λ e keeps shelf. unfollowed w (g.D.Desk.state c.read_problem.new.desk) (keeps 3 (omega arith) ∙ c.requires.closed.reading 3) (unbegun_all (checked_words w) (g.D.Desk.state c.read_problem.new.desk) (keeps 1 (omega arith) ∙ c.requires.closed.reading 1) (keeps 2 (omega arith) ∙ c.requires.closed.reading 2)))
+    let b = g.D.Desk.state c.read_problem.new.desk in
+    unread_ends (refute_spec w) w.checked.opb _ refl w.checked.bound (λ shelf answer is. unchecked answer (unread answer is)) c.in-Err.outcome c.in-Err.ensures.stopped (λ steady is. c.in-Err.ensures.steady steady (ap Err is))
+    (λ keeps. unfollowed w b (keeps 3 (omega arith) ∙ c.requires.closed.reading 3) (unbegun_all w.checked b (keeps 1 (omega arith) ∙ c.requires.closed.reading 1) (keeps 2 (omega arith) ∙ c.requires.closed.reading 2)))
 
 pub open_and_check-requires-clause-denoted : goal.open_and_check-requires-clause-denoted
 open_and_check-requires-clause-denoted g c =
     let w = as_refute_words c.args.asked.now in
-    let a = g.D.Desk.state c.args.desk.now in
-    let b = g.D.Desk.state c.read_problem.new.desk in
-    let read = c.in-Ok.ensures.read in
-    denoted_by w.opb w.bound c.in-Ok.problem a b (goes_fetched 4 0 w.opb read.0 a b (omega arith) read.1) c.in-Ok.ensures.denotes
+    posed (refute_spec w) w.checked.opb _ refl w.checked.bound c.in-Ok.ensures.read c.in-Ok.problem c.in-Ok.ensures.denotes
 
 pub open_and_check-requires-clause-cnf_free : goal.open_and_check-requires-clause-cnf_free
 open_and_check-requires-clause-cnf_free g c = ap (λ (v : View). v.reading 1) c.in-Ok.ensures.read.1.reached.view ∙ c.requires.closed.reading 1
@@ -43,10 +31,4 @@ pub open_and_check-requires-clause-lrat_free : goal.open_and_check-requires-clau
 open_and_check-requires-clause-lrat_free g c = ap (λ (v : View). v.reading 3) c.in-Ok.ensures.read.1.reached.view ∙ c.requires.closed.reading 3
 
 pub returns-in-Ok : goal.returns-in-Ok
-returns-in-Ok g c =
-    let w = as_refute_words c.args.asked.now in
-    let a = g.D.Desk.state c.args.desk.now in
-    let b = g.D.Desk.state c.read_problem.new.desk in
-    let d = g.D.Desk.state c.open_and_check.new.desk in
-    let read = c.in-Ok.ensures.read in
-    implements_after (refute_spec w) a b d (goes_fetched 4 0 w.opb read.0 a b (omega arith) read.1) _ c.open_and_check.ensures
+returns-in-Ok g c = let w = as_refute_words c.args.asked.now in read_first (refute_spec w) w.checked.opb _ refl w.checked.bound c.in-Ok.ensures.read _ _ c.open_and_check.ensures

@@ -1,47 +1,23 @@
-use Rattle.std.proofs.Common.{Err, [], ◌∙◌, ap, inl, refl, arith}
-use Rattle.pb_base.specs.declared.file.File.TheVariants.{Opb}
-use Rattle.pb_base.proofs.Members.{Contains-here}
+use Rattle.std.proofs.Common.{Err, [], ◌∙◌, ap, inl, refl}
 use Rattle.pb_words.specs.WcnfWords.{as_wcnf_words}
-use Rattle.pb_suite.specs.CommandSpec.{Text}
 use Rattle.pb_suite.specs.WcnfSpec.{wcnf_spec}
-use Rattle.pb_suite.specs.WcnfSpec.StopsWcnf.{refused, lacking}
-use Rattle.pb_suite.specs.Refusals.{RefusesOpb}
-use Rattle.pb_suite.proofs.Afterwards.{implements_after}
 use Rattle.pb_suite.proofs.Endings.{always}
-use Rattle.pb_suite.proofs.Going.{goes_fetched, keeps}
-use Rattle.pb_suite.proofs.DenotedProblems.{denoted_by}
-use Rattle.pb_suite.proofs.Refused.{reading_implements}
+use Rattle.pb_suite.proofs.Going.{keeps}
+use Rattle.pb_suite.proofs.Posed.{goes_on, posed, read_first, unread_ends}
 use Rattle.pb_suite.proofs.commands.wcnf.wcnf_file.Goals as goal
 
 pub returns-in-Err : goal.returns-in-Err
 returns-in-Err g c =
     let w = as_wcnf_words c.args.asked.now in
-    let text : Text = record { kind = Opb; name = w.opb } in
-    reading_implements (wcnf_spec w) 0 text (omega arith) (Contains-here text []) (inl refl) (RefusesOpb w.bound) (λ shelf bytes answer. refused bytes answer) (λ shelf none. lacking none) (g.D.Desk.state c.args.desk.now) (g.D.Desk.state c.read_problem.new.desk)
-    c.in-Err.outcome c.in-Err.ensures.stopped (λ steady is. c.in-Err.ensures.steady steady (ap Err is)) (λ e keeps shelf. always (g.D.Desk.state c.read_problem.new.desk) (λ t. Unit {0}) (λ t. tt))
+    unread_ends (wcnf_spec w) w.opb [] refl w.bound (λ shelf answer is. inl is) c.in-Err.outcome c.in-Err.ensures.stopped (λ steady is. c.in-Err.ensures.steady steady (ap Err is)) (λ keeps. always (g.D.Desk.state c.read_problem.new.desk) (λ t. Unit {0}) (λ t. tt))
 
 pub store_weighted-requires-clause-denoted : goal.store_weighted-requires-clause-denoted
-store_weighted-requires-clause-denoted g c =
-    let w = as_wcnf_words c.args.asked.now in
-    let a = g.D.Desk.state c.args.desk.now in
-    let b = g.D.Desk.state c.read_problem.new.desk in
-    let read = c.in-Ok.ensures.read in
-    denoted_by w.opb w.bound c.in-Ok.problem a b (goes_fetched 1 0 w.opb read.0 a b (omega arith) read.1) c.in-Ok.ensures.denotes
+store_weighted-requires-clause-denoted g c = let w = as_wcnf_words c.args.asked.now in posed (wcnf_spec w) w.opb [] refl w.bound c.in-Ok.ensures.read c.in-Ok.problem c.in-Ok.ensures.denotes
 
 pub store_weighted-requires-clause-free : goal.store_weighted-requires-clause-free
 store_weighted-requires-clause-free g c =
     let w = as_wcnf_words c.args.asked.now in
-    let a = g.D.Desk.state c.args.desk.now in
-    let b = g.D.Desk.state c.read_problem.new.desk in
-    let read = c.in-Ok.ensures.read in
-    let goes = goes_fetched 1 0 w.opb read.0 a b (omega arith) read.1 in
-    λ slot. keeps a b goes slot ∙ c.requires.closed.writing slot
+    λ slot. keeps _ _ (goes_on (wcnf_spec w) w.opb [] refl w.bound c.in-Ok.ensures.read) slot ∙ c.requires.closed.writing slot
 
 pub returns-in-Ok : goal.returns-in-Ok
-returns-in-Ok g c =
-    let w = as_wcnf_words c.args.asked.now in
-    let a = g.D.Desk.state c.args.desk.now in
-    let b = g.D.Desk.state c.read_problem.new.desk in
-    let d = g.D.Desk.state c.store_weighted.new.desk in
-    let read = c.in-Ok.ensures.read in
-    implements_after (wcnf_spec w) a b d (goes_fetched 1 0 w.opb read.0 a b (omega arith) read.1) _ c.store_weighted.ensures
+returns-in-Ok g c = let w = as_wcnf_words c.args.asked.now in read_first (wcnf_spec w) w.opb [] refl w.bound c.in-Ok.ensures.read _ _ c.store_weighted.ensures
