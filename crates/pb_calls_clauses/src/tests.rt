@@ -1,7 +1,6 @@
 use std::process::Abort;
 
 mod clause_reader;
-mod desks;
 mod propagation;
 mod refutations;
 mod settling;

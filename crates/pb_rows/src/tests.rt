@@ -1,5 +1,6 @@
 mod benches;
 mod bounds;
+mod cases;
 mod checks;
 mod decodes;
 mod derivations;
@@ -11,6 +12,7 @@ mod refuses;
 mod refutes;
 mod sizes;
 mod tables;
+mod texts;
 mod wcnfs;
 mod words;
 
@@ -18,18 +20,6 @@ use pb_base::{Ids, NoMemory, Seq};
 use pb_desk::Shelf;
 use pb_runs::{Run, named, refusal_of, run_freely, run_over, run_with};
 use std::alloc::Global;
-use std::process::Abort;
-
-// This is what was found of a text with these words. The assertions and the loop over each kind of case are proved once here,
-// since that takes much longer than a call. A table of cases stands in its call for the same reason: there it is a constant.
-fn assert_found(rt: &impl Abort, found: Option<String>, due: &str, words: &str, text: &str) {
-    assert_eq!(rt; found.as_deref(), Some(due), "{words} at {text}");
-}
-
-// What is due of a text with these words was found.
-fn assert_due(rt: &impl Abort, is_due: bool, words: &str, text: &str) {
-    assert!(rt; is_due, "{words} at {text}");
-}
 
 // These files come behind the others.
 fn put_files(alloc: Global, files: &mut Shelf, texts: &[(&str, &[u8])]) -> Result<(), NoMemory> {
@@ -64,14 +54,6 @@ fn told(alloc: Global, words: &str, texts: &[(&str, &[u8])]) -> Option<String> {
     told_of(alloc, &run)
 }
 
-// With each of these words, this is told of the text, and no file is made.
-fn each_told(rt: &impl Abort, alloc: Global, cases: &[(&str, &str, &str)]) {
-    for &(words, text, line) in cases {
-        let found = told(alloc, words, &[("a", text.as_bytes())]);
-        assert_found(rt, found, line, words, text);
-    }
-}
-
 // The one file that a run made, where it is done.
 fn made_by(alloc: Global, run: &Run) -> Option<String> {
     if run.outcome.status() != 0 || run.desk.made(1).is_some() {
@@ -87,14 +69,6 @@ fn made_by(alloc: Global, run: &Run) -> Option<String> {
 fn made(alloc: Global, words: &str, text: &str) -> Option<String> {
     let run = run_freely(alloc, words, text.as_bytes()).ok()?;
     made_by(alloc, &run)
-}
-
-// With each of these words, this one file is made of the text.
-fn each_made(rt: &impl Abort, alloc: Global, cases: &[(&str, &str, &str)]) {
-    for &(words, text, file) in cases {
-        let found = made(alloc, words, text);
-        assert_found(rt, found, file, words, text);
-    }
 }
 
 // The run is done, made this one file, and said this.
@@ -113,27 +87,11 @@ fn is_encoded(alloc: Global, words: &str, text: &str, file: &str, said: &str) ->
     }
 }
 
-// With each of these words, this one file is made of the text, and this is said.
-fn each_encoded(rt: &impl Abort, alloc: Global, cases: &[(&str, &str, &str, &str)]) {
-    for &(words, text, file, said) in cases {
-        let is_due = is_encoded(alloc, words, text, file, said);
-        assert_due(rt, is_due, words, text);
-    }
-}
-
 // With these words, one file is made of the text, and this is said.
 fn is_sized(alloc: Global, words: &str, text: &str, said: &str) -> bool {
     match run_freely(alloc, words, text.as_bytes()) {
         Ok(run) => made_by(alloc, &run).is_some() && run.desk.said() == said.as_bytes(),
         Err(_) => false,
-    }
-}
-
-// With each of these words, one file is made of the text, and this is said.
-fn each_sized(rt: &impl Abort, alloc: Global, cases: &[(&str, &str, &str)]) {
-    for &(words, text, said) in cases {
-        let is_due = is_sized(alloc, words, text, said);
-        assert_due(rt, is_due, words, text);
     }
 }
 

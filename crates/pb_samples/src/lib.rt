@@ -1,9 +1,12 @@
 //! Constraints that tests are made of, and texts that show them.
 #![tactic(auto)]
 
+mod desks;
+
 ghost use Rattle.std.specs.Prelude.{◌≤◌, ◌<◌};
 ghost use Rattle.pb_family.specs.Families.{VarsBelow};
 
+pub use desks::{desk_with, named};
 use pb_base::{Lit, LitWord, Raw, Term, read_literal, words};
 use pb_family::{Family, TextSink};
 use pb_norm::{AtMost, Half, Linear, Linears, Rest, load, normalize, reduce};

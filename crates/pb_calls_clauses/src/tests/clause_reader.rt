@@ -4,10 +4,9 @@ ghost use Rattle.pb_desk.specs.Desk.{IsClosed};
 ghost use Rattle.pb_dimacs.specs.CnfReaders.{new_reader};
 
 use super::assert_found;
-use super::desks::desk_with;
 use pb_desk::Desk;
 use pb_dimacs::{ClauseReader, CnfFault, CnfForms, CnfHead, read_forms};
-use pb_samples::{constraint_text, lits_text};
+use pb_samples::{constraint_text, desk_with, lits_text};
 use std::alloc::Global;
 
 // A fault: its place and what was expected there, or no more than its kind.
@@ -77,7 +76,7 @@ fn told<D: Desk>(alloc: Global, desk: &mut D) -> Option<String>
 }
 
 fn told_of(alloc: Global, text: &str) -> Option<String> {
-    let mut desk = desk_with(alloc, text.as_bytes(), 0, 3).ok()?;
+    let mut desk = desk_with(alloc, text.as_bytes(), 0, 3, 64).ok()?;
     told(alloc, &mut desk)
 }
 
@@ -139,7 +138,7 @@ fn whole<D: Desk>(alloc: Global, desk: &mut D) -> Option<String>
 
 // The same of a text, where the call of this number fails.
 fn whole_of(alloc: Global, text: &str, fails: u64) -> Option<String> {
-    let mut desk = desk_with(alloc, text.as_bytes(), fails, 3).ok()?;
+    let mut desk = desk_with(alloc, text.as_bytes(), fails, 3, 64).ok()?;
     whole(alloc, &mut desk)
 }
 

@@ -2,12 +2,11 @@
 ghost use Rattle.pb_desk.specs.Desk.{IsClosed};
 
 use super::assert_found;
-use super::desks::desk_with;
 use pb_base::{Clause, Clauses};
 use pb_desk::Desk;
 use pb_lrat::{LratChecker, refute};
-use pb_samples::lits;
-use std::alloc::Global;
+use pb_samples::{desk_with, lits};
+use std::alloc::{Alloc, Global};
 use std::process::Abort;
 
 fn push_clause(alloc: Global, made: &mut Clauses, line: &str) -> Option<()> {
@@ -48,11 +47,17 @@ fn told_of(alloc: Global, vars: u32, cnf: &str, lines: &str) -> Option<String> {
     told_by(alloc, &mut checker, lines)
 }
 
-// Beside each of these clauses over so many variables, this is told of the lines.
-fn each_told(rt: &impl Abort, alloc: Global, cases: &[(u32, &str, &str, &str)]) {
-    for &(vars, cnf, lines, expected) in cases {
-        let found = told_of(alloc, vars, cnf, lines);
-        assert_found(rt, found, expected);
+trait Cases {
+    // Beside each of these clauses over so many variables, this is told of the lines.
+    fn each_told(&self, cases: &[(u32, &str, &str, &str)]);
+}
+
+impl<R: Abort + Alloc<A = Global>> Cases for R {
+    fn each_told(&self, cases: &[(u32, &str, &str, &str)]) {
+        for &(vars, cnf, lines, expected) in cases {
+            let found = told_of(self.alloc(), vars, cnf, lines);
+            assert_found(self, found, expected);
+        }
     }
 }
 
@@ -79,80 +84,76 @@ fn a_long_clause_is_taken(rt: HostRuntime) {
 
 #[test]
 fn lines_are_taken_denied_or_refused(rt: HostRuntime) {
-    each_told(
-        &rt,
-        rt.alloc(),
-        &[
-            (2, THREE, "4 0 2 3 1 0", "refuted"),
-            (
-                2,
-                THREE,
-                "c x2\n10 2 0 1 2 0\n1 d 1 7 0\n\n20 0 10 3 0",
-                "refuted",
-            ),
-            (2, THREE, "4 1 -1 0 0\n5 1 1 0 3 1 0\n6 0 5 2 0", "refuted"),
-            (0, "", "", "refuted"),
-            // Great variables.
-            ((1 << 31) - 1, GREAT, "5 0 2 1 3 4 0", "refuted"),
-            ((1 << 31) - 1, GREAT, "5 0 2 3 4 1 0", "Denied(NoConflict)"),
-            // Many clauses are deleted, and those that are left stay what they are.
-            (
-                2,
-                THREE,
-                "4 1 2 0 1 0\n5 2 1 0 1 0\n6 1 2 1 0 1 0\n6 d 1 4 6 0\n7 1 0 3 5 0\n7 d 5 3 0\n8 0 7 2 0",
-                "refuted",
-            ),
-            (
-                2,
-                THREE,
-                "4 1 2 0 1 0\n4 d 1 4 2 0\n5 0 3 4 0",
-                "Denied(UnknownHint { id: 4 })",
-            ),
-            // Lines that are denied.
-            (2, THREE, "", "no empty clause"),
-            (2, THREE, "4 0 2 3 0", "Denied(NoConflict)"),
-            (2, THREE, "3 0 2 0", "Denied(OldId { id: 3 })"),
-            (2, THREE, "4 0 9 0", "Denied(UnknownHint { id: 9 })"),
-            (
-                2,
-                THREE,
-                "9 d 1 0\n4 0 2 3 1 0",
-                "Denied(UnknownHint { id: 1 })",
-            ),
-            (
-                2,
-                THREE,
-                "4 0 2 3 1 0\n4 0 2 3 1 0",
-                "Denied(OldId { id: 4 })",
-            ),
-            // Lines that are refused.
-            (
-                2,
-                THREE,
-                "4 0 2 -3 1 0",
-                "Token { column: 7, expected: LratHint }",
-            ),
-            (
-                2,
-                THREE,
-                "4 3 0 1 0",
-                "Token { column: 3, expected: LratLiteral }",
-            ),
-            (2, THREE, "d 1 0", "Token { column: 1, expected: LratId }"),
-            (
-                2,
-                THREE,
-                "4 0 2 0 1",
-                "Token { column: 9, expected: LratEnd }",
-            ),
-            (
-                2,
-                THREE,
-                "9223372036854775808 0 0",
-                "Limit { column: 1, which: Number }",
-            ),
-        ],
-    );
+    rt.each_told(&[
+        (2, THREE, "4 0 2 3 1 0", "refuted"),
+        (
+            2,
+            THREE,
+            "c x2\n10 2 0 1 2 0\n1 d 1 7 0\n\n20 0 10 3 0",
+            "refuted",
+        ),
+        (2, THREE, "4 1 -1 0 0\n5 1 1 0 3 1 0\n6 0 5 2 0", "refuted"),
+        (0, "", "", "refuted"),
+        // Great variables.
+        ((1 << 31) - 1, GREAT, "5 0 2 1 3 4 0", "refuted"),
+        ((1 << 31) - 1, GREAT, "5 0 2 3 4 1 0", "Denied(NoConflict)"),
+        // Many clauses are deleted, and those that are left stay what they are.
+        (
+            2,
+            THREE,
+            "4 1 2 0 1 0\n5 2 1 0 1 0\n6 1 2 1 0 1 0\n6 d 1 4 6 0\n7 1 0 3 5 0\n7 d 5 3 0\n8 0 7 2 0",
+            "refuted",
+        ),
+        (
+            2,
+            THREE,
+            "4 1 2 0 1 0\n4 d 1 4 2 0\n5 0 3 4 0",
+            "Denied(UnknownHint { id: 4 })",
+        ),
+        // Lines that are denied.
+        (2, THREE, "", "no empty clause"),
+        (2, THREE, "4 0 2 3 0", "Denied(NoConflict)"),
+        (2, THREE, "3 0 2 0", "Denied(OldId { id: 3 })"),
+        (2, THREE, "4 0 9 0", "Denied(UnknownHint { id: 9 })"),
+        (
+            2,
+            THREE,
+            "9 d 1 0\n4 0 2 3 1 0",
+            "Denied(UnknownHint { id: 1 })",
+        ),
+        (
+            2,
+            THREE,
+            "4 0 2 3 1 0\n4 0 2 3 1 0",
+            "Denied(OldId { id: 4 })",
+        ),
+        // Lines that are refused.
+        (
+            2,
+            THREE,
+            "4 0 2 -3 1 0",
+            "Token { column: 7, expected: LratHint }",
+        ),
+        (
+            2,
+            THREE,
+            "4 3 0 1 0",
+            "Token { column: 3, expected: LratLiteral }",
+        ),
+        (2, THREE, "d 1 0", "Token { column: 1, expected: LratId }"),
+        (
+            2,
+            THREE,
+            "4 0 2 0 1",
+            "Token { column: 9, expected: LratEnd }",
+        ),
+        (
+            2,
+            THREE,
+            "9223372036854775808 0 0",
+            "Limit { column: 1, which: Number }",
+        ),
+    ]);
 }
 
 // What a file of a desk is told as a refutation.
@@ -169,7 +170,7 @@ fn refuted_on<D: Desk>(alloc: Global, desk: &mut D) -> Option<String>
 
 // The same of a text.
 fn read(alloc: Global, text: &str) -> Option<String> {
-    let mut desk = desk_with(alloc, text.as_bytes(), 0, 7).ok()?;
+    let mut desk = desk_with(alloc, text.as_bytes(), 0, 7, 64).ok()?;
     refuted_on(alloc, &mut desk)
 }
 
@@ -195,7 +196,7 @@ fn refutations_are_read(rt: HostRuntime) {
 
 // The same of a text over a desk that gives ten bytes at once, and whose third call fails.
 fn read_twice(alloc: Global, text: &str) -> Option<String> {
-    let mut desk = desk_with(alloc, text.as_bytes(), 3, 10).ok()?;
+    let mut desk = desk_with(alloc, text.as_bytes(), 3, 10, 64).ok()?;
     refuted_on(alloc, &mut desk)
 }
 

@@ -2,12 +2,12 @@
 ghost use Rattle.pb_desk.specs.Desk.{IsClosed};
 
 use super::assert_found;
-use super::desks::desk_with;
 use super::propagation::lit_at;
 use pb_base::Failed;
 use pb_desk::{Desk, MemoryDesk};
 use pb_dimacs::{ClauseWriter, HardWriter, WriteBuffer};
 use pb_family::ClauseSink;
+use pb_samples::desk_with;
 use std::alloc::Global;
 
 // Writes a text of three clauses to a new file.
@@ -57,7 +57,7 @@ fn written_to(alloc: Global, desk: &mut MemoryDesk, weighted: bool) -> Option<St
 }
 
 fn written(alloc: Global, weighted: bool) -> Option<String> {
-    let mut desk = desk_with(alloc, b"", 0, 5).ok()?;
+    let mut desk = desk_with(alloc, b"", 0, 5, 64).ok()?;
     written_to(alloc, &mut desk, weighted)
 }
 

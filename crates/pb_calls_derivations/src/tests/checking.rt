@@ -4,36 +4,26 @@ ghost use Rattle.pb_base.specs.Problems.{IsWithinLimits};
 ghost use Rattle.pb_desk.specs.Desk.{IsClosed};
 
 use super::assert_found;
-use pb_base::{Bytes, Ids, Problem, Seq, Text};
+use pb_base::{Ids, NoMemory, Problem, Seq};
 use pb_check::{CheckFault, Verdict, check};
 use pb_desk::{Desk, MemoryDesk, Named};
 use pb_opb::read_opb;
-use std::alloc::Global;
+use pb_samples::named;
+use std::alloc::{Alloc, Global};
 use std::process::Abort;
 
-fn named(alloc: Global, name: &str, text: &str) -> Option<Named> {
-    Some(Named {
-        name: Text::from_string(name.to_string(alloc).ok()?),
-        bytes: Bytes::from_vec(text.as_bytes().to_vec(alloc).ok()?),
-    })
-}
-
-fn push_file(alloc: Global, files: &mut Seq<Named>, name: &str, text: &str) -> Option<()> {
-    files.push(named(alloc, name, text)?).ok()
-}
-
-fn files_of(alloc: Global, cnf: &str, proof: &str) -> Option<Seq<Named>> {
+fn files_of(alloc: Global, cnf: &str, proof: &str) -> Result<Seq<Named>, NoMemory> {
     let mut files = Seq::new(alloc);
-    push_file(alloc, &mut files, "cnf", cnf)?;
-    push_file(alloc, &mut files, "proof", proof)?;
-    Some(files)
+    files.push(named(alloc, "cnf", cnf.as_bytes())?)?;
+    files.push(named(alloc, "proof", proof.as_bytes())?)?;
+    Ok(files)
 }
 
 /// A desk with the files `cnf` and `proof`, whose calls of these numbers fail.
 pub fn desk_with(alloc: Global, cnf: &str, proof: &str, fails: Ids) -> Option<MemoryDesk>
     ensures { IfSome result (λ desk. IsClosed (⟦<MemoryDesk as Desk>⟧.state desk)) }
 {
-    let files = files_of(alloc, cnf, proof)?;
+    let files = files_of(alloc, cnf, proof).ok()?;
     MemoryDesk::new(alloc, files, fails, 7, 256).ok()
 }
 
@@ -95,18 +85,17 @@ fn told(alloc: Global, opb: &str, cnf: &str, loaded: u32, steps: &str) -> Option
     checked(alloc, opb, cnf, proof.as_str())
 }
 
-// Beside a problem and a CNF, this is told of the steps.
-fn each_told(
-    rt: &impl Abort,
-    alloc: Global,
-    opb: &str,
-    cnf: &str,
-    loaded: u32,
-    cases: &[(&str, &str)],
-) {
-    for &(steps, expected) in cases {
-        let found = told(alloc, opb, cnf, loaded, steps);
-        assert_found(rt, found, expected);
+trait Cases {
+    // Beside a problem and a CNF, this is told of the steps.
+    fn each_told(&self, opb: &str, cnf: &str, loaded: u32, cases: &[(&str, &str)]);
+}
+
+impl<R: Abort + Alloc<A = Global>> Cases for R {
+    fn each_told(&self, opb: &str, cnf: &str, loaded: u32, cases: &[(&str, &str)]) {
+        for &(steps, expected) in cases {
+            let found = told(self.alloc(), opb, cnf, loaded, steps);
+            assert_found(self, found, expected);
+        }
     }
 }
 
@@ -116,9 +105,7 @@ const TWO_CLAUSES: &str = "p cnf 2 2\n1 2 0\n-1 -2 0\n";
 
 #[test]
 fn steps_beside_two_clauses(rt: HostRuntime) {
-    each_told(
-        &rt,
-        rt.alloc(),
+    rt.each_told(
         EQUATION,
         TWO_CLAUSES,
         2,
@@ -162,9 +149,7 @@ const UNIT_AND_CLAUSE: &str = "p cnf 3 2\n1 0\n2 3 0\n";
 
 #[test]
 fn steps_beside_a_unit_and_a_clause(rt: HostRuntime) {
-    each_told(
-        &rt,
-        rt.alloc(),
+    rt.each_told(
         WEIGHTS,
         UNIT_AND_CLAUSE,
         1,

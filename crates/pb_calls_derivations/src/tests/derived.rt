@@ -3,7 +3,7 @@ use super::assert_found;
 use super::changed_lines::report;
 use super::checking::is_accepted;
 use super::files::{Kind, Sum, made};
-use std::alloc::Global;
+use std::alloc::{Alloc, Global};
 use std::process::Abort;
 
 const THREE: &str = "-1 x1 -1 x2 -1 x3 >= -1 ;";
@@ -63,11 +63,17 @@ fn report_of(alloc: Global, kind: Kind, opb: &str, first: u32) -> Option<String>
     report(alloc, kind, sum)
 }
 
-// Of each family's derivation for a text, with fresh variables from a number on, this is told.
-fn each_reported(rt: &impl Abort, alloc: Global, cases: &[(Kind, &str, u32, &str)]) {
-    for &(kind, opb, first, expected) in cases {
-        let found = report_of(alloc, kind, opb, first);
-        assert_found(rt, found, expected);
+trait Cases {
+    // Of each family's derivation for a text, with fresh variables from a number on, this is told.
+    fn each_reported(&self, cases: &[(Kind, &str, u32, &str)]);
+}
+
+impl<R: Abort + Alloc<A = Global>> Cases for R {
+    fn each_reported(&self, cases: &[(Kind, &str, u32, &str)]) {
+        for &(kind, opb, first, expected) in cases {
+            let found = report_of(self.alloc(), kind, opb, first);
+            assert_found(self, found, expected);
+        }
     }
 }
 
@@ -76,73 +82,53 @@ fn each_reported(rt: &impl Abort, alloc: Global, cases: &[(Kind, &str, u32, &str
 // (a unit implies a clause with its literal).
 #[test]
 fn at_most_one_is_derived(rt: HostRuntime) {
-    each_reported(
-        &rt,
-        rt.alloc(),
-        &[
-            (Kind::Pairs, THREE, 4, "9: 0 0 3 0"),
-            (Kind::Ladder, THREE, 4, "19: 2 2 0 0"),
-            (Kind::Pairs, SIX, 7, "33: 0 0 15 0"),
-            (Kind::Ladder, SIX, 7, "46: 5 5 0 0"),
-            (Kind::Grid, SIX, 7, "54: 7 6 0 0"),
-        ],
-    );
+    rt.each_reported(&[
+        (Kind::Pairs, THREE, 4, "9: 0 0 3 0"),
+        (Kind::Ladder, THREE, 4, "19: 2 2 0 0"),
+        (Kind::Pairs, SIX, 7, "33: 0 0 15 0"),
+        (Kind::Ladder, SIX, 7, "46: 5 5 0 0"),
+        (Kind::Grid, SIX, 7, "54: 7 6 0 0"),
+    ]);
 }
 
 #[test]
 fn counts_are_derived(rt: HostRuntime) {
-    each_reported(
-        &rt,
-        rt.alloc(),
-        &[
-            (Kind::Counter, FOUR, 5, "47: 6 8 0 1"),
-            (Kind::Totalizer, FOUR, 5, "52: 7 9 0 0"),
-            (Kind::Totalizer, FIVE, 6, "80: 11 14 0 0"),
-        ],
-    );
+    rt.each_reported(&[
+        (Kind::Counter, FOUR, 5, "47: 6 8 0 1"),
+        (Kind::Totalizer, FOUR, 5, "52: 7 9 0 0"),
+        (Kind::Totalizer, FIVE, 6, "80: 11 14 0 0"),
+    ]);
 }
 
 #[test]
 fn diagrams_are_derived(rt: HostRuntime) {
-    each_reported(
-        &rt,
-        rt.alloc(),
-        &[
-            (Kind::Diagram, FALLING, 4, "22: 3 3 0 0"),
-            (Kind::Diagram, MEETING, 5, "34: 5 5 0 0"),
-            (Kind::Diagram, MIXED, 5, "39: 6 6 0 0"),
-            (Kind::Diagram, GREAT, 4, "22: 3 3 0 0"),
-            (Kind::Diagram, NEAR, 4, "22: 3 3 0 0"),
-        ],
-    );
+    rt.each_reported(&[
+        (Kind::Diagram, FALLING, 4, "22: 3 3 0 0"),
+        (Kind::Diagram, MEETING, 5, "34: 5 5 0 0"),
+        (Kind::Diagram, MIXED, 5, "39: 6 6 0 0"),
+        (Kind::Diagram, GREAT, 4, "22: 3 3 0 0"),
+        (Kind::Diagram, NEAR, 4, "22: 3 3 0 0"),
+    ]);
 }
 
 // No clause has need of what an output of the root below the last one means where it is true.
 #[test]
 fn trees_are_derived(rt: HostRuntime) {
-    each_reported(
-        &rt,
-        rt.alloc(),
-        &[
-            (Kind::Tree, FALLING, 4, "49: 8 12 0 0"),
-            (Kind::Tree, GREAT, 4, "49: 8 12 0 0"),
-            (Kind::Tree, NEAR, 4, "36: 5 7 0 0"),
-        ],
-    );
+    rt.each_reported(&[
+        (Kind::Tree, FALLING, 4, "49: 8 12 0 0"),
+        (Kind::Tree, GREAT, 4, "49: 8 12 0 0"),
+        (Kind::Tree, NEAR, 4, "36: 5 7 0 0"),
+    ]);
 }
 
 // All adders stand in one block, so there is one running sum, which goes last. At most one implies each clause of two of its
 // literals and others.
 #[test]
 fn adders_are_derived(rt: HostRuntime) {
-    each_reported(
-        &rt,
-        rt.alloc(),
-        &[
-            (Kind::Adder, FALLING, 4, "49: 5 5 0 0"),
-            (Kind::Adder, THREE, 4, "41: 3 3 7 0"),
-        ],
-    );
+    rt.each_reported(&[
+        (Kind::Adder, FALLING, 4, "49: 5 5 0 0"),
+        (Kind::Adder, THREE, 4, "41: 3 3 7 0"),
+    ]);
 }
 
 // Whether a family derives what the second of two statements leaves, with fresh variables from 20 on.

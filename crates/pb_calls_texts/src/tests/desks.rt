@@ -1,34 +1,12 @@
-ghost use Rattle.std.specs.Prelude.{◌≡◌, ◌≤◌, false, IfOk};
+ghost use Rattle.std.specs.Prelude.{◌≡◌, ◌≤◌, false};
 ghost use Rattle.pb_desk.specs.Desk.{IsClosed};
 
 use super::assert_found;
-use pb_base::{Bytes, Failed, Ids, NoMemory, Seq, Text};
-use pb_desk::{Desk, MemoryDesk, Named, TextFault, read_whole, say_all, write_all};
+use pb_base::{Bytes, Failed, NoMemory};
+use pb_desk::{Desk, MemoryDesk, TextFault, read_whole, say_all, write_all};
+use pb_samples::desk_with;
 use std::alloc::{Alloc, Global};
 use std::test::Fail;
-
-// The file `in` of these bytes.
-fn file_in(alloc: Global, bytes: &[u8]) -> Result<Named, NoMemory> {
-    let name = Text::from_string("in".to_string(alloc)?);
-    let bytes = Bytes::from_vec(bytes.to_vec(alloc)?);
-    Ok(Named { name, bytes })
-}
-
-/// A desk with the file `in` of these bytes, whose call of this number fails; of number 0 there is none.
-pub fn desk_with(
-    alloc: Global,
-    bytes: &[u8],
-    fails: u64,
-    piece: usize,
-    room: usize,
-) -> Result<MemoryDesk, NoMemory>
-    requires { 1 ≤ piece }
-    ensures { IfOk result (λ desk. IsClosed (⟦<MemoryDesk as Desk>⟧.state desk)) }
-{
-    let fails = Ids::from_vec(vec![in alloc; fails]?);
-    let files = Seq::from_vec(vec![in alloc; file_in(alloc, bytes)?]?);
-    MemoryDesk::new(alloc, files, fails, piece, room)
-}
 
 // Writes a text, and says it.
 fn put<D: Desk>(desk: &mut D, to: &str, text: &[u8]) -> Result<(), Failed>

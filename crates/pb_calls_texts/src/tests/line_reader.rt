@@ -3,8 +3,8 @@ ghost use Rattle.std.specs.Prelude.{◌≤◌, IsTrue, IfOk};
 ghost use Rattle.pb_desk.specs.Desk.{IsClosed};
 
 use super::assert_found;
-use super::desks::desk_with;
 use pb_desk::{Desk, LineLimits, LineReader};
+use pb_samples::desk_with;
 use std::alloc::Global;
 
 const AMPLE: LineLimits = LineLimits {

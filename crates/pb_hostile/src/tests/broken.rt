@@ -3,7 +3,7 @@ ghost use Rattle.std.specs.Prelude.{◌<◌};
 
 use super::{assert_found, run_on};
 use pb_runs::{Run, is_silent, refusal_of};
-use std::alloc::Global;
+use std::alloc::{Alloc, Global};
 use std::process::Abort;
 
 // The status of a run (`a` for 10), or `-` where it is done and makes and says nothing. A run that is not done makes and says nothing:
@@ -118,12 +118,18 @@ fn broken(alloc: Global, words: &str, texts: [&[u8]; 4], at: usize) -> Option<St
     Some(marks)
 }
 
-// With each of these words, the runs over these texts of which one is broken have these marks. A table stands in its call,
-// where it is a constant: one that is made when it runs takes much longer to prove.
-fn each_broken(rt: &impl Abort, alloc: Global, texts: [&[u8]; 4], cases: &[(&str, usize, &str)]) {
-    for &(words, at, marks) in cases {
-        let found = broken(alloc, words, texts, at);
-        assert_found(rt, found, marks, words, at);
+trait Cases {
+    // With each of these words, the runs over these texts of which one is broken have these marks. A table stands in its call,
+    // where it is a constant: one that is made when it runs takes much longer to prove.
+    fn each_broken(&self, texts: [&[u8]; 4], cases: &[(&str, usize, &str)]);
+}
+
+impl<R: Abort + Alloc<A = Global>> Cases for R {
+    fn each_broken(&self, texts: [&[u8]; 4], cases: &[(&str, usize, &str)]) {
+        for &(words, at, marks) in cases {
+            let found = broken(self.alloc(), words, texts, at);
+            assert_found(self, found, marks, words, at);
+        }
     }
 }
 
@@ -139,9 +145,7 @@ const ENCODED: &str = "\
 #[test]
 fn encoding(rt: HostRuntime) {
     let opb: &[u8] = b"* #variable= 2 #constraint= 1\nmin: +1 x2 ;\n+1 x1 +2 ~x2 >= 2 ;\n";
-    each_broken(
-        &rt,
-        rt.alloc(),
+    rt.each_broken(
         [opb, b"", b"", b""],
         &[
             ("pbcnf encode a d", 0, ENCODED),
@@ -162,9 +166,7 @@ const BOUNDED: &str = "\
 #[test]
 fn a_heavy_bound(rt: HostRuntime) {
     let opb: &[u8] = b"min: +1 x2 ;\n+1 x1 +2 ~x2 >= 2 ;\n";
-    each_broken(
-        &rt,
-        rt.alloc(),
+    rt.each_broken(
         [opb, b"", b"", b""],
         &[(
             "pbcnf encode a d --at-most=1267650600228229401496703205374",
@@ -185,12 +187,7 @@ const MAPPED: &str = "\
 #[test]
 fn mapping(rt: HostRuntime) {
     let opb: &[u8] = b"min: +1 sun ;\n+1 x1 +2 ~sun >= 2 ;\n";
-    each_broken(
-        &rt,
-        rt.alloc(),
-        [opb, b"", b"", b""],
-        &[("pbcnf map a", 0, MAPPED)],
-    );
+    rt.each_broken([opb, b"", b"", b""], &[("pbcnf map a", 0, MAPPED)]);
 }
 
 const PROBED: &str = "\
@@ -204,12 +201,7 @@ const PROBED: &str = "\
 #[test]
 fn probing(rt: HostRuntime) {
     let cnf: &[u8] = b"c note\np cnf 3 3\n1 -2 0\n2\n3 0\n-1 0\n";
-    each_broken(
-        &rt,
-        rt.alloc(),
-        [cnf, b"", b"", b""],
-        &[("pbcnf probe a x1", 0, PROBED)],
-    );
+    rt.each_broken([cnf, b"", b"", b""], &[("pbcnf probe a x1", 0, PROBED)]);
 }
 
 const DECODED_PROBLEMS: &str = "\
@@ -232,9 +224,7 @@ const DECODED_MODELS: &str = "\
 fn decoding(rt: HostRuntime) {
     let opb: &[u8] = b"+1 x1 +1 x2 = 1 ;\n";
     let model: &[u8] = b"c note\ns SATISFIABLE\nv 1 -2 0\n";
-    each_broken(
-        &rt,
-        rt.alloc(),
+    rt.each_broken(
         [opb, model, b"", b""],
         &[
             ("pbcnf decode a b", 0, DECODED_PROBLEMS),
@@ -264,9 +254,7 @@ const BOUNDED_MODELS: &str = "\
 fn decoding_beside_a_bound(rt: HostRuntime) {
     let opb: &[u8] = b"min: +2 x1 -1 ~x2 ;\n+1 x1 +1 x2 >= 1 ;\n";
     let model: &[u8] = b"s SATISFIABLE\nv -1 2 0\n";
-    each_broken(
-        &rt,
-        rt.alloc(),
+    rt.each_broken(
         [opb, model, b"", b""],
         &[
             ("pbcnf decode a b --at-most=0", 0, BOUNDED_PROBLEMS),
@@ -305,9 +293,7 @@ fn checking(rt: HostRuntime) {
     let cnf: &[u8] = b"p cnf 4 2\n1 0\n2 3 0\n";
     let proof: &[u8] = b"pseudo-Boolean derivation profile 1\nf 1\nrup +1 x1 >= 1 ; 1\nout 2\n\
 pol 1 x1 w s\nout 3\nred +1 x4 >= 1 ; x4 -> 1\ndel 1 4\nend\n";
-    each_broken(
-        &rt,
-        rt.alloc(),
+    rt.each_broken(
         [opb, cnf, proof, b""],
         &[
             ("pbcnf check a b c", 0, CHECKED_PROBLEMS),
@@ -331,9 +317,7 @@ fn refuting(rt: HostRuntime) {
     let cnf: &[u8] = b"p cnf 2 3\n1 2 0\n-1 0\n-2 0\n";
     let proof: &[u8] = b"pseudo-Boolean derivation profile 1\nf 3\nout 1\nout 2\nout 3\nend\n";
     let lrat: &[u8] = b"c a\n4 1 0 3 1 0\n5 d 1 3 0\n6 0 4 2 0\n";
-    each_broken(
-        &rt,
-        rt.alloc(),
+    rt.each_broken(
         [opb, cnf, proof, lrat],
         &[("pbcnf refute a b c l", 3, REFUTED)],
     );

@@ -3,7 +3,7 @@ ghost use Rattle.std.specs.Prelude.{◌≤◌, ◌<◌};
 
 use super::run_on;
 use pb_runs::{Run, is_silent};
-use std::alloc::Global;
+use std::alloc::{Alloc, Global};
 use std::process::Abort;
 
 // The file that a run made in a slot, or nothing.
@@ -202,13 +202,19 @@ fn is_tried(alloc: Global, words: &str, texts: [&[u8]; 4], count: usize) -> bool
     }
 }
 
-// With each of these words a run is tried so, which reads the first `count` of these texts. A table stands in its call, where
-// it is a constant: one that is made when it runs takes much longer to prove.
-fn each_tried(rt: &impl Abort, alloc: Global, cases: &[(&str, &str, &str, usize)]) {
-    for &(words, first, second, count) in cases {
-        let texts = [first.as_bytes(), second.as_bytes(), b"", b""];
-        let is_tried = is_tried(alloc, words, texts, count);
-        assert!(rt; is_tried, "at {words}");
+trait Cases {
+    // With each of these words a run is tried so, which reads the first `count` of these texts. A table stands in its call, where
+    // it is a constant: one that is made when it runs takes much longer to prove.
+    fn each_tried(&self, cases: &[(&str, &str, &str, usize)]);
+}
+
+impl<R: Abort + Alloc<A = Global>> Cases for R {
+    fn each_tried(&self, cases: &[(&str, &str, &str, usize)]) {
+        for &(words, first, second, count) in cases {
+            let texts = [first.as_bytes(), second.as_bytes(), b"", b""];
+            let is_tried = is_tried(self.alloc(), words, texts, count);
+            assert!(self; is_tried, "at {words}");
+        }
     }
 }
 
@@ -239,26 +245,22 @@ const DERIVE: &str = "pbcnf encode a d e";
 
 #[test]
 fn each_command(rt: HostRuntime) {
-    each_tried(
-        &rt,
-        rt.alloc(),
-        &[
-            ("pbcnf encode a d", ONE, "", 1),
-            ("pbcnf encode a d", WEIGHTS, "", 1),
-            ("pbcnf encode a d --at-most=2 --table", COSTS, "", 1),
-            ("pbcnf wcnf a d", COSTS, "", 1),
-            ("pbcnf decode a b", ONE, PRINTED, 2),
-            ("pbcnf map a", NAMES, "", 1),
-            ("pbcnf probe a x1 x2", COUNTER, "", 1),
-            ("pbcnf bench 1 0", "", "", 0),
-            ("pbcnf bench 1 0 d", "", "", 0),
-        ],
-    );
+    rt.each_tried(&[
+        ("pbcnf encode a d", ONE, "", 1),
+        ("pbcnf encode a d", WEIGHTS, "", 1),
+        ("pbcnf encode a d --at-most=2 --table", COSTS, "", 1),
+        ("pbcnf wcnf a d", COSTS, "", 1),
+        ("pbcnf decode a b", ONE, PRINTED, 2),
+        ("pbcnf map a", NAMES, "", 1),
+        ("pbcnf probe a x1 x2", COUNTER, "", 1),
+        ("pbcnf bench 1 0", "", "", 0),
+        ("pbcnf bench 1 0 d", "", "", 0),
+    ]);
 }
 
 #[test]
 fn a_derivation_is_made(rt: HostRuntime) {
-    each_tried(&rt, rt.alloc(), &[(DERIVE, WEIGHTS, "", 1)]);
+    rt.each_tried(&[(DERIVE, WEIGHTS, "", 1)]);
 }
 
 // The check of the CNF and the derivation that the run made of the weights is tried.

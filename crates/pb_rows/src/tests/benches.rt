@@ -1,4 +1,5 @@
-use super::{each_encoded, each_told, run_widely};
+use super::cases::Cases;
+use super::run_widely;
 use pb_gen::generate;
 use pb_runs::Run;
 use std::alloc::Global;
@@ -11,15 +12,11 @@ const ONE: &str = "p cnf 11 1\n3 -7 0\n";
 
 #[test]
 fn one_statement(rt: HostRuntime) {
-    each_told(&rt, rt.alloc(), &[("pbcnf bench 1 0", "", SAID)]);
-    each_encoded(
-        &rt,
-        rt.alloc(),
-        &[
-            ("pbcnf bench 1 0 c", "", ONE, SAID),
-            ("pbcnf bench 001 00 c", "", ONE, SAID),
-        ],
-    );
+    rt.each_told(&[("pbcnf bench 1 0", "", SAID)]);
+    rt.each_encoded(&[
+        ("pbcnf bench 1 0 c", "", ONE, SAID),
+        ("pbcnf bench 001 00 c", "", ONE, SAID),
+    ]);
 }
 
 // The run is done, made this file first, or none, and said what the other run said.

@@ -1,196 +1,167 @@
-use super::checks::each_checked;
-use super::decodes::each_decoded;
-use super::derivations::each_derived;
-use super::refutes::each_refuted;
-use super::{each_made, each_told};
-
-// One of two variables, where the first costs 3 and the second 1, and 1 less in any case.
-const COSTS: &str = "min: +3 x1 -1 ~x2 ; +1 x1 +1 x2 >= 1 ;\n";
-
-// Two of three variables at least, with costs.
-const WEIGHTS: &str = "min: +4 x1 +3 x2 +2 x3 ;\n+1 x1 +1 x2 +1 x3 >= 2 ;\n";
+use super::cases::Cases;
+use super::texts::{COSTS, HEAVY, LINES, LRAT, WEIGHTED_COSTS};
 
 #[test]
 fn a_bound_is_the_last_statement(rt: HostRuntime) {
-    each_made(
-        &rt,
-        rt.alloc(),
-        &[
-            (
-                "pbcnf encode a c --at-most=2",
-                COSTS,
-                "p cnf 2 2\n1 2 0\n-1 -2 0\n",
-            ),
-            (
-                "pbcnf encode a c --at-most-minus=2",
-                COSTS,
-                "p cnf 2 2\n1 2 0\n0\n",
-            ),
-            ("pbcnf encode a c --at-most=3", COSTS, "p cnf 2 1\n1 2 0\n"),
-            (
-                "pbcnf encode a c --at-most 2",
-                COSTS,
-                "p cnf 2 2\n1 2 0\n-1 -2 0\n",
-            ),
-            (
-                "pbcnf encode a c --at-most-minus=0",
-                COSTS,
-                "p cnf 2 2\n1 2 0\n-1 0\n",
-            ),
-            // A problem without an objective costs nothing.
-            (
-                "pbcnf encode a c --at-most=0",
-                "+1 x1 >= 1 ;\n",
-                "p cnf 1 1\n1 0\n",
-            ),
-            (
-                "pbcnf encode a c --at-most-minus=1",
-                "+1 x1 >= 1 ;\n",
-                "p cnf 1 2\n1 0\n0\n",
-            ),
-            // The coefficients' absolute values and the bound's add up to one less than 2^100.
-            (
-                "pbcnf encode a c --at-most=1267650600228229401496703205371",
-                COSTS,
-                "p cnf 2 1\n1 2 0\n",
-            ),
-            (
-                "pbcnf encode a c --at-most-minus=1267650600228229401496703205371",
-                COSTS,
-                "p cnf 2 2\n1 2 0\n0\n",
-            ),
-            (
-                "pbcnf encode a c --at-most=1267650600228229401496703205375",
-                "+1 x1 >= 1 ;\n",
-                "p cnf 1 1\n1 0\n",
-            ),
-            // The clauses of products come first. One less than 0 is reached by the second product alone.
-            (
-                "pbcnf encode a c --at-most-minus=1",
-                "min: +2 x1 x2 -3 ~x1 x3 ;\n+1 x1 +1 x3 >= 1 ;\n",
-                "p cnf 5 8\n1 -4 0\n2 -4 0\n-1 -2 4 0\n-1 -5 0\n3 -5 0\n1 -3 5 0\n1 3 0\n5 0\n",
-            ),
-        ],
-    );
+    rt.each_made(&[
+        (
+            "pbcnf encode a c --at-most=2",
+            COSTS,
+            "p cnf 2 2\n1 2 0\n-1 -2 0\n",
+        ),
+        (
+            "pbcnf encode a c --at-most-minus=2",
+            COSTS,
+            "p cnf 2 2\n1 2 0\n0\n",
+        ),
+        ("pbcnf encode a c --at-most=3", COSTS, "p cnf 2 1\n1 2 0\n"),
+        (
+            "pbcnf encode a c --at-most 2",
+            COSTS,
+            "p cnf 2 2\n1 2 0\n-1 -2 0\n",
+        ),
+        (
+            "pbcnf encode a c --at-most-minus=0",
+            COSTS,
+            "p cnf 2 2\n1 2 0\n-1 0\n",
+        ),
+        // A problem without an objective costs nothing.
+        (
+            "pbcnf encode a c --at-most=0",
+            "+1 x1 >= 1 ;\n",
+            "p cnf 1 1\n1 0\n",
+        ),
+        (
+            "pbcnf encode a c --at-most-minus=1",
+            "+1 x1 >= 1 ;\n",
+            "p cnf 1 2\n1 0\n0\n",
+        ),
+        // The coefficients' absolute values and the bound's add up to one less than 2^100.
+        (
+            "pbcnf encode a c --at-most=1267650600228229401496703205371",
+            COSTS,
+            "p cnf 2 1\n1 2 0\n",
+        ),
+        (
+            "pbcnf encode a c --at-most-minus=1267650600228229401496703205371",
+            COSTS,
+            "p cnf 2 2\n1 2 0\n0\n",
+        ),
+        (
+            "pbcnf encode a c --at-most=1267650600228229401496703205375",
+            "+1 x1 >= 1 ;\n",
+            "p cnf 1 1\n1 0\n",
+        ),
+        // The clauses of products come first. One less than 0 is reached by the second product alone.
+        (
+            "pbcnf encode a c --at-most-minus=1",
+            "min: +2 x1 x2 -3 ~x1 x3 ;\n+1 x1 +1 x3 >= 1 ;\n",
+            "p cnf 5 8\n1 -4 0\n2 -4 0\n-1 -2 4 0\n-1 -5 0\n3 -5 0\n1 -3 5 0\n1 3 0\n5 0\n",
+        ),
+    ]);
 }
-
-const HEAVY: &str = "3 pbcnf: OPB: limit weight";
 
 #[test]
 fn bounds_that_are_refused(rt: HostRuntime) {
-    each_told(
-        &rt,
-        rt.alloc(),
-        &[
-            (
-                "pbcnf encode a c --at-most=1267650600228229401496703205372",
-                COSTS,
-                HEAVY,
-            ),
-            (
-                "pbcnf decode a m --at-most-minus=1267650600228229401496703205372",
-                COSTS,
-                HEAVY,
-            ),
-            (
-                "pbcnf check a c p --at-most=1267650600228229401496703205375",
-                COSTS,
-                HEAVY,
-            ),
-            (
-                "pbcnf refute a c p l --at-most-minus=1267650600228229401496703205375",
-                COSTS,
-                HEAVY,
-            ),
-            // It comes before the variables, of which the ladder needs two more.
-            (
-                "pbcnf encode a c --amo ladder --at-most=1267650600228229401496703205375",
-                "* #variable= 2147483646\nmin: +1 x1 ;\n-1 x1 -1 x2 -1 x3 >= -1 ;\n",
-                HEAVY,
-            ),
-            // The text's own fault comes first.
-            (
-                "pbcnf encode a c --at-most=1267650600228229401496703205375",
-                "min: +1 x1 ;\n+1 x1 >= 1",
-                "1 pbcnf: OPB 2:11: expected ;",
-            ),
-            (
-                "pbcnf encode a c --at-most=1267650600228229401496703205375",
-                "min: +1 x1 ;\n+1267650600228229401496703205376 x1 >= 1 ;\n",
-                "3 pbcnf: OPB 2:1: limit weight",
-            ),
-            // One of the two in a command.
-            (
-                "pbcnf encode a c --at-most=1 --at-most-minus=1",
-                COSTS,
-                "2 pbcnf: usage: encode, check, decode, probe or bench",
-            ),
-        ],
-    );
+    rt.each_told(&[
+        (
+            "pbcnf encode a c --at-most=1267650600228229401496703205372",
+            COSTS,
+            HEAVY,
+        ),
+        (
+            "pbcnf decode a m --at-most-minus=1267650600228229401496703205372",
+            COSTS,
+            HEAVY,
+        ),
+        (
+            "pbcnf check a c p --at-most=1267650600228229401496703205375",
+            COSTS,
+            HEAVY,
+        ),
+        (
+            "pbcnf refute a c p l --at-most-minus=1267650600228229401496703205375",
+            COSTS,
+            HEAVY,
+        ),
+        // It comes before the variables, of which the ladder needs two more.
+        (
+            "pbcnf encode a c --amo ladder --at-most=1267650600228229401496703205375",
+            "* #variable= 2147483646\nmin: +1 x1 ;\n-1 x1 -1 x2 -1 x3 >= -1 ;\n",
+            HEAVY,
+        ),
+        // The text's own fault comes first.
+        (
+            "pbcnf encode a c --at-most=1267650600228229401496703205375",
+            "min: +1 x1 ;\n+1 x1 >= 1",
+            "1 pbcnf: OPB 2:11: expected ;",
+        ),
+        (
+            "pbcnf encode a c --at-most=1267650600228229401496703205375",
+            "min: +1 x1 ;\n+1267650600228229401496703205376 x1 >= 1 ;\n",
+            "3 pbcnf: OPB 2:1: limit weight",
+        ),
+        // One of the two in a command.
+        (
+            "pbcnf encode a c --at-most=1 --at-most-minus=1",
+            COSTS,
+            "2 pbcnf: usage: encode, check, decode, probe or bench",
+        ),
+    ]);
 }
 
 #[test]
 fn solutions_within_a_bound(rt: HostRuntime) {
-    each_decoded(
-        &rt,
-        rt.alloc(),
-        &[
-            (
-                "pbcnf decode a m --at-most=2",
-                COSTS,
-                "s SATISFIABLE\nv 1 2 0\n",
-                "8 pbcnf: statement 2 is violated",
-            ),
-            (
-                "pbcnf decode a m --at-most=3",
-                COSTS,
-                "s SATISFIABLE\nv 1 2 0\n",
-                "o 3\ns SATISFIABLE\nv x1 x2\n",
-            ),
-            (
-                "pbcnf decode a m --at-most=2",
-                COSTS,
-                "s SATISFIABLE\nv 2 0\n",
-                "o 0\ns SATISFIABLE\nv -x1 x2\n",
-            ),
-            (
-                "pbcnf decode a m --at-most-minus=0",
-                COSTS,
-                "s SATISFIABLE\nv 2 0\n",
-                "o 0\ns SATISFIABLE\nv -x1 x2\n",
-            ),
-            (
-                "pbcnf decode a m --at-most-minus=1",
-                COSTS,
-                "s SATISFIABLE\nv 2 0\n",
-                "8 pbcnf: statement 2 is violated",
-            ),
-            // The text's own statements come first.
-            (
-                "pbcnf decode a m --at-most-minus=2",
-                COSTS,
-                "s SATISFIABLE\nv 0\n",
-                "8 pbcnf: statement 1 is violated",
-            ),
-            (
-                "pbcnf decode a m --at-most=2",
-                COSTS,
-                "s UNSATISFIABLE\n",
-                "9 pbcnf: no model",
-            ),
-        ],
-    );
+    rt.each_decoded(&[
+        (
+            "pbcnf decode a m --at-most=2",
+            COSTS,
+            "s SATISFIABLE\nv 1 2 0\n",
+            "8 pbcnf: statement 2 is violated",
+        ),
+        (
+            "pbcnf decode a m --at-most=3",
+            COSTS,
+            "s SATISFIABLE\nv 1 2 0\n",
+            "o 3\ns SATISFIABLE\nv x1 x2\n",
+        ),
+        (
+            "pbcnf decode a m --at-most=2",
+            COSTS,
+            "s SATISFIABLE\nv 2 0\n",
+            "o 0\ns SATISFIABLE\nv -x1 x2\n",
+        ),
+        (
+            "pbcnf decode a m --at-most-minus=0",
+            COSTS,
+            "s SATISFIABLE\nv 2 0\n",
+            "o 0\ns SATISFIABLE\nv -x1 x2\n",
+        ),
+        (
+            "pbcnf decode a m --at-most-minus=1",
+            COSTS,
+            "s SATISFIABLE\nv 2 0\n",
+            "8 pbcnf: statement 2 is violated",
+        ),
+        // The text's own statements come first.
+        (
+            "pbcnf decode a m --at-most-minus=2",
+            COSTS,
+            "s SATISFIABLE\nv 0\n",
+            "8 pbcnf: statement 1 is violated",
+        ),
+        (
+            "pbcnf decode a m --at-most=2",
+            COSTS,
+            "s UNSATISFIABLE\n",
+            "9 pbcnf: no model",
+        ),
+    ]);
 }
-
-// The constraint and the bound, each as the clause that it is.
-const LINES: &str =
-    "f 2\nrup +1 x1 +1 x2 >= 1 ; 1\nout 3\nrup +1 ~x1 +1 ~x2 >= 1 ; 2\nout 4\nend\n";
 
 #[test]
 fn a_derivation_beside_a_bound(rt: HostRuntime) {
-    each_checked(
-        &rt,
-        rt.alloc(),
+    rt.each_checked(
         COSTS,
         "p cnf 2 2\n1 2 0\n-1 -2 0\n",
         &[
@@ -212,29 +183,20 @@ fn a_derivation_beside_a_bound(rt: HostRuntime) {
 
 #[test]
 fn what_is_made_beside_a_bound_is_accepted(rt: HostRuntime) {
-    each_derived(
-        &rt,
-        rt.alloc(),
-        &[
-            ("", " --at-most=2", COSTS),
-            ("", " --at-most-minus=2", COSTS),
-            ("", " --at-most=5", WEIGHTS),
-            ("", " --at-most=4", WEIGHTS),
-            ("", " --at-most-minus=1", "min: +2 x1 x2 -3 ~x1 x3 ;\n"),
-            ("", " --at-most-minus=1", "+1 x1 >= 1 ;\n"),
-        ],
-    );
+    rt.each_derived(&[
+        ("", " --at-most=2", COSTS),
+        ("", " --at-most-minus=2", COSTS),
+        ("", " --at-most=5", WEIGHTED_COSTS),
+        ("", " --at-most=4", WEIGHTED_COSTS),
+        ("", " --at-most-minus=1", "min: +2 x1 x2 -3 ~x1 x3 ;\n"),
+        ("", " --at-most-minus=1", "+1 x1 >= 1 ;\n"),
+    ]);
 }
-
-// A refutation of three clauses.
-const LRAT: &str = "4 0 2 3 1 0\n";
 
 #[test]
 fn the_least_cost_is_shown(rt: HostRuntime) {
     // Nothing that costs less than 1 is a solution, which the refutation shows. Of more it shows nothing.
-    each_refuted(
-        &rt,
-        rt.alloc(),
+    rt.each_refuted(
         [
             "min: +1 x1 +1 x2 ;\n+1 x1 +1 x2 >= 1 ;\n",
             "p cnf 2 3\n1 2 0\n-1 0\n-2 0\n",
@@ -252,9 +214,7 @@ rup +1 ~x2 >= 1 ; 2\nout 4\nend\n",
         ],
     );
     // No objective of one term of 1 comes to -2: the bound is a contradiction by itself.
-    each_refuted(
-        &rt,
-        rt.alloc(),
+    rt.each_refuted(
         [
             "min: -1 x1 ;\n",
             "p cnf 1 1\n0\n",

@@ -1,50 +1,23 @@
-use super::{assert_found, files_of, judged, told_of};
+use super::cases::{Cases, assert_found};
+use super::texts::{
+    ACCEPTED, CHECK, ONE_OF_TWO, ONE_OF_TWO_CNF, UNIT_AND_CLAUSE, UNIT_AND_CLAUSE_CNF,
+};
+use super::{files_of, judged, told_of};
 use pb_base::Ids;
 use pb_runs::run_over;
 use std::alloc::Global;
-use std::process::Abort;
-
-// Exactly one of two variables.
-const ONE: &str = "+1 x1 +1 x2 = 1 ;\n";
-
-const ONE_CNF: &str = "p cnf 2 2\n1 2 0\n-1 -2 0\n";
-
-// A unit, and a clause of what is left.
-const WEIGHTS: &str = "+5 x1 +3 x2 +2 x3 >= 6 ;\n";
-
-const WEIGHTS_CNF: &str = "p cnf 3 2\n1 0\n2 3 0\n";
-
-const CHECK: &str = "pbcnf check a c p";
-
-const ACCEPTED: &str = "accepted\n";
 
 // What is told of a derivation with these lines behind its first, beside the problem `a` and the CNF `c`.
-fn checked(alloc: Global, words: &str, opb: &str, cnf: &str, lines: &str) -> Option<String> {
+pub fn checked(alloc: Global, words: &str, opb: &str, cnf: &str, lines: &str) -> Option<String> {
     let proof = format!(in alloc; "pseudo-Boolean derivation profile 1\n{lines}").ok()?;
     judged(alloc, words, opb, cnf.as_bytes(), proof.as_bytes(), "")
 }
 
-// With each of these words, this is told of a derivation with these lines behind its first, beside the problem and the CNF.
-pub fn each_checked(
-    rt: &impl Abort,
-    alloc: Global,
-    opb: &str,
-    cnf: &str,
-    cases: &[(&str, &str, &str)],
-) {
-    for &(words, lines, line) in cases {
-        let found = checked(alloc, words, opb, cnf, lines);
-        assert_found(rt, found, line, words, lines);
-    }
-}
-
 #[test]
 fn derivations_that_are_accepted(rt: HostRuntime) {
-    each_checked(
-        &rt,
-        rt.alloc(),
-        ONE,
-        ONE_CNF,
+    rt.each_checked(
+        ONE_OF_TWO,
+        ONE_OF_TWO_CNF,
         &[
             (CHECK, "f 2\nout 1\nout 2\nend\n", ACCEPTED),
             // Blank lines and comments may stand anywhere.
@@ -55,11 +28,9 @@ fn derivations_that_are_accepted(rt: HostRuntime) {
             ),
         ],
     );
-    each_checked(
-        &rt,
-        rt.alloc(),
-        WEIGHTS,
-        WEIGHTS_CNF,
+    rt.each_checked(
+        UNIT_AND_CLAUSE,
+        UNIT_AND_CLAUSE_CNF,
         &[(
             CHECK,
             "f 1\nrup +1 x1 >= 1 ; 1\nout 2\npol 1 x1 w s\nout 3\nend\n",
@@ -70,11 +41,9 @@ fn derivations_that_are_accepted(rt: HostRuntime) {
 
 #[test]
 fn steps_that_are_refused(rt: HostRuntime) {
-    each_checked(
-        &rt,
-        rt.alloc(),
-        ONE,
-        ONE_CNF,
+    rt.each_checked(
+        ONE_OF_TWO,
+        ONE_OF_TWO_CNF,
         &[
             (
                 CHECK,
@@ -151,11 +120,9 @@ fn steps_that_are_refused(rt: HostRuntime) {
 
 #[test]
 fn steps_that_lack_what_they_need(rt: HostRuntime) {
-    each_checked(
-        &rt,
-        rt.alloc(),
-        WEIGHTS,
-        WEIGHTS_CNF,
+    rt.each_checked(
+        UNIT_AND_CLAUSE,
+        UNIT_AND_CLAUSE_CNF,
         &[
             (
                 CHECK,
@@ -183,11 +150,9 @@ fn steps_that_lack_what_they_need(rt: HostRuntime) {
 
 #[test]
 fn texts_that_are_refused(rt: HostRuntime) {
-    each_checked(
-        &rt,
-        rt.alloc(),
-        ONE,
-        ONE_CNF,
+    rt.each_checked(
+        ONE_OF_TWO,
+        ONE_OF_TWO_CNF,
         &[
             // Texts out of the grammar.
             (CHECK, "f 3\n", "1 pbcnf: PROOF 2:3: expected loaded count"),
@@ -215,16 +180,12 @@ fn texts_that_are_refused(rt: HostRuntime) {
         ],
     );
     // The texts are judged in their order.
-    each_checked(
-        &rt,
-        rt.alloc(),
-        ONE,
+    rt.each_checked(
+        ONE_OF_TWO,
         "p cnf 1 0\n",
         &[(CHECK, "f 3\n", "1 pbcnf: CNF 1:7: expected var count")],
     );
-    each_checked(
-        &rt,
-        rt.alloc(),
+    rt.each_checked(
         "+1 x1 >= 1",
         "p dnf\n",
         &[(CHECK, "f 3\n", "1 pbcnf: OPB 1:11: expected ;")],
@@ -241,8 +202,8 @@ fn long_derivation(alloc: Global) -> Option<String> {
 // What is told of a derivation on a desk that moves a byte in a call, and whose millionth call fails.
 fn checked_slowly(alloc: Global, proof: &str) -> Option<String> {
     let texts = [
-        ("a", ONE.as_bytes()),
-        ("c", ONE_CNF.as_bytes()),
+        ("a", ONE_OF_TWO.as_bytes()),
+        ("c", ONE_OF_TWO_CNF.as_bytes()),
         ("p", proof.as_bytes()),
     ];
     let fails = Ids::from_vec(vec![in alloc; 1_000_000].ok()?);

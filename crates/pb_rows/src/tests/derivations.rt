@@ -1,15 +1,8 @@
-use super::{assert_due, judged_by, run_widely};
+use super::cases::Cases;
+use super::texts::{ONE_OF_NINE, TWO_OF_FOUR, WEIGHTS};
+use super::{judged_by, run_widely};
 use pb_runs::Run;
 use std::alloc::Global;
-use std::process::Abort;
-
-// At least two of four literals.
-const TWO: &str = "+1 ~x1 +1 ~x2 +1 ~x3 +1 ~x4 >= 2 ;\n";
-
-const WEIGHTS: &str = "+4 ~x1 +3 ~x2 +2 ~x3 >= 4 ;\n";
-
-// At most one of nine variables.
-const NINE: &str = "+1 ~x1 +1 ~x2 +1 ~x3 +1 ~x4 +1 ~x5 +1 ~x6 +1 ~x7 +1 ~x8 +1 ~x9 >= 8 ;\n";
 
 // A text is encoded as these files, with these options and beside this bound.
 fn run_of(alloc: Global, files: &str, options: &str, bound: &str, text: &str) -> Option<Run> {
@@ -46,80 +39,64 @@ fn is_derived_beside(
 }
 
 // With a derivation, the same CNF is made and the same said as without; the derivation is accepted beside it.
-fn is_derived(alloc: Global, options: &str, bound: &str, text: &str) -> Option<bool> {
+pub fn is_derived(alloc: Global, options: &str, bound: &str, text: &str) -> Option<bool> {
     let bare = run_of(alloc, "a c", options, bound, text)?;
     is_derived_beside(alloc, &bare, options, bound, text)
 }
 
-// Each text is derived so, with these options and this bound behind the names.
-pub fn each_derived(rt: &impl Abort, alloc: Global, cases: &[(&str, &str, &str)]) {
-    for &(options, bound, text) in cases {
-        let found = is_derived(alloc, options, bound, text);
-        assert_due(rt, found == Some(true), options, text);
-    }
-}
-
 #[test]
 fn what_is_made_is_accepted(rt: HostRuntime) {
-    each_derived(
-        &rt,
-        rt.alloc(),
-        &[
-            // No statement; a clause; an equation; the empty clause; nothing; a unit and a clause; units alone.
-            ("", "", ""),
-            ("", "", "+1 x1 +1 x2 >= 1 ;\n"),
-            ("", "", "+1 x1 +1 x2 = 1 ;\n"),
-            ("", "", "+1 x1 >= 2 ;\n"),
-            ("", "", "+2 x1 -1 x1 +1 ~x1 >= 1 ;\n"),
-            ("", "", "+5 x1 +3 x2 +2 x3 >= 6 ;\n"),
-            ("", "", "+1 x1 +1 x2 <= 0 ;\n"),
-            // At most one.
-            ("", "", "-1 x1 -1 x2 -1 x3 >= -1 ;\n"),
-            (" --amo ladder", "", "-1 x1 -1 x2 -1 x3 >= -1 ;\n"),
-            (" --amo product", "", NINE),
-            // Cardinalities.
-            (" --card counter", "", TWO),
-            (" --card totalizer", "", TWO),
-            // Weights, which are also sent to the adder where the budget is small.
-            (" --general tree", "", WEIGHTS),
-            ("", "", WEIGHTS),
-            (" --general adder", "", WEIGHTS),
-            (" --budget 2", "", WEIGHTS),
-            (" --budget 3", "", WEIGHTS),
-            ("", "", "+5 ~x1 +4 ~x2 +3 ~x3 +3 ~x4 >= 7 ;\n"),
-        ],
-    );
-    each_derived(
-        &rt,
-        rt.alloc(),
-        &[
-            // Free names; in derivations all variables go by numbers.
-            ("", "", "+4 rain +3 ~x1 +2 sun >= 4 ;\n"),
-            // Products, whose clauses come first.
-            ("", "", "+1 x1 x2 >= 1 ;\n"),
-            ("", "", "+2 x1 ~x2 +1 x2 ~x2 +1 x1 x1 >= 3 ;\n"),
-            (
-                " --general adder",
-                "",
-                "+4 x1 ~x2 +3 x2 x3 x1 +2 x3 >= 4 ;\n",
-            ),
-            // Equalities as one, whose halves are divided by their coefficient; and where the budget is too small.
-            (" --equal joint", "", "+1 x1 +1 x2 +1 x3 = 1 ;\n"),
-            (" --equal joint", "", "+2 x1 -2 x2 +2 ~x3 +2 x4 = 2 ;\n"),
-            (" --equal joint --budget 3", "", "+1 x1 +1 x2 +1 x3 = 1 ;\n"),
-            (
-                " --equal joint",
-                "",
-                "+1 x1 x2 >= 1 ;\n+3 x1 +3 x2 +3 x3 +3 x4 = 6 ;\n+1 x1 +1 x3 = 1 ;\n+1 x2 +1 x3 +1 x4 +1 x5 = 3 ;\n+1 x5 >= 1 ;\n",
-            ),
-            // Several constraints, of which each is derived under its own id.
-            (
-                " --card totalizer --general tree",
-                "",
-                "min: +1 x1 ;\n+1 x1 +1 x2 = 1 ;\n+4 ~x1 +3 ~x2 +2 ~x3 >= 4 ;\n+1 x1 +1 x2 +1 x3 +1 x4 = 2 ;\n",
-            ),
-        ],
-    );
+    rt.each_derived(&[
+        // No statement; a clause; an equation; the empty clause; nothing; a unit and a clause; units alone.
+        ("", "", ""),
+        ("", "", "+1 x1 +1 x2 >= 1 ;\n"),
+        ("", "", "+1 x1 +1 x2 = 1 ;\n"),
+        ("", "", "+1 x1 >= 2 ;\n"),
+        ("", "", "+2 x1 -1 x1 +1 ~x1 >= 1 ;\n"),
+        ("", "", "+5 x1 +3 x2 +2 x3 >= 6 ;\n"),
+        ("", "", "+1 x1 +1 x2 <= 0 ;\n"),
+        // At most one.
+        ("", "", "-1 x1 -1 x2 -1 x3 >= -1 ;\n"),
+        (" --amo ladder", "", "-1 x1 -1 x2 -1 x3 >= -1 ;\n"),
+        (" --amo product", "", ONE_OF_NINE),
+        // Cardinalities.
+        (" --card counter", "", TWO_OF_FOUR),
+        (" --card totalizer", "", TWO_OF_FOUR),
+        // Weights, which are also sent to the adder where the budget is small.
+        (" --general tree", "", WEIGHTS),
+        ("", "", WEIGHTS),
+        (" --general adder", "", WEIGHTS),
+        (" --budget 2", "", WEIGHTS),
+        (" --budget 3", "", WEIGHTS),
+        ("", "", "+5 ~x1 +4 ~x2 +3 ~x3 +3 ~x4 >= 7 ;\n"),
+    ]);
+    rt.each_derived(&[
+        // Free names; in derivations all variables go by numbers.
+        ("", "", "+4 rain +3 ~x1 +2 sun >= 4 ;\n"),
+        // Products, whose clauses come first.
+        ("", "", "+1 x1 x2 >= 1 ;\n"),
+        ("", "", "+2 x1 ~x2 +1 x2 ~x2 +1 x1 x1 >= 3 ;\n"),
+        (
+            " --general adder",
+            "",
+            "+4 x1 ~x2 +3 x2 x3 x1 +2 x3 >= 4 ;\n",
+        ),
+        // Equalities as one, whose halves are divided by their coefficient; and where the budget is too small.
+        (" --equal joint", "", "+1 x1 +1 x2 +1 x3 = 1 ;\n"),
+        (" --equal joint", "", "+2 x1 -2 x2 +2 ~x3 +2 x4 = 2 ;\n"),
+        (" --equal joint --budget 3", "", "+1 x1 +1 x2 +1 x3 = 1 ;\n"),
+        (
+            " --equal joint",
+            "",
+            "+1 x1 x2 >= 1 ;\n+3 x1 +3 x2 +3 x3 +3 x4 = 6 ;\n+1 x1 +1 x3 = 1 ;\n+1 x2 +1 x3 +1 x4 +1 x5 = 3 ;\n+1 x5 >= 1 ;\n",
+        ),
+        // Several constraints, of which each is derived under its own id.
+        (
+            " --card totalizer --general tree",
+            "",
+            "min: +1 x1 ;\n+1 x1 +1 x2 = 1 ;\n+4 ~x1 +3 ~x2 +2 ~x3 >= 4 ;\n+1 x1 +1 x2 +1 x3 +1 x4 = 2 ;\n",
+        ),
+    ]);
 }
 
 // The lines that stand around a derivation, and those of one clause.

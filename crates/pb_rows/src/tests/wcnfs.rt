@@ -1,117 +1,98 @@
-use super::{each_encoded, each_made, each_told};
-
-const WCNF: &str = "pbcnf wcnf a w";
-
-// One of two variables, where the first costs 3 and the second 1, and 1 less in any case.
-const COSTS: &str = "min: +3 x1 -1 ~x2 ; +1 x1 +1 x2 >= 1 ;\n";
-
-// Products with a cost.
-const PRODUCTS: &str = "min: +2 x1 x2 -3 ~x1 x3 ;\n+1 x1 +1 x3 >= 1 ;\n";
+use super::cases::Cases;
+use super::texts::{COSTS, PRODUCTS, WCNF};
 
 #[test]
 fn objectives_are_soft(rt: HostRuntime) {
-    each_made(
-        &rt,
-        rt.alloc(),
-        &[
-            // No objective, and one that costs nothing.
-            (WCNF, "+1 x1 >= 1 ;\n", "c offset 0\nh 1 0\n"),
-            (
-                WCNF,
-                "min: +1 x1 +1 ~x1 ;\n+1 x1 >= 1 ;\n",
-                "c offset 1\nh 1 0\n",
-            ),
-            (
-                "pbcnf wcnf a w --at-most-minus=2",
-                COSTS,
-                "c offset -1\nh 1 2 0\nh 0\n3 -1 0\n1 -2 0\n",
-            ),
-            // What stands for one variable is added up.
-            (
-                WCNF,
-                "min: +2 sun -3 ~rain -2 x1 +7 rain +2 x1 ;\n+1 rain +1 sun >= 1 ;\n",
-                "c offset -3\nh 2 3 0\n2 -2 0\n10 -3 0\n",
-            ),
-            // Half of all that an objective may weigh, and one less.
-            (
-                WCNF,
-                "min: -633825300114114700748351602688 x1 +633825300114114700748351602687 ~x2 ;\n",
-                "c offset -633825300114114700748351602688\n633825300114114700748351602688 1 0\n\
+    rt.each_made(&[
+        // No objective, and one that costs nothing.
+        (WCNF, "+1 x1 >= 1 ;\n", "c offset 0\nh 1 0\n"),
+        (
+            WCNF,
+            "min: +1 x1 +1 ~x1 ;\n+1 x1 >= 1 ;\n",
+            "c offset 1\nh 1 0\n",
+        ),
+        (
+            "pbcnf wcnf a w --at-most-minus=2",
+            COSTS,
+            "c offset -1\nh 1 2 0\nh 0\n3 -1 0\n1 -2 0\n",
+        ),
+        // What stands for one variable is added up.
+        (
+            WCNF,
+            "min: +2 sun -3 ~rain -2 x1 +7 rain +2 x1 ;\n+1 rain +1 sun >= 1 ;\n",
+            "c offset -3\nh 2 3 0\n2 -2 0\n10 -3 0\n",
+        ),
+        // Half of all that an objective may weigh, and one less.
+        (
+            WCNF,
+            "min: -633825300114114700748351602688 x1 +633825300114114700748351602687 ~x2 ;\n",
+            "c offset -633825300114114700748351602688\n633825300114114700748351602688 1 0\n\
 633825300114114700748351602687 2 0\n",
-            ),
-            // Fresh variables cost nothing.
-            (
-                "pbcnf wcnf a w --amo ladder",
-                "min: -5 x3 +2 x1 ;\n-1 x1 -1 x2 -1 x3 >= -1 ;\n",
-                "c offset -5\nh -5 4 0\nh -1 -4 0\nh -2 -5 0\nh -2 4 0\nh -3 5 0\n2 -1 0\n5 3 0\n",
-            ),
-            // A product has a variable, whose clauses are hard; one that is 0 is dropped.
-            (
-                "pbcnf wcnf a w --at-most-minus=1",
-                PRODUCTS,
-                "c offset -3\nh 1 -4 0\nh 2 -4 0\nh -1 -2 4 0\nh -1 -5 0\nh 3 -5 0\nh 1 -3 5 0\nh 1 3 0\nh 5 0\n\
+        ),
+        // Fresh variables cost nothing.
+        (
+            "pbcnf wcnf a w --amo ladder",
+            "min: -5 x3 +2 x1 ;\n-1 x1 -1 x2 -1 x3 >= -1 ;\n",
+            "c offset -5\nh -5 4 0\nh -1 -4 0\nh -2 -5 0\nh -2 4 0\nh -3 5 0\n2 -1 0\n5 3 0\n",
+        ),
+        // A product has a variable, whose clauses are hard; one that is 0 is dropped.
+        (
+            "pbcnf wcnf a w --at-most-minus=1",
+            PRODUCTS,
+            "c offset -3\nh 1 -4 0\nh 2 -4 0\nh -1 -2 4 0\nh -1 -5 0\nh 3 -5 0\nh 1 -3 5 0\nh 1 3 0\nh 5 0\n\
 2 -4 0\n3 5 0\n",
-            ),
-            (WCNF, "min: +1 x1 ~x1 -4 x2 x2 ;\n", "c offset -4\n4 2 0\n"),
-        ],
-    );
+        ),
+        (WCNF, "min: +1 x1 ~x1 -4 x2 x2 ;\n", "c offset -4\n4 2 0\n"),
+    ]);
 }
 
 #[test]
 fn hard_clauses_are_counted(rt: HostRuntime) {
-    each_encoded(
-        &rt,
-        rt.alloc(),
-        &[
-            (
-                WCNF,
-                COSTS,
-                "c offset -1\nh 1 2 0\n3 -1 0\n1 -2 0\n",
-                "variables 2 original 2 fresh 0 clauses 1\n\
+    rt.each_encoded(&[
+        (
+            WCNF,
+            COSTS,
+            "c offset -1\nh 1 2 0\n3 -1 0\n1 -2 0\n",
+            "variables 2 original 2 fresh 0 clauses 1\n\
 nothing 0 empty 0 clause 1 pairwise 0 ladder 0 product 0 counter 0 totalizer 0 diagram 0 tree 0 adder 0\n",
-            ),
-            (
-                "pbcnf wcnf a w --at-most=2",
-                COSTS,
-                "c offset -1\nh 1 2 0\nh -1 -2 0\n3 -1 0\n1 -2 0\n",
-                "variables 2 original 2 fresh 0 clauses 2\n\
+        ),
+        (
+            "pbcnf wcnf a w --at-most=2",
+            COSTS,
+            "c offset -1\nh 1 2 0\nh -1 -2 0\n3 -1 0\n1 -2 0\n",
+            "variables 2 original 2 fresh 0 clauses 2\n\
 nothing 0 empty 0 clause 2 pairwise 0 ladder 0 product 0 counter 0 totalizer 0 diagram 0 tree 0 adder 0\n",
-            ),
-            (
-                WCNF,
-                PRODUCTS,
-                "c offset -3\nh 1 -4 0\nh 2 -4 0\nh -1 -2 4 0\nh -1 -5 0\nh 3 -5 0\nh 1 -3 5 0\nh 1 3 0\n\
+        ),
+        (
+            WCNF,
+            PRODUCTS,
+            "c offset -3\nh 1 -4 0\nh 2 -4 0\nh -1 -2 4 0\nh -1 -5 0\nh 3 -5 0\nh 1 -3 5 0\nh 1 3 0\n\
 2 -4 0\n3 5 0\n",
-                "variables 5 original 3 fresh 0 clauses 7 products 2\n\
+            "variables 5 original 3 fresh 0 clauses 7 products 2\n\
 nothing 0 empty 0 clause 7 pairwise 0 ladder 0 product 0 counter 0 totalizer 0 diagram 0 tree 0 adder 0\n",
-            ),
-        ],
-    );
+        ),
+    ]);
 }
 
 #[test]
 fn weighted_cnfs_that_are_not_made(rt: HostRuntime) {
-    each_told(
-        &rt,
-        rt.alloc(),
-        &[
-            (WCNF, "+1 x1 >= 1", "1 pbcnf: OPB 1:11: expected ;"),
-            (
-                "pbcnf wcnf a w --at-most=1267650600228229401496703205375",
-                COSTS,
-                "3 pbcnf: OPB: limit weight",
-            ),
-            (
-                "pbcnf wcnf a w --amo ladder",
-                "* #variable= 2147483646\n-1 x1 -1 x2 -1 x3 >= -1 ;\n",
-                "3 pbcnf: totals: limit variables",
-            ),
-            ("pbcnf wcnf b w", COSTS, "4 pbcnf: read fault"),
-            (
-                "pbcnf wcnf a w --at-most=1 --at-most-minus=1",
-                COSTS,
-                "2 pbcnf: usage: encode, check, decode, probe or bench",
-            ),
-        ],
-    );
+    rt.each_told(&[
+        (WCNF, "+1 x1 >= 1", "1 pbcnf: OPB 1:11: expected ;"),
+        (
+            "pbcnf wcnf a w --at-most=1267650600228229401496703205375",
+            COSTS,
+            "3 pbcnf: OPB: limit weight",
+        ),
+        (
+            "pbcnf wcnf a w --amo ladder",
+            "* #variable= 2147483646\n-1 x1 -1 x2 -1 x3 >= -1 ;\n",
+            "3 pbcnf: totals: limit variables",
+        ),
+        ("pbcnf wcnf b w", COSTS, "4 pbcnf: read fault"),
+        (
+            "pbcnf wcnf a w --at-most=1 --at-most-minus=1",
+            COSTS,
+            "2 pbcnf: usage: encode, check, decode, probe or bench",
+        ),
+    ]);
 }
