@@ -1,5 +1,5 @@
 -- Two lists of terms in order are gone through side by side.
-use Rattle.std.proofs.Common.{◌≡◌, ◌≢◌, ◌≤◌, ◌<◌, ◌+◌, ◌-◌, ℕ, suc, Bool, true, false, cond, List, ◌∷◌, arith, ap, sym, ◌∙◌, length, get_or, take, drop, drop-cons, length-drop, subst}
+use Rattle.std.proofs.Common.{◌≡◌, ◌≢◌, ◌≤◌, ◌<◌, ◌+◌, ◌-◌, ℕ, suc, Bool, true, false, cond, List, ◌∷◌, arith, ap, sym, ◌∙◌, length, get_or, map, refl, take, drop, drop-cons, length-drop, subst}
 use Rattle.std.specs.Prelude.{All, sum_by}
 use Rattle.std.proofs.lemmas.List.{get_or-map, get_or-drop, length-map}
 use Rattle.std.proofs.lemmas.List.Elements.{All-cons, All-head, All-weaker}
@@ -7,11 +7,13 @@ use Rattle.std.proofs.lemmas.List.Sums.{sum_by_more, sum_by-take-le, sum_by-le-s
 use Rattle.pb_base.specs.declared.literal.Lit.{Lit}
 use Rattle.pb_base.specs.declared.literal.Term.{Term}
 use Rattle.pb_base.specs.Literals.{is_same}
+use Rattle.pb_base.proofs.Sums.{sum_by-map}
 use Rattle.pb_base.proofs.LiteralLemmas.{is_same-other_var}
 use Rattle.pb_norm.specs.Constraints.{Weighted, IsAscending, weight, weighted, weights}
 use Rattle.pb_norm.specs.Addition.{coef_of}
+use Rattle.pb_norm.proofs.AdditionOrder.{map-ascending}
 use Rattle.pb_norm.proofs.AdditionValues.{coef_of-cons, coef_of-none}
-use Rattle.pb_operations.specs.inner.Sides.{StartsFrom, SameFrom, exceeding}
+use Rattle.pb_operations.specs.inner.Sides.{StartsFrom, SameFrom, exceeding, turned, turned_lit}
 
 -- a term at its place in the list that the code keeps
 pub record IsTermAt (ts : List Term) (i : ℕ) (t : Term) : Type 0 where
@@ -78,26 +80,40 @@ pub record IsExcessSoFar (ts others : List Weighted) (i sum place : ℕ) : Type 
   pub counted : sum ≡ sum_by (exceeding others) (take i ts)
   pub same : (k : ℕ) (d : Weighted) → i ≤ k → k < length ts → coef_of others (get_or ts k d).lit ≡ coef_of (drop place others) (get_or ts k d).lit
 
-pub excess_more : (ts : List Term) (others : List Weighted) (i sum more place next : ℕ) (t : Term) → IsAscending (weights ts) → IsTermAt ts i t → IsExcessSoFar (weights ts) others i sum place →
-    SameFrom t.lit.var (drop place others) (drop next others) → more ≡ (weighted t).coef - coef_of (drop next others) t.lit → IsExcessSoFar (weights ts) others (i + 1) (sum + more) next
-excess_more ts others i sum more place next t ascending h counted same e =
-    let below = at-below ts i t h in
-    let at_t : get_or (weights ts) i (weighted t) ≡ weighted t = at-is ts i t h (weighted t) in
-    let own : coef_of others t.lit ≡ coef_of (drop next others) t.lit =
-    subst (λ (u : Weighted). coef_of others u.lit ≡ coef_of (drop place others) u.lit) at_t (counted.same i (weighted t) (omega arith) below) ∙ same t.lit (omega arith) in
-    let step = sum_by_more (exceeding others) (weights ts) i (weighted t) below in
-    let value = ap (exceeding others) at_t in
+counted_more : (us others : List Weighted) (i sum more place next : ℕ) (u : Weighted) → IsAscending us → i < length us → ((d : Weighted) → get_or us i d ≡ u) → IsExcessSoFar us others i sum place →
+    SameFrom u.lit.var (drop place others) (drop next others) → more ≡ u.coef - coef_of (drop next others) u.lit → IsExcessSoFar us others (i + 1) (sum + more) next
+counted_more us others i sum more place next u ascending below at counted same e =
+    let own : coef_of others u.lit ≡ coef_of (drop next others) u.lit =
+    subst (λ (w : Weighted). coef_of others w.lit ≡ coef_of (drop place others) w.lit) (at u) (counted.same i u (omega arith) below) ∙ same u.lit (omega arith) in
+    let step = sum_by_more (exceeding others) us i u below in
+    let value = ap (exceeding others) (at u) in
     record {
       counted = omega (arith, counted.counted, step, value, own, e);
       same = λ k d le lt.
           let less = ascending i k d (omega arith) lt in
-          let first = ap (λ (u : Weighted). u.lit.var) (at-is ts i t h d) in
-          counted.same k d (omega arith) lt ∙ same (get_or (weights ts) k d).lit (omega arith);
+          let first = ap (λ (w : Weighted). w.lit.var) (at d) in
+          counted.same k d (omega arith) lt ∙ same (get_or us k d).lit (omega arith);
     }
 
-pub excess-fits : (ts others : List Weighted) (i sum place : ℕ) → IsExcessSoFar ts others i sum place → sum ≤ weight ts
-excess-fits ts others i sum place h =
+-- one more term, of its literal or of the opposite one
+pub excess_more : (turn : Bool) (ts : List Term) (others : List Weighted) (i sum more place next : ℕ) (t : Term) → IsAscending (weights ts) → IsTermAt ts i t → IsExcessSoFar (map (turned turn) (weights ts)) others i sum place →
+    SameFrom t.lit.var (drop place others) (drop next others) → more ≡ (weighted t).coef - coef_of (drop next others) (turned_lit turn t.lit) → IsExcessSoFar (map (turned turn) (weights ts)) others (i + 1) (sum + more) next
+excess_more turn ts others i sum more place next t ascending h counted same e =
+    let within : i < length (weights ts) = at-below ts i t h in
+    let below : i < length (map (turned turn) (weights ts)) = let long : length (map (turned turn) (weights ts)) ≡ length (weights ts) = simp length-map in omega (arith, within, long) in
+    counted_more (map (turned turn) (weights ts)) others i sum more place next (turned turn (weighted t)) (map-ascending (turned turn) (λ u. refl) (weights ts) ascending) below
+    (λ d. get_or-map (turned turn) (weights ts) i (weighted t) d within ∙ ap (turned turn) (at-is ts i t h (weighted t))) counted same e
+
+turned-weight : (turn : Bool) (ws : List Weighted) → weight (map (turned turn) ws) ≡ weight ws
+turned-weight turn ws = sum_by-map {X = Weighted} {Y = Weighted} (λ t. t.coef) (turned turn) ws
+
+so_far-le : (ts others : List Weighted) (i sum place : ℕ) → IsExcessSoFar ts others i sum place → sum ≤ weight ts
+so_far-le ts others i sum place h =
     omega (arith, h.counted, sum_by-take-le (exceeding others) ts i, sum_by-le-sum_by {X = Weighted} (exceeding others) (λ t. t.coef) ts (λ t. omega arith))
 
-pub excess-le : (ts others : List Weighted) → sum_by (exceeding others) ts ≤ weight ts
-excess-le ts others = sum_by-le-sum_by {X = Weighted} (exceeding others) (λ t. t.coef) ts (λ t. omega arith)
+pub excess-fits : (turn : Bool) (ws others : List Weighted) (i sum place : ℕ) → IsExcessSoFar (map (turned turn) ws) others i sum place → sum ≤ weight ws
+excess-fits turn ws others i sum place h = omega (arith, so_far-le (map (turned turn) ws) others i sum place h, turned-weight turn ws)
+
+pub excess-le : (turn : Bool) (ws others : List Weighted) → sum_by (exceeding others) (map (turned turn) ws) ≤ weight ws
+excess-le turn ws others =
+    omega (arith, sum_by-le-sum_by {X = Weighted} (exceeding others) (λ t. t.coef) (map (turned turn) ws) (λ t. omega arith), turned-weight turn ws)

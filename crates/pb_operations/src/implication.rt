@@ -1,9 +1,9 @@
 //! What follows from a constraint term by term.
-ghost use Rattle.std.specs.Prelude.{◌≡◌, ◌≤◌, ◌<◌, ◌^◌, drop, sum_by};
+ghost use Rattle.std.specs.Prelude.{◌≡◌, ◌≤◌, ◌<◌, ◌^◌, drop, map, sum_by};
 ghost use Rattle.pb_norm.specs.Constraints.{weights, weighted, weight, IsAscending};
 ghost use Rattle.pb_norm.specs.Addition.{coef_of};
-ghost use Rattle.pb_steps.specs.Operations.{implies};
-ghost use Rattle.pb_operations.specs.inner.Sides.{StartsFrom, SameFrom, exceeding};
+ghost use Rattle.pb_steps.specs.Operations.{implies, negation};
+ghost use Rattle.pb_operations.specs.inner.Sides.{StartsFrom, SameFrom, exceeding, turned, turned_lit};
 
 use pb_base::{Lit, Term, Var};
 use pb_norm::Linear;
@@ -34,12 +34,19 @@ fn coef_at(terms: &[Term], lit: Lit, place: usize) -> u128
     if term.lit == lit { term.weight() } else { 0 }
 }
 
-// By how much the coefficients are above those of the same literals.
-fn excess(terms: &[Term], others: &[Term]) -> u128
+// A literal, or its negation.
+fn turned(lit: Lit, turn: bool) -> Lit
+    ensures { result ≡ turned_lit turn lit }
+{
+    if turn { lit.not() } else { lit }
+}
+
+// By how much the coefficients are above those of the same literals, or of the opposite ones.
+fn excess(terms: &[Term], others: &[Term], turn: bool) -> u128
     requires terms { IsAscending (weights terms.now) }
     requires others { IsAscending (weights others.now) }
     requires room { weight (weights terms.now) < 2 ^ 128 }
-    ensures { result ≡ sum_by (exceeding (weights others.now)) (weights terms.now) }
+    ensures { result ≡ sum_by (exceeding (weights others.now)) (map (turned turn) (weights terms.now)) }
 {
     let mut sum = 0;
     let mut place = 0;
@@ -47,9 +54,22 @@ fn excess(terms: &[Term], others: &[Term]) -> u128
         place = place_from(others, term.lit.var, place);
         sum += term
             .weight()
-            .saturating_sub(coef_at(others, term.lit, place));
+            .saturating_sub(coef_at(others, turned(term.lit, turn), place));
     }
     sum
+}
+
+// Whether a constraint follows from terms, of their literals or of the opposite ones, and a degree.
+fn follows(terms: &[Term], turn: bool, degree: u128, other: &Linear) -> bool
+    requires ascending { IsAscending (weights terms.now) }
+    requires room { weight (weights terms.now) ≤ 2 ^ 126 }
+    ensures { result ≡ implies (record { terms = map (turned turn) (weights terms.now); degree = degree }) other.now }
+{
+    if other.degree() == 0 {
+        return true;
+    }
+    let excess = excess(terms, other.terms(), turn);
+    other.degree() + excess <= degree
 }
 
 /// Whether the second constraint follows from the first one term by term (syntactic implication, as in VeriPB): the degree that is
@@ -57,9 +77,13 @@ fn excess(terms: &[Term], others: &[Term]) -> u128
 pub fn implies(constraint: &Linear, other: &Linear) -> bool
     ensures { result ≡ implies constraint.now other.now }
 {
-    if other.degree() == 0 {
-        return true;
-    }
-    let excess = excess(constraint.terms(), other.terms());
-    other.degree() + excess <= constraint.degree()
+    follows(constraint.terms(), false, constraint.degree(), other)
+}
+
+/// Whether the second constraint follows from the negation of the first one term by term. The negation is not made for that.
+pub fn negation_implies(constraint: &Linear, other: &Linear) -> bool
+    ensures { result ≡ implies (negation constraint.now) other.now }
+{
+    let degree = (constraint.weight() + 1).saturating_sub(constraint.degree());
+    follows(constraint.terms(), true, degree, other)
 }

@@ -8,5 +8,5 @@ mod substitution;
 mod terms;
 
 pub use algebra::{axiom, division, multiple, negation, plus, saturation, weakening, weakenings};
-pub use implication::implies;
+pub use implication::{implies, negation_implies};
 pub use substitution::{degree_left, names_set, restricted, restriction};

@@ -1,5 +1,5 @@
 -- The engine mirrors what stands by ids.
-use Rattle.std.proofs.Common.{◌≡◌, ◌≤◌, ◌<◌, ◌+◌, ◌⊎◌, inl, inr, ℕ, zero, suc, true, List, [], ◌∷◌, ◌++◌, Option, Some, None, arith, length, set, refl, ap, sym, ◌∙◌, subst, map, take}
+use Rattle.std.proofs.Common.{◌≡◌, ◌≤◌, ◌<◌, ◌+◌, ◌⊎◌, inl, inr, ℕ, zero, suc, false, true, List, [], ◌∷◌, ◌++◌, Option, Some, None, arith, length, set, refl, ap, sym, ◌∙◌, subst, map, take}
 use Rattle.std.specs.Prelude.{All, Contains, filter_map, is_some, option_map}
 use Rattle.std.specs.List.{cons_option}
 use Rattle.std.proofs.lemmas.Bool.{cases_eq}
@@ -164,28 +164,21 @@ mirrored-same vars ss ss' s constraint place m = record {
   own = λ j k c d e f g. m.own j k c d (sym (constraint j) ∙ e) (sym (constraint k) ∙ f) (sym (place j) ∙ (g ∙ place k));
 }
 
-pub marked-constraint : (ss : List Slot) (id k : ℕ) → (slot_at (marked_slots ss id) k).constraint ≡ (slot_at ss k).constraint
-marked-constraint ss zero k = refl
-marked-constraint ss (suc n) k = at ss n k where
-  at : (ss : List Slot) (n k : ℕ) → (slot_at (set ss n (record (slot_at ss n) { out = true })) k).constraint ≡ (slot_at ss k).constraint
+marked-slot : (ss : List Slot) (id k : ℕ) → record (slot_at (marked_slots ss id) k) { out = false } ≡ record (slot_at ss k) { out = false }
+marked-slot ss zero k = refl
+marked-slot ss (suc n) k = at ss n k where
+  at : (ss : List Slot) (n k : ℕ) → record (slot_at (set ss n (record (slot_at ss n) { out = true })) k) { out = false } ≡ record (slot_at ss k) { out = false }
   at [] n k = refl
   at (s ∷ ss) zero zero = refl
   at (s ∷ ss) zero (suc k) = refl
   at (s ∷ ss) (suc n) zero = refl
   at (s ∷ ss) (suc n) (suc k) = at ss n k
 
-marked-place : (ss : List Slot) (id k : ℕ) → (slot_at (marked_slots ss id) k).place ≡ (slot_at ss k).place
-marked-place ss zero k = refl
-marked-place ss (suc n) k = at ss n k where
-  at : (ss : List Slot) (n k : ℕ) → (slot_at (set ss n (record (slot_at ss n) { out = true })) k).place ≡ (slot_at ss k).place
-  at [] n k = refl
-  at (s ∷ ss) zero zero = refl
-  at (s ∷ ss) zero (suc k) = refl
-  at (s ∷ ss) (suc n) zero = refl
-  at (s ∷ ss) (suc n) (suc k) = at ss n k
+pub marked-constraint : (ss : List Slot) (id k : ℕ) → (slot_at (marked_slots ss id) k).constraint ≡ (slot_at ss k).constraint
+marked-constraint ss id k = ap (λ (s : Slot). s.constraint) (marked-slot ss id k)
 
 pub mirrored-marked : (vars id : ℕ) (ss ss' : List Slot) (s : EngineState) → ss' ≡ marked_slots ss id → IsMirrored vars ss s → IsMirrored vars ss' s
-mirrored-marked vars id ss ss' s e m = subst (λ (ts : List Slot). IsMirrored vars ts s) (sym e) (mirrored-same vars ss (marked_slots ss id) s (marked-constraint ss id) (marked-place ss id) m)
+mirrored-marked vars id ss ss' s e m = subst (λ (ts : List Slot). IsMirrored vars ts s) (sym e) (mirrored-same vars ss (marked_slots ss id) s (marked-constraint ss id) (λ k. ap (λ (t : Slot). t.place) (marked-slot ss id k)) m)
 
 -- one more
 slot-below : (ss : List Slot) (k : ℕ) (c : Constraint) → (slot_at ss k).constraint ≡ Some c → k < length ss

@@ -1,6 +1,6 @@
 //! Propagation where there are far more variables than occur, over those that do.
 ghost use Rattle.std.specs.Prelude.{◌≡◌, ◌++◌, ◌∷◌, [], IfOk, OnOk, filter_map};
-ghost use Rattle.std.specs.Option.{option_to_list};
+ghost use Rattle.std.specs.Option.{option_copied, option_to_list};
 ghost use Rattle.pb_rules.specs.inner.Slots.{slot_of, listed_slots};
 ghost use Rattle.pb_rules.specs.inner.Mirrors.{TellsConflict};
 
@@ -19,13 +19,22 @@ pub(crate) fn one(alloc: Global, constraint: &Linear) -> Result<Constraints, NoM
     Ok(list)
 }
 
-/// A list of two.
-pub(crate) fn two(alloc: Global, first: &Linear, second: &Linear) -> Result<Constraints, NoMemory>
-    ensures { IfOk result (λ list. list ≡ first.now ∷ second.now ∷ []) }
+/// A list of one or two.
+pub(crate) fn front(
+    alloc: Global,
+    first: &Linear,
+    second: Option<&Linear>,
+) -> Result<Constraints, NoMemory>
+    ensures { IfOk result (λ list. list ≡ first.now ∷ option_to_list (option_copied second.entry)) }
 {
     let mut list = one(alloc, first)?;
-    list.push(second)?;
-    Ok(list)
+    match second {
+        Some(constraint) => {
+            list.push(constraint)?;
+            Ok(list)
+        }
+        None => Ok(list),
+    }
 }
 
 // Adds the constraint of a slot, if it has one.

@@ -1,6 +1,6 @@
 //! The constraints that stand.
-ghost use Rattle.std.specs.Prelude.{◌≡◌, ◌≤◌, ◌<◌, ◌∷◌, ◌++◌, [], IfOk, OnOk, OnErr, All, filter_map, length, take};
-ghost use Rattle.std.specs.Option.{option_copied};
+ghost use Rattle.std.specs.Prelude.{◌≡◌, ◌≤◌, ◌<◌, ◌∷◌, ◌++◌, [], IfOk, IfSome, OnOk, OnErr, All, filter_map, length, take};
+ghost use Rattle.std.specs.Option.{option_copied, option_to_list};
 ghost use Rattle.pb_norm.specs.Constraints.{HasVarsWithin, AreVarsWithin};
 ghost use Rattle.pb_steps.specs.Operations.{IsNarrow};
 ghost use Rattle.pb_steps.specs.Database.{live_constraints, constraint_at, is_live, is_out, grown, reduced, marked, loaded_database};
@@ -16,7 +16,7 @@ use crate::entering::{enter_rest, leave};
 use crate::idle::{Idle, idle_engine};
 use crate::index::{self, Named};
 use crate::packed::Packed;
-use crate::refutation::{is_refuted_with, is_refuted_with_both};
+use crate::refutation::is_refuted_with;
 use crate::rounds::is_refuted_by_few;
 use crate::slots::{self, Slot};
 use pb_base::{NoMemory, Var};
@@ -253,14 +253,19 @@ impl Database {
         Ok(found)
     }
 
-    /// Whether propagation over a constraint and all that stands reaches a conflict.
-    pub(crate) fn refutes(&mut self, more: &Linear) -> Result<bool, NoMemory>
-        requires { HasVarsWithin self.old.vars more.now.terms }
+    /// Whether propagation over one constraint or two and all that stands reaches a conflict.
+    pub(crate) fn refutes(
+        &mut self,
+        more: &Linear,
+        second: Option<&Linear>,
+    ) -> Result<bool, NoMemory>
+        requires more { HasVarsWithin self.old.vars more.now.terms }
+        requires second { IfSome (option_copied second) (λ c. HasVarsWithin self.old.vars c.terms) }
         ensures same { self.new ≡ self.old }
-        ensures answer { IfOk result (TellsConflict (more.now ∷ live_constraints self.old.live)) }
+        ensures answer { IfOk result (TellsConflict (more.now ∷ option_to_list (option_copied second.entry) ++ live_constraints self.old.live)) }
     {
         if self.most < self.vars {
-            let front = apart::one(self.alloc, more)?;
+            let front = apart::front(self.alloc, more, second)?;
             let found = self.refutes_apart(front)?;
             return Ok(found);
         }
@@ -272,30 +277,7 @@ impl Database {
         ) {
             return Err(NoMemory);
         }
-        is_refuted_with(&mut self.engine, more)
-    }
-
-    /// The same with two constraints.
-    pub(crate) fn refutes_both(&mut self, first: &Linear, second: &Linear) -> Result<bool, NoMemory>
-        requires first { HasVarsWithin self.old.vars first.now.terms }
-        requires second { HasVarsWithin self.old.vars second.now.terms }
-        ensures same { self.new ≡ self.old }
-        ensures answer { IfOk result (TellsConflict (first.now ∷ second.now ∷ live_constraints self.old.live)) }
-    {
-        if self.most < self.vars {
-            let front = apart::two(self.alloc, first, second)?;
-            let found = self.refutes_apart(front)?;
-            return Ok(found);
-        }
-        if !enter_rest(
-            self.alloc,
-            &mut self.engine,
-            &mut self.slots,
-            &mut self.entered,
-        ) {
-            return Err(NoMemory);
-        }
-        is_refuted_with_both(&mut self.engine, first, second)
+        is_refuted_with(&mut self.engine, more, second)
     }
 
     /// The same with one constraint, over those with the ids alone.

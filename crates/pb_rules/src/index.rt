@@ -144,10 +144,7 @@ fn enter_one(lists: &mut Vec<Named>, original: u32, var: u32, id: u64) -> bool
     if var <= original {
         return true;
     }
-    if !append(lists, number_in(lists.len(), var), id) {
-        return false;
-    }
-    true
+    append(lists, number_in(lists.len(), var), id)
 }
 
 /// One more id for the variables of terms that are beyond the original ones, if there is memory.

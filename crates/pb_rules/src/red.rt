@@ -20,7 +20,7 @@ use crate::fault::RuleFault;
 use crate::rows::{self, is_slim, var_above};
 use pb_base::{NoMemory, Term, Var};
 use pb_norm::Linear;
-use pb_operations::{degree_left, implies, names_set, negation, restricted, restriction};
+use pb_operations::{degree_left, names_set, negation, negation_implies, restricted, restriction};
 use pb_steps::{Denied, Set};
 
 // The first set variable that is above a number.
@@ -75,12 +75,12 @@ fn is_shown(db: &mut Database, claim: &Linear, goal: &Linear) -> Result<bool, No
     ensures same { db.new ≡ db.old }
     ensures shown { IfOk result (TellsShown db.old.live claim.now goal.now) }
 {
-    let denial = negation(db.alloc(), claim)?;
-    if implies(&denial, goal) {
+    if negation_implies(claim, goal) {
         return Ok(true);
     }
+    let denial = negation(db.alloc(), claim)?;
     let opposite = negation(db.alloc(), goal)?;
-    let found = db.refutes_both(&denial, &opposite)?;
+    let found = db.refutes(&denial, Some(&opposite))?;
     Ok(found)
 }
 

@@ -1,5 +1,6 @@
 //! What propagation refutes.
-ghost use Rattle.std.specs.Prelude.{◌≡◌, ◌∷◌, [], IfOk};
+ghost use Rattle.std.specs.Prelude.{◌≡◌, ◌∷◌, ◌++◌, [], IfOk, IfSome};
+ghost use Rattle.std.specs.Option.{option_copied, option_to_list};
 ghost use Rattle.pb_norm.specs.Constraints.{HasVarsWithin};
 ghost use Rattle.pb_unit.specs.States.{standing};
 ghost use Rattle.pb_rules.specs.inner.Conflicts.{is_conflict};
@@ -19,8 +20,8 @@ pub(crate) fn is_conflict(outcome: Outcome) -> bool
     }
 }
 
-/// Whether propagation over what stands and one more constraint reaches a conflict. The constraint is taken away again.
-pub(crate) fn is_refuted_with(engine: &mut Engine, more: &Linear) -> Result<bool, NoMemory>
+// Whether propagation over what stands and one more constraint reaches a conflict. The constraint is taken away again.
+fn is_refuted_with_one(engine: &mut Engine, more: &Linear) -> Result<bool, NoMemory>
     requires within { HasVarsWithin engine.old.vars more.now.terms }
     ensures kept { KeepsEngine engine.old engine.new }
     ensures answer { IfOk result (TellsConflict (more.now ∷ standing engine.old.places)) }
@@ -31,8 +32,8 @@ pub(crate) fn is_refuted_with(engine: &mut Engine, more: &Linear) -> Result<bool
     Ok(is_conflict(outcome))
 }
 
-/// The same with two constraints.
-pub(crate) fn is_refuted_with_both(
+// The same with two constraints.
+fn is_refuted_with_both(
     engine: &mut Engine,
     first: &Linear,
     second: &Linear,
@@ -43,7 +44,24 @@ pub(crate) fn is_refuted_with_both(
     ensures answer { IfOk result (TellsConflict (first.now ∷ second.now ∷ standing engine.old.places)) }
 {
     let place = engine.add(second)?;
-    let found = is_refuted_with(engine, first);
+    let found = is_refuted_with_one(engine, first);
     engine.remove(place);
     found
+}
+
+/// The same with one constraint or two.
+pub(crate) fn is_refuted_with(
+    engine: &mut Engine,
+    more: &Linear,
+    second: Option<&Linear>,
+) -> Result<bool, NoMemory>
+    requires more { HasVarsWithin engine.old.vars more.now.terms }
+    requires second { IfSome (option_copied second) (λ c. HasVarsWithin engine.old.vars c.terms) }
+    ensures kept { KeepsEngine engine.old engine.new }
+    ensures answer { IfOk result (TellsConflict (more.now ∷ option_to_list (option_copied second.entry) ++ standing engine.old.places)) }
+{
+    match second {
+        Some(second) => is_refuted_with_both(engine, more, second),
+        None => is_refuted_with_one(engine, more),
+    }
 }

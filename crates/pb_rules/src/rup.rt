@@ -45,7 +45,7 @@ fn is_shown(db: &mut Database, claim: &Linear, ids: &[u64]) -> Result<bool, NoMe
 {
     let denial = negation(db.alloc(), claim)?;
     if ids.is_empty() {
-        let found = db.refutes(&denial)?;
+        let found = db.refutes(&denial, None)?;
         return Ok(found);
     }
     let found = db.refutes_listed(&denial, ids)?;

@@ -25,19 +25,18 @@ names_push vars next v is all here = subst (All IsName) (sym is) (All-push IsNam
 
 -- what stands behind those of the first items, with that of the next one
 vars_push : {X : Type 0} (vars_of : List X → List ℕ) (var_of : X → ℕ) → ((xs : List X) (x : X) → vars_of (xs ++ x ∷ []) ≡ vars_of xs ++ var_of x ∷ [])
-    → (xs : List X) (i : ℕ) (x : X) (before vars next : List ℕ) (v : ℕ) → i < length xs → x ≡ get_or xs i x → vars ≡ before ++ vars_of (take i xs) → next ≡ vars ++ v ∷ [] → v ≡ var_of x → next ≡ before ++ vars_of (take (i + 1) xs)
-vars_push {X} vars_of var_of pushes xs i x before vars next v within is so_far pushed same =
+    → (xs : List X) (i : ℕ) (x : X) (before vars next : List ℕ) → i < length xs → x ≡ get_or xs i x → vars ≡ before ++ vars_of (take i xs) → next ≡ vars ++ var_of x ∷ [] → next ≡ before ++ vars_of (take (i + 1) xs)
+vars_push {X} vars_of var_of pushes xs i x before vars next within is so_far pushed =
     let more = take_more xs i x within ∙ ap (λ (y : X). take i xs ++ y ∷ []) (sym is) in
     pushed
-    ∙ ap (λ (vs : List ℕ). vs ++ v ∷ []) so_far
-    ∙ append_assoc before (vars_of (take i xs)) (v ∷ [])
-    ∙ ap (λ (u : ℕ). before ++ (vars_of (take i xs) ++ u ∷ [])) same
+    ∙ ap (λ (vs : List ℕ). vs ++ var_of x ∷ []) so_far
+    ∙ append_assoc before (vars_of (take i xs)) (var_of x ∷ [])
     ∙ ap (λ (vs : List ℕ). before ++ vs) (sym (ap vars_of more ∙ pushes (take i xs) x))
 
-module _ (i : ℕ) (before vars next : List ℕ) (v : ℕ) where
-  pub term_vars_push : (ts : List Term) (t : Term) → i < length ts → t ≡ get_or ts i t → vars ≡ before ++ term_vars (weights (take i ts)) → next ≡ vars ++ v ∷ [] → v ≡ t.lit.var → next ≡ before ++ term_vars (weights (take (i + 1) ts))
+module _ (i : ℕ) (before vars next : List ℕ) where
+  pub term_vars_push : (ts : List Term) (t : Term) → i < length ts → t ≡ get_or ts i t → vars ≡ before ++ term_vars (weights (take i ts)) → next ≡ vars ++ t.lit.var ∷ [] → next ≡ before ++ term_vars (weights (take (i + 1) ts))
   term_vars_push ts t =
-      vars_push (λ (us : List Term). term_vars (weights us)) (λ (u : Term). u.lit.var) (λ us u. ap term_vars (map_push weighted us u) ∙ map_push (λ w. w.lit.var) (weights us) (weighted u)) ts i t before vars next v
+      vars_push (λ (us : List Term). term_vars (weights us)) (λ (u : Term). u.lit.var) (λ us u. ap term_vars (map_push weighted us u) ∙ map_push (λ w. w.lit.var) (weights us) (weighted u)) ts i t before vars next
 
-  pub lit_vars_push : (ls : List Lit) (l : Lit) → i < length ls → l ≡ get_or ls i l → vars ≡ before ++ lit_vars (take i ls) → next ≡ vars ++ v ∷ [] → v ≡ l.var → next ≡ before ++ lit_vars (take (i + 1) ls)
-  lit_vars_push ls l = vars_push lit_vars (λ (k : Lit). k.var) (map_push (λ (k : Lit). k.var)) ls i l before vars next v
+  pub lit_vars_push : (ls : List Lit) (l : Lit) → i < length ls → l ≡ get_or ls i l → vars ≡ before ++ lit_vars (take i ls) → next ≡ vars ++ l.var ∷ [] → next ≡ before ++ lit_vars (take (i + 1) ls)
+  lit_vars_push ls l = vars_push lit_vars (λ (k : Lit). k.var) (map_push (λ (k : Lit). k.var)) ls i l before vars next

@@ -1,15 +1,12 @@
 -- Constraints of a list, read one after another.
-use Rattle.std.proofs.Common.{◌≡◌, ◌≤◌, ◌<◌, ◌+◌, ◌∙◌, ◌++◌, ◌∷◌, [], ℕ, List, map, length, take, refl, ap, sym, subst}
+use Rattle.std.proofs.Common.{◌≡◌, ◌<◌, ◌+◌, ◌∙◌, ◌++◌, ◌∷◌, [], ℕ, List, map, length, take, refl, ap, sym, subst}
 use Rattle.std.specs.Prelude.{All}
 use Rattle.std.proofs.lemmas.Grind.{flat_map-append}
 use Rattle.std.proofs.lemmas.List.{take_more, map_push, append-nil}
-use Rattle.std.proofs.lemmas.List.Elements.{All-weaker}
 use Rattle.pb_base.specs.declared.literal.Term.{Term}
 use Rattle.pb_norm.specs.Constraints.{Constraint, constraint_of, weights}
 use Rattle.pb_unit.specs.Reads.{IsRead}
-use Rattle.pb_unit.specs.Reaching.{IsUpTo, OfConstraint, OfTerm}
 use Rattle.pb_unit.specs.Renaming.{form_vars, term_vars}
-use Rattle.pb_unit.proofs.UpTo.{all_next, of_terms, up_to}
 
 module _ (cs : List Constraint) (place : ℕ) (ts : List Term) (degree : ℕ) (below : place < length cs) (is : IsRead cs place ts degree) where
   pub take_read : take (place + 1) cs ≡ take place cs ++ constraint_of ts degree ∷ []
@@ -24,8 +21,3 @@ module _ (cs : List Constraint) (place : ℕ) (ts : List Term) (degree : ℕ) (b
 
   pub vars_read : form_vars (take (place + 1) cs) ≡ form_vars (take place cs) ++ term_vars (weights ts)
   vars_read = ap form_vars take_read ∙ (flat_map-append (λ (c : Constraint). term_vars c.terms) (take place cs) (constraint_of ts degree ∷ []) ∙ ap (λ (vs : List ℕ). form_vars (take place cs) ++ vs) (append-nil (term_vars (weights ts))))
-
-  pub greatest_read : (most next : ℕ) → All (OfConstraint (IsUpTo most)) (take place cs) → most ≤ next → All (λ (t : Term). IsUpTo next t.lit.var) ts → All (OfConstraint (IsUpTo next)) (take (place + 1) cs)
-  greatest_read most next so_far le here =
-      all_next (λ (m : ℕ) (c : Constraint). OfConstraint (IsUpTo m) c) (λ m n le c h. All-weaker (OfTerm (IsUpTo m)) (OfTerm (IsUpTo n)) (λ t k. up_to m n le t.lit.var k) c.terms h) cs place (constraint_of ts degree) most next below is.at so_far le
-      (of_terms (IsUpTo next) ts (weights ts) refl here)

@@ -1,8 +1,9 @@
 //! Lists of constraints.
-ghost use Rattle.std.specs.Prelude.{◌≡◌, ◌≤◌, ◌<◌, ◌++◌, ◌∷◌, [], Some, if◌then◌else◌, IfOk, IsErr, IsTrue, OnOk, All, length, map};
+ghost use Rattle.std.specs.Prelude.{◌≡◌, ◌≤◌, ◌<◌, ◌^◌, ◌++◌, ◌∷◌, [], Some, if◌then◌else◌, IfOk, IsErr, IsTrue, OnOk, All, length, map};
 ghost use Rattle.pb_norm.specs.ClauseForm.{clause_form};
 ghost use Rattle.pb_norm.specs.Constraints.{IsAscending, IsLinear};
 ghost use Rattle.pb_unit.specs.inner.Slots.{unit};
+ghost use Rattle.pb_unit.specs.Reaching.{IsUpTo, OfConstraint};
 ghost use Rattle.pb_unit.specs.Reads.{lit_count, IsRead};
 
 use crate::places::Places;
@@ -113,6 +114,16 @@ impl Constraints {
         ensures { result ≤ lit_count self.now }
     {
         self.places.clause_lits()
+    }
+
+    // The greatest variable of them, or a number that is no less.
+    pub(crate) fn greatest(&self, least: u32) -> u32
+        requires { least < 2 ^ 31 }
+        ensures within { All (OfConstraint (IsUpTo result)) self.now }
+        ensures no_less { least ≤ result }
+        ensures few { result < 2 ^ 31 }
+    {
+        self.places.greatest(least)
     }
 
     /// The terms of the constraint at a place, which are written over others, and its degree.

@@ -1,5 +1,5 @@
 //! Variables by their places among those that occur, so that tables over them are no longer than the text.
-ghost use Rattle.std.specs.Prelude.{◌≡◌, ◌≤◌, ◌<◌, ◌+◌, ◌^◌, ◌++◌, ℕ, length, map, All, Contains, IfOk, OnOk};
+ghost use Rattle.std.specs.Prelude.{◌≡◌, ◌≤◌, ◌<◌, ◌+◌, ◌^◌, ◌++◌, ◌∷◌, [], ℕ, length, map, All, Contains, IfOk, OnOk};
 ghost use Rattle.pb_norm.specs.Constraints.{constraint_of, weights, AreUnsigned, IsLinear};
 ghost use Rattle.pb_unit.specs.Reaching.{IsUpTo, OfConstraint, OfLit, OfTerm};
 ghost use Rattle.pb_unit.specs.Reads.{lit_count};
@@ -11,6 +11,16 @@ use pb_norm::Linear;
 use std::alloc::{AllocError, Global};
 use std::marker::Model;
 
+// Adds the variable of a literal.
+fn push_var(lit: &Lit, out: &mut Vec<u32>) -> Result<(), AllocError>
+    requires { All IsName out.old.items }
+    ensures var { OnOk result (out.new.items ≡ out.old.items ++ lit.now.var ∷ []) }
+    ensures names { OnOk result (All IsName out.new.items) }
+{
+    out.push(lit.index())?;
+    Ok(())
+}
+
 // Adds the variables of terms.
 fn push_term_vars(terms: &[Term], out: &mut Vec<u32>) -> Result<(), AllocError>
     requires { All IsName out.old.items }
@@ -18,7 +28,7 @@ fn push_term_vars(terms: &[Term], out: &mut Vec<u32>) -> Result<(), AllocError>
     ensures names { OnOk result (All IsName out.new.items) }
 {
     for term in terms {
-        out.push(term.lit.index())?;
+        push_var(&term.lit, out)?;
     }
     Ok(())
 }
@@ -44,7 +54,7 @@ fn push_lit_vars(lits: &[Lit], out: &mut Vec<u32>) -> Result<(), AllocError>
     ensures names { OnOk result (All IsName out.new.items) }
 {
     for lit in lits {
-        out.push(lit.index())?;
+        push_var(lit, out)?;
     }
     Ok(())
 }
@@ -58,48 +68,6 @@ fn vars_of(alloc: Global, forms: &Constraints, lits: &[Lit]) -> Result<Vec<u32>,
     push_form_vars(alloc, forms, &mut vars)?;
     push_lit_vars(lits, &mut vars)?;
     Ok(vars)
-}
-
-// The greatest variable of terms, or a number that is no less.
-fn greatest_in(terms: &[Term], least: u32) -> u32
-    requires { least < 2 ^ 31 }
-    ensures within { All (λ t. IsUpTo result t.lit.var) terms.now }
-    ensures no_less { least ≤ result }
-    ensures few { result < 2 ^ 31 }
-{
-    let mut most = least;
-    for term in terms {
-        most = most.max(term.lit.index());
-    }
-    most
-}
-
-/// The greatest variable of constraints, or a number that is no less.
-pub fn greatest_of(alloc: Global, forms: &Constraints, least: u32) -> Result<u32, NoMemory>
-    requires { least < 2 ^ 31 }
-    ensures within { IfOk result (λ most. All (OfConstraint (IsUpTo most)) forms.now) }
-    ensures no_less { IfOk result (λ most. least ≤ most) }
-    ensures few { IfOk result (λ most. most < 2 ^ 31) }
-{
-    let mut terms = Vec::new(alloc);
-    let mut most = least;
-    for place in 0..forms.len() {
-        let _ = forms.read(place, &mut terms)?;
-        most = greatest_in(&terms, most);
-    }
-    Ok(most)
-}
-
-/// The greatest variable of literals, or 0.
-pub fn greatest(lits: &[Lit]) -> u32
-    ensures within { All (OfLit (IsUpTo result)) lits.now }
-    ensures few { result < 2 ^ 31 }
-{
-    let mut most: u32 = 0;
-    for lit in lits {
-        most = most.max(lit.index());
-    }
-    most
 }
 
 /// The literal of a variable.

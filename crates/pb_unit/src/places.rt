@@ -1,5 +1,5 @@
 //! Constraints by their places.
-ghost use Rattle.std.specs.Prelude.{◌≡◌, ◌≤◌, ◌<◌, ◌+◌, ◌*◌, ◌-◌, ◌^◌, ◌++◌, ◌∷◌, [], if◌then◌else◌, ℕ, List, Some, None, IsTrue, IfOk, IfSome, OnOk, length, map, take, is_some, nat_lt, slice_set, sum_by};
+ghost use Rattle.std.specs.Prelude.{◌≡◌, ◌≤◌, ◌<◌, ◌+◌, ◌*◌, ◌-◌, ◌^◌, ◌++◌, ◌∷◌, [], if◌then◌else◌, ℕ, List, Some, None, IsTrue, IfOk, IfSome, OnOk, All, length, map, take, is_some, nat_lt, slice_set, sum_by};
 ghost use Rattle.std.specs.Bool.{OnTrue, OnFalse};
 ghost use Rattle.std.specs.Option.{option_map};
 ghost use Rattle.pb_base.specs.declared.literal.Lit.{Lit};
@@ -10,9 +10,11 @@ ghost use Rattle.pb_unit.specs.Steps.{IsCalm, Advances, HasTooLittle};
 ghost use Rattle.pb_unit.specs.inner.Filling.{terms_in, IsFilling, IsInRange, IsKeptOf};
 ghost use Rattle.pb_unit.specs.Index.{list_at, size_of};
 ghost use Rattle.pb_unit.specs.inner.Slots.{unit, part, clause_of, slot_at, slot_lits, with_slot, AreSlots, IsSlot};
+ghost use Rattle.pb_unit.specs.Reaching.{IsUpTo, OfConstraint};
 ghost use Rattle.pb_unit.specs.Reads.{lit_count, ReadsAt};
 
 use crate::filling::{Codes, count_lits, count_terms, fill_range};
+use crate::highest::{greatest_from, greatest_of_slots};
 use crate::index::Index;
 use crate::kept::{Counters, NOTHING, kept_of};
 use crate::slack::{are_two_open, open_units, room_under, slack_of, slack_of_clause};
@@ -355,6 +357,16 @@ impl Places {
         ensures { result ≤ lit_count (standing self.now) }
     {
         lits_of_slots(&self.slots)
+    }
+
+    // The greatest variable of all that stands, or a number that is no less.
+    pub(crate) fn greatest(&self, least: u32) -> u32
+        requires { least < 2 ^ 31 }
+        ensures within { All (OfConstraint (IsUpTo result)) (standing self.now) }
+        ensures no_less { least ≤ result }
+        ensures few { result < 2 ^ 31 }
+    {
+        greatest_of_slots(&self.slots, greatest_from(&self.lits, least))
     }
 
     // Whether a constraint stands at the place.

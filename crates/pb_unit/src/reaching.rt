@@ -8,9 +8,8 @@ ghost use Rattle.pb_unit.specs.Reaching.{held_to, value_at, AreAscending, AreAss
 
 use crate::constraints::Constraints;
 use crate::engine::{Engine, Outcome};
-use crate::numbering::{
-    Names, greatest, greatest_of, lit_at, named_lits, numbered_forms, numbered_lits,
-};
+use crate::highest::{greatest, greatest_of};
+use crate::numbering::{Names, lit_at, named_lits, numbered_forms, numbered_lits};
 use crate::rounds::Rounds;
 use pb_base::{Lit, Lits, NoMemory};
 use pb_norm::{clause_form, lits_of};

@@ -86,9 +86,9 @@ pub(crate) fn open_units(lits: &[Lit], held: &Trail) -> u128
 pub(crate) fn are_two_open(lits: &[Lit], held: &Trail) -> bool
     ensures { IsTrue result → 2 ≤ room held.now.lits (map unit lits.now) }
 {
-    let mut open = 0;
+    let mut open: u32 = 0;
     for lit in lits {
-        open += open_unit(lit, held);
+        open += open_unit(lit, held) as u32;
         if open > 1 {
             return true;
         }

@@ -18,6 +18,13 @@ is_set sets t = not (is_unset sets t)
 abbrev pub exceeding : List Weighted → Weighted → ℕ
 exceeding others t = t.coef - coef_of others t.lit
 
+-- a literal, or its negation
+abbrev pub turned_lit : Bool → Lit → Lit
+turned_lit turn l = record { var = l.var; positive = cond turn (not l.positive) l.positive }
+
+abbrev pub turned : Bool → Weighted → Weighted
+turned turn t = record { coef = t.coef; lit = turned_lit turn t.lit }
+
 -- no earlier variable stands
 abbrev pub StartsFrom : ℕ → List Weighted → Type 0
 StartsFrom var ts = All (λ t. var ≤ t.lit.var) ts

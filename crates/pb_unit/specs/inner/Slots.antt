@@ -2,6 +2,7 @@
 use Rattle.std.specs.Prelude.{ℕ, ◌≤◌, ◌+◌, ◌++◌, if◌then◌else◌, nat_lt, length, slice_set, List, [], ◌∷◌, Option, Some, None, map, take, drop, All}
 use Rattle.pb_base.specs.declared.literal.Lit.{Lit}
 use Rattle.pb_norm.specs.Constraints.{Weighted, Constraint}
+use Rattle.pb_unit.specs.Reaching.{IsUpTo, OfConstraint}
 use Rattle.pb_unit.specs.declared.places.Slot.{Slot}
 use Rattle.pb_unit.specs.declared.places.Slot.TheVariants.{Empty, Clause, General}
 
@@ -40,3 +41,9 @@ IsSlot n (General alone) = Unit {0}
 
 abbrev pub AreSlots : ℕ → List Slot → Type 0
 AreSlots n slots = All (IsSlot n) slots
+
+-- a constraint in memory of its own has variables from 1 to a number
+abbrev pub IsAloneUpTo : ℕ → Slot → Type 0
+IsAloneUpTo most Empty = Unit {0}
+IsAloneUpTo most (Clause start len) = Unit {0}
+IsAloneUpTo most (General alone) = OfConstraint (IsUpTo most) alone.value

@@ -1,6 +1,6 @@
 use Rattle.std.proofs.Common.{◌≡◌, ◌%◌, ◌∙◌, ℕ, arith, ap, length, refl, subst}
 use Rattle.std.specs.Prelude.{Contains}
-use Rattle.std.proofs.lemmas.Bool.{OnTrue_at}
+use Rattle.std.proofs.lemmas.Bool.{OnTrue_at, OnTrue_from}
 use Rattle.pb_rules.specs.inner.Indexed.{ids_at, ids_of}
 use Rattle.pb_rules.proofs.Indexing.{keeps_ids_same}
 use Rattle.pb_rules.proofs.index.enter_one.Goals as goal
@@ -16,4 +16,4 @@ returns-clause-added c =
     let after = c.append.new.lists.items in
     let size : c.len.result ≡ length after = omega (arith, c.len.ensures, c.append.ensures.kept.size) in
     let number : c.number_in.result ≡ c.args.var % length after = c.number_in.ensures.value ∙ ap (λ (n : ℕ). c.args.var % n) size in
-    λ above. subst (λ (n : ℕ). Contains (ids_at after n) c.args.id) number (OnTrue_at c.if-not-append.false c.append.ensures.added)
+    OnTrue_from c.append.result _ (λ e above. subst (λ (n : ℕ). Contains (ids_at after n) c.args.id) number (OnTrue_at e c.append.ensures.added))

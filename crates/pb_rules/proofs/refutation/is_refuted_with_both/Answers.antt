@@ -12,11 +12,11 @@ returns-in_err-place-clause-kept c = keeps_same c.args.engine.now c.add.new.self
 pub returns-clause-kept : goal.returns-clause-kept
 returns-clause-kept c =
     let free = c.in_ok-place.ensures.ok.0 in
-    let kept = c.is_refuted_with-found.ensures.kept in
-    let gone = gone_from c.remove.result c.in_ok-place.place c.is_refuted_with-found.new.engine c.remove.new.self c.remove.ensures.answer c.remove.ensures.after (stands_kept c.args.engine.now c.add.new.self c.is_refuted_with-found.new.engine c.in_ok-place.place c.args.second.now free c.in_ok-place.ensures.ok.1 kept) in
-    keeps_put c.args.engine.now c.add.new.self c.is_refuted_with-found.new.engine c.remove.new.self c.in_ok-place.place c.args.second.now free c.in_ok-place.ensures.ok.1 kept gone
+    let kept = c.is_refuted_with_one-found.ensures.kept in
+    let gone = gone_from c.remove.result c.in_ok-place.place c.is_refuted_with_one-found.new.engine c.remove.new.self c.remove.ensures.answer c.remove.ensures.after (stands_kept c.args.engine.now c.add.new.self c.is_refuted_with_one-found.new.engine c.in_ok-place.place c.args.second.now free c.in_ok-place.ensures.ok.1 kept) in
+    keeps_put c.args.engine.now c.add.new.self c.is_refuted_with_one-found.new.engine c.remove.new.self c.in_ok-place.place c.args.second.now free c.in_ok-place.ensures.ok.1 kept gone
 
 pub returns-clause-answer : goal.returns-clause-answer
 returns-clause-answer c =
-    IfOk-weaker c.is_refuted_with-found.result (TellsConflict (c.args.first.now ∷ standing c.add.new.self.places)) (TellsConflict (c.args.first.now ∷ c.args.second.now ∷ standing c.args.engine.now.places))
-    (λ found h. tells_placed c.args.engine.now c.add.new.self c.in_ok-place.place c.args.first.now c.args.second.now found c.in_ok-place.ensures.ok.0 c.in_ok-place.ensures.ok.1 h) c.is_refuted_with-found.ensures.answer
+    IfOk-weaker c.is_refuted_with_one-found.result (TellsConflict (c.args.first.now ∷ standing c.add.new.self.places)) (TellsConflict (c.args.first.now ∷ c.args.second.now ∷ standing c.args.engine.now.places))
+    (λ found h. tells_placed c.args.engine.now c.add.new.self c.in_ok-place.place c.args.first.now c.args.second.now found c.in_ok-place.ensures.ok.0 c.in_ok-place.ensures.ok.1 h) c.is_refuted_with_one-found.ensures.answer

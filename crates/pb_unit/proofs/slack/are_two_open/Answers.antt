@@ -6,11 +6,11 @@ pub loop-lit-preserved : goal.loop-lit-preserved
 loop-lit-preserved c =
     let next = room_next c.args.held.now.lits c.args.lits.now c.loop-lit.lit-index c.lit-item.result c.loop-lit-test.true c.lit-item.is in
     record {
-      sum = omega (arith, next, c.loop-lit.invariant.sum, c.open_unit-open.ensures);
+      sum = omega (arith, next, c.loop-lit.invariant.sum, c.open_unit.ensures);
       few = omega (arith, c.if-open-gt1.false);
     }
 
 pub returns-then-open-gt1 : goal.returns-then-open-gt1
 returns-then-open-gt1 c = λ _.
     let next = room_next c.args.held.now.lits c.args.lits.now c.loop-lit.lit-index c.lit-item.result c.loop-lit-test.true c.lit-item.is in
-    omega (arith, next, c.loop-lit.invariant.sum, c.open_unit-open.ensures, c.if-open-gt1.true, room_part c.args.held.now.lits c.args.lits.now (c.loop-lit.lit-index + 1))
+    omega (arith, next, c.loop-lit.invariant.sum, c.open_unit.ensures, c.if-open-gt1.true, room_part c.args.held.now.lits c.args.lits.now (c.loop-lit.lit-index + 1))

@@ -1,5 +1,7 @@
-use Rattle.std.proofs.Common.{◌∙◌, ◌∷◌, ◌++◌, [], ℕ, List, arith, sym, subst}
+use Rattle.std.proofs.Common.{◌∙◌, ◌∷◌, ◌++◌, ℕ, List, arith, sym, subst}
+use Rattle.std.specs.Option.{option_copied, option_to_list}
 use Rattle.std.proofs.lemmas.Bool.{OnTrue_at}
+use Rattle.std.proofs.lemmas.Option.{IfSome_then}
 use Rattle.pb_norm.specs.Constraints.{Constraint, HasVarsWithin}
 use Rattle.pb_steps.specs.Database.{live_constraints}
 use Rattle.pb_rules.specs.inner.Mirrors.{TellsConflict}
@@ -36,13 +38,19 @@ returns-clause-answer c =
     kept-same c.self.inside.original c.self.inside.vars c.self.inside.most c.self.inside.entered c.enter_rest.new.entered c.self.inside.slots.items c.enter_rest.new.slots.items c.self.inside.engine c.enter_rest.new.engine c.self.inside.idle c.self.inside.rounds c.self.inside.named.items
     c.self.invariant c.enter_rest.ensures.same c.enter_rest.ensures.few c.enter_rest.ensures.mirrored in
     let whole = kept-whole c.self.inside.original c.self.inside.vars c.self.inside.most c.enter_rest.new.entered c.enter_rest.new.slots.items c.enter_rest.new.engine c.self.inside.idle c.self.inside.rounds c.self.inside.named.items entered (OnTrue_at c.if-not-enter_rest.false c.enter_rest.ensures.all) in
-    tells_live c.self.inside.original c.self.inside.vars c.self.inside.most c.enter_rest.new.slots.items c.enter_rest.new.engine c.args.self.now (c.args.more.now ∷ []) c.is_refuted_with.result
+    tells_live c.self.inside.original c.self.inside.vars c.self.inside.most c.enter_rest.new.slots.items c.enter_rest.new.engine c.args.self.now (c.args.more.now ∷ option_to_list (option_copied c.args.second)) c.is_refuted_with.result
     whole (c.enter_rest.ensures.same c.self.inside.original c.self.inside.vars ∙ c.self.view_is) c.is_refuted_with.ensures.answer
 
-pub is_refuted_with-requires : goal.is_refuted_with-requires
-is_refuted_with-requires c =
-    let within = subst (λ (n : ℕ). HasVarsWithin n c.args.more.now.terms) (λ i. (sym c.self.view_is i).vars) c.requires in
-    record { within = within-more c.self.inside.vars c.self.inside.most c.enter_rest.new.engine.vars c.args.more.now.terms (omega (arith, c.if-self.false)) (c.enter_rest.ensures.mirrored.vars_are ∙ c.self.invariant.mirrored.vars_are) within }
+pub is_refuted_with-requires-clause-more : goal.is_refuted_with-requires-clause-more
+is_refuted_with-requires-clause-more c =
+    let within = subst (λ (n : ℕ). HasVarsWithin n c.args.more.now.terms) (λ i. (sym c.self.view_is i).vars) c.requires.more in
+    within-more c.self.inside.vars c.self.inside.most c.enter_rest.new.engine.vars c.args.more.now.terms (omega (arith, c.if-self.false)) (c.enter_rest.ensures.mirrored.vars_are ∙ c.self.invariant.mirrored.vars_are) within
+
+pub is_refuted_with-requires-clause-second : goal.is_refuted_with-requires-clause-second
+is_refuted_with-requires-clause-second c =
+    IfSome_then (option_copied c.args.second) c.requires.second
+    (λ d h. within-more c.self.inside.vars c.self.inside.most c.enter_rest.new.engine.vars d.terms (omega (arith, c.if-self.false)) (c.enter_rest.ensures.mirrored.vars_are ∙ c.self.invariant.mirrored.vars_are)
+    (subst (λ (n : ℕ). HasVarsWithin n d.terms) (λ i. (sym c.self.view_is i).vars) h))
 
 pub returns-then-self-clause-answer : goal.returns-then-self-clause-answer
 returns-then-self-clause-answer c =

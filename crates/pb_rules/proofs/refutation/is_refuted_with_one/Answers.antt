@@ -2,7 +2,7 @@ use Rattle.std.proofs.Common.{◌≡◌, ap, ◌∙◌, refl}
 use Rattle.pb_unit.specs.States.{EngineState, placed}
 use Rattle.pb_rules.proofs.Mirroring.{keeps, keeps_same}
 use Rattle.pb_rules.proofs.Refuting.{tells_with, gone_from, stands_put}
-use Rattle.pb_rules.proofs.refutation.is_refuted_with.Goals as goal
+use Rattle.pb_rules.proofs.refutation.is_refuted_with_one.Goals as goal
 
 pub returns-in_err-place-clause-kept : goal.returns-in_err-place-clause-kept
 returns-in_err-place-clause-kept c = keeps_same c.args.engine.now c.add.new.self (c.in_err-place.ensures.refused refl)
