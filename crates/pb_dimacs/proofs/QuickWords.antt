@@ -12,7 +12,7 @@ use Rattle.pb_base.specs.Numbers.{limited}
 use Rattle.pb_base.specs.Tokens.{is_white}
 use Rattle.pb_base.specs.Words.{goes_on, lead, words_from}
 use Rattle.pb_base.proofs.WordLemmas.{IsBlack}
-use Rattle.pb_steps.specs.inner.Front.{IsNumberAt}
+use Rattle.pb_steps.specs.Fronts.{IsNumberAt}
 use Rattle.pb_steps.proofs.Shorts.{plain_told}
 use Rattle.pb_dimacs.specs.CnfSymbols.{BeginsWith, symbols_at}
 use Rattle.pb_dimacs.specs.CnfSymbols.CnfSymbol.{word}
@@ -70,7 +70,7 @@ gap_one (b ∷ rest) begins at = ap (λ (c : ℕ). words_from (at + 1) (c ∷ re
 digit-black : (c : ℕ) → digit_value c < 10 → is_white c ≡ false
 digit-black c h = let range = digit_from_value c h in grind (arith, nat_tests, range)
 
-digits-black : (ds : List ℕ) → AllDigits 10 ds → IsBlack ds
+pub digits-black : (ds : List ℕ) → AllDigits 10 ds → IsBlack ds
 digits-black [] h = tt
 digits-black (c ∷ cs) h = (digit-black c h.0, digits-black cs h.1)
 

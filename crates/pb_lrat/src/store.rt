@@ -36,6 +36,31 @@ impl Model for Store {
     ghost invariant = { λ s. IsStore s.lits.items s.ids.items s.spans.items s.last };
 }
 
+// A place, if an id stands there.
+fn stands_at(ids: &[u64], id: u64, place: usize) -> Option<usize>
+    ensures within { IfSome result (λ i. i < length ids.now) }
+    ensures at { IfSome result (λ i. slice_index_or ids.now i 0 ≡ id) }
+{
+    if place < ids.len() && ids[place] == id {
+        Some(place)
+    } else {
+        None
+    }
+}
+
+// Where an id stands if none is missing before it, or none behind it, as is mostly so.
+fn likely_place(ids: &[u64], id: u64) -> Option<usize>
+    ensures within { IfSome result (λ i. i < length ids.now) }
+    ensures at { IfSome result (λ i. slice_index_or ids.now i 0 ≡ id) }
+{
+    if let Some(place) = stands_at(ids, id, (id as usize).wrapping_sub(1)) {
+        return Some(place);
+    }
+    let last = ids.last()?;
+    let later = last.wrapping_sub(id) as usize;
+    stands_at(ids, id, ids.len().wrapping_sub(1).wrapping_sub(later))
+}
+
 // Where an id stands among ids that ascend.
 fn place_of(ids: &[u64], id: u64) -> Option<usize>
     requires ascending { (i j : ℕ) → i < j → j < length ids.now → slice_index_or ids.now i 0 < slice_index_or ids.now j 0 }
@@ -43,6 +68,9 @@ fn place_of(ids: &[u64], id: u64) -> Option<usize>
     ensures at { IfSome result (λ i. slice_index_or ids.now i 0 ≡ id) }
     ensures none { result ≡ None → (k : ℕ) → k < length ids.now → slice_index_or ids.now k 0 ≢ id }
 {
+    if let Some(place) = likely_place(ids, id) {
+        return Some(place);
+    }
     match ids.binary_search(&id) {
         Ok(place) => Some(place),
         Err(_) => None,

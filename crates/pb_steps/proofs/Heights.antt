@@ -1,6 +1,6 @@
 -- How high stacks are.
 use Rattle.std.proofs.Common.{◌≡◌, ℕ, suc, Bool, true, false, cond, List, [], ◌∷◌, arith, refl, ◌∙◌, length, ltb, subst}
-use Rattle.std.specs.Prelude.{Some, None, Option, option_map, option_and_then, unsigned_abs}
+use Rattle.std.specs.Prelude.{Some, None, Option, option_map, option_and_then}
 use Rattle.std.proofs.lemmas.Bool.{eqb-true, both_ways}
 use Rattle.pb_norm.specs.Constraints.{Constraint}
 use Rattle.pb_steps.specs.declared.op.PolOp.{PolOp}

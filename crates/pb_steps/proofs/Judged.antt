@@ -1,6 +1,6 @@
 -- Whether something was read, whatever it is, and where faults stand.
 use Rattle.std.proofs.Common.{◌≡◌, ℕ, Bool, true, false, cond, List, Option, Some, None, refl, sym, ap, ◌∙◌}
-use Rattle.std.specs.Prelude.{ℤ, nat_lt, unsigned_abs, ◌^◌, Result, Ok, Err, codes}
+use Rattle.std.specs.Prelude.{nat_lt, unsigned_abs, ◌^◌, Result, Ok, Err, codes}
 use Rattle.std.specs.Str.{bytes_eq}
 use Rattle.pb_base.specs.declared.expected.Expected.{Expected}
 use Rattle.pb_base.specs.declared.expected.Expected.TheVariants.{Bit, SetVar}

@@ -14,7 +14,8 @@ use Rattle.pb_steps.specs.LineSteps.{step_of}
 use Rattle.pb_steps.specs.Sayable.{IsId, IsOp, IsSayable, IsTerm, IsVariable}
 use Rattle.pb_steps.specs.StepGrammar.{StepSymbol, SpellAll, WordsSay, bit_word, op_symbols, set_symbols, step_symbols, term_symbols, constraint_symbols, texts}
 use Rattle.pb_steps.specs.StepGrammar.StepSymbol.{factor, integer, key, literal, number, variable, weakened}
-use Rattle.pb_steps.specs.inner.Front.{IsShort, SaysBehind, Spells}
+use Rattle.pb_steps.specs.Fronts.{IsShort, Spells}
+use Rattle.pb_steps.specs.inner.Front.{SaysBehind}
 use Rattle.pb_steps.proofs.SaidSteps.{said_is}
 use Rattle.pb_steps.proofs.Shorts.{behind_front, weakened_here, word-spells}
 
@@ -68,6 +69,7 @@ whole-line line ks n spells whole =
 
 pub pol-says : (left : List ℕ) (ops : List PolOp) (n : ℕ) → Spells left (flat_map op_symbols ops) n → length left ≤ n → AllByRecursion IsOp ops → SaysBehind (codes "pol") left (Pol ops)
 pol-says left ops n spells whole each = record {
+  black = (refl, (refl, (refl, tt)));
   more = flat_map op_symbols ops;
   symbols = refl;
   spelled = whole-line left (flat_map op_symbols ops) n spells whole;
@@ -76,6 +78,7 @@ pol-says left ops n spells whole each = record {
 
 pub out-says : (left : List ℕ) (id n : ℕ) → IsShort left (number id ∷ []) n → length left ≤ n → IsId id → SaysBehind (codes "out") left (Out id)
 out-says left id n short whole is = record {
+  black = (refl, (refl, (refl, tt)));
   more = number id ∷ [];
   symbols = refl;
   spelled = whole-line left (number id ∷ []) n short.spells whole;
@@ -84,6 +87,7 @@ out-says left id n short whole is = record {
 
 pub del-says : (left ids : List ℕ) (n : ℕ) → Spells left (map number ids) n → length left ≤ n → AllByRecursion IsId ids → 0 < length ids → SaysBehind (codes "del") left (Del ids)
 del-says left ids n spells whole each some = record {
+  black = (refl, (refl, (refl, tt)));
   more = map number ids;
   symbols = refl;
   spelled = whole-line left (map number ids) n spells whole;
@@ -101,6 +105,7 @@ constraint-then left ts right js first second third terms ends rest whole =
 pub rup-says : (left : List ℕ) (ts : List Term) (z right : ℤ) (ids : List ℕ) (first second third : ℕ) → z ≡ right → Spells left (flat_map term_symbols ts) first → AllByRecursion IsTerm ts → IsShort (behind left first) (key (codes ">=") ∷ integer right ∷ key (codes ";") ∷ []) second → unsigned_abs right < 2 ^ 126 → Spells (behind left (first + second)) (map number ids) third → AllByRecursion IsId ids → length left ≤ first + second + third → SaysBehind (codes "rup") left (Rup ts z ids)
 rup-says left ts z right ids first second third same terms each ends small rest named whole =
     let said : SaysBehind (codes "rup") left (Rup ts right ids) = record {
+      black = (refl, (refl, (refl, tt)));
       more = constraint_symbols ts right (map number ids);
       symbols = refl;
       spelled = constraint-then left ts right (map number ids) first second third terms ends rest whole;
@@ -111,6 +116,7 @@ rup-says left ts z right ids first second third same terms each ends small rest 
 pub red-says : (left : List ℕ) (ts : List Term) (z right : ℤ) (s : Set) (sets : List Set) (first second third : ℕ) → z ≡ right → sets ≡ s ∷ [] → Spells left (flat_map term_symbols ts) first → AllByRecursion IsTerm ts → IsShort (behind left first) (key (codes ">=") ∷ integer right ∷ key (codes ";") ∷ []) second → unsigned_abs right < 2 ^ 126 → IsShort (behind left (first + second)) (set_symbols s) third → IsVariable s.var → length left ≤ first + second + third → SaysBehind (codes "red") left (Red ts z sets)
 red-says left ts z right s sets first second third same one terms each ends small rest named whole =
     let said : SaysBehind (codes "red") left (Red ts right (s ∷ [])) = record {
+      black = (refl, (refl, (refl, tt)));
       more = constraint_symbols ts right (set_symbols s);
       symbols = refl;
       spelled = constraint-then left ts right (set_symbols s) first second third terms ends rest.spells whole;
@@ -140,11 +146,7 @@ verb-reads line k s long ends first black said =
     said_is (length line + 1) (words_of line) s (says (texts (words_of line)) s k said.more said.symbols all said.sayable)
 
 -- what is said behind it is read
-module _ (line verb left k : List ℕ) (long : 3 ≤ length line) (ends : goes_on (drop 3 line) ≡ false) (verb_is : verb ≡ take 3 line) (left_is : left ≡ drop 3 line) (same : verb ≡ k) (black : IsBlack k) where
-  pub some-reads : (found : Option Step) → IfSome found (SaysBehind k left) → IfSome found (λ s. step_of line ≡ Ok s)
-  some-reads (Some s) said = verb-reads line k s long ends (sym verb_is ∙ same) black (subst (λ (bytes : List ℕ). SaysBehind k bytes s) left_is said)
-  some-reads None said = tt
-
-  pub all-read : {E : Type 0} (r : Result (Option Step) E) → IfOk r (λ found. IfSome found (SaysBehind k left)) → IfOk r (λ found. IfSome found (λ s. step_of line ≡ Ok s))
-  all-read (Ok found) said = some-reads found said
-  all-read (Err e) said = tt
+pub all-read : {E : Type 0} (line verb left : List ℕ) (r : Result (Option Step) E) → 3 ≤ length line → goes_on (drop 3 line) ≡ false → verb ≡ take 3 line → left ≡ drop 3 line → IfOk r (λ found. IfSome found (SaysBehind verb left)) → IfOk r (λ found. IfSome found (λ s. step_of line ≡ Ok s))
+all-read line verb left (Ok (Some s)) long ends verb_is left_is said = verb-reads line verb s long ends (sym verb_is) said.black (subst (λ (bytes : List ℕ). SaysBehind verb bytes s) left_is said)
+all-read line verb left (Ok None) long ends verb_is left_is said = tt
+all-read line verb left (Err e) long ends verb_is left_is said = tt

@@ -16,7 +16,7 @@ use Rattle.pb_base.specs.Tokens.{is_white}
 use Rattle.pb_base.specs.Words.{words_of, goes_on}
 use Rattle.pb_base.proofs.WordLemmas.{bare_words, bare_from, IsBlack, word_ends}
 use Rattle.pb_steps.specs.StepGrammar.{StepSymbol, SpellsSymbol, SpellAll, texts}
-use Rattle.pb_steps.specs.inner.Front.{IsNumberAt, IsShort, Spells}
+use Rattle.pb_steps.specs.Fronts.{IsNumberAt, IsShort, Spells}
 
 -- ---- digits
 

@@ -1,6 +1,7 @@
 pub mod Steps
 pub mod Sayable
 pub mod StepGrammar
+pub mod Fronts
 pub mod StepText
 pub mod StepSizes
 pub mod LineWords

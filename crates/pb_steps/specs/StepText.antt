@@ -1,5 +1,5 @@
 -- The one line that is written of a step (our own profile, after VeriPB's).
-use Rattle.std.specs.Prelude.{ℕ, suc, List, [], ◌∷◌, ◌++◌, ℤ, pos, drop, if◌then◌else◌, decimal}
+use Rattle.std.specs.Prelude.{ℕ, suc, List, ◌∷◌, ℤ, pos, drop, if◌then◌else◌, decimal}
 use Rattle.std.specs.Fmt.{signed_decimal}
 use Rattle.std.specs.List.{flat_map}
 use Rattle.pb_base.specs.declared.literal.Lit.{Lit}

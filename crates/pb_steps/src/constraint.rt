@@ -1,5 +1,5 @@
 //! The parts of a `rup` or `red` line.
-ghost use Rattle.std.specs.Prelude.{◌≡◌, ◌<◌, ℕ, ℤ, length, Ok, Err, IfOk, IfErr};
+ghost use Rattle.std.specs.Prelude.{◌≡◌, ◌<◌, ℕ, length, Ok, Err, IfOk, IfErr};
 ghost use Rattle.pb_base.specs.declared.expected.Expected.TheVariants as expected;
 ghost use Rattle.pb_base.specs.Pieces.{chunk};
 ghost use Rattle.pb_steps.specs.LineWords.{and_then, integer_in};

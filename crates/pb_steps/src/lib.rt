@@ -4,8 +4,10 @@
 mod constraint;
 mod denied;
 mod fault;
+mod front_op;
 mod laws;
 mod line_laws;
+mod listed;
 mod op;
 mod past;
 mod pol;
@@ -15,6 +17,7 @@ mod short;
 mod step;
 mod word;
 mod write;
+mod write_item;
 mod write_word;
 
 pub use denied::Denied;
@@ -26,6 +29,7 @@ pub use line_laws::{
 };
 pub use op::{PolOp, Set};
 pub use read::read_step;
+pub use short::{digits_at, ends_at, mark_at, number_at};
 pub use step::{PolOps, Sets, Step};
 pub use word::{id_in, number_between, token_fault};
 pub use write::write_step;

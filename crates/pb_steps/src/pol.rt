@@ -1,5 +1,5 @@
 //! The operations of a `pol` line.
-ghost use Rattle.std.specs.Prelude.{◌≡◌, ◌≢◌, ℕ, false, Some, None, Ok, Err, pos, IfOk, IfErr};
+ghost use Rattle.std.specs.Prelude.{◌≡◌, ℕ, false, Some, None, Ok, pos, IfOk, IfErr};
 ghost use Rattle.pb_base.specs.Numbers.{limited};
 ghost use Rattle.pb_base.specs.Pieces.{chunk};
 ghost use Rattle.pb_steps.specs.LineSteps.{number_op, literal_op, op_by, op_of, ops_from, IsFaultOf};

@@ -1,53 +1,19 @@
 //! Lines of steps in the layout in which they are written: one blank before each word behind the first, and no other. They are read in one pass; any other
 //! line is left to the reader of words, which tells its fault.
-ghost use Rattle.std.specs.Prelude.{◌≡◌, ◌≤◌, ◌<◌, ◌^◌, ◌++◌, ◌∷◌, [], length, map, codes, pos, unsigned_abs, Ok, IfOk, IfSome};
-ghost use Rattle.std.specs.List.{flat_map, AllByRecursion};
+ghost use Rattle.std.specs.Prelude.{◌≡◌, ◌<◌, ◌^◌, ◌∷◌, [], codes, unsigned_abs, Ok, IfOk, IfSome};
 ghost use Rattle.pb_steps.specs.LineSteps.{step_of};
-ghost use Rattle.pb_steps.specs.Sayable.{IsFactor, IsId, IsOp, IsTerm, IsVariable};
-ghost use Rattle.pb_steps.specs.StepGrammar.{bit_word, op_symbols, set_symbols, term_symbols};
-ghost use Rattle.pb_steps.specs.StepGrammar.StepSymbol.{integer, key, number};
-ghost use Rattle.pb_steps.specs.inner.Front.{IsShort, SaysBehind, Spells};
+ghost use Rattle.pb_steps.specs.Fronts.{IsShort};
+ghost use Rattle.pb_steps.specs.Sayable.{IsVariable};
+ghost use Rattle.pb_steps.specs.StepGrammar.{bit_word, set_symbols};
+ghost use Rattle.pb_steps.specs.StepGrammar.StepSymbol.{integer, key};
+ghost use Rattle.pb_steps.specs.inner.Front.{SaysBehind};
 
+use crate::listed::{ids_at, items_at, room_in};
 use crate::op::{PolOp, Set};
-use crate::short::{
-    ends_at, id_at, id_of, integer_at, literal_at, mark_at, number_at, pair_at, term_at,
-    variable_at,
-};
-use crate::step::{PolOps, Sets, Step};
-use pb_base::{Ids, Terms};
+use crate::short::{ends_at, id_at, integer_at, mark_at, pair_at, variable_at};
+use crate::step::{Sets, Step};
+use pb_base::Term;
 use std::alloc::{AllocError, Global};
-
-// ---- parts
-
-// The terms at the front, and how many bytes they take.
-fn terms_at(alloc: Global, left: &[u8]) -> Result<(Terms, usize), AllocError>
-    ensures within { IfOk result (λ r. r.1 ≤ length left.now) }
-    ensures spells { IfOk result (λ r. Spells left.now (flat_map term_symbols r.0) r.1) }
-    ensures terms { IfOk result (λ r. AllByRecursion IsTerm r.0) }
-{
-    let mut terms = Terms::new(alloc);
-    let mut at = 0usize;
-    'terms: while let Some((term, count)) = term_at(&left[at..]) {
-        terms.push(term)?;
-        at += count;
-    }
-    Ok((terms, at))
-}
-
-// The ids at the front.
-fn ids_at(alloc: Global, left: &[u8]) -> Result<(Ids, usize), AllocError>
-    ensures within { IfOk result (λ r. r.1 ≤ length left.now) }
-    ensures spells { IfOk result (λ r. Spells left.now (map number r.0) r.1) }
-    ensures ids { IfOk result (λ r. AllByRecursion IsId r.0) }
-{
-    let mut ids = Ids::new(alloc);
-    let mut at = 0usize;
-    'ids: while let Some((id, count)) = id_at(&left[at..]) {
-        ids.push(id)?;
-        at += count;
-    }
-    Ok((ids, at))
-}
 
 // A `>=`, a right side and a `;`.
 fn right_at(left: &[u8]) -> Option<(i128, usize)>
@@ -90,96 +56,10 @@ fn set_at(left: &[u8]) -> Option<(Set, usize)>
     Some((Set { var, value }, count + 5))
 }
 
-// ---- operations
-
-// A literal that is weakened or pushed.
-fn literal_op_at(left: &[u8]) -> Option<(PolOp, usize)>
-    ensures short { IfSome result (λ r. IsShort left.now (op_symbols r.0) r.1) }
-    ensures op { IfSome result (λ r. IsOp r.0) }
-{
-    let (lit, count) = literal_at(left)?;
-    if mark_at(&left[count..], b'w') {
-        return Some((PolOp::Weaken(lit.var), count + 2));
-    }
-    Some((PolOp::Axiom(lit), count))
-}
-
-// A number as a factor, where it is one.
-fn factor_of(number: u128) -> Option<i128>
-    ensures same { IfSome result (λ factor. factor ≡ pos number) }
-    ensures factor { IfSome result IsFactor }
-{
-    if number == 0 || number >= 1 << 126 {
-        return None;
-    }
-    Some(number as i128)
-}
-
-// A factor by its mark, or an id that is pushed.
-fn number_op_at(left: &[u8]) -> Option<(PolOp, usize)>
-    ensures short { IfSome result (λ r. IsShort left.now (op_symbols r.0) r.1) }
-    ensures op { IfSome result (λ r. IsOp r.0) }
-{
-    let [b' ', word @ ..] = left else { return None };
-    let (value, count) = number_at(word)?;
-    if mark_at(&left[count + 1..], b'*') {
-        let factor = factor_of(value)?;
-        return Some((PolOp::Mul(factor), count + 3));
-    }
-    if mark_at(&left[count + 1..], b'd') {
-        let factor = factor_of(value)?;
-        return Some((PolOp::Div(factor), count + 3));
-    }
-    let id = id_of(value)?;
-    Some((PolOp::Push(id), count + 1))
-}
-
-// An operation.
-fn op_at(left: &[u8]) -> Option<(PolOp, usize)>
-    ensures short { IfSome result (λ r. IsShort left.now (op_symbols r.0) r.1) }
-    ensures op { IfSome result (λ r. IsOp r.0) }
-{
-    match left {
-        [_, b'+', ..] => {
-            if mark_at(left, b'+') {
-                Some((PolOp::Add, 2))
-            } else {
-                None
-            }
-        }
-        [_, b's', ..] => {
-            if mark_at(left, b's') {
-                Some((PolOp::Saturate, 2))
-            } else {
-                None
-            }
-        }
-        [_, b'x' | b'~', ..] => literal_op_at(left),
-        _ => number_op_at(left),
-    }
-}
-
-// The operations at the front.
-fn ops_at(alloc: Global, left: &[u8]) -> Result<(PolOps, usize), AllocError>
-    ensures within { IfOk result (λ r. r.1 ≤ length left.now) }
-    ensures spells { IfOk result (λ r. Spells left.now (flat_map op_symbols r.0) r.1) }
-    ensures ops { IfOk result (λ r. AllByRecursion IsOp r.0) }
-{
-    let mut ops = PolOps::new(alloc);
-    let mut at = 0usize;
-    'ops: while let Some((op, count)) = op_at(&left[at..]) {
-        ops.push(op)?;
-        at += count;
-    }
-    Ok((ops, at))
-}
-
-// ---- what stands behind a verb
-
 fn pol_behind(alloc: Global, left: &[u8]) -> Result<Option<Step>, AllocError>
     ensures { IfOk result (λ found. IfSome found (SaysBehind (codes "pol") left.now)) }
 {
-    let (ops, count) = ops_at(alloc, left)?;
+    let (ops, count) = items_at::<PolOp>(alloc, left, room_in(left))?;
     if count == left.len() {
         Ok(Some(Step::Pol(ops)))
     } else {
@@ -190,11 +70,12 @@ fn pol_behind(alloc: Global, left: &[u8]) -> Result<Option<Step>, AllocError>
 fn rup_behind(alloc: Global, left: &[u8]) -> Result<Option<Step>, AllocError>
     ensures { IfOk result (λ found. IfSome found (SaysBehind (codes "rup") left.now)) }
 {
-    let (terms, first) = terms_at(alloc, left)?;
+    let words = room_in(left);
+    let (terms, first) = items_at::<Term>(alloc, left, words / 2)?;
     let Some((right, second)) = right_at(&left[first..]) else {
         return Ok(None)
     };
-    let (ids, third) = ids_at(alloc, &left[first + second..])?;
+    let (ids, third) = ids_at(alloc, &left[first + second..], words)?;
     if first + second + third == left.len() {
         Ok(Some(Step::Rup { terms, right, ids }))
     } else {
@@ -214,7 +95,7 @@ fn one_set(alloc: Global, set: Set) -> Result<Sets, AllocError>
 fn red_behind(alloc: Global, left: &[u8]) -> Result<Option<Step>, AllocError>
     ensures { IfOk result (λ found. IfSome found (SaysBehind (codes "red") left.now)) }
 {
-    let (terms, first) = terms_at(alloc, left)?;
+    let (terms, first) = items_at::<Term>(alloc, left, room_in(left) / 2)?;
     let Some((right, second)) = right_at(&left[first..]) else {
         return Ok(None)
     };
@@ -231,7 +112,7 @@ fn red_behind(alloc: Global, left: &[u8]) -> Result<Option<Step>, AllocError>
 fn del_behind(alloc: Global, left: &[u8]) -> Result<Option<Step>, AllocError>
     ensures { IfOk result (λ found. IfSome found (SaysBehind (codes "del") left.now)) }
 {
-    let (ids, count) = ids_at(alloc, left)?;
+    let (ids, count) = ids_at(alloc, left, room_in(left))?;
     if count == left.len() && ids.len() > 0 {
         Ok(Some(Step::Del(ids)))
     } else {
@@ -250,6 +131,20 @@ fn out_behind(left: &[u8]) -> Option<Step>
     }
 }
 
+// What stands behind a verb.
+fn step_behind(alloc: Global, verb: &[u8], left: &[u8]) -> Result<Option<Step>, AllocError>
+    ensures { IfOk result (λ found. IfSome found (SaysBehind verb.now left.now)) }
+{
+    match verb {
+        b"pol" => pol_behind(alloc, left),
+        b"rup" => rup_behind(alloc, left),
+        b"red" => red_behind(alloc, left),
+        b"del" => del_behind(alloc, left),
+        b"out" => Ok(out_behind(left)),
+        _ => Ok(None),
+    }
+}
+
 /// The step that a line says, where it is one of the rules in the usual layout.
 pub(crate) fn quick_step(alloc: Global, line: &[u8]) -> Result<Option<Step>, AllocError>
     ensures { IfOk result (λ found. IfSome found (λ step. step_of line.now ≡ Ok step)) }
@@ -258,20 +153,5 @@ pub(crate) fn quick_step(alloc: Global, line: &[u8]) -> Result<Option<Step>, All
         return Ok(None);
     }
     let (verb, left) = line.split_at(3);
-    if verb == b"pol".as_slice() {
-        return pol_behind(alloc, left);
-    }
-    if verb == b"out".as_slice() {
-        return Ok(out_behind(left));
-    }
-    if verb == b"rup".as_slice() {
-        return rup_behind(alloc, left);
-    }
-    if verb == b"red".as_slice() {
-        return red_behind(alloc, left);
-    }
-    if verb == b"del".as_slice() {
-        return del_behind(alloc, left);
-    }
-    Ok(None)
+    step_behind(alloc, verb, left)
 }

@@ -6,17 +6,15 @@ ghost use Rattle.pb_base.specs.Words.{goes_on};
 ghost use Rattle.pb_steps.specs.Sayable.{IsId, IsTerm, IsVariable};
 ghost use Rattle.pb_steps.specs.StepGrammar.{term_symbols};
 ghost use Rattle.pb_steps.specs.StepGrammar.StepSymbol.{coefficient, integer, key, literal, number, variable};
-ghost use Rattle.pb_steps.specs.inner.Front.{IsNumberAt, IsShort};
+ghost use Rattle.pb_steps.specs.Fronts.{IsNumberAt, IsShort};
 
 use pb_base::{Lit, Term, Var};
 
 // A digit more fits behind what is less.
 const SHORT: u64 = 1 << 60;
 
-const LONG: u128 = 1 << 124;
-
-// What digits at the front spell, as far as it is short, and how many they are.
-fn digits_at(bytes: &[u8]) -> (u64, usize)
+/// What digits at the front spell, as far as it is short, and how many they are.
+pub fn digits_at(bytes: &[u8]) -> (u64, usize)
     ensures within { result.1 ≤ length bytes.now }
     ensures digits { AllDigits 10 (take result.1 bytes.now) }
     ensures value { result.0 ≡ digits_value 10 (take result.1 bytes.now) }
@@ -30,26 +28,8 @@ fn digits_at(bytes: &[u8]) -> (u64, usize)
     (value, count)
 }
 
-// The same with the digits behind so many that are known.
-fn more_digits(bytes: &[u8], known: u64, digits: usize) -> (u128, usize)
-    requires within { digits ≤ length bytes.now }
-    requires digits { AllDigits 10 (take digits bytes.now) }
-    requires value { known ≡ digits_value 10 (take digits bytes.now) }
-    ensures within { result.1 ≤ length bytes.now }
-    ensures digits { AllDigits 10 (take result.1 bytes.now) }
-    ensures value { result.0 ≡ digits_value 10 (take result.1 bytes.now) }
-{
-    let mut value = u128::from(known);
-    let mut count = digits;
-    'digits: while count < bytes.len() && value < LONG && bytes[count].is_ascii_digit() {
-        value = value * 10 + u128::from(bytes[count] - b'0');
-        count += 1;
-    }
-    (value, count)
-}
-
 /// Whether a word ends behind so many bytes, with the line or before a blank.
-pub(crate) fn ends_at(bytes: &[u8], count: usize) -> bool
+pub fn ends_at(bytes: &[u8], count: usize) -> bool
     ensures { IsTrue result → goes_on (drop count bytes.now) ≡ false }
 {
     match bytes.get(count) {
@@ -58,20 +38,8 @@ pub(crate) fn ends_at(bytes: &[u8], count: usize) -> bool
     }
 }
 
-/// The number that the first bytes spell, and how many these are.
-pub(crate) fn number_at(bytes: &[u8]) -> Option<(u128, usize)>
-    ensures { IfSome result (λ r. IsNumberAt bytes.now r.0 r.1) }
-{
-    let (short, digits) = digits_at(bytes);
-    let (value, count) = more_digits(bytes, short, digits);
-    if count == 0 || !ends_at(bytes, count) {
-        return None;
-    }
-    Some((value, count))
-}
-
-// The same of a number of few digits, as most are.
-fn short_at(bytes: &[u8]) -> Option<(u64, usize)>
+/// The number that the first bytes spell, where it is short, and how many these are.
+pub fn number_at(bytes: &[u8]) -> Option<(u64, usize)>
     ensures { IfSome result (λ r. IsNumberAt bytes.now r.0 r.1) }
 {
     let (value, count) = digits_at(bytes);
@@ -82,26 +50,24 @@ fn short_at(bytes: &[u8]) -> Option<(u64, usize)>
 }
 
 /// A number as an id, where it is one.
-pub(crate) fn id_of(number: u128) -> Option<u64>
+pub(crate) fn id_of(number: u64) -> Option<u64>
     ensures same { IfSome result (λ id. id ≡ number) }
     ensures id { IfSome result IsId }
 {
     if number == 0 || number >= 1 << 63 {
         return None;
     }
-    Some(number as u64)
+    Some(number)
 }
 
 /// An id behind a blank, and how many bytes both take.
-pub(crate) fn id_at(left: &[u8]) -> Option<(u64, usize)>
+pub fn id_at(left: &[u8]) -> Option<(u64, usize)>
     ensures short { IfSome result (λ r. IsShort left.now (number r.0 ∷ []) r.1) }
     ensures id { IfSome result (λ r. IsId r.0) }
 {
     let [b' ', word @ ..] = left else { return None };
-    let (id, count) = short_at(word)?;
-    if id == 0 || id >= 1 << 63 {
-        return None;
-    }
+    let (number, count) = number_at(word)?;
+    let id = id_of(number)?;
     Some((id, count + 1))
 }
 
@@ -111,7 +77,7 @@ pub(crate) fn integer_at(left: &[u8]) -> Option<(i128, usize)>
     ensures small { IfSome result (λ r. unsigned_abs r.0 < 2 ^ 126) }
 {
     let [b' ', word @ ..] = left else { return None };
-    let (number, count) = short_at(word)?;
+    let (number, count) = number_at(word)?;
     Some((i128::from(number), count + 1))
 }
 
@@ -123,7 +89,7 @@ fn coefficient_at(left: &[u8]) -> Option<(i128, usize)>
     let [b' ', sign, word @ ..] = left else {
         return None
     };
-    let (number, count) = short_at(word)?;
+    let (number, count) = number_at(word)?;
     match *sign {
         b'+' => Some((i128::from(number), count + 2)),
         b'-' => Some((-i128::from(number), count + 2)),
@@ -136,7 +102,7 @@ fn var_at(word: &[u8]) -> Option<(Var, usize)>
     ensures number { IfSome result (λ r. IsNumberAt word.now r.0 r.1) }
     ensures named { IfSome result (λ r. IsVariable r.0) }
 {
-    let (number, count) = short_at(word)?;
+    let (number, count) = number_at(word)?;
     if number == 0 || number >= 1 << 31 {
         return None;
     }
@@ -203,7 +169,7 @@ pub(crate) fn term_at(left: &[u8]) -> Option<(Term, usize)>
 }
 
 /// Whether a word of one byte stands behind a blank.
-pub(crate) fn mark_at(left: &[u8], mark: u8) -> bool
+pub fn mark_at(left: &[u8], mark: u8) -> bool
     requires { is_white mark ≡ false }
     ensures { IsTrue result → IsShort left.now (key (mark ∷ []) ∷ []) 2 }
 {

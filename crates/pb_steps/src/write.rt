@@ -1,85 +1,23 @@
 //! The line of a step, as it is written.
 ghost use Rattle.std.specs.Prelude.{◌≡◌, ◌++◌, ◌∷◌, [], OnOk, OnErr, codes, decimal, map};
-ghost use Rattle.std.specs.Fmt.{signed_decimal};
 ghost use Rattle.std.specs.List.{flat_map};
 ghost use Rattle.pb_steps.specs.StepText.{with_blanks, step_line};
-ghost use Rattle.pb_steps.specs.StepGrammar.{op_symbols, term_symbols, constraint_symbols, set_symbols};
-ghost use Rattle.pb_steps.specs.StepGrammar.StepSymbol.{key, number};
+ghost use Rattle.pb_steps.specs.StepGrammar.{op_symbols, constraint_symbols, set_symbols};
+ghost use Rattle.pb_steps.specs.StepGrammar.StepSymbol.{number};
 ghost use Rattle.pb_steps.specs.inner.Appending.{KeepsFront};
 
+use crate::listed::push_all;
 use crate::op::{PolOp, Set};
 use crate::step::Step;
-use crate::write_word::{
-    push_coefficient, push_integer, push_literal, push_number, push_text, push_variable,
-};
-use pb_base::{NoMemory, Term, Var};
+use crate::write_word::{push_integer, push_number, push_text};
+use pb_base::{NoMemory, Term};
 use std::alloc::{AllocError, Global};
-
-// A number, and the mark that tells what it is.
-fn push_factor(out: &mut Vec<u8>, n: i128, mark: &[u8]) -> Result<(), AllocError>
-    ensures ok { OnOk result (out.new.items ≡ out.old.items ++ 32 ∷ signed_decimal n ++ mark.now) }
-    ensures kept { OnErr result (KeepsFront out.old.items out.new.items) }
-{
-    push_integer(out, n)?;
-    push_text(out, mark)
-}
-
-fn push_weaken(out: &mut Vec<u8>, var: Var) -> Result<(), AllocError>
-    ensures ok { OnOk result (out.new.items ≡ out.old.items ++ with_blanks (op_symbols (PolOp.Weaken var))) }
-    ensures kept { OnErr result (KeepsFront out.old.items out.new.items) }
-{
-    push_variable(out, var)?;
-    push_text(out, b" w")
-}
-
-fn push_op(out: &mut Vec<u8>, op: &PolOp) -> Result<(), AllocError>
-    ensures ok { OnOk result (out.new.items ≡ out.old.items ++ with_blanks (op_symbols op.now)) }
-    ensures kept { OnErr result (KeepsFront out.old.items out.new.items) }
-{
-    match op {
-        PolOp::Push(id) => push_number(out, *id),
-        PolOp::Axiom(lit) => push_literal(out, *lit),
-        PolOp::Add => push_text(out, b" +"),
-        PolOp::Mul(n) => push_factor(out, *n, b" *"),
-        PolOp::Div(n) => push_factor(out, *n, b" d"),
-        PolOp::Saturate => push_text(out, b" s"),
-        PolOp::Weaken(var) => push_weaken(out, *var),
-    }
-}
-
-fn push_ops(out: &mut Vec<u8>, ops: &[PolOp]) -> Result<(), AllocError>
-    ensures ok { OnOk result (out.new.items ≡ out.old.items ++ flat_map (λ op. with_blanks (op_symbols op)) ops.now) }
-    ensures kept { OnErr result (KeepsFront out.old.items out.new.items) }
-{
-    for op in ops {
-        push_op(out, op)?;
-    }
-    Ok(())
-}
-
-fn push_term(out: &mut Vec<u8>, term: &Term) -> Result<(), AllocError>
-    ensures ok { OnOk result (out.new.items ≡ out.old.items ++ with_blanks (term_symbols term.now)) }
-    ensures kept { OnErr result (KeepsFront out.old.items out.new.items) }
-{
-    push_coefficient(out, term.coef)?;
-    push_literal(out, term.lit)
-}
-
-fn push_terms(out: &mut Vec<u8>, terms: &[Term]) -> Result<(), AllocError>
-    ensures ok { OnOk result (out.new.items ≡ out.old.items ++ flat_map (λ t. with_blanks (term_symbols t)) terms.now) }
-    ensures kept { OnErr result (KeepsFront out.old.items out.new.items) }
-{
-    for term in terms {
-        push_term(out, term)?;
-    }
-    Ok(())
-}
 
 fn push_constraint(out: &mut Vec<u8>, terms: &[Term], right: i128) -> Result<(), AllocError>
     ensures ok { OnOk result (out.new.items ≡ out.old.items ++ with_blanks (constraint_symbols terms.now right [])) }
     ensures kept { OnErr result (KeepsFront out.old.items out.new.items) }
 {
-    push_terms(out, terms)?;
+    push_all(out, terms)?;
     push_text(out, b" >=")?;
     push_integer(out, right)?;
     push_text(out, b" ;")
@@ -89,28 +27,7 @@ fn push_ids(out: &mut Vec<u8>, ids: &[u64]) -> Result<(), AllocError>
     ensures ok { OnOk result (out.new.items ≡ out.old.items ++ with_blanks (map number ids.now)) }
     ensures kept { OnErr result (KeepsFront out.old.items out.new.items) }
 {
-    for id in ids {
-        push_number(out, *id)?;
-    }
-    Ok(())
-}
-
-fn push_set(out: &mut Vec<u8>, set: &Set) -> Result<(), AllocError>
-    ensures ok { OnOk result (out.new.items ≡ out.old.items ++ with_blanks (set_symbols set.now)) }
-    ensures kept { OnErr result (KeepsFront out.old.items out.new.items) }
-{
-    push_variable(out, set.var)?;
-    push_text(out, if set.value { b" -> 1" } else { b" -> 0" })
-}
-
-fn push_sets(out: &mut Vec<u8>, sets: &[Set]) -> Result<(), AllocError>
-    ensures ok { OnOk result (out.new.items ≡ out.old.items ++ flat_map (λ s. with_blanks (set_symbols s)) sets.now) }
-    ensures kept { OnErr result (KeepsFront out.old.items out.new.items) }
-{
-    for set in sets {
-        push_set(out, set)?;
-    }
-    Ok(())
+    push_all(out, ids)
 }
 
 fn push_rup(out: &mut Vec<u8>, terms: &[Term], right: i128, ids: &[u64]) -> Result<(), AllocError>
@@ -128,7 +45,7 @@ fn push_red(out: &mut Vec<u8>, terms: &[Term], right: i128, sets: &[Set]) -> Res
 {
     out.extend_from_slice(b"red")?;
     push_constraint(out, terms, right)?;
-    push_sets(out, sets)
+    push_all(out, sets)
 }
 
 fn push_pol(out: &mut Vec<u8>, ops: &[PolOp]) -> Result<(), AllocError>
@@ -136,7 +53,7 @@ fn push_pol(out: &mut Vec<u8>, ops: &[PolOp]) -> Result<(), AllocError>
     ensures kept { OnErr result (KeepsFront out.old.items out.new.items) }
 {
     out.extend_from_slice(b"pol")?;
-    push_ops(out, ops)
+    push_all(out, ops)
 }
 
 fn push_del(out: &mut Vec<u8>, ids: &[u64]) -> Result<(), AllocError>

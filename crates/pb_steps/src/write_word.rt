@@ -1,5 +1,5 @@
 //! Words, each appended at once with the blank before it.
-ghost use Rattle.std.specs.Prelude.{◌≡◌, ◌≤◌, ◌<◌, ◌^◌, ◌+◌, ◌++◌, ◌∷◌, [], OnOk, OnErr, decimal, drop};
+ghost use Rattle.std.specs.Prelude.{◌≡◌, ◌≤◌, ◌<◌, ◌+◌, ◌++◌, ◌∷◌, OnOk, OnErr, decimal, drop};
 ghost use Rattle.std.specs.Fmt.{signed_decimal};
 ghost use Rattle.pb_steps.specs.StepText.{variable_word, literal_word, coefficient_word};
 ghost use Rattle.pb_steps.specs.inner.Appending.{KeepsFront};

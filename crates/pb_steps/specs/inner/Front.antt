@@ -1,32 +1,15 @@
--- What the first bytes of the rest of a line spell. This serves the proofs that a line in the usual layout is read as it is defined.
-use Rattle.std.specs.Prelude.{◌≡◌, ◌≤◌, ◌<◌, ℕ, false, List, ◌∷◌, ◌++◌, Some, length, take, drop}
-use Rattle.std.specs.Str.Parse.{AllDigits}
-use Rattle.pb_base.specs.Numbers.{natural_of}
-use Rattle.pb_base.specs.Words.{words_of, goes_on}
+-- What stands behind a verb. This serves the proof that a line in the usual layout is read as it is defined.
+use Rattle.std.specs.Prelude.{◌≡◌, ℕ, false, List, ◌∷◌}
+use Rattle.std.specs.List.{AllByRecursion}
+use Rattle.pb_base.specs.Tokens.{is_white}
+use Rattle.pb_base.specs.Words.{words_of}
 use Rattle.pb_steps.specs.declared.step.Step.{Step}
 use Rattle.pb_steps.specs.Sayable.{IsSayable}
 use Rattle.pb_steps.specs.StepGrammar.{StepSymbol, SpellAll, step_symbols, texts}
 
--- digits, with which a word ends
-pub record IsNumberAt (bytes : List ℕ) (n count : ℕ) : Type 0 where
-  pub some : 0 < count
-  pub within : count ≤ length bytes
-  pub digits : AllDigits 10 (take count bytes)
-  pub value : natural_of (take count bytes) ≡ Some n
-  pub ends : goes_on (drop count bytes) ≡ false
-
--- whatever the words behind them stand for, the first bytes stand for these before it
-abbrev pub Spells : List ℕ → List StepSymbol → ℕ → Type 0
-Spells bytes ks count = (rest : List StepSymbol) → SpellAll (texts (words_of (drop count bytes))) rest → SpellAll (texts (words_of bytes)) (ks ++ rest)
-
--- some of the first bytes do
-pub record IsShort (bytes : List ℕ) (ks : List StepSymbol) (count : ℕ) : Type 0 where
-  pub some : 0 < count
-  pub within : count ≤ length bytes
-  pub spells : Spells bytes ks count
-
 -- behind a verb, which is the first word of the step, the rest of its line says the step
 pub record SaysBehind (verb left : List ℕ) (s : Step) : Type 0 where
+  pub black : AllByRecursion (λ b. is_white b ≡ false) verb
   pub more : List StepSymbol
   pub symbols : step_symbols s ≡ StepSymbol.key verb ∷ more
   pub spelled : SpellAll (texts (words_of left)) more

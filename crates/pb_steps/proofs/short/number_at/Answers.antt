@@ -3,4 +3,4 @@ use Rattle.pb_steps.proofs.Shorts.{number-is}
 use Rattle.pb_steps.proofs.short.number_at.Goals as goal
 
 pub returns : goal.returns
-returns c = number-is c.args.bytes.now c.more_digits-value.result.0 c.more_digits-value.result.1 (omega arith) c.more_digits-value.ensures.within c.more_digits-value.ensures.digits c.more_digits-value.ensures.value (c.ends_at.ensures (search rules))
+returns c = number-is c.args.bytes.now c.digits_at-value.result.0 c.digits_at-value.result.1 (omega arith) c.digits_at-value.ensures.within c.digits_at-value.ensures.digits c.digits_at-value.ensures.value (c.ends_at.ensures (search rules))

@@ -1,17 +1,11 @@
-use Rattle.std.proofs.Common.{[], drop, ap, ◌∙◌, arith}
-use Rattle.std.proofs.lemmas.List.{drop_all}
+use Rattle.std.proofs.Common.{[]}
 use Rattle.std.proofs.lemmas.Result.{on_ok_weaker}
 use Rattle.pb_dimacs.specs.Outboxes.{held_in}
 use Rattle.pb_dimacs.proofs.Holding.{named_hands, all_sent}
 use Rattle.pb_dimacs.proofs.step_writer.StepWriter.flush.Goals as goal
 
 pub returns-clause-taken : goal.returns-clause-taken
-returns-clause-taken g c =
-    let w = c.args.self.now in
-    named_hands w.desk.ghost_name c.flush.result w.slot [] (held_in w.outbox.now) (held_in c.flush.new.outbox) (g.D.Desk.state w.desk.now) (g.D.Desk.state c.flush.new.desk) c.flush.ensures.taken
+returns-clause-taken g c = let w = c.args.self.now in named_hands w.desk.ghost_name c.flush.result w.slot [] (held_in w.outbox.now) (held_in c.flush.new.outbox) (g.D.Desk.state w.desk.now) (g.D.Desk.state c.flush.new.desk) c.flush.ensures.taken
 
 pub returns-clause-all_sent : goal.returns-clause-all_sent
-returns-clause-all_sent g c =
-    let w = c.args.self.now in
-    let outbox = c.flush.new.outbox in
-    on_ok_weaker c.flush.result (λ e. all_sent w.desk.ghost_name w.slot (held_in outbox) (g.D.Desk.state c.flush.new.desk) (ap (drop outbox.sent) e ∙ drop_all outbox.sent [] (omega arith))) c.flush.ensures.empty
+returns-clause-all_sent g c = let w = c.args.self.now in on_ok_weaker c.flush.result (all_sent w.desk.ghost_name w.slot (held_in c.flush.new.outbox) (g.D.Desk.state c.flush.new.desk)) c.flush.ensures.none_held

@@ -6,7 +6,7 @@ use Rattle.std.specs.Option.{option_map}
 use Rattle.pb_steps.specs.StepGrammar.StepSymbol.{factor, number}
 use Rattle.pb_steps.proofs.Shorts.{behind_front, number_here}
 use Rattle.pb_steps.proofs.ShortLines.{factor-short}
-use Rattle.pb_steps.proofs.quick.number_op_at.Goals as goal
+use Rattle.pb_steps.proofs.front_op.number_op_at.Goals as goal
 
 pub returns-then-mark_at-clause-short : goal.returns-then-mark_at-clause-short
 returns-then-mark_at-clause-short c =
