@@ -88,15 +88,16 @@ by_taken taken.Last k k' r r' a b not_last reads = absurd (not_last refl)
 by_taken (taken.Denied d) k k' r r' a b not_last reads = reads_weaker r.lines.slot r.lines.ahead r'.lines.ahead a b (Keeps taken.On k r k' r') (Keeps (taken.Denied d) k r k' r') (λ text rest p. tt) reads
 
 -- at the end of the steps none is left
-pub end_keeps : (r r' : CnfReader) (a b : DeskState) → GivesNext None r.vars r.left r.lines r.at r'.lines r'.at a b → (k : CollectedClauses) → KeepsNext taken.Last k r k r' a b
-end_keeps r r' a b given k =
+pub end_keeps : (next : Option (List Lit)) (r r' : CnfReader) (a b : DeskState) → next ≡ None → GivesNext next r.vars r.left r.lines r.at r'.lines r'.at a b → (k : CollectedClauses) → KeepsNext taken.Last k r k r' a b
+end_keeps next r r' a b is given k =
     reads_weaker r.lines.slot r.lines.ahead r'.lines.ahead a b (λ text rest. (next_of r.vars r.left (symbols_left r text) ≡ nothing) × (next_of r.vars r.left (symbols_left r' rest) ≡ nothing)) (Keeps taken.Last k r k r')
-    (λ text rest p. ends k r text p.0) given
+    (λ text rest p. ends k r text p.0) (subst (λ (o : Option (List Lit)). GivesNext o r.vars r.left r.lines r.at r'.lines r'.at a b) is given)
 
 -- one is left
-pub left_keeps : (d : Denied) (ls : List Lit) (r r' : CnfReader) (a b : DeskState) → GivesNext (Some ls) r.vars r.left r.lines r.at r'.lines r'.at a b → (k : CollectedClauses) → KeepsNext (taken.Denied d) k r k r' a b
-left_keeps d ls r r' a b given k =
-    reads_weaker r.lines.slot r.lines.ahead r'.lines.ahead a b (λ text rest. next_of r.vars r.left (symbols_left r text) ≡ clause ls (symbols_left r' rest)) (Keeps (taken.Denied d) k r k r') (λ text rest p. tt) given
+pub left_keeps : (d : Denied) (next : Option (List Lit)) (ls : List Lit) (r r' : CnfReader) (a b : DeskState) → next ≡ Some ls → GivesNext next r.vars r.left r.lines r.at r'.lines r'.at a b → (k : CollectedClauses) → KeepsNext (taken.Denied d) k r k r' a b
+left_keeps d next ls r r' a b is given k =
+    reads_weaker r.lines.slot r.lines.ahead r'.lines.ahead a b (λ text rest. next_of r.vars r.left (symbols_left r text) ≡ clause ls (symbols_left r' rest)) (Keeps (taken.Denied d) k r k r') (λ text rest p. tt)
+    (subst (λ (o : Option (List Lit)). GivesNext o r.vars r.left r.lines r.at r'.lines r'.at a b) is given)
 
 -- a step that looks at no clause
 pub rule_keeps : (t : Taken) (k : CollectedClauses) (r : CnfReader) (a : DeskState) → t ≢ taken.Last → KeepsNext t k r k r a a

@@ -1,6 +1,6 @@
 -- What is kept from line to line, and of both texts from their first bytes on.
 use Rattle.std.proofs.Common.{◌≡◌, ℕ, true, List, [], ◌++◌, Option, Some, None, refl, sym, ap, ◌∙◌, subst}
-use Rattle.std.specs.Prelude.{◌≢◌, IfSome}
+use Rattle.std.specs.Prelude.{◌≢◌, Result, IfOk, IfSome}
 use Rattle.pb_desk.specs.View.{Told}
 use Rattle.pb_base.specs.declared.literal.Lit.{Lit}
 use Rattle.pb_base.specs.declared.problem.Problem.{Problem}
@@ -22,13 +22,17 @@ use Rattle.pb_steps.specs.declared.step.Step.{Step}
 use Rattle.pb_steps.specs.Database.{Database}
 use Rattle.pb_steps.specs.declared.denied.Denied.{Denied}
 use Rattle.pb_check.specs.declared.kept.CollectedClauses.{CollectedClauses}
+use Rattle.pb_check.specs.declared.session.Session.{Session}
 use Rattle.pb_check.specs.declared.taking.Taken.{Taken}
 use Rattle.pb_check.specs.declared.taking.Taken.TheVariants as taken
+use Rattle.pb_check.specs.declared.verdict.CheckFault.{CheckFault}
 use Rattle.pb_check.specs.declared.verdict.Verdict.{Verdict}
 use Rattle.pb_check.specs.declared.verdict.Verdict.TheVariants.{Accepted, Rejected}
 use Rattle.pb_check.specs.KeptClauses.{HasVars, IsKept, SaysClauses}
 use Rattle.pb_check.specs.inner.Judging.{IsJudged}
-use Rattle.pb_check.specs.inner.Keeping.{Tells, Keeps, KeepsNext, KeepsLine, KeepsLines, KeptAll}
+use Rattle.pb_check.specs.inner.Keeping.{Tells, Keeps, KeepsNext, KeepsLine, KeepsLines, KeepsSteps, KeptAll, KeptSoFar}
+use Rattle.pb_check.specs.inner.Sessions.{KeepsOne, KeepsSome}
+use Rattle.pb_check.proofs.Takes.{at_ok}
 use Rattle.pb_check.proofs.WholeRuns.{AreNew, apart_new, takes_new, started_with, Started}
 
 -- a rule is no last line
@@ -42,12 +46,15 @@ judged_not_last db db' s next (taken.Denied d) judged e = cc
 pub waits : (r : Reader) (l l' : Reader) (a b : DeskState) (P : List ℕ → List ℕ → Type 0) → r.slot ≢ l.slot → l'.slot ≡ l.slot → TakesAhead l.slot l.ahead l'.ahead a b P → ReadsBoth r l r l' a b (λ c p c' p'. c' ≡ c)
 waits r l l' a b P apart slot reads = both_of_two r l l' a b P (λ c p c' p'. c' ≡ c) apart slot (λ c p p' h. refl) reads
 
-pub waits_then : (r l0 l1 l2 : Reader) (a b d : DeskState) → ReadsBoth r l0 r l1 a b (λ c p c' p'. c' ≡ c) → ReadsBoth r l1 r l2 b d (λ c p c' p'. c' ≡ c) → ReadsBoth r l0 r l2 a d (λ c p c' p'. c' ≡ c)
-waits_then r l0 l1 l2 a b d first second =
-    both_then r l0 r l1 r l2 a b d (λ c p c' p'. c' ≡ c) (λ c p c' p'. c' ≡ c) (λ c p c' p'. c' ≡ c) (λ t0 u0 t1 u1 t2 u2 p q. q ∙ p) first second
+-- the lines before the steps were read
+pub waits_twice : (r l0 l1 l2 : Reader) (a b d : DeskState) (P Q : List ℕ → List ℕ → Type 0) → r.slot ≢ l0.slot → l1.slot ≡ l0.slot → l2.slot ≡ l1.slot → TakesAhead l0.slot l0.ahead l1.ahead a b P → TakesAhead l1.slot l1.ahead l2.ahead b d Q → ReadsBoth r l0 r l2 a d (λ c p c' p'. c' ≡ c)
+waits_twice r l0 l1 l2 a b d P Q apart slot slot' first second =
+    let head = waits r l0 l1 a b P apart slot first in
+    both_then r l0 r l1 r l2 a b d (λ c p c' p'. c' ≡ c) (λ c p c' p'. c' ≡ c) (λ c p c' p'. c' ≡ c) (λ t0 u0 t1 u1 t2 u2 p q. q ∙ p) head
+    (waits r l1 l2 b d Q (λ e. head.apart (sym head.one_slot ∙ e ∙ head.two_slot)) slot' second)
 
 -- what is said from there on of what is left of the CNF, also from here on
-pub behind : (r r' l0 l1 l2 : Reader) (a b d : DeskState) (Q : List ℕ → List ℕ → Type 0) → ReadsBoth r l0 r l1 a b (λ c p c' p'. c' ≡ c) → ReadsBoth r l1 r' l2 b d (λ c p c' p'. Q c c') → ReadsBoth r l0 r' l2 a d (λ c p c' p'. Q c c')
+behind : (r r' l0 l1 l2 : Reader) (a b d : DeskState) (Q : List ℕ → List ℕ → Type 0) → ReadsBoth r l0 r l1 a b (λ c p c' p'. c' ≡ c) → ReadsBoth r l1 r' l2 b d (λ c p c' p'. Q c c') → ReadsBoth r l0 r' l2 a d (λ c p c' p'. Q c c')
 behind r r' l0 l1 l2 a b d Q first second =
     both_then r l0 r l1 r' l2 a b d (λ c p c' p'. c' ≡ c) (λ c p c' p'. Q c c') (λ c p c' p'. Q c c') (λ t0 u0 t1 u1 t2 u2 p q. subst (λ (x : List ℕ). Q x t2) p q) first second
 
@@ -55,31 +62,40 @@ pub before : (r r' l0 l1 l2 : Reader) (a b d : DeskState) (Q : List ℕ → Type
 before r r' l0 l1 l2 a b d Q first second =
     both_then r l0 r' l1 r' l2 a b d (λ c p c' p'. Q c) (λ c p c' p'. c' ≡ c) (λ c p c' p'. Q c) (λ t0 u0 t1 u1 t2 u2 p q. p) first second
 
+-- what the steps kept, by the verdict
+pub kept_behind : (o w : Option Verdict) (k k' : CollectedClauses) (r r' : CnfReader) (l0 l1 l2 : Reader) (a b d : DeskState) → o ≡ w → ReadsBoth r.lines l0 r.lines l1 a b (λ c p c' p'. c' ≡ c) → KeepsSteps o k r l1 k' r' l2 b d → KeepsSteps w k r l0 k' r' l2 a d
+kept_behind o w k k' r r' l0 l1 l2 a b d is first second =
+    behind r.lines r'.lines l0 l1 l2 a b d (λ x x'. KeptSoFar w k r k' x) first (subst (λ (u : Option Verdict). KeepsSteps u k r l1 k' r' l2 b d) is second)
+
 -- ---- lines among the steps
 
-pub line_keeps : (t : Taken) (k k' : CollectedClauses) (r r' : CnfReader) (l l' : Reader) (a b d : DeskState) (P : List ℕ → List ℕ → Type 0) → r.lines.slot ≢ l.slot → l'.slot ≡ l.slot → r'.lines.slot ≡ r.lines.slot
+line_keeps : (t : Taken) (k k' : CollectedClauses) (r r' : CnfReader) (l l' : Reader) (a b d : DeskState) (P : List ℕ → List ℕ → Type 0) → r.lines.slot ≢ l.slot → l'.slot ≡ l.slot → r'.lines.slot ≡ r.lines.slot
     → TakesAhead l.slot l.ahead l'.ahead a b P → KeepsNext t k r k' r' b d → KeepsLine t k r l k' r' l' a d
 line_keeps t k k' r r' l l' a b d P apart slot slot' line step =
     behind r.lines r'.lines l l' l' a b d (Keeps t k r k' r') (waits r.lines l l' a b P apart slot line)
     (both_of_one r.lines r'.lines l' b d (Keeps t k r k' r') (λ c p c' p'. Keeps t k r k' r' c c') (λ e. apart (e ∙ slot)) slot' (λ c p c' h. h) step)
 
+pub got_keeps : (got : Result Taken CheckFault) (k k' : CollectedClauses) (r r' : CnfReader) (l l' : Reader) (a b d : DeskState) (P : List ℕ → List ℕ → Type 0) → r.lines.slot ≢ l.slot → l'.slot ≡ l.slot → r'.lines.slot ≡ r.lines.slot
+    → TakesAhead l.slot l.ahead l'.ahead a b P → IfOk got (λ t. KeepsNext t k r k' r' b d) → IfOk got (λ t. KeepsLine t k r l k' r' l' a d)
+got_keeps got k k' r r' l l' a b d P apart slot slot' line keeps =
+    at_ok got (λ t. KeepsNext t k r k' r' b d) (λ t. KeepsLine t k r l k' r' l' a d) (λ t. line_keeps t k k' r r' l l' a b d P apart slot slot' line) keeps
+
 pub none_kept : (k : CollectedClauses) (r : CnfReader) (l : Reader) (a : DeskState) → r.lines.slot ≢ l.slot → KeepsLine taken.On k r l k r l a a
 none_kept k r l a apart = both_begin r.lines l a (λ c p c' p'. Keeps taken.On k r k r c c') apart (λ t u. (refl, λ all tells. tells))
 
-pub keeps_on : (k k' k'' : CollectedClauses) (r r' r'' : CnfReader) (l l' l'' : Reader) (a b d : DeskState) → KeepsLine taken.On k r l k' r' l' a b → KeepsLine taken.On k' r' l' k'' r'' l'' b d → KeepsLine taken.On k r l k'' r'' l'' a d
-keeps_on k k' k'' r r' r'' l l' l'' a b d first second =
-    both_then r.lines l r'.lines l' r''.lines l'' a b d (λ c p c' p'. Keeps taken.On k r k' r' c c') (λ c p c' p'. Keeps taken.On k' r' k'' r'' c c') (λ c p c' p'. Keeps taken.On k r k'' r'' c c')
-    (λ t0 u0 t1 u1 t2 u2 p q. (q.0 ∙ p.0, λ all tells. p.1 all (q.1 all tells))) first second
+pub keeps_on : (t : Taken) (s0 s s' : Session) (a b d : DeskState) → t ≡ taken.On → KeepsOne taken.On s0 s a b → KeepsOne t s s' b d → KeepsOne taken.On s0 s' a d
+keeps_on t s0 s s' a b d is before line =
+    both_then s0.cnf.lines s0.lines s.cnf.lines s.lines s'.cnf.lines s'.lines a b d (λ c p c' p'. Keeps taken.On s0.kept s0.cnf s.kept s.cnf c c') (λ c p c' p'. Keeps taken.On s.kept s.cnf s'.kept s'.cnf c c') (λ c p c' p'. Keeps taken.On s0.kept s0.cnf s'.kept s'.cnf c c')
+    (λ t0 u0 t1 u1 t2 u2 p q. (q.0 ∙ p.0, λ all tells. p.1 all (q.1 all tells))) before (subst (λ (u : Taken). KeepsOne u s s' b d) is line)
 
-pub keeps_out : (k k' k'' : CollectedClauses) (r r' r'' : CnfReader) (l l' l'' : Reader) (a b d : DeskState) → KeepsLine taken.On k r l k' r' l' a b → KeepsLine taken.Last k' r' l' k'' r'' l'' b d → ReadsBoth r.lines l r''.lines l'' a d (λ c p c' p'. Tells k r c k''.clauses)
-keeps_out k k' k'' r r' r'' l l' l'' a b d first second =
-    both_then r.lines l r'.lines l' r''.lines l'' a b d (λ c p c' p'. Keeps taken.On k r k' r' c c') (λ c p c' p'. Keeps taken.Last k' r' k'' r'' c c') (λ c p c' p'. Tells k r c k''.clauses)
-    (λ t0 u0 t1 u1 t2 u2 p q. p.1 k''.clauses q) first second
+pub keeps_out : (t : Taken) (s0 s s' : Session) (a b d : DeskState) → t ≡ taken.Last → KeepsOne taken.On s0 s a b → KeepsOne t s s' b d → KeepsSome None s0 s' a d
+keeps_out t s0 s s' a b d is before line =
+    both_then s0.cnf.lines s0.lines s.cnf.lines s.lines s'.cnf.lines s'.lines a b d (λ c p c' p'. Keeps taken.On s0.kept s0.cnf s.kept s.cnf c c') (λ c p c' p'. Keeps taken.Last s.kept s.cnf s'.kept s'.cnf c c') (λ c p c' p'. Tells s0.kept s0.cnf c s'.kept.clauses)
+    (λ t0 u0 t1 u1 t2 u2 p q. p.1 s'.kept.clauses q) before (subst (λ (u : Taken). KeepsOne u s s' b d) is line)
 
-pub keeps_denied : (t : Taken) (k k' k'' : CollectedClauses) (r r' r'' : CnfReader) (l l' l'' : Reader) (a b d : DeskState) → KeepsLine taken.On k r l k' r' l' a b → KeepsLine t k' r' l' k'' r'' l'' b d → ReadsBoth r.lines l r''.lines l'' a d (λ c p c' p'. Unit {0})
-keeps_denied t k k' k'' r r' r'' l l' l'' a b d first second =
-    both_then r.lines l r'.lines l' r''.lines l'' a b d (λ c p c' p'. Keeps taken.On k r k' r' c c') (λ c p c' p'. Keeps t k' r' k'' r'' c c') (λ c p c' p'. Unit {0})
-    (λ t0 u0 t1 u1 t2 u2 p q. tt) first second
+pub keeps_denied : (t : Taken) (s0 s s' : Session) (a b d : DeskState) (number : ℕ) (denied : Denied) → KeepsOne taken.On s0 s a b → KeepsOne t s s' b d → KeepsSome (Some (Rejected number denied)) s0 s' a d
+keeps_denied t s0 s s' a b d number denied before line =
+    both_then s0.cnf.lines s0.lines s.cnf.lines s.lines s'.cnf.lines s'.lines a b d (λ c p c' p'. Keeps taken.On s0.kept s0.cnf s.kept s.cnf c c') (λ c p c' p'. Keeps t s.kept s.cnf s'.kept s'.cnf c c') (λ c p c' p'. Unit {0}) (λ t0 u0 t1 u1 t2 u2 p q. tt) before line
 
 -- ---- from the first byte of both texts on
 

@@ -1,5 +1,5 @@
 -- The next line that says something, over lines that come as they are needed.
-use Rattle.std.proofs.Common.{◌≡◌, ◌+◌, ℕ, true, false, List, [], ◌∷◌, ◌++◌, Option, Some, None, Ok, Err, refl, sym, ap, ◌∙◌, subst}
+use Rattle.std.proofs.Common.{◌≡◌, ◌+◌, ℕ, Bool, true, false, List, [], ◌∷◌, ◌++◌, Option, Some, None, Ok, Err, refl, sym, ap, ◌∙◌, subst}
 use Rattle.std.specs.Prelude.{◌≢◌}
 use Rattle.pb_base.specs.declared.place.Place.{Place}
 use Rattle.pb_base.specs.declared.expected.Expected.{Expected}
@@ -7,7 +7,7 @@ use Rattle.pb_base.specs.declared.file.File.TheVariants.{Proof}
 use Rattle.pb_base.specs.declared.limit.LimitKind.{LimitKind}
 use Rattle.pb_desk.specs.Desk.{DeskState}
 use Rattle.pb_desk.specs.LineReading.{TakesAhead, FailsAhead, IsPart}
-use Rattle.pb_desk.specs.LineReaders.{Reader, left_for}
+use Rattle.pb_desk.specs.LineReaders.{GivesLine, Reader, left_for}
 use Rattle.std.proofs.lemmas.List.{append-nil}
 use Rattle.pb_desk.proofs.ReadLemmas.{fails_then, fails_weaker, reads_weaker}
 use Rattle.pb_desk.specs.declared.lines.LineFault.{LineFault}
@@ -16,6 +16,7 @@ use Rattle.pb_dimacs.specs.CnfRows.{CnfRow, line_start, limit_place, fault_of_li
 use Rattle.pb_dimacs.specs.CnfRows.CnfRow.{plain, too_long, last}
 use Rattle.pb_dimacs.specs.Cursors.{rows_left, GivesRow, StopsRow}
 use Rattle.pb_dimacs.proofs.CursorLemmas.{reads_on}
+use Rattle.pb_dimacs.proofs.RowLemmas.{row_given}
 use Rattle.pb_dimacs.specs.Within.{AreRowsWithin}
 use Rattle.pb_dimacs.proofs.WithinLemmas.{part_within, passes_row}
 use Rattle.pb_steps.specs.declared.fault.StepFault.{StepFault}
@@ -77,7 +78,7 @@ line_open old mid bytes part same is x =
         (subst (λ (rs : List CnfRow). Walks x.0 x.1 x.2 rs answer) (sym (same behind)) (behind_walks x.0 x.1 x.2 (rows_left mid (part ++ behind)) answer w))
 
 -- a line that was not read
-pub row_stops : (fault : LineFault) (old mid new : Reader) (a b c : DeskState) → mid.slot ≡ old.slot → TakesAhead old.slot old.ahead mid.ahead a b (SaysSame old mid) → StopsRow (fault_of_line fault) mid new b c
+row_stops : (fault : LineFault) (old mid new : Reader) (a b c : DeskState) → mid.slot ≡ old.slot → TakesAhead old.slot old.ahead mid.ahead a b (SaysSame old mid) → StopsRow (fault_of_line fault) mid new b c
     → StopsOne Anywhere (of_line fault) old new a c (LineComes old)
 row_stops line_fault.Failed old mid new a b c slot first stops =
     fails_then old.slot old.ahead mid.ahead a b c (SaysSame old mid) (IsPart (left_for mid)) (λ bytes. (x : Anywhere) → IsOpen (LineComes old x) bytes)
@@ -94,6 +95,13 @@ row_stops (line_fault.Limit which number) old mid new a b c slot first stops =
     walks_behind task stage clauses (rows_left old text) answer (subst (λ (rs : List CnfRow). Walks task stage clauses rs answer) (sym (p ∙ ap behind_blank q))
     (ap (λ (o : Option Place). Err (Limit Proof o which)) stops.0)))
     first stops.1
+
+pub row_unread : (f : CheckFault) (fault : LineFault) (old mid new : Reader) (a b c : DeskState) → f ≡ of_line fault → mid.slot ≡ old.slot → TakesAhead old.slot old.ahead mid.ahead a b (SaysSame old mid) → StopsRow (fault_of_line fault) mid new b c → StopsOne Anywhere f old new a c (LineComes old)
+row_unread f fault old mid new a b c is slot first stops = subst (λ (f : CheckFault). StopsOne Anywhere f old new a c (LineComes old)) (sym is) (row_stops fault old mid new a b c slot first stops)
+
+-- whether there is a row is known by another name
+pub row_is : (m n : Bool) (old new : Reader) (a b : DeskState) → m ≡ n → GivesLine m old new a b → GivesRow n old new a b
+row_is m n old new a b is given = subst (λ (v : Bool). GivesRow v old new a b) is (row_given m old new a b given)
 
 -- a line that says nothing
 pub row_unsaid : (old mid new : Reader) (a b c : DeskState) (line : List ℕ) (s : Step) → mid.slot ≡ old.slot → line ≡ new.line → step_of line ≡ Ok s → says_nothing s ≡ true → TakesAhead old.slot old.ahead mid.ahead a b (SaysSame old mid) → GivesRow true mid new b c
@@ -121,9 +129,9 @@ row_last old mid new a b c slot first more =
     (λ text middle rest p q. p ∙ ap behind_blank q.0) first more
 
 -- a line with a fault
-pub row_faulty : (f : StepFault) (old mid new : Reader) (a b c : DeskState) (line : List ℕ) (number : ℕ) → mid.slot ≡ old.slot → line ≡ new.line → number ≡ new.number → (f ≢ step_fault.NoMemory → step_of line ≡ Err f)
-    → TakesAhead old.slot old.ahead mid.ahead a b (SaysSame old mid) → GivesRow true mid new b c → StopsOne Anywhere (of_step number f) old new a c (LineComes old)
-row_faulty f old mid new a b c line number slot is at says first more = by_fault f says
+pub row_faulty : (fault : CheckFault) (f : StepFault) (old mid new : Reader) (a b c : DeskState) (line : List ℕ) (number : ℕ) → fault ≡ of_step number f → mid.slot ≡ old.slot → line ≡ new.line → number ≡ new.number → (f ≢ step_fault.NoMemory → step_of line ≡ Err f)
+    → TakesAhead old.slot old.ahead mid.ahead a b (SaysSame old mid) → GivesRow true mid new b c → StopsOne Anywhere fault old new a c (LineComes old)
+row_faulty fault f old mid new a b c line number faulty slot is at says first more = subst (λ (e : CheckFault). StopsOne Anywhere e old new a c (LineComes old)) (sym faulty) (by_fault f says)
   where
     after : (f : StepFault) → step_of line ≡ Err f → TakesAhead old.slot old.ahead new.ahead a c (λ text rest. (x : Anywhere) → LineComes old x text (Err (of_step number f)))
     after f e =

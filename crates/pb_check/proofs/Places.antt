@@ -16,14 +16,15 @@ use Rattle.pb_check.specs.declared.verdict.CheckFault.TheVariants.{Refused}
 use Rattle.pb_base.specs.declared.file.File.TheVariants.{Proof}
 use Rattle.pb_dimacs.specs.CnfRows.{line_start}
 use Rattle.pb_check.specs.declared.verdict.Verdict.TheVariants.{Accepted}
-use Rattle.pb_check.specs.Turns.{Answer, Task, Clauses, Stage, Turn, misplaced, turn_by, last_turn}
+use Rattle.pb_check.specs.Turns.{Answer, Task, Clauses, Stage, Turn, misplaced, turn_by}
 use Rattle.pb_check.specs.Turns.Stage.{head_wanted, count_wanted, at_steps, ended}
 use Rattle.pb_check.specs.Turns.Turn.{go, stop}
 use Rattle.pb_check.specs.Walk.{Walks}
 use Rattle.pb_check.specs.Faults.{misplaced_line, miscounted_line}
-use Rattle.pb_check.specs.inner.Calls.{TaskOf}
+use Rattle.pb_check.specs.inner.Calls.{Awaited, IsAwaited, MissesDue, ReadsStep, TaskOf}
 use Rattle.pb_check.specs.inner.Phases.{says_nothing, StopsOne, NextSays, FollowsRows, Leads}
 use Rattle.pb_desk.proofs.BothSlots.{differs}
+use Rattle.pb_check.proofs.NextLines.{stops_weaker}
 use Rattle.pb_check.proofs.TurnLemmas.{next_walks, end_walks}
 
 head_misplaced : (s : Step) (task : Task) (clauses : Clauses) (number : ℕ) (line : List ℕ) → says_nothing s ≡ false → s ≢ Head → turn_by task head_wanted clauses number line s ≡ misplaced number line expected.Head
@@ -92,16 +93,18 @@ miscounted_stops f s count loaded old new a b is says wrong reads =
     ∙ ap (λ (t : Bool). cond t (go (at_steps (loaded_database x.0.original x.0.vars x.0.loaded)) x.1) (stop (Err (miscounted_line new.number new.line)))) (ap (λ (n : ℕ). count == n) x.2 ∙ differs count loaded wrong)) (λ r. r) reads
 
 -- the text ends too early
-pub early_stops : (X : Type 0) (f : CheckFault) (stage : Stage) (task : X → Task) (clauses : X → Clauses) (old new : Reader) (a b : DeskState) → f ≡ Refused Proof (line_start (new.number + 1)) expected.StepWord → last_turn stage (new.number + 1) ≡ stop (Err (Refused Proof (line_start (new.number + 1)) expected.StepWord))
-    → TakesAhead old.slot old.ahead new.ahead a b (λ text rest. NextSays None new (rows_left old text) (rows_left new rest)) → StopsOne X f old new a b (λ x text answer. Walks (task x) stage (clauses x) (rows_left old text) answer)
-early_stops X f stage task clauses old new a b is ends reads =
-    subst (λ (f : CheckFault). StopsOne X f old new a b (λ x text answer. Walks (task x) stage (clauses x) (rows_left old text) answer)) (sym is)
-    (reads_weaker old.slot old.ahead new.ahead a b (λ text rest. NextSays None new (rows_left old text) (rows_left new rest)) (λ text rest. (x : X) → Walks (task x) stage (clauses x) (rows_left old text) (Err (Refused Proof (line_start (new.number + 1)) expected.StepWord)))
-    (λ text rest p x. end_walks (task x) stage (clauses x) (rows_left old text) (new.number + 1) (Err (Refused Proof (line_start (new.number + 1)) expected.StepWord)) p ends) reads)
+pub ends_early : (f : CheckFault) (old new : Reader) (a b : DeskState) → f ≡ Refused Proof (line_start (new.number + 1)) expected.StepWord → ReadsStep None old new a b → MissesDue f old new a b
+ends_early f old new a b is reads =
+    subst (λ (f : CheckFault). MissesDue f old new a b) (sym is)
+    (reads_weaker old.slot old.ahead new.ahead a b (λ text rest. NextSays None new (rows_left old text) (rows_left new rest)) (λ text rest. (x : Awaited) → Walks x.0 x.1 x.2 (rows_left old text) (Err (Refused Proof (line_start (new.number + 1)) expected.StepWord)))
+    (λ text rest p x. end_walks x.0 x.1 x.2 (rows_left old text) (new.number + 1) (Err (Refused Proof (line_start (new.number + 1)) expected.StepWord)) p (x.3 (new.number + 1))) reads)
 
-pub head_early : (f : CheckFault) (old new : Reader) (a b : DeskState) → f ≡ Refused Proof (line_start (new.number + 1)) expected.StepWord
-    → TakesAhead old.slot old.ahead new.ahead a b (λ text rest. NextSays None new (rows_left old text) (rows_left new rest)) → StopsOne (Task × Clauses) f old new a b (λ x text answer. Walks x.0 head_wanted x.1 (rows_left old text) answer)
-head_early f old new a b is reads = early_stops (Task × Clauses) f head_wanted (λ x. x.0) (λ x. x.1) old new a b is refl reads
+-- a line that is due was not read
+pub due_stops : (X : Type 0) (f : CheckFault) (stage : Stage) (task : X → Task) (clauses : X → Clauses) (old new : Reader) (a b : DeskState) → IsAwaited stage → MissesDue f old new a b
+    → StopsOne X f old new a b (λ x text answer. Walks (task x) stage (clauses x) (rows_left old text) answer)
+due_stops X f stage task clauses old new a b awaited stops =
+    stops_weaker Awaited X f old new a b (λ x text answer. Walks x.0 x.1 x.2 (rows_left old text) answer) (λ x text answer. Walks (task x) stage (clauses x) (rows_left old text) answer)
+    (λ x. ((task x, stage, clauses x, awaited), λ text answer w. w)) stops
 
 -- a line that leads on
 pub head_leads : (s : Step) (old new : Reader) (a b : DeskState) → s ≡ Head → TakesAhead old.slot old.ahead new.ahead a b (λ text rest. NextSays (Some s) new (rows_left old text) (rows_left new rest))

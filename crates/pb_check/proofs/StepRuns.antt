@@ -1,29 +1,33 @@
 -- Steps, one after another.
-use Rattle.std.proofs.Common.{◌≡◌, ◌+◌, ℕ, List, Some, None, Ok, Err, refl, sym, ◌∙◌, subst}
-use Rattle.std.specs.Prelude.{◌≢◌}
+use Rattle.std.proofs.Common.{◌≡◌, ℕ, List, Some, None, Ok, Err, refl, sym, ◌∙◌, subst}
+use Rattle.std.specs.Prelude.{◌≢◌, Result, IfErr, IfOk}
+use Rattle.pb_base.specs.declared.expected.Expected.TheVariants.{StepWord}
 use Rattle.pb_desk.specs.Desk.{DeskState}
 use Rattle.pb_desk.specs.LineReading.{TakesAhead}
 use Rattle.pb_desk.specs.LineReaders.{Reader}
 use Rattle.pb_dimacs.specs.CnfReaders.{CnfReader}
+use Rattle.pb_dimacs.specs.CnfSymbols.{Next}
 use Rattle.pb_dimacs.specs.Cursors.{rows_left}
 use Rattle.pb_steps.specs.declared.denied.Denied.{Denied}
 use Rattle.pb_steps.specs.declared.step.Step.{Step}
 use Rattle.pb_steps.specs.Database.{Database}
 use Rattle.pb_check.specs.declared.verdict.Verdict.TheVariants.{Rejected}
 use Rattle.pb_check.specs.declared.verdict.CheckFault.{CheckFault}
-use Rattle.pb_check.specs.declared.verdict.CheckFault.TheVariants.{Refused}
-use Rattle.pb_base.specs.declared.file.File.TheVariants.{Proof}
-use Rattle.pb_dimacs.specs.CnfRows.{line_start}
-use Rattle.pb_base.specs.declared.expected.Expected.TheVariants.{StepWord}
+use Rattle.pb_check.specs.declared.session.Session.{Session}
 use Rattle.pb_check.specs.declared.taking.Taken.{Taken}
 use Rattle.pb_check.specs.declared.taking.Taken.TheVariants as taken
-use Rattle.pb_check.specs.Turns.{Answer, Task, turn_by}
+use Rattle.pb_check.specs.Faults.{misplaced_line}
+use Rattle.pb_check.specs.Turns.{Answer, Task, Clauses, Turn, turn_by}
 use Rattle.pb_check.specs.Turns.Stage.{at_steps}
 use Rattle.pb_check.specs.Walk.{Walks}
 use Rattle.pb_desk.specs.TwoSlots.{ReadsBoth}
 use Rattle.pb_check.specs.inner.Phases.{StopsOne, StopsBoth, NextSays, clauses_of, FollowsRows, TurnGives, LineGives, OnLine, StepsGive, TaskOver}
-use Rattle.pb_check.proofs.NextLines.{Anywhere, LineComes}
-use Rattle.pb_check.proofs.TurnLemmas.{next_walks, end_walks}
+use Rattle.pb_check.specs.inner.Calls.{Awaited, MissesDue, ReadsStep, StopsStep, StopsSteps, TakesLine, TakesStep}
+use Rattle.pb_check.specs.inner.Sessions.{GivesLine, GivesSteps, StopsAmong}
+use Rattle.pb_check.proofs.NextLines.{stops_weaker}
+use Rattle.pb_check.proofs.Takes.{NextComes, at_err, at_ok}
+use Rattle.pb_check.proofs.TurnLemmas.{next_walks}
+use Rattle.pb_desk.proofs.ReadLemmas.{reads_begin}
 use Rattle.pb_desk.proofs.BothSlots.{both_weaker, both_of_one, both_of_two, both_then}
 use Rattle.pb_check.proofs.BothStops.{stops_of_cnf, stops_of_proof, both_stops}
 
@@ -41,7 +45,7 @@ abbrev pub Took : Taken → Step → CnfReader → Database → Reader → CnfRe
 Took t s cnf db proof cnf' db' proof' c p c' p' =
     ((task : Task) → task.vars ≡ cnf.vars → TurnGives t task proof'.number (turn_by task (at_steps db) (clauses_of cnf c) proof'.number proof'.line s) db' (clauses_of cnf' c')) × NextSays (Some s) proof' (rows_left proof p) (rows_left proof' p')
 
-pub took : (t : Taken) (s : Step) (cnf cnf' : CnfReader) (db db' : Database) (proof proof' : Reader) (a b c : DeskState) → cnf.lines.slot ≢ proof.slot → proof'.slot ≡ proof.slot → cnf'.lines.slot ≡ cnf.lines.slot
+took : (t : Taken) (s : Step) (cnf cnf' : CnfReader) (db db' : Database) (proof proof' : Reader) (a b c : DeskState) → cnf.lines.slot ≢ proof.slot → proof'.slot ≡ proof.slot → cnf'.lines.slot ≡ cnf.lines.slot
     → TakesAhead proof.slot proof.ahead proof'.ahead a b (λ text rest. NextSays (Some s) proof' (rows_left proof text) (rows_left proof' rest))
     → TakesAhead cnf.lines.slot cnf.lines.ahead cnf'.lines.ahead b c (λ text rest. (task : Task) → task.vars ≡ cnf.vars → TurnGives t task proof'.number (turn_by task (at_steps db) (clauses_of cnf text) proof'.number proof'.line s) db' (clauses_of cnf' rest))
     → ReadsBoth cnf.lines proof cnf'.lines proof' a c (Took t s cnf db proof cnf' db' proof')
@@ -59,7 +63,7 @@ took t s cnf cnf' db db' proof proof' a b c apart slot slot' line step =
     (λ e. apart (e ∙ slot)) slot' (λ c p c' h. (h, refl)) step)
 
 -- what a line gave
-pub line_gives : (t : Taken) (s : Step) (cnf cnf' : CnfReader) (db db' : Database) (proof proof' : Reader) (a b : DeskState) → ReadsBoth cnf.lines proof cnf'.lines proof' a b (Took t s cnf db proof cnf' db' proof')
+line_gives : (t : Taken) (s : Step) (cnf cnf' : CnfReader) (db db' : Database) (proof proof' : Reader) (a b : DeskState) → ReadsBoth cnf.lines proof cnf'.lines proof' a b (Took t s cnf db proof cnf' db' proof')
     → ReadsBoth cnf.lines proof cnf'.lines proof' a b (LineGives t cnf db proof cnf' db' proof')
 line_gives t s cnf cnf' db db' proof proof' a b step =
     both_weaker cnf.lines proof cnf'.lines proof' a b (Took t s cnf db proof cnf' db' proof') (LineGives t cnf db proof cnf' db' proof') (λ c p c' p' q. by_taken t c p c' p' q.0 q.1) step
@@ -78,25 +82,38 @@ abbrev pub StepsCome : (cnf : CnfReader) → Database → Reader → TaskOver cn
 StepsCome cnf db proof x c p answer = Walks x.0 (at_steps db) (clauses_of cnf c) (rows_left proof p) answer
 
 -- a line was not read
-pub line_fault : (f : CheckFault) (cnf : CnfReader) (db : Database) (proof proof' : Reader) (a b : DeskState) → proof'.slot ≡ proof.slot → cnf.lines.slot ≢ proof.slot → StopsOne Anywhere f proof proof' a b (LineComes proof)
+pub line_fault : (f : CheckFault) (cnf : CnfReader) (db : Database) (proof proof' : Reader) (a b : DeskState) → proof'.slot ≡ proof.slot → cnf.lines.slot ≢ proof.slot → MissesDue f proof proof' a b
     → StopsBoth (TaskOver cnf) f cnf.lines proof cnf.lines proof' a b (StepsCome cnf db proof)
 line_fault f cnf db proof proof' a b slot apart stops =
-    stops_of_proof Anywhere (TaskOver cnf) f cnf.lines proof proof' a b (LineComes proof) (StepsCome cnf db proof) apart slot (λ x c. ((x.0, at_steps db, clauses_of cnf c), λ p answer w. w)) stops
-
--- the text ends before its last line
-pub line_missing : (f : CheckFault) (cnf : CnfReader) (db : Database) (proof proof' : Reader) (a b : DeskState) → f ≡ Refused Proof (line_start (proof'.number + 1)) StepWord → proof'.slot ≡ proof.slot → cnf.lines.slot ≢ proof.slot
-    → TakesAhead proof.slot proof.ahead proof'.ahead a b (λ text rest. NextSays None proof' (rows_left proof text) (rows_left proof' rest)) → StopsBoth (TaskOver cnf) f cnf.lines proof cnf.lines proof' a b (StepsCome cnf db proof)
-line_missing f cnf db proof proof' a b is slot apart reads =
-    subst (λ (f : CheckFault). StopsBoth (TaskOver cnf) f cnf.lines proof cnf.lines proof' a b (StepsCome cnf db proof)) (sym is)
-    (both_of_two cnf.lines proof proof' a b (λ text rest. NextSays None proof' (rows_left proof text) (rows_left proof' rest)) (λ c p c' p'. (x : TaskOver cnf) → StepsCome cnf db proof x c p (Err (Refused Proof (line_start (proof'.number + 1)) StepWord))) apart slot
-    (λ c p p' h x. end_walks x.0 (at_steps db) (clauses_of cnf c) (rows_left proof p) (proof'.number + 1) (Err (Refused Proof (line_start (proof'.number + 1)) StepWord)) h refl) reads)
+    stops_of_proof Awaited (TaskOver cnf) f cnf.lines proof proof' a b (λ x text answer. Walks x.0 x.1 x.2 (rows_left proof text) answer) (StepsCome cnf db proof) apart slot (λ x c. ((x.0, at_steps db, clauses_of cnf c, λ n. refl), λ p answer w. w)) stops
 
 -- the answer from a step on, whose line was read
 abbrev pub StepComes : (cnf : CnfReader) → Database → Reader → Step → OnLine cnf → List ℕ → Answer → Type 0
 StepComes cnf db proof s x text answer = FollowsRows x.task proof.number (turn_by x.task (at_steps db) (clauses_of cnf text) proof.number proof.line s) (rows_left x.proof x.text) answer
 
+-- no step stands there
+pub misplaced_step : (s t : Step) (f : CheckFault) (cnf : CnfReader) (db : Database) (proof : Reader) (a : DeskState) → s ≡ t → f ≡ misplaced_line proof.number proof.line StepWord
+    → ((x : OnLine cnf) (text : List ℕ) → StepComes cnf db proof t x text (Err (misplaced_line proof.number proof.line StepWord))) → StopsOne (OnLine cnf) f cnf.lines cnf.lines a a (StepComes cnf db proof s)
+misplaced_step s t f cnf db proof a says is comes =
+    subst (λ (f : CheckFault). StopsOne (OnLine cnf) f cnf.lines cnf.lines a a (StepComes cnf db proof s)) (sym is)
+    (reads_begin cnf.lines.slot cnf.lines.ahead a (λ text rest. (x : OnLine cnf) → StepComes cnf db proof s x text (Err (misplaced_line proof.number proof.line StepWord)))
+    (λ text x. subst (λ (u : Step). StepComes cnf db proof u x text (Err (misplaced_line proof.number proof.line StepWord))) (sym says) (comes x text)))
+
+-- the same line by its number
+abbrev pub at_line : (cnf : CnfReader) → ℕ → OnLine cnf → OnLine cnf
+at_line cnf number x = record { task = x.task; number = number; proof = x.proof; text = x.text; same_vars = x.same_vars }
+
+-- a step asks for a clause that was not read
+pub clause_unread : (got : Result Taken CheckFault) (s t : Step) (cnf cnf' : CnfReader) (db : Database) (proof : Reader) (a b : DeskState) (turn : OnLine cnf → Clauses → Next → Turn) → s ≡ t
+    → ((x : OnLine cnf) (text : List ℕ) (answer : Answer) → NextComes cnf turn (at_line cnf proof.number x) text answer → StepComes cnf db proof t x text answer)
+    → IfErr got (λ f. StopsOne (OnLine cnf) f cnf.lines cnf'.lines a b (NextComes cnf turn)) → IfErr got (λ f. StopsOne (OnLine cnf) f cnf.lines cnf'.lines a b (StepComes cnf db proof s))
+clause_unread got s t cnf cnf' db proof a b turn says comes stopped =
+    at_err got (λ f. StopsOne (OnLine cnf) f cnf.lines cnf'.lines a b (NextComes cnf turn)) (λ f. StopsOne (OnLine cnf) f cnf.lines cnf'.lines a b (StepComes cnf db proof s))
+    (λ f. stops_weaker (OnLine cnf) (OnLine cnf) f cnf.lines cnf'.lines a b (NextComes cnf turn) (StepComes cnf db proof s)
+    (λ x. (at_line cnf proof.number x, λ text answer w. subst (λ (u : Step). StepComes cnf db proof u x text answer) (sym says) (comes x text answer w)))) stopped
+
 -- a step does not stand in its place, or its clause was not read
-pub line_stop : (f : CheckFault) (s : Step) (cnf cnf' : CnfReader) (db : Database) (proof proof' : Reader) (a b c : DeskState) → proof'.slot ≡ proof.slot → cnf'.lines.slot ≡ cnf.lines.slot → cnf.lines.slot ≢ proof.slot
+line_stop : (f : CheckFault) (s : Step) (cnf cnf' : CnfReader) (db : Database) (proof proof' : Reader) (a b c : DeskState) → proof'.slot ≡ proof.slot → cnf'.lines.slot ≡ cnf.lines.slot → cnf.lines.slot ≢ proof.slot
     → TakesAhead proof.slot proof.ahead proof'.ahead a b (λ text rest. NextSays (Some s) proof' (rows_left proof text) (rows_left proof' rest))
     → StopsOne (OnLine cnf) f cnf.lines cnf'.lines b c (StepComes cnf db proof' s)
     → StopsBoth (TaskOver cnf) f cnf.lines proof cnf'.lines proof' a c (StepsCome cnf db proof)
@@ -113,29 +130,39 @@ line_stop f s cnf cnf' db proof proof' a b c slot slot' apart line stops =
     (stops_of_cnf (OnLine cnf) (TaskOver cnf) f cnf.lines cnf'.lines proof' b c (StepComes cnf db proof' s) Comes (λ e. apart (e ∙ slot)) slot'
     (λ x p. (record { task = x.0; number = proof'.number; proof = proof'; text = p; same_vars = x.1 }, λ c answer w. w)) stops)
 
--- line after line
-pub runs_on : (first cnf cnf' : CnfReader) (db0 db db' : Database) (proof0 proof proof' : Reader) (a b c : DeskState) → cnf.vars ≡ first.vars → ReadsBoth first.lines proof0 cnf.lines proof a b (LineGives taken.On first db0 proof0 cnf db proof)
-    → ReadsBoth cnf.lines proof cnf'.lines proof' b c (LineGives taken.On cnf db proof cnf' db' proof') → ReadsBoth first.lines proof0 cnf'.lines proof' a c (LineGives taken.On first db0 proof0 cnf' db' proof')
-runs_on first cnf cnf' db0 db db' proof0 proof proof' a b c same_vars before line =
-    both_then first.lines proof0 cnf.lines proof cnf'.lines proof' a b c (LineGives taken.On first db0 proof0 cnf db proof) (LineGives taken.On cnf db proof cnf' db' proof') (LineGives taken.On first db0 proof0 cnf' db' proof')
-    (λ t0 u0 t1 u1 t2 u2 p q task answer vars w. p task answer vars (q task answer (vars ∙ sym same_vars) w)) before line
+-- the same of a step that gave something, or a fault
+pub got_gives : (got : Result Taken CheckFault) (s : Step) (cnf cnf' : CnfReader) (db db' : Database) (proof proof' : Reader) (a b c : DeskState) → cnf.lines.slot ≢ proof.slot → proof'.slot ≡ proof.slot → cnf'.lines.slot ≡ cnf.lines.slot
+    → ReadsStep (Some s) proof proof' a b → IfOk got (λ t. TakesStep t s proof' cnf db cnf' db' b c) → IfOk got (λ t. TakesLine t cnf db proof cnf' db' proof' a c)
+got_gives got s cnf cnf' db db' proof proof' a b c apart slot slot' line gives =
+    at_ok got (λ t. TakesStep t s proof' cnf db cnf' db' b c) (λ t. TakesLine t cnf db proof cnf' db' proof' a c)
+    (λ t step. line_gives t s cnf cnf' db db' proof proof' a c (took t s cnf cnf' db db' proof proof' a b c apart slot slot' line step)) gives
 
-pub runs_out : (first cnf cnf' : CnfReader) (db0 db db' : Database) (proof0 proof proof' : Reader) (a b c : DeskState) → cnf.vars ≡ first.vars → ReadsBoth first.lines proof0 cnf.lines proof a b (LineGives taken.On first db0 proof0 cnf db proof)
-    → ReadsBoth cnf.lines proof cnf'.lines proof' b c (LineGives taken.Last cnf db proof cnf' db' proof') → ReadsBoth first.lines proof0 cnf'.lines proof' a c (λ c p c' p'. StepsGive None first db0 proof0 proof' c p p')
-runs_out first cnf cnf' db0 db db' proof0 proof proof' a b c same_vars before line =
-    both_then first.lines proof0 cnf.lines proof cnf'.lines proof' a b c (LineGives taken.On first db0 proof0 cnf db proof) (LineGives taken.Last cnf db proof cnf' db' proof') (λ c p c' p'. StepsGive None first db0 proof0 proof' c p p')
-    (λ t0 u0 t1 u1 t2 u2 p q task answer vars w. p task answer vars (q task answer (vars ∙ sym same_vars) w)) before line
+pub got_stops : (got : Result Taken CheckFault) (s : Step) (cnf cnf' : CnfReader) (db : Database) (proof proof' : Reader) (a b c : DeskState) → proof'.slot ≡ proof.slot → cnf'.lines.slot ≡ cnf.lines.slot → cnf.lines.slot ≢ proof.slot
+    → ReadsStep (Some s) proof proof' a b → IfErr got (λ f. StopsStep f s proof' cnf db cnf' b c) → IfErr got (λ f. StopsSteps f cnf db proof cnf' proof' a c)
+got_stops got s cnf cnf' db proof proof' a b c slot slot' apart line stops =
+    at_err got (λ f. StopsStep f s proof' cnf db cnf' b c) (λ f. StopsSteps f cnf db proof cnf' proof' a c) (λ f. line_stop f s cnf cnf' db proof proof' a b c slot slot' apart line) stops
 
-pub runs_denied : (d : Denied) (number : ℕ) (first cnf cnf' : CnfReader) (db0 db db' : Database) (proof0 proof proof' : Reader) (a b c : DeskState) → number ≡ proof'.number → cnf.vars ≡ first.vars
-    → ReadsBoth first.lines proof0 cnf.lines proof a b (LineGives taken.On first db0 proof0 cnf db proof)
-    → ReadsBoth cnf.lines proof cnf'.lines proof' b c (LineGives (taken.Denied d) cnf db proof cnf' db' proof') → ReadsBoth first.lines proof0 cnf'.lines proof' a c (λ c p c' p'. StepsGive (Some (Rejected number d)) first db0 proof0 proof' c p p')
-runs_denied d number first cnf cnf' db0 db db' proof0 proof proof' a b c at same_vars before line =
-    both_then first.lines proof0 cnf.lines proof cnf'.lines proof' a b c (LineGives taken.On first db0 proof0 cnf db proof) (LineGives (taken.Denied d) cnf db proof cnf' db' proof') (λ c p c' p'. StepsGive (Some (Rejected number d)) first db0 proof0 proof' c p p')
-    (λ t0 u0 t1 u1 t2 u2 p q task vars. subst (λ (n : ℕ). Walks task (at_steps db0) (clauses_of first t0) (rows_left proof0 u0) (Ok (Rejected n d))) (sym at) (p task (Ok (Rejected proof'.number d)) vars (q task (vars ∙ sym same_vars))))
-    before line
+-- ---- line after line, in a session
 
-pub runs_stop : (f : CheckFault) (first cnf cnf' : CnfReader) (db0 db : Database) (proof0 proof proof' : Reader) (a b c : DeskState) → cnf.vars ≡ first.vars → ReadsBoth first.lines proof0 cnf.lines proof a b (LineGives taken.On first db0 proof0 cnf db proof)
-    → StopsBoth (TaskOver cnf) f cnf.lines proof cnf'.lines proof' b c (StepsCome cnf db proof) → StopsBoth (TaskOver first) f first.lines proof0 cnf'.lines proof' a c (StepsCome first db0 proof0)
-runs_stop f first cnf cnf' db0 db proof0 proof proof' a b c same_vars before stops =
-    both_stops (TaskOver cnf) (TaskOver first) f first.lines proof0 cnf.lines proof cnf'.lines proof' a b c (LineGives taken.On first db0 proof0 cnf db proof) (StepsCome cnf db proof) (StepsCome first db0 proof0)
+pub runs_on : (t : Taken) (s0 s s' : Session) (db0 db db' : Database) (a b c : DeskState) → t ≡ taken.On → s.cnf.vars ≡ s0.cnf.vars → GivesLine taken.On db0 s0 db s a b → GivesLine t db s db' s' b c → GivesLine taken.On db0 s0 db' s' a c
+runs_on t s0 s s' db0 db db' a b c is same_vars before line =
+    both_then s0.cnf.lines s0.lines s.cnf.lines s.lines s'.cnf.lines s'.lines a b c (LineGives taken.On s0.cnf db0 s0.lines s.cnf db s.lines) (LineGives taken.On s.cnf db s.lines s'.cnf db' s'.lines) (LineGives taken.On s0.cnf db0 s0.lines s'.cnf db' s'.lines)
+    (λ t0 u0 t1 u1 t2 u2 p q task answer vars w. p task answer vars (q task answer (vars ∙ sym same_vars) w)) before (subst (λ (u : Taken). GivesLine u db s db' s' b c) is line)
+
+pub runs_out : (t : Taken) (s0 s s' : Session) (db0 db db' : Database) (a b c : DeskState) → t ≡ taken.Last → s.cnf.vars ≡ s0.cnf.vars → GivesLine taken.On db0 s0 db s a b → GivesLine t db s db' s' b c → GivesSteps None db0 s0 s' a c
+runs_out t s0 s s' db0 db db' a b c is same_vars before line =
+    both_then s0.cnf.lines s0.lines s.cnf.lines s.lines s'.cnf.lines s'.lines a b c (LineGives taken.On s0.cnf db0 s0.lines s.cnf db s.lines) (LineGives taken.Last s.cnf db s.lines s'.cnf db' s'.lines) (λ c p c' p'. StepsGive None s0.cnf db0 s0.lines s'.lines c p p')
+    (λ t0 u0 t1 u1 t2 u2 p q task answer vars w. p task answer vars (q task answer (vars ∙ sym same_vars) w)) before (subst (λ (u : Taken). GivesLine u db s db' s' b c) is line)
+
+pub runs_denied : (t : Taken) (d : Denied) (number : ℕ) (s0 s s' : Session) (db0 db db' : Database) (a b c : DeskState) → t ≡ taken.Denied d → number ≡ s'.lines.number → s.cnf.vars ≡ s0.cnf.vars → GivesLine taken.On db0 s0 db s a b → GivesLine t db s db' s' b c
+    → GivesSteps (Some (Rejected number d)) db0 s0 s' a c
+runs_denied t d number s0 s s' db0 db db' a b c is at same_vars before line =
+    both_then s0.cnf.lines s0.lines s.cnf.lines s.lines s'.cnf.lines s'.lines a b c (LineGives taken.On s0.cnf db0 s0.lines s.cnf db s.lines) (LineGives (taken.Denied d) s.cnf db s.lines s'.cnf db' s'.lines)
+    (λ c p c' p'. StepsGive (Some (Rejected number d)) s0.cnf db0 s0.lines s'.lines c p p')
+    (λ t0 u0 t1 u1 t2 u2 p q task vars. subst (λ (n : ℕ). Walks task (at_steps db0) (clauses_of s0.cnf t0) (rows_left s0.lines u0) (Ok (Rejected n d))) (sym at) (p task (Ok (Rejected s'.lines.number d)) vars (q task (vars ∙ sym same_vars))))
+    before (subst (λ (u : Taken). GivesLine u db s db' s' b c) is line)
+
+pub runs_stop : (f : CheckFault) (s0 s s' : Session) (db0 db : Database) (a b c : DeskState) → s.cnf.vars ≡ s0.cnf.vars → GivesLine taken.On db0 s0 db s a b → StopsAmong f db s s' b c → StopsAmong f db0 s0 s' a c
+runs_stop f s0 s s' db0 db a b c same_vars before stops =
+    both_stops (TaskOver s.cnf) (TaskOver s0.cnf) f s0.cnf.lines s0.lines s.cnf.lines s.lines s'.cnf.lines s'.lines a b c (LineGives taken.On s0.cnf db0 s0.lines s.cnf db s.lines) (StepsCome s.cnf db s.lines) (StepsCome s0.cnf db0 s0.lines)
     (λ x. ((x.0, x.1 ∙ sym same_vars), λ t u t' u' answer p w. p x.0 answer x.1 w)) before stops

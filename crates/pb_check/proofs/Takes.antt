@@ -3,8 +3,6 @@ use Rattle.std.proofs.Common.{◌≡◌, ◌+◌, ℕ, List, [], ◌++◌, Optio
 use Rattle.std.specs.Prelude.{◌≢◌, IfSome, Result, Ok, Err, IfErr, IfOk}
 use Rattle.std.proofs.lemmas.List.{append-nil}
 use Rattle.pb_desk.proofs.ReadLemmas.{fails_weaker, reads_weaker}
-use Rattle.pb_base.specs.declared.expected.Expected.{Expected}
-use Rattle.pb_desk.specs.LineReaders.{Reader}
 use Rattle.pb_check.specs.declared.verdict.CheckFault.{CheckFault}
 use Rattle.pb_base.specs.declared.literal.Lit.{Lit}
 use Rattle.pb_desk.specs.Desk.{DeskState}
@@ -25,7 +23,7 @@ use Rattle.pb_check.specs.Turns.Stage.{at_steps}
 use Rattle.pb_check.specs.Turns.{Answer, Task, Clauses, Turn, at_out, at_end, next_in, turn_by}
 use Rattle.pb_check.specs.Turns.Turn.{stop}
 use Rattle.pb_check.specs.inner.Judging.{IsJudged}
-use Rattle.pb_check.specs.Faults.{misplaced_line, of_cnf}
+use Rattle.pb_check.specs.Faults.{of_cnf}
 use Rattle.pb_check.specs.inner.Phases.{IsOpen, StopsOne, clauses_of, FollowsRows, OnLine, TurnGives}
 use Rattle.pb_check.proofs.Answering.{SomeTurn, some-left, some-out, some-end}
 use Rattle.pb_check.proofs.WithinAnswers.{PassesCnf, out_within, end_within}
@@ -55,11 +53,6 @@ rule_given (Pol ops) t task number line db db' old text a b c d e judged = judge
 rule_given (Rup ts right ids) t task number line db db' old text a b c d e judged = judged_gives t task number db db' (Rup ts right ids) None (clauses_of old text) judged
 rule_given (Red ts right sets) t task number line db db' old text a b c d e judged = judged_gives t task number db db' (Red ts right sets) None (clauses_of old text) judged
 rule_given (Del ids) t task number line db db' old text a b c d e judged = judged_gives t task number db db' (Del ids) None (clauses_of old text) judged
-
--- a line that does not stand in its place
-pub misplaced_stops : (X : Type 0) (fault : CheckFault) (number : ℕ) (line : List ℕ) (e : Expected) (r : Reader) (r' : Reader) (a b : DeskState) (T : X → List ℕ → Answer → Type 0) → fault ≡ misplaced_line number line e
-    → TakesAhead r.slot r.ahead r'.ahead a b (λ text rest. (x : X) → T x text (Err (misplaced_line number line e))) → StopsOne X fault r r' a b T
-misplaced_stops X fault number line e r r' a b T is reads = subst (λ (f : CheckFault). StopsOne X f r r' a b T) (sym is) reads
 
 -- ---- the next clause is not read
 
@@ -94,7 +87,7 @@ next_open old turn asks bytes within could x =
       apart = λ e. asks.within x clauses next here.0 short here.1 (subst PassesCnf (sym e) could.by_length);
     }
 
-pub next_stops : (fault : CnfFault) (old new : CnfReader) (turn : OnLine old → Clauses → Next → Turn) (a b : DeskState) → AsksNext old turn → StopsNext fault old new a b → StopsOne (OnLine old) (of_cnf fault) old.lines new.lines a b (NextComes old turn)
+next_stops : (fault : CnfFault) (old new : CnfReader) (turn : OnLine old → Clauses → Next → Turn) (a b : DeskState) → AsksNext old turn → StopsNext fault old new a b → StopsOne (OnLine old) (of_cnf fault) old.lines new.lines a b (NextComes old turn)
 next_stops cnf_fault.Failed old new turn a b asks stops =
     fails_weaker old.lines.slot old.lines.ahead a b (λ bytes. IsNextWithin (next_of old.vars old.left (symbols_left old bytes)) × CouldPass (λ text f. next_of old.vars old.left (symbols_left old text) ≡ refused f) bytes)
     (λ bytes. (x : OnLine old) → IsOpen (NextComes old turn x) bytes) (λ bytes h x. next_open old turn asks bytes h.0 h.1 x) stops
@@ -105,6 +98,10 @@ next_stops (cnf_fault.Token place e) old new turn a b asks stops =
 next_stops (cnf_fault.Limit place which) old new turn a b asks stops =
     reads_weaker old.lines.slot old.lines.ahead new.lines.ahead a b (λ text rest. next_of old.vars old.left (symbols_left old text) ≡ refused (cnf_fault.Limit place which)) (λ text rest. (x : OnLine old) → NextComes old turn x text (Err (of_cnf (cnf_fault.Limit place which))))
     (λ text rest is x. next_refused old turn asks x text (cnf_fault.Limit place which) is) stops
+
+-- the fault that it has
+pub clause_stops : (f : CheckFault) (fault : CnfFault) (old new : CnfReader) (turn : OnLine old → Clauses → Next → Turn) (a b : DeskState) → f ≡ of_cnf fault → AsksNext old turn → StopsNext fault old new a b → StopsOne (OnLine old) f old.lines new.lines a b (NextComes old turn)
+clause_stops f fault old new turn a b is asks stops = subst (λ (f : CheckFault). StopsOne (OnLine old) f old.lines new.lines a b (NextComes old turn)) (sym is) (next_stops fault old new turn a b asks stops)
 
 pub out_asks : (old : CnfReader) (db : Database) (id : ℕ) → IsSpelled (Out id) → AsksNext old (λ x c n. at_out db id c n)
 out_asks old db id spelled = record {

@@ -24,6 +24,7 @@ use Rattle.pb_dimacs.specs.Cursors.{rows_left}
 use Rattle.pb_dimacs.specs.Within.{IsStartWithin, CouldPass}
 use Rattle.pb_dimacs.proofs.FormLemmas.{start_rows}
 use Rattle.pb_steps.specs.Database.{loaded_database}
+use Rattle.pb_check.specs.declared.session.Session.{Session}
 use Rattle.pb_check.specs.declared.verdict.CheckFault.{CheckFault}
 use Rattle.pb_base.specs.declared.expected.Expected.TheVariants.{VarCount}
 use Rattle.pb_check.specs.declared.verdict.CheckFault.TheVariants.{Refused, Limit, ReadFault, NoMemory}
@@ -33,6 +34,8 @@ use Rattle.pb_check.specs.Turns.Stage.{head_wanted}
 use Rattle.pb_check.specs.Walk.{Walks, WalksFrom, WalksBy, Walk, task_of}
 use Rattle.pb_check.specs.Outcomes.{LeavesOpen, StopsCheck}
 use Rattle.pb_check.specs.inner.Phases.{IsOpen, BothAnswered, AreOpen, StopsOne, StopsBoth, clauses_of, IsTask, TaskFrom, LinesAnswer}
+use Rattle.pb_check.specs.inner.Calls.{StopsLines}
+use Rattle.pb_check.specs.inner.Sessions.{IsNew}
 use Rattle.pb_check.proofs.Answering.{some-left, some-start, walk_has_one_answer}
 use Rattle.pb_check.proofs.LineRuns.{LinesCome}
 use Rattle.pb_check.proofs.WithinAnswers.{PassesCnf, start_within}
@@ -238,3 +241,19 @@ walk_unstarted fault p x y cnf cnf' proof a b new apart slot stops =
     stops_walk (of_cnf fault) p x y cnf cnf' proof proof a b new
     (stops_of_cnf (Reader × List ℕ) (Unit {0}) (of_cnf fault) cnf.lines cnf'.lines proof a b (StartComes p cnf) (WholeComes p cnf proof) apart slot
     (λ z d. ((proof, d), λ c answer w. w)) (head_missed fault p cnf cnf' a b stops))
+
+-- ---- in a session
+
+pub are_new : (s : Session) → IsNew s → AreNew s.cnf.lines.slot s.lines.slot s.cnf s.lines
+are_new s new = record { cnf_new = new.cnf_new; proof_new = new.lines_new }
+
+pub whole_given : (p : Problem) (head : CnfHead) (s s' : Session) (cnf : CnfReader) (original : ℕ) (loaded : List Constraint) (a b d : DeskState) (answer : Answer) → IsNew s → s.cnf.lines.slot ≢ s.lines.slot → cnf.lines.slot ≡ s.cnf.lines.slot
+    → GivesHead head s.cnf cnf a b → IsLoaded p head cnf original loaded → ReadsBoth cnf.lines s.lines s'.cnf.lines s'.lines b d (λ t u t' u'. LinesAnswer cnf (loaded_database original head.vars loaded) (length loaded) s.lines t u answer)
+    → TakesBoth s.cnf.lines.slot s.lines.slot (λ t u. Walk p t u answer) a d
+whole_given p head s s' cnf original loaded a b d answer new apart slot given is reads =
+    walk_given p head s.cnf.lines.slot s.lines.slot s.cnf cnf s'.cnf s.lines s'.lines a b d answer (are_new s new) apart slot given (lines_given p head cnf s'.cnf s.lines s'.lines original loaded b d answer is reads)
+
+pub whole_stopped : (f : CheckFault) (p : Problem) (head : CnfHead) (s s' : Session) (cnf : CnfReader) (original : ℕ) (loaded : List Constraint) (a b d : DeskState) → IsNew s → s.cnf.lines.slot ≢ s.lines.slot → cnf.lines.slot ≡ s.cnf.lines.slot
+    → GivesHead head s.cnf cnf a b → IsLoaded p head cnf original loaded → StopsLines f (length loaded) cnf (loaded_database original head.vars loaded) s.lines s'.cnf s'.lines b d → StopsCheck p s.cnf.lines.slot s.lines.slot a d f
+whole_stopped f p head s s' cnf original loaded a b d new apart slot given is stops =
+    walk_stopped f p head s.cnf.lines.slot s.lines.slot s.cnf cnf s'.cnf s.lines s'.lines a b d (are_new s new) apart slot given (lines_stopped f p head cnf s'.cnf s.lines s'.lines original loaded b d is stops)

@@ -1,5 +1,5 @@
 //! The next line of a derivation that says something.
-ghost use Rattle.std.specs.Prelude.{◌≡◌, ◌≢◌, ◌≤◌, ◌<◌, ◌^◌, false, IsTrue, Ok, Err, None, IfOk, IfErr, OnOk, IfSome};
+ghost use Rattle.std.specs.Prelude.{◌≡◌, ◌≢◌, ◌≤◌, ◌<◌, ◌^◌, false, IsTrue, Ok, Err, Some, None, IfOk, IfErr, OnOk, IfSome};
 ghost use Rattle.pb_desk.specs.Desk.{IsSteady};
 ghost use Rattle.pb_desk.specs.LineReading.{TakesAhead};
 ghost use Rattle.pb_dimacs.specs.CnfRows.{cnf_limits};
@@ -7,9 +7,9 @@ ghost use Rattle.pb_dimacs.specs.Cursors.{GoesOn};
 ghost use Rattle.pb_steps.specs.Steps.{IsSpelled};
 ghost use Rattle.pb_check.specs.Outcomes.{NamesText};
 ghost use Rattle.pb_check.specs.inner.Phases.{says_nothing};
-ghost use Rattle.pb_check.specs.inner.Calls.{ReadsStep, MissesStep};
+ghost use Rattle.pb_check.specs.inner.Calls.{ReadsStep, MissesStep, MissesDue};
 
-use crate::fault::{of_line, of_step};
+use crate::fault::{end_fault, of_line, of_step};
 use crate::verdict::CheckFault;
 use pb_desk::{Desk, LineReader};
 use pb_steps::{Step, read_step};
@@ -61,5 +61,32 @@ pub fn next_step<D: Desk>(
         if !says_nothing(&step) {
             return Ok(Some(step));
         }
+    }
+}
+
+/// Takes the next line that says something, as a step, where the derivation may not end yet.
+pub fn due_step<D: Desk>(
+    alloc: Global,
+    desk: &mut D,
+    lines: &mut LineReader,
+) -> Result<Step, CheckFault>
+    requires open { IsTrue ((D.state desk.old).view.reading lines.old.slot) }
+    requires fine { lines.old.fault ≡ None }
+    requires limits { lines.old.limits ≡ cnf_limits }
+    ensures follows { OnOk result (GoesOn lines.old lines.new) }
+    ensures slot { lines.new.slot ≡ lines.old.slot }
+    ensures few { OnOk result (lines.new.number ≤ 2 ^ 40) }
+    ensures further { OnOk result (lines.old.number < lines.new.number) }
+    ensures said { IfOk result (λ step. says_nothing step ≡ false) }
+    ensures spelled { IfOk result IsSpelled }
+    ensures next { IfOk result (λ step. ReadsStep (Some step) lines.old lines.new (D.state desk.old) (D.state desk.new)) }
+    ensures stopped { IfErr result (λ fault. MissesDue fault lines.old lines.new (D.state desk.old) (D.state desk.new)) }
+    ensures named { IfErr result NamesText }
+    ensures steady { IsSteady (D.state desk.old) → result ≢ Err CheckFault.ReadFault }
+{
+    match next_step(alloc, desk, lines) {
+        Ok(Some(step)) => Ok(step),
+        Ok(None) => Err(end_fault(lines)),
+        Err(fault) => Err(fault),
     }
 }

@@ -9,8 +9,8 @@ ghost use Rattle.pb_check.specs.Outcomes.{NamesText};
 ghost use Rattle.pb_check.specs.inner.Calls.{StopsStage, TakesHead, TakesCount, StopsCount, TakesRest};
 ghost use Rattle.pb_check.specs.inner.Sessions.{GivesLine, GivesSteps, KeepsOne, KeepsSome, StopsAmong};
 
-use crate::fault::{end_fault, miscounted, misplaced};
-use crate::reading::next_step;
+use crate::fault::{miscounted, misplaced};
+use crate::reading::{due_step, next_step};
 use crate::session::Session;
 use crate::taking::{Taken, take_step};
 use crate::verdict::{CheckFault, Verdict};
@@ -36,12 +36,9 @@ pub fn take_head<D: Desk>(
     ensures named { IfErr result NamesText }
     ensures steady { IsSteady (D.state desk.old) → result ≢ Err CheckFault.ReadFault }
 {
-    let next = match next_step(alloc, desk, lines) {
-        Ok(next) => next,
+    let step = match due_step(alloc, desk, lines) {
+        Ok(step) => step,
         Err(fault) => return Err(fault),
-    };
-    let Some(step) = next else {
-        return Err(end_fault(lines));
     };
     match &step {
         Step::Head => Ok(()),
@@ -66,12 +63,9 @@ pub fn take_count<D: Desk>(
     ensures named { IfErr result NamesText }
     ensures steady { IsSteady (D.state desk.old) → result ≢ Err CheckFault.ReadFault }
 {
-    let next = match next_step(alloc, desk, lines) {
-        Ok(next) => next,
+    let step = match due_step(alloc, desk, lines) {
+        Ok(step) => step,
         Err(fault) => return Err(fault),
-    };
-    let Some(step) = next else {
-        return Err(end_fault(lines));
     };
     match &step {
         Step::Loaded { count } => {
@@ -108,12 +102,9 @@ fn take_line<D: Desk>(
     ensures named { IfErr result NamesText }
     ensures steady { IsSteady (D.state desk.old) → result ≢ Err CheckFault.ReadFault }
 {
-    let next = match next_step(alloc, desk, &mut session.lines) {
-        Ok(next) => next,
+    let step = match due_step(alloc, desk, &mut session.lines) {
+        Ok(step) => step,
         Err(fault) => return Err(fault),
-    };
-    let Some(step) = next else {
-        return Err(end_fault(&session.lines));
     };
     take_step(
         desk,

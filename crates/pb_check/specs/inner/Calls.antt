@@ -1,19 +1,24 @@
 -- What each part of checking says of the desk, of its readers and of the answer.
-use Rattle.std.specs.Prelude.{◌≡◌, ℕ, List, length, Option, Ok}
+use Rattle.std.specs.Prelude.{◌≡◌, ℕ, List, length, Option, Ok, Err}
+use Rattle.pb_base.specs.declared.expected.Expected.TheVariants.{StepWord}
+use Rattle.pb_base.specs.declared.file.File.TheVariants.{Proof}
 use Rattle.pb_desk.specs.Desk.{DeskState}
 use Rattle.pb_desk.specs.LineReading.{TakesAhead}
 use Rattle.pb_desk.specs.LineReaders.{Reader}
 use Rattle.pb_desk.specs.TwoSlots.{ReadsBoth}
 use Rattle.pb_dimacs.specs.CnfReaders.{CnfReader}
+use Rattle.pb_dimacs.specs.CnfRows.{line_start}
 use Rattle.pb_dimacs.specs.Cursors.{rows_left}
 use Rattle.pb_steps.specs.declared.step.Step.{Step}
 use Rattle.pb_steps.specs.Database.{Database, loaded_database}
 use Rattle.pb_check.specs.declared.verdict.Verdict.{Verdict}
 use Rattle.pb_check.specs.declared.verdict.Verdict.TheVariants.{Accepted}
 use Rattle.pb_check.specs.declared.verdict.CheckFault.{CheckFault}
+use Rattle.pb_check.specs.declared.verdict.CheckFault.TheVariants.{Refused}
 use Rattle.pb_check.specs.declared.taking.Taken.{Taken}
-use Rattle.pb_check.specs.Turns.{Answer, Task, Stage, Clauses, at_out, at_end, next_in, turn_by}
+use Rattle.pb_check.specs.Turns.{Answer, Task, Stage, Clauses, at_out, at_end, last_turn, next_in, turn_by}
 use Rattle.pb_check.specs.Turns.Stage.{head_wanted, count_wanted, at_steps, ended}
+use Rattle.pb_check.specs.Turns.Turn.{stop}
 use Rattle.pb_check.specs.Walk.{Walks}
 use Rattle.pb_check.specs.inner.Phases.{StopsOne, StopsBoth, NextSays, Leads, clauses_of, FollowsRows, TurnGives, LineGives, OnLine, StepsGive, TaskOver, TaskFrom, LinesAnswer}
 
@@ -24,6 +29,16 @@ ReadsStep next old new a b = TakesAhead old.slot old.ahead new.ahead a b (λ tex
 
 abbrev pub MissesStep : CheckFault → Reader → Reader → DeskState → DeskState → Type 0
 MissesStep fault old new a b = StopsOne (Task × Stage × Clauses) fault old new a b (λ x text answer. Walks x.0 x.1 x.2 (rows_left old text) answer)
+
+-- where the derivation may not end yet
+abbrev pub IsAwaited : Stage → Type 0
+IsAwaited stage = (number : ℕ) → last_turn stage number ≡ stop (Err (Refused Proof (line_start number) StepWord))
+
+abbrev pub Awaited : Type 0
+Awaited = (task : Task) × (stage : Stage) × (clauses : Clauses) × IsAwaited stage
+
+abbrev pub MissesDue : CheckFault → Reader → Reader → DeskState → DeskState → Type 0
+MissesDue fault old new a b = StopsOne Awaited fault old new a b (λ x text answer. Walks x.0 x.1 x.2 (rows_left old text) answer)
 
 -- ---- the lines that have a place
 

@@ -1,10 +1,7 @@
-use Rattle.std.proofs.Common.{Option, subst}
-use Rattle.pb_check.specs.declared.verdict.Verdict.{Verdict}
-use Rattle.pb_desk.specs.TwoSlots.{ReadsBoth}
-use Rattle.pb_check.specs.inner.Phases.{StepsGive}
-use Rattle.pb_check.specs.inner.Keeping.{KeepsSteps, KeptAll, Tells}
-use Rattle.pb_check.proofs.KeepingRuns.{before, behind, waits, waits_then}
-use Rattle.pb_check.proofs.LineRuns.{begun, ready, head_fault, count_fault, steps_fault, steps_verdict, done, rest_verdict, rest_fault, apart_then}
+use Rattle.std.proofs.Common.{None, Some}
+use Rattle.pb_check.specs.inner.Keeping.{Tells}
+use Rattle.pb_check.proofs.KeepingRuns.{before, kept_behind, waits, waits_twice}
+use Rattle.pb_check.proofs.LineRuns.{apart_then, count_fault, head_fault, rest_fault, rest_verdict, started, steps_fault, steps_verdict}
 use Rattle.pb_check.proofs.checking.check_lines.Goals as goal
 
 pub returns-in-Err-clause-stopped : goal.returns-in-Err-clause-stopped
@@ -13,120 +10,49 @@ returns-in-Err-clause-stopped g c =
 
 pub returns-in-Err-take_count-clause-stopped : goal.returns-in-Err-take_count-clause-stopped
 returns-in-Err-take_count-clause-stopped g c =
-    let l0 = c.args.session.now.lines in
-    let l1 = c.take_head.new.lines in
-    let l2 = c.take_count.new.lines in
-    let cnf = c.args.session.now.cnf in
-    let a = g.D.Desk.state c.args.desk.now in
-    let b = g.D.Desk.state c.take_head.new.desk in
-    let d = g.D.Desk.state c.take_count.new.desk in
-    let first = begun cnf l0 l1 a b c.args.session.now.apart c.in-Ok.ensures.slot c.in-Ok.ensures.leads in
-    count_fault c.in-Err-take_count.fault cnf c.args.db.now c.args.loaded l0 l1 l2 a b d (apart_then cnf.lines l0 cnf.lines l1 a b _ first) c.in-Err-take_count.ensures.slot first c.in-Err-take_count.ensures.stopped
+    count_fault c.in-Err-take_count.fault c.args.session.now.cnf c.args.db.now c.args.loaded c.args.session.now.lines c.take_head.new.lines c.take_count.new.lines (g.D.Desk.state c.args.desk.now) (g.D.Desk.state c.take_head.new.desk) (g.D.Desk.state c.take_count.new.desk) c.args.session.now.apart
+    c.in-Ok.ensures.slot c.in-Err-take_count.ensures.slot c.in-Ok.ensures.leads c.in-Err-take_count.ensures.stopped
 
 pub returns-in-Err-run_steps-clause-stopped : goal.returns-in-Err-run_steps-clause-stopped
 returns-in-Err-run_steps-clause-stopped g c =
-    let l0 = c.args.session.now.lines in
-    let l1 = c.take_head.new.lines in
-    let l2 = c.take_count.new.lines in
-    let l3 = c.run_steps.new.session.lines in
-    let cnf = c.args.session.now.cnf in
-    let a = g.D.Desk.state c.args.desk.now in
-    let b = g.D.Desk.state c.take_head.new.desk in
-    let d = g.D.Desk.state c.take_count.new.desk in
-    let e = g.D.Desk.state c.run_steps.new.desk in
-    let first = begun cnf l0 l1 a b c.args.session.now.apart c.in-Ok.ensures.slot c.in-Ok.ensures.leads in
-    let second = ready cnf c.args.db.now c.args.loaded l0 l1 l2 a b d (apart_then cnf.lines l0 cnf.lines l1 a b _ first) c.in-Ok-take_count.ensures.slot first c.in-Ok-take_count.ensures.leads in
-    steps_fault c.in-Err-run_steps.fault cnf c.run_steps.new.session.cnf c.args.db.now c.args.loaded l0 l2 l3 a d e second c.in-Err-run_steps.ensures.stopped
+    let old = c.args.session.now in
+    let ready = started old.cnf c.args.db.now c.args.loaded old.lines c.take_head.new.lines c.take_count.new.lines _ _ _ old.apart c.in-Ok.ensures.slot c.in-Ok-take_count.ensures.slot c.in-Ok.ensures.leads c.in-Ok-take_count.ensures.leads in
+    steps_fault c.in-Err-run_steps.fault old.cnf c.run_steps.new.session.cnf c.args.db.now c.args.loaded old.lines c.take_count.new.lines c.run_steps.new.session.lines (g.D.Desk.state c.args.desk.now) (g.D.Desk.state c.take_count.new.desk) (g.D.Desk.state c.run_steps.new.desk) ready c.in-Err-run_steps.ensures.stopped
 
 pub returns-in-Some-clause-verdict : goal.returns-in-Some-clause-verdict
 returns-in-Some-clause-verdict g c =
-    let l0 = c.args.session.now.lines in
-    let l1 = c.take_head.new.lines in
-    let l2 = c.take_count.new.lines in
-    let l3 = c.run_steps.new.session.lines in
-    let cnf = c.args.session.now.cnf in
-    let cnf' = c.run_steps.new.session.cnf in
-    let a = g.D.Desk.state c.args.desk.now in
-    let b = g.D.Desk.state c.take_head.new.desk in
-    let d = g.D.Desk.state c.take_count.new.desk in
-    let e = g.D.Desk.state c.run_steps.new.desk in
-    let first = begun cnf l0 l1 a b c.args.session.now.apart c.in-Ok.ensures.slot c.in-Ok.ensures.leads in
-    let second = ready cnf c.args.db.now c.args.loaded l0 l1 l2 a b d (apart_then cnf.lines l0 cnf.lines l1 a b _ first) c.in-Ok-take_count.ensures.slot first c.in-Ok-take_count.ensures.leads in
-    steps_verdict c.in-Some.verdict cnf cnf' c.args.db.now c.args.loaded l0 l2 l3 a d e second
-    (subst (λ (o : Option Verdict). ReadsBoth cnf.lines l2 cnf'.lines l3 d e (λ x y x' y'. StepsGive o cnf c.args.db.now l2 l3 x y y')) c.in-Some.is c.in-Ok-run_steps.ensures.steps)
+    let old = c.args.session.now in
+    let new = c.run_steps.new.session in
+    let ready = started old.cnf c.args.db.now c.args.loaded old.lines c.take_head.new.lines c.take_count.new.lines _ _ _ old.apart c.in-Ok.ensures.slot c.in-Ok-take_count.ensures.slot c.in-Ok.ensures.leads c.in-Ok-take_count.ensures.leads in
+    steps_verdict _ c.in-Some.verdict old.cnf new.cnf c.args.db.now c.args.loaded old.lines c.take_count.new.lines new.lines (g.D.Desk.state c.args.desk.now) (g.D.Desk.state c.take_count.new.desk) (g.D.Desk.state c.run_steps.new.desk) c.in-Some.is ready c.in-Ok-run_steps.ensures.steps
 
 pub returns-in-Ok-take_rest-clause-verdict : goal.returns-in-Ok-take_rest-clause-verdict
 returns-in-Ok-take_rest-clause-verdict g c =
-    let l0 = c.args.session.now.lines in
-    let l1 = c.take_head.new.lines in
-    let l2 = c.take_count.new.lines in
-    let l3 = c.run_steps.new.session.lines in
-    let cnf = c.args.session.now.cnf in
-    let cnf' = c.run_steps.new.session.cnf in
-    let a = g.D.Desk.state c.args.desk.now in
-    let b = g.D.Desk.state c.take_head.new.desk in
-    let d = g.D.Desk.state c.take_count.new.desk in
-    let e = g.D.Desk.state c.run_steps.new.desk in
-    let first = begun cnf l0 l1 a b c.args.session.now.apart c.in-Ok.ensures.slot c.in-Ok.ensures.leads in
-    let second = ready cnf c.args.db.now c.args.loaded l0 l1 l2 a b d (apart_then cnf.lines l0 cnf.lines l1 a b _ first) c.in-Ok-take_count.ensures.slot first c.in-Ok-take_count.ensures.leads in
-    let third = done cnf cnf' c.args.db.now c.args.loaded l0 l2 l3 a d e second
-    (subst (λ (o : Option Verdict). ReadsBoth cnf.lines l2 cnf'.lines l3 d e (λ x y x' y'. StepsGive o cnf c.args.db.now l2 l3 x y y')) c.in_default.is c.in-Ok-run_steps.ensures.steps) in
-    rest_verdict cnf cnf' c.args.db.now c.args.loaded l0 l3 c.take_rest.new.lines a e (g.D.Desk.state c.take_rest.new.desk) (apart_then cnf.lines l0 cnf'.lines l3 a e _ third) c.in-Ok-take_rest.ensures.slot third c.in-Ok-take_rest.ensures.ends
+    let old = c.args.session.now in
+    let ready = started old.cnf c.args.db.now c.args.loaded old.lines c.take_head.new.lines c.take_count.new.lines _ _ _ old.apart c.in-Ok.ensures.slot c.in-Ok-take_count.ensures.slot c.in-Ok.ensures.leads c.in-Ok-take_count.ensures.leads in
+    rest_verdict _ old.cnf c.run_steps.new.session.cnf c.args.db.now c.args.loaded old.lines c.take_count.new.lines c.run_steps.new.session.lines c.take_rest.new.lines (g.D.Desk.state c.args.desk.now) (g.D.Desk.state c.take_count.new.desk) (g.D.Desk.state c.run_steps.new.desk) (g.D.Desk.state c.take_rest.new.desk)
+    c.in_default.is c.in-Ok-take_rest.ensures.slot ready c.in-Ok-run_steps.ensures.steps c.in-Ok-take_rest.ensures.ends
 
 pub returns-in-Err-take_rest-clause-stopped : goal.returns-in-Err-take_rest-clause-stopped
 returns-in-Err-take_rest-clause-stopped g c =
-    let l0 = c.args.session.now.lines in
-    let l1 = c.take_head.new.lines in
-    let l2 = c.take_count.new.lines in
-    let l3 = c.run_steps.new.session.lines in
-    let cnf = c.args.session.now.cnf in
-    let cnf' = c.run_steps.new.session.cnf in
-    let a = g.D.Desk.state c.args.desk.now in
-    let b = g.D.Desk.state c.take_head.new.desk in
-    let d = g.D.Desk.state c.take_count.new.desk in
-    let e = g.D.Desk.state c.run_steps.new.desk in
-    let first = begun cnf l0 l1 a b c.args.session.now.apart c.in-Ok.ensures.slot c.in-Ok.ensures.leads in
-    let second = ready cnf c.args.db.now c.args.loaded l0 l1 l2 a b d (apart_then cnf.lines l0 cnf.lines l1 a b _ first) c.in-Ok-take_count.ensures.slot first c.in-Ok-take_count.ensures.leads in
-    let third = done cnf cnf' c.args.db.now c.args.loaded l0 l2 l3 a d e second
-    (subst (λ (o : Option Verdict). ReadsBoth cnf.lines l2 cnf'.lines l3 d e (λ x y x' y'. StepsGive o cnf c.args.db.now l2 l3 x y y')) c.in_default.is c.in-Ok-run_steps.ensures.steps) in
-    rest_fault c.in-Err-take_rest.fault cnf cnf' c.args.db.now c.args.loaded l0 l3 c.take_rest.new.lines a e (g.D.Desk.state c.take_rest.new.desk) (apart_then cnf.lines l0 cnf'.lines l3 a e _ third) c.in-Err-take_rest.ensures.slot third c.in-Err-take_rest.ensures.stopped
+    let old = c.args.session.now in
+    let ready = started old.cnf c.args.db.now c.args.loaded old.lines c.take_head.new.lines c.take_count.new.lines _ _ _ old.apart c.in-Ok.ensures.slot c.in-Ok-take_count.ensures.slot c.in-Ok.ensures.leads c.in-Ok-take_count.ensures.leads in
+    rest_fault c.in-Err-take_rest.fault _ old.cnf c.run_steps.new.session.cnf c.args.db.now c.args.loaded old.lines c.take_count.new.lines c.run_steps.new.session.lines c.take_rest.new.lines (g.D.Desk.state c.args.desk.now) (g.D.Desk.state c.take_count.new.desk) (g.D.Desk.state c.run_steps.new.desk) (g.D.Desk.state c.take_rest.new.desk)
+    c.in_default.is c.in-Err-take_rest.ensures.slot ready c.in-Ok-run_steps.ensures.steps c.in-Err-take_rest.ensures.stopped
 
 pub returns-in-Some-clause-keeps : goal.returns-in-Some-clause-keeps
 returns-in-Some-clause-keeps g c =
-    let l0 = c.args.session.now.lines in
-    let l1 = c.take_head.new.lines in
-    let l2 = c.take_count.new.lines in
-    let l3 = c.run_steps.new.session.lines in
-    let r = c.args.session.now.cnf in
-    let r' = c.run_steps.new.session.cnf in
-    let k = c.args.session.now.kept in
-    let k' = c.run_steps.new.session.kept in
-    let a = g.D.Desk.state c.args.desk.now in
-    let b = g.D.Desk.state c.take_head.new.desk in
-    let d = g.D.Desk.state c.take_count.new.desk in
-    let e = g.D.Desk.state c.run_steps.new.desk in
-    let head = waits r.lines l0 l1 a b _ c.args.session.now.apart c.in-Ok.ensures.slot c.in-Ok.ensures.leads in
-    let count = waits_then r.lines l0 l1 l2 a b d head (waits r.lines l1 l2 b d _ (apart_then r.lines l0 r.lines l1 a b _ head) c.in-Ok-take_count.ensures.slot c.in-Ok-take_count.ensures.leads) in
-    behind r.lines r'.lines l0 l2 l3 a d e (λ x x'. KeptAll c.in-Some.verdict k r k' x) count
-    (subst (λ (o : Option Verdict). KeepsSteps o k r l2 k' r' l3 d e) c.in-Some.is c.in-Ok-run_steps.ensures.keeps)
+    let old = c.args.session.now in
+    let new = c.run_steps.new.session in
+    let count = waits_twice old.cnf.lines old.lines c.take_head.new.lines c.take_count.new.lines _ _ _ _ _ old.apart c.in-Ok.ensures.slot c.in-Ok-take_count.ensures.slot c.in-Ok.ensures.leads c.in-Ok-take_count.ensures.leads in
+    kept_behind _ (Some c.in-Some.verdict) old.kept new.kept old.cnf new.cnf old.lines c.take_count.new.lines new.lines (g.D.Desk.state c.args.desk.now) (g.D.Desk.state c.take_count.new.desk) (g.D.Desk.state c.run_steps.new.desk) c.in-Some.is count c.in-Ok-run_steps.ensures.keeps
 
 pub returns-in-Ok-take_rest-clause-keeps : goal.returns-in-Ok-take_rest-clause-keeps
 returns-in-Ok-take_rest-clause-keeps g c =
-    let l0 = c.args.session.now.lines in
-    let l1 = c.take_head.new.lines in
-    let l2 = c.take_count.new.lines in
-    let l3 = c.run_steps.new.session.lines in
-    let r = c.args.session.now.cnf in
-    let r' = c.run_steps.new.session.cnf in
-    let k = c.args.session.now.kept in
-    let k' = c.run_steps.new.session.kept in
-    let a = g.D.Desk.state c.args.desk.now in
-    let b = g.D.Desk.state c.take_head.new.desk in
-    let d = g.D.Desk.state c.take_count.new.desk in
+    let old = c.args.session.now in
+    let new = c.run_steps.new.session in
     let e = g.D.Desk.state c.run_steps.new.desk in
-    let head = waits r.lines l0 l1 a b _ c.args.session.now.apart c.in-Ok.ensures.slot c.in-Ok.ensures.leads in
-    let count = waits_then r.lines l0 l1 l2 a b d head (waits r.lines l1 l2 b d _ (apart_then r.lines l0 r.lines l1 a b _ head) c.in-Ok-take_count.ensures.slot c.in-Ok-take_count.ensures.leads) in
-    let steps = behind r.lines r'.lines l0 l2 l3 a d e (λ x x'. Tells k r x k'.clauses) count
-    (subst (λ (o : Option Verdict). KeepsSteps o k r l2 k' r' l3 d e) c.in_default.is c.in-Ok-run_steps.ensures.keeps) in
-    before r.lines r'.lines l0 l3 c.take_rest.new.lines a e (g.D.Desk.state c.take_rest.new.desk) (λ x. Tells k r x k'.clauses) steps
-    (waits r'.lines l3 c.take_rest.new.lines e (g.D.Desk.state c.take_rest.new.desk) _ (apart_then r.lines l0 r'.lines l3 a e _ steps) c.in-Ok-take_rest.ensures.slot c.in-Ok-take_rest.ensures.ends)
+    let count = waits_twice old.cnf.lines old.lines c.take_head.new.lines c.take_count.new.lines _ _ _ _ _ old.apart c.in-Ok.ensures.slot c.in-Ok-take_count.ensures.slot c.in-Ok.ensures.leads c.in-Ok-take_count.ensures.leads in
+    let steps = kept_behind _ None old.kept new.kept old.cnf new.cnf old.lines c.take_count.new.lines new.lines (g.D.Desk.state c.args.desk.now) (g.D.Desk.state c.take_count.new.desk) (g.D.Desk.state c.run_steps.new.desk) c.in_default.is count c.in-Ok-run_steps.ensures.keeps in
+    before old.cnf.lines new.cnf.lines old.lines new.lines c.take_rest.new.lines (g.D.Desk.state c.args.desk.now) e (g.D.Desk.state c.take_rest.new.desk) (λ x. Tells old.kept old.cnf x new.kept.clauses) steps
+    (waits new.cnf.lines new.lines c.take_rest.new.lines e (g.D.Desk.state c.take_rest.new.desk) _ (apart_then old.cnf.lines old.lines new.cnf.lines new.lines (g.D.Desk.state c.args.desk.now) e _ steps) c.in-Ok-take_rest.ensures.slot c.in-Ok-take_rest.ensures.ends)

@@ -8,7 +8,7 @@ use Rattle.pb_check.specs.declared.verdict.Verdict.{Verdict}
 use Rattle.pb_check.specs.inner.Keeping.{KeepsLines}
 use Rattle.pb_check.proofs.KeepingRuns.{clauses_told, vars_told}
 use Rattle.pb_check.proofs.Loading.{loaded_within, loaded_narrow}
-use Rattle.pb_check.proofs.WholeRuns.{AreNew, IsLoaded, lines_given, lines_stopped, too_few, walk_given, walk_stopped, walk_unstarted}
+use Rattle.pb_check.proofs.WholeRuns.{IsLoaded, are_new, too_few, walk_stopped, walk_unstarted, whole_given, whole_stopped}
 use Rattle.pb_check.proofs.checking.check_texts.Goals as goal
 
 pub head-requires-clause-first : goal.head-requires-clause-first
@@ -23,22 +23,18 @@ returns-in-Err-clause-stopped g c =
     let proof = c.args.session.now.lines in
     let a = g.D.Desk.state c.args.desk.now in
     let b = g.D.Desk.state c.head.new.desk in
-    let new : AreNew cnf.lines.slot proof.slot cnf proof = record { cnf_new = c.requires.new.cnf_new; proof_new = c.requires.new.lines_new } in
     subst (StopsCheck c.args.problem.now cnf.lines.slot proof.slot a b) (sym c.of_cnf.ensures.value)
-    (walk_unstarted c.in-Err.fault c.args.problem.now cnf.lines.slot proof.slot cnf c.head.new.self proof a b new c.args.session.now.apart c.in-Err.ensures.slot c.in-Err.ensures.stopped)
+    (walk_unstarted c.in-Err.fault c.args.problem.now cnf.lines.slot proof.slot cnf c.head.new.self proof a b (are_new c.args.session.now c.requires.new) c.args.session.now.apart c.in-Err.ensures.slot c.in-Err.ensures.stopped)
 
 pub returns-then-head-originals-clause-stopped : goal.returns-then-head-originals-clause-stopped
 returns-then-head-originals-clause-stopped g c =
     let p = c.args.problem.now in
     let head = c.in-Ok.head in
-    let cnf = c.args.session.now.cnf in
-    let cnf' = c.head.new.self in
-    let proof = c.args.session.now.lines in
-    let a = g.D.Desk.state c.args.desk.now in
+    let s = c.args.session.now in
+    let cnf = c.head.new.self in
     let b = g.D.Desk.state c.head.new.desk in
-    let new : AreNew cnf.lines.slot proof.slot cnf proof = record { cnf_new = c.requires.new.cnf_new; proof_new = c.requires.new.lines_new } in
-    walk_stopped c.too_few_vars.result p head cnf.lines.slot proof.slot cnf cnf' cnf' proof proof a b b new c.args.session.now.apart c.in-Ok.ensures.slot c.in-Ok.ensures.head
-    (too_few c.too_few_vars.result p head cnf' proof b c.too_few_vars.ensures (λ e. c.args.session.now.apart (sym c.in-Ok.ensures.slot ∙ e)) (omega (arith, c.if-head-originals.true, c.originals.ensures)))
+    walk_stopped c.too_few_vars.result p head s.cnf.lines.slot s.lines.slot s.cnf cnf cnf s.lines s.lines (g.D.Desk.state c.args.desk.now) b b (are_new s c.requires.new) s.apart c.in-Ok.ensures.slot c.in-Ok.ensures.head
+    (too_few c.too_few_vars.result p head cnf s.lines b c.too_few_vars.ensures (λ e. s.apart (sym c.in-Ok.ensures.slot ∙ e)) (omega (arith, c.if-head-originals.true, c.originals.ensures)))
 
 pub check_over-requires-clause-within : goal.check_over-requires-clause-within
 check_over-requires-clause-within g c =
@@ -56,61 +52,29 @@ check_over-requires-clause-limits g c = ap (λ (r : Reader). r.limits) c.require
 
 pub returns-in-Ok-check_over-clause-verdict : goal.returns-in-Ok-check_over-clause-verdict
 returns-in-Ok-check_over-clause-verdict g c =
-    let p = c.args.problem.now in
-    let head = c.in-Ok.head in
-    let cnf = c.args.session.now.cnf in
-    let cnf' = c.head.new.self in
-    let cnf'' = c.check_over.new.session.cnf in
-    let proof = c.args.session.now.lines in
-    let proof' = c.check_over.new.session.lines in
-    let loaded = c.as_slice.result.now in
-    let original = c.originals-2.result in
-    let a = g.D.Desk.state c.args.desk.now in
-    let b = g.D.Desk.state c.head.new.desk in
-    let d = g.D.Desk.state c.check_over.new.desk in
-    let new : AreNew cnf.lines.slot proof.slot cnf proof = record { cnf_new = c.requires.new.cnf_new; proof_new = c.requires.new.lines_new } in
-    let is : IsLoaded p head cnf' original loaded = record { vars = c.in-Ok.ensures.vars; left = c.in-Ok.ensures.clauses; enough = omega (arith, c.if-head-originals.false, c.originals.ensures); original_is = c.originals-2.ensures; loaded_is = c.as_slice.ensures ∙ c.requires.loaded } in
-    walk_given p head cnf.lines.slot proof.slot cnf cnf' cnf'' proof proof' a b d (Ok c.in-Ok-check_over.verdict) new c.args.session.now.apart c.in-Ok.ensures.slot c.in-Ok.ensures.head
-    (lines_given p head cnf' cnf'' proof proof' original loaded b d (Ok c.in-Ok-check_over.verdict) is c.in-Ok-check_over.ensures.verdict)
+    let is : IsLoaded c.args.problem.now c.in-Ok.head c.head.new.self c.originals-2.result c.as_slice.result.now =
+    record { vars = c.in-Ok.ensures.vars; left = c.in-Ok.ensures.clauses; enough = omega (arith, c.if-head-originals.false, c.originals.ensures); original_is = c.originals-2.ensures; loaded_is = c.as_slice.ensures ∙ c.requires.loaded } in
+    whole_given c.args.problem.now c.in-Ok.head c.args.session.now c.check_over.new.session c.head.new.self c.originals-2.result c.as_slice.result.now (g.D.Desk.state c.args.desk.now) (g.D.Desk.state c.head.new.desk) (g.D.Desk.state c.check_over.new.desk) (Ok c.in-Ok-check_over.verdict)
+    c.requires.new c.args.session.now.apart c.in-Ok.ensures.slot c.in-Ok.ensures.head is c.in-Ok-check_over.ensures.verdict
 
 pub returns-in-Err-check_over-clause-stopped : goal.returns-in-Err-check_over-clause-stopped
 returns-in-Err-check_over-clause-stopped g c =
-    let p = c.args.problem.now in
-    let head = c.in-Ok.head in
-    let cnf = c.args.session.now.cnf in
-    let cnf' = c.head.new.self in
-    let cnf'' = c.check_over.new.session.cnf in
-    let proof = c.args.session.now.lines in
-    let proof' = c.check_over.new.session.lines in
-    let loaded = c.as_slice.result.now in
-    let original = c.originals-2.result in
-    let a = g.D.Desk.state c.args.desk.now in
-    let b = g.D.Desk.state c.head.new.desk in
-    let d = g.D.Desk.state c.check_over.new.desk in
-    let new : AreNew cnf.lines.slot proof.slot cnf proof = record { cnf_new = c.requires.new.cnf_new; proof_new = c.requires.new.lines_new } in
-    let is : IsLoaded p head cnf' original loaded = record { vars = c.in-Ok.ensures.vars; left = c.in-Ok.ensures.clauses; enough = omega (arith, c.if-head-originals.false, c.originals.ensures); original_is = c.originals-2.ensures; loaded_is = c.as_slice.ensures ∙ c.requires.loaded } in
-    walk_stopped c.in-Err-check_over.fault p head cnf.lines.slot proof.slot cnf cnf' cnf'' proof proof' a b d new c.args.session.now.apart c.in-Ok.ensures.slot c.in-Ok.ensures.head
-    (lines_stopped c.in-Err-check_over.fault p head cnf' cnf'' proof proof' original loaded b d is c.in-Err-check_over.ensures.stopped)
+    let is : IsLoaded c.args.problem.now c.in-Ok.head c.head.new.self c.originals-2.result c.as_slice.result.now =
+    record { vars = c.in-Ok.ensures.vars; left = c.in-Ok.ensures.clauses; enough = omega (arith, c.if-head-originals.false, c.originals.ensures); original_is = c.originals-2.ensures; loaded_is = c.as_slice.ensures ∙ c.requires.loaded } in
+    whole_stopped c.in-Err-check_over.fault c.args.problem.now c.in-Ok.head c.args.session.now c.check_over.new.session c.head.new.self c.originals-2.result c.as_slice.result.now (g.D.Desk.state c.args.desk.now) (g.D.Desk.state c.head.new.desk) (g.D.Desk.state c.check_over.new.desk)
+    c.requires.new c.args.session.now.apart c.in-Ok.ensures.slot c.in-Ok.ensures.head is c.in-Err-check_over.ensures.stopped
 
 pub returns-in-Ok-check_over-clause-vars : goal.returns-in-Ok-check_over-clause-vars
 returns-in-Ok-check_over-clause-vars g c =
-    let cnf = c.args.session.now.cnf in
-    let proof = c.args.session.now.lines in
-    let new : AreNew cnf.lines.slot proof.slot cnf proof = record { cnf_new = c.requires.new.cnf_new; proof_new = c.requires.new.lines_new } in
-    vars_told c.args.problem.now cnf.lines.slot proof.slot cnf c.head.new.self proof c.in-Ok.head (g.D.Desk.state c.args.desk.now) (g.D.Desk.state c.head.new.desk) new c.args.session.now.apart c.in-Ok.ensures.slot c.in-Ok.ensures.head
+    let s = c.args.session.now in
+    vars_told c.args.problem.now s.cnf.lines.slot s.lines.slot s.cnf c.head.new.self s.lines c.in-Ok.head (g.D.Desk.state c.args.desk.now) (g.D.Desk.state c.head.new.desk) (are_new s c.requires.new) s.apart c.in-Ok.ensures.slot c.in-Ok.ensures.head
 
 pub returns-in-Ok-check_over-clause-clauses : goal.returns-in-Ok-check_over-clause-clauses
 returns-in-Ok-check_over-clause-clauses g c = λ wanted accepted.
-    let cnf = c.args.session.now.cnf in
-    let cnf' = c.head.new.self in
-    let cnf'' = c.check_over.new.session.cnf in
-    let proof = c.args.session.now.lines in
-    let proof' = c.check_over.new.session.lines in
-    let k = c.args.session.now.kept in
-    let k' = c.check_over.new.session.kept in
-    let a = g.D.Desk.state c.args.desk.now in
+    let s = c.args.session.now in
+    let s' = c.check_over.new.session in
+    let cnf = c.head.new.self in
     let b = g.D.Desk.state c.head.new.desk in
     let d = g.D.Desk.state c.check_over.new.desk in
-    let new : AreNew cnf.lines.slot proof.slot cnf proof = record { cnf_new = c.requires.new.cnf_new; proof_new = c.requires.new.lines_new } in
-    clauses_told c.args.problem.now cnf.lines.slot proof.slot cnf cnf' cnf'' proof proof' c.in-Ok.head k k' a b d new c.args.session.now.apart c.in-Ok.ensures.slot c.in-Ok.ensures.vars c.in-Ok.ensures.clauses
-    wanted c.requires.new.nothing c.in-Ok.ensures.head (subst (λ (v : Verdict). KeepsLines v k cnf' proof k' cnf'' proof' b d) accepted c.in-Ok-check_over.ensures.keeps)
+    clauses_told c.args.problem.now s.cnf.lines.slot s.lines.slot s.cnf cnf s'.cnf s.lines s'.lines c.in-Ok.head s.kept s'.kept (g.D.Desk.state c.args.desk.now) b d (are_new s c.requires.new) s.apart c.in-Ok.ensures.slot c.in-Ok.ensures.vars c.in-Ok.ensures.clauses
+    wanted c.requires.new.nothing c.in-Ok.ensures.head (subst (λ (v : Verdict). KeepsLines v s.kept cnf s.lines s'.kept s'.cnf s'.lines b d) accepted c.in-Ok-check_over.ensures.keeps)

@@ -11,21 +11,12 @@ use Rattle.pb_check.proofs.NextLines.{Anywhere, LineComes, stops_weaker, next_is
 use Rattle.pb_check.proofs.stages.take_rest.Goals as goal
 
 pub returns-in-Ok-None-clause-ends : goal.returns-in-Ok-None-clause-ends
-returns-in-Ok-None-clause-ends g c =
-    let old = c.args.lines.now in
-    let new = c.next_step.new.lines in
-    let a = g.D.Desk.state c.args.desk.now in
-    let b = g.D.Desk.state c.next_step.new.desk in
-    rest_ends old new a b (next_is old new a b c.in-Ok-None.field-0-is c.in-Ok-None.ensures.next)
+returns-in-Ok-None-clause-ends g c = rest_ends c.args.lines.now c.next_step.new.lines _ _ (next_is c.args.lines.now c.next_step.new.lines _ _ c.in-Ok-None.field-0-is c.in-Ok-None.ensures.next)
 
 pub returns-in-Ok-Some-clause-stopped : goal.returns-in-Ok-Some-clause-stopped
 returns-in-Ok-Some-clause-stopped g c =
-    let old = c.args.lines.now in
-    let new = c.next_step.new.lines in
-    let a = g.D.Desk.state c.args.desk.now in
-    let b = g.D.Desk.state c.next_step.new.desk in
     let said = subst (λ (o : Option Step). IfSome o (λ s. says_nothing s ≡ false)) c.in-Ok-Some.field-0-is c.in-Ok-Some.ensures.said in
-    rest_stops c.misplaced.result c.in-Ok-Some.field-0-0 old new a b c.misplaced.ensures said (next_is old new a b c.in-Ok-Some.field-0-is c.in-Ok-Some.ensures.next)
+    rest_stops c.misplaced.result c.in-Ok-Some.field-0-0 c.args.lines.now c.next_step.new.lines _ _ c.misplaced.ensures said (next_is c.args.lines.now c.next_step.new.lines _ _ c.in-Ok-Some.field-0-is c.in-Ok-Some.ensures.next)
 
 pub returns-clause-stopped : goal.returns-clause-stopped
 returns-clause-stopped g c =

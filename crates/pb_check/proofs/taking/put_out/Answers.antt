@@ -1,12 +1,10 @@
-use Rattle.std.proofs.Common.{List, Option, Ok, ap, sym, subst}
+use Rattle.std.proofs.Common.{List, Option, Ok, ap, subst}
 use Rattle.pb_base.specs.declared.literal.Lit.{Lit}
 use Rattle.pb_steps.specs.declared.step.Step.TheVariants.{Out}
 use Rattle.pb_check.specs.inner.Judging.{IsJudged}
 use Rattle.pb_check.proofs.Keeping.{by_taken, keeps_next}
 use Rattle.pb_check.proofs.KeepingRuns.{judged_not_last}
-use Rattle.pb_check.proofs.Takes.{next_stops, out_asks, out_given}
-use Rattle.pb_check.specs.declared.verdict.CheckFault.{CheckFault}
-use Rattle.pb_check.specs.inner.Calls.{StopsOut}
+use Rattle.pb_check.proofs.Takes.{clause_stops, out_asks, out_given}
 use Rattle.pb_check.specs.Turns.{at_out}
 use Rattle.pb_check.proofs.taking.put_out.Goals as goal
 
@@ -17,20 +15,10 @@ returns-in-Ok-keep-clause-gives g c =
 
 pub returns-in-Ok-keep-clause-keeps : goal.returns-in-Ok-keep-clause-keeps
 returns-in-Ok-keep-clause-keeps g c =
-    let r = c.args.cnf.now in
-    let new = c.next_clause.new.self in
-    let a = g.D.Desk.state c.args.desk.now in
-    let b = g.D.Desk.state c.next_clause.new.desk in
-    by_taken c.in-Ok-judge.taken c.args.kept.now c.keep.new.self r new a b
-    (judged_not_last c.args.db.now c.judge.new.db (Out c.args.id) _ c.in-Ok-judge.taken c.in-Ok-judge.ensures)
-    (keeps_next c.in-Ok.next c.args.kept.now c.keep.new.self r new a b (c.in-Ok.ensures.next c.requires.fine) c.in-Ok.ensures.count (λ is. c.in-Ok.ensures.none (ap Ok is)) c.in-Ok.ensures.vars c.in-Ok-keep.ensures)
+    by_taken c.in-Ok-judge.taken c.args.kept.now c.keep.new.self c.args.cnf.now c.next_clause.new.self _ _ (judged_not_last c.args.db.now c.judge.new.db (Out c.args.id) _ c.in-Ok-judge.taken c.in-Ok-judge.ensures)
+    (keeps_next c.in-Ok.next c.args.kept.now c.keep.new.self c.args.cnf.now c.next_clause.new.self (g.D.Desk.state c.args.desk.now) (g.D.Desk.state c.next_clause.new.desk) (c.in-Ok.ensures.next c.requires.fine) c.in-Ok.ensures.count (λ is. c.in-Ok.ensures.none (ap Ok is)) c.in-Ok.ensures.vars c.in-Ok-keep.ensures)
 
 pub returns-in-Err-clause-stopped : goal.returns-in-Err-clause-stopped
 returns-in-Err-clause-stopped g c =
-    let r = c.args.cnf.now in
-    let new = c.next_clause.new.self in
-    let db = c.args.db.now in
-    let a = g.D.Desk.state c.args.desk.now in
-    let b = g.D.Desk.state c.next_clause.new.desk in
-    subst (λ (f : CheckFault). StopsOut f c.args.id r db new a b) (sym c.of_cnf.ensures.value)
-    (next_stops c.in-Err.fault r new (λ x cs next. at_out db c.args.id cs next) a b (out_asks r db c.args.id c.requires.spelled) (c.in-Err.ensures.stopped c.requires.fine))
+    clause_stops c.of_cnf.result c.in-Err.fault c.args.cnf.now c.next_clause.new.self (λ x cs next. at_out c.args.db.now c.args.id cs next) (g.D.Desk.state c.args.desk.now) (g.D.Desk.state c.next_clause.new.desk) c.of_cnf.ensures.value
+    (out_asks c.args.cnf.now c.args.db.now c.args.id c.requires.spelled) (c.in-Err.ensures.stopped c.requires.fine)

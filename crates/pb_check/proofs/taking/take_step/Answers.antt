@@ -1,19 +1,17 @@
-use Rattle.std.proofs.Common.{◌≡◌, None, Err, refl, sym, subst}
-use Rattle.pb_base.specs.declared.expected.Expected.TheVariants.{StepWord}
+use Rattle.std.proofs.Common.{◌≡◌, None, refl, sym, subst}
 use Rattle.pb_desk.proofs.ReadLemmas.{reads_begin}
 use Rattle.pb_steps.specs.declared.step.Step.{Step}
+use Rattle.pb_steps.specs.declared.step.Step.TheVariants.{Head, Out, End}
 use Rattle.pb_check.specs.declared.taking.Taken.TheVariants.{On}
 use Rattle.pb_check.specs.Turns.Stage.{at_steps}
 use Rattle.pb_check.specs.Turns.{Task, at_out, at_end, turn_by}
-use Rattle.pb_check.specs.Faults.{misplaced_line}
-use Rattle.pb_check.specs.inner.Phases.{StopsOne, clauses_of, OnLine, TurnGives}
-use Rattle.pb_check.proofs.StepRuns.{StepComes}
-use Rattle.pb_check.proofs.NextLines.{stops_weaker}
+use Rattle.pb_check.specs.inner.Phases.{clauses_of, TurnGives}
+use Rattle.pb_check.proofs.StepRuns.{clause_unread, misplaced_step}
 use Rattle.pb_check.specs.declared.kept.CollectedClauses.{CollectedClauses}
 use Rattle.pb_check.specs.inner.Keeping.{KeepsNext}
 use Rattle.pb_check.proofs.Keeping.{rule_keeps}
 use Rattle.pb_check.proofs.KeepingRuns.{judged_not_last}
-use Rattle.pb_check.proofs.Takes.{NextComes, rule_given, misplaced_stops, at_err, at_ok}
+use Rattle.pb_check.proofs.Takes.{rule_given, at_ok}
 use Rattle.pb_check.proofs.taking.take_step.Goals as goal
 
 pub returns-in-Blank-clause-gives : goal.returns-in-Blank-clause-gives
@@ -25,59 +23,20 @@ returns-in-Blank-clause-gives g c =
 
 pub returns-in-Head-clause-stopped : goal.returns-in-Head-clause-stopped
 returns-in-Head-clause-stopped g c =
-    let r = c.args.cnf.now in
-    let n = c.args.lines.now.number in
-    let line = c.args.lines.now.line in
-    let a = g.D.Desk.state c.args.desk.now in
-    misplaced_stops (OnLine r) c.misplaced.result n line StepWord r.lines r.lines a a (StepComes r c.args.db.now c.args.lines.now c.args.step.now) c.misplaced.ensures
-    (reads_begin r.lines.slot r.lines.ahead a (λ text rest. (x : OnLine r) → StepComes r c.args.db.now c.args.lines.now c.args.step.now x text (Err (misplaced_line n line StepWord)))
-    (λ text x. subst (λ (s : Step). StepComes r c.args.db.now c.args.lines.now s x text (Err (misplaced_line n line StepWord))) (sym c.in-Head.is) refl))
+    misplaced_step c.args.step.now Head c.misplaced.result c.args.cnf.now c.args.db.now c.args.lines.now (g.D.Desk.state c.args.desk.now) c.in-Head.is c.misplaced.ensures (λ x text. refl)
 
 pub returns-in-Loaded-clause-stopped : goal.returns-in-Loaded-clause-stopped
 returns-in-Loaded-clause-stopped g c =
-    let r = c.args.cnf.now in
-    let n = c.args.lines.now.number in
-    let line = c.args.lines.now.line in
-    let a = g.D.Desk.state c.args.desk.now in
-    misplaced_stops (OnLine r) c.misplaced-in-Loaded.result n line StepWord r.lines r.lines a a (StepComes r c.args.db.now c.args.lines.now c.args.step.now) c.misplaced-in-Loaded.ensures
-    (reads_begin r.lines.slot r.lines.ahead a (λ text rest. (x : OnLine r) → StepComes r c.args.db.now c.args.lines.now c.args.step.now x text (Err (misplaced_line n line StepWord)))
-    (λ text x. subst (λ (s : Step). StepComes r c.args.db.now c.args.lines.now s x text (Err (misplaced_line n line StepWord))) (sym c.in-Loaded.is) refl))
+    misplaced_step c.args.step.now _ c.misplaced-in-Loaded.result c.args.cnf.now c.args.db.now c.args.lines.now (g.D.Desk.state c.args.desk.now) c.in-Loaded.is c.misplaced-in-Loaded.ensures (λ x text. refl)
 
 pub returns-in-Out-clause-stopped : goal.returns-in-Out-clause-stopped
 returns-in-Out-clause-stopped g c =
-    let r = c.args.cnf.now in
-    let new = c.put_out.new.cnf in
-    let n = c.args.lines.now.number in
-    let line = c.args.lines.now.line in
-    let a = g.D.Desk.state c.args.desk.now in
-    let b = g.D.Desk.state c.put_out.new.desk in
-    let id = c.in-Out.id in
-    at_err c.put_out.result
-    (λ f. StopsOne (OnLine r) f r.lines new.lines a b (NextComes r (λ x cs next. at_out c.args.db.now id cs next)))
-    (λ f. StopsOne (OnLine r) f r.lines new.lines a b (StepComes r c.args.db.now c.args.lines.now c.args.step.now))
-    (λ f. stops_weaker (OnLine r) (OnLine r) f r.lines new.lines a b (NextComes r (λ x cs next. at_out c.args.db.now id cs next)) (StepComes r c.args.db.now c.args.lines.now c.args.step.now)
-    (λ x. (
-      record { task = x.task; number = n; proof = x.proof; text = x.text; same_vars = x.same_vars },
-      λ text answer w. subst (λ (s : Step). StepComes r c.args.db.now c.args.lines.now s x text answer) (sym c.in-Out.is) w,
-    )))
+    clause_unread c.put_out.result c.args.step.now (Out c.in-Out.id) c.args.cnf.now c.put_out.new.cnf c.args.db.now c.args.lines.now (g.D.Desk.state c.args.desk.now) (g.D.Desk.state c.put_out.new.desk) (λ x cs next. at_out c.args.db.now c.in-Out.id cs next) c.in-Out.is (λ x text answer w. w)
     c.put_out.ensures.stopped
 
 pub returns-in-End-clause-stopped : goal.returns-in-End-clause-stopped
 returns-in-End-clause-stopped g c =
-    let r = c.args.cnf.now in
-    let new = c.end_steps.new.cnf in
-    let n = c.args.lines.now.number in
-    let line = c.args.lines.now.line in
-    let a = g.D.Desk.state c.args.desk.now in
-    let b = g.D.Desk.state c.end_steps.new.desk in
-    at_err c.end_steps.result
-    (λ f. StopsOne (OnLine r) f r.lines new.lines a b (NextComes r (λ x cs next. at_end x.number cs next)))
-    (λ f. StopsOne (OnLine r) f r.lines new.lines a b (StepComes r c.args.db.now c.args.lines.now c.args.step.now))
-    (λ f. stops_weaker (OnLine r) (OnLine r) f r.lines new.lines a b (NextComes r (λ x cs next. at_end x.number cs next)) (StepComes r c.args.db.now c.args.lines.now c.args.step.now)
-    (λ x. (
-      record { task = x.task; number = n; proof = x.proof; text = x.text; same_vars = x.same_vars },
-      λ text answer w. subst (λ (s : Step). StepComes r c.args.db.now c.args.lines.now s x text answer) (sym c.in-End.is) w,
-    )))
+    clause_unread c.end_steps.result c.args.step.now End c.args.cnf.now c.end_steps.new.cnf c.args.db.now c.args.lines.now (g.D.Desk.state c.args.desk.now) (g.D.Desk.state c.end_steps.new.desk) (λ x cs next. at_end x.number cs next) c.in-End.is (λ x text answer w. w)
     c.end_steps.ensures.stopped
 
 pub returns-in-Ok-clause-gives : goal.returns-in-Ok-clause-gives
@@ -94,11 +53,9 @@ returns-in-Blank-clause-keeps g c = rule_keeps On c.args.kept.now c.args.cnf.now
 
 pub returns-in-End-clause-keeps : goal.returns-in-End-clause-keeps
 returns-in-End-clause-keeps g c =
-    let r = c.args.cnf.now in
-    let new = c.end_steps.new.cnf in
-    let a = g.D.Desk.state c.args.desk.now in
-    let b = g.D.Desk.state c.end_steps.new.desk in
-    at_ok c.end_steps.result (λ got. (k : CollectedClauses) → KeepsNext got k r k new a b) (λ got. KeepsNext got c.args.kept.now r c.args.kept.now new a b) (λ got keeps. keeps c.args.kept.now) c.end_steps.ensures.keeps
+    let new = c.end_steps.new in
+    let b = g.D.Desk.state new.desk in
+    at_ok c.end_steps.result (λ got. (k : CollectedClauses) → KeepsNext got k c.args.cnf.now k new.cnf (g.D.Desk.state c.args.desk.now) b) (λ got. KeepsNext got c.args.kept.now c.args.cnf.now c.args.kept.now new.cnf (g.D.Desk.state c.args.desk.now) b) (λ got keeps. keeps c.args.kept.now) c.end_steps.ensures.keeps
 
 pub returns-in-Ok-clause-keeps : goal.returns-in-Ok-clause-keeps
 returns-in-Ok-clause-keeps g c =
