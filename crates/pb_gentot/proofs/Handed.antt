@@ -7,19 +7,14 @@ use Rattle.std.proofs.lemmas.List.Folds.{flat_map-map}
 use Rattle.std.proofs.lemmas.List.FromFn.{length-map-range_with_len}
 use Rattle.pb_base.specs.declared.literal.Term.{Term}
 use Rattle.pb_norm.specs.BoundedSums.{vars_of}
-use Rattle.pb_norm.specs.Constraints.{Weighted, weights}
-use Rattle.pb_steps.specs.declared.step.Step.{Step}
-use Rattle.pb_derive.specs.Claims.{claim_steps}
-use Rattle.pb_derive.specs.Reifications.{reification_steps}
-use Rattle.pb_derive.specs.Justifications.{Justification, by_justification}
-use Rattle.pb_family.specs.Derivations.{pieces}
+use Rattle.pb_norm.specs.Constraints.{weights}
+use Rattle.pb_derive.specs.Justifications.{Justification}
 use Rattle.pb_family.proofs.SameSteps.{HaveSameSteps, same_append}
-use Rattle.pb_family.proofs.Sequence.{reification_pieces}
 use Rattle.pb_tree.specs.Pairs.{Pair, pair_of}
 use Rattle.pb_tree.specs.Places.{place_of}
 use Rattle.pb_tree.specs.Scheme.{values, fresh_of}
 use Rattle.pb_tree.specs.Tree.{Tree, node, tree_of}
-use Rattle.pb_tree.specs.TreeSteps.{leaves, reifications_from, output_ids, pair_justification, pair_justifications, root_justification}
+use Rattle.pb_tree.specs.TreeSteps.{leaves, output_ids, pair_justification, pair_justifications, root_justification}
 use Rattle.pb_tree.proofs.Lists.{Contains-range_cases}
 use Rattle.pb_tree.proofs.PairLists.{map_same, map-append, map-map, rows_same}
 use Rattle.pb_tree.proofs.TreeHanded.{bare, bare_same}
@@ -33,7 +28,7 @@ use Rattle.pb_gentot.specs.declared.node_ids.Source.TheVariants.{Leaf, Fresh}
 use Rattle.pb_gentot.specs.laws.ByPairs.{value_from}
 use Rattle.pb_gentot.specs.laws.GeneralizedLaws.{values_within}
 use Rattle.pb_gentot.specs.inner.Ids.{ids_at, HasIds}
-use Rattle.pb_gentot.specs.inner.Sources.{output_reification, ids_of, second_of, one_at, ones_given, both_at, row_given, pairs_given, node_given, root_given, part_justifications, all_justifications}
+use Rattle.pb_gentot.specs.inner.Sources.{ids_of, second_of, one_at, ones_given, both_at, row_given, pairs_given, node_given, root_given, part_justifications, all_justifications}
 use Rattle.pb_gentot.proofs.Emitting.{rising_values}
 use Rattle.pb_gentot.proofs.RisingLists.{place_at}
 use Rattle.pb_gentot.proofs.Parts.{AreLeavesPositive}
@@ -56,28 +51,7 @@ by_places f us = ap (map f) (values_from us us 0 (from_first us)) ∙ map-map f 
 rows_by_places : {X : Type 0} (f : ℕ → List X) (us : List ℕ) → flat_map f us ≡ flat_map (λ i. f (get_or us i 0)) (range_with_len 0 (length us))
 rows_by_places f us = ap (flat_map f) (values_from us us 0 (from_first us)) ∙ flat_map-map f (λ i. get_or us i 0) (range_with_len 0 (length us))
 
--- ---- reifications
-
-outputs_from : (first : ℕ) (ts : List Weighted) (us all : List ℕ) (var a : ℕ) → var ≡ first + a → ((k : ℕ) → get_or us k 0 ≡ get_or all (a + k) 0)
-    → reifications_from var ts us ≡ map (output_reification first ts all) (range_with_len a (length us))
-outputs_from first ts [] all var a is same = refl
-outputs_from first ts (u ∷ us) all var a is same =
-    let here : u ≡ get_or all a 0 = same 0 ∙ ap (λ (n : ℕ). get_or all n 0) (let e : a + 0 ≡ a = omega arith in e) in
-    let rest = outputs_from first ts us all (var + 1) (a + 1) (let e : var + 1 ≡ first + (a + 1) = omega (arith, is) in e)
-    (λ k. same (suc k) ∙ ap (λ (n : ℕ). get_or all n 0) (let e : a + suc k ≡ a + 1 + k = omega arith in e)) in
-    λ i. record { var = is i; sum = ts; least = here i } ∷ rest i
-
-abbrev pub output_piece : ℕ → List Weighted → List ℕ → ℕ → ℕ → List Step
-output_piece first ts us id k = reification_steps id (output_reification first ts us k ∷ [])
-
-pub output_pieces : (first : ℕ) (ts : List Weighted) (us : List ℕ) (next : ℕ) → reification_steps next (reifications_from first ts us) ≡ pieces (output_piece first ts us) 2 next 0 (length us)
-output_pieces first ts us next =
-    ap (reification_steps next) (outputs_from first ts us us first 0 (let e : first ≡ first + 0 = omega arith in e) (from_first us)) ∙ reification_pieces (output_reification first ts us) next 0 (length us)
-
 -- ---- clauses by places
-
-abbrev pub claim_piece : (ℕ → Justification) → ℕ → ℕ → List Step
-claim_piece f id k = claim_steps id (by_justification (f k) ∷ [])
 
 -- fewer outputs have their ids too
 pub has_fewer : (source : Source) (n k : ℕ) → k ≤ n → HasIds source n → HasIds source k

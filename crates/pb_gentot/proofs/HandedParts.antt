@@ -5,7 +5,7 @@ use Rattle.pb_norm.specs.Constraints.{AllPositive, weights}
 use Rattle.pb_family.proofs.SameSteps.{HaveSameSteps}
 use Rattle.pb_tree.specs.Places.{place_of}
 use Rattle.pb_tree.specs.Scheme.{values, fresh_of}
-use Rattle.pb_tree.specs.Tree.{Tree, tree_of}
+use Rattle.pb_tree.specs.Tree.{tree_of}
 use Rattle.pb_tree.specs.TreeSteps.{output_ids, pair_justifications}
 use Rattle.pb_tree.specs.inner.Walks.{AreParts, fresh_over}
 use Rattle.pb_tree.proofs.HandingLaws.{same_then}

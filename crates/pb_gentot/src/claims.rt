@@ -1,6 +1,6 @@
 //! The clauses of a node, by the constraints that they follow from.
 ghost use Rattle.std.specs.Prelude.{◌≡◌, ◌<◌, ◌+◌, ◌^◌, ◌++◌, ◌∷◌, [], All, Contains, length, slice_index, IfOk};
-ghost use Rattle.pb_family.specs.inner.HandedJustifications.{HandsJustifications};
+ghost use Rattle.pb_family.specs.HandedJustifications.{HandsJustifications};
 ghost use Rattle.pb_gentot.specs.inner.Ids.{HasIds, ids_at};
 ghost use Rattle.pb_gentot.specs.inner.Sources.{second_of, one_at, ones_given, sum_beside, both_beside, row_beside, pairs_beside, node_beside};
 

@@ -1,22 +1,22 @@
 //! The derivation of a generalized totalizer's clauses.
-ghost use Rattle.std.specs.Prelude.{◌≡◌, ◌≤◌, ◌<◌, ◌+◌, ◌*◌, ◌^◌, ◌++◌, ◌∷◌, [], Contains, length, IfOk};
-ghost use Rattle.pb_norm.specs.BoundedSums.{sum_within};
-ghost use Rattle.pb_norm.specs.Constraints.{weight, weights};
+ghost use Rattle.std.specs.Prelude.{◌≡◌, ◌≤◌, ◌<◌, ◌+◌, ◌^◌, ◌++◌, ◌∷◌, [], Contains, IfOk};
+ghost use Rattle.pb_norm.specs.BoundedSums.{IsProper, sum_within};
+ghost use Rattle.pb_norm.specs.Constraints.{weights};
 ghost use Rattle.pb_family.specs.StepSinks.{HandsSteps};
-ghost use Rattle.pb_family.specs.inner.HandedJustifications.{HandsJustifications};
+ghost use Rattle.pb_family.specs.HandedJustifications.{HandsJustifications};
 ghost use Rattle.pb_tree.specs.Tree.{tree_of};
-ghost use Rattle.pb_tree.specs.Scheme.{values, fresh_of, clause_count_of};
+ghost use Rattle.pb_tree.specs.Scheme.{clause_count_of};
 ghost use Rattle.pb_gentot.specs.Generalized.{generalized};
 ghost use Rattle.pb_gentot.specs.GeneralizedSteps.{generalized_steps};
-ghost use Rattle.pb_gentot.specs.inner.Sources.{ids_of, root_given, part_justifications, all_justifications};
+ghost use Rattle.pb_gentot.specs.inner.Sources.{ids_of, root_given};
 
 use crate::claims::push_first;
 use crate::handing::derive_nodes;
 use crate::node_ids::Handed;
 use crate::outputs::place_in;
-use crate::reifications::derive_reifications;
 use crate::whole::Whole;
-use pb_family::{SinkFault, StepSink, derive_claim, derive_deletions};
+use pb_family::{SinkFault, StepSink, derive_claim};
+use pb_tree::{TreeClaims, derive_along};
 use std::alloc::{AllocError, Global};
 
 /// The ids of the constraints that the root's clause follows from.
@@ -47,21 +47,29 @@ fn derive_root<T: StepSink>(
     derive_claim(alloc, ids.as_slice(), &[], sink)
 }
 
-/// The clauses of a generalized totalizer, with that of the root.
-fn derive_clauses<T: StepSink>(
-    alloc: Global,
-    whole: &Whole,
-    id: u64,
+/// The clauses of a generalized totalizer, with that of the root, which follows from the sum's constraint with the id `own`.
+#[derive(Clone, Copy)]
+struct Bounded<'a> {
+    whole: &'a Whole<'a>,
     own: u64,
-    sink: &mut T,
-) -> Result<(), SinkFault>
-    requires root { Contains (values (generalized whole.now.bound) (tree_of (weights whole.now.terms.now))) (whole.now.bound + 1) }
-    requires ids { id + 2 * fresh_of (generalized whole.now.bound) (tree_of (weights whole.now.terms.now)) < 2 ^ 62 }
-    requires room { (T.state sink.old).next + length (part_justifications whole.now.bound whole.now.terms.now id) + 1 < 2 ^ 62 }
-    ensures { HandsJustifications (all_justifications whole.now.bound whole.now.terms.now id own) result (T.state sink.old) (T.state sink.new) }
-{
-    let root = derive_nodes(alloc, whole, id, sink)?;
-    derive_root(alloc, &root, whole.bound + 1, own, sink)
+    ghost proper: { IsProper (sum_within whole.now.terms.now whole.now.bound) },
+}
+
+impl<'a> TreeClaims<Whole<'a>> for Bounded<'a> {
+    ghost use Rattle.pb_gentot.specs.inner.Sources.{all_justifications};
+
+    ghost sum = { λ d. d.whole.now };
+
+    ghost given = { λ d id. all_justifications d.whole.now.bound d.whole.now.terms.now id d.own };
+
+    fn sum(&self) -> &Whole<'a> {
+        self.whole
+    }
+
+    fn claim<T: StepSink>(&self, alloc: Global, id: u64, sink: &mut T) -> Result<(), SinkFault> {
+        let root = derive_nodes(alloc, self.whole, id, sink)?;
+        derive_root(alloc, &root, self.whole.bound + 1, self.own, sink)
+    }
 }
 
 /// Hands over the whole derivation, where `id` is the constraint's.
@@ -71,13 +79,10 @@ pub fn derive_weighted<T: StepSink>(
     id: u64,
     sink: &mut T,
 ) -> Result<(), SinkFault>
-    requires root { Contains (values (generalized whole.now.bound) (tree_of (weights whole.now.terms.now))) (whole.now.bound + 1) }
+    requires proper { IsProper (sum_within whole.now.terms.now whole.now.bound) }
     requires modest { clause_count_of (generalized whole.now.bound) (tree_of (weights whole.now.terms.now)) < 2 ^ 60 }
     requires few { (T.state sink.old).next ≤ 2 ^ 61 }
     ensures { HandsSteps (generalized_steps (sum_within whole.now.terms.now whole.now.bound) whole.now.first id (T.state sink.old).next) result (T.state sink.old) (T.state sink.new) }
 {
-    let base = sink.next_id();
-    let fresh = derive_reifications(alloc, whole, sink)?;
-    derive_clauses(alloc, whole, base, id, sink)?;
-    derive_deletions(alloc, base, 2, fresh, sink)
+    derive_along(alloc, &Bounded { whole, own: id }, sink)
 }

@@ -1,6 +1,6 @@
 //! The clauses of a generalized totalizer's derivation, part by part.
 ghost use Rattle.std.specs.Prelude.{◌≡◌, ◌≤◌, ◌<◌, ◌+◌, ◌*◌, ◌^◌, All, length, IfOk};
-ghost use Rattle.pb_family.specs.inner.HandedJustifications.{HandsJustifications};
+ghost use Rattle.pb_family.specs.HandedJustifications.{HandsJustifications};
 ghost use Rattle.pb_tree.specs.inner.Walks.{fresh_over};
 ghost use Rattle.pb_gentot.specs.Generalized.{generalized, ascending, sums};
 ghost use Rattle.pb_gentot.specs.inner.Sources.{IsHanded, part_justifications};
@@ -52,7 +52,7 @@ struct Claims<'a> {
 impl<'a, T: StepSink> Walk<T> for Claims<'a> {
     ghost use Rattle.std.specs.Prelude.{◌<◌, ◌+◌, ◌*◌, ◌^◌};
     ghost use Rattle.pb_derive.specs.Justifications.{Justification};
-    ghost use Rattle.pb_family.specs.inner.HandedJustifications.{HandsJustifications};
+    ghost use Rattle.pb_family.specs.HandedJustifications.{HandsJustifications};
     ghost use Rattle.pb_family.proofs.FlatPieces.{justifications_then};
     ghost use Rattle.pb_tree.specs.TreeSteps.{pair_justifications};
     ghost use Rattle.pb_tree.specs.inner.Walks.{fresh_over};

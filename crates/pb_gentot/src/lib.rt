@@ -14,7 +14,6 @@ mod node;
 mod node_ids;
 mod outputs;
 mod ranks;
-mod reifications;
 mod seen;
 mod sets;
 mod table_clauses;

@@ -1,21 +1,20 @@
 //! The derivation of the clauses of a table of bounds.
-ghost use Rattle.std.specs.Prelude.{◌≡◌, ◌≤◌, ◌<◌, ◌+◌, ◌*◌, ◌-◌, ◌^◌, [], ◌∷◌, length, map};
+ghost use Rattle.std.specs.Prelude.{◌≤◌, ◌<◌, ◌+◌, ◌*◌, ◌^◌, [], ◌∷◌, length, map};
 ghost use Rattle.std.specs.List.{range_with_len};
 ghost use Rattle.pb_norm.specs.Constraints.{AllPositive, weight, weights};
 ghost use Rattle.pb_family.specs.StepSinks.{HandsSteps};
-ghost use Rattle.pb_family.specs.inner.HandedJustifications.{HandsJustifications};
+ghost use Rattle.pb_family.specs.HandedJustifications.{HandsJustifications};
 ghost use Rattle.pb_tree.specs.Tree.{tree_of};
 ghost use Rattle.pb_tree.specs.Scheme.{values, fresh_of, clause_count_of};
 ghost use Rattle.pb_gentot.specs.Generalized.{generalized};
-ghost use Rattle.pb_gentot.specs.inner.KeptTables.{justifications_by, rise_at, rises_of, steps_by};
-ghost use Rattle.pb_gentot.specs.inner.Sources.{part_justifications};
+ghost use Rattle.pb_gentot.specs.inner.KeptTables.{rise_at, rises_of, steps_by};
 
 use crate::handing::derive_nodes;
 use crate::node_ids::{Handed, Source};
-use crate::reifications::derive_reifications;
 use crate::whole::Whole;
 use pb_base::Term;
-use pb_family::{SinkFault, StepSink, derive_claim, derive_deletions};
+use pb_family::{SinkFault, StepSink, derive_claim};
+use pb_tree::{TreeClaims, derive_along};
 use std::alloc::Global;
 
 /// That what reaches the value behind a place reaches the one there.
@@ -56,7 +55,7 @@ fn derive_neighbours<T: StepSink>(
     root: &Handed,
     sink: &mut T,
 ) -> Result<(), SinkFault>
-    requires { (T.state sink.old).next + length root.now.values.items < 2 ^ 62 }
+    requires { (T.state sink.old).next + length (rises_of root.now.source (length root.now.values.items)) < 2 ^ 62 }
     ensures { HandsJustifications (rises_of root.now.source (length root.now.values.items)) result (T.state sink.old) (T.state sink.new) }
 {
     match root.source {
@@ -68,19 +67,27 @@ fn derive_neighbours<T: StepSink>(
     }
 }
 
-/// The clauses of some terms, with those between neighbours, where the variables' constraints have the ids from `id` on.
-fn derive_whole_table<T: StepSink>(
-    alloc: Global,
-    whole: &Whole,
-    id: u64,
-    sink: &mut T,
-) -> Result<(), SinkFault>
-    requires ids { id + 2 * fresh_of (generalized whole.now.bound) (tree_of (weights whole.now.terms.now)) < 2 ^ 62 }
-    requires few { let t = whole.now in (T.state sink.old).next + length (part_justifications t.bound t.terms.now id) + length (values (generalized t.bound) (tree_of (weights t.terms.now))) < 2 ^ 62 }
-    ensures { HandsJustifications (justifications_by whole.now.bound whole.now.terms.now 0 id) result (T.state sink.old) (T.state sink.new) }
-{
-    let root = derive_nodes(alloc, whole, id, sink)?;
-    derive_neighbours(alloc, &root, sink)
+/// The clauses of some terms, with those between neighbours.
+#[derive(Clone, Copy)]
+struct Rows<'a> {
+    whole: &'a Whole<'a>,
+}
+
+impl<'a> TreeClaims<Whole<'a>> for Rows<'a> {
+    ghost use Rattle.pb_gentot.specs.inner.KeptTables.{justifications_by};
+
+    ghost sum = { λ d. d.whole.now };
+
+    ghost given = { λ d id. justifications_by d.whole.now.bound d.whole.now.terms.now 0 id };
+
+    fn sum(&self) -> &Whole<'a> {
+        self.whole
+    }
+
+    fn claim<T: StepSink>(&self, alloc: Global, id: u64, sink: &mut T) -> Result<(), SinkFault> {
+        let root = derive_nodes(alloc, self.whole, id, sink)?;
+        derive_neighbours(alloc, &root, sink)
+    }
 }
 
 /// Hands over the whole derivation.
@@ -108,8 +115,5 @@ pub fn derive_table<T: StepSink>(
         bound,
         first,
     };
-    let base = sink.next_id();
-    let fresh = derive_reifications(alloc, &whole, sink)?;
-    derive_whole_table(alloc, &whole, base, sink)?;
-    derive_deletions(alloc, base, 2, fresh, sink)
+    derive_along(alloc, &Rows { whole: &whole }, sink)
 }

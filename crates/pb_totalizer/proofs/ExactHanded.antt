@@ -1,24 +1,18 @@
 -- The steps of an exact sum's derivation as the code has their parts.
-use Rattle.std.proofs.Common.{◌≡◌, ◌+◌, ◌-◌, ◌*◌, ◌++◌, ℕ, Bool, true, false, cond, List, [], ◌∷◌, length, map, min, refl, sym, ap, ◌∙◌, subst, arith, length-append}
+use Rattle.std.proofs.Common.{◌≡◌, ◌+◌, ◌-◌, ◌*◌, ◌++◌, ℕ, Bool, true, false, cond, List, [], ◌∷◌, length, map, refl, sym, ap, ◌∙◌, subst, arith, length-append}
 use Rattle.std.specs.Prelude.{nat_lt}
 use Rattle.std.specs.List.{range_with_len}
-use Rattle.std.proofs.lemmas.List.{length-map}
 use Rattle.pb_base.specs.declared.literal.Term.{Term}
 use Rattle.pb_norm.specs.BoundedSums.{vars_of, sum_within}
 use Rattle.pb_norm.specs.Constraints.{weights}
-use Rattle.pb_steps.specs.declared.step.Step.{Step}
-use Rattle.pb_steps.specs.declared.step.Step.TheVariants.{Out}
-use Rattle.pb_derive.specs.Claims.{claim_steps}
-use Rattle.pb_derive.specs.Justifications.{Justification, by_justification}
-use Rattle.pb_family.specs.Derivations.{pieces}
+use Rattle.pb_derive.specs.Justifications.{Justification}
 use Rattle.pb_family.proofs.SameSteps.{HaveSameSteps, same_append}
-use Rattle.pb_family.proofs.Sequence.{justification_pieces}
 use Rattle.pb_tree.specs.Pairs.{Pair, pair_of}
 use Rattle.pb_tree.specs.Scheme.{fresh_of}
 use Rattle.pb_tree.specs.Tree.{Tree, node, tree_of}
 use Rattle.pb_tree.specs.TreeSteps.{leaves, output_ids, pair_justifications, justifications_along, root_justification}
 use Rattle.pb_tree.proofs.PairLists.{map_same, map-map, rows_same}
-use Rattle.pb_tree.proofs.TreeHanded.{IsFirstFree, along_first_free, pairs_first_free, bare, bare_same}
+use Rattle.pb_tree.proofs.TreeHanded.{IsFirstFree, along_first_free, pairs_first_free, bare, bare_same, same_each}
 use Rattle.pb_tree.proofs.TreeRows.{leaves_of}
 use Rattle.pb_totalizer.specs.Exact.{outputs_of, limits}
 use Rattle.pb_totalizer.specs.ExactSteps.{after_ids, after_weakened, limit_justification, limit_pairs, limit_justifications, own_justifications, least_justification, exact_justifications}
@@ -27,20 +21,9 @@ use Rattle.pb_totalizer.specs.TotalizerSteps.{totalizer_pairs}
 use Rattle.pb_totalizer.specs.declared.node_ids.Source.{Source}
 use Rattle.pb_totalizer.specs.declared.polarity.Polarity.TheVariants.{Both}
 use Rattle.pb_totalizer.specs.inner.LimitSources.{seconds_from, ids_after, weakened_after, limit_given, limit_row_given, limits_given, least_given}
-use Rattle.pb_totalizer.specs.laws.Limits.{limits_are}
 use Rattle.pb_totalizer.specs.inner.Sources.{ids_from, root_given}
 use Rattle.pb_totalizer.specs.laws.Polarity.{justifications_by, exact_all_justifications}
 use Rattle.pb_totalizer.proofs.Handed.{root_is}
-
--- ---- rows
-
-abbrev pub limit_piece : (ℕ → Justification) → ℕ → ℕ → List Step
-limit_piece f id k = claim_steps id (by_justification (f k) ∷ [])
-
-pub limit_row_pieces : (f : ℕ → Justification) (count b i high next : ℕ) → high ≡ min (b + 1) (count - i) → claim_steps next (map by_justification (map f (limits count b i))) ≡ pieces (limit_piece f) 1 next 0 high
-limit_row_pieces f count b i high next is =
-    ap (λ (js : List ℕ). claim_steps next (map by_justification (map f js))) (limits_are count b i high is ∙ ap (range_with_len 0) (let e : high - 0 ≡ high = omega arith in e))
-    ∙ justification_pieces f next 0 high
 
 -- ---- the clauses of a node, from its outputs to its parts
 
@@ -101,20 +84,13 @@ module _ (bound : ℕ) (lefts rights : List Term) (id own : ℕ) (sl sr : Source
 
 -- ---- numbers of variables
 
-limits_free : (bound : ℕ) (l r : Tree) (f g id : ℕ) (ps : List Pair) → HaveSameSteps (map (limit_justification bound l r f id) ps) (map (limit_justification bound l r g id) ps)
-limits_free bound l r f g id ps = record { count = omega (arith, length-map ps (limit_justification bound l r f id), length-map ps (limit_justification bound l r g id)); steps = λ next. each next ps }
-  where
-    each : (next : ℕ) (ps : List Pair) → claim_steps next (map by_justification (map (limit_justification bound l r f id) ps)) ≡ claim_steps next (map by_justification (map (limit_justification bound l r g id) ps))
-    each next [] = refl
-    each next (p ∷ ps) = ap (λ (ss : List Step). (by_justification (limit_justification bound l r f id p)).step ∷ Out next ∷ ss) (each (next + 1) ps)
-
 -- the steps do not depend on the numbers of the variables
 pub own_first_free : (bound : ℕ) → IsFirstFree (own_justifications bound)
 own_first_free bound l r f g id =
     let s = totalizer bound in
     let pairs = totalizer_pairs (bound + 1) in
     same_append (pair_justifications s pairs l r f id) (pair_justifications s pairs l r g id) (limit_justifications bound l r f id) (limit_justifications bound l r g id) (pairs_first_free s pairs l r f g id)
-    (limits_free bound l r f g id (limit_pairs (outputs_of bound (node l r)) (outputs_of bound l) (outputs_of bound r)))
+    (same_each (limit_justification bound l r f id) (limit_justification bound l r g id) (λ p. refl) (limit_pairs (outputs_of bound (node l r)) (outputs_of bound l) (outputs_of bound r)))
 
 -- ---- the root
 

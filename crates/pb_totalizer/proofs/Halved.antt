@@ -1,5 +1,6 @@
 -- A part of a totalizer, over its two halves.
-use Rattle.std.proofs.Common.{◌≡◌, ◌≤◌, ◌<◌, ◌+◌, ℕ, List, length, min, ap, ◌∙◌, arith}
+use Rattle.std.proofs.Common.{◌≡◌, ◌≤◌, ◌<◌, ◌+◌, ℕ, List, length, min, ap, sym, ◌∙◌, arith}
+use Rattle.std.proofs.lemmas.List.FromFn.{length-range_with_len}
 use Rattle.pb_base.specs.declared.literal.Term.{Term}
 use Rattle.pb_norm.specs.Constraints.{weights}
 use Rattle.pb_tree.specs.Halves.{Halves}
@@ -62,8 +63,6 @@ node_of {bound} {ts = ts} {front} {back} parts suits is left right =
       within = omega (arith, half.outputs, is, left, right, half.fresh, parts.behind, suits.fits);
     }
 
-pub own_values : (bound : ℕ) {count a b : ℕ} (front back : List Term) → count ≡ min (a + b) (bound + 1) → a ≡ outputs_of bound (tree_of (weights front)) → b ≡ outputs_of bound (tree_of (weights back))
-    → range_with_len 1 count ≡ values (totalizer bound) (node (tree_of (weights front)) (tree_of (weights back)))
-own_values bound {count} front back is left right =
-    let own : count ≡ min (outputs_of bound (tree_of (weights front)) + outputs_of bound (tree_of (weights back))) (bound + 1) = omega (arith, is, left, right) in
-    ap (range_with_len 1) own
+-- how many values the code has of a part
+pub part_count : (bound : ℕ) (ts : List Term) (count : ℕ) → range_with_len 1 count ≡ values (totalizer bound) (tree_of (weights ts)) → count ≡ outputs_of bound (tree_of (weights ts))
+part_count bound ts count is = sym (length-range_with_len 1 count) ∙ ap length is

@@ -3,18 +3,16 @@ use Rattle.std.proofs.Common.{◌≡◌, ◌≤◌, ◌+◌, ◌-◌, ◌*◌, �
 use Rattle.std.specs.List.{range_with_len}
 use Rattle.pb_base.specs.declared.literal.Term.{Term}
 use Rattle.pb_norm.specs.BoundedSums.{vars_of}
-use Rattle.pb_norm.specs.Constraints.{Weighted, weights}
-use Rattle.pb_steps.specs.declared.step.Step.{Step}
+use Rattle.pb_norm.specs.Constraints.{weights}
 use Rattle.pb_derive.specs.Claims.{claim_steps}
-use Rattle.pb_derive.specs.Reifications.{reification_steps}
 use Rattle.pb_derive.specs.Justifications.{Justification, by_justification}
-use Rattle.pb_family.specs.Derivations.{pieces}
+use Rattle.pb_family.proofs.Looping.{ArePieces}
 use Rattle.pb_family.proofs.SameSteps.{HaveSameSteps, same_append}
-use Rattle.pb_family.proofs.Sequence.{reification_pieces, justification_pieces}
+use Rattle.pb_family.proofs.Sequence.{justification_piece, justification_pieces}
 use Rattle.pb_tree.specs.Pairs.{Pair, pair_of}
 use Rattle.pb_tree.specs.Scheme.{values, fresh_of}
 use Rattle.pb_tree.specs.Tree.{Tree, tree_of}
-use Rattle.pb_tree.specs.TreeSteps.{reifications_from, output_ids, part_ids, part_weakened, pair_justification, pair_justifications, root_justification}
+use Rattle.pb_tree.specs.TreeSteps.{output_ids, part_ids, part_weakened, pair_justification, pair_justifications, root_justification}
 use Rattle.pb_tree.proofs.PairLists.{map_same, map-map, rows_same}
 use Rattle.pb_tree.proofs.TreeHanded.{range_shift, bare, bare_same}
 use Rattle.pb_tree.proofs.TreeRows.{leaves_of}
@@ -24,34 +22,19 @@ use Rattle.pb_totalizer.specs.TotalizerSteps.{totalizer_pairs}
 use Rattle.pb_totalizer.specs.declared.node_ids.Source.{Source}
 use Rattle.pb_totalizer.specs.declared.polarity.Polarity.TheVariants.{Up}
 use Rattle.pb_totalizer.specs.laws.ByPairs.{partner_bounds}
-use Rattle.pb_totalizer.specs.inner.Sources.{output_reification, ids_from, some_ids, weakened_at, pair_given, row_given, node_given, root_given}
-use Rattle.pb_totalizer.specs.laws.Partners.{partners_are}
+use Rattle.pb_totalizer.specs.inner.Sources.{ids_from, some_ids, weakened_at, pair_given, row_given, node_given, root_given}
 use Rattle.pb_totalizer.specs.laws.Polarity.{justifications_by, all_justifications}
-
--- ---- reifications
-
-outputs_from : (first : ℕ) (ts : List Weighted) (var a n : ℕ) → var ≡ first + a → reifications_from var ts (range_with_len (a + 1) n) ≡ map (output_reification first ts) (range_with_len a n)
-outputs_from first ts var a zero is = refl
-outputs_from first ts var a (suc n) is = λ i. record { var = is i; sum = ts; least = a + 1 } ∷ outputs_from first ts (var + 1) (a + 1) n (let e : var + 1 ≡ first + (a + 1) = omega (arith, is) in e) i
-
-abbrev pub output_piece : ℕ → List Weighted → ℕ → ℕ → List Step
-output_piece first ts id k = reification_steps id (output_reification first ts k ∷ [])
-
-pub output_pieces : (first : ℕ) (ts : List Weighted) (next n : ℕ) → reification_steps next (reifications_from first ts (range_with_len 1 n)) ≡ pieces (output_piece first ts) 2 next 0 n
-output_pieces first ts next n =
-    ap (reification_steps next) (outputs_from first ts first 0 n (let e : first ≡ first + 0 = omega arith in e)) ∙ reification_pieces (output_reification first ts) next 0 n
 
 -- ---- rows
 
-abbrev pub pair_piece : (ℕ → Justification) → ℕ → ℕ → ℕ → List Step
-pair_piece f low id k = claim_steps id (by_justification (f (low + k)) ∷ [])
-
-pub row_pieces : (f : ℕ → Justification) (cap b i low high next : ℕ) → i ≤ cap → low ≡ 1 - i → high ≡ min b (cap - i) + 1
-    → claim_steps next (map by_justification (map f (partners cap b i))) ≡ pieces (pair_piece f low) 1 next 0 (high - low)
-row_pieces f cap b i low high next within starts ends =
-    ap (λ (js : List ℕ). claim_steps next (map by_justification (map f js))) (partners_are cap b i low high within starts ends ∙ ap (λ (a : ℕ). range_with_len a (high - low)) (let e : low ≡ low + 0 = omega arith in e))
-    ∙ ap (λ (rs : List Justification). claim_steps next (map by_justification rs)) (range_shift f low 0 (high - low))
-    ∙ justification_pieces (λ k. f (low + k)) next 0 (high - low)
+-- a clause for each number of a row
+pub range_are : (f : ℕ → Justification) (js : List ℕ) (low n : ℕ) → range_with_len low n ≡ js → ArePieces (λ next. claim_steps next (map by_justification (map f js))) (justification_piece (λ k. f (low + k))) 1 n
+range_are f js low n same =
+    let all : map f js ≡ map (λ k. f (low + k)) (range_with_len 0 n) = ap (map f) (sym same ∙ ap (λ (a : ℕ). range_with_len a n) (let e : low ≡ low + 0 = omega arith in e)) ∙ range_shift f low 0 n in
+    record {
+      same = λ next. ap (λ (rs : List Justification). claim_steps next (map by_justification rs)) all ∙ justification_pieces (λ k. f (low + k)) next 0 n;
+      ids = λ next k. refl;
+    }
 
 -- ---- the clauses of a node
 

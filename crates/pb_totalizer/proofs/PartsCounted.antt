@@ -13,6 +13,7 @@ use Rattle.pb_totalizer.specs.Totalizer.{node_clause_count, totalizer}
 use Rattle.pb_totalizer.specs.TotalizerSteps.{totalizer_pairs}
 use Rattle.pb_totalizer.specs.declared.polarity.Polarity.{Polarity}
 use Rattle.pb_totalizer.specs.declared.polarity.Polarity.TheVariants.{Up, Both}
+use Rattle.pb_totalizer.specs.inner.Wholes.{IsWhole}
 use Rattle.pb_totalizer.specs.laws.ByPairs.{totalizer_by_pairs}
 use Rattle.pb_totalizer.specs.laws.Counting.{few_along, own_in_grid}
 use Rattle.pb_totalizer.specs.laws.ExactReifications.{own_counted}
@@ -53,14 +54,16 @@ few_clauses Both bound ts some few =
     omega (arith, whole, sums, limits)
 
 -- as many justifications as the ids have room for
-pub few_justifications : (polarity : Polarity) (bound : ℕ) (ts : List Term) (id : ℕ) → 1 ≤ bound → fresh_of (totalizer bound) (tree_of (weights ts)) ≤ 2 ^ 31 → length (justifications_by polarity bound ts id) ≤ 3 * 2 ^ 59
-few_justifications Up bound ts id some few =
+pub few_justifications : (polarity : Polarity) (bound : ℕ) (ts : List Term) (id : ℕ) {first : ℕ} → IsWhole ts bound first → length (justifications_by polarity bound ts id) ≤ 3 * 2 ^ 59
+few_justifications Up bound ts id whole =
+    let few : fresh_of (totalizer bound) (tree_of (weights ts)) ≤ 2 ^ 31 = omega (arith, whole.fits) in
     let s = totalizer bound in
     let t = tree_of (weights ts) in
     let count : length (justifications_by Up bound ts id) ≡ clause_count_of s t = justifications_counted s (IsCapped bound) (totalizer_lawful bound) (totalizer_pairs (bound + 1)) (totalizer_by_pairs bound) t 0 id (λ u h. let one : 1 ≤ 1 = omega arith in one) in
-    let room : clause_count_of s t ≤ 3 * 2 ^ 58 = few_shared bound (own_count_of s) (own_in_grid bound) t some few in
+    let room : clause_count_of s t ≤ 3 * 2 ^ 58 = few_shared bound (own_count_of s) (own_in_grid bound) t whole.from few in
     omega (arith, count, room)
-few_justifications Both bound ts id some few =
+few_justifications Both bound ts id whole =
+    let few : fresh_of (totalizer bound) (tree_of (weights ts)) ≤ 2 ^ 31 = omega (arith, whole.fits) in
     let s = totalizer bound in
     let t = tree_of (weights ts) in
     let rs = justifications_by Both bound ts id in
@@ -70,6 +73,6 @@ few_justifications Both bound ts id some few =
       count,
       along_counted s (exact_own bound) _ (own_counted bound) t 0,
       split_count bound t,
-      few_shared bound (own_count_of s) (own_in_grid bound) t some few,
-      few_shared bound (limit_count_of bound) (limits_in_grid bound) t some few,
+      few_shared bound (own_count_of s) (own_in_grid bound) t whole.from few,
+      few_shared bound (limit_count_of bound) (limits_in_grid bound) t whole.from few,
     )

@@ -15,4 +15,5 @@ pub mod TotalizerDerives
 pub mod TotalizerLaws
 pub mod TotalizerShort
 pub mod UnitTerms
+pub mod WholeSums
 pub mod Polarity

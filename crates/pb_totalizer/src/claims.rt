@@ -1,13 +1,11 @@
-//! The clauses from a node's parts to its outputs, by the constraints that they follow from.
-ghost use Rattle.std.specs.Prelude.{◌≡◌, ◌≤◌, ◌<◌, ◌+◌, ◌-◌, ◌*◌, ◌^◌, ◌++◌, ◌∷◌, [], length, IfOk};
+//! A clause from a node's parts to its outputs, by the constraints that it follows from.
+ghost use Rattle.std.specs.Prelude.{◌≡◌, ◌≤◌, ◌<◌, ◌+◌, ◌^◌, ◌++◌, ◌∷◌, [], IfOk};
 ghost use Rattle.pb_norm.specs.BoundedSums.{vars_of};
 ghost use Rattle.pb_norm.specs.Constraints.{weights};
-ghost use Rattle.pb_family.specs.inner.HandedJustifications.{HandsJustifications};
+ghost use Rattle.pb_family.specs.HandedJustifications.{HandsJustifications};
 ghost use Rattle.pb_totalizer.specs.inner.Numbers.{AreSummed};
-ghost use Rattle.pb_totalizer.specs.inner.Sources.{some_ids, pair_ids, pair_weakened, pair_beside, row_beside, node_beside};
-ghost use Rattle.pb_totalizer.specs.Totalizer.{partners};
+ghost use Rattle.pb_totalizer.specs.inner.Sources.{some_ids, pair_ids, pair_weakened, pair_beside};
 
-use crate::emission::least_partner;
 use crate::node_ids::{NodeIds, Source};
 use pb_base::Term;
 use pb_family::{SinkFault, StepSink, derive_claim};
@@ -57,7 +55,7 @@ fn leaves_beside<'a>(node: &NodeIds<'a>, i: u64, j: u64) -> &'a [Term]
 }
 
 /// That where i of the left are true and j of the right, i + j are.
-fn derive_pair<T: StepSink>(
+pub fn derive_pair<T: StepSink>(
     alloc: Global,
     node: &NodeIds,
     i: u64,
@@ -71,38 +69,4 @@ fn derive_pair<T: StepSink>(
     let ids = ids_of(alloc, node, i, j)?;
     let beside = leaves_beside(node, i, j);
     derive_claim(alloc, ids.as_slice(), beside, sink)
-}
-
-/// The clauses of one number of the left.
-fn derive_row<T: StepSink>(
-    alloc: Global,
-    node: &NodeIds,
-    i: u64,
-    sink: &mut T,
-) -> Result<(), SinkFault>
-    requires within { i ≤ node.now.left.count }
-    requires room { (T.state sink.old).next + length (partners node.now.cap node.now.right.count i) < 2 ^ 62 }
-    ensures { HandsJustifications (row_beside node.now i) result (T.state sink.old) (T.state sink.new) }
-{
-    let low = least_partner(i);
-    let high = node.right.count.min(node.cap - i) + 1;
-    for place in 0..high - low {
-        derive_pair(alloc, node, i, low + place, sink)?;
-    }
-    Ok(())
-}
-
-/// A node's clauses from its parts to its outputs.
-pub fn derive_node<T: StepSink>(
-    alloc: Global,
-    node: &NodeIds,
-    sink: &mut T,
-) -> Result<(), SinkFault>
-    requires { (T.state sink.old).next + length (node_beside node.now) < 2 ^ 62 }
-    ensures { HandsJustifications (node_beside node.now) result (T.state sink.old) (T.state sink.new) }
-{
-    for i in 0..node.left.count + 1 {
-        derive_row(alloc, node, i, sink)?;
-    }
-    Ok(())
 }

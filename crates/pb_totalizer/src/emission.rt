@@ -1,5 +1,5 @@
 //! The clauses of a totalizer, one after another.
-ghost use Rattle.std.specs.Prelude.{◌≡◌, ◌≤◌, ◌-◌, ◌∷◌, []};
+ghost use Rattle.std.specs.Prelude.{◌≤◌, ◌∷◌, [], IfOk};
 ghost use Rattle.pb_norm.specs.BoundedSums.{sum_within};
 ghost use Rattle.pb_norm.specs.Constraints.{weights};
 ghost use Rattle.pb_family.specs.Handing.{Hands};
@@ -7,15 +7,16 @@ ghost use Rattle.pb_tree.specs.Tree.{tree_of};
 ghost use Rattle.pb_tree.specs.Scheme.{tree_clauses};
 ghost use Rattle.pb_totalizer.specs.Exact.{exact_clauses};
 ghost use Rattle.pb_totalizer.specs.Totalizer.{totalizer};
-ghost use Rattle.pb_totalizer.specs.inner.NodeClauses.{clause_over, row_over, clauses_over};
-ghost use Rattle.pb_totalizer.specs.inner.Numbers.{AreSummed};
-ghost use Rattle.pb_totalizer.specs.inner.Outputs.{output_count};
-ghost use Rattle.pb_totalizer.specs.laws.Polarity.{own_over};
+ghost use Rattle.pb_totalizer.specs.inner.NodeClauses.{clause_over, one_over, row_over, rows_over};
+ghost use Rattle.pb_totalizer.specs.inner.Numbers.{AreSummed, GoTogether, most_by};
+ghost use Rattle.pb_totalizer.specs.inner.Outputs.{AreOutputs, output_count};
+ghost use Rattle.pb_totalizer.specs.laws.Polarity.{clauses_by, own_over};
 
-use crate::limits::emit_limits;
+use crate::limits::hand_over_limit;
 use crate::node::Node;
+use crate::numbers::{Counts, numbers};
 use crate::outputs::{Outputs, Run};
-use crate::polarity::Polarity;
+use crate::polarity::{Direction, Polarity};
 use crate::whole::Whole;
 use pb_base::{Failed, Term};
 use pb_family::{ClauseSink, derive_pair};
@@ -37,32 +38,52 @@ fn hand_over<S: ClauseSink>(node: &Node, i: u64, j: u64, sink: &mut S) -> Result
     }
 }
 
-/// The least number of the right that one of the left goes with.
-pub fn least_partner(i: u64) -> u64
-    ensures { result ≡ 1 - i }
+/// Hands over the clause of a number of each part.
+fn emit_number<S: ClauseSink>(
+    direction: Direction,
+    node: &Node,
+    i: u64,
+    j: u64,
+    sink: &mut S,
+) -> Result<(), Failed>
+    requires { GoTogether direction (output_count node.now.left) (output_count node.now.right) (most_by direction node.now.cap (output_count node.now.own)) i j }
+    ensures { Hands (one_over direction node.now i j ∷ []) result (S.state sink.old) (S.state sink.new) }
 {
-    if i == 0 { 1 } else { 0 }
+    match direction {
+        Direction::Up => hand_over(node, i, j, sink),
+        Direction::Down => hand_over_limit(node, i, j, sink),
+    }
 }
 
 /// Hands over the clauses of one number of the left.
-fn emit_row<S: ClauseSink>(node: &Node, i: u64, sink: &mut S) -> Result<(), Failed>
+fn emit_row<S: ClauseSink>(
+    direction: Direction,
+    node: &Node,
+    i: u64,
+    sink: &mut S,
+) -> Result<(), Failed>
     requires { i ≤ output_count node.now.left }
-    ensures { Hands (row_over node.now i) result (S.state sink.old) (S.state sink.new) }
+    ensures { Hands (row_over direction node.now i) result (S.state sink.old) (S.state sink.new) }
 {
-    let low = least_partner(i);
-    let high = node.right.count().min(node.cap - i) + 1;
-    for j in low..high {
-        hand_over(node, i, j, sink)?;
+    let counts = Counts {
+        left: node.left.count(),
+        right: node.right.count(),
+        own: node.own.count(),
+        cap: node.cap,
+    };
+    let (low, count) = numbers(direction, &counts, i);
+    for j in low..low + count {
+        emit_number(direction, node, i, j, sink)?;
     }
     Ok(())
 }
 
-/// Hands over a node's clauses from its parts to its outputs.
-fn emit_node<S: ClauseSink>(node: &Node, sink: &mut S) -> Result<(), Failed>
-    ensures { Hands (clauses_over node.now) result (S.state sink.old) (S.state sink.new) }
+/// Hands over a node's clauses that lead one way.
+fn emit_rows<S: ClauseSink>(direction: Direction, node: &Node, sink: &mut S) -> Result<(), Failed>
+    ensures { Hands (rows_over direction node.now) result (S.state sink.old) (S.state sink.new) }
 {
     for i in 0..node.left.count() + 1 {
-        emit_row(node, i, sink)?;
+        emit_row(direction, node, i, sink)?;
     }
     Ok(())
 }
@@ -71,10 +92,10 @@ fn emit_node<S: ClauseSink>(node: &Node, sink: &mut S) -> Result<(), Failed>
 fn emit_own<S: ClauseSink>(polarity: Polarity, node: &Node, sink: &mut S) -> Result<(), Failed>
     ensures { Hands (own_over polarity node.now) result (S.state sink.old) (S.state sink.new) }
 {
-    emit_node(node, sink)?;
+    emit_rows(Direction::Up, node, sink)?;
     match polarity {
         Polarity::Up => Ok(()),
-        Polarity::Both => emit_limits(node, sink),
+        Polarity::Both => emit_rows(Direction::Down, node, sink),
     }
 }
 
@@ -157,28 +178,34 @@ impl<'a, S: ClauseSink> Walk<S> for Clauses<'a> {
     ghost room_then = { λ xs n placed a b room taken. tt };
 }
 
+/// Hands over the clauses of all nodes.
+fn emit_nodes<S: ClauseSink>(
+    alloc: Global,
+    polarity: Polarity,
+    whole: &Whole,
+    sink: &mut S,
+) -> Result<Outputs, Failed>
+    ensures hands { Hands (clauses_by polarity whole.now.bound (tree_of (weights whole.now.terms.now)) whole.now.first) result (S.state sink.old) (S.state sink.new) }
+    ensures outputs { IfOk result (AreOutputs whole.now.bound whole.now.terms.now whole.now.first) }
+{
+    let root = walk_along(alloc, &Clauses { whole, polarity }, whole.terms, 0, sink)?;
+    Ok(root.part)
+}
+
 /// Hands over the clauses of a totalizer, with that of the root.
 pub fn emit_whole<S: ClauseSink>(alloc: Global, whole: &Whole, sink: &mut S) -> Result<(), Failed>
     ensures { Hands (tree_clauses (totalizer whole.now.bound) (tree_of (weights whole.now.terms.now)) whole.now.first) result (S.state sink.old) (S.state sink.new) }
 {
-    let clauses = Clauses {
-        whole,
-        polarity: Polarity::Up,
-    };
-    let root = walk_along(alloc, &clauses, whole.terms, 0, sink)?;
-    sink.clause(&[root.part.at(whole.bound + 1).not()])
+    let root = emit_nodes(alloc, Polarity::Up, whole, sink)?;
+    sink.clause(&[root.at(whole.bound + 1).not()])
 }
 
 /// Hands over the clauses of an exact sum, with those of the root.
 pub fn emit_exact<S: ClauseSink>(alloc: Global, whole: &Whole, sink: &mut S) -> Result<(), Failed>
     ensures { Hands (exact_clauses (sum_within whole.now.terms.now whole.now.bound) whole.now.first) result (S.state sink.old) (S.state sink.new) }
 {
-    let clauses = Clauses {
-        whole,
-        polarity: Polarity::Both,
-    };
-    let root = walk_along(alloc, &clauses, whole.terms, 0, sink)?;
-    let least = [root.part.at(whole.bound)];
-    let most = [root.part.at(whole.bound + 1).not()];
+    let root = emit_nodes(alloc, Polarity::Both, whole, sink)?;
+    let least = [root.at(whole.bound)];
+    let most = [root.at(whole.bound + 1).not()];
     derive_pair(&least, &most, sink)
 }

@@ -1,23 +1,20 @@
 //! The derivation of an exact sum's clauses.
-ghost use Rattle.std.specs.Prelude.{◌≡◌, ◌≤◌, ◌<◌, ◌+◌, ◌*◌, ◌^◌, ◌++◌, ◌∷◌, [], length, IfOk};
+ghost use Rattle.std.specs.Prelude.{◌≡◌, ◌≤◌, ◌<◌, ◌+◌, ◌^◌, ◌++◌, ◌∷◌, [], IfOk};
 ghost use Rattle.pb_norm.specs.BoundedSums.{sum_within};
 ghost use Rattle.pb_norm.specs.Constraints.{weight, weights};
 ghost use Rattle.pb_family.specs.StepSinks.{HandsSteps};
-ghost use Rattle.pb_family.specs.inner.HandedJustifications.{HandsJustifications};
-ghost use Rattle.pb_tree.specs.inner.Walks.{fresh_over};
+ghost use Rattle.pb_family.specs.HandedJustifications.{HandsJustifications};
 ghost use Rattle.pb_totalizer.specs.ExactSteps.{exact_steps};
-ghost use Rattle.pb_totalizer.specs.Totalizer.{totalizer};
 ghost use Rattle.pb_totalizer.specs.inner.LimitSources.{seconds_from, least_given};
-ghost use Rattle.pb_totalizer.specs.laws.Polarity.{justifications_by, exact_all_justifications};
 
 use crate::derivation::derive_root;
 use crate::handing::derive_nodes;
 use crate::limit_claims::push_second;
 use crate::node_ids::Source;
 use crate::polarity::Polarity;
-use crate::reifications::derive_reifications;
 use crate::whole::Whole;
-use pb_family::{SinkFault, StepSink, derive_claim, derive_deletions};
+use pb_family::{SinkFault, StepSink, derive_claim};
+use pb_tree::{TreeClaims, derive_along};
 use std::alloc::{AllocError, Global};
 
 /// The ids of the constraints that the clause of the bound's output follows from.
@@ -49,22 +46,30 @@ fn derive_least<T: StepSink>(
     derive_claim(alloc, ids.as_slice(), &[], sink)
 }
 
-/// The clauses of an exact sum, with those of the root.
-fn derive_exact_clauses<T: StepSink>(
-    alloc: Global,
-    whole: &Whole,
-    id: u64,
+/// The clauses of an exact sum, with those of the root, which follow from the sum's constraints from below and from above.
+#[derive(Clone, Copy)]
+struct Exactly<'a> {
+    whole: &'a Whole<'a>,
     lower: u64,
     upper: u64,
-    sink: &mut T,
-) -> Result<(), SinkFault>
-    requires ids { id + 2 * fresh_over (totalizer whole.now.bound) whole.now.terms.now < 2 ^ 62 }
-    requires room { (T.state sink.old).next + length (justifications_by Polarity.Both whole.now.bound whole.now.terms.now id) + 2 < 2 ^ 62 }
-    ensures { HandsJustifications (exact_all_justifications whole.now.bound whole.now.terms.now id lower upper) result (T.state sink.old) (T.state sink.new) }
-{
-    let root = derive_nodes(alloc, Polarity::Both, whole, id, sink)?;
-    derive_least(alloc, root, whole.bound, lower, sink)?;
-    derive_root(alloc, root, whole.bound + 1, upper, sink)
+}
+
+impl<'a> TreeClaims<Whole<'a>> for Exactly<'a> {
+    ghost use Rattle.pb_totalizer.specs.laws.Polarity.{exact_all_justifications};
+
+    ghost sum = { λ d. d.whole.now };
+
+    ghost given = { λ d id. exact_all_justifications d.whole.now.bound d.whole.now.terms.now id d.lower d.upper };
+
+    fn sum(&self) -> &Whole<'a> {
+        self.whole
+    }
+
+    fn claim<T: StepSink>(&self, alloc: Global, id: u64, sink: &mut T) -> Result<(), SinkFault> {
+        let root = derive_nodes(alloc, Polarity::Both, self.whole, id, sink)?;
+        derive_least(alloc, root, self.whole.bound, self.lower, sink)?;
+        derive_root(alloc, root, self.whole.bound + 1, self.upper, sink)
+    }
 }
 
 /// Hands over the whole derivation, where `lower` is the id of the constraint from below, and `upper` of the one from above.
@@ -78,8 +83,10 @@ pub fn derive_exact<T: StepSink>(
     requires { (T.state sink.old).next ≤ 2 ^ 61 }
     ensures { HandsSteps (exact_steps (sum_within whole.now.terms.now whole.now.bound) whole.now.first lower upper (T.state sink.old).next) result (T.state sink.old) (T.state sink.new) }
 {
-    let base = sink.next_id();
-    let fresh = derive_reifications(alloc, whole, sink)?;
-    derive_exact_clauses(alloc, whole, base, lower, upper, sink)?;
-    derive_deletions(alloc, base, 2, fresh, sink)
+    let clauses = Exactly {
+        whole,
+        lower,
+        upper,
+    };
+    derive_along(alloc, &clauses, sink)
 }

@@ -1,40 +1,22 @@
 //! The clauses of a totalizer's derivation, part by part.
 ghost use Rattle.std.specs.Prelude.{◌≡◌, ◌<◌, ◌+◌, ◌*◌, ◌^◌, length, IfOk};
 ghost use Rattle.pb_norm.specs.Constraints.{weights};
-ghost use Rattle.pb_family.specs.inner.HandedJustifications.{HandsJustifications};
+ghost use Rattle.pb_family.specs.HandedJustifications.{HandsJustifications};
 ghost use Rattle.pb_tree.specs.Tree.{tree_of};
 ghost use Rattle.pb_tree.specs.TreeSteps.{output_ids};
 ghost use Rattle.pb_tree.specs.inner.Walks.{fresh_over};
 ghost use Rattle.pb_totalizer.specs.Totalizer.{totalizer};
 ghost use Rattle.pb_totalizer.specs.inner.Sources.{ids_from};
-ghost use Rattle.pb_totalizer.specs.laws.Polarity.{own_beside, justifications_by};
+ghost use Rattle.pb_totalizer.specs.laws.Polarity.{justifications_by};
 
-use crate::claims::derive_node;
-use crate::limit_claims::derive_limits;
 use crate::node_ids::{IdRow, NodeIds, Side, Source};
 use crate::polarity::Polarity;
+use crate::row_claims::derive_own;
 use crate::whole::Whole;
 use pb_base::Term;
 use pb_family::{SinkFault, StepSink};
 use pb_tree::{Parts, Placed, Walk, walk_along};
 use std::alloc::Global;
-
-/// A node's own clauses.
-fn derive_own<T: StepSink>(
-    alloc: Global,
-    polarity: Polarity,
-    node: &NodeIds,
-    sink: &mut T,
-) -> Result<(), SinkFault>
-    requires { (T.state sink.old).next + length (own_beside polarity node.now) < 2 ^ 62 }
-    ensures { HandsJustifications (own_beside polarity node.now) result (T.state sink.old) (T.state sink.new) }
-{
-    derive_node(alloc, node, sink)?;
-    match polarity {
-        Polarity::Up => Ok(()),
-        Polarity::Both => derive_limits(alloc, node, sink),
-    }
-}
 
 /// Where a part's outputs have their constraints, and how many outputs there are.
 #[derive(Clone, Copy)]
@@ -55,7 +37,7 @@ struct Claims<'a> {
 impl<'a, T: StepSink> Walk<T> for Claims<'a> {
     ghost use Rattle.std.specs.Prelude.{◌<◌, ◌+◌, ◌*◌, ◌^◌};
     ghost use Rattle.pb_derive.specs.Justifications.{Justification};
-    ghost use Rattle.pb_family.specs.inner.HandedJustifications.{HandsJustifications};
+    ghost use Rattle.pb_family.specs.HandedJustifications.{HandsJustifications};
     ghost use Rattle.pb_family.proofs.FlatPieces.{justifications_then};
     ghost use Rattle.pb_tree.specs.inner.Walks.{fresh_over};
     ghost use Rattle.pb_tree.proofs.HandingLaws.{claimed_stop, less_claimed, claimed_room};

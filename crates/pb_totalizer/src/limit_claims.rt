@@ -1,10 +1,9 @@
-//! The clauses from a node's outputs to its parts, by the constraints that they follow from.
-ghost use Rattle.std.specs.Prelude.{◌≡◌, ◌≤◌, ◌<◌, ◌+◌, ◌^◌, ◌++◌, ◌∷◌, [], length, IfOk};
+//! A clause from a node's outputs to its parts, by the constraints that it follows from.
+ghost use Rattle.std.specs.Prelude.{◌≡◌, ◌≤◌, ◌<◌, ◌+◌, ◌^◌, ◌++◌, ◌∷◌, [], IfOk};
 ghost use Rattle.pb_norm.specs.BoundedSums.{vars_of};
 ghost use Rattle.pb_norm.specs.Constraints.{weights};
-ghost use Rattle.pb_family.specs.inner.HandedJustifications.{HandsJustifications};
-ghost use Rattle.pb_totalizer.specs.Exact.{limits};
-ghost use Rattle.pb_totalizer.specs.inner.LimitSources.{seconds_from, ids_after, limit_ids, limit_weakened, limit_beside, limit_row_beside, limits_beside};
+ghost use Rattle.pb_family.specs.HandedJustifications.{HandsJustifications};
+ghost use Rattle.pb_totalizer.specs.inner.LimitSources.{seconds_from, ids_after, limit_ids, limit_weakened, limit_beside};
 ghost use Rattle.pb_totalizer.specs.inner.Numbers.{AreLimited};
 
 use crate::node_ids::{NodeIds, Side, Source};
@@ -66,7 +65,7 @@ fn leaves_after<'a>(node: &NodeIds<'a>, i: u64, j: u64) -> &'a [Term]
 }
 
 /// That where at most i of the left are true and at most j of the right, no more than i + j are.
-fn derive_limit<T: StepSink>(
+pub fn derive_limit<T: StepSink>(
     alloc: Global,
     node: &NodeIds,
     i: u64,
@@ -80,37 +79,4 @@ fn derive_limit<T: StepSink>(
     let ids = ids_of(alloc, node, i, j)?;
     let beside = leaves_after(node, i, j);
     derive_claim(alloc, ids.as_slice(), beside, sink)
-}
-
-/// The clauses of one number of the left.
-fn derive_limit_row<T: StepSink>(
-    alloc: Global,
-    node: &NodeIds,
-    i: u64,
-    sink: &mut T,
-) -> Result<(), SinkFault>
-    requires within { i ≤ node.now.left.count }
-    requires room { (T.state sink.old).next + length (limits node.now.count node.now.right.count i) < 2 ^ 62 }
-    ensures { HandsJustifications (limit_row_beside node.now i) result (T.state sink.old) (T.state sink.new) }
-{
-    let high = (node.right.count + 1).min(node.count - i);
-    for j in 0..high {
-        derive_limit(alloc, node, i, j, sink)?;
-    }
-    Ok(())
-}
-
-/// A node's clauses from its outputs to its parts.
-pub fn derive_limits<T: StepSink>(
-    alloc: Global,
-    node: &NodeIds,
-    sink: &mut T,
-) -> Result<(), SinkFault>
-    requires { (T.state sink.old).next + length (limits_beside node.now) < 2 ^ 62 }
-    ensures { HandsJustifications (limits_beside node.now) result (T.state sink.old) (T.state sink.new) }
-{
-    for i in 0..node.left.count + 1 {
-        derive_limit_row(alloc, node, i, sink)?;
-    }
-    Ok(())
 }

@@ -6,3 +6,10 @@ pub enum Polarity {
     Up,
     Both,
 }
+
+/// Where clauses of a node lead: from its parts to its outputs, or from its outputs to its parts.
+#[derive(Clone, Copy)]
+pub enum Direction {
+    Up,
+    Down,
+}

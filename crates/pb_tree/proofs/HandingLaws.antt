@@ -1,10 +1,9 @@
--- What is handed over in two parts, and where the first one ends in a fault: clauses, reifications and justifications.
-use Rattle.std.proofs.Common.{◌≤◌, ◌<◌, ◌+◌, ◌*◌, ◌^◌, ◌++◌, ℕ, List, length, map, refl, ◌∙◌, arith, Err}
+-- What is handed over in two parts, and where the first one ends in a fault: clauses and justifications.
+use Rattle.std.proofs.Common.{◌<◌, ◌+◌, ◌^◌, ◌++◌, ℕ, List, length, map, refl, ◌∙◌, arith, Err}
 use Rattle.std.specs.Prelude.{Result}
 use Rattle.pb_base.specs.declared.literal.Lit.{Lit}
 use Rattle.pb_base.specs.declared.fault.Failed.{Failed}
 use Rattle.pb_derive.specs.Claims.{claim_steps}
-use Rattle.pb_derive.specs.Reifications.{Reification, reification_steps}
 use Rattle.pb_derive.specs.Justifications.{Justification, by_justification}
 use Rattle.pb_family.specs.Handing.{TakesClauses, FailsInClauses, StopsInClauses, Hands, HandsIfMemory}
 use Rattle.pb_family.specs.Sinks.{SinkState}
@@ -14,7 +13,6 @@ use Rattle.pb_family.proofs.Emission.{emitting_starts, emitting_step, emitting_s
 use Rattle.pb_family.proofs.FlatPieces.{justifications_stopped, justifications_next}
 use Rattle.pb_family.proofs.SameSteps.{HaveSameSteps}
 use Rattle.pb_family.proofs.Stopping.{stops_last}
-use Rattle.pb_tree.proofs.TreeHanded.{reifications_stopped, reifications_next}
 
 -- ---- clauses
 
@@ -31,18 +29,6 @@ module _ {R : Type 0} (xs ys : List (List Lit)) where
 
   pub memory_stop : (f : SinkFault) (a b : SinkState R) → StopsInClauses xs a b f → StopsInClauses (xs ++ ys) a b f
   memory_stop f a b part = emitting_stops xs ys b f (emitting_starts (xs ++ ys) a) part
-
--- ---- reifications
-
-pub less_meant : (m n next : ℕ) → next + 2 * (m + n) ≤ 2 ^ 61 + 2 ^ 33 → next + 2 * m ≤ 2 ^ 61 + 2 ^ 33
-less_meant m n next room = omega (arith, room)
-
-module _ {R : Type 0} (xs : List Reification) (a b : StepState R) where
-  pub meant_stop : (ys : List Reification) (f : SinkFault) → StopsInSteps (reification_steps a.next xs) a b f → StopsInSteps (reification_steps a.next (xs ++ ys)) a b f
-  meant_stop ys f part = reifications_stopped {T = Unit {0}} (Err f) f xs ys a b refl part
-
-  pub meant_room : (n : ℕ) → a.next + 2 * (length xs + n) ≤ 2 ^ 61 + 2 ^ 33 → TakesSteps (reification_steps a.next xs) a b → b.next + 2 * n ≤ 2 ^ 61 + 2 ^ 33
-  meant_room n room taken = omega (arith, room, reifications_next xs a b taken)
 
 -- ---- justifications
 

@@ -8,6 +8,7 @@ pub mod HandingLaws
 pub mod Laws
 pub mod Lists
 pub mod Numbers
+pub mod OutputPieces
 pub mod PairCounts
 pub mod PairLists
 pub mod PairJustifications

@@ -1,4 +1,4 @@
--- Reifications and clauses along a tree that are handed over part by part.
+-- Clauses along a tree that are handed over part by part.
 use Rattle.std.proofs.Common.{◌≡◌, ◌≤◌, ◌<◌, ◌+◌, ◌-◌, ◌*◌, ◌++◌, ℕ, zero, suc, List, [], ◌∷◌, length, map, refl, sym, ap, ◌∙◌, subst, arith, append-nil, length-append}
 use Rattle.std.specs.Prelude.{Result, IsErrAnd}
 use Rattle.std.specs.List.{flat_map, range_with_len}
@@ -7,13 +7,12 @@ use Rattle.std.proofs.lemmas.List.Concat.{flat_map-cons}
 use Rattle.pb_steps.specs.declared.step.Step.{Step}
 use Rattle.pb_steps.specs.declared.step.Step.TheVariants.{Out}
 use Rattle.pb_derive.specs.Claims.{claim_steps}
-use Rattle.pb_derive.specs.Reifications.{Reification, reification_steps}
 use Rattle.pb_derive.specs.Justifications.{Justification, by_justification}
 use Rattle.pb_family.specs.StepSinks.{StepState, TakesSteps, StopsInSteps, HandsSteps}
 use Rattle.pb_family.specs.declared.sink.SinkFault.{SinkFault}
-use Rattle.pb_family.proofs.Deriving.{Deriving, deriving_from, deriving_as, deriving_step, deriving_ends, steps_fault, steps_last}
+use Rattle.pb_family.proofs.Deriving.{Deriving, deriving_from, deriving_as, deriving_step, deriving_ends, steps_fault}
 use Rattle.pb_family.proofs.SameSteps.{HaveSameSteps, same_none, same_append}
-use Rattle.pb_family.proofs.Sequence.{reifications_ids, reifications_split, justifications_ids, justifications_split}
+use Rattle.pb_family.proofs.Sequence.{justifications_ids, justifications_split}
 use Rattle.pb_tree.specs.Pairs.{Pair}
 use Rattle.pb_tree.specs.Scheme.{Scheme, values, fresh_of}
 use Rattle.pb_tree.specs.Tree.{Tree, empty, leaf, node}
@@ -22,24 +21,9 @@ use Rattle.pb_tree.specs.TreeSteps.{pair_justification, pair_justifications, jus
 pub steps_stopped : {R T : Type 0} (r : Result T SinkFault) (f : SinkFault) (ss : List Step) (a b : StepState R) → IsErrAnd r (λ g. g ≡ f) → StopsInSteps ss a b f → HandsSteps ss r a b
 steps_stopped r f ss a b is part = steps_fault r f ss [] b is (deriving_from a (sym (append-nil ss))) part
 
--- ---- reifications
-
--- some were handed over, and then the others
-pub reifications_then : {R T : Type 0} (r : Result T SinkFault) (xs ys : List Reification) (old mid new : StepState R) → TakesSteps (reification_steps old.next xs) old mid → HandsSteps (reification_steps mid.next ys) r mid new
-    → HandsSteps (reification_steps old.next (xs ++ ys)) r old new
-reifications_then r xs ys old mid new h k =
-    steps_last r (reification_steps mid.next ys) new
-    (deriving_as (ap (λ (n : ℕ). reification_steps n ys) (let same : old.next + 2 * length xs ≡ mid.next = omega (arith, h.ids, reifications_ids old.next xs) in same))
-    (deriving_step {left = reification_steps (old.next + 2 * length xs) ys} (reification_steps old.next xs) mid (deriving_from old (reifications_split old.next xs ys)) h)) k
-
--- the fault in the first ones is handed on
-pub reifications_stopped : {R T : Type 0} (r : Result T SinkFault) (f : SinkFault) (xs ys : List Reification) (old after : StepState R) → IsErrAnd r (λ g. g ≡ f) → StopsInSteps (reification_steps old.next xs) old after f
-    → HandsSteps (reification_steps old.next (xs ++ ys)) r old after
-reifications_stopped r f xs ys old after is h =
-    steps_fault r f (reification_steps old.next xs) (reification_steps (old.next + 2 * length xs) ys) after is (deriving_from old (reifications_split old.next xs ys)) h
-
-pub reifications_next : {R : Type 0} (xs : List Reification) (old mid : StepState R) → TakesSteps (reification_steps old.next xs) old mid → mid.next ≡ old.next + 2 * length xs
-reifications_next xs old mid h = omega (arith, h.ids, reifications_ids old.next xs)
+-- steps that were stopped, written another way
+pub stopped_as : {R : Type 0} {ss ts : List Step} {a b : StepState R} {f : SinkFault} → ss ≡ ts → StopsInSteps ss a b f → StopsInSteps ts a b f
+stopped_as {a = a} {b} {f} same part = subst (λ (xs : List Step). StopsInSteps xs a b f) same part
 
 -- ---- rows of clauses
 
@@ -104,12 +88,13 @@ bare_same rs = record { count = length-map rs bare; steps = λ next. each next r
     each next [] = refl
     each next (r ∷ rs) = ap (λ (ss : List Step). (by_justification r).step ∷ Out next ∷ ss) (each (next + 1) rs)
 
-pairs_same : (s : Scheme) (l r : Tree) (f g id : ℕ) (ps : List Pair) → HaveSameSteps (map (pair_justification s l r f id) ps) (map (pair_justification s l r g id) ps)
-pairs_same s l r f g id ps = record { count = omega (arith, length-map ps (pair_justification s l r f id), length-map ps (pair_justification s l r g id)); steps = λ next. each next ps }
+-- of each the steps are the same
+pub same_each : {X : Type 0} (f g : X → Justification) → ((x : X) → (by_justification (f x)).step ≡ (by_justification (g x)).step) → (xs : List X) → HaveSameSteps (map f xs) (map g xs)
+same_each {X} f g same xs = record { count = omega (arith, length-map xs f, length-map xs g); steps = λ next. each next xs }
   where
-    each : (next : ℕ) (ps : List Pair) → claim_steps next (map by_justification (map (pair_justification s l r f id) ps)) ≡ claim_steps next (map by_justification (map (pair_justification s l r g id) ps))
+    each : (next : ℕ) (xs : List X) → claim_steps next (map by_justification (map f xs)) ≡ claim_steps next (map by_justification (map g xs))
     each next [] = refl
-    each next (p ∷ ps) = ap (λ (ss : List Step). (by_justification (pair_justification s l r f id p)).step ∷ Out next ∷ ss) (each (next + 1) ps)
+    each next (x ∷ xs) = λ i. same x i ∷ Out next ∷ each (next + 1) xs i
 
 -- a node's own steps do not depend on the numbers of the variables
 abbrev pub IsFirstFree : (Tree → Tree → ℕ → ℕ → List Justification) → Type 0
@@ -126,7 +111,7 @@ along_first_free s own free (node l r) f g id =
     (along_first_free s own free r (f + fresh_of s l) (g + fresh_of s l) next) (free l r f g id))
 
 pub pairs_first_free : (s : Scheme) (pairs : List ℕ → List ℕ → List Pair) → IsFirstFree (pair_justifications s pairs)
-pairs_first_free s pairs l r f g id = pairs_same s l r f g id (pairs (values s l) (values s r))
+pairs_first_free s pairs l r f g id = same_each (pair_justification s l r f id) (pair_justification s l r g id) (λ p. refl) (pairs (values s l) (values s r))
 
 pub all_first_free : (s : Scheme) (pairs : List ℕ → List ℕ → List Pair) (t : Tree) (f g id own : ℕ) → HaveSameSteps (tree_justifications s pairs t f id own) (tree_justifications s pairs t g id own)
 all_first_free s pairs t f g id own =

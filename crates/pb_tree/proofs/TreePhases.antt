@@ -1,8 +1,9 @@
 -- A whole derivation along a tree: what the fresh variables mean, then the clauses, and then the deletions.
-use Rattle.std.proofs.Common.{◌≡◌, ◌+◌, ◌*◌, ℕ, List, map, length, arith}
+use Rattle.std.proofs.Common.{◌≡◌, ◌+◌, ◌*◌, ◌++◌, ℕ, List, map, length, ap, arith}
 use Rattle.std.specs.Prelude.{Result}
 use Rattle.pb_base.specs.declared.literal.Term.{Term}
 use Rattle.pb_norm.specs.Constraints.{weights}
+use Rattle.pb_steps.specs.declared.step.Step.{Step}
 use Rattle.pb_derive.specs.Claims.{claim_steps}
 use Rattle.pb_derive.specs.Deletions.{deletion_steps}
 use Rattle.pb_derive.specs.Reifications.{Reification, reification_steps}
@@ -16,12 +17,20 @@ use Rattle.pb_family.proofs.SameSteps.{HaveSameSteps}
 use Rattle.pb_tree.specs.Scheme.{Scheme, fresh_of}
 use Rattle.pb_tree.specs.Tree.{tree_of}
 use Rattle.pb_tree.specs.TreeSteps.{reifications}
-use Rattle.pb_tree.proofs.TreeHanded.{reifications_next}
+use Rattle.pb_tree.specs.laws.Meant.{reifications_next}
 use Rattle.pb_tree.proofs.TreeReifications.{length-reifications}
 
 -- what the fresh variables of some terms mean
 abbrev pub part_reifications : Scheme → List Term → ℕ → List Reification
 part_reifications s ts first = reifications s (tree_of (weights ts)) first
+
+-- the same justifications, written another way
+pub same_as : (rs qs : List Justification) → rs ≡ qs → HaveSameSteps rs qs
+same_as rs qs is = record { count = ap length is; steps = λ next. ap (λ (xs : List Justification). claim_steps next (map by_justification xs)) is }
+
+-- and the whole derivation with them
+pub same_phases : (next : ℕ) (ms : List Reification) (rs qs : List Justification) → HaveSameSteps rs qs → phases next ms (map by_justification rs) ≡ phases next ms (map by_justification qs)
+same_phases next ms rs qs same = ap (λ (ss : List Step). reification_steps next ms ++ (ss ++ deletion_steps 2 next (length ms))) (same.steps (next + 2 * length ms))
 
 module _ {R : Type 0} (s : Scheme) (ts : List Term) (first : ℕ) (old mid : StepState R) (meant : TakesSteps (reification_steps old.next (part_reifications s ts first)) old mid) where
   pub meant_next : mid.next ≡ old.next + 2 * fresh_of s (tree_of (weights ts))

@@ -9,7 +9,7 @@ use Rattle.pb_tree.specs.Halves.{Halves}
 use Rattle.pb_tree.specs.Scheme.{Scheme, values, along, fresh_of}
 use Rattle.pb_tree.specs.Tree.{Tree, empty, leaf, node, tree_of}
 use Rattle.pb_tree.specs.TreeSteps.{leaves, own_reifications, reifications_from, justifications_along}
-use Rattle.pb_tree.specs.inner.Walks.{AreParts, Suits, fresh_over}
+use Rattle.pb_tree.specs.inner.Walks.{AreParts, IsTreeSum, Suits, fresh_over}
 use Rattle.pb_tree.proofs.SplitTerms.{fresh_parts, leaf_of, some_term}
 use Rattle.pb_tree.proofs.TreeReifications.{length-reifications_from}
 use Rattle.pb_tree.proofs.TreeRows.{leaves_of}
@@ -63,6 +63,24 @@ module _ {ts front back : List Term} (half : Halves ts front back) where
       let l = tree_of (weights front) in
       let r = tree_of (weights back) in
       omega (arith, ap length (node_along s own before next at), length-append (along s own l before) (along s own r next ++ own l r before), length-append (along s own r next) (own l r before))
+
+-- a node's values, and its own fresh variables
+pub record IsNode (s : Scheme) (most before next : ℕ) (ts front back : List Term) (us : List ℕ) : Type 0 where
+  pub own : us ≡ values s (node (tree_of (weights front)) (tree_of (weights back)))
+  pub after : next + length us ≡ before + fresh_over s ts
+  pub within : next + length us ≤ most
+
+pub node_of : {s : Scheme} {most before next : ℕ} {ts front back : List Term} {us : List ℕ} → AreParts s ts front back before next → Suits s most ts before → us ≡ values s (tree_of (weights ts)) → IsNode s most before next ts front back us
+node_of {s} {ts = ts} {front} {back} {us} parts suits is =
+    let l = tree_of (weights front) in
+    let r = tree_of (weights back) in
+    let own : us ≡ values s (node l r) = is ∙ ap (values s) parts.halves.tree in
+    let whole : fresh_over s ts ≡ fresh_over s front + fresh_over s back + length (values s (node l r)) = ap (fresh_of s) parts.halves.tree in
+    record { own = own; after = omega (arith, whole, ap length own, parts.behind); within = omega (arith, whole, ap length own, parts.behind, suits.fits) }
+
+-- a sum's own tree
+pub sum_suits : {s : Scheme} {ts : List Term} {first : ℕ} → IsTreeSum s ts first → Suits s (fresh_over s ts) ts 0
+sum_suits sum = record { positive = sum.positive; light = sum.light; fits = omega arith }
 
 -- ---- what walks hand over, from a first variable and a first id on
 

@@ -5,3 +5,4 @@ pub mod Scheme
 pub mod Tree
 pub mod TreeSteps
 pub mod inner
+pub mod laws

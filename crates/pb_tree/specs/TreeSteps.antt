@@ -1,7 +1,8 @@
 -- How the clauses along a tree are derived: an output means that its leaves reach its value (our own).
 use Rattle.std.specs.Prelude.{ℕ, zero, suc, ◌+◌, ◌*◌, List, [], ◌∷◌, ◌++◌, map, min}
+use Rattle.pb_base.specs.declared.literal.Term.{Term}
 use Rattle.pb_base.specs.Literals.{negated}
-use Rattle.pb_norm.specs.Constraints.{Weighted}
+use Rattle.pb_norm.specs.Constraints.{Weighted, weights}
 use Rattle.pb_norm.specs.BoundedSums.{vars_of}
 use Rattle.pb_steps.specs.declared.step.Step.{Step}
 use Rattle.pb_derive.specs.Reifications.{Reification}
@@ -9,7 +10,7 @@ use Rattle.pb_derive.specs.Phases.{phases}
 use Rattle.pb_derive.specs.Justifications.{Justification, by_justification}
 use Rattle.pb_tree.specs.Pairs.{Pair, pair_clause}
 use Rattle.pb_tree.specs.Scheme.{Scheme, values, fresh_of, output, along}
-use Rattle.pb_tree.specs.Tree.{Tree, empty, leaf, node}
+use Rattle.pb_tree.specs.Tree.{Tree, empty, leaf, node, tree_of}
 
 abbrev pub leaves : Tree → List Weighted
 leaves empty = []
@@ -88,3 +89,7 @@ tree_justifications s pairs t first id own = justifications s pairs t first id +
 -- from the next id on
 abbrev pub tree_steps : Scheme → (List ℕ → List ℕ → List Pair) → Tree → ℕ → ℕ → ℕ → List Step
 tree_steps s pairs t first own next = phases next (reifications s t first) (map by_justification (tree_justifications s pairs t first next own))
+
+-- of some terms, where the clauses follow in any way
+abbrev pub steps_along : Scheme → List Term → ℕ → (ℕ → List Justification) → ℕ → List Step
+steps_along s ts first given next = phases next (reifications s (tree_of (weights ts)) first) (map by_justification (given next))

@@ -24,13 +24,9 @@ pub three_and_one_rows : table_rows three_and_one 3 ≡ ((pos 1, x 3) ∷ (pos 3
 unfolding split_within
 three_and_one_rows = refl
 
-pub three_and_one_fresh : table_fresh three_and_one ≡ 3
+pub three_and_one_counts : (table_fresh three_and_one ≡ 3) × (table_size three_and_one ≡ 5)
 unfolding split_within
-three_and_one_fresh = refl
-
-pub three_and_one_size : table_size three_and_one ≡ 5
-unfolding split_within
-three_and_one_size = refl
+three_and_one_counts = (refl, refl)
 
 -- 2x1 + 1x2 + 1x3, where two sums are one
 abbrev two_and_ones : List Weighted
@@ -56,13 +52,9 @@ pub two_and_ones_rows : table_rows two_and_ones 4 ≡ ((pos 1, x 6) ∷ (pos 2, 
 unfolding split_within
 two_and_ones_rows = refl
 
-pub two_and_ones_fresh : table_fresh two_and_ones ≡ 6
+pub two_and_ones_counts : (table_fresh two_and_ones ≡ 6) × (table_size two_and_ones ≡ 11)
 unfolding split_within
-two_and_ones_fresh = refl
-
-pub two_and_ones_size : table_size two_and_ones ≡ 11
-unfolding split_within
-two_and_ones_size = refl
+two_and_ones_counts = (refl, refl)
 
 -- three lines for each fresh variable, and two for each clause
 pub two_and_ones_lines : length (table_steps two_and_ones 4 1) ≡ 40
@@ -75,19 +67,11 @@ unfolding split_within
 wide_values = refl
 
 -- a single term is its own output
-pub one_term_clauses : table_clauses (weighing 1 (6 ∷ [])) 2 ≡ []
+pub one_term : (table_clauses (weighing 1 (6 ∷ [])) 2 ≡ []) × (table_rows (weighing 1 (6 ∷ [])) 2 ≡ ((pos 6, x 1) ∷ []))
 unfolding split_within
-one_term_clauses = refl
-
-pub one_term_rows : table_rows (weighing 1 (6 ∷ [])) 2 ≡ ((pos 6, x 1) ∷ [])
-unfolding split_within
-one_term_rows = refl
+one_term = (refl, refl)
 
 -- no term gives no row
-pub no_term_clauses : table_clauses [] 1 ≡ []
+pub no_term : (table_clauses [] 1 ≡ []) × (table_rows [] 1 ≡ [])
 unfolding split_within
-no_term_clauses = refl
-
-pub no_term_rows : table_rows [] 1 ≡ []
-unfolding split_within
-no_term_rows = refl
+no_term = (refl, refl)

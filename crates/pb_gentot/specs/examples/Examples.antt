@@ -65,71 +65,17 @@ pub sums_coincide : generalized_clauses (at_most 2 (2 ∷ 1 ∷ 1 ∷ [])) 4
 unfolding split_within
 sums_coincide = refl
 
-pub three_terms_fresh : generalized_fresh (at_most 5 (4 ∷ 3 ∷ 2 ∷ [])) ≡ 8
-unfolding split_within
-three_terms_fresh = refl
+-- how many fresh variables and clauses there are with these coefficients
+abbrev HasCounts : ℕ → List ℕ → ℕ → ℕ → Type 0
+HasCounts bound coefs fresh size = (generalized_fresh (at_most bound coefs) ≡ fresh) × (generalized_size (at_most bound coefs) ≡ size)
 
-pub three_terms_size : generalized_size (at_most 5 (4 ∷ 3 ∷ 2 ∷ [])) ≡ 11
+pub counts : HasCounts 5 (4 ∷ 3 ∷ 2 ∷ []) 8 11
+    × HasCounts 3 (3 ∷ 2 ∷ []) 3 4
+    × HasCounts 2 (2 ∷ 1 ∷ 1 ∷ []) 5 9
+    × HasCounts 7 (5 ∷ 3 ∷ 2 ∷ 2 ∷ []) 11 18
+    × HasCounts 4 (3 ∷ 3 ∷ 2 ∷ 1 ∷ []) 10 18
+    × HasCounts 10 (7 ∷ 5 ∷ 3 ∷ 2 ∷ 2 ∷ 1 ∷ []) 28 62
+    × HasCounts 6 (4 ∷ 4 ∷ 2 ∷ 2 ∷ 1 ∷ []) 17 31
+    × HasCounts 12 (6 ∷ 5 ∷ 4 ∷ 3 ∷ 2 ∷ 1 ∷ []) 32 76
 unfolding split_within
-three_terms_size = refl
-
-pub two_terms_fresh : generalized_fresh (at_most 3 (3 ∷ 2 ∷ [])) ≡ 3
-unfolding split_within
-two_terms_fresh = refl
-
-pub two_terms_size : generalized_size (at_most 3 (3 ∷ 2 ∷ [])) ≡ 4
-unfolding split_within
-two_terms_size = refl
-
-pub sums_coincide_fresh : generalized_fresh (at_most 2 (2 ∷ 1 ∷ 1 ∷ [])) ≡ 5
-unfolding split_within
-sums_coincide_fresh = refl
-
-pub sums_coincide_size : generalized_size (at_most 2 (2 ∷ 1 ∷ 1 ∷ [])) ≡ 9
-unfolding split_within
-sums_coincide_size = refl
-
--- 5x1 + 3x2 + 2x3 + 2x4 <= 7
-pub four_terms_fresh : generalized_fresh (at_most 7 (5 ∷ 3 ∷ 2 ∷ 2 ∷ [])) ≡ 11
-unfolding split_within
-four_terms_fresh = refl
-
-pub four_terms_size : generalized_size (at_most 7 (5 ∷ 3 ∷ 2 ∷ 2 ∷ [])) ≡ 18
-unfolding split_within
-four_terms_size = refl
-
--- 3x1 + 3x2 + 2x3 + 1x4 <= 4
-pub four_small_fresh : generalized_fresh (at_most 4 (3 ∷ 3 ∷ 2 ∷ 1 ∷ [])) ≡ 10
-unfolding split_within
-four_small_fresh = refl
-
-pub four_small_size : generalized_size (at_most 4 (3 ∷ 3 ∷ 2 ∷ 1 ∷ [])) ≡ 18
-unfolding split_within
-four_small_size = refl
-
--- 7x1 + 5x2 + 3x3 + 2x4 + 2x5 + 1x6 <= 10
-pub six_terms_fresh : generalized_fresh (at_most 10 (7 ∷ 5 ∷ 3 ∷ 2 ∷ 2 ∷ 1 ∷ [])) ≡ 28
-unfolding split_within
-six_terms_fresh = refl
-
-pub six_terms_size : generalized_size (at_most 10 (7 ∷ 5 ∷ 3 ∷ 2 ∷ 2 ∷ 1 ∷ [])) ≡ 62
-unfolding split_within
-six_terms_size = refl
-
--- 4x1 + 4x2 + 2x3 + 2x4 + 1x5 <= 6
-pub five_terms_fresh : generalized_fresh (at_most 6 (4 ∷ 4 ∷ 2 ∷ 2 ∷ 1 ∷ [])) ≡ 17
-unfolding split_within
-five_terms_fresh = refl
-
-pub five_terms_size : generalized_size (at_most 6 (4 ∷ 4 ∷ 2 ∷ 2 ∷ 1 ∷ [])) ≡ 31
-unfolding split_within
-five_terms_size = refl
-
--- 6x1 + 5x2 + 4x3 + 3x4 + 2x5 + 1x6 <= 12
-pub six_steps_fresh : generalized_fresh (at_most 12 (6 ∷ 5 ∷ 4 ∷ 3 ∷ 2 ∷ 1 ∷ [])) ≡ 32
-unfolding split_within
-six_steps_fresh = refl
-
-pub six_steps_size : generalized_size (at_most 12 (6 ∷ 5 ∷ 4 ∷ 3 ∷ 2 ∷ 1 ∷ [])) ≡ 76
-unfolding split_within
-six_steps_size = refl
+counts = ((refl, refl), (refl, refl), (refl, refl), (refl, refl), (refl, refl), (refl, refl), (refl, refl), (refl, refl))

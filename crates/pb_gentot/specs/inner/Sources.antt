@@ -3,8 +3,7 @@ use Rattle.std.specs.Prelude.{◌≡◌, ℕ, ◌+◌, ◌*◌, ◌≤◌, All, 
 use Rattle.std.specs.List.{flat_map, range_with_len}
 use Rattle.pb_base.specs.declared.literal.Term.{Term}
 use Rattle.pb_norm.specs.BoundedSums.{vars_of}
-use Rattle.pb_norm.specs.Constraints.{Weighted, weights}
-use Rattle.pb_derive.specs.Reifications.{Reification}
+use Rattle.pb_norm.specs.Constraints.{weights}
 use Rattle.pb_derive.specs.Justifications.{Justification}
 use Rattle.pb_tree.specs.Places.{place_of}
 use Rattle.pb_tree.specs.Scheme.{values}
@@ -16,10 +15,6 @@ use Rattle.pb_gentot.specs.declared.node_ids.Handed.{Handed}
 use Rattle.pb_gentot.specs.declared.node_ids.NodeIds.{NodeIds}
 use Rattle.pb_gentot.specs.declared.node_ids.Owned.{Owned}
 use Rattle.pb_gentot.specs.inner.Ids.{ids_at}
-
--- the output of the value at a place says that it is reached
-abbrev pub output_reification : ℕ → List Weighted → List ℕ → ℕ → Reification
-output_reification first ts us place = record { var = first + place; sum = ts; least = slice_index us place }
 
 -- of a value
 abbrev pub ids_of : Handed → ℕ → List ℕ

@@ -48,12 +48,6 @@ limit_weakened node i j = vars_of (weights (weakened_after node.left.terms.now n
 abbrev pub limit_beside : NodeIds → ℕ → ℕ → Justification
 limit_beside node i j = limit_given node.left.count node.right.count node.left.source node.left.terms.now node.right.source node.right.terms.now node.own i j
 
-abbrev pub limit_row_beside : NodeIds → ℕ → List Justification
-limit_row_beside node i = limit_row_given node.count node.left.count node.right.count node.left.source node.left.terms.now node.right.source node.right.terms.now node.own i
-
-abbrev pub limits_beside : NodeIds → List Justification
-limits_beside node = limits_given node.count node.left.count node.right.count node.left.source node.left.terms.now node.right.source node.right.terms.now node.own
-
 -- of the root's output, whose sum's constraint from below has the id `lower`
 abbrev pub least_given : Source → ℕ → ℕ → Justification
 least_given root number lower = record { clause = []; ids = seconds_from root number ++ lower ∷ []; weakened = [] }

@@ -3,8 +3,7 @@ use Rattle.std.specs.Prelude.{◌≡◌, ℕ, zero, suc, ◌+◌, ◌-◌, ◌*�
 use Rattle.std.specs.List.{flat_map, range_with_len}
 use Rattle.pb_base.specs.declared.literal.Term.{Term}
 use Rattle.pb_norm.specs.BoundedSums.{vars_of}
-use Rattle.pb_norm.specs.Constraints.{Weighted, weights}
-use Rattle.pb_derive.specs.Reifications.{Reification}
+use Rattle.pb_norm.specs.Constraints.{weights}
 use Rattle.pb_derive.specs.Justifications.{Justification}
 use Rattle.pb_tree.specs.Tree.{tree_of}
 use Rattle.pb_tree.specs.TreeSteps.{output_ids}
@@ -14,10 +13,6 @@ use Rattle.pb_totalizer.specs.declared.handing.Handed.{Handed}
 use Rattle.pb_totalizer.specs.declared.node_ids.NodeIds.{NodeIds}
 use Rattle.pb_totalizer.specs.declared.node_ids.Source.{Source}
 use Rattle.pb_totalizer.specs.declared.node_ids.Source.TheVariants.{Leaf, Fresh}
-
--- the output at a place, from 0 on, says that one more is reached
-abbrev pub output_reification : ℕ → List Weighted → ℕ → Reification
-output_reification first ts place = record { var = first + place; sum = ts; least = place + 1 }
 
 -- a leaf has no constraints; the ids of an output's first one go up by two
 abbrev pub ids_from : Source → ℕ → List ℕ
@@ -63,12 +58,6 @@ pair_weakened node i j = vars_of (weights (weakened_at node.left.terms.now i)) +
 
 abbrev pub pair_beside : NodeIds → ℕ → ℕ → Justification
 pair_beside node i j = pair_given node.left.source node.left.terms.now node.right.source node.right.terms.now node.own i j
-
-abbrev pub row_beside : NodeIds → ℕ → List Justification
-row_beside node i = row_given node.cap node.right.count node.left.source node.left.terms.now node.right.source node.right.terms.now node.own i
-
-abbrev pub node_beside : NodeIds → List Justification
-node_beside node = node_given node.cap node.left.count node.right.count node.left.source node.left.terms.now node.right.source node.right.terms.now node.own
 
 -- of the root, whose sum's own constraint has the id `own`
 abbrev pub root_given : Source → ℕ → ℕ → Justification

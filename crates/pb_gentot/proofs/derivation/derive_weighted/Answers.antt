@@ -1,12 +1,11 @@
-use Rattle.std.proofs.Common.{ℕ, arith}
+use Rattle.std.proofs.Common.{arith}
 use Rattle.pb_norm.specs.Constraints.{weights}
-use Rattle.pb_family.proofs.FlatPieces.{justifications_next}
-use Rattle.pb_family.proofs.HandedPhases.{stopped_in_reifications, stopped_in_claims}
+use Rattle.pb_family.proofs.Deriving.{steps_same}
 use Rattle.pb_tree.specs.Tree.{tree_of}
 use Rattle.pb_tree.specs.TreeSteps.{tree_justifications}
 use Rattle.pb_tree.proofs.TreeCounts.{all_counted}
-use Rattle.pb_tree.proofs.TreeHanded.{all_from}
-use Rattle.pb_tree.proofs.TreePhases.{part_reifications, meant_next, derived}
+use Rattle.pb_tree.proofs.TreeHanded.{all_first_free}
+use Rattle.pb_tree.proofs.TreePhases.{part_reifications, same_phases}
 use Rattle.pb_gentot.specs.Generalized.{generalized}
 use Rattle.pb_gentot.specs.GeneralizedSteps.{generalized_pairs}
 use Rattle.pb_gentot.specs.inner.Sources.{all_justifications}
@@ -14,39 +13,17 @@ use Rattle.pb_gentot.proofs.Bounds.{justifications_are}
 use Rattle.pb_gentot.proofs.Parts.{leaves_add}
 use Rattle.pb_gentot.proofs.derivation.derive_weighted.Goals as goal
 
-pub returns-in_err-fresh : goal.returns-in_err-fresh
-returns-in_err-fresh g c =
-    let ts = c.args.whole.now.terms.now in
-    let base : ℕ = c.next_id-base.result in
-    let old = g.T.StepSink.state c.args.sink.now in
-    stopped_in_reifications c.from_residual.result (part_reifications (generalized c.args.whole.now.bound) ts c.args.whole.now.first) (all_justifications c.args.whole.now.bound ts base c.args.id) (tree_justifications (generalized c.args.whole.now.bound) generalized_pairs (tree_of (weights ts)) c.args.whole.now.first old.next c.args.id) (all_from (generalized c.args.whole.now.bound) generalized_pairs (tree_of (weights ts)) c.args.whole.now.first c.args.id base old.next c.next_id-base.ensures) old _ (g.T.StepSink.state c.derive_reifications.new.sink) c.from_residual.ensures.1 c.in_err-fresh.ensures.hands
-
-pub derive_clauses-requires-clause-room : goal.derive_clauses-requires-clause-room
-derive_clauses-requires-clause-room g c =
-    let ts = c.args.whole.now.terms.now in
-    let next = meant_next (generalized c.args.whole.now.bound) ts c.args.whole.now.first (g.T.StepSink.state c.args.sink.now) (g.T.StepSink.state c.derive_reifications.new.sink) c.in_ok-fresh.ensures.hands in
-    omega (arith, next, justifications_are c.args.whole.now.bound ts c.next_id-base.result (leaves_add ts c.args.whole.now.whole.positive), c.requires.modest, c.requires.few, c.args.whole.now.whole.fits)
-
-pub returns-in_err-derive_clauses : goal.returns-in_err-derive_clauses
-returns-in_err-derive_clauses g c =
-    let ts = c.args.whole.now.terms.now in
-    let base : ℕ = c.next_id-base.result in
-    let old = g.T.StepSink.state c.args.sink.now in
-    stopped_in_claims c.from_residual-in_err-derive_clauses.result (part_reifications (generalized c.args.whole.now.bound) ts c.args.whole.now.first) (all_justifications c.args.whole.now.bound ts base c.args.id) (tree_justifications (generalized c.args.whole.now.bound) generalized_pairs (tree_of (weights ts)) c.args.whole.now.first old.next c.args.id) (all_from (generalized c.args.whole.now.bound) generalized_pairs (tree_of (weights ts)) c.args.whole.now.first c.args.id base old.next c.next_id-base.ensures) old _ (g.T.StepSink.state c.derive_reifications.new.sink) (g.T.StepSink.state c.derive_clauses.new.sink)
-    c.from_residual-in_err-derive_clauses.ensures.1 c.in_ok-fresh.ensures.hands c.in_err-derive_clauses.ensures
-
-pub derive_deletions-requires-clause-few : goal.derive_deletions-requires-clause-few
-derive_deletions-requires-clause-few g c =
-    let ts = c.args.whole.now.terms.now in
-    let base : ℕ = c.next_id-base.result in
-    let next = meant_next (generalized c.args.whole.now.bound) ts c.args.whole.now.first (g.T.StepSink.state c.args.sink.now) (g.T.StepSink.state c.derive_reifications.new.sink) c.in_ok-fresh.ensures.hands in
-    let last = justifications_next (all_justifications c.args.whole.now.bound ts base c.args.id) (g.T.StepSink.state c.derive_reifications.new.sink) (g.T.StepSink.state c.derive_clauses.new.sink) c.in_ok-derive_clauses.ensures in
-    omega (arith, next, last, all_counted (generalized c.args.whole.now.bound) generalized_pairs (tree_of (weights ts)) 0 base c.args.id, justifications_are c.args.whole.now.bound ts base (leaves_add ts c.args.whole.now.whole.positive), c.requires.modest, c.requires.few, c.args.whole.now.whole.fits)
+pub derive_along-requires-clause-few : goal.derive_along-requires-clause-few
+derive_along-requires-clause-few g c = λ id.
+    let w = c.args.whole.now in
+    omega (arith, all_counted (generalized w.bound) generalized_pairs (tree_of (weights w.terms.now)) 0 id c.args.id, justifications_are w.bound w.terms.now id (leaves_add w.terms.now w.whole.positive), c.requires.modest)
 
 pub returns : goal.returns
 returns g c =
-    let ts = c.args.whole.now.terms.now in
-    let base : ℕ = c.next_id-base.result in
+    let w = c.args.whole.now in
+    let s = generalized w.bound in
+    let t = tree_of (weights w.terms.now) in
     let old = g.T.StepSink.state c.args.sink.now in
-    derived (generalized c.args.whole.now.bound) ts c.args.whole.now.first old (g.T.StepSink.state c.derive_reifications.new.sink) c.in_ok-fresh.ensures.hands c.derive_deletions.result (all_justifications c.args.whole.now.bound ts base c.args.id) (tree_justifications (generalized c.args.whole.now.bound) generalized_pairs (tree_of (weights ts)) c.args.whole.now.first old.next c.args.id) base c.in_ok-fresh.fresh (g.T.StepSink.state c.derive_clauses.new.sink) (g.T.StepSink.state c.derive_deletions.new.sink)
-    (all_from (generalized c.args.whole.now.bound) generalized_pairs (tree_of (weights ts)) c.args.whole.now.first c.args.id base old.next c.next_id-base.ensures) c.next_id-base.ensures c.in_ok-fresh.ensures.count c.in_ok-derive_clauses.ensures c.derive_deletions.ensures
+    let rs = all_justifications w.bound w.terms.now old.next c.args.id in
+    let qs = tree_justifications s generalized_pairs t w.first old.next c.args.id in
+    steps_same c.derive_along.result _ _ old (g.T.StepSink.state c.derive_along.new.sink) (same_phases old.next (part_reifications s w.terms.now w.first) rs qs (all_first_free s generalized_pairs t 0 w.first old.next c.args.id)) c.derive_along.ensures

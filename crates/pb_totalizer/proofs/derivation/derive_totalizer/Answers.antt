@@ -1,13 +1,11 @@
-use Rattle.std.proofs.Common.{◌≤◌, ◌+◌, ◌^◌, ℕ, arith}
+use Rattle.std.proofs.Common.{◌+◌, arith}
 use Rattle.pb_norm.specs.Constraints.{weights}
-use Rattle.pb_family.proofs.FlatPieces.{justifications_next}
-use Rattle.pb_family.proofs.HandedPhases.{stopped_in_reifications, stopped_in_claims}
+use Rattle.pb_family.proofs.Deriving.{steps_same}
 use Rattle.pb_tree.specs.Tree.{tree_of}
-use Rattle.pb_tree.specs.Scheme.{fresh_of}
 use Rattle.pb_tree.specs.TreeSteps.{tree_justifications}
 use Rattle.pb_tree.proofs.TreeCounts.{all_counted}
-use Rattle.pb_tree.proofs.TreeHanded.{all_from}
-use Rattle.pb_tree.proofs.TreePhases.{part_reifications, meant_next, derived}
+use Rattle.pb_tree.proofs.TreeHanded.{all_first_free}
+use Rattle.pb_tree.proofs.TreePhases.{part_reifications, same_phases}
 use Rattle.pb_totalizer.specs.Totalizer.{totalizer}
 use Rattle.pb_totalizer.specs.TotalizerSteps.{totalizer_pairs}
 use Rattle.pb_totalizer.specs.declared.polarity.Polarity.TheVariants.{Up}
@@ -15,54 +13,18 @@ use Rattle.pb_totalizer.specs.laws.Polarity.{all_justifications}
 use Rattle.pb_totalizer.proofs.PartsCounted.{few_justifications}
 use Rattle.pb_totalizer.proofs.derivation.derive_totalizer.Goals as goal
 
-pub returns-in_err-fresh : goal.returns-in_err-fresh
-returns-in_err-fresh g c =
-    let whole = c.args.whole.now in
-    let ts = whole.terms.now in
-    let s = totalizer whole.bound in
-    let base : ℕ = c.next_id-base.result in
-    let old = g.T.StepSink.state c.args.sink.now in
-    stopped_in_reifications c.from_residual.result (part_reifications s ts whole.first) (all_justifications whole.bound ts base c.args.id) (tree_justifications s (totalizer_pairs (whole.bound + 1)) (tree_of (weights ts)) whole.first old.next c.args.id) (all_from s (totalizer_pairs (whole.bound + 1)) (tree_of (weights ts)) whole.first c.args.id base old.next c.next_id-base.ensures) old _ (g.T.StepSink.state c.derive_reifications.new.sink) c.from_residual.ensures.1 c.in_err-fresh.ensures.hands
-
-pub derive_clauses-requires-clause-room : goal.derive_clauses-requires-clause-room
-derive_clauses-requires-clause-room g c =
-    let whole = c.args.whole.now in
-    let ts = whole.terms.now in
-    let s = totalizer whole.bound in
-    let base : ℕ = c.next_id-base.result in
-    let old = g.T.StepSink.state c.args.sink.now in
-    let next = meant_next s ts whole.first old (g.T.StepSink.state c.derive_reifications.new.sink) c.in_ok-fresh.ensures.hands in
-    let fresh : fresh_of s (tree_of (weights ts)) ≤ 2 ^ 31 = omega (arith, whole.whole.fits) in
-    omega (arith, next, few_justifications Up whole.bound ts base whole.whole.from fresh, c.requires, fresh)
-
-pub returns-in_err-derive_clauses : goal.returns-in_err-derive_clauses
-returns-in_err-derive_clauses g c =
-    let whole = c.args.whole.now in
-    let ts = whole.terms.now in
-    let s = totalizer whole.bound in
-    let base : ℕ = c.next_id-base.result in
-    let old = g.T.StepSink.state c.args.sink.now in
-    stopped_in_claims c.from_residual-in_err-derive_clauses.result (part_reifications s ts whole.first) (all_justifications whole.bound ts base c.args.id) (tree_justifications s (totalizer_pairs (whole.bound + 1)) (tree_of (weights ts)) whole.first old.next c.args.id) (all_from s (totalizer_pairs (whole.bound + 1)) (tree_of (weights ts)) whole.first c.args.id base old.next c.next_id-base.ensures) old _ (g.T.StepSink.state c.derive_reifications.new.sink) (g.T.StepSink.state c.derive_clauses.new.sink)
-    c.from_residual-in_err-derive_clauses.ensures.1 c.in_ok-fresh.ensures.hands c.in_err-derive_clauses.ensures
-
-pub derive_deletions-requires-clause-few : goal.derive_deletions-requires-clause-few
-derive_deletions-requires-clause-few g c =
-    let whole = c.args.whole.now in
-    let ts = whole.terms.now in
-    let s = totalizer whole.bound in
-    let base : ℕ = c.next_id-base.result in
-    let old = g.T.StepSink.state c.args.sink.now in
-    let next = meant_next s ts whole.first old (g.T.StepSink.state c.derive_reifications.new.sink) c.in_ok-fresh.ensures.hands in
-    let last = justifications_next (all_justifications whole.bound ts base c.args.id) (g.T.StepSink.state c.derive_reifications.new.sink) (g.T.StepSink.state c.derive_clauses.new.sink) c.in_ok-derive_clauses.ensures in
-    let fresh : fresh_of s (tree_of (weights ts)) ≤ 2 ^ 31 = omega (arith, whole.whole.fits) in
-    omega (arith, next, last, all_counted s (totalizer_pairs (whole.bound + 1)) (tree_of (weights ts)) 0 base c.args.id, few_justifications Up whole.bound ts base whole.whole.from fresh, c.requires, fresh)
+pub derive_along-requires-clause-few : goal.derive_along-requires-clause-few
+derive_along-requires-clause-few g c = λ id.
+    let w = c.args.whole.now in
+    omega (arith, all_counted (totalizer w.bound) (totalizer_pairs (w.bound + 1)) (tree_of (weights w.terms.now)) 0 id c.args.id, few_justifications Up w.bound w.terms.now id w.whole)
 
 pub returns : goal.returns
 returns g c =
-    let whole = c.args.whole.now in
-    let ts = whole.terms.now in
-    let s = totalizer whole.bound in
-    let base : ℕ = c.next_id-base.result in
+    let w = c.args.whole.now in
+    let s = totalizer w.bound in
+    let pairs = totalizer_pairs (w.bound + 1) in
+    let t = tree_of (weights w.terms.now) in
     let old = g.T.StepSink.state c.args.sink.now in
-    derived s ts whole.first old (g.T.StepSink.state c.derive_reifications.new.sink) c.in_ok-fresh.ensures.hands c.derive_deletions.result (all_justifications whole.bound ts base c.args.id) (tree_justifications s (totalizer_pairs (whole.bound + 1)) (tree_of (weights ts)) whole.first old.next c.args.id) base c.in_ok-fresh.fresh
-    (g.T.StepSink.state c.derive_clauses.new.sink) (g.T.StepSink.state c.derive_deletions.new.sink) (all_from s (totalizer_pairs (whole.bound + 1)) (tree_of (weights ts)) whole.first c.args.id base old.next c.next_id-base.ensures) c.next_id-base.ensures c.in_ok-fresh.ensures.count c.in_ok-derive_clauses.ensures c.derive_deletions.ensures
+    steps_same c.derive_along.result _ _ old (g.T.StepSink.state c.derive_along.new.sink)
+    (same_phases old.next (part_reifications s w.terms.now w.first) (all_justifications w.bound w.terms.now old.next c.args.id) (tree_justifications s pairs t w.first old.next c.args.id) (all_first_free s pairs t 0 w.first old.next c.args.id))
+    c.derive_along.ensures

@@ -1,11 +1,7 @@
-use Rattle.std.proofs.Common.{◌≤◌, ◌^◌, ℕ, arith}
+use Rattle.std.proofs.Common.{refl, arith}
 use Rattle.pb_norm.specs.BoundedSums.{sum_within}
-use Rattle.pb_norm.specs.Constraints.{weights}
-use Rattle.pb_family.proofs.FlatPieces.{justifications_next}
-use Rattle.pb_family.proofs.HandedPhases.{stopped_in_reifications, stopped_in_claims}
-use Rattle.pb_tree.specs.Tree.{tree_of}
-use Rattle.pb_tree.specs.Scheme.{fresh_of}
-use Rattle.pb_tree.proofs.TreePhases.{part_reifications, meant_next, derived}
+use Rattle.pb_family.proofs.Deriving.{steps_same}
+use Rattle.pb_tree.proofs.TreePhases.{part_reifications, same_phases}
 use Rattle.pb_totalizer.specs.ExactSteps.{exact_justifications}
 use Rattle.pb_totalizer.specs.Totalizer.{totalizer}
 use Rattle.pb_totalizer.specs.declared.polarity.Polarity.TheVariants.{Both}
@@ -14,54 +10,16 @@ use Rattle.pb_totalizer.proofs.ExactHanded.{exact_all_same, exact_all_counted}
 use Rattle.pb_totalizer.proofs.PartsCounted.{few_justifications}
 use Rattle.pb_totalizer.proofs.exact_derivation.derive_exact.Goals as goal
 
-pub returns-in_err-fresh : goal.returns-in_err-fresh
-returns-in_err-fresh g c =
-    let whole = c.args.whole.now in
-    let ts = whole.terms.now in
-    let s = totalizer whole.bound in
-    let base : ℕ = c.next_id-base.result in
-    let old = g.T.StepSink.state c.args.sink.now in
-    stopped_in_reifications c.from_residual.result (part_reifications s ts whole.first) (exact_all_justifications whole.bound ts base c.args.lower c.args.upper) (exact_justifications (sum_within ts whole.bound) whole.first old.next c.args.lower c.args.upper) (exact_all_same whole.bound ts whole.first c.args.lower c.args.upper base old.next c.next_id-base.ensures) old _ (g.T.StepSink.state c.derive_reifications.new.sink) c.from_residual.ensures.1 c.in_err-fresh.ensures.hands
-
-pub derive_exact_clauses-requires-clause-room : goal.derive_exact_clauses-requires-clause-room
-derive_exact_clauses-requires-clause-room g c =
-    let whole = c.args.whole.now in
-    let ts = whole.terms.now in
-    let s = totalizer whole.bound in
-    let base : ℕ = c.next_id-base.result in
-    let old = g.T.StepSink.state c.args.sink.now in
-    let next = meant_next s ts whole.first old (g.T.StepSink.state c.derive_reifications.new.sink) c.in_ok-fresh.ensures.hands in
-    let fresh : fresh_of s (tree_of (weights ts)) ≤ 2 ^ 31 = omega (arith, whole.whole.fits) in
-    omega (arith, next, few_justifications Both whole.bound ts base whole.whole.from fresh, c.requires, fresh)
-
-pub returns-in_err-derive_exact_clauses : goal.returns-in_err-derive_exact_clauses
-returns-in_err-derive_exact_clauses g c =
-    let whole = c.args.whole.now in
-    let ts = whole.terms.now in
-    let s = totalizer whole.bound in
-    let base : ℕ = c.next_id-base.result in
-    let old = g.T.StepSink.state c.args.sink.now in
-    stopped_in_claims c.from_residual-in_err-derive_exact_clauses.result (part_reifications s ts whole.first) (exact_all_justifications whole.bound ts base c.args.lower c.args.upper) (exact_justifications (sum_within ts whole.bound) whole.first old.next c.args.lower c.args.upper) (exact_all_same whole.bound ts whole.first c.args.lower c.args.upper base old.next c.next_id-base.ensures) old _ (g.T.StepSink.state c.derive_reifications.new.sink) (g.T.StepSink.state c.derive_exact_clauses.new.sink)
-    c.from_residual-in_err-derive_exact_clauses.ensures.1 c.in_ok-fresh.ensures.hands c.in_err-derive_exact_clauses.ensures
-
-pub derive_deletions-requires-clause-few : goal.derive_deletions-requires-clause-few
-derive_deletions-requires-clause-few g c =
-    let whole = c.args.whole.now in
-    let ts = whole.terms.now in
-    let s = totalizer whole.bound in
-    let base : ℕ = c.next_id-base.result in
-    let old = g.T.StepSink.state c.args.sink.now in
-    let next = meant_next s ts whole.first old (g.T.StepSink.state c.derive_reifications.new.sink) c.in_ok-fresh.ensures.hands in
-    let last = justifications_next (exact_all_justifications whole.bound ts base c.args.lower c.args.upper) (g.T.StepSink.state c.derive_reifications.new.sink) (g.T.StepSink.state c.derive_exact_clauses.new.sink) c.in_ok-derive_exact_clauses.ensures in
-    let fresh : fresh_of s (tree_of (weights ts)) ≤ 2 ^ 31 = omega (arith, whole.whole.fits) in
-    omega (arith, next, last, exact_all_counted whole.bound ts base c.args.lower c.args.upper, few_justifications Both whole.bound ts base whole.whole.from fresh, c.requires, fresh)
+pub derive_along-requires-clause-few : goal.derive_along-requires-clause-few
+derive_along-requires-clause-few g c = λ id.
+    let w = c.args.whole.now in
+    omega (arith, exact_all_counted w.bound w.terms.now id c.args.lower c.args.upper, few_justifications Both w.bound w.terms.now id w.whole)
 
 pub returns : goal.returns
 returns g c =
-    let whole = c.args.whole.now in
-    let ts = whole.terms.now in
-    let s = totalizer whole.bound in
-    let base : ℕ = c.next_id-base.result in
+    let w = c.args.whole.now in
     let old = g.T.StepSink.state c.args.sink.now in
-    derived s ts whole.first old (g.T.StepSink.state c.derive_reifications.new.sink) c.in_ok-fresh.ensures.hands c.derive_deletions.result (exact_all_justifications whole.bound ts base c.args.lower c.args.upper) (exact_justifications (sum_within ts whole.bound) whole.first old.next c.args.lower c.args.upper) base c.in_ok-fresh.fresh
-    (g.T.StepSink.state c.derive_exact_clauses.new.sink) (g.T.StepSink.state c.derive_deletions.new.sink) (exact_all_same whole.bound ts whole.first c.args.lower c.args.upper base old.next c.next_id-base.ensures) c.next_id-base.ensures c.in_ok-fresh.ensures.count c.in_ok-derive_exact_clauses.ensures c.derive_deletions.ensures
+    let rs = exact_all_justifications w.bound w.terms.now old.next c.args.lower c.args.upper in
+    let qs = exact_justifications (sum_within w.terms.now w.bound) w.first old.next c.args.lower c.args.upper in
+    steps_same c.derive_along.result _ _ old (g.T.StepSink.state c.derive_along.new.sink)
+    (same_phases old.next (part_reifications (totalizer w.bound) w.terms.now w.first) rs qs (exact_all_same w.bound w.terms.now w.first c.args.lower c.args.upper old.next old.next refl)) c.derive_along.ensures

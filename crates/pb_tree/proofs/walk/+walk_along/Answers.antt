@@ -1,10 +1,10 @@
-use Rattle.std.proofs.Common.{arith, ◌≡◌, ◌+◌, ◌++◌, ℕ, List, length, refl, sym, subst}
+use Rattle.std.proofs.Common.{arith, ◌≡◌, ◌+◌, ℕ, List, length, refl, subst}
 use Rattle.std.specs.Prelude.{IfOk}
 use Rattle.pb_norm.specs.Constraints.{weights}
 use Rattle.pb_tree.specs.Scheme.{along}
 use Rattle.pb_tree.specs.Tree.{tree_of}
 use Rattle.pb_tree.specs.inner.Walks.{fresh_over}
-use Rattle.pb_tree.proofs.Walking.{leaf_along, leaf_fresh, front_suits, back_suits, node_along, node_count}
+use Rattle.pb_tree.proofs.Walking.{leaf_along, leaf_fresh, front_suits, back_suits, node_count}
 use Rattle.pb_tree.proofs.walk.+walk_along.Goals as goal
 
 pub returns-then-terms-eq1-clause-hands : goal.returns-then-terms-eq1-clause-hands

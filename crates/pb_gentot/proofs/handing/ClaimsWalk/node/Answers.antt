@@ -1,4 +1,4 @@
-use Rattle.std.proofs.Common.{◌≡◌, ◌+◌, ◌*◌, List, length, map, refl, arith, Ok}
+use Rattle.std.proofs.Common.{◌+◌, List, map, refl, arith, Ok}
 use Rattle.std.specs.Prelude.{Result}
 use Rattle.pb_norm.specs.Constraints.{weights}
 use Rattle.pb_derive.specs.Claims.{claim_steps}

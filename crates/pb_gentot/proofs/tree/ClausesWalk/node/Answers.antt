@@ -1,4 +1,4 @@
-use Rattle.std.proofs.Common.{◌≡◌, ◌+◌, [], List, refl, sym, ◌∙◌, arith, append-nil}
+use Rattle.std.proofs.Common.{◌+◌, [], List, refl, sym, ◌∙◌, arith, append-nil}
 use Rattle.pb_base.specs.declared.literal.Lit.{Lit}
 use Rattle.pb_norm.specs.Constraints.{weights}
 use Rattle.pb_family.proofs.Emission.{emitting_from, takes_as}

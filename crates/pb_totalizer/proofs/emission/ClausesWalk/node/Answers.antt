@@ -1,5 +1,4 @@
-use Rattle.std.proofs.Common.{◌≡◌, ◌+◌, [], List, min, refl, sym, append-nil, arith}
-use Rattle.pb_base.specs.declared.literal.Lit.{Lit}
+use Rattle.std.proofs.Common.{◌≡◌, ◌+◌, [], min, refl, sym, append-nil, arith}
 use Rattle.pb_norm.specs.Constraints.{weights}
 use Rattle.pb_family.proofs.Emission.{emitting_from, fails_as, hands_fault, takes_as}
 use Rattle.pb_tree.specs.Tree.{tree_of}

@@ -1,4 +1,4 @@
-use Rattle.std.proofs.Common.{◌≡◌, ◌+◌, ◌*◌, List, map, refl, arith, Ok}
+use Rattle.std.proofs.Common.{◌+◌, ◌*◌, List, map, refl, arith, Ok}
 use Rattle.std.specs.Prelude.{Result}
 use Rattle.pb_derive.specs.Claims.{claim_steps}
 use Rattle.pb_derive.specs.Justifications.{Justification, by_justification}

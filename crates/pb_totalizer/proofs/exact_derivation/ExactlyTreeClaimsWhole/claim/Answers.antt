@@ -1,0 +1,74 @@
+use Rattle.std.proofs.Common.{◌+◌, [], ◌∷◌, arith}
+use Rattle.pb_norm.specs.Constraints.{weights}
+use Rattle.pb_family.proofs.Deriving.{steps_same}
+use Rattle.pb_family.proofs.FlatPieces.{justifications_then, justifications_stopped, justifications_next}
+use Rattle.pb_tree.specs.Tree.{tree_of}
+use Rattle.pb_tree.specs.TreeSteps.{root_justification}
+use Rattle.pb_totalizer.specs.ExactSteps.{least_justification}
+use Rattle.pb_totalizer.specs.Totalizer.{totalizer}
+use Rattle.pb_totalizer.specs.declared.polarity.Polarity.TheVariants.{Both}
+use Rattle.pb_totalizer.specs.inner.LimitSources.{least_given}
+use Rattle.pb_totalizer.specs.inner.Sources.{root_given}
+use Rattle.pb_totalizer.specs.laws.Polarity.{justifications_by}
+use Rattle.pb_totalizer.proofs.ExactHanded.{exact_all_counted, exact_ends_last}
+use Rattle.pb_totalizer.proofs.exact_derivation.ExactlyTreeClaimsWhole.claim.Goals as goal
+
+pub derive_nodes-requires-clause-room : goal.derive_nodes-requires-clause-room
+derive_nodes-requires-clause-room g c =
+    let self = c.args.self.now in
+    let w = self.whole.now in
+    omega (arith, exact_all_counted w.bound w.terms.now c.args.id self.lower self.upper, c.requires.room)
+
+pub returns-in_err-root : goal.returns-in_err-root
+returns-in_err-root g c =
+    let self = c.args.self.now in
+    let w = self.whole.now in
+    let ends = least_justification w.bound (tree_of (weights w.terms.now)) 0 c.args.id self.lower ∷ root_justification (totalizer w.bound) (tree_of (weights w.terms.now)) 0 c.args.id self.upper ∷ [] in
+    justifications_stopped c.from_residual.result _ (justifications_by Both w.bound w.terms.now c.args.id) ends (g.T.StepSink.state c.args.sink.now) (g.T.StepSink.state c.derive_nodes.new.sink) c.from_residual.ensures.1 c.in_err-root.ensures.hands
+
+pub derive_least-requires-clause-few : goal.derive_least-requires-clause-few
+derive_least-requires-clause-few g c =
+    let self = c.args.self.now in
+    let w = self.whole.now in
+    let next = justifications_next (justifications_by Both w.bound w.terms.now c.args.id) (g.T.StepSink.state c.args.sink.now) (g.T.StepSink.state c.derive_nodes.new.sink) c.in_ok-root.ensures.hands in
+    omega (arith, next, exact_all_counted w.bound w.terms.now c.args.id self.lower self.upper, c.requires.room)
+
+pub returns-in_err-derive_least : goal.returns-in_err-derive_least
+returns-in_err-derive_least g c =
+    let self = c.args.self.now in
+    let w = self.whole.now in
+    let root = c.in_ok-root.root in
+    let old = g.T.StepSink.state c.args.sink.now in
+    let mid = g.T.StepSink.state c.derive_nodes.new.sink in
+    let new = g.T.StepSink.state c.derive_least.new.sink in
+    let same = exact_ends_last w.bound w.terms.now c.args.id self.lower self.upper root c.in_ok-root.ensures.source in
+    let result = c.from_residual-in_err-derive_least.result in
+    steps_same result _ _ old new (same.steps old.next)
+    (justifications_then result (justifications_by Both w.bound w.terms.now c.args.id) (least_given root w.bound self.lower ∷ root_given root (w.bound + 1) self.upper ∷ []) old mid new c.in_ok-root.ensures.hands
+    (justifications_stopped result _ (least_given root w.bound self.lower ∷ []) (root_given root (w.bound + 1) self.upper ∷ []) mid new c.from_residual-in_err-derive_least.ensures.1 c.in_err-derive_least.ensures))
+
+pub derive_root-requires-clause-few : goal.derive_root-requires-clause-few
+derive_root-requires-clause-few g c =
+    let self = c.args.self.now in
+    let w = self.whole.now in
+    let root = c.in_ok-root.root in
+    let mid = g.T.StepSink.state c.derive_nodes.new.sink in
+    let next = justifications_next (justifications_by Both w.bound w.terms.now c.args.id) (g.T.StepSink.state c.args.sink.now) mid c.in_ok-root.ensures.hands in
+    let after = justifications_next (least_given root w.bound self.lower ∷ []) mid (g.T.StepSink.state c.derive_least.new.sink) c.in_ok-derive_least.ensures in
+    omega (arith, next, after, exact_all_counted w.bound w.terms.now c.args.id self.lower self.upper, c.requires.room)
+
+pub returns : goal.returns
+returns g c =
+    let self = c.args.self.now in
+    let w = self.whole.now in
+    let root = c.in_ok-root.root in
+    let old = g.T.StepSink.state c.args.sink.now in
+    let mid = g.T.StepSink.state c.derive_nodes.new.sink in
+    let one = g.T.StepSink.state c.derive_least.new.sink in
+    let new = g.T.StepSink.state c.derive_root.new.sink in
+    let least = least_given root w.bound self.lower in
+    let most = root_given root (w.bound + 1) self.upper in
+    let same = exact_ends_last w.bound w.terms.now c.args.id self.lower self.upper root c.in_ok-root.ensures.source in
+    steps_same c.derive_root.result _ _ old new (same.steps old.next)
+    (justifications_then c.derive_root.result (justifications_by Both w.bound w.terms.now c.args.id) (least ∷ most ∷ []) old mid new c.in_ok-root.ensures.hands
+    (justifications_then c.derive_root.result (least ∷ []) (most ∷ []) mid one new c.in_ok-derive_least.ensures c.derive_root.ensures))

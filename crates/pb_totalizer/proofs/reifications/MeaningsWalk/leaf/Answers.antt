@@ -1,9 +1,0 @@
-use Rattle.pb_family.proofs.Deriving.{takes_no_steps}
-use Rattle.pb_tree.proofs.SplitTerms.{leaf_of, some_term}
-use Rattle.pb_totalizer.proofs.reifications.MeaningsWalk.leaf.Goals as goal
-
-pub returns-clause-leaves : goal.returns-clause-leaves
-returns-clause-leaves g c = rw (leaf_of c.args._terms.now some_term c.requires.one)
-
-pub returns-clause-hands : goal.returns-clause-hands
-returns-clause-hands g c = takes_no_steps (g.T.StepSink.state c.args._sink.now)
