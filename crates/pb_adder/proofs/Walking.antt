@@ -1,8 +1,9 @@
 -- Loops over lists that hand over steps for one element after another.
-use Rattle.std.proofs.Common.{◌≡◌, ◌<◌, ◌≤◌, ◌+◌, ◌++◌, List, [], ◌∷◌, ℕ, length, get_or, drop, suc, sym, ap, ◌∙◌, arith}
-use Rattle.std.specs.Prelude.{Result, IsErrAnd}
+use Rattle.std.proofs.Common.{◌≡◌, ◌<◌, ◌≤◌, ◌+◌, ◌*◌, ◌++◌, List, [], ◌∷◌, ℕ, length, get_or, drop, suc, sym, ap, ◌∙◌, arith}
+use Rattle.std.specs.Prelude.{Result, IsErrAnd, count_by}
 use Rattle.std.proofs.Math.Seq.{drop-cons}
 use Rattle.std.proofs.lemmas.List.{drop_all}
+use Rattle.pb_steps.specs.Steps.{takes_id}
 use Rattle.pb_steps.specs.declared.step.Step.{Step}
 use Rattle.pb_family.specs.StepSinks.{StepState, TakesSteps, StopsInSteps, HandsSteps}
 use Rattle.pb_family.specs.declared.sink.SinkFault.{SinkFault}
@@ -35,6 +36,35 @@ module _ {R X S : Type 0} {all : List Step} {old now : StepState R} (piece : S �
 -- all elements were taken
 pub walk_ends : {R X S : Type 0} {all : List Step} {old now : StepState R} (piece : S → X → List Step) (move : S → X → S) (xs : List X) (k : ℕ) (s : S) → length xs ≤ k → Deriving all (walk piece move s (drop k xs)) old now → TakesSteps all old now
 walk_ends piece move xs k s done e = deriving_ends (deriving_as (ap (walk piece move s) (drop_all k xs done)) e)
+
+-- ---- elements that take the same number of ids
+
+abbrev pub on : {X : Type 0} → ℕ → ℕ → X → ℕ
+on width next x = next + width
+
+-- of the steps of some elements, each of which takes so many ids, those of the first k were taken
+pub record Walked {R X : Type 0} (piece : ℕ → X → List Step) (width : ℕ) (all : List Step) (xs : List X) (k : ℕ) (old now : StepState R) : Type 0 where
+  pub steps : Deriving all (walk piece (on width) now.next (drop k xs)) old now
+  pub next : now.next ≡ old.next + width * k
+
+pub walked_from : {R X : Type 0} {all : List Step} (piece : ℕ → X → List Step) (width : ℕ) (xs : List X) (old : StepState R) → all ≡ walk piece (on width) old.next xs → Walked piece width all xs 0 old old
+walked_from piece width xs old same = record { steps = deriving_from old same; next = omega arith }
+
+module _ {R X : Type 0} {all : List Step} {old now : StepState R} {piece : ℕ → X → List Step} {width : ℕ} {xs : List X} {k : ℕ} (x : X) (within : k < length xs) (read : x ≡ get_or xs k x)
+    (h : Walked piece width all xs k old now) where
+  pub walked_next : (after : StepState R) → count_by takes_id (piece now.next x) ≡ width → TakesSteps (piece now.next x) now after → Walked piece width all xs (k + 1) old after
+  walked_next after ids handed =
+      let counts : now.next + width ≡ after.next = omega (arith, handed.ids, ids) in
+      record {
+        steps = walk_next piece (on width) x xs k x now.next within read h.steps after.next after counts handed;
+        next = omega (arith, counts, h.next);
+      }
+
+  pub walked_fault : {T : Type 0} (r : Result T SinkFault) (f : SinkFault) (after : StepState R) → IsErrAnd r (λ g. g ≡ f) → StopsInSteps (piece now.next x) now after f → HandsSteps all r old after
+  walked_fault r f after is part = walk_fault piece (on width) x xs k x now.next within read h.steps r f after is part
+
+pub walked_ends : {R X : Type 0} {all : List Step} {old now : StepState R} {piece : ℕ → X → List Step} {width : ℕ} {xs : List X} {k : ℕ} → length xs ≤ k → Walked piece width all xs k old now → TakesSteps all old now
+walked_ends {now = now} {piece} {width} {xs} {k} done h = walk_ends piece (on width) xs k now.next done h.steps
 
 -- ---- two parts
 

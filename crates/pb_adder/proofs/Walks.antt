@@ -22,17 +22,14 @@ use Rattle.pb_family.specs.StepSinks.{StepState, TakesSteps, StopsInSteps, Hands
 use Rattle.pb_family.specs.declared.sink.SinkFault.{SinkFault}
 use Rattle.pb_family.proofs.Deriving.{steps_same}
 use Rattle.pb_adder.specs.laws.LineOps.{power_positive}
-use Rattle.pb_adder.proofs.Walking.{walk, part_stopped, parts_handed}
+use Rattle.pb_adder.proofs.Walking.{on, walk, part_stopped, parts_handed}
 
 -- ---- reifications: what moves is the next id
 
 abbrev pub gate_piece : ℕ → ℕ → Gate → List Step
 gate_piece first next g = reification_steps next (gate_reifications first g)
 
-abbrev pub four_on : {X : Type 0} → ℕ → X → ℕ
-four_on next x = next + 4
-
-pub reifications_walk : (first next : ℕ) (gs : List Gate) → reification_steps next (flat_map (gate_reifications first) gs) ≡ walk (gate_piece first) four_on next gs
+pub reifications_walk : (first next : ℕ) (gs : List Gate) → reification_steps next (flat_map (gate_reifications first) gs) ≡ walk (gate_piece first) (on 4) next gs
 reifications_walk first next [] = refl
 reifications_walk first next (g ∷ gs) =
     ap (λ (ss : List Step). gate_piece first next g ++ ss)
@@ -43,10 +40,7 @@ reifications_walk first next (g ∷ gs) =
 abbrev pub clause_piece : List ℕ → ℕ → List Lit → List Step
 clause_piece ids next c = propagated next ids c
 
-abbrev pub one_on : {X : Type 0} → ℕ → X → ℕ
-one_on next x = next + 1
-
-pub clauses_walk : (ids : List ℕ) (next : ℕ) (cs : List (List Lit)) → claim_steps next (map (by_rup ids) cs) ≡ walk (clause_piece ids) one_on next cs
+pub clauses_walk : (ids : List ℕ) (next : ℕ) (cs : List (List Lit)) → claim_steps next (map (by_rup ids) cs) ≡ walk (clause_piece ids) (on 1) next cs
 clauses_walk ids next [] = refl
 clauses_walk ids next (c ∷ cs) = ap (λ (ss : List Step). clause_piece ids next c ++ ss) (clauses_walk ids (next + 1) cs)
 

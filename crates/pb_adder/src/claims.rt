@@ -5,7 +5,7 @@ ghost use Rattle.pb_adder.specs.AdderSteps.{gate_claims, gate_ids, row_claims};
 ghost use Rattle.pb_adder.specs.Comparator.{comparator, end_needs};
 ghost use Rattle.pb_adder.specs.Gates.{gate_clauses, gate_needs};
 ghost use Rattle.pb_adder.specs.inner.Rows.{rows_in};
-ghost use Rattle.pb_family.specs.inner.HandedJustifications.{HandsClaims};
+ghost use Rattle.pb_family.specs.HandedJustifications.{HandsClaims};
 
 use crate::comparator::row_at;
 use crate::emit::{full_carries, full_sums, half_threes, half_twos};

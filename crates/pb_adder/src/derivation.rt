@@ -10,7 +10,7 @@ impl Adder {
     ghost use Rattle.std.specs.Prelude.{◌≡◌, ◌≤◌, ◌<◌, ◌+◌, ◌*◌, ◌^◌, length};
     ghost use Rattle.pb_norm.specs.Constraints.{weights};
     ghost use Rattle.pb_family.specs.StepSinks.{HandsFrom};
-    ghost use Rattle.pb_family.specs.inner.HandedJustifications.{HandsClaims};
+    ghost use Rattle.pb_family.specs.HandedJustifications.{HandsClaims};
     ghost use Rattle.pb_adder.specs.AdderSteps.{adder_claims, adder_steps, proving_steps};
     ghost use Rattle.pb_adder.specs.Counts.{adder_fresh};
     ghost use Rattle.pb_adder.specs.Network.{network_gates};

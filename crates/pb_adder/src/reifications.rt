@@ -1,8 +1,8 @@
 //! What the fresh variables of adders mean.
-ghost use Rattle.std.specs.Prelude.{◌≡◌, ◌≤◌, ◌<◌, ◌+◌, ◌*◌, ◌^◌, All, length};
+ghost use Rattle.std.specs.Prelude.{◌≡◌, ◌≤◌, ◌<◌, ◌+◌, ◌*◌, ◌^◌, ◌∷◌, [], All, length};
 ghost use Rattle.std.specs.List.{flat_map};
-ghost use Rattle.pb_norm.specs.Constraints.{weighted};
-ghost use Rattle.pb_family.specs.inner.HandedJustifications.{HandsReifications};
+ghost use Rattle.pb_norm.specs.Constraints.{weight, weighted, weights};
+ghost use Rattle.pb_family.specs.HandedJustifications.{HandsReifications};
 ghost use Rattle.pb_adder.specs.GateReifications.{gate_reifications, twice_off};
 ghost use Rattle.pb_adder.specs.Gates.{gate_needs};
 
@@ -22,9 +22,35 @@ fn twice_off(carry: Var) -> Term
     Term { coef: 2, lit }
 }
 
+/// A bit of an adder, which counts once.
+fn once(lit: Lit) -> Term
+    ensures { weighted result ≡ record { coef = 1; lit = lit } }
+{
+    Term { coef: 1, lit }
+}
+
+/// Hands over that a carry is true where two of the bits are, and a sum where three of all are, which are the bits and the carry that
+/// is off.
+fn derive_meanings<T: StepSink>(
+    alloc: Global,
+    carry: Var,
+    sum: Var,
+    bits: &[Term],
+    all: &[Term],
+    sink: &mut T,
+) -> Result<(), SinkFault>
+    requires bits_light { weight (weights bits.now) + 2 < 2 ^ 124 }
+    requires all_light { weight (weights all.now) + 3 < 2 ^ 124 }
+    requires few { (T.state sink.old).next + 3 < 2 ^ 62 }
+    ensures { HandsReifications (record { var = carry; sum = weights bits.now; least = 2 } ∷ record { var = sum; sum = weights all.now; least = 3 } ∷ []) result (T.state sink.old) (T.state sink.new) }
+{
+    derive_reification(alloc, carry, bits, 2, sink)?;
+    derive_reification(alloc, sum, all, 3, sink)
+}
+
 impl FullAdder {
     ghost use Rattle.std.specs.Prelude.{◌<◌, ◌+◌, ◌^◌, ◌∷◌, []};
-    ghost use Rattle.pb_family.specs.inner.HandedJustifications.{HandsReifications};
+    ghost use Rattle.pb_family.specs.HandedJustifications.{HandsReifications};
     ghost use Rattle.pb_adder.specs.GateReifications.{adder_reifications};
 
     /// Hands over what its carry and its sum mean.
@@ -32,43 +58,20 @@ impl FullAdder {
         requires few { (T.state sink.old).next + 3 < 2 ^ 62 }
         ensures { HandsReifications (adder_reifications (self.now.a ∷ self.now.b ∷ self.now.c ∷ []) self.now.sum.var self.now.carry.var) result (T.state sink.old) (T.state sink.new) }
     {
-        let bits = [
-            Term {
-                coef: 1,
-                lit: self.a,
-            },
-            Term {
-                coef: 1,
-                lit: self.b,
-            },
-            Term {
-                coef: 1,
-                lit: self.c,
-            },
-        ];
+        let bits = [once(self.a), once(self.b), once(self.c)];
         let all = [
-            Term {
-                coef: 1,
-                lit: self.a,
-            },
-            Term {
-                coef: 1,
-                lit: self.b,
-            },
-            Term {
-                coef: 1,
-                lit: self.c,
-            },
+            once(self.a),
+            once(self.b),
+            once(self.c),
             twice_off(self.carry.var),
         ];
-        derive_reification(alloc, self.carry.var, &bits, 2, sink)?;
-        derive_reification(alloc, self.sum.var, &all, 3, sink)
+        derive_meanings(alloc, self.carry.var, self.sum.var, &bits, &all, sink)
     }
 }
 
 impl HalfAdder {
     ghost use Rattle.std.specs.Prelude.{◌<◌, ◌+◌, ◌^◌, ◌∷◌, []};
-    ghost use Rattle.pb_family.specs.inner.HandedJustifications.{HandsReifications};
+    ghost use Rattle.pb_family.specs.HandedJustifications.{HandsReifications};
     ghost use Rattle.pb_adder.specs.GateReifications.{adder_reifications};
 
     /// Hands over what its carry and its sum mean.
@@ -76,29 +79,9 @@ impl HalfAdder {
         requires few { (T.state sink.old).next + 3 < 2 ^ 62 }
         ensures { HandsReifications (adder_reifications (self.now.a ∷ self.now.b ∷ []) self.now.sum.var self.now.carry.var) result (T.state sink.old) (T.state sink.new) }
     {
-        let bits = [
-            Term {
-                coef: 1,
-                lit: self.a,
-            },
-            Term {
-                coef: 1,
-                lit: self.b,
-            },
-        ];
-        let all = [
-            Term {
-                coef: 1,
-                lit: self.a,
-            },
-            Term {
-                coef: 1,
-                lit: self.b,
-            },
-            twice_off(self.carry.var),
-        ];
-        derive_reification(alloc, self.carry.var, &bits, 2, sink)?;
-        derive_reification(alloc, self.sum.var, &all, 3, sink)
+        let bits = [once(self.a), once(self.b)];
+        let all = [once(self.a), once(self.b), twice_off(self.carry.var)];
+        derive_meanings(alloc, self.carry.var, self.sum.var, &bits, &all, sink)
     }
 }
 

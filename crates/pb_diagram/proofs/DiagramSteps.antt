@@ -19,6 +19,8 @@ use Rattle.pb_family.specs.Handing.{FailsInClauses, Hands, TakesClauses}
 use Rattle.pb_family.specs.Sinks.{SinkState}
 use Rattle.pb_family.proofs.Emission.{Emitting, emitting_step, hands_fault}
 use Rattle.pb_diagram.specs.declared.interval.Interval.{Interval}
+use Rattle.pb_diagram.specs.declared.layer.Layer.{Layer}
+use Rattle.pb_diagram.specs.declared.shape.Shape.{Shape}
 use Rattle.pb_diagram.specs.Clauses.{head_level, level_clauses, node_clauses, node_count, inner_count}
 use Rattle.pb_diagram.specs.laws.LevelFacts.{levels_linked, levels_root, level_apart, node_of}
 use Rattle.pb_diagram.specs.laws.LinkedNodes.{head_le}
@@ -174,6 +176,13 @@ read_at terms bound ls i t whole nodes next same within is whole_is nodes_is nex
     let at : AtLevel ts ls i (weighted t) =
     subst (λ (u : Weighted). AtLevel ts ls i u) there (subst (λ (l : List (List Interval)). AtLevel ts l i (get_or ts i (weighted t))) (sym same) (at_level_of c i (weighted t) (omega arith))) in
     record { at = at; whole_is = whole_is; nodes_is = nodes_is; next_is = next_is }
+
+-- the same of a shape and its level at a place
+pub read_layer : (shape : Shape) (i : ℕ) (layer : Layer) → i < length shape.terms.now → layer.term.now ≡ get_or shape.terms.now i layer.term.now
+    → weights layer.rest.now ≡ drop (i + 1) (weights shape.terms.now) → layer.nodes.now ≡ nodes_at shape.levels.now i → layer.next.now ≡ nodes_at shape.levels.now (i + 1)
+    → Read (weights shape.terms.now) shape.levels.now i (weighted layer.term.now) layer.whole layer.nodes.now layer.next.now
+read_layer shape i layer within is rest nodes next =
+    read_at shape.terms.now shape.bound shape.levels.now i layer.term.now layer.whole layer.nodes.now layer.next.now shape.nodes within is (layer.left ∙ ap weight rest) nodes next
 
 -- there is a root
 pub some_node : (c : BoundedSum) → c.bound < weight c.terms → 0 < node_count (levels_of c)

@@ -20,7 +20,7 @@ pub struct Claims<'a> {
 impl Claims<'_> {
     ghost use Rattle.std.specs.Prelude.{◌≡◌, ◌≤◌, ◌<◌, ◌+◌, ◌-◌, ◌*◌, ◌^◌, length};
     ghost use Rattle.pb_norm.specs.Constraints.{weighted};
-    ghost use Rattle.pb_family.specs.inner.HandedJustifications.{HandsJustifications};
+    ghost use Rattle.pb_family.specs.HandedJustifications.{HandsJustifications};
     ghost use Rattle.pb_diagram.specs.DiagramSteps.{child_id};
     ghost use Rattle.pb_diagram.specs.inner.Layers.{false_in, layer_justifications, true_in};
     ghost use Rattle.pb_diagram.specs.inner.NodesAt.{below_at};

@@ -84,7 +84,7 @@ impl Derivation<'_> {
     ghost use Rattle.std.specs.Prelude.{◌≡◌, ◌≤◌, ◌+◌, ◌^◌};
     ghost use Rattle.pb_derive.specs.Reifications.{reification_steps};
     ghost use Rattle.pb_family.specs.StepSinks.{HandsSteps};
-    ghost use Rattle.pb_family.specs.inner.HandedJustifications.{HandsJustifications};
+    ghost use Rattle.pb_family.specs.HandedJustifications.{HandsJustifications};
     ghost use Rattle.pb_norm.specs.Constraints.{weights};
     ghost use Rattle.pb_diagram.specs.DiagramSteps.{justifications_over, diagram_steps};
     ghost use Rattle.pb_diagram.specs.inner.Layers.{shape_reifications, shape_sum};

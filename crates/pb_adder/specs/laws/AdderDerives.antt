@@ -24,6 +24,7 @@ use Rattle.pb_derive.specs.Later.{Knows, IsLater}
 use Rattle.pb_derive.specs.Reifications.{Reification}
 use Rattle.pb_derive.specs.inner.Meant.{AreMeant}
 use Rattle.pb_derive.proofs.Opposites.{value-opposite}
+use Rattle.pb_derive.proofs.JustificationClauses.{rup_clauses}
 use Rattle.pb_derive.proofs.Laters.{known_below}
 use Rattle.pb_derive.proofs.Meant.{Meant, meant_all, reifications_ran}
 use Rattle.pb_derive.proofs.Phases.{reifications_add, swept_derives}
@@ -120,10 +121,6 @@ reifications-length first [] = refl
 reifications-length first (g ∷ gs) = omega (arith, reifications-length first gs)
 
 -- ---- the clauses of the claims
-
-rup_clauses : (ids : List ℕ) (cs : List (List Lit)) → map (λ (c : Claim). c.clause) (map (by_rup ids) cs) ≡ cs
-rup_clauses ids [] = refl
-rup_clauses ids (c ∷ cs) = ap (λ (ds : List (List Lit)). c ∷ ds) (rup_clauses ids cs)
 
 gates_clauses : (first id : ℕ) (gs : List Gate) → map (λ (c : Claim). c.clause) (gate_claims first id gs) ≡ flat_map (gate_clauses first) gs
 gates_clauses first id [] = refl

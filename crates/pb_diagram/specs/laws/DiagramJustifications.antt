@@ -6,7 +6,7 @@ use Rattle.std.proofs.lemmas.Bool.{cases_lt, lt-ltb, le-ltb, le-leb, lt-leb, con
 use Rattle.std.proofs.lemmas.List.Elements.{All-nil, All-cons, All-append, All-contains, All-contains_itself, All-map}
 use Rattle.pb_base.specs.declared.literal.Lit.{Lit}
 use Rattle.pb_base.specs.Literals.{negated, is_among}
-use Rattle.pb_base.proofs.Members.{Contains-nil, Contains-here, Contains-there, Contains-cons_cases, Contains-map, among_from}
+use Rattle.pb_base.proofs.Members.{Contains-nil, Contains-here, Contains-there, Contains-cons_cases, Contains-map}
 use Rattle.pb_base.proofs.Pairs.{AllPairs-head, AllPairs-tail}
 use Rattle.pb_norm.specs.Constraints.{Weighted, Constraint, weight}
 use Rattle.pb_norm.specs.BoundedSums.{vars_of}
@@ -16,9 +16,10 @@ use Rattle.pb_derive.specs.Forms.{AreApartTerms}
 use Rattle.pb_derive.specs.Reifications.{forward_of, reverse_of}
 use Rattle.pb_derive.specs.Justifications.{Justification}
 use Rattle.pb_derive.proofs.Justified.{IsJustified, ReificationsKnown}
-use Rattle.pb_derive.proofs.Opposites.{weight-opposite}
+use Rattle.pb_derive.proofs.Opposites.{vars-opposite, weight-opposite}
 use Rattle.pb_derive.proofs.Sides.{Side, side_fresh, front_weakened, front_false, follows_rest, follows_alone, follows_top}
 use Rattle.pb_family.specs.Fresh.{positive_of}
+use Rattle.pb_family.proofs.ShortClauses.{first_among, second_among, third_among}
 use Rattle.pb_diagram.specs.declared.interval.Interval.{Interval}
 use Rattle.pb_diagram.specs.Clauses.{node_at, head_level}
 use Rattle.pb_diagram.specs.DiagramSteps.{node_reification, node_reifications, Below, child_id, false_justifications, true_justification, level_justifications, below_of, node_justifications, top_justification, justifications_over}
@@ -35,23 +36,9 @@ NextKnown K next ts = (p : ℕ) (g : Interval) → IsNodeAt next.nodes p g → K
 weight-both : (t : Weighted) (ts : List Weighted) → weight (map opposite (t ∷ ts)) ≡ t.coef + weight ts
 weight-both t ts = weight-opposite (t ∷ ts) ∙ weight-cons t ts
 
-vars-opposite : (ts : List Weighted) → vars_of (map opposite ts) ≡ vars_of ts
-vars-opposite [] = refl
-vars-opposite (t ∷ ts) = ap (λ (vs : List ℕ). t.lit.var ∷ vs) (vars-opposite ts)
-
 -- the side of a node that the clause negates
 node_side : (clause : List Lit) (x : ℕ) (ts : List Weighted) (g : Interval) → 1 ≤ g.top → is_among clause (negated (positive_of x)) ≡ true → Side clause (map opposite ts) (weight ts + 1 - g.top) (forward_of (node_reification x ts g) ∷ []) []
 node_side clause x ts g some among = side_fresh clause (node_reification x ts g) (omega (arith, some, weight-opposite ts)) among
-
--- the literals of a node's clauses
-among_first : (a : Lit) (ls : List Lit) → is_among (a ∷ ls) a ≡ true
-among_first a ls = among_from (a ∷ ls) a (Contains-here a ls)
-
-among_second : (a b : Lit) (ls : List Lit) → is_among (a ∷ b ∷ ls) b ≡ true
-among_second a b ls = among_from (a ∷ b ∷ ls) b (Contains-there a (b ∷ ls) b (Contains-here b ls))
-
-among_third : (a b c : Lit) (ls : List Lit) → is_among (a ∷ b ∷ c ∷ ls) c ≡ true
-among_third a b c ls = among_from (a ∷ b ∷ c ∷ ls) c (Contains-there a (b ∷ c ∷ ls) c (Contains-there b (c ∷ ls) c (Contains-here c ls)))
 
 -- what is asked of a node
 pub record NodeFacts (K : ℕ → Constraint → Type 0) (low : ℕ) (t : Weighted) (ts : List Weighted) (next : Below) (x id : ℕ) (g : Interval) : Type 0 where
@@ -97,12 +84,12 @@ off_justified K low t ts next x id g level facts inner =
       forward_of m ∷ reverse_of n ∷ [],
       (facts.known, (level.known p child.interval at, tt)),
       follows_rest clause (opposite t ∷ []) (map opposite ts) (weight (t ∷ ts) + 1 - g.top) t.coef (forward_of m ∷ []) (t.lit.var ∷ []) n
-          (node_side clause x (t ∷ ts) g facts.some (among_first (negated (positive_of x)) (f ∷ [])))
+          (node_side clause x (t ∷ ts) g facts.some (first_among (negated (positive_of x)) (f ∷ [])))
           (front_weakened clause (opposite t) apart)
           refl
           (omega (arith, top, ends, weight-cons t ts))
           (omega (arith, weight-opposite ts))
-          (among_second (negated (positive_of x)) f [])
+          (second_among (negated (positive_of x)) f [])
           (omega (arith, light, heavy))
           (id ∷ child_id next g.low ∷ []),
     )
@@ -124,12 +111,12 @@ on_justified K low t ts next x id g level facts room =
       forward_of m ∷ reverse_of n ∷ [],
       (facts.known, (level.known p child.interval at, tt)),
       follows_rest clause (opposite t ∷ []) (map opposite ts) (weight (t ∷ ts) + 1 - g.top) 0 (forward_of m ∷ []) [] n
-          (node_side clause x (t ∷ ts) g facts.some (among_first (negated (positive_of x)) (negated t.lit ∷ f ∷ [])))
-          (front_false clause (opposite t) (among_second (negated (positive_of x)) (negated t.lit) (f ∷ [])))
+          (node_side clause x (t ∷ ts) g facts.some (first_among (negated (positive_of x)) (negated t.lit ∷ f ∷ [])))
+          (front_false clause (opposite t) (second_among (negated (positive_of x)) (negated t.lit) (f ∷ [])))
           refl
           (omega (arith, top, ends, weight-cons t ts))
           (omega (arith, weight-opposite ts))
-          (among_third (negated (positive_of x)) (negated t.lit) f [])
+          (third_among (negated (positive_of x)) (negated t.lit) f [])
           (omega (arith, light, heavy))
           (id ∷ child_id next (g.low - t.coef) ∷ []),
     )
@@ -163,8 +150,8 @@ full_justified K low t ts next x id g level facts less =
       forward_of m ∷ [],
       (facts.known, tt),
       follows_alone clause (opposite t) (map opposite ts) (vars_of ts) m refl
-          (among_first (negated (positive_of x)) (negated t.lit ∷ []))
-          (among_second (negated (positive_of x)) (negated t.lit) [])
+          (first_among (negated (positive_of x)) (negated t.lit ∷ []))
+          (second_among (negated (positive_of x)) (negated t.lit) [])
           (omega (arith, ends, weight-opposite ts, weight-cons t ts))
           (omega (arith, some, weight-opposite (t ∷ ts)))
           (λ u h. subst (λ (vs : List ℕ). Contains vs u.lit.var) (vars-opposite ts) (Contains-map (λ (w : Weighted). w.lit.var) (map opposite ts) u h))
@@ -271,7 +258,7 @@ top_justified K first id own bound (t ∷ ts) (nodes ∷ levels) linked root abo
     let ends = root.ends in (
       reverse_of m ∷ constraint ∷ [],
       (there, (held, tt)),
-      follows_top (positive_of first ∷ []) m constraint (among_first (positive_of first) []) refl
+      follows_top (positive_of first ∷ []) m constraint (first_among (positive_of first) []) refl
           (omega (arith, top, ends, above, weight-opposite us)) (omega (arith, weight-opposite us)) (omega (arith, light, weight-opposite us)) ((id + 1) ∷ own ∷ []),
     )
 

@@ -7,7 +7,7 @@ use Rattle.pb_family.specs.Fresh.{positive_of}
 use Rattle.pb_family.specs.Handing.{Hands}
 use Rattle.pb_family.proofs.Emission.{emitting_from, hands_last}
 use Rattle.pb_diagram.specs.Clauses.{node_count, node_clauses, diagram_clauses}
-use Rattle.pb_diagram.proofs.DiagramSteps.{read_at, read_counts, level_taken, level_fault, last_left, some_node}
+use Rattle.pb_diagram.proofs.DiagramSteps.{read_layer, read_counts, level_taken, level_fault, last_left, some_node}
 use Rattle.pb_diagram.proofs.emission.emit_whole.Goals as goal
 
 pub loop-i-init : goal.loop-i-init
@@ -20,18 +20,14 @@ loop-i-init g c = record {
 
 pub returns-in_err-emit_level : goal.returns-in_err-emit_level
 returns-in_err-emit_level g c =
-    let shape = c.args.shape in
-    let layer = c.layer-layer.result in
     let told = c.layer-layer.ensures in
-    let read = read_at shape.terms.now shape.bound shape.levels.now c.loop-i.i layer.term.now layer.whole layer.nodes.now layer.next.now shape.nodes c.loop-i-test.true told.term (layer.left ∙ ap weight told.rest) told.nodes told.next in
+    let read = read_layer c.args.shape c.loop-i.i c.layer-layer.result c.loop-i-test.true told.term told.rest told.nodes told.next in
     level_fault c.from_residual.result _ c.from_residual.ensures.1 _ _ _ _ _ _ _ read c.loop-i.start ((positive_of c.args.first ∷ []) ∷ []) _ c.loop-i.invariant.clauses c.in_err-emit_level.ensures
 
 pub loop-i-preserved : goal.loop-i-preserved
 loop-i-preserved g c =
-    let shape = c.args.shape in
-    let layer = c.layer-layer.result in
     let told = c.layer-layer.ensures in
-    let read = read_at shape.terms.now shape.bound shape.levels.now c.loop-i.i layer.term.now layer.whole layer.nodes.now layer.next.now shape.nodes c.loop-i-test.true told.term (layer.left ∙ ap weight told.rest) told.nodes told.next in
+    let read = read_layer c.args.shape c.loop-i.i c.layer-layer.result c.loop-i-test.true told.term told.rest told.nodes told.next in
     let counts = read_counts _ _ _ _ _ _ _ read in
     let left = read.whole_is in
     record {

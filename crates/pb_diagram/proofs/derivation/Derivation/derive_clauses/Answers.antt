@@ -10,7 +10,7 @@ use Rattle.pb_diagram.specs.declared.interval.Interval.{Interval}
 use Rattle.pb_diagram.specs.Clauses.{diagram_fresh, node_count}
 use Rattle.pb_diagram.specs.DiagramSteps.{top_justification}
 use Rattle.pb_diagram.specs.inner.NodesAt.{below_at, level_at}
-use Rattle.pb_diagram.proofs.DiagramSteps.{read_at, read_counts, read_next}
+use Rattle.pb_diagram.proofs.DiagramSteps.{read_layer, read_counts, read_next}
 use Rattle.pb_diagram.proofs.NodeSteps.{level_few}
 use Rattle.pb_diagram.proofs.WholeSteps.{level_fault, level_taken, no_justification}
 use Rattle.pb_diagram.proofs.derivation.Derivation.derive_clauses.Goals as goal
@@ -26,9 +26,8 @@ loop-i-init g c = record {
 pub invariant_of-claims : goal.invariant_of-claims
 invariant_of-claims g c =
     let shape = c.args.self.now.shape in
-    let layer = c.layer-layer.result in
     let told = c.layer-layer.ensures in
-    let read = read_at shape.terms.now shape.bound shape.levels.now c.loop-i.i layer.term.now layer.whole layer.nodes.now layer.next.now shape.nodes c.loop-i-test.true told.term (layer.left ∙ ap weight told.rest) told.nodes told.next in
+    let read = read_layer shape c.loop-i.i c.layer-layer.result c.loop-i-test.true told.term told.rest told.nodes told.next in
     let counts = read_counts _ _ _ _ _ _ _ read in
     let next = read_next _ _ _ _ _ _ _ read in
     let few : diagram_fresh (sum_within shape.terms.now shape.bound) < 2 ^ 31 = omega (arith, shape.count, shape.small) in
@@ -41,26 +40,22 @@ invariant_of-claims g c =
 pub derive_level-requires : goal.derive_level-requires
 derive_level-requires g c =
     let shape = c.args.self.now.shape in
-    let layer = c.layer-layer.result in
     let told = c.layer-layer.ensures in
-    let read = read_at shape.terms.now shape.bound shape.levels.now c.loop-i.i layer.term.now layer.whole layer.nodes.now layer.next.now shape.nodes c.loop-i-test.true told.term (layer.left ∙ ap weight told.rest) told.nodes told.next in
+    let read = read_layer shape c.loop-i.i c.layer-layer.result c.loop-i-test.true told.term told.rest told.nodes told.next in
     record { few = omega (arith, read_counts _ _ _ _ _ _ _ read, c.loop-i.invariant.count, c.requires, shape.count, shape.small) }
 
 pub returns-in_err-derive_level : goal.returns-in_err-derive_level
 returns-in_err-derive_level g c =
-    let shape = c.args.self.now.shape in
-    let layer = c.layer-layer.result in
     let told = c.layer-layer.ensures in
-    let read = read_at shape.terms.now shape.bound shape.levels.now c.loop-i.i layer.term.now layer.whole layer.nodes.now layer.next.now shape.nodes c.loop-i-test.true told.term (layer.left ∙ ap weight told.rest) told.nodes told.next in
+    let read = read_layer c.args.self.now.shape c.loop-i.i c.layer-layer.result c.loop-i-test.true told.term told.rest told.nodes told.next in
     level_fault _ _ _ _ _ _ _ read c.loop-i.id _ refl (top_justification 0 c.args.self.now.base c.args.self.now.own ∷ []) (g.T.StepSink.state c.args.sink.now) (g.T.StepSink.state c.loop-i.sink) c.loop-i.invariant.taken
     _ told.rest c.from_residual.result _ (g.T.StepSink.state c.derive_level.new.sink) c.from_residual.ensures.1 c.in_err-derive_level.ensures
 
 pub loop-i-preserved : goal.loop-i-preserved
 loop-i-preserved g c =
-    let shape = c.args.self.now.shape in
     let layer = c.layer-layer.result in
     let told = c.layer-layer.ensures in
-    let read = read_at shape.terms.now shape.bound shape.levels.now c.loop-i.i layer.term.now layer.whole layer.nodes.now layer.next.now shape.nodes c.loop-i-test.true told.term (layer.left ∙ ap weight told.rest) told.nodes told.next in
+    let read = read_layer c.args.self.now.shape c.loop-i.i layer c.loop-i-test.true told.term told.rest told.nodes told.next in
     let counts = read_counts _ _ _ _ _ _ _ read in
     let left = read.whole_is in
     let now = g.T.StepSink.state c.loop-i.sink in
