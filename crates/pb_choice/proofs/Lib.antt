@@ -8,7 +8,6 @@ pub mod CoreWeights
 pub mod Derived
 pub mod Encoded
 pub mod EqualHalves
-pub mod EqualIds
 pub mod EqualSelection
 pub mod EqualityDerived
 pub mod EqualityEncoded
@@ -21,6 +20,7 @@ pub mod JointSums
 pub mod JointTests
 pub mod Plain
 pub mod PlanClauses
+pub mod PlanIds
 pub mod PlanSteps
 pub mod Quotients
 pub mod Reduced

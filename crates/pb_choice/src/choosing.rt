@@ -77,9 +77,12 @@ pub fn residual_of<'a>(
         Rest::Nothing => Ok(Residual::Nothing),
         Rest::Empty => Ok(Residual::Empty),
         Rest::Clause(lits) => Ok(Residual::Clause(lits)),
-        Rest::One(sum) => Ok(Residual::Sum(Lent::own(one_of(options.amo, sum)))),
-        Rest::Card(sum) => Ok(Residual::Sum(Lent::own(card_of(alloc, options, sum)?))),
-        Rest::General(sum) => Ok(Residual::Sum(Lent::own(general_of(alloc, options, sum)?))),
+        Rest::One(sum) => Ok(Residual::Sum(Lent::own(alloc, one_of(options.amo, sum))?)),
+        Rest::Card(sum) => Ok(Residual::Sum(Lent::own(alloc, card_of(alloc, options, sum)?)?)),
+        Rest::General(sum) => Ok(Residual::Sum(Lent::own(
+            alloc,
+            general_of(alloc, options, sum)?,
+        )?)),
     }
 }
 
@@ -95,8 +98,8 @@ pub fn adder_left<'a>(
     ensures { IfOk result (IsLeft options.now rest) }
 {
     match rest {
-        Rest::Card(sum) => Ok(Residual::Sum(Lent::own(adder_of(alloc, sum)?))),
-        Rest::General(sum) => Ok(Residual::Sum(Lent::own(adder_of(alloc, sum)?))),
+        Rest::Card(sum) => Ok(Residual::Sum(Lent::own(alloc, adder_of(alloc, sum)?)?)),
+        Rest::General(sum) => Ok(Residual::Sum(Lent::own(alloc, adder_of(alloc, sum)?)?)),
         other => residual_of(alloc, options, other),
     }
 }

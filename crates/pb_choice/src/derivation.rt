@@ -3,9 +3,9 @@ ghost use Rattle.std.specs.Prelude.{◌≡◌, ◌≤◌, ◌<◌, ◌+◌, ◌^
 ghost use Rattle.pb_steps.specs.Steps.{takes_id};
 ghost use Rattle.pb_family.specs.Families.{VarsBelow};
 ghost use Rattle.pb_family.specs.StepSinks.{HandsFrom};
-ghost use Rattle.pb_family.specs.inner.HandedJustifications.{HandsClaims};
+ghost use Rattle.pb_family.specs.HandedJustifications.{HandsClaims};
 ghost use Rattle.pb_choice.specs.ConstraintSteps.{reduced_steps, unit_claims};
-ghost use Rattle.pb_choice.specs.Sums.{sum_count, sum_fresh};
+ghost use Rattle.pb_choice.specs.Sums.{sum_fresh};
 ghost use Rattle.pb_choice.specs.Chosen.{sum_at, treatment_at};
 
 use crate::chosen::Chosen;
@@ -41,7 +41,6 @@ pub fn derive_reduced<T: StepSink>(
     requires original { VarsBelow first (sum_at chosen.now).terms }
     requires low { 1 ≤ first }
     requires fits { first + sum_fresh (treatment_at chosen.now) (sum_at chosen.now) ≤ 2 ^ 31 }
-    requires clauses { sum_count (treatment_at chosen.now) (sum_at chosen.now) ≤ 2 ^ 56 }
     requires given { 1 ≤ (T.state sink.old).next }
     requires few { (T.state sink.old).next < 2 ^ 61 }
     requires takes { IsTrue (takes_id reduces.now) }

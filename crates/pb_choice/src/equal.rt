@@ -29,7 +29,6 @@ impl EqualPlan<'_> {
     ghost use Rattle.std.specs.Prelude.{◌≡◌, ◌≤◌, ◌<◌, ◌+◌, ◌^◌};
     ghost use Rattle.pb_family.specs.Handing.{HandsIfMemory};
     ghost use Rattle.pb_family.specs.StepSinks.{HandsFrom};
-    ghost use Rattle.pb_choice.specs.Readiness.{LeavesIds};
     ghost use Rattle.pb_choice.specs.EqualPlans.{IsPlannedBelow, planned_clauses, planned_count, planned_fresh, planned_steps};
 
     /// How many fresh variables and clauses the encoding has.
@@ -81,7 +80,7 @@ impl EqualPlan<'_> {
         requires low_known { low < (T.state sink.old).next }
         requires high_given { 1 ≤ high }
         requires high_known { high < (T.state sink.old).next }
-        requires few { LeavesIds (planned_steps self.now first low high) (T.state sink.old).next }
+        requires few { (T.state sink.old).next ≤ 2 ^ 60 }
         ensures { HandsFrom (planned_steps self.now first low high) result (T.state sink.old) (T.state sink.new) }
     {
         let ids = HalfIds { low, high };

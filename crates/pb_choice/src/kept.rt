@@ -11,11 +11,10 @@ use crate::treatment::Treatment;
 use pb_base::{NoMemory, Options};
 use pb_family::Family;
 use pb_norm::Linear;
-use std::alloc::{AllocError, Global};
+use std::alloc::Global;
 use std::marker::Model;
 
-/// A family that was built for a constraint, kept for whoever plans it again. It stands in memory of its own, so that where none is
-/// kept little is taken.
+/// A family that was built for a constraint, kept for whoever plans it again.
 #[derive(Drop)]
 pub struct Kept {
     chosen: Box<Chosen>,
@@ -38,18 +37,17 @@ impl Kept {
 
 impl Plan<'_> {
     /// The diagram that was built, if one was: it took a search, which whoever plans the constraint again need not make.
-    pub fn into_kept(self, alloc: Global) -> Result<Option<Kept>, AllocError>
-        ensures { IfOk result (λ kept. IfSome kept (IsKeptOf self.entry.options self.entry.constraint.now)) }
+    pub fn into_kept(self) -> Option<Kept>
+        ensures { IfSome result (IsKeptOf self.entry.options self.entry.constraint.now) }
     {
         match self.treatment() {
             Treatment::Diagram => {}
-            _ => return Ok(None),
+            _ => return None,
         }
-        let Some(chosen) = self.into_own() else {
-            return Ok(None);
-        };
-        let chosen = Box::new(alloc, chosen)?;
-        Ok(Some(Kept { chosen }))
+        match self.into_own() {
+            Some(chosen) => Some(Kept { chosen }),
+            None => None,
+        }
     }
 }
 

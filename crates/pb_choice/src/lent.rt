@@ -1,12 +1,13 @@
 //! A family that a plan has, or uses of another.
-ghost use Rattle.std.specs.Prelude.{◌≡◌, IfSome};
+ghost use Rattle.std.specs.Prelude.{◌≡◌, IfOk, IfSome};
 
 use crate::chosen::Chosen;
+use std::alloc::{AllocError, Global};
 use std::marker::Model;
 
-/// Where a family is.
+/// Where a family is. It stands in memory of its own: most constraints are clauses, and the plan of one takes little room.
 pub enum Owner<'a> {
-    Own(Chosen),
+    Own(Box<Chosen>),
     Kept(&'a Chosen),
 }
 
@@ -24,8 +25,8 @@ impl Owner<'_> {
     ghost use Rattle.pb_choice.specs.inner.Lent.{chosen_in};
 
     // The family that it has itself.
-    fn into_own(self) -> Option<Chosen>
-        ensures { IfSome result (λ chosen. chosen ≡ chosen_in self.entry) }
+    fn into_own(self) -> Option<Box<Chosen>>
+        ensures { IfSome result (λ chosen. chosen.value ≡ chosen_in self.entry) }
     {
         match self {
             Owner::Own(chosen) => Some(chosen),
@@ -51,12 +52,13 @@ impl<'a> Model for Lent<'a> {
 
 impl<'a> Lent<'a> {
     /// One that was built.
-    pub fn own(chosen: Chosen) -> Lent<'a>
-        ensures { result ≡ chosen }
+    pub fn own(alloc: Global, chosen: Chosen) -> Result<Lent<'a>, AllocError>
+        ensures { IfOk result (λ lent. lent ≡ chosen) }
     {
-        Lent {
+        let chosen = Box::new(alloc, chosen)?;
+        Ok(Lent {
             owner: Owner::Own(chosen),
-        }
+        })
     }
 
     /// One that was kept.
@@ -79,8 +81,8 @@ impl<'a> Lent<'a> {
     }
 
     /// The family, if it was built for this plan.
-    pub fn into_own(self) -> Option<Chosen>
-        ensures { IfSome result (λ chosen. chosen ≡ self.entry) }
+    pub fn into_own(self) -> Option<Box<Chosen>>
+        ensures { IfSome result (λ chosen. chosen.value ≡ self.entry) }
     {
         self.owner.into_own()
     }

@@ -75,8 +75,8 @@ impl Plan<'_> {
     }
 
     /// The family that was built for what is left, if one was.
-    pub(crate) fn into_own(self) -> Option<Chosen>
-        ensures { IfSome result (λ chosen. IsLeft self.entry.options (rest_of self.entry.constraint.now) (Sum chosen)) }
+    pub(crate) fn into_own(self) -> Option<Box<Chosen>>
+        ensures { IfSome result (λ chosen. IsLeft self.entry.options (rest_of self.entry.constraint.now) (Sum chosen.value)) }
     {
         let Plan {
             constraint: _,
@@ -115,10 +115,9 @@ impl Plan<'_> {
         requires original { VarsBelow first self.now.constraint.now.terms }
         requires low { 1 ≤ first }
         requires fits { first + constraint_fresh self.now.options self.now.constraint.now ≤ 2 ^ 31 }
-        requires clauses { constraint_count self.now.options self.now.constraint.now ≤ 2 ^ 56 }
         requires given { 1 ≤ id }
         requires known { id < (T.state sink.old).next }
-        requires few { (T.state sink.old).next ≤ 2 ^ 60 }
+        requires few { (T.state sink.old).next + 2 ^ 31 ≤ 2 ^ 61 }
         ensures { HandsFrom (constraint_steps self.now.options self.now.constraint.now first id) result (T.state sink.old) (T.state sink.new) }
     {
         // Brings in that its terms are few.

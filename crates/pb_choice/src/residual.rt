@@ -55,8 +55,8 @@ impl Residual<'_> {
     }
 
     /// The family, if one was built for this plan.
-    pub fn into_own(self) -> Option<Chosen>
-        ensures { IfSome result (λ chosen. self.entry ≡ Sum chosen) }
+    pub fn into_own(self) -> Option<Box<Chosen>>
+        ensures { IfSome result (λ chosen. self.entry ≡ Sum chosen.value) }
     {
         match self {
             Residual::Sum(lent) => lent.into_own(),
@@ -116,7 +116,6 @@ impl Residual<'_> {
         requires original { VarsBelow first (left_terms self.now) }
         requires low { 1 ≤ first }
         requires fits { first + left_fresh self.now ≤ 2 ^ 31 }
-        requires clauses { left_count self.now ≤ 2 ^ 56 }
         requires few { (T.state sink.old).next < 2 ^ 61 }
         requires given { 1 ≤ (T.state sink.old).next }
         ensures { HandsFrom (left_steps (reduction origin.now.id origin.now.units.now origin.now.constraint.now) self.now first origin.now.id) result (T.state sink.old) (T.state sink.new) }

@@ -12,7 +12,6 @@ use Rattle.pb_totalizer.specs.Exact.{exact_clauses, exact_fresh, exact_size}
 use Rattle.pb_base.specs.declared.options.EqualMode.TheVariants as mode
 use Rattle.pb_base.specs.declared.options.Options.{Options}
 use Rattle.pb_choice.specs.declared.treatment.Treatment.{Treatment}
-use Rattle.pb_choice.specs.declared.treatment.Treatment.TheVariants as treatment
 use Rattle.pb_choice.specs.Choice.{treatment_of}
 use Rattle.pb_choice.specs.Clauses.{constraint_clauses, constraint_count, constraint_fresh}
 use Rattle.pb_choice.specs.Equals.{equality_clauses, equality_count, equality_fresh, is_joining, is_joint, literals_asked}
@@ -27,17 +26,7 @@ use Rattle.pb_encode.proofs.GroupLists.{members_loaded}
 
 -- no treatment has the place behind them
 none_there : (t : Treatment) → (place_of t == 11) ≡ false
-none_there treatment.Nothing = refl
-none_there treatment.Empty = refl
-none_there treatment.Clause = refl
-none_there treatment.Pairwise = refl
-none_there treatment.Ladder = refl
-none_there treatment.Product = refl
-none_there treatment.Counter = refl
-none_there treatment.Totalizer = refl
-none_there treatment.Diagram = refl
-none_there treatment.Tree = refl
-none_there treatment.Adder = refl
+none_there x = grind arith
 
 singles_none : (o : Options) (cs : List Constraint) → treated o 11 (singles cs) ≡ 0
 singles_none o [] = refl

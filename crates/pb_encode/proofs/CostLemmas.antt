@@ -1,5 +1,5 @@
 -- The value of an objective, by its costs.
-use Rattle.std.proofs.Common.{◌≡◌, ◌<◌, ◌+◌, ◌^◌, ℕ, Bool, true, false, not, cond, List, [], ◌∷◌, map, Option, Some, None, refl, sym, ap, ◌∙◌, arith, ℤ, pos, ◌+ℤ◌, ◌-ℤ◌, ◌≤ℤ◌}
+use Rattle.std.proofs.Common.{◌≡◌, ◌<◌, ◌+◌, ◌^◌, ℕ, Bool, not, cond, List, [], ◌∷◌, map, Option, Some, None, refl, sym, ap, ◌∙◌, arith, ℤ, pos, ◌+ℤ◌, ◌-ℤ◌, ◌≤ℤ◌}
 use Rattle.std.specs.Prelude.{negsuc}
 use Rattle.std.specs.Option.{MatchOption, unwrap_or}
 use Rattle.std.proofs.lemmas.Int.{ints}
@@ -21,10 +21,7 @@ light_terms vars (Some ts) h = h.1
 
 -- a term costs where its negated literal is false
 cost_of_term : (value positive : Bool) (n : ℕ) → cond (cond (not positive) value (not value)) 0 n ≡ cond (cond positive value (not value)) n 0
-cost_of_term true true n = refl
-cost_of_term true false n = refl
-cost_of_term false true n = refl
-cost_of_term false false n = refl
+cost_of_term value positive n = grind arith
 
 cost_is_value : (a : Assignment) (ts : List Weighted) → cost_under a (map opposite ts) ≡ value a ts
 cost_is_value a [] = refl

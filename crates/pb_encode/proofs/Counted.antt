@@ -12,17 +12,10 @@ use Rattle.pb_encode.specs.declared.summary.Summary.{Summary}
 
 -- what is encoded is over no limit
 pub not_over : (which : LimitKind) (o : Options) (p : Problem) → IsEncodable o p → IsOver which o p → ⊥
-not_over limit.Text o p fits over = over
-not_over limit.Statements o p fits over = over
-not_over limit.Terms o p fits over = over
-not_over limit.Weight o p fits over = over
 not_over limit.Bounds o p fits over = omega (arith, fits.bounds, over)
 not_over limit.Variables o p fits over = omega (arith, fits.vars, over.1)
 not_over limit.Clauses o p fits over = omega (arith, fits.clauses, over.2)
-not_over limit.Line o p fits over = over
-not_over limit.Lines o p fits over = over
-not_over limit.Number o p fits over = over
-not_over limit.Name o p fits over = over
+not_over other o p fits over = over
 
 abbrev counts : ℕ → ℕ → Counts
 counts fresh clauses = record { fresh = fresh; clauses = clauses }

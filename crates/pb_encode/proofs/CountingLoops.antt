@@ -1,5 +1,5 @@
 -- Groups of constraints that are counted one after another, with what is noted of them.
-use Rattle.std.proofs.Common.{◌≡◌, ◌<◌, ◌^◌, ◌+◌, ℕ, List, All, [], ◌∷◌, ◌++◌, ap, sym, ◌∙◌, subst, append_assoc, append-nil, length}
+use Rattle.std.proofs.Common.{◌≡◌, ◌<◌, ◌^◌, ◌+◌, ℕ, List, All, [], ◌∷◌, ◌++◌, ap, sym, ◌∙◌, subst, append_assoc, length}
 use Rattle.std.proofs.lemmas.List.Elements.{All-head, All-tail}
 use Rattle.pb_base.specs.declared.options.Options.{Options}
 use Rattle.pb_encode.specs.declared.groups.Group.{Group}
@@ -48,8 +48,3 @@ module _ {o : Options} {first : ℕ} {all left : List Group} {t : Tally} {hints 
         gone = gone_more g rest parts so_far.gone more.noted next;
         told = told;
       }
-
--- none are left
-pub counting_all : {o : Options} {first : ℕ} {all left : List Group} {t : Tally} {hints : Hints} → left ≡ [] → Counting o first all left t hints → IsTally o all t
-counting_all {o = o} {t = t} none so_far =
-    subst (λ (gs : List Group). IsTally o gs t) (sym (so_far.whole ∙ ap (λ (gs : List Group). so_far.front ++ gs) none ∙ append-nil so_far.front)) so_far.tally

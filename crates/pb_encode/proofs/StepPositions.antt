@@ -1,5 +1,5 @@
 -- The derivations of groups of constraints that are handed over one after another.
-use Rattle.std.proofs.Common.{◌≡◌, ◌≤◌, ◌+◌, ◌^◌, ◌++◌, ℕ, Bool, true, false, cond, List, All, [], ◌∷◌, length, sym, ap, subst, arith}
+use Rattle.std.proofs.Common.{◌≡◌, ◌≤◌, ◌+◌, ◌^◌, ◌++◌, ℕ, Bool, cond, List, All, [], ◌∷◌, length, sym, ap, subst, arith}
 use Rattle.std.specs.Prelude.{count_by, sum_by, Result, IsErrAnd}
 use Rattle.std.proofs.lemmas.List.Elements.{All-head, All-tail}
 use Rattle.std.proofs.lemmas.List.Sums.{sum_by-append, sum_by-cons}
@@ -7,14 +7,14 @@ use Rattle.pb_steps.specs.declared.step.Step.{Step}
 use Rattle.pb_steps.specs.Steps.{takes_id}
 use Rattle.pb_family.specs.StepSinks.{StepState, TakesSteps, StopsInSteps, HandsSteps}
 use Rattle.pb_family.specs.declared.sink.SinkFault.{SinkFault}
-use Rattle.pb_family.proofs.Deriving.{Deriving, deriving_starts, deriving_as, deriving_step, deriving_ends, steps_fault}
+use Rattle.pb_family.proofs.Deriving.{Deriving, deriving_starts, deriving_as, deriving_step, steps_fault}
 use Rattle.pb_base.specs.declared.options.Options.{Options}
 use Rattle.pb_choice.specs.Readiness.{LeavesIds}
 use Rattle.pb_encode.specs.declared.groups.Group.{Group}
 use Rattle.pb_encode.specs.Clauses.{clause_total, fresh_total}
 use Rattle.pb_encode.specs.Groups.{group_count, group_fresh, group_size, group_steps, size_total}
 use Rattle.pb_encode.specs.Steps.{steps_from}
-use Rattle.pb_encode.specs.inner.GroupPlans.{IsSound}
+use Rattle.pb_encode.specs.inner.GroupPlans.{HasGroupTurn, IsSound}
 use Rattle.pb_encode.proofs.GroupParts.{sound_later}
 
 abbrev pub ids_in : List Step → ℕ
@@ -56,10 +56,7 @@ pub record Ready (o : Options) (variable place next : ℕ) (gs : List Group) : T
 -- of one group
 pub record ReadyOne (o : Options) (variable place next : ℕ) (g : Group) : Type 0 where
   pub sound : IsSound variable g
-  pub fits : variable + group_fresh o g ≤ 2147483648
-  pub counted : group_count o g ≤ 2 ^ 56
-  pub known : place + group_size g ≤ next
-  pub few : LeavesIds (group_steps o g variable place) next
+  pub turn : HasGroupTurn o g variable place next
 
 -- the derivation of one that is left comes next
 module _ {R : Type 0} {o : Options} {first id variable place : ℕ} {all left : List Group} {a b : StepState R} (g : Group) (rest : List Group) (parts : left ≡ g ∷ rest) (so_far : Positions o first id all left variable place a b) where
@@ -99,19 +96,13 @@ module _ {R : Type 0} {o : Options} {first id variable place : ℕ} {all left : 
   pub positions_ready : Ready o first id a.next all → ReadyOne o variable place b.next g
   positions_ready ready = record {
     sound = sound_later first variable g so_far.later (All-head (IsSound first) g rest (subst (All (IsSound first)) parts so_far.sound));
-    fits = omega (arith, so_far.variable_is, ready.fits, sum_parts (group_fresh o));
-    counted = omega (arith, so_far.fewer, sum_parts (group_count o), ready.counted);
-    known = omega (arith, so_far.place_is, ready.known, next_piece.handed.ids, sum_parts group_size);
-    few = omega (arith, ids_so_far, ready.few);
+    turn = record {
+      fits = omega (arith, so_far.variable_is, ready.fits, sum_parts (group_fresh o));
+      counted = omega (arith, so_far.fewer, sum_parts (group_count o), ready.counted);
+      known = omega (arith, so_far.place_is, ready.known, next_piece.handed.ids, sum_parts group_size);
+      few = omega (arith, ids_so_far, ready.few);
+    };
   }
-
--- none are left
-module _ {R : Type 0} {o : Options} {first id variable place : ℕ} {all left : List Group} {a b : StepState R} (none : left ≡ []) (so_far : Positions o first id all left variable place a b) where
-  pub turns_all : TakesSteps (steps_from o first id all a.next) a b
-  turns_all = deriving_ends (deriving_as (ap (λ (gs : List Group). steps_from o variable place gs b.next) none) so_far.handed)
-
-  pub turns_variable : variable ≡ first + fresh_total o all
-  turns_variable = omega (arith, so_far.variable_is, ap (fresh_total o) none)
 
 -- the same steps, written another way
 pub takes_same_steps : {R : Type 0} (ss ts : List Step) (a b : StepState R) → ss ≡ ts → TakesSteps ss a b → TakesSteps ts a b
@@ -126,8 +117,7 @@ ids-most [] = omega arith
 ids-most (s ∷ steps) = omega (arith, sum_by-cons (λ (t : Step). cond (takes_id t) 1 0) s steps, bit (takes_id s), ids-most steps)
   where
     bit : (b : Bool) → cond {A = ℕ} b 1 0 ≤ 1
-    bit true = omega arith
-    bit false = omega arith
+    bit b = grind arith
 
 -- the next id is within the bound
 pub leaves_next : (steps : ℕ → List Step) (next : ℕ) → LeavesIds steps next → next ≤ 2 ^ 60

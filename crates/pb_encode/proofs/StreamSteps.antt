@@ -1,12 +1,12 @@
 -- The clauses of groups of constraints that are handed over one after another.
-use Rattle.std.proofs.Common.{◌≡◌, ◌≤◌, ◌+◌, ◌++◌, ℕ, List, All, [], ◌∷◌, sym, ap, subst, arith}
+use Rattle.std.proofs.Common.{◌≡◌, ◌≤◌, ◌+◌, ◌++◌, ℕ, List, All, ◌∷◌, sym, ap, subst, arith}
 use Rattle.std.specs.Prelude.{Result, IsErrAnd}
 use Rattle.std.proofs.lemmas.List.Elements.{All-head, All-tail}
 use Rattle.std.proofs.lemmas.List.Sums.{sum_by-cons}
 use Rattle.pb_family.specs.Handing.{HandsIfMemory, StopsInClauses, TakesClauses}
 use Rattle.pb_family.specs.Sinks.{SinkState}
 use Rattle.pb_family.specs.declared.sink.SinkFault.{SinkFault}
-use Rattle.pb_family.proofs.Emission.{Emitting, emitting_ends, emitting_from, emitting_step}
+use Rattle.pb_family.proofs.Emission.{Emitting, emitting_from, emitting_step}
 use Rattle.pb_family.proofs.Stopping.{stops_fault}
 use Rattle.pb_base.specs.declared.options.Options.{Options}
 use Rattle.pb_encode.specs.declared.groups.Group.{Group}
@@ -42,9 +42,6 @@ module _ {R : Type 0} {o : Options} {first next : ℕ} {all left : List Group} {
   pub streams_sound : IsSound next g
   streams_sound = sound_later first next g so_far.later (All-head (IsSound first) g rest (subst (All (IsSound first)) parts so_far.sound))
 
-  pub streams_fit : first + fresh_total o all ≤ 2147483648 → next + group_fresh o g ≤ 2147483648
-  streams_fit fits = omega (arith, so_far.next_is, fits, total)
-
   pub streams_more : (last : ℕ) (c : SinkState R) → last ≡ next + group_fresh o g → TakesClauses (group_clauses o g next) b c → Streams o first all rest last a c
   streams_more last c is taken = record {
     next_is = omega (arith, is, so_far.next_is, total);
@@ -55,11 +52,3 @@ module _ {R : Type 0} {o : Options} {first next : ℕ} {all left : List Group} {
 
   pub streams_stop : {T : Type 0} (c : SinkState R) (r : Result T SinkFault) (f : SinkFault) → IsErrAnd r (λ e. e ≡ f) → StopsInClauses (group_clauses o g next) b c f → HandsIfMemory (clauses_from o first all) r a c
   streams_stop c r f is stops = stops_fault r f (group_clauses o g next) (clauses_from o (next + group_fresh o g) rest) c is next_piece stops
-
--- none are left
-module _ {R : Type 0} {o : Options} {first next : ℕ} {all left : List Group} {a b : SinkState R} (none : left ≡ []) (so_far : Streams o first all left next a b) where
-  pub streams_all : TakesClauses (clauses_from o first all) a b
-  streams_all = emitting_ends (subst (λ (gs : List Group). Emitting (clauses_from o first all) (clauses_from o next gs) a b) none so_far.handed)
-
-  pub streams_next : next ≡ first + fresh_total o all
-  streams_next = omega (arith, so_far.next_is, ap (fresh_total o) none)

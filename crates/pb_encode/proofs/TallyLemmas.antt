@@ -27,7 +27,7 @@ use Rattle.pb_encode.specs.Clauses.{clause_total, fresh_total, loaded_vars, prob
 use Rattle.pb_encode.specs.declared.groups.Group.{Group}
 use Rattle.pb_encode.specs.Groups.{group_count, group_fresh, group_size, groups_of, size_total}
 use Rattle.pb_encode.specs.declared.groups.Group.TheVariants.{Alone, Paired}
-use Rattle.pb_encode.specs.Summaries.{IsEncodable, counted_at, is_at, joint_at, place_of, treated, treated_in, treatments_of, summary_of}
+use Rattle.pb_encode.specs.Summaries.{IsEncodable, counted_at, joint_at, place_of, treated, treated_in, treatments_of, summary_of}
 use Rattle.pb_encode.specs.Tables.{table_terms}
 use Rattle.pb_encode.specs.inner.Tallies.{capped, AddsJoint, IsTally}
 use Rattle.pb_encode.proofs.GroupLists.{size_loaded}
@@ -111,22 +111,16 @@ few_groups p within =
 
 one_if-le : (b : Bool) → one_if b ≤ 1
 unfolding one_if
-one_if-le true = omega arith
-one_if-le false = omega arith
+one_if-le b = grind arith
 
 -- no more than the group has constraints
 treated_in-le : (o : Options) (place : ℕ) (g : Group) → treated_in o place g ≤ group_size g
 unfolding one_if
-treated_in-le o place (Alone c) = one_if-le (is_at o place c)
-treated_in-le o place (Paired c d) = by_tests (is_joint o c) (11 == place) (is_at o place c) (is_at o place d)
+treated_in-le o place (Alone c) = one_if-le (place_of (treatment_of o (rest_of c)) == place)
+treated_in-le o place (Paired c d) = by_tests (is_joint o c) (11 == place) (place_of (treatment_of o (rest_of c)) == place) (place_of (treatment_of o (rest_of d)) == place)
   where
     by_tests : (joint here lower upper : Bool) → cond {A = ℕ} joint (cond {A = ℕ} here 2 0) (cond {A = ℕ} lower 1 0 + cond {A = ℕ} upper 1 0) ≤ 2
-    by_tests true true lower upper = omega arith
-    by_tests true false lower upper = omega arith
-    by_tests false here true true = omega arith
-    by_tests false here true false = omega arith
-    by_tests false here false true = omega arith
-    by_tests false here false false = omega arith
+    by_tests joint here lower upper = grind arith
 
 treated-le : (o : Options) (place : ℕ) (gs : List Group) → treated o place gs ≤ size_total gs
 treated-le o place [] = omega arith

@@ -1,5 +1,5 @@
 -- What is said of an encoded problem, and which problems are encoded. Our own.
-use Rattle.std.specs.Prelude.{ℕ, ◌+◌, ◌-◌, ◌≤◌, ◌<◌, ◌^◌, Bool, ◌==◌, List, [], ◌++◌, length, sum_by, codes, decimal, if◌then◌else◌, Some, None}
+use Rattle.std.specs.Prelude.{ℕ, ◌+◌, ◌-◌, ◌≤◌, ◌<◌, ◌^◌, ◌==◌, List, [], ◌++◌, length, sum_by, codes, decimal, if◌then◌else◌, Some, None}
 use Rattle.pb_base.specs.declared.limit.LimitKind.{LimitKind}
 use Rattle.pb_base.specs.declared.limit.LimitKind.TheVariants as limit
 use Rattle.pb_base.specs.declared.problem.Problem.{Problem}
@@ -35,12 +35,8 @@ place_of treatment.Diagram = 8
 place_of treatment.Tree = 9
 place_of treatment.Adder = 10
 
--- the treatment of the constraint has this place
-abbrev pub is_at : Options → ℕ → Constraint → Bool
-is_at o place c = place_of (treatment_of o (rest_of c)) == place
-
 abbrev pub counted_at : Options → ℕ → Constraint → ℕ
-counted_at o place c = if is_at o place c then 1 else 0
+counted_at o place c = if place_of (treatment_of o (rest_of c)) == place then 1 else 0
 
 -- the place behind the treatments has both halves of an equality that is encoded as one
 abbrev pub joint_at : ℕ → ℕ
@@ -101,38 +97,30 @@ IsOver which o p = ⊥
 abbrev pub fresh_in : Summary → ℕ
 fresh_in s = s.vars - (s.original + s.products)
 
--- nothing is said where there is no product
-abbrev pub products_count : ℕ → List ℕ
-products_count n = if n == 0 then [] else codes " products " ++ decimal n
-
-abbrev pub variables_count : Summary → List ℕ
-variables_count s = codes "variables " ++ decimal s.vars ++ codes " original " ++ decimal s.original ++ codes " fresh " ++ decimal (fresh_in s)
+-- nothing is said of none
+abbrev pub count_of_some : List ℕ → ℕ → List ℕ
+count_of_some name n = if n == 0 then [] else name ++ decimal n
 
 abbrev pub counts_line : Summary → List ℕ
-counts_line s = variables_count s ++ codes " clauses " ++ decimal s.clauses ++ products_count s.products ++ codes "\n"
+counts_line s =
+    codes "variables " ++ decimal s.vars ++ codes " original " ++ decimal s.original ++ codes " fresh " ++ decimal (fresh_in s) ++ codes " clauses " ++ decimal s.clauses
+    ++ count_of_some (codes " products ") s.products ++ codes "\n"
 
--- without a family
-abbrev pub plain_counts : Treatments → List ℕ
-plain_counts t = codes "nothing " ++ decimal t.nothing ++ codes " empty " ++ decimal t.empty ++ codes " clause " ++ decimal t.clause
+-- without a family, and of at most one literal
+abbrev pub simple_counts : Treatments → List ℕ
+simple_counts t =
+    codes "nothing " ++ decimal t.nothing ++ codes " empty " ++ decimal t.empty ++ codes " clause " ++ decimal t.clause
+    ++ codes " pairwise " ++ decimal t.pairwise ++ codes " ladder " ++ decimal t.ladder ++ codes " product " ++ decimal t.product
 
--- the families of at most one literal
-abbrev pub at_most_one_counts : Treatments → List ℕ
-at_most_one_counts t = codes " pairwise " ++ decimal t.pairwise ++ codes " ladder " ++ decimal t.ladder ++ codes " product " ++ decimal t.product
+-- of cardinalities, and of weights
+abbrev pub sum_counts : Treatments → List ℕ
+sum_counts t =
+    codes " counter " ++ decimal t.counter ++ codes " totalizer " ++ decimal t.totalizer
+    ++ codes " diagram " ++ decimal t.diagram ++ codes " tree " ++ decimal t.tree ++ codes " adder " ++ decimal t.adder
 
--- the families of cardinalities
-abbrev pub cardinality_counts : Treatments → List ℕ
-cardinality_counts t = codes " counter " ++ decimal t.counter ++ codes " totalizer " ++ decimal t.totalizer
-
--- the families of weights
-abbrev pub weight_counts : Treatments → List ℕ
-weight_counts t = codes " diagram " ++ decimal t.diagram ++ codes " tree " ++ decimal t.tree ++ codes " adder " ++ decimal t.adder
-
--- nothing is said where no equality is encoded as one
-abbrev pub joint_count : ℕ → List ℕ
-joint_count n = if n == 0 then [] else codes " joint " ++ decimal n
-
+-- and of equalities that are encoded as one
 abbrev pub treatments_line : Treatments → List ℕ
-treatments_line t = plain_counts t ++ at_most_one_counts t ++ cardinality_counts t ++ weight_counts t ++ joint_count t.joint ++ codes "\n"
+treatments_line t = simple_counts t ++ sum_counts t ++ count_of_some (codes " joint ") t.joint ++ codes "\n"
 
 abbrev pub summary_text : Summary → List ℕ
 summary_text s = counts_line s ++ treatments_line s.treatments

@@ -1,46 +1,21 @@
 //! The steps that derive the clauses of a problem, handed to a sink.
-ghost use Rattle.std.specs.Prelude.{◌≡◌, ◌≤◌, ◌+◌, ◌^◌, IfOk, IfSome, length};
+ghost use Rattle.std.specs.Prelude.{◌≡◌, ◌+◌, IfOk, IfSome, length};
 ghost use Rattle.pb_norm.specs.Products.{loaded_of};
 ghost use Rattle.pb_family.specs.StepSinks.{HandsFrom};
-ghost use Rattle.pb_choice.specs.Readiness.{LeavesIds};
 ghost use Rattle.pb_encode.specs.Clauses.{table_first};
-ghost use Rattle.pb_encode.specs.Groups.{group_count, group_fresh, group_size, group_steps};
+ghost use Rattle.pb_encode.specs.Groups.{group_fresh, group_size, group_steps};
 ghost use Rattle.pb_encode.specs.inner.Streams.{loaded_steps_from};
 ghost use Rattle.pb_encode.specs.inner.Hints.{IsToldOf};
-ghost use Rattle.pb_encode.specs.inner.GroupPlans.{plan_count, plan_fresh, plan_size, plan_steps, IsPlanBelow, IsSound};
+ghost use Rattle.pb_encode.specs.inner.GroupPlans.{HasGroupTurn, IsSound};
 
 use crate::encodable::Encodable;
-use crate::group_plan::{GroupPlan, plan_group};
+use crate::group_plan::plan_group;
 use crate::groups::{Group, Groups};
 use crate::hints::{HintsLeft, Tells};
 use crate::position::Position;
 use pb_base::Options;
 use pb_family::{SinkFault, StepSink};
 use std::alloc::Global;
-
-// Hands over the derivation of a group by its plan, and gives where the next one stands. It only looks at the plan: each way out
-// of a function that owns one makes the proof of that function much longer.
-fn derive_plan<T: StepSink>(
-    alloc: Global,
-    plan: &GroupPlan<'_>,
-    position: Position,
-    sink: &mut T,
-) -> Result<Position, SinkFault>
-    requires below { IsPlanBelow position.first plan.now }
-    requires fits { position.first + plan_fresh plan.now ≤ 2 ^ 31 }
-    requires counted { plan_count plan.now ≤ 2 ^ 56 }
-    requires known { position.id + plan_size plan.now ≤ (T.state sink.old).next }
-    requires few { LeavesIds (plan_steps plan.now position.first position.id) (T.state sink.old).next }
-    ensures first { IfOk result (λ next. next.first ≡ position.first + plan_fresh plan.now) }
-    ensures id { IfOk result (λ next. next.id ≡ position.id + plan_size plan.now) }
-    ensures hands { HandsFrom (plan_steps plan.now position.first position.id) result (T.state sink.old) (T.state sink.new) }
-{
-    plan.derive(alloc, &position, sink)?;
-    Ok(Position {
-        first: position.first + plan.counts().fresh as u32,
-        id: position.id + plan.size(),
-    })
-}
 
 // Hands over the derivation of a group, and gives where the next one stands.
 fn derive_group<T: StepSink>(
@@ -53,16 +28,13 @@ fn derive_group<T: StepSink>(
 ) -> Result<Position, SinkFault>
     requires told { IfSome told (λ tells. IsToldOf options.now group.now tells.now) }
     requires sound { IsSound position.first group.now }
-    requires fits { position.first + group_fresh options.now group.now ≤ 2 ^ 31 }
-    requires counted { group_count options.now group.now ≤ 2 ^ 56 }
-    requires known { position.id + group_size group.now ≤ (T.state sink.old).next }
-    requires few { LeavesIds (group_steps options.now group.now position.first position.id) (T.state sink.old).next }
+    requires turn { HasGroupTurn options.now group.now position.first position.id (T.state sink.old).next }
     ensures first { IfOk result (λ next. next.first ≡ position.first + group_fresh options.now group.now) }
     ensures id { IfOk result (λ next. next.id ≡ position.id + group_size group.now) }
     ensures hands { HandsFrom (group_steps options.now group.now position.first position.id) result (T.state sink.old) (T.state sink.new) }
 {
     let plan = plan_group(alloc, group, options, told)?;
-    derive_plan(alloc, &plan, position, sink)
+    plan.derive(alloc, position, sink)
 }
 
 /// Hands over the derivations of all constraints, which stand under the ids from 1 on, and gives where the next one stands. Each

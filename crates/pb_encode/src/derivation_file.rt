@@ -9,12 +9,9 @@ ghost use Rattle.pb_dimacs.specs.Outboxes.{IsAllSent};
 ghost use Rattle.pb_norm.specs.Halves.{constraints_of, loaded};
 ghost use Rattle.pb_norm.specs.Products.{defining, loaded_of};
 ghost use Rattle.pb_encode.specs.Encodings.{derivation_text, made};
-ghost use Rattle.pb_encode.specs.Groups.{groups_of};
-ghost use Rattle.pb_encode.specs.inner.Hints.{AreHintsOf};
 ghost use Rattle.pb_encode.specs.inner.Files.{LacksForProof, LeavesProof, StopsProof};
 ghost use Rattle.pb_encode.specs.inner.Sending.{LacksFor, Stops};
 ghost use Rattle.pb_encode.specs.inner.SendingTexts.{SendsText};
-ghost use Rattle.pb_encode.specs.Summaries.{IsEncodable};
 
 use crate::encodable::Encodable;
 use crate::fault::EncodeFault;

@@ -26,32 +26,36 @@ use pb_dimacs::{ClauseWriter, WriteBuffer};
 use pb_family::{ClauseSink, SinkFault};
 use std::alloc::Global;
 
-// Hands over all lines, given the problem's summary.
+// A problem with the summary of its encoding.
+#[derive(Drop)]
+struct Measured<'a> {
+    input: Encodable<'a>,
+    summary: Summary,
+    ghost summary_is: { summary ≡ summary_of input.options.now input.problem.now },
+}
+
+// Hands over all lines.
 fn hand_cnf<'a, D: Desk>(
     alloc: Global,
-    input: &Encodable<'_>,
-    summary: &Summary,
+    of: &Measured<'_>,
     writer: &mut ClauseWriter<'a, D>,
 ) -> Result<(), SinkFault>
-    requires summary { summary.now ≡ summary_of input.now.options.now input.now.problem.now }
-    ensures { let seen = ⟦<ClauseWriter<'a, D> as ClauseSink>⟧.state in HandsTextIfMemory (problem_text input.now.options.now input.now.problem.now) result (seen writer.old) (seen writer.new) }
+    ensures { let seen = ⟦<ClauseWriter<'a, D> as ClauseSink>⟧.state in HandsTextIfMemory (problem_text of.now.input.options.now of.now.input.problem.now) result (seen writer.old) (seen writer.new) }
 {
-    writer.header(summary.vars, summary.clauses)?;
-    hand_told_clauses(alloc, input, writer)
+    writer.header(of.summary.vars, of.summary.clauses)?;
+    hand_told_clauses(alloc, &of.input, writer)
 }
 
 // Hands over all lines, and writes what is held, also where memory is wanting.
 fn send_cnf<'a, D: Desk>(
     alloc: Global,
-    input: &Encodable<'_>,
-    summary: &Summary,
+    of: &Measured<'_>,
     writer: &mut ClauseWriter<'a, D>,
 ) -> Result<(), SinkFault>
-    requires summary { summary.now ≡ summary_of input.now.options.now input.now.problem.now }
-    ensures sends { let seen = ⟦<ClauseWriter<'a, D> as ClauseSink>⟧.state in SendsText (problem_text input.now.options.now input.now.problem.now) result (seen writer.old) (seen writer.new) }
+    ensures sends { let seen = ⟦<ClauseWriter<'a, D> as ClauseSink>⟧.state in SendsText (problem_text of.now.input.options.now of.now.input.problem.now) result (seen writer.old) (seen writer.new) }
     ensures all_sent { OnOk result (IsAllSent (⟦<ClauseWriter<'a, D> as ClauseSink>⟧.state writer.new)) }
 {
-    match hand_cnf(alloc, input, summary, writer) {
+    match hand_cnf(alloc, of, writer) {
         Ok(()) => Ok(writer.flush()?),
         Err(fault) => {
             writer.settle(fault);
@@ -60,22 +64,16 @@ fn send_cnf<'a, D: Desk>(
     }
 }
 
-// Writes the CNF text of a problem to slot 0, given its summary.
-fn write_cnf<D: Desk>(
-    alloc: Global,
-    input: &Encodable<'_>,
-    summary: &Summary,
-    desk: &mut D,
-) -> Result<(), EncodeFault>
-    requires summary { summary.now ≡ summary_of input.now.options.now input.now.problem.now }
+// Writes the CNF text of a problem to slot 0.
+fn write_cnf<D: Desk>(alloc: Global, of: &Measured<'_>, desk: &mut D) -> Result<(), EncodeFault>
     requires open { IsTrue ((D.state desk.old).view.writing 0) }
-    ensures written { OnOk result (Reaches (wrote 0 (problem_text input.now.options.now input.now.problem.now)) (D.state desk.old) (D.state desk.new)) }
-    ensures stopped { IfErr result (Stops 0 (problem_text input.now.options.now input.now.problem.now) (D.state desk.old) (D.state desk.new)) }
-    ensures steady { IsSteady (D.state desk.old) → result ≡ Err EncodeFault.WriteFault → LacksFor 0 (problem_text input.now.options.now input.now.problem.now) (D.state desk.old) }
+    ensures written { OnOk result (Reaches (wrote 0 (problem_text of.now.input.options.now of.now.input.problem.now)) (D.state desk.old) (D.state desk.new)) }
+    ensures stopped { IfErr result (Stops 0 (problem_text of.now.input.options.now of.now.input.problem.now) (D.state desk.old) (D.state desk.new)) }
+    ensures steady { IsSteady (D.state desk.old) → result ≡ Err EncodeFault.WriteFault → LacksFor 0 (problem_text of.now.input.options.now of.now.input.problem.now) (D.state desk.old) }
 {
     let mut outbox = WriteBuffer::new(alloc)?;
     let mut writer = ClauseWriter::new(desk, 0, &mut outbox);
-    send_cnf(alloc, input, summary, &mut writer)?;
+    send_cnf(alloc, of, &mut writer)?;
     Ok(())
 }
 
@@ -110,7 +108,8 @@ fn encode_cnf<D: Desk>(
         options,
         hints: hints.as_slice(),
     };
-    write_cnf(alloc, &input, &summary, desk)?;
+    let measured = Measured { input, summary };
+    write_cnf(alloc, &measured, desk)?;
     desk.close(0)?;
     Ok(summary)
 }

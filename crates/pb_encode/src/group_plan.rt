@@ -1,27 +1,27 @@
 //! How a group of constraints is encoded.
-ghost use Rattle.std.specs.Prelude.{◌≡◌, ◌≤◌, ◌+◌, ◌^◌, IfOk, IfSome};
+ghost use Rattle.std.specs.Prelude.{◌≡◌, ◌≤◌, ◌<◌, ◌+◌, ◌^◌, IfOk, IfSome};
+ghost use Rattle.pb_norm.specs.Constraints.{weight};
 ghost use Rattle.pb_family.specs.Handing.{HandsIfMemory};
 ghost use Rattle.pb_family.specs.StepSinks.{HandsFrom};
-ghost use Rattle.pb_choice.specs.Readiness.{LeavesIds};
-ghost use Rattle.pb_encode.specs.declared.group_plan.GroupPlan.TheVariants.{Alone};
-ghost use Rattle.pb_encode.specs.declared.hints.Tells.TheVariants.{Diagram};
-ghost use Rattle.pb_encode.specs.inner.Hints.{IsAdderGroup, IsToldOf};
-ghost use Rattle.pb_encode.specs.inner.GroupPlans.{plan_clauses, plan_count, plan_fresh, plan_size, plan_steps, IsGroupPlan, IsLightGroup, IsPlanBelow};
+ghost use Rattle.pb_choice.specs.EqualPlans.{HasPartsOf, IsEqualPlan, IsPlanOf};
+ghost use Rattle.pb_encode.specs.declared.groups.Group.TheVariants.{Alone, Paired};
+ghost use Rattle.pb_encode.specs.inner.Hints.{IsToldOf};
+ghost use Rattle.pb_encode.specs.inner.GroupPlans.{plan_clauses, plan_count, plan_fresh, plan_size, plan_steps, HasPlanTurn, IsGroupPlan, IsLightGroup, IsPlanBelow};
 
 use crate::groups::Group;
 use crate::hints::Tells;
 use crate::position::Position;
 use pb_base::{NoMemory, Options};
-use pb_choice::{
-    Counts, EqualPlan, Kept, Plan, plan, plan_adder, plan_adders, plan_equal, plan_kept,
-};
+use pb_choice::{Counts, EqualPlan, Plan, plan, plan_adder, plan_adders, plan_equal, plan_kept};
 use pb_family::{ClauseSink, SinkFault, StepSink};
+use pb_norm::Linear;
 use std::alloc::Global;
 
 /// The encoding of a group under some options.
 pub enum GroupPlan<'a> {
     Alone(Plan<'a>),
-    Paired(EqualPlan<'a>),
+    /// In memory of its own: most groups are single constraints, whose plans take little room.
+    Paired(Box<EqualPlan<'a>>),
 }
 
 // Written out, so that it is one call in the proofs of the functions that own a plan.
@@ -34,59 +34,42 @@ impl Drop for GroupPlan<'_> {
     }
 }
 
-// How a group is encoded that is known to go to the adder.
-fn plan_adder_group<'a>(
+// How a constraint by itself is encoded, of which something may be told.
+fn plan_alone<'a>(
     alloc: Global,
-    group: &'a Group,
+    constraint: &'a Linear,
     options: &Options,
-) -> Result<GroupPlan<'a>, NoMemory>
-    requires light { IsLightGroup group.now }
-    requires adder { IsAdderGroup options.now group.now }
-    ensures { IfOk result (IsGroupPlan options.now group.now) }
+    told: Option<&'a Tells>,
+) -> Result<Plan<'a>, NoMemory>
+    requires light { weight constraint.now.terms < 2 ^ 100 }
+    requires told { IfSome told (λ tells. IsToldOf options.now (Alone constraint.now) tells.now) }
+    ensures { IfOk result (IsPlanOf options.now constraint.now) }
 {
-    match group {
-        Group::Alone(constraint) => Ok(GroupPlan::Alone(plan_adder(alloc, constraint, options)?)),
-        Group::Paired(lower, upper) => {
-            let plan = plan_adders(alloc, lower, upper, options)?;
-            Ok(GroupPlan::Paired(plan))
-        }
+    match told {
+        Some(Tells::Adder) => plan_adder(alloc, constraint, options),
+        Some(Tells::Diagram(kept)) => plan_kept(alloc, constraint, options, kept),
+        None => plan(alloc, constraint, options),
     }
 }
 
-// How a group of one constraint is encoded of which the diagram is kept.
-fn plan_kept_group<'a>(
+// How an equality is encoded, of which something may be told.
+fn plan_pair<'a>(
     alloc: Global,
-    group: &'a Group,
+    lower: &'a Linear,
+    upper: &'a Linear,
     options: &Options,
-    kept: &'a Kept,
-) -> Result<GroupPlan<'a>, NoMemory>
-    requires light { IsLightGroup group.now }
-    requires kept { IsToldOf options.now group.now (Diagram kept.now) }
-    ensures { IfOk result (IsGroupPlan options.now group.now) }
+    told: Option<&Tells>,
+) -> Result<EqualPlan<'a>, NoMemory>
+    requires lower_light { weight lower.now.terms < 2 ^ 100 }
+    requires upper_light { weight upper.now.terms < 2 ^ 100 }
+    requires told { IfSome told (λ tells. IsToldOf options.now (Paired lower.now upper.now) tells.now) }
+    ensures choice { IfOk result (IsEqualPlan options.now lower.now upper.now) }
+    ensures parts { IfOk result (HasPartsOf options.now lower.now upper.now) }
 {
-    match group {
-        Group::Alone(constraint) => {
-            let plan = plan_kept(alloc, constraint, options, kept)?;
-            Ok(GroupPlan::Alone(plan))
-        }
-        Group::Paired(_, _) => unreachable!(),
-    }
-}
-
-// How a group is encoded of which nothing is told.
-fn plan_new_group<'a>(
-    alloc: Global,
-    group: &'a Group,
-    options: &Options,
-) -> Result<GroupPlan<'a>, NoMemory>
-    requires light { IsLightGroup group.now }
-    ensures { IfOk result (IsGroupPlan options.now group.now) }
-{
-    match group {
-        Group::Alone(constraint) => Ok(GroupPlan::Alone(plan(alloc, constraint, options)?)),
-        Group::Paired(lower, upper) => {
-            Ok(GroupPlan::Paired(plan_equal(alloc, lower, upper, options)?))
-        }
+    match told {
+        Some(Tells::Adder) => plan_adders(alloc, lower, upper, options),
+        Some(Tells::Diagram(_)) => unreachable!(),
+        None => plan_equal(alloc, lower, upper, options),
     }
 }
 
@@ -101,14 +84,21 @@ pub fn plan_group<'a>(
     requires told { IfSome told (λ tells. IsToldOf options.now group.now tells.now) }
     ensures { IfOk result (IsGroupPlan options.now group.now) }
 {
-    match told {
-        Some(Tells::Adder) => plan_adder_group(alloc, group, options),
-        Some(Tells::Diagram(kept)) => plan_kept_group(alloc, group, options, kept),
-        None => plan_new_group(alloc, group, options),
+    match group {
+        Group::Alone(constraint) => {
+            let plan = plan_alone(alloc, constraint, options, told)?;
+            Ok(GroupPlan::Alone(plan))
+        }
+        Group::Paired(lower, upper) => {
+            let plan = plan_pair(alloc, lower, upper, options, told)?;
+            Ok(GroupPlan::Paired(Box::new(alloc, plan)?))
+        }
     }
 }
 
 impl<'a> GroupPlan<'a> {
+    ghost use Rattle.pb_encode.specs.declared.group_plan.GroupPlan.TheVariants.{Alone};
+
     /// The plan of the constraint, if it is of one alone.
     pub fn into_alone(self) -> Option<Plan<'a>>
         ensures { IfSome result (λ plan. self.entry ≡ Alone plan) }
@@ -129,17 +119,6 @@ impl GroupPlan<'_> {
         match self {
             GroupPlan::Alone(plan) => plan.counts(),
             GroupPlan::Paired(plan) => plan.counts(),
-        }
-    }
-
-    /// How many constraints it encodes.
-    pub fn size(&self) -> u64
-        ensures size { result ≡ plan_size self.now }
-        ensures few { result ≤ 2 }
-    {
-        match self {
-            GroupPlan::Alone(_) => 1,
-            GroupPlan::Paired(_) => 2,
         }
     }
 
@@ -168,29 +147,35 @@ impl GroupPlan<'_> {
         }
     }
 
-    /// Hands over the steps that derive these clauses from the constraints.
+    /// Hands over the steps that derive these clauses from the constraints, and gives where those of the next group stand.
     pub fn derive<T: StepSink>(
         &self,
         alloc: Global,
-        position: &Position,
+        position: Position,
         sink: &mut T,
-    ) -> Result<(), SinkFault>
-        requires original { IsPlanBelow position.now.first self.now }
-        requires fits { position.now.first + plan_fresh self.now ≤ 2 ^ 31 }
-        requires counted { plan_count self.now ≤ 2 ^ 56 }
-        requires known { position.now.id + plan_size self.now ≤ (T.state sink.old).next }
-        requires few { LeavesIds (plan_steps self.now position.now.first position.now.id) (T.state sink.old).next }
-        ensures { HandsFrom (plan_steps self.now position.now.first position.now.id) result (T.state sink.old) (T.state sink.new) }
+    ) -> Result<Position, SinkFault>
+        requires original { IsPlanBelow position.first self.now }
+        requires turn { HasPlanTurn self.now position.first position.id (T.state sink.old).next }
+        ensures first { IfOk result (λ next. next.first ≡ position.first + plan_fresh self.now) }
+        ensures id { IfOk result (λ next. next.id ≡ position.id + plan_size self.now) }
+        ensures hands { HandsFrom (plan_steps self.now position.first position.id) result (T.state sink.old) (T.state sink.new) }
     {
+        let Position { first, id } = position;
         match self {
-            GroupPlan::Alone(plan) => plan.derive(alloc, position.first, position.id, sink),
-            GroupPlan::Paired(plan) => plan.derive(
-                alloc,
-                position.first,
-                position.id,
-                position.id + 1,
-                sink,
-            ),
+            GroupPlan::Alone(plan) => {
+                plan.derive(alloc, first, id, sink)?;
+                Ok(Position {
+                    first: first + plan.counts().fresh as u32,
+                    id: id + 1,
+                })
+            }
+            GroupPlan::Paired(plan) => {
+                plan.derive(alloc, first, id, id + 1, sink)?;
+                Ok(Position {
+                    first: first + plan.counts().fresh as u32,
+                    id: id + 2,
+                })
+            }
         }
     }
 }

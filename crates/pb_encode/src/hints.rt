@@ -1,5 +1,5 @@
 //! What planning the groups of a problem once tells those who plan them again.
-ghost use Rattle.std.specs.Prelude.{◌≡◌, ◌∷◌, ◌+◌, ◌<◌, ◌^◌, [], List, IfOk, IfSome, IsTrue, OnOk, drop};
+ghost use Rattle.std.specs.Prelude.{◌≡◌, ◌∷◌, ◌+◌, ◌<◌, ◌^◌, [], List, IfSome, IsTrue, OnOk, drop};
 ghost use Rattle.pb_norm.specs.Constraints.{Constraint};
 ghost use Rattle.pb_base.specs.declared.options.Options.{Options};
 ghost use Rattle.pb_choice.specs.Choice.{IsSentToAdder};
@@ -72,28 +72,28 @@ fn are_adders(plan: &GroupPlan<'_>) -> bool
 }
 
 // What is told of a single constraint that does not go to the adder, given how many nodes may be kept.
-fn diagram_of(alloc: Global, plan: Plan<'_>, room: u64) -> Result<Option<Tells>, AllocError>
-    ensures { (o : Options) (c : Constraint) → IsPlanOf o c plan.entry → IfOk result (λ tells. IfSome tells (IsToldOf o (Alone c))) }
+fn diagram_of(plan: Plan<'_>, room: u64) -> Option<Tells>
+    ensures { (o : Options) (c : Constraint) → IsPlanOf o c plan.entry → IfSome result (IsToldOf o (Alone c)) }
 {
     if plan.counts().fresh > room {
-        return Ok(None);
+        return None;
     }
-    match plan.into_kept(alloc)? {
-        Some(kept) => Ok(Some(Tells::Diagram(kept))),
-        None => Ok(None),
+    match plan.into_kept() {
+        Some(kept) => Some(Tells::Diagram(kept)),
+        None => None,
     }
 }
 
 // What is told of a group, given how many nodes may be kept.
-fn tells_of(alloc: Global, plan: GroupPlan<'_>, room: u64) -> Result<Option<Tells>, AllocError>
-    ensures { (o : Options) (g : Group) → IsGroupPlan o g plan.entry → IfOk result (λ tells. IfSome tells (IsToldOf o g)) }
+fn tells_of(plan: GroupPlan<'_>, room: u64) -> Option<Tells>
+    ensures { (o : Options) (g : Group) → IsGroupPlan o g plan.entry → IfSome result (IsToldOf o g) }
 {
     if are_adders(&plan) {
-        return Ok(Some(Tells::Adder));
+        return Some(Tells::Adder);
     }
     match plan.into_alone() {
-        Some(plan) => diagram_of(alloc, plan, room),
-        None => Ok(None),
+        Some(plan) => diagram_of(plan, room),
+        None => None,
     }
 }
 
@@ -134,13 +134,12 @@ impl Hints {
     }
 
     /// Notes what is to be told of the next group.
-    pub fn note(&mut self, alloc: Global, plan: GroupPlan<'_>) -> Result<(), AllocError>
+    pub fn note(&mut self, plan: GroupPlan<'_>) -> Result<(), AllocError>
         requires few { self.old.noted < 2 ^ 63 }
         ensures next { OnOk result (self.new.noted ≡ self.old.noted + 1) }
         ensures told { (o : Options) (gs rest : List Group) (g : Group) → drop self.old.noted gs ≡ g ∷ rest → IsGroupPlan o g plan.entry → OnOk result (StayHints o gs self.old self.new) }
     {
-        let told = tells_of(alloc, plan, self.room)?;
-        self.push(told)?;
+        self.push(tells_of(plan, self.room))?;
         self.noted += 1;
         Ok(())
     }

@@ -39,7 +39,7 @@ fn count_group(
 {
     let plan = plan_group(alloc, group, options, None)?;
     tally.add_group(&plan);
-    hints.note(alloc, plan)?;
+    hints.note(plan)?;
     Ok(())
 }
 

@@ -1,6 +1,6 @@
 //! What is said of an encoded problem.
 ghost use Rattle.std.specs.Prelude.{◌≡◌, ◌≤◌, ◌+◌, ◌++◌, IfOk, OnOk, decimal};
-ghost use Rattle.pb_encode.specs.Summaries.{at_most_one_counts, cardinality_counts, counts_line, joint_count, plain_counts, products_count, summary_text, treatments_line, variables_count, weight_counts};
+ghost use Rattle.pb_encode.specs.Summaries.{count_of_some, counts_line, simple_counts, sum_counts, summary_text, treatments_line};
 
 use itoa::Buffer;
 use std::alloc::{AllocError, Global};
@@ -47,25 +47,14 @@ pub fn push_count(out: &mut Vec<u8>, name: &[u8], count: u64) -> Result<(), Allo
     Ok(())
 }
 
-// Appends how many variables there are.
-fn push_variables(out: &mut Vec<u8>, summary: &Summary) -> Result<(), AllocError>
-    requires { summary.now.original + summary.now.products ≤ summary.now.vars }
-    ensures { OnOk result (out.new.items ≡ out.old.items ++ variables_count summary.now) }
+// Appends a name and a count, if it counts any.
+fn push_some(out: &mut Vec<u8>, name: &[u8], count: u64) -> Result<(), AllocError>
+    ensures { OnOk result (out.new.items ≡ out.old.items ++ count_of_some name.now count) }
 {
-    let fresh = summary.vars - (summary.original + summary.products);
-    push_count(out, b"variables ", u64::from(summary.vars))?;
-    push_count(out, b" original ", u64::from(summary.original))?;
-    push_count(out, b" fresh ", u64::from(fresh))
-}
-
-// Appends how many products there are, if any.
-fn push_products(out: &mut Vec<u8>, products: u32) -> Result<(), AllocError>
-    ensures { OnOk result (out.new.items ≡ out.old.items ++ products_count products) }
-{
-    if products == 0 {
+    if count == 0 {
         return Ok(());
     }
-    push_count(out, b" products ", u64::from(products))
+    push_count(out, name, count)
 }
 
 // Appends the line of the sizes.
@@ -73,67 +62,46 @@ fn push_sizes(out: &mut Vec<u8>, summary: &Summary) -> Result<(), AllocError>
     requires { summary.now.original + summary.now.products ≤ summary.now.vars }
     ensures { OnOk result (out.new.items ≡ out.old.items ++ counts_line summary.now) }
 {
-    push_variables(out, summary)?;
+    let fresh = summary.vars - (summary.original + summary.products);
+    push_count(out, b"variables ", u64::from(summary.vars))?;
+    push_count(out, b" original ", u64::from(summary.original))?;
+    push_count(out, b" fresh ", u64::from(fresh))?;
     push_count(out, b" clauses ", summary.clauses)?;
-    push_products(out, summary.products)?;
+    push_some(out, b" products ", u64::from(summary.products))?;
     out.push(b'\n')?;
     Ok(())
 }
 
-// Appends how many constraints need no family.
-fn push_plain(out: &mut Vec<u8>, treatments: &Treatments) -> Result<(), AllocError>
-    ensures { OnOk result (out.new.items ≡ out.old.items ++ plain_counts treatments.now) }
+// Appends the counts of what has no family, or is of at most one literal.
+fn push_simple(out: &mut Vec<u8>, treatments: &Treatments) -> Result<(), AllocError>
+    ensures { OnOk result (out.new.items ≡ out.old.items ++ simple_counts treatments.now) }
 {
     push_count(out, b"nothing ", treatments.nothing)?;
     push_count(out, b" empty ", treatments.empty)?;
-    push_count(out, b" clause ", treatments.clause)
-}
-
-// Appends how many are encoded by a family of at most one literal.
-fn push_at_most_one(out: &mut Vec<u8>, treatments: &Treatments) -> Result<(), AllocError>
-    ensures { OnOk result (out.new.items ≡ out.old.items ++ at_most_one_counts treatments.now) }
-{
+    push_count(out, b" clause ", treatments.clause)?;
     push_count(out, b" pairwise ", treatments.pairwise)?;
     push_count(out, b" ladder ", treatments.ladder)?;
     push_count(out, b" product ", treatments.product)
 }
 
-// Appends how many are encoded by a family of cardinalities.
-fn push_cardinalities(out: &mut Vec<u8>, treatments: &Treatments) -> Result<(), AllocError>
-    ensures { OnOk result (out.new.items ≡ out.old.items ++ cardinality_counts treatments.now) }
+// Appends those of other sums.
+fn push_sums(out: &mut Vec<u8>, treatments: &Treatments) -> Result<(), AllocError>
+    ensures { OnOk result (out.new.items ≡ out.old.items ++ sum_counts treatments.now) }
 {
     push_count(out, b" counter ", treatments.counter)?;
-    push_count(out, b" totalizer ", treatments.totalizer)
-}
-
-// Appends how many are encoded by a family of weights.
-fn push_weights(out: &mut Vec<u8>, treatments: &Treatments) -> Result<(), AllocError>
-    ensures { OnOk result (out.new.items ≡ out.old.items ++ weight_counts treatments.now) }
-{
+    push_count(out, b" totalizer ", treatments.totalizer)?;
     push_count(out, b" diagram ", treatments.diagram)?;
     push_count(out, b" tree ", treatments.tree)?;
     push_count(out, b" adder ", treatments.adder)
-}
-
-// Appends how many are encoded together with the other half of an equality, if any.
-fn push_joint(out: &mut Vec<u8>, joint: u64) -> Result<(), AllocError>
-    ensures { OnOk result (out.new.items ≡ out.old.items ++ joint_count joint) }
-{
-    if joint == 0 {
-        return Ok(());
-    }
-    push_count(out, b" joint ", joint)
 }
 
 // Appends the line of the treatments.
 fn push_treatments(out: &mut Vec<u8>, treatments: &Treatments) -> Result<(), AllocError>
     ensures { OnOk result (out.new.items ≡ out.old.items ++ treatments_line treatments.now) }
 {
-    push_plain(out, treatments)?;
-    push_at_most_one(out, treatments)?;
-    push_cardinalities(out, treatments)?;
-    push_weights(out, treatments)?;
-    push_joint(out, treatments.joint)?;
+    push_simple(out, treatments)?;
+    push_sums(out, treatments)?;
+    push_some(out, b" joint ", treatments.joint)?;
     out.push(b'\n')?;
     Ok(())
 }

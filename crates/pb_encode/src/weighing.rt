@@ -14,8 +14,6 @@ ghost use Rattle.pb_dimacs.specs.WcnfText.{offset_text, softs_text};
 ghost use Rattle.pb_encode.specs.Clauses.{problem_clauses};
 ghost use Rattle.pb_encode.specs.Costs.{objective_form, softs_of, CostsAddUp};
 ghost use Rattle.pb_encode.specs.Encodings.{made, Refuses};
-ghost use Rattle.pb_encode.specs.Groups.{groups_of};
-ghost use Rattle.pb_encode.specs.inner.Hints.{AreHintsOf};
 ghost use Rattle.pb_encode.specs.inner.Sending.{LacksFor, Stops};
 ghost use Rattle.pb_encode.specs.inner.SendingTexts.{HandsTextIfMemory, SendsText};
 ghost use Rattle.pb_encode.specs.Summaries.{summary_of, IsEncodable};
@@ -56,34 +54,38 @@ fn send_softs<'a, D: Desk>(objective: &Linear, writer: &mut HardWriter<'a, D>) -
     Ok(())
 }
 
-// Hands over all lines, given the objective in normal form.
+// A problem with its objective in normal form.
+#[derive(Drop)]
+struct Costed<'a> {
+    input: Encodable<'a>,
+    objective: Linear,
+    ghost objective_is: { objective ≡ objective_form input.problem.now },
+}
+
+// Hands over all lines.
 fn hand_weighted<'a, D: Desk>(
     alloc: Global,
-    input: &Encodable<'_>,
-    objective: &Linear,
+    of: &Costed<'_>,
     writer: &mut HardWriter<'a, D>,
 ) -> Result<(), SinkFault>
-    requires objective { objective.now ≡ objective_form input.now.problem.now }
-    ensures { let seen = ⟦<HardWriter<'a, D> as ClauseSink>⟧.state in HandsTextIfMemory (weighted_text input.now.options.now input.now.problem.now) result (seen writer.old) (seen writer.new) }
+    ensures { let seen = ⟦<HardWriter<'a, D> as ClauseSink>⟧.state in HandsTextIfMemory (weighted_text of.now.input.options.now of.now.input.problem.now) result (seen writer.old) (seen writer.new) }
 {
-    send_offset(objective, writer)?;
-    hand_told_clauses(alloc, input, writer)?;
-    send_softs(objective, writer)?;
+    send_offset(&of.objective, writer)?;
+    hand_told_clauses(alloc, &of.input, writer)?;
+    send_softs(&of.objective, writer)?;
     Ok(())
 }
 
 // Hands over all lines, and writes what is held, also where memory is wanting.
 fn send_weighted<'a, D: Desk>(
     alloc: Global,
-    input: &Encodable<'_>,
-    objective: &Linear,
+    of: &Costed<'_>,
     writer: &mut HardWriter<'a, D>,
 ) -> Result<(), SinkFault>
-    requires objective { objective.now ≡ objective_form input.now.problem.now }
-    ensures sends { let seen = ⟦<HardWriter<'a, D> as ClauseSink>⟧.state in SendsText (weighted_text input.now.options.now input.now.problem.now) result (seen writer.old) (seen writer.new) }
+    ensures sends { let seen = ⟦<HardWriter<'a, D> as ClauseSink>⟧.state in SendsText (weighted_text of.now.input.options.now of.now.input.problem.now) result (seen writer.old) (seen writer.new) }
     ensures all_sent { OnOk result (IsAllSent (⟦<HardWriter<'a, D> as ClauseSink>⟧.state writer.new)) }
 {
-    match hand_weighted(alloc, input, objective, writer) {
+    match hand_weighted(alloc, of, writer) {
         Ok(()) => Ok(writer.flush()?),
         Err(fault) => {
             writer.settle(fault);
@@ -92,22 +94,16 @@ fn send_weighted<'a, D: Desk>(
     }
 }
 
-// Writes the weighted CNF text of a problem to slot 0, given its objective in normal form.
-fn write_weighted<D: Desk>(
-    alloc: Global,
-    input: &Encodable<'_>,
-    objective: &Linear,
-    desk: &mut D,
-) -> Result<(), EncodeFault>
-    requires objective { objective.now ≡ objective_form input.now.problem.now }
+// Writes the weighted CNF text of a problem to slot 0.
+fn write_weighted<D: Desk>(alloc: Global, of: &Costed<'_>, desk: &mut D) -> Result<(), EncodeFault>
     requires open { IsTrue ((D.state desk.old).view.writing 0) }
-    ensures written { OnOk result (Reaches (wrote 0 (weighted_text input.now.options.now input.now.problem.now)) (D.state desk.old) (D.state desk.new)) }
-    ensures stopped { IfErr result (Stops 0 (weighted_text input.now.options.now input.now.problem.now) (D.state desk.old) (D.state desk.new)) }
-    ensures steady { IsSteady (D.state desk.old) → result ≡ Err EncodeFault.WriteFault → LacksFor 0 (weighted_text input.now.options.now input.now.problem.now) (D.state desk.old) }
+    ensures written { OnOk result (Reaches (wrote 0 (weighted_text of.now.input.options.now of.now.input.problem.now)) (D.state desk.old) (D.state desk.new)) }
+    ensures stopped { IfErr result (Stops 0 (weighted_text of.now.input.options.now of.now.input.problem.now) (D.state desk.old) (D.state desk.new)) }
+    ensures steady { IsSteady (D.state desk.old) → result ≡ Err EncodeFault.WriteFault → LacksFor 0 (weighted_text of.now.input.options.now of.now.input.problem.now) (D.state desk.old) }
 {
     let mut outbox = WriteBuffer::new(alloc)?;
     let mut writer = HardWriter::new(desk, 0, &mut outbox);
-    send_weighted(alloc, input, objective, &mut writer)?;
+    send_weighted(alloc, of, &mut writer)?;
     Ok(())
 }
 
@@ -142,7 +138,8 @@ pub fn weighted<D: Desk>(
         options,
         hints: hints.as_slice(),
     };
-    write_weighted(alloc, &input, &objective, desk)?;
+    let costed = Costed { input, objective };
+    write_weighted(alloc, &costed, desk)?;
     desk.close(0)?;
     Ok(summary)
 }

@@ -1,5 +1,6 @@
 -- The family that was chosen for a sum is one for it, and its clauses may be derived. Our own.
 use Rattle.std.specs.Prelude.{◌≡◌}
+use Rattle.std.proofs.Common.{arith}
 use Rattle.pb_norm.specs.BoundedSums.{BoundedSum}
 use Rattle.pb_choice.specs.declared.chosen.Chosen.{Chosen}
 use Rattle.pb_choice.specs.declared.chosen.Chosen.TheVariants.{Pairwise, Ladder, Product, Counter, Totalizer, Diagram, Tree, Adder}
@@ -35,9 +36,9 @@ chosen_room (Pairwise held) = tt
 chosen_room (Ladder held) = tt
 chosen_room (Product held) = tt
 chosen_room (Counter held) = tt
-chosen_room (Totalizer held) = totalizer_small held.sum held.class held.few
+chosen_room (Totalizer held) = omega (arith, totalizer_small held.sum held.class held.modest)
 chosen_room (Diagram held) = tt
-chosen_room (Tree held) = tree_small held.sum held.class held.few held.modest
+chosen_room (Tree held) = omega (arith, tree_small held.sum held.class held.modest)
 chosen_room (Adder held) = tt
 
 -- so it was chosen for a sum

@@ -4,5 +4,5 @@ use Rattle.pb_choice.specs.declared.lent.Owner.{Owner}
 use Rattle.pb_choice.specs.declared.lent.Owner.TheVariants.{Own, Kept}
 
 abbrev pub chosen_in : Owner → Chosen
-chosen_in (Own f) = f
+chosen_in (Own f) = f.value
 chosen_in (Kept f) = f.now

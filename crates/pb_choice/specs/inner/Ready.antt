@@ -1,8 +1,7 @@
 -- When the clauses of an equality's plan may be handed over, and when their derivation may. Our own.
 use Rattle.std.specs.Prelude.{ℕ, ◌≤◌, ◌<◌, ◌+◌, ◌^◌}
 use Rattle.pb_choice.specs.declared.equal.EqualPlan.{EqualPlan}
-use Rattle.pb_choice.specs.EqualPlans.{planned_count, planned_fresh, planned_steps, IsPlannedBelow}
-use Rattle.pb_choice.specs.Readiness.{LeavesIds}
+use Rattle.pb_choice.specs.EqualPlans.{planned_count, planned_fresh, IsPlannedBelow}
 
 -- the fresh variables are numbered from the first number on, behind all others
 pub record MayEmit (first : ℕ) (plan : EqualPlan) : Type 0 where
@@ -18,4 +17,4 @@ pub record MayDerive (first low high next : ℕ) (plan : EqualPlan) : Type 0 whe
   pub low_known : low < next
   pub high_given : 1 ≤ high
   pub high_known : high < next
-  pub few : LeavesIds (planned_steps plan first low high) next
+  pub few : next ≤ 2 ^ 60

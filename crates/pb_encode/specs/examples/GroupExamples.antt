@@ -12,7 +12,7 @@ use Rattle.pb_base.specs.declared.options.Options.{Options}
 use Rattle.pb_base.specs.Defaults.{default_options}
 use Rattle.pb_encode.specs.Clauses.{clause_total, loaded_vars}
 use Rattle.pb_encode.specs.Groups.{groups_of, size_total}
-use Rattle.pb_encode.specs.Summaries.{joint_count, treated}
+use Rattle.pb_encode.specs.Summaries.{count_of_some, treated}
 
 abbrev term : ℕ → Term
 term v = record { coef = pos 1; lit = record { var = v; positive = true } }
@@ -47,9 +47,9 @@ pub constraints : size_total (groups_of both) ≡ 3
 constraints = refl
 
 -- what is said of them
-pub two_said : joint_count 2 ≡ codes " joint 2"
+pub two_said : count_of_some (codes " joint ") 2 ≡ codes " joint 2"
 unfolding digits
 two_said = refl
 
-pub none_said : joint_count 0 ≡ []
+pub none_said : count_of_some (codes " joint ") 0 ≡ []
 none_said = refl

@@ -1,6 +1,5 @@
 use Rattle.std.proofs.Common.{◌≡◌, ◌+◌, ◌++◌, ℕ, List, [], ◌∷◌, sym, arith}
 use Rattle.std.specs.Prelude.{IsTrue}
-use Rattle.std.proofs.lemmas.List.Sums.{count_by-le-length}
 use Rattle.pb_steps.specs.declared.step.Step.{Step}
 use Rattle.pb_steps.specs.declared.step.Step.TheVariants.{Del}
 use Rattle.pb_steps.specs.Steps.{takes_id}
@@ -10,8 +9,7 @@ use Rattle.pb_choice.specs.declared.chosen.Chosen.{Chosen}
 use Rattle.pb_choice.specs.Chosen.{sum_at, treatment_at}
 use Rattle.pb_choice.specs.ConstraintSteps.{reduced_steps}
 use Rattle.pb_choice.specs.SumSteps.{sum_steps}
-use Rattle.pb_choice.specs.inner.Chosen.{chosen_derivable}
-use Rattle.pb_choice.specs.laws.SumDerives.{sum_few}
+use Rattle.pb_choice.proofs.FamilyCounts.{chosen_few}
 use Rattle.pb_choice.proofs.PlanSteps.{one_id}
 use Rattle.pb_choice.proofs.derivation.derive_reduced.Goals as goal
 
@@ -56,10 +54,9 @@ derive_deletion-requires g c =
     let one = one_id c.args.reduces.now c.requires.takes in
     let all = c.in_ok-derive.ensures.ids in
     let mid = g.T.StepSink.state c.step.new.self in
-    let steps = sum_steps (treatment_at f) (sum_at f) c.args.first c.next_id-own.result mid.next in
     record {
       fits = omega (arith, c.next_id-own.ensures, c.requires.few);
-      few = omega (arith, all, ids, one, count_by-le-length takes_id steps, sum_few (treatment_at f) (sum_at f) (chosen_derivable f) c.args.first c.next_id-own.result mid.next, c.requires.few, c.requires.fits, c.requires.clauses, c.requires.low);
+      few = omega (arith, all, ids, one, (chosen_few f).ids c.args.first c.next_id-own.result mid.next (omega (arith, c.requires.fits)), c.requires.few);
     }
 
 pub returns-in_err-step : goal.returns-in_err-step

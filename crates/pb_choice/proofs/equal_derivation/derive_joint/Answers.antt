@@ -1,5 +1,5 @@
 use Rattle.std.proofs.Common.{◌≡◌, ◌+◌, ◌++◌, ℕ, ℤ, List, [], ◌∷◌, refl, sym, arith}
-use Rattle.std.specs.Prelude.{count_by}
+use Rattle.std.proofs.lemmas.List.Sums.{count_by-le-length}
 use Rattle.pb_norm.specs.BoundedSums.{BoundedSum}
 use Rattle.pb_steps.specs.declared.step.Step.{Step}
 use Rattle.pb_steps.specs.declared.step.Step.TheVariants.{Del}
@@ -8,8 +8,8 @@ use Rattle.pb_family.specs.StepSinks.{StepState, TakesSteps}
 use Rattle.pb_family.proofs.Deriving.{Deriving, deriving_as, deriving_starts, deriving_step, steps_fault, steps_last}
 use Rattle.pb_totalizer.specs.ExactSteps.{exact_steps}
 use Rattle.pb_totalizer.specs.ExactSum.{exact_sum}
+use Rattle.pb_totalizer.specs.laws.ExactDerives.{exact_lines}
 use Rattle.pb_choice.specs.EqualitySteps.{joint_steps, quotient_step}
-use Rattle.pb_choice.proofs.EqualIds.{joint_ids}
 use Rattle.pb_choice.proofs.PlanSteps.{one_id}
 use Rattle.pb_choice.proofs.equal_derivation.derive_joint.Goals as goal
 
@@ -87,10 +87,10 @@ derive_deletion-requires g c =
     let top = g.T.StepSink.state c.derive_quotient-2.new.sink in
     let given : old.next ≡ own = sym c.next_id-own.ensures in
     let next = two_more m a c.args.first c.args.ids.low c.args.ids.high old _ c.in_ok-derive_quotient.ensures top c.in_ok-derive_quotient-2.ensures in
-    let same : count_by takes_id (exact_steps m c.args.first old.next (old.next + 1) (old.next + 2)) ≡ count_by takes_id (exact_steps m c.args.first own (own + 1) top.next) = λ i. count_by takes_id (exact_steps m c.args.first (given i) (given i + 1) (next i)) in
+    let steps : List Step = exact_steps m c.args.first own (own + 1) top.next in
     record {
       fits = omega (arith, given, c.requires.ready.few);
-      few = omega (arith, c.in_ok-derive.ensures.ids, next, same, joint_ids m a c.args.first c.args.ids.low c.args.ids.high old.next, c.requires.ready.few);
+      few = omega (arith, c.in_ok-derive.ensures.ids, next, count_by-le-length takes_id steps, exact_lines m c.args.first own (own + 1) top.next, c.requires.ready.clauses, c.requires.ready.emits.fits, c.requires.ready.few);
     }
 
 pub returns : goal.returns

@@ -6,7 +6,7 @@ use Rattle.pb_steps.specs.declared.step.Step.{Step}
 use Rattle.pb_steps.specs.Steps.{takes_id}
 use Rattle.pb_family.proofs.Deriving.{deriving_as, deriving_starts, deriving_step, steps_fault, steps_last}
 use Rattle.pb_choice.specs.HalfPlans.{halves_steps, plan_fresh, plan_steps}
-use Rattle.pb_choice.proofs.EqualIds.{halves_ids}
+use Rattle.pb_choice.proofs.PlanIds.{plan_ids}
 use Rattle.pb_choice.proofs.equal_halves.derive_halves.Goals as goal
 
 pub returns-in_err-derive : goal.returns-in_err-derive
@@ -25,7 +25,6 @@ derive-requires g c =
       original = r.emits.original.0;
       low = r.emits.from;
       fits = omega (arith, r.emits.fits);
-      clauses = omega (arith, r.clauses);
       given = r.low_given;
       known = r.low_known;
       few = omega (arith, r.few);
@@ -42,10 +41,9 @@ derive-requires-2 g c =
       original = All-weaker (λ (t : Weighted). t.lit.var < c.args.first) (λ (t : Weighted). t.lit.var < c.args.first + c.counts.result.fresh) (λ t h. omega (arith, h)) u.constraint.now.terms c.requires.ready.emits.original.1;
       low = omega (arith, c.requires.ready.emits.from);
       fits = omega (arith, fresh, c.requires.ready.emits.fits);
-      clauses = omega (arith, c.requires.ready.clauses);
       given = c.requires.ready.high_given;
       known = omega (arith, ids, c.requires.ready.high_known);
-      few = omega (arith, ids, halves_ids l u c.args.first c.args.ids.low c.args.ids.high old.next, c.requires.ready.few);
+      few = omega (arith, ids, plan_ids l c.args.first c.args.ids.low old.next, c.requires.ready.clauses, c.requires.ready.emits.fits, c.requires.ready.few);
     }
 
 pub returns : goal.returns

@@ -38,10 +38,7 @@ derive_group-requires g c =
     record {
       told = c.next-told.ensures.told c.args.input.now.options.now (groups_of c.args.input.now.problem.now) c.next.new.self c.in-Some.group (gone_here c.in-Some.group c.next.new.self parts l.invariant.gone) l.invariant.told;
       sound = ready.sound;
-      fits = ready.fits;
-      counted = ready.counted;
-      known = ready.known;
-      few = ready.few;
+      turn = ready.turn;
     }
 
 pub returns-in_err-next-clause-hands : goal.returns-in_err-next-clause-hands

@@ -24,11 +24,11 @@ module _ {R : Type 0} (o : Options) (p : Problem) (s : Summary) (within : IsWith
 
 pub returns-in_err-header : goal.returns-in_err-header
 returns-in_err-header g c =
-    let s = c.args.summary.now in
-    sending_stops c.from_residual.result fault.Failed (header_text s.vars s.clauses) (clauses_text (problem_clauses c.args.input.now.options.now c.args.input.now.problem.now)) _ refl c.from_residual.ensures.1
-    (starts c.args.input.now.options.now c.args.input.now.problem.now s c.args.input.now.within c.args.input.now.encodable c.requires.summary _) c.in_err-header.ensures
+    let s = c.args.of.now.summary in
+    sending_stops c.from_residual.result fault.Failed (header_text s.vars s.clauses) (clauses_text (problem_clauses c.args.of.now.input.options.now c.args.of.now.input.problem.now)) _ refl c.from_residual.ensures.1
+    (starts c.args.of.now.input.options.now c.args.of.now.input.problem.now s c.args.of.now.input.within c.args.of.now.input.encodable c.args.of.now.summary_is _) c.in_err-header.ensures
 
 pub returns : goal.returns
 returns g c =
-    sending_hands c.hand_told_clauses.result _ (begun c.args.input.now.options.now c.args.input.now.problem.now c.args.summary.now c.args.input.now.within c.args.input.now.encodable c.requires.summary _ _ c.in_ok-header.ensures)
-    (lines_handed (problem_clauses c.args.input.now.options.now c.args.input.now.problem.now) c.hand_told_clauses.result _ _ c.hand_told_clauses.ensures)
+    sending_hands c.hand_told_clauses.result _ (begun c.args.of.now.input.options.now c.args.of.now.input.problem.now c.args.of.now.summary c.args.of.now.input.within c.args.of.now.input.encodable c.args.of.now.summary_is _ _ c.in_ok-header.ensures)
+    (lines_handed (problem_clauses c.args.of.now.input.options.now c.args.of.now.input.problem.now) c.hand_told_clauses.result _ _ c.hand_told_clauses.ensures)

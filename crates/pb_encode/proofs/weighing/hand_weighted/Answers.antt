@@ -36,21 +36,21 @@ module _ {R : Type 0} (o : Options) (p : Problem) (form : Constraint) (is : form
 
 pub returns-in_err-send_offset : goal.returns-in_err-send_offset
 returns-in_err-send_offset g c =
-    let form = c.args.objective.now in
-    sending_stops c.from_residual.result fault.Failed (head_of form) (hard_text (problem_clauses c.args.input.now.options.now c.args.input.now.problem.now) ++ tail_of form) _ refl c.from_residual.ensures.1
-    (starts c.args.input.now.options.now c.args.input.now.problem.now form c.requires.objective _) c.in_err-send_offset.ensures
+    let form = c.args.of.now.objective in
+    sending_stops c.from_residual.result fault.Failed (head_of form) (hard_text (problem_clauses c.args.of.now.input.options.now c.args.of.now.input.problem.now) ++ tail_of form) _ refl c.from_residual.ensures.1
+    (starts c.args.of.now.input.options.now c.args.of.now.input.problem.now form c.args.of.now.objective_is _) c.in_err-send_offset.ensures
 
 pub returns-in_err-hand_told_clauses : goal.returns-in_err-hand_told_clauses
 returns-in_err-hand_told_clauses g c =
-    let form = c.args.objective.now in
-    sending_stops c.from_residual-in_err-hand_told_clauses.result c.in_err-hand_told_clauses.field-0.0 (hard_text (problem_clauses c.args.input.now.options.now c.args.input.now.problem.now)) (tail_of form) _ refl c.from_residual-in_err-hand_told_clauses.ensures.1
-    (begun c.args.input.now.options.now c.args.input.now.problem.now form c.requires.objective _ _ c.in_ok-send_offset.ensures) c.in_err-hand_told_clauses.ensures
+    let form = c.args.of.now.objective in
+    sending_stops c.from_residual-in_err-hand_told_clauses.result c.in_err-hand_told_clauses.field-0.0 (hard_text (problem_clauses c.args.of.now.input.options.now c.args.of.now.input.problem.now)) (tail_of form) _ refl c.from_residual-in_err-hand_told_clauses.ensures.1
+    (begun c.args.of.now.input.options.now c.args.of.now.input.problem.now form c.args.of.now.objective_is _ _ c.in_ok-send_offset.ensures) c.in_err-hand_told_clauses.ensures
 
 pub returns-in_err-send_softs : goal.returns-in_err-send_softs
 returns-in_err-send_softs g c =
     sending_stops_last c.from_residual-in_err-send_softs.result fault.Failed _ c.from_residual-in_err-send_softs.ensures.1
-    (hards c.args.input.now.options.now c.args.input.now.problem.now c.args.objective.now c.requires.objective _ _ _ c.in_ok-send_offset.ensures c.in_ok-hand_told_clauses.ensures) c.in_err-send_softs.ensures
+    (hards c.args.of.now.input.options.now c.args.of.now.input.problem.now c.args.of.now.objective c.args.of.now.objective_is _ _ _ c.in_ok-send_offset.ensures c.in_ok-hand_told_clauses.ensures) c.in_err-send_softs.ensures
 
 pub returns : goal.returns
 returns g c =
-    sending_ends (whole c.args.input.now.options.now c.args.input.now.problem.now c.args.objective.now c.requires.objective _ _ _ _ c.in_ok-send_offset.ensures c.in_ok-hand_told_clauses.ensures c.in_ok-send_softs.ensures)
+    sending_ends (whole c.args.of.now.input.options.now c.args.of.now.input.problem.now c.args.of.now.objective c.args.of.now.objective_is _ _ _ _ c.in_ok-send_offset.ensures c.in_ok-hand_told_clauses.ensures c.in_ok-send_softs.ensures)

@@ -36,7 +36,6 @@ derive-requires g c =
       original = subst (λ (ts : List Weighted). VarsBelow c.args.first ts) (sym p.left_is.terms_are) (rest_below p.constraint.now c.args.first c.requires.original);
       low = c.requires.low;
       fits = omega (arith, c.requires.fits, p.left_is.fresh_is);
-      clauses = omega (arith, c.requires.clauses, p.left_is.count_is);
       few = omega (arith, next, ids, ap length p.units_are, units_short p.constraint.now, c.len.ensures.few, c.requires.few);
       given = omega (arith, next, ids, c.requires.known, c.requires.given);
     }
