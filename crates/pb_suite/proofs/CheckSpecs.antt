@@ -8,7 +8,7 @@ use Rattle.pb_base.specs.declared.file.File.TheVariants.{Opb, Cnf, Proof}
 use Rattle.pb_base.specs.declared.problem.Problem.{Problem}
 use Rattle.pb_base.proofs.Members.{Contains-here, Contains-there}
 use Rattle.pb_desk.specs.View.{Told, View, opened, put}
-use Rattle.pb_desk.specs.Desk.{DeskState, IfTold, IsSteady, Reaches, same}
+use Rattle.pb_desk.specs.Desk.{DeskState, IfTold, IsClosed, IsSteady, same}
 use Rattle.pb_steps.specs.declared.denied.Denied.{Denied}
 use Rattle.pb_check.specs.declared.verdict.CheckFault.{CheckFault}
 use Rattle.pb_check.specs.declared.verdict.CheckFault.TheVariants as fault
@@ -20,19 +20,22 @@ use Rattle.pb_check.specs.Walk.{Walk}
 use Rattle.pb_words.specs.CheckWords.{CheckWords}
 use Rattle.pb_suite.specs.declared.outcome.Outcome.{Outcome}
 use Rattle.pb_suite.specs.declared.outcome.Outcome.TheVariants as outcome
-use Rattle.pb_suite.specs.Implementing.{ImplementsWithin}
+use Rattle.pb_suite.specs.Implementing.{Implements, ImplementsWithin}
 use Rattle.pb_suite.specs.Outputs.{nothing, only_words}
 use Rattle.pb_suite.specs.CommandSpec.{HasKind, CommandSpec, Shelf, Text, taken_in}
 use Rattle.pb_suite.specs.CheckSpec.{check_spec, IsJudged, IsUnjudged, StopsCheck}
-use Rattle.pb_suite.specs.CheckSpec.StopsCheck.{token, limit, denial, lacking}
+use Rattle.pb_suite.specs.CheckSpec.StopsCheck.{unread, token, limit, denial, lacking}
 use Rattle.pb_suite.specs.Denoted.{IsDenoted}
-use Rattle.pb_suite.specs.inner.Opening.{opened_both, HasBoth, StopsOpening}
+use Rattle.pb_suite.specs.inner.Opening.{opened_both, HasBoth, IsOpened, StopsBefore, StopsOpening}
+use Rattle.pb_suite.specs.inner.Opening.StopsBefore.{not_opened, not_read}
 use Rattle.pb_suite.specs.inner.Opening.StopsOpening.{no_cnf, no_proof}
 use Rattle.pb_suite.specs.inner.Runs.{check_refusal, KeepsReading}
 use Rattle.pb_suite.specs.inner.Saying.{EndsSaying}
 use Rattle.pb_suite.proofs.Afterwards.{implements_after}
+use Rattle.pb_suite.proofs.DenotedProblems.{denoted_by}
 use Rattle.pb_suite.proofs.Endings.{always, bare_memory, is_refused, is_unread, within_more, IsOpenIn}
-use Rattle.pb_suite.proofs.Going.{by_both_opened, by_both_taken, by_opened, by_same, goes_by, goes_reading, keeps_by, shelf_is_if, shelf_stays, Goes}
+use Rattle.pb_suite.proofs.Going.{by_both_opened, by_both_taken, by_opened, by_same, goes_by, goes_fetched, goes_reading, goes_then, keeps_by, shelf_is_if, shelf_stays, Goes}
+use Rattle.pb_suite.proofs.Posed.{posed, read_first, unread_ends}
 use Rattle.pb_suite.proofs.Says.{saying_implements}
 use Rattle.pb_suite.proofs.Takings.{taken-closed, taken-drop, taken-opened}
 use Rattle.pb_suite.proofs.Texts.{both_told, told_more, told_none_of}
@@ -178,14 +181,53 @@ module _ (w : CheckWords) (p : Problem) (d e : DeskState) (denoted : IfTold d (�
       let goes = goes_both 3 _ takes in
       implements_after (check_spec w) d e f goes answer (saying_implements (check_spec w) (codes "accepted\n") e f tells (accepted_due goes takes) answer ends)
 
--- ---- from before the two files were opened
+-- ---- from before the problem was read
 
-module _ (w : CheckWords) (a d : DeskState) (reached : Reaches (opened_both w.cnf w.proof) a d) where
-  opened_goes : (few : ℕ) → 2 < few → Goes few 0 nothing a d
-  opened_goes few less = goes_by few nothing (opened_both w.cnf w.proof) a d (by_both_opened few w.cnf w.proof less) reached
+module _ {w : CheckWords} {o : CommandSpec} (checks : Checks w o) {a : DeskState} (closed : IsClosed a) where
+  -- what is open for the check is so for the command, where no slot behind the check's was opened
+  abbrev pub Leaves : DeskState → Type 0
+  Leaves b = ((slot : ℕ) → 3 ≤ slot → b.view.reading slot ≡ false) → IfTold b (UnjudgedIn w b.view) → IsOpenIn o b
 
-  pub still_posed : (p : Problem) → IfTold a (λ t. IsDenoted t.shelf w.opb w.bound p) → IfTold d (λ t. IsDenoted t.shelf w.opb w.bound p)
-  still_posed p denoted = shelf_is_if a d (opened_goes 3 (omega arith)) (λ shelf. IsDenoted shelf w.opb w.bound p) denoted
+  -- the problem was not read, or a text behind it was not opened
+  pub before_implements : (others : List Text) → o.texts ≡ first_text w ∷ others → (d : DeskState) → Leaves d → (answer : Outcome) → StopsBefore w a d answer → Implements o a d answer
+  before_implements others first d leaves _ (not_read answer stops lacks) =
+      unread_ends o w.opb others first w.bound (λ shelf answer is. checks.stops shelf answer (unread answer is)) answer stops lacks
+      (λ keeps. leaves (λ slot le. keeps slot (omega (arith, le)) ∙ closed.reading slot) (unbegun_all w d (keeps 1 (omega arith) ∙ closed.reading 1) (keeps 2 (omega arith) ∙ closed.reading 2)))
+  before_implements others first d leaves _ (not_opened p between read stops) =
+      let goes = goes_fetched 1 0 w.opb read.fetched.0 a between (omega arith) read.fetched.1 in
+      within_more o a d 1 (length o.texts) _ (omega (arith, checks.three))
+      (read_first o w.opb others first w.bound read.fetched d _
+      (unopened_implements w o checks p between d (goes.reading 1 (omega arith) ∙ closed.reading 1) (goes.reading 2 (omega arith) ∙ closed.reading 2)
+      (λ keeps. leaves (λ slot le. keeps slot le ∙ goes.reading slot (omega (arith, le)) ∙ closed.reading slot))
+      (posed o w.opb others first w.bound read.fetched p read.denotes) stops))
 
-  pub opened_implements : (o : CommandSpec) → 2 < length o.texts → (most : ℕ) (f : DeskState) (answer : Outcome) → ImplementsWithin o most d f answer → ImplementsWithin o most a f answer
-  opened_implements o less most f answer implements = within_more o a f (0 + most) most answer (omega arith) (implements_after o a d f (opened_goes (length o.texts) less) answer implements)
+  module _ {p : Problem} {d : DeskState} (is : IsOpened w p a d) where
+    opened_goes : (few : ℕ) → 2 < few → Goes few 1 nothing a d
+    opened_goes few less =
+        goes_then a is.between d (goes_fetched few 0 w.opb is.read.fetched.0 a is.between (omega (arith, less)) is.read.fetched.1)
+        (goes_by few nothing (opened_both w.cnf w.proof) is.between d (by_both_opened few w.cnf w.proof less) is.reached)
+
+    -- the slots behind the check's are still closed
+    pub closed_behind : (slot : ℕ) → 3 ≤ slot → d.view.reading slot ≡ false
+    closed_behind slot le = (opened_goes 3 (omega arith)).reading slot le ∙ closed.reading slot
+
+    pub still_posed : IfTold d (λ t. IsDenoted t.shelf w.opb w.bound p)
+    still_posed = denoted_by w.opb w.bound p a d (opened_goes 3 (omega arith)) is.read.denotes
+
+    pub cnf_is_open : IsTrue (d.view.reading 1)
+    cnf_is_open = subst (λ (v : View). IsTrue (v.reading 1)) (sym is.reached.view) refl
+
+    pub proof_is_open : IsTrue (d.view.reading 2)
+    proof_is_open = subst (λ (v : View). IsTrue (v.reading 2)) (sym is.reached.view) refl
+
+    pub opened_implements : {most : ℕ} (f : DeskState) (answer : Outcome) → ImplementsWithin o most d f answer → ImplementsWithin o (1 + most) a f answer
+    opened_implements f answer implements = implements_after o a d f (opened_goes (length o.texts) (omega (arith, checks.three))) answer implements
+
+    pub fault_implements : (e : DeskState) → Leaves e → (f : CheckFault) → StopsChecking p 1 2 d e f → NamesText f → (IsSteady d → f ≢ fault.ReadFault) → Implements o a e (check_refusal f)
+    fault_implements e leaves f stops names steady =
+        within_more o a e 3 (length o.texts) _ checks.three
+        (opened_implements e _ (stopped_implements w p d e still_posed is.found o checks cnf_is_open proof_is_open (λ keeps. leaves (λ slot le. keeps slot le ∙ closed_behind slot le)) f stops names steady))
+
+    pub denied_implements : (e : DeskState) (line : ℕ) (denied : Denied) → TakesBoth 1 2 (λ c q. Walk p c q (Ok (Rejected line denied))) d e → Implements o a e (outcome.Rejected line denied)
+    denied_implements e line denied takes =
+        within_more o a e 3 (length o.texts) _ checks.three (opened_implements e _ (rejected_implements w p d e still_posed is.found o checks line denied takes))

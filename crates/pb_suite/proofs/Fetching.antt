@@ -3,13 +3,17 @@ use Rattle.std.proofs.Common.{◌≡◌, ◌≤◌, ◌+◌, ℕ, List, [], Opti
 use Rattle.std.specs.Prelude.{IfOk, IfSome, IsSome, OnErr, OnOk, Result}
 use Rattle.std.specs.Option.{unwrap_or}
 use Rattle.std.specs.declared.result.Result.TheVariants.{Ok, Err}
+use Rattle.pb_base.specs.declared.file.File.{File}
 use Rattle.pb_base.specs.FaultCounts.{Rose}
 use Rattle.pb_desk.specs.View.{Told, View, opened, taken}
 use Rattle.pb_desk.specs.Desk.{Advances, DeskState, FailsToRead, IfTold, Reaches, Reads}
 use Rattle.pb_desk.proofs.Readings.{put-same}
 use Rattle.pb_desk.proofs.Steps.{as_reads, reads_by_then, then_fails_to_read}
-use Rattle.pb_suite.specs.inner.Runs.{fetched, Fetches, FetchesPart, StopsFetching}
+use Rattle.pb_suite.specs.declared.outcome.Outcome.{Outcome}
+use Rattle.pb_suite.specs.inner.Runs.{fetched, Fetches, FetchesPart, StopsFetching, StopsReading}
 use Rattle.pb_suite.specs.inner.Runs.StopsFetching.{in_text}
+use Rattle.pb_suite.specs.inner.Runs.StopsReading.{not_read, no_memory, refused}
+use Rattle.pb_suite.proofs.Texts.{told_more}
 
 -- a count that rose went up by one at most
 pub rose_by_one : (before now : ℕ) → Rose before now → now ≤ before + 1
@@ -19,6 +23,13 @@ rose_by_one before now (inr last) = omega (arith, last.0, last.1)
 -- what is so of an error is so of this one
 pub of_error : {T E P : Type 0} (r : Result T E) (e : E) → r ≡ Err e → OnErr r P → P
 of_error {T} {E} {P} r e is holds = subst (λ (x : Result T E). OnErr x P) is holds
+
+-- what refuses a text by one relation refuses it by a weaker one
+pub reading_weaker : (file : File) (slot : ℕ) (name : List ℕ) (P Q : List ℕ → Outcome → Type 0) → ((text : List ℕ) (answer : Outcome) → P text answer → Q text answer) → (a b : DeskState) (answer : Outcome) → StopsReading file slot name P a b answer → StopsReading file slot name Q a b answer
+reading_weaker file slot name P Q gives a b _ (not_read stops) = not_read stops
+reading_weaker file slot name P Q gives a b _ (no_memory count reached) = no_memory count reached
+reading_weaker file slot name P Q gives a b _ (refused count answer is reached found) =
+    refused count answer is reached (told_more a (λ t. (text : List ℕ) × (t.shelf name ≡ Some text) × P text answer) (λ t. (text : List ℕ) × (t.shelf name ≡ Some text) × Q text answer) (λ t has. (has.0, has.1, gives has.0 answer has.2)) found)
 
 module _ (slot : ℕ) (name : List ℕ) (a b d : DeskState) (opens : Reaches (opened slot name) a b) where
   pub fetched_by : (count : ℕ) → Reads (taken slot count) b d → d.ends ≤ b.ends + 1 → Fetches slot name count a d

@@ -152,6 +152,16 @@ adds_after out a b d goes adds = record {
     at_last None t u first second = second
     at_last (Some v) t u first second = more_after out t u v first second
 
+pub goes_then : {few more most : ℕ} {out : Output} (a b d : DeskState) → Goes few more nothing a b → Goes few most out b d → Goes few (more + most) out a d
+goes_then a b d first second = record {
+  reading = λ slot le. second.reading slot le ∙ first.reading slot le;
+  ends = omega (arith, first.ends, second.ends);
+  adds = adds_after _ a b d first second.adds;
+  tells = second.tells ∙ first.tells;
+  reads = second.reads ∙ first.reads;
+  writes = second.writes ∙ first.writes;
+}
+
 -- what holds of the shelf
 pub shelf_is_if : {few most : ℕ} (a b : DeskState) → Goes few most nothing a b → (P : Shelf → Type 0) → IfTold a (λ t. P t.shelf) → IfTold b (λ t. P t.shelf)
 shelf_is_if a b goes P holds = is_if_told (λ t. P t.shelf) (λ t. P t.shelf) a b goes (λ t u more has. subst P (sym more.shelf) has) holds

@@ -1,5 +1,5 @@
 -- What texts say, and how they are refused, is one thing.
-use Rattle.std.proofs.Common.{◌≡◌, ◌∙◌, ◌∷◌, ◌++◌, ◌<◌, ℕ, ℤ, List, [], Option, Some, None, ap, arith, inl, inr, length, refl, subst, sym}
+use Rattle.std.proofs.Common.{◌≡◌, ◌∙◌, ◌∷◌, ◌++◌, ◌<◌, ℕ, ℤ, List, [], Option, ap, arith, inl, inr, length, refl, subst, sym}
 use Rattle.std.specs.Prelude.{◌⊎◌, All, Contains}
 use Rattle.std.specs.List.{AllPairs}
 use Rattle.std.proofs.lemmas.List.Elements.{All-contains, All-head, All-tail}
@@ -21,7 +21,6 @@ use Rattle.pb_opb.proofs.Reading.{reads-no_fault}
 use Rattle.pb_opb.proofs.Uniqueness.{one_fault}
 use Rattle.pb_opb.specs.declared.fault.OpbFault.TheVariants as opb
 use Rattle.pb_suite.specs.declared.outcome.Outcome.{Outcome}
-use Rattle.pb_suite.specs.declared.outcome.Outcome.TheVariants as outcome
 use Rattle.pb_suite.specs.Refusals.{RefusesCnf, RefusesModel, RefusesOpb}
 use Rattle.pb_suite.specs.Refusals.RefusesCnf.{token as cnf_token, limit as cnf_limit}
 use Rattle.pb_suite.specs.Refusals.RefusesModel.{token as model_token, limit as model_limit}

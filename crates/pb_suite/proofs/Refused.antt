@@ -1,5 +1,5 @@
 -- A text that was not read to its end, or is refused, ends a command.
-use Rattle.std.proofs.Common.{◌≡◌, ◌+◌, arith, ℕ, List, Some, None, refl, ◌<◌, length}
+use Rattle.std.proofs.Common.{◌≡◌, ◌+◌, arith, ℕ, List, Some, refl, ◌<◌, length}
 use Rattle.std.specs.Prelude.{Contains, IsNone}
 use Rattle.pb_base.specs.declared.file.File.{File}
 use Rattle.pb_desk.specs.Desk.{DeskState, IfTold, IsSteady, IsTold, same}

@@ -1,21 +1,19 @@
 -- A command that encoded with a table said its rows.
-use Rattle.std.proofs.Common.{◌≡◌, ◌∙◌, ◌++◌, true, ap, arith}
+use Rattle.std.proofs.Common.{◌≡◌, ◌∙◌, ◌++◌, true, ap}
 use Rattle.pb_desk.specs.View.{Told}
 use Rattle.pb_desk.specs.Desk.{DeskState, IfTold, IsTold}
-use Rattle.pb_dimacs.proofs.Written.{written_reads}
 use Rattle.pb_encode.specs.Bounds.{bound_rows}
 use Rattle.pb_encode.specs.Clauses.{problem_clauses, problem_vars}
 use Rattle.pb_encode.specs.Encodings.{derivation_text, problem_text}
 use Rattle.pb_encode.proofs.BoundRows.{table_tells}
-use Rattle.pb_encode.proofs.Solutions.{clauses-count, problem-within}
 use Rattle.pb_words.specs.EncodeWords.{EncodeWords}
 use Rattle.pb_suite.specs.declared.outcome.Outcome.{Outcome}
 use Rattle.pb_suite.specs.declared.outcome.Outcome.TheVariants as outcome
 use Rattle.pb_suite.specs.Implementing.{Implements}
 use Rattle.pb_suite.specs.Outputs.{IsMore, Output}
-use Rattle.pb_suite.specs.EncodeSpec.{file_of, encode_spec, proof_files}
+use Rattle.pb_suite.specs.EncodeSpec.{encode_spec}
 use Rattle.pb_suite.specs.SaidBounds.{SaysBounds}
-use Rattle.pb_suite.proofs.Encodes.{joined}
+use Rattle.pb_suite.proofs.Encodes.{encoded_made, problem_reads}
 use Rattle.pb_suite.proofs.DenotedProblems.{denotes_within}
 use Rattle.pb_suite.proofs.Dones.{added_so}
 
@@ -26,16 +24,15 @@ obeyed_bounds w a b answer asked = added_so (encode_spec w) a b (SaysBounds w) m
     made_of t u out (p, denoted, encodable, is) more =
         let o = w.options in
         let within = denotes_within w.bound denoted.text p denoted.denotes in
-        let count = clauses-count o p within in
         record {
           problem = p;
           denoted = denoted;
           cnf = problem_text o p;
           proof = derivation_text o p;
-          made_is = more.made ∙ ap (λ (out : Output). out.made ++ t.made) is ∙ joined (proof_files w.proof (derivation_text o p)) (file_of 0 w.cnf (problem_text o p)) t.made;
+          made_is = encoded_made w p t u out is more;
           vars = problem_vars o p;
           clauses = problem_clauses o p;
-          says = written_reads (problem_vars o p) (problem_clauses o p) (omega (arith, encodable.vars)) (let few = encodable.clauses in omega (arith, count, few)) (problem-within o p within);
+          says = problem_reads o p within encodable;
           rows = bound_rows o p;
           said_is = more.said ∙ ap (λ (out : Output). t.said ++ out.said) is;
           bounds = table_tells o p within asked;

@@ -11,13 +11,12 @@ use Rattle.pb_base.specs.declared.problem.Problem.{Problem}
 use Rattle.pb_desk.specs.View.{Made, Told}
 use Rattle.pb_desk.specs.Desk.{DeskState, IfTold, IsTold}
 use Rattle.pb_base.specs.declared.options.Options.{Options}
-use Rattle.pb_dimacs.proofs.Written.{written_reads}
-use Rattle.pb_encode.specs.Clauses.{problem_clauses, problem_fresh, problem_vars}
+use Rattle.pb_encode.specs.Clauses.{problem_clauses, problem_fresh}
 use Rattle.pb_encode.specs.Encodings.{derivation_text, problem_text}
 use Rattle.pb_encode.specs.Steps.{problem_steps}
 use Rattle.pb_encode.specs.Summaries.{IsEncodable}
 use Rattle.pb_encode.proofs.DerivedProblems.{problem_derived}
-use Rattle.pb_encode.proofs.Solutions.{clauses-count, problem-within}
+use Rattle.pb_encode.proofs.Solutions.{clauses-count}
 use Rattle.pb_words.specs.EncodeWords.{EncodeWords}
 use Rattle.pb_suite.specs.declared.outcome.Outcome.{Outcome}
 use Rattle.pb_suite.specs.Implementing.{Answers, Implements}
@@ -29,6 +28,7 @@ use Rattle.pb_suite.specs.EncodeSpec.{encoded_output, file_of, names_in, encode_
 use Rattle.pb_suite.specs.Denoted.{Denotes, IsDenoted}
 use Rattle.pb_suite.specs.Standing.{AreFirstLines, IsBegun, IsShortDerivation, Stands}
 use Rattle.pb_suite.proofs.Derives.{texts_accepted}
+use Rattle.pb_suite.proofs.Encodes.{problem_reads}
 use Rattle.pb_suite.proofs.Endings.{always}
 use Rattle.pb_suite.proofs.FirstLines.{first_lines}
 use Rattle.pb_suite.proofs.DenotedProblems.{denotes_within}
@@ -46,7 +46,7 @@ short o bound text p denotes encodable =
       read_back = All-weaker IsSayable IsReadBack written_line_reads (problem_steps o p) derived.sayable;
       fresh = problem_fresh o p;
       clauses = problem_clauses o p;
-      says = written_reads (problem_vars o p) (problem_clauses o p) (omega (arith, encodable.vars)) (let few = encodable.clauses in omega (arith, count, few)) (problem-within o p within);
+      says = problem_reads o p within encodable;
       few = omega (arith, count, derived.few);
     }
 

@@ -1,5 +1,5 @@
 -- The specification of decoding a model. Our own.
-use Rattle.std.specs.Prelude.{ℕ, ◌≡◌, ◌⊎◌, List, [], ◌∷◌, Option, Some, None, Ok}
+use Rattle.std.specs.Prelude.{ℕ, ◌≡◌, ◌⊎◌, List, [], ◌∷◌, Some, None, Ok}
 use Rattle.pb_base.specs.declared.file.File.TheVariants.{Opb, Model as ModelText}
 use Rattle.pb_base.specs.declared.problem.Problem.{Problem}
 use Rattle.pb_model.specs.declared.decoding.Decoded.{Decoded}

@@ -1,13 +1,19 @@
 //! Opening a CNF and its derivation.
-ghost use Rattle.std.specs.Prelude.{◌≡◌, false, OnOk, OnErr};
-ghost use Rattle.pb_desk.specs.Desk.{IfTold, Reaches};
-ghost use Rattle.pb_suite.specs.inner.Opening.{opened_both, HasBoth, StopsOpening};
+ghost use Rattle.std.specs.Prelude.{◌≡◌, false, IfErr, IfOk, OnOk, OnErr};
+ghost use Rattle.pb_base.specs.Problems.{IsWithinLimits};
+ghost use Rattle.pb_desk.specs.Desk.{IfTold, IsClosed, Reaches};
+ghost use Rattle.pb_words.specs.CheckWords.{as_check_words};
+ghost use Rattle.pb_suite.specs.inner.Opening.{opened_both, HasBoth, IsOpened, StopsBefore, StopsOpening};
 
-use pb_base::Failed;
+use crate::outcome::Outcome;
+use crate::reading::read_problem;
+use pb_base::{Failed, Problem};
 use pb_desk::Desk;
+use pb_words::CheckArgs;
+use std::alloc::Global;
 
-/// Opens a CNF in slot 1 and its derivation in slot 2, before a byte of either is read.
-pub fn open_both<D: Desk>(cnf: &str, proof: &str, desk: &mut D) -> Result<(), Failed>
+// Opens a CNF in slot 1 and its derivation in slot 2, before a byte of either is read.
+fn open_both<D: Desk>(cnf: &str, proof: &str, desk: &mut D) -> Result<(), Failed>
     requires cnf_free { (D.state desk.old).view.reading 1 ≡ false }
     requires proof_free { (D.state desk.old).view.reading 2 ≡ false }
     ensures opened { OnOk result (Reaches (opened_both cnf.now proof.now) (D.state desk.old) (D.state desk.new)) }
@@ -17,4 +23,25 @@ pub fn open_both<D: Desk>(cnf: &str, proof: &str, desk: &mut D) -> Result<(), Fa
     desk.open(1, cnf)?;
     desk.open(2, proof)?;
     Ok(())
+}
+
+/// Reads the problem of a check, and opens its CNF in slot 1 and its derivation in slot 2, or says why not.
+pub fn open_checked<D: Desk>(
+    alloc: Global,
+    asked: &CheckArgs<'_>,
+    desk: &mut D,
+) -> Result<Problem, Outcome>
+    requires closed { IsClosed (D.state desk.old) }
+    ensures within { IfOk result IsWithinLimits }
+    ensures opened { IfOk result (λ p. IsOpened (as_check_words asked.now) p (D.state desk.old) (D.state desk.new)) }
+    ensures stopped { IfErr result (StopsBefore (as_check_words asked.now) (D.state desk.old) (D.state desk.new)) }
+{
+    let problem = match read_problem(alloc, asked.opb, asked.bound, desk) {
+        Ok(problem) => problem,
+        Err(outcome) => return Err(outcome),
+    };
+    match open_both(asked.cnf, asked.proof, desk) {
+        Ok(()) => Ok(problem),
+        Err(Failed) => Err(Outcome::ReadFault),
+    }
 }

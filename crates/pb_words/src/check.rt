@@ -21,17 +21,17 @@ pub struct CheckArgs<'a> {
     pub bound: Option<i128>,
 }
 
+/// The names of the three files.
+pub const NAMES: [Argument<'static>; 3] = [
+    Argument::Name("opb"),
+    Argument::Name("cnf"),
+    Argument::Name("proof"),
+];
+
 /// `check OPB CNF PROOF` and a bound.
 pub const COMMAND: Syntax<'static> = Syntax {
     name: "check",
-    groups: &[
-        &[
-            Argument::Name("opb"),
-            Argument::Name("cnf"),
-            Argument::Name("proof"),
-        ],
-        &BOUND,
-    ],
+    groups: &[&NAMES, &BOUND],
 };
 
 /// What `check` was asked for.

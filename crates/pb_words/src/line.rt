@@ -1,16 +1,9 @@
 //! The request that a command line makes.
 ghost use Rattle.std.specs.Prelude.{◌≡◌, ◌≢◌, IfOk, IsErrOf, None, Some, map, option_and_then, option_map, string_bytes};
 ghost use Rattle.clap.specs.Words.{found_of, kind_of, rows_of, subcommand_rows_of};
-ghost use Rattle.pb_words.specs.BenchWords.{bench_in};
-ghost use Rattle.pb_words.specs.CheckWords.{check_in};
-ghost use Rattle.pb_words.specs.DecodeWords.{decode_in};
-ghost use Rattle.pb_words.specs.EncodeWords.{encode_in};
-ghost use Rattle.pb_words.specs.MapWords.{map_in};
 ghost use Rattle.pb_words.specs.ProbeWords.{probe_in};
-ghost use Rattle.pb_words.specs.RefuteWords.{refute_in};
 ghost use Rattle.pb_words.specs.Parsed.{parsed_of, wanted_as, wanted_in, Tells};
-ghost use Rattle.pb_words.specs.Parsed.Wanted.{Encode, Check, Decode, Probe, Bench, Refute, Map, Wcnf};
-ghost use Rattle.pb_words.specs.WcnfWords.{wcnf_in};
+ghost use Rattle.pb_words.specs.Parsed.Wanted.{Probe};
 
 use crate::bench::bench_args_in;
 use crate::check::check_args_in;
@@ -27,34 +20,11 @@ use clap::ArgMatches;
 use clap::error::ErrorKind;
 use std::alloc::Global;
 
-// What `encode` was asked for.
-fn encode_request<'a>(given: &ArgMatches<'a>) -> Result<Request<'a>, WordsFault>
-    ensures { Tells (option_map Encode (encode_in (rows_of (found_of given.now)))) result }
+// A request, where there is one.
+fn asked<'a>(request: Option<Request<'a>>) -> Result<Request<'a>, WordsFault>
+    ensures { Tells (option_map wanted_as request.entry) result }
 {
-    match encode_args_in(given) {
-        Some(encoding) => Ok(Request::Encode(encoding)),
-        None => Err(WordsFault::Usage),
-    }
-}
-
-// What `check` was asked for.
-fn check_request<'a>(given: &ArgMatches<'a>) -> Result<Request<'a>, WordsFault>
-    ensures { Tells (option_map Check (check_in (rows_of (found_of given.now)))) result }
-{
-    match check_args_in(given) {
-        Some(checking) => Ok(Request::Check(checking)),
-        None => Err(WordsFault::Usage),
-    }
-}
-
-// What `decode` was asked for.
-fn decode_request<'a>(given: &ArgMatches<'a>) -> Result<Request<'a>, WordsFault>
-    ensures { Tells (option_map Decode (decode_in (rows_of (found_of given.now)))) result }
-{
-    match decode_args_in(given) {
-        Some(decoding) => Ok(Request::Decode(decoding)),
-        None => Err(WordsFault::Usage),
-    }
+    request.ok_or(WordsFault::Usage)
 }
 
 // What `probe` was asked for.
@@ -67,46 +37,6 @@ fn probe_request<'a>(alloc: Global, given: &ArgMatches<'a>) -> Result<Request<'a
     }
 }
 
-// What `bench` was asked for.
-fn bench_request<'a>(given: &ArgMatches<'a>) -> Result<Request<'a>, WordsFault>
-    ensures { Tells (option_map Bench (bench_in (rows_of (found_of given.now)))) result }
-{
-    match bench_args_in(given) {
-        Some(benching) => Ok(Request::Bench(benching)),
-        None => Err(WordsFault::Usage),
-    }
-}
-
-// What `refute` was asked for.
-fn refute_request<'a>(given: &ArgMatches<'a>) -> Result<Request<'a>, WordsFault>
-    ensures { Tells (option_map Refute (refute_in (rows_of (found_of given.now)))) result }
-{
-    match refute_args_in(given) {
-        Some(refuting) => Ok(Request::Refute(refuting)),
-        None => Err(WordsFault::Usage),
-    }
-}
-
-// What `map` was asked for.
-fn map_request<'a>(given: &ArgMatches<'a>) -> Result<Request<'a>, WordsFault>
-    ensures { Tells (option_map Map (map_in (rows_of (found_of given.now)))) result }
-{
-    match map_args_in(given) {
-        Some(mapping) => Ok(Request::Map(mapping)),
-        None => Err(WordsFault::Usage),
-    }
-}
-
-// What `wcnf` was asked for.
-fn wcnf_request<'a>(given: &ArgMatches<'a>) -> Result<Request<'a>, WordsFault>
-    ensures { Tells (option_map Wcnf (wcnf_in (rows_of (found_of given.now)))) result }
-{
-    match wcnf_args_in(given) {
-        Some(weighing) => Ok(Request::Wcnf(weighing)),
-        None => Err(WordsFault::Usage),
-    }
-}
-
 // What a command of this name was asked for.
 fn request_in<'a>(
     alloc: Global,
@@ -116,14 +46,14 @@ fn request_in<'a>(
     ensures { Tells (wanted_in (name.now, rows_of (found_of given.now))) result }
 {
     match name {
-        "encode" => encode_request(given),
-        "check" => check_request(given),
-        "decode" => decode_request(given),
+        "encode" => asked(encode_args_in(given).map(Request::Encode)),
+        "check" => asked(check_args_in(given).map(Request::Check)),
+        "decode" => asked(decode_args_in(given).map(Request::Decode)),
         "probe" => probe_request(alloc, given),
-        "bench" => bench_request(given),
-        "refute" => refute_request(given),
-        "map" => map_request(given),
-        "wcnf" => wcnf_request(given),
+        "bench" => asked(bench_args_in(given).map(Request::Bench)),
+        "refute" => asked(refute_args_in(given).map(Request::Refute)),
+        "map" => asked(map_args_in(given).map(Request::Map)),
+        "wcnf" => asked(wcnf_args_in(given).map(Request::Wcnf)),
         _ => Err(WordsFault::Usage),
     }
 }

@@ -1,9 +1,9 @@
 // The options of an encoding, in words.
-ghost use Rattle.std.specs.Prelude.{◌≡◌, codes};
+ghost use Rattle.std.specs.Prelude.{◌≡◌, codes, map};
 ghost use Rattle.clap.specs.Words.{found_of, rows_of};
 ghost use Rattle.pb_base.specs.Defaults.{default_options};
 ghost use Rattle.pb_words.specs.Digits.{number_within};
-ghost use Rattle.pb_words.specs.OptionWords.{amo_of, card_of, equal_of, general_of, option_in, options_in};
+ghost use Rattle.pb_words.specs.OptionWords.{find_word, option_in, options_in};
 
 use crate::argument::{Argument, word_of};
 use crate::digits::number_within;
@@ -19,83 +19,51 @@ pub const OPTIONS: [Argument<'static>; 5] = [
     Argument::Valued("budget"),
 ];
 
-fn amo_of(word: &str) -> Option<Amo>
-    ensures { result ≡ amo_of word.now }
+const AMO: [(&str, Amo); 4] = [
+    ("auto", Amo::Auto),
+    ("pairwise", Amo::Pairwise),
+    ("ladder", Amo::Ladder),
+    ("product", Amo::Product),
+];
+
+const CARD: [(&str, Card); 3] = [
+    ("auto", Card::Auto),
+    ("counter", Card::Counter),
+    ("totalizer", Card::Totalizer),
+];
+
+const GENERAL: [(&str, General); 3] = [
+    ("diagram", General::Diagram),
+    ("tree", General::Tree),
+    ("adder", General::Adder),
+];
+
+const EQUAL: [(&str, EqualMode); 2] = [("split", EqualMode::Split), ("joint", EqualMode::Joint)];
+
+// What stands beside a word.
+fn find_word<T: Copy>(values: &[(&str, T)], word: &str) -> Option<T>
+    ensures { result ≡ find_word (map (λ value. (value.0.now, value.1)) values.now) word.now }
 {
-    match word {
-        "auto" => Some(Amo::Auto),
-        "pairwise" => Some(Amo::Pairwise),
-        "ladder" => Some(Amo::Ladder),
-        "product" => Some(Amo::Product),
-        _ => None,
+    for value in values {
+        if word == value.0 {
+            return Some(value.1);
+        }
     }
+    None
 }
 
-fn card_of(word: &str) -> Option<Card>
-    ensures { result ≡ card_of word.now }
+// What the option of this name says, or the default where it is not given.
+fn option_in<T: Copy>(
+    given: &ArgMatches<'_>,
+    id: &str,
+    values: &[(&str, T)],
+    default: T,
+) -> Option<T>
+    ensures { result ≡ option_in id.now (find_word (map (λ value. (value.0.now, value.1)) values.now)) default (rows_of (found_of given.now)) }
 {
-    match word {
-        "auto" => Some(Card::Auto),
-        "counter" => Some(Card::Counter),
-        "totalizer" => Some(Card::Totalizer),
-        _ => None,
-    }
-}
-
-fn general_of(word: &str) -> Option<General>
-    ensures { result ≡ general_of word.now }
-{
-    match word {
-        "diagram" => Some(General::Diagram),
-        "tree" => Some(General::Tree),
-        "adder" => Some(General::Adder),
-        _ => None,
-    }
-}
-
-fn equal_of(word: &str) -> Option<EqualMode>
-    ensures { result ≡ equal_of word.now }
-{
-    match word {
-        "split" => Some(EqualMode::Split),
-        "joint" => Some(EqualMode::Joint),
-        _ => None,
-    }
-}
-
-fn amo_in(given: &ArgMatches<'_>) -> Option<Amo>
-    ensures { result ≡ option_in (codes "amo") amo_of default_options.amo (rows_of (found_of given.now)) }
-{
-    match word_of(given, "amo") {
-        Some(word) => amo_of(word),
-        None => Some(Options::default().amo),
-    }
-}
-
-fn card_in(given: &ArgMatches<'_>) -> Option<Card>
-    ensures { result ≡ option_in (codes "card") card_of default_options.card (rows_of (found_of given.now)) }
-{
-    match word_of(given, "card") {
-        Some(word) => card_of(word),
-        None => Some(Options::default().card),
-    }
-}
-
-fn general_in(given: &ArgMatches<'_>) -> Option<General>
-    ensures { result ≡ option_in (codes "general") general_of default_options.general (rows_of (found_of given.now)) }
-{
-    match word_of(given, "general") {
-        Some(word) => general_of(word),
-        None => Some(Options::default().general),
-    }
-}
-
-fn equal_in(given: &ArgMatches<'_>) -> Option<EqualMode>
-    ensures { result ≡ option_in (codes "equal") equal_of default_options.equal (rows_of (found_of given.now)) }
-{
-    match word_of(given, "equal") {
-        Some(word) => equal_of(word),
-        None => Some(Options::default().equal),
+    match word_of(given, id) {
+        Some(word) => find_word(values, word),
+        None => Some(default),
     }
 }
 
@@ -113,11 +81,12 @@ fn budget_in(given: &ArgMatches<'_>) -> Option<u64>
 pub fn options_in(given: &ArgMatches<'_>) -> Option<Options>
     ensures { result ≡ options_in (rows_of (found_of given.now)) }
 {
+    let usual = Options::default();
     Some(Options {
-        amo: amo_in(given)?,
-        card: card_in(given)?,
-        general: general_in(given)?,
-        equal: equal_in(given)?,
+        amo: option_in(given, "amo", &AMO, usual.amo)?,
+        card: option_in(given, "card", &CARD, usual.card)?,
+        general: option_in(given, "general", &GENERAL, usual.general)?,
+        equal: option_in(given, "equal", &EQUAL, usual.equal)?,
         budget: budget_in(given)?,
         table: false,
     })

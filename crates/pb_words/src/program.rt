@@ -1,7 +1,6 @@
 // The commands of the program.
 ghost use Rattle.std.specs.Prelude.{IfOk, codes};
 ghost use Rattle.clap.specs.Words.{App, with_subcommand};
-ghost use Rattle.pb_words.specs.inner.Commands.{with_commands};
 ghost use Rattle.pb_words.specs.Rules.{bare_program, IsCommand};
 ghost use Rattle.pb_words.specs.Parsed.{program_app};
 
@@ -43,23 +42,13 @@ fn with_command<'a>(
     program.subcommand(command)
 }
 
-// The program with these commands besides, in this order.
-fn with_commands<'a>(
-    alloc: Global,
-    mut program: Command<'a>,
-    commands: &[Syntax<'a>],
-) -> Result<Command<'a>, AllocError>
-    ensures { (app : App) → IsCommand app program.entry → IfOk result (IsCommand (with_commands app commands.now)) }
-{
-    for syntax in commands {
-        program = with_command(program, command_of(alloc, syntax))?;
-    }
-    Ok(program)
-}
-
-/// The program with its commands.
+/// The program with its commands, in this order.
 pub fn program<'a>(alloc: Global) -> Result<Command<'a>, AllocError>
     ensures { IfOk result (IsCommand program_app) }
 {
-    with_commands(alloc, bare(alloc), &COMMANDS)
+    let mut program = bare(alloc);
+    for syntax in &COMMANDS {
+        program = with_command(program, command_of(alloc, syntax))?;
+    }
+    Ok(program)
 }

@@ -5,7 +5,7 @@ ghost use Rattle.pb_words.specs.RefuteWords.{as_refute_words, refute_in};
 
 use crate::argument::{Argument, word_of};
 use crate::bound::BOUND;
-use crate::check::check_args_in;
+use crate::check::{NAMES, check_args_in};
 use crate::command::Syntax;
 use clap::ArgMatches;
 
@@ -27,15 +27,7 @@ pub struct RefuteArgs<'a> {
 /// `refute OPB CNF PROOF LRAT` and a bound.
 pub const COMMAND: Syntax<'static> = Syntax {
     name: "refute",
-    groups: &[
-        &[
-            Argument::Name("opb"),
-            Argument::Name("cnf"),
-            Argument::Name("proof"),
-            Argument::Name("lrat"),
-        ],
-        &BOUND,
-    ],
+    groups: &[&NAMES, &[Argument::Name("lrat")], &BOUND],
 };
 
 /// What `refute` was asked for: what `check` is asked for, and a refutation.

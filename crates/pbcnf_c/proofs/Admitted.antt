@@ -58,14 +58,6 @@ module _ (chosen : PbcnfOptions) (words : List ℕ) (literals : List ℤ) (side 
 
   -- ---- its problem is sized up
 
-  pub sized_up : (o : Options) (s : Raw) (p : Problem) (r : Ready) → options_of chosen ≡ Some o → IsGiven words literals side s → p ≡ problem_of side.first s → IsReadyAs o p r → IsReadyOf chosen words literals side r
-  sized_up o s p r is given same sized = record {
-    statement = s;
-    chosen_are = is ∙ ap Some (sym sized.0);
-    given = given;
-    problem_is = sized.1 ∙ same;
-  }
-
   pub not_sized : (o : Options) (s : Raw) (p : Problem) (answer : Outcome) → options_of chosen ≡ Some o → IsGiven words literals side s → IsWithinLimits p → p ≡ problem_of side.first s → StopsSizing o p answer → StopsConstraint chosen words literals side answer
   not_sized o s p _ is given within same (sizing_over which passes) = over o s which is given (subst IsWithinLimits same within) (subst (IsOver which o) same passes)
   not_sized o s p _ is given within same sizing_no_memory = no_memory

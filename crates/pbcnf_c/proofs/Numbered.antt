@@ -24,67 +24,16 @@ use Rattle.pbcnf_c.specs.inner.Outcomes.{denied_at, expected_at, file_at, limit_
 -- ---- of parts
 
 file_back : (x : File) → file_at (file_number x) ≡ Some x
-file_back file.Opb = refl
-file_back file.Cnf = refl
-file_back file.Proof = refl
-file_back file.Model = refl
-file_back file.Lrat = refl
+file_back x = grind arith
 
 file_told : (x : File) → (file_number x == 0) ≡ false
-file_told file.Opb = refl
-file_told file.Cnf = refl
-file_told file.Proof = refl
-file_told file.Model = refl
-file_told file.Lrat = refl
+file_told x = grind arith
 
 limit_back : (x : LimitKind) → limit_at (limit_number x) ≡ Some x
-limit_back limit.Text = refl
-limit_back limit.Statements = refl
-limit_back limit.Terms = refl
-limit_back limit.Weight = refl
-limit_back limit.Bounds = refl
-limit_back limit.Variables = refl
-limit_back limit.Clauses = refl
-limit_back limit.Line = refl
-limit_back limit.Lines = refl
-limit_back limit.Number = refl
-limit_back limit.Name = refl
+limit_back x = grind arith
 
 expected_back : (x : Expected) → expected_at (expected_number x) ≡ Some x
-expected_back expected.Start = refl
-expected_back expected.Next = refl
-expected_back expected.TermOrRelation = refl
-expected_back expected.TermOrSemicolon = refl
-expected_back expected.Literal = refl
-expected_back expected.Integer = refl
-expected_back expected.Semicolon = refl
-expected_back expected.PLine = refl
-expected_back expected.CnfWord = refl
-expected_back expected.VarCount = refl
-expected_back expected.ClauseCount = refl
-expected_back expected.LineEnd = refl
-expected_back expected.ClauseWord = refl
-expected_back expected.CnfEnd = refl
-expected_back expected.ModelLine = refl
-expected_back expected.ModelLiteral = refl
-expected_back expected.Opposite = refl
-expected_back expected.ModelZero = refl
-expected_back expected.Head = refl
-expected_back expected.Loaded = refl
-expected_back expected.LoadedCount = refl
-expected_back expected.StepWord = refl
-expected_back expected.Operand = refl
-expected_back expected.Factor = refl
-expected_back expected.Term = refl
-expected_back expected.Id = refl
-expected_back expected.SetVar = refl
-expected_back expected.Arrow = refl
-expected_back expected.Bit = refl
-expected_back expected.DerivationEnd = refl
-expected_back expected.LratId = refl
-expected_back expected.LratLiteral = refl
-expected_back expected.LratHint = refl
-expected_back expected.LratEnd = refl
+expected_back x = grind arith
 
 abbrev place_of : ℕ → ℕ → Place
 place_of line column = record { line = line; column = column }
@@ -102,23 +51,10 @@ abbrev rejected : ℕ → Option Denied → Option Outcome
 rejected line d = option_and_then (λ d. Some (outcome.Rejected line d)) d
 
 denied_back : (d : Denied) → NamesVariable d → denied_at (denied_number d).0 (denied_number d).1 ≡ Some d
-denied_back (denied.UnknownVar var) is = ap (λ (v : Option ℕ). option_and_then (λ var. Some (denied.UnknownVar var)) v) (var_back var is)
-denied_back (denied.UnknownId id) is = refl
-denied_back denied.Stack is = refl
-denied_back denied.Width is = refl
-denied_back (denied.SetsOriginal var) is = ap (λ (v : Option ℕ). option_and_then (λ var. Some (denied.SetsOriginal var)) v) (var_back var is)
-denied_back denied.NotPropagated is = refl
-denied_back (denied.Obligation id) is = refl
-denied_back denied.NoClause is = refl
-denied_back (denied.NotImplied id) is = refl
-denied_back (denied.OutDeleted id) is = refl
-denied_back denied.ClausesLeft is = refl
+denied_back d is = grind (arith, var_back)
 
 lrat_back : (why : LratDenied) → lrat_at (lrat_number why).0 (lrat_number why).1 ≡ Some why
-lrat_back (lrat.OldId id) = refl
-lrat_back (lrat.UnknownHint id) = refl
-lrat_back lrat.NoConflict = refl
-lrat_back lrat.NoEmptyClause = refl
+lrat_back x = grind arith
 
 -- ---- of outcomes
 

@@ -1,11 +1,11 @@
 -- What the steps of a run do to a desk. It serves proofs.
 use Rattle.pb_encode.specs.BoundLines.{words_of}
-use Rattle.std.specs.Prelude.{ℕ, ◌≡◌, ◌≤◌, ◌<◌, ◌+◌, List, take, length, Option, Some, None}
+use Rattle.std.specs.Prelude.{ℕ, ◌≡◌, ◌≤◌, ◌<◌, ◌+◌, ◌^◌, List, take, length, Option, Some, None}
 use Rattle.pb_base.specs.declared.expected.Expected.{Expected}
 use Rattle.pb_base.specs.declared.file.File.{File}
 use Rattle.pb_base.specs.declared.file.File.TheVariants.{Opb, Cnf, Model, Lrat}
 use Rattle.pb_base.specs.declared.limit.LimitKind.{LimitKind}
-use Rattle.pb_base.specs.declared.limit.LimitKind.TheVariants.{Weight}
+use Rattle.pb_base.specs.declared.limit.LimitKind.TheVariants.{Weight, Text as LongText}
 use Rattle.pb_base.specs.declared.place.Place.{Place}
 use Rattle.pb_base.specs.declared.problem.Problem.{Problem}
 use Rattle.pb_desk.specs.View.{View, opened, taken, spoke}
@@ -101,6 +101,10 @@ pub data StopsReading (file : File) (slot : ℕ) (name : List ℕ) (refuses_text
   not_read : StopsFetching slot name old new → StopsReading file slot name refuses_text old new outcome.ReadFault
   no_memory : (count : ℕ) → Fetches slot name count old new → StopsReading file slot name refuses_text old new outcome.NoMemory
   refused : (count : ℕ) (answer : Outcome) → RefusesFile file answer → Fetches slot name count old new → HasText name (λ text. refuses_text text answer) old → StopsReading file slot name refuses_text old new answer
+
+-- the text is too long to be read
+abbrev pub IsTooLong : File → List ℕ → Outcome → Type 0
+IsTooLong file text answer = (answer ≡ outcome.Limit (Some file) LongText None) × (2 ^ 32 < length text)
 
 -- the files of a problem were made and ended, and these words said
 abbrev pub stored : Options → Problem → FileNames → List ℕ → View → View

@@ -10,11 +10,11 @@ ghost use Rattle.pb_suite.specs.DecodeSpec.{decode_spec, IsAnswered};
 ghost use Rattle.pb_suite.specs.Refusals.{RefusesModel};
 ghost use Rattle.pb_suite.specs.inner.Runs.{model_refusal, Fetches, HasText, StopsReading};
 
-use crate::outcome::Outcome;
-use crate::reading::{fetch, read_problem};
+use crate::outcome::{Outcome, limited, refused};
+use crate::reading::{read_problem, read_text};
 use crate::saying::say;
-use pb_base::{File, LimitKind, MAX_TEXT, NoMemory, Problem};
-use pb_desk::{Desk, TextFault};
+use pb_base::{File, NoMemory, Problem};
+use pb_desk::Desk;
 use pb_model::{Decoded, Model, ModelFault, decode, read_model, write_solution};
 use pb_words::DecodeArgs;
 use std::alloc::Global;
@@ -24,16 +24,8 @@ pub fn model_refusal(fault: ModelFault) -> Outcome
     ensures { result ≡ model_refusal fault }
 {
     match fault {
-        ModelFault::Token { place, expected } => Outcome::Refused {
-            file: File::Model,
-            place,
-            expected,
-        },
-        ModelFault::Limit { place, which } => Outcome::Limit {
-            file: Some(File::Model),
-            which,
-            place,
-        },
+        ModelFault::Token { place, expected } => refused(File::Model, place, expected),
+        ModelFault::Limit { place, which } => limited(File::Model, place, which),
         ModelFault::NoMemory => Outcome::NoMemory,
     }
 }
@@ -53,16 +45,9 @@ fn read_answer<D: Desk>(
     ensures stopped { IfErr result (StopsReading File.Model 1 name.now (RefusesModel vars) (D.state desk.old) (D.state desk.new)) }
     ensures steady { IsSteady (D.state desk.old) → result ≡ Err Outcome.ReadFault → IsTold (D.state desk.old) (λ t. IsNone (t.shelf name.now)) }
 {
-    let text = match fetch(alloc, desk, 1, name, MAX_TEXT) {
+    let text = match read_text(alloc, desk, 1, File::Model, name) {
         Ok(text) => text,
-        Err(TextFault::Failed) => return Err(Outcome::ReadFault),
-        Err(TextFault::TooLong) => {
-            return Err(model_refusal(ModelFault::Limit {
-                place: None,
-                which: LimitKind::Text,
-            }));
-        }
-        Err(TextFault::NoMemory) => return Err(Outcome::NoMemory),
+        Err(outcome) => return Err(outcome),
     };
     match read_model(alloc, text.as_slice(), vars) {
         Ok(model) => Ok(model),

@@ -1,26 +1,42 @@
-use Rattle.std.proofs.Common.{Err, ◌∙◌, ap, refl, arith}
-use Rattle.pb_desk.specs.View.{View}
+use Rattle.std.proofs.Common.{Err, Ok, ap, refl, sym, subst}
+use Rattle.pb_desk.specs.TwoSlots.{TakesBoth}
+use Rattle.pb_check.specs.declared.verdict.Verdict.{Verdict}
+use Rattle.pb_check.specs.Walk.{Walk}
 use Rattle.pb_words.specs.CheckWords.{as_check_words}
+use Rattle.pb_suite.specs.Implementing.{Implements}
 use Rattle.pb_suite.specs.CheckSpec.{check_spec}
-use Rattle.pb_suite.specs.CheckSpec.StopsCheck.{unread}
-use Rattle.pb_suite.proofs.CheckSpecs.{unbegun_all}
-use Rattle.pb_suite.proofs.Posed.{posed, read_first, unread_ends}
+use Rattle.pb_suite.proofs.CheckSpecs.{accepted_implements, before_implements, check_checks, cnf_is_open, denied_implements, fault_implements, opened_implements, proof_is_open, still_posed}
 use Rattle.pb_suite.proofs.commands.check.check_file.Goals as goal
 
 pub returns-in-Err : goal.returns-in-Err
 returns-in-Err g c =
     let w = as_check_words c.args.asked.now in
-    unread_ends (check_spec w) w.opb _ refl w.bound (λ shelf answer. unread answer) c.in-Err.outcome c.in-Err.ensures.stopped (λ steady is. c.in-Err.ensures.steady steady (ap Err is))
-    (λ keeps. unbegun_all w (g.D.Desk.state c.read_problem.new.desk) (keeps 1 (omega arith) ∙ c.requires.closed.reading 1) (keeps 2 (omega arith) ∙ c.requires.closed.reading 2))
+    before_implements (check_checks w) c.requires.closed _ refl (g.D.Desk.state c.open_checked.new.desk) (λ behind is. is) c.in-Err.outcome c.in-Err.ensures.stopped
 
-pub open_and_check-requires-clause-denoted : goal.open_and_check-requires-clause-denoted
-open_and_check-requires-clause-denoted g c = let w = as_check_words c.args.asked.now in posed (check_spec w) w.opb _ refl w.bound c.in-Ok.ensures.read c.in-Ok.problem c.in-Ok.ensures.denotes
+pub check-requires-clause-cnf_open : goal.check-requires-clause-cnf_open
+check-requires-clause-cnf_open g c = cnf_is_open (check_checks (as_check_words c.args.asked.now)) c.requires.closed c.in-Ok.ensures.opened
 
-pub open_and_check-requires-clause-cnf_free : goal.open_and_check-requires-clause-cnf_free
-open_and_check-requires-clause-cnf_free g c = ap (λ (v : View). v.reading 1) c.in-Ok.ensures.read.1.reached.view ∙ c.requires.closed.reading 1
+pub check-requires-clause-proof_open : goal.check-requires-clause-proof_open
+check-requires-clause-proof_open g c = proof_is_open (check_checks (as_check_words c.args.asked.now)) c.requires.closed c.in-Ok.ensures.opened
 
-pub open_and_check-requires-clause-proof_free : goal.open_and_check-requires-clause-proof_free
-open_and_check-requires-clause-proof_free g c = ap (λ (v : View). v.reading 2) c.in-Ok.ensures.read.1.reached.view ∙ c.requires.closed.reading 2
+pub returns : goal.returns
+returns g c =
+    let w = as_check_words c.args.asked.now in
+    subst (Implements (check_spec w) (g.D.Desk.state c.args.desk.now) (g.D.Desk.state c.check.new.desk)) (sym c.check_refusal.ensures)
+    (fault_implements (check_checks w) c.requires.closed c.in-Ok.ensures.opened (g.D.Desk.state c.check.new.desk) (λ behind is. is) c.in-Err-check.fault c.in-Err-check.ensures.stopped c.in-Err-check.ensures.named
+    (λ steady is. c.in-Err-check.ensures.steady steady (ap Err is)))
 
-pub returns-in-Ok : goal.returns-in-Ok
-returns-in-Ok g c = let w = as_check_words c.args.asked.now in read_first (check_spec w) w.opb _ refl w.bound c.in-Ok.ensures.read _ _ c.open_and_check.ensures
+pub returns-in-Ok-Rejected : goal.returns-in-Ok-Rejected
+returns-in-Ok-Rejected g c =
+    let w = as_check_words c.args.asked.now in
+    denied_implements (check_checks w) c.requires.closed c.in-Ok.ensures.opened (g.D.Desk.state c.check.new.desk) c.in-Ok-Rejected.line c.in-Ok-Rejected.denied
+    (subst (λ (v : Verdict). TakesBoth 1 2 (λ x y. Walk c.in-Ok.problem x y (Ok v)) (g.D.Desk.state c.open_checked.new.desk) (g.D.Desk.state c.check.new.desk)) c.in-Ok-Rejected.field-0-is c.in-Ok-Rejected.ensures.verdict)
+
+pub returns-in-Ok-Accepted : goal.returns-in-Ok-Accepted
+returns-in-Ok-Accepted g c =
+    let w = as_check_words c.args.asked.now in
+    let p = c.in-Ok.problem in
+    let opened = c.in-Ok.ensures.opened in
+    opened_implements (check_checks w) c.requires.closed opened _ _
+    (accepted_implements w p (g.D.Desk.state c.open_checked.new.desk) (g.D.Desk.state c.check.new.desk) (still_posed (check_checks w) c.requires.closed opened) opened.found _ (g.met.D.Desk.steady_tells c.check.new.desk)
+    (subst (λ (v : Verdict). TakesBoth 1 2 (λ x y. Walk p x y (Ok v)) (g.D.Desk.state c.open_checked.new.desk) (g.D.Desk.state c.check.new.desk)) c.in-Ok-Accepted.field-0-is c.in-Ok-Accepted.ensures.verdict) c.say.result c.say.ensures)
