@@ -15,8 +15,3 @@ mod words_and_numbers;
 fn assert_found(rt: &impl Abort, found: Option<String>, expected: &str, of: &str) {
     assert_eq!(rt; found.as_deref(), Some(expected), "of {of}");
 }
-
-// The text of a case, and what is expected of it.
-fn parts(case: &str) -> (&str, &str) {
-    case.split_once(" => ").unwrap_or((case, ""))
-}

@@ -11,6 +11,7 @@ mod probes;
 mod refuses;
 mod refutes;
 mod sizes;
+mod summaries;
 mod tables;
 mod texts;
 mod wcnfs;
@@ -20,6 +21,7 @@ use pb_base::{Ids, NoMemory, Seq};
 use pb_desk::Shelf;
 use pb_runs::{Run, named, refusal_of, run_freely, run_over, run_with};
 use std::alloc::Global;
+use summaries::summary;
 
 // These files come behind the others.
 fn put_files(alloc: Global, files: &mut Shelf, texts: &[(&str, &[u8])]) -> Result<(), NoMemory> {
@@ -79,20 +81,18 @@ fn is_done(run: &Run, file: &str, said: &str) -> bool {
         && run.desk.said() == said.as_bytes()
 }
 
-// With these words, this one file is made of the text, and this is said.
-fn is_encoded(alloc: Global, words: &str, text: &str, file: &str, said: &str) -> bool {
-    match run_freely(alloc, words, text.as_bytes()) {
-        Ok(run) => is_done(&run, file, said),
-        Err(_) => false,
-    }
+// With these words, this one file is made of the text, and this summary is said.
+fn is_encoded(alloc: Global, words: &str, text: &str, file: &str, said: &str) -> Option<bool> {
+    let run = run_freely(alloc, words, text.as_bytes()).ok()?;
+    let said = summary(alloc, said)?;
+    Some(is_done(&run, file, said.as_str()))
 }
 
-// With these words, one file is made of the text, and this is said.
-fn is_sized(alloc: Global, words: &str, text: &str, said: &str) -> bool {
-    match run_freely(alloc, words, text.as_bytes()) {
-        Ok(run) => made_by(alloc, &run).is_some() && run.desk.said() == said.as_bytes(),
-        Err(_) => false,
-    }
+// With these words, one file is made of the text, and this summary is said.
+fn is_sized(alloc: Global, words: &str, text: &str, said: &str) -> Option<bool> {
+    let run = run_freely(alloc, words, text.as_bytes()).ok()?;
+    let said = summary(alloc, said)?;
+    Some(made_by(alloc, &run).is_some() && run.desk.said() == said.as_bytes())
 }
 
 // A run with room for long texts.

@@ -2,11 +2,13 @@
 #![tactic(auto)]
 
 mod desks;
+mod pages;
 
 ghost use Rattle.std.specs.Prelude.{◌≤◌, ◌<◌};
 ghost use Rattle.pb_family.specs.Families.{VarsBelow};
 
 pub use desks::{desk_with, named};
+pub use pages::page_otherwise;
 use pb_base::{Lit, LitWord, Raw, Term, read_literal, words};
 use pb_family::{Family, TextSink};
 use pb_norm::{AtMost, Half, Linear, Linears, Rest, load, normalize, reduce};
@@ -59,18 +61,37 @@ pub fn at_most(alloc: Global, text: &str) -> Option<AtMost> {
     bounded(reduced.rest)
 }
 
-/// How many fresh variables and clauses a family has, and its clauses in lines.
-pub fn family_text<F: Family>(alloc: Global, family: &F, first: u32) -> Option<String>
+/// The families of sums.
+#[derive(Clone, Copy)]
+pub enum Kind {
+    Pairs,
+    Ladder,
+    Grid,
+    Counter,
+    Totalizer,
+    Tree,
+    Diagram,
+    Adder,
+}
+
+/// The clauses of a family with few fresh variables, a line each.
+pub fn clause_lines<F: Family>(alloc: Global, family: &F, first: u32) -> Option<String>
     requires { VarsBelow first (F.constraint family.now).terms }
 {
-    let fresh = family.fresh();
-    if first < 1 || first > 1000 || fresh > 1000 {
+    if first < 1 || first > 1000 || family.fresh() > 1000 {
         return None;
     }
     let mut sink = TextSink::new(alloc);
     family.emit(alloc, first, &mut sink).ok()?;
-    let lines = str::from_utf8(sink.text()).ok()?;
-    format!(in alloc; "{} {}\n{}", fresh, family.clauses(), lines).ok()
+    str::from_utf8(sink.text()).ok()?.to_string(alloc).ok()
+}
+
+/// How many fresh variables and clauses a family has, and its clauses in lines.
+pub fn family_text<F: Family>(alloc: Global, family: &F, first: u32) -> Option<String>
+    requires { VarsBelow first (F.constraint family.now).terms }
+{
+    let lines = clause_lines(alloc, family, first)?;
+    format!(in alloc; "{} {}\n{lines}", family.fresh(), family.clauses()).ok()
 }
 
 /// A literal, as `x1` or `~x1`.

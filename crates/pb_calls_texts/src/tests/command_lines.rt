@@ -1,5 +1,5 @@
-use super::{assert_found, parts};
-use pb_samples::lits_text;
+use super::assert_found;
+use pb_samples::{lits_text, page_otherwise};
 use pb_words::{EncodeArgs, ProbeArgs, Request, WcnfArgs, WordsFault, parse};
 use std::alloc::Global;
 
@@ -103,9 +103,6 @@ pbcnf wcnf a b --at-most-minus=1267650600228229401496703205376 => usage";
 
 #[test]
 fn what_is_asked_for(rt: HostRuntime) {
-    for case in LINES.lines() {
-        let (line, expected) = parts(case);
-        let found = asked(rt.alloc(), line);
-        assert_found(&rt, found, expected, line);
-    }
+    let others = page_otherwise(rt.alloc(), LINES, "\n", asked);
+    assert_found(&rt, others, "", "each line");
 }

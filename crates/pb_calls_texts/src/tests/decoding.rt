@@ -65,15 +65,22 @@ fn map_of(alloc: Global, opb: &str) -> Option<String> {
 }
 
 trait Cases {
-    // Each text comes to its answer beside the problem of its OPB text.
-    fn each_answers(&self, cases: &[(&str, &str, &str)]);
+    // A text comes to this answer beside the problem of an OPB text.
+    fn answers(&self, opb: &str, text: &str, expected: &str);
+
+    // Each text comes to its answer beside the problem of an OPB text.
+    fn each_answers(&self, opb: &str, cases: &[(&str, &str)]);
 }
 
 impl<R: Abort + Alloc<A = Global>> Cases for R {
-    fn each_answers(&self, cases: &[(&str, &str, &str)]) {
-        for &(opb, text, expected) in cases {
-            let found = answer(self.alloc(), opb, text);
-            assert_found(self, found, expected, text);
+    fn answers(&self, opb: &str, text: &str, expected: &str) {
+        let found = answer(self.alloc(), opb, text);
+        assert_found(self, found, expected, text);
+    }
+
+    fn each_answers(&self, opb: &str, cases: &[(&str, &str)]) {
+        for &(text, expected) in cases {
+            self.answers(opb, text, expected);
         }
     }
 }
@@ -87,89 +94,76 @@ fn maps(rt: HostRuntime) {
 }
 
 #[test]
-fn solutions_products_and_faults(rt: HostRuntime) {
-    rt.each_answers(&[
-        // Solutions.
-        (
-            ONE_OF_TWO,
-            "s SATISFIABLE\nv 1 -2 0\n",
-            "s SATISFIABLE\nv x1 -x2\n",
-        ),
-        (
-            ONE_OF_TWO,
-            "s SATISFIABLE\nv 9 -9 2 0\n",
-            "s SATISFIABLE\nv -x1 x2\n",
-        ),
-        (
-            "min: +3 x1 -1 ~x2 ; +1 x1 +1 x2 = 1 ;",
-            "s SATISFIABLE\nv 1 0\n",
-            "o 2\ns SATISFIABLE\nv x1 -x2\n",
-        ),
-        (
-            "min: -7 x1 ;",
-            "c\nv 1\nv 0\ns SATISFIABLE",
-            "o -7\ns SATISFIABLE\nv x1\n",
-        ),
-        ("", "s SATISFIABLE", "s SATISFIABLE\nv\n"),
-        (
-            WEATHER,
-            "s SATISFIABLE\nv 2 3 0\n",
-            "s SATISFIABLE\nv -x1 x2 rain -sun\n",
-        ),
-        // Products.
-        (
-            "+1 x1 x2 >= 1 ;",
-            "s SATISFIABLE\nv 1 2 0\n",
-            "s SATISFIABLE\nv x1 x2\n",
-        ),
-        (
-            "+1 x1 x2 >= 1 ;",
-            "s SATISFIABLE\nv 1 2 -3 0\n",
-            "s SATISFIABLE\nv x1 x2\n",
-        ),
-        (
-            "+1 x1 x2 >= 1 ;",
-            "s SATISFIABLE\nv 1 -2 3 0\n",
-            "violates 1",
-        ),
-        (
-            "min: +5 x1 ~b ; +1 x1 >= 1 ; +2 b x1 -1 x1 ~b <= 1 ;",
-            "s SATISFIABLE\nv 1 0\n",
-            "o 5\ns SATISFIABLE\nv x1 -b\n",
-        ),
-        (
-            "min: +5 x1 ~b ; +1 x1 >= 1 ; +2 b x1 -1 x1 ~b <= 1 ;",
-            "s SATISFIABLE\nv 1 2 0\n",
-            "violates 2",
-        ),
-        (
-            "+1 x1 ~x1 >= 0 ; -1 x1 x1 x2 x1 >= 0 ;",
-            "s SATISFIABLE\nv 1 2 0\n",
-            "violates 2",
-        ),
-        // No solutions.
-        (ONE_OF_TWO, "s SATISFIABLE\nv 1 2 0\n", "violates 1"),
-        (ONE_OF_TWO, "s SATISFIABLE\nv 0\n", "violates 1"),
-        (
-            "+1 x1 >= 1 ; +1 x2 <= 0 ; +1 x1 >= 2 ;",
-            "s SATISFIABLE\nv 1 0\n",
-            "violates 3",
-        ),
-        (ONE_OF_TWO, "s UNSATISFIABLE\n", "no model"),
-        (ONE_OF_TWO, "s SATISFIABLE now\nv 1 0\n", "no model"),
-        (ONE_OF_TWO, "", "no model"),
-        // Faults.
-        (ONE_OF_TWO, "s SATISFIABLE\nv 1 -1 0\n", "2:5 opposite"),
-        (ONE_OF_TWO, "s SATISFIABLE\nv 1 2\n", "3:1 model zero"),
-        (
-            ONE_OF_TWO,
-            "s SATISFIABLE\ns SATISFIABLE\n",
-            "2:1 model line",
-        ),
-        (ONE_OF_TWO, "v 0\nv 1 0\n", "2:1 model line"),
-        (ONE_OF_TWO, "v x1 0\n", "1:3 model literal"),
-        (ONE_OF_TWO, "v 1 0 0\n", "1:7 model literal"),
-        (ONE_OF_TWO, "v 2147483648 0\n", "1:3 limit variables"),
-        (ONE_OF_TWO, "sat\n", "1:1 model line"),
-    ]);
+fn solutions(rt: HostRuntime) {
+    rt.each_answers(
+        ONE_OF_TWO,
+        &[
+            ("s SATISFIABLE\nv 1 -2 0\n", "s SATISFIABLE\nv x1 -x2\n"),
+            ("s SATISFIABLE\nv 9 -9 2 0\n", "s SATISFIABLE\nv -x1 x2\n"),
+            // No solutions.
+            ("s SATISFIABLE\nv 1 2 0\n", "violates 1"),
+            ("s SATISFIABLE\nv 0\n", "violates 1"),
+            ("s UNSATISFIABLE\n", "no model"),
+            ("s SATISFIABLE now\nv 1 0\n", "no model"),
+            ("", "no model"),
+            // Faults.
+            ("s SATISFIABLE\nv 1 -1 0\n", "2:5 opposite"),
+            ("s SATISFIABLE\nv 1 2\n", "3:1 model zero"),
+            ("s SATISFIABLE\ns SATISFIABLE\n", "2:1 model line"),
+            ("v 0\nv 1 0\n", "2:1 model line"),
+            ("v x1 0\n", "1:3 model literal"),
+            ("v 1 0 0\n", "1:7 model literal"),
+            ("v 2147483648 0\n", "1:3 limit variables"),
+            ("sat\n", "1:1 model line"),
+        ],
+    );
+    rt.answers(
+        WEATHER,
+        "s SATISFIABLE\nv 2 3 0\n",
+        "s SATISFIABLE\nv -x1 x2 rain -sun\n",
+    );
+    rt.answers("", "s SATISFIABLE", "s SATISFIABLE\nv\n");
+    rt.answers(
+        "+1 x1 >= 1 ; +1 x2 <= 0 ; +1 x1 >= 2 ;",
+        "s SATISFIABLE\nv 1 0\n",
+        "violates 3",
+    );
+}
+
+#[test]
+fn objectives(rt: HostRuntime) {
+    rt.answers(
+        "min: +3 x1 -1 ~x2 ; +1 x1 +1 x2 = 1 ;",
+        "s SATISFIABLE\nv 1 0\n",
+        "o 2\ns SATISFIABLE\nv x1 -x2\n",
+    );
+    rt.answers(
+        "min: -7 x1 ;",
+        "c\nv 1\nv 0\ns SATISFIABLE",
+        "o -7\ns SATISFIABLE\nv x1\n",
+    );
+}
+
+#[test]
+fn products(rt: HostRuntime) {
+    rt.each_answers(
+        "+1 x1 x2 >= 1 ;",
+        &[
+            ("s SATISFIABLE\nv 1 2 0\n", "s SATISFIABLE\nv x1 x2\n"),
+            ("s SATISFIABLE\nv 1 2 -3 0\n", "s SATISFIABLE\nv x1 x2\n"),
+            ("s SATISFIABLE\nv 1 -2 3 0\n", "violates 1"),
+        ],
+    );
+    rt.each_answers(
+        "min: +5 x1 ~b ; +1 x1 >= 1 ; +2 b x1 -1 x1 ~b <= 1 ;",
+        &[
+            ("s SATISFIABLE\nv 1 0\n", "o 5\ns SATISFIABLE\nv x1 -b\n"),
+            ("s SATISFIABLE\nv 1 2 0\n", "violates 2"),
+        ],
+    );
+    rt.answers(
+        "+1 x1 ~x1 >= 0 ; -1 x1 x1 x2 x1 >= 0 ;",
+        "s SATISFIABLE\nv 1 2 0\n",
+        "violates 2",
+    );
 }

@@ -1,5 +1,6 @@
 // Lines that are read, and written again.
-use super::{assert_found, parts};
+use super::assert_found;
+use pb_samples::page_otherwise;
 use pb_steps::{Step, StepFault, read_step, write_step};
 use std::alloc::Global;
 
@@ -52,11 +53,8 @@ foo => 1: step word";
 
 #[test]
 fn lines_are_written_as_they_are_said(rt: HostRuntime) {
-    for case in LINES.lines() {
-        let (line, expected) = parts(case);
-        let found = rewritten(rt.alloc(), line);
-        assert_found(&rt, found, expected, line);
-    }
+    let others = page_otherwise(rt.alloc(), LINES, "\n", rewritten);
+    assert_found(&rt, others, "", "each line");
 }
 
 // A line of more than 64 KiB.

@@ -1,6 +1,7 @@
-use super::{assert_found, parts};
+use super::assert_found;
 use pb_base::{Lit, Problem, TermsLeft};
 use pb_opb::{OpbFault, read_opb};
+use pb_samples::page_otherwise;
 use std::alloc::Global;
 
 fn fault_text(alloc: Global, fault: OpbFault) -> Option<String> {
@@ -12,8 +13,8 @@ fn fault_text(alloc: Global, fault: OpbFault) -> Option<String> {
 }
 
 // How many variables a text has, or its first fault.
-fn read(alloc: Global, text: &[u8]) -> Option<String> {
-    match read_opb(alloc, text) {
+fn read(alloc: Global, text: &str) -> Option<String> {
+    match read_opb(alloc, text.as_bytes()) {
         Ok(problem) => format!(in alloc; "{} variables", problem.vars).ok(),
         Err(fault) => fault_text(alloc, fault),
     }
@@ -93,11 +94,8 @@ min:+1 x1;
 
 #[test]
 fn variables_or_first_faults(rt: HostRuntime) {
-    for case in CASES.split("\n\n") {
-        let (text, expected) = parts(case);
-        let found = read(rt.alloc(), text.as_bytes());
-        assert_found(&rt, found, expected, text);
-    }
+    let others = page_otherwise(rt.alloc(), CASES, "\n\n", read);
+    assert_found(&rt, others, "", "each text");
 }
 
 // How many variables a problem has with numbers, and the free names of the others.
@@ -111,8 +109,8 @@ fn names_of(alloc: Global, problem: &Problem) -> Option<String> {
 }
 
 // The same of the problem of a text.
-fn names(alloc: Global, text: &[u8]) -> Option<String> {
-    let problem = read_opb(alloc, text).ok()?;
+fn names(alloc: Global, text: &str) -> Option<String> {
+    let problem = read_opb(alloc, text.as_bytes()).ok()?;
     names_of(alloc, &problem)
 }
 
@@ -132,11 +130,8 @@ min: +1 ~sun ;
 
 #[test]
 fn free_names(rt: HostRuntime) {
-    for case in NAMED.split("\n\n") {
-        let (text, expected) = parts(case);
-        let found = names(rt.alloc(), text.as_bytes());
-        assert_found(&rt, found, expected, text);
-    }
+    let others = page_otherwise(rt.alloc(), NAMED, "\n\n", names);
+    assert_found(&rt, others, "", "each text");
 }
 
 fn push_lit(alloc: Global, lit: Lit, shown: &mut String) -> Option<()> {
@@ -173,52 +168,48 @@ fn products_of(alloc: Global, problem: &Problem) -> Option<String> {
     for statement in problem.statements.iter() {
         push_terms(alloc, statement.terms, &mut shown)?;
     }
-    Some(shown)
+    shown.trim_end().to_string(alloc).ok()
 }
 
 // The same of the problem of a text.
-fn products(alloc: Global, text: &[u8]) -> Option<String> {
-    let problem = read_opb(alloc, text).ok()?;
+fn products(alloc: Global, text: &str) -> Option<String> {
+    let problem = read_opb(alloc, text.as_bytes()).ok()?;
     products_of(alloc, &problem)
 }
 
+// Texts with their products and terms, which stand behind `=>`.
+const MULTIPLIED: &str = "\
++1 x1 x2 >= 1 ; => 1 2 ; 3:1
+
++2 x1 ~x2 +1 x2 ~x2 +1 x1 x1 >= 3 ; => 1 -2 ; 3:2 1:1
+
++1 x2 x1 +1 x1 x02 x1 >= 1 ; => 1 2 ; 3:1 3:1
+
+min: +1 x2 x3 ;
++1 x1 x2 +1 x3 x2 >= 1 ; => 2 3 ; 1 2 ; 5:1 4:1
+
+* #variable= 7
++1 b x1 +1 ~b >= 1 ; => 1 8 ; 9:1 -8:1";
+
 #[test]
 fn product_terms(rt: HostRuntime) {
-    let cases = [
-        ("+1 x1 x2 >= 1 ;", "1 2 ; 3:1 "),
-        ("+2 x1 ~x2 +1 x2 ~x2 +1 x1 x1 >= 3 ;", "1 -2 ; 3:2 1:1 "),
-        ("+1 x2 x1 +1 x1 x02 x1 >= 1 ;", "1 2 ; 3:1 3:1 "),
-        (
-            "min: +1 x2 x3 ;\n+1 x1 x2 +1 x3 x2 >= 1 ;",
-            "2 3 ; 1 2 ; 5:1 4:1 ",
-        ),
-        ("* #variable= 7\n+1 b x1 +1 ~b >= 1 ;", "1 8 ; 9:1 -8:1 "),
-    ];
-    for (text, expected) in cases {
-        let found = products(rt.alloc(), text.as_bytes());
-        assert_found(&rt, found, expected, text);
-    }
-}
-
-fn push_times(text: &mut Vec<u8>, piece: &str, times: u32) -> Option<()> {
-    for _ in 0..times {
-        text.extend_from_slice(piece.as_bytes()).ok()?;
-    }
-    Some(())
+    let others = page_otherwise(rt.alloc(), MULTIPLIED, "\n\n", products);
+    assert_found(&rt, others, "", "each text");
 }
 
 // What is told of a text of pieces, each so many times.
-fn read_repeated(alloc: Global, pieces: &[(&str, u32)]) -> Option<String> {
-    let mut text = Vec::new(alloc);
+fn read_repeated(alloc: Global, pieces: &[(&str, usize)]) -> Option<String> {
+    let mut text = String::new(alloc);
     for (piece, times) in pieces {
-        push_times(&mut text, piece, *times)?;
+        let part = piece.repeat(alloc, *times).ok()?;
+        text.push_str(part.as_str()).ok()?;
     }
-    read(alloc, &text)
+    read(alloc, text.as_str())
 }
 
 #[test]
 fn names_sums_and_products_too_long(rt: HostRuntime) {
-    let cases: [(&[(&str, u32)], &str); 3] = [
+    let cases: [(&[(&str, usize)], &str); 3] = [
         (
             &[("+1 ~", 1), ("a", 255), (" >= 1 ;\n+1 a", 1), ("a", 255)],
             "2:4: limit name",

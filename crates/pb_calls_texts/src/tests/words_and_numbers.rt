@@ -1,28 +1,39 @@
 use super::assert_found;
 use pb_base::{end_of, read_number, tokens, words};
+use pb_samples::page_otherwise;
 use std::alloc::Global;
 
-// Adds a piece that was made.
-fn push_piece(found: &mut String, piece: Option<String>) -> Option<()> {
-    found.push_str(piece?.as_str()).ok()
+// Adds where a piece stands, by line and column, and how long it is.
+fn push_piece(
+    alloc: Global,
+    line: u64,
+    column: u64,
+    piece: &[u8],
+    found: &mut String,
+) -> Option<()> {
+    let piece = format!(in alloc; "{line}:{column}+{} ", piece.len()).ok()?;
+    found.push_str(piece.as_str()).ok()
 }
 
-// Where each token stands, and how long it is.
 fn tokens_text(alloc: Global, text: &str) -> Option<String> {
     let mut found = String::new(alloc);
     for token in tokens(text.as_bytes()) {
-        let piece = format!(in alloc; "{}+{} ", token.place, token.text.len()).ok();
-        push_piece(&mut found, piece)?;
+        push_piece(
+            alloc,
+            token.place.line,
+            token.place.column,
+            token.text,
+            &mut found,
+        )?;
     }
     Some(found)
 }
 
-// Where each word of a line stands, and how long it is.
+// The same of the words of a line.
 fn words_text(alloc: Global, text: &str) -> Option<String> {
     let mut found = String::new(alloc);
     for word in words(text.as_bytes()) {
-        let piece = format!(in alloc; "{}+{} ", word.column, word.text.len()).ok();
-        push_piece(&mut found, piece)?;
+        push_piece(alloc, 1, word.column, word.text, &mut found)?;
     }
     Some(found)
 }
@@ -35,7 +46,7 @@ fn tokens_words_and_the_end(rt: HostRuntime) {
     assert_found(&rt, found, expected, text);
     let line = "\t p cnf  3*;\r";
     let found = words_text(rt.alloc(), line);
-    assert_found(&rt, found, "3+1 5+3 10+3 ", line);
+    assert_found(&rt, found, "1:3+1 1:5+3 1:10+3 ", line);
     let end = format!(in rt.alloc(); "{}", end_of(b"+1 x1\n>= 1")).ok();
     assert_found(&rt, end, "2:5", "the end");
 }
@@ -45,19 +56,15 @@ fn number_text(alloc: Global, text: &str) -> Option<String> {
     format!(in alloc; "{:?}", read_number(text.as_bytes())).ok()
 }
 
+// Texts with what they are as numbers, which stands behind `=>`.
+const NUMBERS: &str = "\
+-007 => Value(-7)
++ => NotANumber
+85070591730234615865843651857942052864 => TooWide
+-85070591730234615865843651857942052863 => Value(-85070591730234615865843651857942052863)";
+
 #[test]
 fn numbers(rt: HostRuntime) {
-    let cases = [
-        ("-007", "Value(-7)"),
-        ("+", "NotANumber"),
-        ("85070591730234615865843651857942052864", "TooWide"),
-        (
-            "-85070591730234615865843651857942052863",
-            "Value(-85070591730234615865843651857942052863)",
-        ),
-    ];
-    for (text, expected) in cases {
-        let found = number_text(rt.alloc(), text);
-        assert_found(&rt, found, expected, text);
-    }
+    let others = page_otherwise(rt.alloc(), NUMBERS, "\n", number_text);
+    assert_found(&rt, others, "", "each line");
 }

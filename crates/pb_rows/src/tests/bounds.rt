@@ -183,13 +183,13 @@ fn a_derivation_beside_a_bound(rt: HostRuntime) {
 
 #[test]
 fn what_is_made_beside_a_bound_is_accepted(rt: HostRuntime) {
-    rt.each_derived(&[
-        ("", " --at-most=2", COSTS),
-        ("", " --at-most-minus=2", COSTS),
-        ("", " --at-most=5", WEIGHTED_COSTS),
-        ("", " --at-most=4", WEIGHTED_COSTS),
-        ("", " --at-most-minus=1", "min: +2 x1 x2 -3 ~x1 x3 ;\n"),
-        ("", " --at-most-minus=1", "+1 x1 >= 1 ;\n"),
+    rt.each_derived_beside(&[
+        (" --at-most=2", COSTS),
+        (" --at-most-minus=2", COSTS),
+        (" --at-most=5", WEIGHTED_COSTS),
+        (" --at-most=4", WEIGHTED_COSTS),
+        (" --at-most-minus=1", "min: +2 x1 x2 -3 ~x1 x3 ;\n"),
+        (" --at-most-minus=1", "+1 x1 >= 1 ;\n"),
     ]);
 }
 

@@ -23,20 +23,29 @@ pub trait Cases {
     // With each of these words, this is told of the text, and no file is made.
     fn each_told(&self, cases: &[(&str, &str, &str)]);
 
+    // With these words, this is told of each of these texts, and no file is made.
+    fn each_text_told(&self, words: &str, cases: &[(&str, &str)]);
+
+    // With each of these words, this is told of the text, and no file is made.
+    fn each_words_told(&self, text: &str, cases: &[(&str, &str)]);
+
     // With each of these words, this one file is made of the text.
     fn each_made(&self, cases: &[(&str, &str, &str)]);
 
-    // With each of these words, this one file is made of the text, and this is said.
+    // With each of these words, this one file is made of the text, and this summary is said.
     fn each_encoded(&self, cases: &[(&str, &str, &str, &str)]);
 
-    // With each of these words, one file is made of the text, and this is said.
+    // With each of these words, one file is made of the text, and this summary is said.
     fn each_sized(&self, cases: &[(&str, &str, &str)]);
 
     // With each of these words, this is told of the problem and what a solver printed.
     fn each_decoded(&self, cases: &[(&str, &str, &str, &str)]);
 
-    // With each of these options and beside this bound, a derivation is made of the text that is accepted.
-    fn each_derived(&self, cases: &[(&str, &str, &str)]);
+    // With each of these options, a derivation is made of the text that is accepted.
+    fn each_derived(&self, cases: &[(&str, &str)]);
+
+    // Beside each of these bounds, a derivation is made of the text that is accepted.
+    fn each_derived_beside(&self, cases: &[(&str, &str)]);
 
     // With each of these words, this is told of a derivation with these lines behind its first, beside the problem and the CNF.
     fn each_checked(&self, opb: &str, cnf: &str, cases: &[(&str, &str, &str)]);
@@ -56,6 +65,18 @@ impl<R: Abort + Alloc<A = Global>> Cases for R {
         }
     }
 
+    fn each_text_told(&self, words: &str, cases: &[(&str, &str)]) {
+        for &(text, line) in cases {
+            self.each_told(&[(words, text, line)]);
+        }
+    }
+
+    fn each_words_told(&self, text: &str, cases: &[(&str, &str)]) {
+        for &(words, line) in cases {
+            self.each_told(&[(words, text, line)]);
+        }
+    }
+
     fn each_made(&self, cases: &[(&str, &str, &str)]) {
         for &(words, text, file) in cases {
             let found = made(self.alloc(), words, text);
@@ -65,15 +86,15 @@ impl<R: Abort + Alloc<A = Global>> Cases for R {
 
     fn each_encoded(&self, cases: &[(&str, &str, &str, &str)]) {
         for &(words, text, file, said) in cases {
-            let is_due = is_encoded(self.alloc(), words, text, file, said);
-            assert_due(self, is_due, words, text);
+            let found = is_encoded(self.alloc(), words, text, file, said);
+            assert_due(self, found == Some(true), words, text);
         }
     }
 
     fn each_sized(&self, cases: &[(&str, &str, &str)]) {
         for &(words, text, said) in cases {
-            let is_due = is_sized(self.alloc(), words, text, said);
-            assert_due(self, is_due, words, text);
+            let found = is_sized(self.alloc(), words, text, said);
+            assert_due(self, found == Some(true), words, text);
         }
     }
 
@@ -84,10 +105,17 @@ impl<R: Abort + Alloc<A = Global>> Cases for R {
         }
     }
 
-    fn each_derived(&self, cases: &[(&str, &str, &str)]) {
-        for &(options, bound, text) in cases {
-            let found = is_derived(self.alloc(), options, bound, text);
+    fn each_derived(&self, cases: &[(&str, &str)]) {
+        for &(options, text) in cases {
+            let found = is_derived(self.alloc(), options, "", text);
             assert_due(self, found == Some(true), options, text);
+        }
+    }
+
+    fn each_derived_beside(&self, cases: &[(&str, &str)]) {
+        for &(bound, text) in cases {
+            let found = is_derived(self.alloc(), "", bound, text);
+            assert_due(self, found == Some(true), bound, text);
         }
     }
 

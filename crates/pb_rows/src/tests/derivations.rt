@@ -48,52 +48,46 @@ pub fn is_derived(alloc: Global, options: &str, bound: &str, text: &str) -> Opti
 fn what_is_made_is_accepted(rt: HostRuntime) {
     rt.each_derived(&[
         // No statement; a clause; an equation; the empty clause; nothing; a unit and a clause; units alone.
-        ("", "", ""),
-        ("", "", "+1 x1 +1 x2 >= 1 ;\n"),
-        ("", "", "+1 x1 +1 x2 = 1 ;\n"),
-        ("", "", "+1 x1 >= 2 ;\n"),
-        ("", "", "+2 x1 -1 x1 +1 ~x1 >= 1 ;\n"),
-        ("", "", "+5 x1 +3 x2 +2 x3 >= 6 ;\n"),
-        ("", "", "+1 x1 +1 x2 <= 0 ;\n"),
+        ("", ""),
+        ("", "+1 x1 +1 x2 >= 1 ;\n"),
+        ("", "+1 x1 +1 x2 = 1 ;\n"),
+        ("", "+1 x1 >= 2 ;\n"),
+        ("", "+2 x1 -1 x1 +1 ~x1 >= 1 ;\n"),
+        ("", "+5 x1 +3 x2 +2 x3 >= 6 ;\n"),
+        ("", "+1 x1 +1 x2 <= 0 ;\n"),
         // At most one.
-        ("", "", "-1 x1 -1 x2 -1 x3 >= -1 ;\n"),
-        (" --amo ladder", "", "-1 x1 -1 x2 -1 x3 >= -1 ;\n"),
-        (" --amo product", "", ONE_OF_NINE),
+        ("", "-1 x1 -1 x2 -1 x3 >= -1 ;\n"),
+        (" --amo ladder", "-1 x1 -1 x2 -1 x3 >= -1 ;\n"),
+        (" --amo product", ONE_OF_NINE),
         // Cardinalities.
-        (" --card counter", "", TWO_OF_FOUR),
-        (" --card totalizer", "", TWO_OF_FOUR),
+        (" --card counter", TWO_OF_FOUR),
+        (" --card totalizer", TWO_OF_FOUR),
         // Weights, which are also sent to the adder where the budget is small.
-        (" --general tree", "", WEIGHTS),
-        ("", "", WEIGHTS),
-        (" --general adder", "", WEIGHTS),
-        (" --budget 2", "", WEIGHTS),
-        (" --budget 3", "", WEIGHTS),
-        ("", "", "+5 ~x1 +4 ~x2 +3 ~x3 +3 ~x4 >= 7 ;\n"),
+        (" --general tree", WEIGHTS),
+        ("", WEIGHTS),
+        (" --general adder", WEIGHTS),
+        (" --budget 2", WEIGHTS),
+        (" --budget 3", WEIGHTS),
+        ("", "+5 ~x1 +4 ~x2 +3 ~x3 +3 ~x4 >= 7 ;\n"),
     ]);
     rt.each_derived(&[
         // Free names; in derivations all variables go by numbers.
-        ("", "", "+4 rain +3 ~x1 +2 sun >= 4 ;\n"),
+        ("", "+4 rain +3 ~x1 +2 sun >= 4 ;\n"),
         // Products, whose clauses come first.
-        ("", "", "+1 x1 x2 >= 1 ;\n"),
-        ("", "", "+2 x1 ~x2 +1 x2 ~x2 +1 x1 x1 >= 3 ;\n"),
-        (
-            " --general adder",
-            "",
-            "+4 x1 ~x2 +3 x2 x3 x1 +2 x3 >= 4 ;\n",
-        ),
+        ("", "+1 x1 x2 >= 1 ;\n"),
+        ("", "+2 x1 ~x2 +1 x2 ~x2 +1 x1 x1 >= 3 ;\n"),
+        (" --general adder", "+4 x1 ~x2 +3 x2 x3 x1 +2 x3 >= 4 ;\n"),
         // Equalities as one, whose halves are divided by their coefficient; and where the budget is too small.
-        (" --equal joint", "", "+1 x1 +1 x2 +1 x3 = 1 ;\n"),
-        (" --equal joint", "", "+2 x1 -2 x2 +2 ~x3 +2 x4 = 2 ;\n"),
-        (" --equal joint --budget 3", "", "+1 x1 +1 x2 +1 x3 = 1 ;\n"),
+        (" --equal joint", "+1 x1 +1 x2 +1 x3 = 1 ;\n"),
+        (" --equal joint", "+2 x1 -2 x2 +2 ~x3 +2 x4 = 2 ;\n"),
+        (" --equal joint --budget 3", "+1 x1 +1 x2 +1 x3 = 1 ;\n"),
         (
             " --equal joint",
-            "",
             "+1 x1 x2 >= 1 ;\n+3 x1 +3 x2 +3 x3 +3 x4 = 6 ;\n+1 x1 +1 x3 = 1 ;\n+1 x2 +1 x3 +1 x4 +1 x5 = 3 ;\n+1 x5 >= 1 ;\n",
         ),
         // Several constraints, of which each is derived under its own id.
         (
             " --card totalizer --general tree",
-            "",
             "min: +1 x1 ;\n+1 x1 +1 x2 = 1 ;\n+4 ~x1 +3 ~x2 +2 ~x3 >= 4 ;\n+1 x1 +1 x2 +1 x3 +1 x4 = 2 ;\n",
         ),
     ]);

@@ -1,6 +1,6 @@
 use super::cases::Cases;
 use super::texts::{
-    JOINTLY, ONE_JOINT, ONE_OF_THREE, ONE_SPLIT, PAIR, PAIR_JOINT, SAID_JOINT, SAID_PAIR,
+    CONFLICT, JOINTLY, ONE_JOINT, ONE_OF_THREE, ONE_SPLIT, PAIR, PAIR_JOINT, SAID_JOINT, SAID_PAIR,
     SAID_SPLIT,
 };
 
@@ -101,18 +101,13 @@ h -4 6 0\nh -5 7 0\nh -1 6 0\nh -1 -4 7 0\nh 1 4 -6 0\nh 1 5 -7 0\nh 4 -7 0\nh 6
 // What unit propagation reaches over both halves as one: each half by itself does not reach so much.
 #[test]
 fn what_both_reach(rt: HostRuntime) {
-    rt.each_told(&[
-        (
-            "pbcnf probe a ~x1 ~x2",
-            ONE_JOINT,
-            "fixed -1 -2 3 4 -5 6 -7 0\n",
-        ),
-        (
-            "pbcnf probe a x1",
-            ONE_JOINT,
-            "fixed 1 -2 -3 -4 -5 6 -7 0\n",
-        ),
-        ("pbcnf probe a x1 x2", ONE_JOINT, "conflict\n"),
-        ("pbcnf probe a ~x1 ~x2 ~x3", ONE_JOINT, "conflict\n"),
-    ]);
+    rt.each_words_told(
+        ONE_JOINT,
+        &[
+            ("pbcnf probe a ~x1 ~x2", "fixed -1 -2 3 4 -5 6 -7 0\n"),
+            ("pbcnf probe a x1", "fixed 1 -2 -3 -4 -5 6 -7 0\n"),
+            ("pbcnf probe a x1 x2", CONFLICT),
+            ("pbcnf probe a ~x1 ~x2 ~x3", CONFLICT),
+        ],
+    );
 }

@@ -5,44 +5,39 @@ use std::alloc::Global;
 
 #[test]
 fn free_names(rt: HostRuntime) {
-    rt.each_told(&[
-        (MAP, "+1 rain +1 x2 +1 ~sun >= 2 ;\n", "3 rain\n4 sun\n"),
-        // All variables are named by their numbers, or there are none.
-        (MAP, "+1 x1 +1 x2 = 1 ;\n", ""),
-        (MAP, "", ""),
-        // A name counts where it comes first, in the objective too.
-        (
-            MAP,
-            "min: +1 sun ;\n+1 rain +1 sun >= 1 ;\n+1 ~rain >= 0 ;\n",
-            "1 sun\n2 rain\n",
-        ),
-        // The first line tells of more variables than occur.
-        (
-            MAP,
-            "* #variable= 5 #constraint= 1\n+1 a +1 x2 >= 1 ;\n",
-            "6 a\n",
-        ),
-        // A name has letters, digits and some signs; `x` and digits alone are none, but `x` is.
-        (
-            MAP,
-            "+1 x +1 x1y +1 _x1 +1 X1 +1 a[1]{2}^-3_ >= 1 ;\n",
-            "1 x\n2 x1y\n3 _x1\n4 X1\n5 a[1]{2}^-3_\n",
-        ),
-        // Texts without a problem.
-        (
-            MAP,
-            "+1 2a >= 1 ;\n",
-            "1 pbcnf: OPB 1:4: expected a literal",
-        ),
-        (MAP, "+1 a >= 1", "1 pbcnf: OPB 1:10: expected ;"),
-        // One variable is too much for the greatest number that the first line may tell.
-        (
-            MAP,
-            "* #variable= 2147483647 #constraint= 1\n+1 a >= 1 ;\n",
-            "3 pbcnf: OPB 3:1: limit variables",
-        ),
-        ("pbcnf map b", "", "4 pbcnf: read fault"),
-    ]);
+    rt.each_text_told(
+        MAP,
+        &[
+            ("+1 rain +1 x2 +1 ~sun >= 2 ;\n", "3 rain\n4 sun\n"),
+            // All variables are named by their numbers, or there are none.
+            ("+1 x1 +1 x2 = 1 ;\n", ""),
+            ("", ""),
+            // A name counts where it comes first, in the objective too.
+            (
+                "min: +1 sun ;\n+1 rain +1 sun >= 1 ;\n+1 ~rain >= 0 ;\n",
+                "1 sun\n2 rain\n",
+            ),
+            // The first line tells of more variables than occur.
+            (
+                "* #variable= 5 #constraint= 1\n+1 a +1 x2 >= 1 ;\n",
+                "6 a\n",
+            ),
+            // A name has letters, digits and some signs; `x` and digits alone are none, but `x` is.
+            (
+                "+1 x +1 x1y +1 _x1 +1 X1 +1 a[1]{2}^-3_ >= 1 ;\n",
+                "1 x\n2 x1y\n3 _x1\n4 X1\n5 a[1]{2}^-3_\n",
+            ),
+            // Texts without a problem.
+            ("+1 2a >= 1 ;\n", "1 pbcnf: OPB 1:4: expected a literal"),
+            ("+1 a >= 1", "1 pbcnf: OPB 1:10: expected ;"),
+            // One variable is too much for the greatest number that the first line may tell.
+            (
+                "* #variable= 2147483647 #constraint= 1\n+1 a >= 1 ;\n",
+                "3 pbcnf: OPB 3:1: limit variables",
+            ),
+        ],
+    );
+    rt.each_told(&[("pbcnf map b", "", "4 pbcnf: read fault")]);
 }
 
 // What is told of a problem whose one name has so many bytes.

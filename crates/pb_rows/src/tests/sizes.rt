@@ -1,48 +1,43 @@
 use super::cases::Cases;
+use super::texts::ENCODE;
 
 // Where the choice of a family turns, with the size of what is chosen.
 #[test]
 fn families_are_chosen_by_size(rt: HostRuntime) {
     rt.each_sized(&[
         (
-            "pbcnf encode a c",
+            ENCODE,
             "+1 ~x1 +1 ~x2 +1 ~x3 +1 ~x4 +1 ~x5 +1 ~x6 >= 5 ;\n",
-            "variables 6 original 6 fresh 0 clauses 15\n\
-nothing 0 empty 0 clause 0 pairwise 1 ladder 0 product 0 counter 0 totalizer 0 diagram 0 tree 0 adder 0\n",
+            "variables 6 original 6 fresh 0 clauses 15\npairwise 1\n",
         ),
         (
-            "pbcnf encode a c",
+            ENCODE,
             "+1 ~x1 +1 ~x2 +1 ~x3 +1 ~x4 +1 ~x5 +1 ~x6 +1 ~x7 >= 6 ;\n",
-            "variables 13 original 7 fresh 6 clauses 17\n\
-nothing 0 empty 0 clause 0 pairwise 0 ladder 1 product 0 counter 0 totalizer 0 diagram 0 tree 0 adder 0\n",
+            "variables 13 original 7 fresh 6 clauses 17\nladder 1\n",
         ),
         (
-            "pbcnf encode a c",
+            ENCODE,
             "+1 ~x1 +1 ~x2 +1 ~x3 +1 ~x4 +1 ~x5 +1 ~x6 +1 ~x7 +1 ~x8 +1 ~x9 +1 ~x10 +1 ~x11 +1 ~x12 +1 \
 ~x13 +1 ~x14 +1 ~x15 +1 ~x16 +1 ~x17 +1 ~x18 +1 ~x19 +1 ~x20 +1 ~x21 +1 ~x22 +1 ~x23 +1 \
 ~x24 +1 ~x25 +1 ~x26 +1 ~x27 +1 ~x28 +1 ~x29 +1 ~x30 >= 29 ;\n",
-            "variables 59 original 30 fresh 29 clauses 86\n\
-nothing 0 empty 0 clause 0 pairwise 0 ladder 1 product 0 counter 0 totalizer 0 diagram 0 tree 0 adder 0\n",
+            "variables 59 original 30 fresh 29 clauses 86\nladder 1\n",
         ),
         (
-            "pbcnf encode a c",
+            ENCODE,
             "+1 ~x1 +1 ~x2 +1 ~x3 +1 ~x4 +1 ~x5 +1 ~x6 +1 ~x7 +1 ~x8 +1 ~x9 +1 ~x10 +1 ~x11 +1 ~x12 +1 \
 ~x13 +1 ~x14 +1 ~x15 +1 ~x16 +1 ~x17 +1 ~x18 +1 ~x19 +1 ~x20 +1 ~x21 +1 ~x22 +1 ~x23 +1 \
 ~x24 +1 ~x25 +1 ~x26 +1 ~x27 +1 ~x28 +1 ~x29 +1 ~x30 +1 ~x31 >= 30 ;\n",
-            "variables 53 original 31 fresh 22 clauses 94\n\
-nothing 0 empty 0 clause 0 pairwise 0 ladder 0 product 1 counter 0 totalizer 0 diagram 0 tree 0 adder 0\n",
+            "variables 53 original 31 fresh 22 clauses 94\nproduct 1\n",
         ),
         (
-            "pbcnf encode a c",
+            ENCODE,
             "+1 ~x1 +1 ~x2 +1 ~x3 +1 ~x4 +1 ~x5 +1 ~x6 +1 ~x7 +1 ~x8 +1 ~x9 +1 ~x10 >= 2 ;\n",
-            "variables 82 original 10 fresh 72 clauses 145\n\
-nothing 0 empty 0 clause 0 pairwise 0 ladder 0 product 0 counter 1 totalizer 0 diagram 0 tree 0 adder 0\n",
+            "variables 82 original 10 fresh 72 clauses 145\ncounter 1\n",
         ),
         (
-            "pbcnf encode a c",
+            ENCODE,
             "+1 ~x1 +1 ~x2 +1 ~x3 +1 ~x4 +1 ~x5 +1 ~x6 +1 ~x7 +1 ~x8 +1 ~x9 +1 ~x10 +1 ~x11 >= 2 ;\n",
-            "variables 49 original 11 fresh 38 clauses 94\n\
-nothing 0 empty 0 clause 0 pairwise 0 ladder 0 product 0 counter 0 totalizer 1 diagram 0 tree 0 adder 0\n",
+            "variables 49 original 11 fresh 38 clauses 94\ntotalizer 1\n",
         ),
     ]);
 }

@@ -53,23 +53,20 @@ fn hard_clauses_are_counted(rt: HostRuntime) {
             WCNF,
             COSTS,
             "c offset -1\nh 1 2 0\n3 -1 0\n1 -2 0\n",
-            "variables 2 original 2 fresh 0 clauses 1\n\
-nothing 0 empty 0 clause 1 pairwise 0 ladder 0 product 0 counter 0 totalizer 0 diagram 0 tree 0 adder 0\n",
+            "variables 2 original 2 fresh 0 clauses 1\nclause 1\n",
         ),
         (
             "pbcnf wcnf a w --at-most=2",
             COSTS,
             "c offset -1\nh 1 2 0\nh -1 -2 0\n3 -1 0\n1 -2 0\n",
-            "variables 2 original 2 fresh 0 clauses 2\n\
-nothing 0 empty 0 clause 2 pairwise 0 ladder 0 product 0 counter 0 totalizer 0 diagram 0 tree 0 adder 0\n",
+            "variables 2 original 2 fresh 0 clauses 2\nclause 2\n",
         ),
         (
             WCNF,
             PRODUCTS,
             "c offset -3\nh 1 -4 0\nh 2 -4 0\nh -1 -2 4 0\nh -1 -5 0\nh 3 -5 0\nh 1 -3 5 0\nh 1 3 0\n\
 2 -4 0\n3 5 0\n",
-            "variables 5 original 3 fresh 0 clauses 7 products 2\n\
-nothing 0 empty 0 clause 7 pairwise 0 ladder 0 product 0 counter 0 totalizer 0 diagram 0 tree 0 adder 0\n",
+            "variables 5 original 3 fresh 0 clauses 7 products 2\nclause 7\n",
         ),
     ]);
 }
