@@ -5,7 +5,7 @@ ghost use Rattle.pb_steps.specs.Sayable.{IsFactor, IsOp};
 ghost use Rattle.pb_steps.specs.StepGrammar.{op_symbols};
 
 use crate::op::PolOp;
-use crate::short::{id_of, literal_at, mark_at, number_at};
+use crate::short::{id_of, literal_at, long_number_at, mark_at};
 
 // A literal that is weakened or pushed.
 fn literal_op_at(left: &[u8]) -> Option<(PolOp, usize)>
@@ -20,14 +20,14 @@ fn literal_op_at(left: &[u8]) -> Option<(PolOp, usize)>
 }
 
 // A number as a factor, where it is one.
-fn factor_of(number: u64) -> Option<i128>
+fn factor_of(number: u128) -> Option<i128>
     ensures same { IfSome result (λ factor. factor ≡ pos number) }
     ensures factor { IfSome result IsFactor }
 {
-    if number == 0 {
+    if number == 0 || number >= 1 << 126 {
         return None;
     }
-    Some(i128::from(number))
+    Some(number as i128)
 }
 
 // A factor by its mark, or an id that is pushed.
@@ -36,7 +36,7 @@ fn number_op_at(left: &[u8]) -> Option<(PolOp, usize)>
     ensures op { IfSome result (λ r. IsOp r.0) }
 {
     let [b' ', word @ ..] = left else { return None };
-    let (value, count) = number_at(word)?;
+    let (value, count) = long_number_at(word)?;
     if mark_at(&left[count + 1..], b'*') {
         let factor = factor_of(value)?;
         return Some((PolOp::Mul(factor), count + 3));

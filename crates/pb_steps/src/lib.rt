@@ -27,9 +27,10 @@ pub use line_laws::{
     faults_say_nothing, faults_stand_first, lines_are_bounded, lines_differ, reads_what_is_said,
     written_line_reads,
 };
+pub use listed::ids_at;
 pub use op::{PolOp, Set};
 pub use read::read_step;
-pub use short::{digits_at, ends_at, mark_at, number_at};
+pub use short::{mark_at, number_at};
 pub use step::{PolOps, Sets, Step};
 pub use word::{id_in, number_between, token_fault};
 pub use write::write_step;

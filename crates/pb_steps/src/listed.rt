@@ -106,23 +106,22 @@ pub(crate) fn push_all<T: Listed>(out: &mut Vec<u8>, items: &[T]) -> Result<(), 
     Ok(())
 }
 
-// How much room is made for the words of these bytes before any is read: a word is four bytes with its blank or more, most are. It is
-// a guess, which costs no look at a byte, and bounded, so that what stands in a line takes no room before it is read.
-pub(crate) fn room_in(left: &[u8]) -> usize {
+// How much room is made for what these bytes list before any of it is read: a word is four bytes with its blank or more, most are. It
+// is a guess, which costs no look at a byte, and bounded, so that what stands in a line takes no room before it is read.
+fn room_in(left: &[u8]) -> usize {
     (left.len() / 4).min(MOST)
 }
 
-// Those at the front, and how many bytes they take, in a list with room for so many.
+// Those at the front, and how many bytes they take.
 pub(crate) fn items_at<T: Fronted>(
     alloc: Global,
     left: &[u8],
-    room: usize,
 ) -> Result<(Seq<T>, usize), AllocError>
     ensures within { IfOk result (λ r. r.1 ≤ length left.now) }
     ensures spells { IfOk result (λ r. Spells left.now (flat_map T.symbols r.0) r.1) }
     ensures each { IfOk result (λ r. AllByRecursion T.IsFine r.0) }
 {
-    let mut items = Vec::with_capacity(alloc, room)?;
+    let mut items = Vec::with_capacity(alloc, room_in(left))?;
     let mut at = 0usize;
     'items: while let Some((item, count)) = T::front(&left[at..]) {
         items.push(item)?;
@@ -131,11 +130,11 @@ pub(crate) fn items_at<T: Fronted>(
     Ok((Seq::from_vec(items), at))
 }
 
-// The ids at the front, in the same way.
-pub(crate) fn ids_at(alloc: Global, left: &[u8], room: usize) -> Result<(Ids, usize), AllocError>
+/// The ids at the front, each behind one blank, and how many bytes these words take.
+pub fn ids_at(alloc: Global, left: &[u8]) -> Result<(Ids, usize), AllocError>
     ensures within { IfOk result (λ r. r.1 ≤ length left.now) }
     ensures spells { IfOk result (λ r. Spells left.now (map number r.0) r.1) }
     ensures ids { IfOk result (λ r. AllByRecursion IsId r.0) }
 {
-    items_at(alloc, left, room)
+    items_at(alloc, left)
 }

@@ -8,7 +8,7 @@ ghost use Rattle.pb_steps.specs.StepGrammar.{bit_word, set_symbols};
 ghost use Rattle.pb_steps.specs.StepGrammar.StepSymbol.{integer, key};
 ghost use Rattle.pb_steps.specs.inner.Front.{SaysBehind};
 
-use crate::listed::{ids_at, items_at, room_in};
+use crate::listed::{ids_at, items_at};
 use crate::op::{PolOp, Set};
 use crate::short::{ends_at, id_at, integer_at, mark_at, pair_at, variable_at};
 use crate::step::{Sets, Step};
@@ -59,7 +59,7 @@ fn set_at(left: &[u8]) -> Option<(Set, usize)>
 fn pol_behind(alloc: Global, left: &[u8]) -> Result<Option<Step>, AllocError>
     ensures { IfOk result (λ found. IfSome found (SaysBehind (codes "pol") left.now)) }
 {
-    let (ops, count) = items_at::<PolOp>(alloc, left, room_in(left))?;
+    let (ops, count) = items_at::<PolOp>(alloc, left)?;
     if count == left.len() {
         Ok(Some(Step::Pol(ops)))
     } else {
@@ -70,12 +70,11 @@ fn pol_behind(alloc: Global, left: &[u8]) -> Result<Option<Step>, AllocError>
 fn rup_behind(alloc: Global, left: &[u8]) -> Result<Option<Step>, AllocError>
     ensures { IfOk result (λ found. IfSome found (SaysBehind (codes "rup") left.now)) }
 {
-    let words = room_in(left);
-    let (terms, first) = items_at::<Term>(alloc, left, words / 2)?;
+    let (terms, first) = items_at::<Term>(alloc, left)?;
     let Some((right, second)) = right_at(&left[first..]) else {
         return Ok(None)
     };
-    let (ids, third) = ids_at(alloc, &left[first + second..], words)?;
+    let (ids, third) = ids_at(alloc, &left[first + second..])?;
     if first + second + third == left.len() {
         Ok(Some(Step::Rup { terms, right, ids }))
     } else {
@@ -95,7 +94,7 @@ fn one_set(alloc: Global, set: Set) -> Result<Sets, AllocError>
 fn red_behind(alloc: Global, left: &[u8]) -> Result<Option<Step>, AllocError>
     ensures { IfOk result (λ found. IfSome found (SaysBehind (codes "red") left.now)) }
 {
-    let (terms, first) = items_at::<Term>(alloc, left, room_in(left) / 2)?;
+    let (terms, first) = items_at::<Term>(alloc, left)?;
     let Some((right, second)) = right_at(&left[first..]) else {
         return Ok(None)
     };
@@ -112,7 +111,7 @@ fn red_behind(alloc: Global, left: &[u8]) -> Result<Option<Step>, AllocError>
 fn del_behind(alloc: Global, left: &[u8]) -> Result<Option<Step>, AllocError>
     ensures { IfOk result (λ found. IfSome found (SaysBehind (codes "del") left.now)) }
 {
-    let (ids, count) = ids_at(alloc, left, room_in(left))?;
+    let (ids, count) = ids_at(alloc, left)?;
     if count == left.len() && ids.len() > 0 {
         Ok(Some(Step::Del(ids)))
     } else {

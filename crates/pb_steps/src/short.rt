@@ -13,8 +13,10 @@ use pb_base::{Lit, Term, Var};
 // A digit more fits behind what is less.
 const SHORT: u64 = 1 << 60;
 
-/// What digits at the front spell, as far as it is short, and how many they are.
-pub fn digits_at(bytes: &[u8]) -> (u64, usize)
+const LONG: u128 = 1 << 124;
+
+// What digits at the front spell, as far as it is short, and how many they are.
+fn digits_at(bytes: &[u8]) -> (u64, usize)
     ensures within { result.1 ≤ length bytes.now }
     ensures digits { AllDigits 10 (take result.1 bytes.now) }
     ensures value { result.0 ≡ digits_value 10 (take result.1 bytes.now) }
@@ -28,8 +30,26 @@ pub fn digits_at(bytes: &[u8]) -> (u64, usize)
     (value, count)
 }
 
+// The same with the digits behind so many that are known.
+fn more_digits(bytes: &[u8], known: u64, digits: usize) -> (u128, usize)
+    requires within { digits ≤ length bytes.now }
+    requires digits { AllDigits 10 (take digits bytes.now) }
+    requires value { known ≡ digits_value 10 (take digits bytes.now) }
+    ensures within { result.1 ≤ length bytes.now }
+    ensures digits { AllDigits 10 (take result.1 bytes.now) }
+    ensures value { result.0 ≡ digits_value 10 (take result.1 bytes.now) }
+{
+    let mut value = u128::from(known);
+    let mut count = digits;
+    'digits: while count < bytes.len() && value < LONG && bytes[count].is_ascii_digit() {
+        value = value * 10 + u128::from(bytes[count] - b'0');
+        count += 1;
+    }
+    (value, count)
+}
+
 /// Whether a word ends behind so many bytes, with the line or before a blank.
-pub fn ends_at(bytes: &[u8], count: usize) -> bool
+pub(crate) fn ends_at(bytes: &[u8], count: usize) -> bool
     ensures { IsTrue result → goes_on (drop count bytes.now) ≡ false }
 {
     match bytes.get(count) {
@@ -49,25 +69,37 @@ pub fn number_at(bytes: &[u8]) -> Option<(u64, usize)>
     Some((value, count))
 }
 
+/// The same of a number that may be long, as the factor is by which `pol` divides what is cut to its degree.
+pub(crate) fn long_number_at(bytes: &[u8]) -> Option<(u128, usize)>
+    ensures { IfSome result (λ r. IsNumberAt bytes.now r.0 r.1) }
+{
+    let (short, digits) = digits_at(bytes);
+    let (value, count) = more_digits(bytes, short, digits);
+    if count == 0 || !ends_at(bytes, count) {
+        return None;
+    }
+    Some((value, count))
+}
+
 /// A number as an id, where it is one.
-pub(crate) fn id_of(number: u64) -> Option<u64>
+pub(crate) fn id_of(number: u128) -> Option<u64>
     ensures same { IfSome result (λ id. id ≡ number) }
     ensures id { IfSome result IsId }
 {
     if number == 0 || number >= 1 << 63 {
         return None;
     }
-    Some(number)
+    Some(number as u64)
 }
 
 /// An id behind a blank, and how many bytes both take.
-pub fn id_at(left: &[u8]) -> Option<(u64, usize)>
+pub(crate) fn id_at(left: &[u8]) -> Option<(u64, usize)>
     ensures short { IfSome result (λ r. IsShort left.now (number r.0 ∷ []) r.1) }
     ensures id { IfSome result (λ r. IsId r.0) }
 {
     let [b' ', word @ ..] = left else { return None };
     let (number, count) = number_at(word)?;
-    let id = id_of(number)?;
+    let id = id_of(u128::from(number))?;
     Some((id, count + 1))
 }
 
