@@ -100,24 +100,6 @@ stands_removed (o ∷ ps) zero (suc p) c e = e
 stands_removed (o ∷ ps) (suc place) zero c e = e
 stands_removed (o ∷ ps) (suc place) (suc p) c e = stands_removed ps place p c e
 
-pub store_removed : (vars : ℕ) (ps : List (Option Constraint)) (lists : Lists) (kept : List Counters) (tight : List ℕ) (place : ℕ) → IsStore vars ps lists kept tight → IsStore vars (set ps place None) lists kept tight
-store_removed vars ps lists kept tight place s = record {
-  counts = record {
-    inner = s.counts.inner;
-    size = s.counts.size;
-    longer = omega (arith, s.counts.longer, length-set ps place None);
-    same = λ p c at. s.counts.same p c (stands_removed ps place p c at);
-    narrow = s.counts.narrow;
-    width = s.counts.width;
-    sums = s.counts.sums;
-    known = s.counts.known;
-    rooms = s.counts.rooms;
-    alerts = λ p c at. s.counts.alerts p c (stands_removed ps place p c at);
-  };
-  listed = λ p c at. s.listed p c (stands_removed ps place p c at);
-  even = s.even ∙ sym (length-set ps place None);
-}
-
 pub within_removed : (vars : ℕ) (ps : List (Option Constraint)) (place : ℕ) → StandWithin vars ps → StandWithin vars (set ps place None)
 within_removed vars ps place h p c at = h p c (stands_removed ps place p c at)
 
@@ -126,11 +108,3 @@ within_placed vars ps place c near new h p d at = elim (cases_eq p place) [
   | inl e ↦ let is : c ≡ d = cc (at_placed ps place c near, at, e) in subst (λ (x : Constraint). HasVarsWithin vars x.terms) is new
   | inr ne ↦ h p d (sym (at_placed_other ps place p c near ne) ∙ at)
 ]
-
--- the same after a sweep
-pub store_swept : (vars : ℕ) (ps : List (Option Constraint)) (lists : Lists) (kept kept' kept'' : List Counters) (tight tight' : List ℕ) → AreListed ps kept tight → ((p : ℕ) → alert_at kept' p ≡ alert_at kept p) → IsCounted vars ps lists kept'' [] → ((p : ℕ) (c : Constraint) → Stands ps p c → alert_at kept'' p ≡ alert_at kept' p) → length kept'' ≡ length ps → tight' ≡ tight → IsStore vars ps lists kept'' tight'
-store_swept vars ps lists kept kept' kept'' tight tight' listed entered counts alerts even same = record {
-  counts = counts;
-  listed = subst (AreListed ps kept'') (sym same) (λ p c at. elim (listed p c at) [ inl enough ↦ inl (omega (arith, enough, alerts p c at, entered p)) | inr there ↦ inr there ]);
-  even = even;
-}

@@ -1,12 +1,10 @@
 //! The greatest variable of constraints and of literals: a look at them where they stand, for which no terms are made.
-ghost use Rattle.std.specs.Prelude.{◌≡◌, ◌≤◌, ◌<◌, ◌^◌, All, IfOk};
-ghost use Rattle.pb_unit.specs.Reaching.{IsUpTo, OfConstraint, OfLit};
+ghost use Rattle.std.specs.Prelude.{◌≤◌, ◌<◌, ◌^◌, All};
+ghost use Rattle.pb_unit.specs.Reaching.{IsUpTo, OfLit};
 ghost use Rattle.pb_unit.specs.inner.Slots.{IsAloneUpTo};
 
-use crate::constraints::Constraints;
 use crate::places::Slot;
-use pb_base::{Lit, NoMemory, Term};
-use std::alloc::Global;
+use pb_base::{Lit, Term};
 
 // The greatest variable of terms, or a number that is no less.
 fn greatest_in(terms: &[Term], least: u32) -> u32
@@ -63,20 +61,10 @@ pub(crate) fn greatest_of_slots(slots: &[Slot], least: u32) -> u32
     most
 }
 
-/// The greatest variable of literals, or 0.
-pub fn greatest(lits: &[Lit]) -> u32
+// The greatest variable of literals, or 0.
+pub(crate) fn greatest(lits: &[Lit]) -> u32
     ensures within { All (OfLit (IsUpTo result)) lits.now }
     ensures few { result < 2 ^ 31 }
 {
     greatest_from(lits, 0)
-}
-
-/// The greatest variable of constraints, or a number that is no less. No memory is needed for that.
-pub fn greatest_of(_alloc: Global, forms: &Constraints, least: u32) -> Result<u32, NoMemory>
-    requires { least < 2 ^ 31 }
-    ensures within { IfOk result (λ most. All (OfConstraint (IsUpTo most)) forms.now) }
-    ensures no_less { IfOk result (λ most. least ≤ most) }
-    ensures few { IfOk result (λ most. most < 2 ^ 31) }
-{
-    Ok(forms.greatest(least))
 }

@@ -25,7 +25,6 @@ mod visit;
 pub use apart::is_conflicting;
 pub use constraints::Constraints;
 pub use engine::{Engine, Outcome};
-pub use highest::{greatest, greatest_of};
 pub use laws::{a_conflict_stays, a_refused_literal_conflicts, answers_over_clauses};
 pub use newest::newest_that;
 pub use numbering::{Names, lit_at, named_lits, numbered_forms, numbered_lits};

@@ -8,7 +8,7 @@ ghost use Rattle.pb_unit.specs.Reaching.{held_to, value_at, AreAscending, AreAss
 
 use crate::constraints::Constraints;
 use crate::engine::{Engine, Outcome};
-use crate::highest::{greatest, greatest_of};
+use crate::highest::greatest;
 use crate::numbering::{Names, lit_at, named_lits, numbered_forms, numbered_lits};
 use crate::rounds::Rounds;
 use pb_base::{Lit, Lits, NoMemory};
@@ -156,18 +156,14 @@ fn reached_by_places(
 
 /// The greatest variable of constraints and of literals, or a number that is no less, where tables up to it have no more entries
 /// than there are literals in all; else none, and it is for the variables to be numbered anew.
-pub fn modest_greatest(
-    alloc: Global,
-    forms: &Constraints,
-    given: &[Lit],
-) -> Result<Option<u32>, NoMemory>
-    ensures { IfOk result (λ found. IfSome found (FitsTables forms.now given.now)) }
+pub fn modest_greatest(forms: &Constraints, given: &[Lit]) -> Option<u32>
+    ensures { IfSome result (FitsTables forms.now given.now) }
 {
-    let most = greatest_of(alloc, forms, greatest(given))?;
+    let most = forms.greatest(greatest(given));
     if most as usize > forms.clause_lits().saturating_add(given.len()) {
-        return Ok(None);
+        return None;
     }
-    Ok(Some(most))
+    Some(most)
 }
 
 // The same over the variables as they are, or by their places where that takes less room.
@@ -179,7 +175,7 @@ fn reached_over(
     requires ascending { AreAscending given.now }
     ensures { IfOk result (λ found. MatchOption found (Conflict forms given.now) (λ v. AreReachedOver forms given.now v.items)) }
 {
-    match modest_greatest(alloc, &forms, given)? {
+    match modest_greatest(&forms, given) {
         Some(most) => reached_within(alloc, most, forms, given),
         None => reached_by_places(alloc, &forms, given),
     }
