@@ -110,7 +110,3 @@ pub rup_sayable : (ids : List ℕ) (clause : List Lit) → All IsId ids → All 
 rup_sayable ids clause known vars =
     let small : 1 < 2 ^ 126 = omega arith in
     (ones_sayable (distinct clause) (distinct-all (λ l. IsVariable l.var) clause vars), small, recursion_from_All IsId ids known)
-
--- clauses alone are a derivation with no reification
-pub claims_alone : (next : ℕ) (cs : List Claim) → phases next [] cs ≡ claim_steps next cs
-claims_alone next cs = append-nil (claim_steps (next + 2 * 0) cs) ∙ ap (λ (n : ℕ). claim_steps n cs) (let e : next + 2 * 0 ≡ next = omega arith in e)

@@ -10,18 +10,6 @@ use Rattle.pb_norm.specs.Addition.{coef_of}
 use Rattle.pb_derive.specs.inner.Follows.{degrees, weight_in, value_in, coef_in}
 use Rattle.pb_derive.proofs.Closing.{degrees-cons, weight_in-cons, value_in-cons, coef_in-cons}
 
-pub degrees-two : (s t : Constraint) → degrees (s ∷ t ∷ []) ≡ s.degree + t.degree
-degrees-two s t = omega (arith, degrees-cons s (t ∷ []), degrees-cons t [])
-
-pub value_in-two : (a : Assignment) (s t : Constraint) → value_in a (s ∷ t ∷ []) ≡ value a s.terms + value a t.terms
-value_in-two a s t = omega (arith, value_in-cons a s (t ∷ []), value_in-cons a t [])
-
-pub weight_in-two : (s t : Constraint) → weight_in (s ∷ t ∷ []) ≡ weight s.terms + weight t.terms
-weight_in-two s t = omega (arith, weight_in-cons s (t ∷ []), weight_in-cons t [])
-
-pub coef_in-two : (l : Lit) (s t : Constraint) → coef_in (s ∷ t ∷ []) l ≡ coef_of s.terms l + coef_of t.terms l
-coef_in-two l s t = omega (arith, coef_in-cons l s (t ∷ []), coef_in-cons l t [])
-
 -- a literal is one of two, or neither
 pub cases_two : (x y l : Lit) → (is_among (x ∷ y ∷ []) l ≡ true) ⊎ ((is_same x l ≡ false) × (is_same y l ≡ false))
 cases_two x y l =

@@ -182,17 +182,6 @@ defines-widened p front bs covers many within h =
 pub length-clauses : (z : Lit) (ls : List Lit) → length (product_clauses z ls) ≡ length ls + 1
 length-clauses z ls = omega (arith, length-append (map (implied z) ls) (implying z ls ∷ []), length-map ls (implied z))
 
--- the clause at the place of a literal
-pub clause-at : (z : Lit) (ls : List Lit) (i : ℕ) (l : Lit) → i < length ls → get_or (product_clauses z ls) i [] ≡ implied z (get_or ls i l)
-clause-at z ls i l lt = get_or_append_left (map (implied z) ls) (implying z ls ∷ []) [] i (omega (arith, lt, length-map ls (implied z))) ∙ get_or-map (implied z) ls i l [] lt
-
--- the clause behind these
-pub clause-last : (z : Lit) (ls : List Lit) (i : ℕ) → i ≡ length ls → get_or (product_clauses z ls) i [] ≡ implying z ls
-clause-last z ls i is =
-    let size : length (map (implied z) ls) ≡ i = length-map ls (implied z) ∙ sym is in
-    let none : i - i ≡ 0 = omega arith in
-    get_or-append_right (map (implied z) ls) (implying z ls ∷ []) i i [] size (omega arith) ∙ ap (λ (n : ℕ). get_or (implying z ls ∷ []) n []) none
-
 pub length-product : (z : Lit) (ls : List Lit) → length (product_constraints z ls) ≡ length ls + 1
 length-product z ls = length-map (product_clauses z ls) clause_form ∙ length-clauses z ls
 

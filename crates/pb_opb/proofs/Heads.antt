@@ -184,15 +184,6 @@ pub alone : (b : ℕ) (rest : List ℕ) → ((c : ℕ) → joins b c ≡ false) 
 alone b [] apart = refl
 alone b (c ∷ rest) apart = apart c
 
-pub semicolon-kind : (rest : List ℕ) → kind_of (token_at (59 ∷ rest)) ≡ semicolon
-semicolon-kind rest = ap kind_of (token-apart 59 rest (alone 59 rest (λ c. refl)))
-
-pub semicolon-rest : (rest : List ℕ) → rest ≡ behind (59 ∷ rest)
-semicolon-rest rest = sym (behind-apart 59 rest (alone 59 rest (λ c. refl)))
-
-pub equal-kind : (rest : List ℕ) → kind_of (token_at (61 ∷ rest)) ≡ relation Equal
-equal-kind rest = ap kind_of (token-apart 61 rest (alone 61 rest (λ c. refl)))
-
 pub equal-rest : (rest : List ℕ) → rest ≡ behind (61 ∷ rest)
 equal-rest rest = sym (behind-apart 61 rest (alone 61 rest (λ c. refl)))
 
@@ -202,15 +193,3 @@ before-equal b rest joined = token-joined b (61 ∷ rest) joined ∙ ap (λ (w :
 
 behind-equal : (b : ℕ) (rest : List ℕ) → joins b 61 ≡ true → rest ≡ behind (b ∷ 61 ∷ rest)
 behind-equal b rest joined = equal-rest rest ∙ sym (behind-joined b (61 ∷ rest) joined)
-
-pub at_least-kind : (rest : List ℕ) → kind_of (token_at (62 ∷ 61 ∷ rest)) ≡ relation AtLeast
-at_least-kind rest = ap kind_of (before-equal 62 rest refl)
-
-pub at_least-rest : (rest : List ℕ) → rest ≡ behind (62 ∷ 61 ∷ rest)
-at_least-rest rest = behind-equal 62 rest refl
-
-pub at_most-kind : (rest : List ℕ) → kind_of (token_at (60 ∷ 61 ∷ rest)) ≡ relation AtMost
-at_most-kind rest = ap kind_of (before-equal 60 rest refl)
-
-pub at_most-rest : (rest : List ℕ) → rest ≡ behind (60 ∷ 61 ∷ rest)
-at_most-rest rest = behind-equal 60 rest refl

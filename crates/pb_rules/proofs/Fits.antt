@@ -82,9 +82,6 @@ after_ops-fit vars live (op ∷ ops) stack after sound known fit e =
     step None one rest f g = absurd (none-some after g)
     step (Some next) one rest f g = rest next g (one next f)
 
-pub narrow-fit : (vars : ℕ) (stack : List Constraint) → AreSoundConstraints vars stack → All IsNarrow stack
-narrow-fit vars stack fit = All-weaker (IsSoundConstraint vars) IsNarrow (λ c h. h.narrow) stack fit
-
 -- ---- the topmost of a list that is kept from the bottom
 
 pub reverse_top : {X : Type 0} (old new : List X) (x : X) → old ≡ new ++ x ∷ [] → reverse old ≡ x ∷ reverse new
@@ -217,13 +214,6 @@ no_one_left db ops old e f g =
 pub outcome_true : (done : Bool) (after : Option (List Constraint)) (stack : List Constraint) → done ≡ true → IsOutcome done after stack → after ≡ Some stack
 outcome_true true after stack e h = h
 outcome_true false after stack e h = absurd (false≢true e)
-
-pub ops_more : (live : List Entry) (ops : List PolOp) (i : ℕ) (op : PolOp) (before after : List Constraint) → i < length ops → op ≡ get_or ops i op → done_op live op before ≡ Some after →
-    after_ops live (drop i ops) before ≡ after_ops live (drop (i + 1) ops) after
-ops_more live ops i op before after below at e =
-    let next : suc i ≡ i + 1 = omega arith in
-    let parts : drop i ops ≡ op ∷ drop (i + 1) ops = drop-cons ops i op below ∙ (ap (λ (x : PolOp). x ∷ drop (suc i) ops) (sym at) ∙ ap (λ (k : ℕ). op ∷ drop k ops) next) in
-    ap (λ (xs : List PolOp). after_ops live xs before) parts ∙ ap (option_and_then (after_ops live (drop (i + 1) ops))) e
 
 pub flat-at : {X Y : Type 0} (P : Y → Type 0) (f : X → List Y) (xs : List X) (i : ℕ) (d : X) → All P (flat_map f xs) → i < length xs → All P (f (get_or xs i d))
 flat-at P f [] i d h below = absurd (omega arith)

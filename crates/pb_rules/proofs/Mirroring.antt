@@ -395,10 +395,6 @@ none-taken : (ss : List Slot) → take 0 ss ≡ []
 none-taken [] = refl
 none-taken (s ∷ ss) = refl
 
--- of no slot
-pub mirrored-nothing : (vars : ℕ) (ss : List Slot) (s : EngineState) → s ≡ started vars [] → IsMirrored vars (take 0 ss) s
-mirrored-nothing vars ss s e = subst (λ (ts : List Slot). IsMirrored vars ts s) (sym (none-taken ss)) (mirrored-new vars [] [] [] s refl e refl)
-
 -- of all loaded constraints
 pub mirrored-loaded : (vars : ℕ) (cs : List Constraint) (s : EngineState) → s ≡ started vars cs → IsMirrored vars (take (length cs) (placed_from 0 cs)) s
 mirrored-loaded vars cs s e =

@@ -36,9 +36,6 @@ among_right cs ds es h c k = h c (Contains-append_right cs ds c k)
 
 -- ---- one, none and more
 
-pub shows_none : (ls : List Lit) → Shows true [] ls ls
-shows_none ls = record { advances = λ ds given h. stays ds given ls; calm = λ e c known. absurd (Contains-nil c known); short = tt }
-
 pub shows_one : (enough : Bool) (c : Constraint) (before after : List Lit) → ((ds : List Constraint) (given : List Lit) → Contains ds c → Advances ds given before after) → OnTrue enough (IsCalm (room before c.terms) after c) → OnFalse enough (room after c.terms < c.degree) → Shows enough (c ∷ []) before after
 shows_one enough c before after advances calm short = record {
   advances = λ ds given h. advances ds given (h c (Contains-here c []));
