@@ -12,7 +12,7 @@ use crate::emit::{full_carries, full_sums, half_threes, half_twos};
 use crate::gate::{Gate, GateLits, Wire};
 use crate::row::Row;
 use pb_base::Lit;
-use pb_family::{SinkFault, StepSink, derive_propagated};
+use pb_family::{SinkResult, StepSink, derive_propagated};
 use std::alloc::Global;
 
 /// Hands over that clauses of one length follow from constraints, and the clauses.
@@ -21,7 +21,7 @@ fn derive_each<const N: usize, T: StepSink>(
     ids: &[u64],
     clauses: &[[Lit; N]],
     sink: &mut T,
-) -> Result<(), SinkFault>
+) -> SinkResult
     requires few { (T.state sink.old).next + length clauses.now < 2 ^ 62 }
     ensures { HandsClaims (map (by_rup ids.now) clauses.now) result (T.state sink.old) (T.state sink.new) }
 {
@@ -38,7 +38,7 @@ fn derive_both<const N: usize, const M: usize, T: StepSink>(
     long: &[[Lit; N]],
     short: &[[Lit; M]],
     sink: &mut T,
-) -> Result<(), SinkFault>
+) -> SinkResult
     requires few { (T.state sink.old).next + length (long.now ++ short.now) < 2 ^ 62 }
     ensures { HandsClaims (map (by_rup ids.now) (long.now ++ short.now)) result (T.state sink.old) (T.state sink.new) }
 {
@@ -53,7 +53,7 @@ fn derive_gate<T: StepSink>(
     first: u32,
     id: u64,
     sink: &mut T,
-) -> Result<(), SinkFault>
+) -> SinkResult
     requires low { 1 ≤ first }
     requires fits { first + gate_needs gate.now ≤ 2 ^ 31 }
     requires given { id + 3 < 2 ^ 62 }
@@ -82,7 +82,7 @@ pub fn derive_gates<T: StepSink>(
     first: u32,
     id: u64,
     sink: &mut T,
-) -> Result<(), SinkFault>
+) -> SinkResult
     requires low { 1 ≤ first }
     requires fits { All (λ g. first + gate_needs g ≤ 2 ^ 31) gates.now }
     requires given { id + 4 * length gates.now < 2 ^ 62 }
@@ -98,12 +98,7 @@ pub fn derive_gates<T: StepSink>(
 }
 
 /// Hands over a clause that follows from the constraint with an id, if there is one.
-fn derive_row<T: StepSink>(
-    alloc: Global,
-    row: Option<Row>,
-    id: u64,
-    sink: &mut T,
-) -> Result<(), SinkFault>
+fn derive_row<T: StepSink>(alloc: Global, row: Option<Row>, id: u64, sink: &mut T) -> SinkResult
     requires room { (T.state sink.old).next + 1 < 2 ^ 62 }
     ensures { HandsClaims (row_claims id (rows_in row)) result (T.state sink.old) (T.state sink.new) }
 {
@@ -121,7 +116,7 @@ pub fn derive_rows<T: StepSink>(
     first: u32,
     id: u64,
     sink: &mut T,
-) -> Result<(), SinkFault>
+) -> SinkResult
     requires low { 1 ≤ first }
     requires few { length ends.now ≤ 128 }
     requires fits { All (λ e. first + end_needs e ≤ 2 ^ 31) ends.now }

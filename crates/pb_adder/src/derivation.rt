@@ -3,7 +3,7 @@ use crate::adder::Adder;
 use crate::claims::{derive_gates, derive_rows};
 use crate::reifications::derive_reifications;
 use crate::sums::{Summands, derive_last_deletion, derive_sums};
-use pb_family::{SinkFault, StepSink, derive_deletions};
+use pb_family::{SinkResult, StepSink, derive_deletions};
 use std::alloc::Global;
 
 impl Adder {
@@ -23,7 +23,7 @@ impl Adder {
         base: u64,
         last: u64,
         sink: &mut T,
-    ) -> Result<(), SinkFault>
+    ) -> SinkResult
         requires low { 1 ≤ first }
         requires fits { first + adder_fresh (weights self.now.terms) ≤ 2 ^ 31 }
         requires given { base ≤ 2 ^ 61 }
@@ -42,7 +42,7 @@ impl Adder {
         id: u64,
         base: u64,
         sink: &mut T,
-    ) -> Result<(), SinkFault>
+    ) -> SinkResult
         requires low { 1 ≤ first }
         requires fits { first + adder_fresh (weights self.now.terms) ≤ 2 ^ 31 }
         requires known { id < base }
@@ -67,7 +67,7 @@ impl Adder {
         first: u32,
         id: u64,
         sink: &mut T,
-    ) -> Result<(), SinkFault>
+    ) -> SinkResult
         requires low { 1 ≤ first }
         requires fits { first + adder_fresh (weights self.now.terms) ≤ 2 ^ 31 }
         requires known { id < (T.state sink.old).next }

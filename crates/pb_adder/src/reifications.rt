@@ -8,7 +8,7 @@ ghost use Rattle.pb_adder.specs.Gates.{gate_needs};
 
 use crate::gate::{FullAdder, Gate, GateLits, HalfAdder};
 use pb_base::{Lit, Term, Var};
-use pb_family::{SinkFault, StepSink, derive_reification};
+use pb_family::{SinkResult, StepSink, derive_reification};
 use std::alloc::Global;
 
 /// A carry that is off, which counts twice.
@@ -38,7 +38,7 @@ fn derive_meanings<T: StepSink>(
     bits: &[Term],
     all: &[Term],
     sink: &mut T,
-) -> Result<(), SinkFault>
+) -> SinkResult
     requires bits_light { weight (weights bits.now) + 2 < 2 ^ 124 }
     requires all_light { weight (weights all.now) + 3 < 2 ^ 124 }
     requires few { (T.state sink.old).next + 3 < 2 ^ 62 }
@@ -54,7 +54,7 @@ impl FullAdder {
     ghost use Rattle.pb_adder.specs.GateReifications.{adder_reifications};
 
     /// Hands over what its carry and its sum mean.
-    fn define<T: StepSink>(&self, alloc: Global, sink: &mut T) -> Result<(), SinkFault>
+    fn define<T: StepSink>(&self, alloc: Global, sink: &mut T) -> SinkResult
         requires few { (T.state sink.old).next + 3 < 2 ^ 62 }
         ensures { HandsReifications (adder_reifications (self.now.a ∷ self.now.b ∷ self.now.c ∷ []) self.now.sum.var self.now.carry.var) result (T.state sink.old) (T.state sink.new) }
     {
@@ -75,7 +75,7 @@ impl HalfAdder {
     ghost use Rattle.pb_adder.specs.GateReifications.{adder_reifications};
 
     /// Hands over what its carry and its sum mean.
-    fn define<T: StepSink>(&self, alloc: Global, sink: &mut T) -> Result<(), SinkFault>
+    fn define<T: StepSink>(&self, alloc: Global, sink: &mut T) -> SinkResult
         requires few { (T.state sink.old).next + 3 < 2 ^ 62 }
         ensures { HandsReifications (adder_reifications (self.now.a ∷ self.now.b ∷ []) self.now.sum.var self.now.carry.var) result (T.state sink.old) (T.state sink.new) }
     {
@@ -91,7 +91,7 @@ fn derive_gate_reifications<T: StepSink>(
     gate: &Gate,
     first: u32,
     sink: &mut T,
-) -> Result<(), SinkFault>
+) -> SinkResult
     requires low { 1 ≤ first }
     requires fits { first + gate_needs gate.now ≤ 2 ^ 31 }
     requires few { (T.state sink.old).next + 3 < 2 ^ 62 }
@@ -109,7 +109,7 @@ pub fn derive_reifications<T: StepSink>(
     gates: &[Gate],
     first: u32,
     sink: &mut T,
-) -> Result<(), SinkFault>
+) -> SinkResult
     requires low { 1 ≤ first }
     requires fits { All (λ g. first + gate_needs g ≤ 2 ^ 31) gates.now }
     requires few { (T.state sink.old).next + 4 * length gates.now < 2 ^ 62 }

@@ -5,7 +5,7 @@ ghost use Rattle.pb_steps.specs.declared.step.Step.TheVariants.{Pol};
 ghost use Rattle.pb_family.specs.StepSinks.{HandsSteps};
 ghost use Rattle.pb_adder.specs.AdderSteps.{blocks, last_deletion, last_sum, later_sums, line_ops, sum_ops, sum_steps, tree_ops};
 
-use pb_family::{SinkFault, StepSink, derive_deletion};
+use pb_family::{SinkResult, StepSink, derive_deletion};
 use pb_steps::{PolOp, PolOps, Step};
 use std::alloc::{AllocError, Global};
 
@@ -124,12 +124,7 @@ fn sum_step(alloc: Global, block: Block, running: u64) -> Result<Step, AllocErro
 }
 
 /// Hands over the sum of a block.
-fn derive_sum<T: StepSink>(
-    alloc: Global,
-    block: Block,
-    running: u64,
-    sink: &mut T,
-) -> Result<(), SinkFault>
+fn derive_sum<T: StepSink>(alloc: Global, block: Block, running: u64, sink: &mut T) -> SinkResult
     requires room { (T.state sink.old).next + 1 < 2 ^ 62 }
     ensures { HandsSteps (Pol (sum_ops block.entry.of.id block.entry.of.levels.now running) ∷ []) result (T.state sink.old) (T.state sink.new) }
 {
@@ -143,7 +138,7 @@ fn derive_later_sum<T: StepSink>(
     block: Block,
     running: u64,
     sink: &mut T,
-) -> Result<(), SinkFault>
+) -> SinkResult
     requires given { running < 2 ^ 62 }
     requires room { (T.state sink.old).next + 1 < 2 ^ 62 }
     ensures { HandsSteps (Pol (sum_ops block.entry.of.id block.entry.of.levels.now running) ∷ deletion_steps 1 running 1) result (T.state sink.old) (T.state sink.new) }
@@ -158,7 +153,7 @@ fn derive_later_sums<T: StepSink>(
     of: Summands,
     running: u64,
     sink: &mut T,
-) -> Result<u64, SinkFault>
+) -> SinkResult<u64>
     requires given { running < 2 ^ 62 }
     requires room { (T.state sink.old).next + length of.levels.now < 2 ^ 62 }
     ensures steps { HandsSteps (later_sums of.entry.id running (T.state sink.old).next (blocks of.entry.levels.now)) result (T.state sink.old) (T.state sink.new) }
@@ -183,7 +178,7 @@ pub fn derive_sums<T: StepSink>(
     of: Summands,
     running: u64,
     sink: &mut T,
-) -> Result<u64, SinkFault>
+) -> SinkResult<u64>
     requires room { (T.state sink.old).next + length of.levels.now < 2 ^ 62 }
     ensures steps { HandsSteps (sum_steps of.entry.id running (T.state sink.old).next (blocks of.entry.levels.now)) result (T.state sink.old) (T.state sink.new) }
     ensures last { IfOk result (λ last. last ≡ last_sum running (T.state sink.old).next (blocks of.entry.levels.now)) }
@@ -203,7 +198,7 @@ pub fn derive_last_deletion<T: StepSink>(
     levels: &[u32],
     last: u64,
     sink: &mut T,
-) -> Result<(), SinkFault>
+) -> SinkResult
     requires given { last < 2 ^ 63 }
     requires few { (T.state sink.old).next < 2 ^ 62 }
     ensures { HandsSteps (last_deletion last levels.now) result (T.state sink.old) (T.state sink.new) }

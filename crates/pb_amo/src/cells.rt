@@ -8,7 +8,7 @@ use crate::grid::Grid;
 use crate::source::Stride;
 use pb_base::{Term, Var};
 use pb_family::{
-    NumberedSteps, SinkFault, StepSink, derive_claim, derive_reification, derive_sum, fresh_at,
+    NumberedSteps, SinkResult, StepSink, derive_claim, derive_reification, derive_sum, fresh_at,
 };
 use std::alloc::{AllocError, Global};
 
@@ -90,7 +90,7 @@ impl Cells<'_> {
         stride: Stride,
         var: Var,
         sink: &mut T,
-    ) -> Result<(), SinkFault>
+    ) -> SinkResult
         requires room { (T.state sink.old).next + 1 < 2 ^ 62 }
         ensures { let s = self.now.grid.literals in (p : ℕ → Bool) → IsMet s stride (source_size s) p → HandsFrom (line_steps s var p) result (T.state sink.old) (T.state sink.new) }
     {
@@ -106,7 +106,7 @@ impl Cells<'_> {
         but: usize,
         id: u64,
         sink: &mut T,
-    ) -> Result<(), SinkFault>
+    ) -> SinkResult
         requires room { (T.state sink.old).next + 1 < 2 ^ 62 }
         ensures { let s = self.now.grid.literals in (p : ℕ → Bool) → IsMet s stride but p → HandsFrom (beside_steps s id p) result (T.state sink.old) (T.state sink.new) }
     {
@@ -137,12 +137,7 @@ impl NumberedSteps for Cells<'_> {
         self.grid.literals.len() * 2
     }
 
-    fn reify_one<T: StepSink>(
-        &self,
-        alloc: Global,
-        number: usize,
-        sink: &mut T,
-    ) -> Result<(), SinkFault> {
+    fn reify_one<T: StepSink>(&self, alloc: Global, number: usize, sink: &mut T) -> SinkResult {
         let var = fresh_at(self.grid.first, number).var;
         let rows = self.grid.sides.rows;
         if number < rows {
@@ -152,12 +147,7 @@ impl NumberedSteps for Cells<'_> {
         }
     }
 
-    fn claim_one<T: StepSink>(
-        &self,
-        alloc: Global,
-        number: usize,
-        sink: &mut T,
-    ) -> Result<(), SinkFault> {
+    fn claim_one<T: StepSink>(&self, alloc: Global, number: usize, sink: &mut T) -> SinkResult {
         let sides = self.grid.sides;
         let place = number / 2;
         if number % 2 == 0 {
@@ -192,7 +182,7 @@ pub fn derive_line_sum<T: StepSink>(
     base: u64,
     count: usize,
     sink: &mut T,
-) -> Result<(), SinkFault>
+) -> SinkResult
     requires low { base < 2 ^ 62 }
     requires narrow { count < 2 ^ 31 }
     requires room { (T.state sink.old).next < 2 ^ 62 }

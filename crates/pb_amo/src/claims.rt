@@ -6,7 +6,7 @@ ghost use Rattle.pb_amo.specs.PairwiseSteps.{pairwise_steps};
 ghost use Rattle.pb_amo.specs.inner.Source.{source_literals};
 
 use crate::source::Source;
-use pb_family::{SinkFault, StepSink, derive_propagated};
+use pb_family::{SinkResult, StepSink, derive_propagated};
 use std::alloc::Global;
 
 /// Hands over that each clause of two of the literals follows from the constraint with an id, and the clauses.
@@ -15,7 +15,7 @@ pub(crate) fn derive_pairs<T: StepSink>(
     literals: &Source,
     id: u64,
     sink: &mut T,
-) -> Result<(), SinkFault>
+) -> SinkResult
     requires few { length (source_literals literals.now) < 2 ^ 31 }
     requires room { (T.state sink.old).next + pair_count (length (source_literals literals.now)) < 2 ^ 62 }
     ensures { HandsSteps (pairwise_steps (source_literals literals.now) id (T.state sink.old).next) result (T.state sink.old) (T.state sink.new) }

@@ -11,7 +11,7 @@ use crate::claims::derive_pairs;
 use crate::grid::Grid;
 use crate::sides::{fresh_of, sides_of};
 use crate::source::{Line, Source};
-use pb_family::{SinkFault, StepSink, claim_all, derive_deletion, derive_deletions, reify_all};
+use pb_family::{SinkResult, StepSink, claim_all, derive_deletion, derive_deletions, reify_all};
 use std::alloc::Global;
 
 /// That at most one of some lines has a true literal, the steps of the grid of these lines, and that their sum goes.
@@ -23,7 +23,7 @@ fn derive_side<T: StepSink>(
     of: Line,
     inner: u32,
     sink: &mut T,
-) -> Result<(), SinkFault>
+) -> SinkResult
     requires known { base < 2 ^ 62 }
     requires low { 1 ≤ inner }
     requires fits { inner + product_fresh of.count ≤ 2 ^ 31 }
@@ -44,7 +44,7 @@ pub fn derive_grid<T: StepSink>(
     first: u32,
     id: u64,
     sink: &mut T,
-) -> Result<(), SinkFault>
+) -> SinkResult
     requires low { 1 ≤ first }
     requires few { source_size literals.now < 2 ^ 31 }
     requires fits { first + product_fresh (source_size literals.now) ≤ 2 ^ 31 }

@@ -9,7 +9,7 @@ ghost use Rattle.pb_amo.specs.inner.Source.{source_literals};
 use crate::claims::derive_pairs;
 use crate::source::Source;
 use pb_base::Failed;
-use pb_family::{ClauseSink, Derive, Family, SinkFault, StepSink, Strong};
+use pb_family::{ClauseSink, Derive, Family, SinkResult, StepSink, Strong};
 use pb_norm::AtMost;
 use std::alloc::Global;
 
@@ -54,10 +54,6 @@ pub(crate) fn emit_pairs<S: ClauseSink>(literals: &Source, sink: &mut S) -> Resu
 }
 
 impl Family for Pairwise<'_> {
-    ghost use Rattle.std.specs.Prelude.{◌≡◌, ◌≢◌, ◌≤◌, ◌+◌, ◌^◌, Err};
-    ghost use Rattle.pb_family.specs.Families.{VarsBelow};
-    ghost use Rattle.pb_family.specs.Handing.{HandsIfMemory};
-    ghost use Rattle.pb_family.specs.declared.sink.SinkFault.TheVariants as fault;
     ghost use Rattle.pb_amo.specs.laws.PairwiseLaws.{pairwise_sound, pairwise_extends, pairwise_counts, pairwise_names};
 
     ghost constraint = { λ f. f.of.now };
@@ -67,6 +63,8 @@ impl Family for Pairwise<'_> {
     ghost clause_count = { λ f. pair_count (length f.of.now.terms) };
 
     ghost clause_list = { λ f _. pairwise_clauses (lits_of f.of.now.terms) };
+
+    ghost TakesNoMemory = { λ _. Unit {0} };
 
     fn fresh(&self) -> u64 {
         0
@@ -81,13 +79,7 @@ impl Family for Pairwise<'_> {
         }
     }
 
-    fn emit<S: ClauseSink>(&self, alloc: Global, first: u32, sink: &mut S) -> Result<(), SinkFault>
-        requires original { VarsBelow first (⟦<Self as Family>⟧.constraint self.now).terms }
-        requires low { 1 ≤ first }
-        requires fits { first + ⟦<Self as Family>⟧.fresh_count self.now ≤ 2 ^ 31 }
-        ensures hands { HandsIfMemory (⟦<Self as Family>⟧.clause_list self.now first) result (S.state sink.old) (S.state sink.new) }
-        ensures never { result ≢ Err fault.NoMemory }
-    {
+    fn emit<S: ClauseSink>(&self, alloc: Global, first: u32, sink: &mut S) -> SinkResult {
         let _ = alloc;
         let _ = first;
         emit_pairs(&Source::OfTerms(self.of.terms()), sink)?;
@@ -116,13 +108,7 @@ impl Derive for Pairwise<'_> {
 
     ghost step_list = { λ f first id next. pairwise_steps (lits_of f.of.now.terms) id next };
 
-    fn derive<T: StepSink>(
-        &self,
-        alloc: Global,
-        first: u32,
-        id: u64,
-        sink: &mut T,
-    ) -> Result<(), SinkFault> {
+    fn derive<T: StepSink>(&self, alloc: Global, first: u32, id: u64, sink: &mut T) -> SinkResult {
         let _ = first;
         derive_pairs(alloc, &Source::OfTerms(self.of.terms()), id, sink)
     }

@@ -5,7 +5,8 @@ ghost use Rattle.pb_norm.specs.Constraints.{weight, weights};
 use crate::rung::Place;
 use crate::rungs::Rungs;
 use pb_family::{
-    NumberedClauses, NumberedSteps, SinkFault, StepSink, derive_claim, derive_reification, fresh_at,
+    NumberedClauses, NumberedSteps, SinkResult, StepSink, derive_claim, derive_reification,
+    fresh_at,
 };
 use std::alloc::Global;
 
@@ -61,22 +62,12 @@ impl NumberedSteps for RungSteps<'_> {
         self.rungs.clauses()
     }
 
-    fn reify_one<T: StepSink>(
-        &self,
-        alloc: Global,
-        number: usize,
-        sink: &mut T,
-    ) -> Result<(), SinkFault> {
+    fn reify_one<T: StepSink>(&self, alloc: Global, number: usize, sink: &mut T) -> SinkResult {
         let var = fresh_at(self.rungs.first, number).var;
         derive_reification(alloc, var, &self.rungs.terms[number + 1..], 1, sink)
     }
 
-    fn claim_one<T: StepSink>(
-        &self,
-        alloc: Global,
-        number: usize,
-        sink: &mut T,
-    ) -> Result<(), SinkFault> {
+    fn claim_one<T: StepSink>(&self, alloc: Global, number: usize, sink: &mut T) -> SinkResult {
         let terms = self.rungs.terms;
         match self.rungs.place(number) {
             Place::Link(k) => {

@@ -4,7 +4,7 @@ use crate::held::{AdderOf, AtMostOne, Cardinality, DiagramOf, TotalizerOf, TreeO
 use crate::treatment::Treatment;
 use pb_amo::{Ladder, Pairwise, ProductGrid};
 use pb_counter::Counter;
-use pb_family::{ClauseSink, Derive, Family, SinkFault, StepSink};
+use pb_family::{ClauseSink, Derive, Family, SinkResult, StepSink};
 use std::alloc::Global;
 
 /// A sum and the family that stands for it. What takes time to build is built once.
@@ -94,12 +94,7 @@ impl Family for Chosen {
         }
     }
 
-    fn emit<S: ClauseSink>(
-        &self,
-        alloc: Global,
-        first: u32,
-        sink: &mut S,
-    ) -> Result<(), SinkFault> {
+    fn emit<S: ClauseSink>(&self, alloc: Global, first: u32, sink: &mut S) -> SinkResult {
         match self {
             Chosen::Pairwise(held) => Pairwise::over(&held.sum).emit(alloc, first, sink),
             Chosen::Ladder(held) => Ladder::over(&held.sum).emit(alloc, first, sink),
@@ -129,13 +124,7 @@ impl Derive for Chosen {
 
     ghost step_list = { λ f. sum_steps (treatment_at f) (sum_at f) };
 
-    fn derive<T: StepSink>(
-        &self,
-        alloc: Global,
-        first: u32,
-        id: u64,
-        sink: &mut T,
-    ) -> Result<(), SinkFault> {
+    fn derive<T: StepSink>(&self, alloc: Global, first: u32, id: u64, sink: &mut T) -> SinkResult {
         match self {
             Chosen::Pairwise(held) => Pairwise::over(&held.sum).derive(alloc, first, id, sink),
             Chosen::Ladder(held) => Ladder::over(&held.sum).derive(alloc, first, id, sink),

@@ -10,17 +10,12 @@ ghost use Rattle.pb_choice.specs.Chosen.{sum_at, treatment_at};
 
 use crate::chosen::Chosen;
 use pb_base::Lits;
-use pb_family::{Derive, SinkFault, StepSink, derive_deletion, derive_propagated};
+use pb_family::{Derive, SinkResult, StepSink, derive_deletion, derive_propagated};
 use pb_steps::Step;
 use std::alloc::Global;
 
 /// Hands over that each unit follows from the constraint with an id, and its clause.
-pub fn derive_units<T: StepSink>(
-    alloc: Global,
-    units: &Lits,
-    id: u64,
-    sink: &mut T,
-) -> Result<(), SinkFault>
+pub fn derive_units<T: StepSink>(alloc: Global, units: &Lits, id: u64, sink: &mut T) -> SinkResult
     requires room { (T.state sink.old).next + length units.now < 2 ^ 62 }
     ensures { HandsClaims (unit_claims id units.now) result (T.state sink.old) (T.state sink.new) }
 {
@@ -37,7 +32,7 @@ pub fn derive_reduced<T: StepSink>(
     reduces: &Step,
     first: u32,
     sink: &mut T,
-) -> Result<(), SinkFault>
+) -> SinkResult
     requires original { VarsBelow first (sum_at chosen.now).terms }
     requires low { 1 ≤ first }
     requires fits { first + sum_fresh (treatment_at chosen.now) (sum_at chosen.now) ≤ 2 ^ 31 }

@@ -4,7 +4,7 @@ ghost use Rattle.pb_family.specs.Handing.{Hands, HandsIfMemory};
 ghost use Rattle.pb_choice.specs.Clauses.{unit_clause};
 
 use pb_base::{Failed, Lit, Lits};
-use pb_family::{ClauseSink, SinkFault};
+use pb_family::{ClauseSink, SinkResult};
 
 /// Hands over unit clauses.
 pub fn emit_units<S: ClauseSink>(units: &Lits, sink: &mut S) -> Result<(), Failed>
@@ -17,7 +17,7 @@ pub fn emit_units<S: ClauseSink>(units: &Lits, sink: &mut S) -> Result<(), Faile
 }
 
 /// Hands over one clause.
-pub fn emit_one<S: ClauseSink>(clause: &[Lit], sink: &mut S) -> Result<(), SinkFault>
+pub fn emit_one<S: ClauseSink>(clause: &[Lit], sink: &mut S) -> SinkResult
     ensures { HandsIfMemory (clause.now ∷ []) result (S.state sink.old) (S.state sink.new) }
 {
     sink.clause(clause)?;

@@ -3,7 +3,7 @@
 use crate::equal_derivation::derive_joint;
 use crate::equal_halves::{HalfIds, count_halves, derive_halves, emit_halves};
 use crate::plans::{Counts, Plan};
-use pb_family::{ClauseSink, Pair, SinkFault, StepSink};
+use pb_family::{ClauseSink, Pair, SinkResult, StepSink};
 use pb_totalizer::Exact;
 use std::alloc::Global;
 
@@ -46,12 +46,7 @@ impl EqualPlan<'_> {
     }
 
     /// Hands over the clauses, with the fresh variables from `first` on.
-    pub fn emit<S: ClauseSink>(
-        &self,
-        alloc: Global,
-        first: u32,
-        sink: &mut S,
-    ) -> Result<(), SinkFault>
+    pub fn emit<S: ClauseSink>(&self, alloc: Global, first: u32, sink: &mut S) -> SinkResult
         requires original { IsPlannedBelow first self.now }
         requires low { 1 ≤ first }
         requires fits { first + planned_fresh self.now ≤ 2 ^ 31 }
@@ -71,7 +66,7 @@ impl EqualPlan<'_> {
         low: u64,
         high: u64,
         sink: &mut T,
-    ) -> Result<(), SinkFault>
+    ) -> SinkResult
         requires original { IsPlannedBelow first self.now }
         requires from { 1 ≤ first }
         requires fits { first + planned_fresh self.now ≤ 2 ^ 31 }

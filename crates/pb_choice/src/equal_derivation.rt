@@ -7,7 +7,7 @@ ghost use Rattle.pb_choice.specs.declared.equal.EqualPlan.TheVariants.{Joint};
 ghost use Rattle.pb_choice.specs.inner.Ready.{MayDerive};
 
 use crate::equal_halves::HalfIds;
-use pb_family::{Pair, SinkFault, StepSink, derive_deletion};
+use pb_family::{Pair, SinkResult, StepSink, derive_deletion};
 use pb_steps::{PolOp, PolOps, Step};
 use pb_totalizer::Exact;
 use std::alloc::{AllocError, Global};
@@ -23,12 +23,7 @@ fn quotient_step(alloc: Global, id: u64, coef: &i128) -> Result<Step, AllocError
 }
 
 // Hands over that all numbers of the constraint with an id are divided.
-fn derive_quotient<T: StepSink>(
-    alloc: Global,
-    id: u64,
-    coef: &i128,
-    sink: &mut T,
-) -> Result<(), SinkFault>
+fn derive_quotient<T: StepSink>(alloc: Global, id: u64, coef: &i128, sink: &mut T) -> SinkResult
     requires few { (T.state sink.old).next < 2 ^ 62 }
     ensures { HandsSteps (quotient_step id coef.now ∷ []) result (T.state sink.old) (T.state sink.new) }
 {
@@ -44,7 +39,7 @@ pub fn derive_joint<T: StepSink>(
     first: u32,
     ids: HalfIds,
     sink: &mut T,
-) -> Result<(), SinkFault>
+) -> SinkResult
     requires ready { MayDerive first ids.low ids.high (T.state sink.old).next (Joint exact.now coef.now) }
     ensures { HandsFrom (joint_steps (exact_sum exact.now) coef.now first ids.low ids.high) result (T.state sink.old) (T.state sink.new) }
 {

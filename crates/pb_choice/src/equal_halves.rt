@@ -7,7 +7,7 @@ ghost use Rattle.pb_choice.specs.inner.Ready.{MayDerive, MayEmit};
 ghost use Rattle.pb_choice.specs.HalfPlans.{halves_clauses, halves_steps, plan_count, plan_fresh};
 
 use crate::plans::{Counts, Plan};
-use pb_family::{ClauseSink, SinkFault, StepSink};
+use pb_family::{ClauseSink, SinkResult, StepSink};
 use std::alloc::Global;
 
 /// The ids of an equality's halves.
@@ -37,7 +37,7 @@ pub fn emit_halves<S: ClauseSink>(
     upper: &Plan<'_>,
     first: u32,
     sink: &mut S,
-) -> Result<(), SinkFault>
+) -> SinkResult
     requires ready { MayEmit first (Split lower.now upper.now) }
     ensures { HandsIfMemory (halves_clauses lower.now upper.now first) result (S.state sink.old) (S.state sink.new) }
 {
@@ -54,7 +54,7 @@ pub fn derive_halves<T: StepSink>(
     first: u32,
     ids: HalfIds,
     sink: &mut T,
-) -> Result<(), SinkFault>
+) -> SinkResult
     requires ready { MayDerive first ids.low ids.high (T.state sink.old).next (Split lower.now upper.now) }
     ensures { HandsFrom (halves_steps lower.now upper.now first ids.low ids.high) result (T.state sink.old) (T.state sink.new) }
 {

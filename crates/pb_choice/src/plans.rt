@@ -17,7 +17,7 @@ use crate::reducing::Origin;
 use crate::residual::Residual;
 use crate::treatment::Treatment;
 use pb_base::{Lits, Options};
-use pb_family::{ClauseSink, SinkFault, StepSink};
+use pb_family::{ClauseSink, SinkResult, StepSink};
 use pb_norm::Linear;
 use std::alloc::Global;
 
@@ -88,12 +88,7 @@ impl Plan<'_> {
     }
 
     /// Hands over the clauses: the units, and then those of what is left, with the fresh variables from `first` on.
-    pub fn emit<S: ClauseSink>(
-        &self,
-        alloc: Global,
-        first: u32,
-        sink: &mut S,
-    ) -> Result<(), SinkFault>
+    pub fn emit<S: ClauseSink>(&self, alloc: Global, first: u32, sink: &mut S) -> SinkResult
         requires original { VarsBelow first self.now.constraint.now.terms }
         requires low { 1 ≤ first }
         requires fits { first + constraint_fresh self.now.options self.now.constraint.now ≤ 2 ^ 31 }
@@ -111,7 +106,7 @@ impl Plan<'_> {
         first: u32,
         id: u64,
         sink: &mut T,
-    ) -> Result<(), SinkFault>
+    ) -> SinkResult
         requires original { VarsBelow first self.now.constraint.now.terms }
         requires low { 1 ≤ first }
         requires fits { first + constraint_fresh self.now.options self.now.constraint.now ≤ 2 ^ 31 }

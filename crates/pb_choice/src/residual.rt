@@ -7,7 +7,7 @@ use crate::lent::Lent;
 use crate::reducing::{Origin, reducing_step};
 use crate::treatment::Treatment;
 use pb_base::Lits;
-use pb_family::{ClauseSink, Family, SinkFault, StepSink, derive_propagated};
+use pb_family::{ClauseSink, Family, SinkResult, StepSink, derive_propagated};
 use std::alloc::Global;
 
 /// What is left of a constraint, with the family that was chosen for it.
@@ -86,12 +86,7 @@ impl Residual<'_> {
     }
 
     /// Hands over its clauses, with the fresh variables from `first` on.
-    pub fn emit<S: ClauseSink>(
-        &self,
-        alloc: Global,
-        first: u32,
-        sink: &mut S,
-    ) -> Result<(), SinkFault>
+    pub fn emit<S: ClauseSink>(&self, alloc: Global, first: u32, sink: &mut S) -> SinkResult
         requires original { VarsBelow first (left_terms self.now) }
         requires low { 1 ≤ first }
         requires fits { first + left_fresh self.now ≤ 2 ^ 31 }
@@ -112,7 +107,7 @@ impl Residual<'_> {
         origin: &Origin<'_>,
         first: u32,
         sink: &mut T,
-    ) -> Result<(), SinkFault>
+    ) -> SinkResult
         requires original { VarsBelow first (left_terms self.now) }
         requires low { 1 ≤ first }
         requires fits { first + left_fresh self.now ≤ 2 ^ 31 }

@@ -6,7 +6,8 @@ use crate::grid::Grid;
 use crate::place::Place;
 use pb_base::Term;
 use pb_family::{
-    NumberedClauses, NumberedSteps, SinkFault, StepSink, derive_claim, derive_reification, fresh_at,
+    NumberedClauses, NumberedSteps, SinkResult, StepSink, derive_claim, derive_reification,
+    fresh_at,
 };
 use std::alloc::Global;
 
@@ -118,24 +119,14 @@ impl NumberedSteps for Derivation<'_> {
         self.grid.clauses()
     }
 
-    fn reify_one<T: StepSink>(
-        &self,
-        alloc: Global,
-        number: usize,
-        sink: &mut T,
-    ) -> Result<(), SinkFault> {
+    fn reify_one<T: StepSink>(&self, alloc: Global, number: usize, sink: &mut T) -> SinkResult {
         let var = fresh_at(self.grid.first, number).var;
         let seen = number / self.grid.width + 1;
         let least = number % self.grid.width + 1;
         derive_reification(alloc, var, &self.grid.terms[..seen], least as u128, sink)
     }
 
-    fn claim_one<T: StepSink>(
-        &self,
-        alloc: Global,
-        number: usize,
-        sink: &mut T,
-    ) -> Result<(), SinkFault> {
+    fn claim_one<T: StepSink>(&self, alloc: Global, number: usize, sink: &mut T) -> SinkResult {
         let place = self.grid.place(number);
         let beside = self.beside(place);
         match self.sources(place) {

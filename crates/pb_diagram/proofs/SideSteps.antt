@@ -23,14 +23,6 @@ none_yet : (c : BoundedSum) (known : List (List Interval)) (wanted : List ℕ) (
 none_yet c known wanted zero = tt
 none_yet c known wanted (suc i) = tt
 
--- nothing is kept at the start
-pub sides_start : (c : BoundedSum) (known : List (List Interval)) (wanted : List ℕ) (sides : List (Option Interval)) → length wanted ≡ 1 → sides ≡ None ∷ [] → IsKept c known wanted sides None
-sides_start c known wanted sides one is = record {
-  each = ap length is ∙ sym one;
-  offs = λ i within. subst (λ (l : List (Option Interval)). IsSideAt c known wanted i (get_or l i None)) (sym is) (none_yet c known wanted i);
-  among = tt;
-}
-
 -- one more residue is wanted, and of the one before it is kept what its false child says
 pub sides_want : (c : BoundedSum) (known : List (List Interval)) (wanted : List ℕ) (sides : List (Option Interval)) (i child : ℕ) (off last : Option Interval) → IsKept c known wanted sides last → i + 1 ≡ length wanted → IsSideAt c known wanted i off
     → IsKept c known (wanted ++ child ∷ []) (set sides i off ++ None ∷ []) None

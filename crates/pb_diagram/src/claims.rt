@@ -3,7 +3,7 @@ ghost use Rattle.std.specs.Prelude.{◌≤◌, ◌<◌, ◌+◌, ◌*◌, ◌^�
 
 use crate::interval::Interval;
 use crate::layer::Layer;
-use pb_family::{SinkFault, StepSink, derive_claim};
+use pb_family::{SinkResult, StepSink, derive_claim};
 use std::alloc::Global;
 
 /// A level whose nodes' constraints have the ids from `id` on, two each, and those of the next level's nodes from `after` on.
@@ -41,7 +41,7 @@ impl Claims<'_> {
         place: usize,
         node: Interval,
         sink: &mut T,
-    ) -> Result<(), SinkFault>
+    ) -> SinkResult
         requires within { place < length self.now.layer.nodes.now }
         requires held { node.low < self.now.layer.whole → HasPlace self.now.layer.next.now node.low }
         requires few { (T.state sink.old).next + 1 < 2 ^ 62 }
@@ -62,7 +62,7 @@ impl Claims<'_> {
         place: usize,
         node: Interval,
         sink: &mut T,
-    ) -> Result<(), SinkFault>
+    ) -> SinkResult
         requires within { place < length self.now.layer.nodes.now }
         requires held { (weighted self.now.layer.term.now).coef ≤ node.low → HasPlace self.now.layer.next.now (node.low - (weighted self.now.layer.term.now).coef) }
         requires few { (T.state sink.old).next + 1 < 2 ^ 62 }
@@ -79,7 +79,7 @@ impl Claims<'_> {
     }
 
     /// Both of each node of the level.
-    pub fn derive_level<T: StepSink>(&self, alloc: Global, sink: &mut T) -> Result<(), SinkFault>
+    pub fn derive_level<T: StepSink>(&self, alloc: Global, sink: &mut T) -> SinkResult
         requires few { (T.state sink.old).next + 2 * length self.now.layer.nodes.now < 2 ^ 62 }
         ensures { HandsJustifications (layer_justifications self.now.layer self.now.after self.now.id) result (T.state sink.old) (T.state sink.new) }
     {

@@ -15,7 +15,7 @@ use crate::level::nodes_after;
 use crate::shape::Shape;
 use pb_base::Term;
 use pb_family::{
-    SinkFault, StepSink, derive_claim, derive_deletions, derive_reification, fresh_at,
+    SinkResult, StepSink, derive_claim, derive_deletions, derive_reification, fresh_at,
 };
 use pb_norm::weight_of;
 use std::alloc::{AllocError, Global};
@@ -44,12 +44,7 @@ struct Sides<'a> {
 }
 
 /// What the nodes of a level mean.
-fn define_level<T: StepSink>(
-    alloc: Global,
-    sides: Sides,
-    first: u32,
-    sink: &mut T,
-) -> Result<(), SinkFault>
+fn define_level<T: StepSink>(alloc: Global, sides: Sides, first: u32, sink: &mut T) -> SinkResult
     requires low { 1 ≤ first }
     requires high { first + length sides.nodes.now ≤ 2 ^ 31 }
     requires few { (T.state sink.old).next + 2 * length sides.nodes.now < 2 ^ 62 }
@@ -90,7 +85,7 @@ impl Derivation<'_> {
     ghost use Rattle.pb_diagram.specs.inner.Layers.{shape_reifications, shape_sum};
 
     /// What all nodes mean.
-    fn define_nodes<T: StepSink>(&self, alloc: Global, sink: &mut T) -> Result<(), SinkFault>
+    fn define_nodes<T: StepSink>(&self, alloc: Global, sink: &mut T) -> SinkResult
         requires few { (T.state sink.old).next ≤ 2 ^ 61 }
         ensures { HandsSteps (reification_steps (T.state sink.old).next (shape_reifications self.now.shape self.now.first)) result (T.state sink.old) (T.state sink.new) }
     {
@@ -109,7 +104,7 @@ impl Derivation<'_> {
     }
 
     /// Why all clauses hold.
-    fn derive_clauses<T: StepSink>(&self, alloc: Global, sink: &mut T) -> Result<(), SinkFault>
+    fn derive_clauses<T: StepSink>(&self, alloc: Global, sink: &mut T) -> SinkResult
         requires few { (T.state sink.old).next ≤ 2 ^ 61 + 2 ^ 32 }
         ensures { HandsJustifications (justifications_over (weights self.now.shape.terms.now) self.now.shape.levels.now 0 self.now.base self.now.own) result (T.state sink.old) (T.state sink.new) }
     {
@@ -128,7 +123,7 @@ impl Derivation<'_> {
     }
 
     /// All of it.
-    pub fn derive<T: StepSink>(&self, alloc: Global, sink: &mut T) -> Result<(), SinkFault>
+    pub fn derive<T: StepSink>(&self, alloc: Global, sink: &mut T) -> SinkResult
         requires { self.now.base ≡ (T.state sink.old).next }
         ensures { HandsSteps (diagram_steps (shape_sum self.now.shape) self.now.first self.now.own (T.state sink.old).next) result (T.state sink.old) (T.state sink.new) }
     {

@@ -13,7 +13,7 @@ use crate::level::Level;
 use crate::search::known_levels;
 use crate::shape::Shape;
 use pb_base::{NoMemory, Term};
-use pb_family::{Built, ClauseSink, Derive, Family, SinkFault, StepSink, Strong};
+use pb_family::{Built, ClauseSink, Derive, Family, SinkResult, StepSink, Strong};
 use pb_norm::AtMost;
 use std::alloc::{AllocError, Global};
 
@@ -102,10 +102,7 @@ impl Diagram {
 }
 
 impl Family for Diagram {
-    ghost use Rattle.std.specs.Prelude.{◌≡◌, ◌≢◌, ◌≤◌, ◌<◌, ◌+◌, ◌^◌, ℕ, Err};
     ghost use Rattle.pb_norm.specs.BoundedSums.{sum_within};
-    ghost use Rattle.pb_family.specs.Families.{VarsBelow};
-    ghost use Rattle.pb_family.specs.Handing.{HandsIfMemory};
     ghost use Rattle.pb_diagram.specs.Clauses.{diagram_clauses, diagram_fresh, diagram_size};
     ghost use Rattle.pb_diagram.specs.laws.DiagramLaws.{diagram_sound, diagram_extends, diagram_counts, diagram_names};
 
@@ -117,6 +114,8 @@ impl Family for Diagram {
 
     ghost clause_list = { λ f first. diagram_clauses (sum_within f.terms.items f.bound) first };
 
+    ghost TakesNoMemory = { λ _. Unit {0} };
+
     fn fresh(&self) -> u64 {
         self.fresh
     }
@@ -125,14 +124,7 @@ impl Family for Diagram {
         self.clauses
     }
 
-    // It takes no memory.
-    fn emit<S: ClauseSink>(&self, _alloc: Global, first: u32, sink: &mut S) -> Result<(), SinkFault>
-        requires original { VarsBelow first (⟦<Diagram as Family>⟧.constraint self.now).terms }
-        requires low { 1 ≤ first }
-        requires fits { first + ⟦<Diagram as Family>⟧.fresh_count self.now ≤ 2 ^ 31 }
-        ensures hands { HandsIfMemory (⟦<Diagram as Family>⟧.clause_list self.now first) result (S.state sink.old) (S.state sink.new) }
-        ensures never { result ≢ Err SinkFault.NoMemory }
-    {
+    fn emit<S: ClauseSink>(&self, _alloc: Global, first: u32, sink: &mut S) -> SinkResult {
         emit_whole(self.shape(), first, sink)?;
         Ok(())
     }
@@ -161,13 +153,7 @@ impl Derive for Diagram {
 
     ghost step_list = { λ f. diagram_steps (sum_within f.terms.items f.bound) };
 
-    fn derive<T: StepSink>(
-        &self,
-        alloc: Global,
-        first: u32,
-        id: u64,
-        sink: &mut T,
-    ) -> Result<(), SinkFault> {
+    fn derive<T: StepSink>(&self, alloc: Global, first: u32, id: u64, sink: &mut T) -> SinkResult {
         let negated = negated_terms(alloc, self.terms.as_slice())?;
         let derivation = Derivation {
             shape: self.shape(),

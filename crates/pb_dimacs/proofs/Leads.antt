@@ -31,10 +31,6 @@ pub hands_led : {R T : Type 0} (lead : List ℕ) (r : Result T Failed) (text : L
 hands_led lead (Ok x) text a b h = takes_led lead text a b h
 hands_led lead (Err f) text a b h = fails_led lead text a b h
 
-pub stops_led : {R : Type 0} (lead text : List ℕ) (a b : SinkState R) (f : SinkFault) → Stops text a b f → Stops text (led lead a) (led lead b) f
-stops_led lead text a b fault.Failed h = fails_led lead text a b h
-stops_led lead text a b fault.NoMemory h = part_led lead text a b h
-
 -- a slot of a desk, behind `h`
 pub hard_hands : {N T : Type 0} (n : N) (r : Result T Failed) (slot : ℕ) (text held left : List ℕ) (a b : DeskState) → HandsText text r (shown slot held a) (shown slot left b) → HandsText text r (hard_sink n slot held a) (hard_sink n slot left b)
 hard_hands n r slot text held left a b h = hands_led (codes "h ") r text (slot_sink n slot held a) (slot_sink n slot left b) (named_hands n r slot text held left a b h)

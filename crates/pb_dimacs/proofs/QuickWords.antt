@@ -61,10 +61,6 @@ begins_behind bytes gap count n same left is = λ line at.
     ∙ ap (λ (k : ℕ). word (record { line = line; column = at + gap + 1 }) (Value n) ∷ symbols_at line (words_from k (drop count (drop gap bytes)))) far
     ∙ ap (λ (r : List ℕ). word (record { line = line; column = at + gap + 1 }) (Value n) ∷ symbols_at line (words_from (at + (gap + count) + 1) r)) left
 
-pub gap_one : (bytes : List ℕ) → BeginsByte 32 bytes → (at : ℕ) → words_from (at + 1) bytes ≡ words_from (at + 1 + 1) (drop 1 bytes)
-gap_one [] begins at = absurd (omega (arith, begins.some))
-gap_one (b ∷ rest) begins at = ap (λ (c : ℕ). words_from (at + 1) (c ∷ rest)) begins.first
-
 -- ---- integers
 
 digit-black : (c : ℕ) → digit_value c < 10 → is_white c ≡ false

@@ -7,7 +7,7 @@ use crate::outbox::WriteBuffer;
 use crate::writing::{flush, put_text};
 use pb_base::Failed;
 use pb_desk::Desk;
-use pb_family::{SinkFault, StepSink, next_after};
+use pb_family::{SinkFault, SinkResult, StepSink, next_after};
 use pb_steps::{Step, write_step};
 use std::alloc::Global;
 
@@ -36,7 +36,7 @@ impl<'a, D: Desk> StepSink for StepWriter<'a, D> {
     ghost state = { λ w. record { sink = slot_sink w.desk.ghost_name w.slot (held_in w.outbox.now) (D.state w.desk.now); next = w.next } };
 
     /// Where memory is wanting, nothing of the line was taken.
-    fn step(&mut self, step: &Step) -> Result<(), SinkFault>
+    fn step(&mut self, step: &Step) -> SinkResult
         requires few { (⟦<StepWriter<'a, D> as StepSink>⟧.state self.old).next < 2 ^ 62 }
         ensures hands { let seen = ⟦<StepWriter<'a, D> as StepSink>⟧.state in HandsSteps (step.now ∷ []) result (seen self.old) (seen self.new) }
         ensures no_id { let seen = ⟦<StepWriter<'a, D> as StepSink>⟧.state in OnErr result ((seen self.new).next ≡ (seen self.old).next) }

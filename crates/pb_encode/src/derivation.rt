@@ -14,7 +14,7 @@ use crate::groups::{Group, Groups};
 use crate::hints::{HintsLeft, Tells};
 use crate::position::Position;
 use pb_base::Options;
-use pb_family::{SinkFault, StepSink};
+use pb_family::{SinkResult, StepSink};
 use std::alloc::Global;
 
 // Hands over the derivation of a group, and gives where the next one stands.
@@ -25,7 +25,7 @@ fn derive_group<T: StepSink>(
     told: Option<&Tells>,
     position: Position,
     sink: &mut T,
-) -> Result<Position, SinkFault>
+) -> SinkResult<Position>
     requires told { IfSome told (λ tells. IsToldOf options.now group.now tells.now) }
     requires sound { IsSound position.first group.now }
     requires turn { HasGroupTurn options.now group.now position.first position.id (T.state sink.old).next }
@@ -43,7 +43,7 @@ pub fn derive_loaded<T: StepSink>(
     alloc: Global,
     input: &Encodable<'_>,
     sink: &mut T,
-) -> Result<Position, SinkFault>
+) -> SinkResult<Position>
     requires next { (T.state sink.old).next ≡ length (loaded_of input.now.problem.now) + 1 }
     ensures first { IfOk result (λ next. next.first ≡ table_first input.now.options.now input.now.problem.now) }
     ensures hands { HandsFrom (loaded_steps_from input.now.options.now input.now.problem.now) result (T.state sink.old) (T.state sink.new) }

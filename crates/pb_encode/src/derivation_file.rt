@@ -19,7 +19,7 @@ use crate::whole::stream_told_steps;
 use pb_base::{Lits, Problem, Statement, Statements};
 use pb_desk::Desk;
 use pb_dimacs::{StepWriter, WriteBuffer};
-use pb_family::{SinkFault, StepSink};
+use pb_family::{SinkResult, StepSink};
 use pb_norm::halves_of;
 use std::alloc::Global;
 
@@ -73,7 +73,7 @@ fn send_steps<'a, D: Desk>(
     alloc: Global,
     input: &Encodable<'_>,
     writer: &mut StepWriter<'a, D>,
-) -> Result<(), SinkFault>
+) -> SinkResult
     requires next { (⟦<StepWriter<'a, D> as StepSink>⟧.state writer.old).next ≡ length (loaded_of input.now.problem.now) + 1 }
     ensures sends { let seen = ⟦<StepWriter<'a, D> as StepSink>⟧.state in SendsText (derivation_text input.now.options.now input.now.problem.now) result (seen writer.old).sink (seen writer.new).sink }
     ensures all_sent { OnOk result (IsAllSent ((⟦<StepWriter<'a, D> as StepSink>⟧.state writer.new).sink)) }

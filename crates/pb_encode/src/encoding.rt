@@ -23,7 +23,7 @@ use crate::whole::hand_told_clauses;
 use pb_base::{Options, Problem};
 use pb_desk::Desk;
 use pb_dimacs::{ClauseWriter, WriteBuffer};
-use pb_family::{ClauseSink, SinkFault};
+use pb_family::{ClauseSink, SinkResult};
 use std::alloc::Global;
 
 // A problem with the summary of its encoding.
@@ -39,7 +39,7 @@ fn hand_cnf<'a, D: Desk>(
     alloc: Global,
     of: &Measured<'_>,
     writer: &mut ClauseWriter<'a, D>,
-) -> Result<(), SinkFault>
+) -> SinkResult
     ensures { let seen = ⟦<ClauseWriter<'a, D> as ClauseSink>⟧.state in HandsTextIfMemory (problem_text of.now.input.options.now of.now.input.problem.now) result (seen writer.old) (seen writer.new) }
 {
     writer.header(of.summary.vars, of.summary.clauses)?;
@@ -51,7 +51,7 @@ fn send_cnf<'a, D: Desk>(
     alloc: Global,
     of: &Measured<'_>,
     writer: &mut ClauseWriter<'a, D>,
-) -> Result<(), SinkFault>
+) -> SinkResult
     ensures sends { let seen = ⟦<ClauseWriter<'a, D> as ClauseSink>⟧.state in SendsText (problem_text of.now.input.options.now of.now.input.problem.now) result (seen writer.old) (seen writer.new) }
     ensures all_sent { OnOk result (IsAllSent (⟦<ClauseWriter<'a, D> as ClauseSink>⟧.state writer.new)) }
 {

@@ -13,7 +13,7 @@ use crate::hints::Tells;
 use crate::position::Position;
 use pb_base::{NoMemory, Options};
 use pb_choice::{Counts, EqualPlan, Plan, plan, plan_adder, plan_adders, plan_equal, plan_kept};
-use pb_family::{ClauseSink, SinkFault, StepSink};
+use pb_family::{ClauseSink, SinkResult, StepSink};
 use pb_norm::Linear;
 use std::alloc::Global;
 
@@ -123,12 +123,7 @@ impl GroupPlan<'_> {
     }
 
     /// Hands over the clauses, with the fresh variables from `first` on, and gives the first number after these.
-    pub fn emit<S: ClauseSink>(
-        &self,
-        alloc: Global,
-        first: u32,
-        sink: &mut S,
-    ) -> Result<u32, SinkFault>
+    pub fn emit<S: ClauseSink>(&self, alloc: Global, first: u32, sink: &mut S) -> SinkResult<u32>
         requires original { IsPlanBelow first self.now }
         requires low { 1 ≤ first }
         requires fits { first + plan_fresh self.now ≤ 2 ^ 31 }
@@ -153,7 +148,7 @@ impl GroupPlan<'_> {
         alloc: Global,
         position: Position,
         sink: &mut T,
-    ) -> Result<Position, SinkFault>
+    ) -> SinkResult<Position>
         requires original { IsPlanBelow position.first self.now }
         requires turn { HasPlanTurn self.now position.first position.id (T.state sink.old).next }
         ensures first { IfOk result (λ next. next.first ≡ position.first + plan_fresh self.now) }

@@ -11,7 +11,7 @@ use crate::group_plan::plan_group;
 use crate::groups::{Group, Groups};
 use crate::hints::{HintsLeft, Tells};
 use pb_base::Options;
-use pb_family::{ClauseSink, SinkFault};
+use pb_family::{ClauseSink, SinkResult};
 use std::alloc::Global;
 
 // Hands over the clauses of a group, and gives the first number after its fresh variables.
@@ -22,7 +22,7 @@ fn stream_group<S: ClauseSink>(
     told: Option<&Tells>,
     first: u32,
     sink: &mut S,
-) -> Result<u32, SinkFault>
+) -> SinkResult<u32>
     requires told { IfSome told (λ tells. IsToldOf options.now group.now tells.now) }
     requires sound { IsSound first group.now }
     requires low { 1 ≤ first }
@@ -40,7 +40,7 @@ pub fn stream_loaded<S: ClauseSink>(
     alloc: Global,
     input: &Encodable<'_>,
     sink: &mut S,
-) -> Result<u32, SinkFault>
+) -> SinkResult<u32>
     ensures next { IfOk result (λ next. next ≡ table_first input.now.options.now input.now.problem.now) }
     ensures hands { HandsIfMemory (loaded_clauses input.now.options.now input.now.problem.now) result (S.state sink.old) (S.state sink.new) }
 {

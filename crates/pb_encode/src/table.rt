@@ -15,7 +15,7 @@ ghost use Rattle.pb_encode.specs.Tables.{table_terms};
 use crate::encodable::Encodable;
 use crate::objective::objective_form;
 use pb_base::{NoMemory, Options, Problem, Terms};
-use pb_family::{Built, ClauseSink, SinkFault, StepSink};
+use pb_family::{Built, ClauseSink, SinkResult, StepSink};
 use pb_gentot::BoundTable;
 use pb_norm::by_weight;
 use std::alloc::Global;
@@ -79,7 +79,7 @@ pub fn stream_table<S: ClauseSink>(
     input: &Encodable<'_>,
     first: u32,
     sink: &mut S,
-) -> Result<(), SinkFault>
+) -> SinkResult
     requires first { first ≡ table_first input.now.options.now input.now.problem.now }
     ensures { HandsIfMemory (table_clauses (table_terms input.now.options.now input.now.problem.now) first) result (S.state sink.old) (S.state sink.new) }
 {
@@ -93,7 +93,7 @@ pub fn derive_table<T: StepSink>(
     input: &Encodable<'_>,
     first: u32,
     sink: &mut T,
-) -> Result<(), SinkFault>
+) -> SinkResult
     requires first { first ≡ table_first input.now.options.now input.now.problem.now }
     requires few { (T.state sink.old).next ≤ 2 ^ 61 }
     ensures { HandsFrom (table_steps (table_terms input.now.options.now input.now.problem.now) first) result (T.state sink.old) (T.state sink.new) }

@@ -29,7 +29,7 @@ use crate::whole::hand_told_clauses;
 use pb_base::{Failed, Options, Problem};
 use pb_desk::Desk;
 use pb_dimacs::{HardWriter, WriteBuffer};
-use pb_family::{ClauseSink, SinkFault};
+use pb_family::{ClauseSink, SinkResult};
 use pb_norm::Linear;
 use std::alloc::Global;
 
@@ -67,7 +67,7 @@ fn hand_weighted<'a, D: Desk>(
     alloc: Global,
     of: &Costed<'_>,
     writer: &mut HardWriter<'a, D>,
-) -> Result<(), SinkFault>
+) -> SinkResult
     ensures { let seen = ⟦<HardWriter<'a, D> as ClauseSink>⟧.state in HandsTextIfMemory (weighted_text of.now.input.options.now of.now.input.problem.now) result (seen writer.old) (seen writer.new) }
 {
     send_offset(&of.objective, writer)?;
@@ -81,7 +81,7 @@ fn send_weighted<'a, D: Desk>(
     alloc: Global,
     of: &Costed<'_>,
     writer: &mut HardWriter<'a, D>,
-) -> Result<(), SinkFault>
+) -> SinkResult
     ensures sends { let seen = ⟦<HardWriter<'a, D> as ClauseSink>⟧.state in SendsText (weighted_text of.now.input.options.now of.now.input.problem.now) result (seen writer.old) (seen writer.new) }
     ensures all_sent { OnOk result (IsAllSent (⟦<HardWriter<'a, D> as ClauseSink>⟧.state writer.new)) }
 {

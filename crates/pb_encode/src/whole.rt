@@ -20,7 +20,7 @@ use crate::streaming::stream_loaded;
 use crate::table::{derive_table, stream_table};
 use pb_base::{NoMemory, Options, Problem};
 use pb_choice::Counts;
-use pb_family::{ClauseSink, SinkFault, StepSink};
+use pb_family::{ClauseSink, SinkResult, StepSink};
 use pb_steps::Step;
 use std::alloc::Global;
 
@@ -30,7 +30,7 @@ pub fn hand_told_clauses<S: ClauseSink>(
     alloc: Global,
     input: &Encodable<'_>,
     sink: &mut S,
-) -> Result<(), SinkFault>
+) -> SinkResult
     ensures { HandsIfMemory (problem_clauses input.now.options.now input.now.problem.now) result (S.state sink.old) (S.state sink.new) }
 {
     let first = stream_loaded(alloc, input, sink)?;
@@ -43,7 +43,7 @@ pub fn hand_clauses<S: ClauseSink>(
     problem: &Problem,
     options: &Options,
     sink: &mut S,
-) -> Result<(), SinkFault>
+) -> SinkResult
     requires within { IsWithinLimits problem.now }
     requires encodable { IsEncodable options.now problem.now }
     ensures { HandsIfMemory (problem_clauses options.now problem.now) result (S.state sink.old) (S.state sink.new) }
@@ -86,7 +86,7 @@ pub fn stream_clauses<S: ClauseSink>(
     problem: &Problem,
     options: &Options,
     sink: &mut S,
-) -> Result<Counts, SinkFault>
+) -> SinkResult<Counts>
     requires within { IsWithinLimits problem.now }
     requires encodable { IsEncodable options.now problem.now }
     ensures counts { IfOk result (λ counts. counts ≡ problem_counts options.now problem.now) }
@@ -104,11 +104,7 @@ pub fn stream_clauses<S: ClauseSink>(
 }
 
 // Hands over the derivations of all constraints, and then that of the table.
-fn derive_clauses<T: StepSink>(
-    alloc: Global,
-    input: &Encodable<'_>,
-    sink: &mut T,
-) -> Result<(), SinkFault>
+fn derive_clauses<T: StepSink>(alloc: Global, input: &Encodable<'_>, sink: &mut T) -> SinkResult
     requires next { (T.state sink.old).next ≡ length (loaded_of input.now.problem.now) + 1 }
     ensures { HandsFrom (steps_at_next input.now.options.now input.now.problem.now) result (T.state sink.old) (T.state sink.new) }
 {
@@ -121,7 +117,7 @@ pub fn stream_told_steps<T: StepSink>(
     alloc: Global,
     input: &Encodable<'_>,
     sink: &mut T,
-) -> Result<(), SinkFault>
+) -> SinkResult
     requires next { (T.state sink.old).next ≡ length (loaded_of input.now.problem.now) + 1 }
     ensures { HandsSteps (problem_steps input.now.options.now input.now.problem.now) result (T.state sink.old) (T.state sink.new) }
 {
@@ -138,7 +134,7 @@ pub fn stream_steps<T: StepSink>(
     problem: &Problem,
     options: &Options,
     sink: &mut T,
-) -> Result<(), SinkFault>
+) -> SinkResult
     requires within { IsWithinLimits problem.now }
     requires encodable { IsEncodable options.now problem.now }
     requires next { (T.state sink.old).next ≡ length (loaded_of problem.now) + 1 }

@@ -132,13 +132,6 @@ pieces_ids piece width each next a (suc n) =
       pieces_ids piece width each (next + width) (a + 1) n,
     )
 
--- all pieces were taken, and what is behind them is left
-pub after_pieces : {R : Type 0} {all : List Step} (old now : StepState R) (piece : ℕ → ℕ → List Step) (width n : ℕ) → ((id k : ℕ) → count_by takes_id (piece id k) ≡ width) → (rest : ℕ → List Step) (after : StepState R)
-    → Deriving all (pieces piece width now.next 0 n ++ rest (now.next + width * n)) old now → TakesSteps (pieces piece width now.next 0 n) now after → Deriving all (rest after.next) old after
-after_pieces old now piece width n each rest after e h =
-    deriving_as (ap rest (let same : now.next + width * n ≡ after.next = omega (arith, h.ids, pieces_ids piece width each now.next 0 n) in same))
-    (deriving_step {left = rest (now.next + width * n)} (pieces piece width now.next 0 n) after e h)
-
 -- ---- steps that are followed by others
 
 module _ {R : Type 0} {all : List Step} {old now : StepState R} (f g : ℕ → List Step) (rest : List Step) (e : Deriving all (followed_by f g now.next ++ rest) old now) where

@@ -11,7 +11,7 @@ ghost use Rattle.pb_derive.specs.Rups.{by_rup};
 ghost use Rattle.pb_family.specs.Derivations.{closed, claimed, propagated};
 ghost use Rattle.pb_family.specs.StepSinks.{HandsSteps};
 
-use crate::sink::SinkFault;
+use crate::sink::SinkResult;
 use crate::step_sink::{StepSink, derive_steps};
 use pb_base::{Ids, Lit, Term, Terms};
 use pb_steps::{PolOp, PolOps, Step};
@@ -108,7 +108,7 @@ fn propagated_step(alloc: Global, ids: &[u64], clause: &[Lit]) -> Result<Step, A
 }
 
 /// Hands over the sum of the constraints with some ids.
-pub fn derive_sum<T: StepSink>(alloc: Global, ids: &[u64], sink: &mut T) -> Result<(), SinkFault>
+pub fn derive_sum<T: StepSink>(alloc: Global, ids: &[u64], sink: &mut T) -> SinkResult
     requires some { 1 ≤ length ids.now }
     requires few { (T.state sink.old).next < 2 ^ 62 }
     ensures { HandsSteps (Pol (adding ids.now) ∷ []) result (T.state sink.old) (T.state sink.new) }
@@ -118,7 +118,7 @@ pub fn derive_sum<T: StepSink>(alloc: Global, ids: &[u64], sink: &mut T) -> Resu
 }
 
 // Hands over a clause's step, and puts the clause out.
-fn derive_and_put_out<T: StepSink>(step: &Step, sink: &mut T) -> Result<(), SinkFault>
+fn derive_and_put_out<T: StepSink>(step: &Step, sink: &mut T) -> SinkResult
     requires few { (T.state sink.old).next + 1 < 2 ^ 62 }
     ensures { HandsSteps (step.now ∷ Out (T.state sink.old).next ∷ []) result (T.state sink.old) (T.state sink.new) }
 {
@@ -132,7 +132,7 @@ pub fn derive_claim<T: StepSink>(
     ids: &[u64],
     weakened: &[Term],
     sink: &mut T,
-) -> Result<(), SinkFault>
+) -> SinkResult
     requires some { 1 ≤ length ids.now }
     requires few { (T.state sink.old).next + 1 < 2 ^ 62 }
     ensures { HandsSteps (claimed (T.state sink.old).next ids.now (vars_of (weights weakened.now))) result (T.state sink.old) (T.state sink.new) }
@@ -147,7 +147,7 @@ pub fn derive_propagated<T: StepSink>(
     ids: &[u64],
     clause: &[Lit],
     sink: &mut T,
-) -> Result<(), SinkFault>
+) -> SinkResult
     requires few { (T.state sink.old).next + 1 < 2 ^ 62 }
     ensures { HandsSteps (propagated (T.state sink.old).next ids.now clause.now) result (T.state sink.old) (T.state sink.new) }
 {

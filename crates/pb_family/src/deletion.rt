@@ -5,7 +5,7 @@ ghost use Rattle.pb_steps.specs.declared.step.Step.TheVariants.{Del};
 ghost use Rattle.pb_derive.specs.Deletions.{deletion_steps};
 ghost use Rattle.pb_family.specs.StepSinks.{HandsSteps};
 
-use crate::sink::SinkFault;
+use crate::sink::SinkResult;
 use crate::step_sink::StepSink;
 use pb_base::Ids;
 use pb_steps::Step;
@@ -24,12 +24,7 @@ fn deletion_step(alloc: Global, id: u64, width: u64) -> Result<Step, AllocError>
 }
 
 /// Hands over that so many neighbouring ids go.
-pub fn derive_deletion<T: StepSink>(
-    alloc: Global,
-    id: u64,
-    width: u64,
-    sink: &mut T,
-) -> Result<(), SinkFault>
+pub fn derive_deletion<T: StepSink>(alloc: Global, id: u64, width: u64, sink: &mut T) -> SinkResult
     requires fits { id + width < 2 ^ 64 }
     requires few { (T.state sink.old).next < 2 ^ 62 }
     ensures { HandsSteps (Del (range_with_len id width) ∷ []) result (T.state sink.old) (T.state sink.new) }
@@ -45,7 +40,7 @@ pub fn derive_deletions<T: StepSink>(
     width: u64,
     count: u64,
     sink: &mut T,
-) -> Result<(), SinkFault>
+) -> SinkResult
     requires fits { id + width * count < 2 ^ 64 }
     requires few { (T.state sink.old).next < 2 ^ 62 }
     ensures { HandsSteps (deletion_steps width id count) result (T.state sink.old) (T.state sink.new) }

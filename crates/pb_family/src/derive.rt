@@ -8,7 +8,7 @@ ghost use Rattle.pb_family.specs.Families.{VarsBelow};
 ghost use Rattle.pb_family.specs.StepSinks.{HandsSteps};
 
 use crate::family::Family;
-use crate::sink::SinkFault;
+use crate::sink::SinkResult;
 use crate::step_sink::StepSink;
 use std::alloc::Global;
 
@@ -19,13 +19,7 @@ pub trait Derive: Family {
     ghost step_list: { Self → ℕ → ℕ → ℕ → List Step };
 
     /// Hands over the steps, in order. The fresh variables are numbered from `first` on, and `id` is the constraint's.
-    fn derive<T: StepSink>(
-        &self,
-        alloc: Global,
-        first: u32,
-        id: u64,
-        sink: &mut T,
-    ) -> Result<(), SinkFault>
+    fn derive<T: StepSink>(&self, alloc: Global, first: u32, id: u64, sink: &mut T) -> SinkResult
         requires original { VarsBelow first (Self.constraint self.now).terms }
         requires low { 1 ≤ first }
         requires fits { first + Self.fresh_count self.now ≤ 2 ^ 31 }

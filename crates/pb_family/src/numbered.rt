@@ -10,7 +10,7 @@ ghost use Rattle.pb_family.specs.Numbered.{justifications_by_number, numbered_ph
 ghost use Rattle.pb_family.specs.HandedJustifications.{HandsJustifications, HandsReifications};
 
 use crate::deletion::derive_deletions;
-use crate::sink::{ClauseSink, SinkFault};
+use crate::sink::{ClauseSink, SinkResult};
 use crate::step_sink::StepSink;
 use pb_base::Failed;
 use std::alloc::Global;
@@ -66,34 +66,20 @@ pub trait NumberedSteps {
         ensures { result ≡ claim_count self.now };
 
     /// Hands over what the fresh variable with a number means.
-    fn reify_one<T: StepSink>(
-        &self,
-        alloc: Global,
-        number: usize,
-        sink: &mut T,
-    ) -> Result<(), SinkFault>
+    fn reify_one<T: StepSink>(&self, alloc: Global, number: usize, sink: &mut T) -> SinkResult
         requires within { number < fresh_count self.now }
         requires few { (T.state sink.old).next + 1 < 2 ^ 62 }
         ensures { HandsReifications (reification self.now number ∷ []) result (T.state sink.old) (T.state sink.new) };
 
     /// Hands over that the clause with a number follows, and puts it out.
-    fn claim_one<T: StepSink>(
-        &self,
-        alloc: Global,
-        number: usize,
-        sink: &mut T,
-    ) -> Result<(), SinkFault>
+    fn claim_one<T: StepSink>(&self, alloc: Global, number: usize, sink: &mut T) -> SinkResult
         requires within { number < claim_count self.now }
         requires few { (T.state sink.old).next + 1 < 2 ^ 62 }
         ensures { HandsJustifications (justification self.now number ∷ []) result (T.state sink.old) (T.state sink.new) };
 }
 
 /// Hands over what all fresh variables mean.
-pub fn reify_all<N: NumberedSteps, T: StepSink>(
-    alloc: Global,
-    of: &N,
-    sink: &mut T,
-) -> Result<(), SinkFault>
+pub fn reify_all<N: NumberedSteps, T: StepSink>(alloc: Global, of: &N, sink: &mut T) -> SinkResult
     requires few { (T.state sink.old).next + 2 * N.fresh_count of.now < 2 ^ 62 }
     ensures { HandsReifications (reifications_by_number (N.reification of.now) (N.fresh_count of.now)) result (T.state sink.old) (T.state sink.new) }
 {
@@ -104,11 +90,7 @@ pub fn reify_all<N: NumberedSteps, T: StepSink>(
 }
 
 /// Hands over that all clauses follow, and puts them out.
-pub fn claim_all<N: NumberedSteps, T: StepSink>(
-    alloc: Global,
-    of: &N,
-    sink: &mut T,
-) -> Result<(), SinkFault>
+pub fn claim_all<N: NumberedSteps, T: StepSink>(alloc: Global, of: &N, sink: &mut T) -> SinkResult
     requires few { (T.state sink.old).next + N.claim_count of.now < 2 ^ 62 }
     ensures { HandsJustifications (justifications_by_number (N.justification of.now) (N.claim_count of.now)) result (T.state sink.old) (T.state sink.new) }
 {
@@ -119,11 +101,7 @@ pub fn claim_all<N: NumberedSteps, T: StepSink>(
 }
 
 /// Hands over what all fresh variables mean, that all clauses follow, and that the reifications go.
-pub fn derive_all<N: NumberedSteps, T: StepSink>(
-    alloc: Global,
-    of: &N,
-    sink: &mut T,
-) -> Result<(), SinkFault>
+pub fn derive_all<N: NumberedSteps, T: StepSink>(alloc: Global, of: &N, sink: &mut T) -> SinkResult
     requires few { (T.state sink.old).next + 2 * N.fresh_count of.now + N.claim_count of.now < 2 ^ 62 }
     ensures { HandsFrom (numbered_phases (N.reification of.now) (N.fresh_count of.now) (N.justification of.now) (N.claim_count of.now)) result (T.state sink.old) (T.state sink.new) }
 {

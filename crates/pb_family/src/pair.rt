@@ -1,5 +1,5 @@
 //! Pairs: clauses that stand for two bounded sums at once.
-ghost use Rattle.std.specs.Prelude.{◌≡◌, ◌≤◌, ◌<◌, ◌+◌, ◌*◌, ◌^◌, ℕ, List, length};
+ghost use Rattle.std.specs.Prelude.{◌≡◌, ◌≢◌, ◌≤◌, ◌<◌, ◌+◌, ◌*◌, ◌^◌, ℕ, List, length, Err};
 ghost use Rattle.pb_base.specs.declared.literal.Lit.{Lit};
 ghost use Rattle.pb_base.specs.Literals.{Assignment, IsModel};
 ghost use Rattle.pb_norm.specs.BoundedSums.{BoundedSum, StaysWithin};
@@ -10,8 +10,9 @@ ghost use Rattle.pb_family.specs.Families.{ExtendsToModel, NamesOnly, VarsBelow}
 ghost use Rattle.pb_family.specs.Handing.{HandsIfMemory};
 ghost use Rattle.pb_family.specs.Pairs.{StayWithinBoth};
 ghost use Rattle.pb_family.specs.StepSinks.{HandsSteps};
+ghost use Rattle.pb_family.specs.declared.sink.SinkFault.TheVariants as fault;
 
-use crate::sink::{ClauseSink, SinkFault};
+use crate::sink::{ClauseSink, SinkResult};
 use crate::step_sink::StepSink;
 use std::alloc::Global;
 
@@ -35,6 +36,9 @@ pub trait Pair {
     /// the constraint from below, the third of the one from above, and the fourth is the next id.
     ghost step_list: { Self → ℕ → ℕ → ℕ → ℕ → List Step };
 
+    /// Whether handing over the clauses takes no memory.
+    ghost TakesNoMemory: { Self → Type 0 } = { λ _. ⊥ };
+
     /// How many fresh variables it has.
     fn fresh(&self) -> u64
         ensures { result ≡ fresh_count self.now };
@@ -44,11 +48,12 @@ pub trait Pair {
         ensures { result ≡ clause_count self.now };
 
     /// Hands over the clauses, in order. The fresh variables are numbered from `first` on.
-    fn emit<S: ClauseSink>(&self, alloc: Global, first: u32, sink: &mut S) -> Result<(), SinkFault>
+    fn emit<S: ClauseSink>(&self, alloc: Global, first: u32, sink: &mut S) -> SinkResult
         requires original { VarsBelow first (most self.now).terms }
         requires low { 1 ≤ first }
         requires fits { first + fresh_count self.now ≤ 2 ^ 31 }
-        ensures { HandsIfMemory (clause_list self.now first) result (S.state sink.old) (S.state sink.new) };
+        ensures hands { HandsIfMemory (clause_list self.now first) result (S.state sink.old) (S.state sink.new) }
+        ensures never { TakesNoMemory self.now → result ≢ Err fault.NoMemory };
 
     /// Hands over the steps, in order. The fresh variables are numbered from `first` on, `lower` is the id of the constraint
     /// from below, and `upper` of the one from above.
@@ -59,7 +64,7 @@ pub trait Pair {
         lower: u64,
         upper: u64,
         sink: &mut T,
-    ) -> Result<(), SinkFault>
+    ) -> SinkResult
         requires original { VarsBelow first (most self.now).terms }
         requires low { 1 ≤ first }
         requires fits { first + fresh_count self.now ≤ 2 ^ 31 }

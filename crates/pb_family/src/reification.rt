@@ -9,7 +9,7 @@ ghost use Rattle.pb_family.specs.Derivations.{meant};
 ghost use Rattle.pb_family.specs.StepSinks.{HandsSteps};
 ghost use Rattle.pb_family.specs.inner.Parts.{reification_of, second_line, turned};
 
-use crate::sink::SinkFault;
+use crate::sink::SinkResult;
 use crate::step_sink::{StepSink, derive_steps};
 use pb_base::{Ids, Lit, Term, Terms, Var};
 use pb_norm::weight_of;
@@ -105,7 +105,7 @@ fn derive_both<T: StepSink>(
     terms: &[Term],
     least: u128,
     sink: &mut T,
-) -> Result<(), SinkFault>
+) -> SinkResult
     requires light { weight (weights terms.now) + least < 2 ^ 124 }
     requires few { (T.state sink.old).next + 1 < 2 ^ 62 }
     ensures { HandsSteps (forward.now ∷ second_line (T.state sink.old).next (reification_of var (weights terms.now) least) ∷ []) result (T.state sink.old) (T.state sink.new) }
@@ -122,7 +122,7 @@ pub fn derive_reification<T: StepSink>(
     terms: &[Term],
     least: u128,
     sink: &mut T,
-) -> Result<(), SinkFault>
+) -> SinkResult
     requires light { weight (weights terms.now) + least < 2 ^ 124 }
     requires few { (T.state sink.old).next + 1 < 2 ^ 62 }
     ensures { HandsSteps (meant (T.state sink.old).next var (weights terms.now) least) result (T.state sink.old) (T.state sink.new) }

@@ -3,7 +3,7 @@ ghost use Rattle.std.specs.Prelude.{◌≡◌, ◌<◌, ◌+◌, ◌^◌, ◌∷
 ghost use Rattle.pb_steps.specs.Steps.{takes_id};
 ghost use Rattle.pb_family.specs.StepSinks.{StepState, HandsSteps};
 
-use crate::sink::SinkFault;
+use crate::sink::SinkResult;
 use pb_steps::Step;
 
 /// Takes steps, each as its line, and counts the ids that they take.
@@ -15,7 +15,7 @@ pub trait StepSink {
     ghost state: { Self → StepState Rest };
 
     /// Takes a step. Where that fails, a first part of its line was taken, and no id.
-    fn step(&mut self, step: &Step) -> Result<(), SinkFault>
+    fn step(&mut self, step: &Step) -> SinkResult
         requires few { (state self.old).next < 2 ^ 62 }
         ensures hands { HandsSteps (step.now ∷ []) result (state self.old) (state self.new) }
         ensures no_id { OnErr result ((state self.new).next ≡ (state self.old).next) };
@@ -37,7 +37,7 @@ pub fn next_after(step: &Step, next: u64) -> u64
 }
 
 /// Hands over two steps.
-pub fn derive_steps<T: StepSink>(one: &Step, other: &Step, sink: &mut T) -> Result<(), SinkFault>
+pub fn derive_steps<T: StepSink>(one: &Step, other: &Step, sink: &mut T) -> SinkResult
     requires few { (T.state sink.old).next + 1 < 2 ^ 62 }
     ensures { HandsSteps (one.now ∷ other.now ∷ []) result (T.state sink.old) (T.state sink.new) }
 {

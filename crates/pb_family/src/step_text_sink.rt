@@ -2,7 +2,7 @@
 ghost use Rattle.std.specs.Prelude.{◌≡◌, ◌<◌, ◌^◌, ◌∷◌, [], Some, OnErr};
 ghost use Rattle.pb_family.specs.StepSinks.{HandsSteps, steps_in_memory};
 
-use crate::sink::SinkFault;
+use crate::sink::SinkResult;
 use crate::step_sink::{StepSink, next_after};
 use pb_steps::{Step, write_step};
 use std::alloc::Global;
@@ -23,7 +23,7 @@ impl StepSink for StepTextSink {
     ghost state = { λ sink. steps_in_memory sink.text.items sink.next };
 
     /// Where memory is wanting, it holds what it held.
-    fn step(&mut self, step: &Step) -> Result<(), SinkFault>
+    fn step(&mut self, step: &Step) -> SinkResult
         requires few { (⟦<StepTextSink as StepSink>⟧.state self.old).next < 2 ^ 62 }
         ensures hands { HandsSteps (step.now ∷ []) result (⟦<StepTextSink as StepSink>⟧.state self.old) (⟦<StepTextSink as StepSink>⟧.state self.new) }
         ensures no_id { let seen = ⟦<StepTextSink as StepSink>⟧.state in OnErr result ((seen self.new).next ≡ (seen self.old).next) }

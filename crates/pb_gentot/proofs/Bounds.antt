@@ -106,12 +106,12 @@ some_terms bound [] passes = absurd (omega arith)
 some_terms bound (t ∷ ts) passes = omega arith
 
 -- where the fresh variables are within a budget, the clauses are fewer than 2 ^ 60
-pub clauses_modest : (bound : ℕ) (ts : List Term) → 1 ≤ length ts → fresh_of (generalized bound) (tree_of (weights ts)) ≤ 10000000 → clause_count_of (generalized bound) (tree_of (weights ts)) + 1 < 2 ^ 60
+pub clauses_modest : (bound : ℕ) (ts : List Term) → 1 ≤ length ts → fresh_of (generalized bound) (tree_of (weights ts)) < 2 ^ 24 → clause_count_of (generalized bound) (tree_of (weights ts)) + 1 < 2 ^ 60
 clauses_modest bound ts some fits =
     let b = bounds bound ts some in
     let m = fresh_of (generalized bound) (tree_of (weights ts)) + length ts in
-    let small : m ≤ 20000001 = omega (arith, b.leaves, fits) in
-    omega (arith, b.clauses, mul-le m m 20000001 20000001 small small)
+    let small : m ≤ 2 ^ 25 = omega (arith, b.leaves, fits) in
+    omega (arith, b.clauses, mul-le m m (2 ^ 25) (2 ^ 25) small small)
 
 -- one justification for each clause
 pub justifications_are : (bound : ℕ) (ts : List Term) (id : ℕ) → AreLeavesPositive (tree_of (weights ts)) → length (part_justifications bound ts id) ≡ clause_count_of (generalized bound) (tree_of (weights ts))

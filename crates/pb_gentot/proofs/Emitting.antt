@@ -11,7 +11,7 @@ use Rattle.pb_family.specs.declared.sink.SinkFault.{SinkFault}
 use Rattle.pb_tree.specs.Tree.{Tree, empty, leaf, node, tree_of}
 use Rattle.pb_tree.specs.Scheme.{values, fresh_of, output, own_of}
 use Rattle.pb_tree.specs.Places.{place_of}
-use Rattle.pb_tree.specs.inner.Walks.{AreParts, fresh_over}
+use Rattle.pb_tree.specs.Walks.{AreParts, fresh_over}
 use Rattle.pb_gentot.specs.inner.Outputs.{output_in}
 use Rattle.pb_gentot.specs.declared.outputs.Outputs.TheVariants.{Fresh}
 use Rattle.pb_gentot.specs.Rising.{Rising}

@@ -7,7 +7,7 @@ use Rattle.pb_tree.specs.Places.{place_of}
 use Rattle.pb_tree.specs.Scheme.{values, fresh_of}
 use Rattle.pb_tree.specs.Tree.{tree_of}
 use Rattle.pb_tree.specs.TreeSteps.{output_ids, pair_justifications}
-use Rattle.pb_tree.specs.inner.Walks.{AreParts, fresh_over}
+use Rattle.pb_tree.specs.Walks.{AreParts, fresh_over}
 use Rattle.pb_tree.proofs.HandingLaws.{same_then}
 use Rattle.pb_tree.proofs.TreeHanded.{pairs_first_free}
 use Rattle.pb_gentot.specs.Generalized.{generalized, ascending, sums}

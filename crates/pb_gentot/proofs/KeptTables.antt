@@ -57,17 +57,17 @@ pub many_fresh : (bound budget : ℕ) (ts : List Term) → 1 ≤ length ts → b
 many_fresh bound budget ts some above = omega (arith, (bounds bound ts some).leaves, above)
 
 -- where the fresh variables are within a budget, the clauses are fewer than 2 ^ 60
-pub table_modest : (bound : ℕ) (ts : List Term) → fresh_of (generalized bound) (tree_of (weights ts)) ≤ 10000000
+pub table_modest : (bound : ℕ) (ts : List Term) → fresh_of (generalized bound) (tree_of (weights ts)) < 2 ^ 24
     → clause_count_of (generalized bound) (tree_of (weights ts)) + (length (values (generalized bound) (tree_of (weights ts))) - 1) < 2 ^ 60
 table_modest bound [] fits = omega (arith, no_count bound, ap length (no_values bound))
 table_modest bound (t ∷ ts) fits =
     let all = t ∷ ts in
     let b = bounds bound all (omega arith) in
     let m = fresh_of (generalized bound) (tree_of (weights all)) + length all in
-    let small : m ≤ 20000001 = omega (arith, b.leaves, fits) in
-    omega (arith, b.clauses, b.count, mul-le m m 20000001 20000001 small small)
+    let small : m ≤ 2 ^ 25 = omega (arith, b.leaves, fits) in
+    omega (arith, b.clauses, b.count, mul-le m m (2 ^ 25) (2 ^ 25) small small)
 
-pub kept_of : (ts : List Term) (bound budget : ℕ) (part : Part) (between : ℕ) → IsTable (weights ts) → weight (weights ts) < 2 ^ 100 → bound ≡ weight (weights ts) → budget ≤ 10000000
+pub kept_of : (ts : List Term) (bound budget : ℕ) (part : Part) (between : ℕ) → IsTable (weights ts) → weight (weights ts) < 2 ^ 100 → bound ≡ weight (weights ts) → budget < 2 ^ 24
     → IsPartMeasured bound budget (tree_of (weights ts)) part → between ≡ length part.values.items - 1 → IsKeptTable ts bound part.values.items part.fresh (part.clauses + between)
 kept_of ts bound budget part between table light whole modest measured count =
     let fits = measured.fits in

@@ -6,7 +6,7 @@ use Rattle.pb_base.specs.declared.literal.Term.{Term}
 use Rattle.pb_norm.specs.Constraints.{AllPositive, Weighted, weights}
 use Rattle.pb_tree.specs.Tree.{Tree, node, tree_of, IsLeafOf}
 use Rattle.pb_tree.specs.Scheme.{values, fresh_of, clause_count_of}
-use Rattle.pb_tree.specs.inner.Walks.{AreParts, Suits, fresh_over}
+use Rattle.pb_tree.specs.Walks.{AreParts, Suits, fresh_over}
 use Rattle.pb_tree.proofs.Extending.{all_from_each}
 use Rattle.pb_tree.proofs.Splitting.{leaf_listed}
 use Rattle.pb_gentot.specs.Generalized.{generalized, ascending, sums}

@@ -4,7 +4,7 @@ use Rattle.std.proofs.lemmas.List.{length-map}
 use Rattle.pb_base.specs.declared.literal.Term.{Term}
 use Rattle.pb_norm.specs.BoundedSums.{IsProper, sum_within}
 use Rattle.pb_norm.specs.Constraints.{AllPositive, weight, weighted, weights}
-use Rattle.pb_tree.specs.inner.Walks.{Suits, fresh_over}
+use Rattle.pb_tree.specs.Walks.{Suits, fresh_over}
 use Rattle.pb_gentot.specs.Generalized.{generalized, generalized_fresh}
 use Rattle.pb_gentot.specs.inner.Wholes.{IsWhole}
 use Rattle.pb_gentot.proofs.Bounds.{some_terms}

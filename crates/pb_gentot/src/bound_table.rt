@@ -18,7 +18,7 @@ use crate::outputs::Outputs;
 use crate::table_clauses::emit_table;
 use crate::table_steps::derive_table;
 use pb_base::{Lit, NoMemory, Term, Terms};
-use pb_family::{Built, ClauseSink, SinkFault, StepSink};
+use pb_family::{Built, ClauseSink, SinkResult, StepSink};
 use pb_norm::weight_of;
 use std::alloc::{AllocError, Global};
 use std::marker::Model;
@@ -63,7 +63,7 @@ fn measure_sum(
     budget: u64,
 ) -> Result<Option<Part>, AllocError>
     requires small { bound < 2 ^ 100 }
-    requires modest { budget ≤ 10000000 }
+    requires modest { budget < 2 ^ 24 }
     ensures { IfOk result (λ made. IsMeasured bound budget (tree_of (weights terms.now)) made) }
 {
     if terms.is_empty() {
@@ -85,7 +85,7 @@ impl BoundTable {
         requires positive { AllPositive (weights terms.now) }
         requires distinct { IsOverDistinct (weights terms.now) }
         requires light { weight (weights terms.now) < 2 ^ 100 }
-        requires modest { budget ≤ 10000000 }
+        requires modest { budget < 2 ^ 24 }
         ensures over { IfOk result (λ built. IsOverExactly (table_fresh (weights terms.now)) budget built) }
         ensures terms { IfOk result (λ built. IfFits (λ t. t ≡ weights terms.now) built) }
     {
@@ -160,12 +160,7 @@ impl BoundTable {
     }
 
     /// Hands over the clauses, in order. The fresh variables are numbered from `first` on.
-    pub fn emit<S: ClauseSink>(
-        &self,
-        alloc: Global,
-        first: u32,
-        sink: &mut S,
-    ) -> Result<(), SinkFault>
+    pub fn emit<S: ClauseSink>(&self, alloc: Global, first: u32, sink: &mut S) -> SinkResult
         requires original { VarsBelow first self.now }
         requires low { 1 ≤ first }
         requires fits { first + table_fresh self.now ≤ 2 ^ 31 }
@@ -175,12 +170,7 @@ impl BoundTable {
     }
 
     /// Hands over the steps that derive them, in order, from no constraint at all.
-    pub fn derive<T: StepSink>(
-        &self,
-        alloc: Global,
-        first: u32,
-        sink: &mut T,
-    ) -> Result<(), SinkFault>
+    pub fn derive<T: StepSink>(&self, alloc: Global, first: u32, sink: &mut T) -> SinkResult
         requires original { VarsBelow first self.now }
         requires low { 1 ≤ first }
         requires fits { first + table_fresh self.now ≤ 2 ^ 31 }

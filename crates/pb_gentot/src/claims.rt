@@ -6,7 +6,7 @@ ghost use Rattle.pb_gentot.specs.inner.Sources.{second_of, one_at, ones_given, s
 
 use crate::node_ids::{Handed, NodeIds, Owned, Source};
 use pb_base::Term;
-use pb_family::{SinkFault, StepSink, derive_claim};
+use pb_family::{SinkResult, StepSink, derive_claim};
 use std::alloc::{AllocError, Global};
 
 /// Adds the id of the first constraint of the value at a place, if it has one.
@@ -44,7 +44,7 @@ fn derive_one<T: StepSink>(
     others: &[Term],
     own: &Owned,
     sink: &mut T,
-) -> Result<(), SinkFault>
+) -> SinkResult
     requires within { place < length part.now.values.items }
     requires has { Contains own.now.values.items (slice_index part.now.values.items place) }
     requires few { (T.state sink.old).next + 1 < 2 ^ 62 }
@@ -61,7 +61,7 @@ fn derive_ones<T: StepSink>(
     others: &[Term],
     own: &Owned,
     sink: &mut T,
-) -> Result<(), SinkFault>
+) -> SinkResult
     requires has { All (Contains own.now.values.items) part.now.values.items }
     requires few { (T.state sink.old).next + length part.now.values.items < 2 ^ 62 }
     ensures { HandsJustifications (ones_given part.now others.now own.now) result (T.state sink.old) (T.state sink.new) }
@@ -102,7 +102,7 @@ fn derive_both<T: StepSink>(
     i: usize,
     j: usize,
     sink: &mut T,
-) -> Result<(), SinkFault>
+) -> SinkResult
     requires left { i < length node.now.left.now.values.items }
     requires right { j < length node.now.right.now.values.items }
     requires few { (T.state sink.old).next + 1 < 2 ^ 62 }
@@ -113,12 +113,7 @@ fn derive_both<T: StepSink>(
 }
 
 /// That a value of the left and each of the right give their sum.
-fn derive_row<T: StepSink>(
-    alloc: Global,
-    node: &NodeIds,
-    i: usize,
-    sink: &mut T,
-) -> Result<(), SinkFault>
+fn derive_row<T: StepSink>(alloc: Global, node: &NodeIds, i: usize, sink: &mut T) -> SinkResult
     requires within { i < length node.now.left.now.values.items }
     requires few { (T.state sink.old).next + length node.now.right.now.values.items < 2 ^ 62 }
     ensures { HandsJustifications (row_beside node.now i) result (T.state sink.old) (T.state sink.new) }
@@ -130,7 +125,7 @@ fn derive_row<T: StepSink>(
 }
 
 /// That each two values of the parts give their sum.
-fn derive_pairs<T: StepSink>(alloc: Global, node: &NodeIds, sink: &mut T) -> Result<(), SinkFault>
+fn derive_pairs<T: StepSink>(alloc: Global, node: &NodeIds, sink: &mut T) -> SinkResult
     requires { (T.state sink.old).next + length (pairs_beside node.now) < 2 ^ 62 }
     ensures { HandsJustifications (pairs_beside node.now) result (T.state sink.old) (T.state sink.new) }
 {
@@ -141,11 +136,7 @@ fn derive_pairs<T: StepSink>(alloc: Global, node: &NodeIds, sink: &mut T) -> Res
 }
 
 /// A node's own clauses.
-pub fn derive_node<T: StepSink>(
-    alloc: Global,
-    node: &NodeIds,
-    sink: &mut T,
-) -> Result<(), SinkFault>
+pub fn derive_node<T: StepSink>(alloc: Global, node: &NodeIds, sink: &mut T) -> SinkResult
     requires { (T.state sink.old).next + length (node_beside node.now) < 2 ^ 62 }
     ensures { HandsJustifications (node_beside node.now) result (T.state sink.old) (T.state sink.new) }
 {

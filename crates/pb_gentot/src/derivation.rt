@@ -15,7 +15,7 @@ use crate::handing::derive_nodes;
 use crate::node_ids::Handed;
 use crate::outputs::place_in;
 use crate::whole::Whole;
-use pb_family::{SinkFault, StepSink, derive_claim};
+use pb_family::{SinkResult, StepSink, derive_claim};
 use pb_tree::{TreeClaims, derive_along};
 use std::alloc::{AllocError, Global};
 
@@ -38,7 +38,7 @@ fn derive_root<T: StepSink>(
     cap: u128,
     own: u64,
     sink: &mut T,
-) -> Result<(), SinkFault>
+) -> SinkResult
     requires has { Contains root.now.values.items cap }
     requires few { (T.state sink.old).next + 1 < 2 ^ 62 }
     ensures { HandsJustifications (root_given root.now cap own ∷ []) result (T.state sink.old) (T.state sink.new) }
@@ -66,7 +66,7 @@ impl<'a> TreeClaims<Whole<'a>> for Bounded<'a> {
         self.whole
     }
 
-    fn claim<T: StepSink>(&self, alloc: Global, id: u64, sink: &mut T) -> Result<(), SinkFault> {
+    fn claim<T: StepSink>(&self, alloc: Global, id: u64, sink: &mut T) -> SinkResult {
         let root = derive_nodes(alloc, self.whole, id, sink)?;
         derive_root(alloc, &root, self.whole.bound + 1, self.own, sink)
     }
@@ -78,7 +78,7 @@ pub fn derive_weighted<T: StepSink>(
     whole: &Whole,
     id: u64,
     sink: &mut T,
-) -> Result<(), SinkFault>
+) -> SinkResult
     requires proper { IsProper (sum_within whole.now.terms.now whole.now.bound) }
     requires modest { clause_count_of (generalized whole.now.bound) (tree_of (weights whole.now.terms.now)) < 2 ^ 60 }
     requires few { (T.state sink.old).next ≤ 2 ^ 61 }

@@ -1,7 +1,7 @@
 //! The clauses of a generalized totalizer's derivation, part by part.
 ghost use Rattle.std.specs.Prelude.{◌≡◌, ◌≤◌, ◌<◌, ◌+◌, ◌*◌, ◌^◌, All, length, IfOk};
 ghost use Rattle.pb_family.specs.HandedJustifications.{HandsJustifications};
-ghost use Rattle.pb_tree.specs.inner.Walks.{fresh_over};
+ghost use Rattle.pb_tree.specs.Walks.{fresh_over};
 ghost use Rattle.pb_gentot.specs.Generalized.{generalized, ascending, sums};
 ghost use Rattle.pb_gentot.specs.inner.Sources.{IsHanded, part_justifications};
 
@@ -13,7 +13,7 @@ use crate::sets::values_over;
 use crate::tables::table_size;
 use crate::whole::Whole;
 use pb_base::Term;
-use pb_family::{SinkFault, StepSink};
+use pb_family::{SinkFault, SinkResult, StepSink};
 use pb_tree::{Parts, Placed, Walk, walk_along};
 use std::alloc::{AllocError, Global};
 
@@ -55,7 +55,7 @@ impl<'a, T: StepSink> Walk<T> for Claims<'a> {
     ghost use Rattle.pb_family.specs.HandedJustifications.{HandsJustifications};
     ghost use Rattle.pb_family.proofs.FlatPieces.{justifications_then};
     ghost use Rattle.pb_tree.specs.TreeSteps.{pair_justifications};
-    ghost use Rattle.pb_tree.specs.inner.Walks.{fresh_over};
+    ghost use Rattle.pb_tree.specs.Walks.{fresh_over};
     ghost use Rattle.pb_tree.proofs.HandingLaws.{claimed_stop, less_claimed, claimed_room};
     ghost use Rattle.pb_gentot.specs.Generalized.{generalized};
     ghost use Rattle.pb_gentot.specs.GeneralizedSteps.{generalized_pairs};
@@ -85,7 +85,7 @@ impl<'a, T: StepSink> Walk<T> for Claims<'a> {
         terms: &[Term],
         before: u64,
         _sink: &mut T,
-    ) -> Result<Placed<Handed>, SinkFault> {
+    ) -> SinkResult<Placed<Handed>> {
         let values = leaf_values(alloc, terms, self.whole.bound)?;
         let part = Handed {
             values,
@@ -99,7 +99,7 @@ impl<'a, T: StepSink> Walk<T> for Claims<'a> {
         alloc: Global,
         parts: &Parts<Handed>,
         sink: &mut T,
-    ) -> Result<Placed<Handed>, SinkFault> {
+    ) -> SinkResult<Placed<Handed>> {
         let cap = self.whole.bound + 1;
         let id = self.id + 2 * parts.next;
         let own = node_of_parts(alloc, parts.left, parts.right, id, cap)?;
@@ -135,7 +135,7 @@ pub fn derive_nodes<T: StepSink>(
     whole: &Whole,
     id: u64,
     sink: &mut T,
-) -> Result<Handed, SinkFault>
+) -> SinkResult<Handed>
     requires ids { id + 2 * fresh_over (generalized whole.now.bound) whole.now.terms.now < 2 ^ 62 }
     requires room { (T.state sink.old).next + length (part_justifications whole.now.bound whole.now.terms.now id) < 2 ^ 62 }
     ensures hands { HandsJustifications (part_justifications whole.now.bound whole.now.terms.now id) result (T.state sink.old) (T.state sink.new) }

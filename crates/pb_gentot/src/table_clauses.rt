@@ -14,7 +14,7 @@ use crate::outputs::Outputs;
 use crate::tree::emit_nodes;
 use crate::whole::Whole;
 use pb_base::{Failed, Term};
-use pb_family::{ClauseSink, SinkFault};
+use pb_family::{ClauseSink, SinkResult};
 use std::alloc::Global;
 
 /// Hands over that what reaches a value reaches the one before.
@@ -41,7 +41,7 @@ pub fn emit_table<S: ClauseSink>(
     bound: u128,
     first: u32,
     sink: &mut S,
-) -> Result<(), SinkFault>
+) -> SinkResult
     requires positive { AllPositive (weights terms.now) }
     requires small { bound < 2 ^ 100 }
     requires light { weight (weights terms.now) < 2 ^ 100 }

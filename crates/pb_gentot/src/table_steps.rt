@@ -13,17 +13,12 @@ use crate::handing::derive_nodes;
 use crate::node_ids::{Handed, Source};
 use crate::whole::Whole;
 use pb_base::Term;
-use pb_family::{SinkFault, StepSink, derive_claim};
+use pb_family::{SinkResult, StepSink, derive_claim};
 use pb_tree::{TreeClaims, derive_along};
 use std::alloc::Global;
 
 /// That what reaches the value behind a place reaches the one there.
-fn derive_rise<T: StepSink>(
-    alloc: Global,
-    id: u64,
-    place: usize,
-    sink: &mut T,
-) -> Result<(), SinkFault>
+fn derive_rise<T: StepSink>(alloc: Global, id: u64, place: usize, sink: &mut T) -> SinkResult
     requires ids { id + 2 * place + 2 < 2 ^ 62 }
     requires few { (T.state sink.old).next + 1 < 2 ^ 62 }
     ensures { HandsJustifications (rise_at id place ∷ []) result (T.state sink.old) (T.state sink.new) }
@@ -33,12 +28,7 @@ fn derive_rise<T: StepSink>(
 }
 
 /// That for each of the places.
-fn derive_rises<T: StepSink>(
-    alloc: Global,
-    id: u64,
-    count: usize,
-    sink: &mut T,
-) -> Result<(), SinkFault>
+fn derive_rises<T: StepSink>(alloc: Global, id: u64, count: usize, sink: &mut T) -> SinkResult
     requires ids { id + 2 * count < 2 ^ 62 }
     requires few { (T.state sink.old).next + count < 2 ^ 62 }
     ensures { HandsJustifications (map (rise_at id) (range_with_len 0 count)) result (T.state sink.old) (T.state sink.new) }
@@ -50,11 +40,7 @@ fn derive_rises<T: StepSink>(
 }
 
 /// That for all neighbours of a part.
-fn derive_neighbours<T: StepSink>(
-    alloc: Global,
-    root: &Handed,
-    sink: &mut T,
-) -> Result<(), SinkFault>
+fn derive_neighbours<T: StepSink>(alloc: Global, root: &Handed, sink: &mut T) -> SinkResult
     requires { (T.state sink.old).next + length (rises_of root.now.source (length root.now.values.items)) < 2 ^ 62 }
     ensures { HandsJustifications (rises_of root.now.source (length root.now.values.items)) result (T.state sink.old) (T.state sink.new) }
 {
@@ -84,7 +70,7 @@ impl<'a> TreeClaims<Whole<'a>> for Rows<'a> {
         self.whole
     }
 
-    fn claim<T: StepSink>(&self, alloc: Global, id: u64, sink: &mut T) -> Result<(), SinkFault> {
+    fn claim<T: StepSink>(&self, alloc: Global, id: u64, sink: &mut T) -> SinkResult {
         let root = derive_nodes(alloc, self.whole, id, sink)?;
         derive_neighbours(alloc, &root, sink)
     }
@@ -97,7 +83,7 @@ pub fn derive_table<T: StepSink>(
     bound: u128,
     first: u32,
     sink: &mut T,
-) -> Result<(), SinkFault>
+) -> SinkResult
     requires positive { AllPositive (weights terms.now) }
     requires small { bound < 2 ^ 100 }
     requires light { weight (weights terms.now) < 2 ^ 100 }

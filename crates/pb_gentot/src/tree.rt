@@ -18,7 +18,7 @@ use crate::sets::values_over;
 use crate::tables::table_size;
 use crate::whole::Whole;
 use pb_base::Term;
-use pb_family::{ClauseSink, SinkFault};
+use pb_family::{ClauseSink, SinkFault, SinkResult};
 use pb_tree::{Parts, Placed, Walk, walk_along};
 use std::alloc::Global;
 
@@ -37,7 +37,7 @@ fn emit_over<S: ClauseSink>(
     first: u32,
     cap: u128,
     sink: &mut S,
-) -> Result<Emitted, SinkFault>
+) -> SinkResult<Emitted>
     requires left { HasLiterals cap left.now.outputs left.now.values.items }
     requires right { HasLiterals cap right.now.outputs right.now.values.items }
     requires few { cap < 2 ^ 101 }
@@ -84,7 +84,7 @@ impl<'a, S: ClauseSink> Walk<S> for Clauses<'a> {
     ghost use Rattle.pb_base.specs.declared.literal.Lit.{Lit};
     ghost use Rattle.pb_family.specs.Handing.{HandsIfMemory};
     ghost use Rattle.pb_tree.specs.Scheme.{own_of};
-    ghost use Rattle.pb_tree.specs.inner.Walks.{fresh_over};
+    ghost use Rattle.pb_tree.specs.Walks.{fresh_over};
     ghost use Rattle.pb_tree.proofs.HandingLaws.{memory_then, memory_stop};
     ghost use Rattle.pb_gentot.specs.Generalized.{generalized};
     ghost use Rattle.pb_gentot.specs.inner.Parts.{IsEmitted};
@@ -113,7 +113,7 @@ impl<'a, S: ClauseSink> Walk<S> for Clauses<'a> {
         terms: &[Term],
         before: u64,
         _sink: &mut S,
-    ) -> Result<Placed<Emitted>, SinkFault> {
+    ) -> SinkResult<Placed<Emitted>> {
         let values = leaf_values(alloc, terms, self.whole.bound)?;
         let part = Emitted {
             values,
@@ -127,7 +127,7 @@ impl<'a, S: ClauseSink> Walk<S> for Clauses<'a> {
         alloc: Global,
         parts: &Parts<Emitted>,
         sink: &mut S,
-    ) -> Result<Placed<Emitted>, SinkFault> {
+    ) -> SinkResult<Placed<Emitted>> {
         let first = self.whole.first + parts.next as u32;
         let part = emit_over(
             alloc,
@@ -151,11 +151,7 @@ impl<'a, S: ClauseSink> Walk<S> for Clauses<'a> {
 }
 
 /// Hands over the clauses of all nodes.
-pub fn emit_nodes<S: ClauseSink>(
-    alloc: Global,
-    whole: &Whole,
-    sink: &mut S,
-) -> Result<Emitted, SinkFault>
+pub fn emit_nodes<S: ClauseSink>(alloc: Global, whole: &Whole, sink: &mut S) -> SinkResult<Emitted>
     ensures hands { HandsIfMemory (clauses_of (generalized whole.now.bound) (tree_of (weights whole.now.terms.now)) whole.now.first) result (S.state sink.old) (S.state sink.new) }
     ensures emitted { IfOk result (IsEmitted whole.now.bound whole.now.terms.now whole.now.first) }
 {
@@ -164,11 +160,7 @@ pub fn emit_nodes<S: ClauseSink>(
 }
 
 /// Hands over the clauses of a sum, with that of the root.
-pub fn emit_whole<S: ClauseSink>(
-    alloc: Global,
-    whole: &Whole,
-    sink: &mut S,
-) -> Result<(), SinkFault>
+pub fn emit_whole<S: ClauseSink>(alloc: Global, whole: &Whole, sink: &mut S) -> SinkResult
     requires { Contains (values (generalized whole.now.bound) (tree_of (weights whole.now.terms.now))) (whole.now.bound + 1) }
     ensures { HandsIfMemory (tree_clauses (generalized whole.now.bound) (tree_of (weights whole.now.terms.now)) whole.now.first) result (S.state sink.old) (S.state sink.new) }
 {

@@ -9,7 +9,7 @@ use crate::measure::measure;
 use crate::tree::emit_whole;
 use crate::whole::Whole;
 use pb_base::{NoMemory, Term};
-use pb_family::{Built, ClauseSink, Derive, Family, SinkFault, StepSink, Strong};
+use pb_family::{Built, ClauseSink, Derive, Family, SinkResult, StepSink, Strong};
 use pb_norm::AtMost;
 use std::alloc::Global;
 
@@ -37,7 +37,7 @@ impl Weighted {
     /// The generalized totalizer of a sum, if it has no more fresh variables than the budget.
     pub fn build(alloc: Global, of: &AtMost, budget: u64) -> Result<Built<Weighted>, NoMemory>
         requires light { weight of.now.terms < 2 ^ 100 }
-        requires modest { budget ≤ 10000000 }
+        requires modest { budget < 2 ^ 24 }
         ensures over { IfOk result (λ built. IsOverExactly (generalized_fresh of.now) budget built) }
         ensures constraint { IfOk result (λ built. IfFits (λ t. ⟦<Weighted as Family>⟧.constraint t ≡ of.now) built) }
         ensures fresh { IfOk result (λ built. IfFits (λ t. ⟦<Weighted as Family>⟧.fresh_count t ≡ generalized_fresh of.now) built) }
@@ -61,11 +61,7 @@ impl Weighted {
 }
 
 impl Family for Weighted {
-    ghost use Rattle.std.specs.Prelude.{◌≡◌, ◌≤◌, ◌+◌, ◌^◌, ℕ, List, length};
-    ghost use Rattle.pb_base.specs.declared.literal.Lit.{Lit};
-    ghost use Rattle.pb_norm.specs.BoundedSums.{BoundedSum, sum_within};
-    ghost use Rattle.pb_family.specs.Families.{VarsBelow};
-    ghost use Rattle.pb_family.specs.Handing.{HandsIfMemory};
+    ghost use Rattle.pb_norm.specs.BoundedSums.{sum_within};
     ghost use Rattle.pb_gentot.specs.Generalized.{generalized_clauses, generalized_fresh, generalized_size};
     ghost use Rattle.pb_gentot.specs.laws.GeneralizedLaws.{generalized_sound, generalized_extends, generalized_counts, generalized_names};
 
@@ -85,12 +81,7 @@ impl Family for Weighted {
         self.clauses
     }
 
-    fn emit<S: ClauseSink>(
-        &self,
-        alloc: Global,
-        first: u32,
-        sink: &mut S,
-    ) -> Result<(), SinkFault> {
+    fn emit<S: ClauseSink>(&self, alloc: Global, first: u32, sink: &mut S) -> SinkResult {
         let whole = Whole {
             terms: self.terms.as_slice(),
             bound: self.bound,
@@ -123,13 +114,7 @@ impl Derive for Weighted {
 
     ghost step_list = { λ f. generalized_steps (sum_within f.terms.items f.bound) };
 
-    fn derive<T: StepSink>(
-        &self,
-        alloc: Global,
-        first: u32,
-        id: u64,
-        sink: &mut T,
-    ) -> Result<(), SinkFault> {
+    fn derive<T: StepSink>(&self, alloc: Global, first: u32, id: u64, sink: &mut T) -> SinkResult {
         let whole = Whole {
             terms: self.terms.as_slice(),
             bound: self.bound,

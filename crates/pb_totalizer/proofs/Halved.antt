@@ -7,7 +7,7 @@ use Rattle.pb_tree.specs.Halves.{Halves}
 use Rattle.std.specs.List.{range_with_len}
 use Rattle.pb_tree.specs.Scheme.{values, fresh_of}
 use Rattle.pb_tree.specs.Tree.{node, tree_of}
-use Rattle.pb_tree.specs.inner.Walks.{AreParts, Suits, fresh_over}
+use Rattle.pb_tree.specs.Walks.{AreParts, Suits, fresh_over}
 use Rattle.pb_totalizer.specs.Exact.{outputs_of}
 use Rattle.pb_totalizer.specs.Totalizer.{totalizer}
 use Rattle.pb_totalizer.specs.laws.TotalizerLaws.{node_length, values_length}

@@ -6,7 +6,7 @@ use Rattle.pb_norm.specs.Constraints.{weights}
 use Rattle.pb_family.specs.Fresh.{positive_of}
 use Rattle.pb_tree.specs.Scheme.{fresh_of, output}
 use Rattle.pb_tree.specs.Tree.{Tree, node, tree_of}
-use Rattle.pb_tree.specs.inner.Walks.{AreParts, fresh_over}
+use Rattle.pb_tree.specs.Walks.{AreParts, fresh_over}
 use Rattle.pb_totalizer.specs.Exact.{limit_clauses, outputs_of}
 use Rattle.pb_totalizer.specs.Totalizer.{sum_clauses, totalizer}
 use Rattle.pb_totalizer.specs.declared.outputs.Outputs.{Outputs}

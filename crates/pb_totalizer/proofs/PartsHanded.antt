@@ -6,7 +6,7 @@ use Rattle.pb_family.proofs.SameSteps.{HaveSameSteps, same_append}
 use Rattle.pb_tree.specs.Scheme.{fresh_of}
 use Rattle.pb_tree.specs.Tree.{Tree, node, tree_of}
 use Rattle.pb_tree.specs.TreeSteps.{output_ids, pair_justifications}
-use Rattle.pb_tree.specs.inner.Walks.{AreParts, fresh_over}
+use Rattle.pb_tree.specs.Walks.{AreParts, fresh_over}
 use Rattle.pb_tree.proofs.HandingLaws.{same_then}
 use Rattle.pb_tree.proofs.TreeHanded.{IsFirstFree, pairs_first_free}
 use Rattle.pb_totalizer.specs.Exact.{outputs_of}

@@ -7,7 +7,7 @@ use Rattle.pb_norm.specs.BoundedSums.{IsProper, sum_within}
 use Rattle.pb_norm.specs.Constraints.{AllPositive, weight, weighted, weights}
 use Rattle.pb_norm.specs.Reduction.{all_weigh}
 use Rattle.pb_family.proofs.UnitSums.{more_than_bound, unit_weight}
-use Rattle.pb_tree.specs.inner.Walks.{Suits, fresh_over}
+use Rattle.pb_tree.specs.Walks.{Suits, fresh_over}
 use Rattle.pb_totalizer.specs.Totalizer.{totalizer, totalizer_fresh}
 use Rattle.pb_totalizer.specs.inner.Wholes.{IsWhole}
 

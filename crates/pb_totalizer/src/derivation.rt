@@ -11,7 +11,7 @@ use crate::handing::derive_nodes;
 use crate::node_ids::Source;
 use crate::polarity::Polarity;
 use crate::whole::Whole;
-use pb_family::{SinkFault, StepSink, derive_claim};
+use pb_family::{SinkResult, StepSink, derive_claim};
 use pb_tree::{TreeClaims, derive_along};
 use std::alloc::{AllocError, Global};
 
@@ -33,7 +33,7 @@ pub fn derive_root<T: StepSink>(
     number: u64,
     own: u64,
     sink: &mut T,
-) -> Result<(), SinkFault>
+) -> SinkResult
     requires small { number < 2 ^ 33 }
     requires few { (T.state sink.old).next + 1 < 2 ^ 62 }
     ensures { HandsJustifications (root_given root number own ∷ []) result (T.state sink.old) (T.state sink.new) }
@@ -60,7 +60,7 @@ impl<'a> TreeClaims<Whole<'a>> for Upward<'a> {
         self.whole
     }
 
-    fn claim<T: StepSink>(&self, alloc: Global, id: u64, sink: &mut T) -> Result<(), SinkFault> {
+    fn claim<T: StepSink>(&self, alloc: Global, id: u64, sink: &mut T) -> SinkResult {
         let root = derive_nodes(alloc, Polarity::Up, self.whole, id, sink)?;
         derive_root(alloc, root, self.whole.bound + 1, self.own, sink)
     }
@@ -72,7 +72,7 @@ pub fn derive_totalizer<T: StepSink>(
     whole: &Whole,
     id: u64,
     sink: &mut T,
-) -> Result<(), SinkFault>
+) -> SinkResult
     requires { (T.state sink.old).next ≤ 2 ^ 61 }
     ensures { HandsSteps (totalizer_steps (sum_within whole.now.terms.now whole.now.bound) whole.now.first id (T.state sink.old).next) result (T.state sink.old) (T.state sink.new) }
 {

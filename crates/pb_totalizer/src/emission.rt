@@ -110,7 +110,7 @@ impl<'a, S: ClauseSink> Walk<S> for Clauses<'a> {
     ghost use Rattle.std.specs.Prelude.{◌+◌, List};
     ghost use Rattle.pb_base.specs.declared.literal.Lit.{Lit};
     ghost use Rattle.pb_family.specs.Handing.{Hands};
-    ghost use Rattle.pb_tree.specs.inner.Walks.{fresh_over};
+    ghost use Rattle.pb_tree.specs.Walks.{fresh_over};
     ghost use Rattle.pb_tree.proofs.HandingLaws.{clauses_then, clauses_stop};
     ghost use Rattle.pb_totalizer.specs.Totalizer.{totalizer};
     ghost use Rattle.pb_totalizer.specs.inner.Outputs.{AreOutputs};

@@ -12,7 +12,7 @@ use crate::polarity::Polarity;
 use crate::size::size_of;
 use crate::whole::Whole;
 use pb_base::{Lit, Lits, NoMemory, Term};
-use pb_family::{Built, ClauseSink, Pair, SinkFault, StepSink};
+use pb_family::{Built, ClauseSink, Pair, SinkResult, StepSink};
 use std::alloc::{AllocError, Global};
 
 /// The totalizer of literals of which exactly so many are to be true (Bailleux and Boufkhad 2003, in both directions): a tree of
@@ -81,12 +81,6 @@ impl Exact {
 }
 
 impl Pair for Exact {
-    ghost use Rattle.std.specs.Prelude.{◌≡◌, ◌≢◌, ◌≤◌, ◌<◌, ◌+◌, ◌^◌, ℕ, List, length, Err};
-    ghost use Rattle.pb_base.specs.declared.literal.Lit.{Lit};
-    ghost use Rattle.pb_norm.specs.BoundedSums.{BoundedSum};
-    ghost use Rattle.pb_steps.specs.declared.step.Step.{Step};
-    ghost use Rattle.pb_family.specs.Families.{VarsBelow};
-    ghost use Rattle.pb_family.specs.Handing.{HandsIfMemory};
     ghost use Rattle.pb_totalizer.specs.Exact.{exact_clauses, exact_fresh, exact_size, at_least};
     ghost use Rattle.pb_totalizer.specs.ExactSum.{exact_sum};
     ghost use Rattle.pb_totalizer.specs.ExactSteps.{exact_steps};
@@ -107,6 +101,8 @@ impl Pair for Exact {
 
     ghost step_list = { λ f. exact_steps (exact_sum f) };
 
+    ghost TakesNoMemory = { λ _. Unit {0} };
+
     fn fresh(&self) -> u64 {
         self.fresh
     }
@@ -115,14 +111,7 @@ impl Pair for Exact {
         self.clauses
     }
 
-    // It takes no memory.
-    fn emit<S: ClauseSink>(&self, alloc: Global, first: u32, sink: &mut S) -> Result<(), SinkFault>
-        requires original { VarsBelow first (⟦<Exact as Pair>⟧.most self.now).terms }
-        requires low { 1 ≤ first }
-        requires fits { first + ⟦<Exact as Pair>⟧.fresh_count self.now ≤ 2 ^ 31 }
-        ensures hands { HandsIfMemory (⟦<Exact as Pair>⟧.clause_list self.now first) result (S.state sink.old) (S.state sink.new) }
-        ensures never { result ≢ Err SinkFault.NoMemory }
-    {
+    fn emit<S: ClauseSink>(&self, alloc: Global, first: u32, sink: &mut S) -> SinkResult {
         let whole = Whole {
             terms: self.terms.as_slice(),
             bound: self.bound,
@@ -139,7 +128,7 @@ impl Pair for Exact {
         lower: u64,
         upper: u64,
         sink: &mut T,
-    ) -> Result<(), SinkFault> {
+    ) -> SinkResult {
         let whole = Whole {
             terms: self.terms.as_slice(),
             bound: self.bound,

@@ -13,7 +13,7 @@ use crate::limit_claims::push_second;
 use crate::node_ids::Source;
 use crate::polarity::Polarity;
 use crate::whole::Whole;
-use pb_family::{SinkFault, StepSink, derive_claim};
+use pb_family::{SinkResult, StepSink, derive_claim};
 use pb_tree::{TreeClaims, derive_along};
 use std::alloc::{AllocError, Global};
 
@@ -36,7 +36,7 @@ fn derive_least<T: StepSink>(
     number: u64,
     lower: u64,
     sink: &mut T,
-) -> Result<(), SinkFault>
+) -> SinkResult
     requires some { 1 ≤ number }
     requires small { number < 2 ^ 33 }
     requires few { (T.state sink.old).next + 1 < 2 ^ 62 }
@@ -65,7 +65,7 @@ impl<'a> TreeClaims<Whole<'a>> for Exactly<'a> {
         self.whole
     }
 
-    fn claim<T: StepSink>(&self, alloc: Global, id: u64, sink: &mut T) -> Result<(), SinkFault> {
+    fn claim<T: StepSink>(&self, alloc: Global, id: u64, sink: &mut T) -> SinkResult {
         let root = derive_nodes(alloc, Polarity::Both, self.whole, id, sink)?;
         derive_least(alloc, root, self.whole.bound, self.lower, sink)?;
         derive_root(alloc, root, self.whole.bound + 1, self.upper, sink)
@@ -79,7 +79,7 @@ pub fn derive_exact<T: StepSink>(
     lower: u64,
     upper: u64,
     sink: &mut T,
-) -> Result<(), SinkFault>
+) -> SinkResult
     requires { (T.state sink.old).next ≤ 2 ^ 61 }
     ensures { HandsSteps (exact_steps (sum_within whole.now.terms.now whole.now.bound) whole.now.first lower upper (T.state sink.old).next) result (T.state sink.old) (T.state sink.new) }
 {

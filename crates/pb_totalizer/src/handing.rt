@@ -4,7 +4,7 @@ ghost use Rattle.pb_norm.specs.Constraints.{weights};
 ghost use Rattle.pb_family.specs.HandedJustifications.{HandsJustifications};
 ghost use Rattle.pb_tree.specs.Tree.{tree_of};
 ghost use Rattle.pb_tree.specs.TreeSteps.{output_ids};
-ghost use Rattle.pb_tree.specs.inner.Walks.{fresh_over};
+ghost use Rattle.pb_tree.specs.Walks.{fresh_over};
 ghost use Rattle.pb_totalizer.specs.Totalizer.{totalizer};
 ghost use Rattle.pb_totalizer.specs.inner.Sources.{ids_from};
 ghost use Rattle.pb_totalizer.specs.laws.Polarity.{justifications_by};
@@ -14,7 +14,7 @@ use crate::polarity::Polarity;
 use crate::row_claims::derive_own;
 use crate::whole::Whole;
 use pb_base::Term;
-use pb_family::{SinkFault, StepSink};
+use pb_family::{SinkFault, SinkResult, StepSink};
 use pb_tree::{Parts, Placed, Walk, walk_along};
 use std::alloc::Global;
 
@@ -39,7 +39,7 @@ impl<'a, T: StepSink> Walk<T> for Claims<'a> {
     ghost use Rattle.pb_derive.specs.Justifications.{Justification};
     ghost use Rattle.pb_family.specs.HandedJustifications.{HandsJustifications};
     ghost use Rattle.pb_family.proofs.FlatPieces.{justifications_then};
-    ghost use Rattle.pb_tree.specs.inner.Walks.{fresh_over};
+    ghost use Rattle.pb_tree.specs.Walks.{fresh_over};
     ghost use Rattle.pb_tree.proofs.HandingLaws.{claimed_stop, less_claimed, claimed_room};
     ghost use Rattle.pb_totalizer.specs.Totalizer.{totalizer};
     ghost use Rattle.pb_totalizer.specs.inner.Sources.{StandAt};
@@ -69,7 +69,7 @@ impl<'a, T: StepSink> Walk<T> for Claims<'a> {
         _terms: &[Term],
         before: u64,
         _sink: &mut T,
-    ) -> Result<Placed<Handed>, SinkFault> {
+    ) -> SinkResult<Placed<Handed>> {
         Ok(Placed {
             part: Handed {
                 source: Source::Leaf,
@@ -84,7 +84,7 @@ impl<'a, T: StepSink> Walk<T> for Claims<'a> {
         alloc: Global,
         parts: &Parts<Handed>,
         sink: &mut T,
-    ) -> Result<Placed<Handed>, SinkFault> {
+    ) -> SinkResult<Placed<Handed>> {
         let (left, right) = (*parts.left, *parts.right);
         let cap = self.whole.bound + 1;
         let count = (left.count + right.count).min(cap);
@@ -130,7 +130,7 @@ pub fn derive_nodes<T: StepSink>(
     whole: &Whole,
     id: u64,
     sink: &mut T,
-) -> Result<Source, SinkFault>
+) -> SinkResult<Source>
     requires ids { id + 2 * fresh_over (totalizer whole.now.bound) whole.now.terms.now < 2 ^ 62 }
     requires room { (T.state sink.old).next + length (justifications_by polarity whole.now.bound whole.now.terms.now id) < 2 ^ 62 }
     ensures hands { HandsJustifications (justifications_by polarity whole.now.bound whole.now.terms.now id) result (T.state sink.old) (T.state sink.new) }

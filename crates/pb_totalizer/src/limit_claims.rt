@@ -8,7 +8,7 @@ ghost use Rattle.pb_totalizer.specs.inner.Numbers.{AreLimited};
 
 use crate::node_ids::{NodeIds, Side, Source};
 use pb_base::Term;
-use pb_family::{SinkFault, StepSink, derive_claim};
+use pb_family::{SinkResult, StepSink, derive_claim};
 use std::alloc::{AllocError, Global};
 
 /// Adds the id of the second constraint of a number's output, if it has one.
@@ -71,7 +71,7 @@ pub fn derive_limit<T: StepSink>(
     i: u64,
     j: u64,
     sink: &mut T,
-) -> Result<(), SinkFault>
+) -> SinkResult
     requires pair { AreLimited node.now.left.count node.now.right.count node.now.count i j }
     requires few { (T.state sink.old).next + 1 < 2 ^ 62 }
     ensures { HandsJustifications (limit_beside node.now i j ∷ []) result (T.state sink.old) (T.state sink.new) }

@@ -10,7 +10,7 @@ use crate::limit_claims::derive_limit;
 use crate::node_ids::NodeIds;
 use crate::numbers::{Counts, numbers};
 use crate::polarity::{Direction, Polarity};
-use pb_family::{SinkFault, StepSink};
+use pb_family::{SinkResult, StepSink};
 use std::alloc::Global;
 
 /// The clause of a number of each part.
@@ -21,7 +21,7 @@ fn derive_number<T: StepSink>(
     i: u64,
     j: u64,
     sink: &mut T,
-) -> Result<(), SinkFault>
+) -> SinkResult
     requires together { GoTogether direction node.now.left.count node.now.right.count (most_by direction node.now.cap node.now.count) i j }
     requires few { (T.state sink.old).next + 1 < 2 ^ 62 }
     ensures { HandsJustifications (one_beside direction node.now i j ∷ []) result (T.state sink.old) (T.state sink.new) }
@@ -39,7 +39,7 @@ fn derive_row<T: StepSink>(
     node: &NodeIds,
     i: u64,
     sink: &mut T,
-) -> Result<(), SinkFault>
+) -> SinkResult
     requires within { i ≤ node.now.left.count }
     requires room { (T.state sink.old).next + length (row_beside direction node.now i) < 2 ^ 62 }
     ensures { HandsJustifications (row_beside direction node.now i) result (T.state sink.old) (T.state sink.new) }
@@ -63,7 +63,7 @@ fn derive_rows<T: StepSink>(
     direction: Direction,
     node: &NodeIds,
     sink: &mut T,
-) -> Result<(), SinkFault>
+) -> SinkResult
     requires { (T.state sink.old).next + length (rows_beside direction node.now) < 2 ^ 62 }
     ensures { HandsJustifications (rows_beside direction node.now) result (T.state sink.old) (T.state sink.new) }
 {
@@ -79,7 +79,7 @@ pub fn derive_own<T: StepSink>(
     polarity: Polarity,
     node: &NodeIds,
     sink: &mut T,
-) -> Result<(), SinkFault>
+) -> SinkResult
     requires { (T.state sink.old).next + length (own_beside polarity node.now) < 2 ^ 62 }
     ensures { HandsJustifications (own_beside polarity node.now) result (T.state sink.old) (T.state sink.new) }
 {

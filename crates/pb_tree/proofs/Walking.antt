@@ -9,7 +9,7 @@ use Rattle.pb_tree.specs.Halves.{Halves}
 use Rattle.pb_tree.specs.Scheme.{Scheme, values, along, fresh_of}
 use Rattle.pb_tree.specs.Tree.{Tree, empty, leaf, node, tree_of}
 use Rattle.pb_tree.specs.TreeSteps.{leaves, own_reifications, reifications_from, justifications_along}
-use Rattle.pb_tree.specs.inner.Walks.{AreParts, IsTreeSum, Suits, fresh_over}
+use Rattle.pb_tree.specs.Walks.{AreParts, IsTreeSum, Suits, fresh_over}
 use Rattle.pb_tree.proofs.SplitTerms.{fresh_parts, leaf_of, some_term}
 use Rattle.pb_tree.proofs.TreeReifications.{length-reifications_from}
 use Rattle.pb_tree.proofs.TreeRows.{leaves_of}

@@ -4,5 +4,5 @@ pub mod Places
 pub mod Scheme
 pub mod Tree
 pub mod TreeSteps
-pub mod inner
+pub mod Walks
 pub mod laws

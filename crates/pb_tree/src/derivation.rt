@@ -4,11 +4,11 @@ ghost use Rattle.pb_derive.specs.Justifications.{Justification};
 ghost use Rattle.pb_family.specs.HandedJustifications.{HandsJustifications};
 ghost use Rattle.pb_family.specs.StepSinks.{HandsFrom};
 ghost use Rattle.pb_tree.specs.TreeSteps.{steps_along};
-ghost use Rattle.pb_tree.specs.inner.Walks.{fresh_over};
+ghost use Rattle.pb_tree.specs.Walks.{fresh_over};
 
 use crate::meanings::derive_meanings;
 use crate::sum::TreeSum;
-use pb_family::{SinkFault, StepSink, derive_deletions};
+use pb_family::{SinkResult, StepSink, derive_deletions};
 use std::alloc::Global;
 
 /// Clauses of a sum that follow from what its fresh variables mean.
@@ -24,7 +24,7 @@ pub trait TreeClaims<V: TreeSum> {
         ensures { result.now ≡ sum self.now };
 
     /// Hands over that the clauses follow, where the fresh variables' constraints have the ids from `id` on.
-    fn claim<T: StepSink>(&self, alloc: Global, id: u64, sink: &mut T) -> Result<(), SinkFault>
+    fn claim<T: StepSink>(&self, alloc: Global, id: u64, sink: &mut T) -> SinkResult
         requires ids { id + 2 * fresh_over (V.scheme (sum self.now)) (V.all (sum self.now)) < 2 ^ 62 }
         requires room { (T.state sink.old).next + length (given self.now id) < 2 ^ 62 }
         ensures { HandsJustifications (given self.now id) result (T.state sink.old) (T.state sink.new) };
@@ -35,7 +35,7 @@ pub fn derive_along<V: TreeSum, C: TreeClaims<V>, T: StepSink>(
     alloc: Global,
     of: &C,
     sink: &mut T,
-) -> Result<(), SinkFault>
+) -> SinkResult
     requires low { (T.state sink.old).next ≤ 2 ^ 61 }
     requires few { (id : ℕ) → length (C.given of.now id) ≤ 7 * 2 ^ 58 }
     ensures { HandsFrom (steps_along (V.scheme (C.sum of.now)) (V.all (C.sum of.now)) (V.start (C.sum of.now)) (C.given of.now)) result (T.state sink.old) (T.state sink.new) }

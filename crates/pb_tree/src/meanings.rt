@@ -4,12 +4,12 @@ ghost use Rattle.pb_norm.specs.Constraints.{weight, weights};
 ghost use Rattle.pb_family.specs.HandedJustifications.{HandsReifications};
 ghost use Rattle.pb_tree.specs.Tree.{tree_of};
 ghost use Rattle.pb_tree.specs.TreeSteps.{reifications_from, reifications};
-ghost use Rattle.pb_tree.specs.inner.Walks.{fresh_over};
+ghost use Rattle.pb_tree.specs.Walks.{fresh_over};
 
 use crate::sum::TreeSum;
 use crate::walk::{Parts, Placed, Walk, walk_along};
 use pb_base::Term;
-use pb_family::{SinkFault, StepSink, derive_reification, fresh_at};
+use pb_family::{SinkFault, SinkResult, StepSink, derive_reification, fresh_at};
 use std::alloc::Global;
 
 /// What the outputs of a node mean, whose fresh variables are numbered from `first` on.
@@ -20,7 +20,7 @@ fn derive_outputs<V: TreeSum, T: StepSink>(
     values: &V::Values,
     first: u32,
     sink: &mut T,
-) -> Result<(), SinkFault>
+) -> SinkResult
     requires light { weight (weights terms.now) < 2 ^ 100 }
     requires small { All (λ u. u < 2 ^ 101) (V.list values.now) }
     requires low { 1 ≤ first }
@@ -49,7 +49,7 @@ impl<'a, V: TreeSum, T: StepSink> Walk<T> for Meanings<'a, V> {
     ghost use Rattle.pb_tree.specs.Tree.{tree_of};
     ghost use Rattle.pb_tree.specs.Scheme.{values};
     ghost use Rattle.pb_tree.specs.TreeSteps.{own_reifications};
-    ghost use Rattle.pb_tree.specs.inner.Walks.{fresh_over};
+    ghost use Rattle.pb_tree.specs.Walks.{fresh_over};
     ghost use Rattle.pb_tree.specs.laws.Meant.{reifications_then, meant_stop, less_meant, meant_room};
 
     type Part = V::Values;
@@ -76,7 +76,7 @@ impl<'a, V: TreeSum, T: StepSink> Walk<T> for Meanings<'a, V> {
         terms: &[Term],
         before: u64,
         _sink: &mut T,
-    ) -> Result<Placed<V::Values>, SinkFault> {
+    ) -> SinkResult<Placed<V::Values>> {
         let part = self.of.leaf_values(alloc, terms)?;
         Ok(Placed { part, next: before })
     }
@@ -86,7 +86,7 @@ impl<'a, V: TreeSum, T: StepSink> Walk<T> for Meanings<'a, V> {
         alloc: Global,
         parts: &Parts<V::Values>,
         sink: &mut T,
-    ) -> Result<Placed<V::Values>, SinkFault> {
+    ) -> SinkResult<Placed<V::Values>> {
         let part = self.of.node_values(alloc, parts)?;
         let first = self.of.first() + parts.next as u32;
         derive_outputs(alloc, self.of, parts.terms, &part, first, sink)?;
@@ -108,7 +108,7 @@ pub fn derive_meanings<V: TreeSum, T: StepSink>(
     alloc: Global,
     of: &V,
     sink: &mut T,
-) -> Result<u64, SinkFault>
+) -> SinkResult<u64>
     requires { (T.state sink.old).next ≤ 2 ^ 61 }
     ensures hands { HandsReifications (reifications (V.scheme of.now) (tree_of (weights (V.all of.now))) (V.start of.now)) result (T.state sink.old) (T.state sink.new) }
     ensures count { IfOk result (λ count. count ≡ fresh_over (V.scheme of.now) (V.all of.now)) }

@@ -4,7 +4,7 @@ ghost use Rattle.pb_base.specs.declared.literal.Term.{Term};
 ghost use Rattle.pb_norm.specs.Constraints.{weights};
 ghost use Rattle.pb_tree.specs.Scheme.{Scheme, values};
 ghost use Rattle.pb_tree.specs.Tree.{tree_of};
-ghost use Rattle.pb_tree.specs.inner.Walks.{AreParts, IsTreeSum, Suits, fresh_over};
+ghost use Rattle.pb_tree.specs.Walks.{AreParts, IsTreeSum, Suits, fresh_over};
 
 use crate::walk::Parts;
 use pb_base::Term;

@@ -5,7 +5,7 @@ ghost use Rattle.pb_base.specs.declared.literal.Term.{Term};
 ghost use Rattle.pb_norm.specs.Constraints.{weights};
 ghost use Rattle.pb_tree.specs.Scheme.{Scheme, along, fresh_of};
 ghost use Rattle.pb_tree.specs.Tree.{Tree, tree_of};
-ghost use Rattle.pb_tree.specs.inner.Walks.{AreParts, Suits, fresh_over};
+ghost use Rattle.pb_tree.specs.Walks.{AreParts, Suits, fresh_over};
 
 use crate::halving::halves;
 use pb_base::Term;

@@ -2,7 +2,7 @@
 use Rattle.std.specs.Prelude.{◌≤◌, ◌<◌, ◌+◌, ◌^◌, ℕ, List, length}
 use Rattle.pb_base.specs.declared.literal.Term.{Term}
 use Rattle.pb_norm.specs.Constraints.{AllPositive, weight, weights}
-use Rattle.pb_tree.specs.inner.Walks.{fresh_over}
+use Rattle.pb_tree.specs.Walks.{fresh_over}
 use Rattle.pb_totalizer.specs.Totalizer.{totalizer}
 
 pub record IsWhole (ts : List Term) (bound first : ℕ) : Type 0 where

@@ -2,7 +2,7 @@
 use Rattle.std.proofs.Common.{◌<◌, ◌^◌, ℕ, List, arith}
 use Rattle.pb_base.specs.declared.literal.Term.{Term}
 use Rattle.pb_tree.specs.Scheme.{values}
-use Rattle.pb_tree.specs.inner.Walks.{IsTreeSum}
+use Rattle.pb_tree.specs.Walks.{IsTreeSum}
 use Rattle.pb_tree.proofs.Extending.{all_from_each}
 use Rattle.pb_totalizer.specs.Totalizer.{totalizer}
 use Rattle.pb_totalizer.specs.inner.Wholes.{IsWhole}

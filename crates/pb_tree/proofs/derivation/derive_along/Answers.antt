@@ -3,7 +3,7 @@ use Rattle.pb_derive.specs.Reifications.{reification_steps}
 use Rattle.pb_family.specs.StepSinks.{TakesSteps}
 use Rattle.pb_family.proofs.FlatPieces.{justifications_next}
 use Rattle.pb_family.proofs.HandedPhases.{stopped_in_reifications, stopped_in_claims}
-use Rattle.pb_tree.specs.inner.Walks.{fresh_over}
+use Rattle.pb_tree.specs.Walks.{fresh_over}
 use Rattle.pb_tree.proofs.TreeHanded.{stopped_as}
 use Rattle.pb_tree.proofs.TreePhases.{part_reifications, meant_next, derived, same_as}
 use Rattle.pb_tree.proofs.derivation.derive_along.Goals as goal

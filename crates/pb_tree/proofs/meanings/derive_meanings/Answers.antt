@@ -8,7 +8,7 @@ use Rattle.pb_family.proofs.Deriving.{steps_same}
 use Rattle.pb_tree.specs.Scheme.{along}
 use Rattle.pb_tree.specs.Tree.{tree_of}
 use Rattle.pb_tree.specs.TreeSteps.{own_reifications, reifications}
-use Rattle.pb_tree.specs.inner.Walks.{Suits, fresh_over}
+use Rattle.pb_tree.specs.Walks.{Suits, fresh_over}
 use Rattle.pb_tree.proofs.TreeHanded.{steps_stopped}
 use Rattle.pb_tree.proofs.TreeReifications.{length-reifications}
 use Rattle.pb_tree.proofs.Walking.{from_first, sum_suits}

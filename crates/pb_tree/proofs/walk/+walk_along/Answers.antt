@@ -3,7 +3,7 @@ use Rattle.std.specs.Prelude.{IfOk}
 use Rattle.pb_norm.specs.Constraints.{weights}
 use Rattle.pb_tree.specs.Scheme.{along}
 use Rattle.pb_tree.specs.Tree.{tree_of}
-use Rattle.pb_tree.specs.inner.Walks.{fresh_over}
+use Rattle.pb_tree.specs.Walks.{fresh_over}
 use Rattle.pb_tree.proofs.Walking.{leaf_along, leaf_fresh, front_suits, back_suits, node_count}
 use Rattle.pb_tree.proofs.walk.+walk_along.Goals as goal
 
