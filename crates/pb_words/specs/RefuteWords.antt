@@ -4,7 +4,7 @@ use Rattle.std.specs.Str.{bytes_eq}
 use Rattle.clap.specs.Words.{App, Row, Text, first_of}
 use Rattle.pb_words.specs.declared.refute.RefuteArgs.{RefuteArgs}
 use Rattle.pb_words.specs.BoundWords.{bound_rules}
-use Rattle.pb_words.specs.CheckWords.{check_in, CheckWords}
+use Rattle.pb_words.specs.CheckWords.{as_check_words, check_in, CheckWords}
 use Rattle.pb_words.specs.Rules.{command_of, name_rule}
 
 abbrev pub refute_app : App
@@ -25,4 +25,4 @@ refute_in given = refute_from (check_in given) (first_of (codes "lrat") given)
 
 -- what a `RefuteArgs` says
 abbrev pub as_refute_words : RefuteArgs → RefuteWords
-as_refute_words r = record { checked = record { opb = r.opb.now; cnf = r.cnf.now; proof = r.proof.now; bound = r.bound }; lrat = r.lrat.now }
+as_refute_words r = record { checked = as_check_words r.checking; lrat = r.lrat.now }

@@ -5,23 +5,17 @@ ghost use Rattle.pb_words.specs.RefuteWords.{as_refute_words, refute_in};
 
 use crate::argument::{Argument, word_of};
 use crate::bound::BOUND;
-use crate::check::{NAMES, check_args_in};
+use crate::check::{CheckArgs, NAMES, check_args_in};
 use crate::command::Syntax;
 use clap::ArgMatches;
 
 /// Check a derivation and a refutation of the CNF: the four files that are read.
 #[derive(Clone, Copy, PartialEq, Eq, Debug)]
 pub struct RefuteArgs<'a> {
-    /// The name of the OPB file.
-    pub opb: &'a str,
-    /// The name of the CNF file, which is another.
-    pub cnf: &'a str,
-    /// The name of the derivation, which is a third.
-    pub proof: &'a str,
+    /// What is checked first.
+    pub checking: CheckArgs<'a>,
     /// The name of the refutation, which is a fourth.
     pub lrat: &'a str,
-    /// What the objective is at most, if that is asked for.
-    pub bound: Option<i128>,
 }
 
 /// `refute OPB CNF PROOF LRAT` and a bound.
@@ -39,11 +33,5 @@ pub fn refute_args_in<'a>(given: &ArgMatches<'a>) -> Option<RefuteArgs<'a>>
     if checking.opb == lrat || checking.cnf == lrat || checking.proof == lrat {
         return None;
     }
-    Some(RefuteArgs {
-        opb: checking.opb,
-        cnf: checking.cnf,
-        proof: checking.proof,
-        lrat,
-        bound: checking.bound,
-    })
+    Some(RefuteArgs { checking, lrat })
 }

@@ -22,6 +22,14 @@ const PIECE: usize = 65536;
 // Room for what the commands say, which nobody reads.
 const SAID: usize = 16;
 
+// The names that the texts of a check have on a shelf.
+const NAMES: CheckArgs<'static> = CheckArgs {
+    opb: OPB,
+    cnf: CNF,
+    proof: PROOF,
+    bound: None,
+};
+
 // Checks files of a shelf.
 fn check_shelf(alloc: Global, shelf: Shelf, asked: &CheckArgs<'_>) -> Outcome
     ensures { AnswersInMemory (check_spec (as_check_words asked.now)) (shelf_of shelf) 16 result }
@@ -53,12 +61,7 @@ pub fn check_texts(
 ) -> Outcome
     ensures { Checks bound opb.now cnf.now proof.now result }
 {
-    let asked = CheckArgs {
-        opb: OPB,
-        cnf: CNF,
-        proof: PROOF,
-        bound,
-    };
+    let asked = CheckArgs { bound, ..NAMES };
     match checked_texts(alloc, opb, cnf, proof) {
         Ok(shelf) => check_shelf(alloc, shelf, &asked),
         Err(NoMemory) => Outcome::NoMemory,
@@ -76,12 +79,10 @@ pub fn refute_texts(
 ) -> Outcome
     ensures { Refutes bound opb.now cnf.now proof.now lrat.now result }
 {
+    let checking = CheckArgs { bound, ..NAMES };
     let asked = RefuteArgs {
-        opb: OPB,
-        cnf: CNF,
-        proof: PROOF,
+        checking,
         lrat: LRAT,
-        bound,
     };
     match refuted_texts(alloc, opb, cnf, proof, lrat) {
         Ok(shelf) => refute_shelf(alloc, shelf, &asked),

@@ -14,7 +14,7 @@ use pb_base::{Clauses, Failed, File};
 use pb_check::{Verdict, check_kept};
 use pb_desk::Desk;
 use pb_lrat::{RefuteFault, refute};
-use pb_words::{CheckArgs, RefuteArgs};
+use pb_words::RefuteArgs;
 use std::alloc::Global;
 
 // The outcome of a text that is no refutation.
@@ -59,13 +59,7 @@ pub fn refute_file<D: Desk>(alloc: Global, asked: &RefuteArgs<'_>, desk: &mut D)
     requires closed { IsClosed (D.state desk.old) }
     ensures { Implements (refute_spec (as_refute_words asked.now)) (D.state desk.old) (D.state desk.new) result }
 {
-    let checking = CheckArgs {
-        opb: asked.opb,
-        cnf: asked.cnf,
-        proof: asked.proof,
-        bound: asked.bound,
-    };
-    let problem = match open_checked(alloc, &checking, desk) {
+    let problem = match open_checked(alloc, &asked.checking, desk) {
         Ok(problem) => problem,
         Err(outcome) => return outcome,
     };
