@@ -7,3 +7,4 @@ pub mod Meaning
 pub mod Walking
 pub mod Spelling
 pub mod Columns
+pub mod QuickLines

@@ -1,5 +1,5 @@
 -- How going through the text of a slot as a refutation may end (our own).
-use Rattle.std.specs.Prelude.{◌≡◌, ℕ, List, [], Some, IsOk}
+use Rattle.std.specs.Prelude.{◌≡◌, ℕ, List, Some, IsOk}
 use Rattle.pb_base.specs.declared.literal.Lit.{Lit}
 use Rattle.pb_desk.specs.Desk.{DeskState}
 use Rattle.pb_desk.specs.LineReading.{TakesAhead, FailsAhead, nothing_held}

@@ -1,4 +1,5 @@
 pub mod Looks
+pub mod Quick
 pub mod Marks
 pub mod Stores
 pub mod Trails

@@ -26,10 +26,9 @@ fn falsify(clause: &[Lit], trail: &mut Trail) -> Result<bool, NoMemory>
     ensures falsified { result ≡ Ok true → trail.new ≡ falsified [] clause.now }
 {
     for lit in clause {
-        if trail.holds(lit) {
+        if !trail.deny(lit)? {
             return Ok(false);
         }
-        trail.add(&lit.not())?;
     }
     Ok(true)
 }

@@ -8,6 +8,7 @@ mod judge;
 mod laws;
 mod line_laws;
 mod marks;
+mod quick;
 mod read;
 mod refute_fault;
 mod refuting;

@@ -6,6 +6,7 @@ ghost use Rattle.pb_steps.specs.LineWords.{and_then};
 ghost use Rattle.pb_steps.specs.LineSteps.{ends_here, IsFaultOf};
 ghost use Rattle.pb_lrat.specs.LratLines.{ids_of, clause_of, addition_of, behind_id, said_of};
 
+use crate::quick::quick_line;
 use crate::said::Said;
 use crate::word::{hint_in, literal_in};
 use pb_base::{Clause, Expected, Ids, Word, Words, words};
@@ -116,8 +117,8 @@ fn opens_comment(text: &[u8]) -> bool
     matches!(text, [b'c', ..])
 }
 
-/// What a line says over so many variables.
-pub(crate) fn read_line(alloc: Global, vars: u32, line: &[u8]) -> Result<Said, StepFault>
+// What a line says over so many variables, by its words.
+fn read_words(alloc: Global, vars: u32, line: &[u8]) -> Result<Said, StepFault>
     requires vars { vars < 2 ^ 31 }
     ensures ok { IfOk result (λ said. said_of vars line.now ≡ Ok said) }
     ensures err { IfErr result (IsFaultOf (said_of vars line.now)) }
@@ -131,4 +132,16 @@ pub(crate) fn read_line(alloc: Global, vars: u32, line: &[u8]) -> Result<Said, S
     }
     let id = id_in(&word, Expected::LratId)?;
     read_behind(alloc, vars, id, words, line.len() as u64 + 1)
+}
+
+/// What a line says over so many variables, in one pass where it is in the usual layout.
+pub(crate) fn read_line(alloc: Global, vars: u32, line: &[u8]) -> Result<Said, StepFault>
+    requires vars { vars < 2 ^ 31 }
+    ensures ok { IfOk result (λ said. said_of vars line.now ≡ Ok said) }
+    ensures err { IfErr result (IsFaultOf (said_of vars line.now)) }
+{
+    if let Some(said) = quick_line(alloc, vars, line)? {
+        return Ok(said);
+    }
+    read_words(alloc, vars, line)
 }

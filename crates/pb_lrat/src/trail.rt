@@ -1,5 +1,5 @@
 //! Literals that are true while a line is judged.
-ghost use Rattle.std.specs.Prelude.{◌≡◌, ◌<◌, [], ◌∷◌, ◌++◌, vec_len, vec_capacity, OnOk, false};
+ghost use Rattle.std.specs.Prelude.{◌≡◌, ◌<◌, [], ◌∷◌, ◌++◌, vec_len, vec_capacity, Ok, IfOk, OnOk, true, false, not};
 ghost use Rattle.pb_base.specs.Literals.{negated, is_among};
 ghost use Rattle.pb_lrat.specs.Hints.{with_true};
 
@@ -81,6 +81,20 @@ impl Trail {
             return Ok(());
         }
         self.push(lit)
+    }
+
+    // Has a literal be false, unless it is true. Whether it is false then.
+    pub(crate) fn deny(&mut self, lit: &Lit) -> Result<bool, NoMemory>
+        ensures free { IfOk result (λ free. free ≡ not (is_among self.old lit.now)) }
+        ensures denied { result ≡ Ok true → self.new ≡ with_true (negated lit.now) self.old }
+    {
+        match self.marks.get(lit.index()) {
+            Some(value) => Ok(value != lit.positive),
+            None => {
+                self.push(&lit.not())?;
+                Ok(true)
+            }
+        }
     }
 
     // Has no literal be true, in as many steps as there are true ones.
