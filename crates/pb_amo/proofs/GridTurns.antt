@@ -1,5 +1,6 @@
 -- A grid's derivation, part by part.
 use Rattle.std.proofs.Common.{◌≡◌, ◌≤◌, ◌<◌, ◌+◌, ◌*◌, ◌++◌, ◌∙◌, ℕ, cond, List, [], ◌∷◌, map, length, ap, sym, arith}
+use Rattle.std.specs.Prelude.{Result, IsErrAnd}
 use Rattle.std.proofs.lemmas.List.Sums.{sum_by-cons, sum_by-append, count_by-le-length}
 use Rattle.std.proofs.lemmas.List.FromFn.{length-map-range_with_len}
 use Rattle.pb_base.specs.declared.literal.Lit.{Lit}
@@ -11,10 +12,11 @@ use Rattle.pb_derive.specs.FollowedBy.{followed_by}
 use Rattle.pb_derive.specs.Justifications.{by_justification}
 use Rattle.pb_derive.specs.Reifications.{Reification, reification_steps}
 use Rattle.pb_family.specs.Numbered.{justifications_by_number, reifications_by_number}
-use Rattle.pb_family.specs.StepSinks.{StepState, TakesSteps}
-use Rattle.pb_family.proofs.Deriving.{Deriving, deriving_starts, deriving_from, deriving_as, deriving_step}
+use Rattle.pb_family.specs.StepSinks.{StepState, TakesSteps, StopsInSteps, HandsSteps}
+use Rattle.pb_family.specs.declared.sink.SinkFault.{SinkFault}
+use Rattle.pb_family.proofs.Deriving.{Deriving, deriving_starts, deriving_from, deriving_as, deriving_step, steps_fault, steps_last}
 use Rattle.pb_family.proofs.FlatPieces.{justifications_next, reifications_next}
-use Rattle.pb_family.proofs.Sequence.{deletions_ids, after_followed}
+use Rattle.pb_family.proofs.Sequence.{deletions_ids, after_followed, followed_fault}
 use Rattle.pb_amo.specs.Product.{rows, columns, line, product_fresh, product_count}
 use Rattle.pb_amo.specs.ProductSteps.{line_sum, side_steps, product_steps}
 use Rattle.pb_amo.specs.inner.GridOrder.{line_at, cell_at}
@@ -51,10 +53,6 @@ side_next sum_id base first w inner now after h =
       ap product_count size,
     )
 
-pub most_of : (n count r q : ℕ) → count ≡ n → r ≡ rows count → q ≡ columns count → 4 < count → most_steps n ≡ 8 * (r + q) + 4 * n + most_steps r + most_steps q
-most_of n count r q size of_rows of_columns many =
-    omega (arith, size, ap product_fresh size, ap product_count size, fresh_step count many, count_step count many, of_rows, of_columns, ap product_fresh of_rows, ap product_fresh of_columns, ap product_count of_rows, ap product_count of_columns)
-
 -- ---- the parts
 
 module _ (ms : List Lit) (first id r q base : ℕ) where
@@ -74,38 +72,67 @@ module _ (ms : List Lit) (first id r q base : ℕ) where
   abbrev pub parts_of : ℕ → List Step
   parts_of next = reification_steps next lines_of ++ (followed_by cells_from sides_from (next + 2 * (r + q)) ++ gone)
 
-pub grid_parts : (ms : List Lit) (first id next count r q base : ℕ) → count ≡ length ms → r ≡ rows count → q ≡ columns count → 4 < count → base ≡ next → product_steps ms first id next ≡ parts_of ms first id r q base next
-grid_parts ms first id next count r q base size of_rows of_columns many is =
+-- a grid of more than four literals, with its sides: the parts of its derivation, and how many steps they are at most
+pub record Turn (ms : List Lit) (first id next r q base : ℕ) : Type 0 where
+  pub parts : product_steps ms first id next ≡ parts_of ms first id r q base next
+  pub most : most_steps (length ms) ≡ 8 * (r + q) + 4 * length ms + most_steps r + most_steps q
+
+pub turn_of : (ms : List Lit) (first id next count r q base : ℕ) → count ≡ length ms → r ≡ rows count → q ≡ columns count → 4 < count → base ≡ next → Turn ms first id next r q base
+turn_of ms first id next count r q base size of_rows of_columns many is =
     let r0 : ℕ = rows (length ms) in
     let q0 : ℕ = columns (length ms) in
-    rw (is, of_rows ∙ ap rows size, of_columns ∙ ap columns size)
-    (product_levels ms first id next (omega arith)
-    ∙ (λ x. reification_steps next (sym (lines_by_number ms first r0 q0) x)
-    ++ (followed_by (λ n. claim_steps n (map by_justification (sym (cells_by_number ms first r0 q0 next) x))) (sides_from ms first id r0 q0 next) (next + 2 * (r0 + q0)) ++ gone ms first id r0 q0 next)))
+    record {
+      parts = rw (is, of_rows ∙ ap rows size, of_columns ∙ ap columns size)
+          (product_levels ms first id next (omega arith)
+          ∙ (λ x. reification_steps next (sym (lines_by_number ms first r0 q0) x)
+          ++ (followed_by (λ n. claim_steps n (map by_justification (sym (cells_by_number ms first r0 q0 next) x))) (sides_from ms first id r0 q0 next) (next + 2 * (r0 + q0)) ++ gone ms first id r0 q0 next)));
+      most = omega (arith, size, ap product_fresh size, ap product_count size, fresh_step count many, count_step count many, of_rows, of_columns, ap product_fresh of_rows, ap product_fresh of_columns, ap product_count of_rows, ap product_count of_columns);
+    }
 
-module _ {R : Type 0} {all : List Step} (ms : List Lit) (first id r q base : ℕ) (old : StepState R) (parts : all ≡ parts_of ms first id r q base old.next) (now : StepState R) (h : TakesSteps (reification_steps old.next (lines_of ms first id r q base)) old now) where
-  pub after_lines : Deriving all (followed_by (cells_from ms first id r q base) (sides_from ms first id r q base) now.next ++ gone ms first id r q base) old now
-  after_lines =
-      let left : ℕ → List Step = λ n. followed_by (cells_from ms first id r q base) (sides_from ms first id r q base) n ++ gone ms first id r q base in
-      deriving_as (ap left (sym (reifications_next (line_at ms first r q) (r + q) old now h)))
-      (deriving_step {left = left (old.next + 2 * (r + q))} (reification_steps old.next (lines_of ms first id r q base)) now (deriving_from old parts) h)
+-- its parts, one after another: where one is stopped, the whole is, and behind the last it is whole
+module _ {R : Type 0} {ms : List Lit} {first id r q base : ℕ} (old : StepState R) (turn : Turn ms first id old.next r q base) where
+  abbrev all : List Step
+  all = product_steps ms first id old.next
 
-  module _ (mid : StepState R) (k : TakesSteps (cells_from ms first id r q base now.next) now mid) where
-    pub cells_next : mid.next ≡ old.next + 2 * (r + q) + 2 * length ms
-    cells_next =
-        omega (
-          arith,
-          reifications_next (line_at ms first r q) (r + q) old now h,
-          justifications_next (justifications_by_number (cell_at ms first r q base) (length ms * 2)) now mid k,
-          length-map-range_with_len (cell_at ms first r q base) 0 (length ms * 2),
-        )
+  abbrev lines : List Step
+  lines = reification_steps old.next (lines_of ms first id r q base)
 
-    pub after_cells : Deriving all (sides_from ms first id r q base mid.next ++ gone ms first id r q base) old mid
-    after_cells = after_followed (cells_from ms first id r q base) (sides_from ms first id r q base) (gone ms first id r q base) after_lines mid k
+  abbrev behind : ℕ → List Step
+  behind n = followed_by (cells_from ms first id r q base) (sides_from ms first id r q base) n ++ gone ms first id r q base
 
-    -- the rows' part was taken
-    pub after_rows : (last : StepState R) → TakesSteps (rows_part ms first r q id base mid.next) mid last → Deriving all (columns_part ms first r q id base last.next ++ gone ms first id r q base) old last
-    after_rows last j = after_followed (rows_part ms first r q id base) (columns_part ms first r q id base) (gone ms first id r q base) after_cells last j
+  pub fault_in_lines : {T : Type 0} (result : Result T SinkFault) (f : SinkFault) (after : StepState R) → IsErrAnd result (λ g. g ≡ f) → StopsInSteps lines old after f → HandsSteps all result old after
+  fault_in_lines result f after is part = steps_fault result f lines (behind (old.next + 2 * (r + q))) after is (deriving_from old turn.parts) part
+
+  module _ (now : StepState R) (h : TakesSteps lines old now) where
+    pub lines_next : now.next ≡ old.next + 2 * (r + q)
+    lines_next = reifications_next (line_at ms first r q) (r + q) old now h
+
+    after_lines : Deriving all (behind now.next) old now
+    after_lines = deriving_as (ap behind (sym lines_next)) (deriving_step {left = behind (old.next + 2 * (r + q))} lines now (deriving_from old turn.parts) h)
+
+    pub fault_in_cells : {T : Type 0} (result : Result T SinkFault) (f : SinkFault) (after : StepState R) → IsErrAnd result (λ g. g ≡ f) → StopsInSteps (cells_from ms first id r q base now.next) now after f → HandsSteps all result old after
+    fault_in_cells result f after is part = followed_fault (cells_from ms first id r q base) (sides_from ms first id r q base) (gone ms first id r q base) after_lines result f after is part
+
+    module _ (mid : StepState R) (k : TakesSteps (cells_from ms first id r q base now.next) now mid) where
+      pub cells_next : mid.next ≡ old.next + 2 * (r + q) + 2 * length ms
+      cells_next =
+          omega (arith, lines_next, justifications_next (justifications_by_number (cell_at ms first r q base) (length ms * 2)) now mid k, length-map-range_with_len (cell_at ms first r q base) 0 (length ms * 2))
+
+      after_cells : Deriving all (sides_from ms first id r q base mid.next ++ gone ms first id r q base) old mid
+      after_cells = after_followed (cells_from ms first id r q base) (sides_from ms first id r q base) (gone ms first id r q base) after_lines mid k
+
+      pub fault_in_rows : {T : Type 0} (result : Result T SinkFault) (f : SinkFault) (after : StepState R) → IsErrAnd result (λ g. g ≡ f) → StopsInSteps (rows_part ms first r q id base mid.next) mid after f → HandsSteps all result old after
+      fault_in_rows result f after is part = followed_fault (rows_part ms first r q id base) (columns_part ms first r q id base) (gone ms first id r q base) after_cells result f after is part
+
+      module _ (last : StepState R) (j : TakesSteps (rows_part ms first r q id base mid.next) mid last) where
+        after_rows : Deriving all (columns_part ms first r q id base last.next ++ gone ms first id r q base) old last
+        after_rows = after_followed (rows_part ms first r q id base) (columns_part ms first r q id base) (gone ms first id r q base) after_cells last j
+
+        pub fault_in_columns : {T : Type 0} (result : Result T SinkFault) (f : SinkFault) (after : StepState R) → IsErrAnd result (λ g. g ≡ f) → StopsInSteps (columns_part ms first r q id base last.next) last after f → HandsSteps all result old after
+        fault_in_columns result f after is part = steps_fault result f (columns_part ms first r q id base last.next) (gone ms first id r q base) after is after_rows part
+
+        pub whole_grid : {T : Type 0} (result : Result T SinkFault) (end new : StepState R) → TakesSteps (columns_part ms first r q id base last.next) last end → HandsSteps (gone ms first id r q base) result end new → HandsSteps all result old new
+        whole_grid result end new columns deleted = steps_last result (gone ms first id r q base) new (deriving_step {left = gone ms first id r q base} (columns_part ms first r q id base last.next) end after_rows columns) deleted
 
 -- ---- a line's grid, between its sum and the deletion of that
 

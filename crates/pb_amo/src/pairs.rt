@@ -1,12 +1,12 @@
 //! At most one of some literals, by a clause for each two of them.
 ghost use Rattle.std.specs.Prelude.{◌≡◌, ◌<◌, ◌+◌, ◌^◌, ℕ, true, length};
 ghost use Rattle.pb_family.specs.Handing.{Hands};
-ghost use Rattle.pb_norm.specs.BoundedSums.{IsOverDistinct};
 ghost use Rattle.pb_norm.specs.Reduction.{all_weigh, lits_of};
 ghost use Rattle.pb_amo.specs.Pairwise.{pair_count, pairwise_clauses};
 ghost use Rattle.pb_amo.specs.inner.Source.{source_literals};
 
 use crate::claims::derive_pairs;
+use crate::one::One;
 use crate::source::Source;
 use pb_base::Failed;
 use pb_family::{ClauseSink, Derive, Family, SinkResult, StepSink, Strong};
@@ -16,11 +16,7 @@ use std::alloc::Global;
 /// A clause for each two of the literals (the pairwise, or binomial, encoding: Frisch and Giannaros 2010).
 #[derive(Clone, Copy)]
 pub struct Pairwise<'a> {
-    of: &'a AtMost,
-    ghost at_most_one: { of.now.bound ≡ 1 },
-    ghost units: { all_weigh 1 of.now.terms ≡ true },
-    ghost few: { length of.now.terms < 2 ^ 31 },
-    ghost distinct: { IsOverDistinct of.now.terms },
+    sum: One<'a>,
 }
 
 impl<'a> Pairwise<'a> {
@@ -33,9 +29,7 @@ impl<'a> Pairwise<'a> {
         ensures clauses { ⟦<Self as Family>⟧.clause_count result ≡ pair_count (length of.now.terms) }
         ensures list { (first : ℕ) → ⟦<Self as Family>⟧.clause_list result first ≡ pairwise_clauses (lits_of of.now.terms) }
     {
-        // Brings in that its variables are distinct, and its terms few.
-        let _ = of.bound();
-        Pairwise { of }
+        Pairwise { sum: One::over(of) }
     }
 }
 
@@ -56,13 +50,13 @@ pub(crate) fn emit_pairs<S: ClauseSink>(literals: &Source, sink: &mut S) -> Resu
 impl Family for Pairwise<'_> {
     ghost use Rattle.pb_amo.specs.laws.PairwiseLaws.{pairwise_sound, pairwise_extends, pairwise_counts, pairwise_names};
 
-    ghost constraint = { λ f. f.of.now };
+    ghost constraint = { λ f. f.sum.of.now };
 
     ghost fresh_count = { λ _. 0 };
 
-    ghost clause_count = { λ f. pair_count (length f.of.now.terms) };
+    ghost clause_count = { λ f. pair_count (length f.sum.of.now.terms) };
 
-    ghost clause_list = { λ f _. pairwise_clauses (lits_of f.of.now.terms) };
+    ghost clause_list = { λ f _. pairwise_clauses (lits_of f.sum.of.now.terms) };
 
     ghost TakesNoMemory = { λ _. Unit {0} };
 
@@ -71,7 +65,7 @@ impl Family for Pairwise<'_> {
     }
 
     fn clauses(&self) -> u64 {
-        let count = self.of.terms().len() as u64;
+        let count = self.sum.of.terms().len() as u64;
         if count == 0 {
             0
         } else {
@@ -82,23 +76,23 @@ impl Family for Pairwise<'_> {
     fn emit<S: ClauseSink>(&self, alloc: Global, first: u32, sink: &mut S) -> SinkResult {
         let _ = alloc;
         let _ = first;
-        emit_pairs(&Source::OfTerms(self.of.terms()), sink)?;
+        emit_pairs(&Source::OfTerms(self.sum.of.terms()), sink)?;
         Ok(())
     }
 
-    ghost sound = { λ f first below v model. pairwise_sound f.of.now f.at_most_one f.units v model };
+    ghost sound = { λ f first below v model. pairwise_sound f.sum.of.now f.sum.at_most_one f.sum.units v model };
 
-    ghost extends = { λ f first below v holds. pairwise_extends f.of.now f.at_most_one f.units first v holds };
+    ghost extends = { λ f first below v holds. pairwise_extends f.sum.of.now f.sum.at_most_one f.sum.units first v holds };
 
-    ghost counts = { λ f first. pairwise_counts f.of.now.terms };
+    ghost counts = { λ f first. pairwise_counts f.sum.of.now.terms };
 
-    ghost names = { λ f first. pairwise_names f.of.now.terms first 0 };
+    ghost names = { λ f first. pairwise_names f.sum.of.now.terms first 0 };
 }
 
 impl Strong for Pairwise<'_> {
     ghost use Rattle.pb_amo.specs.laws.PairwiseLaws.{pairwise_propagates};
 
-    ghost propagates = { λ f first below. pairwise_propagates f.of.now f.at_most_one f.units f.distinct };
+    ghost propagates = { λ f first below. pairwise_propagates f.sum.of.now f.sum.at_most_one f.sum.units f.sum.distinct };
 }
 
 impl Derive for Pairwise<'_> {
@@ -106,18 +100,18 @@ impl Derive for Pairwise<'_> {
     ghost use Rattle.pb_amo.specs.laws.PairwiseDerives.{pairwise_derives, pairwise_few};
     ghost use Rattle.pb_amo.specs.laws.PairwiseShort.{pairwise_sayable, pairwise_short};
 
-    ghost step_list = { λ f first id next. pairwise_steps (lits_of f.of.now.terms) id next };
+    ghost step_list = { λ f first id next. pairwise_steps (lits_of f.sum.of.now.terms) id next };
 
     fn derive<T: StepSink>(&self, alloc: Global, first: u32, id: u64, sink: &mut T) -> SinkResult {
         let _ = first;
-        derive_pairs(alloc, &Source::OfTerms(self.of.terms()), id, sink)
+        derive_pairs(alloc, &Source::OfTerms(self.sum.of.terms()), id, sink)
     }
 
-    ghost derives = { λ f first id db below ready. pairwise_derives f.of.now f.at_most_one f.units f.distinct first id db below ready };
+    ghost derives = { λ f first id db below ready. pairwise_derives f.sum.of.now f.sum.at_most_one f.sum.units f.sum.distinct first id db below ready };
 
-    ghost few_steps = { λ f first id next. pairwise_few f.of.now.terms id next };
+    ghost few_steps = { λ f first id next. pairwise_few f.sum.of.now.terms id next };
 
-    ghost sayable = { λ f first id next original start. pairwise_sayable f.of.now.terms first id next original start f.few };
+    ghost sayable = { λ f first id next original start. pairwise_sayable f.sum.of.now.terms first id next original start f.sum.few };
 
-    ghost short = { λ f first id next original start. pairwise_short f.of.now.terms first id next original start f.few };
+    ghost short = { λ f first id next original start. pairwise_short f.sum.of.now.terms first id next original start f.sum.few };
 }

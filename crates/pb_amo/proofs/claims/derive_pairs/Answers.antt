@@ -1,4 +1,4 @@
-use Rattle.std.proofs.Common.{◌+◌, drop, arith, ap, ◌∙◌, refl}
+use Rattle.std.proofs.Common.{◌≡◌, ◌+◌, [], ◌∷◌, drop, arith, ap, ◌∙◌, refl}
 use Rattle.pb_base.specs.Literals.{negated}
 use Rattle.pb_family.specs.Fresh.{literal_at}
 use Rattle.pb_family.proofs.Deriving.{deriving_from}
@@ -6,6 +6,8 @@ use Rattle.pb_family.proofs.Emission.{two_literals}
 use Rattle.pb_amo.specs.Pairwise.{pairwise_clauses}
 use Rattle.pb_amo.specs.inner.Source.{source_literals}
 use Rattle.pb_amo.proofs.Claiming.{claim_room, claim_fault, claim_step, left_pairs}
+use Rattle.pb_amo.proofs.claims.derive_pairs.Given.{Over}
+use Rattle.pb_amo.proofs.claims.derive_pairs.Goals.{After-not-in-loop-j}
 use Rattle.pb_amo.proofs.claims.derive_pairs.Goals as goal
 
 pub loop-i-init : goal.loop-i-init
@@ -24,19 +26,20 @@ derive_propagated-requires g c =
       few = claim_room c.args.id ms (sink.state c.args.sink.now) (sink.state c.loop-j.sink) (literal_at ms c.loop-i.i) c.loop-j.j (pairwise_clauses (drop (c.loop-i.i + 1) ms)) (omega arith) c.loop-j.invariant c.requires.room;
     }
 
+-- the clause that is handed over, by its literals
+same : (g : Over) (c : After-not-in-loop-j g) → (let ms = source_literals c.args.literals.now in (c.not.result ∷ c.not-in-loop-j.result ∷ []) ≡ (negated (literal_at ms c.loop-i.i) ∷ negated (literal_at ms c.loop-j.j) ∷ []))
+same g c = two_literals _ _ _ _ (c.not.ensures ∙ ap negated c.at.ensures) (c.not-in-loop-j.ensures ∙ ap negated c.at-in-loop-j.ensures)
+
 pub returns-in_err-derive_propagated : goal.returns-in_err-derive_propagated
 returns-in_err-derive_propagated g c =
     let sink = g.T.StepSink in
     let ms = source_literals c.args.literals.now in
-    let m = literal_at ms c.loop-i.i in
-    let same = two_literals _ _ (negated m) (negated (literal_at ms c.loop-j.j)) (c.not.ensures ∙ ap negated c.at.ensures) (c.not-in-loop-j.ensures ∙ ap negated c.at-in-loop-j.ensures) in
-    claim_fault c.args.id ms (sink.state c.args.sink.now) (sink.state c.loop-j.sink) m c.loop-j.j (pairwise_clauses (drop (c.loop-i.i + 1) ms)) (omega arith) c.loop-j.invariant _ (sink.state c.derive_propagated.new.sink) same c.from_residual.result _ c.from_residual.ensures.1
-    c.in_err-derive_propagated.ensures
+    claim_fault c.args.id ms (sink.state c.args.sink.now) (sink.state c.loop-j.sink) (literal_at ms c.loop-i.i) c.loop-j.j (pairwise_clauses (drop (c.loop-i.i + 1) ms)) (omega arith) c.loop-j.invariant _ (sink.state c.derive_propagated.new.sink) (same g (goal.at.returns-in_err-derive_propagated g c).After-not-in-loop-j)
+    c.from_residual.result _ c.from_residual.ensures.1 c.in_err-derive_propagated.ensures
 
 pub loop-j-preserved : goal.loop-j-preserved
 loop-j-preserved g c =
     let sink = g.T.StepSink in
     let ms = source_literals c.args.literals.now in
-    let m = literal_at ms c.loop-i.i in
-    let same = two_literals _ _ (negated m) (negated (literal_at ms c.loop-j.j)) (c.not.ensures ∙ ap negated c.at.ensures) (c.not-in-loop-j.ensures ∙ ap negated c.at-in-loop-j.ensures) in
-    claim_step c.args.id ms (sink.state c.args.sink.now) (sink.state c.loop-j.sink) m c.loop-j.j (pairwise_clauses (drop (c.loop-i.i + 1) ms)) (omega arith) c.loop-j.invariant _ (sink.state c.derive_propagated.new.sink) same c.in_ok-derive_propagated.ensures
+    claim_step c.args.id ms (sink.state c.args.sink.now) (sink.state c.loop-j.sink) (literal_at ms c.loop-i.i) c.loop-j.j (pairwise_clauses (drop (c.loop-i.i + 1) ms)) (omega arith) c.loop-j.invariant _ (sink.state c.derive_propagated.new.sink) (same g (goal.at.loop-j-preserved g c).After-not-in-loop-j)
+    c.in_ok-derive_propagated.ensures

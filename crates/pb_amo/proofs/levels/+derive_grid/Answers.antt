@@ -1,20 +1,17 @@
-use Rattle.std.proofs.Common.{◌+◌, ◌*◌, [], ◌∷◌, ◌++◌, length, ap, sym, arith}
+use Rattle.std.proofs.Common.{◌≡◌, ◌≤◌, ◌+◌, ◌*◌, [], ◌∷◌, ◌++◌, ℕ, length, ap, sym, arith}
 use Rattle.pb_derive.specs.Deletions.{deletion_steps}
-use Rattle.pb_derive.specs.FollowedBy.{followed_by}
-use Rattle.pb_derive.specs.Reifications.{reification_steps}
-use Rattle.pb_family.proofs.Deriving.{deriving_from, deriving_starts, deriving_step, steps_fault, steps_last, steps_same}
-use Rattle.pb_family.proofs.FlatPieces.{reifications_next}
-use Rattle.pb_family.proofs.Sequence.{followed_fault}
+use Rattle.pb_family.proofs.Deriving.{deriving_starts, deriving_step, steps_fault, steps_last, steps_same}
 use Rattle.pb_amo.specs.PairwiseSteps.{pairwise_steps}
 use Rattle.pb_amo.specs.Product.{line, product_fresh}
 use Rattle.pb_amo.specs.ProductSteps.{line_sum, side_steps, product_steps}
-use Rattle.pb_amo.specs.inner.GridOrder.{line_at}
 use Rattle.pb_amo.specs.inner.ProductParts.{most_steps}
 use Rattle.pb_amo.specs.inner.Source.{source_literals}
 use Rattle.pb_amo.specs.laws.GridCounts.{count_leaf}
 use Rattle.pb_amo.specs.laws.LineLaws.{length-line}
-use Rattle.pb_amo.specs.laws.ProductLevels.{product_few_steps, rows_part, columns_part}
-use Rattle.pb_amo.proofs.GridTurns.{inner_next, side_next, most_of, grid_parts, lines_of, cells_from, sides_from, after_lines, cells_next, after_cells, after_rows, after_sum}
+use Rattle.pb_amo.specs.laws.ProductLevels.{product_few_steps}
+use Rattle.pb_amo.proofs.GridTurns.{Turn, turn_of, inner_next, side_next, lines_next, cells_next, after_sum, fault_in_lines, fault_in_cells, fault_in_rows, fault_in_columns, whole_grid}
+use Rattle.pb_amo.proofs.levels.+derive_grid.Given.{Over}
+use Rattle.pb_amo.proofs.levels.+derive_grid.Goals.{derive_grid-After-next_id-base, derive_grid-In_ok-claim_all, derive_grid-In_ok-derive_side}
 use Rattle.pb_amo.proofs.levels.+derive_grid.Goals as goal
 
 pub derive_side-returns-in_err-derive_line_sum : goal.derive_side-returns-in_err-derive_line_sum
@@ -64,149 +61,82 @@ derive_grid-returns-then-count-le4 g t c =
     steps_same c.derive_pairs.result (pairwise_steps ms c.args.id old.next) (product_steps ms c.args.first c.args.id old.next) old (g.T.StepSink.state c.derive_pairs.new.sink)
     (sym (product_few_steps ms c.args.first c.args.id old.next (omega (arith, c.len-count.ensures, c.if-count-le4.true)))) c.derive_pairs.ensures
 
+-- ---- a grid of more than four literals
+
+turn : (g : Over) (t : ℕ) (c : derive_grid-After-next_id-base g t)
+    → Turn (source_literals c.args.literals.now) c.args.first c.args.id (g.T.StepSink.state c.args.sink.now).next c.sides_of-sides.result.rows c.sides_of-sides.result.columns c.next_id-base.result
+turn g t c = turn_of _ _ _ _ c.len-count.result _ _ _ c.len-count.ensures c.sides_of-sides.ensures.rows c.sides_of-sides.ensures.columns (omega (arith, c.if-count-le4.false)) c.next_id-base.ensures
+
 pub derive_grid-reify_all-requires : goal.derive_grid-reify_all-requires
 derive_grid-reify_all-requires g t c =
-    let ms = source_literals c.args.literals.now in
-    let r = c.sides_of-sides.result.rows in
-    let q = c.sides_of-sides.result.columns in
-    let first = c.args.first in
-    let id = c.args.id in
-    let base = c.next_id-base.result in
-    let old = g.T.StepSink.state c.args.sink.now in
-    let most = most_of (length ms) c.len-count.result r q c.len-count.ensures c.sides_of-sides.ensures.rows c.sides_of-sides.ensures.columns (omega (arith, c.if-count-le4.false)) in
-    record { few = omega (arith, c.requires.room, most) }
+    let s = turn g t (goal.at.derive_grid-reify_all-requires g t c).After-next_id-base in
+    record { few = omega (arith, c.requires.room, s.most) }
 
 pub derive_grid-returns-in_err-reify_all : goal.derive_grid-returns-in_err-reify_all
 derive_grid-returns-in_err-reify_all g t c =
-    let ms = source_literals c.args.literals.now in
-    let r = c.sides_of-sides.result.rows in
-    let q = c.sides_of-sides.result.columns in
-    let first = c.args.first in
-    let id = c.args.id in
-    let base = c.next_id-base.result in
-    let old = g.T.StepSink.state c.args.sink.now in
-    let parts = grid_parts ms first id old.next c.len-count.result r q base c.len-count.ensures c.sides_of-sides.ensures.rows c.sides_of-sides.ensures.columns (omega (arith, c.if-count-le4.false)) c.next_id-base.ensures in
-    steps_fault c.from_residual.result _ (reification_steps old.next (lines_of ms first id r q base)) (followed_by (cells_from ms first id r q base) (sides_from ms first id r q base) (old.next + 2 * (r + q)) ++ deletion_steps 2 base (r + q)) (g.T.StepSink.state c.reify_all.new.sink) c.from_residual.ensures.1
-    (deriving_from old parts) c.in_err-reify_all.ensures
+    let s = turn g t (goal.at.derive_grid-returns-in_err-reify_all g t c).After-next_id-base in
+    fault_in_lines (g.T.StepSink.state c.args.sink.now) s c.from_residual.result _ (g.T.StepSink.state c.reify_all.new.sink) c.from_residual.ensures.1 c.in_err-reify_all.ensures
 
 pub derive_grid-claim_all-requires : goal.derive_grid-claim_all-requires
 derive_grid-claim_all-requires g t c =
-    let ms = source_literals c.args.literals.now in
-    let r = c.sides_of-sides.result.rows in
-    let q = c.sides_of-sides.result.columns in
-    let first = c.args.first in
-    let id = c.args.id in
-    let base = c.next_id-base.result in
-    let old = g.T.StepSink.state c.args.sink.now in
-    let most = most_of (length ms) c.len-count.result r q c.len-count.ensures c.sides_of-sides.ensures.rows c.sides_of-sides.ensures.columns (omega (arith, c.if-count-le4.false)) in
-    record { few = omega (arith, c.requires.room, most, reifications_next (line_at ms first r q) (r + q) old (g.T.StepSink.state c.reify_all.new.sink) c.in_ok-reify_all.ensures) }
+    let s = turn g t (goal.at.derive_grid-claim_all-requires g t c).After-next_id-base in
+    record { few = omega (arith, c.requires.room, s.most, lines_next (g.T.StepSink.state c.args.sink.now) s (g.T.StepSink.state c.reify_all.new.sink) c.in_ok-reify_all.ensures) }
 
 pub derive_grid-returns-in_err-claim_all : goal.derive_grid-returns-in_err-claim_all
 derive_grid-returns-in_err-claim_all g t c =
-    let ms = source_literals c.args.literals.now in
-    let r = c.sides_of-sides.result.rows in
-    let q = c.sides_of-sides.result.columns in
-    let first = c.args.first in
-    let id = c.args.id in
-    let base = c.next_id-base.result in
-    let old = g.T.StepSink.state c.args.sink.now in
-    let parts = grid_parts ms first id old.next c.len-count.result r q base c.len-count.ensures c.sides_of-sides.ensures.rows c.sides_of-sides.ensures.columns (omega (arith, c.if-count-le4.false)) c.next_id-base.ensures in
-    let now = g.T.StepSink.state c.reify_all.new.sink in
-    followed_fault (cells_from ms first id r q base) (sides_from ms first id r q base) (deletion_steps 2 base (r + q)) (after_lines ms first id r q base old parts now c.in_ok-reify_all.ensures) c.from_residual-in_err-claim_all.result _ (g.T.StepSink.state c.claim_all.new.sink) c.from_residual-in_err-claim_all.ensures.1 c.in_err-claim_all.ensures
+    let s = turn g t (goal.at.derive_grid-returns-in_err-claim_all g t c).After-next_id-base in
+    fault_in_cells (g.T.StepSink.state c.args.sink.now) s (g.T.StepSink.state c.reify_all.new.sink) c.in_ok-reify_all.ensures c.from_residual-in_err-claim_all.result _ (g.T.StepSink.state c.claim_all.new.sink) c.from_residual-in_err-claim_all.ensures.1 c.in_err-claim_all.ensures
+
+-- the next id, behind the cells
+next : (g : Over) (t : ℕ) (c : derive_grid-In_ok-claim_all g t)
+    → Turn (source_literals c.args.literals.now) c.args.first c.args.id (g.T.StepSink.state c.args.sink.now).next c.sides_of-sides.result.rows c.sides_of-sides.result.columns c.next_id-base.result
+    → (g.T.StepSink.state c.claim_all.new.sink).next ≡ (g.T.StepSink.state c.args.sink.now).next + 2 * (c.sides_of-sides.result.rows + c.sides_of-sides.result.columns) + 2 * length (source_literals c.args.literals.now)
+next g t c s = cells_next (g.T.StepSink.state c.args.sink.now) s (g.T.StepSink.state c.reify_all.new.sink) c.in_ok-reify_all.ensures (g.T.StepSink.state c.claim_all.new.sink) c.in_ok-claim_all.ensures
 
 pub derive_grid-derive_side-requires : goal.derive_grid-derive_side-requires
 derive_grid-derive_side-requires g t c κs within =
-    let ms = source_literals c.args.literals.now in
-    let r = c.sides_of-sides.result.rows in
-    let q = c.sides_of-sides.result.columns in
-    let first = c.args.first in
-    let id = c.args.id in
-    let base = c.next_id-base.result in
-    let old = g.T.StepSink.state c.args.sink.now in
-    let parts = grid_parts ms first id old.next c.len-count.result r q base c.len-count.ensures c.sides_of-sides.ensures.rows c.sides_of-sides.ensures.columns (omega (arith, c.if-count-le4.false)) c.next_id-base.ensures in
-    let most = most_of (length ms) c.len-count.result r q c.len-count.ensures c.sides_of-sides.ensures.rows c.sides_of-sides.ensures.columns (omega (arith, c.if-count-le4.false)) in
-    let now = g.T.StepSink.state c.reify_all.new.sink in
-    let mid = g.T.StepSink.state c.claim_all.new.sink in
+    let at = goal.at.derive_grid-derive_side-requires g t c in
+    let s = turn g t at.After-next_id-base in
     let whole = ap product_fresh c.len-count.ensures in
-    (omega arith, (within, (omega arith, (omega arith, (omega arith, omega (arith, c.requires.room, most, cells_next ms first id r q base old parts now c.in_ok-reify_all.ensures mid c.in_ok-claim_all.ensures))))))
+    (omega arith, (within, (omega arith, (omega arith, (omega arith, omega (arith, c.requires.room, s.most, next g t at.In_ok-claim_all s))))))
 
 pub derive_grid-returns-in_err-derive_side : goal.derive_grid-returns-in_err-derive_side
 derive_grid-returns-in_err-derive_side g t c =
-    let ms = source_literals c.args.literals.now in
-    let r = c.sides_of-sides.result.rows in
-    let q = c.sides_of-sides.result.columns in
-    let first = c.args.first in
-    let id = c.args.id in
-    let base = c.next_id-base.result in
-    let old = g.T.StepSink.state c.args.sink.now in
-    let parts = grid_parts ms first id old.next c.len-count.result r q base c.len-count.ensures c.sides_of-sides.ensures.rows c.sides_of-sides.ensures.columns (omega (arith, c.if-count-le4.false)) c.next_id-base.ensures in
-    let now = g.T.StepSink.state c.reify_all.new.sink in
-    let mid = g.T.StepSink.state c.claim_all.new.sink in
-    followed_fault (rows_part ms first r q id base) (columns_part ms first r q id base) (deletion_steps 2 base (r + q)) (after_cells ms first id r q base old parts now c.in_ok-reify_all.ensures mid c.in_ok-claim_all.ensures) c.from_residual-in_err-derive_side.result _ (g.T.StepSink.state c.derive_side.new.sink) c.from_residual-in_err-derive_side.ensures.1 c.in_err-derive_side.ensures
+    let s = turn g t (goal.at.derive_grid-returns-in_err-derive_side g t c).After-next_id-base in
+    fault_in_rows (g.T.StepSink.state c.args.sink.now) s (g.T.StepSink.state c.reify_all.new.sink) c.in_ok-reify_all.ensures (g.T.StepSink.state c.claim_all.new.sink) c.in_ok-claim_all.ensures c.from_residual-in_err-derive_side.result _ (g.T.StepSink.state c.derive_side.new.sink) c.from_residual-in_err-derive_side.ensures.1
+    c.in_err-derive_side.ensures
+
+-- and behind the rows
+rows_next : (g : Over) (t : ℕ) (c : derive_grid-In_ok-derive_side g t)
+    → (g.T.StepSink.state c.derive_side.new.sink).next ≤ (g.T.StepSink.state c.claim_all.new.sink).next + 1 + most_steps c.sides_of-sides.result.rows
+rows_next g t c =
+    side_next c.args.id c.next_id-base.result c.args.first c.sides_of-sides.result.rows (c.args.first + c.sides_of-sides.result.rows + c.sides_of-sides.result.columns) (g.T.StepSink.state c.claim_all.new.sink) (g.T.StepSink.state c.derive_side.new.sink) c.in_ok-derive_side.ensures
 
 pub derive_grid-derive_side-requires-2 : goal.derive_grid-derive_side-requires-2
 derive_grid-derive_side-requires-2 g t c κs within =
-    let ms = source_literals c.args.literals.now in
-    let r = c.sides_of-sides.result.rows in
-    let q = c.sides_of-sides.result.columns in
-    let first = c.args.first in
-    let id = c.args.id in
-    let base = c.next_id-base.result in
-    let old = g.T.StepSink.state c.args.sink.now in
-    let parts = grid_parts ms first id old.next c.len-count.result r q base c.len-count.ensures c.sides_of-sides.ensures.rows c.sides_of-sides.ensures.columns (omega (arith, c.if-count-le4.false)) c.next_id-base.ensures in
-    let most = most_of (length ms) c.len-count.result r q c.len-count.ensures c.sides_of-sides.ensures.rows c.sides_of-sides.ensures.columns (omega (arith, c.if-count-le4.false)) in
-    let now = g.T.StepSink.state c.reify_all.new.sink in
-    let mid = g.T.StepSink.state c.claim_all.new.sink in
-    let last = g.T.StepSink.state c.derive_side.new.sink in
+    let at = goal.at.derive_grid-derive_side-requires-2 g t c in
+    let s = turn g t at.After-next_id-base in
     let whole = ap product_fresh c.len-count.ensures in
-    let rows_next = side_next id base first r (first + r + q) mid last c.in_ok-derive_side.ensures in
-    (omega arith, (within, (omega arith, (omega arith, (omega arith, omega (arith, c.requires.room, most, rows_next, cells_next ms first id r q base old parts now c.in_ok-reify_all.ensures mid c.in_ok-claim_all.ensures))))))
+    (omega arith, (within, (omega arith, (omega arith, (omega arith, omega (arith, c.requires.room, s.most, next g t at.In_ok-claim_all s, rows_next g t at.In_ok-derive_side))))))
 
 pub derive_grid-returns-in_err-derive_side-2 : goal.derive_grid-returns-in_err-derive_side-2
 derive_grid-returns-in_err-derive_side-2 g t c =
-    let ms = source_literals c.args.literals.now in
-    let r = c.sides_of-sides.result.rows in
-    let q = c.sides_of-sides.result.columns in
-    let first = c.args.first in
-    let id = c.args.id in
-    let base = c.next_id-base.result in
-    let old = g.T.StepSink.state c.args.sink.now in
-    let parts = grid_parts ms first id old.next c.len-count.result r q base c.len-count.ensures c.sides_of-sides.ensures.rows c.sides_of-sides.ensures.columns (omega (arith, c.if-count-le4.false)) c.next_id-base.ensures in
-    let now = g.T.StepSink.state c.reify_all.new.sink in
-    let mid = g.T.StepSink.state c.claim_all.new.sink in
-    let last = g.T.StepSink.state c.derive_side.new.sink in
-    steps_fault c.from_residual-in_err-derive_side-2.result _ (columns_part ms first r q id base last.next) (deletion_steps 2 base (r + q)) (g.T.StepSink.state c.derive_side-2.new.sink) c.from_residual-in_err-derive_side-2.ensures.1 (after_rows ms first id r q base old parts now c.in_ok-reify_all.ensures mid c.in_ok-claim_all.ensures last c.in_ok-derive_side.ensures) (rw c.fresh_of.ensures at c.in_err-derive_side-2.ensures)
+    let s = turn g t (goal.at.derive_grid-returns-in_err-derive_side-2 g t c).After-next_id-base in
+    fault_in_columns (g.T.StepSink.state c.args.sink.now) s (g.T.StepSink.state c.reify_all.new.sink) c.in_ok-reify_all.ensures (g.T.StepSink.state c.claim_all.new.sink) c.in_ok-claim_all.ensures (g.T.StepSink.state c.derive_side.new.sink) c.in_ok-derive_side.ensures
+    c.from_residual-in_err-derive_side-2.result _ (g.T.StepSink.state c.derive_side-2.new.sink) c.from_residual-in_err-derive_side-2.ensures.1 (rw c.fresh_of.ensures at c.in_err-derive_side-2.ensures)
 
 pub derive_grid-derive_deletions-requires-clause-few : goal.derive_grid-derive_deletions-requires-clause-few
 derive_grid-derive_deletions-requires-clause-few g t c =
-    let ms = source_literals c.args.literals.now in
+    let at = goal.at.derive_grid-derive_deletions-requires-clause-few g t c in
+    let s = turn g t at.After-next_id-base in
     let r = c.sides_of-sides.result.rows in
     let q = c.sides_of-sides.result.columns in
     let first = c.args.first in
-    let id = c.args.id in
-    let base = c.next_id-base.result in
-    let old = g.T.StepSink.state c.args.sink.now in
-    let parts = grid_parts ms first id old.next c.len-count.result r q base c.len-count.ensures c.sides_of-sides.ensures.rows c.sides_of-sides.ensures.columns (omega (arith, c.if-count-le4.false)) c.next_id-base.ensures in
-    let most = most_of (length ms) c.len-count.result r q c.len-count.ensures c.sides_of-sides.ensures.rows c.sides_of-sides.ensures.columns (omega (arith, c.if-count-le4.false)) in
-    let now = g.T.StepSink.state c.reify_all.new.sink in
-    let mid = g.T.StepSink.state c.claim_all.new.sink in
-    let last = g.T.StepSink.state c.derive_side.new.sink in
-    let rows_next = side_next id base first r (first + r + q) mid last c.in_ok-derive_side.ensures in
-    let columns_next = side_next id (base + 2 * r) (first + r) q (first + r + q + c.fresh_of.result) last (g.T.StepSink.state c.derive_side-2.new.sink) c.in_ok-derive_side-2.ensures in
-    omega (arith, c.requires.room, most, rows_next, columns_next, cells_next ms first id r q base old parts now c.in_ok-reify_all.ensures mid c.in_ok-claim_all.ensures)
+    let columns_next = side_next c.args.id (c.next_id-base.result + 2 * r) (first + r) q (first + r + q + c.fresh_of.result) (g.T.StepSink.state c.derive_side.new.sink) (g.T.StepSink.state c.derive_side-2.new.sink) c.in_ok-derive_side-2.ensures in
+    omega (arith, c.requires.room, s.most, next g t at.In_ok-claim_all s, rows_next g t at.In_ok-derive_side, columns_next)
 
 pub derive_grid-returns : goal.derive_grid-returns
 derive_grid-returns g t c =
-    let ms = source_literals c.args.literals.now in
-    let r = c.sides_of-sides.result.rows in
-    let q = c.sides_of-sides.result.columns in
-    let first = c.args.first in
-    let id = c.args.id in
-    let base = c.next_id-base.result in
-    let old = g.T.StepSink.state c.args.sink.now in
-    let parts = grid_parts ms first id old.next c.len-count.result r q base c.len-count.ensures c.sides_of-sides.ensures.rows c.sides_of-sides.ensures.columns (omega (arith, c.if-count-le4.false)) c.next_id-base.ensures in
-    let now = g.T.StepSink.state c.reify_all.new.sink in
-    let mid = g.T.StepSink.state c.claim_all.new.sink in
-    let last = g.T.StepSink.state c.derive_side.new.sink in
-    steps_last c.derive_deletions.result (deletion_steps 2 base (r + q)) (g.T.StepSink.state c.derive_deletions.new.sink)
-    (deriving_step {left = deletion_steps 2 base (r + q)} (columns_part ms first r q id base last.next) (g.T.StepSink.state c.derive_side-2.new.sink) (after_rows ms first id r q base old parts now c.in_ok-reify_all.ensures mid c.in_ok-claim_all.ensures last c.in_ok-derive_side.ensures) (rw c.fresh_of.ensures at c.in_ok-derive_side-2.ensures)) c.derive_deletions.ensures
+    let s = turn g t (goal.at.derive_grid-returns g t c).After-next_id-base in
+    whole_grid (g.T.StepSink.state c.args.sink.now) s (g.T.StepSink.state c.reify_all.new.sink) c.in_ok-reify_all.ensures (g.T.StepSink.state c.claim_all.new.sink) c.in_ok-claim_all.ensures (g.T.StepSink.state c.derive_side.new.sink) c.in_ok-derive_side.ensures
+    c.derive_deletions.result (g.T.StepSink.state c.derive_side-2.new.sink) (g.T.StepSink.state c.derive_deletions.new.sink) (rw c.fresh_of.ensures at c.in_ok-derive_side-2.ensures) c.derive_deletions.ensures

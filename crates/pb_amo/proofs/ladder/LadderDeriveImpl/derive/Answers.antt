@@ -8,7 +8,7 @@ use Rattle.pb_amo.proofs.ladder.LadderDeriveImpl.derive.Goals as goal
 pub invariant_of-steps : goal.invariant_of-steps
 invariant_of-steps g c =
     let f = c.args.self.now in
-    record { light = subst (λ (ts : List Weighted). weight ts < 2 ^ 100) (sym c.rungs.ensures.terms) (unit_light f.of.now.terms f.units f.few); modest = omega (arith, c.next_id.ensures, c.requires.few) }
+    record { light = subst (λ (ts : List Weighted). weight ts < 2 ^ 100) (sym c.rungs.ensures.terms) (unit_light f.sum.of.now.terms f.sum.units f.sum.few); modest = omega (arith, c.next_id.ensures, c.requires.few) }
 
 pub returns : goal.returns
 returns g c =

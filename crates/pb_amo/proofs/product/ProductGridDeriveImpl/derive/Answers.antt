@@ -11,5 +11,5 @@ derive_grid-requires-clause-room g c =
     let f = c.args.self.now in
     let ts = weights c.terms.result.now in
     let n = length (lits_of ts) in
-    let size : n ≡ length f.of.now.terms = length-map ts (λ (t : Weighted). t.lit) ∙ ap (λ (us : List Weighted). length us) c.terms.ensures.weights in
-    omega (arith, c.requires.few, c.requires.low, c.requires.fits, ap product_fresh size, size, f.few, count_linear n n (omega arith))
+    let size : n ≡ length f.sum.of.now.terms = length-map ts (λ (t : Weighted). t.lit) ∙ ap (λ (us : List Weighted). length us) c.terms.ensures.weights in
+    omega (arith, c.requires.few, c.requires.low, c.requires.fits, ap product_fresh size, size, f.sum.few, count_linear n n (omega arith))
