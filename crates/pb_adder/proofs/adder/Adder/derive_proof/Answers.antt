@@ -14,6 +14,8 @@ use Rattle.pb_adder.specs.laws.StepCounts.{few_blocks, levels-length}
 use Rattle.pb_adder.proofs.DerivationIds.{adder_claims_ids}
 use Rattle.pb_adder.proofs.Walking.{part_stopped, middle_stopped, last_handed}
 use Rattle.pb_adder.proofs.Walks.{last_below, sums_ids}
+use Rattle.pb_adder.proofs.adder.Adder.derive_proof.Given.{Over}
+use Rattle.pb_adder.proofs.adder.Adder.derive_proof.Goals.{In_ok-last}
 use Rattle.pb_adder.proofs.adder.Adder.derive_proof.Goals as goal
 
 pub invariant_of-summands : goal.invariant_of-summands
@@ -46,40 +48,37 @@ returns-in_err-last g c =
     (claim_steps (old.next + length parts) (adder_claims ts f.bound c.args.first c.args.base last) ++ last_deletion last levels) old mid c.from_residual.ensures.1 refl
     (subst (λ (ls : List ℕ). StopsInSteps (sum_steps c.args.base c.args.id old.next (blocks ls)) old mid c.in_err-last.field-0.0) (c.as_slice-heights.ensures.value ∙ f.leveled) c.in_err-last.ensures.steps)
 
+-- the sums were taken, which id is next, and which the last sum has
+taken : (g : Over) (c : In_ok-last g)
+    → (let old = g.T.StepSink.state c.args.sink.now in TakesSteps (sum_steps c.args.base c.args.id old.next (blocks (levels_of (weights c.args.self.now.terms)))) old (g.T.StepSink.state c.derive_sums.new.sink))
+taken g c =
+    let old = g.T.StepSink.state c.args.sink.now in
+    subst (λ (ls : List ℕ). TakesSteps (sum_steps c.args.base c.args.id old.next (blocks ls)) old (g.T.StepSink.state c.derive_sums.new.sink)) (c.as_slice-heights.ensures.value ∙ c.args.self.now.leveled) c.in_ok-last.ensures.steps
+
+next : (g : Over) (c : In_ok-last g) → (g.T.StepSink.state c.derive_sums.new.sink).next ≡ (g.T.StepSink.state c.args.sink.now).next + length (blocks (levels_of (weights c.args.self.now.terms)))
+next g c = omega (arith, (taken g c).ids, sums_ids c.args.base c.args.id (g.T.StepSink.state c.args.sink.now).next (blocks (levels_of (weights c.args.self.now.terms))))
+
+last_is : (g : Over) (c : In_ok-last g) → c.in_ok-last.last ≡ last_sum c.args.id (g.T.StepSink.state c.args.sink.now).next (blocks (levels_of (weights c.args.self.now.terms)))
+last_is g c = c.in_ok-last.ensures.last ∙ ap (λ (ls : List ℕ). last_sum c.args.id (g.T.StepSink.state c.args.sink.now).next (blocks ls)) (c.as_slice-heights.ensures.value ∙ c.args.self.now.leveled)
+
 pub derive_clauses-requires-clause-few : goal.derive_clauses-requires-clause-few
 derive_clauses-requires-clause-few g c =
-    let f = c.args.self.now in
-    let ts = weights f.terms in
-    let old = g.T.StepSink.state c.args.sink.now in
-    omega (
-      arith,
-      c.in_ok-last.ensures.steps.ids,
-      sums_ids c.args.base c.args.id old.next (blocks c.as_slice-heights.result.now),
-      few_blocks c.as_slice-heights.result.now,
-      c.requires.next,
-      c.requires.given,
-      ap length (c.as_slice-heights.ensures.value ∙ f.leveled),
-      levels-length ts,
-    )
+    let ts = weights c.args.self.now.terms in
+    omega (arith, next g (goal.at.derive_clauses-requires-clause-few g c).In_ok-last, few_blocks (levels_of ts), c.requires.next, c.requires.given, levels-length ts)
 
 pub returns-in_err-derive_clauses : goal.returns-in_err-derive_clauses
 returns-in_err-derive_clauses g c =
+    let s = (goal.at.returns-in_err-derive_clauses g c).In_ok-last in
     let f = c.args.self.now in
     let ts = weights f.terms in
     let old = g.T.StepSink.state c.args.sink.now in
-    let mid = g.T.StepSink.state c.derive_sums.new.sink in
     let after = g.T.StepSink.state c.derive_clauses.new.sink in
-    let levels = levels_of ts in
-    let parts = blocks levels in
+    let parts = blocks (levels_of ts) in
     let last = last_sum c.args.id old.next parts in
-    let same = c.as_slice-heights.ensures.value ∙ f.leveled in
-    let taken = subst (λ (ls : List ℕ). TakesSteps (sum_steps c.args.base c.args.id old.next (blocks ls)) old mid) same c.in_ok-last.ensures.steps in
-    let count : mid.next ≡ old.next + length parts = omega (arith, taken.ids, sums_ids c.args.base c.args.id old.next parts) in
-    let last_is : c.in_ok-last.last ≡ last = c.in_ok-last.ensures.last ∙ ap (λ (ls : List ℕ). last_sum c.args.id old.next (blocks ls)) same in
     let claims = claim_steps (old.next + length parts) (adder_claims ts f.bound c.args.first c.args.base last) in
-    middle_stopped c.from_residual-in_err-derive_clauses.result _ (proving_steps ts f.bound c.args.first c.args.id c.args.base old.next) (sum_steps c.args.base c.args.id old.next parts) claims (last_deletion last levels) old mid after
-    c.from_residual-in_err-derive_clauses.ensures.1 refl taken
-    (subst (λ (ss : List Step). StopsInSteps ss mid after c.in_err-derive_clauses.field-0.0) (λ i. claim_steps (count i) (adder_claims ts f.bound c.args.first c.args.base (last_is i))) c.in_err-derive_clauses.ensures)
+    middle_stopped c.from_residual-in_err-derive_clauses.result _ (proving_steps ts f.bound c.args.first c.args.id c.args.base old.next) (sum_steps c.args.base c.args.id old.next parts) claims (last_deletion last (levels_of ts)) old _ after
+    c.from_residual-in_err-derive_clauses.ensures.1 refl (taken g s)
+    (subst (λ (ss : List Step). StopsInSteps ss (g.T.StepSink.state c.derive_sums.new.sink) after c.in_err-derive_clauses.field-0.0) (λ i. claim_steps (next g s i) (adder_claims ts f.bound c.args.first c.args.base (last_is g s i))) c.in_err-derive_clauses.ensures)
 
 pub derive_last_deletion-requires-clause-given : goal.derive_last_deletion-requires-clause-given
 derive_last_deletion-requires-clause-given g c =
@@ -99,39 +98,29 @@ pub derive_last_deletion-requires-clause-few : goal.derive_last_deletion-require
 derive_last_deletion-requires-clause-few g c =
     let f = c.args.self.now in
     let ts = weights f.terms in
-    let old = g.T.StepSink.state c.args.sink.now in
-    let mid = g.T.StepSink.state c.derive_sums.new.sink in
     omega (
       arith,
-      c.in_ok-last.ensures.steps.ids,
-      sums_ids c.args.base c.args.id old.next (blocks c.as_slice-heights.result.now),
-      few_blocks c.as_slice-heights.result.now,
+      next g (goal.at.derive_last_deletion-requires-clause-few g c).In_ok-last,
+      few_blocks (levels_of ts),
       c.in_ok-derive_clauses.ensures.ids,
-      adder_claims_ids ts f.bound c.args.first c.args.base c.in_ok-last.last mid.next f.small,
+      adder_claims_ids ts f.bound c.args.first c.args.base c.in_ok-last.last (g.T.StepSink.state c.derive_sums.new.sink).next f.small,
       c.requires.next,
       c.requires.given,
       c.requires.fits,
-      ap length (c.as_slice-heights.ensures.value ∙ f.leveled),
       levels-length ts,
       network_fresh ts,
     )
 
 pub returns : goal.returns
 returns g c =
+    let s = (goal.at.returns g c).In_ok-last in
     let f = c.args.self.now in
     let ts = weights f.terms in
     let old = g.T.StepSink.state c.args.sink.now in
-    let mid = g.T.StepSink.state c.derive_sums.new.sink in
     let late = g.T.StepSink.state c.derive_clauses.new.sink in
-    let after = g.T.StepSink.state c.derive_last_deletion.new.sink in
-    let levels = levels_of ts in
-    let parts = blocks levels in
+    let parts = blocks (levels_of ts) in
     let last = last_sum c.args.id old.next parts in
-    let same = c.as_slice-heights.ensures.value ∙ f.leveled in
-    let taken = subst (λ (ls : List ℕ). TakesSteps (sum_steps c.args.base c.args.id old.next (blocks ls)) old mid) same c.in_ok-last.ensures.steps in
-    let count : mid.next ≡ old.next + length parts = omega (arith, taken.ids, sums_ids c.args.base c.args.id old.next parts) in
-    let last_is : c.in_ok-last.last ≡ last = c.in_ok-last.ensures.last ∙ ap (λ (ls : List ℕ). last_sum c.args.id old.next (blocks ls)) same in
     let claims = claim_steps (old.next + length parts) (adder_claims ts f.bound c.args.first c.args.base last) in
-    last_handed c.derive_last_deletion.result (proving_steps ts f.bound c.args.first c.args.id c.args.base old.next) (sum_steps c.args.base c.args.id old.next parts) claims (last_deletion last levels) old mid late after refl taken
-    (subst (λ (ss : List Step). TakesSteps ss mid late) (λ i. claim_steps (count i) (adder_claims ts f.bound c.args.first c.args.base (last_is i))) c.in_ok-derive_clauses.ensures)
-    (steps_same c.derive_last_deletion.result (last_deletion c.in_ok-last.last c.as_slice-heights.result.now) (last_deletion last levels) late after (λ i. last_deletion (last_is i) (same i)) c.derive_last_deletion.ensures)
+    last_handed c.derive_last_deletion.result (proving_steps ts f.bound c.args.first c.args.id c.args.base old.next) (sum_steps c.args.base c.args.id old.next parts) claims (last_deletion last (levels_of ts)) old _ late _ refl (taken g s)
+    (subst (λ (ss : List Step). TakesSteps ss (g.T.StepSink.state c.derive_sums.new.sink) late) (λ i. claim_steps (next g s i) (adder_claims ts f.bound c.args.first c.args.base (last_is g s i))) c.in_ok-derive_clauses.ensures)
+    (steps_same c.derive_last_deletion.result (last_deletion c.in_ok-last.last c.as_slice-heights.result.now) (last_deletion last (levels_of ts)) late (g.T.StepSink.state c.derive_last_deletion.new.sink) (λ i. last_deletion (last_is g s i) ((c.as_slice-heights.ensures.value ∙ f.leveled) i)) c.derive_last_deletion.ensures)
