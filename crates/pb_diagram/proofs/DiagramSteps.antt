@@ -5,7 +5,7 @@ use Rattle.std.specs.List.{count_by}
 use Rattle.std.proofs.Common.{ltb}
 use Rattle.std.proofs.Math.Seq.{drop-cons}
 use Rattle.std.proofs.lemmas.Bool.{cases_lt}
-use Rattle.std.proofs.lemmas.List.{get_or_past, get_or-map, length-map}
+use Rattle.std.proofs.lemmas.List.{at_drop_all, get_or_past, get_or-map, length-map}
 use Rattle.std.proofs.lemmas.List.Sums.{sum_by-cons}
 use Rattle.pb_base.specs.declared.literal.Lit.{Lit}
 use Rattle.std.specs.Int.RustNames.{unsigned_abs}
@@ -151,17 +151,9 @@ read_inner ts ls i t whole nodes next read =
     ∙ ap (λ (n : ℕ). count_by (λ g. ltb g.low n) (nodes_at ls i) + inner_count (drop (i + 1) ts) (drop (i + 1) ls)) (sym read.whole_is)
     ∙ ap (λ (l : List Interval). count_by (λ g. ltb g.low whole) l + inner_count (drop (i + 1) ts) (drop (i + 1) ls)) (sym read.nodes_is)
 
-nothing : (ts : List Weighted) (first : ℕ) → node_clauses first ts [] ≡ []
-nothing [] first = refl
-nothing (t ∷ ts) first = refl
-
 -- nothing is left at the end
 pub none_left : (ts : List Weighted) (ls : List (List Interval)) (i first : ℕ) → length ts ≤ i → node_clauses first (drop i ts) (drop i ls) ≡ []
-none_left [] ls zero first past = refl
-none_left [] ls (suc i) first past = refl
-none_left (t ∷ ts) ls zero first past = absurd (omega arith)
-none_left (t ∷ ts) [] (suc i) first past = nothing (drop i ts) first
-none_left (t ∷ ts) (l ∷ ls) (suc i) first past = none_left ts ls i first (omega arith)
+none_left ts ls i first past = at_drop_all (λ (us : List Weighted). node_clauses first us (drop i ls)) ts i past
 
 -- what code reads of some terms and the levels of their diagram
 pub read_at : (terms : List Term) (bound : ℕ) (ls : List (List Interval)) (i : ℕ) (t : Term) (whole : ℕ) (nodes next : List Interval)

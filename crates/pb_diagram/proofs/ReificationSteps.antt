@@ -1,9 +1,9 @@
 -- Reifications of nodes that are handed over one after another.
-use Rattle.std.proofs.Common.{◌≡◌, ◌≤◌, ◌<◌, ◌+◌, ◌-◌, ◌*◌, ◌++◌, ℕ, suc, zero, List, [], ◌∷◌, length, get_or, drop, take, map, refl, sym, ap, ◌∙◌, subst, arith}
+use Rattle.std.proofs.Common.{◌≡◌, ◌≤◌, ◌<◌, ◌+◌, ◌-◌, ◌*◌, ◌++◌, ℕ, suc, List, [], ◌∷◌, length, get_or, drop, take, map, refl, sym, ap, ◌∙◌, subst, arith}
 use Rattle.std.specs.Prelude.{Result, IsErrAnd, All}
 use Rattle.std.proofs.Math.ListN.{drop_of_length-le}
 use Rattle.std.proofs.Math.Seq.{drop-cons}
-use Rattle.std.proofs.lemmas.List.{length-map, drop-map, get_or_default}
+use Rattle.std.proofs.lemmas.List.{at_drop_all, length-map, drop-map, get_or_default}
 use Rattle.pb_base.specs.declared.literal.Term.{Term}
 use Rattle.pb_norm.specs.Constraints.{Weighted, weight, weighted, weights}
 use Rattle.pb_norm.specs.BoundedSums.{BoundedSum}
@@ -121,17 +121,9 @@ nodes_count c ls i d same within nodes is =
     let at : AtLevel c.terms ls i (get_or c.terms i d) = subst (λ (l : List (List Interval)). AtLevel c.terms l i (get_or c.terms i d)) (sym same) (at_level_of c i d within) in
     omega (arith, at.counts, ap length is)
 
-no_level : (ts : List Weighted) (start : ℕ) → node_reifications start ts [] ≡ []
-no_level [] start = refl
-no_level (t ∷ ts) start = refl
-
 -- nothing is left at the end
 pub no_reification : (ts : List Weighted) (ls : List (List Interval)) (i start : ℕ) → length ts ≤ i → node_reifications start (drop i ts) (drop i ls) ≡ []
-no_reification [] ls zero start past = refl
-no_reification [] ls (suc i) start past = refl
-no_reification (t ∷ ts) ls zero start past = absurd (omega arith)
-no_reification (t ∷ ts) [] (suc i) start past = no_level (drop i ts) start
-no_reification (t ∷ ts) (l ∷ ls) (suc i) start past = no_reification ts ls i start (omega arith)
+no_reification ts ls i start past = at_drop_all (λ (us : List Weighted). node_reifications start us (drop i ls)) ts i past
 
 -- ---- slices
 

@@ -1,4 +1,4 @@
-use Rattle.std.proofs.Common.{◌≤◌, ◌<◌, ◌+◌, List, length, drop, refl, sym, ap, subst, arith}
+use Rattle.std.proofs.Common.{◌≡◌, ◌≤◌, ◌<◌, ◌+◌, ◌++◌, List, length, drop, refl, sym, ap, subst, arith}
 use Rattle.std.specs.Prelude.{All}
 use Rattle.std.proofs.lemmas.List.{length-map}
 use Rattle.pb_norm.specs.Constraints.{Weighted, weight, weighted, weights}
@@ -6,7 +6,7 @@ use Rattle.pb_norm.specs.BoundedSums.{sum_within}
 use Rattle.pb_derive.specs.Reifications.{reification_steps}
 use Rattle.pb_family.specs.Fresh.{positive_of}
 use Rattle.pb_family.specs.StepSinks.{TakesSteps}
-use Rattle.pb_family.proofs.Deriving.{deriving_from, deriving_as, deriving_ends}
+use Rattle.pb_family.proofs.Deriving.{Deriving, deriving_from, deriving_as, deriving_ends}
 use Rattle.pb_family.proofs.Sequence.{reifications_ids}
 use Rattle.pb_family.proofs.TermSlices.{weights_from, light_from}
 use Rattle.pb_diagram.specs.declared.interval.Interval.{Interval}
@@ -14,6 +14,8 @@ use Rattle.pb_diagram.specs.Clauses.{node_count}
 use Rattle.pb_diagram.specs.DiagramSteps.{level_reifications, node_reifications}
 use Rattle.pb_diagram.specs.laws.NodeReifications.{length-level}
 use Rattle.pb_diagram.proofs.ReificationSteps.{reifications_taken, reifications_stop, level_stops, nodes_left, nodes_within, nodes_count, no_reification, turned_from, turned_length}
+use Rattle.pb_diagram.proofs.derivation.Derivation.define_nodes.Given.{Over}
+use Rattle.pb_diagram.proofs.derivation.Derivation.define_nodes.Goals.{After-nodes_after}
 use Rattle.pb_diagram.proofs.derivation.Derivation.define_nodes.Goals as goal
 
 abbrev none : Weighted
@@ -41,46 +43,50 @@ invariant_of-sides g c =
           (nodes_within (sum_within shape.terms.now shape.bound) shape.levels.now i shape.nodes c.nodes_after.result.now c.nodes_after.ensures);
     }
 
+-- what is left is the level and what is behind it, and how many nodes that has
+begun : (g : Over) (c : After-nodes_after g) → (let shape = c.args.self.now.shape in let of = sum_within shape.terms.now shape.bound in let now = g.T.StepSink.state c.loop-i.sink in let nodes = c.nodes_after.result.now in
+    Deriving (reification_steps (g.T.StepSink.state c.args.sink.now).next (node_reifications c.args.self.now.first of.terms shape.levels.now))
+    (reification_steps now.next (level_reifications c.loop-i.start (drop c.loop-i.i of.terms) nodes ++ node_reifications (c.loop-i.start + length nodes) (drop (c.loop-i.i + 1) of.terms) (drop (c.loop-i.i + 1) shape.levels.now))) (g.T.StepSink.state c.args.sink.now) now)
+begun g c =
+    let shape = c.args.self.now.shape in
+    let now = g.T.StepSink.state c.loop-i.sink in
+    deriving_as (ap (reification_steps now.next) (nodes_left (sum_within shape.terms.now shape.bound) shape.levels.now c.loop-i.i none shape.nodes (omega (arith, length-map shape.terms.now weighted, c.loop-i-test.true)) c.nodes_after.result.now c.nodes_after.ensures c.loop-i.start)) c.loop-i.invariant.taken
+
+count : (g : Over) (c : After-nodes_after g) → node_count (drop c.loop-i.i c.args.self.now.shape.levels.now) ≡ length c.nodes_after.result.now + node_count (drop (c.loop-i.i + 1) c.args.self.now.shape.levels.now)
+count g c =
+    let shape = c.args.self.now.shape in
+    nodes_count (sum_within shape.terms.now shape.bound) shape.levels.now c.loop-i.i none shape.nodes (omega (arith, length-map shape.terms.now weighted, c.loop-i-test.true)) c.nodes_after.result.now c.nodes_after.ensures
+
 pub define_level-requires-clause-high : goal.define_level-requires-clause-high
-define_level-requires-clause-high g c =
-    let count = nodes_count (sum_within c.args.self.now.shape.terms.now c.args.self.now.shape.bound) c.args.self.now.shape.levels.now c.loop-i.i none c.args.self.now.shape.nodes (omega (arith, length-map c.args.self.now.shape.terms.now weighted, c.loop-i-test.true)) c.nodes_after.result.now c.nodes_after.ensures in
-    omega (arith, count, c.loop-i.invariant.room, c.args.self.now.fits)
+define_level-requires-clause-high g c = omega (arith, count g (goal.at.define_level-requires-clause-high g c).After-nodes_after, c.loop-i.invariant.room, c.args.self.now.fits)
 
 pub define_level-requires-clause-few : goal.define_level-requires-clause-few
-define_level-requires-clause-few g c =
-    let count = nodes_count (sum_within c.args.self.now.shape.terms.now c.args.self.now.shape.bound) c.args.self.now.shape.levels.now c.loop-i.i none c.args.self.now.shape.nodes (omega (arith, length-map c.args.self.now.shape.terms.now weighted, c.loop-i-test.true)) c.nodes_after.result.now c.nodes_after.ensures in
-    omega (arith, count, c.loop-i.invariant.room, c.loop-i.invariant.count, c.args.self.now.fits, c.requires)
+define_level-requires-clause-few g c = omega (arith, count g (goal.at.define_level-requires-clause-few g c).After-nodes_after, c.loop-i.invariant.room, c.loop-i.invariant.count, c.args.self.now.fits, c.requires)
 
 pub returns-in_err-define_level : goal.returns-in_err-define_level
 returns-in_err-define_level g c =
-    let of = sum_within c.args.self.now.shape.terms.now c.args.self.now.shape.bound in
-    let old = g.T.StepSink.state c.args.sink.now in
-    let now = g.T.StepSink.state c.loop-i.sink in
+    let ts = c.args.self.now.shape.terms.now in
     let after = g.T.StepSink.state c.define_level.new.sink in
     let i = c.loop-i.i in
     let nodes = c.nodes_after.result.now in
-    let begun = deriving_as (ap (reification_steps now.next) (nodes_left of c.args.self.now.shape.levels.now i none c.args.self.now.shape.nodes (omega (arith, length-map c.args.self.now.shape.terms.now weighted, c.loop-i-test.true)) nodes c.nodes_after.ensures c.loop-i.start)) c.loop-i.invariant.taken in
-    reifications_stop (level_reifications c.loop-i.start (drop i of.terms) nodes) (node_reifications (c.loop-i.start + length nodes) (drop (i + 1) of.terms) (drop (i + 1) c.args.self.now.shape.levels.now)) old now begun c.from_residual.result _ after c.from_residual.ensures.1
-    (level_stops c.loop-i.start nodes _ (drop i of.terms) now after (weights_from c.args.self.now.shape.terms.now i i refl) c.in_err-define_level.ensures)
+    reifications_stop (level_reifications c.loop-i.start (drop i (weights ts)) nodes) (node_reifications (c.loop-i.start + length nodes) (drop (i + 1) (weights ts)) (drop (i + 1) c.args.self.now.shape.levels.now)) _ _ (begun g (goal.at.returns-in_err-define_level g c).After-nodes_after)
+    c.from_residual.result _ after c.from_residual.ensures.1 (level_stops c.loop-i.start nodes _ (drop i (weights ts)) _ after (weights_from ts i i refl) c.in_err-define_level.ensures)
 
 pub loop-i-preserved : goal.loop-i-preserved
 loop-i-preserved g c =
-    let of = sum_within c.args.self.now.shape.terms.now c.args.self.now.shape.bound in
-    let old = g.T.StepSink.state c.args.sink.now in
+    let ts = c.args.self.now.shape.terms.now in
+    let at = (goal.at.loop-i-preserved g c).After-nodes_after in
     let now = g.T.StepSink.state c.loop-i.sink in
     let after = g.T.StepSink.state c.define_level.new.sink in
     let i = c.loop-i.i in
     let nodes = c.nodes_after.result.now in
-    let within : i < length of.terms = omega (arith, length-map c.args.self.now.shape.terms.now weighted, c.loop-i-test.true) in
-    let begun = deriving_as (ap (reification_steps now.next) (nodes_left of c.args.self.now.shape.levels.now i none c.args.self.now.shape.nodes within nodes c.nodes_after.ensures c.loop-i.start)) c.loop-i.invariant.taken in
-    let here = level_reifications c.loop-i.start (drop i of.terms) nodes in
-    let handed = subst (λ (ts : List Weighted). TakesSteps (reification_steps now.next (level_reifications c.loop-i.start ts nodes)) now after) (weights_from c.args.self.now.shape.terms.now i i refl) c.in_ok-define_level.ensures in
-    let count = nodes_count of c.args.self.now.shape.levels.now i none c.args.self.now.shape.nodes within nodes c.nodes_after.ensures in
+    let here = level_reifications c.loop-i.start (drop i (weights ts)) nodes in
+    let handed = subst (λ (us : List Weighted). TakesSteps (reification_steps now.next (level_reifications c.loop-i.start us nodes)) now after) (weights_from ts i i refl) c.in_ok-define_level.ensures in
     record {
-      room = omega (arith, count, c.loop-i.invariant.room);
+      room = omega (arith, count g at, c.loop-i.invariant.room);
       low = omega (arith, c.loop-i.invariant.low);
-      count = omega (arith, handed.ids, reifications_ids now.next here, length-level c.loop-i.start (drop i of.terms) nodes, c.loop-i.invariant.count);
-      taken = reifications_taken here (node_reifications (c.loop-i.start + length nodes) (drop (i + 1) of.terms) (drop (i + 1) c.args.self.now.shape.levels.now)) old now begun after handed;
+      count = omega (arith, handed.ids, reifications_ids now.next here, length-level c.loop-i.start (drop i (weights ts)) nodes, c.loop-i.invariant.count);
+      taken = reifications_taken here (node_reifications (c.loop-i.start + length nodes) (drop (i + 1) (weights ts)) (drop (i + 1) c.args.self.now.shape.levels.now)) _ now (begun g at) after handed;
     }
 
 pub returns : goal.returns
