@@ -23,7 +23,7 @@ use Rattle.pb_totalizer.specs.declared.polarity.Polarity.TheVariants.{Both}
 use Rattle.pb_totalizer.specs.inner.LimitSources.{seconds_from, ids_after, weakened_after, limit_given, limit_row_given, limits_given, least_given}
 use Rattle.pb_totalizer.specs.inner.Sources.{ids_from, root_given}
 use Rattle.pb_totalizer.specs.laws.Polarity.{justifications_by, exact_all_justifications}
-use Rattle.pb_totalizer.proofs.Handed.{root_is}
+use Rattle.pb_totalizer.proofs.Handed.{named, root_is}
 
 -- ---- the clauses of a node, from its outputs to its parts
 
@@ -39,9 +39,6 @@ weakened_are bound ts i = by_test (nat_lt i (outputs_of bound (tree_of (weights 
     by_test : (b : Bool) → vars_of (weights (cond {A = List Term} b [] ts)) ≡ cond {A = List ℕ} b [] (vars_of (leaves (tree_of (weights ts))))
     by_test true = refl
     by_test false = ap vars_of (sym (leaves_of (weights ts)))
-
-abbrev named : List ℕ → List ℕ → Justification
-named ids weakened = record { clause = []; ids = ids; weakened = weakened }
 
 module _ (bound : ℕ) (lefts rights : List Term) (id own : ℕ) (sl sr : Source)
     (left : ids_from sl ≡ output_ids (totalizer bound) (tree_of (weights lefts)) id)

@@ -46,7 +46,7 @@ weakened_are : (ts : List Term) (u : ℕ) → vars_of (weights (weakened_at ts u
 weakened_are ts zero = ap vars_of (sym (leaves_of (weights ts)))
 weakened_are ts (suc u) = refl
 
-abbrev named : List ℕ → List ℕ → Justification
+abbrev pub named : List ℕ → List ℕ → Justification
 named ids weakened = record { clause = []; ids = ids; weakened = weakened }
 
 module _ (bound : ℕ) (lefts rights : List Term) (id own : ℕ) (sl sr : Source)

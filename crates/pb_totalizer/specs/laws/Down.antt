@@ -1,5 +1,5 @@
 -- Unit propagation from outputs to leaves: where few leaves are not false, outputs are false, and an output that is true makes them true.
-use Rattle.std.proofs.Common.{◌≡◌, ◌<◌, ◌≤◌, ◌+◌, ◌-◌, ◌++◌, ℕ, Bool, true, false, cond, List, min, refl, sym, subst, arith, inl, inr}
+use Rattle.std.proofs.Common.{◌≡◌, ◌<◌, ◌≤◌, ◌+◌, ◌-◌, ◌*◌, ◌++◌, ℕ, Bool, true, false, cond, List, min, refl, sym, subst, arith, inl, inr}
 use Rattle.std.specs.Prelude.{Contains}
 use Rattle.std.proofs.lemmas.Bool.{cases_Bool, true≢false}
 use Rattle.std.proofs.lemmas.List.Elements.{Contains-append_left, Contains-append_right, Contains-append_cases}
@@ -11,7 +11,7 @@ use Rattle.pb_tree.specs.Tree.{Tree, empty, leaf, node, IsLeafOf, leaf_sum}
 use Rattle.pb_tree.specs.Scheme.{fresh_of, output, own_of, clauses_of, IsPartAt}
 use Rattle.pb_totalizer.specs.Totalizer.{totalizer}
 use Rattle.pb_totalizer.specs.laws.TotalizerLaws.{values_count, leaf_count, node_length}
-use Rattle.pb_totalizer.specs.Exact.{limits_of, outputs_of, exact_along}
+use Rattle.pb_totalizer.specs.Exact.{limit_clause, limits_of, outputs_of, exact_along}
 use Rattle.pb_totalizer.specs.laws.Limits.{limit_listed, limit_denies, limit_raises_left, limit_raises_right}
 
 -- ---- what a list of clauses along a tree has
@@ -99,79 +99,103 @@ some_open p (node l r) u h fails =
       | inr right ↦ omega (arith, some_open p r u right fails)
     ]
 
--- ---- from few open leaves
+-- ---- at a node
 
-pub deny_output : (bound : ℕ) (p : Lit → Bool) (cs : List (List Lit)) (given : List Lit) → ((l : Lit) → p l ≡ true → Derived cs given (negated l))
-    → (t : Tree) (first j : ℕ) → ((c : List Lit) → Contains (exact_along bound t first) c → Contains cs c)
-    → open_under p t < j → j ≤ outputs_of bound t → Derived cs given (negated (output (totalizer bound) t first j))
-deny_output bound p cs given passes empty first j listed few within = absurd (omega arith)
-deny_output bound p cs given passes (leaf t) first j listed few within =
-    elim (cases_Bool (p t.lit)) as (λ _. Derived cs given (negated t.lit)) [
-      | inl holds ↦ passes t.lit holds
-      | inr fails ↦ absurd (omega (arith, fails_open (p t.lit) fails))
-    ]
-deny_output bound p cs given passes (node l r) first j listed few within =
-    let s = totalizer bound in
-    let a = outputs_of bound l in
-    let b = outputs_of bound r in
-    let m = open_under p l in
-    let n = open_under p r in
-    let f = output s l first in
-    let g = output s r (first + fresh_of s l) in
-    let h = output s (node l r) first in
-    let lists = listed_parts bound cs l r first listed in
-    let count = node_length bound l r in
-    let am = values_count bound l in
-    let bn = values_count bound r in
-    let mw = open_within p l in
-    let nw = open_within p r in
-    let i = min a (j - 1 - n) in
-    let k = j - 1 - i in
-    let whole : i + k + 1 ≡ j = omega arith in
-    subst (λ (x : ℕ). Derived cs given (negated (h x))) whole
-    (limit_denies cs given a b f g h i k (lists.limits _ (limit_listed (outputs_of bound (node l r)) a b f g h i k (omega arith) (omega arith) (omega arith)))
-    (λ below. deny_output bound p cs given passes l first (i + 1) lists.left (omega arith) (omega arith))
-    (λ below. deny_output bound p cs given passes r (first + fresh_of s l) (k + 1) lists.right (omega arith) (omega arith)))
+-- how many outputs it and its parts have, and how many open leaves these
+record NodeCounts (bound : ℕ) (p : Lit → Bool) (l r : Tree) : Type 0 where
+  outputs : outputs_of bound (node l r) ≡ min (outputs_of bound l + outputs_of bound r) (bound + 1)
+  lefts : outputs_of bound l ≡ min (leaf_count l) (bound + 1)
+  rights : outputs_of bound r ≡ min (leaf_count r) (bound + 1)
+  left_open : open_under p l ≤ leaf_count l
+  right_open : open_under p r ≤ leaf_count r
 
--- ---- from a true output
+node_counts : (bound : ℕ) (p : Lit → Bool) (l r : Tree) → NodeCounts bound p l r
+node_counts bound p l r = record { outputs = node_length bound l r; lefts = values_count bound l; rights = values_count bound r; left_open = open_within p l; right_open = open_within p r }
 
-pub raise_leaf : (bound : ℕ) (p : Lit → Bool) (cs : List (List Lit)) (given : List Lit) → ((l : Lit) → p l ≡ true → Derived cs given (negated l))
-    → (t : Tree) (u : Weighted) (first j : ℕ) → ((c : List Lit) → Contains (exact_along bound t first) c → Contains cs c)
-    → IsLeafOf t u → p u.lit ≡ false → open_under p t ≤ j → j ≤ outputs_of bound t → Derived cs given (output (totalizer bound) t first j) → Derived cs given u.lit
-raise_leaf bound p cs given passes empty u first j listed among fails few within top = absurd among
-raise_leaf bound p cs given passes (leaf t) u first j listed among fails few within top = subst (λ (w : Weighted). Derived cs given w.lit) among top
-raise_leaf bound p cs given passes (node l r) u first j listed among fails few within top =
-    let s = totalizer bound in
-    let a = outputs_of bound l in
-    let b = outputs_of bound r in
-    let m = open_under p l in
-    let n = open_under p r in
-    let f = output s l first in
-    let g = output s r (first + fresh_of s l) in
-    let h = output s (node l r) first in
-    let lists = listed_parts bound cs l r first listed in
-    let count = node_length bound l r in
-    let am = values_count bound l in
-    let bn = values_count bound r in
-    let mw = open_within p l in
-    let nw = open_within p r in
-    elim among as (λ _. Derived cs given u.lit) [
-      | inl left ↦
-          let some = some_open p l u left fails in
-          let i = min a (j - n) - 1 in
-          let k = j - 1 - i in
-          let whole : j ≡ i + k + 1 = omega arith in
-          raise_leaf bound p cs given passes l u first (i + 1) lists.left left fails (omega arith) (omega arith)
-          (limit_raises_left cs given a b f g h i k (lists.limits _ (limit_listed (outputs_of bound (node l r)) a b f g h i k (omega arith) (omega arith) (omega arith))) (omega arith)
-          (λ below. deny_output bound p cs given passes r (first + fresh_of s l) (k + 1) lists.right (omega arith) (omega arith))
-          (subst (λ (x : ℕ). Derived cs given (h x)) whole top))
-      | inr right ↦
-          let some = some_open p r u right fails in
-          let k = min b (j - m) - 1 in
-          let i = j - 1 - k in
-          let whole : j ≡ i + k + 1 = omega arith in
-          raise_leaf bound p cs given passes r u (first + fresh_of s l) (k + 1) lists.right right fails (omega arith) (omega arith)
-          (limit_raises_right cs given a b f g h i k (lists.limits _ (limit_listed (outputs_of bound (node l r)) a b f g h i k (omega arith) (omega arith) (omega arith))) (omega arith)
-          (λ below. deny_output bound p cs given passes l first (i + 1) lists.left (omega arith) (omega arith))
-          (subst (λ (x : ℕ). Derived cs given (h x)) whole top))
-    ]
+-- where the outputs of a part are false that few open leaves do not reach, so are those of the node, and where one of those is
+-- true, some of the parts are
+module _ (bound : ℕ) (p : Lit → Bool) (cs : List (List Lit)) (given : List Lit) (l r : Tree) (first : ℕ) (lists : Listed bound cs l r first) where
+  abbrev a : ℕ
+  a = outputs_of bound l
+
+  abbrev b : ℕ
+  b = outputs_of bound r
+
+  abbrev m : ℕ
+  m = open_under p l
+
+  abbrev n : ℕ
+  n = open_under p r
+
+  abbrev f : ℕ → Lit
+  f = output (totalizer bound) l first
+
+  abbrev g : ℕ → Lit
+  g = output (totalizer bound) r (first + fresh_of (totalizer bound) l)
+
+  abbrev h : ℕ → Lit
+  h = output (totalizer bound) (node l r) first
+
+  limit : (i k : ℕ) → i ≤ a → k ≤ b → i + k < outputs_of bound (node l r) → Contains cs (limit_clause a b f g h i k)
+  limit i k left right below = lists.limits _ (limit_listed (outputs_of bound (node l r)) a b f g h i k left right below)
+
+  module _ (deny_left : (j : ℕ) → m < j → j ≤ a → Derived cs given (negated (f j))) (deny_right : (j : ℕ) → n < j → j ≤ b → Derived cs given (negated (g j))) (j : ℕ) (within : j ≤ outputs_of bound (node l r)) where
+    deny_node : m + n < j → Derived cs given (negated (h j))
+    deny_node few =
+        let counts = node_counts bound p l r in
+        let i = min a (j - 1 - n) in
+        let k = j - 1 - i in
+        let whole : i + k + 1 ≡ j = omega arith in
+        subst (λ (x : ℕ). Derived cs given (negated (h x))) whole
+        (limit_denies cs given a b f g h i k (limit i k (omega arith) (omega arith) (omega arith)) (λ below. deny_left (i + 1) (omega arith) (omega arith)) (λ below. deny_right (k + 1) (omega arith) (omega arith)))
+
+    raise_left : 1 ≤ m → m + n ≤ j → Derived cs given (h j) → (i : ℕ) × (m ≤ i) × (i ≤ a) × Derived cs given (f i)
+    raise_left some few top =
+        let counts = node_counts bound p l r in
+        let i = min a (j - n) - 1 in
+        let k = j - 1 - i in
+        let whole : j ≡ i + k + 1 = omega arith in
+        (i + 1, omega arith, omega arith, limit_raises_left cs given a b f g h i k (limit i k (omega arith) (omega arith) (omega arith)) (omega arith) (λ below. deny_right (k + 1) (omega arith) (omega arith)) (subst (λ (x : ℕ). Derived cs given (h x)) whole top))
+
+    raise_right : 1 ≤ n → m + n ≤ j → Derived cs given (h j) → (k : ℕ) × (n ≤ k) × (k ≤ b) × Derived cs given (g k)
+    raise_right some few top =
+        let counts = node_counts bound p l r in
+        let k = min b (j - m) - 1 in
+        let i = j - 1 - k in
+        let whole : j ≡ i + k + 1 = omega arith in
+        (k + 1, omega arith, omega arith, limit_raises_right cs given a b f g h i k (limit i k (omega arith) (omega arith) (omega arith)) (omega arith) (λ below. deny_left (i + 1) (omega arith) (omega arith)) (subst (λ (x : ℕ). Derived cs given (h x)) whole top))
+
+-- ---- along the tree
+
+module _ (bound : ℕ) (p : Lit → Bool) (cs : List (List Lit)) (given : List Lit) (passes : (l : Lit) → p l ≡ true → Derived cs given (negated l)) where
+  -- from few open leaves
+  pub deny_output : (t : Tree) (first j : ℕ) → ((c : List Lit) → Contains (exact_along bound t first) c → Contains cs c)
+      → open_under p t < j → j ≤ outputs_of bound t → Derived cs given (negated (output (totalizer bound) t first j))
+  deny_output empty first j listed few within = absurd (omega arith)
+  deny_output (leaf t) first j listed few within =
+      elim (cases_Bool (p t.lit)) as (λ _. Derived cs given (negated t.lit)) [
+        | inl holds ↦ passes t.lit holds
+        | inr fails ↦ absurd (omega (arith, fails_open (p t.lit) fails))
+      ]
+  deny_output (node l r) first j listed few within =
+      let lists = listed_parts bound cs l r first listed in
+      deny_node bound p cs given l r first lists (λ i some le. deny_output l first i lists.left some le) (λ k some le. deny_output r (first + fresh_of (totalizer bound) l) k lists.right some le) j within few
+
+  -- from a true output
+  pub raise_leaf : (t : Tree) (u : Weighted) (first j : ℕ) → ((c : List Lit) → Contains (exact_along bound t first) c → Contains cs c)
+      → IsLeafOf t u → p u.lit ≡ false → open_under p t ≤ j → j ≤ outputs_of bound t → Derived cs given (output (totalizer bound) t first j) → Derived cs given u.lit
+  raise_leaf empty u first j listed among fails few within top = absurd among
+  raise_leaf (leaf t) u first j listed among fails few within top = subst (λ (w : Weighted). Derived cs given w.lit) among top
+  raise_leaf (node l r) u first j listed among fails few within top =
+      let lists = listed_parts bound cs l r first listed in
+      let middle = first + fresh_of (totalizer bound) l in
+      let deny_left = λ (i : ℕ). deny_output l first i lists.left in
+      let deny_right = λ (k : ℕ). deny_output r middle k lists.right in
+      elim among as (λ _. Derived cs given u.lit) [
+        | inl left ↦
+            let up = raise_left bound p cs given l r first lists deny_left deny_right j within (some_open p l u left fails) few top in
+            raise_leaf l u first up.0 lists.left left fails up.1 up.2 up.3
+        | inr right ↦
+            let up = raise_right bound p cs given l r first lists deny_left deny_right j within (some_open p r u right fails) few top in
+            raise_leaf r u middle up.0 lists.right right fails up.1 up.2 up.3
+      ]

@@ -39,38 +39,18 @@ invariant_of-result c =
       clauses_is = ap (λ (n : ℕ). n + 2) c.size_of-size.ensures.clauses ∙ size;
     }
 
-pub returns-clause-over : goal.returns-clause-over
-returns-clause-over c =
+pub returns : goal.returns
+returns c =
     let ts = c.in_ok-terms.terms.items in
     let same : ts ≡ map unit_term c.args.lits.now = c.in_ok-terms.ensures ∙ ap (map unit_term) c.as_slice.ensures in
     let sum = sum_is ts c.args.lits.now c.args.number same in
     let here = ap (λ (us : List Term). exact_fresh (sum_within us c.args.number)) c.as_slice-2.ensures.value in
-    omega (arith, c.size_of-size.ensures.fresh, here, ap exact_fresh sum, c.if-size-budget.false)
-
-pub returns-clause-most : goal.returns-clause-most
-returns-clause-most c =
-    let same : c.in_ok-terms.terms.items ≡ map unit_term c.args.lits.now = c.in_ok-terms.ensures ∙ ap (map unit_term) c.as_slice.ensures in
-    sum_is c.in_ok-terms.terms.items c.args.lits.now c.args.number same
-
-pub returns-clause-least : goal.returns-clause-least
-returns-clause-least c =
-    let same : c.in_ok-terms.terms.items ≡ map unit_term c.args.lits.now = c.in_ok-terms.ensures ∙ ap (map unit_term) c.as_slice.ensures in
-    ap at_least (sum_is c.in_ok-terms.terms.items c.args.lits.now c.args.number same)
-
-pub returns-clause-fresh : goal.returns-clause-fresh
-returns-clause-fresh c =
-    let same : c.in_ok-terms.terms.items ≡ map unit_term c.args.lits.now = c.in_ok-terms.ensures ∙ ap (map unit_term) c.as_slice.ensures in
-    ap exact_fresh (sum_is c.in_ok-terms.terms.items c.args.lits.now c.args.number same)
-
-pub returns-clause-clauses : goal.returns-clause-clauses
-returns-clause-clauses c =
-    let same : c.in_ok-terms.terms.items ≡ map unit_term c.args.lits.now = c.in_ok-terms.ensures ∙ ap (map unit_term) c.as_slice.ensures in
-    ap exact_size (sum_is c.in_ok-terms.terms.items c.args.lits.now c.args.number same)
-
-pub returns-clause-list : goal.returns-clause-list
-returns-clause-list c first =
-    let same : c.in_ok-terms.terms.items ≡ map unit_term c.args.lits.now = c.in_ok-terms.ensures ∙ ap (map unit_term) c.as_slice.ensures in
-    ap (λ (m : BoundedSum). exact_clauses m first) (sum_is c.in_ok-terms.terms.items c.args.lits.now c.args.number same)
-
-pub returns-clause-outputs : goal.returns-clause-outputs
-returns-clause-outputs c first = exact_outputs (literals_within c.args.lits.now c.args.number) first
+    record {
+      over = omega (arith, c.size_of-size.ensures.fresh, here, ap exact_fresh sum, c.if-size-budget.false);
+      most = sum;
+      least = ap at_least sum;
+      fresh = ap exact_fresh sum;
+      clauses = ap exact_size sum;
+      list = λ first. ap (λ (m : BoundedSum). exact_clauses m first) sum;
+      outputs = λ first. exact_outputs (literals_within c.args.lits.now c.args.number) first;
+    }
