@@ -1,40 +1,27 @@
--- What went wrong with one of the files went wrong with both.
+-- What went wrong with the derivation, once the CNF was made, went wrong with both.
 use Rattle.std.proofs.Common.{◌≡◌, ◌∙◌, ◌<◌, ℕ, List, ◌∷◌, Some, None, inl, inr, ap, subst, sym, length}
 use Rattle.std.specs.Prelude.{◌⊎◌, Option, IsSomeAnd}
 use Rattle.pb_base.specs.declared.problem.Problem.{Problem}
 use Rattle.pb_desk.specs.View.{Made, Told, View}
 use Rattle.pb_desk.specs.Desk.{DeskState, IsTaken, Reaches}
 use Rattle.pb_base.specs.declared.options.Options.{Options}
-use Rattle.pb_encode.specs.Encodings.{derivation_text, made, problem_text, AfterCnf, FileNames, IsCutOff, Lacks, WantsMemory}
+use Rattle.pb_encode.specs.Encodings.{derivation_text, made, problem_text, AfterCnf, FileNames, IsCutOff, Lacks, LacksToMake, LeavesPart, StopsMaking, WantsMemory}
 use Rattle.pb_encode.specs.Encodings.Lacks.{equal_names, for_proof}
 use Rattle.pb_encode.specs.Encodings.LacksToMake.{is_taken, no_room}
-use Rattle.pb_encode.specs.Encodings.StopsEncoding.{in_cnf as stops_in_cnf, in_proof as stops_in_proof}
-use Rattle.pb_encode.specs.Encodings.WantsMemory.{not_made, in_cnf, in_proof}
+use Rattle.pb_encode.specs.Encodings.StopsEncoding.{in_proof as stops_in_proof}
+use Rattle.pb_encode.specs.Encodings.WantsMemory.{in_proof}
 use Rattle.pb_encode.specs.Summaries.{IsEncodable}
-use Rattle.pb_encode.specs.inner.Files.{IsCnfCutOff, LacksForProof, LeavesProof, StopsProof, WantsForCnf}
-use Rattle.pb_encode.specs.inner.Files.WantsForCnf.{not_made as cnf_not_made, in_text}
 
 module _ (o : Options) (p : Problem) (names : FileNames) (a : DeskState) where
-  -- ---- in the CNF
-
-  pub cut_off : (b : DeskState) → IsCnfCutOff o p names.cnf a b → IsCutOff o p names a b
-  cut_off b h = record { encodable = h.encodable; stops = stops_in_cnf h.stops }
-
-  pub left_off : (b : DeskState) → WantsForCnf o p names.cnf a b → WantsMemory o p names a b
-  left_off b (cnf_not_made reached) = not_made reached
-  left_off b (in_text encodable part) = in_cnf encodable part
-
-  -- ---- in the derivation, once the CNF was made
-
   module _ (b : DeskState) (proof : List ℕ) (named : names.proof ≡ Some proof) (whole : Reaches (made 0 names.cnf (problem_text o p)) a b) where
     after : (Ends : List ℕ → DeskState → Type 0) → Ends proof b → AfterCnf o p names Ends a
     after Ends ends = record { proof = proof; named = named; between = b; whole = whole; ends = ends }
 
-    pub proof_cut_off : (d : DeskState) → IsEncodable o p → StopsProof o p proof b d → IsCutOff o p names a d
-    proof_cut_off d encodable stops = record { encodable = encodable; stops = stops_in_proof (after (λ name between. StopsProof o p name between d) stops) }
+    pub proof_cut_off : (d : DeskState) → IsEncodable o p → StopsMaking 1 proof (derivation_text o p) b d → IsCutOff o p names a d
+    proof_cut_off d encodable stops = record { encodable = encodable; stops = stops_in_proof (after (λ name between. StopsMaking 1 name (derivation_text o p) between d) stops) }
 
-    pub proof_left_off : (d : DeskState) → IsEncodable o p → LeavesProof o p proof b d → WantsMemory o p names a d
-    proof_left_off d encodable part = in_proof encodable (after (λ name between. LeavesProof o p name between d) part)
+    pub proof_left_off : (d : DeskState) → IsEncodable o p → LeavesPart 1 proof (derivation_text o p) b d → WantsMemory o p names a d
+    proof_left_off d encodable part = in_proof encodable (after (λ name between. LeavesPart 1 name (derivation_text o p) between d) part)
 
     -- the CNF takes its name, and no slot but its own
     taken_before : (others : List Made) → IsTaken 1 proof (record { slot = 0; name = names.cnf; bytes = problem_text o p } ∷ others) → (names.cnf ≡ proof) ⊎ IsTaken 1 proof others
@@ -48,7 +35,7 @@ module _ (o : Options) (p : Problem) (names : FileNames) (a : DeskState) where
     taken_was None h = absurd h
     taken_was (Some t) h = taken_before t.made h
 
-    pub proof_lacks : LacksForProof o p proof b → Lacks o p names a
+    pub proof_lacks : LacksToMake 1 proof (derivation_text o p) b → Lacks o p names a
     proof_lacks (is_taken taken) =
         elim (taken_was a.view.told (subst (λ (v : View). IsSomeAnd v.told (λ t. IsTaken 1 proof t.made)) whole.view taken)) as (λ _. Lacks o p names a) [
           | inl same ↦ equal_names (named ∙ ap Some (sym same))

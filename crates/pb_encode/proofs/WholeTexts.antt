@@ -1,6 +1,6 @@
 -- What a sink over a slot that held nothing has written of a text, whatever it puts before the lines of clauses.
-use Rattle.std.proofs.Common.{◌≡◌, ◌∙◌, ℕ, List, [], Err, ap, inl, inr, sym, subst, take}
-use Rattle.std.specs.Prelude.{Result, IfErr, IsErrAnd, IsSome}
+use Rattle.std.proofs.Common.{◌≡◌, ◌∙◌, ℕ, List, [], Ok, Err, ap, inl, inr, sym, subst, take}
+use Rattle.std.specs.Prelude.{Result, OnOk, IsErrAnd, IsSome}
 use Rattle.pb_desk.specs.View.{wrote}
 use Rattle.pb_desk.specs.Desk.{DeskState, Reaches, IsSteady}
 use Rattle.pb_desk.proofs.Steps.{begin}
@@ -11,13 +11,11 @@ use Rattle.pb_family.specs.declared.sink.SinkFault.TheVariants as sink
 use Rattle.pb_dimacs.specs.Outboxes.{IsAllSent, SlotRest, slot_sink}
 use Rattle.pb_dimacs.proofs.Holding.{reaches_whole, reaches_part, fails_part, lacks_of, all_held}
 use Rattle.pb_dimacs.proofs.Leads.{fails_led, led, takes_led}
-use Rattle.pb_encode.specs.declared.fault.EncodeFault.{EncodeFault}
 use Rattle.pb_encode.specs.declared.fault.EncodeFault.TheVariants as fault
 use Rattle.pb_encode.specs.inner.Faults.{of_sink}
-use Rattle.pb_encode.specs.inner.Sending.{LacksFor, Stops, StopsSending, WantsSending}
+use Rattle.pb_encode.specs.inner.Sending.{LacksFor, Sends, Stops, StopsSending, WantsSending}
 use Rattle.pb_encode.specs.inner.Sending.WantsSending.{cut_off, sent}
-use Rattle.pb_encode.specs.inner.SendingTexts.{BreaksOff}
-use Rattle.pb_encode.proofs.Residuals.{on_fault, was_handed}
+use Rattle.pb_encode.specs.inner.SendingTexts.{BreaksOff, SendsText}
 
 -- what the sink stands over stays in whichever way it was stopped
 rest_stays : {R : Type 0} (text : List ℕ) (s t : SinkState R) (f : SinkFault) → BreaksOff text s t f → t.rest ≡ s.rest
@@ -55,24 +53,29 @@ module _ {N : Type 0} (lead : List ℕ) (n m : N) (slot k : ℕ) (a b : DeskStat
   lacks_at sink.Failed is h steady some = failed_lacks h steady some
   lacks_at sink.NoMemory is h steady some = cc
 
-  pub text_lacks : {T : Type 0} (r : Result T EncodeFault) (f : SinkFault) → IsErrAnd r (λ g. g ≡ of_sink f) → BreaksOff text s (led lead (slot_sink m k left b)) f → IsSteady a → IsSome a.view.room → r ≡ Err fault.WriteFault → LacksFor slot text a
-  text_lacks r f given h steady some is = lacks_at f (was_handed r fault.WriteFault (of_sink f) given is) h steady some
-
   -- the desk that comes back is that one, if the sink kept its name
-  module _ (d : DeskState) (back : n ≡ m → d ≡ b) where
+  module _ (d : DeskState) (back : n ≡ m → d ≡ b) (has_room : IsSteady a → IsSome a.view.room) where
     comes_back : (slot_sink m k left b).rest ≡ s.rest → b ≡ d
     comes_back stays = sym (back (sym (ap (λ (r : SlotRest N). r.name) stays ∙ ap (λ (x : SinkState (SlotRest N)). x.rest.name) starts)))
 
-    pub text_stopped : {T : Type 0} → (IsSteady a → IsSome a.view.room) → (r : Result T EncodeFault) (f : SinkFault) → IsErrAnd r (λ g. g ≡ of_sink f) → BreaksOff text s (led lead (slot_sink m k left b)) f → IfErr r (Stops slot text a d)
-    text_stopped has_room r f given h =
-        on_fault (Stops slot text a d) r (of_sink f) given
-        (subst (λ (x : DeskState). Stops slot text a x (of_sink f)) (comes_back (rest_stays text s (led lead (slot_sink m k left b)) f h)) (stops_at has_room f h))
-
-    pub text_written : Takes text s (led lead (slot_sink m k left b)) → IsAllSent (slot_sink m k left b) → Reaches (wrote slot text) a d
-    text_written h all =
+    whole_sent : Takes text s (led lead (slot_sink m k left b)) → IsAllSent (slot_sink m k left b) → Reaches (wrote slot text) a d
+    whole_sent h all =
         let to = subst (λ (x : SinkState (SlotRest N)). Takes text (slot_sink n slot [] a) x) (all_held m k left b all) (plain_takes text h) in
         subst (λ (x : DeskState). Reaches (wrote slot text) a x) (comes_back h.grows.rest) (reaches_whole n m slot k a b text to)
 
--- nothing was sent
-pub sends_none : (slot : ℕ) (text : List ℕ) (a : DeskState) → WantsSending slot text a a
-sends_none slot text a = sent (record { count = 0; reached = begin (wrote slot []) a (wrote-nil slot) })
+    pub text_sent : {T : Type 0} (r : Result T SinkFault) → SendsText text r s (led lead (slot_sink m k left b)) → OnOk r (IsAllSent (slot_sink m k left b)) → Sends slot text r a d
+    text_sent (Ok x) h all = record { whole = whole_sent h all; stopped = tt; lacks = λ steady. tt }
+    text_sent (Err f) h all = record {
+      whole = tt;
+      stopped = subst (λ (x : DeskState). Stops slot text a x (of_sink f)) (comes_back (rest_stays text s (led lead (slot_sink m k left b)) f h)) (stops_at has_room f h);
+      lacks = λ steady is. lacks_at f is h steady (has_room steady);
+    }
+
+-- memory was wanting before a byte was sent
+pub none_sent : {T : Type 0} (slot : ℕ) (text : List ℕ) (a : DeskState) (r : Result T SinkFault) → IsErrAnd r (λ g. g ≡ sink.NoMemory) → Sends slot text r a a
+none_sent slot text a (Ok x) is = absurd is
+none_sent slot text a (Err f) is = record {
+  whole = tt;
+  stopped = subst (λ (g : SinkFault). Stops slot text a a (of_sink g)) (sym is) (sent (record { count = 0; reached = begin (wrote slot []) a (wrote-nil slot) }));
+  lacks = λ steady write. let no : fault.WriteFault ≡ fault.NoMemory = write ∙ ap of_sink is in cc;
+}

@@ -1,7 +1,6 @@
 pub mod Hints
 pub mod OneProof
 pub mod Faults
-pub mod Files
 pub mod GroupPlans
 pub mod Sending
 pub mod SendingTexts

@@ -1,20 +1,15 @@
 //! The file of a problem's derivation.
-ghost use Rattle.std.specs.Prelude.{◌≡◌, ◌≤◌, ◌<◌, ◌^◌, ◌+◌, false, All, Err, OnOk, IfErr, IsTrue, length};
-ghost use Rattle.pb_base.specs.declared.limit.LimitKind.{LimitKind};
+ghost use Rattle.std.specs.Prelude.{◌≡◌, ◌≤◌, ◌<◌, ◌^◌, ◌+◌, All, OnOk, length};
 ghost use Rattle.pb_base.specs.Problems.{IsWithinLimits};
 ghost use Rattle.pb_base.specs.Statements.{raw_of};
-ghost use Rattle.pb_desk.specs.View.{wrote};
-ghost use Rattle.pb_desk.specs.Desk.{IsSteady, Reaches};
 ghost use Rattle.pb_dimacs.specs.Outboxes.{IsAllSent};
 ghost use Rattle.pb_norm.specs.Halves.{constraints_of, loaded};
 ghost use Rattle.pb_norm.specs.Products.{defining, loaded_of};
-ghost use Rattle.pb_encode.specs.Encodings.{derivation_text, made};
-ghost use Rattle.pb_encode.specs.inner.Files.{LacksForProof, LeavesProof, StopsProof};
-ghost use Rattle.pb_encode.specs.inner.Sending.{LacksFor, Stops};
+ghost use Rattle.pb_encode.specs.Encodings.{derivation_text};
 ghost use Rattle.pb_encode.specs.inner.SendingTexts.{SendsText};
 
 use crate::encodable::Encodable;
-use crate::fault::EncodeFault;
+use crate::file::FileText;
 use crate::whole::stream_told_steps;
 use pb_base::{Lits, Problem, Statement, Statements};
 use pb_desk::Desk;
@@ -87,43 +82,17 @@ fn send_steps<'a, D: Desk>(
     }
 }
 
-// Writes the text of a problem's derivation to slot 1.
-fn write_steps<D: Desk>(
-    alloc: Global,
-    input: &Encodable<'_>,
-    desk: &mut D,
-) -> Result<(), EncodeFault>
-    requires open { IsTrue ((D.state desk.old).view.writing 1) }
-    ensures written { OnOk result (Reaches (wrote 1 (derivation_text input.now.options.now input.now.problem.now)) (D.state desk.old) (D.state desk.new)) }
-    ensures stopped { IfErr result (Stops 1 (derivation_text input.now.options.now input.now.problem.now) (D.state desk.old) (D.state desk.new)) }
-    ensures steady { IsSteady (D.state desk.old) → result ≡ Err EncodeFault.WriteFault → LacksFor 1 (derivation_text input.now.options.now input.now.problem.now) (D.state desk.old) }
-{
-    let next = count_loaded(input.problem) + 1;
-    let mut outbox = WriteBuffer::new(alloc)?;
-    let mut line = Vec::new(alloc);
-    let mut writer = StepWriter::new(alloc, desk, 1, &mut outbox, &mut line, next);
-    send_steps(alloc, input, &mut writer)?;
-    Ok(())
-}
+// Its derivation.
+impl FileText for Encodable<'_> {
+    ghost use Rattle.pb_encode.specs.Encodings.{derivation_text};
 
-/// Writes the derivation of a problem's clauses to a new file in slot 1.
-pub fn encode_steps<D: Desk>(
-    alloc: Global,
-    input: &Encodable<'_>,
-    name: &str,
-    desk: &mut D,
-) -> Result<(), EncodeFault>
-    requires free { (D.state desk.old).view.writing 1 ≡ false }
+    ghost text = { λ e. derivation_text e.options.now e.problem.now };
 
-    ensures made { OnOk result (Reaches (made 1 name.now (derivation_text input.now.options.now input.now.problem.now)) (D.state desk.old) (D.state desk.new)) }
-
-    ensures limit { (k : LimitKind) → result ≡ Err (EncodeFault.Limit k) → ⊥ }
-    ensures write_fault { result ≡ Err EncodeFault.WriteFault → StopsProof input.now.options.now input.now.problem.now name.now (D.state desk.old) (D.state desk.new) }
-    ensures no_memory { result ≡ Err EncodeFault.NoMemory → LeavesProof input.now.options.now input.now.problem.now name.now (D.state desk.old) (D.state desk.new) }
-    ensures steady { IsSteady (D.state desk.old) → result ≡ Err EncodeFault.WriteFault → LacksForProof input.now.options.now input.now.problem.now name.now (D.state desk.old) }
-{
-    desk.create(1, name)?;
-    write_steps(alloc, input, desk)?;
-    desk.close(1)?;
-    Ok(())
+    fn send<D: Desk>(&self, alloc: Global, desk: &mut D, slot: u8) -> SinkResult {
+        let next = count_loaded(self.problem) + 1;
+        let mut outbox = WriteBuffer::new(alloc)?;
+        let mut line = Vec::new(alloc);
+        let mut writer = StepWriter::new(alloc, desk, slot, &mut outbox, &mut line, next);
+        send_steps(alloc, self, &mut writer)
+    }
 }

@@ -8,6 +8,7 @@ mod derived;
 mod encodable;
 mod encoding;
 mod fault;
+mod file;
 mod group_plan;
 mod groups;
 mod hints;

@@ -1,12 +1,11 @@
 //! A problem's weighted CNF: its clauses, which are hard, and its objective as soft literals.
-ghost use Rattle.std.specs.Prelude.{◌≡◌, ◌^◌, ◌-ℤ◌, pos, false, map, Err, IsTrue, IfOk, IfErr, OnOk};
+ghost use Rattle.std.specs.Prelude.{◌≡◌, ◌^◌, ◌-ℤ◌, pos, false, map, Err, IfOk, OnOk};
 ghost use Rattle.pb_base.specs.declared.limit.LimitKind.{LimitKind};
 ghost use Rattle.pb_base.specs.declared.problem.Problem.{Problem};
 ghost use Rattle.pb_base.specs.Problems.{IsWithinLimits};
 ghost use Rattle.pb_norm.specs.Reduction.{opposite};
 ghost use Rattle.pb_family.specs.Handing.{HandsText};
 ghost use Rattle.pb_base.specs.declared.options.Options.{Options};
-ghost use Rattle.pb_desk.specs.View.{wrote};
 ghost use Rattle.pb_desk.specs.Desk.{IsSteady, Reaches};
 ghost use Rattle.pb_dimacs.specs.Outboxes.{IsAllSent};
 ghost use Rattle.pb_dimacs.specs.WcnfReading.{hard_and_soft, WcnfReads};
@@ -14,13 +13,13 @@ ghost use Rattle.pb_dimacs.specs.WcnfText.{offset_text, softs_text};
 ghost use Rattle.pb_encode.specs.Clauses.{problem_clauses};
 ghost use Rattle.pb_encode.specs.Costs.{objective_form, softs_of, CostsAddUp};
 ghost use Rattle.pb_encode.specs.Encodings.{made, Refuses};
-ghost use Rattle.pb_encode.specs.inner.Sending.{LacksFor, Stops};
 ghost use Rattle.pb_encode.specs.inner.SendingTexts.{HandsTextIfMemory, SendsText};
 ghost use Rattle.pb_encode.specs.Summaries.{summary_of, IsEncodable};
 ghost use Rattle.pb_encode.specs.Weighted.{weighted_text, HasCostsOf, IsWeightedCutOff, LacksForWeighted, WantsForWeighted};
 
 use crate::encodable::Encodable;
 use crate::fault::EncodeFault;
+use crate::file::{FileText, make_file};
 use crate::hints::Hints;
 use crate::measuring::measure_telling;
 use crate::objective::{objective_form, offset_by};
@@ -94,17 +93,16 @@ fn send_weighted<'a, D: Desk>(
     }
 }
 
-// Writes the weighted CNF text of a problem to slot 0.
-fn write_weighted<D: Desk>(alloc: Global, of: &Costed<'_>, desk: &mut D) -> Result<(), EncodeFault>
-    requires open { IsTrue ((D.state desk.old).view.writing 0) }
-    ensures written { OnOk result (Reaches (wrote 0 (weighted_text of.now.input.options.now of.now.input.problem.now)) (D.state desk.old) (D.state desk.new)) }
-    ensures stopped { IfErr result (Stops 0 (weighted_text of.now.input.options.now of.now.input.problem.now) (D.state desk.old) (D.state desk.new)) }
-    ensures steady { IsSteady (D.state desk.old) → result ≡ Err EncodeFault.WriteFault → LacksFor 0 (weighted_text of.now.input.options.now of.now.input.problem.now) (D.state desk.old) }
-{
-    let mut outbox = WriteBuffer::new(alloc)?;
-    let mut writer = HardWriter::new(desk, 0, &mut outbox);
-    send_weighted(alloc, of, &mut writer)?;
-    Ok(())
+impl FileText for Costed<'_> {
+    ghost use Rattle.pb_encode.specs.Weighted.{weighted_text};
+
+    ghost text = { λ c. weighted_text c.input.options.now c.input.problem.now };
+
+    fn send<D: Desk>(&self, alloc: Global, desk: &mut D, slot: u8) -> SinkResult {
+        let mut outbox = WriteBuffer::new(alloc)?;
+        let mut writer = HardWriter::new(desk, slot, &mut outbox);
+        send_weighted(alloc, self, &mut writer)
+    }
 }
 
 /// Writes the weighted CNF of a problem to a new file in slot 0: the offset of its objective, its clauses as hard ones, and a soft line
@@ -132,15 +130,13 @@ pub fn weighted<D: Desk>(
     let mut hints = Hints::new(alloc);
     let summary = measure_telling(alloc, problem, options, &mut hints)?;
     let objective = objective_form(alloc, problem)?;
-    desk.create(0, name)?;
     let input = Encodable {
         problem,
         options,
         hints: hints.as_slice(),
     };
     let costed = Costed { input, objective };
-    write_weighted(alloc, &costed, desk)?;
-    desk.close(0)?;
+    make_file(alloc, &costed, 0, name, desk)?;
     Ok(summary)
 }
 

@@ -20,7 +20,7 @@ use crate::streaming::stream_loaded;
 use crate::table::{derive_table, stream_table};
 use pb_base::{NoMemory, Options, Problem};
 use pb_choice::Counts;
-use pb_family::{ClauseSink, SinkResult, StepSink};
+use pb_family::{ClauseSink, SinkResult, StepSink, derive_steps};
 use pb_steps::Step;
 use std::alloc::Global;
 
@@ -122,8 +122,7 @@ pub fn stream_told_steps<T: StepSink>(
     ensures { HandsSteps (problem_steps input.now.options.now input.now.problem.now) result (T.state sink.old) (T.state sink.new) }
 {
     let count = sink.next_id() - 1;
-    sink.step(&Step::Head)?;
-    sink.step(&Step::Loaded { count })?;
+    derive_steps(&Step::Head, &Step::Loaded { count }, sink)?;
     derive_clauses(alloc, input, sink)?;
     sink.step(&Step::End)
 }

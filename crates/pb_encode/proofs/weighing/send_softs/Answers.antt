@@ -1,15 +1,13 @@
-use Rattle.std.proofs.Common.{◌≡◌, ◌+◌, ◌++◌, ℕ, List, [], FitsSigned, ap, append-nil, drop, get_or, map, of_z, rules, take, to_z, ◌∙◌, ℤ}
-use mir.Syntax.{w128}
+use Rattle.std.proofs.Common.{◌≡◌, ◌+◌, ◌++◌, ℕ, List, [], ap, append-nil, drop, get_or, map, rules, take, ◌∙◌}
 use Rattle.std.specs.List.{flat_map}
-use Rattle.std.proofs.lemmas.Int.{to_z-of_z}
 use Rattle.std.proofs.lemmas.List.{take_all}
 use Rattle.pb_base.specs.declared.literal.Term.{Term}
 use Rattle.pb_norm.specs.Reduction.{opposite}
 use Rattle.pb_family.proofs.Taking.{fails_front, fails_same, takes_nothing, takes_same, then_fails, then_takes}
-use Rattle.pb_dimacs.specs.WcnfText.{soft_text, softs_text}
+use Rattle.pb_dimacs.specs.WcnfText.{softs_text}
 use Rattle.pb_dimacs.proofs.Holding.{text_fault}
 use Rattle.pb_dimacs.proofs.Lines.{flat_parts, flat_take_more}
-use Rattle.pb_encode.proofs.CostTexts.{cost_line, cost_lines}
+use Rattle.pb_encode.proofs.CostTexts.{cost_line, cost_lines, line_written}
 use Rattle.pb_encode.proofs.weighing.send_softs.Goals as goal
 
 pub loop-term-init : goal.loop-term-init
@@ -20,9 +18,7 @@ returns-in_err-soft g c =
     let items : List Term = c.terms-terms.result.now in
     let i = c.loop-term.term-index in
     let t : Term = c.term-item.result in
-    let fits : FitsSigned w128 t.coef = search rules in
-    let coef : to_z w128 (of_z w128 t.coef) ≡ t.coef = to_z-of_z w128 t.coef fits in
-    let line = ap (λ (z : ℤ). soft_text z c.not.result) coef ∙ ap (soft_text t.coef) c.not.ensures in
+    let line = line_written t c.not.result (search rules) c.not.ensures in
     let rest : List ℕ = flat_map cost_line (drop (i + 1) items) ++ [] in
     let here : t ≡ get_or items i t = search rules in
     let whole = flat_parts cost_line items [] i t c.loop-term-test.true here ∙ append-nil (flat_map cost_line items) ∙ ap (flat_map cost_line) c.loop-term.invariant.items ∙ cost_lines c.args.objective.now.terms in
@@ -35,9 +31,7 @@ loop-term-preserved g c =
     let items : List Term = c.terms-terms.result.now in
     let i = c.loop-term.term-index in
     let t : Term = c.term-item.result in
-    let fits : FitsSigned w128 t.coef = search rules in
-    let coef : to_z w128 (of_z w128 t.coef) ≡ t.coef = to_z-of_z w128 t.coef fits in
-    let line = ap (λ (z : ℤ). soft_text z c.not.result) coef ∙ ap (soft_text t.coef) c.not.ensures in
+    let line = line_written t c.not.result (search rules) c.not.ensures in
     let here : t ≡ get_or items i t = search rules in
     record {
       items = c.loop-term.invariant.items;

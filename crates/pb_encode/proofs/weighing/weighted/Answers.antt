@@ -1,27 +1,17 @@
-use Rattle.pb_encode.specs.Weighted.{weighted_text}
 use Rattle.pb_encode.specs.Weighted.WantsForWeighted.{in_text}
-use Rattle.pb_encode.proofs.MadeFiles.{end_stops, memory_stops, write_stops}
+use Rattle.pb_encode.proofs.Residuals.{was_answered}
 use Rattle.pb_encode.proofs.weighing.weighted.Goals as goal
 
-pub returns-in_err-write_weighted-clause-write_fault : goal.returns-in_err-write_weighted-clause-write_fault
-returns-in_err-write_weighted-clause-write_fault g c = λ is. record {
-  encodable = c.in_ok-summary.ensures.encodable;
-  stops = write_stops 0 c.args.name.now (weighted_text c.args.options.now c.args.problem.now) (g.D.Desk.state c.args.desk.now) (g.D.Desk.state c.create.new.self) (g.D.Desk.state c.write_weighted.new.desk) c.in_ok-create.ensures.ok
-      c.from_residual-in_err-write_weighted.result c.in_err-write_weighted.field-0.0 c.from_residual-in_err-write_weighted.ensures.1 c.in_err-write_weighted.ensures.stopped is;
-}
+pub returns-in_err-make_file-clause-write_fault : goal.returns-in_err-make_file-clause-write_fault
+returns-in_err-make_file-clause-write_fault g c = λ is.
+    record { encodable = c.in_ok-summary.ensures.encodable; stops = c.make_file.ensures.write_fault (was_answered _ _ _ _ c.from_residual-in_err-make_file.ensures.1 c.in_err-make_file.was is) }
 
-pub returns-in_err-write_weighted-clause-no_memory : goal.returns-in_err-write_weighted-clause-no_memory
-returns-in_err-write_weighted-clause-no_memory g c = λ is.
-    in_text c.in_ok-summary.ensures.encodable
-    (memory_stops 0 c.args.name.now (weighted_text c.args.options.now c.args.problem.now) (g.D.Desk.state c.args.desk.now) (g.D.Desk.state c.create.new.self) (g.D.Desk.state c.write_weighted.new.desk) c.in_ok-create.ensures.ok
-    c.from_residual-in_err-write_weighted.result c.in_err-write_weighted.field-0.0 c.from_residual-in_err-write_weighted.ensures.1 c.in_err-write_weighted.ensures.stopped is)
+pub returns-in_err-make_file-clause-no_memory : goal.returns-in_err-make_file-clause-no_memory
+returns-in_err-make_file-clause-no_memory g c = λ is.
+    in_text c.in_ok-summary.ensures.encodable (c.make_file.ensures.no_memory (was_answered _ _ _ _ c.from_residual-in_err-make_file.ensures.1 c.in_err-make_file.was is))
 
-pub returns-in_err-close-clause-write_fault : goal.returns-in_err-close-clause-write_fault
-returns-in_err-close-clause-write_fault g c = λ is. record {
-  encodable = c.in_ok-summary.ensures.encodable;
-  stops = end_stops 0 c.args.name.now (weighted_text c.args.options.now c.args.problem.now) (g.D.Desk.state c.args.desk.now) (g.D.Desk.state c.create.new.self) (g.D.Desk.state c.write_weighted.new.desk) c.in_ok-create.ensures.ok
-      (g.D.Desk.state c.close.new.self) c.in_ok-write_weighted.ensures.written c.in_err-close.ensures.failed;
-}
+pub returns-in_err-make_file-clause-steady : goal.returns-in_err-make_file-clause-steady
+returns-in_err-make_file-clause-steady g c = λ steady is. c.make_file.ensures.steady steady (was_answered _ _ _ _ c.from_residual-in_err-make_file.ensures.1 c.in_err-make_file.was is)
 
 pub returns-clause-summary : goal.returns-clause-summary
 returns-clause-summary g c = c.in_ok-summary.ensures.summary
