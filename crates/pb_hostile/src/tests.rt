@@ -1,5 +1,6 @@
 mod broken;
 mod failing;
+mod marks;
 
 ghost use Rattle.std.specs.Prelude.{◌≤◌};
 
@@ -20,7 +21,14 @@ fn put_file(alloc: Global, files: &mut Shelf, name: &str, text: &[u8]) -> Result
     Ok(())
 }
 
-// The files `a`, `b`, `c` and `l` of these texts.
+// The words of a run, and the texts of the files `a`, `b`, `c` and `l`. A run that reads fewer does not open the others.
+#[derive(Clone, Copy)]
+struct Asked<'a> {
+    words: &'a str,
+    texts: [&'a [u8]; 4],
+}
+
+// The files of these texts.
 fn put_files(alloc: Global, files: &mut Shelf, texts: [&[u8]; 4]) -> Result<(), NoMemory> {
     let [first, second, third, fourth] = texts;
     put_file(alloc, files, "a", first)?;
@@ -29,7 +37,6 @@ fn put_files(alloc: Global, files: &mut Shelf, texts: [&[u8]; 4]) -> Result<(), 
     put_file(alloc, files, "l", fourth)
 }
 
-// The same. A run that reads fewer does not open the others.
 fn files_of(alloc: Global, texts: [&[u8]; 4]) -> Result<Shelf, NoMemory> {
     let mut files = Seq::new(alloc);
     put_files(alloc, &mut files, texts)?;
@@ -38,17 +45,15 @@ fn files_of(alloc: Global, texts: [&[u8]; 4]) -> Result<Shelf, NoMemory> {
 
 // A run on a desk with these files, whose call of this number fails, and none where it is 0; a call moves so many bytes, and
 // each file and what is said have so much room.
-fn run_on(
-    alloc: Global,
-    words: &str,
-    texts: [&[u8]; 4],
-    call: u64,
-    piece: usize,
-    room: usize,
-) -> Option<Run>
+fn run_on(alloc: Global, asked: Asked, call: u64, piece: usize, room: usize) -> Option<Run>
     requires { 1 ≤ piece }
 {
     let fails = Ids::from_vec(vec![in alloc; call].ok()?);
-    let files = files_of(alloc, texts).ok()?;
-    run_over(alloc, words, files, fails, piece, room).ok()
+    let files = files_of(alloc, asked.texts).ok()?;
+    run_over(alloc, asked.words, files, fails, piece, room).ok()
+}
+
+// The same on a desk that does not hinder it.
+fn run_freely(alloc: Global, asked: Asked) -> Option<Run> {
+    run_on(alloc, asked, 0, 4096, 4096)
 }

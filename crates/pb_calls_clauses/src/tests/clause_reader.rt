@@ -3,7 +3,7 @@ ghost use Rattle.std.specs.Prelude.{◌≡◌, ◌<◌, length, None, IsTrue, If
 ghost use Rattle.pb_desk.specs.Desk.{IsClosed};
 ghost use Rattle.pb_dimacs.specs.CnfReaders.{new_reader};
 
-use super::assert_found;
+use super::{Texts, assert_found};
 use pb_desk::Desk;
 use pb_dimacs::{ClauseReader, CnfFault, CnfForms, CnfHead, read_forms};
 use pb_samples::{constraint_text, desk_with, lits_text};
@@ -82,25 +82,24 @@ fn told_of(alloc: Global, text: &str) -> Option<String> {
 
 #[test]
 fn clauses_come_in_turn(rt: HostRuntime) {
-    let cases = [
-        ("p cnf 2 3\n", "2 3 7;2:1: clause word"),
-        ("", "1:1: p line"),
-        ("p dnf 1 1", "1:3: cnf word"),
-        ("p cnf 1", "1:8: clause count"),
-        ("c\np cnf 1 1 1", "2:11: line end"),
-        (
-            "p cnf 2 2\n1 -1 0\nc note\n1\n2 0",
-            "2 2 7; x1 ~x1; x1 x2;none",
-        ),
-        ("p cnf 1 0", "1 0 7;none"),
-        ("p cnf 1 1\n2 0", "1 1 7;2:1: clause word"),
-        ("p cnf 1 1\n1", "1 1 7;3:1: clause word"),
-        ("p cnf 1 0\n\n 1", "1 0 7;3:2: cnf end"),
-    ];
-    for (text, expected) in cases {
-        let found = told_of(rt.alloc(), text);
-        assert_found(&rt, found, expected);
-    }
+    rt.each_text_told(
+        told_of,
+        &[
+            ("p cnf 2 3\n", "2 3 7;2:1: clause word"),
+            ("", "1:1: p line"),
+            ("p dnf 1 1", "1:3: cnf word"),
+            ("p cnf 1", "1:8: clause count"),
+            ("c\np cnf 1 1 1", "2:11: line end"),
+            (
+                "p cnf 2 2\n1 -1 0\nc note\n1\n2 0",
+                "2 2 7; x1 ~x1; x1 x2;none",
+            ),
+            ("p cnf 1 0", "1 0 7;none"),
+            ("p cnf 1 1\n2 0", "1 1 7;2:1: clause word"),
+            ("p cnf 1 1\n1", "1 1 7;3:1: clause word"),
+            ("p cnf 1 0\n\n 1", "1 0 7;3:2: cnf end"),
+        ],
+    );
 }
 
 // Adds a constraint, in a line.
@@ -144,19 +143,18 @@ fn whole_of(alloc: Global, text: &str, fails: u64) -> Option<String> {
 
 #[test]
 fn a_whole_text_or_its_first_fault(rt: HostRuntime) {
-    let cases = [
-        (
-            "p cnf 2 3\n1 -1 0\nc note\n2 1\n2 0\n0",
-            "2 3\n>= 0\n1 x1 1 x2 >= 1\n>= 1",
-        ),
-        ("p cnf 1 2\n1 0\n", "3:1: clause word"),
-        ("p cnf 1 1\n1 0 0", "2:5: cnf end"),
-        ("", "1:1: p line"),
-    ];
-    for (text, expected) in cases {
-        let found = whole_of(rt.alloc(), text, 0);
-        assert_found(&rt, found, expected);
-    }
+    rt.each_text_told(
+        |alloc, text| whole_of(alloc, text, 0),
+        &[
+            (
+                "p cnf 2 3\n1 -1 0\nc note\n2 1\n2 0\n0",
+                "2 3\n>= 0\n1 x1 1 x2 >= 1\n>= 1",
+            ),
+            ("p cnf 1 2\n1 0\n", "3:1: clause word"),
+            ("p cnf 1 1\n1 0 0", "2:5: cnf end"),
+            ("", "1:1: p line"),
+        ],
+    );
 }
 
 #[test]

@@ -172,7 +172,7 @@ fn add(alloc: Global, engine: &mut Engine, text: &str) -> Option<u64>
     engine.add(&constraint).ok()
 }
 
-// What 3 x1 + 2 x2 + x3 >= 3 reaches alone, and its slack.
+// What the first constraint reaches alone, and its slack.
 fn alone(alloc: Global, engine: &mut Engine) -> Option<String>
     requires { engine.old.vars ≡ 3 }
     ensures { engine.new.vars ≡ 3 }
@@ -181,18 +181,29 @@ fn alone(alloc: Global, engine: &mut Engine) -> Option<String>
     format!(in alloc; "{reached}; {:?}", engine.slack(0)).ok()
 }
 
-// The same with ~x1 and ~x2 beside it: their places, and what holds before and after.
-fn beside(alloc: Global, engine: &mut Engine) -> Option<String>
+// Adds constraints of three variables, and tells their places.
+fn places(alloc: Global, engine: &mut Engine, texts: &[&str]) -> Option<String>
     requires { engine.old.vars ≡ 3 }
     ensures { engine.new.vars ≡ 3 }
 {
-    let places = (
-        add(alloc, engine, "1 ~x1 >= 1 ;")?,
-        add(alloc, engine, "1 ~x2 >= 1 ;")?,
-    );
+    let mut places = String::new(alloc);
+    for text in texts {
+        let place = add(alloc, engine, text)?;
+        let place = format!(in alloc; " {place}").ok()?;
+        places.push_str(place.as_str()).ok()?;
+    }
+    Some(places)
+}
+
+// The same with others beside it: their places, and what holds before and after.
+fn beside(alloc: Global, engine: &mut Engine, texts: &[&str]) -> Option<String>
+    requires { engine.old.vars ≡ 3 }
+    ensures { engine.new.vars ≡ 3 }
+{
+    let places = places(alloc, engine, texts)?;
     let before = told(alloc, engine, 3)?;
     let reached = propagated(alloc, engine, 3)?;
-    format!(in alloc; "{places:?}; {before}; {reached}").ok()
+    format!(in alloc; "{places}; {before}; {reached}").ok()
 }
 
 // What is left without the first.
@@ -209,47 +220,34 @@ fn without(alloc: Global, engine: &mut Engine) -> Option<String>
     format!(in alloc; "{removed:?}; {reached}").ok()
 }
 
-fn come_and_go(alloc: Global, engine: &mut Engine) -> Option<String>
+// What is told of a constraint alone, with others beside it, and of these once it is gone.
+fn comes_and_goes(alloc: Global, engine: &mut Engine, others: &[&str]) -> Option<String>
     requires { engine.old.vars ≡ 3 }
 {
     let alone = alone(alloc, engine)?;
-    let beside = beside(alloc, engine)?;
+    let beside = beside(alloc, engine, others)?;
     let without = without(alloc, engine)?;
-    format!(in alloc; "{alone}; {beside}; {without}").ok()
+    format!(in alloc; "{alone};{beside}; {without}").ok()
 }
 
-fn all_come_and_go(alloc: Global) -> Option<String> {
-    let mut engine = engine_of(alloc, 3, WEIGHTED)?;
-    come_and_go(alloc, &mut engine)
+// The same of a text.
+fn comes_and_goes_in(alloc: Global, text: &str, others: &[&str]) -> Option<String> {
+    let mut engine = engine_of(alloc, 3, text)?;
+    comes_and_goes(alloc, &mut engine, others)
 }
 
 #[test]
 fn constraints_come_and_go(rt: HostRuntime) {
-    let found = all_come_and_go(rt.alloc());
-    let expected = "; Some(3); (1, 2); ; conflict; (true, false, false, None);  ~x1 ~x2";
+    let found = comes_and_goes_in(rt.alloc(), WEIGHTED, &["1 ~x1 >= 1 ;", "1 ~x2 >= 1 ;"]);
+    let expected = "; Some(3); 1 2; ; conflict; (true, false, false, None);  ~x1 ~x2";
     assert_found(&rt, found, expected);
 }
 
-// What 2 x1 + x2 >= 2 reaches alone, beside ~x1, and once it is gone.
-fn a_forced_literal_comes_and_goes(alloc: Global, engine: &mut Engine) -> Option<String>
-    requires { engine.old.vars ≡ 3 }
-{
-    let alone = alone(alloc, engine)?;
-    let place = add(alloc, engine, "1 ~x1 >= 1 ;")?;
-    let beside = propagated(alloc, engine, 3)?;
-    let without = without(alloc, engine)?;
-    format!(in alloc; "{alone}; {place}; {beside}; {without}").ok()
-}
-
-fn all_of_a_forced_literal(alloc: Global) -> Option<String> {
-    let mut engine = engine_of(alloc, 3, "2 x1 1 x2 >= 2 ;")?;
-    a_forced_literal_comes_and_goes(alloc, &mut engine)
-}
-
+// What the constraint forced is taken back where another comes.
 #[test]
 fn a_literal_is_forced_and_refused(rt: HostRuntime) {
-    let found = all_of_a_forced_literal(rt.alloc());
-    let expected = " x1; Some(1); 1; conflict; (true, false, false, None);  ~x1";
+    let found = comes_and_goes_in(rt.alloc(), "2 x1 1 x2 >= 2 ;", &["1 ~x1 >= 1 ;"]);
+    let expected = " x1; Some(1); 1; ; conflict; (true, false, false, None);  ~x1";
     assert_found(&rt, found, expected);
 }
 

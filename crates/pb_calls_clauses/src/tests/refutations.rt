@@ -1,7 +1,8 @@
 // Refutations line by line, by hand from what LRAT lines mean.
+ghost use Rattle.std.specs.Prelude.{◌≤◌};
 ghost use Rattle.pb_desk.specs.Desk.{IsClosed};
 
-use super::assert_found;
+use super::{Texts, assert_found};
 use pb_base::{Clause, Clauses};
 use pb_desk::Desk;
 use pb_lrat::{LratChecker, refute};
@@ -168,36 +169,36 @@ fn refuted_on<D: Desk>(alloc: Global, desk: &mut D) -> Option<String>
     }
 }
 
-// The same of a text.
-fn read(alloc: Global, text: &str) -> Option<String> {
-    let mut desk = desk_with(alloc, text.as_bytes(), 0, 7, 64).ok()?;
+// The same of a text over a desk that gives so many bytes at once, and whose call of this number fails.
+fn read(alloc: Global, text: &str, piece: usize, fails: u64) -> Option<String>
+    requires { 1 ≤ piece }
+{
+    let mut desk = desk_with(alloc, text.as_bytes(), fails, piece, 64).ok()?;
     refuted_on(alloc, &mut desk)
 }
 
 #[test]
 fn refutations_are_read(rt: HostRuntime) {
-    let cases = [
-        ("4 0 2 3 1 0\n", "refuted"),
-        ("c nothing", "NotRefuted { line: 2, why: NoEmptyClause }"),
-        (
-            "\n4 2 0 1 2 0\n5 0 4 0\n",
-            "NotRefuted { line: 3, why: NoConflict }",
-        ),
-        (
-            "4 0 2 -3 1 0",
-            "Token { place: Place { line: 1, column: 7 }, expected: LratHint }",
-        ),
-    ];
-    for (text, expected) in cases {
-        let found = read(rt.alloc(), text);
-        assert_found(&rt, found, expected);
-    }
+    rt.each_text_told(
+        |alloc, text| read(alloc, text, 7, 0),
+        &[
+            ("4 0 2 3 1 0\n", "refuted"),
+            ("c nothing", "NotRefuted { line: 2, why: NoEmptyClause }"),
+            (
+                "\n4 2 0 1 2 0\n5 0 4 0\n",
+                "NotRefuted { line: 3, why: NoConflict }",
+            ),
+            (
+                "4 0 2 -3 1 0",
+                "Token { place: Place { line: 1, column: 7 }, expected: LratHint }",
+            ),
+        ],
+    );
 }
 
-// The same of a text over a desk that gives ten bytes at once, and whose third call fails.
+// The same where ten bytes come at once, and the third call fails.
 fn read_twice(alloc: Global, text: &str) -> Option<String> {
-    let mut desk = desk_with(alloc, text.as_bytes(), 3, 10, 64).ok()?;
-    refuted_on(alloc, &mut desk)
+    read(alloc, text, 10, 3)
 }
 
 #[test]

@@ -1,6 +1,7 @@
 // Derivations that are checked once as they are, and then with each of their lines changed.
 use super::checking::is_accepted;
-use super::files::{Files, Kind, Sum, made};
+use super::files::{Files, Sum, made};
+use pb_samples::Kind;
 use std::alloc::Global;
 
 /// What stands in the place of a line.

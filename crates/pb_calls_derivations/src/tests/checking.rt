@@ -79,36 +79,52 @@ pub fn is_accepted(alloc: Global, opb: &str, cnf: &str, proof: &str) -> Option<b
     Some(found.as_str() == "accepted")
 }
 
-// The same behind the first two lines of a derivation over so many constraints.
-fn told(alloc: Global, opb: &str, cnf: &str, loaded: u32, steps: &str) -> Option<String> {
+// A problem, how many constraints are loaded of it, and a CNF.
+#[derive(Drop)]
+struct Texts {
+    opb: &'static str,
+    loaded: u32,
+    cnf: &'static str,
+}
+
+// The same behind the first two lines of a derivation.
+fn told(alloc: Global, texts: &Texts, steps: &str) -> Option<String> {
+    let loaded = texts.loaded;
     let proof = format!(in alloc; "pseudo-Boolean derivation profile 1\nf {loaded}\n{steps}").ok()?;
-    checked(alloc, opb, cnf, proof.as_str())
+    checked(alloc, texts.opb, texts.cnf, proof.as_str())
 }
 
 trait Cases {
     // Beside a problem and a CNF, this is told of the steps.
-    fn each_told(&self, opb: &str, cnf: &str, loaded: u32, cases: &[(&str, &str)]);
+    fn each_told(&self, texts: &Texts, cases: &[(&str, &str)]);
 }
 
 impl<R: Abort + Alloc<A = Global>> Cases for R {
-    fn each_told(&self, opb: &str, cnf: &str, loaded: u32, cases: &[(&str, &str)]) {
+    fn each_told(&self, texts: &Texts, cases: &[(&str, &str)]) {
         for &(steps, expected) in cases {
-            let found = told(self.alloc(), opb, cnf, loaded, steps);
+            let found = told(self.alloc(), texts, steps);
             assert_found(self, found, expected);
         }
     }
 }
 
-const EQUATION: &str = "+1 x1 +1 x2 = 1 ;\n";
+const TWO_CLAUSES: Texts = Texts {
+    opb: "+1 x1 +1 x2 = 1 ;\n",
+    loaded: 2,
+    cnf: "p cnf 2 2\n1 2 0\n-1 -2 0\n",
+};
 
-const TWO_CLAUSES: &str = "p cnf 2 2\n1 2 0\n-1 -2 0\n";
+// A unit and a clause of three weights.
+const UNIT_AND_CLAUSE: Texts = Texts {
+    opb: "+5 x1 +3 x2 +2 x3 >= 6 ;\n",
+    loaded: 1,
+    cnf: "p cnf 3 2\n1 0\n2 3 0\n",
+};
 
 #[test]
 fn steps_beside_two_clauses(rt: HostRuntime) {
     rt.each_told(
-        EQUATION,
-        TWO_CLAUSES,
-        2,
+        &TWO_CLAUSES,
         &[
             ("out 1\nout 2\nend\n", "accepted"),
             (
@@ -142,17 +158,10 @@ fn steps_beside_two_clauses(rt: HostRuntime) {
     );
 }
 
-// A unit and a clause of three weights.
-const WEIGHTS: &str = "+5 x1 +3 x2 +2 x3 >= 6 ;\n";
-
-const UNIT_AND_CLAUSE: &str = "p cnf 3 2\n1 0\n2 3 0\n";
-
 #[test]
 fn steps_beside_a_unit_and_a_clause(rt: HostRuntime) {
     rt.each_told(
-        WEIGHTS,
-        UNIT_AND_CLAUSE,
-        1,
+        &UNIT_AND_CLAUSE,
         &[
             (
                 "rup +1 x1 >= 1 ; 1\nout 2\npol 1 x1 w s\nout 3\nend\n",
@@ -188,8 +197,8 @@ fn long_proof(alloc: Global) -> Option<String> {
 // What is told of a derivation over a desk whose call of this number fails.
 fn told_where(alloc: Global, proof: &str, call: u64) -> Option<String> {
     let fails = Ids::from_vec(vec![in alloc; call].ok()?);
-    let mut desk = desk_with(alloc, TWO_CLAUSES, proof, fails)?;
-    answer(alloc, EQUATION, &mut desk)
+    let mut desk = desk_with(alloc, TWO_CLAUSES.cnf, proof, fails)?;
+    answer(alloc, TWO_CLAUSES.opb, &mut desk)
 }
 
 fn denied_where(alloc: Global, call: u64) -> Option<String> {

@@ -1,7 +1,8 @@
 // Derivations of sums that are drawn.
 use super::changed_lines::is_accepted_with;
 use super::checking::is_accepted;
-use super::files::{Files, Kind, Sum, made};
+use super::files::{Files, Sum, made};
+use pb_samples::Kind;
 use std::alloc::Global;
 
 // The next number of a linear congruential sequence.
@@ -138,11 +139,20 @@ fn is_next_weighted_derived(alloc: Global, state: &mut u32, scale: u128) -> Opti
     is_derived(alloc, state, kind, sum)
 }
 
+// Whether that is so of the sum at a place, without weights or with them: every second one has great ones.
+fn is_derived_at(alloc: Global, state: &mut u32, place: u32, weighted: bool) -> Option<bool> {
+    match (weighted, place % 2) {
+        (false, _) => is_next_derived(alloc, state),
+        (true, 0) => is_next_weighted_derived(alloc, state, 1),
+        (true, _) => is_next_weighted_derived(alloc, state, 10000000000000000000000000000),
+    }
+}
+
 // The place of the first of so many sums of which that is not so.
-fn first_not_derived(alloc: Global, count: u32) -> Option<u32> {
+fn first_not_derived(alloc: Global, count: u32, weighted: bool) -> Option<u32> {
     let mut state: u32 = 1;
     for place in 0..count {
-        if is_next_derived(alloc, &mut state) != Some(true) {
+        if is_derived_at(alloc, &mut state, place, weighted) != Some(true) {
             return Some(place);
         }
     }
@@ -151,28 +161,12 @@ fn first_not_derived(alloc: Global, count: u32) -> Option<u32> {
 
 #[test]
 fn drawn_sums_are_derived(rt: HostRuntime) {
-    let found = first_not_derived(rt.alloc(), 50);
+    let found = first_not_derived(rt.alloc(), 50, false);
     assert_eq!(rt; found, None);
-}
-
-// The same of sums with weights, every second one with great ones.
-fn first_weighted_not_derived(alloc: Global, count: u32) -> Option<u32> {
-    let mut state: u32 = 1;
-    for place in 0..count {
-        let scale = if place % 2 == 0 {
-            1
-        } else {
-            10000000000000000000000000000
-        };
-        if is_next_weighted_derived(alloc, &mut state, scale) != Some(true) {
-            return Some(place);
-        }
-    }
-    None
 }
 
 #[test]
 fn drawn_sums_with_weights_are_derived(rt: HostRuntime) {
-    let found = first_weighted_not_derived(rt.alloc(), 50);
+    let found = first_not_derived(rt.alloc(), 50, true);
     assert_eq!(rt; found, None);
 }

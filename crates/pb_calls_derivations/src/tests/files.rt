@@ -5,13 +5,12 @@ ghost use Rattle.pb_family.specs.Families.{VarsBelow};
 
 use pb_adder::Adder;
 use pb_amo::{Ladder, Pairwise, ProductGrid};
-use pb_base::NoMemory;
 use pb_counter::Counter;
 use pb_diagram::Diagram;
-use pb_family::{Built, Derive, Family, StepTextSink, TextSink, are_below, are_ones, is_light};
+use pb_family::{Built, Derive, Family, StepTextSink, are_below, are_ones, is_light};
 use pb_gentot::Weighted;
 use pb_norm::AtMost;
-use pb_samples::at_most;
+use pb_samples::{Kind, at_most, clause_lines};
 use pb_totalizer::Totalizer;
 use std::alloc::Global;
 
@@ -34,14 +33,11 @@ pub struct Sum<'a> {
 fn cnf_text<F: Family>(alloc: Global, family: &F, first: u32) -> Option<String>
     requires { VarsBelow first (F.constraint family.now).terms }
 {
-    let fresh = family.fresh();
-    if first < 1 || first > 1000 || fresh > 1000 {
-        return None;
-    }
-    let mut sink = TextSink::new(alloc);
-    family.emit(alloc, first, &mut sink).ok()?;
-    let lines = str::from_utf8(sink.text()).ok()?;
-    let vars = u64::from(first) - 1 + fresh;
+    let lines = clause_lines(alloc, family, first)?;
+    let vars = family
+        .fresh()
+        .saturating_add(u64::from(first))
+        .saturating_sub(1);
     format!(in alloc; "p cnf {vars} {}\n{lines}", family.clauses()).ok()
 }
 
@@ -76,100 +72,73 @@ fn built_files<F: Derive>(alloc: Global, built: &Built<F>, first: u32, loaded: u
     }
 }
 
-/// A family.
-#[derive(Clone, Copy)]
-pub enum Kind {
-    Pairs,
-    Ladder,
-    Grid,
-    Counter,
-    Totalizer,
-    Tree,
-    Diagram,
-    Adder,
-}
-
-fn pairs(alloc: Global, of: &AtMost, first: u32, loaded: u64) -> Option<Files> {
-    if of.bound() != 1 || !are_ones(of.terms()) || !are_below(of.terms(), first) {
-        return None;
-    }
-    files_of(alloc, &Pairwise::over(of), first, loaded)
-}
-
-fn ladder(alloc: Global, of: &AtMost, first: u32, loaded: u64) -> Option<Files> {
+// The files of a family of at most one.
+fn at_most_one(alloc: Global, kind: Kind, of: &AtMost, first: u32, loaded: u64) -> Option<Files> {
     if of.bound() != 1 || !are_ones(of.terms()) || !are_below(of.terms(), first) {
         return None;
     }
     if of.terms().len() < 3 {
         return None;
     }
-    files_of(alloc, &Ladder::over(of), first, loaded)
-}
-
-fn grid(alloc: Global, of: &AtMost, first: u32, loaded: u64) -> Option<Files> {
-    if of.bound() != 1 || !are_ones(of.terms()) || !are_below(of.terms(), first) {
-        return None;
+    match kind {
+        Kind::Pairs => files_of(alloc, &Pairwise::over(of), first, loaded),
+        Kind::Ladder => files_of(alloc, &Ladder::over(of), first, loaded),
+        Kind::Grid => files_of(alloc, &ProductGrid::over(of), first, loaded),
+        _ => None,
     }
-    files_of(alloc, &ProductGrid::over(of), first, loaded)
 }
 
-fn counter(alloc: Global, of: &AtMost, first: u32, loaded: u64) -> Option<Files> {
+// The files of a family of counts.
+fn count(alloc: Global, kind: Kind, of: &AtMost, first: u32, loaded: u64) -> Option<Files> {
     if !are_ones(of.terms()) || !are_below(of.terms(), first) {
         return None;
     }
-    files_of(alloc, &Counter::over(of), first, loaded)
+    match kind {
+        Kind::Counter => files_of(alloc, &Counter::over(of), first, loaded),
+        Kind::Totalizer => {
+            built_files(
+                alloc,
+                &Totalizer::build(alloc, of, 1000).ok()?,
+                first,
+                loaded,
+            )
+        }
+        _ => None,
+    }
 }
 
-fn totalizer(alloc: Global, of: &AtMost, first: u32, loaded: u64) -> Option<Files> {
-    if !are_ones(of.terms()) || !are_below(of.terms(), first) {
-        return None;
-    }
-    match Totalizer::build(alloc, of, 1000) {
-        Ok(built) => built_files(alloc, &built, first, loaded),
-        Err(NoMemory) => None,
-    }
-}
-
-fn tree(alloc: Global, of: &AtMost, first: u32, loaded: u64) -> Option<Files> {
+// The files of a family of weights.
+fn weights(alloc: Global, kind: Kind, of: &AtMost, first: u32, loaded: u64) -> Option<Files> {
     if !is_light(of) || !are_below(of.terms(), first) {
         return None;
     }
-    match Weighted::build(alloc, of, 1000) {
-        Ok(built) => built_files(alloc, &built, first, loaded),
-        Err(NoMemory) => None,
+    match kind {
+        Kind::Tree => {
+            built_files(
+                alloc,
+                &Weighted::build(alloc, of, 1000).ok()?,
+                first,
+                loaded,
+            )
+        }
+        Kind::Diagram => {
+            built_files(alloc, &Diagram::build(alloc, of, 1000).ok()?, first, loaded)
+        }
+        Kind::Adder => files_of(alloc, &Adder::build(alloc, of).ok()?, first, loaded),
+        _ => None,
     }
-}
-
-fn diagram(alloc: Global, of: &AtMost, first: u32, loaded: u64) -> Option<Files> {
-    if !is_light(of) || !are_below(of.terms(), first) {
-        return None;
-    }
-    match Diagram::build(alloc, of, 1000) {
-        Ok(built) => built_files(alloc, &built, first, loaded),
-        Err(NoMemory) => None,
-    }
-}
-
-fn adder(alloc: Global, of: &AtMost, first: u32, loaded: u64) -> Option<Files> {
-    if !is_light(of) || !are_below(of.terms(), first) {
-        return None;
-    }
-    files_of(alloc, &Adder::build(alloc, of).ok()?, first, loaded)
 }
 
 /// The files of what a statement leaves.
 pub fn made(alloc: Global, kind: Kind, sum: Sum) -> Option<Files> {
     let of = at_most(alloc, sum.opb)?;
-    let first = sum.first;
-    let loaded = sum.loaded;
     match kind {
-        Kind::Pairs => pairs(alloc, &of, first, loaded),
-        Kind::Ladder => ladder(alloc, &of, first, loaded),
-        Kind::Grid => grid(alloc, &of, first, loaded),
-        Kind::Counter => counter(alloc, &of, first, loaded),
-        Kind::Totalizer => totalizer(alloc, &of, first, loaded),
-        Kind::Tree => tree(alloc, &of, first, loaded),
-        Kind::Diagram => diagram(alloc, &of, first, loaded),
-        Kind::Adder => adder(alloc, &of, first, loaded),
+        Kind::Pairs | Kind::Ladder | Kind::Grid => {
+            at_most_one(alloc, kind, &of, sum.first, sum.loaded)
+        }
+        Kind::Counter | Kind::Totalizer => count(alloc, kind, &of, sum.first, sum.loaded),
+        Kind::Tree | Kind::Diagram | Kind::Adder => weights(
+            alloc, kind, &of, sum.first, sum.loaded,
+        ),
     }
 }

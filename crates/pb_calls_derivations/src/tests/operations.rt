@@ -1,5 +1,6 @@
 // Operations on constraints, by hand from the rules of cutting planes.
-ghost use Rattle.std.specs.Prelude.{◌<◌};
+ghost use Rattle.std.specs.Prelude.{◌<◌, IfSome};
+ghost use Rattle.pb_steps.specs.Operations.{IsNarrow};
 
 use super::assert_found;
 use pb_base::Lit;
@@ -20,21 +21,20 @@ fn made_text(alloc: Global, made: Option<Linear>) -> Option<String> {
     }
 }
 
-// The sum of constraints whose numbers have room.
-fn sum_of(alloc: Global, left: &Linear, right: &Linear) -> Option<String> {
-    if left.weight() >= 1 << 126 || left.degree() >= 1 << 126 {
+// The constraint of a text, if its numbers have room.
+fn narrow(alloc: Global, text: &str) -> Option<Linear>
+    ensures { IfSome result IsNarrow }
+{
+    let constraint = linear(alloc, text)?;
+    if constraint.weight() >= 1 << 126 || constraint.degree() >= 1 << 126 {
         return None;
     }
-    if right.weight() >= 1 << 126 || right.degree() >= 1 << 126 {
-        return None;
-    }
-    made_text(alloc, plus(alloc, left, right).ok()?)
+    Some(constraint)
 }
 
 fn sum(alloc: Global, left: &str, right: &str) -> Option<String> {
-    let left = linear(alloc, left)?;
-    let right = linear(alloc, right)?;
-    sum_of(alloc, &left, &right)
+    let left = narrow(alloc, left)?;
+    made_text(alloc, plus(alloc, &left, &narrow(alloc, right)?).ok()?)
 }
 
 #[test]
@@ -86,11 +86,7 @@ fn weakened(alloc: Global, text: &str, names: &str) -> Option<String> {
 }
 
 fn negated(alloc: Global, text: &str) -> Option<String> {
-    let constraint = linear(alloc, text)?;
-    if constraint.weight() >= 1 << 126 || constraint.degree() >= 1 << 126 {
-        return None;
-    }
-    linear_text(alloc, &negation(alloc, &constraint).ok()?)
+    linear_text(alloc, &negation(alloc, &narrow(alloc, text)?).ok()?)
 }
 
 #[test]
@@ -152,17 +148,16 @@ fn restricted(alloc: Global, text: &str, names: &str) -> Option<String> {
     restricted_by(alloc, &constraint, &sets)
 }
 
+const THREE: &str = "3 x1 2 x2 1 x3 >= 4 ;";
+
 #[test]
 fn what_substitutions_leave(rt: HostRuntime) {
-    let cases = [
-        ("x1", "true 2 x2 1 x3 >= 1"),
-        ("~x1", "true 2 x2 1 x3 >= 4"),
-        ("x4", "false 3 x1 2 x2 1 x3 >= 4"),
-    ];
-    for (names, expected) in cases {
-        let found = restricted(rt.alloc(), "3 x1 2 x2 1 x3 >= 4 ;", names);
-        assert_found(&rt, found, expected);
-    }
+    let positive = restricted(rt.alloc(), THREE, "x1");
+    assert_found(&rt, positive, "true 2 x2 1 x3 >= 1");
+    let negative = restricted(rt.alloc(), THREE, "~x1");
+    assert_found(&rt, negative, "true 2 x2 1 x3 >= 4");
+    let other = restricted(rt.alloc(), THREE, "x4");
+    assert_found(&rt, other, "false 3 x1 2 x2 1 x3 >= 4");
 }
 
 // Whether each of two constraints implies the other.

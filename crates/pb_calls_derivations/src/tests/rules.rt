@@ -60,10 +60,11 @@ fn push_line(text: &mut String, line: Option<String>) -> Option<()> {
     text.push('\n').ok()
 }
 
-// The answers to lines, one after another.
-fn answers(alloc: Global, db: &mut Database, lines: &[(&str, &str)]) -> Option<String> {
+// The answers to lines, one after another, each of which may have the next clause behind `beside`.
+fn answers(alloc: Global, db: &mut Database, lines: &str) -> Option<String> {
     let mut text = String::new(alloc);
-    for (line, clause) in lines {
+    for step in lines.lines() {
+        let (line, clause) = step.split_once(" beside ").unwrap_or((step, ""));
         let found = line_answer(alloc, db, line, clause);
         push_line(&mut text, found)?;
     }
@@ -71,60 +72,70 @@ fn answers(alloc: Global, db: &mut Database, lines: &[(&str, &str)]) -> Option<S
 }
 
 // One weighted constraint and a fresh variable, and what is answered to each of some lines.
-fn answers_of(alloc: Global, lines: &[(&str, &str)]) -> Option<String> {
+fn answers_of(alloc: Global, lines: &str) -> Option<String> {
     let mut db = database_of(alloc, "+5 x1 +3 x2 +2 x3 >= 6 ;", 4)?;
     answers(alloc, &mut db, lines)
 }
 
+const STEPS: &str = "\
+rup +1 x1 >= 1 ; 1
+rup +1 x2 >= 1 ; 1
+pol 1 x1 w s
+pol 1 +
+pol 1 7 +
+red +1 ~x4 +1 x2 >= 1 ; x4 -> 0
+red +1 x4 +1 ~x2 >= 1 ; x4 -> 1
+red +1 x4 >= 1 ; x4 -> 1
+red +1 x1 >= 1 ; x1 -> 1
+out 2 beside x1
+out 3 beside x1
+out 3 beside x2 x3
+out 3
+del 1 1
+del 1 2
+del 1 4
+rup >= 0 ; 1
+rup +1 x5 >= 0 ;";
+
+const ANSWERS: &str = "\
+Id(2)
+NotPropagated
+Id(3)
+Stack
+UnknownId { id: 7 }
+Id(4)
+Id(5)
+Obligation { id: 4 }
+SetsOriginal { var: Var { index: 1 } }
+Done
+NotImplied { id: 3 }
+Done
+NoClause
+UnknownId { id: 1 }
+OutDeleted { id: 2 }
+Done
+UnknownId { id: 1 }
+UnknownVar { var: Var { index: 5 } }
+";
+
 #[test]
 fn steps_are_allowed_or_denied(rt: HostRuntime) {
-    let found = answers_of(
-        rt.alloc(),
-        &[
-            ("rup +1 x1 >= 1 ; 1", ""),
-            ("rup +1 x2 >= 1 ; 1", ""),
-            ("pol 1 x1 w s", ""),
-            ("pol 1 +", ""),
-            ("pol 1 7 +", ""),
-            ("red +1 ~x4 +1 x2 >= 1 ; x4 -> 0", ""),
-            ("red +1 x4 +1 ~x2 >= 1 ; x4 -> 1", ""),
-            ("red +1 x4 >= 1 ; x4 -> 1", ""),
-            ("red +1 x1 >= 1 ; x1 -> 1", ""),
-            ("out 2", "x1"),
-            ("out 3", "x1"),
-            ("out 3", "x2 x3"),
-            ("out 3", ""),
-            ("del 1 1", ""),
-            ("del 1 2", ""),
-            ("del 1 4", ""),
-            ("rup >= 0 ; 1", ""),
-            ("rup +1 x5 >= 0 ;", ""),
-        ],
-    );
-    let expected = "Id(2)\nNotPropagated\nId(3)\nStack\nUnknownId { id: 7 }\nId(4)\nId(5)\n\
-Obligation { id: 4 }\nSetsOriginal { var: Var { index: 1 } }\nDone\nNotImplied { id: 3 }\nDone\n\
-NoClause\nUnknownId { id: 1 }\nOutDeleted { id: 2 }\nDone\nUnknownId { id: 1 }\n\
-UnknownVar { var: Var { index: 5 } }\n";
-    assert_found(&rt, found, expected);
+    let found = answers_of(rt.alloc(), STEPS);
+    assert_found(&rt, found, ANSWERS);
 }
+
+const LONG_STEPS: &str = "\
+rup +1 x1 >= 1 ; 1 1 1 1 1 1 1 1 1
+rup +1 x2 >= 1 ; 2 1 2 1 2 1 2 1 2
+rup +3 x2 +2 x3 >= 1 ; 2 2 2 2 2 2 2 2 1
+rup +1 x1 >= 1 ; 2 2 2 2 2 2 2 2 7";
 
 // More constraints are named than are shown in rounds.
 #[test]
 fn many_constraints_are_named(rt: HostRuntime) {
-    let found = answers_of(
-        rt.alloc(),
-        &[
-            ("rup +1 x1 >= 1 ; 1 1 1 1 1 1 1 1 1", ""),
-            ("rup +1 x2 >= 1 ; 2 1 2 1 2 1 2 1 2", ""),
-            ("rup +3 x2 +2 x3 >= 1 ; 2 2 2 2 2 2 2 2 1", ""),
-            ("rup +1 x1 >= 1 ; 2 2 2 2 2 2 2 2 7", ""),
-        ],
-    );
-    assert_found(
-        &rt,
-        found,
-        "Id(2)\nNotPropagated\nId(3)\nUnknownId { id: 7 }\n",
-    );
+    let found = answers_of(rt.alloc(), LONG_STEPS);
+    let expected = "Id(2)\nNotPropagated\nId(3)\nUnknownId { id: 7 }\n";
+    assert_found(&rt, found, expected);
 }
 
 fn push_id(alloc: Global, id: Option<u64>, text: &mut String) -> Option<()> {
@@ -149,7 +160,7 @@ fn ids_without_the_first(
     names: &str,
     from: u64,
 ) -> Option<String> {
-    answers(alloc, db, &[("del 1", "")])?;
+    answers(alloc, db, "del 1")?;
     first_ids(alloc, db, names, from)
 }
 
@@ -180,11 +191,7 @@ fn ids_of_the_second(alloc: Global, db: &Database) -> Option<String> {
 // The same of a constraint, behind a literal of it and what is left without that.
 fn ids_of_derived(alloc: Global) -> Option<String> {
     let mut db = database_of(alloc, "+5 x1 +3 x2 +2 x3 >= 6 ;", 3)?;
-    answers(
-        alloc,
-        &mut db,
-        &[("rup +1 x1 >= 1 ; 1", ""), ("pol 1 x1 w s", "")],
-    )?;
+    answers(alloc, &mut db, "rup +1 x1 >= 1 ; 1\npol 1 x1 w s")?;
     ids_of_the_second(alloc, &db)
 }
 

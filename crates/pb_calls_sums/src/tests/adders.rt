@@ -1,25 +1,7 @@
 use super::assert_found;
-use pb_adder::{Adder, adder_has_all_levels};
-use pb_family::{are_below, is_light};
-use pb_norm::AtMost;
-use pb_samples::{at_most, family_text};
-use std::alloc::Global;
-
-// The numbers and the clauses of the adder of a sum.
-fn adder_of(alloc: Global, of: &AtMost, first: u32) -> Option<String> {
-    if !is_light(of) || !are_below(of.terms(), first) {
-        return None;
-    }
-    let adder = Adder::build(alloc, of).ok()?;
-    adder.settles();
-    family_text(alloc, &adder, first)
-}
-
-// The same of what a statement leaves.
-fn adder(alloc: Global, text: &str, first: u32) -> Option<String> {
-    let of = at_most(alloc, text)?;
-    adder_of(alloc, &of, first)
-}
+use super::families::told;
+use pb_adder::adder_has_all_levels;
+use pb_samples::Kind;
 
 #[test]
 fn three_terms_and_a_literal_twice(rt: HostRuntime) {
@@ -39,7 +21,7 @@ fn three_terms_and_a_literal_twice(rt: HostRuntime) {
         ),
     ];
     for (text, first, expected) in cases {
-        let found = adder(rt.alloc(), text, first);
+        let found = told(rt.alloc(), Kind::Adder, text, 0, first);
         assert_found(&rt, found, expected);
     }
     adder_has_all_levels();

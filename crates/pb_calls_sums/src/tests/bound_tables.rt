@@ -5,7 +5,7 @@ ghost use Rattle.pb_family.specs.Families.{VarsBelow};
 ghost use Rattle.pb_gentot.specs.BoundTable.{table_fresh};
 
 use super::assert_found;
-use pb_base::{Lit, NoMemory, Term, Terms};
+use pb_base::{Lit, Term, Terms};
 use pb_family::{Built, TextSink, are_below, is_light};
 use pb_gentot::BoundTable;
 use pb_norm::AtMost;
@@ -75,21 +75,22 @@ fn built_text(alloc: Global, built: &Built<BoundTable>, first: u32) -> Option<St
 
 // The table of a sum, within a budget.
 fn table_of(alloc: Global, of: &AtMost, budget: u64, first: u32) -> Option<String>
-    requires { budget ≤ 10000000 }
+    requires { budget < 2 ^ 24 }
 {
     if !is_light(of) || !are_below(of.terms(), first) {
         return None;
     }
     let terms = listed(alloc, of.terms())?;
-    match BoundTable::build(alloc, &terms, budget) {
-        Ok(built) => built_text(alloc, &built, first),
-        Err(NoMemory) => None,
-    }
+    built_text(
+        alloc,
+        &BoundTable::build(alloc, &terms, budget).ok()?,
+        first,
+    )
 }
 
 // The table of the sum of what a statement leaves, within a budget.
 fn bound_table(alloc: Global, text: &str, budget: u64, first: u32) -> Option<String>
-    requires { budget ≤ 10000000 }
+    requires { budget < 2 ^ 24 }
 {
     let of = at_most(alloc, text)?;
     table_of(alloc, &of, budget, first)

@@ -6,7 +6,8 @@ use pb_choice::{EqualPlan, plan_equal};
 use pb_family::{TextSink, are_below};
 use pb_norm::Linear;
 use pb_samples::loaded;
-use std::alloc::Global;
+use std::alloc::{Alloc, Global};
+use std::process::Abort;
 
 // The numbers of fresh variables and clauses of a plan, and the clauses.
 fn plan_text(alloc: Global, plan: &EqualPlan<'_>) -> Option<String>
@@ -62,33 +63,56 @@ const BOTH_WAYS: &str =
 
 const HALF_BY_HALF: &str = "0 4\n1 2 3 0\n-1 -2 0\n-1 -3 0\n-2 -3 0\n";
 
+trait Cases {
+    // Of each equality, by a mode and a budget, this is told.
+    fn each_planned(&self, cases: &[(&str, EqualMode, u64, &str)]);
+}
+
+impl<R: Abort + Alloc<A = Global>> Cases for R {
+    fn each_planned(&self, cases: &[(&str, EqualMode, u64, &str)]) {
+        for &(text, equal, budget, expected) in cases {
+            let found = planned(self.alloc(), text, equal, budget);
+            assert_found(self, found, expected);
+        }
+    }
+}
+
 #[test]
 fn three_literals(rt: HostRuntime) {
-    let cases = [
-        (EqualMode::Joint, 4, BOTH_WAYS),
-        (EqualMode::Joint, 3, HALF_BY_HALF),
-        (EqualMode::Split, 4, HALF_BY_HALF),
-    ];
-    for (equal, budget, expected) in cases {
-        let found = planned(rt.alloc(), ONE_OF_THREE, equal, budget);
-        assert_found(&rt, found, expected);
-    }
+    rt.each_planned(&[
+        (ONE_OF_THREE, EqualMode::Joint, 4, BOTH_WAYS),
+        (ONE_OF_THREE, EqualMode::Joint, 3, HALF_BY_HALF),
+        (ONE_OF_THREE, EqualMode::Split, 4, HALF_BY_HALF),
+    ]);
 }
 
 // Two literals are too few, none of three and all of three are no number, nor is half of one.
 #[test]
 fn other_equalities(rt: HostRuntime) {
-    let cases = [
-        ("+1 x1 +1 x2 = 1 ;", "0 2\n1 2 0\n-1 -2 0\n"),
-        ("+1 x1 +1 x2 +1 x3 = 0 ;", "0 3\n-1 0\n-2 0\n-3 0\n"),
-        ("+1 x1 +1 x2 +1 x3 = 3 ;", "0 3\n1 0\n2 0\n3 0\n"),
+    rt.each_planned(&[
+        (
+            "+1 x1 +1 x2 = 1 ;",
+            EqualMode::Joint,
+            4,
+            "0 2\n1 2 0\n-1 -2 0\n",
+        ),
+        (
+            "+1 x1 +1 x2 +1 x3 = 0 ;",
+            EqualMode::Joint,
+            4,
+            "0 3\n-1 0\n-2 0\n-3 0\n",
+        ),
+        (
+            "+1 x1 +1 x2 +1 x3 = 3 ;",
+            EqualMode::Joint,
+            4,
+            "0 3\n1 0\n2 0\n3 0\n",
+        ),
         (
             "+2 x1 +2 x2 +2 x3 = 3 ;",
+            EqualMode::Joint,
+            4,
             "0 6\n1 2 0\n1 3 0\n2 3 0\n-1 -2 0\n-1 -3 0\n-2 -3 0\n",
         ),
-    ];
-    for (text, expected) in cases {
-        let found = planned(rt.alloc(), text, EqualMode::Joint, 4);
-        assert_found(&rt, found, expected);
-    }
+    ]);
 }

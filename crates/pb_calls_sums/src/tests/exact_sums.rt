@@ -4,23 +4,22 @@ ghost use Rattle.pb_family.specs.Budgets.{IfFits};
 ghost use Rattle.pb_family.specs.Families.{VarsBelow};
 
 use super::assert_found;
-use pb_base::{Lit, Lits, NoMemory, Var};
+use pb_base::{Lit, Lits, Var};
 use pb_family::{Built, Pair, TextSink};
 use pb_totalizer::Exact;
 use std::alloc::Global;
 
-// The numbers and the clauses of a pair.
-fn pair_text<P: Pair>(alloc: Global, pair: &P, first: u32) -> Option<String>
-    requires { VarsBelow first (P.most pair.now).terms }
+// The numbers and the clauses of a pair over the first three variables.
+fn pair_text<P: Pair>(alloc: Global, pair: &P) -> Option<String>
+    requires { VarsBelow 4 (P.most pair.now).terms }
 {
-    let fresh = pair.fresh();
-    if first < 1 || first > 1000 || fresh > 1000 {
+    if pair.fresh() > 1000 {
         return None;
     }
     let mut sink = TextSink::new(alloc);
-    pair.emit(alloc, first, &mut sink).ok()?;
+    pair.emit(alloc, 4, &mut sink).ok()?;
     let lines = str::from_utf8(sink.text()).ok()?;
-    format!(in alloc; "{} {}\n{}", fresh, pair.clauses(), lines).ok()
+    format!(in alloc; "{} {}\n{lines}", pair.fresh(), pair.clauses()).ok()
 }
 
 fn variable(index: u32) -> Lit
@@ -46,7 +45,7 @@ fn built_text(alloc: Global, built: &Built<Exact>) -> Option<String>
     requires { IfFits (λ exact. VarsBelow 4 (⟦<Exact as Pair>⟧.most exact).terms) built.now }
 {
     match built {
-        Built::Fits(exact) => pair_text(alloc, exact, 4),
+        Built::Fits(exact) => pair_text(alloc, exact),
         Built::Over => "over".to_string(alloc).ok(),
     }
 }
@@ -54,10 +53,7 @@ fn built_text(alloc: Global, built: &Built<Exact>) -> Option<String>
 // The totalizer of exactly one of three literals, within a budget.
 fn one_of_three(alloc: Global, budget: u64) -> Option<String> {
     let lits = three(alloc)?;
-    match Exact::build(alloc, &lits, 1, budget) {
-        Ok(built) => built_text(alloc, &built),
-        Err(NoMemory) => None,
-    }
+    built_text(alloc, &Exact::build(alloc, &lits, 1, budget).ok()?)
 }
 
 #[test]

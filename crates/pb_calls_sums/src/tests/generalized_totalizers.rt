@@ -1,33 +1,9 @@
-ghost use Rattle.std.specs.Prelude.{◌≤◌};
+ghost use Rattle.std.specs.Prelude.{◌<◌, ◌^◌};
 
-use super::{assert_found, built_text};
-use pb_base::NoMemory;
-use pb_family::{are_below, is_light};
-use pb_gentot::Weighted;
-use pb_norm::AtMost;
-use pb_samples::at_most;
+use super::assert_found;
+use super::families::told;
+use pb_samples::Kind;
 use std::alloc::Global;
-
-// The numbers and the clauses of the generalized totalizer of a sum, within a budget.
-fn weighted_of(alloc: Global, of: &AtMost, budget: u64, first: u32) -> Option<String>
-    requires { budget ≤ 10000000 }
-{
-    if !is_light(of) || !are_below(of.terms(), first) {
-        return None;
-    }
-    match Weighted::build(alloc, of, budget) {
-        Ok(built) => built_text(alloc, &built, first),
-        Err(NoMemory) => None,
-    }
-}
-
-// The same of what a statement leaves.
-fn weighted(alloc: Global, text: &str, budget: u64, first: u32) -> Option<String>
-    requires { budget ≤ 10000000 }
-{
-    let of = at_most(alloc, text)?;
-    weighted_of(alloc, &of, budget, first)
-}
 
 // At most 5 of 4, 3 and 2: sums that a table holds.
 const SMALL: &str = "4 ~x1 3 ~x2 2 ~x3 >= 4 ;";
@@ -48,7 +24,7 @@ fn three_terms_by_budget(rt: HostRuntime) {
         (LARGE, 7, "over"),
     ];
     for (text, budget, expected) in cases {
-        let found = weighted(rt.alloc(), text, budget, 4);
+        let found = told(rt.alloc(), Kind::Tree, text, budget, 4);
         assert_found(&rt, found, expected);
     }
 }
@@ -59,9 +35,9 @@ const POWERS: &str =
 
 // The numbers alone.
 fn sizes_of(alloc: Global, text: &str, budget: u64, first: u32) -> Option<String>
-    requires { budget ≤ 10000000 }
+    requires { budget < 2 ^ 24 }
 {
-    let built = weighted(alloc, text, budget, first)?;
+    let built = told(alloc, Kind::Tree, text, budget, first)?;
     built.lines().next()?.to_string(alloc).ok()
 }
 

@@ -1,7 +1,7 @@
 // Desks whose calls fail, or whose files have too little room.
 ghost use Rattle.std.specs.Prelude.{◌≤◌, ◌<◌};
 
-use super::run_on;
+use super::{Asked, run_freely, run_on};
 use pb_runs::{Run, is_silent};
 use std::alloc::{Alloc, Global};
 use std::process::Abort;
@@ -100,18 +100,10 @@ fn status_at(call: u64, reads: u64, writes: u64) -> u8 {
 }
 
 // A run of which the call of this number fails ends with this status, and what it left fits.
-fn ends(
-    alloc: Global,
-    words: &str,
-    texts: [&[u8]; 4],
-    call: u64,
-    piece: usize,
-    status: u8,
-    whole: &Run,
-) -> bool
+fn ends(alloc: Global, asked: Asked, call: u64, piece: usize, status: u8, whole: &Run) -> bool
     requires { 1 ≤ piece }
 {
-    match run_on(alloc, words, texts, call, piece, 4096) {
+    match run_on(alloc, asked, call, piece, 4096) {
         Some(run) => run.outcome.status() == status && fits(&run, whole),
         None => false,
     }
@@ -119,24 +111,17 @@ fn ends(
 
 // Where each call fails in turn, the runs end as they should beside a whole one. The counts are exact, so that a fault that is
 // passed over shows.
-fn all_end(
-    alloc: Global,
-    words: &str,
-    texts: [&[u8]; 4],
-    count: usize,
-    piece: usize,
-    whole: &Run,
-) -> bool
+fn all_end(alloc: Global, asked: Asked, count: usize, piece: usize, whole: &Run) -> bool
     requires { 1 ≤ piece }
 {
-    let reads = reads_of(texts, count, piece);
+    let reads = reads_of(asked.texts, count, piece);
     let writes = writes_of(whole, piece);
     if whole.outcome.status() != 0 || reads > 10_000 || writes > 10_000 {
         return false;
     }
     for call in 1..=reads + writes + 1 {
         let status = status_at(call, reads, writes);
-        if !ends(alloc, words, texts, call, piece, status, whole) {
+        if !ends(alloc, asked, call, piece, status, whole) {
             return false;
         }
     }
@@ -162,18 +147,18 @@ fn fills(run: &Run, whole: &Run, room: usize) -> bool {
 }
 
 // A run in this room fills it.
-fn fills_room(alloc: Global, words: &str, texts: [&[u8]; 4], room: usize, whole: &Run) -> bool {
-    match run_on(alloc, words, texts, 0, 4096, room) {
+fn fills_room(alloc: Global, asked: Asked, room: usize, whole: &Run) -> bool {
+    match run_on(alloc, asked, 0, 4096, room) {
         Some(run) => fills(&run, whole, room),
         None => false,
     }
 }
 
 // Each room up to the one that suffices is tried.
-fn all_fill(alloc: Global, words: &str, texts: [&[u8]; 4], whole: &Run) -> bool {
+fn all_fill(alloc: Global, asked: Asked, whole: &Run) -> bool {
     let files = file_of(whole, 0).len().max(file_of(whole, 1).len());
     for room in 0..=files.max(whole.desk.said().len()) {
-        if !fills_room(alloc, words, texts, room, whole) {
+        if !fills_room(alloc, asked, room, whole) {
             return false;
         }
     }
@@ -182,22 +167,16 @@ fn all_fill(alloc: Global, words: &str, texts: [&[u8]; 4], whole: &Run) -> bool 
 
 // By pieces of a byte each byte is a call, else each text is read and each file written in one piece. Each call fails in
 // turn, and each room is too small in turn.
-fn is_tried_beside(
-    alloc: Global,
-    words: &str,
-    texts: [&[u8]; 4],
-    count: usize,
-    whole: &Run,
-) -> bool {
-    all_end(alloc, words, texts, count, 1, whole)
-        && all_end(alloc, words, texts, count, 4096, whole)
-        && all_fill(alloc, words, texts, whole)
+fn is_tried_beside(alloc: Global, asked: Asked, count: usize, whole: &Run) -> bool {
+    all_end(alloc, asked, count, 1, whole)
+        && all_end(alloc, asked, count, 4096, whole)
+        && all_fill(alloc, asked, whole)
 }
 
 // The same beside the run on a desk that does not hinder it.
-fn is_tried(alloc: Global, words: &str, texts: [&[u8]; 4], count: usize) -> bool {
-    match run_on(alloc, words, texts, 0, 4096, 4096) {
-        Some(whole) => is_tried_beside(alloc, words, texts, count, &whole),
+fn is_tried(alloc: Global, asked: Asked, count: usize) -> bool {
+    match run_freely(alloc, asked) {
+        Some(whole) => is_tried_beside(alloc, asked, count, &whole),
         None => false,
     }
 }
@@ -205,14 +184,14 @@ fn is_tried(alloc: Global, words: &str, texts: [&[u8]; 4], count: usize) -> bool
 trait Cases {
     // With each of these words a run is tried so, which reads the first `count` of these texts. A table stands in its call, where
     // it is a constant: one that is made when it runs takes much longer to prove.
-    fn each_tried(&self, cases: &[(&str, &str, &str, usize)]);
+    fn each_tried<'a>(&self, cases: &[(&'a str, &'a str, &'a str, usize)]);
 }
 
 impl<R: Abort + Alloc<A = Global>> Cases for R {
-    fn each_tried(&self, cases: &[(&str, &str, &str, usize)]) {
+    fn each_tried<'a>(&self, cases: &[(&'a str, &'a str, &'a str, usize)]) {
         for &(words, first, second, count) in cases {
             let texts = [first.as_bytes(), second.as_bytes(), b"", b""];
-            let is_tried = is_tried(self.alloc(), words, texts, count);
+            let is_tried = is_tried(self.alloc(), Asked { words, texts }, count);
             assert!(self; is_tried, "at {words}");
         }
     }
@@ -263,39 +242,48 @@ fn a_derivation_is_made(rt: HostRuntime) {
     rt.each_tried(&[(DERIVE, WEIGHTS, "", 1)]);
 }
 
-// The check of the CNF and the derivation that the run made of the weights is tried.
-fn is_check_tried(alloc: Global, made: &Run) -> bool {
-    let texts = [WEIGHTS.as_bytes(), file_of(made, 0), file_of(made, 1), b""];
-    is_tried(alloc, "pbcnf check a b c", texts, 3)
+// The CNF and the derivation of a problem alone.
+fn derived(opb: &str) -> Asked<'_> {
+    let texts = [opb.as_bytes(), b"", b"", b""];
+    Asked {
+        words: DERIVE,
+        texts,
+    }
+}
+
+// A run is tried that reads a problem, the CNF and the derivation that were made of it, and a refutation, or the first of these.
+fn is_check_tried<'a>(
+    alloc: Global,
+    words: &'a str,
+    opb: &'a str,
+    made: &'a Run,
+    lrat: &'a str,
+    count: usize,
+) -> bool {
+    let texts = [
+        opb.as_bytes(),
+        file_of(made, 0),
+        file_of(made, 1),
+        lrat.as_bytes(),
+    ];
+    is_tried(alloc, Asked { words, texts }, count)
 }
 
 #[test]
 fn a_derivation_is_checked(rt: HostRuntime) {
-    let texts = [WEIGHTS.as_bytes(), b"", b"", b""];
-    let made = run_on(rt.alloc(), DERIVE, texts, 0, 4096, 4096).expect(&rt, "run");
-    let is_tried = is_check_tried(rt.alloc(), &made);
+    let made = run_freely(rt.alloc(), derived(WEIGHTS)).expect(&rt, "run");
+    let is_tried = is_check_tried(rt.alloc(), "pbcnf check a b c", WEIGHTS, &made, "", 3);
     assert!(rt; is_tried);
 }
 
 // One of two variables, and neither.
 const NEITHER: &str = "+1 x1 +1 x2 >= 1 ;\n+1 ~x1 >= 1 ;\n+1 ~x2 >= 1 ;\n";
 
-// The refutation of the CNF that the run made of that is tried.
-fn is_refutation_tried(alloc: Global, made: &Run) -> bool {
-    let texts = [
-        NEITHER.as_bytes(),
-        file_of(made, 0),
-        file_of(made, 1),
-        b"4 0 2 3 1 0\n",
-    ];
-    is_tried(alloc, "pbcnf refute a b c l", texts, 4)
-}
-
 #[test]
 fn a_refutation_is_checked(rt: HostRuntime) {
-    let texts = [NEITHER.as_bytes(), b"", b"", b""];
-    let made = run_on(rt.alloc(), DERIVE, texts, 0, 4096, 4096).expect(&rt, "run");
-    let is_tried = is_refutation_tried(rt.alloc(), &made);
+    let made = run_freely(rt.alloc(), derived(NEITHER)).expect(&rt, "run");
+    let (words, lrat) = ("pbcnf refute a b c l", "4 0 2 3 1 0\n");
+    let is_tried = is_check_tried(rt.alloc(), words, NEITHER, &made, lrat, 4);
     assert!(rt; is_tried);
 }
 
@@ -311,8 +299,7 @@ fn is_not_ended(run: &Run) -> bool {
 // the file is created, written, and then closed.
 #[test]
 fn the_cnf_is_not_ended(rt: HostRuntime) {
-    let texts = [WEIGHTS.as_bytes(), b"", b"", b""];
-    let run = run_on(rt.alloc(), DERIVE, texts, 6, 4096, 4096).expect(&rt, "run");
+    let run = run_on(rt.alloc(), derived(WEIGHTS), 6, 4096, 4096).expect(&rt, "run");
     let is_not_ended = is_not_ended(&run);
     assert!(rt; is_not_ended);
 }
