@@ -32,9 +32,7 @@ pub fn make_file<T: FileText, D: Desk>(
 ) -> Result<(), EncodeFault>
     requires kind { slot < 2 }
     requires free { (D.state desk.old).view.writing slot ≡ false }
-
     ensures made { OnOk result (Reaches (made slot name.now (T.text of.now)) (D.state desk.old) (D.state desk.new)) }
-
     ensures limit { (k : LimitKind) → result ≡ Err (EncodeFault.Limit k) → ⊥ }
     ensures write_fault { result ≡ Err EncodeFault.WriteFault → StopsMaking slot name.now (T.text of.now) (D.state desk.old) (D.state desk.new) }
     ensures no_memory { result ≡ Err EncodeFault.NoMemory → LeavesPart slot name.now (T.text of.now) (D.state desk.old) (D.state desk.new) }
