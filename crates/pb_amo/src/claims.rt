@@ -1,5 +1,5 @@
 //! The steps for each two of some literals.
-ghost use Rattle.std.specs.Prelude.{◌≡◌, ◌≤◌, ◌<◌, ◌+◌, ◌^◌, length};
+ghost use Rattle.std.specs.Prelude.{◌<◌, ◌+◌, ◌^◌, length};
 ghost use Rattle.pb_family.specs.StepSinks.{HandsSteps};
 ghost use Rattle.pb_amo.specs.Pairwise.{pair_count};
 ghost use Rattle.pb_amo.specs.PairwiseSteps.{pairwise_steps};

@@ -1,5 +1,5 @@
 //! The steps of a grid, and of the grids inside it.
-ghost use Rattle.std.specs.Prelude.{◌≡◌, ◌≤◌, ◌<◌, ◌+◌, ◌*◌, ◌^◌};
+ghost use Rattle.std.specs.Prelude.{◌≤◌, ◌<◌, ◌+◌, ◌*◌, ◌^◌};
 ghost use Rattle.pb_family.specs.StepSinks.{HandsFrom};
 ghost use Rattle.pb_amo.specs.Product.{line, product_fresh};
 ghost use Rattle.pb_amo.specs.ProductSteps.{line_sum, side_steps, product_steps};

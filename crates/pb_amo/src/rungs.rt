@@ -18,7 +18,7 @@ pub struct Rungs<'a> {
 }
 
 impl Rungs<'_> {
-    ghost use Rattle.std.specs.Prelude.{◌≡◌, ◌<◌, ◌+◌, ◌-◌, ◌*◌, ◌∷◌, [], length};
+    ghost use Rattle.std.specs.Prelude.{◌≡◌, ◌<◌, ◌+◌, ◌-◌, ◌*◌, length};
     ghost use Rattle.pb_base.specs.Literals.{negated};
     ghost use Rattle.pb_norm.specs.Constraints.{weights};
     ghost use Rattle.pb_norm.specs.Reduction.{lits_of};

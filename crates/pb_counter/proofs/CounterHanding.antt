@@ -1,9 +1,12 @@
 -- A counter's derivation, one number after another.
-use Rattle.std.proofs.Common.{◌≡◌, ◌≤◌, ◌<◌, ◌+◌, ◌-◌, ◌/◌, ◌%◌, ◌∙◌, ℕ, List, [], ◌∷◌, Bool, cond, map, length, take, drop, ap, sym, arith}
+use Rattle.std.proofs.Common.{◌≡◌, ◌≤◌, ◌<◌, ◌+◌, ◌-◌, ◌/◌, ◌%◌, ◌∙◌, ℕ, List, [], ◌∷◌, Bool, cond, map, length, take, drop, ap, sym, subst, arith}
 use Rattle.std.specs.List.{range_with_len}
+use Rattle.std.specs.Prelude.{Result}
 use Rattle.std.proofs.lemmas.Bool.{le-leb, lt-leb}
 use Rattle.std.proofs.lemmas.List.{length-map}
 use Rattle.std.proofs.lemmas.List.Sums.{sum_by-take-le}
+use Rattle.pb_base.specs.declared.fault.Failed.{Failed}
+use Rattle.pb_base.specs.declared.literal.Lit.{Lit}
 use Rattle.pb_base.specs.declared.literal.Term.{Term}
 use Rattle.pb_norm.specs.BoundedSums.{vars_of}
 use Rattle.pb_norm.specs.Constraints.{Weighted, weight, weighted, weights}
@@ -13,7 +16,9 @@ use Rattle.pb_derive.specs.Justifications.{Justification, by_justification}
 use Rattle.pb_derive.specs.Phases.{phases}
 use Rattle.pb_derive.specs.Reifications.{reification_steps}
 use Rattle.pb_family.specs.Derivations.{meant, claimed}
+use Rattle.pb_family.specs.Handing.{Hands}
 use Rattle.pb_family.specs.Numbered.{numbered_phases}
+use Rattle.pb_family.specs.Sinks.{SinkState}
 use Rattle.pb_family.proofs.TermSlices.{literal_count, weights_one, weights_until}
 use Rattle.pb_counter.specs.declared.place.Place.{Place}
 use Rattle.pb_counter.specs.declared.place.Place.TheVariants.{Keep, More}
@@ -62,3 +67,8 @@ beside_more ts i j above = weights_until ts (i + 1) ∙ ap (λ (b : Bool). cond 
 pub claim_same : (ts : List Term) (width first id base next : ℕ) (p : Place) (ids : List ℕ) (us : List Term) → ids ≡ sources_at width id base p → weights us ≡ beside_at (weights ts) p
     → claimed next ids (vars_of (weights us)) ≡ claim_steps next (by_justification (justification_at (weights ts) width first id base p) ∷ [])
 claim_same ts width first id base next p ids us found left = λ x. claimed next (found x) (vars_of (left x))
+
+-- the clause at a place, handed over as it is written there
+pub emit_same : {R T : Type 0} (ts : List Term) (width first : ℕ) (p q : Place) (c : List Lit) (r : Result T Failed) (a b : SinkState R) → p ≡ q → c ≡ clause_at (lits_of (weights ts)) width first p → Hands (c ∷ []) r a b
+    → Hands (clause_at (lits_of (weights ts)) width first q ∷ []) r a b
+emit_same ts width first p q c r a b is written h = subst (λ (d : List Lit). Hands (d ∷ []) r a b) (written ∙ ap (clause_at (lits_of (weights ts)) width first) is) h

@@ -19,7 +19,7 @@ pub struct Grid<'a> {
 }
 
 impl Grid<'_> {
-    ghost use Rattle.std.specs.Prelude.{◌≡◌, ◌≤◌, ◌<◌, ◌+◌, ◌*◌, ◌∷◌, [], length};
+    ghost use Rattle.std.specs.Prelude.{◌≡◌, ◌≤◌, ◌<◌, ◌+◌, ◌*◌, length};
     ghost use Rattle.pb_base.specs.Literals.{negated};
     ghost use Rattle.pb_norm.specs.Constraints.{weights};
     ghost use Rattle.pb_norm.specs.Reduction.{lits_of};

@@ -77,6 +77,10 @@ gridded_column v first r q e k =
 extends_leaf : (ms : List Lit) (first : ℕ) (v : Assignment) → count_by (lit_value v) ms ≤ 1 → ExtendsToModel first v (pairwise_clauses ms)
 extends_leaf ms first v few = (v, (λ n h. refl), all_pairs v ms few)
 
+-- a literal that is true stays so where the values of its variable are not changed
+still : (w1 w2 w3 : Assignment) (l : Lit) (b : Bool) → w1 l.var ≡ w2 l.var → w2 l.var ≡ w3 l.var → lit_value w1 l ≡ b → b ≡ true → lit_value w3 l ≡ true
+still w1 w2 w3 l b one two is on = sym (lit_value-agree w1 w3 l (one ∙ two)) ∙ is ∙ on
+
 -- an assignment under which at most one is true extends
 abbrev Extends : List Lit → ℕ → ℕ → (ℕ → List (List Lit)) → (ℕ → ℕ → ℕ → List Step) → Type 0
 Extends ms fresh count clauses steps = (first : ℕ) → ((e : ℕ) → e < length ms → (literal_at ms e).var < first) → (v : Assignment) → count_by (lit_value v) ms ≤ 1 → ExtendsToModel first v (clauses first)
@@ -111,12 +115,10 @@ extends_within = by_grids Extends (λ ms first low v few. extends_leaf ms first 
       when_one w3 (literal_at ms k) (fresh_at first (k / q)) (λ on.
           let row = row_within n k h in
           let same = ap (λ (x : ℕ). x / q) (own k h on) in
-          sym (lit_value-agree w1 w3 (fresh_at first (k / q)) (by_rows.1 (first + k / q) (omega arith) ∙ by_columns.1 (first + k / q) (omega arith)))
-          ∙ gridded_row v first r q e (k / q) row ∙ eq-eqb (k / q) (e / q) same),
+          still w1 w2 w3 (fresh_at first (k / q)) (k / q == e / q) (by_rows.1 (first + k / q) (omega arith)) (by_columns.1 (first + k / q) (omega arith)) (gridded_row v first r q e (k / q) row) (eq-eqb (k / q) (e / q) same)),
       when_one w3 (literal_at ms k) (fresh_at (first + r) (k % q)) (λ on.
           let same = ap (λ (x : ℕ). x % q) (own k h on) in
-          sym (lit_value-agree w1 w3 (fresh_at (first + r) (k % q)) (by_rows.1 (first + r + k % q) (omega arith) ∙ by_columns.1 (first + r + k % q) (omega arith)))
-          ∙ gridded_column v first r q e (k % q) ∙ eq-eqb (r + k % q) (r + e % q) (ap (λ (x : ℕ). r + x) same)),
+          still w1 w2 w3 (fresh_at (first + r) (k % q)) (r + k % q == r + e % q) (by_rows.1 (first + r + k % q) (omega arith)) (by_columns.1 (first + r + k % q) (omega arith)) (gridded_column v first r q e (k % q)) (eq-eqb (r + k % q) (r + e % q) (ap (λ (x : ℕ). r + x) same))),
     )) in (
       w3,
       agree,
