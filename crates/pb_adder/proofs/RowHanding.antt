@@ -8,7 +8,7 @@ use Rattle.pb_derive.specs.Claims.{claim_steps}
 use Rattle.pb_derive.specs.Rups.{by_rup}
 use Rattle.pb_family.specs.StepSinks.{StepState, TakesSteps, StopsInSteps, HandsSteps}
 use Rattle.pb_family.specs.declared.sink.SinkFault.{SinkFault}
-use Rattle.pb_family.proofs.Deriving.{Deriving, deriving_as, deriving_step, steps_fault, takes_no_steps}
+use Rattle.pb_family.proofs.Deriving.{Deriving, deriving_as, deriving_step, deriving_ends, steps_fault, takes_no_steps}
 use Rattle.pb_adder.specs.AdderSteps.{row_claims}
 use Rattle.pb_adder.specs.Comparator.{row_at, row_clause, comparator}
 use Rattle.pb_adder.specs.declared.gate.Wire.{Wire}
@@ -56,3 +56,8 @@ module _ {R : Type 0} {all : List Step} {old now : StepState R} (first bound id 
 
     pub rows_counted : (after : StepState R) → TakesSteps (by_last id now.next found) now after → after.next ≤ now.next + 1
     rows_counted after h = omega (arith, (given after h).ids, claims_ids now.next (id ∷ []) here, length-map (row_at bound e above) (row_clause first), row_at_few bound e above)
+
+-- all rows were claimed
+pub rows_claimed : {R : Type 0} {all : List Step} {old now : StepState R} (first bound id : ℕ) (rest : List (Option Wire)) → length rest ≡ 0 → Deriving all (by_last id now.next (comparator first bound rest)) old now → TakesSteps all old now
+rows_claimed first bound id [] none h = deriving_ends h
+rows_claimed first bound id (e ∷ es) none h = absurd (omega (arith, none))

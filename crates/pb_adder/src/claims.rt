@@ -1,5 +1,5 @@
 //! The clauses of adders and of a comparator, each of which follows by propagation.
-ghost use Rattle.std.specs.Prelude.{◌≡◌, ◌≤◌, ◌<◌, ◌+◌, ◌*◌, ◌^◌, ◌∷◌, ◌++◌, [], All, map, length};
+ghost use Rattle.std.specs.Prelude.{◌≤◌, ◌<◌, ◌+◌, ◌*◌, ◌^◌, ◌++◌, All, map, length};
 ghost use Rattle.pb_derive.specs.Rups.{by_rup};
 ghost use Rattle.pb_adder.specs.AdderSteps.{gate_claims, gate_ids, row_claims};
 ghost use Rattle.pb_adder.specs.Comparator.{comparator, end_needs};

@@ -14,7 +14,7 @@ use Rattle.pb_steps.specs.Database.{Database}
 use Rattle.pb_derive.proofs.Justified.{all_unmapped}
 use Rattle.pb_derive.proofs.Reasoned.{All-flat_map}
 use Rattle.pb_derive.proofs.Rups.{ones-weight}
-use Rattle.pb_derive.proofs.Sides.{weight-append}
+use Rattle.pb_derive.proofs.Appends.{weight-append}
 use Rattle.pb_derive.specs.Later.{IsOther, IsUnnamed}
 use Rattle.pb_derive.specs.Reifications.{Reification, forward_of}
 use Rattle.pb_derive.specs.inner.Meant.{IsReification, NamesNot, AreReifications}

@@ -26,7 +26,7 @@ use Rattle.pb_derive.specs.Rups.{by_rup}
 use Rattle.pb_derive.specs.Short.{AreShort}
 use Rattle.pb_derive.proofs.Phases.{length-reifications, length-claims, length-deletions}
 use Rattle.pb_derive.proofs.Rups.{ones-weight}
-use Rattle.pb_derive.proofs.Sides.{weight-append}
+use Rattle.pb_derive.proofs.Appends.{weight-append}
 use Rattle.pb_derive.proofs.Sayable.{IsSlimTerm, IsSlimReification, reifications_sayable, claims_sayable, deletions_sayable, rup_sayable}
 use Rattle.pb_derive.proofs.Short.{lines_sized, line_sized}
 use Rattle.pb_derive.proofs.Sizes.{rup-size, reifications_each, claims_each, deletions_each, each_all}

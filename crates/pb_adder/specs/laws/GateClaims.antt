@@ -30,7 +30,7 @@ use Rattle.pb_derive.specs.inner.Refuted.{IsRefuting, AreAt}
 use Rattle.pb_derive.proofs.PinnedRups.{AreFormsOf}
 use Rattle.pb_adder.specs.laws.GateRups.{adder_constraints, gate_refutes}
 use Rattle.pb_derive.proofs.Rups.{ones-weight, refuted_claims}
-use Rattle.pb_derive.proofs.Sides.{weight-append}
+use Rattle.pb_derive.proofs.Appends.{weight-append}
 
 -- the four constraints of an adder, and where they stand
 pub record HasFour (db : Database) (id : ℕ) (inputs : List Lit) (s d : ℕ) : Type 0 where

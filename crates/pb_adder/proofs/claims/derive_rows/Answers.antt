@@ -1,8 +1,8 @@
 use Rattle.std.proofs.Common.{◌≤◌, ◌+◌, ◌^◌, arith}
 use Rattle.pb_family.proofs.Deriving.{deriving_starts}
 use Rattle.pb_adder.specs.Comparator.{end_needs}
-use Rattle.pb_adder.proofs.RowHanding.{rows_counted, rows_stopped, rows_taken}
-use Rattle.pb_adder.proofs.RowSteps.{rest_all}
+use Rattle.pb_adder.proofs.RowHanding.{rows_claimed, rows_counted, rows_stopped, rows_taken}
+use Rattle.pb_adder.proofs.RowSteps.{rest_all, rest_first}
 use Rattle.pb_adder.proofs.claims.derive_rows.Goals as goal
 
 pub loop-end-init : goal.loop-end-init
@@ -38,3 +38,19 @@ row_at-requires-clause-fits g c =
 
 pub derive_row-requires : goal.derive_row-requires
 derive_row-requires g c = record { room = omega (arith, c.loop-end.invariant.next, c.in-Some.ensures.cases.1, c.requires.room) }
+
+pub row_at-requires-clause-low : goal.row_at-requires-clause-low
+row_at-requires-clause-low g c = c.requires.low
+
+pub row_at-requires-clause-few : goal.row_at-requires-clause-few
+row_at-requires-clause-few g c = omega (arith, c.loop-end.invariant.few, c.in-Some.ensures.cases.1)
+
+pub row_at-requires-clause-end_fits : goal.row_at-requires-clause-end_fits
+row_at-requires-clause-end_fits g c =
+    rest_first (λ e. c.args.first + end_needs e ≤ 2 ^ 31) c.in-Some.end.now c.loop-end.rest.now c.in-Some.above.now c.in-Some.ensures.cases.0 c.loop-end.invariant.fits
+
+pub loop-end-smaller : goal.loop-end-smaller
+loop-end-smaller g c = omega (arith, c.in-Some.ensures.cases.1)
+
+pub returns : goal.returns
+returns g c = rows_claimed c.args.first c.loop-end.bound c.args.id c.loop-end.rest.now c.in_default.ensures.cases c.loop-end.invariant.steps

@@ -1,5 +1,4 @@
-use Rattle.std.proofs.Common.{◌≡◌, [], ◌∷◌}
-use Rattle.pb_norm.specs.Constraints.{Weighted}
+use Rattle.std.proofs.Common.{[], ◌∷◌}
 use Rattle.pb_derive.specs.Reifications.{reification_steps}
 use Rattle.pb_family.proofs.Deriving.{steps_same}
 use Rattle.pb_adder.proofs.gate.FullAdder.define.Goals as goal

@@ -1,0 +1,11 @@
+use Rattle.std.proofs.lemmas.Result.{IfOk-from_err}
+use Rattle.pb_adder.proofs.sums.sum_step.Goals as goal
+
+pub returns-in_err-push_tree : goal.returns-in_err-push_tree
+returns-in_err-push_tree c = IfOk-from_err c.from_residual.result _ c.from_residual.ensures.0
+
+pub returns-in_err-push : goal.returns-in_err-push
+returns-in_err-push c = IfOk-from_err c.from_residual-in_err-push.result _ c.from_residual-in_err-push.ensures.0
+
+pub returns-in_err-push-2 : goal.returns-in_err-push-2
+returns-in_err-push-2 c = IfOk-from_err c.from_residual-in_err-push-2.result _ c.from_residual-in_err-push-2.ensures.0
