@@ -1,5 +1,5 @@
 -- Runs of intervals in order: to which of them a residue belongs, and what they are after an insertion and a division.
-use Rattle.std.proofs.Common.{◌≡◌, ◌<◌, ◌≤◌, ◌+◌, ◌-◌, ◌⊎◌, ◌++◌, ℕ, true, false, leb, List, [], ◌∷◌, length, get_or, set, sym, ap, ◌∙◌, subst, arith, inl, inr, zero, suc, refl, take, drop, Option, None, Some, length-append}
+use Rattle.std.proofs.Common.{◌≡◌, ◌≢◌, ◌<◌, ◌≤◌, ◌+◌, ◌-◌, ◌⊎◌, ◌++◌, ℕ, true, false, leb, List, [], ◌∷◌, length, get_or, set, sym, ap, ◌∙◌, subst, arith, inl, inr, zero, suc, refl, take, drop, Option, None, Some, length-append}
 use Rattle.std.specs.Prelude.{Contains}
 use Rattle.std.specs.List.{insert}
 use Rattle.std.specs.List.Sorted.{IsPartitionedBy, IsPartitionPoint}
@@ -287,6 +287,9 @@ is_at rs seen now run g place runs same view some is read rises elsewhere =
       elsewhere = λ h among. elsewhere h (subst (λ (l : List Interval). Contains l h) view among);
     }
 
+pub run_within : (rs seen : List (List Interval)) (low place len : ℕ) → seen ≡ rs → IsRunOf seen low place → len ≢ 0 → len ≡ length rs → place < length rs
+run_within rs seen low place len same is some long = let count = ap length same in let within = is.within (omega arith) in omega arith
+
 module _ (rs : List (List Interval)) (g : Interval) (place : ℕ) (run more : List Interval) (at : IsAt rs g place run) where
   pub run_elsewhere : (h : Interval) → Contains run h → (h.top ≤ g.low) ⊎ (g.top ≤ h.low)
   run_elsewhere h among = at.elsewhere h (among_runs rs place run h at.within (subst (λ (l : List Interval). Contains l h) at.is among))
@@ -303,3 +306,36 @@ module _ (rs : List (List Interval)) (g : Interval) (place : ℕ) (run more : Li
     rise = rise_grown (intervals_in rs) (intervals_in (set rs place more)) g (run_grown grown) at.rises at.runs.rise;
     full = full_set rs place more at.runs.full (let count = grown.longer in omega arith);
   }
+
+-- ---- the first interval of all
+
+-- an interval alone
+alone : (g : Interval) → IsGrown [] g (g ∷ [])
+alone g = record {
+  here = Contains-here g [];
+  keeps = λ h among. absurd (Contains-nil h among);
+  cases = λ h among. Contains-cons_cases g [] h among;
+  apart = ((λ h among. absurd (Contains-nil h among)), tt);
+  longer = omega arith;
+}
+
+module _ (more : List (List Interval)) (run : List Interval) (g : Interval) (run_is : run ≡ g ∷ []) where
+  -- a run of its own, where there was none
+  one_run : (rs : List (List Interval)) → length rs ≡ 0 → more ≡ rs ++ run ∷ [] → more ≡ (g ∷ []) ∷ []
+  one_run [] none more_is = more_is ∙ ap (λ (l : List Interval). l ∷ []) run_is
+  one_run (r ∷ rs) none more_is = absurd (omega arith)
+
+  pub first_grown : (rs : List (List Interval)) (now : List Interval) → length rs ≡ 0 → more ≡ rs ++ run ∷ [] → intervals_in rs ≡ now → IsGrown now g (intervals_in more)
+  first_grown [] now none more_is view = subst (λ (l : List Interval). IsGrown l g (intervals_in more)) view
+      (subst (λ (ls : List (List Interval)). IsGrown [] g (intervals_in ls)) (sym (one_run [] none more_is)) (alone g))
+  first_grown (r ∷ rs) now none more_is view = absurd (omega arith)
+
+  pub first_runs : (rs : List (List Interval)) → length rs ≡ 0 → more ≡ rs ++ run ∷ [] → g.low < g.top → AreRuns more
+  first_runs rs none more_is rises = subst AreRuns (sym (one_run rs none more_is)) (record {
+    apart = (alone g).apart;
+    rise = rise_grown [] (g ∷ []) g (alone g) rises (λ h among. absurd (Contains-nil h among));
+    full = λ l among. elim (Contains-cons_cases (g ∷ []) [] l among) as (λ _. 0 < length l) [
+      | inl is ↦ subst (λ (k : List Interval). 0 < length k) is (omega arith)
+      | inr other ↦ absurd (Contains-nil l other)
+    ];
+  })

@@ -1,9 +1,10 @@
 -- What the code of a search reads and changes.
-use Rattle.std.proofs.Common.{◌≡◌, ◌<◌, ◌≤◌, ◌+◌, ◌-◌, ◌++◌, ◌⊎◌, ℕ, List, [], ◌∷◌, length, get_or, drop, set, replicate, refl, sym, ap, ◌∙◌, subst, arith, inl, inr, zero, suc, length-append}
+use Rattle.std.proofs.Common.{◌≡◌, ◌<◌, ◌≤◌, ◌+◌, ◌-◌, ◌++◌, ◌⊎◌, ℕ, List, [], ◌∷◌, length, get_or, drop, set, replicate, refl, sym, ap, ◌∙◌, subst, arith, inl, inr, zero, suc, true, length-append}
 use Rattle.std.specs.Prelude.{Contains, sum, Option, Some, None, IfSome}
 use Rattle.std.specs.Option.{option_to_list}
 use Rattle.std.proofs.lemmas.List.{get_or-map, length-map, get_or_default}
-use Rattle.std.proofs.lemmas.List.Sums.{sum-map, sum_by-cons, sum_by-take-drop}
+use Rattle.std.proofs.lemmas.List.Sums.{sum-map, sum_by-cons, sum_by-set, sum_by-take-drop}
+use Rattle.std.proofs.lemmas.Bool.{both_ways}
 use Rattle.pb_norm.specs.BoundedSums.{BoundedSum}
 use Rattle.std.specs.Int.RustNames.{unsigned_abs}
 use Rattle.pb_base.specs.declared.literal.Term.{Term}
@@ -12,7 +13,7 @@ use Rattle.pb_diagram.specs.declared.interval.Interval.{Interval}
 use Rattle.pb_diagram.specs.declared.search.Top.{Top}
 use Rattle.pb_diagram.specs.Clauses.{node_count}
 use Rattle.pb_diagram.specs.Levels.{coefs_of, levels_of}
-use Rattle.pb_diagram.specs.laws.Search.{nodes_at, before_at, IsPartSearched, IsSearch, IsOff, IsJoined, IsMissing, IsGrown, IsTop, IsSearching, IsSideAt, IsKept}
+use Rattle.pb_diagram.specs.laws.Search.{nodes_at, before_at, IsPartSearched, IsSearch, IsOff, IsJoined, IsMissing, IsGrown, IsTop, IsSearching, IsSideAt, IsKept, Advanced}
 use Rattle.pb_diagram.specs.laws.SumFacts.{sums-le, sum-cons}
 use Rattle.pb_diagram.proofs.SearchSteps.{drop_here, some_left, drop_first, search_starts, search_pushes, next_part, search_inserts, joined_apart}
 use Rattle.pb_diagram.proofs.SearchEnds.{rises_of, search_ends, search_count}
@@ -175,6 +176,16 @@ popped wanted less n place residue result items value count depth residue_is =
     let last : n - 1 ≡ place = omega arith in
     let same : result ≡ Some residue = value ∙ ap (λ (k : ℕ). Some (get_or wanted k 0)) last ∙ ap Some (sym residue_is) in
     items ∙ ap (λ (o : Option ℕ). less ++ option_to_list o) same
+
+-- one more node is known, and one residue less is wanted
+pub advances : (known : List (List Interval)) (wanted less : List ℕ) (place residue : ℕ) (g : Interval) (more : List Interval) → place < length known → wanted ≡ less ++ residue ∷ [] → IsGrown (nodes_at known place) g more → Advanced true known (set known place more) wanted less
+advances known wanted less place residue g more within split grown =
+    let count = sum_by-set (length {A = Interval}) known place more [] within in
+    let longer = grown.longer in
+    record {
+      found = λ is. (omega arith, omega (arith, ap length split, length-append less (residue ∷ [])));
+      wants = λ is_not. absurd (both_ways true is_not refl);
+    }
 
 sum_none : (n : ℕ) → node_count (replicate n []) ≡ 0
 sum_none zero = refl

@@ -1,5 +1,5 @@
 -- What the steps of a search keep of false children, and of the last node.
-use Rattle.std.proofs.Common.{◌≡◌, ◌<◌, ◌+◌, ◌-◌, ◌++◌, ℕ, List, [], ◌∷◌, Option, Some, None, IfSome, length, get_or, drop, take, set, sym, ap, ◌∙◌, subst, arith, inl, inr, zero, suc, length-append, length-set, length-take-le, get_or-take, get_or-set_same, get_or-set_other}
+use Rattle.std.proofs.Common.{◌≡◌, ◌<◌, ◌+◌, ◌-◌, ◌++◌, ℕ, List, [], ◌∷◌, Option, Some, None, IfSome, length, get_or, drop, take, set, sym, ap, ◌∙◌, subst, arith, inl, inr, length-append, length-set, length-take-le, get_or-take, get_or-set_same, get_or-set_other}
 use Rattle.std.specs.Prelude.{Contains, sum}
 use Rattle.std.proofs.lemmas.Bool.{cases_lt, cases_eq}
 use Rattle.std.proofs.lemmas.List.{get_or_append_left, get_or_push}
@@ -18,10 +18,6 @@ still_off a whole next more residue (Some s) keeps is = record { ends = is.ends;
 side_of : (c : BoundedSum) (known : List (List Interval)) (wanted now : List ℕ) (i : ℕ) (side : Option Interval) → get_or now i 0 ≡ get_or wanted i 0 → IsSideAt c known wanted i side → IsSideAt c known now i side
 side_of c known wanted now i side same is =
     subst (λ (r : ℕ). IfSome side (IsOff (get_or (coefs_of c.terms) i 0) (sum (drop (i + 1) (coefs_of c.terms))) (nodes_at known (i + 1)) r)) (sym same) is
-
-none_yet : (c : BoundedSum) (known : List (List Interval)) (wanted : List ℕ) (i : ℕ) → IsSideAt c known wanted i (get_or (None ∷ []) i None)
-none_yet c known wanted zero = tt
-none_yet c known wanted (suc i) = tt
 
 -- one more residue is wanted, and of the one before it is kept what its false child says
 pub sides_want : (c : BoundedSum) (known : List (List Interval)) (wanted : List ℕ) (sides : List (Option Interval)) (i child : ℕ) (off last : Option Interval) → IsKept c known wanted sides last → i + 1 ≡ length wanted → IsSideAt c known wanted i off

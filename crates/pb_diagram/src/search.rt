@@ -1,10 +1,9 @@
 //! The search for the nodes of a diagram: from the bound down to the children that are not known yet, and up again with the
 //! intervals that they give.
-ghost use Rattle.std.specs.Prelude.{[], replicate, ◌≡◌, ◌≤◌, ◌<◌, ◌+◌, ◌-◌, ◌^◌, Contains, MatchOption, IfSome, IfOk, OnOk, true, false, length, sum};
+ghost use Rattle.std.specs.Prelude.{[], replicate, ◌≡◌, ◌<◌, ◌+◌, ◌-◌, ◌^◌, Contains, MatchOption, IfSome, IfOk, OnOk, true, false, length, sum};
 ghost use Rattle.pb_norm.specs.Constraints.{weight};
 ghost use Rattle.pb_diagram.specs.declared.interval.Interval.{Interval};
 ghost use Rattle.pb_diagram.specs.Clauses.{node_count};
-ghost use Rattle.pb_diagram.specs.Intervals.{AreApart};
 ghost use Rattle.pb_diagram.specs.Levels.{coefs_of, levels_of};
 ghost use Rattle.pb_diagram.specs.laws.Search.{nodes_at, AreAllNodes, IsFound, IsOff, IsOn, LacksFalseChild, LacksTrueChild, Looked, IsMissing, IsJoined, IsTop, IsSeen, IsSearching, IsKept, Advanced};
 

@@ -17,7 +17,8 @@ use Rattle.pb_derive.specs.Reifications.{forward_of, reverse_of}
 use Rattle.pb_derive.specs.Justifications.{Justification}
 use Rattle.pb_derive.proofs.Justified.{IsJustified, ReificationsKnown}
 use Rattle.pb_derive.proofs.Opposites.{vars-opposite, weight-opposite}
-use Rattle.pb_derive.proofs.Sides.{Side, side_fresh, front_weakened, front_false, follows_rest, follows_alone, follows_top}
+use Rattle.pb_derive.proofs.Fronts.{front_weakened, front_false, follows_rest, follows_alone, follows_top}
+use Rattle.pb_derive.proofs.Sides.{Side, side_fresh}
 use Rattle.pb_family.specs.Fresh.{positive_of}
 use Rattle.pb_family.proofs.ShortClauses.{first_among, second_among, third_among}
 use Rattle.pb_diagram.specs.declared.interval.Interval.{Interval}

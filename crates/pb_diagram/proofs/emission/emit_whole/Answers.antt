@@ -1,7 +1,7 @@
 use Rattle.std.proofs.Common.{◌≡◌, ◌+◌, ◌++◌, ◌∷◌, [], List, ap, sym, ◌∙◌, subst, arith}
 use Rattle.std.proofs.lemmas.List.{length-map}
 use Rattle.pb_base.specs.declared.literal.Lit.{Lit}
-use Rattle.pb_norm.specs.Constraints.{weight, weighted, weights}
+use Rattle.pb_norm.specs.Constraints.{weighted, weights}
 use Rattle.pb_norm.specs.BoundedSums.{sum_within}
 use Rattle.pb_family.specs.Fresh.{positive_of}
 use Rattle.pb_family.specs.Handing.{Hands}

@@ -1,4 +1,4 @@
-use Rattle.std.proofs.Common.{◌≡◌, ◌≤◌, ◌<◌, ◌+◌, ◌++◌, List, length, drop, refl, sym, ap, subst, arith}
+use Rattle.std.proofs.Common.{◌≡◌, ◌≤◌, ◌+◌, ◌++◌, List, length, drop, refl, sym, ap, subst, arith}
 use Rattle.std.specs.Prelude.{All}
 use Rattle.std.proofs.lemmas.List.{length-map}
 use Rattle.pb_norm.specs.Constraints.{Weighted, weight, weighted, weights}
@@ -93,3 +93,9 @@ pub returns : goal.returns
 returns g c =
     let now = g.T.StepSink.state c.loop-i.sink in
     deriving_ends (deriving_as (ap (reification_steps now.next) (no_reification (weights c.args.self.now.shape.terms.now) c.args.self.now.shape.levels.now c.loop-i.i c.loop-i.start (omega (arith, length-map c.args.self.now.shape.terms.now weighted)))) c.loop-i.invariant.taken)
+
+pub overflow_cast-start : goal.overflow_cast-start
+overflow_cast-start g c = omega (arith, count g (goal.at.overflow_cast-start g c).After-nodes_after, c.loop-i.invariant.room, c.args.self.now.fits)
+
+pub overflow_add-start : goal.overflow_add-start
+overflow_add-start g c = omega (arith, count g (goal.at.overflow_add-start g c).After-nodes_after, c.loop-i.invariant.room, c.args.self.now.fits)
