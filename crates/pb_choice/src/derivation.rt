@@ -1,5 +1,5 @@
 //! The steps of clauses that no family has, handed over.
-ghost use Rattle.std.specs.Prelude.{◌≡◌, ◌≤◌, ◌<◌, ◌+◌, ◌^◌, IsTrue, length};
+ghost use Rattle.std.specs.Prelude.{◌≤◌, ◌<◌, ◌+◌, ◌^◌, IsTrue, length};
 ghost use Rattle.pb_steps.specs.Steps.{takes_id};
 ghost use Rattle.pb_family.specs.Families.{VarsBelow};
 ghost use Rattle.pb_family.specs.StepSinks.{HandsFrom};

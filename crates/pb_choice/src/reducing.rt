@@ -1,5 +1,5 @@
 //! The step by which a constraint becomes what is left of it.
-ghost use Rattle.std.specs.Prelude.{◌≡◌, ◌<◌, ◌≤◌, ◌-◌, ◌^◌, ◌++◌, pos, IfOk, filter, map};
+ghost use Rattle.std.specs.Prelude.{◌≡◌, ◌<◌, ◌-◌, ◌^◌, ◌++◌, pos, IfOk, filter, map};
 ghost use Rattle.pb_norm.specs.Constraints.{weight, weights};
 ghost use Rattle.pb_norm.specs.Reduction.{all_weigh, first_coef, is_above};
 ghost use Rattle.pb_choice.specs.Reducing.{cut_terms, divisor, reducing, reduction, weaken_unit};

@@ -48,7 +48,7 @@ numbers_of bound ts l r us vs made tree left right is =
     record {
       over = same;
       values_are = same ∙ ap (values (generalized bound)) (sym tree);
-      fresh = omega arith;
+      fresh = omega (arith, fresh, long);
       clauses = ap (clause_count_of (generalized bound)) tree;
     }
 

@@ -30,7 +30,7 @@ pub struct Weighted {
 }
 
 impl Weighted {
-    ghost use Rattle.std.specs.Prelude.{◌≡◌, ◌≤◌, ◌<◌, ◌^◌, ℕ, length, IfOk};
+    ghost use Rattle.std.specs.Prelude.{◌≡◌, ◌<◌, ◌^◌, ℕ, IfOk};
     ghost use Rattle.pb_norm.specs.Constraints.{weight};
     ghost use Rattle.pb_family.specs.Budgets.{IsOverExactly, IfFits};
 

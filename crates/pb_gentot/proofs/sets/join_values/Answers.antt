@@ -3,6 +3,7 @@ use Rattle.pb_gentot.specs.inner.Marks.{MarksOnly}
 use Rattle.pb_gentot.specs.inner.Members.{SameMembers}
 use Rattle.pb_gentot.proofs.Joining.{gathered, gathered_next, gathered_last, gathered_within, same_turned, same_then, values_of, values_more}
 use Rattle.pb_gentot.proofs.Marking.{marks_kept}
+use Rattle.std.proofs.lemmas.Result.{IfOk-from_err}
 use Rattle.pb_gentot.proofs.sets.join_values.Goals as goal
 use Rattle.pb_gentot.proofs.sets.join_values.Goals.{then-len-kept+else-len-limit, else-len-kept}
 
@@ -59,3 +60,36 @@ push_sums-requires-clause-small c = c.requires.left_small c.loop-value.value-ind
 
 pub push_sums-requires-clause-marked : goal.push_sums-requires-clause-marked
 push_sums-requires-clause-marked c = c.loop-value.invariant.marked
+
+pub returns-in_err-extend_from_slice-clause-made : goal.returns-in_err-extend_from_slice-clause-made
+returns-in_err-extend_from_slice-clause-made c = IfOk-from_err _ _ c.from_residual.ensures.0
+
+pub returns-in_err-extend_from_slice-clause-within : goal.returns-in_err-extend_from_slice-clause-within
+returns-in_err-extend_from_slice-clause-within c = IfOk-from_err _ _ c.from_residual.ensures.0
+
+pub returns-in_err-extend_from_slice-clause-over : goal.returns-in_err-extend_from_slice-clause-over
+returns-in_err-extend_from_slice-clause-over c = IfOk-from_err _ _ c.from_residual.ensures.0
+
+pub returns-in_err-seen-clause-made : goal.returns-in_err-seen-clause-made
+returns-in_err-seen-clause-made c = IfOk-from_err _ _ c.from_residual-in_err-seen.ensures.0
+
+pub returns-in_err-seen-clause-within : goal.returns-in_err-seen-clause-within
+returns-in_err-seen-clause-within c = IfOk-from_err _ _ c.from_residual-in_err-seen.ensures.0
+
+pub returns-in_err-seen-clause-over : goal.returns-in_err-seen-clause-over
+returns-in_err-seen-clause-over c = IfOk-from_err _ _ c.from_residual-in_err-seen.ensures.0
+
+pub returns-in_err-push_sums-clause-made : goal.returns-in_err-push_sums-clause-made
+returns-in_err-push_sums-clause-made c = IfOk-from_err _ _ c.from_residual-in_err-push_sums.ensures.0
+
+pub returns-in_err-push_sums-clause-within : goal.returns-in_err-push_sums-clause-within
+returns-in_err-push_sums-clause-within c = IfOk-from_err _ _ c.from_residual-in_err-push_sums.ensures.0
+
+pub returns-in_err-push_sums-clause-over : goal.returns-in_err-push_sums-clause-over
+returns-in_err-push_sums-clause-over c = IfOk-from_err _ _ c.from_residual-in_err-push_sums.ensures.0
+
+pub push_sums-requires-clause-others_small : goal.push_sums-requires-clause-others_small
+push_sums-requires-clause-others_small c = c.requires.right_small
+
+pub push_sums-requires-clause-few : goal.push_sums-requires-clause-few
+push_sums-requires-clause-few c = c.requires.few

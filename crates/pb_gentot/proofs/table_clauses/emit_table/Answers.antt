@@ -2,7 +2,7 @@ use Rattle.std.proofs.Common.{◌≡◌, ◌++◌, ℕ, List, [], length, ap, sy
 use Rattle.pb_base.specs.declared.literal.Lit.{Lit}
 use Rattle.pb_norm.specs.Constraints.{weights}
 use Rattle.pb_family.specs.declared.sink.SinkFault.TheVariants as fault
-use Rattle.pb_family.proofs.Emission.{emitting_starts, emitting_from, emitting_step, emitting_ends, fails_as, takes_as}
+use Rattle.pb_family.proofs.Emission.{Emitting, emitting_starts, emitting_from, emitting_step, emitting_ends, fails_as, takes_as}
 use Rattle.pb_family.proofs.Stopping.{stops_fault}
 use Rattle.pb_family.proofs.Taking.{takes_nothing}
 use Rattle.pb_tree.specs.Tree.{tree_of}
@@ -13,6 +13,8 @@ use Rattle.pb_gentot.specs.Rising.{Rising}
 use Rattle.pb_gentot.specs.Generalized.{generalized}
 use Rattle.pb_gentot.proofs.KeptTables.{no_clauses}
 use Rattle.pb_gentot.proofs.Neighbours.{clauses_between}
+use Rattle.pb_gentot.proofs.table_clauses.emit_table.Given.{Over}
+use Rattle.pb_gentot.proofs.table_clauses.emit_table.Goals.{After-as_slice}
 use Rattle.pb_gentot.proofs.table_clauses.emit_table.Goals as goal
 
 pub returns-then-is_empty : goal.returns-then-is_empty
@@ -38,29 +40,30 @@ emit_neighbours-requires-clause-rising g c =
 pub emit_neighbours-requires-clause-room : goal.emit_neighbours-requires-clause-room
 emit_neighbours-requires-clause-room g c = subst (λ (us : List ℕ). HasRoom c.in_ok-root.root.outputs (length us)) (sym c.as_slice.ensures.value) c.in_ok-root.ensures.emitted.within.room
 
-pub returns-in_err-emit_neighbours : goal.returns-in_err-emit_neighbours
-returns-in_err-emit_neighbours g c =
-    let s = generalized c.args.bound in
-    let t = tree_of (weights c.args.terms.now) in
-    let sink = g.S.ClauseSink in
+-- the clauses between neighbours are those of the table, and the nodes' were handed over before them
+same : (g : Over) (c : After-as_slice g) → (let s = generalized c.args.bound in let t = tree_of (weights c.args.terms.now) in
+    clauses_between (output_in c.in_ok-root.root.outputs c.as_slice.result.now) c.as_slice.result.now ≡ clauses_between (output s t c.args.first) (values s t))
+same g c =
     let outs = ap (output_in c.in_ok-root.root.outputs) c.as_slice.ensures.value ∙ c.in_ok-root.ensures.emitted.outputs_are in
     let vals = c.as_slice.ensures.value ∙ c.in_ok-root.ensures.emitted.values_are in
-    let between = clauses_between (output s t c.args.first) (values s t) in
-    let same : clauses_between (output_in c.in_ok-root.root.outputs c.as_slice.result.now) c.as_slice.result.now ≡ between = (λ i. clauses_between (outs i) (vals i)) in
-    let whole = ap (λ (cs : List (List Lit)). clauses_of s t c.args.first ++ cs) (sym (append-nil between)) in
-    let part = fails_as _ _ (sink.state c.emit_nodes.new.sink) (sink.state c.emit_neighbours.new.sink) same c.in_err-emit_neighbours.ensures in
-    stops_fault {all = clauses_by c.args.bound c.args.terms.now c.args.first} c.from_residual-in_err-emit_neighbours.result fault.Failed between [] _ c.from_residual-in_err-emit_neighbours.ensures.1
-    (emitting_step (clauses_of s t c.args.first) _ (emitting_from _ whole) c.in_ok-root.ensures.hands) part
+    λ i. clauses_between (outs i) (vals i)
+
+nodes : (g : Over) (c : After-as_slice g) → (let s = generalized c.args.bound in let t = tree_of (weights c.args.terms.now) in
+    Emitting (clauses_by c.args.bound c.args.terms.now c.args.first) (clauses_between (output s t c.args.first) (values s t) ++ []) (g.S.ClauseSink.state c.args.sink.now) (g.S.ClauseSink.state c.emit_nodes.new.sink))
+nodes g c =
+    let s = generalized c.args.bound in
+    let t = tree_of (weights c.args.terms.now) in
+    emitting_step (clauses_of s t c.args.first) _ (emitting_from _ (ap (λ (cs : List (List Lit)). clauses_of s t c.args.first ++ cs) (sym (append-nil (clauses_between (output s t c.args.first) (values s t)))))) c.in_ok-root.ensures.hands
+
+pub returns-in_err-emit_neighbours : goal.returns-in_err-emit_neighbours
+returns-in_err-emit_neighbours g c =
+    let at = (goal.at.returns-in_err-emit_neighbours g c).After-as_slice in
+    let sink = g.S.ClauseSink in
+    let part = fails_as _ _ (sink.state c.emit_nodes.new.sink) (sink.state c.emit_neighbours.new.sink) (same g at) c.in_err-emit_neighbours.ensures in
+    stops_fault {all = clauses_by c.args.bound c.args.terms.now c.args.first} c.from_residual-in_err-emit_neighbours.result fault.Failed _ [] _ c.from_residual-in_err-emit_neighbours.ensures.1 (nodes g at) part
 
 pub returns : goal.returns
 returns g c =
-    let s = generalized c.args.bound in
-    let t = tree_of (weights c.args.terms.now) in
+    let at = (goal.at.returns g c).After-as_slice in
     let sink = g.S.ClauseSink in
-    let outs = ap (output_in c.in_ok-root.root.outputs) c.as_slice.ensures.value ∙ c.in_ok-root.ensures.emitted.outputs_are in
-    let vals = c.as_slice.ensures.value ∙ c.in_ok-root.ensures.emitted.values_are in
-    let between = clauses_between (output s t c.args.first) (values s t) in
-    let same : clauses_between (output_in c.in_ok-root.root.outputs c.as_slice.result.now) c.as_slice.result.now ≡ between = (λ i. clauses_between (outs i) (vals i)) in
-    let whole = ap (λ (cs : List (List Lit)). clauses_of s t c.args.first ++ cs) (sym (append-nil between)) in
-    let handed = takes_as _ _ (sink.state c.emit_nodes.new.sink) (sink.state c.emit_neighbours.new.sink) same c.in_ok-emit_neighbours.ensures in
-    emitting_ends {all = clauses_by c.args.bound c.args.terms.now c.args.first} (emitting_step {left = []} between _ (emitting_step (clauses_of s t c.args.first) _ (emitting_from _ whole) c.in_ok-root.ensures.hands) handed)
+    emitting_ends {all = clauses_by c.args.bound c.args.terms.now c.args.first} (emitting_step {left = []} _ _ (nodes g at) (takes_as _ _ (sink.state c.emit_nodes.new.sink) (sink.state c.emit_neighbours.new.sink) (same g at) c.in_ok-emit_neighbours.ensures))

@@ -8,6 +8,7 @@ use Rattle.pb_gentot.specs.inner.Ranked.{AreRanks}
 use Rattle.pb_gentot.specs.inner.Outputs.{output_in, HasLiterals}
 use Rattle.pb_gentot.specs.inner.Parts.{clauses_over_parts}
 use Rattle.pb_gentot.proofs.Over.{made_rising, made_within, values_made, clauses_made}
+use Rattle.std.proofs.lemmas.Result.{IfOk-from_err}
 use Rattle.pb_gentot.proofs.tree.emit_over.Goals as goal
 
 pub values_over-requires-clause-left_small : goal.values_over-requires-clause-left_small
@@ -84,3 +85,33 @@ returns-clause-within g c =
       small = made_within c.args.cap us vs ws c.in_ok-values.ensures;
       room = (c.requires.low, omega (arith, ap length made, c.requires.fits));
     }
+
+pub returns-in_err-values-clause-values : goal.returns-in_err-values-clause-values
+returns-in_err-values-clause-values g c = IfOk-from_err _ _ c.from_residual.ensures.0
+
+pub returns-in_err-values-clause-outputs : goal.returns-in_err-values-clause-outputs
+returns-in_err-values-clause-outputs g c = IfOk-from_err _ _ c.from_residual.ensures.0
+
+pub returns-in_err-values-clause-within : goal.returns-in_err-values-clause-within
+returns-in_err-values-clause-within g c = IfOk-from_err _ _ c.from_residual.ensures.0
+
+pub returns-in_err-ranks-clause-values : goal.returns-in_err-ranks-clause-values
+returns-in_err-ranks-clause-values g c = IfOk-from_err _ _ c.from_residual-in_err-ranks.ensures.0
+
+pub returns-in_err-ranks-clause-outputs : goal.returns-in_err-ranks-clause-outputs
+returns-in_err-ranks-clause-outputs g c = IfOk-from_err _ _ c.from_residual-in_err-ranks.ensures.0
+
+pub returns-in_err-ranks-clause-within : goal.returns-in_err-ranks-clause-within
+returns-in_err-ranks-clause-within g c = IfOk-from_err _ _ c.from_residual-in_err-ranks.ensures.0
+
+pub returns-in_err-emit_node-clause-values : goal.returns-in_err-emit_node-clause-values
+returns-in_err-emit_node-clause-values g c = IfOk-from_err _ _ c.from_residual-in_err-emit_node.ensures.0
+
+pub returns-in_err-emit_node-clause-outputs : goal.returns-in_err-emit_node-clause-outputs
+returns-in_err-emit_node-clause-outputs g c = IfOk-from_err _ _ c.from_residual-in_err-emit_node.ensures.0
+
+pub returns-in_err-emit_node-clause-within : goal.returns-in_err-emit_node-clause-within
+returns-in_err-emit_node-clause-within g c = IfOk-from_err _ _ c.from_residual-in_err-emit_node.ensures.0
+
+pub values_over-requires-clause-few : goal.values_over-requires-clause-few
+values_over-requires-clause-few g c = c.requires.few

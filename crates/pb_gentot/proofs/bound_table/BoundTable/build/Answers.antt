@@ -5,10 +5,12 @@ use Rattle.pb_norm.specs.Constraints.{AllPositive, weight, weights}
 use Rattle.pb_gentot.specs.BoundTable.{IsTable}
 use Rattle.pb_gentot.specs.inner.KeptTables.{IsKeptTable}
 use Rattle.pb_gentot.proofs.KeptTables.{kept_of}
+use Rattle.pb_gentot.proofs.bound_table.BoundTable.build.Goals.{After-saturating_sub-between}
 use Rattle.pb_gentot.proofs.bound_table.BoundTable.build.Goals as goal
 
-pub overflow_add-result : goal.overflow_add-result
-overflow_add-result c =
+-- the table is kept
+kept : (c : After-saturating_sub-between) → IsKeptTable c.as_slice-given.result.now c.weight_of-weight.result c.in-Some.part.values.items c.in-Some.part.fresh (c.in-Some.part.clauses + c.saturating_sub-between.result)
+kept c =
     let ts = c.as_slice-given.result.now in
     let given = c.as_slice-given.ensures in
     let part = rw c.in-Some.is at c.in_ok-part.ensures in
@@ -18,20 +20,12 @@ overflow_add-result c =
     } in
     let light : weight (weights ts) < 2 ^ 100 = subst (λ (us : List Term). weight (weights us) < 2 ^ 100) (sym given) c.requires.light in
     let between : c.saturating_sub-between.result ≡ length c.in-Some.part.values.items - 1 = omega (arith, c.saturating_sub-between.ensures, ap length c.as_slice.ensures.value) in
-    let kept = kept_of ts c.weight_of-weight.result c.args.budget c.in-Some.part c.saturating_sub-between.result table light c.weight_of-weight.ensures c.requires.modest part between in
-    omega (arith, kept.modest)
+    kept_of ts c.weight_of-weight.result c.args.budget c.in-Some.part c.saturating_sub-between.result table light c.weight_of-weight.ensures c.requires.modest part between
+
+pub overflow_add-result : goal.overflow_add-result
+overflow_add-result c = omega (arith, (kept (goal.at.overflow_add-result c).After-saturating_sub-between).modest)
 
 pub invariant_of-result : goal.invariant_of-result
 invariant_of-result c =
-    let ts = c.as_slice-given.result.now in
-    let given = c.as_slice-given.ensures in
-    let part = rw c.in-Some.is at c.in_ok-part.ensures in
-    let table : IsTable (weights ts) = record {
-      positive = subst (λ (us : List Term). AllPositive (weights us)) (sym given) c.requires.positive;
-      distinct = subst (λ (us : List Term). IsOverDistinct (weights us)) (sym given) c.requires.distinct;
-    } in
-    let light : weight (weights ts) < 2 ^ 100 = subst (λ (us : List Term). weight (weights us) < 2 ^ 100) (sym given) c.requires.light in
-    let between : c.saturating_sub-between.result ≡ length c.in-Some.part.values.items - 1 = omega (arith, c.saturating_sub-between.ensures, ap length c.as_slice.ensures.value) in
-    let kept = kept_of ts c.weight_of-weight.result c.args.budget c.in-Some.part c.saturating_sub-between.result table light c.weight_of-weight.ensures c.requires.modest part between in
-    let same : ts ≡ c.extend_from_slice.new.self.items = search rules in
-    subst (λ (us : List Term). IsKeptTable us c.weight_of-weight.result c.in-Some.part.values.items c.in-Some.part.fresh (c.in-Some.part.clauses + c.saturating_sub-between.result)) same kept
+    let same : c.as_slice-given.result.now ≡ c.extend_from_slice.new.self.items = search rules in
+    subst (λ (us : List Term). IsKeptTable us c.weight_of-weight.result c.in-Some.part.values.items c.in-Some.part.fresh (c.in-Some.part.clauses + c.saturating_sub-between.result)) same (kept (goal.at.invariant_of-result c).After-saturating_sub-between)

@@ -47,15 +47,6 @@ returns-in_err-derive_node-clause-hands g c =
     let given : List Justification = node_given (self.whole.now.bound + 1) parts.left.now parts.lefts.now parts.right.now parts.rights.now c.in_ok-own.own in
     steps_same result _ _ old new (same.steps old.next) (steps_stopped result _ (claim_steps old.next (map by_justification given)) old new c.from_residual-in_err-derive_node.ensures.1 c.in_err-derive_node.ensures)
 
-pub returns-clause-hands : goal.returns-clause-hands
-returns-clause-hands g c =
-    let parts = c.args.parts.now in
-    let self = c.args.self.now in
-    let same = own_steps self.whole.now.bound c.requires.parts c.requires.suits.positive self.id parts.left.now parts.right.now c.in_ok-own.own c.requires.left c.requires.right c.in_ok-own.ensures.values c.in_ok-own.ensures.id in
-    let old = g.T.StepSink.state c.args.sink.now in
-    let done : Result (Unit {0}) SinkFault = Ok tt in
-    steps_same done _ _ old (g.T.StepSink.state c.derive_node.new.sink) (same.steps old.next) c.in_ok-derive_node.ensures
-
 pub overflow_add-next : goal.overflow_add-next
 overflow_add-next g c =
     let own = node_of c.requires.parts c.requires.suits c.requires.left.values_are c.requires.right.values_are c.in_ok-own.ensures.values in
@@ -69,18 +60,22 @@ invariant_of-part g c =
       ids = omega (arith, own.within, c.args.self.now.ids);
     }
 
-pub returns-clause-next : goal.returns-clause-next
-returns-clause-next g c =
-    let own = node_of c.requires.parts c.requires.suits c.requires.left.values_are c.requires.right.values_are c.in_ok-own.ensures.values in
-    omega (arith, own.after)
-
-pub returns-clause-leaves : goal.returns-clause-leaves
-returns-clause-leaves g c =
-    let w = c.args.self.now.whole.now in
+pub returns : goal.returns
+returns g c =
+    let parts = c.args.parts.now in
+    let self = c.args.self.now in
+    let w = self.whole.now in
     let us = c.in_ok-own.own.values.items in
     let own = node_of c.requires.parts c.requires.suits c.requires.left.values_are c.requires.right.values_are c.in_ok-own.ensures.values in
+    let same = own_steps w.bound c.requires.parts c.requires.suits.positive self.id parts.left.now parts.right.now c.in_ok-own.own c.requires.left c.requires.right c.in_ok-own.ensures.values c.in_ok-own.ensures.id in
+    let old = g.T.StepSink.state c.args.sink.now in
+    let done : Result (Unit {0}) SinkFault = Ok tt in
     record {
-      values_are = own.values_are;
-      ids_are = own_source w.bound c.requires.parts c.args.self.now.id us own.values_are;
-      within = all_within w.bound (tree_of (weights c.args.parts.now.terms.now)) us own.values_are;
+      hands = steps_same done _ _ old (g.T.StepSink.state c.derive_node.new.sink) (same.steps old.next) c.in_ok-derive_node.ensures;
+      next = omega (arith, own.after);
+      leaves = record {
+        values_are = own.values_are;
+        ids_are = own_source w.bound c.requires.parts self.id us own.values_are;
+        within = all_within w.bound (tree_of (weights parts.terms.now)) us own.values_are;
+      };
     }

@@ -38,30 +38,23 @@ returns-in_err-part-clause-hands g c =
     stops_fault {all = all} c.from_residual.result _ all [] new c.from_residual.ensures.1 (emitting_from old (sym (append-nil all)))
     (stops_as _ all _ old new same c.in_err-part.ensures.hands)
 
-pub returns-clause-hands : goal.returns-clause-hands
-returns-clause-hands g c =
-    let parts = c.args.parts.now in
-    let w = c.args.self.now.whole.now in
-    let same = parts_own w.bound c.requires.parts w.first parts.left.now parts.right.now c.requires.left c.requires.right in
-    takes_as _ _ (g.S.ClauseSink.state c.args.sink.now) (g.S.ClauseSink.state c.emit_over.new.sink) same c.in_ok-part.ensures.hands
-
 pub overflow_add-next : goal.overflow_add-next
 overflow_add-next g c =
     let own = node_of c.requires.parts c.requires.suits c.requires.left.values_are c.requires.right.values_are c.in_ok-part.ensures.values in
     omega (arith, own.within, c.args.self.now.whole.now.whole.fits)
 
-pub returns-clause-next : goal.returns-clause-next
-returns-clause-next g c =
-    let own = node_of c.requires.parts c.requires.suits c.requires.left.values_are c.requires.right.values_are c.in_ok-part.ensures.values in
-    omega (arith, own.after)
-
-pub returns-clause-leaves : goal.returns-clause-leaves
-returns-clause-leaves g c =
+pub returns : goal.returns
+returns g c =
     let parts = c.args.parts.now in
     let w = c.args.self.now.whole.now in
     let own = node_of c.requires.parts c.requires.suits c.requires.left.values_are c.requires.right.values_are c.in_ok-part.ensures.values in
+    let same = parts_own w.bound c.requires.parts w.first parts.left.now parts.right.now c.requires.left c.requires.right in
     record {
-      values_are = own.values_are;
-      outputs_are = c.in_ok-part.ensures.outputs ∙ parts_output w.bound c.requires.parts w.first parts.left.now parts.right.now c.requires.left c.requires.right;
-      within = c.in_ok-part.ensures.within;
+      hands = takes_as _ _ (g.S.ClauseSink.state c.args.sink.now) (g.S.ClauseSink.state c.emit_over.new.sink) same c.in_ok-part.ensures.hands;
+      next = omega (arith, own.after);
+      leaves = record {
+        values_are = own.values_are;
+        outputs_are = c.in_ok-part.ensures.outputs ∙ parts_output w.bound c.requires.parts w.first parts.left.now parts.right.now c.requires.left c.requires.right;
+        within = c.in_ok-part.ensures.within;
+      };
     }
