@@ -1,5 +1,5 @@
 -- The parts that the code puts together are those of the constraint that is meant.
-use Rattle.std.proofs.Common.{◌≡◌, ◌≤◌, ◌<◌, ◌+◌, ◌-◌, ◌*◌, ◌^◌, ℕ, zero, suc, Bool, true, false, cond, List, [], ◌∷◌, arith, refl, ap, sym, ◌∙◌, ltb, subst, ◌||◌, length, get_or, drop, drop-cons}
+use Rattle.std.proofs.Common.{◌≡◌, ◌≤◌, ◌<◌, ◌+◌, ◌-◌, ◌*◌, ◌^◌, ℕ, zero, suc, Bool, true, false, cond, List, [], ◌∷◌, arith, refl, ap, sym, ◌∙◌, ltb, subst, ◌||◌, ◌⊎◌, inl, inr, length, get_or, drop, drop-cons}
 use Rattle.std.specs.Prelude.{All, sum_by, map, filter, pos, ◌≤ℤ◌}
 use Rattle.std.proofs.lemmas.Bool.{ltb-true, lt-ltb, and_parts, and_from}
 use Rattle.std.proofs.lemmas.List.Elements.{All-map, All-weaker, All-filter, filter_passes}
@@ -170,14 +170,21 @@ weakening-made v c ts us vs lost degree h e f g k m unsigned = record {
 
 -- ---- weakenings one after the other
 
+-- an operation weakens, or nothing changes
+weakened_by-cases : (op : PolOp) → ((v : ℕ) × (op ≡ Weaken v)) ⊎ ((c : Constraint) → weakened_by op c ≡ c)
+weakened_by-cases (Push id) = inr (λ c. refl)
+weakened_by-cases (Axiom l) = inr (λ c. refl)
+weakened_by-cases Add = inr (λ c. refl)
+weakened_by-cases (Mul n) = inr (λ c. refl)
+weakened_by-cases (Div n) = inr (λ c. refl)
+weakened_by-cases Saturate = inr (λ c. refl)
+weakened_by-cases (Weaken v) = inl (v, refl)
+
 weakened_by-linear : (op : PolOp) (c : Constraint) → IsLinear c → IsLinear (weakened_by op c)
-weakened_by-linear (Push id) c h = h
-weakened_by-linear (Axiom l) c h = h
-weakened_by-linear Add c h = h
-weakened_by-linear (Mul n) c h = h
-weakened_by-linear (Div n) c h = h
-weakened_by-linear Saturate c h = h
-weakened_by-linear (Weaken v) c h = weakening-linear v c h
+weakened_by-linear op c h = elim (weakened_by-cases op) [
+  | inl weakens ↦ subst (λ (o : PolOp). IsLinear (weakened_by o c)) (sym weakens.1) (weakening-linear weakens.0 c h)
+  | inr same ↦ subst IsLinear (sym (same c)) h
+]
 
 weakened-linear : (ops : List PolOp) (c : Constraint) → IsLinear c → IsLinear (weakened ops c)
 weakened-linear [] c h = h
@@ -215,13 +222,7 @@ weakening-step op v ts us items degree lost left is e f keeps g k ascending unsi
     }
 
 weakened_by-other : (op : PolOp) (c : Constraint) → ((v : ℕ) → op ≡ Weaken v → ⊥) → weakened_by op c ≡ c
-weakened_by-other (Push id) c other = refl
-weakened_by-other (Axiom l) c other = refl
-weakened_by-other Add c other = refl
-weakened_by-other (Mul n) c other = refl
-weakened_by-other (Div n) c other = refl
-weakened_by-other Saturate c other = refl
-weakened_by-other (Weaken v) c other = absurd (other v refl)
+weakened_by-other op c other = elim (weakened_by-cases op) [ inl weakens ↦ absurd (other weakens.0 weakens.1) | inr same ↦ same c ]
 
 pub other-step : (op : PolOp) (ts us : List Term) (degree left : ℕ) → ((v : ℕ) → op ≡ Weaken v → ⊥) → us ≡ ts → left ≡ degree → IsAscending (weights ts) → AreUnsigned ts → IsStep op ts degree us left
 other-step op ts us degree left other e f ascending unsigned =

@@ -1,6 +1,6 @@
 //! What follows from a constraint term by term.
 ghost use Rattle.std.specs.Prelude.{◌≡◌, ◌≤◌, ◌<◌, ◌^◌, drop, map, sum_by};
-ghost use Rattle.pb_norm.specs.Constraints.{weights, weighted, weight, IsAscending};
+ghost use Rattle.pb_norm.specs.Constraints.{weights, weight, IsAscending};
 ghost use Rattle.pb_norm.specs.Addition.{coef_of};
 ghost use Rattle.pb_steps.specs.Operations.{implies, negation};
 ghost use Rattle.pb_operations.specs.inner.Sides.{StartsFrom, SameFrom, exceeding, turned, turned_lit};

@@ -3,7 +3,7 @@ use Rattle.pb_base.specs.declared.literal.Lit.{Lit}
 use Rattle.pb_norm.specs.Constraints.{weights, weighted}
 use Rattle.pb_norm.specs.Addition.{coef_of}
 use Rattle.pb_operations.specs.inner.Sides.{StartsFrom, turned_lit}
-use Rattle.pb_operations.proofs.Excesses.{IsExcessSoFar, IsTermAt, excess_more, excess-fits}
+use Rattle.pb_operations.proofs.Excesses.{IsTermAt, excess_more, excess-fits}
 use Rattle.pb_operations.proofs.implication.excess.Goals as goal
 
 pub coef_at-requires-clause-starts : goal.coef_at-requires-clause-starts
