@@ -1,3 +1,4 @@
+pub mod Appends
 pub mod Carried
 pub mod ClauseClaims
 pub mod Closed
@@ -6,6 +7,7 @@ pub mod Deleted
 pub mod Exact
 pub mod Fine
 pub mod FollowedBy
+pub mod Fronts
 pub mod Held
 pub mod InRow
 pub mod Justified

@@ -7,7 +7,6 @@ use Rattle.std.proofs.lemmas.List.Elements.{All-nil, All-cons, All-map, All-weak
 use Rattle.pb_base.specs.declared.literal.Lit.{Lit}
 use Rattle.pb_base.specs.declared.literal.Term.{Term}
 use Rattle.pb_base.specs.Literals.{is_among}
-use Rattle.pb_base.specs.Problems.{magnitude}
 use Rattle.pb_norm.specs.Constraints.{Weighted, Constraint, IsAscending, weight}
 use Rattle.pb_norm.specs.Addition.{coef_of}
 use Rattle.pb_norm.specs.ClauseForm.{distinct, one_of, clause_form}

@@ -1,14 +1,10 @@
 -- One or two constraints that are added, and literals of short clauses.
-use Rattle.std.proofs.Common.{◌≡◌, ◌+◌, ◌||◌, ◌⊎◌, inl, inr, ℕ, true, false, [], ◌∷◌, arith}
+use Rattle.std.proofs.Common.{◌≡◌, ◌||◌, ◌⊎◌, inl, inr, ℕ, true, false, [], ◌∷◌}
 use Rattle.std.specs.Prelude.{Contains}
 use Rattle.std.proofs.lemmas.Bool.{cases_Bool, or_parts}
 use Rattle.pb_base.specs.declared.literal.Lit.{Lit}
-use Rattle.pb_base.specs.Literals.{Assignment, is_same, is_among}
+use Rattle.pb_base.specs.Literals.{is_same, is_among}
 use Rattle.pb_base.proofs.Members.{Contains-nil, Contains-cons_cases}
-use Rattle.pb_norm.specs.Constraints.{Constraint, weight, value}
-use Rattle.pb_norm.specs.Addition.{coef_of}
-use Rattle.pb_derive.specs.inner.Follows.{degrees, weight_in, value_in, coef_in}
-use Rattle.pb_derive.proofs.Closing.{degrees-cons, weight_in-cons, value_in-cons, coef_in-cons}
 
 -- a literal is one of two, or neither
 pub cases_two : (x y l : Lit) → (is_among (x ∷ y ∷ []) l ≡ true) ⊎ ((is_same x l ≡ false) × (is_same y l ≡ false))

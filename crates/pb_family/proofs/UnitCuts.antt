@@ -13,7 +13,8 @@ use Rattle.pb_norm.specs.BoundedSums.{BoundedSum, IsOverDistinct, vars_of}
 use Rattle.pb_norm.specs.Reduction.{lits_of, all_weigh}
 use Rattle.pb_norm.proofs.Proper.{apart}
 use Rattle.pb_derive.specs.Forms.{AreApartTerms}
-use Rattle.pb_derive.proofs.Sides.{Side, side_none, side_leaf, weight-append}
+use Rattle.pb_derive.proofs.Appends.{weight-append}
+use Rattle.pb_derive.proofs.Sides.{Side, side_none, side_leaf}
 use Rattle.pb_derive.proofs.UnitTerms.{weight-ones}
 use Rattle.pb_family.specs.Families.{VarsBelow}
 use Rattle.pb_family.specs.Fresh.{positive_of, literal_at}

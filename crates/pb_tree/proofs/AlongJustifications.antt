@@ -7,7 +7,7 @@ use Rattle.pb_base.proofs.Members.{All-append_both}
 use Rattle.pb_norm.specs.Constraints.{Weighted, Constraint, weight}
 use Rattle.pb_derive.specs.Justifications.{Justification}
 use Rattle.pb_derive.proofs.Justified.{IsJustified, IsWhole, ReificationsKnown}
-use Rattle.pb_derive.proofs.Sides.{weight-append}
+use Rattle.pb_derive.proofs.Appends.{weight-append}
 use Rattle.pb_tree.specs.Scheme.{Scheme, fresh_of, along}
 use Rattle.pb_tree.specs.Tree.{Tree, empty, leaf, node, IsLeafOf}
 use Rattle.pb_tree.specs.TreeSteps.{leaves, reifications, justifications_along}

@@ -22,7 +22,8 @@ use Rattle.pb_tree.proofs.AlongJustifications.{clause_in, along_clauses, along_j
 use Rattle.pb_tree.proofs.PairLists.{map-append}
 use Rattle.pb_tree.proofs.TreeReifications.{reification, output_known, known_left, known_right}
 use Rattle.pb_tree.proofs.TreeParts.{IsOver, IsPart, AreFromParts, given_value, given_part, over_left, over_right}
-use Rattle.pb_derive.proofs.Sides.{follows_pair, follows_root, weight-append}
+use Rattle.pb_derive.proofs.Appends.{weight-append}
+use Rattle.pb_derive.proofs.Sides.{follows_pair, follows_root}
 
 -- each leaf adds something
 abbrev pub IsPositive : Scheme → Tree → Type 0

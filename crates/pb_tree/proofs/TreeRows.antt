@@ -10,7 +10,7 @@ use Rattle.pb_derive.specs.Forms.{AreApartTerms}
 use Rattle.pb_derive.specs.Reifications.{Reification}
 use Rattle.pb_derive.proofs.InRow.{AreInRow, row-append}
 use Rattle.pb_derive.proofs.Justified.{IsReached, IsSum}
-use Rattle.pb_derive.proofs.Sides.{weight-append}
+use Rattle.pb_derive.proofs.Appends.{weight-append}
 use Rattle.pb_tree.specs.Pairs.{Pair}
 use Rattle.pb_tree.specs.Scheme.{Scheme, values, fresh_of}
 use Rattle.pb_tree.specs.Tree.{Tree, empty, leaf, node, split_within, tree_of, IsLeafOf}

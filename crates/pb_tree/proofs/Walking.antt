@@ -4,7 +4,7 @@ use Rattle.pb_base.specs.declared.literal.Term.{Term}
 use Rattle.pb_base.proofs.Members.{All-append_both}
 use Rattle.pb_norm.specs.Constraints.{AllPositive, Weighted, weight, weights}
 use Rattle.pb_derive.specs.Justifications.{Justification}
-use Rattle.pb_derive.proofs.Sides.{weight-append}
+use Rattle.pb_derive.proofs.Appends.{weight-append}
 use Rattle.pb_tree.specs.Halves.{Halves}
 use Rattle.pb_tree.specs.Scheme.{Scheme, values, along, fresh_of}
 use Rattle.pb_tree.specs.Tree.{Tree, empty, leaf, node, tree_of}

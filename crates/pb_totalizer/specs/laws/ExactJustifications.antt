@@ -16,7 +16,8 @@ use Rattle.pb_derive.specs.Reifications.{forward_of, reverse_of, spare}
 use Rattle.pb_derive.specs.inner.Follows.{AllKnown, FollowsFrom}
 use Rattle.pb_derive.proofs.Justified.{IsJustified, IsWhole, ReificationsKnown}
 use Rattle.pb_derive.proofs.Opposites.{weight-opposite, opposite-twice, opposite-append}
-use Rattle.pb_derive.proofs.Sides.{Side, headed, side_none, side_leaf, side_headed, follows_headed, follows_root, weight-append}
+use Rattle.pb_derive.proofs.Appends.{weight-append}
+use Rattle.pb_derive.proofs.Sides.{Side, headed, side_none, side_leaf, side_headed, follows_headed, follows_root}
 use Rattle.pb_family.specs.Fresh.{positive_of}
 use Rattle.pb_family.proofs.Filters.{Contains-filter_cases}
 use Rattle.pb_tree.specs.Pairs.{Pair, pair_of}
