@@ -8,7 +8,7 @@ use Rattle.pb_norm.specs.Propagation.{room}
 use Rattle.pb_unit.specs.declared.kept.Counters.{Counters}
 use Rattle.pb_unit.specs.States.{Stands, at_place, placed, StandWithin}
 use Rattle.pb_unit.specs.Steps.{IsAlert}
-use Rattle.pb_unit.specs.Index.{Lists, terms_at, room_at, alert_at, IsCounted, IsEntered, IsStore, AreListed}
+use Rattle.pb_unit.specs.Index.{Lists, terms_at, room_at, alert_at, IsEntered, IsStore, AreListed}
 use Rattle.pb_unit.proofs.Queueing.{room-nil}
 
 -- ---- lists with one more

@@ -1,8 +1,6 @@
 //! Assumed literals, and what constraints make of them.
-ghost use Rattle.std.specs.Prelude.{◌≡◌, ◌≤◌, ◌<◌, ◌^◌, ◌-ℤ◌, if◌then◌else◌, not, true, is_some, pos, map, [], IfOk, IsErr};
-ghost use Rattle.std.specs.Bool.{OnTrue};
+ghost use Rattle.std.specs.Prelude.{◌≡◌, ◌≤◌, ◌<◌, if◌then◌else◌, not, true, is_some, IfOk, IsErr};
 ghost use Rattle.pb_norm.specs.Constraints.{HasVarsWithin, AreVarsWithin};
-ghost use Rattle.pb_unit.specs.Index.{IsStore};
 ghost use Rattle.pb_base.specs.Literals.{negated, is_among};
 ghost use Rattle.pb_unit.specs.States.{IsReached, IsFree, at_place, started, assumed, cleared, added, removed, slack_at};
 ghost use Rattle.pb_unit.specs.Outcomes.{AnswersOf};
@@ -10,10 +8,10 @@ ghost use Rattle.pb_unit.specs.Ends.{Ends};
 ghost use Rattle.pb_base.specs.declared.literal.Lit.{Lit};
 
 use crate::constraints::Constraints;
+use crate::garbage::Garbage;
 use crate::kept::room_of;
 use crate::queue::Queue;
 use crate::rounds::Rounds;
-use crate::store::{self, Garbage};
 use crate::trail::Trail;
 use pb_base::{Lit, NoMemory};
 use pb_norm::Linear;
@@ -140,7 +138,9 @@ impl Engine {
             return Err(NoMemory);
         }
         self.queue.rewind();
-        let place = store::free_place(&self.queue.places, &self.queue.kept, &mut self.garbage);
+        let place = self
+            .garbage
+            .free_place(&self.queue.places, &self.queue.kept);
         if !self.queue.put(self.alloc, place, copy) {
             return Err(NoMemory);
         }

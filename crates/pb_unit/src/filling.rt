@@ -1,8 +1,8 @@
 //! The index of the first constraints, a range of literals at a time, so that what is written lies close together.
-ghost use Rattle.std.specs.Prelude.{◌≡◌, ◌≤◌, ◌<◌, ◌+◌, ◌*◌, [], ◌∷◌, ◌++◌, map, length, All, IfOk};
+ghost use Rattle.std.specs.Prelude.{◌≡◌, ◌<◌, ◌+◌, ◌*◌, [], map, length, All, IfOk};
 ghost use Rattle.std.specs.Bool.{OnTrue};
 ghost use Rattle.pb_base.specs.declared.literal.Lit.{Lit};
-ghost use Rattle.pb_norm.specs.Constraints.{weighted, weights};
+ghost use Rattle.pb_norm.specs.Constraints.{weights};
 ghost use Rattle.pb_unit.specs.inner.Filling.{terms_in, AddsPlace, AddsTerm, AreNumbered, IsFilled, IsFilling, IsInRange};
 ghost use Rattle.pb_unit.specs.Index.{code, list_at, size_of};
 ghost use Rattle.pb_unit.specs.inner.Slots.{unit, slot_at, AreSlots, IsSlot};

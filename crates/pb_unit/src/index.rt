@@ -1,5 +1,5 @@
 //! For each literal, the constraints in which it stands.
-ghost use Rattle.std.specs.Prelude.{◌≡◌, ◌≤◌, ◌<◌, ◌+◌, ◌*◌, ◌^◌, ◌==◌, ◌++◌, ◌∷◌, [], ℕ, List, length, IfOk, if◌then◌else◌, slice_set, slice_index, slice_index_or, filter, is_some, take, IfSome, IsNone};
+ghost use Rattle.std.specs.Prelude.{◌≡◌, ◌≤◌, ◌<◌, ◌+◌, ◌*◌, ◌^◌, ◌==◌, ◌++◌, ◌∷◌, [], ℕ, List, length, IfOk, if◌then◌else◌, slice_set, slice_index_or, filter, is_some, take, IfSome, IsNone};
 ghost use Rattle.std.specs.Bool.{OnTrue, OnFalse};
 ghost use Rattle.pb_unit.specs.Index.{code, section, size_of, units_at, others_at, that_stand, IsAscending, IsSectioned, IsPushed, AreSame, HasOneMore};
 ghost use Rattle.pb_unit.specs.States.{at_place};

@@ -1,10 +1,10 @@
 //! The room that is kept of each constraint.
-ghost use Rattle.std.specs.Prelude.{◌≡◌, ◌≤◌, ◌<◌, ◌+◌, ◌^◌, ◌∷◌, [], ℕ, nat_lt, List, length, map, All, take, Some};
-ghost use Rattle.pb_norm.specs.Constraints.{weight, weights};
+ghost use Rattle.std.specs.Prelude.{◌≡◌, ◌≤◌, ◌<◌, ◌+◌, ◌^◌, ◌∷◌, [], nat_lt, length, map, Some};
+ghost use Rattle.pb_norm.specs.Constraints.{weight};
 ghost use Rattle.pb_unit.specs.Steps.{IsAlert};
 ghost use Rattle.pb_unit.specs.inner.Filling.{IsKeptOf};
 ghost use Rattle.pb_unit.specs.inner.Tellable.{AreRaisable};
-ghost use Rattle.pb_unit.specs.Index.{unit_at, sum_at, room_at, alert_at, AreLowered};
+ghost use Rattle.pb_unit.specs.Index.{unit_at, room_at, alert_at, AreLowered};
 
 use crate::index::Occurrence;
 use pb_norm::Linear;

@@ -1,5 +1,5 @@
 //! The newest items of a list.
-ghost use Rattle.std.specs.Prelude.{◌≡◌, ◌<◌, true, length, slice_index_or, IfSome};
+ghost use Rattle.std.specs.Prelude.{◌<◌, true, length, slice_index_or, IfSome};
 ghost use Rattle.std.specs.Fn.{FnReturnsAt};
 
 // So many of the newest are looked at where a constraint goes: one that came late is found, and none costs more.

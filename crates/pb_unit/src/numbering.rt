@@ -1,7 +1,7 @@
 //! Variables by their places among those that occur, so that tables over them are no longer than the text.
 ghost use Rattle.std.specs.Prelude.{◌≡◌, ◌≤◌, ◌<◌, ◌+◌, ◌^◌, ◌++◌, ◌∷◌, [], ℕ, length, map, All, Contains, IfOk, OnOk};
 ghost use Rattle.pb_norm.specs.Constraints.{constraint_of, weights, AreUnsigned, IsLinear};
-ghost use Rattle.pb_unit.specs.Reaching.{IsUpTo, OfConstraint, OfLit, OfTerm};
+ghost use Rattle.pb_unit.specs.Reaching.{IsUpTo, OfConstraint, OfLit};
 ghost use Rattle.pb_unit.specs.Reads.{lit_count};
 ghost use Rattle.pb_unit.specs.Renaming.{all_vars, form_vars, lit_vars, name_at, number_in, renamed, renamed_lit, term_vars, AreNamed, AreNames, IsName};
 
@@ -71,7 +71,7 @@ fn vars_of(alloc: Global, forms: &Constraints, lits: &[Lit]) -> Result<Vec<u32>,
 }
 
 /// The literal of a variable.
-pub fn lit_at(index: u32, positive: bool) -> Lit
+pub(crate) fn lit_at(index: u32, positive: bool) -> Lit
     requires low { 1 ≤ index }
     requires high { index < 2 ^ 31 }
     ensures { result ≡ record { var = index; positive = positive } }
@@ -84,7 +84,7 @@ pub fn lit_at(index: u32, positive: bool) -> Lit
 
 /// Variables, each once, ascending.
 #[derive(Drop)]
-pub struct Names {
+pub(crate) struct Names {
     vars: Vec<u32>,
 }
 
@@ -101,7 +101,7 @@ impl Model for Names {
 
 impl Names {
     /// The variables of constraints and of literals.
-    pub fn of(alloc: Global, forms: &Constraints, lits: &[Lit]) -> Result<Names, NoMemory>
+    pub(crate) fn of(alloc: Global, forms: &Constraints, lits: &[Lit]) -> Result<Names, NoMemory>
         ensures named { IfOk result (λ names. AreNamed names forms.now lits.now) }
         ensures few { IfOk result (λ names. length names ≤ lit_count forms.now + length lits.now) }
     {
@@ -112,7 +112,7 @@ impl Names {
     }
 
     /// How many there are: fewer than 2^31.
-    pub fn len(&self) -> usize
+    pub(crate) fn len(&self) -> usize
         ensures value { result ≡ length self.now }
         ensures names { AreNames self.now }
     {
@@ -188,7 +188,7 @@ fn push_numbered(
 }
 
 /// Constraints over the places of their variables.
-pub fn numbered_forms(
+pub(crate) fn numbered_forms(
     alloc: Global,
     names: &Names,
     forms: &Constraints,
@@ -202,7 +202,11 @@ pub fn numbered_forms(
 }
 
 /// Literals over the places of their variables.
-pub fn numbered_lits(alloc: Global, names: &Names, lits: &[Lit]) -> Result<Vec<Lit>, AllocError>
+pub(crate) fn numbered_lits(
+    alloc: Global,
+    names: &Names,
+    lits: &[Lit],
+) -> Result<Vec<Lit>, AllocError>
     requires { All (OfLit (Contains names.now)) lits.now }
     ensures { IfOk result (λ v. v.items ≡ map (renamed_lit (number_in names.now)) lits.now) }
 {
@@ -214,7 +218,7 @@ pub fn numbered_lits(alloc: Global, names: &Names, lits: &[Lit]) -> Result<Vec<L
 }
 
 /// The literals of the variables at their places.
-pub fn named_lits(alloc: Global, names: &Names, lits: &[Lit]) -> Result<Vec<Lit>, AllocError>
+pub(crate) fn named_lits(alloc: Global, names: &Names, lits: &[Lit]) -> Result<Vec<Lit>, AllocError>
     requires { All (OfLit (IsUpTo (length names.now))) lits.now }
     ensures { IfOk result (λ v. v.items ≡ map (renamed_lit (name_at names.now)) lits.now) }
 {

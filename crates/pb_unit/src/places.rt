@@ -1,5 +1,5 @@
 //! Constraints by their places.
-ghost use Rattle.std.specs.Prelude.{◌≡◌, ◌≤◌, ◌<◌, ◌+◌, ◌*◌, ◌-◌, ◌^◌, ◌++◌, ◌∷◌, [], if◌then◌else◌, ℕ, List, Some, None, IsTrue, IfOk, IfSome, OnOk, All, length, map, take, is_some, nat_lt, slice_set, sum_by};
+ghost use Rattle.std.specs.Prelude.{◌≡◌, ◌≤◌, ◌<◌, ◌+◌, ◌*◌, ◌-◌, ◌^◌, ◌++◌, ◌∷◌, [], if◌then◌else◌, ℕ, List, Some, None, IsTrue, IfOk, IfSome, OnOk, All, length, map, take, is_some, slice_set, sum_by};
 ghost use Rattle.std.specs.Bool.{OnTrue, OnFalse};
 ghost use Rattle.std.specs.Option.{option_map};
 ghost use Rattle.pb_base.specs.declared.literal.Lit.{Lit};

@@ -1,13 +1,13 @@
 //! Propagation with kept rooms, occurrences of literals and a queue.
-ghost use Rattle.std.specs.Prelude.{◌≡◌, ◌≤◌, ◌<◌, ◌+◌, ◌^◌, ◌∷◌, [], ℕ, List, length, map, All, IfOk, IfSome, IsNone};
+ghost use Rattle.std.specs.Prelude.{◌≡◌, ◌≤◌, ◌<◌, ◌+◌, ◌∷◌, [], ℕ, List, length, map, All, IfOk, IfSome, IsNone};
 ghost use Rattle.std.specs.Bool.{OnTrue, OnFalse};
 ghost use Rattle.pb_base.specs.declared.literal.Lit.{Lit};
 ghost use Rattle.pb_norm.specs.Constraints.{Constraint, weight};
 ghost use Rattle.pb_norm.specs.Propagation.{room};
 ghost use Rattle.pb_unit.specs.States.{StandWithin, Stands, standing};
-ghost use Rattle.pb_unit.specs.Steps.{IsAlert, IsCalm, Advances, HasTooLittle};
+ghost use Rattle.pb_unit.specs.Steps.{Advances, HasTooLittle};
 ghost use Rattle.pb_unit.specs.Trails.{oldest};
-ghost use Rattle.pb_unit.specs.Index.{code, size_of, unit_at, list_at, IsStore, AreListed, AreAlerts, sum_at, room_at, alert_at, HasRoom, IsCalmAt, AreCalm, AreLowered, IsTold, IsCounted};
+ghost use Rattle.pb_unit.specs.Index.{code, size_of, unit_at, list_at, IsStore, AreListed, AreAlerts, room_at, alert_at, IsCalmAt, AreCalm, AreLowered, IsTold, IsCounted};
 ghost use Rattle.pb_unit.specs.Counters.{IsUntold, IsInQueue, IsAtNow};
 ghost use Rattle.pb_unit.specs.inner.Tellable.{AreRaisable, AreTellable, IsTellable};
 ghost use Rattle.pb_unit.specs.Ends.{Ends};

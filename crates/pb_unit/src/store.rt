@@ -1,15 +1,15 @@
 //! Constraints at their places, with the index of their literals and their rooms.
-ghost use Rattle.std.specs.Prelude.{◌≡◌, ◌≤◌, ◌<◌, ◌+◌, ◌^◌, ◌∷◌, ◌++◌, [], ◌⊎◌, ◌*◌, if◌then◌else◌, max, filter, IfOk, ℕ, List, length, All, Contains, IfSome, None, is_some, vec_capacity, slice_index_or, slice_set, IsTrue};
+ghost use Rattle.std.specs.Prelude.{◌≡◌, ◌≤◌, ◌<◌, ◌+◌, ◌^◌, ◌∷◌, ◌++◌, [], ◌⊎◌, ◌*◌, if◌then◌else◌, max, filter, IfOk, ℕ, length, Contains, IfSome, None, is_some, vec_capacity, slice_index_or, slice_set, IsTrue};
 ghost use Rattle.std.specs.Bool.{OnTrue, OnFalse};
-ghost use Rattle.pb_norm.specs.Constraints.{Weighted, Constraint, weight, weighted, weights, HasVarsWithin};
+ghost use Rattle.pb_norm.specs.Constraints.{Constraint, weight, weighted, weights, HasVarsWithin};
 ghost use Rattle.pb_unit.specs.States.{Stands, at_place, placed};
-ghost use Rattle.pb_unit.specs.Steps.{IsAlert};
 ghost use Rattle.pb_unit.specs.inner.Filling.{AreLaid};
 ghost use Rattle.pb_base.specs.declared.literal.Lit.{Lit};
-ghost use Rattle.pb_unit.specs.Index.{Enters, list_at, size_of, room_at, alert_at, AreListed, IsCounted, IsEntered, IsStore};
+ghost use Rattle.pb_unit.specs.Index.{Enters, room_at, alert_at, IsCounted, IsEntered, IsStore};
 
+use crate::garbage::Garbage;
 use crate::index::{Index, Occurrence, code};
-use crate::kept::{Counters, alert_of, lower, raise, room_of};
+use crate::kept::{Counters, alert_of, lower, raise};
 use crate::newest::newest_that;
 use crate::places::{Places, Slot};
 use crate::queue::Queue;
@@ -17,114 +17,6 @@ use crate::spot::Spot;
 use pb_base::{Lit, NoMemory, Term};
 use pb_norm::Linear;
 use std::alloc::Global;
-
-/// What removed constraints have left behind. These are counts and hints: nothing is true by them.
-#[derive(Drop)]
-pub(crate) struct Garbage {
-    /// So many terms may be left before a sweep pays for itself.
-    limit: usize,
-    /// So many terms are left.
-    terms: usize,
-    /// So many listed places are left.
-    listed: usize,
-    /// From this place on there may be a free one.
-    next: usize,
-    /// Places of which no term is left.
-    free: Vec<u32>,
-}
-
-impl Garbage {
-    // None yet, with so many places.
-    pub(crate) fn new(alloc: Global, places: usize) -> Garbage {
-        Garbage {
-            limit: places,
-            terms: 0,
-            listed: 0,
-            next: places,
-            free: Vec::new(alloc),
-        }
-    }
-
-    // Room to note each of so many places and one more, if there is memory.
-    pub(crate) fn reserve(&mut self, places: usize) -> bool {
-        if places < self.free.capacity() {
-            return true;
-        }
-        self.free
-            .reserve(places.saturating_add(places / 2 + 8))
-            .is_ok()
-    }
-
-    // A place of which no term is left. There is room to note it, or it is found by the next sweep.
-    fn note(&mut self, place: usize) {
-        if place <= u32::MAX as usize && self.free.len() < self.free.capacity() {
-            let _ = self.free.push(place as u32);
-        }
-    }
-
-    // A constraint goes, and so many of its terms are left.
-    fn count(&mut self, place: usize, terms: usize, is_listed: bool) {
-        self.terms = self.terms.saturating_add(terms);
-        if terms == 0 {
-            self.note(place);
-        }
-        if is_listed {
-            self.listed = self.listed.saturating_add(1);
-        }
-    }
-
-    // A constraint came to the place.
-    pub(crate) fn take(&mut self, place: usize) {
-        self.next = self.next.max(place);
-    }
-
-    // All that was left is gone, and so much stands.
-    fn renew(&mut self, stands: usize) {
-        self.limit = stands / 2;
-        self.terms = 0;
-        self.next = 0;
-        self.free.clear();
-    }
-}
-
-// Whether a place has no constraint and no occurrences.
-fn is_free(places: &Places, kept: &[Counters], place: usize) -> bool
-    ensures { OnTrue result (place < length places.now × (at_place places.now place ≡ None) × (room_at kept.now place ≡ 0)) }
-{
-    place < places.len() && !places.stands(place) && room_of(kept, place) == 0
-}
-
-// A place without a constraint and without occurrences.
-pub(crate) fn free_place(places: &Places, kept: &[Counters], garbage: &mut Garbage) -> usize
-    requires { length kept.now ≡ length places.now }
-    ensures near { result ≤ length places.now }
-    ensures empty { at_place places.now result ≡ None }
-    ensures unused { room_at kept.now result ≡ 0 }
-{
-    if let Some(place) = garbage.free.pop()
-        && is_free(places, kept, place as usize)
-    {
-        return place as usize;
-    }
-    next_free(places, kept, garbage.next)
-}
-
-// The same from a place on, or the next.
-fn next_free(places: &Places, kept: &[Counters], from: usize) -> usize
-    requires { length kept.now ≡ length places.now }
-    ensures near { result ≤ length places.now }
-    ensures empty { at_place places.now result ≡ None }
-    ensures unused { room_at kept.now result ≡ 0 }
-{
-    let mut place = from;
-    while place < places.len() {
-        if !places.stands(place) && room_of(kept, place) == 0 {
-            return place;
-        }
-        place += 1;
-    }
-    places.len()
-}
 
 // Adds a term at a place to the index and to the room there, if there is memory.
 fn enter_one(
@@ -451,15 +343,15 @@ fn tidy(
     requires { IsStore vars places.now lists.old kept.old.items tight.old.items }
     ensures { IsStore vars places.now lists.new kept.new.items tight.new.items }
 {
-    let due = garbage.terms > garbage.limit;
-    let crowded = garbage.listed > tight.len() / 2;
+    let due = garbage.is_due();
+    let crowded = garbage.is_crowded(tight.len());
     sweep_if(due, lists, kept, tight, vars, places);
     prune_if(crowded, lists, kept, tight, vars, places);
     if due {
         garbage.renew(lists.len().saturating_add(places.len()));
     }
     if crowded {
-        garbage.listed = 0;
+        garbage.renew_listed();
     }
 }
 

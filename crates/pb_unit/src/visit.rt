@@ -1,6 +1,5 @@
 //! A visit to a constraint.
-ghost use Rattle.std.specs.Prelude.{◌≡◌, ◌≤◌, ◌<◌, ◌+◌, ◌-◌, All, map};
-ghost use Rattle.std.specs.Bool.{OnTrue, OnFalse};
+ghost use Rattle.std.specs.Prelude.{◌≡◌, ◌≤◌, ◌<◌, ◌-◌, All, map};
 ghost use Rattle.pb_norm.specs.Constraints.{weighted, weights, HasVarsWithin};
 ghost use Rattle.pb_unit.specs.inner.Slots.{unit, clause_of};
 ghost use Rattle.pb_unit.specs.Steps.{with_needed, with_all_needed, VisitShort, VisitJoined};

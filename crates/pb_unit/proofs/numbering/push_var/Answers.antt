@@ -1,4 +1,4 @@
-use Rattle.std.proofs.Common.{◌∙◌, ◌++◌, ◌∷◌, [], ℕ, List, ap, arith}
+use Rattle.std.proofs.Common.{◌∙◌, ◌++◌, ◌∷◌, [], ℕ, ap, arith}
 use Rattle.pb_unit.proofs.Pushed.{names_push}
 use Rattle.pb_unit.proofs.numbering.push_var.Goals as goal
 

@@ -1,6 +1,6 @@
-use Rattle.std.proofs.Common.{◌≡◌, ap, arith, length, ℕ, List, subst, sym}
+use Rattle.std.proofs.Common.{ap, arith, length, ℕ, List, subst, sym}
 use Rattle.std.specs.Prelude.{Contains}
-use Rattle.pb_unit.specs.Renaming.{all_vars, AreNamed}
+use Rattle.pb_unit.specs.Renaming.{all_vars}
 use Rattle.pb_unit.proofs.Numbers.{all_named, names_are, names_have, of_constraints, of_lits}
 use Rattle.pb_unit.proofs.Tabled.{length-all_vars}
 use Rattle.pb_unit.proofs.numbering.Names.of.Goals as goal

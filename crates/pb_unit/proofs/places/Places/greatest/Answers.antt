@@ -1,11 +1,9 @@
 use Rattle.std.proofs.Common.{List, Option, subst}
 use Rattle.std.specs.Prelude.{All}
 use Rattle.std.proofs.lemmas.List.Elements.{All-weaker}
-use Rattle.pb_base.specs.declared.literal.Lit.{Lit}
 use Rattle.pb_norm.specs.Constraints.{Constraint}
 use Rattle.pb_unit.specs.Reaching.{IsUpTo, OfConstraint, OfLit}
 use Rattle.pb_unit.specs.States.{standing}
-use Rattle.pb_unit.specs.declared.places.Slot.{Slot}
 use Rattle.pb_unit.specs.inner.Slots.{IsAloneUpTo}
 use Rattle.pb_unit.proofs.Alone.{slots_up_to}
 use Rattle.pb_unit.proofs.UpTo.{up_to}
