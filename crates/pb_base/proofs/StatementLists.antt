@@ -1,7 +1,7 @@
 -- Statements whose terms stand in one list.
 use Rattle.std.proofs.Common.{◌≡◌, ℕ, ◌+◌, List, [], ◌∷◌, ◌++◌, take, drop, length, arith, refl, ap, suc, ◌∙◌, length-drop}
 use Rattle.std.proofs.lemmas.List.{take-append-le, drop-append-le, take_all}
-use Rattle.std.proofs.lemmas.List.Sums.{sum_by-cons, sum_by-append}
+use Rattle.std.proofs.lemmas.List.Sums.{sum_by-cons}
 use Rattle.pb_base.specs.declared.literal.Term.{Term}
 use Rattle.pb_base.specs.declared.problem.Raw.{Raw}
 use Rattle.pb_base.specs.declared.heads.Head.{Head}
@@ -23,6 +23,3 @@ statements-push (k ∷ hs) h ts more counted own =
     let rest = statements-push hs h (drop k.terms ts) more (omega (arith, all, length-drop k.terms ts)) own in
     (λ i. record { terms = front i; relation = k.relation; right = k.right } ∷ statements_in (hs ++ h ∷ []) (behind i))
     ∙ ap (λ (ss : List Raw). record { terms = take k.terms ts; relation = k.relation; right = k.right } ∷ ss) rest
-
-pub term_count-push : (hs : List Head) (h : Head) → term_count (hs ++ h ∷ []) ≡ term_count hs + h.terms
-term_count-push hs h = omega (arith, sum_by-append (λ (g : Head). g.terms) hs (h ∷ []), sum_by-cons (λ (g : Head). g.terms) h [])

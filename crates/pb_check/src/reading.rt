@@ -1,7 +1,6 @@
 //! The next line of a derivation that says something.
 ghost use Rattle.std.specs.Prelude.{◌≡◌, ◌≢◌, ◌≤◌, ◌<◌, ◌^◌, false, IsTrue, Ok, Err, Some, None, IfOk, IfErr, OnOk, IfSome};
 ghost use Rattle.pb_desk.specs.Desk.{IsSteady};
-ghost use Rattle.pb_desk.specs.LineReading.{TakesAhead};
 ghost use Rattle.pb_dimacs.specs.CnfRows.{cnf_limits};
 ghost use Rattle.pb_dimacs.specs.Cursors.{GoesOn};
 ghost use Rattle.pb_steps.specs.Steps.{IsSpelled};

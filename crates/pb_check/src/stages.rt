@@ -1,7 +1,6 @@
 //! The lines of a derivation by their places.
 ghost use Rattle.std.specs.Prelude.{◌≡◌, ◌≢◌, ◌≤◌, ◌<◌, ◌^◌, IsTrue, Ok, Err, None, IfOk, IfErr, OnOk};
 ghost use Rattle.pb_desk.specs.Desk.{IsSteady};
-ghost use Rattle.pb_desk.specs.LineReading.{TakesAhead};
 ghost use Rattle.pb_dimacs.specs.CnfRows.{cnf_limits};
 ghost use Rattle.pb_dimacs.specs.Cursors.{GoesOn};
 ghost use Rattle.pb_check.specs.Turns.Stage.{head_wanted, ended};

@@ -1,5 +1,5 @@
 // Bytes that were taken from a slot before they are needed.
-ghost use Rattle.std.specs.Prelude.{◌≡◌, ◌≤◌, ◌<◌, ◌+◌, ◌++◌, ◌==◌, [], ℕ, List, false, if◌then◌else◌, length, drop, IfOk, OnOk, OnErr, IsTrue};
+ghost use Rattle.std.specs.Prelude.{◌≡◌, ◌≤◌, ◌<◌, ◌+◌, ◌++◌, ◌==◌, [], false, if◌then◌else◌, length, drop, IfOk, OnOk, OnErr, IsTrue};
 ghost use Rattle.pb_desk.specs.Desk.{Advances, FailsToRead, IfTold, IsSteady, same};
 ghost use Rattle.pb_desk.specs.LineReading.{nothing_held};
 

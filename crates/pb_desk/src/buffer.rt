@@ -1,5 +1,5 @@
 // Bytes in room that is reserved once.
-ghost use Rattle.std.specs.Prelude.{◌≡◌, ◌≤◌, ◌++◌, ◌-◌, [], length, take, min, vec_capacity, vec_len, IfOk, IsTrue, ◌↔◌};
+ghost use Rattle.std.specs.Prelude.{◌≡◌, ◌≤◌, ◌++◌, ◌-◌, [], length, take, min, vec_capacity, IfOk, IsTrue, ◌↔◌};
 
 use std::alloc::{AllocError, Global};
 

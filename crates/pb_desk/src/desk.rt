@@ -1,5 +1,5 @@
 // The trait, and what each call promises.
-ghost use Rattle.std.specs.Prelude.{◌≡◌, ◌≤◌, ◌<◌, ℕ, length, take, true, false, IsTrue, IsSome, IsNone, IfSome, IfOk, OnOk, OnErr};
+ghost use Rattle.std.specs.Prelude.{◌≡◌, ◌≤◌, ◌<◌, ℕ, length, take, false, IsTrue, IsSome, IsNone, IfSome, IfOk, OnOk, OnErr};
 ghost use Rattle.pb_base.specs.FaultCounts.{Rose};
 ghost use Rattle.pb_desk.specs.View.{opened, taken, created, wrote, closed, spoke};
 ghost use Rattle.pb_desk.specs.Desk.{DeskState, Reads, Reaches, FailsToRead, FailsToWrite, same, IsSteady, IfTold, IsTold, Gives, TakesSome, HasName, HasSlot, IsTaken, LacksRoom, FitsRoom, written, words};

@@ -1,5 +1,5 @@
 // One line, from a desk in pieces.
-ghost use Rattle.std.specs.Prelude.{◌≡◌, ◌≢◌, ◌<◌, [], ℕ, List, true, false, IsTrue, IfOk, IfErr, OnErr, Err};
+ghost use Rattle.std.specs.Prelude.{◌≡◌, ◌≢◌, ◌<◌, [], true, false, IsTrue, IfOk, IfErr, OnErr, Err};
 ghost use Rattle.pb_desk.specs.Desk.{IsSteady, FailsToRead, same};
 ghost use Rattle.pb_desk.specs.LineReading.{TakesAhead};
 ghost use Rattle.pb_desk.specs.inner.PieceReading.{Finds, Fits, StopsLine, Refills, found_at_end};

@@ -1,5 +1,5 @@
 // Line after line of a text.
-ghost use Rattle.std.specs.Prelude.{◌≡◌, ◌≢◌, ◌≤◌, ◌<◌, ◌^◌, [], ℕ, Bool, List, IsTrue, Some, None, Ok, Err, IfOk, IfErr, OnOk};
+ghost use Rattle.std.specs.Prelude.{◌≡◌, ◌≢◌, ◌≤◌, ◌<◌, ◌^◌, [], IsTrue, Some, None, Ok, Err, IfOk, IfErr, OnOk};
 ghost use Rattle.pb_desk.specs.Desk.{IsSteady};
 ghost use Rattle.pb_desk.specs.LineReaders.{Reader, GivesLine, StopsAt, fault_at};
 ghost use Rattle.pb_desk.specs.LineReading.{nothing_held};

@@ -126,7 +126,7 @@ impl MemoryDesk {
 // a cause, and it moves at most a piece.
 #[tactic(auto, unfolding(crate::specs::MemoryState::state_of, crate::specs::MemoryState::plan_of))]
 impl Desk for MemoryDesk {
-    ghost use Rattle.std.specs.Prelude.{◌≡◌, ◌≤◌, ◌<◌, ◌↔◌, ◌⊎◌, refl, length, take, drop, false, IsTrue, IsSome, IsNone, IsErr, IfOk, OnOk, OnErr};
+    ghost use Rattle.std.specs.Prelude.{◌≡◌, ◌≤◌, ◌<◌, ◌↔◌, ◌⊎◌, length, take, drop, false, IsTrue, IsSome, IsNone, IsErr, IfOk, OnOk, OnErr};
     ghost use Rattle.pb_base.specs.FaultCounts.{Rose};
     ghost use Rattle.pb_desk.specs.View.{opened, taken, created, wrote, closed, spoke};
     ghost use Rattle.pb_desk.specs.Desk.{Reads, Reaches, FailsToRead, FailsToWrite, same, IsSteady, IfTold, IsTold, Gives, TakesSome, HasName, IsTaken, LacksRoom, written, words};

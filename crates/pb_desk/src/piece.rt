@@ -1,5 +1,5 @@
 // The bytes of a line that are there, up to its end.
-ghost use Rattle.std.specs.Prelude.{◌≡◌, ◌≤◌, ◌<◌, ◌+◌, ◌-◌, ◌++◌, ◌∷◌, [], ℕ, List, if◌then◌else◌, length, drop, Some, None, IfOk, IfErr};
+ghost use Rattle.std.specs.Prelude.{◌≡◌, ◌≤◌, ◌<◌, ◌+◌, ◌-◌, if◌then◌else◌, length, drop, Some, None, IfOk, IfErr};
 ghost use Rattle.pb_desk.specs.Limits.{limit_of_piece};
 ghost use Rattle.pb_desk.specs.inner.PieceReading.{InLine, IsPiece, TakesPiece, StopsPiece};
 

@@ -1,5 +1,5 @@
 // Calls over a desk that go on until all is done.
-ghost use Rattle.std.specs.Prelude.{◌≡◌, ◌≤◌, ◌<◌, ◌≢◌, ℕ, length, take, true, false, IsTrue, IfOk, OnOk, OnErr};
+ghost use Rattle.std.specs.Prelude.{◌≡◌, ◌≤◌, ◌<◌, ◌≢◌, ℕ, length, IsTrue, IfOk, OnOk, OnErr};
 ghost use Rattle.pb_base.specs.FaultCounts.{Rose};
 ghost use Rattle.pb_desk.specs.View.{wrote, spoke, taken};
 ghost use Rattle.pb_desk.specs.Desk.{Reaches, IsSteady, IfTold, LacksRoom, written, words, StopsIn, Advances, FailsToRead};

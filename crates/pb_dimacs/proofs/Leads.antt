@@ -3,9 +3,8 @@ use Rattle.std.proofs.Common.{ℕ, List, refl, take, Ok, Err}
 use Rattle.std.specs.Prelude.{Result, codes}
 use Rattle.pb_base.specs.declared.fault.Failed.{Failed}
 use Rattle.pb_desk.specs.Desk.{DeskState}
-use Rattle.pb_family.specs.Sinks.{SinkState, Grows, Takes, TakesPart, FailsToTake}
-use Rattle.pb_family.specs.Handing.{HandsText, Stops}
-use Rattle.pb_family.specs.declared.sink.SinkFault.{SinkFault}
+use Rattle.pb_family.specs.Sinks.{SinkState, Grows, Takes, FailsToTake}
+use Rattle.pb_family.specs.Handing.{HandsText}
 use Rattle.pb_family.specs.declared.sink.SinkFault.TheVariants as fault
 use Rattle.pb_dimacs.specs.Outboxes.{hard_sink, slot_sink}
 use Rattle.pb_dimacs.specs.inner.WriteBufferSinks.{shown}
@@ -20,9 +19,6 @@ grows_led lead text a b h = record { lines = h.lines; faults = h.faults; sent = 
 
 pub takes_led : {R : Type 0} (lead text : List ℕ) (a b : SinkState R) → Takes text a b → Takes text (led lead a) (led lead b)
 takes_led lead text a b h = record { grows = grows_led lead text a b h.grows; quiet = h.quiet }
-
-pub part_led : {R : Type 0} (lead text : List ℕ) (a b : SinkState R) → TakesPart text a b → TakesPart text (led lead a) (led lead b)
-part_led lead text a b h = record { count = h.count; taken = takes_led lead (take h.count text) a b h.taken }
 
 pub fails_led : {R : Type 0} (lead text : List ℕ) (a b : SinkState R) → FailsToTake text a b → FailsToTake text (led lead a) (led lead b)
 fails_led lead text a b h = record { count = h.count; grows = grows_led lead (take h.count text) a b h.grows; rose = h.rose; lacks = h.lacks }

@@ -1,7 +1,7 @@
 //! A slot of a desk that takes steps of a derivation.
 ghost use Rattle.std.specs.Prelude.{◌≡◌, ◌<◌, ◌^◌, ◌∷◌, [], Err, IsTrue, OnOk};
 ghost use Rattle.pb_family.specs.Handing.{HandsText};
-ghost use Rattle.pb_family.specs.StepSinks.{StepState, HandsSteps};
+ghost use Rattle.pb_family.specs.StepSinks.{HandsSteps};
 
 use crate::outbox::WriteBuffer;
 use crate::writing::{flush, put_text};

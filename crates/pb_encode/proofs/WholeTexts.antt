@@ -13,7 +13,7 @@ use Rattle.pb_dimacs.proofs.Holding.{reaches_whole, reaches_part, fails_part, la
 use Rattle.pb_dimacs.proofs.Leads.{fails_led, led, takes_led}
 use Rattle.pb_encode.specs.declared.fault.EncodeFault.TheVariants as fault
 use Rattle.pb_encode.specs.inner.Faults.{of_sink}
-use Rattle.pb_encode.specs.inner.Sending.{LacksFor, Sends, Stops, StopsSending, WantsSending}
+use Rattle.pb_encode.specs.inner.Sending.{LacksFor, Sends, Stops, StopsSending}
 use Rattle.pb_encode.specs.inner.Sending.WantsSending.{cut_off, sent}
 use Rattle.pb_encode.specs.inner.SendingTexts.{BreaksOff, SendsText}
 

@@ -1,5 +1,5 @@
 //! What planning the groups of a problem once tells those who plan them again.
-ghost use Rattle.std.specs.Prelude.{◌≡◌, ◌∷◌, ◌+◌, ◌<◌, ◌^◌, [], List, IfSome, IsTrue, OnOk, drop};
+ghost use Rattle.std.specs.Prelude.{◌≡◌, ◌∷◌, ◌+◌, ◌<◌, ◌^◌, List, IfSome, IsTrue, OnOk, drop};
 ghost use Rattle.pb_norm.specs.Constraints.{Constraint};
 ghost use Rattle.pb_base.specs.declared.options.Options.{Options};
 ghost use Rattle.pb_choice.specs.Choice.{IsSentToAdder};

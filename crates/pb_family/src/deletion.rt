@@ -1,5 +1,5 @@
 //! Steps that delete constraints.
-ghost use Rattle.std.specs.Prelude.{◌≡◌, ◌≤◌, ◌<◌, ◌+◌, ◌*◌, ◌^◌, [], ◌∷◌, IfOk};
+ghost use Rattle.std.specs.Prelude.{◌≡◌, ◌<◌, ◌+◌, ◌*◌, ◌^◌, [], ◌∷◌, IfOk};
 ghost use Rattle.std.specs.List.{range_with_len};
 ghost use Rattle.pb_steps.specs.declared.step.Step.TheVariants.{Del};
 ghost use Rattle.pb_derive.specs.Deletions.{deletion_steps};

@@ -1,5 +1,5 @@
 //! Families that derive their clauses.
-ghost use Rattle.std.specs.Prelude.{◌≡◌, ◌≤◌, ◌<◌, ◌+◌, ◌*◌, ◌^◌, ℕ, List, All, length};
+ghost use Rattle.std.specs.Prelude.{◌≤◌, ◌<◌, ◌+◌, ◌*◌, ◌^◌, ℕ, List, All, length};
 ghost use Rattle.pb_steps.specs.declared.step.Step.{Step};
 ghost use Rattle.pb_steps.specs.Sayable.{IsSayable};
 ghost use Rattle.pb_family.specs.Derivations.{AreOriginal, MayStart};

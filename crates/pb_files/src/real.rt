@@ -66,9 +66,9 @@ impl<S: System + Drop> RealDesk<S> {
 // Each call has the trait's clauses, and two or three of its own, which say what the system was asked, and that the answer
 // is the system's.
 impl<S: System + Drop> Desk for RealDesk<S> {
-    ghost use Rattle.std.specs.Prelude.{◌≡◌, ◌≤◌, ◌<◌, ◌⊎◌, ℕ, length, take, true, false, IsTrue, IsSome, IsNone, IfOk, OnOk, OnErr, Some, None};
+    ghost use Rattle.std.specs.Prelude.{◌≡◌, ◌≤◌, ◌<◌, ◌⊎◌, length, take, false, IsTrue, IsSome, IsNone, IfOk, OnOk, OnErr, Some, None};
     ghost use Rattle.pb_base.specs.FaultCounts.{Rose};
-    ghost use Rattle.pb_desk.specs.View.{put, opened, taken, created, wrote, closed, spoke};
+    ghost use Rattle.pb_desk.specs.View.{opened, taken, created, wrote, closed, spoke};
     ghost use Rattle.pb_desk.specs.Desk.{Reads, Reaches, FailsToRead, FailsToWrite, same, IsSteady, IfTold, IsTold, Gives, TakesSome, HasName, IsTaken, LacksRoom, written, words};
     ghost use Rattle.pb_files.specs.Calls.Call.{open_file as opens, say as says};
     ghost use Rattle.pb_files.specs.Asked.{after, after_close, after_read, after_sync, after_write, Opens, Makes, Refuses};

@@ -1,5 +1,5 @@
 // What the desk asks of the system.
-ghost use Rattle.std.specs.Prelude.{◌≡◌, ◌≤◌, ℕ, List, length, take, IfOk};
+ghost use Rattle.std.specs.Prelude.{◌≡◌, ◌≤◌, List, length, take, IfOk};
 ghost use Rattle.std.specs.declared.option.Option.{Option};
 ghost use Rattle.pb_files.specs.declared.handle.FileId.{FileId};
 ghost use Rattle.pb_files.specs.Calls.{Call, answered, with_call};

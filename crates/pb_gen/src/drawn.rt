@@ -1,7 +1,7 @@
 //! Statements by their draws.
 ghost use Rattle.std.specs.Prelude.{◌≡◌, ◌≤◌, ◌<◌, ◌^◌, ◌-◌};
 ghost use Rattle.pb_gen.specs.Draws.{draw, state_after};
-ghost use Rattle.pb_gen.specs.Drawn.{drawn_count, drawn_kind, drawn_literal, drawn_right, drawn_weight, is_weighted, kind_by, relation_of, weight_draws};
+ghost use Rattle.pb_gen.specs.Drawn.{drawn_count, drawn_literal, drawn_right, drawn_weight, is_weighted, kind_by, relation_of, weight_draws};
 
 use crate::draws::Draws;
 use pb_base::{Lit, Relation, Var};

@@ -1,5 +1,5 @@
 //! Why a clause does not follow by hinted clauses.
-ghost use Rattle.std.specs.Prelude.{◌≡◌, [], ℕ, not, false, true, if◌then◌else◌, Ok, IfOk, OnOk};
+ghost use Rattle.std.specs.Prelude.{◌≡◌, [], not, false, true, if◌then◌else◌, Ok, IfOk, OnOk};
 ghost use Rattle.pb_base.specs.declared.literal.Lit.{Lit};
 ghost use Rattle.pb_base.specs.Literals.{negated, is_among};
 ghost use Rattle.pb_norm.specs.ClauseForm.{is_tautology};

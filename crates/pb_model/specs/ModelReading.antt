@@ -13,7 +13,7 @@ use Rattle.pb_model.specs.declared.meaning.Meaning.{Meaning}
 use Rattle.pb_model.specs.declared.meaning.Meaning.TheVariants as meaning
 use Rattle.pb_model.specs.declared.model.Model.{Model}
 use Rattle.pb_model.specs.declared.model.Says.{Says}
-use Rattle.pb_model.specs.declared.model.Says.TheVariants.{Satisfiable, Other, Missing}
+use Rattle.pb_model.specs.declared.model.Says.TheVariants.{Missing}
 use Rattle.pb_model.specs.ModelLines.{Symbol, symbols_of}
 use Rattle.pb_model.specs.ModelLines.Symbol.{status, values, word, other, end}
 

@@ -16,7 +16,7 @@ pub struct Listing {
 }
 
 impl Listing {
-    ghost use Rattle.std.specs.Prelude.{◌≤◌, ◌++◌, ◌∷◌, [], ℕ, List, true, not, IfOk};
+    ghost use Rattle.std.specs.Prelude.{◌≤◌, ◌++◌, ◌∷◌, [], List, true, not, IfOk};
     ghost use Rattle.pb_base.specs.Literals.{negated};
     ghost use Rattle.pb_base.specs.declared.place.Place.{Place};
     ghost use Rattle.pb_model.specs.declared.meaning.Meaning.TheVariants as meaning;

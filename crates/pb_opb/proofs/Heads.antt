@@ -9,7 +9,6 @@ use Rattle.std.proofs.lemmas.Int.Digits.{digits_value_more}
 use Rattle.std.proofs.lemmas.Str.Parse.{IsNumeralModel, numerals_by_weight, tells_all_ascii_digits}
 use Rattle.std.proofs.lemmas.Bool.Decides.{nat_tests}
 use Rattle.pb_base.specs.declared.place.Place.{Place}
-use Rattle.pb_base.specs.declared.problem.Relation.TheVariants.{AtLeast, AtMost, Equal}
 use Rattle.pb_base.specs.Places.{start, along}
 use Rattle.pb_base.specs.Numbers.{natural_of, weighed}
 use Rattle.pb_base.specs.Tokens.{Piece, is_word_byte, joins, joins_next, uncommented, tokens_from, tokens_of}
@@ -19,7 +18,7 @@ use Rattle.pb_named.specs.Names.{named}
 use Rattle.pb_named.specs.Names.Name.{index}
 use Rattle.pb_opb.specs.declared.head.Digits.{Digits}
 use Rattle.pb_opb.specs.Grammar.{kind_of, spelled, named_literal, with_sign}
-use Rattle.pb_opb.specs.Grammar.Kind.{integer, literal, relation, semicolon}
+use Rattle.pb_opb.specs.Grammar.Kind.{integer, literal}
 use Rattle.pb_opb.specs.reader.Heads.{AreDigits, behind, behind_x, ends_word, token_at}
 
 -- where the next byte joins, and where not
@@ -186,10 +185,3 @@ alone b (c ∷ rest) apart = apart c
 
 pub equal-rest : (rest : List ℕ) → rest ≡ behind (61 ∷ rest)
 equal-rest rest = sym (behind-apart 61 rest (alone 61 rest (λ c. refl)))
-
--- a byte that joins the `=` behind it
-before-equal : (b : ℕ) (rest : List ℕ) → joins b 61 ≡ true → token_at (b ∷ 61 ∷ rest) ≡ b ∷ 61 ∷ []
-before-equal b rest joined = token-joined b (61 ∷ rest) joined ∙ ap (λ (w : List ℕ). b ∷ w) (token-apart 61 rest (alone 61 rest (λ c. refl)))
-
-behind-equal : (b : ℕ) (rest : List ℕ) → joins b 61 ≡ true → rest ≡ behind (b ∷ 61 ∷ rest)
-behind-equal b rest joined = equal-rest rest ∙ sym (behind-joined b (61 ∷ rest) joined)

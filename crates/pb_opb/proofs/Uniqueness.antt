@@ -21,7 +21,7 @@ use Rattle.pb_opb.specs.FirstLine.{Count, told as told_count}
 use Rattle.pb_opb.specs.Grammar.{Kind, kind_of, named_literal, spelled, text_kinds, objective_kinds, statement_kinds}
 use Rattle.pb_named.specs.declared.named.NamedProblem.{NamedProblem}
 use Rattle.pb_opb.specs.Grammar.Kind.{minimise, integer, literal, relation, semicolon, end}
-use Rattle.pb_opb.specs.Limits.{BeginsWithin, IsWithinEach, rank}
+use Rattle.pb_opb.specs.Limits.{BeginsWithin, rank}
 use Rattle.pb_opb.specs.Faults.{Symbol, symbol, kinds, Begins, allows, tells, Expects, IsManyAt, TellsTooMany, HasTooMany, IsAt, so_far, IsWrong, IsTooGreat, IsFirstFault}
 use Rattle.pb_named.proofs.Appends.{all-behind}
 use Rattle.pb_opb.proofs.Reading.{too_many, spells-no_fault}

@@ -1,6 +1,6 @@
 //! A bound on the objective of a problem.
 ghost use Rattle.std.specs.Prelude.{◌≡◌, ◌≤◌, ◌<◌, ◌^◌, [], IfOk, IsErrOf, OnOk, length, unwrap_or};
-ghost use Rattle.pb_base.specs.Problems.{magnitude, objective_terms, IsWithinLimits};
+ghost use Rattle.pb_base.specs.Problems.{magnitude, IsWithinLimits};
 ghost use Rattle.pb_opb.specs.Bounded.{bound_weight, bounded, BoundKeepsSmaller};
 ghost use Rattle.pb_opb.specs.declared.bound.BoundFault.TheVariants as fault;
 

@@ -391,10 +391,6 @@ listed-within vars ss (id ∷ ids) h = one (slot_of ss id).constraint (at id) (l
 
 -- ---- an engine at the start
 
-none-taken : (ss : List Slot) → take 0 ss ≡ []
-none-taken [] = refl
-none-taken (s ∷ ss) = refl
-
 -- of all loaded constraints
 pub mirrored-loaded : (vars : ℕ) (cs : List Constraint) (s : EngineState) → s ≡ started vars cs → IsMirrored vars (take (length cs) (placed_from 0 cs)) s
 mirrored-loaded vars cs s e =

@@ -1,5 +1,5 @@
 -- What propagation answers over constraints that come and go.
-use Rattle.std.proofs.Common.{◌≡◌, ◌<◌, ◌+◌, ◌⊎◌, inl, inr, ℕ, Bool, true, false, cond, List, [], ◌∷◌, ◌++◌, Option, Some, None, length, get_or, set, refl, ap, sym, ◌∙◌, subst, zero, suc, take}
+use Rattle.std.proofs.Common.{◌≡◌, ◌<◌, ◌+◌, ◌⊎◌, inl, inr, ℕ, Bool, true, false, cond, List, [], ◌∷◌, ◌++◌, Option, Some, None, length, get_or, set, refl, ap, sym, ◌∙◌, subst, take}
 use Rattle.std.specs.Prelude.{Contains, is_some}
 use Rattle.std.specs.Prelude.{Result, IfOk}
 use Rattle.std.proofs.lemmas.Bool.{cases_eq}
@@ -15,7 +15,7 @@ use Rattle.pb_steps.specs.Database.{Database, live_constraints}
 use Rattle.pb_steps.proofs.MoreConstraints.{conflict-more}
 use Rattle.pb_unit.specs.declared.engine.Outcome.{Outcome}
 use Rattle.pb_unit.specs.declared.engine.Outcome.TheVariants.{Conflict, Fixed}
-use Rattle.pb_unit.specs.States.{EngineState, at_place, placed, added, removed, standing, started, IsFree, Stands}
+use Rattle.pb_unit.specs.States.{EngineState, at_place, placed, added, removed, standing, IsFree, Stands}
 use Rattle.pb_unit.specs.Outcomes.{AnswersOf}
 use Rattle.pb_unit.proofs.Placing.{at_placed, at_placed_other}
 use Rattle.pb_unit.proofs.Standing.{contains_stands, contains_head, contains_tail, contains_cases}

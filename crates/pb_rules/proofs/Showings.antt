@@ -12,7 +12,7 @@ use Rattle.pb_norm.specs.PropagationLaws.{AreAmong}
 use Rattle.pb_norm.proofs.Consistent.{consistent-nil}
 use Rattle.pb_norm.proofs.PropagationFixed.{fixed-no_conflict}
 use Rattle.pb_unit.specs.Steps.{Advances, IsCalm}
-use Rattle.pb_unit.proofs.Visits.{stays, then}
+use Rattle.pb_unit.proofs.Visits.{then}
 use Rattle.pb_unit.proofs.Answering.{fixed_over}
 use Rattle.pb_rules.specs.inner.Mirrors.{TellsConflict}
 use Rattle.pb_rules.specs.inner.Showing.{Shows}

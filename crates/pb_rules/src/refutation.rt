@@ -1,5 +1,5 @@
 //! What propagation refutes.
-ghost use Rattle.std.specs.Prelude.{◌≡◌, ◌∷◌, ◌++◌, [], IfOk, IfSome};
+ghost use Rattle.std.specs.Prelude.{◌≡◌, ◌∷◌, ◌++◌, IfOk, IfSome};
 ghost use Rattle.std.specs.Option.{option_copied, option_to_list};
 ghost use Rattle.pb_norm.specs.Constraints.{HasVarsWithin};
 ghost use Rattle.pb_unit.specs.States.{standing};

@@ -4,7 +4,7 @@
 mod desks;
 mod pages;
 
-ghost use Rattle.std.specs.Prelude.{◌≤◌, ◌<◌};
+ghost use Rattle.std.specs.Prelude.{◌<◌};
 ghost use Rattle.pb_family.specs.Families.{VarsBelow};
 
 pub use desks::{desk_with, named};

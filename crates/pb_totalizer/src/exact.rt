@@ -1,5 +1,5 @@
 //! Exactly so many of some literals, by a totalizer in both directions.
-ghost use Rattle.std.specs.Prelude.{◌≡◌, ◌<◌, ◌^◌, IsTrue, length, map, pos, IfOk};
+ghost use Rattle.std.specs.Prelude.{◌≡◌, ◌<◌, ◌^◌, IsTrue, length, map, IfOk};
 ghost use Rattle.pb_norm.specs.Constraints.{weights};
 ghost use Rattle.pb_norm.specs.BoundedSums.{IsProper, sum_within};
 ghost use Rattle.pb_norm.specs.Reduction.{all_weigh};

@@ -1,5 +1,5 @@
 //! Sums along whose tree of halves each part has values.
-ghost use Rattle.std.specs.Prelude.{◌≡◌, ◌<◌, ◌+◌, ℕ, List, length, slice_index, IfOk};
+ghost use Rattle.std.specs.Prelude.{◌≡◌, ◌<◌, ℕ, List, length, slice_index, IfOk};
 ghost use Rattle.pb_base.specs.declared.literal.Term.{Term};
 ghost use Rattle.pb_norm.specs.Constraints.{weights};
 ghost use Rattle.pb_tree.specs.Scheme.{Scheme, values};

@@ -3,7 +3,7 @@ ghost use Rattle.std.specs.Prelude.{◌≡◌, ◌≤◌, ◌+◌, ◌++◌, [],
 ghost use Rattle.std.specs.declared.result.Result.TheVariants.{Ok, Err};
 ghost use Rattle.pb_base.specs.declared.literal.Term.{Term};
 ghost use Rattle.pb_norm.specs.Constraints.{weights};
-ghost use Rattle.pb_tree.specs.Scheme.{Scheme, along, fresh_of};
+ghost use Rattle.pb_tree.specs.Scheme.{Scheme, along};
 ghost use Rattle.pb_tree.specs.Tree.{Tree, tree_of};
 ghost use Rattle.pb_tree.specs.Walks.{AreParts, Suits, fresh_over};
 

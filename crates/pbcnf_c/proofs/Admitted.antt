@@ -14,12 +14,11 @@ use Rattle.pb_encode.specs.Summaries.{IsOver}
 use Rattle.pb_suite.specs.declared.outcome.Outcome.{Outcome}
 use Rattle.pb_suite.specs.declared.outcome.Outcome.TheVariants as outcome
 use Rattle.pbcnf_c.specs.declared.options.PbcnfOptions.{PbcnfOptions}
-use Rattle.pbcnf_c.specs.declared.ready.Ready.{Ready}
 use Rattle.pbcnf_c.specs.declared.statement.PbcnfSide.{PbcnfSide}
 use Rattle.pbcnf_c.specs.Choices.{options_of}
-use Rattle.pbcnf_c.specs.Constraints.{IsFit, IsGiven, IsReadyOf, StopsConstraint}
+use Rattle.pbcnf_c.specs.Constraints.{IsFit, IsGiven, StopsConstraint}
 use Rattle.pbcnf_c.specs.Constraints.StopsConstraint.{heavy, no_memory, over, usage}
-use Rattle.pbcnf_c.specs.Ready.{IsReadyAs, StopsSizing}
+use Rattle.pbcnf_c.specs.Ready.{StopsSizing}
 use Rattle.pbcnf_c.specs.Ready.StopsSizing.{no_memory as sizing_no_memory, over as sizing_over}
 use Rattle.pbcnf_c.specs.Statements.{problem_of, relation_of, AreTermsOf}
 use Rattle.pbcnf_c.specs.Words.{wide}

@@ -1,5 +1,5 @@
 //! Encoding into the caller's memory.
-ghost use Rattle.std.specs.Prelude.{◌≡◌, ◌++◌, IfOk, flat_map};
+ghost use Rattle.std.specs.Prelude.{◌≡◌, IfOk, flat_map};
 ghost use Rattle.pb_dimacs.specs.CnfReading.{clause_numbers};
 ghost use Rattle.pb_dimacs.specs.CnfText.{header_text};
 ghost use Rattle.pb_encode.specs.Clauses.{problem_clauses};

@@ -1,5 +1,5 @@
 //! A sink of integers in memory.
-ghost use Rattle.std.specs.Prelude.{◌≡◌, ◌≤◌, ◌∷◌, ◌++◌, [], Some, OnOk, OnErr, length, take};
+ghost use Rattle.std.specs.Prelude.{◌≡◌, ◌∷◌, ◌++◌, [], Some, OnOk, length, take};
 ghost use Rattle.pb_dimacs.specs.CnfReading.{literal_number};
 ghost use Rattle.pb_family.specs.ClauseText.{clause_text, literal_text};
 ghost use Rattle.std.specs.Prelude.{codes};

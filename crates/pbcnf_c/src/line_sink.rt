@@ -1,5 +1,5 @@
 //! A sink of lines of text in memory.
-ghost use Rattle.std.specs.Prelude.{◌≡◌, ◌∷◌, ◌++◌, [], Some, OnOk, OnErr, length, take};
+ghost use Rattle.std.specs.Prelude.{◌≡◌, ◌∷◌, ◌++◌, [], Some, OnOk, length, take};
 ghost use Rattle.pb_family.specs.ClauseText.{clause_text};
 ghost use Rattle.pb_family.specs.Handing.{Hands};
 ghost use Rattle.pbcnf_c.specs.Lines.{led_in_memory};

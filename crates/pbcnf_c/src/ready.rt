@@ -1,5 +1,5 @@
 //! Problems that are ready to be encoded.
-ghost use Rattle.std.specs.Prelude.{◌≡◌, Some, IfErr, IfOk};
+ghost use Rattle.std.specs.Prelude.{Some, IfErr, IfOk};
 ghost use Rattle.pb_base.specs.Problems.{IsWithinLimits};
 ghost use Rattle.pbcnf_c.specs.Choices.{bound_of};
 ghost use Rattle.pbcnf_c.specs.Ready.{IsReady, IsReadyAs, IsReadyFor, StopsEncoding, StopsSizing};

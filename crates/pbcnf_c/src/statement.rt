@@ -1,5 +1,5 @@
 //! One statement, given in numbers.
-ghost use Rattle.std.specs.Prelude.{◌≡◌, ◌≤◌, ◌<◌, ◌+◌, ◌-◌, ◌*◌, ◌^◌, ◌↔◌, ◌⊎◌, All, IfOk, IsTrue, length, map, min};
+ghost use Rattle.std.specs.Prelude.{◌≡◌, ◌≤◌, ◌<◌, ◌+◌, ◌-◌, ◌*◌, ◌^◌, ◌↔◌, All, IfOk, IsTrue, length, min};
 ghost use Rattle.std.specs.Int.RustNames.{unsigned_abs};
 ghost use Rattle.pb_base.specs.Problems.{magnitude, StaysBelow};
 ghost use Rattle.pb_dimacs.specs.CnfReading.{literal_number};

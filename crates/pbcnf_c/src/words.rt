@@ -1,5 +1,4 @@
 //! The words of a refusal.
-ghost use Rattle.std.specs.Prelude.{◌≡◌};
 ghost use Rattle.pbcnf_c.specs.WordsSaid.{SaysRefusal};
 
 use crate::outcomes::outcome_of;

@@ -1,4 +1,4 @@
-ghost use Rattle.std.specs.Prelude.{◌≡◌, ◌≤◌, ◌<◌, ◌^◌, IsTrue, IfSome, All};
+ghost use Rattle.std.specs.Prelude.{◌≡◌, ◌≤◌, ◌<◌, ◌^◌, IsTrue, IfSome};
 ghost use Rattle.pb_norm.specs.Constraints.{AreVarsWithin, HasVarsWithin, weights};
 
 use super::assert_found;

@@ -1,5 +1,5 @@
 // The texts that families make of what a statement leaves: a CNF, and its derivation.
-ghost use Rattle.std.specs.Prelude.{◌≤◌, ◌<◌, ◌^◌};
+ghost use Rattle.std.specs.Prelude.{◌<◌};
 ghost use Rattle.pb_family.specs.Budgets.{IfFits};
 ghost use Rattle.pb_family.specs.Families.{VarsBelow};
 

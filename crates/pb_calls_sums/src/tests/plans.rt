@@ -1,4 +1,3 @@
-ghost use Rattle.std.specs.Prelude.{◌≤◌};
 ghost use Rattle.pb_family.specs.Families.{VarsBelow};
 
 use super::assert_found;

@@ -1,5 +1,5 @@
 // The line reader over a desk in memory, with small limits.
-ghost use Rattle.std.specs.Prelude.{◌≤◌, IsTrue, IfOk};
+ghost use Rattle.std.specs.Prelude.{◌≤◌, IsTrue};
 ghost use Rattle.pb_desk.specs.Desk.{IsClosed};
 
 use super::assert_found;

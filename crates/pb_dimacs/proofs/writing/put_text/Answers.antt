@@ -1,4 +1,4 @@
-use Rattle.std.proofs.Common.{◌-◌, ◌++◌, take, drop, arith}
+use Rattle.std.proofs.Common.{◌-◌, take, drop, arith}
 use Rattle.std.proofs.lemmas.List.{take_all}
 use Rattle.pb_family.proofs.Taking.{takes_nothing, then_takes, takes_same}
 use Rattle.pb_dimacs.specs.Outboxes.{held_in}

@@ -1,7 +1,7 @@
 use Rattle.std.proofs.Common.{◌≡◌, ◌%◌, ◌∙◌, ℕ, arith, ap, length, refl, subst}
 use Rattle.std.specs.Prelude.{Contains}
 use Rattle.std.proofs.lemmas.Bool.{OnTrue_at, OnTrue_from}
-use Rattle.pb_rules.specs.inner.Indexed.{ids_at, ids_of}
+use Rattle.pb_rules.specs.inner.Indexed.{ids_at}
 use Rattle.pb_rules.proofs.Indexing.{keeps_ids_same}
 use Rattle.pb_rules.proofs.index.enter_one.Goals as goal
 
