@@ -7,11 +7,11 @@ use Rattle.pb_norm.specs.BoundedSums.{vars_of, sum_within}
 use Rattle.pb_norm.specs.Constraints.{weights}
 use Rattle.pb_derive.specs.Justifications.{Justification}
 use Rattle.pb_family.proofs.SameSteps.{HaveSameSteps, same_append}
-use Rattle.pb_tree.specs.Pairs.{Pair, pair_of}
+use Rattle.pb_tree.specs.Pairs.{pair_of}
 use Rattle.pb_tree.specs.Scheme.{fresh_of}
 use Rattle.pb_tree.specs.Tree.{Tree, node, tree_of}
 use Rattle.pb_tree.specs.TreeSteps.{leaves, output_ids, pair_justifications, justifications_along, root_justification}
-use Rattle.pb_tree.proofs.PairLists.{map_same, map-map, rows_same}
+use Rattle.pb_tree.proofs.PairLists.{map-map}
 use Rattle.pb_tree.proofs.TreeHanded.{IsFirstFree, along_first_free, pairs_first_free, bare, bare_same, same_each}
 use Rattle.pb_tree.proofs.TreeRows.{leaves_of}
 use Rattle.pb_totalizer.specs.Exact.{outputs_of, limits}
@@ -20,8 +20,9 @@ use Rattle.pb_totalizer.specs.Totalizer.{totalizer}
 use Rattle.pb_totalizer.specs.TotalizerSteps.{totalizer_pairs}
 use Rattle.pb_totalizer.specs.declared.node_ids.Source.{Source}
 use Rattle.pb_totalizer.specs.declared.polarity.Polarity.TheVariants.{Both}
-use Rattle.pb_totalizer.specs.inner.LimitSources.{seconds_from, ids_after, weakened_after, limit_given, limit_row_given, limits_given, least_given}
+use Rattle.pb_totalizer.specs.inner.LimitSources.{seconds_from, ids_after, weakened_after, limit_given, limits_given, least_given}
 use Rattle.pb_totalizer.specs.inner.Sources.{ids_from, root_given}
+use Rattle.pb_totalizer.specs.laws.PairRows.{rows_by_pairs}
 use Rattle.pb_totalizer.specs.laws.Polarity.{justifications_by, exact_all_justifications}
 use Rattle.pb_totalizer.proofs.Handed.{named, root_is}
 
@@ -65,12 +66,8 @@ module _ (bound : ℕ) (lefts rights : List Term) (id own : ℕ) (sl sr : Source
       let n = outputs_of bound l in
       let m = outputs_of bound r in
       let c = outputs_of bound (node l r) in
-      let claim = λ (p : Pair). bare (limit_justification bound l r 0 id p) in
       (λ k. limits_given (ec k) (ea k) (eb k) sl lefts sr rights own)
-      ∙ rows_same claim (λ i. map (pair_of i) (limits c m i)) (limit_row_given c n m sl lefts sr rights own) (range_with_len 0 (n + 1))
-      (λ i here.
-      map_same (limit_given n m sl lefts sr rights own i) (λ j. claim (pair_of i j)) (limits c m i) (λ j k. limit_is i j)
-      ∙ sym (map-map claim (pair_of i) (limits c m i)))
+      ∙ rows_by_pairs (limit_given n m sl lefts sr rights own) (λ p. bare (limit_justification bound l r 0 id p)) (limits c m) (range_with_len 0 (n + 1)) (λ i j here. limit_is i j)
       ∙ sym (map-map bare (limit_justification bound l r 0 id) (limit_pairs c n m))
 
   -- with the steps of its clauses

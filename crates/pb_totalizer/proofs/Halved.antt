@@ -1,5 +1,5 @@
 -- A part of a totalizer, over its two halves.
-use Rattle.std.proofs.Common.{◌≡◌, ◌≤◌, ◌<◌, ◌+◌, ℕ, List, length, min, ap, sym, ◌∙◌, arith}
+use Rattle.std.proofs.Common.{◌≡◌, ◌≤◌, ◌+◌, ℕ, List, length, min, ap, sym, ◌∙◌, arith}
 use Rattle.std.proofs.lemmas.List.FromFn.{length-range_with_len}
 use Rattle.pb_base.specs.declared.literal.Term.{Term}
 use Rattle.pb_norm.specs.Constraints.{weights}
@@ -15,10 +15,6 @@ use Rattle.pb_totalizer.specs.laws.TotalizerLaws.{node_length, values_length}
 -- the halves that the code takes, and the numbers of the part by theirs
 pub record Halved (bound : ℕ) (ts lefts rights : List Term) : Type 0 where
   pub tree : tree_of (weights ts) ≡ node (tree_of (weights lefts)) (tree_of (weights rights))
-  pub left_some : 1 ≤ length lefts
-  pub right_some : 1 ≤ length rights
-  pub left_shorter : length lefts < length ts
-  pub right_shorter : length rights < length ts
   pub left_within : outputs_of bound (tree_of (weights lefts)) ≤ bound + 1
   pub right_within : outputs_of bound (tree_of (weights rights)) ≤ bound + 1
   pub outputs : outputs_of bound (tree_of (weights ts)) ≡ min (outputs_of bound (tree_of (weights lefts)) + outputs_of bound (tree_of (weights rights))) (bound + 1)
@@ -32,10 +28,6 @@ halved bound {ts} {lefts} {rights} halves =
     let whole : fresh_of (totalizer bound) (tree_of (weights ts)) ≡ fresh_of (totalizer bound) l + fresh_of (totalizer bound) r + outputs_of bound (node l r) = ap (fresh_of (totalizer bound)) halves.tree in
     record {
       tree = halves.tree;
-      left_some = halves.front_some;
-      right_some = halves.back_some;
-      left_shorter = omega (arith, halves.whole, halves.back_some);
-      right_shorter = omega (arith, halves.whole, halves.front_some);
       left_within = values_length bound l;
       right_within = values_length bound r;
       outputs = long ∙ node_length bound l r;

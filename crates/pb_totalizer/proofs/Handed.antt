@@ -1,6 +1,7 @@
 -- The steps of a totalizer's derivation as the code has their parts.
 use Rattle.std.proofs.Common.{◌≡◌, ◌≤◌, ◌+◌, ◌-◌, ◌*◌, ◌++◌, ℕ, zero, suc, List, [], ◌∷◌, length, map, min, refl, sym, ap, ◌∙◌, subst, arith}
 use Rattle.std.specs.List.{range_with_len}
+use Rattle.std.proofs.lemmas.List.FromFn.{length-map-range_with_len}
 use Rattle.pb_base.specs.declared.literal.Term.{Term}
 use Rattle.pb_norm.specs.BoundedSums.{vars_of}
 use Rattle.pb_norm.specs.Constraints.{weights}
@@ -9,32 +10,43 @@ use Rattle.pb_derive.specs.Justifications.{Justification, by_justification}
 use Rattle.pb_family.proofs.Looping.{ArePieces}
 use Rattle.pb_family.proofs.SameSteps.{HaveSameSteps, same_append}
 use Rattle.pb_family.proofs.Sequence.{justification_piece, justification_pieces}
-use Rattle.pb_tree.specs.Pairs.{Pair, pair_of}
+use Rattle.pb_tree.specs.Pairs.{pair_of}
 use Rattle.pb_tree.specs.Scheme.{values, fresh_of}
 use Rattle.pb_tree.specs.Tree.{Tree, tree_of}
 use Rattle.pb_tree.specs.TreeSteps.{output_ids, part_ids, part_weakened, pair_justification, pair_justifications, root_justification}
-use Rattle.pb_tree.proofs.PairLists.{map_same, map-map, rows_same}
+use Rattle.pb_tree.proofs.PairLists.{map-map}
 use Rattle.pb_tree.proofs.TreeHanded.{range_shift, bare, bare_same}
 use Rattle.pb_tree.proofs.TreeRows.{leaves_of}
 use Rattle.pb_totalizer.specs.Exact.{outputs_of}
 use Rattle.pb_totalizer.specs.Totalizer.{partners, totalizer}
 use Rattle.pb_totalizer.specs.TotalizerSteps.{totalizer_pairs}
+use Rattle.pb_totalizer.specs.declared.node_ids.NodeIds.{NodeIds}
 use Rattle.pb_totalizer.specs.declared.node_ids.Source.{Source}
+use Rattle.pb_totalizer.specs.declared.polarity.Direction.{Direction}
 use Rattle.pb_totalizer.specs.declared.polarity.Polarity.TheVariants.{Up}
 use Rattle.pb_totalizer.specs.laws.ByPairs.{partner_bounds}
-use Rattle.pb_totalizer.specs.inner.Sources.{ids_from, some_ids, weakened_at, pair_given, row_given, node_given, root_given}
+use Rattle.pb_totalizer.specs.laws.PairRows.{rows_by_pairs}
+use Rattle.pb_totalizer.specs.inner.Numbers.{most_by, numbers_by}
+use Rattle.pb_totalizer.specs.inner.Rows.{one_beside, row_beside}
+use Rattle.pb_totalizer.specs.inner.Sources.{ids_from, some_ids, weakened_at, pair_given, node_given, root_given}
 use Rattle.pb_totalizer.specs.laws.Polarity.{justifications_by, all_justifications}
 
 -- ---- rows
 
 -- a clause for each number of a row
-pub range_are : (f : ℕ → Justification) (js : List ℕ) (low n : ℕ) → range_with_len low n ≡ js → ArePieces (λ next. claim_steps next (map by_justification (map f js))) (justification_piece (λ k. f (low + k))) 1 n
-range_are f js low n same =
-    let all : map f js ≡ map (λ k. f (low + k)) (range_with_len 0 n) = ap (map f) (sym same ∙ ap (λ (a : ℕ). range_with_len a n) (let e : low ≡ low + 0 = omega arith in e)) ∙ range_shift f low 0 n in
-    record {
-      same = λ next. ap (λ (rs : List Justification). claim_steps next (map by_justification rs)) all ∙ justification_pieces (λ k. f (low + k)) next 0 n;
-      ids = λ next k. refl;
-    }
+range_are : (f : ℕ → Justification) (js : List ℕ) (low n : ℕ) → range_with_len low n ≡ js → map f js ≡ map (λ k. f (low + k)) (range_with_len 0 n)
+range_are f js low n same = ap (map f) (sym same ∙ ap (λ (a : ℕ). range_with_len a n) (let e : low ≡ low + 0 = omega arith in e)) ∙ range_shift f low 0 n
+
+module _ (direction : Direction) (node : NodeIds) (i low n : ℕ) (same : range_with_len low n ≡ numbers_by direction (most_by direction node.cap node.count) node.right.count i) where
+  pub row_are : ArePieces (λ next. claim_steps next (map by_justification (row_beside direction node i))) (justification_piece (λ k. one_beside direction node i (low + k))) 1 n
+  row_are = record {
+    same = λ next.
+        ap (λ (rs : List Justification). claim_steps next (map by_justification rs)) (range_are (one_beside direction node i) _ low n same) ∙ justification_pieces (λ k. one_beside direction node i (low + k)) next 0 n;
+    ids = λ next k. refl;
+  }
+
+  pub row_counted : length (row_beside direction node i) ≡ n
+  row_counted = ap length (range_are (one_beside direction node i) _ low n same) ∙ length-map-range_with_len (λ k. one_beside direction node i (low + k)) 0 n
 
 -- ---- the clauses of a node
 
@@ -75,12 +87,8 @@ module _ (bound : ℕ) (lefts rights : List Term) (id own : ℕ) (sl sr : Source
       let r = tree_of (weights rights) in
       let n = length (values s l) in
       let m = length (values s r) in
-      let claim = λ (p : Pair). bare (pair_justification s l r 0 id p) in
       (λ k. node_given (bound + 1) (ea k) (eb k) sl lefts sr rights own)
-      ∙ rows_same claim (λ i. map (pair_of i) (partners (bound + 1) m i)) (row_given (bound + 1) m sl lefts sr rights own) (range_with_len 0 (n + 1))
-      (λ i here.
-      map_same (pair_given sl lefts sr rights own i) (λ j. claim (pair_of i j)) (partners (bound + 1) m i) (λ j k. given_is i j (partner_bounds (bound + 1) m i j k).1)
-      ∙ sym (map-map claim (pair_of i) (partners (bound + 1) m i)))
+      ∙ rows_by_pairs (pair_given sl lefts sr rights own) (λ p. bare (pair_justification s l r 0 id p)) (partners (bound + 1) m) (range_with_len 0 (n + 1)) (λ i j k. given_is i j (partner_bounds (bound + 1) m i j k).1)
       ∙ sym (map-map bare (pair_justification s l r 0 id) (totalizer_pairs (bound + 1) (values s l) (values s r)))
 
   -- with the steps of its clauses

@@ -1,5 +1,5 @@
 -- A node's own justifications, by what the code has of its parts, whichever polarity its clauses lead.
-use Rattle.std.proofs.Common.{◌≡◌, ◌+◌, ◌-◌, ◌*◌, ◌∷◌, [], ℕ, List, min, sym, ap, ◌∙◌, arith}
+use Rattle.std.proofs.Common.{◌≡◌, ◌+◌, ◌-◌, ◌*◌, ◌∷◌, [], ℕ, List, sym, ap, ◌∙◌, arith}
 use Rattle.pb_base.specs.declared.literal.Term.{Term}
 use Rattle.pb_norm.specs.Constraints.{weights}
 use Rattle.pb_family.proofs.SameSteps.{HaveSameSteps, same_append}
@@ -20,7 +20,6 @@ use Rattle.pb_totalizer.specs.declared.polarity.Polarity.TheVariants.{Up, Both}
 use Rattle.pb_totalizer.specs.inner.LimitSources.{limits_given}
 use Rattle.pb_totalizer.specs.inner.Sources.{StandAt, ids_from, node_given}
 use Rattle.pb_totalizer.specs.laws.Polarity.{own_given, own_justifications_by}
-use Rattle.pb_totalizer.specs.laws.TotalizerLaws.{node_length}
 use Rattle.pb_totalizer.proofs.ExactHanded.{limits_same, own_first_free}
 use Rattle.pb_totalizer.proofs.Handed.{sums_same}
 
@@ -60,12 +59,12 @@ module _ (bound : ℕ) {ts front back : List Term} {before next : ℕ} (parts : 
       let e : (u : ℕ) → own + 2 * (u - 1) ≡ id + 2 * before + 2 * (f + g + (u - 1)) = λ u. omega (arith, at, parts.behind) in
       (λ i u. (e u i) ∷ []) ∙ ap (λ (t : Tree). output_ids (totalizer bound) t (id + 2 * before)) (sym parts.halves.tree)
 
-  pub node_same : (polarity : Polarity) (count : ℕ) (left right : Handed) → count ≡ min (left.count + right.count) (bound + 1)
+  pub node_same : (polarity : Polarity) (count : ℕ) (left right : Handed) → count ≡ outputs_of bound (node (tree_of (weights front)) (tree_of (weights back)))
       → StandAt bound front (id + 2 * before) left → StandAt bound back (id + 2 * (before + fresh_over (totalizer bound) front)) right
       → HaveSameSteps (own_given polarity (bound + 1) count left.count right.count left.source front right.source back own) (own_justifications_by polarity bound l r before (id + 2 * before))
   node_same polarity count left right counted lefts rights =
       let middle : id + 2 * (before + fresh_over (totalizer bound) front) ≡ id + 2 * before + 2 * fresh_of (totalizer bound) l = omega arith in
       same_then
       (own_same polarity bound front back (id + 2 * before) own count left.count right.count left.source right.source lefts.ids (rights.ids ∙ ap (output_ids (totalizer bound) r) middle) (omega (arith, at, parts.behind))
-      (omega (arith, counted, node_length bound l r, lefts.count, rights.count)) lefts.count rights.count)
+      counted lefts.count rights.count)
       (own_free polarity bound l r 0 before (id + 2 * before))

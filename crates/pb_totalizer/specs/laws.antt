@@ -9,6 +9,7 @@ pub mod ExactJustifications
 pub mod ExactShort
 pub mod LimitCounts
 pub mod Limits
+pub mod PairRows
 pub mod Partners
 pub mod Shares
 pub mod TotalizerDerives

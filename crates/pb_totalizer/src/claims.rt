@@ -1,43 +1,54 @@
 //! A clause from a node's parts to its outputs, by the constraints that it follows from.
-ghost use Rattle.std.specs.Prelude.{◌≡◌, ◌≤◌, ◌<◌, ◌+◌, ◌^◌, ◌++◌, ◌∷◌, [], IfOk};
+ghost use Rattle.std.specs.Prelude.{◌≡◌, ◌≤◌, ◌<◌, ◌+◌, ◌^◌, ◌++◌, ◌∷◌, []};
 ghost use Rattle.pb_norm.specs.BoundedSums.{vars_of};
 ghost use Rattle.pb_norm.specs.Constraints.{weights};
+ghost use Rattle.pb_family.specs.Derivations.{claimed};
 ghost use Rattle.pb_family.specs.HandedJustifications.{HandsJustifications};
+ghost use Rattle.pb_family.specs.StepSinks.{HandsSteps};
 ghost use Rattle.pb_totalizer.specs.inner.Numbers.{AreSummed};
-ghost use Rattle.pb_totalizer.specs.inner.Sources.{some_ids, pair_ids, pair_weakened, pair_beside};
+ghost use Rattle.pb_totalizer.specs.inner.Sources.{listed, some_ids, pair_weakened, pair_beside};
 
 use crate::node_ids::{NodeIds, Source};
 use pb_base::Term;
 use pb_family::{SinkResult, StepSink, derive_claim};
-use std::alloc::{AllocError, Global};
+use std::alloc::Global;
 
-/// Adds the id of the first constraint of a number's output, if it has one.
-pub fn push_part(ids: &mut Vec<u64>, source: Source, number: u64) -> Result<(), AllocError>
+/// The id of the first constraint of a number's output, if it has one.
+pub fn first_id(source: Source, number: u64) -> Option<u64>
     requires { number < 2 ^ 33 }
-    ensures { IfOk result (λ _. ids.new.items ≡ ids.old.items ++ some_ids source number) }
+    ensures { listed result ≡ some_ids source number }
 {
     if number == 0 {
-        return Ok(());
+        return None;
     }
     match source {
-        Source::Leaf => Ok(()),
-        Source::Fresh(row) => {
-            ids.push(row.first + 2 * (number - 1))?;
-            Ok(())
-        }
+        Source::Leaf => None,
+        Source::Fresh(row) => Some(row.first + 2 * (number - 1)),
     }
 }
 
-/// The ids of the constraints that a pair's clause follows from.
-fn ids_of(alloc: Global, node: &NodeIds, i: u64, j: u64) -> Result<Vec<u64>, AllocError>
-    requires { AreSummed node.now.left.count node.now.right.count node.now.cap i j }
-    ensures { IfOk result (λ ids. ids.items ≡ pair_ids node.now i j) }
+/// A clause that follows from the constraints with some ids, one or none of each part and one besides, without some leaves.
+pub fn derive_by<T: StepSink>(
+    alloc: Global,
+    left: Option<u64>,
+    right: Option<u64>,
+    own: u64,
+    beside: &[Term],
+    sink: &mut T,
+) -> SinkResult
+    requires { (T.state sink.old).next + 1 < 2 ^ 62 }
+    ensures { HandsSteps (claimed (T.state sink.old).next (listed left ++ (listed right ++ own ∷ [])) (vars_of (weights beside.now))) result (T.state sink.old) (T.state sink.new) }
 {
-    let mut ids = Vec::new(alloc);
-    push_part(&mut ids, node.left.source, i)?;
-    push_part(&mut ids, node.right.source, j)?;
-    ids.push(node.own + 2 * (i + j - 1) + 1)?;
-    Ok(ids)
+    match left {
+        Some(first) => match right {
+            Some(second) => derive_claim(alloc, &[first, second, own], beside, sink),
+            None => derive_claim(alloc, &[first, own], beside, sink),
+        },
+        None => match right {
+            Some(second) => derive_claim(alloc, &[second, own], beside, sink),
+            None => derive_claim(alloc, &[own], beside, sink),
+        },
+    }
 }
 
 /// The leaves of the part that has no number, if there is one.
@@ -66,7 +77,8 @@ pub fn derive_pair<T: StepSink>(
     requires few { (T.state sink.old).next + 1 < 2 ^ 62 }
     ensures { HandsJustifications (pair_beside node.now i j ∷ []) result (T.state sink.old) (T.state sink.new) }
 {
-    let ids = ids_of(alloc, node, i, j)?;
-    let beside = leaves_beside(node, i, j);
-    derive_claim(alloc, ids.as_slice(), beside, sink)
+    let left = first_id(node.left.source, i);
+    let right = first_id(node.right.source, j);
+    let own = node.own + 2 * (i + j - 1) + 1;
+    derive_by(alloc, left, right, own, leaves_beside(node, i, j), sink)
 }

@@ -1,30 +1,19 @@
 //! The derivation of a totalizer's clauses.
-ghost use Rattle.std.specs.Prelude.{◌≡◌, ◌≤◌, ◌<◌, ◌+◌, ◌^◌, ◌++◌, ◌∷◌, [], IfOk};
+ghost use Rattle.std.specs.Prelude.{◌≤◌, ◌<◌, ◌+◌, ◌^◌, ◌∷◌, []};
 ghost use Rattle.pb_norm.specs.BoundedSums.{sum_within};
 ghost use Rattle.pb_family.specs.StepSinks.{HandsSteps};
 ghost use Rattle.pb_family.specs.HandedJustifications.{HandsJustifications};
 ghost use Rattle.pb_totalizer.specs.TotalizerSteps.{totalizer_steps};
-ghost use Rattle.pb_totalizer.specs.inner.Sources.{some_ids, root_given};
+ghost use Rattle.pb_totalizer.specs.inner.Sources.{root_given};
 
-use crate::claims::push_part;
+use crate::claims::{derive_by, first_id};
 use crate::handing::derive_nodes;
 use crate::node_ids::Source;
 use crate::polarity::Polarity;
 use crate::whole::Whole;
-use pb_family::{SinkResult, StepSink, derive_claim};
+use pb_family::{SinkResult, StepSink};
 use pb_tree::{TreeClaims, derive_along};
-use std::alloc::{AllocError, Global};
-
-/// The ids of the constraints that the root's clause follows from.
-fn root_ids(alloc: Global, root: Source, number: u64, own: u64) -> Result<Vec<u64>, AllocError>
-    requires { number < 2 ^ 33 }
-    ensures { IfOk result (λ ids. ids.items ≡ some_ids root number ++ own ∷ []) }
-{
-    let mut ids = Vec::new(alloc);
-    push_part(&mut ids, root, number)?;
-    ids.push(own)?;
-    Ok(ids)
-}
+use std::alloc::Global;
 
 /// That not so many leaves are true, by the sum's own constraint.
 pub fn derive_root<T: StepSink>(
@@ -38,8 +27,7 @@ pub fn derive_root<T: StepSink>(
     requires few { (T.state sink.old).next + 1 < 2 ^ 62 }
     ensures { HandsJustifications (root_given root number own ∷ []) result (T.state sink.old) (T.state sink.new) }
 {
-    let ids = root_ids(alloc, root, number, own)?;
-    derive_claim(alloc, ids.as_slice(), &[], sink)
+    derive_by(alloc, first_id(root, number), None, own, &[], sink)
 }
 
 /// The clauses of a totalizer, with that of the root, which follows from the sum's constraint with the id `own`.

@@ -1,32 +1,21 @@
 //! The derivation of an exact sum's clauses.
-ghost use Rattle.std.specs.Prelude.{◌≡◌, ◌≤◌, ◌<◌, ◌+◌, ◌^◌, ◌++◌, ◌∷◌, [], IfOk};
+ghost use Rattle.std.specs.Prelude.{◌≤◌, ◌<◌, ◌+◌, ◌^◌, ◌∷◌, []};
 ghost use Rattle.pb_norm.specs.BoundedSums.{sum_within};
 ghost use Rattle.pb_family.specs.StepSinks.{HandsSteps};
 ghost use Rattle.pb_family.specs.HandedJustifications.{HandsJustifications};
 ghost use Rattle.pb_totalizer.specs.ExactSteps.{exact_steps};
-ghost use Rattle.pb_totalizer.specs.inner.LimitSources.{seconds_from, least_given};
+ghost use Rattle.pb_totalizer.specs.inner.LimitSources.{least_given};
 
+use crate::claims::derive_by;
 use crate::derivation::derive_root;
 use crate::handing::derive_nodes;
-use crate::limit_claims::push_second;
+use crate::limit_claims::second_id;
 use crate::node_ids::Source;
 use crate::polarity::Polarity;
 use crate::whole::Whole;
-use pb_family::{SinkResult, StepSink, derive_claim};
+use pb_family::{SinkResult, StepSink};
 use pb_tree::{TreeClaims, derive_along};
-use std::alloc::{AllocError, Global};
-
-/// The ids of the constraints that the clause of the bound's output follows from.
-fn least_ids(alloc: Global, root: Source, number: u64, lower: u64) -> Result<Vec<u64>, AllocError>
-    requires some { 1 ≤ number }
-    requires small { number < 2 ^ 33 }
-    ensures { IfOk result (λ ids. ids.items ≡ seconds_from root number ++ lower ∷ []) }
-{
-    let mut ids = Vec::new(alloc);
-    push_second(&mut ids, root, number)?;
-    ids.push(lower)?;
-    Ok(ids)
-}
+use std::alloc::Global;
 
 /// That so many leaves are true, by the sum's constraint from below.
 fn derive_least<T: StepSink>(
@@ -41,8 +30,7 @@ fn derive_least<T: StepSink>(
     requires few { (T.state sink.old).next + 1 < 2 ^ 62 }
     ensures { HandsJustifications (least_given root number lower ∷ []) result (T.state sink.old) (T.state sink.new) }
 {
-    let ids = least_ids(alloc, root, number, lower)?;
-    derive_claim(alloc, ids.as_slice(), &[], sink)
+    derive_by(alloc, second_id(root, number), None, lower, &[], sink)
 }
 
 /// The clauses of an exact sum, with those of the root, which follow from the sum's constraints from below and from above.

@@ -1,53 +1,40 @@
 //! A clause from a node's outputs to its parts, by the constraints that it follows from.
-ghost use Rattle.std.specs.Prelude.{◌≡◌, ◌≤◌, ◌<◌, ◌+◌, ◌^◌, ◌++◌, ◌∷◌, [], IfOk};
+ghost use Rattle.std.specs.Prelude.{◌≡◌, ◌≤◌, ◌<◌, ◌+◌, ◌^◌, ◌∷◌, []};
 ghost use Rattle.pb_norm.specs.BoundedSums.{vars_of};
 ghost use Rattle.pb_norm.specs.Constraints.{weights};
 ghost use Rattle.pb_family.specs.HandedJustifications.{HandsJustifications};
-ghost use Rattle.pb_totalizer.specs.inner.LimitSources.{seconds_from, ids_after, limit_ids, limit_weakened, limit_beside};
+ghost use Rattle.pb_totalizer.specs.inner.LimitSources.{seconds_from, ids_after, limit_weakened, limit_beside};
 ghost use Rattle.pb_totalizer.specs.inner.Numbers.{AreLimited};
+ghost use Rattle.pb_totalizer.specs.inner.Sources.{listed};
 
+use crate::claims::derive_by;
 use crate::node_ids::{NodeIds, Side, Source};
 use pb_base::Term;
-use pb_family::{SinkResult, StepSink, derive_claim};
-use std::alloc::{AllocError, Global};
+use pb_family::{SinkResult, StepSink};
+use std::alloc::Global;
 
-/// Adds the id of the second constraint of a number's output, if it has one.
-pub fn push_second(ids: &mut Vec<u64>, source: Source, number: u64) -> Result<(), AllocError>
+/// The id of the second constraint of a number's output, if it has one.
+pub fn second_id(source: Source, number: u64) -> Option<u64>
     requires some { 1 ≤ number }
     requires small { number < 2 ^ 33 }
-    ensures { IfOk result (λ _. ids.new.items ≡ ids.old.items ++ seconds_from source number) }
+    ensures { listed result ≡ seconds_from source number }
 {
     match source {
-        Source::Leaf => Ok(()),
-        Source::Fresh(row) => {
-            ids.push(row.first + 2 * (number - 1) + 1)?;
-            Ok(())
-        }
+        Source::Leaf => None,
+        Source::Fresh(row) => Some(row.first + 2 * (number - 1) + 1),
     }
 }
 
-/// Adds that of the output after an index, if there is one.
-fn push_after(ids: &mut Vec<u64>, side: &Side, index: u64) -> Result<(), AllocError>
+/// That of the output after an index, if there is one.
+fn id_after(side: &Side, index: u64) -> Option<u64>
     requires { index < 2 ^ 32 }
-    ensures { IfOk result (λ _. ids.new.items ≡ ids.old.items ++ ids_after side.now.source side.now.count index) }
+    ensures { listed result ≡ ids_after side.now.source side.now.count index }
 {
     if index < side.count {
-        push_second(ids, side.source, index + 1)
+        second_id(side.source, index + 1)
     } else {
-        Ok(())
+        None
     }
-}
-
-/// The ids of the constraints that the clause of two numbers follows from.
-fn ids_of(alloc: Global, node: &NodeIds, i: u64, j: u64) -> Result<Vec<u64>, AllocError>
-    requires { AreLimited node.now.left.count node.now.right.count node.now.count i j }
-    ensures { IfOk result (λ ids. ids.items ≡ limit_ids node.now i j) }
-{
-    let mut ids = Vec::new(alloc);
-    push_after(&mut ids, &node.left, i)?;
-    push_after(&mut ids, &node.right, j)?;
-    ids.push(node.own + 2 * (i + j))?;
-    Ok(ids)
 }
 
 /// The leaves of the part that is past its last output, if there is one.
@@ -76,7 +63,8 @@ pub fn derive_limit<T: StepSink>(
     requires few { (T.state sink.old).next + 1 < 2 ^ 62 }
     ensures { HandsJustifications (limit_beside node.now i j ∷ []) result (T.state sink.old) (T.state sink.new) }
 {
-    let ids = ids_of(alloc, node, i, j)?;
-    let beside = leaves_after(node, i, j);
-    derive_claim(alloc, ids.as_slice(), beside, sink)
+    let left = id_after(&node.left, i);
+    let right = id_after(&node.right, j);
+    let own = node.own + 2 * (i + j);
+    derive_by(alloc, left, right, own, leaves_after(node, i, j), sink)
 }

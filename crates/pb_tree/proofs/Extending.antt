@@ -110,7 +110,7 @@ leaf_sum-agree f g (leaf u) same = same u refl
 leaf_sum-agree f g (node l r) same =
     omega (arith, leaf_sum-agree f g l (λ u h. same u (inl h)), leaf_sum-agree f g r (λ u h. same u (inr h)))
 
-at_most_weight : (b : Bool) (n : ℕ) → cond b n 0 ≤ n
+pub at_most_weight : (b : Bool) (n : ℕ) → cond b n 0 ≤ n
 at_most_weight true n = omega arith
 at_most_weight false n = omega arith
 

@@ -2,7 +2,7 @@
 use Rattle.std.proofs.Common.{◌≡◌, ◌<◌, ◌≤◌, ◌+◌, ◌⊎◌, ℕ, Bool, true, false, cond, List, [], ◌∷◌, length, min, refl, sym, ap, ◌∙◌, subst, arith, inl, inr, length-append}
 use Rattle.std.specs.Prelude.{Contains, All, sum_by, map}
 use Rattle.std.proofs.lemmas.Bool.{lt-leb, not_from_false, or_left}
-use Rattle.std.proofs.lemmas.List.Elements.{All-contains, Contains-append_left, Contains-append_right, Contains-append_cases}
+use Rattle.std.proofs.lemmas.List.Elements.{All-nil, All-cons, All-append, All-contains, Contains-append_left, Contains-append_right}
 use Rattle.std.proofs.lemmas.List.Sums.{sum_by-cons}
 use Rattle.pb_base.specs.declared.literal.Lit.{Lit}
 use Rattle.pb_base.specs.Literals.{negated, lit_value, clause_value, IsModel, AgreeBelow, is_among}
@@ -137,24 +137,18 @@ pub tree_extends : (s : Scheme) (W : ℕ → Type 0) → IsLawful s W → (c : B
     → (w : ℕ → Bool) × AgreeBelow first v w × IsModel w (tree_clauses s (tree_of c.terms) first)
 tree_extends s W laws c suits first below v holds =
     let t = tree_of c.terms in
-    let cs = tree_clauses s t first in
     let top = output s t first s.cap in
     let cut = suits.cut in
     let ext = extension s W laws (omega arith) (own_of s) (lawful_by_reification s W laws) v t first (leaf_below first c.terms below) (leaf_positive s c suits) in
     let w = ext.now in
+    let Holds : List Lit → Type 0 = λ d. clause_value w d ≡ true in
     let sum = passing_sum s c suits (lit_value v) in
     let off = ext.means s.cap (cap_value s W laws c suits) ∙ lt-leb s.cap (leaf_sum (passing s (lit_value v)) t) (omega arith) in
     let unset : lit_value w (negated top) ≡ true = rw (lit_value-negated w top) (not_from_false (lit_value w top) off) in (
       w,
       ext.agrees,
-      all_from_each (λ d. clause_value w d ≡ true) cs (λ d h.
-          elim (Contains-append_cases (clauses_of s t first) ((negated top ∷ []) ∷ []) d h) as (λ _. clause_value w d ≡ true) [
-            | inl inside ↦ ext.holds d inside
-            | inr last ↦ elim (Contains-cons_cases (negated top ∷ []) [] d last) as (λ _. clause_value w d ≡ true) [
-              | inl e ↦ subst (λ (d : List Lit). clause_value w d ≡ true) e (or_left (lit_value w (negated top)) false unset)
-              | inr none ↦ absurd (Contains-nil d none)
-            ]
-          ]),
+      All-append Holds (clauses_of s t first) ((negated top ∷ []) ∷ []) (all_from_each Holds (clauses_of s t first) ext.holds)
+          (All-cons Holds (negated top ∷ []) [] (or_left (lit_value w (negated top)) false unset) (All-nil Holds)),
     )
 
 pub named_of : (s : Scheme) (ts : List Weighted) (first n : ℕ) → IsNamed s (tree_of ts) first n → Contains (map (λ t. t.lit.var) ts) n ⊎ ((first ≤ n) × (n < first + fresh_of s (tree_of ts)))
@@ -170,17 +164,9 @@ tree_names s W laws c suits first =
     let t = tree_of ts in
     let top = output s t first s.cap in
     let Named : Lit → Type 0 = λ l. Contains (map (λ t. t.lit.var) ts) l.var ⊎ ((first ≤ l.var) × (l.var < first + fresh_of s t)) in
-    all_from_each (All Named) (tree_clauses s t first) (λ d h. all_from_each Named d (λ k m.
-    named_of s ts first k.var (elim (Contains-append_cases (clauses_of s t first) ((negated top ∷ []) ∷ []) d h) as (λ _. IsNamed s t first k.var) [
-      | inl inside ↦ along_named s W laws (own_of s) (lawful_by_reification s W laws) t first d inside k m
-      | inr last ↦ elim (Contains-cons_cases (negated top ∷ []) [] d last) as (λ _. IsNamed s t first k.var) [
-        | inl e ↦ elim (Contains-cons_cases (negated top) [] k (subst (λ (d : List Lit). Contains d k) (sym e) m)) as (λ _. IsNamed s t first k.var) [
-          | inl same ↦ subst (λ (l : Lit). IsNamed s t first l.var) same (output_named s W laws t first s.cap (cap_value s W laws c suits))
-          | inr none ↦ absurd (Contains-nil k none)
-        ]
-        | inr none ↦ absurd (Contains-nil d none)
-      ]
-    ])))
+    All-append (All Named) (clauses_of s t first) ((negated top ∷ []) ∷ [])
+    (all_from_each (All Named) (clauses_of s t first) (λ d h. all_from_each Named d (λ k m. named_of s ts first k.var (along_named s W laws (own_of s) (lawful_by_reification s W laws) t first d h k m))))
+    (All-cons (All Named) (negated top ∷ []) [] (All-cons Named (negated top) [] (named_of s ts first top.var (output_named s W laws t first s.cap (cap_value s W laws c suits))) (All-nil Named)) (All-nil (All Named)))
 
 pub tree_counts : (s : Scheme) (W : ℕ → Type 0) → IsLawful s W → (t : Tree) (first : ℕ) → length (tree_clauses s t first) ≡ clause_count_of s t + 1
 tree_counts s W laws t first =

@@ -13,13 +13,12 @@ use Rattle.pb_tree.proofs.Sums.{IsLawful}
 use Rattle.pb_tree.proofs.Extending.{IsNamed, output_named}
 use Rattle.pb_tree.specs.Pairs.{unless_none}
 use Rattle.pb_derive.specs.Reifications.{reverse_of}
-use Rattle.pb_derive.specs.Justifications.{Justification}
 use Rattle.pb_derive.specs.inner.Follows.{AllKnown}
 use Rattle.pb_derive.proofs.Justified.{IsJustified, ReificationsKnown}
 use Rattle.pb_tree.specs.Pairs.{Pair, pair_clause}
 use Rattle.pb_tree.specs.TreeSteps.{leaves, reifications, output_ids, part_ids, part_weakened, pair_justification, pair_justifications, justifications, root_justification, tree_justifications}
 use Rattle.pb_tree.proofs.AlongJustifications.{clause_in, along_clauses, along_justified}
-use Rattle.pb_tree.proofs.PairLists.{map-append}
+use Rattle.pb_tree.proofs.PairLists.{map-append, map-map}
 use Rattle.pb_tree.proofs.TreeReifications.{reification, output_known, known_left, known_right}
 use Rattle.pb_tree.proofs.TreeParts.{IsOver, IsPart, AreFromParts, given_value, given_part, over_left, over_right}
 use Rattle.pb_derive.proofs.Appends.{weight-append}
@@ -40,14 +39,9 @@ pub record IsByPairs (s : Scheme) (pairs : List ℕ → List ℕ → List Pair) 
 
 -- ---- the clauses
 
-pub clauses_by_pairs : (s : Scheme) (l r : Tree) (first id : ℕ) (ps : List Pair) → map (λ (x : Justification). x.clause) (map (pair_justification s l r first id) ps) ≡ map (pair_clause s.cap (output s l first) (output s r (first + fresh_of s l)) (output s (node l r) first)) ps
-clauses_by_pairs s l r first id [] = refl
-clauses_by_pairs s l r first id (p ∷ ps) =
-    ap (λ (cs : List (List Lit)). pair_clause s.cap (output s l first) (output s r (first + fresh_of s l)) (output s (node l r) first) p ∷ cs) (clauses_by_pairs s l r first id ps)
-
 pub pairs_clauses : (s : Scheme) (pairs : List ℕ → List ℕ → List Pair) → IsByPairs s pairs → (l r : Tree) (first id : ℕ) → IsPositive s (node l r) → map clause_in (pair_justifications s pairs l r first id) ≡ own_of s l r first
 pairs_clauses s pairs by l r first id positive =
-    clauses_by_pairs s l r first id (pairs (values s l) (values s r))
+    map-map clause_in (pair_justification s l r first id) (pairs (values s l) (values s r))
     ∙ sym (by.merged l r (λ u h. positive u (inl h)) (λ u h. positive u (inr h)) (output s l first) (output s r (first + fresh_of s l)) (output s (node l r) first))
 
 pub justifications_clauses : (s : Scheme) (pairs : List ℕ → List ℕ → List Pair) → IsByPairs s pairs → (t : Tree) (first id : ℕ) → IsPositive s t → map clause_in (justifications s pairs t first id) ≡ clauses_of s t first
@@ -61,21 +55,17 @@ tree_justifications_clauses s pairs by t first id own positive =
 
 -- ---- the literals of a pair's clause
 
+unless_here : (f : ℕ → Lit) (u : ℕ) → u ≢ 0 → Contains (unless_none f u) (negated (f u))
+unless_here f zero some = absurd (some refl)
+unless_here f (suc u) some = Contains-here (negated (f (suc u))) []
+
 pair_left : (cap : ℕ) (f g h : ℕ → Lit) (p : Pair) → p.left ≢ 0 → Contains (pair_clause cap f g h p) (negated (f p.left))
-pair_left cap f g h p some = Contains-append_left (unless_none f p.left) (unless_none g p.right ++ h (min (p.left + p.right) cap) ∷ []) (negated (f p.left)) (first p.left some)
-  where
-    first : (u : ℕ) → u ≢ 0 → Contains (unless_none f u) (negated (f u))
-    first zero some = absurd (some refl)
-    first (suc u) some = Contains-here (negated (f (suc u))) []
+pair_left cap f g h p some = Contains-append_left (unless_none f p.left) (unless_none g p.right ++ h (min (p.left + p.right) cap) ∷ []) (negated (f p.left)) (unless_here f p.left some)
 
 pair_right : (cap : ℕ) (f g h : ℕ → Lit) (p : Pair) → p.right ≢ 0 → Contains (pair_clause cap f g h p) (negated (g p.right))
 pair_right cap f g h p some =
     let last = h (min (p.left + p.right) cap) ∷ [] in
-    Contains-append_right (unless_none f p.left) (unless_none g p.right ++ last) (negated (g p.right)) (Contains-append_left (unless_none g p.right) last (negated (g p.right)) (first p.right some))
-  where
-    first : (u : ℕ) → u ≢ 0 → Contains (unless_none g u) (negated (g u))
-    first zero some = absurd (some refl)
-    first (suc u) some = Contains-here (negated (g (suc u))) []
+    Contains-append_right (unless_none f p.left) (unless_none g p.right ++ last) (negated (g p.right)) (Contains-append_left (unless_none g p.right) last (negated (g p.right)) (unless_here g p.right some))
 
 pair_own : (cap : ℕ) (f g h : ℕ → Lit) (p : Pair) → Contains (pair_clause cap f g h p) (h (min (p.left + p.right) cap))
 pair_own cap f g h p =
@@ -185,20 +175,26 @@ pub justifications_justified : (K : ℕ → Constraint → Type 0) (s : Scheme) 
 justifications_justified K s W laws pairs by low t first id le over light known =
     along_justified K s (pair_justifications s pairs) low (pairs_justified K s W laws pairs by low) t first id le over light known
 
--- and the root's, where the sum's own constraint stands under an id
+-- the root's, where the sum's own constraint stands under an id
+pub root_justified : (K : ℕ → Constraint → Type 0) (s : Scheme) (W : ℕ → Type 0) → IsLawful s W → AreFromParts s → (low : ℕ) (t : Tree) (first id own bound : ℕ) → IsOver s low t → weight (leaves t) < 2 ^ 100
+    → ReificationsKnown K id (reifications s t first) → s.cap ≡ bound + 1 → bound ≤ weight (leaves t) → Contains (values s t) s.cap → K own (record { terms = map opposite (leaves t); degree = weight (leaves t) - bound })
+    → IsJustified K (root_justification s t first id own)
+root_justified K s W laws from low t first id own bound over light known cut within top held =
+    let root = negated (output s t first s.cap) in
+    let clause = root ∷ [] in
+    let side = given_value K s W laws from low t first id s.cap clause over known top (among_from clause root (Contains-here root [])) in
+    let constraint : Constraint = record { terms = map opposite (leaves t); degree = weight (leaves t) - bound } in (
+      side.0 ++ constraint ∷ [],
+      known-append K (output_ids s t id s.cap) (own ∷ []) side.0 (constraint ∷ []) side.1 (held, tt),
+      follows_root clause (leaves t) bound s.cap side.0 side.2 (omega arith) within light (root_justification s t first id own).ids,
+    )
+
+-- and all of them
 pub tree_justified : (K : ℕ → Constraint → Type 0) (s : Scheme) (W : ℕ → Type 0) → IsLawful s W → (pairs : List ℕ → List ℕ → List Pair) → IsByPairs s pairs
     → (low : ℕ) (t : Tree) (first id own bound : ℕ) → low ≤ first → IsOver s low t → weight (leaves t) < 2 ^ 100 → ReificationsKnown K id (reifications s t first)
     → s.cap ≡ bound + 1 → bound ≤ weight (leaves t) → Contains (values s t) s.cap → K own (record { terms = map opposite (leaves t); degree = weight (leaves t) - bound })
     → All (IsJustified K) (tree_justifications s pairs t first id own)
 tree_justified K s W laws pairs by low t first id own bound le over light known cut within top held =
-    let root = negated (output s t first s.cap) in
-    let clause = root ∷ [] in
-    let side = given_value K s W laws by.from low t first id s.cap clause over known top (among_from clause root (Contains-here root [])) in
-    let constraint : Constraint = record { terms = map opposite (leaves t); degree = weight (leaves t) - bound } in
     All-append (IsJustified K) (justifications s pairs t first id) (root_justification s t first id own ∷ [])
     (justifications_justified K s W laws pairs by low t first id le over light known)
-    (All-cons (IsJustified K) (root_justification s t first id own) [] (
-      side.0 ++ constraint ∷ [],
-      known-append K (output_ids s t id s.cap) (own ∷ []) side.0 (constraint ∷ []) side.1 (held, tt),
-      follows_root clause (leaves t) bound s.cap side.0 side.2 (omega arith) within light (root_justification s t first id own).ids,
-    ) (All-nil (IsJustified K)))
+    (All-cons (IsJustified K) (root_justification s t first id own) [] (root_justified K s W laws by.from low t first id own bound over light known cut within top held) (All-nil (IsJustified K)))

@@ -9,7 +9,7 @@ use Rattle.pb_norm.specs.Constraints.{Weighted}
 use Rattle.pb_norm.proofs.Derived.{Derived}
 use Rattle.pb_base.proofs.Members.{Contains-here}
 use Rattle.pb_tree.specs.Tree.{Tree, empty, leaf, node, IsLeafOf, leaf_sum}
-use Rattle.pb_tree.specs.Scheme.{Scheme, values, fresh_of, output, own_of, clauses_of}
+use Rattle.pb_tree.specs.Scheme.{Scheme, values, fresh_of, output, along, own_of, clauses_of}
 use Rattle.pb_tree.proofs.Sums.{Reach, ReachWith, IsLawful}
 use Rattle.pb_tree.proofs.Threes.{implied, denied, implied_both, denied_left, denied_right}
 
@@ -35,21 +35,21 @@ reach_value s W laws p (node l r) x reach positive within =
       ]
     ]
 
--- the clauses of a node's parts and its own are listed
-pub record Listed (s : Scheme) (cs : List (List Lit)) (l r : Tree) (first : ℕ) : Type 0 where
-  pub left : (c : List Lit) → Contains (clauses_of s l first) c → Contains cs c
-  pub right : (c : List Lit) → Contains (clauses_of s r (first + fresh_of s l)) c → Contains cs c
-  pub own : (c : List Lit) → Contains (own_of s l r first) c → Contains cs c
+-- of what stands along a tree, a node's parts' and its own are listed
+pub record Listed (s : Scheme) (own : Tree → Tree → ℕ → List (List Lit)) (cs : List (List Lit)) (l r : Tree) (first : ℕ) : Type 0 where
+  pub left : (c : List Lit) → Contains (along s own l first) c → Contains cs c
+  pub right : (c : List Lit) → Contains (along s own r (first + fresh_of s l)) c → Contains cs c
+  pub here : (c : List Lit) → Contains (own l r first) c → Contains cs c
 
-pub listed_parts : (s : Scheme) (cs : List (List Lit)) (l r : Tree) (first : ℕ) → ((c : List Lit) → Contains (clauses_of s (node l r) first) c → Contains cs c) → Listed s cs l r first
-listed_parts s cs l r first listed =
-    let lefts = clauses_of s l first in
-    let rights = clauses_of s r (first + fresh_of s l) in
-    let owns = own_of s l r first in
+pub listed_parts : (s : Scheme) (own : Tree → Tree → ℕ → List (List Lit)) (cs : List (List Lit)) (l r : Tree) (first : ℕ) → ((c : List Lit) → Contains (along s own (node l r) first) c → Contains cs c) → Listed s own cs l r first
+listed_parts s own cs l r first listed =
+    let lefts = along s own l first in
+    let rights = along s own r (first + fresh_of s l) in
+    let owns = own l r first in
     record {
       left = λ c h. listed c (Contains-append_left lefts (rights ++ owns) c h);
       right = λ c h. listed c (Contains-append_right lefts (rights ++ owns) c (Contains-append_left rights owns c h));
-      own = λ c h. listed c (Contains-append_right lefts (rights ++ owns) c (Contains-append_right rights owns c h));
+      here = λ c h. listed c (Contains-append_right lefts (rights ++ owns) c (Contains-append_right rights owns c h));
     }
 
 -- forwards
@@ -69,18 +69,18 @@ reach_output s W laws p cs given passes (node l r) first x listed reach positive
     let h = output s (node l r) first in
     let both : W (a + b) = subst W reach.2 within in
     let parts = laws.within_parts a b both in
-    let lists = listed_parts s cs l r first listed in
+    let lists = listed_parts s (own_of s) cs l r first listed in
     elim (cases_eq a 0) as (λ _. Derived cs given (h (min x s.cap))) [
       | inl none ↦ subst (λ (n : ℕ). Derived cs given (h (min n s.cap))) (let e : b ≡ x = omega arith in e)
-          (implied cs given (g (min b s.cap)) (h (min b s.cap)) (lists.own _ (laws.right_clause l r f g h (min b s.cap) (reach_value s W laws p r b reach.4 (omega arith) parts.1)))
+          (implied cs given (g (min b s.cap)) (h (min b s.cap)) (lists.here _ (laws.right_clause l r f g h (min b s.cap) (reach_value s W laws p r b reach.4 (omega arith) parts.1)))
           (reach_output s W laws p cs given passes r (first + fresh_of s l) b lists.right reach.4 (omega arith) parts.1))
       | inr left ↦ elim (cases_eq b 0) as (λ _. Derived cs given (h (min x s.cap))) [
         | inl none ↦ subst (λ (n : ℕ). Derived cs given (h (min n s.cap))) (let e : a ≡ x = omega arith in e)
-            (implied cs given (f (min a s.cap)) (h (min a s.cap)) (lists.own _ (laws.left_clause l r f g h (min a s.cap) (reach_value s W laws p l a reach.3 (omega arith) parts.0)))
+            (implied cs given (f (min a s.cap)) (h (min a s.cap)) (lists.here _ (laws.left_clause l r f g h (min a s.cap) (reach_value s W laws p l a reach.3 (omega arith) parts.0)))
             (reach_output s W laws p cs given passes l first a lists.left reach.3 (omega arith) parts.0))
         | inr right ↦ subst (λ (n : ℕ). Derived cs given (h n)) (let e : min (min a s.cap + min b s.cap) s.cap ≡ min x s.cap = omega arith in e)
             (implied_both cs given (f (min a s.cap)) (g (min b s.cap)) (h (min (min a s.cap + min b s.cap) s.cap))
-            (lists.own _ (laws.both_clause l r f g h (min a s.cap) (min b s.cap) (reach_value s W laws p l a reach.3 (omega arith) parts.0) (reach_value s W laws p r b reach.4 (omega arith) parts.1) (laws.within_capped a b both)))
+            (lists.here _ (laws.both_clause l r f g h (min a s.cap) (min b s.cap) (reach_value s W laws p l a reach.3 (omega arith) parts.0) (reach_value s W laws p r b reach.4 (omega arith) parts.1) (laws.within_capped a b both)))
             (reach_output s W laws p cs given passes l first a lists.left reach.3 (omega arith) parts.0)
             (reach_output s W laws p cs given passes r (first + fresh_of s l) b lists.right reach.4 (omega arith) parts.1))
       ]
@@ -131,7 +131,7 @@ push_leaf s W laws p cs given passes (node l r) u first x positive listed reach 
     let h = output s (node l r) first in
     let both : W (a + b) = subst W reach.2 within in
     let parts = laws.within_parts a b both in
-    let lists = listed_parts s cs l r first listed in
+    let lists = listed_parts s (own_of s) cs l r first listed in
     let joint : min x s.cap ≡ min (min a s.cap + min b s.cap) s.cap = omega arith in
     elim reach.3 as (λ _. Derived cs given (negated u.lit)) [
       | inl left ↦
@@ -139,10 +139,10 @@ push_leaf s W laws p cs given passes (node l r) u first x positive listed reach 
           let value = reach_value s W laws any l a (with_any s p l u a left.0) some parts.0 in
           push_leaf s W laws p cs given passes l u first a positive lists.left left.0 parts.0
           (elim (cases_eq b 0) as (λ _. Derived cs given (negated (f (min a s.cap)))) [
-            | inl none ↦ denied cs given (f (min a s.cap)) (h (min a s.cap)) (lists.own _ (laws.left_clause l r f g h (min a s.cap) value))
+            | inl none ↦ denied cs given (f (min a s.cap)) (h (min a s.cap)) (lists.here _ (laws.left_clause l r f g h (min a s.cap) value))
                 (subst (λ (n : ℕ). Derived cs given (negated (h (min n s.cap)))) (let e : x ≡ a = omega arith in e) top)
             | inr more ↦ denied_left cs given (f (min a s.cap)) (g (min b s.cap)) (h (min (min a s.cap + min b s.cap) s.cap))
-                (lists.own _ (laws.both_clause l r f g h (min a s.cap) (min b s.cap) value (reach_value s W laws p r b left.1 (omega arith) parts.1) (laws.within_capped a b both)))
+                (lists.here _ (laws.both_clause l r f g h (min a s.cap) (min b s.cap) value (reach_value s W laws p r b left.1 (omega arith) parts.1) (laws.within_capped a b both)))
                 (reach_output s W laws p cs given passes r (first + fresh_of s l) b lists.right left.1 (omega arith) parts.1)
                 (subst (λ (n : ℕ). Derived cs given (negated (h n))) joint top)
           ])
@@ -151,10 +151,10 @@ push_leaf s W laws p cs given passes (node l r) u first x positive listed reach 
           let value = reach_value s W laws any r b (with_any s p r u b right.1) some parts.1 in
           push_leaf s W laws p cs given passes r u (first + fresh_of s l) b positive lists.right right.1 parts.1
           (elim (cases_eq a 0) as (λ _. Derived cs given (negated (g (min b s.cap)))) [
-            | inl none ↦ denied cs given (g (min b s.cap)) (h (min b s.cap)) (lists.own _ (laws.right_clause l r f g h (min b s.cap) value))
+            | inl none ↦ denied cs given (g (min b s.cap)) (h (min b s.cap)) (lists.here _ (laws.right_clause l r f g h (min b s.cap) value))
                 (subst (λ (n : ℕ). Derived cs given (negated (h (min n s.cap)))) (let e : x ≡ b = omega arith in e) top)
             | inr more ↦ denied_right cs given (f (min a s.cap)) (g (min b s.cap)) (h (min (min a s.cap + min b s.cap) s.cap))
-                (lists.own _ (laws.both_clause l r f g h (min a s.cap) (min b s.cap) (reach_value s W laws p l a right.0 (omega arith) parts.0) value (laws.within_capped a b both)))
+                (lists.here _ (laws.both_clause l r f g h (min a s.cap) (min b s.cap) (reach_value s W laws p l a right.0 (omega arith) parts.0) value (laws.within_capped a b both)))
                 (reach_output s W laws p cs given passes l first a lists.left right.0 (omega arith) parts.0)
                 (subst (λ (n : ℕ). Derived cs given (negated (h n))) joint top)
           ])

@@ -1,12 +1,12 @@
 -- The tree of a list has the list's terms as its leaves.
-use Rattle.std.proofs.Common.{◌≡◌, ◌≤◌, ◌/◌, ◌++◌, get_or, ℕ, List, [], ◌∷◌, length, take, drop, refl, sym, ap, ◌∙◌, subst, arith, inl, inr, zero, suc, length-drop, take-append-drop}
+use Rattle.std.proofs.Common.{◌≡◌, ◌≤◌, ◌/◌, ◌++◌, get_or, ℕ, List, [], ◌∷◌, length, take, drop, refl, sym, ap, ◌∙◌, subst, arith, zero, suc, length-drop, take-append-drop}
 use Rattle.std.specs.Prelude.{Contains, sum_by}
 use Rattle.std.proofs.lemmas.List.{length-take}
-use Rattle.std.proofs.lemmas.List.Elements.{Contains-append_left, Contains-append_right, Contains-append_cases}
-use Rattle.std.proofs.lemmas.List.Sums.{sum_by-cons, sum_by-take-drop}
+use Rattle.std.proofs.lemmas.List.Sums.{sum_by-cons, sum_by-append}
 use Rattle.pb_norm.specs.Constraints.{Weighted}
-use Rattle.pb_base.proofs.Members.{Contains-nil, Contains-here, Contains-cons_cases}
-use Rattle.pb_tree.specs.Tree.{Tree, leaf, node, split_within, tree_of, IsLeafOf, leaf_sum}
+use Rattle.pb_tree.specs.Tree.{Tree, empty, leaf, node, split_within, tree_of, IsLeafOf, leaf_sum}
+use Rattle.pb_tree.specs.TreeSteps.{leaves}
+use Rattle.pb_tree.proofs.TreeParts.{leaf_listed as leaf_from, listed_leaf as among_leaves}
 
 -- the halves of a list of two or more are shorter
 pub halves : (t u : Weighted) (us : List Weighted) (more : ℕ) → length (t ∷ u ∷ us) ≤ suc more
@@ -16,54 +16,34 @@ halves t u us more fits =
     let n = length ts / 2 in
     (omega (arith, length-take n ts), omega (arith, length-drop n ts))
 
-split_sum_within : (f : Weighted → ℕ) (more : ℕ) (ts : List Weighted) → length ts ≤ more → leaf_sum f (split_within more ts) ≡ sum_by f ts
+leaves_within : (more : ℕ) (ts : List Weighted) → length ts ≤ more → leaves (split_within more ts) ≡ ts
 unfolding split_within
-split_sum_within f zero [] fits = refl
-split_sum_within f zero (t ∷ ts) fits = absurd (omega arith)
-split_sum_within f (suc more) [] fits = refl
-split_sum_within f (suc more) (t ∷ []) fits = omega (arith, sum_by-cons f t [])
-split_sum_within f (suc more) (t ∷ u ∷ us) fits =
+leaves_within zero [] fits = refl
+leaves_within zero (t ∷ ts) fits = absurd (omega arith)
+leaves_within (suc more) [] fits = refl
+leaves_within (suc more) (t ∷ []) fits = refl
+leaves_within (suc more) (t ∷ u ∷ us) fits =
     let ts = t ∷ u ∷ us in
     let n = length ts / 2 in
     let short = halves t u us more fits in
-    omega (arith, split_sum_within f more (take n ts) short.0, split_sum_within f more (drop n ts) short.1, sum_by-take-drop f ts n)
+    (λ i. leaves_within more (take n ts) short.0 i ++ leaves_within more (drop n ts) short.1 i) ∙ take-append-drop n ts
 
-pub split_sum : (f : Weighted → ℕ) (ts : List Weighted) → leaf_sum f (tree_of ts) ≡ sum_by f ts
-split_sum f ts = split_sum_within f (length ts) ts (omega arith)
-
-leaf_listed_within : (more : ℕ) (ts : List Weighted) (t : Weighted) → IsLeafOf (split_within more ts) t → Contains ts t
-unfolding split_within
-leaf_listed_within zero ts t among = absurd among
-leaf_listed_within (suc more) [] t among = absurd among
-leaf_listed_within (suc more) (u ∷ []) t among = subst (λ (w : Weighted). Contains (u ∷ []) w) among (Contains-here u [])
-leaf_listed_within (suc more) (u ∷ w ∷ ws) t among =
-    let ts = u ∷ w ∷ ws in
-    let n = length ts / 2 in
-    subst (λ (xs : List Weighted). Contains xs t) (take-append-drop n ts) (elim among as (λ _. Contains (take n ts ++ drop n ts) t) [
-      | inl left ↦ Contains-append_left (take n ts) (drop n ts) t (leaf_listed_within more (take n ts) t left)
-      | inr right ↦ Contains-append_right (take n ts) (drop n ts) t (leaf_listed_within more (drop n ts) t right)
-    ])
+pub leaves_are : (ts : List Weighted) → leaves (tree_of ts) ≡ ts
+leaves_are ts = leaves_within (length ts) ts (omega arith)
 
 pub leaf_listed : (ts : List Weighted) (t : Weighted) → IsLeafOf (tree_of ts) t → Contains ts t
-leaf_listed ts t among = leaf_listed_within (length ts) ts t among
-
-listed_leaf_within : (more : ℕ) (ts : List Weighted) (t : Weighted) → length ts ≤ more → Contains ts t → IsLeafOf (split_within more ts) t
-unfolding split_within
-listed_leaf_within zero [] t fits h = absurd (Contains-nil t h)
-listed_leaf_within zero (u ∷ us) t fits h = absurd (omega arith)
-listed_leaf_within (suc more) [] t fits h = absurd (Contains-nil t h)
-listed_leaf_within (suc more) (u ∷ []) t fits h = elim (Contains-cons_cases u [] t h) as (λ _. u ≡ t) [ inl same ↦ same | inr none ↦ absurd (Contains-nil t none) ]
-listed_leaf_within (suc more) (u ∷ w ∷ ws) t fits h =
-    let ts = u ∷ w ∷ ws in
-    let n = length ts / 2 in
-    let short = halves u w ws more fits in
-    elim (Contains-append_cases (take n ts) (drop n ts) t (subst (λ (xs : List Weighted). Contains xs t) (sym (take-append-drop n ts)) h)) as (λ _. IsLeafOf (split_within (suc more) ts) t) [
-      | inl left ↦ inl (listed_leaf_within more (take n ts) t short.0 left)
-      | inr right ↦ inr (listed_leaf_within more (drop n ts) t short.1 right)
-    ]
+leaf_listed ts t among = subst (λ (us : List Weighted). Contains us t) (leaves_are ts) (among_leaves (tree_of ts) t among)
 
 pub listed_leaf : (ts : List Weighted) (t : Weighted) → Contains ts t → IsLeafOf (tree_of ts) t
-listed_leaf ts t h = listed_leaf_within (length ts) ts t (omega arith) h
+listed_leaf ts t h = leaf_from (tree_of ts) t (subst (λ (us : List Weighted). Contains us t) (sym (leaves_are ts)) h)
+
+leaf_sum_by : (f : Weighted → ℕ) (t : Tree) → leaf_sum f t ≡ sum_by f (leaves t)
+leaf_sum_by f empty = refl
+leaf_sum_by f (leaf t) = omega (arith, sum_by-cons f t [])
+leaf_sum_by f (node l r) = omega (arith, leaf_sum_by f l, leaf_sum_by f r, sum_by-append f (leaves l) (leaves r))
+
+pub split_sum : (f : Weighted → ℕ) (ts : List Weighted) → leaf_sum f (tree_of ts) ≡ sum_by f ts
+split_sum f ts = leaf_sum_by f (tree_of ts) ∙ ap (sum_by f) (leaves_are ts)
 
 -- ---- the steps of the split, as the code takes them
 

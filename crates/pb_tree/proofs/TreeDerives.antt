@@ -1,10 +1,10 @@
 -- The derivation of a sum along its tree runs, and puts out the tree's clauses.
-use Rattle.std.proofs.Common.{◌≡◌, ◌≢◌, ◌≤◌, ◌<◌, ◌+◌, ◌-◌, ◌*◌, ◌^◌, ℕ, zero, suc, List, [], ◌∷◌, ◌++◌, length, min, map, ap, sym, ◌∙◌, subst, arith}
+use Rattle.std.proofs.Common.{◌≡◌, ◌≢◌, ◌≤◌, ◌<◌, ◌+◌, ◌-◌, ◌*◌, ◌^◌, ℕ, zero, suc, List, [], ◌∷◌, ◌++◌, length, min, map, ap, sym, ◌∙◌, subst, arith, length-append}
 use Rattle.std.specs.Prelude.{All}
-use Rattle.std.proofs.lemmas.List.Elements.{All-nil, All-cons, All-append, All-head, All-tail}
+use Rattle.std.proofs.lemmas.List.Elements.{All-nil, All-cons, All-append, All-map}
 use Rattle.pb_base.proofs.Members.{All-append_both}
 use Rattle.pb_norm.specs.Constraints.{Weighted, Constraint, weight}
-use Rattle.pb_norm.specs.BoundedSums.{BoundedSum, vars_of}
+use Rattle.pb_norm.specs.BoundedSums.{BoundedSum}
 use Rattle.pb_norm.specs.Reduction.{opposite}
 use Rattle.pb_steps.specs.Database.{Database}
 use Rattle.pb_derive.specs.Derivations.{as_constraint, IsReadyFor, Derives}
@@ -21,43 +21,31 @@ use Rattle.pb_tree.specs.TreeSteps.{leaves, reifications, output_ids, part_ids, 
 use Rattle.pb_tree.proofs.AlongDerives.{Weighs, leaves_positive as terms_positive, over_terms, terms_derive}
 use Rattle.pb_tree.proofs.AlongJustifications.{along_whole}
 use Rattle.pb_tree.proofs.Laws.{Suits, cap_value, tree_names}
-use Rattle.pb_tree.proofs.PairJustifications.{IsByPairs, IsPositive, tree_justifications_clauses, tree_justified}
+use Rattle.pb_tree.proofs.PairJustifications.{IsByPairs, IsPositive, tree_justifications_clauses, tree_justified, all_map}
 use Rattle.pb_tree.proofs.Sums.{IsLawful}
 use Rattle.pb_tree.proofs.TreeReifications.{length-reifications}
 use Rattle.pb_tree.proofs.TreeRows.{leaves_of}
 
 -- ---- the justifications by themselves
 
-pub not_empty : (is js : List ℕ) (i : ℕ) → is ++ (js ++ i ∷ []) ≢ []
-not_empty [] [] i e = absurd (omega (arith, ap length e))
-not_empty [] (j ∷ js) i e = absurd (omega (arith, ap length e))
-not_empty (k ∷ is) js i e = absurd (omega (arith, ap length e))
-
-pub not_empty_two : (is : List ℕ) (i : ℕ) → is ++ i ∷ [] ≢ []
-not_empty_two [] i e = absurd (omega (arith, ap length e))
-not_empty_two (k ∷ is) i e = absurd (omega (arith, ap length e))
+pub not_empty : (is js ks : List ℕ) → 1 ≤ length ks → is ++ (js ++ ks) ≢ []
+not_empty is js ks some e = omega (arith, length-append is (js ++ ks), length-append js ks, ap length e, some)
 
 abbrev pub UpTo : ℕ → ℕ → Type 0
 UpTo vars v = v ≤ vars
 
-part_up_to : (vars : ℕ) (t : Tree) (u : ℕ) → All (λ w. w.lit.var ≤ vars) (leaves t) → All (UpTo vars) (part_weakened t u)
-part_up_to vars t zero h = mapped (leaves t) h
-  where
-    mapped : (ts : List Weighted) → All (λ w. w.lit.var ≤ vars) ts → All (UpTo vars) (vars_of ts)
-    mapped [] k = All-nil (UpTo vars)
-    mapped (w ∷ ws) k = All-cons (UpTo vars) w.lit.var (vars_of ws) (All-head (λ (w : Weighted). w.lit.var ≤ vars) w ws k) (mapped ws (All-tail (λ (w : Weighted). w.lit.var ≤ vars) w ws k))
-part_up_to vars t (suc u) h = All-nil (UpTo vars)
+-- what holds of the leaves' variables holds of those that are weakened away
+pub part_all : (P : ℕ → Type 0) (t : Tree) (u : ℕ) → All (λ w. P w.lit.var) (leaves t) → All P (part_weakened t u)
+part_all P t zero h = All-map P (λ (w : Weighted). w.lit.var) (leaves t) h
+part_all P t (suc u) h = All-nil P
 
 pub pairs_whole : (vars : ℕ) (s : Scheme) (l r : Tree) (first id : ℕ) (ps : List Pair) → All (λ w. w.lit.var ≤ vars) (leaves (node l r)) → All (IsWhole vars) (map (pair_justification s l r first id) ps)
-pairs_whole vars s l r first id [] h = All-nil (IsWhole vars)
-pairs_whole vars s l r first id (p ∷ ps) h =
+pairs_whole vars s l r first id ps h =
     let parts = All-append_both (λ (w : Weighted). w.lit.var ≤ vars) (leaves l) (leaves r) h in
-    All-cons (IsWhole vars) (pair_justification s l r first id p) (map (pair_justification s l r first id) ps)
-    (record {
-      some = not_empty (part_ids s l id p.left) (part_ids s r (id + 2 * fresh_of s l) p.right) (id + 2 * (fresh_of s l + fresh_of s r + s.place (min (p.left + p.right) s.cap) (values s (node l r))) + 1);
-      vars_known = All-append (UpTo vars) (part_weakened l p.left) (part_weakened r p.right) (part_up_to vars l p.left parts.0) (part_up_to vars r p.right parts.1);
+    all_map (IsWhole vars) (pair_justification s l r first id) ps (λ p listed. record {
+      some = not_empty (part_ids s l id p.left) (part_ids s r (id + 2 * fresh_of s l) p.right) (map (λ i. i + 1) (output_ids s (node l r) id (min (p.left + p.right) s.cap))) (omega arith);
+      vars_known = All-append (UpTo vars) (part_weakened l p.left) (part_weakened r p.right) (part_all (UpTo vars) l p.left parts.0) (part_all (UpTo vars) r p.right parts.1);
     })
-    (pairs_whole vars s l r first id ps h)
 
 pub justifications_whole : (vars : ℕ) (s : Scheme) (pairs : List ℕ → List ℕ → List Pair) (t : Tree) (first id : ℕ) → All (λ w. w.lit.var ≤ vars) (leaves t) → All (IsWhole vars) (justifications s pairs t first id)
 justifications_whole vars s pairs t first id h = along_whole vars s (pair_justifications s pairs) (λ l r first id k. pairs_whole vars s l r first id (pairs (values s l) (values s r)) k) t first id h
@@ -65,7 +53,7 @@ justifications_whole vars s pairs t first id h = along_whole vars s (pair_justif
 tree_whole : (vars : ℕ) (s : Scheme) (pairs : List ℕ → List ℕ → List Pair) (t : Tree) (first id own : ℕ) → All (λ w. w.lit.var ≤ vars) (leaves t) → All (IsWhole vars) (tree_justifications s pairs t first id own)
 tree_whole vars s pairs t first id own h =
     All-append (IsWhole vars) (justifications s pairs t first id) (root_justification s t first id own ∷ []) (justifications_whole vars s pairs t first id h)
-    (All-cons (IsWhole vars) (root_justification s t first id own) [] (record { some = not_empty_two (output_ids s t id s.cap) own; vars_known = All-nil (UpTo vars) }) (All-nil (IsWhole vars)))
+    (All-cons (IsWhole vars) (root_justification s t first id own) [] (record { some = not_empty [] (output_ids s t id s.cap) (own ∷ []) (omega arith); vars_known = All-nil (UpTo vars) }) (All-nil (IsWhole vars)))
 
 -- ---- the whole
 

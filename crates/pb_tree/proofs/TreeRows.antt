@@ -1,5 +1,5 @@
 -- What the reifications along a tree are by themselves.
-use Rattle.std.proofs.Common.{◌≡◌, ◌≢◌, ◌≤◌, ◌<◌, ◌+◌, ◌/◌, ℕ, zero, suc, List, [], ◌∷◌, ◌++◌, length, take, drop, refl, ◌∙◌, subst, arith, inl, inr, take-append-drop, length-append}
+use Rattle.std.proofs.Common.{◌≡◌, ◌≢◌, ◌≤◌, ◌<◌, ◌+◌, ℕ, List, [], ◌∷◌, ◌++◌, length, refl, subst, arith, inl, inr, length-append}
 use Rattle.std.specs.Prelude.{Contains, All}
 use Rattle.std.proofs.lemmas.List.Elements.{All-nil, All-cons, All-append, All-contains}
 use Rattle.std.proofs.lemmas.List.Kept.{AllPairs-cons}
@@ -13,29 +13,17 @@ use Rattle.pb_derive.proofs.Justified.{IsReached, IsSum}
 use Rattle.pb_derive.proofs.Appends.{weight-append}
 use Rattle.pb_tree.specs.Pairs.{Pair}
 use Rattle.pb_tree.specs.Scheme.{Scheme, values, fresh_of}
-use Rattle.pb_tree.specs.Tree.{Tree, empty, leaf, node, split_within, tree_of, IsLeafOf}
+use Rattle.pb_tree.specs.Tree.{Tree, empty, leaf, node, tree_of, IsLeafOf}
 use Rattle.pb_tree.specs.TreeSteps.{leaves, reifications_from, reifications}
 use Rattle.pb_tree.proofs.PairJustifications.{IsByPairs, IsPositive}
-use Rattle.pb_tree.proofs.Splitting.{halves}
+use Rattle.pb_tree.proofs.Splitting.{leaves_are}
 use Rattle.pb_tree.proofs.TreeReifications.{length-reifications}
 use Rattle.pb_tree.proofs.TreeParts.{IsApart, listed_leaf, value_le}
 
 -- ---- the leaves of a list's tree
 
-leaves_within : (more : ℕ) (ts : List Weighted) → length ts ≤ more → leaves (split_within more ts) ≡ ts
-unfolding split_within
-leaves_within zero [] fits = refl
-leaves_within zero (t ∷ ts) fits = absurd (omega arith)
-leaves_within (suc more) [] fits = refl
-leaves_within (suc more) (t ∷ []) fits = refl
-leaves_within (suc more) (t ∷ u ∷ us) fits =
-    let ts = t ∷ u ∷ us in
-    let n = length ts / 2 in
-    let short = halves t u us more fits in
-    (λ i. leaves_within more (take n ts) short.0 i ++ leaves_within more (drop n ts) short.1 i) ∙ take-append-drop n ts
-
 pub leaves_of : (ts : List Weighted) → leaves (tree_of ts) ≡ ts
-leaves_of ts = leaves_within (length ts) ts (omega arith)
+leaves_of ts = leaves_are ts
 
 -- ---- distinct variables
 
@@ -115,36 +103,26 @@ tree_fit s pairs by low (node l r) first sum weights positive =
     (tree_fit s pairs by low r middle parts.1 (λ u h. weights u (inr h)) (λ u h. positive u (inr h)))
     (fit_from low start (leaves t) (values s t) sum (λ u h. (by.low t positive u h, value_le s by.from t weights u h))))
 
--- what holds of each term holds of those of each reification
-from_terms : (P : Weighted → Type 0) (var : ℕ) (ts : List Weighted) (us : List ℕ) → All P ts → All (λ m. All P m.sum) (reifications_from var ts us)
-from_terms P var ts [] h = All-nil (λ (m : Reification). All P m.sum)
-from_terms P var ts (u ∷ us) h = All-cons (λ (m : Reification). All P m.sum) (record { var = var; sum = ts; least = u }) (reifications_from (var + 1) ts us) h (from_terms P (var + 1) ts us h)
+-- what holds of a list of terms and of each part of it holds of the terms of each reification
+sums_from : (Q : List Weighted → Type 0) (var : ℕ) (ts : List Weighted) (us : List ℕ) → Q ts → All (λ m. Q m.sum) (reifications_from var ts us)
+sums_from Q var ts [] h = All-nil (λ (m : Reification). Q m.sum)
+sums_from Q var ts (u ∷ us) h = All-cons (λ (m : Reification). Q m.sum) (record { var = var; sum = ts; least = u }) (reifications_from (var + 1) ts us) h (sums_from Q (var + 1) ts us h)
+
+sums_along : (Q : List Weighted → Type 0) → ((ts us : List Weighted) → Q (ts ++ us) → Q ts × Q us) → (s : Scheme) (t : Tree) (first : ℕ) → Q (leaves t) → All (λ m. Q m.sum) (reifications s t first)
+sums_along Q split s empty first h = All-nil (λ (m : Reification). Q m.sum)
+sums_along Q split s (leaf t) first h = All-nil (λ (m : Reification). Q m.sum)
+sums_along Q split s (node l r) first h =
+    let P : Reification → Type 0 = λ m. Q m.sum in
+    let parts = split (leaves l) (leaves r) h in
+    let middle = first + fresh_of s l in
+    let start = first + fresh_of s l + fresh_of s r in
+    let own = reifications_from start (leaves (node l r)) (values s (node l r)) in
+    All-append P (reifications s l first) (reifications s r middle ++ own) (sums_along Q split s l first parts.0)
+    (All-append P (reifications s r middle) own (sums_along Q split s r middle parts.1) (sums_from Q start (leaves (node l r)) (values s (node l r)) h))
 
 pub tree_terms : (P : Weighted → Type 0) (s : Scheme) (t : Tree) (first : ℕ) → All P (leaves t) → All (λ m. All P m.sum) (reifications s t first)
-tree_terms P s empty first h = All-nil (λ (m : Reification). All P m.sum)
-tree_terms P s (leaf t) first h = All-nil (λ (m : Reification). All P m.sum)
-tree_terms P s (node l r) first h =
-    let Q : Reification → Type 0 = λ m. All P m.sum in
-    let parts = All-append_both P (leaves l) (leaves r) h in
-    let middle = first + fresh_of s l in
-    let start = first + fresh_of s l + fresh_of s r in
-    let own = reifications_from start (leaves (node l r)) (values s (node l r)) in
-    All-append Q (reifications s l first) (reifications s r middle ++ own) (tree_terms P s l first parts.0)
-    (All-append Q (reifications s r middle) own (tree_terms P s r middle parts.1) (from_terms P start (leaves (node l r)) (values s (node l r)) h))
+tree_terms P s t first h = sums_along (λ ts. All P ts) (All-append_both P) s t first h
 
 -- a reification's sum is of no more terms than there are leaves
-few_from : (n var : ℕ) (ts : List Weighted) (us : List ℕ) → length ts ≤ n → All (λ m. length m.sum ≤ n) (reifications_from var ts us)
-few_from n var ts [] h = All-nil (λ (m : Reification). length m.sum ≤ n)
-few_from n var ts (u ∷ us) h = All-cons (λ (m : Reification). length m.sum ≤ n) (record { var = var; sum = ts; least = u }) (reifications_from (var + 1) ts us) h (few_from n (var + 1) ts us h)
-
 pub tree_sums : (n : ℕ) (s : Scheme) (t : Tree) (first : ℕ) → length (leaves t) ≤ n → All (λ m. length m.sum ≤ n) (reifications s t first)
-tree_sums n s empty first h = All-nil (λ (m : Reification). length m.sum ≤ n)
-tree_sums n s (leaf t) first h = All-nil (λ (m : Reification). length m.sum ≤ n)
-tree_sums n s (node l r) first h =
-    let Q : Reification → Type 0 = λ m. length m.sum ≤ n in
-    let size = length-append (leaves l) (leaves r) in
-    let middle = first + fresh_of s l in
-    let start = first + fresh_of s l + fresh_of s r in
-    let own = reifications_from start (leaves (node l r)) (values s (node l r)) in
-    All-append Q (reifications s l first) (reifications s r middle ++ own) (tree_sums n s l first (omega arith))
-    (All-append Q (reifications s r middle) own (tree_sums n s r middle (omega arith)) (few_from n start (leaves (node l r)) (values s (node l r)) h))
+tree_sums n s t first h = sums_along (λ ts. length ts ≤ n) (λ ts us le. let size = length-append ts us in (omega arith, omega arith)) s t first h

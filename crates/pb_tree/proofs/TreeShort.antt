@@ -1,11 +1,11 @@
 -- The lines of a derivation along a tree are within their limits, and short.
-use Rattle.std.proofs.Common.{◌≡◌, ◌≢◌, ◌≤◌, ◌<◌, ◌+◌, ◌*◌, ◌^◌, ℕ, zero, suc, Bool, true, false, cond, List, [], ◌∷◌, ◌++◌, length, min, map, refl, ap, sym, ◌∙◌, subst, arith, inl, inr, length-append}
+use Rattle.std.proofs.Common.{◌≡◌, ◌≤◌, ◌<◌, ◌+◌, ◌*◌, ◌^◌, ℕ, zero, suc, Bool, true, false, cond, List, [], ◌∷◌, ◌++◌, length, min, map, refl, ap, sym, ◌∙◌, subst, arith, inl, inr, length-append}
 use Rattle.std.specs.Prelude.{Contains, All, count_by}
 use Rattle.std.proofs.Math.Nat.{mul-le-mul_right}
 use Rattle.std.proofs.lemmas.List.{length-map}
-use Rattle.std.proofs.lemmas.List.Elements.{All-nil, All-cons, All-append, All-map}
+use Rattle.std.proofs.lemmas.List.Elements.{All-nil, All-cons, All-append}
 use Rattle.std.proofs.lemmas.List.Sums.{sum_by-cons}
-use Rattle.pb_base.proofs.Members.{Contains-here, Contains-there, All-append_both}
+use Rattle.pb_base.proofs.Members.{All-append_both}
 use Rattle.pb_norm.specs.Constraints.{Weighted, weight}
 use Rattle.pb_norm.specs.BoundedSums.{BoundedSum, vars_of}
 use Rattle.pb_steps.specs.Sayable.{IsId, IsVariable, IsSayable}
@@ -19,10 +19,10 @@ use Rattle.pb_tree.specs.Tree.{Tree, empty, leaf, node, tree_of}
 use Rattle.pb_tree.specs.TreeSteps.{leaves, output_ids, part_ids, part_weakened, pair_justification, pair_justifications, justifications, root_justification, tree_justifications, tree_steps}
 use Rattle.pb_tree.proofs.AlongShort.{IsShort, Starts, gone-append, along_gone, along_short, known_terms, terms_sayable, terms_short}
 use Rattle.pb_tree.proofs.Laws.{Suits, cap_value}
-use Rattle.pb_tree.proofs.PairCounts.{is_none}
-use Rattle.pb_tree.proofs.PairJustifications.{IsByPairs, IsPositive, tree_justifications_clauses}
+use Rattle.pb_tree.proofs.PairCounts.{is_none, count-cons}
+use Rattle.pb_tree.proofs.PairJustifications.{IsByPairs, IsPositive, tree_justifications_clauses, all_map}
 use Rattle.pb_tree.proofs.Sums.{IsLawful}
-use Rattle.pb_tree.proofs.TreeDerives.{leaves_positive, weighs_of}
+use Rattle.pb_tree.proofs.TreeDerives.{not_empty, part_all, leaves_positive, weighs_of}
 use Rattle.pb_tree.proofs.TreeParts.{IsPart}
 use Rattle.pb_tree.proofs.TreeRows.{leaves_of}
 
@@ -48,20 +48,19 @@ some_or_none false n k = omega arith
 
 pairs_gone : (s : Scheme) (l r : Tree) (first id : ℕ) (ps : List Pair)
     → gone_in (map (pair_justification s l r first id) ps) ≡ count_by (λ p. is_none p.left) ps * length (leaves l) + count_by (λ p. is_none p.right) ps * length (leaves r)
-pairs_gone s l r first id [] = let none : gone_in (map (pair_justification s l r first id) []) ≡ 0 = refl in let left : count_by (λ (p : Pair). is_none p.left) [] ≡ 0 = refl in let right : count_by (λ (p : Pair). is_none p.right) [] ≡ 0 = refl in
+pairs_gone s l r first id [] =
+    let none : gone_in (map (pair_justification s l r first id) []) ≡ 0 = refl in
     none ∙ (let e : 0 ≡ 0 * length (leaves l) + 0 * length (leaves r) = omega arith in e)
 pairs_gone s l r first id (p ∷ ps) =
     let a = length (leaves l) in
     let b = length (leaves r) in
-    let i = count_by (λ (p : Pair). is_none p.left) ps in
-    let j = count_by (λ (p : Pair). is_none p.right) ps in
+    let no_left = λ (q : Pair). is_none q.left in
+    let no_right = λ (q : Pair). is_none q.right in
     let one = sum_by-cons (λ (r : Justification). length r.weakened) (pair_justification s l r first id p) (map (pair_justification s l r first id) ps) in
     let two = length-append (part_weakened l p.left) (part_weakened r p.right) in
-    let three : count_by (λ (p : Pair). is_none p.left) (p ∷ ps) ≡ cond (is_none p.left) 1 0 + i = sum_by-cons (λ (p : Pair). cond (is_none p.left) 1 0) p ps in
-    let four : count_by (λ (p : Pair). is_none p.right) (p ∷ ps) ≡ cond (is_none p.right) 1 0 + j = sum_by-cons (λ (p : Pair). cond (is_none p.right) 1 0) p ps in
-    let five : count_by (λ (p : Pair). is_none p.left) (p ∷ ps) * a ≡ cond (is_none p.left) a 0 + i * a = ap (λ (n : ℕ). n * a) three ∙ sym (some_or_none (is_none p.left) a i) in
-    let six : count_by (λ (p : Pair). is_none p.right) (p ∷ ps) * b ≡ cond (is_none p.right) b 0 + j * b = ap (λ (n : ℕ). n * b) four ∙ sym (some_or_none (is_none p.right) b j) in
-    omega (arith, one, two, part_gone l p.left, part_gone r p.right, five, six, pairs_gone s l r first id ps)
+    let three : count_by no_left (p ∷ ps) * a ≡ cond (no_left p) a 0 + count_by no_left ps * a = ap (λ (n : ℕ). n * a) (count-cons no_left p ps) ∙ sym (some_or_none (no_left p) a (count_by no_left ps)) in
+    let four : count_by no_right (p ∷ ps) * b ≡ cond (no_right p) b 0 + count_by no_right ps * b = ap (λ (n : ℕ). n * b) (count-cons no_right p ps) ∙ sym (some_or_none (no_right p) b (count_by no_right ps)) in
+    omega (arith, one, two, part_gone l p.left, part_gone r p.right, three, four, pairs_gone s l r first id ps)
 
 pub pairs_gone_few : (s : Scheme) (pairs : List ℕ → List ℕ → List Pair) → IsSparing s pairs → (l r : Tree) (first id : ℕ) → IsPositive s (node l r)
     → gone_in (pair_justifications s pairs l r first id) ≤ length (values s (node l r)) * (length (leaves l) + length (leaves r))
@@ -105,19 +104,9 @@ part_ids_are s W laws t id (suc u) low high h =
     let are = output_ids_are s W laws t id (suc u) low high (elim h as (λ _. Contains (values s t) (suc u)) [ inl none ↦ absurd (omega (arith, none)) | inr here ↦ here ]) in
     (are.0, are.2)
 
-part_variables : (t : Tree) (u : ℕ) → All (λ w. IsVariable w.lit.var) (leaves t) → All IsVariable (part_weakened t u)
-part_variables t zero h = All-map IsVariable (λ (w : Weighted). w.lit.var) (leaves t) h
-part_variables t (suc u) h = All-nil IsVariable
-
 part_few : (t : Tree) (u : ℕ) → length (part_weakened t u) ≤ length (leaves t)
 part_few t zero = omega (arith, length-vars (leaves t))
 part_few t (suc u) = omega arith
-
-pub not_empty : (is js ks : List ℕ) → 1 ≤ length ks → is ++ (js ++ ks) ≢ []
-not_empty is js ks some e = omega (arith, length-append is (js ++ ks), length-append js ks, ap length e, some)
-
-pub own_some : (s : Scheme) (l r : Tree) (id u : ℕ) → length (map (λ i. i + 1) (output_ids s (node l r) id u)) ≡ 1
-own_some s l r id u = refl
 
 module _ (s : Scheme) (W : ℕ → Type 0) (laws : IsLawful s W) (pairs : List ℕ → List ℕ → List Pair) (by : IsByPairs s pairs) where
   pair_short : (n : ℕ) (l r : Tree) (first id : ℕ) → 1 ≤ id → id + 2 * fresh_of s (node l r) < 2 ^ 63 → All (λ w. IsVariable w.lit.var) (leaves (node l r)) → length (leaves (node l r)) ≤ n
@@ -132,25 +121,18 @@ module _ (s : Scheme) (W : ℕ → Type 0) (laws : IsLawful s W) (pairs : List �
       let rights = part_ids s r next p.right in
       let owns = map (λ (i : ℕ). i + 1) (output_ids s (node l r) id w) in
       let parts = All-append_both (λ (w : Weighted). IsVariable w.lit.var) (leaves l) (leaves r) known in
-      let size = own_some s l r id w in
+      let size : length owns ≡ 1 = refl in
       record {
         some = not_empty lefts rights owns (omega (arith, size));
         three = omega (arith, length-append lefts (rights ++ owns), length-append rights owns, left.1, right.1, size);
         ids = All-append IsId lefts (rights ++ owns) left.0 (All-append IsId rights owns right.0 own.1);
-        variables = All-append IsVariable (part_weakened l p.left) (part_weakened r p.right) (part_variables l p.left parts.0) (part_variables r p.right parts.1);
+        variables = All-append IsVariable (part_weakened l p.left) (part_weakened r p.right) (part_all IsVariable l p.left parts.0) (part_all IsVariable r p.right parts.1);
         few = omega (arith, few, length-append (part_weakened l p.left) (part_weakened r p.right), part_few l p.left, part_few r p.right, length-append (leaves l) (leaves r));
       }
 
-  pairs_short : (n : ℕ) (l r : Tree) (first id : ℕ) → 1 ≤ id → id + 2 * fresh_of s (node l r) < 2 ^ 63 → All (λ w. IsVariable w.lit.var) (leaves (node l r)) → length (leaves (node l r)) ≤ n
-      → (ps : List Pair) → ((p : Pair) → Contains ps p → Contains (pairs (values s l) (values s r)) p) → All (IsShort n) (map (pair_justification s l r first id) ps)
-  pairs_short n l r first id low high known few [] h = All-nil (IsShort n)
-  pairs_short n l r first id low high known few (p ∷ ps) h =
-      All-cons (IsShort n) (pair_justification s l r first id p) (map (pair_justification s l r first id) ps) (pair_short n l r first id low high known few p (h p (Contains-here p ps)))
-      (pairs_short n l r first id low high known few ps (λ q m. h q (Contains-there p ps q m)))
-
   pub own_short : (n : ℕ) (l r : Tree) (first id : ℕ) → 1 ≤ id → id + 2 * fresh_of s (node l r) < 2 ^ 63 → All (λ w. IsVariable w.lit.var) (leaves (node l r)) → length (leaves (node l r)) ≤ n
       → All (IsShort n) (pair_justifications s pairs l r first id)
-  own_short n l r first id low high known few = pairs_short n l r first id low high known few (pairs (values s l) (values s r)) (λ p h. h)
+  own_short n l r first id low high known few = all_map (IsShort n) (pair_justification s l r first id) (pairs (values s l) (values s r)) (pair_short n l r first id low high known few)
 
   pub justifications_short : (n : ℕ) (t : Tree) (first id : ℕ) → 1 ≤ id → id + 2 * fresh_of s t < 2 ^ 63 → All (λ w. IsVariable w.lit.var) (leaves t) → length (leaves t) ≤ n → All (IsShort n) (justifications s pairs t first id)
   justifications_short n t first id low high known few = along_short n s (pair_justifications s pairs) (own_short n) t first id low high known few

@@ -1,5 +1,6 @@
 -- What a walk along a tree asks and hands over, by the halves of a list of terms.
-use Rattle.std.proofs.Common.{◌≡◌, ◌≤◌, ◌<◌, ◌+◌, ◌*◌, ◌++◌, ℕ, List, [], length, ap, refl, sym, ◌∙◌, subst, arith, length-append}
+use Rattle.std.proofs.Common.{◌≡◌, ◌≤◌, ◌<◌, ◌+◌, ◌*◌, ◌++◌, ℕ, List, [], length, ap, refl, sym, ◌∙◌, subst, arith, length-append, Ok, Err}
+use Rattle.std.specs.Prelude.{Result, IsErrAnd}
 use Rattle.pb_base.specs.declared.literal.Term.{Term}
 use Rattle.pb_base.proofs.Members.{All-append_both}
 use Rattle.pb_norm.specs.Constraints.{AllPositive, Weighted, weight, weights}
@@ -63,6 +64,39 @@ module _ {ts front back : List Term} (half : Halves ts front back) where
       let l = tree_of (weights front) in
       let r = tree_of (weights back) in
       omega (arith, ap length (node_along s own before next at), length-append (along s own l before) (along s own r next ++ own l r before), length-append (along s own r next) (own l r before))
+
+-- what holds of an error holds of what hands it on
+with_error : {P F : Type 0} (Q : Result P F → Type 0) (r : Result P F) (f : F) → IsErrAnd r (λ g. g ≡ f) → Q (Err f) → Q r
+with_error Q (Ok p) f is h = absurd is
+with_error {F = F} Q (Err g) f is h = subst (λ (e : F). Q (Err e)) (sym is) h
+
+-- what the halves have was handed over, and then what the node has
+module _ {X P F S : Type 0} (hands : List X → Result P F → S → S → Type 0) (then : (xs ys : List X) (placed : P) (r : Result P F) (a b c : S) → hands xs (Ok placed) a b → hands ys r b c → hands (xs ++ ys) r a c)
+    (stops : (xs ys : List X) (f : F) (a b : S) → hands xs (Err f) a b → hands (xs ++ ys) (Err f) a b)
+    {ts front back : List Term} (half : Halves ts front back) (s : Scheme) (own : Tree → Tree → ℕ → List X) (before next : ℕ) (at : next ≡ before + fresh_over s front) where
+  abbrev lefts : List X
+  lefts = along s own (tree_of (weights front)) before
+
+  abbrev rights : List X
+  rights = along s own (tree_of (weights back)) next
+
+  abbrev owns : List X
+  owns = own (tree_of (weights front)) (tree_of (weights back)) before
+
+  abbrev all : List X
+  all = along s own (tree_of (weights ts)) before
+
+  whole : (r : Result P F) (a b : S) → hands (lefts ++ (rights ++ owns)) r a b → hands all r a b
+  whole r a b h = subst (λ (xs : List X). hands xs r a b) (node_along half s own before next at) h
+
+  pub left_stopped : (r : Result P F) (f : F) (a b : S) → IsErrAnd r (λ g. g ≡ f) → hands lefts (Err f) a b → hands all r a b
+  left_stopped r f a b is h = with_error (λ e. hands all e a b) r f is (whole (Err f) a b (stops lefts (rights ++ owns) f a b h))
+
+  pub right_stopped : (r : Result P F) (f : F) (left : P) (a b c : S) → IsErrAnd r (λ g. g ≡ f) → hands lefts (Ok left) a b → hands rights (Err f) b c → hands all r a c
+  right_stopped r f left a b c is h k = with_error (λ e. hands all e a c) r f is (whole (Err f) a c (then lefts (rights ++ owns) left (Err f) a b c h (stops rights owns f b c k)))
+
+  pub all_handed : (r : Result P F) (left right : P) (a b c d : S) → hands lefts (Ok left) a b → hands rights (Ok right) b c → hands owns r c d → hands all r a d
+  all_handed r left right a b c d h k m = whole r a d (then lefts (rights ++ owns) left r a b d h (then rights owns right r b c d k m))
 
 -- a node's values, and its own fresh variables
 pub record IsNode (s : Scheme) (most before next : ℕ) (ts front back : List Term) (us : List ℕ) : Type 0 where

@@ -39,9 +39,6 @@ limits_given count a b left lefts right rights own = flat_map (limit_row_given c
 
 -- ---- over two parts, as the code has them
 
-abbrev pub limit_ids : NodeIds → ℕ → ℕ → List ℕ
-limit_ids node i j = limit_ids_given node.left.count node.right.count node.left.source node.right.source node.own i j
-
 abbrev pub limit_weakened : NodeIds → ℕ → ℕ → List ℕ
 limit_weakened node i j = vars_of (weights (weakened_after node.left.terms.now node.left.count i)) ++ vars_of (weights (weakened_after node.right.terms.now node.right.count j))
 

@@ -1,5 +1,5 @@
 -- Where the constraints of a part's outputs stand, and the justifications of a node's clauses by that; their clauses are left out.
-use Rattle.std.specs.Prelude.{◌≡◌, ℕ, zero, suc, ◌+◌, ◌-◌, ◌*◌, List, [], ◌∷◌, ◌++◌, map}
+use Rattle.std.specs.Prelude.{◌≡◌, ℕ, zero, suc, Option, Some, None, ◌+◌, ◌-◌, ◌*◌, List, [], ◌∷◌, ◌++◌, map}
 use Rattle.std.specs.List.{flat_map, range_with_len}
 use Rattle.pb_base.specs.declared.literal.Term.{Term}
 use Rattle.pb_norm.specs.BoundedSums.{vars_of}
@@ -13,6 +13,11 @@ use Rattle.pb_totalizer.specs.declared.handing.Handed.{Handed}
 use Rattle.pb_totalizer.specs.declared.node_ids.NodeIds.{NodeIds}
 use Rattle.pb_totalizer.specs.declared.node_ids.Source.{Source}
 use Rattle.pb_totalizer.specs.declared.node_ids.Source.TheVariants.{Leaf, Fresh}
+
+-- one id, or none
+abbrev pub listed : Option ℕ → List ℕ
+listed None = []
+listed (Some id) = id ∷ []
 
 -- a leaf has no constraints; the ids of an output's first one go up by two
 abbrev pub ids_from : Source → ℕ → List ℕ
@@ -49,9 +54,6 @@ abbrev pub node_given : ℕ → ℕ → ℕ → Source → List Term → Source 
 node_given cap a b left lefts right rights own = flat_map (row_given cap b left lefts right rights own) (range_with_len 0 (a + 1))
 
 -- ---- over two parts, as the code has them
-
-abbrev pub pair_ids : NodeIds → ℕ → ℕ → List ℕ
-pair_ids node i j = ids_given node.left.source node.right.source node.own i j
 
 abbrev pub pair_weakened : NodeIds → ℕ → ℕ → List ℕ
 pair_weakened node i j = vars_of (weights (weakened_at node.left.terms.now i)) ++ vars_of (weights (weakened_at node.right.terms.now j))

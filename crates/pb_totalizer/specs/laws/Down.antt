@@ -9,33 +9,13 @@ use Rattle.pb_norm.specs.Constraints.{Weighted}
 use Rattle.pb_norm.proofs.Derived.{Derived}
 use Rattle.pb_tree.specs.Tree.{Tree, empty, leaf, node, IsLeafOf, leaf_sum}
 use Rattle.pb_tree.specs.Scheme.{fresh_of, output, own_of, clauses_of, IsPartAt}
+use Rattle.pb_tree.proofs.Pushing.{Listed, listed_parts}
 use Rattle.pb_totalizer.specs.Totalizer.{totalizer}
 use Rattle.pb_totalizer.specs.laws.TotalizerLaws.{values_count, leaf_count, node_length}
-use Rattle.pb_totalizer.specs.Exact.{limit_clause, limits_of, outputs_of, exact_along}
+use Rattle.pb_totalizer.specs.Exact.{limit_clause, limits_of, outputs_of, exact_own, exact_along}
 use Rattle.pb_totalizer.specs.laws.Limits.{limit_listed, limit_denies, limit_raises_left, limit_raises_right}
 
 -- ---- what a list of clauses along a tree has
-
--- the clauses of a node's parts, and those to its outputs and from them
-pub record Listed (bound : ℕ) (cs : List (List Lit)) (l r : Tree) (first : ℕ) : Type 0 where
-  pub left : (c : List Lit) → Contains (exact_along bound l first) c → Contains cs c
-  pub right : (c : List Lit) → Contains (exact_along bound r (first + fresh_of (totalizer bound) l)) c → Contains cs c
-  pub sums : (c : List Lit) → Contains (own_of (totalizer bound) l r first) c → Contains cs c
-  pub limits : (c : List Lit) → Contains (limits_of bound l r first) c → Contains cs c
-
-pub listed_parts : (bound : ℕ) (cs : List (List Lit)) (l r : Tree) (first : ℕ) → ((c : List Lit) → Contains (exact_along bound (node l r) first) c → Contains cs c) → Listed bound cs l r first
-listed_parts bound cs l r first listed =
-    let s = totalizer bound in
-    let lefts = exact_along bound l first in
-    let rights = exact_along bound r (first + fresh_of s l) in
-    let sums = own_of s l r first in
-    let limits = limits_of bound l r first in
-    record {
-      left = λ c m. listed c (Contains-append_left lefts (rights ++ (sums ++ limits)) c m);
-      right = λ c m. listed c (Contains-append_right lefts (rights ++ (sums ++ limits)) c (Contains-append_left rights (sums ++ limits) c m));
-      sums = λ c m. listed c (Contains-append_right lefts (rights ++ (sums ++ limits)) c (Contains-append_right rights (sums ++ limits) c (Contains-append_left sums limits c m)));
-      limits = λ c m. listed c (Contains-append_right lefts (rights ++ (sums ++ limits)) c (Contains-append_right rights (sums ++ limits) c (Contains-append_right sums limits c m)));
-    }
 
 -- all that a totalizer has
 pub totalizer_listed : (bound : ℕ) (cs : List (List Lit)) (t : Tree) (first : ℕ) → ((c : List Lit) → Contains (exact_along bound t first) c → Contains cs c)
@@ -45,13 +25,13 @@ totalizer_listed bound cs (leaf t) first listed c h = listed c h
 totalizer_listed bound cs (node l r) first listed c h =
     let s = totalizer bound in
     let middle = first + fresh_of s l in
-    let lists = listed_parts bound cs l r first listed in
+    let lists = listed_parts (totalizer bound) (exact_own bound) cs l r first listed in
     let sums = own_of s l r first in
     elim (Contains-append_cases (clauses_of s l first) (clauses_of s r middle ++ sums) c h) as (λ _. Contains cs c) [
       | inl left ↦ totalizer_listed bound cs l first lists.left c left
       | inr rest ↦ elim (Contains-append_cases (clauses_of s r middle) sums c rest) as (λ _. Contains cs c) [
         | inl right ↦ totalizer_listed bound cs r middle lists.right c right
-        | inr own ↦ lists.sums c own
+        | inr own ↦ lists.here c (Contains-append_left sums (limits_of bound l r first) c own)
       ]
     ]
 
@@ -61,7 +41,7 @@ pub part_listed : (bound : ℕ) (cs : List (List Lit)) (t : Tree) (first : ℕ) 
 part_listed bound cs empty first part at listed is c h = listed c (subst (λ (n : ℕ). Contains (exact_along bound empty n) c) (sym is.1) (subst (λ (t : Tree). Contains (exact_along bound t at) c) (sym is.0) h))
 part_listed bound cs (leaf t) first part at listed is c h = listed c (subst (λ (n : ℕ). Contains (exact_along bound (leaf t) n) c) (sym is.1) (subst (λ (t : Tree). Contains (exact_along bound t at) c) (sym is.0) h))
 part_listed bound cs (node l r) first part at listed is c h =
-    let lists = listed_parts bound cs l r first listed in
+    let lists = listed_parts (totalizer bound) (exact_own bound) cs l r first listed in
     elim is as (λ _. Contains cs c) [
       | inl whole ↦ listed c (subst (λ (n : ℕ). Contains (exact_along bound (node l r) n) c) (sym whole.1) (subst (λ (t : Tree). Contains (exact_along bound t at) c) (sym whole.0) h))
       | inr inside ↦ elim inside as (λ _. Contains cs c) [
@@ -114,7 +94,7 @@ node_counts bound p l r = record { outputs = node_length bound l r; lefts = valu
 
 -- where the outputs of a part are false that few open leaves do not reach, so are those of the node, and where one of those is
 -- true, some of the parts are
-module _ (bound : ℕ) (p : Lit → Bool) (cs : List (List Lit)) (given : List Lit) (l r : Tree) (first : ℕ) (lists : Listed bound cs l r first) where
+module _ (bound : ℕ) (p : Lit → Bool) (cs : List (List Lit)) (given : List Lit) (l r : Tree) (first : ℕ) (lists : Listed (totalizer bound) (exact_own bound) cs l r first) where
   abbrev a : ℕ
   a = outputs_of bound l
 
@@ -137,7 +117,7 @@ module _ (bound : ℕ) (p : Lit → Bool) (cs : List (List Lit)) (given : List L
   h = output (totalizer bound) (node l r) first
 
   limit : (i k : ℕ) → i ≤ a → k ≤ b → i + k < outputs_of bound (node l r) → Contains cs (limit_clause a b f g h i k)
-  limit i k left right below = lists.limits _ (limit_listed (outputs_of bound (node l r)) a b f g h i k left right below)
+  limit i k left right below = lists.here _ (Contains-append_right (own_of (totalizer bound) l r first) (limits_of bound l r first) _ (limit_listed (outputs_of bound (node l r)) a b f g h i k left right below))
 
   module _ (deny_left : (j : ℕ) → m < j → j ≤ a → Derived cs given (negated (f j))) (deny_right : (j : ℕ) → n < j → j ≤ b → Derived cs given (negated (g j))) (j : ℕ) (within : j ≤ outputs_of bound (node l r)) where
     deny_node : m + n < j → Derived cs given (negated (h j))
@@ -178,7 +158,7 @@ module _ (bound : ℕ) (p : Lit → Bool) (cs : List (List Lit)) (given : List L
         | inr fails ↦ absurd (omega (arith, fails_open (p t.lit) fails))
       ]
   deny_output (node l r) first j listed few within =
-      let lists = listed_parts bound cs l r first listed in
+      let lists = listed_parts (totalizer bound) (exact_own bound) cs l r first listed in
       deny_node bound p cs given l r first lists (λ i some le. deny_output l first i lists.left some le) (λ k some le. deny_output r (first + fresh_of (totalizer bound) l) k lists.right some le) j within few
 
   -- from a true output
@@ -187,7 +167,7 @@ module _ (bound : ℕ) (p : Lit → Bool) (cs : List (List Lit)) (given : List L
   raise_leaf empty u first j listed among fails few within top = absurd among
   raise_leaf (leaf t) u first j listed among fails few within top = subst (λ (w : Weighted). Derived cs given w.lit) among top
   raise_leaf (node l r) u first j listed among fails few within top =
-      let lists = listed_parts bound cs l r first listed in
+      let lists = listed_parts (totalizer bound) (exact_own bound) cs l r first listed in
       let middle = first + fresh_of (totalizer bound) l in
       let deny_left = λ (i : ℕ). deny_output l first i lists.left in
       let deny_right = λ (k : ℕ). deny_output r middle k lists.right in

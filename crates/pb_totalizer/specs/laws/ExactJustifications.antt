@@ -1,9 +1,9 @@
 -- Each clause of an exact sum follows from the constraints that its justification names.
-use Rattle.std.proofs.Common.{◌≡◌, ◌≢◌, ◌≤◌, ◌<◌, ◌+◌, ◌-◌, ◌*◌, ◌^◌, ℕ, true, List, [], ◌∷◌, ◌++◌, map, refl, ap, sym, ◌∙◌, subst, arith, inl, inr}
+use Rattle.std.proofs.Common.{◌≡◌, ◌≢◌, ◌≤◌, ◌<◌, ◌+◌, ◌-◌, ◌*◌, ◌^◌, ℕ, Bool, true, false, cond, List, [], ◌∷◌, ◌++◌, map, refl, ap, sym, ◌∙◌, subst, arith, inl, inr}
 use Rattle.std.specs.Prelude.{Contains, All, nat_lt}
 use Rattle.std.specs.List.{range_with_len}
 use Rattle.std.proofs.lemmas.Bool.{cases_lt, cond-true, cond-false, lt-ltb, le-ltb, ltb-true}
-use Rattle.std.proofs.lemmas.List.Elements.{All-nil, All-cons, All-append, All-head, All-tail}
+use Rattle.std.proofs.lemmas.List.Elements.{All-nil, All-cons, All-append, All-map}
 use Rattle.pb_base.specs.declared.literal.Lit.{Lit}
 use Rattle.pb_base.specs.Literals.{negated, is_among}
 use Rattle.pb_base.proofs.LiteralLemmas.{negated-negated}
@@ -19,24 +19,24 @@ use Rattle.pb_derive.proofs.Opposites.{weight-opposite, opposite-twice, opposite
 use Rattle.pb_derive.proofs.Appends.{weight-append}
 use Rattle.pb_derive.proofs.Sides.{Side, headed, side_none, side_leaf, side_headed, follows_headed, follows_root}
 use Rattle.pb_family.specs.Fresh.{positive_of}
-use Rattle.pb_family.proofs.Filters.{Contains-filter_cases}
 use Rattle.pb_tree.specs.Pairs.{Pair, pair_of}
 use Rattle.pb_tree.specs.Tree.{Tree, empty, leaf, node, IsLeafOf, tree_of}
 use Rattle.pb_tree.specs.TreeSteps.{leaves, reifications, output_ids, pair_justifications, justifications_along, root_justification}
 use Rattle.pb_tree.specs.Scheme.{values, fresh_of, output}
 use Rattle.pb_tree.proofs.AlongJustifications.{clause_in, along_clauses, along_justified, along_whole}
 use Rattle.pb_tree.proofs.Extending.{output_named}
-use Rattle.pb_tree.proofs.Lists.{Contains-map_cases, Contains-flat_map_cases, Contains-range_cases}
-use Rattle.pb_tree.proofs.PairLists.{map-append, map-map, rows_same}
-use Rattle.pb_tree.proofs.PairJustifications.{pairs_clauses, pairs_justified, named_apart, known-append, all_map}
-use Rattle.pb_tree.proofs.TreeDerives.{UpTo, not_empty, not_empty_two, pairs_whole}
+use Rattle.pb_tree.proofs.Lists.{Contains-map_cases}
+use Rattle.pb_tree.proofs.PairLists.{map-append, map-map}
+use Rattle.pb_tree.proofs.PairJustifications.{pairs_clauses, pairs_justified, named_apart, known-append, root_justified, all_map}
+use Rattle.pb_tree.proofs.TreeDerives.{UpTo, not_empty, pairs_whole}
 use Rattle.pb_tree.proofs.TreeReifications.{reification, output_known, known_left, known_right}
-use Rattle.pb_tree.proofs.TreeParts.{IsOver, over_left, over_right, leaf_listed, given_value}
+use Rattle.pb_tree.proofs.TreeParts.{IsOver, over_left, over_right, leaf_listed}
 use Rattle.pb_totalizer.specs.Exact.{outputs_of, limits, limit_clause, limit_clauses, exact_own, exact_along, exact_clauses}
 use Rattle.pb_totalizer.specs.ExactSteps.{after_ids, after_weakened, limit_justification, limit_pairs, limit_justifications, own_justifications, least_justification, exact_justifications}
 use Rattle.pb_totalizer.specs.Totalizer.{totalizer}
 use Rattle.pb_totalizer.specs.TotalizerSteps.{totalizer_pairs}
 use Rattle.pb_totalizer.specs.laws.ByPairs.{totalizer_by_pairs}
+use Rattle.pb_totalizer.specs.laws.PairRows.{row_cases, rows_by_pairs}
 use Rattle.pb_totalizer.specs.laws.Limits.{limit_literal, limit_left, limit_right, limit_own}
 use Rattle.pb_totalizer.specs.laws.TotalizerLaws.{IsCapped, value_from, values_count, node_length, leaf_count, totalizer_lawful}
 
@@ -44,20 +44,14 @@ use Rattle.pb_totalizer.specs.laws.TotalizerLaws.{IsCapped, value_from, values_c
 
 pub pair_bounds : (count a b : ℕ) (p : Pair) → Contains (limit_pairs count a b) p → (p.left ≤ a) × (p.right ≤ b) × (p.left + p.right < count)
 pair_bounds count a b p h =
-    let row = Contains-flat_map_cases (λ i. map (pair_of i) (limits count b i)) (range_with_len 0 (a + 1)) p h in
-    let range = Contains-range_cases 0 (a + 1) row.0 row.1 in
-    let found = Contains-map_cases (pair_of row.0) (limits count b row.0) p row.2 in
-    let kept = Contains-filter_cases (λ j. nat_lt (row.0 + j) count) (range_with_len 0 (b + 1)) found.0 found.1 in
-    let column = Contains-range_cases 0 (b + 1) found.0 kept.0 in
-    let below = ltb-true (row.0 + found.0) count kept.1 in
-    let left : row.0 ≡ p.left = ap (λ (q : Pair). q.left) found.2 in
-    let right : found.0 ≡ p.right = ap (λ (q : Pair). q.right) found.2 in
-    (omega (arith, left, range.1), omega (arith, right, column.1), omega (arith, left, right, below))
+    let found = row_cases pair_of (λ i j. nat_lt (i + j) count) a b p h in
+    let below = ltb-true (found.0 + found.1) count found.4 in
+    let left : found.0 ≡ p.left = ap (λ (q : Pair). q.left) found.5 in
+    let right : found.1 ≡ p.right = ap (λ (q : Pair). q.right) found.5 in
+    (omega (arith, left, found.2), omega (arith, right, found.3), omega (arith, left, right, below))
 
 limits_by_pairs : (count a b : ℕ) (f g h : ℕ → Lit) → limit_clauses count a b f g h ≡ map (λ p. limit_clause a b f g h p.left p.right) (limit_pairs count a b)
-limits_by_pairs count a b f g h =
-    rows_same (λ p. limit_clause a b f g h p.left p.right) (λ i. map (pair_of i) (limits count b i)) (λ i. map (limit_clause a b f g h i) (limits count b i)) (range_with_len 0 (a + 1))
-    (λ i here. sym (map-map (λ p. limit_clause a b f g h p.left p.right) (pair_of i) (limits count b i)))
+limits_by_pairs count a b f g h = rows_by_pairs (limit_clause a b f g h) (λ p. limit_clause a b f g h p.left p.right) (limits count b) (range_with_len 0 (a + 1)) (λ i j m. refl)
 
 own_clauses : (bound : ℕ) (l r : Tree) (first id : ℕ) → map clause_in (own_justifications bound l r first id) ≡ exact_own bound l r first
 own_clauses bound l r first id =
@@ -226,23 +220,6 @@ least_justified K bound low t first id lower over light known some within held =
       subst (λ (c : Constraint). FollowsFrom (side.0 ++ c ∷ []) (least_justification bound t first id lower)) is follows,
     )
 
--- the negation of the one after it, by the constraint from above
-most_justified : (K : ℕ → Constraint → Type 0) (bound low : ℕ) (t : Tree) (first id upper : ℕ) → IsOver (totalizer bound) low t → weight (leaves t) < 2 ^ 100 → ReificationsKnown K id (reifications (totalizer bound) t first)
-    → bound + 1 ≤ outputs_of bound t → K upper (record { terms = map opposite (leaves t); degree = weight (leaves t) - bound }) → IsJustified K (root_justification (totalizer bound) t first id upper)
-most_justified K bound low t first id upper over light known within held =
-    let s = totalizer bound in
-    let by = totalizer_by_pairs bound in
-    let root = negated (output s t first (bound + 1)) in
-    let clause = root ∷ [] in
-    let side = given_value K s (IsCapped bound) (totalizer_lawful bound) by.from low t first id (bound + 1) clause over known (value_from bound t (bound + 1) (omega arith) within) (among_from clause root (Contains-here root [])) in
-    let constraint : Constraint = record { terms = map opposite (leaves t); degree = weight (leaves t) - bound } in
-    let heavy = leaf_weight bound low t over in
-    let count = values_count bound t in (
-      side.0 ++ constraint ∷ [],
-      known-append K (output_ids s t id (bound + 1)) (upper ∷ []) side.0 (constraint ∷ []) side.1 (held, tt),
-      follows_root clause (leaves t) bound (bound + 1) side.0 side.2 (omega arith) (omega arith) light (root_justification s t first id upper).ids,
-    )
-
 -- ---- all of them
 
 pub exact_along_clauses : (bound : ℕ) (t : Tree) (first id : ℕ) → map clause_in (justifications_along (totalizer bound) (own_justifications bound) t first id) ≡ exact_along bound t first
@@ -268,34 +245,27 @@ exact_justified K m first id lower upper over light known some within least most
     All-append (IsJustified K) (justifications_along s (own_justifications m.bound) t first id) (least_justification m.bound t first id lower ∷ last ∷ [])
     (along_justified K s (own_justifications m.bound) first (own_justified K m.bound first) t first id (omega arith) over light known)
     (All-cons (IsJustified K) (least_justification m.bound t first id lower) (last ∷ []) (least_justified K m.bound first t first id lower over light known some (omega arith) least)
-    (All-cons (IsJustified K) last [] (most_justified K m.bound first t first id upper over light known within most) (All-nil (IsJustified K))))
+    (All-cons (IsJustified K) last [] (root_justified K s (IsCapped m.bound) (totalizer_lawful m.bound) (totalizer_by_pairs m.bound).from first t first id upper m.bound over light known refl
+    (omega (arith, leaf_weight m.bound first t over, values_count m.bound t, within)) (value_from m.bound t (m.bound + 1) (omega arith) within) most) (All-nil (IsJustified K))))
 
 -- ---- the justifications by themselves
 
-vars_up_to : (vars : ℕ) (ts : List Weighted) → All (λ w. w.lit.var ≤ vars) ts → All (UpTo vars) (vars_of ts)
-vars_up_to vars [] k = All-nil (UpTo vars)
-vars_up_to vars (w ∷ ws) k = All-cons (UpTo vars) w.lit.var (vars_of ws) (All-head (λ (w : Weighted). w.lit.var ≤ vars) w ws k) (vars_up_to vars ws (All-tail (λ (w : Weighted). w.lit.var ≤ vars) w ws k))
-
-after_up_to : (vars bound : ℕ) (t : Tree) (i : ℕ) → All (λ w. w.lit.var ≤ vars) (leaves t) → All (UpTo vars) (after_weakened bound t i)
-after_up_to vars bound t i h =
-    let test = nat_lt i (outputs_of bound t) in
-    let gone = vars_of (leaves t) in
-    elim (cases_lt i (outputs_of bound t)) as (λ _. All (UpTo vars) (after_weakened bound t i)) [
-      | inl below ↦ subst (λ (ws : List ℕ). All (UpTo vars) ws) (sym (cond-true test [] gone (lt-ltb i (outputs_of bound t) below))) (All-nil (UpTo vars))
-      | inr above ↦ subst (λ (ws : List ℕ). All (UpTo vars) ws) (sym (cond-false test [] gone (le-ltb i (outputs_of bound t) above))) (vars_up_to vars (leaves t) h)
-    ]
+-- what holds of the leaves' variables holds of those that are weakened away
+pub after_all : (P : ℕ → Type 0) (bound : ℕ) (t : Tree) (i : ℕ) → All (λ w. P w.lit.var) (leaves t) → All P (after_weakened bound t i)
+after_all P bound t i h = by_test (nat_lt i (outputs_of bound t))
+  where
+    by_test : (b : Bool) → All P (cond {A = List ℕ} b [] (vars_of (leaves t)))
+    by_test true = All-nil P
+    by_test false = All-map P (λ (w : Weighted). w.lit.var) (leaves t) h
 
 limits_whole : (vars bound : ℕ) (l r : Tree) (first id : ℕ) (ps : List Pair) → All (λ w. w.lit.var ≤ vars) (leaves (node l r)) → All (IsWhole vars) (map (limit_justification bound l r first id) ps)
-limits_whole vars bound l r first id [] h = All-nil (IsWhole vars)
-limits_whole vars bound l r first id (p ∷ ps) h =
+limits_whole vars bound l r first id ps h =
     let s = totalizer bound in
     let parts = All-append_both (λ (w : Weighted). w.lit.var ≤ vars) (leaves l) (leaves r) h in
-    All-cons (IsWhole vars) (limit_justification bound l r first id p) (map (limit_justification bound l r first id) ps)
-    (record {
-      some = not_empty (after_ids bound l id p.left) (after_ids bound r (id + 2 * fresh_of s l) p.right) (id + 2 * (fresh_of s l + fresh_of s r + s.place (p.left + p.right + 1) (values s (node l r))));
-      vars_known = All-append (UpTo vars) (after_weakened bound l p.left) (after_weakened bound r p.right) (after_up_to vars bound l p.left parts.0) (after_up_to vars bound r p.right parts.1);
+    all_map (IsWhole vars) (limit_justification bound l r first id) ps (λ p listed. record {
+      some = not_empty (after_ids bound l id p.left) (after_ids bound r (id + 2 * fresh_of s l) p.right) (output_ids s (node l r) id (p.left + p.right + 1)) (omega arith);
+      vars_known = All-append (UpTo vars) (after_weakened bound l p.left) (after_weakened bound r p.right) (after_all (UpTo vars) bound l p.left parts.0) (after_all (UpTo vars) bound r p.right parts.1);
     })
-    (limits_whole vars bound l r first id ps h)
 
 pub exact_whole : (vars : ℕ) (m : BoundedSum) (first id lower upper : ℕ) → All (λ w. w.lit.var ≤ vars) (leaves (tree_of m.terms)) → All (IsWhole vars) (exact_justifications m first id lower upper)
 exact_whole vars m first id lower upper h =
@@ -307,5 +277,5 @@ exact_whole vars m first id lower upper h =
     let ps = totalizer_pairs (m.bound + 1) (values s l) (values s r) in
     let qs = limit_pairs (outputs_of m.bound (node l r)) (outputs_of m.bound l) (outputs_of m.bound r) in
     All-append (IsWhole vars) (pair_justifications s (totalizer_pairs (m.bound + 1)) l r first id) (limit_justifications m.bound l r first id) (pairs_whole vars s l r first id ps k) (limits_whole vars m.bound l r first id qs k)) t first id h)
-    (All-cons (IsWhole vars) (least_justification m.bound t first id lower) (last ∷ []) (record { some = not_empty_two (map (λ k. k + 1) (output_ids s t id m.bound)) lower; vars_known = All-nil (UpTo vars) })
-    (All-cons (IsWhole vars) last [] (record { some = not_empty_two (output_ids s t id s.cap) upper; vars_known = All-nil (UpTo vars) }) (All-nil (IsWhole vars))))
+    (All-cons (IsWhole vars) (least_justification m.bound t first id lower) (last ∷ []) (record { some = not_empty [] (map (λ k. k + 1) (output_ids s t id m.bound)) (lower ∷ []) (omega arith); vars_known = All-nil (UpTo vars) })
+    (All-cons (IsWhole vars) last [] (record { some = not_empty [] (output_ids s t id s.cap) (upper ∷ []) (omega arith); vars_known = All-nil (UpTo vars) }) (All-nil (IsWhole vars))))

@@ -2,7 +2,7 @@
 use Rattle.std.proofs.Common.{◌≡◌, ◌<◌, ◌≤◌, ◌+◌, ◌⊎◌, ◌==◌, ℕ, true, cond, List, [], ◌∷◌, length, min, refl, sym, ap, ◌∙◌, subst, arith, inl, inr, length-append}
 use Rattle.std.specs.Prelude.{Contains, All, sum_by}
 use Rattle.std.proofs.lemmas.Bool.{and_parts, eqb-true, le-leb, lt-leb, not_from_false}
-use Rattle.std.proofs.lemmas.List.Elements.{All-contains, Contains-append_left, Contains-append_right, Contains-append_cases}
+use Rattle.std.proofs.lemmas.List.Elements.{All-nil, All-cons, All-append, All-contains, Contains-append_left, Contains-append_right, Contains-append_cases}
 use Rattle.std.proofs.lemmas.List.Sums.{sum_by-cons}
 use Rattle.pb_base.specs.declared.literal.Lit.{Lit}
 use Rattle.pb_base.specs.Literals.{Assignment, negated, lit_value, clause_value, IsModel, AgreeBelow, is_among}
@@ -35,6 +35,7 @@ use Rattle.pb_totalizer.specs.Exact.{outputs_of, exact_along, limit_count_of, ex
 use Rattle.pb_totalizer.specs.ExactOutputs.{ReachesOutputs}
 use Rattle.pb_totalizer.specs.Totalizer.{totalizer, totalizer_clauses}
 use Rattle.pb_totalizer.specs.laws.AtLeast.{denied, least_distinct, least_from, least_to, open_leaves_sum}
+use Rattle.pb_totalizer.specs.laws.Counting.{full_root}
 use Rattle.pb_totalizer.specs.laws.Down.{deny_output, raise_leaf, totalizer_listed, part_listed}
 use Rattle.pb_totalizer.specs.laws.ExactReifications.{exact_by_reification, own_counted}
 use Rattle.pb_totalizer.specs.laws.TotalizerLaws.{IsCapped, value_from, values_count, fewer, totalizer_lawful, totalizer_propagates, totalizer_sound}
@@ -75,12 +76,7 @@ totalizer_among m first c h =
 
 -- the root has an output for the bound and one more
 pub root_outputs : (m : BoundedSum) → all_weigh 1 m.terms ≡ true → IsProper m → m.bound + 1 ≤ outputs_of m.bound (tree_of m.terms)
-root_outputs m units proper =
-    omega (arith, values_count m.bound (tree_of m.terms), split_sum (λ (u : Weighted). 1) m.terms, ones_count m.terms, more_than_bound m units proper)
-  where
-    ones_count : (ts : List Weighted) → sum_by (λ (u : Weighted). 1) ts ≡ length ts
-    ones_count [] = refl
-    ones_count (t ∷ ts) = omega (arith, sum_by-cons (λ (u : Weighted). 1) t ts, ones_count ts)
+root_outputs m units proper = omega (arith, full_root m.bound m.terms (more_than_bound m units proper))
 
 unit_clause : (cs : List (List Lit)) (given : List Lit) (l : Lit) → Contains cs (l ∷ []) → Derived cs given l
 unit_clause cs given l listed =
@@ -176,29 +172,21 @@ pub exact_extends : (m : BoundedSum) → all_weigh 1 m.terms ≡ true → IsProp
 exact_extends m units proper first below a exactly =
     let s = totalizer m.bound in
     let t = tree_of m.terms in
-    let cs = exact_clauses m first in
     let o = output s t first in
     let d = m.bound in
     let some = proper.bound_from in
     let room = root_outputs m units proper in
     let ext = extension s (IsCapped d) (totalizer_lawful d) (omega arith) (exact_own d) (exact_by_reification d) a t first (leaf_below first m.terms below) (λ u h. omega arith) in
+    let Holds : List Lit → Type 0 = λ c. clause_value ext.now c ≡ true in
     let sum : leaf_sum (passing s (lit_value a)) t ≡ d = root_sum m units a ∙ exactly in
     let least : lit_value ext.now (o d) ≡ true = ext.means d (value_from d t d some (omega arith)) ∙ le-leb d (leaf_sum (passing s (lit_value a)) t) (omega arith) in
     let most : lit_value ext.now (negated (o (d + 1))) ≡ true =
     lit_value-negated ext.now (o (d + 1)) ∙ not_from_false (lit_value ext.now (o (d + 1))) (ext.means (d + 1) (value_from d t (d + 1) (omega arith) room) ∙ lt-leb (d + 1) (leaf_sum (passing s (lit_value a)) t) (omega arith)) in (
       ext.now,
       ext.agrees,
-      all_from_each (λ c. clause_value ext.now c ≡ true) cs (λ c h.
-          elim (Contains-append_cases (exact_along d t first) ((o d ∷ []) ∷ (negated (o (d + 1)) ∷ []) ∷ []) c h) as (λ _. clause_value ext.now c ≡ true) [
-            | inl inside ↦ ext.holds c inside
-            | inr root ↦ elim (Contains-cons_cases (o d ∷ []) ((negated (o (d + 1)) ∷ []) ∷ []) c root) as (λ _. clause_value ext.now c ≡ true) [
-              | inl e ↦ subst (λ (c : List Lit). clause_value ext.now c ≡ true) e (clause_from ext.now (o d ∷ []) (o d) (Contains-here (o d) []) least)
-              | inr last ↦ elim (Contains-cons_cases (negated (o (d + 1)) ∷ []) [] c last) as (λ _. clause_value ext.now c ≡ true) [
-                | inl e ↦ subst (λ (c : List Lit). clause_value ext.now c ≡ true) e (clause_from ext.now (negated (o (d + 1)) ∷ []) (negated (o (d + 1))) (Contains-here (negated (o (d + 1))) []) most)
-                | inr none ↦ absurd (Contains-nil c none)
-              ]
-            ]
-          ]),
+      All-append Holds (exact_along d t first) ((o d ∷ []) ∷ (negated (o (d + 1)) ∷ []) ∷ []) (all_from_each Holds (exact_along d t first) ext.holds)
+          (All-cons Holds (o d ∷ []) ((negated (o (d + 1)) ∷ []) ∷ []) (clause_from ext.now (o d ∷ []) (o d) (Contains-here (o d) []) least)
+          (All-cons Holds (negated (o (d + 1)) ∷ []) [] (clause_from ext.now (negated (o (d + 1)) ∷ []) (negated (o (d + 1))) (Contains-here (negated (o (d + 1))) []) most) (All-nil Holds))),
     )
 
 pub exact_names : (m : BoundedSum) → all_weigh 1 m.terms ≡ true → IsProper m → (first : ℕ) → NamesOnly m.terms first (exact_fresh m) (exact_clauses m first)
@@ -211,23 +199,11 @@ exact_names m units proper first =
     let room = root_outputs m units proper in
     let laws = totalizer_lawful d in
     let Named : Lit → Type 0 = λ l. Contains (vars_of m.terms) l.var ⊎ ((first ≤ l.var) × (l.var < first + exact_fresh m)) in
-    all_from_each (All Named) (exact_clauses m first) (λ c h. all_from_each Named c (λ k among.
-    named_of (totalizer m.bound) m.terms first k.var (elim (Contains-append_cases (exact_along d t first) ((o d ∷ []) ∷ (negated (o (d + 1)) ∷ []) ∷ []) c h) as (λ _. IsNamed s t first k.var) [
-      | inl inside ↦ along_named s (IsCapped d) laws (exact_own d) (exact_by_reification d) t first c inside k among
-      | inr root ↦ elim (Contains-cons_cases (o d ∷ []) ((negated (o (d + 1)) ∷ []) ∷ []) c root) as (λ _. IsNamed s t first k.var) [
-        | inl e ↦ elim (Contains-cons_cases (o d) [] k (subst (λ (c : List Lit). Contains c k) (sym e) among)) as (λ _. IsNamed s t first k.var) [
-          | inl same ↦ subst (λ (l : Lit). IsNamed s t first l.var) same (output_named s (IsCapped d) laws t first d (value_from d t d some (omega arith)))
-          | inr none ↦ absurd (Contains-nil k none)
-        ]
-        | inr last ↦ elim (Contains-cons_cases (negated (o (d + 1)) ∷ []) [] c last) as (λ _. IsNamed s t first k.var) [
-          | inl e ↦ elim (Contains-cons_cases (negated (o (d + 1))) [] k (subst (λ (c : List Lit). Contains c k) (sym e) among)) as (λ _. IsNamed s t first k.var) [
-            | inl same ↦ subst (λ (l : Lit). IsNamed s t first l.var) same (output_named s (IsCapped d) laws t first (d + 1) (value_from d t (d + 1) (omega arith) room))
-            | inr none ↦ absurd (Contains-nil k none)
-          ]
-          | inr none ↦ absurd (Contains-nil c none)
-        ]
-      ]
-    ])))
+    let root = λ (l : Lit) (u : ℕ) (is : l.var ≡ (o u).var) (low : 1 ≤ u) (high : u ≤ outputs_of d t). All-cons Named l [] (named_of s m.terms first l.var (subst (λ (n : ℕ). IsNamed s t first n) (sym is) (output_named s (IsCapped d) laws t first u (value_from d t u low high)))) (All-nil Named) in
+    All-append (All Named) (exact_along d t first) ((o d ∷ []) ∷ (negated (o (d + 1)) ∷ []) ∷ [])
+    (all_from_each (All Named) (exact_along d t first) (λ c h. all_from_each Named c (λ k among. named_of s m.terms first k.var (along_named s (IsCapped d) laws (exact_own d) (exact_by_reification d) t first c h k among))))
+    (All-cons (All Named) (o d ∷ []) ((negated (o (d + 1)) ∷ []) ∷ []) (root (o d) d refl some (omega arith))
+    (All-cons (All Named) (negated (o (d + 1)) ∷ []) [] (root (negated (o (d + 1))) (d + 1) refl (omega arith) room) (All-nil (All Named))))
 
 -- ---- as the laws of two sums
 

@@ -6,10 +6,10 @@ use Rattle.std.proofs.Math.Nat.{mul-le-mul_right}
 use Rattle.std.proofs.lemmas.Bool.{cases_lt, cond-true, cond-false, lt-ltb, le-ltb}
 use Rattle.std.proofs.lemmas.List.{length-map}
 use Rattle.std.proofs.lemmas.List.Concat.{flat_map-cons}
-use Rattle.std.proofs.lemmas.List.Elements.{All-nil, All-cons, All-append, All-map}
+use Rattle.std.proofs.lemmas.List.Elements.{All-nil, All-cons, All-append}
 use Rattle.std.proofs.lemmas.List.FromFn.{length-range_with_len}
 use Rattle.std.proofs.lemmas.List.Sums.{sum_by-cons, count_by-le-length}
-use Rattle.pb_base.proofs.Members.{Contains-here, Contains-there, All-append_both}
+use Rattle.pb_base.proofs.Members.{All-append_both}
 use Rattle.pb_norm.specs.Constraints.{Weighted, weight}
 use Rattle.pb_norm.specs.BoundedSums.{BoundedSum, IsProper, vars_of}
 use Rattle.pb_norm.specs.Reduction.{all_weigh}
@@ -25,9 +25,12 @@ use Rattle.pb_tree.specs.Tree.{Tree, node, tree_of}
 use Rattle.pb_tree.specs.TreeSteps.{leaves, output_ids, pair_justifications, justifications_along, root_justification}
 use Rattle.pb_tree.proofs.AlongJustifications.{clause_in}
 use Rattle.pb_tree.proofs.AlongShort.{IsShort, Starts, gone-append, along_gone, along_short, known_terms, terms_sayable, terms_short}
+use Rattle.pb_tree.proofs.Extending.{at_most_weight}
+use Rattle.pb_tree.proofs.PairJustifications.{all_map}
 use Rattle.pb_tree.proofs.PairCounts.{count-cons, count-append, count-map, count_none}
+use Rattle.pb_tree.proofs.TreeDerives.{not_empty}
 use Rattle.pb_tree.proofs.TreeRows.{leaves_of}
-use Rattle.pb_tree.proofs.TreeShort.{length-vars, some_or_none, pairs_gone_few, output_ids_are, not_empty, own_short as pairs_own_short, root_short}
+use Rattle.pb_tree.proofs.TreeShort.{length-vars, some_or_none, pairs_gone_few, output_ids_are, own_short as pairs_own_short, root_short}
 use Rattle.pb_totalizer.specs.Exact.{limits, outputs_of, limit_count_of, exact_fresh, exact_size}
 use Rattle.pb_totalizer.specs.ExactSteps.{after_ids, after_weakened, limit_justification, limit_pairs, limit_justifications, own_justifications, least_justification, exact_justifications, exact_steps}
 use Rattle.pb_totalizer.specs.Totalizer.{totalizer}
@@ -36,7 +39,7 @@ use Rattle.pb_totalizer.specs.laws.ByPairs.{totalizer_by_pairs}
 use Rattle.pb_totalizer.specs.laws.Counting.{own_in_grid}
 use Rattle.pb_totalizer.specs.laws.ExactDerives.{unit_weighs}
 use Rattle.pb_totalizer.specs.laws.ExactLaws.{exact_counts, root_outputs}
-use Rattle.pb_totalizer.specs.laws.ExactJustifications.{pair_bounds, exact_justifications_clauses}
+use Rattle.pb_totalizer.specs.laws.ExactJustifications.{pair_bounds, after_all, exact_justifications_clauses}
 use Rattle.pb_totalizer.specs.laws.LimitCounts.{limits_in_grid, size_split}
 use Rattle.pb_totalizer.specs.laws.Limits.{limits_are}
 use Rattle.pb_totalizer.specs.laws.Shares.{few_shared}
@@ -163,19 +166,8 @@ after_ids_are bound t id i low high =
           (subst (λ (is : List ℕ). All IsId is) (sym same) (All-nil IsId), omega (arith, ap length same))
     ]
 
-after_variables : (bound : ℕ) (t : Tree) (i : ℕ) → All (λ w. IsVariable w.lit.var) (leaves t) → All IsVariable (after_weakened bound t i)
-after_variables bound t i h = by_test (nat_lt i (outputs_of bound t))
-  where
-    by_test : (b : Bool) → All IsVariable (cond {A = List ℕ} b [] (vars_of (leaves t)))
-    by_test true = All-nil IsVariable
-    by_test false = All-map IsVariable (λ (w : Weighted). w.lit.var) (leaves t) h
-
 after_few : (bound : ℕ) (t : Tree) (i : ℕ) → length (after_weakened bound t i) ≤ length (leaves t)
-after_few bound t i = by_test (nat_lt i (outputs_of bound t))
-  where
-    by_test : (b : Bool) → length (cond {A = List ℕ} b [] (vars_of (leaves t))) ≤ length (leaves t)
-    by_test true = omega arith
-    by_test false = omega (arith, length-vars (leaves t))
+after_few bound t i = omega (arith, after_gone bound t i, at_most_weight (is_past (outputs_of bound t) i) (length (leaves t)))
 
 limit_short : (bound n : ℕ) (l r : Tree) (first id : ℕ) → 1 ≤ id → id + 2 * fresh_of (totalizer bound) (node l r) < 2 ^ 63 → All (λ w. IsVariable w.lit.var) (leaves (node l r)) → length (leaves (node l r)) ≤ n
     → (p : Pair) → Contains (limit_pairs (outputs_of bound (node l r)) (outputs_of bound l) (outputs_of bound r)) p → IsShort n (limit_justification bound l r first id p)
@@ -196,23 +188,16 @@ limit_short bound n l r first id low high known few p h =
       some = not_empty lefts rights owns (omega (arith, size));
       three = omega (arith, length-append lefts (rights ++ owns), length-append rights owns, left.1, right.1, size);
       ids = All-append IsId lefts (rights ++ owns) left.0 (All-append IsId rights owns right.0 own.0);
-      variables = All-append IsVariable (after_weakened bound l p.left) (after_weakened bound r p.right) (after_variables bound l p.left parts.0) (after_variables bound r p.right parts.1);
+      variables = All-append IsVariable (after_weakened bound l p.left) (after_weakened bound r p.right) (after_all IsVariable bound l p.left parts.0) (after_all IsVariable bound r p.right parts.1);
       few = omega (arith, few, length-append (after_weakened bound l p.left) (after_weakened bound r p.right), after_few bound l p.left, after_few bound r p.right, length-append (leaves l) (leaves r));
     }
-
-limits_short : (bound n : ℕ) (l r : Tree) (first id : ℕ) → 1 ≤ id → id + 2 * fresh_of (totalizer bound) (node l r) < 2 ^ 63 → All (λ w. IsVariable w.lit.var) (leaves (node l r)) → length (leaves (node l r)) ≤ n
-    → (ps : List Pair) → ((p : Pair) → Contains ps p → Contains (limit_pairs (outputs_of bound (node l r)) (outputs_of bound l) (outputs_of bound r)) p) → All (IsShort n) (map (limit_justification bound l r first id) ps)
-limits_short bound n l r first id low high known few [] h = All-nil (IsShort n)
-limits_short bound n l r first id low high known few (p ∷ ps) h =
-    All-cons (IsShort n) (limit_justification bound l r first id p) (map (limit_justification bound l r first id) ps) (limit_short bound n l r first id low high known few p (h p (Contains-here p ps)))
-    (limits_short bound n l r first id low high known few ps (λ q m. h q (Contains-there p ps q m)))
 
 own_short : (bound n : ℕ) (l r : Tree) (first id : ℕ) → 1 ≤ id → id + 2 * fresh_of (totalizer bound) (node l r) < 2 ^ 63 → All (λ w. IsVariable w.lit.var) (leaves (node l r)) → length (leaves (node l r)) ≤ n
     → All (IsShort n) (own_justifications bound l r first id)
 own_short bound n l r first id low high known few =
     All-append (IsShort n) (pair_justifications (totalizer bound) (totalizer_pairs (bound + 1)) l r first id) (limit_justifications bound l r first id)
     (pairs_own_short (totalizer bound) (IsCapped bound) (totalizer_lawful bound) (totalizer_pairs (bound + 1)) (totalizer_by_pairs bound) n l r first id low high known few)
-    (limits_short bound n l r first id low high known few (limit_pairs (outputs_of bound (node l r)) (outputs_of bound l) (outputs_of bound r)) (λ p h. h))
+    (all_map (IsShort n) (limit_justification bound l r first id) (limit_pairs (outputs_of bound (node l r)) (outputs_of bound l) (outputs_of bound r)) (limit_short bound n l r first id low high known few))
 
 least_short : (bound n : ℕ) (t : Tree) (first id lower : ℕ) → 1 ≤ id → id + 2 * fresh_of (totalizer bound) t < 2 ^ 63 → IsId lower → 1 ≤ bound → bound ≤ outputs_of bound t → IsShort n (least_justification bound t first id lower)
 least_short bound n t first id lower low high given some within =

@@ -1,43 +1,28 @@
 -- The clauses from the outputs of a node to its parts, one by one, and what unit propagation makes of them.
 use Rattle.std.proofs.Common.{◌≡◌, ◌<◌, ◌≤◌, ◌+◌, ◌-◌, ◌⊎◌, ◌++◌, ℕ, List, [], ◌∷◌, length, min, refl, sym, ap, ◌∙◌, subst, arith, inl, inr, zero, suc}
-use Rattle.std.specs.Prelude.{Contains, map, nat_lt, sum_by, count_by}
+use Rattle.std.specs.Prelude.{Contains, nat_lt}
 use Rattle.std.specs.List.{filter, range_with_len}
 use Rattle.std.proofs.lemmas.Bool.{cases_lt, cond-true, cond-false, lt-ltb, le-ltb, ltb-true}
-use Rattle.std.proofs.lemmas.List.{length-map}
 use Rattle.std.proofs.lemmas.List.Elements.{Contains-append_left, Contains-append_right, Contains-append_cases}
-use Rattle.std.proofs.lemmas.List.Concat.{length-flat_map}
-use Rattle.std.proofs.lemmas.List.Sums.{length-filter, sum_by-cons}
 use Rattle.pb_base.specs.declared.literal.Lit.{Lit}
 use Rattle.pb_base.specs.Literals.{negated}
-use Rattle.pb_base.proofs.Members.{Contains-nil, Contains-here, Contains-cons_cases, Contains-map}
+use Rattle.pb_base.proofs.Members.{Contains-nil, Contains-here, Contains-cons_cases}
 use Rattle.pb_norm.proofs.Derived.{Derived}
 use Rattle.pb_norm.proofs.Derived.Derived.{by_clause}
-use Rattle.pb_family.proofs.Filters.{Contains-filter, Contains-filter_cases}
 use Rattle.pb_family.proofs.ShortClauses.{twice}
-use Rattle.pb_tree.proofs.Lists.{Contains-map_cases, Contains-flat_map, Contains-flat_map_cases, Contains-range, Contains-range_cases}
 use Rattle.pb_totalizer.specs.Exact.{unless_last, limit_clause, limits, limit_clauses, limit_count}
+use Rattle.pb_totalizer.specs.laws.PairRows.{row_listed, row_cases, rows_counted}
 
 -- ---- which clauses there are
 
 pub limit_listed : (count a b : ℕ) (f g h : ℕ → Lit) (i j : ℕ) → i ≤ a → j ≤ b → i + j < count → Contains (limit_clauses count a b f g h) (limit_clause a b f g h i j)
-limit_listed count a b f g h i j left right below =
-    Contains-flat_map (λ i. map (limit_clause a b f g h i) (limits count b i)) (range_with_len 0 (a + 1)) i (limit_clause a b f g h i j)
-    (Contains-range 0 (a + 1) i (omega arith) (omega arith))
-    (Contains-map (limit_clause a b f g h i) (limits count b i) j
-    (Contains-filter (λ j. nat_lt (i + j) count) (range_with_len 0 (b + 1)) j (Contains-range 0 (b + 1) j (omega arith) (omega arith)) (lt-ltb (i + j) count below)))
+limit_listed count a b f g h i j left right below = row_listed (limit_clause a b f g h) (λ i j. nat_lt (i + j) count) a b i j left right (lt-ltb (i + j) count below)
 
 pub limit_cases : (count a b : ℕ) (f g h : ℕ → Lit) (c : List Lit) → Contains (limit_clauses count a b f g h) c
     → (i : ℕ) × (j : ℕ) × (i ≤ a) × (j ≤ b) × (i + j < count) × (limit_clause a b f g h i j ≡ c)
 limit_cases count a b f g h c listed =
-    let row = Contains-flat_map_cases (λ i. map (limit_clause a b f g h i) (limits count b i)) (range_with_len 0 (a + 1)) c listed in
-    let i = row.0 in
-    let first = Contains-range_cases 0 (a + 1) i row.1 in
-    let column = Contains-map_cases (limit_clause a b f g h i) (limits count b i) c row.2 in
-    let j = column.0 in
-    let kept = Contains-filter_cases (λ j. nat_lt (i + j) count) (range_with_len 0 (b + 1)) j column.1 in
-    let second = Contains-range_cases 0 (b + 1) j kept.0 in
-    let below = ltb-true (i + j) count kept.1 in
-    (i, j, omega arith, omega arith, below, column.2)
+    let found = row_cases (limit_clause a b f g h) (λ i j. nat_lt (i + j) count) a b c listed in
+    (found.0, found.1, found.2, found.3, ltb-true (found.0 + found.1) count found.4, found.5)
 
 -- ---- the literals of one
 
@@ -85,60 +70,42 @@ limit_own a b f g h i j =
 
 -- ---- unit propagation
 
+-- one of the literals, where each is the derived one or false
+limit_gives : (cs : List (List Lit)) (given : List Lit) (a b : ℕ) (f g h : ℕ → Lit) (i j : ℕ) (l : Lit) → Contains cs (limit_clause a b f g h i j) → Contains (limit_clause a b f g h i j) l
+    → (i < a → (f (i + 1) ≡ l) ⊎ Derived cs given (negated (f (i + 1)))) → (j < b → (g (j + 1) ≡ l) ⊎ Derived cs given (negated (g (j + 1))))
+    → (negated (h (i + j + 1)) ≡ l) ⊎ Derived cs given (negated (negated (h (i + j + 1)))) → Derived cs given l
+limit_gives cs given a b f g h i j l listed here left right own =
+    by_clause (limit_clause a b f g h i j) listed here (λ k m other.
+    elim (limit_literal a b f g h i j k m) as (λ _. Derived cs given (negated k)) [
+      | inl one ↦ falsified (f (i + 1)) k one.1 (left one.0) other
+      | inr rest ↦ elim rest as (λ _. Derived cs given (negated k)) [ inl two ↦ falsified (g (j + 1)) k two.1 (right two.0) other | inr last ↦ falsified (negated (h (i + j + 1))) k last own other ]
+    ])
+  where
+    falsified : (x k : Lit) → k ≡ x → (x ≡ l) ⊎ Derived cs given (negated x) → ¬ (k ≡ l) → Derived cs given (negated k)
+    falsified x k e (inl same) other = absurd (other (e ∙ same))
+    falsified x k e (inr d) other = subst (λ (m : Lit). Derived cs given (negated m)) (sym e) d
+
 -- where the literals of the parts are false, the node's is
 pub limit_denies : (cs : List (List Lit)) (given : List Lit) (a b : ℕ) (f g h : ℕ → Lit) (i j : ℕ) → Contains cs (limit_clause a b f g h i j)
     → (i < a → Derived cs given (negated (f (i + 1)))) → (j < b → Derived cs given (negated (g (j + 1)))) → Derived cs given (negated (h (i + j + 1)))
 limit_denies cs given a b f g h i j listed left right =
-    by_clause (limit_clause a b f g h i j) listed (limit_own a b f g h i j) (λ k m other.
-    elim (limit_literal a b f g h i j k m) as (λ _. Derived cs given (negated k)) [
-      | inl one ↦ subst (λ (l : Lit). Derived cs given (negated l)) (sym one.1) (left one.0)
-      | inr rest ↦ elim rest as (λ _. Derived cs given (negated k)) [
-        | inl two ↦ subst (λ (l : Lit). Derived cs given (negated l)) (sym two.1) (right two.0)
-        | inr own ↦ absurd (other own)
-      ]
-    ])
+    limit_gives cs given a b f g h i j (negated (h (i + j + 1))) listed (limit_own a b f g h i j) (λ m. inr (left m)) (λ m. inr (right m)) (inl refl)
 
 -- where the node's is true and the right part's false, the left part's is true
 pub limit_raises_left : (cs : List (List Lit)) (given : List Lit) (a b : ℕ) (f g h : ℕ → Lit) (i j : ℕ) → Contains cs (limit_clause a b f g h i j)
     → i < a → (j < b → Derived cs given (negated (g (j + 1)))) → Derived cs given (h (i + j + 1)) → Derived cs given (f (i + 1))
 limit_raises_left cs given a b f g h i j listed below right own =
-    by_clause (limit_clause a b f g h i j) listed (limit_left a b f g h i j below) (λ k m other.
-    elim (limit_literal a b f g h i j k m) as (λ _. Derived cs given (negated k)) [
-      | inl one ↦ absurd (other one.1)
-      | inr rest ↦ elim rest as (λ _. Derived cs given (negated k)) [
-        | inl two ↦ subst (λ (l : Lit). Derived cs given (negated l)) (sym two.1) (right two.0)
-        | inr last ↦ subst (λ (l : Lit). Derived cs given (negated l)) (sym last) (twice cs given (h (i + j + 1)) own)
-      ]
-    ])
+    limit_gives cs given a b f g h i j (f (i + 1)) listed (limit_left a b f g h i j below) (λ m. inl refl) (λ m. inr (right m)) (inr (twice cs given (h (i + j + 1)) own))
 
 pub limit_raises_right : (cs : List (List Lit)) (given : List Lit) (a b : ℕ) (f g h : ℕ → Lit) (i j : ℕ) → Contains cs (limit_clause a b f g h i j)
     → j < b → (i < a → Derived cs given (negated (f (i + 1)))) → Derived cs given (h (i + j + 1)) → Derived cs given (g (j + 1))
 limit_raises_right cs given a b f g h i j listed below left own =
-    by_clause (limit_clause a b f g h i j) listed (limit_right a b f g h i j below) (λ k m other.
-    elim (limit_literal a b f g h i j k m) as (λ _. Derived cs given (negated k)) [
-      | inl one ↦ subst (λ (l : Lit). Derived cs given (negated l)) (sym one.1) (left one.0)
-      | inr rest ↦ elim rest as (λ _. Derived cs given (negated k)) [
-        | inl two ↦ absurd (other two.1)
-        | inr last ↦ subst (λ (l : Lit). Derived cs given (negated l)) (sym last) (twice cs given (h (i + j + 1)) own)
-      ]
-    ])
+    limit_gives cs given a b f g h i j (g (j + 1)) listed (limit_right a b f g h i j below) (λ m. inr (left m)) (λ m. inl refl) (inr (twice cs given (h (i + j + 1)) own))
 
 -- ---- how many there are
 
-rows_count : (count a b : ℕ) (f g h : ℕ → Lit) (is : List ℕ) → sum_by (λ i. length (map (limit_clause a b f g h i) (limits count b i))) is ≡ sum_by (λ i. count_by (λ j. nat_lt (i + j) count) (range_with_len 0 (b + 1))) is
-rows_count count a b f g h [] = refl
-rows_count count a b f g h (i ∷ is) =
-    omega (
-      arith,
-      sum_by-cons (λ i. length (map (limit_clause a b f g h i) (limits count b i))) i is,
-      sum_by-cons (λ i. count_by (λ j. nat_lt (i + j) count) (range_with_len 0 (b + 1))) i is,
-      length-map (limits count b i) (limit_clause a b f g h i),
-      length-filter (λ j. nat_lt (i + j) count) (range_with_len 0 (b + 1)),
-      rows_count count a b f g h is,
-    )
-
 pub limits_counted : (count a b : ℕ) (f g h : ℕ → Lit) → length (limit_clauses count a b f g h) ≡ limit_count count a b
-limits_counted count a b f g h = length-flat_map (λ i. map (limit_clause a b f g h i) (limits count b i)) (range_with_len 0 (a + 1)) ∙ rows_count count a b f g h (range_with_len 0 (a + 1))
+limits_counted count a b f g h = rows_counted (limit_clause a b f g h) (λ i j. nat_lt (i + j) count) a b
 
 -- as the code counts them
 limits_from : (c i k n : ℕ) → filter (λ j. nat_lt (i + j) c) (range_with_len k n) ≡ range_with_len k (min (k + n) (c - i) - k)

@@ -1,29 +1,25 @@
 -- A totalizer is lawful, and its counts in closed form.
 use Rattle.std.proofs.Common.{◌≡◌, ◌≤◌, ◌+◌, ◌-◌, ◌⊎◌, ℕ, Bool, true, List, [], ◌∷◌, length, min, refl, sym, ap, ◌∙◌, subst, arith, inl, inr, zero, suc}
-use Rattle.std.specs.Prelude.{Contains, map, sum_by, count_by, nat_le}
+use Rattle.std.specs.Prelude.{Contains, nat_le}
 use Rattle.std.specs.List.{range_with_len}
 use Rattle.std.proofs.lemmas.Bool.{cases_eq, leb-true, le-leb, and_from, and_parts}
-use Rattle.std.proofs.lemmas.List.{length-map}
 use Rattle.std.proofs.lemmas.List.FromFn.{length-range_with_len, get_or-range_with_len}
-use Rattle.std.proofs.lemmas.List.Concat.{length-flat_map}
-use Rattle.std.proofs.lemmas.List.Sums.{length-filter, sum_by-cons}
 use Rattle.pb_base.specs.declared.literal.Lit.{Lit}
 use Rattle.pb_base.specs.Literals.{Assignment, negated, IsModel, AgreeBelow}
 use Rattle.pb_norm.specs.Constraints.{Weighted}
 use Rattle.pb_norm.specs.BoundedSums.{BoundedSum, StaysWithin, IsProper}
 use Rattle.pb_norm.specs.ClausePropagation.{ClausesPropagate}
 use Rattle.pb_norm.specs.Reduction.{all_weigh}
-use Rattle.pb_base.proofs.Members.{Contains-map}
 use Rattle.pb_family.specs.Families.{VarsBelow, NamesOnly}
-use Rattle.pb_family.proofs.Filters.{Contains-filter, Contains-filter_cases}
 use Rattle.pb_family.proofs.UnitSums.{unit_coefficient}
 use Rattle.pb_tree.specs.Tree.{Tree, empty, leaf, node, tree_of, leaf_sum}
 use Rattle.pb_tree.specs.Scheme.{values}
 use Rattle.pb_tree.proofs.Sums.{Reach, ReachWith, OfLeft, OfBoth, IsLawful}
-use Rattle.pb_tree.proofs.Lists.{Contains-map_cases, Contains-flat_map, Contains-flat_map_cases, Contains-range, Contains-range_cases}
+use Rattle.pb_tree.proofs.Lists.{Contains-range, Contains-range_cases}
 use Rattle.pb_tree.proofs.Pushing.{with_positive}
 use Rattle.pb_tree.proofs.Laws.{Suits, tree_propagates, tree_sound, tree_extends, tree_names, tree_counts}
-use Rattle.pb_totalizer.specs.Totalizer.{sum_clause, is_within, partners, sum_clauses, node_clause_count, totalizer, totalizer_clauses, totalizer_fresh, totalizer_size}
+use Rattle.pb_totalizer.specs.Totalizer.{sum_clause, is_within, sum_clauses, totalizer, totalizer_clauses, totalizer_fresh, totalizer_size}
+use Rattle.pb_totalizer.specs.laws.PairRows.{row_listed, row_cases, rows_counted}
 
 -- ---- the values are the numbers from 1 on
 
@@ -85,48 +81,32 @@ both_sides f g h (suc u) (suc v) low also = refl
 pub within_from : (cap i j : ℕ) → 1 ≤ i + j → i + j ≤ cap → is_within cap i j ≡ true
 within_from cap i j low high = and_from (nat_le 1 (i + j)) (nat_le (i + j) cap) (le-leb 1 (i + j) low) (le-leb (i + j) cap high)
 
-within_bounds : (cap i j : ℕ) → is_within cap i j ≡ true → (1 ≤ i + j) × (i + j ≤ cap)
+pub within_bounds : (cap i j : ℕ) → is_within cap i j ≡ true → (1 ≤ i + j) × (i + j ≤ cap)
 within_bounds cap i j h =
     let parts = and_parts (nat_le 1 (i + j)) (nat_le (i + j) cap) h in
     (leb-true 1 (i + j) parts.0, leb-true (i + j) cap parts.1)
 
 clause_listed : (cap a b : ℕ) (f g h : ℕ → Lit) (i j : ℕ) → i ≤ a → j ≤ b → 1 ≤ i + j → i + j ≤ cap → Contains (sum_clauses cap a b f g h) (sum_clause f g h i j)
-clause_listed cap a b f g h i j left right low high =
-    Contains-flat_map (λ i. map (sum_clause f g h i) (partners cap b i)) (range_with_len 0 (a + 1)) i (sum_clause f g h i j)
-    (Contains-range 0 (a + 1) i (omega arith) (omega arith))
-    (Contains-map (sum_clause f g h i) (partners cap b i) j
-    (Contains-filter (is_within cap i) (range_with_len 0 (b + 1)) j (Contains-range 0 (b + 1) j (omega arith) (omega arith)) (within_from cap i j low high)))
-
-clause_cases : (cap a b : ℕ) (f g h : ℕ → Lit) (c : List Lit) → Contains (sum_clauses cap a b f g h) c
-    → (i : ℕ) × (j : ℕ) × (i ≤ a) × (j ≤ b) × (1 ≤ i + j) × (i + j ≤ cap) × (sum_clause f g h i j ≡ c)
-clause_cases cap a b f g h c listed =
-    let row = Contains-flat_map_cases (λ i. map (sum_clause f g h i) (partners cap b i)) (range_with_len 0 (a + 1)) c listed in
-    let i = row.0 in
-    let first = Contains-range_cases 0 (a + 1) i row.1 in
-    let column = Contains-map_cases (sum_clause f g h i) (partners cap b i) c row.2 in
-    let j = column.0 in
-    let kept = Contains-filter_cases (is_within cap i) (range_with_len 0 (b + 1)) j column.1 in
-    let second = Contains-range_cases 0 (b + 1) j kept.0 in
-    let bounds = within_bounds cap i j kept.1 in
-    (i, j, omega arith, omega arith, bounds.0, bounds.1, column.2)
+clause_listed cap a b f g h i j left right low high = row_listed (sum_clause f g h) (is_within cap) a b i j left right (within_from cap i j low high)
 
 sum_clause_cases : (bound : ℕ) (l r : Tree) (f g h : ℕ → Lit) (c : List Lit)
     → Contains (sum_clauses (bound + 1) (length (values (totalizer bound) l)) (length (values (totalizer bound) r)) f g h) c
     → OfLeft (totalizer bound) l f h c ⊎ OfLeft (totalizer bound) r g h c ⊎ OfBoth (totalizer bound) l r f g h c
 sum_clause_cases bound l r f g h c listed =
     let s = totalizer bound in
-    let found = clause_cases (bound + 1) (length (values s l)) (length (values s r)) f g h c listed in
+    let found = row_cases (sum_clause f g h) (is_within (bound + 1)) (length (values s l)) (length (values s r)) c listed in
     let i = found.0 in
     let j = found.1 in
     let left = found.2 in
     let right = found.3 in
-    let low = found.4 in
-    let high = found.5 in
+    let bounds = within_bounds (bound + 1) i j found.4 in
+    let low = bounds.0 in
+    let high = bounds.1 in
     let Goal : Type 0 = OfLeft s l f h c ⊎ OfLeft s r g h c ⊎ OfBoth s l r f g h c in
     elim (cases_eq i 0) as (λ _. Goal) [
-      | inl none ↦ inr (inl (j, value_from bound r j (omega arith) right, sym found.6 ∙ ap (λ (n : ℕ). sum_clause f g h n j) none ∙ right_only f g h j (omega arith)))
+      | inl none ↦ inr (inl (j, value_from bound r j (omega arith) right, sym found.5 ∙ ap (λ (n : ℕ). sum_clause f g h n j) none ∙ right_only f g h j (omega arith)))
       | inr some ↦ elim (cases_eq j 0) as (λ _. Goal) [
-        | inl none ↦ inl (i, value_from bound l i (omega arith) left, sym found.6 ∙ ap (λ (n : ℕ). sum_clause f g h i n) none ∙ left_only f g h i (omega arith))
+        | inl none ↦ inl (i, value_from bound l i (omega arith) left, sym found.5 ∙ ap (λ (n : ℕ). sum_clause f g h i n) none ∙ left_only f g h i (omega arith))
         | inr more ↦
             let full : i + j ≡ min (i + j) (bound + 1) = omega arith in
             let count = node_length bound l r in
@@ -136,7 +116,7 @@ sum_clause_cases bound l r f g h c listed =
               value_from bound l i (omega arith) left,
               value_from bound r j (omega arith) right,
               value_from bound (node l r) (min (i + j) (bound + 1)) (omega arith) (omega arith),
-              sym found.6 ∙ both_sides f g h i j (omega arith) (omega arith) ∙ ap (λ (n : ℕ). negated (f i) ∷ negated (g j) ∷ h n ∷ []) full,
+              sym found.5 ∙ both_sides f g h i j (omega arith) (omega arith) ∙ ap (λ (n : ℕ). negated (f i) ∷ negated (g j) ∷ h n ∷ []) full,
             ))
       ]
     ]
@@ -177,21 +157,6 @@ fewer_with bound p (node l r) u x m reach low le =
           let i = min a (m - 1) in
           (i, m - i, omega arith, inr (fewer bound p l a i right.0 (omega arith), fewer_with bound p r u b (m - i) right.1 (omega arith) (omega arith)))
     ]
-
-rows_counted : (cap b : ℕ) (f g h : ℕ → Lit) (is : List ℕ) → sum_by (λ i. length (map (sum_clause f g h i) (partners cap b i))) is ≡ sum_by (λ i. count_by (is_within cap i) (range_with_len 0 (b + 1))) is
-rows_counted cap b f g h [] = refl
-rows_counted cap b f g h (i ∷ is) =
-    omega (
-      arith,
-      sum_by-cons (λ i. length (map (sum_clause f g h i) (partners cap b i))) i is,
-      sum_by-cons (λ i. count_by (is_within cap i) (range_with_len 0 (b + 1))) i is,
-      length-map (partners cap b i) (sum_clause f g h i),
-      length-filter (is_within cap i) (range_with_len 0 (b + 1)),
-      rows_counted cap b f g h is,
-    )
-
-sum_clauses_length : (cap a b : ℕ) (f g h : ℕ → Lit) → length (sum_clauses cap a b f g h) ≡ node_clause_count cap a b
-sum_clauses_length cap a b f g h = length-flat_map (λ i. map (sum_clause f g h i) (partners cap b i)) (range_with_len 0 (a + 1)) ∙ rows_counted cap b f g h (range_with_len 0 (a + 1))
 
 abbrev pub IsCapped : ℕ → ℕ → Type 0
 IsCapped bound n = n ≤ bound + 1
@@ -234,7 +199,7 @@ totalizer_lawful bound =
           (both_sides f g h u v b.0 c.0 ∙ ap (λ (n : ℕ). negated (f u) ∷ negated (g v) ∷ h n ∷ []) full)
           (clause_listed (bound + 1) (length (values s l)) (length (values s r)) f g h u v b.1 c.1 (omega arith) within);
       each_clause = sum_clause_cases bound;
-      counted = λ l r f g h. sum_clauses_length (bound + 1) (length (values s l)) (length (values s r)) f g h;
+      counted = λ l r f g h. rows_counted (sum_clause f g h) (is_within (bound + 1)) (length (values s l)) (length (values s r));
     }
 
 -- ---- what a sum has to be

@@ -14,6 +14,7 @@ use Rattle.pb_steps.specs.Sayable.{IsSayable}
 use Rattle.pb_derive.specs.Short.{AreShort}
 use Rattle.pb_family.specs.Derivations.{AreOriginal, MayStart}
 use Rattle.pb_family.proofs.Filters.{Contains-filter_cases}
+use Rattle.pb_family.proofs.UnitSums.{unit_weight}
 use Rattle.pb_tree.specs.Pairs.{Pair, pair_of}
 use Rattle.pb_tree.specs.Scheme.{values}
 use Rattle.pb_tree.proofs.Lists.{Contains-range_cases}
@@ -22,7 +23,6 @@ use Rattle.pb_tree.proofs.TreeShort.{IsSparing, tree_sayable, tree_lines_short}
 use Rattle.pb_totalizer.specs.Totalizer.{is_within, partners, totalizer, totalizer_clauses, totalizer_fresh, totalizer_size}
 use Rattle.pb_totalizer.specs.TotalizerSteps.{totalizer_pairs, totalizer_steps}
 use Rattle.pb_totalizer.specs.laws.ByPairs.{totalizer_by_pairs}
-use Rattle.pb_totalizer.specs.laws.TotalizerDerives.{unit_weight}
 use Rattle.pb_totalizer.specs.laws.TotalizerLaws.{IsCapped, totalizer_lawful, totalizer_suits, totalizer_counts, values_length}
 
 -- those from 1 on
@@ -108,10 +108,10 @@ module _ (m : BoundedSum) (units : all_weigh 1 m.terms ≡ true) (proper : IsPro
   pub totalizer_sayable : All IsSayable (totalizer_steps m first id next)
   totalizer_sayable =
       tree_sayable (totalizer m.bound) (IsCapped m.bound) (totalizer_lawful m.bound) (totalizer_pairs (m.bound + 1)) (totalizer_by_pairs m.bound) m (totalizer_suits m units proper)
-      (omega (arith, unit_weight m units, few)) first id next original start few_clauses
+      (omega (arith, unit_weight m.terms units, few)) first id next original start few_clauses
 
   pub totalizer_short : length m.terms ≤ 2 ^ 21 → AreShort (length m.terms) (totalizer_fresh m) (totalizer_size m) (totalizer_steps m first id next)
   totalizer_short narrow =
       subst (λ (k : ℕ). AreShort (length m.terms) (totalizer_fresh m) k (totalizer_steps m first id next)) (totalizer_counts m first)
       (tree_lines_short (totalizer m.bound) (IsCapped m.bound) (totalizer_lawful m.bound) (totalizer_pairs (m.bound + 1)) (totalizer_by_pairs m.bound) m (totalizer_suits m units proper)
-      (omega (arith, unit_weight m units, few)) first id next original start few_clauses (totalizer_sparing m.bound) narrow)
+      (omega (arith, unit_weight m.terms units, few)) first id next original start few_clauses (totalizer_sparing m.bound) narrow)

@@ -1,11 +1,9 @@
-use Rattle.std.proofs.Common.{[], ◌∷◌}
-use Rattle.pb_derive.specs.Claims.{claim_steps}
-use Rattle.pb_derive.specs.Justifications.{by_justification}
-use Rattle.pb_family.proofs.Deriving.{steps_lack_first}
-use Rattle.pb_totalizer.specs.inner.Sources.{root_given}
+use Rattle.std.proofs.Common.{◌++◌, ◌∷◌, []}
+use Rattle.pb_family.specs.Derivations.{claimed}
+use Rattle.pb_family.proofs.Deriving.{steps_same}
 use Rattle.pb_totalizer.proofs.derivation.derive_root.Goals as goal
 
-pub returns-in_err-ids : goal.returns-in_err-ids
-returns-in_err-ids g c =
+pub returns : goal.returns
+returns g c =
     let old = g.T.StepSink.state c.args.sink.now in
-    steps_lack_first (claim_steps old.next (by_justification (root_given c.args.root c.args.number c.args.own) ∷ [])) old c.from_residual.result c.from_residual.ensures.1
+    steps_same c.derive_by.result _ _ old (g.T.StepSink.state c.derive_by.new.sink) (λ k. claimed old.next (c.first_id.ensures k ++ c.args.own ∷ []) []) c.derive_by.ensures

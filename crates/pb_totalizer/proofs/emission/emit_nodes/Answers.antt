@@ -1,11 +1,12 @@
-use Rattle.std.proofs.Common.{◌≡◌, ◌+◌, ◌∙◌, [], sym, ap, arith, append-nil}
+use Rattle.std.proofs.Common.{◌≡◌, ◌+◌, ◌∙◌, ap, arith}
 use Rattle.pb_norm.specs.Constraints.{weights}
-use Rattle.pb_family.proofs.Emission.{emitting_from, fails_as, hands_fault, takes_as}
+use Rattle.pb_family.proofs.Emission.{takes_as}
 use Rattle.pb_tree.specs.Scheme.{output}
 use Rattle.pb_tree.specs.Tree.{tree_of}
 use Rattle.pb_tree.proofs.Walking.{from_first}
 use Rattle.pb_totalizer.specs.Totalizer.{totalizer}
-use Rattle.pb_totalizer.specs.laws.Polarity.{clauses_by, own_by}
+use Rattle.pb_totalizer.specs.laws.Polarity.{own_by}
+use Rattle.pb_totalizer.proofs.PartsEmitted.{hands_failed}
 use Rattle.pb_totalizer.proofs.WholeTrees.{whole_suits}
 use Rattle.pb_totalizer.proofs.emission.emit_nodes.Goals as goal
 
@@ -18,12 +19,8 @@ walk_along-requires-clause-suits g c = whole_suits c.args.whole.now.whole
 pub returns-in_err-root-clause-hands : goal.returns-in_err-root-clause-hands
 returns-in_err-root-clause-hands g c =
     let w = c.args.whole.now in
-    let t = tree_of (weights w.terms.now) in
-    let all = clauses_by c.args.polarity w.bound t w.first in
-    let old = g.S.ClauseSink.state c.args.sink.now in
-    let new = g.S.ClauseSink.state c.walk_along.new.sink in
-    hands_fault {all = all} c.from_residual.result _ all [] new c.from_residual.ensures.1 (emitting_from old (sym (append-nil all)))
-    (fails_as _ all old new (from_first (totalizer w.bound) (own_by c.args.polarity w.bound) t w.first) c.in_err-root.ensures.hands)
+    hands_failed c.from_residual.result _ _ _ (g.S.ClauseSink.state c.args.sink.now) (g.S.ClauseSink.state c.walk_along.new.sink) c.from_residual.ensures.1
+    (from_first (totalizer w.bound) (own_by c.args.polarity w.bound) (tree_of (weights w.terms.now)) w.first) c.in_err-root.ensures.hands
 
 pub returns-clause-hands : goal.returns-clause-hands
 returns-clause-hands g c =

@@ -1,8 +1,9 @@
 use Rattle.std.proofs.Common.{◌+◌, [], arith, refl}
+use Rattle.std.specs.List.{flat_map, range_with_len}
 use Rattle.pb_family.proofs.Emission.{emitting_flat, flat_next, hands_fault}
 use Rattle.pb_totalizer.specs.inner.NodeClauses.{row_over}
 use Rattle.pb_totalizer.specs.inner.Outputs.{output_count}
-use Rattle.pb_totalizer.proofs.Rows.{flat_starts, flat_taken}
+use Rattle.pb_totalizer.proofs.Rows.{flat_starts, rows_taken}
 use Rattle.pb_totalizer.proofs.emission.emit_rows.Goals as goal
 
 pub loop-i-init : goal.loop-i-init
@@ -22,4 +23,4 @@ loop-i-preserved g c =
 
 pub returns : goal.returns
 returns g c =
-    flat_taken (row_over c.args.direction c.args.node.now) c.loop-i.i (output_count c.args.node.now.left + 1) (omega arith) c.loop-i.invariant
+    rows_taken (λ n. flat_map (row_over c.args.direction c.args.node.now) (range_with_len c.loop-i.i n)) c.loop-i.i (output_count c.args.node.now.left + 1) refl (omega arith) c.loop-i.invariant

@@ -5,7 +5,6 @@ use Rattle.pb_derive.specs.Claims.{claim_steps}
 use Rattle.pb_derive.specs.Justifications.{Justification, by_justification}
 use Rattle.pb_family.specs.declared.sink.SinkFault.{SinkFault}
 use Rattle.pb_family.proofs.Deriving.{steps_same}
-use Rattle.pb_tree.specs.Scheme.{along}
 use Rattle.pb_tree.specs.Tree.{tree_of}
 use Rattle.pb_tree.specs.TreeSteps.{output_ids}
 use Rattle.pb_tree.proofs.TreeHanded.{steps_stopped}
@@ -35,7 +34,7 @@ returns-in_err-root-clause-hands g c =
     let old = g.T.StepSink.state c.args.sink.now in
     let new = g.T.StepSink.state c.walk_along.new.sink in
     steps_same c.from_residual.result _ _ old new (ap (λ (rs : List Justification). claim_steps old.next (map by_justification rs)) (from_id s own t c.args.id))
-    (steps_stopped c.from_residual.result _ (claim_steps old.next (map by_justification (along s (λ l r n. own l r n (c.args.id + 2 * n)) t 0))) old new c.from_residual.ensures.1 c.in_err-root.ensures.hands)
+    (steps_stopped c.from_residual.result _ _ old new c.from_residual.ensures.1 c.in_err-root.ensures.hands)
 
 pub returns-clause-hands : goal.returns-clause-hands
 returns-clause-hands g c =

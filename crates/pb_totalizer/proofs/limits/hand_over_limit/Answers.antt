@@ -2,7 +2,7 @@ use Rattle.std.proofs.Common.{◌∷◌, [], ◌∙◌, List, ap, arith}
 use Rattle.pb_base.specs.declared.literal.Lit.{Lit}
 use Rattle.pb_base.specs.Literals.{negated}
 use Rattle.pb_family.proofs.Emission.{hands_same}
-use Rattle.pb_totalizer.proofs.LimitClauses.{only_right, only_left, left_and_right}
+use Rattle.pb_totalizer.proofs.WrittenClauses.{only_right, only_left, left_and_right}
 use Rattle.pb_totalizer.proofs.limits.hand_over_limit.Goals as goal
 
 pub returns-then-i-count : goal.returns-then-i-count

@@ -1,7 +1,6 @@
 use Rattle.std.proofs.Common.{arith, ◌+◌, ◌^◌}
 use Rattle.std.proofs.lemmas.Nat.{mul-le}
-use Rattle.pb_totalizer.specs.laws.Counting.{pairs_bound}
-use Rattle.pb_totalizer.specs.laws.LimitCounts.{limits_doubled}
+use Rattle.pb_totalizer.specs.laws.Counting.{limits_doubled, pairs_bound}
 use Rattle.pb_totalizer.proofs.size.clauses_between.Goals as goal
 
 pub overflow_add-result : goal.overflow_add-result

@@ -1,4 +1,5 @@
 use Rattle.std.proofs.Common.{◌≡◌, ◌+◌, ℕ, List, length, map, ap, ◌∙◌, arith}
+use Rattle.std.proofs.lemmas.Result.{IfOk-from_err}
 use Rattle.std.proofs.lemmas.List.{length-map}
 use Rattle.pb_base.specs.declared.literal.Term.{Term}
 use Rattle.pb_norm.specs.BoundedSums.{BoundedSum, sum_within}
@@ -16,6 +17,11 @@ returns-then-size-budget-clause-over c =
     let sum = sum_is ts c.args.lits.now c.args.number same in
     let here = ap (λ (us : List Term). exact_fresh (sum_within us c.args.number)) c.as_slice-2.ensures.value in
     omega (arith, c.size_of-size.ensures.fresh, here, ap exact_fresh sum, c.if-size-budget.true)
+
+pub returns-in_err-terms : goal.returns-in_err-terms
+returns-in_err-terms c =
+    let is = c.from_residual.ensures.0 in
+    record { over = IfOk-from_err _ _ is; most = IfOk-from_err _ _ is; least = IfOk-from_err _ _ is; fresh = IfOk-from_err _ _ is; clauses = IfOk-from_err _ _ is; list = IfOk-from_err _ _ is; outputs = IfOk-from_err _ _ is }
 
 pub overflow_add-result : goal.overflow_add-result
 overflow_add-result c =

@@ -1,11 +1,6 @@
 use Rattle.std.proofs.Common.{◌+◌, [], ◌∷◌, arith}
-use Rattle.pb_norm.specs.Constraints.{weights}
 use Rattle.pb_family.proofs.Deriving.{steps_same}
 use Rattle.pb_family.proofs.FlatPieces.{justifications_then, justifications_stopped, justifications_next}
-use Rattle.pb_tree.specs.Tree.{tree_of}
-use Rattle.pb_tree.specs.TreeSteps.{root_justification}
-use Rattle.pb_totalizer.specs.ExactSteps.{least_justification}
-use Rattle.pb_totalizer.specs.Totalizer.{totalizer}
 use Rattle.pb_totalizer.specs.declared.polarity.Polarity.TheVariants.{Both}
 use Rattle.pb_totalizer.specs.inner.LimitSources.{least_given}
 use Rattle.pb_totalizer.specs.inner.Sources.{root_given}
@@ -23,8 +18,7 @@ pub returns-in_err-root : goal.returns-in_err-root
 returns-in_err-root g c =
     let self = c.args.self.now in
     let w = self.whole.now in
-    let ends = least_justification w.bound (tree_of (weights w.terms.now)) 0 c.args.id self.lower ∷ root_justification (totalizer w.bound) (tree_of (weights w.terms.now)) 0 c.args.id self.upper ∷ [] in
-    justifications_stopped c.from_residual.result _ (justifications_by Both w.bound w.terms.now c.args.id) ends (g.T.StepSink.state c.args.sink.now) (g.T.StepSink.state c.derive_nodes.new.sink) c.from_residual.ensures.1 c.in_err-root.ensures.hands
+    justifications_stopped c.from_residual.result _ (justifications_by Both w.bound w.terms.now c.args.id) _ (g.T.StepSink.state c.args.sink.now) (g.T.StepSink.state c.derive_nodes.new.sink) c.from_residual.ensures.1 c.in_err-root.ensures.hands
 
 pub derive_least-requires-clause-few : goal.derive_least-requires-clause-few
 derive_least-requires-clause-few g c =

@@ -1,11 +1,8 @@
-use Rattle.std.proofs.Common.{◌+◌, ◌*◌, List, map, refl, arith, Ok}
+use Rattle.std.proofs.Common.{◌+◌, ◌*◌, refl, arith, Ok}
 use Rattle.std.specs.Prelude.{Result}
-use Rattle.pb_derive.specs.Claims.{claim_steps}
-use Rattle.pb_derive.specs.Justifications.{Justification, by_justification}
 use Rattle.pb_family.specs.declared.sink.SinkFault.{SinkFault}
 use Rattle.pb_family.proofs.Deriving.{steps_same}
 use Rattle.pb_tree.proofs.TreeHanded.{steps_stopped}
-use Rattle.pb_totalizer.specs.laws.Polarity.{own_given}
 use Rattle.pb_totalizer.proofs.Halved.{halved, node_of}
 use Rattle.pb_totalizer.proofs.PartsHanded.{node_same, node_source}
 use Rattle.pb_totalizer.proofs.handing.ClaimsWalk.node.Goals as goal
@@ -32,7 +29,8 @@ pub derive_own-requires : goal.derive_own-requires
 derive_own-requires g c =
     let parts = c.args.parts.now in
     let self = c.args.self.now in
-    let same = node_same self.whole.now.bound c.requires.parts self.id (self.id + 2 * parts.next) refl self.polarity c.min-count.result parts.left.now parts.right.now c.min-count.ensures c.requires.left c.requires.right in
+    let own = node_of c.requires.parts c.requires.suits c.min-count.ensures c.requires.left.count c.requires.right.count in
+    let same = node_same self.whole.now.bound c.requires.parts self.id (self.id + 2 * parts.next) refl self.polarity c.min-count.result parts.left.now parts.right.now own.own c.requires.left c.requires.right in
     omega (arith, same.count, c.requires.room)
 
 pub returns-in_err-derive_own-clause-hands : goal.returns-in_err-derive_own-clause-hands
@@ -41,10 +39,10 @@ returns-in_err-derive_own-clause-hands g c =
     let self = c.args.self.now in
     let old = g.T.StepSink.state c.args.sink.now in
     let new = g.T.StepSink.state c.derive_own.new.sink in
-    let given : List Justification = own_given self.polarity (self.whole.now.bound + 1) c.min-count.result parts.left.now.count parts.right.now.count parts.left.now.source parts.lefts.now parts.right.now.source parts.rights.now (self.id + 2 * parts.next) in
-    let same = node_same self.whole.now.bound c.requires.parts self.id (self.id + 2 * parts.next) refl self.polarity c.min-count.result parts.left.now parts.right.now c.min-count.ensures c.requires.left c.requires.right in
+    let own = node_of c.requires.parts c.requires.suits c.min-count.ensures c.requires.left.count c.requires.right.count in
+    let same = node_same self.whole.now.bound c.requires.parts self.id (self.id + 2 * parts.next) refl self.polarity c.min-count.result parts.left.now parts.right.now own.own c.requires.left c.requires.right in
     steps_same c.from_residual.result _ _ old new (same.steps old.next)
-    (steps_stopped c.from_residual.result _ (claim_steps old.next (map by_justification given)) old new c.from_residual.ensures.1 c.in_err-derive_own.ensures)
+    (steps_stopped c.from_residual.result _ _ old new c.from_residual.ensures.1 c.in_err-derive_own.ensures)
 
 pub returns-clause-hands : goal.returns-clause-hands
 returns-clause-hands g c =
@@ -52,7 +50,8 @@ returns-clause-hands g c =
     let self = c.args.self.now in
     let old = g.T.StepSink.state c.args.sink.now in
     let new = g.T.StepSink.state c.derive_own.new.sink in
-    let same = node_same self.whole.now.bound c.requires.parts self.id (self.id + 2 * parts.next) refl self.polarity c.min-count.result parts.left.now parts.right.now c.min-count.ensures c.requires.left c.requires.right in
+    let own = node_of c.requires.parts c.requires.suits c.min-count.ensures c.requires.left.count c.requires.right.count in
+    let same = node_same self.whole.now.bound c.requires.parts self.id (self.id + 2 * parts.next) refl self.polarity c.min-count.result parts.left.now parts.right.now own.own c.requires.left c.requires.right in
     let done : Result (Unit {0}) SinkFault = Ok tt in
     steps_same done _ _ old new (same.steps old.next) c.in_ok-derive_own.ensures
 
