@@ -3,17 +3,15 @@ use Rattle.std.proofs.Common.{◌≡◌, ◌<◌, ◌≤◌, ◌+◌, ◌++◌, 
 use Rattle.std.specs.Prelude.{All, Result, IsErrAnd}
 use Rattle.std.specs.List.{count_by}
 use Rattle.std.proofs.Common.{ltb}
-use Rattle.std.proofs.Math.Seq.{drop-cons}
 use Rattle.std.proofs.lemmas.Bool.{cases_lt}
-use Rattle.std.proofs.lemmas.List.{at_drop_all, get_or_past, get_or-map, length-map}
-use Rattle.std.proofs.lemmas.List.Sums.{sum_by-cons}
+use Rattle.std.proofs.lemmas.List.{at_drop_all, drop_more, get_or_past, get_or-map, length-map}
+use Rattle.std.proofs.lemmas.List.Sums.{sum_by-cons, sum_by-drop_more}
 use Rattle.pb_base.specs.declared.literal.Lit.{Lit}
 use Rattle.std.specs.Int.RustNames.{unsigned_abs}
 use Rattle.pb_base.specs.declared.literal.Term.{Term}
 use Rattle.pb_norm.specs.Constraints.{Weighted, weight, weighted, weights}
 use Rattle.pb_norm.specs.BoundedSums.{BoundedSum, sum_within}
 use Rattle.pb_base.proofs.Members.{Contains-nil}
-use Rattle.pb_norm.proofs.AdditionSizes.{weight-cons}
 use Rattle.pb_base.specs.declared.fault.Failed.{Failed}
 use Rattle.pb_family.specs.Handing.{FailsInClauses, Hands, TakesClauses}
 use Rattle.pb_family.specs.Sinks.{SinkState}
@@ -31,11 +29,10 @@ use Rattle.pb_diagram.proofs.Places.{in_order}
 use Rattle.pb_diagram.proofs.SearchSteps.{levels_from_length, levels_from_at}
 
 pub linked_drop : (ts : List Weighted) (ls : List (List Interval)) (i : ℕ) → AreLinked ts ls → AreLinked (drop i ts) (drop i ls)
-linked_drop [] [] zero linked = tt
+linked_drop ts ls zero linked = linked
 linked_drop [] [] (suc i) linked = tt
-linked_drop [] (l ∷ ls) i linked = absurd linked
-linked_drop (t ∷ ts) [] i linked = absurd linked
-linked_drop (t ∷ ts) (l ∷ ls) zero linked = linked
+linked_drop [] (l ∷ ls) (suc i) linked = absurd linked
+linked_drop (t ∷ ts) [] (suc i) linked = absurd linked
 linked_drop (t ∷ ts) (l ∷ ls) (suc i) linked = linked_drop ts ls i linked.1
 
 pub head_of_drop : (ls : List (List Interval)) (i : ℕ) → head_level (drop i ls) ≡ nodes_at ls i
@@ -43,11 +40,6 @@ head_of_drop [] zero = refl
 head_of_drop [] (suc i) = refl
 head_of_drop (l ∷ ls) zero = refl
 head_of_drop (l ∷ ls) (suc i) = head_of_drop ls i
-
-drop_at : {X : Type 0} (xs : List X) (i : ℕ) (d : X) → i < length xs → drop i xs ≡ get_or xs i d ∷ drop (i + 1) xs
-drop_at xs i d within =
-    let shift : suc i ≡ i + 1 = omega arith in
-    drop-cons xs i d within ∙ ap (λ (n : ℕ). get_or xs i d ∷ drop n xs) shift
 
 -- what there is at a level, and after it
 pub record AtLevel (ts : List Weighted) (ls : List (List Interval)) (i : ℕ) (t : Weighted) : Type 0 where
@@ -84,8 +76,8 @@ at_level_of c i d within =
     let count = levels_from_length c.bound [] (coefs_of c.terms) in
     let terms = length-map ts (λ t. t.coef) in
     let in_levels : i < length ls = omega arith in
-    let here : drop i ts ≡ t ∷ drop (i + 1) ts = drop_at ts i d within in
-    let there : drop i ls ≡ nodes_at ls i ∷ drop (i + 1) ls = drop_at ls i [] in_levels in
+    let here : drop i ts ≡ t ∷ drop (i + 1) ts = drop_more ts i d within in
+    let there : drop i ls ≡ nodes_at ls i ∷ drop (i + 1) ls = drop_more ls i [] in_levels in
     let next : head_level (drop (i + 1) ls) ≡ nodes_at ls (i + 1) = head_of_drop ls (i + 1) in
     let linked : AreLinked (t ∷ drop (i + 1) ts) (nodes_at ls i ∷ drop (i + 1) ls) =
     subst (λ (l : List (List Interval)). AreLinked (t ∷ drop (i + 1) ts) l) there (subst (λ (l : List Weighted). AreLinked l (drop i ls)) here (linked_drop ts ls i (levels_linked c.bound [] ts))) in
@@ -132,9 +124,8 @@ pub read_left : (ts : List Weighted) (ls : List (List Interval)) (i : ℕ) (t : 
     ≡ level_clauses t whole (start + length nodes) next start nodes ++ (node_clauses (start + length nodes) (drop (i + 1) ts) (drop (i + 1) ls) ++ last)
 read_left ts ls i t whole nodes next read start last =
     let exact : node_clauses start (drop i ts) (drop i ls) ≡ level_clauses t whole (start + length nodes) next start nodes ++ node_clauses (start + length nodes) (drop (i + 1) ts) (drop (i + 1) ls) =
-    subst (λ (l : List Interval). node_clauses start (drop i ts) (drop i ls) ≡ level_clauses t whole (start + length l) next start l ++ node_clauses (start + length l) (drop (i + 1) ts) (drop (i + 1) ls)) (sym read.nodes_is)
-    (subst (λ (l : List Interval). node_clauses start (drop i ts) (drop i ls) ≡ level_clauses t whole (start + length (nodes_at ls i)) l start (nodes_at ls i) ++ node_clauses (start + length (nodes_at ls i)) (drop (i + 1) ts) (drop (i + 1) ls)) (sym read.next_is)
-    (subst (λ (n : ℕ). node_clauses start (drop i ts) (drop i ls) ≡ level_clauses t n (start + length (nodes_at ls i)) (nodes_at ls (i + 1)) start (nodes_at ls i) ++ node_clauses (start + length (nodes_at ls i)) (drop (i + 1) ts) (drop (i + 1) ls)) (sym read.whole_is) (read.at.clauses start))) in
+    read.at.clauses start
+    ∙ (λ x. level_clauses t (sym read.whole_is x) (start + length (sym read.nodes_is x)) (sym read.next_is x) start (sym read.nodes_is x) ++ node_clauses (start + length (sym read.nodes_is x)) (drop (i + 1) ts) (drop (i + 1) ls)) in
     ap (λ (cs : List (List Lit)). cs ++ last) exact
     ∙ append_assoc (level_clauses t whole (start + length nodes) next start nodes) (node_clauses (start + length nodes) (drop (i + 1) ts) (drop (i + 1) ls)) last
 
@@ -147,9 +138,7 @@ read_next ts ls i t whole nodes next read = omega (arith, read.at.next, ap lengt
 pub read_inner : (ts : List Weighted) (ls : List (List Interval)) (i : ℕ) (t : Weighted) (whole : ℕ) (nodes next : List Interval) → Read ts ls i t whole nodes next
     → inner_count (drop i ts) (drop i ls) ≡ count_by (λ g. ltb g.low whole) nodes + inner_count (drop (i + 1) ts) (drop (i + 1) ls)
 read_inner ts ls i t whole nodes next read =
-    read.at.inner
-    ∙ ap (λ (n : ℕ). count_by (λ g. ltb g.low n) (nodes_at ls i) + inner_count (drop (i + 1) ts) (drop (i + 1) ls)) (sym read.whole_is)
-    ∙ ap (λ (l : List Interval). count_by (λ g. ltb g.low whole) l + inner_count (drop (i + 1) ts) (drop (i + 1) ls)) (sym read.nodes_is)
+    read.at.inner ∙ (λ x. count_by (λ g. ltb g.low (sym read.whole_is x)) (sym read.nodes_is x) + inner_count (drop (i + 1) ts) (drop (i + 1) ls))
 
 -- nothing is left at the end
 pub none_left : (ts : List Weighted) (ls : List (List Interval)) (i first : ℕ) → length ts ≤ i → node_clauses first (drop i ts) (drop i ls) ≡ []
@@ -189,7 +178,7 @@ weight_after terms i t coef left within is coef_is left_is =
     let ts = weights terms in
     let count = length-map terms weighted in
     let there : get_or ts i (weighted t) ≡ weighted t = get_or-map weighted terms i t (weighted t) within ∙ ap weighted (sym is) in
-    let sums = ap weight (drop_at ts i (weighted t) (omega arith)) ∙ weight-cons (get_or ts i (weighted t)) (drop (i + 1) ts) in
+    let sums = sum_by-drop_more (λ (u : Weighted). u.coef) ts i (weighted t) (omega arith) in
     let coef_there = ap (λ (u : Weighted). u.coef) there in
     omega arith
 

@@ -1,12 +1,13 @@
 -- Runs of intervals in order: to which of them a residue belongs, and what they are after an insertion and a division.
-use Rattle.std.proofs.Common.{◌≡◌, ◌≢◌, ◌<◌, ◌≤◌, ◌+◌, ◌-◌, ◌⊎◌, ◌++◌, ℕ, true, false, leb, List, [], ◌∷◌, length, get_or, set, sym, ap, ◌∙◌, subst, arith, inl, inr, zero, suc, refl, take, drop, Option, None, Some, length-append}
-use Rattle.std.specs.Prelude.{Contains}
+use Rattle.std.proofs.Common.{◌≡◌, ◌<◌, ◌≤◌, ◌+◌, ◌-◌, ◌⊎◌, ◌++◌, ℕ, true, false, leb, List, [], ◌∷◌, length, get_or, set, sym, ap, ◌∙◌, subst, arith, inl, inr, zero, suc, refl, take, drop, Option, None, Some, length-append}
+use Rattle.std.specs.Prelude.{All, Contains}
 use Rattle.std.specs.List.{insert}
 use Rattle.std.specs.List.Sorted.{IsPartitionedBy, IsPartitionPoint}
 use Rattle.std.proofs.lemmas.Bool.{cases_lt, le-leb, leb-true, both_ways}
 use Rattle.std.proofs.lemmas.List.{append_assoc, append-nil, get_or_default, length-drop, length-take-le, set-get_or, take-append-drop}
 use Rattle.std.proofs.lemmas.List.Edits.{get_or-insert_above}
-use Rattle.std.proofs.lemmas.List.Elements.{Contains-append_left, Contains-append_right, Contains-append_cases}
+use Rattle.std.proofs.lemmas.List.Elements.{All-cons, All-contains, All-set, Contains-append_left, Contains-append_right, Contains-append_cases, Contains-get_or}
+use Rattle.std.proofs.lemmas.List.Sorted.{All-permutation, IsPermutation-insert}
 use Rattle.pb_base.proofs.Members.{Contains-nil, Contains-here, Contains-there, Contains-cons_cases}
 use Rattle.pb_diagram.specs.declared.interval.Interval.{Interval}
 use Rattle.pb_diagram.specs.inner.Known.{Rise, AreFull, AreRuns, IsRunOf, begins_by, intervals_in}
@@ -189,18 +190,14 @@ rise_grown nodes more g grown rises rise h among =
       | inr old ↦ rise h old
     ]
 
+abbrev IsFull : List Interval → Type 0
+IsFull run = 0 < length run
+
+each_full : (rs : List (List Interval)) → AreFull rs → All IsFull rs
+each_full rs full k d within = full (get_or rs k d) (Contains-get_or rs k d within)
+
 full_set : (rs : List (List Interval)) (place : ℕ) (more : List Interval) → AreFull rs → 0 < length more → AreFull (set rs place more)
-full_set [] place more full some = full
-full_set (r ∷ rs) zero more full some = λ run among.
-    elim (Contains-cons_cases more rs run among) as (λ _. 0 < length run) [
-      | inl is ↦ subst (λ (l : List Interval). 0 < length l) is some
-      | inr old ↦ full run (Contains-there r rs run old)
-    ]
-full_set (r ∷ rs) (suc place) more full some = λ run among.
-    elim (Contains-cons_cases r (set rs place more) run among) as (λ _. 0 < length run) [
-      | inl is ↦ subst (λ (l : List Interval). 0 < length l) is (full r (Contains-here r rs))
-      | inr later ↦ full_set rs place more (λ l old. full l (Contains-there r rs l old)) some run later
-    ]
+full_set rs place more full some run among = All-contains IsFull (set rs place more) run (All-set IsFull rs place more some (each_full rs full)) among
 
 -- ---- two runs of one
 
@@ -210,13 +207,19 @@ pub record AreParts (rs : List (List Interval)) (place : ℕ) (lower upper : Lis
   pub some : 0 < length lower
   pub others : 0 < length upper
 
-pub parts_of : (rs now : List (List Interval)) (place count : ℕ) (r s lower upper : List Interval) → place < length rs → 0 < count → count < length (get_or rs place []) → r ≡ get_or rs place r → lower ≡ take count r
+-- what stands after a run that was put before it
+pub run_again : (rs now : List (List Interval)) (place : ℕ) (lower s : List Interval) → place < length rs → now ≡ insert rs place lower → s ≡ get_or now (place + 1) s → s ≡ get_or rs place []
+run_again rs now place lower s within now_is s_is =
+    s_is ∙ ap (λ (l : List (List Interval)). get_or l (place + 1) s) now_is ∙ get_or-insert_above rs place lower s place (omega arith) (omega arith) ∙ get_or_default rs place s [] within
+
+pub parts_of : (rs now : List (List Interval)) (place count : ℕ) (r s lower upper : List Interval) → place < length rs → 0 < count → count < length r → r ≡ get_or rs place r → lower ≡ take count r
     → now ≡ insert rs place lower → s ≡ get_or now (place + 1) s → upper ≡ drop count s → AreParts rs place lower upper
 parts_of rs now place count r s lower upper within some more r_is lower_is now_is s_is upper_is =
     let run = get_or rs place [] in
-    let first : lower ≡ take count run = lower_is ∙ ap (take count) (r_is ∙ get_or_default rs place r [] within) in
-    let same : s ≡ run = s_is ∙ ap (λ (l : List (List Interval)). get_or l (place + 1) s) now_is ∙ get_or-insert_above rs place lower s place (omega arith) (omega arith) ∙ get_or_default rs place s [] within in
-    let rest : upper ≡ drop count run = upper_is ∙ ap (drop count) same in
+    let is : r ≡ run = r_is ∙ get_or_default rs place r [] within in
+    let long = ap length is in
+    let first : lower ≡ take count run = lower_is ∙ ap (take count) is in
+    let rest : upper ≡ drop count run = upper_is ∙ ap (drop count) (run_again rs now place lower s within now_is s_is) in
     record {
       joined = sym (take-append-drop count run) ∙ ap (λ (l : List Interval). l ++ drop count run) (sym first) ∙ ap (λ (l : List Interval). lower ++ l) (sym rest);
       some = omega (arith, ap length first, length-take-le count run (omega arith));
@@ -229,18 +232,9 @@ module _ (lower upper : List Interval) where
   halved (r ∷ rs) zero d within is = sym (append_assoc lower upper (intervals_in rs)) ∙ ap (λ (l : List Interval). l ++ intervals_in rs) (sym is)
   halved (r ∷ rs) (suc place) d within is = ap (λ (l : List Interval). r ++ l) (halved rs place d (omega arith) is)
 
-  full_halved : (rs : List (List Interval)) (place : ℕ) → place < length rs → AreFull rs → 0 < length lower → 0 < length upper → AreFull (set (insert rs place lower) (suc place) upper)
-  full_halved [] place within full low up = absurd (omega arith)
-  full_halved (r ∷ rs) zero within full low up = λ run among.
-      elim (Contains-cons_cases lower (upper ∷ rs) run among) as (λ _. 0 < length run) [
-        | inl is ↦ subst (λ (l : List Interval). 0 < length l) is low
-        | inr other ↦ full_set (r ∷ rs) 0 upper full up run other
-      ]
-  full_halved (r ∷ rs) (suc place) within full low up = λ run among.
-      elim (Contains-cons_cases r (set (insert rs place lower) (suc place) upper) run among) as (λ _. 0 < length run) [
-        | inl is ↦ subst (λ (l : List Interval). 0 < length l) is (full r (Contains-here r rs))
-        | inr later ↦ full_halved rs place (omega arith) (λ l old. full l (Contains-there r rs l old)) low up run later
-      ]
+  full_inserted : (rs : List (List Interval)) (place : ℕ) → AreFull rs → 0 < length lower → AreFull (insert rs place lower)
+  full_inserted rs place full low run among =
+      All-contains IsFull (insert rs place lower) run (All-permutation IsFull (lower ∷ rs) (insert rs place lower) (IsPermutation-insert rs place lower) (All-cons IsFull lower rs low (each_full rs full))) among
 
   after : (rs now : List (List Interval)) (place : ℕ) → now ≡ insert rs place lower → set now (place + 1) upper ≡ set (insert rs place lower) (suc place) upper
   after rs now place now_is = let next : place + 1 ≡ suc place = omega arith in ap (λ (n : ℕ). set now n upper) next ∙ ap (λ (l : List (List Interval)). set l (suc place) upper) now_is
@@ -255,7 +249,7 @@ module _ (lower upper : List Interval) where
       record {
         apart = subst AreApart same runs.apart;
         rise = subst Rise same runs.rise;
-        full = subst AreFull (sym (after rs now place now_is)) (full_halved rs place within runs.full parts.some parts.others);
+        full = subst AreFull (sym (after rs now place now_is)) (full_set (insert rs place lower) (suc place) upper (full_inserted rs place runs.full parts.some) parts.others);
       }
 
 pub intervals_push : (rs : List (List Interval)) (run : List Interval) → intervals_in (rs ++ run ∷ []) ≡ intervals_in rs ++ run
@@ -287,9 +281,6 @@ is_at rs seen now run g place runs same view some is read rises elsewhere =
       elsewhere = λ h among. elsewhere h (subst (λ (l : List Interval). Contains l h) view among);
     }
 
-pub run_within : (rs seen : List (List Interval)) (low place len : ℕ) → seen ≡ rs → IsRunOf seen low place → len ≢ 0 → len ≡ length rs → place < length rs
-run_within rs seen low place len same is some long = let count = ap length same in let within = is.within (omega arith) in omega arith
-
 module _ (rs : List (List Interval)) (g : Interval) (place : ℕ) (run more : List Interval) (at : IsAt rs g place run) where
   pub run_elsewhere : (h : Interval) → Contains run h → (h.top ≤ g.low) ⊎ (g.top ≤ h.low)
   run_elsewhere h among = at.elsewhere h (among_runs rs place run h at.within (subst (λ (l : List Interval). Contains l h) at.is among))
@@ -319,19 +310,17 @@ alone g = record {
   longer = omega arith;
 }
 
-module _ (more : List (List Interval)) (run : List Interval) (g : Interval) (run_is : run ≡ g ∷ []) where
+module _ (more : List (List Interval)) (run : List Interval) (g : Interval) (run_is : run ≡ g ∷ []) (rs : List (List Interval)) (none : rs ≡ []) (more_is : more ≡ rs ++ run ∷ []) where
   -- a run of its own, where there was none
-  one_run : (rs : List (List Interval)) → length rs ≡ 0 → more ≡ rs ++ run ∷ [] → more ≡ (g ∷ []) ∷ []
-  one_run [] none more_is = more_is ∙ ap (λ (l : List Interval). l ∷ []) run_is
-  one_run (r ∷ rs) none more_is = absurd (omega arith)
+  one_run : more ≡ (g ∷ []) ∷ []
+  one_run = more_is ∙ (λ x. none x ++ run_is x ∷ [])
 
-  pub first_grown : (rs : List (List Interval)) (now : List Interval) → length rs ≡ 0 → more ≡ rs ++ run ∷ [] → intervals_in rs ≡ now → IsGrown now g (intervals_in more)
-  first_grown [] now none more_is view = subst (λ (l : List Interval). IsGrown l g (intervals_in more)) view
-      (subst (λ (ls : List (List Interval)). IsGrown [] g (intervals_in ls)) (sym (one_run [] none more_is)) (alone g))
-  first_grown (r ∷ rs) now none more_is view = absurd (omega arith)
+  pub first_grown : (now : List Interval) → intervals_in rs ≡ now → IsGrown now g (intervals_in more)
+  first_grown now view = subst (λ (l : List Interval). IsGrown l g (intervals_in more)) (ap intervals_in (sym none) ∙ view)
+      (subst (λ (ls : List (List Interval)). IsGrown [] g (intervals_in ls)) (sym one_run) (alone g))
 
-  pub first_runs : (rs : List (List Interval)) → length rs ≡ 0 → more ≡ rs ++ run ∷ [] → g.low < g.top → AreRuns more
-  first_runs rs none more_is rises = subst AreRuns (sym (one_run rs none more_is)) (record {
+  pub first_runs : g.low < g.top → AreRuns more
+  first_runs rises = subst AreRuns (sym one_run) (record {
     apart = (alone g).apart;
     rise = rise_grown [] (g ∷ []) g (alone g) rises (λ h among. absurd (Contains-nil h among));
     full = λ l among. elim (Contains-cons_cases (g ∷ []) [] l among) as (λ _. 0 < length l) [

@@ -1,8 +1,7 @@
 -- Clauses of a level's nodes that are handed over one after another.
-use Rattle.std.proofs.Common.{◌≡◌, ◌≤◌, ◌<◌, ◌+◌, ◌-◌, ◌*◌, ◌++◌, ℕ, suc, Bool, true, false, cond, leb, List, [], ◌∷◌, length, get_or, drop, map, sym, ap, ◌∙◌, subst, arith, length-append}
+use Rattle.std.proofs.Common.{◌≡◌, ◌≤◌, ◌<◌, ◌+◌, ◌-◌, ◌*◌, ◌++◌, ℕ, Bool, true, false, cond, leb, List, [], ◌∷◌, length, get_or, drop, map, sym, ap, ◌∙◌, subst, arith, length-append}
 use Rattle.std.specs.Prelude.{Result, IsErrAnd}
-use Rattle.std.proofs.Math.ListN.{drop_of_length-le}
-use Rattle.std.proofs.Math.Seq.{drop-cons}
+use Rattle.std.proofs.lemmas.List.{drop_all, drop_more}
 use Rattle.std.proofs.lemmas.Bool.{lt-ltb, le-ltb, le-leb, lt-leb, cond-true, cond-false}
 use Rattle.pb_base.specs.Literals.{negated}
 use Rattle.pb_norm.specs.Constraints.{Weighted, weight}
@@ -39,6 +38,10 @@ module _ {R : Type 0} {all : List Step} (xs ys : List Justification) (old now : 
 
 -- ---- a node's clauses
 
+one_at_most : (b : Bool) (r : Justification) → length (cond {A = List Justification} b [] (r ∷ [])) ≤ 1
+one_at_most true r = omega arith
+one_at_most false r = omega arith
+
 module _ (t : Weighted) (whole : ℕ) (nodes : List Interval) (next id place : ℕ) (g : Interval) where
   abbrev off : Justification
   off = record {
@@ -57,15 +60,8 @@ module _ (t : Weighted) (whole : ℕ) (nodes : List Interval) (next id place : �
   false_some n own under is also below =
       (λ x. claimed n (is x ∷ also x ∷ []) (t.lit.var ∷ [])) ∙ ap (λ (rs : List Justification). claim_steps n (map by_justification rs)) (sym (cond-false (leb whole g.low) [] (off ∷ []) (lt-leb whole g.low below)))
 
-  false_count : length (false_at t whole nodes next id place g) ≤ 1
-  false_count = by_test (leb whole g.low)
-    where
-      by_test : (b : Bool) → length (cond {A = List Justification} b [] (off ∷ [])) ≤ 1
-      by_test true = omega arith
-      by_test false = omega arith
-
   false_next : {R : Type 0} (a b : StepState R) → TakesSteps (claim_steps a.next (map by_justification (false_at t whole nodes next id place g))) a b → b.next ≤ a.next + 1
-  false_next a b h = omega (arith, h.ids, justifications_ids a.next (false_at t whole nodes next id place g), false_count)
+  false_next a b h = omega (arith, h.ids, justifications_ids a.next (false_at t whole nodes next id place g), one_at_most (leb whole g.low) off)
 
 module _ (t : Weighted) (rest : List Weighted) (nodes : List Interval) (next id place : ℕ) (g : Interval) where
   abbrev ids_by : Bool → List ℕ
@@ -106,13 +102,12 @@ module _ (t : Weighted) (rest : List Weighted) (nodes : List Interval) (next id 
   left_here : (p : ℕ) (d : Interval) → p < length gs → left p ≡ false_at t (weight rest) nodes next id p (get_or gs p d) ++ (true_at t rest nodes next id p (get_or gs p d) ++ left (p + 1))
   left_here p d within =
       let g = get_or gs p d in
-      let place : suc p ≡ p + 1 = omega arith in
       let ids : id + 2 * p + 2 ≡ id + 2 * (p + 1) = omega arith in
-      ap (level_justifications t rest (below_at nodes next) p (id + 2 * p)) (drop-cons gs p d within)
-      ∙ (λ x. false_at t (weight rest) nodes next id p g ++ (true_at t rest nodes next id p g ++ level_justifications t rest (below_at nodes next) (p + 1) (ids x) (drop (place x) gs)))
+      ap (level_justifications t rest (below_at nodes next) p (id + 2 * p)) (drop_more gs p d within)
+      ∙ (λ x. false_at t (weight rest) nodes next id p g ++ (true_at t rest nodes next id p g ++ level_justifications t rest (below_at nodes next) (p + 1) (ids x) (drop (p + 1) gs)))
 
   left_none : (p : ℕ) → length gs ≤ p → left p ≡ []
-  left_none p past = ap (level_justifications t rest (below_at nodes next) p (id + 2 * p)) (drop_of_length-le gs past)
+  left_none p past = ap (level_justifications t rest (below_at nodes next) p (id + 2 * p)) (drop_all p gs past)
 
   pub noding_from : {R : Type 0} (a : StepState R) → Noding t rest nodes next id gs 0 a a
   noding_from a = record { taken = deriving_from a (ap (λ (rs : List Justification). claim_steps a.next (map by_justification rs)) left_first); room = omega arith }
@@ -152,8 +147,6 @@ module _ (t : Weighted) (rest : List Weighted) (nodes : List Interval) (next id 
 pub level_few : (t : Weighted) (ts : List Weighted) (next : Below) (x id : ℕ) (gs : List Interval) → length (level_justifications t ts next x id gs) ≤ 2 * length gs
 level_few t ts next x id [] = omega arith
 level_few t ts next x id (g ∷ gs) =
-    omega (arith, length-append (false_justifications t (weight ts) next x id g) (true_justification t ts next x id g ∷ level_justifications t ts next (x + 1) (id + 2) gs), by_test (leb (weight ts) g.low), level_few t ts next (x + 1) (id + 2) gs)
-  where
-    by_test : (b : Bool) → length (cond {A = List Justification} b [] (record { clause = negated (positive_of x) ∷ node_at next.first next.nodes g.low ∷ []; ids = id ∷ child_id next g.low ∷ []; weakened = t.lit.var ∷ [] } ∷ [])) ≤ 1
-    by_test true = omega arith
-    by_test false = omega arith
+    let off : Justification = record { clause = negated (positive_of x) ∷ node_at next.first next.nodes g.low ∷ []; ids = id ∷ child_id next g.low ∷ []; weakened = t.lit.var ∷ [] } in
+    let few : length (false_justifications t (weight ts) next x id g) ≤ 1 = one_at_most (leb (weight ts) g.low) off in
+    omega (arith, length-append (false_justifications t (weight ts) next x id g) (true_justification t ts next x id g ∷ level_justifications t ts next (x + 1) (id + 2) gs), few, level_few t ts next (x + 1) (id + 2) gs)

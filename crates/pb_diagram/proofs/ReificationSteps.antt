@@ -1,9 +1,7 @@
 -- Reifications of nodes that are handed over one after another.
-use Rattle.std.proofs.Common.{◌≡◌, ◌≤◌, ◌<◌, ◌+◌, ◌-◌, ◌*◌, ◌++◌, ℕ, suc, List, [], ◌∷◌, length, get_or, drop, take, map, refl, sym, ap, ◌∙◌, subst, arith}
+use Rattle.std.proofs.Common.{◌≡◌, ◌≤◌, ◌<◌, ◌+◌, ◌-◌, ◌*◌, ◌++◌, ℕ, List, [], ◌∷◌, length, get_or, drop, take, map, refl, sym, ap, ◌∙◌, subst, arith}
 use Rattle.std.specs.Prelude.{Result, IsErrAnd, All}
-use Rattle.std.proofs.Math.ListN.{drop_of_length-le}
-use Rattle.std.proofs.Math.Seq.{drop-cons}
-use Rattle.std.proofs.lemmas.List.{at_drop_all, length-map, drop-map, get_or_default}
+use Rattle.std.proofs.lemmas.List.{at_drop_all, drop_all, drop_more, length-map, drop-map, get_or_default}
 use Rattle.pb_base.specs.declared.literal.Term.{Term}
 use Rattle.pb_norm.specs.Constraints.{Weighted, weight, weighted, weights}
 use Rattle.pb_norm.specs.BoundedSums.{BoundedSum}
@@ -53,8 +51,7 @@ module _ (first : ℕ) (ts : List Weighted) (nodes : List Interval) where
   left_here : (p : ℕ) (d : Interval) → p < length nodes → level_reifications (first + p) ts (drop p nodes) ≡ (node_reification (first + p) ts (get_or nodes p d) ∷ []) ++ level_reifications (first + (p + 1)) ts (drop (p + 1) nodes)
   left_here p d within =
       let var : first + p + 1 ≡ first + (p + 1) = omega arith in
-      let place : suc p ≡ p + 1 = omega arith in
-      ap (level_reifications (first + p) ts) (drop-cons nodes p d within) ∙ (λ x. node_reification (first + p) ts (get_or nodes p d) ∷ level_reifications (var x) ts (drop (place x) nodes))
+      ap (level_reifications (first + p) ts) (drop_more nodes p d within) ∙ (λ x. node_reification (first + p) ts (get_or nodes p d) ∷ level_reifications (var x) ts (drop (p + 1) nodes))
 
   pub reification_from : {R : Type 0} (a : StepState R) → Defining first ts nodes 0 a a
   reification_from a = record {
@@ -63,7 +60,7 @@ module _ (first : ℕ) (ts : List Weighted) (nodes : List Interval) where
   }
 
   pub reification_ends : {R : Type 0} (p : ℕ) (old now : StepState R) → length nodes ≤ p → Defining first ts nodes p old now → TakesSteps (reification_steps old.next (level_reifications first ts nodes)) old now
-  reification_ends p old now past h = deriving_ends (deriving_as (ap (λ (gs : List Interval). reification_steps now.next (level_reifications (first + p) ts gs)) (drop_of_length-le nodes past)) h.taken)
+  reification_ends p old now past h = deriving_ends (deriving_as (ap (λ (gs : List Interval). reification_steps now.next (level_reifications (first + p) ts gs)) (drop_all p nodes past)) h.taken)
 
   -- by what code hands over for a node
   module _ {R : Type 0} (p : ℕ) (old now : StepState R) (d : Interval) (within : p < length nodes) (h : Defining first ts nodes p old now) (var whole : ℕ) (negated : List Weighted) (is : var ≡ first + p) (left : whole ≡ weight ts) (turned : negated ≡ map opposite ts) where

@@ -2,7 +2,7 @@
 use Rattle.std.proofs.Common.{◌≡◌, ◌<◌, ◌≤◌, ◌+◌, ℕ, List, [], ◌∷◌, length, get_or, drop, sym, ◌∙◌, subst, arith, inl, inr, zero, suc}
 use Rattle.std.specs.Prelude.{Contains}
 use Rattle.std.proofs.lemmas.Bool.{cases_lt}
-use Rattle.std.proofs.lemmas.List.{same_lists, get_or_default}
+use Rattle.std.proofs.lemmas.List.{drop_more, same_lists, get_or_default}
 use Rattle.std.proofs.lemmas.List.Sums.{sum_by-cons}
 use Rattle.pb_diagram.specs.declared.interval.Interval.{Interval}
 use Rattle.pb_diagram.specs.Clauses.{node_count}
@@ -13,7 +13,7 @@ use Rattle.pb_diagram.specs.laws.Search.{nodes_at, before_at, IsPartSearched, Is
 use Rattle.pb_diagram.specs.Sums.{sums}
 use Rattle.pb_diagram.specs.laws.SumFacts.{sums_without, sums_with, sums_cases, sums_none, sums-le, sum-cons}
 use Rattle.pb_diagram.proofs.SameNodes.{same_nodes, length_within}
-use Rattle.pb_diagram.proofs.SearchSteps.{before_at_next, drop_here, levels_from_length, levels_from_at, before_at_first, next_part}
+use Rattle.pb_diagram.proofs.SearchSteps.{before_at_next, levels_from_length, levels_from_at, before_at_first, next_part}
 
 -- a node that holds a residue which a known node holds is that one
 known_node : (ss : List ℕ) (nodes : List Interval) (g h : Interval) (residue : ℕ) → IsInterval ss g → IsInterval ss h → LiesIn residue g → LiesIn residue h → Contains nodes g → Contains nodes h
@@ -81,12 +81,12 @@ complete_at bound coefs known search (suc i) within g node =
     subst (λ (l : List ℕ). IsNode bound l rest g) (before_at_next [] coefs i less) (subst (λ (n : ℕ). IsNode bound (before_at [] coefs n) (drop n coefs) g) shift node) in
     subst (λ (n : ℕ). Contains (nodes_at known n) g) (sym shift)
     (child_known bound a before rest (nodes_at known i) next
-    (λ h is_node. complete_at bound coefs known search i less h (subst (λ (l : List ℕ). IsNode bound before l h) (sym (drop_here coefs i less)) is_node))
+    (λ h is_node. complete_at bound coefs known search i less h (subst (λ (l : List ℕ). IsNode bound before l h) (sym (drop_more coefs i 0 less)) is_node))
     (next_part bound coefs known [] search i less)
     (search.closed i less)
     g node_here)
 
-pub rises_of : (bound : ℕ) (before rest : List ℕ) (nodes : List Interval) → ((g : Interval) → Contains nodes g → IsNode bound before rest g) → (g : Interval) → Contains nodes g → g.low < g.top
+rises_of : (bound : ℕ) (before rest : List ℕ) (nodes : List Interval) → ((g : Interval) → Contains nodes g → IsNode bound before rest g) → (g : Interval) → Contains nodes g → g.low < g.top
 rises_of bound before rest nodes is_node g among = (is_node g among).interval.rises
 
 pub search_ends : (bound : ℕ) (coefs : List ℕ) (known : List (List Interval)) → IsSearch bound coefs known [] → known ≡ levels_from bound [] coefs

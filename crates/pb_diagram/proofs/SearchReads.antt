@@ -1,9 +1,9 @@
 -- What the code of a search reads and changes.
-use Rattle.std.proofs.Common.{◌≡◌, ◌<◌, ◌≤◌, ◌+◌, ◌-◌, ◌++◌, ◌⊎◌, ℕ, List, [], ◌∷◌, length, get_or, drop, set, replicate, refl, sym, ap, ◌∙◌, subst, arith, inl, inr, zero, suc, true, length-append}
+use Rattle.std.proofs.Common.{◌≡◌, ◌<◌, ◌≤◌, ◌+◌, ◌-◌, ◌^◌, ◌++◌, ◌⊎◌, ℕ, List, [], ◌∷◌, length, get_or, drop, set, replicate, refl, sym, ap, ◌∙◌, subst, arith, inl, inr, true, length-append}
 use Rattle.std.specs.Prelude.{Contains, sum, Option, Some, None, IfSome}
 use Rattle.std.specs.Option.{option_to_list}
 use Rattle.std.proofs.lemmas.List.{get_or-map, length-map, get_or_default}
-use Rattle.std.proofs.lemmas.List.Sums.{sum-map, sum_by-cons, sum_by-set, sum_by-take-drop}
+use Rattle.std.proofs.lemmas.List.Sums.{sum-map, sum_by-drop_more, sum_by-set, sum_by-take-drop}
 use Rattle.std.proofs.lemmas.Bool.{both_ways}
 use Rattle.pb_norm.specs.BoundedSums.{BoundedSum}
 use Rattle.std.specs.Int.RustNames.{unsigned_abs}
@@ -14,146 +14,114 @@ use Rattle.pb_diagram.specs.declared.search.Top.{Top}
 use Rattle.pb_diagram.specs.Clauses.{node_count}
 use Rattle.pb_diagram.specs.Levels.{coefs_of, levels_of}
 use Rattle.pb_diagram.specs.laws.Search.{nodes_at, before_at, IsPartSearched, IsSearch, IsOff, IsJoined, IsMissing, IsGrown, IsTop, IsSearching, IsSideAt, IsKept, Advanced}
-use Rattle.pb_diagram.specs.laws.SumFacts.{sums-le, sum-cons}
-use Rattle.pb_diagram.proofs.SearchSteps.{drop_here, some_left, drop_first, search_starts, search_pushes, next_part, search_inserts, joined_apart}
-use Rattle.pb_diagram.proofs.SearchEnds.{rises_of, search_ends, search_count}
+use Rattle.pb_diagram.specs.laws.SumFacts.{sums-le}
+use Rattle.pb_diagram.proofs.SearchSteps.{some_left, search_starts, search_pushes, next_part, search_inserts, joined_apart}
+use Rattle.pb_diagram.proofs.SearchEnds.{search_ends, search_count}
 
 next_within : (bound : ℕ) (before rest : List ℕ) (nodes : List Interval) → IsPartSearched bound before rest nodes → (h : Interval) → Contains nodes h → (h.low ≤ sum rest) × (h.top ≤ sum rest)
 next_within bound before rest nodes part h among =
     let interval = (part.is_node h among).interval in
     (sums-le rest h.low interval.low_in, sums-le rest h.top interval.top_in)
 
-sum-drop-le : (coefs : List ℕ) (i : ℕ) → sum (drop i coefs) ≤ sum coefs
-sum-drop-le coefs i = omega (arith, sum_by-take-drop (λ x. x) coefs i)
-
-pub top_is : (c : BoundedSum) (known : List (List Interval)) (wanted : List ℕ) (left : ℕ) (sides : List (Option Interval)) (last : Option Interval) (top : Top) → IsSearching c known wanted left → IsKept c known wanted sides last → top.off ≡ get_or sides top.place None → top.last ≡ last → top.place + 1 ≡ length wanted → top.residue ≡ get_or wanted top.place 0 → (top.place < length c.terms → top.coef ≡ get_or (coefs_of c.terms) top.place 0) → IsTop c known wanted left top
-top_is c known wanted left sides last top searching kept off_at last_at depth residue_is coef_at =
+pub top_is : (c : BoundedSum) (known : List (List Interval)) (wanted : List ℕ) (left : ℕ) (sides : List (Option Interval)) (last : Option Interval) (top : Top) → IsSearching c known wanted left → IsKept c known wanted sides last → sum (coefs_of c.terms) < 2 ^ 100
+    → top.off ≡ get_or sides top.place None → top.last ≡ last → top.place + 1 ≡ length wanted → top.residue ≡ get_or wanted top.place 0 → (top.place < length c.terms → top.coef ≡ get_or (coefs_of c.terms) top.place 0) → IsTop c known wanted left top
+top_is c known wanted left sides last top searching kept small off_at last_at depth residue_is coef_at =
     let coefs = coefs_of c.terms in
     let search = searching.state in
-    let left_is = searching.left_is in
     let i = top.place in
-    let want = search.path i (omega arith) in
-    let within = some_left coefs i (get_or wanted i 0) want.below in
+    let within = some_left coefs i (get_or wanted i 0) (search.path i (omega arith)).below in
     let same_length = search.levels in
     let terms : length coefs ≡ length c.terms = length-map c.terms (λ t. t.coef) in
-    let here : sum (drop i coefs) ≡ get_or coefs i 0 + sum (drop (i + 1) coefs) = ap sum (drop_here coefs i within) ∙ sum-cons (get_or coefs i 0) (drop (i + 1) coefs) in
-    let most = sum-drop-le coefs i in
-    let part = search.parts i within in
+    let here : sum (drop i coefs) ≡ get_or coefs i 0 + sum (drop (i + 1) coefs) = sum_by-drop_more (λ x. x) coefs i 0 within in
+    let most : sum (drop i coefs) ≤ sum coefs = omega (arith, sum_by-take-drop (λ x. x) coefs i) in
     let next = next_part c.bound coefs known wanted search i within in
     let coef_is = coef_at (omega arith) in
-    let rest : sum (drop (i + 1) coefs) ≡ left = ap (λ (n : ℕ). sum (drop n coefs)) depth ∙ sym left_is in
+    let rest : sum (drop (i + 1) coefs) ≡ left = ap (λ (n : ℕ). sum (drop n coefs)) depth ∙ sym searching.left_is in
     record {
       depth = depth;
       residue_is = residue_is;
       coef_is = coef_is;
       within = omega arith;
-      listed = omega arith;
-      apart = part.apart;
-      rise = rises_of c.bound (before_at [] coefs i) (drop i coefs) (nodes_at known i) part.is_node;
-      next_apart = next.apart;
-      next_within = λ h among. subst (λ (n : ℕ). (h.low ≤ n) × (h.top ≤ n)) rest (next_within c.bound (get_or coefs i 0 ∷ before_at [] coefs i) (drop (i + 1) coefs) (nodes_at known (i + 1)) next h among);
-      fits = omega arith;
-      off_is =
-          let side = subst (λ (o : Option Interval). IsSideAt c known wanted i o) (sym off_at) (kept.offs i (omega arith)) in
-          subst (λ (r : ℕ). IfSome top.off (IsOff top.coef left (nodes_at known (i + 1)) r)) (sym residue_is)
-          (subst (λ (n : ℕ). IfSome top.off (IsOff top.coef n (nodes_at known (i + 1)) (get_or wanted i 0))) rest
-          (subst (λ (a : ℕ). IfSome top.off (IsOff a (sum (drop (i + 1) coefs)) (nodes_at known (i + 1)) (get_or wanted i 0))) (sym coef_is) side));
-      among = subst (λ (o : Option Interval). IfSome o (Contains (nodes_at known (i + 1)))) (sym last_at) (subst (λ (n : ℕ). IfSome last (Contains (nodes_at known n))) (sym depth) kept.among);
+      seen = record {
+        apart = next.apart;
+        fits = omega arith;
+        bounded = omega arith;
+        within = λ h among. subst (λ (n : ℕ). (h.low ≤ n) × (h.top ≤ n)) rest (next_within c.bound (get_or coefs i 0 ∷ before_at [] coefs i) (drop (i + 1) coefs) (nodes_at known (i + 1)) next h among);
+        kept =
+            let side = subst (λ (o : Option Interval). IsSideAt c known wanted i o) (sym off_at) (kept.offs i (omega arith)) in
+            subst (λ (r : ℕ). IfSome top.off (IsOff top.coef left (nodes_at known (i + 1)) r)) (sym residue_is)
+            (subst (λ (n : ℕ). IfSome top.off (IsOff top.coef n (nodes_at known (i + 1)) (get_or wanted i 0))) rest
+            (subst (λ (a : ℕ). IfSome top.off (IsOff a (sum (drop (i + 1) coefs)) (nodes_at known (i + 1)) (get_or wanted i 0))) (sym coef_is) side));
+        among = subst (λ (o : Option Interval). IfSome o (Contains (nodes_at known (i + 1)))) (sym last_at) (subst (λ (n : ℕ). IfSome last (Contains (nodes_at known n))) (sym depth) kept.among);
+      };
     }
 
--- the next level has a coefficient, where a child's residue is wanted there
-pub child_level : (c : BoundedSum) (known : List (List Interval)) (wanted : List ℕ) (left : ℕ) (top : Top) (child : ℕ) → IsSearching c known wanted left → IsTop c known wanted left top → IsMissing top.coef left (nodes_at known (top.place + 1)) top.residue child
-    → (top.place + 1 < length c.terms) × (left ≡ get_or (coefs_of c.terms) (top.place + 1) 0 + sum (drop (length wanted + 1) (coefs_of c.terms)))
-child_level c known wanted left top child searching at missing =
-    let coefs = coefs_of c.terms in
-    let i = top.place in
-    let depth = at.depth in
-    let left_is = searching.left_is in
-    let want = searching.state.path i (omega arith) in
-    let within = some_left coefs i (get_or wanted i 0) want.below in
-    let residue_is = at.residue_is in
-    let coef_is = at.coef_is in
-    let under = want.below in
-    let terms : length coefs ≡ length c.terms = length-map c.terms (λ t. t.coef) in
-    let here : sum (drop i coefs) ≡ get_or coefs i 0 + sum (drop (i + 1) coefs) = ap sum (drop_here coefs i within) ∙ sum-cons (get_or coefs i 0) (drop (i + 1) coefs) in
-    let rest : sum (drop (i + 1) coefs) ≡ left = ap (λ (n : ℕ). sum (drop n coefs)) depth ∙ sym left_is in
-    let some : 0 < left = elim missing.0 as (λ _. 0 < left) [
-      | inl off ↦ omega (arith, off.0)
-      | inr on ↦ omega (arith, on.0)
-    ] in
-    let next = some_left coefs (i + 1) 0 (omega arith) in
-    let there : sum (drop (i + 1) coefs) ≡ get_or coefs (i + 1) 0 + sum (drop (i + 1 + 1) coefs) = ap sum (drop_here coefs (i + 1) next) ∙ sum-cons (get_or coefs (i + 1) 0) (drop (i + 1 + 1) coefs) in
-    let same : sum (drop (i + 1 + 1) coefs) ≡ sum (drop (length wanted + 1) coefs) = ap (λ (n : ℕ). sum (drop (n + 1) coefs)) depth in
-    (omega arith, omega arith)
+module _ (c : BoundedSum) (known : List (List Interval)) (wanted : List ℕ) (left : ℕ) (top : Top) (searching : IsSearching c known wanted left) (at : IsTop c known wanted left top) where
+  abbrev coefs : List ℕ
+  coefs = coefs_of c.terms
 
-pub wants : (c : BoundedSum) (known : List (List Interval)) (wanted : List ℕ) (left less : ℕ) (top : Top) (child : ℕ) → IsSearching c known wanted left → IsTop c known wanted left top → IsMissing top.coef left (nodes_at known (top.place + 1)) top.residue child
-    → less + get_or (coefs_of c.terms) (top.place + 1) 0 ≡ left → IsSearching c known (wanted ++ child ∷ []) less
-wants c known wanted left less top child searching at missing less_is =
-    let coefs = coefs_of c.terms in
-    let i = top.place in
-    let depth = at.depth in
-    let level = child_level c known wanted left top child searching at missing in
-    let rest : left ≡ sum (drop (i + 1) coefs) = searching.left_is ∙ ap (λ (n : ℕ). sum (drop n coefs)) (sym depth) in
-    let exact : IsMissing (get_or coefs i 0) (sum (drop (i + 1) coefs)) (nodes_at known (i + 1)) (get_or wanted i 0) child =
-    subst (λ (a : ℕ). IsMissing a (sum (drop (i + 1) coefs)) (nodes_at known (i + 1)) (get_or wanted i 0) child) at.coef_is
-    (subst (λ (n : ℕ). IsMissing top.coef n (nodes_at known (i + 1)) (get_or wanted i 0) child) rest
-    (subst (λ (r : ℕ). IsMissing top.coef left (nodes_at known (i + 1)) r child) at.residue_is missing)) in
-    let longer : length wanted + 1 ≡ length (wanted ++ child ∷ []) = omega (arith, length-append wanted (child ∷ [])) in
-    record {
-      state = search_pushes c.bound coefs known wanted i child searching.state depth exact;
-      left_is = (let now : less ≡ sum (drop (length wanted + 1) coefs) = omega (arith, level.1) in now) ∙ ap (λ (n : ℕ). sum (drop n coefs)) longer;
-    }
+  rest : left ≡ sum (drop (top.place + 1) (coefs_of c.terms))
+  rest = searching.left_is ∙ ap (λ (n : ℕ). sum (drop n coefs)) (sym at.depth)
 
--- what the last residue's false child says, by the levels' places
-pub side_at : (c : BoundedSum) (known : List (List Interval)) (wanted : List ℕ) (left : ℕ) (top : Top) (side : Option Interval) → IsSearching c known wanted left → IsTop c known wanted left top → IfSome side (IsOff top.coef left (nodes_at known (top.place + 1)) top.residue)
-    → IsSideAt c known wanted top.place side
-side_at c known wanted left top side searching at is =
-    let coefs = coefs_of c.terms in
-    let i = top.place in
-    let depth = at.depth in
-    let rest : left ≡ sum (drop (i + 1) coefs) = searching.left_is ∙ ap (λ (n : ℕ). sum (drop n coefs)) (sym depth) in
-    subst (λ (a : ℕ). IfSome side (IsOff a (sum (drop (i + 1) coefs)) (nodes_at known (i + 1)) (get_or wanted i 0))) at.coef_is
-    (subst (λ (n : ℕ). IfSome side (IsOff top.coef n (nodes_at known (i + 1)) (get_or wanted i 0))) rest
-    (subst (λ (r : ℕ). IfSome side (IsOff top.coef left (nodes_at known (i + 1)) r)) at.residue_is is))
+  -- what is said of the last residue, by the lists
+  by_lists : (P : ℕ → ℕ → ℕ → Type 0) → P top.coef left top.residue → P (get_or (coefs_of c.terms) top.place 0) (sum (drop (top.place + 1) (coefs_of c.terms))) (get_or wanted top.place 0)
+  by_lists P h =
+      subst (λ (a : ℕ). P a (sum (drop (top.place + 1) coefs)) (get_or wanted top.place 0)) at.coef_is
+      (subst (λ (n : ℕ). P top.coef n (get_or wanted top.place 0)) rest (subst (λ (r : ℕ). P top.coef left r) at.residue_is h))
 
-pub joins : (c : BoundedSum) (known : List (List Interval)) (wanted less : List ℕ) (left : ℕ) (top : Top) (g : Interval) (more : List Interval) → IsSearching c known wanted left → IsTop c known wanted left top → IsJoined top.coef left (nodes_at known (top.place + 1)) top.residue g
-    → wanted ≡ less ++ top.residue ∷ [] → IsGrown (nodes_at known top.place) g more
-    → IsSearching c (set known top.place more) less (left + top.coef)
-joins c known wanted less left top g more searching at joined split grown =
-    let coefs = coefs_of c.terms in
-    let i = top.place in
-    let r = top.residue in
-    let count = ap length split ∙ length-append less (r ∷ []) in
-    let depth = at.depth in
-    let place : i ≡ length less = omega arith in
-    let rest : left ≡ sum (drop (i + 1) coefs) = searching.left_is ∙ ap (λ (n : ℕ). sum (drop n coefs)) (sym depth) in
-    let search : IsSearch c.bound coefs known (less ++ r ∷ []) = subst (λ (l : List ℕ). IsSearch c.bound coefs known l) split searching.state in
-    let exact : IsJoined (get_or coefs i 0) (sum (drop (i + 1) coefs)) (nodes_at known (i + 1)) r g =
-    subst (λ (a : ℕ). IsJoined a (sum (drop (i + 1) coefs)) (nodes_at known (i + 1)) r g) at.coef_is
-    (subst (λ (n : ℕ). IsJoined top.coef n (nodes_at known (i + 1)) r g) rest joined) in
-    let moved = subst (λ (n : ℕ). IsJoined (get_or coefs n 0) (sum (drop (n + 1) coefs)) (nodes_at known (n + 1)) r g) place exact in
-    let within : i < length coefs = omega (arith, at.within, length-map c.terms (λ t. t.coef)) in
-    let here : sum (drop i coefs) ≡ get_or coefs i 0 + sum (drop (i + 1) coefs) = ap sum (drop_here coefs i within) ∙ sum-cons (get_or coefs i 0) (drop (i + 1) coefs) in
-    let coef_is = at.coef_is in
-    record {
-      state = subst (λ (n : ℕ). IsSearch c.bound coefs (set known n more) less) (sym place)
-          (search_inserts c.bound coefs known less r g more search moved (subst (λ (n : ℕ). IsGrown (nodes_at known n) g more) place grown));
-      left_is = (let now : left + top.coef ≡ sum (drop i coefs) = omega arith in now) ∙ ap (λ (n : ℕ). sum (drop n coefs)) place;
-    }
+  -- the next level has a coefficient, where a child's residue is wanted there
+  pub child_level : (child : ℕ) → IsMissing top.coef left (nodes_at known (top.place + 1)) top.residue child
+      → (top.place + 1 < length c.terms) × (left ≡ get_or (coefs_of c.terms) (top.place + 1) 0 + sum (drop (length wanted + 1) (coefs_of c.terms)))
+  child_level child missing =
+      let i = top.place in
+      let depth = at.depth in
+      let residue_is = at.residue_is in
+      let coef_is = at.coef_is in
+      let under = (searching.state.path i (omega arith)).below in
+      let terms : length coefs ≡ length c.terms = length-map c.terms (λ t. t.coef) in
+      let here : sum (drop i coefs) ≡ get_or coefs i 0 + sum (drop (i + 1) coefs) = sum_by-drop_more (λ x. x) coefs i 0 (some_left coefs i (get_or wanted i 0) under) in
+      let same_left = rest in
+      let some : 0 < left = elim missing.0 as (λ _. 0 < left) [
+        | inl off ↦ omega (arith, off.0)
+        | inr on ↦ omega (arith, on.0)
+      ] in
+      let next = some_left coefs (i + 1) 0 (omega arith) in
+      let there : sum (drop (i + 1) coefs) ≡ get_or coefs (i + 1) 0 + sum (drop (i + 1 + 1) coefs) = sum_by-drop_more (λ x. x) coefs (i + 1) 0 next in
+      let same : sum (drop (i + 1 + 1) coefs) ≡ sum (drop (length wanted + 1) coefs) = ap (λ (n : ℕ). sum (drop (n + 1) coefs)) depth in
+      (omega arith, omega arith)
 
--- a joined node rises, and stands apart from the nodes of its level
-pub joined_stands : (c : BoundedSum) (known : List (List Interval)) (wanted : List ℕ) (left : ℕ) (top : Top) (g : Interval) → IsSearching c known wanted left → IsTop c known wanted left top → IsJoined top.coef left (nodes_at known (top.place + 1)) top.residue g
-    → (g.low < g.top) × ((h : Interval) → Contains (nodes_at known top.place) h → (h.top ≤ g.low) ⊎ (g.top ≤ h.low))
-joined_stands c known wanted left top g searching at joined =
-    let coefs = coefs_of c.terms in
-    let i = top.place in
-    let r = top.residue in
-    let depth = at.depth in
-    let rest : left ≡ sum (drop (i + 1) coefs) = searching.left_is ∙ ap (λ (n : ℕ). sum (drop n coefs)) (sym depth) in
-    let exact : IsJoined (get_or coefs i 0) (sum (drop (i + 1) coefs)) (nodes_at known (i + 1)) r g =
-    subst (λ (a : ℕ). IsJoined a (sum (drop (i + 1) coefs)) (nodes_at known (i + 1)) r g) at.coef_is
-    (subst (λ (n : ℕ). IsJoined top.coef n (nodes_at known (i + 1)) r g) rest joined) in
-    joined_apart c.bound coefs known wanted i r g searching.state (omega arith) at.residue_is exact
+  pub wants : (less child : ℕ) → IsMissing top.coef left (nodes_at known (top.place + 1)) top.residue child → less + get_or (coefs_of c.terms) (top.place + 1) 0 ≡ left → IsSearching c known (wanted ++ child ∷ []) less
+  wants less child missing less_is =
+      let exact = by_lists (λ a n r. IsMissing a n (nodes_at known (top.place + 1)) r child) missing in
+      let longer : length wanted + 1 ≡ length (wanted ++ child ∷ []) = omega (arith, length-append wanted (child ∷ [])) in
+      record {
+        state = search_pushes c.bound coefs known wanted top.place child searching.state at.depth exact;
+        left_is = (let now : less ≡ sum (drop (length wanted + 1) coefs) = omega (arith, (child_level child missing).1) in now) ∙ ap (λ (n : ℕ). sum (drop n coefs)) longer;
+      }
+
+  -- what the last residue's false child says, by the levels' places
+  pub side_at : (side : Option Interval) → IfSome side (IsOff top.coef left (nodes_at known (top.place + 1)) top.residue) → IsSideAt c known wanted top.place side
+  side_at side is = by_lists (λ a n r. IfSome side (IsOff a n (nodes_at known (top.place + 1)) r)) is
+
+  module _ (g : Interval) (joined : IsJoined top.coef left (nodes_at known (top.place + 1)) top.residue g) where
+    exact : IsJoined (get_or (coefs_of c.terms) top.place 0) (sum (drop (top.place + 1) (coefs_of c.terms))) (nodes_at known (top.place + 1)) top.residue g
+    exact = by_lists (λ a n r. IsJoined a n (nodes_at known (top.place + 1)) top.residue g) joined
+
+    -- a joined node rises, and stands apart from the nodes of its level
+    pub joined_stands : (g.low < g.top) × ((h : Interval) → Contains (nodes_at known top.place) h → (h.top ≤ g.low) ⊎ (g.top ≤ h.low))
+    joined_stands = joined_apart c.bound coefs known wanted top.place top.residue g searching.state (omega (arith, at.depth)) at.residue_is exact
+
+    pub joins : (less : List ℕ) (more : List Interval) → wanted ≡ less ++ top.residue ∷ [] → IsGrown (nodes_at known top.place) g more → IsSearching c (set known top.place more) less (left + top.coef)
+    joins less more split grown =
+        let i = top.place in
+        let place : i ≡ length less = omega (arith, at.depth, ap length split, length-append less (top.residue ∷ [])) in
+        let within : i < length coefs = omega (arith, at.within, length-map c.terms (λ t. t.coef)) in
+        let here : sum (drop i coefs) ≡ get_or coefs i 0 + sum (drop (i + 1) coefs) = sum_by-drop_more (λ x. x) coefs i 0 within in
+        let now : left + top.coef ≡ sum (drop i coefs) = omega (arith, here, rest, at.coef_is) in
+        record {
+          state = search_inserts c.bound coefs known wanted i top.residue g searching.state (omega (arith, at.depth)) at.residue_is exact less more split place grown;
+          left_is = now ∙ ap (λ (n : ℕ). sum (drop n coefs)) place;
+        }
 
 -- the coefficient that is read of the terms
 pub coef_read : (c : BoundedSum) (terms : List Term) (i : ℕ) (t : Term) → weights terms ≡ c.terms → i < length c.terms → t ≡ get_or terms i t → unsigned_abs t.coef ≡ get_or (coefs_of c.terms) i 0
@@ -187,9 +155,9 @@ advances known wanted less place residue g more within split grown =
       wants = λ is_not. absurd (both_ways true is_not refl);
     }
 
-sum_none : (n : ℕ) → node_count (replicate n []) ≡ 0
-sum_none zero = refl
-sum_none (suc n) = sum_by-cons (length {A = Interval}) [] (replicate n []) ∙ (let e : 0 + node_count (replicate n []) ≡ 0 = omega (arith, sum_none n) in e)
+pub some_terms : (terms : List Term) (ts : List Weighted) (bound : ℕ) → weights terms ≡ ts → bound < weight ts → 0 < length terms
+some_terms [] ts bound same above = let none = ap weight same in absurd (omega arith)
+some_terms (t ∷ terms) ts bound same above = omega arith
 
 pub starts : (c : BoundedSum) (known : List (List Interval)) (left : ℕ) (terms : List Term) (t : Term) → weights terms ≡ c.terms → t ≡ get_or terms 0 t → c.bound < weight c.terms → known ≡ replicate (length c.terms) [] → left ≡ weight c.terms - unsigned_abs t.coef
     → IsSearching c known (c.bound ∷ []) left
@@ -198,9 +166,9 @@ starts c known left terms t same is above none left_is =
     let count : length coefs ≡ length c.terms = length-map c.terms (λ t. t.coef) in
     let whole : sum coefs ≡ weight c.terms = sum-map (λ (t : Weighted). t.coef) c.terms in
     let over : c.bound < sum coefs = omega arith in
-    let some = some_left coefs 0 c.bound (subst (λ (l : List ℕ). c.bound < sum l) (sym (drop_first coefs)) over) in
+    let some = some_left coefs 0 c.bound over in
     let first = coef_read c terms 0 t same (omega arith) is in
-    let here : sum coefs ≡ get_or coefs 0 0 + sum (drop 1 coefs) = ap sum (sym (drop_first coefs)) ∙ ap sum (drop_here coefs 0 some) ∙ sum-cons (get_or coefs 0 0) (drop (0 + 1) coefs) in
+    let here : sum coefs ≡ get_or coefs 0 0 + sum (drop 1 coefs) = sum_by-drop_more (λ x. x) coefs 0 0 some in
     record {
       state = subst (λ (l : List (List Interval)). IsSearch c.bound coefs l (c.bound ∷ [])) (ap (λ (n : ℕ). replicate n []) count ∙ sym none) (search_starts c.bound coefs over);
       left_is = omega arith;

@@ -1,9 +1,9 @@
 -- The steps of a search for the nodes of a diagram.
 use Rattle.std.proofs.Common.{◌≡◌, ◌≢◌, ◌<◌, ◌≤◌, ◌+◌, ◌-◌, ◌++◌, ◌⊎◌, ℕ, List, [], ◌∷◌, length, get_or, drop, set, replicate, refl, sym, ap, ◌∙◌, subst, arith, inl, inr, zero, suc, length-append, length-set, get_or-set_same, get_or-set_other}
 use Rattle.std.specs.Prelude.{Contains, sum}
-use Rattle.std.proofs.Math.Seq.{drop-cons}
 use Rattle.std.proofs.lemmas.Bool.{cases_lt, cases_eq}
-use Rattle.std.proofs.lemmas.List.{length-replicate, get_or_past, get_or-replicate, get_or_append_left, get_or_push}
+use Rattle.std.proofs.lemmas.List.{drop_more, length-replicate, get_or_past, get_or-replicate, get_or_append_left, get_or_push}
+use Rattle.std.proofs.lemmas.List.Sums.{sum_by-drop_more}
 use Rattle.pb_base.proofs.Members.{Contains-nil, Contains-here}
 use Rattle.pb_diagram.specs.declared.interval.Interval.{Interval}
 use Rattle.pb_diagram.specs.Levels.{level, levels_from}
@@ -11,8 +11,7 @@ use Rattle.pb_diagram.specs.inner.Nodes.{LiesIn, IsResidue, IsNode}
 use Rattle.pb_diagram.specs.laws.LevelFacts.{first_residue, residue_off, residue_on}
 use Rattle.pb_diagram.specs.laws.Search.{nodes_at, before_at, IsPartSearched, IsKnown, IsIntervalClosed, IsWanted, IsSearch, IsJoined, IsMissing, IsGrown}
 use Rattle.pb_diagram.specs.Sums.{sums}
-use Rattle.pb_diagram.specs.laws.SumFacts.{sum-cons}
-use Rattle.pb_diagram.proofs.Joins.{joined_node, apart_from}
+use Rattle.pb_diagram.proofs.Joins.{JoinedNode, joined_node, apart_from}
 
 -- ---- places
 
@@ -23,11 +22,6 @@ before_at_next before (a ∷ b ∷ rest) zero within = refl
 before_at_next before (a ∷ rest) (suc i) within =
     let shift : suc i + 1 ≡ suc (i + 1) = omega arith in
     ap (before_at before (a ∷ rest)) shift ∙ before_at_next (a ∷ before) rest i (omega arith)
-
-pub drop_here : (coefs : List ℕ) (i : ℕ) → i < length coefs → drop i coefs ≡ get_or coefs i 0 ∷ drop (i + 1) coefs
-drop_here coefs i within =
-    let shift : suc i ≡ i + 1 = omega arith in
-    drop-cons coefs i 0 within ∙ ap (λ (n : ℕ). get_or coefs i 0 ∷ drop n coefs) shift
 
 pub levels_from_length : (bound : ℕ) (before coefs : List ℕ) → length (levels_from bound before coefs) ≡ length coefs
 levels_from_length bound before [] = refl
@@ -51,18 +45,12 @@ pub before_at_first : (before coefs : List ℕ) → before_at before coefs 0 ≡
 before_at_first before [] = refl
 before_at_first before (a ∷ rest) = refl
 
-pub drop_first : (coefs : List ℕ) → drop 0 coefs ≡ coefs
-drop_first [] = refl
-drop_first (a ∷ rest) = refl
-
 start_path : (bound : ℕ) (coefs : List ℕ) (known : List (List Interval)) → bound < sum coefs → ((i : ℕ) → i < length coefs → nodes_at known i ≡ []) → (i : ℕ) → i < length (bound ∷ []) → IsWanted bound (before_at [] coefs i) (drop i coefs) (nodes_at known i) (get_or (bound ∷ []) i 0)
 start_path bound coefs known below none zero within =
-    let whole = subst (λ (l : List ℕ). bound < sum l) (sym (drop_first coefs)) below in
-    let some = some_left coefs 0 bound whole in
     record {
       reached = subst (λ (l : List ℕ). IsResidue bound l bound) (sym (before_at_first [] coefs)) (record { spent = 0; is_sum = Contains-here 0 []; whole = omega arith });
-      below = whole;
-      missing = λ h among inside. Contains-nil h (subst (λ (l : List Interval). Contains l h) (none 0 some) among);
+      below = below;
+      missing = λ h among inside. Contains-nil h (subst (λ (l : List Interval). Contains l h) (none 0 (some_left coefs 0 bound below)) among);
     }
 start_path bound coefs known below none (suc i) within = absurd (omega arith)
 
@@ -88,22 +76,15 @@ search_pushes bound coefs known wanted i child search depth missing =
     let within = some_left coefs i (get_or wanted i 0) want.below in
     let a = get_or coefs i 0 in
     let r = get_or wanted i 0 in
-    let here = drop_here coefs i within in
-    let all : sum (drop i coefs) ≡ a + sum (drop (i + 1) coefs) = ap sum here ∙ sum-cons a (drop (i + 1) coefs) in
+    let before = a ∷ before_at [] coefs i in
+    let all : sum (drop i coefs) ≡ a + sum (drop (i + 1) coefs) = sum_by-drop_more (λ x. x) coefs i 0 within in
     let under = want.below in
-    let child_want : IsWanted bound (before_at [] coefs (i + 1)) (drop (i + 1) coefs) (nodes_at known (i + 1)) child =
-    elim missing.0 as (λ _. IsWanted bound (before_at [] coefs (i + 1)) (drop (i + 1) coefs) (nodes_at known (i + 1)) child) [
-      | inl off ↦ record {
-        reached = subst (λ (l : List ℕ). IsResidue bound l child) (sym (before_at_next [] coefs i within)) (subst (λ (n : ℕ). IsResidue bound (a ∷ before_at [] coefs i) n) (sym off.1) (residue_off bound a (before_at [] coefs i) r want.reached));
-        below = omega (arith, off.0, off.1);
-        missing = missing.1;
-      }
-      | inr on ↦ record {
-        reached = subst (λ (l : List ℕ). IsResidue bound l child) (sym (before_at_next [] coefs i within)) (subst (λ (n : ℕ). IsResidue bound (a ∷ before_at [] coefs i) n) (sym on.1) (residue_on bound a (before_at [] coefs i) r want.reached on.0));
-        below = omega (arith, on.0, on.1);
-        missing = missing.1;
-      }
+    let reached : IsResidue bound before child × (child < sum (drop (i + 1) coefs)) = elim missing.0 as (λ _. IsResidue bound before child × (child < sum (drop (i + 1) coefs))) [
+      | inl off ↦ (subst (IsResidue bound before) (sym off.1) (residue_off bound a (before_at [] coefs i) r want.reached), omega (arith, off.0, off.1))
+      | inr on ↦ (subst (IsResidue bound before) (sym on.1) (residue_on bound a (before_at [] coefs i) r want.reached on.0), omega (arith, on.0, on.1))
     ] in
+    let child_want : IsWanted bound (before_at [] coefs (i + 1)) (drop (i + 1) coefs) (nodes_at known (i + 1)) child =
+    record { reached = subst (λ (l : List ℕ). IsResidue bound l child) (sym (before_at_next [] coefs i within)) reached.0; below = reached.1; missing = missing.1 } in
     record {
       levels = search.levels;
       parts = search.parts;
@@ -163,78 +144,71 @@ next_part bound coefs known wanted search i within =
       | inr last ↦ subst (λ (l : List Interval). IsPartSearched bound before rest l) (sym (get_or_past known (i + 1) [] (omega arith))) (record { apart = tt; is_node = λ g h. absurd (Contains-nil g h) })
     ]
 
-pub search_inserts : (bound : ℕ) (coefs : List ℕ) (known : List (List Interval)) (less : List ℕ) (residue : ℕ) (g : Interval) (more : List Interval) → IsSearch bound coefs known (less ++ residue ∷ [])
-    → IsJoined (get_or coefs (length less) 0) (sum (drop (length less + 1) coefs)) (nodes_at known (length less + 1)) residue g
-    → IsGrown (nodes_at known (length less)) g more
-    → IsSearch bound coefs (set known (length less) more) less
-search_inserts bound coefs known less residue g more search joined grown =
-    let i = length less in
-    let a = get_or coefs i 0 in
-    let rest = drop (i + 1) coefs in
-    let before = before_at [] coefs i in
-    let count = length-append less (residue ∷ []) in
-    let top : get_or (less ++ residue ∷ []) i 0 ≡ residue = get_or_push less residue 0 i refl in
-    let want : IsWanted bound before (drop i coefs) (nodes_at known i) residue = subst (λ (n : ℕ). IsWanted bound before (drop i coefs) (nodes_at known i) n) top (search.path i (omega arith)) in
-    let within = some_left coefs i residue want.below in
-    let here = drop_here coefs i within in
-    let same_length = search.levels in
-    let made = joined_node bound a before rest (nodes_at known (i + 1)) residue g (next_part bound coefs known (less ++ residue ∷ []) search i within) want.reached (subst (λ (l : List ℕ). residue < sum l) here want.below) joined in
-    let node : IsNode bound before (drop i coefs) g = subst (λ (l : List ℕ). IsNode bound before l g) (sym here) made.node in
-    let in_known : i < length known = omega arith in
-    let keeps = at_set_keeps known i g more in_known grown in
-    let now = set known i more in
-    record {
-      levels = length-set known i more ∙ search.levels;
-      parts = λ k below.
-          elim (at_set known i k more in_known) as (λ _. IsPartSearched bound (before_at [] coefs k) (drop k coefs) (nodes_at now k)) [
-            | inl at ↦ subst (λ (l : List Interval). IsPartSearched bound (before_at [] coefs k) (drop k coefs) l) (sym at.1)
-                (subst (λ (n : ℕ). IsPartSearched bound (before_at [] coefs n) (drop n coefs) more) (sym at.0) (record {
-                  apart = grown.apart;
-                  is_node = λ h among.
-                      elim (grown.cases h among) as (λ _. IsNode bound before (drop i coefs) h) [
-                        | inl e ↦ subst (λ (j : Interval). IsNode bound before (drop i coefs) j) e node
-                        | inr old ↦ (search.parts i within).is_node h old
-                      ];
-                }))
-            | inr other ↦ subst (λ (l : List Interval). IsPartSearched bound (before_at [] coefs k) (drop k coefs) l) (sym other.1) (search.parts k below)
-          ];
-      closed = λ k below h among.
-          elim (at_set known i k more in_known) as (λ _. IsIntervalClosed (get_or coefs k 0) (drop (k + 1) coefs) (nodes_at now (k + 1)) h) [
-            | inl at ↦ elim (grown.cases h (subst (λ (l : List Interval). Contains l h) at.1 among)) as (λ _. IsIntervalClosed (get_or coefs k 0) (drop (k + 1) coefs) (nodes_at now (k + 1)) h) [
-              | inl e ↦
-                  let new : IsIntervalClosed a rest (nodes_at known (i + 1)) h = subst (λ (j : Interval). IsIntervalClosed a rest (nodes_at known (i + 1)) j) e made.closed in
-                  subst (λ (n : ℕ). IsIntervalClosed (get_or coefs n 0) (drop (n + 1) coefs) (nodes_at now (n + 1)) h) (sym at.0) (still_closed a rest (nodes_at known (i + 1)) (nodes_at now (i + 1)) h (keeps (i + 1)) new)
-              | inr old ↦ still_closed (get_or coefs k 0) (drop (k + 1) coefs) (nodes_at known (k + 1)) (nodes_at now (k + 1)) h (keeps (k + 1)) (search.closed k below h (subst (λ (n : ℕ). Contains (nodes_at known n) h) (sym at.0) old))
-            ]
-            | inr other ↦ still_closed (get_or coefs k 0) (drop (k + 1) coefs) (nodes_at known (k + 1)) (nodes_at now (k + 1)) h (keeps (k + 1)) (search.closed k below h (subst (λ (l : List Interval). Contains l h) other.1 among))
-          ];
-      path = λ k below.
-          let old = search.path k (omega arith) in
-          let other : k ≢ i = omega arith in
-          subst (λ (n : ℕ). IsWanted bound (before_at [] coefs k) (drop k coefs) (nodes_at now k) n) (get_or_append_left less (residue ∷ []) 0 k below)
-          (subst (λ (l : List Interval). IsWanted bound (before_at [] coefs k) (drop k coefs) l (get_or (less ++ residue ∷ []) k 0)) (sym (get_or-set_other known i k more [] other)) old);
-      root = elim (cases_lt 0 (length less)) as (λ _. (0 < length less) ⊎ IsKnown (nodes_at now 0) bound) [
-        | inl some ↦ inl some
-        | inr none ↦
-            let at_zero : i ≡ 0 = omega arith in
-            let nothing : before ≡ [] = ap (before_at [] coefs) at_zero ∙ before_at_first [] coefs in
-            let start : residue ≡ bound = first_residue bound residue (subst (λ (l : List ℕ). IsResidue bound l residue) nothing want.reached) in
-            let stands : Contains (nodes_at now 0) g = subst (λ (n : ℕ). Contains (nodes_at now n) g) at_zero (subst (λ (l : List Interval). Contains l g) (sym (get_or-set_same known i more [] in_known)) grown.here) in
-            inr (g, stands, subst (λ (n : ℕ). LiesIn n g) start made.inside)
-      ];
-    }
+-- the node of a wanted residue, which is made of its children
+module _ (bound : ℕ) (coefs : List ℕ) (known : List (List Interval)) (wanted : List ℕ) (i residue : ℕ) (g : Interval) (search : IsSearch bound coefs known wanted) (below : i < length wanted) (top : residue ≡ get_or wanted i 0)
+    (joined : IsJoined (get_or coefs i 0) (sum (drop (i + 1) coefs)) (nodes_at known (i + 1)) residue g) where
+  want : IsWanted bound (before_at [] coefs i) (drop i coefs) (nodes_at known i) residue
+  want = subst (λ (n : ℕ). IsWanted bound (before_at [] coefs i) (drop i coefs) (nodes_at known i) n) (sym top) (search.path i below)
 
--- a joined node rises, and stands apart from the nodes of the level, where its residue is wanted
-pub joined_apart : (bound : ℕ) (coefs : List ℕ) (known : List (List Interval)) (wanted : List ℕ) (i residue : ℕ) (g : Interval) → IsSearch bound coefs known wanted → i < length wanted → residue ≡ get_or wanted i 0
-    → IsJoined (get_or coefs i 0) (sum (drop (i + 1) coefs)) (nodes_at known (i + 1)) residue g
-    → (g.low < g.top) × ((h : Interval) → Contains (nodes_at known i) h → (h.top ≤ g.low) ⊎ (g.top ≤ h.low))
-joined_apart bound coefs known wanted i residue g search below top joined =
-    let a = get_or coefs i 0 in
-    let rest = drop (i + 1) coefs in
-    let before = before_at [] coefs i in
-    let want : IsWanted bound before (drop i coefs) (nodes_at known i) residue = subst (λ (n : ℕ). IsWanted bound before (drop i coefs) (nodes_at known i) n) (sym top) (search.path i below) in
-    let within = some_left coefs i residue want.below in
-    let here = drop_here coefs i within in
-    let made = joined_node bound a before rest (nodes_at known (i + 1)) residue g (next_part bound coefs known wanted search i within) want.reached (subst (λ (l : List ℕ). residue < sum l) here want.below) joined in
-    let node : IsNode bound before (drop i coefs) g = subst (λ (l : List ℕ). IsNode bound before l g) (sym here) made.node in
-    (node.interval.rises, (λ h among. apart_from (sums (drop i coefs)) g h residue node.interval ((search.parts i within).is_node h among).interval made.inside (want.missing h among)))
+  within : i < length coefs
+  within = some_left coefs i residue want.below
+
+  made : JoinedNode bound (get_or coefs i 0) (before_at [] coefs i) (drop (i + 1) coefs) (nodes_at known (i + 1)) residue g
+  made =
+      joined_node bound (get_or coefs i 0) (before_at [] coefs i) (drop (i + 1) coefs) (nodes_at known (i + 1)) residue g (next_part bound coefs known wanted search i within) want.reached
+      (subst (λ (l : List ℕ). residue < sum l) (drop_more coefs i 0 within) want.below) joined
+
+  node : IsNode bound (before_at [] coefs i) (drop i coefs) g
+  node = subst (λ (l : List ℕ). IsNode bound (before_at [] coefs i) l g) (sym (drop_more coefs i 0 within)) made.node
+
+  -- it rises, and stands apart from the nodes of the level
+  pub joined_apart : (g.low < g.top) × ((h : Interval) → Contains (nodes_at known i) h → (h.top ≤ g.low) ⊎ (g.top ≤ h.low))
+  joined_apart = (node.interval.rises, (λ h among. apart_from (sums (drop i coefs)) g h residue node.interval ((search.parts i within).is_node h among).interval made.inside (want.missing h among)))
+
+  pub search_inserts : (less : List ℕ) (more : List Interval) → wanted ≡ less ++ residue ∷ [] → i ≡ length less → IsGrown (nodes_at known i) g more → IsSearch bound coefs (set known i more) less
+  search_inserts less more split place grown =
+      let count = ap length split ∙ length-append less (residue ∷ []) in
+      let same_length = search.levels in
+      let in_known : i < length known = omega (arith, within) in
+      let keeps = at_set_keeps known i g more in_known grown in
+      let now = set known i more in
+      record {
+        levels = length-set known i more ∙ search.levels;
+        parts = λ k below.
+            elim (at_set known i k more in_known) as (λ _. IsPartSearched bound (before_at [] coefs k) (drop k coefs) (nodes_at now k)) [
+              | inl at ↦ subst (λ (l : List Interval). IsPartSearched bound (before_at [] coefs k) (drop k coefs) l) (sym at.1)
+                  (subst (λ (n : ℕ). IsPartSearched bound (before_at [] coefs n) (drop n coefs) more) (sym at.0) (record {
+                    apart = grown.apart;
+                    is_node = λ h among.
+                        elim (grown.cases h among) as (λ _. IsNode bound (before_at [] coefs i) (drop i coefs) h) [
+                          | inl e ↦ subst (λ (j : Interval). IsNode bound (before_at [] coefs i) (drop i coefs) j) e node
+                          | inr old ↦ (search.parts i within).is_node h old
+                        ];
+                  }))
+              | inr other ↦ subst (λ (l : List Interval). IsPartSearched bound (before_at [] coefs k) (drop k coefs) l) (sym other.1) (search.parts k below)
+            ];
+        closed = λ k below h among.
+            let still = still_closed (get_or coefs k 0) (drop (k + 1) coefs) (nodes_at known (k + 1)) (nodes_at now (k + 1)) h (keeps (k + 1)) in
+            elim (at_set known i k more in_known) as (λ _. IsIntervalClosed (get_or coefs k 0) (drop (k + 1) coefs) (nodes_at now (k + 1)) h) [
+              | inl at ↦ elim (grown.cases h (subst (λ (l : List Interval). Contains l h) at.1 among)) as (λ _. IsIntervalClosed (get_or coefs k 0) (drop (k + 1) coefs) (nodes_at now (k + 1)) h) [
+                | inl e ↦ still (subst (λ (n : ℕ). IsIntervalClosed (get_or coefs n 0) (drop (n + 1) coefs) (nodes_at known (n + 1)) h) (sym at.0) (subst (λ (j : Interval). IsIntervalClosed (get_or coefs i 0) (drop (i + 1) coefs) (nodes_at known (i + 1)) j) e made.closed))
+                | inr old ↦ still (search.closed k below h (subst (λ (n : ℕ). Contains (nodes_at known n) h) (sym at.0) old))
+              ]
+              | inr other ↦ still (search.closed k below h (subst (λ (l : List Interval). Contains l h) other.1 among))
+            ];
+        path = λ k below.
+            let old = search.path k (omega arith) in
+            let other : k ≢ i = omega arith in
+            let same : get_or wanted k 0 ≡ get_or less k 0 = ap (λ (l : List ℕ). get_or l k 0) split ∙ get_or_append_left less (residue ∷ []) 0 k below in
+            subst (λ (n : ℕ). IsWanted bound (before_at [] coefs k) (drop k coefs) (nodes_at now k) n) same
+            (subst (λ (l : List Interval). IsWanted bound (before_at [] coefs k) (drop k coefs) l (get_or wanted k 0)) (sym (get_or-set_other known i k more [] other)) old);
+        root = elim (cases_lt 0 (length less)) as (λ _. (0 < length less) ⊎ IsKnown (nodes_at now 0) bound) [
+          | inl some ↦ inl some
+          | inr none ↦
+              let at_zero : i ≡ 0 = omega arith in
+              let nothing : before_at [] coefs i ≡ [] = ap (before_at [] coefs) at_zero ∙ before_at_first [] coefs in
+              let start : residue ≡ bound = first_residue bound residue (subst (λ (l : List ℕ). IsResidue bound l residue) nothing want.reached) in
+              let stands : Contains (nodes_at now 0) g = subst (λ (n : ℕ). Contains (nodes_at now n) g) at_zero (subst (λ (l : List Interval). Contains l g) (sym (get_or-set_same known i more [] in_known)) grown.here) in
+              inr (g, stands, subst (λ (n : ℕ). LiesIn n g) start made.inside)
+        ];
+      }

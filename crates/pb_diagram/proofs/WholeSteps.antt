@@ -1,6 +1,7 @@
 -- Clauses of a diagram's levels that are handed over one level after another.
-use Rattle.std.proofs.Common.{◌≡◌, ◌≤◌, ◌+◌, ◌*◌, ◌++◌, ℕ, suc, zero, Bool, true, false, cond, leb, List, [], ◌∷◌, length, drop, map, refl, sym, ap, ◌∙◌, arith, length-append, append_assoc}
+use Rattle.std.proofs.Common.{◌≡◌, ◌≤◌, ◌+◌, ◌*◌, ◌++◌, ℕ, Bool, true, false, cond, leb, List, [], ◌∷◌, length, drop, map, refl, sym, ap, ◌∙◌, arith, length-append, append_assoc}
 use Rattle.std.specs.Prelude.{Result, IsErrAnd}
+use Rattle.std.proofs.lemmas.List.{at_drop_all}
 use Rattle.std.proofs.lemmas.List.Sums.{sum_by-cons}
 use Rattle.pb_base.specs.Literals.{negated}
 use Rattle.pb_norm.specs.Constraints.{Weighted, weight}
@@ -77,17 +78,9 @@ justifications_few first id own ts ls = omega (arith, length-append (node_justif
 
 -- ---- the levels
 
-nothing : (ts : List Weighted) (id : ℕ) → node_justifications 0 id ts [] ≡ []
-nothing [] id = refl
-nothing (t ∷ ts) id = refl
-
 -- nothing is left at the end
 pub no_justification : (ts : List Weighted) (ls : List (List Interval)) (i id : ℕ) → length ts ≤ i → node_justifications 0 id (drop i ts) (drop i ls) ≡ []
-no_justification [] ls zero id past = refl
-no_justification [] ls (suc i) id past = refl
-no_justification (t ∷ ts) ls zero id past = absurd (omega arith)
-no_justification (t ∷ ts) [] (suc i) id past = nothing (drop i ts) id
-no_justification (t ∷ ts) (l ∷ ls) (suc i) id past = no_justification ts ls i id (omega arith)
+no_justification ts ls i id past = at_drop_all (λ (us : List Weighted). node_justifications 0 id us (drop i ls)) ts i past
 
 module _ (ts : List Weighted) (ls : List (List Interval)) (i : ℕ) (t : Weighted) (whole : ℕ) (nodes next : List Interval) (read : Read ts ls i t whole nodes next) (id nid : ℕ) (is : nid ≡ id + 2 * length nodes) where
   abbrev rest : List Weighted

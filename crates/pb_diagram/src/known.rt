@@ -80,16 +80,31 @@ fn ends_at(runs: &[Run], residue: u128, place: usize) -> bool
     runs.len() <= place + 1 || !runs[place + 1].begins_by(residue)
 }
 
-/// Makes two runs of one, of which the first has as many intervals as told.
-fn split(alloc: Global, runs: &mut Vec<Run>, place: usize, count: usize) -> Result<(), AllocError>
+/// The first run of all, of one interval.
+fn begin(alloc: Global, runs: &mut Vec<Run>, interval: Interval) -> Result<(), AllocError>
+    requires none { runs.old.items ≡ [] }
+    requires runs { AreRuns runs.old.items }
+    requires rises { interval.low < interval.top }
+    ensures runs { AreRuns runs.new.items }
+    ensures grown { OnOk result (IsGrown (intervals_in runs.old.items) interval (intervals_in runs.new.items)) }
+{
+    runs.push(Run::of(alloc, interval)?)?;
+    Ok(())
+}
+
+/// Makes two runs of one that has too many intervals.
+fn split(alloc: Global, runs: &mut Vec<Run>, place: usize) -> Result<(), AllocError>
     requires within { place < length runs.old.items }
-    requires some { 0 < count }
-    requires more { count < length (slice_index_or runs.old.items place []) }
     requires runs { AreRuns runs.old.items }
     ensures same { intervals_in runs.new.items ≡ intervals_in runs.old.items }
     ensures runs { AreRuns runs.new.items }
 {
-    let lower = runs[place].lowest(alloc, count)?;
+    let run = &runs[place];
+    if run.len() <= MOST {
+        return Ok(());
+    }
+    let count = HALF;
+    let lower = run.lowest(alloc, count)?;
     runs.insert(place, lower)?;
     runs[place + 1].drop_lowest(count);
     Ok(())
@@ -127,14 +142,11 @@ impl Known {
     {
         let alloc = *self.runs.allocator();
         if self.runs.is_empty() {
-            self.runs.push(Run::of(alloc, interval)?)?;
-            return Ok(());
+            return begin(alloc, &mut self.runs, interval);
         }
         let place = run_near(self.runs.as_slice(), interval.low, near.run);
         self.runs[place].insert(interval, near.place)?;
-        if MOST < self.runs[place].len() {
-            split(alloc, &mut self.runs, place, HALF)?;
-        }
+        split(alloc, &mut self.runs, place)?;
         Ok(())
     }
 

@@ -166,12 +166,9 @@ impl Search {
     {
         let terms = of.terms();
         let levels = empty_levels(alloc, terms.len())?;
-        let mut wanted = Vec::new(alloc);
-        wanted.push(of.bound())?;
-        let mut places = Vec::new(alloc);
-        places.push(START)?;
-        let mut sides = Vec::new(alloc);
-        sides.push(None)?;
+        let wanted = Vec::from_array(alloc, [of.bound()])?;
+        let places = Vec::from_array(alloc, [START])?;
+        let sides = Vec::from_array(alloc, [None])?;
         let left = weight_of(terms) - terms[0].weight();
         Ok(Search {
             levels,
@@ -188,6 +185,7 @@ impl Search {
         requires searching { IsSearching of.now self.now.levels.items self.now.wanted.items self.now.left }
         requires kept { IsKept of.now self.now.levels.items self.now.wanted.items self.now.sides.items self.now.last }
         requires some { 0 < length self.now.wanted.items }
+        requires fits { sum (coefs_of of.now.terms) < 2 ^ 100 }
         ensures { IsTop of.now self.now.levels.items self.now.wanted.items self.now.left result }
     {
         let place = self.wanted.as_slice().len() - 1;
@@ -233,7 +231,6 @@ impl Search {
         requires kept { IsKept of.now self.old.levels.items self.old.wanted.items self.old.sides.items self.old.last }
         requires top { IsTop of.now self.old.levels.items self.old.wanted.items self.old.left top }
         requires joined { IsJoined top.coef self.old.left (nodes_at self.old.levels.items (top.place + 1)) top.residue interval }
-        requires fits { sum (coefs_of of.now.terms) < 2 ^ 100 }
         ensures searching { OnOk result (IsSearching of.now self.new.levels.items self.new.wanted.items self.new.left) }
         ensures kept { OnOk result (IsKept of.now self.new.levels.items self.new.wanted.items self.new.sides.items self.new.last) }
         ensures advanced { OnOk result (Advanced true self.old.levels.items self.new.levels.items self.old.wanted.items self.new.wanted.items) }

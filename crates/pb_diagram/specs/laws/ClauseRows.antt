@@ -1,7 +1,7 @@
 -- The clauses of a diagram, one by one. It serves proofs alone.
-use Rattle.std.proofs.Common.{◌≡◌, ◌<◌, ◌≤◌, ◌+◌, ◌-◌, ℕ, ltb, leb, List, [], ◌∷◌, length, get_or, refl, sym, subst, arith, inl, inr, zero, suc}
+use Rattle.std.proofs.Common.{◌≡◌, ◌<◌, ◌≤◌, ◌+◌, ◌-◌, ℕ, ltb, leb, List, [], ◌∷◌, length, get_or, refl, subst, arith, zero, suc}
 use Rattle.std.specs.Prelude.{All}
-use Rattle.std.proofs.lemmas.Bool.{cases_lt, lt-ltb, le-ltb, le-leb, lt-leb, cond-true, cond-false}
+use Rattle.std.proofs.lemmas.Bool.{lt-ltb, le-ltb, lt-leb, ltb-true, ltb-false, leb-false, cond-true, cond-false, cond_both}
 use Rattle.std.proofs.lemmas.List.Elements.{All-cons, All-head, All-tail, All-nil, All-append}
 use Rattle.pb_base.specs.declared.literal.Lit.{Lit}
 use Rattle.pb_norm.specs.Constraints.{Weighted, weight}
@@ -43,18 +43,12 @@ node_row P t whole first next x g off on =
 from_row_off : (P : List Lit → Type 0) (t : Weighted) (whole first : ℕ) (next : List Interval) (x : ℕ) (g : Interval) → NodeRow P t whole first next x g → All P (false_clause whole first next x g)
 from_row_off P t whole first next x g row =
     let clause : List Lit = negated (positive_of x) ∷ node_at first next g.low ∷ [] in
-    elim (cases_lt g.low whole) as (λ _. All P (false_clause whole first next x g)) [
-      | inl below ↦ subst (λ (cs : List (List Lit)). All P cs) (sym (cond-false (leb whole g.low) [] (clause ∷ []) (lt-leb whole g.low below))) (All-cons P clause [] (row.off below) (All-nil P))
-      | inr above ↦ subst (λ (cs : List (List Lit)). All P cs) (sym (cond-true (leb whole g.low) [] (clause ∷ []) (le-leb whole g.low above))) (All-nil P)
-    ]
+    cond_both (leb whole g.low) [] (clause ∷ []) (λ cs. All P cs) (λ _. All-nil P) (λ fails. All-cons P clause [] (row.off (leb-false whole g.low fails)) (All-nil P))
 
 from_row_on : (P : List Lit → Type 0) (t : Weighted) (whole first : ℕ) (next : List Interval) (x : ℕ) (g : Interval) → NodeRow P t whole first next x g → P (true_clause t first next x g)
 from_row_on P t whole first next x g row =
     let child : List Lit = node_at first next (g.low - t.coef) ∷ [] in
-    elim (cases_lt g.low t.coef) as (λ _. P (true_clause t first next x g)) [
-      | inl below ↦ subst (λ (ls : List Lit). P (negated (positive_of x) ∷ negated t.lit ∷ ls)) (sym (cond-true (ltb g.low t.coef) [] child (lt-ltb g.low t.coef below))) (row.full below)
-      | inr above ↦ subst (λ (ls : List Lit). P (negated (positive_of x) ∷ negated t.lit ∷ ls)) (sym (cond-false (ltb g.low t.coef) [] child (le-ltb g.low t.coef above))) (row.on above)
-    ]
+    cond_both (ltb g.low t.coef) [] child (λ ls. P (negated (positive_of x) ∷ negated t.lit ∷ ls)) (λ passes. row.full (ltb-true g.low t.coef passes)) (λ fails. row.on (ltb-false g.low t.coef fails))
 
 level_rows : (P : List Lit → Type 0) (t : Weighted) (whole first : ℕ) (next : List Interval) (x : ℕ) (nodes : List Interval) → All P (level_clauses t whole first next x nodes) → LevelRows P t whole first next x nodes
 level_rows P t whole first next x [] all p g within is = absurd (omega arith)

@@ -1,6 +1,7 @@
 -- The derivation of a diagram runs from each ready database, and puts out the diagram's clauses.
 use Rattle.std.proofs.Common.{◌≡◌, ◌≢◌, ◌≤◌, ◌<◌, ◌+◌, ◌-◌, ◌*◌, ◌^◌, ℕ, Bool, true, false, cond, List, [], ◌∷◌, ◌++◌, length, map, refl, ap, sym, ◌∙◌, subst, arith, inl, inr}
 use Rattle.std.specs.Prelude.{All, if◌then◌else◌, nat_le, nat_lt}
+use Rattle.std.proofs.lemmas.Bool.{cond_both}
 use Rattle.std.proofs.lemmas.List.{map-append}
 use Rattle.std.proofs.lemmas.List.Elements.{All-nil, All-cons, All-append, All-head, All-tail, All-weaker, All-contains, All-map}
 use Rattle.pb_base.specs.declared.literal.Lit.{Lit}
@@ -19,10 +20,9 @@ use Rattle.pb_diagram.specs.declared.interval.Interval.{Interval}
 use Rattle.pb_diagram.specs.Clauses.{node_at, false_clause, true_clause, level_clauses, head_level, node_clauses, clauses_over, diagram_clauses, diagram_fresh, diagram_size}
 use Rattle.pb_diagram.specs.DiagramSteps.{node_reifications, Below, child_id, false_justifications, true_justification, level_justifications, below_of, node_justifications, top_justification, justifications_over, diagram_steps}
 use Rattle.pb_diagram.specs.Levels.{coefs_of, levels_of}
-use Rattle.pb_diagram.specs.laws.DiagramLaws.{diagram_counts, diagram_names}
+use Rattle.pb_diagram.specs.laws.DiagramLaws.{linked, diagram_counts, diagram_names}
 use Rattle.pb_diagram.specs.laws.DiagramJustifications.{diagram_justified}
-use Rattle.pb_diagram.specs.laws.LevelFacts.{levels_linked, levels_root}
-use Rattle.pb_diagram.specs.inner.Links.{AreLinked}
+use Rattle.pb_diagram.specs.laws.LevelFacts.{levels_root}
 use Rattle.pb_diagram.specs.laws.NodeReifications.{AreRising, levels_rise, length-nodes, nodes_row, nodes_reached}
 
 -- ---- the clauses
@@ -72,21 +72,14 @@ level_whole vars t ts next x id [] le h = All-nil (IsWhole vars)
 level_whole vars t ts next x id (g ∷ gs) le h =
     let off : Justification = record { clause = negated (positive_of x) ∷ node_at next.first next.nodes g.low ∷ []; ids = id ∷ child_id next g.low ∷ []; weakened = t.lit.var ∷ [] } in
     All-append (IsWhole vars) (false_justifications t (weight ts) next x id g) (true_justification t ts next x id g ∷ level_justifications t ts next (x + 1) (id + 2) gs)
-    (unless (nat_le (weight ts) g.low) off (record { some = some_ids id (child_id next g.low ∷ []); vars_known = All-cons (UpTo vars) t.lit.var [] le (All-nil (UpTo vars)) }))
+    (cond_both (nat_le (weight ts) g.low) [] (off ∷ []) (λ rs. All (IsWhole vars) rs) (λ _. All-nil (IsWhole vars))
+    (λ _. All-cons (IsWhole vars) off [] (record { some = some_ids id (child_id next g.low ∷ []); vars_known = All-cons (UpTo vars) t.lit.var [] le (All-nil (UpTo vars)) }) (All-nil (IsWhole vars))))
     (All-cons (IsWhole vars) (true_justification t ts next x id g) (level_justifications t ts next (x + 1) (id + 2) gs)
     (record {
       some = some_ids id (cond {A = List ℕ} (nat_lt g.low t.coef) [] (child_id next (g.low - t.coef) ∷ []));
-      vars_known = either (nat_lt g.low t.coef);
+      vars_known = cond_both (nat_lt g.low t.coef) (vars_of ts) [] (λ vs. All (UpTo vars) vs) (λ _. All-map (UpTo vars) (λ (w : Weighted). w.lit.var) ts h) (λ _. All-nil (UpTo vars));
     })
     (level_whole vars t ts next (x + 1) (id + 2) gs le h))
-  where
-    unless : (b : Bool) (r : Justification) → IsWhole vars r → All (IsWhole vars) (cond {A = List Justification} b [] (r ∷ []))
-    unless true r k = All-nil (IsWhole vars)
-    unless false r k = All-cons (IsWhole vars) r [] k (All-nil (IsWhole vars))
-
-    either : (b : Bool) → All (UpTo vars) (cond {A = List ℕ} b (vars_of ts) [])
-    either true = All-map (UpTo vars) (λ (w : Weighted). w.lit.var) ts h
-    either false = All-nil (UpTo vars)
 
 nodes_whole : (vars first id : ℕ) (ts : List Weighted) (levels : List (List Interval)) → All (λ w. w.lit.var ≤ vars) ts → All (IsWhole vars) (node_justifications first id ts levels)
 nodes_whole vars first id [] levels h = All-nil (IsWhole vars)
@@ -111,9 +104,6 @@ module _ (m : BoundedSum) where
   abbrev levels : List (List Interval)
   levels = levels_of m
 
-  pub linked : AreLinked m.terms (levels_of m)
-  linked = levels_linked m.bound [] m.terms
-
   pub rising : AreRising (levels_of m)
   rising = levels_rise m.bound [] (coefs_of m.terms)
 
@@ -121,7 +111,7 @@ module _ (m : BoundedSum) where
   clauses_are first id own = clauses-justifications (justifications_over ts levels first id own) ∙ justifications_clauses ts levels first id own
 
   pub count_reifications : (first : ℕ) → length (node_reifications first m.terms (levels_of m)) ≡ diagram_fresh m
-  count_reifications first = length-nodes first ts levels linked
+  count_reifications first = length-nodes first ts levels (linked m)
 
   -- three lines for each node, and two for each clause
   pub diagram_lines : (first own next : ℕ) → length (diagram_steps m first own next) ≤ 8 * (diagram_fresh m + diagram_size m)
@@ -139,7 +129,7 @@ module _ (m : BoundedSum) where
     sum_of = record { below = below; apart = apart_from_vars ts proper.distinct; positive = proper.positive; light = light }
 
     pub reifications_reached : All (IsReached first) (node_reifications first m.terms (levels_of m))
-    reifications_reached = nodes_reached first first ts levels linked rising sum_of
+    reifications_reached = nodes_reached first first ts levels (linked m) rising sum_of
 
     named_below : (l : Lit) → IsNamed m.terms first (diagram_fresh m) l → l.var < first + diagram_fresh m
     named_below l h =
@@ -162,5 +152,5 @@ module _ (m : BoundedSum) where
         (All-weaker (All (IsNamed ts first fresh)) (All N) (λ c h. All-weaker (IsNamed ts first fresh) N named_below c h) (diagram_clauses m first) (diagram_names m proper first))) in
         subst (λ (cs : List (List Lit)). Derives db (diagram_steps m first own db.next) cs (first + fresh)) (clauses_are first db.next own)
         (justified_derives m first fresh own db (node_reifications first ts levels) rs ready (nodes_row first ts levels) (count_reifications first) reifications_reached names (justifications_whole db.vars ts levels first db.next own up_to)
-        (λ K known held. diagram_justified K first db.next own m.bound ts levels linked rising (levels_root m.bound ts proper.heavy) (λ u h. All-contains (λ (w : Weighted). w.lit.var < first) ts u below h)
+        (λ K known held. diagram_justified K first db.next own m.bound ts levels (linked m) rising (levels_root m.bound ts proper.heavy) (λ u h. All-contains (λ (w : Weighted). w.lit.var < first) ts u below h)
         sum_of.apart proper.heavy light known held))

@@ -2,7 +2,7 @@
 use Rattle.std.proofs.Common.{◌≡◌, ◌≢◌, ◌≤◌, ◌<◌, ◌+◌, ◌-◌, ◌*◌, ◌^◌, ℕ, suc, Bool, true, cond, ltb, leb, List, [], ◌∷◌, length, get_or, refl, ap, sym, ◌∙◌, subst, arith, inl, inr}
 use Rattle.std.specs.Prelude.{Contains, All, map}
 use Rattle.std.specs.List.{position_or_len}
-use Rattle.std.proofs.lemmas.Bool.{cases_lt, lt-ltb, le-ltb, le-leb, lt-leb, cond-true, cond-false}
+use Rattle.std.proofs.lemmas.Bool.{cases_Bool, ltb-true, ltb-false, leb-false, cond_both}
 use Rattle.std.proofs.lemmas.List.Elements.{All-nil, All-cons, All-append, All-contains, All-contains_itself, All-map}
 use Rattle.pb_base.specs.declared.literal.Lit.{Lit}
 use Rattle.pb_base.specs.Literals.{negated, is_among}
@@ -17,7 +17,7 @@ use Rattle.pb_derive.specs.Reifications.{forward_of, reverse_of}
 use Rattle.pb_derive.specs.Justifications.{Justification}
 use Rattle.pb_derive.proofs.Justified.{IsJustified, ReificationsKnown}
 use Rattle.pb_derive.proofs.Opposites.{vars-opposite, weight-opposite}
-use Rattle.pb_derive.proofs.Fronts.{front_weakened, front_false, follows_rest, follows_alone, follows_top}
+use Rattle.pb_derive.proofs.Fronts.{Front, front_weakened, front_false, follows_rest, follows_alone, follows_top}
 use Rattle.pb_derive.proofs.Sides.{Side, side_fresh}
 use Rattle.pb_family.specs.Fresh.{positive_of}
 use Rattle.pb_family.proofs.ShortClauses.{first_among, second_among, third_among}
@@ -25,7 +25,7 @@ use Rattle.pb_diagram.specs.declared.interval.Interval.{Interval}
 use Rattle.pb_diagram.specs.Clauses.{node_at, head_level}
 use Rattle.pb_diagram.specs.DiagramSteps.{node_reification, node_reifications, Below, child_id, false_justifications, true_justification, level_justifications, below_of, node_justifications, top_justification, justifications_over}
 use Rattle.pb_diagram.specs.Levels.{lies_in}
-use Rattle.pb_diagram.specs.inner.Links.{Linked, AreLinked, IsRootNode}
+use Rattle.pb_diagram.specs.inner.Links.{Child, Linked, AreLinked, IsRootNode}
 use Rattle.pb_diagram.specs.laws.NodeReifications.{IsNodeAt, child_at, AreWithin, tops_within, AreRising, level_known, levels_known}
 
 -- of the next level, by what stands of it
@@ -57,70 +57,58 @@ pub record LevelHas (K : ℕ → Constraint → Type 0) (low : ℕ) (t : Weighte
   pub apart : AreApartTerms (t ∷ ts)
   pub light : t.coef + weight ts < 2 ^ 100
 
-off_justified : (K : ℕ → Constraint → Type 0) (low : ℕ) (t : Weighted) (ts : List Weighted) (next : Below) (x id : ℕ) (g : Interval) → LevelHas K low t ts next → NodeFacts K low t ts next x id g → g.low < weight ts
-    → IsJustified K (record { clause = negated (positive_of x) ∷ node_at next.first next.nodes g.low ∷ []; ids = id ∷ child_id next g.low ∷ []; weakened = t.lit.var ∷ [] })
-off_justified K low t ts next x id g level facts inner =
-    let child = facts.linked.off inner in
-    let p = position_or_len (lies_in g.low) next.nodes in
-    let f = node_at next.first next.nodes g.low in
-    let clause = negated (positive_of x) ∷ f ∷ [] in
+-- from a node's reification and that of a child, with a shift, which with what goes of the term is its coefficient
+child_justified : (K : ℕ → Constraint → Type 0) (low : ℕ) (t : Weighted) (ts : List Weighted) (next : Below) (x id : ℕ) (g : Interval) → LevelHas K low t ts next → NodeFacts K low t ts next x id g
+    → (residue shift gone : ℕ) → gone + shift ≡ t.coef → Child next.nodes residue shift g.top → (clause : List Lit) (vars : List ℕ) → Front clause (opposite t ∷ []) vars gone
+    → is_among clause (negated (positive_of x)) ≡ true → is_among clause (node_at next.first next.nodes residue) ≡ true → IsJustified K (record { clause = clause; ids = id ∷ child_id next residue ∷ []; weakened = vars })
+child_justified K low t ts next x id g level facts residue shift gone whole child clause vars front own among =
+    let p = position_or_len (lies_in residue) next.nodes in
     let m = node_reification x (t ∷ ts) g in
     let n = node_reification (next.first + p) ts child.interval in
-    let at = child_at next.nodes g.low 0 g.top child in
-    let top = level.within p child.interval at in
-    let ends = child.ends in
-    let above = level.above in
-    let mine = facts.above in
-    let own = level.below t (Contains-here t ts) in
-    let light = level.light in
-    let heavy = weight-both t ts in
-    let apart : (l : Lit) → Contains clause l → l.var ≡ t.lit.var → ⊥ = λ l h e.
-    elim (Contains-cons_cases (negated (positive_of x)) (f ∷ []) l h) as (λ _. ⊥) [
-      | inl same ↦ let is : x ≡ l.var = ap (λ (k : Lit). k.var) same in omega arith
-      | inr rest ↦ elim (Contains-cons_cases f [] l rest) as (λ _. ⊥) [
-        | inl same ↦ let is : next.first + p ≡ l.var = ap (λ (k : Lit). k.var) same in omega arith
-        | inr none ↦ Contains-nil l none
-      ]
-    ] in (
-      forward_of m ∷ reverse_of n ∷ [],
-      (facts.known, (level.known p child.interval at, tt)),
-      follows_rest clause (opposite t ∷ []) (map opposite ts) (weight (t ∷ ts) + 1 - g.top) t.coef (forward_of m ∷ []) (t.lit.var ∷ []) n
-          (node_side clause x (t ∷ ts) g facts.some (first_among (negated (positive_of x)) (f ∷ [])))
-          (front_weakened clause (opposite t) apart)
-          refl
-          (omega (arith, top, ends, weight-cons t ts))
-          (omega (arith, weight-opposite ts))
-          (second_among (negated (positive_of x)) f [])
-          (omega (arith, light, heavy))
-          (id ∷ child_id next g.low ∷ []),
-    )
-
-on_justified : (K : ℕ → Constraint → Type 0) (low : ℕ) (t : Weighted) (ts : List Weighted) (next : Below) (x id : ℕ) (g : Interval) → LevelHas K low t ts next → NodeFacts K low t ts next x id g → t.coef ≤ g.low
-    → IsJustified K (record { clause = negated (positive_of x) ∷ negated t.lit ∷ node_at next.first next.nodes (g.low - t.coef) ∷ []; ids = id ∷ child_id next (g.low - t.coef) ∷ []; weakened = [] })
-on_justified K low t ts next x id g level facts room =
-    let child = facts.linked.on room in
-    let p = position_or_len (lies_in (g.low - t.coef)) next.nodes in
-    let f = node_at next.first next.nodes (g.low - t.coef) in
-    let clause = negated (positive_of x) ∷ negated t.lit ∷ f ∷ [] in
-    let m = node_reification x (t ∷ ts) g in
-    let n = node_reification (next.first + p) ts child.interval in
-    let at = child_at next.nodes (g.low - t.coef) t.coef g.top child in
+    let at = child_at next.nodes residue shift g.top child in
     let top = level.within p child.interval at in
     let ends = child.ends in
     let light = level.light in
     let heavy = weight-both t ts in (
       forward_of m ∷ reverse_of n ∷ [],
       (facts.known, (level.known p child.interval at, tt)),
-      follows_rest clause (opposite t ∷ []) (map opposite ts) (weight (t ∷ ts) + 1 - g.top) 0 (forward_of m ∷ []) [] n
-          (node_side clause x (t ∷ ts) g facts.some (first_among (negated (positive_of x)) (negated t.lit ∷ f ∷ [])))
-          (front_false clause (opposite t) (second_among (negated (positive_of x)) (negated t.lit) (f ∷ [])))
+      follows_rest clause (opposite t ∷ []) (map opposite ts) (weight (t ∷ ts) + 1 - g.top) gone (forward_of m ∷ []) vars n
+          (node_side clause x (t ∷ ts) g facts.some own)
+          front
           refl
-          (omega (arith, top, ends, weight-cons t ts))
+          (omega (arith, top, ends, whole, weight-cons t ts))
           (omega (arith, weight-opposite ts))
-          (third_among (negated (positive_of x)) (negated t.lit) f [])
+          among
           (omega (arith, light, heavy))
-          (id ∷ child_id next (g.low - t.coef) ∷ []),
+          (id ∷ child_id next residue ∷ []),
     )
+
+off_justified : (K : ℕ → Constraint → Type 0) (low : ℕ) (t : Weighted) (ts : List Weighted) (next : Below) (x id : ℕ) (g : Interval) → LevelHas K low t ts next → NodeFacts K low t ts next x id g → g.low < weight ts
+    → IsJustified K (record { clause = negated (positive_of x) ∷ node_at next.first next.nodes g.low ∷ []; ids = id ∷ child_id next g.low ∷ []; weakened = t.lit.var ∷ [] })
+off_justified K low t ts next x id g level facts inner =
+    let f = node_at next.first next.nodes g.low in
+    let clause = negated (positive_of x) ∷ f ∷ [] in
+    let above = level.above in
+    let mine = facts.above in
+    let own = level.below t (Contains-here t ts) in
+    let apart : (l : Lit) → Contains clause l → l.var ≡ t.lit.var → ⊥ = λ l h e.
+    elim (Contains-cons_cases (negated (positive_of x)) (f ∷ []) l h) as (λ _. ⊥) [
+      | inl same ↦ let is : x ≡ l.var = ap (λ (k : Lit). k.var) same in omega arith
+      | inr rest ↦ elim (Contains-cons_cases f [] l rest) as (λ _. ⊥) [
+        | inl same ↦ let is : next.first + position_or_len (lies_in g.low) next.nodes ≡ l.var = ap (λ (k : Lit). k.var) same in omega arith
+        | inr none ↦ Contains-nil l none
+      ]
+    ] in
+    child_justified K low t ts next x id g level facts g.low 0 t.coef (omega arith) (facts.linked.off inner) clause (t.lit.var ∷ []) (front_weakened clause (opposite t) apart)
+    (first_among (negated (positive_of x)) (f ∷ [])) (second_among (negated (positive_of x)) f [])
+
+on_justified : (K : ℕ → Constraint → Type 0) (low : ℕ) (t : Weighted) (ts : List Weighted) (next : Below) (x id : ℕ) (g : Interval) → LevelHas K low t ts next → NodeFacts K low t ts next x id g → t.coef ≤ g.low
+    → IsJustified K (record { clause = negated (positive_of x) ∷ negated t.lit ∷ node_at next.first next.nodes (g.low - t.coef) ∷ []; ids = id ∷ child_id next (g.low - t.coef) ∷ []; weakened = [] })
+on_justified K low t ts next x id g level facts room =
+    let f = node_at next.first next.nodes (g.low - t.coef) in
+    let clause = negated (positive_of x) ∷ negated t.lit ∷ f ∷ [] in
+    child_justified K low t ts next x id g level facts (g.low - t.coef) t.coef 0 (omega arith) (facts.linked.on room) clause [] (front_false clause (opposite t) (second_among (negated (positive_of x)) (negated t.lit) (f ∷ [])))
+    (first_among (negated (positive_of x)) (negated t.lit ∷ f ∷ [])) (third_among (negated (positive_of x)) (negated t.lit) f [])
 
 -- a variable that the later terms do not have
 abbrev IsGone : ℕ → ℕ → ℕ → Type 0
@@ -166,11 +154,8 @@ full_justified K low t ts next x id g level facts less =
 false_justified : (K : ℕ → Constraint → Type 0) (low : ℕ) (t : Weighted) (ts : List Weighted) (next : Below) (x id : ℕ) (g : Interval) → LevelHas K low t ts next → NodeFacts K low t ts next x id g → All (IsJustified K) (false_justifications t (weight ts) next x id g)
 false_justified K low t ts next x id g level facts =
     let off : Justification = record { clause = negated (positive_of x) ∷ node_at next.first next.nodes g.low ∷ []; ids = id ∷ child_id next g.low ∷ []; weakened = t.lit.var ∷ [] } in
-    elim (cases_lt g.low (weight ts)) as (λ _. All (IsJustified K) (false_justifications t (weight ts) next x id g)) [
-      | inl below ↦ subst (λ (rs : List Justification). All (IsJustified K) rs) (sym (cond-false (leb (weight ts) g.low) [] (off ∷ []) (lt-leb (weight ts) g.low below)))
-          (All-cons (IsJustified K) off [] (off_justified K low t ts next x id g level facts below) (All-nil (IsJustified K)))
-      | inr above ↦ subst (λ (rs : List Justification). All (IsJustified K) rs) (sym (cond-true (leb (weight ts) g.low) [] (off ∷ []) (le-leb (weight ts) g.low above))) (All-nil (IsJustified K))
-    ]
+    cond_both (leb (weight ts) g.low) [] (off ∷ []) (λ rs. All (IsJustified K) rs) (λ _. All-nil (IsJustified K))
+    (λ fails. All-cons (IsJustified K) off [] (off_justified K low t ts next x id g level facts (leb-false (weight ts) g.low fails)) (All-nil (IsJustified K)))
 
 true_justified : (K : ℕ → Constraint → Type 0) (low : ℕ) (t : Weighted) (ts : List Weighted) (next : Below) (x id : ℕ) (g : Interval) → LevelHas K low t ts next → NodeFacts K low t ts next x id g → IsJustified K (true_justification t ts next x id g)
 true_justified K low t ts next x id g level facts =
@@ -180,9 +165,9 @@ true_justified K low t ts next x id g level facts =
       ids = id ∷ cond {A = List ℕ} b [] (child_id next (g.low - t.coef) ∷ []);
       weakened = cond {A = List ℕ} b (vars_of ts) [];
     } in
-    elim (cases_lt g.low t.coef) as (λ _. IsJustified K (justification (ltb g.low t.coef))) [
-      | inl below ↦ subst (λ (b : Bool). IsJustified K (justification b)) (sym (lt-ltb g.low t.coef below)) (full_justified K low t ts next x id g level facts below)
-      | inr above ↦ subst (λ (b : Bool). IsJustified K (justification b)) (sym (le-ltb g.low t.coef above)) (on_justified K low t ts next x id g level facts above)
+    elim (cases_Bool (ltb g.low t.coef)) as (λ _. IsJustified K (justification (ltb g.low t.coef))) [
+      | inl e ↦ subst (λ (b : Bool). IsJustified K (justification b)) (sym e) (full_justified K low t ts next x id g level facts (ltb-true g.low t.coef e))
+      | inr e ↦ subst (λ (b : Bool). IsJustified K (justification b)) (sym e) (on_justified K low t ts next x id g level facts (ltb-false g.low t.coef e))
     ]
 
 level_justified : (K : ℕ → Constraint → Type 0) (low : ℕ) (t : Weighted) (ts : List Weighted) (next : Below) (x id : ℕ) (gs : List Interval) → LevelHas K low t ts next

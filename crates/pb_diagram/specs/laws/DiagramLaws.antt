@@ -12,7 +12,7 @@ use Rattle.pb_diagram.specs.laws.LinkedExtends.{linked_extends}
 use Rattle.pb_diagram.specs.laws.LinkedCounts.{linked_counts, linked_names}
 use Rattle.pb_diagram.specs.laws.LinkedPropagates.{linked_sound, linked_propagates}
 
-linked : (m : BoundedSum) → AreLinked m.terms (levels_of m)
+pub linked : (m : BoundedSum) → AreLinked m.terms (levels_of m)
 linked m = levels_linked m.bound [] m.terms
 
 rooted : (m : BoundedSum) → IsProper m → IsRootNode m.bound (levels_of m)

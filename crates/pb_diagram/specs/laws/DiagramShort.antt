@@ -2,6 +2,7 @@
 use Rattle.std.proofs.Common.{◌≡◌, ◌≤◌, ◌<◌, ◌+◌, ◌-◌, ◌*◌, ◌^◌, ℕ, Bool, true, false, cond, not, List, [], ◌∷◌, length, map, ap, subst, arith}
 use Rattle.std.specs.Prelude.{All, nat_le, nat_lt}
 use Rattle.std.specs.List.{position_or_len}
+use Rattle.std.proofs.lemmas.Bool.{cond_both}
 use Rattle.std.proofs.lemmas.List.{length-map}
 use Rattle.std.proofs.lemmas.List.Elements.{All-nil, All-cons, All-append, All-head, All-tail, All-weaker, All-map}
 use Rattle.std.proofs.lemmas.List.Sums.{sum_by-cons, prefix_len-le-length}
@@ -52,19 +53,16 @@ child_is most next residue has =
 
 module _ (n most : ℕ) (t : Weighted) (ts : List Weighted) (next : Below) (has : HasIds most next) (own : IsVariable t.lit.var) (later : All (λ w. IsVariable w.lit.var) ts) (few : length ts + 1 ≤ n) where
   false_slim : (x id : ℕ) (g : Interval) → IsId id → All (IsSlimJustification n) (false_justifications t (weight ts) next x id g)
-  false_slim x id g is = by_test (nat_le (weight ts) g.low)
-    where
-      by_test : (b : Bool) → All (IsSlimJustification n) (cond {A = List Justification} b [] (record { clause = negated (positive_of x) ∷ node_at next.first next.nodes g.low ∷ []; ids = id ∷ child_id next g.low ∷ []; weakened = t.lit.var ∷ [] } ∷ []))
-      by_test true = All-nil (IsSlimJustification n)
-      by_test false =
-          All-cons (IsSlimJustification n) (record { clause = negated (positive_of x) ∷ node_at next.first next.nodes g.low ∷ []; ids = id ∷ child_id next g.low ∷ []; weakened = t.lit.var ∷ [] }) []
-          (record {
-            some = λ e. cc;
-            two = omega arith;
-            ids = two_ids id (child_id next g.low) is (child_is most next g.low has);
-            variables = All-cons IsVariable t.lit.var [] own (All-nil IsVariable);
-            few = omega (arith, few);
-          }) (All-nil (IsSlimJustification n))
+  false_slim x id g is =
+      let off : Justification = record { clause = negated (positive_of x) ∷ node_at next.first next.nodes g.low ∷ []; ids = id ∷ child_id next g.low ∷ []; weakened = t.lit.var ∷ [] } in
+      cond_both (nat_le (weight ts) g.low) [] (off ∷ []) (λ rs. All (IsSlimJustification n) rs) (λ _. All-nil (IsSlimJustification n)) (λ _. All-cons (IsSlimJustification n) off []
+      (record {
+        some = λ e. cc;
+        two = omega arith;
+        ids = two_ids id (child_id next g.low) is (child_is most next g.low has);
+        variables = All-cons IsVariable t.lit.var [] own (All-nil IsVariable);
+        few = omega (arith, few);
+      }) (All-nil (IsSlimJustification n)))
 
   true_slim : (x id : ℕ) (g : Interval) → IsId id → IsSlimJustification n (true_justification t ts next x id g)
   true_slim x id g is = by_test (nat_lt g.low t.coef)

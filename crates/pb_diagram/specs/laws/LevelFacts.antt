@@ -1,10 +1,11 @@
 -- What the nodes of a level are, and how they are linked to those of the next. It serves proofs alone.
-use Rattle.std.proofs.Common.{◌≡◌, ◌<◌, ◌≤◌, ◌+◌, ◌-◌, ◌&&◌, ℕ, Bool, true, false, ltb, leb, List, [], ◌∷◌, length, get_or, refl, sym, ap, ◌∙◌, subst, arith, inl, inr}
+use Rattle.std.proofs.Common.{◌≡◌, ◌<◌, ◌≤◌, ◌+◌, ◌-◌, ◌&&◌, ℕ, Bool, true, ltb, leb, List, [], ◌∷◌, length, get_or, refl, sym, ap, ◌∙◌, subst, arith, inl, inr}
 use Rattle.std.specs.Prelude.{Contains, map, sum}
 use Rattle.std.specs.List.{filter, list_any, position_or_len}
-use Rattle.std.proofs.lemmas.Bool.{cases_Bool, cases_lt, lt-ltb, le-leb, ltb-true, leb-true, both_ways, and_parts, and_from, or_left, or_right, cond-true, cond-false}
+use Rattle.std.proofs.lemmas.Bool.{cases_lt, lt-ltb, le-leb, ltb-true, leb-true, both_ways, and_parts, and_from, cond_both}
 use Rattle.std.proofs.lemmas.List.{get_or_default}
 use Rattle.std.proofs.lemmas.List.Elements.{Contains-get_or}
+use Rattle.std.proofs.lemmas.List.Folds.{list_any-from_Any}
 use Rattle.std.proofs.lemmas.List.Sums.{passes_at_first, fails_before_first, sum-map}
 use Rattle.pb_norm.specs.Constraints.{Weighted, weight}
 use Rattle.pb_base.proofs.Members.{Contains-nil, Contains-here, Contains-there, Contains-cons_cases}
@@ -133,27 +134,14 @@ intervals_apart (x ∷ ss) up = intervals_after_apart x ss up
 
 -- ---- what passes a test
 
-filter-cons_true : (p : Interval → Bool) (g : Interval) (gs : List Interval) → p g ≡ true → filter p (g ∷ gs) ≡ g ∷ filter p gs
-filter-cons_true p g gs h = cond-true (p g) (g ∷ filter p gs) (filter p gs) h
-
-filter-cons_false : (p : Interval → Bool) (g : Interval) (gs : List Interval) → p g ≡ false → filter p (g ∷ gs) ≡ filter p gs
-filter-cons_false p g gs h = cond-false (p g) (g ∷ filter p gs) (filter p gs) h
-
 filter_apart : (p : Interval → Bool) (gs : List Interval) → AreApart gs → AreApart (filter p gs)
 filter_apart p [] apart = tt
 filter_apart p (g ∷ gs) apart =
-    elim (cases_Bool (p g)) as (λ _. AreApart (filter p (g ∷ gs))) [
-      | inl passes ↦ subst AreApart (sym (filter-cons_true p g gs passes)) ((λ h among. apart.0 h (Contains-filter_cases p gs h among).0), filter_apart p gs apart.1)
-      | inr fails ↦ subst AreApart (sym (filter-cons_false p g gs fails)) (filter_apart p gs apart.1)
-    ]
+    let rest = filter_apart p gs apart.1 in
+    cond_both (p g) (g ∷ filter p gs) (filter p gs) AreApart (λ _. ((λ h among. apart.0 h (Contains-filter_cases p gs h among).0), rest)) (λ _. rest)
 
 to_any : (p : ℕ → Bool) (xs : List ℕ) (x : ℕ) → Contains xs x → p x ≡ true → list_any p xs ≡ true
-to_any p [] x h passes = absurd (Contains-nil x h)
-to_any p (y ∷ ys) x h passes =
-    elim (Contains-cons_cases y ys x h) as (λ _. list_any p (y ∷ ys) ≡ true) [
-      | inl e ↦ or_left (p y) (list_any p ys) (ap p e ∙ passes)
-      | inr later ↦ or_right (p y) (list_any p ys) (to_any p ys x later passes)
-    ]
+to_any p xs x h passes = list_any-from_Any p xs (h.0, x, h.1, h.2, passes)
 
 -- ---- the nodes of a level
 

@@ -1,22 +1,23 @@
 -- The reification of the nodes, under which the clauses hold. It serves proofs alone.
 use Rattle.std.proofs.Common.{◌≡◌, ◌<◌, ◌≤◌, ◌+◌, ◌-◌, ℕ, Bool, true, false, cond, ltb, List, [], ◌∷◌, length, get_or, sym, ap, ◌∙◌, arith}
 use Rattle.std.specs.Prelude.{Contains}
-use Rattle.std.proofs.lemmas.Bool.{lt-ltb, le-ltb, ltb-true, or_left, cond-true, cond-false}
+use Rattle.std.proofs.lemmas.Bool.{lt-ltb, le-ltb, ltb-true, or_left, not_from_false, false_from_ne_true, cond-true, cond-false}
 use Rattle.std.proofs.lemmas.List.Elements.{All-cons, All-nil, All-append, All-contains}
 use Rattle.std.proofs.lemmas.List.{get_or_default}
 use Rattle.pb_norm.specs.Constraints.{Weighted, value}
 use Rattle.pb_norm.proofs.AdditionValues.{value-cons}
-use Rattle.pb_base.specs.Literals.{lit_value, clause_value, IsModel, AgreeBelow}
+use Rattle.pb_base.specs.Literals.{negated, lit_value, clause_value, IsModel, AgreeBelow}
 use Rattle.pb_family.specs.Fresh.{positive_of}
+use Rattle.pb_base.proofs.LiteralLemmas.{lit_value-negated}
 use Rattle.pb_base.proofs.Members.{Contains-here, Contains-there}
 use Rattle.pb_family.specs.Families.{VarsBelow}
-use Rattle.pb_family.proofs.ShortClauses.{when_one}
+use Rattle.pb_family.proofs.ShortClauses.{when_one, when_two}
 use Rattle.pb_family.proofs.Extended.{extended, extended_below, extended_fresh, extended_literal}
 use Rattle.pb_diagram.specs.declared.interval.Interval.{Interval}
 use Rattle.pb_diagram.specs.Clauses.{node_at, head_level, node_clauses, clauses_over}
 use Rattle.pb_diagram.specs.inner.Links.{AreLinked, IsRootNode}
 use Rattle.pb_diagram.specs.laws.ClauseRows.{NodeRows, from_node_rows}
-use Rattle.pb_diagram.specs.laws.LinkedNodes.{place, linked_at, rest_from, value-cons_true}
+use Rattle.pb_diagram.specs.laws.LinkedNodes.{place, linked_at, value-cons_true}
 
 -- whether the rest's sum is below the end of a node, by the node's number
 below_end : (ℕ → Bool) → List Weighted → List (List Interval) → ℕ → Bool
@@ -72,17 +73,17 @@ rows_hold v w first (t ∷ ts) (nodes ∷ levels) linked same means =
                 let ends = child.ends in
                 let one = value-cons v t ts in
                 later (place g.low next) ∙ below_end_child v ts levels linked.1 (place g.low next) child.interval child.within child.is (omega arith));
-            on = λ room. rest_from w x t.lit (node_at start next (g.low - t.coef) ∷ []) (λ up on.
+            on = λ room. when_two w x t.lit (node_at start next (g.low - t.coef)) (λ up on.
                 let child = links.on room in
                 let less = true_below up in
                 let ends = child.ends in
                 let sum = on_true on in
-                or_left (w (start + place (g.low - t.coef) next)) false (later (place (g.low - t.coef) next) ∙ below_end_child v ts levels linked.1 (place (g.low - t.coef) next) child.interval child.within child.is (omega arith)));
-            full = λ full. rest_from w x t.lit [] (λ up on.
+                later (place (g.low - t.coef) next) ∙ below_end_child v ts levels linked.1 (place (g.low - t.coef) next) child.interval child.within child.is (omega arith));
+            full = λ full. when_one w x (negated t.lit) (λ up. lit_value-negated w t.lit ∙ not_from_false (lit_value w t.lit) (false_from_ne_true (lit_value w t.lit) (λ on.
                 let ends = links.full full in
                 let less = true_below up in
                 let sum = on_true on in
-                absurd (omega arith));
+                omega arith)));
           }),
       rest,
     )

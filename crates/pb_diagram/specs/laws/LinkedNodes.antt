@@ -1,12 +1,10 @@
 -- Linked nodes, their clauses and the sums of their terms. It serves proofs alone.
-use Rattle.std.proofs.Common.{◌≡◌, ◌<◌, ◌≤◌, ◌+◌, ◌||◌, ℕ, Bool, true, false, cond, not, List, [], ◌∷◌, length, get_or, refl, ap, ◌∙◌, subst, arith}
+use Rattle.std.proofs.Common.{◌≡◌, ◌<◌, ◌≤◌, ◌+◌, ℕ, Bool, true, cond, List, [], ◌∷◌, length, get_or, ap, ◌∙◌, subst, arith}
 use Rattle.std.specs.List.{position_or_len}
 use Rattle.std.proofs.lemmas.List.Sums.{sum_by-cons}
-use Rattle.pb_base.specs.declared.literal.Lit.{Lit}
 use Rattle.pb_norm.specs.Constraints.{Weighted, value, weight}
 use Rattle.pb_norm.proofs.AdditionValues.{value-cons}
-use Rattle.pb_base.specs.Literals.{negated, lit_value, clause_value}
-use Rattle.pb_base.proofs.LiteralLemmas.{lit_value-negated}
+use Rattle.pb_base.specs.Literals.{lit_value}
 use Rattle.pb_diagram.specs.declared.interval.Interval.{Interval}
 use Rattle.pb_diagram.specs.Levels.{lies_in}
 use Rattle.pb_diagram.specs.Clauses.{head_level, node_count}
@@ -22,16 +20,6 @@ linked_at t ts nodes levels linked p g within is = subst (λ (h : Interval). Lin
 pub head_le : (levels : List (List Interval)) → length (head_level levels) ≤ node_count levels
 head_le [] = omega arith
 head_le (nodes ∷ levels) = omega (arith, sum_by-cons (length {A = Interval}) nodes levels)
-
--- ---- clauses
-
-both_imply_from : (a b c : Bool) → (a ≡ true → b ≡ true → c ≡ true) → (not a || (not b || c)) ≡ true
-both_imply_from true true c h = h refl refl
-both_imply_from true false c h = refl
-both_imply_from false b c h = refl
-
-pub rest_from : (v : ℕ → Bool) (a b : Lit) (rest : List Lit) → (lit_value v a ≡ true → lit_value v b ≡ true → clause_value v rest ≡ true) → clause_value v (negated a ∷ negated b ∷ rest) ≡ true
-rest_from v a b rest h = rw (lit_value-negated v a, lit_value-negated v b) (both_imply_from (lit_value v a) (lit_value v b) (clause_value v rest) h)
 
 -- ---- sums
 

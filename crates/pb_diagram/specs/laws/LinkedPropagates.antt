@@ -1,5 +1,5 @@
 -- What unit propagation derives from the clauses of linked nodes, and what follows from that. It serves proofs alone.
-use Rattle.std.proofs.Common.{◌≡◌, ◌<◌, ◌≤◌, ◌+◌, ◌-◌, ℕ, Bool, true, false, cond, List, [], ◌∷◌, length, get_or, refl, sym, ap, subst, arith, inl, inr}
+use Rattle.std.proofs.Common.{◌≡◌, ◌<◌, ◌≤◌, ◌+◌, ◌-◌, ℕ, Bool, true, cond, List, [], ◌∷◌, length, get_or, refl, sym, ap, subst, arith, inl, inr}
 use Rattle.std.specs.Prelude.{Contains, All}
 use Rattle.std.proofs.lemmas.Bool.{cases_lt}
 use Rattle.std.proofs.lemmas.List.Elements.{All-head, All-contains_itself}
@@ -13,7 +13,7 @@ use Rattle.pb_norm.specs.BoundedSums.{BoundedSum, StaysWithin, IsOverDistinct}
 use Rattle.pb_norm.specs.ClausePropagation.{ClausesPropagate}
 use Rattle.pb_norm.proofs.Derived.{Derived, Refuted, first_of_two, second_of}
 use Rattle.pb_norm.proofs.Derived.Derived.{by_given}
-use Rattle.pb_norm.proofs.BoundedForcing.{given_sum-cons_given, given_sum-cons_new, given_sum}
+use Rattle.pb_norm.proofs.BoundedForcing.{cond_le, given_sum-cons_given, given_sum-cons_new, given_sum}
 use Rattle.pb_family.specs.Fresh.{positive_of}
 use Rattle.pb_family.proofs.ShortClauses.{left_over, derived_left, twice}
 use Rattle.pb_family.proofs.Models.{sound_from_sums}
@@ -38,18 +38,14 @@ module _ (cs : List (List Lit)) (given : List Lit) (a b c : Lit) (listed : Conta
 
 -- ---- the given sum
 
-cond_within : (b : Bool) (n : ℕ) → cond b n 0 ≤ n
-cond_within true n = omega arith
-cond_within false n = omega arith
-
 given_sum-le : (given : List Lit) (ts : List Weighted) → given_sum given ts ≤ weight ts
-given_sum-le given ts = sum_by-le-sum_by (λ (t : Weighted). cond (is_among given t.lit) t.coef 0) (λ (t : Weighted). t.coef) ts (λ t. cond_within (is_among given t.lit) t.coef)
+given_sum-le given ts = sum_by-le-sum_by (λ (t : Weighted). cond (is_among given t.lit) t.coef 0) (λ (t : Weighted). t.coef) ts (λ t. cond_le (is_among given t.lit) true t.coef (λ _. refl))
 
 -- a term that is not given has room beside those that are
 given_sum-le_without : (given : List Lit) (u : Weighted) → ¬ Contains given u.lit → (ts : List Weighted) → Contains ts u → given_sum given ts + u.coef ≤ weight ts
 given_sum-le_without given u new ts inside =
     let none : cond (is_among given u.lit) u.coef 0 ≡ 0 = ap (λ (b : Bool). cond b u.coef 0) (not_among_from given u.lit new) in
-    sum_by_gap (λ (t : Weighted). cond (is_among given t.lit) t.coef 0) (λ (t : Weighted). t.coef) ts u u.coef (λ t. cond_within (is_among given t.lit) t.coef) inside (omega arith)
+    sum_by_gap (λ (t : Weighted). cond (is_among given t.lit) t.coef 0) (λ (t : Weighted). t.coef) ts u u.coef (λ t. cond_le (is_among given t.lit) true t.coef (λ _. refl)) inside (omega arith)
 
 -- ---- from node to node
 

@@ -120,59 +120,53 @@ sum_tail low t ts h =
       light = omega arith;
     }
 
-level_reached : (low var : ℕ) (ts : List Weighted) (gs : List Interval) → IsSum low ts → ((g : Interval) → Contains gs g → (1 ≤ g.top) × (g.top ≤ weight ts)) → All (IsReached low) (level_reifications var ts gs)
-level_reached low var ts [] sum each = All-nil (IsReached low)
-level_reached low var ts (g ∷ gs) sum each =
-    let own = each g (Contains-here g gs) in
-    let bounds = own.1 in
-    let some = own.0 in
+node_reached : (low var : ℕ) (ts : List Weighted) (g : Interval) → IsSum low ts → 1 ≤ g.top → g.top ≤ weight ts → IsReached low (node_reification var ts g)
+node_reached low var ts g sum some top =
     let light = sum.light in
     let same = weight-opposite ts in
-    All-cons (IsReached low) (node_reification var ts g) (level_reifications (var + 1) ts gs)
-    (record {
+    record {
       below = All-map (λ (t : Weighted). t.lit.var < low) opposite ts sum.below;
       apart = AllPairs-map (λ (u v : Weighted). u.lit.var ≢ v.lit.var) (λ (u v : Weighted). u.lit.var ≢ v.lit.var) opposite (λ u v h. h) ts sum.apart;
       positive = All-map (λ (t : Weighted). 0 < t.coef) opposite ts sum.positive;
       some = omega arith;
       reached = omega arith;
       light = omega arith;
-    })
-    (level_reached low (var + 1) ts gs sum (λ h m. each h (Contains-there g gs h m)))
+    }
+
+-- ---- what holds of each
+
+level_each : (Q : Reification → Type 0) (var : ℕ) (ts : List Weighted) (gs : List Interval) → ((v : ℕ) (g : Interval) → Contains gs g → Q (node_reification v ts g)) → All Q (level_reifications var ts gs)
+level_each Q var ts [] each = All-nil Q
+level_each Q var ts (g ∷ gs) each =
+    All-cons Q (node_reification var ts g) (level_reifications (var + 1) ts gs) (each var g (Contains-here g gs)) (level_each Q (var + 1) ts gs (λ v h m. each v h (Contains-there g gs h m)))
+
+-- by what holds of the terms and the levels from each level on
+nodes_each : (Q : Reification → Type 0) (H : List Weighted → List (List Interval) → Type 0)
+    → ((t : Weighted) (ts : List Weighted) (nodes : List Interval) (levels : List (List Interval)) → H (t ∷ ts) (nodes ∷ levels) → H ts levels × ((v : ℕ) (g : Interval) → Contains nodes g → Q (node_reification v (t ∷ ts) g)))
+    → (first : ℕ) (ts : List Weighted) (levels : List (List Interval)) → H ts levels → All Q (node_reifications first ts levels)
+nodes_each Q H step first [] levels h = All-nil Q
+nodes_each Q H step first (t ∷ ts) [] h = All-nil Q
+nodes_each Q H step first (t ∷ ts) (nodes ∷ levels) h =
+    let next = step t ts nodes levels h in
+    All-append Q (level_reifications first (t ∷ ts) nodes) (node_reifications (first + length nodes) ts levels) (level_each Q first (t ∷ ts) nodes next.1) (nodes_each Q H step (first + length nodes) ts levels next.0)
 
 pub nodes_reached : (low first : ℕ) (ts : List Weighted) (levels : List (List Interval)) → AreLinked ts levels → AreRising levels → IsSum low ts → All (IsReached low) (node_reifications first ts levels)
-nodes_reached low first [] levels linked rising sum = All-nil (IsReached low)
-nodes_reached low first (t ∷ ts) [] linked rising sum = All-nil (IsReached low)
-nodes_reached low first (t ∷ ts) (nodes ∷ levels) linked rising sum =
-    All-append (IsReached low) (level_reifications first (t ∷ ts) nodes) (node_reifications (first + length nodes) ts levels)
-    (level_reached low first (t ∷ ts) nodes sum (λ g h.
-    let up = rising.0 g h in
-    let top = tops_within (t ∷ ts) (nodes ∷ levels) linked h.0 g (h.1, h.2) in
-    (omega arith, top)))
-    (nodes_reached low (first + length nodes) ts levels linked.1 rising.1 (sum_tail low t ts sum))
-
--- ---- their terms
+nodes_reached low first ts levels linked rising sum =
+    nodes_each (IsReached low) (λ us ls. AreLinked us ls × AreRising ls × IsSum low us)
+    (λ t us nodes ls h. (
+      (h.0.1, h.1.1, sum_tail low t us h.2),
+      (λ v g m.
+          let up = h.1.0 g m in
+          node_reached low v (t ∷ us) g h.2 (omega arith) (tops_within (t ∷ us) (nodes ∷ ls) h.0 m.0 g (m.1, m.2))),
+    ))
+    first ts levels (linked, rising, sum)
 
 -- what holds of each term holds of those of each reification
-level_terms : (P : Weighted → Type 0) (var : ℕ) (ts : List Weighted) (gs : List Interval) → All (λ t. P (opposite t)) ts → All (λ m. All P m.sum) (level_reifications var ts gs)
-level_terms P var ts [] h = All-nil (λ (m : Reification). All P m.sum)
-level_terms P var ts (g ∷ gs) h = All-cons (λ (m : Reification). All P m.sum) (node_reification var ts g) (level_reifications (var + 1) ts gs) (All-map P opposite ts h) (level_terms P (var + 1) ts gs h)
-
 pub nodes_terms : (P : Weighted → Type 0) (first : ℕ) (ts : List Weighted) (levels : List (List Interval)) → All (λ t. P (opposite t)) ts → All (λ m. All P m.sum) (node_reifications first ts levels)
-nodes_terms P first [] levels h = All-nil (λ (m : Reification). All P m.sum)
-nodes_terms P first (t ∷ ts) [] h = All-nil (λ (m : Reification). All P m.sum)
-nodes_terms P first (t ∷ ts) (nodes ∷ levels) h =
-    All-append (λ (m : Reification). All P m.sum) (level_reifications first (t ∷ ts) nodes) (node_reifications (first + length nodes) ts levels)
-    (level_terms P first (t ∷ ts) nodes h) (nodes_terms P (first + length nodes) ts levels (All-tail (λ (t : Weighted). P (opposite t)) t ts h))
+nodes_terms P first ts levels h =
+    nodes_each (λ m. All P m.sum) (λ us ls. All (λ t. P (opposite t)) us) (λ t us nodes ls k. (All-tail (λ (u : Weighted). P (opposite u)) t us k, (λ v g m. All-map P opposite (t ∷ us) k))) first ts levels h
 
 -- a reification's sum is of no more terms than the whole
-level_few : (n var : ℕ) (ts : List Weighted) (gs : List Interval) → length ts ≤ n → All (λ m. length m.sum ≤ n) (level_reifications var ts gs)
-level_few n var ts [] h = All-nil (λ (m : Reification). length m.sum ≤ n)
-level_few n var ts (g ∷ gs) h =
-    All-cons (λ (m : Reification). length m.sum ≤ n) (node_reification var ts g) (level_reifications (var + 1) ts gs) (omega (arith, length-map ts opposite, h)) (level_few n (var + 1) ts gs h)
-
 pub nodes_few : (n first : ℕ) (ts : List Weighted) (levels : List (List Interval)) → length ts ≤ n → All (λ m. length m.sum ≤ n) (node_reifications first ts levels)
-nodes_few n first [] levels h = All-nil (λ (m : Reification). length m.sum ≤ n)
-nodes_few n first (t ∷ ts) [] h = All-nil (λ (m : Reification). length m.sum ≤ n)
-nodes_few n first (t ∷ ts) (nodes ∷ levels) h =
-    All-append (λ (m : Reification). length m.sum ≤ n) (level_reifications first (t ∷ ts) nodes) (node_reifications (first + length nodes) ts levels)
-    (level_few n first (t ∷ ts) nodes h) (nodes_few n (first + length nodes) ts levels (omega (arith, h)))
+nodes_few n first ts levels h =
+    nodes_each (λ m. length m.sum ≤ n) (λ us ls. length us ≤ n) (λ t us nodes ls k. (omega (arith, k), (λ v g m. omega (arith, length-map (t ∷ us) opposite, k)))) first ts levels h

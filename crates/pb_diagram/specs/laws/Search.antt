@@ -116,25 +116,6 @@ pub record IsKept (c : BoundedSum) (known : List (List Interval)) (wanted : List
   pub offs : (i : ℕ) → i < length wanted → IsSideAt c known wanted i (slice_index_or sides i None)
   pub among : IfSome last (Contains (nodes_at known (length wanted)))
 
--- the last residue that is wanted, with its level, and what holds there
-pub record IsTop (c : BoundedSum) (known : List (List Interval)) (wanted : List ℕ) (left : ℕ) (top : Top) : Type 0 where
-  pub depth : top.place + 1 ≡ length wanted
-  pub residue_is : top.residue ≡ slice_index wanted top.place
-  pub coef_is : top.coef ≡ slice_index (coefs_of c.terms) top.place
-  pub within : top.place < length c.terms
-  pub listed : top.place < length known
-  pub apart : AreApart (nodes_at known top.place)
-  pub rise : (h : Interval) → Contains (nodes_at known top.place) h → h.low < h.top
-  pub next_apart : AreApart (nodes_at known (top.place + 1))
-  pub next_within : (h : Interval) → Contains (nodes_at known (top.place + 1)) h → (h.low ≤ left) × (h.top ≤ left)
-  pub fits : left + top.coef ≤ sum (coefs_of c.terms)
-  pub off_is : IfSome top.off (IsOff top.coef left (nodes_at known (top.place + 1)) top.residue)
-  pub among : IfSome top.last (Contains (nodes_at known (top.place + 1)))
-
--- the nodes of all levels, which are not more than a budget
-abbrev pub AreAllNodes : BoundedSum → ℕ → List (List Interval) → Type 0
-AreAllNodes c budget known = (known ≡ levels_of c) × (node_count (levels_of c) ≤ budget)
-
 -- what a look at the last residue rests on: what is known of the next level, whose terms add up to a number, and what was kept
 pub record IsSeen (known : List (List Interval)) (whole : ℕ) (top : Top) : Type 0 where
   pub apart : AreApart (nodes_at known (top.place + 1))
@@ -143,6 +124,18 @@ pub record IsSeen (known : List (List Interval)) (whole : ℕ) (top : Top) : Typ
   pub within : (h : Interval) → Contains (nodes_at known (top.place + 1)) h → (h.low ≤ whole) × (h.top ≤ whole)
   pub kept : IfSome top.off (IsOff top.coef whole (nodes_at known (top.place + 1)) top.residue)
   pub among : IfSome top.last (Contains (nodes_at known (top.place + 1)))
+
+-- the last residue that is wanted, with its level, and what a look at it rests on
+pub record IsTop (c : BoundedSum) (known : List (List Interval)) (wanted : List ℕ) (left : ℕ) (top : Top) : Type 0 where
+  pub depth : top.place + 1 ≡ length wanted
+  pub residue_is : top.residue ≡ slice_index wanted top.place
+  pub coef_is : top.coef ≡ slice_index (coefs_of c.terms) top.place
+  pub within : top.place < length c.terms
+  pub seen : IsSeen known left top
+
+-- the nodes of all levels, which are not more than a budget
+abbrev pub AreAllNodes : BoundedSum → ℕ → List (List Interval) → Type 0
+AreAllNodes c budget known = (known ≡ levels_of c) × (node_count (levels_of c) ≤ budget)
 
 -- one more node is known and one residue less is wanted, or one more is wanted
 pub record Advanced (joined : Bool) (known more : List (List Interval)) (wanted now : List ℕ) : Type 0 where

@@ -1,7 +1,8 @@
 -- The sums of the parts of a list: which they are, and that they ascend. It serves proofs alone.
-use Rattle.std.proofs.Common.{◌≡◌, ◌<◌, ◌≤◌, ◌+◌, ◌⊎◌, ℕ, cond, ltb, List, [], ◌∷◌, sym, ◌∙◌, subst, arith, inl, inr}
+use Rattle.std.proofs.Common.{◌≡◌, ◌<◌, ◌≤◌, ◌+◌, ◌⊎◌, ℕ, cond, ltb, List, [], ◌∷◌, get_or, refl, sym, subst, arith, inl, inr}
 use Rattle.std.specs.Prelude.{Contains, map, sum}
-use Rattle.std.proofs.lemmas.Bool.{cases_order, lt-ltb, le-ltb, cond-true, cond-false}
+use Rattle.std.proofs.lemmas.Bool.{ltb-true, ltb-false, cond_both}
+use Rattle.std.proofs.lemmas.List.Elements.{All-contains, All-map, Contains-get_or}
 use Rattle.std.proofs.lemmas.List.Sums.{sum_by-cons}
 use Rattle.pb_base.proofs.Members.{Contains-nil, Contains-here, Contains-there, Contains-cons_cases, Contains-map}
 use Rattle.pb_diagram.specs.Sums.{with_sum, merged, sums}
@@ -12,21 +13,6 @@ Ascends [] = Unit {0}
 Ascends (x ∷ xs) = ((y : ℕ) → Contains xs y → x < y) × Ascends xs
 
 -- ---- one more number
-
--- the three cases of an insertion
-record Inserted (s x : ℕ) (xs : List ℕ) : Type 0 where
-  before : s < x → with_sum s (x ∷ xs) ≡ s ∷ x ∷ xs
-  after : x < s → with_sum s (x ∷ xs) ≡ x ∷ with_sum s xs
-  there : s ≡ x → with_sum s (x ∷ xs) ≡ x ∷ xs
-
-inserted : (s x : ℕ) (xs : List ℕ) → Inserted s x xs
-inserted s x xs =
-    let other : List ℕ = cond (ltb x s) (x ∷ with_sum s xs) (x ∷ xs) in
-    record {
-      before = λ h. cond-true (ltb s x) (s ∷ x ∷ xs) other (lt-ltb s x h);
-      after = λ h. cond-false (ltb s x) (s ∷ x ∷ xs) other (le-ltb s x (omega arith)) ∙ cond-true (ltb x s) (x ∷ with_sum s xs) (x ∷ xs) (lt-ltb x s h);
-      there = λ e. cond-false (ltb s x) (s ∷ x ∷ xs) other (le-ltb s x (omega arith)) ∙ cond-false (ltb x s) (x ∷ with_sum s xs) (x ∷ xs) (le-ltb x s (omega arith));
-    }
 
 record WithSum (s : ℕ) (xs ys : List ℕ) : Type 0 where
   here : Contains ys s
@@ -42,56 +28,54 @@ with_sum_is s [] = record {
   ascends = λ a. ((λ y h. absurd (Contains-nil y h)), tt);
 }
 with_sum_is s (x ∷ xs) =
-    let all = inserted s x xs in
-    elim (cases_order s x) as (λ _. WithSum s (x ∷ xs) (with_sum s (x ∷ xs))) [
-      | inl same ↦ subst (λ (ys : List ℕ). WithSum s (x ∷ xs) ys) (sym (all.there same)) (record {
-        here = subst (λ (n : ℕ). Contains (x ∷ xs) n) (sym same) (Contains-here x xs);
-        keeps = λ y h. h;
-        cases = λ y h. inr h;
-        ascends = λ a. a;
-      })
-      | inr apart ↦ elim apart as (λ _. WithSum s (x ∷ xs) (with_sum s (x ∷ xs))) [
-        | inl before ↦ subst (λ (ys : List ℕ). WithSum s (x ∷ xs) ys) (sym (all.before before)) (record {
-          here = Contains-here s (x ∷ xs);
-          keeps = λ y h. Contains-there s (x ∷ xs) y h;
-          cases = λ y h. Contains-cons_cases s (x ∷ xs) y h;
-          ascends = λ a. (
-            (λ y h.
-                elim (Contains-cons_cases x xs y h) as (λ _. s < y) [
-                  | inl e ↦ omega arith
-                  | inr later ↦ let above = a.0 y later in omega arith
-                ]),
-            a,
-          );
-        })
-        | inr after ↦
-            let rest = with_sum_is s xs in
-            subst (λ (ys : List ℕ). WithSum s (x ∷ xs) ys) (sym (all.after after)) (record {
-              here = Contains-there x (with_sum s xs) s rest.here;
-              keeps = λ y h.
-                  elim (Contains-cons_cases x xs y h) as (λ _. Contains (x ∷ with_sum s xs) y) [
-                    | inl e ↦ subst (λ (n : ℕ). Contains (x ∷ with_sum s xs) n) e (Contains-here x (with_sum s xs))
-                    | inr later ↦ Contains-there x (with_sum s xs) y (rest.keeps y later)
-                  ];
-              cases = λ y h.
-                  elim (Contains-cons_cases x (with_sum s xs) y h) as (λ _. (s ≡ y) ⊎ Contains (x ∷ xs) y) [
-                    | inl e ↦ inr (subst (λ (n : ℕ). Contains (x ∷ xs) n) e (Contains-here x xs))
-                    | inr later ↦ elim (rest.cases y later) as (λ _. (s ≡ y) ⊎ Contains (x ∷ xs) y) [
-                      | inl e ↦ inl e
-                      | inr old ↦ inr (Contains-there x xs y old)
-                    ]
-                  ];
-              ascends = λ a. (
-                (λ y h.
-                    elim (rest.cases y h) as (λ _. x < y) [
-                      | inl e ↦ omega arith
-                      | inr old ↦ a.0 y old
-                    ]),
-                rest.ascends a.1,
-              );
-            })
-      ]
-    ]
+    let other : List ℕ = cond (ltb x s) (x ∷ with_sum s xs) (x ∷ xs) in
+    cond_both (ltb s x) (s ∷ x ∷ xs) other (λ ys. WithSum s (x ∷ xs) ys)
+    (λ is.
+    let before = ltb-true s x is in
+    record {
+      here = Contains-here s (x ∷ xs);
+      keeps = λ y h. Contains-there s (x ∷ xs) y h;
+      cases = λ y h. Contains-cons_cases s (x ∷ xs) y h;
+      ascends = λ a. (
+        (λ y h.
+            elim (Contains-cons_cases x xs y h) as (λ _. s < y) [
+              | inl e ↦ omega arith
+              | inr later ↦ let above = a.0 y later in omega arith
+            ]),
+        a,
+      );
+    })
+    (λ not_before. cond_both (ltb x s) (x ∷ with_sum s xs) (x ∷ xs) (λ ys. WithSum s (x ∷ xs) ys)
+    (λ is.
+    let after = ltb-true x s is in
+    let rest = with_sum_is s xs in
+    record {
+      here = Contains-there x (with_sum s xs) s rest.here;
+      keeps = λ y h.
+          elim (Contains-cons_cases x xs y h) as (λ _. Contains (x ∷ with_sum s xs) y) [
+            | inl e ↦ subst (λ (n : ℕ). Contains (x ∷ with_sum s xs) n) e (Contains-here x (with_sum s xs))
+            | inr later ↦ Contains-there x (with_sum s xs) y (rest.keeps y later)
+          ];
+      cases = λ y h.
+          elim (Contains-cons_cases x (with_sum s xs) y h) as (λ _. (s ≡ y) ⊎ Contains (x ∷ xs) y) [
+            | inl e ↦ inr (subst (λ (n : ℕ). Contains (x ∷ xs) n) e (Contains-here x xs))
+            | inr later ↦ elim (rest.cases y later) as (λ _. (s ≡ y) ⊎ Contains (x ∷ xs) y) [
+              | inl e ↦ inl e
+              | inr old ↦ inr (Contains-there x xs y old)
+            ]
+          ];
+      ascends = λ a. (
+        (λ y h.
+            elim (rest.cases y h) as (λ _. x < y) [
+              | inl e ↦ omega arith
+              | inr old ↦ a.0 y old
+            ]),
+        rest.ascends a.1,
+      );
+    })
+    (λ not_after.
+    let same : x ≡ s = omega (arith, ltb-false s x not_before, ltb-false x s not_after) in
+    record { here = subst (λ (n : ℕ). Contains (x ∷ xs) n) same (Contains-here x xs); keeps = λ y h. h; cases = λ y h. inr h; ascends = λ a. a }))
 
 record Merged (xs ys zs : List ℕ) : Type 0 where
   left : (y : ℕ) → Contains xs y → Contains zs y
@@ -123,12 +107,9 @@ merged_is (x ∷ xs) ys =
     }
 
 from_map : (f : ℕ → ℕ) (xs : List ℕ) (y : ℕ) → Contains (map f xs) y → (x : ℕ) × Contains xs x × (y ≡ f x)
-from_map f [] y h = absurd (Contains-nil y h)
-from_map f (x ∷ xs) y h =
-    elim (Contains-cons_cases (f x) (map f xs) y h) as (λ _. (z : ℕ) × Contains (x ∷ xs) z × (y ≡ f z)) [
-      | inl e ↦ (x, Contains-here x xs, sym e)
-      | inr later ↦ let rest = from_map f xs y later in (rest.0, Contains-there x xs rest.0 rest.1, rest.2)
-    ]
+from_map f xs y h =
+    let P : ℕ → Type 0 = λ z. (x : ℕ) × Contains xs x × (z ≡ f x) in
+    All-contains P (map f xs) y (All-map P f xs (λ k d within. (get_or xs k d, Contains-get_or xs k d within, refl))) h
 
 -- ---- the sums
 

@@ -13,18 +13,13 @@ derive_reification-requires-clause-light g c = omega (arith, ap weight c.args.si
 
 pub returns-in_err-derive_reification : goal.returns-in_err-derive_reification
 returns-in_err-derive_reification g c =
-    let old = g.T.StepSink.state c.args.sink.now in
-    let now = g.T.StepSink.state c.loop-place.sink in
-    reification_fault c.args.first (weights c.args.sides.terms.now) c.args.sides.nodes.now c.loop-place.place old now _ c.loop-place-test.true c.loop-place.invariant _ c.weight_of-whole.result (weights c.args.sides.negated.now)
-    (ap (λ (l : Lit). l.var) c.fresh_at-var.ensures) c.weight_of-whole.ensures c.args.sides.turned c.from_residual.result _ (g.T.StepSink.state c.derive_reification.new.sink) c.from_residual.ensures.1 c.in_err-derive_reification.ensures
+    reification_fault _ _ _ _ _ _ _ c.loop-place-test.true c.loop-place.invariant _ c.weight_of-whole.result (weights c.args.sides.negated.now) (ap (λ (l : Lit). l.var) c.fresh_at-var.ensures) c.weight_of-whole.ensures c.args.sides.turned
+    c.from_residual.result _ (g.T.StepSink.state c.derive_reification.new.sink) c.from_residual.ensures.1 c.in_err-derive_reification.ensures
 
 pub loop-place-preserved : goal.loop-place-preserved
 loop-place-preserved g c =
-    let old = g.T.StepSink.state c.args.sink.now in
-    let now = g.T.StepSink.state c.loop-place.sink in
-    reification_next c.args.first (weights c.args.sides.terms.now) c.args.sides.nodes.now c.loop-place.place old now _ c.loop-place-test.true c.loop-place.invariant _ c.weight_of-whole.result (weights c.args.sides.negated.now)
-    (ap (λ (l : Lit). l.var) c.fresh_at-var.ensures) c.weight_of-whole.ensures c.args.sides.turned (g.T.StepSink.state c.derive_reification.new.sink) c.in_ok-derive_reification.ensures
+    reification_next _ _ _ _ _ _ _ c.loop-place-test.true c.loop-place.invariant _ c.weight_of-whole.result (weights c.args.sides.negated.now) (ap (λ (l : Lit). l.var) c.fresh_at-var.ensures) c.weight_of-whole.ensures c.args.sides.turned
+    (g.T.StepSink.state c.derive_reification.new.sink) c.in_ok-derive_reification.ensures
 
 pub returns : goal.returns
-returns g c =
-    reification_ends c.args.first (weights c.args.sides.terms.now) c.args.sides.nodes.now c.loop-place.place (g.T.StepSink.state c.args.sink.now) (g.T.StepSink.state c.loop-place.sink) (omega arith) c.loop-place.invariant
+returns g c = reification_ends _ _ _ _ _ _ (omega arith) c.loop-place.invariant

@@ -1,5 +1,6 @@
 use Rattle.std.proofs.Common.{◌∙◌, ◌++◌, ◌∷◌, [], List, ap, replicate}
 use Rattle.std.proofs.lemmas.List.{replicate_more}
+use Rattle.std.proofs.lemmas.Result.{IfOk-from_err}
 use Rattle.pb_diagram.specs.declared.known.Known.{Known}
 use Rattle.pb_diagram.proofs.search.empty_levels.Goals as goal
 
@@ -7,3 +8,6 @@ pub loop-place-preserved : goal.loop-place-preserved
 loop-place-preserved c =
     let before = replicate c.loop-place._place [] in
     c.in_ok-push.ensures.items ∙ ap (λ (ks : List Known). ks ++ c.new.result ∷ []) c.loop-place.invariant ∙ ap (λ (k : Known). before ++ k ∷ []) c.new.ensures ∙ replicate_more c.loop-place._place []
+
+pub returns-in_err-push : goal.returns-in_err-push
+returns-in_err-push c = IfOk-from_err _ _ c.from_residual.ensures.0

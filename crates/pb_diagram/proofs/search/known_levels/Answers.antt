@@ -1,6 +1,7 @@
 use Rattle.std.proofs.Common.{◌≡◌, length, ap, sym, ◌∙◌, arith}
 use Rattle.std.proofs.lemmas.List.{length-map}
 use Rattle.std.proofs.lemmas.Bool.{eqb-true}
+use Rattle.std.proofs.lemmas.Result.{IfOk-from_err}
 use Rattle.pb_diagram.specs.Clauses.{node_count}
 use Rattle.pb_diagram.specs.Levels.{coefs_of}
 use Rattle.pb_diagram.proofs.SearchSteps.{search_depth}
@@ -64,3 +65,22 @@ loop-search-preserved c =
       within = c.loop-search.invariant.within;
       depth = omega arith;
     }
+
+pub returns-in_err-search : goal.returns-in_err-search
+returns-in_err-search c = IfOk-from_err _ _ c.from_residual.ensures.0
+
+pub returns-in_err-advance : goal.returns-in_err-advance
+returns-in_err-advance c = IfOk-from_err _ _ c.from_residual-in_err-advance.ensures.0
+
+pub loop-search-smaller-else-count-budget : goal.loop-search-smaller-else-count-budget
+loop-search-smaller-else-count-budget c = omega (arith, (c.in_ok-advance.ensures.advanced.found c.if-branch.true).1, c.loop-search.invariant.depth, c.if-count-budget.false)
+
+pub loop-search-smaller : goal.loop-search-smaller
+loop-search-smaller c =
+    let of = c.args.of.now in
+    let now = c.advance.new.self in
+    let deep = search_depth of.bound (coefs_of of.terms) now.levels.items now.wanted.items c.in_ok-advance.ensures.searching.state in
+    omega (arith, (c.in_ok-advance.ensures.advanced.wants c.if-branch.false).1, deep, length-map of.terms (λ t. t.coef))
+
+pub overflow_add-count : goal.overflow_add-count
+overflow_add-count c = omega (arith, c.loop-search.invariant.within, c.requires.small)

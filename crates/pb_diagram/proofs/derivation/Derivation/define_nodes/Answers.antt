@@ -99,3 +99,6 @@ overflow_cast-start g c = omega (arith, count g (goal.at.overflow_cast-start g c
 
 pub overflow_add-start : goal.overflow_add-start
 overflow_add-start g c = omega (arith, count g (goal.at.overflow_add-start g c).After-nodes_after, c.loop-i.invariant.room, c.args.self.now.fits)
+
+pub define_level-requires-clause-low : goal.define_level-requires-clause-low
+define_level-requires-clause-low g c = omega (arith, c.args.self.now.low, c.loop-i.invariant.low)

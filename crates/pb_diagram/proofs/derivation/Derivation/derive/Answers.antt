@@ -36,15 +36,11 @@ meant_next ms old mid h = omega (arith, h.ids, reifications_ids old.next ms)
 
 pub returns-in_err-define_nodes : goal.returns-in_err-define_nodes
 returns-in_err-define_nodes g c =
-    let ts = c.args.self.now.shape.terms.now in
-    let ls = c.args.self.now.shape.levels.now in
+    let self = c.args.self.now in
     let old = g.T.StepSink.state c.args.sink.now in
-    let base : ℕ = c.args.self.now.base in
-    let r = c.from_residual.result in
     let after = g.T.StepSink.state c.define_nodes.new.sink in
-    steps_same r _ _ old after (same_phases ts c.args.self.now.shape.bound ls c.args.self.now.first c.args.self.now.own old.next c.args.self.now.shape.nodes)
-    (stopped_in_reifications r (node_reifications c.args.self.now.first (weights ts) ls) (justifications_over (weights ts) ls 0 base c.args.self.now.own) (justifications_over (weights ts) ls c.args.self.now.first old.next c.args.self.now.own)
-    (same_at ts ls c.args.self.now.first c.args.self.now.own base old.next c.requires) old _ after c.from_residual.ensures.1 c.in_err-define_nodes.ensures)
+    steps_same c.from_residual.result _ _ old after (same_phases self.shape.terms.now self.shape.bound self.shape.levels.now self.first self.own old.next self.shape.nodes)
+    (stopped_in_reifications c.from_residual.result _ _ _ (same_at self.shape.terms.now self.shape.levels.now self.first self.own self.base old.next c.requires) old _ after c.from_residual.ensures.1 c.in_err-define_nodes.ensures)
 
 pub derive_clauses-requires : goal.derive_clauses-requires
 derive_clauses-requires g c =
@@ -55,15 +51,12 @@ derive_clauses-requires g c =
 
 pub returns-in_err-derive_clauses : goal.returns-in_err-derive_clauses
 returns-in_err-derive_clauses g c =
-    let ts = c.args.self.now.shape.terms.now in
-    let ls = c.args.self.now.shape.levels.now in
+    let self = c.args.self.now in
     let old = g.T.StepSink.state c.args.sink.now in
-    let base : ℕ = c.args.self.now.base in
-    let r = c.from_residual-in_err-derive_clauses.result in
     let after = g.T.StepSink.state c.derive_clauses.new.sink in
-    steps_same r _ _ old after (same_phases ts c.args.self.now.shape.bound ls c.args.self.now.first c.args.self.now.own old.next c.args.self.now.shape.nodes)
-    (stopped_in_claims r (node_reifications c.args.self.now.first (weights ts) ls) (justifications_over (weights ts) ls 0 base c.args.self.now.own) (justifications_over (weights ts) ls c.args.self.now.first old.next c.args.self.now.own)
-    (same_at ts ls c.args.self.now.first c.args.self.now.own base old.next c.requires) old _ (g.T.StepSink.state c.define_nodes.new.sink) after c.from_residual-in_err-derive_clauses.ensures.1 c.in_ok-define_nodes.ensures c.in_err-derive_clauses.ensures)
+    let stopped = c.from_residual-in_err-derive_clauses in
+    steps_same stopped.result _ _ old after (same_phases self.shape.terms.now self.shape.bound self.shape.levels.now self.first self.own old.next self.shape.nodes)
+    (stopped_in_claims stopped.result _ _ _ (same_at self.shape.terms.now self.shape.levels.now self.first self.own self.base old.next c.requires) old _ (g.T.StepSink.state c.define_nodes.new.sink) after stopped.ensures.1 c.in_ok-define_nodes.ensures c.in_err-derive_clauses.ensures)
 
 pub derive_deletions-requires-clause-few : goal.derive_deletions-requires-clause-few
 derive_deletions-requires-clause-few g c =
@@ -77,15 +70,12 @@ derive_deletions-requires-clause-few g c =
 
 pub returns : goal.returns
 returns g c =
-    let ts = c.args.self.now.shape.terms.now in
-    let ls = c.args.self.now.shape.levels.now in
+    let self = c.args.self.now in
     let old = g.T.StepSink.state c.args.sink.now in
     let last = g.T.StepSink.state c.derive_clauses.new.sink in
     let new = g.T.StepSink.state c.derive_deletions.new.sink in
-    let base : ℕ = c.args.self.now.base in
     let r = c.derive_deletions.result in
-    let count = count_of ts c.args.self.now.shape.bound c.args.self.now.first ls c.args.self.now.shape.nodes in
-    steps_same r _ _ old new (same_phases ts c.args.self.now.shape.bound ls c.args.self.now.first c.args.self.now.own old.next c.args.self.now.shape.nodes)
-    (ended_by_deletions r (node_reifications c.args.self.now.first (weights ts) ls) (justifications_over (weights ts) ls 0 base c.args.self.now.own) (justifications_over (weights ts) ls c.args.self.now.first old.next c.args.self.now.own)
-    (same_at ts ls c.args.self.now.first c.args.self.now.own base old.next c.requires) old (g.T.StepSink.state c.define_nodes.new.sink) last new c.in_ok-define_nodes.ensures c.in_ok-derive_clauses.ensures
-    (steps_same r _ _ last new (λ x. deletion_steps 2 (c.requires x) ((c.args.self.now.shape.count ∙ sym count) x)) c.derive_deletions.ensures))
+    let count = count_of self.shape.terms.now self.shape.bound self.first self.shape.levels.now self.shape.nodes in
+    steps_same r _ _ old new (same_phases self.shape.terms.now self.shape.bound self.shape.levels.now self.first self.own old.next self.shape.nodes)
+    (ended_by_deletions r _ _ _ (same_at self.shape.terms.now self.shape.levels.now self.first self.own self.base old.next c.requires) old (g.T.StepSink.state c.define_nodes.new.sink) last new c.in_ok-define_nodes.ensures c.in_ok-derive_clauses.ensures
+    (steps_same r _ _ last new (λ x. deletion_steps 2 (c.requires x) ((self.shape.count ∙ sym count) x)) c.derive_deletions.ensures))

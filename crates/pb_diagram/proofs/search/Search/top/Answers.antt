@@ -7,7 +7,7 @@ returns c =
     let self = c.args.self.now in
     let place = length c.as_slice.result.now - 1 in
     let same = ap length c.as_slice.ensures.value in
-    top_is c.args.of.now self.levels.items self.wanted.items self.left self.sides.items self.last _ c.requires.searching c.requires.kept
+    top_is c.args.of.now self.levels.items self.wanted.items self.left self.sides.items self.last _ c.requires.searching c.requires.kept c.requires.fits
     (ap (λ l. get_or l place None) c.as_slice-3.ensures.value)
     refl
     (let depth : place + 1 ≡ length self.wanted.items = omega (arith, c.requires.some) in depth)
