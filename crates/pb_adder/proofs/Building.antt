@@ -1,10 +1,13 @@
 -- A network that is built level by level.
 use Rattle.std.proofs.Common.{◌≡◌, ◌<◌, ◌≤◌, ◌+◌, ◌-◌, ◌*◌, ◌++◌, ◌∙◌, ℕ, List, [], ◌∷◌, zero, suc, length, take, drop, sym, ap, subst, arith, length-append, append_assoc, append-nil, ◌/◌, replicate, refl}
-use Rattle.std.specs.Prelude.{All, Option, map}
+use Rattle.std.specs.Prelude.{All, IfOk, IsErr, Option, Result, map}
 use Rattle.std.proofs.Math.Seq.{drop-append_seam}
 use Rattle.std.proofs.lemmas.List.{length-drop, map-append, take_all, length-replicate}
+use Rattle.std.proofs.lemmas.Result.{IfOk-from_err}
 use Rattle.std.proofs.lemmas.List.Elements.{All-nil, All-cons, All-append}
-use Rattle.pb_norm.specs.Constraints.{Weighted}
+use Rattle.pb_base.specs.declared.literal.Term.{Term}
+use Rattle.pb_norm.specs.BoundedSums.{BoundedSum, IsProper, sum_within}
+use Rattle.pb_norm.specs.Constraints.{Weighted, weights}
 use Rattle.pb_adder.specs.declared.gate.Wire.{Wire}
 use Rattle.pb_adder.specs.declared.gate.Gate.{Gate}
 use Rattle.pb_adder.specs.AdderSteps.{levels_of}
@@ -139,7 +142,7 @@ module _ (ts : List Weighted) (levels level below : ℕ) (gates more : List Gate
   }
 
 -- no level is left
-module _ (ts : List Weighted) (levels level below : ℕ) (gates : List Gate) (heights : List ℕ) (ends : List (Option Wire)) (done : levels ≤ level) (built : IsBuilt ts levels level below gates heights ends) where
+module _ {ts : List Weighted} {levels level below : ℕ} {gates : List Gate} {heights : List ℕ} {ends : List (Option Wire)} (done : levels ≤ level) (built : IsBuilt ts levels level below gates heights ends) where
   none : zero ≡ levels - level
   none = omega (arith, done)
 
@@ -155,3 +158,14 @@ module _ (ts : List Weighted) (levels level below : ℕ) (gates : List Gate) (he
 -- the adders from a number on
 pub slice_whole : (below : ℕ) (gates slice : List Gate) → slice ≡ gates → take (length slice - below) (drop below slice) ≡ drop below gates
 slice_whole below gates slice same = take_all (length slice - below) (drop below slice) (omega (arith, length-drop below slice)) ∙ ap (λ (gs : List Gate). drop below gs) same
+
+-- nothing is said of a network that could not be built
+pub when_failed : {T E : Type 0} (r : Result T E) → IsErr r → (P : T → Type 0) → IfOk r P
+when_failed r failed P = IfOk-from_err r P failed
+
+-- what a sum keeps when its terms and its bound are copied
+abbrev pub sum_of : List Weighted → ℕ → BoundedSum
+sum_of ts bound = record { terms = ts; bound = bound }
+
+pub proper_of : (m : BoundedSum) (terms : List Term) (bound : ℕ) → weights terms ≡ m.terms → bound ≡ m.bound → IsProper m → IsProper (sum_within terms bound)
+proper_of m terms bound same value proper = subst (λ (ts : List Weighted). IsProper (sum_of ts bound)) (sym same) (subst (λ (b : ℕ). IsProper (sum_of m.terms b)) (sym value) proper)

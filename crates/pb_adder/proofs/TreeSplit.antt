@@ -1,15 +1,15 @@
 -- Trees of adders, as the code makes them from halves.
 use Rattle.std.proofs.Common.{◌≡◌, ◌≤◌, ◌<◌, ◌+◌, ◌*◌, ◌^◌, ◌%◌, ◌++◌, ◌∙◌, ℕ, zero, suc, List, [], ◌∷◌, length, take, drop, get_or, refl, ap, sym, arith, append_assoc}
 use Rattle.std.proofs.lemmas.Bool.{cond-true, cond-false, le-leb, lt-leb}
+use Rattle.std.proofs.Math.Nat.{pow-le-pow_right}
 use Rattle.std.specs.Prelude.{nat_le}
 use Rattle.pb_steps.specs.declared.op.PolOp.{PolOp}
 use Rattle.pb_steps.specs.declared.op.PolOp.TheVariants.{Add}
 use Rattle.pb_adder.specs.AdderSteps.{line_ops, tree_ops}
-use Rattle.pb_adder.specs.laws.Leveling.{power_up}
 
 -- a power of a small height is what its bits say
 pub half_is : (k : ℕ) → k ≤ 16 → 1 * 2 ^ k % 18446744073709551616 ≡ 2 ^ k
-half_is k few = let small : 2 ^ k ≤ 2 ^ 16 = power_up k 16 few in omega (arith, small)
+half_is k few = let small : 2 ^ k ≤ 2 ^ 16 = pow-le-pow_right {n = 2} (omega arith) {i = k} {j = 16} few in omega (arith, small)
 
 -- one adder
 pub tree_one : (n id : ℕ) (levels : List ℕ) → n ≡ 0 → 1 ≤ length levels → line_ops (get_or levels 0 0) id ≡ tree_ops n id levels

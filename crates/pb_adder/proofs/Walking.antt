@@ -1,8 +1,7 @@
 -- Loops over lists that hand over steps for one element after another.
-use Rattle.std.proofs.Common.{◌≡◌, ◌<◌, ◌≤◌, ◌+◌, ◌*◌, ◌++◌, List, [], ◌∷◌, ℕ, length, get_or, drop, suc, sym, ap, ◌∙◌, arith}
+use Rattle.std.proofs.Common.{◌≡◌, ◌<◌, ◌≤◌, ◌+◌, ◌*◌, ◌++◌, List, [], ◌∷◌, ℕ, length, get_or, drop, sym, ap, ◌∙◌, arith}
 use Rattle.std.specs.Prelude.{Result, IsErrAnd, count_by}
-use Rattle.std.proofs.Math.Seq.{drop-cons}
-use Rattle.std.proofs.lemmas.List.{drop_all}
+use Rattle.std.proofs.lemmas.List.{drop_all, drop_more}
 use Rattle.pb_steps.specs.Steps.{takes_id}
 use Rattle.pb_steps.specs.declared.step.Step.{Step}
 use Rattle.pb_family.specs.StepSinks.{StepState, TakesSteps, StopsInSteps, HandsSteps}
@@ -11,8 +10,7 @@ use Rattle.pb_family.proofs.Deriving.{Deriving, deriving_from, deriving_as, deri
 
 -- what is left of a list begins with the element that is read
 pub drop_next : {X : Type 0} (d : X) (xs : List X) (k : ℕ) (x : X) → k < length xs → x ≡ get_or xs k d → drop k xs ≡ x ∷ drop (k + 1) xs
-drop_next {X} d xs k x within read =
-    drop-cons xs k d within ∙ ap (λ (y : X). y ∷ drop (suc k) xs) (sym read) ∙ ap (λ (n : ℕ). x ∷ drop n xs) (let e : suc k ≡ k + 1 = omega arith in e)
+drop_next {X} d xs k x within read = drop_more xs k d within ∙ ap (λ (y : X). y ∷ drop (k + 1) xs) (sym read)
 
 -- the steps of each element, where what they depend on beside it moves from one to the next
 abbrev pub walk : {X S : Type 0} → (S → X → List Step) → (S → X → S) → S → List X → List Step

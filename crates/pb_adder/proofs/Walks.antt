@@ -1,7 +1,8 @@
 -- The parts of an adder network's derivation, element by element.
-use Rattle.std.proofs.Common.{◌≡◌, ◌≤◌, ◌<◌, ◌+◌, ◌*◌, ◌^◌, ◌++◌, ◌∙◌, ℕ, zero, suc, List, [], ◌∷◌, length, take, drop, min, refl, sym, ap, subst, cond, arith, length-append}
+use Rattle.std.proofs.Common.{◌≡◌, ◌≤◌, ◌<◌, ◌+◌, ◌*◌, ◌^◌, ◌++◌, ◌∙◌, ℕ, zero, suc, List, [], ◌∷◌, length, take, drop, min, refl, sym, ap, cond, arith, length-append}
 use Rattle.std.specs.Prelude.{map, count_by, sum_by, Result, IsErrAnd}
 use Rattle.std.specs.List.{flat_map}
+use Rattle.std.proofs.lemmas.Nat.{pow_pos}
 use Rattle.std.proofs.lemmas.List.{length-map, length-drop, map-append, take_min, drop_min}
 use Rattle.std.proofs.lemmas.List.Sums.{sum_by_from, sum_by-append}
 use Rattle.pb_base.specs.declared.literal.Lit.{Lit}
@@ -17,11 +18,9 @@ use Rattle.pb_adder.specs.AdderSteps.{blocks_within, blocks, sum_ops, later_sums
 use Rattle.pb_adder.specs.GateReifications.{gate_reifications}
 use Rattle.pb_adder.specs.Gates.{gate_clauses}
 use Rattle.pb_adder.specs.declared.gate.Gate.{Gate}
-use Rattle.pb_adder.specs.declared.gate.Gate.TheVariants.{Full, Half}
 use Rattle.pb_family.specs.StepSinks.{StepState, TakesSteps, StopsInSteps, HandsSteps}
 use Rattle.pb_family.specs.declared.sink.SinkFault.{SinkFault}
 use Rattle.pb_family.proofs.Deriving.{steps_same}
-use Rattle.pb_adder.specs.laws.LineOps.{power_positive}
 use Rattle.pb_adder.proofs.Walking.{on, walk, part_stopped, parts_handed}
 
 -- ---- reifications: what moves is the next id
@@ -64,21 +63,18 @@ rups-append ids next us vs =
     ∙ claims-append next (map (by_rup ids) us) (map (by_rup ids) vs)
     ∙ ap (λ (n : ℕ). claim_steps next (map (by_rup ids) us) ++ claim_steps (next + n) (map (by_rup ids) vs)) (length-map us (by_rup ids))
 
--- the fault in the first part, which is written another way
-pub rups_stopped : {R T : Type 0} (r : Result T SinkFault) (f : SinkFault) (ids : List ℕ) (us vs ws : List (List Lit)) (old after : StepState R) → IsErrAnd r (λ g. g ≡ f) → ws ≡ us
-    → StopsInSteps (claim_steps old.next (map (by_rup ids) ws)) old after f → HandsSteps (claim_steps old.next (map (by_rup ids) (us ++ vs))) r old after
-rups_stopped r f ids us vs ws old after is same h =
-    part_stopped r f (claim_steps old.next (map (by_rup ids) (us ++ vs))) (claim_steps old.next (map (by_rup ids) us)) (claim_steps (old.next + length us) (map (by_rup ids) vs)) old after is (rups-append ids old.next us vs)
-    (subst (λ (cs : List (List Lit)). StopsInSteps (claim_steps old.next (map (by_rup ids) cs)) old after f) same h)
+-- the fault in the first part
+pub rups_stopped : {R T : Type 0} (r : Result T SinkFault) (f : SinkFault) (ids : List ℕ) (us vs : List (List Lit)) (old after : StepState R) → IsErrAnd r (λ g. g ≡ f)
+    → StopsInSteps (claim_steps old.next (map (by_rup ids) us)) old after f → HandsSteps (claim_steps old.next (map (by_rup ids) (us ++ vs))) r old after
+rups_stopped r f ids us vs old after is h = part_stopped r f _ _ _ old after is (rups-append ids old.next us vs) h
 
 -- both parts
-pub rups_handed : {R T : Type 0} (r : Result T SinkFault) (ids : List ℕ) (us vs ws xs : List (List Lit)) (old mid after : StepState R) → ws ≡ us → xs ≡ vs
-    → TakesSteps (claim_steps old.next (map (by_rup ids) ws)) old mid → HandsSteps (claim_steps mid.next (map (by_rup ids) xs)) r mid after → HandsSteps (claim_steps old.next (map (by_rup ids) (us ++ vs))) r old after
-rups_handed r ids us vs ws xs old mid after same second h k =
-    let taken = subst (λ (cs : List (List Lit)). TakesSteps (claim_steps old.next (map (by_rup ids) cs)) old mid) same h in
+pub rups_handed : {R T : Type 0} (r : Result T SinkFault) (ids : List ℕ) (us vs : List (List Lit)) (old mid after : StepState R)
+    → TakesSteps (claim_steps old.next (map (by_rup ids) us)) old mid → HandsSteps (claim_steps mid.next (map (by_rup ids) vs)) r mid after → HandsSteps (claim_steps old.next (map (by_rup ids) (us ++ vs))) r old after
+rups_handed r ids us vs old mid after taken k =
+    let steps = λ (n : ℕ). claim_steps n (map (by_rup ids) vs) in
     let count : mid.next ≡ old.next + length us = omega (arith, taken.ids, claims_ids old.next ids us) in
-    parts_handed r (claim_steps old.next (map (by_rup ids) (us ++ vs))) (claim_steps old.next (map (by_rup ids) us)) (claim_steps (old.next + length us) (map (by_rup ids) vs)) old mid after (rups-append ids old.next us vs) taken
-    (steps_same r (claim_steps mid.next (map (by_rup ids) xs)) (claim_steps (old.next + length us) (map (by_rup ids) vs)) mid after (λ i. claim_steps (count i) (map (by_rup ids) (second i))) k)
+    parts_handed r _ (claim_steps old.next (map (by_rup ids) us)) (steps (old.next + length us)) old mid after (rups-append ids old.next us vs) taken (steps_same r (steps mid.next) _ mid after (ap steps count) k)
 
 -- ---- clauses of adders: what moves is the id of an adder's first constraint, and the next id
 
@@ -102,10 +98,6 @@ gates_walk first id next (g ∷ gs) =
     claims-append next here (gate_claims first (id + 4) gs)
     ∙ ap (λ (n : ℕ). claim_steps next here ++ claim_steps (next + n) (gate_claims first (id + 4) gs)) (length-map (gate_clauses first g) (by_rup (gate_ids id)))
     ∙ ap (λ (ss : List Step). claim_steps next here ++ ss) (gates_walk first (id + 4) (next + length (gate_clauses first g)) gs)
-
-pub gate_count : (first : ℕ) (g : Gate) → length (gate_clauses first g) ≤ 14
-gate_count first (Full a b c made) = omega arith
-gate_count first (Half a b made) = omega arith
 
 -- all clauses of a network take an id each
 pub gate_claims_ids : (first id next : ℕ) (gs : List Gate) → count_by takes_id (claim_steps next (gate_claims first id gs)) ≡ length (gate_claims first id gs)
@@ -137,7 +129,7 @@ within_enough n (suc more) zero (level ∷ levels) h k = absurd (omega (arith, k
 within_enough n (suc more) (suc others) [] h k = refl
 within_enough n (suc more) (suc others) (level ∷ levels) h k =
     let back = drop (2 ^ n) (level ∷ levels) in
-    let from = power_positive n in
+    let from = pow_pos n in
     let size = length-drop (2 ^ n) (level ∷ levels) in
     ap (λ (bs : List (List ℕ)). take (2 ^ n) (level ∷ levels) ∷ bs) (within_enough n more others back (omega (arith, h, size, from)) (omega (arith, k, size, from)))
 
@@ -146,7 +138,7 @@ unfolding blocks_within
 within_first n [] some = absurd (omega (arith, some))
 within_first n (level ∷ levels) some =
     let back = drop (2 ^ n) (level ∷ levels) in
-    ap (λ (bs : List (List ℕ)). take (2 ^ n) (level ∷ levels) ∷ bs) (within_enough n (length levels) (length back) back (omega (arith, length-drop (2 ^ n) (level ∷ levels), power_positive n)) (omega arith))
+    ap (λ (bs : List (List ℕ)). take (2 ^ n) (level ∷ levels) ∷ bs) (within_enough n (length levels) (length back) back (omega (arith, length-drop (2 ^ n) (level ∷ levels), pow_pos n)) (omega arith))
 
 -- as the code splits them
 pub blocks_first : (levels block later : List ℕ) (k : ℕ) → 0 < length levels → k ≡ min (2 ^ 16) (length levels) → block ≡ take k levels → later ≡ drop k levels → blocks levels ≡ block ∷ blocks later

@@ -6,14 +6,11 @@ pub mod ApartGates
 pub mod Chains
 pub mod ComparatorLaws
 pub mod CountLaws
-pub mod Distances
 pub mod Extends
 pub mod GateClaims
 pub mod GateLaws
-pub mod GateRups
 pub mod GateTables
 pub mod Leveling
-pub mod LineOps
 pub mod LinesRun
 pub mod Names
 pub mod NetworkLaws

@@ -6,7 +6,7 @@ ghost use Rattle.pb_family.specs.HandedJustifications.{HandsReifications};
 ghost use Rattle.pb_adder.specs.GateReifications.{gate_reifications, twice_off};
 ghost use Rattle.pb_adder.specs.Gates.{gate_needs};
 
-use crate::gate::{FullAdder, Gate, GateLits, HalfAdder};
+use crate::gate::{Gate, GateLits};
 use pb_base::{Lit, Term, Var};
 use pb_family::{SinkResult, StepSink, derive_reification};
 use std::alloc::Global;
@@ -48,43 +48,6 @@ fn derive_meanings<T: StepSink>(
     derive_reification(alloc, sum, all, 3, sink)
 }
 
-impl FullAdder {
-    ghost use Rattle.std.specs.Prelude.{◌<◌, ◌+◌, ◌^◌, ◌∷◌, []};
-    ghost use Rattle.pb_family.specs.HandedJustifications.{HandsReifications};
-    ghost use Rattle.pb_adder.specs.GateReifications.{adder_reifications};
-
-    /// Hands over what its carry and its sum mean.
-    fn define<T: StepSink>(&self, alloc: Global, sink: &mut T) -> SinkResult
-        requires few { (T.state sink.old).next + 3 < 2 ^ 62 }
-        ensures { HandsReifications (adder_reifications (self.now.a ∷ self.now.b ∷ self.now.c ∷ []) self.now.sum.var self.now.carry.var) result (T.state sink.old) (T.state sink.new) }
-    {
-        let bits = [once(self.a), once(self.b), once(self.c)];
-        let all = [
-            once(self.a),
-            once(self.b),
-            once(self.c),
-            twice_off(self.carry.var),
-        ];
-        derive_meanings(alloc, self.carry.var, self.sum.var, &bits, &all, sink)
-    }
-}
-
-impl HalfAdder {
-    ghost use Rattle.std.specs.Prelude.{◌<◌, ◌+◌, ◌^◌, ◌∷◌, []};
-    ghost use Rattle.pb_family.specs.HandedJustifications.{HandsReifications};
-    ghost use Rattle.pb_adder.specs.GateReifications.{adder_reifications};
-
-    /// Hands over what its carry and its sum mean.
-    fn define<T: StepSink>(&self, alloc: Global, sink: &mut T) -> SinkResult
-        requires few { (T.state sink.old).next + 3 < 2 ^ 62 }
-        ensures { HandsReifications (adder_reifications (self.now.a ∷ self.now.b ∷ []) self.now.sum.var self.now.carry.var) result (T.state sink.old) (T.state sink.new) }
-    {
-        let bits = [once(self.a), once(self.b)];
-        let all = [once(self.a), once(self.b), twice_off(self.carry.var)];
-        derive_meanings(alloc, self.carry.var, self.sum.var, &bits, &all, sink)
-    }
-}
-
 /// Hands over what the two fresh variables of an adder mean.
 fn derive_gate_reifications<T: StepSink>(
     alloc: Global,
@@ -97,9 +60,19 @@ fn derive_gate_reifications<T: StepSink>(
     requires few { (T.state sink.old).next + 3 < 2 ^ 62 }
     ensures { HandsReifications (gate_reifications first gate.now) result (T.state sink.old) (T.state sink.new) }
 {
-    match gate.lits(first) {
-        GateLits::Three(full) => full.define(alloc, sink),
-        GateLits::Two(half) => half.define(alloc, sink),
+    match &gate.lits(first) {
+        GateLits::Three(x) => {
+            let bits = [once(x.a), once(x.b), once(x.c)];
+            let off = twice_off(x.carry.var);
+            let all = [once(x.a), once(x.b), once(x.c), off];
+            derive_meanings(alloc, x.carry.var, x.sum.var, &bits, &all, sink)
+        },
+        GateLits::Two(x) => {
+            let bits = [once(x.a), once(x.b)];
+            let off = twice_off(x.carry.var);
+            let all = [once(x.a), once(x.b), off];
+            derive_meanings(alloc, x.carry.var, x.sum.var, &bits, &all, sink)
+        },
     }
 }
 

@@ -82,13 +82,14 @@ fn push_line(ops: &mut Vec<PolOp>, level: u32, id: u64) -> Result<(), AllocError
     requires fits { id < 2 ^ 62 }
     ensures { IfOk result (λ _. ops.new.items ≡ ops.old.items ++ line_ops level id) }
 {
-    ops.push(PolOp::Push(id))?;
-    ops.push(PolOp::Mul(2))?;
-    ops.push(PolOp::Push(id + 2))?;
-    ops.push(PolOp::Add)?;
-    ops.push(PolOp::Div(3))?;
-    ops.push(PolOp::Mul(times_at(level)))?;
-    Ok(())
+    ops.extend_from_slice(&[
+        PolOp::Push(id),
+        PolOp::Mul(2),
+        PolOp::Push(id + 2),
+        PolOp::Add,
+        PolOp::Div(3),
+        PolOp::Mul(times_at(level)),
+    ])
 }
 
 /// Adds the sum of what up to 2^height adders say, halves before the whole, so that few terms are added often.
@@ -118,8 +119,7 @@ fn sum_step(alloc: Global, block: Block, running: u64) -> Result<Step, AllocErro
 {
     let mut ops = Vec::new(alloc);
     push_tree(&mut ops, HEIGHT, block.of)?;
-    ops.push(PolOp::Push(running))?;
-    ops.push(PolOp::Add)?;
+    ops.extend_from_slice(&[PolOp::Push(running), PolOp::Add])?;
     Ok(Step::Pol(PolOps::from_vec(ops)))
 }
 

@@ -1,8 +1,9 @@
 -- A counter's derivation, one number after another.
-use Rattle.std.proofs.Common.{◌≡◌, ◌≤◌, ◌<◌, ◌+◌, ◌-◌, ◌/◌, ◌%◌, ◌∙◌, ℕ, List, [], ◌∷◌, Bool, cond, map, length, take, drop, ap, sym, subst, arith}
+use Rattle.std.proofs.Common.{◌≡◌, ◌≤◌, ◌<◌, ◌+◌, ◌-◌, ◌*◌, ◌/◌, ◌%◌, ◌∙◌, ℕ, List, [], ◌∷◌, Bool, cond, map, length, take, drop, ap, sym, subst, arith, ◌≢◌, Ok, Err}
 use Rattle.std.specs.List.{range_with_len}
-use Rattle.std.specs.Prelude.{Result}
+use Rattle.std.specs.Prelude.{IsErrAnd, Result}
 use Rattle.std.proofs.lemmas.Bool.{le-leb, lt-leb}
+use Rattle.std.proofs.Math.Nat.{div-mul-le_self, lt_of_mul-lt-mul_right}
 use Rattle.std.proofs.lemmas.List.{length-map}
 use Rattle.std.proofs.lemmas.List.Sums.{sum_by-take-le}
 use Rattle.pb_base.specs.declared.fault.Failed.{Failed}
@@ -16,10 +17,15 @@ use Rattle.pb_derive.specs.Justifications.{Justification, by_justification}
 use Rattle.pb_derive.specs.Phases.{phases}
 use Rattle.pb_derive.specs.Reifications.{reification_steps}
 use Rattle.pb_family.specs.Derivations.{meant, claimed}
-use Rattle.pb_family.specs.Handing.{Hands}
+use Rattle.pb_family.specs.Handing.{FailsInClauses, Hands, HandsIfMemory, StopsInClauses}
 use Rattle.pb_family.specs.Numbered.{numbered_phases}
 use Rattle.pb_family.specs.Sinks.{SinkState}
+use Rattle.pb_family.specs.declared.sink.SinkFault.{SinkFault}
+use Rattle.pb_family.specs.declared.sink.SinkFault.TheVariants as fault
+use Rattle.pb_family.proofs.Emission.{fails_as}
 use Rattle.pb_family.proofs.TermSlices.{literal_count, weights_one, weights_until}
+use Rattle.pb_counter.specs.declared.derivation.Derivation.{Derivation}
+use Rattle.pb_counter.specs.declared.grid.Grid.{Grid}
 use Rattle.pb_counter.specs.declared.place.Place.{Place}
 use Rattle.pb_counter.specs.declared.place.Place.TheVariants.{Keep, More}
 use Rattle.pb_counter.specs.Counter.{clause_at, counter_clauses, counter_fresh, counter_size, places}
@@ -32,6 +38,11 @@ light_until ts k = omega (arith, ap weight (weights_until ts k), sum_by-take-le 
 
 pub reification_same : (ts : List Term) (width first k next var : ℕ) → var ≡ first + k → meant next var (weights (take (k / width + 1) ts)) (k % width + 1) ≡ reification_steps next (counted_at (weights ts) width first k ∷ [])
 reification_same ts width first k next var same = λ x. reification_steps next (record { var = same x; sum = weights_until ts (k / width + 1) x; least = k % width + 1 } ∷ [])
+
+-- the row of a fresh variable is not the last literal's
+pub row_below : (grid : Grid) (k : ℕ) → k < (length grid.terms.now - 1) * grid.width → k / grid.width < length grid.terms.now - 1
+row_below grid k within =
+    lt_of_mul-lt-mul_right grid.width (let h : k / grid.width * grid.width < (length grid.terms.now - 1) * grid.width = omega (arith, div-mul-le_self k grid.width, within) in h)
 
 -- ---- the whole, by numbers
 
@@ -64,11 +75,23 @@ beside_more ts i j above = weights_until ts (i + 1) ∙ ap (λ (b : Bool). cond 
 
 -- ---- one justification
 
-pub claim_same : (ts : List Term) (width first id base next : ℕ) (p : Place) (ids : List ℕ) (us : List Term) → ids ≡ sources_at width id base p → weights us ≡ beside_at (weights ts) p
-    → claimed next ids (vars_of (weights us)) ≡ claim_steps next (by_justification (justification_at (weights ts) width first id base p) ∷ [])
-claim_same ts width first id base next p ids us found left = λ x. claimed next (found x) (vars_of (left x))
+pub claim_same : (d : Derivation) (next : ℕ) (p q : Place) (ids : List ℕ) (us : List Term) → p ≡ q → ids ≡ sources_at d.grid.width d.id d.base p → weights us ≡ beside_at (weights d.grid.terms.now) p
+    → claimed next ids (vars_of (weights us)) ≡ claim_steps next (by_justification (justification_at (weights d.grid.terms.now) d.grid.width d.grid.first d.id d.base q) ∷ [])
+claim_same d next p q ids us is found left =
+    (λ x. claimed next (found x) (vars_of (left x)))
+    ∙ ap (λ (r : Place). claim_steps next (by_justification (justification_at (weights d.grid.terms.now) d.grid.width d.grid.first d.id d.base r) ∷ [])) is
 
 -- the clause at a place, handed over as it is written there
-pub emit_same : {R T : Type 0} (ts : List Term) (width first : ℕ) (p q : Place) (c : List Lit) (r : Result T Failed) (a b : SinkState R) → p ≡ q → c ≡ clause_at (lits_of (weights ts)) width first p → Hands (c ∷ []) r a b
-    → Hands (clause_at (lits_of (weights ts)) width first q ∷ []) r a b
-emit_same ts width first p q c r a b is written h = subst (λ (d : List Lit). Hands (d ∷ []) r a b) (written ∙ ap (clause_at (lits_of (weights ts)) width first) is) h
+pub emit_same : {R T : Type 0} (grid : Grid) (p q : Place) (c : List Lit) (r : Result T Failed) (a b : SinkState R) → p ≡ q → c ≡ clause_at (lits_of (weights grid.terms.now)) grid.width grid.first p → Hands (c ∷ []) r a b
+    → Hands (clause_at (lits_of (weights grid.terms.now)) grid.width grid.first q ∷ []) r a b
+emit_same grid p q c r a b is written h =
+    subst (λ (d : List Lit). Hands (d ∷ []) r a b) (written ∙ ap (clause_at (lits_of (weights grid.terms.now)) grid.width grid.first) is) h
+
+-- a fault of a sink is handed on
+pub fault_handed : {R T : Type 0} (cs ds : List (List Lit)) (r : Result T SinkFault) (a b : SinkState R) → cs ≡ ds → IsErrAnd r (λ f. f ≡ fault.Failed) → FailsInClauses cs a b → HandsIfMemory ds r a b
+fault_handed cs ds (Ok x) a b same is h = absurd is
+fault_handed cs ds (Err f) a b same is h = subst (StopsInClauses ds a b) (sym is) (fails_as cs ds a b same h)
+
+pub never_memory : {T : Type 0} (r : Result T SinkFault) → IsErrAnd r (λ f. f ≡ fault.Failed) → r ≢ Err fault.NoMemory
+never_memory (Ok x) is e = absurd is
+never_memory (Err f) is e = cc

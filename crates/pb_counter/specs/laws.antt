@@ -7,4 +7,3 @@ pub mod CounterPlaces
 pub mod CounterPropagation
 pub mod CounterJustifications
 pub mod CounterShort
-pub mod SeenLiterals

@@ -49,7 +49,7 @@ impl<'a> Derivation<'a> {
         requires place { place < self.now.grid.width }
         ensures { result ≡ missed_id self.now.grid.width self.now.base row place }
     {
-        self.base + 2 * (row * self.grid.width + place) as u64 + 1
+        self.forward_id(row, place) + 1
     }
 
     /// The constraints that give the clause at a place.

@@ -1,5 +1,5 @@
 -- The steps of an adder network are allowed one after the other, and put out its clauses.
-use Rattle.std.proofs.Common.{◌≡◌, ◌≢◌, ◌≤◌, ◌<◌, ◌+◌, ◌*◌, ◌^◌, ◌==◌, ℕ, Bool, true, false, not, cond, List, [], ◌∷◌, ◌++◌, length, refl, sym, ap, ◌∙◌, subst, arith, get_or, inl, inr, eq-eqb}
+use Rattle.std.proofs.Common.{◌≡◌, ◌≢◌, ◌≤◌, ◌<◌, ◌+◌, ◌*◌, ◌^◌, ◌==◌, ℕ, Bool, true, false, not, cond, List, [], ◌∷◌, ◌++◌, length, refl, sym, ap, ◌∙◌, subst, arith, get_or, eq-eqb}
 use Rattle.std.specs.Prelude.{All, map, flat_map, Option}
 use Rattle.std.proofs.lemmas.Bool.{ne_eqb}
 use Rattle.std.proofs.lemmas.List.Elements.{All-cons, All-nil, All-append, All-map, All-weaker, All-contains, All-contains_itself}
@@ -34,7 +34,7 @@ use Rattle.pb_adder.specs.declared.gate.Wire.{Wire}
 use Rattle.pb_adder.specs.declared.gate.Wire.TheVariants.{Input, Made}
 use Rattle.pb_adder.specs.declared.gate.Gate.{Gate}
 use Rattle.pb_adder.specs.Adder.{adder_clauses}
-use Rattle.pb_adder.specs.laws.AdderLaws.{adder_names}
+use Rattle.pb_adder.specs.laws.AdderLaws.{adder_variables}
 use Rattle.pb_adder.specs.Comparator.{comparator_rows, comparator}
 use Rattle.pb_adder.specs.laws.CountLaws.{network_fresh}
 use Rattle.pb_adder.specs.Counts.{adder_fresh}
@@ -233,14 +233,7 @@ module _ (m : BoundedSum) (first id : ℕ) (db : Database) (suits : IsForAdder m
   -- ---- the clauses
 
   named : AreNamed P (adder_clauses ts m.bound first)
-  named =
-      let vars_low : All (λ v. v < first) (map (λ (t : Weighted). t.lit.var) ts) = All-map (λ (v : ℕ). v < first) (λ (t : Weighted). t.lit.var) ts below in
-      let names = adder_names ts m.bound first in
-      λ k d h i e l.
-      elim (names k d h i e l) as (λ _. (get_or (get_or (adder_clauses ts m.bound first) k d) i e).var < first + fresh) [
-        | inl input ↦ let low = All-contains (λ (v : ℕ). v < first) (map (λ (t : Weighted). t.lit.var) ts) (get_or (get_or (adder_clauses ts m.bound first) k d) i e).var vars_low input in omega (arith, low)
-        | inr made ↦ made.1
-      ]
+  named = adder_variables P ts m.bound first (All-weaker (λ (t : Weighted). t.lit.var < first) (λ (t : Weighted). P t.lit.var) (λ t h. omega (arith, h)) ts below) (λ v from h. h)
 
   true_wires : All (All (IsTrueWire first a)) (comparator_rows m.bound ends)
   true_wires =

@@ -1,9 +1,9 @@
 -- The laws of an adder network.
-use Rattle.std.proofs.Common.{◌≡◌, ◌<◌, ◌*◌, ◌||◌, ℕ, Bool, true, not, List, [], ◌∷◌, length, get_or, refl, sym, ap, ◌∙◌, subst, arith, length-append}
+use Rattle.std.proofs.Common.{◌≡◌, ◌<◌, ◌≤◌, ◌+◌, ◌*◌, ◌||◌, ℕ, Bool, true, not, List, [], ◌∷◌, length, get_or, refl, sym, ap, ◌∙◌, subst, arith, length-append, inl, inr}
 use Rattle.std.specs.Prelude.{All, Contains, map}
 use Rattle.std.specs.List.{list_any, flat_map}
 use Rattle.std.proofs.lemmas.List.{length-map}
-use Rattle.std.proofs.lemmas.List.Elements.{All-cons, All-nil, All-append, Contains-get_or, All-map, All-weaker}
+use Rattle.std.proofs.lemmas.List.Elements.{All-cons, All-nil, All-append, All-contains, Contains-get_or, All-map, All-weaker}
 use Rattle.pb_base.specs.Literals.{clause_value, IsModel, AgreeBelow}
 use Rattle.pb_norm.specs.Constraints.{Weighted}
 use Rattle.pb_norm.specs.BoundedSums.{BoundedSum, StaysWithin}
@@ -109,3 +109,12 @@ adder_names ts bound first =
     let others = comparator_rows_named V first total (comparator_rows bound (network_ends ts)) (network_rows (λ l. V l.var) bound ts inputs) in
     subst (λ (n : ℕ). All (All (Named V first n)) (adder_clauses ts bound first)) (network_fresh ts)
     (All-append (All (Named V first total)) (flat_map (gate_clauses first) (network_gates ts)) (comparator first bound (network_ends ts)) gates others)
+
+-- what holds of the inputs' variables and of the fresh ones holds of all that the clauses name
+pub adder_variables : (P : ℕ → Type 0) (ts : List Weighted) (bound first : ℕ) → All (λ t. P t.lit.var) ts → ((v : ℕ) → first ≤ v → v < first + adder_fresh ts → P v) → All (All (λ l. P l.var)) (adder_clauses ts bound first)
+adder_variables P ts bound first inputs made = λ k d h i e l.
+    let v : ℕ = (get_or (get_or (adder_clauses ts bound first) k d) i e).var in
+    elim (adder_names ts bound first k d h i e l) as (λ _. P v) [
+      | inl input ↦ All-contains P (map (λ (t : Weighted). t.lit.var) ts) v (All-map P (λ (t : Weighted). t.lit.var) ts inputs) input
+      | inr fresh ↦ made v fresh.0 fresh.1
+    ]

@@ -24,8 +24,7 @@ use Rattle.pb_adder.specs.laws.Wired.{Wired}
 use Rattle.pb_derive.specs.Ones.{ones, unit_of}
 use Rattle.pb_adder.specs.GateReifications.{carry_reification, sum_reification, input_lits, gate_reifications, sum_var, carry_var, twice_off}
 use Rattle.pb_adder.specs.inner.RunningSums.{IsApart}
-use Rattle.pb_adder.specs.laws.ApartGates.{Low, wire_below}
-use Rattle.pb_adder.specs.laws.Distances.{AllPairs-append, AllPairs-append_both, Unequal, lits_apart, vars}
+use Rattle.pb_adder.specs.laws.ApartGates.{Low, wire_below, AllPairs-append, AllPairs-append_both, Unequal, lits_apart, vars}
 use Rattle.pb_adder.specs.laws.GateClaims.{AreThere}
 use Rattle.pb_adder.specs.laws.GateTables.{few_inputs}
 use Rattle.pb_adder.specs.laws.Names.{AllNamed, named_gates}

@@ -1,12 +1,13 @@
 -- The lines of the derivation of an adder network are within their limits, and short.
-use Rattle.std.proofs.Common.{◌≡◌, ◌≤◌, ◌<◌, ◌+◌, ◌-◌, ◌*◌, ◌^◌, ℕ, zero, suc, List, [], ◌∷◌, ◌++◌, length, min, take, drop, refl, ap, sym, subst, arith, get_or, leb, pos, inl, inr, length-append}
+use Rattle.std.proofs.Common.{◌≡◌, ◌≤◌, ◌<◌, ◌+◌, ◌-◌, ◌*◌, ◌^◌, ℕ, zero, suc, List, [], ◌∷◌, ◌++◌, length, min, take, drop, refl, ap, sym, subst, arith, get_or, leb, pos, length-append}
 use Rattle.std.specs.Prelude.{All, map, flat_map, sum_by, ◌≤ℤ◌}
 use Rattle.std.specs.List.{AllByRecursion}
 use Rattle.std.proofs.lemmas.Bool.{cond_both, leb-false}
 use Rattle.std.proofs.lemmas.Int.{ints}
+use Rattle.std.proofs.lemmas.Nat.{pow_pos}
 use Rattle.std.proofs.lemmas.List.{length-map, length-take, length-take-le, length-drop, take-append-drop}
 use Rattle.std.proofs.lemmas.List.Sums.{sum_by-cons, sum_by-append}
-use Rattle.std.proofs.lemmas.List.Elements.{All-nil, All-cons, All-head, All-tail, All-append, All-map, All-weaker, All-contains}
+use Rattle.std.proofs.lemmas.List.Elements.{All-nil, All-cons, All-head, All-tail, All-append, All-map, All-weaker}
 use Rattle.pb_base.specs.declared.literal.Lit.{Lit}
 use Rattle.pb_base.specs.Literals.{negated}
 use Rattle.pb_base.proofs.Members.{All-append_both}
@@ -45,13 +46,12 @@ use Rattle.pb_adder.specs.Gates.{gate_clauses, gate_inputs, wire_lit}
 use Rattle.pb_adder.specs.LeveledGates.{Leveled, leveled_gates}
 use Rattle.pb_adder.specs.Network.{level_count, network_gates, network_ends}
 use Rattle.pb_adder.specs.laws.AdderDerives.{IsForAdder, reifications-length}
-use Rattle.pb_adder.specs.laws.AdderLaws.{adder_names}
+use Rattle.pb_adder.specs.laws.AdderLaws.{adder_variables}
 use Rattle.pb_adder.specs.laws.AdderReifications.{all_reifications}
 use Rattle.pb_adder.specs.laws.CountLaws.{network_fresh}
 use Rattle.pb_adder.specs.laws.GateClaims.{gate_few}
 use Rattle.pb_adder.specs.laws.GateTables.{few_inputs}
 use Rattle.pb_adder.specs.laws.Leveling.{few_levels, network_low}
-use Rattle.pb_adder.specs.laws.LineOps.{power_positive}
 use Rattle.pb_adder.specs.laws.Names.{AllNamed, named_gates}
 use Rattle.pb_adder.specs.laws.RowLengths.{comparator_short, comparator_few, ends_length}
 use Rattle.pb_adder.specs.laws.StepCounts.{claims-length, few_blocks, last_count, levels-length}
@@ -139,7 +139,7 @@ line_said : (level id : ℕ) → IsLow level → IsId id → IsId (id + 2) → A
 line_said level id low c s =
     let two : IsFactor (pos 2) = ((let h : pos 1 ≤ℤ pos 2 = omega (arith, ints) in h), (let h : 2 < 2 ^ 126 = omega arith in h)) in
     let three : IsFactor (pos 3) = ((let h : pos 1 ≤ℤ pos 3 = omega (arith, ints) in h), (let h : 3 < 2 ^ 126 = omega arith in h)) in
-    let times : IsFactor (pos (2 ^ level)) = ((let h : pos 1 ≤ℤ pos (2 ^ level) = omega (arith, ints, power_positive level) in h), (let h : 2 ^ level < 2 ^ 126 = omega (arith, low) in h)) in
+    let times : IsFactor (pos (2 ^ level)) = ((let h : pos 1 ≤ℤ pos (2 ^ level) = omega (arith, ints, pow_pos level) in h), (let h : 2 ^ level < 2 ^ 126 = omega (arith, low) in h)) in
     (c, (two, (s, (tt, (three, (times, tt))))))
 
 -- a tree's parts
@@ -181,7 +181,7 @@ tree_size (suc n) id levels =
     let right = tree_size n (id + 4 * k) back in
     let both = sum_by-append op_size (tree_ops n id front) (tree_ops n (id + 4 * k) back ++ Add ∷ []) in
     let rest = sum_by-append op_size (tree_ops n (id + 4 * k) back) (Add ∷ []) in
-    omega (arith, both, rest, last, left, right, more, length-take-le k levels (omega (arith, more)), length-drop k levels, power_positive n))
+    omega (arith, both, rest, last, left, right, more, length-take-le k levels (omega (arith, more)), length-drop k levels, pow_pos n))
 
 -- a block's line
 block_size : (id running : ℕ) (block : List ℕ) → step_size (Pol (sum_ops id block running)) ≤ 26 + 167 * length block
@@ -303,6 +303,10 @@ row_claims_fine last rows id vars few =
     let clause : List Lit = get_or rows k d in
     (rup_sayable (last ∷ []) clause one (vars k d h), omega (arith, rup-size (last ∷ []) clause, few k d h)))
 
+pub gate_count : (first : ℕ) (g : Gate) → length (gate_clauses first g) ≤ 14
+gate_count first (Full a b c made) = omega arith
+gate_count first (Half a b made) = omega arith
+
 pub gate_claims_few : (first id : ℕ) (gs : List Gate) → length (gate_claims first id gs) ≤ 14 * length gs
 gate_claims_few first id [] = omega arith
 gate_claims_few first id (g ∷ gs) =
@@ -310,13 +314,9 @@ gate_claims_few first id (g ∷ gs) =
       arith,
       length-append (map (by_rup (gate_ids id)) (gate_clauses first g)) (gate_claims first (id + 4) gs),
       length-map (gate_clauses first g) (by_rup (gate_ids id)),
-      fourteen g,
+      gate_count first g,
       gate_claims_few first (id + 4) gs,
     )
-  where
-    fourteen : (g : Gate) → length (gate_clauses first g) ≤ 14
-    fourteen (Full a b c made) = omega arith
-    fourteen (Half a b made) = omega arith
 
 -- ---- all steps
 
@@ -394,18 +394,8 @@ module _ (m : BoundedSum) (suits : IsForAdder m) (first id next : ℕ) (original
 
   clause_variables : All AreVariables (adder_clauses ts m.bound first)
   clause_variables =
-      let vars : All IsVariable (map (λ (t : Weighted). t.lit.var) ts) = All-map IsVariable (λ (t : Weighted). t.lit.var) ts variables in
-      let names = adder_names ts m.bound first in
-      λ k d h i e l.
-      elim (names k d h i e l) as (λ _. IsVariable (get_or (get_or (adder_clauses ts m.bound first) k d) i e).var) [
-        | inl input ↦ All-contains IsVariable (map (λ (t : Weighted). t.lit.var) ts) (get_or (get_or (adder_clauses ts m.bound first) k d) i e).var vars input
-        | inr made ↦
-            let from = made.0 in
-            let below = made.1 in (
-              (let a : 1 ≤ (get_or (get_or (adder_clauses ts m.bound first) k d) i e).var = omega (arith, from, start.low) in a),
-              (let b : (get_or (get_or (adder_clauses ts m.bound first) k d) i e).var < 2 ^ 31 = omega (arith, below, start.fits) in b),
-            )
-      ]
+      adder_variables IsVariable ts m.bound first variables
+      (λ v from below. ((let a : 1 ≤ v = omega (arith, from, start.low) in a), (let b : v < 2 ^ 31 = omega (arith, below, start.fits) in b)))
 
   rows_few : All (λ (c : List Lit). length c ≤ 100) (comparator first m.bound (network_ends ts))
   rows_few =

@@ -3,7 +3,7 @@ use Rattle.std.proofs.Common.{◌≡◌, ◌<◌, ◌≤◌, ◌+◌, ◌*◌, �
 use Rattle.std.specs.Prelude.{map, count_by}
 use Rattle.std.proofs.lemmas.List.{length-map, append-nil}
 use Rattle.std.proofs.lemmas.List.Sums.{sum_by-cons, sum_by-append, count_by-le-length}
-use Rattle.std.proofs.Math.Nat.{two-pow-succ, mul-add}
+use Rattle.std.proofs.Math.Nat.{two-pow-succ, mul-add, mul-le-mul_left, pow-le-pow_right}
 use Rattle.std.proofs.Math.Numerals.{add-one}
 use Rattle.pb_base.specs.declared.literal.Lit.{Lit}
 use Rattle.pb_family.specs.Fresh.{positive_of}
@@ -14,7 +14,7 @@ use Rattle.pb_adder.specs.declared.gate.Wire.TheVariants.{Made}
 use Rattle.pb_adder.specs.Gates.{wire_lit, carry_wire}
 use Rattle.pb_adder.specs.laws.GateTables.{one}
 use Rattle.pb_adder.specs.Network.{inputs_at, level_gates, level_left, gates_of, oldest_of, level_end, queue_at, ends_from, level_count, network_ends}
-use Rattle.pb_adder.specs.laws.NetworkLaws.{few_left, gates_length, end_value, number, levels_value, value_le, value_step, first_value, count_all, whole_value, levels_enough}
+use Rattle.pb_adder.specs.laws.NetworkLaws.{count_append, few_left, gates_length, end_value, number, levels_value, value_le, value_step, first_value, count_all, whole_value, levels_enough}
 use Rattle.pb_derive.specs.Ones.{ones, unit_of}
 use Rattle.pb_adder.specs.inner.RunningSums.{outputs, Sum, part, Exchanges, StaysUpTo, Chain}
 use Rattle.pb_adder.specs.LeveledGates.{Leveled, at_level, leveled_from, leveled_gates}
@@ -52,12 +52,6 @@ level_sum first ts level base queue carries p = base p + 2 ^ level * waiting fir
 times_both : (n x y u v : ℕ) → x + y ≡ u + v → n * x + n * y ≡ n * u + n * v
 times_both n x y u v e = sym (mul-add n x y) ∙ ap (λ (k : ℕ). n * k) e ∙ mul-add n u v
 
-times_le : (n x y : ℕ) → x ≤ y → n * x ≤ n * y
-times_le n x y h = grind arith
-
-bits-push : (first : ℕ) (p : Lit → Bool) (ws : List Wire) (w : Wire) → bits first (ws ++ w ∷ []) p ≡ bits first ws p + one (on first p w)
-bits-push first p ws w = omega (arith, sum_by-append (λ y. cond (on first p y) 1 0) ws (w ∷ []), count_by-cons (on first p) w [])
-
 part-unit : (p : Lit → Bool) (l : Lit) (ts : List Weighted) → part (unit_of l ∷ ts) p ≡ one (p l) + part ts p
 part-unit p l ts = sum_by-cons (λ (t : Weighted). cond (p t.lit) t.coef 0) (unit_of l) ts
 
@@ -88,7 +82,7 @@ stays : (first m : ℕ) (ts : List Weighted) (level : ℕ) (base : Sum) (queue c
     → ((p : Lit → Bool) → base p + 2 ^ level * room ≤ m) → StaysUpTo m (level_sum first ts level base queue carries)
 stays first m ts level base queue carries room fits within p =
     let below : waiting first ts level queue carries p ≤ room = omega (arith, waiting_le first ts level queue carries p, fits) in
-    omega (arith, within p, times_le (2 ^ level) (waiting first ts level queue carries p) room below)
+    omega (arith, within p, mul-le-mul_left (2 ^ level) below)
 
 level_chain : (first m : ℕ) (ts : List Weighted) (level : ℕ) (base : Sum) (room n : ℕ) (queue carries : List Wire) (made : ℕ)
     → room_at ts level queue carries ≤ room → ((p : Lit → Bool) → base p + 2 ^ level * room ≤ m)
@@ -109,7 +103,7 @@ level_chain first m ts level base room (suc n) (a ∷ b ∷ []) carries made fit
       waiting_exchange first ts level base (a ∷ b ∷ []) carries (s ∷ []) (carries ++ d ∷ []) inputs (first + made) (first + (made + 1)) (λ p.
           omega (
             arith,
-            bits-push first p carries d,
+            count_append (on first p) carries d,
             count_by-cons (on first p) a (b ∷ []),
             count_by-cons (on first p) b [],
             count_by-cons (on first p) s [],
@@ -132,8 +126,8 @@ level_chain first m ts level base room (suc n) (a ∷ b ∷ c ∷ rest) carries 
       waiting_exchange first ts level base queue carries (rest ++ s ∷ []) (carries ++ d ∷ []) inputs (first + made) (first + (made + 1)) (λ p.
           omega (
             arith,
-            bits-push first p carries d,
-            bits-push first p rest s,
+            count_append (on first p) carries d,
+            count_append (on first p) rest s,
             count_by-cons (on first p) a (b ∷ c ∷ rest),
             count_by-cons (on first p) b (c ∷ rest),
             count_by-cons (on first p) c rest,
@@ -175,10 +169,6 @@ twice_both level x y =
 abbrev pub with_end_of : ℕ → ℕ → Sum → List Wire → ℕ → Sum
 with_end_of first level base queue made p = base p + 2 ^ level * end_value (on first p) (level_end queue made)
 
-pub power_le : (k n : ℕ) → 2 ^ k ≤ 2 ^ (k + n)
-power_le k zero = omega (arith, ap (λ j. 2 ^ j) (let e : k + 0 ≡ k = omega arith in e))
-power_le k (suc n) = omega (arith, power_le k n, two-pow-succ (k + n), ap (λ j. 2 ^ j) (let e : k + suc n ≡ suc (k + n) = omega arith in e))
-
 pub levels_chain : (first m w : ℕ) (ts : List Weighted) (n level : ℕ) (base : Sum) (carried : List Wire) (made : ℕ)
     → foot_room ts level carried < 2 ^ n
     → ((p : Lit → Bool) → base p + 2 ^ level * foot_room ts level carried ≤ w + 2 ^ level)
@@ -203,7 +193,7 @@ levels_chain first m w ts (suc n) level base carried made few within fits =
     let carries_size : length carries ≡ length queue / 2 = length-map gates carry_wire ∙ gates_length queue made in
     let above : (p : Lit → Bool) → base p + 2 ^ level * room ≤ w + 2 ^ (level + 1) = λ p. omega (arith, within p, mul-add (2 ^ level) (foot_room ts level carried) 1, next_power level) in
     let power : 2 ^ (level + 1) ≤ 2 ^ (level + suc n) =
-    omega (arith, power_le (level + 1) n, ap (λ j. 2 ^ j) (let e : level + 1 + n ≡ level + suc n = omega arith in e)) in
+    pow-le-pow_right {n = 2} (omega arith) {i = level + 1} {j = level + suc n} (omega arith) in
     let here = level_chain first m ts level base room (length queue / 2) queue [] made (omega (arith, unit_value, inputs_all, queue_size)) (λ p. omega (arith, above p, power, fits)) in
     let start : (p : Lit → Bool) → foot_sum first ts level base carried p ≡ level_sum first ts level base queue [] p = λ p.
     let inner : levels_value (on first p) ts level + bits first carried p ≡ waiting first ts level queue [] p =
@@ -218,7 +208,7 @@ levels_chain first m w ts (suc n) level base carried made few within fits =
     (λ p.
     let end = end_value (on first p) (level_end queue made) in
     let small : end + 2 * foot_room ts (level + 1) carries ≤ room = omega (arith, end_le (on first p) left few_here, few_here, unit_value, inputs_all, queue_size, carries_size) in
-    omega (arith, twice_both level (foot_room ts (level + 1) carries) end, times_le (2 ^ level) (end + 2 * foot_room ts (level + 1) carries) room small, above p))
+    omega (arith, twice_both level (foot_room ts (level + 1) carries) end, mul-le-mul_left (2 ^ level) small, above p))
     (omega (arith, fits, ap (λ j. 2 ^ j) (let e : level + 1 + n ≡ level + suc n = omega arith in e))) in
     let es = ends_from n (level + 1) ts carries next in
     chain_then first m (foot_sum first ts level base carried) (level_sum first ts level base left carries) (λ p. base p + 2 ^ level * number (on first p) (ends_from (suc n) level ts carried made))

@@ -1,6 +1,6 @@
 -- The rows of a comparator have a false bit each exactly where the number is within the bound.
 use Rattle.std.proofs.Common.{◌≡◌, ◌≢◌, ◌≤◌, ◌+◌, ◌*◌, ◌/◌, ◌%◌, ◌==◌, ◌⊎◌, ℕ, Bool, true, false, cond, not, List, [], ◌∷◌, refl, sym, ap, ◌∙◌, subst, arith, inl, inr}
-use Rattle.std.specs.Prelude.{All, Option, Some, None}
+use Rattle.std.specs.Prelude.{All, Option, Some, None, is_some}
 use Rattle.std.specs.List.{list_any}
 use Rattle.std.proofs.lemmas.Bool.{cases_Bool, cases_lt, eqb-true, eqb-false, false≢true, cond-true, cond-false, or_left, or_right, or_from, or_parts, not-false, eq-eqb, both_ways}
 use Rattle.std.proofs.lemmas.List.Elements.{All-cons, All-nil, All-head, All-tail, All-append}
@@ -28,24 +28,19 @@ found_items : Option (List Wire) → List Wire
 found_items None = []
 found_items (Some ws) = ws
 
-is_found : Option (List Wire) → Bool
-is_found None = false
-is_found (Some ws) = true
-
 found_parts : (e : Option Wire) (rest : Option (List Wire)) (ws : List Wire) → with_end e rest ≡ Some ws
     → (w : Wire) × (vs : List Wire) × (e ≡ Some w) × (rest ≡ Some vs) × (Some (w ∷ vs) ≡ Some ws)
-unfolding is_found
-found_parts None rest ws found = absurd (false≢true (ap is_found found))
-found_parts (Some w) None ws found = absurd (false≢true (ap is_found found))
+found_parts None rest ws found = absurd (false≢true (ap is_some found))
+found_parts (Some w) None ws found = absurd (false≢true (ap is_some found))
 found_parts (Some w) (Some vs) ws found = (w, vs, refl, refl, found)
 
 -- where the bits cover the bound, the number reaches it
 cover_le : (p : Wire → Bool) (k : ℕ) (es : List (Option Wire)) (ws : List Wire) → covering k es ≡ Some ws → AllSet p ws → k ≤ number p es
-unfolding is_found found_items
+unfolding found_items
 cover_le p k [] ws found all =
     elim (cases_Bool (k == 0)) as (λ _. k ≤ 0) [
       | inl none ↦ let is_zero = eqb-true k 0 none in omega arith
-      | inr some ↦ absurd (false≢true (ap is_found (sym (cond-false (k == 0) (Some []) None some) ∙ found)))
+      | inr some ↦ absurd (false≢true (ap is_some (sym (cond-false (k == 0) (Some []) None some) ∙ found)))
     ]
 cover_le p k (e ∷ es) ws found all =
     elim (odd_cases k) as (λ _. k ≤ number p (e ∷ es)) [

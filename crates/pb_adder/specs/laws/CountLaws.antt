@@ -1,9 +1,10 @@
 -- The lists are as long as the counts say.
 use Rattle.std.proofs.Common.{◌≡◌, ◌≢◌, ◌<◌, ◌≤◌, ◌+◌, ◌-◌, ◌*◌, ◌/◌, ◌%◌, ◌==◌, ◌&&◌, ◌||◌, ℕ, Bool, true, false, cond, not, List, [], ◌∷◌, ◌++◌, length, refl, sym, ap, ◌∙◌, arith, inl, inr, zero, suc, length-append}
-use Rattle.std.specs.Prelude.{map, sum_by, count_by, Option, Some, None}
+use Rattle.std.specs.Prelude.{map, sum_by, count_by, Option, Some, None, is_some}
 use Rattle.std.specs.List.{filter, flat_map}
 use Rattle.std.proofs.lemmas.Bool.{cases_Bool, eqb-true, eqb-false, ne_eqb, cond-true, cond-false}
 use Rattle.std.proofs.lemmas.List.{length-map}
+use Rattle.std.proofs.Math.Nat.{suc-mul}
 use Rattle.std.proofs.lemmas.List.Sums.{sum_by-cons, length-filter, count_by-le-length}
 use Rattle.std.proofs.lemmas.Grind.{flat_map-append}
 use Rattle.pb_norm.specs.Constraints.{Weighted}
@@ -117,25 +118,21 @@ gate_clauses_count first (suc n) level ts carried made =
 
 -- ---- the comparator
 
-abbrev is_there : Option (List Wire) → Bool
-is_there None = false
-is_there (Some ws) = true
-
-with_end_there : (e : Option Wire) (o : Option (List Wire)) → is_there (with_end e o) ≡ (has_end e && is_there o)
+with_end_there : (e : Option Wire) (o : Option (List Wire)) → is_some (with_end e o) ≡ (has_end e && is_some o)
 with_end_there None o = refl
 with_end_there (Some w) None = refl
 with_end_there (Some w) (Some ws) = refl
 
-covered_count : (k : ℕ) (es : List (Option Wire)) → is_there (covering k es) ≡ is_covered k (map has_end es)
+covered_count : (k : ℕ) (es : List (Option Wire)) → is_some (covering k es) ≡ is_covered k (map has_end es)
 covered_count k [] = at_end (k == 0)
   where
-    at_end : (b : Bool) → is_there (cond b (Some []) None) ≡ b
+    at_end : (b : Bool) → is_some {T = List Wire} (cond b (Some []) None) ≡ b
     at_end true = refl
     at_end false = refl
 covered_count k (e ∷ es) =
     choose (is_odd k) (has_end e) (with_end e (covering (k / 2) es)) (covering (k / 2) es) (is_covered (k / 2) (map has_end es)) (with_end_there e (covering (k / 2) es)) (covered_count (k / 2) es)
   where
-    choose : (odd has : Bool) (o r : Option (List Wire)) (covered : Bool) → is_there o ≡ (has && is_there r) → is_there r ≡ covered → is_there (cond odd o r) ≡ ((not odd || has) && covered)
+    choose : (odd has : Bool) (o r : Option (List Wire)) (covered : Bool) → is_some o ≡ (has && is_some r) → is_some r ≡ covered → is_some (cond odd o r) ≡ ((not odd || has) && covered)
     choose true has o r covered eo er = eo ∙ ap (λ b. has && b) er
     choose false has o r covered eo er = er
 
@@ -151,11 +148,11 @@ comparator_rows_count k (Some w ∷ es) =
       one_row (is_odd k) (covering (k / 2) es) (is_covered (k / 2) (map has_end es)) (covered_count (k / 2) es),
     )
   where
-    row_length : (o : Option (List Wire)) → length (row_of w o) ≡ cond (is_there o) 1 0
+    row_length : (o : Option (List Wire)) → length (row_of w o) ≡ cond (is_some o) 1 0
     row_length None = refl
     row_length (Some ws) = refl
 
-    one_row : (odd : Bool) (o : Option (List Wire)) (covered : Bool) → is_there o ≡ covered → length (cond odd [] (row_of w o)) ≡ cond (not odd && covered) 1 0
+    one_row : (odd : Bool) (o : Option (List Wire)) (covered : Bool) → is_some o ≡ covered → length (cond odd [] (row_of w o)) ≡ cond (not odd && covered) 1 0
     one_row true o covered e = refl
     one_row false o covered e = row_length o ∙ ap (λ b. cond b 1 0) e
 
@@ -232,8 +229,5 @@ gates_few (suc n) level ts carried made few =
     let queue = queue_length ts level carried in
     let inputs = count_by-le-length (has_bit level) ts in
     let rest = gates_few n (level + 1) ts (map carry_wire gates) (made + 2 * length gates) (omega arith) in
-    let product : suc n * length ts ≡ n * length ts + length ts = suc_times n (length ts) in
+    let product : suc n * length ts ≡ n * length ts + length ts = suc-mul n (length ts) in
     omega (arith, length-append gates later)
-  where
-    suc_times : (n m : ℕ) → suc n * m ≡ n * m + m
-    suc_times n m = omega arith

@@ -1,5 +1,5 @@
--- The clauses of the adders may be claimed once it is known what their variables mean.
-use Rattle.std.proofs.Common.{◌≡◌, ◌≤◌, ◌<◌, ◌+◌, ◌^◌, ℕ, true, List, [], ◌∷◌, length, refl, subst, sym, arith, get_or, leb}
+-- The clauses of an adder follow by propagation from what its variables mean, and those of all may be claimed once that is known.
+use Rattle.std.proofs.Common.{◌≡◌, ◌≤◌, ◌<◌, ◌+◌, ◌^◌, ℕ, true, List, [], ◌∷◌, length, refl, subst, sym, arith, get_or, leb, ◌++◌}
 use Rattle.std.specs.Prelude.{All, map, flat_map, Some}
 use Rattle.std.specs.List.{AllPairs, list_all}
 use Rattle.std.proofs.lemmas.List.{length-map, map-append}
@@ -13,7 +13,7 @@ use Rattle.pb_norm.specs.Constraints.{Constraint, weight}
 use Rattle.pb_steps.specs.Database.{Database, constraint_at}
 use Rattle.pb_derive.specs.inner.Ran.{IsClaim}
 use Rattle.pb_derive.specs.Later.{IsNumbered, Knows}
-use Rattle.pb_derive.specs.Reifications.{forward_of, reverse_of}
+use Rattle.pb_derive.specs.Reifications.{forward_of, reverse_of, Reification}
 use Rattle.pb_derive.specs.inner.Meant.{IsMeant, AreMeant}
 use Rattle.pb_derive.proofs.Laters.{known_below}
 use Rattle.pb_adder.specs.declared.gate.Gate.{Gate}
@@ -24,13 +24,48 @@ use Rattle.pb_adder.specs.GateReifications.{carry_reification, sum_reification, 
 use Rattle.pb_adder.specs.inner.RunningSums.{IsApart}
 use Rattle.pb_derive.specs.Rups.{by_rup}
 use Rattle.pb_adder.specs.AdderSteps.{gate_ids, gate_claims, row_claims}
-use Rattle.pb_adder.specs.laws.Distances.{Unequal, lits_apart, vars}
-use Rattle.pb_adder.specs.laws.GateTables.{few_inputs, gate_places}
+use Rattle.pb_adder.specs.laws.ApartGates.{Unequal, lits_apart, vars}
+use Rattle.pb_adder.specs.laws.GateTables.{few_inputs, gate_places, gate_table, table_clauses}
 use Rattle.pb_derive.specs.inner.Refuted.{IsRefuting, AreAt}
-use Rattle.pb_derive.proofs.PinnedRups.{AreFormsOf}
-use Rattle.pb_adder.specs.laws.GateRups.{adder_constraints, gate_refutes}
+use Rattle.pb_derive.proofs.PinnedRups.{AreFormsOf, is_refuted, pinned_refute}
 use Rattle.pb_derive.proofs.Rups.{ones-weight, refuted_claims}
 use Rattle.pb_derive.proofs.Appends.{weight-append}
+use Rattle.pb_base.specs.Literals.{negated}
+use Rattle.pb_derive.proofs.PinLemmas.{AreApartLits}
+use Rattle.pb_derive.specs.laws.Pins.{pinned_constraint}
+
+abbrev both_of : Reification → List Constraint
+both_of m = forward_of m ∷ reverse_of m ∷ []
+
+-- the four constraints of an adder
+abbrev pub adder_constraints : List Lit → ℕ → ℕ → List Constraint
+adder_constraints inputs s d = both_of (carry_reification inputs d) ++ both_of (sum_reification inputs s d)
+
+-- what may be tried, for a clause: its literals false, and then perhaps the carry one way
+abbrev traces : ℕ → List Lit → List (List Lit)
+traces d q = map negated q ∷ (positive_of d ∷ map negated q) ∷ (negated (positive_of d) ∷ map negated q) ∷ []
+
+-- those of an adder, over the places of its table
+abbrev over_places : Gate → List Constraint
+over_places (Full a b c made) = adder_constraints (positive_of 0 ∷ positive_of 1 ∷ positive_of 2 ∷ []) 3 4
+over_places (Half a b made) = adder_constraints (positive_of 0 ∷ positive_of 1 ∷ []) 2 3
+
+table_refuted : (first : ℕ) (g : Gate) → list_all (is_refuted (traces (length (gate_inputs g) + 1)) (length (gate_places first g)) (over_places g)) (gate_table g) ≡ true
+unfolding is_refuted
+table_refuted first (Full a b c made) = refl
+table_refuted first (Half a b made) = refl
+
+numbered_pinned : (first : ℕ) (g : Gate) → map (pinned_constraint (gate_places first g)) (over_places g) ≡ adder_constraints (input_lits first g) (sum_var first g) (carry_var first g)
+numbered_pinned first (Full a b c made) = refl
+numbered_pinned first (Half a b made) = refl
+
+-- so over its literals, where all variables differ
+pub gate_refutes : (first : ℕ) (g : Gate) (cs : List Constraint) → AreApartLits (gate_places first g)
+    → AreFormsOf (adder_constraints (input_lits first g) (sum_var first g) (carry_var first g)) cs → All (IsRefuting cs) (gate_clauses first g)
+gate_refutes first g cs apart forms =
+    subst (All (IsRefuting cs)) (table_clauses first g)
+    (pinned_refute (traces (length (gate_inputs g) + 1)) (gate_places first g) (over_places g) cs (gate_table g) apart
+    (subst (λ (ps : List Constraint). AreFormsOf ps cs) (sym (numbered_pinned first g)) forms) (table_refuted first g))
 
 -- the four constraints of an adder, and where they stand
 pub record HasFour (db : Database) (id : ℕ) (inputs : List Lit) (s d : ℕ) : Type 0 where

@@ -1,7 +1,8 @@
 -- The adders with their levels are those of the network.
-use Rattle.std.proofs.Common.{◌≡◌, ◌≤◌, ◌<◌, ◌+◌, ◌*◌, ◌^◌, ℕ, List, [], ◌∷◌, ◌++◌, length, refl, sym, ap, ◌∙◌, subst, arith, zero, suc, ◌-◌}
+use Rattle.std.proofs.Common.{◌≡◌, ◌≤◌, ◌<◌, ◌+◌, ◌*◌, ◌^◌, ℕ, List, [], ◌∷◌, ◌++◌, length, refl, sym, ap, ◌∙◌, subst, arith, zero, suc}
 use Rattle.std.specs.Prelude.{All, map, flat_map}
 use Rattle.std.proofs.lemmas.List.{length-map}
+use Rattle.std.proofs.Math.Nat.{pow-le-pow_right}
 use Rattle.std.proofs.lemmas.List.Elements.{All-nil, All-append, All-map, All-weaker}
 use Rattle.std.proofs.lemmas.List.Folds.{flat_map-map}
 use Rattle.pb_norm.specs.Constraints.{Weighted, weight}
@@ -13,7 +14,6 @@ use Rattle.pb_adder.specs.Network.{gates_of, queue_at, gates_from, level_count, 
 use Rattle.pb_adder.specs.laws.NetworkLaws.{digits_few}
 use Rattle.pb_adder.specs.GateReifications.{gate_reifications}
 use Rattle.pb_adder.specs.LeveledGates.{Leveled, leveled, at_level, leveled_from, leveled_gates}
-use Rattle.pb_adder.specs.laws.Chains.{power_le}
 use Rattle.pb_adder.specs.laws.TreeOps.{reifications_of}
 
 abbrev pub gates_in : List Leveled → List Gate
@@ -58,16 +58,13 @@ levels_low (suc n) level ts carried made =
 pub few_levels : (ts : List Weighted) → weight ts < 2 ^ 100 → level_count ts ≤ 100
 few_levels ts small = digits_few 100 (weight ts) (weight ts) small
 
-pub power_up : (k m : ℕ) → k ≤ m → 2 ^ k ≤ 2 ^ m
-power_up k m h = omega (arith, power_le k (m - k), ap (λ (j : ℕ). 2 ^ j) (let e : k + (m - k) ≡ m = omega (arith, h) in e))
-
 pub network_low : (ts : List Weighted) → weight ts < 2 ^ 100 → All (λ (x : Leveled). 2 ^ x.level ≤ 2 ^ 100) (leveled_gates ts)
 network_low ts small =
-    All-weaker (λ (x : Leveled). x.level < 0 + level_count ts) (λ (x : Leveled). 2 ^ x.level ≤ 2 ^ 100) (λ x h. power_up x.level 100 (omega (arith, h, few_levels ts small)))
+    All-weaker (λ (x : Leveled). x.level < 0 + level_count ts) (λ (x : Leveled). 2 ^ x.level ≤ 2 ^ 100) (λ x h. pow-le-pow_right {n = 2} (omega arith) {i = x.level} {j = 100} (omega (arith, h, few_levels ts small)))
     (leveled_gates ts) (levels_low (level_count ts) 0 ts [] 0)
 
 pub count_power : (ts : List Weighted) → weight ts < 2 ^ 100 → 2 ^ level_count ts ≤ 2 ^ 100
-count_power ts small = power_up (level_count ts) 100 (few_levels ts small)
+count_power ts small = pow-le-pow_right {n = 2} (omega arith) {i = level_count ts} {j = 100} (few_levels ts small)
 
 pub network_levels : (ts : List Weighted) → weight ts < 2 ^ 100 → All (λ (x : Leveled). x.level < 126) (leveled_gates ts)
 network_levels ts small =

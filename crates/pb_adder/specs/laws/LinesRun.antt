@@ -32,10 +32,9 @@ use Rattle.pb_derive.proofs.Running.{runs_append, claims_ran}
 use Rattle.pb_derive.proofs.Stacked.{after_step, push_step}
 use Rattle.pb_adder.specs.AdderSteps.{tree_ops, blocks_within, blocks, sum_ops, later_sums, sum_steps, last_sum, last_deletion}
 use Rattle.pb_adder.specs.LeveledGates.{Leveled}
-use Rattle.pb_adder.specs.laws.LineOps.{IsReady, push_ready, add_ready, height_push}
 use Rattle.pb_adder.specs.laws.RunningSteps.{balanced_both, running_small}
 use Rattle.pb_adder.specs.inner.RunningSums.{Sum, IsRunning, StaysUpTo, Chain, taken_by, given_by, taken, given}
-use Rattle.pb_adder.specs.laws.TreeOps.{MakesFresh, IsLaid, Leaves, levels_in, reifications_of, meant_behind, laid_parts, taken_less, tree_leaves}
+use Rattle.pb_adder.specs.laws.TreeOps.{MakesFresh, IsLaid, Leaves, levels_in, reifications_of, meant_behind, laid_parts, taken_less, tree_leaves, IsReady, push_ready, add_ready, height_push}
 
 -- ---- what does not change from line to line
 

@@ -21,7 +21,7 @@ use Rattle.pb_adder.specs.Network.{has_bit, inputs_at, level_gates, level_left, 
 
 -- ---- one level
 
-count_append : (p : Wire → Bool) (xs : List Wire) (x : Wire) → count_by p (xs ++ x ∷ []) ≡ count_by p xs + one (p x)
+pub count_append : (p : Wire → Bool) (xs : List Wire) (x : Wire) → count_by p (xs ++ x ∷ []) ≡ count_by p xs + one (p x)
 count_append p xs x = omega (arith, sum_by-append (λ y. cond (p y) 1 0) xs (x ∷ []), count_by-cons p x [])
 
 -- the bits of a level add up to those left and twice the carries

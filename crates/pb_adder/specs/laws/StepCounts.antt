@@ -1,6 +1,7 @@
 -- How many steps the derivation of an adder network has.
 use Rattle.std.proofs.Common.{◌≡◌, ◌≤◌, ◌+◌, ◌-◌, ◌*◌, ◌^◌, ℕ, zero, suc, List, [], ◌∷◌, ◌++◌, length, drop, refl, ap, ◌∙◌, arith, length-append}
 use Rattle.std.specs.Prelude.{map, flat_map}
+use Rattle.std.proofs.lemmas.Nat.{pow_pos}
 use Rattle.std.proofs.lemmas.List.{length-map, length-drop}
 use Rattle.pb_norm.specs.Constraints.{Weighted}
 use Rattle.pb_derive.specs.Claims.{Claim, claim_steps}
@@ -17,14 +18,13 @@ use Rattle.pb_adder.specs.laws.AdderDerives.{reifications-length, claims_clauses
 use Rattle.pb_adder.specs.laws.AdderLaws.{adder_counts}
 use Rattle.pb_adder.specs.laws.CountLaws.{network_fresh}
 use Rattle.pb_adder.specs.laws.Leveling.{leveled_length}
-use Rattle.pb_adder.specs.laws.LineOps.{power_positive}
 
 -- no block is empty
 within_few : (n more : ℕ) (levels : List ℕ) → length (blocks_within n more levels) ≤ length levels
 unfolding blocks_within
 within_few n zero levels = omega arith
 within_few n (suc more) [] = omega arith
-within_few n (suc more) (level ∷ levels) = omega (arith, within_few n more (drop (2 ^ n) (level ∷ levels)), length-drop (2 ^ n) (level ∷ levels), power_positive n)
+within_few n (suc more) (level ∷ levels) = omega (arith, within_few n more (drop (2 ^ n) (level ∷ levels)), length-drop (2 ^ n) (level ∷ levels), pow_pos n)
 
 pub few_blocks : (levels : List ℕ) → length (blocks levels) ≤ length levels
 few_blocks levels = within_few 16 (length levels) levels

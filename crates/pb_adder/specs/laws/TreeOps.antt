@@ -1,8 +1,9 @@
--- What a block of adders says, added up on a stack as a balanced tree.
-use Rattle.std.proofs.Common.{◌≡◌, ◌≤◌, ◌<◌, ◌+◌, ◌-◌, ◌*◌, ◌^◌, ℕ, Bool, true, false, zero, suc, cond, List, [], ◌∷◌, ◌++◌, length, take, drop, arith, refl, ap, sym, ◌∙◌, subst, leb, append_assoc}
-use Rattle.std.specs.Prelude.{All, map, flat_map, is_some, sum_by}
+-- What an adder says, on a stack, and blocks of adders as trees of operations.
+use Rattle.std.proofs.Common.{◌≡◌, ◌≤◌, ◌<◌, ◌+◌, ◌-◌, ◌*◌, ◌^◌, ℕ, Bool, true, false, zero, suc, cond, List, [], ◌∷◌, ◌++◌, length, take, drop, arith, refl, ap, sym, ◌∙◌, subst, leb, append_assoc, pos, ◌≤ℤ◌}
+use Rattle.std.specs.Prelude.{All, map, flat_map, is_some, sum_by, Option, Some, None}
 use Rattle.std.proofs.Math.Nat.{mul-le-mul_left, two-pow-succ}
-use Rattle.std.proofs.lemmas.Bool.{cond_both, leb-true, leb-false}
+use Rattle.std.proofs.lemmas.Bool.{cond_both, leb-true, leb-false, lt-ltb}
+use Rattle.std.proofs.lemmas.Nat.{pow_pos}
 use Rattle.std.proofs.lemmas.List.{length-map, length-take-le, length-drop, take-append-drop, take-map, drop-map}
 use Rattle.std.proofs.lemmas.List.Elements.{All-nil, All-cons, All-head, All-tail, All-map, All-append}
 use Rattle.std.proofs.lemmas.List.Sums.{sum_by-cons, sum_by-append}
@@ -15,8 +16,8 @@ use Rattle.pb_norm.specs.Addition.{sum_of}
 use Rattle.pb_norm.proofs.Proper.{apart}
 use Rattle.pb_norm.proofs.Variables.{joined-vars}
 use Rattle.pb_steps.specs.declared.op.PolOp.{PolOp}
-use Rattle.pb_steps.specs.declared.op.PolOp.TheVariants.{Add}
-use Rattle.pb_steps.specs.Database.{Database}
+use Rattle.pb_steps.specs.declared.op.PolOp.TheVariants.{Add, Push, Mul, Div}
+use Rattle.pb_steps.specs.Database.{Database, Entry, constraint_at, IsLive}
 use Rattle.pb_steps.specs.Operations.{scaled, multiple}
 use Rattle.pb_steps.specs.Stacks.{after_ops, height_from}
 use Rattle.pb_derive.specs.Forms.{AreApartTerms, IsFormOf}
@@ -25,7 +26,7 @@ use Rattle.pb_derive.specs.Ones.{ones}
 use Rattle.pb_derive.specs.inner.Meant.{AreMeant}
 use Rattle.pb_derive.proofs.Rups.{ones-weight}
 use Rattle.pb_derive.proofs.SameTerms.{written-all}
-use Rattle.pb_derive.proofs.Stacked.{after_step}
+use Rattle.pb_derive.proofs.Stacked.{after_step, push_step}
 use Rattle.pb_adder.specs.declared.gate.Gate.{Gate}
 use Rattle.pb_adder.specs.declared.gate.Gate.TheVariants.{Full, Half}
 use Rattle.pb_adder.specs.AdderSteps.{line_ops, tree_ops}
@@ -34,9 +35,77 @@ use Rattle.pb_adder.specs.GateReifications.{carry_reification, sum_reification, 
 use Rattle.pb_adder.specs.LeveledGates.{Leveled}
 use Rattle.pb_adder.specs.laws.Chains.{part-outputs}
 use Rattle.pb_adder.specs.laws.GateTables.{one}
-use Rattle.pb_adder.specs.laws.LineOps.{IsReady, add_ready, line_after, line_height, line_ready, power_positive}
-use Rattle.pb_adder.specs.laws.RunningSteps.{balanced_as, balanced_both, balanced_small, balanced_times, line_exact, line_is}
+use Rattle.pb_adder.specs.laws.RunningSteps.{balanced_as, balanced_both, balanced_small, balanced_times, line_exact, line_is, weight-scaled}
 use Rattle.pb_adder.specs.inner.RunningSums.{outputs, balance, line_of, part, IsBalanced, IsApart, taken_by, given_by, taken, given}
+use Rattle.std.specs.Option.{option_and_then}
+use Rattle.std.proofs.lemmas.Int.{ints}
+use Rattle.pb_norm.proofs.AdditionSizes.{weight-joined}
+use Rattle.pb_steps.specs.Steps.{HasFactor, ids_of_op, vars_of_op}
+
+-- ---- what is on the stack
+
+-- its numbers are below a number
+pub record IsBelow (n : ℕ) (c : Constraint) : Type 0 where
+  pub weight : weight c.terms < n
+  pub degree : c.degree < n
+
+pub line_after : (live : List Entry) (level id : ℕ) (c e : Constraint) (rest : List PolOp) (stack : List Constraint) → constraint_at live id ≡ Some c → constraint_at live (id + 2) ≡ Some e
+    → IsBelow (2 ^ 120) c → IsBelow (2 ^ 120) e → IsBelow (2 ^ 126) (line_of c e) → IsBelow (2 ^ 126) (multiple (2 ^ level) (line_of c e))
+    → after_ops live (line_ops level id ++ rest) stack ≡ after_ops live rest (multiple (2 ^ level) (line_of c e) ∷ stack)
+line_after live level id c e rest stack at_c at_e small_c small_e small_line small_times =
+    let twice : Constraint = multiple 2 c in
+    let both : Constraint = sum_of twice e in
+    let line : Constraint = line_of c e in
+    let times : Constraint = multiple (2 ^ level) line in
+    let small_twice : IsBelow (2 ^ 121) twice = record { weight = omega (arith, weight-scaled 2 c.terms, small_c.weight); degree = omega (arith, small_c.degree) } in
+    push_step live id (Mul (pos 2) ∷ Push (id + 2) ∷ Add ∷ Div (pos 3) ∷ Mul (pos (2 ^ level)) ∷ rest) stack c at_c (omega (arith, small_c.weight)) (omega (arith, small_c.degree))
+    ∙ after_step live (Mul (pos 2)) (Push (id + 2) ∷ Add ∷ Div (pos 3) ∷ Mul (pos (2 ^ level)) ∷ rest) (c ∷ stack) twice stack refl (omega (arith, small_twice.weight)) (omega (arith, small_twice.degree))
+    ∙ push_step live (id + 2) (Add ∷ Div (pos 3) ∷ Mul (pos (2 ^ level)) ∷ rest) (twice ∷ stack) e at_e (omega (arith, small_e.weight)) (omega (arith, small_e.degree))
+    ∙ after_step live Add (Div (pos 3) ∷ Mul (pos (2 ^ level)) ∷ rest) (e ∷ twice ∷ stack) both stack refl
+    (omega (arith, weight-joined twice.terms e.terms, small_twice.weight, small_e.weight)) (omega (arith, small_twice.degree, small_e.degree))
+    ∙ after_step live (Div (pos 3)) (Mul (pos (2 ^ level)) ∷ rest) (both ∷ stack) line stack refl small_line.weight small_line.degree
+    ∙ after_step live (Mul (pos (2 ^ level))) rest (line ∷ stack) times stack refl small_times.weight small_times.degree
+
+-- ---- how high the stack is
+
+pub height_push : (h id : ℕ) (rest : List PolOp) → h < 65536 → height_from h (Push id ∷ rest) ≡ height_from (suc h) rest
+height_push h id rest low =
+    ap (λ (b : Bool). option_and_then (λ k. height_from k rest) (cond {A = Option ℕ} b (Some (suc h)) None)) (lt-ltb h 65536 low)
+
+pub line_height : (h level id : ℕ) (rest : List PolOp) → h + 1 < 65536 → height_from h (line_ops level id ++ rest) ≡ height_from (suc h) rest
+line_height h level id rest low =
+    height_push h id (Mul (pos 2) ∷ Push (id + 2) ∷ Add ∷ Div (pos 3) ∷ Mul (pos (2 ^ level)) ∷ rest) (omega (arith, low))
+    ∙ height_push (suc h) (id + 2) (Add ∷ Div (pos 3) ∷ Mul (pos (2 ^ level)) ∷ rest) (omega (arith, low))
+
+-- ---- what rules ask of the operations
+
+-- the constraints that it names stand, its variables are there, and a factor is one
+pub record IsReady (db : Database) (op : PolOp) : Type 0 where
+  pub ids : All (IsLive db.live) (ids_of_op op)
+  pub vars : All (λ v. v ≤ db.vars) (vars_of_op op)
+  pub factor : HasFactor op
+
+pub push_ready : (db : Database) (id : ℕ) → IsLive db.live id → IsReady db (Push id)
+push_ready db id live = record { ids = All-cons (IsLive db.live) id [] live (All-nil (IsLive db.live)); vars = All-nil (λ v. v ≤ db.vars); factor = tt }
+
+pub add_ready : (db : Database) → IsReady db Add
+add_ready db = record { ids = All-nil (IsLive db.live); vars = All-nil (λ v. v ≤ db.vars); factor = tt }
+
+mul_ready : (db : Database) (n : ℕ) → 1 ≤ n → IsReady db (Mul (pos n))
+mul_ready db n from = record { ids = All-nil (IsLive db.live); vars = All-nil (λ v. v ≤ db.vars); factor = (let h : pos 1 ≤ℤ pos n = omega (arith, ints, from) in h) }
+
+div_ready : (db : Database) (n : ℕ) → 1 ≤ n → IsReady db (Div (pos n))
+div_ready db n from = record { ids = All-nil (IsLive db.live); vars = All-nil (λ v. v ≤ db.vars); factor = (let h : pos 1 ≤ℤ pos n = omega (arith, ints, from) in h) }
+
+pub line_ready : (db : Database) (level id : ℕ) → IsLive db.live id → IsLive db.live (id + 2) → All (IsReady db) (line_ops level id)
+line_ready db level id carry sum =
+    let P = IsReady db in
+    All-cons P (Push id) (Mul (pos 2) ∷ Push (id + 2) ∷ Add ∷ Div (pos 3) ∷ Mul (pos (2 ^ level)) ∷ []) (push_ready db id carry)
+    (All-cons P (Mul (pos 2)) (Push (id + 2) ∷ Add ∷ Div (pos 3) ∷ Mul (pos (2 ^ level)) ∷ []) (mul_ready db 2 (omega arith))
+    (All-cons P (Push (id + 2)) (Add ∷ Div (pos 3) ∷ Mul (pos (2 ^ level)) ∷ []) (push_ready db (id + 2) sum)
+    (All-cons P Add (Div (pos 3) ∷ Mul (pos (2 ^ level)) ∷ []) (add_ready db)
+    (All-cons P (Div (pos 3)) (Mul (pos (2 ^ level)) ∷ []) (div_ready db 3 (omega arith))
+    (All-cons P (Mul (pos (2 ^ level))) [] (mul_ready db (2 ^ level) (pow_pos level)) (All-nil P))))))
 
 -- ---- what is known of an adder
 
@@ -158,7 +227,7 @@ module _ (P : ℕ → Type 0) (db : Database) (first : ℕ) (a : Assignment) (fr
       let apart_all = gate_apart first g laid.apart in
       let exact = line_exact inputs s d c e apart_all form_c form_e in
       let small = balanced_small 3 (part (ones inputs)) (part (outputs s d)) line exact (λ p. inputs_part first g p) (λ p. outputs_few p s d) in
-      let times = balanced_times n (part (ones inputs)) (part (outputs s d)) line (power_positive x.level) exact in
+      let times = balanced_times n (part (ones inputs)) (part (outputs s d)) line (pow_pos x.level) exact in
       let level = laid.level in
       let less = balanced_small (3 * 2 ^ 100) (λ p. n * part (ones inputs) p) (λ p. n * part (outputs s d) p) (multiple n line) times
       (λ p. times_small n (part (ones inputs) p) level (inputs_part first g p)) (λ p. times_small n (part (outputs s d) p) level (outputs_few p s d)) in
@@ -235,7 +304,7 @@ module _ (P : ℕ → Type 0) (db : Database) (first : ℕ) (a : Assignment) (fr
       let one : length front ≡ k = length-take-le k xs (omega (arith, more)) in
       let other : length back ≡ length xs - k = length-drop k xs in
       let met = meant_behind db first id front back (subst (λ (ys : List Leveled). AreMeant db id (reifications_of first ys)) (sym whole) meant) in
-      let left = tree_leaves n id front (omega (arith, one, power_positive n)) (omega (arith, one)) (omega (arith, one, more, short)) met.0 parts.0 in
+      let left = tree_leaves n id front (omega (arith, one, pow_pos n)) (omega (arith, one)) (omega (arith, one, more, short)) met.0 parts.0 in
       let right = tree_leaves n (id + 4 * k) back (omega (arith, other, more)) (omega (arith, other, few, two)) (omega (arith, other, short))
       (subst (λ (i : ℕ). AreMeant db (id + 4 * i) (reifications_of first back)) one met.1) parts.1 in
       subst (λ (ys : List Leveled). Leaves P db first (suc n) ys (tree_ops n id (take k ls) ++ (tree_ops n (id + 4 * k) (drop k ls) ++ Add ∷ []))) whole

@@ -1,11 +1,11 @@
 -- The justifications of a counter's clauses.
-use Rattle.std.proofs.Common.{◌≡◌, ◌≤◌, ◌<◌, ◌+◌, ◌*◌, ◌-◌, ◌/◌, ℕ, Bool, true, false, cond, leb, List, [], ◌∷◌, length, take, drop, refl, ap, sym, ◌∙◌, arith, inl, inr}
+use Rattle.std.proofs.Common.{◌≡◌, ◌≤◌, ◌<◌, ◌+◌, ◌*◌, ◌-◌, ◌/◌, ℕ, true, leb, List, [], ◌∷◌, length, take, drop, refl, ap, sym, ◌∙◌, arith, inl, inr}
 use Rattle.std.specs.Prelude.{map}
+use Rattle.std.proofs.lemmas.Bool.{cond_both}
 use Rattle.std.proofs.lemmas.List.{length-map}
 use Rattle.std.proofs.lemmas.Simd.{map-map}
 use Rattle.std.proofs.lemmas.List.Elements.{All-map}
 use Rattle.std.proofs.lemmas.Nat.{mod_below}
-use Rattle.std.proofs.Math.Nat.{mul-le-mul_right}
 use Rattle.pb_norm.specs.Constraints.{Weighted}
 use Rattle.pb_norm.specs.BoundedSums.{BoundedSum, IsProper}
 use Rattle.pb_norm.specs.Reduction.{lits_of, all_weigh}
@@ -18,7 +18,7 @@ use Rattle.pb_counter.specs.declared.place.Place.TheVariants.{Start, Below, One,
 use Rattle.pb_counter.specs.Counter.{clause_at, places, counter_clauses, counter_fresh, counter_size}
 use Rattle.pb_counter.specs.CounterSteps.{counted_at, reached_id, missed_id, sources_at, beside_at, justification_at, counter_justifications}
 use Rattle.pb_counter.specs.inner.Order.{IsPlace}
-use Rattle.pb_counter.specs.laws.CounterLaws.{named}
+use Rattle.pb_counter.specs.laws.CounterLaws.{named, place_below}
 use Rattle.pb_counter.specs.laws.CounterOrder.{count_places}
 use Rattle.pb_counter.specs.laws.CounterPlaces.{each_place}
 
@@ -28,22 +28,14 @@ counter_justification_clauses ts width first id next =
     ∙ map-map (λ (r : Justification). r.clause) (justification_at ts width first id next) (places (length ts) width)
     ∙ ap (λ (k : ℕ). map (clause_at (lits_of ts) width first) (places k width)) (sym (length-map ts (λ (t : Weighted). t.lit)))
 
-pub pick : {A : Type 0} (P : A → Type 0) (b : Bool) (x y : A) → P x → P y → P (cond b x y)
-pick P true x y h k = h
-pick P false x y h k = k
-
 -- the terms beside are a part of the sum
 pub beside_part : (ts : List Weighted) (p : Place) → IsPart ts (beside_at ts p)
 beside_part ts Start = part_front ts 0
 beside_part ts (Below j) = part_front ts 1
 beside_part ts (One i) = part_front ts (i + 1)
-beside_part ts (Keep i j) = pick (IsPart ts) (leb j i) (take 1 (drop (i + 1) ts)) (take (i + 1) ts) (part_here ts (i + 1)) (part_front ts (i + 1))
-beside_part ts (More i j) = pick (IsPart ts) (leb j i) (take 0 ts) (take (i + 1) ts) (part_front ts 0) (part_front ts (i + 1))
+beside_part ts (Keep i j) = cond_both (leb j i) (take 1 (drop (i + 1) ts)) (take (i + 1) ts) (IsPart ts) (λ _. part_here ts (i + 1)) (λ _. part_front ts (i + 1))
+beside_part ts (More i j) = cond_both (leb j i) (take 0 ts) (take (i + 1) ts) (IsPart ts) (λ _. part_front ts 0) (λ _. part_front ts (i + 1))
 beside_part ts (Stop i) = part_back ts (i + 2)
-
--- a place in the grid is below its size
-place_below : (i j width rows : ℕ) → i < rows → j < width → i * width + j < rows * width
-place_below i j width rows h k = let up : (i + 1) * width ≤ rows * width = mul-le-mul_right width (omega arith) in omega arith
 
 -- the ids are of the sum's constraint and of the variables'
 module _ (n width id next : ℕ) (two : 2 ≤ n) (some : 1 ≤ width) where
@@ -71,12 +63,12 @@ module _ (n width id next : ℕ) (two : 2 ≤ n) (some : 1 ≤ width) where
   sources_are (One i) h = one (missed_id width next (i + 1) 0) (missed (i + 1) 0 (omega (arith, h)) some)
   sources_are (Keep i j) h =
       let first = reached i j (omega (arith, h.0)) h.1 in
-      pick (AreSources fresh id next) (leb j i) (reached_id width next i j ∷ missed_id width next (i + 1) j ∷ []) (reached_id width next i j ∷ [])
-      (both (reached_id width next i j) (missed_id width next (i + 1) j) first (missed (i + 1) j (omega (arith, h.0)) h.1)) (one (reached_id width next i j) first)
+      cond_both (leb j i) (reached_id width next i j ∷ missed_id width next (i + 1) j ∷ []) (reached_id width next i j ∷ []) (AreSources fresh id next)
+      (λ _. both (reached_id width next i j) (missed_id width next (i + 1) j) first (missed (i + 1) j (omega (arith, h.0)) h.1)) (λ _. one (reached_id width next i j) first)
   sources_are (More i j) h =
       let first = reached i j (omega (arith, h.0)) (omega (arith, h.1)) in
-      pick (AreSources fresh id next) (leb j i) (reached_id width next i j ∷ missed_id width next (i + 1) (j + 1) ∷ []) (reached_id width next i j ∷ [])
-      (both (reached_id width next i j) (missed_id width next (i + 1) (j + 1)) first (missed (i + 1) (j + 1) (omega (arith, h.0)) h.1)) (one (reached_id width next i j) first)
+      cond_both (leb j i) (reached_id width next i j ∷ missed_id width next (i + 1) (j + 1) ∷ []) (reached_id width next i j ∷ []) (AreSources fresh id next)
+      (λ _. both (reached_id width next i j) (missed_id width next (i + 1) (j + 1)) first (missed (i + 1) (j + 1) (omega (arith, h.0)) h.1)) (λ _. one (reached_id width next i j) first)
   sources_are (Stop i) h = both (reached_id width next i (width - 1)) id (reached i (width - 1) (omega (arith, h)) (omega (arith, some))) (inl refl)
 
 -- each clause follows from what variables mean that stand for a front of the sum

@@ -74,10 +74,9 @@ module _ (c : BoundedSum) (units : all_weigh 1 c.terms ≡ true) (proper : IsPro
 
 -- ---- names and counts
 
-bit_within : (n width first i j : ℕ) → i + 1 < n → j < width → first + (i * width + j) < first + (n - 1) * width
-bit_within n width first i j h low =
-    let rows : i + 1 ≤ n - 1 = omega arith in
-    omega (arith, mul-le-mul_right width rows)
+-- a place in the grid is below its size
+pub place_below : (i j width rows : ℕ) → i < rows → j < width → i * width + j < rows * width
+place_below i j width rows h k = let up : (i + 1) * width ≤ rows * width = mul-le-mul_right width (omega arith) in omega arith
 
 module _ (ts : List Weighted) (width first : ℕ) (some : 1 ≤ width) (two : 2 ≤ length ts) where
   abbrev ms : List Lit
@@ -93,7 +92,7 @@ module _ (ts : List Weighted) (width first : ℕ) (some : 1 ≤ width) (two : 2 
   own k h = named_at ts first (counter_fresh (length ts) width) k h
 
   bit : (i j : ℕ) → i + 1 < length ms → j < width → Named (count_bit first width i j)
-  bit i j h low = inr (omega arith, bit_within (length ts) width first i j (omega (arith, size, h)) low)
+  bit i j h low = inr (omega arith, omega (arith, place_below i j width (length ts - 1) (omega (arith, size, h)) low))
 
   pub named : (p : Place) → IsPlace (length ts) width p → All Named (clause_at ms width first p)
   named Start h = All-from_recursion Named (clause_at ms width first Start) (own 0 (omega (arith, size, two)), (bit 0 0 (omega (arith, size, two)) some, tt))

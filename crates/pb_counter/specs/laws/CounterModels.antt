@@ -14,8 +14,7 @@ use Rattle.pb_counter.specs.declared.place.Place.{Place}
 use Rattle.pb_counter.specs.declared.place.Place.TheVariants.{Start, Below, One, Keep, More, Stop}
 use Rattle.pb_counter.specs.Counter.{count_bit, clause_at, places, counter_clauses}
 use Rattle.pb_counter.specs.inner.Order.{IsPlace}
-use Rattle.pb_counter.specs.laws.CounterPlaces.{each_place}
-use Rattle.pb_counter.specs.laws.SeenLiterals.{seen, seen_none, seen_yes, seen_no, seen_within}
+use Rattle.pb_counter.specs.laws.CounterPlaces.{each_place, seen, seen_none, seen_yes, seen_no, seen_within}
 
 -- the variable at (i, j) is true where more than j literals are true up to place i
 pub counting : (ℕ → Bool) → List Lit → ℕ → ℕ → Bool

@@ -79,7 +79,7 @@ module _ (n width i : ℕ) (within : i + 2 < n) where
 
 -- ---- all numbers
 
-sizes : (n m k : ℕ) → n ≡ m + 2 → 1 ≤ k → k + (m * (2 * k + 1) + 1) ≡ counter_size n k
+pub sizes : (n m k : ℕ) → n ≡ m + 2 → 1 ≤ k → k + (m * (2 * k + 1) + 1) ≡ counter_size n k
 sizes n m k more some = rw more (omega arith)
 
 pub place_order : (n width : ℕ) → 2 ≤ n → 1 ≤ width → places n width ≡ map (place_at n width) (range_with_len 0 (counter_size n width))

@@ -1,6 +1,6 @@
--- The places of a counter's clauses.
-use Rattle.std.proofs.Common.{◌≡◌, ◌<◌, ◌≤◌, ◌+◌, ◌-◌, ◌++◌, ℕ, zero, suc, List, [], ◌∷◌, subst, arith, inl, inr}
-use Rattle.std.specs.Prelude.{map, All}
+-- The places of a counter's clauses, and how many of the literals before a place pass a test.
+use Rattle.std.proofs.Common.{◌≡◌, ◌<◌, ◌≤◌, ◌+◌, ◌-◌, ◌++◌, ℕ, zero, suc, List, [], ◌∷◌, subst, arith, inl, inr, Bool, true, false, cond, length, take, refl, ap}
+use Rattle.std.specs.Prelude.{map, All, count_by}
 use Rattle.std.specs.List.{range_with_len, flat_map}
 use Rattle.std.proofs.lemmas.Bool.{cases_lt}
 use Rattle.std.proofs.lemmas.List.Elements.{All-cons, All-nil, All-head, All-tail, All-append}
@@ -11,6 +11,33 @@ use Rattle.pb_counter.specs.declared.place.Place.{Place}
 use Rattle.pb_counter.specs.declared.place.Place.TheVariants.{Start, Below, One, Keep, More, Stop}
 use Rattle.pb_counter.specs.Counter.{row_places, places}
 use Rattle.pb_counter.specs.inner.Order.{IsPlace}
+use Rattle.std.proofs.Math.Seq.{take-length}
+use Rattle.std.proofs.lemmas.List.Sums.{count_by_more_yes, count_by_more_no, sum_by-take-le}
+use Rattle.pb_base.specs.declared.literal.Lit.{Lit}
+use Rattle.pb_family.specs.Fresh.{positive_of, literal_at}
+
+pub seen : (Lit → Bool) → List Lit → ℕ → ℕ
+seen p ms k = count_by p (take k ms)
+
+pub seen_none : (p : Lit → Bool) (ms : List Lit) → seen p ms 0 ≡ 0
+unfolding seen
+seen_none p ms = refl
+
+pub seen_yes : (p : Lit → Bool) (ms : List Lit) (k : ℕ) → k < length ms → p (literal_at ms k) ≡ true → seen p ms (k + 1) ≡ seen p ms k + 1
+unfolding seen
+seen_yes p ms k within h = count_by_more_yes p ms k (positive_of 0) within h
+
+pub seen_no : (p : Lit → Bool) (ms : List Lit) (k : ℕ) → k < length ms → p (literal_at ms k) ≡ false → seen p ms (k + 1) ≡ seen p ms k
+unfolding seen
+seen_no p ms k within h = count_by_more_no p ms k (positive_of 0) within h
+
+pub seen_all : (p : Lit → Bool) (ms : List Lit) → seen p ms (length ms) ≡ count_by p ms
+unfolding seen
+seen_all p ms = ap (count_by p) (take-length ms)
+
+pub seen_within : (p : Lit → Bool) (ms : List Lit) (k : ℕ) → seen p ms k ≤ count_by p ms
+unfolding seen
+seen_within p ms k = sum_by-take-le (λ m. cond (p m) 1 0) ms k
 
 -- two clauses for one more place of a row
 abbrev pair_places : ℕ → ℕ → List Place

@@ -15,8 +15,7 @@ use Rattle.pb_counter.specs.declared.place.Place.{Place}
 use Rattle.pb_counter.specs.declared.place.Place.TheVariants.{Start, One, Keep, More, Stop}
 use Rattle.pb_counter.specs.Counter.{count_bit, clause_at, places, counter_clauses}
 use Rattle.pb_counter.specs.inner.Order.{IsPlace}
-use Rattle.pb_counter.specs.laws.CounterPlaces.{at_place}
-use Rattle.pb_counter.specs.laws.SeenLiterals.{seen, seen_none, seen_yes, seen_no, seen_all}
+use Rattle.pb_counter.specs.laws.CounterPlaces.{at_place, seen, seen_none, seen_yes, seen_no, seen_all}
 
 module _ (ms : List Lit) (width first : ℕ) (given : List Lit) where
   abbrev cs : List (List Lit)

@@ -2,8 +2,9 @@ use Rattle.std.proofs.Common.{◌≡◌, ◌+◌, arith, sym, length}
 use Rattle.pb_family.proofs.Deriving.{deriving_from}
 use Rattle.pb_adder.specs.AdderSteps.{gate_ids}
 use Rattle.pb_adder.specs.Gates.{gate_clauses}
+use Rattle.pb_adder.specs.laws.AdderShort.{gate_count}
 use Rattle.pb_adder.proofs.Walking.{walk_next, walk_fault, walk_ends}
-use Rattle.pb_adder.proofs.Walks.{place, claims_piece, claims_on, gates_walk, claims_ids, gate_count}
+use Rattle.pb_adder.proofs.Walks.{place, claims_piece, claims_on, gates_walk, claims_ids}
 use Rattle.pb_adder.proofs.claims.derive_gates.Goals as goal
 
 pub loop-gate-init : goal.loop-gate-init

@@ -32,22 +32,18 @@ loop-end-preserved g c =
       fits = rest_all (λ e. c.args.first + end_needs e ≤ 2 ^ 31) c.in-Some.end.now c.loop-end.rest.now c.in-Some.above.now split c.loop-end.invariant.fits;
     }
 
-pub row_at-requires-clause-fits : goal.row_at-requires-clause-fits
-row_at-requires-clause-fits g c =
-    rest_all (λ e. c.args.first + end_needs e ≤ 2 ^ 31) c.in-Some.end.now c.loop-end.rest.now c.in-Some.above.now c.in-Some.ensures.cases.0 c.loop-end.invariant.fits
-
 pub derive_row-requires : goal.derive_row-requires
 derive_row-requires g c = record { room = omega (arith, c.loop-end.invariant.next, c.in-Some.ensures.cases.1, c.requires.room) }
 
-pub row_at-requires-clause-low : goal.row_at-requires-clause-low
-row_at-requires-clause-low g c = c.requires.low
-
-pub row_at-requires-clause-few : goal.row_at-requires-clause-few
-row_at-requires-clause-few g c = omega (arith, c.loop-end.invariant.few, c.in-Some.ensures.cases.1)
-
-pub row_at-requires-clause-end_fits : goal.row_at-requires-clause-end_fits
-row_at-requires-clause-end_fits g c =
-    rest_first (λ e. c.args.first + end_needs e ≤ 2 ^ 31) c.in-Some.end.now c.loop-end.rest.now c.in-Some.above.now c.in-Some.ensures.cases.0 c.loop-end.invariant.fits
+pub row_at-requires : goal.row_at-requires
+row_at-requires g c =
+    let split = c.in-Some.ensures.cases.0 in
+    record {
+      low = c.requires.low;
+      few = omega (arith, c.loop-end.invariant.few, c.in-Some.ensures.cases.1);
+      end_fits = rest_first (λ e. c.args.first + end_needs e ≤ 2 ^ 31) c.in-Some.end.now c.loop-end.rest.now c.in-Some.above.now split c.loop-end.invariant.fits;
+      fits = rest_all (λ e. c.args.first + end_needs e ≤ 2 ^ 31) c.in-Some.end.now c.loop-end.rest.now c.in-Some.above.now split c.loop-end.invariant.fits;
+    }
 
 pub loop-end-smaller : goal.loop-end-smaller
 loop-end-smaller g c = omega (arith, c.in-Some.ensures.cases.1)

@@ -14,13 +14,16 @@ use Rattle.pb_adder.proofs.Walking.{part_stopped, parts_handed}
 use Rattle.pb_adder.proofs.Walks.{claims-append, gate_claims_ids}
 use Rattle.pb_adder.proofs.adder.Adder.derive_clauses.Goals as goal
 
-pub derive_gates-requires-clause-fits : goal.derive_gates-requires-clause-fits
-derive_gates-requires-clause-fits g c =
-    gates_fit c.args.first (2 ^ 31) (weights c.args.self.now.terms) c.as_slice.result.now (c.as_slice.ensures.value ∙ c.args.self.now.added) c.requires.fits
-
-pub derive_gates-requires-clause-few : goal.derive_gates-requires-clause-few
-derive_gates-requires-clause-few g c =
-    omega (arith, c.requires.few, c.requires.fits, ap length (c.as_slice.ensures.value ∙ c.args.self.now.added), network_fresh (weights c.args.self.now.terms))
+pub derive_gates-requires : goal.derive_gates-requires
+derive_gates-requires g c =
+    let same = c.as_slice.ensures.value ∙ c.args.self.now.added in
+    let count = network_fresh (weights c.args.self.now.terms) in
+    record {
+      low = c.requires.low;
+      fits = gates_fit c.args.first (2 ^ 31) (weights c.args.self.now.terms) same c.requires.fits;
+      given = omega (arith, c.requires.given, c.requires.fits, ap length same, count);
+      few = omega (arith, c.requires.few, c.requires.fits, ap length same, count);
+    }
 
 pub returns-in_err-derive_gates : goal.returns-in_err-derive_gates
 returns-in_err-derive_gates g c =
@@ -33,26 +36,19 @@ returns-in_err-derive_gates g c =
     (claims-append old.next gates rows)
     (subst (λ (gs : List Gate). StopsInSteps (claim_steps old.next (gate_claims c.args.first c.args.base gs)) old after c.in_err-derive_gates.field-0.0) (c.as_slice.ensures.value ∙ c.args.self.now.added) c.in_err-derive_gates.ensures)
 
-pub derive_rows-requires-clause-few : goal.derive_rows-requires-clause-few
-derive_rows-requires-clause-few g c = ends_few (weights c.args.self.now.terms) c.as_slice-2.result.now (c.as_slice-2.ensures.value ∙ c.args.self.now.ended) c.args.self.now.small
-
-pub derive_rows-requires-clause-fits : goal.derive_rows-requires-clause-fits
-derive_rows-requires-clause-fits g c = ends_fit c.args.first (2 ^ 31) (weights c.args.self.now.terms) c.as_slice-2.result.now (c.as_slice-2.ensures.value ∙ c.args.self.now.ended) c.requires.fits
-
-pub derive_rows-requires-clause-room : goal.derive_rows-requires-clause-room
-derive_rows-requires-clause-room g c =
-    let old = g.T.StepSink.state c.args.sink.now in
+pub derive_rows-requires : goal.derive_rows-requires
+derive_rows-requires g c =
+    let own = c.args.self.now in
     let gates = c.as_slice.result.now in
-    omega (
-      arith,
-      c.in_ok-derive_gates.ensures.ids,
-      gate_claims_ids c.args.first c.args.base old.next gates,
-      gate_claims_few c.args.first c.args.base gates,
-      c.requires.few,
-      c.requires.fits,
-      ap length (c.as_slice.ensures.value ∙ c.args.self.now.added),
-      network_fresh (weights c.args.self.now.terms),
-    )
+    let ended = c.as_slice-2.ensures.value ∙ own.ended in
+    let ids = gate_claims_ids c.args.first c.args.base (g.T.StepSink.state c.args.sink.now).next gates in
+    let count = ap length (c.as_slice.ensures.value ∙ own.added) in
+    record {
+      low = c.requires.low;
+      few = ends_few (weights own.terms) _ ended own.small;
+      fits = ends_fit c.args.first (2 ^ 31) (weights own.terms) ended c.requires.fits;
+      room = omega (arith, c.in_ok-derive_gates.ensures.ids, ids, gate_claims_few c.args.first c.args.base gates, c.requires.few, c.requires.fits, count, network_fresh (weights own.terms));
+    }
 
 pub returns : goal.returns
 returns g c =

@@ -1,4 +1,4 @@
-use Rattle.std.proofs.Common.{◌≡◌, ◌+◌, ◌*◌, ◌∙◌, ◌++◌, ◌^◌, List, length, refl, subst, arith}
+use Rattle.std.proofs.Common.{◌≡◌, ◌+◌, ◌*◌, ◌∙◌, ◌++◌, ◌^◌, List, length, refl, ap, subst, arith}
 use Rattle.std.specs.List.{flat_map}
 use Rattle.pb_norm.specs.Constraints.{weights}
 use Rattle.pb_derive.specs.Deletions.{deletion_steps}
@@ -18,9 +18,10 @@ use Rattle.pb_adder.proofs.adder.Adder.derive_derivation.Given.{Over}
 use Rattle.pb_adder.proofs.adder.Adder.derive_derivation.Goals.{In_ok-derive_reifications}
 use Rattle.pb_adder.proofs.adder.Adder.derive_derivation.Goals as goal
 
-pub derive_reifications-requires-clause-fits : goal.derive_reifications-requires-clause-fits
-derive_reifications-requires-clause-fits g c =
-    gates_fit c.args.first (2 ^ 31) (weights c.args.self.now.terms) c.as_slice-gates.result.now (c.as_slice-gates.ensures.value ∙ c.args.self.now.added) c.requires.fits
+pub derive_reifications-requires : goal.derive_reifications-requires
+derive_reifications-requires g c =
+    let same = c.as_slice-gates.ensures.value ∙ c.args.self.now.added in
+    record { low = c.requires.low; fits = gates_fit c.args.first (2 ^ 31) (weights c.args.self.now.terms) same c.requires.fits; few = omega (arith, c.requires.few, c.requires.fits, ap length same, network_fresh (weights c.args.self.now.terms)) }
 
 pub returns-in_err-derive_reifications : goal.returns-in_err-derive_reifications
 returns-in_err-derive_reifications g c =
@@ -43,8 +44,14 @@ taken g c =
 next : (g : Over) (c : In_ok-derive_reifications g) → (g.T.StepSink.state c.derive_reifications.new.sink).next ≡ (g.T.StepSink.state c.args.sink.now).next + 4 * length (network_gates (weights c.args.self.now.terms))
 next g c = omega (arith, (taken g c).ids, defining_ids (weights c.args.self.now.terms) c.args.first (g.T.StepSink.state c.args.sink.now).next)
 
-pub derive_proof-requires-clause-next : goal.derive_proof-requires-clause-next
-derive_proof-requires-clause-next g c = omega (arith, next g (goal.at.derive_proof-requires-clause-next g c).In_ok-derive_reifications, c.next_id-base.ensures)
+pub derive_proof-requires : goal.derive_proof-requires
+derive_proof-requires g c = record {
+  low = c.requires.low;
+  fits = c.requires.fits;
+  known = omega (arith, c.next_id-base.ensures, c.requires.known);
+  given = omega (arith, c.next_id-base.ensures, c.requires.few);
+  next = omega (arith, next g (goal.at.derive_proof-requires g c).In_ok-derive_reifications, c.next_id-base.ensures);
+}
 
 pub returns-in_err-derive_proof : goal.returns-in_err-derive_proof
 returns-in_err-derive_proof g c =

@@ -61,10 +61,11 @@ next g c = omega (arith, (taken g c).ids, sums_ids c.args.base c.args.id (g.T.St
 last_is : (g : Over) (c : In_ok-last g) → c.in_ok-last.last ≡ last_sum c.args.id (g.T.StepSink.state c.args.sink.now).next (blocks (levels_of (weights c.args.self.now.terms)))
 last_is g c = c.in_ok-last.ensures.last ∙ ap (λ (ls : List ℕ). last_sum c.args.id (g.T.StepSink.state c.args.sink.now).next (blocks ls)) (c.as_slice-heights.ensures.value ∙ c.args.self.now.leveled)
 
-pub derive_clauses-requires-clause-few : goal.derive_clauses-requires-clause-few
-derive_clauses-requires-clause-few g c =
+pub derive_clauses-requires : goal.derive_clauses-requires
+derive_clauses-requires g c =
     let ts = weights c.args.self.now.terms in
-    omega (arith, next g (goal.at.derive_clauses-requires-clause-few g c).In_ok-last, few_blocks (levels_of ts), c.requires.next, c.requires.given, levels-length ts)
+    let sums = next g (goal.at.derive_clauses-requires g c).In_ok-last in
+    record { low = c.requires.low; fits = c.requires.fits; given = c.requires.given; few = omega (arith, sums, few_blocks (levels_of ts), c.requires.next, c.requires.given, levels-length ts) }
 
 pub returns-in_err-derive_clauses : goal.returns-in_err-derive_clauses
 returns-in_err-derive_clauses g c =
