@@ -59,9 +59,7 @@ by_class t other suits is few light = tt
 
 pub rest_derivable : (o : Options) (c : Constraint) → IsModest c → IsRestDerivable (treatment_of o (rest_of c)) (rest_of c)
 rest_derivable o c modest =
-    let few = modest.few in
-    let light = modest.light in
-    by_class (treatment_of o (rest_of c)) (rest_of c) (chosen_suits o c modest.linear) (rest_is c modest.linear) (omega (arith, few, rest_short c)) (omega (arith, light, rest_light c modest.linear))
+    by_class (treatment_of o (rest_of c)) (rest_of c) (chosen_suits o c modest.linear) (rest_is c modest.linear) (omega (arith, modest.few, rest_short c)) (omega (arith, modest.light, rest_light c modest.linear))
 
 -- ---- the units
 
@@ -75,9 +73,8 @@ module _ (c : Constraint) (modest : IsModest c) (first fresh id : ℕ) (below : 
 
   units_ran : (db : Database) → IsReadyWith c first fresh id db → RanSwept (λ v. v < first) db (claim_steps db.next (unit_claims id (units_of c))) (map unit_clause (units_of c)) (length (units_of c))
   units_ran db ready =
-      let reaches = ready.vars in
       let claims = unit_claims id (units_of c) in
-      let ran = claims_ran (λ v. v < first) db claims ready.numbered (units_claimed c modest.linear first id db below (omega (arith, reaches)) ready.numbered ready.stands) in
+      let ran = claims_ran (λ v. v < first) db claims ready.numbered (units_claimed c modest.linear first id db below (omega (arith, ready.vars)) ready.numbered ready.stands) in
       subst (λ (cs : List (List Lit)). RanSwept (λ v. v < first) db (claim_steps db.next claims) cs (length (units_of c))) (claimed_clauses id (units_of c))
       (subst (RanSwept (λ v. v < first) db (claim_steps db.next claims) (map (λ (c : Claim). c.clause) claims)) (length-map (units_of c) (λ (l : Lit). by_rup (id ∷ []) (unit_clause l))) ran)
 
@@ -103,13 +100,9 @@ module _ (c : Constraint) (modest : IsModest c) (first fresh id : ℕ) (below : 
 
   rest_ran : (db : Database) (t : Treatment) (r : Rest) → rest_of c ≡ r → IsReadyWith c first fresh id db → rest_fresh t r ≡ fresh → RestOver (λ v. v < first) r → IsRestDerivable t r → IsLeftOf c r → RestRan t r db
   rest_ran db t rest.Nothing e ready same over ok left = (0, swept_none Within db ready.numbered)
-  rest_ran db t rest.Empty e ready same over ok left =
-      let reaches = ready.vars in
-      (1, one_ran db [] ready (empty_claimed c modest.linear first id db below (omega (arith, reaches)) ready.numbered ready.stands e))
+  rest_ran db t rest.Empty e ready same over ok left = (1, one_ran db [] ready (empty_claimed c modest.linear first id db below (omega (arith, ready.vars)) ready.numbered ready.stands e))
   rest_ran db t (rest.Clause ls) e ready same over ok left =
-      let reaches = ready.vars in
-      let few = modest.few in
-      (1, one_ran db ls ready (rest_claimed c modest.linear first id db below (omega (arith, reaches)) ready.numbered ready.stands ls e left.0 over (omega (arith, left.1, few))))
+      (1, one_ran db ls ready (rest_claimed c modest.linear first id db below (omega (arith, ready.vars)) ready.numbered ready.stands ls e left.0 over (omega (arith, left.1, modest.few))))
   rest_ran db t (rest.One m) e ready same over ok left = sum_ran db t m ready same over ok left
   rest_ran db t (rest.Card m) e ready same over ok left = sum_ran db t m ready same over ok left
   rest_ran db t (rest.General m) e ready same over ok left = sum_ran db t m ready same over ok left
@@ -127,11 +120,9 @@ constraints_derive o c first id db modest below ready =
     let units = units_ran c modest first fresh id below db ready in
     let mid : Database = units.ran.end in
     let later = units.ran.later in
-    let vars = ready.vars in
-    let original = ready.original in
     let there : IsReadyWith c first fresh id mid = record {
-      original = omega (arith, original, later.original);
-      vars = omega (arith, vars, later.vars);
+      original = omega (arith, ready.original, later.original);
+      vars = omega (arith, ready.vars, later.vars);
       numbered = later.numbered;
       stands = later.stands id (known_below db id c ready.numbered (c, ready.stands, form_itself c modest.linear)) ∙ ready.stands;
       unnamed = λ v low high. later.unnamed v (λ less. omega (arith, low, less)) (ready.unnamed v low high);

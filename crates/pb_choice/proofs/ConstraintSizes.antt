@@ -12,7 +12,6 @@ use Rattle.pb_norm.specs.declared.reduction.Rest.TheVariants as rest
 use Rattle.pb_norm.specs.BoundedSums.{BoundedSum}
 use Rattle.pb_norm.specs.Constraints.{Weighted, Constraint, weight}
 use Rattle.pb_norm.specs.Reduction.{all_weigh, first_coef, rest_of, saturated, units_of, without_units}
-use Rattle.pb_norm.proofs.AdditionSizes.{weight-cons}
 use Rattle.pb_norm.proofs.Units.{split_weight, without_open}
 use Rattle.pb_norm.proofs.RestClasses.{RestOver, rest-over}
 use Rattle.pb_norm.proofs.Variables.{OfLit, OfTerm, units_of-vars}
@@ -48,6 +47,7 @@ use Rattle.pb_choice.specs.inner.Suits.{HasRoom, IsDerivable}
 use Rattle.pb_choice.proofs.ConstraintDerived.{IsRestDerivable, rest_derivable}
 use Rattle.pb_choice.proofs.CoreForms.{IsCoreOf, IsLeftOf, rest_left}
 use Rattle.pb_choice.proofs.CoreWeights.{weight-cut}
+use Rattle.pb_choice.proofs.NumbersAsked.{first_small}
 use Rattle.pb_choice.proofs.Reduced.{divisor_positive, reducing-all}
 use Rattle.pb_choice.proofs.RestTerms.{rest_short, units_short}
 
@@ -79,10 +79,6 @@ constraints_few o c first id next modest =
 
 -- ---- the divisor
 
-pub first_light : (ts : List Weighted) → first_coef ts ≤ weight ts + 1
-first_light [] = omega arith
-first_light (t ∷ ts) = omega (arith, weight-cons t ts)
-
 divisor_light : (c : Constraint) → divisor c ≤ weight c.terms + 1
 divisor_light c = by_test (all_weigh (first_coef ts) ts)
   where
@@ -90,7 +86,7 @@ divisor_light c = by_test (all_weigh (first_coef ts) ts)
     ts = (saturated (without_units c)).terms
 
     by_test : (b : Bool) → cond b (first_coef ts) 1 ≤ weight c.terms + 1
-    by_test true = omega (arith, first_light ts, weight-cut (without_units c).degree (without_units c).terms, split_weight c)
+    by_test true = omega (arith, first_small ts, weight-cut (without_units c).degree (without_units c).terms, split_weight c)
     by_test false = omega arith
 
 room_of : (t : Treatment) (m : BoundedSum) → sum_count t m ≤ 2 ^ 56 → HasRoom t m
@@ -103,15 +99,13 @@ room_of t m h = tt
 pub some_ids : (id : ℕ) (ids : List ℕ) → id ∷ ids ≡ [] → ⊥
 some_ids id ids e = cc
 
--- lines can say the steps, none is longer than the longest, and all together have so many bytes
+-- no line of the steps is longer than the longest, and all together have so many bytes
 record AreFine (most : ℕ) (steps : List Step) : Type 0 where
-  sayable : All IsSayable steps
   each : All (λ s. line_size s ≤ 2 ^ 28) steps
   all : sum_by line_size steps ≤ most
 
 fine_lines : (most : ℕ) (steps : List Step) → All IsSayable steps → All (λ s. step_size s ≤ most) steps → most ≤ 2 ^ 28 → AreFine (most * length steps) steps
 fine_lines most steps sayable sizes fits = record {
-  sayable = sayable;
   each = line_sized (2 ^ 28) steps sayable (All-weaker (λ (s : Step). step_size s ≤ most) (λ (s : Step). step_size s ≤ 2 ^ 28) (λ s h. omega (arith, h, fits)) steps sizes);
   all = omega (arith, lines_sized steps sayable, each_all most steps sizes);
 }
@@ -132,8 +126,7 @@ module _ (c : Constraint) (modest : IsModest c) (first fresh id : ℕ) (original
   units_sayable next low early =
       let us = units_of c in
       let count = length-map us (λ (l : Lit). by_rup (id ∷ []) (unit_clause l)) in
-      let few = modest.few in
-      claims_sayable next (unit_claims id us) low (omega (arith, early, count, units_short c, few))
+      claims_sayable next (unit_claims id us) low (omega (arith, early, count, units_short c, modest.few))
       (All-map (λ (c : Claim). IsSayable c.step) (λ (l : Lit). by_rup (id ∷ []) (unit_clause l)) us
       (All-weaker (OfLit IsVariable) (λ (l : Lit). IsSayable (by_rup (id ∷ []) (unit_clause l)).step) (λ l h. rup_sayable (id ∷ []) (unit_clause l) ids (All-cons (OfLit IsVariable) l [] h (All-nil (OfLit IsVariable)))) us
       (units_of-vars IsVariable c over)))
@@ -160,9 +153,8 @@ module _ (c : Constraint) (modest : IsModest c) (first fresh id : ℕ) (original
   ops_sayable : c.degree ≤ weight c.terms → 0 < (without_units c).degree → IsSayable (Pol (core_ops c id))
   ops_sayable light left =
       let some : 1 ≤ divisor c = divisor_positive c (without_open c modest.linear light left) in
-      let weights = modest.light in
       let positive : pos 1 ≤ℤ pos (divisor c) = omega (arith, ints, some) in
-      let small : divisor c < 2 ^ 126 = omega (arith, divisor_light c, weights) in
+      let small : divisor c < 2 ^ 126 = omega (arith, divisor_light c, modest.light) in
       recursion_from_All IsOp (core_ops c id) (reducing-all IsOp id (units_of c) (divisor c) given (units_of-vars IsVariable c over) tt (positive, small))
 
   weakens_size : (ls : List Lit) → sum_by op_size (map weaken_unit ls) ≡ 14 * length ls
@@ -196,7 +188,7 @@ module _ (c : Constraint) (modest : IsModest c) (first fresh id : ℕ) (original
 
   reduced_fine : (t : Treatment) (m : BoundedSum) (next : ℕ) → 1 ≤ first → sum_fresh t m ≡ fresh → 1 ≤ next → next + 1 ≤ 2 ^ 61 → AreOriginal first m.terms → IsDerivable t m → sum_count t m ≤ 2 ^ 56 → IsCoreOf m c
       → length c.terms ≤ 2 ^ 21 → length m.terms ≤ length c.terms
-      → AreFine (512 * (fresh + 1) * length m.terms + 2 ^ 20 * (fresh + sum_count t m + 3) + (91 + 14 * length (units_of c))) (rest_steps (Pol (core_ops c id)) t (rest.General m) first id next)
+      → AreFine (512 * (fresh + 1) * length c.terms + 2 ^ 20 * (fresh + sum_count t m + 3) + (230 + 14 * length (units_of c))) (rest_steps (Pol (core_ops c id)) t (rest.General m) first id next)
   reduced_fine t m next low same from early own ok count is short fewer =
       let Fits : Step → Type 0 = λ s. line_size s ≤ 2 ^ 28 in
       let steps = sum_steps t m first next (next + 1) in
@@ -209,25 +201,15 @@ module _ (c : Constraint) (modest : IsModest c) (first fresh id : ℕ) (original
       let family = sum_short t m ok (room_of t m count) first next (next + 1) own (sum_start t m next low same from early) (omega (arith, short, fewer)) in
       let bytes : sum_by line_size steps ≤ 512 * (fresh + 1) * length m.terms + 2 ^ 20 * (fresh + sum_count t m + 3) =
       subst (λ (k : ℕ). sum_by line_size steps ≤ 512 * (k + 1) * length m.terms + 2 ^ 20 * (k + sum_count t m + 3)) same family.all in
+      let longer = mul-le (512 * (fresh + 1)) (length m.terms) (512 * (fresh + 1)) (length c.terms) (omega arith) fewer in
       record {
-        sayable = reduced_sayable t m next low same from early own ok count is;
         each = All-cons Fits pol (steps ++ del ∷ []) (omega (arith, pol_line, ops_size, units_short c, short))
             (All-append Fits steps (del ∷ []) family.each (All-cons Fits del [] (omega (arith, del_line, del_size)) (All-nil Fits)));
-        all = omega (arith, sum_by-cons line_size pol (steps ++ del ∷ []), sum_by-append line_size steps (del ∷ []), sum_by-cons line_size del [], pol_line, ops_size, del_line, del_size, bytes);
+        all = omega (arith, sum_by-cons line_size pol (steps ++ del ∷ []), sum_by-append line_size steps (del ∷ []), sum_by-cons line_size del [], pol_line, ops_size, del_line, del_size, bytes, longer);
       }
 
   fine_more : {most more : ℕ} {steps : List Step} → AreFine most steps → most ≤ more → AreFine more steps
-  fine_more h le = record { sayable = h.sayable; each = h.each; all = omega (arith, h.all, le) }
-
-  grows : (n : ℕ) → 512 * n ≤ 512 * (fresh + 1) * n
-  grows n = mul-le (512) n (512 * (fresh + 1)) n (omega arith) (omega arith)
-
-  fine_sum : (t : Treatment) (m : BoundedSum) (next : ℕ) → 1 ≤ first → sum_fresh t m ≡ fresh → 1 ≤ next → next + 1 ≤ 2 ^ 61 → AreOriginal first m.terms → IsDerivable t m → sum_count t m ≤ 2 ^ 56 → IsCoreOf m c
-      → length c.terms ≤ 2 ^ 21 → length m.terms ≤ length c.terms
-      → AreFine (512 * (fresh + 1) * length c.terms + 2 ^ 20 * (fresh + sum_count t m + 3) + (230 + 14 * length (units_of c))) (rest_steps (Pol (core_ops c id)) t (rest.General m) first id next)
-  fine_sum t m next low same from early own ok count is short fewer =
-      let longer = mul-le (512 * (fresh + 1)) (length m.terms) (512 * (fresh + 1)) (length c.terms) (omega arith) fewer in
-      fine_more (reduced_fine t m next low same from early own ok count is short fewer) (omega (arith, longer))
+  fine_more h le = record { each = h.each; all = omega (arith, h.all, le) }
 
   -- ---- what is left
 
@@ -245,15 +227,15 @@ module _ (c : Constraint) (modest : IsModest c) (first fresh id : ℕ) (original
 
   rest_fine : (t : Treatment) (r : Rest) (next : ℕ) → 1 ≤ first → rest_fresh t r ≡ fresh → 1 ≤ next → next + 1 ≤ 2 ^ 61 → RestOver (λ v. (1 ≤ v) × (v < first)) r → IsRestDerivable t r → rest_count t r ≤ 2 ^ 56 → IsLeftOf c r
       → length c.terms ≤ 2 ^ 21 → length (rest_terms r) ≤ length c.terms → AreFine (Most t r) (rest_steps (Pol (core_ops c id)) t r first id next)
-  rest_fine t rest.Nothing next low same from early own ok count left short fewer = record { sayable = All-nil IsSayable; each = All-nil (λ (s : Step). line_size s ≤ 2 ^ 28); all = omega arith }
+  rest_fine t rest.Nothing next low same from early own ok count left short fewer = record { each = All-nil (λ (s : Step). line_size s ≤ 2 ^ 28); all = omega arith }
   rest_fine t rest.Empty next low same from early own ok count left short fewer =
       fine_more (clause_fine next [] from (omega (arith, early)) (All-nil (OfLit IsVariable)) (omega arith)) (omega arith)
   rest_fine t (rest.Clause ls) next low same from early own ok count left short fewer =
-      let grid = grows (length c.terms) in
+      let grid = mul-le 512 (length c.terms) (512 * (fresh + 1)) (length c.terms) (omega arith) (omega arith) in
       fine_more (clause_fine next ls from (omega (arith, early)) (variables ls own) (omega (arith, left.1, short))) (omega (arith, left.1, grid))
-  rest_fine t (rest.One m) next low same from early own ok count left short fewer = fine_sum t m next low same from early own ok count left short fewer
-  rest_fine t (rest.Card m) next low same from early own ok count left short fewer = fine_sum t m next low same from early own ok count left short fewer
-  rest_fine t (rest.General m) next low same from early own ok count left short fewer = fine_sum t m next low same from early own ok count left short fewer
+  rest_fine t (rest.One m) next low same from early own ok count left short fewer = reduced_fine t m next low same from early own ok count left short fewer
+  rest_fine t (rest.Card m) next low same from early own ok count left short fewer = reduced_fine t m next low same from early own ok count left short fewer
+  rest_fine t (rest.General m) next low same from early own ok count left short fewer = reduced_fine t m next low same from early own ok count left short fewer
 
 -- ---- the whole
 
@@ -265,16 +247,13 @@ module _ (o : Options) (c : Constraint) (first id next : ℕ) (modest : IsModest
   chosen = treatment_of o (rest_of c)
 
   own_id : IsId id
-  own_id =
-      let low = start.given in
-      let known = start.known in
-      (low, (let below : id < 2 ^ 63 = omega (arith, known, early) in below))
+  own_id = let below : id < 2 ^ 63 = omega (arith, start.known, early) in (start.given, below)
 
   from : 1 ≤ next
-  from = let given = start.given in let known = start.known in omega (arith, given, known)
+  from = omega (arith, start.given, start.known)
 
   soon : later + 1 ≤ 2 ^ 61
-  soon = let few = modest.few in omega (arith, early, few, units_short c)
+  soon = omega (arith, early, modest.few, units_short c)
 
   whole_sayable : All IsSayable (constraint_steps o c first id next)
   whole_sayable =

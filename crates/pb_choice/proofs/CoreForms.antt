@@ -1,10 +1,8 @@
 -- What is left of a constraint is its core: as a clause it has no opposite literals, and as a sum it is the core's constraint.
-use Rattle.std.proofs.Common.{◌≡◌, ◌<◌, ◌≤◌, ◌==◌, Bool, true, false, not, cond, List, [], ◌∷◌, length, map, refl, ap, sym, ◌∙◌, arith}
+use Rattle.std.proofs.Common.{◌≡◌, ◌<◌, ◌≤◌, ◌==◌, Bool, true, false, not, cond, List, length, map, refl, ap, sym, ◌∙◌, arith}
 use Rattle.std.specs.Prelude.{sum_by}
 use Rattle.std.proofs.lemmas.Bool.{eqb-false, ltb-false}
 use Rattle.std.proofs.lemmas.List.{length-map}
-use Rattle.pb_base.specs.declared.literal.Lit.{Lit}
-use Rattle.pb_base.proofs.LiteralLemmas.{negated-negated}
 use Rattle.pb_norm.specs.declared.reduction.Rest.{Rest}
 use Rattle.pb_norm.specs.declared.reduction.Rest.TheVariants as rest
 use Rattle.pb_norm.specs.BoundedSums.{BoundedSum}
@@ -19,19 +17,14 @@ use Rattle.pb_norm.proofs.Units.{without_open}
 use Rattle.pb_base.proofs.Sums.{sum_by-map}
 use Rattle.pb_derive.specs.Derivations.{as_constraint}
 use Rattle.pb_derive.specs.Forms.{IsFormOf}
-use Rattle.pb_choice.proofs.CoreWeights.{weight-opposite}
+use Rattle.pb_derive.proofs.Opposites.{opposite-twice, weight-opposite}
 use Rattle.pb_choice.proofs.Plain.{ascending_plain}
 
 -- ---- sums
 
-opposite_twice : (ts : List Weighted) → map opposite (map opposite ts) ≡ ts
-opposite_twice [] = refl
-opposite_twice (t ∷ ts) =
-    ap (λ (l : Lit). record { coef = t.coef; lit = l } ∷ map opposite (map opposite ts)) (negated-negated t.lit) ∙ ap (λ (us : List Weighted). t ∷ us) (opposite_twice ts)
-
 at_most_form : (c : Constraint) → IsOpen c → IsFormOf (as_constraint (at_most c)) c
 at_most_form c h = record {
-  terms = λ f. ap (λ (ts : List Weighted). sum_by f ts) (sym (opposite_twice c.terms));
+  terms = λ f. ap (λ (ts : List Weighted). sum_by f ts) (sym (opposite-twice c.terms));
   degree = let reach = h.reachable in omega (arith, weight-opposite c.terms, reach);
   positive = h.positive;
   ascending = h.ascending;

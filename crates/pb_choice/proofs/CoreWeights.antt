@@ -1,9 +1,9 @@
 -- The core of a constraint weighs no more than the constraint.
-use Rattle.std.proofs.Common.{◌≡◌, ◌<◌, ◌≤◌, ℕ, Bool, true, false, cond, List, [], ◌∷◌, map, min, refl, arith}
+use Rattle.std.proofs.Common.{◌<◌, ◌≤◌, ℕ, Bool, true, false, cond, List, [], ◌∷◌, map, min, arith}
 use Rattle.std.proofs.lemmas.List.Elements.{All-head, All-tail}
 use Rattle.pb_norm.specs.Constraints.{Weighted, Constraint, AllPositive, weight}
 use Rattle.pb_norm.specs.inner.Open.{IsOpen}
-use Rattle.pb_norm.specs.Reduction.{all_weigh, core, cut_to, divided, first_coef, opposite, quotient_up, saturated, single, without_units}
+use Rattle.pb_norm.specs.Reduction.{all_weigh, core, cut_to, divided, first_coef, quotient_up, saturated, single, without_units}
 use Rattle.pb_norm.proofs.AdditionSizes.{weight-cons}
 use Rattle.pb_norm.proofs.Opened.{saturated_open}
 use Rattle.pb_norm.proofs.Units.{split_weight}
@@ -20,10 +20,6 @@ weight-single (t ∷ ts) positive =
     let Positive : Weighted → Type 0 = λ t. 0 < t.coef in
     let one : 0 < t.coef = All-head Positive t ts positive in
     omega (arith, weight-cons t ts, weight-cons (single t) (map single ts), weight-single ts (All-tail Positive t ts positive))
-
-pub weight-opposite : (ts : List Weighted) → weight (map opposite ts) ≡ weight ts
-weight-opposite [] = refl
-weight-opposite (t ∷ ts) = omega (arith, weight-cons t ts, weight-cons (opposite t) (map opposite ts), weight-opposite ts)
 
 weight-divided : (c : Constraint) → AllPositive c.terms → weight (divided c).terms ≤ weight c.terms
 weight-divided c positive = by_test (all_weigh (first_coef c.terms) c.terms)

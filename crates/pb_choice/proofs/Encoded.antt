@@ -1,8 +1,8 @@
 -- The clauses of a constraint say what it says.
-use Rattle.std.proofs.Common.{◌≡◌, ◌≤◌, ◌<◌, ◌+◌, ℕ, List, map, length, All, arith, inl, inr}
+use Rattle.std.proofs.Common.{◌≡◌, ◌≤◌, ◌<◌, ◌+◌, ℕ, List, map, length, All, arith, inl}
 use Rattle.std.specs.Prelude.{Contains}
 use Rattle.std.proofs.lemmas.List.{length-append, length-map}
-use Rattle.std.proofs.lemmas.List.Elements.{All-append, All-weaker, All-map, All-contains, All-contains_itself}
+use Rattle.std.proofs.lemmas.List.Elements.{All-append, All-weaker, All-contains_itself}
 use Rattle.pb_base.specs.declared.literal.Lit.{Lit}
 use Rattle.pb_base.specs.Literals.{Assignment, AgreeBelow, IsModel}
 use Rattle.pb_base.proofs.Members.{All-append_both, Contains-map}
@@ -21,12 +21,16 @@ use Rattle.pb_choice.specs.Clauses.{unit_clause, rest_clauses, constraint_clause
 use Rattle.pb_choice.specs.ConstraintLaws.{ClausesEncode}
 use Rattle.pb_choice.specs.inner.Suits.{RestSuits}
 use Rattle.pb_choice.proofs.Suits.{treatment_suits}
-use Rattle.pb_choice.proofs.RestLaws.{IsTrueClause, rest_sound, rest_extends, rest_names, rest_counts}
+use Rattle.pb_choice.proofs.Composition.{IsOneBelow}
+use Rattle.pb_choice.proofs.RestLaws.{IsTrueClause, named_over, rest_sound, rest_extends, rest_names, rest_counts}
 use Rattle.pb_choice.proofs.UnitClauses.{units_model, units-all}
 
 -- the chosen treatment suits what is left
 pub chosen_suits : (o : Options) (c : Constraint) → IsLinear c → RestSuits (treatment_of o (rest_of c)) (rest_of c)
 chosen_suits o c linear = treatment_suits o (rest_of c) (rest_is c linear)
+
+pub own_vars : (ts : List Weighted) → All (OfTerm (Contains (vars_of ts))) ts
+own_vars ts = All-weaker (Contains ts) (OfTerm (Contains (vars_of ts))) (λ t among. Contains-map (λ (u : Weighted). u.lit.var) ts t among) ts (All-contains_itself ts)
 
 module _ (o : Options) (c : Constraint) (first : ℕ) (linear : IsLinear c) where
   abbrev units : List (List Lit)
@@ -59,9 +63,6 @@ module _ (o : Options) (c : Constraint) (first : ℕ) (linear : IsLinear c) wher
       All-append (All Named) units left
       (units-all Named (units_of c) (All-weaker (OfLit (Contains (vars_of c.terms))) Named (λ l among. inl among) (units_of c) (units_of-vars (Contains (vars_of c.terms)) c over)))
       (rest_names c.terms chosen (rest_of c) first (chosen_suits o c linear) (rest-over (Contains (vars_of c.terms)) c over))
-    where
-      own_vars : (ts : List Weighted) → All (OfTerm (Contains (vars_of ts))) ts
-      own_vars ts = All-weaker (Contains ts) (OfTerm (Contains (vars_of ts))) (λ t among. Contains-map (λ (u : Weighted). u.lit.var) ts t among) ts (All-contains_itself ts)
 
   pub clauses-count : length (constraint_clauses o c first) ≡ constraint_count o c
   clauses-count =
@@ -77,16 +78,11 @@ clauses_encode o c first linear below = record {
 
 -- ---- the variables, for the layers above
 
--- each is from 1 and below the first number after the fresh ones, where those of the constraint are from 1 and below the first fresh one
-pub clauses-within : (o : Options) (c : Constraint) (first : ℕ) → IsLinear c → 1 ≤ first → All (OfTerm (λ v. (1 ≤ v) × (v < first))) c.terms
-    → All (All (OfLit (λ v. (1 ≤ v) × (v < first + constraint_fresh o c)))) (constraint_clauses o c first)
-clauses-within o c first linear from within =
-    let Named : Lit → Type 0 = IsNamed c.terms first (constraint_fresh o c) in
-    let Within : Lit → Type 0 = OfLit (λ v. (1 ≤ v) × (v < first + constraint_fresh o c)) in
-    let vars : All (λ v. (1 ≤ v) × (v < first)) (vars_of c.terms) = All-map (λ v. (1 ≤ v) × (v < first)) (λ (t : Weighted). t.lit.var) c.terms within in
-    let each = λ (l : Lit) (h : Named l).
-    elim h as (λ _. Within l) [
-      | inl among ↦ let own = All-contains (λ v. (1 ≤ v) × (v < first)) (vars_of c.terms) l.var vars among in (own.0, omega (arith, own.1))
-      | inr is_fresh ↦ (omega (arith, from, is_fresh.0), is_fresh.1)
-    ] in
-    All-weaker (All Named) (All Within) (λ ls h. All-weaker Named Within each ls h) (constraint_clauses o c first) (clauses-name o c first linear)
+-- each is from 1 and below the first number after the fresh ones, where those of the terms are from 1 and below the first fresh one
+pub named_within : (ts : List Weighted) (first fresh : ℕ) (clauses : List (List Lit)) → 1 ≤ first → All (OfTerm (IsOneBelow first)) ts → NamesOnly ts first fresh clauses → All (All (OfLit (IsOneBelow (first + fresh)))) clauses
+named_within ts first fresh clauses from within names =
+    let over = All-weaker (OfTerm (IsOneBelow first)) (OfTerm (IsOneBelow (first + fresh))) (λ t h. (h.0, omega (arith, h.1))) ts within in
+    named_over (IsOneBelow (first + fresh)) ts first fresh clauses over (λ v low high. (omega (arith, from, low), high)) names
+
+pub clauses-within : (o : Options) (c : Constraint) (first : ℕ) → IsLinear c → 1 ≤ first → All (OfTerm (IsOneBelow first)) c.terms → All (All (OfLit (IsOneBelow (first + constraint_fresh o c)))) (constraint_clauses o c first)
+clauses-within o c first linear from within = named_within c.terms first (constraint_fresh o c) (constraint_clauses o c first) from within (clauses-name o c first linear)

@@ -1,8 +1,8 @@
 -- The clauses of an equality say what its two halves say, and unit propagation over them reaches what they force.
-use Rattle.std.proofs.Common.{◌≡◌, ◌<◌, ◌≤◌, ◌+◌, ◌↔◌, ◌⊎◌, ℕ, Bool, true, false, cond, List, ◌++◌, map, refl, sym, ap, ◌∙◌, subst, arith, inl, inr, length-append}
+use Rattle.std.proofs.Common.{◌≡◌, ◌<◌, ◌≤◌, ◌+◌, ◌↔◌, ◌⊎◌, ℕ, Bool, true, false, cond, List, ◌++◌, map, refl, sym, ◌∙◌, subst, arith, inl, inr, length-append}
 use Rattle.std.specs.Prelude.{All, Contains}
 use Rattle.std.proofs.lemmas.Bool.{both_ways}
-use Rattle.std.proofs.lemmas.List.Elements.{All-append, All-contains, All-map, All-weaker, Contains-append_left, Contains-append_right}
+use Rattle.std.proofs.lemmas.List.Elements.{All-append, All-map, All-weaker, Contains-append_left, Contains-append_right}
 use Rattle.pb_base.specs.declared.literal.Lit.{Lit}
 use Rattle.pb_base.specs.Literals.{Assignment, AgreeBelow, IsModel}
 use Rattle.pb_base.proofs.Members.{All-append_both}
@@ -13,8 +13,8 @@ use Rattle.pb_norm.specs.Reduction.{opposite}
 use Rattle.pb_norm.proofs.Agreement.{IsModel-agree}
 use Rattle.pb_norm.proofs.PropagationMore.{ClausesPropagate-more}
 use Rattle.pb_norm.proofs.UnitPropagation.{propagates_same}
-use Rattle.pb_derive.proofs.Opposites.{vars-opposite}
-use Rattle.pb_family.specs.Families.{IsNamed, NamesOnly, VarsBelow}
+use Rattle.pb_norm.proofs.Variables.{OfLit, OfTerm}
+use Rattle.pb_family.specs.Families.{NamesOnly, VarsBelow}
 use Rattle.pb_family.specs.Pairs.{StayWithinBoth}
 use Rattle.pb_totalizer.specs.Exact.{at_least, exact_clauses, exact_fresh, exact_size}
 use Rattle.pb_totalizer.specs.laws.ExactLaws.{exact_counts, exact_names, exact_outputs, exact_propagates, exact_propagates_least, exact_propagates_most, pair_extends, pair_sound}
@@ -24,15 +24,12 @@ use Rattle.pb_choice.specs.Clauses.{constraint_clauses, constraint_count, constr
 use Rattle.pb_choice.specs.Equals.{asks_for_number, equality_clauses, equality_count, equality_fresh, is_joint, literals_asked}
 use Rattle.pb_choice.specs.EqualityLaws.{BothHold, EncodesBoth, EqualitiesEncode, EqualitiesForce, ForcesBoth, ForcesHalves, IsEquality, JointEqualitiesForce}
 use Rattle.pb_choice.proofs.Composition.{holds-agree}
-use Rattle.pb_choice.proofs.Encoded.{clauses-count, clauses-extend, clauses-name, clauses-sound}
+use Rattle.pb_choice.proofs.Encoded.{clauses-count, clauses-extend, clauses-name, clauses-sound, own_vars}
 use Rattle.pb_choice.proofs.Forced.{clauses-propagate}
 use Rattle.pb_choice.proofs.JointSums.{asked_proper, asked_units, joint_asks, lower_says, ones_over, upper_says, vars_same}
-use Rattle.pb_choice.proofs.RestLaws.{IsTrueClause}
+use Rattle.pb_choice.proofs.RestLaws.{IsOf, IsTrueClause, named_over}
 
 -- over the same variables
-pub upper_vars : (c d : Constraint) → IsEquality c d → vars_of d.terms ≡ vars_of c.terms
-upper_vars c d equality = ap vars_of equality.halves.turned ∙ vars-opposite c.terms
-
 pub upper_over : (P : ℕ → Type 0) (c d : Constraint) → d.terms ≡ map opposite c.terms → All (λ t. P t.lit.var) c.terms → All (λ t. P t.lit.var) d.terms
 upper_over P c d turned h = subst (λ (ts : List Weighted). All (λ t. P t.lit.var) ts) (sym turned) (All-map (λ (t : Weighted). P t.lit.var) opposite c.terms h)
 
@@ -98,39 +95,18 @@ module _ (o : Options) (c d : Constraint) (equality : IsEquality c d) (first : �
       let one = clauses-extend o c first equality.lower_linear below v both.0 in
       let still = holds-agree first v one.0 one.1 d over both.1 in
       let two = clauses-extend o d after equality.upper_linear (All-weaker (λ (t : Weighted). t.lit.var < first) (λ (t : Weighted). t.lit.var < after) (λ t h. omega (arith, h, is_more)) d.terms over) one.0 still in
-      let low : All (All (λ l. l.var < after)) lower_clauses = named_below below in
+      let here = All-weaker (λ (t : Weighted). t.lit.var < first) (λ (t : Weighted). t.lit.var < after) (λ t h. omega (arith, h, is_more)) c.terms below in
+      let low = named_over (λ v. v < after) c.terms first (constraint_fresh o c) lower_clauses here (λ v from to. to) (clauses-name o c first equality.lower_linear) in
       let own = IsModel-agree after one.0 two.0 two.1 lower_clauses low one.2 in
       (two.0, (λ v h. one.1 v h ∙ two.1 v (omega (arith, h, is_more))), All-append (IsTrueClause two.0) lower_clauses upper_clauses own two.2)
-    where
-      named_below : VarsBelow first c.terms → All (All (λ (l : Lit). l.var < after)) lower_clauses
-      named_below below =
-          let Named : Lit → Type 0 = IsNamed c.terms first (constraint_fresh o c) in
-          let vars : All (λ v. v < first) (vars_of c.terms) = All-map (λ v. v < first) (λ (t : Weighted). t.lit.var) c.terms below in
-          let each = λ (l : Lit) (h : Named l).
-          elim h as (λ _. l.var < after) [
-            | inl among ↦ let own = All-contains (λ v. v < first) (vars_of c.terms) l.var vars among in omega (arith, own)
-            | inr is_fresh ↦ is_fresh.1
-          ] in
-          All-weaker (All Named) (All (λ l. l.var < after)) (λ ls h. All-weaker Named (λ l. l.var < after) each ls h) lower_clauses (clauses-name o c first equality.lower_linear)
 
   split_names : NamesOnly c.terms first (constraint_fresh o c + constraint_fresh o d) split
   split_names =
-      let All_of : Lit → Type 0 = IsNamed c.terms first (constraint_fresh o c + constraint_fresh o d) in
-      let One : Lit → Type 0 = IsNamed c.terms first (constraint_fresh o c) in
-      let Two : Lit → Type 0 = IsNamed d.terms after (constraint_fresh o d) in
-      let ones = λ (l : Lit) (h : One l).
-      elim h as (λ _. All_of l) [
-        | inl among ↦ inl among
-        | inr is_fresh ↦ inr (is_fresh.0, omega (arith, is_fresh.1))
-      ] in
-      let twos = λ (l : Lit) (h : Two l).
-      elim h as (λ _. All_of l) [
-        | inl among ↦ inl (subst (λ (vs : List ℕ). Contains vs l.var) (upper_vars c d equality) among)
-        | inr is_fresh ↦ inr (omega (arith, is_fresh.0), omega (arith, is_fresh.1))
-      ] in
-      All-append (All All_of) lower_clauses upper_clauses
-      (All-weaker (All One) (All All_of) (λ ls h. All-weaker One All_of ones ls h) lower_clauses (clauses-name o c first equality.lower_linear))
-      (All-weaker (All Two) (All All_of) (λ ls h. All-weaker Two All_of twos ls h) upper_clauses (clauses-name o d after equality.upper_linear))
+      let Of : ℕ → Type 0 = IsOf c.terms first (constraint_fresh o c + constraint_fresh o d) in
+      let own : All (OfTerm Of) c.terms = All-weaker (OfTerm (Contains (vars_of c.terms))) (OfTerm Of) (λ t among. inl among) c.terms (own_vars c.terms) in
+      All-append (All (OfLit Of)) lower_clauses upper_clauses
+      (named_over Of c.terms first (constraint_fresh o c) lower_clauses own (λ v from to. inr (from, omega (arith, to))) (clauses-name o c first equality.lower_linear))
+      (named_over Of d.terms after (constraint_fresh o d) upper_clauses (upper_over Of c d equality.halves.turned own) (λ v from to. inr (omega (arith, from), omega (arith, to))) (clauses-name o d after equality.upper_linear))
 
   split_encodes : VarsBelow first c.terms → EncodesBoth c d first (constraint_fresh o c + constraint_fresh o d) (constraint_count o c + constraint_count o d) split
   split_encodes below = record {

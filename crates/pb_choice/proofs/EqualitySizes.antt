@@ -30,8 +30,8 @@ use Rattle.pb_choice.specs.Equals.{asks_for_number, is_joint, literals_asked, nu
 use Rattle.pb_choice.specs.EqualitySteps.{joint_steps, quotient_step}
 use Rattle.pb_choice.specs.Readiness.{AreBothBrief, AreBrief, LeavesIds}
 use Rattle.pb_choice.specs.EqualityLaws.{EqualitiesAreBrief, EqualitiesAreSayable, EqualitiesHaveFewSteps, IsModestEquality}
-use Rattle.pb_choice.proofs.NumbersAsked.{some_weight}
-use Rattle.pb_choice.proofs.ConstraintSizes.{constraints_brief, constraints_few, constraints_sayable, first_light, some_ids}
+use Rattle.pb_choice.proofs.NumbersAsked.{first_small, some_weight}
+use Rattle.pb_choice.proofs.ConstraintSizes.{constraints_brief, constraints_few, constraints_sayable, some_ids}
 use Rattle.pb_choice.proofs.EqualityDerived.{modest_equality}
 use Rattle.pb_choice.proofs.EqualityEncoded.{upper_over}
 use Rattle.pb_choice.proofs.JointSums.{asked_proper, asked_units, joint_asks, lower_asks, ones_over}
@@ -95,22 +95,21 @@ module _ (c d : Constraint) (modest : IsModestEquality c d) (number : asks_for_n
   quotient_sayable : (id : ℕ) → 1 ≤ id → id < next + 2 → IsSayable (quotient_of id)
   quotient_sayable id from below =
       let some = some_weight (first_coef c.terms) (number_asked c) c (lower_asks c d (modest_equality c d modest) number) in
-      let light = modest.lower_modest.light in
       let positive : pos 1 ≤ℤ pos a = omega (arith, ints, some) in
-      let small : a < 2 ^ 126 = omega (arith, first_light c.terms, light) in
+      let small : a < 2 ^ 126 = omega (arith, first_small c.terms, modest.lower_modest.light) in
       recursion_from_All IsOp (Push id ∷ Div (pos a) ∷ []) (All-cons IsOp (Push id) (Div (pos a) ∷ []) (known_id id from below) (All-cons IsOp (Div (pos a)) [] (positive, small) (All-nil IsOp)))
 
   from : 1 ≤ next
-  from = let given = low.given in let known = low.known in omega (arith, given, known)
+  from = omega (arith, low.given, low.known)
 
   deletion_sayable : IsSayable deletion
   deletion_sayable = ((known_id next from (omega arith), (known_id (next + 1) (omega (arith, from)) (omega arith), tt)), some_ids next ((next + 1) ∷ []))
 
-  few : length (literals_asked c).terms < 2 ^ 31
-  few = omega (arith, length-map (lits_of c.terms) unit_of, length-map c.terms (λ (t : Weighted). t.lit), modest.lower_modest.few)
-
   as_long : length (literals_asked c).terms ≡ length c.terms
   as_long = length-map (lits_of c.terms) unit_of ∙ length-map c.terms (λ (t : Weighted). t.lit)
+
+  few : length (literals_asked c).terms < 2 ^ 31
+  few = omega (arith, as_long, modest.lower_modest.few)
 
   own_start : (id : ℕ) → 1 ≤ id → id < next + 2 → MayStart first (exact_fresh (literals_asked c)) id (next + 2)
   own_start id given known = record { low = low.low; fits = low.fits; given = given; known = known; few = early }
@@ -126,8 +125,8 @@ module _ (c d : Constraint) (modest : IsModestEquality c d) (number : asks_for_n
   joint_sayable : All IsSayable (joint_steps (literals_asked c) (pos (first_coef c.terms)) first lower upper next)
   joint_sayable =
       let rest : List Step = inner ++ deletion ∷ [] in
-      All-cons IsSayable (quotient_of lower) (quotient_of upper ∷ rest) (quotient_sayable lower low.given (let known = low.known in omega (arith, known)))
-      (All-cons IsSayable (quotient_of upper) rest (quotient_sayable upper high.given (let known = high.known in omega (arith, known)))
+      All-cons IsSayable (quotient_of lower) (quotient_of upper ∷ rest) (quotient_sayable lower low.given (omega (arith, low.known)))
+      (All-cons IsSayable (quotient_of upper) rest (quotient_sayable upper high.given (omega (arith, high.known)))
       (All-append IsSayable inner (deletion ∷ []) inner_sayable (All-cons IsSayable deletion [] deletion_sayable (All-nil IsSayable))))
 
   inner_short : length c.terms ≤ 2 ^ 21 → AreShort (length c.terms) (exact_fresh (literals_asked c)) (exact_size (literals_asked c)) inner
@@ -140,8 +139,8 @@ module _ (c d : Constraint) (modest : IsModestEquality c d) (number : asks_for_n
   joint_brief short =
       let rest : List Step = inner ++ deletion ∷ [] in
       let family = inner_short short in
-      let one = lines_are_bounded (quotient_of lower) (quotient_sayable lower low.given (let known = low.known in omega (arith, known))) in
-      let two = lines_are_bounded (quotient_of upper) (quotient_sayable upper high.given (let known = high.known in omega (arith, known))) in
+      let one = lines_are_bounded (quotient_of lower) (quotient_sayable lower low.given (omega (arith, low.known))) in
+      let two = lines_are_bounded (quotient_of upper) (quotient_sayable upper high.given (omega (arith, high.known))) in
       let gone = lines_are_bounded deletion deletion_sayable in
       let size : step_size (quotient_of lower) ≡ 65 = refl in
       let size_too : step_size (quotient_of upper) ≡ 65 = refl in
@@ -190,14 +189,10 @@ module _ (o : Options) (c d : Constraint) (modest : IsModestEquality c d) (first
   soon = omega (arith, enough)
 
   lower_start : MayStart first (constraint_fresh o c) lower next
-  lower_start = let fits = low.fits in record { low = low.low; fits = omega (arith, fits); given = low.given; known = low.known; few = low.few }
+  lower_start = record { low = low.low; fits = omega (arith, low.fits); given = low.given; known = low.known; few = low.few }
 
   upper_start : MayStart after (constraint_fresh o d) upper between
-  upper_start =
-      let fits = low.fits in
-      let from = low.low in
-      let known = high.known in
-      record { low = omega (arith, from); fits = omega (arith, fits); given = high.given; known = omega (arith, known); few = omega (arith, enough) }
+  upper_start = record { low = omega (arith, low.low); fits = omega (arith, low.fits); given = high.given; known = omega (arith, high.known); few = omega (arith, enough) }
 
   upper_over_after : AreOriginal after d.terms
   upper_over_after = upper_original c d first after modest (omega arith) original

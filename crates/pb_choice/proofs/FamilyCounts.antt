@@ -1,7 +1,7 @@
 -- The numbers of fresh variables and of clauses of the family that was chosen, and of the ids that their derivation takes: those of two constraints together fit 64 bits.
-use Rattle.std.proofs.Common.{◌≡◌, ◌<◌, ◌≤◌, ◌+◌, ◌-◌, ◌*◌, ◌/◌, ◌^◌, ◌&&◌, ℕ, zero, suc, Bool, true, false, not, cond, List, [], ◌∷◌, length, refl, subst, arith, length-append}
+use Rattle.std.proofs.Common.{◌<◌, ◌≤◌, ◌+◌, ◌-◌, ◌*◌, ◌/◌, ◌^◌, ◌&&◌, ℕ, Bool, true, false, not, cond, List, [], ◌∷◌, length, refl, arith, length-append}
 use Rattle.std.specs.Prelude.{count_by, map, sum_by}
-use Rattle.std.proofs.Math.Nat.{mul-le-mul_right}
+use Rattle.std.proofs.Math.Nat.{mul-le-mul_right, mul-sub}
 use Rattle.std.proofs.lemmas.List.{length-map}
 use Rattle.std.proofs.lemmas.List.Sums.{count_by-le-length, sum_by-cons}
 use Rattle.std.proofs.lemmas.Nat.{mul-le, mul-lt}
@@ -21,7 +21,7 @@ use Rattle.pb_diagram.specs.laws.LinkedCounts.{inner-le}
 use Rattle.pb_adder.specs.declared.gate.Gate.{Gate}
 use Rattle.pb_adder.specs.declared.gate.Gate.TheVariants.{Full, Half}
 use Rattle.pb_adder.specs.Comparator.{is_odd}
-use Rattle.pb_adder.specs.Counts.{adder_fresh, adder_size, gate_clause_count, has_end, is_covered, kept_count}
+use Rattle.pb_adder.specs.Counts.{adder_size, gate_clause_count, has_end, is_covered, kept_count}
 use Rattle.pb_adder.specs.laws.CountLaws.{counted_total, gates_few, network_fresh}
 use Rattle.pb_adder.specs.Network.{level_count, network_ends, network_gates}
 use Rattle.pb_adder.specs.laws.NetworkLaws.{digits_few}
@@ -48,16 +48,8 @@ few_pairs n few =
     omega (arith, product, few)
 
 -- two clauses for each fresh variable, and one for each literal
-counter_sized : (p k fresh : ℕ) → fresh ≡ p * k → counter_size (p + 1) k ≤ 2 * fresh + (p + 1)
-counter_sized p k fresh is = omega (arith, is)
-
 counter_small : (n k : ℕ) → counter_size n k ≤ 2 * counter_fresh n k + n
-counter_small zero k = omega arith
-counter_small (suc n) k =
-    let same : n + 1 ≡ suc n = omega arith in
-    let fewer : n ≡ suc n - 1 = omega arith in
-    let sized = subst (λ (p : ℕ). counter_size (n + 1) k ≤ 2 * (p * k) + (n + 1)) fewer (counter_sized n k (n * k) refl) in
-    subst (λ (p : ℕ). counter_size p k ≤ 2 * ((suc n - 1) * k) + p) same sized
+counter_small n k = omega (arith, mul-sub k n 1)
 
 diagram_small : (m : BoundedSum) → diagram_fresh m ≤ 10000000 → diagram_size m < 2 ^ 57
 diagram_small m modest = omega (arith, inner-le m.terms (levels_of m), modest)
@@ -80,11 +72,15 @@ rows_small bound (b ∷ bs) = omega (arith, one_small (b && (not (is_odd bound) 
     one_small true = omega arith
     one_small false = omega arith
 
-adder_small : (ts : List Weighted) (bound : ℕ) → length ts < 2 ^ 31 → weight ts < 2 ^ 100 → adder_size ts bound < 2 ^ 57
-adder_small ts bound few light =
+adder_gates : (ts : List Weighted) → length ts < 2 ^ 31 → weight ts < 2 ^ 100 → length (network_gates ts) ≤ 100 * 2 ^ 31
+adder_gates ts few light =
     let levels : level_count ts ≤ 100 = digits_few 100 (weight ts) (weight ts) light in
     let gates : length (network_gates ts) ≤ level_count ts * length ts = gates_few (level_count ts) 0 ts [] 0 (omega arith) in
-    let grid = mul-le (level_count ts) (length ts) 100 (2 ^ 31) levels (omega (arith, few)) in
+    omega (arith, gates, mul-le (level_count ts) (length ts) 100 (2 ^ 31) levels (omega (arith, few)))
+
+adder_small : (ts : List Weighted) (bound : ℕ) → length ts < 2 ^ 31 → weight ts < 2 ^ 100 → adder_size ts bound < 2 ^ 57
+adder_small ts bound few light =
+    let gates = adder_gates ts few light in
     let ends = ends_few ts (network_ends ts) refl light in
     omega (
       arith,
@@ -93,13 +89,6 @@ adder_small ts bound few light =
       rows_small bound (map has_end (network_ends ts)),
       length-map (network_ends ts) has_end,
     )
-
-adder_fresh_small : (ts : List Weighted) → length ts < 2 ^ 31 → weight ts < 2 ^ 100 → adder_fresh ts < 2 ^ 62
-adder_fresh_small ts few light =
-    let levels : level_count ts ≤ 100 = digits_few 100 (weight ts) (weight ts) light in
-    let gates : length (network_gates ts) ≤ level_count ts * length ts = gates_few (level_count ts) 0 ts [] 0 (omega arith) in
-    let grid = mul-le (level_count ts) (length ts) 100 (2 ^ 31) levels (omega (arith, few)) in
-    omega (arith, network_fresh ts, gates, grid)
 
 -- ---- the family that was chosen
 
@@ -140,7 +129,7 @@ chosen_fresh_small (chosen.Counter held) = omega (arith, held.modest)
 chosen_fresh_small (chosen.Totalizer held) = omega (arith, held.modest)
 chosen_fresh_small (chosen.Diagram held) = omega (arith, held.modest)
 chosen_fresh_small (chosen.Tree held) = omega (arith, held.modest)
-chosen_fresh_small (chosen.Adder held) = omega (arith, adder_fresh_small held.sum.terms held.few held.light)
+chosen_fresh_small (chosen.Adder held) = omega (arith, network_fresh held.sum.terms, adder_gates held.sum.terms held.few held.light)
 
 -- ---- what is left of a constraint
 

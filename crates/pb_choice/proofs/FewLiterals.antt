@@ -20,7 +20,6 @@ use Rattle.pb_amo.specs.Ladder.{link, links, none_after, nones_after, some_after
 use Rattle.pb_amo.specs.Product.{rows, columns, line, cell, cells, fresh_within, clauses_within, product_clauses}
 use Rattle.pb_amo.specs.laws.GridClauses.{clauses_last, clauses_few, clauses_many}
 use Rattle.pb_counter.specs.declared.place.Place.{Place}
-use Rattle.pb_counter.specs.declared.place.Place.TheVariants.{Start, Below, One, Keep, More, Stop}
 use Rattle.pb_counter.specs.Counter.{clause_at, places, counter_clauses}
 use Rattle.pb_tree.specs.Pairs.{unless_none}
 use Rattle.pb_tree.specs.Scheme.{Scheme, values, fresh_of, output, clauses_of, tree_clauses}

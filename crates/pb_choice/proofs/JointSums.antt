@@ -1,10 +1,10 @@
--- The two halves of an equality of which a number of literals is asked, as the sums of one totalizer.
-use Rattle.std.proofs.Common.{◌≡◌, ◌≢◌, ◌<◌, ◌≤◌, ◌-◌, ◌↔◌, ◌&&◌, ℕ, true, List, [], ◌∷◌, length, map, refl, ap, sym, ◌∙◌, arith}
+-- The two halves of an equality of which a number of literals is asked, as the sums of one totalizer, and when it is encoded so.
+use Rattle.std.proofs.Common.{◌≡◌, ◌≢◌, ◌<◌, ◌≤◌, ◌-◌, ◌↔◌, ◌&&◌, ℕ, Bool, true, false, List, [], ◌∷◌, length, map, refl, ap, sym, ◌∙◌, arith}
 use Rattle.std.specs.Prelude.{All, nat_le, sum_by}
 use Rattle.std.specs.List.{AllPairs}
-use Rattle.std.proofs.lemmas.Bool.{and_parts}
+use Rattle.std.proofs.lemmas.Bool.{and_left, and_parts, and_right}
 use Rattle.std.proofs.lemmas.List.{length-map}
-use Rattle.std.proofs.lemmas.List.Elements.{All-nil, All-cons, All-head, All-tail}
+use Rattle.std.proofs.lemmas.List.Elements.{All-map}
 use Rattle.pb_base.specs.declared.literal.Lit.{Lit}
 use Rattle.pb_base.specs.Literals.{Assignment}
 use Rattle.pb_base.proofs.Pairs.{AllPairs-map}
@@ -18,7 +18,7 @@ use Rattle.pb_derive.specs.Forms.{IsFormOf}
 use Rattle.pb_derive.specs.Ones.{ones}
 use Rattle.pb_derive.proofs.Opposites.{opposite-twice, value-opposite, weight-opposite}
 use Rattle.pb_derive.proofs.Rups.{ones-weight}
-use Rattle.pb_derive.proofs.UnitTerms.{ones-units}
+use Rattle.pb_derive.proofs.UnitTerms.{ones-all, ones-units}
 use Rattle.pb_totalizer.specs.Exact.{at_least, exact_fresh}
 use Rattle.pb_totalizer.specs.laws.AtLeast.{least_from, least_to}
 use Rattle.pb_totalizer.specs.laws.UnitTerms.{literals_proper}
@@ -29,10 +29,18 @@ use Rattle.pb_choice.proofs.NumbersAsked.{Asks, asks, asks_divided, asks_holds, 
 
 -- ---- where the equality is encoded as one
 
-pub joint_asks : (o : Options) (c : Constraint) → is_joint o c ≡ true → asks_for_number c ≡ true
-joint_asks o c is =
-    let parts = and_parts (is_joining o.equal) (asks_for_number c && nat_le (exact_fresh (literals_asked c)) o.budget) is in
-    (and_parts (asks_for_number c) (nat_le (exact_fresh (literals_asked c)) o.budget) parts.1).0
+module _ (o : Options) (c : Constraint) where
+  abbrev within : Bool
+  within = nat_le (exact_fresh (literals_asked c)) o.budget
+
+  pub joint_asks : is_joint o c ≡ true → asks_for_number c ≡ true
+  joint_asks is = (and_parts (asks_for_number c) within (and_parts (is_joining o.equal) (asks_for_number c && within) is).1).0
+
+  pub not_joining : is_joining o.equal ≡ false → is_joint o c ≡ false
+  not_joining e = and_left (is_joining o.equal) (asks_for_number c && within) e
+
+  pub not_asking : asks_for_number c ≡ false → is_joint o c ≡ false
+  not_asking e = and_right (is_joining o.equal) (asks_for_number c && within) (and_left (asks_for_number c) within e)
 
 -- ---- variables
 
@@ -41,11 +49,7 @@ vars_same [] = refl
 vars_same (t ∷ ts) = ap (λ (vs : List ℕ). t.lit.var ∷ vs) (vars_same ts)
 
 pub ones_over : (P : ℕ → Type 0) (ts : List Weighted) → All (λ t. P t.lit.var) ts → All (λ t. P t.lit.var) (ones (lits_of ts))
-ones_over P [] h = All-nil (λ (t : Weighted). P t.lit.var)
-ones_over P (t ∷ ts) h =
-    let Over : Weighted → Type 0 = λ t. P t.lit.var in
-    let rest = ones_over P ts (All-tail Over t ts h) in
-    All-cons Over (record { coef = 1; lit = t.lit }) (ones (lits_of ts)) (All-head Over t ts h) rest
+ones_over P ts h = ones-all (λ (t : Weighted). P t.lit.var) (lits_of ts) (All-map (λ (l : Lit). P l.var) (λ (t : Weighted). t.lit) ts h)
 
 pub lits_apart : (ts : List Weighted) → IsAscending ts → AllPairs (λ k l. k.var ≢ l.var) (lits_of ts)
 lits_apart ts up = AllPairs-map (λ (s t : Weighted). s.lit.var < t.lit.var) (λ (k l : Lit). k.var ≢ l.var) (λ (t : Weighted). t.lit) (λ s t less same. omega (arith, less, same)) ts up

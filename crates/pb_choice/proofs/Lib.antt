@@ -1,4 +1,5 @@
 pub mod NumbersAsked
+pub mod ChosenSums
 pub mod ClaimedClauses
 pub mod Composition
 pub mod ConstraintDerived
@@ -17,11 +18,8 @@ pub mod FewInEqualities
 pub mod FewLiterals
 pub mod Forced
 pub mod JointSums
-pub mod JointTests
 pub mod Plain
-pub mod PlanClauses
-pub mod PlanIds
-pub mod PlanSteps
+pub mod PlanParts
 pub mod Quotients
 pub mod Reduced
 pub mod ReducedSteps
@@ -29,5 +27,4 @@ pub mod RestLaws
 pub mod RestTerms
 pub mod Suits
 pub mod UnitClauses
-pub mod UnitSteps
 pub mod Weakened

@@ -1,7 +1,7 @@
 -- Constraints with one coefficient, which ask for some of their literals: divided by the coefficient they say how many.
-use Rattle.std.proofs.Common.{◌≡◌, ◌<◌, ◌≤◌, ◌+◌, ◌-◌, ◌*◌, ◌==◌, ◌&&◌, ◌↔◌, ℕ, Bool, true, List, [], ◌∷◌, length, map, refl, ap, ◌∙◌, subst, arith, inl, inr}
+use Rattle.std.proofs.Common.{◌≡◌, ◌<◌, ◌≤◌, ◌+◌, ◌-◌, ◌*◌, ◌==◌, ◌&&◌, ◌↔◌, ℕ, Bool, true, List, [], ◌∷◌, length, map, refl, ap, sym, ◌∙◌, subst, arith, inl, inr}
 use Rattle.std.specs.Prelude.{All, nat_le, nat_lt}
-use Rattle.std.proofs.Math.Nat.{mul-le-mul_left}
+use Rattle.std.proofs.Math.Nat.{mul-le-mul_left, mul-sub}
 use Rattle.std.proofs.lemmas.Bool.{and_parts, cases_lt, cond-true, eqb-true, leb-true, ltb-true}
 use Rattle.std.proofs.lemmas.List.{length-map}
 use Rattle.std.proofs.lemmas.List.Elements.{All-nil, All-cons}
@@ -54,11 +54,6 @@ opposite_ones (t ∷ ts) = ap (λ (us : List Weighted). single (opposite t) ∷ 
 
 -- ---- numbers
 
-times_left : (a n k j : ℕ) → n ≡ k + j → a * n - a * k ≡ a * j
-times_left a n k j e =
-    let all : a * n ≡ a * (k + j) = ap (λ (m : ℕ). a * m) e in
-    omega (arith, all)
-
 quotient_times : (a k : ℕ) → 0 < a → quotient_up a (a * k) ≡ k
 quotient_times a k some =
     let most = quotient_up-least a (a * k) k some (omega arith) in
@@ -101,12 +96,11 @@ pub asks_opposite : (a k : ℕ) (c d : Constraint) → Asks a k c → IsLinear d
 asks_opposite a k c d h linear terms degree =
     let below = h.not_all in
     let some = h.some in
-    let whole : length c.terms ≡ k + (length c.terms - k) = omega arith in
     record {
       linear = linear;
       weighs = ap (all_weigh a) terms ∙ opposites_weigh a c.terms h.weighs;
       first = ap first_coef terms ∙ first-opposite c.terms ∙ h.first;
-      degree = degree ∙ (let e : weight c.terms - c.degree ≡ a * length c.terms - a * k = omega (arith, weight-each a c.terms h.weighs, h.degree) in e) ∙ times_left a (length c.terms) k (length c.terms - k) whole;
+      degree = degree ∙ (let e : weight c.terms - c.degree ≡ a * length c.terms - a * k = omega (arith, weight-each a c.terms h.weighs, h.degree) in e) ∙ sym (mul-sub a (length c.terms) k);
       some = omega arith;
       not_all = omega (arith, ap (λ (ts : List Weighted). length ts) terms, length-map c.terms opposite);
     }

@@ -1,5 +1,5 @@
 -- The laws of the clauses of what is left of a constraint.
-use Rattle.std.proofs.Common.{◌≡◌, ◌<◌, ℕ, true, List, [], length, All, refl, inl, inr}
+use Rattle.std.proofs.Common.{◌≡◌, ◌≤◌, ◌<◌, ◌+◌, ◌⊎◌, ℕ, true, List, [], length, All, refl, inl, inr}
 use Rattle.std.specs.Prelude.{Contains}
 use Rattle.std.proofs.lemmas.Bool.{false≢true}
 use Rattle.std.proofs.lemmas.List.Elements.{All-nil, All-cons, All-head, All-weaker, All-map, All-contains}
@@ -40,16 +40,25 @@ rest_extends t (rest.General m) first h below a holds = sum_extends t m first h 
 
 -- ---- the literals that are named
 
+-- what holds of the variables of some terms and of fresh ones holds of all variables that are named
+pub named_over : (P : ℕ → Type 0) (ts : List Weighted) (first fresh : ℕ) (clauses : List (List Lit)) → All (OfTerm P) ts → ((v : ℕ) → first ≤ v → v < first + fresh → P v) → NamesOnly ts first fresh clauses → All (All (OfLit P)) clauses
+named_over P ts first fresh clauses over new names =
+    let Named : Lit → Type 0 = IsNamed ts first fresh in
+    let each = λ (l : Lit) (h : Named l).
+    elim h as (λ _. P l.var) [
+      | inl among ↦ All-contains P (vars_of ts) l.var (All-map P (λ (t : Weighted). t.lit.var) ts over) among
+      | inr is_fresh ↦ new l.var is_fresh.0 is_fresh.1
+    ] in
+    All-weaker (All Named) (All (OfLit P)) (λ ls h. All-weaker Named (OfLit P) each ls h) clauses names
+
+-- a variable of some terms, or a fresh one
+abbrev pub IsOf : List Weighted → ℕ → ℕ → ℕ → Type 0
+IsOf ts first fresh v = Contains (vars_of ts) v ⊎ ((first ≤ v) × (v < first + fresh))
+
 -- what names only variables of some terms names only those of others that have them
 names-among : (us ts : List Weighted) (first fresh : ℕ) (clauses : List (List Lit)) → All (OfTerm (Contains (vars_of ts))) us → NamesOnly us first fresh clauses → NamesOnly ts first fresh clauses
 names-among us ts first fresh clauses over names =
-    let vars : All (Contains (vars_of ts)) (vars_of us) = All-map (Contains (vars_of ts)) (λ (t : Weighted). t.lit.var) us over in
-    let each = λ (l : Lit) (h : IsNamed us first fresh l).
-    elim h as (λ _. IsNamed ts first fresh l) [
-      | inl among ↦ inl (All-contains (Contains (vars_of ts)) (vars_of us) l.var vars among)
-      | inr is_fresh ↦ inr is_fresh
-    ] in
-    All-weaker (All (IsNamed us first fresh)) (All (IsNamed ts first fresh)) (λ c h. All-weaker (IsNamed us first fresh) (IsNamed ts first fresh) each c h) clauses names
+    named_over (IsOf ts first fresh) us first fresh clauses (All-weaker (OfTerm (Contains (vars_of ts))) (OfTerm (IsOf ts first fresh)) (λ t among. inl among) us over) (λ v from to. inr (from, to)) names
 
 pub rest_names : (ts : List Weighted) (t : Treatment) (r : Rest) (first : ℕ) → RestSuits t r → RestOver (Contains (vars_of ts)) r → NamesOnly ts first (rest_fresh t r) (rest_clauses t r first)
 rest_names ts t rest.Nothing first h over = All-nil (All (IsNamed ts first 0))

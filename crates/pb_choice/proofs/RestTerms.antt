@@ -10,10 +10,11 @@ use Rattle.pb_norm.proofs.Lengths.{HasAtMost, length-filter-le, rest-few}
 use Rattle.pb_norm.proofs.RestClasses.{RestOver, rest-over}
 use Rattle.pb_norm.proofs.Sorting.{by_weight-sum}
 use Rattle.pb_norm.proofs.Units.{without_open}
+use Rattle.pb_derive.proofs.Opposites.{weight-opposite}
 use Rattle.pb_family.specs.Families.{VarsBelow}
 use Rattle.std.proofs.lemmas.List.Elements.{All-nil}
 use Rattle.pb_choice.specs.Residual.{rest_terms}
-use Rattle.pb_choice.proofs.CoreWeights.{weight-opposite, weight-core}
+use Rattle.pb_choice.proofs.CoreWeights.{weight-core}
 
 -- ---- over variables of the constraint
 

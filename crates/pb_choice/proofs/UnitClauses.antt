@@ -1,4 +1,4 @@
--- Unit clauses say that their literals are true.
+-- Unit clauses say that their literals are true; one unit after another.
 use Rattle.std.proofs.Common.{◌≡◌, ◌<◌, ◌+◌, ◌||◌, ℕ, Bool, true, false, List, [], ◌∷◌, ◌↔◌, length, map, drop, drop-cons, get_or, suc, All, refl, sym, ap, ◌∙◌, arith}
 use Rattle.std.proofs.lemmas.List.Elements.{All-nil, All-cons, All-head, All-tail}
 use Rattle.pb_base.specs.declared.literal.Lit.{Lit}
@@ -27,7 +27,7 @@ units-all P [] h = All-nil (All P)
 units-all P (l ∷ us) h = All-cons (All P) (unit_clause l) (map unit_clause us) (All-cons P l [] (All-head P l us h) (All-nil P)) (units-all P us (All-tail P l us h))
 
 -- one after another
-pub units_rest : (us : List Lit) (i : ℕ) (u : Lit) → i < length us → u ≡ get_or us i u → map unit_clause (drop i us) ≡ unit_clause u ∷ map unit_clause (drop (i + 1) us)
-units_rest us i u lt is =
+pub units_left : (us : List Lit) (i : ℕ) (u : Lit) → i < length us → u ≡ get_or us i u → drop i us ≡ u ∷ drop (i + 1) us
+units_left us i u lt is =
     let next : suc i ≡ i + 1 = omega arith in
-    ap (map unit_clause) (drop-cons us i u lt ∙ ap (λ (l : Lit). l ∷ drop (suc i) us) (sym is)) ∙ ap (λ (n : ℕ). unit_clause u ∷ map unit_clause (drop n us)) next
+    drop-cons us i u lt ∙ ap (λ (l : Lit). l ∷ drop (suc i) us) (sym is) ∙ ap (λ (n : ℕ). u ∷ drop n us) next

@@ -9,7 +9,6 @@ ghost use Rattle.pb_choice.specs.Residual.{rest_terms, IsLeft};
 
 use crate::chosen::Chosen;
 use crate::held::AtMostOne;
-use crate::lent::Lent;
 use crate::residual::Residual;
 use crate::treatment::Treatment;
 use crate::within::{adder_of, counter_within, diagram_within, totalizer_within, tree_within};
@@ -77,12 +76,9 @@ pub fn residual_of<'a>(
         Rest::Nothing => Ok(Residual::Nothing),
         Rest::Empty => Ok(Residual::Empty),
         Rest::Clause(lits) => Ok(Residual::Clause(lits)),
-        Rest::One(sum) => Ok(Residual::Sum(Lent::own(alloc, one_of(options.amo, sum))?)),
-        Rest::Card(sum) => Ok(Residual::Sum(Lent::own(alloc, card_of(alloc, options, sum)?)?)),
-        Rest::General(sum) => Ok(Residual::Sum(Lent::own(
-            alloc,
-            general_of(alloc, options, sum)?,
-        )?)),
+        Rest::One(sum) => Residual::own(alloc, one_of(options.amo, sum)),
+        Rest::Card(sum) => Residual::own(alloc, card_of(alloc, options, sum)?),
+        Rest::General(sum) => Residual::own(alloc, general_of(alloc, options, sum)?),
     }
 }
 
@@ -98,8 +94,7 @@ pub fn adder_left<'a>(
     ensures { IfOk result (IsLeft options.now rest) }
 {
     match rest {
-        Rest::Card(sum) => Ok(Residual::Sum(Lent::own(alloc, adder_of(alloc, sum)?)?)),
-        Rest::General(sum) => Ok(Residual::Sum(Lent::own(alloc, adder_of(alloc, sum)?)?)),
+        Rest::Card(sum) | Rest::General(sum) => Residual::own(alloc, adder_of(alloc, sum)?),
         other => residual_of(alloc, options, other),
     }
 }

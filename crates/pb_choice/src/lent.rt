@@ -1,8 +1,7 @@
 //! A family that a plan has, or uses of another.
-ghost use Rattle.std.specs.Prelude.{◌≡◌, IfOk, IfSome};
+ghost use Rattle.std.specs.Prelude.{◌≡◌, IfSome};
 
 use crate::chosen::Chosen;
-use std::alloc::{AllocError, Global};
 use std::marker::Model;
 
 /// Where a family is. It stands in memory of its own: most constraints are clauses, and the plan of one takes little room.
@@ -52,13 +51,12 @@ impl<'a> Model for Lent<'a> {
 
 impl<'a> Lent<'a> {
     /// One that was built.
-    pub fn own(alloc: Global, chosen: Chosen) -> Result<Lent<'a>, AllocError>
-        ensures { IfOk result (λ lent. lent ≡ chosen) }
+    pub fn own(chosen: Box<Chosen>) -> Lent<'a>
+        ensures { result ≡ chosen.value }
     {
-        let chosen = Box::new(alloc, chosen)?;
-        Ok(Lent {
+        Lent {
             owner: Owner::Own(chosen),
-        })
+        }
     }
 
     /// One that was kept.

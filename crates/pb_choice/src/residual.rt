@@ -6,7 +6,7 @@ use crate::emission::emit_one;
 use crate::lent::Lent;
 use crate::reducing::{Origin, reducing_step};
 use crate::treatment::Treatment;
-use pb_base::Lits;
+use pb_base::{Lits, NoMemory};
 use pb_family::{ClauseSink, Family, SinkResult, StepSink, derive_propagated};
 use std::alloc::Global;
 
@@ -30,6 +30,19 @@ impl Drop for Residual<'_> {
             Residual::Clause(_) => {}
             Residual::Sum(_) => {}
         }
+    }
+}
+
+impl<'a> Residual<'a> {
+    ghost use Rattle.std.specs.Prelude.{◌≡◌, IfOk};
+    ghost use Rattle.pb_choice.specs.declared.residual.Residual.TheVariants.{Sum};
+
+    /// A sum, with the family that was built for it.
+    pub fn own(alloc: Global, chosen: Chosen) -> Result<Residual<'a>, NoMemory>
+        ensures { IfOk result (λ left. left ≡ Sum chosen) }
+    {
+        let chosen = Box::new(alloc, chosen)?;
+        Ok(Residual::Sum(Lent::own(chosen)))
     }
 }
 

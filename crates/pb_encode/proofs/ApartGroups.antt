@@ -15,7 +15,7 @@ use Rattle.pb_choice.specs.declared.treatment.Treatment.{Treatment}
 use Rattle.pb_choice.specs.Choice.{treatment_of}
 use Rattle.pb_choice.specs.Clauses.{constraint_clauses, constraint_count, constraint_fresh}
 use Rattle.pb_choice.specs.Equals.{equality_clauses, equality_count, equality_fresh, is_joining, is_joint, literals_asked}
-use Rattle.pb_choice.proofs.JointTests.{not_joining}
+use Rattle.pb_choice.proofs.JointSums.{not_joining}
 use Rattle.pb_encode.specs.Clauses.{clause_total, clauses_from, fresh_total}
 use Rattle.pb_encode.specs.declared.groups.Group.{Group}
 use Rattle.pb_encode.specs.Groups.{all_members, group_count, group_fresh, groups_of, singles}

@@ -10,7 +10,8 @@ use Rattle.pb_steps.specs.Database.{Database}
 use Rattle.pb_steps.specs.Sayable.{IsSayable}
 use Rattle.pb_derive.specs.Derivations.{Derives}
 use Rattle.pb_derive.specs.Short.{line_size}
-use Rattle.pb_family.specs.Derivations.{MayStart}
+use Rattle.pb_family.specs.Derivations.{AreOriginal, MayStart}
+use Rattle.pb_family.specs.Families.{VarsBelow}
 use Rattle.pb_base.specs.declared.options.Options.{Options}
 use Rattle.pb_choice.specs.Clauses.{constraint_clauses, constraint_count, constraint_fresh}
 use Rattle.pb_choice.specs.ConstraintSteps.{constraint_steps}
@@ -34,10 +35,15 @@ pub record IsSaid (n count fresh clauses : ℕ) (steps : List Step) : Type 0 whe
 pub modest : (o : Options) (n : ℕ) (c : Constraint) → IsLight o n c → IsModest c
 modest o n c light = record { linear = light.ready.linear; light = light.weight; few = omega (arith, light.few) }
 
+pub light_below : (o : Options) (n first : ℕ) (c : Constraint) → n ≤ first → IsLight o n c → VarsBelow first c.terms
+light_below o n first c le light = All-weaker (OfTerm (IsOneBelow n)) (λ t. t.lit.var < first) (λ t h. omega (arith, le, h.1)) c.terms light.ready.within
+
+pub light_original : (o : Options) (n first : ℕ) (c : Constraint) → n ≤ first → IsLight o n c → AreOriginal first c.terms
+light_original o n first c le light = All-weaker (OfTerm (IsOneBelow n)) (λ t. (1 ≤ t.lit.var) × (t.lit.var < first)) (λ t h. (h.0, omega (arith, le, h.1))) c.terms light.ready.within
+
 pub constraint-derives : (o : Options) (n first id : ℕ) (c : Constraint) (db : Database) → IsLight o n c → n ≤ first → IsReadyWith c first (constraint_fresh o c) id db
     → Derives db (constraint_steps o c first id db.next) (constraint_clauses o c first) (first + constraint_fresh o c)
-constraint-derives o n first id c db light le start =
-    constraints_derive o c first id db (modest o n c light) (All-weaker (OfTerm (IsOneBelow n)) (λ t. t.lit.var < first) (λ t h. omega (arith, le, h.1)) c.terms light.ready.within) start
+constraint-derives o n first id c db light le start = constraints_derive o c first id db (modest o n c light) (light_below o n first c le light) start
 
 pub constraint-few : (o : Options) (n : ℕ) (c : Constraint) (first id next : ℕ) → IsLight o n c → length (constraint_steps o c first id next) ≤ 8 * (constraint_fresh o c + constraint_count o c) + 4
 constraint-few o n c first id next light = constraints_few o c first id next (modest o n c light)
@@ -52,7 +58,7 @@ bytes_small n fresh clauses bytes few h =
 pub constraint-said : (o : Options) (n first id next : ℕ) (c : Constraint) → IsLight o n c → n ≤ first → 1 ≤ first → first + constraint_fresh o c ≤ 2 ^ 31 → constraint_count o c ≤ 2 ^ 56 → 1 ≤ id → id < next → next ≤ 2 ^ 60
     → IsSaid (length c.terms) 1 (constraint_fresh o c) (constraint_count o c) (constraint_steps o c first id next)
 constraint-said o n first id next c light le low fits counted given known few =
-    let original = All-weaker (OfTerm (IsOneBelow n)) (λ t. (1 ≤ t.lit.var) × (t.lit.var < first)) (λ t h. (h.0, omega (arith, le, h.1))) c.terms light.ready.within in
+    let original = light_original o n first c le light in
     let start : MayStart first (constraint_fresh o c) id next = record { low = low; fits = fits; given = given; known = known; few = omega (arith, few) } in
     let brief = constraints_brief o c first id next (modest o n c light) counted original start few (omega (arith, light.few)) in
     record {

@@ -1,17 +1,15 @@
 -- What the clauses of one group say.
-use Rattle.std.proofs.Common.{◌≡◌, ◌≤◌, ◌<◌, ◌+◌, ℕ, List, [], ◌∷◌, length, All, arith, inl, inr}
-use Rattle.std.proofs.lemmas.List.Elements.{All-nil, All-cons, All-contains, All-head, All-map, All-tail, All-weaker}
-use Rattle.pb_base.specs.declared.literal.Lit.{Lit}
+use Rattle.std.proofs.Common.{◌≡◌, ◌≤◌, ◌<◌, ◌+◌, ℕ, [], ◌∷◌, length, All, arith}
+use Rattle.std.proofs.lemmas.List.Elements.{All-nil, All-cons, All-head, All-tail, All-weaker}
 use Rattle.pb_base.specs.Literals.{Assignment, AgreeBelow, IsModel}
-use Rattle.pb_norm.specs.BoundedSums.{vars_of}
-use Rattle.pb_norm.specs.Constraints.{Weighted, Constraint, Holds, Solves}
+use Rattle.pb_norm.specs.Constraints.{Constraint, Holds, Solves}
 use Rattle.pb_norm.proofs.Variables.{OfTerm, OfLit}
-use Rattle.pb_family.specs.Families.{IsNamed, NamesOnly, VarsBelow}
+use Rattle.pb_family.specs.Families.{VarsBelow}
 use Rattle.pb_base.specs.declared.options.Options.{Options}
 use Rattle.pb_choice.specs.Equals.{equality_clauses, equality_count, equality_fresh}
 use Rattle.pb_choice.specs.EqualityLaws.{EncodesBoth, IsEquality}
 use Rattle.pb_choice.proofs.Composition.{IsOneBelow, IsReady}
-use Rattle.pb_choice.proofs.Encoded.{clauses-count, clauses-extend, clauses-sound, clauses-within}
+use Rattle.pb_choice.proofs.Encoded.{clauses-count, clauses-extend, clauses-sound, clauses-within, named_within}
 use Rattle.pb_choice.proofs.EqualityEncoded.{equalities_encode}
 use Rattle.pb_encode.specs.declared.groups.Group.{Group}
 use Rattle.pb_encode.specs.Groups.{group_clauses, group_count, group_fresh, members}
@@ -46,19 +44,6 @@ pub group-extend : (o : Options) (n first : ℕ) (g : Group) → n ≤ first →
 group-extend o n first (Alone c) le ready a holds = clauses-extend o c first ready.linear (constraint-below o n first c le ready) a (All-head (Holds a) c [] holds)
 group-extend o n first (Paired c d) le ready a holds =
     (both_encode o n first c d le ready).extends a (All-head (Holds a) c (d ∷ []) holds, All-head (Holds a) d [] (All-tail (Holds a) c (d ∷ []) holds))
-
--- literals of a sum's variables or of fresh ones are of variables from 1 on
-named_within : (ts : List Weighted) (first fresh : ℕ) (clauses : List (List Lit)) → 1 ≤ first → All (OfTerm (IsOneBelow first)) ts → NamesOnly ts first fresh clauses → All (All (OfLit (IsOneBelow (first + fresh)))) clauses
-named_within ts first fresh clauses from within names =
-    let Named : Lit → Type 0 = IsNamed ts first fresh in
-    let Within : Lit → Type 0 = OfLit (IsOneBelow (first + fresh)) in
-    let vars : All (IsOneBelow first) (vars_of ts) = All-map (IsOneBelow first) (λ (t : Weighted). t.lit.var) ts within in
-    let each = λ (l : Lit) (h : Named l).
-    elim h as (λ _. Within l) [
-      | inl among ↦ let own = All-contains (IsOneBelow first) (vars_of ts) l.var vars among in (own.0, omega (arith, own.1))
-      | inr is_fresh ↦ (omega (arith, from, is_fresh.0), is_fresh.1)
-    ] in
-    All-weaker (All Named) (All Within) (λ ls h. All-weaker Named Within each ls h) clauses names
 
 -- the variables are from 1 and below the first number after the fresh ones
 pub group-within : (o : Options) (n first : ℕ) (g : Group) → 1 ≤ first → n ≤ first → IsGroupReady o n g → All (All (OfLit (IsOneBelow (first + group_fresh o g)))) (group_clauses o g first)

@@ -3,28 +3,24 @@ use Rattle.std.proofs.Common.{◌≡◌, ◌≤◌, ◌<◌, ◌+◌, ◌*◌, �
 use Rattle.std.proofs.Math.Nat.{add-mul, mul-le-mul_left}
 use Rattle.std.specs.Prelude.{sum_by}
 use Rattle.std.proofs.lemmas.List.{length-map}
-use Rattle.std.proofs.lemmas.List.Elements.{All-weaker}
 use Rattle.pb_norm.specs.Constraints.{Weighted, Constraint}
 use Rattle.pb_norm.specs.Reduction.{opposite}
-use Rattle.pb_norm.proofs.Variables.{OfTerm}
 use Rattle.pb_steps.specs.Database.{Database}
 use Rattle.pb_derive.specs.Derivations.{Derives}
 use Rattle.pb_derive.specs.Later.{IsNumbered, IsUnnamed}
 use Rattle.pb_derive.specs.Short.{line_size}
-use Rattle.pb_family.specs.Derivations.{AreOriginal, MayStart}
-use Rattle.pb_family.specs.Families.{VarsBelow}
+use Rattle.pb_family.specs.Derivations.{MayStart}
 use Rattle.pb_base.specs.declared.options.Options.{Options}
 use Rattle.pb_choice.specs.Equals.{equality_count, equality_fresh}
 use Rattle.pb_choice.specs.EqualitySteps.{equality_steps}
 use Rattle.pb_choice.specs.Readiness.{LeavesIds}
 use Rattle.pb_choice.specs.EqualityLaws.{IsModestEquality}
-use Rattle.pb_choice.proofs.Composition.{IsOneBelow}
 use Rattle.pb_choice.proofs.EqualityDerived.{equalities_derive}
 use Rattle.pb_choice.proofs.EqualitySizes.{equalities_brief, equalities_few, equalities_sayable}
 use Rattle.pb_encode.specs.declared.groups.Group.{Group}
 use Rattle.pb_encode.specs.Groups.{group_clauses, group_count, group_fresh, group_size, group_steps, members}
 use Rattle.pb_encode.specs.declared.groups.Group.TheVariants.{Alone, Paired}
-use Rattle.pb_encode.proofs.ChoiceLaws.{IsLight, IsSaid, constraint-derives, constraint-few, constraint-said, modest}
+use Rattle.pb_encode.proofs.ChoiceLaws.{IsLight, IsSaid, constraint-derives, constraint-few, constraint-said, light_below, light_original, modest}
 use Rattle.pb_encode.proofs.GroupLists.{AreBoth, OfGroup}
 use Rattle.pb_encode.proofs.LoadedDatabases.{Stand}
 use Rattle.pb_encode.proofs.StepPositions.{leaves_next}
@@ -42,12 +38,6 @@ pub record IsGroupStart (o : Options) (first id : ℕ) (g : Group) (db : Databas
 
 both_modest : (o : Options) (n : ℕ) (c d : Constraint) → AreBoth (IsLight o n) c d → IsModestEquality c d
 both_modest o n c d light = record { lower_modest = modest o n c light.lower; upper_modest = modest o n d light.upper; halves = light.halves }
-
-light_below : (o : Options) (n first : ℕ) (c : Constraint) → n ≤ first → IsLight o n c → VarsBelow first c.terms
-light_below o n first c le light = All-weaker (OfTerm (IsOneBelow n)) (λ t. t.lit.var < first) (λ t h. omega (arith, le, h.1)) c.terms light.ready.within
-
-light_original : (o : Options) (n first : ℕ) (c : Constraint) → n ≤ first → IsLight o n c → AreOriginal first c.terms
-light_original o n first c le light = All-weaker (OfTerm (IsOneBelow n)) (λ t. (1 ≤ t.lit.var) × (t.lit.var < first)) (λ t h. (h.0, omega (arith, le, h.1))) c.terms light.ready.within
 
 pub group-derives : (o : Options) (n first id : ℕ) (g : Group) (db : Database) → IsGroupLight o n g → n ≤ first → IsGroupStart o first id g db
     → Derives db (group_steps o g first id db.next) (group_clauses o g first) (first + group_fresh o g)

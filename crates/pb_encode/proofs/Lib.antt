@@ -5,7 +5,6 @@ pub mod ChoiceLaws
 pub mod CnfTexts
 pub mod CostLemmas
 pub mod CostTexts
-pub mod Counted
 pub mod CountingLoops
 pub mod DerivedProblems
 pub mod EncodedFiles
@@ -15,9 +14,7 @@ pub mod GroupComposition
 pub mod GroupDerivations
 pub mod GroupLists
 pub mod GroupParts
-pub mod HalfTerms
-pub mod HalfWeights
-pub mod Headers
+pub mod HalfSizes
 pub mod LoadedDatabases
 pub mod LoadedRuns
 pub mod MadeFiles

@@ -1,5 +1,5 @@
 -- The lines of a problem's derivation that are handed over one after another.
-use Rattle.std.proofs.Common.{◌≡◌, ◌<◌, ◌+◌, ◌^◌, ◌++◌, ℕ, List, [], ◌∷◌, length, ap, arith}
+use Rattle.std.proofs.Common.{◌≡◌, ◌<◌, ◌+◌, ◌-◌, ◌^◌, ◌++◌, ℕ, List, [], ◌∷◌, length, ap, arith}
 use Rattle.std.specs.Prelude.{Result, IsErrAnd}
 use Rattle.pb_base.specs.declared.problem.Problem.{Problem}
 use Rattle.pb_base.specs.Problems.{IsWithinLimits}
@@ -16,7 +16,7 @@ use Rattle.pb_encode.specs.inner.Streams.{steps_at_next}
 use Rattle.pb_encode.proofs.DerivedProblems.{loaded_count, whole_leave}
 use Rattle.pb_encode.proofs.StepPositions.{ids_in, stops_same_steps, takes_same_steps}
 
-module _ {R : Type 0} (o : Options) (p : Problem) (within : IsWithinLimits p) (encodable : IsEncodable o p) (a b c : StepState R) (starts : a.next ≡ length (loaded_of p) + 1) (count : ℕ) (count_is : count ≡ length (loaded_of p)) where
+module _ {R : Type 0} (o : Options) (p : Problem) (within : IsWithinLimits p) (encodable : IsEncodable o p) (a b c : StepState R) (starts : a.next ≡ length (loaded_of p) + 1) (next : ℕ) (next_is : next ≡ a.next) where
   abbrev all : List Step
   all = problem_steps o p
 
@@ -26,17 +26,19 @@ module _ {R : Type 0} (o : Options) (p : Problem) (within : IsWithinLimits p) (e
   abbrev behind_head : List Step
   behind_head = loaded_steps o p ++ End ∷ []
 
-  lines_are : Head ∷ Loaded count ∷ [] ≡ head_lines
-  lines_are = ap (λ (n : ℕ). Head ∷ Loaded n ∷ []) count_is
+  lines_are : Head ∷ Loaded (next - 1) ∷ [] ≡ head_lines
+  lines_are =
+      let count : next - 1 ≡ length (loaded_of p) = omega (arith, next_is, starts) in
+      ap (λ (n : ℕ). Head ∷ Loaded n ∷ []) count
 
   pub start_small : a.next + 1 < 2 ^ 62
   start_small = omega (arith, starts, loaded_count o p within encodable)
 
-  pub head_stops : {T : Type 0} (r : Result T SinkFault) (f : SinkFault) → IsErrAnd r (λ g. g ≡ f) → StopsInSteps (Head ∷ Loaded count ∷ []) a b f → HandsSteps all r a b
+  pub head_stops : {T : Type 0} (r : Result T SinkFault) (f : SinkFault) → IsErrAnd r (λ g. g ≡ f) → StopsInSteps (Head ∷ Loaded (next - 1) ∷ []) a b f → HandsSteps all r a b
   head_stops r f is stops = steps_fault r f head_lines behind_head b is (deriving_starts all a) (stops_same_steps _ _ a b f lines_are stops)
 
   -- the head and the number of constraints were taken
-  module _ (head : TakesSteps (Head ∷ Loaded count ∷ []) a b) where
+  module _ (head : TakesSteps (Head ∷ Loaded (next - 1) ∷ []) a b) where
     head_taken : Deriving all behind_head a b
     head_taken = deriving_step {left = behind_head} head_lines b (deriving_starts all a) (takes_same_steps _ _ a b lines_are head)
 

@@ -14,19 +14,16 @@ use Rattle.pb_norm.specs.Halves.{constraints_of, half_of, halves_of, loaded}
 use Rattle.pb_norm.specs.Products.{defining, loaded_of}
 use Rattle.pb_norm.proofs.ClauseTerms.{length-weight}
 use Rattle.pb_norm.proofs.ProductForms.{IsFormOver}
-use Rattle.pb_norm.proofs.Variables.{OfTerm}
-use Rattle.pb_family.specs.Families.{VarsBelow}
 use Rattle.pb_base.specs.declared.options.Options.{Options}
 use Rattle.pb_choice.proofs.Composition.{IsOneBelow, IsReady}
 use Rattle.pb_encode.specs.declared.groups.Group.{Group}
 use Rattle.pb_encode.specs.declared.groups.Group.TheVariants.{Alone, Paired}
 use Rattle.pb_encode.specs.Groups.{groups_of}
 use Rattle.pb_encode.specs.inner.GroupPlans.{IsSound}
-use Rattle.pb_encode.proofs.ChoiceLaws.{IsLight}
+use Rattle.pb_encode.proofs.ChoiceLaws.{IsLight, light_below}
 use Rattle.pb_encode.proofs.GroupDerivations.{IsGroupLight}
 use Rattle.pb_encode.proofs.GroupLists.{groups_by, groups_matched, members_loaded}
-use Rattle.pb_encode.proofs.HalfTerms.{half_short}
-use Rattle.pb_encode.proofs.HalfWeights.{half_light}
+use Rattle.pb_encode.proofs.HalfSizes.{half_light, half_short}
 use Rattle.pb_encode.proofs.Solutions.{forms_over, loaded_ready}
 
 -- few terms, and small numbers
@@ -69,9 +66,6 @@ module _ (o : Options) (p : Problem) (within : IsWithinLimits p) where
       groups_by Light (groups_of p) (groups_matched p) (subst (All Light) (sym (members_loaded p)) (light_each o (originals p + 1) (loaded_of p) (loaded_ready o p within) small))
 
 -- ---- below any greater number
-
-light_below : (o : Options) (n first : ℕ) (c : Constraint) → n ≤ first → IsLight o n c → VarsBelow first c.terms
-light_below o n first c le light = All-weaker (OfTerm (IsOneBelow n)) (λ t. t.lit.var < first) (λ t h. omega (arith, le, h.1)) c.terms light.ready.within
 
 light_sound : (o : Options) (n first : ℕ) (g : Group) → n ≤ first → IsGroupLight o n g → IsSound first g
 light_sound o n first (Alone c) le light = record { light = light.weight; below = light_below o n first c le light }

@@ -21,7 +21,7 @@ use Rattle.pb_choice.proofs.Composition.{IsOneBelow}
 use Rattle.pb_gentot.specs.BoundTable.{IsTable}
 use Rattle.pb_encode.specs.Tables.{table_terms}
 use Rattle.pb_encode.proofs.CostLemmas.{light_terms}
-use Rattle.pb_encode.proofs.HalfTerms.{normal_short}
+use Rattle.pb_encode.proofs.HalfSizes.{normal_short}
 
 -- in whichever order
 by_weight-distinct : (ts : List Weighted) → IsAscending ts → IsOverDistinct (by_weight ts)

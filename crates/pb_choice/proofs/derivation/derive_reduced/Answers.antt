@@ -10,7 +10,7 @@ use Rattle.pb_choice.specs.Chosen.{sum_at, treatment_at}
 use Rattle.pb_choice.specs.ConstraintSteps.{reduced_steps}
 use Rattle.pb_choice.specs.SumSteps.{sum_steps}
 use Rattle.pb_choice.proofs.FamilyCounts.{chosen_few}
-use Rattle.pb_choice.proofs.PlanSteps.{one_id}
+use Rattle.pb_choice.proofs.PlanParts.{one_id}
 use Rattle.pb_choice.proofs.derivation.derive_reduced.Goals as goal
 
 -- ---- how far the derivation has come

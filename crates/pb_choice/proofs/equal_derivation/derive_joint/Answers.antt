@@ -10,7 +10,7 @@ use Rattle.pb_totalizer.specs.ExactSteps.{exact_steps}
 use Rattle.pb_totalizer.specs.ExactSum.{exact_sum}
 use Rattle.pb_totalizer.specs.laws.ExactDerives.{exact_lines}
 use Rattle.pb_choice.specs.EqualitySteps.{joint_steps, quotient_step}
-use Rattle.pb_choice.proofs.PlanSteps.{one_id}
+use Rattle.pb_choice.proofs.PlanParts.{one_id}
 use Rattle.pb_choice.proofs.equal_derivation.derive_joint.Goals as goal
 
 -- ---- how far the derivation has come

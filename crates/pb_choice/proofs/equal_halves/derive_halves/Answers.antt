@@ -6,7 +6,7 @@ use Rattle.pb_steps.specs.declared.step.Step.{Step}
 use Rattle.pb_steps.specs.Steps.{takes_id}
 use Rattle.pb_family.proofs.Deriving.{deriving_as, deriving_starts, deriving_step, steps_fault, steps_last}
 use Rattle.pb_choice.specs.HalfPlans.{halves_steps, plan_fresh, plan_steps}
-use Rattle.pb_choice.proofs.PlanIds.{plan_ids}
+use Rattle.pb_choice.proofs.PlanParts.{plan_ids}
 use Rattle.pb_choice.proofs.equal_halves.derive_halves.Goals as goal
 
 pub returns-in_err-derive : goal.returns-in_err-derive

@@ -5,8 +5,7 @@ use Rattle.pb_base.specs.declared.literal.Lit.{Lit}
 use Rattle.pb_norm.specs.Constraints.{Weighted}
 use Rattle.pb_norm.specs.Reduction.{lits_of}
 use Rattle.pb_choice.proofs.NumbersAsked.{asks}
-use Rattle.pb_choice.proofs.JointSums.{lits_apart}
-use Rattle.pb_choice.proofs.JointTests.{not_asking, not_joining}
+use Rattle.pb_choice.proofs.JointSums.{lits_apart, not_asking, not_joining}
 use Rattle.pb_choice.proofs.equal_planning.exact_of.Goals as goal
 
 pub returns-then-not-is_joining : goal.returns-then-not-is_joining

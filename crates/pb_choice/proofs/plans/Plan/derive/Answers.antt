@@ -8,7 +8,7 @@ use Rattle.pb_family.proofs.Deriving.{deriving_as, deriving_from, deriving_step,
 use Rattle.pb_choice.specs.ConstraintSteps.{unit_claims}
 use Rattle.pb_choice.specs.Reducing.{divisor, reducing}
 use Rattle.pb_choice.specs.Residual.{left_steps}
-use Rattle.pb_choice.proofs.PlanSteps.{plan_steps, units_ids}
+use Rattle.pb_choice.proofs.PlanParts.{plan_steps, units_ids}
 use Rattle.pb_choice.proofs.RestTerms.{rest_below, units_short}
 use Rattle.pb_choice.proofs.plans.Plan.derive.Goals as goal
 

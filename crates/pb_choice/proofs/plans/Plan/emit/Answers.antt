@@ -6,7 +6,7 @@ use Rattle.pb_family.proofs.Emission.{emitting_from, emitting_step}
 use Rattle.pb_family.proofs.Stopping.{stops_fault, stops_last}
 use Rattle.pb_choice.specs.Clauses.{unit_clause}
 use Rattle.pb_choice.specs.Residual.{left_clauses}
-use Rattle.pb_choice.proofs.PlanClauses.{plan_clauses}
+use Rattle.pb_choice.proofs.PlanParts.{plan_clauses}
 use Rattle.pb_choice.proofs.RestTerms.{rest_below}
 use Rattle.pb_choice.proofs.plans.Plan.emit.Goals as goal
 
