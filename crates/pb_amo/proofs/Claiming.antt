@@ -2,6 +2,7 @@
 use Rattle.std.proofs.Common.{◌≡◌, ◌<◌, ◌≤◌, ◌+◌, ◌-◌, ◌*◌, ◌^◌, ◌++◌, ℕ, cond, List, [], ◌∷◌, length, drop, refl, sym, ap, ◌∙◌, subst, arith}
 use Rattle.std.specs.Prelude.{map, count_by, Result, IsErrAnd}
 use Rattle.std.proofs.lemmas.List.Sums.{sum_by_from, sum_by-append}
+use Rattle.std.proofs.lemmas.List.{drop_all}
 use Rattle.std.proofs.Math.Nat.{mul-le-mul_right}
 use Rattle.pb_base.specs.declared.literal.Lit.{Lit}
 use Rattle.pb_base.specs.Literals.{negated}
@@ -13,7 +14,7 @@ use Rattle.pb_family.specs.Derivations.{propagated}
 use Rattle.pb_family.specs.Fresh.{literal_at}
 use Rattle.pb_family.specs.StepSinks.{StepState, TakesSteps, StopsInSteps, HandsSteps}
 use Rattle.pb_family.specs.declared.sink.SinkFault.{SinkFault}
-use Rattle.pb_family.proofs.Deriving.{Deriving, deriving_as, deriving_step, steps_fault}
+use Rattle.pb_family.proofs.Deriving.{Deriving, deriving_as, deriving_ends, deriving_step, steps_fault}
 use Rattle.pb_amo.specs.Pairwise.{pairwise_clauses, pair_count}
 use Rattle.pb_amo.specs.PairwiseSteps.{pairwise_steps}
 use Rattle.pb_amo.specs.laws.PairwiseLaws.{pairs_count}
@@ -36,6 +37,13 @@ module _ {R : Type 0} (id : ℕ) (ms : List Lit) (old now : StepState R) where
 
   pub left_pairs : (i : ℕ) → i < length ms → Left (pairwise_clauses (drop i ms)) → Left (row (literal_at ms i) (drop (i + 1) ms) ++ pairwise_clauses (drop (i + 1) ms))
   left_pairs i within e = subst Left (pairs_at ms i within) e
+
+  -- past the last literal nothing is left, of all rows and of one
+  pub pairs_claimed : (i : ℕ) → length ms ≤ i → Left (pairwise_clauses (drop i ms)) → TakesSteps (pairwise_steps ms id old.next) old now
+  pairs_claimed i past e = deriving_ends (subst (λ (ks : List Lit). Left (pairwise_clauses ks)) (drop_all i ms past) e)
+
+  pub row_claimed : (m : Lit) (j : ℕ) (rest : List (List Lit)) → length ms ≤ j → Left (row m (drop j ms) ++ rest) → Left rest
+  row_claimed m j rest past e = subst (λ (ks : List Lit). Left (row m ks ++ rest)) (drop_all j ms past) e
 
   -- a clause of a row is next
   module _ (m : Lit) (j : ℕ) (rest : List (List Lit)) (within : j < length ms) (e : Left (row m (drop j ms) ++ rest)) where

@@ -20,10 +20,10 @@ use Rattle.pb_family.proofs.Sequence.{deletions_ids, after_followed, followed_fa
 use Rattle.pb_amo.specs.Product.{rows, columns, line, product_fresh, product_count}
 use Rattle.pb_amo.specs.ProductSteps.{line_sum, side_steps, product_steps}
 use Rattle.pb_amo.specs.inner.GridOrder.{line_at, cell_at}
-use Rattle.pb_amo.specs.inner.ProductParts.{most_steps}
+use Rattle.pb_amo.specs.inner.ProductParts.{most_steps, rows_then, columns_then, sides_steps}
 use Rattle.pb_amo.specs.laws.GridCounts.{fresh_step, count_step}
 use Rattle.pb_amo.specs.laws.LineLaws.{length-line}
-use Rattle.pb_amo.specs.laws.ProductLevels.{rows_part, columns_part, product_levels}
+use Rattle.pb_amo.specs.laws.ProductLevels.{product_levels}
 use Rattle.pb_amo.specs.laws.ProductShort.{lines_within}
 use Rattle.pb_amo.proofs.GridPieces.{lines_by_number, cells_by_number}
 
@@ -63,7 +63,7 @@ module _ (ms : List Lit) (first id r q base : ℕ) where
   cells_from next = claim_steps next (map by_justification (justifications_by_number (cell_at ms first r q base) (length ms * 2)))
 
   abbrev pub sides_from : ℕ → List Step
-  sides_from = followed_by (rows_part ms first r q id base) (columns_part ms first r q id base)
+  sides_from = followed_by (rows_then first id r q base) (columns_then first id r q base)
 
   abbrev pub gone : List Step
   gone = deletion_steps 2 base (r + q)
@@ -121,18 +121,30 @@ module _ {R : Type 0} {ms : List Lit} {first id r q base : ℕ} (old : StepState
       after_cells : Deriving all (sides_from ms first id r q base mid.next ++ gone ms first id r q base) old mid
       after_cells = after_followed (cells_from ms first id r q base) (sides_from ms first id r q base) (gone ms first id r q base) after_lines mid k
 
-      pub fault_in_rows : {T : Type 0} (result : Result T SinkFault) (f : SinkFault) (after : StepState R) → IsErrAnd result (λ g. g ≡ f) → StopsInSteps (rows_part ms first r q id base mid.next) mid after f → HandsSteps all result old after
-      fault_in_rows result f after is part = followed_fault (rows_part ms first r q id base) (columns_part ms first r q id base) (gone ms first id r q base) after_cells result f after is part
+      -- behind them come the sides
+      pub whole_grid : {T : Type 0} (result : Result T SinkFault) (new : StepState R) → HandsSteps (sides_steps first id r q base mid.next) result mid new → HandsSteps all result old new
+      whole_grid result new sides = steps_last result (sides_steps first id r q base mid.next) new after_cells sides
 
-      module _ (last : StepState R) (j : TakesSteps (rows_part ms first r q id base mid.next) mid last) where
-        after_rows : Deriving all (columns_part ms first r q id base last.next ++ gone ms first id r q base) old last
-        after_rows = after_followed (rows_part ms first r q id base) (columns_part ms first r q id base) (gone ms first id r q base) after_cells last j
+-- the parts of the sides
+module _ {R : Type 0} (first id r q base : ℕ) (old : StepState R) where
+  abbrev of_sides : List Step
+  of_sides = sides_steps first id r q base old.next
 
-        pub fault_in_columns : {T : Type 0} (result : Result T SinkFault) (f : SinkFault) (after : StepState R) → IsErrAnd result (λ g. g ≡ f) → StopsInSteps (columns_part ms first r q id base last.next) last after f → HandsSteps all result old after
-        fault_in_columns result f after is part = steps_fault result f (columns_part ms first r q id base last.next) (gone ms first id r q base) after is after_rows part
+  abbrev gone_last : List Step
+  gone_last = deletion_steps 2 base (r + q)
 
-        pub whole_grid : {T : Type 0} (result : Result T SinkFault) (end new : StepState R) → TakesSteps (columns_part ms first r q id base last.next) last end → HandsSteps (gone ms first id r q base) result end new → HandsSteps all result old new
-        whole_grid result end new columns deleted = steps_last result (gone ms first id r q base) new (deriving_step {left = gone ms first id r q base} (columns_part ms first r q id base last.next) end after_rows columns) deleted
+  pub fault_in_rows : {T : Type 0} (result : Result T SinkFault) (f : SinkFault) (after : StepState R) → IsErrAnd result (λ g. g ≡ f) → StopsInSteps (rows_then first id r q base old.next) old after f → HandsSteps of_sides result old after
+  fault_in_rows result f after is part = followed_fault (rows_then first id r q base) (columns_then first id r q base) gone_last (deriving_starts of_sides old) result f after is part
+
+  module _ (now : StepState R) (h : TakesSteps (rows_then first id r q base old.next) old now) where
+    after_rows : Deriving of_sides (columns_then first id r q base now.next ++ gone_last) old now
+    after_rows = after_followed (rows_then first id r q base) (columns_then first id r q base) gone_last (deriving_starts of_sides old) now h
+
+    pub fault_in_columns : {T : Type 0} (result : Result T SinkFault) (f : SinkFault) (after : StepState R) → IsErrAnd result (λ g. g ≡ f) → StopsInSteps (columns_then first id r q base now.next) now after f → HandsSteps of_sides result old after
+    fault_in_columns result f after is part = steps_fault result f (columns_then first id r q base now.next) gone_last after is after_rows part
+
+    pub whole_sides : {T : Type 0} (result : Result T SinkFault) (end new : StepState R) → TakesSteps (columns_then first id r q base now.next) now end → HandsSteps gone_last result end new → HandsSteps of_sides result old new
+    whole_sides result end new columns deleted = steps_last result gone_last new (deriving_step {left = gone_last} (columns_then first id r q base now.next) end after_rows columns) deleted
 
 -- ---- a line's grid, between its sum and the deletion of that
 

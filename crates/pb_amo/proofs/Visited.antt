@@ -1,6 +1,7 @@
 -- The items at places that a test passes, gathered one after another.
 use Rattle.std.proofs.Common.{◌≡◌, ◌≢◌, ◌≤◌, ◌<◌, ◌+◌, ◌*◌, ◌/◌, ◌%◌, ◌&&◌, ◌++◌, ◌∙◌, ℕ, inl, inr, zero, suc, Bool, true, false, not, cond, List, [], ◌∷◌, eqb, length, take, take_all, refl, ap, sym, subst, arith, get_or}
 use Rattle.std.proofs.Math.Nat.{mul-le-mul_right, div-add-mod'}
+use Rattle.std.proofs.Math.Seq.{take-nil}
 use Rattle.std.proofs.lemmas.Bool.{eq-eqb, ne_eqb, cases_lt}
 use Rattle.std.proofs.lemmas.Nat.{div-mul-add, mod-mul-add, mod_below}
 use Rattle.pb_base.specs.declared.literal.Lit.{Lit}
@@ -9,13 +10,9 @@ use Rattle.pb_derive.specs.Ones.{ones}
 use Rattle.pb_amo.specs.Passing.{passing, in_line, is_beside, Visits}
 use Rattle.pb_amo.specs.ProductSteps.{row_of, column_of}
 
-passing-derive_none : {X : Type 0} (p : ℕ → Bool) (e k : ℕ) → passing p e (take {A = X} k []) ≡ []
-passing-derive_none p e zero = refl
-passing-derive_none p e (suc k) = refl
-
 -- none passes in between
 skip : {X : Type 0} (p : ℕ → Bool) (e j k : ℕ) (xs : List X) → j ≤ k → ((i : ℕ) → e + j ≤ i → i < e + k → p i ≡ false) → passing p e (take k xs) ≡ passing p e (take j xs)
-skip {X} p e j k [] le h = passing-derive_none {X = X} p e k ∙ sym (passing-derive_none {X = X} p e j)
+skip {X} p e j k [] le h = ap (passing {X = X} p e) (take-nil k ∙ sym (take-nil j))
 skip p e zero zero (x ∷ xs) le h = refl
 skip {X} p e zero (suc k) (x ∷ xs) le h =
     ap (λ (b : Bool). cond {A = List X} b (x ∷ passing p (e + 1) (take k xs)) (passing p (e + 1) (take k xs))) (h e (omega arith) (omega arith))

@@ -23,8 +23,8 @@ pub(crate) fn derive_pairs<T: StepSink>(
     let count = literals.len();
     for i in 0..count {
         for j in i + 1..count {
-            let clause = [literals.at(i).not(), literals.at(j).not()];
-            derive_propagated(alloc, &[id], &clause, sink)?;
+            let (one, two) = literals.opposites(i, j);
+            derive_propagated(alloc, &[id], &[one, two], sink)?;
         }
     }
     Ok(())

@@ -4,12 +4,12 @@ ghost use Rattle.pb_family.specs.StepSinks.{HandsFrom};
 ghost use Rattle.pb_amo.specs.Product.{line, product_fresh};
 ghost use Rattle.pb_amo.specs.ProductSteps.{line_sum, side_steps, product_steps};
 ghost use Rattle.pb_amo.specs.inner.Source.{source_literals};
-ghost use Rattle.pb_amo.specs.inner.ProductParts.{source_size, most_steps};
+ghost use Rattle.pb_amo.specs.inner.ProductParts.{source_size, most_steps, sides_steps};
 
 use crate::cells::{Cells, derive_line_sum};
 use crate::claims::derive_pairs;
 use crate::grid::Grid;
-use crate::sides::{fresh_of, sides_of};
+use crate::sides::{Sides, fresh_of, sides_of};
 use crate::source::{Line, Source};
 use pb_family::{SinkResult, StepSink, claim_all, derive_deletion, derive_deletions, reify_all};
 use std::alloc::Global;
@@ -34,6 +34,39 @@ fn derive_side<T: StepSink>(
     derive_line_sum(alloc, id, base, of.count, sink)?;
     derive_grid(alloc, &Source::Fresh(of), inner, sum, sink)?;
     derive_deletion(alloc, sum, 1, sink)
+}
+
+/// That at most one row and at most one column has a true literal, and that the constraints of these lines go.
+#[cycle(derive_grid)]
+fn derive_sides<T: StepSink>(
+    alloc: Global,
+    id: u64,
+    base: u64,
+    first: u32,
+    sides: Sides,
+    sink: &mut T,
+) -> SinkResult
+    requires low { 1 ≤ first }
+    requires fits { first + sides.rows + sides.columns + product_fresh sides.rows + product_fresh sides.columns ≤ 2 ^ 31 }
+    requires known { base + 2 * (sides.rows + sides.columns) < 2 ^ 62 }
+    requires room { (T.state sink.old).next + 2 + most_steps sides.rows + most_steps sides.columns < 2 ^ 62 }
+    ensures { HandsFrom (sides_steps first id sides.rows sides.columns base) result (T.state sink.old) (T.state sink.new) }
+{
+    let first_column = first + sides.rows as u32;
+    let inner = first_column + sides.columns as u32;
+    let row_line = Line {
+        first,
+        count: sides.rows,
+    };
+    derive_side(alloc, id, base, row_line, inner, sink)?;
+    let column_line = Line {
+        first: first_column,
+        count: sides.columns,
+    };
+    let column_base = base + 2 * sides.rows as u64;
+    let last = inner + fresh_of(sides.rows) as u32;
+    derive_side(alloc, id, column_base, column_line, last, sink)?;
+    derive_deletions(alloc, base, 2, (sides.rows + sides.columns) as u64, sink)
 }
 
 /// Hands over the whole derivation, where `id` is the constraint's.
@@ -65,19 +98,5 @@ pub fn derive_grid<T: StepSink>(
     let cells = Cells { grid, base };
     reify_all(alloc, &cells, sink)?;
     claim_all(alloc, &cells, sink)?;
-    let first_column = first + sides.rows as u32;
-    let inner = first_column + sides.columns as u32;
-    let row_line = Line {
-        first,
-        count: sides.rows,
-    };
-    derive_side(alloc, id, base, row_line, inner, sink)?;
-    let column_line = Line {
-        first: first_column,
-        count: sides.columns,
-    };
-    let column_base = base + 2 * sides.rows as u64;
-    let last = inner + fresh_of(sides.rows) as u32;
-    derive_side(alloc, id, column_base, column_line, last, sink)?;
-    derive_deletions(alloc, base, 2, (sides.rows + sides.columns) as u64, sink)
+    derive_sides(alloc, id, base, first, sides, sink)
 }

@@ -41,7 +41,8 @@ pub(crate) fn emit_pairs<S: ClauseSink>(literals: &Source, sink: &mut S) -> Resu
     let count = literals.len();
     for i in 0..count {
         for j in i + 1..count {
-            sink.clause(&[literals.at(i).not(), literals.at(j).not()])?;
+            let (one, two) = literals.opposites(i, j);
+            sink.clause(&[one, two])?;
         }
     }
     Ok(())

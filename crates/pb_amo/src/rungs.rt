@@ -18,7 +18,7 @@ pub struct Rungs<'a> {
 }
 
 impl Rungs<'_> {
-    ghost use Rattle.std.specs.Prelude.{◌≡◌, ◌<◌, ◌+◌, ◌-◌, ◌*◌, length};
+    ghost use Rattle.std.specs.Prelude.{◌≡◌, ◌<◌, ◌+◌, ◌-◌, ◌*◌, [], ◌∷◌, length};
     ghost use Rattle.pb_base.specs.Literals.{negated};
     ghost use Rattle.pb_norm.specs.Constraints.{weights};
     ghost use Rattle.pb_norm.specs.Reduction.{lits_of};
@@ -53,6 +53,18 @@ impl Rungs<'_> {
         Source::OfTerms(self.terms).at(place).not()
     }
 
+    /// The two literals of the clause with a number.
+    fn pair(&self, number: usize) -> (Lit, Lit)
+        requires { number < 3 * length self.now.terms.now - 4 }
+        ensures { (result.0 ∷ result.1 ∷ []) ≡ clause_at (lits_of (weights self.now.terms.now)) self.now.first (place_at (length self.now.terms.now) number) }
+    {
+        match self.place(number) {
+            Place::Link(k) => (self.bit(k + 1).not(), self.bit(k)),
+            Place::NoneAfter(k) => (self.not_at(k), self.bit(k).not()),
+            Place::SomeAfter(k) => (self.not_at(k + 1), self.bit(k)),
+        }
+    }
+
     /// Hands over all the clauses.
     pub fn emit<S: ClauseSink>(&self, sink: &mut S) -> Result<(), Failed>
         ensures { Hands (ladder_clauses (lits_of (weights self.now.terms.now)) self.now.first) result (S.state sink.old) (S.state sink.new) }
@@ -77,10 +89,7 @@ impl NumberedClauses for Rungs<'_> {
     }
 
     fn emit_one<S: ClauseSink>(&self, number: usize, sink: &mut S) -> Result<(), Failed> {
-        match self.place(number) {
-            Place::Link(k) => sink.clause(&[self.bit(k + 1).not(), self.bit(k)]),
-            Place::NoneAfter(k) => sink.clause(&[self.not_at(k), self.bit(k).not()]),
-            Place::SomeAfter(k) => sink.clause(&[self.not_at(k + 1), self.bit(k)]),
-        }
+        let (one, two) = self.pair(number);
+        sink.clause(&[one, two])
     }
 }

@@ -1,5 +1,6 @@
 -- Bounds on the numbers of a generalized totalizer.
-use Rattle.std.proofs.Common.{◌≡◌, ◌<◌, ◌≤◌, ◌+◌, ◌-◌, ◌*◌, ◌/◌, ◌^◌, ℕ, List, [], ◌∷◌, length, take, drop, ap, subst, arith, zero, suc, length-drop}
+use Rattle.std.proofs.Common.{◌≡◌, ◌<◌, ◌≤◌, ◌+◌, ◌-◌, ◌*◌, ◌/◌, ◌^◌, ℕ, List, [], ◌∷◌, length, take, drop, refl, ap, subst, arith, zero, suc, length-drop}
+use Rattle.std.specs.Prelude.{Option, Some, None}
 use Rattle.std.proofs.lemmas.List.{length-take, length-map}
 use Rattle.std.proofs.lemmas.Nat.{mul-le}
 use Rattle.pb_base.specs.declared.literal.Term.{Term}
@@ -15,9 +16,9 @@ use Rattle.pb_gentot.specs.laws.ByPairs.{generalized_by_pairs}
 use Rattle.pb_gentot.specs.laws.GeneralizedLaws.{Always, generalized_lawful}
 use Rattle.pb_gentot.specs.laws.GeneralizedShort.{generalized_sparing}
 use Rattle.pb_gentot.specs.declared.measure.Part.{Part}
-use Rattle.pb_gentot.specs.inner.Measured.{IsPartMeasured}
+use Rattle.pb_gentot.specs.inner.Measured.{IsMeasured, IsPartMeasured, IsNodeMeasured, clauses_with}
 use Rattle.pb_gentot.specs.inner.Sources.{part_justifications}
-use Rattle.pb_gentot.proofs.Parts.{AreLeavesPositive}
+use Rattle.pb_gentot.proofs.Parts.{AreLeavesPositive, numbers_of}
 
 pub record Bounds (bound : ℕ) (t : Tree) (n : ℕ) : Type 0 where
   pub count : length (values (generalized bound) t) ≤ fresh_of (generalized bound) t + n
@@ -72,8 +73,7 @@ bounds bound ts some =
 pub record Sizes (left right : Part) : Type 0 where
   pub left_small : length left.values.items < 2 ^ 32
   pub right_small : length right.values.items < 2 ^ 32
-  pub parts_fit : left.clauses + right.clauses < 2 ^ 64
-  pub all_fit : left.clauses + right.clauses + (length left.values.items * length right.values.items + length left.values.items + length right.values.items) < 2 ^ 64
+  pub all_fit : clauses_with left right < 2 ^ 64
 
 pub sizes_of : (bound budget : ℕ) (fronts backs : List Term) (left right : Part) → 1 ≤ length fronts → 1 ≤ length backs → length fronts + length backs < 2 ^ 31 → budget < 2 ^ 24
     → IsPartMeasured bound budget (tree_of (weights fronts)) left → IsPartMeasured bound (budget - left.fresh) (tree_of (weights backs)) right → Sizes left right
@@ -97,8 +97,25 @@ sizes_of bound budget fronts backs left right front_some back_some few modest on
     record {
       left_small = omega (arith, front.count, lefts, small);
       right_small = omega (arith, back.count, rights, small);
-      parts_fit = omega (arith, fit.0, one.clauses_are, two.clauses_are);
       all_fit = omega (arith, fit.1, one.clauses_are, two.clauses_are, own);
+    }
+
+-- the numbers of a node over them
+pub node_measured : (bound budget : ℕ) (ts : List Term) (l r : Tree) (left right : Part) (found : Option Part) → tree_of (weights ts) ≡ node l r → IsPartMeasured bound budget l left → IsPartMeasured bound (budget - left.fresh) r right
+    → IsNodeMeasured bound (budget - left.fresh - right.fresh) left right found → IsMeasured bound budget (tree_of (weights ts)) found
+node_measured bound budget ts l r left right None tree one two over =
+    let number = numbers_of bound ts l r _ _ _ tree one.values_are two.values_are refl in
+    omega (arith, number.fresh, one.fresh_is, two.fresh_is, one.fits, two.fits, over)
+node_measured bound budget ts l r left right (Some part) tree one two own =
+    let number = numbers_of bound ts l r _ _ _ tree one.values_are two.values_are own.values_are in
+    let lefts = ap length one.values_are in
+    let rights = ap length two.values_are in
+    let size : length left.values.items * length right.values.items + length left.values.items + length right.values.items ≡ length (values (generalized bound) l) * length (values (generalized bound) r) + length (values (generalized bound) l) + length (values (generalized bound) r) = λ i. lefts i * rights i + lefts i + rights i in
+    record {
+      values_are = number.values_are;
+      fresh_is = omega (arith, number.fresh, own.fresh_is, one.fresh_is, two.fresh_is);
+      clauses_are = omega (arith, number.clauses, own.clauses_are, one.clauses_are, two.clauses_are, size);
+      fits = omega (arith, number.fresh, own.fresh_is, own.within, one.fresh_is, two.fresh_is, one.fits, two.fits);
     }
 
 pub some_terms : (bound : ℕ) (ts : List Weighted) → bound < weight ts → 1 ≤ length ts

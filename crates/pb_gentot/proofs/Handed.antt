@@ -2,9 +2,10 @@
 use Rattle.std.proofs.Common.{◌≡◌, ◌≤◌, ◌<◌, ◌+◌, ◌*◌, ◌++◌, ℕ, zero, suc, List, [], ◌∷◌, length, map, get_or, min, refl, sym, ap, ◌∙◌, subst, arith, inl, inr, append-nil, length-append}
 use Rattle.std.specs.Prelude.{Contains}
 use Rattle.std.specs.List.{flat_map, range_with_len}
+use Rattle.std.proofs.lemmas.Grind.{same_number_lists}
 use Rattle.std.proofs.lemmas.List.Elements.{Contains-get_or}
 use Rattle.std.proofs.lemmas.List.Folds.{flat_map-map}
-use Rattle.std.proofs.lemmas.List.FromFn.{length-map-range_with_len}
+use Rattle.std.proofs.lemmas.List.FromFn.{length-map-range_with_len, get_or-map-range_with_len}
 use Rattle.pb_base.specs.declared.literal.Term.{Term}
 use Rattle.pb_norm.specs.BoundedSums.{vars_of}
 use Rattle.pb_norm.specs.Constraints.{weights}
@@ -35,21 +36,19 @@ use Rattle.pb_gentot.proofs.Parts.{AreLeavesPositive}
 
 -- ---- values by their places
 
-values_from : (us all : List ℕ) (a : ℕ) → ((k : ℕ) → get_or us k 0 ≡ get_or all (a + k) 0) → us ≡ map (λ i. get_or all i 0) (range_with_len a (length us))
-values_from [] all a same = refl
-values_from (u ∷ us) all a same =
-    let here : u ≡ get_or all a 0 = same 0 ∙ ap (λ (n : ℕ). get_or all n 0) (let e : a + 0 ≡ a = omega arith in e) in
-    let rest = values_from us all (a + 1) (λ k. same (suc k) ∙ ap (λ (n : ℕ). get_or all n 0) (let e : a + suc k ≡ a + 1 + k = omega arith in e)) in
-    λ i. here i ∷ rest i
-
-from_first : (us : List ℕ) (k : ℕ) → get_or us k 0 ≡ get_or us (0 + k) 0
-from_first us k = ap (λ (n : ℕ). get_or us n 0) (let e : k ≡ 0 + k = omega arith in e)
+values_listed : (us : List ℕ) → us ≡ map (λ i. get_or us i 0) (range_with_len 0 (length us))
+values_listed us = same_number_lists us _ (sym (length-map-range_with_len (λ i. get_or us i 0) 0 (length us))) (λ i within. sym (get_or-map-range_with_len (λ i. get_or us i 0) 0 (length us) i i 0 within (omega arith)))
 
 by_places : {X : Type 0} (f : ℕ → X) (us : List ℕ) → map f us ≡ map (λ i. f (get_or us i 0)) (range_with_len 0 (length us))
-by_places f us = ap (map f) (values_from us us 0 (from_first us)) ∙ map-map f (λ i. get_or us i 0) (range_with_len 0 (length us))
+by_places f us = ap (map f) (values_listed us) ∙ map-map f (λ i. get_or us i 0) (range_with_len 0 (length us))
 
 rows_by_places : {X : Type 0} (f : ℕ → List X) (us : List ℕ) → flat_map f us ≡ flat_map (λ i. f (get_or us i 0)) (range_with_len 0 (length us))
-rows_by_places f us = ap (flat_map f) (values_from us us 0 (from_first us)) ∙ flat_map-map f (λ i. get_or us i 0) (range_with_len 0 (length us))
+rows_by_places f us = ap (flat_map f) (values_listed us) ∙ flat_map-map f (λ i. get_or us i 0) (range_with_len 0 (length us))
+
+-- what is listed place by place, and value by value
+places_same : {X : Type 0} (f g : ℕ → X) (us vs : List ℕ) → us ≡ vs → ((i : ℕ) → i < length us → f i ≡ g (get_or us i 0)) → map f (range_with_len 0 (length us)) ≡ map g vs
+places_same f g us vs is each =
+    map_same f (λ i. g (get_or us i 0)) (range_with_len 0 (length us)) (λ i h. let within = Contains-range_cases 0 (length us) i h in each i (omega arith)) ∙ sym (by_places g us) ∙ ap (map g) is
 
 -- ---- clauses by places
 
@@ -79,6 +78,20 @@ node_length cap left lefts right rights own =
 
 abbrev named : List ℕ → List ℕ → Justification
 named ids weakened = record { clause = []; ids = ids; weakened = weakened }
+
+-- a value of a part
+module _ (bound : ℕ) (ts : List Term) (part : Handed) (is : part.values.items ≡ values (generalized bound) (tree_of (weights ts))) (i : ℕ) (within : i < length part.values.items) where
+  value_has : Contains (values (generalized bound) (tree_of (weights ts))) (get_or part.values.items i 0)
+  value_has = subst (λ (us : List ℕ). Contains us (get_or part.values.items i 0)) is (Contains-get_or part.values.items i 0 within)
+
+  value_low : AreLeavesPositive (tree_of (weights ts)) → 1 ≤ get_or part.values.items i 0
+  value_low positive = value_from bound (tree_of (weights ts)) positive (get_or part.values.items i 0) value_has
+
+  value_high : get_or part.values.items i 0 ≤ bound + 1
+  value_high = values_within bound (tree_of (weights ts)) (get_or part.values.items i 0) value_has
+
+  value_place : i ≡ place_of (get_or part.values.items i 0) part.values.items
+  value_place = sym (place_at part.values.items i 0 (rising_values bound (tree_of (weights ts)) part.values.items is) within)
 
 module _ (bound : ℕ) (lefts rights : List Term) (id : ℕ) (left right : Handed) (own : Owned)
     (lv : left.values.items ≡ values (generalized bound) (tree_of (weights lefts)))
@@ -128,71 +141,47 @@ module _ (bound : ℕ) (lefts rights : List Term) (id : ℕ) (left right : Hande
       let second = second_is (min (suc u + suc v) (bound + 1)) (min (suc u + suc v) (bound + 1)) refl in
       λ k. named (one k ++ (two k ++ second k ∷ [])) []
 
-  left_has : (i : ℕ) → i < length left.values.items → Contains (values (generalized bound) l) (get_or left.values.items i 0)
-  left_has i within = subst (λ (us : List ℕ). Contains us (get_or left.values.items i 0)) lv (Contains-get_or left.values.items i 0 within)
-
-  right_has : (j : ℕ) → j < length right.values.items → Contains (values (generalized bound) r) (get_or right.values.items j 0)
-  right_has j within = subst (λ (us : List ℕ). Contains us (get_or right.values.items j 0)) rv (Contains-get_or right.values.items j 0 within)
-
   left_low : (i : ℕ) → i < length left.values.items → 1 ≤ get_or left.values.items i 0
-  left_low i within = value_from bound l (λ w m. positive w (inl m)) (get_or left.values.items i 0) (left_has i within)
+  left_low i within = value_low bound lefts left lv i within (λ w m. positive w (inl m))
 
   right_low : (j : ℕ) → j < length right.values.items → 1 ≤ get_or right.values.items j 0
-  right_low j within = value_from bound r (λ w m. positive w (inr m)) (get_or right.values.items j 0) (right_has j within)
-
-  left_place : (i : ℕ) → i < length left.values.items → i ≡ place_of (get_or left.values.items i 0) left.values.items
-  left_place i within = sym (place_at left.values.items i 0 (rising_values bound l left.values.items lv) within)
-
-  right_place : (j : ℕ) → j < length right.values.items → j ≡ place_of (get_or right.values.items j 0) right.values.items
-  right_place j within = sym (place_at right.values.items j 0 (rising_values bound r right.values.items rv) within)
+  right_low j within = value_low bound rights right rv j within (λ w m. positive w (inr m))
 
   left_at : (i : ℕ) → i < length left.values.items → one_at left rights own i ≡ claim (pair_of (get_or left.values.items i 0) 0)
   left_at i within =
       let u = get_or left.values.items i 0 in
-      ap (λ (k : ℕ). named (ids_at left.source k ++ second_of own u ∷ []) (vars_of (weights rights))) (left_place i within)
-      ∙ left_one u (left_low i within) (values_within bound l u (left_has i within))
+      ap (λ (k : ℕ). named (ids_at left.source k ++ second_of own u ∷ []) (vars_of (weights rights))) (value_place bound lefts left lv i within)
+      ∙ left_one u (left_low i within) (value_high bound lefts left lv i within)
 
   right_at : (j : ℕ) → j < length right.values.items → one_at right lefts own j ≡ claim (pair_of 0 (get_or right.values.items j 0))
   right_at j within =
       let v = get_or right.values.items j 0 in
-      ap (λ (k : ℕ). named (ids_at right.source k ++ second_of own v ∷ []) (vars_of (weights lefts))) (right_place j within)
-      ∙ right_one v (right_low j within) (values_within bound r v (right_has j within))
+      ap (λ (k : ℕ). named (ids_at right.source k ++ second_of own v ∷ []) (vars_of (weights lefts))) (value_place bound rights right rv j within)
+      ∙ right_one v (right_low j within) (value_high bound rights right rv j within)
 
   pair_at : (i j : ℕ) → i < length left.values.items → j < length right.values.items
       → both_at (bound + 1) left right own i j ≡ claim (pair_of (get_or left.values.items i 0) (get_or right.values.items j 0))
   pair_at i j within also =
       let u = get_or left.values.items i 0 in
       let v = get_or right.values.items j 0 in
-      let one = left_place i within in
-      let two = right_place j also in
+      let one = value_place bound lefts left lv i within in
+      let two = value_place bound rights right rv j also in
       (λ k. named (ids_at left.source (one k) ++ (ids_at right.source (two k) ++ second_of own (min (u + v) (bound + 1)) ∷ [])) [])
       ∙ both_one u v (left_low i within) (right_low j also)
 
   left_ones : ones_given left rights own ≡ map claim (map (λ u. pair_of u 0) (values (generalized bound) l))
   left_ones =
-      let us = left.values.items in
-      map_same (one_at left rights own) (λ i. claim (pair_of (get_or us i 0) 0)) (range_with_len 0 (length us)) (λ i h. let within = Contains-range_cases 0 (length us) i h in left_at i (omega arith))
-      ∙ sym (by_places (λ u. claim (pair_of u 0)) us)
-      ∙ ap (map (λ u. claim (pair_of u 0))) lv
-      ∙ sym (map-map claim (λ u. pair_of u 0) (values (generalized bound) l))
+      places_same (one_at left rights own) (λ u. claim (pair_of u 0)) left.values.items (values (generalized bound) l) lv left_at ∙ sym (map-map claim (λ u. pair_of u 0) (values (generalized bound) l))
 
   right_ones : ones_given right lefts own ≡ map claim (map (pair_of 0) (values (generalized bound) r))
   right_ones =
-      let vs = right.values.items in
-      map_same (one_at right lefts own) (λ j. claim (pair_of 0 (get_or vs j 0))) (range_with_len 0 (length vs)) (λ j h. let within = Contains-range_cases 0 (length vs) j h in right_at j (omega arith))
-      ∙ sym (by_places (λ v. claim (pair_of 0 v)) vs)
-      ∙ ap (map (λ v. claim (pair_of 0 v))) rv
-      ∙ sym (map-map claim (pair_of 0) (values (generalized bound) r))
+      places_same (one_at right lefts own) (λ v. claim (pair_of 0 v)) right.values.items (values (generalized bound) r) rv right_at ∙ sym (map-map claim (pair_of 0) (values (generalized bound) r))
 
   row_is : (i : ℕ) → i < length left.values.items
       → row_given (bound + 1) left right own i ≡ map claim (map (pair_of (get_or left.values.items i 0)) (values (generalized bound) r))
   row_is i within =
       let u = get_or left.values.items i 0 in
-      let vs = right.values.items in
-      map_same (both_at (bound + 1) left right own i) (λ j. claim (pair_of u (get_or vs j 0))) (range_with_len 0 (length vs))
-      (λ j h. let also = Contains-range_cases 0 (length vs) j h in pair_at i j within (omega arith))
-      ∙ sym (by_places (λ v. claim (pair_of u v)) vs)
-      ∙ ap (map (λ v. claim (pair_of u v))) rv
+      places_same (both_at (bound + 1) left right own i) (λ v. claim (pair_of u v)) right.values.items (values (generalized bound) r) rv (λ j also. pair_at i j within also)
       ∙ sym (map-map claim (pair_of u) (values (generalized bound) r))
 
   pairs_are : pairs_given (bound + 1) left right own ≡ map claim (flat_map (λ u. map (pair_of u) (values (generalized bound) r)) (values (generalized bound) l))

@@ -1,10 +1,10 @@
 -- The values of a node, as they are gathered: with the same members as all sums so far.
-use Rattle.std.proofs.Common.{◌≡◌, ◌<◌, ◌≤◌, ◌+◌, ◌++◌, min, ℕ, List, [], ◌∷◌, length, get_or, take, sym, ap, ◌∙◌, subst, arith, inl, inr, zero, suc, append_assoc, append-nil}
+use Rattle.std.proofs.Common.{◌≡◌, ◌<◌, ◌≤◌, ◌+◌, ◌++◌, min, ℕ, List, [], ◌∷◌, length, get_or, take, sym, ap, ◌∙◌, subst, arith, inl, inr, append_assoc, append-nil}
 use Rattle.std.specs.Prelude.{Contains, All, map}
 use Rattle.std.specs.List.{flat_map, dedup}
 use Rattle.std.specs.List.Sorted.{IsPermutation}
 use Rattle.std.proofs.Math.Dec.{eqb}
-use Rattle.std.proofs.lemmas.List.Elements.{Contains-append_left, Contains-append_right, Contains-append_cases}
+use Rattle.std.proofs.lemmas.List.Elements.{All-take, All-contains, All-contains_itself, Contains-append_left, Contains-append_right, Contains-append_cases}
 use Rattle.std.proofs.lemmas.List.Kept.{Contains-dedup_nat, Contains-from_dedup}
 use Rattle.std.proofs.lemmas.List.Sorted.{Contains-permutation, IsPermutation-sym}
 use Rattle.std.proofs.lemmas.Grind.{flat_map-append}
@@ -25,16 +25,10 @@ same_turned xs ys one = record { to = one.from; from = one.to }
 
 -- lists that are joined to ones with the same members
 pub same_joined : (xs ys zs : List ℕ) → SameMembers xs ys → SameMembers (xs ++ zs) (ys ++ zs)
-same_joined xs ys zs one = record {
-  to = λ n h. elim (Contains-append_cases xs zs n h) as (λ _. Contains (ys ++ zs) n) [
-    | inl left ↦ Contains-append_left ys zs n (one.to n left)
-    | inr right ↦ Contains-append_right ys zs n right
-  ];
-  from = λ n h. elim (Contains-append_cases ys zs n h) as (λ _. Contains (xs ++ zs) n) [
-    | inl left ↦ Contains-append_left xs zs n (one.from n left)
-    | inr right ↦ Contains-append_right xs zs n right
-  ];
-}
+same_joined xs ys zs one =
+    let joined : (ks ms : List ℕ) → ((n : ℕ) → Contains ks n → Contains ms n) → (n : ℕ) → Contains (ks ++ zs) n → Contains (ms ++ zs) n = λ ks ms each n h.
+    elim (Contains-append_cases ks zs n h) as (λ _. Contains (ms ++ zs) n) [ inl left ↦ Contains-append_left ms zs n (each n left) | inr right ↦ Contains-append_right ms zs n right ] in
+    record { to = joined xs ys one.to; from = joined ys xs one.from }
 
 -- the order of two lists does not matter
 same_swapped : (xs ys : List ℕ) → SameMembers (xs ++ ys) (ys ++ xs)
@@ -71,17 +65,8 @@ gathered_within cap us vs i n h =
       | inl right ↦ Contains-append_left vs (flat_map (row_of cap vs) us) n right
       | inr rows ↦
           let row = Contains-flat_map_cases (row_of cap vs) (take i us) n rows in
-          Contains-append_right vs (flat_map (row_of cap vs) us) n (Contains-flat_map (row_of cap vs) us row.0 n (Contains-from_take us i row.0 row.1) row.2)
+          Contains-append_right vs (flat_map (row_of cap vs) us) n (Contains-flat_map (row_of cap vs) us row.0 n (All-contains (Contains us) (take i us) row.0 (All-take (Contains us) i us (All-contains_itself us)) row.1) row.2)
     ])
-  where
-    Contains-from_take : (us : List ℕ) (i u : ℕ) → Contains (take i us) u → Contains us u
-    Contains-from_take us zero u h = absurd (Contains-nil u h)
-    Contains-from_take [] (suc i) u h = absurd (Contains-nil u h)
-    Contains-from_take (v ∷ us) (suc i) u h =
-        elim (Contains-cons_cases v (take i us) u h) as (λ _. Contains (v ∷ us) u) [
-          | inl same ↦ subst (λ (w : ℕ). Contains (v ∷ us) w) same (Contains-here v us)
-          | inr rest ↦ Contains-there v us u (Contains-from_take us i u rest)
-        ]
 
 -- one row more
 pub gathered_next : (cap : ℕ) (us vs made after : List ℕ) (i : ℕ) → i < length us → SameMembers made (gathered cap us vs i) → SameMembers (made ++ row_of cap vs (get_or us i 0)) after → SameMembers after (gathered cap us vs (i + 1))

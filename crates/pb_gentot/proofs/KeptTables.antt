@@ -1,8 +1,10 @@
 -- A table as the code keeps it.
-use Rattle.std.proofs.Common.{◌≡◌, ◌<◌, ◌≤◌, ◌+◌, ◌-◌, ◌^◌, ℕ, zero, suc, ℤ, pos, List, [], ◌∷◌, length, get_or, map, refl, sym, ap, ◌∙◌, arith, Some}
+use Rattle.std.proofs.Common.{◌≡◌, ◌<◌, ◌≤◌, ◌+◌, ◌-◌, ◌^◌, ℕ, ℤ, pos, List, [], ◌∷◌, length, get_or, refl, sym, ap, ◌∙◌, arith, Some}
 use Rattle.std.specs.List.{slice_get}
+use Rattle.std.specs.Option.{option_map}
 use Rattle.std.proofs.lemmas.List.Elements.{Contains-get_or}
 use Rattle.std.proofs.lemmas.Nat.{mul-le}
+use Rattle.std.proofs.lemmas.Option.{slice_get-map, slice_get-get_or}
 use Rattle.pb_base.specs.declared.literal.Lit.{Lit}
 use Rattle.pb_base.specs.declared.literal.Term.{Term}
 use Rattle.pb_norm.specs.Constraints.{Weighted, weight, weights}
@@ -27,14 +29,6 @@ pub no_values : (bound : ℕ) → values (generalized bound) (tree_of []) ≡ []
 unfolding split_within
 no_values bound = refl
 
-pub no_fresh : (bound : ℕ) → fresh_of (generalized bound) (tree_of []) ≡ 0
-unfolding split_within
-no_fresh bound = refl
-
-pub no_count : (bound : ℕ) → clause_count_of (generalized bound) (tree_of []) ≡ 0
-unfolding split_within
-no_count bound = refl
-
 pub no_clauses : (bound : ℕ) (ts : List Term) (first : ℕ) → length ts ≡ 0 → clauses_by bound ts first ≡ []
 unfolding split_within
 no_clauses bound [] first none = refl
@@ -48,8 +42,8 @@ no_steps bound (t ∷ ts) first next none = absurd (omega (arith, none))
 -- ---- its numbers
 
 pub none_measured : (bound budget : ℕ) (ts : List Term) (part : Part) → length ts ≡ 0 → part.values.items ≡ [] → part.fresh ≡ 0 → part.clauses ≡ 0 → IsPartMeasured bound budget (tree_of (weights ts)) part
-none_measured bound budget [] part none made fresh clauses =
-    record { values_are = made ∙ sym (no_values bound); fresh_is = fresh ∙ sym (no_fresh bound); clauses_are = clauses ∙ sym (no_count bound); fits = omega (arith, no_fresh bound) }
+unfolding split_within
+none_measured bound budget [] part none made fresh clauses = record { values_are = made; fresh_is = fresh; clauses_are = clauses; fits = omega arith }
 none_measured bound budget (t ∷ ts) part none made fresh clauses = absurd (omega (arith, none))
 
 -- a fresh variable at least for each term but the first
@@ -59,7 +53,8 @@ many_fresh bound budget ts some above = omega (arith, (bounds bound ts some).lea
 -- where the fresh variables are within a budget, the clauses are fewer than 2 ^ 60
 pub table_modest : (bound : ℕ) (ts : List Term) → fresh_of (generalized bound) (tree_of (weights ts)) < 2 ^ 24
     → clause_count_of (generalized bound) (tree_of (weights ts)) + (length (values (generalized bound) (tree_of (weights ts))) - 1) < 2 ^ 60
-table_modest bound [] fits = omega (arith, no_count bound, ap length (no_values bound))
+unfolding split_within
+table_modest bound [] fits = omega arith
 table_modest bound (t ∷ ts) fits =
     let all = t ∷ ts in
     let b = bounds bound all (omega arith) in
@@ -118,12 +113,8 @@ as_row z lit = (z, lit)
 pub row_is : (ts : List Weighted) (first i : ℕ) (z : ℤ) (lit : Lit) → i < length (table_values ts) → z ≡ pos (get_or (table_values ts) i 0) → lit ≡ table_output ts first (get_or (table_values ts) i 0)
     → Some (as_row z lit) ≡ slice_get (table_rows ts first) i
 row_is ts first i z lit within is named =
-    (λ k. Some (as_row (is k) (named k))) ∙ sym (at_place (λ u. as_row (pos u) (table_output ts first u)) (table_values ts) i within)
-  where
-    at_place : (g : ℕ → ℤ × Lit) (us : List ℕ) (i : ℕ) → i < length us → slice_get (map g us) i ≡ Some (g (get_or us i 0))
-    at_place g [] i within = absurd (omega (arith, within))
-    at_place g (u ∷ us) zero within = refl
-    at_place g (u ∷ us) (suc i) within = at_place g us i (omega (arith, within))
+    let row = λ (u : ℕ). as_row (pos u) (table_output ts first u) in
+    (λ k. Some (as_row (is k) (named k))) ∙ sym (slice_get-map row (table_values ts) i ∙ ap (option_map row) (slice_get-get_or (table_values ts) i 0 within))
 
 pub row_small : (ts : List Weighted) (i : ℕ) → weight ts < 2 ^ 100 → i < length (table_values ts) → get_or (table_values ts) i 0 < 2 ^ 100
 row_small ts i light within = omega (arith, table_value_within ts (get_or (table_values ts) i 0) (Contains-get_or (table_values ts) i 0 within), light)

@@ -15,21 +15,6 @@ use Rattle.pb_gentot.proofs.RisingLists.{rising_ascending}
 pub made_rising : (cap : ℕ) (us vs ws : List ℕ) → ws ≡ ascending cap (sums cap us vs) → Rising ws
 made_rising cap us vs ws is = subst Rising (sym is) (rising_ascending cap (sums cap us vs))
 
--- each value of a part is one of the node, and so is each sum
-has_left : (cap : ℕ) (us vs ws : List ℕ) → All (λ u. u ≤ cap) us → ws ≡ ascending cap (sums cap us vs) → All (Contains ws) us
-has_left cap us vs ws small is =
-    all_from_each (Contains ws) us (λ u h. subst (λ (xs : List ℕ). Contains xs u) (sym is) (ascending_has cap (sums cap us vs) u (sums_left cap us vs u h) (All-contains (λ n. n ≤ cap) us u small h)))
-
-has_right : (cap : ℕ) (us vs ws : List ℕ) → All (λ v. v ≤ cap) vs → ws ≡ ascending cap (sums cap us vs) → All (Contains ws) vs
-has_right cap us vs ws small is =
-    all_from_each (Contains ws) vs (λ v h. subst (λ (xs : List ℕ). Contains xs v) (sym is) (ascending_has cap (sums cap us vs) v (sums_right cap us vs v h) (All-contains (λ n. n ≤ cap) vs v small h)))
-
-has_both : (cap : ℕ) (us vs ws : List ℕ) → ws ≡ ascending cap (sums cap us vs) → All (λ u. All (λ v. Contains ws (min (u + v) cap)) vs) us
-has_both cap us vs ws is =
-    all_from_each (λ u. All (λ v. Contains ws (min (u + v) cap)) vs) us (λ u h.
-    all_from_each (λ v. Contains ws (min (u + v) cap)) vs (λ v k.
-    subst (λ (xs : List ℕ). Contains xs (min (u + v) cap)) (sym is) (ascending_has cap (sums cap us vs) (min (u + v) cap) (sums_both cap us vs u v h k) (omega arith))))
-
 -- each value of the parts is one of the node, and so is each sum of two, cut
 pub record HasSums (cap : ℕ) (us vs ws : List ℕ) : Type 0 where
   pub lefts : All (Contains ws) us
@@ -37,7 +22,14 @@ pub record HasSums (cap : ℕ) (us vs ws : List ℕ) : Type 0 where
   pub both : All (λ u. All (λ v. Contains ws (min (u + v) cap)) vs) us
 
 pub has_sums : (cap : ℕ) (us vs ws : List ℕ) → All (λ u. u ≤ cap) us → All (λ v. v ≤ cap) vs → ws ≡ ascending cap (sums cap us vs) → HasSums cap us vs ws
-has_sums cap us vs ws left right is = record { lefts = has_left cap us vs ws left is; rights = has_right cap us vs ws right is; both = has_both cap us vs ws is }
+has_sums cap us vs ws left right is =
+    let inside : (n : ℕ) → Contains (sums cap us vs) n → n ≤ cap → Contains ws n = λ n h le. subst (λ (xs : List ℕ). Contains xs n) (sym is) (ascending_has cap (sums cap us vs) n h le) in
+    record {
+      lefts = all_from_each (Contains ws) us (λ u h. inside u (sums_left cap us vs u h) (All-contains (λ n. n ≤ cap) us u left h));
+      rights = all_from_each (Contains ws) vs (λ v h. inside v (sums_right cap us vs v h) (All-contains (λ n. n ≤ cap) vs v right h));
+      both = all_from_each (λ u. All (λ v. Contains ws (min (u + v) cap)) vs) us (λ u h.
+          all_from_each (λ v. Contains ws (min (u + v) cap)) vs (λ v k. inside (min (u + v) cap) (sums_both cap us vs u v h k) (omega arith)));
+    }
 
 pub made_within : (cap : ℕ) (us vs ws : List ℕ) → ws ≡ ascending cap (sums cap us vs) → All (λ w. w ≤ cap) ws
 made_within cap us vs ws is = all_from_each (λ w. w ≤ cap) ws (λ w h. (ascending_cases cap (sums cap us vs) w (subst (λ (xs : List ℕ). Contains xs w) is h)).1)

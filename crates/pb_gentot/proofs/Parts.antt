@@ -1,6 +1,7 @@
 -- A part of a generalized totalizer, over its two halves.
-use Rattle.std.proofs.Common.{◌≡◌, ◌≤◌, ◌<◌, ◌+◌, ◌*◌, ◌^◌, ℕ, List, length, refl, ap, ◌∙◌, sym, subst, arith}
-use Rattle.std.specs.Prelude.{All, Contains, Option, Some, None, IsSome, IfNone}
+use Rattle.std.proofs.Common.{◌≡◌, ◌≤◌, ◌<◌, ◌+◌, ◌*◌, ℕ, List, length, refl, ap, ◌∙◌, sym, subst, arith}
+use Rattle.std.specs.Prelude.{All, Contains, Option, Some, None, IsSome}
+use Rattle.std.specs.Global.{Vec}
 use Rattle.std.proofs.lemmas.List.Elements.{All-contains}
 use Rattle.pb_base.specs.declared.literal.Term.{Term}
 use Rattle.pb_norm.specs.Constraints.{AllPositive, Weighted, weights}
@@ -10,6 +11,7 @@ use Rattle.pb_tree.specs.Walks.{AreParts, Suits, fresh_over}
 use Rattle.pb_tree.proofs.Extending.{all_from_each}
 use Rattle.pb_tree.proofs.Splitting.{leaf_listed}
 use Rattle.pb_gentot.specs.Generalized.{generalized, ascending, sums}
+use Rattle.pb_gentot.specs.inner.Joined.{IsJoined}
 use Rattle.pb_gentot.specs.laws.GeneralizedLaws.{values_within}
 
 -- each leaf adds something
@@ -21,10 +23,6 @@ leaves_add ts positive u h = All-contains (λ (t : Weighted). 0 < t.coef) (weigh
 
 pub all_within : (bound : ℕ) (t : Tree) (us : List ℕ) → us ≡ values (generalized bound) t → All (λ u. u ≤ bound + 1) us
 all_within bound t us is = all_from_each (λ u. u ≤ bound + 1) us (λ u h. values_within bound t u (subst (λ (xs : List ℕ). Contains xs u) is h))
-
-pub all_below : (bound : ℕ) (t : Tree) (us : List ℕ) → bound < 2 ^ 100 → us ≡ values (generalized bound) t → All (λ u. u < 2 ^ 101) us
-all_below bound t us small is =
-    all_from_each (λ u. u < 2 ^ 101) us (λ u h. let within = values_within bound t u (subst (λ (xs : List ℕ). Contains xs u) is h) in omega arith)
 
 pub values_are_over : (bound : ℕ) (l r : Tree) (us vs : List ℕ) → us ≡ values (generalized bound) l → vs ≡ values (generalized bound) r
     → ascending (bound + 1) (sums (bound + 1) us vs) ≡ values (generalized bound) (node l r)
@@ -64,7 +62,7 @@ node_of {bound} {ts = ts} {front} {back} {us} {vs} {made} parts suits left right
     let number = numbers_of bound ts (tree_of (weights front)) (tree_of (weights back)) us vs made parts.halves.tree left right is in
     record { values_are = number.values_are; after = omega (arith, number.fresh, parts.behind); within = omega (arith, number.fresh, parts.behind, suits.fits) }
 
--- an option that cannot be empty
-pub there_is : {X A : Type 0} (o : Option X) → IfNone o A → (A → ⊥) → IsSome o
-there_is None empty never = absurd (never empty)
-there_is (Some x) empty never = refl
+-- values that are no more than the limit are there
+pub is_there : {limit : ℕ} (cap : ℕ) (us vs : List ℕ) (found : Option (Vec ℕ)) → IsJoined cap limit us vs found → length (ascending cap (sums cap us vs)) ≤ limit → IsSome found
+is_there cap us vs None over fits = absurd (omega (arith, over, fits))
+is_there cap us vs (Some made) joined fits = refl

@@ -1,4 +1,5 @@
 pub mod Ids
+pub mod Joined
 pub mod KeptTables
 pub mod Marks
 pub mod Measured

@@ -8,9 +8,7 @@ ghost use Rattle.pb_gentot.specs.inner.Sources.{IsHanded, part_justifications};
 use crate::claims::derive_node;
 use crate::leaf::leaf_values;
 use crate::node_ids::{Handed, NodeIds, Owned, Source};
-use crate::ranks::Ranks;
-use crate::sets::values_over;
-use crate::tables::table_size;
+use crate::ranked::ranked_over;
 use crate::whole::Whole;
 use pb_base::Term;
 use pb_family::{SinkFault, SinkResult, StepSink};
@@ -35,10 +33,12 @@ fn node_of_parts(
 {
     let lefts = left.values.as_slice();
     let rights = right.values.as_slice();
-    let values = values_over(alloc, lefts, rights, cap)?;
-    let size = table_size(cap, lefts.len(), rights.len());
-    let ranks = Ranks::of(alloc, values.as_slice(), size)?;
-    Ok(Owned { values, id, ranks })
+    let made = ranked_over(alloc, lefts, rights, cap)?;
+    Ok(Owned {
+        values: made.values,
+        id,
+        ranks: made.ranks,
+    })
 }
 
 /// The clauses along the tree of a generalized totalizer, whose variables' constraints have the ids from `id` on.

@@ -13,6 +13,7 @@ mod merge;
 mod node;
 mod node_ids;
 mod outputs;
+mod ranked;
 mod ranks;
 mod seen;
 mod sets;

@@ -1,8 +1,8 @@
 //! How large a generalized totalizer is, before it is written.
-ghost use Rattle.std.specs.Prelude.{◌≡◌, ◌≤◌, ◌<◌, ◌+◌, ◌*◌, ◌^◌, length, IfOk};
+ghost use Rattle.std.specs.Prelude.{◌≡◌, ◌≤◌, ◌<◌, ◌+◌, ◌*◌, ◌^◌, All, length, IfOk};
 ghost use Rattle.pb_norm.specs.Constraints.{weights};
 ghost use Rattle.pb_tree.specs.Tree.{tree_of};
-ghost use Rattle.pb_gentot.specs.inner.Measured.{IsMeasured};
+ghost use Rattle.pb_gentot.specs.inner.Measured.{IsMeasured, IsNodeMeasured, clauses_with};
 
 use crate::leaf::leaf_values;
 use crate::sets::join_values;
@@ -25,6 +25,39 @@ fn node_clauses(left: u64, right: u64) -> u64
     ensures { result ≡ left * right + left + right }
 {
     left * right + left + right
+}
+
+/// The values and numbers of a node over two parts, if it has no more values than there is room for.
+fn measure_node(
+    alloc: Global,
+    left: &Part,
+    right: &Part,
+    bound: u128,
+    room: u64,
+) -> Result<Option<Part>, AllocError>
+    requires left_within { All (λ u. u ≤ bound + 1) left.now.values.items }
+    requires right_within { All (λ v. v ≤ bound + 1) right.now.values.items }
+    requires small { bound < 2 ^ 100 }
+    requires modest { left.now.fresh + right.now.fresh + room < 2 ^ 24 }
+    requires left_few { length left.now.values.items < 2 ^ 32 }
+    requires right_few { length right.now.values.items < 2 ^ 32 }
+    requires fit { clauses_with left.now right.now < 2 ^ 64 }
+    ensures { IfOk result (IsNodeMeasured bound room left.now right.now) }
+{
+    let lefts = left.values.as_slice();
+    let rights = right.values.as_slice();
+    let found = join_values(alloc, lefts, rights, bound + 1, room as usize)?;
+    let values = match found {
+        Some(values) => values,
+        None => return Ok(None),
+    };
+    let count = values.len() as u64;
+    let own = node_clauses(left.values.len() as u64, right.values.len() as u64);
+    Ok(Some(Part {
+        values,
+        fresh: left.fresh + right.fresh + count,
+        clauses: left.clauses + right.clauses + own,
+    }))
 }
 
 /// The values and numbers of some terms, if they have no more fresh variables than the budget.
@@ -58,22 +91,5 @@ pub fn measure(
         None => return Ok(None),
     };
     let room = budget - left.fresh - right.fresh;
-    let found = join_values(
-        alloc,
-        left.values.as_slice(),
-        right.values.as_slice(),
-        bound + 1,
-        room as usize,
-    )?;
-    let values = match found {
-        Some(values) => values,
-        None => return Ok(None),
-    };
-    let count = values.len() as u64;
-    let own = node_clauses(left.values.len() as u64, right.values.len() as u64);
-    Ok(Some(Part {
-        values,
-        fresh: left.fresh + right.fresh + count,
-        clauses: left.clauses + right.clauses + own,
-    }))
+    measure_node(alloc, &left, &right, bound, room)
 }

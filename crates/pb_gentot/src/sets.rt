@@ -1,6 +1,7 @@
 //! The values of a node.
-ghost use Rattle.std.specs.Prelude.{◌≡◌, ◌≤◌, ◌<◌, ◌+◌, ◌^◌, ◌++◌, ◌∷◌, [], All, map, min, length, IfOk, IfSome, IfNone};
+ghost use Rattle.std.specs.Prelude.{◌≡◌, ◌≤◌, ◌<◌, ◌+◌, ◌^◌, ◌++◌, ◌∷◌, [], All, map, min, length, IfOk};
 ghost use Rattle.pb_gentot.specs.Rising.{Rising};
+ghost use Rattle.pb_gentot.specs.inner.Joined.{IsJoined};
 ghost use Rattle.pb_gentot.specs.inner.Marks.{MarksOnly};
 ghost use Rattle.pb_gentot.specs.inner.Members.{SameMembers};
 ghost use Rattle.pb_gentot.specs.Generalized.{sums, ascending};
@@ -65,9 +66,7 @@ pub fn join_values(
     requires left_small { All (λ v. v ≤ cap) left.now }
     requires right_small { All (λ v. v ≤ cap) right.now }
     requires few { cap < 2 ^ 101 }
-    ensures made { IfOk result (λ found. IfSome found (λ made. made.items ≡ ascending cap (sums cap left.now right.now))) }
-    ensures within { IfOk result (λ found. IfSome found (λ made. length made.items ≤ limit)) }
-    ensures over { IfOk result (λ found. IfNone found (limit < length (ascending cap (sums cap left.now right.now)))) }
+    ensures { IfOk result (IsJoined cap limit left.now right.now) }
 {
     let mut made = Vec::new(alloc);
     made.extend_from_slice(right)?;

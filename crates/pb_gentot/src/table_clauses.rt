@@ -1,7 +1,8 @@
 //! The clauses of a table of bounds.
-ghost use Rattle.std.specs.Prelude.{◌≤◌, ◌<◌, ◌+◌, ◌^◌, length, map};
+ghost use Rattle.std.specs.Prelude.{◌≡◌, ◌≤◌, ◌<◌, ◌+◌, ◌^◌, [], ◌∷◌, length, map, slice_index};
 ghost use Rattle.pb_norm.specs.Constraints.{AllPositive, weight, weights};
 ghost use Rattle.pb_family.specs.Handing.{Hands, HandsIfMemory};
+ghost use Rattle.pb_tree.specs.Pairs.{pair_of};
 ghost use Rattle.pb_tree.specs.Tree.{tree_of};
 ghost use Rattle.pb_tree.specs.Scheme.{fresh_of};
 ghost use Rattle.pb_gentot.specs.BoundTable.{neighbours, neighbour_clause};
@@ -13,9 +14,20 @@ ghost use Rattle.pb_gentot.specs.Rising.{Rising};
 use crate::outputs::Outputs;
 use crate::tree::emit_nodes;
 use crate::whole::Whole;
-use pb_base::{Failed, Term};
+use pb_base::{Failed, Lit, Term};
 use pb_family::{ClauseSink, SinkResult};
 use std::alloc::Global;
+
+/// The literals of the clause that what reaches the value behind a place reaches the one there.
+fn neighbour_literals(values: &[u128], outputs: &Outputs, place: usize) -> (Lit, Lit)
+    requires rising { Rising values.now }
+    requires within { place + 1 < length values.now }
+    requires room { HasRoom outputs.now (length values.now) }
+    ensures { (result.0 ∷ result.1 ∷ []) ≡ neighbour_clause (output_in outputs.now values.now) (pair_of (slice_index values.now place) (slice_index values.now (place + 1))) }
+{
+    let later = outputs.at(values, place + 1);
+    (later.not(), outputs.at(values, place))
+}
 
 /// Hands over that what reaches a value reaches the one before.
 fn emit_neighbours<S: ClauseSink>(
@@ -28,8 +40,8 @@ fn emit_neighbours<S: ClauseSink>(
     ensures { Hands (map (neighbour_clause (output_in outputs.now values.now)) (neighbours values.now)) result (S.state sink.old) (S.state sink.new) }
 {
     for place in 0..values.len().saturating_sub(1) {
-        let later = outputs.at(values, place + 1);
-        sink.clause(&[later.not(), outputs.at(values, place)])?;
+        let (later, earlier) = neighbour_literals(values, outputs, place);
+        sink.clause(&[later, earlier])?;
     }
     Ok(())
 }

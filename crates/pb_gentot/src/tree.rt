@@ -4,8 +4,8 @@ ghost use Rattle.pb_norm.specs.Constraints.{weights};
 ghost use Rattle.pb_family.specs.Handing.{HandsIfMemory};
 ghost use Rattle.pb_tree.specs.Tree.{tree_of};
 ghost use Rattle.pb_tree.specs.Scheme.{values, clauses_of, tree_clauses};
-ghost use Rattle.pb_gentot.specs.inner.Outputs.{output_in, HasLiterals};
-ghost use Rattle.pb_gentot.specs.inner.Parts.{IsEmitted, node_values, output_over, clauses_over_parts};
+ghost use Rattle.pb_gentot.specs.inner.Outputs.{HasLiterals};
+ghost use Rattle.pb_gentot.specs.inner.Parts.{IsEmitted, IsMadeOver, node_values, clauses_over_parts};
 ghost use Rattle.pb_gentot.specs.Generalized.{generalized};
 
 use crate::emission::emit_node;
@@ -13,9 +13,7 @@ use crate::leaf::leaf_values;
 use crate::merge::Merge;
 use crate::node::Node;
 use crate::outputs::Outputs;
-use crate::ranks::Ranks;
-use crate::sets::values_over;
-use crate::tables::table_size;
+use crate::ranked::ranked_over;
 use crate::whole::Whole;
 use pb_base::Term;
 use pb_family::{ClauseSink, SinkFault, SinkResult};
@@ -44,19 +42,15 @@ fn emit_over<S: ClauseSink>(
     requires low { 1 ≤ first }
     requires fits { first + length (node_values cap left.now right.now) ≤ 2 ^ 31 }
     ensures hands { HandsIfMemory (clauses_over_parts cap first left.now right.now) result (S.state sink.old) (S.state sink.new) }
-    ensures values { IfOk result (λ part. part.values.items ≡ node_values cap left.now right.now) }
-    ensures outputs { IfOk result (λ part. output_in part.outputs part.values.items ≡ output_over cap first left.now right.now) }
-    ensures within { IfOk result (λ part. HasLiterals cap part.outputs part.values.items) }
+    ensures made { IfOk result (IsMadeOver cap first left.now right.now) }
 {
     let lefts = left.values.as_slice();
     let rights = right.values.as_slice();
-    let values = values_over(alloc, lefts, rights, cap)?;
-    let size = table_size(cap, lefts.len(), rights.len());
-    let ranks = Ranks::of(alloc, values.as_slice(), size)?;
+    let made = ranked_over(alloc, lefts, rights, cap)?;
     let own = Node {
-        values,
+        values: made.values,
         first,
-        ranks,
+        ranks: made.ranks,
     };
     let node = Merge {
         lefts,

@@ -1,13 +1,16 @@
 -- A grid's derivation in parts, as code hands them over.
-use Rattle.std.specs.Prelude.{ℕ, ◌+◌, ◌*◌, Bool, List, [], ◌∷◌, length}
+use Rattle.std.specs.Prelude.{ℕ, ◌+◌, ◌*◌, Bool, List, [], ◌∷◌, ◌++◌, length}
 use Rattle.pb_norm.specs.BoundedSums.{vars_of}
 use Rattle.pb_norm.specs.Constraints.{Weighted}
 use Rattle.pb_steps.specs.declared.step.Step.{Step}
+use Rattle.pb_derive.specs.Deletions.{deletion_steps}
+use Rattle.pb_derive.specs.FollowedBy.{followed_by}
 use Rattle.pb_derive.specs.Ones.{unit_of, ones}
 use Rattle.pb_family.specs.Derivations.{meant, claimed}
 use Rattle.pb_family.specs.Fresh.{literal_at}
 use Rattle.pb_amo.specs.Passing.{passing, Visits}
-use Rattle.pb_amo.specs.Product.{product_fresh, product_count}
+use Rattle.pb_amo.specs.Product.{line, product_fresh, product_count}
+use Rattle.pb_amo.specs.ProductSteps.{line_sum, side_steps, product_steps}
 use Rattle.pb_amo.specs.inner.Source.{source_literals}
 use Rattle.pb_amo.specs.declared.source.Source.{Source}
 use Rattle.pb_amo.specs.declared.source.Stride.{Stride}
@@ -44,3 +47,13 @@ beside_steps s id p next = claimed next (id ∷ []) (vars_of (passed s p))
 -- no grid of so many literals has more
 abbrev pub most_steps : ℕ → ℕ
 most_steps n = 8 * product_fresh n + 2 * product_count n
+
+-- the steps of r rows and of q columns, where the lines' constraints have the ids from `base` on, and the deletion of these
+abbrev pub rows_then : ℕ → ℕ → ℕ → ℕ → ℕ → ℕ → List Step
+rows_then first id r q base = side_steps (line_sum id base r) (product_steps (line first r) (first + r + q))
+
+abbrev pub columns_then : ℕ → ℕ → ℕ → ℕ → ℕ → ℕ → List Step
+columns_then first id r q base = side_steps (line_sum id (base + 2 * r) q) (product_steps (line (first + r) q) (first + r + q + product_fresh r))
+
+abbrev pub sides_steps : ℕ → ℕ → ℕ → ℕ → ℕ → ℕ → List Step
+sides_steps first id r q base next = followed_by (rows_then first id r q base) (columns_then first id r q base) next ++ deletion_steps 2 base (r + q)

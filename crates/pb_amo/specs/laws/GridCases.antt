@@ -57,36 +57,36 @@ level_clauses more ms first =
 -- ---- all cases
 
 -- of some literals: how many fresh variables and clauses, which clauses by the first fresh variable, and which steps by that and two ids
-abbrev Shape : Type 1
-Shape = List Lit → ℕ → ℕ → (ℕ → List (List Lit)) → (ℕ → ℕ → ℕ → List Step) → Type 0
+abbrev Shape {ℓ} : Type (ℓ + 1)
+Shape = List Lit → ℕ → ℕ → (ℕ → List (List Lit)) → (ℕ → ℕ → ℕ → List Step) → Type ℓ
 
 -- what holds of a clause for each two
-abbrev HoldsOfPairs : Shape → Type 0
+abbrev HoldsOfPairs {ℓ} : Shape {ℓ} → Type ℓ
 HoldsOfPairs P = (ms : List Lit) → P ms 0 (pair_count (length ms)) (λ first. pairwise_clauses ms) (λ first id next. pairwise_steps ms id next)
 
 -- with so many grids at most
-abbrev pub HoldsWithin : Shape → ℕ → Type 0
+abbrev pub HoldsWithin {ℓ} : Shape {ℓ} → ℕ → Type ℓ
 HoldsWithin P k = (ms : List Lit) → P ms (fresh_within k (length ms)) (count_within k (length ms)) (clauses_within k ms) (steps_within k ms)
 
 -- what holds of a grid where it holds of its rows and its columns
-abbrev HoldsOfGrids : Shape → Type 0
+abbrev HoldsOfGrids {ℓ} : Shape {ℓ} → Type ℓ
 HoldsOfGrids P =
     (more : ℕ) → HoldsWithin P more → (ms : List Lit) → 4 < length ms → (let r = rows (length ms) in let q = columns (length ms) in
     P ms (r + q + fresh_within more r + fresh_within more q) (2 * length ms + count_within more r + count_within more q) (level_clauses more ms) (grid_steps more ms))
 
 -- the same with other words
-shaped : (P : Shape) (ms : List Lit) (f g c d : ℕ) (cs ds : ℕ → List (List Lit)) (ss ts : ℕ → ℕ → ℕ → List Step) → f ≡ g → c ≡ d → ((first : ℕ) → cs first ≡ ds first) → ((first id next : ℕ) → ss first id next ≡ ts first id next) → P ms g d ds ts → P ms f c cs ss
+shaped {ℓ} : (P : Shape {ℓ}) (ms : List Lit) (f g c d : ℕ) (cs ds : ℕ → List (List Lit)) (ss ts : ℕ → ℕ → ℕ → List Step) → f ≡ g → c ≡ d → ((first : ℕ) → cs first ≡ ds first) → ((first id next : ℕ) → ss first id next ≡ ts first id next) → P ms g d ds ts → P ms f c cs ss
 shaped P ms f g c d cs ds ss ts fresh count clauses steps h =
     subst (λ (n : ℕ). P ms n c cs ss) (sym fresh) (subst (λ (n : ℕ). P ms g n cs ss) (sym count)
     (subst (λ (xs : ℕ → List (List Lit)). P ms g d xs ss) (λ x first. sym (clauses first) x) (subst (λ (xs : ℕ → ℕ → ℕ → List Step). P ms g d ds xs) (λ x first id next. sym (steps first id next) x) h)))
 
-pub by_grids : (P : Shape) → HoldsOfPairs P → HoldsOfGrids P → (k : ℕ) → HoldsWithin P k
+pub by_grids {ℓ} : (P : Shape {ℓ}) → HoldsOfPairs P → HoldsOfGrids P → (k : ℕ) → HoldsWithin P k
 by_grids P pairs grids zero ms =
     let n : ℕ = length ms in
     shaped P ms (fresh_within zero n) 0 (count_within zero n) (pair_count n) (clauses_within zero ms) (λ first. pairwise_clauses ms) (steps_within zero ms) (λ first id next. pairwise_steps ms id next) (fresh_last n) (count_last n) (clauses_last ms) (steps_last ms) (pairs ms)
 by_grids P pairs grids (suc more) ms =
     let n : ℕ = length ms in
-    let Goal : Type 0 = P ms (fresh_within (suc more) n) (count_within (suc more) n) (clauses_within (suc more) ms) (steps_within (suc more) ms) in
+    let Goal : Type ℓ = P ms (fresh_within (suc more) n) (count_within (suc more) n) (clauses_within (suc more) ms) (steps_within (suc more) ms) in
     elim (cases_lt 4 n) as (λ _. Goal) [
       | inr few ↦ shaped P ms (fresh_within (suc more) n) 0 (count_within (suc more) n) (pair_count n) (clauses_within (suc more) ms) (λ first. pairwise_clauses ms) (steps_within (suc more) ms) (λ first id next. pairwise_steps ms id next)
           (fresh_few more n few) (count_few more n few) (λ first. clauses_few more ms first few) (λ first id next. steps_few more ms first id next few) (pairs ms)

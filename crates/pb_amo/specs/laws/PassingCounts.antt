@@ -1,5 +1,5 @@
 -- How many places of a grid's side stand beside another.
-use Rattle.std.proofs.Common.{◌≡◌, ◌≤◌, ◌<◌, ◌+◌, ◌*◌, ◌-◌, ◌/◌, ◌%◌, ℕ, inl, inr, Bool, true, false, not, cond, List, [], ◌∷◌, eqb, length, ap, ◌∙◌, arith}
+use Rattle.std.proofs.Common.{◌≡◌, ◌≤◌, ◌<◌, ◌+◌, ◌*◌, ◌-◌, ◌/◌, ◌%◌, ℕ, inl, inr, Bool, true, false, not, cond, List, [], ◌∷◌, eqb, length, min, ap, ◌∙◌, arith}
 use Rattle.std.proofs.lemmas.Bool.{eqb-true, and_parts, cases_Bool}
 use Rattle.std.proofs.lemmas.Nat.{div-mul-add, mod_below, div_below}
 use Rattle.std.proofs.Math.Nat.{div-add-mod'}
@@ -13,44 +13,32 @@ passing-length {X} p e x xs = by_test (p e)
     by_test true = omega arith
     by_test false = omega arith
 
--- ---- rows
-
--- from the first place that may pass on
-passing-within : {X : Type 0} (p : ℕ → Bool) (high : ℕ) → ((j : ℕ) → p j ≡ true → j < high) → (e : ℕ) (xs : List X) → length (passing p e xs) ≤ high - e
-passing-within p high h e [] = omega arith
-passing-within p high h e (x ∷ xs) =
-    elim (cases_Bool (p e)) as (λ _. length (passing p e (x ∷ xs)) ≤ high - e) [
-      | inl passes ↦ let one : cond {A = ℕ} (p e) 1 0 ≡ 1 = ap (λ (b : Bool). cond {A = ℕ} b 1 0) passes in omega (arith, passing-length p e x xs, one, h e passes, passing-within p high h (e + 1) xs)
-      | inr fails ↦ let none : cond {A = ℕ} (p e) 1 0 ≡ 0 = ap (λ (b : Bool). cond {A = ℕ} b 1 0) fails in omega (arith, passing-length p e x xs, none, passing-within p high h (e + 1) xs)
-    ]
-
-passing-between : {X : Type 0} (p : ℕ → Bool) (low w : ℕ) → ((j : ℕ) → p j ≡ true → (low ≤ j) × (j < low + w)) → (e : ℕ) (xs : List X) → length (passing p e xs) ≤ w
-passing-between p low w h e [] = omega arith
-passing-between p low w h e (x ∷ xs) =
-    elim (cases_Bool (p e)) as (λ _. length (passing p e (x ∷ xs)) ≤ w) [
-      | inl passes ↦ omega (arith, passing-within p (low + w) (λ j k. (h j k).1) e (x ∷ xs), (h e passes).0)
-      | inr fails ↦ let none : cond {A = ℕ} (p e) 1 0 ≡ 0 = ap (λ (b : Bool). cond {A = ℕ} b 1 0) fails in omega (arith, passing-length p e x xs, none, passing-between p low w h (e + 1) xs)
-    ]
-
-beside_same : (side : ℕ → ℕ) (e j : ℕ) → is_beside side e j ≡ true → side j ≡ side e
-beside_same side e j h = eqb-true (side j) (side e) (and_parts (eqb (side j) (side e)) (not (eqb j e)) h).0
-
-pub beside-row : {X : Type 0} (q e : ℕ) → 0 < q → (xs : List X) → length (passing (is_beside (row_of q) e) 0 xs) ≤ q
-beside-row q e some xs =
-    passing-between (is_beside (row_of q) e) (e / q * q) q (λ j h.
-    let whole : j / q * q + j % q ≡ j = div-add-mod' j q in
-    let same : j / q * q ≡ e / q * q = ap (λ (k : ℕ). k * q) (beside_same (row_of q) e j h) in
-    let low = mod_below j q some in
-    (omega (arith, whole, same), omega (arith, whole, same, low))) 0 xs
-
--- ---- columns
-
 -- where a number rises at each place that passes
 passing-rises : {X : Type 0} (p : ℕ → Bool) (g : ℕ → ℕ) → ((j : ℕ) → cond (p j) 1 0 + g j ≤ g (j + 1)) → (e : ℕ) (xs : List X) → length (passing p e xs) + g e ≤ g (e + length xs)
 passing-rises p g h e [] = let same : g (e + 0) ≡ g e = ap g (let s : e + 0 ≡ e = omega arith in s) in omega (arith, same)
 passing-rises p g h e (x ∷ xs) =
     let same : g (e + length (x ∷ xs)) ≡ g (e + 1 + length xs) = ap g (let s : e + length (x ∷ xs) ≡ e + 1 + length xs = omega arith in s) in
     omega (arith, passing-length p e x xs, h e, passing-rises p g h (e + 1) xs, same)
+
+beside_same : (side : ℕ → ℕ) (e j : ℕ) → is_beside side e j ≡ true → side j ≡ side e
+beside_same side e j h = eqb-true (side j) (side e) (and_parts (eqb (side j) (side e)) (not (eqb j e)) h).0
+
+-- ---- rows
+
+row_rises : (q e j : ℕ) → 0 < q → cond (is_beside (row_of q) e j) 1 0 + min (j - e / q * q) q ≤ min (j + 1 - e / q * q) q
+row_rises q e j some =
+    elim (cases_Bool (is_beside (row_of q) e j)) as (λ _. cond (is_beside (row_of q) e j) 1 0 + min (j - e / q * q) q ≤ min (j + 1 - e / q * q) q) [
+      | inr fails ↦ let none : cond {A = ℕ} (is_beside (row_of q) e j) 1 0 ≡ 0 = ap (λ (b : Bool). cond {A = ℕ} b 1 0) fails in omega (arith, none)
+      | inl passes ↦
+          let one : cond {A = ℕ} (is_beside (row_of q) e j) 1 0 ≡ 1 = ap (λ (b : Bool). cond {A = ℕ} b 1 0) passes in
+          let same : j / q * q ≡ e / q * q = ap (λ (k : ℕ). k * q) (beside_same (row_of q) e j passes) in
+          omega (arith, one, same, div-add-mod' j q, mod_below j q some)
+    ]
+
+pub beside-row : {X : Type 0} (q e : ℕ) → 0 < q → (xs : List X) → length (passing (is_beside (row_of q) e) 0 xs) ≤ q
+beside-row q e some xs = omega (arith, passing-rises (is_beside (row_of q) e) (λ j. min (j - e / q * q) q) (λ j. row_rises q e j some) 0 xs)
+
+-- ---- columns
 
 -- how many places before j are in the column of e
 before : ℕ → ℕ → ℕ → ℕ

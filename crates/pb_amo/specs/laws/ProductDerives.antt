@@ -1,8 +1,7 @@
 -- The clauses of a grid are derived.
-use Rattle.std.proofs.Common.{◌≡◌, ◌≤◌, ◌<◌, ◌+◌, ◌*◌, ◌^◌, ℕ, true, List, [], ◌∷◌, ◌++◌, length, length-append, refl, ap, sym, ◌∙◌, subst, arith, inl, inr, get_or, zero, suc}
+use Rattle.std.proofs.Common.{◌≡◌, ◌≤◌, ◌<◌, ◌+◌, ◌*◌, ◌^◌, ℕ, true, List, [], ◌∷◌, ◌++◌, length, length-append, refl, ap, sym, ◌∙◌, subst, arith, get_or, zero, suc}
 use Rattle.std.specs.Prelude.{All, map, count_by}
 use Rattle.std.specs.List.{range_with_len, flat_map}
-use Rattle.std.proofs.lemmas.Bool.{cases_lt}
 use Rattle.std.proofs.lemmas.List.{get_or_append_left, get_or-append-add, length-map}
 use Rattle.std.proofs.lemmas.List.Elements.{All-nil, All-cons, All-map, All-weaker}
 use Rattle.std.proofs.lemmas.List.FromFn.{length-map-range_with_len, get_or-map-range_with_len}
@@ -30,17 +29,13 @@ use Rattle.pb_derive.proofs.Running.{claims_ran}
 use Rattle.pb_derive.proofs.Scoped.{Scoped, scoped}
 use Rattle.pb_family.proofs.FlatRanges.{flat_each}
 use Rattle.pb_amo.specs.laws.GridSides.{columns_positive, row_within, sides_fit}
-use Rattle.pb_amo.specs.Pairwise.{pairwise_clauses}
 use Rattle.pb_amo.specs.laws.PairwiseDerives.{pairs_swept, of_lits}
 use Rattle.pb_amo.specs.laws.LineLaws.{lines_each}
 use Rattle.pb_amo.specs.Product.{rows, columns, line, cells, cell, fresh_within, clauses_within, product_fresh, product_clauses}
 use Rattle.pb_amo.specs.laws.ProductLines.{line_fit, line_claim, Derivable, side_swept}
-use Rattle.pb_amo.specs.ProductSteps.{line_reification, line_reifications, line_justification, row_of, column_of, cell_justifications, cells_steps, steps_within, product_steps}
+use Rattle.pb_amo.specs.ProductSteps.{line_reification, line_reifications, line_justification, row_of, column_of, cell_justifications, cells_steps, product_steps}
 use Rattle.pb_amo.specs.inner.AtMostOne.{at_most_one}
-use Rattle.pb_amo.specs.PairwiseSteps.{pairwise_steps}
-use Rattle.pb_amo.specs.laws.GridCases.{rows_steps, columns_steps, grid_body, grid_steps, steps_last, steps_few, steps_many}
-use Rattle.pb_amo.specs.laws.GridCounts.{fresh_last, fresh_few, fresh_many}
-use Rattle.pb_amo.specs.laws.GridClauses.{clauses_last, clauses_few, clauses_many}
+use Rattle.pb_amo.specs.laws.GridCases.{rows_steps, columns_steps, grid_body, grid_steps, HoldsWithin, by_grids}
 use Rattle.pb_family.specs.Families.{VarsBelow}
 use Rattle.pb_norm.specs.Reduction.{lits_of, all_weigh}
 use Rattle.pb_norm.specs.BoundedSums.{BoundedSum, IsOverDistinct}
@@ -52,7 +47,7 @@ cells-clauses ms first r q base a (suc n) = ap (λ (cs : List (List Lit)). (line
 
 -- ---- a grid
 
-module _ (more : ℕ) (inductive : Derivable more) (ms : List Lit) (other : AreApartLits ms) (few : length ms < 2 ^ 31) (many : 4 < length ms) (first id : ℕ) (below : All (λ l. l.var < first) ms)
+module _ (more : ℕ) (inductive : HoldsWithin Derivable more) (ms : List Lit) (other : AreApartLits ms) (few : length ms < 2 ^ 31) (many : 4 < length ms) (first id : ℕ) (below : All (λ l. l.var < first) ms)
     (db : Database) (ready : IsReadyFor (at_most_one ms) first (rows (length ms) + columns (length ms) + fresh_within more (rows (length ms)) + fresh_within more (columns (length ms))) id db) where
   abbrev n : ℕ
   n = length ms
@@ -232,7 +227,7 @@ module _ (more : ℕ) (inductive : Derivable more) (ms : List Lit) (other : AreA
       let back = followed_swept Whole db1 f g ds es (count_by takes_id (f db1.next)) (count_by takes_id (g db2.next)) two three in
       followed_swept Whole mid (cells_steps ms first r q db.next) (followed_by f g) (cells ms first r q) (ds ++ es) (length (map by_justification rs)) (count_by takes_id (f db1.next) + count_by takes_id (g db2.next)) one back
 
-  grid_swept : RanSwept Whole db (steps_within (suc more) ms first id db.next) (clauses_within (suc more) ms first) (count_by takes_id (steps_within (suc more) ms first id db.next))
+  grid_swept : RanSwept Whole db (grid_steps more ms first id db.next) all_clauses (count_by takes_id (grid_steps more ms first id db.next))
   grid_swept =
       let start : mid.next ≡ db.next + 2 * (r + q) = omega (arith, meant.ran.next, size) in
       let body : List Step = grid_body more ms first id db.next (db.next + 2 * (r + q)) in
@@ -240,33 +235,13 @@ module _ (more : ℕ) (inductive : Derivable more) (ms : List Lit) (other : AreA
       scoped Whole db (reification_steps db.next lines) body all_clauses (2 * length lines) ids_between 2 (r + q)
       (record { end = mid; runs = meant.ran.runs; later = later_wider P Whole (λ v h. omega (arith, h)) db mid meant.ran.later; next = meant.ran.next }) ready.numbered (reifications_add db.next lines)
       (subst (λ (k : ℕ). RanSwept Whole mid (grid_body more ms first id db.next k) all_clauses ids_between) start body_swept) (omega (arith, size)) in
-      let counted = swept_counted Whole db (grid_steps more ms first id db.next) all_clauses (2 * length lines + ids_between) whole.all in
-      subst (λ (ss : List Step). RanSwept Whole db ss (clauses_within (suc more) ms first) (count_by takes_id ss)) (sym (steps_many more ms first id db.next many))
-      (subst (λ (xs : List (List Lit)). RanSwept Whole db (grid_steps more ms first id db.next) xs (count_by takes_id (grid_steps more ms first id db.next))) (sym (clauses_many more ms first many)) counted)
+      swept_counted Whole db (grid_steps more ms first id db.next) all_clauses (2 * length lines + ids_between) whole.all
 
--- ---- grids within grids
-
-pairs_ready : (k : ℕ) (ms : List Lit) → AreApartLits ms → (first id : ℕ) → All (λ l. l.var < first) ms → (db : Database) (count : ℕ) (ss : List Step) (cs : List (List Lit)) → count ≡ 0 → ss ≡ pairwise_steps ms id db.next → cs ≡ pairwise_clauses ms
-    → IsReadyFor (at_most_one ms) first count id db → RanSwept (λ v. v < first + count) db ss cs (count_by takes_id ss)
-pairs_ready k ms other first id below db count ss cs none steps clauses ready =
-    let ran = pairs_swept ms other first id below db (subst (λ (f : ℕ). IsReadyFor (at_most_one ms) first f id db) none ready) in
-    subst (λ (f : ℕ). RanSwept (λ v. v < first + f) db ss cs (count_by takes_id ss)) (sym none)
-    (subst (λ (xs : List Step). RanSwept (λ v. v < first + 0) db xs cs (count_by takes_id xs)) (sym steps) (subst (λ (ds : List (List Lit)). RanSwept (λ v. v < first + 0) db (pairwise_steps ms id db.next) ds (count_by takes_id (pairwise_steps ms id db.next))) (sym clauses) ran))
-
-pub derivable : (k : ℕ) → Derivable k
-derivable zero ms n size other few first id below db ready =
-    pairs_ready zero ms other first id below db (fresh_within zero n) (steps_within zero ms first id db.next) (clauses_within zero ms first) (fresh_last n) (steps_last ms first id db.next) (clauses_last ms first) ready
-derivable (suc more) ms n size other few first id below db ready =
-    elim (cases_lt 4 (length ms)) as (λ _. RanSwept (λ v. v < first + fresh_within (suc more) n) db (steps_within (suc more) ms first id db.next) (clauses_within (suc more) ms first) (count_by takes_id (steps_within (suc more) ms first id db.next))) [
-      | inr small ↦
-          pairs_ready (suc more) ms other first id below db (fresh_within (suc more) n) (steps_within (suc more) ms first id db.next) (clauses_within (suc more) ms first) (fresh_few more n (omega (arith, size, small))) (steps_few more ms first id db.next small) (clauses_few more ms first small) ready
-      | inl many ↦
-          let inductive = derivable more in
-          let count : fresh_within (suc more) n ≡ rows (length ms) + columns (length ms) + fresh_within more (rows (length ms)) + fresh_within more (columns (length ms)) =
-          ap (fresh_within (suc more)) (sym size) ∙ fresh_many more (length ms) many in
-          subst (λ (f : ℕ). RanSwept (λ v. v < first + f) db (steps_within (suc more) ms first id db.next) (clauses_within (suc more) ms first) (count_by takes_id (steps_within (suc more) ms first id db.next))) (sym count)
-          (grid_swept more inductive ms other (omega (arith, size, few)) many first id below db (subst (λ (f : ℕ). IsReadyFor (at_most_one ms) first f id db) count ready))
-    ]
+-- grids within grids
+pub derivable : (k : ℕ) → HoldsWithin Derivable k
+derivable =
+    by_grids Derivable (λ ms other few first id below db ready. pairs_swept ms other first id below db ready)
+    (λ more inductive ms many other few first id below db ready. grid_swept more inductive ms other few many first id below db ready)
 
 -- ---- the family
 
@@ -276,9 +251,9 @@ product_derives c one units distinct few first id db below ready =
     let ms : List Lit = lits_of c.terms in
     let n : ℕ = length c.terms in
     let size : length ms ≡ n = length-map c.terms (λ (t : Weighted). t.lit) in
-    let fresh : fresh_within (length ms) n ≡ product_fresh n = ap (λ (k : ℕ). fresh_within k n) size in
+    let fresh : product_fresh (length ms) ≡ product_fresh n = ap product_fresh size in
     let own = of_lits c one units distinct first below in
     let steps : List Step = product_steps ms first id db.next in
-    let ran = derivable (length ms) ms n size own.apart few first id own.below db (subst (λ (m : BoundedSum). IsReadyFor m first (fresh_within (length ms) n) id db) own.same (subst (λ (f : ℕ). IsReadyFor c first f id db) (sym fresh) ready)) in
+    let ran = derivable (length ms) ms own.apart (omega (arith, size, few)) first id own.below db (subst (λ (m : BoundedSum). IsReadyFor m first (product_fresh (length ms)) id db) own.same (subst (λ (f : ℕ). IsReadyFor c first f id db) (sym fresh) ready)) in
     subst (λ (f : ℕ). Derives db steps (product_clauses ms first) (first + f)) fresh
-    (swept_derives db steps (product_clauses ms first) (first + fresh_within (length ms) n) (count_by takes_id steps) ready.numbered ran)
+    (swept_derives db steps (product_clauses ms first) (first + product_fresh (length ms)) (count_by takes_id steps) ready.numbered ran)

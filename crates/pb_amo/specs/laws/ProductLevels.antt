@@ -6,8 +6,9 @@ use Rattle.pb_derive.specs.Deletions.{deletion_steps}
 use Rattle.pb_derive.specs.FollowedBy.{followed_by}
 use Rattle.pb_derive.specs.Reifications.{reification_steps}
 use Rattle.pb_amo.specs.PairwiseSteps.{pairwise_steps}
-use Rattle.pb_amo.specs.Product.{rows, columns, line, product_fresh}
+use Rattle.pb_amo.specs.Product.{rows, columns, line}
 use Rattle.pb_amo.specs.ProductSteps.{line_sum, side_steps, grid_reifications, cells_steps, steps_within, product_steps}
+use Rattle.pb_amo.specs.inner.ProductParts.{rows_then, columns_then}
 use Rattle.pb_amo.specs.laws.ByGrids.{IsByGrids, leaf_at, step}
 use Rattle.pb_amo.specs.laws.GridCases.{steps_last, steps_few, steps_many}
 use Rattle.pb_amo.specs.laws.GridClauses.{level_size, row_level, column_level, fresh_rows}
@@ -18,13 +19,6 @@ abbrev pub level_steps : List Lit → ℕ → ℕ → (ℕ → List Step) → (�
 level_steps ms first q by_rows by_columns next =
     let r = rows (length ms) in
     reification_steps next (grid_reifications ms first r q) ++ (followed_by (cells_steps ms first r q next) (followed_by by_rows by_columns) (next + 2 * (r + q)) ++ deletion_steps 2 next (r + q))
-
--- the rows' part of a grid, and the columns'
-abbrev pub rows_part : List Lit → ℕ → ℕ → ℕ → ℕ → ℕ → ℕ → List Step
-rows_part ms first r q id base = side_steps (line_sum id base r) (product_steps (line first r) (first + r + q))
-
-abbrev pub columns_part : List Lit → ℕ → ℕ → ℕ → ℕ → ℕ → ℕ → List Step
-columns_part ms first r q id base = side_steps (line_sum id (base + 2 * r) q) (product_steps (line (first + r) q) (first + r + q + product_fresh r))
 
 steps_by_grids : IsByGrids level_size row_level column_level (λ k a. steps_within k a.lits a.first) (λ a. pairwise_steps a.lits) (λ a xs ys id next.
     let r = rows (level_size a) in let q = columns (level_size a) in level_steps a.lits a.first q (side_steps (line_sum id next r) xs) (side_steps (line_sum id (next + 2 * r) q) ys) next)
@@ -46,5 +40,5 @@ pub product_few_steps : (ms : List Lit) (first id next : ℕ) → length ms ≤ 
 product_few_steps ms first id next few = λ x. leaf_at steps_by_grids (length ms) (record { lits = ms; first = first }) few x id next
 
 pub product_levels : (ms : List Lit) (first id next : ℕ) → 4 < length ms
-    → (let r = rows (length ms) in let q = columns (length ms) in product_steps ms first id next ≡ level_steps ms first q (rows_part ms first r q id next) (columns_part ms first r q id next) next)
+    → (let r = rows (length ms) in let q = columns (length ms) in product_steps ms first id next ≡ level_steps ms first q (rows_then first id r q next) (columns_then first id r q next) next)
 product_levels ms first id next many = λ x. step steps_by_grids (record { lits = ms; first = first }) many x id next

@@ -1,7 +1,8 @@
 -- The lines of a grid's side are derived.
-use Rattle.std.proofs.Common.{◌≡◌, ◌≢◌, ◌≤◌, ◌<◌, ◌+◌, ◌*◌, ◌^◌, ◌&&◌, ◌++◌, ℕ, Bool, true, false, not, List, [], ◌∷◌, length, refl, ap, sym, ◌∙◌, subst, arith, eqb, inl, inr, get_or}
+use Rattle.std.proofs.Common.{◌≡◌, ◌≢◌, ◌≤◌, ◌<◌, ◌+◌, ◌*◌, ◌^◌, ◌&&◌, ◌++◌, ℕ, Bool, true, not, List, [], ◌∷◌, length, refl, ap, sym, ◌∙◌, subst, arith, eqb, inl, inr, get_or}
 use Rattle.std.specs.Prelude.{All, Contains, map, sum_by, count_by}
 use Rattle.std.specs.List.{range_with_len}
+use Rattle.std.proofs.Math.Bool.{and-true, and-false}
 use Rattle.std.proofs.lemmas.Bool.{eq-eqb, ne_eqb, and_parts, cases_order, not-true, true≢false}
 use Rattle.std.proofs.lemmas.List.{get_or_default}
 use Rattle.pb_norm.specs.Reduction.{opposite}
@@ -35,6 +36,7 @@ use Rattle.pb_derive.proofs.Summed.{Summed, summed}
 use Rattle.pb_derive.proofs.UnitTerms.{ones-all, ones-sum, vars-ones}
 use Rattle.pb_family.specs.Fresh.{positive_of, literal_at, fresh_at}
 use Rattle.pb_family.proofs.Ranges.{range_each}
+use Rattle.pb_amo.specs.laws.GridCases.{HoldsWithin}
 use Rattle.pb_amo.specs.laws.LineLaws.{length-line}
 use Rattle.pb_amo.specs.laws.LineSums.{line-other, lines-sum}
 use Rattle.pb_amo.specs.Passing.{passing, in_line, is_beside}
@@ -42,14 +44,6 @@ use Rattle.pb_amo.specs.laws.PassingSums.{passing-each, passing-all, passing-pai
 use Rattle.pb_amo.specs.Product.{line, fresh_within, clauses_within}
 use Rattle.pb_amo.specs.inner.AtMostOne.{at_most_one}
 use Rattle.pb_amo.specs.ProductSteps.{line_reification, line_justification, line_sum, side_steps, steps_within}
-
-and_true : (b : Bool) → b && true ≡ b
-and_true true = refl
-and_true false = refl
-
-and_false : (b : Bool) → b && false ≡ false
-and_false true = refl
-and_false false = refl
 
 not_listed : (x : ℕ) (vs : List ℕ) → All (λ v. v ≢ x) vs → ¬ Contains vs x
 not_listed x vs h c = h c.0 x c.1 c.2
@@ -80,8 +74,8 @@ module _ (side : ℕ → ℕ) (ms : List Lit) (other : AreApartLits ms) (few : l
   line_parts : (e : ℕ) → e < length ms → (f : Weighted → ℕ) → sum_by f (ones (passing (in_line side (side e)) 0 ms)) ≡ f (unit_of (literal_at ms e)) + sum_by f (ones (rest e))
   line_parts e within f =
       let but = passing-but (λ (l : Lit). f (unit_of l)) (in_line side (side e)) (is_beside side e) e 0 e ms (positive_of 0) (omega arith) within (eq-eqb (side e) (side e) refl)
-      (ap (λ (b : Bool). eqb (side e) (side e) && not b) (eq-eqb e e refl) ∙ and_false (eqb (side e) (side e)))
-      (λ j apart. ap (λ (b : Bool). eqb (side j) (side e) && not b) (ne_eqb j e apart) ∙ and_true (eqb (side j) (side e))) in
+      (ap (λ (b : Bool). eqb (side e) (side e) && not b) (eq-eqb e e refl) ∙ and-false (eqb (side e) (side e)))
+      (λ j apart. ap (λ (b : Bool). eqb (side j) (side e) && not b) (ne_eqb j e apart) ∙ and-true (eqb (side j) (side e))) in
       omega (arith, ones-sum f (passing (in_line side (side e)) 0 ms), but, ones-sum f (rest e))
 
   rest_other : (e : ℕ) → e < length ms → All (λ l. l.var ≢ (literal_at ms e).var) (rest e)
@@ -125,12 +119,13 @@ module _ (side : ℕ → ℕ) (ms : List Lit) (other : AreApartLits ms) (few : l
 
 -- ---- at most one line
 
--- from each database that is ready, the steps with so many grids at most run
-abbrev pub Derivable : ℕ → Type 1
-Derivable k = (ms : List Lit) (n : ℕ) → length ms ≡ n → AreApartLits ms → n < 2 ^ 31 → (first id : ℕ) → All (λ l. l.var < first) ms → (db : Database) → IsReadyFor (at_most_one ms) first (fresh_within k n) id db →
-    RanSwept (λ v. v < first + fresh_within k n) db (steps_within k ms first id db.next) (clauses_within k ms first) (count_by takes_id (steps_within k ms first id db.next))
+-- from each database that is ready, the steps run
+abbrev pub Derivable : List Lit → ℕ → ℕ → (ℕ → List (List Lit)) → (ℕ → ℕ → ℕ → List Step) → Type 1
+Derivable ms fresh count clauses steps =
+    AreApartLits ms → length ms < 2 ^ 31 → (first id : ℕ) → All (λ l. l.var < first) ms → (db : Database) → IsReadyFor (at_most_one ms) first fresh id db
+    → RanSwept (λ v. v < first + fresh) db (steps first id db.next) (clauses first) (count_by takes_id (steps first id db.next))
 
-pub side_swept : (k : ℕ) → Derivable k → (side : ℕ → ℕ) (ms : List Lit) (other : AreApartLits ms) (few : length ms < 2 ^ 31) (some : 0 < length ms) (first : ℕ) (below : All (λ l. l.var < first) ms)
+pub side_swept : (k : ℕ) → HoldsWithin Derivable k → (side : ℕ → ℕ) (ms : List Lit) (other : AreApartLits ms) (few : length ms < 2 ^ 31) (some : 0 < length ms) (first : ℕ) (below : All (λ l. l.var < first) ms)
     (from w inner id base : ℕ) (db : Database) → IsNumbered db → Knows db id (as_constraint (at_most_one ms)) → ((j : ℕ) → j < w → Knows db (base + 2 * j) (forward_of (line_reification side ms from j)))
     → ((e : ℕ) → e < length ms → side e < w) → w < 2 ^ 31 → first ≤ from → from + w ≤ inner → db.original < inner → inner + fresh_within k w ≤ db.vars + 1
     → ((v : ℕ) → inner ≤ v → v < inner + fresh_within k w → IsUnnamed v db)
@@ -150,14 +145,15 @@ side_swept k inductive side (m ∷ others) other few some first below from w inn
     (lines-sum side m others from w other (All-weaker (λ (l : Lit). l.var < first) (λ (l : Lit). l.var < from) (λ l h. omega (arith, h, low)) ms below) within few narrow)
     (All-map (λ (u : Weighted). Q u.lit.var) opposite (ones (line from w)) (ones-all (λ (u : Weighted). Q u.lit.var) (line from w) under_line)) in
     let mid : Database = sum.ran.end in
-    let deeper = inductive (line from w) w size (line-other from w) narrow inner db.next under_line mid (record {
+    let cs : List (List Lit) = clauses_within k (line from w) inner in
+    let deeper = subst (λ (n : ℕ). IsReadyFor (at_most_one (line from w)) inner (fresh_within k n) db.next mid → RanSwept (λ v. v < inner + fresh_within k n) mid (steps_within k (line from w) inner db.next mid.next) cs (count_by takes_id (steps_within k (line from w) inner db.next mid.next))) size
+    (inductive (line from w) (line-other from w) (omega (arith, size, narrow)) inner db.next under_line mid) (record {
       original = omega (arith, sum.ran.later.original, original);
       vars = omega (arith, sum.ran.later.vars, vars);
       numbered = sum.ran.later.numbered;
       stands = sum.known;
       unnamed = λ v from_inner to. sum.ran.later.unnamed v (λ h. omega (arith, h, from_inner)) (unnamed v from_inner to);
     }) in
-    let cs : List (List Lit) = clauses_within k (line from w) inner in
     let steps : ℕ → List Step = λ n. line_sum id base w ∷ (steps_within k (line from w) inner db.next n ++ deletion_steps 1 db.next 1) in
     let ids_of : ℕ = 1 + count_by takes_id (steps_within k (line from w) inner db.next mid.next) in
     let whole : Scoped P db (steps mid.next) cs ids_of 1 =

@@ -21,6 +21,12 @@ abbrev pub clauses_over_parts : ℕ → ℕ → Emitted → Emitted → List (Li
 clauses_over_parts cap first left right =
     value_clauses cap left.values.items right.values.items (output_in left.outputs left.values.items) (output_in right.outputs right.values.items) (output_over cap first left right)
 
+-- what stands over two parts
+pub record IsMadeOver (cap first : ℕ) (left right part : Emitted) : Type 0 where
+  pub values_are : part.values.items ≡ node_values cap left right
+  pub outputs_are : output_in part.outputs part.values.items ≡ output_over cap first left right
+  pub within : HasLiterals cap part.outputs part.values.items
+
 -- the values of some terms, and their outputs
 pub record IsEmitted (bound : ℕ) (ts : List Term) (first : ℕ) (part : Emitted) : Type 0 where
   pub values_are : part.values.items ≡ values (generalized bound) (tree_of (weights ts))

@@ -1,13 +1,9 @@
-use Rattle.std.proofs.Common.{◌≡◌, ◌+◌, [], ◌∷◌, drop, arith, ap, ◌∙◌, refl}
-use Rattle.pb_base.specs.Literals.{negated}
+use Rattle.std.proofs.Common.{◌+◌, drop, arith, refl}
 use Rattle.pb_family.specs.Fresh.{literal_at}
 use Rattle.pb_family.proofs.Deriving.{deriving_from}
-use Rattle.pb_family.proofs.Emission.{two_literals}
 use Rattle.pb_amo.specs.Pairwise.{pairwise_clauses}
 use Rattle.pb_amo.specs.inner.Source.{source_literals}
-use Rattle.pb_amo.proofs.Claiming.{claim_room, claim_fault, claim_step, left_pairs}
-use Rattle.pb_amo.proofs.claims.derive_pairs.Given.{Over}
-use Rattle.pb_amo.proofs.claims.derive_pairs.Goals.{After-not-in-loop-j}
+use Rattle.pb_amo.proofs.Claiming.{claim_room, claim_fault, claim_step, left_pairs, pairs_claimed, row_claimed}
 use Rattle.pb_amo.proofs.claims.derive_pairs.Goals as goal
 
 pub loop-i-init : goal.loop-i-init
@@ -26,20 +22,27 @@ derive_propagated-requires g c =
       few = claim_room c.args.id ms (sink.state c.args.sink.now) (sink.state c.loop-j.sink) (literal_at ms c.loop-i.i) c.loop-j.j (pairwise_clauses (drop (c.loop-i.i + 1) ms)) (omega arith) c.loop-j.invariant c.requires.room;
     }
 
--- the clause that is handed over, by its literals
-same : (g : Over) (c : After-not-in-loop-j g) → (let ms = source_literals c.args.literals.now in (c.not.result ∷ c.not-in-loop-j.result ∷ []) ≡ (negated (literal_at ms c.loop-i.i) ∷ negated (literal_at ms c.loop-j.j) ∷ []))
-same g c = two_literals _ _ _ _ (c.not.ensures ∙ ap negated c.at.ensures) (c.not-in-loop-j.ensures ∙ ap negated c.at-in-loop-j.ensures)
-
 pub returns-in_err-derive_propagated : goal.returns-in_err-derive_propagated
 returns-in_err-derive_propagated g c =
     let sink = g.T.StepSink in
     let ms = source_literals c.args.literals.now in
-    claim_fault c.args.id ms (sink.state c.args.sink.now) (sink.state c.loop-j.sink) (literal_at ms c.loop-i.i) c.loop-j.j (pairwise_clauses (drop (c.loop-i.i + 1) ms)) (omega arith) c.loop-j.invariant _ (sink.state c.derive_propagated.new.sink) (same g (goal.at.returns-in_err-derive_propagated g c).After-not-in-loop-j)
+    claim_fault c.args.id ms (sink.state c.args.sink.now) (sink.state c.loop-j.sink) (literal_at ms c.loop-i.i) c.loop-j.j (pairwise_clauses (drop (c.loop-i.i + 1) ms)) (omega arith) c.loop-j.invariant _ (sink.state c.derive_propagated.new.sink) c.opposites-one.ensures
     c.from_residual.result _ c.from_residual.ensures.1 c.in_err-derive_propagated.ensures
 
 pub loop-j-preserved : goal.loop-j-preserved
 loop-j-preserved g c =
     let sink = g.T.StepSink in
     let ms = source_literals c.args.literals.now in
-    claim_step c.args.id ms (sink.state c.args.sink.now) (sink.state c.loop-j.sink) (literal_at ms c.loop-i.i) c.loop-j.j (pairwise_clauses (drop (c.loop-i.i + 1) ms)) (omega arith) c.loop-j.invariant _ (sink.state c.derive_propagated.new.sink) (same g (goal.at.loop-j-preserved g c).After-not-in-loop-j)
+    claim_step c.args.id ms (sink.state c.args.sink.now) (sink.state c.loop-j.sink) (literal_at ms c.loop-i.i) c.loop-j.j (pairwise_clauses (drop (c.loop-i.i + 1) ms)) (omega arith) c.loop-j.invariant _ (sink.state c.derive_propagated.new.sink) c.opposites-one.ensures
     c.in_ok-derive_propagated.ensures
+
+pub loop-i-preserved : goal.loop-i-preserved
+loop-i-preserved g c =
+    let sink = g.T.StepSink in
+    let ms = source_literals c.args.literals.now in
+    row_claimed c.args.id ms (sink.state c.args.sink.now) (sink.state c.loop-j.sink) (literal_at ms c.loop-i.i) c.loop-j.j (pairwise_clauses (drop (c.loop-i.i + 1) ms)) (omega arith) c.loop-j.invariant
+
+pub returns : goal.returns
+returns g c =
+    let sink = g.T.StepSink in
+    pairs_claimed c.args.id (source_literals c.args.literals.now) (sink.state c.args.sink.now) (sink.state c.loop-i.sink) c.loop-i.i (omega arith) c.loop-i.invariant

@@ -1,11 +1,5 @@
-use Rattle.std.proofs.Common.{[], ◌∷◌}
-use Rattle.pb_derive.specs.Claims.{claim_steps}
-use Rattle.pb_derive.specs.Justifications.{by_justification}
 use Rattle.pb_family.proofs.Deriving.{steps_lack_first}
-use Rattle.pb_gentot.specs.inner.Sources.{one_at}
 use Rattle.pb_gentot.proofs.claims.derive_one.Goals as goal
 
 pub returns-in_err-ids : goal.returns-in_err-ids
-returns-in_err-ids g c =
-    let old = g.T.StepSink.state c.args.sink.now in
-    steps_lack_first (claim_steps old.next (by_justification (one_at c.args.part.now c.args.others.now c.args.own.now c.args.place) ∷ [])) old c.from_residual.result c.from_residual.ensures.1
+returns-in_err-ids g c = steps_lack_first _ (g.T.StepSink.state c.args.sink.now) c.from_residual.result c.from_residual.ensures.1

@@ -10,9 +10,6 @@ loop-place-init g c = looping_from (justification_piece (one_at c.args.part.now 
 pub derive_one-requires-clause-has : goal.derive_one-requires-clause-has
 derive_one-requires-clause-has g c = c.requires.has c.loop-place.place 0 (omega arith)
 
-pub derive_one-requires-clause-few : goal.derive_one-requires-clause-few
-derive_one-requires-clause-few g c = omega (arith, c.loop-place.invariant.count, c.requires.few)
-
 pub returns-in_err-derive_one : goal.returns-in_err-derive_one
 returns-in_err-derive_one g c =
     pieces_fault (justifications_are (one_at c.args.part.now c.args.others.now c.args.own.now) (length c.args.part.now.values.items)) c.loop-place.invariant c.from_residual.result _ (g.T.StepSink.state c.derive_one.new.sink) (omega arith) c.from_residual.ensures.1 c.in_err-derive_one.ensures

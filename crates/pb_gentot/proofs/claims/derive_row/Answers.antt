@@ -7,9 +7,6 @@ use Rattle.pb_gentot.proofs.claims.derive_row.Goals as goal
 pub loop-j-init : goal.loop-j-init
 loop-j-init g c = looping_from (justification_piece (both_beside c.args.node.now c.args.i)) 1 (length c.args.node.now.right.now.values.items) (g.T.StepSink.state c.args.sink.now)
 
-pub derive_both-requires-clause-few : goal.derive_both-requires-clause-few
-derive_both-requires-clause-few g c = omega (arith, c.loop-j.invariant.count, c.requires.few)
-
 pub returns-in_err-derive_both : goal.returns-in_err-derive_both
 returns-in_err-derive_both g c =
     pieces_fault (justifications_are (both_beside c.args.node.now c.args.i) (length c.args.node.now.right.now.values.items)) c.loop-j.invariant c.from_residual.result _ (g.T.StepSink.state c.derive_both.new.sink) (omega arith) c.from_residual.ensures.1 c.in_err-derive_both.ensures

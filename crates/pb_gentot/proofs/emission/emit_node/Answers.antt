@@ -24,14 +24,8 @@ returns g c =
     let three = pairs_over c.args.node.now in
     hands_last {all = all} c.emit_pairs.result three _ (emitting_step two _ (emitting_step one _ (emitting_starts all _) c.in_ok-emit_ones.ensures) c.in_ok-emit_ones-2.ensures) c.emit_pairs.ensures
 
-pub emit_ones-requires-clause-room : goal.emit_ones-requires-clause-room
-emit_ones-requires-clause-room g c = c.args.node.now.left_has.room
-
 pub emit_ones-requires-clause-has : goal.emit_ones-requires-clause-has
 emit_ones-requires-clause-has g c = (has_sums c.args.node.now.cap c.args.node.now.lefts.now c.args.node.now.rights.now c.args.node.now.own.now.values.items c.args.node.now.left_has.small c.args.node.now.right_has.small c.args.node.now.made).lefts
-
-pub emit_ones-requires-2-clause-room : goal.emit_ones-requires-2-clause-room
-emit_ones-requires-2-clause-room g c = c.args.node.now.right_has.room
 
 pub emit_ones-requires-2-clause-has : goal.emit_ones-requires-2-clause-has
 emit_ones-requires-2-clause-has g c = (has_sums c.args.node.now.cap c.args.node.now.lefts.now c.args.node.now.rights.now c.args.node.now.own.now.values.items c.args.node.now.left_has.small c.args.node.now.right_has.small c.args.node.now.made).rights

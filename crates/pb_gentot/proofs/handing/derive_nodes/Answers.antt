@@ -15,9 +15,6 @@ use Rattle.pb_gentot.specs.GeneralizedSteps.{generalized_pairs}
 use Rattle.pb_gentot.proofs.WholeTrees.{whole_suits}
 use Rattle.pb_gentot.proofs.handing.derive_nodes.Goals as goal
 
-pub walk_along-requires-clause-some : goal.walk_along-requires-clause-some
-walk_along-requires-clause-some g c = c.args.whole.now.whole.some
-
 pub walk_along-requires-clause-suits : goal.walk_along-requires-clause-suits
 walk_along-requires-clause-suits g c = whole_suits c.args.whole.now.whole
 

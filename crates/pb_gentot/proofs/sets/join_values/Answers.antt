@@ -3,12 +3,11 @@ use Rattle.pb_gentot.specs.inner.Marks.{MarksOnly}
 use Rattle.pb_gentot.specs.inner.Members.{SameMembers}
 use Rattle.pb_gentot.proofs.Joining.{gathered, gathered_next, gathered_last, gathered_within, same_turned, same_then, values_of, values_more}
 use Rattle.pb_gentot.proofs.Marking.{marks_kept}
-use Rattle.std.proofs.lemmas.Result.{IfOk-from_err}
 use Rattle.pb_gentot.proofs.sets.join_values.Goals as goal
 use Rattle.pb_gentot.proofs.sets.join_values.Goals.{then-len-kept+else-len-limit, else-len-kept}
 
-pub returns-then-len-limit-clause-over : goal.returns-then-len-limit-clause-over
-returns-then-len-limit-clause-over c =
+pub returns-then-len-limit : goal.returns-then-len-limit
+returns-then-len-limit c =
     let us = c.args.left.now in
     let vs = c.args.right.now in
     let i = c.loop-value.value-index in
@@ -40,56 +39,20 @@ loop-value-preserved c =
           }
     ]
 
-pub returns-then-len-limit-2-clause-over : goal.returns-then-len-limit-2-clause-over
-returns-then-len-limit-2-clause-over c =
+pub returns-then-len-limit-2 : goal.returns-then-len-limit-2
+returns-then-len-limit-2 c =
     let us = c.args.left.now in
     let vs = c.args.right.now in
     let last = gathered_last c.args.cap us vs c.loop-value.made.items c.tidy-2.new.values.items c.loop-value.value-index (omega arith) c.loop-value.invariant.same c.tidy-2.ensures.same in
     let more = values_more c.args.cap us vs c.tidy-2.new.values.items c.requires.left_small c.requires.right_small c.tidy-2.ensures.rising last.to in
     omega arith
 
-pub returns-clause-made : goal.returns-clause-made
-returns-clause-made c =
+pub returns : goal.returns
+returns c =
     let us = c.args.left.now in
     let vs = c.args.right.now in
     let last = gathered_last c.args.cap us vs c.loop-value.made.items c.tidy-2.new.values.items c.loop-value.value-index (omega arith) c.loop-value.invariant.same c.tidy-2.ensures.same in
-    values_of c.args.cap us vs c.tidy-2.new.values.items c.requires.left_small c.requires.right_small c.tidy-2.ensures.rising last
+    (values_of c.args.cap us vs c.tidy-2.new.values.items c.requires.left_small c.requires.right_small c.tidy-2.ensures.rising last, omega arith)
 
 pub push_sums-requires-clause-small : goal.push_sums-requires-clause-small
 push_sums-requires-clause-small c = c.requires.left_small c.loop-value.value-index 0 (omega arith)
-
-pub push_sums-requires-clause-marked : goal.push_sums-requires-clause-marked
-push_sums-requires-clause-marked c = c.loop-value.invariant.marked
-
-pub returns-in_err-extend_from_slice-clause-made : goal.returns-in_err-extend_from_slice-clause-made
-returns-in_err-extend_from_slice-clause-made c = IfOk-from_err _ _ c.from_residual.ensures.0
-
-pub returns-in_err-extend_from_slice-clause-within : goal.returns-in_err-extend_from_slice-clause-within
-returns-in_err-extend_from_slice-clause-within c = IfOk-from_err _ _ c.from_residual.ensures.0
-
-pub returns-in_err-extend_from_slice-clause-over : goal.returns-in_err-extend_from_slice-clause-over
-returns-in_err-extend_from_slice-clause-over c = IfOk-from_err _ _ c.from_residual.ensures.0
-
-pub returns-in_err-seen-clause-made : goal.returns-in_err-seen-clause-made
-returns-in_err-seen-clause-made c = IfOk-from_err _ _ c.from_residual-in_err-seen.ensures.0
-
-pub returns-in_err-seen-clause-within : goal.returns-in_err-seen-clause-within
-returns-in_err-seen-clause-within c = IfOk-from_err _ _ c.from_residual-in_err-seen.ensures.0
-
-pub returns-in_err-seen-clause-over : goal.returns-in_err-seen-clause-over
-returns-in_err-seen-clause-over c = IfOk-from_err _ _ c.from_residual-in_err-seen.ensures.0
-
-pub returns-in_err-push_sums-clause-made : goal.returns-in_err-push_sums-clause-made
-returns-in_err-push_sums-clause-made c = IfOk-from_err _ _ c.from_residual-in_err-push_sums.ensures.0
-
-pub returns-in_err-push_sums-clause-within : goal.returns-in_err-push_sums-clause-within
-returns-in_err-push_sums-clause-within c = IfOk-from_err _ _ c.from_residual-in_err-push_sums.ensures.0
-
-pub returns-in_err-push_sums-clause-over : goal.returns-in_err-push_sums-clause-over
-returns-in_err-push_sums-clause-over c = IfOk-from_err _ _ c.from_residual-in_err-push_sums.ensures.0
-
-pub push_sums-requires-clause-others_small : goal.push_sums-requires-clause-others_small
-push_sums-requires-clause-others_small c = c.requires.right_small
-
-pub push_sums-requires-clause-few : goal.push_sums-requires-clause-few
-push_sums-requires-clause-few c = c.requires.few

@@ -1,4 +1,4 @@
-use Rattle.std.proofs.Common.{◌≡◌, ◌++◌, ℕ, List, [], length, ap, sym, subst, ◌∙◌, append-nil, arith, eqb-true, false-eqb}
+use Rattle.std.proofs.Common.{◌≡◌, ◌++◌, List, [], length, ap, sym, ◌∙◌, append-nil, arith, eqb-true, false-eqb}
 use Rattle.pb_base.specs.declared.literal.Lit.{Lit}
 use Rattle.pb_norm.specs.Constraints.{weights}
 use Rattle.pb_family.specs.declared.sink.SinkFault.TheVariants as fault
@@ -8,8 +8,7 @@ use Rattle.pb_family.proofs.Taking.{takes_nothing}
 use Rattle.pb_tree.specs.Tree.{tree_of}
 use Rattle.pb_tree.specs.Scheme.{values, output, clauses_of}
 use Rattle.pb_gentot.specs.inner.KeptTables.{clauses_by}
-use Rattle.pb_gentot.specs.inner.Outputs.{output_in, HasRoom}
-use Rattle.pb_gentot.specs.Rising.{Rising}
+use Rattle.pb_gentot.specs.inner.Outputs.{output_in}
 use Rattle.pb_gentot.specs.Generalized.{generalized}
 use Rattle.pb_gentot.proofs.KeptTables.{no_clauses}
 use Rattle.pb_gentot.proofs.Neighbours.{clauses_between}
@@ -32,13 +31,6 @@ returns-in_err-root g c =
     let s = generalized c.args.bound in
     let t = tree_of (weights c.args.terms.now) in
     stops_fault {all = clauses_by c.args.bound c.args.terms.now c.args.first} c.from_residual.result _ (clauses_of s t c.args.first) _ _ c.from_residual.ensures.1 (emitting_starts _ _) c.in_err-root.ensures.hands
-
-pub emit_neighbours-requires-clause-rising : goal.emit_neighbours-requires-clause-rising
-emit_neighbours-requires-clause-rising g c =
-    subst Rising (sym c.as_slice.ensures.value) c.in_ok-root.ensures.emitted.within.rising
-
-pub emit_neighbours-requires-clause-room : goal.emit_neighbours-requires-clause-room
-emit_neighbours-requires-clause-room g c = subst (λ (us : List ℕ). HasRoom c.in_ok-root.root.outputs (length us)) (sym c.as_slice.ensures.value) c.in_ok-root.ensures.emitted.within.room
 
 -- the clauses between neighbours are those of the table, and the nodes' were handed over before them
 same : (g : Over) (c : After-as_slice g) → (let s = generalized c.args.bound in let t = tree_of (weights c.args.terms.now) in

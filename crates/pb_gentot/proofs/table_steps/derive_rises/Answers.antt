@@ -7,9 +7,6 @@ use Rattle.pb_gentot.proofs.table_steps.derive_rises.Goals as goal
 pub loop-place-init : goal.loop-place-init
 loop-place-init g c = looping_from (justification_piece (rise_at c.args.id)) 1 c.args.count (g.T.StepSink.state c.args.sink.now)
 
-pub derive_rise-requires-clause-few : goal.derive_rise-requires-clause-few
-derive_rise-requires-clause-few g c = omega (arith, c.loop-place.invariant.count, c.requires.few)
-
 pub returns-in_err-derive_rise : goal.returns-in_err-derive_rise
 returns-in_err-derive_rise g c =
     pieces_fault (justifications_are (rise_at c.args.id) c.args.count) c.loop-place.invariant c.from_residual.result _ (g.T.StepSink.state c.derive_rise.new.sink) (omega arith) c.from_residual.ensures.1 c.in_err-derive_rise.ensures

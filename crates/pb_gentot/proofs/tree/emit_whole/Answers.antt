@@ -1,4 +1,4 @@
-use Rattle.std.proofs.Common.{◌≡◌, ◌+◌, ℕ, List, [], ◌∷◌, length, ap, sym, ◌∙◌, subst}
+use Rattle.std.proofs.Common.{◌≡◌, ◌+◌, ℕ, List, [], ◌∷◌, ap, sym, ◌∙◌, subst}
 use Rattle.std.specs.Prelude.{Contains}
 use Rattle.pb_base.specs.declared.literal.Lit.{Lit}
 use Rattle.pb_base.specs.Literals.{negated}
@@ -9,8 +9,7 @@ use Rattle.pb_family.proofs.Emission.{emitting_starts, emitting_step, emitting_e
 use Rattle.pb_family.proofs.Stopping.{stops_fault}
 use Rattle.pb_tree.specs.Tree.{tree_of}
 use Rattle.pb_tree.specs.Scheme.{output, clauses_of, tree_clauses}
-use Rattle.pb_gentot.specs.inner.Outputs.{output_in, HasRoom}
-use Rattle.pb_gentot.specs.Rising.{Rising}
+use Rattle.pb_gentot.specs.inner.Outputs.{output_in}
 use Rattle.pb_gentot.specs.Generalized.{generalized}
 use Rattle.pb_gentot.proofs.tree.emit_whole.Goals as goal
 
@@ -19,13 +18,6 @@ returns-in_err-root g c =
     let s = generalized c.args.whole.now.bound in
     let t = tree_of (weights c.args.whole.now.terms.now) in
     stops_fault {all = tree_clauses s t c.args.whole.now.first} c.from_residual.result _ (clauses_of s t c.args.whole.now.first) _ _ c.from_residual.ensures.1 (emitting_starts _ _) c.in_err-root.ensures.hands
-
-pub of-requires-clause-rising : goal.of-requires-clause-rising
-of-requires-clause-rising g c =
-    subst Rising (sym c.as_slice.ensures.value) c.in_ok-root.ensures.emitted.within.rising
-
-pub of-requires-clause-room : goal.of-requires-clause-room
-of-requires-clause-room g c = subst (λ (us : List ℕ). HasRoom c.in_ok-root.root.outputs (length us)) (sym c.as_slice.ensures.value) c.in_ok-root.ensures.emitted.within.room
 
 pub of-requires-clause-has : goal.of-requires-clause-has
 of-requires-clause-has g c =

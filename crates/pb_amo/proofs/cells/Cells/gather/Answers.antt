@@ -1,4 +1,5 @@
-use Rattle.std.proofs.Common.{refl, ◌≡◌, ◌+◌, ◌*◌, ◌++◌, ◌∙◌, ℕ, inl, inr, List, [], ◌∷◌, length, take, ap, sym, arith}
+use Rattle.std.proofs.Common.{refl, ◌≡◌, ◌≤◌, ◌+◌, ◌*◌, ◌++◌, ◌∙◌, ℕ, inl, inr, List, [], ◌∷◌, length, take, ap, sym, arith}
+use Rattle.std.proofs.Math.Nat.{mul-le-mul_right}
 use Rattle.std.proofs.lemmas.Bool.{cases_lt, cases_eq}
 use Rattle.std.proofs.lemmas.List.{map-append}
 use Rattle.std.proofs.lemmas.List.Sums.{sum_by-append}
@@ -50,6 +51,16 @@ loop-turn-preserved c =
             }
       ]
     ]
+
+pub overflow_mul-turn : goal.overflow_mul-turn
+overflow_mul-turn c =
+    let most = mul-le-mul_right c.args.stride.step (let e : c.loop-turn.turn ≤ c.args.stride.count = omega (arith, c.loop-turn-test.true) in e) in
+    omega (arith, most, c.args.stride.fits)
+
+pub overflow_add-stride : goal.overflow_add-stride
+overflow_add-stride c =
+    let most = mul-le-mul_right c.args.stride.step (let e : c.loop-turn.turn ≤ c.args.stride.count = omega (arith, c.loop-turn-test.true) in e) in
+    omega (arith, most, c.args.stride.fits)
 
 pub returns : goal.returns
 returns c =

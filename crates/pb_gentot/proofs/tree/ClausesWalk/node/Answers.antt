@@ -10,18 +10,6 @@ use Rattle.pb_gentot.proofs.Emitting.{parts_own, parts_output, stops_as}
 use Rattle.pb_gentot.proofs.Parts.{node_of}
 use Rattle.pb_gentot.proofs.tree.ClausesWalk.node.Goals as goal
 
-pub emit_over-requires-clause-left : goal.emit_over-requires-clause-left
-emit_over-requires-clause-left g c = c.requires.left.within
-
-pub emit_over-requires-clause-right : goal.emit_over-requires-clause-right
-emit_over-requires-clause-right g c = c.requires.right.within
-
-pub emit_over-requires-clause-few : goal.emit_over-requires-clause-few
-emit_over-requires-clause-few g c = omega (arith, c.args.self.now.whole.now.whole.small)
-
-pub emit_over-requires-clause-low : goal.emit_over-requires-clause-low
-emit_over-requires-clause-low g c = omega (arith, c.args.self.now.whole.now.whole.low)
-
 pub emit_over-requires-clause-fits : goal.emit_over-requires-clause-fits
 emit_over-requires-clause-fits g c =
     let own = node_of c.requires.parts c.requires.suits c.requires.left.values_are c.requires.right.values_are refl in
@@ -40,21 +28,21 @@ returns-in_err-part-clause-hands g c =
 
 pub overflow_add-next : goal.overflow_add-next
 overflow_add-next g c =
-    let own = node_of c.requires.parts c.requires.suits c.requires.left.values_are c.requires.right.values_are c.in_ok-part.ensures.values in
+    let own = node_of c.requires.parts c.requires.suits c.requires.left.values_are c.requires.right.values_are c.in_ok-part.ensures.made.values_are in
     omega (arith, own.within, c.args.self.now.whole.now.whole.fits)
 
 pub returns : goal.returns
 returns g c =
     let parts = c.args.parts.now in
     let w = c.args.self.now.whole.now in
-    let own = node_of c.requires.parts c.requires.suits c.requires.left.values_are c.requires.right.values_are c.in_ok-part.ensures.values in
+    let own = node_of c.requires.parts c.requires.suits c.requires.left.values_are c.requires.right.values_are c.in_ok-part.ensures.made.values_are in
     let same = parts_own w.bound c.requires.parts w.first parts.left.now parts.right.now c.requires.left c.requires.right in
     record {
       hands = takes_as _ _ (g.S.ClauseSink.state c.args.sink.now) (g.S.ClauseSink.state c.emit_over.new.sink) same c.in_ok-part.ensures.hands;
       next = omega (arith, own.after);
       leaves = record {
         values_are = own.values_are;
-        outputs_are = c.in_ok-part.ensures.outputs ∙ parts_output w.bound c.requires.parts w.first parts.left.now parts.right.now c.requires.left c.requires.right;
-        within = c.in_ok-part.ensures.within;
+        outputs_are = c.in_ok-part.ensures.made.outputs_are ∙ parts_output w.bound c.requires.parts w.first parts.left.now parts.right.now c.requires.left c.requires.right;
+        within = c.in_ok-part.ensures.made.within;
       };
     }
