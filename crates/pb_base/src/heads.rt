@@ -19,7 +19,7 @@ pub struct Head {
 }
 
 /// A head in twelve bytes, with the code of the right side.
-#[derive(Debug, Drop)]
+#[derive(Drop)]
 pub(crate) struct PackedHead {
     pub terms: u32,
     pub right: u32,
@@ -27,7 +27,6 @@ pub(crate) struct PackedHead {
 }
 
 /// Heads of statements in order: twelve bytes each, and sixteen more where 31 bits cannot hold the right side.
-#[derive(Debug)]
 pub struct Heads {
     heads: Vec<PackedHead>,
     wide: Vec<i128>,
@@ -106,7 +105,7 @@ impl Heads {
 }
 
 /// The heads that are left of some.
-#[derive(Debug, Drop)]
+#[derive(Drop)]
 pub struct HeadsLeft<'a> {
     heads: &'a [PackedHead],
     wide: &'a [i128],

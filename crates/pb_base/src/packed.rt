@@ -7,7 +7,7 @@ use crate::literal::{Lit, Var};
 use std::marker::Model;
 
 /// A literal in four bytes: the number of its variable, negative where the literal is.
-#[derive(Debug, Drop)]
+#[derive(Drop)]
 pub(crate) struct PackedLit {
     signed: i32,
 }
@@ -48,7 +48,7 @@ impl PackedLit {
 }
 
 /// A term in eight bytes: the code of its coefficient, and its literal.
-#[derive(Debug, Drop)]
+#[derive(Drop)]
 pub(crate) struct PackedTerm {
     pub coef: u32,
     pub lit: PackedLit,

@@ -14,7 +14,6 @@ use std::alloc::Global;
 use std::marker::Model;
 
 // Their terms stand in one column, those of a statement behind those of the one before.
-#[derive(Debug)]
 struct Columns {
     heads: Heads,
     terms: TermColumn,
@@ -40,7 +39,7 @@ impl Model for Columns {
 }
 
 /// Statements in order.
-#[derive(Debug, Drop)]
+#[derive(Drop)]
 pub struct Statements {
     columns: Columns,
 }
@@ -143,7 +142,7 @@ impl Statements {
 }
 
 /// A statement that is read where it is kept.
-#[derive(Debug, Drop)]
+#[derive(Drop)]
 pub struct Statement<'a> {
     pub terms: TermsLeft<'a>,
     pub relation: Relation,
@@ -151,7 +150,7 @@ pub struct Statement<'a> {
 }
 
 /// The statements that are left of a list.
-#[derive(Debug, Drop)]
+#[derive(Drop)]
 pub struct StatementsLeft<'a> {
     heads: HeadsLeft<'a>,
     terms: TermsLeft<'a>,

@@ -10,7 +10,6 @@ use std::alloc::Global;
 use std::marker::Model;
 
 /// Terms in order: eight bytes each, and sixteen more where 31 bits cannot hold the coefficient.
-#[derive(Debug)]
 pub struct TermColumn {
     terms: Vec<PackedTerm>,
     wide: Vec<i128>,
@@ -95,7 +94,7 @@ impl TermColumn {
 }
 
 /// The terms that are left of some.
-#[derive(Debug, Drop)]
+#[derive(Drop)]
 pub struct TermsLeft<'a> {
     terms: &'a [PackedTerm],
     wide: &'a [i128],

@@ -5,7 +5,7 @@ ghost use Rattle.pb_desk.specs.Memory.{shelf_of, bytes_at, left_of};
 use pb_base::{Bytes, Seq, Text};
 
 /// A file to read.
-#[derive(Debug, Drop)]
+#[derive(Drop)]
 pub struct Named {
     pub name: Text,
     pub bytes: Bytes,

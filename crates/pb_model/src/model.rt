@@ -13,7 +13,6 @@ pub enum Says {
 }
 
 /// What a solver says, and a value for each variable, the first one for variable 1.
-#[derive(Debug)]
 pub struct Model {
     pub says: Says,
     pub values: Bits,

@@ -8,7 +8,7 @@ use std::alloc::{AllocError, Global};
 use std::marker::Model;
 
 /// The bytes of a free name.
-#[derive(Debug, Drop)]
+#[derive(Drop)]
 pub(crate) struct FreeName<'a> {
     text: &'a [u8],
 }
@@ -34,7 +34,7 @@ impl<'a> FreeName<'a> {
 }
 
 /// What a word names: a variable by its number behind `x`, or by a free name.
-#[derive(Debug, Drop)]
+#[derive(Drop)]
 pub struct Name<'a> {
     // 0 for a free name
     index: u32,
@@ -100,7 +100,7 @@ impl<'a> Name<'a> {
 }
 
 /// What stands in a name.
-#[derive(Clone, Copy, Debug)]
+#[derive(Clone, Copy)]
 pub enum Parts<'a> {
     /// The number behind `x`.
     Index(u32),
@@ -109,14 +109,14 @@ pub enum Parts<'a> {
 }
 
 /// A name or its negation.
-#[derive(Debug, Drop)]
+#[derive(Drop)]
 pub struct NamedLit<'a> {
     pub name: Name<'a>,
     pub positive: bool,
 }
 
 // Literals in memory of their own, so that a term of one literal takes little.
-#[derive(Debug, Drop)]
+#[derive(Drop)]
 struct Further<'a> {
     lits: Box<Seq<NamedLit<'a>>>,
 }
@@ -131,7 +131,6 @@ impl<'a> Model for Further<'a> {
 }
 
 /// A coefficient and one or more literals: the coefficient counts where all of them are true.
-#[derive(Debug)]
 pub struct NamedTerm<'a> {
     coef: i128,
     lit: NamedLit<'a>,
@@ -218,7 +217,6 @@ impl<'a> NamedTerm<'a> {
 pub type NamedTerms<'a> = Seq<NamedTerm<'a>>;
 
 /// A statement as it is written.
-#[derive(Debug)]
 pub struct NamedStatement<'a> {
     pub terms: NamedTerms<'a>,
     pub relation: Relation,
@@ -237,7 +235,7 @@ impl Drop for NamedStatement<'_> {
 }
 
 /// What a text says, in its own names.
-#[derive(Debug, Drop)]
+#[derive(Drop)]
 pub struct NamedProblem<'a> {
     pub objective: Option<NamedTerms<'a>>,
     pub statements: NamedStatements<'a>,

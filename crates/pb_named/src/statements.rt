@@ -14,7 +14,6 @@ use std::marker::Model;
 
 /// Statements in order. Where each term of one has a single literal, they take little room: the greatest variable stands there for a
 /// free name, which is kept beside them. The terms of any other statement are kept whole.
-#[derive(Debug)]
 pub struct NamedStatements<'a> {
     heads: Heads,
     plain: TermColumn,
@@ -47,7 +46,7 @@ impl<'a> Model for NamedStatements<'a> {
 }
 
 // What stands for a term of a single literal.
-#[derive(Debug, Drop)]
+#[derive(Drop)]
 struct Plain<'a> {
     term: Term,
     name: Option<FreeName<'a>>,
@@ -281,7 +280,7 @@ impl<'a> NamedStatements<'a> {
 }
 
 /// The statements that are left of some.
-#[derive(Debug, Drop)]
+#[derive(Drop)]
 pub(crate) struct NamedLeft<'b, 'a> {
     heads: HeadsLeft<'b>,
     plain: TermsLeft<'b>,
@@ -304,7 +303,7 @@ impl<'b, 'a> Model for NamedLeft<'b, 'a> {
 }
 
 /// The terms that are left of some which stand in little room.
-#[derive(Debug, Drop)]
+#[derive(Drop)]
 pub(crate) struct PlainLeft<'b, 'a> {
     terms: TermsLeft<'b>,
     names: &'b [FreeName<'a>],
@@ -380,14 +379,14 @@ pub(crate) fn write_named<'a>(
 }
 
 /// The terms of a statement, as they are kept.
-#[derive(Debug, Drop)]
+#[derive(Drop)]
 pub(crate) enum Body<'b, 'a> {
     Plain(PlainLeft<'b, 'a>),
     Whole(&'b [NamedTerm<'a>]),
 }
 
 /// A statement that is read where it is kept.
-#[derive(Debug, Drop)]
+#[derive(Drop)]
 pub(crate) struct NamedNext<'b, 'a> {
     pub body: Body<'b, 'a>,
     pub relation: Relation,

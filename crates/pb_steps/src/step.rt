@@ -9,7 +9,6 @@ pub type PolOps = Seq<PolOp>;
 pub type Sets = Seq<Set>;
 
 /// What a line of a derivation says.
-#[derive(Debug)]
 pub enum Step {
     /// An empty line or a comment.
     Blank,

@@ -13,7 +13,7 @@ use pb_base::Lits;
 use std::alloc::Global;
 
 /// Propagate some literals over a CNF: the file that is read, and the literals.
-#[derive(Debug, Drop)]
+#[derive(Drop)]
 pub struct ProbeArgs<'a> {
     /// The name of the CNF file.
     pub cnf: &'a str,

@@ -9,7 +9,7 @@ use crate::refute::RefuteArgs;
 use crate::wcnf::WcnfArgs;
 
 /// What the words ask for: one of the program's commands.
-#[derive(Debug, Drop)]
+#[derive(Drop)]
 pub enum Request<'a> {
     /// Encode a problem.
     Encode(EncodeArgs<'a>),
