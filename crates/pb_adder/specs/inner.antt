@@ -1,3 +1,4 @@
 pub mod GateLits
+pub mod LevelParts
 pub mod Rows
 pub mod RunningSums
