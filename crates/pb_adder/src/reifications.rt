@@ -63,14 +63,12 @@ fn derive_gate_reifications<T: StepSink>(
     match &gate.lits(first) {
         GateLits::Three(x) => {
             let bits = [once(x.a), once(x.b), once(x.c)];
-            let off = twice_off(x.carry.var);
-            let all = [once(x.a), once(x.b), once(x.c), off];
+            let all = [bits[0], bits[1], bits[2], twice_off(x.carry.var)];
             derive_meanings(alloc, x.carry.var, x.sum.var, &bits, &all, sink)
         },
         GateLits::Two(x) => {
             let bits = [once(x.a), once(x.b)];
-            let off = twice_off(x.carry.var);
-            let all = [once(x.a), once(x.b), off];
+            let all = [bits[0], bits[1], twice_off(x.carry.var)];
             derive_meanings(alloc, x.carry.var, x.sum.var, &bits, &all, sink)
         },
     }
