@@ -1,5 +1,5 @@
 -- Lists to which what is made of one item after another is appended.
-use Rattle.std.proofs.Common.{◌≡◌, ◌<◌, ◌≤◌, ◌+◌, ◌∙◌, ◌++◌, ◌∷◌, [], ℕ, Bool, true, false, if◌then◌else◌, List, append_assoc, ap, get_or, length, map, refl, sym, take, drop}
+use Rattle.std.proofs.Common.{◌≡◌, ◌<◌, ◌≤◌, ◌+◌, ◌-◌, ◌∙◌, ◌++◌, ◌∷◌, [], ℕ, Bool, true, false, if◌then◌else◌, List, append_assoc, ap, arith, get_or, length, map, refl, sym, take, drop}
 use Rattle.std.specs.List.{flat_map}
 use Rattle.std.proofs.lemmas.List.{flat_map_more, map_push, take_more, take_all, drop_more}
 use Rattle.pb_base.specs.declared.literal.Lit.{Lit}
@@ -7,6 +7,8 @@ use Rattle.pb_base.specs.declared.literal.Term.{Term}
 use Rattle.pb_base.specs.Literals.{is_among}
 use Rattle.pb_norm.specs.BoundedSums.{vars_of}
 use Rattle.pb_norm.specs.Constraints.{weights}
+use Rattle.pb_steps.specs.declared.op.PolOp.TheVariants.{Push}
+use Rattle.pb_derive.specs.Justifications.{adding, push_and_add}
 use Rattle.pb_norm.specs.ClauseForm.{one_of, distinct}
 
 -- what is made of the next item
@@ -36,6 +38,11 @@ map_last {X} f xs i start made all so_far = so_far ∙ ap (λ (zs : List X). sta
 pub vars_mapped : {Y : Type 0} (f : ℕ → Y) (ts : List Term) → map (λ (t : Term). f t.lit.var) ts ≡ map f (vars_of (weights ts))
 vars_mapped f [] = refl
 vars_mapped {Y} f (t ∷ ts) = ap (λ (ys : List Y). f t.lit.var ∷ ys) (vars_mapped f ts)
+
+-- of the sum of constraints
+pub added_behind : (ids : List ℕ) → 1 ≤ length ids → Push (get_or ids 0 0) ∷ flat_map push_and_add (take (length ids - 1) (drop 1 ids)) ≡ adding ids
+added_behind [] some = absurd (omega arith)
+added_behind (id ∷ ids) some = ap (λ (is : List ℕ). Push id ∷ flat_map push_and_add is) (take_all (length (id ∷ ids) - 1) ids (omega arith))
 
 -- ---- each literal once, by where it stands last
 

@@ -1,5 +1,5 @@
 -- Terms as steps have them, and slices of terms.
-use Rattle.std.proofs.Common.{◌≡◌, ◌≤◌, ◌<◌, ◌+◌, ◌-◌, ◌^◌, ℕ, true, false, List, [], ◌∷◌, length, length-drop, take, drop, refl, sym, ap, ◌∙◌, arith}
+use Rattle.std.proofs.Common.{◌≡◌, ◌≤◌, ◌<◌, ◌+◌, ◌-◌, ◌^◌, ℕ, Bool, true, false, if◌then◌else◌, List, [], ◌∷◌, length, length-drop, take, drop, refl, sym, ap, ◌∙◌, arith}
 use Rattle.std.specs.Prelude.{All, map, slice_index_or}
 use Rattle.std.proofs.lemmas.List.{take-map, drop-map, get_or-map, length-map, take_all}
 use Rattle.std.proofs.lemmas.List.Elements.{All-nil, All-cons}
@@ -18,13 +18,11 @@ light_terms (t ∷ ts) light =
     let sum = weight-cons (weighted t) (weights ts) in
     All-cons (λ (t : Term). (weighted t).coef < 2 ^ 127) t ts (omega arith) (light_terms ts (omega arith))
 
-pub kept_terms : (ts : List Term) → map (on_term (turned false)) ts ≡ terms_of (weights ts)
-kept_terms [] = refl
-kept_terms (t ∷ ts) = ap (λ (us : List Term). term_of (weighted t) ∷ us) (kept_terms ts)
-
-pub opposite_terms : (ts : List Term) → map (on_term (turned true)) ts ≡ terms_of (map opposite (weights ts))
-opposite_terms [] = refl
-opposite_terms (t ∷ ts) = ap (λ (us : List Term). term_of (opposite (weighted t)) ∷ us) (opposite_terms ts)
+pub turned_terms : (flip : Bool) (ts : List Term) → map (on_term (turned flip)) ts ≡ terms_of (if flip then map opposite (weights ts) else weights ts)
+turned_terms true [] = refl
+turned_terms true (t ∷ ts) = ap (λ (us : List Term). term_of (opposite (weighted t)) ∷ us) (turned_terms true ts)
+turned_terms false [] = refl
+turned_terms false (t ∷ ts) = ap (λ (us : List Term). term_of (weighted t) ∷ us) (turned_terms false ts)
 
 -- ---- slices
 

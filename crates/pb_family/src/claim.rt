@@ -1,5 +1,5 @@
 //! Steps that give a clause, or add constraints.
-ghost use Rattle.std.specs.Prelude.{◌≡◌, ◌≤◌, ◌<◌, ◌+◌, ◌^◌, [], ◌∷◌, ◌++◌, pos, length, map, flat_map, IfOk};
+ghost use Rattle.std.specs.Prelude.{◌≡◌, ◌≤◌, ◌<◌, ◌+◌, ◌^◌, [], ◌∷◌, ◌++◌, pos, length, map, IfOk};
 ghost use Rattle.pb_base.specs.Literals.{is_among};
 ghost use Rattle.pb_norm.specs.BoundedSums.{vars_of};
 ghost use Rattle.pb_norm.specs.ClauseForm.{one_of, distinct};
@@ -20,44 +20,37 @@ use std::alloc::{AllocError, Global};
 // Above all numbers of a constraint that has room, so that division by it leaves 1 of each.
 const WIDEST: i128 = 85070591730234615865843651857942052863;
 
-// Adds that constraints are pushed and added.
-fn push_sum(ops: &mut Vec<PolOp>, first: u64, more: &[u64]) -> Result<(), AllocError>
-    ensures { IfOk result (λ _. ops.new.items ≡ ops.old.items ++ Push first ∷ flat_map push_and_add more.now) }
+// Adds that a constraint is pushed and added.
+fn push_and_add(ops: &mut Vec<PolOp>, id: u64) -> Result<(), AllocError>
+    ensures { IfOk result (λ _. ops.new.items ≡ ops.old.items ++ push_and_add id) }
 {
-    ops.push(PolOp::Push(first))?;
-    for id in more {
-        ops.push(PolOp::Push(*id))?;
-        ops.push(PolOp::Add)?;
-    }
-    Ok(())
-}
-
-// Adds that the variables of terms are weakened away.
-fn push_weakened(ops: &mut Vec<PolOp>, terms: &[Term]) -> Result<(), AllocError>
-    ensures { IfOk result (λ _. ops.new.items ≡ ops.old.items ++ map Weaken (vars_of (weights terms.now))) }
-{
-    for term in terms {
-        ops.push(PolOp::Weaken(term.lit.var))?;
-    }
-    Ok(())
-}
-
-// Adds that one of each literal is left.
-fn push_division(ops: &mut Vec<PolOp>) -> Result<(), AllocError>
-    ensures { IfOk result (λ _. ops.new.items ≡ ops.old.items ++ Div (pos widest) ∷ []) }
-{
-    ops.push(PolOp::Div(WIDEST))?;
+    ops.push(PolOp::Push(id))?;
+    ops.push(PolOp::Add)?;
     Ok(())
 }
 
 // The sum of constraints.
-fn sum_step(alloc: Global, ids: &[u64]) -> Result<Step, AllocError>
+fn sum_of(alloc: Global, ids: &[u64]) -> Result<Vec<PolOp>, AllocError>
     requires some { 1 ≤ length ids.now }
-    ensures { IfOk result (λ step. step ≡ Pol (adding ids.now)) }
+    ensures { IfOk result (λ ops. ops.items ≡ adding ids.now) }
 {
     let mut ops = Vec::new(alloc);
-    push_sum(&mut ops, ids[0], &ids[1..])?;
-    Ok(Step::Pol(PolOps::from_vec(ops)))
+    ops.push(PolOp::Push(ids[0]))?;
+    for id in &ids[1..] {
+        push_and_add(&mut ops, *id)?;
+    }
+    Ok(ops)
+}
+
+// Adds that the variables of terms are weakened away, and that one of each literal is left.
+fn push_closing(ops: &mut Vec<PolOp>, weakened: &[Term]) -> Result<(), AllocError>
+    ensures { IfOk result (λ _. ops.new.items ≡ ops.old.items ++ (map Weaken (vars_of (weights weakened.now)) ++ Div (pos widest) ∷ [])) }
+{
+    for term in weakened {
+        ops.push(PolOp::Weaken(term.lit.var))?;
+    }
+    ops.push(PolOp::Div(WIDEST))?;
+    Ok(())
 }
 
 // A clause, by constraints without the variables of some terms.
@@ -65,10 +58,8 @@ fn closing_step(alloc: Global, ids: &[u64], weakened: &[Term]) -> Result<Step, A
     requires some { 1 ≤ length ids.now }
     ensures { IfOk result (λ step. step ≡ Pol (closed ids.now (vars_of (weights weakened.now)))) }
 {
-    let mut ops = Vec::new(alloc);
-    push_sum(&mut ops, ids[0], &ids[1..])?;
-    push_weakened(&mut ops, weakened)?;
-    push_division(&mut ops)?;
+    let mut ops = sum_of(alloc, ids)?;
+    push_closing(&mut ops, weakened)?;
     Ok(Step::Pol(PolOps::from_vec(ops)))
 }
 
@@ -113,17 +104,17 @@ pub fn derive_sum<T: StepSink>(alloc: Global, ids: &[u64], sink: &mut T) -> Sink
     requires few { (T.state sink.old).next < 2 ^ 62 }
     ensures { HandsSteps (Pol (adding ids.now) ∷ []) result (T.state sink.old) (T.state sink.new) }
 {
-    let step = sum_step(alloc, ids)?;
-    sink.step(&step)
+    let ops = sum_of(alloc, ids)?;
+    sink.step(&Step::Pol(PolOps::from_vec(ops)))
 }
 
 // Hands over a clause's step, and puts the clause out.
-fn derive_and_put_out<T: StepSink>(step: &Step, sink: &mut T) -> SinkResult
+fn derive_and_put_out<T: StepSink>(step: Step, sink: &mut T) -> SinkResult
     requires few { (T.state sink.old).next + 1 < 2 ^ 62 }
-    ensures { HandsSteps (step.now ∷ Out (T.state sink.old).next ∷ []) result (T.state sink.old) (T.state sink.new) }
+    ensures { HandsSteps (step ∷ Out (T.state sink.old).next ∷ []) result (T.state sink.old) (T.state sink.new) }
 {
     let id = sink.next_id();
-    derive_steps(step, &Step::Out { id }, sink)
+    derive_steps(&step, &Step::Out { id }, sink)
 }
 
 /// Hands over that a clause follows from the constraints with some ids, without the variables of some terms, and puts it out.
@@ -138,7 +129,7 @@ pub fn derive_claim<T: StepSink>(
     ensures { HandsSteps (claimed (T.state sink.old).next ids.now (vars_of (weights weakened.now))) result (T.state sink.old) (T.state sink.new) }
 {
     let step = closing_step(alloc, ids, weakened)?;
-    derive_and_put_out(&step, sink)
+    derive_and_put_out(step, sink)
 }
 
 /// Hands over that a short clause follows by propagation from the constraints with some ids, and puts it out.
@@ -152,5 +143,5 @@ pub fn derive_propagated<T: StepSink>(
     ensures { HandsSteps (propagated (T.state sink.old).next ids.now clause.now) result (T.state sink.old) (T.state sink.new) }
 {
     let shown = propagated_step(alloc, ids, clause)?;
-    derive_and_put_out(&shown, sink)
+    derive_and_put_out(shown, sink)
 }

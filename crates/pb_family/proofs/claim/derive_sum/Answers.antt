@@ -1,5 +1,12 @@
-use Rattle.pb_family.proofs.Deriving.{steps_lack_first}
+use Rattle.std.proofs.Common.{◌∙◌, [], ◌∷◌, List, ap}
+use Rattle.pb_steps.specs.declared.op.PolOp.{PolOp}
+use Rattle.pb_steps.specs.declared.step.Step.TheVariants.{Pol}
+use Rattle.pb_family.proofs.Deriving.{steps_lack_first, steps_same}
 use Rattle.pb_family.proofs.claim.derive_sum.Goals as goal
 
-pub returns-in_err-step : goal.returns-in_err-step
-returns-in_err-step g c = steps_lack_first _ (g.T.StepSink.state c.args.sink.now) c.from_residual.result c.from_residual.ensures.1
+pub returns-in_err-ops : goal.returns-in_err-ops
+returns-in_err-ops g c = steps_lack_first _ (g.T.StepSink.state c.args.sink.now) c.from_residual.result c.from_residual.ensures.1
+
+pub returns : goal.returns
+returns g c =
+    steps_same c.step.result _ _ (g.T.StepSink.state c.args.sink.now) (g.T.StepSink.state c.step.new.self) (ap (λ (ops : List PolOp). Pol ops ∷ []) (c.from_vec.ensures ∙ c.in_ok-ops.ensures)) c.step.ensures.hands

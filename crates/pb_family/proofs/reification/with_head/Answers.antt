@@ -1,7 +1,4 @@
-use Rattle.std.proofs.Common.{◌∙◌, ◌++◌, ◌∷◌, [], ℕ, List, ap, arith}
-use Rattle.std.specs.Prelude.{pos}
-use Rattle.std.specs.Int.RustNames.{unsigned_abs}
-use Rattle.pb_base.specs.declared.literal.Lit.{Lit}
+use Rattle.std.proofs.Common.{◌∙◌, ◌++◌, ◌∷◌, [], List, ap, arith}
 use Rattle.pb_base.specs.declared.literal.Term.{Term}
 use Rattle.pb_norm.specs.inner.Kept.{on_term}
 use Rattle.pb_family.specs.inner.Parts.{turned}
@@ -14,7 +11,7 @@ loop-term-init c = c.in_ok-push.ensures.items ∙ ap (λ (ts : List Term). ts ++
 pub loop-term-preserved : goal.loop-term-preserved
 loop-term-preserved c =
     map_next (on_term (turned c.args.flip)) c.args.terms.now c.loop-term.term-index c.term-item.result (c.args.head ∷ []) c.loop-term.all.items c.push-in-loop-term.new.self.items _ (omega arith) c.term-item.is c.loop-term.invariant c.in_ok-push-2.ensures.items
-    (c.weighing.ensures ∙ ap (λ (n : ℕ). let t : Term = record { coef = pos n; lit = c.turned.result } in t) c.weight.ensures ∙ ap (λ (l : Lit). let t : Term = record { coef = pos (unsigned_abs c.term-item.result.coef); lit = l } in t) c.turned.ensures)
+    c.turned.ensures
 
 pub returns : goal.returns
 returns c = map_last (on_term (turned c.args.flip)) c.args.terms.now c.loop-term.term-index (c.args.head ∷ []) c.loop-term.all.items (omega arith) c.loop-term.invariant

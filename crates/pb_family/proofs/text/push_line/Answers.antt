@@ -1,9 +1,8 @@
-use Rattle.std.proofs.Common.{◌≡◌, ◌++◌, ◌∙◌, ℕ, List, ap, append_assoc, append-nil, arith, length, sym, take, subst}
-use Rattle.std.proofs.Math.Seq.{take-append_seam}
+use Rattle.std.proofs.Common.{◌≡◌, ◌++◌, ℕ, List, append-nil, arith, length, sym, take, subst}
 use Rattle.std.specs.Prelude.{codes}
 use Rattle.std.specs.List.{flat_map}
 use Rattle.pb_family.specs.ClauseText.{literal_text}
-use Rattle.pb_family.proofs.Fronts.{still_before}
+use Rattle.pb_family.proofs.Fronts.{appended_all, appended_front, still_before}
 use Rattle.pb_family.proofs.Gathered.{flat_next, flat_last}
 use Rattle.pb_family.proofs.text.push_line.Goals as goal
 
@@ -22,20 +21,10 @@ loop-lit-preserved c =
     flat_next (λ lit. literal_text lit ++ codes " ") c.args.clause.now c.loop-lit.lit-index c.lit-item.result c.lit-item.result c.args.out.now.items c.loop-lit.out.items c.push_literal.new.out.items (omega arith) c.lit-item.is
     c.loop-lit.invariant c.in_ok-push_literal.ensures.ok
 
-pub returns-in_err-extend_from_slice-clause-before : goal.returns-in_err-extend_from_slice-clause-before
-returns-in_err-extend_from_slice-clause-before c =
-    let start = c.args.out.now.items in
-    ap (take (length start)) (c.in_err-extend_from_slice.ensures.items ∙ c.loop-lit.invariant) ∙ take-append_seam start _
-
 pub returns-clause-ok : goal.returns-clause-ok
 returns-clause-ok c =
-    let start = c.args.out.now.items in
-    let words = flat_map (λ lit. literal_text lit ++ codes " ") c.args.clause.now in
-    let said = flat_last (λ lit. literal_text lit ++ codes " ") c.args.clause.now c.loop-lit.lit-index start c.loop-lit.out.items (omega arith) c.loop-lit.invariant in
-    c.in_ok-extend_from_slice.ensures.items ∙ ap (λ (xs : List ℕ). xs ++ codes "0\n") said ∙ append_assoc start words (codes "0\n")
+    let said = flat_last (λ lit. literal_text lit ++ codes " ") c.args.clause.now c.loop-lit.lit-index c.args.out.now.items c.loop-lit.out.items (omega arith) c.loop-lit.invariant in
+    appended_all c.extend_from_slice.result c.args.out.now.items _ (codes "0\n") c.loop-lit.out.items c.extend_from_slice.new.self.items said c.extend_from_slice.ensures.items
 
 pub returns-clause-before : goal.returns-clause-before
-returns-clause-before c =
-    let start = c.args.out.now.items in
-    let more = flat_map (λ lit. literal_text lit ++ codes " ") (take c.loop-lit.lit-index c.args.clause.now) in
-    ap (take (length start)) (c.in_ok-extend_from_slice.ensures.items ∙ ap (λ (xs : List ℕ). xs ++ codes "0\n") c.loop-lit.invariant ∙ append_assoc start more (codes "0\n")) ∙ take-append_seam start _
+returns-clause-before c = appended_front c.extend_from_slice.result c.args.out.now.items _ (codes "0\n") c.loop-lit.out.items c.extend_from_slice.new.self.items c.loop-lit.invariant c.extend_from_slice.ensures.items

@@ -2,7 +2,7 @@ use Rattle.std.proofs.Common.{◌≡◌, ◌++◌, take}
 use Rattle.std.specs.Prelude.{map}
 use Rattle.pb_base.specs.declared.literal.Term.{Term}
 use Rattle.pb_steps.specs.declared.op.PolOp.TheVariants.{Weaken}
-use Rattle.pb_family.proofs.claim.push_weakened.Given as goal
+use Rattle.pb_family.proofs.claim.push_closing.Given as goal
 
 abbrev pub invariant-loop-term : goal.invariant-loop-term
-invariant-loop-term l = l.ops.items ≡ l.fn.ops.items ++ map (λ (t : Term). Weaken t.lit.var) (take l.term-index l.terms)
+invariant-loop-term l = l.ops.items ≡ l.fn.ops.items ++ map (λ (t : Term). Weaken t.lit.var) (take l.term-index l.weakened)

@@ -1,8 +1,0 @@
-use Rattle.std.proofs.Common.{◌≡◌, ◌∷◌, [], ◌++◌, take}
-use Rattle.std.specs.Prelude.{flat_map}
-use Rattle.pb_steps.specs.declared.op.PolOp.TheVariants.{Push}
-use Rattle.pb_derive.specs.Justifications.{push_and_add}
-use Rattle.pb_family.proofs.claim.push_sum.Given as goal
-
-abbrev pub invariant-loop-id : goal.invariant-loop-id
-invariant-loop-id l = l.ops.items ≡ (l.fn.ops.items ++ Push l.first ∷ []) ++ flat_map push_and_add (take l.id-index l.more)
