@@ -24,16 +24,8 @@ pub struct Summands<'a> {
     ghost fits: { id + 4 * length levels.now < 2 ^ 62 },
 }
 
-/// Those of a block.
-#[derive(Clone, Copy)]
-struct Block<'a> {
-    of: Summands<'a>,
-    ghost some: { 1 ≤ length of.levels.now },
-    ghost few: { length of.levels.now ≤ 2 ^ 16 },
-}
-
 impl<'a> Summands<'a> {
-    ghost use Rattle.std.specs.Prelude.{◌≡◌, ◌≤◌, ◌<◌, ◌+◌, ◌*◌, ◌∷◌, drop, length, take};
+    ghost use Rattle.std.specs.Prelude.{◌≡◌, ◌≤◌, ◌<◌, ◌+◌, ◌*◌, ◌^◌, ◌∷◌, drop, length, take};
     ghost use Rattle.pb_adder.specs.AdderSteps.{blocks};
 
     /// Those before a place, and the others.
@@ -55,16 +47,16 @@ impl<'a> Summands<'a> {
     }
 
     /// Those of the first block, and the others.
-    fn first_block(self) -> (Block<'a>, Self)
+    fn first_block(self) -> (Self, Self)
         requires { 0 < length self.levels.now }
-        ensures split { blocks self.entry.levels.now ≡ result.0.of.levels.now ∷ blocks result.1.levels.now }
-        ensures size { length result.0.of.levels.now + length result.1.levels.now ≡ length self.entry.levels.now }
-        ensures id { result.0.of.id ≡ self.entry.id }
-        ensures later { result.1.id ≡ self.entry.id + 4 * length result.0.of.levels.now }
+        ensures split { blocks self.entry.levels.now ≡ result.0.levels.now ∷ blocks result.1.levels.now }
+        ensures some { 1 ≤ length result.0.levels.now }
+        ensures few { length result.0.levels.now ≤ 2 ^ 16 }
+        ensures size { length result.0.levels.now + length result.1.levels.now ≡ length self.entry.levels.now }
+        ensures id { result.0.id ≡ self.entry.id }
+        ensures later { result.1.id ≡ self.entry.id + 4 * length result.0.levels.now }
     {
-        let (of, later) = self.split_at(BLOCK.min(self.levels.len()));
-        let block = Block { of };
-        (block, later)
+        self.split_at(BLOCK.min(self.levels.len()))
     }
 }
 
@@ -114,19 +106,23 @@ fn push_tree(ops: &mut Vec<PolOp>, height: u32, of: Summands) -> Result<(), Allo
 }
 
 /// The step of a block.
-fn sum_step(alloc: Global, block: Block, running: u64) -> Result<Step, AllocError>
-    ensures { IfOk result (λ step. step ≡ Pol (sum_ops block.entry.of.id block.entry.of.levels.now running)) }
+fn sum_step(alloc: Global, block: Summands, running: u64) -> Result<Step, AllocError>
+    requires some { 1 ≤ length block.levels.now }
+    requires few { length block.levels.now ≤ 2 ^ 16 }
+    ensures { IfOk result (λ step. step ≡ Pol (sum_ops block.entry.id block.entry.levels.now running)) }
 {
     let mut ops = Vec::new(alloc);
-    push_tree(&mut ops, HEIGHT, block.of)?;
+    push_tree(&mut ops, HEIGHT, block)?;
     ops.extend_from_slice(&[PolOp::Push(running), PolOp::Add])?;
     Ok(Step::Pol(PolOps::from_vec(ops)))
 }
 
 /// Hands over the sum of a block.
-fn derive_sum<T: StepSink>(alloc: Global, block: Block, running: u64, sink: &mut T) -> SinkResult
+fn derive_sum<T: StepSink>(alloc: Global, block: Summands, running: u64, sink: &mut T) -> SinkResult
+    requires some { 1 ≤ length block.levels.now }
+    requires few { length block.levels.now ≤ 2 ^ 16 }
     requires room { (T.state sink.old).next + 1 < 2 ^ 62 }
-    ensures { HandsSteps (Pol (sum_ops block.entry.of.id block.entry.of.levels.now running) ∷ []) result (T.state sink.old) (T.state sink.new) }
+    ensures { HandsSteps (Pol (sum_ops block.entry.id block.entry.levels.now running) ∷ []) result (T.state sink.old) (T.state sink.new) }
 {
     let step = sum_step(alloc, block, running)?;
     sink.step(&step)
@@ -135,13 +131,15 @@ fn derive_sum<T: StepSink>(alloc: Global, block: Block, running: u64, sink: &mut
 /// Hands over the sum of a block, and that the one before it goes.
 fn derive_later_sum<T: StepSink>(
     alloc: Global,
-    block: Block,
+    block: Summands,
     running: u64,
     sink: &mut T,
 ) -> SinkResult
+    requires some { 1 ≤ length block.levels.now }
+    requires few { length block.levels.now ≤ 2 ^ 16 }
     requires given { running < 2 ^ 62 }
     requires room { (T.state sink.old).next + 1 < 2 ^ 62 }
-    ensures { HandsSteps (Pol (sum_ops block.entry.of.id block.entry.of.levels.now running) ∷ deletion_steps 1 running 1) result (T.state sink.old) (T.state sink.new) }
+    ensures { HandsSteps (Pol (sum_ops block.entry.id block.entry.levels.now running) ∷ deletion_steps 1 running 1) result (T.state sink.old) (T.state sink.new) }
 {
     derive_sum(alloc, block, running, sink)?;
     derive_deletion(alloc, running, 1, sink)

@@ -19,7 +19,7 @@ derive_later_sum-requires-clause-room g c = omega (arith, c.loop-rest.invariant.
 pub returns-in_err-derive_later_sum-clause-steps : goal.returns-in_err-derive_later_sum-clause-steps
 returns-in_err-derive_later_sum-clause-steps g c =
     let rest = c.loop-rest.rest in
-    let block = c.first_block.result.0.of in
+    let block = c.first_block.result.0 in
     block_fault rest.id c.loop-rest.running rest.levels.now block.levels.now c.first_block.result.1.levels.now c.first_block.ensures.split c.loop-rest.invariant.steps c.from_residual.result _ (g.T.StepSink.state c.derive_later_sum.new.sink) c.from_residual.ensures.1
     block.id c.first_block.ensures.id c.in_err-derive_later_sum.ensures
 
@@ -37,9 +37,9 @@ loop-rest-preserved g c =
     let same : now.next ≡ next = sym c.next_id-next.ensures in
     let one : now.next + 1 ≡ after.next = omega (arith, handed.ids) in
     record {
-      steps = block_taken rest.id running rest.levels.now block.of.levels.now later.levels.now split c.loop-rest.invariant.steps later.id next after same c.first_block.ensures.later block.of.id c.first_block.ensures.id handed;
-      last = c.loop-rest.invariant.last ∙ last_moved running now.next next after.next rest.levels.now block.of.levels.now later.levels.now split same one;
-      next = omega (arith, one, c.loop-rest.invariant.next, c.first_block.ensures.size, block.some);
+      steps = block_taken rest.id running rest.levels.now block.levels.now later.levels.now split c.loop-rest.invariant.steps later.id next after same c.first_block.ensures.later block.id c.first_block.ensures.id handed;
+      last = c.loop-rest.invariant.last ∙ last_moved running now.next next after.next rest.levels.now block.levels.now later.levels.now split same one;
+      next = omega (arith, one, c.loop-rest.invariant.next, c.first_block.ensures.size, c.first_block.ensures.some);
       given = (let h : next < 2 ^ 62 = omega (arith, same, c.loop-rest.invariant.next, c.loop-rest-test.true, c.requires.room) in h);
     }
 

@@ -10,5 +10,5 @@ returns-in_err-step g c = steps_lack_first _ (g.T.StepSink.state c.args.sink.now
 
 pub returns : goal.returns
 returns g c =
-    steps_same c.step.result (c.in_ok-step.step ∷ []) (Pol (sum_ops c.args.block.of.id c.args.block.of.levels.now c.args.running) ∷ []) (g.T.StepSink.state c.args.sink.now) (g.T.StepSink.state c.step.new.self)
+    steps_same c.step.result (c.in_ok-step.step ∷ []) (Pol (sum_ops c.args.block.id c.args.block.levels.now c.args.running) ∷ []) (g.T.StepSink.state c.args.sink.now) (g.T.StepSink.state c.step.new.self)
     (ap (λ (s : Step). s ∷ []) c.in_ok-step.ensures) c.step.ensures.hands

@@ -25,21 +25,21 @@ pub first_block-requires : goal.first_block-requires
 first_block-requires g c = omega (arith, c.if-of-eq0.false)
 
 pub derive_sum-requires : goal.derive_sum-requires
-derive_sum-requires g c = record { room = omega (arith, c.if-of-eq0.false, c.requires.room) }
+derive_sum-requires g c = record { some = c.first_block.ensures.some; few = c.first_block.ensures.few; room = omega (arith, c.if-of-eq0.false, c.requires.room) }
 
 -- the first block, and the others
 split : (g : Over) (c : After-first_block g) (next : ℕ)
-    → (let block = c.first_block.result.0.of in let later = c.first_block.result.1 in
+    → (let block = c.first_block.result.0 in let later = c.first_block.result.1 in
     sum_steps c.args.of.id c.args.running next (blocks c.args.of.levels.now) ≡ Pol (sum_ops block.id block.levels.now c.args.running) ∷ later_sums later.id next (next + 1) (blocks later.levels.now))
 split g c next =
-    let block = c.first_block.result.0.of in
+    let block = c.first_block.result.0 in
     let later = c.first_block.result.1 in
     first_sums c.args.of.id block.id later.id c.args.running next c.args.of.levels.now block.levels.now later.levels.now c.first_block.ensures.split c.first_block.ensures.id c.first_block.ensures.later
 
 pub returns-in_err-derive_sum-clause-steps : goal.returns-in_err-derive_sum-clause-steps
 returns-in_err-derive_sum-clause-steps g c =
     let old = g.T.StepSink.state c.args.sink.now in
-    let block = c.first_block.result.0.of in
+    let block = c.first_block.result.0 in
     let later = c.first_block.result.1 in
     part_stopped c.from_residual.result _ (sum_steps c.args.of.id c.args.running old.next (blocks c.args.of.levels.now)) (Pol (sum_ops block.id block.levels.now c.args.running) ∷ []) (later_sums later.id old.next (old.next + 1) (blocks later.levels.now)) old _ c.from_residual.ensures.1
     (split g (goal.at.returns-in_err-derive_sum-clause-steps g c).After-first_block old.next) c.in_err-derive_sum.ensures
@@ -48,14 +48,14 @@ pub derive_later_sums-requires-clause-given : goal.derive_later_sums-requires-cl
 derive_later_sums-requires-clause-given g c = omega (arith, c.next_id-next.ensures, c.if-of-eq0.false, c.requires.room)
 
 pub derive_later_sums-requires-clause-room : goal.derive_later_sums-requires-clause-room
-derive_later_sums-requires-clause-room g c = omega (arith, c.in_ok-derive_sum.ensures.ids, c.first_block.ensures.size, c.first_block.result.0.some, c.requires.room)
+derive_later_sums-requires-clause-room g c = omega (arith, c.in_ok-derive_sum.ensures.ids, c.first_block.ensures.size, c.first_block.ensures.some, c.requires.room)
 
 pub returns-clause-steps : goal.returns-clause-steps
 returns-clause-steps g c =
     let old = g.T.StepSink.state c.args.sink.now in
     let mid = g.T.StepSink.state c.derive_sum.new.sink in
     let after = g.T.StepSink.state c.derive_later_sums.new.sink in
-    let block = c.first_block.result.0.of in
+    let block = c.first_block.result.0 in
     let later = c.first_block.result.1 in
     let taken = c.in_ok-derive_sum.ensures in
     let one : mid.next ≡ old.next + 1 = omega (arith, taken.ids) in
@@ -70,4 +70,4 @@ returns-clause-last g c =
     let mid = g.T.StepSink.state c.derive_sum.new.sink in
     let one : old.next + 1 ≡ mid.next = omega (arith, c.in_ok-derive_sum.ensures.ids) in
     subst (λ (n : ℕ). IfOk c.derive_later_sums.result (λ last. last ≡ n))
-    (sym (last_moved c.args.running old.next c.next_id-next.result mid.next c.args.of.levels.now c.first_block.result.0.of.levels.now c.first_block.result.1.levels.now c.first_block.ensures.split (sym c.next_id-next.ensures) one)) c.derive_later_sums.ensures.last
+    (sym (last_moved c.args.running old.next c.next_id-next.result mid.next c.args.of.levels.now c.first_block.result.0.levels.now c.first_block.result.1.levels.now c.first_block.ensures.split (sym c.next_id-next.ensures) one)) c.derive_later_sums.ensures.last
