@@ -1,9 +1,8 @@
 -- A network that is built level by level.
 use Rattle.std.proofs.Common.{◌≡◌, ◌<◌, ◌≤◌, ◌+◌, ◌-◌, ◌*◌, ◌++◌, ◌∙◌, ℕ, List, [], ◌∷◌, zero, suc, length, take, drop, sym, ap, subst, arith, length-append, append_assoc, append-nil, ◌/◌, replicate, refl}
-use Rattle.std.specs.Prelude.{All, IfOk, IsErr, Option, Result, map}
+use Rattle.std.specs.Prelude.{All, Option, map}
 use Rattle.std.proofs.Math.Seq.{drop-append_seam}
 use Rattle.std.proofs.lemmas.List.{length-drop, map-append, take_all, length-replicate}
-use Rattle.std.proofs.lemmas.Result.{IfOk-from_err}
 use Rattle.std.proofs.lemmas.List.Elements.{All-nil, All-cons, All-append}
 use Rattle.pb_base.specs.declared.literal.Term.{Term}
 use Rattle.pb_norm.specs.BoundedSums.{BoundedSum, IsProper, sum_within}
@@ -158,10 +157,6 @@ module _ {ts : List Weighted} {levels level below : ℕ} {gates : List Gate} {he
 -- the adders from a number on
 pub slice_whole : (below : ℕ) (gates slice : List Gate) → slice ≡ gates → take (length slice - below) (drop below slice) ≡ drop below gates
 slice_whole below gates slice same = take_all (length slice - below) (drop below slice) (omega (arith, length-drop below slice)) ∙ ap (λ (gs : List Gate). drop below gs) same
-
--- nothing is said of a network that could not be built
-pub when_failed : {T E : Type 0} (r : Result T E) → IsErr r → (P : T → Type 0) → IfOk r P
-when_failed r failed P = IfOk-from_err r P failed
 
 -- what a sum keeps when its terms and its bound are copied
 abbrev pub sum_of : List Weighted → ℕ → BoundedSum
