@@ -1,4 +1,5 @@
-use Rattle.std.proofs.Common.{◌≡◌, ◌+◌, ◌*◌, ◌∙◌, ℕ, List, [], ◌∷◌, ap, refl, arith}
+use Rattle.std.proofs.Common.{◌≡◌, ◌<◌, ◌+◌, ◌*◌, ◌^◌, ◌∙◌, ℕ, List, [], ◌∷◌, ap, refl, arith}
+use Rattle.std.proofs.Math.Nat.{mul-le-mul_left}
 use Rattle.std.specs.List.{range_with_len}
 use Rattle.pb_steps.specs.declared.step.Step.{Step}
 use Rattle.pb_steps.specs.declared.step.Step.TheVariants.{Del}
@@ -16,8 +17,21 @@ made width id n = record {
   ids = λ next k. refl;
 }
 
+-- so many ids behind those of k steps
+within : (id width count k : ℕ) → k < count → id + width * count < 2 ^ 64 → id + width * k + width < 2 ^ 64
+within id width count k more fits = omega (arith, mul-le-mul_left {m = k + 1} {n = count} width (omega arith))
+
 pub loop-k-init : goal.loop-k-init
 loop-k-init g c = looping_from (piece c.args.width c.args.id) 0 c.args.count (g.T.StepSink.state c.args.sink.now)
+
+pub overflow_mul-width : goal.overflow_mul-width
+overflow_mul-width g c = omega (arith, within c.args.id c.args.width c.args.count c.loop-k.k (omega arith) c.requires.fits)
+
+pub overflow_add-id : goal.overflow_add-id
+overflow_add-id g c = omega (arith, within c.args.id c.args.width c.args.count c.loop-k.k (omega arith) c.requires.fits)
+
+pub derive_deletion-requires-clause-fits : goal.derive_deletion-requires-clause-fits
+derive_deletion-requires-clause-fits g c = within c.args.id c.args.width c.args.count c.loop-k.k (omega arith) c.requires.fits
 
 pub returns-in_err-derive_deletion : goal.returns-in_err-derive_deletion
 returns-in_err-derive_deletion g c =
