@@ -2,8 +2,10 @@
 use Rattle.std.proofs.Common.{◌≡◌, ◌+◌, ℕ, suc, List, [], ◌∷◌, length, map, get_or, refl, ap, ◌∙◌, arith}
 use Rattle.std.specs.Prelude.{slice_index}
 use Rattle.std.specs.List.{range_with_len}
+use Rattle.pb_base.specs.declared.literal.Lit.{Lit}
 use Rattle.pb_norm.specs.Constraints.{Weighted}
 use Rattle.pb_derive.specs.Reifications.{Reification, reification_steps}
+use Rattle.pb_family.specs.Fresh.{fresh_at}
 use Rattle.pb_family.proofs.Looping.{ArePieces}
 use Rattle.pb_family.proofs.Sequence.{reification_ids, reification_piece, reification_pieces}
 use Rattle.pb_tree.specs.TreeSteps.{reifications_from}
@@ -30,6 +32,6 @@ outputs_are first ts us = record {
 }
 
 -- as the code names its variable and its value
-pub output_named : (first : ℕ) (ts : List Weighted) (us : List ℕ) (id k var least : ℕ) → var ≡ first + k → least ≡ slice_index us k
-    → reification_steps id (record { var = var; sum = ts; least = least } ∷ []) ≡ reification_piece (output_reification first ts us) id k
-output_named first ts us id k var least at is = λ i. reification_steps id (record { var = at i; sum = ts; least = is i } ∷ [])
+pub output_named : (first : ℕ) (ts : List Weighted) (us : List ℕ) (id k : ℕ) (l : Lit) (least : ℕ) → l ≡ fresh_at first k → least ≡ slice_index us k
+    → reification_steps id (record { var = l.var; sum = ts; least = least } ∷ []) ≡ reification_piece (output_reification first ts us) id k
+output_named first ts us id k l least at is = λ i. reification_steps id (record { var = (at i).var; sum = ts; least = is i } ∷ [])

@@ -1,5 +1,4 @@
-use Rattle.std.proofs.Common.{List, length, ap, subst, arith}
-use Rattle.pb_base.specs.declared.literal.Lit.{Lit}
+use Rattle.std.proofs.Common.{List, length, subst, arith}
 use Rattle.pb_norm.specs.Constraints.{weights}
 use Rattle.pb_steps.specs.declared.step.Step.{Step}
 use Rattle.pb_family.specs.StepSinks.{TakesSteps}
@@ -23,7 +22,7 @@ returns-in_err-derive_reification g c =
     let ts = weights c.args.terms.now in
     let now = g.T.StepSink.state c.loop-place.sink in
     let after = g.T.StepSink.state c.derive_reification.new.sink in
-    let same = output_named c.args.first ts us now.next c.loop-place.place _ _ (ap (λ (l : Lit). l.var) c.fresh_at-var.ensures) c.value.ensures in
+    let same = output_named c.args.first ts us now.next c.loop-place.place _ _ c.fresh_at-var.ensures c.value.ensures in
     pieces_fault (outputs_are c.args.first ts us) c.loop-place.invariant c.from_residual.result _ after (omega (arith, c.count-place-end.ensures)) c.from_residual.ensures.1
     (stopped_as same c.in_err-derive_reification.ensures)
 
@@ -33,7 +32,7 @@ loop-place-preserved g c =
     let ts = weights c.args.terms.now in
     let now = g.T.StepSink.state c.loop-place.sink in
     let after = g.T.StepSink.state c.derive_reification.new.sink in
-    let same = output_named c.args.first ts us now.next c.loop-place.place _ _ (ap (λ (l : Lit). l.var) c.fresh_at-var.ensures) c.value.ensures in
+    let same = output_named c.args.first ts us now.next c.loop-place.place _ _ c.fresh_at-var.ensures c.value.ensures in
     pieces_next (outputs_are c.args.first ts us) c.loop-place.invariant after (omega (arith, c.count-place-end.ensures))
     (subst (λ (ss : List Step). TakesSteps ss now after) same c.in_ok-derive_reification.ensures)
 
