@@ -5,6 +5,7 @@ ghost use Rattle.pb_norm.specs.BoundedSums.{vars_of};
 ghost use Rattle.pb_norm.specs.ClauseForm.{one_of, distinct};
 ghost use Rattle.pb_norm.specs.Constraints.{weights};
 ghost use Rattle.pb_steps.specs.declared.op.PolOp.TheVariants.{Div, Push, Weaken};
+ghost use Rattle.pb_steps.specs.declared.step.Step.{Step};
 ghost use Rattle.pb_steps.specs.declared.step.Step.TheVariants.{Out, Pol};
 ghost use Rattle.pb_derive.specs.Justifications.{adding, push_and_add, widest};
 ghost use Rattle.pb_derive.specs.Rups.{by_rup};
@@ -108,11 +109,12 @@ pub fn derive_sum<T: StepSink>(alloc: Global, ids: &[u64], sink: &mut T) -> Sink
     sink.step(&Step::Pol(PolOps::from_vec(ops)))
 }
 
-// Hands over a clause's step, and puts the clause out.
-fn derive_and_put_out<T: StepSink>(step: Step, sink: &mut T) -> SinkResult
+// Hands over a clause's step, if memory sufficed for it, and puts the clause out.
+fn derive_and_put_out<T: StepSink>(made: Result<Step, AllocError>, sink: &mut T) -> SinkResult
     requires few { (T.state sink.old).next + 1 < 2 ^ 62 }
-    ensures { HandsSteps (step ∷ Out (T.state sink.old).next ∷ []) result (T.state sink.old) (T.state sink.new) }
+    ensures { (shown : Step) → IfOk made (λ step. step ≡ shown) → HandsSteps (shown ∷ Out (T.state sink.old).next ∷ []) result (T.state sink.old) (T.state sink.new) }
 {
+    let step = made?;
     let id = sink.next_id();
     derive_steps(&step, &Step::Out { id }, sink)
 }
@@ -128,8 +130,7 @@ pub fn derive_claim<T: StepSink>(
     requires few { (T.state sink.old).next + 1 < 2 ^ 62 }
     ensures { HandsSteps (claimed (T.state sink.old).next ids.now (vars_of (weights weakened.now))) result (T.state sink.old) (T.state sink.new) }
 {
-    let step = closing_step(alloc, ids, weakened)?;
-    derive_and_put_out(step, sink)
+    derive_and_put_out(closing_step(alloc, ids, weakened), sink)
 }
 
 /// Hands over that a short clause follows by propagation from the constraints with some ids, and puts it out.
@@ -142,6 +143,5 @@ pub fn derive_propagated<T: StepSink>(
     requires few { (T.state sink.old).next + 1 < 2 ^ 62 }
     ensures { HandsSteps (propagated (T.state sink.old).next ids.now clause.now) result (T.state sink.old) (T.state sink.new) }
 {
-    let shown = propagated_step(alloc, ids, clause)?;
-    derive_and_put_out(shown, sink)
+    derive_and_put_out(propagated_step(alloc, ids, clause), sink)
 }

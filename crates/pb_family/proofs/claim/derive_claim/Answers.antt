@@ -1,5 +1,4 @@
-use Rattle.pb_family.proofs.Deriving.{steps_lack_first}
 use Rattle.pb_family.proofs.claim.derive_claim.Goals as goal
 
-pub returns-in_err-step : goal.returns-in_err-step
-returns-in_err-step g c = steps_lack_first _ (g.T.StepSink.state c.args.sink.now) c.from_residual.result c.from_residual.ensures.1
+pub returns : goal.returns
+returns g c = c.derive_and_put_out.ensures _ c.closing_step.ensures

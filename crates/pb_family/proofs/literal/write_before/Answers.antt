@@ -29,13 +29,6 @@ returns-then-lit-clause-room c = omega (arith, short c.from.result (omega arith)
 pub returns-clause-room : goal.returns-clause-room
 returns-clause-room c = omega (arith, short c.from.result (omega arith))
 
-pub returns-then-lit-clause-written : goal.returns-then-lit-clause-written
-returns-then-lit-clause-written c =
-    let w = c.write_digits-digits in
-    let behind = blank c.args.text.now c.args.end (omega arith) c.requires.high in
-    rw (c.if-lit.true, ← c.index.ensures.value, ← c.from.ensures)
-    (w.ensures.written ∙ ap (λ (xs : List ℕ). decimal c.from.result ++ xs) behind ∙ sym (append_assoc (decimal c.from.result) (32 ∷ []) (drop c.args.end c.args.text.now)))
-
 pub returns-clause-written : goal.returns-clause-written
 returns-clause-written c =
     let w = c.write_digits-digits in

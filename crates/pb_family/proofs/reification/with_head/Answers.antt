@@ -1,19 +1,9 @@
 use Rattle.std.proofs.Common.{◌∙◌, ◌++◌, ◌∷◌, [], List, ap, arith}
-use Rattle.std.proofs.lemmas.Result.{IfOk-from_err}
 use Rattle.pb_base.specs.declared.literal.Term.{Term}
 use Rattle.pb_norm.specs.inner.Kept.{on_term}
 use Rattle.pb_family.specs.inner.Parts.{turned}
 use Rattle.pb_family.proofs.Gathered.{map_next, map_last}
 use Rattle.pb_family.proofs.reification.with_head.Goals as goal
-
-pub returns-in_err-all : goal.returns-in_err-all
-returns-in_err-all c = IfOk-from_err _ _ c.from_residual.ensures.0
-
-pub returns-in_err-push : goal.returns-in_err-push
-returns-in_err-push c = IfOk-from_err _ _ c.from_residual-in_err-push.ensures.0
-
-pub returns-in_err-push-2 : goal.returns-in_err-push-2
-returns-in_err-push-2 c = IfOk-from_err _ _ c.from_residual-in_err-push-2.ensures.0
 
 pub loop-term-init : goal.loop-term-init
 loop-term-init c = c.in_ok-push.ensures.items ∙ ap (λ (ts : List Term). ts ++ c.args.head ∷ []) c.in_ok-all.ensures.items
