@@ -164,7 +164,7 @@ impl<'a, S: ClauseSink> Walk<S> for Clauses<'a> {
         };
         emit_own(self.polarity, &node, sink)?;
         Ok(Placed {
-            part: Outputs::Fresh(Run { first, count }),
+            part: node.own,
             next: parts.next + count,
         })
     }

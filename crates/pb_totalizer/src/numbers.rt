@@ -28,6 +28,7 @@ fn least_partner(i: u64) -> u64
 /// The numbers of the right that one of the left goes with: the least one, and how many they are.
 pub fn numbers(direction: Direction, counts: &Counts, i: u64) -> (u64, u64)
     requires { i ≤ counts.now.left }
+    ensures few { result.0 + result.1 ≤ 2 ^ 32 }
     ensures row { range_with_len result.0 result.1 ≡ numbers_by direction (most_by direction counts.now.cap counts.now.own) counts.now.right i }
     ensures together { (j : ℕ) → result.0 ≤ j → j < result.0 + result.1 → GoTogether direction counts.now.left counts.now.right (most_by direction counts.now.cap counts.now.own) i j }
 {

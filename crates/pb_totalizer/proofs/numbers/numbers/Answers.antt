@@ -4,6 +4,11 @@ use Rattle.pb_totalizer.specs.laws.Limits.{limits_are}
 use Rattle.pb_totalizer.specs.laws.Partners.{partners_are}
 use Rattle.pb_totalizer.proofs.numbers.numbers.Goals as goal
 
+pub returns-in-Up-clause-few : goal.returns-in-Up-clause-few
+returns-in-Up-clause-few c =
+    let n = c.args.counts.now in
+    omega (arith, c.least_partner-low.ensures, c.min.ensures, n.right_within, n.few)
+
 pub returns-in-Up-clause-row : goal.returns-in-Up-clause-row
 returns-in-Up-clause-row c =
     let n = c.args.counts.now in
@@ -16,6 +21,11 @@ returns-in-Up-clause-together c =
     let low = c.least_partner-low.ensures in
     let high = c.min.ensures in
     rw c.in-Up.is (λ j from below. record { left = c.requires; right = omega (arith, high, below); some = omega (arith, low, from); within = omega (arith, high, below, n.left_within) })
+
+pub returns-in-Down-clause-few : goal.returns-in-Down-clause-few
+returns-in-Down-clause-few c =
+    let n = c.args.counts.now in
+    omega (arith, c.min-in-Down.ensures, n.right_within, n.few)
 
 pub returns-in-Down-clause-row : goal.returns-in-Down-clause-row
 returns-in-Down-clause-row c =

@@ -13,6 +13,9 @@ invariant_of-counts g c =
 pub numbers-low-requires : goal.numbers-low-requires
 numbers-low-requires g c = c.requires.within
 
+pub overflow_add-low : goal.overflow_add-low
+overflow_add-low g c = omega (arith, c.loop-place-test.true, c.numbers-low.ensures.few)
+
 pub loop-place-init : goal.loop-place-init
 loop-place-init g c =
     looping_from (justification_piece (λ k. one_beside c.args.direction c.args.node.now c.args.i (c.numbers-low.result.0 + k))) 1 c.numbers-low.result.1 (g.T.StepSink.state c.args.sink.now)

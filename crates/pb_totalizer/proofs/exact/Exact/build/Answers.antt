@@ -10,6 +10,12 @@ use Rattle.pb_totalizer.specs.declared.polarity.Polarity.TheVariants.{Both}
 use Rattle.pb_totalizer.proofs.PartsCounted.{few_clauses}
 use Rattle.pb_totalizer.proofs.exact.Exact.build.Goals as goal
 
+pub size_of-size-requires : goal.size_of-size-requires
+size_of-size-requires c =
+    let same : c.in_ok-terms.terms.items ≡ map unit_term c.args.lits.now = c.in_ok-terms.ensures ∙ ap (map unit_term) c.as_slice.ensures in
+    let long : length c.as_slice-2.result.now ≡ length c.args.lits.now = ap length c.as_slice-2.ensures.value ∙ ap length same ∙ length-map c.args.lits.now unit_term in
+    record { some = omega (arith, long, c.requires.not_all); few = omega (arith, long, c.requires.few); small = omega (arith, c.requires.not_all, c.requires.few) }
+
 pub returns-then-size-budget-clause-over : goal.returns-then-size-budget-clause-over
 returns-then-size-budget-clause-over c =
     let ts = c.in_ok-terms.terms.items in
