@@ -57,6 +57,13 @@ pub has_fewer : (source : Source) (n k : ℕ) → k ≤ n → HasIds source n �
 has_fewer Leaf n k le has = tt
 has_fewer (Fresh id) n k le has = omega (arith, has, le)
 
+-- ids with a last one, by what the place and the last one are
+pub ids_there : (source : Source) {ns ms : List ℕ} {j k m n : ℕ} → ns ≡ ms → ms ≡ ids_at source j ++ m ∷ [] → j ≡ k → m ≡ n → ns ≡ ids_at source k ++ n ∷ []
+ids_there source same is place last = same ∙ is ∙ (λ i. ids_at source (place i) ++ last i ∷ [])
+
+pub some_ids : (ids before : List ℕ) (last : ℕ) → ids ≡ before ++ last ∷ [] → 1 ≤ length ids
+some_ids ids before last is = omega (arith, ap length is, length-append before (last ∷ []))
+
 pub row_length : (cap : ℕ) (left right : Handed) (own : Owned) (i : ℕ) → length (row_given cap left right own i) ≡ length right.values.items
 row_length cap left right own i = length-map-range_with_len (both_at cap left right own i) 0 (length right.values.items)
 

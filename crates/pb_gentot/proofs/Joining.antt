@@ -58,6 +58,10 @@ gathered cap us vs i = vs ++ flat_map (row_of cap vs) (take i us)
 pub gathered_all : (cap : ℕ) (us vs : List ℕ) → SameMembers (vs ++ flat_map (row_of cap vs) us) (sums cap us vs)
 gathered_all cap us vs = same_swapped vs (flat_map (row_of cap vs) us)
 
+-- before the first row
+pub gathered_first : (cap : ℕ) (us vs made : List ℕ) → made ≡ vs → SameMembers made (gathered cap us vs 0)
+gathered_first cap us vs made is = subst (SameMembers made) (is ∙ sym (append-nil vs)) (record { to = λ n h. h; from = λ n h. h })
+
 -- what was gathered so far stands among all sums
 pub gathered_within : (cap : ℕ) (us vs : List ℕ) (i n : ℕ) → Contains (gathered cap us vs i) n → Contains (sums cap us vs) n
 gathered_within cap us vs i n h =

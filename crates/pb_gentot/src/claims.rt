@@ -1,16 +1,18 @@
 //! The clauses of a node, by the constraints that they follow from.
-ghost use Rattle.std.specs.Prelude.{◌≡◌, ◌<◌, ◌+◌, ◌^◌, ◌++◌, ◌∷◌, [], All, Contains, length, slice_index, IfOk};
+ghost use Rattle.std.specs.Prelude.{◌≡◌, ◌≤◌, ◌<◌, ◌+◌, ◌^◌, ◌++◌, ◌∷◌, [], All, Contains, length, slice_index, IfOk};
 ghost use Rattle.pb_family.specs.HandedJustifications.{HandsJustifications};
+ghost use Rattle.pb_gentot.specs.Generalized.{ascending, sums};
 ghost use Rattle.pb_gentot.specs.inner.Ids.{HasIds, ids_at};
-ghost use Rattle.pb_gentot.specs.inner.Sources.{second_of, one_at, ones_given, sum_beside, both_beside, row_beside, pairs_beside, node_beside};
+ghost use Rattle.pb_gentot.specs.inner.Sources.{second_of, one_at, ones_given, sum_beside, both_beside, row_beside, pairs_beside, node_given};
 
 use crate::node_ids::{Handed, NodeIds, Owned, Source};
 use pb_base::Term;
 use pb_family::{SinkResult, StepSink, derive_claim};
+use pb_tree::Parts;
 use std::alloc::{AllocError, Global};
 
 /// Adds the id of the first constraint of the value at a place, if it has one.
-pub fn push_first(ids: &mut Vec<u64>, source: Source, place: usize) -> Result<(), AllocError>
+fn push_first(ids: &mut Vec<u64>, source: Source, place: usize) -> Result<(), AllocError>
     requires { HasIds source place }
     ensures { IfOk result (λ _. ids.new.items ≡ ids.old.items ++ ids_at source place) }
 {
@@ -23,16 +25,19 @@ pub fn push_first(ids: &mut Vec<u64>, source: Source, place: usize) -> Result<()
     }
 }
 
-/// The ids of the constraints by which a value of a part gives one of the node.
-fn one_ids(alloc: Global, part: &Handed, place: usize, own: &Owned) -> Result<Vec<u64>, AllocError>
-    requires within { place < length part.now.values.items }
-    requires has { Contains own.now.values.items (slice_index part.now.values.items place) }
-    ensures { IfOk result (λ ids. ids.items ≡ ids_at part.now.source place ++ second_of own.now (slice_index part.now.values.items place) ∷ []) }
+/// The id of the first constraint of the value at a place of a part, if it has one, and a last one.
+pub fn ids_with(
+    alloc: Global,
+    part: &Handed,
+    place: usize,
+    last: u64,
+) -> Result<Vec<u64>, AllocError>
+    requires { place < length part.now.values.items }
+    ensures { IfOk result (λ ids. ids.items ≡ ids_at part.now.source place ++ last ∷ []) }
 {
-    let second = own.second(part.values[place]);
     let mut ids = Vec::new(alloc);
     push_first(&mut ids, part.source, place)?;
-    ids.push(second)?;
+    ids.push(last)?;
     Ok(ids)
 }
 
@@ -50,7 +55,8 @@ fn derive_one<T: StepSink>(
     requires few { (T.state sink.old).next + 1 < 2 ^ 62 }
     ensures { HandsJustifications (one_at part.now others.now own.now place ∷ []) result (T.state sink.old) (T.state sink.new) }
 {
-    let ids = one_ids(alloc, part, place, own)?;
+    let second = own.second(part.values[place]);
+    let ids = ids_with(alloc, part, place, second)?;
     derive_claim(alloc, ids.as_slice(), others, sink)
 }
 
@@ -135,12 +141,28 @@ fn derive_pairs<T: StepSink>(alloc: Global, node: &NodeIds, sink: &mut T) -> Sin
     Ok(())
 }
 
-/// A node's own clauses.
-pub fn derive_node<T: StepSink>(alloc: Global, node: &NodeIds, sink: &mut T) -> SinkResult
-    requires { (T.state sink.old).next + length (node_beside node.now) < 2 ^ 62 }
-    ensures { HandsJustifications (node_beside node.now) result (T.state sink.old) (T.state sink.new) }
+/// A node's own clauses, over its two parts.
+pub fn derive_node<T: StepSink>(
+    alloc: Global,
+    parts: &Parts<Handed>,
+    own: &Owned,
+    cap: u128,
+    sink: &mut T,
+) -> SinkResult
+    requires left_within { All (λ u. u ≤ cap) parts.now.left.now.values.items }
+    requires right_within { All (λ v. v ≤ cap) parts.now.right.now.values.items }
+    requires made { own.now.values.items ≡ ascending cap (sums cap parts.now.left.now.values.items parts.now.right.now.values.items) }
+    requires small { cap < 2 ^ 101 }
+    requires few { (T.state sink.old).next + length (node_given cap parts.now.left.now parts.now.lefts.now parts.now.right.now parts.now.rights.now own.now) < 2 ^ 62 }
+    ensures { HandsJustifications (node_given cap parts.now.left.now parts.now.lefts.now parts.now.right.now parts.now.rights.now own.now) result (T.state sink.old) (T.state sink.new) }
 {
-    derive_ones(alloc, node.left, node.rights, node.own, sink)?;
-    derive_ones(alloc, node.right, node.lefts, node.own, sink)?;
-    derive_pairs(alloc, node, sink)
+    derive_ones(alloc, parts.left, parts.rights, own, sink)?;
+    derive_ones(alloc, parts.right, parts.lefts, own, sink)?;
+    let node = NodeIds {
+        left: parts.left,
+        right: parts.right,
+        own,
+        cap,
+    };
+    derive_pairs(alloc, &node, sink)
 }

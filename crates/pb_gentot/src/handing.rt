@@ -7,7 +7,7 @@ ghost use Rattle.pb_gentot.specs.inner.Sources.{IsHanded, part_justifications};
 
 use crate::claims::derive_node;
 use crate::leaf::leaf_values;
-use crate::node_ids::{Handed, NodeIds, Owned, Source};
+use crate::node_ids::{Handed, Owned, Source};
 use crate::ranked::ranked_over;
 use crate::whole::Whole;
 use pb_base::Term;
@@ -103,15 +103,7 @@ impl<'a, T: StepSink> Walk<T> for Claims<'a> {
         let cap = self.whole.bound + 1;
         let id = self.id + 2 * parts.next;
         let own = node_of_parts(alloc, parts.left, parts.right, id, cap)?;
-        let node = NodeIds {
-            left: parts.left,
-            lefts: parts.lefts,
-            right: parts.right,
-            rights: parts.rights,
-            own: &own,
-            cap,
-        };
-        derive_node(alloc, &node, sink)?;
+        derive_node(alloc, parts, &own, cap, sink)?;
         let next = parts.next + own.values.len() as u64;
         let part = Handed {
             values: own.values,

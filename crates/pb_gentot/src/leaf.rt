@@ -5,7 +5,6 @@ ghost use Rattle.pb_tree.specs.Tree.{tree_of};
 ghost use Rattle.pb_tree.specs.Scheme.{values};
 ghost use Rattle.pb_gentot.specs.Generalized.{generalized};
 
-use crate::sets::single;
 use pb_base::Term;
 use std::alloc::{AllocError, Global};
 
@@ -16,5 +15,8 @@ pub fn leaf_values(alloc: Global, terms: &[Term], bound: u128) -> Result<Vec<u12
     ensures { IfOk result (λ made. made.items ≡ values (generalized bound) (tree_of (weights terms.now))) }
 {
     let cap = bound + 1;
-    single(alloc, terms[0].weight().min(cap))
+    let value = terms[0].weight().min(cap);
+    let mut values = Vec::new(alloc);
+    values.push(value)?;
+    Ok(values)
 }

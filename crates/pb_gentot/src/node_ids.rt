@@ -7,7 +7,6 @@ ghost use Rattle.pb_gentot.specs.inner.OneProof.{HasIds-prop, Rising-prop};
 ghost use Rattle.pb_gentot.specs.inner.Ranked.{AreRanks};
 
 use crate::ranks::Ranks;
-use pb_base::Term;
 
 /// Where the outputs of a part have their constraints: a leaf has none, else the first one's have an id and the next.
 #[derive(Clone, Copy)]
@@ -36,13 +35,11 @@ pub struct Owned {
     ghost ranked: { AreRanks ranks values.items },
 }
 
-/// A node, its parts with their terms, and the greatest value that there is.
+/// A node, its parts, and the greatest value that there is.
 #[derive(Clone, Copy)]
 pub struct NodeIds<'a> {
     pub left: &'a Handed,
-    pub lefts: &'a [Term],
     pub right: &'a Handed,
-    pub rights: &'a [Term],
     pub own: &'a Owned,
     pub cap: u128,
     ghost left_within: { All (λ u. u ≤ cap) left.now.values.items },

@@ -89,15 +89,6 @@ pub fn join_values(
     Ok(Some(made))
 }
 
-/// The one value of a leaf.
-pub fn single(alloc: Global, value: u128) -> Result<Vec<u128>, AllocError>
-    ensures { IfOk result (λ made. made.items ≡ value ∷ []) }
-{
-    let mut values = Vec::new(alloc);
-    values.push(value)?;
-    Ok(values)
-}
-
 /// The values of a node over two parts, where they are no more than the variables that there can be.
 pub fn values_over(
     alloc: Global,

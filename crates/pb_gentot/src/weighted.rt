@@ -4,13 +4,14 @@ ghost use Rattle.pb_norm.specs.Constraints.{weight, weights};
 ghost use Rattle.pb_norm.specs.BoundedSums.{IsProper, sum_within};
 ghost use Rattle.pb_gentot.specs.Generalized.{generalized_clauses, generalized_fresh, generalized_size};
 
-use crate::derivation::derive_weighted;
+use crate::derivation::Bounded;
 use crate::measure::measure;
 use crate::tree::emit_whole;
 use crate::whole::Whole;
 use pb_base::{NoMemory, Term};
 use pb_family::{Built, ClauseSink, Derive, Family, SinkResult, StepSink, Strong};
 use pb_norm::AtMost;
+use pb_tree::derive_along;
 use std::alloc::Global;
 
 /// The generalized totalizer of a sum (Joshi, Martins and Manquinho 2015, in one direction): a tree of halves, each node of
@@ -120,7 +121,11 @@ impl Derive for Weighted {
             bound: self.bound,
             first,
         };
-        derive_weighted(alloc, &whole, id, sink)
+        let claims = Bounded {
+            whole: &whole,
+            own: id,
+        };
+        derive_along(alloc, &claims, sink)
     }
 
     ghost derives = { λ f first id db below ready. generalized_derives (sum_within f.terms.items f.bound) f.proper f.light first id db below ready };

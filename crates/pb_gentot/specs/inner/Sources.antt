@@ -77,9 +77,6 @@ row_beside node i = row_given node.cap node.left.now node.right.now node.own.now
 abbrev pub pairs_beside : NodeIds → List Justification
 pairs_beside node = pairs_given node.cap node.left.now node.right.now node.own.now
 
-abbrev pub node_beside : NodeIds → List Justification
-node_beside node = node_given node.cap node.left.now node.lefts.now node.right.now node.rights.now node.own.now
-
 -- of the root, whose sum's own constraint has the id `own`
 abbrev pub root_given : Handed → ℕ → ℕ → Justification
 root_given root cap own = record { clause = []; ids = ids_of root cap ++ own ∷ []; weakened = [] }

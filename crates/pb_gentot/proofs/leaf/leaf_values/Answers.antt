@@ -1,5 +1,4 @@
-use Rattle.std.proofs.Common.{◌≡◌, ◌+◌, ◌∷◌, [], ℕ, List, min, ap, sym, ◌∙◌, subst}
-use Rattle.std.specs.Prelude.{IfOk}
+use Rattle.std.proofs.Common.{◌+◌, ◌++◌, ◌∷◌, [], ℕ, List, min, ap, sym, ◌∙◌}
 use Rattle.std.specs.Int.RustNames.{unsigned_abs}
 use Rattle.pb_base.specs.declared.literal.Term.{Term}
 use Rattle.pb_tree.specs.Scheme.{values}
@@ -10,6 +9,6 @@ use Rattle.pb_gentot.proofs.leaf.leaf_values.Goals as goal
 pub returns : goal.returns
 returns c =
     let cap = c.args.bound + 1 in
-    let value = c.min.ensures ∙ ap (λ (n : ℕ). min n cap) c.weight.ensures ∙ ap (λ (t : Term). min (unsigned_abs t.coef) cap) c.index-terms-0.is in
+    let value = c.min-value.ensures ∙ ap (λ (n : ℕ). min n cap) c.weight.ensures ∙ ap (λ (t : Term). min (unsigned_abs t.coef) cap) c.index-terms-0.is in
     let leaf = sym (leaf_of c.args.terms.now c.index-terms-0.result c.requires.one) in
-    subst (λ (us : List ℕ). IfOk c.single.result (λ made. made.items ≡ us)) (ap (λ (n : ℕ). n ∷ []) value ∙ ap (values (generalized c.args.bound)) leaf) c.single.ensures
+    c.in_ok-push.ensures.items ∙ ap (λ (xs : List ℕ). xs ++ c.min-value.result ∷ []) c.new-values.ensures.items ∙ ap (λ (n : ℕ). n ∷ []) value ∙ ap (values (generalized c.args.bound)) leaf

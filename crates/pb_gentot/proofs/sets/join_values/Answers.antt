@@ -1,7 +1,8 @@
-use Rattle.std.proofs.Common.{◌+◌, ℕ, List, arith, ap, sym, subst}
+use Rattle.std.proofs.Common.{◌+◌, ◌++◌, ℕ, List, arith, ap, sym, ◌∙◌, subst}
+use Rattle.std.proofs.lemmas.Result.{IfOk-from_err}
 use Rattle.pb_gentot.specs.inner.Marks.{MarksOnly}
 use Rattle.pb_gentot.specs.inner.Members.{SameMembers}
-use Rattle.pb_gentot.proofs.Joining.{gathered, gathered_next, gathered_last, gathered_within, same_turned, same_then, values_of, values_more}
+use Rattle.pb_gentot.proofs.Joining.{gathered, gathered_first, gathered_next, gathered_last, gathered_within, same_turned, same_then, values_of, values_more}
 use Rattle.pb_gentot.proofs.Marking.{marks_kept}
 use Rattle.pb_gentot.proofs.sets.join_values.Goals as goal
 use Rattle.pb_gentot.proofs.sets.join_values.Goals.{then-len-kept+else-len-limit, else-len-kept}
@@ -15,6 +16,14 @@ returns-then-len-limit c =
     let more = values_more c.args.cap us vs c.tidy.new.values.items c.requires.left_small c.requires.right_small c.tidy.ensures.rising
     (λ n h. gathered_within c.args.cap us vs (i + 1) n (next.to n (c.tidy.ensures.same.from n h))) in
     omega arith
+
+pub loop-value-init : goal.loop-value-init
+loop-value-init c =
+    let made = c.in_ok-extend_from_slice.ensures.items ∙ ap (λ (xs : List ℕ). xs ++ c.args.right.now) c.new-made.ensures.items in
+    record {
+      same = gathered_first c.args.cap c.args.left.now c.args.right.now c.extend_from_slice.new.self.items made;
+      marked = subst (MarksOnly c.in_ok-seen.seen) (sym made) c.in_ok-seen.ensures;
+    }
 
 pub loop-value-preserved : goal.loop-value-preserved
 loop-value-preserved c =
@@ -54,5 +63,14 @@ returns c =
     let last = gathered_last c.args.cap us vs c.loop-value.made.items c.tidy-2.new.values.items c.loop-value.value-index (omega arith) c.loop-value.invariant.same c.tidy-2.ensures.same in
     (values_of c.args.cap us vs c.tidy-2.new.values.items c.requires.left_small c.requires.right_small c.tidy-2.ensures.rising last, omega arith)
 
-pub push_sums-requires-clause-small : goal.push_sums-requires-clause-small
-push_sums-requires-clause-small c = c.requires.left_small c.loop-value.value-index 0 (omega arith)
+pub push_sums-requires : goal.push_sums-requires
+push_sums-requires c = record { small = c.requires.left_small c.loop-value.value-index 0 (omega arith); others_small = c.requires.right_small; few = c.requires.few; marked = c.loop-value.invariant.marked }
+
+pub returns-in_err-extend_from_slice : goal.returns-in_err-extend_from_slice
+returns-in_err-extend_from_slice c = IfOk-from_err _ _ c.from_residual.ensures.0
+
+pub returns-in_err-seen : goal.returns-in_err-seen
+returns-in_err-seen c = IfOk-from_err _ _ c.from_residual-in_err-seen.ensures.0
+
+pub returns-in_err-push_sums : goal.returns-in_err-push_sums
+returns-in_err-push_sums c = IfOk-from_err _ _ c.from_residual-in_err-push_sums.ensures.0

@@ -1,5 +1,6 @@
 use Rattle.std.proofs.Common.{◌+◌, List, map, refl, arith, Ok}
 use Rattle.std.specs.Prelude.{Result}
+use Rattle.std.proofs.lemmas.Result.{IfOk-from_err}
 use Rattle.pb_norm.specs.Constraints.{weights}
 use Rattle.pb_derive.specs.Claims.{claim_steps}
 use Rattle.pb_derive.specs.Justifications.{Justification, by_justification}
@@ -23,21 +24,20 @@ node_of_parts-requires-clause-room g c =
     let own = node_of c.requires.parts c.requires.suits c.requires.left.values_are c.requires.right.values_are refl in
     omega (arith, own.within, c.args.self.now.ids)
 
-pub returns-in_err-own-clause-hands : goal.returns-in_err-own-clause-hands
-returns-in_err-own-clause-hands g c = steps_lack_first _ (g.T.StepSink.state c.args.sink.now) c.from_residual.result c.from_residual.ensures.1
-
-pub invariant_of-node : goal.invariant_of-node
-invariant_of-node g c = record { left_within = c.requires.left.within; right_within = c.requires.right.within; made = c.in_ok-own.ensures.values; few = omega (arith, c.args.self.now.whole.now.whole.small) }
+pub returns-in_err-own : goal.returns-in_err-own
+returns-in_err-own g c =
+    let no = c.from_residual.ensures.0 in
+    record { hands = steps_lack_first _ (g.T.StepSink.state c.args.sink.now) c.from_residual.result c.from_residual.ensures.1; next = IfOk-from_err _ _ no; leaves = IfOk-from_err _ _ no }
 
 pub derive_node-requires : goal.derive_node-requires
 derive_node-requires g c =
     let parts = c.args.parts.now in
     let self = c.args.self.now in
     let same = own_steps self.whole.now.bound c.requires.parts c.requires.suits.positive self.id parts.left.now parts.right.now c.in_ok-own.own c.requires.left c.requires.right c.in_ok-own.ensures.values c.in_ok-own.ensures.id in
-    omega (arith, same.count, c.requires.room)
+    record { left_within = c.requires.left.within; right_within = c.requires.right.within; made = c.in_ok-own.ensures.values; small = omega (arith, self.whole.now.whole.small); few = omega (arith, same.count, c.requires.room) }
 
-pub returns-in_err-derive_node-clause-hands : goal.returns-in_err-derive_node-clause-hands
-returns-in_err-derive_node-clause-hands g c =
+pub returns-in_err-derive_node : goal.returns-in_err-derive_node
+returns-in_err-derive_node g c =
     let parts = c.args.parts.now in
     let self = c.args.self.now in
     let same = own_steps self.whole.now.bound c.requires.parts c.requires.suits.positive self.id parts.left.now parts.right.now c.in_ok-own.own c.requires.left c.requires.right c.in_ok-own.ensures.values c.in_ok-own.ensures.id in
@@ -45,7 +45,9 @@ returns-in_err-derive_node-clause-hands g c =
     let new = g.T.StepSink.state c.derive_node.new.sink in
     let result = c.from_residual-in_err-derive_node.result in
     let given : List Justification = node_given (self.whole.now.bound + 1) parts.left.now parts.lefts.now parts.right.now parts.rights.now c.in_ok-own.own in
-    steps_same result _ _ old new (same.steps old.next) (steps_stopped result _ (claim_steps old.next (map by_justification given)) old new c.from_residual-in_err-derive_node.ensures.1 c.in_err-derive_node.ensures)
+    let stopped = steps_stopped result _ (claim_steps old.next (map by_justification given)) old new c.from_residual-in_err-derive_node.ensures.1 c.in_err-derive_node.ensures in
+    let no = c.from_residual-in_err-derive_node.ensures.0 in
+    record { hands = steps_same result _ _ old new (same.steps old.next) stopped; next = IfOk-from_err _ _ no; leaves = IfOk-from_err _ _ no }
 
 pub overflow_add-next : goal.overflow_add-next
 overflow_add-next g c =
