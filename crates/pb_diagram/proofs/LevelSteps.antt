@@ -2,7 +2,7 @@
 use Rattle.std.proofs.Common.{◌≡◌, ◌<◌, ◌≤◌, ◌+◌, ◌-◌, ◌++◌, ℕ, List, [], ◌∷◌, length, get_or, drop, leb, ltb, sym, ap, ◌∙◌, subst, arith}
 use Rattle.std.proofs.lemmas.Bool.{cond-true, cond-false, le-leb, lt-ltb, le-ltb}
 use Rattle.std.specs.Prelude.{Result, IsErrAnd}
-use Rattle.std.proofs.lemmas.List.{drop_more}
+use Rattle.std.proofs.lemmas.List.{drop_all, drop_more}
 use Rattle.pb_base.specs.declared.fault.Failed.{Failed}
 use Rattle.pb_base.specs.declared.literal.Lit.{Lit}
 use Rattle.pb_norm.specs.Constraints.{Weighted}
@@ -11,7 +11,7 @@ use Rattle.pb_family.specs.Fresh.{positive_of}
 use Rattle.pb_family.proofs.Taking.{takes_nothing}
 use Rattle.pb_family.specs.Handing.{FailsInClauses, Hands, TakesClauses}
 use Rattle.pb_family.specs.Sinks.{SinkState}
-use Rattle.pb_family.proofs.Emission.{Emitting, emitting_from, emitting_step, hands_fault}
+use Rattle.pb_family.proofs.Emission.{Emitting, emitting_ends, emitting_from, emitting_step, hands_fault}
 use Rattle.pb_diagram.specs.declared.interval.Interval.{Interval}
 use Rattle.pb_diagram.specs.Clauses.{node_at, false_clause, true_clause, level_clauses}
 
@@ -37,6 +37,9 @@ module _ (t : Weighted) (whole first : ℕ) (next : List Interval) (x : ℕ) (no
 
   pub level_starts : {R : Type 0} (a : SinkState R) → Emitting (level_clauses t whole first next x nodes) (left 0) a a
   level_starts a = emitting_from a (ap (λ (n : ℕ). level_clauses t whole first next n nodes) (let same : x ≡ x + 0 = omega arith in same))
+
+  pub level_ends : {R : Type 0} {all : List (List Lit)} {old now : SinkState R} (p : ℕ) → length nodes ≤ p → Emitting all (left p) old now → TakesClauses all old now
+  level_ends {all = all} {old} {now} p past e = emitting_ends (subst (λ (cs : List (List Lit)). Emitting all cs old now) (ap (level_clauses t whole first next (x + p)) (drop_all p nodes past)) e)
 
   at_node : {R : Type 0} {all : List (List Lit)} {old now : SinkState R} (p : ℕ) (d : Interval) → p < length nodes → Emitting all (left p) old now
       → Emitting all (off p (get_or nodes p d) ++ (on p (get_or nodes p d) ∷ left (p + 1))) old now

@@ -14,3 +14,4 @@ pub mod SearchReads
 pub mod SearchSteps
 pub mod SideSteps
 pub mod WholeSteps
+pub mod WantSteps

@@ -12,6 +12,7 @@ use Rattle.pb_derive.specs.Reifications.{Reification, reification_steps}
 use Rattle.pb_family.specs.Derivations.{meant}
 use Rattle.pb_family.specs.StepSinks.{StepState, TakesSteps, StopsInSteps, HandsSteps}
 use Rattle.pb_family.specs.declared.sink.SinkFault.{SinkFault}
+use Rattle.pb_derive.proofs.Opposites.{opposite-twice, weight-opposite}
 use Rattle.pb_family.proofs.Deriving.{Deriving, deriving_from, deriving_as, deriving_step, deriving_ends, steps_fault}
 use Rattle.pb_family.proofs.Sequence.{reification_ids, reifications_ids, reifications_split}
 use Rattle.pb_family.proofs.TermSlices.{weights_from}
@@ -124,9 +125,15 @@ no_reification ts ls i start past = at_drop_all (λ (us : List Weighted). node_r
 
 -- ---- slices
 
-pub turned_from : (ts ns : List Term) (i : ℕ) → weights ns ≡ map opposite (weights ts) → weights (take (length ns - i) (drop i ns)) ≡ map opposite (weights (take (length ts - i) (drop i ts)))
-turned_from ts ns i turned =
-    weights_from ns i i refl ∙ ap (drop i) turned ∙ drop-map opposite i (weights ts) ∙ ap (map opposite) (sym (weights_from ts i i refl))
+negated_from : (ts ns : List Term) (i : ℕ) → weights ns ≡ map opposite (weights ts) → weights (take (length ns - i) (drop i ns)) ≡ map opposite (drop i (weights ts))
+negated_from ts ns i turned = weights_from ns i i refl ∙ ap (drop i) turned ∙ drop-map opposite i (weights ts)
+
+-- the terms from a place on, by the negated ones, and their sum
+pub terms_from : (ts ns : List Term) (i : ℕ) → weights ns ≡ map opposite (weights ts) → map opposite (weights (take (length ns - i) (drop i ns))) ≡ drop i (weights ts)
+terms_from ts ns i turned = ap (map opposite) (negated_from ts ns i turned) ∙ opposite-twice (drop i (weights ts))
+
+pub weight_from : (ts ns : List Term) (i : ℕ) → weights ns ≡ map opposite (weights ts) → weight (weights (take (length ns - i) (drop i ns))) ≡ weight (drop i (weights ts))
+weight_from ts ns i turned = ap weight (negated_from ts ns i turned) ∙ weight-opposite (drop i (weights ts))
 
 pub turned_length : (ts ns : List Term) → weights ns ≡ map opposite (weights ts) → length ns ≡ length ts
 turned_length ts ns turned = omega (arith, ap length turned, length-map ns weighted, length-map ts weighted, length-map (weights ts) opposite)

@@ -1,9 +1,8 @@
 -- What the code of a search reads and changes.
-use Rattle.std.proofs.Common.{◌≡◌, ◌<◌, ◌≤◌, ◌+◌, ◌-◌, ◌^◌, ◌++◌, ◌⊎◌, ℕ, List, [], ◌∷◌, length, get_or, drop, set, replicate, refl, sym, ap, ◌∙◌, subst, arith, inl, inr, true, length-append}
-use Rattle.std.specs.Prelude.{Contains, sum, Option, Some, None, IfSome}
-use Rattle.std.specs.Option.{option_to_list}
-use Rattle.std.proofs.lemmas.List.{get_or-map, length-map, get_or_default}
-use Rattle.std.proofs.lemmas.List.Sums.{sum-map, sum_by-drop_more, sum_by-set, sum_by-take-drop}
+use Rattle.std.proofs.Common.{◌≡◌, ◌<◌, ◌≤◌, ◌+◌, ◌-◌, ◌^◌, ◌++◌, ◌⊎◌, ℕ, List, [], ◌∷◌, length, get_or, drop, take, set, replicate, refl, sym, ap, ◌∙◌, subst, arith, inl, inr, true, length-append, zero, suc}
+use Rattle.std.specs.Prelude.{Contains, sum, Option, None, IfSome}
+use Rattle.std.proofs.lemmas.List.{get_or-map, length-map, get_or_default, take_all, take_more}
+use Rattle.std.proofs.lemmas.List.Sums.{sum-map, sum_by-cons, sum_by-drop_more, sum_by-set, sum_by-take-drop}
 use Rattle.std.proofs.lemmas.Bool.{both_ways}
 use Rattle.pb_norm.specs.BoundedSums.{BoundedSum}
 use Rattle.std.specs.Int.RustNames.{unsigned_abs}
@@ -15,7 +14,7 @@ use Rattle.pb_diagram.specs.Clauses.{node_count}
 use Rattle.pb_diagram.specs.Levels.{coefs_of, levels_of}
 use Rattle.pb_diagram.specs.laws.Search.{nodes_at, before_at, IsPartSearched, IsSearch, IsOff, IsJoined, IsMissing, IsGrown, IsTop, IsSearching, IsSideAt, IsKept, Advanced}
 use Rattle.pb_diagram.specs.laws.SumFacts.{sums-le}
-use Rattle.pb_diagram.proofs.SearchSteps.{some_left, search_starts, search_pushes, next_part, search_inserts, joined_apart}
+use Rattle.pb_diagram.proofs.SearchSteps.{some_left, search_depth, search_starts, search_pushes, next_part, search_inserts, joined_apart}
 use Rattle.pb_diagram.proofs.SearchEnds.{search_ends, search_count}
 
 next_within : (bound : ℕ) (before rest : List ℕ) (nodes : List Interval) → IsPartSearched bound before rest nodes → (h : Interval) → Contains nodes h → (h.low ≤ sum rest) × (h.top ≤ sum rest)
@@ -138,12 +137,11 @@ pub row_read : (known : List (List Interval)) (place : ℕ) (now : List Interval
 row_read known place now read within = read ∙ get_or_default known place now [] within
 
 -- what a pop leaves before the last residue
-pub popped : (wanted less : List ℕ) (n place residue : ℕ) (result : Option ℕ) → wanted ≡ less ++ option_to_list result → result ≡ Some (get_or wanted (n - 1) 0) → n ≡ length wanted → place + 1 ≡ length wanted → residue ≡ get_or wanted place 0
-    → wanted ≡ less ++ residue ∷ []
-popped wanted less n place residue result items value count depth residue_is =
-    let last : n - 1 ≡ place = omega arith in
-    let same : result ≡ Some residue = value ∙ ap (λ (k : ℕ). Some (get_or wanted k 0)) last ∙ ap Some (sym residue_is) in
-    items ∙ ap (λ (o : Option ℕ). less ++ option_to_list o) same
+pub popped : (wanted less : List ℕ) (place residue : ℕ) → less ≡ take (length wanted - 1) wanted → place + 1 ≡ length wanted → residue ≡ get_or wanted place 0 → wanted ≡ less ++ residue ∷ []
+popped wanted less place residue fewer depth residue_is =
+    let last : length wanted - 1 ≡ place = omega arith in
+    let before : less ≡ take place wanted = fewer ∙ ap (λ (n : ℕ). take n wanted) last in
+    sym (take_all (place + 1) wanted (omega arith)) ∙ take_more wanted place 0 (omega arith) ∙ ap (λ (r : ℕ). take place wanted ++ r ∷ []) (sym residue_is) ∙ ap (λ (l : List ℕ). l ++ residue ∷ []) (sym before)
 
 -- one more node is known, and one residue less is wanted
 pub advances : (known : List (List Interval)) (wanted less : List ℕ) (place residue : ℕ) (g : Interval) (more : List Interval) → place < length known → wanted ≡ less ++ residue ∷ [] → IsGrown (nodes_at known place) g more → Advanced true known (set known place more) wanted less
@@ -154,6 +152,10 @@ advances known wanted less place residue g more within split grown =
       found = λ is. (omega arith, omega (arith, ap length split, length-append less (residue ∷ [])));
       wants = λ is_not. absurd (both_ways true is_not refl);
     }
+
+pub none_known : (n : ℕ) → node_count (replicate n []) ≡ 0
+none_known zero = refl
+none_known (suc n) = let less = none_known n in omega (arith, sum_by-cons (length {A = Interval}) [] (replicate n []))
 
 pub some_terms : (terms : List Term) (ts : List Weighted) (bound : ℕ) → weights terms ≡ ts → bound < weight ts → 0 < length terms
 some_terms [] ts bound same above = let none = ap weight same in absurd (omega arith)
@@ -178,6 +180,10 @@ starts c known left terms t same is above none left_is =
 pub ended : (c : BoundedSum) (known : List (List Interval)) (wanted : List ℕ) (left : ℕ) → IsSearching c known wanted left → length wanted ≡ 0 → known ≡ levels_of c
 ended c known [] left searching none = search_ends c.bound (coefs_of c.terms) known searching.state
 ended c known (r ∷ wanted) left searching none = absurd (omega arith)
+
+-- not more residues are wanted than there are levels
+pub deep : (c : BoundedSum) (known : List (List Interval)) (wanted : List ℕ) (left : ℕ) → IsSearching c known wanted left → length wanted ≤ length c.terms
+deep c known wanted left searching = omega (arith, search_depth c.bound (coefs_of c.terms) known wanted searching.state, length-map c.terms (λ t. t.coef))
 
 pub counted : (c : BoundedSum) (known : List (List Interval)) (wanted : List ℕ) (left : ℕ) → IsSearching c known wanted left → node_count known ≤ node_count (levels_of c)
 counted c known wanted left searching = search_count c.bound (coefs_of c.terms) known wanted searching.state

@@ -3,3 +3,4 @@ pub mod Layers
 pub mod Links
 pub mod Nodes
 pub mod NodesAt
+pub mod Wants

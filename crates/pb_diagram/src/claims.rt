@@ -75,7 +75,7 @@ impl Claims<'_> {
             return derive_claim(alloc, &[own], rest, sink);
         }
         let under = self.child(node.low - coef);
-        derive_claim(alloc, &[own, under], &rest[..0], sink)
+        derive_claim(alloc, &[own, under], &[], sink)
     }
 
     /// Both of each node of the level.

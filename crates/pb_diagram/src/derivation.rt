@@ -32,15 +32,13 @@ pub fn negated_terms(alloc: Global, terms: &[Term]) -> Result<Vec<Term>, AllocEr
     Ok(negated)
 }
 
-/// The nodes of a level, the terms from there on and the same terms negated.
+/// The nodes of a level, and the terms from there on with their literals negated.
 #[derive(Clone, Copy)]
 struct Sides<'a> {
-    terms: &'a [Term],
     negated: &'a [Term],
     nodes: &'a [Interval],
-    ghost light: { weight (weights terms.now) < 2 ^ 100 },
-    ghost turned: { weights negated.now ≡ map opposite (weights terms.now) },
-    ghost within: { All (λ g. g.top ≤ weight (weights terms.now)) nodes.now },
+    ghost light: { weight (weights negated.now) < 2 ^ 100 },
+    ghost within: { All (λ g. g.top ≤ weight (weights negated.now)) nodes.now },
 }
 
 /// What the nodes of a level mean.
@@ -48,9 +46,9 @@ fn define_level<T: StepSink>(alloc: Global, sides: Sides, first: u32, sink: &mut
     requires low { 1 ≤ first }
     requires high { first + length sides.nodes.now ≤ 2 ^ 31 }
     requires few { (T.state sink.old).next + 2 * length sides.nodes.now < 2 ^ 62 }
-    ensures { HandsSteps (reification_steps (T.state sink.old).next (level_reifications first (weights sides.entry.terms.now) sides.entry.nodes.now)) result (T.state sink.old) (T.state sink.new) }
+    ensures { HandsSteps (reification_steps (T.state sink.old).next (level_reifications first (map opposite (weights sides.entry.negated.now)) sides.entry.nodes.now)) result (T.state sink.old) (T.state sink.new) }
 {
-    let whole = weight_of(sides.terms);
+    let whole = weight_of(sides.negated);
     let nodes = sides.nodes;
     for place in 0..nodes.len() {
         let var = fresh_at(first, place).var;
@@ -89,11 +87,9 @@ impl Derivation<'_> {
         requires few { (T.state sink.old).next ≤ 2 ^ 61 }
         ensures { HandsSteps (reification_steps (T.state sink.old).next (shape_reifications self.now.shape self.now.first)) result (T.state sink.old) (T.state sink.new) }
     {
-        let terms = self.shape.terms;
         let mut start = self.first;
-        for i in 0..terms.len() {
+        for i in 0..self.shape.terms.len() {
             let sides = Sides {
-                terms: &terms[i..],
                 negated: &self.negated[i..],
                 nodes: nodes_after(self.shape.levels, i),
             };
@@ -119,7 +115,7 @@ impl Derivation<'_> {
             whole = layer.whole;
             id = after;
         }
-        derive_claim(alloc, &[self.base + 1, self.own], &terms[..0], sink)
+        derive_claim(alloc, &[self.base + 1, self.own], &[], sink)
     }
 
     /// All of it.

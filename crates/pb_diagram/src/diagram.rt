@@ -2,7 +2,7 @@
 ghost use Rattle.std.specs.Prelude.{◌≡◌, ◌<◌, ◌^◌, IfOk};
 ghost use Rattle.pb_norm.specs.Constraints.{weight, weights};
 ghost use Rattle.pb_norm.specs.BoundedSums.{IsProper, sum_within};
-ghost use Rattle.pb_diagram.specs.Clauses.{diagram_clauses, diagram_fresh, diagram_size};
+ghost use Rattle.pb_diagram.specs.Clauses.{diagram_clauses, diagram_fresh, diagram_size, node_count};
 ghost use Rattle.pb_diagram.specs.Levels.{levels_of};
 
 use crate::counts::{count_clauses, count_nodes};
@@ -62,14 +62,23 @@ impl Diagram {
         ensures clauses { IfOk result (λ built. IfFits (λ t. ⟦<Diagram as Family>⟧.clause_count t ≡ diagram_size of.now) built) }
         ensures list { IfOk result (λ built. IfFits (λ t. (first : ℕ) → ⟦<Diagram as Family>⟧.clause_list t first ≡ diagram_clauses of.now first) built) }
     {
-        let bound = of.bound();
-        let known = match known_levels(alloc, of, budget)? {
-            Some(known) => known,
-            None => return Ok(Built::Over),
-        };
+        match known_levels(alloc, of, budget)? {
+            Some(known) => Ok(Built::Fits(Diagram::of_nodes(alloc, of, known)?)),
+            None => Ok(Built::Over),
+        }
+    }
+
+    /// The diagram of a sum, by all its nodes.
+    fn of_nodes(alloc: Global, of: &AtMost, known: Vec<Known>) -> Result<Diagram, AllocError>
+        requires light { weight of.now.terms < 2 ^ 100 }
+        requires all { known.items ≡ levels_of of.now }
+        requires few { node_count (levels_of of.now) < 2 ^ 31 }
+        ensures { IfOk result (λ t. sum_within t.terms.items t.bound ≡ of.now) }
+    {
         let levels = list_levels(alloc, known)?;
         let mut terms = Vec::new(alloc);
         terms.extend_from_slice(of.terms())?;
+        let bound = of.bound();
         let fresh = count_nodes(levels.as_slice());
         let clauses = count_clauses(Shape {
             terms: terms.as_slice(),
@@ -77,13 +86,13 @@ impl Diagram {
             levels: levels.as_slice(),
             fresh,
         });
-        Ok(Built::Fits(Diagram {
+        Ok(Diagram {
             terms,
             bound,
             levels,
             fresh,
             clauses,
-        }))
+        })
     }
 
     /// Its terms and levels.

@@ -146,8 +146,7 @@ impl Known {
         }
         let place = run_near(self.runs.as_slice(), interval.low, near.run);
         self.runs[place].insert(interval, near.place)?;
-        split(alloc, &mut self.runs, place)?;
-        Ok(())
+        split(alloc, &mut self.runs, place)
     }
 
     /// All of them, in order.

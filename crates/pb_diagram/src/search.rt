@@ -5,7 +5,8 @@ ghost use Rattle.pb_norm.specs.Constraints.{weight};
 ghost use Rattle.pb_diagram.specs.declared.interval.Interval.{Interval};
 ghost use Rattle.pb_diagram.specs.Clauses.{node_count};
 ghost use Rattle.pb_diagram.specs.Levels.{coefs_of, levels_of};
-ghost use Rattle.pb_diagram.specs.laws.Search.{nodes_at, AreAllNodes, IsFound, IsOff, IsOn, LacksFalseChild, LacksTrueChild, Looked, IsMissing, IsJoined, IsTop, IsSeen, IsSearching, IsKept, Advanced};
+ghost use Rattle.pb_diagram.specs.laws.Search.{nodes_at, AreAllNodes, IsFound, IsOff, IsOn, LacksFalseChild, LacksTrueChild, Looked, IsMissing, IsJoined, IsTop, IsSeen};
+ghost use Rattle.pb_diagram.specs.inner.Wants.{IsMoved, IsUnderWay, residues};
 
 use crate::interval::Interval;
 use crate::known::{Known, START, Spot};
@@ -18,6 +19,9 @@ struct Top {
     place: usize,
     coef: u128,
     residue: u128,
+
+    /// About where its node goes in its level.
+    near: Spot,
 
     /// What the false child says, if it was found before.
     off: Option<Interval>,
@@ -125,17 +129,23 @@ fn look_for(levels: &[Known], whole: u128, top: Top) -> Look
     }
 }
 
+/// A residue whose node is wanted.
+#[derive(Clone, Copy)]
+struct Want {
+    residue: u128,
+
+    /// About where its node goes in its level.
+    near: Spot,
+
+    /// What the false child of its node says, once the true one is wanted beside it.
+    off: Option<Interval>,
+}
+
 /// The nodes that are known, and for the first levels a residue each whose node is wanted.
 #[derive(Drop)]
 struct Search {
     levels: Vec<Known>,
-    wanted: Vec<u128>,
-
-    /// About where each residue's node goes in its level.
-    places: Vec<Spot>,
-
-    /// What the false child of each residue's node says, once a true one is wanted beside it.
-    sides: Vec<Option<Interval>>,
+    wanted: Vec<Want>,
 
     /// The node of the level after the residues' that became known in the last step, if one did.
     last: Option<Interval>,
@@ -158,23 +168,22 @@ fn empty_levels(alloc: Global, count: usize) -> Result<Vec<Known>, AllocError>
 impl Search {
     /// No node is known, and the bound is wanted at the first level.
     fn start(alloc: Global, of: &AtMost) -> Result<Self, AllocError>
-        requires above { of.now.bound < weight of.now.terms }
-        requires fits { weight of.now.terms < 2 ^ 100 }
-        ensures searching { IfOk result (λ s. IsSearching of.now s.levels.items s.wanted.items s.left) }
-        ensures kept { IfOk result (λ s. IsKept of.now s.levels.items s.wanted.items s.sides.items s.last) }
+        requires { weight of.now.terms < 2 ^ 100 }
+        ensures going { IfOk result (IsUnderWay of.now) }
         ensures none { IfOk result (λ s. node_count s.levels.items ≡ 0) }
     {
         let terms = of.terms();
         let levels = empty_levels(alloc, terms.len())?;
-        let wanted = Vec::from_array(alloc, [of.bound()])?;
-        let places = Vec::from_array(alloc, [START])?;
-        let sides = Vec::from_array(alloc, [None])?;
+        let root = Want {
+            residue: of.bound(),
+            near: START,
+            off: None,
+        };
+        let wanted = Vec::from_array(alloc, [root])?;
         let left = weight_of(terms) - terms[0].weight();
         Ok(Search {
             levels,
             wanted,
-            places,
-            sides,
             last: None,
             left,
         })
@@ -182,18 +191,20 @@ impl Search {
 
     /// The last residue that is wanted.
     fn top(&self, of: &AtMost) -> Top
-        requires searching { IsSearching of.now self.now.levels.items self.now.wanted.items self.now.left }
-        requires kept { IsKept of.now self.now.levels.items self.now.wanted.items self.now.sides.items self.now.last }
+        requires going { IsUnderWay of.now self.now }
         requires some { 0 < length self.now.wanted.items }
         requires fits { sum (coefs_of of.now.terms) < 2 ^ 100 }
-        ensures { IsTop of.now self.now.levels.items self.now.wanted.items self.now.left result }
+        ensures { IsTop of.now self.now.levels.items (residues self.now.wanted.items) self.now.left result }
     {
-        let place = self.wanted.as_slice().len() - 1;
+        let wanted = self.wanted.as_slice();
+        let place = wanted.len() - 1;
+        let want = wanted[place];
         Top {
             place,
             coef: of.terms()[place].weight(),
-            residue: self.wanted.as_slice()[place],
-            off: self.sides.as_slice()[place],
+            residue: want.residue,
+            near: want.near,
+            off: want.off,
             last: self.last,
         }
     }
@@ -207,38 +218,32 @@ impl Search {
         off: Option<Interval>,
         near: Spot,
     ) -> Result<(), AllocError>
-        requires searching { IsSearching of.now self.old.levels.items self.old.wanted.items self.old.left }
-        requires kept { IsKept of.now self.old.levels.items self.old.wanted.items self.old.sides.items self.old.last }
-        requires top { IsTop of.now self.old.levels.items self.old.wanted.items self.old.left top }
+        requires going { IsUnderWay of.now self.old }
+        requires top { IsTop of.now self.old.levels.items (residues self.old.wanted.items) self.old.left top }
         requires missing { IsMissing top.coef self.old.left (nodes_at self.old.levels.items (top.place + 1)) top.residue child }
         requires off { IfSome off (IsOff top.coef self.old.left (nodes_at self.old.levels.items (top.place + 1)) top.residue) }
-        ensures searching { OnOk result (IsSearching of.now self.new.levels.items self.new.wanted.items self.new.left) }
-        ensures kept { OnOk result (IsKept of.now self.new.levels.items self.new.wanted.items self.new.sides.items self.new.last) }
-        ensures advanced { OnOk result (Advanced false self.old.levels.items self.new.levels.items self.old.wanted.items self.new.wanted.items) }
+        ensures { OnOk result (IsMoved of.now false self.old self.new) }
     {
         self.left -= of.terms()[top.place + 1].weight();
-        self.sides[top.place] = off;
-        self.sides.push(None)?;
-        self.wanted.push(child)?;
-        self.places.push(near)?;
+        self.wanted[top.place].off = off;
+        self.wanted.push(Want {
+            residue: child,
+            near,
+            off: None,
+        })?;
         self.last = None;
         Ok(())
     }
 
     /// The node of the last residue becomes known.
     fn join(&mut self, of: &AtMost, top: Top, interval: Interval) -> Result<(), AllocError>
-        requires searching { IsSearching of.now self.old.levels.items self.old.wanted.items self.old.left }
-        requires kept { IsKept of.now self.old.levels.items self.old.wanted.items self.old.sides.items self.old.last }
-        requires top { IsTop of.now self.old.levels.items self.old.wanted.items self.old.left top }
+        requires going { IsUnderWay of.now self.old }
+        requires top { IsTop of.now self.old.levels.items (residues self.old.wanted.items) self.old.left top }
         requires joined { IsJoined top.coef self.old.left (nodes_at self.old.levels.items (top.place + 1)) top.residue interval }
-        ensures searching { OnOk result (IsSearching of.now self.new.levels.items self.new.wanted.items self.new.left) }
-        ensures kept { OnOk result (IsKept of.now self.new.levels.items self.new.wanted.items self.new.sides.items self.new.last) }
-        ensures advanced { OnOk result (Advanced true self.old.levels.items self.new.levels.items self.old.wanted.items self.new.wanted.items) }
+        ensures { OnOk result (IsMoved of.now true self.old self.new) }
     {
-        let near = self.places.pop().unwrap_or(START);
-        self.levels[top.place].insert(interval, near)?;
+        self.levels[top.place].insert(interval, top.near)?;
         self.wanted.pop();
-        self.sides.pop();
         self.last = Some(interval);
         self.left += top.coef;
         Ok(())
@@ -246,13 +251,10 @@ impl Search {
 
     /// Looks at the last residue. Its node becomes known, or a child's residue is wanted too. Tells whether a node became known.
     fn advance(&mut self, of: &AtMost) -> Result<bool, AllocError>
-        requires searching { IsSearching of.now self.old.levels.items self.old.wanted.items self.old.left }
-        requires kept { IsKept of.now self.old.levels.items self.old.wanted.items self.old.sides.items self.old.last }
+        requires going { IsUnderWay of.now self.old }
         requires some { 0 < length self.old.wanted.items }
         requires fits { sum (coefs_of of.now.terms) < 2 ^ 100 }
-        ensures searching { OnOk result (IsSearching of.now self.new.levels.items self.new.wanted.items self.new.left) }
-        ensures kept { OnOk result (IsKept of.now self.new.levels.items self.new.wanted.items self.new.sides.items self.new.last) }
-        ensures advanced { IfOk result (λ joined. Advanced joined self.old.levels.items self.new.levels.items self.old.wanted.items self.new.wanted.items) }
+        ensures { IfOk result (λ joined. IsMoved of.now joined self.old self.new) }
     {
         let top = self.top(of);
         match look_for(&self.levels, self.left, top) {
@@ -274,7 +276,6 @@ pub fn known_levels(
     of: &AtMost,
     budget: u64,
 ) -> Result<Option<Vec<Known>>, AllocError>
-    requires above { of.now.bound < weight of.now.terms }
     requires fits { weight of.now.terms < 2 ^ 100 }
     requires small { budget < 2 ^ 31 }
     ensures { IfOk result (λ found. MatchOption found (budget < node_count (levels_of of.now)) (λ ls. AreAllNodes of.now budget ls.items)) }

@@ -1,4 +1,4 @@
-use Rattle.std.proofs.Common.{◌∙◌, ◌++◌, ◌∷◌, [], List, ap, replicate}
+use Rattle.std.proofs.Common.{◌≡◌, ◌∙◌, ◌++◌, ◌∷◌, [], List, ap, arith, replicate}
 use Rattle.std.proofs.lemmas.List.{replicate_more}
 use Rattle.std.proofs.lemmas.Result.{IfOk-from_err}
 use Rattle.pb_diagram.specs.declared.known.Known.{Known}
@@ -11,3 +11,11 @@ loop-place-preserved c =
 
 pub returns-in_err-push : goal.returns-in_err-push
 returns-in_err-push c = IfOk-from_err _ _ c.from_residual.ensures.0
+
+pub loop-place-init : goal.loop-place-init
+loop-place-init c = c.new-levels.ensures.items
+
+pub returns : goal.returns
+returns c =
+    let all : c.loop-place._place ≡ c.args.count = omega arith in
+    c.loop-place.invariant ∙ ap (λ n. replicate n []) all

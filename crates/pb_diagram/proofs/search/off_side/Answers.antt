@@ -10,3 +10,9 @@ found a whole next residue (Some g) below is = record { ends = λ past. absurd (
 
 pub returns-then-top-whole : goal.returns-then-top-whole
 returns-then-top-whole c = found c.args.top.coef c.args.whole (nodes_at c.args.levels.now (c.args.top.place + 1)) c.args.top.residue c.find_at.result c.if-top-whole.true c.find_at.ensures
+
+pub find_at-requires : goal.find_at-requires
+find_at-requires c = c.requires.among
+
+pub overflow_add-result : goal.overflow_add-result
+overflow_add-result c = omega (arith, c.requires.fits)

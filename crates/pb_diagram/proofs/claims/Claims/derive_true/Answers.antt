@@ -1,7 +1,8 @@
-use Rattle.std.proofs.Common.{◌-◌, ◌∙◌, ℕ, refl, ap, arith}
+use Rattle.std.proofs.Common.{◌-◌, ◌∙◌, ℕ, refl, sym, subst, ap, arith}
 use Rattle.pb_norm.specs.Constraints.{weighted, weights}
 use Rattle.pb_family.proofs.Deriving.{steps_same}
 use Rattle.pb_diagram.specs.DiagramSteps.{child_id}
+use Rattle.pb_diagram.specs.inner.Links.{HasPlace}
 use Rattle.pb_diagram.specs.inner.NodesAt.{below_at}
 use Rattle.pb_diagram.proofs.NodeSteps.{true_full, true_some}
 use Rattle.pb_diagram.proofs.claims.Claims.derive_true.Goals as goal
@@ -18,3 +19,13 @@ returns g c =
     let under = c.child-under.ensures ∙ ap (λ (n : ℕ). child_id (below_at c.args.self.now.layer.next.now c.args.self.now.after) (c.args.node.low - n)) c.weight-coef.ensures in
     steps_same c.derive_claim-2.result _ _ old (g.T.StepSink.state c.derive_claim-2.new.sink)
     (true_some (weighted c.args.self.now.layer.term.now) (weights c.args.self.now.layer.rest.now) c.args.self.now.layer.next.now c.args.self.now.after c.args.self.now.id c.args.place c.args.node old.next _ _ refl under (omega (arith, c.if-node-coef.false, c.weight-coef.ensures))) c.derive_claim-2.ensures
+
+pub overflow_mul-own : goal.overflow_mul-own
+overflow_mul-own g c = omega (arith, c.args.self.now.own, c.requires.within)
+
+pub overflow_add-own : goal.overflow_add-own
+overflow_add-own g c = omega (arith, c.args.self.now.own, c.requires.within)
+
+pub child-under-requires : goal.child-under-requires
+child-under-requires g c =
+    subst (λ (n : ℕ). HasPlace c.args.self.now.layer.next.now (c.args.node.low - n)) (sym c.weight-coef.ensures) (c.requires.held (omega (arith, c.if-node-coef.false, c.weight-coef.ensures)))

@@ -1,4 +1,4 @@
-use Rattle.std.proofs.Common.{◌≡◌, ◌≤◌, ◌+◌, ◌++◌, List, length, drop, refl, sym, ap, subst, arith}
+use Rattle.std.proofs.Common.{◌≡◌, ◌≤◌, ℕ, ◌+◌, ◌++◌, List, length, drop, refl, sym, ap, subst, arith}
 use Rattle.std.specs.Prelude.{All}
 use Rattle.std.proofs.lemmas.List.{length-map}
 use Rattle.pb_norm.specs.Constraints.{Weighted, weight, weighted, weights}
@@ -13,7 +13,7 @@ use Rattle.pb_diagram.specs.declared.interval.Interval.{Interval}
 use Rattle.pb_diagram.specs.Clauses.{node_count}
 use Rattle.pb_diagram.specs.DiagramSteps.{level_reifications, node_reifications}
 use Rattle.pb_diagram.specs.laws.NodeReifications.{length-level}
-use Rattle.pb_diagram.proofs.ReificationSteps.{reifications_taken, reifications_stop, level_stops, nodes_left, nodes_within, nodes_count, no_reification, turned_from, turned_length}
+use Rattle.pb_diagram.proofs.ReificationSteps.{reifications_taken, reifications_stop, level_stops, nodes_left, nodes_within, nodes_count, no_reification, terms_from, weight_from, turned_length}
 use Rattle.pb_diagram.proofs.derivation.Derivation.define_nodes.Given.{Over}
 use Rattle.pb_diagram.proofs.derivation.Derivation.define_nodes.Goals.{After-nodes_after}
 use Rattle.pb_diagram.proofs.derivation.Derivation.define_nodes.Goals as goal
@@ -35,12 +35,13 @@ offset_bounds-self-i g c = omega (arith, turned_length c.args.self.now.shape.ter
 pub invariant_of-sides : goal.invariant_of-sides
 invariant_of-sides g c =
     let shape = c.args.self.now.shape in
+    let ts = shape.terms.now in
     let i = c.loop-i.i in
+    let same = weight_from ts c.args.self.now.negated.now i c.args.self.now.turned in
     record {
-      light = omega (arith, light_from shape.terms.now i, shape.light);
-      turned = turned_from shape.terms.now c.args.self.now.negated.now i c.args.self.now.turned;
-      within = subst (λ (ts : List Weighted). All (λ g. g.top ≤ weight ts) c.nodes_after.result.now) (sym (weights_from shape.terms.now i i refl))
-          (nodes_within (sum_within shape.terms.now shape.bound) shape.levels.now i shape.nodes c.nodes_after.result.now c.nodes_after.ensures);
+      light = omega (arith, same, ap weight (weights_from ts i i refl), light_from ts i, shape.light);
+      within = subst (λ (n : ℕ). All (λ g. g.top ≤ n) c.nodes_after.result.now) (sym same)
+          (nodes_within (sum_within ts shape.bound) shape.levels.now i shape.nodes c.nodes_after.result.now c.nodes_after.ensures);
     }
 
 -- what is left is the level and what is behind it, and how many nodes that has
@@ -70,7 +71,7 @@ returns-in_err-define_level g c =
     let i = c.loop-i.i in
     let nodes = c.nodes_after.result.now in
     reifications_stop (level_reifications c.loop-i.start (drop i (weights ts)) nodes) (node_reifications (c.loop-i.start + length nodes) (drop (i + 1) (weights ts)) (drop (i + 1) c.args.self.now.shape.levels.now)) _ _ (begun g (goal.at.returns-in_err-define_level g c).After-nodes_after)
-    c.from_residual.result _ after c.from_residual.ensures.1 (level_stops c.loop-i.start nodes _ (drop i (weights ts)) _ after (weights_from ts i i refl) c.in_err-define_level.ensures)
+    c.from_residual.result _ after c.from_residual.ensures.1 (level_stops c.loop-i.start nodes _ (drop i (weights ts)) _ after (terms_from ts c.args.self.now.negated.now i c.args.self.now.turned) c.in_err-define_level.ensures)
 
 pub loop-i-preserved : goal.loop-i-preserved
 loop-i-preserved g c =
@@ -81,7 +82,7 @@ loop-i-preserved g c =
     let i = c.loop-i.i in
     let nodes = c.nodes_after.result.now in
     let here = level_reifications c.loop-i.start (drop i (weights ts)) nodes in
-    let handed = subst (λ (us : List Weighted). TakesSteps (reification_steps now.next (level_reifications c.loop-i.start us nodes)) now after) (weights_from ts i i refl) c.in_ok-define_level.ensures in
+    let handed = subst (λ (us : List Weighted). TakesSteps (reification_steps now.next (level_reifications c.loop-i.start us nodes)) now after) (terms_from ts c.args.self.now.negated.now i c.args.self.now.turned) c.in_ok-define_level.ensures in
     record {
       room = omega (arith, count g at, c.loop-i.invariant.room);
       low = omega (arith, c.loop-i.invariant.low);
@@ -102,3 +103,6 @@ overflow_add-start g c = omega (arith, count g (goal.at.overflow_add-start g c).
 
 pub define_level-requires-clause-low : goal.define_level-requires-clause-low
 define_level-requires-clause-low g c = omega (arith, c.args.self.now.low, c.loop-i.invariant.low)
+
+pub slice_bounds-sides-start : goal.slice_bounds-sides-start
+slice_bounds-sides-start g c = omega (arith, turned_length c.args.self.now.shape.terms.now c.args.self.now.negated.now c.args.self.now.turned, c.loop-i-test.true)

@@ -1,5 +1,5 @@
 use Rattle.pb_norm.specs.Constraints.{weighted}
-use Rattle.pb_diagram.proofs.LevelSteps.{level_starts, false_fault, true_fault, node_taken}
+use Rattle.pb_diagram.proofs.LevelSteps.{level_ends, level_starts, false_fault, true_fault, node_taken}
 use Rattle.pb_diagram.proofs.emission.Numbered.emit_level.Goals as goal
 
 pub loop-place-init : goal.loop-place-init
@@ -20,3 +20,6 @@ emit_false-requires-clause-held g c = (c.args.self.now.layer.linked c.loop-place
 
 pub emit_true-requires-clause-held : goal.emit_true-requires-clause-held
 emit_true-requires-clause-held g c = (c.args.self.now.layer.linked c.loop-place.place _ c.loop-place-test.true).1
+
+pub returns : goal.returns
+returns g c = level_ends _ _ _ _ _ _ c.loop-place.place c.loop-place-test.false c.loop-place.invariant

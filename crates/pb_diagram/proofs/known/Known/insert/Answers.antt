@@ -1,5 +1,5 @@
 use Rattle.std.proofs.Common.{ℕ, List, [], ◌<◌, length, ap, arith, eqb-true, false-eqb, length-set, subst, sym, ◌∙◌}
-use Rattle.std.specs.Prelude.{OnOk}
+use Rattle.std.specs.Prelude.{OnOk, Result, Ok, Err}
 use Rattle.std.proofs.lemmas.List.{nil_from_length}
 use Rattle.pb_diagram.specs.declared.interval.Interval.{Interval}
 use Rattle.pb_diagram.specs.inner.Known.{AreRuns, intervals_in}
@@ -35,10 +35,14 @@ pub split-requires-clause-within : goal.split-requires-clause-within
 split-requires-clause-within c =
     subst (λ (n : ℕ). c.run_near-place.result < n) (sym (length-set c.self.inside.runs.items c.run_near-place.result c.insert.new.self)) (at (goal.at.split-requires-clause-within c).After-index_mut).within
 
+always : {T E P : Type 0} (r : Result T E) → P → OnOk r P
+always (Ok _) is = is
+always (Err _) is = tt
+
 pub returns : goal.returns
 returns c =
     let grown = run_grown _ _ _ _ c.insert.new.self (at (goal.at.returns c).After-index_mut) c.in_ok-insert.ensures.grown in
-    subst (λ (l : List Interval). IsGrown l c.args.interval (intervals_in c.split.new.runs.items)) c.self.view_is (subst (IsGrown (intervals_in c.self.inside.runs.items) c.args.interval) (sym c.split.ensures.same) grown)
+    always c.split.result (subst (λ (l : List Interval). IsGrown l c.args.interval (intervals_in c.split.new.runs.items)) c.self.view_is (subst (IsGrown (intervals_in c.self.inside.runs.items) c.args.interval) (sym c.split.ensures.same) grown))
 
 pub begin-requires-clause-none : goal.begin-requires-clause-none
 begin-requires-clause-none c = nil_from_length c.self.inside.runs.items (omega (arith, eqb-true c.self.inside.runs.len 0 (sym c.is_empty.ensures ∙ c.if-is_empty.true), c.self.inside.runs.ok.0))

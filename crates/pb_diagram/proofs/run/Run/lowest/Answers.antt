@@ -19,3 +19,6 @@ returns c =
     let copy = copied c.extend_from_slice.new.self.items c.new-falling.result.items c.as_slice.result.now gs n c.in_ok-extend_from_slice.ensures.items c.new-falling.ensures.items c.as_slice.ensures.value in
     let whole : n + count ≡ length gs = omega (arith, c.requires.within, c.len.ensures, c.self.inside.falling.ok.0, ap length c.self.view_is, length-reverse gs) in
     ap reverse copy ∙ (parted gs n count whole).1 ∙ ap (take count) c.self.view_is
+
+pub slice_bounds-extend_from_slice-start : goal.slice_bounds-extend_from_slice-start
+slice_bounds-extend_from_slice-start c = omega (arith, c.len.ensures, ap length c.as_slice.ensures.value, c.self.inside.falling.ok.0)

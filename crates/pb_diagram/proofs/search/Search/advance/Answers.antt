@@ -1,7 +1,7 @@
 use Rattle.std.proofs.Common.{◌+◌, List, sym, subst}
 use Rattle.std.proofs.lemmas.Result.{IfOk-from_err}
 use Rattle.pb_diagram.specs.declared.interval.Interval.{Interval}
-use Rattle.pb_diagram.specs.declared.search.Look.TheVariants.{Missing}
+use Rattle.pb_diagram.specs.declared.search.Look.TheVariants.{Found, Missing}
 use Rattle.pb_diagram.specs.laws.Search.{nodes_at, IsSeen, Looked}
 use Rattle.pb_diagram.proofs.search.Search.advance.Goals as goal
 
@@ -9,16 +9,28 @@ pub look_for-requires : goal.look_for-requires
 look_for-requires c = subst (λ (l : List (List Interval)). IsSeen l c.args.self.now.left c.top-top.result) (sym c.deref.ensures.value) c.top-top.ensures.seen
 
 pub returns-in_err-want-in-Missing : goal.returns-in_err-want-in-Missing
-returns-in_err-want-in-Missing c = let no = c.from_residual.ensures.0 in record { searching = IfOk-from_err _ _ no; kept = IfOk-from_err _ _ no; advanced = IfOk-from_err _ _ no }
+returns-in_err-want-in-Missing c = IfOk-from_err _ _ c.from_residual.ensures.0
 
 pub returns-in_err-join-in-Found : goal.returns-in_err-join-in-Found
-returns-in_err-join-in-Found c = let no = c.from_residual-in_err-join-in-Found.ensures.0 in record { searching = IfOk-from_err _ _ no; kept = IfOk-from_err _ _ no; advanced = IfOk-from_err _ _ no }
+returns-in_err-join-in-Found c = IfOk-from_err _ _ c.from_residual-in_err-join-in-Found.ensures.0
 
 pub want-requires : goal.want-requires
 want-requires c =
     let top = c.top-top.result in
     let seen = subst (λ (l : List (List Interval)). Looked top.coef c.args.self.now.left (nodes_at l (top.place + 1)) top.residue (Missing c.in-Missing.child c.in-Missing.off c.in-Missing.near)) c.deref.ensures.value c.in-Missing.ensures in
-    record { searching = c.requires.searching; kept = c.requires.kept; top = c.top-top.ensures; missing = seen.0; off = seen.1 }
+    record { going = c.requires.going; top = c.top-top.ensures; missing = seen.0; off = seen.1 }
+
+pub join-requires : goal.join-requires
+join-requires c =
+    let top = c.top-top.result in
+    record {
+      going = c.requires.going;
+      top = c.top-top.ensures;
+      joined = subst (λ (l : List (List Interval)). Looked top.coef c.args.self.now.left (nodes_at l (top.place + 1)) top.residue (Found c.in-Found.interval)) c.deref.ensures.value c.in-Found.ensures;
+    }
+
+pub top-top-requires : goal.top-top-requires
+top-top-requires c = c.requires
 
 pub returns-in_ok-want-in-Missing : goal.returns-in_ok-want-in-Missing
 returns-in_ok-want-in-Missing c = c.in_ok-want-in-Missing.ensures
