@@ -9,7 +9,7 @@ use crate::claims::derive_pairs;
 use crate::one::One;
 use crate::source::Source;
 use pb_base::Failed;
-use pb_family::{ClauseSink, Derive, Family, SinkResult, StepSink, Strong};
+use pb_family::{ClauseSink, Derive, Family, SinkResult, StepSink, Strong, sink_result};
 use pb_norm::AtMost;
 use std::alloc::Global;
 
@@ -77,8 +77,7 @@ impl Family for Pairwise<'_> {
     fn emit<S: ClauseSink>(&self, alloc: Global, first: u32, sink: &mut S) -> SinkResult {
         let _ = alloc;
         let _ = first;
-        emit_pairs(&Source::OfTerms(self.sum.of.terms()), sink)?;
-        Ok(())
+        sink_result(emit_pairs(&Source::OfTerms(self.sum.of.terms()), sink))
     }
 
     ghost sound = { λ f first below v model. pairwise_sound f.sum.of.now f.sum.at_most_one f.sum.units v model };

@@ -1,7 +1,7 @@
 -- A counter's derivation, one number after another.
-use Rattle.std.proofs.Common.{◌≡◌, ◌≤◌, ◌<◌, ◌+◌, ◌-◌, ◌*◌, ◌/◌, ◌%◌, ◌∙◌, ℕ, List, [], ◌∷◌, Bool, cond, map, length, take, drop, ap, sym, subst, arith, ◌≢◌, Ok, Err}
+use Rattle.std.proofs.Common.{◌≡◌, ◌≤◌, ◌<◌, ◌+◌, ◌-◌, ◌*◌, ◌/◌, ◌%◌, ◌∙◌, ℕ, List, [], ◌∷◌, Bool, cond, map, length, take, drop, ap, sym, subst, arith}
 use Rattle.std.specs.List.{range_with_len}
-use Rattle.std.specs.Prelude.{IsErrAnd, Result}
+use Rattle.std.specs.Prelude.{Result}
 use Rattle.std.proofs.lemmas.Bool.{le-leb, lt-leb}
 use Rattle.std.proofs.Math.Nat.{div-mul-le_self, lt_of_mul-lt-mul_right}
 use Rattle.std.proofs.lemmas.List.{length-map}
@@ -17,12 +17,9 @@ use Rattle.pb_derive.specs.Justifications.{Justification, by_justification}
 use Rattle.pb_derive.specs.Phases.{phases}
 use Rattle.pb_derive.specs.Reifications.{reification_steps}
 use Rattle.pb_family.specs.Derivations.{meant, claimed}
-use Rattle.pb_family.specs.Handing.{FailsInClauses, Hands, HandsIfMemory, StopsInClauses}
+use Rattle.pb_family.specs.Handing.{Hands}
 use Rattle.pb_family.specs.Numbered.{numbered_phases}
 use Rattle.pb_family.specs.Sinks.{SinkState}
-use Rattle.pb_family.specs.declared.sink.SinkFault.{SinkFault}
-use Rattle.pb_family.specs.declared.sink.SinkFault.TheVariants as fault
-use Rattle.pb_family.proofs.Emission.{fails_as}
 use Rattle.pb_family.proofs.TermSlices.{literal_count, weights_one, weights_until}
 use Rattle.pb_counter.specs.declared.derivation.Derivation.{Derivation}
 use Rattle.pb_counter.specs.declared.grid.Grid.{Grid}
@@ -86,12 +83,3 @@ pub emit_same : {R T : Type 0} (grid : Grid) (p q : Place) (c : List Lit) (r : R
     → Hands (clause_at (lits_of (weights grid.terms.now)) grid.width grid.first q ∷ []) r a b
 emit_same grid p q c r a b is written h =
     subst (λ (d : List Lit). Hands (d ∷ []) r a b) (written ∙ ap (clause_at (lits_of (weights grid.terms.now)) grid.width grid.first) is) h
-
--- a fault of a sink is handed on
-pub fault_handed : {R T : Type 0} (cs ds : List (List Lit)) (r : Result T SinkFault) (a b : SinkState R) → cs ≡ ds → IsErrAnd r (λ f. f ≡ fault.Failed) → FailsInClauses cs a b → HandsIfMemory ds r a b
-fault_handed cs ds (Ok x) a b same is h = absurd is
-fault_handed cs ds (Err f) a b same is h = subst (StopsInClauses ds a b) (sym is) (fails_as cs ds a b same h)
-
-pub never_memory : {T : Type 0} (r : Result T SinkFault) → IsErrAnd r (λ f. f ≡ fault.Failed) → r ≢ Err fault.NoMemory
-never_memory (Ok x) is e = absurd is
-never_memory (Err f) is e = cc
