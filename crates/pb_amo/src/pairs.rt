@@ -74,8 +74,7 @@ impl Family for Pairwise<'_> {
         }
     }
 
-    fn emit<S: ClauseSink>(&self, alloc: Global, first: u32, sink: &mut S) -> SinkResult {
-        let _ = alloc;
+    fn emit<S: ClauseSink>(&self, _alloc: Global, first: u32, sink: &mut S) -> SinkResult {
         let _ = first;
         sink_result(emit_pairs(&Source::OfTerms(self.sum.of.terms()), sink))
     }

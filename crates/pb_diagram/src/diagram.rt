@@ -13,7 +13,7 @@ use crate::level::Level;
 use crate::search::known_levels;
 use crate::shape::Shape;
 use pb_base::{NoMemory, Term};
-use pb_family::{Built, ClauseSink, Derive, Family, SinkResult, StepSink, Strong};
+use pb_family::{Built, ClauseSink, Derive, Family, SinkResult, StepSink, Strong, sink_result};
 use pb_norm::AtMost;
 use std::alloc::{AllocError, Global};
 
@@ -134,8 +134,7 @@ impl Family for Diagram {
     }
 
     fn emit<S: ClauseSink>(&self, _alloc: Global, first: u32, sink: &mut S) -> SinkResult {
-        emit_whole(self.shape(), first, sink)?;
-        Ok(())
+        sink_result(emit_whole(self.shape(), first, sink))
     }
 
     ghost sound = { λ f first below a model. diagram_sound (sum_within f.terms.items f.bound) f.proper first a model };
