@@ -26,13 +26,7 @@ pub fn count_nodes(levels: &[Level]) -> u64
 fn count_below(nodes: &[Interval], whole: u128) -> u64
     ensures { result ≡ count_by (λ g. nat_lt g.low whole) nodes.now }
 {
-    let mut count = 0;
-    for node in nodes {
-        if node.low < whole {
-            count += 1;
-        }
-    }
-    count
+    nodes.iter().filter(|interval| interval.low < whole).count() as u64
 }
 
 /// How many clauses there are.

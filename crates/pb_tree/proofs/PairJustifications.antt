@@ -11,11 +11,10 @@ use Rattle.pb_tree.specs.Tree.{Tree, node, IsLeafOf}
 use Rattle.pb_tree.specs.Scheme.{Scheme, values, fresh_of, output, own_of, clauses_of, tree_clauses}
 use Rattle.pb_tree.proofs.Sums.{IsLawful}
 use Rattle.pb_tree.proofs.Extending.{IsNamed, output_named}
-use Rattle.pb_tree.specs.Pairs.{unless_none}
+use Rattle.pb_tree.specs.Pairs.{unless_none, Pair, pair_clause}
 use Rattle.pb_derive.specs.Reifications.{reverse_of}
 use Rattle.pb_derive.specs.inner.Follows.{AllKnown}
 use Rattle.pb_derive.proofs.Justified.{IsJustified, ReificationsKnown}
-use Rattle.pb_tree.specs.Pairs.{Pair, pair_clause}
 use Rattle.pb_tree.specs.TreeSteps.{leaves, reifications, output_ids, part_ids, part_weakened, pair_justification, pair_justifications, justifications, root_justification, tree_justifications}
 use Rattle.pb_tree.proofs.AlongJustifications.{clause_in, along_clauses, along_justified}
 use Rattle.pb_tree.proofs.PairLists.{map-append, map-map}

@@ -3,10 +3,9 @@ use Rattle.std.proofs.Common.{◌≡◌, ◌<◌, ◌≤◌, ◌+◌, ◌*◌, �
 use Rattle.std.specs.Prelude.{map}
 use Rattle.std.proofs.lemmas.List.Elements.{All-map}
 use Rattle.pb_base.specs.declared.literal.Lit.{Lit}
-use Rattle.pb_norm.specs.Constraints.{weight}
+use Rattle.pb_norm.specs.Constraints.{weight, Weighted}
 use Rattle.pb_norm.specs.BoundedSums.{BoundedSum, IsOverDistinct}
 use Rattle.pb_norm.specs.Reduction.{lits_of, all_weigh, opposite}
-use Rattle.pb_norm.specs.Constraints.{Weighted}
 use Rattle.pb_steps.specs.Database.{Database}
 use Rattle.pb_derive.specs.Derivations.{IsReadyFor, Derives}
 use Rattle.pb_derive.proofs.Justified.{IsJustified}

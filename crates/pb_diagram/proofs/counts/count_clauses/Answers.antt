@@ -23,9 +23,3 @@ loop-i-preserved c =
     let read = read_layer c.args.shape c.loop-i.i layer c.loop-i-test.true told.term told.rest told.nodes told.next in
     let inner = read_inner _ _ _ _ _ _ _ read in
     record { left = left; counted = omega (arith, c.count_below-count.ensures, c.loop-i.invariant.counted) }
-
-pub weight_of-whole-requires : goal.weight_of-whole-requires
-weight_of-whole-requires c = omega (arith, c.args.shape.light)
-
-pub layer-layer-requires : goal.layer-layer-requires
-layer-layer-requires c = record { within = c.loop-i-test.true; left = c.loop-i.invariant.left }

@@ -1,4 +1,4 @@
-use Rattle.std.proofs.Common.{[], refl, length, ap, arith}
+use Rattle.std.proofs.Common.{[], length, ap, arith}
 use Rattle.std.proofs.lemmas.List.{get_or_default}
 use Rattle.pb_diagram.proofs.KnownFacts.{parts_of, run_again, runs_split, same_split}
 use Rattle.pb_diagram.proofs.known.split.Goals as goal
@@ -18,9 +18,3 @@ returns c =
       same = same_split c.in_ok-lower.lower c.drop_lowest.new.self rs c.insert.new.self.items c.args.place c.requires.within parts c.in_ok-insert.ensures.items;
       runs = runs_split c.in_ok-lower.lower c.drop_lowest.new.self rs c.insert.new.self.items c.args.place c.requires.within c.requires.runs parts c.in_ok-insert.ensures.items;
     }
-
-pub returns-then-len-le-MOST : goal.returns-then-len-le-MOST
-returns-then-len-le-MOST c = record { same = refl; runs = c.requires.runs }
-
-pub returns-in_err-lower : goal.returns-in_err-lower
-returns-in_err-lower c = record { same = refl; runs = c.requires.runs }

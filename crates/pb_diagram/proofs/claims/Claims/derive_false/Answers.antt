@@ -13,9 +13,3 @@ returns g c =
     let old = g.T.StepSink.state c.args.sink.now in
     steps_same c.derive_claim.result _ _ old (g.T.StepSink.state c.derive_claim.new.sink)
     (false_some (weighted c.args.self.now.layer.term.now) c.args.self.now.layer.whole c.args.self.now.layer.next.now c.args.self.now.after c.args.self.now.id c.args.place c.args.node old.next _ _ refl c.child-under.ensures (omega arith)) c.derive_claim.ensures
-
-pub overflow_mul-own : goal.overflow_mul-own
-overflow_mul-own g c = omega (arith, c.args.self.now.own, c.requires.within)
-
-pub overflow_add-own : goal.overflow_add-own
-overflow_add-own g c = omega (arith, c.args.self.now.own, c.requires.within)

@@ -20,12 +20,6 @@ returns g c =
     steps_same c.derive_claim-2.result _ _ old (g.T.StepSink.state c.derive_claim-2.new.sink)
     (true_some (weighted c.args.self.now.layer.term.now) (weights c.args.self.now.layer.rest.now) c.args.self.now.layer.next.now c.args.self.now.after c.args.self.now.id c.args.place c.args.node old.next _ _ refl under (omega (arith, c.if-node-coef.false, c.weight-coef.ensures))) c.derive_claim-2.ensures
 
-pub overflow_mul-own : goal.overflow_mul-own
-overflow_mul-own g c = omega (arith, c.args.self.now.own, c.requires.within)
-
-pub overflow_add-own : goal.overflow_add-own
-overflow_add-own g c = omega (arith, c.args.self.now.own, c.requires.within)
-
 pub child-under-requires : goal.child-under-requires
 child-under-requires g c =
     subst (λ (n : ℕ). HasPlace c.args.self.now.layer.next.now (c.args.node.low - n)) (sym c.weight-coef.ensures) (c.requires.held (omega (arith, c.if-node-coef.false, c.weight-coef.ensures)))

@@ -84,9 +84,3 @@ returns g c =
     let none = no_justification (weights c.args.self.now.shape.terms.now) c.args.self.now.shape.levels.now c.loop-i.i c.loop-i.id (omega (arith, length-map c.args.self.now.shape.terms.now weighted)) in
     steps_last c.derive_claim.result (claim_steps now.next (map by_justification top)) (g.T.StepSink.state c.derive_claim.new.sink)
     (deriving_as (ap (λ (rs : List Justification). claim_steps now.next (map by_justification (rs ++ top))) none) c.loop-i.invariant.taken) c.derive_claim.ensures
-
-pub weight_of-whole-requires : goal.weight_of-whole-requires
-weight_of-whole-requires g c = omega (arith, c.args.self.now.shape.light)
-
-pub layer-layer-requires : goal.layer-layer-requires
-layer-layer-requires g c = record { within = c.loop-i-test.true; left = c.loop-i.invariant.left }

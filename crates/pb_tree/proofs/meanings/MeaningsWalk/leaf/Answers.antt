@@ -1,15 +1,8 @@
-use Rattle.std.proofs.lemmas.Result.{IfOk-from_err}
 use Rattle.pb_family.proofs.Deriving.{steps_lack_first, takes_no_steps}
 use Rattle.pb_tree.proofs.meanings.MeaningsWalk.leaf.Goals as goal
 
 pub returns-in_err-part-clause-hands : goal.returns-in_err-part-clause-hands
 returns-in_err-part-clause-hands g c = steps_lack_first _ (g.T.StepSink.state c.args._sink.now) c.from_residual.result c.from_residual.ensures.1
-
-pub returns-in_err-part-clause-next : goal.returns-in_err-part-clause-next
-returns-in_err-part-clause-next g c = IfOk-from_err _ _ c.from_residual.ensures.0
-
-pub returns-in_err-part-clause-leaves : goal.returns-in_err-part-clause-leaves
-returns-in_err-part-clause-leaves g c = IfOk-from_err _ _ c.from_residual.ensures.0
 
 pub returns-clause-hands : goal.returns-clause-hands
 returns-clause-hands g c = takes_no_steps (g.T.StepSink.state c.args._sink.now)

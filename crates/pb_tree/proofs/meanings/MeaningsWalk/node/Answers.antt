@@ -1,6 +1,5 @@
 use Rattle.std.proofs.Common.{◌≡◌, ◌<◌, ◌+◌, ◌^◌, ap, subst, sym, arith, length, Ok}
 use Rattle.std.specs.Prelude.{All, Result}
-use Rattle.std.proofs.lemmas.Result.{IfOk-from_err}
 use Rattle.pb_norm.specs.Constraints.{weights}
 use Rattle.pb_derive.specs.Reifications.{reification_steps}
 use Rattle.pb_family.specs.declared.sink.SinkFault.{SinkFault}
@@ -11,34 +10,13 @@ use Rattle.pb_tree.proofs.TreeHanded.{steps_stopped}
 use Rattle.pb_tree.proofs.Walking.{length-own_reifications, node_of, own_meant}
 use Rattle.pb_tree.proofs.meanings.MeaningsWalk.node.Goals as goal
 
-pub node_values-requires-clause-suits : goal.node_values-requires-clause-suits
-node_values-requires-clause-suits g c = c.requires.suits
-
-pub node_values-requires-clause-parts : goal.node_values-requires-clause-parts
-node_values-requires-clause-parts g c = c.requires.parts
-
-pub node_values-requires-clause-left : goal.node_values-requires-clause-left
-node_values-requires-clause-left g c = c.requires.left
-
-pub node_values-requires-clause-right : goal.node_values-requires-clause-right
-node_values-requires-clause-right g c = c.requires.right
-
 pub returns-in_err-part-clause-hands : goal.returns-in_err-part-clause-hands
 returns-in_err-part-clause-hands g c = steps_lack_first _ (g.T.StepSink.state c.args.sink.now) c.from_residual.result c.from_residual.ensures.1
-
-pub returns-in_err-part-clause-next : goal.returns-in_err-part-clause-next
-returns-in_err-part-clause-next g c = IfOk-from_err _ _ c.from_residual.ensures.0
-
-pub returns-in_err-part-clause-leaves : goal.returns-in_err-part-clause-leaves
-returns-in_err-part-clause-leaves g c = IfOk-from_err _ _ c.from_residual.ensures.0
 
 pub overflow_add-first : goal.overflow_add-first
 overflow_add-first g c =
     let own = node_of c.requires.parts c.requires.suits c.in_ok-part.ensures in
     omega (arith, own.within, c.first.ensures, (g.met.V.TreeSum.holds c.args.self.now.of.now).fits)
-
-pub derive_outputs-requires-clause-light : goal.derive_outputs-requires-clause-light
-derive_outputs-requires-clause-light g c = c.requires.suits.light
 
 pub derive_outputs-requires-clause-small : goal.derive_outputs-requires-clause-small
 derive_outputs-requires-clause-small g c =
@@ -72,12 +50,6 @@ returns-in_err-derive_outputs-clause-hands g c =
     steps_same result _ _ old new (ap (reification_steps old.next) (own_meant c.requires.parts start (c.first.result + parts.next) us at own.own))
     (steps_stopped result _ (reification_steps old.next (reifications_from (c.first.result + parts.next) (weights parts.terms.now) us)) old new c.from_residual-in_err-derive_outputs.ensures.1 c.in_err-derive_outputs.ensures)
 
-pub returns-in_err-derive_outputs-clause-next : goal.returns-in_err-derive_outputs-clause-next
-returns-in_err-derive_outputs-clause-next g c = IfOk-from_err _ _ c.from_residual-in_err-derive_outputs.ensures.0
-
-pub returns-in_err-derive_outputs-clause-leaves : goal.returns-in_err-derive_outputs-clause-leaves
-returns-in_err-derive_outputs-clause-leaves g c = IfOk-from_err _ _ c.from_residual-in_err-derive_outputs.ensures.0
-
 pub overflow_add-next : goal.overflow_add-next
 overflow_add-next g c =
     let own = node_of c.requires.parts c.requires.suits c.in_ok-part.ensures in
@@ -97,6 +69,3 @@ pub returns-clause-next : goal.returns-clause-next
 returns-clause-next g c =
     let own = node_of c.requires.parts c.requires.suits c.in_ok-part.ensures in
     omega (arith, own.after, c.count.ensures)
-
-pub returns-clause-leaves : goal.returns-clause-leaves
-returns-clause-leaves g c = c.in_ok-part.ensures
