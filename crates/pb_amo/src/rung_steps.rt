@@ -4,9 +4,9 @@ ghost use Rattle.pb_norm.specs.Constraints.{weight, weights};
 
 use crate::rung::Place;
 use crate::rungs::Rungs;
+use pb_base::Term;
 use pb_family::{
-    NumberedClauses, NumberedSteps, SinkResult, StepSink, derive_claim, derive_reification,
-    fresh_at,
+    NumberedClauses, NumberedSteps, SinkResult, StepSink, derive_by, derive_reification, fresh_at,
 };
 use std::alloc::Global;
 
@@ -20,8 +20,12 @@ pub struct RungSteps<'a> {
     ghost modest: { base ≤ 2 ^ 61 },
 }
 
-impl RungSteps<'_> {
-    ghost use Rattle.std.specs.Prelude.{◌≡◌, ◌<◌, ◌+◌, ◌*◌, ◌^◌};
+impl<'a> RungSteps<'a> {
+    ghost use Rattle.std.specs.Prelude.{◌≡◌, ◌<◌, ◌+◌, ◌*◌, ◌^◌, [], ◌∷◌, ◌++◌, length};
+    ghost use Rattle.pb_norm.specs.Constraints.{weights};
+    ghost use Rattle.pb_family.specs.Listed.{listed};
+    ghost use Rattle.pb_amo.specs.LadderSteps.{beside_at, sources_at};
+    ghost use Rattle.pb_amo.specs.inner.LadderOrder.{IsPlace};
 
     /// The id of the constraint that holds where a fresh variable is true.
     fn forward_id(&self, place: usize) -> u64
@@ -37,6 +41,31 @@ impl RungSteps<'_> {
         ensures { result ≡ self.now.base + 2 * place + 1 }
     {
         self.base + 2 * place as u64 + 1
+    }
+
+    /// The ids of the constraints that give the clause at a place: one or none, and a last one.
+    fn sources(&self, place: Place) -> (Option<u64>, u64)
+        requires { IsPlace (length self.now.rungs.terms.now) place }
+        ensures { listed result.0 ++ (result.1 ∷ []) ≡ sources_at self.now.id self.now.base place }
+    {
+        match place {
+            Place::Link(k) => (Some(self.forward_id(k + 1)), self.reverse_id(k)),
+            Place::NoneAfter(k) => (Some(self.forward_id(k)), self.id),
+            Place::SomeAfter(k) => (None, self.reverse_id(k)),
+        }
+    }
+
+    /// The terms that they have beside.
+    fn beside(&self, place: Place) -> &'a [Term]
+        requires { IsPlace (length self.now.rungs.terms.now) place }
+        ensures { weights result.now ≡ beside_at (weights self.now.rungs.terms.now) place }
+    {
+        let terms = self.rungs.terms;
+        match place {
+            Place::Link(k) => &terms[k + 1..k + 2],
+            Place::NoneAfter(k) => &terms[..k],
+            Place::SomeAfter(k) => &terms[k + 2..],
+        }
     }
 }
 
@@ -68,18 +97,8 @@ impl NumberedSteps for RungSteps<'_> {
     }
 
     fn claim_one<T: StepSink>(&self, alloc: Global, number: usize, sink: &mut T) -> SinkResult {
-        let terms = self.rungs.terms;
-        match self.rungs.place(number) {
-            Place::Link(k) => {
-                let ids = [self.forward_id(k + 1), self.reverse_id(k)];
-                derive_claim(alloc, &ids, &terms[k + 1..k + 2], sink)
-            }
-            Place::NoneAfter(k) => {
-                derive_claim(alloc, &[self.forward_id(k), self.id], &terms[..k], sink)
-            }
-            Place::SomeAfter(k) => {
-                derive_claim(alloc, &[self.reverse_id(k)], &terms[k + 2..], sink)
-            }
-        }
+        let place = self.rungs.place(number);
+        let (first, last) = self.sources(place);
+        derive_by(alloc, first, None, last, self.beside(place), sink)
     }
 }

@@ -6,17 +6,9 @@ use crate::grid::Grid;
 use crate::place::Place;
 use pb_base::Term;
 use pb_family::{
-    NumberedClauses, NumberedSteps, SinkResult, StepSink, derive_claim, derive_reification,
-    fresh_at,
+    NumberedClauses, NumberedSteps, SinkResult, StepSink, derive_by, derive_reification, fresh_at,
 };
 use std::alloc::Global;
-
-/// The ids of the constraints that give a clause.
-#[derive(Clone, Copy)]
-pub enum Sources {
-    Single(u64),
-    Both(u64, u64),
-}
 
 /// A counter whose sum's constraint has the id `id`, and whose reifications' constraints have the ids from `base` on.
 #[derive(Clone, Copy)]
@@ -29,9 +21,10 @@ pub struct Derivation<'a> {
 }
 
 impl<'a> Derivation<'a> {
-    ghost use Rattle.std.specs.Prelude.{◌≡◌, ◌<◌, ◌+◌, length};
+    ghost use Rattle.std.specs.Prelude.{◌≡◌, ◌<◌, ◌+◌, [], ◌∷◌, ◌++◌, length};
     ghost use Rattle.pb_norm.specs.Constraints.{weights};
-    ghost use Rattle.pb_counter.specs.CounterSteps.{reached_id, missed_id, ids_of, sources_at, beside_at};
+    ghost use Rattle.pb_family.specs.Listed.{listed};
+    ghost use Rattle.pb_counter.specs.CounterSteps.{reached_id, missed_id, sources_at, beside_at};
     ghost use Rattle.pb_counter.specs.inner.Order.{IsPlace};
 
     /// The id of the constraint that holds where a fresh variable is true.
@@ -52,24 +45,21 @@ impl<'a> Derivation<'a> {
         self.forward_id(row, place) + 1
     }
 
-    /// The constraints that give the clause at a place.
-    fn sources(&self, place: Place) -> Sources
+    /// The ids of the constraints that give the clause at a place: one or none, and a last one.
+    fn sources(&self, place: Place) -> (Option<u64>, u64)
         requires { IsPlace (length self.now.grid.terms.now) self.now.grid.width place }
-        ensures { ids_of result ≡ sources_at self.now.grid.width self.now.id self.now.base place }
+        ensures { listed result.0 ++ (result.1 ∷ []) ≡ sources_at self.now.grid.width self.now.id self.now.base place }
     {
         match place {
-            Place::Start => Sources::Single(self.reverse_id(0, 0)),
-            Place::Below(j) => Sources::Single(self.forward_id(0, j)),
-            Place::One(i) => Sources::Single(self.reverse_id(i + 1, 0)),
-            Place::Keep(i, j) if j <= i => Sources::Both(
-                self.forward_id(i, j),
-                self.reverse_id(i + 1, j),
-            ),
+            Place::Start => (None, self.reverse_id(0, 0)),
+            Place::Below(j) => (None, self.forward_id(0, j)),
+            Place::One(i) => (None, self.reverse_id(i + 1, 0)),
+            Place::Keep(i, j) if j <= i => (Some(self.forward_id(i, j)), self.reverse_id(i + 1, j)),
             Place::More(i, j) if j <= i => {
-                Sources::Both(self.forward_id(i, j), self.reverse_id(i + 1, j + 1))
+                (Some(self.forward_id(i, j)), self.reverse_id(i + 1, j + 1))
             }
-            Place::Keep(i, j) | Place::More(i, j) => Sources::Single(self.forward_id(i, j)),
-            Place::Stop(i) => Sources::Both(self.forward_id(i, self.grid.width - 1), self.id),
+            Place::Keep(i, j) | Place::More(i, j) => (None, self.forward_id(i, j)),
+            Place::Stop(i) => (Some(self.forward_id(i, self.grid.width - 1)), self.id),
         }
     }
 
@@ -129,9 +119,7 @@ impl NumberedSteps for Derivation<'_> {
     fn claim_one<T: StepSink>(&self, alloc: Global, number: usize, sink: &mut T) -> SinkResult {
         let place = self.grid.place(number);
         let beside = self.beside(place);
-        match self.sources(place) {
-            Sources::Single(one) => derive_claim(alloc, &[one], beside, sink),
-            Sources::Both(one, other) => derive_claim(alloc, &[one, other], beside, sink),
-        }
+        let (first, last) = self.sources(place);
+        derive_by(alloc, first, None, last, beside, sink)
     }
 }

@@ -10,6 +10,7 @@ ghost use Rattle.pb_steps.specs.declared.step.Step.TheVariants.{Out, Pol};
 ghost use Rattle.pb_derive.specs.Justifications.{adding, push_and_add, widest};
 ghost use Rattle.pb_derive.specs.Rups.{by_rup};
 ghost use Rattle.pb_family.specs.Derivations.{closed, claimed, propagated};
+ghost use Rattle.pb_family.specs.Listed.{listed};
 ghost use Rattle.pb_family.specs.StepSinks.{HandsSteps};
 
 use crate::sink::SinkResult;
@@ -131,6 +132,30 @@ pub fn derive_claim<T: StepSink>(
     ensures { HandsSteps (claimed (T.state sink.old).next ids.now (vars_of (weights weakened.now))) result (T.state sink.old) (T.state sink.new) }
 {
     derive_and_put_out(closing_step(alloc, ids, weakened), sink)
+}
+
+/// Hands over that a clause follows from the constraints with up to three ids, without the variables of some terms, and puts it out.
+pub fn derive_by<T: StepSink>(
+    alloc: Global,
+    first: Option<u64>,
+    second: Option<u64>,
+    last: u64,
+    weakened: &[Term],
+    sink: &mut T,
+) -> SinkResult
+    requires { (T.state sink.old).next + 1 < 2 ^ 62 }
+    ensures { HandsSteps (claimed (T.state sink.old).next (listed first ++ (listed second ++ last ∷ [])) (vars_of (weights weakened.now))) result (T.state sink.old) (T.state sink.new) }
+{
+    match first {
+        Some(one) => match second {
+            Some(other) => derive_claim(alloc, &[one, other, last], weakened, sink),
+            None => derive_claim(alloc, &[one, last], weakened, sink),
+        },
+        None => match second {
+            Some(other) => derive_claim(alloc, &[other, last], weakened, sink),
+            None => derive_claim(alloc, &[last], weakened, sink),
+        },
+    }
 }
 
 /// Hands over that a short clause follows by propagation from the constraints with some ids, and puts it out.

@@ -1,6 +1,6 @@
 -- The steps of a generalized totalizer's derivation as the code has their parts.
 use Rattle.std.proofs.Common.{◌≡◌, ◌≤◌, ◌<◌, ◌+◌, ◌*◌, ◌++◌, ℕ, zero, suc, List, [], ◌∷◌, length, map, get_or, min, refl, sym, ap, ◌∙◌, subst, arith, inl, inr, append-nil, length-append}
-use Rattle.std.specs.Prelude.{Contains}
+use Rattle.std.specs.Prelude.{Contains, Result}
 use Rattle.std.specs.List.{flat_map, range_with_len}
 use Rattle.std.proofs.lemmas.Grind.{same_number_lists}
 use Rattle.std.proofs.lemmas.List.Elements.{Contains-get_or}
@@ -10,6 +10,9 @@ use Rattle.pb_base.specs.declared.literal.Term.{Term}
 use Rattle.pb_norm.specs.BoundedSums.{vars_of}
 use Rattle.pb_norm.specs.Constraints.{weights}
 use Rattle.pb_derive.specs.Justifications.{Justification}
+use Rattle.pb_family.specs.HandedJustifications.{HandsJustifications}
+use Rattle.pb_family.specs.StepSinks.{StepState}
+use Rattle.pb_family.specs.declared.sink.SinkFault.{SinkFault}
 use Rattle.pb_family.proofs.SameSteps.{HaveSameSteps, same_append}
 use Rattle.pb_tree.specs.Pairs.{Pair, pair_of}
 use Rattle.pb_tree.specs.Places.{place_of}
@@ -57,12 +60,10 @@ pub has_fewer : (source : Source) (n k : ℕ) → k ≤ n → HasIds source n �
 has_fewer Leaf n k le has = tt
 has_fewer (Fresh id) n k le has = omega (arith, has, le)
 
--- ids with a last one, by what the place and the last one are
-pub ids_there : (source : Source) {ns ms : List ℕ} {j k m n : ℕ} → ns ≡ ms → ms ≡ ids_at source j ++ m ∷ [] → j ≡ k → m ≡ n → ns ≡ ids_at source k ++ n ∷ []
-ids_there source same is place last = same ∙ is ∙ (λ i. ids_at source (place i) ++ last i ∷ [])
-
-pub some_ids : (ids before : List ℕ) (last : ℕ) → ids ≡ before ++ last ∷ [] → 1 ≤ length ids
-some_ids ids before last is = omega (arith, ap length is, length-append before (last ∷ []))
+-- a clause by ids that are written another way
+pub by_ids : {R T : Type 0} (r : Result T SinkFault) (a b : StepState R) (weakened : List ℕ) {ms ns : List ℕ} → ms ≡ ns → HandsJustifications (record { clause = []; ids = ms; weakened = weakened } ∷ []) r a b
+    → HandsJustifications (record { clause = []; ids = ns; weakened = weakened } ∷ []) r a b
+by_ids r a b weakened same h = subst (λ (ids : List ℕ). HandsJustifications (record { clause = []; ids = ids; weakened = weakened } ∷ []) r a b) same h
 
 pub row_length : (cap : ℕ) (left right : Handed) (own : Owned) (i : ℕ) → length (row_given cap left right own i) ≡ length right.values.items
 row_length cap left right own i = length-map-range_with_len (both_at cap left right own i) 0 (length right.values.items)

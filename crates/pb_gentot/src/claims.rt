@@ -1,44 +1,26 @@
 //! The clauses of a node, by the constraints that they follow from.
-ghost use Rattle.std.specs.Prelude.{◌≡◌, ◌≤◌, ◌<◌, ◌+◌, ◌^◌, ◌++◌, ◌∷◌, [], All, Contains, length, slice_index, IfOk};
+ghost use Rattle.std.specs.Prelude.{◌≡◌, ◌≤◌, ◌<◌, ◌+◌, ◌^◌, ◌∷◌, [], All, Contains, length, slice_index};
 ghost use Rattle.pb_family.specs.HandedJustifications.{HandsJustifications};
+ghost use Rattle.pb_family.specs.Listed.{listed};
 ghost use Rattle.pb_gentot.specs.Generalized.{ascending, sums};
 ghost use Rattle.pb_gentot.specs.inner.Ids.{HasIds, ids_at};
 ghost use Rattle.pb_gentot.specs.inner.Sources.{second_of, one_at, ones_given, sum_beside, both_beside, row_beside, pairs_beside, node_given};
 
 use crate::node_ids::{Handed, NodeIds, Owned, Source};
 use pb_base::Term;
-use pb_family::{SinkResult, StepSink, derive_claim};
+use pb_family::{SinkResult, StepSink, derive_by};
 use pb_tree::Parts;
-use std::alloc::{AllocError, Global};
+use std::alloc::Global;
 
-/// Adds the id of the first constraint of the value at a place, if it has one.
-fn push_first(ids: &mut Vec<u64>, source: Source, place: usize) -> Result<(), AllocError>
+/// The id of the first constraint of the value at a place, if it has one.
+pub fn first_id(source: Source, place: usize) -> Option<u64>
     requires { HasIds source place }
-    ensures { IfOk result (λ _. ids.new.items ≡ ids.old.items ++ ids_at source place) }
+    ensures { listed result ≡ ids_at source place }
 {
     match source {
-        Source::Leaf => Ok(()),
-        Source::Fresh(id) => {
-            ids.push(id + 2 * place as u64)?;
-            Ok(())
-        }
+        Source::Leaf => None,
+        Source::Fresh(id) => Some(id + 2 * place as u64),
     }
-}
-
-/// The id of the first constraint of the value at a place of a part, if it has one, and a last one.
-pub fn ids_with(
-    alloc: Global,
-    part: &Handed,
-    place: usize,
-    last: u64,
-) -> Result<Vec<u64>, AllocError>
-    requires { place < length part.now.values.items }
-    ensures { IfOk result (λ ids. ids.items ≡ ids_at part.now.source place ++ last ∷ []) }
-{
-    let mut ids = Vec::new(alloc);
-    push_first(&mut ids, part.source, place)?;
-    ids.push(last)?;
-    Ok(ids)
 }
 
 /// That a value of a part gives one of the node.
@@ -56,8 +38,8 @@ fn derive_one<T: StepSink>(
     ensures { HandsJustifications (one_at part.now others.now own.now place ∷ []) result (T.state sink.old) (T.state sink.new) }
 {
     let second = own.second(part.values[place]);
-    let ids = ids_with(alloc, part, place, second)?;
-    derive_claim(alloc, ids.as_slice(), others, sink)
+    let first = first_id(part.source, place);
+    derive_by(alloc, first, None, second, others, sink)
 }
 
 /// That each value of a part gives one of the node.
@@ -87,20 +69,6 @@ fn sum_of(node: &NodeIds, i: usize, j: usize) -> u128
     (node.left.values[i] + node.right.values[j]).min(node.cap)
 }
 
-/// The ids of the constraints by which two values give their sum.
-fn both_ids(alloc: Global, node: &NodeIds, i: usize, j: usize) -> Result<Vec<u64>, AllocError>
-    requires left { i < length node.now.left.now.values.items }
-    requires right { j < length node.now.right.now.values.items }
-    ensures { IfOk result (λ ids. ids.items ≡ (both_beside node.now i j).ids) }
-{
-    let second = node.own.second(sum_of(node, i, j));
-    let mut ids = Vec::new(alloc);
-    push_first(&mut ids, node.left.source, i)?;
-    push_first(&mut ids, node.right.source, j)?;
-    ids.push(second)?;
-    Ok(ids)
-}
-
 /// That two values give their sum.
 fn derive_both<T: StepSink>(
     alloc: Global,
@@ -114,8 +82,10 @@ fn derive_both<T: StepSink>(
     requires few { (T.state sink.old).next + 1 < 2 ^ 62 }
     ensures { HandsJustifications (both_beside node.now i j ∷ []) result (T.state sink.old) (T.state sink.new) }
 {
-    let ids = both_ids(alloc, node, i, j)?;
-    derive_claim(alloc, ids.as_slice(), &[], sink)
+    let left = first_id(node.left.source, i);
+    let right = first_id(node.right.source, j);
+    let second = node.own.second(sum_of(node, i, j));
+    derive_by(alloc, left, right, second, &[], sink)
 }
 
 /// That a value of the left and each of the right give their sum.

@@ -4,12 +4,12 @@ ghost use Rattle.pb_norm.specs.BoundedSums.{IsProper, sum_within};
 ghost use Rattle.pb_family.specs.HandedJustifications.{HandsJustifications};
 ghost use Rattle.pb_gentot.specs.inner.Sources.{root_given};
 
-use crate::claims::ids_with;
+use crate::claims::first_id;
 use crate::handing::derive_nodes;
 use crate::node_ids::Handed;
 use crate::outputs::place_in;
 use crate::whole::Whole;
-use pb_family::{SinkResult, StepSink, derive_claim};
+use pb_family::{SinkResult, StepSink, derive_by};
 use pb_tree::TreeClaims;
 use std::alloc::Global;
 
@@ -26,8 +26,7 @@ fn derive_root<T: StepSink>(
     ensures { HandsJustifications (root_given root.now cap own ∷ []) result (T.state sink.old) (T.state sink.new) }
 {
     let place = place_in(root.values.as_slice(), cap);
-    let ids = ids_with(alloc, root, place, own)?;
-    derive_claim(alloc, ids.as_slice(), &[], sink)
+    derive_by(alloc, first_id(root.source, place), None, own, &[], sink)
 }
 
 /// The clauses of a generalized totalizer, with that of the root, which follows from the sum's constraint with the id `own`.

@@ -16,7 +16,7 @@ use crate::outputs::Outputs;
 use crate::ranked::ranked_over;
 use crate::whole::Whole;
 use pb_base::Term;
-use pb_family::{ClauseSink, SinkFault, SinkResult};
+use pb_family::{ClauseSink, SinkFault, SinkResult, sink_result};
 use pb_tree::{Parts, Placed, Walk, walk_along};
 use std::alloc::Global;
 
@@ -159,10 +159,6 @@ pub fn emit_whole<S: ClauseSink>(alloc: Global, whole: &Whole, sink: &mut S) -> 
     ensures { HandsIfMemory (tree_clauses (generalized whole.now.bound) (tree_of (weights whole.now.terms.now)) whole.now.first) result (S.state sink.old) (S.state sink.new) }
 {
     let root = emit_nodes(alloc, whole, sink)?;
-    sink.clause(&[
-        root.outputs
-            .of(root.values.as_slice(), whole.bound + 1)
-            .not(),
-    ])?;
-    Ok(())
+    let top = root.outputs.of(root.values.as_slice(), whole.bound + 1);
+    sink_result(sink.clause(&[top.not()]))
 }

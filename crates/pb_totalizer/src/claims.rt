@@ -1,16 +1,15 @@
 //! A clause from a node's parts to its outputs, by the constraints that it follows from.
-ghost use Rattle.std.specs.Prelude.{◌≡◌, ◌≤◌, ◌<◌, ◌+◌, ◌^◌, ◌++◌, ◌∷◌, []};
+ghost use Rattle.std.specs.Prelude.{◌≡◌, ◌≤◌, ◌<◌, ◌+◌, ◌^◌, ◌∷◌, []};
 ghost use Rattle.pb_norm.specs.BoundedSums.{vars_of};
 ghost use Rattle.pb_norm.specs.Constraints.{weights};
-ghost use Rattle.pb_family.specs.Derivations.{claimed};
 ghost use Rattle.pb_family.specs.HandedJustifications.{HandsJustifications};
-ghost use Rattle.pb_family.specs.StepSinks.{HandsSteps};
+ghost use Rattle.pb_family.specs.Listed.{listed};
 ghost use Rattle.pb_totalizer.specs.inner.Numbers.{AreSummed};
-ghost use Rattle.pb_totalizer.specs.inner.Sources.{listed, some_ids, pair_weakened, pair_beside};
+ghost use Rattle.pb_totalizer.specs.inner.Sources.{some_ids, pair_weakened, pair_beside};
 
 use crate::node_ids::{NodeIds, Source};
 use pb_base::Term;
-use pb_family::{SinkResult, StepSink, derive_claim};
+use pb_family::{SinkResult, StepSink, derive_by};
 use std::alloc::Global;
 
 /// The id of the first constraint of a number's output, if it has one.
@@ -24,30 +23,6 @@ pub fn first_id(source: Source, number: u64) -> Option<u64>
     match source {
         Source::Leaf => None,
         Source::Fresh(row) => Some(row.first + 2 * (number - 1)),
-    }
-}
-
-/// A clause that follows from the constraints with some ids, one or none of each part and one besides, without some leaves.
-pub fn derive_by<T: StepSink>(
-    alloc: Global,
-    left: Option<u64>,
-    right: Option<u64>,
-    own: u64,
-    beside: &[Term],
-    sink: &mut T,
-) -> SinkResult
-    requires { (T.state sink.old).next + 1 < 2 ^ 62 }
-    ensures { HandsSteps (claimed (T.state sink.old).next (listed left ++ (listed right ++ own ∷ [])) (vars_of (weights beside.now))) result (T.state sink.old) (T.state sink.new) }
-{
-    match left {
-        Some(first) => match right {
-            Some(second) => derive_claim(alloc, &[first, second, own], beside, sink),
-            None => derive_claim(alloc, &[first, own], beside, sink),
-        },
-        None => match right {
-            Some(second) => derive_claim(alloc, &[second, own], beside, sink),
-            None => derive_claim(alloc, &[own], beside, sink),
-        },
     }
 }
 

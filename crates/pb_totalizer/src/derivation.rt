@@ -6,12 +6,12 @@ ghost use Rattle.pb_family.specs.HandedJustifications.{HandsJustifications};
 ghost use Rattle.pb_totalizer.specs.TotalizerSteps.{totalizer_steps};
 ghost use Rattle.pb_totalizer.specs.inner.Sources.{root_given};
 
-use crate::claims::{derive_by, first_id};
+use crate::claims::first_id;
 use crate::handing::derive_nodes;
 use crate::node_ids::Source;
 use crate::polarity::Polarity;
 use crate::whole::Whole;
-use pb_family::{SinkResult, StepSink};
+use pb_family::{SinkResult, StepSink, derive_by};
 use pb_tree::{TreeClaims, derive_along};
 use std::alloc::Global;
 

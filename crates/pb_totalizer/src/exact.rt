@@ -12,7 +12,7 @@ use crate::polarity::Polarity;
 use crate::size::size_of;
 use crate::whole::Whole;
 use pb_base::{Lit, Lits, NoMemory, Term};
-use pb_family::{Built, ClauseSink, Pair, SinkResult, StepSink};
+use pb_family::{Built, ClauseSink, Pair, SinkResult, StepSink, sink_result};
 use std::alloc::{AllocError, Global};
 
 /// The totalizer of literals of which exactly so many are to be true (Bailleux and Boufkhad 2003, in both directions): a tree of
@@ -117,8 +117,7 @@ impl Pair for Exact {
             bound: self.bound,
             first,
         };
-        emit_exact(alloc, &whole, sink)?;
-        Ok(())
+        sink_result(emit_exact(alloc, &whole, sink))
     }
 
     fn derive<T: StepSink>(

@@ -6,14 +6,13 @@ ghost use Rattle.pb_family.specs.HandedJustifications.{HandsJustifications};
 ghost use Rattle.pb_totalizer.specs.ExactSteps.{exact_steps};
 ghost use Rattle.pb_totalizer.specs.inner.LimitSources.{least_given};
 
-use crate::claims::derive_by;
 use crate::derivation::derive_root;
 use crate::handing::derive_nodes;
 use crate::limit_claims::second_id;
 use crate::node_ids::Source;
 use crate::polarity::Polarity;
 use crate::whole::Whole;
-use pb_family::{SinkResult, StepSink};
+use pb_family::{SinkResult, StepSink, derive_by};
 use pb_tree::{TreeClaims, derive_along};
 use std::alloc::Global;
 

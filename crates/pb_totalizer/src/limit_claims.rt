@@ -5,12 +5,11 @@ ghost use Rattle.pb_norm.specs.Constraints.{weights};
 ghost use Rattle.pb_family.specs.HandedJustifications.{HandsJustifications};
 ghost use Rattle.pb_totalizer.specs.inner.LimitSources.{seconds_from, ids_after, limit_weakened, limit_beside};
 ghost use Rattle.pb_totalizer.specs.inner.Numbers.{AreLimited};
-ghost use Rattle.pb_totalizer.specs.inner.Sources.{listed};
+ghost use Rattle.pb_family.specs.Listed.{listed};
 
-use crate::claims::derive_by;
 use crate::node_ids::{NodeIds, Side, Source};
 use pb_base::Term;
-use pb_family::{SinkResult, StepSink};
+use pb_family::{SinkResult, StepSink, derive_by};
 use std::alloc::Global;
 
 /// The id of the second constraint of a number's output, if it has one.

@@ -1,5 +1,5 @@
 -- Where the constraints of a part's outputs stand, and the justifications of a node's clauses by that; their clauses are left out.
-use Rattle.std.specs.Prelude.{◌≡◌, ℕ, zero, suc, Option, Some, None, ◌+◌, ◌-◌, ◌*◌, List, [], ◌∷◌, ◌++◌, map}
+use Rattle.std.specs.Prelude.{◌≡◌, ℕ, zero, suc, ◌+◌, ◌-◌, ◌*◌, List, [], ◌∷◌, ◌++◌, map}
 use Rattle.std.specs.List.{flat_map, range_with_len}
 use Rattle.pb_base.specs.declared.literal.Term.{Term}
 use Rattle.pb_norm.specs.BoundedSums.{vars_of}
@@ -13,11 +13,6 @@ use Rattle.pb_totalizer.specs.declared.handing.Handed.{Handed}
 use Rattle.pb_totalizer.specs.declared.node_ids.NodeIds.{NodeIds}
 use Rattle.pb_totalizer.specs.declared.node_ids.Source.{Source}
 use Rattle.pb_totalizer.specs.declared.node_ids.Source.TheVariants.{Leaf, Fresh}
-
--- one id, or none
-abbrev pub listed : Option ℕ → List ℕ
-listed None = []
-listed (Some id) = id ∷ []
 
 -- a leaf has no constraints; the ids of an output's first one go up by two
 abbrev pub ids_from : Source → ℕ → List ℕ

@@ -1,25 +1,18 @@
-use Rattle.std.proofs.Common.{◌∷◌, [], ℕ, List, refl, ap, ◌∙◌, subst, arith}
-use Rattle.pb_family.specs.HandedJustifications.{HandsJustifications}
-use Rattle.pb_family.proofs.Deriving.{steps_lack_first}
+use Rattle.std.proofs.Common.{◌++◌, ◌∷◌, [], length, ap, ◌∙◌, arith}
 use Rattle.pb_tree.specs.Places.{place_of}
 use Rattle.pb_tree.proofs.Places.{place_within}
-use Rattle.pb_gentot.proofs.Handed.{ids_there, some_ids}
+use Rattle.pb_gentot.specs.inner.Ids.{ids_at}
+use Rattle.pb_gentot.proofs.Handed.{by_ids, has_fewer}
 use Rattle.pb_gentot.proofs.derivation.derive_root.Goals as goal
 
-pub ids_with-requires : goal.ids_with-requires
-ids_with-requires g c =
+pub first_id-requires : goal.first_id-requires
+first_id-requires g c =
+    let root = c.args.root.now in
     let place = c.place_in-place.ensures ∙ ap (place_of c.args.cap) c.as_slice.ensures.value in
-    omega (arith, place, place_within c.args.cap c.args.root.now.values.items c.requires.has)
-
-pub returns-in_err-ids : goal.returns-in_err-ids
-returns-in_err-ids g c = steps_lack_first _ (g.T.StepSink.state c.args.sink.now) c.from_residual.result c.from_residual.ensures.1
-
-pub derive_claim-requires-clause-some : goal.derive_claim-requires-clause-some
-derive_claim-requires-clause-some g c =
-    some_ids c.as_slice-2.result.now _ c.args.own (c.as_slice-2.ensures.value ∙ c.in_ok-ids.ensures)
+    has_fewer root.source (length root.values.items) c.place_in-place.result (omega (arith, place, place_within c.args.cap root.values.items c.requires.has)) root.ids
 
 pub returns : goal.returns
 returns g c =
     let place = c.place_in-place.ensures ∙ ap (place_of c.args.cap) c.as_slice.ensures.value in
-    let ids = ids_there c.args.root.now.source c.as_slice-2.ensures.value c.in_ok-ids.ensures place refl in
-    subst (λ (ns : List ℕ). HandsJustifications (record { clause = []; ids = ns; weakened = [] } ∷ []) c.derive_claim.result (g.T.StepSink.state c.args.sink.now) (g.T.StepSink.state c.derive_claim.new.sink)) ids c.derive_claim.ensures
+    by_ids c.derive_by.result (g.T.StepSink.state c.args.sink.now) (g.T.StepSink.state c.derive_by.new.sink) []
+    (λ i. (c.first_id.ensures ∙ ap (ids_at c.args.root.now.source) place) i ++ c.args.own ∷ []) c.derive_by.ensures

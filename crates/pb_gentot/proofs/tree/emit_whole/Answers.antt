@@ -1,11 +1,10 @@
-use Rattle.std.proofs.Common.{◌≡◌, ◌+◌, ℕ, List, [], ◌∷◌, ap, sym, ◌∙◌, subst}
+use Rattle.std.proofs.Common.{◌≡◌, ◌+◌, ℕ, List, [], ◌∷◌, ap, sym, ◌∙◌, subst, refl}
 use Rattle.std.specs.Prelude.{Contains}
 use Rattle.pb_base.specs.declared.literal.Lit.{Lit}
 use Rattle.pb_base.specs.Literals.{negated}
 use Rattle.pb_norm.specs.Constraints.{weights}
-use Rattle.pb_family.specs.Handing.{FailsInClauses, TakesClauses}
-use Rattle.pb_family.specs.declared.sink.SinkFault.TheVariants as fault
-use Rattle.pb_family.proofs.Emission.{emitting_starts, emitting_step, emitting_ends}
+use Rattle.pb_family.specs.Handing.{Hands}
+use Rattle.pb_family.proofs.Emission.{emitting_starts, emitting_step, hands_if_memory, hands_last}
 use Rattle.pb_family.proofs.Stopping.{stops_fault}
 use Rattle.pb_tree.specs.Tree.{tree_of}
 use Rattle.pb_tree.specs.Scheme.{output, clauses_of, tree_clauses}
@@ -19,8 +18,8 @@ returns-in_err-root g c =
     let t = tree_of (weights c.args.whole.now.terms.now) in
     stops_fault {all = tree_clauses s t c.args.whole.now.first} c.from_residual.result _ (clauses_of s t c.args.whole.now.first) _ _ c.from_residual.ensures.1 (emitting_starts _ _) c.in_err-root.ensures.hands
 
-pub of-requires-clause-has : goal.of-requires-clause-has
-of-requires-clause-has g c =
+pub of-top-requires-clause-has : goal.of-top-requires-clause-has
+of-top-requires-clause-has g c =
     subst (λ (us : List ℕ). Contains us (c.args.whole.now.bound + 1)) (sym (c.as_slice.ensures.value ∙ c.in_ok-root.ensures.emitted.values_are)) c.requires
 
 pub returns : goal.returns
@@ -30,18 +29,7 @@ returns g c =
     let sink = g.S.ClauseSink in
     let top : Lit = negated (output s t c.args.whole.now.first s.cap) in
     let outs = ap (output_in c.in_ok-root.root.outputs) c.as_slice.ensures.value ∙ c.in_ok-root.ensures.emitted.outputs_are in
-    let same : c.not.result ≡ top = c.not.ensures ∙ ap negated (c.of.ensures ∙ ap (λ (f : ℕ → Lit). f (c.args.whole.now.bound + 1)) outs) in
-    let handed = subst (λ (l : Lit). TakesClauses ((l ∷ []) ∷ []) (sink.state c.emit_nodes.new.sink) (sink.state c.clause.new.self)) same c.in_ok-clause.ensures in
-    emitting_ends {all = tree_clauses s t c.args.whole.now.first} (emitting_step ((top ∷ []) ∷ []) _ (emitting_step (clauses_of s t c.args.whole.now.first) _ (emitting_starts _ _) c.in_ok-root.ensures.hands) handed)
-
-pub returns-in_err-clause : goal.returns-in_err-clause
-returns-in_err-clause g c =
-    let s = generalized c.args.whole.now.bound in
-    let t = tree_of (weights c.args.whole.now.terms.now) in
-    let sink = g.S.ClauseSink in
-    let top : Lit = negated (output s t c.args.whole.now.first s.cap) in
-    let outs = ap (output_in c.in_ok-root.root.outputs) c.as_slice.ensures.value ∙ c.in_ok-root.ensures.emitted.outputs_are in
-    let same : c.not.result ≡ top = c.not.ensures ∙ ap negated (c.of.ensures ∙ ap (λ (f : ℕ → Lit). f (c.args.whole.now.bound + 1)) outs) in
-    let part = subst (λ (l : Lit). FailsInClauses ((l ∷ []) ∷ []) (sink.state c.emit_nodes.new.sink) (sink.state c.clause.new.self)) same c.in_err-clause.ensures in
-    stops_fault {all = tree_clauses s t c.args.whole.now.first} c.from_residual-in_err-clause.result fault.Failed ((top ∷ []) ∷ []) [] _ c.from_residual-in_err-clause.ensures.1
-    (emitting_step (clauses_of s t c.args.whole.now.first) _ (emitting_starts _ _) c.in_ok-root.ensures.hands) part
+    let same : c.not.result ≡ top = c.not.ensures ∙ ap negated (c.of-top.ensures ∙ ap (λ (f : ℕ → Lit). f (c.args.whole.now.bound + 1)) outs) in
+    let handed = subst (λ (l : Lit). Hands ((l ∷ []) ∷ []) c.clause.result (sink.state c.emit_nodes.new.sink) (sink.state c.clause.new.self)) same c.clause.ensures in
+    let nodes = emitting_step {all = tree_clauses s t c.args.whole.now.first} (clauses_of s t c.args.whole.now.first) _ (emitting_starts _ _) c.in_ok-root.ensures.hands in
+    hands_if_memory _ _ _ _ _ _ c.sink_result.ensures refl (hands_last c.clause.result ((top ∷ []) ∷ []) (sink.state c.clause.new.self) nodes handed)
