@@ -17,3 +17,6 @@ returns-else-node-coef g c =
     let child = c.child.ensures ∙ ap (λ (n : ℕ). node_at c.args.self.now.after c.args.self.now.layer.next.now (c.args.node.low - n)) c.weight-coef.ensures in
     hands_same c.clause-else-node-coef.result _ _ (g.S.ClauseSink.state c.args.sink.now) (g.S.ClauseSink.state c.clause-else-node-coef.new.self)
     (true_some t c.args.self.now.after c.args.self.now.layer.next.now (c.args.self.now.first + c.args.place) c.args.node _ _ (c.not-not_node.ensures ∙ ap negated c.fresh_at.ensures) c.not-else-node-coef.ensures _ child (omega (arith, c.if-node-coef.false, c.weight-coef.ensures))) c.clause-else-node-coef.ensures
+
+pub fresh_at-requires : goal.fresh_at-requires
+fresh_at-requires g c = record { low = c.args.self.now.low; high = omega (arith, c.args.self.now.follows, c.args.self.now.high, c.requires.within) }

@@ -24,3 +24,6 @@ invariant_of-result c =
 
 pub returns-clause-rest : goal.returns-clause-rest
 returns-clause-rest c = weights_from c.args.self.now.terms.now (c.args.place + 1) (c.args.place + 1) refl
+
+pub slice_bounds-result-start : goal.slice_bounds-result-start
+slice_bounds-result-start c = omega (arith, c.requires.within)
