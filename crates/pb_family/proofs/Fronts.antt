@@ -12,8 +12,8 @@ still_before {X} start more now before =
     ap (take (length start)) whole ∙ take-append_seam start (more ++ drop long now)
 
 -- what more is appended to, behind what was appended before, if that does not fail
-pub appended_all : {T E : Type 0} (r : Result T E) (start made more said now : List ℕ) → said ≡ start ++ made → now ≡ (if is_ok r then said ++ more else said) → OnOk r (now ≡ start ++ (made ++ more))
-appended_all (Ok x) start made more said now so_far appended = appended ∙ ap (λ (xs : List ℕ). xs ++ more) so_far ∙ append_assoc start made more
+pub appended_all : {X T E : Type 0} (r : Result T E) (start made more said now : List X) → said ≡ start ++ made → now ≡ (if is_ok r then said ++ more else said) → OnOk r (now ≡ start ++ (made ++ more))
+appended_all {X} (Ok x) start made more said now so_far appended = appended ∙ ap (λ (xs : List X). xs ++ more) so_far ∙ append_assoc start made more
 appended_all (Err f) start made more said now so_far appended = tt
 
 -- it begins as it did, also where that fails

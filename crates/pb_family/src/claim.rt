@@ -1,13 +1,12 @@
 //! Steps that give a clause, or add constraints.
-ghost use Rattle.std.specs.Prelude.{◌≡◌, ◌≤◌, ◌<◌, ◌+◌, ◌^◌, [], ◌∷◌, ◌++◌, pos, length, map, IfOk};
-ghost use Rattle.pb_base.specs.Literals.{is_among};
+ghost use Rattle.std.specs.Prelude.{◌≡◌, ◌≤◌, ◌<◌, ◌+◌, ◌^◌, [], ◌∷◌, ◌++◌, pos, length, map, IfOk, OnOk};
 ghost use Rattle.pb_norm.specs.BoundedSums.{vars_of};
 ghost use Rattle.pb_norm.specs.ClauseForm.{one_of, distinct};
 ghost use Rattle.pb_norm.specs.Constraints.{weights};
 ghost use Rattle.pb_steps.specs.declared.op.PolOp.TheVariants.{Div, Push, Weaken};
 ghost use Rattle.pb_steps.specs.declared.step.Step.{Step};
 ghost use Rattle.pb_steps.specs.declared.step.Step.TheVariants.{Out, Pol};
-ghost use Rattle.pb_derive.specs.Justifications.{adding, push_and_add, widest};
+ghost use Rattle.pb_derive.specs.Justifications.{adding, widest};
 ghost use Rattle.pb_derive.specs.Rups.{by_rup};
 ghost use Rattle.pb_family.specs.Derivations.{closed, claimed, propagated};
 ghost use Rattle.pb_family.specs.Listed.{listed};
@@ -22,37 +21,26 @@ use std::alloc::{AllocError, Global};
 // Above all numbers of a constraint that has room, so that division by it leaves 1 of each.
 const WIDEST: i128 = 85070591730234615865843651857942052863;
 
-// Adds that a constraint is pushed and added.
-fn push_and_add(ops: &mut Vec<PolOp>, id: u64) -> Result<(), AllocError>
-    ensures { IfOk result (λ _. ops.new.items ≡ ops.old.items ++ push_and_add id) }
-{
-    ops.push(PolOp::Push(id))?;
-    ops.push(PolOp::Add)?;
-    Ok(())
-}
-
 // The sum of constraints.
 fn sum_of(alloc: Global, ids: &[u64]) -> Result<Vec<PolOp>, AllocError>
     requires some { 1 ≤ length ids.now }
     ensures { IfOk result (λ ops. ops.items ≡ adding ids.now) }
 {
-    let mut ops = Vec::new(alloc);
-    ops.push(PolOp::Push(ids[0]))?;
+    let mut ops = vec![in alloc; PolOp::Push(ids[0])]?;
     for id in &ids[1..] {
-        push_and_add(&mut ops, *id)?;
+        ops.extend_from_slice(&[PolOp::Push(*id), PolOp::Add])?;
     }
     Ok(ops)
 }
 
 // Adds that the variables of terms are weakened away, and that one of each literal is left.
 fn push_closing(ops: &mut Vec<PolOp>, weakened: &[Term]) -> Result<(), AllocError>
-    ensures { IfOk result (λ _. ops.new.items ≡ ops.old.items ++ (map Weaken (vars_of (weights weakened.now)) ++ Div (pos widest) ∷ [])) }
+    ensures { OnOk result (ops.new.items ≡ ops.old.items ++ (map Weaken (vars_of (weights weakened.now)) ++ Div (pos widest) ∷ [])) }
 {
     for term in weakened {
         ops.push(PolOp::Weaken(term.lit.var))?;
     }
-    ops.push(PolOp::Div(WIDEST))?;
-    Ok(())
+    ops.extend_from_slice(&[PolOp::Div(WIDEST)])
 }
 
 // A clause, by constraints without the variables of some terms.
@@ -65,13 +53,6 @@ fn closing_step(alloc: Global, ids: &[u64], weakened: &[Term]) -> Result<Step, A
     Ok(Step::Pol(PolOps::from_vec(ops)))
 }
 
-// Whether a literal is among others.
-fn is_among(lits: &[Lit], lit: &Lit) -> bool
-    ensures { result ≡ is_among lits.now lit.now }
-{
-    lits.contains(lit)
-}
-
 // Each literal once, with the coefficient 1.
 fn each_once(alloc: Global, clause: &[Lit]) -> Result<Vec<Term>, AllocError>
     ensures { IfOk result (λ v. v.items ≡ map one_of (distinct clause.now)) }
@@ -79,7 +60,7 @@ fn each_once(alloc: Global, clause: &[Lit]) -> Result<Vec<Term>, AllocError>
     let mut terms = Vec::new(alloc);
     for place in 0..clause.len() {
         let lit = clause[place];
-        if !is_among(&clause[place + 1..], &lit) {
+        if !clause[place + 1..].contains(&lit) {
             terms.push(Term { coef: 1, lit })?;
         }
     }

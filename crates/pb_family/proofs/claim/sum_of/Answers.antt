@@ -1,24 +1,23 @@
-use Rattle.std.proofs.Common.{◌-◌, ◌∙◌, ◌++◌, ◌∷◌, [], List, ap, arith, drop, get_or, length, refl, take}
+use Rattle.std.proofs.Common.{◌-◌, ◌∙◌, ◌∷◌, [], arith, drop, get_or, length, refl, take}
 use Rattle.std.proofs.lemmas.Result.{IfOk-from_err}
-use Rattle.pb_steps.specs.declared.op.PolOp.{PolOp}
 use Rattle.pb_steps.specs.declared.op.PolOp.TheVariants.{Push}
 use Rattle.pb_derive.specs.Justifications.{push_and_add}
 use Rattle.pb_family.proofs.Gathered.{flat_next, flat_last, added_behind}
 use Rattle.pb_family.proofs.claim.sum_of.Goals as goal
 
-pub returns-in_err-push : goal.returns-in_err-push
-returns-in_err-push c = IfOk-from_err _ _ c.from_residual.ensures.0
+pub returns-in_err-ops : goal.returns-in_err-ops
+returns-in_err-ops c = IfOk-from_err _ _ c.from_residual.ensures.0
 
 pub loop-id-init : goal.loop-id-init
-loop-id-init c = c.in_ok-push.ensures.items ∙ ap (λ (os : List PolOp). os ++ Push (get_or c.args.ids.now 0 0) ∷ []) c.new-ops.ensures.items
+loop-id-init c = c.in_ok-ops.ensures.items
 
-pub returns-in_err-push_and_add : goal.returns-in_err-push_and_add
-returns-in_err-push_and_add c = IfOk-from_err _ _ c.from_residual-in_err-push_and_add.ensures.0
+pub returns-in_err-extend_from_slice : goal.returns-in_err-extend_from_slice
+returns-in_err-extend_from_slice c = IfOk-from_err _ _ c.from_residual-in_err-extend_from_slice.ensures.0
 
 pub loop-id-preserved : goal.loop-id-preserved
 loop-id-preserved c =
     let more = take (length c.args.ids.now - 1) (drop 1 c.args.ids.now) in
-    flat_next push_and_add more c.loop-id.id-index (get_or more c.loop-id.id-index 0) 0 (Push (get_or c.args.ids.now 0 0) ∷ []) c.loop-id.ops.items c.push_and_add.new.ops.items (omega (arith, c.loop-id-test.true)) refl c.loop-id.invariant c.in_ok-push_and_add.ensures
+    flat_next push_and_add more c.loop-id.id-index (get_or more c.loop-id.id-index 0) 0 (Push (get_or c.args.ids.now 0 0) ∷ []) c.loop-id.ops.items c.extend_from_slice.new.self.items (omega (arith, c.loop-id-test.true)) refl c.loop-id.invariant c.in_ok-extend_from_slice.ensures.items
 
 pub returns : goal.returns
 returns c =
