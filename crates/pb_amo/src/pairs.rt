@@ -7,6 +7,7 @@ ghost use Rattle.pb_amo.specs.inner.Source.{source_literals};
 
 use crate::claims::derive_pairs;
 use crate::one::One;
+use crate::sides::pairs_of;
 use crate::source::Source;
 use pb_base::Failed;
 use pb_family::{ClauseSink, Derive, Family, SinkResult, StepSink, Strong, sink_result};
@@ -66,12 +67,7 @@ impl Family for Pairwise<'_> {
     }
 
     fn clauses(&self) -> u64 {
-        let count = self.sum.of.terms().len() as u64;
-        if count == 0 {
-            0
-        } else {
-            count * (count - 1) / 2
-        }
+        pairs_of(self.sum.of.terms().len())
     }
 
     fn emit<S: ClauseSink>(&self, _alloc: Global, first: u32, sink: &mut S) -> SinkResult {

@@ -1,6 +1,6 @@
 //! Where the clauses of a ladder stand.
-ghost use Rattle.std.specs.Prelude.{◌≡◌, ◌≤◌, ◌<◌, ◌^◌};
-ghost use Rattle.pb_amo.specs.inner.LadderOrder.{place_at};
+ghost use Rattle.std.specs.Prelude.{◌≡◌, ◌≤◌, ◌<◌, ◌-◌, ◌*◌, ◌^◌};
+ghost use Rattle.pb_amo.specs.inner.LadderOrder.{IsPlace, place_at};
 
 /// A clause of a ladder: what it says, and its place.
 #[derive(Clone, Copy)]
@@ -17,7 +17,9 @@ pub enum Place {
 pub fn place_at(count: usize, number: usize) -> Place
     requires three { 3 ≤ count }
     requires small { count < 2 ^ 31 }
-    ensures { result ≡ place_at count number }
+    requires within { number < 3 * count - 4 }
+    ensures is { result ≡ place_at count number }
+    ensures place { IsPlace count result }
 {
     if number < count - 2 {
         return Place::Link(number);

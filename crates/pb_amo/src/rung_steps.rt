@@ -2,7 +2,7 @@
 ghost use Rattle.std.specs.Prelude.{◌≤◌, ◌<◌, ◌^◌};
 ghost use Rattle.pb_norm.specs.Constraints.{weight, weights};
 
-use crate::rung::Place;
+use crate::rung::{Place, place_at};
 use crate::rungs::Rungs;
 use pb_base::Term;
 use pb_family::{
@@ -27,20 +27,12 @@ impl<'a> RungSteps<'a> {
     ghost use Rattle.pb_amo.specs.LadderSteps.{beside_at, sources_at};
     ghost use Rattle.pb_amo.specs.inner.LadderOrder.{IsPlace};
 
-    /// The id of the constraint that holds where a fresh variable is true.
+    /// The id of the constraint that holds where a fresh variable is true. The next one holds where it is false.
     fn forward_id(&self, place: usize) -> u64
         requires { place < 2 ^ 31 }
         ensures { result ≡ self.now.base + 2 * place }
     {
         self.base + 2 * place as u64
-    }
-
-    /// The id of the constraint that holds where it is false.
-    fn reverse_id(&self, place: usize) -> u64
-        requires { place < 2 ^ 31 }
-        ensures { result ≡ self.now.base + 2 * place + 1 }
-    {
-        self.base + 2 * place as u64 + 1
     }
 
     /// The ids of the constraints that give the clause at a place: one or none, and a last one.
@@ -49,9 +41,9 @@ impl<'a> RungSteps<'a> {
         ensures { listed result.0 ++ (result.1 ∷ []) ≡ sources_at self.now.id self.now.base place }
     {
         match place {
-            Place::Link(k) => (Some(self.forward_id(k + 1)), self.reverse_id(k)),
+            Place::Link(k) => (Some(self.forward_id(k + 1)), self.forward_id(k) + 1),
             Place::NoneAfter(k) => (Some(self.forward_id(k)), self.id),
-            Place::SomeAfter(k) => (None, self.reverse_id(k)),
+            Place::SomeAfter(k) => (None, self.forward_id(k) + 1),
         }
     }
 
@@ -97,7 +89,7 @@ impl NumberedSteps for RungSteps<'_> {
     }
 
     fn claim_one<T: StepSink>(&self, alloc: Global, number: usize, sink: &mut T) -> SinkResult {
-        let place = self.rungs.place(number);
+        let place = place_at(self.rungs.terms.len(), number);
         let (first, last) = self.sources(place);
         derive_by(alloc, first, None, last, self.beside(place), sink)
     }

@@ -2,7 +2,6 @@
 ghost use Rattle.std.specs.Prelude.{◌≤◌, ◌<◌, ◌+◌, ◌^◌, length};
 
 use crate::rung::{Place, place_at};
-use crate::source::Source;
 use pb_base::{Failed, Lit, Term};
 use pb_family::{ClauseSink, NumberedClauses, emit_all, fresh_at};
 
@@ -26,16 +25,7 @@ impl Rungs<'_> {
     ghost use Rattle.pb_family.specs.Handing.{Hands};
     ghost use Rattle.pb_amo.specs.Ladder.{ladder_clauses};
     ghost use Rattle.pb_amo.specs.LadderSteps.{clause_at};
-    ghost use Rattle.pb_amo.specs.inner.LadderOrder.{IsPlace, place_at};
-
-    /// The place with a number.
-    pub fn place(&self, number: usize) -> Place
-        requires { number < 3 * length self.now.terms.now - 4 }
-        ensures is { result ≡ place_at (length self.now.terms.now) number }
-        ensures within { IsPlace (length self.now.terms.now) result }
-    {
-        place_at(self.terms.len(), number)
-    }
+    ghost use Rattle.pb_amo.specs.inner.LadderOrder.{place_at};
 
     /// The fresh variable that says that some literal after a place is true.
     fn bit(&self, place: usize) -> Lit
@@ -50,7 +40,7 @@ impl Rungs<'_> {
         requires { place < length self.now.terms.now }
         ensures { result ≡ negated (literal_at (lits_of (weights self.now.terms.now)) place) }
     {
-        Source::OfTerms(self.terms).at(place).not()
+        self.terms[place].lit.not()
     }
 
     /// The two literals of the clause with a number.
@@ -58,7 +48,7 @@ impl Rungs<'_> {
         requires { number < 3 * length self.now.terms.now - 4 }
         ensures { (result.0 ∷ result.1 ∷ []) ≡ clause_at (lits_of (weights self.now.terms.now)) self.now.first (place_at (length self.now.terms.now) number) }
     {
-        match self.place(number) {
+        match place_at(self.terms.len(), number) {
             Place::Link(k) => (self.bit(k + 1).not(), self.bit(k)),
             Place::NoneAfter(k) => (self.not_at(k), self.bit(k).not()),
             Place::SomeAfter(k) => (self.not_at(k + 1), self.bit(k)),

@@ -11,5 +11,5 @@ returns g c =
     let ts = own.rungs.terms.now in
     let old = g.T.StepSink.state c.args.sink.now in
     steps_same c.derive_by.result _ _ old (g.T.StepSink.state c.derive_by.new.sink)
-    (claim_same ts own.rungs.first own.id own.base old.next _ _ _ (c.sources-first.ensures ∙ ap (sources_at own.id own.base) c.place-place.ensures.is)
-    (c.beside.ensures ∙ ap (beside_at (weights ts)) c.place-place.ensures.is)) c.derive_by.ensures
+    (claim_same ts own.rungs.first own.id own.base old.next _ _ _ (c.sources-first.ensures ∙ ap (sources_at own.id own.base) c.place_at-place.ensures.is)
+    (c.beside.ensures ∙ ap (beside_at (weights ts)) c.place_at-place.ensures.is)) c.derive_by.ensures
