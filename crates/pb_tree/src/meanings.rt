@@ -70,13 +70,7 @@ impl<'a, V: TreeSum, T: StepSink> Walk<T> for Meanings<'a, V> {
 
     ghost leaves = { λ w ts before part. V.list part ≡ values (V.scheme w.of.now) (tree_of (weights ts)) };
 
-    fn leaf(
-        &self,
-        alloc: Global,
-        terms: &[Term],
-        before: u64,
-        _sink: &mut T,
-    ) -> SinkResult<Placed<V::Values>> {
+    fn leaf(&self, alloc: Global, terms: &[Term], before: u64) -> SinkResult<Placed<V::Values>> {
         let part = self.of.leaf_values(alloc, terms)?;
         Ok(Placed { part, next: before })
     }

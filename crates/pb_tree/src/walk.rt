@@ -62,17 +62,16 @@ pub trait Walk<S> {
     /// What some terms leave, before which so many fresh variables stand.
     ghost leaves: { Self → List Term → ℕ → Self.Part → Type 0 };
 
-    /// What a leaf leaves.
+    /// What a leaf leaves, which hands over nothing.
     fn leaf(
         &self,
         alloc: Global,
         terms: &[Term],
         before: u64,
-        sink: &mut S,
     ) -> Result<Placed<Self::Part>, Self::Fault>
         requires one { length terms.now ≡ 1 }
         requires suits { Suits (scheme self.now) (most self.now) terms.now before }
-        ensures hands { hands [] result sink.old sink.new }
+        ensures hands { (a : S) → hands [] result a a }
         ensures next { IfOk result (λ placed. placed.next ≡ before) }
         ensures leaves { IfOk result (λ placed. leaves self.now terms.now before placed.part) };
 
@@ -121,7 +120,7 @@ pub fn walk_along<S, W: Walk<S>>(
     ensures leaves { IfOk result (λ placed. W.leaves of.now terms.now before placed.part) }
 {
     if terms.len() == 1 {
-        return of.leaf(alloc, terms, before, sink);
+        return of.leaf(alloc, terms, before);
     }
     let (lefts, rights) = halves(terms);
     let left = walk_along(alloc, of, lefts, before, sink)?;

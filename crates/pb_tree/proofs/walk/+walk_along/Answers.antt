@@ -11,7 +11,7 @@ use Rattle.pb_tree.proofs.walk.+walk_along.Goals as goal
 pub returns-then-terms-eq1-clause-hands : goal.returns-then-terms-eq1-clause-hands
 returns-then-terms-eq1-clause-hands g t c =
     let w = g.W.Walk in
-    subst (λ (xs : List w.Item). w.hands xs c.leaf.result c.args.sink.now c.leaf.new.sink) (leaf_along (w.scheme c.args.of.now) (w.own c.args.of.now) c.args.terms.now c.args.before c.if-terms-eq1.true) c.leaf.ensures.hands
+    subst (λ (xs : List w.Item). w.hands xs c.leaf.result c.args.sink.now c.args.sink.now) (leaf_along (w.scheme c.args.of.now) (w.own c.args.of.now) c.args.terms.now c.args.before c.if-terms-eq1.true) (c.leaf.ensures.hands c.args.sink.now)
 
 pub returns-then-terms-eq1-clause-next : goal.returns-then-terms-eq1-clause-next
 returns-then-terms-eq1-clause-next g t c =
