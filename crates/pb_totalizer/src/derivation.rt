@@ -50,7 +50,13 @@ impl<'a> TreeClaims<Whole<'a>> for Upward<'a> {
 
     fn claim<T: StepSink>(&self, alloc: Global, id: u64, sink: &mut T) -> SinkResult {
         let root = derive_nodes(alloc, Polarity::Up, self.whole, id, sink)?;
-        derive_root(alloc, root, self.whole.bound + 1, self.own, sink)
+        derive_root(
+            alloc,
+            root.part.source,
+            self.whole.bound + 1,
+            self.own,
+            sink,
+        )
     }
 }
 

@@ -134,13 +134,7 @@ impl<'a, S: ClauseSink> Walk<S> for Clauses<'a> {
 
     ghost leaves = { λ w ts before outputs. AreOutputs w.whole.now.bound ts (w.whole.now.first + before) outputs };
 
-    fn leaf(
-        &self,
-        _alloc: Global,
-        terms: &[Term],
-        before: u64,
-        _sink: &mut S,
-    ) -> Result<Placed<Outputs>, Failed> {
+    fn leaf(&self, _alloc: Global, terms: &[Term], before: u64) -> Result<Placed<Outputs>, Failed> {
         Ok(Placed {
             part: Outputs::Single(terms[0].lit),
             next: before,
@@ -178,18 +172,17 @@ impl<'a, S: ClauseSink> Walk<S> for Clauses<'a> {
     ghost room_then = { λ xs n placed a b room taken. tt };
 }
 
-/// Hands over the clauses of all nodes.
+/// Hands over the clauses of all nodes, and gives what the root leaves.
 fn emit_nodes<S: ClauseSink>(
     alloc: Global,
     polarity: Polarity,
     whole: &Whole,
     sink: &mut S,
-) -> Result<Outputs, Failed>
+) -> Result<Placed<Outputs>, Failed>
     ensures hands { Hands (clauses_by polarity whole.now.bound (tree_of (weights whole.now.terms.now)) whole.now.first) result (S.state sink.old) (S.state sink.new) }
-    ensures outputs { IfOk result (AreOutputs whole.now.bound whole.now.terms.now whole.now.first) }
+    ensures outputs { IfOk result (λ root. AreOutputs whole.now.bound whole.now.terms.now whole.now.first root.part) }
 {
-    let root = walk_along(alloc, &Clauses { whole, polarity }, whole.terms, 0, sink)?;
-    Ok(root.part)
+    walk_along(alloc, &Clauses { whole, polarity }, whole.terms, 0, sink)
 }
 
 /// Hands over the clauses of a totalizer, with that of the root.
@@ -197,7 +190,7 @@ pub fn emit_whole<S: ClauseSink>(alloc: Global, whole: &Whole, sink: &mut S) -> 
     ensures { Hands (tree_clauses (totalizer whole.now.bound) (tree_of (weights whole.now.terms.now)) whole.now.first) result (S.state sink.old) (S.state sink.new) }
 {
     let root = emit_nodes(alloc, Polarity::Up, whole, sink)?;
-    sink.clause(&[root.at(whole.bound + 1).not()])
+    sink.clause(&[root.part.at(whole.bound + 1).not()])
 }
 
 /// Hands over the clauses of an exact sum, with those of the root.
@@ -205,7 +198,7 @@ pub fn emit_exact<S: ClauseSink>(alloc: Global, whole: &Whole, sink: &mut S) -> 
     ensures { Hands (exact_clauses (sum_within whole.now.terms.now whole.now.bound) whole.now.first) result (S.state sink.old) (S.state sink.new) }
 {
     let root = emit_nodes(alloc, Polarity::Both, whole, sink)?;
-    let least = [root.at(whole.bound)];
-    let most = [root.at(whole.bound + 1).not()];
+    let least = [root.part.at(whole.bound)];
+    let most = [root.part.at(whole.bound + 1).not()];
     derive_pair(&least, &most, sink)
 }

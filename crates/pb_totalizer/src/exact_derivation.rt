@@ -53,8 +53,9 @@ impl<'a> TreeClaims<Whole<'a>> for Exactly<'a> {
 
     fn claim<T: StepSink>(&self, alloc: Global, id: u64, sink: &mut T) -> SinkResult {
         let root = derive_nodes(alloc, Polarity::Both, self.whole, id, sink)?;
-        derive_least(alloc, root, self.whole.bound, self.lower, sink)?;
-        derive_root(alloc, root, self.whole.bound + 1, self.upper, sink)
+        let source = root.part.source;
+        derive_least(alloc, source, self.whole.bound, self.lower, sink)?;
+        derive_root(alloc, source, self.whole.bound + 1, self.upper, sink)
     }
 }
 

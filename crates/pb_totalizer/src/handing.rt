@@ -1,12 +1,9 @@
 //! The clauses of a totalizer's derivation, part by part.
-ghost use Rattle.std.specs.Prelude.{◌≡◌, ◌<◌, ◌+◌, ◌*◌, ◌^◌, length, IfOk};
-ghost use Rattle.pb_norm.specs.Constraints.{weights};
+ghost use Rattle.std.specs.Prelude.{◌<◌, ◌+◌, ◌*◌, ◌^◌, length, IfOk};
 ghost use Rattle.pb_family.specs.HandedJustifications.{HandsJustifications};
-ghost use Rattle.pb_tree.specs.Tree.{tree_of};
-ghost use Rattle.pb_tree.specs.TreeSteps.{output_ids};
 ghost use Rattle.pb_tree.specs.Walks.{fresh_over};
 ghost use Rattle.pb_totalizer.specs.Totalizer.{totalizer};
-ghost use Rattle.pb_totalizer.specs.inner.Sources.{ids_from};
+ghost use Rattle.pb_totalizer.specs.inner.Sources.{StandAt};
 ghost use Rattle.pb_totalizer.specs.laws.Polarity.{justifications_by};
 
 use crate::node_ids::{IdRow, NodeIds, Side, Source};
@@ -63,13 +60,7 @@ impl<'a, T: StepSink> Walk<T> for Claims<'a> {
 
     ghost leaves = { λ w ts before part. StandAt w.whole.now.bound ts (w.id + 2 * before) part };
 
-    fn leaf(
-        &self,
-        _alloc: Global,
-        _terms: &[Term],
-        before: u64,
-        _sink: &mut T,
-    ) -> SinkResult<Placed<Handed>> {
+    fn leaf(&self, _alloc: Global, _terms: &[Term], before: u64) -> SinkResult<Placed<Handed>> {
         Ok(Placed {
             part: Handed {
                 source: Source::Leaf,
@@ -123,24 +114,23 @@ impl<'a, T: StepSink> Walk<T> for Claims<'a> {
     ghost room_then = { λ xs n placed a b room taken. claimed_room xs (T.state a) (T.state b) n room taken };
 }
 
-/// The clauses of all nodes, and where the root's outputs have their constraints.
+/// The clauses of all nodes, and what the root leaves.
 pub fn derive_nodes<T: StepSink>(
     alloc: Global,
     polarity: Polarity,
     whole: &Whole,
     id: u64,
     sink: &mut T,
-) -> SinkResult<Source>
+) -> SinkResult<Placed<Handed>>
     requires ids { id + 2 * fresh_over (totalizer whole.now.bound) whole.now.terms.now < 2 ^ 62 }
     requires room { (T.state sink.old).next + length (justifications_by polarity whole.now.bound whole.now.terms.now id) < 2 ^ 62 }
     ensures hands { HandsJustifications (justifications_by polarity whole.now.bound whole.now.terms.now id) result (T.state sink.old) (T.state sink.new) }
-    ensures source { IfOk result (λ source. ids_from source ≡ output_ids (totalizer whole.now.bound) (tree_of (weights whole.now.terms.now)) id) }
+    ensures stand { IfOk result (λ root. StandAt whole.now.bound whole.now.terms.now id root.part) }
 {
     let claims = Claims {
         whole,
         polarity,
         id,
     };
-    let root = walk_along(alloc, &claims, whole.terms, 0, sink)?;
-    Ok(root.part.source)
+    walk_along(alloc, &claims, whole.terms, 0, sink)
 }

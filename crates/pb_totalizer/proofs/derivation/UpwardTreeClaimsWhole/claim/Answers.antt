@@ -31,9 +31,9 @@ returns-in_err-root g c =
 pub returns : goal.returns
 returns g c =
     let w = c.args.self.now.whole.now in
-    let root = c.in_ok-root.root in
+    let root = c.in_ok-root.root.part.source in
     let old = g.T.StepSink.state c.args.sink.now in
     let new = g.T.StepSink.state c.derive_root.new.sink in
-    let same = root_given_last w.bound w.terms.now c.args.id c.args.self.now.own root c.in_ok-root.ensures.source in
+    let same = root_given_last w.bound w.terms.now c.args.id c.args.self.now.own root c.in_ok-root.ensures.stand.ids in
     steps_same c.derive_root.result _ _ old new (same.steps old.next)
     (justifications_then c.derive_root.result (justifications_by Up w.bound w.terms.now c.args.id) (root_given root (w.bound + 1) c.args.self.now.own ∷ []) old (g.T.StepSink.state c.derive_nodes.new.sink) new c.in_ok-root.ensures.hands c.derive_root.ensures)

@@ -8,4 +8,4 @@ returns-clause-leaves g c =
     record { ids = rw one; count = rw one }
 
 pub returns-clause-hands : goal.returns-clause-hands
-returns-clause-hands g c = takes_no_steps (g.T.StepSink.state c.args._sink.now)
+returns-clause-hands g c sink = takes_no_steps (g.T.StepSink.state sink)
