@@ -30,11 +30,11 @@ fn hand_over<S: ClauseSink>(node: &Node, i: u64, j: u64, sink: &mut S) -> Result
 {
     let sum = node.own.at(i + j);
     if i == 0 {
-        sink.clause(&[node.right.at(j).not(), sum])
+        sink.clause(&[node.right.not_at(j), sum])
     } else if j == 0 {
-        sink.clause(&[node.left.at(i).not(), sum])
+        sink.clause(&[node.left.not_at(i), sum])
     } else {
-        sink.clause(&[node.left.at(i).not(), node.right.at(j).not(), sum])
+        sink.clause(&[node.left.not_at(i), node.right.not_at(j), sum])
     }
 }
 
@@ -190,7 +190,7 @@ pub fn emit_whole<S: ClauseSink>(alloc: Global, whole: &Whole, sink: &mut S) -> 
     ensures { Hands (tree_clauses (totalizer whole.now.bound) (tree_of (weights whole.now.terms.now)) whole.now.first) result (S.state sink.old) (S.state sink.new) }
 {
     let root = emit_nodes(alloc, Polarity::Up, whole, sink)?;
-    sink.clause(&[root.part.at(whole.bound + 1).not()])
+    sink.clause(&[root.part.not_at(whole.bound + 1)])
 }
 
 /// Hands over the clauses of an exact sum, with those of the root.
@@ -199,6 +199,6 @@ pub fn emit_exact<S: ClauseSink>(alloc: Global, whole: &Whole, sink: &mut S) -> 
 {
     let root = emit_nodes(alloc, Polarity::Both, whole, sink)?;
     let least = [root.part.at(whole.bound)];
-    let most = [root.part.at(whole.bound + 1).not()];
+    let most = [root.part.not_at(whole.bound + 1)];
     derive_pair(&least, &most, sink)
 }

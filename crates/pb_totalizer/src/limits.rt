@@ -19,7 +19,7 @@ pub fn hand_over_limit<S: ClauseSink>(
     requires { AreLimited (output_count node.now.left) (output_count node.now.right) (output_count node.now.own) i j }
     ensures { Hands (limit_over node.now i j ∷ []) result (S.state sink.old) (S.state sink.new) }
 {
-    let limit = node.own.at(i + j + 1).not();
+    let limit = node.own.not_at(i + j + 1);
     if i == node.left.count() {
         sink.clause(&[node.right.at(j + 1), limit])
     } else if j == node.right.count() {

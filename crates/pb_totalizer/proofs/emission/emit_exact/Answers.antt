@@ -24,8 +24,8 @@ at-requires-clause-within g c =
     let w = c.args.whole.now in
     omega (arith, root_count w.bound w.terms.now w.whole.more, c.in_ok-root.ensures.outputs.count)
 
-pub at-requires-2-clause-within : goal.at-requires-2-clause-within
-at-requires-2-clause-within g c =
+pub not_at-requires-clause-within : goal.not_at-requires-clause-within
+not_at-requires-clause-within g c =
     let w = c.args.whole.now in
     omega (arith, root_count w.bound w.terms.now w.whole.more, c.in_ok-root.ensures.outputs.count)
 
@@ -37,6 +37,6 @@ returns g c =
     let last : List (List Lit) = (o w.bound ∷ []) ∷ (negated (o (w.bound + 1)) ∷ []) ∷ [] in
     let outputs = c.in_ok-root.ensures.outputs.literals in
     let one : c.at.result ≡ o w.bound = c.at.ensures ∙ ap (λ (f : ℕ → Lit). f w.bound) outputs in
-    let two : c.not.result ≡ negated (o (w.bound + 1)) = c.not.ensures ∙ ap negated (c.at-2.ensures ∙ ap (λ (f : ℕ → Lit). f (w.bound + 1)) outputs) in
+    let two : c.not_at.result ≡ negated (o (w.bound + 1)) = c.not_at.ensures ∙ ap (λ (f : ℕ → Lit). negated (f (w.bound + 1))) outputs in
     let handed = hands_same c.derive_pair.result _ last _ _ (λ i. (one i ∷ []) ∷ (two i ∷ []) ∷ []) c.derive_pair.ensures in
     hands_last {all = exact_clauses (sum_within w.terms.now w.bound) w.first} c.derive_pair.result last _ (emitting_step (exact_along w.bound t w.first) _ (emitting_starts _ _) c.in_ok-root.ensures.hands) handed
