@@ -8,6 +8,12 @@ use Rattle.pb_tree.specs.Walks.{fresh_over}
 use Rattle.pb_tree.proofs.Walking.{leaf_along, leaf_fresh, front_suits, back_suits, node_count, left_stopped, right_stopped, all_handed}
 use Rattle.pb_tree.proofs.walk.+walk_along.Goals as goal
 
+pub leaf-requires-clause-one : goal.leaf-requires-clause-one
+leaf-requires-clause-one g t c = c.if-terms-eq1.true
+
+pub leaf-requires-clause-suits : goal.leaf-requires-clause-suits
+leaf-requires-clause-suits g t c = c.requires.suits
+
 pub returns-then-terms-eq1-clause-hands : goal.returns-then-terms-eq1-clause-hands
 returns-then-terms-eq1-clause-hands g t c =
     let w = g.W.Walk in
@@ -17,6 +23,9 @@ pub returns-then-terms-eq1-clause-next : goal.returns-then-terms-eq1-clause-next
 returns-then-terms-eq1-clause-next g t c =
     let none : c.args.before ≡ c.args.before + fresh_over (g.W.Walk.scheme c.args.of.now) c.args.terms.now = omega (arith, leaf_fresh (g.W.Walk.scheme c.args.of.now) c.args.terms.now c.if-terms-eq1.true) in
     subst (λ (n : ℕ). IfOk c.leaf.result (λ placed. placed.next ≡ n)) none c.leaf.ensures.next
+
+pub returns-then-terms-eq1-clause-leaves : goal.returns-then-terms-eq1-clause-leaves
+returns-then-terms-eq1-clause-leaves g t c = c.leaf.ensures.leaves
 
 pub walk_along-requires : goal.walk_along-requires
 walk_along-requires g t c κs within =

@@ -1,4 +1,5 @@
 use Rattle.std.proofs.Common.{◌≡◌, ◌<◌, ◌+◌, ◌^◌, ap, subst, sym, arith, length, Ok}
+use Rattle.std.proofs.lemmas.Result.{IfOk-from_err}
 use Rattle.std.specs.Prelude.{All, Result}
 use Rattle.pb_norm.specs.Constraints.{weights}
 use Rattle.pb_derive.specs.Reifications.{reification_steps}
@@ -69,3 +70,33 @@ pub returns-clause-next : goal.returns-clause-next
 returns-clause-next g c =
     let own = node_of c.requires.parts c.requires.suits c.in_ok-part.ensures in
     omega (arith, own.after, c.count.ensures)
+
+pub node_values-requires-clause-suits : goal.node_values-requires-clause-suits
+node_values-requires-clause-suits g c = c.requires.suits
+
+pub node_values-requires-clause-parts : goal.node_values-requires-clause-parts
+node_values-requires-clause-parts g c = c.requires.parts
+
+pub node_values-requires-clause-left : goal.node_values-requires-clause-left
+node_values-requires-clause-left g c = c.requires.left
+
+pub node_values-requires-clause-right : goal.node_values-requires-clause-right
+node_values-requires-clause-right g c = c.requires.right
+
+pub returns-in_err-part-clause-next : goal.returns-in_err-part-clause-next
+returns-in_err-part-clause-next g c = IfOk-from_err _ _ c.from_residual.ensures.0
+
+pub returns-in_err-part-clause-leaves : goal.returns-in_err-part-clause-leaves
+returns-in_err-part-clause-leaves g c = IfOk-from_err _ _ c.from_residual.ensures.0
+
+pub derive_outputs-requires-clause-light : goal.derive_outputs-requires-clause-light
+derive_outputs-requires-clause-light g c = c.requires.suits.light
+
+pub returns-in_err-derive_outputs-clause-next : goal.returns-in_err-derive_outputs-clause-next
+returns-in_err-derive_outputs-clause-next g c = IfOk-from_err _ _ c.from_residual-in_err-derive_outputs.ensures.0
+
+pub returns-in_err-derive_outputs-clause-leaves : goal.returns-in_err-derive_outputs-clause-leaves
+returns-in_err-derive_outputs-clause-leaves g c = IfOk-from_err _ _ c.from_residual-in_err-derive_outputs.ensures.0
+
+pub returns-clause-leaves : goal.returns-clause-leaves
+returns-clause-leaves g c = c.in_ok-part.ensures
