@@ -5,6 +5,7 @@ ghost use Rattle.pb_family.specs.StepSinks.{HandsSteps};
 ghost use Rattle.pb_family.specs.HandedJustifications.{HandsJustifications};
 ghost use Rattle.pb_totalizer.specs.ExactSteps.{exact_steps};
 ghost use Rattle.pb_totalizer.specs.inner.LimitSources.{least_given};
+ghost use Rattle.pb_totalizer.specs.inner.Sources.{root_given};
 
 use crate::derivation::derive_root;
 use crate::handing::derive_nodes;
@@ -16,20 +17,22 @@ use pb_family::{SinkResult, StepSink, derive_by};
 use pb_tree::{TreeClaims, derive_along};
 use std::alloc::Global;
 
-/// That so many leaves are true, by the sum's constraint from below.
-fn derive_least<T: StepSink>(
+/// That so many leaves are true and no more, by the sum's constraints from below and from above.
+fn derive_ends<T: StepSink>(
     alloc: Global,
     root: Source,
     number: u64,
     lower: u64,
+    upper: u64,
     sink: &mut T,
 ) -> SinkResult
     requires some { 1 ≤ number }
-    requires small { number < 2 ^ 33 }
-    requires few { (T.state sink.old).next + 1 < 2 ^ 62 }
-    ensures { HandsJustifications (least_given root number lower ∷ []) result (T.state sink.old) (T.state sink.new) }
+    requires small { number < 2 ^ 32 }
+    requires few { (T.state sink.old).next + 2 < 2 ^ 62 }
+    ensures { HandsJustifications (least_given root number lower ∷ root_given root (number + 1) upper ∷ []) result (T.state sink.old) (T.state sink.new) }
 {
-    derive_by(alloc, second_id(root, number), None, lower, &[], sink)
+    derive_by(alloc, second_id(root, number), None, lower, &[], sink)?;
+    derive_root(alloc, root, number + 1, upper, sink)
 }
 
 /// The clauses of an exact sum, with those of the root, which follow from the sum's constraints from below and from above.
@@ -53,9 +56,15 @@ impl<'a> TreeClaims<Whole<'a>> for Exactly<'a> {
 
     fn claim<T: StepSink>(&self, alloc: Global, id: u64, sink: &mut T) -> SinkResult {
         let root = derive_nodes(alloc, Polarity::Both, self.whole, id, sink)?;
-        let source = root.part.source;
-        derive_least(alloc, source, self.whole.bound, self.lower, sink)?;
-        derive_root(alloc, source, self.whole.bound + 1, self.upper, sink)
+        let number = self.whole.bound;
+        derive_ends(
+            alloc,
+            root.part.source,
+            number,
+            self.lower,
+            self.upper,
+            sink,
+        )
     }
 }
 

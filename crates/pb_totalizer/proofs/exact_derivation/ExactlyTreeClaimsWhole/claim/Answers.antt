@@ -20,36 +20,12 @@ returns-in_err-root g c =
     let w = self.whole.now in
     justifications_stopped c.from_residual.result _ (justifications_by Both w.bound w.terms.now c.args.id) _ (g.T.StepSink.state c.args.sink.now) (g.T.StepSink.state c.derive_nodes.new.sink) c.from_residual.ensures.1 c.in_err-root.ensures.hands
 
-pub derive_least-requires-clause-few : goal.derive_least-requires-clause-few
-derive_least-requires-clause-few g c =
+pub derive_ends-requires-clause-few : goal.derive_ends-requires-clause-few
+derive_ends-requires-clause-few g c =
     let self = c.args.self.now in
     let w = self.whole.now in
     let next = justifications_next (justifications_by Both w.bound w.terms.now c.args.id) (g.T.StepSink.state c.args.sink.now) (g.T.StepSink.state c.derive_nodes.new.sink) c.in_ok-root.ensures.hands in
     omega (arith, next, exact_all_counted w.bound w.terms.now c.args.id self.lower self.upper, c.requires.room)
-
-pub returns-in_err-derive_least : goal.returns-in_err-derive_least
-returns-in_err-derive_least g c =
-    let self = c.args.self.now in
-    let w = self.whole.now in
-    let root = c.in_ok-root.root.part.source in
-    let old = g.T.StepSink.state c.args.sink.now in
-    let mid = g.T.StepSink.state c.derive_nodes.new.sink in
-    let new = g.T.StepSink.state c.derive_least.new.sink in
-    let same = exact_ends_last w.bound w.terms.now c.args.id self.lower self.upper root c.in_ok-root.ensures.stand.ids in
-    let result = c.from_residual-in_err-derive_least.result in
-    steps_same result _ _ old new (same.steps old.next)
-    (justifications_then result (justifications_by Both w.bound w.terms.now c.args.id) (least_given root w.bound self.lower ∷ root_given root (w.bound + 1) self.upper ∷ []) old mid new c.in_ok-root.ensures.hands
-    (justifications_stopped result _ (least_given root w.bound self.lower ∷ []) (root_given root (w.bound + 1) self.upper ∷ []) mid new c.from_residual-in_err-derive_least.ensures.1 c.in_err-derive_least.ensures))
-
-pub derive_root-requires-clause-few : goal.derive_root-requires-clause-few
-derive_root-requires-clause-few g c =
-    let self = c.args.self.now in
-    let w = self.whole.now in
-    let root = c.in_ok-root.root.part.source in
-    let mid = g.T.StepSink.state c.derive_nodes.new.sink in
-    let next = justifications_next (justifications_by Both w.bound w.terms.now c.args.id) (g.T.StepSink.state c.args.sink.now) mid c.in_ok-root.ensures.hands in
-    let after = justifications_next (least_given root w.bound self.lower ∷ []) mid (g.T.StepSink.state c.derive_least.new.sink) c.in_ok-derive_least.ensures in
-    omega (arith, next, after, exact_all_counted w.bound w.terms.now c.args.id self.lower self.upper, c.requires.room)
 
 pub returns : goal.returns
 returns g c =
@@ -57,12 +33,7 @@ returns g c =
     let w = self.whole.now in
     let root = c.in_ok-root.root.part.source in
     let old = g.T.StepSink.state c.args.sink.now in
-    let mid = g.T.StepSink.state c.derive_nodes.new.sink in
-    let one = g.T.StepSink.state c.derive_least.new.sink in
-    let new = g.T.StepSink.state c.derive_root.new.sink in
-    let least = least_given root w.bound self.lower in
-    let most = root_given root (w.bound + 1) self.upper in
+    let new = g.T.StepSink.state c.derive_ends.new.sink in
     let same = exact_ends_last w.bound w.terms.now c.args.id self.lower self.upper root c.in_ok-root.ensures.stand.ids in
-    steps_same c.derive_root.result _ _ old new (same.steps old.next)
-    (justifications_then c.derive_root.result (justifications_by Both w.bound w.terms.now c.args.id) (least ∷ most ∷ []) old mid new c.in_ok-root.ensures.hands
-    (justifications_then c.derive_root.result (least ∷ []) (most ∷ []) mid one new c.in_ok-derive_least.ensures c.derive_root.ensures))
+    steps_same c.derive_ends.result _ _ old new (same.steps old.next)
+    (justifications_then c.derive_ends.result (justifications_by Both w.bound w.terms.now c.args.id) (least_given root w.bound self.lower ∷ root_given root (w.bound + 1) self.upper ∷ []) old (g.T.StepSink.state c.derive_nodes.new.sink) new c.in_ok-root.ensures.hands c.derive_ends.ensures)
