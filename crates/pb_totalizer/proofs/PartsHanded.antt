@@ -13,7 +13,7 @@ use Rattle.pb_totalizer.specs.Exact.{outputs_of}
 use Rattle.pb_totalizer.specs.ExactSteps.{limit_justifications}
 use Rattle.pb_totalizer.specs.Totalizer.{totalizer}
 use Rattle.pb_totalizer.specs.TotalizerSteps.{totalizer_pairs}
-use Rattle.pb_totalizer.specs.declared.handing.Handed.{Handed}
+use Rattle.pb_totalizer.specs.declared.node_ids.Handed.{Handed}
 use Rattle.pb_totalizer.specs.declared.node_ids.Source.{Source}
 use Rattle.pb_totalizer.specs.declared.polarity.Polarity.{Polarity}
 use Rattle.pb_totalizer.specs.declared.polarity.Polarity.TheVariants.{Up, Both}

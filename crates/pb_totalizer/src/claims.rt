@@ -32,11 +32,11 @@ fn leaves_beside<'a>(node: &NodeIds<'a>, i: u64, j: u64) -> &'a [Term]
     ensures { vars_of (weights result.now) ≡ pair_weakened node.now i j }
 {
     if i == 0 {
-        node.left.terms
+        node.lefts
     } else if j == 0 {
-        node.right.terms
+        node.rights
     } else {
-        &node.left.terms[..0]
+        &node.lefts[..0]
     }
 }
 

@@ -6,7 +6,7 @@ ghost use Rattle.pb_totalizer.specs.Totalizer.{totalizer};
 ghost use Rattle.pb_totalizer.specs.inner.Sources.{StandAt};
 ghost use Rattle.pb_totalizer.specs.laws.Polarity.{justifications_by};
 
-use crate::node_ids::{IdRow, NodeIds, Side, Source};
+use crate::node_ids::{Handed, IdRow, NodeIds, Source};
 use crate::polarity::Polarity;
 use crate::row_claims::derive_own;
 use crate::whole::Whole;
@@ -14,13 +14,6 @@ use pb_base::Term;
 use pb_family::{SinkFault, SinkResult, StepSink};
 use pb_tree::{Parts, Placed, Walk, walk_along};
 use std::alloc::Global;
-
-/// Where a part's outputs have their constraints, and how many outputs there are.
-#[derive(Clone, Copy)]
-pub struct Handed {
-    pub source: Source,
-    pub count: u64,
-}
 
 /// The clauses along the tree of a totalizer, whose variables' constraints have the ids from `id` on.
 #[derive(Clone, Copy)]
@@ -76,21 +69,14 @@ impl<'a, T: StepSink> Walk<T> for Claims<'a> {
         parts: &Parts<Handed>,
         sink: &mut T,
     ) -> SinkResult<Placed<Handed>> {
-        let (left, right) = (*parts.left, *parts.right);
         let cap = self.whole.bound + 1;
-        let count = (left.count + right.count).min(cap);
+        let count = (parts.left.count + parts.right.count).min(cap);
         let own = self.id + 2 * parts.next;
         let node = NodeIds {
-            left: Side {
-                terms: parts.lefts,
-                source: left.source,
-                count: left.count,
-            },
-            right: Side {
-                terms: parts.rights,
-                source: right.source,
-                count: right.count,
-            },
+            lefts: parts.lefts,
+            left: *parts.left,
+            rights: parts.rights,
+            right: *parts.right,
             own,
             count,
             cap,

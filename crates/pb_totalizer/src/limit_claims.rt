@@ -7,7 +7,7 @@ ghost use Rattle.pb_totalizer.specs.inner.LimitSources.{seconds_from, ids_after,
 ghost use Rattle.pb_totalizer.specs.inner.Numbers.{AreLimited};
 ghost use Rattle.pb_family.specs.Listed.{listed};
 
-use crate::node_ids::{NodeIds, Side, Source};
+use crate::node_ids::{Handed, NodeIds, Source};
 use pb_base::Term;
 use pb_family::{SinkResult, StepSink, derive_by};
 use std::alloc::Global;
@@ -25,12 +25,12 @@ pub fn second_id(source: Source, number: u64) -> Option<u64>
 }
 
 /// That of the output after an index, if there is one.
-fn id_after(side: &Side, index: u64) -> Option<u64>
+fn id_after(part: &Handed, index: u64) -> Option<u64>
     requires { index < 2 ^ 32 }
-    ensures { listed result ≡ ids_after side.now.source side.now.count index }
+    ensures { listed result ≡ ids_after part.now.source part.now.count index }
 {
-    if index < side.count {
-        second_id(side.source, index + 1)
+    if index < part.count {
+        second_id(part.source, index + 1)
     } else {
         None
     }
@@ -42,11 +42,11 @@ fn leaves_after<'a>(node: &NodeIds<'a>, i: u64, j: u64) -> &'a [Term]
     ensures { vars_of (weights result.now) ≡ limit_weakened node.now i j }
 {
     if node.left.count <= i {
-        node.left.terms
+        node.lefts
     } else if node.right.count <= j {
-        node.right.terms
+        node.rights
     } else {
-        &node.left.terms[..0]
+        &node.lefts[..0]
     }
 }
 

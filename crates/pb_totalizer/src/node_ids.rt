@@ -17,19 +17,21 @@ pub enum Source {
     Fresh(IdRow),
 }
 
-/// A part of a node: its leaves, where its outputs have their constraints, and how many there are.
+/// Where a part's outputs have their constraints, and how many outputs there are.
 #[derive(Clone, Copy)]
-pub struct Side<'a> {
-    pub terms: &'a [Term],
+pub struct Handed {
     pub source: Source,
     pub count: u64,
 }
 
-/// A node over its two parts: the id of its first output's constraint, how many outputs it has, and how many at most.
+/// A node over its two parts, with the leaves of each: the id of its first output's constraint, how many outputs it has, and how
+/// many at most.
 #[derive(Clone, Copy)]
 pub struct NodeIds<'a> {
-    pub left: Side<'a>,
-    pub right: Side<'a>,
+    pub lefts: &'a [Term],
+    pub left: Handed,
+    pub rights: &'a [Term],
+    pub right: Handed,
     pub own: u64,
     pub count: u64,
     pub cap: u64,

@@ -40,10 +40,10 @@ limits_given count a b left lefts right rights own = flat_map (limit_row_given c
 -- ---- over two parts, as the code has them
 
 abbrev pub limit_weakened : NodeIds → ℕ → ℕ → List ℕ
-limit_weakened node i j = vars_of (weights (weakened_after node.left.terms.now node.left.count i)) ++ vars_of (weights (weakened_after node.right.terms.now node.right.count j))
+limit_weakened node i j = vars_of (weights (weakened_after node.lefts.now node.left.count i)) ++ vars_of (weights (weakened_after node.rights.now node.right.count j))
 
 abbrev pub limit_beside : NodeIds → ℕ → ℕ → Justification
-limit_beside node i j = limit_given node.left.count node.right.count node.left.source node.left.terms.now node.right.source node.right.terms.now node.own i j
+limit_beside node i j = limit_given node.left.count node.right.count node.left.source node.lefts.now node.right.source node.rights.now node.own i j
 
 -- of the root's output, whose sum's constraint from below has the id `lower`
 abbrev pub least_given : Source → ℕ → ℕ → Justification

@@ -9,7 +9,7 @@ use Rattle.pb_tree.specs.Tree.{tree_of}
 use Rattle.pb_tree.specs.TreeSteps.{output_ids}
 use Rattle.pb_totalizer.specs.Exact.{outputs_of}
 use Rattle.pb_totalizer.specs.Totalizer.{partners, totalizer}
-use Rattle.pb_totalizer.specs.declared.handing.Handed.{Handed}
+use Rattle.pb_totalizer.specs.declared.node_ids.Handed.{Handed}
 use Rattle.pb_totalizer.specs.declared.node_ids.NodeIds.{NodeIds}
 use Rattle.pb_totalizer.specs.declared.node_ids.Source.{Source}
 use Rattle.pb_totalizer.specs.declared.node_ids.Source.TheVariants.{Leaf, Fresh}
@@ -51,10 +51,10 @@ node_given cap a b left lefts right rights own = flat_map (row_given cap b left 
 -- ---- over two parts, as the code has them
 
 abbrev pub pair_weakened : NodeIds → ℕ → ℕ → List ℕ
-pair_weakened node i j = vars_of (weights (weakened_at node.left.terms.now i)) ++ vars_of (weights (weakened_at node.right.terms.now j))
+pair_weakened node i j = vars_of (weights (weakened_at node.lefts.now i)) ++ vars_of (weights (weakened_at node.rights.now j))
 
 abbrev pub pair_beside : NodeIds → ℕ → ℕ → Justification
-pair_beside node i j = pair_given node.left.source node.left.terms.now node.right.source node.right.terms.now node.own i j
+pair_beside node i j = pair_given node.left.source node.lefts.now node.right.source node.rights.now node.own i j
 
 -- of the root, whose sum's own constraint has the id `own`
 abbrev pub root_given : Source → ℕ → ℕ → Justification

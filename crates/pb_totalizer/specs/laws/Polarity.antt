@@ -76,7 +76,7 @@ abbrev pub own_given : Polarity → ℕ → ℕ → ℕ → ℕ → Source → L
 own_given polarity cap count a b left lefts right rights own = by_ways polarity (node_given cap a b left lefts right rights own) (limits_given count a b left lefts right rights own)
 
 abbrev pub own_beside : Polarity → NodeIds → List Justification
-own_beside polarity node = own_given polarity node.cap node.count node.left.count node.right.count node.left.source node.left.terms.now node.right.source node.right.terms.now node.own
+own_beside polarity node = own_given polarity node.cap node.count node.left.count node.right.count node.left.source node.lefts.now node.right.source node.rights.now node.own
 
 -- ---- and of the root
 

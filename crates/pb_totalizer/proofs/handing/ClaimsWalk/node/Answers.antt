@@ -7,8 +7,8 @@ use Rattle.pb_totalizer.proofs.Halved.{halved, node_of}
 use Rattle.pb_totalizer.proofs.PartsHanded.{node_same, node_source}
 use Rattle.pb_totalizer.proofs.handing.ClaimsWalk.node.Goals as goal
 
-pub overflow_add-left : goal.overflow_add-left
-overflow_add-left g c =
+pub overflow_add-parts : goal.overflow_add-parts
+overflow_add-parts g c =
     let w = c.args.self.now.whole.now in
     let half = halved w.bound c.requires.parts.halves in
     omega (arith, half.left_within, half.right_within, c.requires.left.count, c.requires.right.count, w.whole.more, w.whole.few)
