@@ -1,5 +1,5 @@
 -- The clauses of a node over two parts, as the code hands them over.
-use Rattle.std.proofs.Common.{◌≡◌, ◌+◌, ℕ, List, sym, ap, ◌∙◌, subst, arith}
+use Rattle.std.proofs.Common.{◌≡◌, ◌≤◌, ◌<◌, ◌+◌, ℕ, List, length, get_or, sym, ap, ◌∙◌, subst, arith}
 use Rattle.pb_base.specs.declared.literal.Lit.{Lit}
 use Rattle.pb_base.specs.declared.literal.Term.{Term}
 use Rattle.pb_norm.specs.Constraints.{weights}
@@ -12,11 +12,12 @@ use Rattle.pb_tree.specs.Tree.{Tree, empty, leaf, node, tree_of}
 use Rattle.pb_tree.specs.Scheme.{values, fresh_of, output, own_of}
 use Rattle.pb_tree.specs.Places.{place_of}
 use Rattle.pb_tree.specs.Walks.{AreParts, fresh_over}
-use Rattle.pb_gentot.specs.inner.Outputs.{output_in}
-use Rattle.pb_gentot.specs.declared.outputs.Outputs.TheVariants.{Fresh}
+use Rattle.pb_gentot.specs.inner.Outputs.{HasRoom, output_at, output_in}
+use Rattle.pb_gentot.specs.declared.outputs.Outputs.{Outputs}
+use Rattle.pb_gentot.specs.declared.outputs.Outputs.TheVariants.{Single, Fresh}
 use Rattle.pb_gentot.specs.Rising.{Rising}
-use Rattle.pb_gentot.proofs.RisingLists.{rising_ascending}
-use Rattle.pb_gentot.specs.declared.tree.Emitted.{Emitted}
+use Rattle.pb_gentot.proofs.RisingLists.{place_at, rising_ascending}
+use Rattle.pb_gentot.specs.declared.merge.Emitted.{Emitted}
 use Rattle.pb_gentot.specs.inner.Parts.{IsEmitted, clauses_over_parts, node_values, output_over}
 use Rattle.pb_gentot.specs.Generalized.{generalized, value_clauses, sums}
 use Rattle.pb_gentot.proofs.Parts.{values_are_over}
@@ -25,6 +26,15 @@ rising_of : (bound : ℕ) (t : Tree) → Rising (values (generalized bound) t)
 rising_of bound empty = tt
 rising_of bound (leaf t) = ((λ n h. absurd (Contains-nil n h)), tt)
 rising_of bound (node l r) = rising_ascending (bound + 1) (sums (bound + 1) (values (generalized bound) l) (values (generalized bound) r))
+
+-- fewer outputs have room too
+pub room_fewer : (given : Outputs) (n k : ℕ) → k ≤ n → HasRoom given n → HasRoom given k
+room_fewer (Single lit) n k le room = tt
+room_fewer (Fresh first) n k le room = (room.0, omega (arith, room.1, le))
+
+-- the literal at a place is that of the value there
+pub output_placed : (given : Outputs) (us : List ℕ) (i : ℕ) → Rising us → i < length us → output_at given i ≡ output_in given us (get_or us i 0)
+output_placed given us i rising within = ap (output_at given) (sym (place_at us i 0 rising within))
 
 pub rising_values : (bound : ℕ) (t : Tree) (us : List ℕ) → us ≡ values (generalized bound) t → Rising us
 rising_values bound t us is = subst Rising (sym is) (rising_of bound t)

@@ -26,7 +26,7 @@ use Rattle.pb_tree.proofs.TreeRows.{leaves_of}
 use Rattle.pb_gentot.specs.Generalized.{generalized}
 use Rattle.pb_gentot.specs.GeneralizedSteps.{generalized_pairs}
 use Rattle.pb_gentot.specs.declared.node_ids.Handed.{Handed}
-use Rattle.pb_gentot.specs.declared.node_ids.Owned.{Owned}
+use Rattle.pb_gentot.specs.declared.node_ids.NodeIds.{NodeIds}
 use Rattle.pb_gentot.specs.declared.node_ids.Source.{Source}
 use Rattle.pb_gentot.specs.declared.node_ids.Source.TheVariants.{Leaf, Fresh}
 use Rattle.pb_gentot.specs.laws.ByPairs.{value_from}
@@ -65,22 +65,18 @@ pub by_ids : {R T : Type 0} (r : Result T SinkFault) (a b : StepState R) (weaken
     → HandsJustifications (record { clause = []; ids = ns; weakened = weakened } ∷ []) r a b
 by_ids r a b weakened same h = subst (λ (ids : List ℕ). HandsJustifications (record { clause = []; ids = ids; weakened = weakened } ∷ []) r a b) same h
 
-pub row_length : (cap : ℕ) (left right : Handed) (own : Owned) (i : ℕ) → length (row_given cap left right own i) ≡ length right.values.items
-row_length cap left right own i = length-map-range_with_len (both_at cap left right own i) 0 (length right.values.items)
+pub row_length : (made : NodeIds) (i : ℕ) → length (row_given made i) ≡ length made.right.now.values.items
+row_length made i = length-map-range_with_len (both_at made i) 0 (length made.right.now.values.items)
 
-pub ones_length : (part : Handed) (others : List Term) (own : Owned) → length (ones_given part others own) ≡ length part.values.items
-ones_length part others own = length-map-range_with_len (one_at part others own) 0 (length part.values.items)
+pub ones_length : (made : NodeIds) (part : Handed) (others : List Term) → length (ones_given made part others) ≡ length part.values.items
+ones_length made part others = length-map-range_with_len (one_at made part others) 0 (length part.values.items)
 
-pub node_length : (cap : ℕ) (left : Handed) (lefts : List Term) (right : Handed) (rights : List Term) (own : Owned)
-    → length (node_given cap left lefts right rights own) ≡ length left.values.items + (length right.values.items + length (pairs_given cap left right own))
-node_length cap left lefts right rights own =
-    omega (
-      arith,
-      length-append (ones_given left rights own) (ones_given right lefts own ++ pairs_given cap left right own),
-      length-append (ones_given right lefts own) (pairs_given cap left right own),
-      ones_length left rights own,
-      ones_length right lefts own,
-    )
+pub node_length : (made : NodeIds) (lefts rights : List Term)
+    → length (node_given made lefts rights) ≡ length made.left.now.values.items + (length made.right.now.values.items + length (pairs_given made))
+node_length made lefts rights =
+    let one = ones_given made made.left.now rights in
+    let two = ones_given made made.right.now lefts in
+    omega (arith, length-append one (two ++ pairs_given made), length-append two (pairs_given made), ones_length made made.left.now rights, ones_length made made.right.now lefts)
 
 -- ---- the clauses of a node
 
@@ -101,14 +97,20 @@ module _ (bound : ℕ) (ts : List Term) (part : Handed) (is : part.values.items 
   value_place : i ≡ place_of (get_or part.values.items i 0) part.values.items
   value_place = sym (place_at part.values.items i 0 (rising_values bound (tree_of (weights ts)) part.values.items is) within)
 
-module _ (bound : ℕ) (lefts rights : List Term) (id : ℕ) (left right : Handed) (own : Owned)
-    (lv : left.values.items ≡ values (generalized bound) (tree_of (weights lefts)))
-    (rv : right.values.items ≡ values (generalized bound) (tree_of (weights rights)))
-    (li : ids_of left ≡ output_ids (generalized bound) (tree_of (weights lefts)) id)
-    (ri : ids_of right ≡ output_ids (generalized bound) (tree_of (weights rights)) (id + 2 * fresh_of (generalized bound) (tree_of (weights lefts))))
-    (ov : own.values.items ≡ values (generalized bound) (node (tree_of (weights lefts)) (tree_of (weights rights))))
-    (at : own.id ≡ id + 2 * fresh_of (generalized bound) (tree_of (weights lefts)) + 2 * fresh_of (generalized bound) (tree_of (weights rights)))
+module _ (bound : ℕ) (lefts rights : List Term) (id : ℕ) (made : NodeIds) (cap : made.cap ≡ bound + 1)
+    (lv : made.left.now.values.items ≡ values (generalized bound) (tree_of (weights lefts)))
+    (rv : made.right.now.values.items ≡ values (generalized bound) (tree_of (weights rights)))
+    (li : ids_of made.left.now ≡ output_ids (generalized bound) (tree_of (weights lefts)) id)
+    (ri : ids_of made.right.now ≡ output_ids (generalized bound) (tree_of (weights rights)) (id + 2 * fresh_of (generalized bound) (tree_of (weights lefts))))
+    (ov : made.own.now.values.items ≡ values (generalized bound) (node (tree_of (weights lefts)) (tree_of (weights rights))))
+    (at : made.id ≡ id + 2 * fresh_of (generalized bound) (tree_of (weights lefts)) + 2 * fresh_of (generalized bound) (tree_of (weights rights)))
     (positive : AreLeavesPositive (node (tree_of (weights lefts)) (tree_of (weights rights)))) where
+  abbrev left : Handed
+  left = made.left.now
+
+  abbrev right : Handed
+  right = made.right.now
+
   abbrev l : Tree
   l = tree_of (weights lefts)
 
@@ -119,12 +121,12 @@ module _ (bound : ℕ) (lefts rights : List Term) (id : ℕ) (left right : Hande
   claim p = bare (pair_justification (generalized bound) (tree_of (weights lefts)) (tree_of (weights rights)) 0 id p)
 
   second_is : (w x : ℕ) → w ≡ x
-      → second_of own w ≡ id + 2 * (fresh_of (generalized bound) l + fresh_of (generalized bound) r + place_of x (values (generalized bound) (node l r))) + 1
+      → second_of made w ≡ id + 2 * (fresh_of (generalized bound) l + fresh_of (generalized bound) r + place_of x (values (generalized bound) (node l r))) + 1
   second_is w x same =
-      let place : place_of w own.values.items ≡ place_of x (values (generalized bound) (node l r)) = λ i. place_of (same i) (ov i) in
+      let place : place_of w made.own.now.values.items ≡ place_of x (values (generalized bound) (node l r)) = λ i. place_of (same i) (ov i) in
       omega (arith, at, place)
 
-  left_one : (u : ℕ) → 1 ≤ u → u ≤ bound + 1 → named (ids_of left u ++ second_of own u ∷ []) (vars_of (weights rights)) ≡ claim (pair_of u 0)
+  left_one : (u : ℕ) → 1 ≤ u → u ≤ bound + 1 → named (ids_of left u ++ second_of made u ∷ []) (vars_of (weights rights)) ≡ claim (pair_of u 0)
   left_one zero low high = absurd (omega arith)
   left_one (suc u) low high =
       let ids = ap (λ (f : ℕ → List ℕ). f (suc u)) li in
@@ -132,7 +134,7 @@ module _ (bound : ℕ) (lefts rights : List Term) (id : ℕ) (left right : Hande
       let gone = ap vars_of (sym (leaves_of (weights rights))) in
       λ k. named (ids k ++ second k ∷ []) (gone k)
 
-  right_one : (v : ℕ) → 1 ≤ v → v ≤ bound + 1 → named (ids_of right v ++ second_of own v ∷ []) (vars_of (weights lefts)) ≡ claim (pair_of 0 v)
+  right_one : (v : ℕ) → 1 ≤ v → v ≤ bound + 1 → named (ids_of right v ++ second_of made v ∷ []) (vars_of (weights lefts)) ≡ claim (pair_of 0 v)
   right_one zero low high = absurd (omega arith)
   right_one (suc v) low high =
       let ids = ap (λ (f : ℕ → List ℕ). f (suc v)) ri in
@@ -140,13 +142,13 @@ module _ (bound : ℕ) (lefts rights : List Term) (id : ℕ) (left right : Hande
       let gone = ap vars_of (sym (leaves_of (weights lefts))) ∙ sym (append-nil (vars_of (leaves l))) in
       λ k. named (ids k ++ second k ∷ []) (gone k)
 
-  both_one : (u v : ℕ) → 1 ≤ u → 1 ≤ v → named (ids_of left u ++ (ids_of right v ++ second_of own (min (u + v) (bound + 1)) ∷ [])) [] ≡ claim (pair_of u v)
+  both_one : (u v : ℕ) → 1 ≤ u → 1 ≤ v → named (ids_of left u ++ (ids_of right v ++ second_of made (min (u + v) made.cap) ∷ [])) [] ≡ claim (pair_of u v)
   both_one zero v low high = absurd (omega arith)
   both_one (suc u) zero low high = absurd (omega arith)
   both_one (suc u) (suc v) low high =
       let one = ap (λ (f : ℕ → List ℕ). f (suc u)) li in
       let two = ap (λ (f : ℕ → List ℕ). f (suc v)) ri in
-      let second = second_is (min (suc u + suc v) (bound + 1)) (min (suc u + suc v) (bound + 1)) refl in
+      let second = second_is (min (suc u + suc v) made.cap) (min (suc u + suc v) (bound + 1)) (ap (min (suc u + suc v)) cap) in
       λ k. named (one k ++ (two k ++ second k ∷ [])) []
 
   left_low : (i : ℕ) → i < length left.values.items → 1 ≤ get_or left.values.items i 0
@@ -155,51 +157,51 @@ module _ (bound : ℕ) (lefts rights : List Term) (id : ℕ) (left right : Hande
   right_low : (j : ℕ) → j < length right.values.items → 1 ≤ get_or right.values.items j 0
   right_low j within = value_low bound rights right rv j within (λ w m. positive w (inr m))
 
-  left_at : (i : ℕ) → i < length left.values.items → one_at left rights own i ≡ claim (pair_of (get_or left.values.items i 0) 0)
+  left_at : (i : ℕ) → i < length left.values.items → one_at made left rights i ≡ claim (pair_of (get_or left.values.items i 0) 0)
   left_at i within =
       let u = get_or left.values.items i 0 in
-      ap (λ (k : ℕ). named (ids_at left.source k ++ second_of own u ∷ []) (vars_of (weights rights))) (value_place bound lefts left lv i within)
+      ap (λ (k : ℕ). named (ids_at left.source k ++ second_of made u ∷ []) (vars_of (weights rights))) (value_place bound lefts left lv i within)
       ∙ left_one u (left_low i within) (value_high bound lefts left lv i within)
 
-  right_at : (j : ℕ) → j < length right.values.items → one_at right lefts own j ≡ claim (pair_of 0 (get_or right.values.items j 0))
+  right_at : (j : ℕ) → j < length right.values.items → one_at made right lefts j ≡ claim (pair_of 0 (get_or right.values.items j 0))
   right_at j within =
       let v = get_or right.values.items j 0 in
-      ap (λ (k : ℕ). named (ids_at right.source k ++ second_of own v ∷ []) (vars_of (weights lefts))) (value_place bound rights right rv j within)
+      ap (λ (k : ℕ). named (ids_at right.source k ++ second_of made v ∷ []) (vars_of (weights lefts))) (value_place bound rights right rv j within)
       ∙ right_one v (right_low j within) (value_high bound rights right rv j within)
 
   pair_at : (i j : ℕ) → i < length left.values.items → j < length right.values.items
-      → both_at (bound + 1) left right own i j ≡ claim (pair_of (get_or left.values.items i 0) (get_or right.values.items j 0))
+      → both_at made i j ≡ claim (pair_of (get_or left.values.items i 0) (get_or right.values.items j 0))
   pair_at i j within also =
       let u = get_or left.values.items i 0 in
       let v = get_or right.values.items j 0 in
       let one = value_place bound lefts left lv i within in
       let two = value_place bound rights right rv j also in
-      (λ k. named (ids_at left.source (one k) ++ (ids_at right.source (two k) ++ second_of own (min (u + v) (bound + 1)) ∷ [])) [])
+      (λ k. named (ids_at left.source (one k) ++ (ids_at right.source (two k) ++ second_of made (min (u + v) made.cap) ∷ [])) [])
       ∙ both_one u v (left_low i within) (right_low j also)
 
-  left_ones : ones_given left rights own ≡ map claim (map (λ u. pair_of u 0) (values (generalized bound) l))
+  left_ones : ones_given made left rights ≡ map claim (map (λ u. pair_of u 0) (values (generalized bound) l))
   left_ones =
-      places_same (one_at left rights own) (λ u. claim (pair_of u 0)) left.values.items (values (generalized bound) l) lv left_at ∙ sym (map-map claim (λ u. pair_of u 0) (values (generalized bound) l))
+      places_same (one_at made left rights) (λ u. claim (pair_of u 0)) left.values.items (values (generalized bound) l) lv left_at ∙ sym (map-map claim (λ u. pair_of u 0) (values (generalized bound) l))
 
-  right_ones : ones_given right lefts own ≡ map claim (map (pair_of 0) (values (generalized bound) r))
+  right_ones : ones_given made right lefts ≡ map claim (map (pair_of 0) (values (generalized bound) r))
   right_ones =
-      places_same (one_at right lefts own) (λ v. claim (pair_of 0 v)) right.values.items (values (generalized bound) r) rv right_at ∙ sym (map-map claim (pair_of 0) (values (generalized bound) r))
+      places_same (one_at made right lefts) (λ v. claim (pair_of 0 v)) right.values.items (values (generalized bound) r) rv right_at ∙ sym (map-map claim (pair_of 0) (values (generalized bound) r))
 
   row_is : (i : ℕ) → i < length left.values.items
-      → row_given (bound + 1) left right own i ≡ map claim (map (pair_of (get_or left.values.items i 0)) (values (generalized bound) r))
+      → row_given made i ≡ map claim (map (pair_of (get_or left.values.items i 0)) (values (generalized bound) r))
   row_is i within =
       let u = get_or left.values.items i 0 in
-      places_same (both_at (bound + 1) left right own i) (λ v. claim (pair_of u v)) right.values.items (values (generalized bound) r) rv (λ j also. pair_at i j within also)
+      places_same (both_at made i) (λ v. claim (pair_of u v)) right.values.items (values (generalized bound) r) rv (λ j also. pair_at i j within also)
       ∙ sym (map-map claim (pair_of u) (values (generalized bound) r))
 
-  pairs_are : pairs_given (bound + 1) left right own ≡ map claim (flat_map (λ u. map (pair_of u) (values (generalized bound) r)) (values (generalized bound) l))
+  pairs_are : pairs_given made ≡ map claim (flat_map (λ u. map (pair_of u) (values (generalized bound) r)) (values (generalized bound) l))
   pairs_are =
       let us = left.values.items in
       let row = λ (u : ℕ). map (pair_of u) (values (generalized bound) r) in
-      rows_same claim (λ i. row (get_or us i 0)) (row_given (bound + 1) left right own) (range_with_len 0 (length us)) (λ i h. let within = Contains-range_cases 0 (length us) i h in row_is i (omega arith))
+      rows_same claim (λ i. row (get_or us i 0)) (row_given made) (range_with_len 0 (length us)) (λ i h. let within = Contains-range_cases 0 (length us) i h in row_is i (omega arith))
       ∙ ap (map claim) (sym (rows_by_places row us) ∙ ap (flat_map row) lv)
 
-  node_are : node_given (bound + 1) left lefts right rights own ≡ map bare (pair_justifications (generalized bound) generalized_pairs l r 0 id)
+  node_are : node_given made lefts rights ≡ map bare (pair_justifications (generalized bound) generalized_pairs l r 0 id)
   node_are =
       let us = values (generalized bound) l in
       let vs = values (generalized bound) r in
@@ -212,7 +214,7 @@ module _ (bound : ℕ) (lefts rights : List Term) (id : ℕ) (left right : Hande
       ∙ sym (map-map bare (pair_justification (generalized bound) l r 0 id) (generalized_pairs us vs))
 
   -- they have the steps of those by its pairs
-  pub node_same : HaveSameSteps (node_given (bound + 1) left lefts right rights own) (pair_justifications (generalized bound) generalized_pairs (tree_of (weights lefts)) (tree_of (weights rights)) 0 id)
+  pub node_same : HaveSameSteps (node_given made lefts rights) (pair_justifications (generalized bound) generalized_pairs (tree_of (weights lefts)) (tree_of (weights rights)) 0 id)
   node_same =
       let owns = pair_justifications (generalized bound) generalized_pairs l r 0 id in
       subst (λ (rs : List Justification). HaveSameSteps rs owns) (sym node_are) (bare_same owns)

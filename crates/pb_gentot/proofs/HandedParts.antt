@@ -2,6 +2,7 @@
 use Rattle.std.proofs.Common.{◌≡◌, ◌+◌, ◌*◌, ℕ, List, ap, ◌∙◌, [], ◌∷◌, subst, arith}
 use Rattle.pb_base.specs.declared.literal.Term.{Term}
 use Rattle.pb_norm.specs.Constraints.{AllPositive, weights}
+use Rattle.pb_derive.specs.Justifications.{Justification}
 use Rattle.pb_family.proofs.SameSteps.{HaveSameSteps}
 use Rattle.pb_tree.specs.Places.{place_of}
 use Rattle.pb_tree.specs.Scheme.{values, fresh_of}
@@ -12,24 +13,29 @@ use Rattle.pb_tree.proofs.HandingLaws.{same_then}
 use Rattle.pb_tree.proofs.TreeHanded.{pairs_first_free}
 use Rattle.pb_gentot.specs.Generalized.{generalized, ascending, sums}
 use Rattle.pb_gentot.specs.GeneralizedSteps.{generalized_pairs}
-use Rattle.pb_gentot.specs.declared.node_ids.Handed.{Handed}
-use Rattle.pb_gentot.specs.declared.node_ids.Owned.{Owned}
+use Rattle.pb_gentot.specs.declared.node_ids.NodeIds.{NodeIds}
 use Rattle.pb_gentot.specs.inner.Sources.{IsHanded, node_given}
 use Rattle.pb_gentot.proofs.Handed.{node_same, source_is}
 use Rattle.pb_gentot.proofs.Parts.{AreLeavesPositive, leaves_add, values_are_over}
 
+-- its own justifications
+abbrev pub own_pairs : ℕ → List Term → List Term → ℕ → ℕ → List Justification
+own_pairs bound lefts rights before id = pair_justifications (generalized bound) generalized_pairs (tree_of (weights lefts)) (tree_of (weights rights)) before (id + 2 * before)
+
 -- what the code hands over of the node itself has the steps of its own
-pub own_steps : (bound : ℕ) {ts lefts rights : List Term} {before next : ℕ} → AreParts (generalized bound) ts lefts rights before next → AllPositive (weights ts) → (id : ℕ) (left right : Handed) (made : Owned)
-    → IsHanded bound lefts (id + 2 * before) left → IsHanded bound rights (id + 2 * (before + fresh_over (generalized bound) lefts)) right
-    → made.values.items ≡ ascending (bound + 1) (sums (bound + 1) left.values.items right.values.items) → made.id ≡ id + 2 * next
-    → HaveSameSteps (node_given (bound + 1) left lefts right rights made) (pair_justifications (generalized bound) generalized_pairs (tree_of (weights lefts)) (tree_of (weights rights)) before (id + 2 * before))
-own_steps bound {ts} {lefts} {rights} {before} parts positive id left right made lh rh is at =
+pub own_steps : {bound before next : ℕ} {ts lefts rights : List Term} → AreParts (generalized bound) ts lefts rights before next → AllPositive (weights ts) → (id : ℕ) (made : NodeIds) → made.cap ≡ bound + 1 → made.id ≡ id + 2 * next
+    → IsHanded bound lefts (id + 2 * before) made.left.now → IsHanded bound rights (id + 2 * (before + fresh_over (generalized bound) lefts)) made.right.now
+    → HaveSameSteps (node_given made lefts rights) (own_pairs bound lefts rights before id)
+own_steps {bound} {before} {ts = ts} {lefts} {rights} parts positive id made cap at lh rh =
     let s = generalized bound in
     let l = tree_of (weights lefts) in
     let r = tree_of (weights rights) in
+    let us = made.left.now.values.items in
+    let vs = made.right.now.values.items in
+    let is : made.own.now.values.items ≡ ascending (bound + 1) (sums (bound + 1) us vs) = made.made ∙ ap (λ (n : ℕ). ascending n (sums n us vs)) cap in
     let middle : id + 2 * (before + fresh_over s lefts) ≡ id + 2 * before + 2 * fresh_of s l = omega arith in
     same_then
-    (node_same bound lefts rights (id + 2 * before) left right made lh.values_are rh.values_are lh.ids_are (rh.ids_are ∙ ap (output_ids s r) middle) (is ∙ values_are_over bound l r left.values.items right.values.items lh.values_are rh.values_are)
+    (node_same bound lefts rights (id + 2 * before) made cap lh.values_are rh.values_are lh.ids_are (rh.ids_are ∙ ap (output_ids s r) middle) (is ∙ values_are_over bound l r us vs lh.values_are rh.values_are)
     (omega (arith, at, parts.behind)) (subst AreLeavesPositive parts.halves.tree (leaves_add ts positive)))
     (pairs_first_free s generalized_pairs l r 0 before (id + 2 * before))
 

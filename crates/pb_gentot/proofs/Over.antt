@@ -4,10 +4,11 @@ use Rattle.std.specs.Prelude.{All, Contains}
 use Rattle.std.proofs.lemmas.List.Elements.{All-contains}
 use Rattle.pb_tree.proofs.Extending.{all_from_each}
 use Rattle.pb_gentot.specs.declared.outputs.Outputs.TheVariants.{Fresh}
-use Rattle.pb_gentot.specs.declared.tree.Emitted.{Emitted}
+use Rattle.pb_gentot.specs.declared.merge.Emitted.{Emitted}
 use Rattle.pb_gentot.specs.Generalized.{ascending, sums, value_clauses}
 use Rattle.pb_gentot.specs.laws.GeneralizedLaws.{ascending_has, ascending_cases, sums_left, sums_right, sums_both}
 use Rattle.pb_gentot.specs.inner.Outputs.{output_in}
+use Rattle.pb_gentot.specs.inner.Nodes.{part_output}
 use Rattle.pb_gentot.specs.inner.Parts.{node_values, clauses_over_parts}
 use Rattle.pb_gentot.specs.Rising.{Rising}
 use Rattle.pb_gentot.proofs.RisingLists.{rising_ascending}
@@ -38,8 +39,7 @@ made_within cap us vs ws is = all_from_each (λ w. w ≤ cap) ws (λ w h. (ascen
 pub values_made : (cap : ℕ) (us vs ws lefts rights : List ℕ) → us ≡ lefts → vs ≡ rights → ws ≡ ascending cap (sums cap us vs) → ws ≡ ascending cap (sums cap lefts rights)
 values_made cap us vs ws lefts rights left right is = is ∙ ap (λ (xs : List ℕ). ascending cap (sums cap xs vs)) left ∙ ap (λ (xs : List ℕ). ascending cap (sums cap lefts xs)) right
 
--- the clauses by the parts, where the code has their values as slices
-pub clauses_made : (cap first : ℕ) (left right : Emitted) (us vs ws : List ℕ) → us ≡ left.values.items → vs ≡ right.values.items → ws ≡ node_values cap left right
-    → value_clauses cap us vs (output_in left.outputs us) (output_in right.outputs vs) (output_in (Fresh first) ws) ≡ clauses_over_parts cap first left right
-clauses_made cap first left right us vs ws lefts rights values =
-    (λ i. value_clauses cap (lefts i) (rights i) (output_in left.outputs (lefts i)) (output_in right.outputs (rights i)) (output_in (Fresh first) (values i)))
+-- the clauses by the parts, where the code has the node's values
+pub clauses_made : (cap first : ℕ) (left right : Emitted) (ws : List ℕ) → ws ≡ node_values cap left right
+    → value_clauses cap left.values.items right.values.items (part_output left) (part_output right) (output_in (Fresh first) ws) ≡ clauses_over_parts cap first left right
+clauses_made cap first left right ws is = ap (λ (us : List ℕ). value_clauses cap left.values.items right.values.items (part_output left) (part_output right) (output_in (Fresh first) us)) is

@@ -155,7 +155,7 @@ impl BoundTable {
         }
         let place = i as usize;
         let values = self.values.as_slice();
-        let lit = self.outputs(first).at(values, place);
+        let lit = self.outputs(first).at(place);
         Some((signed(values[place]), lit))
     }
 

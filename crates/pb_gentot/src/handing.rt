@@ -1,45 +1,19 @@
 //! The clauses of a generalized totalizer's derivation, part by part.
-ghost use Rattle.std.specs.Prelude.{◌≡◌, ◌≤◌, ◌<◌, ◌+◌, ◌*◌, ◌^◌, All, length, IfOk};
+ghost use Rattle.std.specs.Prelude.{◌<◌, ◌+◌, ◌*◌, ◌^◌, length, IfOk};
 ghost use Rattle.pb_family.specs.HandedJustifications.{HandsJustifications};
 ghost use Rattle.pb_tree.specs.Walks.{fresh_over};
-ghost use Rattle.pb_gentot.specs.Generalized.{generalized, ascending, sums};
+ghost use Rattle.pb_gentot.specs.Generalized.{generalized};
 ghost use Rattle.pb_gentot.specs.inner.Sources.{IsHanded, part_justifications};
 
 use crate::claims::derive_node;
 use crate::leaf::leaf_values;
-use crate::node_ids::{Handed, Owned, Source};
+use crate::node_ids::{Handed, NodeIds, Source};
 use crate::ranked::ranked_over;
 use crate::whole::Whole;
 use pb_base::Term;
 use pb_family::{SinkFault, SinkResult, StepSink};
 use pb_tree::{Parts, Placed, Walk, walk_along};
-use std::alloc::{AllocError, Global};
-
-/// What a node has over two parts.
-fn node_of_parts(
-    alloc: Global,
-    left: &Handed,
-    right: &Handed,
-    id: u64,
-    cap: u128,
-) -> Result<Owned, AllocError>
-    requires left { All (λ u. u ≤ cap) left.now.values.items }
-    requires right { All (λ v. v ≤ cap) right.now.values.items }
-    requires few { cap < 2 ^ 101 }
-    requires fits { length (ascending cap (sums cap left.now.values.items right.now.values.items)) ≤ 2 ^ 31 }
-    requires room { id + 2 * length (ascending cap (sums cap left.now.values.items right.now.values.items)) < 2 ^ 62 }
-    ensures values { IfOk result (λ own. own.values.items ≡ ascending cap (sums cap left.now.values.items right.now.values.items)) }
-    ensures id { IfOk result (λ own. own.id ≡ id) }
-{
-    let lefts = left.values.as_slice();
-    let rights = right.values.as_slice();
-    let made = ranked_over(alloc, lefts, rights, cap)?;
-    Ok(Owned {
-        values: made.values,
-        id,
-        ranks: made.ranks,
-    })
-}
+use std::alloc::Global;
 
 /// The clauses along the tree of a generalized totalizer, whose variables' constraints have the ids from `id` on.
 #[derive(Clone, Copy)]
@@ -102,8 +76,17 @@ impl<'a, T: StepSink> Walk<T> for Claims<'a> {
     ) -> SinkResult<Placed<Handed>> {
         let cap = self.whole.bound + 1;
         let id = self.id + 2 * parts.next;
-        let own = node_of_parts(alloc, parts.left, parts.right, id, cap)?;
-        derive_node(alloc, parts, &own, cap, sink)?;
+        let lefts = parts.left.values.as_slice();
+        let rights = parts.right.values.as_slice();
+        let own = ranked_over(alloc, lefts, rights, cap)?;
+        let node = NodeIds {
+            left: parts.left,
+            right: parts.right,
+            own: &own,
+            id,
+            cap,
+        };
+        derive_node(alloc, &node, parts.lefts, parts.rights, sink)?;
         let next = parts.next + own.values.len() as u64;
         let part = Handed {
             values: own.values,

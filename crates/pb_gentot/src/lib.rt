@@ -10,7 +10,6 @@ mod laws;
 mod leaf;
 mod measure;
 mod merge;
-mod node;
 mod node_ids;
 mod outputs;
 mod ranked;

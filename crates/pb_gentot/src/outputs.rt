@@ -1,5 +1,5 @@
 //! The literals that a part gives to what stands over it.
-ghost use Rattle.std.specs.Prelude.{◌≡◌, ◌<◌, length, Contains, slice_index};
+ghost use Rattle.std.specs.Prelude.{◌≡◌, Contains};
 ghost use Rattle.pb_tree.specs.Places.{place_of};
 ghost use Rattle.pb_gentot.specs.Rising.{Rising};
 
@@ -26,33 +26,17 @@ pub fn place_in(values: &[u128], value: u128) -> usize
 }
 
 impl Outputs {
-    ghost use Rattle.std.specs.Prelude.{◌≡◌, ◌<◌, length, Contains, slice_index};
-    ghost use Rattle.pb_gentot.specs.Rising.{Rising};
-    ghost use Rattle.pb_gentot.specs.inner.Outputs.{output_in, HasRoom};
+    ghost use Rattle.std.specs.Prelude.{◌≡◌, ◌+◌};
+    ghost use Rattle.pb_gentot.specs.inner.Outputs.{output_at, HasRoom};
 
     /// The literal of the value at a place.
-    pub fn at(&self, values: &[u128], place: usize) -> Lit
-        requires rising { Rising values.now }
-        requires within { place < length values.now }
-        requires room { HasRoom self.now (length values.now) }
-        ensures { result ≡ output_in self.now values.now (slice_index values.now place) }
+    pub fn at(&self, place: usize) -> Lit
+        requires { HasRoom self.now (place + 1) }
+        ensures { result ≡ output_at self.now place }
     {
         match self {
             Outputs::Single(lit) => *lit,
             Outputs::Fresh(first) => fresh_at(*first, place),
-        }
-    }
-
-    /// The literal of a value.
-    pub fn of(&self, values: &[u128], value: u128) -> Lit
-        requires rising { Rising values.now }
-        requires has { Contains values.now value }
-        requires room { HasRoom self.now (length values.now) }
-        ensures { result ≡ output_in self.now values.now value }
-    {
-        match self {
-            Outputs::Single(lit) => *lit,
-            Outputs::Fresh(first) => fresh_at(*first, place_in(values, value)),
         }
     }
 }

@@ -14,9 +14,23 @@ use std::alloc::{AllocError, Global};
 #[derive(Drop)]
 pub struct Ranked {
     pub values: Vec<u128>,
-    pub ranks: Ranks,
+    ranks: Ranks,
     ghost rising: { Rising values.items } by { Rising-prop values.items },
     ghost ranked: { AreRanks ranks values.items },
+}
+
+impl Ranked {
+    ghost use Rattle.std.specs.Prelude.{◌≡◌, ◌<◌, length, Contains};
+    ghost use Rattle.pb_tree.specs.Places.{place_of};
+
+    /// Where a value stands.
+    pub fn place(&self, value: u128) -> usize
+        requires { Contains self.now.values.items value }
+        ensures place { result ≡ place_of value self.now.values.items }
+        ensures within { result < length self.now.values.items }
+    {
+        self.ranks.place(self.values.as_slice(), value)
+    }
 }
 
 /// The values of a node over two parts, with their places.

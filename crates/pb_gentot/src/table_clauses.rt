@@ -8,10 +8,9 @@ ghost use Rattle.pb_tree.specs.Scheme.{fresh_of};
 ghost use Rattle.pb_gentot.specs.BoundTable.{neighbours, neighbour_clause};
 ghost use Rattle.pb_gentot.specs.Generalized.{generalized};
 ghost use Rattle.pb_gentot.specs.inner.KeptTables.{clauses_by};
-ghost use Rattle.pb_gentot.specs.inner.Outputs.{output_in, HasRoom};
-ghost use Rattle.pb_gentot.specs.Rising.{Rising};
+ghost use Rattle.pb_gentot.specs.inner.Nodes.{part_output};
 
-use crate::outputs::Outputs;
+use crate::merge::Emitted;
 use crate::tree::emit_nodes;
 use crate::whole::Whole;
 use pb_base::{Failed, Lit, Term};
@@ -19,28 +18,20 @@ use pb_family::{ClauseSink, SinkResult};
 use std::alloc::Global;
 
 /// The literals of the clause that what reaches the value behind a place reaches the one there.
-fn neighbour_literals(values: &[u128], outputs: &Outputs, place: usize) -> (Lit, Lit)
-    requires rising { Rising values.now }
-    requires within { place + 1 < length values.now }
-    requires room { HasRoom outputs.now (length values.now) }
-    ensures { (result.0 ∷ result.1 ∷ []) ≡ neighbour_clause (output_in outputs.now values.now) (pair_of (slice_index values.now place) (slice_index values.now (place + 1))) }
+fn neighbour_literals(root: &Emitted, place: usize) -> (Lit, Lit)
+    requires { place + 1 < length root.now.values.items }
+    ensures { (result.0 ∷ result.1 ∷ []) ≡ neighbour_clause (part_output root.now) (pair_of (slice_index root.now.values.items place) (slice_index root.now.values.items (place + 1))) }
 {
-    let later = outputs.at(values, place + 1);
-    (later.not(), outputs.at(values, place))
+    let later = root.outputs.at(place + 1);
+    (later.not(), root.outputs.at(place))
 }
 
 /// Hands over that what reaches a value reaches the one before.
-fn emit_neighbours<S: ClauseSink>(
-    values: &[u128],
-    outputs: &Outputs,
-    sink: &mut S,
-) -> Result<(), Failed>
-    requires rising { Rising values.now }
-    requires room { HasRoom outputs.now (length values.now) }
-    ensures { Hands (map (neighbour_clause (output_in outputs.now values.now)) (neighbours values.now)) result (S.state sink.old) (S.state sink.new) }
+fn emit_neighbours<S: ClauseSink>(root: &Emitted, sink: &mut S) -> Result<(), Failed>
+    ensures { Hands (map (neighbour_clause (part_output root.now)) (neighbours root.now.values.items)) result (S.state sink.old) (S.state sink.new) }
 {
-    for place in 0..values.len().saturating_sub(1) {
-        let (later, earlier) = neighbour_literals(values, outputs, place);
+    for place in 0..root.values.len().saturating_sub(1) {
+        let (later, earlier) = neighbour_literals(root, place);
         sink.clause(&[later, earlier])?;
     }
     Ok(())
@@ -70,6 +61,6 @@ pub fn emit_table<S: ClauseSink>(
         first,
     };
     let root = emit_nodes(alloc, &whole, sink)?;
-    emit_neighbours(root.values.as_slice(), &root.outputs, sink)?;
+    emit_neighbours(&root, sink)?;
     Ok(())
 }

@@ -1,31 +1,22 @@
 //! The clauses of a generalized totalizer, part by part.
-ghost use Rattle.std.specs.Prelude.{◌≡◌, ◌≤◌, ◌<◌, ◌+◌, ◌^◌, length, Contains, IfOk};
+ghost use Rattle.std.specs.Prelude.{◌≡◌, ◌≤◌, ◌<◌, ◌+◌, ◌^◌, All, length, Contains, IfOk};
 ghost use Rattle.pb_norm.specs.Constraints.{weights};
 ghost use Rattle.pb_family.specs.Handing.{HandsIfMemory};
 ghost use Rattle.pb_tree.specs.Tree.{tree_of};
 ghost use Rattle.pb_tree.specs.Scheme.{values, clauses_of, tree_clauses};
-ghost use Rattle.pb_gentot.specs.inner.Outputs.{HasLiterals};
 ghost use Rattle.pb_gentot.specs.inner.Parts.{IsEmitted, IsMadeOver, node_values, clauses_over_parts};
 ghost use Rattle.pb_gentot.specs.Generalized.{generalized};
 
 use crate::emission::emit_node;
 use crate::leaf::leaf_values;
-use crate::merge::Merge;
-use crate::node::Node;
-use crate::outputs::Outputs;
+use crate::merge::{Emitted, Merge};
+use crate::outputs::{Outputs, place_in};
 use crate::ranked::ranked_over;
 use crate::whole::Whole;
 use pb_base::Term;
 use pb_family::{ClauseSink, SinkFault, SinkResult, sink_result};
 use pb_tree::{Parts, Placed, Walk, walk_along};
 use std::alloc::Global;
-
-/// What a part leaves to what stands over it.
-#[derive(Drop)]
-pub struct Emitted {
-    pub values: Vec<u128>,
-    pub outputs: Outputs,
-}
 
 /// Hands over a node's own clauses, over two parts.
 fn emit_over<S: ClauseSink>(
@@ -36,8 +27,8 @@ fn emit_over<S: ClauseSink>(
     cap: u128,
     sink: &mut S,
 ) -> SinkResult<Emitted>
-    requires left { HasLiterals cap left.now.outputs left.now.values.items }
-    requires right { HasLiterals cap right.now.outputs right.now.values.items }
+    requires left { All (λ u. u ≤ cap) left.now.values.items }
+    requires right { All (λ v. v ≤ cap) right.now.values.items }
     requires few { cap < 2 ^ 101 }
     requires low { 1 ≤ first }
     requires fits { first + length (node_values cap left.now right.now) ≤ 2 ^ 31 }
@@ -46,18 +37,12 @@ fn emit_over<S: ClauseSink>(
 {
     let lefts = left.values.as_slice();
     let rights = right.values.as_slice();
-    let made = ranked_over(alloc, lefts, rights, cap)?;
-    let own = Node {
-        values: made.values,
-        first,
-        ranks: made.ranks,
-    };
+    let own = ranked_over(alloc, lefts, rights, cap)?;
     let node = Merge {
-        lefts,
-        left: &left.outputs,
-        rights,
-        right: &right.outputs,
+        left,
+        right,
         own: &own,
+        first,
         cap,
     };
     emit_node(&node, sink)?;
@@ -159,6 +144,7 @@ pub fn emit_whole<S: ClauseSink>(alloc: Global, whole: &Whole, sink: &mut S) -> 
     ensures { HandsIfMemory (tree_clauses (generalized whole.now.bound) (tree_of (weights whole.now.terms.now)) whole.now.first) result (S.state sink.old) (S.state sink.new) }
 {
     let root = emit_nodes(alloc, whole, sink)?;
-    let top = root.outputs.of(root.values.as_slice(), whole.bound + 1);
+    let place = place_in(root.values.as_slice(), whole.bound + 1);
+    let top = root.outputs.at(place);
     sink_result(sink.clause(&[top.not()]))
 }

@@ -13,7 +13,6 @@ use Rattle.pb_gentot.specs.Generalized.{generalized}
 use Rattle.pb_gentot.specs.GeneralizedSteps.{generalized_pairs}
 use Rattle.pb_gentot.specs.declared.node_ids.Handed.{Handed}
 use Rattle.pb_gentot.specs.declared.node_ids.NodeIds.{NodeIds}
-use Rattle.pb_gentot.specs.declared.node_ids.Owned.{Owned}
 use Rattle.pb_gentot.specs.inner.Ids.{ids_at}
 
 -- of a value
@@ -27,55 +26,42 @@ pub record IsHanded (bound : ℕ) (ts : List Term) (id : ℕ) (part : Handed) : 
   pub within : All (λ u. u ≤ bound + 1) part.values.items
 
 -- the second constraint of a node's value
-abbrev pub second_of : Owned → ℕ → ℕ
-second_of own u = own.id + 2 * place_of u own.values.items + 1
+abbrev pub second_of : NodeIds → ℕ → ℕ
+second_of node u = node.id + 2 * place_of u node.own.now.values.items + 1
 
 -- ---- justifications of a node's clauses
 
 -- a value of a part, by its place, gives one of the node; the other part's leaves go
-abbrev pub one_at : Handed → List Term → Owned → ℕ → Justification
-one_at part others own place = record {
+abbrev pub one_at : NodeIds → Handed → List Term → ℕ → Justification
+one_at node part others place = record {
   clause = [];
-  ids = ids_at part.source place ++ second_of own (slice_index part.values.items place) ∷ [];
+  ids = ids_at part.source place ++ second_of node (slice_index part.values.items place) ∷ [];
   weakened = vars_of (weights others);
 }
 
-abbrev pub ones_given : Handed → List Term → Owned → List Justification
-ones_given part others own = map (one_at part others own) (range_with_len 0 (length part.values.items))
+abbrev pub ones_given : NodeIds → Handed → List Term → List Justification
+ones_given node part others = map (one_at node part others) (range_with_len 0 (length part.values.items))
 
 -- the sum of two values, by their places, cut
-abbrev pub sum_at : ℕ → Handed → Handed → ℕ → ℕ → ℕ
-sum_at cap left right i j = min (slice_index left.values.items i + slice_index right.values.items j) cap
+abbrev pub sum_at : NodeIds → ℕ → ℕ → ℕ
+sum_at node i j = min (slice_index node.left.now.values.items i + slice_index node.right.now.values.items j) node.cap
 
 -- a value of each part gives their sum
-abbrev pub both_at : ℕ → Handed → Handed → Owned → ℕ → ℕ → Justification
-both_at cap left right own i j =
-    record { clause = []; ids = ids_at left.source i ++ (ids_at right.source j ++ second_of own (sum_at cap left right i j) ∷ []); weakened = [] }
+abbrev pub both_at : NodeIds → ℕ → ℕ → Justification
+both_at node i j =
+    record { clause = []; ids = ids_at node.left.now.source i ++ (ids_at node.right.now.source j ++ second_of node (sum_at node i j) ∷ []); weakened = [] }
 
 -- a value of the left, and each of the right
-abbrev pub row_given : ℕ → Handed → Handed → Owned → ℕ → List Justification
-row_given cap left right own i = map (both_at cap left right own i) (range_with_len 0 (length right.values.items))
+abbrev pub row_given : NodeIds → ℕ → List Justification
+row_given node i = map (both_at node i) (range_with_len 0 (length node.right.now.values.items))
 
 -- for each value of the left
-abbrev pub pairs_given : ℕ → Handed → Handed → Owned → List Justification
-pairs_given cap left right own = flat_map (row_given cap left right own) (range_with_len 0 (length left.values.items))
+abbrev pub pairs_given : NodeIds → List Justification
+pairs_given node = flat_map (row_given node) (range_with_len 0 (length node.left.now.values.items))
 
-abbrev pub node_given : ℕ → Handed → List Term → Handed → List Term → Owned → List Justification
-node_given cap left lefts right rights own = ones_given left rights own ++ (ones_given right lefts own ++ pairs_given cap left right own)
-
--- ---- over two parts, as the code has them
-
-abbrev pub sum_beside : NodeIds → ℕ → ℕ → ℕ
-sum_beside node i j = sum_at node.cap node.left.now node.right.now i j
-
-abbrev pub both_beside : NodeIds → ℕ → ℕ → Justification
-both_beside node i j = both_at node.cap node.left.now node.right.now node.own.now i j
-
-abbrev pub row_beside : NodeIds → ℕ → List Justification
-row_beside node i = row_given node.cap node.left.now node.right.now node.own.now i
-
-abbrev pub pairs_beside : NodeIds → List Justification
-pairs_beside node = pairs_given node.cap node.left.now node.right.now node.own.now
+-- the leaves of the left, and those of the right
+abbrev pub node_given : NodeIds → List Term → List Term → List Justification
+node_given node lefts rights = ones_given node node.left.now rights ++ (ones_given node node.right.now lefts ++ pairs_given node)
 
 -- of the root, whose sum's own constraint has the id `own`
 abbrev pub root_given : Handed → ℕ → ℕ → Justification

@@ -20,4 +20,4 @@ second-second-requires g c =
 pub returns : goal.returns
 returns g c =
     by_ids c.derive_by.result (g.T.StepSink.state c.args.sink.now) (g.T.StepSink.state c.derive_by.new.sink) []
-    (λ i. c.first_id-left.ensures i ++ (c.first_id-right.ensures i ++ (c.second-second.ensures ∙ ap (second_of c.args.node.now.own.now) c.sum_of.ensures) i ∷ [])) c.derive_by.ensures
+    (λ i. c.first_id-left.ensures i ++ (c.first_id-right.ensures i ++ (c.second-second.ensures ∙ ap (second_of c.args.node.now) c.sum_of.ensures) i ∷ [])) c.derive_by.ensures

@@ -1,27 +1,27 @@
 use Rattle.std.proofs.Common.{◌≡◌, ◌-◌, ◌++◌, ℕ, [], length, map, subst, arith}
 use Rattle.std.specs.List.{range_with_len}
 use Rattle.pb_family.proofs.Emission.{Emitting, emitting_ends, emitting_from, emitting_map, hands_fault_map}
-use Rattle.pb_gentot.specs.inner.Outputs.{output_in}
+use Rattle.pb_gentot.specs.inner.Nodes.{part_output}
 use Rattle.pb_gentot.proofs.Neighbours.{between_starts, clause_at, clauses_between}
 use Rattle.pb_gentot.proofs.table_clauses.emit_neighbours.Goals as goal
 
 pub loop-place-init : goal.loop-place-init
-loop-place-init g c = emitting_from _ (between_starts (output_in c.args.outputs.now c.args.values.now) c.args.values.now)
+loop-place-init g c = emitting_from _ (between_starts (part_output c.args.root.now) c.args.root.now.values.items)
 
 pub returns-in_err-clause : goal.returns-in_err-clause
 returns-in_err-clause g c =
-    let us = c.args.values.now in
-    hands_fault_map c.from_residual.result _ (clause_at (output_in c.args.outputs.now us) us) c.loop-place.place (length us - 1) [] _ _ c.from_residual.ensures.1 (omega (arith, c.loop-place-test.true, c.saturating_sub-place-end.ensures)) c.neighbour_literals-later.ensures c.loop-place.invariant c.in_err-clause.ensures
+    let us = c.args.root.now.values.items in
+    hands_fault_map c.from_residual.result _ (clause_at (part_output c.args.root.now) us) c.loop-place.place (length us - 1) [] _ _ c.from_residual.ensures.1 (omega (arith, c.loop-place-test.true, c.saturating_sub-place-end.ensures)) c.neighbour_literals-later.ensures c.loop-place.invariant c.in_err-clause.ensures
 
 pub loop-place-preserved : goal.loop-place-preserved
 loop-place-preserved g c =
-    let us = c.args.values.now in
-    emitting_map (clause_at (output_in c.args.outputs.now us) us) c.loop-place.place (length us - 1) [] _ _ (omega (arith, c.loop-place-test.true, c.saturating_sub-place-end.ensures)) c.neighbour_literals-later.ensures c.loop-place.invariant c.in_ok-clause.ensures
+    let us = c.args.root.now.values.items in
+    emitting_map (clause_at (part_output c.args.root.now) us) c.loop-place.place (length us - 1) [] _ _ (omega (arith, c.loop-place-test.true, c.saturating_sub-place-end.ensures)) c.neighbour_literals-later.ensures c.loop-place.invariant c.in_ok-clause.ensures
 
 pub returns : goal.returns
 returns g c =
-    let us = c.args.values.now in
-    let f = output_in c.args.outputs.now us in
+    let us = c.args.root.now.values.items in
+    let f = part_output c.args.root.now in
     let k = c.loop-place.place in
     let none : length us - 1 - k ≡ 0 = omega (arith, c.loop-place-test.false, c.saturating_sub-place-end.ensures) in
     let sink = g.S.ClauseSink in

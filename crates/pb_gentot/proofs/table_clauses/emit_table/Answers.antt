@@ -8,12 +8,12 @@ use Rattle.pb_family.proofs.Taking.{takes_nothing}
 use Rattle.pb_tree.specs.Tree.{tree_of}
 use Rattle.pb_tree.specs.Scheme.{values, output, clauses_of}
 use Rattle.pb_gentot.specs.inner.KeptTables.{clauses_by}
-use Rattle.pb_gentot.specs.inner.Outputs.{output_in}
+use Rattle.pb_gentot.specs.inner.Nodes.{part_output}
 use Rattle.pb_gentot.specs.Generalized.{generalized}
 use Rattle.pb_gentot.proofs.KeptTables.{no_clauses}
 use Rattle.pb_gentot.proofs.Neighbours.{clauses_between}
 use Rattle.pb_gentot.proofs.table_clauses.emit_table.Given.{Over}
-use Rattle.pb_gentot.proofs.table_clauses.emit_table.Goals.{After-as_slice}
+use Rattle.pb_gentot.proofs.table_clauses.emit_table.Goals.{In_ok-root}
 use Rattle.pb_gentot.proofs.table_clauses.emit_table.Goals as goal
 
 pub returns-then-is_empty : goal.returns-then-is_empty
@@ -33,14 +33,12 @@ returns-in_err-root g c =
     stops_fault {all = clauses_by c.args.bound c.args.terms.now c.args.first} c.from_residual.result _ (clauses_of s t c.args.first) _ _ c.from_residual.ensures.1 (emitting_starts _ _) c.in_err-root.ensures.hands
 
 -- the clauses between neighbours are those of the table, and the nodes' were handed over before them
-same : (g : Over) (c : After-as_slice g) → (let s = generalized c.args.bound in let t = tree_of (weights c.args.terms.now) in
-    clauses_between (output_in c.in_ok-root.root.outputs c.as_slice.result.now) c.as_slice.result.now ≡ clauses_between (output s t c.args.first) (values s t))
+same : (g : Over) (c : In_ok-root g) → (let s = generalized c.args.bound in let t = tree_of (weights c.args.terms.now) in
+    clauses_between (part_output c.in_ok-root.root) c.in_ok-root.root.values.items ≡ clauses_between (output s t c.args.first) (values s t))
 same g c =
-    let outs = ap (output_in c.in_ok-root.root.outputs) c.as_slice.ensures.value ∙ c.in_ok-root.ensures.emitted.outputs_are in
-    let vals = c.as_slice.ensures.value ∙ c.in_ok-root.ensures.emitted.values_are in
-    λ i. clauses_between (outs i) (vals i)
+    λ i. clauses_between (c.in_ok-root.ensures.emitted.outputs_are i) (c.in_ok-root.ensures.emitted.values_are i)
 
-nodes : (g : Over) (c : After-as_slice g) → (let s = generalized c.args.bound in let t = tree_of (weights c.args.terms.now) in
+nodes : (g : Over) (c : In_ok-root g) → (let s = generalized c.args.bound in let t = tree_of (weights c.args.terms.now) in
     Emitting (clauses_by c.args.bound c.args.terms.now c.args.first) (clauses_between (output s t c.args.first) (values s t) ++ []) (g.S.ClauseSink.state c.args.sink.now) (g.S.ClauseSink.state c.emit_nodes.new.sink))
 nodes g c =
     let s = generalized c.args.bound in
@@ -49,13 +47,13 @@ nodes g c =
 
 pub returns-in_err-emit_neighbours : goal.returns-in_err-emit_neighbours
 returns-in_err-emit_neighbours g c =
-    let at = (goal.at.returns-in_err-emit_neighbours g c).After-as_slice in
+    let at = (goal.at.returns-in_err-emit_neighbours g c).In_ok-root in
     let sink = g.S.ClauseSink in
     let part = fails_as _ _ (sink.state c.emit_nodes.new.sink) (sink.state c.emit_neighbours.new.sink) (same g at) c.in_err-emit_neighbours.ensures in
     stops_fault {all = clauses_by c.args.bound c.args.terms.now c.args.first} c.from_residual-in_err-emit_neighbours.result fault.Failed _ [] _ c.from_residual-in_err-emit_neighbours.ensures.1 (nodes g at) part
 
 pub returns : goal.returns
 returns g c =
-    let at = (goal.at.returns g c).After-as_slice in
+    let at = (goal.at.returns g c).In_ok-root in
     let sink = g.S.ClauseSink in
     emitting_ends {all = clauses_by c.args.bound c.args.terms.now c.args.first} (emitting_step {left = []} _ _ (nodes g at) (takes_as _ _ (sink.state c.emit_nodes.new.sink) (sink.state c.emit_neighbours.new.sink) (same g at) c.in_ok-emit_neighbours.ensures))

@@ -1,19 +1,16 @@
-use Rattle.std.proofs.Common.{rules, FitsSigned, to_z, of_z, ◌≡◌, ◌<◌, ◌^◌, ℕ, List, pos, get_or, length, sym, ap, ◌∙◌, subst, arith}
+use Rattle.std.proofs.Common.{rules, FitsSigned, to_z, of_z, ◌≡◌, ◌<◌, ◌^◌, ℕ, List, pos, get_or, length, refl, sym, ap, ◌∙◌, subst, arith}
 use mir.Syntax.{w128}
 use Rattle.std.proofs.lemmas.Int.{to_z-of_z}
 use Rattle.pb_base.specs.declared.literal.Lit.{Lit}
 use Rattle.pb_norm.specs.Constraints.{weight, weights}
 use Rattle.pb_tree.specs.Tree.{tree_of}
 use Rattle.pb_gentot.specs.BoundTable.{table_values}
-use Rattle.pb_gentot.specs.inner.Outputs.{output_in}
-use Rattle.pb_gentot.proofs.Emitting.{rising_values}
+use Rattle.pb_gentot.proofs.Emitting.{output_placed, rising_values, room_fewer}
 use Rattle.pb_gentot.proofs.KeptTables.{row_is, row_small}
 use Rattle.pb_gentot.proofs.bound_table.BoundTable.row.Goals as goal
 
-pub at-lit-requires-clause-rising : goal.at-lit-requires-clause-rising
-at-lit-requires-clause-rising c =
-    let us = weights c.self.inside.terms.items in
-    rising_values (weight us) (tree_of us) c.as_slice-values.result.now (c.as_slice-values.ensures.value ∙ c.self.invariant.values_are)
+pub at-lit-requires : goal.at-lit-requires
+at-lit-requires c = room_fewer c.outputs.result (length (table_values c.args.self.now)) _ (omega (arith, c.if-i-len.false, c.len.ensures)) c.outputs.ensures.room
 
 pub signed-requires : goal.signed-requires
 signed-requires c =
@@ -32,4 +29,4 @@ returns c =
     let kept : to_z w128 (of_z w128 c.signed.result) ≡ c.signed.result = to_z-of_z w128 c.signed.result fits in
     row_is ts c.args.first c.args.i (to_z w128 (of_z w128 c.signed.result)) c.at-lit.result within
     (kept ∙ c.signed.ensures ∙ ap (λ (vs : List ℕ). pos (get_or vs c.args.i 0)) vals)
-    (c.at-lit.ensures ∙ (λ k. output_in c.outputs.result (vals k) (get_or (vals k) c.args.i 0)) ∙ ap (λ (f : ℕ → Lit). f (get_or (table_values ts) c.args.i 0)) c.outputs.ensures.literals)
+    (c.at-lit.ensures ∙ output_placed c.outputs.result (table_values ts) c.args.i (rising_values (weight ts) (tree_of ts) (table_values ts) refl) within ∙ ap (λ (f : ℕ → Lit). f (get_or (table_values ts) c.args.i 0)) c.outputs.ensures.literals)

@@ -19,5 +19,10 @@ returns-clause-leaves g c =
     record {
       values_are = c.in_ok-values.ensures;
       outputs_are = rw (leaf_of c.args.terms.now c.index-terms-0.result c.requires.one);
-      within = record { rising = rising_values bound t us c.in_ok-values.ensures; small = all_within bound t us c.in_ok-values.ensures; room = tt };
+      within = all_within bound t us c.in_ok-values.ensures;
     }
+
+pub invariant_of-part : goal.invariant_of-part
+invariant_of-part g c =
+    let us = c.in_ok-values.values.items in
+    record { rising = rising_values c.args.self.now.whole.now.bound (tree_of (weights c.args.terms.now)) us c.in_ok-values.ensures; room = tt }

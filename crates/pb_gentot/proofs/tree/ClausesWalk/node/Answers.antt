@@ -7,7 +7,7 @@ use Rattle.pb_tree.specs.Scheme.{own_of}
 use Rattle.pb_tree.specs.Tree.{tree_of}
 use Rattle.pb_gentot.specs.Generalized.{generalized}
 use Rattle.pb_gentot.proofs.Emitting.{parts_own, parts_output, stops_as}
-use Rattle.pb_gentot.proofs.Parts.{node_of}
+use Rattle.pb_gentot.proofs.Parts.{all_within, node_of}
 use Rattle.pb_gentot.proofs.tree.ClausesWalk.node.Goals as goal
 
 pub emit_over-requires-clause-fits : goal.emit_over-requires-clause-fits
@@ -43,6 +43,6 @@ returns g c =
       leaves = record {
         values_are = own.values_are;
         outputs_are = c.in_ok-part.ensures.made.outputs_are ∙ parts_output w.bound c.requires.parts w.first parts.left.now parts.right.now c.requires.left c.requires.right;
-        within = c.in_ok-part.ensures.made.within;
+        within = all_within w.bound (tree_of (weights parts.terms.now)) c.in_ok-part.part.values.items own.values_are;
       };
     }
