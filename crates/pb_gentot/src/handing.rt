@@ -53,13 +53,7 @@ impl<'a, T: StepSink> Walk<T> for Claims<'a> {
 
     ghost leaves = { λ w ts before part. IsHanded w.whole.now.bound ts (w.id + 2 * before) part };
 
-    fn leaf(
-        &self,
-        alloc: Global,
-        terms: &[Term],
-        before: u64,
-        _sink: &mut T,
-    ) -> SinkResult<Placed<Handed>> {
+    fn leaf(&self, alloc: Global, terms: &[Term], before: u64) -> SinkResult<Placed<Handed>> {
         let values = leaf_values(alloc, terms, self.whole.bound)?;
         let part = Handed {
             values,

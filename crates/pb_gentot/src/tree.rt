@@ -86,13 +86,7 @@ impl<'a, S: ClauseSink> Walk<S> for Clauses<'a> {
 
     ghost leaves = { λ w ts before part. IsEmitted w.whole.now.bound ts (w.whole.now.first + before) part };
 
-    fn leaf(
-        &self,
-        alloc: Global,
-        terms: &[Term],
-        before: u64,
-        _sink: &mut S,
-    ) -> SinkResult<Placed<Emitted>> {
+    fn leaf(&self, alloc: Global, terms: &[Term], before: u64) -> SinkResult<Placed<Emitted>> {
         let values = leaf_values(alloc, terms, self.whole.bound)?;
         let part = Emitted {
             values,

@@ -17,7 +17,7 @@ returns-clause-leaves g c =
     }
 
 pub returns-in_err-values-clause-hands : goal.returns-in_err-values-clause-hands
-returns-in_err-values-clause-hands g c = steps_lack_first _ (g.T.StepSink.state c.args._sink.now) c.from_residual.result c.from_residual.ensures.1
+returns-in_err-values-clause-hands g c sink = steps_lack_first _ (g.T.StepSink.state sink) c.from_residual.result c.from_residual.ensures.1
 
 pub invariant_of-part : goal.invariant_of-part
 invariant_of-part g c =
@@ -25,4 +25,4 @@ invariant_of-part g c =
     record { rising = rising_values c.args.self.now.whole.now.bound (tree_of (weights c.args.terms.now)) us c.in_ok-values.ensures; ids = tt }
 
 pub returns-clause-hands : goal.returns-clause-hands
-returns-clause-hands g c = takes_no_steps (g.T.StepSink.state c.args._sink.now)
+returns-clause-hands g c sink = takes_no_steps (g.T.StepSink.state sink)

@@ -9,7 +9,7 @@ use Rattle.pb_gentot.proofs.Parts.{all_within}
 use Rattle.pb_gentot.proofs.tree.ClausesWalk.leaf.Goals as goal
 
 pub returns-in_err-values-clause-hands : goal.returns-in_err-values-clause-hands
-returns-in_err-values-clause-hands g c = stops_between {all = []} {left = []} c.from_residual.result c.from_residual.ensures.1 (emitting_starts [] (g.S.ClauseSink.state c.args._sink.now))
+returns-in_err-values-clause-hands g c sink = stops_between {all = []} {left = []} c.from_residual.result c.from_residual.ensures.1 (emitting_starts [] (g.S.ClauseSink.state sink))
 
 pub returns-clause-leaves : goal.returns-clause-leaves
 returns-clause-leaves g c =
