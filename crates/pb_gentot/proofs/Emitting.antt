@@ -39,27 +39,9 @@ output_placed given us i rising within = ap (output_at given) (sym (place_at us 
 pub rising_values : (bound : ℕ) (t : Tree) (us : List ℕ) → us ≡ values (generalized bound) t → Rising us
 rising_values bound t us is = subst Rising (sym is) (rising_of bound t)
 
-abbrev pub own_clauses : ℕ → Tree → Tree → ℕ → ℕ → List (List Lit)
-own_clauses bound l r first next =
-    value_clauses (bound + 1) (values (generalized bound) l) (values (generalized bound) r) (output (generalized bound) l first) (output (generalized bound) r next) (output (generalized bound) (node l r) first)
-
-pub own_is : (bound : ℕ) (l r : Tree) (first next : ℕ) (us vs : List ℕ) (f g h : ℕ → Lit)
-    → us ≡ values (generalized bound) l → vs ≡ values (generalized bound) r
-    → f ≡ output (generalized bound) l first → g ≡ output (generalized bound) r next → h ≡ output (generalized bound) (node l r) first
-    → value_clauses (bound + 1) us vs f g h ≡ own_clauses bound l r first next
-own_is bound l r first next us vs f g h eu ev ef eg eh =
-    let s = generalized bound in
-    ap (λ (xs : List ℕ). value_clauses (bound + 1) xs vs f g h) eu
-    ∙ ap (λ (xs : List ℕ). value_clauses (bound + 1) (values s l) xs f g h) ev
-    ∙ ap (λ (k : ℕ → Lit). value_clauses (bound + 1) (values s l) (values s r) k g h) ef
-    ∙ ap (λ (k : ℕ → Lit). value_clauses (bound + 1) (values s l) (values s r) (output s l first) k h) eg
-    ∙ ap (λ (k : ℕ → Lit). value_clauses (bound + 1) (values s l) (values s r) (output s l first) (output s r next) k) eh
-
 pub node_output : (bound : ℕ) (l r : Tree) (first base : ℕ) (us : List ℕ) → base ≡ first + fresh_of (generalized bound) l + fresh_of (generalized bound) r → us ≡ values (generalized bound) (node l r)
     → output_in (Fresh base) us ≡ output (generalized bound) (node l r) first
-node_output bound l r first base us is own =
-    ap (λ (n : ℕ). λ (u : ℕ). positive_of (n + place_of u us)) is
-    ∙ ap (λ (xs : List ℕ). λ (u : ℕ). positive_of (first + fresh_of (generalized bound) l + fresh_of (generalized bound) r + place_of u xs)) own
+node_output bound l r first base us is own = λ i u. positive_of (is i + place_of u (own i))
 
 -- ---- over two parts of a walk
 
@@ -76,10 +58,9 @@ module _ (bound : ℕ) {ts front back : List Term} {before next : ℕ} (parts : 
 
   pub parts_own : clauses_over_parts (bound + 1) (first + next) left right ≡ own_of (generalized bound) (tree_of (weights front)) (tree_of (weights back)) (first + before)
   parts_own =
-      let r = tree_of (weights back) in
       let middle : first + (before + fresh_over (generalized bound) front) ≡ first + before + fresh_over (generalized bound) front = omega arith in
-      own_is bound (tree_of (weights front)) r (first + before) (first + before + fresh_over (generalized bound) front) left.values.items right.values.items _ _ _
-      lefts.values_are rights.values_are lefts.outputs_are (rights.outputs_are ∙ ap (output (generalized bound) r) middle) over_output
+      let behind = rights.outputs_are ∙ ap (output (generalized bound) (tree_of (weights back))) middle in
+      λ i. value_clauses (bound + 1) (lefts.values_are i) (rights.values_are i) (lefts.outputs_are i) (behind i) (over_output i)
 
 -- a first part of the same clauses, written another way
 pub stops_as : {R : Type 0} (cs ds : List (List Lit)) (f : SinkFault) (a b : SinkState R) → cs ≡ ds → StopsInClauses cs a b f → StopsInClauses ds a b f

@@ -105,12 +105,6 @@ module _ (bound : ℕ) (lefts rights : List Term) (id : ℕ) (made : NodeIds) (c
     (ov : made.own.now.values.items ≡ values (generalized bound) (node (tree_of (weights lefts)) (tree_of (weights rights))))
     (at : made.id ≡ id + 2 * fresh_of (generalized bound) (tree_of (weights lefts)) + 2 * fresh_of (generalized bound) (tree_of (weights rights)))
     (positive : AreLeavesPositive (node (tree_of (weights lefts)) (tree_of (weights rights)))) where
-  abbrev left : Handed
-  left = made.left.now
-
-  abbrev right : Handed
-  right = made.right.now
-
   abbrev l : Tree
   l = tree_of (weights lefts)
 
@@ -126,7 +120,7 @@ module _ (bound : ℕ) (lefts rights : List Term) (id : ℕ) (made : NodeIds) (c
       let place : place_of w made.own.now.values.items ≡ place_of x (values (generalized bound) (node l r)) = λ i. place_of (same i) (ov i) in
       omega (arith, at, place)
 
-  left_one : (u : ℕ) → 1 ≤ u → u ≤ bound + 1 → named (ids_of left u ++ second_of made u ∷ []) (vars_of (weights rights)) ≡ claim (pair_of u 0)
+  left_one : (u : ℕ) → 1 ≤ u → u ≤ bound + 1 → named (ids_of made.left.now u ++ second_of made u ∷ []) (vars_of (weights rights)) ≡ claim (pair_of u 0)
   left_one zero low high = absurd (omega arith)
   left_one (suc u) low high =
       let ids = ap (λ (f : ℕ → List ℕ). f (suc u)) li in
@@ -134,7 +128,7 @@ module _ (bound : ℕ) (lefts rights : List Term) (id : ℕ) (made : NodeIds) (c
       let gone = ap vars_of (sym (leaves_of (weights rights))) in
       λ k. named (ids k ++ second k ∷ []) (gone k)
 
-  right_one : (v : ℕ) → 1 ≤ v → v ≤ bound + 1 → named (ids_of right v ++ second_of made v ∷ []) (vars_of (weights lefts)) ≡ claim (pair_of 0 v)
+  right_one : (v : ℕ) → 1 ≤ v → v ≤ bound + 1 → named (ids_of made.right.now v ++ second_of made v ∷ []) (vars_of (weights lefts)) ≡ claim (pair_of 0 v)
   right_one zero low high = absurd (omega arith)
   right_one (suc v) low high =
       let ids = ap (λ (f : ℕ → List ℕ). f (suc v)) ri in
@@ -142,7 +136,7 @@ module _ (bound : ℕ) (lefts rights : List Term) (id : ℕ) (made : NodeIds) (c
       let gone = ap vars_of (sym (leaves_of (weights lefts))) ∙ sym (append-nil (vars_of (leaves l))) in
       λ k. named (ids k ++ second k ∷ []) (gone k)
 
-  both_one : (u v : ℕ) → 1 ≤ u → 1 ≤ v → named (ids_of left u ++ (ids_of right v ++ second_of made (min (u + v) made.cap) ∷ [])) [] ≡ claim (pair_of u v)
+  both_one : (u v : ℕ) → 1 ≤ u → 1 ≤ v → named (ids_of made.left.now u ++ (ids_of made.right.now v ++ second_of made (min (u + v) made.cap) ∷ [])) [] ≡ claim (pair_of u v)
   both_one zero v low high = absurd (omega arith)
   both_one (suc u) zero low high = absurd (omega arith)
   both_one (suc u) (suc v) low high =
@@ -151,52 +145,52 @@ module _ (bound : ℕ) (lefts rights : List Term) (id : ℕ) (made : NodeIds) (c
       let second = second_is (min (suc u + suc v) made.cap) (min (suc u + suc v) (bound + 1)) (ap (min (suc u + suc v)) cap) in
       λ k. named (one k ++ (two k ++ second k ∷ [])) []
 
-  left_low : (i : ℕ) → i < length left.values.items → 1 ≤ get_or left.values.items i 0
-  left_low i within = value_low bound lefts left lv i within (λ w m. positive w (inl m))
+  left_low : (i : ℕ) → i < length made.left.now.values.items → 1 ≤ get_or made.left.now.values.items i 0
+  left_low i within = value_low bound lefts made.left.now lv i within (λ w m. positive w (inl m))
 
-  right_low : (j : ℕ) → j < length right.values.items → 1 ≤ get_or right.values.items j 0
-  right_low j within = value_low bound rights right rv j within (λ w m. positive w (inr m))
+  right_low : (j : ℕ) → j < length made.right.now.values.items → 1 ≤ get_or made.right.now.values.items j 0
+  right_low j within = value_low bound rights made.right.now rv j within (λ w m. positive w (inr m))
 
-  left_at : (i : ℕ) → i < length left.values.items → one_at made left rights i ≡ claim (pair_of (get_or left.values.items i 0) 0)
+  left_at : (i : ℕ) → i < length made.left.now.values.items → one_at made made.left.now rights i ≡ claim (pair_of (get_or made.left.now.values.items i 0) 0)
   left_at i within =
-      let u = get_or left.values.items i 0 in
-      ap (λ (k : ℕ). named (ids_at left.source k ++ second_of made u ∷ []) (vars_of (weights rights))) (value_place bound lefts left lv i within)
-      ∙ left_one u (left_low i within) (value_high bound lefts left lv i within)
+      let u = get_or made.left.now.values.items i 0 in
+      ap (λ (k : ℕ). named (ids_at made.left.now.source k ++ second_of made u ∷ []) (vars_of (weights rights))) (value_place bound lefts made.left.now lv i within)
+      ∙ left_one u (left_low i within) (value_high bound lefts made.left.now lv i within)
 
-  right_at : (j : ℕ) → j < length right.values.items → one_at made right lefts j ≡ claim (pair_of 0 (get_or right.values.items j 0))
+  right_at : (j : ℕ) → j < length made.right.now.values.items → one_at made made.right.now lefts j ≡ claim (pair_of 0 (get_or made.right.now.values.items j 0))
   right_at j within =
-      let v = get_or right.values.items j 0 in
-      ap (λ (k : ℕ). named (ids_at right.source k ++ second_of made v ∷ []) (vars_of (weights lefts))) (value_place bound rights right rv j within)
-      ∙ right_one v (right_low j within) (value_high bound rights right rv j within)
+      let v = get_or made.right.now.values.items j 0 in
+      ap (λ (k : ℕ). named (ids_at made.right.now.source k ++ second_of made v ∷ []) (vars_of (weights lefts))) (value_place bound rights made.right.now rv j within)
+      ∙ right_one v (right_low j within) (value_high bound rights made.right.now rv j within)
 
-  pair_at : (i j : ℕ) → i < length left.values.items → j < length right.values.items
-      → both_at made i j ≡ claim (pair_of (get_or left.values.items i 0) (get_or right.values.items j 0))
+  pair_at : (i j : ℕ) → i < length made.left.now.values.items → j < length made.right.now.values.items
+      → both_at made i j ≡ claim (pair_of (get_or made.left.now.values.items i 0) (get_or made.right.now.values.items j 0))
   pair_at i j within also =
-      let u = get_or left.values.items i 0 in
-      let v = get_or right.values.items j 0 in
-      let one = value_place bound lefts left lv i within in
-      let two = value_place bound rights right rv j also in
-      (λ k. named (ids_at left.source (one k) ++ (ids_at right.source (two k) ++ second_of made (min (u + v) made.cap) ∷ [])) [])
+      let u = get_or made.left.now.values.items i 0 in
+      let v = get_or made.right.now.values.items j 0 in
+      let one = value_place bound lefts made.left.now lv i within in
+      let two = value_place bound rights made.right.now rv j also in
+      (λ k. named (ids_at made.left.now.source (one k) ++ (ids_at made.right.now.source (two k) ++ second_of made (min (u + v) made.cap) ∷ [])) [])
       ∙ both_one u v (left_low i within) (right_low j also)
 
-  left_ones : ones_given made left rights ≡ map claim (map (λ u. pair_of u 0) (values (generalized bound) l))
+  left_ones : ones_given made made.left.now rights ≡ map claim (map (λ u. pair_of u 0) (values (generalized bound) l))
   left_ones =
-      places_same (one_at made left rights) (λ u. claim (pair_of u 0)) left.values.items (values (generalized bound) l) lv left_at ∙ sym (map-map claim (λ u. pair_of u 0) (values (generalized bound) l))
+      places_same (one_at made made.left.now rights) (λ u. claim (pair_of u 0)) made.left.now.values.items (values (generalized bound) l) lv left_at ∙ sym (map-map claim (λ u. pair_of u 0) (values (generalized bound) l))
 
-  right_ones : ones_given made right lefts ≡ map claim (map (pair_of 0) (values (generalized bound) r))
+  right_ones : ones_given made made.right.now lefts ≡ map claim (map (pair_of 0) (values (generalized bound) r))
   right_ones =
-      places_same (one_at made right lefts) (λ v. claim (pair_of 0 v)) right.values.items (values (generalized bound) r) rv right_at ∙ sym (map-map claim (pair_of 0) (values (generalized bound) r))
+      places_same (one_at made made.right.now lefts) (λ v. claim (pair_of 0 v)) made.right.now.values.items (values (generalized bound) r) rv right_at ∙ sym (map-map claim (pair_of 0) (values (generalized bound) r))
 
-  row_is : (i : ℕ) → i < length left.values.items
-      → row_given made i ≡ map claim (map (pair_of (get_or left.values.items i 0)) (values (generalized bound) r))
+  row_is : (i : ℕ) → i < length made.left.now.values.items
+      → row_given made i ≡ map claim (map (pair_of (get_or made.left.now.values.items i 0)) (values (generalized bound) r))
   row_is i within =
-      let u = get_or left.values.items i 0 in
-      places_same (both_at made i) (λ v. claim (pair_of u v)) right.values.items (values (generalized bound) r) rv (λ j also. pair_at i j within also)
+      let u = get_or made.left.now.values.items i 0 in
+      places_same (both_at made i) (λ v. claim (pair_of u v)) made.right.now.values.items (values (generalized bound) r) rv (λ j also. pair_at i j within also)
       ∙ sym (map-map claim (pair_of u) (values (generalized bound) r))
 
   pairs_are : pairs_given made ≡ map claim (flat_map (λ u. map (pair_of u) (values (generalized bound) r)) (values (generalized bound) l))
   pairs_are =
-      let us = left.values.items in
+      let us = made.left.now.values.items in
       let row = λ (u : ℕ). map (pair_of u) (values (generalized bound) r) in
       rows_same claim (λ i. row (get_or us i 0)) (row_given made) (range_with_len 0 (length us)) (λ i h. let within = Contains-range_cases 0 (length us) i h in row_is i (omega arith))
       ∙ ap (map claim) (sym (rows_by_places row us) ∙ ap (flat_map row) lv)

@@ -6,7 +6,7 @@ use Rattle.pb_tree.proofs.Extending.{all_from_each}
 use Rattle.pb_gentot.specs.declared.outputs.Outputs.TheVariants.{Fresh}
 use Rattle.pb_gentot.specs.declared.merge.Emitted.{Emitted}
 use Rattle.pb_gentot.specs.Generalized.{ascending, sums, value_clauses}
-use Rattle.pb_gentot.specs.laws.GeneralizedLaws.{ascending_has, ascending_cases, sums_left, sums_right, sums_both}
+use Rattle.pb_gentot.specs.laws.GeneralizedLaws.{ascending_has, sums_left, sums_right, sums_both}
 use Rattle.pb_gentot.specs.inner.Outputs.{output_in}
 use Rattle.pb_gentot.specs.inner.Nodes.{part_output}
 use Rattle.pb_gentot.specs.inner.Parts.{node_values, clauses_over_parts}
@@ -32,12 +32,9 @@ has_sums cap us vs ws left right is =
           all_from_each (λ v. Contains ws (min (u + v) cap)) vs (λ v k. inside (min (u + v) cap) (sums_both cap us vs u v h k) (omega arith)));
     }
 
-pub made_within : (cap : ℕ) (us vs ws : List ℕ) → ws ≡ ascending cap (sums cap us vs) → All (λ w. w ≤ cap) ws
-made_within cap us vs ws is = all_from_each (λ w. w ≤ cap) ws (λ w h. (ascending_cases cap (sums cap us vs) w (subst (λ (xs : List ℕ). Contains xs w) is h)).1)
-
 -- the values by those of the parts, where the code has these as slices
 pub values_made : (cap : ℕ) (us vs ws lefts rights : List ℕ) → us ≡ lefts → vs ≡ rights → ws ≡ ascending cap (sums cap us vs) → ws ≡ ascending cap (sums cap lefts rights)
-values_made cap us vs ws lefts rights left right is = is ∙ ap (λ (xs : List ℕ). ascending cap (sums cap xs vs)) left ∙ ap (λ (xs : List ℕ). ascending cap (sums cap lefts xs)) right
+values_made cap us vs ws lefts rights left right is = is ∙ (λ i. ascending cap (sums cap (left i) (right i)))
 
 -- the clauses by the parts, where the code has the node's values
 pub clauses_made : (cap first : ℕ) (left right : Emitted) (ws : List ℕ) → ws ≡ node_values cap left right

@@ -26,8 +26,7 @@ all_within bound t us is = all_from_each (λ u. u ≤ bound + 1) us (λ u h. val
 
 pub values_are_over : (bound : ℕ) (l r : Tree) (us vs : List ℕ) → us ≡ values (generalized bound) l → vs ≡ values (generalized bound) r
     → ascending (bound + 1) (sums (bound + 1) us vs) ≡ values (generalized bound) (node l r)
-values_are_over bound l r us vs left right =
-    ap (λ (xs : List ℕ). ascending (bound + 1) (sums (bound + 1) xs vs)) left ∙ ap (λ (xs : List ℕ). ascending (bound + 1) (sums (bound + 1) (values (generalized bound) l) xs)) right
+values_are_over bound l r us vs left right = λ i. ascending (bound + 1) (sums (bound + 1) (left i) (right i))
 
 -- the numbers of the node
 pub record Numbers (bound : ℕ) (ts : List Term) (l r : Tree) (made : List ℕ) : Type 0 where

@@ -13,10 +13,7 @@ derive_ones-requires-clause-few g c =
 pub returns-in_err-derive_ones : goal.returns-in_err-derive_ones
 returns-in_err-derive_ones g c =
     let n = c.args.node.now in
-    let xs = ones_given n n.left.now c.args.rights.now in
-    let ys = ones_given n n.right.now c.args.lefts.now in
-    let zs = pairs_given n in
-    justifications_stopped c.from_residual.result _ xs (ys ++ zs) (g.T.StepSink.state c.args.sink.now) (g.T.StepSink.state c.derive_ones.new.sink) c.from_residual.ensures.1 c.in_err-derive_ones.ensures
+    justifications_stopped c.from_residual.result _ (ones_given n n.left.now c.args.rights.now) (ones_given n n.right.now c.args.lefts.now ++ pairs_given n) (g.T.StepSink.state c.args.sink.now) (g.T.StepSink.state c.derive_ones.new.sink) c.from_residual.ensures.1 c.in_err-derive_ones.ensures
 
 pub derive_ones-requires-2-clause-few : goal.derive_ones-requires-2-clause-few
 derive_ones-requires-2-clause-few g c =
@@ -27,14 +24,12 @@ derive_ones-requires-2-clause-few g c =
 pub returns-in_err-derive_ones-2 : goal.returns-in_err-derive_ones-2
 returns-in_err-derive_ones-2 g c =
     let n = c.args.node.now in
-    let xs = ones_given n n.left.now c.args.rights.now in
     let ys = ones_given n n.right.now c.args.lefts.now in
-    let zs = pairs_given n in
     let result = c.from_residual-in_err-derive_ones-2.result in
     let mid = g.T.StepSink.state c.derive_ones.new.sink in
     let after = g.T.StepSink.state c.derive_ones-2.new.sink in
-    justifications_then result xs (ys ++ zs) (g.T.StepSink.state c.args.sink.now) mid after c.in_ok-derive_ones.ensures
-    (justifications_stopped result _ ys zs mid after c.from_residual-in_err-derive_ones-2.ensures.1 c.in_err-derive_ones-2.ensures)
+    justifications_then result (ones_given n n.left.now c.args.rights.now) (ys ++ pairs_given n) (g.T.StepSink.state c.args.sink.now) mid after c.in_ok-derive_ones.ensures
+    (justifications_stopped result _ ys (pairs_given n) mid after c.from_residual-in_err-derive_ones-2.ensures.1 c.in_err-derive_ones-2.ensures)
 
 pub derive_pairs-requires : goal.derive_pairs-requires
 derive_pairs-requires g c =
@@ -42,27 +37,18 @@ derive_pairs-requires g c =
     let mid = g.T.StepSink.state c.derive_ones.new.sink in
     let one = justifications_next (ones_given n n.left.now c.args.rights.now) (g.T.StepSink.state c.args.sink.now) mid c.in_ok-derive_ones.ensures in
     let two = justifications_next (ones_given n n.right.now c.args.lefts.now) mid (g.T.StepSink.state c.derive_ones-2.new.sink) c.in_ok-derive_ones-2.ensures in
-    omega (
-      arith,
-      one,
-      two,
-      ones_length n n.left.now c.args.rights.now,
-      ones_length n n.right.now c.args.lefts.now,
-      node_length n c.args.lefts.now c.args.rights.now,
-      c.requires,
-    )
+    let more = ones_length n n.left.now c.args.rights.now in
+    omega (arith, one, two, more, ones_length n n.right.now c.args.lefts.now, node_length n c.args.lefts.now c.args.rights.now, c.requires)
 
 pub returns : goal.returns
 returns g c =
     let n = c.args.node.now in
-    let xs = ones_given n n.left.now c.args.rights.now in
     let ys = ones_given n n.right.now c.args.lefts.now in
-    let zs = pairs_given n in
     let result = c.derive_pairs.result in
     let mid = g.T.StepSink.state c.derive_ones.new.sink in
     let two = g.T.StepSink.state c.derive_ones-2.new.sink in
     let new = g.T.StepSink.state c.derive_pairs.new.sink in
-    justifications_then result xs (ys ++ zs) (g.T.StepSink.state c.args.sink.now) mid new c.in_ok-derive_ones.ensures (justifications_then result ys zs mid two new c.in_ok-derive_ones-2.ensures c.derive_pairs.ensures)
+    justifications_then result (ones_given n n.left.now c.args.rights.now) (ys ++ pairs_given n) (g.T.StepSink.state c.args.sink.now) mid new c.in_ok-derive_ones.ensures (justifications_then result ys (pairs_given n) mid two new c.in_ok-derive_ones-2.ensures c.derive_pairs.ensures)
 
 pub derive_ones-requires-clause-has : goal.derive_ones-requires-clause-has
 derive_ones-requires-clause-has g c = let n = c.args.node.now in (has_sums n.cap n.left.now.values.items n.right.now.values.items n.own.now.values.items n.left_within n.right_within n.made).lefts

@@ -21,8 +21,7 @@ literal-requires c =
 
 pub returns : goal.returns
 returns c =
-    let left = c.args.node.now.left.now in
-    let right = c.args.node.now.right.now in
-    let one = c.at.ensures ∙ output_placed left.outputs left.values.items c.args.i left.rising c.requires.left in
-    let two = c.at-2.ensures ∙ output_placed right.outputs right.values.items c.args.j right.rising c.requires.right in
-    three_literals _ _ _ _ _ _ (c.not.ensures ∙ ap negated one) (c.not-2.ensures ∙ ap negated two) (c.literal.ensures ∙ ap (own_output c.args.node.now) c.sum_of.ensures)
+    let n = c.args.node.now in
+    let one = c.at.ensures ∙ output_placed n.left.now.outputs n.left.now.values.items c.args.i n.left.now.rising c.requires.left in
+    let two = c.at-2.ensures ∙ output_placed n.right.now.outputs n.right.now.values.items c.args.j n.right.now.rising c.requires.right in
+    three_literals _ _ _ _ _ _ (c.not.ensures ∙ ap negated one) (c.not-2.ensures ∙ ap negated two) (c.literal.ensures ∙ ap (own_output n) c.sum_of.ensures)

@@ -1,7 +1,7 @@
 use Rattle.std.proofs.Common.{arith}
 use Rattle.std.specs.Prelude.{slice_index}
 use Rattle.pb_family.proofs.Emission.{emitting_starts}
-use Rattle.pb_gentot.specs.inner.Nodes.{both_over}
+use Rattle.pb_gentot.specs.inner.Nodes.{both_over, row_over}
 use Rattle.pb_gentot.proofs.Steps.{value_step, value_fault, values_taken}
 use Rattle.pb_gentot.proofs.emission.emit_row.Goals as goal
 
@@ -21,4 +21,4 @@ loop-j-preserved g c =
 pub returns : goal.returns
 returns g c =
     let clause = both_over c.args.node.now (slice_index c.args.node.now.left.now.values.items c.args.i) in
-    values_taken clause c.args.node.now.right.now.values.items c.loop-j.j (omega arith) c.loop-j.invariant
+    values_taken {all = row_over c.args.node.now (slice_index c.args.node.now.left.now.values.items c.args.i)} clause c.args.node.now.right.now.values.items c.loop-j.j (omega arith) c.loop-j.invariant

@@ -1,4 +1,4 @@
-use Rattle.std.proofs.Common.{rules, ◌≡◌, ◌<◌, ◌+◌, ◌-◌, ◌^◌, List, length, sym, ap, subst, arith}
+use Rattle.std.proofs.Common.{◌≡◌, ◌<◌, ◌+◌, ◌-◌, ◌^◌, ◌++◌, ◌∙◌, List, length, sym, ap, subst, arith}
 use Rattle.pb_base.specs.declared.literal.Term.{Term}
 use Rattle.pb_norm.specs.BoundedSums.{IsOverDistinct}
 use Rattle.pb_norm.specs.Constraints.{AllPositive, weight, weights}
@@ -27,5 +27,5 @@ overflow_add-result c = omega (arith, (kept (goal.at.overflow_add-result c).Afte
 
 pub invariant_of-result : goal.invariant_of-result
 invariant_of-result c =
-    let same : c.as_slice-given.result.now ≡ c.extend_from_slice.new.self.items = search rules in
+    let same : c.as_slice-given.result.now ≡ c.extend_from_slice.new.self.items = sym (c.in_ok-extend_from_slice.ensures.items ∙ ap (λ (us : List Term). us ++ c.as_slice-given.result.now) c.new-kept.ensures.items) in
     subst (λ (us : List Term). IsKeptTable us c.weight_of-weight.result c.in-Some.part.values.items c.in-Some.part.fresh (c.in-Some.part.clauses + c.saturating_sub-between.result)) same (kept (goal.at.invariant_of-result c).After-saturating_sub-between)
