@@ -14,7 +14,7 @@ use crate::merge::Emitted;
 use crate::tree::emit_nodes;
 use crate::whole::Whole;
 use pb_base::{Failed, Lit, Term};
-use pb_family::{ClauseSink, SinkResult};
+use pb_family::{ClauseSink, SinkResult, sink_result};
 use std::alloc::Global;
 
 /// The literals of the clause that what reaches the value behind a place reaches the one there.
@@ -61,6 +61,5 @@ pub fn emit_table<S: ClauseSink>(
         first,
     };
     let root = emit_nodes(alloc, &whole, sink)?;
-    emit_neighbours(&root, sink)?;
-    Ok(())
+    sink_result(emit_neighbours(&root, sink))
 }

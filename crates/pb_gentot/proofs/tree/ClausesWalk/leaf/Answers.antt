@@ -2,6 +2,7 @@ use Rattle.std.proofs.Common.{[]}
 use Rattle.pb_norm.specs.Constraints.{weights}
 use Rattle.pb_family.proofs.Emission.{emitting_starts}
 use Rattle.pb_family.proofs.Stopping.{stops_between}
+use Rattle.pb_family.proofs.Taking.{takes_nothing}
 use Rattle.pb_tree.specs.Tree.{tree_of}
 use Rattle.pb_tree.proofs.SplitTerms.{leaf_of}
 use Rattle.pb_gentot.proofs.Emitting.{rising_values}
@@ -26,3 +27,6 @@ pub invariant_of-part : goal.invariant_of-part
 invariant_of-part g c =
     let us = c.in_ok-values.values.items in
     record { rising = rising_values c.args.self.now.whole.now.bound (tree_of (weights c.args.terms.now)) us c.in_ok-values.ensures; room = tt }
+
+pub returns-clause-hands : goal.returns-clause-hands
+returns-clause-hands g c sink = takes_nothing (g.S.ClauseSink.state sink)
