@@ -1,16 +1,15 @@
 -- Runs of intervals in order: to which of them a residue belongs, and what they are after an insertion and a division.
-use Rattle.std.proofs.Common.{◌≡◌, ◌<◌, ◌≤◌, ◌+◌, ◌-◌, ◌⊎◌, ◌++◌, ℕ, true, false, leb, List, [], ◌∷◌, length, get_or, set, sym, ap, ◌∙◌, subst, arith, inl, inr, zero, suc, refl, take, drop, Option, None, Some, length-append}
+use Rattle.std.proofs.Common.{◌≡◌, ◌<◌, ◌≤◌, ◌+◌, ◌-◌, ◌⊎◌, ◌++◌, ℕ, true, false, leb, List, [], ◌∷◌, length, get_or, set, sym, ap, ◌∙◌, subst, arith, inl, inr, zero, suc, refl, Option, None, Some, length-append}
 use Rattle.std.specs.Prelude.{All, Contains}
 use Rattle.std.specs.List.{insert}
 use Rattle.std.specs.List.Sorted.{IsPartitionedBy, IsPartitionPoint}
 use Rattle.std.proofs.lemmas.Bool.{cases_lt, le-leb, leb-true, both_ways}
-use Rattle.std.proofs.lemmas.List.{append_assoc, append-nil, get_or_default, length-drop, length-take-le, set-get_or, take-append-drop}
-use Rattle.std.proofs.lemmas.List.Edits.{get_or-insert_above}
+use Rattle.std.proofs.lemmas.List.{append_assoc, append-nil, set-get_or}
 use Rattle.std.proofs.lemmas.List.Elements.{All-cons, All-contains, All-set, Contains-append_left, Contains-append_right, Contains-append_cases, Contains-get_or}
 use Rattle.std.proofs.lemmas.List.Sorted.{All-permutation, IsPermutation-insert}
 use Rattle.pb_base.proofs.Members.{Contains-nil, Contains-here, Contains-there, Contains-cons_cases}
 use Rattle.pb_diagram.specs.declared.interval.Interval.{Interval}
-use Rattle.pb_diagram.specs.inner.Known.{Rise, AreFull, AreRuns, IsRunOf, begins_by, intervals_in}
+use Rattle.pb_diagram.specs.inner.Known.{Rise, AreFull, AreParts, AreRuns, IsRunOf, begins_by, intervals_in}
 use Rattle.pb_diagram.specs.Intervals.{AreApart}
 use Rattle.pb_diagram.specs.laws.Search.{IsFound, IsGrown, IsUnknown}
 use Rattle.pb_diagram.proofs.RunFacts.{apart_append, apart_parts}
@@ -201,56 +200,48 @@ full_set rs place more full some run among = All-contains IsFull (set rs place m
 
 -- ---- two runs of one
 
--- a run's first intervals, and the others
-pub record AreParts (rs : List (List Interval)) (place : ℕ) (lower upper : List Interval) : Type 0 where
-  pub joined : get_or rs place [] ≡ lower ++ upper
-  pub some : 0 < length lower
-  pub others : 0 < length upper
-
--- what stands after a run that was put before it
-pub run_again : (rs now : List (List Interval)) (place : ℕ) (lower s : List Interval) → place < length rs → now ≡ insert rs place lower → s ≡ get_or now (place + 1) s → s ≡ get_or rs place []
-run_again rs now place lower s within now_is s_is =
-    s_is ∙ ap (λ (l : List (List Interval)). get_or l (place + 1) s) now_is ∙ get_or-insert_above rs place lower s place (omega arith) (omega arith) ∙ get_or_default rs place s [] within
-
-pub parts_of : (rs now : List (List Interval)) (place count : ℕ) (r s lower upper : List Interval) → place < length rs → 0 < count → count < length r → r ≡ get_or rs place r → lower ≡ take count r
-    → now ≡ insert rs place lower → s ≡ get_or now (place + 1) s → upper ≡ drop count s → AreParts rs place lower upper
-parts_of rs now place count r s lower upper within some more r_is lower_is now_is s_is upper_is =
-    let run = get_or rs place [] in
-    let is : r ≡ run = r_is ∙ get_or_default rs place r [] within in
-    let long = ap length is in
-    let first : lower ≡ take count run = lower_is ∙ ap (take count) is in
-    let rest : upper ≡ drop count run = upper_is ∙ ap (drop count) (run_again rs now place lower s within now_is s_is) in
-    record {
-      joined = sym (take-append-drop count run) ∙ ap (λ (l : List Interval). l ++ drop count run) (sym first) ∙ ap (λ (l : List Interval). lower ++ l) (sym rest);
-      some = omega (arith, ap length first, length-take-le count run (omega arith));
-      others = omega (arith, ap length rest, length-drop count run);
-    }
-
 module _ (lower upper : List Interval) where
-  halved : (rs : List (List Interval)) (place : ℕ) (d : List Interval) → place < length rs → get_or rs place d ≡ lower ++ upper → intervals_in (set (insert rs place lower) (suc place) upper) ≡ intervals_in rs
+  -- what stays after the lower part went is in order
+  cut_in : (rs : List (List Interval)) (place : ℕ) (d : List Interval) (h : Interval) → get_or rs place d ≡ lower ++ upper → Contains (intervals_in (set rs place upper)) h → Contains (intervals_in rs) h
+  cut_in [] place d h is among = absurd (Contains-nil h among)
+  cut_in (r ∷ rs) zero d h is among =
+      subst (λ (l : List Interval). Contains l h) (sym (append_assoc lower upper (intervals_in rs)) ∙ ap (λ (l : List Interval). l ++ intervals_in rs) (sym is)) (Contains-append_right lower (upper ++ intervals_in rs) h among)
+  cut_in (r ∷ rs) (suc place) d h is among =
+      elim (Contains-append_cases r (intervals_in (set rs place upper)) h among) as (λ _. Contains (r ++ intervals_in rs) h) [
+        | inl mine ↦ Contains-append_left r (intervals_in rs) h mine
+        | inr later ↦ Contains-append_right r (intervals_in rs) h (cut_in rs place d h is later)
+      ]
+
+  cut_apart : (rs : List (List Interval)) (place : ℕ) (d : List Interval) → get_or rs place d ≡ lower ++ upper → AreApart (intervals_in rs) → AreApart (intervals_in (set rs place upper))
+  cut_apart [] place d is apart = tt
+  cut_apart (r ∷ rs) zero d is apart = (apart_parts lower (upper ++ intervals_in rs) (subst AreApart (ap (λ (l : List Interval). l ++ intervals_in rs) is ∙ append_assoc lower upper (intervals_in rs)) apart)).1
+  cut_apart (r ∷ rs) (suc place) d is apart =
+      let parts = apart_parts r (intervals_in rs) apart in
+      apart_append r (intervals_in (set rs place upper)) parts.0 (cut_apart rs place d is parts.1) (λ x y in_x in_y. parts.2 x y in_x (cut_in rs place d y is in_y))
+
+  halved : (rs : List (List Interval)) (place : ℕ) (d : List Interval) → place < length rs → get_or rs place d ≡ lower ++ upper → intervals_in (insert (set rs place upper) place lower) ≡ intervals_in rs
   halved [] place d within is = absurd (omega arith)
   halved (r ∷ rs) zero d within is = sym (append_assoc lower upper (intervals_in rs)) ∙ ap (λ (l : List Interval). l ++ intervals_in rs) (sym is)
   halved (r ∷ rs) (suc place) d within is = ap (λ (l : List Interval). r ++ l) (halved rs place d (omega arith) is)
 
-  full_inserted : (rs : List (List Interval)) (place : ℕ) → AreFull rs → 0 < length lower → AreFull (insert rs place lower)
-  full_inserted rs place full low run among =
-      All-contains IsFull (insert rs place lower) run (All-permutation IsFull (lower ∷ rs) (insert rs place lower) (IsPermutation-insert rs place lower) (All-cons IsFull lower rs low (each_full rs full))) among
+  module _ (rs : List (List Interval)) (place : ℕ) (run : List Interval) (within : place < length rs) (read : run ≡ get_or rs place run) (parts : AreParts run lower upper) where
+    -- what was one run are two
+    pub same_split : intervals_in (insert (set rs place upper) place lower) ≡ intervals_in rs
+    same_split = halved rs place run within (sym read ∙ parts.joined)
 
-  after : (rs now : List (List Interval)) (place : ℕ) → now ≡ insert rs place lower → set now (place + 1) upper ≡ set (insert rs place lower) (suc place) upper
-  after rs now place now_is = let next : place + 1 ≡ suc place = omega arith in ap (λ (n : ℕ). set now n upper) next ∙ ap (λ (l : List (List Interval)). set l (suc place) upper) now_is
+    pub runs_cut : AreRuns rs → AreRuns (set rs place upper)
+    runs_cut runs = record {
+      apart = cut_apart rs place run (sym read ∙ parts.joined) runs.apart;
+      rise = λ h among. runs.rise h (cut_in rs place run h (sym read ∙ parts.joined) among);
+      full = full_set rs place upper runs.full parts.others;
+    }
 
-  -- what was one run are two
-  pub same_split : (rs now : List (List Interval)) (place : ℕ) → place < length rs → AreParts rs place lower upper → now ≡ insert rs place lower → intervals_in (set now (place + 1) upper) ≡ intervals_in rs
-  same_split rs now place within parts now_is = ap intervals_in (after rs now place now_is) ∙ halved rs place [] within parts.joined
-
-  pub runs_split : (rs now : List (List Interval)) (place : ℕ) → place < length rs → AreRuns rs → AreParts rs place lower upper → now ≡ insert rs place lower → AreRuns (set now (place + 1) upper)
-  runs_split rs now place within runs parts now_is =
-      let same = sym (same_split rs now place within parts now_is) in
-      record {
-        apart = subst AreApart same runs.apart;
-        rise = subst Rise same runs.rise;
-        full = subst AreFull (sym (after rs now place now_is)) (full_set (insert rs place lower) (suc place) upper (full_inserted rs place runs.full parts.some) parts.others);
-      }
+    pub runs_split : AreRuns rs → AreRuns (insert (set rs place upper) place lower)
+    runs_split runs = record {
+      apart = subst AreApart (sym same_split) runs.apart;
+      rise = subst Rise (sym same_split) runs.rise;
+      full = λ r among. All-contains IsFull (insert (set rs place upper) place lower) r (All-permutation IsFull (lower ∷ set rs place upper) (insert (set rs place upper) place lower) (IsPermutation-insert (set rs place upper) place lower) (All-cons IsFull lower (set rs place upper) parts.some (each_full (set rs place upper) (full_set rs place upper runs.full parts.others)))) among;
+    }
 
 pub intervals_push : (rs : List (List Interval)) (run : List Interval) → intervals_in (rs ++ run ∷ []) ≡ intervals_in rs ++ run
 intervals_push [] run = append-nil run

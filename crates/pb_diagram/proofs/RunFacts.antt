@@ -4,13 +4,12 @@ use Rattle.std.specs.Prelude.{Contains}
 use Rattle.std.specs.List.{insert}
 use Rattle.std.specs.List.Sorted.{IsPartitionedBy, IsPartitionPoint, IsPermutation}
 use Rattle.std.proofs.lemmas.Bool.{cases_lt, cases_order, lt-ltb, ltb-true, ltb-false}
-use Rattle.std.proofs.lemmas.List.{get_or_default, get_or-reverse, length-drop, length-reverse, reverse-append, take_all, take-append-drop}
-use Rattle.std.proofs.Math.Seq.{drop-append_seam, take-append_seam}
+use Rattle.std.proofs.lemmas.List.{get_or-reverse, length-drop, length-reverse, length-take-le, reverse-append, take-append-drop}
 use Rattle.std.proofs.lemmas.List.Elements.{Contains-append_cases, Contains-append_left, Contains-append_right, Contains-get_or}
 use Rattle.std.proofs.lemmas.List.Sorted.{Contains-permutation, IsPermutation-cons, IsPermutation-insert, IsPermutation-reverse, IsPermutation-sym, IsPermutation-trans, length_permutation}
 use Rattle.pb_base.proofs.Members.{Contains-nil, Contains-here, Contains-there, Contains-cons_cases}
 use Rattle.pb_diagram.specs.declared.interval.Interval.{Interval}
-use Rattle.pb_diagram.specs.inner.Known.{AreKnown, EndsAt, IsPlaceOf, begins_by}
+use Rattle.pb_diagram.specs.inner.Known.{AreKnown, AreParts, IsPlaceOf, begins_by}
 use Rattle.pb_diagram.specs.Intervals.{AreApart}
 use Rattle.pb_diagram.specs.laws.Search.{IsGrown, IsUnknown}
 
@@ -110,30 +109,6 @@ module _ (gs : List Interval) (residue : ℕ) (known : AreKnown gs) where
         ]
       ]
 
-  -- a place between one that begins above the residue and one that does not
-  pub place_kept : (place : ℕ) → (place ≤ length gs) × ((d : Interval) → 0 < place → residue < (get_or gs (place - 1) d).low) → ((d : Interval) → place < length gs → (get_or gs place d).low ≤ residue) → IsPlaceOf gs residue place
-  place_kept place before after = record {
-    bound = before.0;
-    above = λ k d below.
-        let last = before.1 d (omega arith) in
-        elim (cases_lt k (place - 1)) as (λ _. residue < (get_or gs k d).low) [
-          | inl far ↦
-              let order = falling_at gs k (place - 1) d (falling_of gs known.apart) far (omega (arith, before.0)) in
-              let up = known.rise (get_or gs (place - 1) d) (Contains-get_or gs (place - 1) d (omega (arith, before.0))) in
-              omega arith
-          | inr near ↦ let same : place - 1 ≡ k = omega arith in subst (λ (n : ℕ). residue < (get_or gs n d).low) same last
-        ];
-    others = λ k d from within.
-        let first = after d (omega arith) in
-        elim (cases_lt place k) as (λ _. (get_or gs k d).low ≤ residue) [
-          | inl far ↦
-              let order = falling_at gs place k d (falling_of gs known.apart) far within in
-              let up = known.rise (get_or gs k d) (Contains-get_or gs k d within) in
-              omega arith
-          | inr near ↦ let same : place ≡ k = omega arith in subst (λ (n : ℕ). (get_or gs n d).low ≤ residue) same first
-        ];
-  }
-
 pub place_found : (gs : List Interval) (residue place : ℕ) → place ≤ length gs → IsPartitionPoint (λ g. ltb residue g.low ≡ true) (λ g. ltb residue g.low ≡ false) gs place → IsPlaceOf gs residue place
 place_found gs residue place bound point = record {
   bound = bound;
@@ -222,37 +197,27 @@ module _ (gs : List Interval) (n : ℕ) (known : AreKnown gs) where
   pub known_dropped : AreKnown (drop n gs)
   known_dropped = record { apart = apart.0; rise = λ g among. known.rise g (subst (λ (l : List Interval). Contains l g) (take-append-drop n gs) (Contains-append_right (take n gs) (drop n gs) g among)) }
 
-pub parted : (gs : List Interval) (n count : ℕ) → n + count ≡ length gs → (reverse (take n gs) ≡ drop count (reverse gs)) × (reverse (drop n gs) ≡ take count (reverse gs))
-parted gs n count whole =
-    let first = reverse (drop n gs) in
-    let rest = reverse (take n gs) in
-    let both = turned_parts gs n in
-    let long : length first ≡ count = omega (arith, length-reverse (drop n gs), length-drop n gs) in (
-      sym (drop-append_seam first rest) ∙ ap (λ (k : ℕ). drop k (first ++ rest)) long ∙ ap (drop count) both,
-      sym (take-append_seam first rest) ∙ ap (λ (k : ℕ). take k (first ++ rest)) long ∙ ap (take count) both,
-    )
-
--- what a copy from a place on has
-pub copied : (now old seen gs : List Interval) (n : ℕ) → now ≡ old ++ take (length seen - n) (drop n seen) → old ≡ [] → seen ≡ gs → now ≡ drop n gs
-copied now old seen gs n now_is none same =
-    now_is ∙ ap (λ (l : List Interval). l ++ take (length seen - n) (drop n seen)) none ∙ take_all (length seen - n) (drop n seen) (omega (arith, length-drop n seen)) ∙ ap (drop n) same
+pub parts_of : (gs rest front whole : List Interval) (n : ℕ) → 0 < n → n < length whole → rest ≡ drop n gs → front ≡ take n gs → reverse gs ≡ whole → AreParts whole (reverse rest) (reverse front)
+parts_of gs rest front whole n some more rest_is front_is view =
+    let long : n < length gs = omega (arith, ap length view, length-reverse gs) in
+    record {
+      joined = sym view ∙ sym (turned_parts gs n) ∙ sym (λ x. reverse (rest_is x) ++ reverse (front_is x));
+      some = omega (arith, length-reverse rest, ap length rest_is, length-drop n gs);
+      others = omega (arith, length-reverse front, ap length front_is, length-take-le n gs (omega arith));
+    }
 
 -- ---- where the first begins
-
-pub ends_at : (gs : List Interval) (g : Interval) → 0 < length gs → EndsAt gs (get_or gs (length gs - 1) g).low
-ends_at gs g some = record {
-  some = some;
-  is = λ d. ap (λ (j : Interval). j.low) (get_or_default gs (length gs - 1) g d (omega arith));
-}
 
 by_first : (l : List Interval) (residue : ℕ) (d : Interval) → 0 < length l → leb (get_or l 0 d).low residue ≡ begins_by l residue
 by_first [] residue d some = absurd (omega arith)
 by_first (g ∷ gs) residue d some = refl
 
-pub begins_low : (gs : List Interval) (low residue : ℕ) → EndsAt gs low → leb low residue ≡ begins_by (reverse gs) residue
-begins_low gs low residue ends =
-    let none : Interval = record { low = 0; top = 0 } in
-    let some : 0 < length (reverse gs) = omega (arith, ends.some, length-reverse gs) in
-    let place : length gs - 1 - 0 ≡ length gs - 1 = omega arith in
-    let first : get_or (reverse gs) 0 none ≡ get_or gs (length gs - 1) none = get_or-reverse gs 0 none ends.some ∙ ap (λ (k : ℕ). get_or gs k none) place in
-    ap (λ (k : ℕ). leb k residue) (ends.is none ∙ ap (λ (j : Interval). j.low) (sym first)) ∙ by_first (reverse gs) residue none some
+pub begins_last : (gs whole : List Interval) (count residue : ℕ) (d : Interval) → reverse gs ≡ whole → count ≡ length gs → 0 < count → leb (get_or gs (count - 1) d).low residue ≡ begins_by whole residue
+begins_last gs whole count residue d view is some =
+    let place : length gs - 1 - 0 ≡ count - 1 = omega arith in
+    let first : get_or (reverse gs) 0 d ≡ get_or gs (count - 1) d = get_or-reverse gs 0 d (omega arith) ∙ ap (λ (k : ℕ). get_or gs k d) place in
+    ap (λ (g : Interval). leb g.low residue) (sym first) ∙ by_first (reverse gs) residue d (omega (arith, length-reverse gs)) ∙ ap (λ (l : List Interval). begins_by l residue) view
+
+pub begins_none : (gs whole : List Interval) (count residue : ℕ) → reverse gs ≡ whole → count ≡ length gs → count ≤ 0 → ltb 0 count ≡ begins_by whole residue
+begins_none [] whole count residue view is none = ap (λ (n : ℕ). ltb 0 n) is ∙ ap (λ (l : List Interval). begins_by l residue) view
+begins_none (g ∷ gs) whole count residue view is none = absurd (omega arith)

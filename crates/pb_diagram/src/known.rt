@@ -1,7 +1,7 @@
 //! The nodes of a level that are known.
-ghost use Rattle.std.specs.Prelude.{◌≡◌, ◌≤◌, ◌<◌, ◌+◌, ◌⊎◌, [], true, false, List, length, slice_index_or, Contains, IfOk, OnOk};
+ghost use Rattle.std.specs.Prelude.{◌≡◌, ◌≤◌, ◌<◌, ◌⊎◌, [], length, Contains, IfOk, OnOk};
 ghost use Rattle.pb_diagram.specs.declared.interval.Interval.{Interval};
-ghost use Rattle.pb_diagram.specs.inner.Known.{AreRuns, IsRunOf, begins_by, intervals_in};
+ghost use Rattle.pb_diagram.specs.inner.Known.{AreRuns, IsRunOf, intervals_in};
 ghost use Rattle.pb_diagram.specs.laws.Search.{IsFound, IsGrown};
 
 use crate::interval::Interval;
@@ -9,21 +9,11 @@ use crate::run::Run;
 use std::alloc::{AllocError, Global};
 use std::marker::Model;
 
-/// How many intervals a run has at most, so that with one more its memory is full and need not grow, and how many of the first
-/// become a run of their own then.
+/// How many intervals a run has at most, so that with one more its memory is full and need not grow, and how many of the last
+/// stay in it then.
 const MOST: usize = 63;
 
 const HALF: usize = 32;
-
-/// About where an interval stands: its run's place among the runs, and its own from the run's end.
-#[derive(Clone, Copy)]
-pub struct Spot {
-    run: usize,
-    place: usize,
-}
-
-/// Where a search begins.
-pub const START: Spot = Spot { run: 0, place: 0 };
 
 /// Intervals none of which begins within another. They stand in short runs, so that a new one moves few, however many there are: a
 /// list of all moves some hundreds where a level has thousands, and a map costs more where it has few.
@@ -53,33 +43,6 @@ fn run_of(runs: &[Run], residue: u128) -> usize
         .saturating_sub(1)
 }
 
-/// The same, looked for at a place first.
-fn run_near(runs: &[Run], residue: u128, near: usize) -> usize
-    requires { AreRuns runs.now }
-    ensures { IsRunOf runs.now residue result }
-{
-    if begins_at(runs, residue, near) && ends_at(runs, residue, near) {
-        near
-    } else {
-        run_of(runs, residue)
-    }
-}
-
-/// Whether there is a run at a place that does not begin above a residue, or is the first.
-fn begins_at(runs: &[Run], residue: u128, place: usize) -> bool
-    ensures { result ≡ true → (place < length runs.now) × ((d : List Interval) → 0 < place → begins_by (slice_index_or runs.now place d) residue ≡ true) }
-{
-    place < runs.len() && (place == 0 || runs[place].begins_by(residue))
-}
-
-/// Whether the run after a place, if there is one, begins above a residue.
-fn ends_at(runs: &[Run], residue: u128, place: usize) -> bool
-    requires { place < length runs.now }
-    ensures { result ≡ true → (d : List Interval) → place + 1 < length runs.now → begins_by (slice_index_or runs.now (place + 1) d) residue ≡ false }
-{
-    runs.len() <= place + 1 || !runs[place + 1].begins_by(residue)
-}
-
 /// The first run of all, of one interval.
 fn begin(alloc: Global, runs: &mut Vec<Run>, interval: Interval) -> Result<(), AllocError>
     requires none { runs.old.items ≡ [] }
@@ -93,20 +56,18 @@ fn begin(alloc: Global, runs: &mut Vec<Run>, interval: Interval) -> Result<(), A
 }
 
 /// Makes two runs of one that has too many intervals.
-fn split(alloc: Global, runs: &mut Vec<Run>, place: usize) -> Result<(), AllocError>
+fn split(runs: &mut Vec<Run>, place: usize) -> Result<(), AllocError>
     requires within { place < length runs.old.items }
     requires runs { AreRuns runs.old.items }
-    ensures same { intervals_in runs.new.items ≡ intervals_in runs.old.items }
+    ensures same { OnOk result (intervals_in runs.new.items ≡ intervals_in runs.old.items) }
     ensures runs { AreRuns runs.new.items }
 {
-    let run = &runs[place];
+    let run = &mut runs[place];
     if run.len() <= MOST {
         return Ok(());
     }
-    let count = HALF;
-    let lower = run.lowest(alloc, count)?;
+    let lower = run.split_off(HALF)?;
     runs.insert(place, lower)?;
-    runs[place + 1].drop_lowest(count);
     Ok(())
 }
 
@@ -120,33 +81,32 @@ impl Known {
         }
     }
 
-    /// The interval in which a residue lies. `near` becomes where it stands, or where one goes that the residue lies in.
-    pub fn find(&self, residue: u128, near: &mut Spot) -> Option<Interval>
+    /// The interval in which a residue lies.
+    pub fn find(&self, residue: u128) -> Option<Interval>
         ensures { IsFound self.now residue result }
     {
         let runs = self.runs.as_slice();
         let place = run_of(runs, residue);
-        near.run = place;
         if place < runs.len() {
-            runs[place].find(residue, &mut near.place)
+            runs[place].find(residue)
         } else {
             None
         }
     }
 
-    /// Joins an interval to the others. Its place is looked for at `near` first.
-    pub fn insert(&mut self, interval: Interval, near: Spot) -> Result<(), AllocError>
+    /// Joins an interval to the others.
+    pub fn insert(&mut self, interval: Interval) -> Result<(), AllocError>
         requires rises { interval.low < interval.top }
         requires elsewhere { (h : Interval) → Contains self.old h → (h.top ≤ interval.low) ⊎ (interval.top ≤ h.low) }
         ensures { OnOk result (IsGrown self.old interval self.new) }
     {
-        let alloc = *self.runs.allocator();
         if self.runs.is_empty() {
+            let alloc = *self.runs.allocator();
             return begin(alloc, &mut self.runs, interval);
         }
-        let place = run_near(self.runs.as_slice(), interval.low, near.run);
-        self.runs[place].insert(interval, near.place)?;
-        split(alloc, &mut self.runs, place)
+        let place = run_of(self.runs.as_slice(), interval.low);
+        self.runs[place].insert(interval)?;
+        split(&mut self.runs, place)
     }
 
     /// All of them, in order.

@@ -9,7 +9,7 @@ ghost use Rattle.pb_diagram.specs.laws.Search.{nodes_at, AreAllNodes, IsFound, I
 ghost use Rattle.pb_diagram.specs.inner.Wants.{IsMoved, IsUnderWay, residues};
 
 use crate::interval::Interval;
-use crate::known::{Known, START, Spot};
+use crate::known::Known;
 use pb_norm::{AtMost, weight_of};
 use std::alloc::{AllocError, Global};
 
@@ -20,9 +20,6 @@ struct Top {
     coef: u128,
     residue: u128,
 
-    /// About where its node goes in its level.
-    near: Spot,
-
     /// What the false child says, if it was found before.
     off: Option<Interval>,
 
@@ -31,44 +28,39 @@ struct Top {
 }
 
 /// What a look at a residue gives: its node, or a child's residue whose node is not known, with what the false child says where
-/// the true one is missing, and about where the child's node goes in its level.
+/// the true one is missing.
 #[derive(Clone, Copy)]
 enum Look {
-    Missing {
-        child: u128,
-        off: Option<Interval>,
-        near: Spot,
-    },
+    Missing { child: u128, off: Option<Interval> },
     Found(Interval),
 }
 
-/// The node of a level in which a residue lies, if it is known; else `near` becomes its place. The last that became known is the
-/// one, where a child was wanted. Most looks are short, and a call with its result in memory costs as much as they do.
+/// The node of a level in which a residue lies, if it is known. The last that became known is the one, where a child was wanted.
+/// Most looks are short, and a call with its result in memory costs as much as they do.
 #[inline(always)]
 fn find_at(
     levels: &[Known],
     place: usize,
     residue: u128,
     last: Option<Interval>,
-    near: &mut Spot,
 ) -> Option<Interval>
     requires { IfSome last (Contains (nodes_at levels.now place)) }
     ensures { IsFound (nodes_at levels.now place) residue result }
 {
-    if let Some(near) = last {
-        if near.low <= residue && residue < near.top {
-            return Some(near);
+    if let Some(node) = last {
+        if node.low <= residue && residue < node.top {
+            return Some(node);
         }
     }
     if place < levels.len() {
-        levels[place].find(residue, near)
+        levels[place].find(residue)
     } else {
         None
     }
 }
 
 /// What the false child says of the node in which a residue lies.
-fn off_side(levels: &[Known], whole: u128, top: Top, near: &mut Spot) -> Option<Interval>
+fn off_side(levels: &[Known], whole: u128, top: Top) -> Option<Interval>
     requires { IsSeen levels.now whole top }
     ensures { MatchOption result (LacksFalseChild whole (nodes_at levels.now (top.place + 1)) top.residue) (IsOff top.coef whole (nodes_at levels.now (top.place + 1)) top.residue) }
 {
@@ -76,7 +68,7 @@ fn off_side(levels: &[Known], whole: u128, top: Top, near: &mut Spot) -> Option<
         return top.off;
     }
     if top.residue < whole {
-        find_at(levels, top.place + 1, top.residue, top.last, near)
+        find_at(levels, top.place + 1, top.residue, top.last)
     } else {
         Some(Interval {
             low: whole,
@@ -86,7 +78,7 @@ fn off_side(levels: &[Known], whole: u128, top: Top, near: &mut Spot) -> Option<
 }
 
 /// What the true child says of the node in which a residue lies, with the coefficient added.
-fn on_side(levels: &[Known], whole: u128, top: Top, near: &mut Spot) -> Option<Interval>
+fn on_side(levels: &[Known], whole: u128, top: Top) -> Option<Interval>
     requires { IsSeen levels.now whole top }
     ensures { MatchOption result (LacksTrueChild top.coef (nodes_at levels.now (top.place + 1)) top.residue) (IsOn top.coef (nodes_at levels.now (top.place + 1)) top.residue) }
 {
@@ -94,7 +86,7 @@ fn on_side(levels: &[Known], whole: u128, top: Top, near: &mut Spot) -> Option<I
     if top.residue < coef {
         return Some(Interval { low: 0, top: coef });
     }
-    match find_at(levels, top.place + 1, top.residue - coef, top.last, near) {
+    match find_at(levels, top.place + 1, top.residue - coef, top.last) {
         Some(interval) => Some(Interval {
             low: coef + interval.low,
             top: coef + interval.top,
@@ -108,18 +100,15 @@ fn look_for(levels: &[Known], whole: u128, top: Top) -> Look
     requires { IsSeen levels.now whole top }
     ensures { Looked top.coef whole (nodes_at levels.now (top.place + 1)) top.residue result }
 {
-    let mut near = START;
-    match off_side(levels, whole, top, &mut near) {
+    match off_side(levels, whole, top) {
         None => Look::Missing {
             child: top.residue,
             off: None,
-            near,
         },
-        Some(off) => match on_side(levels, whole, top, &mut near) {
+        Some(off) => match on_side(levels, whole, top) {
             None => Look::Missing {
                 child: top.residue - top.coef,
                 off: Some(off),
-                near,
             },
             Some(on) => Look::Found(Interval {
                 low: off.low.max(on.low),
@@ -133,9 +122,6 @@ fn look_for(levels: &[Known], whole: u128, top: Top) -> Look
 #[derive(Clone, Copy)]
 struct Want {
     residue: u128,
-
-    /// About where its node goes in its level.
-    near: Spot,
 
     /// What the false child of its node says, once the true one is wanted beside it.
     off: Option<Interval>,
@@ -176,7 +162,6 @@ impl Search {
         let levels = empty_levels(alloc, terms.len())?;
         let root = Want {
             residue: of.bound(),
-            near: START,
             off: None,
         };
         let wanted = Vec::from_array(alloc, [root])?;
@@ -203,7 +188,6 @@ impl Search {
             place,
             coef: of.terms()[place].weight(),
             residue: want.residue,
-            near: want.near,
             off: want.off,
             last: self.last,
         }
@@ -216,7 +200,6 @@ impl Search {
         top: Top,
         child: u128,
         off: Option<Interval>,
-        near: Spot,
     ) -> Result<(), AllocError>
         requires going { IsUnderWay of.now self.old }
         requires top { IsTop of.now self.old.levels.items (residues self.old.wanted.items) self.old.left top }
@@ -228,7 +211,6 @@ impl Search {
         self.wanted[top.place].off = off;
         self.wanted.push(Want {
             residue: child,
-            near,
             off: None,
         })?;
         self.last = None;
@@ -242,7 +224,7 @@ impl Search {
         requires joined { IsJoined top.coef self.old.left (nodes_at self.old.levels.items (top.place + 1)) top.residue interval }
         ensures { OnOk result (IsMoved of.now true self.old self.new) }
     {
-        self.levels[top.place].insert(interval, top.near)?;
+        self.levels[top.place].insert(interval)?;
         self.wanted.pop();
         self.last = Some(interval);
         self.left += top.coef;
@@ -258,8 +240,8 @@ impl Search {
     {
         let top = self.top(of);
         match look_for(&self.levels, self.left, top) {
-            Look::Missing { child, off, near } => {
-                self.want(of, top, child, off, near)?;
+            Look::Missing { child, off } => {
+                self.want(of, top, child, off)?;
                 Ok(false)
             }
             Look::Found(interval) => {

@@ -1,5 +1,5 @@
 -- Intervals from the last to the first, and runs of intervals in order. It serves proofs alone.
-use Rattle.std.specs.Prelude.{◌≡◌, ◌<◌, ◌≤◌, ◌+◌, ◌-◌, ◌++◌, ℕ, Bool, true, false, leb, List, [], ◌∷◌, Contains, length, reverse, slice_index_or}
+use Rattle.std.specs.Prelude.{◌≡◌, ◌<◌, ◌≤◌, ◌+◌, ◌++◌, ℕ, Bool, true, false, leb, List, [], ◌∷◌, Contains, length, reverse, slice_index_or}
 use Rattle.pb_diagram.specs.declared.interval.Interval.{Interval}
 use Rattle.pb_diagram.specs.Intervals.{AreApart}
 
@@ -18,10 +18,11 @@ pub record AreKnown (falling : List Interval) : Type 0 where
   pub apart : AreApart (reverse falling)
   pub rise : Rise falling
 
--- there is a last one, which begins there
-pub record EndsAt (falling : List Interval) (low : ℕ) : Type 0 where
-  pub some : 0 < length falling
-  pub is : (d : Interval) → low ≡ (slice_index_or falling (length falling - 1) d).low
+-- the first intervals of a run, and the others
+pub record AreParts (run lower upper : List Interval) : Type 0 where
+  pub joined : run ≡ lower ++ upper
+  pub some : 0 < length lower
+  pub others : 0 < length upper
 
 -- ---- runs of intervals in order
 

@@ -97,7 +97,7 @@ pub record IsGrown (nodes : List Interval) (g : Interval) (more : List Interval)
 
 -- a look at a residue found its node, or misses a child
 abbrev pub Looked : ℕ → ℕ → List Interval → ℕ → Look → Type 0
-Looked a whole next residue (Missing child off near) = IsMissing a whole next residue child × IfSome off (IsOff a whole next residue)
+Looked a whole next residue (Missing child off) = IsMissing a whole next residue child × IfSome off (IsOff a whole next residue)
 Looked a whole next residue (Found g) = IsJoined a whole next residue g
 
 -- a search, with the sum of the coefficients after the levels at which residues are wanted

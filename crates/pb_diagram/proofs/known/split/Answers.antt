@@ -1,20 +1,13 @@
-use Rattle.std.proofs.Common.{[], length, ap, arith}
-use Rattle.std.proofs.lemmas.List.{get_or_default}
-use Rattle.pb_diagram.proofs.KnownFacts.{parts_of, run_again, runs_split, same_split}
+use Rattle.std.proofs.Common.{subst, sym, ap, ◌∙◌}
+use Rattle.pb_diagram.specs.inner.Known.{AreRuns, intervals_in}
+use Rattle.pb_diagram.proofs.KnownFacts.{runs_cut, runs_split, same_split}
 use Rattle.pb_diagram.proofs.known.split.Goals as goal
 
-pub drop_lowest-requires : goal.drop_lowest-requires
-drop_lowest-requires c =
-    let rs = c.args.runs.now.items in
-    let again = run_again rs c.insert.new.self.items c.args.place c.in_ok-lower.lower c.index_mut.result.now c.requires.within c.in_ok-insert.ensures.items c.index_mut.ensures.value in
-    let is = get_or_default rs c.args.place c.index-run.result.now [] c.requires.within in
-    omega (arith, ap length again, ap length c.index-run.ensures, ap length is, c.len.ensures, c.if-len-le-MOST.false)
+pub returns-in_err-insert-clause-runs : goal.returns-in_err-insert-clause-runs
+returns-in_err-insert-clause-runs c = subst AreRuns (sym c.in_err-insert.ensures.items) (runs_cut _ _ _ _ _ c.requires.within c.index_mut-run.ensures.value c.in_ok-lower.ensures.parts c.requires.runs)
 
-pub returns : goal.returns
-returns c =
-    let rs = c.args.runs.now.items in
-    let parts = parts_of rs c.insert.new.self.items c.args.place 32 c.index-run.result.now c.index_mut.result.now c.in_ok-lower.lower c.drop_lowest.new.self c.requires.within (omega arith) (omega (arith, c.len.ensures, c.if-len-le-MOST.false)) c.index-run.ensures c.in_ok-lower.ensures c.in_ok-insert.ensures.items c.index_mut.ensures.value c.drop_lowest.ensures in
-    record {
-      same = same_split c.in_ok-lower.lower c.drop_lowest.new.self rs c.insert.new.self.items c.args.place c.requires.within parts c.in_ok-insert.ensures.items;
-      runs = runs_split c.in_ok-lower.lower c.drop_lowest.new.self rs c.insert.new.self.items c.args.place c.requires.within c.requires.runs parts c.in_ok-insert.ensures.items;
-    }
+pub returns-clause-same : goal.returns-clause-same
+returns-clause-same c = ap intervals_in c.in_ok-insert.ensures.items ∙ same_split _ _ _ _ _ c.requires.within c.index_mut-run.ensures.value c.in_ok-lower.ensures.parts
+
+pub returns-clause-runs : goal.returns-clause-runs
+returns-clause-runs c = subst AreRuns (sym c.in_ok-insert.ensures.items) (runs_split _ _ _ _ _ c.requires.within c.index_mut-run.ensures.value c.in_ok-lower.ensures.parts c.requires.runs)

@@ -13,7 +13,7 @@ abbrev none : Interval
 none = record { low = 0; top = 0 }
 
 pub place_of-place-requires : goal.place_of-place-requires
-place_of-place-requires c = subst AreKnown (sym c.as_slice-falling.ensures.value) c.self.invariant.0
+place_of-place-requires c = subst AreKnown (sym c.as_slice-falling.ensures.value) c.self.invariant
 
 pub returns-then-residue-interval : goal.returns-then-residue-interval
 returns-then-residue-interval c =
@@ -30,7 +30,7 @@ unknown : (c : After-place_of-place) → (let gs = c.as_slice-falling.result.now
 unknown c ends =
     let gs = c.as_slice-falling.result.now in
     subst (λ (l : List Interval). IsUnknown l c.args.residue) (ap reverse c.as_slice-falling.ensures.value ∙ c.self.view_is)
-    (not_found gs c.args.residue (subst AreKnown (sym c.as_slice-falling.ensures.value) c.self.invariant.0) c.place_of-place.result c.place_of-place.ensures ends)
+    (not_found gs c.args.residue (subst AreKnown (sym c.as_slice-falling.ensures.value) c.self.invariant) c.place_of-place.result c.place_of-place.ensures ends)
 
 pub returns-else-residue-interval : goal.returns-else-residue-interval
 returns-else-residue-interval c =

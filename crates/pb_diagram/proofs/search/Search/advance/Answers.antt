@@ -17,7 +17,7 @@ returns-in_err-join-in-Found c = IfOk-from_err _ _ c.from_residual-in_err-join-i
 pub want-requires : goal.want-requires
 want-requires c =
     let top = c.top-top.result in
-    let seen = subst (λ (l : List (List Interval)). Looked top.coef c.args.self.now.left (nodes_at l (top.place + 1)) top.residue (Missing c.in-Missing.child c.in-Missing.off c.in-Missing.near)) c.deref.ensures.value c.in-Missing.ensures in
+    let seen = subst (λ (l : List (List Interval)). Looked top.coef c.args.self.now.left (nodes_at l (top.place + 1)) top.residue (Missing c.in-Missing.child c.in-Missing.off)) c.deref.ensures.value c.in-Missing.ensures in
     record { going = c.requires.going; top = c.top-top.ensures; missing = seen.0; off = seen.1 }
 
 pub join-requires : goal.join-requires
