@@ -26,7 +26,13 @@ pub fn count_nodes(levels: &[Level]) -> u64
 fn count_below(nodes: &[Interval], whole: u128) -> u64
     ensures { result ≡ count_by (λ g. nat_lt g.low whole) nodes.now }
 {
-    nodes.iter().filter(|interval| interval.low < whole).count() as u64
+    let mut count = 0;
+    for node in nodes {
+        if node.low < whole {
+            count += 1;
+        }
+    }
+    count
 }
 
 /// How many clauses there are.
