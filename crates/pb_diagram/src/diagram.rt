@@ -76,8 +76,7 @@ impl Diagram {
         ensures { IfOk result (λ t. sum_within t.terms.items t.bound ≡ of.now) }
     {
         let levels = list_levels(alloc, known)?;
-        let mut terms = Vec::new(alloc);
-        terms.extend_from_slice(of.terms())?;
+        let terms = Vec::from_slice(alloc, of.terms())?;
         let bound = of.bound();
         let fresh = count_nodes(levels.as_slice());
         let clauses = count_clauses(Shape {

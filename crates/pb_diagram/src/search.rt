@@ -264,7 +264,7 @@ pub fn known_levels(
 {
     let mut search = Search::start(alloc, of)?;
     let mut count = 0;
-    while !search.wanted.as_slice().is_empty() {
+    while !search.wanted.is_empty() {
         if search.advance(of)? {
             count += 1;
             if count > budget {

@@ -29,7 +29,7 @@ returns-then-count-budget c =
 pub returns : goal.returns
 returns c =
     let now = c.loop-search.search in
-    let none : length (residues now.wanted.items) ≡ 0 = length-map now.wanted.items (λ w. w.residue) ∙ ap length (sym c.as_slice.ensures.value) ∙ eqb-true (length c.as_slice.result.now) 0 (sym c.loop-search-test.ensures) in
+    let none : length (residues now.wanted.items) ≡ 0 = length-map now.wanted.items (λ w. w.residue) ∙ sym now.wanted.ok.0 ∙ eqb-true now.wanted.len 0 (sym c.loop-search-test.ensures) in
     let same = ended c.args.of.now now.levels.items (residues now.wanted.items) now.left c.loop-search.invariant.going.searching none in
     let count = ap node_count same in
     (same, omega (arith, count, c.loop-search.invariant.counted, c.loop-search.invariant.within))
@@ -73,5 +73,5 @@ pub advance-requires : goal.advance-requires
 advance-requires c =
     let of = c.args.of.now in
     let whole : sum (coefs_of of.terms) ≡ weight of.terms = sum-map (λ (t : Weighted). t.coef) of.terms in
-    let some = false-eqb (length c.as_slice.result.now) 0 c.loop-search-test.ensures in
-    record { going = c.loop-search.invariant.going; some = omega (arith, some, ap length c.as_slice.ensures.value); fits = omega (arith, whole, c.requires.fits) }
+    let some = false-eqb c.loop-search.search.wanted.len 0 c.loop-search-test.ensures in
+    record { going = c.loop-search.invariant.going; some = omega (arith, some, c.loop-search.search.wanted.ok.0); fits = omega (arith, whole, c.requires.fits) }

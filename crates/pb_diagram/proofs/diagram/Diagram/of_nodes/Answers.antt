@@ -1,4 +1,4 @@
-use Rattle.std.proofs.Common.{◌≡◌, ◌++◌, ◌∙◌, ◌<◌, ◌^◌, ℕ, List, [], ap, subst, sym}
+use Rattle.std.proofs.Common.{◌≡◌, ◌∙◌, ◌<◌, ◌^◌, ℕ, List, ap, subst, sym}
 use Rattle.pb_base.specs.declared.literal.Term.{Term}
 use Rattle.pb_norm.specs.Constraints.{weight, weights}
 use Rattle.pb_norm.specs.BoundedSums.{BoundedSum, IsProper, sum_within}
@@ -7,17 +7,15 @@ use Rattle.pb_diagram.specs.Levels.{levels_of}
 use Rattle.pb_diagram.proofs.diagram.Diagram.of_nodes.Goals as goal
 
 -- a sum of terms that were copied
-copied : (of : BoundedSum) (items terms first : List Term) (bound : ℕ) → items ≡ first ++ terms → first ≡ [] → weights terms ≡ of.terms → bound ≡ of.bound → sum_within items bound ≡ of
-copied of items terms first bound all none same value =
-    let whole = ap weights (all ∙ ap (λ (l : List Term). l ++ terms) none) ∙ same in
-    λ i. record { terms = whole i; bound = value i }
+copied : (of : BoundedSum) (items terms : List Term) (bound : ℕ) → items ≡ terms → weights terms ≡ of.terms → bound ≡ of.bound → sum_within items bound ≡ of
+copied of items terms bound all same value = let whole = ap weights all ∙ same in λ i. record { terms = whole i; bound = value i }
 
 pub returns : goal.returns
-returns c = copied c.args.of.now _ _ _ _ c.in_ok-extend_from_slice.ensures.items c.new-terms.ensures.items c.terms.ensures.weights c.bound-bound.ensures.value
+returns c = copied c.args.of.now _ _ _ c.in_ok-terms.ensures.items c.terms.ensures.weights c.bound-bound.ensures.value
 
 pub invariant_of-result : goal.invariant_of-result
 invariant_of-result c =
-    let same = copied c.args.of.now _ _ _ _ c.in_ok-extend_from_slice.ensures.items c.new-terms.ensures.items c.terms.ensures.weights c.bound-bound.ensures.value in
+    let same = copied c.args.of.now _ _ _ c.in_ok-terms.ensures.items c.terms.ensures.weights c.bound-bound.ensures.value in
     let nodes = c.in_ok-levels.ensures ∙ c.requires.all ∙ ap levels_of (sym same) in
     record {
       proper = subst IsProper (sym same) c.terms.ensures.proper;
