@@ -85,8 +85,9 @@ impl Claims<'_> {
     {
         let nodes = self.layer.nodes;
         for place in 0..nodes.len() {
-            self.derive_false(alloc, place, nodes[place], sink)?;
-            self.derive_true(alloc, place, nodes[place], sink)?;
+            let node = nodes[place];
+            self.derive_false(alloc, place, node, sink)?;
+            self.derive_true(alloc, place, node, sink)?;
         }
         Ok(())
     }

@@ -93,8 +93,9 @@ impl Numbered<'_> {
         let mut off = 0;
         let mut on = 0;
         for place in 0..nodes.len() {
-            self.emit_false(place, nodes[place], &mut off, sink)?;
-            self.emit_true(place, nodes[place], &mut on, sink)?;
+            let node = nodes[place];
+            self.emit_false(place, node, &mut off, sink)?;
+            self.emit_true(place, node, &mut on, sink)?;
         }
         Ok(())
     }
