@@ -1,6 +1,6 @@
 //! The search for the nodes of a diagram: from the bound down to the children that are not known yet, and up again with the
 //! intervals that they give.
-ghost use Rattle.std.specs.Prelude.{[], replicate, ◌≡◌, ◌<◌, ◌+◌, ◌-◌, ◌^◌, Contains, MatchOption, IfSome, IfOk, OnOk, true, false, length, sum};
+ghost use Rattle.std.specs.Prelude.{[], replicate, ◌≡◌, ◌<◌, ◌+◌, ◌-◌, ◌^◌, Contains, MatchOption, IfSome, IfOk, length, sum};
 ghost use Rattle.pb_norm.specs.Constraints.{weight};
 ghost use Rattle.pb_diagram.specs.declared.interval.Interval.{Interval};
 ghost use Rattle.pb_diagram.specs.Clauses.{node_count};
@@ -193,19 +193,19 @@ impl Search {
         }
     }
 
-    /// A child's residue is wanted too.
+    /// A child's residue is wanted too, and no node became known.
     fn want(
         &mut self,
         of: &AtMost,
         top: Top,
         child: u128,
         off: Option<Interval>,
-    ) -> Result<(), AllocError>
+    ) -> Result<bool, AllocError>
         requires going { IsUnderWay of.now self.old }
         requires top { IsTop of.now self.old.levels.items (residues self.old.wanted.items) self.old.left top }
         requires missing { IsMissing top.coef self.old.left (nodes_at self.old.levels.items (top.place + 1)) top.residue child }
         requires off { IfSome off (IsOff top.coef self.old.left (nodes_at self.old.levels.items (top.place + 1)) top.residue) }
-        ensures { OnOk result (IsMoved of.now false self.old self.new) }
+        ensures { IfOk result (λ joined. IsMoved of.now joined self.old self.new) }
     {
         self.left -= of.terms()[top.place + 1].weight();
         self.wanted[top.place].off = off;
@@ -214,21 +214,21 @@ impl Search {
             off: None,
         })?;
         self.last = None;
-        Ok(())
+        Ok(false)
     }
 
-    /// The node of the last residue becomes known.
-    fn join(&mut self, of: &AtMost, top: Top, interval: Interval) -> Result<(), AllocError>
+    /// The node of the last residue becomes known, which it tells.
+    fn join(&mut self, of: &AtMost, top: Top, interval: Interval) -> Result<bool, AllocError>
         requires going { IsUnderWay of.now self.old }
         requires top { IsTop of.now self.old.levels.items (residues self.old.wanted.items) self.old.left top }
         requires joined { IsJoined top.coef self.old.left (nodes_at self.old.levels.items (top.place + 1)) top.residue interval }
-        ensures { OnOk result (IsMoved of.now true self.old self.new) }
+        ensures { IfOk result (λ joined. IsMoved of.now joined self.old self.new) }
     {
         self.levels[top.place].insert(interval)?;
         self.wanted.pop();
         self.last = Some(interval);
         self.left += top.coef;
-        Ok(())
+        Ok(true)
     }
 
     /// Looks at the last residue. Its node becomes known, or a child's residue is wanted too. Tells whether a node became known.
@@ -240,14 +240,8 @@ impl Search {
     {
         let top = self.top(of);
         match look_for(&self.levels, self.left, top) {
-            Look::Missing { child, off } => {
-                self.want(of, top, child, off)?;
-                Ok(false)
-            }
-            Look::Found(interval) => {
-                self.join(of, top, interval)?;
-                Ok(true)
-            }
+            Look::Missing { child, off } => self.want(of, top, child, off),
+            Look::Found(interval) => self.join(of, top, interval),
         }
     }
 }

@@ -106,3 +106,9 @@ define_level-requires-clause-low g c = omega (arith, c.args.self.now.low, c.loop
 
 pub slice_bounds-sides-start : goal.slice_bounds-sides-start
 slice_bounds-sides-start g c = omega (arith, turned_length c.args.self.now.shape.terms.now c.args.self.now.negated.now c.args.self.now.turned, c.loop-i-test.true)
+
+pub slice_bounds-sides-end : goal.slice_bounds-sides-end
+slice_bounds-sides-end g c = omega arith
+
+pub slice_bounds-sides-count : goal.slice_bounds-sides-count
+slice_bounds-sides-count g c = omega (arith, turned_length c.args.self.now.shape.terms.now c.args.self.now.negated.now c.args.self.now.turned, c.loop-i-test.true)

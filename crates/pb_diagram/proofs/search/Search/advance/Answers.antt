@@ -1,5 +1,4 @@
 use Rattle.std.proofs.Common.{◌+◌, List, sym, subst}
-use Rattle.std.proofs.lemmas.Result.{IfOk-from_err}
 use Rattle.pb_diagram.specs.declared.interval.Interval.{Interval}
 use Rattle.pb_diagram.specs.declared.search.Look.TheVariants.{Found, Missing}
 use Rattle.pb_diagram.specs.laws.Search.{nodes_at, IsSeen, Looked}
@@ -7,12 +6,6 @@ use Rattle.pb_diagram.proofs.search.Search.advance.Goals as goal
 
 pub look_for-requires : goal.look_for-requires
 look_for-requires c = subst (λ (l : List (List Interval)). IsSeen l c.args.self.now.left c.top-top.result) (sym c.deref.ensures.value) c.top-top.ensures.seen
-
-pub returns-in_err-want-in-Missing : goal.returns-in_err-want-in-Missing
-returns-in_err-want-in-Missing c = IfOk-from_err _ _ c.from_residual.ensures.0
-
-pub returns-in_err-join-in-Found : goal.returns-in_err-join-in-Found
-returns-in_err-join-in-Found c = IfOk-from_err _ _ c.from_residual-in_err-join-in-Found.ensures.0
 
 pub want-requires : goal.want-requires
 want-requires c =
@@ -32,8 +25,8 @@ join-requires c =
 pub top-top-requires : goal.top-top-requires
 top-top-requires c = c.requires
 
-pub returns-in_ok-want-in-Missing : goal.returns-in_ok-want-in-Missing
-returns-in_ok-want-in-Missing c = c.in_ok-want-in-Missing.ensures
+pub returns-in-Missing : goal.returns-in-Missing
+returns-in-Missing c = c.want.ensures
 
-pub returns-in_ok-join-in-Found : goal.returns-in_ok-join-in-Found
-returns-in_ok-join-in-Found c = c.in_ok-join-in-Found.ensures
+pub returns-in-Found : goal.returns-in-Found
+returns-in-Found c = c.join.ensures
