@@ -44,13 +44,14 @@ fn run_of(runs: &[Run], residue: u128) -> usize
 }
 
 /// The first run of all, of one interval.
-fn begin(alloc: Global, runs: &mut Vec<Run>, interval: Interval) -> Result<(), AllocError>
+fn begin(runs: &mut Vec<Run>, interval: Interval) -> Result<(), AllocError>
     requires none { runs.old.items ≡ [] }
     requires runs { AreRuns runs.old.items }
     requires rises { interval.low < interval.top }
     ensures runs { AreRuns runs.new.items }
     ensures grown { OnOk result (IsGrown (intervals_in runs.old.items) interval (intervals_in runs.new.items)) }
 {
+    let alloc = *runs.allocator();
     runs.push(Run::of(alloc, interval)?)?;
     Ok(())
 }
@@ -101,8 +102,7 @@ impl Known {
         ensures { OnOk result (IsGrown self.old interval self.new) }
     {
         if self.runs.is_empty() {
-            let alloc = *self.runs.allocator();
-            return begin(alloc, &mut self.runs, interval);
+            return begin(&mut self.runs, interval);
         }
         let place = run_of(self.runs.as_slice(), interval.low);
         self.runs[place].insert(interval)?;
