@@ -37,3 +37,9 @@ derive_false-requires-clause-few g c = omega (arith, c.loop-place.invariant.room
 
 pub derive_true-requires-clause-held : goal.derive_true-requires-clause-held
 derive_true-requires-clause-held g c = (c.args.self.now.layer.linked c.loop-place.place _ c.loop-place-test.true).1
+
+pub derive_false-requires-clause-within : goal.derive_false-requires-clause-within
+derive_false-requires-clause-within g c = c.loop-place-test.true
+
+pub derive_true-requires-clause-within : goal.derive_true-requires-clause-within
+derive_true-requires-clause-within g c = c.loop-place-test.true

@@ -23,3 +23,9 @@ emit_true-requires-clause-held g c = (c.args.self.now.layer.linked c.loop-place.
 
 pub returns : goal.returns
 returns g c = level_ends _ _ _ _ _ _ c.loop-place.place c.loop-place-test.false c.loop-place.invariant
+
+pub emit_false-requires-clause-within : goal.emit_false-requires-clause-within
+emit_false-requires-clause-within g c = c.loop-place-test.true
+
+pub emit_true-requires-clause-within : goal.emit_true-requires-clause-within
+emit_true-requires-clause-within g c = c.loop-place-test.true
