@@ -23,3 +23,6 @@ loop-i-preserved c =
     let read = read_layer c.args.shape c.loop-i.i layer c.loop-i-test.true told.term told.rest told.nodes told.next in
     let inner = read_inner _ _ _ _ _ _ _ read in
     record { left = left; counted = omega (arith, c.count_below-count.ensures, c.loop-i.invariant.counted) }
+
+pub layer-layer-requires-clause-left : goal.layer-layer-requires-clause-left
+layer-layer-requires-clause-left c = c.loop-i.invariant.left

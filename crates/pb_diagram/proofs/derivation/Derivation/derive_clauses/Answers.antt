@@ -84,3 +84,6 @@ returns g c =
     let none = no_justification (weights c.args.self.now.shape.terms.now) c.args.self.now.shape.levels.now c.loop-i.i c.loop-i.id (omega (arith, length-map c.args.self.now.shape.terms.now weighted)) in
     steps_last c.derive_claim.result (claim_steps now.next (map by_justification top)) (g.T.StepSink.state c.derive_claim.new.sink)
     (deriving_as (ap (λ (rs : List Justification). claim_steps now.next (map by_justification (rs ++ top))) none) c.loop-i.invariant.taken) c.derive_claim.ensures
+
+pub layer-layer-requires-clause-left : goal.layer-layer-requires-clause-left
+layer-layer-requires-clause-left g c = c.loop-i.invariant.left
