@@ -1,9 +1,8 @@
 //! The steps that derive the clauses of an adder network and its comparator.
 use crate::adder::Adder;
 use crate::claims::{derive_gates, derive_rows};
-use crate::reifications::derive_reifications;
 use crate::sums::{Summands, derive_last_deletion, derive_sums};
-use pb_family::{SinkResult, StepSink, derive_deletions};
+use pb_family::{SinkResult, StepSink};
 use std::alloc::Global;
 
 impl Adder {
@@ -11,7 +10,7 @@ impl Adder {
     ghost use Rattle.pb_norm.specs.Constraints.{weights};
     ghost use Rattle.pb_family.specs.StepSinks.{HandsFrom};
     ghost use Rattle.pb_family.specs.HandedJustifications.{HandsClaims};
-    ghost use Rattle.pb_adder.specs.AdderSteps.{adder_claims, adder_steps, proving_steps};
+    ghost use Rattle.pb_adder.specs.AdderSteps.{adder_claims, proving_steps};
     ghost use Rattle.pb_adder.specs.Counts.{adder_fresh};
     ghost use Rattle.pb_adder.specs.Network.{network_gates};
 
@@ -35,7 +34,7 @@ impl Adder {
     }
 
     /// The sums and the clauses, where `id` is the constraint's.
-    fn derive_proof<T: StepSink>(
+    pub(crate) fn derive_proof<T: StepSink>(
         &self,
         alloc: Global,
         first: u32,
@@ -58,27 +57,5 @@ impl Adder {
         let last = derive_sums(alloc, summands, id, sink)?;
         self.derive_clauses(alloc, first, base, last, sink)?;
         derive_last_deletion(alloc, heights, last, sink)
-    }
-
-    /// Hands over the whole derivation, where `id` is the constraint's.
-    pub(crate) fn derive_derivation<T: StepSink>(
-        &self,
-        alloc: Global,
-        first: u32,
-        id: u64,
-        sink: &mut T,
-    ) -> SinkResult
-        requires low { 1 ≤ first }
-        requires fits { first + adder_fresh (weights self.now.terms) ≤ 2 ^ 31 }
-        requires known { id < (T.state sink.old).next }
-        requires few { (T.state sink.old).next ≤ 2 ^ 61 }
-        ensures { HandsFrom (adder_steps (weights self.now.terms) self.now.bound first id) result (T.state sink.old) (T.state sink.new) }
-    {
-        let base = sink.next_id();
-        let gates = self.gates.as_slice();
-        let count = 2 * gates.len() as u64;
-        derive_reifications(alloc, gates, first, sink)?;
-        self.derive_proof(alloc, first, id, base, sink)?;
-        derive_deletions(alloc, base, 2, count, sink)
     }
 }

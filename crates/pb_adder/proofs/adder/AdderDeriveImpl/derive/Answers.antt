@@ -14,9 +14,9 @@ use Rattle.pb_adder.specs.laws.CountLaws.{network_fresh}
 use Rattle.pb_adder.proofs.DerivationIds.{defining_ids, proving_ids}
 use Rattle.pb_adder.proofs.Fits.{gates_fit}
 use Rattle.pb_adder.proofs.Walking.{part_stopped, middle_stopped, last_handed}
-use Rattle.pb_adder.proofs.adder.Adder.derive_derivation.Given.{Over}
-use Rattle.pb_adder.proofs.adder.Adder.derive_derivation.Goals.{In_ok-derive_reifications}
-use Rattle.pb_adder.proofs.adder.Adder.derive_derivation.Goals as goal
+use Rattle.pb_adder.proofs.adder.AdderDeriveImpl.derive.Given.{Over}
+use Rattle.pb_adder.proofs.adder.AdderDeriveImpl.derive.Goals.{In_ok-derive_reifications}
+use Rattle.pb_adder.proofs.adder.AdderDeriveImpl.derive.Goals as goal
 
 pub derive_reifications-requires : goal.derive_reifications-requires
 derive_reifications-requires g c =
