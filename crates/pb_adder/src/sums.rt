@@ -1,9 +1,9 @@
 //! What adders say, added up block by block: the running sum.
-ghost use Rattle.std.specs.Prelude.{◌≡◌, ◌≤◌, ◌<◌, ◌+◌, ◌*◌, ◌^◌, ◌∷◌, ◌++◌, [], All, length, IfOk, pos};
+ghost use Rattle.std.specs.Prelude.{◌≡◌, ◌≤◌, ◌<◌, ◌+◌, ◌*◌, ◌^◌, ◌∷◌, ◌++◌, [], All, length, IfOk, cond, pos};
 ghost use Rattle.pb_derive.specs.Deletions.{deletion_steps};
 ghost use Rattle.pb_steps.specs.declared.step.Step.TheVariants.{Pol};
 ghost use Rattle.pb_family.specs.StepSinks.{HandsSteps};
-ghost use Rattle.pb_adder.specs.AdderSteps.{blocks, last_deletion, last_sum, later_sums, line_ops, sum_ops, sum_steps, tree_ops};
+ghost use Rattle.pb_adder.specs.AdderSteps.{blocks, last_deletion, last_sum, line_ops, sum_ops, sum_steps, tree_ops};
 
 use pb_family::{SinkResult, StepSink, derive_deletion};
 use pb_steps::{PolOp, PolOps, Step};
@@ -128,25 +128,31 @@ fn derive_sum<T: StepSink>(alloc: Global, block: Summands, running: u64, sink: &
     sink.step(&step)
 }
 
-/// Hands over the sum of a block, and that the one before it goes.
-fn derive_later_sum<T: StepSink>(
+/// Hands over the sum of a block, and that the one before it goes, if it is a later block.
+fn derive_next_sum<T: StepSink>(
     alloc: Global,
     block: Summands,
     running: u64,
+    is_later: bool,
     sink: &mut T,
 ) -> SinkResult
     requires some { 1 ≤ length block.levels.now }
     requires few { length block.levels.now ≤ 2 ^ 16 }
     requires given { running < 2 ^ 62 }
     requires room { (T.state sink.old).next + 1 < 2 ^ 62 }
-    ensures { HandsSteps (Pol (sum_ops block.entry.id block.entry.levels.now running) ∷ deletion_steps 1 running 1) result (T.state sink.old) (T.state sink.new) }
+    ensures { HandsSteps (Pol (sum_ops block.entry.id block.entry.levels.now running) ∷ cond is_later (deletion_steps 1 running 1) []) result (T.state sink.old) (T.state sink.new) }
 {
     derive_sum(alloc, block, running, sink)?;
-    derive_deletion(alloc, running, 1, sink)
+    if is_later {
+        derive_deletion(alloc, running, 1, sink)
+    } else {
+        Ok(())
+    }
 }
 
-/// Hands over the sums of later blocks, each with that the one before it goes, and gives the id of the last one.
-fn derive_later_sums<T: StepSink>(
+/// Hands over the sums of adders, block by block, from the constraint with the id `running` on, which stays. Each further sum
+/// goes behind the next one. Gives the id of the last one.
+pub fn derive_sums<T: StepSink>(
     alloc: Global,
     of: Summands,
     running: u64,
@@ -154,40 +160,21 @@ fn derive_later_sums<T: StepSink>(
 ) -> SinkResult<u64>
     requires given { running < 2 ^ 62 }
     requires room { (T.state sink.old).next + length of.levels.now < 2 ^ 62 }
-    ensures steps { HandsSteps (later_sums of.entry.id running (T.state sink.old).next (blocks of.entry.levels.now)) result (T.state sink.old) (T.state sink.new) }
-    ensures last { IfOk result (λ last. last ≡ last_sum running (T.state sink.old).next (blocks of.entry.levels.now)) }
-{
-    let mut running = running;
-    let mut rest = of;
-    while rest.levels.len() > 0 {
-        let (block, later) = rest.first_block();
-        let next = sink.next_id();
-        derive_later_sum(alloc, block, running, sink)?;
-        running = next;
-        rest = later;
-    }
-    Ok(running)
-}
-
-/// Hands over the sums of adders, block by block, from the constraint with the id `running` on, and gives the id of the last
-/// one.
-pub fn derive_sums<T: StepSink>(
-    alloc: Global,
-    of: Summands,
-    running: u64,
-    sink: &mut T,
-) -> SinkResult<u64>
-    requires room { (T.state sink.old).next + length of.levels.now < 2 ^ 62 }
     ensures steps { HandsSteps (sum_steps of.entry.id running (T.state sink.old).next (blocks of.entry.levels.now)) result (T.state sink.old) (T.state sink.new) }
     ensures last { IfOk result (λ last. last ≡ last_sum running (T.state sink.old).next (blocks of.entry.levels.now)) }
 {
-    if of.levels.len() == 0 {
-        return Ok(running);
+    let mut running = running;
+    let mut is_later = false;
+    let mut rest = of;
+    while rest.levels.len() > 0 {
+        let (block, others) = rest.first_block();
+        let next = sink.next_id();
+        derive_next_sum(alloc, block, running, is_later, sink)?;
+        running = next;
+        is_later = true;
+        rest = others;
     }
-    let (block, later) = of.first_block();
-    let next = sink.next_id();
-    derive_sum(alloc, block, running, sink)?;
-    derive_later_sums(alloc, later, next, sink)
+    Ok(running)
 }
 
 /// Hands over that the last sum goes, where there is an adder.

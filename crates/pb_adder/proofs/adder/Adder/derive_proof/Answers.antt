@@ -33,7 +33,7 @@ pub derive_sums-requires : goal.derive_sums-requires
 derive_sums-requires g c =
     let f = c.args.self.now in
     let ts = weights f.terms in
-    record { room = omega (arith, c.requires.next, c.requires.given, c.requires.fits, ap length (c.as_slice-heights.ensures.value ∙ f.leveled), levels-length ts, network_fresh ts) }
+    record { given = omega (arith, c.requires.known, c.requires.given); room = omega (arith, c.requires.next, c.requires.given, c.requires.fits, ap length (c.as_slice-heights.ensures.value ∙ f.leveled), levels-length ts, network_fresh ts) }
 
 pub returns-in_err-last : goal.returns-in_err-last
 returns-in_err-last g c =
