@@ -1,5 +1,5 @@
 //! What the fresh variables of adders mean.
-ghost use Rattle.std.specs.Prelude.{◌≡◌, ◌≤◌, ◌<◌, ◌+◌, ◌*◌, ◌^◌, ◌∷◌, [], All, length};
+ghost use Rattle.std.specs.Prelude.{◌≡◌, ◌≤◌, ◌<◌, ◌+◌, ◌-◌, ◌*◌, ◌^◌, ◌∷◌, [], All, length, take};
 ghost use Rattle.std.specs.List.{flat_map};
 ghost use Rattle.pb_norm.specs.Constraints.{weight, weighted, weights};
 ghost use Rattle.pb_family.specs.HandedJustifications.{HandsReifications};
@@ -29,22 +29,22 @@ fn once(lit: Lit) -> Term
     Term { coef: 1, lit }
 }
 
-/// Hands over that a carry is true where two of the bits are, and a sum where three of all are, which are the bits and the carry that
-/// is off.
+/// Hands over that a carry is true where two of the bits are, and a sum where three of all are, which are the bits and then the
+/// carry that is off.
 fn derive_meanings<T: StepSink>(
     alloc: Global,
     carry: Var,
     sum: Var,
-    bits: &[Term],
     all: &[Term],
     sink: &mut T,
 ) -> SinkResult
-    requires bits_light { weight (weights bits.now) + 2 < 2 ^ 124 }
+    requires some { 1 ≤ length all.now }
+    requires bits_light { weight (weights (take (length all.now - 1) all.now)) + 2 < 2 ^ 124 }
     requires all_light { weight (weights all.now) + 3 < 2 ^ 124 }
     requires few { (T.state sink.old).next + 3 < 2 ^ 62 }
-    ensures { HandsReifications (record { var = carry; sum = weights bits.now; least = 2 } ∷ record { var = sum; sum = weights all.now; least = 3 } ∷ []) result (T.state sink.old) (T.state sink.new) }
+    ensures { HandsReifications (record { var = carry; sum = weights (take (length all.now - 1) all.now); least = 2 } ∷ record { var = sum; sum = weights all.now; least = 3 } ∷ []) result (T.state sink.old) (T.state sink.new) }
 {
-    derive_reification(alloc, carry, bits, 2, sink)?;
+    derive_reification(alloc, carry, &all[..all.len() - 1], 2, sink)?;
     derive_reification(alloc, sum, all, 3, sink)
 }
 
@@ -62,14 +62,14 @@ fn derive_gate_reifications<T: StepSink>(
 {
     match &gate.lits(first) {
         GateLits::Three(x) => {
-            let bits = [once(x.a), once(x.b), once(x.c)];
-            let all = [bits[0], bits[1], bits[2], twice_off(x.carry.var)];
-            derive_meanings(alloc, x.carry.var, x.sum.var, &bits, &all, sink)
+            let carry = x.carry.var;
+            let all = [once(x.a), once(x.b), once(x.c), twice_off(carry)];
+            derive_meanings(alloc, carry, x.sum.var, &all, sink)
         },
         GateLits::Two(x) => {
-            let bits = [once(x.a), once(x.b)];
-            let all = [bits[0], bits[1], twice_off(x.carry.var)];
-            derive_meanings(alloc, x.carry.var, x.sum.var, &bits, &all, sink)
+            let carry = x.carry.var;
+            let all = [once(x.a), once(x.b), twice_off(carry)];
+            derive_meanings(alloc, carry, x.sum.var, &all, sink)
         },
     }
 }

@@ -7,6 +7,7 @@ use Rattle.pb_adder.proofs.reifications.derive_gate_reifications.Goals as goal
 
 pub derive_meanings-requires : goal.derive_meanings-requires
 derive_meanings-requires g c = record {
+  some = omega arith;
   bits_light = omega (arith, ap weight (λ i. c.once.ensures i ∷ c.once-in-Three.ensures i ∷ c.once-in-Three-2.ensures i ∷ []));
   all_light = omega (arith, ap weight (λ i. c.once.ensures i ∷ c.once-in-Three.ensures i ∷ c.once-in-Three-2.ensures i ∷ c.twice_off.ensures i ∷ []));
   few = c.requires.few;
@@ -14,6 +15,7 @@ derive_meanings-requires g c = record {
 
 pub derive_meanings-requires-in-Two : goal.derive_meanings-requires-in-Two
 derive_meanings-requires-in-Two g c = record {
+  some = omega arith;
   bits_light = omega (arith, ap weight (λ i. c.once-in-Two.ensures i ∷ c.once-in-Two-2.ensures i ∷ []));
   all_light = omega (arith, ap weight (λ i. c.once-in-Two.ensures i ∷ c.once-in-Two-2.ensures i ∷ c.twice_off-in-Two.ensures i ∷ []));
   few = c.requires.few;
