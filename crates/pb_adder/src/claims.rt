@@ -61,15 +61,15 @@ fn derive_gate<T: StepSink>(
     ensures { HandsClaims (map (by_rup (gate_ids id)) (gate_clauses first gate.now)) result (T.state sink.old) (T.state sink.new) }
 {
     let ids = [id, id + 1, id + 2, id + 3];
-    match gate.lits(first) {
+    match &gate.lits(first) {
         GateLits::Three(x) => {
-            let sums = full_sums(x.a, x.b, x.c, x.sum);
-            let carries = full_carries(x.a, x.b, x.c, x.carry);
+            let sums = full_sums(x);
+            let carries = full_carries(x);
             derive_both(alloc, &ids, &sums, &carries, sink)
         },
         GateLits::Two(x) => {
-            let threes = half_threes(x.a, x.b, x.sum, x.carry);
-            let twos = half_twos(x.a, x.b, x.carry);
+            let threes = half_threes(x);
+            let twos = half_twos(x);
             derive_both(alloc, &ids, &threes, &twos, sink)
         },
     }
