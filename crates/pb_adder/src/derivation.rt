@@ -29,8 +29,15 @@ impl Adder {
         requires few { (T.state sink.old).next ≤ 2 ^ 61 + 5 * length (network_gates (weights self.now.terms)) }
         ensures { HandsClaims (adder_claims (weights self.now.terms) self.now.bound first base last) result (T.state sink.old) (T.state sink.new) }
     {
-        derive_gates(alloc, self.gates.as_slice(), first, base, sink)?;
-        derive_rows(alloc, self.bound, self.ends.as_slice(), first, last, sink)
+        derive_gates(alloc, self.network.gates.as_slice(), first, base, sink)?;
+        derive_rows(
+            alloc,
+            self.bound,
+            self.network.ends.as_slice(),
+            first,
+            last,
+            sink,
+        )
     }
 
     /// The sums and the clauses, where `id` is the constraint's.
@@ -49,7 +56,7 @@ impl Adder {
         requires next { (T.state sink.old).next ≡ base + 4 * length (network_gates (weights self.now.terms)) }
         ensures { HandsFrom (proving_steps (weights self.now.terms) self.now.bound first id base) result (T.state sink.old) (T.state sink.new) }
     {
-        let heights = self.heights.as_slice();
+        let heights = self.network.heights.as_slice();
         let summands = Summands {
             levels: heights,
             id: base,
