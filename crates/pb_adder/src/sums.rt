@@ -101,8 +101,7 @@ fn push_tree(ops: &mut Vec<PolOp>, height: u32, of: Summands) -> Result<(), Allo
     let (lefts, rights) = of.split_at(half);
     push_tree(ops, height - 1, lefts)?;
     push_tree(ops, height - 1, rights)?;
-    ops.push(PolOp::Add)?;
-    Ok(())
+    ops.extend_from_slice(&[PolOp::Add])
 }
 
 /// The step of a block.

@@ -2,9 +2,11 @@ use Rattle.std.proofs.Common.{◌≡◌, ◌<◌, ◌+◌, ◌-◌, ◌*◌, ◌
 use Rattle.std.specs.Prelude.{IfOk}
 use Rattle.std.proofs.Math.Nat.{two-pow-succ}
 use Rattle.std.proofs.lemmas.List.{length-drop}
+use Rattle.std.proofs.lemmas.Result.{IfOk-equal}
 use Rattle.pb_steps.specs.declared.op.PolOp.{PolOp}
 use Rattle.pb_steps.specs.declared.op.PolOp.TheVariants.{Add}
 use Rattle.pb_adder.specs.AdderSteps.{tree_ops}
+use Rattle.pb_adder.proofs.LevelSteps.{grown}
 use Rattle.pb_adder.proofs.TreeSplit.{half_is, tree_one, tree_narrow, tree_halves, behind}
 use Rattle.pb_adder.proofs.sums.+push_tree.Goals as goal
 
@@ -45,9 +47,9 @@ returns t c =
     let us = tree_ops (n - 1) lefts.id lefts.levels.now in
     let vs = tree_ops (n - 1) rights.id rights.levels.now in
     let old = c.args.ops.now.items in
-    c.in_ok-push.ensures.items
-    ∙ ap (λ (ops : List PolOp). ops ++ Add ∷ []) (c.in_ok-push_tree-2.ensures ∙ ap (λ (ops : List PolOp). ops ++ vs) c.in_ok-push_tree.ensures)
+    IfOk-equal c.extend_from_slice.result _ _ _ (grown c.extend_from_slice.result _ _ _ c.extend_from_slice.ensures.items)
+    (ap (λ (ops : List PolOp). ops ++ Add ∷ []) (c.in_ok-push_tree-2.ensures ∙ ap (λ (ops : List PolOp). ops ++ vs) c.in_ok-push_tree.ensures)
     ∙ behind old us vs
     ∙ ap (λ (ops : List PolOp). old ++ ops)
     ((λ i. tree_ops (n - 1) (c.split_at.ensures.id i) lefts.levels.now ++ (tree_ops (n - 1) (c.split_at.ensures.later i) rights.levels.now ++ Add ∷ []))
-    ∙ tree_halves (n - 1) n id k c.args.of.levels.now lefts.levels.now rights.levels.now (omega (arith, c.if-height-eq0.false)) half (omega (arith, c.if-of-half.false)) c.split_at.ensures.front c.split_at.ensures.back)
+    ∙ tree_halves (n - 1) n id k c.args.of.levels.now lefts.levels.now rights.levels.now (omega (arith, c.if-height-eq0.false)) half (omega (arith, c.if-of-half.false)) c.split_at.ensures.front c.split_at.ensures.back))

@@ -13,8 +13,11 @@ loop-rest-init g c = record {
   given = c.requires.given;
 }
 
-pub derive_next_sum-requires-clause-room : goal.derive_next_sum-requires-clause-room
-derive_next_sum-requires-clause-room g c = omega (arith, c.loop-rest.invariant.next, c.loop-rest-test.true, c.requires.room)
+pub first_block-requires : goal.first_block-requires
+first_block-requires g c = omega (arith, c.loop-rest-test.true)
+
+pub derive_next_sum-requires : goal.derive_next_sum-requires
+derive_next_sum-requires g c = record { some = c.first_block.ensures.some; few = c.first_block.ensures.few; given = c.loop-rest.invariant.given; room = omega (arith, c.loop-rest.invariant.next, c.loop-rest-test.true, c.requires.room) }
 
 pub returns-in_err-derive_next_sum-clause-steps : goal.returns-in_err-derive_next_sum-clause-steps
 returns-in_err-derive_next_sum-clause-steps g c =
