@@ -154,9 +154,9 @@ module _ {ts : List Weighted} {levels level below : ℕ} {gates : List Gate} {he
   pub built_ends : ends ≡ network_ends ts
   built_ends = sym (append-nil ends) ∙ ap (λ (n : ℕ). ends ++ ends_from n level ts (map carry_wire (drop below gates)) (2 * length gates)) none ∙ built.all_ends
 
--- the adders from a number on
-pub slice_whole : (below : ℕ) (gates slice : List Gate) → slice ≡ gates → take (length slice - below) (drop below slice) ≡ drop below gates
-slice_whole below gates slice same = take_all (length slice - below) (drop below slice) (omega (arith, length-drop below slice)) ∙ ap (λ (gs : List Gate). drop below gs) same
+-- what stands from a number on
+pub slice_whole : {X : Type 0} (below : ℕ) (all slice : List X) → slice ≡ all → take (length slice - below) (drop below slice) ≡ drop below all
+slice_whole {X} below all slice same = take_all (length slice - below) (drop below slice) (omega (arith, length-drop below slice)) ∙ ap (λ (xs : List X). drop below xs) same
 
 -- what a sum keeps when its terms and its bound are copied
 abbrev pub sum_of : List Weighted → ℕ → BoundedSum
