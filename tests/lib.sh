@@ -1,5 +1,5 @@
 # What the cases share. Each begins by sourcing it, in a new folder, with these names from tests/run: $pbcnf the program, $top the
-# top of the repository, $work the folder of the whole run, $subject the case's name.
+# top of the repository, $linked the folder of the C library, $work the folder of the whole run, $subject the case's name.
 #
 # A check is a line of the tally, `passed`, `failed` or `skipped`; the last two have a line in the report too.
 set -u

@@ -2,11 +2,10 @@
 . "$top/tests/lib.sh"
 
 library=$top/library
-out=$library/out
 own=$top/tests/library
 sources=("$top"/crates/pbcnf_c/src/*.rt)
 
-if [ ! -f "$out/libpbcnf.a" ] || [ ! -f "$out/libpbcnf.so.0" ]; then
+if [ ! -f "$linked/libpbcnf.a" ] || [ ! -f "$linked/libpbcnf.so.0" ]; then
     skip 'the library is not built; library/build builds it'
     exit 0
 fi
@@ -32,7 +31,7 @@ judged() {
 
 # compile PROGRAM FLAG..: makes it of a file of tests/library and the static library.
 compile() {
-    expect 0 "$compiler" -std=c11 -Wall -Wextra -Wpedantic -Werror -O1 -g -I "$library" -I . "$own/$1.c" "$out/libpbcnf.a" "${@:2}" -o "$1"
+    expect 0 "$compiler" -std=c11 -Wall -Wextra -Wpedantic -Werror -O1 -g -I "$library" -I . "$own/$1.c" "$linked/libpbcnf.a" "${@:2}" -o "$1"
 }
 
 # makes FLAG..: whether the compiler makes a program with these flags that runs.
@@ -91,9 +90,9 @@ try_symbols() {
         return
     fi
     grep -o '^uint8_t pbcnf_[a-z_]*' "$library/pbcnf.h" | cut -d' ' -f2 | sort >declared
-    nm -g --defined-only "$out/libpbcnf.a" | awk 'NF == 3 { print $3 }' | sort >offered
+    nm -g --defined-only "$linked/libpbcnf.a" | awk 'NF == 3 { print $3 }' | sort >offered
     same declared offered
-    nm -D --defined-only "$out/libpbcnf.so.0" | awk 'NF == 3 { print $3 }' | sort >offered
+    nm -D --defined-only "$linked/libpbcnf.so.0" | awk 'NF == 3 { print $3 }' | sort >offered
     same declared offered
 }
 
@@ -134,7 +133,7 @@ try_bytes() {
         skip 'there is no python3'
         return
     fi
-    judged env PYTHONPATH="$library/python" PYTHONDONTWRITEBYTECODE=1 python3 "$own/same.py" "$pbcnf" "$examples"/*.opb
+    judged env PBCNF_LIBRARY="$linked/libpbcnf.so.0" PYTHONPATH="$library/python" PYTHONDONTWRITEBYTECODE=1 python3 "$own/same.py" "$pbcnf" "$examples"/*.opb
 }
 
 if [ -n "$compiler" ]; then

@@ -2,7 +2,6 @@
 . "$top/tests/lib.sh"
 
 library=$top/library
-out=$library/out
 own=$top/tests/library
 
 expect 2 "$library/build" a b
@@ -10,7 +9,7 @@ expect 2 "$library/install" --help
 expect 2 "$library/install" a b
 absent a b
 
-if [ ! -f "$out/libpbcnf.a" ] || [ ! -f "$out/libpbcnf.so.0" ]; then
+if [ ! -f "$linked/libpbcnf.a" ] || [ ! -f "$linked/libpbcnf.so.0" ]; then
     skip 'the library is not built; library/build builds it'
     exit 0
 fi
@@ -24,7 +23,7 @@ for name in cc gcc clang; do
 done
 python=
 if has python3; then python=python3; else skip 'there is no python3'; fi
-export PYTHONPATH=$library/python${PYTHONPATH:+:$PYTHONPATH} PYTHONDONTWRITEBYTECODE=1
+export PBCNF_LIBRARY=$linked/libpbcnf.so.0 PYTHONPATH=$library/python${PYTHONPATH:+:$PYTHONPATH} PYTHONDONTWRITEBYTECODE=1
 
 try_python() {
     expect 0 $python "$own/module.py"
@@ -43,7 +42,7 @@ try_rust() {
         return
     fi
     cp -R "$library/rust" crate
-    expect 0 env PBCNF_LIB_DIR="$out" CARGO_TARGET_DIR="$PWD/target" cargo test -q --offline --manifest-path crate/Cargo.toml
+    expect 0 env PBCNF_LIB_DIR="$linked" CARGO_TARGET_DIR="$PWD/target" cargo test -q --offline --manifest-path crate/Cargo.toml
 }
 
 # What is installed is found by pkg-config, linked both ways, and taken away again.
@@ -51,10 +50,10 @@ try_install() {
     local prefix=$PWD/'a place'
     expect 0 "$library/install" "$prefix"
     same "$library/pbcnf.h" "$prefix/include/pbcnf.h"
-    same "$out/libpbcnf.a" "$prefix/lib/libpbcnf.a"
-    same "$out/libpbcnf.so.0" "$prefix/lib/libpbcnf.so.0" "$prefix/lib/libpbcnf.so"
+    same "$linked/libpbcnf.a" "$prefix/lib/libpbcnf.a"
+    same "$linked/libpbcnf.so.0" "$prefix/lib/libpbcnf.so.0" "$prefix/lib/libpbcnf.so"
     if [ -n "$python" ]; then
-        expect 0 env -u PYTHONPATH $python -c \
+        expect 0 env -u PBCNF_LIBRARY -u PYTHONPATH $python -c \
             'import sys; sys.path.insert(0, sys.argv[1]); import pbcnf; print(pbcnf.encode("+1 x1 >= 1 ;").clauses)' "$prefix/share/pbcnf"
         says '[[1]]'
     fi
@@ -95,7 +94,7 @@ finds_the_cheapest() {
 }
 
 try_examples() {
-    local flags=(-I "$library" "$out/libpbcnf.a" -lcadical -lstdc++ -lm)
+    local flags=(-I "$library" "$linked/libpbcnf.a" -lcadical -lstdc++ -lm)
     echo '#include <ccadical.h>' >has.c
     if [ -n "$compiler" ] && "$compiler" -fsyntax-only has.c 2>"$state/cc"; then
         for name in solve cheapest; do
@@ -122,7 +121,7 @@ try_examples() {
         skip 'there is no pycryptosat, of python3-cryptominisat'
     fi
     if has cargo && [ -x solve.c.out ]; then
-        expect 0 env PBCNF_LIB_DIR="$out" CARGO_TARGET_DIR="$PWD/target" \
+        expect 0 env PBCNF_LIB_DIR="$linked" CARGO_TARGET_DIR="$PWD/target" \
             cargo build -q --offline --examples --features cadical --manifest-path crate/Cargo.toml
         solves target/debug/examples/solve
         finds_the_cheapest target/debug/examples/cheapest
