@@ -129,6 +129,15 @@ misplaced_specs() {
     return 0
 }
 
+# The pages that name the logic of the kit, where it is another. Kits of one logic prove the same, whatever their own names are.
+other_logic() {
+    local logic page
+    logic=$(rt version | grep -o 'logic [0-9a-f]*')
+    for page in README.md CONTRIBUTING.md; do
+        grep -qF -- "${logic:-no logic}" "$top/$page" || printf '%s does not name %s\n' "$page" "${logic:-it, for rt version has none}"
+    done
+}
+
 last=pages
 finds_none 'a link' lost_links
 finds_none 'a file' lost_files
@@ -145,7 +154,7 @@ else
     skip 'there is no python3, which draws docs/layers.svg'
 fi
 if has rt; then
-    finds_none 'the line of the kit in README.md' sh -c 'grep -qF -- "$(rt version)" "$1" || rt version' sh "$top/README.md"
+    finds_none 'the logic of the kit' other_logic
 else
-    skip 'there is no rt, whose line README.md has'
+    skip 'there is no rt, whose logic the pages name'
 fi
