@@ -11,6 +11,10 @@ files='pbcnf crates/pbcnf/out/pbcnf 755 pbcnf
 libpbcnf.a library/out/libpbcnf.a 644 pbcnf_c
 libpbcnf.so.0 library/out/libpbcnf.so.0 755 pbcnf_c'
 
+names() {
+    printf '%s\n' "$files" | cut -d ' ' -f 1
+}
+
 refuse() {
     printf 'release/%s: %s\n' "${0##*/}" "$*" >&2
     exit 1

@@ -165,6 +165,11 @@ try_take_again() {
     touch -d '2019-01-01' "${built[1]}"
     expect 1 "$copy/release/take"
     expect 0 diff -r "$shipped" "kept/release/$platform"
+    # So does one that a take which was killed has set aside.
+    mv "$shipped" "$shipped.old"
+    refused "$platform/BUILT is missing" check
+    expect 1 "$copy/release/take"
+    expect 0 diff -r "$copy/release" kept/release
     touch "${built[1]}"
     text bin/rt '#!/bin/sh' 'exit 1'
     refused 'there is no rt, which says by which kit this was built' take
@@ -184,7 +189,9 @@ try_check() {
         refuses "$platform/$name is missing" rm "$shipped/$name"
         refuses "$platform/BUILT gives no hash of $name" sed -i "/ $name\$/d" "$shipped/BUILT"
     done
+    refuses "$platform/pbcnf is missing" ln -sfn "${built[0]}" "$shipped/pbcnf"
     refuses "$platform/BUILT is missing" rm "$shipped/BUILT"
+    refuses "$platform/.one more is none of the files that are shipped" text "$shipped/.one more" more
     refuses "$platform/BUILT names no kit" sed -i '/^kit/d' "$shipped/BUILT"
     refuses "the version is 1.2.4, and $platform/BUILT has 1.2.3" text "$copy/VERSION" 1.2.4
     for name in crates/pb_low/proofs crates/pbcnf/src crates/pbcnf_c/specs; do
