@@ -1,5 +1,5 @@
 # What the built files ask of the system, and what they do not let it do: no newer glibc than the README names, no stack and no data that
-# can be executed, no relocation of code, no undefined name beside those of libc and libgcc.
+# can be executed, no relocation of code, no undefined name beside those of libc and libgcc. They do not hang on where they were built.
 . "$top/tests/lib.sh"
 
 needs readelf
@@ -63,6 +63,7 @@ try_archive() {
 last=linking
 try_glibc
 for file in "${files[@]}"; do
+    grep -aoF -- "$top/" "$file" | none_of "${file##*/} names the folder in which it was built"
     case $file in
     *.a) try_archive ;;
     *) try_loaded "$file" ;;
