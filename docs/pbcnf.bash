@@ -1,12 +1,16 @@
-# Completion of pbcnf's words in bash.
+# Completion of the words of pbcnf, pbcnf-solve, pbcnf-cheapest and pbcnf-hints in bash.
 
 _pbcnf() {
     local word=${COMP_WORDS[COMP_CWORD]} before=${COMP_WORDS[COMP_CWORD-1]} command=${COMP_WORDS[1]-}
+    local script=${COMP_WORDS[0]##*/}
     # With `=` among the breaks of words, `--amo=l` comes as three words.
     [ "$word" = = ] && word=
     [ "$before" = = ] && before=${COMP_WORDS[COMP_CWORD-2]}
     COMPREPLY=()
-    if [ "$COMP_CWORD" -eq 1 ]; then
+    # A script goes by its own name in place of a first word.
+    if [[ $script == pbcnf-* ]]; then
+        command=$script
+    elif [ "$COMP_CWORD" -eq 1 ]; then
         mapfile -t COMPREPLY < <(compgen -W 'encode wcnf check refute decode map probe bench' -- "$word")
         return
     fi
@@ -21,7 +25,8 @@ _pbcnf() {
         local options=
         case $command in
         encode) options='--amo --card --general --equal --budget --table --at-most= --at-most-minus=' ;;
-        wcnf) options='--amo --card --general --equal --budget --at-most= --at-most-minus=' ;;
+        pbcnf-cheapest) options='--amo --card --general --equal --budget' ;;
+        wcnf | pbcnf-solve) options='--amo --card --general --equal --budget --at-most= --at-most-minus=' ;;
         check | refute | decode) options='--at-most= --at-most-minus=' ;;
         esac
         mapfile -t COMPREPLY < <(compgen -W "$options" -- "$word")
@@ -29,11 +34,11 @@ _pbcnf() {
         return
     fi
     case $command in
-    encode | wcnf | check | refute | decode | map | probe | bench)
+    encode | wcnf | check | refute | decode | map | probe | bench | pbcnf-*)
         mapfile -t COMPREPLY < <(compgen -f -- "$word")
         compopt -o filenames
         ;;
     esac
 }
 
-complete -F _pbcnf pbcnf
+complete -F _pbcnf pbcnf pbcnf-solve pbcnf-cheapest pbcnf-hints
