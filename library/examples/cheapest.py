@@ -2,7 +2,7 @@
 """Finds the cheapest guards for a street of corners by one solver in this process.
 
 After each solution the solver gets one constraint more, that the next is cheaper. Nothing is kept between the calls but the
-first variable that is still free. It stands on pbcnf.py and on Debian's python3-cryptominisat.
+first variable that is still free. It stands on the module pbcnf and on Debian's python3-cryptominisat.
 """
 
 import pbcnf

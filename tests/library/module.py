@@ -1,5 +1,5 @@
 #!/usr/bin/env python3
-"""Tests what pbcnf.py itself does: its classes, its exceptions, and what it says to values that are none.
+"""Tests what the Python module itself does: its classes, its exceptions, and what it says to values that are none.
 
 It looks for the library as a user's program would. usage: module.py
 """

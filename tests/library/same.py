@@ -1,5 +1,5 @@
 #!/usr/bin/env python3
-"""Holds the library, by pbcnf.py, against the built program: over the examples and texts that are drawn by a fixed seed.
+"""Holds the library, by the Python module, against the built program: over the examples and texts that are drawn by a fixed seed.
 
 usage: same.py PROGRAM OPB..
 

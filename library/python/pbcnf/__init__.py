@@ -7,8 +7,9 @@
 A problem is an OPB text, `str` or `bytes`. Options are keywords, as those of the program: `amo`, `card`, `general`, `equal`,
 `budget`, `table`. What is refused is raised as an `Error`, with its place and the word that was expected there.
 
-The library is libpbcnf.so.0, which library/build makes. It is looked for in the environment's PBCNF_LIBRARY, then where it was
-built or installed beside this file, then where the system looks for libraries. Calls may be made by several threads at once.
+The library is libpbcnf.so.0. It is looked for in the environment's PBCNF_LIBRARY, then in the folder of this file, where an
+installed package has it, then where ./install put it, then where ./build put it or release/ has it, the newer of both, then where
+the system looks for libraries. Calls may be made by several threads at once.
 """
 
 from __future__ import annotations
@@ -16,6 +17,8 @@ from __future__ import annotations
 import ctypes
 import functools
 import os
+import platform
+import sys
 from array import array
 from dataclasses import dataclass
 from typing import TYPE_CHECKING, Callable, Dict, Iterable, List, Optional, Sequence, Tuple, Type, TypedDict, TypeVar, Union
@@ -27,6 +30,8 @@ __all__ = [
     "Chosen", "Encoding", "Error", "LimitPassed", "NoModel", "NotASolution", "NotRefuted", "OutOfMemory", "Refused", "Rejected",
     "Solution", "Usage", "bounds", "check", "constraint", "decode", "derive", "derive_constraint", "dimacs", "encode", "names", "refute", "wcnf",
 ]
+
+__version__ = "0.2.0"
 
 Text = Union[str, bytes]
 Terms = Iterable[Tuple[int, int]]
@@ -253,12 +258,22 @@ def _signatures() -> Dict[str, List[object]]:
     }
 
 
+def _there(*folders: str) -> List[str]:
+    """The libraries in those of these folders that have one, by their ways from this file."""
+    here = os.path.dirname(os.path.realpath(__file__))
+    places = (os.path.join(here, folder, "libpbcnf.so.0") for folder in folders)
+    return [place for place in places if os.path.exists(place)]
+
+
 def _places() -> List[str]:
     """Where the library may be, the likeliest first."""
-    here = os.path.dirname(os.path.realpath(__file__))
-    beside = [os.path.join(here, way, "libpbcnf.so.0") for way in ("", "../out", "../../lib")]
     named = os.environ.get("PBCNF_LIBRARY")
-    return [named] if named else [place for place in beside if os.path.exists(place)] + ["libpbcnf.so.0"]
+    if named:
+        return [named]
+    # In the repository there may be one that was built, and one that lies ready.
+    ready = "../../../release/%s-%s" % (platform.machine(), sys.platform)
+    newest = sorted(_there("../../out", ready), key=os.path.getmtime, reverse=True)
+    return _there("", "../../../lib") + newest + ["libpbcnf.so.0"]
 
 
 @functools.lru_cache(maxsize=None)
