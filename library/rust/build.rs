@@ -1,12 +1,17 @@
-//! Links libpbcnf.a: from the folder that PBCNF_LIB_DIR names, else the one that pkg-config names, else where library/build puts it.
+//! Links libpbcnf.a: from the folder that PBCNF_LIB_DIR names, else from where pkg-config says that this version is installed, else
+//! the one of ./build where it is newer than release/'s, else release/'s.
 use std::env;
 use std::path::{Path, PathBuf};
 use std::process::Command;
+use std::time::SystemTime;
 
-/// The folder of an installed library.
+const ARCHIVE: &str = "libpbcnf.a";
+
+/// The folder of an installed library of this version.
 fn installed() -> Option<PathBuf> {
     let asked = Command::new("pkg-config")
-        .args(["--variable=libdir", "pbcnf"])
+        .arg("--variable=libdir")
+        .arg(concat!("pbcnf = ", env!("CARGO_PKG_VERSION")))
         .output()
         .ok()?;
     let folder = String::from_utf8(asked.stdout).ok()?;
@@ -16,20 +21,41 @@ fn installed() -> Option<PathBuf> {
         .then(|| PathBuf::from(folder.trim_end()))
 }
 
+/// The folders of the repository that may have it for the system that the crate is built for.
+fn in_repository() -> Vec<PathBuf> {
+    let library = Path::new(env!("CARGO_MANIFEST_DIR")).join("..");
+    let target = |part| env::var(format!("CARGO_CFG_TARGET_{part}")).unwrap_or_default();
+    let system = format!("{}-{}", target("ARCH"), target("OS"));
+    vec![library.join("../release").join(system), library.join("out")]
+}
+
+/// When the archive in a folder was written, if there is one.
+fn built_at(folder: &Path) -> Option<SystemTime> {
+    folder.join(ARCHIVE).metadata().ok()?.modified().ok()
+}
+
 fn main() {
-    let built = Path::new(&env::var("CARGO_MANIFEST_DIR").expect("cargo names it")).join("../out");
     let named = env::var_os("PBCNF_LIB_DIR").map(PathBuf::from);
-    let folder = named.or_else(installed).unwrap_or(built);
-    assert!(
-        folder.join("libpbcnf.a").exists(),
-        "there is no libpbcnf.a in {}; library/build builds it, and PBCNF_LIB_DIR may name its folder",
-        folder.display()
-    );
+    let folders = match named.or_else(installed) {
+        Some(folder) => vec![folder],
+        None => in_repository(),
+    };
+    let newest = folders
+        .iter()
+        .filter_map(|folder| Some((built_at(folder)?, folder)))
+        .max();
+    let folder = match newest {
+        Some((_, folder)) => folder,
+        None => panic!("there is no {ARCHIVE} in {folders:?}; ./build builds it, and PBCNF_LIB_DIR may name its folder"),
+    };
     println!("cargo:rerun-if-env-changed=PBCNF_LIB_DIR");
-    println!(
-        "cargo:rerun-if-changed={}",
-        folder.join("libpbcnf.a").display()
-    );
+    println!("cargo:rerun-if-env-changed=PKG_CONFIG_PATH");
+    // One that is not there would have cargo build anew each time.
+    for archive in folders.iter().map(|folder| folder.join(ARCHIVE)) {
+        if archive.exists() {
+            println!("cargo:rerun-if-changed={}", archive.display());
+        }
+    }
     println!("cargo:rustc-link-search=native={}", folder.display());
     println!("cargo:rustc-link-lib=static=pbcnf");
 }
