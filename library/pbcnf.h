@@ -28,6 +28,8 @@
 extern "C" {
 #endif
 
+#define PBCNF_VERSION "0.2.0"
+
 /* ---- statuses: those of the program. PBCNF_UNREAD is not returned. */
 enum {
   PBCNF_DONE = 0,

@@ -102,16 +102,10 @@ long_lines() {
     awk 'length > 200 { print "line " FNR " has " length " bytes" } END { if (FNR > 70) print FNR " lines" }' "$top/README.md"
 }
 
-# The version that the README names, where another page does not have it.
+# Files that have another version than VERSION.
 other_versions() {
-    local version
-    version=$(sed -n 's/.*[Vv]ersion \([0-9.]*[0-9]\).*/\1/p' "$top/README.md" | head -n 1)
-    [ -n "$version" ] || printf 'README.md names none\n'
-    grep -q "^## $version" "$top/CHANGELOG.md" || printf 'CHANGELOG.md has no %s\n' "$version"
-    grep -q "^\.TH PBCNF .*\"pbcnf $version\"" "$top/docs/pbcnf.1" || printf 'docs/pbcnf.1 is not of %s\n' "$version"
-    for package in library/python/pyproject.toml library/rust/Cargo.toml; do
-        grep -qx "version = \"$version\"" "$top/$package" || printf '%s is not of %s\n' "$package" "$version"
-    done
+    "$top/docs/tools/version" --check
+    [ $? -le 1 ]
 }
 
 # Names that gave way to the field's word, where docs/GLOSSARY.md has the word that stands for them.
