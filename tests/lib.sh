@@ -141,6 +141,22 @@ fine() {
     tells
 }
 
+# installs PREFIX: has ./install put program and library below PREFIX. False, and skipped, where neither of these sources is there.
+installs() {
+    local got
+    "$top/install" "$1" >"$said" 2>"$told"
+    got=$?
+    if [ $got -eq 0 ] && [ -f "$1/lib/libpbcnf.a" ]; then
+        passed
+        return
+    elif [ $got -eq 0 ] || [ $got -eq 69 ]; then
+        skip "$(head -n 1 "$told")"
+    else
+        failed "./install: wanted the status 0, got $got; it told $(bytes_of "$told")"
+    fi
+    return 1
+}
+
 # text FILE LINE..: makes a file of these lines.
 text() {
     if [ $# -eq 1 ]; then : >"$1"; else printf '%s\n' "${@:2}" >"$1"; fi

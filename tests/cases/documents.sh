@@ -2,6 +2,8 @@
 . "$top/tests/lib.sh"
 
 solvers='cadical kissat cryptominisat5 clasp picosat glucose minisat'
+# No page has pip fetch anything.
+export PIP_NO_INDEX=1 PIP_DISABLE_PIP_VERSION_CHECK=1
 
 # The tools that a block of commands names and that are not there.
 missing() {
@@ -17,8 +19,10 @@ missing() {
         done
         [ -n "$any" ] || printf 'solver '
     fi
-    if grep -q '/page/local/' "$1"; then
-        [ -f "$top/library/out/libpbcnf.a" ] || printf 'built library '
+    # The programs of docs/LIBRARY.md are named so.
+    if grep -Eq '(^|[ /])first[./]' "$1"; then
+        [ -f page/local/lib/libpbcnf.a ] || printf 'library '
+        ! grep -q venv "$1" || python3 -c 'import ensurepip, venv' 2>"$state/venv" || printf 'venv of python3 '
         for tool in c++ cargo python3; do
             has $tool || ! grep -Fq "$tool " "$1" || printf '%s ' $tool
         done
@@ -28,7 +32,7 @@ missing() {
 # What a page has installed below ~/.local is put into a folder of its own.
 install_library() {
     local block
-    [ ! -f "$top/library/out/libpbcnf.a" ] || "$top/library/install" "$PWD/page/local" >"$state/installed"
+    installs "$PWD/page/local"
     ln -s "$top/library" page/library
     for block in blocks/*.sh; do
         sed "s|~/\.local|$PWD/page/local|g" "$block" >"$block.new" && mv "$block.new" "$block"

@@ -1,7 +1,14 @@
-# ./install puts the program, its page of the manual and its completion in their places, and takes them away again.
+# ./install puts the program, the library, the scripts and their pages in their places, each whole or not at all, and takes them away
+# again; what is older than the sources it refuses. It is tried on a small repository, which then is not there any more.
 . "$top/tests/lib.sh"
+. "$top/tests/repository.sh"
 
-prefix=$PWD/'a place'
+needs sha256sum readlink find xargs awk
+prefix=$PWD/'another place'
+program=${built[0]}
+source=$copy/crates/pbcnf/src/inner/One
+scripts='solve cheapest hints'
+
 completed() {
     COMP_WORDS=("$@")
     COMP_CWORD=$(($# - 1))
@@ -10,29 +17,286 @@ completed() {
     last=$(shown "$@")
 }
 
-expect 2 "$top/install" --help
-expect 2 "$top/install" a b
-absent a b
+# install_copy WORD..: the copy's script.
+install_copy() {
+    "$copy/install" "$@"
+}
 
-if [ "$pbcnf" -ef "$top/crates/pbcnf/out/pbcnf" ]; then
-    expect 0 "$top/install" "$prefix"
+# told_of WORD..: the last command has told a line with each.
+told_of() {
+    local word
+    for word in "$@"; do
+        if grep -Fq -- "$word" "$told"; then passed; else failed "$last: wanted a line with $word, got $(bytes_of "$told")"; fi
+    done
+}
+
+# has_just FOLDER NAME..: just these files and links are below it.
+has_just() {
+    (cd "$1" && find . ! -type d | sed 's|^\./||' | LC_ALL=C sort) >found
+    shift
+    printf '%s\n' "$@" | LC_ALL=C sort >wanted
+    last="the files of $prefix"
+    same wanted found
+}
+
+# The small repository, with all that is installed, and a release that has the program that is tested. Nothing is built there.
+make_copy() {
+    make_repository
+    cp -- "$pbcnf" "$program"
+    expect 0 "$copy/release/take"
+    rm -- "${built[@]}"
+    cp -- "$top/install" "$copy"
+    cp -R -- "$examples" "$top/docs" "$copy"
+    cp -R -- "$top/library/pbcnf.h" "$top/library/python" "$copy/library"
+    touch -d '2020-01-02' "$shipped"/*
+    keep
+}
+
+program_files=(bin/pbcnf bin/pbcnf-{solve,cheapest,hints} share/man/man1/pbcnf{,-solve,-cheapest,-hints}.1
+    share/bash-completion/completions/pbcnf{,-solve,-cheapest,-hints} share/pbcnf/folders)
+library_files=(include/pbcnf.h lib/libpbcnf.a lib/libpbcnf.so{,.0} lib/pkgconfig/pbcnf.pc share/pbcnf/pbcnf/{__init__.py,py.typed})
+
+# All of the release, over what was there before too, and away again.
+try_release() {
+    local script
+    expect 0 install_copy "$prefix"
+    tells
+    has_just "$prefix" "${program_files[@]}" "${library_files[@]}"
     same "$pbcnf" "$prefix/bin/pbcnf"
-    same "$top/docs/pbcnf.1" "$prefix/share/man/man1/pbcnf.1"
-    same "$top/docs/pbcnf.bash" "$prefix/share/bash-completion/completions/pbcnf"
+    same "$copy/docs/pbcnf.1" "$prefix/share/man/man1/pbcnf.1"
+    same "$copy/docs/pbcnf.bash" "$prefix"/share/bash-completion/completions/pbcnf{,-solve,-cheapest,-hints}
+    for script in $scripts; do
+        same "$copy/examples/$script" "$prefix/bin/pbcnf-$script"
+        same "$copy/docs/pbcnf-$script.1" "$prefix/share/man/man1/pbcnf-$script.1"
+    done
+    same "$copy/library/pbcnf.h" "$prefix/include/pbcnf.h"
+    same "$shipped/libpbcnf.a" "$prefix/lib/libpbcnf.a"
+    same "$shipped/libpbcnf.so.0" "$prefix/lib/libpbcnf.so.0" "$prefix/lib/libpbcnf.so"
+    same "$copy/library/python/pbcnf/__init__.py" "$prefix/share/pbcnf/pbcnf/__init__.py"
+    grep '^[Vp]' "$prefix/lib/pkgconfig/pbcnf.pc" >lines
+    holds lines "prefix=$prefix" 'Version: 1.2.3'
     expect 0 "$prefix/bin/pbcnf" bench 1 0
-    expect 0 "$top/install" "$prefix"
-    expect 0 "$top/install" --remove "$prefix"
-    expect 0 find "$prefix" -type f
+    without_output() {
+        install_copy "$1" >&- 2>&-
+    }
+    expect 0 without_output "$prefix"
+    has_just "$prefix" "${program_files[@]}" "${library_files[@]}"
+    # What was put before is replaced; a file may be a link elsewhere, which then is none any more.
+    text elsewhere 'this is kept'
+    ln -sf "$PWD/elsewhere" "$prefix/bin/pbcnf"
+    expect 0 install_copy "$prefix"
+    same "$pbcnf" "$prefix/bin/pbcnf"
+    holds elsewhere 'this is kept'
+    mkdir "$prefix/share/pbcnf/pbcnf/__pycache__"
+    text "$prefix/share/pbcnf/pbcnf/__pycache__/__init__.cpython-311.pyc" 'a cache'
+    expect 0 install_copy --remove "$prefix"
+    tells
+    expect 0 find "$prefix" -mindepth 1
     says
-    expect 0 "$top/install" --remove "$prefix"
+    expect 0 install_copy --remove "$prefix"
     says
-else
-    skip 'the program that is tested is not the one that is installed'
-fi
+    tells
+}
+
+# Folders that were there before stay, and others' files.
+try_strangers() {
+    mkdir -p "$prefix"/{bin,lib/pkgconfig}
+    expect 0 install_copy "$prefix/"
+    text "$prefix/share/man/man1/other.1" 'the page of another'
+    expect 0 install_copy "$prefix"
+    expect 0 install_copy --remove "$prefix"
+    (cd "$prefix" && find . | LC_ALL=C sort) >found
+    holds found . ./bin ./lib ./lib/pkgconfig ./share ./share/man ./share/man/man1 ./share/man/man1/other.1
+    rm -r "$prefix"
+    # A name from here, and none at all of one's own.
+    expect 0 install_copy here
+    same "$pbcnf" here/bin/pbcnf
+    expect 0 grep -x "prefix=$PWD/here" here/lib/pkgconfig/pbcnf.pc
+    expect 0 install_copy --remove here
+    rmdir here
+}
+
+# What was built here is taken where it is newer than the release; what is older than a source is not.
+try_built() {
+    text "$program" '#!/bin/sh' 'echo built'
+    chmod 755 "$program"
+    text "${built[1]}" 'another archive'
+    text "${built[2]}" 'another library'
+    expect 0 install_copy "$prefix"
+    same "$program" "$prefix/bin/pbcnf"
+    same "${built[1]}" "$prefix/lib/libpbcnf.a"
+    same "${built[2]}" "$prefix/lib/libpbcnf.so.0"
+    touch -d '2020-01-01 12:00' "${built[@]}"
+    expect 0 install_copy "$prefix"
+    same "$pbcnf" "$prefix/bin/pbcnf"
+    same "$shipped/libpbcnf.a" "$prefix/lib/libpbcnf.a"
+    expect 0 install_copy --remove "$prefix"
+    # Now the release is of other sources, and the program is older than they are.
+    text "$source" 'Another source.'
+    touch -d '2020-01-03' "$source"
+    refused 'older than the sources' ./build
+    touch -d '2020-01-04' "$program"
+    expect 0 install_copy "$prefix"
+    same "$program" "$prefix/bin/pbcnf"
+    same "${built[1]}" "$prefix/lib/libpbcnf.a"
+    expect 0 install_copy --remove "$prefix"
+    # The library is older than a source that it shares with the program.
+    touch -d '2020-01-03' "$copy/crates/pb_low/src/inner/One"
+    expect 0 install_copy "$prefix"
+    told_of 'the library is left out' ./build
+    has_just "$prefix" "${program_files[@]}"
+    expect 0 install_copy --remove "$prefix"
+    rm "$program"
+    refused 'the sources are others' ./build
+    rm -r "$copy/release"
+    refused ./build
+    undo
+}
+
+# refused WORD..: nothing is installed, and a line says why.
+refused() {
+    expect 69 install_copy "$prefix"
+    says
+    told_of "$@"
+    expect 0 find "$prefix" -mindepth 1
+    says
+}
+
+in_shell() {
+    ("$@")
+}
+
+# kept_at PLACE LINE..: it ends with 73 and such a line, and has put nothing.
+kept_at() {
+    find "$1" | LC_ALL=C sort >before
+    expect 73 install_copy "$1"
+    says
+    told_of "${@:2}"
+    find "$1" | LC_ALL=C sort >after
+    same before after
+}
+
+# Where a file cannot be written none is, and which is said.
+try_faults() {
+    mkdir -p one/bin two/bin/pbcnf-cheapest three
+    text one/bin/pbcnf 'an old program'
+    text one/share 'no folder'
+    kept_at one "$PWD/one/share/man/man1/pbcnf.1 could not be written"
+    holds one/bin/pbcnf 'an old program'
+    kept_at two "$PWD/two/bin/pbcnf-cheapest is a folder"
+    text four 'no folder'
+    expect 73 install_copy four/place
+    says
+    told_of "$PWD/four/place"
+    # Rights: as a user who is not root, the copy and all above it can be read.
+    chmod 555 three
+    if [ "$(id -u)" -ne 0 ]; then
+        kept_at three "$PWD/three/bin/pbcnf could not be written"
+    elif has setpriv; then
+        expect 73 setpriv --reuid=65534 --regid=65534 --clear-groups "$copy/install" "$PWD/three"
+        says
+        told_of "$PWD/three/bin/pbcnf could not be written"
+        expect 0 find three -mindepth 1
+        says
+    else
+        skip 'there is no setpriv'
+    fi
+    # No room for the program; and a signal while it is copied.
+    small_files() {
+        trap '' XFSZ
+        ulimit -f 8
+        install_copy "$1"
+    }
+    expect 73 in_shell small_files six
+    says
+    told_of "$PWD/six/bin/pbcnf could not be written"
+    mkdir plays
+    text plays/cp '#!/bin/sh' 'kill -TERM "$PPID"' "exec $(command -v cp) \"\$@\""
+    chmod 755 plays/cp
+    expect 143 env PATH="$PWD/plays:$PATH" "$copy/install" six
+    says
+    expect 0 find six -mindepth 1
+    says
+    rm -r plays
+    # A file that cannot be taken away leaves the others no longer.
+    expect 0 install_copy five
+    rm five/bin/pbcnf
+    mkdir five/bin/pbcnf
+    expect 73 install_copy --remove "$PWD/five"
+    told_of "$PWD/five/bin/pbcnf"
+    expect 0 find five ! -type d
+    says
+}
+
+# The installed scripts, from another folder and without the repository; a solver is played where there is none.
+try_scripts() {
+    local script
+    expect 0 install_copy "$prefix"
+    mv "$copy" away
+    mkdir elsewhere.d plays
+    cd elsewhere.d || exit
+    text "$work/$subject/plays/solver" '#!/bin/sh' 'echo s SATISFIABLE' 'echo v 1 -2 -3 0'
+    chmod 755 "$work/$subject/plays/solver"
+    text small.opb '+1 rain +1 sun +1 snow >= 1 ;' '+1 rain +1 sun <= 1 ;'
+    on_path() {
+        PATH=$prefix/bin:$PATH SOLVER=$work/$subject/plays/solver "$@"
+    }
+    by_place() {
+        SOLVER=$work/$subject/plays/solver "$prefix/bin/$1" "${@:2}"
+    }
+    for way in on_path by_place; do
+        expect 0 $way pbcnf-solve small.opb
+        says 's SATISFIABLE' 'v rain -sun -snow'
+        tells
+    done
+    for script in solve cheapest; do
+        expect 2 on_path pbcnf-$script
+        tells "pbcnf-$script: usage: pbcnf-$script OPB [option of encode ..]"
+    done
+    expect 2 on_path pbcnf-hints
+    tells 'pbcnf-hints: usage: pbcnf-hints CNF DRAT'
+    text empty.drat
+    expect 0 on_path pbcnf encode small.opb small.cnf
+    expect 1 on_path pbcnf-hints small.cnf empty.drat
+    tells 'pbcnf-hints: the texts end without a conflict, so that nothing is refuted'
+    if has cadical; then
+        expect 0 on_path pbcnf-cheapest "$examples/guards.opb"
+        sed -n '1p; $p' "$said" >ends
+        holds ends 'o 20' refuted
+        told_of 'pbcnf-cheapest: a solution of 20' 'pbcnf-cheapest: checking that there is no cheaper solution'
+    else
+        skip 'there is no cadical'
+    fi
+    # A script by itself, where no program is found.
+    cp "$prefix/bin/pbcnf-solve" "$prefix/bin/pbcnf-cheapest" .
+    mkdir tools
+    for tool in sh dirname; do ln -s "$(command -v $tool)" tools/$tool; done
+    for script in solve cheapest; do
+        expect 69 env PATH="$PWD/tools" "./pbcnf-$script" small.opb
+        tells "pbcnf-$script: pbcnf is not on the path"
+    done
+    cd ..
+    mv away "$copy"
+}
+
+make_copy
+needs_to_run "$shipped/pbcnf"
+expect 2 install_copy --help
+expect 2 install_copy a b
+expect 2 install_copy ''
+absent a b
+try_release
+try_strangers
+mkdir "$prefix"
+try_built
+try_faults
+try_scripts
 
 if has man; then
-    expect 0 env MANPAGER=cat man --warnings -l "$top/docs/pbcnf.1"
-    tells
+    for page in "$top"/docs/*.1; do
+        expect 0 env MANPAGER=cat man --warnings -l "$page"
+        tells
+    done
 else
     skip 'there is no man'
 fi
@@ -52,3 +316,11 @@ says --at-most= --at-most-minus=
 text a.opb '+1 x1 >= 1 ;'
 completed pbcnf encode a.
 says a.opb
+completed pbcnf-solve a.
+says a.opb
+completed pbcnf-hints a.
+says a.opb
+completed pbcnf-solve a.opb --at
+says --at-most= --at-most-minus=
+completed pbcnf-cheapest a.opb --card t
+says totalizer

@@ -5,8 +5,6 @@ library=$top/library
 own=$top/tests/library
 
 expect 2 "$library/build" a b
-expect 2 "$library/install" --help
-expect 2 "$library/install" a b
 absent a b
 
 if [ ! -f "$linked/libpbcnf.a" ] || [ ! -f "$linked/libpbcnf.so.0" ]; then
@@ -45,34 +43,47 @@ try_rust() {
     expect 0 env PBCNF_LIB_DIR="$linked" CARGO_TARGET_DIR="$PWD/target" cargo test -q --offline --manifest-path crate/Cargo.toml
 }
 
-# What is installed is found by pkg-config, linked both ways, and taken away again.
+# What the repository's own ./install puts is found by Python and by pkg-config, and linked both ways.
 try_install() {
-    local prefix=$PWD/'a place'
-    expect 0 "$library/install" "$prefix"
+    local prefix=$PWD/'a place' flags
+    installs "$prefix" || return
     same "$library/pbcnf.h" "$prefix/include/pbcnf.h"
-    same "$linked/libpbcnf.a" "$prefix/lib/libpbcnf.a"
-    same "$linked/libpbcnf.so.0" "$prefix/lib/libpbcnf.so.0" "$prefix/lib/libpbcnf.so"
+    same "$prefix/lib/libpbcnf.so.0" "$prefix/lib/libpbcnf.so"
     if [ -n "$python" ]; then
-        expect 0 env -u PBCNF_LIBRARY -u PYTHONPATH $python -c \
-            'import sys; sys.path.insert(0, sys.argv[1]); import pbcnf; print(pbcnf.encode("+1 x1 >= 1 ;").clauses)' "$prefix/share/pbcnf"
-        says '[[1]]'
+        expect 0 env -u PBCNF_LIBRARY PYTHONPATH="$prefix/share/pbcnf" $python -c \
+            'import pbcnf; print(pbcnf.__version__, pbcnf.encode("+1 x1 >= 1 ;").clauses)
+print(*sorted({line.split(maxsplit=5)[5] for line in open("/proc/self/maps") if "libpbcnf" in line}), end="")'
+        says "$(cat "$top/VERSION") [[1]]" "$prefix/lib/libpbcnf.so.0"
     fi
-    expect 0 "$library/install" "$PWD/plain"
-    if has pkg-config; then
-        expect 0 env PKG_CONFIG_PATH="$PWD/plain/lib/pkgconfig" pkg-config --cflags --libs pbcnf
-        # Some print a blank at the end.
-        sed -i 's/ *$//' "$said"
-        says "-I$PWD/plain/include -L$PWD/plain/lib -lpbcnf"
-        expect 0 env PKG_CONFIG_PATH="$PWD/plain/lib/pkgconfig" pkg-config --modversion pbcnf
-        holds "$said" "$(sed -n 's/^## \([0-9][0-9.]*\)$/\1/p' "$top/CHANGELOG.md" | head -n 1)"
-    else
+    if ! has pkg-config; then
         skip 'there is no pkg-config'
+        return
     fi
-    for place in "$prefix" "$PWD/plain"; do
-        expect 0 "$library/install" --remove "$place"
-        expect 0 find "$place" ! -type d
-        says
-    done
+    export PKG_CONFIG_PATH="$prefix/lib/pkgconfig"
+    expect 0 pkg-config --modversion pbcnf
+    same "$top/VERSION" "$said"
+    expect 0 pkg-config --cflags --libs pbcnf
+    # Blanks in names are written as the shell reads them.
+    eval "flags=($(cat "$said"))"
+    text "$state/due" "-I$prefix/include" "-L$prefix/lib" -lpbcnf
+    printf '%s\n' "${flags[@]}" >"$said"
+    same "$state/due" "$said"
+    [ -z "$compiler" ] || try_links "$prefix" "${flags[@]}"
+}
+
+# try_links PREFIX FLAG..: a program in C over the header, with the shared library and with the archive.
+try_links() {
+    local prefix=$1
+    shift
+    text one.c '#include <pbcnf.h>' '#include <stdio.h>' 'int main(void) {' '  pbcnf_refusal none = {0};' '  uint8_t said[8];' \
+        '  uint64_t length = 1;' '  uint8_t status = pbcnf_words(&none, said, sizeof said, &length);' \
+        '  printf("%s %d %d\n", PBCNF_VERSION, status, (int)length);' '}'
+    expect 0 "$compiler" one.c "$@" -o shared
+    expect 0 env LD_LIBRARY_PATH="$prefix/lib" ./shared
+    says "$(cat "$top/VERSION") 0 0"
+    expect 0 "$compiler" one.c "$1" "$prefix/lib/libpbcnf.a" -o alone
+    expect 0 ./alone
+    says "$(cat "$top/VERSION") 0 0"
 }
 
 # solves CMD..: the example solves OPB files.
