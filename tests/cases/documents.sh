@@ -12,16 +12,16 @@ missing() {
         has $tool && continue
         grep -Eq "(^|[|=] ?|for )$tool( |\$)" "$1" && printf '%s ' $tool
     done
-    if grep -q 'examples/cheapest' "$1" && ! has cadical; then printf 'cadical '; fi
-    if grep -q 'examples/solve' "$1"; then
+    if grep -Eq '(examples/|pbcnf-)cheapest' "$1" && ! has cadical; then printf 'cadical '; fi
+    if grep -Eq '(examples/|pbcnf-)solve' "$1"; then
         for tool in $solvers; do
             has $tool && any=$tool
         done
         [ -n "$any" ] || printf 'solver '
     fi
     # The programs of docs/LIBRARY.md are named so.
-    if grep -Eq '(^|[ /])first[./]' "$1"; then
-        [ -f page/local/lib/libpbcnf.a ] || printf 'library '
+    if grep -Eq '/page/local/|(^|[ /])first[./]' "$1"; then
+        [ -f page/local/lib/libpbcnf.a ] || printf 'built library '
         ! grep -q venv "$1" || python3 -c 'import ensurepip, venv' 2>"$state/venv" || printf 'venv of python3 '
         for tool in c++ cargo python3; do
             has $tool || ! grep -Fq "$tool " "$1" || printf '%s ' $tool
@@ -30,7 +30,7 @@ missing() {
 }
 
 # What a page has installed below ~/.local is put into a folder of its own.
-install_library() {
+install_all() {
     local block
     installs "$PWD/page/local"
     ln -s "$top/library" page/library
@@ -84,7 +84,7 @@ run_page() {
     ln -s "$pbcnf" page/pbcnf
     awk -v to=blocks -f "$top/tests/blocks.awk" "$1"
     [ ! -d blocks/files ] || cp -R blocks/files/. page
-    if grep -q '~/.local/lib' "$1"; then install_library; fi
+    if grep -q '~/\.local/' "$1"; then install_all; fi
     while [ -e blocks/$block.sh ]; do
         lacks=$(missing blocks/$block.sh)
         if [ -n "$lacks" ]; then
