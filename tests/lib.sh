@@ -190,3 +190,19 @@ leave_root() {
 as_user() {
     "${unprivileged[@]}" "$PWD/program" "$@"
 }
+
+# Fills the folder bin with all tools that are on the path, but these.
+link_tools_but() {
+    local folder folders
+    mkdir bin
+    IFS=: read -ra folders <<<"$PATH"
+    for folder in "${folders[@]}"; do
+        [ ! -d "$folder" ] || find "$folder/" -maxdepth 1 \( -type f -o -type l \) -exec ln -s -t bin -- {} + 2>"$state/ln"
+    done
+    (cd bin && rm -f -- "$@")
+}
+
+# told_of WORD: the last command has a line with this word on standard error.
+told_of() {
+    if grep -q -- "$1" "$told"; then passed; else failed "$last: wanted a line with $1, got $(bytes_of "$told")"; fi
+}

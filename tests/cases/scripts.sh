@@ -21,12 +21,7 @@ expect 2 examples/hints kept
 says
 
 # Without a solver, by the tools that there are but those.
-mkdir bin
-IFS=: read -ra folders <<<"$PATH"
-for folder in "${folders[@]}"; do
-    [ ! -d "$folder" ] || find "$folder/" -maxdepth 1 \( -type f -o -type l \) -exec ln -s -t bin -- {} + 2>"$state/ln"
-done
-rm -f bin/{cadical,kissat,cryptominisat5,clasp,picosat,glucose,minisat}
+link_tools_but cadical kissat cryptominisat5 clasp picosat glucose minisat
 bare() {
     PATH=$PWD/bin "$@"
 }

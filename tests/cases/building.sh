@@ -1,0 +1,199 @@
+# The command ./build: its words, its plan, and how it builds, over a kit whose prover proves nothing (tests/building/kit). Crates are
+# built after those that they use, what was built stays, and no stamp is left where a crate was not proved.
+. "$top/tests/lib.sh"
+
+needs python3 readlink sleep
+link_tools_but rt
+copy="$PWD/a copy"
+kit=$PWD/kit
+release=$copy/release/$(python3 -c 'import platform, sys; print(platform.machine() + "-" + sys.platform)')
+
+# build WORD..: the copy's, with the kit. bare: without one.
+build() {
+    PATH=$kit/bin:$PWD/bin "$copy/build" "$@"
+}
+bare() {
+    PATH=$PWD/bin "$@"
+}
+
+# source CRATE WORD..: what a crate of the copy is made of.
+source_is() {
+    mkdir -p "$copy/crates/$1/src"
+    case $1 in
+    pbcnf) text "$copy/crates/$1/src/main.rt" "$2" ;;
+    *) text "$copy/crates/$1/src/lib.rt" "$2" ;;
+    esac
+}
+
+# noted LINE..: what the prover did since the last look.
+noted() {
+    is "$kit/log" 'what the prover did' "$@"
+    : >"$kit/log"
+}
+
+# proved CRATE ..: it has built just these since the last look, in any order, each after those that it uses.
+proved() {
+    local got
+    got=$(sed -n 's/^end //p' "$kit/log" | sort | tr '\n' ' ')
+    if [ "$got" = "$* " ] && ! grep -q early "$kit/log"; then passed; else failed "$last: wanted $*, got $(bytes_of "$kit/log")"; fi
+    : >"$kit/log"
+}
+
+# Its words.
+expect 0 bare "$top/build" --help
+tells
+for word in --statements encode --jobs=0 --jobs=x --memory=0 '--release --program'; do
+    # shellcheck disable=SC2086
+    expect 2 bare "$top/build" $word
+    says
+done
+
+# The plan of the crates here: each is in it, once, and begins when those that it uses have ended.
+ordered() {
+    awk '
+        FNR == NR { sub(/#.*/, ""); name = $1; sub(/:.*/, "", name); sub(/^[^:]*:?/, ""); uses[name] = $0; next }
+        / to / && $4 in uses { if ($4 in begins) exit 1; begins[$4] = $1; ends[$4] = $3; planned++ }
+        $2 == "crates," { told = $1 }
+        END {
+            for (name in begins) {
+                n = split(uses[name], used, " ")
+                for (i = 1; i <= n; i++) if (used[i] in uses && !(used[i] in ends && ends[used[i]] <= begins[name])) exit 1
+            }
+            exit planned < 2 || told != planned
+        }' "$top/crates.txt" "$said"
+}
+for words in '' --program '--jobs 1' '--jobs 2 --memory 3' '--jobs 64 --memory 500'; do
+    # shellcheck disable=SC2086
+    expect 0 bare "$top/build" --plan $words
+    if ordered; then passed; else failed "$last: a crate comes before one that it uses: $(bytes_of "$said")"; fi
+done
+
+# No rt, or one of no kit.
+expect 70 bare "$top/build" --program
+told_of 'rt, which proves and builds, is not on the path'
+text other '#!/bin/sh' 'exit 1'
+chmod 755 other
+mkdir another && mv other another/rt
+of_no_kit() {
+    PATH=$PWD/another:$PWD/bin "$top/build" --program
+}
+expect 70 of_no_kit
+told_of 'no kit'
+
+# A copy with five crates.
+cp -R "$top/tests/building/kit" "$kit"
+: >"$kit/log"
+mkdir -p "$copy/docs/tools" "$copy/library" "$copy/release"
+cp "$top/build" "$copy"
+cp "$top"/docs/tools/*.py "$copy/docs/tools"
+text "$copy/crates.txt" 'pb_low:' 'pb_left: pb_low' 'pb_right: pb_low' 'pbcnf: pb_left pb_right' 'pbcnf_c staticlib: pb_left' 'pb_test: pb_low'
+for crate in pb_low pb_left pb_right pbcnf pbcnf_c pb_test; do
+    source_is $crate "// $crate"
+done
+program=$copy/crates/pbcnf/out/pbcnf
+text "$copy/library/build" '#!/bin/sh' 'mkdir -p library/out && echo a >library/out/libpbcnf.a && echo so >library/out/libpbcnf.so.0'
+text "$copy/release/take" '#!/bin/sh' 'echo taken'
+text "$copy/release/sources" '#!/bin/sh' 'echo these'
+chmod 755 "$copy/library/build" "$copy/release/take" "$copy/release/sources"
+
+# All is built, and nothing twice.
+expect 0 build --program --jobs 3
+says
+proved pb_left pb_low pb_right pbcnf
+holds "$program" '// pbcnf'
+told_of '^build: 4 of 4 crates to prove: about a minute on 3 processors'
+told_of '^build: proved pbcnf in . s: 4 of 4 crates, 100 % of the work$'
+expect 0 build
+proved pbcnf_c
+told_of '^build: the program: there is none in release/'
+expect 0 build
+noted
+source_is pb_right '// pb_right, otherwise'
+expect 0 build
+proved pb_right pbcnf
+expect 0 build --release
+says taken
+noted
+
+# What it has beside the release.
+mkdir -p "$release"
+cp "$program" "$copy"/library/out/* "$release"
+text "$release/BUILT" 'kit a kit of the tests' 'sources these'
+expect 0 build
+told_of '^build: the program has the bytes of release/$'
+told_of '^build: the C library has the bytes of release/$'
+text "$release/pbcnf" 'another'
+expect 0 build
+told_of '^build: the program has not the bytes of release/, though'
+told_of '^build: the C library has the bytes of release/$'
+text "$release/BUILT" 'kit another one' 'sources these'
+expect 0 build
+told_of '^build: the program has not the bytes of release/, which was built by another kit, another one$'
+text "$release/BUILT" 'kit a kit of the tests' 'sources those'
+expect 0 build
+told_of '^build: the program has not the bytes of release/, which was built of other sources$'
+text "$copy/library/build" '#!/bin/sh' 'echo there is no cc' 'exit 69'
+expect 0 build
+told_of '^build: the C library is not linked: there is no cc$'
+expect 70 build --release
+text "$copy/library/build" '#!/bin/sh' 'echo a fault' 'exit 70'
+expect 70 build
+told_of '^build: the C library is not linked: a fault$'
+
+# A crate that is not proved: it is named, nothing above it is begun, and it has no stamp.
+source_is pb_left '// wrong'
+: >"$kit/log"
+expect 70 build --program
+told_of '^build: pb_left is not proved and built; crates/pb_left/out/build.log says why$'
+noted 'begin pb_left'
+absent "$copy/crates/pb_left/out/rlib/stamp"
+source_is pb_left '// right'
+expect 0 build --program
+proved pb_left pbcnf
+
+# A source that changes while it is built.
+changes() {
+    text "$kit/bin/rattle.new" '#!/bin/sh' "echo '// changed' >>'$copy/crates/pb_low/src/lib.rt'" "exec '$kit/bin/rattle.old' \"\$@\""
+    chmod 755 "$kit/bin/rattle.new"
+    mv "$kit/bin/rattle" "$kit/bin/rattle.old" && mv "$kit/bin/rattle.new" "$kit/bin/rattle"
+    build --program
+    local status=$?
+    mv "$kit/bin/rattle.old" "$kit/bin/rattle"
+    return $status
+}
+source_is pb_right '// pb_right, once more'
+expect 70 changes
+told_of 'changed while it was built'
+absent "$copy/crates/pb_right/out/rlib/stamp"
+expect 0 build --program
+
+# One that is ended ends what it began, and leaves no stamp; another one waits for it.
+source_is pb_left '// long'
+: >"$kit/log"
+build --program 2>first &
+first=$!
+for _ in 1 2 3 4 5 6 7 8 9 10; do
+    grep -q 'begin pb_left' "$kit/log" || sleep 0.5
+done
+build --program 2>second &
+second=$!
+for _ in 1 2 3 4 5 6 7 8 9 10; do
+    grep -q waiting second || sleep 0.5
+done
+last='two builds at once'
+holds second 'build: waiting for another build to end'
+noted 'begin pb_left'
+source_is pb_left '// short'
+kill -TERM $first
+wait $first
+expect 0 test $? -eq 143
+absent "$copy/crates/pb_left/out/rlib/stamp"
+wait $second
+expect 0 test $? -eq 0
+proved pb_left pbcnf
+
+# What crates took that were built from nothing can be kept for the next plan; the one with work kept is not among them.
+rm -r "$copy/crates/pb_low/out"
+expect 0 build --program --measure
+if grep -q '^"pb_low": \[0, 0.0\]' "$copy/docs/tools/crate_seconds.json"; then passed; else failed "$last: pb_low is not in the table"; fi
+if grep -q pbcnf "$copy/docs/tools/crate_seconds.json"; then failed "$last: pbcnf is in the table"; else passed; fi
