@@ -1,45 +1,68 @@
-# The launcher ./pbcnf: it hands over to the program, with its words, streams and status, and builds it first where it is not
-# there or older than a source; where it cannot, that is status 70.
+# The launcher ./pbcnf: it hands over to the program of release/, or to the one that was built here, with its words, streams and
+# status, and builds one where neither is of the sources that are there; where it cannot, that is status 70.
 . "$top/tests/lib.sh"
 
-needs readlink find awk
+needs readlink find awk sha256sum
 copy="$PWD/a copy"
-program=$copy/crates/pbcnf/out/pbcnf
-mkdir -p "$copy/crates/pbcnf/out" "$copy/crates/pbcnf/src" bin
-cp "$top/pbcnf" "$copy"
-text "$copy/crates.txt" 'pbcnf:'
-text "$copy/crates/pbcnf/src/main.rt" '// A source.'
-touch -d '2020-01-01' "$copy/crates/pbcnf/src/main.rt" "$copy/crates/pbcnf/src" "$copy/crates.txt"
+built=crates/pbcnf/out/pbcnf
+source=$copy/crates/pbcnf/src/main.rt
+mark=$copy/crates/pbcnf/out/tested
+platform=$(uname -m)-$(uname -s | tr '[:upper:]' '[:lower:]')
+released=release/$platform
+link_tools_but rt
 
-# All tools that are on the path, but no rt.
-IFS=: read -ra folders <<<"$PATH"
-for folder in "${folders[@]}"; do
-    [ ! -d "$folder" ] || find "$folder/" -maxdepth 1 \( -type f -o -type l \) -exec ln -s -t bin -- {} + 2>"$state/ln"
-done
-rm -f bin/rt
-
-# launch WORD..: the copy's launcher.
+# launch WORD..: the copy's launcher, where there is no rt.
 launch() {
     PATH=$PWD/bin "$copy/pbcnf" "$@"
 }
 
+# The program runs, and nothing else is told.
+runs() {
+    expect 0 launch bench 1 0
+    clauses_alone 11 1
+    tells
+}
+
+# put_program FOLDER/NAME: a program that says what it is, below the copy. The real one is the last that is put.
 put_program() {
-    cp "$pbcnf" "$program"
-    chmod 755 "$program"
+    mkdir -p "$copy/${1%/*}"
+    text "$copy/$1" '#!/bin/sh' "[ \$# -gt 0 ] || exit 2" "echo $1"
+    chmod 755 "$copy/$1"
 }
 
-# told_of WORD: the launcher says on standard error what is amiss.
-told_of() {
-    if grep -q -- "$1" "$told"; then passed; else failed "$last: wanted a line with $1, got $(bytes_of "$told")"; fi
+# put_page: what release/ has is of the sources that are there.
+put_page() {
+    text "$copy/$released/BUILT" 'version 0.0.0' "sources $("$copy/release/sources")" "$(cd "$copy/$released" && sha256sum pbcnf)"
 }
 
-# It is there.
-put_program
-needs_to_run "$program"
-expect 0 launch bench 1 0
-clauses_alone 11 1
-tells
+# put_real NAME: the program that is tested.
+put_real() {
+    cp "$pbcnf" "$copy/$1"
+    chmod 755 "$copy/$1"
+}
+
+mkdir -p "$copy/crates/pbcnf/src" "$copy/crates/pbcnf_c/src" "$copy/crates/pb_words" "$copy/release"
+cp "$top/pbcnf" "$copy"
+cp "$top/release/crates" "$top/release/lib.sh" "$top/release/sources" "$copy/release"
+cp -R "$top/crates/pb_words/src" "$copy/crates/pb_words"
+text "$copy/crates.txt" 'pb_words:' 'pbcnf: pb_words' 'pbcnf_c staticlib:'
+text "$source" '// A source.'
+text "$copy/crates/pbcnf_c/src/lib.rt" '// Another.'
+
+# That of release/, where its sources are those here.
+put_program "$released/pbcnf"
+put_real "$released/pbcnf"
+needs_to_run "$copy/$released/pbcnf"
+put_page
+runs
+holds_first() {
+    is <(head -n 1 "$mark") 'the mark' "$1"
+}
+holds_first "$released/pbcnf"
+runs
 expect 2 launch
+tells 'pbcnf: usage: encode, check, decode, probe or bench'
+expect 2 launch --help
 tells 'pbcnf: usage: encode, check, decode, probe or bench'
 printf '+1 x1 >= 1' >'two words.opb'
 expect 1 launch encode 'two words.opb' o.cnf
@@ -55,6 +78,11 @@ linked() {
 }
 expect 0 linked
 clauses_alone 11 1
+inside() {
+    (cd "$copy" && PATH=$work/$subject/bin sh pbcnf bench 1 0)
+}
+expect 0 inside
+clauses_alone 11 1
 
 # Its standard streams, where they are closed, are the program's.
 fine bench 10 7 whole.cnf
@@ -65,34 +93,145 @@ without_any() {
     launch "$@" <&- >&- 2>&-
 }
 for way in without_output without_any; do
-    expect 5 $way bench 10 7 o.cnf
-    same whole.cnf o.cnf
-    rm -f o.cnf
+    for is_marked in 1 ''; do
+        [ "$is_marked" ] || rm -f "$mark"
+        expect 5 $way bench 10 7 o.cnf
+        same whole.cnf o.cnf
+        rm -f o.cnf
+    done
 done
 
-# It is not, or a source is newer, and nothing builds it.
-rm "$program"
-expect 70 launch bench 1 0
-says
-told_of rt
-absent "$program"
-put_program
-touch -d '2020-01-02' "$program"
-touch -d '2020-01-03' "$copy/crates/pbcnf/src/main.rt"
-expect 70 launch bench 1 0
-says
-text bin/rt '#!/bin/sh' 'echo no' 'exit 1'
-chmod 755 bin/rt
-rm -f "$program"
-expect 70 launch bench 1 0
-says
-told_of failed
-absent "$program"
+# A call that finds the mark reads no source, and one that cannot write it down reads them all.
+runs
+chmod 000 "$source"
+runs
+chmod 644 "$source"
+if [ "$(id -u)" -ne 0 ]; then
+    rm -f "$mark"
+    chmod 555 "$copy/crates/pbcnf/out"
+    runs
+    runs
+    absent "$mark"
+    chmod 755 "$copy/crates/pbcnf/out"
+fi
+rm -r "$copy/crates/pbcnf/out"
+text "$copy/crates/pbcnf/out" 'no folder'
+runs
+runs
+holds "$copy/crates/pbcnf/out" 'no folder'
+rm "$copy/crates/pbcnf/out"
 
-# An rt that makes the program: it is built, and takes over.
-printf '#!/bin/sh\ncp "%s" "%s"\n' "$pbcnf" "$program" >bin/rt
+# A proof changes no program.
+mkdir "$copy/crates/pbcnf/proofs"
+runs
+rmdir "$copy/crates/pbcnf/proofs"
+
+# A source that changed, of whatever time, is seen, in whichever way it changed; and one that changed back.
+refused() {
+    expect 70 launch bench 1 0
+    says
+    told_of "$1"
+    told_of 'rt, which builds one, is not on the path'
+}
+runs
+printf '// A sourcf.\n' >"$source"
+touch -d '2020-01-01' "$source"
+refused 'is of other sources'
+printf '// A source.\n' >"$source"
+runs
+: >"$copy/crates/pbcnf_c/src/more.rt"
+refused 'is of other sources'
+rm "$copy/crates/pbcnf_c/src/more.rt"
+runs
+mv "$copy/crates/pbcnf_c/src/lib.rt" "$copy/crates/pbcnf_c/src/other.rt"
+refused 'is of other sources'
+mv "$copy/crates/pbcnf_c/src/other.rt" "$copy/crates/pbcnf_c/src/lib.rt"
+runs
+printf '\n' >>"$copy/crates.txt"
+refused 'is of other sources'
+text "$copy/crates.txt" 'pb_words:' 'pbcnf: pb_words' 'pbcnf_c staticlib:'
+runs
+
+# A program of release/ with other bytes than its page says, one that does not run, and none.
+printf 'x' >>"$copy/$released/pbcnf"
+refused 'does not run here'
+text "$copy/$released/pbcnf" 'no program'
+put_page
+refused 'does not run here'
+rm "$copy/$released/pbcnf"
+refused "no program for $platform"
+
+# Words that no program would take are answered without one.
+for words in '' --help -h help 'encode --help' encode constrain 'constrain a b' '.* a b'; do
+    set -f
+    # shellcheck disable=SC2086
+    expect 2 launch $words
+    set +f
+    says
+    tells 'pbcnf: usage: encode, check, decode, probe or bench'
+done
+for command in encode check decode probe bench refute map wcnf; do
+    expect 70 launch "$command" a b
+done
+
+# The one that was built here, under a stamp that is newer than all sources; else the one of release/ is told of.
+put_program "$built"
+expect 70 launch bench 1 0
+: >"$copy/$built.stamp"
+expect 0 launch bench 1 0
+says "$built"
+tells
+expect 0 launch bench 1 0
+says "$built"
+holds_first "$built"
+printf 'x' >>"$copy/crates/pbcnf_c/src/lib.rt"
+expect 0 launch bench 1 0
+says "$built"
+printf 'x' >>"$source"
+refused 'none that is as new was built here'
+: >"$copy/$built.stamp"
+expect 0 launch bench 1 0
+says "$built"
+printf 'x' >>"$copy/$built"
+expect 70 launch bench 1 0
+put_program "$released/pbcnf"
+put_page
+expect 0 launch bench 1 0
+says "$released/pbcnf"
+
+# One is built where there is rt: it takes over. Where that fails, or makes none, the status is 70.
+rm "$copy/$released/BUILT" "$copy/$built"
+text bin/rt '#!/bin/sh' 'exit 1'
+chmod 755 bin/rt
+builds() {
+    text "$copy/build" '#!/bin/sh' 'echo said' "echo \"\$*\" >'$PWD/asked'" "$@"
+    chmod 755 "$copy/build"
+}
+builds 'exit 70'
+expect 70 launch bench 1 0
+says
+told_of 'the build failed'
+told_of 'half an hour'
+holds asked '--program'
+builds 'exit 0'
+expect 70 launch bench 1 0
+told_of 'the build made no program'
+builds "cp '$pbcnf' '$copy/$built'" ": >'$copy/$built.stamp'"
 expect 0 launch bench 1 0
 clauses_alone 11 1
-told_of built
-expect 0 launch bench 1 0
-tells
+told_of 'half an hour'
+runs
+
+# A build that is ended ends the launcher, which ends it.
+rm "$copy/$built"
+builds "echo \$\$ >'$PWD/number'" 'exec sleep 20'
+rm -f number
+PATH=$PWD/bin "$copy/pbcnf" bench 1 0 2>"$told" &
+launcher=$!
+for _ in 1 2 3 4 5 6 7 8 9 10 11 12; do
+    [ -s number ] || sleep 0.2
+done
+kill -TERM $launcher
+wait $launcher
+expect 0 test $? -eq 143
+expect 1 kill -0 "$(cat number)"
