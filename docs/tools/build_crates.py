@@ -18,6 +18,8 @@ import time
 
 from build_plan import Progress, Run, processor_seconds
 
+# What is taken of the kit's library.
+TAKEN = ("KIT", "RATTLE", "KEPT", "crates_below", "files_of", "guarded", "lock", "sum_of", "text_of")
 # How rt links a program.
 TARGET = "x86_64-unknown-linux-gnu"
 
@@ -40,6 +42,9 @@ def load_kit():
     kit = importlib.util.module_from_spec(importlib.util.spec_from_loader("rtlib", loader))
     sys.modules["rtlib"] = kit
     loader.exec_module(kit)
+    for name in TAKEN:
+        if not hasattr(kit, name):
+            raise Refused("%s has no %s, which the build takes: this kit is another than it knows" % (file, name))
     return kit
 
 

@@ -79,6 +79,15 @@ of_no_kit() {
 }
 expect 70 of_no_kit
 told_of 'no kit'
+of_another_kit() {
+    mkdir -p other/bin
+    text other/bin/rt '#!/bin/sh' "echo '$PWD/other/START-HERE.md'"
+    chmod 755 other/bin/rt
+    grep -v '^KEPT' "$top/tests/building/kit/bin/rtlib.py" >other/bin/rtlib.py
+    PATH=$PWD/other/bin:$PWD/bin "$top/build" --program
+}
+expect 70 of_another_kit
+told_of 'has no KEPT'
 
 # A copy with five crates.
 cp -R "$top/tests/building/kit" "$kit"
@@ -170,7 +179,7 @@ expect 0 build --program
 # One that is ended ends what it began, and leaves no stamp; another one waits for it.
 source_is pb_left '// long'
 : >"$kit/log"
-build --program 2>first &
+PATH=$kit/bin:$PWD/bin "$copy/build" --program 2>first &
 first=$!
 for _ in 1 2 3 4 5 6 7 8 9 10; do
     grep -q 'begin pb_left' "$kit/log" || sleep 0.5
@@ -185,6 +194,10 @@ holds second 'build: waiting for another build to end'
 noted 'begin pb_left'
 source_is pb_left '// short'
 kill -TERM $first
+for _ in 1 2 3 4 5 6 7 8 9 10; do
+    ! kill -0 "$(cat "$kit/process")" 2>"$told" || sleep 0.5
+done
+expect 1 kill -0 "$(cat "$kit/process")"
 wait $first
 expect 0 test $? -eq 143
 absent "$copy/crates/pb_left/out/rlib/stamp"
