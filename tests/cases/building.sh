@@ -207,6 +207,7 @@ proved pb_left pbcnf
 
 # What crates took that were built from nothing can be kept for the next plan; the one with work kept is not among them.
 rm -r "$copy/crates/pb_low/out"
+source_is pb_right '// pb_right, at last'
 expect 0 build --program --measure
 if grep -q '^"pb_low": \[0, 0.0\]' "$copy/docs/tools/crate_seconds.json"; then passed; else failed "$last: pb_low is not in the table"; fi
 if grep -q pbcnf "$copy/docs/tools/crate_seconds.json"; then failed "$last: pbcnf is in the table"; else passed; fi
