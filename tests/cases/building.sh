@@ -48,24 +48,16 @@ for word in --statements encode --jobs=0 --jobs=x --memory=0 '--release --progra
     says
 done
 
-# The plan of the crates here: each is in it, once, and begins when those that it uses have ended.
-ordered() {
-    awk '
-        FNR == NR { sub(/#.*/, ""); name = $1; sub(/:.*/, "", name); sub(/^[^:]*:?/, ""); uses[name] = $0; next }
-        / to / && $4 in uses { if ($4 in begins) exit 1; begins[$4] = $1; ends[$4] = $3; planned++ }
-        $2 == "crates," { told = $1 }
-        END {
-            for (name in begins) {
-                n = split(uses[name], used, " ")
-                for (i = 1; i <= n; i++) if (used[i] in uses && !(used[i] in ends && ends[used[i]] <= begins[name])) exit 1
-            }
-            exit planned < 2 || told != planned
-        }' "$top/crates.txt" "$said"
-}
-for words in '' --program '--jobs 1' '--jobs 2 --memory 3' '--jobs 64 --memory 500'; do
+# The plan, of all crates that it is for, with none before those that it uses; it asks for no rt.
+expect 0 bare python3 "$top/tests/building/plan.py" "$top"
+says
+for words in '--jobs 2:pbcnf pbcnf_c' '--memory 3 --program:pbcnf'; do
     # shellcheck disable=SC2086
-    expect 0 bare "$top/build" --plan $words
-    if ordered; then passed; else failed "$last: a crate comes before one that it uses: $(bytes_of "$said")"; fi
+    expect 0 bare "$top/build" --plan ${words%:*}
+    # shellcheck disable=SC2086
+    "$top/release/crates" ${words#*:} | cut -d ' ' -f 1 | sort >crates
+    awk '/ to / { print $4 }' "$said" | sort >planned
+    same crates planned
 done
 
 # No rt, or one of no kit.
@@ -157,8 +149,23 @@ told_of '^build: pb_left is not proved and built; crates/pb_left/out/build.log s
 noted 'begin pb_left'
 absent "$copy/crates/pb_left/out/rlib/stamp"
 source_is pb_left '// right'
+source_is pbcnf '// wrong'
+expect 70 build --program
+told_of '^build: pbcnf is not proved and built'
+absent "$program.stamp"
+: >"$kit/log"
+source_is pbcnf '// pbcnf'
 expect 0 build --program
-proved pb_left pbcnf
+proved pbcnf
+
+# Nothing can be written.
+rm -r "$copy/crates/pbcnf/out"
+: >"$copy/crates/pbcnf/out"
+expect 70 build --program
+told_of '^build: .*crates/pbcnf/out'
+rm "$copy/crates/pbcnf/out"
+expect 0 build --program
+: >"$kit/log"
 
 # A source that changes while it is built.
 changes() {
@@ -176,31 +183,40 @@ told_of 'changed while it was built'
 absent "$copy/crates/pb_right/out/rlib/stamp"
 expect 0 build --program
 
-# One that is ended ends what it began, and leaves no stamp; another one waits for it.
+# begin FILE: a build that takes long begins, and tells what it tells in the file; $begun is its process.
+begin() {
+    : >"$kit/log"
+    PATH=$kit/bin:$PWD/bin "$copy/build" --program 2>"$1" &
+    begun=$!
+    wait_for 'begin pb_left' "$kit/log"
+}
+wait_for() {
+    local turn
+    for turn in {1..50}; do
+        grep -q "$1" "$2" || sleep 0.1
+    done
+}
+
+# One that is ended ends what it began, and leaves no stamp.
 source_is pb_left '// long'
-: >"$kit/log"
-PATH=$kit/bin:$PWD/bin "$copy/build" --program 2>first &
-first=$!
-for _ in 1 2 3 4 5 6 7 8 9 10; do
-    grep -q 'begin pb_left' "$kit/log" || sleep 0.5
-done
-build --program 2>second &
+begin first
+kill -TERM $begun
+wait $begun
+expect 0 test $? -eq 143
+noted 'begin pb_left'
+expect 1 kill -0 "$(cat "$kit/process")"
+absent "$copy/crates/pb_left/out/rlib/stamp"
+
+# Another one waits for it.
+begin first
+PATH=$kit/bin:$PWD/bin "$copy/build" --program 2>second &
 second=$!
-for _ in 1 2 3 4 5 6 7 8 9 10; do
-    grep -q waiting second || sleep 0.5
-done
+wait_for waiting second
 last='two builds at once'
 holds second 'build: waiting for another build to end'
 noted 'begin pb_left'
 source_is pb_left '// short'
-kill -TERM $first
-for _ in 1 2 3 4 5 6 7 8 9 10; do
-    ! kill -0 "$(cat "$kit/process")" 2>"$told" || sleep 0.5
-done
-expect 1 kill -0 "$(cat "$kit/process")"
-wait $first
-expect 0 test $? -eq 143
-absent "$copy/crates/pb_left/out/rlib/stamp"
+kill -TERM $begun
 wait $second
 expect 0 test $? -eq 0
 proved pb_left pbcnf
