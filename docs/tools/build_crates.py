@@ -80,6 +80,10 @@ class Stamps:
             self.known[crate.name] = made.hexdigest()
         return self.known[crate.name]
 
+    def look_again(self, crate):
+        """Reads the crate once more the next time, as its build begins only now."""
+        self.known.pop(crate.name, None)
+
     def is_changed(self, crate):
         """Whether the crate, or one below it, is another than when its stamp was made."""
         return Stamps(self.kit).of(crate) != self.of(crate)
@@ -124,6 +128,8 @@ class Workshop:
     def begin(self, crate, jobs):
         """Begins the build of a crate, without a stamp, and returns its process."""
         os.makedirs("%s/out" % crate.folder, exist_ok=True)
+        self.stamps.look_again(crate)
+        self.stamps.of(crate)
         if crate.makes_rlib():
             shutil.rmtree("%s/out/rlib" % crate.folder, ignore_errors=True)
             os.makedirs("%s/out/rlib" % crate.folder)

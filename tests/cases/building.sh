@@ -167,9 +167,10 @@ rm "$copy/crates/pbcnf/out"
 expect 0 build --program
 : >"$kit/log"
 
-# A source that changes while it is built.
+# A source that changes while it is built; one that changes before its own build begins is built as it is then.
+# changes CRATE FILE: while another crate is built, or it is itself, this source of it changes.
 changes() {
-    text "$kit/bin/rattle.new" '#!/bin/sh' "echo '// changed' >>'$copy/crates/pb_low/src/lib.rt'" "exec '$kit/bin/rattle.old' \"\$@\""
+    text "$kit/bin/rattle.new" '#!/bin/sh' "echo '// changed' >>'$copy/crates/$1/src/$2.rt'" "exec '$kit/bin/rattle.old' \"\$@\""
     chmod 755 "$kit/bin/rattle.new"
     mv "$kit/bin/rattle" "$kit/bin/rattle.old" && mv "$kit/bin/rattle.new" "$kit/bin/rattle"
     build --program
@@ -178,10 +179,16 @@ changes() {
     return $status
 }
 source_is pb_right '// pb_right, once more'
-expect 70 changes
+expect 70 changes pb_low lib
 told_of 'changed while it was built'
 absent "$copy/crates/pb_right/out/rlib/stamp"
 expect 0 build --program
+source_is pb_low '// pb_low, once more'
+expect 70 changes pbcnf main
+told_of 'pbcnf, or of a crate below it, changed'
+: >"$kit/log"
+expect 0 build --program
+proved pbcnf
 
 # begin FILE: a build that takes long begins, and tells what it tells in the file; $begun is its process.
 begin() {
