@@ -1,4 +1,4 @@
-"""As much of rt's library as ./build takes, over a prover that proves nothing."""
+"""As much of rt's library as ./build and tests/quick take, over a prover that proves nothing."""
 
 import hashlib
 import os
@@ -41,6 +41,9 @@ class Crate:
         self.name, self.folder, self.deps, self.said = name, folder, deps, {"name": name, "deps": [dep.name for dep in deps]}
         self.is_static, self.is_program = kind == ["staticlib"], os.path.isfile(folder + "/src/main.rt")
         self.rlib = "%s/out/rlib/%s.rlib" % (folder, name)
+
+    def has_tests(self):
+        return any("#[test]" in text_of(file) for file in files_of(self.folder))
 
     def makes_rlib(self):
         return not self.is_static and not self.is_program
