@@ -138,6 +138,24 @@ notes-left t u v ks ls ms all left rest s before is noted placed =
           ∙ before.placed;
     }
 
+-- the same of terms
+pub record TermsNotedLeft (t : Table) (ks : List ℕ) (all : List NamedTerm) (u : Table) (ls : List ℕ) (left : List NamedTerm) : Type 0 where
+  pub noted : noted_all u (names_of left) ≡ noted_all t (names_of all)
+  pub placed : ls ++ places_from u (names_of left) ≡ ks ++ places_from t (names_of all)
+
+-- one term less is left
+pub notes-term_left : (t u v : Table) (ks ls ms : List ℕ) (all left rest : List NamedTerm) (n : NamedTerm) → TermsNotedLeft t ks all u ls left → left ≡ n ∷ rest → v ≡ noted_all u (term_names n) → ms ≡ ls ++ places_from u (term_names n) → TermsNotedLeft t ks all v ms rest
+notes-term_left t u v ks ls ms all left rest n before is noted placed =
+    let more = names_of rest in
+    record {
+      noted = ap (λ (w : Table). noted_all w more) noted ∙ sym (noted_all-append u (term_names n) more) ∙ sym (ap (λ (ns : List NamedTerm). noted_all u (names_of ns)) is) ∙ before.noted;
+      placed = (λ i. placed i ++ places_from (noted i) more)
+          ∙ append_assoc ls (places_from u (term_names n)) (places_from (noted_all u (term_names n)) more)
+          ∙ ap (λ (w : List ℕ). ls ++ w) (sym (places_from-append u (term_names n) more))
+          ∙ sym (ap (λ (ns : List NamedTerm). ls ++ places_from u (names_of ns)) is)
+          ∙ before.placed;
+    }
+
 -- ---- the table of a problem
 
 abbrev empty : ℕ → Table

@@ -7,10 +7,9 @@ ghost use Rattle.pb_named.specs.inner.Kept.{body_terms};
 ghost use Rattle.pb_named.specs.inner.Numbering.{noted_all, places_from};
 
 use crate::named::{NamedLit, NamedProblem, NamedTerm, NamedTerms};
-use crate::statements::{Body, NamedStatements, write_named};
+use crate::statements::{Body, NamedStatements, PlainLeft};
 use crate::table::Table;
 use pb_base::{NoMemory, Seq};
-use std::alloc::Global;
 
 // Notes the names of literals, and their places.
 fn note_lits<'a>(
@@ -56,28 +55,38 @@ fn note_terms<'a>(
     Ok(())
 }
 
+// Notes the names of terms that are read where they are kept, and their places.
+fn note_plain<'a>(
+    table: &mut Table<'a>,
+    places: &mut Seq<u32>,
+    terms: PlainLeft<'_, 'a>,
+) -> Result<(), NoMemory>
+    ensures noted { OnOk result (table.new ≡ noted_all table.old (names_of terms.entry)) }
+    ensures places { OnOk result (places.new ≡ places.old ++ places_from table.old (names_of terms.entry)) }
+{
+    for term in terms {
+        note_term(table, places, &term)?;
+    }
+    Ok(())
+}
+
 // Notes the names of a statement, and their places.
 fn note_body<'a>(
     table: &mut Table<'a>,
     places: &mut Seq<u32>,
     body: Body<'_, 'a>,
-    room: &mut Vec<NamedTerm<'a>>,
 ) -> Result<(), NoMemory>
     ensures noted { OnOk result (table.new ≡ noted_all table.old (names_of (body_terms body.entry))) }
     ensures places { OnOk result (places.new ≡ places.old ++ places_from table.old (names_of (body_terms body.entry))) }
 {
     match body {
-        Body::Plain(terms) => {
-            write_named(terms, room)?;
-            note_terms(table, places, room.as_slice())
-        }
+        Body::Plain(terms) => note_plain(table, places, terms),
         Body::Whole(terms) => note_terms(table, places, terms),
     }
 }
 
 // Notes the names of statements, and their places.
 fn note_statements<'a>(
-    alloc: Global,
     table: &mut Table<'a>,
     places: &mut Seq<u32>,
     statements: &NamedStatements<'a>,
@@ -85,9 +94,8 @@ fn note_statements<'a>(
     ensures noted { OnOk result (table.new ≡ noted_all table.old (flat_map (λ s. names_of s.terms) statements.now)) }
     ensures places { OnOk result (places.new ≡ places.old ++ places_from table.old (flat_map (λ s. names_of s.terms) statements.now)) }
 {
-    let mut room = Vec::new(alloc);
     for next in statements.iter() {
-        note_body(table, places, next.body, &mut room)?;
+        note_body(table, places, next.body)?;
     }
     Ok(())
 }
@@ -104,7 +112,6 @@ pub(crate) fn terms_in<'a, 'b>(objective: &'b Option<NamedTerms<'a>>) -> &'b [Na
 
 // Notes the names of a problem, and their places.
 pub(crate) fn note_problem<'a>(
-    alloc: Global,
     table: &mut Table<'a>,
     places: &mut Seq<u32>,
     problem: &NamedProblem<'a>,
@@ -113,6 +120,6 @@ pub(crate) fn note_problem<'a>(
     ensures places { OnOk result (places.new ≡ places.old ++ places_from table.old (all_names problem.now)) }
 {
     note_terms(table, places, terms_in(&problem.objective))?;
-    note_statements(alloc, table, places, &problem.statements)?;
+    note_statements(table, places, &problem.statements)?;
     Ok(())
 }

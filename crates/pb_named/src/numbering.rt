@@ -228,7 +228,7 @@ fn by_names<'a>(
     ensures many { IsErrOf result HasTooMany → 2 ^ 31 ≤ originals (problem_of table.old.numbered problem.entry) }
 {
     let mut places = Seq::new(alloc);
-    note_problem(alloc, table, &mut places, &problem)?;
+    note_problem(table, &mut places, &problem)?;
     by_table(alloc, table, places.as_slice(), problem)
 }
 
