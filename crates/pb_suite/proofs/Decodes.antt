@@ -1,8 +1,7 @@
--- A command that is to decode a model of the clauses says its solution.
-use Rattle.std.proofs.Common.{◌≡◌, ◌∙◌, ◌∷◌, ◌++◌, ℕ, ℤ, Bool, true, false, cond, List, Option, Some, None, Result, Ok, Err, length, refl, subst, sym}
-use Rattle.std.specs.Prelude.{All, IfSome, nat_lt, ◌^◌}
+-- A command that is to decode a solution says its text.
+use Rattle.std.proofs.Common.{◌≡◌, ◌∙◌, ◌∷◌, ◌++◌, ℕ, ℤ, List, Option, Some, None, Result, Ok, Err, refl, subst, sym}
+use Rattle.std.specs.Prelude.{All, IfSome}
 use Rattle.std.proofs.lemmas.List.Elements.{All-contains, Contains-append_right}
-use Rattle.pb_base.specs.declared.limit.LimitKind.TheVariants.{Text}
 use Rattle.pb_base.specs.declared.problem.Problem.{Problem}
 use Rattle.pb_base.specs.declared.problem.Raw.{Raw}
 use Rattle.pb_base.specs.Literals.{assigned_by, Assignment}
@@ -11,31 +10,25 @@ use Rattle.pb_base.proofs.Members.{Contains-here}
 use Rattle.pb_desk.specs.View.{Told}
 use Rattle.pb_desk.specs.Desk.{DeskState, IfTold}
 use Rattle.pb_desk.proofs.Tells.{in_told}
-use Rattle.pb_base.specs.declared.options.Options.{Options}
-use Rattle.pb_encode.proofs.Solutions.{have_solutions}
 use Rattle.pb_model.specs.declared.decoding.Decoded.TheVariants as decoded
-use Rattle.pb_model.specs.declared.fault.ModelFault.{ModelFault}
-use Rattle.pb_model.specs.declared.fault.ModelFault.TheVariants as fault
 use Rattle.pb_model.specs.declared.model.Model.{Model}
 use Rattle.pb_model.specs.Decoding.{IsDecoded, IsFirstViolated}
-use Rattle.pb_model.specs.ModelLines.{symbols_of}
-use Rattle.pb_model.specs.ModelReading.{told, told_in}
+use Rattle.pb_model.specs.ModelReading.{told}
 use Rattle.pb_model.specs.SolutionText.{solution_text}
-use Rattle.pb_model.proofs.Told.{ok_covers}
 use Rattle.pb_words.specs.DecodeWords.{DecodeWords}
 use Rattle.pb_suite.specs.declared.outcome.Outcome.{Outcome}
 use Rattle.pb_suite.specs.Implementing.{Answers, Implements}
 use Rattle.pb_suite.specs.Implementing.Answers.{done as all_done, refused, read_fault as not_read, write_fault as unwritten, no_memory as wanting}
 use Rattle.pb_suite.specs.Outputs.{only_words, Adds, Output}
-use Rattle.pb_suite.specs.CommandSpec.{Shelf}
+use Rattle.pb_suite.specs.CommandSpec.{CommandSpec, Shelf}
 use Rattle.pb_suite.specs.DecodeSpec.{decode_spec, IsAnswered, StopsDecode}
 use Rattle.pb_suite.specs.DecodeSpec.StopsDecode.{unread, unanswered, no_model, violated}
 use Rattle.pb_suite.specs.Denoted.{IsDenoted, Denotes}
 use Rattle.pb_suite.specs.Refusals.{IsUnread, RefusesModel}
 use Rattle.pb_suite.specs.Refusals.RefusesModel.{token as model_token, limit as model_limit}
-use Rattle.pb_suite.specs.SaidSolutions.{IsDue, IsFrontOfModel, SaidOf, SaysOnly}
+use Rattle.pb_suite.specs.SaidSolutions.{IsDue, SaidOf, SaysOnly}
 use Rattle.pb_suite.specs.SaidSolutions.SaysOnly.{done, read_fault, write_fault, no_memory}
-use Rattle.pb_suite.proofs.DenotedProblems.{denotes_one, denotes_within}
+use Rattle.pb_suite.proofs.DenotedProblems.{denotes_one}
 use Rattle.pb_suite.proofs.Unread.{same_some, unread_posed, unread_read}
 
 -- ---- what texts say is one thing
@@ -59,14 +52,6 @@ same_told shelf w p m n answered other =
 pub model_refuses_none : (vars : ℕ) (text : List ℕ) (m : Model) (answer : Outcome) → told vars text ≡ Ok m → RefusesModel vars text answer → ⊥
 model_refuses_none vars text m _ says (model_token place e first) = not_err (told vars text) m _ says first
 model_refuses_none vars text m _ says (model_limit place which first) = not_err (told vars text) m _ says first
-
--- a model has a value for each variable
-values_cover : (vars : ℕ) (text : List ℕ) (m : Model) → told vars text ≡ Ok m → length m.values ≡ vars
-values_cover vars text m says = by_length (nat_lt (2 ^ 32) (length text)) says
-  where
-    by_length : (long : Bool) → cond {A = Result Model ModelFault} long (Err (fault.Limit None Text)) (told_in vars (symbols_of vars text)) ≡ Ok m → length m.values ≡ vars
-    by_length true e = cc
-    by_length false e = ok_covers vars (symbols_of vars text) (Ok m) (sym e)
 
 -- values that are a solution violate nothing
 pub none_violated : (a : Assignment) (statements : List Raw) (number : ℕ) → All (Satisfies a) statements → IsFirstViolated a statements number → ⊥
@@ -103,26 +88,21 @@ module _ (w : DecodeWords) (shelf : Shelf) (p : Problem) (m : Model) (answered :
     goes_on = never_stops;
   }
 
--- the front of a model of the clauses is a solution
-front_solves : (o : Options) (w : DecodeWords) (shelf : Shelf) (p : Problem) (m : Model) → IsAnswered shelf w p m → IsFrontOfModel o p m → IsDecoded p m decoded.Solution
-front_solves o w shelf p m answered front =
-    let within = denotes_within w.bound answered.denoted.text p answered.denoted.denotes in
-    (front.says, (have_solutions o p within m.values (values_cover p.vars answered.text m answered.says)).1 (front.model, front.is_model, front.front))
-
 -- ---- how a run ends
+
+-- where exactly this line is due, it was said, or a call failed, or memory was wanting
+pub ends_saying : (o : CommandSpec) (a b : DeskState) (t : Told) (line : List ℕ) → a.view.told ≡ Some t → IsDue o t.shelf (only_words line) → (answer : Outcome) → Answers o a b answer → SaysOnly line a b answer
+ends_saying o a b t line is due _ (all_done out has adds keeps) = done (subst (λ (x : Output). Adds x a b) (due.only out (in_told a t (λ u. o.done u.shelf out) is has)) adds)
+ends_saying o a b t line is due answer (refused _ refusal stops adds) = absurd (due.goes_on answer (in_told a t (λ u. o.stops u.shelf answer) is stops))
+ends_saying o a b t line is due _ (not_read adds) = read_fault adds
+ends_saying o a b t line is due _ (unwritten out part adds) = write_fault
+ends_saying o a b t line is due _ (wanting out part adds held) = no_memory
 
 pub obeyed_says : (w : DecodeWords) (a b : DeskState) (answer : Outcome) → Implements (decode_spec w) a b answer → IfTold a (SaidOf w a b answer)
 obeyed_says w a b answer implements = by_told a.view.told refl
   where
-    ends : (t : Told) (line : List ℕ) → a.view.told ≡ Some t → IsDue (decode_spec w) t.shelf (only_words line) → (answer : Outcome) → Answers (decode_spec w) a b answer → SaysOnly line a b answer
-    ends t line is due _ (all_done out has adds keeps) = done (subst (λ (x : Output). Adds x a b) (due.only out (in_told a t (λ u. (decode_spec w).done u.shelf out) is has)) adds)
-    ends t line is due answer (refused _ refusal stops adds) = absurd (due.goes_on answer (in_told a t (λ u. (decode_spec w).stops u.shelf answer) is stops))
-    ends t line is due _ (not_read adds) = read_fault adds
-    ends t line is due _ (unwritten out part adds) = write_fault
-    ends t line is due _ (wanting out part adds held) = no_memory
-
     by_told : (told : Option Told) → a.view.told ≡ told → IfSome told (SaidOf w a b answer)
     by_told None is = tt
-    by_told (Some t) is = λ o p m answered front.
-        let due = solution_is_due w t.shelf p m answered (front_solves o w t.shelf p m answered front) in
-        (due, ends t (solution_text p m.values) is due answer implements.answers)
+    by_told (Some t) is = λ p m answered says solution.
+        let due = solution_is_due w t.shelf p m answered (says, solution) in
+        (due, ends_saying (decode_spec w) a b t (solution_text p m.values) is due answer implements.answers)

@@ -28,7 +28,7 @@ unsolved w shelf f values solution =
     let same = says_one_thing judged.cnf extends.vars says.head.vars extends.clauses f.clauses extends.reads (told_is_said judged.cnf says.head f.clauses says.says_all).0 in
     refuted_have_no_model f.vars f.clauses f.lrat f.ends (assigned_by model.0) (subst (IsModel (assigned_by model.0)) same.1 model.1.satisfies)
 
-no_solution : (w : RefuteWords) (shelf : Shelf) → IsFollowed shelf w ending.refuted → HasNoSolution w shelf
+pub no_solution : (w : RefuteWords) (shelf : Shelf) → IsFollowed shelf w ending.refuted → HasNoSolution w shelf
 no_solution w shelf f = record {
   problem = f.accepted.judged.problem;
   denoted = f.accepted.judged.denoted;

@@ -1,11 +1,9 @@
--- What decoding says of a model of the clauses that a problem is encoded as. Our own.
-use Rattle.std.specs.Prelude.{ℕ, ◌≡◌, Bool, List, take, Option, Some}
+-- What decoding says where a solver's values are a solution. Our own.
+use Rattle.std.specs.Prelude.{ℕ, ◌≡◌, List, Option, Some}
 use Rattle.pb_base.specs.declared.problem.Problem.{Problem}
+use Rattle.pb_base.specs.Problems.{IsSolution}
 use Rattle.pb_desk.specs.View.{Told}
 use Rattle.pb_desk.specs.Desk.{DeskState, IfTold}
-use Rattle.pb_base.specs.declared.options.Options.{Options}
-use Rattle.pb_encode.specs.Clauses.{problem_clauses, problem_vars}
-use Rattle.pb_encode.specs.Models.{IsModelOver}
 use Rattle.pb_model.specs.declared.model.Model.{Model}
 use Rattle.pb_model.specs.declared.model.Says.TheVariants.{Satisfiable}
 use Rattle.pb_model.specs.SolutionText.{solution_text}
@@ -17,13 +15,6 @@ use Rattle.pb_suite.specs.declared.outcome.Outcome.TheVariants as outcome
 use Rattle.pb_suite.specs.Outputs.{nothing, only_words, Adds, Output}
 use Rattle.pb_suite.specs.CommandSpec.{CommandSpec, Shelf}
 use Rattle.pb_suite.specs.DecodeSpec.{decode_spec, IsAnswered}
-
--- The solver says that there is a model, and its values are the front of one of the clauses that the problem is encoded as.
-pub record IsFrontOfModel (o : Options) (p : Problem) (m : Model) : Type 0 where
-  pub says : m.says ≡ Satisfiable
-  pub model : List Bool
-  pub is_model : IsModelOver (problem_vars o p) (problem_clauses o p) model
-  pub front : take p.vars model ≡ m.values
 
 -- this output is due, and nothing else is: the command does not stop
 pub record IsDue (o : CommandSpec) (shelf : Shelf) (out : Output) : Type 0 where
@@ -38,9 +29,9 @@ pub data SaysOnly (line : List ℕ) (old new : DeskState) : Outcome → Type 0 w
   write_fault : SaysOnly line old new outcome.WriteFault
   no_memory : SaysOnly line old new outcome.NoMemory
 
--- for each front of a model of the clauses under any options, exactly the text of its solution is due, and is said unless a call failed or memory was wanting
+-- where the solver says that there is a model, and its values are a solution, exactly that solution's text is due, and is said unless a call failed or memory was wanting
 abbrev pub SaidOf : DecodeWords → DeskState → DeskState → Outcome → Told → Type 0
-SaidOf w old new answer t = (o : Options) (p : Problem) (m : Model) → IsAnswered t.shelf w p m → IsFrontOfModel o p m
+SaidOf w old new answer t = (p : Problem) (m : Model) → IsAnswered t.shelf w p m → m.says ≡ Satisfiable → IsSolution p m.values
     → IsDue (decode_spec w) t.shelf (only_words (solution_text p m.values)) × SaysOnly (solution_text p m.values) old new answer
 
 -- so it is where words ask for decoding
