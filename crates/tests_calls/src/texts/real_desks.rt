@@ -1,0 +1,251 @@
+// The desk of the system, over one that answers by a list, and over real files.
+ghost use Rattle.std.specs.Prelude.{◌≤◌, IfOk};
+ghost use Rattle.pb_desk.specs.Desk.{IsClosed};
+
+use pb_base::Failed;
+use pb_desk::Desk;
+use pb_files::{FileId, Handle, Host, RealDesk, System};
+use std::fs;
+
+// A system that answers by a list: a number, or that it fails. It fails where the list has ended.
+#[derive(Drop)]
+struct Scripted<'a> {
+    answers: &'a [Option<usize>],
+    at: usize,
+    output: Option<FileId>,
+}
+
+// The file of this number.
+fn file_of(number: u64) -> Option<FileId> {
+    Some(FileId { device: 1, number })
+}
+
+impl<'a> Scripted<'a> {
+    fn next(&mut self) -> Result<usize, Failed> {
+        let answer = self.answers.get(self.at).copied().flatten();
+        self.at = self.at.saturating_add(1);
+        answer.ok_or(Failed)
+    }
+
+    // The file of the number that is next.
+    fn next_file(&mut self) -> Result<Handle, Failed> {
+        let number = self.next()? as u64;
+        let id = file_of(number);
+        Ok(Handle { number, id })
+    }
+
+    // At most so many bytes.
+    fn next_count(&mut self, most: usize) -> Result<usize, Failed>
+        ensures { IfOk result (λ count. count ≤ most) }
+    {
+        match self.next() {
+            Ok(count) => Ok(count.min(most)),
+            Err(Failed) => Err(Failed),
+        }
+    }
+}
+
+impl<'a> System for Scripted<'a> {
+    ghost use Rattle.std.specs.Prelude.{None};
+
+    ghost calls = { λ system. None };
+
+    ghost output = { λ system. system.output };
+
+    fn output(&self) -> Option<FileId> {
+        self.output
+    }
+
+    fn open(&mut self, _name: &str) -> Result<Handle, Failed> {
+        self.next_file()
+    }
+
+    fn create(&mut self, _name: &str) -> Result<Handle, Failed> {
+        self.next_file()
+    }
+
+    fn truncate(&mut self, _file: u64) -> Result<(), Failed> {
+        self.next().and(Ok(()))
+    }
+
+    fn read(&mut self, _file: u64, room: &mut [u8]) -> Result<usize, Failed> {
+        self.next_count(room.len())
+    }
+
+    fn write(&mut self, _file: u64, piece: &[u8]) -> Result<usize, Failed> {
+        self.next_count(piece.len())
+    }
+
+    fn sync(&mut self, _file: u64) -> Result<(), Failed> {
+        self.next().and(Ok(()))
+    }
+
+    fn say(&mut self, piece: &[u8]) -> Result<usize, Failed> {
+        self.next_count(piece.len())
+    }
+}
+
+// What four calls of a desk answer: a count of bytes, 0 where there are none to count, or that they fail.
+type Answers = [Option<usize>; 4];
+
+// Reads a file three times, and makes one.
+fn reads<D: Desk>(desk: &mut D, from: &str, to: &str) -> Result<Answers, Failed>
+    requires { IsClosed (D.state desk.old) }
+{
+    let mut room = [0u8; 16];
+    desk.open(0, from)?;
+    let first = desk.read(0, &mut room).ok();
+    let second = desk.read(0, &mut room).ok();
+    let third = desk.read(0, &mut room).ok();
+    let made = desk.create(0, to).ok().and(Some(0));
+    Ok([first, second, third, made])
+}
+
+// Makes a file, writes five bytes to it three times, and closes it.
+fn writes<D: Desk>(desk: &mut D, to: &str) -> Result<Answers, Failed>
+    requires { IsClosed (D.state desk.old) }
+{
+    desk.create(1, to)?;
+    let first = desk.write(1, b"+1 x1").ok();
+    let second = desk.write(1, b"+1 x1").ok();
+    let third = desk.write(1, b"+1 x1").ok();
+    let closed = desk.close(1).ok().and(Some(0));
+    Ok([first, second, third, closed])
+}
+
+// Says five bytes four times.
+fn says<D: Desk>(desk: &mut D) -> Answers {
+    let first = desk.say(b"+1 x1").ok();
+    let second = desk.say(b"+1 x1").ok();
+    let third = desk.say(b"+1 x1").ok();
+    let fourth = desk.say(b"+1 x1").ok();
+    [first, second, third, fourth]
+}
+
+// What a desk is asked.
+#[derive(Drop)]
+enum Asked {
+    Reads,
+    Writes,
+    Says,
+}
+
+fn answers<D: Desk>(desk: &mut D, asked: &Asked, from: &str, to: &str) -> Result<Answers, Failed>
+    requires { IsClosed (D.state desk.old) }
+{
+    match asked {
+        Asked::Reads => reads(desk, from, to),
+        Asked::Writes => writes(desk, to),
+        Asked::Says => Ok(says(desk)),
+    }
+}
+
+// What the desk of a system answers that does so by this list, and whose standard output is its ninth file.
+fn by_list(list: &[Option<usize>], asked: &Asked) -> Result<Answers, Failed> {
+    let system = Scripted {
+        answers: list,
+        at: 0,
+        output: file_of(9),
+    };
+    answers(&mut RealDesk::new(system), asked, "in", "out")
+}
+
+// What a desk is asked, what its system answers, and what it answers then.
+const CASES: &[(Asked, &[Option<usize>], Answers)] = &[
+    // The file that was opened is not made, nor what standard output is; another one is, and emptied.
+    (
+        Asked::Reads,
+        &[Some(7), Some(3), None, Some(0), Some(7), Some(0)],
+        [Some(3), None, Some(0), None],
+    ),
+    (
+        Asked::Reads,
+        &[Some(7), Some(3), None, Some(0), Some(9), Some(0)],
+        [Some(3), None, Some(0), None],
+    ),
+    (
+        Asked::Reads,
+        &[Some(7), Some(3), None, Some(0), Some(8), Some(0)],
+        [Some(3), None, Some(0), Some(0)],
+    ),
+    // Made and emptied; then a part is written, none, and a write fails.
+    (
+        Asked::Writes,
+        &[Some(7), Some(0), Some(2), Some(0), None, Some(0)],
+        [Some(2), None, None, Some(0)],
+    ),
+    (
+        Asked::Writes,
+        &[Some(7), Some(0), Some(2), Some(0), None, None],
+        [Some(2), None, None, None],
+    ),
+    (
+        Asked::Says,
+        &[Some(2), Some(0), None],
+        [Some(2), None, None, None],
+    ),
+];
+
+#[test]
+fn each_answer_is_the_systems(rt: HostRuntime) {
+    for (asked, list, expected) in CASES {
+        let found = by_list(list, asked).ok();
+        assert_eq!(rt; found, Some(*expected));
+    }
+}
+
+// What the desk of the system that the test runs on answers.
+fn by_system(rt: &HostRuntime, asked: &Asked, from: &str, to: &str) -> Result<Answers, Failed> {
+    let system = Host::new(rt);
+    answers(&mut RealDesk::new(system), asked, from, to)
+}
+
+// Whether a file holds this text.
+fn holds(rt: &HostRuntime, name: &str, text: &str) -> bool {
+    match fs::read_to_string(rt, name) {
+        Ok(kept) => kept.as_str() == text,
+        Err(_) => false,
+    }
+}
+
+// Whether a file is made that has two names.
+fn is_laid(rt: &HostRuntime, name: &str, linked: &str) -> bool {
+    fs::write(rt, name, "* what was there before\n").is_ok()
+        && fs::hard_link(rt, name, linked).is_ok()
+}
+
+// Whether both names are taken away.
+fn is_cleared(rt: &HostRuntime, name: &str, linked: &str) -> bool {
+    fs::remove_file(rt, name).is_ok() && fs::remove_file(rt, linked).is_ok()
+}
+
+#[test]
+fn the_system_keeps_a_file(rt: HostRuntime) {
+    let (name, dotted, linked) = (
+        "pb_files_out.tmp",
+        "./pb_files_out.tmp",
+        "pb_files_link.tmp",
+    );
+    let laid = is_laid(&rt, name, linked);
+    let written = by_system(&rt, &Asked::Writes, name, name);
+    // By another name it keeps its bytes.
+    let over_dotted = by_system(&rt, &Asked::Reads, name, dotted);
+    let over_linked = by_system(&rt, &Asked::Reads, name, linked);
+    let kept = holds(&rt, name, "+1 x1+1 x1+1 x1");
+    let cleared = is_cleared(&rt, name, linked);
+    let absent = by_system(&rt, &Asked::Reads, name, name);
+    assert!(rt; laid && kept && cleared);
+    let found = [
+        written.ok(),
+        over_dotted.ok(),
+        over_linked.ok(),
+        absent.ok(),
+    ];
+    let expected = [
+        Some([Some(5), Some(5), Some(5), Some(0)]),
+        Some([Some(15), Some(0), Some(0), None]),
+        Some([Some(15), Some(0), Some(0), None]),
+        None,
+    ];
+    assert_eq!(rt; found, expected);
+}
