@@ -1,6 +1,4 @@
 //! Whole runs of the program on desks in memory, and what tests ask of them.
-#![tactic(auto)]
-
 ghost use Rattle.std.specs.Prelude.{◌≤◌};
 ghost use Rattle.pb_desk.specs.Desk.{IsClosed};
 
@@ -27,12 +25,27 @@ fn owned_words(alloc: Global, words: &str) -> Result<Vec<String>, NoMemory> {
     Ok(owned)
 }
 
-/// A file of this name.
-pub fn named(alloc: Global, name: &str, text: &[u8]) -> Result<Named, NoMemory> {
+// A file of this name.
+fn named(alloc: Global, name: &str, text: &[u8]) -> Result<Named, NoMemory> {
     Ok(Named {
         name: Text::from_string(name.to_string(alloc)?),
         bytes: Bytes::from_vec(text.to_vec(alloc)?),
     })
+}
+
+// These files come behind the others.
+fn put_files(alloc: Global, files: &mut Shelf, texts: &[(&str, &[u8])]) -> Result<(), NoMemory> {
+    for &(name, text) in texts {
+        files.push(named(alloc, name, text)?)?;
+    }
+    Ok(())
+}
+
+// The files of these names.
+fn files_of(alloc: Global, texts: &[(&str, &[u8])]) -> Result<Shelf, NoMemory> {
+    let mut files = Seq::new(alloc);
+    put_files(alloc, &mut files, texts)?;
+    Ok(files)
 }
 
 // A run, of which nothing is known but what it leaves.
@@ -42,44 +55,30 @@ fn ended<D: Desk>(alloc: Global, words: &Vec<String>, desk: &mut D) -> Outcome
     run(alloc, words, desk)
 }
 
-/// A run with these words, with a blank between any two, on a desk with these files to read. Its calls with a number in
-/// `fails` fail, counted from 1 over all calls; a call moves at most `piece` bytes; each file and what is said have `room`
+/// A run with these words, with a blank between any two, on a desk with these files to read. Its call with the number `fails`
+/// fails, counted from 1, and none where that is 0; a call moves at most `piece` bytes; each file and what is said have `room`
 /// bytes.
 pub fn run_over(
     alloc: Global,
     words: &str,
-    files: Shelf,
-    fails: Ids,
+    texts: &[(&str, &[u8])],
+    fails: u64,
     piece: usize,
     room: usize,
 ) -> Result<Run, NoMemory>
     requires { 1 ≤ piece }
 {
     let owned = owned_words(alloc, words)?;
+    let files = files_of(alloc, texts)?;
+    let fails = Ids::from_vec(vec![in alloc; fails]?);
     let mut desk = MemoryDesk::new(alloc, files, fails, piece, room)?;
     let outcome = ended(alloc, &owned, &mut desk);
     Ok(Run { outcome, desk })
 }
 
-/// The same with one file to read, `a`.
-pub fn run_with(
-    alloc: Global,
-    words: &str,
-    text: &[u8],
-    fails: Ids,
-    piece: usize,
-    room: usize,
-) -> Result<Run, NoMemory>
-    requires { 1 ≤ piece }
-{
-    let mut files = Seq::new(alloc);
-    files.push(named(alloc, "a", text)?)?;
-    run_over(alloc, words, files, fails, piece, room)
-}
-
 /// The same on a desk that does not hinder it.
-pub fn run_freely(alloc: Global, words: &str, text: &[u8]) -> Result<Run, NoMemory> {
-    run_with(alloc, words, text, Ids::new(alloc), 4096, 4096)
+pub fn run_freely(alloc: Global, words: &str, texts: &[(&str, &[u8])]) -> Result<Run, NoMemory> {
+    run_over(alloc, words, texts, 0, 4096, 4096)
 }
 
 /// The run made and said nothing.

@@ -1,3 +1,4 @@
+//! Worked examples: what runs make, say and answer.
 mod benches;
 mod bounds;
 mod cases;
@@ -17,26 +18,9 @@ mod texts;
 mod wcnfs;
 mod words;
 
-use pb_base::{Ids, NoMemory, Seq};
-use pb_desk::Shelf;
-use pb_runs::{Run, named, refusal_of, run_freely, run_over, run_with};
+use crate::runs::{Run, refusal_of, run_freely, run_over};
 use std::alloc::Global;
 use summaries::summary;
-
-// These files come behind the others.
-fn put_files(alloc: Global, files: &mut Shelf, texts: &[(&str, &[u8])]) -> Result<(), NoMemory> {
-    for &(name, text) in texts {
-        files.push(named(alloc, name, text)?)?;
-    }
-    Ok(())
-}
-
-// The files of these names.
-fn files_of(alloc: Global, texts: &[(&str, &[u8])]) -> Result<Shelf, NoMemory> {
-    let mut files = Seq::new(alloc);
-    put_files(alloc, &mut files, texts)?;
-    Ok(files)
-}
 
 // What the run says, where it is done, or its status and its fault line, where it says nothing. It makes no file.
 fn told_of(alloc: Global, run: &Run) -> Option<String> {
@@ -51,13 +35,13 @@ fn told_of(alloc: Global, run: &Run) -> Option<String> {
 
 // What is told of a run with these words on a desk with these files, which does not hinder it.
 fn told(alloc: Global, words: &str, texts: &[(&str, &[u8])]) -> Option<String> {
-    let files = files_of(alloc, texts).ok()?;
-    let run = run_over(alloc, words, files, Ids::new(alloc), 4096, 4096).ok()?;
+    let run = run_freely(alloc, words, texts).ok()?;
     told_of(alloc, &run)
 }
 
-// The one file that a run made, where it is done.
-fn made_by(alloc: Global, run: &Run) -> Option<String> {
+// The one file that is made of a text with these words.
+fn made(alloc: Global, words: &str, text: &str) -> Option<String> {
+    let run = run_freely(alloc, words, &[("a", text.as_bytes())]).ok()?;
     if run.outcome.status() != 0 || run.desk.made(1).is_some() {
         return None;
     }
@@ -67,37 +51,29 @@ fn made_by(alloc: Global, run: &Run) -> Option<String> {
         .ok()
 }
 
-// The one file that is made of a text with these words.
-fn made(alloc: Global, words: &str, text: &str) -> Option<String> {
-    let run = run_freely(alloc, words, text.as_bytes()).ok()?;
-    made_by(alloc, &run)
-}
+// Stands for any file.
+const ANY: &str = "*";
 
 // The run is done, made this one file, and said this.
 fn is_done(run: &Run, file: &str, said: &str) -> bool {
+    let made = run.desk.made(0);
     run.outcome.status() == 0
-        && run.desk.made(0) == Some(file.as_bytes())
+        && made.is_some()
+        && (file == ANY || made == Some(file.as_bytes()))
         && run.desk.made(1).is_none()
         && run.desk.said() == said.as_bytes()
 }
 
 // With these words, this one file is made of the text, and this summary is said.
 fn is_encoded(alloc: Global, words: &str, text: &str, file: &str, said: &str) -> Option<bool> {
-    let run = run_freely(alloc, words, text.as_bytes()).ok()?;
+    let run = run_freely(alloc, words, &[("a", text.as_bytes())]).ok()?;
     let said = summary(alloc, said)?;
     Some(is_done(&run, file, said.as_str()))
 }
 
-// With these words, one file is made of the text, and this summary is said.
-fn is_sized(alloc: Global, words: &str, text: &str, said: &str) -> Option<bool> {
-    let run = run_freely(alloc, words, text.as_bytes()).ok()?;
-    let said = summary(alloc, said)?;
-    Some(made_by(alloc, &run).is_some() && run.desk.said() == said.as_bytes())
-}
-
 // A run with room for long texts.
 fn run_widely(alloc: Global, words: &str, text: &[u8]) -> Option<Run> {
-    run_with(alloc, words, text, Ids::new(alloc), 4096, 1 << 20).ok()
+    run_over(alloc, words, &[("a", text)], 0, 4096, 1 << 20).ok()
 }
 
 // What is told of the problem `a`, the CNF `c`, the derivation `p` and the refutation `l`, which `check` does not open.

@@ -2,9 +2,8 @@
 ghost use Rattle.std.specs.Prelude.{◌≤◌, ◌<◌};
 
 use super::{Asked, run_freely, run_on};
-use pb_runs::{Run, is_silent};
-use std::alloc::{Alloc, Global};
-use std::process::Abort;
+use crate::runs::{Run, is_silent};
+use std::alloc::Global;
 
 // The file that a run made in a slot, or nothing.
 fn file_of(run: &Run, slot: u8) -> &[u8]
@@ -181,20 +180,10 @@ fn is_tried(alloc: Global, asked: Asked, count: usize) -> bool {
     }
 }
 
-trait Cases {
-    // With each of these words a run is tried so, which reads the first `count` of these texts. A table stands in its call, where
-    // it is a constant: one that is made when it runs takes much longer to prove.
-    fn each_tried<'a>(&self, cases: &[(&'a str, &'a str, &'a str, usize)]);
-}
-
-impl<R: Abort + Alloc<A = Global>> Cases for R {
-    fn each_tried<'a>(&self, cases: &[(&'a str, &'a str, &'a str, usize)]) {
-        for &(words, first, second, count) in cases {
-            let texts = [first.as_bytes(), second.as_bytes(), b"", b""];
-            let is_tried = is_tried(self.alloc(), Asked { words, texts }, count);
-            assert!(self; is_tried, "at {words}");
-        }
-    }
+// The same of the first `count` of two texts.
+fn is_tried_over(alloc: Global, words: &str, first: &str, second: &str, count: usize) -> bool {
+    let texts = [first.as_bytes(), second.as_bytes(), b"", b""];
+    is_tried(alloc, Asked { words, texts }, count)
 }
 
 // Exactly one of two variables.
@@ -222,24 +211,26 @@ const COUNTER: &str = "p cnf 10 13\n-1 5 0\n-6 0\n-2 7 0\n-5 7 0\n-2 -5 8 0\n-6 
 // The CNF and the derivation are made.
 const DERIVE: &str = "pbcnf encode a d e";
 
-#[test]
-fn each_command(rt: HostRuntime) {
-    rt.each_tried(&[
-        ("pbcnf encode a d", ONE, "", 1),
-        ("pbcnf encode a d", WEIGHTS, "", 1),
-        ("pbcnf encode a d --at-most=2 --table", COSTS, "", 1),
-        ("pbcnf wcnf a d", COSTS, "", 1),
-        ("pbcnf decode a b", ONE, PRINTED, 2),
-        ("pbcnf map a", NAMES, "", 1),
-        ("pbcnf probe a x1 x2", COUNTER, "", 1),
-        ("pbcnf bench 1 0", "", "", 0),
-        ("pbcnf bench 1 0 d", "", "", 0),
-    ]);
-}
+// Words, the texts that a run has, and how many of these it reads.
+const CASES: &[(&str, &str, &str, usize)] = &[
+    ("pbcnf encode a d", ONE, "", 1),
+    ("pbcnf encode a d", WEIGHTS, "", 1),
+    ("pbcnf encode a d --at-most=2 --table", COSTS, "", 1),
+    ("pbcnf wcnf a d", COSTS, "", 1),
+    ("pbcnf decode a b", ONE, PRINTED, 2),
+    ("pbcnf map a", NAMES, "", 1),
+    ("pbcnf probe a x1 x2", COUNTER, "", 1),
+    ("pbcnf bench 1 0", "", "", 0),
+    ("pbcnf bench 1 0 d", "", "", 0),
+    (DERIVE, WEIGHTS, "", 1),
+];
 
 #[test]
-fn a_derivation_is_made(rt: HostRuntime) {
-    rt.each_tried(&[(DERIVE, WEIGHTS, "", 1)]);
+fn each_command(rt: HostRuntime) {
+    for &(words, first, second, count) in CASES {
+        let is_tried = is_tried_over(rt.alloc(), words, first, second, count);
+        assert!(rt; is_tried, "at {words}");
+    }
 }
 
 // The CNF and the derivation of a problem alone.
@@ -269,23 +260,8 @@ fn is_check_tried<'a>(
     is_tried(alloc, Asked { words, texts }, count)
 }
 
-#[test]
-fn a_derivation_is_checked(rt: HostRuntime) {
-    let made = run_freely(rt.alloc(), derived(WEIGHTS)).expect(&rt, "run");
-    let is_tried = is_check_tried(rt.alloc(), "pbcnf check a b c", WEIGHTS, &made, "", 3);
-    assert!(rt; is_tried);
-}
-
 // One of two variables, and neither.
 const NEITHER: &str = "+1 x1 +1 x2 >= 1 ;\n+1 ~x1 >= 1 ;\n+1 ~x2 >= 1 ;\n";
-
-#[test]
-fn a_refutation_is_checked(rt: HostRuntime) {
-    let made = run_freely(rt.alloc(), derived(NEITHER)).expect(&rt, "run");
-    let (words, lrat) = ("pbcnf refute a b c l", "4 0 2 3 1 0\n");
-    let is_tried = is_check_tried(rt.alloc(), words, NEITHER, &made, lrat, 4);
-    assert!(rt; is_tried);
-}
 
 // The writing failed where the CNF is whole, no derivation is made, and nothing said.
 fn is_not_ended(run: &Run) -> bool {
@@ -295,10 +271,25 @@ fn is_not_ended(run: &Run) -> bool {
         && run.desk.said().is_empty()
 }
 
-// The CNF is whole where it can't be ended, and no derivation is made: the text is opened and read to its end in two calls,
-// the file is created, written, and then closed.
+// Whether a run is tried over what is made of a problem.
+fn is_tried_over_made(alloc: Global, words: &str, opb: &str, lrat: &str, count: usize) -> bool {
+    match run_freely(alloc, derived(opb)) {
+        Some(made) => is_check_tried(alloc, words, opb, &made, lrat, count),
+        None => false,
+    }
+}
+
 #[test]
-fn the_cnf_is_not_ended(rt: HostRuntime) {
+fn derivations_and_refutations(rt: HostRuntime) {
+    let is_checked = is_tried_over_made(rt.alloc(), "pbcnf check a b c", WEIGHTS, "", 3);
+    let lrat = "4 0 2 3 1 0\n";
+    let is_refuted = is_tried_over_made(rt.alloc(), "pbcnf refute a b c l", NEITHER, lrat, 4);
+    assert!(rt;
+        is_checked && is_refuted,
+        "check {is_checked}, refute {is_refuted}"
+    );
+    // The CNF is whole where it can't be ended, and no derivation is made: the text is opened and read to its end in two calls,
+    // the file is created, written, and then closed.
     let run = run_on(rt.alloc(), derived(WEIGHTS), 6, 4096, 4096).expect(&rt, "run");
     let is_not_ended = is_not_ended(&run);
     assert!(rt; is_not_ended);

@@ -1,7 +1,7 @@
-use super::cases::Cases;
+use super::cases::{each_encoded, each_told};
 use super::run_widely;
+use crate::runs::Run;
 use pb_gen::generate;
-use pb_runs::Run;
 use std::alloc::Global;
 
 // What is said of the one statement of the seed 0.
@@ -10,14 +10,13 @@ nothing 0 empty 0 clause 1 pairwise 0 ladder 0 product 0 counter 0 totalizer 0 d
 
 const ONE: &str = "p cnf 11 1\n3 -7 0\n";
 
-#[test]
-fn one_statement(rt: HostRuntime) {
-    rt.each_told(&[("pbcnf bench 1 0", "", SAID)]);
-    rt.each_encoded(&[
-        ("pbcnf bench 1 0 c", "", ONE, SAID),
-        ("pbcnf bench 001 00 c", "", ONE, SAID),
-    ]);
-}
+// One statement, with a file and without.
+const TOLD: &[(&str, &str, &str)] = &[("pbcnf bench 1 0", "", SAID)];
+
+const ENCODED: &[(&str, &str, &str, &str)] = &[
+    ("pbcnf bench 1 0 c", "", ONE, SAID),
+    ("pbcnf bench 001 00 c", "", ONE, SAID),
+];
 
 // The run is done, made this file first, or none, and said what the other run said.
 fn says_so(run: &Run, file: Option<&[u8]>, encoded: &Run) -> bool {
@@ -40,9 +39,11 @@ fn agree(alloc: Global, encoded: &Run) -> bool {
         && is_benched(alloc, "pbcnf bench 1000 7", None, encoded)
 }
 
-// What is generated, encoded as any other problem, is what a benchmark encodes.
 #[test]
-fn a_thousand_statements(rt: HostRuntime) {
+fn benches(rt: HostRuntime) {
+    each_told(&rt, TOLD);
+    each_encoded(&rt, ENCODED);
+    // What is generated, encoded as any other problem, is what a benchmark encodes.
     let text = generate(rt.alloc(), 1000, 7).expect(&rt, "generated");
     let encoded = run_widely(rt.alloc(), "pbcnf encode a c", text.as_slice()).expect(
         &rt, "encoded",
