@@ -19,10 +19,10 @@ use crate::session::Session;
 use crate::stages::{run_steps, take_count, take_head, take_rest};
 use crate::verdict::{CheckFault, Verdict};
 use pb_base::{Clauses, MAX_FILE, MAX_LINE, MAX_LINES, Problem};
+use pb_database::Database;
 use pb_desk::{Desk, LineLimits, LineReader};
 use pb_dimacs::ClauseReader;
 use pb_norm::{Linear, Linears, load};
-use pb_rules::Database;
 use std::alloc::Global;
 
 const LIMITS: LineLimits = LineLimits {

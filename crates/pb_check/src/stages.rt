@@ -14,8 +14,8 @@ use crate::session::Session;
 use crate::taking::{Taken, take_step};
 use crate::verdict::{CheckFault, Verdict};
 use pb_base::Expected;
+use pb_database::Database;
 use pb_desk::{Desk, LineReader};
-use pb_rules::Database;
 use pb_steps::Step;
 use std::alloc::Global;
 

@@ -12,9 +12,10 @@ use crate::fault::{misplaced, of_cnf};
 use crate::kept::CollectedClauses;
 use crate::verdict::CheckFault;
 use pb_base::{Clause, Expected, NoMemory};
+use pb_database::Database;
 use pb_desk::{Desk, LineReader};
 use pb_dimacs::ClauseReader;
-use pb_rules::{Database, RuleFault};
+use pb_rules::{RuleFault, apply};
 use pb_steps::{Denied, Step};
 
 /// What a line among the steps gives.
@@ -34,7 +35,7 @@ fn judge(db: &mut Database, step: &Step, next: Option<&Clause>) -> Result<Taken,
     requires spelled { IsSpelled step.now }
     ensures { IfOk result (IsJudged db.old step.now (option_copied next.entry) db.new) }
 {
-    match db.apply(step, next) {
+    match apply(db, step, next) {
         Ok(_) => Ok(Taken::On),
         Err(fault) => match fault {
             RuleFault::Denied(denied) => Ok(Taken::Denied(denied)),

@@ -1,5 +1,5 @@
 -- Constraints on a stack keep their room and their variables.
-use Rattle.std.proofs.Common.{◌≡◌, ◌≤◌, ◌<◌, ◌+◌, ℕ, zero, suc, ltb, length, get_or, List, [], ◌∷◌, ◌++◌, Bool, true, false, cond, arith, refl, ap, sym, ◌∙◌, subst, Option, Some, None, reverse}
+use Rattle.std.proofs.Common.{◌≡◌, ◌≤◌, ◌<◌, ℕ, zero, suc, ltb, length, get_or, List, [], ◌∷◌, ◌++◌, Bool, true, false, cond, arith, refl, ap, sym, ◌∙◌, subst, Option, Some, None, reverse}
 use Rattle.std.specs.Prelude.{All, map, flat_map, unsigned_abs, option_and_then, option_map, is_some}
 use Rattle.std.specs.Option.{option_or}
 use Rattle.std.proofs.lemmas.Bool.{ltb-false, false≢true}
@@ -28,10 +28,10 @@ use Rattle.pb_steps.specs.Allowed.{Allowed}
 use Rattle.pb_steps.specs.Denials.{seen_denial, unless, unknown_var, unknown_id}
 use Rattle.pb_steps.proofs.Searching.{none-some, from_unless-none, from_find-none, from_map-none}
 use Rattle.pb_steps.proofs.Heights.{one_left}
-use Rattle.pb_rules.specs.inner.Sound.{IsSound}
+use Rattle.pb_database.specs.Sound.{IsSound}
 use Rattle.pb_rules.specs.inner.Tops.{done_op, topped, IsSoundConstraint, AreSoundConstraints, IsOutcome, IsOpOutcome}
 use Rattle.pb_rules.specs.inner.Early.{early}
-use Rattle.pb_rules.proofs.Withins.{at-sound}
+use Rattle.pb_database.proofs.SoundLemmas.{at-sound}
 use Rattle.pb_rules.proofs.Seen.{by_elimination}
 
 abbrev Within : ℕ → Weighted → Type 0

@@ -13,7 +13,7 @@ use Rattle.std.proofs.lemmas.List.Kept.{AllPairs-from_increasing}
 use Rattle.pb_base.proofs.Pairs.{AllPairs-head, AllPairs-tail}
 use Rattle.pb_steps.specs.Database.{Entry, is_live, is_listed, without}
 use Rattle.pb_steps.specs.Denials.{first_gone}
-use Rattle.pb_rules.proofs.SlotLemmas.{listed-push}
+use Rattle.pb_database.proofs.Without.{listed-push}
 use Rattle.pb_rules.proofs.Seen.{gone-listed, live-unlisted}
 
 at_key : (x y : ℕ) → is_at (nat_cmp x) y ≡ eqb x y

@@ -21,8 +21,8 @@ use Rattle.pb_steps.specs.DenialLaws.{IsAllowed}
 use Rattle.pb_steps.proofs.Searching.{from_find-none, from_map-none, from_first_some-none, from_unless-none, none-some}
 use Rattle.std.proofs.lemmas.List.{take_more}
 use Rattle.pb_steps.proofs.Keeping.{at-filter}
-use Rattle.pb_rules.specs.inner.Mirrors.{TellsConflict}
-use Rattle.pb_rules.proofs.SlotLemmas.{without-push}
+use Rattle.pb_database.specs.Refutations.{TellsConflict}
+use Rattle.pb_database.proofs.Without.{without-push}
 use Rattle.pb_steps.proofs.Denying.{allowed_or_denied}
 
 -- the rows of the causes, as they stand in `seen`

@@ -1,5 +1,5 @@
 -- The variables of what is made are within those that there are.
-use Rattle.std.proofs.Common.{◌≡◌, ◌≤◌, ℕ, ℤ, List, [], ◌∷◌, Bool, true, false, cond, arith, eqb, subst, Some}
+use Rattle.std.proofs.Common.{◌≤◌, ℕ, ℤ, List, [], ◌∷◌, Bool, true, false, cond, arith}
 use Rattle.std.specs.Prelude.{All, map, filter}
 use Rattle.std.proofs.lemmas.List.Elements.{All-nil, All-cons, All-head, All-tail, All-map, All-filter}
 use Rattle.pb_base.specs.declared.literal.Term.{Term}
@@ -12,16 +12,11 @@ use Rattle.pb_operations.proofs.Parts.{narrow-from, weight-narrow, degree-narrow
 use Rattle.pb_norm.specs.Constraints.{HasVarsWithin}
 use Rattle.pb_steps.specs.Steps.{vars_of_terms}
 use Rattle.pb_steps.specs.Operations.{IsNarrow, negation}
-use Rattle.pb_steps.specs.Database.{Entry, constraint_at}
 use Rattle.pb_steps.specs.Allowed.{IsSlim}
 use Rattle.std.proofs.lemmas.List.Sums.{sum_by-le-sum_by}
 use Rattle.pb_base.proofs.Sums.{sum_by-filter}
 use Rattle.pb_steps.specs.declared.op.Set.{Set}
 use Rattle.pb_steps.specs.Substitutions.{restriction, is_unset}
-use Rattle.pb_rules.specs.inner.Sound.{IsSound}
-
-abbrev WithinC : ℕ → Constraint → Type 0
-WithinC vars c = HasVarsWithin vars c.terms
 
 pub All-unmap : {X Y : Type 0} (P : Y → Type 0) (f : X → Y) (xs : List X) → All P (map f xs) → All (λ x. P (f x)) xs
 All-unmap P f [] h = All-nil (λ x. P (f x))
@@ -36,16 +31,6 @@ written-narrow ts right h = narrow-from (written ts right) (omega (arith, normal
 
 pub negation-within : (vars : ℕ) (c : Constraint) → HasVarsWithin vars c.terms → HasVarsWithin vars (negation c).terms
 negation-within vars c h = All-map {X = Weighted} (λ t. t.lit.var ≤ vars) opposite c.terms h
-
--- what is found is of what stands
-pub at-sound : (vars : ℕ) (es : List Entry) (id : ℕ) (c : Constraint) → All (IsSound vars) es → constraint_at es id ≡ Some c → IsNarrow c × HasVarsWithin vars c.terms
-at-sound vars [] id c h e = absurd (cc)
-at-sound vars (x ∷ es) id c h e = test (eqb x.id id) (All-head (IsSound vars) x es h) e (at-sound vars es id c (All-tail (IsSound vars) x es h)) where
-  test : (b : Bool) → IsSound vars x → cond b (Some x.constraint) (constraint_at es id) ≡ Some c → (constraint_at es id ≡ Some c → IsNarrow c × HasVarsWithin vars c.terms) → IsNarrow c × HasVarsWithin vars c.terms
-  test true sound f rest =
-      let same : x.constraint ≡ c = cc in
-      (subst IsNarrow same sound.narrow, subst (WithinC vars) same sound.within)
-  test false sound f rest = rest f
 
 -- ---- restriction
 

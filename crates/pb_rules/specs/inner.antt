@@ -1,14 +1,4 @@
 pub mod Claims
-pub mod Conflicts
 pub mod Early
-pub mod Indexed
-pub mod Mirrors
 pub mod Obligations
-pub mod Ordered
-pub mod Showing
-pub mod Slots
-pub mod Sound
 pub mod Tops
-pub mod Packing
-pub mod ShortLits
-pub mod Units

@@ -9,10 +9,10 @@ ghost use Rattle.pb_steps.specs.Allowed.{Allowed};
 ghost use Rattle.pb_steps.specs.Denials.{first_gone};
 ghost use Rattle.pb_rules.specs.Faults.{IsFault};
 
-use crate::database::Database;
 use crate::fault::RuleFault;
 use crate::rows::id_gone;
 use pb_base::NoMemory;
+use pb_database::Database;
 use pb_steps::Denied;
 use std::collections::BTreeSet;
 

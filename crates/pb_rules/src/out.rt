@@ -6,9 +6,9 @@ ghost use Rattle.pb_steps.specs.Database.{marked};
 ghost use Rattle.pb_steps.specs.Allowed.{Allowed};
 ghost use Rattle.pb_rules.specs.Faults.{IsFault};
 
-use crate::database::Database;
 use crate::fault::RuleFault;
 use pb_base::Clause;
+use pb_database::Database;
 use pb_steps::Denied;
 
 /// Tests whether the constraint with an id gives the next clause.

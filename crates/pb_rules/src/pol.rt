@@ -12,11 +12,11 @@ ghost use Rattle.pb_operations.specs.Room.{fitting};
 ghost use Rattle.pb_rules.specs.Faults.{IsFault};
 ghost use Rattle.pb_rules.specs.inner.Claims.{AllowsClaim};
 ghost use Rattle.pb_rules.specs.inner.Tops.{topped, is_weakening, IsWeakening, IsRun, IsOutcome, IsOpOutcome, IsSoundConstraint, AreSoundConstraints};
-ghost use Rattle.pb_rules.specs.inner.Sound.{IsDatabase};
+ghost use Rattle.pb_database.specs.Sound.{IsDatabase};
 
-use crate::database::Database;
 use crate::fault::RuleFault;
 use pb_base::{NoMemory, Var};
+use pb_database::Database;
 use pb_norm::Linear;
 use pb_operations::{axiom, division, multiple, plus, saturation, weakening, weakenings};
 use pb_steps::{Denied, PolOp};

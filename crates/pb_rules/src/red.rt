@@ -12,13 +12,12 @@ ghost use Rattle.pb_steps.specs.Database.{constraint_at};
 ghost use Rattle.pb_rules.specs.Faults.{IsFault};
 ghost use Rattle.std.specs.List.Sorted.{IsStrictlyIncreasing};
 ghost use Rattle.pb_rules.specs.inner.Claims.{AllowsClaim};
-ghost use Rattle.pb_rules.specs.inner.Indexed.{HasNamed};
-ghost use Rattle.pb_rules.specs.inner.Obligations.{SlotIsMet, SlotIsUnmet, TellsShown, TellsUnmet, goal_of, red_causes};
+ghost use Rattle.pb_rules.specs.inner.Obligations.{HasNamed, SlotIsMet, SlotIsUnmet, TellsShown, TellsUnmet, goal_of, red_causes};
 
-use crate::database::Database;
 use crate::fault::RuleFault;
 use crate::rows::{self, is_slim, var_above};
 use pb_base::{NoMemory, Term, Var};
+use pb_database::Database;
 use pb_norm::Linear;
 use pb_operations::{degree_left, names_set, negation, negation_implies, restricted, restriction};
 use pb_steps::{Denied, Set};

@@ -9,9 +9,9 @@ ghost use Rattle.pb_steps.specs.Operations.{IsNarrow};
 ghost use Rattle.pb_steps.specs.Allowed.{IsSlim};
 ghost use Rattle.pb_steps.specs.Database.{is_live};
 
-use crate::database::Database;
 use crate::form::form_of;
 use pb_base::{NoMemory, Term, Var};
+use pb_database::Database;
 use pb_norm::Linear;
 use std::alloc::Global;
 

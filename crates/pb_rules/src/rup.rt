@@ -10,12 +10,12 @@ ghost use Rattle.pb_steps.specs.Allowed.{propagated};
 ghost use Rattle.pb_steps.specs.Denials.{seen_denial};
 ghost use Rattle.pb_rules.specs.Faults.{IsFault};
 ghost use Rattle.pb_rules.specs.inner.Claims.{AllowsClaim};
-ghost use Rattle.pb_rules.specs.inner.Mirrors.{TellsConflict};
+ghost use Rattle.pb_database.specs.Refutations.{TellsConflict};
 
-use crate::database::Database;
 use crate::fault::RuleFault;
 use crate::rows::{self, id_gone, is_slim, var_above};
 use pb_base::{NoMemory, Term};
+use pb_database::Database;
 use pb_norm::Linear;
 use pb_operations::negation;
 use pb_steps::Denied;

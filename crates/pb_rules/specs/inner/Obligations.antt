@@ -1,5 +1,5 @@
 -- Obligations by their ids.
-use Rattle.std.specs.Prelude.{◌≡◌, ◌+◌, ◌^◌, ℕ, ℤ, Bool, Some, IsTrue, All, MatchOption, List, Option, None, option_map, if◌then◌else◌, find, nat_lt, nat_le, unsigned_abs}
+use Rattle.std.specs.Prelude.{◌≡◌, ◌+◌, ◌^◌, ℕ, ℤ, Bool, Some, IsTrue, All, Contains, MatchOption, List, Option, None, option_map, if◌then◌else◌, find, nat_lt, nat_le, unsigned_abs}
 use Rattle.std.specs.Option.{option_or}
 use Rattle.std.specs.Bool.{MatchBool}
 use Rattle.pb_base.specs.declared.literal.Term.{Term}
@@ -18,6 +18,10 @@ use Rattle.pb_steps.specs.Denials.{FirstUnmet}
 -- what stands under an id, if it has a set variable, is shown under the substitution
 abbrev pub SlotIsMet : Database → Constraint → List Set → ℕ → Type 0
 SlotIsMet db claim sets id = (c : Constraint) → constraint_at db.live id ≡ Some c → IsTrue (names_set sets c) → IsShown db.live claim (restriction sets c)
+
+-- each constraint that has a set variable is among the ids
+abbrev pub HasNamed : List Entry → List Set → List ℕ → Type 0
+HasNamed live sets ids = (id : ℕ) (c : Constraint) → constraint_at live id ≡ Some c → IsTrue (names_set sets c) → Contains ids id
 
 -- something stands there, has a set variable and is not shown
 pub record SlotIsUnmet (db : Database) (claim : Constraint) (sets : List Set) (id : ℕ) : Type 0 where

@@ -7,9 +7,10 @@ ghost use Rattle.pb_steps.specs.Steps.{IsRule, IsSpelled};
 use crate::cases::assert_found;
 use crate::samples::lits;
 use pb_base::{Clause, Problem, Var};
+use pb_database::Database;
 use pb_norm::{Linears, load};
 use pb_opb::read_opb;
-use pb_rules::{Applied, Database, RuleFault};
+use pb_rules::{Applied, RuleFault, apply};
 use pb_steps::{Step, read_step};
 use std::alloc::Global;
 
@@ -36,7 +37,7 @@ fn answer(alloc: Global, db: &mut Database, step: &Step, next: Option<&Clause>) 
     requires rule { IsRule step.now }
     requires spelled { IsSpelled step.now }
 {
-    match db.apply(step, next) {
+    match apply(db, step, next) {
         Ok(Applied::Id(id)) => format!(in alloc; "Id({id})").ok(),
         Ok(Applied::Done) => "Done".to_string(alloc).ok(),
         Err(RuleFault::Denied(denied)) => format!(in alloc; "{denied:?}").ok(),

@@ -1,7 +1,7 @@
 use Rattle.std.proofs.Common.{◌∙◌, ap, sym, List, get_or, take}
 use Rattle.pb_steps.specs.Database.{Entry}
 use Rattle.pb_steps.specs.Denials.{first_gone}
-use Rattle.pb_rules.proofs.SlotLemmas.{without-none}
+use Rattle.pb_database.proofs.Without.{without-none}
 use Rattle.pb_rules.proofs.Seen.{gone_here, gone_later}
 use Rattle.pb_rules.proofs.Gone.{has_listed-none, has_listed-more, gone-fresh, ascending-gone}
 use Rattle.pb_rules.proofs.del.first_gone.Goals as goal

@@ -5,8 +5,7 @@ use Rattle.pb_steps.specs.Substitutions.{restriction}
 use Rattle.pb_steps.specs.Allowed.{IsShown}
 use Rattle.pb_steps.specs.Denials.{FirstUnmet}
 use Rattle.std.specs.List.Sorted.{IsStrictlyIncreasing}
-use Rattle.pb_rules.specs.inner.Indexed.{HasNamed}
-use Rattle.pb_rules.specs.inner.Obligations.{SlotIsMet, SlotIsUnmet}
+use Rattle.pb_rules.specs.inner.Obligations.{HasNamed, SlotIsMet, SlotIsUnmet}
 use Rattle.pb_rules.proofs.Obliged.{first_at, first_own, all_met, met_more, met_below, met_all}
 use Rattle.pb_rules.proofs.red.first_unmet.Goals as goal
 

@@ -2,7 +2,8 @@ use Rattle.std.proofs.Common.{◌≡◌, ◌∙◌, Some, ap, sym, subst}
 use Rattle.pb_norm.specs.Constraints.{Constraint, HasVarsWithin}
 use Rattle.pb_steps.specs.Database.{constraint_at}
 use Rattle.pb_steps.specs.Operations.{IsNarrow}
-use Rattle.pb_rules.proofs.Withins.{restriction-narrow, restriction-within, at-sound}
+use Rattle.pb_rules.proofs.Withins.{restriction-narrow, restriction-within}
+use Rattle.pb_database.proofs.SoundLemmas.{at-sound}
 use Rattle.pb_rules.proofs.red.goal_of.Goals as goal
 
 pub returns-clause-narrow : goal.returns-clause-narrow

@@ -2,7 +2,7 @@ use Rattle.std.proofs.Common.{◌<◌, sym, subst, List, ℕ}
 use Rattle.std.specs.Prelude.{Contains}
 use Rattle.std.proofs.lemmas.List.Elements.{Contains-append_left, Contains-append_right}
 use Rattle.pb_steps.specs.declared.op.Set.{Set}
-use Rattle.pb_rules.proofs.Indexing.{sets_more, sets_named}
+use Rattle.pb_rules.proofs.SetVars.{sets_more, sets_named}
 use Rattle.pb_rules.proofs.red.ids_to_show.Goals as goal
 
 pub ids_of-requires : goal.ids_of-requires

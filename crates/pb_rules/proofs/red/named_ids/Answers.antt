@@ -3,8 +3,8 @@ use Rattle.std.proofs.Math.Dec.{eqb}
 use Rattle.std.proofs.lemmas.List.Filters.{dedup_is}
 use Rattle.std.proofs.lemmas.Map.Keys.{IsStrictlyIncreasing-dedup}
 use Rattle.std.specs.List.Sorted.{IsStrictlyIncreasing}
-use Rattle.pb_rules.specs.inner.Indexed.{HasNamed}
-use Rattle.pb_rules.proofs.Indexing.{named_tidied}
+use Rattle.pb_rules.specs.inner.Obligations.{HasNamed}
+use Rattle.pb_rules.proofs.SetVars.{named_tidied}
 use Rattle.pb_rules.proofs.red.named_ids.Goals as goal
 
 pub returns-clause-named : goal.returns-clause-named

@@ -1,0 +1,12 @@
+pub mod Without
+pub mod SlotLemmas
+pub mod SoundLemmas
+pub mod OrderLemmas
+pub mod Mirroring
+pub mod Refuting
+pub mod Indexing
+pub mod Fronts
+pub mod Showings
+pub mod Least
+pub mod UnitLemmas
+pub mod PartClauses

@@ -1,0 +1,5 @@
+pub mod Sound
+pub mod Ordered
+pub mod Naming
+pub mod Refutations
+pub mod inner

@@ -1,6 +1,0 @@
-use Rattle.std.proofs.Common.{◌≡◌, ◌++◌, take}
-use Rattle.pb_rules.specs.inner.Slots.{listed_slots}
-use Rattle.pb_rules.proofs.apart.push_listed.Given as goal
-
-abbrev pub invariant-loop-id : goal.invariant-loop-id
-invariant-loop-id l = l.list ≡ l.initial.list ++ listed_slots l.slots (take l.id-index l.ids)

@@ -1,8 +1,0 @@
-use Rattle.std.proofs.Common.{ℕ, [], get_or, refl}
-use Rattle.pb_rules.specs.inner.Slots.{slot_of}
-use Rattle.pb_rules.proofs.SlotLemmas.{pushed_more}
-use Rattle.pb_rules.proofs.slots.listed.Goals as goal
-
-pub loop-id-preserved : goal.loop-id-preserved
-loop-id-preserved c =
-    pushed_more (λ (id : ℕ). (slot_of c.args.slots.now id).constraint) [] c.loop-id.list.items c.push_at.new.list.items c.args.ids.now c.loop-id.id-index (get_or c.args.ids.now c.loop-id.id-index 0) 0 c.loop-id-test.true refl c.loop-id.invariant c.in_ok-push_at.ensures
