@@ -1,0 +1,16 @@
+use Rattle.std.proofs.Common.{refl}
+use Rattle.pb_suite.specs.Programs.AnswersSome.{usage, no_memory}
+use Rattle.pb_suite.proofs.Programs.{answers_some}
+use Rattle.pb_suite.proofs.program.run_given.Goals as goal
+
+pub returns-in-Err-clause-answers : goal.returns-in-Err-clause-answers
+returns-in-Err-clause-answers g c = no_memory refl
+
+pub returns-in-Err-2-clause-answers : goal.returns-in-Err-2-clause-answers
+returns-in-Err-2-clause-answers g c = usage refl
+
+pub returns-in_default-clause-answers : goal.returns-in_default-clause-answers
+returns-in_default-clause-answers g c = no_memory refl
+
+pub returns-clause-answers : goal.returns-clause-answers
+returns-clause-answers g c = answers_some _ _ _ _ c.run.ensures.implements c.run.ensures.taken c.run.ensures.unmoved

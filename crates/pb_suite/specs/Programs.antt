@@ -1,0 +1,21 @@
+-- How the program ends, whose words the system gives. Our own.
+use Rattle.std.specs.Prelude.{ℕ, ◌≡◌}
+use Rattle.pb_desk.specs.Desk.{DeskState}
+use Rattle.pb_words.specs.Parsed.{Wanted}
+use Rattle.pb_suite.specs.declared.outcome.Outcome.{Outcome}
+use Rattle.pb_suite.specs.declared.outcome.Outcome.TheVariants as outcome
+use Rattle.pb_suite.specs.CommandSpecs.{spec_of}
+use Rattle.pb_suite.specs.Implementing.{Implements}
+use Rattle.pb_suite.specs.Statuses.{status_of}
+
+-- What some words ask for was done as it is specified; or the words ask for nothing, or memory was wanting for them, and the desk is left alone.
+pub data AnswersSome (old new : DeskState) : Outcome → Type 0 where
+  asked : (w : Wanted) → (answer : Outcome) → Implements (spec_of w) old new answer → AnswersSome old new answer
+  usage : new ≡ old → AnswersSome old new outcome.Usage
+  no_memory : new ≡ old → AnswersSome old new outcome.NoMemory
+
+-- an exit status that tells such an answer
+pub record Exits (old new : DeskState) (status : ℕ) : Type 0 where
+  pub answer : Outcome
+  pub answers : AnswersSome old new answer
+  pub tells : status ≡ status_of answer

@@ -1,0 +1,48 @@
+//! The program, but for the desk: its words, the fault line and the exit status.
+ghost use Rattle.std.specs.Prelude.{◌≡◌, ℕ, false};
+ghost use Rattle.std.specs.Process.{exit_status};
+ghost use Rattle.pb_desk.specs.Desk.{IsClosed};
+ghost use Rattle.pb_suite.specs.Programs.{AnswersSome, Exits};
+
+use crate::outcome::Outcome;
+use crate::running::run;
+use pb_desk::Desk;
+use std::process::ExitCode;
+use std::rt::Env;
+use std::{env, io};
+
+// A run with the words that the system gives.
+fn run_given<R: Env + AllocGlobal, D: Desk>(rt: &R, desk: &mut D) -> Outcome
+    requires closed { IsClosed (D.state desk.old) }
+    ensures answers { AnswersSome (D.state desk.old) (D.state desk.new) result }
+    ensures ended { result ≡ Outcome.Done → (slot : ℕ) → (D.state desk.new).view.writing slot ≡ false }
+{
+    let alloc = rt.alloc();
+    let args = match env::args(rt) {
+        Ok(args) => args,
+        Err(error) if error.kind() == io::ErrorKind::OutOfMemory => return Outcome::NoMemory,
+        // Words that are no UTF-8 are none that the program takes.
+        Err(_) => return Outcome::Usage,
+    };
+    let Ok(words) = args.collect::<Vec<String>>(alloc) else {
+        return Outcome::NoMemory;
+    };
+    run(alloc, &words, desk)
+}
+
+/// A run of the program over a desk, with the words that the system gives. A fault is told on standard error.
+pub fn run_program<R: Env + AllocGlobal + Eprint, D: Desk>(rt: &R, desk: &mut D) -> ExitCode
+    requires closed { IsClosed (D.state desk.old) }
+    // The exit status is that of what some words ask for, done as it is specified; or of words that ask for nothing or were not
+    // to be had, and then the desk is left alone.
+    ensures exits { Exits (D.state desk.old) (D.state desk.new) (exit_status result) }
+    // Where it is 0, all that was made is closed.
+    ensures ended { exit_status result ≡ 0 → (slot : ℕ) → (D.state desk.new).view.writing slot ≡ false }
+{
+    let outcome = run_given(rt, desk);
+    if !matches!(outcome, Outcome::Done) {
+        // Where standard error is closed, the status still tells.
+        let _ = eprintln!(rt; "{outcome}");
+    }
+    ExitCode::from(outcome.status())
+}
