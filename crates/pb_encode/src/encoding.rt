@@ -72,7 +72,7 @@ impl FileText for Measured<'_> {
 }
 
 /// The names of the files that are made.
-#[derive(Clone, Copy, PartialEq, Eq, Debug)]
+#[derive(Clone, Copy)]
 pub struct Names<'a> {
     pub cnf: &'a str,
     /// The derivation's file, if one is wanted.

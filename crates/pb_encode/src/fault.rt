@@ -10,7 +10,7 @@ use std::alloc::AllocError;
 use thiserror::Error;
 
 /// Why a problem is not measured.
-#[derive(Clone, Copy, PartialEq, Eq, Debug, Error)]
+#[derive(Clone, Copy, Debug, Error)]
 pub enum MeasureFault {
     /// The table of bounds would have more fresh variables than the budget, or there would be too many variables or clauses.
     #[error("limit {which}")]
@@ -29,7 +29,7 @@ impl From<NoMemory> for MeasureFault {
 }
 
 /// Why a problem is not encoded.
-#[derive(Clone, Copy, PartialEq, Eq, Debug, Error)]
+#[derive(Clone, Copy, Debug, Error)]
 pub enum EncodeFault {
     /// The table of bounds would have more fresh variables than the budget, or there would be too many variables or clauses.
     /// Then no file is made.

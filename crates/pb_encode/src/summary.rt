@@ -6,7 +6,7 @@ use itoa::Buffer;
 use std::alloc::{AllocError, Global};
 
 /// How many constraints are encoded in each way, where one that leaves nothing but units counts as nothing.
-#[derive(Clone, Copy, PartialEq, Eq, Debug)]
+#[derive(Clone, Copy)]
 pub struct Treatments {
     pub nothing: u64,
     pub empty: u64,
@@ -24,7 +24,7 @@ pub struct Treatments {
 }
 
 /// The size of an encoding.
-#[derive(Clone, Copy, PartialEq, Eq, Debug)]
+#[derive(Clone, Copy)]
 pub struct Summary {
     /// All variables.
     pub vars: u32,
