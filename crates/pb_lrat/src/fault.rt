@@ -5,7 +5,7 @@ use pb_steps::StepFault;
 use thiserror::Error;
 
 /// The first fault of a line, with the column of its word; why its clause may not be added; or want of memory.
-#[derive(Clone, Copy, Debug, PartialEq, Eq, Error)]
+#[derive(Clone, Copy, Debug, Error)]
 pub enum LratFault {
     /// No line goes on so; this could have stood there.
     #[error("column {column}: expected {expected}")]

@@ -10,7 +10,7 @@ use pb_dimacs::limit_place;
 use thiserror::Error;
 
 /// The first fault of a text, with its place; the line at which it is no refutation; or what kept it from being read.
-#[derive(Clone, Copy, PartialEq, Eq, Debug, Error)]
+#[derive(Clone, Copy, Debug, Error)]
 pub enum RefuteFault {
     /// No line goes on so; this could have stood there.
     #[error("{place}: expected {expected}")]
