@@ -22,7 +22,7 @@ use pb_norm::Linear;
 use std::alloc::Global;
 
 /// How many fresh variables and clauses an encoding has.
-#[derive(Clone, Copy, PartialEq, Eq, Debug)]
+#[derive(Clone, Copy, Debug)]
 pub struct Counts {
     pub fresh: u64,
     pub clauses: u64,

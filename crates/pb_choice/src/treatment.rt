@@ -1,7 +1,7 @@
 //! How constraints are treated.
 
 /// How what is left of a constraint is encoded, once its units are taken.
-#[derive(Clone, Copy, PartialEq, Eq, Debug)]
+#[derive(Clone, Copy, Debug)]
 pub enum Treatment {
     /// Nothing is left.
     Nothing,
