@@ -12,7 +12,7 @@ use clap::ArgMatches;
 const MAX_COUNT: u32 = 1_000_000;
 
 /// Encode a generated problem: which one, and the file that is made, if one is.
-#[derive(Clone, Copy, PartialEq, Eq, Debug)]
+#[derive(Clone, Copy)]
 pub struct BenchArgs<'a> {
     /// How many statements the problem has, up to 1,000,000.
     pub count: u32,

@@ -9,7 +9,7 @@ use crate::command::Syntax;
 use clap::ArgMatches;
 
 /// Decode a model: the two files that are read.
-#[derive(Clone, Copy, PartialEq, Eq, Debug)]
+#[derive(Clone, Copy)]
 pub struct DecodeArgs<'a> {
     /// The name of the OPB file.
     pub opb: &'a str,

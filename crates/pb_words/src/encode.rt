@@ -14,7 +14,7 @@ use clap::ArgMatches;
 use pb_base::Options;
 
 /// Encode a problem: the file that is read, the files that are made, and how.
-#[derive(Clone, Copy, PartialEq, Eq, Debug)]
+#[derive(Clone, Copy)]
 pub struct EncodeArgs<'a> {
     /// The name of the OPB file.
     pub opb: &'a str,

@@ -6,7 +6,7 @@ use std::alloc::AllocError;
 use thiserror::Error;
 
 /// Why no request was taken from the words.
-#[derive(Clone, Copy, PartialEq, Eq, Debug, Error)]
+#[derive(Clone, Copy, Debug, Error)]
 pub enum WordsFault {
     /// The words are none that the program takes.
     #[error("usage: encode, check, decode, probe or bench")]

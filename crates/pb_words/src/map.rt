@@ -8,7 +8,7 @@ use crate::command::Syntax;
 use clap::ArgMatches;
 
 /// List the free names of a problem: the file that is read.
-#[derive(Clone, Copy, PartialEq, Eq, Debug)]
+#[derive(Clone, Copy)]
 pub struct MapArgs<'a> {
     /// The name of the OPB file.
     pub opb: &'a str,

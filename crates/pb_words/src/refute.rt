@@ -10,7 +10,7 @@ use crate::command::Syntax;
 use clap::ArgMatches;
 
 /// Check a derivation and a refutation of the CNF: the four files that are read.
-#[derive(Clone, Copy, PartialEq, Eq, Debug)]
+#[derive(Clone, Copy)]
 pub struct RefuteArgs<'a> {
     /// What is checked first.
     pub checking: CheckArgs<'a>,

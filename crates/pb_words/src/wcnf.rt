@@ -11,7 +11,7 @@ use clap::ArgMatches;
 use pb_base::Options;
 
 /// Encode a problem and its objective: the file that is read, the file that is made, and how.
-#[derive(Clone, Copy, PartialEq, Eq, Debug)]
+#[derive(Clone, Copy)]
 pub struct WcnfArgs<'a> {
     /// The name of the OPB file.
     pub opb: &'a str,
