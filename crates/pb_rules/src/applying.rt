@@ -15,7 +15,7 @@ use pb_database::Database;
 use pb_steps::{PolOp, Set, Step};
 
 /// What an allowed step answers.
-#[derive(Clone, Copy, PartialEq, Eq, Debug)]
+#[derive(Clone, Copy)]
 pub enum Applied {
     /// A constraint joined under this id.
     Id(u64),
