@@ -2,7 +2,7 @@
 use pb_base::{Lit, Var};
 
 /// An operation on a stack of constraints in postfix notation (cutting planes as in Gocht et al. 2022).
-#[derive(Clone, Copy, PartialEq, Eq, Debug)]
+#[derive(Clone, Copy)]
 pub enum PolOp {
     /// Pushes the live constraint with an id.
     Push(u64),
@@ -21,7 +21,7 @@ pub enum PolOp {
 }
 
 /// A variable, and the value that a substitution gives it (Gocht and Nordström 2021).
-#[derive(Clone, Copy, PartialEq, Eq, Debug)]
+#[derive(Clone, Copy)]
 pub struct Set {
     pub var: Var,
     pub value: bool,
