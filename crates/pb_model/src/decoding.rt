@@ -10,7 +10,7 @@ use crate::widened::Widened;
 use pb_base::{Problem, Relation, Statement, Statements, Term, TermsLeft};
 
 /// What a model comes to beside a problem.
-#[derive(Clone, Copy, Debug, PartialEq, Eq)]
+#[derive(Clone, Copy)]
 pub enum Decoded {
     /// The solver does not say that there is a model.
     NoModel,

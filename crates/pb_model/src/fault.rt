@@ -5,7 +5,7 @@ use thiserror::Error;
 
 /// The first fault of a model text, with the place of its word (none where the whole text is too
 /// long), or want of memory.
-#[derive(Clone, Copy, Debug, PartialEq, Eq, Error)]
+#[derive(Clone, Copy, Debug, Error)]
 pub enum ModelFault {
     /// No model text goes on so; this could have stood there.
     #[error("{place}: expected {expected}")]

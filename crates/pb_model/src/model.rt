@@ -2,7 +2,7 @@
 use pb_base::Bits;
 
 /// What a solver says of the clauses.
-#[derive(Clone, Copy, Debug, PartialEq, Eq)]
+#[derive(Clone, Copy)]
 pub enum Says {
     /// That they have a model.
     Satisfiable,
