@@ -10,7 +10,7 @@ use std::alloc::Global;
 use thiserror::Error;
 
 /// Why a problem gets no bound on its objective.
-#[derive(Clone, Copy, Debug, PartialEq, Eq, Error)]
+#[derive(Clone, Copy, Debug, Error)]
 pub enum BoundFault {
     /// The absolute values of the bound and of the objective's coefficients add up to 2^100 or more.
     #[error("the bound and the coefficients add up to too much")]
