@@ -5,7 +5,7 @@ ghost use Rattle.pb_desk.specs.Limits.{limit_of_piece};
 use pb_base::LimitKind;
 
 /// How much a text may have at most.
-#[derive(Clone, Copy, Debug, PartialEq, Eq)]
+#[derive(Clone, Copy)]
 pub struct LineLimits {
     /// Bytes of the text, with its line ends.
     pub text: u64,

@@ -15,7 +15,7 @@ use std::marker::Model;
 use thiserror::Error;
 
 /// Why a line was not read.
-#[derive(Clone, Copy, Debug, PartialEq, Eq, Error)]
+#[derive(Clone, Copy, Debug, Error)]
 pub enum LineFault {
     /// A read failed, and the desk counted that.
     #[error("a read failed")]

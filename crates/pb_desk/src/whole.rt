@@ -20,7 +20,7 @@ pub fn make_room(alloc: Global) -> Result<Vec<u8>, AllocError>
 }
 
 /// Why a text was not read whole.
-#[derive(Clone, Copy, Debug, PartialEq, Eq, Error)]
+#[derive(Clone, Copy, Debug, Error)]
 pub enum TextFault {
     /// A read failed, and the desk counted that.
     #[error("a read failed")]
