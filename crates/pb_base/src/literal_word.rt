@@ -7,7 +7,7 @@ use crate::literal::{Lit, Var};
 use crate::number::{Number, read_digits};
 
 /// What a word spells, read as a literal.
-#[derive(Clone, Copy, Debug, PartialEq, Eq)]
+#[derive(Clone, Copy)]
 pub enum LitWord {
     /// A literal of a variable below 2 ^ 31.
     Within(Lit),

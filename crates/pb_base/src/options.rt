@@ -2,7 +2,7 @@
 ghost use Rattle.std.specs.Prelude.{◌≤◌};
 
 /// How an at-most-one constraint is encoded.
-#[derive(Clone, Copy, PartialEq, Eq, Debug)]
+#[derive(Clone, Copy, Debug)]
 pub enum Amo {
     /// By its size: `Pairwise`, then `Ladder`, then `Product`.
     Auto,
@@ -15,7 +15,7 @@ pub enum Amo {
 }
 
 /// How a cardinality constraint is encoded.
-#[derive(Clone, Copy, PartialEq, Eq, Debug)]
+#[derive(Clone, Copy, Debug)]
 pub enum Card {
     /// By its bound: `Counter`, then `Totalizer`.
     Auto,
@@ -26,7 +26,7 @@ pub enum Card {
 }
 
 /// How a constraint with different coefficients is encoded.
-#[derive(Clone, Copy, PartialEq, Eq, Debug)]
+#[derive(Clone, Copy, Debug)]
 pub enum General {
     /// The interval diagram (Abío et al. 2012).
     Diagram,
@@ -37,7 +37,7 @@ pub enum General {
 }
 
 /// How the two halves of an equality are encoded.
-#[derive(Clone, Copy, PartialEq, Eq, Debug)]
+#[derive(Clone, Copy, Debug)]
 pub enum EqualMode {
     /// One by one.
     Split,
@@ -46,7 +46,7 @@ pub enum EqualMode {
 }
 
 /// What may be chosen of an encoding.
-#[derive(Clone, Copy, PartialEq, Eq, Debug)]
+#[derive(Clone, Copy, Debug)]
 pub struct Options {
     /// The family of at-most-one constraints.
     pub amo: Amo,
