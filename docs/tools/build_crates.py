@@ -141,9 +141,9 @@ class Workshop:
             return subprocess.Popen(words, cwd=crate.folder, stdin=subprocess.DEVNULL, stdout=log, stderr=subprocess.STDOUT)
 
     def link(self, crate):
-        """Links a program of the object that was built; whether that succeeded."""
+        """Links a program of the object that was built, beside an older one; whether that succeeded."""
         made, kit = self.made(crate), self.kit.KIT
-        words = ["--target", TARGET, "--toolchain", "%s/toolchain" % kit, "-o", made, made + ".o",
+        words = ["--target", TARGET, "--toolchain", "%s/toolchain" % kit, "-o", made + ".new", made + ".o",
                  "%s/c/libos_c.a" % kit, "%s/c/liblibc_c.a" % kit]
         with open(self.log(crate), "ab") as log:
             linker = [*self.kit.guarded(), "%s/bin/rattle-link" % kit, *words]
@@ -156,6 +156,8 @@ class Workshop:
             raise Refused("%s is not proved and built; %s says why" % (crate.name, os.path.relpath(self.log(crate))))
         if self.stamps.is_changed(crate):
             raise Refused("the sources of %s, or of a crate below it, changed while it was built; ./build goes on from there" % crate.name)
+        if crate.is_program:
+            os.replace(self.made(crate) + ".new", self.made(crate))
         with open(self.stamp_file(crate), "w", encoding="utf-8") as file:
             file.write(self.stamp(crate))
 

@@ -174,9 +174,13 @@ for command in encode check decode probe bench refute map wcnf; do
     expect 70 launch "$command" a b
 done
 
-# The one that was built here, under a stamp that is newer than all sources; else the one of release/ is told of.
+# The one that was built here, where it is newer than all sources, or has a stamp that is.
 put_program "$built"
-expect 70 launch bench 1 0
+expect 0 launch bench 1 0
+says "$built"
+tells
+touch "$source"
+refused 'none that is as new was built here'
 : >"$copy/$built.stamp"
 expect 0 launch bench 1 0
 says "$built"
