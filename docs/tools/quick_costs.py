@@ -6,12 +6,14 @@ What was measured stands in quick_seconds.json beside this file; `tests/quick --
 import json
 import os
 
-from build_plan import FIXED_SECONDS, KEPT_SHARE
+from build_plan import FIXED_SECONDS
 from crate_list import TOP
 
 TABLE = os.path.join(TOP, "docs", "tools", "quick_seconds.json")
+# After a change of a body, a proof over kept work takes this share of the seconds of one from nothing.
+AGAIN_SHARE = 0.08
 # Of an edit, of the tests of a crate, and of those of the program.
-EDIT, TESTS, PROGRAM = 20, 190, 60
+EDIT, TESTS, PROGRAM = 12, 190, 60
 
 
 def read_table():
@@ -47,7 +49,7 @@ class QuickCosts:
 
     def again(self, name, from_nothing):
         """Of a crate's proof over kept work, after a change of a body in it or below it."""
-        return self.of(name, "again", FIXED_SECONDS + KEPT_SHARE * from_nothing)
+        return self.of(name, "again", FIXED_SECONDS + AGAIN_SHARE * from_nothing)
 
     def edits(self, name, number):
         """Of a try of all edits of a crate."""

@@ -94,7 +94,7 @@ mkdir -p "$copy/crates/pbcnf_c/out/incremental"
 expect 0 quick --tests
 done_with '10 passed, 0 failed' 'edits pb_left' 'end pb_left' 'end pbcnf' 'end pbcnf_c' run test
 
-# An edit that is not refused, a test that fails: the crate counts as changed until they do not.
+# An edit that is not refused: its crate counts as changed until it is. The tests of the program are run each time.
 printf '# another\n' >"$copy/crates/pb_low/edits/one.edit"
 program edits 'FAILED pb_low/one: PROVED: not refused' 1
 expect 1 quick

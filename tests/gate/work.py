@@ -21,8 +21,6 @@ for name; do
 done
 exit $status
 """
-
-
 # What kinds of steps there are: a proof over kept work or from nothing, a try of edits, tests of crates, and those of the program.
 AGAIN, ANEW, EDITS, TESTS, PROGRAM = "proof", "proof from nothing", "edits", "tests", "tests/run"
 
