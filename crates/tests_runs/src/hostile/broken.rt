@@ -98,7 +98,12 @@ fn broken(alloc: Global, asked: Asked, at: usize) -> Option<String> {
 }
 
 // The same of texts that are strings.
-fn broken_of(alloc: Global, words: &str, texts: &[&str; 4], at: usize) -> Option<String> {
+fn broken_of<'x>(
+    alloc: Global,
+    words: &'x str,
+    texts: &'x [&'x str; 4],
+    at: usize,
+) -> Option<String> {
     let [first, second, third, fourth] = texts;
     let texts = [
         first.as_bytes(),

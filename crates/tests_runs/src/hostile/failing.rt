@@ -181,7 +181,13 @@ fn is_tried(alloc: Global, asked: Asked, count: usize) -> bool {
 }
 
 // The same of the first `count` of two texts.
-fn is_tried_over(alloc: Global, words: &str, first: &str, second: &str, count: usize) -> bool {
+fn is_tried_over<'x>(
+    alloc: Global,
+    words: &'x str,
+    first: &'x str,
+    second: &'x str,
+    count: usize,
+) -> bool {
     let texts = [first.as_bytes(), second.as_bytes(), b"", b""];
     is_tried(alloc, Asked { words, texts }, count)
 }
