@@ -16,6 +16,8 @@ import zipfile
 
 _HERE = os.path.dirname(os.path.realpath(__file__))
 _NAME = "libpbcnf.so.0"
+# The modules of pbcnf.tools that are commands.
+_COMMANDS = ("core", "minimize", "solve", "tidy", "veripb")
 _SUMMARY = "The proved encoder of pseudo-Boolean problems as CNF, by its C library"
 # Processors by their numbers in the head of a library.
 _MACHINES = {62: "x86_64", 183: "aarch64"}
@@ -31,9 +33,10 @@ def build_wheel(wheel_directory, config_settings=None, metadata_directory=None):
         library = file.read()
     version, tag = _version(), "py3-none-" + _platform(library)
     about = "pbcnf-%s.dist-info/" % version
-    files = {"pbcnf/" + name: _read("pbcnf", name) for name in ("__init__.py", "py.typed")}
+    files = {"pbcnf/" + name: _read("pbcnf", *name.split("/")) for name in _modules()}
     files["pbcnf/" + _NAME] = library
     files[about + "METADATA"] = _lines("Metadata-Version: 2.1", "Name: pbcnf", "Version: " + version, "Summary: " + _SUMMARY, "Requires-Python: >=3.8")
+    files[about + "entry_points.txt"] = _lines("[console_scripts]", *("pbcnf-%s = pbcnf.tools.%s:main" % (name, name) for name in _COMMANDS))
     files[about + "WHEEL"] = _lines("Wheel-Version: 1.0", "Generator: pbcnf", "Root-Is-Purelib: false", "Tag: " + tag)
     files[about + "RECORD"] = _lines(*(_entry(name, files[name]) for name in files), about + "RECORD,,")
     wheel = "pbcnf-%s-%s.whl" % (version, tag)
@@ -67,6 +70,13 @@ def _platform(library):
     asked = [int(minor) for minor in re.findall(rb"\0GLIBC_2\.(\d+)", library)]
     # Names of wheels begin with glibc 2.5, or with the first version that a processor has.
     return "manylinux_2_%d_%s" % (max(asked + [5 if machine == "x86_64" else 17]), machine)
+
+
+def _modules():
+    """The files of the package, by their paths in it."""
+    top = os.path.join(_HERE, "pbcnf")
+    ways = (os.path.relpath(os.path.join(folder, name), top) for folder, _, names in os.walk(top) for name in names)
+    return sorted(way.replace(os.sep, "/") for way in ways if way.endswith((".py", "py.typed")))
 
 
 def _version():

@@ -3,7 +3,7 @@
 
 solvers='cadical kissat cryptominisat5 clasp picosat glucose minisat'
 # No page has pip fetch anything.
-export PIP_NO_INDEX=1 PIP_DISABLE_PIP_VERSION_CHECK=1
+export PIP_NO_INDEX=1 PIP_DISABLE_PIP_VERSION_CHECK=1 PYTHONDONTWRITEBYTECODE=1
 
 # The tools that a block of commands names and that are not there.
 missing() {
@@ -12,12 +12,20 @@ missing() {
         has $tool && continue
         grep -Eq "(^|[|=] ?|for )$tool( |\$)" "$1" && printf '%s ' $tool
     done
-    if grep -Eq '(examples/|pbcnf-)cheapest' "$1" && ! has cadical; then printf 'cadical '; fi
+    if grep -Eq '(examples/|pbcnf-)(cheapest|core)' "$1" && ! has cadical; then printf 'cadical '; fi
+    if grep -Eq '(examples/|pbcnf-)minimize' "$1"; then
+        cadical --help 2>"$state/cadical" | grep -q -e --lrat || printf 'cadical that writes LRAT '
+    fi
+    if grep -Eq '(examples/|pbcnf-)(minimize|core|tidy|veripb)' "$1" && ! has python3; then printf 'python3 '; fi
     if grep -Eq '(examples/|pbcnf-)solve' "$1"; then
         for tool in $solvers; do
             has $tool && any=$tool
         done
         [ -n "$any" ] || printf 'solver '
+    fi
+    if grep -Eq '(examples/|pbcnf-)(core|tidy)' "$1"; then
+        has python3 || printf 'python3 '
+        has cadical || ! grep -Eq '(examples/|pbcnf-)core' "$1" || printf 'cadical '
     fi
     # The programs of docs/LIBRARY.md are named so.
     if grep -Eq '/page/local/|(^|[ /])first[./]' "$1"; then
@@ -33,7 +41,6 @@ missing() {
 install_all() {
     local block
     installs "$PWD/page/local"
-    ln -s "$top/library" page/library
     for block in blocks/*.sh; do
         sed "s|~/\.local|$PWD/page/local|g" "$block" >"$block.new" && mv "$block.new" "$block"
     done
@@ -82,6 +89,7 @@ run_page() {
     mkdir -p page blocks
     cp -R "$examples" page/examples
     ln -s "$pbcnf" page/pbcnf
+    ln -s "$top/library" page/library
     awk -v to=blocks -f "$top/tests/blocks.awk" "$1"
     [ ! -d blocks/files ] || cp -R blocks/files/. page
     if grep -q '~/\.local/' "$1"; then install_all; fi

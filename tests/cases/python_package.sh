@@ -53,6 +53,10 @@ text seen.py 'import os, pbcnf' 'print(pbcnf.__version__, pbcnf.encode("+2 x1 +1
 
 try_install() {
     expect 0 fresh/bin/pip install "$@" "$package"
+    for command in solve minimize; do
+        expect 0 fresh/bin/pbcnf-$command --version
+        says "pbcnf $version"
+    done
     expect 0 $python seen.py
     says "$version [[1], [2, 3]]" 'True True'
     tells
@@ -75,8 +79,10 @@ try_wheel() {
     same "wheels/$wheel" "again/$wheel"
     expect 0 python3 -m zipfile -e "wheels/$wheel" inside
     (cd inside && find . -type f | LC_ALL=C sort) >found
-    holds found "./pbcnf-$version.dist-info/METADATA" "./pbcnf-$version.dist-info/RECORD" "./pbcnf-$version.dist-info/WHEEL" \
-        ./pbcnf/__init__.py ./pbcnf/libpbcnf.so.0 ./pbcnf/py.typed
+    (cd "$package" && find pbcnf -name '*.py' -o -name py.typed) >modules
+    { printf "pbcnf-$version.dist-info/%s\n" METADATA RECORD WHEEL entry_points.txt && echo pbcnf/libpbcnf.so.0 && cat modules; } |
+        sed 's|^|./|' | LC_ALL=C sort >due
+    same due found
     same "$library" inside/pbcnf/libpbcnf.so.0
     expect 0 fresh/bin/pip install --force-reinstall "wheels/$wheel"
     expect 0 $python seen.py

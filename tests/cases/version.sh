@@ -3,8 +3,8 @@
 
 copy="$PWD/a copy"
 version=$copy/docs/tools/version
-written='README.md docs/pbcnf.1 docs/pbcnf-cheapest.1 docs/pbcnf-hints.1 docs/pbcnf-solve.1 library/pbcnf.h library/python/pbcnf/__init__.py'
-written+=' library/rust/Cargo.toml'
+written='README.md docs/pbcnf.1 docs/pbcnf-cheapest.1 docs/pbcnf-hints.1 docs/pbcnf-minimize.1 docs/pbcnf-solve.1'
+written+=' library/pbcnf.h library/python/pbcnf/__init__.py library/rust/Cargo.toml'
 for file in VERSION CHANGELOG.md docs/tools/version $written; do
     mkdir -p "$copy/$(dirname "$file")"
     cp "$top/$file" "$copy/$file"

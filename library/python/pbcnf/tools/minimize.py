@@ -1,0 +1,143 @@
+"""`pbcnf-minimize`: a solution of the least value, better ones as they are found, and a proof that none is better."""
+
+from __future__ import annotations
+
+import argparse
+import os
+import sys
+from typing import List, Optional
+
+from pbcnf.tools import options, program, solvers, sources
+from pbcnf.tools.oracle import Oracle
+from pbcnf.tools.output import Unheard, complain, say, test_output
+from pbcnf.tools.progress import Progress
+from pbcnf.tools.search import Found, Search
+from pbcnf.tools.statuses import Status, Stop
+from pbcnf.tools.watch import Interrupted, Watch
+from pbcnf.tools.workspace import Workspace
+
+_NAME = "pbcnf-minimize"
+_ABOUT = "Finds a solution of the least value of an OPB problem, and has it refuted that any is better. Prints better ones as they come."
+_STATUSES = """exit status:
+  0   the optimum was printed, behind s OPTIMUM FOUND: it is refuted that any is better
+  20  that there is any solution is refuted: s UNSATISFIABLE was printed
+  2   a word has no place; nothing was done
+  4   the file could not be read
+  5   nothing can be printed, or kept
+  9   the solver gave no answer
+  65  there is no objective: a solution was printed
+  69  there is no solver, or no pbcnf
+  73  no temporary files could be made
+  75  a signal came, the time was over, or the solver writes no LRAT: the best
+      solution so far was printed behind s SATISFIABLE, or s UNKNOWN
+  else that of encode, decode or refute; the best solution so far was printed too
+"""
+
+
+def main(words: Optional[List[str]] = None) -> int:
+    """Runs the command, and gives its exit status."""
+    parser = options.parser(_NAME, _ABOUT, _STATUSES)
+    parser.add_argument("-q", "--quiet", action="store_true", help="nothing on standard error but faults")
+    parser.add_argument("--keep", metavar="FOLDER", help="put refuted.cnf, refuted.proof and refuted.lrat there, for pbcnf refute")
+    given = parser.parse_args(words)
+    try:
+        test_output()
+        return _run(given)
+    except Stop as stop:
+        if stop.words:
+            complain(_NAME, stop.words)
+        return stop.status
+    except KeyboardInterrupt:
+        return 130
+
+
+def _run(given: argparse.Namespace) -> int:
+    progress = Progress(_NAME, given.quiet)
+    watch = Watch(given.seconds, progress.tick)
+    path = program.find(os.environ)
+    solver = solvers.find(given.solver, os.environ, watch)
+    problem = sources.read(given.opb)
+    if not solver.writes_lrat and not given.quiet:
+        complain(_NAME, "%s writes no LRAT, so nothing will be refuted; CaDiCaL from 1.7 on does" % solver.name)
+    with watch, Workspace() as workspace:
+        proved = program.Program(path, watch, workspace, problem)
+        oracle = Oracle(proved, solver, workspace, options.of_encode(given), progress)
+        try:
+            return _Run(proved, oracle, progress, watch, problem).run(options.of_encode(given), given.keep)
+        except Stop as stop:
+            raise workspace.blame(stop)
+
+
+class _Run:
+    """One run of the command over a problem that was read."""
+
+    def __init__(self, proved: program.Program, oracle: Oracle, progress: Progress, watch: Watch, problem: bytes) -> None:
+        self._proved = proved
+        self._oracle = oracle
+        self._progress = progress
+        self._watch = watch
+        self._problem = problem
+        self._warned = False
+        self._said: Optional[int] = None
+
+    def run(self, chosen: List[str], keep: Optional[str]) -> int:
+        """Searches, has the end refuted, and prints the answer, also where something came between."""
+        search = Search(self._oracle, lambda: self._proved.values(chosen), self._report)
+        try:
+            search.run()
+            self._warn()
+            return self._conclude(search.found, keep)
+        except Interrupted as interrupted:
+            raise self._give_up(search.found, Stop(Status.UNPROVED, str(interrupted)))
+        except Stop as stop:
+            raise self._give_up(search.found, stop)
+        finally:
+            self._progress.clear()
+
+    def _report(self, found: Found) -> None:
+        """Prints what a better solution is worth, and both bounds."""
+        self._warn()
+        incumbent = found.incumbent
+        if incumbent is not None and incumbent.value is not None and incumbent.value != self._said:
+            self._progress.clear()
+            say("o %d\n" % incumbent.value)
+            self._said = incumbent.value
+        self._progress.knows(found, self._watch.seconds)
+
+    def _warn(self) -> None:
+        """Says once, of a text that was accepted, what makes one doubt that it is whole."""
+        if not self._warned:
+            self._warned = True
+            for doubt in sources.doubts(self._problem):
+                complain(_NAME, "warning: " + doubt)
+
+    def _conclude(self, found: Found, keep: Optional[str]) -> int:
+        best = found.incumbent
+        if best is None:
+            self._oracle.certify(None, keep)
+            say("s UNSATISFIABLE\n")
+            return Status.NO_SOLUTION
+        if best.value is None:
+            self._progress.clear()
+            complain(_NAME, "there is no objective")
+            say("s SATISFIABLE\n%s\n" % best.values)
+            return Status.NO_OBJECTIVE
+        self._oracle.certify(best.value - 1, keep)
+        self._progress.clear()
+        say("s OPTIMUM FOUND\n%s\n" % best.values)
+        return Status.DONE
+
+    def _give_up(self, found: Found, stop: Stop) -> Stop:
+        """Prints the best solution so far, if any, and gives how the command ends."""
+        self._progress.clear()
+        if isinstance(stop, Unheard):
+            return stop
+        if found.incumbent is not None:
+            say("s SATISFIABLE\n%s\n" % found.incumbent.values)
+        elif stop.status == Status.UNPROVED:
+            say("s UNKNOWN\n")
+        return stop
+
+
+if __name__ == "__main__":
+    sys.exit(main())

@@ -1,0 +1,72 @@
+"""The command line: what the commands share, and the options that they hand on to `encode`."""
+
+from __future__ import annotations
+
+import argparse
+import math
+from typing import List
+
+import pbcnf
+from pbcnf.tools.solvers import KNOWN
+
+_CHOICES = {
+    "amo": ("auto", "pairwise", "ladder", "product"),
+    "card": ("auto", "counter", "totalizer"),
+    "general": ("diagram", "tree", "adder"),
+    "equal": ("split", "joint"),
+}
+_ENVIRONMENT = """environment:
+  PBCNF         a program in place of the pbcnf beside this command or on the path
+  SOLVER        as --solver, where that is not given
+  TMPDIR        where temporary files lie, which are gone at the end
+"""
+
+
+def parser(name: str, about: str, statuses: str) -> argparse.ArgumentParser:
+    """A parser of the words that all commands have. `statuses` is the table that stands below its help."""
+    made = argparse.ArgumentParser(
+        prog=name, usage="%(prog)s OPB [option ..]", description=about, epilog=_ENVIRONMENT + "\n" + statuses, allow_abbrev=False, formatter_class=argparse.RawDescriptionHelpFormatter)
+    made.add_argument("opb", metavar="OPB", help="the problem, which may be packed (.gz, .bz2, .xz); - is standard input")
+    made.add_argument("--version", action="version", version="pbcnf " + pbcnf.__version__)
+    made.add_argument("--solver", metavar="CMD", help="the SAT solver, with its options; else the first on the path of " + ", ".join(KNOWN))
+    made.add_argument("--seconds", metavar="S", type=_seconds, help="end after so many seconds")
+    group = made.add_argument_group("options of encode")
+    for option, words in _CHOICES.items():
+        group.add_argument("--" + option, choices=words, help="default: " + words[0])
+    group.add_argument("--budget", metavar="B", type=_count, help="the most fresh variables of a constraint, past which it goes to the adder")
+    return made
+
+
+def add_bounds(made: argparse.ArgumentParser) -> None:
+    """Adds the options for a bound on the objective, for commands that choose none themselves."""
+    group = made.add_mutually_exclusive_group()
+    group.add_argument("--at-most", metavar="B", type=_count, help="the objective is to be at most B")
+    group.add_argument("--at-most-minus", metavar="B", type=_count, help="the objective is to be at most -B")
+
+
+def of_encode(words: argparse.Namespace) -> List[str]:
+    """The options of `encode` among the words."""
+    given = ((option, getattr(words, option)) for option in (*_CHOICES, "budget"))
+    return ["--%s=%s" % (option, value) for option, value in given if value is not None]
+
+
+def of_bound(words: argparse.Namespace) -> List[str]:
+    """The bound among the words, as `encode` and `decode` take it."""
+    given = (("at-most", words.at_most), ("at-most-minus", words.at_most_minus))
+    return ["--%s=%d" % (option, value) for option, value in given if value is not None]
+
+
+def _seconds(word: str) -> float:
+    try:
+        value = float(word)
+    except ValueError:
+        value = 0.0
+    if not (value > 0 and math.isfinite(value)):
+        raise argparse.ArgumentTypeError("%s is no number of seconds above 0" % word)
+    return value
+
+
+def _count(word: str) -> int:
+    if not (word.isascii() and word.isdigit()):
+        raise argparse.ArgumentTypeError("%s is no number in digits" % word)
+    return int(word)

@@ -1,0 +1,129 @@
+"""Finds the proved program, and runs its commands."""
+
+from __future__ import annotations
+
+import os
+import shutil
+import sys
+from dataclasses import dataclass
+from typing import Iterator, List, Mapping, Optional, Sequence
+
+from pbcnf.tools.statuses import Status, Stop
+from pbcnf.tools.values import Values
+from pbcnf.tools.watch import Watch
+from pbcnf.tools.workspace import Workspace
+
+# Where the launcher writes down which program it has tested, in its first line.
+_TESTED = "crates/pbcnf/out/tested"
+
+
+def find(environment: Mapping[str, str]) -> str:
+    """The program: the one that PBCNF names, the launcher beside examples/, the one beside this command, or the one on the path."""
+    places = [environment.get("PBCNF"), *_places(), shutil.which("pbcnf")]
+    for place in places:
+        if place:
+            return place
+    raise Stop(Status.MISSING, "pbcnf is not on the path")
+
+
+def _places() -> Iterator[str]:
+    """The programs that lie beside this command, or above it in a repository."""
+    command = os.path.dirname(os.path.abspath(sys.argv[0]))
+    top = os.path.abspath(os.path.join(os.path.dirname(os.path.realpath(__file__)), *[os.pardir] * 4))
+    places = [os.path.join(os.path.dirname(command), "pbcnf"), os.path.join(command, "pbcnf")]
+    if os.path.isdir(os.path.join(top, "examples")):
+        places.append(os.path.join(top, "pbcnf"))
+    return (place for place in places if os.path.isfile(place) and os.access(place, os.X_OK))
+
+
+def bound_option(value: int) -> str:
+    """The option for the statement that the objective is at most this."""
+    return "--at-most-minus=%d" % -value if value < 0 else "--at-most=%d" % value
+
+
+@dataclass(frozen=True)
+class Summary:
+    """What `encode` says of the CNF."""
+
+    variables: int
+    clauses: int
+
+
+@dataclass(frozen=True)
+class Solution:
+    """A solution that `decode` has tested against every statement."""
+
+    value: Optional[int]
+    """That of the objective, if there is one."""
+    values: str
+    """The `v` line."""
+
+
+class Program:
+    """The proved program over one problem. What it tells on standard error is the user's to read."""
+
+    def __init__(self, path: str, watch: Watch, workspace: Workspace, problem: bytes) -> None:
+        self._path = path
+        self._watch = watch
+        self._workspace = workspace
+        self._problem = workspace.write("opb", problem)
+
+    def encode(self, options: Sequence[str], cnf: str, proof: Optional[str] = None) -> Summary:
+        """Writes the CNF, and a derivation where a path for one is given."""
+        files = [self._problem, cnf] + ([proof] if proof else [])
+        counts = self._ask("encode", files, options).split("\n", 1)[0].split(" ")
+        return Summary(int(counts[1]), int(counts[counts.index("clauses") + 1]))
+
+    def decode(self, model: str, bound: Sequence[str] = ()) -> Solution:
+        """The solution that a solver's text gives."""
+        lines = self._ask("decode", [self._problem, model], bound).splitlines()
+        value = next((int(line[2:]) for line in lines if line.startswith("o ")), None)
+        return Solution(value, next(line for line in lines if line.startswith("v")))
+
+    def values(self, options: Sequence[str]) -> Values:
+        """The values that the objective's sum could have, whatever the statements are: its normal form, as `wcnf` writes it, is an
+        offset and the weights of the soft clauses."""
+        path = self._workspace.path("wcnf")
+        self._ask("wcnf", [self._problem, path], options)
+        with open(path, "rb") as file:
+            least = int(file.readline().split()[2])
+            weights = [int(line.split(b" ", 1)[0]) for line in file if line[:1].isdigit()]
+        os.unlink(path)
+        return Values(least, weights)
+
+    def refute(self, cnf: str, proof: str, lrat: str, bound: Sequence[str]) -> None:
+        """Comes back where the program says `refuted`."""
+        said = self._ask("refute", [self._problem, cnf, proof, lrat], bound)
+        if said != "refuted\n":
+            raise Stop(Status.NO_ANSWER, "refute has not said `refuted`")
+
+    def _ask(self, command: str, files: List[str], options: Sequence[str]) -> str:
+        """What a command says, where it ends with 0; else its status is that of all."""
+        path = self._workspace.path("said")
+        with open(path, "wb") as said:
+            try:
+                status = self._watch.run([self._path, command, *files, *options], stdout=said)
+            except OSError as error:
+                raise Stop(Status.MISSING, "%s: %s" % (self._path, error.strerror))
+        if status != 0:
+            self._watch.test()
+            raise Stop(_as_status(status))
+        self._skip_launcher()
+        with open(path, encoding="utf-8", errors="surrogateescape") as answer:
+            return answer.read()
+
+    def _skip_launcher(self) -> None:
+        """Calls the launcher's program itself from now on, once the launcher has run it: one test of it is enough for one problem."""
+        top = os.path.dirname(self._path)
+        try:
+            with open(os.path.join(top, _TESTED), encoding="utf-8") as file:
+                tested = os.path.join(top, file.readline().rstrip("\n"))
+        except OSError:
+            return
+        if os.path.isfile(tested) and os.access(tested, os.X_OK):
+            self._path = tested
+
+
+def _as_status(status: Optional[int]) -> int:
+    """A program's exit status as a shell has it, 128 and more for a signal."""
+    return Status.NO_ANSWER if status is None else status if status >= 0 else 128 - status

@@ -1,0 +1,273 @@
+"""The parts of pbcnf.tools that need no program: how others are run, files, the order of bounds, what a text makes one doubt."""
+
+import bz2
+import gzip
+import io
+import itertools
+import lzma
+import os
+import random
+import signal
+import sys
+import tempfile
+import threading
+import time
+import unittest
+import unittest.mock
+
+sys.path.insert(0, os.path.join(os.path.dirname(os.path.realpath(__file__)), os.pardir))
+
+from pbcnf.tools import progress, search, sources, stride, values, workspace  # noqa: E402
+from pbcnf.tools.program import Solution, Summary, bound_option  # noqa: E402
+from pbcnf.tools.solvers import Effort, Verdict  # noqa: E402
+from pbcnf.tools.statuses import Stop  # noqa: E402
+from pbcnf.tools.watch import Interrupted, Watch  # noqa: E402
+
+
+class Folder(unittest.TestCase):
+    """A test with a folder of its own."""
+
+    def setUp(self):
+        self.temporary = tempfile.TemporaryDirectory()
+        self.addCleanup(self.temporary.cleanup)
+        self.folder = self.temporary.name
+
+    def put(self, name, content):
+        path = os.path.join(self.folder, name)
+        with open(path, "wb") as file:
+            file.write(content)
+        return path
+
+
+class Running(Folder):
+    def test_status_of_the_other_program(self):
+        with Watch() as watch:
+            self.assertEqual(watch.run(["sh", "-c", "exit 20"]), 20)
+            self.assertEqual(watch.run(["sh", "-c", "kill -9 $$"]), -9)
+
+    def test_limit_of_one_run(self):
+        with Watch() as watch:
+            began = time.monotonic()
+            self.assertIsNone(watch.run(["sleep", "30"], seconds=0.1))
+            self.assertLess(time.monotonic() - began, 5)
+            self.assertEqual(watch.run(["true"]), 0)
+
+    def test_limit_of_all_runs(self):
+        with Watch(0.1) as watch:
+            with self.assertRaises(Interrupted) as raised:
+                watch.run(["sleep", "30"])
+            self.assertIsNone(raised.exception.signal)
+            with self.assertRaises(Interrupted):
+                watch.run(["true"])
+
+    def test_signals_end_the_program_and_what_it_started(self):
+        for number in (signal.SIGHUP, signal.SIGINT, signal.SIGTERM):
+            left = os.path.join(self.folder, "pid")
+            threading.Timer(0.3, os.kill, (os.getpid(), number)).start()
+            with Watch() as watch, self.assertRaises(Interrupted) as raised:
+                # The inner one stays at SIGTERM.
+                watch.run(["sh", "-c", "sh -c 'trap \"\" TERM; echo $$ >%s; sleep 30; sleep 30' & wait" % left])
+            self.assertEqual(raised.exception.signal, number)
+            with open(left) as file:
+                pid = int(file.read())
+            self.assertTrue(gone(pid), "what the program started still runs")
+
+    def test_handlers_are_as_before(self):
+        before = [signal.getsignal(number) for number in (signal.SIGINT, signal.SIGTERM, signal.SIGCHLD)]
+        with Watch():
+            pass
+        self.assertEqual(before, [signal.getsignal(number) for number in (signal.SIGINT, signal.SIGTERM, signal.SIGCHLD)])
+
+
+def gone(pid):
+    """Whether a process ends within some seconds; a zombie that nobody waits for has ended."""
+    for _ in range(200):
+        try:
+            with open("/proc/%d/stat" % pid) as file:
+                if file.read().rpartition(") ")[2][0] == "Z":
+                    return True
+        except FileNotFoundError:
+            return True
+        time.sleep(0.02)
+    return False
+
+
+class Files(Folder):
+    def test_workspace_is_gone_whatever_comes(self):
+        with self.assertRaises(KeyError):
+            with workspace.Workspace() as made:
+                made.write("cnf", b"p cnf 0 0\n")
+                os.mkdir(made.path("sub"))
+                raise KeyError
+        self.assertFalse(os.path.exists(made.folder))
+
+    def test_no_room_is_one_cause(self):
+        with workspace.Workspace() as made:
+            for free, wanted in ((0, 5), (16383, 5), (10 ** 9, 9)):
+                with unittest.mock.patch("shutil.disk_usage", return_value=unittest.mock.Mock(free=free)):
+                    blamed = made.blame(Stop(9, "no model"))
+                self.assertEqual(blamed.status, wanted)
+                self.assertEqual("TMPDIR" in blamed.words, wanted == 5)
+
+    def test_put_whole(self):
+        source = self.put("source", b"new")
+        workspace.put_whole(source, self.put("target", b"old"))
+        with open(os.path.join(self.folder, "target"), "rb") as file:
+            self.assertEqual(file.read(), b"new")
+        with self.assertRaises(Stop) as raised:
+            workspace.put_whole(source, os.path.join(self.folder, "missing", "target"))
+        self.assertEqual(raised.exception.status, 5)
+        self.assertEqual(sorted(os.listdir(self.folder)), ["source", "target"])
+
+    def test_packed_texts(self):
+        text = b"+1 x1 >= 1 ;\n"
+        for name, pack in (("a.opb", bytes), ("a.opb.gz", gzip.compress), ("a.opb.bz2", bz2.compress), ("a.opb.xz", lzma.compress)):
+            self.assertEqual(sources.read(self.put(name, pack(text))), text)
+
+    def test_texts_that_cannot_be_read(self):
+        packed = gzip.compress(b"+1 x1 >= 1 ;\n" * 1000)
+        paths = [self.put("cut.gz", packed[:-20]), self.put("no.gz", b"+1 x1 >= 1 ;\n"), self.put("no.xz", b"+1 x1 >= 1 ;\n")]
+        paths += [self.put("no.bz2", b"+1 x1 >= 1 ;\n"), self.folder, os.path.join(self.folder, "missing")]
+        for path in paths:
+            with self.assertRaises(Stop) as raised:
+                sources.read(path)
+            self.assertEqual(raised.exception.status, 4)
+            self.assertIn(path, raised.exception.words)
+
+    def test_doubts(self):
+        def doubts(text):
+            return list(sources.doubts(text))
+
+        head = b"* #variable= 2 #constraint= 2\n"
+        body = b"min: +1 x1 ;\n+1 x1 >= 1 ; * one; two;\n"
+        self.assertEqual(doubts(head + body), ["the first line says 2 constraints, and the text has 1: was it cut off?"])
+        self.assertEqual(doubts(head + body + b"+1 x2 >= 1 ;"), [])
+        self.assertEqual(doubts(body), [])
+        for text in (b"", b"* nothing ;\n", b"min: +1 x1 ;\n"):
+            self.assertEqual(doubts(text), ["the text has no statement"])
+
+
+class Bounds(unittest.TestCase):
+    def test_options(self):
+        self.assertEqual([bound_option(value) for value in (19, 0, -4)], ["--at-most=19", "--at-most=0", "--at-most-minus=4"])
+
+    def test_steps_stay_within(self):
+        draw = random.Random(1)
+        for _ in range(100):
+            steps = stride.Stride()
+            for _ in range(20):
+                places = draw.randint(1, 100)
+                self.assertTrue(1 <= steps.length(places) <= places)
+                draw.choice([steps.found, lambda: steps.undecided(False), lambda: steps.undecided(True)])()
+
+    def test_values(self):
+        draw = random.Random(2)
+        for count in (0, 1, 3, 5, 12):
+            for size in (3, 10 ** 25):
+                weights = [draw.randint(1, size) * 7 for _ in range(count)]
+                least = draw.randint(-size, size)
+                sums = sorted({least + sum(taken) for length in range(count + 1) for taken in itertools.combinations(weights, length)})
+                made = values.Values(least, weights)
+                places = [made.place(value) for value in sums]
+                self.assertEqual([made.at(place) for place in places], sums)
+                self.assertEqual((places[0], places), (0, sorted(set(places))))
+                # What is between two of them is the greater one's place.
+                self.assertEqual([made.place(value) for value in sums if made.at(made.place(value + 1) - 1) != value], [])
+                if count < 10 and size > 3:
+                    self.assertEqual(places, list(range(len(sums))))
+
+    def test_few_calls_where_values_are_few(self):
+        # Nine weights of 10^24: ten values, so at most four halves and the one below the incumbent.
+        oracle = Drawn(random.Random(3))
+        oracle.least, oracle.weights, oracle.calls = 0, [10 ** 24] * 9, 0
+        oracle.values = [count * 10 ** 24 for count in (5, 7, 9)]
+        oracle.patient = True
+        looking = search.Search(oracle, oracle.possible, lambda found: None)
+        looking.run()
+        self.assertEqual((looking.found.incumbent.value, looking.found.lower), (5 * 10 ** 24, 5 * 10 ** 24))
+        self.assertLessEqual(oracle.calls, 6)
+
+    def test_search_ends_with_the_least(self):
+        for seed in range(200):
+            told = []
+            oracle = Drawn(random.Random(seed))
+            looking = search.Search(oracle, oracle.possible, lambda found: told.append((found.incumbent.value, found.lower)))
+            looking.run()
+            self.assertEqual(looking.found.incumbent.value, min(oracle.values))
+            self.assertEqual(looking.found.lower, min(oracle.values))
+            self.assertEqual([value for value, _ in told], sorted((value for value, _ in told), reverse=True))
+
+    def test_search_of_nothing(self):
+        oracle = Drawn(random.Random(1))
+        oracle.values = []
+        looking = search.Search(oracle, lambda: self.fail("there is no sum"), lambda found: self.fail("nothing is found"))
+        looking.run()
+        self.assertIsNone(looking.found.incumbent)
+
+
+class Drawn:
+    """Answers for some values that solutions have, and gives up the more often the less effort it is given."""
+
+    def __init__(self, draw):
+        self.draw = draw
+        self.calls = 0
+        self.patient = False
+        self.least = draw.choice([-1, 1]) * draw.randint(0, 10 ** draw.randint(0, 30))
+        self.weights = [draw.randint(1, 10 ** draw.randint(1, 30)) for _ in range(draw.randint(0, 20))]
+        self.values = [self.least + sum(weight for weight in self.weights if draw.random() < 0.5) for _ in range(draw.randint(1, 20))]
+
+    def possible(self):
+        return values.Values(self.least, self.weights)
+
+    def ask(self, bound, effort=None):
+        self.calls += 1
+        if effort is not None and not self.patient and self.draw.random() > effort.conflicts / 1e5:
+            return Verdict.UNKNOWN
+        within = [value for value in self.values if bound is None or value <= bound]
+        return Solution(self.draw.choice(within), "v") if within else Verdict.NO_MODEL
+
+
+class Lines(unittest.TestCase):
+    """The line on standard error."""
+
+    def written(self, terminal, quiet=False, term="xterm"):
+        """What is written of a search that finds one solution and then raises the lower bound, with a tick behind each."""
+        error = io.StringIO()
+        error.isatty = lambda: terminal
+        with unittest.mock.patch("sys.stderr", error), unittest.mock.patch.dict(os.environ, TERM=term):
+            made = progress.Progress("tool", quiet)
+            made.asks(None, Summary(9, 12))
+            made.tick(0.5)
+            made.knows(search.Found(Solution(7, "v"), -4), 1.26)
+            made.asks(1, Summary(90, 120))
+            made.tick(2.0)
+            made.knows(search.Found(Solution(7, "v"), 2), 2.5)
+            made.clear()
+        return error.getvalue()
+
+    def test_lines_where_a_bound_has_changed(self):
+        wanted = "tool: 1.3 s: -4 <= objective <= 7; any: 9 variables, 12 clauses\n" \
+            "tool: 2.5 s: 2 <= objective <= 7; at most 1: 90 variables, 120 clauses\n"
+        self.assertEqual(self.written(False), wanted)
+        self.assertEqual(self.written(True, term="dumb"), wanted)
+
+    def test_drawn_in_place(self):
+        drawn = self.written(True).split("\r\033[K")
+        self.assertEqual(drawn[0], "")
+        self.assertEqual(drawn[1], "tool: 0.5 s: no solution yet; any: 9 variables, 12 clauses")
+        self.assertEqual(drawn[3], "tool: 2.0 s: -4 <= objective <= 7; at most 1: 90 variables, 120 clauses")
+        self.assertEqual((len(drawn), drawn[-1]), (6, ""))
+        self.assertNotIn("\n", "".join(drawn))
+        self.assertTrue(all(len(line) < 80 for line in drawn))
+
+    def test_quiet(self):
+        self.assertEqual(self.written(True, quiet=True), "")
+
+
+class Efforts(unittest.TestCase):
+    def test_times(self):
+        self.assertEqual(Effort(2000, 1.0).times(5), Effort(10000, 5.0))
+
+
+if __name__ == "__main__":
+    unittest.main()
