@@ -16,6 +16,7 @@ use Rattle.pb_steps.proofs.Keeping.{at-filter}
 use Rattle.pb_derive.specs.Later.{IsOther, IsLater}
 use Rattle.pb_derive.specs.Deletions.{deletion_steps}
 use Rattle.pb_derive.proofs.Held.{AreHeld}
+use Rattle.pb_derive.proofs.IdRanges.{each_between, range-apart}
 
 -- ---- which are listed
 
@@ -73,19 +74,6 @@ later_reduced P db mid ids fresh later = record {
 }
 
 -- ---- neighbouring ids
-
--- what holds of each id between holds of all
-each_between : (P : ℕ → Type 0) (id w : ℕ) → ((i : ℕ) → id ≤ i → i < id + w → P i) → All P (range_with_len id w)
-each_between P id zero h = All-nil P
-each_between P id (suc w) h =
-    All-cons P id (range_with_len (id + 1) w) (h id (omega arith) (omega arith)) (each_between P (id + 1) w (λ i low high. h i (omega (arith, low)) (omega (arith, high))))
-
--- they are different
-all_apart : (id w : ℕ) → AllPairs (λ i j. i ≢ j) (range_with_len id w)
-all_apart id zero = AllPairs-nil (λ (i j : ℕ). i ≢ j)
-all_apart id (suc w) =
-    AllPairs-cons (λ (i j : ℕ). i ≢ j) id (range_with_len (id + 1) w) (each_between (λ j. id ≢ j) (id + 1) w (λ j low high same. omega (arith, low, same)))
-    (all_apart (id + 1) w)
 
 -- an id that is not listed is outside
 left_apart : (id w i : ℕ) → is_left (range_with_len id w) i ≡ true → (i < id) ⊎ (id + w ≤ i)
@@ -150,7 +138,7 @@ deleted P db mid width id (suc n) low later held =
     let far = rest.kept (λ (e : Entry). (e.id < id) ⊎ (id + width ≤ e.id)) outside in
     record {
       end = rest.end;
-      runs = (less, deletion_allowed mid ids _ live unmarked (all_apart id width), rest.runs);
+      runs = (less, deletion_allowed mid ids _ live unmarked (range-apart id width), rest.runs);
       later = rest.later;
       next = rest.next;
       kept = λ Q h. rest.kept Q (reduced_all Q mid ids h);

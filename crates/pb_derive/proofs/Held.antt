@@ -88,14 +88,14 @@ held_added db ss cs end numbered takes h =
     let all : HeldFrom db.next end = adding_keeps (HeldFrom db.next) (held_grown db.next) db ss cs end takes h (omega arith, numbered, none) in
     all.2
 
-unmarked_grown : (n m : ℕ) (db : Database) (d : Constraint) → IsUnmarked n m db → IsUnmarked n m (grown db d)
-unmarked_grown n m db d u =
-    let Unmarked : Entry → Type 0 = λ e. n ≤ e.id → e.id < m → e.out ≡ false in
-    All-append Unmarked db.live (entry db.next d ∷ []) u (All-cons Unmarked (entry db.next d) [] (λ low high. refl) (All-nil Unmarked))
+-- what holds of each constraint and of each new one
+pub added_all : (Q : Entry → Type 0) → ((id : ℕ) (c : Constraint) → Q (entry id c)) → (db : Database) (ss : List Step) (cs : List (List Lit)) (end : Database) → AreAdding ss → Runs db ss cs end → All Q db.live → All Q end.live
+added_all Q new db ss cs end takes h all =
+    adding_keeps (λ (d : Database). All Q d.live) (λ d c q. All-append Q d.live (entry d.next c ∷ []) q (All-cons Q (entry d.next c) [] (new d.next c) (All-nil Q))) db ss cs end takes h all
 
 -- nothing of what stood before is put out
 pub added_unmarked : (n m : ℕ) (db : Database) (ss : List Step) (cs : List (List Lit)) (end : Database) → AreAdding ss → Runs db ss cs end → IsUnmarked n m db → IsUnmarked n m end
-added_unmarked n m db ss cs end takes h u = adding_keeps (IsUnmarked n m) (unmarked_grown n m) db ss cs end takes h u
+added_unmarked n m db ss cs end takes h u = added_all (λ (e : Entry). n ≤ e.id → e.id < m → e.out ≡ false) (λ id c low high. refl) db ss cs end takes h u
 
 -- ---- what is left beside what was put out
 

@@ -76,7 +76,7 @@ swept_none P db numbered = record {
 -- ---- claims
 
 -- a step that takes an id puts nothing out
-takes_keeps : (s : Step) → takes_id s ≡ true → (cs : List (List Lit)) → clauses_after s cs ≡ cs
+pub takes_keeps : (s : Step) → takes_id s ≡ true → (cs : List (List Lit)) → clauses_after s cs ≡ cs
 takes_keeps Blank h cs = refl
 takes_keeps Head h cs = refl
 takes_keeps (Loaded count) h cs = refl

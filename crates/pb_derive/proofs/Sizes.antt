@@ -35,7 +35,7 @@ adding-size (id ∷ ids) =
     let push : op_size (Push id) ≡ 20 = refl in
     omega (arith, sum_by-cons op_size (Push id) (flat_map push_and_add ids), push, adds-size ids)
 
-weakens-size : (vs : List ℕ) → sum_by op_size (map Weaken vs) ≡ 14 * length vs
+pub weakens-size : (vs : List ℕ) → sum_by op_size (map Weaken vs) ≡ 14 * length vs
 weakens-size [] = refl
 weakens-size (v ∷ vs) =
     let here : op_size (Weaken v) ≡ 14 = refl in

@@ -34,7 +34,7 @@ closing-stacked clause id ids vs = ap leaves_one (height-added ids (map Weaken v
 
 -- ---- division makes no number greater
 
-k-le-mul : (n k : ℕ) → 0 < n → k ≤ n * k
+pub k-le-mul : (n k : ℕ) → 0 < n → k ≤ n * k
 k-le-mul n k h = let more : 1 * k ≤ n * k = mul-le-mul_right k (omega arith) in omega arith
 
 quotient_up-le : (n k : ℕ) → 0 < n → quotient_up n k ≤ k
@@ -45,7 +45,7 @@ shrunk-weight n [] h = omega arith
 shrunk-weight n (t ∷ ts) h =
     omega (arith, weight-cons t ts, weight-cons (shrunk n t) (map (shrunk n) ts), shrunk-weight n ts h, quotient_up-le n t.coef h)
 
-divided_lighter : (n : ℕ) (c : Constraint) → 0 < n → (weight (division n c).terms ≤ weight c.terms) × ((division n c).degree ≤ c.degree)
+pub divided_lighter : (n : ℕ) (c : Constraint) → 0 < n → (weight (division n c).terms ≤ weight c.terms) × ((division n c).degree ≤ c.degree)
 divided_lighter n c h = (shrunk-weight n c.terms h, quotient_up-le n c.degree h)
 
 -- ---- what is on it

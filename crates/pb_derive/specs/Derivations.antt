@@ -1,4 +1,7 @@
 -- Derivations of the clauses that stand for a bounded sum (our own).
+-- A clause that follows by propagation names the ids of what it follows from. Its premise is about assignments, that the constraint
+-- cannot be met under any that makes the clause false. What is known is a predicate on ids and constraints, so that no database
+-- occurs in the proofs of a family.
 use Rattle.std.specs.Prelude.{ℕ, ◌+◌, ◌-◌, ◌≤◌, ◌<◌, List, map}
 use Rattle.pb_base.specs.declared.literal.Lit.{Lit}
 use Rattle.pb_norm.specs.Constraints.{Constraint, weight}

@@ -4,6 +4,8 @@ pub mod Ones
 pub mod Reifications
 pub mod Claims
 pub mod Deletions
+pub mod Outputs
+pub mod Stages
 pub mod Justifications
 pub mod Rups
 pub mod Phases
