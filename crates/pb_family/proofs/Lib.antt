@@ -12,6 +12,7 @@ pub mod Limits
 pub mod Looping
 pub mod Models
 pub mod Opposites
+pub mod Parts
 pub mod Pushes
 pub mod Ranges
 pub mod SameSteps

@@ -1,4 +1,7 @@
 -- How steps of derivations are handed to a sink (our own).
+-- What contracts know of the lines is the record that sinks of clauses have, with the same relations for text that is accepted or
+-- stopped; besides there is the id of the next step that takes one. After a fault the steps that were accepted whole are known
+-- (`StopsInSteps`), so that this id is right then too.
 use Rattle.std.specs.Prelude.{◌≡◌, ℕ, ◌+◌, List, [], ◌∷◌, ◌++◌, codes, count_by, Result}
 use Rattle.std.specs.List.{flat_map}
 use Rattle.std.specs.declared.result.Result.TheVariants.{Ok, Err}

@@ -1,4 +1,6 @@
 //! Steps that give a clause, or add constraints.
+//!
+//! `derive_propagated` is for short clauses: it finds a literal that is repeated by a look at the others.
 ghost use Rattle.std.specs.Prelude.{◌≡◌, ◌≤◌, ◌<◌, ◌+◌, ◌^◌, [], ◌∷◌, ◌++◌, pos, length, map, IfOk, OnOk};
 ghost use Rattle.pb_norm.specs.BoundedSums.{vars_of};
 ghost use Rattle.pb_norm.specs.ClauseForm.{one_of, distinct};
@@ -85,6 +87,7 @@ fn propagated_step(alloc: Global, ids: &[u64], clause: &[Lit]) -> Result<Step, A
 pub fn derive_sum<T: StepSink>(alloc: Global, ids: &[u64], sink: &mut T) -> SinkResult
     requires some { 1 ≤ length ids.now }
     requires few { (T.state sink.old).next < 2 ^ 62 }
+    // The line that adds the constraints was emitted, or a first part until the sink failed or memory ran out.
     ensures { HandsSteps (Pol (adding ids.now) ∷ []) result (T.state sink.old) (T.state sink.new) }
 {
     let ops = sum_of(alloc, ids)?;
@@ -110,6 +113,7 @@ pub fn derive_claim<T: StepSink>(
 ) -> SinkResult
     requires some { 1 ≤ length ids.now }
     requires few { (T.state sink.old).next + 1 < 2 ^ 62 }
+    // The clause's derivation by added constraints and its `out` were emitted, or a first part until the sink failed or memory ran out.
     ensures { HandsSteps (claimed (T.state sink.old).next ids.now (vars_of (weights weakened.now))) result (T.state sink.old) (T.state sink.new) }
 {
     derive_and_put_out(closing_step(alloc, ids, weakened), sink)
@@ -125,6 +129,8 @@ pub fn derive_by<T: StepSink>(
     sink: &mut T,
 ) -> SinkResult
     requires { (T.state sink.old).next + 1 < 2 ^ 62 }
+    // The clause's derivation by up to three added constraints and its `out` were emitted, or a first part until the sink failed or
+    // memory ran out.
     ensures { HandsSteps (claimed (T.state sink.old).next (listed first ++ (listed second ++ last ∷ [])) (vars_of (weights weakened.now))) result (T.state sink.old) (T.state sink.new) }
 {
     match first {
@@ -147,6 +153,8 @@ pub fn derive_propagated<T: StepSink>(
     sink: &mut T,
 ) -> SinkResult
     requires few { (T.state sink.old).next + 1 < 2 ^ 62 }
+    // The clause's derivation by propagation from the ids and its `out` were emitted, or a first part until the sink failed or memory ran
+    // out.
     ensures { HandsSteps (propagated (T.state sink.old).next ids.now clause.now) result (T.state sink.old) (T.state sink.new) }
 {
     derive_and_put_out(propagated_step(alloc, ids, clause), sink)

@@ -35,6 +35,7 @@ pub trait NumberedClauses {
 
 /// Hands over all clauses, in the order of their numbers.
 pub fn emit_all<C: NumberedClauses, S: ClauseSink>(of: &C, sink: &mut S) -> Result<(), Failed>
+    // All clauses were emitted, in the order of their numbers, or a first part until the sink failed.
     ensures { Hands (map (C.clause of.now) (range_with_len 0 (C.clause_count of.now))) result (S.state sink.old) (S.state sink.new) }
 {
     for number in 0..of.clauses() {
@@ -81,6 +82,8 @@ pub trait NumberedSteps {
 /// Hands over what all fresh variables mean.
 pub fn reify_all<N: NumberedSteps, T: StepSink>(alloc: Global, of: &N, sink: &mut T) -> SinkResult
     requires few { (T.state sink.old).next + 2 * N.fresh_count of.now < 2 ^ 62 }
+    // The reifications of all fresh variables were emitted, in the order of their numbers, or the first ones until the sink failed or
+    // memory ran out.
     ensures { HandsReifications (reifications_by_number (N.reification of.now) (N.fresh_count of.now)) result (T.state sink.old) (T.state sink.new) }
 {
     for number in 0..of.fresh() {
@@ -92,6 +95,8 @@ pub fn reify_all<N: NumberedSteps, T: StepSink>(alloc: Global, of: &N, sink: &mu
 /// Hands over that all clauses follow, and puts them out.
 pub fn claim_all<N: NumberedSteps, T: StepSink>(alloc: Global, of: &N, sink: &mut T) -> SinkResult
     requires few { (T.state sink.old).next + N.claim_count of.now < 2 ^ 62 }
+    // The derivations of all clauses were emitted, in the order of their numbers, or the first ones until the sink failed or memory ran
+    // out.
     ensures { HandsJustifications (justifications_by_number (N.justification of.now) (N.claim_count of.now)) result (T.state sink.old) (T.state sink.new) }
 {
     for number in 0..of.claims() {
@@ -103,6 +108,8 @@ pub fn claim_all<N: NumberedSteps, T: StepSink>(alloc: Global, of: &N, sink: &mu
 /// Hands over what all fresh variables mean, that all clauses follow, and that the reifications go.
 pub fn derive_all<N: NumberedSteps, T: StepSink>(alloc: Global, of: &N, sink: &mut T) -> SinkResult
     requires few { (T.state sink.old).next + 2 * N.fresh_count of.now + N.claim_count of.now < 2 ^ 62 }
+    // Reifications, derivations of all clauses and deletions of the reifications were emitted, or the first ones until the sink failed or
+    // memory ran out.
     ensures { HandsFrom (numbered_phases (N.reification of.now) (N.fresh_count of.now) (N.justification of.now) (N.claim_count of.now)) result (T.state sink.old) (T.state sink.new) }
 {
     let base = sink.next_id();

@@ -104,6 +104,8 @@ pub fn derive_reification<T: StepSink>(
 ) -> SinkResult
     requires light { weight (weights terms.now) + least < 2 ^ 124 }
     requires few { (T.state sink.old).next + 1 < 2 ^ 62 }
+    // The two lines were emitted by which the variable is true iff the terms reach the number, or a first part until the sink failed or
+    // memory ran out.
     ensures { HandsSteps (meant (T.state sink.old).next var (weights terms.now) least) result (T.state sink.old) (T.state sink.new) }
 {
     let id = sink.next_id();

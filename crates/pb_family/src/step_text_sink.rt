@@ -53,6 +53,7 @@ impl StepTextSink {
 
     /// The text that it holds: a line for each step.
     pub fn text(&self) -> &[u8]
+        // The text is the lines of the steps that were accepted.
         ensures { (⟦<StepTextSink as StepSink>⟧.state self.now).sink.lines ≡ Some result.now }
     {
         self.text.as_slice()

@@ -1,0 +1,34 @@
+//! Lines that compute a constraint.
+ghost use Rattle.std.specs.Prelude.{◌≡◌, ◌<◌, ◌^◌, [], ◌∷◌, pos, IfOk};
+ghost use Rattle.pb_steps.specs.declared.step.Step.TheVariants.{Pol};
+ghost use Rattle.pb_family.specs.StepSinks.{HandsSteps};
+
+use crate::sink::SinkResult;
+use crate::step_sink::StepSink;
+use pb_steps::{PolOp, PolOps, Step};
+use std::alloc::{AllocError, Global};
+
+// The line of some operations.
+fn line_of(alloc: Global, ops: &[PolOp]) -> Result<Step, AllocError>
+    ensures { IfOk result (λ step. step ≡ Pol ops.now) }
+{
+    let mut all = Vec::new(alloc);
+    all.extend_from_slice(ops)?;
+    Ok(Step::Pol(PolOps::from_vec(all)))
+}
+
+/// Hands over the line of some operations.
+pub fn derive_line<T: StepSink>(alloc: Global, ops: &[PolOp], sink: &mut T) -> SinkResult
+    requires few { (T.state sink.old).next < 2 ^ 62 }
+    ensures { HandsSteps (Pol ops.now ∷ []) result (T.state sink.old) (T.state sink.new) }
+{
+    let step = line_of(alloc, ops)?;
+    sink.step(&step)
+}
+
+/// A number as a factor.
+pub fn factor(number: u64) -> i128
+    ensures { result ≡ pos number }
+{
+    number as i128
+}
