@@ -31,6 +31,7 @@ impl FaultCount {
 
     /// One more fault, and the answer that tells of it: the count rises by one, up to its last value.
     pub fn rise(&mut self) -> Failed
+        // The count rose by one, or has reached its last value.
         ensures { Rose self.old self.new }
     {
         self.count = self.count.saturating_add(1);
@@ -39,7 +40,9 @@ impl FaultCount {
 
     /// One more, where that is so.
     pub fn rise_if(&mut self, is_so: bool)
+        // If there was a fault, the count rose by one, or has reached its last value.
         ensures so { is_so ≡ true → Rose self.old self.new }
+        // If there was none, it is as it was.
         ensures not_so { is_so ≡ false → self.new ≡ self.old }
     {
         if is_so {

@@ -33,6 +33,8 @@ fn read_index(positive: bool, digits: &[u8]) -> LitWord
 
 /// Reads a word of `x` and digits, as the variable or as its negation.
 pub fn read_variable(positive: bool, word: &[u8]) -> LitWord
+    // The answer is the variable that `x` and digits spell, or its negation; `TooGreat` iff it is 2^31 or more, and `NotALiteral` iff the
+    // word spells none.
     ensures { result ≡ limited_literal (variable_of positive word.now) }
 {
     match word {
@@ -43,6 +45,8 @@ pub fn read_variable(positive: bool, word: &[u8]) -> LitWord
 
 /// Reads a word of `x` and digits, behind an optional `~`.
 pub fn read_literal(word: &[u8]) -> LitWord
+    // The answer is the literal that `x` and digits spell, after an optional `~`; `TooGreat` iff its variable is 2^31 or more, and
+    // `NotALiteral` iff the word spells none.
     ensures { result ≡ limited_literal (literal_of word.now) }
 {
     match word {

@@ -78,6 +78,8 @@ impl Default for Options {
 
     /// What stands where nothing is chosen.
     fn default() -> Self
+        // At-most-one and cardinality constraints are encoded by their size, general ones by a diagram, equalities half by half; the
+        // budget is 50,000 fresh variables, and there is no table of bounds.
         ensures { result ≡ default_options }
     {
         Options {

@@ -99,6 +99,7 @@ impl Statements {
     /// The statements of these heads, each with its number of the terms that follow.
     pub fn from_columns(heads: Heads, terms: TermColumn) -> Statements
         requires { length terms ≡ term_count heads }
+        // The statements are those of the heads, each with its number of the terms that follow.
         ensures { result ≡ statements_in heads terms }
     {
         Statements {
@@ -108,6 +109,7 @@ impl Statements {
 
     /// How many statements there are.
     pub fn len(&self) -> usize
+        // The number is that of the statements.
         ensures { result ≡ length self.now }
     {
         self.columns.heads.len()
@@ -115,7 +117,9 @@ impl Statements {
 
     /// Adds a statement at the end.
     pub fn push(&mut self, terms: &[Term], relation: Relation, right: i128) -> Result<(), NoMemory>
+        // On success the statement is at the end.
         ensures ok { OnOk result (self.new ≡ self.old ++ record { terms = terms.now; relation = relation; right = right } ∷ []) }
+        // On failure the list is as it was.
         ensures err { OnErr result (self.new ≡ self.old) }
     {
         let Columns {
@@ -132,6 +136,7 @@ impl Statements {
 
     /// The statements, one after another.
     pub fn iter(&self) -> StatementsLeft<'_>
+        // The iterator gives the statements in order.
         ensures { result ≡ self.now }
     {
         StatementsLeft {
@@ -204,8 +209,11 @@ impl<'a> StatementsLeft<'a> {
     /// Writes the next statement over another, whose room is used again. At the end nothing changes, and the answer is false. Where
     /// memory is wanting, the statement is passed over.
     pub fn next_into(&mut self, raw: &mut Raw) -> Result<bool, NoMemory>
+        // If the answer is true, the statement is the next one.
         ensures more { IfOk result (λ more. IsTrue more → self.old ≡ raw.new ∷ self.new) }
+        // If the answer is false, none was left, and nothing changed.
         ensures end { IfOk result (λ more. IsFalse more → (self.old ≡ []) × (self.new ≡ []) × (raw.new ≡ raw.old)) }
+        // After `NoMemory` the next statement was passed over.
         ensures err { OnErr result ((s : Raw) × (self.old ≡ s ∷ self.new)) }
     {
         match self.next() {

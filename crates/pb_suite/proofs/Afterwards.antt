@@ -1,5 +1,5 @@
 -- What is implemented after a step that adds nothing is implemented from before it.
-use Rattle.std.proofs.Common.{arith, ◌∙◌, ◌<◌, ◌+◌, ℕ, List, Option, Some, None, inl, inr, length, subst}
+use Rattle.std.proofs.Common.{◌∙◌, ◌<◌, ◌+◌, ℕ, List, Option, Some, None, inl, inr, length, subst}
 use Rattle.std.specs.Prelude.{IsNone, IsSomeAnd}
 use Rattle.std.proofs.lemmas.List.{append-nil}
 use Rattle.pb_desk.specs.View.{Told}
@@ -7,7 +7,7 @@ use Rattle.pb_desk.specs.Desk.{DeskState, IfTold, IsTaken, IsTold}
 use Rattle.pb_base.proofs.FaultCounts.{rose_later}
 use Rattle.pb_suite.specs.declared.outcome.Outcome.{Outcome}
 use Rattle.pb_suite.specs.declared.outcome.Outcome.TheVariants as outcome
-use Rattle.pb_suite.specs.Implementing.{Answers, Counts, IsQuiet, ImplementsWithin, WritesHeld}
+use Rattle.pb_suite.specs.Implementing.{Answers, Counts, IsQuiet, Implements, WritesHeld}
 use Rattle.pb_suite.specs.Implementing.Answers.{done, refused, read_fault, write_fault, no_memory}
 use Rattle.pb_suite.specs.Implementing.WritesHeld.{cut_off, well}
 use Rattle.pb_suite.specs.Outputs.{nothing, IsMore, LacksFor, Output}
@@ -15,7 +15,7 @@ use Rattle.pb_suite.specs.Outputs.LacksFor.{is_taken, no_room, no_words}
 use Rattle.pb_suite.specs.CommandSpec.{LacksSpace, LacksText, MayStand, CommandSpec, Shelf}
 use Rattle.pb_suite.proofs.Going.{adds_after, keeps, Goes, was_told, was_if_told}
 
-module _ {few most : ℕ} (a b : DeskState) (goes : Goes few most nothing a b) where
+module _ {few : ℕ} (a b : DeskState) (goes : Goes few nothing a b) where
   -- what holds of a shelf
   of_shelf : (P : Shelf → Type 0) (t u : Told) → IsMore nothing t u → P u.shelf → P t.shelf
   of_shelf P t u more holds = subst P more.shelf holds
@@ -43,7 +43,7 @@ module _ {few most : ℕ} (a b : DeskState) (goes : Goes few most nothing a b) w
       words_were : (most : ℕ) (t u : Told) → IsMore nothing t u → most < length u.said + length out.said → most < length t.said + length out.said
       words_were most t u more full = subst (λ (xs : List ℕ). most < length xs + length out.said) (more.said ∙ append-nil t.said) full
 
-module _ (o : CommandSpec) {most : ℕ} (a b d : DeskState) (goes : Goes (length o.texts) most nothing a b) where
+module _ (o : CommandSpec) (a b d : DeskState) (goes : Goes (length o.texts) nothing a b) where
   lacks_text_was : LacksText o b → LacksText o a
   lacks_text_was lacks = (lacks.0, lacks.1, shelf_was a b goes (λ shelf. IsNone (shelf lacks.0.name)) lacks.2, shelf_was a b goes (λ shelf. o.stops shelf outcome.ReadFault) lacks.3)
 
@@ -78,11 +78,10 @@ module _ (o : CommandSpec) {most : ℕ} (a b d : DeskState) (goes : Goes (length
   counts_after outcome.NoModel counts = quiet_after counts
   counts_after (outcome.NotRefuted line why) counts = quiet_after counts
 
-  pub implements_after : {more : ℕ} (answer : Outcome) → ImplementsWithin o more b d answer → ImplementsWithin o (most + more) a d answer
+  pub implements_after : (answer : Outcome) → Implements o b d answer → Implements o a d answer
   implements_after answer implements = record {
     answers = answers_after answer implements.answers;
     opens = λ slot le. implements.opens slot le ∙ goes.reading slot le;
-    ends = omega (arith, implements.ends, goes.ends);
     counts = counts_after answer implements.counts;
     unsettled = implements.unsettled;
     no_text = λ steady is. lacks_text_was (implements.no_text (goes.adds.steady ∙ steady) is);

@@ -1,5 +1,5 @@
 -- How going through a CNF and a derivation side by side ends a command that is to do so.
-use Rattle.std.proofs.Common.{◌≡◌, ◌≢◌, List, [], ◌∷◌, ℕ, Option, Some, None, Ok, Err, codes, inl, inr, refl, sym, subst, ◌≤◌, ◌<◌, length, arith, ◌+◌, ◌∙◌, ap, drop, false, take}
+use Rattle.std.proofs.Common.{◌≡◌, ◌≢◌, List, [], ◌∷◌, ℕ, Option, Some, None, Ok, Err, codes, inl, inr, refl, sym, subst, ◌≤◌, ◌<◌, length, arith, ◌∙◌, ap, drop, false, take}
 use Rattle.std.specs.Prelude.{◌⊎◌, Contains, IfSome, IsSome, IsTrue}
 use Rattle.std.specs.Option.{unwrap_or}
 use Rattle.pb_base.specs.declared.expected.Expected.TheVariants.{PLine}
@@ -20,21 +20,21 @@ use Rattle.pb_check.specs.Walk.{Walk}
 use Rattle.pb_words.specs.CheckWords.{CheckWords}
 use Rattle.pb_suite.specs.declared.outcome.Outcome.{Outcome}
 use Rattle.pb_suite.specs.declared.outcome.Outcome.TheVariants as outcome
-use Rattle.pb_suite.specs.Implementing.{Implements, ImplementsWithin}
+use Rattle.pb_suite.specs.Implementing.{Implements}
 use Rattle.pb_suite.specs.Outputs.{nothing, only_words}
-use Rattle.pb_suite.specs.CommandSpec.{HasKind, CommandSpec, Shelf, Text, taken_in}
+use Rattle.pb_suite.specs.CommandSpec.{HasKind, CommandSpec, Ended, IsUnended, Shelf, Text, taken_in}
 use Rattle.pb_suite.specs.CheckSpec.{check_spec, IsJudged, IsUnjudged, StopsCheck}
 use Rattle.pb_suite.specs.CheckSpec.StopsCheck.{unread, token, limit, denial, lacking}
 use Rattle.pb_suite.specs.Denoted.{IsDenoted}
 use Rattle.pb_suite.specs.inner.Opening.{opened_both, HasBoth, IsOpened, StopsBefore, StopsOpening}
 use Rattle.pb_suite.specs.inner.Opening.StopsBefore.{not_opened, not_read}
 use Rattle.pb_suite.specs.inner.Opening.StopsOpening.{no_cnf, no_proof}
-use Rattle.pb_suite.specs.inner.Runs.{check_refusal, KeepsReading}
+use Rattle.pb_suite.specs.inner.Runs.{check_refusal, IsUnendedIn, KeepsReading}
 use Rattle.pb_suite.specs.inner.Saying.{EndsSaying}
 use Rattle.pb_suite.proofs.Afterwards.{implements_after}
 use Rattle.pb_suite.proofs.DenotedProblems.{denoted_by}
-use Rattle.pb_suite.proofs.Endings.{always, bare_memory, is_refused, is_unread, within_more, IsOpenIn}
-use Rattle.pb_suite.proofs.Going.{by_both_opened, by_both_taken, by_opened, by_same, goes_by, goes_fetched, goes_reading, goes_then, keeps_by, shelf_is_if, shelf_stays, Goes}
+use Rattle.pb_suite.proofs.Endings.{bare_memory, is_refused, is_unread, IsOpenIn}
+use Rattle.pb_suite.proofs.Going.{by_both_opened, by_both_taken, by_opened, by_same, goes_fetched, goes_reading, goes_then, keeps_by, shelf_is_if, shelf_stays, Goes}
 use Rattle.pb_suite.proofs.Posed.{posed, read_first, unread_ends}
 use Rattle.pb_suite.proofs.Says.{saying_implements}
 use Rattle.pb_suite.proofs.Takings.{taken-closed, taken-drop, taken-opened}
@@ -84,33 +84,43 @@ module _ (w : CheckWords) where
   check_checks = record { three = omega arith; has_cnf = has_cnf_text; has_proof = has_proof_text; cnf_kind = inr (inl refl); proof_kind = inr (inr (inl refl)); stops = λ shelf answer stops. stops }
 
   -- the two texts as a desk tells what was taken of them
-  abbrev pub UnjudgedIn : View → Told → Type 0
-  UnjudgedIn v t = IsUnjudged t.shelf w (taken_in v t)
+  abbrev pub UnjudgedIn : Ended → View → Told → Type 0
+  UnjudgedIn ended v t = IsUnjudged t.shelf w (taken_in v t) ended
 
-  -- neither text was opened
-  pub unbegun_all : (b : DeskState) → b.view.reading 1 ≡ false → b.view.reading 2 ≡ false → IfTold b (UnjudgedIn b.view)
-  unbegun_all b one two = always b (UnjudgedIn b.view) (λ t. inl (taken-closed b.view t 1 w.cnf one, taken-closed b.view t 2 w.proof two))
+  -- the problem's text was not read out, and neither of both was opened
+  unread_yet : (b : DeskState) → IsUnendedIn 0 w.opb b → b.view.reading 1 ≡ false → b.view.reading 2 ≡ false → IfTold b (UnjudgedIn b.ended b.view)
+  unread_yet b more one two = told_more b (λ t. IsUnended 0 w.opb (taken_in b.view t) b.ended) (UnjudgedIn b.ended b.view) (λ t is. inl (is, taken-closed b.view t 1 w.cnf one, taken-closed b.view t 2 w.proof two)) more
 
-  -- the first alone was
-  unbegun_second : (p : Problem) (a b : DeskState) → b.view ≡ opened 1 w.cnf a.view → a.view.reading 2 ≡ false → IfTold b (λ t. IsDenoted t.shelf w.opb w.bound p) → IfTold b (UnjudgedIn b.view)
-  unbegun_second p a b is two denoted =
-      both_told b (λ t. IsDenoted t.shelf w.opb w.bound p) (λ t. taken_in b.view t 1 w.cnf ≡ Some []) (UnjudgedIn b.view) (λ t has none. at t has none (taken-closed b.view t 2 w.proof (ap (λ (v : View). v.reading 2) is ∙ two))) denoted (taken-opened w.cnf a b is)
-    where
-      at : (t : Told) → IsDenoted t.shelf w.opb w.bound p → taken_in b.view t 1 w.cnf ≡ Some [] → taken_in b.view t 2 w.proof ≡ None → UnjudgedIn b.view t
-      at t has one other =
-          inr (p, has, subst (λ (x : Option (List ℕ)). LeavesOpen p (unwrap_or x []) (unwrap_or (taken_in b.view t 2 w.proof) [])) (sym one) (subst (λ (x : Option (List ℕ)). LeavesOpen p [] (unwrap_or x [])) (sym other) (nothing_judged p)))
+  -- there is a problem, and of both texts no byte was taken
+  module _ (p : Problem) (b : DeskState) (denoted : IfTold b (λ t. IsDenoted t.shelf w.opb w.bound p)) where
+    unbegun : (t : Told) → IsDenoted t.shelf w.opb w.bound p → unwrap_or (taken_in b.view t 1 w.cnf) [] ≡ [] → unwrap_or (taken_in b.view t 2 w.proof) [] ≡ [] → UnjudgedIn b.ended b.view t
+    unbegun t has one two =
+        inr (p, has, subst (λ (xs : List ℕ). LeavesOpen p xs (unwrap_or (taken_in b.view t 2 w.proof) [])) (sym one) (subst (λ (xs : List ℕ). LeavesOpen p [] xs) (sym two) (nothing_judged p)))
+
+    none_of : (t : Told) (slot : ℕ) (name : List ℕ) → b.view.reading slot ≡ false → unwrap_or (taken_in b.view t slot name) [] ≡ []
+    none_of t slot name closed = ap (λ (x : Option (List ℕ)). unwrap_or x []) (taken-closed b.view t slot name closed)
+
+    -- neither was opened
+    unbegun_both : b.view.reading 1 ≡ false → b.view.reading 2 ≡ false → IfTold b (UnjudgedIn b.ended b.view)
+    unbegun_both one two = told_more b (λ t. IsDenoted t.shelf w.opb w.bound p) (UnjudgedIn b.ended b.view) (λ t has. unbegun t has (none_of t 1 w.cnf one) (none_of t 2 w.proof two)) denoted
+
+    -- the first alone was
+    unbegun_second : (a : DeskState) → b.view ≡ opened 1 w.cnf a.view → a.view.reading 2 ≡ false → IfTold b (UnjudgedIn b.ended b.view)
+    unbegun_second a is two =
+        both_told b (λ t. IsDenoted t.shelf w.opb w.bound p) (λ t. taken_in b.view t 1 w.cnf ≡ Some []) (UnjudgedIn b.ended b.view)
+        (λ t has one. unbegun t has (ap (λ (x : Option (List ℕ)). unwrap_or x []) one) (none_of t 2 w.proof (ap (λ (v : View). v.reading 2) is ∙ two))) denoted (taken-opened w.cnf a b is)
 
   -- what is open for the check is so for a command that checks first, where no other slot was opened
   abbrev pub OpenBy : CommandSpec → DeskState → DeskState → Type 0
-  OpenBy o a b = KeepsReading 3 a b → IfTold b (UnjudgedIn b.view) → IsOpenIn o b
+  OpenBy o a b = KeepsReading 3 a b → IfTold b (UnjudgedIn b.ended b.view) → IsOpenIn o b
 
   -- one of both files was not opened
   pub unopened_implements : (o : CommandSpec) → Checks o → (p : Problem) (a b : DeskState) → a.view.reading 1 ≡ false → a.view.reading 2 ≡ false → OpenBy o a b
-      → IfTold a (λ t. IsDenoted t.shelf w.opb w.bound p) → StopsOpening w.cnf w.proof a b → ImplementsWithin o 0 a b outcome.ReadFault
-  unopened_implements o checks p a b one two unjudged denoted (no_cnf fails ends lacks) = is_unread o a b same (by_same (length o.texts)) fails (omega (arith, ends)) (λ steady. (cnf_text, checks.has_cnf, lacks steady, told_none_of a (λ shelf. shelf w.cnf) (λ shelf. o.stops shelf outcome.ReadFault) (λ shelf. IsDenoted shelf w.opb w.bound p) (λ shelf is none. checks.stops shelf _ (lacking p is (inl none))) denoted (lacks steady)))
-      (unjudged (keeps_by 3 same a b (by_same 3) fails.view) (unbegun_all b (ap (λ (v : View). v.reading 1) fails.view ∙ one) (ap (λ (v : View). v.reading 2) fails.view ∙ two)))
-  unopened_implements o checks p a b one two unjudged denoted (no_proof fails ends lacks) = is_unread o a b (opened 1 w.cnf) (by_opened (length o.texts) 1 w.cnf (omega (arith, checks.three))) fails (omega (arith, ends)) (λ steady. (proof_text, checks.has_proof, lacks steady, told_none_of a (λ shelf. shelf w.proof) (λ shelf. o.stops shelf outcome.ReadFault) (λ shelf. IsDenoted shelf w.opb w.bound p) (λ shelf is none. checks.stops shelf _ (lacking p is (inr none))) denoted (lacks steady)))
-      (unjudged (keeps_by 3 (opened 1 w.cnf) a b (by_opened 3 1 w.cnf (omega arith)) fails.view) (unbegun_second p a b fails.view two (shelf_stays (opened 1 w.cnf) a b (by_opened 3 1 w.cnf (omega arith)) fails (λ shelf. IsDenoted shelf w.opb w.bound p) denoted)))
+      → IfTold a (λ t. IsDenoted t.shelf w.opb w.bound p) → StopsOpening w.cnf w.proof a b → Implements o a b outcome.ReadFault
+  unopened_implements o checks p a b one two unjudged denoted (no_cnf fails lacks) = is_unread o a b same (by_same (length o.texts)) fails (λ steady. (cnf_text, checks.has_cnf, lacks steady, told_none_of a (λ shelf. shelf w.cnf) (λ shelf. o.stops shelf outcome.ReadFault) (λ shelf. IsDenoted shelf w.opb w.bound p) (λ shelf is none. checks.stops shelf _ (lacking p is (inl none))) denoted (lacks steady)))
+      (unjudged (keeps_by 3 same a b (by_same 3) fails.view) (unbegun_both p b (shelf_stays same a b (by_same 3) fails (λ shelf. IsDenoted shelf w.opb w.bound p) denoted) (ap (λ (v : View). v.reading 1) fails.view ∙ one) (ap (λ (v : View). v.reading 2) fails.view ∙ two)))
+  unopened_implements o checks p a b one two unjudged denoted (no_proof fails lacks) = is_unread o a b (opened 1 w.cnf) (by_opened (length o.texts) 1 w.cnf (omega (arith, checks.three))) fails (λ steady. (proof_text, checks.has_proof, lacks steady, told_none_of a (λ shelf. shelf w.proof) (λ shelf. o.stops shelf outcome.ReadFault) (λ shelf. IsDenoted shelf w.opb w.bound p) (λ shelf is none. checks.stops shelf _ (lacking p is (inr none))) denoted (lacks steady)))
+      (unjudged (keeps_by 3 (opened 1 w.cnf) a b (by_opened 3 1 w.cnf (omega arith)) fails.view) (unbegun_second p b (shelf_stays (opened 1 w.cnf) a b (by_opened 3 1 w.cnf (omega arith)) fails (λ shelf. IsDenoted shelf w.opb w.bound p) denoted) a fails.view two))
 
 module _ (w : CheckWords) (p : Problem) (d e : DeskState) (denoted : IfTold d (λ t. IsDenoted t.shelf w.opb w.bound p)) (both : IfTold d (HasBoth w.cnf w.proof)) where
   abbrev pub JudgedSo : Answer → Type 0
@@ -131,21 +141,21 @@ module _ (w : CheckWords) (p : Problem) (d e : DeskState) (denoted : IfTold d (�
         judged = walk;
       }
 
-  pub goes_both : (few : ℕ) (P : List ℕ → List ℕ → Type 0) → TakesBoth 1 2 P d e → Goes few 2 nothing d e
-  goes_both few P takes = goes_reading few 2 nothing (both_taken 1 2 takes.of_one takes.of_two) d e (by_both_taken few 1 2 takes.of_one takes.of_two) takes.reached takes.ends
+  pub goes_both : (few : ℕ) (P : List ℕ → List ℕ → Type 0) → TakesBoth 1 2 P d e → Goes few nothing d e
+  goes_both few P takes = goes_reading few nothing (both_taken 1 2 takes.of_one takes.of_two) d e (by_both_taken few 1 2 takes.of_one takes.of_two) takes.reached
 
   has_kind : (o : CommandSpec) → Checks w o → (file : File) → (file ≡ Cnf) ⊎ (file ≡ Proof) → HasKind file o.texts
   has_kind o checks file (inl cnf) = subst (λ (f : File). HasKind f o.texts) (sym cnf) checks.cnf_kind
   has_kind o checks file (inr proof) = subst (λ (f : File). HasKind f o.texts) (sym proof) checks.proof_kind
 
   -- a read failed, before which the answer was open
-  unjudged_so : IsTrue (d.view.reading 1) → IsTrue (d.view.reading 2) → FailsBoth 1 2 2 (LeavesOpen p) d e → IfTold e (UnjudgedIn w e.view)
-  unjudged_so one two fails = subst (λ (v : View). IfSome v.told (UnjudgedIn w v)) (sym fails.fails.view) (by_cases d.view.told denoted both fails.told)
+  unjudged_so : IsTrue (d.view.reading 1) → IsTrue (d.view.reading 2) → FailsBoth 1 2 (LeavesOpen p) d e → IfTold e (UnjudgedIn w e.ended e.view)
+  unjudged_so one two fails = subst (λ (v : View). IfSome v.told (UnjudgedIn w e.ended v)) (sym fails.fails.view) (by_cases d.view.told denoted both fails.told)
     where
       after : Option Told → View
       after told = both_taken 1 2 fails.of_one fails.of_two (record d.view { told = told })
 
-      by_cases : (told : Option Told) → IfSome told (λ t. IsDenoted t.shelf w.opb w.bound p) → IfSome told (HasBoth w.cnf w.proof) → IfSome told (λ t. LeavesOpen p (take fails.of_one (t.left 1)) (take fails.of_two (t.left 2))) → IfSome (after told).told (UnjudgedIn w (after told))
+      by_cases : (told : Option Told) → IfSome told (λ t. IsDenoted t.shelf w.opb w.bound p) → IfSome told (HasBoth w.cnf w.proof) → IfSome told (λ t. LeavesOpen p (take fails.of_one (t.left 1)) (take fails.of_two (t.left 2))) → IfSome (after told).told (UnjudgedIn w e.ended (after told))
       by_cases None denoted both leaves = tt
       by_cases (Some t) denoted both leaves =
           let u : Told = record t { left = put (put t.left 1 (drop fails.of_one (t.left 1))) 2 (drop fails.of_two (t.left 2)) } in
@@ -154,7 +164,7 @@ module _ (w : CheckWords) (p : Problem) (d e : DeskState) (denoted : IfTold d (�
           inr (p, denoted, subst (λ (x : Option (List ℕ)). LeavesOpen p (unwrap_or x []) (unwrap_or (taken_in (after (Some t)) u 2 w.proof) [])) (sym cnf) (subst (λ (x : Option (List ℕ)). LeavesOpen p (take fails.of_one (t.left 1)) (unwrap_or x [])) (sym proof) leaves))
 
   -- a text's fault, a read that failed, or want of memory
-  pub stopped_implements : (o : CommandSpec) → Checks w o → IsTrue (d.view.reading 1) → IsTrue (d.view.reading 2) → OpenBy w o d e → (f : CheckFault) → StopsChecking p 1 2 d e f → NamesText f → (IsSteady d → f ≢ fault.ReadFault) → ImplementsWithin o 2 d e (check_refusal f)
+  pub stopped_implements : (o : CommandSpec) → Checks w o → IsTrue (d.view.reading 1) → IsTrue (d.view.reading 2) → OpenBy w o d e → (f : CheckFault) → StopsChecking p 1 2 d e f → NamesText f → (IsSteady d → f ≢ fault.ReadFault) → Implements o d e (check_refusal f)
   stopped_implements o checks one two unjudged (fault.Refused file place expected) stops names steady =
       is_refused o d e _ (goes_both (length o.texts) _ stops) (has_kind o checks file names)
       (told_more d _ _ (λ t judged. checks.stops t.shelf _ (token file place expected judged)) (judged_so (Err (fault.Refused file place expected)) stops))
@@ -162,21 +172,21 @@ module _ (w : CheckWords) (p : Problem) (d e : DeskState) (denoted : IfTold d (�
       is_refused o d e _ (goes_both (length o.texts) _ stops) (has_kind o checks file names)
       (told_more d _ _ (λ t judged. checks.stops t.shelf _ (limit file place which judged)) (judged_so (Err (fault.Limit file place which)) stops))
   stopped_implements o checks one two unjudged fault.ReadFault stops names steady =
-      is_unread o d e (both_taken 1 2 stops.of_one stops.of_two) (by_both_taken (length o.texts) 1 2 stops.of_one stops.of_two) stops.fails stops.ends (λ is. absurd (steady is refl))
+      is_unread o d e (both_taken 1 2 stops.of_one stops.of_two) (by_both_taken (length o.texts) 1 2 stops.of_one stops.of_two) stops.fails (λ is. absurd (steady is refl))
       (unjudged (keeps_by 3 (both_taken 1 2 stops.of_one stops.of_two) d e (by_both_taken 3 1 2 stops.of_one stops.of_two) stops.fails.view) (unjudged_so one two stops))
   stopped_implements o checks one two unjudged fault.NoMemory stops names steady = bare_memory o d e (goes_both (length o.texts) _ stops)
 
   -- a step that is not allowed
-  pub rejected_implements : (o : CommandSpec) → Checks w o → (line : ℕ) (denied : Denied) → TakesBoth 1 2 (λ c q. Walk p c q (Ok (Rejected line denied))) d e → ImplementsWithin o 2 d e (outcome.Rejected line denied)
+  pub rejected_implements : (o : CommandSpec) → Checks w o → (line : ℕ) (denied : Denied) → TakesBoth 1 2 (λ c q. Walk p c q (Ok (Rejected line denied))) d e → Implements o d e (outcome.Rejected line denied)
   rejected_implements o checks line denied takes =
       is_refused o d e _ (goes_both (length o.texts) _ takes) checks.proof_kind
       (told_more d _ _ (λ t judged. checks.stops t.shelf _ (denial line denied judged)) (judged_so (Ok (Rejected line denied)) takes))
 
   -- all is allowed
-  accepted_due : Goes 3 2 nothing d e → TakesBoth 1 2 (λ c q. Walk p c q (Ok Accepted)) d e → IfTold e (λ t. (check_spec w).done t.shelf (only_words (codes "accepted\n")))
+  accepted_due : Goes 3 nothing d e → TakesBoth 1 2 (λ c q. Walk p c q (Ok Accepted)) d e → IfTold e (λ t. (check_spec w).done t.shelf (only_words (codes "accepted\n")))
   accepted_due goes takes = shelf_is_if d e goes (λ shelf. (check_spec w).done shelf (only_words (codes "accepted\n"))) (told_more d _ _ (λ t judged. (judged, refl)) (judged_so (Ok Accepted) takes))
 
-  pub accepted_implements : (f : DeskState) → (IsSteady e → IsSome e.view.told) → TakesBoth 1 2 (λ c q. Walk p c q (Ok Accepted)) d e → (answer : Outcome) → EndsSaying (codes "accepted\n") e f answer → ImplementsWithin (check_spec w) 2 d f answer
+  pub accepted_implements : (f : DeskState) → (IsSteady e → IsSome e.view.told) → TakesBoth 1 2 (λ c q. Walk p c q (Ok Accepted)) d e → (answer : Outcome) → EndsSaying (codes "accepted\n") e f answer → Implements (check_spec w) d f answer
   accepted_implements f tells takes answer ends =
       let goes = goes_both 3 _ takes in
       implements_after (check_spec w) d e f goes answer (saying_implements (check_spec w) (codes "accepted\n") e f tells (accepted_due goes takes) answer ends)
@@ -186,26 +196,25 @@ module _ (w : CheckWords) (p : Problem) (d e : DeskState) (denoted : IfTold d (�
 module _ {w : CheckWords} {o : CommandSpec} (checks : Checks w o) {a : DeskState} (closed : IsClosed a) where
   -- what is open for the check is so for the command, where no slot behind the check's was opened
   abbrev pub Leaves : DeskState → Type 0
-  Leaves b = ((slot : ℕ) → 3 ≤ slot → b.view.reading slot ≡ false) → IfTold b (UnjudgedIn w b.view) → IsOpenIn o b
+  Leaves b = ((slot : ℕ) → 3 ≤ slot → b.view.reading slot ≡ false) → IfTold b (UnjudgedIn w b.ended b.view) → IsOpenIn o b
 
   -- the problem was not read, or a text behind it was not opened
   pub before_implements : (others : List Text) → o.texts ≡ first_text w ∷ others → (d : DeskState) → Leaves d → (answer : Outcome) → StopsBefore w a d answer → Implements o a d answer
-  before_implements others first d leaves _ (not_read answer stops lacks) =
-      unread_ends o w.opb others first w.bound (λ shelf answer is. checks.stops shelf answer (unread answer is)) answer stops lacks
-      (λ keeps. leaves (λ slot le. keeps slot (omega (arith, le)) ∙ closed.reading slot) (unbegun_all w d (keeps 1 (omega arith) ∙ closed.reading 1) (keeps 2 (omega arith) ∙ closed.reading 2)))
+  before_implements others first d leaves _ (not_read answer stops lacks unended) =
+      unread_ends o w.opb others first w.bound (λ shelf answer is. checks.stops shelf answer (unread answer is)) answer stops lacks unended
+      (λ keeps more. leaves (λ slot le. keeps slot (omega (arith, le)) ∙ closed.reading slot) (unread_yet w d more (keeps 1 (omega arith) ∙ closed.reading 1) (keeps 2 (omega arith) ∙ closed.reading 2)))
   before_implements others first d leaves _ (not_opened p between read stops) =
       let goes = goes_fetched 1 0 w.opb read.fetched.0 a between (omega arith) read.fetched.1 in
-      within_more o a d 1 (length o.texts) _ (omega (arith, checks.three))
       (read_first o w.opb others first w.bound read.fetched d _
       (unopened_implements w o checks p between d (goes.reading 1 (omega arith) ∙ closed.reading 1) (goes.reading 2 (omega arith) ∙ closed.reading 2)
       (λ keeps. leaves (λ slot le. keeps slot le ∙ goes.reading slot (omega (arith, le)) ∙ closed.reading slot))
       (posed o w.opb others first w.bound read.fetched p read.denotes) stops))
 
   module _ {p : Problem} {d : DeskState} (is : IsOpened w p a d) where
-    opened_goes : (few : ℕ) → 2 < few → Goes few 1 nothing a d
+    opened_goes : (few : ℕ) → 2 < few → Goes few nothing a d
     opened_goes few less =
         goes_then a is.between d (goes_fetched few 0 w.opb is.read.fetched.0 a is.between (omega (arith, less)) is.read.fetched.1)
-        (goes_by few nothing (opened_both w.cnf w.proof) is.between d (by_both_opened few w.cnf w.proof less) is.reached)
+        (goes_reading few nothing (opened_both w.cnf w.proof) is.between d (by_both_opened few w.cnf w.proof less) is.reached)
 
     -- the slots behind the check's are still closed
     pub closed_behind : (slot : ℕ) → 3 ≤ slot → d.view.reading slot ≡ false
@@ -220,14 +229,13 @@ module _ {w : CheckWords} {o : CommandSpec} (checks : Checks w o) {a : DeskState
     pub proof_is_open : IsTrue (d.view.reading 2)
     proof_is_open = subst (λ (v : View). IsTrue (v.reading 2)) (sym is.reached.view) refl
 
-    pub opened_implements : {most : ℕ} (f : DeskState) (answer : Outcome) → ImplementsWithin o most d f answer → ImplementsWithin o (1 + most) a f answer
+    pub opened_implements : (f : DeskState) (answer : Outcome) → Implements o d f answer → Implements o a f answer
     opened_implements f answer implements = implements_after o a d f (opened_goes (length o.texts) (omega (arith, checks.three))) answer implements
 
     pub fault_implements : (e : DeskState) → Leaves e → (f : CheckFault) → StopsChecking p 1 2 d e f → NamesText f → (IsSteady d → f ≢ fault.ReadFault) → Implements o a e (check_refusal f)
     fault_implements e leaves f stops names steady =
-        within_more o a e 3 (length o.texts) _ checks.three
         (opened_implements e _ (stopped_implements w p d e still_posed is.found o checks cnf_is_open proof_is_open (λ keeps. leaves (λ slot le. keeps slot le ∙ closed_behind slot le)) f stops names steady))
 
     pub denied_implements : (e : DeskState) (line : ℕ) (denied : Denied) → TakesBoth 1 2 (λ c q. Walk p c q (Ok (Rejected line denied))) d e → Implements o a e (outcome.Rejected line denied)
     denied_implements e line denied takes =
-        within_more o a e 3 (length o.texts) _ checks.three (opened_implements e _ (rejected_implements w p d e still_posed is.found o checks line denied takes))
+        (opened_implements e _ (rejected_implements w p d e still_posed is.found o checks line denied takes))

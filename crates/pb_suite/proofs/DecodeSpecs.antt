@@ -19,15 +19,15 @@ use Rattle.pb_model.specs.SolutionText.{solution_text}
 use Rattle.pb_words.specs.DecodeWords.{DecodeWords}
 use Rattle.pb_suite.specs.declared.outcome.Outcome.{Outcome}
 use Rattle.pb_suite.specs.declared.outcome.Outcome.TheVariants as outcome
-use Rattle.pb_suite.specs.Implementing.{ImplementsWithin}
+use Rattle.pb_suite.specs.Implementing.{Implements}
 use Rattle.pb_suite.specs.Outputs.{nothing, only_words}
-use Rattle.pb_suite.specs.CommandSpec.{Text, taken_in}
+use Rattle.pb_suite.specs.CommandSpec.{Text, taken_in, IsUnended}
 use Rattle.pb_suite.specs.DecodeSpec.{decode_spec, ComesTo, IsAnswered, StopsDecode}
 use Rattle.pb_suite.specs.DecodeSpec.StopsDecode.{no_model, unanswered, violated}
 use Rattle.pb_suite.specs.Denoted.{IsDenoted}
 use Rattle.pb_suite.specs.Refusals.{RefusesModel}
 use Rattle.pb_suite.specs.Refusals.IsUnread.{lacks as absent, refuses as refusal}
-use Rattle.pb_suite.specs.inner.Runs.{HasText, StopsReading}
+use Rattle.pb_suite.specs.inner.Runs.{HasText, IsUnendedIn, StopsReading}
 use Rattle.pb_suite.proofs.Endings.{is_refused}
 use Rattle.pb_suite.proofs.Going.{shelf_is_if, Goes}
 use Rattle.pb_suite.proofs.Refused.{reading_ends}
@@ -52,13 +52,13 @@ module _ (w : DecodeWords) (p : Problem) where
   comes_to : (m : Model) (d : Decoded) (b : DeskState) → IfTold b (λ t. IsAnswered t.shelf w p m) → IsDecoded p m d → IfTold b (λ t. ComesTo t.shelf w p m d)
   comes_to m d b answered is = told_more b (λ t. IsAnswered t.shelf w p m) (λ t. ComesTo t.shelf w p m d) (λ t found. record { answered = found; decoded = is }) answered
 
-  module _ (m : Model) (b : DeskState) (still : Goes 2 0 nothing b b) (answered : IfTold b (λ t. IsAnswered t.shelf w p m)) where
-    pub no_model_implements : IsDecoded p m decoded.NoModel → ImplementsWithin (decode_spec w) 0 b b outcome.NoModel
+  module _ (m : Model) (b : DeskState) (still : Goes 2 nothing b b) (answered : IfTold b (λ t. IsAnswered t.shelf w p m)) where
+    pub no_model_implements : IsDecoded p m decoded.NoModel → Implements (decode_spec w) b b outcome.NoModel
     no_model_implements is =
         is_refused (decode_spec w) b b outcome.NoModel still (inr (inl refl))
         (told_more b (λ t. ComesTo t.shelf w p m decoded.NoModel) (λ t. StopsDecode t.shelf w outcome.NoModel) (λ t found. no_model p m found) (comes_to m decoded.NoModel b answered is))
 
-    pub violated_implements : (statement : ℕ) → IsDecoded p m (decoded.Violates statement) → ImplementsWithin (decode_spec w) 0 b b (outcome.NotASolution statement)
+    pub violated_implements : (statement : ℕ) → IsDecoded p m (decoded.Violates statement) → Implements (decode_spec w) b b (outcome.NotASolution statement)
     violated_implements statement is =
         is_refused (decode_spec w) b b (outcome.NotASolution statement) still (inr (inl refl))
         (told_more b (λ t. ComesTo t.shelf w p m (decoded.Violates statement)) (λ t. StopsDecode t.shelf w (outcome.NotASolution statement)) (λ t found. violated p m statement found) (comes_to m (decoded.Violates statement) b answered is))
@@ -68,17 +68,17 @@ module _ (w : DecodeWords) (p : Problem) where
       told_more b (λ t. ComesTo t.shelf w p m decoded.Solution) (λ t. (decode_spec w).done t.shelf (only_words (solution_text p m.values))) (λ t found. (p, m, found, refl)) (comes_to m decoded.Solution b answered is)
 
   -- what is told after a step that adds nothing
-  pub answered_later : (m : Model) {few most : ℕ} (b d : DeskState) → Goes few most nothing b d → IfTold b (λ t. IsAnswered t.shelf w p m) → IfTold d (λ t. IsAnswered t.shelf w p m)
+  pub answered_later : (m : Model) {few : ℕ} (b d : DeskState) → Goes few nothing b d → IfTold b (λ t. IsAnswered t.shelf w p m) → IfTold d (λ t. IsAnswered t.shelf w p m)
   answered_later m b d goes answered = shelf_is_if b d goes (λ shelf. IsAnswered shelf w p m) answered
 
   -- a solver's text that is not read, or is refused
   pub no_answer_implements : (b d : DeskState) → IfTold b (λ t. IsDenoted t.shelf w.opb w.bound p) → (answer : Outcome) → StopsReading ModelText 1 w.model (RefusesModel p.vars) b d answer
-      → (IsSteady b → answer ≡ outcome.ReadFault → IsTold b (λ t. IsNone (t.shelf w.model))) → ImplementsWithin (decode_spec w) 1 b d answer
-  no_answer_implements b d denoted answer stops lacks =
+      → (IsSteady b → answer ≡ outcome.ReadFault → IsTold b (λ t. IsNone (t.shelf w.model))) → (answer ≡ outcome.ReadFault → IsUnendedIn 1 w.model d) → Implements (decode_spec w) b d answer
+  no_answer_implements b d denoted answer stops lacks unended =
       reading_ends (decode_spec w) 1 model_text (omega arith) has_model_text (inr (inl refl)) (RefusesModel p.vars) b d (told_none_of b (λ shelf. shelf w.model) (λ shelf. StopsDecode shelf w outcome.ReadFault) (λ shelf. IsDenoted shelf w.opb w.bound p) (λ shelf is none. unanswered p _ is (absent none)) denoted)
       (λ answer found. both_told b (λ t. IsDenoted t.shelf w.opb w.bound p) (λ t. (text : List ℕ) × (t.shelf w.model ≡ Some text) × RefusesModel p.vars text answer) (λ t. StopsDecode t.shelf w answer)
       (λ t is found. unanswered p answer is (refusal found.0 answer found.1 found.2)) denoted found)
-      answer stops lacks (λ e keeps shelf. told_more d (λ t. IsDenoted t.shelf w.opb w.bound p) (λ t. (decode_spec w).leaves_open t.shelf (taken_in d.view t)) (λ t is. inr (p, is)) (shelf (λ s. IsDenoted s w.opb w.bound p) denoted))
+      answer stops lacks (λ e keeps shelf. both_told d (λ t. IsDenoted t.shelf w.opb w.bound p) (λ t. IsUnended 1 w.model (taken_in d.view t) d.ended) (λ t. (decode_spec w).leaves_open t.shelf (taken_in d.view t) d.ended) (λ t is more. inr (p, is, more)) (shelf (λ s. IsDenoted s w.opb w.bound p) denoted) (unended e))
 
 -- what is told of a text that is too long
 pub too_long : (vars : ℕ) (text : List ℕ) → 2 ^ 32 < length text → told vars text ≡ Err (model.Limit None limit.Text)

@@ -67,7 +67,7 @@ opb_no_read_fault bound text _ (heavy q b given reads weight) is = cc
 -- ---- on a desk
 
 -- a problem that was read
-pub denoted_by : (name : List ℕ) (bound : Option ℤ) (p : Problem) {few most : ℕ} (a b : DeskState) → Goes few most nothing a b → HasText name (λ text. Denotes bound text p) a → IfTold b (λ t. IsDenoted t.shelf name bound p)
+pub denoted_by : (name : List ℕ) (bound : Option ℤ) (p : Problem) {few : ℕ} (a b : DeskState) → Goes few nothing a b → HasText name (λ text. Denotes bound text p) a → IfTold b (λ t. IsDenoted t.shelf name bound p)
 denoted_by name bound p a b goes denotes =
     shelf_is_if a b goes (λ shelf. IsDenoted shelf name bound p)
     (told_more a (λ t. (text : List ℕ) × (t.shelf name ≡ Some text) × Denotes bound text p) (λ t. IsDenoted t.shelf name bound p) (λ t found. record { text = found.0; on_shelf = found.1; denotes = found.2 }) denotes)

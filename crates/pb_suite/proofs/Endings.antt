@@ -1,11 +1,11 @@
 -- The ways in which a command ends, whatever its specification.
-use Rattle.std.proofs.Common.{◌≡◌, ◌≢◌, ◌≤◌, ◌+◌, arith, List, [], Option, Some, None, inl, inr, refl, subst, ap, ◌∙◌, length, ℕ}
+use Rattle.std.proofs.Common.{◌≡◌, ◌≢◌, List, [], Option, Some, None, inl, inr, refl, subst, ap, ◌∙◌, length, ℕ}
 use Rattle.std.specs.Prelude.{IfSome}
 use Rattle.pb_desk.specs.View.{Told, View}
 use Rattle.pb_desk.specs.Desk.{DeskState, FailsToRead, FailsToWrite, IfTold, IsSteady}
 use Rattle.pb_suite.specs.declared.outcome.Outcome.{Outcome}
 use Rattle.pb_suite.specs.declared.outcome.Outcome.TheVariants as outcome
-use Rattle.pb_suite.specs.Implementing.{Counts, IsQuiet, IsRefusal, ImplementsWithin}
+use Rattle.pb_suite.specs.Implementing.{Counts, IsQuiet, IsRefusal, Implements}
 use Rattle.pb_suite.specs.Implementing.Answers.{done, refused, read_fault, write_fault, no_memory}
 use Rattle.pb_suite.specs.Implementing.WritesHeld.{cut_off, well}
 use Rattle.pb_suite.specs.Outputs.{nothing, Output}
@@ -21,7 +21,7 @@ always a P holds = by_cases a.view.told
 
 -- where the desk tells, what was taken leaves the answer open
 abbrev pub IsOpenIn : CommandSpec → DeskState → Type 0
-IsOpenIn o b = IfTold b (λ t. o.leaves_open t.shelf (taken_in b.view t))
+IsOpenIn o b = IfTold b (λ t. o.leaves_open t.shelf (taken_in b.view t) b.ended)
 
 pub refusal_no_read : (texts : List Text) (answer : Outcome) → IsRefusal texts answer → answer ≢ outcome.ReadFault
 refusal_no_read texts answer is e = subst (IsRefusal texts) e is
@@ -58,27 +58,26 @@ module _ (a b : DeskState) where
   quiet_counts (outcome.NotRefuted line why) no_read no_write kept counts = counts
 
 module _ (o : CommandSpec) (a b : DeskState) where
-  quiet_of : {few most : ℕ} (out : Output) → Goes few most out a b → IsQuiet a b
+  quiet_of : {few : ℕ} (out : Output) → Goes few out a b → IsQuiet a b
   quiet_of out goes = record { reads = goes.reads; writes = goes.writes }
 
-  pub all_done : {most : ℕ} (out : Output) → Goes (length o.texts) most out a b → ((slot : ℕ) → b.view.writing slot ≡ a.view.writing slot) → IfTold a (λ t. o.done t.shelf out) → ImplementsWithin o most a b outcome.Done
-  all_done out goes keeps due = record { answers = done out due goes.adds keeps; opens = goes.reading; ends = goes.ends; counts = quiet_of out goes; unsettled = λ e. cc; no_text = λ steady e. cc; no_space = λ steady e. cc }
+  pub all_done : (out : Output) → Goes (length o.texts) out a b → ((slot : ℕ) → b.view.writing slot ≡ a.view.writing slot) → IfTold a (λ t. o.done t.shelf out) → Implements o a b outcome.Done
+  all_done out goes keeps due = record { answers = done out due goes.adds keeps; opens = goes.reading; counts = quiet_of out goes; unsettled = λ e. cc; no_text = λ steady e. cc; no_space = λ steady e. cc }
 
-  pub is_refused : {most : ℕ} (answer : Outcome) → Goes (length o.texts) most nothing a b → IsRefusal o.texts answer → IfTold a (λ t. o.stops t.shelf answer) → ImplementsWithin o most a b answer
+  pub is_refused : (answer : Outcome) → Goes (length o.texts) nothing a b → IsRefusal o.texts answer → IfTold a (λ t. o.stops t.shelf answer) → Implements o a b answer
   is_refused answer goes is due =
       let no_read = refusal_no_read o.texts answer is in
       let no_write = refusal_no_write o.texts answer is in
-      record { answers = refused answer is due goes.adds; opens = goes.reading; ends = goes.ends; counts = counts_quiet a b answer no_read no_write (quiet_of nothing goes); unsettled = λ e. absurd (no_read e); no_text = λ steady e. absurd (no_read e); no_space = λ steady e. absurd (no_write e) }
+      record { answers = refused answer is due goes.adds; opens = goes.reading; counts = counts_quiet a b answer no_read no_write (quiet_of nothing goes); unsettled = λ e. absurd (no_read e); no_text = λ steady e. absurd (no_read e); no_space = λ steady e. absurd (no_write e) }
 
-  pub wants_memory : {most : ℕ} (out : Output) → Goes (length o.texts) most out a b → IfTold a (λ t. MayStand o t.shelf out) → ImplementsWithin o most a b outcome.NoMemory
-  wants_memory out goes part = record { answers = no_memory out part goes.adds (well goes.writes); opens = goes.reading; ends = goes.ends; counts = counts_quiet a b outcome.NoMemory (λ e. cc) (λ e. cc) (quiet_of out goes); unsettled = λ e. cc; no_text = λ steady e. cc; no_space = λ steady e. cc }
+  pub wants_memory : (out : Output) → Goes (length o.texts) out a b → IfTold a (λ t. MayStand o t.shelf out) → Implements o a b outcome.NoMemory
+  wants_memory out goes part = record { answers = no_memory out part goes.adds (well goes.writes); opens = goes.reading; counts = counts_quiet a b outcome.NoMemory (λ e. cc) (λ e. cc) (quiet_of out goes); unsettled = λ e. cc; no_text = λ steady e. cc; no_space = λ steady e. cc }
 
-  pub bare_memory : {most : ℕ} → Goes (length o.texts) most nothing a b → ImplementsWithin o most a b outcome.NoMemory
+  pub bare_memory : Goes (length o.texts) nothing a b → Implements o a b outcome.NoMemory
   bare_memory goes = wants_memory nothing goes (always a (λ t. MayStand o t.shelf nothing) (λ t. inl refl))
 
-  pub is_unread : {most : ℕ} (f : View → View) → AddsBy (length o.texts) nothing f → FailsToRead f a b → b.ends ≤ a.ends + most → (IsSteady a → LacksText o a) → IsOpenIn o b → ImplementsWithin o most a b outcome.ReadFault
-  is_unread f by fails ends lacks unsettled = record {
-    ends = ends;
+  pub is_unread : (f : View → View) → AddsBy (length o.texts) nothing f → FailsToRead f a b → (IsSteady a → LacksText o a) → IsOpenIn o b → Implements o a b outcome.ReadFault
+  is_unread f by fails lacks unsettled = record {
     answers = read_fault (adds_by nothing f a b by fails.view);
     opens = λ slot le. ap (λ (v : View). v.reading slot) fails.view ∙ by.reading a.view slot le;
     counts = (fails.reads, fails.writes);
@@ -87,9 +86,8 @@ module _ (o : CommandSpec) (a b : DeskState) where
     no_space = λ steady e. cc;
   }
 
-  pub is_unwritten : (out : Output) (f : View → View) → AddsBy (length o.texts) out f → FailsToWrite f a b → IfTold a (λ t. MayStand o t.shelf out) → (IsSteady a → LacksSpace o a) → ImplementsWithin o 0 a b outcome.WriteFault
+  pub is_unwritten : (out : Output) (f : View → View) → AddsBy (length o.texts) out f → FailsToWrite f a b → IfTold a (λ t. MayStand o t.shelf out) → (IsSteady a → LacksSpace o a) → Implements o a b outcome.WriteFault
   is_unwritten out f by fails part lacks = record {
-    ends = omega (arith, fails.ends);
     answers = write_fault out part (adds_by out f a b by fails.view);
     opens = λ slot le. ap (λ (v : View). v.reading slot) fails.view ∙ by.reading a.view slot le;
     counts = (fails.reads, fails.writes);
@@ -99,9 +97,8 @@ module _ (o : CommandSpec) (a b : DeskState) where
   }
 
   -- memory was wanting, and what was held could not be written
-  pub is_unheld : (out : Output) (f : View → View) → AddsBy (length o.texts) out f → out.made ≢ [] → FailsToWrite f a b → IfTold a (λ t. MayStand o t.shelf out) → (IsSteady a → LacksSpace o a) → ImplementsWithin o 0 a b outcome.NoMemory
+  pub is_unheld : (out : Output) (f : View → View) → AddsBy (length o.texts) out f → out.made ≢ [] → FailsToWrite f a b → IfTold a (λ t. MayStand o t.shelf out) → (IsSteady a → LacksSpace o a) → Implements o a b outcome.NoMemory
   is_unheld out f by some fails part lacks = record {
-    ends = omega (arith, fails.ends);
     answers = no_memory out part (adds_by out f a b by fails.view) (cut_off some lacks);
     opens = λ slot le. ap (λ (v : View). v.reading slot) fails.view ∙ by.reading a.view slot le;
     counts = (fails.reads, inr fails.writes);
@@ -109,7 +106,3 @@ module _ (o : CommandSpec) (a b : DeskState) where
     no_text = λ steady e. cc;
     no_space = λ steady e. cc;
   }
-
-  -- what met so few ends met no more
-  pub within_more : (few most : ℕ) (answer : Outcome) → few ≤ most → ImplementsWithin o few a b answer → ImplementsWithin o most a b answer
-  within_more few most answer le implements = record { answers = implements.answers; opens = implements.opens; ends = omega (arith, le, implements.ends); counts = implements.counts; unsettled = implements.unsettled; no_text = implements.no_text; no_space = implements.no_space }

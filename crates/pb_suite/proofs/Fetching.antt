@@ -1,28 +1,18 @@
 -- Opening a text and reading it.
-use Rattle.std.proofs.Common.{◌≡◌, ◌≤◌, ◌+◌, ℕ, List, [], Option, Some, None, inl, inr, length, refl, subst, arith}
-use Rattle.std.specs.Prelude.{IfOk, IfSome, IsSome, OnErr, OnOk, Result}
+use Rattle.std.proofs.Common.{◌≡◌, ◌≤◌, ℕ, List, [], Option, Some, None, length, refl, subst}
+use Rattle.std.specs.Prelude.{IfOk, IfSome, IsSome, Result}
 use Rattle.std.specs.Option.{unwrap_or}
 use Rattle.std.specs.declared.result.Result.TheVariants.{Ok, Err}
 use Rattle.pb_base.specs.declared.file.File.{File}
-use Rattle.pb_base.specs.FaultCounts.{Rose}
 use Rattle.pb_desk.specs.View.{Told, View, opened, taken}
-use Rattle.pb_desk.specs.Desk.{Advances, DeskState, FailsToRead, IfTold, Reaches, Reads}
+use Rattle.pb_desk.specs.Desk.{Advances, DeskState, FailsToRead, IfTold, Reads}
 use Rattle.pb_desk.proofs.Readings.{put-same}
-use Rattle.pb_desk.proofs.Steps.{as_reads, reads_by_then, then_fails_to_read}
+use Rattle.pb_desk.proofs.Steps.{reads_by_then, then_fails_to_read}
 use Rattle.pb_suite.specs.declared.outcome.Outcome.{Outcome}
 use Rattle.pb_suite.specs.inner.Runs.{fetched, Fetches, FetchesPart, StopsFetching, StopsReading}
 use Rattle.pb_suite.specs.inner.Runs.StopsFetching.{in_text}
 use Rattle.pb_suite.specs.inner.Runs.StopsReading.{not_read, no_memory, refused}
 use Rattle.pb_suite.proofs.Texts.{told_more}
-
--- a count that rose went up by one at most
-pub rose_by_one : (before now : ℕ) → Rose before now → now ≤ before + 1
-rose_by_one before now (inl next) = omega (arith, next)
-rose_by_one before now (inr last) = omega (arith, last.0, last.1)
-
--- what is so of an error is so of this one
-pub of_error : {T E P : Type 0} (r : Result T E) (e : E) → r ≡ Err e → OnErr r P → P
-of_error {T} {E} {P} r e is holds = subst (λ (x : Result T E). OnErr x P) is holds
 
 -- what refuses a text by one relation refuses it by a weaker one
 pub reading_weaker : (file : File) (slot : ℕ) (name : List ℕ) (P Q : List ℕ → Outcome → Type 0) → ((text : List ℕ) (answer : Outcome) → P text answer → Q text answer) → (a b : DeskState) (answer : Outcome) → StopsReading file slot name P a b answer → StopsReading file slot name Q a b answer
@@ -31,25 +21,22 @@ reading_weaker file slot name P Q gives a b _ (no_memory count reached) = no_mem
 reading_weaker file slot name P Q gives a b _ (refused count answer is reached found) =
     refused count answer is reached (told_more a (λ t. (text : List ℕ) × (t.shelf name ≡ Some text) × P text answer) (λ t. (text : List ℕ) × (t.shelf name ≡ Some text) × Q text answer) (λ t has. (has.0, has.1, gives has.0 answer has.2)) found)
 
-module _ (slot : ℕ) (name : List ℕ) (a b d : DeskState) (opens : Reaches (opened slot name) a b) where
-  pub fetched_by : (count : ℕ) → Reads (taken slot count) b d → d.ends ≤ b.ends + 1 → Fetches slot name count a d
-  fetched_by count takes ends = record {
-    reached = reads_by_then (opened slot name) (taken slot count) (fetched slot name count) a b d (λ v. refl) (as_reads (opened slot name) a b opens) takes;
-    ends = omega (arith, opens.ends, ends);
-  }
+module _ (slot : ℕ) (name : List ℕ) (a b d : DeskState) (opens : Reads (opened slot name) a b) where
+  pub fetched_by : (count : ℕ) → Reads (taken slot count) b d → Fetches slot name count a d
+  fetched_by count takes = reads_by_then (opened slot name) (taken slot count) (fetched slot name count) a b d (λ v. refl) opens takes
 
-  pub fetching_fails : (count : ℕ) → FailsToRead (taken slot count) b d → d.ends ≤ b.ends + 1 → StopsFetching slot name a d
-  fetching_fails count fails ends =
-      in_text count (then_fails_to_read (opened slot name) (taken slot count) (fetched slot name count) a b d (λ v. refl) (as_reads (opened slot name) a b opens) fails) (omega (arith, opens.ends, ends))
+  pub fetching_fails : (count : ℕ) → FailsToRead (taken slot count) b d → StopsFetching slot name a d
+  fetching_fails count fails =
+      in_text count (then_fails_to_read (opened slot name) (taken slot count) (fetched slot name count) a b d (λ v. refl) opens fails)
 
-  pub whole_fetched : {E : Type 0} (r : Result (List ℕ) E) → IfOk r (λ text. Advances slot (length text) b d) → OnOk r (Rose b.ends d.ends) → IfOk r (λ text. Fetches slot name (length text) a d)
-  whole_fetched (Ok text) takes once = fetched_by (length text) takes.reached (rose_by_one b.ends d.ends once)
-  whole_fetched (Err e) takes once = tt
+  pub whole_fetched : {E : Type 0} (r : Result (List ℕ) E) → IfOk r (λ text. Advances slot (length text) b d) → IfOk r (λ text. Fetches slot name (length text) a d)
+  whole_fetched (Ok text) takes = fetched_by (length text) takes.reached
+  whole_fetched (Err e) takes = tt
 
   -- of the bytes that the file has
-  pub part_fetched : (count : ℕ) → Advances slot count b d → d.ends ≡ b.ends → IfTold a (λ t. IsSome (t.shelf name)) → FetchesPart slot name count a d
-  part_fetched count takes ends found = record {
-    reached = fetched_by count takes.reached (omega (arith, ends));
+  pub part_fetched : (count : ℕ) → Advances slot count b d → IfTold a (λ t. IsSome (t.shelf name)) → FetchesPart slot name count a d
+  part_fetched count takes found = record {
+    reached = fetched_by count takes.reached;
     on_shelf = by_cases a.view.told found (subst (λ (v : View). IfSome v.told (λ t. count ≤ length (t.left slot))) opens.view takes.were_left);
   }
     where

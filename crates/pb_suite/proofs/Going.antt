@@ -1,5 +1,5 @@
 -- What a step of a run adds to a desk, and one step after another.
-use Rattle.std.proofs.Common.{◌≡◌, ◌∙◌, ◌+◌, ℕ, List, [], ◌++◌, Option, Some, None, inl, inr, refl, sym, ap, subst, ◌≤◌, ◌<◌, Bool, true, false, arith}
+use Rattle.std.proofs.Common.{◌≡◌, ◌∙◌, ℕ, List, [], ◌++◌, Option, Some, None, inl, inr, refl, sym, ap, subst, ◌≤◌, ◌<◌, Bool, true, false, arith}
 use Rattle.std.specs.Prelude.{◌⊎◌, ◌==◌, is_some, IfSome, IsSomeAnd}
 use Rattle.std.proofs.lemmas.Bool.{eqb-true}
 use Rattle.std.proofs.lemmas.List.{append-nil}
@@ -72,33 +72,30 @@ by_words few bytes = record { reading = λ v slot le. refl; told = λ v t. recor
 
 -- ---- a step that went well
 
--- of which so many reads at most gave no byte
-pub record Goes (few most : ℕ) (out : Output) (a b : DeskState) : Type 0 where
+pub record Goes (few : ℕ) (out : Output) (a b : DeskState) : Type 0 where
   pub reading : KeepsReading few a b
-  pub ends : b.ends ≤ a.ends + most
   pub adds : Adds out a b
   pub tells : is_some b.view.told ≡ is_some a.view.told
   pub reads : b.read_faults ≡ a.read_faults
   pub writes : b.write_faults ≡ a.write_faults
 
-pub goes_reading : (few most : ℕ) (out : Output) (f : View → View) (a b : DeskState) → AddsBy few out f → Reads f a b → b.ends ≤ a.ends + most → Goes few most out a b
-goes_reading few most out f a b by reached ends = record {
+pub goes_reading : (few : ℕ) (out : Output) (f : View → View) (a b : DeskState) → AddsBy few out f → Reads f a b → Goes few out a b
+goes_reading few out f a b by reached = record {
   reading = λ slot le. ap (λ (v : View). v.reading slot) reached.view ∙ by.reading a.view slot le;
-  ends = ends;
   adds = adds_by out f a b by reached.view;
   tells = reached.tells;
   reads = reached.reads;
   writes = reached.writes;
 }
 
-pub goes_by : (few : ℕ) (out : Output) (f : View → View) (a b : DeskState) → AddsBy few out f → Reaches f a b → Goes few 0 out a b
-goes_by few out f a b by reached = goes_reading few 0 out f a b by (as_reads f a b reached) (omega (arith, reached.ends))
+pub goes_by : (few : ℕ) (out : Output) (f : View → View) (a b : DeskState) → AddsBy few out f → Reaches f a b → Goes few out a b
+goes_by few out f a b by reached = goes_reading few out f a b by (as_reads f a b reached)
 
 -- a text was opened and read
-pub goes_fetched : (few slot : ℕ) (name : List ℕ) (count : ℕ) (a b : DeskState) → slot < few → Fetches slot name count a b → Goes few 1 nothing a b
-goes_fetched few slot name count a b less fetches = goes_reading few 1 nothing (fetched slot name count) a b (by_reading few slot name count less) fetches.reached fetches.ends
+pub goes_fetched : (few slot : ℕ) (name : List ℕ) (count : ℕ) (a b : DeskState) → slot < few → Fetches slot name count a b → Goes few nothing a b
+goes_fetched few slot name count a b less fetches = goes_reading few nothing (fetched slot name count) a b (by_reading few slot name count less) fetches
 
-pub stays : (few : ℕ) (a : DeskState) → Goes few 0 nothing a a
+pub stays : (few : ℕ) (a : DeskState) → Goes few nothing a a
 stays few a = goes_by few nothing same a a (by_same few) (begin same a (λ v. refl))
 
 -- ---- what is told before and after a step that adds nothing
@@ -121,13 +118,13 @@ module _ (P Q : Told → Type 0) where
   is_if (Some t) None tells more gives holds = tt
   is_if (Some t) (Some u) tells more gives holds = gives t u more holds
 
-  pub was_told : {few most : ℕ} (a b : DeskState) → Goes few most nothing a b → ((t u : Told) → IsMore nothing t u → P u → Q t) → IsTold b P → IsTold a Q
+  pub was_told : {few : ℕ} (a b : DeskState) → Goes few nothing a b → ((t u : Told) → IsMore nothing t u → P u → Q t) → IsTold b P → IsTold a Q
   was_told a b goes gives holds = was a.view.told b.view.told goes.tells goes.adds.told gives holds
 
-  pub was_if_told : {few most : ℕ} (a b : DeskState) → Goes few most nothing a b → ((t u : Told) → IsMore nothing t u → P u → Q t) → IfTold b P → IfTold a Q
+  pub was_if_told : {few : ℕ} (a b : DeskState) → Goes few nothing a b → ((t u : Told) → IsMore nothing t u → P u → Q t) → IfTold b P → IfTold a Q
   was_if_told a b goes gives holds = was_if a.view.told b.view.told goes.adds.told gives holds
 
-  pub is_if_told : {few most : ℕ} (a b : DeskState) → Goes few most nothing a b → ((t u : Told) → IsMore nothing t u → P t → Q u) → IfTold a P → IfTold b Q
+  pub is_if_told : {few : ℕ} (a b : DeskState) → Goes few nothing a b → ((t u : Told) → IsMore nothing t u → P t → Q u) → IfTold a P → IfTold b Q
   is_if_told a b goes gives holds = is_if a.view.told b.view.told goes.tells goes.adds.told gives holds
 
 more_after : (out : Output) (t u v : Told) → IsMore nothing t u → IsMore out u v → IsMore out t v
@@ -137,10 +134,10 @@ more_after out t u v first second = record {
   said = second.said ∙ ap (λ (xs : List ℕ). xs ++ out.said) (first.said ∙ append-nil t.said);
 }
 
-pub keeps : {few most : ℕ} (a b : DeskState) → Goes few most nothing a b → (slot : ℕ) → b.view.writing slot ≡ a.view.writing slot
+pub keeps : {few : ℕ} (a b : DeskState) → Goes few nothing a b → (slot : ℕ) → b.view.writing slot ≡ a.view.writing slot
 keeps a b goes slot = elim (goes.adds.slots slot) as (λ _. b.view.writing slot ≡ a.view.writing slot) [ inl none ↦ absurd none | inr stays ↦ stays ]
 
-pub adds_after : {few most : ℕ} (out : Output) (a b d : DeskState) → Goes few most nothing a b → Adds out b d → Adds out a d
+pub adds_after : {few : ℕ} (out : Output) (a b d : DeskState) → Goes few nothing a b → Adds out b d → Adds out a d
 adds_after out a b d goes adds = record {
   told = was_if_told (λ u. IsTold d (IsMore out u)) (λ t. IsTold d (IsMore out t)) a b goes (λ t u first second. at_last d.view.told t u first second) adds.told;
   slots = λ slot. elim (adds.slots slot) as (λ _. HasSlot slot out.made ⊎ (d.view.writing slot ≡ a.view.writing slot)) [ inl of_file ↦ inl of_file | inr stays ↦ inr (stays ∙ keeps a b goes slot) ];
@@ -152,10 +149,9 @@ adds_after out a b d goes adds = record {
     at_last None t u first second = second
     at_last (Some v) t u first second = more_after out t u v first second
 
-pub goes_then : {few more most : ℕ} {out : Output} (a b d : DeskState) → Goes few more nothing a b → Goes few most out b d → Goes few (more + most) out a d
+pub goes_then : {few : ℕ} {out : Output} (a b d : DeskState) → Goes few nothing a b → Goes few out b d → Goes few out a d
 goes_then a b d first second = record {
   reading = λ slot le. second.reading slot le ∙ first.reading slot le;
-  ends = omega (arith, first.ends, second.ends);
   adds = adds_after _ a b d first second.adds;
   tells = second.tells ∙ first.tells;
   reads = second.reads ∙ first.reads;
@@ -163,7 +159,7 @@ goes_then a b d first second = record {
 }
 
 -- what holds of the shelf
-pub shelf_is_if : {few most : ℕ} (a b : DeskState) → Goes few most nothing a b → (P : Shelf → Type 0) → IfTold a (λ t. P t.shelf) → IfTold b (λ t. P t.shelf)
+pub shelf_is_if : {few : ℕ} (a b : DeskState) → Goes few nothing a b → (P : Shelf → Type 0) → IfTold a (λ t. P t.shelf) → IfTold b (λ t. P t.shelf)
 shelf_is_if a b goes P holds = is_if_told (λ t. P t.shelf) (λ t. P t.shelf) a b goes (λ t u more has. subst P (sym more.shelf) has) holds
 
 -- what holds of the shelf holds of it later

@@ -1,5 +1,5 @@
 -- What follows for a run from its command being implemented.
-use Rattle.std.proofs.Common.{◌≡◌, ◌≢◌, ◌∙◌, arith, ℕ, List, Some, sym, subst, false, length}
+use Rattle.std.proofs.Common.{◌≡◌, ◌≢◌, ◌∙◌, ℕ, List, Some, sym, subst, false, length}
 use Rattle.std.specs.Option.{ForSome}
 use Rattle.pb_desk.specs.Desk.{DeskState, IsClosed}
 use Rattle.pb_words.specs.Parsed.{Wanted, parsed_of}
@@ -8,7 +8,7 @@ use Rattle.pb_suite.specs.declared.outcome.Outcome.TheVariants as outcome
 use Rattle.pb_suite.specs.Implementing.{Answers, IsRefusal, Implements}
 use Rattle.pb_suite.specs.Implementing.Answers.{done, refused, read_fault, write_fault, no_memory}
 use Rattle.pb_suite.specs.CommandSpec.{CommandSpec}
-use Rattle.pb_suite.proofs.Endings.{bare_memory, within_more}
+use Rattle.pb_suite.proofs.Endings.{bare_memory}
 use Rattle.pb_suite.proofs.Going.{stays}
 
 -- ---- of any command
@@ -36,4 +36,4 @@ asked_so words w P is holds = λ v named. let same : Some w ≡ Some v = sym is 
 
 -- words that were not taken for want of memory
 pub memory_obeyed : (o : CommandSpec) (a : DeskState) → Implements o a a outcome.NoMemory
-memory_obeyed o a = within_more o a a 0 (length o.texts) outcome.NoMemory (omega arith) (bare_memory o a a (stays (length o.texts) a))
+memory_obeyed o a = bare_memory o a a (stays (length o.texts) a)

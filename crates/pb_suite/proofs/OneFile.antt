@@ -9,7 +9,7 @@ use Rattle.pb_encode.specs.Encodings.LacksToMake.{is_taken as making_taken, no_r
 use Rattle.pb_encode.specs.Encodings.LeavesPart.{cut_off, left}
 use Rattle.pb_encode.specs.Encodings.StopsMaking.{not_made as making_not, in_text as making_in}
 use Rattle.pb_suite.specs.declared.outcome.Outcome.TheVariants as outcome
-use Rattle.pb_suite.specs.Implementing.{ImplementsWithin}
+use Rattle.pb_suite.specs.Implementing.{Implements}
 use Rattle.pb_suite.specs.Outputs.{nothing, IsPartOf, LacksFor, Output}
 use Rattle.pb_suite.specs.Outputs.IsPartOf.{of_file, of_words}
 use Rattle.pb_suite.specs.Outputs.LacksFor.{is_taken, no_room, no_words}
@@ -51,20 +51,20 @@ module _ (o : CommandSpec) (name text summary : List ℕ) (Fine : Type 0) (b d :
 
   -- ---- how it ends
 
-  pub file_stops : Fine → (IsSteady b → LacksToMake 0 name text b) → StopsMaking 0 name text b d → ImplementsWithin o 0 b d outcome.WriteFault
+  pub file_stops : Fine → (IsSteady b → LacksToMake 0 name text b) → StopsMaking 0 name text b d → Implements o b d outcome.WriteFault
   file_stops is why (making_not fails) = is_unwritten o b d nothing same (by_same (length o.texts)) fails (always b (λ t. MayStand o t.shelf nothing) (λ t. inl refl)) (lacks is (λ steady. lacks_file (why steady)))
   file_stops is why (making_in n fails) = is_unwritten o b d _ (begun 0 name (take n text)) (by_begun (length o.texts) name (take n text)) fails (file_part n is) (lacks is (λ steady. lacks_file (why steady)))
 
-  pub file_wants : Fine → LeavesPart 0 name text b d → ImplementsWithin o 0 b d outcome.NoMemory
+  pub file_wants : Fine → LeavesPart 0 name text b d → Implements o b d outcome.NoMemory
   file_wants is (left n reached) = wants_memory o b d _ (goes_by (length o.texts) _ (begun 0 name (take n text)) b d (by_begun (length o.texts) name (take n text)) reached) (file_part n is)
   file_wants is (cut_off n fails why) = is_unheld o b d _ (begun 0 name (take n text)) (by_begun (length o.texts) name (take n text)) (λ e. cc) fails (file_part n is) (lacks is (λ steady. lacks_file (why steady)))
 
   -- the file was made, and no word was said
-  pub words_want : Fine → Reaches (made 0 name text) b d → ImplementsWithin o 0 b d outcome.NoMemory
+  pub words_want : Fine → Reaches (made 0 name text) b d → Implements o b d outcome.NoMemory
   words_want is far = wants_memory o b d _ (goes_by (length o.texts) _ (made 0 name text) b d (by_made (length o.texts) name text) far) (words_part 0 is)
 
-  pub words_stop : Fine → (n : ℕ) → FailsToWrite (spoken (take n summary)) b d → (IsSteady b → LacksRoom words (length summary) b) → ImplementsWithin o 0 b d outcome.WriteFault
+  pub words_stop : Fine → (n : ℕ) → FailsToWrite (spoken (take n summary)) b d → (IsSteady b → LacksRoom words (length summary) b) → Implements o b d outcome.WriteFault
   words_stop is n fails why = is_unwritten o b d _ (spoken (take n summary)) (by_spoken (length o.texts) name text (take n summary)) fails (words_part n is) (lacks is (λ steady. no_words (why steady)))
 
-  pub all_said : Fine → Reaches (spoken summary) b d → ((slot : ℕ) → b.view.writing slot ≡ false) → ImplementsWithin o 0 b d outcome.Done
+  pub all_said : Fine → Reaches (spoken summary) b d → ((slot : ℕ) → b.view.writing slot ≡ false) → Implements o b d outcome.Done
   all_said is far free = all_done o b d whole (goes_by (length o.texts) whole (spoken summary) b d (by_spoken (length o.texts) name text summary) far) (spoken_keeps name text summary b d far.view free) (due is)

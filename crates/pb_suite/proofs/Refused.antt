@@ -5,7 +5,7 @@ use Rattle.pb_base.specs.declared.file.File.{File}
 use Rattle.pb_desk.specs.Desk.{DeskState, IfTold, IsSteady, IsTold, same}
 use Rattle.pb_suite.specs.declared.outcome.Outcome.{Outcome}
 use Rattle.pb_suite.specs.declared.outcome.Outcome.TheVariants as outcome
-use Rattle.pb_suite.specs.Implementing.{IsRefusal, Implements, ImplementsWithin}
+use Rattle.pb_suite.specs.Implementing.{IsRefusal, Implements}
 use Rattle.pb_suite.specs.CommandSpec.{HasKind, CommandSpec, Text}
 use Rattle.pb_suite.specs.Refusals.{IsUnread}
 use Rattle.pb_suite.specs.Refusals.IsUnread.{lacks as absent, refuses as refusal}
@@ -13,7 +13,7 @@ use Rattle.pb_suite.specs.inner.Runs.{fetched, HasText, KeepsReading, RefusesFil
 use Rattle.pb_suite.specs.inner.Runs.RefusesFile.{token, limit}
 use Rattle.pb_suite.specs.inner.Runs.StopsFetching.{not_open, in_text}
 use Rattle.pb_suite.specs.inner.Runs.StopsReading.{not_read, no_memory, refused}
-use Rattle.pb_suite.proofs.Endings.{bare_memory, is_refused, is_unread, within_more, IsOpenIn}
+use Rattle.pb_suite.proofs.Endings.{bare_memory, is_refused, is_unread, IsOpenIn}
 use Rattle.pb_suite.proofs.Going.{by_reading, by_same, goes_fetched, keeps_by, shelf_stays, KeepsShelf}
 use Rattle.pb_suite.specs.CommandSpec.{Shelf}
 use Rattle.pb_suite.proofs.Texts.{told_more, told_none}
@@ -25,11 +25,11 @@ is_refusal texts file _ has (limit place which) = has
 module _ (o : CommandSpec) (slot : ℕ) (text : Text) (in_texts : slot < length o.texts) (has : Contains o.texts text) (of_kind : HasKind text.kind o.texts) (refuses_text : List ℕ → Outcome → Type 0) (a b : DeskState) where
   -- where a refusal of the text is due by what the desk tells
   pub reading_ends : (IsTold a (λ t. IsNone (t.shelf text.name)) → IsTold a (λ t. o.stops t.shelf outcome.ReadFault)) → ((answer : Outcome) → HasText text.name (λ bytes. refuses_text bytes answer) a → IfTold a (λ t. o.stops t.shelf answer))
-      → (answer : Outcome) → StopsReading text.kind slot text.name refuses_text a b answer → (IsSteady a → answer ≡ outcome.ReadFault → IsTold a (λ t. IsNone (t.shelf text.name))) → (answer ≡ outcome.ReadFault → KeepsReading (slot + 1) a b → KeepsShelf a b → IsOpenIn o b) → ImplementsWithin o 1 a b answer
-  reading_ends none due _ (not_read (not_open fails ends)) lacks unsettled =
-      is_unread o a b same (by_same (length o.texts)) fails ends (λ steady. (text, has, lacks steady refl, none (lacks steady refl))) (unsettled refl (keeps_by (slot + 1) same a b (by_same (slot + 1)) fails.view) (shelf_stays same a b (by_same (slot + 1)) fails))
-  reading_ends none due _ (not_read (in_text count fails ends)) lacks unsettled =
-      is_unread o a b (fetched slot text.name count) (by_reading (length o.texts) slot text.name count in_texts) fails ends (λ steady. (text, has, lacks steady refl, none (lacks steady refl)))
+      → (answer : Outcome) → StopsReading text.kind slot text.name refuses_text a b answer → (IsSteady a → answer ≡ outcome.ReadFault → IsTold a (λ t. IsNone (t.shelf text.name))) → (answer ≡ outcome.ReadFault → KeepsReading (slot + 1) a b → KeepsShelf a b → IsOpenIn o b) → Implements o a b answer
+  reading_ends none due _ (not_read (not_open fails)) lacks unsettled =
+      is_unread o a b same (by_same (length o.texts)) fails (λ steady. (text, has, lacks steady refl, none (lacks steady refl))) (unsettled refl (keeps_by (slot + 1) same a b (by_same (slot + 1)) fails.view) (shelf_stays same a b (by_same (slot + 1)) fails))
+  reading_ends none due _ (not_read (in_text count fails)) lacks unsettled =
+      is_unread o a b (fetched slot text.name count) (by_reading (length o.texts) slot text.name count in_texts) fails (λ steady. (text, has, lacks steady refl, none (lacks steady refl)))
       (unsettled refl (keeps_by (slot + 1) (fetched slot text.name count) a b (by_reading (slot + 1) slot text.name count (omega arith)) fails.view) (shelf_stays (fetched slot text.name count) a b (by_reading (slot + 1) slot text.name count (omega arith)) fails))
   reading_ends none due _ (no_memory count reached) lacks unsettled = bare_memory o a b (goes_fetched (length o.texts) slot text.name count a b in_texts reached)
   reading_ends none due _ (refused count answer is reached found) lacks unsettled =
@@ -39,6 +39,6 @@ module _ (o : CommandSpec) (slot : ℕ) (text : Text) (in_texts : slot < length 
     (unread : (shelf : Shelf) (answer : Outcome) → IsUnread shelf text.name refuses_text answer → o.stops shelf answer) (a b : DeskState) where
   pub reading_implements : (answer : Outcome) → StopsReading text.kind slot text.name refuses_text a b answer → (IsSteady a → answer ≡ outcome.ReadFault → IsTold a (λ t. IsNone (t.shelf text.name))) → (answer ≡ outcome.ReadFault → KeepsReading (slot + 1) a b → KeepsShelf a b → IsOpenIn o b) → Implements o a b answer
   reading_implements answer stops lacks unsettled =
-      within_more o a b 1 (length o.texts) answer (omega (arith, in_texts)) (reading_ends o slot text in_texts has of_kind refuses_text a b (told_none a (λ shelf. shelf text.name) (λ shelf. o.stops shelf outcome.ReadFault) (λ shelf is. unread shelf outcome.ReadFault (absent is)))
+      reading_ends o slot text in_texts has of_kind refuses_text a b (told_none a (λ shelf. shelf text.name) (λ shelf. o.stops shelf outcome.ReadFault) (λ shelf is. unread shelf outcome.ReadFault (absent is)))
       (λ answer found. told_more a (λ t. (bytes : List ℕ) × (t.shelf text.name ≡ Some bytes) × refuses_text bytes answer) (λ t. o.stops t.shelf answer) (λ t found. unread t.shelf answer (refusal found.0 answer found.1 found.2)) found)
-      answer stops lacks unsettled)
+      answer stops lacks unsettled

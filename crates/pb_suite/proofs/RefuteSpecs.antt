@@ -7,7 +7,7 @@ use Rattle.pb_base.specs.declared.literal.Lit.{Lit}
 use Rattle.pb_base.specs.declared.problem.Problem.{Problem}
 use Rattle.pb_base.proofs.Members.{Contains-here, Contains-there}
 use Rattle.pb_desk.specs.View.{Told, View, opened, taken}
-use Rattle.pb_desk.specs.Desk.{DeskState, FailsToRead, IfTold, IsSteady, IsTold, Reaches, same}
+use Rattle.pb_desk.specs.Desk.{DeskState, FailsToRead, IfTold, IsSteady, IsTold, Reads, same}
 use Rattle.pb_desk.specs.LineReading.{FailsAhead, nothing_held}
 use Rattle.pb_desk.specs.TwoSlots.{TakesBoth}
 use Rattle.pb_dimacs.specs.CnfForms.{TakesText}
@@ -23,7 +23,7 @@ use Rattle.pb_lrat.specs.Refuting.{Refutes, StopsRefuting, TakesEnded}
 use Rattle.pb_words.specs.RefuteWords.{RefuteWords}
 use Rattle.pb_suite.specs.declared.outcome.Outcome.{Outcome}
 use Rattle.pb_suite.specs.declared.outcome.Outcome.TheVariants as outcome
-use Rattle.pb_suite.specs.Implementing.{ImplementsWithin}
+use Rattle.pb_suite.specs.Implementing.{Implements}
 use Rattle.pb_suite.specs.Outputs.{nothing, only_words}
 use Rattle.pb_suite.specs.CommandSpec.{Text, taken_in}
 use Rattle.pb_suite.specs.RefuteSpec.{refute_spec, IsAccepted, IsFollowed}
@@ -34,7 +34,7 @@ use Rattle.pb_suite.specs.inner.Runs.{lrat_refusal}
 use Rattle.pb_suite.specs.inner.Saying.{EndsSaying}
 use Rattle.pb_suite.proofs.Afterwards.{implements_after}
 use Rattle.pb_suite.proofs.Endings.{bare_memory, is_refused, is_unread, IsOpenIn}
-use Rattle.pb_suite.proofs.Going.{by_opened, by_same, by_taken, goes_by, goes_reading, shelf_is_if, Goes}
+use Rattle.pb_suite.proofs.Going.{by_opened, by_same, by_taken, goes_reading, shelf_is_if, Goes}
 use Rattle.pb_suite.proofs.CheckSpecs.{cnf_text, proof_text, Checks, UnjudgedIn}
 use Rattle.pb_suite.proofs.Says.{saying_implements}
 use Rattle.pb_suite.proofs.Takings.{stands_whole, taken-closed, taken-on}
@@ -65,20 +65,20 @@ module _ (w : RefuteWords) where
       (Contains-there (proof_text w.checked) (lrat_text ∷ []) lrat_text (Contains-here lrat_text [])))
 
   -- what is open for the check is so for the refutation, where its slot was not opened
-  pub unfollowed : (b : DeskState) → b.view.reading 3 ≡ false → IfTold b (UnjudgedIn w.checked b.view) → IsOpenIn (refute_spec w) b
-  unfollowed b closed leaves = told_more b (UnjudgedIn w.checked b.view) (λ t. (refute_spec w).leaves_open t.shelf (taken_in b.view t)) (λ t is. inl (taken-closed b.view t 3 w.lrat closed, is)) leaves
+  pub unfollowed : (b : DeskState) → b.view.reading 3 ≡ false → IfTold b (UnjudgedIn w.checked b.ended b.view) → IsOpenIn (refute_spec w) b
+  unfollowed b closed leaves = told_more b (UnjudgedIn w.checked b.ended b.view) (λ t. (refute_spec w).leaves_open t.shelf (taken_in b.view t) b.ended) (λ t is. inl (taken-closed b.view t 3 w.lrat closed, is)) leaves
 
   -- the file was not opened
-  pub no_lrat : (vars : ℕ) (clauses : List (List Lit)) (a b : DeskState) → IfTold a (λ t. IsAccepted t.shelf w vars clauses) → FailsToRead same a b → (IsSteady a → IsTold a (λ t. IsNone (t.shelf w.lrat))) → b.ends ≡ a.ends → a.view.reading 3 ≡ false → ImplementsWithin (refute_spec w) 1 a b outcome.ReadFault
-  no_lrat vars clauses a b accepted fails lacks ends free = is_unread (refute_spec w) a b same (by_same 4) fails (omega (arith, ends))
+  pub no_lrat : (vars : ℕ) (clauses : List (List Lit)) (a b : DeskState) → IfTold a (λ t. IsAccepted t.shelf w vars clauses) → FailsToRead same a b → (IsSteady a → IsTold a (λ t. IsNone (t.shelf w.lrat))) → a.view.reading 3 ≡ false → Implements (refute_spec w) a b outcome.ReadFault
+  no_lrat vars clauses a b accepted fails lacks free = is_unread (refute_spec w) a b same (by_same 4) fails
       (λ steady. (
         lrat_text,
         has_lrat_text,
         lacks steady,
         told_none_of a (λ shelf. shelf w.lrat) (λ shelf. (refute_spec w).stops shelf outcome.ReadFault) (λ shelf. IsAccepted shelf w vars clauses) (λ shelf is none. lacking vars clauses is none) accepted (lacks steady),
       ))
-      (subst (λ (v : View). IfSome v.told (λ t. (refute_spec w).leaves_open t.shelf (taken_in v t))) (sym fails.view)
-      (told_more a (λ t. IsAccepted t.shelf w vars clauses) (λ t. (refute_spec w).leaves_open t.shelf (taken_in a.view t))
+      (subst (λ (v : View). IfSome v.told (λ t. (refute_spec w).leaves_open t.shelf (taken_in v t) b.ended)) (sym fails.view)
+      (told_more a (λ t. IsAccepted t.shelf w vars clauses) (λ t. (refute_spec w).leaves_open t.shelf (taken_in a.view t) b.ended)
       (λ t is. inr (vars, clauses, is, subst (λ (x : Option (List ℕ)). TakesEnded (started vars clauses) (unwrap_or x [])) (sym (taken-closed a.view t 3 w.lrat free)) refl)) accepted))
 
 -- what was kept of the CNF are the clauses of the texts that were judged
@@ -94,12 +94,12 @@ accepted_so w p vars clauses d e denoted both takes says = by_cases d.view.told 
       says_all = says;
     }
 
-module _ (w : RefuteWords) (vars : ℕ) (clauses : List (List Lit)) (a b d : DeskState) (accepted : IfTold a (λ t. IsAccepted t.shelf w vars clauses)) (reached : Reaches (opened 3 w.lrat) a b) (found : IfTold a (λ t. IsSome (t.shelf w.lrat))) where
-  open_goes : Goes 4 0 nothing a b
-  open_goes = goes_by 4 nothing (opened 3 w.lrat) a b (by_opened 4 3 w.lrat (omega arith)) reached
+module _ (w : RefuteWords) (vars : ℕ) (clauses : List (List Lit)) (a b d : DeskState) (accepted : IfTold a (λ t. IsAccepted t.shelf w vars clauses)) (reached : Reads (opened 3 w.lrat) a b) (found : IfTold a (λ t. IsSome (t.shelf w.lrat))) where
+  open_goes : Goes 4 nothing a b
+  open_goes = goes_reading 4 nothing (opened 3 w.lrat) a b (by_opened 4 3 w.lrat (omega arith)) reached
 
-  text_goes : (P : List ℕ → Type 0) → TakesText 3 P b d → Goes 4 1 nothing b d
-  text_goes P takes = goes_reading 4 1 nothing (taken 3 takes.count) b d (by_taken 4 3 takes.count) takes.takes.reached takes.ends
+  text_goes : (P : List ℕ → Type 0) → TakesText 3 P b d → Goes 4 nothing b d
+  text_goes P takes = goes_reading 4 nothing (taken 3 takes.count) b d (by_taken 4 3 takes.count) takes.takes.reached
 
   followed : (end : LratEnding) → TakesText 3 (λ text. lrat_walk vars clauses text ≡ end) b d → IfTold b (λ t. IsFollowed t.shelf w end)
   followed end takes = by_cases b.view.told (shelf_is_if a b open_goes (λ shelf. IsAccepted shelf w vars clauses) accepted) (stands_whole 3 w.lrat a b reached.view found) takes.text
@@ -108,29 +108,29 @@ module _ (w : RefuteWords) (vars : ℕ) (clauses : List (List Lit)) (a b d : Des
       by_cases None accepted has ends = tt
       by_cases (Some t) accepted has ends = record { vars = vars; clauses = clauses; lrat = t.left 3; accepted = accepted; has_lrat = has; ends = ends }
 
-  opened_implements : (e : DeskState) (answer : Outcome) → ImplementsWithin (refute_spec w) 1 b e answer → ImplementsWithin (refute_spec w) 1 a e answer
+  opened_implements : (e : DeskState) (answer : Outcome) → Implements (refute_spec w) b e answer → Implements (refute_spec w) a e answer
   opened_implements e answer implements = implements_after (refute_spec w) a b e open_goes answer implements
 
   -- a read failed, before which all lines were taken
   unended : FailsAhead 3 nothing_held b d (TakesEnded (started vars clauses)) → IsOpenIn (refute_spec w) d
   unended stops =
-      told_more d (λ t. IsAccepted t.shelf w vars clauses × TakesEnded (started vars clauses) (unwrap_or (taken_in d.view t 3 w.lrat) [])) (λ t. (refute_spec w).leaves_open t.shelf (taken_in d.view t)) (λ t is. inr (vars, clauses, is.0, is.1))
+      told_more d (λ t. IsAccepted t.shelf w vars clauses × TakesEnded (started vars clauses) (unwrap_or (taken_in d.view t 3 w.lrat) [])) (λ t. (refute_spec w).leaves_open t.shelf (taken_in d.view t) d.ended) (λ t is. inr (vars, clauses, is.0, is.1))
       (taken-on 3 stops.count w.lrat (λ shelf bytes. IsAccepted shelf w vars clauses × TakesEnded (started vars clauses) (unwrap_or bytes [])) b d (subst (λ (v : View). IsTrue (v.reading 3)) (sym reached.view) refl) (stands_whole 3 w.lrat a b reached.view found) stops.fails.view
       (both_told b (λ t. IsAccepted t.shelf w vars clauses) (λ t. (stops.count ≤ length (t.left 3)) × TakesEnded (started vars clauses) (take stops.count (t.left 3))) (λ t. IsAccepted t.shelf w vars clauses × TakesEnded (started vars clauses) (take stops.count (t.left 3)))
       (λ t is ended. (is, ended.1)) (shelf_is_if a b open_goes (λ shelf. IsAccepted shelf w vars clauses) accepted) stops.told))
 
   -- the text is no refutation, a read failed, or memory was wanting
-  unrefuted : (f : RefuteFault) → StopsRefuting vars clauses 3 b d f → (IsSteady b → f ≢ fault.Failed) → ImplementsWithin (refute_spec w) 1 b d (lrat_refusal f)
+  unrefuted : (f : RefuteFault) → StopsRefuting vars clauses 3 b d f → (IsSteady b → f ≢ fault.Failed) → Implements (refute_spec w) b d (lrat_refusal f)
   unrefuted (fault.Token place e) stops steady =
       is_refused (refute_spec w) b d _ (text_goes _ stops) (inr (inr (inr (inl refl)))) (told_more b _ _ (λ t ends. token place e ends) (followed (ending.refused place e) stops))
   unrefuted (fault.Limit place which) stops steady =
       is_refused (refute_spec w) b d _ (text_goes _ stops) (inr (inr (inr (inl refl)))) (told_more b _ _ (λ t ends. limit place which ends) (followed (ending.limited place which) stops))
   unrefuted (fault.NotRefuted line why) stops steady =
       is_refused (refute_spec w) b d _ (text_goes _ stops) (inr (inr (inr (inl refl)))) (told_more b _ _ (λ t ends. no_refutation line why ends) (followed (ending.not_refuted line why) stops))
-  unrefuted fault.Failed stops steady = is_unread (refute_spec w) b d (taken 3 stops.count) (by_taken 4 3 stops.count) stops.fails stops.ends (λ is. absurd (steady is refl)) (unended stops)
+  unrefuted fault.Failed stops steady = is_unread (refute_spec w) b d (taken 3 stops.count) (by_taken 4 3 stops.count) stops.fails (λ is. absurd (steady is refl)) (unended stops)
   unrefuted fault.NoMemory stops steady = bare_memory (refute_spec w) b d (text_goes _ stops)
 
-  pub after_ending : (f : RefuteFault) → StopsRefuting vars clauses 3 b d f → (IsSteady b → f ≢ fault.Failed) → ImplementsWithin (refute_spec w) 1 a d (lrat_refusal f)
+  pub after_ending : (f : RefuteFault) → StopsRefuting vars clauses 3 b d f → (IsSteady b → f ≢ fault.Failed) → Implements (refute_spec w) a d (lrat_refusal f)
   after_ending f stops steady = opened_implements d _ (unrefuted f stops steady)
 
   -- it is one
@@ -138,5 +138,5 @@ module _ (w : RefuteWords) (vars : ℕ) (clauses : List (List Lit)) (a b d : Des
   refuted_due takes =
       shelf_is_if b d (text_goes _ takes) (λ shelf. (refute_spec w).done shelf (only_words (codes "refuted\n"))) (told_more b _ _ (λ t ends. (ends, refl)) (followed ending.refuted takes))
 
-  pub after_saying : (e : DeskState) → (IsSteady d → IsSome d.view.told) → Refutes vars clauses 3 b d → (answer : Outcome) → EndsSaying (codes "refuted\n") d e answer → ImplementsWithin (refute_spec w) 1 a e answer
+  pub after_saying : (e : DeskState) → (IsSteady d → IsSome d.view.told) → Refutes vars clauses 3 b d → (answer : Outcome) → EndsSaying (codes "refuted\n") d e answer → Implements (refute_spec w) a e answer
   after_saying e tells takes answer ends = opened_implements e _ (implements_after (refute_spec w) b d e (text_goes _ takes) answer (saying_implements (refute_spec w) (codes "refuted\n") d e tells (refuted_due takes) answer ends))

@@ -21,7 +21,7 @@ use Rattle.pb_encode.specs.Summaries.{IsEncodable, IsOver}
 use Rattle.pb_encode.proofs.EncodedFiles.{proof_lacks}
 use Rattle.pb_suite.specs.declared.outcome.Outcome.{Outcome}
 use Rattle.pb_suite.specs.declared.outcome.Outcome.TheVariants as outcome
-use Rattle.pb_suite.specs.Implementing.{ImplementsWithin}
+use Rattle.pb_suite.specs.Implementing.{Implements}
 use Rattle.pb_suite.specs.Outputs.{nothing, IsPartOf, LacksFor, Output}
 use Rattle.pb_suite.specs.Outputs.IsPartOf.{of_file, of_words}
 use Rattle.pb_suite.specs.Outputs.LacksFor.{is_taken, no_room, no_words as no_word_room}
@@ -100,25 +100,25 @@ module _ (o : CommandSpec) (options : Options) (p : Problem) (names : FileNames)
 
   -- ---- how it ends
 
-  stored_implements : IsEncodable options p → Reaches (stored_whole options p names) b d → ((slot : ℕ) → b.view.writing slot ≡ false) → ImplementsWithin o 0 b d outcome.Done
+  stored_implements : IsEncodable options p → Reaches (stored_whole options p names) b d → ((slot : ℕ) → b.view.writing slot ≡ false) → Implements o b d outcome.Done
   stored_implements is far free = all_done o b d whole (goes_by (length o.texts) whole (stored_whole options p names) b d (by_stored options p (length o.texts) names summary) far) (stored_keeps options p names summary b d far.view free) (due is)
 
-  cnf_stops : IsEncodable options p → (IsSteady b → LacksToStore options p names b) → StopsMaking 0 name cnf b d → ImplementsWithin o 0 b d outcome.WriteFault
+  cnf_stops : IsEncodable options p → (IsSteady b → LacksToStore options p names b) → StopsMaking 0 name cnf b d → Implements o b d outcome.WriteFault
   cnf_stops is why (making_not fails) = is_unwritten o b d nothing same (by_same (length o.texts)) fails bare_part (lacks is why)
   cnf_stops is why (making_in n fails) = is_unwritten o b d _ (begun 0 name (take n cnf)) (by_begun (length o.texts) name (take n cnf)) fails (cnf_part n is) (lacks is why)
 
-  proof_stops : IsEncodable options p → (IsSteady b → LacksToStore options p names b) → (proof : List ℕ) (between : DeskState) → names.proof ≡ Some proof → Reaches (made 0 name cnf) b between → StopsMaking 1 proof derivation between d → ImplementsWithin o 0 b d outcome.WriteFault
+  proof_stops : IsEncodable options p → (IsSteady b → LacksToStore options p names b) → (proof : List ℕ) (between : DeskState) → names.proof ≡ Some proof → Reaches (made 0 name cnf) b between → StopsMaking 1 proof derivation between d → Implements o b d outcome.WriteFault
   proof_stops is why proof between named made_is (making_not fails) =
       is_unwritten o b d _ (made 0 name cnf) (by_made (length o.texts) name cnf) (then_fails_to_write (made 0 name cnf) same (made 0 name cnf) b between d (λ v. refl) made_is fails) (cnf_whole is) (lacks is why)
   proof_stops is why proof between named made_is (making_in n fails) =
       let both : View → View = λ v. begun 1 proof (take n derivation) (made 0 name cnf v) in
       is_unwritten o b d _ both (by_begun_proof (length o.texts) name cnf proof (take n derivation)) (then_fails_to_write (made 0 name cnf) (begun 1 proof (take n derivation)) both b between d (λ v. refl) made_is fails) (proof_part proof n named is) (lacks is why)
 
-  cnf_wants : IsEncodable options p → LeavesPart 0 name cnf b d → ImplementsWithin o 0 b d outcome.NoMemory
+  cnf_wants : IsEncodable options p → LeavesPart 0 name cnf b d → Implements o b d outcome.NoMemory
   cnf_wants is (left n reached) = wants_memory o b d _ (goes_by (length o.texts) _ (begun 0 name (take n cnf)) b d (by_begun (length o.texts) name (take n cnf)) reached) (cnf_part n is)
   cnf_wants is (cut_off n fails why) = is_unheld o b d _ (begun 0 name (take n cnf)) (by_begun (length o.texts) name (take n cnf)) (λ e. cc) fails (cnf_part n is) (lacks is (λ steady. to_make (for_cnf (why steady))))
 
-  proof_wants : IsEncodable options p → (proof : List ℕ) (between : DeskState) → names.proof ≡ Some proof → Reaches (made 0 name cnf) b between → LeavesPart 1 proof derivation between d → ImplementsWithin o 0 b d outcome.NoMemory
+  proof_wants : IsEncodable options p → (proof : List ℕ) (between : DeskState) → names.proof ≡ Some proof → Reaches (made 0 name cnf) b between → LeavesPart 1 proof derivation between d → Implements o b d outcome.NoMemory
   proof_wants is proof between named made_is (left n reached) =
       let text = take n derivation in
       let both : View → View = λ v. begun 1 proof text (made 0 name cnf v) in
@@ -129,7 +129,7 @@ module _ (o : CommandSpec) (options : Options) (p : Problem) (names : FileNames)
       is_unheld o b d _ both (by_begun_proof (length o.texts) name cnf proof text) (λ e. cc) (then_fails_to_write (made 0 name cnf) (begun 1 proof text) both b between d (λ v. refl) made_is fails) (proof_part proof n named is)
       (lacks is (λ steady. to_make (proof_lacks options p names b between proof named made_is (why (ap (λ (v : View). v.steady) made_is.view ∙ steady)))))
 
-  stopped_implements : (answer : Outcome) → StopsStoring options p names b d answer → (IsSteady b → answer ≡ outcome.WriteFault → LacksToStore options p names b) → ImplementsWithin o 0 b d answer
+  stopped_implements : (answer : Outcome) → StopsStoring options p names b d answer → (IsSteady b → answer ≡ outcome.WriteFault → LacksToStore options p names b) → Implements o b d answer
   stopped_implements _ (storing_over which is far) why = is_refused o b d (outcome.Limit None which None) (goes_by (length o.texts) nothing same b d (by_same (length o.texts)) far) tt (stops which is)
   stopped_implements _ (not_made is (stops_in_cnf ends)) why = cnf_stops is (λ steady. why steady refl) ends
   stopped_implements _ (not_made is (stops_in_proof later)) why = proof_stops is (λ steady. why steady refl) later.proof later.between later.named later.whole later.ends
@@ -139,6 +139,6 @@ module _ (o : CommandSpec) (options : Options) (p : Problem) (names : FileNames)
   stopped_implements _ (no_memory (wants_in_proof is later)) why = proof_wants is later.proof later.between later.named later.whole later.ends
   stopped_implements _ (no_words is far) why = wants_memory o b d _ (goes_by (length o.texts) _ (made_files options p names) b d (by_files options p (length o.texts) names) far) (words_part 0 is)
 
-  pub storing_implements : ((slot : ℕ) → b.view.writing slot ≡ false) → (answer : Outcome) → EndsStoring options p names b d answer → ImplementsWithin o 0 b d answer
+  pub storing_implements : ((slot : ℕ) → b.view.writing slot ≡ false) → (answer : Outcome) → EndsStoring options p names b d answer → Implements o b d answer
   storing_implements free _ (all_stored is far) = stored_implements is far free
   storing_implements free _ (stopped answer stops why) = stopped_implements answer stops why

@@ -11,10 +11,10 @@ use Rattle.pb_suite.specs.CommandSpec.{Shelf, taken_in}
 use Rattle.pb_suite.proofs.Opened.{some_is}
 
 -- the first bytes of a text, of which these are left
-abbrev before_rest : List ℕ → List ℕ → List ℕ
+abbrev pub before_rest : List ℕ → List ℕ → List ℕ
 before_rest text left = take (length text - length left) text
 
-before-drop : (n : ℕ) (text : List ℕ) → before_rest text (drop n text) ≡ take n text
+pub before-drop : (n : ℕ) (text : List ℕ) → before_rest text (drop n text) ≡ take n text
 before-drop n text =
     let parts : length text ≡ length (take n text) + length (drop n text) = ap length (sym (take-append-drop n text)) ∙ length-append (take n text) (drop n text) in
     let count : length text - length (drop n text) ≡ length (take n text) = omega (arith, parts) in

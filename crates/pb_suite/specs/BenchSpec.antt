@@ -8,7 +8,7 @@ use Rattle.pb_encode.specs.BoundLines.{words_of}
 use Rattle.pb_encode.specs.Summaries.{IsEncodable}
 use Rattle.pb_words.specs.BenchWords.{BenchWords}
 use Rattle.pb_suite.specs.Outputs.{only_words, Output}
-use Rattle.pb_suite.specs.CommandSpec.{CommandSpec, reads_whole}
+use Rattle.pb_suite.specs.CommandSpec.{CommandSpec}
 use Rattle.pb_suite.specs.EncodeSpec.{encoded_output, PassesLimit}
 
 -- the size of the encoding, beside its CNF file where that is named
@@ -19,7 +19,7 @@ bench_output None p = only_words (words_of default_options p)
 abbrev pub bench_spec : BenchWords → CommandSpec
 bench_spec w = record {
   texts = [];
-  leaves_open = reads_whole;
+  leaves_open = λ shelf taken ended. ⊥;
   stops = λ shelf answer. PassesLimit default_options (Reads (generated w.count w.seed)) answer;
   done = λ shelf out. (p : Problem) × Reads (generated w.count w.seed) p × IsEncodable default_options p × (out ≡ bench_output w.cnf p);
 }

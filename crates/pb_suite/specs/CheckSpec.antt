@@ -17,7 +17,7 @@ use Rattle.pb_words.specs.CheckWords.{CheckWords}
 use Rattle.pb_suite.specs.declared.outcome.Outcome.{Outcome}
 use Rattle.pb_suite.specs.declared.outcome.Outcome.TheVariants as outcome
 use Rattle.pb_suite.specs.Outputs.{only_words}
-use Rattle.pb_suite.specs.CommandSpec.{CommandSpec, Shelf, Taken}
+use Rattle.pb_suite.specs.CommandSpec.{CommandSpec, Ended, IsUnended, Shelf, Taken}
 use Rattle.pb_suite.specs.Denoted.{IsDenoted}
 use Rattle.pb_suite.specs.Refusals.{IsUnread, RefusesOpb}
 
@@ -39,14 +39,14 @@ pub data StopsCheck (shelf : Shelf) (w : CheckWords) : Outcome → Type 0 where
   limit : (file : File) (place : Option Place) (which : LimitKind) → IsJudged shelf w (Err (fault.Limit file place which)) → StopsCheck shelf w (outcome.Limit (Some file) which place)
   denial : (line : ℕ) (denied : Denied) → IsJudged shelf w (Ok (Rejected line denied)) → StopsCheck shelf w (outcome.Rejected line denied)
 
--- neither the CNF nor the derivation is open yet; or there is a problem, over which what was taken of both leaves the answer open
-abbrev pub IsUnjudged : Shelf → CheckWords → Taken → Type 0
-IsUnjudged shelf w taken = ((taken 1 w.cnf ≡ None) × (taken 2 w.proof ≡ None)) ⊎ ((p : Problem) × IsDenoted shelf w.opb w.bound p × LeavesOpen p (unwrap_or (taken 1 w.cnf) []) (unwrap_or (taken 2 w.proof) []))
+-- the problem's text is read yet, and neither the CNF nor the derivation is open; or there is a problem, over which what was taken of both leaves the answer open
+abbrev pub IsUnjudged : Shelf → CheckWords → Taken → Ended → Type 0
+IsUnjudged shelf w taken ended = (IsUnended 0 w.opb taken ended × (taken 1 w.cnf ≡ None) × (taken 2 w.proof ≡ None)) ⊎ ((p : Problem) × IsDenoted shelf w.opb w.bound p × LeavesOpen p (unwrap_or (taken 1 w.cnf) []) (unwrap_or (taken 2 w.proof) []))
 
 abbrev pub check_spec : CheckWords → CommandSpec
 check_spec w = record {
   texts = record { kind = Opb; name = w.opb } ∷ record { kind = Cnf; name = w.cnf } ∷ record { kind = Proof; name = w.proof } ∷ [];
-  leaves_open = λ shelf taken. IsUnjudged shelf w taken;
+  leaves_open = λ shelf taken ended. IsUnjudged shelf w taken ended;
   stops = λ shelf answer. StopsCheck shelf w answer;
   done = λ shelf out. IsJudged shelf w (Ok Accepted) × (out ≡ only_words (codes "accepted\n"));
 }

@@ -1,5 +1,5 @@
 -- What specifies a command, and what may hinder it. Our own.
-use Rattle.std.specs.Prelude.{ℕ, ◌-◌, ◌⊎◌, ◌≡◌, ◌≤◌, if◌then◌else◌, List, [], ◌∷◌, All, Contains, take, length, Option, Some, None, IsNone, IsSome}
+use Rattle.std.specs.Prelude.{ℕ, Bool, false, ◌-◌, ◌^◌, ◌⊎◌, ◌≡◌, ◌≤◌, if◌then◌else◌, List, [], ◌∷◌, All, Contains, take, length, Option, Some, None, IfSome, IsNone, IsSome}
 use Rattle.std.specs.Option.{ForSome, unwrap_or}
 use Rattle.pb_base.specs.declared.file.File.{File}
 use Rattle.pb_desk.specs.View.{Made, Told, View}
@@ -29,16 +29,20 @@ Taken = ℕ → List ℕ → Option (List ℕ)
 abbrev pub taken_in : View → Told → Taken
 taken_in view t slot name = if view.reading slot then (let text = unwrap_or (t.shelf name) [] in Some (take (length text - length (t.left slot)) text)) else None
 
--- The texts that are read; whether what was taken of them leaves open how the command ends; with which outcomes it stops, so that nothing is made or said; and what is made and said where all is done.
+-- of which reading slots the end was met
+abbrev pub Ended : Type 0
+Ended = ℕ → Bool
+
+-- Of a text that is read whole there was more to read: its slot is not open; or its end was not met, and no more was taken than a text may have.
+abbrev pub IsUnended : ℕ → List ℕ → Taken → Ended → Type 0
+IsUnended slot name taken ended = IfSome (taken slot name) (λ bytes. (ended slot ≡ false) × (length bytes ≤ 2 ^ 32))
+
+-- The texts that are read; whether what was taken of them, and which ends were met, leaves open how the command ends; with which outcomes it stops, so that nothing is made or said; and what is made and said where all is done.
 pub record CommandSpec : Type 1 where
   pub texts : List Text
-  pub leaves_open : Shelf → Taken → Type 0
+  pub leaves_open : Shelf → Taken → Ended → Type 0
   pub stops : Shelf → Outcome → Type 0
   pub done : Shelf → Output → Type 0
-
--- of texts that are read whole before anything is said of one, no beginning settles anything
-abbrev pub reads_whole : Shelf → Taken → Type 0
-reads_whole shelf taken = Unit {0}
 
 -- what may stand where a write failed or memory was wanting: nothing, or a first part of what is due
 abbrev pub MayStand : CommandSpec → Shelf → Output → Type 0

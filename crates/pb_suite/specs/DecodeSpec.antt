@@ -12,7 +12,7 @@ use Rattle.pb_words.specs.DecodeWords.{DecodeWords}
 use Rattle.pb_suite.specs.declared.outcome.Outcome.{Outcome}
 use Rattle.pb_suite.specs.declared.outcome.Outcome.TheVariants as outcome
 use Rattle.pb_suite.specs.Outputs.{only_words}
-use Rattle.pb_suite.specs.CommandSpec.{CommandSpec, Shelf}
+use Rattle.pb_suite.specs.CommandSpec.{CommandSpec, IsUnended, Shelf}
 use Rattle.pb_suite.specs.Denoted.{IsDenoted}
 use Rattle.pb_suite.specs.Refusals.{IsUnread, RefusesModel, RefusesOpb}
 
@@ -35,11 +35,11 @@ pub data StopsDecode (shelf : Shelf) (w : DecodeWords) : Outcome → Type 0 wher
   no_model : (p : Problem) (m : Model) → ComesTo shelf w p m decoded.NoModel → StopsDecode shelf w outcome.NoModel
   violated : (p : Problem) (m : Model) (statement : ℕ) → ComesTo shelf w p m (decoded.Violates statement) → StopsDecode shelf w (outcome.NotASolution statement)
 
--- the text of a solution is said; the solver's text is not open yet, or there is a problem, and both texts are read whole
+-- the text of a solution is said; both texts are read whole, the solver's once there is a problem
 abbrev pub decode_spec : DecodeWords → CommandSpec
 decode_spec w = record {
   texts = record { kind = Opb; name = w.opb } ∷ record { kind = ModelText; name = w.model } ∷ [];
-  leaves_open = λ shelf taken. (taken 1 w.model ≡ None) ⊎ ((p : Problem) × IsDenoted shelf w.opb w.bound p);
+  leaves_open = λ shelf taken ended. (IsUnended 0 w.opb taken ended × (taken 1 w.model ≡ None)) ⊎ ((p : Problem) × IsDenoted shelf w.opb w.bound p × IsUnended 1 w.model taken ended);
   stops = λ shelf answer. StopsDecode shelf w answer;
   done = λ shelf out. (p : Problem) × (m : Model) × ComesTo shelf w p m decoded.Solution × (out ≡ only_words (solution_text p m.values));
 }

@@ -12,7 +12,7 @@ use Rattle.pb_words.specs.EncodeWords.{EncodeWords}
 use Rattle.pb_suite.specs.declared.outcome.Outcome.{Outcome}
 use Rattle.pb_suite.specs.declared.outcome.Outcome.TheVariants as outcome
 use Rattle.pb_suite.specs.Outputs.{Output}
-use Rattle.pb_suite.specs.CommandSpec.{CommandSpec, Shelf, reads_whole}
+use Rattle.pb_suite.specs.CommandSpec.{CommandSpec, IsUnended, Shelf}
 use Rattle.pb_suite.specs.Denoted.{IsDenoted}
 use Rattle.pb_suite.specs.Refusals.{IsUnread, RefusesOpb}
 
@@ -43,7 +43,7 @@ StopsEncode shelf opb bound o answer = IsUnread shelf opb (RefusesOpb bound) ans
 abbrev pub encode_spec : EncodeWords → CommandSpec
 encode_spec w = record {
   texts = record { kind = Opb; name = w.opb } ∷ [];
-  leaves_open = reads_whole;
+  leaves_open = λ shelf taken ended. IsUnended 0 w.opb taken ended;
   stops = λ shelf answer. StopsEncode shelf w.opb w.bound w.options answer;
   done = λ shelf out. (p : Problem) × IsDenoted shelf w.opb w.bound p × IsEncodable w.options p × (out ≡ encoded_output (names_in w) w.options p);
 }

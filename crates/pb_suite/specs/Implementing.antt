@@ -1,5 +1,5 @@
 -- How a command ends over a desk, by its specification. Our own.
-use Rattle.std.specs.Prelude.{ℕ, ◌≡◌, ◌≢◌, ◌⊎◌, ◌≤◌, ◌+◌, List, [], length, Some, None}
+use Rattle.std.specs.Prelude.{ℕ, ◌≡◌, ◌≢◌, ◌⊎◌, ◌≤◌, List, [], length, Some, None}
 use Rattle.pb_base.specs.declared.file.File.TheVariants.{Lrat, Model, Proof}
 use Rattle.pb_base.specs.FaultCounts.{Rose}
 use Rattle.pb_desk.specs.Desk.{DeskState, IfTold, IsSteady}
@@ -24,14 +24,14 @@ pub record IsQuiet (old new : DeskState) : Type 0 where
   pub reads : new.read_faults ≡ old.read_faults
   pub writes : new.write_faults ≡ old.write_faults
 
--- The count of the fault that is told rose by one, and any other stays. Where memory was wanting one write may have failed too: of what was held then.
+-- The count of the fault that is told rose by one, and any other stays. With `NoMemory` one write may have failed too.
 abbrev pub Counts : DeskState → DeskState → Outcome → Type 0
 Counts old new outcome.ReadFault = Rose old.read_faults new.read_faults × (new.write_faults ≡ old.write_faults)
 Counts old new outcome.WriteFault = (new.read_faults ≡ old.read_faults) × Rose old.write_faults new.write_faults
 Counts old new outcome.NoMemory = (new.read_faults ≡ old.read_faults) × ((new.write_faults ≡ old.write_faults) ⊎ Rose old.write_faults new.write_faults)
 Counts old new other = IsQuiet old new
 
--- Where memory was wanting what is held for a file is written. No write failed; or one did once a file was made, over a steady desk because something is lacking for what is due.
+-- With `NoMemory` no write failed; or one did once a file was made, over a steady desk because something is missing for what is specified.
 pub data WritesHeld (o : CommandSpec) (out : Output) (old new : DeskState) : Type 0 where
   well : new.write_faults ≡ old.write_faults → WritesHeld o out old new
   cut_off : out.made ≢ [] → (IsSteady old → LacksSpace o old) → WritesHeld o out old new
@@ -44,16 +44,11 @@ pub data Answers (o : CommandSpec) (old new : DeskState) : Outcome → Type 0 wh
   write_fault : (out : Output) → IfTold old (λ t. MayStand o t.shelf out) → Adds out old new → Answers o old new outcome.WriteFault
   no_memory : (out : Output) → IfTold old (λ t. MayStand o t.shelf out) → Adds out old new → WritesHeld o out old new → Answers o old new outcome.NoMemory
 
--- What is specified was done, with a reading slot for each of the texts: no more of them were opened, over every desk. So many reads at most gave no byte. A failed read is told only where what was taken of the texts leaves the answer open, and over a steady desk a fault only for its cause.
-pub record ImplementsWithin (o : CommandSpec) (most : ℕ) (old new : DeskState) (answer : Outcome) : Type 0 where
+-- What is specified was done, with a reading slot for each of the texts: no more of them were opened, over every desk. A failed read is told only where what was taken of the texts leaves the answer open, and over a steady desk a fault only for its cause.
+pub record Implements (o : CommandSpec) (old new : DeskState) (answer : Outcome) : Type 0 where
   pub answers : Answers o old new answer
   pub opens : (slot : ℕ) → length o.texts ≤ slot → new.view.reading slot ≡ old.view.reading slot
-  pub ends : new.ends ≤ old.ends + most
   pub counts : Counts old new answer
-  pub unsettled : answer ≡ outcome.ReadFault → IfTold new (λ t. o.leaves_open t.shelf (taken_in new.view t))
+  pub unsettled : answer ≡ outcome.ReadFault → IfTold new (λ t. o.leaves_open t.shelf (taken_in new.view t) new.ended)
   pub no_text : IsSteady old → answer ≡ outcome.ReadFault → LacksText o old
   pub no_space : IsSteady old → answer ≡ outcome.WriteFault → LacksSpace o old
-
--- The command met its specification, and the end of each of its texts once at most.
-abbrev pub Implements : CommandSpec → DeskState → DeskState → Outcome → Type 0
-Implements o old new answer = ImplementsWithin o (length o.texts) old new answer

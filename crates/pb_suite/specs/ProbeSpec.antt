@@ -1,4 +1,6 @@
 -- The specification of propagating given literals over a CNF. Unit propagation is the usual one; what is said of it is our own.
+-- It is stated over clauses, without coefficients. Conflicts are the same over clauses and over their forms as constraints, and so
+-- is what is reached if there is none (`clauses_propagate_as_constraints`).
 use Rattle.std.specs.Prelude.{ℕ, ◌≡◌, List, [], ◌∷◌, ◌++◌, Some, IfSome, codes}
 use Rattle.pb_base.specs.declared.file.File.TheVariants.{Cnf}
 use Rattle.pb_base.specs.declared.literal.Lit.{Lit}
@@ -30,7 +32,7 @@ pub record IsProbed (shelf : Shelf) (w : ProbeWords) (line : List ℕ) : Type 0 
 abbrev pub probe_spec : ProbeWords → CommandSpec
 probe_spec w = record {
   texts = record { kind = Cnf; name = w.cnf } ∷ [];
-  leaves_open = λ shelf taken. IfSome (taken 0 w.cnf) LeavesTold;
+  leaves_open = λ shelf taken ended. IfSome (taken 0 w.cnf) LeavesTold;
   stops = λ shelf answer. IsUnread shelf w.cnf RefusesCnf answer;
   done = λ shelf out. (out.made ≡ []) × IsProbed shelf w out.said;
 }

@@ -1,10 +1,11 @@
 -- How the program ends, whose words the system gives. Our own.
-use Rattle.std.specs.Prelude.{ℕ, ◌≡◌}
+use Rattle.std.specs.Prelude.{ℕ, List, Option, ◌≡◌}
 use Rattle.pb_desk.specs.Desk.{DeskState}
 use Rattle.pb_words.specs.Parsed.{Wanted}
 use Rattle.pb_suite.specs.declared.outcome.Outcome.{Outcome}
 use Rattle.pb_suite.specs.declared.outcome.Outcome.TheVariants as outcome
 use Rattle.pb_suite.specs.CommandSpecs.{spec_of}
+use Rattle.pb_suite.specs.FaultLines.{fault_line, IsToldNext}
 use Rattle.pb_suite.specs.Implementing.{Implements}
 use Rattle.pb_suite.specs.Statuses.{status_of}
 
@@ -14,8 +15,9 @@ pub data AnswersSome (old new : DeskState) : Outcome → Type 0 where
   usage : new ≡ old → AnswersSome old new outcome.Usage
   no_memory : new ≡ old → AnswersSome old new outcome.NoMemory
 
--- an exit status that tells such an answer
-pub record Exits (old new : DeskState) (status : ℕ) : Type 0 where
+-- an exit status that stands for such an answer, and the line that tells it, between what was told before and now
+pub record Exits (old new : DeskState) (before now : Option (List ℕ)) (status : ℕ) : Type 0 where
   pub answer : Outcome
   pub answers : AnswersSome old new answer
-  pub tells : status ≡ status_of answer
+  pub status_is : status ≡ status_of answer
+  pub line : IsToldNext (fault_line answer) before now

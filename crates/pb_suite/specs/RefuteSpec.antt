@@ -17,7 +17,7 @@ use Rattle.pb_words.specs.RefuteWords.{RefuteWords}
 use Rattle.pb_suite.specs.declared.outcome.Outcome.{Outcome}
 use Rattle.pb_suite.specs.declared.outcome.Outcome.TheVariants as outcome
 use Rattle.pb_suite.specs.Outputs.{only_words}
-use Rattle.pb_suite.specs.CommandSpec.{CommandSpec, Shelf, Taken}
+use Rattle.pb_suite.specs.CommandSpec.{CommandSpec, Ended, Shelf, Taken}
 use Rattle.pb_suite.specs.CheckSpec.{IsJudged, IsUnjudged, StopsCheck}
 
 -- the derivation is accepted, and the CNF says these clauses over so many variables
@@ -43,13 +43,13 @@ pub data StopsRefute (shelf : Shelf) (w : RefuteWords) : Outcome → Type 0 wher
   no_refutation : (line : ℕ) (why : LratDenied) → IsFollowed shelf w (ending.not_refuted line why) → StopsRefute shelf w (outcome.NotRefuted line why)
 
 -- the refutation is not open yet, nor is the check's answer settled; or the derivation is accepted, and each line that LF ends in what was taken of the refutation is taken
-abbrev pub IsUnfollowed : Shelf → RefuteWords → Taken → Type 0
-IsUnfollowed shelf w taken = ((taken 3 w.lrat ≡ None) × IsUnjudged shelf w.checked taken) ⊎ ((vars : ℕ) × (clauses : List (List Lit)) × IsAccepted shelf w vars clauses × TakesEnded (started vars clauses) (unwrap_or (taken 3 w.lrat) []))
+abbrev pub IsUnfollowed : Shelf → RefuteWords → Taken → Ended → Type 0
+IsUnfollowed shelf w taken ended = ((taken 3 w.lrat ≡ None) × IsUnjudged shelf w.checked taken ended) ⊎ ((vars : ℕ) × (clauses : List (List Lit)) × IsAccepted shelf w vars clauses × TakesEnded (started vars clauses) (unwrap_or (taken 3 w.lrat) []))
 
 abbrev pub refute_spec : RefuteWords → CommandSpec
 refute_spec w = record {
   texts = record { kind = Opb; name = w.checked.opb } ∷ record { kind = Cnf; name = w.checked.cnf } ∷ record { kind = Proof; name = w.checked.proof } ∷ record { kind = Lrat; name = w.lrat } ∷ [];
-  leaves_open = λ shelf taken. IsUnfollowed shelf w taken;
+  leaves_open = λ shelf taken ended. IsUnfollowed shelf w taken ended;
   stops = λ shelf answer. StopsRefute shelf w answer;
   done = λ shelf out. IsFollowed shelf w ending.refuted × (out ≡ only_words (codes "refuted\n"));
 }

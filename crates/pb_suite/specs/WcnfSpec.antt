@@ -8,7 +8,7 @@ use Rattle.pb_encode.specs.BoundLines.{words_of}
 use Rattle.pb_encode.specs.Weighted.{weighted_text}
 use Rattle.pb_words.specs.WcnfWords.{WcnfWords}
 use Rattle.pb_suite.specs.Outputs.{Output}
-use Rattle.pb_suite.specs.CommandSpec.{CommandSpec, reads_whole}
+use Rattle.pb_suite.specs.CommandSpec.{CommandSpec, IsUnended}
 use Rattle.pb_suite.specs.EncodeSpec.{file_of, StopsEncode}
 use Rattle.pb_suite.specs.Denoted.{IsDenoted}
 
@@ -19,7 +19,7 @@ weighted_output name o p = record { made = file_of 0 name (weighted_text o p) �
 abbrev pub wcnf_spec : WcnfWords → CommandSpec
 wcnf_spec w = record {
   texts = record { kind = Opb; name = w.opb } ∷ [];
-  leaves_open = reads_whole;
+  leaves_open = λ shelf taken ended. IsUnended 0 w.opb taken ended;
   stops = λ shelf answer. StopsEncode shelf w.opb w.bound w.options answer;
   done = λ shelf out. (p : Problem) × IsDenoted shelf w.opb w.bound p × IsEncodable w.options p × (out ≡ weighted_output w.wcnf w.options p);
 }

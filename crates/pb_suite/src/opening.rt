@@ -1,7 +1,7 @@
 //! Opening a CNF and its derivation.
 ghost use Rattle.std.specs.Prelude.{◌≡◌, false, IfErr, IfOk, OnOk, OnErr};
 ghost use Rattle.pb_base.specs.Problems.{IsWithinLimits};
-ghost use Rattle.pb_desk.specs.Desk.{IfTold, IsClosed, Reaches};
+ghost use Rattle.pb_desk.specs.Desk.{IfTold, IsClosed, Reads};
 ghost use Rattle.pb_words.specs.CheckWords.{as_check_words};
 ghost use Rattle.pb_suite.specs.inner.Opening.{opened_both, HasBoth, IsOpened, StopsBefore, StopsOpening};
 
@@ -16,7 +16,9 @@ use std::alloc::Global;
 fn open_both<D: Desk>(cnf: &str, proof: &str, desk: &mut D) -> Result<(), Failed>
     requires cnf_free { (D.state desk.old).view.reading 1 ≡ false }
     requires proof_free { (D.state desk.old).view.reading 2 ≡ false }
-    ensures opened { OnOk result (Reaches (opened_both cnf.now proof.now) (D.state desk.old) (D.state desk.new)) }
+    ensures opened { OnOk result (Reads (opened_both cnf.now proof.now) (D.state desk.old) (D.state desk.new)) }
+    ensures cnf_begun { OnOk result ((D.state desk.new).ended 1 ≡ false) }
+    ensures proof_begun { OnOk result ((D.state desk.new).ended 2 ≡ false) }
     ensures found { OnOk result (IfTold (D.state desk.new) (HasBoth cnf.now proof.now)) }
     ensures failed { OnErr result (StopsOpening cnf.now proof.now (D.state desk.old) (D.state desk.new)) }
 {

@@ -4,6 +4,7 @@ ghost use Rattle.std.specs.Process.{exit_status};
 ghost use Rattle.pb_desk.specs.Desk.{IsClosed};
 ghost use Rattle.pb_suite.specs.Programs.{AnswersSome, Exits};
 
+use crate::diagnostics::{Diagnostics, tell};
 use crate::outcome::Outcome;
 use crate::running::run;
 use pb_desk::Desk;
@@ -30,19 +31,20 @@ fn run_given<R: Env + AllocGlobal, D: Desk>(rt: &R, desk: &mut D) -> Outcome
     run(alloc, &words, desk)
 }
 
-/// A run of the program over a desk, with the words that the system gives. A fault is told on standard error.
-pub fn run_program<R: Env + AllocGlobal + Eprint, D: Desk>(rt: &R, desk: &mut D) -> ExitCode
+/// A run of the program over a desk, with the words that the system gives.
+pub fn run_program<R: Env + AllocGlobal, D: Desk, E: Diagnostics>(
+    rt: &R,
+    desk: &mut D,
+    diagnostics: &mut E,
+) -> ExitCode
     requires closed { IsClosed (D.state desk.old) }
-    // The exit status is that of what some words ask for, done as it is specified; or of words that ask for nothing or were not
-    // to be had, and then the desk is left alone.
-    ensures exits { Exits (D.state desk.old) (D.state desk.new) (exit_status result) }
+    // The exit status and the line that is told are those of what some words ask for, done as it is specified; or of words that ask
+    // for nothing or were not to be had, and then the desk is left alone.
+    ensures exits { Exits (D.state desk.old) (D.state desk.new) (E.told diagnostics.old) (E.told diagnostics.new) (exit_status result) }
     // Where it is 0, all that was made is closed.
     ensures ended { exit_status result ≡ 0 → (slot : ℕ) → (D.state desk.new).view.writing slot ≡ false }
 {
     let outcome = run_given(rt, desk);
-    if !matches!(outcome, Outcome::Done) {
-        // Where standard error is closed, the status still tells.
-        let _ = eprintln!(rt; "{outcome}");
-    }
+    tell(outcome, diagnostics);
     ExitCode::from(outcome.status())
 }

@@ -1,4 +1,7 @@
 // Numbers that are written in digits alone.
+//
+// The parsers of clap would accept a sign. So clap gives a budget as the word that it is, and it is read here as digits alone, like
+// every other number of the suite.
 ghost use Rattle.std.specs.Prelude.{◌≡◌};
 ghost use Rattle.pb_words.specs.Digits.{number_within};
 

@@ -83,7 +83,9 @@ fn fault_of(error: &clap::Error) -> WordsFault
 /// What the words ask for; they begin with the program's name. `Usage` where they are none that
 /// the program takes.
 pub fn parse<'a>(alloc: Global, words: &'a [String]) -> Result<Request<'a>, WordsFault>
+    // A request is exactly the one that the words make by the definition.
     ensures asked { IfOk result (λ r. parsed_of (map string_bytes words.entry.now) ≡ Some (wanted_as r)) }
+    // `Usage` is answered only if the words make none.
     ensures usage { IsErrOf result WordsFault.Usage → parsed_of (map string_bytes words.entry.now) ≡ None }
 {
     let program = program(alloc)?;

@@ -1,6 +1,6 @@
 -- What the steps of a run do to a desk. It serves proofs.
 use Rattle.pb_encode.specs.BoundLines.{words_of}
-use Rattle.std.specs.Prelude.{ℕ, ◌≡◌, ◌≤◌, ◌<◌, ◌+◌, ◌^◌, List, take, length, Option, Some, None}
+use Rattle.std.specs.Prelude.{ℕ, ◌≡◌, ◌≤◌, ◌<◌, ◌^◌, List, take, length, Option, Some, None}
 use Rattle.pb_base.specs.declared.expected.Expected.{Expected}
 use Rattle.pb_base.specs.declared.file.File.{File}
 use Rattle.pb_base.specs.declared.file.File.TheVariants.{Opb, Cnf, Model, Lrat}
@@ -27,6 +27,7 @@ use Rattle.pb_encode.specs.declared.fault.EncodeFault.{EncodeFault}
 use Rattle.pb_encode.specs.declared.fault.EncodeFault.TheVariants as encode
 use Rattle.pb_encode.specs.Encodings.{made_files, FileNames, Lacks, StopsEncoding, WantsMemory}
 use Rattle.pb_encode.specs.Summaries.{IsOver, IsEncodable}
+use Rattle.pb_suite.specs.CommandSpec.{taken_in, IsUnended}
 use Rattle.pb_suite.specs.declared.outcome.Outcome.{Outcome}
 use Rattle.pb_suite.specs.declared.outcome.Outcome.TheVariants as outcome
 
@@ -38,10 +39,9 @@ KeepsReading few old new = (slot : ℕ) → few ≤ slot → new.view.reading sl
 abbrev pub fetched : ℕ → List ℕ → ℕ → View → View
 fetched slot name count view = taken slot count (opened slot name view)
 
--- the file was opened, so many bytes of it were read, and its end was met once at most
-pub record Fetches (slot : ℕ) (name : List ℕ) (count : ℕ) (old new : DeskState) : Type 0 where
-  pub reached : Reads (fetched slot name count) old new
-  pub ends : new.ends ≤ old.ends + 1
+-- the file was opened, and so many bytes of it were read
+abbrev pub Fetches : ℕ → List ℕ → ℕ → DeskState → DeskState → Type 0
+Fetches slot name count old new = Reads (fetched slot name count) old new
 
 -- the outcome of an OPB text's fault
 abbrev pub opb_refusal : OpbFault → Outcome
@@ -91,10 +91,14 @@ pub data RefusesFile (file : File) : Outcome → Type 0 where
 abbrev pub HasText : List ℕ → (List ℕ → Type 0) → DeskState → Type 0
 HasText name P desk = IfTold desk (λ t. (text : List ℕ) × (t.shelf name ≡ Some text) × P text)
 
--- A read failed: before the file was open, or in its bytes, whose end was met once at most.
+-- as the desk tells it, there was more to read of a text that is read whole
+abbrev pub IsUnendedIn : ℕ → List ℕ → DeskState → Type 0
+IsUnendedIn slot name desk = IfTold desk (λ t. IsUnended slot name (taken_in desk.view t) desk.ended)
+
+-- A read failed: before the file was open, or in its bytes.
 pub data StopsFetching (slot : ℕ) (name : List ℕ) (old new : DeskState) : Type 0 where
-  not_open : FailsToRead same old new → new.ends ≤ old.ends + 1 → StopsFetching slot name old new
-  in_text : (count : ℕ) → FailsToRead (fetched slot name count) old new → new.ends ≤ old.ends + 1 → StopsFetching slot name old new
+  not_open : FailsToRead same old new → StopsFetching slot name old new
+  in_text : (count : ℕ) → FailsToRead (fetched slot name count) old new → StopsFetching slot name old new
 
 -- How reading a text ended without what it says: a read failed, memory was wanting, or the text is refused.
 pub data StopsReading (file : File) (slot : ℕ) (name : List ℕ) (refuses_text : List ℕ → Outcome → Type 0) (old new : DeskState) : Outcome → Type 0 where

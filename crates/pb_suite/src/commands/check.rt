@@ -2,7 +2,9 @@
 ghost use Rattle.std.specs.Prelude.{◌≡◌};
 ghost use Rattle.pb_desk.specs.Desk.{IsClosed};
 ghost use Rattle.pb_words.specs.CheckWords.{as_check_words};
+ghost use Rattle.pb_words.specs.Parsed.Wanted.{Check};
 ghost use Rattle.pb_suite.specs.Implementing.{Implements};
+ghost use Rattle.pb_suite.specs.InTurn.{OpensInTurn};
 ghost use Rattle.pb_suite.specs.CheckSpec.{check_spec};
 ghost use Rattle.pb_suite.specs.inner.Runs.{check_refusal};
 
@@ -34,7 +36,8 @@ pub fn check_refusal(fault: CheckFault) -> Outcome
 /// first, and of the other two nothing is kept but a line, a clause and the constraints that stand.
 pub fn check_file<D: Desk>(alloc: Global, asked: &CheckArgs<'_>, desk: &mut D) -> Outcome
     requires closed { IsClosed (D.state desk.old) }
-    ensures { Implements (check_spec (as_check_words asked.now)) (D.state desk.old) (D.state desk.new) result }
+    ensures implements { Implements (check_spec (as_check_words asked.now)) (D.state desk.old) (D.state desk.new) result }
+    ensures in_turn { OpensInTurn (Check (as_check_words asked.now)) (D.state desk.old) (D.state desk.new) }
 {
     let problem = match open_checked(alloc, asked, desk) {
         Ok(problem) => problem,

@@ -5,10 +5,12 @@ ghost use Rattle.pb_desk.specs.Desk.{IfTold, IsClosed, IsSteady, IsTold};
 ghost use Rattle.pb_model.specs.Decoding.{IsDecoded};
 ghost use Rattle.pb_model.specs.ModelReading.{told};
 ghost use Rattle.pb_words.specs.DecodeWords.{as_decode_words};
-ghost use Rattle.pb_suite.specs.Implementing.{Implements, ImplementsWithin};
+ghost use Rattle.pb_words.specs.Parsed.Wanted.{Decode};
+ghost use Rattle.pb_suite.specs.Implementing.{Implements};
+ghost use Rattle.pb_suite.specs.InTurn.{OpensInTurn};
 ghost use Rattle.pb_suite.specs.DecodeSpec.{decode_spec, IsAnswered};
 ghost use Rattle.pb_suite.specs.Refusals.{RefusesModel};
-ghost use Rattle.pb_suite.specs.inner.Runs.{model_refusal, Fetches, HasText, StopsReading};
+ghost use Rattle.pb_suite.specs.inner.Runs.{model_refusal, Fetches, HasText, IsUnendedIn, StopsReading};
 
 use crate::outcome::{Outcome, limited, refused};
 use crate::reading::{read_problem, read_text};
@@ -43,6 +45,7 @@ fn read_answer<D: Desk>(
     ensures read { IfOk result (λ m. (count : ℕ) × Fetches 1 name.now count (D.state desk.old) (D.state desk.new)) }
     ensures says { IfOk result (λ m. HasText name.now (λ text. told vars text ≡ Ok m) (D.state desk.old)) }
     ensures stopped { IfErr result (StopsReading File.Model 1 name.now (RefusesModel vars) (D.state desk.old) (D.state desk.new)) }
+    ensures unended { result ≡ Err Outcome.ReadFault → IsUnendedIn 1 name.now (D.state desk.new) }
     ensures steady { IsSteady (D.state desk.old) → result ≡ Err Outcome.ReadFault → IsTold (D.state desk.old) (λ t. IsNone (t.shelf name.now)) }
 {
     let text = match read_text(alloc, desk, 1, File::Model, name) {
@@ -67,7 +70,7 @@ fn say_solution<D: Desk>(
     requires solution { IsDecoded problem.now model.now Decoded.Solution }
     requires covers { length model.now.values ≡ problem.now.vars }
     requires answered { IfTold (D.state desk.old) (λ t. IsAnswered t.shelf (as_decode_words asked.now) problem.now model.now) }
-    ensures { ImplementsWithin (decode_spec (as_decode_words asked.now)) 0 (D.state desk.old) (D.state desk.new) result }
+    ensures { Implements (decode_spec (as_decode_words asked.now)) (D.state desk.old) (D.state desk.new) result }
 {
     let mut text = Vec::new(alloc);
     match write_solution(alloc, problem, &model.values, &mut text) {
@@ -87,7 +90,7 @@ fn say_decoded<D: Desk>(
     requires within { IsWithinLimits problem.now }
     requires covers { length model.now.values ≡ problem.now.vars }
     requires answered { IfTold (D.state desk.old) (λ t. IsAnswered t.shelf (as_decode_words asked.now) problem.now model.now) }
-    ensures { ImplementsWithin (decode_spec (as_decode_words asked.now)) 0 (D.state desk.old) (D.state desk.new) result }
+    ensures { Implements (decode_spec (as_decode_words asked.now)) (D.state desk.old) (D.state desk.new) result }
 {
     match decode(problem, model) {
         Decoded::NoModel => Outcome::NoModel,
@@ -99,7 +102,8 @@ fn say_decoded<D: Desk>(
 /// Says the solution of a problem that a solver's model gives. The values are tested against each statement.
 pub fn decode_file<D: Desk>(alloc: Global, asked: &DecodeArgs<'_>, desk: &mut D) -> Outcome
     requires closed { IsClosed (D.state desk.old) }
-    ensures { Implements (decode_spec (as_decode_words asked.now)) (D.state desk.old) (D.state desk.new) result }
+    ensures implements { Implements (decode_spec (as_decode_words asked.now)) (D.state desk.old) (D.state desk.new) result }
+    ensures in_turn { OpensInTurn (Decode (as_decode_words asked.now)) (D.state desk.old) (D.state desk.new) }
 {
     let problem = match read_problem(alloc, asked.opb, asked.bound, desk) {
         Ok(problem) => problem,

@@ -2,7 +2,9 @@
 ghost use Rattle.std.specs.Prelude.{◌≡◌, ◌<◌, ◌^◌, false};
 ghost use Rattle.pb_desk.specs.Desk.{IfTold, IsClosed};
 ghost use Rattle.pb_words.specs.RefuteWords.{as_refute_words};
-ghost use Rattle.pb_suite.specs.Implementing.{Implements, ImplementsWithin};
+ghost use Rattle.pb_words.specs.Parsed.Wanted.{Refute};
+ghost use Rattle.pb_suite.specs.Implementing.{Implements};
+ghost use Rattle.pb_suite.specs.InTurn.{OpensInTurn};
 ghost use Rattle.pb_suite.specs.RefuteSpec.{refute_spec, IsAccepted};
 ghost use Rattle.pb_suite.specs.inner.Runs.{lrat_refusal};
 
@@ -41,7 +43,7 @@ fn check_refutation<D: Desk>(
     requires few { vars < 2 ^ 31 }
     requires free { (D.state desk.old).view.reading 3 ≡ false }
     requires accepted { IfTold (D.state desk.old) (λ t. IsAccepted t.shelf (as_refute_words asked.now) vars clauses) }
-    ensures { ImplementsWithin (refute_spec (as_refute_words asked.now)) 1 (D.state desk.old) (D.state desk.new) result }
+    ensures { Implements (refute_spec (as_refute_words asked.now)) (D.state desk.old) (D.state desk.new) result }
 {
     match desk.open(3, asked.lrat) {
         Ok(()) => {}
@@ -57,7 +59,8 @@ fn check_refutation<D: Desk>(
 /// refutation shows that there is none. The problem is read whole first; the clauses of the CNF are kept, and of the other texts a line.
 pub fn refute_file<D: Desk>(alloc: Global, asked: &RefuteArgs<'_>, desk: &mut D) -> Outcome
     requires closed { IsClosed (D.state desk.old) }
-    ensures { Implements (refute_spec (as_refute_words asked.now)) (D.state desk.old) (D.state desk.new) result }
+    ensures implements { Implements (refute_spec (as_refute_words asked.now)) (D.state desk.old) (D.state desk.new) result }
+    ensures in_turn { OpensInTurn (Refute (as_refute_words asked.now)) (D.state desk.old) (D.state desk.new) }
 {
     let problem = match open_checked(alloc, &asked.checking, desk) {
         Ok(problem) => problem,

@@ -22,3 +22,6 @@ returns-in-Err-TooLong-clause-stopped g c =
 
 pub returns-in-Err-NoMemory-clause-stopped : goal.returns-in-Err-NoMemory-clause-stopped
 returns-in-Err-NoMemory-clause-stopped g c = let some = c.in-Err-NoMemory.ensures.no_memory cc in no_memory some.0 some.1.reached
+
+pub returns-in-Err-Failed-clause-unended : goal.returns-in-Err-Failed-clause-unended
+returns-in-Err-Failed-clause-unended g c = λ is. c.in-Err-Failed.ensures.unended cc

@@ -1,37 +1,65 @@
-use Rattle.std.proofs.Common.{sym, subst}
+use Rattle.std.proofs.Common.{arith, sym, subst}
 use Rattle.pb_words.specs.declared.request.Request.{Request}
 use Rattle.pb_words.specs.Parsed.{wanted_as}
 use Rattle.pb_words.specs.inner.Fit.{IsFit}
 use Rattle.pb_suite.specs.Implementing.{Implements}
+use Rattle.pb_suite.specs.InTurn.{OpensInTurn}
 use Rattle.pb_suite.specs.CommandSpecs.{spec_of}
+use Rattle.pb_suite.proofs.InTurn.{opens_one}
 use Rattle.pb_suite.proofs.running.run_request.Goals as goal
 
-pub returns-in-Encode : goal.returns-in-Encode
-returns-in-Encode g c = subst (λ (r : Request). Implements (spec_of (wanted_as r)) (g.D.Desk.state c.args.desk.now) (g.D.Desk.state c.encode_file.new.desk) c.encode_file.result) (sym c.in-Encode.is) c.encode_file.ensures
+pub returns-in-Encode-clause-implements : goal.returns-in-Encode-clause-implements
+returns-in-Encode-clause-implements g c = subst (λ (r : Request). Implements (spec_of (wanted_as r)) (g.D.Desk.state c.args.desk.now) (g.D.Desk.state c.encode_file.new.desk) c.encode_file.result) (sym c.in-Encode.is) c.encode_file.ensures
 
-pub returns-in-Check : goal.returns-in-Check
-returns-in-Check g c = subst (λ (r : Request). Implements (spec_of (wanted_as r)) (g.D.Desk.state c.args.desk.now) (g.D.Desk.state c.check_file.new.desk) c.check_file.result) (sym c.in-Check.is) c.check_file.ensures
+pub returns-in-Check-clause-implements : goal.returns-in-Check-clause-implements
+returns-in-Check-clause-implements g c = subst (λ (r : Request). Implements (spec_of (wanted_as r)) (g.D.Desk.state c.args.desk.now) (g.D.Desk.state c.check_file.new.desk) c.check_file.result) (sym c.in-Check.is) c.check_file.ensures.implements
 
-pub returns-in-Decode : goal.returns-in-Decode
-returns-in-Decode g c = subst (λ (r : Request). Implements (spec_of (wanted_as r)) (g.D.Desk.state c.args.desk.now) (g.D.Desk.state c.decode_file.new.desk) c.decode_file.result) (sym c.in-Decode.is) c.decode_file.ensures
+pub returns-in-Decode-clause-implements : goal.returns-in-Decode-clause-implements
+returns-in-Decode-clause-implements g c = subst (λ (r : Request). Implements (spec_of (wanted_as r)) (g.D.Desk.state c.args.desk.now) (g.D.Desk.state c.decode_file.new.desk) c.decode_file.result) (sym c.in-Decode.is) c.decode_file.ensures.implements
 
-pub returns-in-Probe : goal.returns-in-Probe
-returns-in-Probe g c = subst (λ (r : Request). Implements (spec_of (wanted_as r)) (g.D.Desk.state c.args.desk.now) (g.D.Desk.state c.probe_file.new.desk) c.probe_file.result) (sym c.in-Probe.is) c.probe_file.ensures
+pub returns-in-Probe-clause-implements : goal.returns-in-Probe-clause-implements
+returns-in-Probe-clause-implements g c = subst (λ (r : Request). Implements (spec_of (wanted_as r)) (g.D.Desk.state c.args.desk.now) (g.D.Desk.state c.probe_file.new.desk) c.probe_file.result) (sym c.in-Probe.is) c.probe_file.ensures
 
 pub encode_file-requires-clause-fit : goal.encode_file-requires-clause-fit
 encode_file-requires-clause-fit g c = subst (λ (r : Request). IsFit (wanted_as r)) c.in-Encode.is c.requires.fit
 
-pub returns-in-Bench : goal.returns-in-Bench
-returns-in-Bench g c = subst (λ (r : Request). Implements (spec_of (wanted_as r)) (g.D.Desk.state c.args.desk.now) (g.D.Desk.state c.bench_file.new.desk) c.bench_file.result) (sym c.in-Bench.is) c.bench_file.ensures
+pub returns-in-Bench-clause-implements : goal.returns-in-Bench-clause-implements
+returns-in-Bench-clause-implements g c = subst (λ (r : Request). Implements (spec_of (wanted_as r)) (g.D.Desk.state c.args.desk.now) (g.D.Desk.state c.bench_file.new.desk) c.bench_file.result) (sym c.in-Bench.is) c.bench_file.ensures
 
 pub bench_file-requires-clause-fit : goal.bench_file-requires-clause-fit
 bench_file-requires-clause-fit g c = subst (λ (r : Request). IsFit (wanted_as r)) c.in-Bench.is c.requires.fit
 
-pub returns-in-Refute : goal.returns-in-Refute
-returns-in-Refute g c = subst (λ (r : Request). Implements (spec_of (wanted_as r)) (g.D.Desk.state c.args.desk.now) (g.D.Desk.state c.refute_file.new.desk) c.refute_file.result) (sym c.in-Refute.is) c.refute_file.ensures
+pub returns-in-Refute-clause-implements : goal.returns-in-Refute-clause-implements
+returns-in-Refute-clause-implements g c = subst (λ (r : Request). Implements (spec_of (wanted_as r)) (g.D.Desk.state c.args.desk.now) (g.D.Desk.state c.refute_file.new.desk) c.refute_file.result) (sym c.in-Refute.is) c.refute_file.ensures.implements
 
-pub returns-in-Map : goal.returns-in-Map
-returns-in-Map g c = subst (λ (r : Request). Implements (spec_of (wanted_as r)) (g.D.Desk.state c.args.desk.now) (g.D.Desk.state c.map_file.new.desk) c.map_file.result) (sym c.in-Map.is) c.map_file.ensures
+pub returns-in-Map-clause-implements : goal.returns-in-Map-clause-implements
+returns-in-Map-clause-implements g c = subst (λ (r : Request). Implements (spec_of (wanted_as r)) (g.D.Desk.state c.args.desk.now) (g.D.Desk.state c.map_file.new.desk) c.map_file.result) (sym c.in-Map.is) c.map_file.ensures
 
-pub returns-in-Wcnf : goal.returns-in-Wcnf
-returns-in-Wcnf g c = subst (λ (r : Request). Implements (spec_of (wanted_as r)) (g.D.Desk.state c.args.desk.now) (g.D.Desk.state c.wcnf_file.new.desk) c.wcnf_file.result) (sym c.in-Wcnf.is) c.wcnf_file.ensures
+pub returns-in-Wcnf-clause-implements : goal.returns-in-Wcnf-clause-implements
+returns-in-Wcnf-clause-implements g c = subst (λ (r : Request). Implements (spec_of (wanted_as r)) (g.D.Desk.state c.args.desk.now) (g.D.Desk.state c.wcnf_file.new.desk) c.wcnf_file.result) (sym c.in-Wcnf.is) c.wcnf_file.ensures
+
+-- ---- what is opened
+
+pub returns-in-Encode-clause-in_turn : goal.returns-in-Encode-clause-in_turn
+returns-in-Encode-clause-in_turn g c = subst (λ (r : Request). OpensInTurn (wanted_as r) (g.D.Desk.state c.args.desk.now) (g.D.Desk.state c.encode_file.new.desk)) (sym c.in-Encode.is) (opens_one _ (g.D.Desk.state c.args.desk.now) (g.D.Desk.state c.encode_file.new.desk) _ (omega arith) c.requires.closed c.encode_file.ensures)
+
+pub returns-in-Check-clause-in_turn : goal.returns-in-Check-clause-in_turn
+returns-in-Check-clause-in_turn g c = subst (λ (r : Request). OpensInTurn (wanted_as r) (g.D.Desk.state c.args.desk.now) (g.D.Desk.state c.check_file.new.desk)) (sym c.in-Check.is) c.check_file.ensures.in_turn
+
+pub returns-in-Decode-clause-in_turn : goal.returns-in-Decode-clause-in_turn
+returns-in-Decode-clause-in_turn g c = subst (λ (r : Request). OpensInTurn (wanted_as r) (g.D.Desk.state c.args.desk.now) (g.D.Desk.state c.decode_file.new.desk)) (sym c.in-Decode.is) c.decode_file.ensures.in_turn
+
+pub returns-in-Probe-clause-in_turn : goal.returns-in-Probe-clause-in_turn
+returns-in-Probe-clause-in_turn g c = subst (λ (r : Request). OpensInTurn (wanted_as r) (g.D.Desk.state c.args.desk.now) (g.D.Desk.state c.probe_file.new.desk)) (sym c.in-Probe.is) (opens_one _ (g.D.Desk.state c.args.desk.now) (g.D.Desk.state c.probe_file.new.desk) _ (omega arith) c.requires.closed c.probe_file.ensures)
+
+pub returns-in-Bench-clause-in_turn : goal.returns-in-Bench-clause-in_turn
+returns-in-Bench-clause-in_turn g c = subst (λ (r : Request). OpensInTurn (wanted_as r) (g.D.Desk.state c.args.desk.now) (g.D.Desk.state c.bench_file.new.desk)) (sym c.in-Bench.is) (opens_one _ (g.D.Desk.state c.args.desk.now) (g.D.Desk.state c.bench_file.new.desk) _ (omega arith) c.requires.closed c.bench_file.ensures)
+
+pub returns-in-Refute-clause-in_turn : goal.returns-in-Refute-clause-in_turn
+returns-in-Refute-clause-in_turn g c = subst (λ (r : Request). OpensInTurn (wanted_as r) (g.D.Desk.state c.args.desk.now) (g.D.Desk.state c.refute_file.new.desk)) (sym c.in-Refute.is) c.refute_file.ensures.in_turn
+
+pub returns-in-Map-clause-in_turn : goal.returns-in-Map-clause-in_turn
+returns-in-Map-clause-in_turn g c = subst (λ (r : Request). OpensInTurn (wanted_as r) (g.D.Desk.state c.args.desk.now) (g.D.Desk.state c.map_file.new.desk)) (sym c.in-Map.is) (opens_one _ (g.D.Desk.state c.args.desk.now) (g.D.Desk.state c.map_file.new.desk) _ (omega arith) c.requires.closed c.map_file.ensures)
+
+pub returns-in-Wcnf-clause-in_turn : goal.returns-in-Wcnf-clause-in_turn
+returns-in-Wcnf-clause-in_turn g c = subst (λ (r : Request). OpensInTurn (wanted_as r) (g.D.Desk.state c.args.desk.now) (g.D.Desk.state c.wcnf_file.new.desk)) (sym c.in-Wcnf.is) (opens_one _ (g.D.Desk.state c.args.desk.now) (g.D.Desk.state c.wcnf_file.new.desk) _ (omega arith) c.requires.closed c.wcnf_file.ensures)

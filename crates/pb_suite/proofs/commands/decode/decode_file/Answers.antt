@@ -1,36 +1,38 @@
 use Rattle.std.proofs.Common.{Err, ◌∙◌, ap, inl, refl, arith}
 use Rattle.pb_desk.specs.View.{View}
 use Rattle.pb_words.specs.DecodeWords.{as_decode_words}
-use Rattle.pb_suite.specs.CommandSpec.{taken_in}
+use Rattle.pb_suite.specs.CommandSpec.{taken_in, IsUnended}
 use Rattle.pb_suite.specs.DecodeSpec.{decode_spec}
 use Rattle.pb_suite.specs.DecodeSpec.StopsDecode.{unread}
 use Rattle.pb_suite.proofs.Afterwards.{implements_after}
-use Rattle.pb_suite.proofs.Endings.{always}
 use Rattle.pb_suite.proofs.Going.{goes_fetched}
 use Rattle.pb_suite.proofs.DecodeSpecs.{answered_by, answered_later, no_answer_implements}
 use Rattle.pb_suite.proofs.Posed.{posed, read_first, unread_ends}
 use Rattle.pb_suite.proofs.Takings.{taken-closed}
+use Rattle.pb_suite.proofs.Texts.{told_more}
+use Rattle.pb_suite.proofs.InTurn.{posed_behind, unread_behind}
 use Rattle.pb_suite.proofs.commands.decode.decode_file.Goals as goal
 
 -- a problem's text that is not read
-pub returns-in-Err : goal.returns-in-Err
-returns-in-Err g c =
+pub returns-in-Err-clause-implements : goal.returns-in-Err-clause-implements
+returns-in-Err-clause-implements g c =
     let w = as_decode_words c.args.asked.now in
     let b = g.D.Desk.state c.read_problem.new.desk in
     unread_ends (decode_spec w) w.opb _ refl w.bound (λ shelf answer. unread answer) c.in-Err.outcome c.in-Err.ensures.stopped (λ steady is. c.in-Err.ensures.steady steady (ap Err is))
-    (λ keeps. always b (λ t. (decode_spec w).leaves_open t.shelf (taken_in b.view t)) (λ t. inl (taken-closed b.view t 1 w.model (keeps 1 (omega arith) ∙ c.requires.closed.reading 1))))
+    (λ is. c.in-Err.ensures.unended (ap Err is))
+    (λ keeps unended. told_more b (λ t. IsUnended 0 w.opb (taken_in b.view t) b.ended) (λ t. (decode_spec w).leaves_open t.shelf (taken_in b.view t) b.ended) (λ t more. inl (more, taken-closed b.view t 1 w.model (keeps 1 (omega arith) ∙ c.requires.closed.reading 1))) unended)
 
 pub read_answer-requires-clause-free : goal.read_answer-requires-clause-free
-read_answer-requires-clause-free g c = ap (λ (v : View). v.reading 1) c.in-Ok.ensures.read.1.reached.view ∙ c.requires.closed.reading 1
+read_answer-requires-clause-free g c = ap (λ (v : View). v.reading 1) c.in-Ok.ensures.read.1.view ∙ c.requires.closed.reading 1
 
 -- a solver's text that is not read
-pub returns-in-Err-read_answer : goal.returns-in-Err-read_answer
-returns-in-Err-read_answer g c =
+pub returns-in-Err-read_answer-clause-implements : goal.returns-in-Err-read_answer-clause-implements
+returns-in-Err-read_answer-clause-implements g c =
     let w = as_decode_words c.args.asked.now in
     let p = c.in-Ok.problem in
     let read = c.in-Ok.ensures.read in
     read_first (decode_spec w) w.opb _ refl w.bound read _ _
-    (no_answer_implements w p _ _ (posed (decode_spec w) w.opb _ refl w.bound read p c.in-Ok.ensures.denotes) c.in-Err-read_answer.outcome c.in-Err-read_answer.ensures.stopped (λ steady is. c.in-Err-read_answer.ensures.steady steady (ap Err is)))
+    (no_answer_implements w p _ _ (posed (decode_spec w) w.opb _ refl w.bound read p c.in-Ok.ensures.denotes) c.in-Err-read_answer.outcome c.in-Err-read_answer.ensures.stopped (λ steady is. c.in-Err-read_answer.ensures.steady steady (ap Err is)) (λ is. c.in-Err-read_answer.ensures.unended (ap Err is)))
 
 pub say_decoded-requires-clause-answered : goal.say_decoded-requires-clause-answered
 say_decoded-requires-clause-answered g c =
@@ -43,10 +45,27 @@ say_decoded-requires-clause-answered g c =
     answered_later w p m b d (goes_fetched 2 1 w.model more.0 b d (omega arith) more.1)
     (answered_by w p m b (posed (decode_spec w) w.opb _ refl w.bound c.in-Ok.ensures.read p c.in-Ok.ensures.denotes) c.in-Ok-read_answer.ensures.says)
 
-pub returns : goal.returns
-returns g c =
+pub returns-clause-implements : goal.returns-clause-implements
+returns-clause-implements g c =
     let w = as_decode_words c.args.asked.now in
     let b = g.D.Desk.state c.read_problem.new.desk in
     let d = g.D.Desk.state c.read_answer.new.desk in
     let more = c.in-Ok-read_answer.ensures.read in
     read_first (decode_spec w) w.opb _ refl w.bound c.in-Ok.ensures.read _ _ (implements_after (decode_spec w) b d _ (goes_fetched 2 1 w.model more.0 b d (omega arith) more.1) _ c.say_decoded.ensures)
+
+-- ---- what is opened
+
+pub returns-in-Err-clause-in_turn : goal.returns-in-Err-clause-in_turn
+returns-in-Err-clause-in_turn g c =
+    let w = as_decode_words c.args.asked.now in
+    unread_behind w.opb w.bound (g.D.Desk.state c.args.desk.now) (g.D.Desk.state c.read_problem.new.desk) _ _ c.in-Err.outcome c.requires.closed c.in-Err.ensures.stopped
+
+pub returns-in-Err-read_answer-clause-in_turn : goal.returns-in-Err-read_answer-clause-in_turn
+returns-in-Err-read_answer-clause-in_turn g c =
+    let w = as_decode_words c.args.asked.now in
+    posed_behind w.opb w.bound (g.D.Desk.state c.args.desk.now) (g.D.Desk.state c.read_answer.new.desk) c.in-Ok.problem c.in-Ok.ensures.denotes
+
+pub returns-clause-in_turn : goal.returns-clause-in_turn
+returns-clause-in_turn g c =
+    let w = as_decode_words c.args.asked.now in
+    posed_behind w.opb w.bound (g.D.Desk.state c.args.desk.now) (g.D.Desk.state c.say_decoded.new.desk) c.in-Ok.problem c.in-Ok.ensures.denotes

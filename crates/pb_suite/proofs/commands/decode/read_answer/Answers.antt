@@ -37,6 +37,11 @@ returns-in-Err-clause-steady g c = λ steady is.
     let same : c.in-Err.outcome ≡ outcome.ReadFault = cc in
     c.in-Err.ensures.steady steady (ap Err same)
 
+pub returns-in-Err-clause-unended : goal.returns-in-Err-clause-unended
+returns-in-Err-clause-unended g c = λ is.
+    let same : c.in-Err.outcome ≡ outcome.ReadFault = cc in
+    c.in-Err.ensures.unended (ap Err same)
+
 pub returns-clause-stopped : goal.returns-clause-stopped
 returns-clause-stopped g c =
     let a = g.D.Desk.state c.args.desk.now in

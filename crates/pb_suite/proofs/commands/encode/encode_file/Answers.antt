@@ -1,7 +1,6 @@
 use Rattle.std.proofs.Common.{◌∙◌, Err, [], ap, inl, refl}
 use Rattle.pb_words.specs.EncodeWords.{as_encode_words}
 use Rattle.pb_suite.specs.EncodeSpec.{names_in, encode_spec}
-use Rattle.pb_suite.proofs.Endings.{always}
 use Rattle.pb_suite.proofs.Going.{keeps}
 use Rattle.pb_suite.proofs.EncodeSpecs.{encoded_due, names_differ, over_due}
 use Rattle.pb_suite.proofs.Posed.{goes_on, posed, read_first, unread_ends}
@@ -11,7 +10,7 @@ use Rattle.pb_suite.proofs.commands.encode.encode_file.Goals as goal
 pub returns-in-Err : goal.returns-in-Err
 returns-in-Err g c =
     let w = as_encode_words c.args.asked.now in
-    unread_ends (encode_spec w) w.opb [] refl w.bound (λ shelf answer is. inl is) c.in-Err.outcome c.in-Err.ensures.stopped (λ steady is. c.in-Err.ensures.steady steady (ap Err is)) (λ keeps. always (g.D.Desk.state c.read_problem.new.desk) (λ t. Unit {0}) (λ t. tt))
+    unread_ends (encode_spec w) w.opb [] refl w.bound (λ shelf answer is. inl is) c.in-Err.outcome c.in-Err.ensures.stopped (λ steady is. c.in-Err.ensures.steady steady (ap Err is)) (λ is. c.in-Err.ensures.unended (ap Err is)) (λ keeps unended. unended)
 
 pub returns-in-Ok : goal.returns-in-Ok
 returns-in-Ok g c =

@@ -3,7 +3,7 @@ use Rattle.pb_model.specs.MapText.{map_text}
 use Rattle.pb_words.specs.MapWords.{as_map_words}
 use Rattle.pb_suite.specs.MapSpec.{map_spec}
 use Rattle.pb_suite.specs.inner.Saying.{EndsSaying}
-use Rattle.pb_suite.proofs.Endings.{always, bare_memory}
+use Rattle.pb_suite.proofs.Endings.{bare_memory}
 use Rattle.pb_suite.proofs.Going.{stays}
 use Rattle.pb_suite.proofs.MapSpecs.{map_due}
 use Rattle.pb_suite.proofs.Posed.{posed, read_first, unread_ends}
@@ -13,7 +13,7 @@ use Rattle.pb_suite.proofs.commands.map.map_file.Goals as goal
 pub returns-in-Err : goal.returns-in-Err
 returns-in-Err g c =
     let w = as_map_words c.args.asked.now in
-    unread_ends (map_spec w) w.opb [] refl None (λ shelf answer is. is) c.in-Err.outcome c.in-Err.ensures.stopped (λ steady is. c.in-Err.ensures.steady steady (ap Err is)) (λ keeps. always (g.D.Desk.state c.read_problem.new.desk) (λ t. Unit {0}) (λ t. tt))
+    unread_ends (map_spec w) w.opb [] refl None (λ shelf answer is. is) c.in-Err.outcome c.in-Err.ensures.stopped (λ steady is. c.in-Err.ensures.steady steady (ap Err is)) (λ is. c.in-Err.ensures.unended (ap Err is)) (λ keeps unended. unended)
 
 pub returns : goal.returns
 returns g c =

@@ -1,8 +1,7 @@
 use Rattle.std.proofs.Common.{Err, [], ◌∙◌, ap, inl, refl, subst, sym}
 use Rattle.pb_words.specs.WcnfWords.{as_wcnf_words}
-use Rattle.pb_suite.specs.Implementing.{ImplementsWithin}
+use Rattle.pb_suite.specs.Implementing.{Implements}
 use Rattle.pb_suite.specs.WcnfSpec.{wcnf_spec}
-use Rattle.pb_suite.proofs.Endings.{always}
 use Rattle.pb_suite.proofs.Going.{keeps}
 use Rattle.pb_suite.proofs.Posed.{goes_on, posed, read_first, unread_ends}
 use Rattle.pb_suite.proofs.WcnfSpecs.{summary_implements, unmade_implements}
@@ -11,7 +10,7 @@ use Rattle.pb_suite.proofs.commands.wcnf.wcnf_file.Goals as goal
 pub returns-in-Err : goal.returns-in-Err
 returns-in-Err g c =
     let w = as_wcnf_words c.args.asked.now in
-    unread_ends (wcnf_spec w) w.opb [] refl w.bound (λ shelf answer is. inl is) c.in-Err.outcome c.in-Err.ensures.stopped (λ steady is. c.in-Err.ensures.steady steady (ap Err is)) (λ keeps. always (g.D.Desk.state c.read_problem.new.desk) (λ t. Unit {0}) (λ t. tt))
+    unread_ends (wcnf_spec w) w.opb [] refl w.bound (λ shelf answer is. inl is) c.in-Err.outcome c.in-Err.ensures.stopped (λ steady is. c.in-Err.ensures.steady steady (ap Err is)) (λ is. c.in-Err.ensures.unended (ap Err is)) (λ keeps unended. unended)
 
 pub returns : goal.returns
 returns g c =
@@ -20,7 +19,7 @@ returns g c =
     let read = c.in-Ok.ensures.read in
     let failed = c.in-Err-weighted.ensures in
     read_first (wcnf_spec w) w.opb [] refl w.bound read _ _
-    (subst (ImplementsWithin (wcnf_spec w) 0 (g.D.Desk.state c.read_problem.new.desk) (g.D.Desk.state c.weighted.new.desk)) (sym c.outcome_of.ensures)
+    (subst (Implements (wcnf_spec w) (g.D.Desk.state c.read_problem.new.desk) (g.D.Desk.state c.weighted.new.desk)) (sym c.outcome_of.ensures)
     (unmade_implements w p (g.D.Desk.state c.read_problem.new.desk) (posed (wcnf_spec w) w.opb [] refl w.bound read p c.in-Ok.ensures.denotes) (g.met.D.Desk.steady_tells c.read_problem.new.desk) (g.D.Desk.state c.weighted.new.desk) c.in-Err-weighted.fault (λ k is. failed.limit k (ap Err is)) (λ is. failed.write_fault (ap Err is))
     (λ is. failed.no_memory (ap Err is)) (λ steady is. failed.steady steady (ap Err is))))
 
